@@ -1,0 +1,57 @@
+-- What stands at the front of bytes: a value and the bytes behind it, or nothing that is spelled so.
+use Rattle.std.specs.Prelude.{◌≡◌, ℕ, ◌+◌, ◌*◌, ◌==◌, List, length, take, drop, Bool, true, false, Option, Some, None, Result, Ok, Err, nat_lt, if◌then◌else◌}
+use Rattle.std.specs.Int.{w32, w64, from_be_bytes}
+use Rattle.std.specs.List.{list_all}
+use Rattle.std.specs.Simd.{first_chunks}
+use Rattle.nfs_xdr.specs.Spelling.{padding}
+
+infixl 10 ◌>>=◌
+abbrev pub ◌>>=◌ : {A B : Type 0} → Option A → (A → Option B) → Option B
+None >>= f = None
+(Some x) >>= f = f x
+
+-- What a call returned, seen by view, is what reading the old bytes gives. A refusal moves nothing.
+abbrev pub Gives : {X Y E : Type 0} → (X → Y) → Result X E → Option (Y × List ℕ) → List ℕ → List ℕ → Type 0
+Gives view (Ok x) read old new = read ≡ Some (view x, new)
+Gives view (Err e) read old new = (read ≡ None) × (new ≡ old)
+
+abbrev pub number_at : List ℕ → Option (ℕ × List ℕ)
+number_at bytes = if nat_lt (length bytes) 4 then None else Some (from_be_bytes w32 (take 4 bytes), drop 4 bytes)
+
+abbrev pub hyper_at : List ℕ → Option (ℕ × List ℕ)
+hyper_at bytes = if nat_lt (length bytes) 8 then None else Some (from_be_bytes w64 (take 8 bytes), drop 8 bytes)
+
+unfoldable pub flag_at : List ℕ → Option (Bool × List ℕ)
+flag_at bytes = do
+  n ← number_at bytes
+  if n.0 == 0 then Some (false, n.1) else if n.0 == 1 then Some (true, n.1) else None
+
+abbrev pub all_zero : List ℕ → Bool
+all_zero bytes = list_all (λ b. b == 0) bytes
+
+unfoldable pub fixed_at : ℕ → List ℕ → Option (List ℕ × List ℕ)
+fixed_at n bytes =
+    if nat_lt (length bytes) (n + padding n) then None
+    else if all_zero (take (padding n) (drop n bytes)) then Some (take n bytes, drop (n + padding n) bytes)
+    else None
+
+unfoldable pub opaque_at : ℕ → List ℕ → Option (List ℕ × List ℕ)
+opaque_at limit bytes = do
+  n ← number_at bytes
+  if nat_lt limit n.0 then None else fixed_at n.0 n.1
+
+-- a count, and that many pieces of n bytes
+unfoldable pub pieces_at : ℕ → List ℕ → Option (List (List ℕ) × List ℕ)
+pieces_at n bytes = do
+  count ← number_at bytes
+  if nat_lt (length count.1) (count.0 * n) then None else Some (first_chunks n count.0 count.1, drop (count.0 * n) count.1)
+
+-- The same where a refusal leaves the bytes anywhere.
+abbrev pub Finds : {X Y E : Type 0} → (X → Y) → Result X E → Option (Y × List ℕ) → List ℕ → Type 0
+Finds view (Ok x) read new = read ≡ Some (view x, new)
+Finds view (Err e) read new = read ≡ None
+
+-- The same, with what the refusal says.
+abbrev pub FindsOr : {X Y E : Type 0} → (X → Y) → Result X E → Option (Y × List ℕ) → E → List ℕ → Type 0
+FindsOr view (Ok x) read flaw new = read ≡ Some (view x, new)
+FindsOr view (Err e) read flaw new = (read ≡ None) × (e ≡ flaw)

@@ -1,0 +1,26 @@
+//! XDR (RFC 4506) on both sides: what a cursor reads is what stands spelled at its place, and a sheet is the list of
+//! the bytes put.
+//!
+//! The spelling of each item is defined in `specs/Spelling.antt`; `specs/Codec.antt` puts items together into the
+//! formats of the protocol, each described once for reading and writing. The small definitions that every other
+//! crate cites stand here too: tables in rising order, checks in the order written, status numbers, the caller.
+//!
+//! ```text
+//! let mut cursor = Cursor::new(bytes);
+//! let length = cursor.u32()?;
+//! let name = cursor.opaque(255)?;
+//! ```
+#![tactic(auto)]
+
+mod cursor;
+pub mod laws;
+mod sheet;
+mod status;
+#[cfg(test)]
+mod tests;
+mod who;
+
+pub use cursor::{Cursor, Unreadable};
+pub use sheet::Sheet;
+pub use status::Status;
+pub use who::Who;
