@@ -1,0 +1,4 @@
+pub mod CutLemmas
+pub mod EntryLemmas
+pub mod FirstHitLemmas
+pub mod ToldLemmas

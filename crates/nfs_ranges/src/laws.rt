@@ -1,0 +1,15 @@
+//! Laws of what is told and of what is held. Each is the contract of a function that does nothing.
+
+ghost use Rattle.nfs_ranges.specs.Laws.{ToldIsUnique, AnyIsDecided};
+
+/// Whatever is held, exactly one answer of [`Ranges::clash`](super::Ranges::clash) is right, and
+/// the function `told` of `specs/Told.antt` gives it.
+pub fn told_is_unique()
+    ensures { ToldIsUnique }
+{}
+
+/// The function `holds_any` of `specs/Holders.antt`, which [`Ranges::any`](super::Ranges::any)
+/// computes, says whether there is a byte that the lock state holds.
+pub fn any_is_decided()
+    ensures { AnyIsDecided }
+{}
