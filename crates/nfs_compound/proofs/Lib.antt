@@ -1,0 +1,4 @@
+pub mod TableLaws
+pub mod Walk
+pub mod GrammarLaws
+pub mod RequestLaws

@@ -1,0 +1,13 @@
+-- Each list of bytes is a request or garbage and never both, and it is one request at most.
+use Rattle.std.specs.Prelude.{◌≡◌, ℕ, ◌⊎◌, List}
+use Rattle.nfs_xdr.specs.Codec.{IsBytes}
+use Rattle.nfs_compound.specs.Request.{Request, IsRequest, IsGarbage}
+
+abbrev pub HasOneReading : Type 0
+HasOneReading = (bytes : List ℕ) → IsBytes bytes → ((r : Request) × IsRequest bytes r) ⊎ IsGarbage bytes
+
+abbrev pub HasNoOther : Type 0
+HasNoOther = (bytes : List ℕ) (r : Request) → IsBytes bytes → IsRequest bytes r → IsGarbage bytes → ⊥
+
+abbrev pub IsOneRequest : Type 0
+IsOneRequest = (bytes : List ℕ) (r s : Request) → IsBytes bytes → IsRequest bytes r → IsRequest bytes s → r ≡ s

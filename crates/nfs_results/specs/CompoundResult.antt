@@ -1,0 +1,34 @@
+-- The result of a compound (RFC 8881 section 16.2.2): its status, the tag of its call and the results of the operations that were run.
+use Rattle.std.specs.Prelude.{◌≡◌, ℕ, List, ◌++◌, length}
+use Rattle.std.specs.List.{flat_map}
+use Rattle.nfs_xdr.specs.Spelling.{number, opaque}
+use Rattle.nfs_xdr.specs.Codec as codec
+use Rattle.nfs_xdr.specs.Codec.{Codec, ◌then◌, as_type, array}
+use Rattle.nfs_results.specs.Result.{Res}
+use Rattle.nfs_results.specs.Results.{status, result, spell_result}
+
+pub record CompoundResult : Type 0 where
+  pub status : ℕ
+  pub tag : List ℕ
+  pub results : List Res
+
+-- what stands in front of the results
+abbrev pub spell_compound_head : (status : ℕ) (tag : List ℕ) (count : ℕ) → List ℕ
+spell_compound_head status tag count = number status ++ (opaque tag ++ number count)
+
+abbrev pub spell_compound : CompoundResult → List ℕ
+spell_compound c = spell_compound_head c.status c.tag (length c.results) ++ flat_map spell_result c.results
+
+-- the same item by item, and how it is read
+abbrev pub parts : Codec CompoundResult
+parts = as_type (λ x. record { status = x.0; tag = x.1.0; results = x.1.1 }) (λ c. (c.status, (c.tag, c.results))) (status then codec.opaque 1024 then array result)
+
+abbrev pub compound_result : Codec CompoundResult
+compound_result = record { spell = spell_compound; Fits = parts.Fits; read = parts.read }
+
+-- The bytes are the spelling of a compound's result and nothing else.
+abbrev pub IsReply : List ℕ → CompoundResult → Type 0
+IsReply bytes r = (bytes ≡ spell_compound r) × compound_result.Fits r
+
+abbrev pub IsNoReply : List ℕ → Type 0
+IsNoReply bytes = (r : CompoundResult) → compound_result.Fits r → bytes ≡ spell_compound r → ⊥
