@@ -1,0 +1,4 @@
+pub mod Places
+pub mod Members
+pub mod Rows
+pub mod Once

@@ -1,0 +1,86 @@
+-- CREATE_SESSION's number and what is kept under it; what a confirmation removes (RFC 8881 section 18.36; which refusals use a number up is this server's profile).
+use Rattle.std.specs.Prelude.{ℕ, ◌+◌, ◌%◌, ◌^◌, ◌==◌, ◌&&◌, not, Bool, true, false, List, Option, Some, None, find, filter, option_map, if◌then◌else◌}
+use Rattle.nfs_xdr.specs.declared.status.Status.{Status}
+use Rattle.nfs_xdr.specs.declared.status.Status.TheVariants.{TooSmall, NoSpc, ServerFault}
+use Rattle.nfs_clients.specs.Roster.{Roster, client_at, is_confirmed_of, with_changed}
+use Rattle.nfs_clients.specs.declared.client.Client.{Client}
+use Rattle.nfs_clients.specs.declared.created.CreateResult.{CreateResult}
+use Rattle.nfs_clients.specs.declared.created.CreateResult.TheVariants.{Done, Refused}
+use Rattle.nfs_clients.specs.declared.create_session.CreateVerdict.{CreateVerdict}
+use Rattle.nfs_clients.specs.declared.create_session.CreateVerdict.TheVariants as code
+
+-- numbers go round behind 2^32 - 1
+abbrev pub following : ℕ → ℕ
+following number = (number + 1) % 2 ^ 32
+
+-- what a call comes to by its number and its caller
+pub data Verdict : Type 0 where
+  Stale : Verdict
+  Again : CreateResult → Verdict
+  Misordered : Verdict
+  InUse : Verdict
+  Runs : Verdict
+
+-- what the code's answer says, with the result that it lends
+abbrev pub verdict_of : CreateVerdict → Verdict
+verdict_of code.Stale = Stale
+verdict_of (code.Again result) = Again result.now
+verdict_of code.Misordered = Misordered
+verdict_of code.InUse = InUse
+verdict_of code.Runs = Runs
+
+abbrev pub repeats : Option CreateResult → Verdict
+repeats None = Misordered
+repeats (Some result) = Again result
+
+-- the number that is expected runs, the one before repeats what was kept under it
+abbrev pub verdict_by : Option Client → ℕ → ℕ → Verdict
+verdict_by None number uid = Stale
+verdict_by (Some c) number uid =
+    if number == c.number then (if c.uid == uid then Runs else InUse)
+    else if following number == c.number then repeats c.kept
+    else Misordered
+
+abbrev pub create_verdict : Roster → ℕ → ℕ → ℕ → Verdict
+create_verdict t id number uid = verdict_by (client_at t id) number uid
+
+-- The results that use their number up: success, and the refusals by a size, by the count of sessions and by a counter.
+abbrev pub status_uses_up : Status → Bool
+status_uses_up TooSmall = true
+status_uses_up NoSpc = true
+status_uses_up ServerFault = true
+status_uses_up _ = false
+
+abbrev pub uses_up : CreateResult → Bool
+uses_up (Done reply) = true
+uses_up (Refused status) = status_uses_up status
+
+-- the record with the result of its expected number
+abbrev pub keeps : CreateResult → Client → Client
+keeps result c = if uses_up result then record c { number = following c.number; kept = Some result } else c
+
+abbrev pub with_kept : Roster → ℕ → CreateResult → Roster
+with_kept t id result = with_changed t id (keeps result)
+
+-- another confirmed record of the same owner
+abbrev pub is_other_confirmed_of : Client → Client → Bool
+is_other_confirmed_of c d = is_confirmed_of c.owner d && not (d.id == c.id)
+
+-- the record that a client's confirmation removes
+abbrev pub leaving_by : List Client → Option Client → Option ℕ
+leaving_by records None = None
+leaving_by records (Some c) = option_map (λ d. d.id) (find (is_other_confirmed_of c) records)
+
+abbrev pub leaving_in : List Client → ℕ → Option ℕ
+leaving_in records id = leaving_by records (find (λ c. c.id == id) records)
+
+abbrev pub leaving : Roster → ℕ → Option ℕ
+leaving t id = leaving_in t.records id
+
+abbrev pub dropped : Option ℕ → List Client → List Client
+dropped None records = records
+dropped (Some id) records = filter (λ c. not (c.id == id)) records
+
+-- the table behind a confirmation
+abbrev pub with_confirmed : Roster → ℕ → Roster
+with_confirmed t id = with_changed (record t { records = dropped (leaving t id) t.records }) id (λ c. record c { confirmed = true })

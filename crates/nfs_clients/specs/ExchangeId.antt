@@ -1,0 +1,149 @@
+-- EXCHANGE_ID: the cases in the order in which they are judged, the answer, and the table behind it (RFC 8881 section 18.35; the cases are this server's profile).
+use Rattle.std.specs.Prelude.{◌≡◌, ℕ, ◌+◌, ◌==◌, ◌&&◌, ◌||◌, not, nat_lt, Bool, true, false, List, [], ◌∷◌, ◌++◌, length, Option, Some, None, Result, Ok, Err, filter, option_map, is_some, bytes_eq, bit_and, if◌then◌else◌}
+use Rattle.nfs_xdr.specs.declared.status.Status.{Status}
+use Rattle.nfs_xdr.specs.declared.status.Status.TheVariants as status
+use Rattle.nfs_clients.specs.Roster.{Roster, most_records, last_counter, next_id, is_unconfirmed_of, confirmed_of, unconfirmed_of}
+use Rattle.nfs_clients.specs.declared.client.Client.{Client}
+use Rattle.nfs_clients.specs.declared.exchange_id.ClientFault.{ClientFault}
+use Rattle.nfs_clients.specs.declared.exchange_id.ClientFault.TheVariants.{Inval, NoEnt, NotSame, Perm, ClidInUse, ServerFault, Memory}
+use Rattle.nfs_clients.specs.declared.exchange_id.Exchanged.{Exchanged}
+use Rattle.nfs_clients.specs.declared.exchange_id.Case.{Case as Code}
+use Rattle.nfs_clients.specs.declared.exchange_id.Case.TheVariants as code
+
+-- the status that a fault is answered with
+abbrev pub fault_status : ClientFault → Status
+fault_status Inval = status.Inval
+fault_status NoEnt = status.NoEnt
+fault_status NotSame = status.NotSame
+fault_status Perm = status.Perm
+fault_status ClidInUse = status.ClidInUse
+fault_status ServerFault = status.ServerFault
+fault_status Memory = status.Delay
+
+-- what the call asks
+pub record Ask : Type 0 where
+  pub owner : List ℕ
+  pub verifier : List ℕ
+  pub flags : ℕ
+  pub uid : ℕ
+
+abbrev pub asks : List ℕ → List ℕ → ℕ → ℕ → Ask
+asks owner verifier flags uid = record { owner = owner; verifier = verifier; flags = flags; uid = uid }
+
+-- EXCHGID4_FLAG_CONFIRMED_R, which no call may carry
+abbrev pub carries_confirmed : Ask → Bool
+carries_confirmed a = not (bit_and a.flags 0x8000_0000 == 0)
+
+-- EXCHGID4_FLAG_UPD_CONFIRMED_REC_A
+abbrev pub updates : Ask → Bool
+updates a = not (bit_and a.flags 0x4000_0000 == 0)
+
+abbrev pub same_verifier : Ask → Client → Bool
+same_verifier a c = bytes_eq c.verifier a.verifier
+
+abbrev pub same_user : Ask → Client → Bool
+same_user a c = c.uid == a.uid
+
+-- what a call comes to: nothing but an answer, a fault or a record that stands, or a new record
+pub data Case : Type 0 where
+  Refuses : ClientFault → Case
+  Tells : Client → Case
+  Adds : Case
+
+-- what the code's case says, with the record that it lends
+abbrev pub case_seen : Code → Case
+case_seen (code.Refuses fault) = Refuses fault
+case_seen (code.Tells c) = Tells c.now
+case_seen code.Adds = Adds
+
+-- the first row whose test holds; the last is taken where none does
+abbrev pub first_row : List (Bool × Case) → Case → Case
+first_row [] last = last
+first_row (row ∷ rows) last = if row.0 then row.1 else first_row rows last
+
+-- The rows, by the owner's confirmed record.
+abbrev pub case_by : Ask → Option Client → Case
+case_by a None =
+    first_row ((carries_confirmed a, Refuses Inval)
+    ∷ (updates a, Refuses NoEnt)
+    ∷ []) Adds
+case_by a (Some c) =
+    first_row ((carries_confirmed a, Refuses Inval)
+    ∷ (updates a && not (same_verifier a c), Refuses NotSame)
+    ∷ (updates a && not (same_user a c), Refuses Perm)
+    ∷ (updates a, Tells c)
+    ∷ (same_user a c && same_verifier a c, Tells c)
+    ∷ (same_user a c, Adds)
+    ∷ (c.has_open, Refuses ClidInUse)
+    ∷ []) Adds
+
+-- a record can be added: ids are left, and it takes the place of the owner's unconfirmed one or finds one free
+abbrev pub has_room : Roster → List ℕ → Bool
+has_room t owner = nat_lt t.next last_counter && (is_some (unconfirmed_of t owner) || nat_lt (length t.records) most_records)
+
+-- where there is no room, a new record is refused and nothing else
+abbrev pub if_room : Bool → Case → Case
+if_room true case = case
+if_room false (Refuses fault) = Refuses fault
+if_room false (Tells c) = Tells c
+if_room false Adds = Refuses ServerFault
+
+-- what a call comes to in this table
+abbrev pub case_of : Roster → Ask → Case
+case_of t a = if_room (has_room t a.owner) (case_by a (confirmed_of t a.owner))
+
+-- the record that is added
+abbrev pub new_client : Roster → Ask → Client
+new_client t a = record {
+  id = next_id t;
+  owner = a.owner;
+  verifier = a.verifier;
+  uid = a.uid;
+  confirmed = false;
+  number = 1;
+  kept = None;
+  reclaimed = false;
+  has_open = false;
+}
+
+-- the table with it, in place of the owner's unconfirmed record if there is one
+abbrev pub with_new : Roster → Ask → Roster
+with_new t a = record t {
+  records = filter (λ c. not (is_unconfirmed_of a.owner c)) t.records ++ new_client t a ∷ [];
+  next = t.next + 1;
+}
+
+-- what is told of a record that is added
+abbrev pub told_new : Roster → List ℕ → Exchanged
+told_new t owner = record { id = next_id t; number = 1; confirmed = false; added = true; replaced = option_map (λ c. c.id) (unconfirmed_of t owner) }
+
+-- what is told of a record that stands
+abbrev pub told : Client → Exchanged
+told c = record { id = c.id; number = c.number; confirmed = true; added = false; replaced = None }
+
+-- an answer, and the table behind it
+pub record Did : Type 0 where
+  pub answer : Result Exchanged ClientFault
+  pub after : Roster
+
+abbrev pub does : Roster → Ask → Case → Did
+does t a (Refuses fault) = record { answer = Err fault; after = t }
+does t a (Tells c) = record { answer = Ok (told c); after = t }
+does t a Adds = record { answer = Ok (told_new t a.owner); after = with_new t a }
+
+abbrev pub exchange : Roster → Ask → Did
+exchange t a = does t a (case_of t a)
+
+-- what the call is refused with, if it is
+abbrev pub refusal_of : Case → Option ClientFault
+refusal_of (Refuses fault) = Some fault
+refusal_of (Tells c) = None
+refusal_of Adds = None
+
+abbrev pub exchange_fault : Roster → Ask → Option ClientFault
+exchange_fault t a = refusal_of (case_of t a)
+
+-- The answer and the table are those of the definition; or memory was refused where a record is added, and nothing has changed.
+abbrev pub ExchangesOrWants : Roster → Ask → Result Exchanged ClientFault → Roster → Type 0
+ExchangesOrWants old a (Err Memory) new = (case_of old a ≡ Adds) × (new ≡ old)
+ExchangesOrWants old a result new = (result ≡ (exchange old a).answer) × (new ≡ (exchange old a).after)

@@ -1,0 +1,21 @@
+-- The marks of a client record: that its reclaim is complete (RFC 8881 section 18.51), and that it has an open.
+use Rattle.std.specs.Prelude.{ℕ, Bool, true, false, Option, Some, None, is_some}
+use Rattle.nfs_clients.specs.Roster.{Roster, client_at, with_changed}
+use Rattle.nfs_clients.specs.declared.client.Client.{Client}
+
+abbrev pub has_client : Roster → ℕ → Bool
+has_client t id = is_some (client_at t id)
+
+abbrev pub is_reclaimed : Option Client → Bool
+is_reclaimed None = false
+is_reclaimed (Some c) = c.reclaimed
+
+-- the client has declared its reclaim complete
+abbrev pub has_reclaimed : Roster → ℕ → Bool
+has_reclaimed t id = is_reclaimed (client_at t id)
+
+abbrev pub with_reclaimed : Roster → ℕ → Roster
+with_reclaimed t id = with_changed t id (λ c. record c { reclaimed = true })
+
+abbrev pub with_open : Roster → ℕ → Bool → Roster
+with_open t id mark = with_changed t id (λ c. record c { has_open = mark })

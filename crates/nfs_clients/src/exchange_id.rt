@@ -1,0 +1,269 @@
+ghost use Rattle.std.specs.Prelude.{◌≡◌, ℕ, List, IsTrue, OnOk, OnErr, IfOk, find, filter, not, option_map, vec_len, vec_capacity, ◌≤◌};
+ghost use Rattle.std.specs.Option.{option_copied};
+ghost use Rattle.nfs_xdr.specs.Checks.{judged};
+ghost use Rattle.nfs_clients.specs.Roster.{confirmed_of, unconfirmed_of, is_unconfirmed_of, is_confirmed_of};
+ghost use Rattle.nfs_clients.specs.ExchangeId.{asks, case_of, case_by, case_seen, has_room, with_new, told_new, exchange_fault, fault_status, ExchangesOrWants};
+ghost use Rattle.nfs_clients.specs.declared.exchange_id.ClientFault.TheVariants.{Memory};
+
+use crate::client::Client;
+use crate::clients::Clients;
+use crate::owner::Owner;
+use nfs_xdr::Status;
+use std::alloc::{AllocError, Global};
+
+/// Why EXCHANGE_ID is refused (RFC 8881 section 18.35.3; the cases are this server's profile).
+#[derive(Clone, Copy, Debug, PartialEq, Eq)]
+pub enum ClientFault {
+    /// The call carries EXCHGID4_FLAG_CONFIRMED_R.
+    Inval,
+    /// An update, and the owner has no confirmed record.
+    NoEnt,
+    /// An update with another verifier than the confirmed record's.
+    NotSame,
+    /// An update by another user than the confirmed record's.
+    Perm,
+    /// The owner's confirmed record is another user's, and has an open.
+    ClidInUse,
+    /// A new record is wanted, and 1,024 stand or no id is left.
+    ServerFault,
+    /// A new record is wanted, and memory was refused.
+    Memory,
+}
+
+impl ClientFault {
+    /// The status that EXCHANGE_ID answers: the fault's own, and NFS4ERR_DELAY for want of memory.
+    pub fn status(self) -> Status
+        ensures { result ≡ fault_status self }
+    {
+        match self {
+            ClientFault::Inval => Status::Inval,
+            ClientFault::NoEnt => Status::NoEnt,
+            ClientFault::NotSame => Status::NotSame,
+            ClientFault::Perm => Status::Perm,
+            ClientFault::ClidInUse => Status::ClidInUse,
+            ClientFault::ServerFault => Status::ServerFault,
+            ClientFault::Memory => Status::Delay,
+        }
+    }
+}
+
+impl From<AllocError> for ClientFault {
+    ghost from_gives = { λ _ e. e ≡ Memory };
+
+    fn from(_e: AllocError) -> ClientFault {
+        ClientFault::Memory
+    }
+}
+
+/// What a granted EXCHANGE_ID answers.
+#[derive(Clone, Copy, Debug, PartialEq, Eq)]
+pub struct Exchanged {
+    /// The client id.
+    pub id: u64,
+    /// The number that the record's next CREATE_SESSION must bear (`eir_sequenceid`).
+    pub number: u32,
+    /// The record is confirmed (EXCHGID4_FLAG_CONFIRMED_R in the answer).
+    pub confirmed: bool,
+    /// The record was added by this call.
+    pub added: bool,
+    /// The owner's unconfirmed record that the new one has replaced.
+    pub replaced: Option<u64>,
+}
+
+impl Clients {
+    /// What `exchange` would refuse the call with, but for want of memory; changes nothing.
+    pub fn judge_exchange(
+        &self,
+        owner: &[u8],
+        verifier: [u8; 8],
+        flags: u32,
+        uid: u32,
+    ) -> Result<(), ClientFault>
+        ensures { result ≡ judged (exchange_fault self.now (asks owner.now verifier flags uid)) }
+    {
+        if let Case::Refuses(fault) = self.case(owner, verifier, flags, uid) {
+            return Err(fault);
+        }
+        Ok(())
+    }
+
+    /// EXCHANGE_ID (RFC 8881 section 18.35), by the cases of this server's profile. A new record
+    /// takes `next_id`, is unconfirmed and replaces the owner's unconfirmed record if there is
+    /// one. `owner` is at most 1,024 bytes on the wire, and is copied.
+    ///
+    /// A refusal changes nothing. `Memory` comes last, and only where a record is to be added.
+    pub fn exchange(
+        &mut self,
+        alloc: Global,
+        owner: &[u8],
+        verifier: [u8; 8],
+        flags: u32,
+        uid: u32,
+    ) -> Result<Exchanged, ClientFault>
+        ensures { ExchangesOrWants self.old (asks owner.now verifier flags uid) result self.new }
+    {
+        match self.case(owner, verifier, flags, uid) {
+            Case::Refuses(fault) => Err(fault),
+            Case::Tells(client) => Ok(Exchanged {
+                id: client.id,
+                number: client.number,
+                confirmed: true,
+                added: false,
+                replaced: None,
+            }),
+            Case::Adds => {
+                let owner = Owner::of(alloc, owner)?;
+                Ok(self.add(owner, verifier, uid)?)
+            }
+        }
+    }
+
+    /// What the call comes to.
+    fn case(&self, owner: &[u8], verifier: [u8; 8], flags: u32, uid: u32) -> Case
+        ensures { case_seen result ≡ case_of self.now (asks owner.now verifier flags uid) }
+    {
+        match self.row(owner, verifier, flags, uid) {
+            Case::Adds => {
+                if self.has_room(owner) {
+                    Case::Adds
+                } else {
+                    Case::Refuses(ClientFault::ServerFault)
+                }
+            }
+            row => row,
+        }
+    }
+
+    /// The row of the call, but for whether there is room.
+    fn row(&self, owner: &[u8], verifier: [u8; 8], flags: u32, uid: u32) -> Case
+        ensures { case_seen result ≡ case_by (asks owner.now verifier flags uid) (confirmed_of self.now owner.now) }
+    {
+        match confirmed_in(&self.records, owner) {
+            Some(client) => client.case(verifier, flags, uid),
+            None => case_of_unknown(flags),
+        }
+    }
+
+    /// Whether a record of this owner can be added.
+    fn has_room(&self, owner: &[u8]) -> bool
+        ensures { result ≡ has_room self.now owner.now }
+    {
+        self.next < u32::MAX
+            && (unconfirmed_in(&self.records, owner).is_some() || self.records.len() < MOST_RECORDS)
+    }
+
+    /// Puts a new record in the place of the owner's unconfirmed one.
+    fn add(&mut self, owner: Owner, verifier: [u8; 8], uid: u32) -> Result<Exchanged, AllocError>
+        requires { IsTrue (has_room self.old owner) }
+        ensures ok { OnOk result (self.new ≡ with_new self.old (asks owner verifier 0 uid)) }
+        ensures answer { IfOk result (λ e. e ≡ told_new self.old owner) }
+        ensures err { OnErr result (self.new ≡ self.old) }
+    {
+        self.records.reserve(1)?;
+        let id = self.next_id();
+        let replaced = unconfirmed_in(&self.records, owner.bytes());
+        drop_unconfirmed(&mut self.records, owner.bytes());
+        self.records
+            .push(Client {
+                id,
+                owner,
+                verifier,
+                uid,
+                confirmed: false,
+                number: 1,
+                kept: None,
+                reclaimed: false,
+                has_open: false,
+            })
+            .unwrap();
+        self.next += 1;
+        Ok(Exchanged {
+            id,
+            number: 1,
+            confirmed: false,
+            added: true,
+            replaced,
+        })
+    }
+}
+
+/// How many records there are at most (this server's profile).
+const MOST_RECORDS: usize = 1024;
+
+/// EXCHGID4_FLAG_CONFIRMED_R (RFC 8881 section 18.35.1).
+const CONFIRMED_R: u32 = 0x8000_0000;
+
+/// EXCHGID4_FLAG_UPD_CONFIRMED_REC_A (RFC 8881 section 18.35.1).
+const UPD_CONFIRMED_REC_A: u32 = 0x4000_0000;
+
+/// What a call comes to: a refusal, a record that stands, or a new one.
+#[derive(Clone, Copy)]
+enum Case<'a> {
+    Refuses(ClientFault),
+    Tells(&'a Client),
+    Adds,
+}
+
+impl Client {
+    /// The rows of a call whose owner has this confirmed record.
+    fn case(&self, verifier: [u8; 8], flags: u32, uid: u32) -> Case
+        ensures { (owner : List ℕ) → case_seen result ≡ case_by (asks owner verifier flags uid) (Some self.now) }
+    {
+        if flags & CONFIRMED_R != 0 {
+            return Case::Refuses(ClientFault::Inval);
+        }
+        if flags & UPD_CONFIRMED_REC_A != 0 {
+            if self.verifier != verifier {
+                return Case::Refuses(ClientFault::NotSame);
+            }
+            if self.uid != uid {
+                return Case::Refuses(ClientFault::Perm);
+            }
+            return Case::Tells(self);
+        }
+        if self.uid == uid {
+            if self.verifier == verifier {
+                return Case::Tells(self);
+            }
+            return Case::Adds;
+        }
+        if self.has_open {
+            return Case::Refuses(ClientFault::ClidInUse);
+        }
+        Case::Adds
+    }
+}
+
+/// The rows of a call whose owner has no confirmed record.
+fn case_of_unknown<'a>(flags: u32) -> Case<'a>
+    ensures { (owner verifier : List ℕ) (uid : ℕ) → case_seen result ≡ case_by (asks owner verifier flags uid) None }
+{
+    if flags & CONFIRMED_R != 0 {
+        return Case::Refuses(ClientFault::Inval);
+    }
+    if flags & UPD_CONFIRMED_REC_A != 0 {
+        return Case::Refuses(ClientFault::NoEnt);
+    }
+    Case::Adds
+}
+
+fn confirmed_in<'a>(records: &'a [Client], owner: &[u8]) -> Option<&'a Client>
+    ensures { option_copied result ≡ find (is_confirmed_of owner.now) records.now }
+{
+    records.iter().find(|c| c.is_confirmed_of(owner))
+}
+
+fn drop_unconfirmed(records: &mut Vec<Client>, owner: &[u8])
+    ensures left { records.new.items ≡ filter (λ c. not (is_unconfirmed_of owner.now c)) records.old.items }
+    ensures fewer { vec_len records.new ≤ vec_len records.old }
+    ensures room { vec_capacity records.new ≡ vec_capacity records.old }
+{
+    records.retain(|c| !c.is_unconfirmed_of(owner));
+}
+
+fn unconfirmed_in(records: &[Client], owner: &[u8]) -> Option<u64>
+    ensures { result ≡ option_map (λ c. c.id) (find (is_unconfirmed_of owner.now) records.now) }
+{
+    let found = records.iter().find(|c| c.is_unconfirmed_of(owner))?;
+    Some(found.id)
+}

@@ -1,0 +1,258 @@
+use super::*;
+use nfs_xdr::Status;
+use std::test::Fail;
+
+const OLD: [u8; 8] = [0, 0, 0, 0, 0, 0, 0, 1];
+
+const NEW: [u8; 8] = [0, 0, 0, 0, 0, 0, 0, 2];
+
+const CONFIRMED_R: u32 = 0x8000_0000;
+
+const UPDATE: u32 = 0x4000_0000;
+
+/// The id that a server of instance 7 gives at this count.
+fn id(count: u32) -> u64 {
+    0x7_0000_0000 + u64::from(count)
+}
+
+fn stands(count: u32, number: u32) -> Result<Exchanged, ClientFault> {
+    Ok(Exchanged {
+        id: id(count),
+        number,
+        confirmed: true,
+        added: false,
+        replaced: None,
+    })
+}
+
+fn added(count: u32, replaced: Option<u64>) -> Result<Exchanged, ClientFault> {
+    Ok(Exchanged {
+        id: id(count),
+        number: 1,
+        confirmed: false,
+        added: true,
+        replaced,
+    })
+}
+
+#[test]
+fn exchange_id_without_a_confirmed_record(rt: HostRuntime) -> Result<(), Fail> {
+    let mut clients = Clients::new(rt.alloc(), 7);
+    let cases = [
+        (CONFIRMED_R, Err(ClientFault::Inval)),
+        (CONFIRMED_R | UPDATE, Err(ClientFault::Inval)),
+        (UPDATE, Err(ClientFault::NoEnt)),
+        (0, added(1, None)),
+        (3, added(2, Some(id(1)))),
+        (UPDATE, Err(ClientFault::NoEnt)),
+    ];
+    for (flags, want) in cases {
+        let judged = clients.judge_exchange(b"A", OLD, flags, 0);
+        assert_eq!(rt; judged, want.map(|_| ()), "judged with {flags:x}");
+        let asked = clients.exchange(rt.alloc(), b"A", OLD, flags, 0);
+        assert_eq!(rt; asked, want, "with {flags:x}");
+    }
+    assert!(rt; !clients.contains(id(1)));
+    assert!(rt; clients.contains(id(2)));
+    assert_eq!(rt; clients.next_id(), id(3));
+    Ok(())
+}
+
+#[test]
+fn want_of_memory_is_answered_by_delay(rt: HostRuntime) {
+    assert_eq!(rt; ClientFault::Memory.status(), Status::Delay);
+    assert_eq!(rt; ClientFault::ServerFault.status(), Status::ServerFault);
+}
+
+#[test]
+fn exchange_id_with_a_confirmed_record(rt: HostRuntime) -> Result<(), Fail> {
+    let mut clients = Clients::new(rt.alloc(), 7);
+    clients.exchange(rt.alloc(), b"A", OLD, 0, 0)?;
+    clients.confirm(id(1));
+    let cases = [
+        (OLD, CONFIRMED_R, 0, Err(ClientFault::Inval)),
+        (NEW, UPDATE, 0, Err(ClientFault::NotSame)),
+        (NEW, UPDATE, 9, Err(ClientFault::NotSame)),
+        (OLD, UPDATE, 9, Err(ClientFault::Perm)),
+        (OLD, UPDATE, 0, stands(1, 1)),
+        (OLD, 0, 0, stands(1, 1)),
+        (NEW, 0, 0, added(2, None)),
+        (OLD, 0, 9, added(3, Some(id(2)))),
+        (NEW, 0, 9, added(4, Some(id(3)))),
+        (OLD, 0, 0, stands(1, 1)),
+    ];
+    for (verifier, flags, uid, want) in cases {
+        let judged = clients.judge_exchange(b"A", verifier, flags, uid);
+        assert_eq!(rt; judged, want.map(|_| ()), "judged with {flags:x} by {uid}");
+        let asked = clients.exchange(rt.alloc(), b"A", verifier, flags, uid);
+        assert_eq!(rt; asked, want, "with {flags:x} by {uid}");
+    }
+    clients.hold(id(1), true);
+    let held = clients.exchange(rt.alloc(), b"A", OLD, 0, 9);
+    assert_eq!(rt; held, Err(ClientFault::ClidInUse));
+    assert_eq!(rt;
+        clients.judge_exchange(b"A", OLD, 0, 9),
+        Err(ClientFault::ClidInUse)
+    );
+    assert_eq!(rt;
+        clients.exchange(rt.alloc(), b"A", NEW, 0, 0),
+        added(5, Some(id(4)))
+    );
+    assert_eq!(rt;
+        clients.exchange(rt.alloc(), b"B", OLD, 0, 9),
+        added(6, None)
+    );
+    clients.hold(id(1), false);
+    assert_eq!(rt;
+        clients.exchange(rt.alloc(), b"A", OLD, 0, 9),
+        added(7, Some(id(5)))
+    );
+    let nameless = clients.exchange(rt.alloc(), b"", OLD, 0, 0);
+    assert_eq!(rt; nameless, added(8, None));
+    Ok(())
+}
+
+#[test]
+fn a_confirmation_removes_the_other_record(rt: HostRuntime) -> Result<(), Fail> {
+    let mut clients = Clients::new(rt.alloc(), 7);
+    clients.exchange(rt.alloc(), b"A", OLD, 0, 0)?;
+    clients.exchange(rt.alloc(), b"B", OLD, 0, 0)?;
+    clients.confirm(id(1));
+    clients.confirm(id(2));
+    clients.exchange(rt.alloc(), b"A", NEW, 0, 0)?;
+    assert_eq!(rt; clients.leaving(id(1)), None);
+    assert_eq!(rt; clients.leaving(id(3)), Some(id(1)));
+    assert_eq!(rt; clients.leaving(id(4)), None);
+    clients.confirm(id(3));
+    for (count, there) in [(1, false), (2, true), (3, true), (4, false)] {
+        assert_eq!(rt; clients.contains(id(count)), there, "record {count}");
+    }
+    assert_eq!(rt; clients.exchange(rt.alloc(), b"A", NEW, 0, 0), stands(3, 1));
+    clients.remove(id(3));
+    assert!(rt; !clients.contains(id(3)));
+    assert_eq!(rt;
+        clients.exchange(rt.alloc(), b"A", NEW, 0, 0),
+        added(4, None)
+    );
+    Ok(())
+}
+
+/// What a verdict says, but for the bytes of a success.
+#[derive(Clone, Copy, Debug, PartialEq, Eq)]
+enum Said {
+    Stale,
+    AgainDone,
+    Again(Status),
+    Misordered,
+    InUse,
+    Runs,
+}
+
+fn verdict_of(clients: &Clients, client: u64, number: u32, uid: u32) -> Said {
+    match clients.create_judge(client, number, uid) {
+        CreateVerdict::Stale => Said::Stale,
+        CreateVerdict::Again(CreateResult::Done(_)) => Said::AgainDone,
+        CreateVerdict::Again(CreateResult::Refused(status)) => Said::Again(*status),
+        CreateVerdict::Misordered => Said::Misordered,
+        CreateVerdict::InUse => Said::InUse,
+        CreateVerdict::Runs => Said::Runs,
+    }
+}
+
+#[test]
+fn create_session_numbers(rt: HostRuntime) -> Result<(), Fail> {
+    let mut clients = Clients::new(rt.alloc(), 7);
+    clients.exchange(rt.alloc(), b"A", OLD, 0, 0)?;
+    assert_eq!(rt; verdict_of(&clients, id(2), 1, 0), Said::Stale);
+    for (number, want) in [
+        (0, Said::Misordered),
+        (1, Said::Runs),
+        (2, Said::Misordered),
+    ] {
+        assert_eq!(rt;
+            verdict_of(&clients, id(1), number, 0),
+            want,
+            "number {number}"
+        );
+    }
+    assert_eq!(rt; verdict_of(&clients, id(1), 1, 9), Said::InUse);
+    for status in [
+        Status::Delay,
+        Status::StaleClientId,
+        Status::SeqMisordered,
+        Status::ClidInUse,
+    ] {
+        clients.keep_created(id(1), CreateResult::Refused(status));
+        assert_eq!(rt; verdict_of(&clients, id(1), 1, 0), Said::Runs);
+    }
+    let refusals = [
+        (1, 2, Status::TooSmall),
+        (2, 3, Status::NoSpc),
+        (3, 4, Status::ServerFault),
+    ];
+    for (number, next, status) in refusals {
+        clients.keep_created(id(1), CreateResult::Refused(status));
+        assert_eq!(rt; verdict_of(&clients, id(1), number, 0), Said::Again(status));
+        assert_eq!(rt; verdict_of(&clients, id(1), number, 9), Said::Again(status));
+        assert_eq!(rt; verdict_of(&clients, id(1), next, 0), Said::Runs);
+    }
+    clients.keep_created(id(1), CreateResult::Done(Resok::new(b"body")));
+    for (number, want) in [
+        (3, Said::Misordered),
+        (4, Said::AgainDone),
+        (5, Said::Runs),
+        (6, Said::Misordered),
+    ] {
+        assert_eq!(rt;
+            verdict_of(&clients, id(1), number, 0),
+            want,
+            "number {number}"
+        );
+    }
+    let CreateVerdict::Again(CreateResult::Done(kept)) = clients.create_judge(id(1), 4, 9) else {
+        return Err(Fail::from("no kept result"));
+    };
+    assert_eq!(rt; kept.bytes(), b"body".as_slice());
+    clients.confirm(id(1));
+    assert_eq!(rt; clients.exchange(rt.alloc(), b"A", OLD, 0, 0), stands(1, 5));
+    Ok(())
+}
+
+#[test]
+fn a_reclaim_is_complete_once(rt: HostRuntime) -> Result<(), Fail> {
+    let mut clients = Clients::new(rt.alloc(), 7);
+    clients.exchange(rt.alloc(), b"A", OLD, 0, 0)?;
+    clients.exchange(rt.alloc(), b"B", OLD, 0, 0)?;
+    for (client, before) in [
+        (id(1), false),
+        (id(1), true),
+        (id(2), false),
+        (id(3), false),
+        (id(3), false),
+    ] {
+        assert_eq!(rt; clients.reclaimed(client), before);
+    }
+    Ok(())
+}
+
+#[test]
+fn no_1025th_record(rt: HostRuntime) -> Result<(), Fail> {
+    let mut clients = Clients::new(rt.alloc(), 7);
+    for owner in 0..1024u32 {
+        clients.exchange(rt.alloc(), &owner.to_be_bytes(), OLD, 0, 0)?;
+    }
+    let full = clients.exchange(rt.alloc(), b"A", OLD, 0, 0);
+    assert_eq!(rt; full, Err(ClientFault::ServerFault));
+    assert_eq!(rt;
+        clients.judge_exchange(b"A", OLD, 0, 0),
+        Err(ClientFault::ServerFault)
+    );
+    let again = clients.exchange(rt.alloc(), &[0, 0, 0, 0], OLD, 0, 0);
+    assert_eq!(rt; again, added(1025, Some(id(1))));
+    clients.remove(id(2));
+    assert_eq!(rt;
+        clients.exchange(rt.alloc(), b"A", OLD, 0, 0),
+        added(1026, None)
+    );
+    Ok(())
+}

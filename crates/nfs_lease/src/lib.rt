@@ -1,0 +1,20 @@
+//! Leases: until when a client's state is its own.
+//!
+//! Contracts see a `Leases` through `leases_of`: a map from client to the moment of its last
+//! renewal, and how long a lease lasts. Moments and the lease are in one unit, seconds in the
+//! server. In what order renewals are kept, no contract says.
+//!
+//! ```text
+//! leases.add(alloc, client, now)?;                          // EXCHANGE_ID adds a record
+//! leases.renew(client, now);                                // a fresh SEQUENCE
+//! while let Some(client) = leases.next_out(now) { leases.remove(client); }
+//! ```
+//!
+//! RFC 8881 section 8.3 (lease renewal).
+#![tactic(auto)]
+
+mod leases;
+#[cfg(test)]
+mod tests;
+
+pub use leases::Leases;
