@@ -1,0 +1,3 @@
+pub mod TableLemmas
+pub mod IdLemmas
+pub mod LawLemmas

@@ -1,0 +1,56 @@
+-- What holds of every table of sessions, and of every list of calls on it.
+use Rattle.std.specs.Prelude.{◌≡◌, ℕ, ◌+◌, ◌==◌, suc, Bool, ◌&&◌, if◌then◌else◌, List, [], ◌∷◌, ◌++◌, Option, Some, None, option_map, option_to_list}
+use Rattle.std.specs.Result.{result_ok}
+use Rattle.nfs_xdr.specs.Tables.{IsRising}
+use Rattle.nfs_sessions.specs.declared.channel.Wish.{Wish}
+use Rattle.nfs_sessions.specs.declared.id.SessionId.{SessionId}
+use Rattle.nfs_sessions.specs.declared.sessions.Session.{Session}
+use Rattle.nfs_sessions.specs.Channel.{granted}
+use Rattle.nfs_sessions.specs.SessionSlots.{GrantedSlots, unused}
+use Rattle.nfs_sessions.specs.Sessions.{SessionTable, IsSessions, session_at, create, with_session, destroyed, without_client, with_slots}
+
+abbrev pub is_id : SessionId → SessionId → Bool
+is_id id other = (id.counter == other.counter) && (id.client == other.client)
+
+-- the table is a map from id to session: each change is at the ids that it names, and at no other
+pub record IsMap (t : SessionTable) : Type 0 where
+  pub created : (client : ℕ) (wish : Wish) (id : SessionId) →
+      session_at (with_session t client wish) id
+      ≡ (if is_id id (record { client = client; counter = t.last + 1 }) then Some (record { counter = t.last + 1; client = client; slots = unused (granted wish.fore) }) else session_at t id)
+  pub destroyed_at : (gone id : SessionId) → session_at (destroyed t gone) id ≡ (if is_id id gone then None else session_at t id)
+  pub dropped_at : (client : ℕ) (id : SessionId) → session_at (without_client t client) id ≡ (if id.client == client then None else session_at t id)
+  pub changed_at : (at id : SessionId) (change : GrantedSlots → GrantedSlots) →
+      session_at (with_slots t at change) id ≡ (if is_id id at then option_map (λ (s : Session). record s { slots = change s.slots }) (session_at t id) else session_at t id)
+
+abbrev pub SessionsAreAMap : Type 0
+SessionsAreAMap = (t : SessionTable) → IsSessions t → IsMap t
+
+-- a call that changes the table
+pub data Call : Type 0 where
+  Create : (client : ℕ) (wish : Wish) → Call
+  Destroy : (id : SessionId) → Call
+  DropClient : (client : ℕ) → Call
+  Change : (id : SessionId) (change : GrantedSlots → GrantedSlots) → Call
+
+abbrev pub after : SessionTable → Call → SessionTable
+after t (Create client wish) = (create t client wish).after
+after t (Destroy id) = destroyed t id
+after t (DropClient client) = without_client t client
+after t (Change id change) = with_slots t id change
+
+-- the id that a call gives, if it gives one
+abbrev pub given : SessionTable → Call → Option SessionId
+given t (Create client wish) = result_ok (create t client wish).answer
+given t _ = None
+
+abbrev pub all_after : SessionTable → List Call → SessionTable
+all_after t [] = t
+all_after t (call ∷ calls) = all_after (after t call) calls
+
+abbrev pub all_given : SessionTable → List Call → List SessionId
+all_given t [] = []
+all_given t (call ∷ calls) = option_to_list (given t call) ++ all_given (after t call) calls
+
+-- the counters of the ids that are given rise, from above the last that was given before: no id is given twice
+abbrev pub IdsRise : Type 0
+IdsRise = (t : SessionTable) (calls : List Call) → IsRising (λ id. id.counter) (t.last + 1) (all_given t calls) (suc (all_after t calls).last)

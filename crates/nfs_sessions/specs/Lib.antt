@@ -1,0 +1,6 @@
+pub mod Id
+pub mod Channel
+pub mod SessionSlots
+pub mod Sessions
+pub mod Lending
+pub mod Laws

@@ -1,0 +1,85 @@
+-- The sessions as a table by id (RFC 8881 sections 2.10.3 and 18.36).
+use Rattle.std.specs.Prelude.{◌≡◌, ℕ, ◌+◌, ◌==◌, suc, nat_le, Bool, true, not, ◌&&◌, if◌then◌else◌, List, [], ◌∷◌, ◌++◌, Option, Some, None, Result, Ok, Err, IsOk, filter, map, find, count_by}
+use Rattle.nfs_xdr.specs.Tables.{IsRising}
+use Rattle.nfs_xdr.specs.Checks.{first_fault}
+use Rattle.nfs_sessions.specs.declared.channel.Wish.{Wish}
+use Rattle.nfs_sessions.specs.declared.id.SessionId.{SessionId}
+use Rattle.nfs_sessions.specs.declared.sessions.Session.{Session}
+use Rattle.nfs_sessions.specs.declared.sessions.SessionFault.{SessionFault}
+use Rattle.nfs_sessions.specs.declared.sessions.SessionFault.TheVariants.{TooSmall, NoSpc, ServerFault, Memory}
+use Rattle.nfs_sessions.specs.Channel.{granted, is_too_small}
+use Rattle.nfs_sessions.specs.SessionSlots.{GrantedSlots, unused}
+use Rattle.nfs_sessions.specs.SessionSlots as slots
+
+-- the sessions that stand, and the last counter that was given, 0 before the first
+pub record SessionTable : Type 0 where
+  pub sessions : List Session
+  pub last : ℕ
+
+abbrev pub is_session : SessionId → Session → Bool
+is_session id s = (s.counter == id.counter) && (s.client == id.client)
+
+abbrev pub session_at : SessionTable → SessionId → Option Session
+session_at t id = find (is_session id) t.sessions
+
+-- the last value of the counter
+abbrev pub last_counter : ℕ
+last_counter = 0xffff_ffff_ffff_ffff
+
+-- whether a session stays where the client record that is leaving goes
+abbrev pub stays : Option ℕ → Session → Bool
+stays None s = true
+stays (Some client) s = not (s.client == client)
+
+abbrev pub create_checks : SessionTable → Wish → List (Bool × SessionFault)
+create_checks t wish =
+    (is_too_small wish.fore, TooSmall)
+    ∷ (nat_le 64 (count_by (stays wish.leaving) t.sessions), NoSpc)
+    ∷ (t.last == last_counter, ServerFault)
+    ∷ []
+
+abbrev pub create_fault : SessionTable → Wish → Option SessionFault
+create_fault t wish = first_fault (create_checks t wish)
+
+-- the table with a session of what is granted, under the next counter
+abbrev pub with_session : SessionTable → ℕ → Wish → SessionTable
+with_session t client wish = record {
+  sessions = t.sessions ++ record { counter = t.last + 1; client = client; slots = unused (granted wish.fore) } ∷ [];
+  last = t.last + 1;
+}
+
+-- an answer, and the table after it
+pub record Created : Type 0 where
+  pub answer : Result SessionId SessionFault
+  pub after : SessionTable
+
+-- a refusal leaves the table
+abbrev pub create_unless : SessionTable → ℕ → Wish → Option SessionFault → Created
+create_unless t client wish None = record { answer = Ok (record { client = client; counter = t.last + 1 }); after = with_session t client wish }
+create_unless t client wish (Some fault) = record { answer = Err fault; after = t }
+
+abbrev pub create : SessionTable → ℕ → Wish → Created
+create t client wish = create_unless t client wish (create_fault t wish)
+
+-- the call does what `create` says; or it wants memory, where it would have been granted, and leaves the table
+abbrev pub CreatesOrWants : SessionTable → Created → Result SessionId SessionFault → SessionTable → Type 0
+CreatesOrWants old did (Err Memory) new = IsOk did.answer × (new ≡ old)
+CreatesOrWants old did answer new = (answer ≡ did.answer) × (new ≡ did.after)
+
+abbrev pub destroyed : SessionTable → SessionId → SessionTable
+destroyed t id = record t { sessions = filter (λ s. not (is_session id s)) t.sessions }
+
+abbrev pub without_client : SessionTable → ℕ → SessionTable
+without_client t client = record t { sessions = filter (λ s. not (s.client == client)) t.sessions }
+
+-- the table with other slots of one session, and all else as it was
+abbrev pub with_slots : SessionTable → SessionId → (GrantedSlots → GrantedSlots) → SessionTable
+with_slots t id change = record t { sessions = map (λ s. if is_session id s then record s { slots = change s.slots } else s) t.sessions }
+
+-- a session's slot keeps a reply
+abbrev pub keep : SessionTable → SessionId → ℕ → ℕ → ℕ → List ℕ → List ℕ → SessionTable
+keep t id slot number uid args reply = with_slots t id (λ g. slots.keep g slot number uid args reply)
+
+-- the counters rise from 1 on, up to the last that was given
+pub record IsSessions (t : SessionTable) : Type 0 where
+  pub rising : IsRising (λ s. s.counter) 1 t.sessions (suc t.last)

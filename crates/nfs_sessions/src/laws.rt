@@ -1,0 +1,13 @@
+//! What holds of every table of sessions, and of every list of calls on it.
+
+ghost use Rattle.nfs_sessions.specs.Laws.{IdsRise, SessionsAreAMap};
+
+/// The sessions are a map from id to session: each call changes it at the ids that it names, and at no other.
+pub fn sessions_are_a_map()
+    ensures { SessionsAreAMap }
+{}
+
+/// No id is given twice, whatever calls come between.
+pub fn ids_rise()
+    ensures { IdsRise }
+{}

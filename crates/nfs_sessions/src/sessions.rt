@@ -1,0 +1,260 @@
+ghost use Rattle.std.specs.Prelude.{◌≡◌, ◌≤◌, ◌+◌, ◌==◌, None, IfOk, OnOk, OnErr, IsSomeAnd, is_some, option_map, count_by, find, filter, not, position, []};
+ghost use Rattle.std.specs.Option.{option_copied, option_copied_mut};
+ghost use Rattle.std.specs.Borrow.{sem};
+ghost use Rattle.std.specs.List.{list_any};
+ghost use Rattle.nfs_xdr.specs.Checks.{judged};
+ghost use Rattle.nfs_sessions.specs.declared.sessions.SessionFault.TheVariants.{Memory};
+ghost use Rattle.nfs_sessions.specs.Sessions.{IsSessions, is_session, session_at, stays, create, create_fault, with_session, CreatesOrWants, destroyed, without_client, keep};
+ghost use Rattle.nfs_sessions.specs.SessionSlots.{MayKeep};
+ghost use Rattle.nfs_sessions.specs.Lending.{LendsSlots};
+
+use crate::channel::Wish;
+use crate::id::SessionId;
+use crate::slots::SessionSlots;
+use std::alloc::{AllocError, Global};
+use std::marker::Model;
+
+/// One session.
+#[derive(Drop)]
+pub struct Session {
+    /// The number of the session, which stands in its id behind the client's.
+    pub counter: u64,
+    /// The id of the client.
+    pub client: u64,
+    /// Its slots, with what was granted of the fore channel.
+    pub slots: SessionSlots,
+}
+
+/// Why there is no new session.
+#[derive(Clone, Copy, Debug, PartialEq, Eq)]
+pub enum SessionFault {
+    /// NFS4ERR_TOOSMALL: the fore channel asked for is too small to be of use.
+    TooSmall,
+    /// NFS4ERR_NOSPC: 64 sessions stand.
+    NoSpc,
+    /// NFS4ERR_SERVERFAULT: each counter was given.
+    ServerFault,
+    /// There is no memory for its slots (NFS4ERR_DELAY).
+    Memory,
+}
+
+impl From<AllocError> for SessionFault {
+    ghost from_gives = { λ _ e. e ≡ Memory };
+
+    fn from(_e: AllocError) -> SessionFault {
+        SessionFault::Memory
+    }
+}
+
+/// All sessions, in rising order of their counters.
+#[derive(Drop)]
+pub struct Sessions {
+    sessions: Vec<Session>,
+    last: u64,
+}
+
+impl Model for Sessions {
+    ghost use Rattle.nfs_sessions.specs.Sessions.{SessionTable, IsSessions};
+
+    ghost Value = { SessionTable };
+
+    ghost view = { λ t. record { sessions = t.sessions.items; last = t.last } };
+
+    ghost invariant = { λ t. IsSessions (record { sessions = t.sessions.items; last = t.last }) };
+}
+
+impl Session {
+    fn is(&self, id: &SessionId) -> bool
+        ensures { result ≡ is_session id.now self.now }
+    {
+        self.counter == id.counter && self.client == id.client
+    }
+
+    fn stays(&self, leaving: Option<u64>) -> bool
+        ensures { result ≡ stays leaving self.now }
+    {
+        match leaving {
+            Some(client) => self.client != client,
+            None => true,
+        }
+    }
+}
+
+fn session_in<'a>(sessions: &'a [Session], id: &SessionId) -> Option<&'a Session>
+    ensures { option_copied result ≡ find (is_session id.now) sessions.now }
+{
+    for s in sessions {
+        if s.is(id) {
+            return Some(s);
+        }
+    }
+    None
+}
+
+fn place_in(sessions: &[Session], id: &SessionId) -> Option<usize>
+    ensures { result ≡ position (is_session id.now) sessions.now }
+{
+    sessions.iter().position(|s| s.is(id))
+}
+
+fn drop_session(sessions: &mut Vec<Session>, id: &SessionId)
+    ensures { sessions.new.items ≡ filter (λ s. not (is_session id.now s)) sessions.old.items }
+{
+    sessions.retain(|s| !s.is(id));
+}
+
+fn drop_sessions_of(sessions: &mut Vec<Session>, client: u64)
+    ensures { sessions.new.items ≡ filter (λ s. not (s.client == client)) sessions.old.items }
+{
+    sessions.retain(|s| s.client != client);
+}
+
+impl Sessions {
+    /// The most sessions that stand at once (this server's profile).
+    pub const MOST: usize = 64;
+
+    /// No sessions. A later `create` grows by `alloc`.
+    pub fn new(alloc: Global) -> Sessions
+        ensures { result ≡ record { sessions = []; last = 0 } }
+    {
+        Sessions {
+            sessions: Vec::new(alloc),
+            last: 0,
+        }
+    }
+
+    fn judge_create(&self, wish: &Wish) -> Result<(), SessionFault>
+        ensures { result ≡ judged (create_fault self.now wish.now) }
+    {
+        if wish.fore.is_too_small() {
+            return Err(SessionFault::TooSmall);
+        }
+        let staying = self
+            .sessions
+            .iter()
+            .filter(|s| s.stays(wish.leaving))
+            .count();
+        if staying >= Sessions::MOST {
+            return Err(SessionFault::NoSpc);
+        }
+        if self.last == u64::MAX {
+            return Err(SessionFault::ServerFault);
+        }
+        Ok(())
+    }
+
+    fn insert(&mut self, alloc: Global, client: u64, wish: &Wish) -> Result<SessionId, AllocError>
+        requires { create_fault self.old wish.now ≡ None }
+        ensures ok { OnOk result (self.new ≡ with_session self.old client wish.now) }
+        ensures id { IfOk result (λ id. id ≡ record { client = client; counter = self.old.last + 1 }) }
+        ensures err { OnErr result (self.new ≡ self.old) }
+    {
+        let slots = SessionSlots::new(alloc, wish.fore.granted())?;
+        self.sessions.reserve(1)?;
+        let counter = self.last + 1;
+        self.sessions
+            .push(Session {
+                counter,
+                client,
+                slots,
+            })
+            .unwrap();
+        self.last = counter;
+        Ok(SessionId { client, counter })
+    }
+
+    /// Makes a session for a client, with what is granted of the fore channel asked for.
+    ///
+    /// The checks in their order: `TooSmall`; `NoSpc` where 64 sessions stand, those of the leaving client record not
+    /// counted; `ServerFault` where each counter was given; `Memory` where there is no room for its slots.
+    /// A refusal leaves all as it was.
+    pub fn create(
+        &mut self,
+        alloc: Global,
+        client: u64,
+        wish: &Wish,
+    ) -> Result<SessionId, SessionFault>
+        ensures { CreatesOrWants self.old (create self.old client wish.now) result self.new }
+    {
+        self.judge_create(wish)?;
+        Ok(self.insert(alloc, client, wish)?)
+    }
+
+    /// The session with this id: its client, its channel and its slots.
+    pub fn find(&self, id: &SessionId) -> Option<&Session>
+        ensures found { option_copied result ≡ session_at self.now id.now }
+        ensures rising { IsSessions self.now }
+    {
+        session_in(&self.sessions, id)
+    }
+
+    /// The slots of the session with this id.
+    pub fn slots(&self, id: &SessionId) -> Option<&SessionSlots>
+        ensures { option_copied result ≡ option_map (λ s. s.slots) (session_at self.now id.now) }
+    {
+        match session_in(&self.sessions, id) {
+            Some(s) => Some(&s.slots),
+            None => None,
+        }
+    }
+
+    /// The slots of the session with this id, to be changed. All else stays as it is.
+    pub fn slots_mut(&mut self, id: &SessionId) -> Option<&mut SessionSlots>
+        ensures* lends { sem 𝓛 (LendsSlots self.entry id.now result) }
+        ensures slots { option_copied_mut result ≡ option_map (λ s. s.slots) (session_at self.old id.now) }
+        ensures rising { IsSessions self.old }
+    {
+        match place_in(&self.sessions, id) {
+            Some(place) => {
+                let session = &mut self.sessions[place];
+                Some(&mut session.slots)
+            }
+            None => None,
+        }
+    }
+
+    /// Whether a client has a session.
+    pub fn has_client(&self, client: u64) -> bool
+        ensures { result ≡ list_any (λ s. s.client == client) self.now.sessions }
+    {
+        self.sessions.iter().any(|s| s.client == client)
+    }
+
+    /// Keeps the reply to a request that was fresh on a session's slot and has run.
+    pub fn keep(
+        &mut self,
+        id: &SessionId,
+        slot: u32,
+        number: u32,
+        uid: u32,
+        args: &[u8],
+        reply: &[u8],
+    )
+        requires { IsSomeAnd (session_at self.old id.now) (λ s. MayKeep s.slots slot number uid args.now reply.now) }
+        ensures { self.new ≡ keep self.old id.now slot number uid args.now reply.now }
+    {
+        if let Some(slots) = self.slots_mut(id) {
+            slots.keep(slot, number, uid, args, reply);
+        }
+    }
+
+    /// Ends a session, and answers whether it stood.
+    pub fn destroy(&mut self, id: &SessionId) -> bool
+        ensures stood { result ≡ is_some (session_at self.old id.now) }
+        ensures gone { self.new ≡ destroyed self.old id.now }
+    {
+        let stood = session_in(&self.sessions, id).is_some();
+        drop_session(&mut self.sessions, id);
+        stood
+    }
+
+    /// Ends the sessions of a client.
+    pub fn drop_client(&mut self, client: u64)
+        ensures { self.new ≡ without_client self.old client }
+    {
+        drop_sessions_of(&mut self.sessions, client);
+    }
+}
+
+#[cfg(test)]
+mod tests;

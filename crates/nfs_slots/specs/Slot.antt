@@ -1,0 +1,54 @@
+-- A slot of a session, and what it says of a request's number (RFC 8881 section 2.10.6.1).
+use Rattle.std.specs.Prelude.{ℕ, ◌+◌, ◌%◌, ◌^◌, ◌==◌, Bool, true, false, not, ◌&&◌, if◌then◌else◌, List, [], Option, bytes_eq, slice_get, slice_set, replicate}
+use Rattle.std.specs.Option.{option_map_or}
+use Rattle.nfs_slots.specs.declared.slot.Verdict.{Verdict}
+use Rattle.nfs_slots.specs.declared.slot.Verdict.TheVariants.{Fresh, Again, FalseRetry, Misordered, NoSlot}
+
+-- a slot: the number of its last request, whether it took one yet, and of that request the caller, the argument bytes and the reply
+pub record SlotState : Type 0 where
+  pub number : ℕ
+  pub used : Bool
+  pub uid : ℕ
+  pub args : List ℕ
+  pub reply : List ℕ
+
+-- the slots of a session, from slot 0 on, and the most bytes of a reply and of arguments that each keeps
+pub record SlotTable : Type 0 where
+  pub slots : List SlotState
+  pub size : ℕ
+  pub request : ℕ
+
+-- a slot that took no request yet
+abbrev pub unused_slot : SlotState
+unused_slot = record { number = 0; used = false; uid = 0; args = []; reply = [] }
+
+abbrev pub unused : ℕ → ℕ → ℕ → SlotTable
+unused count size request = record { slots = replicate count unused_slot; size = size; request = request }
+
+-- numbers go round: 0 stands behind 2^32 - 1
+abbrev pub next_number : ℕ → ℕ
+next_number number = (number + 1) % 2 ^ 32
+
+-- so 0 is misordered on a slot that took no request yet
+abbrev pub judge_slot : SlotState → ℕ → ℕ → List ℕ → Verdict
+judge_slot s number uid args =
+    if number == next_number s.number then Fresh
+    else if not (s.used && (number == s.number)) then Misordered
+    else if (uid == s.uid) && bytes_eq args s.args then Again
+    else FalseRetry
+
+abbrev pub slot_at : SlotTable → ℕ → Option SlotState
+slot_at t slot = slice_get t.slots slot
+
+abbrev pub judge : SlotTable → ℕ → ℕ → ℕ → List ℕ → Verdict
+judge t slot number uid args = option_map_or (λ s. judge_slot s number uid args) (slot_at t slot) NoSlot
+
+-- the slot takes the request in the place of its last one, and every other slot stays as it was
+abbrev pub keep : SlotTable → ℕ → ℕ → ℕ → List ℕ → List ℕ → SlotTable
+keep t slot number uid args reply = record t {
+  slots = slice_set t.slots slot (record { number = number; used = true; uid = uid; args = args; reply = reply });
+}
+
+-- the reply that a slot keeps
+abbrev pub kept : SlotTable → ℕ → List ℕ
+kept t slot = option_map_or (λ s. s.reply) (slot_at t slot) []

@@ -1,0 +1,165 @@
+ghost use Rattle.std.specs.Prelude.{◌≡◌, ◌≢◌, ◌≤◌, ◌==◌, ◌||◌, ◌&&◌, true, length, MatchBool};
+ghost use Rattle.nfs_slots.specs.Slot.{next_number};
+
+use super::*;
+use std::test::Fail;
+
+const OK: u32 = 0;
+
+const EXIST: u32 = 17;
+
+/// The arguments of SEQUENCE with number 1 on slot 0, and of an operation without arguments behind it.
+fn sequence_and(cachethis: u8, operation: u8) -> [u8; 52] {
+    [
+        0, 0, 0, 0, 0, 0, 0, 1, 0, 0, 0, 2, // tag, minor version, count
+        0, 0, 0, 53, 0, 0, 0, 7, 0, 0, 0, 1, 0, 0, 0, 0, 0, 0, 0, 1, // SEQUENCE, session id
+        0, 0, 0, 1, 0, 0, 0, 0, 0, 0, 0, 0, 0, 0, 0, cachethis, // number, slot, highest slot
+        0, 0, 0, operation,
+    ]
+}
+
+/// Runs a request on slot 0 where it is fresh: its reply is then kept.
+fn serve(slots: &mut Slots, number: u32, uid: u32, args: &[u8], reply: &[u8]) -> Verdict
+    requires args { length args.now ≤ slots.old.request }
+    requires reply { length reply.now ≤ slots.old.size }
+    ensures request { slots.new.request ≡ slots.old.request }
+    ensures size { slots.new.size ≡ slots.old.size }
+{
+    let verdict = slots.judge(0, number, uid, args);
+    if let Verdict::Fresh = verdict {
+        slots.keep(0, number, uid, args, reply);
+    }
+    verdict
+}
+
+#[test]
+fn a_misordered_number_leaves_the_slot(rt: HostRuntime) -> Result<(), Fail> {
+    let mut slots = Slots::new(rt.alloc(), 16, 8, 8)?;
+    assert_eq!(rt;
+        serve(&mut slots, 0, 0, b"args", b"reply"),
+        Verdict::Misordered
+    );
+    assert_eq!(rt; slots.judge(16, 1, 0, b"args"), Verdict::NoSlot);
+    assert_eq!(rt; slots.judge(15, 1, 0, b"args"), Verdict::Fresh);
+    assert_eq!(rt;
+        serve(&mut slots, 2, 0, b"args", b"reply"),
+        Verdict::Misordered
+    );
+    assert_eq!(rt; slots.kept(0), b"".as_slice());
+    assert_eq!(rt; slots.kept(16), b"".as_slice());
+    assert_eq!(rt; serve(&mut slots, 1, 0, b"args", b"reply"), Verdict::Fresh);
+    assert_eq!(rt; slots.kept(0), b"reply".as_slice());
+    assert_eq!(rt; slots.kept(1), b"".as_slice());
+    assert_eq!(rt; slots.judge(1, 1, 0, b"args"), Verdict::Fresh);
+    Ok(())
+}
+
+#[test]
+fn another_caller_is_a_false_retry(rt: HostRuntime) -> Result<(), Fail> {
+    let mut slots = Slots::new(rt.alloc(), 1, 8, 8)?;
+    assert_eq!(rt; serve(&mut slots, 1, 0, b"args", b"reply"), Verdict::Fresh);
+    assert_eq!(rt;
+        serve(&mut slots, 1, 5, b"args", b"other"),
+        Verdict::FalseRetry
+    );
+    assert_eq!(rt; serve(&mut slots, 1, 0, b"args", b"other"), Verdict::Again);
+    assert_eq!(rt; slots.kept(0), b"reply".as_slice());
+    Ok(())
+}
+
+#[test]
+fn other_arguments_are_a_false_retry(rt: HostRuntime) -> Result<(), Fail> {
+    let putrootfh = sequence_and(0, 24);
+    let putpubfh = sequence_and(0, 23);
+    let cached = sequence_and(1, 24);
+    let mut slots = Slots::new(rt.alloc(), 1, 8, 52)?;
+    assert_eq!(rt;
+        serve(&mut slots, 1, 0, &putrootfh, b"reply"),
+        Verdict::Fresh
+    );
+    assert_eq!(rt;
+        serve(&mut slots, 1, 0, &putpubfh, b"other"),
+        Verdict::FalseRetry
+    );
+    assert_eq!(rt;
+        serve(&mut slots, 1, 0, &putrootfh, b"other"),
+        Verdict::Again
+    );
+    assert_eq!(rt;
+        serve(&mut slots, 1, 0, &cached, b"other"),
+        Verdict::FalseRetry
+    );
+    assert_eq!(rt;
+        serve(&mut slots, 1, 0, b"args", b"other"),
+        Verdict::FalseRetry
+    );
+    assert_eq!(rt; slots.kept(0), b"reply".as_slice());
+    Ok(())
+}
+
+#[test]
+fn room_that_is_not_to_be_had_is_refused(rt: HostRuntime) {
+    assert!(rt; Slots::new(rt.alloc(), 1, usize::MAX, 0).is_err());
+    assert!(rt; Slots::new(rt.alloc(), 1, 0, usize::MAX).is_err());
+    assert!(rt; Slots::new(rt.alloc(), usize::MAX, 0, 0).is_err());
+}
+
+/// What CREATE of one name answers, where `tries` counts how often it ran: the first makes the directory, and any other finds it there.
+fn create(tries: &mut u32) -> u32 {
+    *tries = tries.saturating_add(1);
+    if *tries == 1 { OK } else { EXIST }
+}
+
+/// A slot whose contract binds the number alone, and says nothing of a repeat.
+#[derive(Drop)]
+struct NumberSlot {
+    number: u32,
+    used: bool,
+}
+
+impl NumberSlot {
+    /// Takes a number that is the next or the last one. A repeat is run again, which the contract lets pass.
+    fn take(&mut self, number: u32) -> Verdict
+        ensures { MatchBool ((number == next_number self.old.number) || (self.old.used && (number == self.old.number))) ((result ≢ Verdict.Misordered) × (self.new ≡ record { number = number; used = true })) ((result ≡ Verdict.Misordered) × (self.new ≡ self.old)) }
+    {
+        if number == self.number.wrapping_add(1) || (self.used && number == self.number) {
+            self.number = number;
+            self.used = true;
+            return Verdict::Fresh;
+        }
+        Verdict::Misordered
+    }
+}
+
+#[test]
+fn a_contract_of_the_number_alone_lets_a_repeat_run_again(rt: HostRuntime) {
+    let mut slot = NumberSlot {
+        number: 0,
+        used: false,
+    };
+    let mut tries = 0;
+    assert_eq!(rt; slot.take(1), Verdict::Fresh);
+    assert_eq!(rt; create(&mut tries), OK);
+    assert_eq!(rt; slot.take(1), Verdict::Fresh);
+    assert_eq!(rt;
+        create(&mut tries),
+        EXIST,
+        "the repeat ran, and its caller is told of its own directory"
+    );
+}
+
+#[test]
+fn a_repeat_is_answered_with_the_kept_reply_and_does_not_run(rt: HostRuntime) -> Result<(), Fail> {
+    let mut slots = Slots::new(rt.alloc(), 1, 8, 8)?;
+    let mut tries = 0;
+    for _ in 0..2 {
+        let verdict = slots.judge(0, 1, 0, b"create");
+        if let Verdict::Fresh = verdict {
+            let reply = create(&mut tries).to_be_bytes();
+            slots.keep(0, 1, 0, b"create", &reply);
+        }
+        assert_eq!(rt; slots.kept(0), OK.to_be_bytes().as_slice());
+    }
+    assert_eq!(rt; tries, 1);
+    Ok(())
+}
