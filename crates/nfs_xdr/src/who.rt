@@ -1,6 +1,6 @@
 ghost use Rattle.std.specs.Prelude.{◌≡◌};
 
-/// The caller of a call, as its credential tells (RFC 5531 section 14 and appendix A).
+/// The caller of a call, as its credential tells (RFC 5531 section 10.1 and appendix A).
 #[derive(Clone, Copy, Debug, PartialEq, Eq)]
 pub struct Who {
     /// The user.

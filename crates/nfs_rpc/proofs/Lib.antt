@@ -1,0 +1,10 @@
+pub mod Shares
+pub mod Fragments
+pub mod Taking
+pub mod Feeding
+pub mod Walks
+pub mod Readings
+pub mod Existence
+pub mod HeadLaws
+pub mod Lengths
+pub mod Following

@@ -1,0 +1,35 @@
+-- What `Records` does with a piece of a stream, and with the record that waits (RFC 5531 section 11).
+use Rattle.std.specs.Prelude.{◌≡◌, ℕ, ◌<◌, ◌≤◌, ◌++◌, List, [], take, Bool, true, false}
+use Rattle.nfs_rpc.specs.declared.fed.Fed.{Fed}
+use Rattle.nfs_rpc.specs.declared.fed.Fed.TheVariants.{More, Whole, TooLong}
+use Rattle.nfs_rpc.specs.RecordMarking.{Part, Held, Begun, Complete, Failed, Holds, start}
+
+-- whether a whole record waits
+abbrev pub waits : Held → Bool
+waits (Begun p) = false
+waits (Complete record_data) = true
+waits Failed = false
+
+-- its data, and no bytes where none waits
+abbrev pub waiting : Held → List ℕ
+waiting (Begun p) = []
+waiting (Complete record_data) = record_data
+waiting Failed = []
+
+-- what is held once the record that waits is done with
+abbrev pub done_with : Held → Held
+done_with (Begun p) = Begun p
+done_with (Complete record_data) = Begun start
+done_with Failed = Failed
+
+-- what each answer to a piece of so many bytes says of what is held
+abbrev pub Answers : Fed → Held → ℕ → Type 0
+Answers More held size = (p : Part) × (held ≡ Begun p)
+Answers (Whole used) held size = (record_data : List ℕ) × (held ≡ Complete record_data) × (used ≤ size) × (0 < used)
+Answers TooLong held size = held ≡ Failed
+
+-- For the bytes before the piece: they and the bytes taken of it are what is held now.
+abbrev pub StandsNow : Fed → List ℕ → List ℕ → Held → Type 0
+StandsNow More rest piece held = Holds (rest ++ piece) held
+StandsNow (Whole used) rest piece held = Holds (rest ++ take used piece) held
+StandsNow TooLong rest piece held = (used : ℕ) × Holds (rest ++ take used piece) held

@@ -1,0 +1,26 @@
+-- What the structs of a call are as values, wherever their bytes lie in memory.
+use Rattle.std.specs.Prelude.{◌≡◌, take, Result, Ok, Err}
+use Rattle.nfs_xdr.specs.declared.who.Who as rust_who
+use Rattle.nfs_rpc.specs.declared.call.Call as rust_call
+use Rattle.nfs_rpc.specs.declared.call.OpaqueAuth as rust_opaque_auth
+use Rattle.nfs_rpc.specs.declared.call.Header as rust_header
+use Rattle.nfs_rpc.specs.declared.refusal.Refusal.{Refusal}
+use Rattle.nfs_rpc.specs.CallHead as head
+use Rattle.nfs_rpc.specs.CallHead.{Called, Accepted, Refused}
+
+abbrev pub caller : rust_who.Who → head.Caller
+caller w = record { uid = w.uid; gid = w.gid; gids = take w.count w.gids }
+
+abbrev pub opaque_auth : rust_opaque_auth.OpaqueAuth → head.OpaqueAuth
+opaque_auth a = record { flavor = a.flavor; body = a.body.now }
+
+abbrev pub header : rust_header.Header → head.Header
+header h = record { program = h.program; version = h.version; procedure = h.procedure; credential = opaque_auth h.credential; verifier = opaque_auth h.verifier }
+
+abbrev pub call : rust_call.Call → head.Call
+call c = record { xid = c.xid; procedure = c.procedure; who = caller c.who; args = c.args.now }
+
+-- what `Call::read` answers
+abbrev pub IsCalled : Result rust_call.Call Refusal → Called → Type 0
+IsCalled (Ok c) called = called ≡ Accepted (call c)
+IsCalled (Err refusal) called = called ≡ Refused refusal

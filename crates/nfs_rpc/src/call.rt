@@ -1,0 +1,32 @@
+use crate::procedure::Procedure;
+use nfs_xdr::Who;
+
+/// A call whose head was read and passed every check (RFC 5531 section 9).
+#[derive(Clone, Copy, Debug)]
+pub struct Call<'a> {
+    /// The call's number, which its reply repeats.
+    pub xid: u32,
+    /// What is called.
+    pub procedure: Procedure,
+    /// Who calls.
+    pub who: Who,
+    /// The procedure's arguments, lent from the record.
+    pub args: &'a [u8],
+}
+
+/// A credential or a verifier (RFC 5531 section 8.2).
+#[derive(Clone, Copy)]
+pub struct OpaqueAuth<'a> {
+    pub flavor: u32,
+    pub body: &'a [u8],
+}
+
+/// What stands behind the version of RPC in a call (RFC 5531 section 9).
+#[derive(Clone, Copy)]
+pub struct Header<'a> {
+    pub program: u32,
+    pub version: u32,
+    pub procedure: u32,
+    pub credential: OpaqueAuth<'a>,
+    pub verifier: OpaqueAuth<'a>,
+}

@@ -1,0 +1,189 @@
+ghost use Rattle.std.specs.Prelude.{◌≡◌, ◌≤◌, IfOk, MatchResult, Some, None, Ok, Err};
+ghost use Rattle.nfs_xdr.specs.Reading.{Finds};
+ghost use Rattle.nfs_xdr.specs.Checks.{first_fault};
+ghost use Rattle.nfs_rpc.specs.CallHead as head;
+ghost use Rattle.nfs_rpc.specs.CallHead.{call_of, behind_version, judged, caller_of, caller_by, checks, Refused};
+ghost use Rattle.nfs_rpc.specs.View as view;
+ghost use Rattle.nfs_rpc.specs.View.{IsCalled};
+
+use crate::call::{Call, Header, OpaqueAuth};
+use crate::procedure::Procedure;
+use crate::refusal::{AcceptStat, AuthStat, Refusal};
+use nfs_xdr::{Cursor, Unreadable, Who};
+
+/// The program that is served (RFC 5662).
+const PROGRAM: u32 = 100_003;
+
+/// The version of the program that is served.
+const VERSION: u32 = 4;
+
+/// The number of procedure NULL.
+const NULL: u32 = 0;
+
+/// The number of procedure COMPOUND.
+const COMPOUND: u32 = 1;
+
+/// The flavor of a credential that tells nothing (RFC 5531 section 10.1).
+const AUTH_NONE: u32 = 0;
+
+/// The flavor of a credential that tells a user and groups (RFC 5531 appendix A).
+const AUTH_SYS: u32 = 1;
+
+impl<'a> Call<'a> {
+    /// Reads the head of a call from the bytes of a record, by this server's order of checks (docs/PROTOCOL.md); the first
+    /// check that fails gives the refusal, which bears the call's xid.
+    ///
+    /// 1. `Silent`: no xid or message type can be read, or the message is no call.
+    /// 2. `Mismatch`: the version of RPC can be read and is not 2.
+    /// 3. `Silent`: the rest of the head cannot be read, a credential or verifier above 400 bytes included.
+    /// 4. `Auth`: `RejectedCred` for a flavor other than AUTH_NONE and AUTH_SYS, `BadCred` for an AUTH_SYS body that
+    ///    cannot be read.
+    /// 5. `Accept`: `ProgUnavail`, `ProgMismatch`, `ProcUnavail`.
+    /// 6. `Auth`: `TooWeak` for COMPOUND under AUTH_NONE.
+    /// 7. `Accept`: `GarbageArgs` for NULL with arguments. The arguments of COMPOUND are not looked at.
+    pub fn read(bytes: &'a [u8]) -> Result<Call<'a>, Refusal>
+        ensures called { IsCalled result (call_of bytes.now) }
+        ensures groups { IfOk result (λ c. c.who.count ≤ 16) }
+    {
+        let mut c = Cursor::new(bytes);
+        let xid = start(&mut c)?;
+        let Ok(header) = header(&mut c) else {
+            return Err(Refusal::Silent);
+        };
+        judge(xid, &header, c.rest())
+    }
+}
+
+/// The xid of a call of RPC version 2, which stands at the front.
+#[tactic(auto, unfolding(crate::specs::CallHead::call_of))]
+fn start(c: &mut Cursor<'_>) -> Result<u32, Refusal>
+    ensures { MatchResult result (λ xid. call_of c.old ≡ behind_version xid c.new) (λ refusal. call_of c.old ≡ Refused refusal) }
+{
+    let Ok(xid) = c.u32() else {
+        return Err(Refusal::Silent);
+    };
+    let Ok(kind) = c.u32() else {
+        return Err(Refusal::Silent);
+    };
+    if kind != 0 {
+        return Err(Refusal::Silent);
+    }
+    let Ok(rpcvers) = c.u32() else {
+        return Err(Refusal::Silent);
+    };
+    if rpcvers != 2 {
+        return Err(Refusal::Mismatch { xid });
+    }
+    Ok(xid)
+}
+
+#[tactic(auto, unfolding(crate::specs::CallHead::header))]
+fn header<'a>(c: &mut Cursor<'a>) -> Result<Header<'a>, Unreadable>
+    ensures { Finds view.header result (head.header.read c.old) c.new }
+{
+    let program = c.u32()?;
+    let version = c.u32()?;
+    let procedure = c.u32()?;
+    let credential = opaque_auth(c)?;
+    let verifier = opaque_auth(c)?;
+    Ok(Header {
+        program,
+        version,
+        procedure,
+        credential,
+        verifier,
+    })
+}
+
+#[tactic(auto, unfolding(crate::specs::CallHead::opaque_auth))]
+fn opaque_auth<'a>(c: &mut Cursor<'a>) -> Result<OpaqueAuth<'a>, Unreadable>
+    ensures { Finds view.opaque_auth result (head.opaque_auth.read c.old) c.new }
+{
+    let flavor = c.u32()?;
+    let body = c.opaque(400)?;
+    Ok(OpaqueAuth { flavor, body })
+}
+
+/// The call behind a header that can be read, or the first check that refuses it.
+#[tactic(auto, unfolding(crate::specs::CallHead::judged))]
+fn judge<'a>(xid: u32, header: &Header<'a>, args: &'a [u8]) -> Result<Call<'a>, Refusal>
+    ensures called { IsCalled result (judged xid (view.header header.now) args.now) }
+    ensures groups { IfOk result (λ c. c.who.count ≤ 16) }
+{
+    let who = caller(&header.credential).map_err(|stat| Refusal::Auth { xid, stat })?;
+    if let Some(refusal) = fault(xid, header, args) {
+        return Err(refusal);
+    }
+    let procedure = match header.procedure {
+        NULL => Procedure::Null,
+        _ => Procedure::Compound,
+    };
+    Ok(Call {
+        xid,
+        procedure,
+        who,
+        args,
+    })
+}
+
+/// Who calls by a credential of AUTH_NONE, whose body is not looked at, or of AUTH_SYS.
+fn caller(credential: &OpaqueAuth<'_>) -> Result<Who, AuthStat>
+    ensures told { MatchResult result (λ w. caller_by (view.opaque_auth credential.now) ≡ Ok (view.caller w)) (λ stat. caller_by (view.opaque_auth credential.now) ≡ Err stat) }
+    ensures groups { IfOk result (λ w. w.count ≤ 16) }
+{
+    match credential.flavor {
+        AUTH_NONE => Ok(Who::nobody()),
+        AUTH_SYS => auth_sys(credential.body).map_err(|_| AuthStat::BadCred),
+        _ => Err(AuthStat::RejectedCred),
+    }
+}
+
+/// The first check behind the credential that refuses the call.
+fn fault(xid: u32, header: &Header<'_>, args: &[u8]) -> Option<Refusal>
+    ensures { result ≡ first_fault (checks xid (view.header header.now) args.now) }
+{
+    let stat = if header.program != PROGRAM {
+        AcceptStat::ProgUnavail
+    } else if header.version != VERSION {
+        AcceptStat::ProgMismatch
+    } else if header.procedure != NULL && header.procedure != COMPOUND {
+        AcceptStat::ProcUnavail
+    } else if header.procedure == COMPOUND && header.credential.flavor == AUTH_NONE {
+        return Some(Refusal::Auth {
+            xid,
+            stat: AuthStat::TooWeak,
+        });
+    } else if header.procedure == NULL && !args.is_empty() {
+        AcceptStat::GarbageArgs
+    } else {
+        return None;
+    };
+    Some(Refusal::Accept { xid, stat })
+}
+
+/// Who calls by the body of an AUTH_SYS credential.
+#[tactic(auto, unfolding(crate::specs::CallHead::caller_of, crate::specs::CallHead::auth_sys))]
+fn auth_sys(body: &[u8]) -> Result<Who, Unreadable>
+    ensures told { MatchResult result (λ w. caller_of body.now ≡ Some (view.caller w)) (λ _. caller_of body.now ≡ None) }
+    ensures groups { IfOk result (λ w. w.count ≤ 16) }
+{
+    let mut c = Cursor::new(body);
+    let _stamp = c.u32()?;
+    let _machine = c.opaque(255)?;
+    let uid = c.u32()?;
+    let gid = c.u32()?;
+    let groups = c.pieces::<4>()?;
+    if groups.len() > 16 || c.left() > 0 {
+        return Err(Unreadable);
+    }
+    let mut gids = [0; 16];
+    for (i, group) in groups.iter().enumerate() {
+        gids[i] = u32::from_be_bytes(*group);
+    }
+    Ok(Who {
+        uid,
+        gid,
+        count: groups.len(),
+        gids,
+    })
+}

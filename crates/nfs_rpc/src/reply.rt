@@ -1,0 +1,84 @@
+ghost use Rattle.nfs_xdr.specs.Paper.{HasRoom, Puts};
+ghost use Rattle.nfs_rpc.specs.Reply.{spell_accepted, spell_denied, spell_head, spell_stat, spell_refusal};
+
+use crate::refusal::{AcceptStat, AuthStat, Refusal};
+use nfs_xdr::Sheet;
+
+/// Puts the head of an accepted reply, up to SUCCESS: 24 bytes. The results of the procedure follow.
+#[tactic(auto, using(nfs_xdr::proofs::Putting::putting), unfolding(crate::specs::Reply::spell_head))]
+pub fn write_head(xid: u32, out: &mut Sheet)
+    requires room { HasRoom out.old (spell_head xid) }
+    ensures { Puts out.old out.new (spell_head xid) }
+{
+    put_accepted(xid, out);
+    out.put_u32(0);
+}
+
+/// Puts the whole reply to a call that is refused: 20 to 32 bytes, and nothing for `Refusal::Silent`.
+#[tactic(auto, using(nfs_xdr::proofs::Putting::putting), unfolding(crate::specs::Reply::spell_refusal))]
+pub fn write_refusal(refusal: &Refusal, out: &mut Sheet)
+    requires room { HasRoom out.old (spell_refusal refusal.now) }
+    ensures { Puts out.old out.new (spell_refusal refusal.now) }
+{
+    match refusal {
+        Refusal::Silent => {}
+        Refusal::Mismatch { xid } => {
+            put_denied(*xid, out);
+            out.put_u32(0);
+            out.put_u32(2);
+            out.put_u32(2);
+        }
+        Refusal::Auth { xid, stat } => {
+            put_denied(*xid, out);
+            out.put_u32(1);
+            out.put_u32(match stat {
+                AuthStat::BadCred => 1,
+                AuthStat::RejectedCred => 2,
+                AuthStat::TooWeak => 5,
+            });
+        }
+        Refusal::Accept { xid, stat } => {
+            put_accepted(*xid, out);
+            put_stat(*stat, out);
+        }
+    }
+}
+
+#[tactic(auto, using(nfs_xdr::proofs::Putting::putting))]
+fn put_accepted(xid: u32, out: &mut Sheet)
+    requires room { HasRoom out.old (spell_accepted xid) }
+    ensures { Puts out.old out.new (spell_accepted xid) }
+{
+    out.put_u32(xid);
+    out.put_u32(1);
+    out.put_u32(0);
+    out.put_u32(0);
+    out.put_u32(0);
+}
+
+#[tactic(auto, using(nfs_xdr::proofs::Putting::putting))]
+fn put_denied(xid: u32, out: &mut Sheet)
+    requires room { HasRoom out.old (spell_denied xid) }
+    ensures { Puts out.old out.new (spell_denied xid) }
+{
+    out.put_u32(xid);
+    out.put_u32(1);
+    out.put_u32(1);
+}
+
+#[tactic(auto, using(nfs_xdr::proofs::Putting::putting))]
+fn put_stat(stat: AcceptStat, out: &mut Sheet)
+    requires room { HasRoom out.old (spell_stat stat) }
+    ensures { Puts out.old out.new (spell_stat stat) }
+{
+    match stat {
+        AcceptStat::ProgUnavail => out.put_u32(1),
+        AcceptStat::ProgMismatch => {
+            out.put_u32(2);
+            out.put_u32(4);
+            out.put_u32(4);
+        }
+        AcceptStat::ProcUnavail => out.put_u32(3),
+        AcceptStat::GarbageArgs => out.put_u32(4),
+    }
+}
