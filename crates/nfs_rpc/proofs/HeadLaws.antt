@@ -11,7 +11,8 @@ use Rattle.nfs_xdr.specs.Checks.{first_fault}
 use Rattle.nfs_xdr.proofs.CodecLaws.{bind_some, is_number, is_opaque, is_then, is_as_type, is_only, is_pieces}
 use Rattle.nfs_rpc.specs.declared.refusal.Refusal.{Refusal}
 use Rattle.nfs_rpc.specs.declared.refusal.AuthStat.{AuthStat}
-use Rattle.nfs_rpc.specs.CallHead.{opaque_auth, Header, header, AuthSys, auth_sys, Caller, told, whole, caller_of, caller_by, Call, Called, Accepted, Refused, or_silent, or_auth, unless, checks, call_with, judged, call_of, spell_call}
+use Rattle.nfs_xdr.specs.Caller.{Caller}
+use Rattle.nfs_rpc.specs.CallHead.{opaque_auth, Header, header, AuthSys, auth_sys, told, whole, caller_of, caller_by, Call, Called, Accepted, Refused, or_silent, or_auth, unless, checks, call_with, judged, call_of, spell_call}
 
 pub is_opaque_auth : IsCodec opaque_auth
 unfolding opaque_auth

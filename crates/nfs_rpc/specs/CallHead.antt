@@ -2,6 +2,7 @@
 -- by this server's order of checks.
 use Rattle.std.specs.Prelude.{ℕ, ◌==◌, ◌&&◌, List, [], ◌∷◌, ◌++◌, length, Bool, Option, Some, None, Result, Ok, Err, nat_le, nat_lt, if◌then◌else◌, not}
 use Rattle.std.specs.Int.{w32, from_be_bytes}
+use Rattle.nfs_xdr.specs.Caller.{Caller}
 use Rattle.nfs_xdr.specs.Reading.{◌>>=◌}
 use Rattle.nfs_xdr.specs.Codec.{Codec, number, opaque, ◌then◌, as_type, only, pieces}
 use Rattle.nfs_xdr.specs.Checks.{first_fault}
@@ -48,12 +49,6 @@ auth_sys = as_type
     (λ x. record { stamp = x.0; machine = x.1.0; uid = x.1.1.0; gid = x.1.1.1.0; gids = x.1.1.1.1 })
     (λ s. (s.stamp, (s.machine, (s.uid, (s.gid, s.gids)))))
     (number then opaque 255 then number then number then only (λ gids. nat_le (length gids) 16) (pieces 4 (from_be_bytes w32) number))
-
--- who calls
-pub record Caller : Type 0 where
-  pub uid : ℕ
-  pub gid : ℕ
-  pub gids : List ℕ
 
 -- under AUTH_NONE
 abbrev pub nobody : Caller

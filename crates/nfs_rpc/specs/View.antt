@@ -1,15 +1,12 @@
 -- What the structs of a call are as values, wherever their bytes lie in memory.
-use Rattle.std.specs.Prelude.{◌≡◌, take, Result, Ok, Err}
-use Rattle.nfs_xdr.specs.declared.who.Who as rust_who
+use Rattle.std.specs.Prelude.{◌≡◌, Result, Ok, Err}
+use Rattle.nfs_xdr.specs.Caller.{caller}
 use Rattle.nfs_rpc.specs.declared.call.Call as rust_call
 use Rattle.nfs_rpc.specs.declared.call.OpaqueAuth as rust_opaque_auth
 use Rattle.nfs_rpc.specs.declared.call.Header as rust_header
 use Rattle.nfs_rpc.specs.declared.refusal.Refusal.{Refusal}
 use Rattle.nfs_rpc.specs.CallHead as head
 use Rattle.nfs_rpc.specs.CallHead.{Called, Accepted, Refused}
-
-abbrev pub caller : rust_who.Who → head.Caller
-caller w = record { uid = w.uid; gid = w.gid; gids = take w.count w.gids }
 
 abbrev pub opaque_auth : rust_opaque_auth.OpaqueAuth → head.OpaqueAuth
 opaque_auth a = record { flavor = a.flavor; body = a.body.now }

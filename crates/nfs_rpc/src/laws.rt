@@ -6,7 +6,8 @@ ghost use Rattle.nfs_rpc.specs.RecordMarking.{IsRecord, IsTooLong, Part, IsPart,
 ghost use Rattle.nfs_rpc.specs.Stream.{IsUnfinished, End, Open, TooLong, IsReading};
 ghost use Rattle.nfs_rpc.specs.declared.refusal.Refusal.{Refusal};
 ghost use Rattle.nfs_rpc.specs.Reply.{spell_head, spell_refusal};
-ghost use Rattle.nfs_rpc.specs.CallHead.{Header, header, AuthSys, auth_sys, Caller, told, caller_of, Call, Accepted, judged, call_of, spell_call};
+ghost use Rattle.nfs_xdr.specs.Caller.{Caller};
+ghost use Rattle.nfs_rpc.specs.CallHead.{Header, header, AuthSys, auth_sys, told, caller_of, Call, Accepted, judged, call_of, spell_call};
 
 /// One stream is read into records in one way, however it is cut into pieces.
 pub fn one_reading()

@@ -1,6 +1,7 @@
 ghost use Rattle.std.specs.Prelude.{◌≡◌, ◌≤◌, IfOk, MatchResult, Some, None, Ok, Err};
 ghost use Rattle.nfs_xdr.specs.Reading.{Finds};
 ghost use Rattle.nfs_xdr.specs.Checks.{first_fault};
+ghost use Rattle.nfs_xdr.specs.Caller as calling;
 ghost use Rattle.nfs_rpc.specs.CallHead as head;
 ghost use Rattle.nfs_rpc.specs.CallHead.{call_of, behind_version, judged, caller_of, caller_by, checks, Refused};
 ghost use Rattle.nfs_rpc.specs.View as view;
@@ -128,7 +129,7 @@ fn judge<'a>(xid: u32, header: &Header<'a>, args: &'a [u8]) -> Result<Call<'a>, 
 
 /// Who calls by a credential of AUTH_NONE, whose body is not looked at, or of AUTH_SYS.
 fn caller(credential: &OpaqueAuth<'_>) -> Result<Who, AuthStat>
-    ensures told { MatchResult result (λ w. caller_by (view.opaque_auth credential.now) ≡ Ok (view.caller w)) (λ stat. caller_by (view.opaque_auth credential.now) ≡ Err stat) }
+    ensures told { MatchResult result (λ w. caller_by (view.opaque_auth credential.now) ≡ Ok (calling.caller w)) (λ stat. caller_by (view.opaque_auth credential.now) ≡ Err stat) }
     ensures groups { IfOk result (λ w. w.count ≤ 16) }
 {
     match credential.flavor {
@@ -164,7 +165,7 @@ fn fault(xid: u32, header: &Header<'_>, args: &[u8]) -> Option<Refusal>
 /// Who calls by the body of an AUTH_SYS credential.
 #[tactic(auto, unfolding(crate::specs::CallHead::caller_of, crate::specs::CallHead::auth_sys))]
 fn auth_sys(body: &[u8]) -> Result<Who, Unreadable>
-    ensures told { MatchResult result (λ w. caller_of body.now ≡ Some (view.caller w)) (λ _. caller_of body.now ≡ None) }
+    ensures told { MatchResult result (λ w. caller_of body.now ≡ Some (calling.caller w)) (λ _. caller_of body.now ≡ None) }
     ensures groups { IfOk result (λ w. w.count ≤ 16) }
 {
     let mut c = Cursor::new(body);

@@ -6,3 +6,4 @@ pub mod Format
 pub mod Tables
 pub mod Checks
 pub mod Status
+pub mod Caller

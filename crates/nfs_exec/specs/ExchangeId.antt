@@ -1,0 +1,40 @@
+-- EXCHANGE_ID (RFC 8881 section 18.35): the table of clients decides, and its answer is told.
+use Rattle.std.specs.Prelude.{ℕ, List, [], ◌∷◌, Bool, true, false, Result, Ok, Err}
+use Rattle.nfs_xdr.specs.Status.{status_number}
+use Rattle.nfs_compound.specs.Operation.{ExchangeId}
+use Rattle.nfs_results.specs.Result.{ExchangeIdOk, Res, ResExchangeId, Refused}
+use Rattle.nfs_clients.specs.declared.exchange_id.Exchanged.{Exchanged}
+use Rattle.nfs_clients.specs.declared.exchange_id.ClientFault.{ClientFault}
+use Rattle.nfs_clients.specs.ExchangeId.{Ask, Did, exchange, fault_status}
+use Rattle.nfs_xdr.specs.Caller.{Caller}
+use Rattle.nfs_exec.specs.Machine.{Machine, Outcome}
+
+abbrev pub exchange_id_number : ℕ
+exchange_id_number = 42
+
+-- the text `nfs41d`, by which the server names itself and its scope
+abbrev pub server_name : List ℕ
+server_name = 110 ∷ 102 ∷ 115 ∷ 52 ∷ 49 ∷ 100 ∷ []
+
+-- EXCHGID4_FLAG_USE_NON_PNFS, and EXCHGID4_FLAG_CONFIRMED_R where the record is confirmed
+abbrev pub flags_of : Bool → ℕ
+flags_of false = 0x0001_0000
+flags_of true = 0x8001_0000
+
+-- the answer, with no state protection and no implementation told
+abbrev pub granted : Exchanged → ExchangeIdOk
+granted x = record { client = x.id; sequence = x.number; flags = flags_of x.confirmed; minor = 0; major = server_name; scope = server_name }
+
+abbrev pub told : Result Exchanged ClientFault → Res
+told (Ok x) = ResExchangeId (granted x)
+told (Err fault) = Refused exchange_id_number (status_number (fault_status fault))
+
+-- what the caller asks of the table; who made the client is not looked at
+abbrev pub ask_of : Caller → ExchangeId → Ask
+ask_of who e = record { owner = e.owner; verifier = e.verifier; flags = e.flags; uid = who.uid }
+
+abbrev pub exchanged : Machine → Did → Outcome
+exchanged m did = record { result = told did.answer; machine = record m { clients = did.after } }
+
+abbrev pub exchange_id : Machine → Caller → ExchangeId → Outcome
+exchange_id m who e = exchanged m (exchange m.clients (ask_of who e))

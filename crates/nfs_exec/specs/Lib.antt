@@ -1,0 +1,6 @@
+pub mod Machine
+pub mod ExchangeId
+pub mod Compound
+pub mod Expiry
+pub mod View
+pub mod Laws

@@ -1,0 +1,81 @@
+-- Heads of entries, and what reading one gave.
+use Rattle.std.proofs.Common.{◌≡◌, ℕ, ◌<◌, ◌≤◌, ◌^◌, Bool, true, false, List, ◌++◌, length, take, drop, slice_range, refl, sym, ap, subst, ◌∙◌, arith, inl, inr, ◌⊎◌, Option, take_all, [], append-nil, if◌then◌else◌, nat_lt, Some, None}
+use Rattle.std.specs.Io.KnownBytes.{IsAtEnd}
+use Rattle.nfs_serve.specs.declared.fault.Stop.TheVariants.{Cut, Connection, Long, Late, Many, ReadFailed, WriteFailed}
+use Rattle.std.proofs.lemmas.Bool.{ltb-false}
+use lib.Seq.{take-add}
+use Rattle.nfs_serve.specs.declared.fault.Stop.{Stop}
+use Rattle.nfs_xdr.specs.Spelling.{number, hyper}
+use Rattle.nfs_serve.specs.Script.{head, IsHead, IsPartial, StopsAt, refusal}
+use Rattle.nfs_serve.specs.Reading.{IsEntryStop, stop_of}
+use Rattle.nfs_serve.specs.Ends.{IsTold, EndsAt}
+
+pub length-head : (moment conn len : ℕ) → length (head moment conn len) ≡ 16
+unfolding head hyper number
+length-head moment conn len = refl
+
+-- a list of 16 is its three parts
+three_parts : (bs a b c : List ℕ) → length bs ≡ 16 → slice_range bs 0 8 ≡ a → slice_range bs 8 12 ≡ b → slice_range bs 12 16 ≡ c → bs ≡ a ++ b ++ c
+three_parts bs a b c long p q r =
+    let whole : length bs ≤ 16 = omega arith in
+    sym (take_all 16 bs whole) ∙ take-add 12 4 bs ∙ ap (λ l. l ++ take 4 (drop 12 bs)) (take-add 8 4 bs) ∙ ap (λ l. (take 8 bs ++ take 4 (drop 8 bs)) ++ l) r ∙ ap (λ l. (take 8 bs ++ l) ++ c) q ∙ ap (λ l. (l ++ b) ++ c) p
+
+pub head_parts : (bs : List ℕ) (moment conn len : ℕ) → length bs ≡ 16 → slice_range bs 0 8 ≡ hyper moment → slice_range bs 8 12 ≡ number conn → slice_range bs 12 16 ≡ number len → bs ≡ head moment conn len
+unfolding head
+head_parts bs moment conn len long p q r = three_parts bs _ _ _ long p q r
+
+-- a reader that stopped short of an entry
+pub stops_short : (left : Option (List ℕ)) (rest : List ℕ) (failed ended : Bool) → IsPartial rest → 0 < length rest
+    → (failed ≡ true) ⊎ ((failed ≡ false) × (ended ≡ true) × IsAtEnd left) → StopsAt (stop_of failed) rest × IsEntryStop (stop_of failed) × IsTold (stop_of failed) ended failed false × EndsAt (stop_of failed) left
+stops_short left rest true ended partial some told = (partial, λ whole few. omega arith, (refl, refl), tt)
+stops_short left rest false ended partial some (inl bad) = absurd cc
+stops_short left rest false ended partial some (inr ok) = ((some, partial), λ whole few. few, (ok.1, refl, refl), ok.2)
+
+if_none : (b : Bool) (x : Stop) (y : Option Stop) → (if b then Some x else y) ≡ None → (b ≡ false) × (y ≡ None)
+if_none true x y h = absurd cc
+if_none false x y h = (refl, h)
+
+pub refusal_none : (moment conn len : ℕ) → refusal moment conn len ≡ None → (moment ≤ 2 ^ 62) × (conn ≤ 15) × (len ≤ 65536)
+refusal_none moment conn len h =
+    let a = if_none (nat_lt 15 conn) Connection (if nat_lt 65536 len then Some Long else (if nat_lt (2 ^ 62) moment then Some Late else None)) h in
+    let b = if_none (nat_lt 65536 len) Long (if nat_lt (2 ^ 62) moment then Some Late else None) a.1 in
+    let d = if_none (nat_lt (2 ^ 62) moment) Late None b.1 in
+    (ltb-false (2 ^ 62) moment d.0, ltb-false 15 conn a.0, ltb-false 65536 len b.0)
+
+-- a head, and less than its piece
+pub partial_piece : (moment conn len : ℕ) (part : List ℕ) → refusal moment conn len ≡ None → length part < len → IsPartial (head moment conn len ++ part)
+partial_piece moment conn len part h short =
+    let ok = refusal_none moment conn len h in
+    inr (moment, conn, len, part, refl, ok.0, ok.1, ok.2, short)
+
+-- the tests of a refusal in their order
+data WhyRefused (moment conn len : ℕ) : Stop → Type 0 where
+  connection : WhyRefused moment conn len Connection
+  long : WhyRefused moment conn len Long
+  late : WhyRefused moment conn len Late
+
+why : (moment conn len : ℕ) (stop : Stop) → refusal moment conn len ≡ Some stop → WhyRefused moment conn len stop
+why moment conn len stop h = cases (nat_lt 15 conn) (nat_lt 65536 len) (nat_lt (2 ^ 62) moment) h
+  where
+    some_is : (a b : Stop) → Some a ≡ Some b → a ≡ b
+    some_is a b e = cc
+
+    cases : (a b c : Bool) → (if a then Some Connection else if b then Some Long else if c then Some Late else None) ≡ Some stop → WhyRefused moment conn len stop
+    cases true b c h = subst (WhyRefused moment conn len) (some_is Connection stop h) connection
+    cases false true c h = subst (WhyRefused moment conn len) (some_is Long stop h) long
+    cases false false true h = subst (WhyRefused moment conn len) (some_is Late stop h) late
+    cases false false false h = absurd cc
+
+-- the head of an entry that is refused
+pub refused_stops : (left : Option (List ℕ)) (moment conn len : ℕ) (bytes : List ℕ) (stop : Stop) (ended failed : Bool) → failed ≡ false → IsHead moment conn len bytes → refusal moment conn len ≡ Some stop
+    → StopsAt stop bytes × IsEntryStop stop × IsTold stop ended failed false × EndsAt stop left
+refused_stops left moment conn len bytes stop ended failed well is h = cases stop (why moment conn len stop h) h
+  where
+    cases : (stop : Stop) → WhyRefused moment conn len stop → refusal moment conn len ≡ Some stop → StopsAt stop bytes × IsEntryStop stop × IsTold stop ended failed false × EndsAt stop left
+    cases Connection connection h = ((moment, conn, len, bytes, [], sym (append-nil bytes), is, h), λ whole few. few, (well, refl), tt)
+    cases Long long h = ((moment, conn, len, bytes, [], sym (append-nil bytes), is, h), λ whole few. few, (well, refl), tt)
+    cases Late late h = ((moment, conn, len, bytes, [], sym (append-nil bytes), is, h), λ whole few. few, (well, refl), tt)
+    cases Cut x h = elim x [ ]
+    cases Many x h = elim x [ ]
+    cases ReadFailed x h = elim x [ ]
+    cases WriteFailed x h = elim x [ ]

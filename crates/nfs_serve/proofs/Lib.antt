@@ -1,0 +1,10 @@
+pub mod Parts
+pub mod Entries
+pub mod Moves
+pub mod Pieces
+pub mod Runs
+pub mod Framing
+pub mod Stepping
+pub mod Exchanges
+pub mod Cutting
+pub mod OneReading

@@ -1,0 +1,35 @@
+-- How the reply on the sheet is that of the step.
+use Rattle.std.proofs.Common.{◌≡◌, ℕ, max, List, [], length, drop, Option, Some, refl, sym, ap, ◌∙◌}
+use Rattle.std.proofs.lemmas.List.{drop_at}
+use Rattle.nfs_xdr.specs.Paper.{Paper, Puts}
+use Rattle.nfs_rpc.specs.declared.refusal.Refusal.{Refusal}
+use Rattle.nfs_rpc.specs.declared.refusal.Refusal.TheVariants.{Silent, Mismatch, Auth, Accept}
+use Rattle.nfs_rpc.specs.Reply.{spell_refusal}
+use Rattle.nfs_rpc.specs.CallHead.{Called, call_of}
+use Rattle.nfs_exec.specs.Machine.{Machine}
+use Rattle.nfs_exec.specs.Expiry.{expired}
+use Rattle.nfs_serve.specs.Step.{State, Replied, refused, replied, stepped, step}
+use Rattle.nfs_serve.specs.Served.{IsAnswer}
+use Rattle.nfs_serve.specs.Engine.{PutsReply, outcome_of}
+
+-- what a step is, once its call is known
+pub step_of : (s : State) (bytes : List ℕ) (now moment : ℕ) (choice : Option ℕ) (tables : Machine) (called : Called) → moment ≡ max s.moment now → tables ≡ expired moment s.machine → call_of bytes ≡ called
+    → step s bytes now choice ≡ stepped moment (replied tables moment choice called)
+unfolding step
+step_of s bytes now moment choice tables called taken is read =
+    rw (taken, is, read) refl
+
+-- a reply that was put behind the front of the sheet
+pub lies_behind : {r : Replied} {old new : Paper} {left : Machine} → length old.bytes ≡ 8 → PutsReply r old new left → r.reply ≡ Some (drop 8 new.bytes)
+lies_behind {r} {old} front h = h.reply ∙ ap Some (sym (ap (drop 8) h.put.bytes ∙ drop_at old.bytes h.text 8 front))
+
+silence : spell_refusal Silent ≡ []
+unfolding spell_refusal
+silence = refl
+
+-- what a refusal puts is its reply, where it is answered
+pub refusal_lies : (m : Machine) (refusal : Refusal) (old new : Paper) → length old.bytes ≡ 8 → Puts old new (spell_refusal refusal) → IsAnswer (outcome_of refusal) (refused m refusal).reply (drop 8 new.bytes) × ((refused m refusal).machine ≡ m)
+refusal_lies m Silent old new front put = ((refl, ap (drop 8) put.bytes ∙ drop_at old.bytes (spell_refusal Silent) 8 front ∙ silence), refl)
+refusal_lies m (Mismatch xid) old new front put = (ap Some (sym (ap (drop 8) put.bytes ∙ drop_at old.bytes (spell_refusal (Mismatch xid)) 8 front)), refl)
+refusal_lies m (Auth xid stat) old new front put = (ap Some (sym (ap (drop 8) put.bytes ∙ drop_at old.bytes (spell_refusal (Auth xid stat)) 8 front)), refl)
+refusal_lies m (Accept xid stat) old new front put = (ap Some (sym (ap (drop 8) put.bytes ∙ drop_at old.bytes (spell_refusal (Accept xid stat)) 8 front)), refl)

@@ -1,0 +1,9 @@
+use Rattle.std.proofs.Common.{arith, length-append}
+use Rattle.nfs_rpc.proofs.Lengths.{length_head}
+use Rattle.nfs_rpc.specs.Reply.{spell_head}
+use Rattle.nfs_serve.proofs.engine.put_answer.Goals as goal
+
+pub compound-requires : goal.compound-requires
+compound-requires c =
+    let size = length-append c.args.out.now.bytes (spell_head c.args.call.now.xid) in
+    record { room = rw (c.write_head-in-Ok.ensures.bytes, c.write_head-in-Ok.ensures.room) (omega (arith, size, length_head c.args.call.now.xid, c.requires)) }

@@ -1,0 +1,5 @@
+use Rattle.nfs_serve.proofs.Exchanges.{exchange_runs}
+use Rattle.nfs_serve.proofs.laws.exchange_id.Goals as goal
+
+pub returns : goal.returns
+returns c = exchange_runs

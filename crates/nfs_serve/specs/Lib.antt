@@ -1,0 +1,11 @@
+pub mod Script
+pub mod Step
+pub mod Run
+pub mod Ends
+pub mod Served
+pub mod Replay
+pub mod Laws
+pub mod Exchanges
+pub mod Engine
+pub mod Reading
+pub mod Running

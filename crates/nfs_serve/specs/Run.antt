@@ -1,0 +1,94 @@
+-- The run of a script. On each connection the pieces since its last close form one stream, read by record marking
+-- (RFC 5531 section 11). The records are stepped in the order in which their last bytes came.
+use Rattle.std.specs.Prelude.{◌≡◌, ℕ, ◌+◌, List, [], ◌∷◌, ◌++◌, length, map, Option, Some, None, if◌then◌else◌, nat_eq}
+use Rattle.nfs_xdr.specs.Spelling.{number}
+use Rattle.nfs_rpc.specs.Stream.{End, Open, TooLong, IsReading}
+use Rattle.nfs_serve.specs.declared.form.Form.{Form}
+use Rattle.nfs_serve.specs.declared.form.Form.TheVariants.{Tagged, Plain}
+use Rattle.nfs_serve.specs.Script.{Entry}
+use Rattle.nfs_serve.specs.Step.{State, step}
+
+-- for each connection the bytes behind its last whole record since it was last closed, or that its stream is too long and ignored
+abbrev pub Streams : Type 0
+Streams = ℕ → End
+
+-- this connection has this stream, and every other the one before
+abbrev pub with_stream : Streams → ℕ → End → Streams
+with_stream streams conn stream = λ c. if nat_eq c conn then stream else streams c
+
+abbrev pub all_closed : Streams
+all_closed = λ c. Open []
+
+-- what comes on a connection: a whole record, at the moment of its last byte, or that the stream becomes too long
+pub data Event : Type 0 where
+  Arrives : (conn moment : ℕ) → (call : List ℕ) → Event
+  Overflows : (conn : ℕ) → Event
+
+abbrev pub overflow : ℕ → End → List Event
+overflow conn (Open rest) = []
+overflow conn TooLong = Overflows conn ∷ []
+
+abbrev pub events_of : ℕ → ℕ → List (List ℕ) → End → List Event
+events_of conn moment calls end = map (λ call. Arrives conn moment call) calls ++ overflow conn end
+
+-- what a piece brings on a connection, and the stream that it leaves
+abbrev pub Brings : ℕ → ℕ → End → List ℕ → List Event → End → Type 0
+Brings conn moment (Open rest) piece events end = (calls : List (List ℕ)) × IsReading (rest ++ piece) calls end × (events ≡ events_of conn moment calls end)
+Brings conn moment TooLong piece events end = (events ≡ []) × (end ≡ TooLong)
+
+-- an entry of no bytes closes its connection
+abbrev pub TakesPiece : Streams → ℕ → ℕ → List ℕ → List Event → Streams → Type 0
+TakesPiece old moment conn [] events new = (events ≡ []) × (new ≡ with_stream old conn (Open []))
+TakesPiece old moment conn (b ∷ bytes) events new = (end : End) × Brings conn moment (old conn) (b ∷ bytes) events end × (new ≡ with_stream old conn end)
+
+abbrev pub Takes : Streams → Entry → List Event → Streams → Type 0
+Takes old e events new = TakesPiece old e.moment e.conn e.piece events new
+
+-- the entries bring these events, in this order
+abbrev pub Reads : Streams → List Entry → List Event → Streams → Type 0
+Reads old [] events new = (events ≡ []) × (new ≡ old)
+Reads old (e ∷ entries) events new = (first : List Event) × (later : List Event) × (between : Streams)
+    × (events ≡ first ++ later) × Takes old e first between × Reads between entries later new
+
+-- an event, and the choice of its record: the place at which memory is refused, or none
+pub record Move : Type 0 where
+  pub event : Event
+  pub choice : Option ℕ
+
+abbrev pub events : List Move → List Event
+events moves = map (λ m. m.event) moves
+
+abbrev pub after_event : State → Event → Option ℕ → State
+after_event s (Arrives conn moment call) choice = (step s call moment choice).state
+after_event s (Overflows conn) choice = s
+
+-- the state that the moves leave
+abbrev pub after : State → List Move → State
+after s [] = s
+after s (m ∷ moves) = after (after_event s m.event m.choice) moves
+
+-- a record of one fragment
+abbrev pub one_fragment : List ℕ → List ℕ
+one_fragment bytes = number (2147483648 + length bytes) ++ bytes
+
+abbrev pub spell_reply : Form → ℕ → List ℕ → List ℕ
+spell_reply Tagged conn reply = number conn ++ one_fragment reply
+spell_reply Plain conn reply = one_fragment reply
+
+-- a stream that became too long is told once, by a zero mark
+abbrev pub spell_overflow : Form → ℕ → List ℕ
+spell_overflow Tagged conn = number conn ++ number 0
+spell_overflow Plain conn = []
+
+abbrev pub spell_answer : Form → ℕ → Option (List ℕ) → List ℕ
+spell_answer form conn None = []
+spell_answer form conn (Some reply) = spell_reply form conn reply
+
+abbrev pub output_of : Form → State → Event → Option ℕ → List ℕ
+output_of form s (Arrives conn moment call) choice = spell_answer form conn (step s call moment choice).reply
+output_of form s (Overflows conn) choice = spell_overflow form conn
+
+-- what is put out, in the order of the moves
+abbrev pub output : Form → State → List Move → List ℕ
+output form s [] = []
+output form s (m ∷ moves) = output_of form s m.event m.choice ++ output form (after_event s m.event m.choice) moves

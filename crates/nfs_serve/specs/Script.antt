@@ -1,0 +1,74 @@
+-- A script of entries, and which fault its bytes have (this server's profile). An entry is a moment in seconds (8 bytes),
+-- a connection (4), a length (4) and that many bytes that came on the connection. Length 0 closes the connection.
+use Rattle.std.specs.Prelude.{◌≡◌, ℕ, ◌^◌, ◌<◌, ◌≤◌, List, ◌++◌, [], length, flat_map, All, ◌⊎◌, Option, nat_lt, Some, None, if◌then◌else◌}
+use Rattle.nfs_xdr.specs.Spelling.{number, hyper}
+use Rattle.nfs_serve.specs.declared.fault.Stop.{Stop}
+use Rattle.nfs_serve.specs.declared.fault.Stop.TheVariants.{Cut, Connection, Long, Late, Many, ReadFailed, WriteFailed}
+
+pub record Entry : Type 0 where
+  pub moment : ℕ
+  pub conn : ℕ
+  pub piece : List ℕ
+
+-- the head of an entry: moment, connection and length
+unfoldable pub head : ℕ → ℕ → ℕ → List ℕ
+head moment conn len = hyper moment ++ number conn ++ number len
+
+abbrev pub spell_entry : Entry → List ℕ
+spell_entry e = head e.moment e.conn (length e.piece) ++ e.piece
+
+abbrev pub Fits : Entry → Type 0
+Fits e = (e.moment ≤ 2 ^ 62) × (e.conn ≤ 15) × (length e.piece ≤ 65536)
+
+abbrev pub max_entries : ℕ
+max_entries = 1000000
+
+-- why an entry with this head is not read: the lowest number that applies
+abbrev pub refusal : ℕ → ℕ → ℕ → Option Stop
+refusal moment conn len =
+    if nat_lt 15 conn then Some Connection
+    else if nat_lt 65536 len then Some Long
+    else if nat_lt (2 ^ 62) moment then Some Late
+    else None
+
+-- these 16 bytes are the head of an entry, whatever its numbers say
+abbrev pub IsHead : ℕ → ℕ → ℕ → List ℕ → Type 0
+IsHead moment conn len bytes = (bytes ≡ head moment conn len) × (moment < 2 ^ 64) × (conn < 2 ^ 32) × (len < 2 ^ 32)
+
+-- these bytes begin with the head of an entry that is refused
+abbrev pub BeginsRefused : Stop → List ℕ → Type 0
+BeginsRefused stop bytes = (moment : ℕ) × (conn : ℕ) × (len : ℕ) × (front : List ℕ) × (behind : List ℕ)
+    × (bytes ≡ front ++ behind) × IsHead moment conn len front × (refusal moment conn len ≡ Some stop)
+
+-- less than a whole entry, whose head is not refused where it is whole
+abbrev pub IsPartial : List ℕ → Type 0
+IsPartial bytes = (length bytes < 16) ⊎ ((moment : ℕ) × (conn : ℕ) × (len : ℕ) × (part : List ℕ)
+    × (bytes ≡ head moment conn len ++ part) × (moment ≤ 2 ^ 62) × (conn ≤ 15) × (len ≤ 65536) × (length part < len))
+
+-- what stands in the place of a whole entry
+abbrev pub StopsAt : Stop → List ℕ → Type 0
+StopsAt Cut rest = (0 < length rest) × IsPartial rest
+StopsAt Many rest = 0 < length rest
+StopsAt ReadFailed rest = IsPartial rest
+StopsAt WriteFailed rest = rest ≡ []
+StopsAt stop rest = BeginsRefused stop rest
+
+-- behind how many whole entries a run can stop so
+abbrev pub StopsBehind : Stop → ℕ → Type 0
+StopsBehind Many whole = whole ≡ max_entries
+StopsBehind ReadFailed whole = whole ≤ max_entries
+StopsBehind WriteFailed whole = whole ≤ max_entries
+StopsBehind stop whole = whole < max_entries
+
+-- The script is these whole entries and this rest, which is why the run stops.
+pub record IsStopped (script : List ℕ) (stop : Stop) (entries : List Entry) (rest : List ℕ) : Type 0 where
+  pub spelled : script ≡ flat_map spell_entry entries ++ rest
+  pub fits : All Fits entries
+  pub behind : StopsBehind stop (length entries)
+  pub stands : StopsAt stop rest
+
+-- The script is these whole entries and nothing else.
+pub record IsWhole (script : List ℕ) (entries : List Entry) : Type 0 where
+  pub spelled : script ≡ flat_map spell_entry entries
+  pub fits : All Fits entries
+  pub few : length entries ≤ max_entries

@@ -1,0 +1,95 @@
+-- What contracts see of a server, and what a record, a piece and a close do to it.
+use Rattle.std.specs.Prelude.{◌≡◌, ℕ, ◌<◌, List, [], ◌∷◌, ◌++◌, length, get_or, Bool, true, false, Option, Some, None, Result, Ok, Err, nat_eq, if◌then◌else◌, replicate}
+use Rattle.std.specs.Io.KnownBytes.{Appends}
+use Rattle.nfs_xdr.specs.Codec.{IsBytes}
+use Rattle.nfs_rpc.specs.RecordMarking.{Held, Begun, Complete, Failed, IsPart, start}
+use Rattle.nfs_rpc.specs.Stream.{End, Open, TooLong}
+use Rattle.nfs_serve.specs.declared.form.Form.{Form}
+use Rattle.nfs_serve.specs.declared.form.Flow.{Flow}
+use Rattle.nfs_serve.specs.declared.form.Outcome.{Outcome}
+use Rattle.nfs_serve.specs.declared.form.Outcome.TheVariants.{Reply, Silent}
+use Rattle.nfs_serve.specs.Step.{State, starting, step}
+use Rattle.nfs_serve.specs.Run.{Brings, Move, events, after, after_event, output, output_of}
+
+-- the state that the steps speak of, what is held of the stream of each connection, and the reply that was made last
+pub record Served : Type 0 where
+  pub state : State
+  pub held : List Held
+  pub reply : List ℕ
+
+abbrev pub held_on : List Held → ℕ → Held
+held_on held conn = get_or held conn (Begun start)
+
+-- this connection has this, and every other what it had
+abbrev pub IsWith : List Held → List Held → ℕ → Held → Type 0
+IsWith new old conn now = (c : ℕ) → held_on new c ≡ (if nat_eq c conn then now else held_on old c)
+
+-- a new server, with 16 connections
+abbrev pub started : ℕ → Served
+started instance = record { state = starting instance; held = replicate 16 (Begun start); reply = [] }
+
+-- the connection is closed, and nothing else has changed
+pub record Closes (old new : Served) (conn : ℕ) : Type 0 where
+  pub state : new.state ≡ old.state
+  pub reply : new.reply ≡ old.reply
+  pub held : IsWith new.held old.held conn (Begun start)
+
+-- what is held of a stream stands for it
+abbrev pub Stands : End → Held → Type 0
+Stands (Open rest) (Begun part) = IsBytes rest × IsPart rest part
+Stands (Open rest) (Complete call) = ⊥
+Stands (Open rest) Failed = ⊥
+Stands TooLong (Begun part) = ⊥
+Stands TooLong (Complete call) = ⊥
+Stands TooLong Failed = Unit {0}
+
+-- the reply that was made, or none, and then no bytes are lent
+abbrev pub IsAnswer : Outcome → Option (List ℕ) → List ℕ → Type 0
+IsAnswer Reply answer reply = answer ≡ Some reply
+IsAnswer Silent answer reply = (answer ≡ None) × (reply ≡ [])
+
+-- The record was stepped: for some choice, reply and state are the step's.
+pub record Steps (outcome : Outcome) (old new : Served) (call : List ℕ) (now : ℕ) : Type 0 where
+  pub choice : Option ℕ
+  pub answer : IsAnswer outcome (step old.state call now choice).reply new.reply
+  pub state : new.state ≡ (step old.state call now choice).state
+  pub held : new.held ≡ old.held
+
+-- whether what is held is of a stream that is too long
+abbrev pub is_too_long : Held → Bool
+is_too_long (Begun part) = false
+is_too_long (Complete call) = false
+is_too_long Failed = true
+
+abbrev pub flow_of : Held → Flow
+flow_of (Begun part) = Flow.Open
+flow_of (Complete call) = Flow.Open
+flow_of Failed = Flow.Shut
+
+-- The piece was taken: its moves ran, and each reply was written. `was` and `is` are held of the connection's stream.
+pub record Feeds (old new : State) (was is : Held) (conn moment : ℕ) (piece : List ℕ) (form : Form) (h0 h1 : Option (List ℕ)) : Type 0 where
+  pub moves : List Move
+  pub state : new ≡ after old moves
+  pub wrote : Appends h0 h1 (output form old moves)
+  pub stream : (before : End) → Stands before was → (end : End) × Brings conn moment before piece (events moves) end × Stands end is
+
+-- The writer failed in what the last move put out: a front of it was written and not the whole. The state is the one
+-- behind that move, and the rest of the piece was dropped.
+pub record Breaks (old new : State) (was : Held) (conn moment : ℕ) (piece : List ℕ) (form : Form) (h0 h1 : Option (List ℕ)) : Type 0 where
+  pub moves : List Move
+  pub last : Move
+  pub taken : List ℕ
+  pub dropped : List ℕ
+  pub written : List ℕ
+  pub unwritten : List ℕ
+  pub split : piece ≡ taken ++ dropped
+  pub state : new ≡ after_event (after old moves) last.event last.choice
+  pub wrote : Appends h0 h1 (output form old moves ++ written)
+  pub cut : written ++ unwritten ≡ output_of form (after old moves) last.event last.choice
+  pub some : 0 < length unwritten
+  pub stream : (before : End) → Stands before was → (end : End) × Brings conn moment before taken (events (moves ++ last ∷ [])) end
+
+-- what taking a piece did, by whether the writer failed
+abbrev pub FeedsOr : {E : Type 0} → Result Flow E → State → State → Held → Held → ℕ → ℕ → List ℕ → Form → Option (List ℕ) → Option (List ℕ) → Bool → Type 0
+FeedsOr (Ok flow) old new was is conn moment piece form h0 h1 failed = Feeds old new was is conn moment piece form h0 h1 × (flow ≡ flow_of is) × (failed ≡ false)
+FeedsOr (Err e) old new was is conn moment piece form h0 h1 failed = Breaks old new was conn moment piece form h0 h1 × (failed ≡ true)

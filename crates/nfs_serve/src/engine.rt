@@ -1,0 +1,175 @@
+ghost use Rattle.std.specs.Prelude.{◌≡◌, ◌≤◌, ◌+◌, ◌++◌, ℕ, [], length, drop, Option, IfOk, false};
+ghost use Rattle.nfs_xdr.specs.Spelling.{number};
+ghost use Rattle.nfs_rpc.specs.View as view;
+ghost use Rattle.nfs_serve.specs.Step.{step, starting, by_procedure};
+ghost use Rattle.nfs_serve.specs.Run.{one_fragment, spell_reply, spell_answer};
+ghost use Rattle.nfs_serve.specs.Served.{IsAnswer};
+ghost use Rattle.nfs_serve.specs.Engine.{PutsReply, outcome_of, in_form};
+ghost use Rattle.nfs_serve.specs.Ends.{Writes};
+
+use crate::Sink;
+use crate::form::{Form, Outcome};
+use crate::moving::{WriteFailed, put};
+use nfs_compound::{Compound, Garbage};
+use nfs_exec::World;
+use nfs_rpc::{AcceptStat, Call, Procedure, Refusal, write_head, write_refusal};
+use nfs_xdr::Sheet;
+use std::alloc::{AllocError, Global};
+use std::marker::Model;
+
+/// The bytes in front of a reply on the sheet: room for the connection's number and the record mark.
+const FRONT: usize = 8;
+
+/// The most bytes of a reply and what stands in front of it.
+const ROOM: usize = 70_008;
+
+/// The top bit of a record mark: the fragment is the last one.
+const LAST_FRAGMENT: u32 = 0x8000_0000;
+
+/// The server's tables, the moment that was taken last, and the reply that was made last.
+#[derive(Drop)]
+pub struct Engine {
+    world: World,
+    moment: u64,
+    sheet: Sheet,
+}
+
+impl Model for Engine {
+    ghost use Rattle.std.specs.Prelude.{◌≡◌, ◌≤◌, length, drop};
+    ghost use Rattle.nfs_serve.specs.Engine.{Answering};
+
+    ghost Value = { Answering };
+
+    ghost view = { λ e. record { state = record { machine = e.world; moment = e.moment }; reply = drop 8 e.sheet.bytes } };
+
+    ghost invariant = { λ e. (8 ≤ length e.sheet.bytes) × (e.sheet.room ≡ 70008) };
+}
+
+impl Engine {
+    /// The engine of a new server. The buffer of replies is made here.
+    #[tactic(auto, using(nfs_xdr::proofs::Putting::putting))]
+    pub fn new(alloc: Global, instance: u32) -> Result<Engine, AllocError>
+        ensures { IfOk result (λ e. e ≡ record { state = starting instance; reply = [] }) }
+    {
+        let mut sheet = Sheet::new(alloc, ROOM)?;
+        sheet.put_u64(0);
+        Ok(Engine {
+            world: World::new(alloc, instance),
+            moment: 0,
+            sheet,
+        })
+    }
+
+    /// Steps a record at a moment. A reply is lent by `reply`.
+    pub fn record(&mut self, alloc: Global, call: &[u8], now: u64) -> Outcome
+        ensures { (choice : Option ℕ) × IsAnswer result (step self.old.state call.now now choice).reply self.new.reply × (self.new.state ≡ (step self.old.state call.now now choice).state) }
+    {
+        self.moment = self.moment.max(now);
+        self.world.expire(self.moment);
+        self.sheet.cut(FRONT);
+        match Call::read(call) {
+            Ok(call) => {
+                put_answer(alloc, &mut self.world, &call, self.moment, &mut self.sheet);
+                Outcome::Reply
+            }
+            Err(refusal) => {
+                write_refusal(&refusal, &mut self.sheet);
+                outcome_of(&refusal)
+            }
+        }
+    }
+
+    /// The reply that was made last.
+    pub fn reply(&self) -> &[u8]
+        ensures { result.now ≡ self.now.reply }
+    {
+        &self.sheet.bytes()[FRONT..]
+    }
+
+    /// Steps a record that came on a connection, and writes the reply where there is one.
+    pub fn answer<W: Sink>(
+        &mut self,
+        alloc: Global,
+        call: &[u8],
+        conn: u32,
+        now: u64,
+        form: Form,
+        out: &mut W,
+    ) -> Result<(), WriteFailed>
+        requires out { W.has_failed out.old ≡ false }
+        ensures { (choice : Option ℕ) × (self.new.state ≡ (step self.old.state call.now now choice).state) × Writes result (W.held out.old) (W.held out.new) (spell_answer form conn (step self.old.state call.now now choice).reply) (W.has_failed out.new) }
+    {
+        match self.record(alloc, call, now) {
+            Outcome::Reply => self.put_reply(conn, form, out),
+            Outcome::Silent => Ok(()),
+        }
+    }
+
+    /// Writes the reply that was made last.
+    fn put_reply<W: Sink>(&mut self, conn: u32, form: Form, out: &mut W) -> Result<(), WriteFailed>
+        requires { W.has_failed out.old ≡ false }
+        ensures wrote { Writes result (W.held out.old) (W.held out.new) (spell_reply form conn self.old.reply) (W.has_failed out.new) }
+        ensures same { self.new ≡ self.old }
+    {
+        frame(&mut self.sheet, conn);
+        put(out, in_form(self.sheet.bytes(), form))
+    }
+}
+
+/// Puts the reply to a call that is no refusal, and runs its compound.
+#[tactic(auto, using(nfs_rpc::proofs::Lengths::lengths))]
+fn put_answer(alloc: Global, world: &mut World, call: &Call<'_>, now: u64, out: &mut Sheet)
+    requires room { length out.old.bytes + 70000 ≤ out.old.room }
+    ensures { (choice : Option ℕ) × PutsReply (by_procedure world.old (view.call call.now) now choice call.now.procedure) out.old out.new world.new }
+{
+    match call.procedure {
+        Procedure::Null => write_head(call.xid, out),
+        Procedure::Compound => match Compound::open(call.args) {
+            Ok(mut compound) => {
+                write_head(call.xid, out);
+                world.compound(alloc, &mut compound, &call.who, now, out);
+            }
+            Err(Garbage) => {
+                let refusal = Refusal::Accept {
+                    xid: call.xid,
+                    stat: AcceptStat::GarbageArgs,
+                };
+                write_refusal(&refusal, out);
+            }
+        },
+    }
+}
+
+/// Whether a refusal of a call is answered.
+fn outcome_of(refusal: &Refusal) -> Outcome
+    ensures { result ≡ outcome_of refusal.now }
+{
+    match refusal {
+        Refusal::Silent => Outcome::Silent,
+        Refusal::Mismatch { .. } | Refusal::Auth { .. } | Refusal::Accept { .. } => Outcome::Reply,
+    }
+}
+
+/// A framed reply as the form has it, with the connection's number in front or without.
+fn in_form(framed: &[u8], form: Form) -> &[u8]
+    requires { 4 ≤ length framed.now }
+    ensures { result.now ≡ in_form form framed.now }
+{
+    match form {
+        Form::Tagged => framed,
+        Form::Plain => &framed[4..],
+    }
+}
+
+/// Writes the connection's number and a record mark of one fragment in front of the reply.
+#[tactic(auto, using(nfs_xdr::proofs::Putting::putting))]
+fn frame(sheet: &mut Sheet, conn: u32)
+    requires front { 8 ≤ length sheet.old.bytes }
+    requires room { sheet.old.room ≡ 70008 }
+    ensures bytes { sheet.new.bytes ≡ number conn ++ one_fragment (drop 8 sheet.old.bytes) }
+    ensures room { sheet.new.room ≡ sheet.old.room }
+{
+    let size = (sheet.len() - FRONT) as u32;
+    sheet.set_u32(0, conn);
+    sheet.set_u32(4, LAST_FRAGMENT + size);
+}

@@ -1,0 +1,27 @@
+//! Laws of the definitions alone: each is the contract of a function that takes and answers nothing.
+
+ghost use Rattle.nfs_serve.specs.Exchanges.{RunsTo, null_script, null_output, exchange_script, exchange_output};
+ghost use Rattle.nfs_serve.specs.Laws.{HasOneReading, CutsAnywhere, BringsOnce, IsOneStream};
+
+/// Which fault a script has, if any, and its whole entries before it are decided by its bytes.
+pub fn one_reading()
+    ensures { HasOneReading }
+{}
+
+/// What a connection's pieces bring does not depend on where they are cut: the pieces since a close form one stream, whose
+/// records they bring.
+pub fn cuts_anywhere()
+    ensures cuts { CutsAnywhere }
+    ensures once { BringsOnce }
+    ensures stream { IsOneStream }
+{}
+
+/// The definitions compute: a call of NULL is answered by the head of a reply.
+pub fn null()
+    ensures { RunsTo null_script null_output }
+{}
+
+/// The definitions compute: EXCHANGE_ID of a new owner, sent twice, is answered with the client ids of two counters.
+pub fn exchange_id()
+    ensures { RunsTo exchange_script exchange_output }
+{}

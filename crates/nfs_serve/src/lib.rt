@@ -1,0 +1,41 @@
+//! The server: records of ONC RPC calls are stepped one after the other, however their bytes come in, and replies are
+//! written in the order in which the last bytes of the records came.
+//!
+//! Contracts see a [`Server`] as the state that the step of one record goes from and leads to (the tables of `nfs_exec`
+//! and the moment that was taken last), what is held of the stream of each of 16 connections, and the reply made last.
+//! The run of a script is a function of that state, of the events that record marking finds in the streams, and of
+//! where memory was refused.
+//!
+//! ```text
+//! let mut server = Server::new(alloc, Settings { lease: 90, root_mode: 0o777 }, 7)?;
+//! server.replay(alloc, &mut Host::new(reader), &mut Host::new(writer))?;
+//! ```
+//!
+//! RFC 5531 sections 9 (calls and replies) and 11 (record marking), RFC 8881 section 16 (NULL and COMPOUND). The script,
+//! its faults, and the moments of records are this server's profile.
+#![tactic(auto)]
+
+mod connection;
+mod engine;
+mod fault;
+mod form;
+mod host;
+pub mod laws;
+mod memory;
+mod moving;
+mod running;
+mod script;
+mod server;
+mod sink;
+mod source;
+#[cfg(test)]
+mod tests;
+
+pub use fault::{ReplayFault, Stop};
+pub use form::{Flow, Form, Outcome};
+pub use host::Host;
+pub use memory::replay_bytes;
+pub use moving::{WriteFailed, fill, put};
+pub use server::{Server, Settings};
+pub use sink::Sink;
+pub use source::Source;

@@ -1,0 +1,129 @@
+//! The run of a script.
+ghost use Rattle.std.specs.Prelude.{◌≡◌, ◌≤◌, ℕ, List, false, length, take};
+ghost use Rattle.std.specs.Io.KnownBytes.{Consumes};
+ghost use Rattle.nfs_rpc.specs.RecordMarking.{Begun, start};
+ghost use Rattle.nfs_serve.specs.Script.{Entry};
+ghost use Rattle.nfs_serve.specs.Run.{all_closed};
+ghost use Rattle.nfs_serve.specs.Served.{held_on};
+ghost use Rattle.nfs_serve.specs.Replay.{AllStand, Replays, Tells};
+ghost use Rattle.nfs_serve.specs.Running.{RunsEntryOr, EndsBehind};
+
+use crate::connection::{Connection, Piece};
+use crate::engine::Engine;
+use crate::fault::{ReplayFault, Stop};
+use crate::form::Form;
+use crate::moving::{WriteFailed, fill};
+use crate::script::{Head, next_entry};
+use crate::{Sink, Source};
+use std::alloc::Global;
+
+/// The most entries of a script.
+const MAX_ENTRIES: u32 = 1_000_000;
+
+/// Runs the script that the reader gives, from closed connections, and writes what is put out.
+pub fn run<R: Source, W: Sink>(
+    alloc: Global,
+    engine: &mut Engine,
+    connections: &mut [Connection],
+    buf: &mut [u8],
+    r: &mut R,
+    w: &mut W,
+) -> Result<(), ReplayFault>
+    requires connections { length connections.old ≡ 16 }
+    requires closed { AllStand all_closed connections.old }
+    requires room { length buf.old ≡ 65536 }
+    requires read { R.has_failed r.old ≡ false }
+    requires ended { R.has_ended r.old ≡ false }
+    requires write { W.has_failed w.old ≡ false }
+    ensures run { Replays result engine.old.state engine.new.state connections.new (R.left r.old) (R.left r.new) (W.held w.old) (W.held w.new) }
+    ensures told { Tells result (R.has_ended r.new) (R.has_failed r.new) (W.has_failed w.new) (R.left r.new) }
+{
+    for done in 0..MAX_ENTRIES {
+        match next_entry(r, buf) {
+            Ok(Some(head)) => {
+                match run_entry(alloc, engine, connections, &head, &buf[..head.len], w) {
+                    Ok(()) => {}
+                    Err(WriteFailed) => {
+                        return Err(ReplayFault {
+                            number: Stop::WriteFailed,
+                            entry: done + 1,
+                        });
+                    }
+                }
+            }
+            Ok(None) => return Ok(()),
+            Err(stop) => {
+                return Err(ReplayFault {
+                    number: stop,
+                    entry: done + 1,
+                });
+            }
+        }
+    }
+    behind_last(r)
+}
+
+/// Closes all connections.
+pub fn close_all(connections: &mut [Connection])
+    ensures length { length connections.new ≡ length connections.old }
+    ensures closed { (conn : ℕ) → held_on connections.new conn ≡ Begun start }
+{
+    for conn in 0..connections.len() {
+        connections[conn].close();
+    }
+}
+
+/// Runs one entry: closes its connection, or takes its piece.
+fn run_entry<W: Sink>(
+    alloc: Global,
+    engine: &mut Engine,
+    connections: &mut [Connection],
+    head: &Head,
+    bytes: &[u8],
+    w: &mut W,
+) -> Result<(), WriteFailed>
+    requires connections { length connections.old ≡ 16 }
+    requires conn { head.now.conn ≤ 15 }
+    requires write { W.has_failed w.old ≡ false }
+    ensures ran { let e : Entry = record { moment = head.now.moment; conn = head.now.conn; piece = bytes.now } in
+        RunsEntryOr result engine.old.state engine.new.state connections.old connections.new e (W.held w.old) (W.held w.new) (W.has_failed w.new) }
+    ensures length { length connections.new ≡ 16 }
+{
+    let conn = head.conn as usize;
+    if bytes.is_empty() {
+        connections[conn].close();
+        return Ok(());
+    }
+    let piece = Piece {
+        conn: head.conn,
+        moment: head.moment,
+        bytes,
+        form: Form::Tagged,
+    };
+    match connections[conn].feed(alloc, engine, &piece, w) {
+        Ok(_) => Ok(()),
+        Err(WriteFailed) => Err(WriteFailed),
+    }
+}
+
+/// What stands behind the last entry that may be: nothing, or a byte.
+fn behind_last<R: Source>(r: &mut R) -> Result<(), ReplayFault>
+    requires failed { R.has_failed r.old ≡ false }
+    requires ended { R.has_ended r.old ≡ false }
+    ensures { (rest : List ℕ) × Consumes (R.left r.old) (R.left r.new) rest × EndsBehind result rest × Tells result (R.has_ended r.new) (R.has_failed r.new) false (R.left r.new) }
+{
+    let mut one = [0u8; 1];
+    if fill(r, &mut one) == 1 {
+        return Err(ReplayFault {
+            number: Stop::Many,
+            entry: MAX_ENTRIES + 1,
+        });
+    }
+    if r.failed() {
+        return Err(ReplayFault {
+            number: Stop::ReadFailed,
+            entry: MAX_ENTRIES + 1,
+        });
+    }
+    Ok(())
+}

@@ -1,0 +1,106 @@
+//! Reading a script, entry by entry.
+ghost use Rattle.std.specs.Prelude.{◌≡◌, length, false, ◌<◌, ◌^◌};
+ghost use Rattle.nfs_xdr.specs.Spelling.{number, hyper};
+ghost use Rattle.nfs_serve.specs.Script.{IsHead, refusal};
+ghost use Rattle.nfs_serve.specs.Reading.{ReadsEntry, stop_of};
+
+use crate::Source;
+use crate::fault::Stop;
+use crate::moving::fill;
+
+/// The last connection.
+const LAST_CONNECTION: u32 = 15;
+
+/// The most bytes of a piece.
+pub const MAX_PIECE: u32 = 65_536;
+
+/// The last moment, in seconds.
+const LAST_MOMENT: u64 = 1 << 62;
+
+/// The head of an entry: its moment in seconds, its connection and the length of its piece.
+#[derive(Clone, Copy, Debug)]
+pub struct Head {
+    pub moment: u64,
+    pub conn: u32,
+    pub len: usize,
+}
+
+/// The entry that stands next, whose piece is put at the front of the buffer, or `None` where the script ends.
+pub fn next_entry<R: Source>(r: &mut R, buf: &mut [u8]) -> Result<Option<Head>, Stop>
+    requires room { length buf.old ≡ 65536 }
+    requires failed { R.has_failed r.old ≡ false }
+    requires ended { R.has_ended r.old ≡ false }
+    ensures { ReadsEntry result (R.left r.old) (R.left r.new) buf.new (R.has_failed r.new) (R.has_ended r.new) }
+{
+    let mut head = [0u8; 16];
+    let came = fill(r, &mut head);
+    if came == 0 && !r.failed() {
+        return Ok(None);
+    }
+    if came < 16 {
+        return Err(short_of(r));
+    }
+    let (moment, conn, len) = head_of(&head);
+    if let Some(stop) = refusal_of(moment, conn, len) {
+        return Err(stop);
+    }
+    let len = len as usize;
+    if fill(r, &mut buf[..len]) < len {
+        return Err(short_of(r));
+    }
+    Ok(Some(Head { moment, conn, len }))
+}
+
+/// Why a reader that stopped short did: it has failed or it has ended.
+fn short_of<R: Source>(r: &R) -> Stop
+    ensures { result ≡ stop_of (R.has_failed r.now) }
+{
+    if r.failed() {
+        Stop::ReadFailed
+    } else {
+        Stop::Cut
+    }
+}
+
+/// Why an entry with this head is not read.
+fn refusal_of(moment: u64, conn: u32, len: u32) -> Option<Stop>
+    ensures { result ≡ refusal moment conn len }
+{
+    if conn > LAST_CONNECTION {
+        Some(Stop::Connection)
+    } else if len > MAX_PIECE {
+        Some(Stop::Long)
+    } else if moment > LAST_MOMENT {
+        Some(Stop::Late)
+    } else {
+        None
+    }
+}
+
+/// Moment, connection and length.
+fn head_of(bytes: &[u8; 16]) -> (u64, u32, u32)
+    ensures { IsHead result.0 result.1 result.2 bytes.now }
+{
+    let moment = be64(&bytes[..8]);
+    let conn = be32(&bytes[8..12]);
+    let len = be32(&bytes[12..]);
+    (moment, conn, len)
+}
+
+fn be32(bytes: &[u8]) -> u32
+    requires { length bytes.now ≡ 4 }
+    ensures bytes { bytes.now ≡ number result }
+    ensures width { result < 2 ^ 32 }
+{
+    u32::from_be_bytes([bytes[0], bytes[1], bytes[2], bytes[3]])
+}
+
+fn be64(bytes: &[u8]) -> u64
+    requires { length bytes.now ≡ 8 }
+    ensures bytes { bytes.now ≡ hyper result }
+    ensures width { result < 2 ^ 64 }
+{
+    u64::from_be_bytes([
+        bytes[0], bytes[1], bytes[2], bytes[3], bytes[4], bytes[5], bytes[6], bytes[7],
+    ])
+}
