@@ -66,6 +66,7 @@ impl<'a> Compound<'a> {
         self.tag
     }
 
+    /// The minor version, whatever it is.
     pub fn minor(&self) -> u32
         ensures { result ≡ self.now.minor }
     {

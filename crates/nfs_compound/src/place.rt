@@ -123,6 +123,7 @@ fn implementation<'a>(c: &mut Cursor<'a>) -> Result<Implementation<'a>, Unreadab
 }
 
 impl Arg<'_> {
+    /// Whether it is the fault that ends the list.
     pub fn is_fault(&self) -> bool
         ensures { result ≡ request.is_fault (view.item self.now) }
     {

@@ -46,6 +46,7 @@ impl Slot {
         })
     }
 
+    /// What the slot says of a request with this number, caller and argument bytes.
     pub fn judge(&self, number: u32, uid: u32, args: &[u8]) -> Verdict
         ensures { result ≡ judge_slot (state_of self.now) number uid args.now }
     {
@@ -62,12 +63,14 @@ impl Slot {
         }
     }
 
+    /// The reply that is kept, and none where nothing is.
     pub fn reply(&self) -> &[u8]
         ensures { result.now ≡ (state_of self.now).reply }
     {
         &self.reply
     }
 
+    /// Keeps a request and its reply in the room that was reserved, in the place of the one before.
     pub fn keep(&mut self, number: u32, uid: u32, args: &[u8], reply: &[u8])
         requires args { length args.now ≤ vec_capacity self.old.args }
         requires reply { length reply.now ≤ vec_capacity self.old.reply }
