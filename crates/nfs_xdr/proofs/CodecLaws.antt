@@ -12,7 +12,7 @@ use Rattle.nfs_xdr.proofs.Bytes.{IsBytes-drop}
 use Rattle.nfs_xdr.specs.Spelling as spelling
 use Rattle.nfs_xdr.specs.Spelling.{padding}
 use Rattle.nfs_xdr.specs.Reading.{◌>>=◌, number_at, flag_at, all_zero, fixed_at, opaque_at, pieces_at, Gives}
-use Rattle.nfs_xdr.specs.Codec.{Codec, IsCodec, IsBytes, Reads, number, hyper, flag, fixed, opaque, nothing, ◌then◌, as_type, only, many_at, array, few, spell_optional, optional, IsPrefixFree, in_arm, led_by, choose, union, arm, bare, IsSized, pieces}
+use Rattle.nfs_xdr.specs.Codec.{Codec, IsCodec, IsBytes, Reads, number, hyper, flag, fixed, opaque, unbounded, nothing, ◌then◌, as_type, only, many_at, array, few, spell_optional, optional, IsPrefixFree, in_arm, led_by, choose, union, arm, bare, IsSized, pieces}
 
 -- steps
 
@@ -44,13 +44,7 @@ IsBytes-take n bytes h = record {
       ];
 }
 
--- what reading took from the front
-pub record Taken {A : Type 0} (c : Codec A) (bytes : List ℕ) (x : A) (rest : List ℕ) : Type 0 where
-  pub parts : bytes ≡ c.spell x ++ rest
-  pub left : IsBytes rest
-  pub fits : c.Fits x
-
--- the same, to be shown at the value that is known by an equation
+-- what reading took from the front, to be shown at the value that is known by an equation
 pub taken_at : {A : Type 0} (c : Codec A) (bytes : List ℕ) (x y : A) (r s : List ℕ) → ◌≡◌ {A = Option (A × List ℕ)} (Some (x, r)) (Some (y, s)) → (bytes ≡ c.spell x ++ r) × IsBytes r × c.Fits x → (bytes ≡ c.spell y ++ s) × IsBytes s × c.Fits y
 taken_at {A} c bytes x y r s e t = subst (λ (p : A × List ℕ). (bytes ≡ c.spell p.0 ++ p.1) × IsBytes p.1 × c.Fits p.0) (same_Some (x, r) (y, s) e) t
 
@@ -182,6 +176,9 @@ is_opaque limit small = record {
       ap (opaque_at limit) (append_assoc (spelling.number (length x)) (spelling.fixed x) rest)
       ∙ rw (is_number.again (length x) (spelling.fixed x ++ rest) (omega (arith, fits.0)), short) ((is_fixed (length x)).again x rest (refl, fits.1));
 }
+
+pub is_unbounded : IsCodec unbounded
+is_unbounded = is_opaque 4294967295 (omega arith)
 
 -- combinations
 

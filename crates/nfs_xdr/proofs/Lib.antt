@@ -2,6 +2,9 @@ pub mod Bytes
 pub mod Putting
 pub mod Pieces
 pub mod CodecLaws
+pub mod ChainLaws
+pub mod WordLaws
+pub mod StatusLaws
 pub mod Formats
 pub mod Tables
 pub mod Checks

@@ -1,5 +1,7 @@
 -- A codec: how each value of a type is spelled, which values have a spelling, and how one is read from the front.
-use Rattle.std.specs.Prelude.{◌≡◌, ℕ, zero, suc, ◌<◌, ◌≤◌, ◌^◌, ◌==◌, List, [], ◌∷◌, ◌++◌, length, get_or, Bool, true, false, IsTrue, Option, Some, None, Result, Ok, Err, nat_lt, map, take, drop, MatchOption, if◌then◌else◌}
+use Rattle.std.specs.Prelude.{◌≡◌, ℕ, ℤ, zero, suc, ◌<◌, ◌≤◌, ◌-◌, ◌^◌, ◌==◌, List, [], ◌∷◌, ◌++◌, length, get_or, Bool, true, false, IsTrue, Option, Some, None, Result, Ok, Err, nat_lt, nat_le, map, take, drop, MatchOption, if◌then◌else◌}
+use Rattle.std.specs.Int.{w64, cast_signed, cast_unsigned}
+use Rattle.std.specs.Int.RustNames.{FitsSigned}
 use Rattle.std.specs.List.{flat_map, AllByRecursion}
 use Rattle.nfs_xdr.specs.Spelling as spelling
 use Rattle.nfs_xdr.specs.Reading.{◌>>=◌, number_at, hyper_at, flag_at, fixed_at, opaque_at, pieces_at}
@@ -36,6 +38,10 @@ number = record { spell = spelling.number; Fits = λ n. n < 2 ^ 32; read = numbe
 abbrev pub hyper : Codec ℕ
 hyper = record { spell = spelling.hyper; Fits = λ n. n < 2 ^ 64; read = hyper_at }
 
+-- a hyper that is two's complement of 64 bits (RFC 4506 section 4.5)
+abbrev pub signed : Codec ℤ
+signed = record { spell = λ z. spelling.hyper (cast_unsigned w64 z); Fits = FitsSigned w64; read = λ bytes. hyper_at bytes >>= λ n. Some (cast_signed w64 n.0, n.1) }
+
 abbrev pub flag : Codec Bool
 flag = record { spell = spelling.flag; Fits = λ _. Unit {0}; read = flag_at }
 
@@ -46,6 +52,10 @@ fixed n = record { spell = spelling.fixed; Fits = λ bytes. (length bytes ≡ n)
 -- at most limit bytes
 abbrev pub opaque : ℕ → Codec (List ℕ)
 opaque limit = record { spell = spelling.opaque; Fits = λ bytes. (length bytes ≤ limit) × IsBytes bytes; read = opaque_at limit }
+
+-- bytes that XDR alone bounds
+abbrev pub unbounded : Codec (List ℕ)
+unbounded = opaque 4294967295
 
 -- no bytes
 abbrev pub nothing : {A : Type 0} → A → Codec A
@@ -76,6 +86,24 @@ only test c = record {
   read = λ bytes. c.read bytes >>= λ x. if test x.0 then Some x else None;
 }
 
+-- Values that are listed, each under its number: the first that has the number.
+abbrev pub listed_at : {A : Type 0} → (A → ℕ) → List A → ℕ → Option A
+listed_at number_of [] n = None
+listed_at number_of (x ∷ xs) n = if n == number_of x then Some x else listed_at number_of xs n
+
+-- one of the values that are listed, by its number (an enum, RFC 4506 section 4.3)
+abbrev pub listed : {A : Type 0} → (A → ℕ) → List A → Codec A
+listed number_of all = record {
+  spell = λ x. spelling.number (number_of x);
+  Fits = λ _. Unit {0};
+  read = λ bytes. number_at bytes >>= λ n. listed_at number_of all n.0 >>= λ x. Some (x, n.1);
+}
+
+-- each value stands in the list, under a number of its own
+pub record IsListing {A : Type 0} (number_of : A → ℕ) (all : List A) : Type 0 where
+  pub found : (x : A) → listed_at number_of all (number_of x) ≡ Some x
+  pub small : (x : A) → number_of x < 2 ^ 32
+
 -- n of them
 abbrev pub many_at : {A : Type 0} → (List ℕ → Option (A × List ℕ)) → ℕ → List ℕ → Option (List A × List ℕ)
 many_at read zero bytes = Some ([], bytes)
@@ -101,6 +129,10 @@ pieces n value c = record {
   read = λ bytes. pieces_at n bytes >>= λ x. Some (map value x.0, x.1);
 }
 
+-- the array, of at most limit items
+abbrev pub at_most : {A : Type 0} → ℕ → Codec (List A) → Codec (List A)
+at_most limit c = only (λ xs. nat_le (length xs) limit) c
+
 -- nothing, or one item behind a flag that says so (RFC 4506 section 4.19)
 abbrev pub spell_optional : {A : Type 0} → Codec A → Option A → List ℕ
 spell_optional c None = spelling.flag false
@@ -121,9 +153,24 @@ few limit c = record {
   read = λ bytes. number_at bytes >>= λ n. if nat_lt limit n.0 then None else many_at c.read n.0 n.1;
 }
 
+-- what is read and not looked at: its bytes as they stand
+abbrev pub raw_at : {A : Type 0} → List ℕ → Option (A × List ℕ) → Option (List ℕ × List ℕ)
+raw_at bytes read = read >>= λ x. Some (take (length bytes - length x.1) bytes, x.1)
+
+abbrev pub raw : {A : Type 0} → Codec A → Codec (List ℕ)
+raw {A} c = record {
+  spell = λ bytes. bytes;
+  Fits = λ bytes. (x : A) × (bytes ≡ c.spell x) × c.Fits x;
+  read = λ bytes. raw_at bytes (c.read bytes);
+}
+
 -- what was read, as one arm of a union
 abbrev pub in_arm : {A B : Type 0} → (A → B) → Option (A × List ℕ) → Option (B × List ℕ)
 in_arm make read = read >>= λ x. Some (make x.0, x.1)
+
+-- what was read, where its value is not looked at
+abbrev pub passed : {A : Type 0} → Option (A × List ℕ) → Option (Unit {0} × List ℕ)
+passed read = in_arm (λ _. tt) read
 
 -- behind a number that says nothing else
 abbrev pub led_by : {A : Type 0} → ℕ → Codec A → Codec A
@@ -141,6 +188,18 @@ choose (arm ∷ arms) n bytes = if n == arm.0 then arm.1 bytes else choose arms 
 -- a number, and the arm that it names
 abbrev pub union : {B : Type 0} → (B → List ℕ) → (B → Type 0) → List (ℕ × (List ℕ → Option (B × List ℕ))) → Codec B
 union spell Fits arms = record { spell = spell; Fits = Fits; read = λ bytes. number_at bytes >>= λ n. choose arms n.0 n.1 }
+
+-- a number, and the arm that it names; a number that names none stands alone
+abbrev pub choose_or : {B : Type 0} → List (ℕ × (List ℕ → Option (B × List ℕ))) → (ℕ → B) → ℕ → List ℕ → Option (B × List ℕ)
+choose_or [] other n bytes = Some (other n, bytes)
+choose_or (arm ∷ arms) other n bytes = if n == arm.0 then arm.1 bytes else choose_or arms other n bytes
+
+abbrev pub union_or : {B : Type 0} → (B → List ℕ) → (B → Type 0) → List (ℕ × (List ℕ → Option (B × List ℕ))) → (ℕ → B) → Codec B
+union_or spell Fits arms other = record { spell = spell; Fits = Fits; read = λ bytes. number_at bytes >>= λ n. choose_or arms other n.0 n.1 }
+
+-- the number of a value that is listed, and the arm of that value
+abbrev pub union_by : {K B : Type 0} → (K → ℕ) → List K → (B → List ℕ) → (B → Type 0) → (K → List ℕ → Option (B × List ℕ)) → Codec B
+union_by number_of all spell Fits arms = record { spell = spell; Fits = Fits; read = λ bytes. number_at bytes >>= λ n. listed_at number_of all n.0 >>= λ k. arms k n.1 }
 
 -- an arm with arguments, and one with none
 abbrev pub arm : {A B : Type 0} → (A → B) → Codec A → List ℕ → Option (B × List ℕ)

@@ -2,6 +2,8 @@ pub mod Spelling
 pub mod Reading
 pub mod Paper
 pub mod Codec
+pub mod Chain
+pub mod Time
 pub mod Format
 pub mod Tables
 pub mod Checks

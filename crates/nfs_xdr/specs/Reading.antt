@@ -50,8 +50,3 @@ pieces_at n bytes = do
 abbrev pub Finds : {X Y E : Type 0} → (X → Y) → Result X E → Option (Y × List ℕ) → List ℕ → Type 0
 Finds view (Ok x) read new = read ≡ Some (view x, new)
 Finds view (Err e) read new = read ≡ None
-
--- The same, with what the refusal says.
-abbrev pub FindsOr : {X Y E : Type 0} → (X → Y) → Result X E → Option (Y × List ℕ) → E → List ℕ → Type 0
-FindsOr view (Ok x) read flaw new = read ≡ Some (view x, new)
-FindsOr view (Err e) read flaw new = (read ≡ None) × (e ≡ flaw)

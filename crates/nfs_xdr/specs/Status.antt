@@ -1,5 +1,6 @@
 -- The number of each status (RFC 8881 section 15.1).
-use Rattle.std.specs.Prelude.{ℕ, ◌==◌, Option, Some, None, if◌then◌else◌}
+use Rattle.std.specs.Prelude.{ℕ, List, [], ◌∷◌, Option}
+use Rattle.nfs_xdr.specs.Codec.{Codec, listed_at, listed}
 use Rattle.nfs_xdr.specs.declared.status.Status.{Status}
 use Rattle.nfs_xdr.specs.declared.status.Status.TheVariants.{Nfs4Ok, Perm, NoEnt, Access, Exist, NotDir, IsDir, Inval, FBig, NoSpc, MLink, NameTooLong, NotEmpty, Stale, BadHandle, BadCookie, NotSupp, TooSmall, ServerFault, BadType, Delay, Same, Denied, Locked, ShareDenied, ClidInUse, NoFileHandle, MinorVersMismatch, StaleClientId, OldStateId, BadStateId, NotSame, Symlink, AttrNotSupp, NoGrace, BadXdr, LocksHeld, OpenMode, BadOwner, BadChar, BadName, OpIllegal, BadSession, BadSlot, CompleteAlready, SeqMisordered, SequencePos, ReqTooBig, RepTooBig, TooManyOps, OpNotInSession, ClientIdBusy, SeqFalseRetry, BadHighSlot, NotOnlyOp, WrongType}
 
@@ -61,63 +62,18 @@ status_number BadHighSlot = 10077
 status_number NotOnlyOp = 10081
 status_number WrongType = 10083
 
--- the status that a number stands for
+-- every status
+abbrev pub statuses : List Status
+statuses =
+    Nfs4Ok ∷ Perm ∷ NoEnt ∷ Access ∷ Exist ∷ NotDir ∷ IsDir ∷ Inval ∷ FBig ∷ NoSpc ∷ MLink ∷ NameTooLong ∷ NotEmpty ∷ Stale ∷ BadHandle ∷
+    BadCookie ∷ NotSupp ∷ TooSmall ∷ ServerFault ∷ BadType ∷ Delay ∷ Same ∷ Denied ∷ Locked ∷ ShareDenied ∷ ClidInUse ∷ NoFileHandle ∷
+    MinorVersMismatch ∷ StaleClientId ∷ OldStateId ∷ BadStateId ∷ NotSame ∷ Symlink ∷ AttrNotSupp ∷ NoGrace ∷ BadXdr ∷ LocksHeld ∷
+    OpenMode ∷ BadOwner ∷ BadChar ∷ BadName ∷ OpIllegal ∷ BadSession ∷ BadSlot ∷ CompleteAlready ∷ SeqMisordered ∷ SequencePos ∷ ReqTooBig ∷
+    RepTooBig ∷ TooManyOps ∷ OpNotInSession ∷ ClientIdBusy ∷ SeqFalseRetry ∷ BadHighSlot ∷ NotOnlyOp ∷ WrongType ∷ []
+
+-- the status that has the number
 abbrev pub status_of : ℕ → Option Status
-status_of n =
-    if n == 0 then Some Nfs4Ok
-    else if n == 1 then Some Perm
-    else if n == 2 then Some NoEnt
-    else if n == 13 then Some Access
-    else if n == 17 then Some Exist
-    else if n == 20 then Some NotDir
-    else if n == 21 then Some IsDir
-    else if n == 22 then Some Inval
-    else if n == 27 then Some FBig
-    else if n == 28 then Some NoSpc
-    else if n == 31 then Some MLink
-    else if n == 63 then Some NameTooLong
-    else if n == 66 then Some NotEmpty
-    else if n == 70 then Some Stale
-    else if n == 10001 then Some BadHandle
-    else if n == 10003 then Some BadCookie
-    else if n == 10004 then Some NotSupp
-    else if n == 10005 then Some TooSmall
-    else if n == 10006 then Some ServerFault
-    else if n == 10007 then Some BadType
-    else if n == 10008 then Some Delay
-    else if n == 10009 then Some Same
-    else if n == 10010 then Some Denied
-    else if n == 10012 then Some Locked
-    else if n == 10015 then Some ShareDenied
-    else if n == 10017 then Some ClidInUse
-    else if n == 10020 then Some NoFileHandle
-    else if n == 10021 then Some MinorVersMismatch
-    else if n == 10022 then Some StaleClientId
-    else if n == 10024 then Some OldStateId
-    else if n == 10025 then Some BadStateId
-    else if n == 10027 then Some NotSame
-    else if n == 10029 then Some Symlink
-    else if n == 10032 then Some AttrNotSupp
-    else if n == 10033 then Some NoGrace
-    else if n == 10036 then Some BadXdr
-    else if n == 10037 then Some LocksHeld
-    else if n == 10038 then Some OpenMode
-    else if n == 10039 then Some BadOwner
-    else if n == 10040 then Some BadChar
-    else if n == 10041 then Some BadName
-    else if n == 10044 then Some OpIllegal
-    else if n == 10052 then Some BadSession
-    else if n == 10053 then Some BadSlot
-    else if n == 10054 then Some CompleteAlready
-    else if n == 10063 then Some SeqMisordered
-    else if n == 10064 then Some SequencePos
-    else if n == 10065 then Some ReqTooBig
-    else if n == 10066 then Some RepTooBig
-    else if n == 10070 then Some TooManyOps
-    else if n == 10071 then Some OpNotInSession
-    else if n == 10074 then Some ClientIdBusy
-    else if n == 10076 then Some SeqFalseRetry
-    else if n == 10077 then Some BadHighSlot
-    else if n == 10081 then Some NotOnlyOp
-    else if n == 10083 then Some WrongType
-    else None
+status_of n = listed_at status_number statuses n
+
+abbrev pub status : Codec Status
+status = listed status_number statuses

@@ -1,9 +1,11 @@
 ghost use Rattle.std.specs.Prelude.{◌≡◌, ◌<◌, ◌^◌, ◌%◌, ℕ, length, ◌+◌, MatchResult, IfOk, Some, None, drop};
 ghost use Rattle.nfs_xdr.specs.Spelling.{padding};
-ghost use Rattle.nfs_xdr.specs.Reading.{Gives, number_at, hyper_at, flag_at, fixed_at, opaque_at, pieces_at, all_zero};
+ghost use Rattle.nfs_xdr.specs.Reading.{Gives, Finds, number_at, hyper_at, flag_at, fixed_at, opaque_at, pieces_at, all_zero};
 ghost use Rattle.nfs_xdr.specs.Codec.{Reads, IsBytes};
 ghost use Rattle.nfs_xdr.specs.Codec as codec;
+ghost use Rattle.nfs_xdr.specs.Time.{time};
 
+use crate::time::Time;
 use std::marker::Model;
 
 /// No item of the wanted kind stands at the cursor.
@@ -128,6 +130,16 @@ impl<'a> Cursor<'a> {
         self.take_u64()
     }
 
+    /// Takes a hyper of eight bytes, two's complement (RFC 4506 section 4.5).
+    ///
+    /// Unreadable where fewer than eight bytes are left; the cursor is then unmoved.
+    pub fn i64(&mut self) -> Result<i64, Unreadable>
+        ensures exact { Gives (λ z. z) result (codec.signed.read self.old) self.old self.new }
+        ensures spelled { Reads codec.signed (λ z. z) result self.old self.new }
+    {
+        self.take_i64()
+    }
+
     /// Takes a bool, which is the number 0 or 1 (RFC 4506 section 4.4).
     ///
     /// Unreadable where no number is left or it is another one; the cursor is then unmoved.
@@ -173,6 +185,21 @@ impl<'a> Cursor<'a> {
         self.take_pieces::<N>()
     }
 
+    /// Takes a moment: its seconds, two's complement, and its nanoseconds (RFC 8881 section 3.3.1).
+    ///
+    /// Unreadable where fewer than twelve bytes are left.
+    #[tactic(auto, unfolding(crate::specs::Time::time))]
+    pub fn time(&mut self) -> Result<Time, Unreadable>
+        ensures { Finds (λ t. t) result (time.read self.old) self.new }
+    {
+        let seconds = self.i64()?;
+        let nanoseconds = self.u32()?;
+        Ok(Time {
+            seconds,
+            nanoseconds,
+        })
+    }
+
     fn take_u32(&mut self) -> Result<u32, Unreadable>
         ensures bytes { IsBytes self.old }
         ensures exact { Gives (λ n. n) result (number_at self.old) self.old self.new }
@@ -193,6 +220,14 @@ impl<'a> Cursor<'a> {
         };
         self.bytes = rest;
         Ok(u64::from_be_bytes(*front))
+    }
+
+    fn take_i64(&mut self) -> Result<i64, Unreadable>
+        ensures bytes { IsBytes self.old }
+        ensures exact { Gives (λ z. z) result (codec.signed.read self.old) self.old self.new }
+    {
+        let bits = self.take_u64()?;
+        Ok(bits.cast_signed())
     }
 
     #[tactic(auto, unfolding(crate::specs::Reading::flag_at))]

@@ -1,7 +1,10 @@
 //! Laws of the spellings and of what is put together from them.
 
-ghost use Rattle.std.specs.Prelude.{ℕ, ◌<◌, ◌^◌};
+ghost use Rattle.std.specs.Prelude.{◌≡◌, Some, ℕ, ◌<◌, ◌^◌};
 ghost use Rattle.nfs_xdr.specs.Codec.{IsCodec, IsPrefixFree, number, hyper, flag, fixed, opaque};
+ghost use Rattle.nfs_xdr.specs.declared.status.Status.{Status};
+ghost use Rattle.nfs_xdr.specs.Status.{status, status_of, status_number};
+ghost use Rattle.nfs_xdr.specs.Time.{time};
 ghost use Rattle.nfs_xdr.specs.Format.{Format, IsFormat, codec};
 
 /// Each item is read exactly where it is spelled (RFC 4506).
@@ -11,6 +14,14 @@ pub fn items()
     ensures flags { IsCodec flag }
     ensures fixed { (n : ℕ) → IsCodec (fixed n) }
     ensures opaques { (limit : ℕ) → limit < 2 ^ 32 → IsCodec (opaque limit) }
+{}
+
+/// Each status is read from its own number and no other, and a moment from its seconds and nanoseconds.
+pub fn statuses()
+    ensures status { IsCodec status }
+    ensures own { (s : Status) → status_of (status_number s) ≡ Some s }
+    ensures none_else { (n : ℕ) (s : Status) → status_of n ≡ Some s → n ≡ status_number s }
+    ensures times { IsCodec time }
 {}
 
 /// So is all that is put together from items, one behind the other, optional, in arrays or behind a number; and no

@@ -18,9 +18,11 @@ mod sheet;
 mod status;
 #[cfg(test)]
 mod tests;
+mod time;
 mod who;
 
 pub use cursor::{Cursor, Unreadable};
 pub use sheet::Sheet;
 pub use status::Status;
+pub use time::Time;
 pub use who::Who;

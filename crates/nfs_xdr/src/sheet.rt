@@ -1,7 +1,10 @@
 ghost use Rattle.std.specs.Prelude.{◌≡◌, ◌+◌, ◌≤◌, ◌<◌, ◌^◌, ◌++◌, [], length, take, drop, IfOk, if◌then◌else◌};
 ghost use Rattle.nfs_xdr.specs.Paper.{HasRoom, Puts};
+ghost use Rattle.nfs_xdr.specs.Codec as codec;
+ghost use Rattle.nfs_xdr.specs.Time.{time};
 ghost use Rattle.nfs_xdr.specs.Spelling.{number, hyper, flag, fixed, opaque};
 
+use crate::time::Time;
 use std::alloc::{AllocError, Global};
 use std::marker::Model;
 
@@ -67,6 +70,25 @@ impl Sheet {
         let _ = self.buf.extend_from_slice(&u64::to_be_bytes(value));
     }
 
+    /// Puts a hyper, two's complement (RFC 4506 section 4.5).
+    #[tactic(auto, using(crate::proofs::Putting::putting))]
+    pub fn put_i64(&mut self, value: i64)
+        requires room { HasRoom self.old (codec.signed.spell value) }
+        ensures { Puts self.old self.new (codec.signed.spell value) }
+    {
+        self.put_u64(value.cast_unsigned());
+    }
+
+    /// Puts a moment: its seconds, two's complement, and its nanoseconds (RFC 8881 section 3.3.1).
+    #[tactic(auto, using(crate::proofs::Putting::putting), unfolding(crate::specs::Time::time))]
+    pub fn put_time(&mut self, value: Time)
+        requires room { HasRoom self.old (time.spell value) }
+        ensures { Puts self.old self.new (time.spell value) }
+    {
+        self.put_i64(value.seconds);
+        self.put_u32(value.nanoseconds);
+    }
+
     /// Puts a bool (RFC 4506 section 4.4).
     #[tactic(auto, using(crate::proofs::Putting::putting))]
     pub fn put_flag(&mut self, value: bool)
@@ -74,6 +96,14 @@ impl Sheet {
         ensures { Puts self.old self.new (flag value) }
     {
         self.put_u32(if value { 1 } else { 0 });
+    }
+
+    /// Puts bytes as they are, with no padding: those of items that are spelled already.
+    pub fn put_bytes(&mut self, bytes: &[u8])
+        requires room { HasRoom self.old bytes.now }
+        ensures { Puts self.old self.new bytes.now }
+    {
+        let _ = self.buf.extend_from_slice(bytes);
     }
 
     /// Puts a fixed-length opaque: the bytes, filled up to a whole word by zeros (RFC 4506 section 4.9).

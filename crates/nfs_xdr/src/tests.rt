@@ -99,3 +99,23 @@ fn nobody_owns_nothing(rt: HostRuntime) {
     let nobody = Who::nobody();
     assert_eq!(rt; (nobody.uid, nobody.gid, nobody.count), (65534, 65534, 0));
 }
+
+#[test]
+#[tactic(auto, using(crate::proofs::Putting::putting), unfolding(crate::specs::Time::time))]
+fn a_moment_is_read_as_it_was_put(rt: HostRuntime) -> Result<(), Fail> {
+    let moment = Time {
+        seconds: -2,
+        nanoseconds: 7,
+    };
+    let mut sheet = Sheet::new(rt.alloc(), 20)?;
+    sheet.put_time(moment);
+    sheet.put_i64(i64::MIN);
+    let spelled = [
+        255, 255, 255, 255, 255, 255, 255, 254, 0, 0, 0, 7, 128, 0, 0, 0, 0, 0, 0, 0,
+    ];
+    assert_eq!(rt; sheet.bytes(), spelled.as_slice());
+    let mut cursor = Cursor::new(&spelled);
+    assert_eq!(rt; cursor.time(), Ok(moment));
+    assert_eq!(rt; cursor.i64(), Ok(i64::MIN));
+    Ok(())
+}
