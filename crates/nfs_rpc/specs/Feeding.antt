@@ -10,6 +10,12 @@ waits (Begun p) = false
 waits (Complete record_data) = true
 waits Failed = false
 
+-- whether the record is too long
+abbrev pub is_too_long : Held → Bool
+is_too_long (Begun p) = false
+is_too_long (Complete record_data) = false
+is_too_long Failed = true
+
 -- its data, and no bytes where none waits
 abbrev pub waiting : Held → List ℕ
 waiting (Begun p) = []

@@ -4,7 +4,7 @@ ghost use Rattle.nfs_rpc.specs.declared.state.State.TheVariants as States;
 ghost use Rattle.nfs_rpc.specs.declared.fed.Fed.TheVariants as Feds;
 ghost use Rattle.nfs_rpc.specs.RecordMarking.{Part, Held, Holds, start};
 ghost use Rattle.nfs_rpc.specs.RecordMarking as marking;
-ghost use Rattle.nfs_rpc.specs.Feeding.{waits, waiting, done_with, Answers, StandsNow};
+ghost use Rattle.nfs_rpc.specs.Feeding.{waits, is_too_long, waiting, done_with, Answers, StandsNow};
 ghost use Rattle.nfs_rpc.specs.Share.{state_of, at_mark, with_mark, with_data};
 
 use crate::fed::Fed;
@@ -92,6 +92,16 @@ impl Records {
         match self.state {
             State::Complete => self.taken.as_slice(),
             State::Begun | State::Failed => &[],
+        }
+    }
+
+    /// Whether the record is too long: each piece is answered `TooLong`, until [`Records::reset`].
+    pub fn is_too_long(&self) -> bool
+        ensures { result ≡ is_too_long self.now }
+    {
+        match self.state {
+            State::Failed => true,
+            State::Begun | State::Complete => false,
         }
     }
 

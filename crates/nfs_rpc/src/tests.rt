@@ -271,7 +271,9 @@ fn a_record_has_at_most_66560_bytes(rt: HostRuntime) -> Result<(), Fail> {
         feed_once(&mut records, &[0xff, 0xff, 0xff, 0xff], &mut data)?,
         Fed::TooLong
     );
+    let before = records.is_too_long();
     records.reset();
+    assert_eq!(rt; (before, records.is_too_long()), (true, false));
     feed_all(&mut records, &[0x80, 1, 4, 0], &mut data)?;
     feed_all(&mut records, &most, &mut data)?;
     assert_eq!(rt; data.strip_suffix(b"|".as_slice()), Some(most.as_slice()));
