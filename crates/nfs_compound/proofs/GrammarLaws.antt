@@ -1,6 +1,5 @@
 -- What is read of a body is in the grammar, and what is in the grammar is read.
 use Rattle.std.proofs.Common.{◌≡◌, ◌≢◌, ℕ, zero, suc, Bool, true, false, eqb, leb, ◌&&◌, cond, List, [], ◌∷◌, ◌++◌, length, Option, Some, None, refl, sym, ap, subst, ◌∙◌, inl, inr, arith}
-use Rattle.std.specs.Prelude.{is_some}
 use Rattle.std.proofs.lemmas.Bool.{eqb-true, ne_eqb, false≢true}
 use Rattle.std.proofs.lemmas.Option.{same_Some}
 use Rattle.std.proofs.lemmas.List.{nil_from_length}
@@ -8,9 +7,13 @@ use Rattle.nfs_xdr.specs.Reading.{◌>>=◌, number_at}
 use Rattle.nfs_xdr.specs.Codec.{Codec, IsCodec, IsBytes, number}
 use Rattle.nfs_xdr.proofs.CodecLaws.{bind_some, test_some, is_number}
 use Rattle.nfs_compound.specs.Operation.{Op, Item, Operation, Fault}
-use Rattle.nfs_compound.specs.Arguments.{op, op_at, spell_op, FitsOp, is_supported, protected, fault_at}
-use Rattle.nfs_compound.specs.Request.{Lacks, IsFault, Lists, Spoils, is_fault, place_of, in_front, item_at, items_at}
-use Rattle.nfs_compound.proofs.TableLaws.{is_op}
+use Rattle.nfs_xdr.specs.declared.status.Status.TheVariants.{NotSupp, OpIllegal}
+use Rattle.nfs_compound.specs.declared.op_num.OpNum.{OpNum}
+use Rattle.nfs_compound.specs.OpNum.{op_num}
+use Rattle.nfs_compound.specs.Arguments.{op_codec, op_at, spell_op, FitsOp, fault_of, fault_at}
+use Rattle.nfs_compound.specs.Request.{Lacks, IsFault, Lists, Spoils}
+use Rattle.nfs_compound.specs.ReadRequest.{is_fault, op_or_fault, in_front, item_at, items_at}
+use Rattle.nfs_compound.proofs.OpLaws.{is_op}
 
 pub none≢some : {A : Type 0} (x : A) → None ≡ Some x → ⊥
 none≢some x e = cc
@@ -31,22 +34,24 @@ abbrev Stands : List ℕ → Item → List ℕ → Type 0
 Stands bytes (Operation o) rest = (bytes ≡ spell_op o ++ rest) × IsBytes rest × FitsOp o
 Stands bytes (Fault k status) rest = IsFault bytes (Fault k status)
 
+told_of : (op : Option OpNum) (n : ℕ) (left : List ℕ) → is_fault (fault_of op n left) ≡ true
+told_of (Some op) n left = refl
+told_of None n left = listed (leb 3 n && leb n 58)
+  where
+    listed : (b : Bool) → is_fault (cond b (Fault n NotSupp) (Fault 10044 OpIllegal)) ≡ true
+    listed true = refl
+    listed false = refl
+
 told_fault : (n : ℕ) (left : List ℕ) → is_fault (fault_at n left) ≡ true
 unfolding fault_at
-told_fault n left = one_of_four (is_supported n) (eqb n 42 && is_some (protected.read left)) (leb 3 n && leb n 58) n
-  where
-    one_of_four : (supported protects listed : Bool) (n : ℕ) → is_fault (cond supported (cond protects (Fault n 22) (Fault n 10036)) (cond listed (Fault n 10004) (Fault 10044 10044))) ≡ true
-    one_of_four true true listed n = refl
-    one_of_four true false listed n = refl
-    one_of_four false protects true n = refl
-    one_of_four false protects false n = refl
+told_fault n left = told_of (op_num n) n left
 
 is_the_fault : (bytes : List ℕ) (x : Item) → IsFault bytes x → Stands bytes x []
 is_the_fault bytes (Operation o) f = absurd (false≢true (ap is_fault f.told ∙ told_fault f.number f.behind))
 is_the_fault bytes (Fault k status) f = f
 
-at_place : (bytes : List ℕ) (n : ℕ) (left : List ℕ) (fault item : Item) (r : Option (Op × List ℕ)) (rest : List ℕ) → IsBytes bytes → number_at bytes ≡ Some (n, left) → op_at n left ≡ r
-    → fault ≡ fault_at n left → place_of fault r ≡ (item, rest) → Stands bytes item rest
+at_place : (bytes : List ℕ) (n : ℕ) (left : List ℕ) (fault item : Item) (r : Option (Op × List ℕ)) (rest : List ℕ) → IsBytes bytes → number_at bytes ≡ Some (n, left) → (op_num n >>= λ op. op_at op left) ≡ r
+    → fault ≡ fault_at n left → op_or_fault fault r ≡ (item, rest) → Stands bytes item rest
 at_place bytes n left fault item (Some x) rest fits read h told e =
     subst (λ (p : Item × List ℕ). Stands bytes p.0 p.1) e (is_op.takes bytes x.0 x.1 fits (rw (read, h) refl))
 at_place bytes n left fault item None rest fits read h told e =
@@ -56,27 +61,27 @@ at_place bytes n left fault item None rest fits read h told e =
       behind = left;
       number_fits = t.2;
       stands = t.0;
-      none = λ o r f same. none≢some (o, r) (sym (rw (read, h) refl) ∙ ap op.read same ∙ is_op.again o r f);
+      none = λ o r f same. none≢some (o, r) (sym (rw (read, h) refl) ∙ ap op_codec.read same ∙ is_op.again o r f);
       told = told;
     }))
 
 stands_from : (bytes : List ℕ) (item : Item) (rest : List ℕ) → IsBytes bytes → item_at bytes ≡ Some (item, rest) → Stands bytes item rest
 unfolding item_at
 stands_from bytes item rest fits e =
-    let m = bind_some (number_at bytes) (λ k. Some (place_of (fault_at k.0 k.1) (op_at k.0 k.1))) (item, rest) e in
+    let m = bind_some (number_at bytes) (λ k. Some (op_or_fault (fault_at k.0 k.1) (op_num k.0 >>= λ op. op_at op k.1))) (item, rest) e in
     at_place bytes m.0.0 m.0.1 _ item _ rest fits m.1 refl refl (same_Some _ (item, rest) m.2)
 
 fault_stands : (bytes : List ℕ) (x : Item) → IsBytes bytes → IsFault bytes x → item_at bytes ≡ Some (x, [])
 unfolding item_at
 fault_stands bytes x fits f =
     let read : number_at bytes ≡ Some (f.number, f.behind) = ap number_at f.stands ∙ is_number.again f.number f.behind f.number_fits in
-    let refused : op_at f.number f.behind ≡ None = none_of _ (λ y e. let t = is_op.takes bytes y.0 y.1 fits (rw (read, e) refl) in f.none y.0 y.1 t.2 t.0) in
+    let refused : (op_num f.number >>= λ op. op_at op f.behind) ≡ None = none_of _ (λ y e. let t = is_op.takes bytes y.0 y.1 fits (rw (read, e) refl) in f.none y.0 y.1 t.2 t.0) in
     rw (read, refused, f.told) refl
 
 op_stands : (o : Op) (rest : List ℕ) → FitsOp o → item_at (spell_op o ++ rest) ≡ Some (Operation o, rest)
 unfolding item_at
 op_stands o rest fits =
-    let s = bind_some (number_at (spell_op o ++ rest)) (λ n. op_at n.0 n.1) (o, rest) (is_op.again o rest fits) in
+    let s = bind_some (number_at (spell_op o ++ rest)) (λ n. op_num n.0 >>= λ op. op_at op n.1) (o, rest) (is_op.again o rest fits) in
     rw (s.1, s.2) refl
 
 no_item : (bytes : List ℕ) → number_at bytes ≡ None → item_at bytes ≡ None
@@ -86,7 +91,7 @@ no_item bytes e = rw e refl
 no_number : (bytes : List ℕ) (n : Option (ℕ × List ℕ)) → number_at bytes ≡ n → item_at bytes ≡ None → n ≡ None
 unfolding item_at
 no_number bytes None e h = refl
-no_number bytes (Some n) e h = absurd (none≢some (place_of (fault_at n.0 n.1) (op_at n.0 n.1)) (sym h ∙ rw e refl))
+no_number bytes (Some n) e h = absurd (none≢some (op_or_fault (fault_at n.0 n.1) (op_num n.0 >>= λ op. op_at op n.1)) (sym h ∙ rw e refl))
 
 -- The list.
 
@@ -111,7 +116,7 @@ lists_again zero bytes [] fits h = rw h refl
 lists_again zero bytes (item ∷ items) fits h = absurd h
 lists_again (suc n) bytes [] fits h = absurd h
 lists_again (suc n) bytes (Operation o ∷ items) fits h =
-    let t = is_op.takes bytes o h.0 fits (ap op.read h.1 ∙ is_op.again o h.0 h.2) in
+    let t = is_op.takes bytes o h.0 fits (ap op_codec.read h.1 ∙ is_op.again o h.0 h.2) in
     rw (h.1, op_stands o h.0 h.2, lists_again n h.0 items t.1 h.3) refl
 lists_again (suc n) bytes (Fault k status ∷ []) fits h = rw (fault_stands bytes (Fault k status) fits h) refl
 lists_again (suc n) bytes (Fault k status ∷ item ∷ items) fits h = absurd h
@@ -147,5 +152,5 @@ unfolding items_at
 spoils_again zero bytes fits h = some_left bytes h
 spoils_again (suc n) bytes fits (inl lacks) = rw (no_item bytes (lacks_again number bytes is_number fits lacks)) refl
 spoils_again (suc n) bytes fits (inr h) =
-    let t = is_op.takes bytes h.0 h.1 fits (ap op.read h.2 ∙ is_op.again h.0 h.1 h.3) in
+    let t = is_op.takes bytes h.0 h.1 fits (ap op_codec.read h.2 ∙ is_op.again h.0 h.1 h.3) in
     rw (h.2, op_stands h.0 h.1 h.3, spoils_again n h.1 t.1 h.4) refl

@@ -1,4 +1,7 @@
-pub mod TableLaws
+pub mod OpNumLaws
+pub mod ItemLaws
+pub mod ArgLaws
+pub mod OpLaws
 pub mod Walk
 pub mod GrammarLaws
 pub mod RequestLaws

@@ -9,7 +9,8 @@ use Rattle.nfs_xdr.specs.Codec.{IsBytes, IsCodec, number, opaque}
 use Rattle.nfs_xdr.proofs.CodecLaws.{bind_some, is_number, is_opaque}
 use Rattle.nfs_compound.specs.declared.compound.Garbage.{Garbage}
 use Rattle.nfs_compound.specs.Operation.{Item}
-use Rattle.nfs_compound.specs.Request.{Request, IsHead, HasBody, IsRequest, IsGarbage, LacksTag, LacksMinor, LacksCount, SpoilsBody, items_at, request_at}
+use Rattle.nfs_compound.specs.Request.{Request, IsHead, HasBody, IsRequest, IsGarbage, LacksTag, LacksMinor, LacksCount, SpoilsBody}
+use Rattle.nfs_compound.specs.ReadRequest.{items_at, request_at}
 use Rattle.nfs_compound.proofs.Walk.{request_from}
 use Rattle.nfs_compound.proofs.GrammarLaws.{none≢some, lacks_from, lacks_again, lists_from, lists_again, spoils_from, spoils_again}
 
@@ -40,7 +41,8 @@ request_takes bytes r fits e =
     let t = is_tag.takes bytes a.0.0 a.0.1 fits a.1 in
     let u = is_number.takes a.0.1 b.0.0 b.0.1 t.1 b.1 in
     let v = is_number.takes b.0.1 c.0.0 c.0.1 u.1 c.1 in
-    subst (λ (q : Request). IsRequest bytes q) (same_Some (record { tag = a.0.0; minor = b.0.0; declared = c.0.0; left = d.0 }) r d.2) (record {
+    subst (λ (q : Request). IsRequest bytes q) (same_Some (record { bytes = bytes; tag = a.0.0; minor = b.0.0; declared = c.0.0; left = d.0 }) r d.2) (record {
+      whole = refl;
       body = c.0.1;
       head = record {
         spelled = t.0 ∙ ap (λ (w : List ℕ). spelling.opaque a.0.0 ++ w) (u.0 ∙ ap (λ (w : List ℕ). spelling.number b.0.0 ++ w) v.0);
@@ -72,31 +74,32 @@ head_again bytes tag minor declared body fits h =
 pub request_again : (bytes : List ℕ) (r : Request) → IsBytes bytes → IsRequest bytes r → request_at bytes ≡ Some r
 request_again bytes r fits h =
     let s = head_again bytes r.tag r.minor r.declared h.body fits h.head in
-    request_from bytes r.tag _ _ h.body r.minor r.declared r.left s.reads_tag s.reads_minor s.reads_declared (body_again r.minor r.declared h.body r.left s.fits h.items)
+    request_from bytes bytes r.tag _ _ h.body r.minor r.declared r.left refl s.reads_tag s.reads_minor s.reads_declared (body_again r.minor r.declared h.body r.left s.fits h.items)
+    ∙ ap (λ (b : List ℕ). Some (record { bytes = b; tag = r.tag; minor = r.minor; declared = r.declared; left = r.left })) (sym h.whole)
 
 -- Garbage, by the first item that cannot be read.
 
-abbrev with_items : List ℕ → ℕ → ℕ → Option (List Item) → Option Request
-with_items tag minor declared items = items >>= λ xs. Some (record { tag = tag; minor = minor; declared = declared; left = xs })
+abbrev with_items : (bytes : List ℕ) → List ℕ → ℕ → ℕ → Option (List Item) → Option Request
+with_items bytes tag minor declared items = items >>= λ xs. Some (record { bytes = bytes; tag = tag; minor = minor; declared = declared; left = xs })
 
-abbrev with_count : List ℕ → ℕ → Option (ℕ × List ℕ) → Option Request
-with_count tag minor r = r >>= λ declared. with_items tag minor declared.0 (cond (eqb minor 1) (items_at declared.0 declared.1) (Some []))
+abbrev with_count : (bytes : List ℕ) → List ℕ → ℕ → Option (ℕ × List ℕ) → Option Request
+with_count bytes tag minor r = r >>= λ declared. with_items bytes tag minor declared.0 (cond (eqb minor 1) (items_at declared.0 declared.1) (Some []))
 
-abbrev with_minor : List ℕ → Option (ℕ × List ℕ) → Option Request
-with_minor tag r = r >>= λ minor. with_count tag minor.0 (number_at minor.1)
+abbrev with_minor : (bytes : List ℕ) → List ℕ → Option (ℕ × List ℕ) → Option Request
+with_minor bytes tag r = r >>= λ minor. with_count bytes tag minor.0 (number_at minor.1)
 
 no_items : (bytes tag : List ℕ) (minor declared : ℕ) (body : List ℕ) → IsBytes body → IsHead bytes tag minor declared body
-    → with_items tag minor declared (cond (eqb minor 1) (items_at declared body) (Some [])) ≡ None → IsGarbage bytes
-no_items bytes tag zero declared body fits head e = absurd (none≢some (record { tag = tag; minor = zero; declared = declared; left = [] }) (sym e))
+    → with_items bytes tag minor declared (cond (eqb minor 1) (items_at declared body) (Some [])) ≡ None → IsGarbage bytes
+no_items bytes tag zero declared body fits head e = absurd (none≢some (record { bytes = bytes; tag = tag; minor = zero; declared = declared; left = [] }) (sym e))
 no_items bytes tag (suc zero) declared body fits head e = SpoilsBody tag declared body head (spoils_from declared body fits (lost (items_at declared body) e))
   where
-    lost : (r : Option (List Item)) → with_items tag 1 declared r ≡ None → r ≡ None
+    lost : (r : Option (List Item)) → with_items bytes tag 1 declared r ≡ None → r ≡ None
     lost None e = refl
-    lost (Some xs) e = absurd (none≢some (record { tag = tag; minor = 1; declared = declared; left = xs }) (sym e))
-no_items bytes tag (suc (suc m)) declared body fits head e = absurd (none≢some (record { tag = tag; minor = suc (suc m); declared = declared; left = [] }) (sym e ∙ rw (ne_eqb (suc (suc m)) 1 (omega arith)) refl))
+    lost (Some xs) e = absurd (none≢some (record { bytes = bytes; tag = tag; minor = 1; declared = declared; left = xs }) (sym e))
+no_items bytes tag (suc (suc m)) declared body fits head e = absurd (none≢some (record { bytes = bytes; tag = tag; minor = suc (suc m); declared = declared; left = [] }) (sym e ∙ rw (ne_eqb (suc (suc m)) 1 (omega arith)) refl))
 
 no_count : (bytes tag : List ℕ) (minor : ℕ) (rest : List ℕ) (r : Option (ℕ × List ℕ)) → IsBytes rest → (opaque 1024).Fits tag → minor < 2 ^ 32
-    → bytes ≡ spelling.opaque tag ++ (spelling.number minor ++ rest) → number_at rest ≡ r → with_count tag minor r ≡ None → IsGarbage bytes
+    → bytes ≡ spelling.opaque tag ++ (spelling.number minor ++ rest) → number_at rest ≡ r → with_count bytes tag minor r ≡ None → IsGarbage bytes
 no_count bytes tag minor rest None fits tag_fits minor_fits same h e = LacksCount tag minor rest tag_fits minor_fits same (lacks_from number rest is_number h)
 no_count bytes tag minor rest (Some n) fits tag_fits minor_fits same h e =
     let v = is_number.takes rest n.0 n.1 fits h in
@@ -104,13 +107,13 @@ no_count bytes tag minor rest (Some n) fits tag_fits minor_fits same h e =
     (record { spelled = same ∙ ap (λ (w : List ℕ). spelling.opaque tag ++ (spelling.number minor ++ w)) v.0; tag_fits = tag_fits; minor_fits = minor_fits; declared_fits = v.2 })
     e
 
-no_minor : (bytes tag rest : List ℕ) (r : Option (ℕ × List ℕ)) → IsBytes rest → (opaque 1024).Fits tag → bytes ≡ spelling.opaque tag ++ rest → number_at rest ≡ r → with_minor tag r ≡ None → IsGarbage bytes
+no_minor : (bytes tag rest : List ℕ) (r : Option (ℕ × List ℕ)) → IsBytes rest → (opaque 1024).Fits tag → bytes ≡ spelling.opaque tag ++ rest → number_at rest ≡ r → with_minor bytes tag r ≡ None → IsGarbage bytes
 no_minor bytes tag rest None fits tag_fits same h e = LacksMinor tag rest tag_fits same (lacks_from number rest is_number h)
 no_minor bytes tag rest (Some n) fits tag_fits same h e =
     let u = is_number.takes rest n.0 n.1 fits h in
     no_count bytes tag n.0 n.1 (number_at n.1) u.1 tag_fits u.2 (same ∙ ap (λ (w : List ℕ). spelling.opaque tag ++ w) u.0) refl e
 
-no_tag : (bytes : List ℕ) (r : Option (List ℕ × List ℕ)) → IsBytes bytes → opaque_at 1024 bytes ≡ r → (r >>= λ tag. with_minor tag.0 (number_at tag.1)) ≡ None → IsGarbage bytes
+no_tag : (bytes : List ℕ) (r : Option (List ℕ × List ℕ)) → IsBytes bytes → opaque_at 1024 bytes ≡ r → (r >>= λ tag. with_minor bytes tag.0 (number_at tag.1)) ≡ None → IsGarbage bytes
 no_tag bytes None fits h e = LacksTag (lacks_from (opaque 1024) bytes is_tag h)
 no_tag bytes (Some t) fits h e =
     let s = is_tag.takes bytes t.0 t.1 fits h in

@@ -7,7 +7,8 @@ use Rattle.std.proofs.lemmas.Bool.{eq-eqb, ne_eqb, false≢true}
 use Rattle.nfs_xdr.specs.Reading.{◌>>=◌, number_at, opaque_at}
 use Rattle.nfs_compound.specs.Operation.{Op, Item, Operation, Fault}
 use Rattle.nfs_compound.specs.Arguments.{fault_at, op_at}
-use Rattle.nfs_compound.specs.Request.{is_fault, place_of, item_at, in_front, first_of, items_at, items_left, request_at}
+use Rattle.nfs_compound.specs.OpNum.{op_num}
+use Rattle.nfs_compound.specs.ReadRequest.{is_fault, op_or_fault, item_at, in_front, first_of, items_at, items_left, request_at}
 
 behind_fault : (x : Item) (items : Option (List Item)) → is_fault x ≡ true → is_some (in_front x items) ≡ true
 behind_fault (Operation op) items e = absurd cc
@@ -56,15 +57,15 @@ unfolding items_left item_at
 none_left zero = refl
 none_left (suc n) = refl
 
-place_ends : (fault : Item) (r : Option (Op × List ℕ)) (x : Item × List ℕ) → place_of fault r ≡ x → is_fault x.0 ≡ true → x.1 ≡ []
+place_ends : (fault : Item) (r : Option (Op × List ℕ)) (x : Item × List ℕ) → op_or_fault fault r ≡ x → is_fault x.0 ≡ true → x.1 ≡ []
 place_ends fault None x e f = sym (ap (λ (p : Item × List ℕ). p.1) e)
 place_ends fault (Some y) x e f = absurd (false≢true (ap (λ (p : Item × List ℕ). is_fault p.0) e ∙ f))
 
 fault_ends : (bytes : List ℕ) (x : Item × List ℕ) → item_at bytes ≡ Some x → is_fault x.0 ≡ true → x.1 ≡ []
 unfolding item_at
 fault_ends bytes x e f =
-    let s = bind_some (number_at bytes) (λ n. Some (place_of (fault_at n.0 n.1) (op_at n.0 n.1))) x e in
-    place_ends (fault_at s.0.0 s.0.1) (op_at s.0.0 s.0.1) x (same_Some _ x s.2) f
+    let s = bind_some (number_at bytes) (λ n. Some (op_or_fault (fault_at n.0 n.1) (op_num n.0 >>= λ op. op_at op n.1))) x e in
+    place_ends (fault_at s.0.0 s.0.1) (op_num s.0.0 >>= λ op. op_at op s.0.1) x (same_Some _ x s.2) f
 
 ended : (b : Bool) → is_some (cond {A = Option (List Item)} b (Some []) None) ≡ true → cond {A = Option (List Item)} b (Some []) None ≡ Some []
 ended true e = refl
@@ -92,16 +93,7 @@ pub at_minor_one : (minor declared : ℕ) (bytes : List ℕ) → minor ≡ 1 →
 at_minor_one minor declared bytes one e = rw (eq-eqb minor 1 one) (left_is declared bytes e)
 
 -- a head and a list
-pub request_from : (bytes tag r s t : List ℕ) (minor declared : ℕ) (items : List Item) → opaque_at 1024 bytes ≡ Some (tag, r) → number_at r ≡ Some (minor, s) → number_at s ≡ Some (declared, t)
-    → cond (eqb minor 1) (items_at declared t) (Some []) ≡ Some items → request_at bytes ≡ Some (record { tag = tag; minor = minor; declared = declared; left = items })
+pub request_from : (bytes front tag r s t : List ℕ) (minor declared : ℕ) (items : List Item) → front ≡ bytes → opaque_at 1024 front ≡ Some (tag, r) → number_at r ≡ Some (minor, s) → number_at s ≡ Some (declared, t)
+    → cond (eqb minor 1) (items_at declared t) (Some []) ≡ Some items → request_at bytes ≡ Some (record { bytes = bytes; tag = tag; minor = minor; declared = declared; left = items })
 unfolding request_at
-request_from bytes tag r s t minor declared items h i j k = rw (h, i, j, k) refl
-
-none_from : {A : Type 0} (o : Option A) → is_some o ≡ false → o ≡ None
-none_from None e = refl
-none_from (Some x) e = absurd cc
-
-pub request_refused : (bytes tag r s t : List ℕ) (minor declared : ℕ) → opaque_at 1024 bytes ≡ Some (tag, r) → number_at r ≡ Some (minor, s) → number_at s ≡ Some (declared, t)
-    → minor ≡ 1 → is_some (items_at declared t) ≡ false → request_at bytes ≡ None
-unfolding request_at
-request_refused bytes tag r s t minor declared h i j one k = rw (h, i, j, eq-eqb minor 1 one, none_from (items_at declared t) k) refl
+request_from bytes front tag r s t minor declared items same h i j k = rw (ap (opaque_at 1024) (sym same) ∙ h, i, j, k) refl

@@ -1,7 +1,8 @@
 -- Each list of bytes is a request or garbage and never both, and it is one request at most.
-use Rattle.std.specs.Prelude.{◌≡◌, ℕ, ◌⊎◌, List}
+use Rattle.std.specs.Prelude.{◌≡◌, ◌↔◌, ℕ, ◌⊎◌, List, Some, None}
 use Rattle.nfs_xdr.specs.Codec.{IsBytes}
 use Rattle.nfs_compound.specs.Request.{Request, IsRequest, IsGarbage}
+use Rattle.nfs_compound.specs.ReadRequest.{request_at}
 
 abbrev pub HasOneReading : Type 0
 HasOneReading = (bytes : List ℕ) → IsBytes bytes → ((r : Request) × IsRequest bytes r) ⊎ IsGarbage bytes
@@ -11,3 +12,10 @@ HasNoOther = (bytes : List ℕ) (r : Request) → IsBytes bytes → IsRequest by
 
 abbrev pub IsOneRequest : Type 0
 IsOneRequest = (bytes : List ℕ) (r s : Request) → IsBytes bytes → IsRequest bytes r → IsRequest bytes s → r ≡ s
+
+-- the function reads the requests, and refuses garbage
+abbrev pub ReadsRequests : Type 0
+ReadsRequests = (bytes : List ℕ) (r : Request) → IsBytes bytes → request_at bytes ≡ Some r ↔ IsRequest bytes r
+
+abbrev pub RefusesGarbage : Type 0
+RefusesGarbage = (bytes : List ℕ) → IsBytes bytes → request_at bytes ≡ None ↔ IsGarbage bytes

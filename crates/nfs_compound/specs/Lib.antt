@@ -1,5 +1,17 @@
+pub mod OpNum
+pub mod Stateid
+pub mod StateOwner
+pub mod ChannelAttrs
+pub mod Attributes
+pub mod Callback
+pub mod SessionArgs
+pub mod OpenArgs
+pub mod LockArgs
+pub mod FileArgs
+pub mod NameArgs
 pub mod Operation
 pub mod Arguments
 pub mod View
 pub mod Request
+pub mod ReadRequest
 pub mod Laws

@@ -1,11 +1,12 @@
 //! A compound, read one operation at a time.
 
 ghost use Rattle.std.specs.Prelude.{◌≡◌, ◌∷◌, ◌≤◌, [], length, Some, None, MatchOption, MatchResult, IfOk, OnErr, is_some};
-ghost use Rattle.nfs_compound.specs.Request.{IsRequest, IsGarbage, items_at, request_at};
-ghost use Rattle.nfs_compound.specs.View.{item};
+ghost use Rattle.nfs_compound.specs.Request.{IsRequest, IsGarbage};
+ghost use Rattle.nfs_compound.specs.ReadRequest.{items_at, request_at};
+ghost use Rattle.nfs_compound.specs.View as view;
 
 use crate::arg::Arg;
-use crate::place::place;
+use crate::item::item;
 use nfs_xdr::{Cursor, Unreadable};
 use std::marker::Model;
 
@@ -13,6 +14,7 @@ use std::marker::Model;
 /// list.
 #[derive(Drop)]
 pub struct Compound<'a> {
+    bytes: &'a [u8],
     tag: &'a [u8],
     minor: u32,
     declared: u32,
@@ -22,11 +24,12 @@ pub struct Compound<'a> {
 
 impl<'a> Model for Compound<'a> {
     ghost use Rattle.std.specs.Prelude.{◌≤◌, length};
-    ghost use Rattle.nfs_compound.specs.Request.{Request, items_left};
+    ghost use Rattle.nfs_compound.specs.Request.{Request};
+    ghost use Rattle.nfs_compound.specs.ReadRequest.{items_left};
 
     ghost Value = { Request };
 
-    ghost view = { λ a. record { tag = a.tag.now; minor = a.minor; declared = a.declared; left = items_left a.left a.cursor } };
+    ghost view = { λ a. record { bytes = a.bytes.now; tag = a.tag.now; minor = a.minor; declared = a.declared; left = items_left a.left a.cursor } };
 
     ghost invariant = { λ a. length a.tag.now ≤ 1024 };
 }
@@ -58,6 +61,14 @@ impl<'a> Compound<'a> {
         Self::read(bytes)
     }
 
+    /// The bytes that the compound was read from: all of its arguments, and with another minor version than 1 what stands
+    /// behind the count.
+    pub fn bytes(&self) -> &'a [u8]
+        ensures { result.now ≡ self.now.bytes }
+    {
+        self.bytes
+    }
+
     /// The tag, which the answer bears again: at most 1,024 bytes.
     pub fn tag(&self) -> &'a [u8]
         ensures value { result.now ≡ self.now.tag }
@@ -81,21 +92,21 @@ impl<'a> Compound<'a> {
     }
 
     /// The next operation, or the fault that ends the list.
-    #[tactic(auto, unfolding(crate::specs::Request::items_left))]
+    #[tactic(auto, unfolding(crate::specs::ReadRequest::items_left))]
     pub fn next(&mut self) -> Option<Arg<'a>>
         ensures item { MatchOption result
             ((self.old.left ≡ []) × (self.new.left ≡ []))
-            (λ a. self.old.left ≡ item a ∷ self.new.left) }
+            (λ a. self.old.left ≡ view.item a ∷ self.new.left) }
         ensures head { self.new ≡ record self.old { left = self.new.left } }
     {
         if self.left == 0 {
             return None;
         }
         self.left -= 1;
-        place(&mut self.cursor)
+        item(&mut self.cursor)
     }
 
-    #[tactic(auto, unfolding(crate::specs::Request::request_at))]
+    #[tactic(auto, unfolding(crate::specs::ReadRequest::request_at))]
     fn read(bytes: &'a [u8]) -> Result<Compound<'a>, Garbage>
         ensures { MatchResult result
             (λ c. request_at bytes.now ≡ Some c)
@@ -107,6 +118,7 @@ impl<'a> Compound<'a> {
         let declared = cursor.u32()?;
         if minor != 1 {
             return Ok(Compound {
+                bytes,
                 tag,
                 minor,
                 declared,
@@ -118,6 +130,7 @@ impl<'a> Compound<'a> {
             return Err(Garbage);
         }
         Ok(Compound {
+            bytes,
             tag,
             minor,
             declared,
@@ -133,7 +146,7 @@ fn is_readable(count: u32, bytes: &[u8]) -> bool
 {
     let mut cursor = Cursor::new(bytes);
     for _ in 0..count {
-        let Some(arg) = place(&mut cursor) else {
+        let Some(arg) = item(&mut cursor) else {
             return false;
         };
         if arg.is_fault() {

@@ -1,14 +1,20 @@
 //! Laws of the grammar of compounds.
 
+ghost use Rattle.std.specs.Prelude.{◌≡◌, ℕ, Some};
 ghost use Rattle.nfs_xdr.specs.Codec.{IsCodec};
-ghost use Rattle.nfs_compound.specs.Arguments.{op, protected};
-ghost use Rattle.nfs_compound.specs.Laws.{HasOneReading, HasNoOther, IsOneRequest};
+ghost use Rattle.nfs_compound.specs.declared.op_num.OpNum.{OpNum};
+ghost use Rattle.nfs_compound.specs.OpNum.{op_num, op_number};
+ghost use Rattle.nfs_compound.specs.Arguments.{op_codec};
+ghost use Rattle.nfs_compound.specs.SessionArgs.{protected};
+ghost use Rattle.nfs_compound.specs.Laws.{HasOneReading, HasNoOther, IsOneRequest, ReadsRequests, RefusesGarbage};
 
-/// Each supported operation is read exactly where it is spelled, and so is an EXCHANGE_ID that wants a state
-/// protection that is not served.
+/// Each operation is read exactly where it is spelled, and so is an EXCHANGE_ID that wants a state protection that is
+/// not served. Each number is its own operation's and no other's.
 pub fn arguments()
-    ensures table { IsCodec op }
+    ensures table { IsCodec op_codec }
     ensures protected { IsCodec protected }
+    ensures own { (op : OpNum) → op_num (op_number op) ≡ Some op }
+    ensures none_else { (n : ℕ) (op : OpNum) → op_num n ≡ Some op → n ≡ op_number op }
 {}
 
 /// Each list of bytes is a request or garbage, never both, and it is one request at most.
@@ -16,4 +22,10 @@ pub fn one_reading()
     ensures one { HasOneReading }
     ensures no_other { HasNoOther }
     ensures one_request { IsOneRequest }
+{}
+
+/// What the reading function gives are the requests, and what it refuses is garbage.
+pub fn reading()
+    ensures requests { ReadsRequests }
+    ensures garbage { RefusesGarbage }
 {}

@@ -1,8 +1,9 @@
 //! The arguments of a COMPOUND call as a list of operations, read from the bytes of a record that lends them.
 //!
-//! Contracts see a [`Compound`] as a request: its tag, minor version, declared count, and what is left of
-//! its list. [`Compound::open`] reads all of it once and refuses garbage; [`Compound::next`] then takes the
-//! list apart, one operation a call, and ends it with a fault where an operation cannot be run.
+//! Contracts see a [`Compound`] as a request: its bytes, tag, minor version, declared count, and what is left of its
+//! list. [`Compound::open`] reads all of it once and refuses garbage; [`Compound::next`] then takes the list apart, one
+//! operation a call, and ends it with a fault where an operation cannot be run. `specs/Arguments.antt` is the table of
+//! operations, one line each.
 //!
 //! ```text
 //! let mut compound = Compound::open(args)?;
@@ -13,13 +14,32 @@
 #![tactic(auto)]
 
 mod arg;
+mod attributes;
+mod callback;
+mod channel_attrs;
 mod compound;
+mod file_args;
+mod item;
 pub mod laws;
-mod number;
-mod place;
+mod lock_args;
+mod name_args;
+mod op_num;
+mod open_args;
+mod session_args;
+mod state_owner;
+mod stateid;
 #[cfg(test)]
 mod tests;
 
-pub use arg::{Arg, ExchangeId, Implementation};
+pub use arg::Arg;
+pub use attributes::{Attributes, Bitmap};
+pub use channel_attrs::ChannelAttrs;
 pub use compound::{Compound, Garbage};
-pub use number::{OP_EXCHANGE_ID, OP_ILLEGAL};
+pub use file_args::{Commit, Read, SetAttr, StableHow, Write};
+pub use lock_args::{ExistLockOwner, Lock, LockT, LockType, LockU, Locker, OpenToLockOwner};
+pub use name_args::{Create, CreateType, ReadDir, Rename, SecinfoStyle, SpecData};
+pub use op_num::{OP_ILLEGAL, OpNum};
+pub use open_args::{Close, CreateHow, DelegationType, Open, OpenClaim, OpenDowngrade, OpenHow};
+pub use session_args::{CreateSession, ExchangeId, ImplId, Sequence};
+pub use state_owner::StateOwner;
+pub use stateid::{Stateid, Stateids};

@@ -1,4 +1,8 @@
-use Rattle.nfs_compound.proofs.TableLaws.{is_op, is_protected}
+use Rattle.nfs_xdr.proofs.WordLaws.{listed_number}
+use Rattle.nfs_compound.specs.OpNum.{op_number, op_nums}
+use Rattle.nfs_compound.proofs.OpNumLaws.{is_op_listing}
+use Rattle.nfs_compound.proofs.ArgLaws.{is_protected}
+use Rattle.nfs_compound.proofs.OpLaws.{is_op}
 use Rattle.nfs_compound.proofs.laws.arguments.Goals as goal
 
 pub returns-clause-table : goal.returns-clause-table
@@ -6,3 +10,9 @@ returns-clause-table c = is_op
 
 pub returns-clause-protected : goal.returns-clause-protected
 returns-clause-protected c = is_protected
+
+pub returns-clause-own : goal.returns-clause-own
+returns-clause-own c = is_op_listing.found
+
+pub returns-clause-none_else : goal.returns-clause-none_else
+returns-clause-none_else c = λ n op. listed_number op_number op_nums n op

@@ -1,0 +1,7 @@
+use Rattle.std.proofs.Common.{◌≡◌, ◌-◌}
+use Rattle.nfs_xdr.specs.Codec.{passed, array, many_at}
+use Rattle.nfs_compound.specs.Callback.{sec_parms}
+use Rattle.nfs_compound.proofs.callback.pass_all.Given as goal
+
+abbrev pub invariant-loop : goal.invariant-loop
+invariant-loop l = passed (many_at sec_parms.read (l.count - l.counter) l.c) ≡ passed ((array sec_parms).read l.fn.c)

@@ -1,0 +1,19 @@
+-- Stateids (stateid4 of RFC 5662; RFC 8881 section 8.2.2).
+use Rattle.std.specs.Prelude.{ℕ, List, take, drop, map}
+use Rattle.std.specs.Int.{w32, from_be_bytes}
+use Rattle.nfs_xdr.specs.Codec.{Codec, number, fixed, ◌then◌, as_type, pieces}
+use Rattle.nfs_compound.specs.declared.stateid.Stateid.{Stateid}
+use Rattle.nfs_compound.specs.declared.stateid.Stateids as rust_stateids
+
+unfoldable pub stateid : Codec Stateid
+stateid = as_type (λ (seqid, other). record { seqid = seqid; other = other }) (λ s. (s.seqid, s.other)) (number then fixed 12)
+
+-- the stateid that these 16 bytes spell
+abbrev pub stateid_of : List ℕ → Stateid
+stateid_of bytes = record { seqid = from_be_bytes w32 (take 4 bytes); other = take 12 (drop 4 bytes) }
+
+unfoldable pub stateids : Codec (List Stateid)
+stateids = pieces 16 stateid_of stateid
+
+abbrev pub view_stateids : rust_stateids.Stateids → List Stateid
+view_stateids s = map stateid_of s.spelled.now

@@ -1,0 +1,26 @@
+//! Open owners and lock owners: RFC 8881 section 3.3.13.
+
+ghost use Rattle.nfs_xdr.specs.Reading.{Finds};
+ghost use Rattle.nfs_compound.specs.StateOwner.{state_owner, view};
+
+use nfs_xdr::{Cursor, Unreadable};
+
+/// An open owner or a lock owner (RFC 8881 section 3.3.13).
+#[derive(Clone, Copy, Debug, PartialEq, Eq)]
+pub struct StateOwner<'a> {
+    pub clientid: u64,
+    /// At most 1,024 bytes.
+    pub owner: &'a [u8],
+}
+
+impl<'a> StateOwner<'a> {
+    /// Reads an owner. Unreadable where it is cut, above its bound, or padded by other than zeros.
+    #[tactic(auto, unfolding(crate::specs::StateOwner::state_owner))]
+    pub fn read(c: &mut Cursor<'a>) -> Result<StateOwner<'a>, Unreadable>
+        ensures { Finds view result (state_owner.read c.old) c.new }
+    {
+        let clientid = c.u64()?;
+        let owner = c.opaque(1024)?;
+        Ok(StateOwner { clientid, owner })
+    }
+}
