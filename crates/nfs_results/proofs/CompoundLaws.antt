@@ -6,7 +6,9 @@ use Rattle.nfs_xdr.specs.Codec.{IsCodec}
 use Rattle.nfs_xdr.proofs.CodecLaws.{is_opaque, is_then, is_as_type, is_array}
 use Rattle.nfs_results.specs.Results.{result, spell_result}
 use Rattle.nfs_results.specs.CompoundResult.{CompoundResult, spell_compound, parts, compound_result}
-use Rattle.nfs_results.proofs.ResultLaws.{is_status, is_result}
+use Rattle.nfs_xdr.specs.Status.{status_number}
+use Rattle.nfs_xdr.proofs.StatusLaws.{is_status}
+use Rattle.nfs_results.proofs.ResultLaws.{is_result}
 
 is_parts : IsCodec parts
 is_parts = is_as_type _ _ _ (λ _. refl) (is_then _ _ is_status (is_then _ _ (is_opaque 1024 (omega arith)) (is_array result is_result)))
@@ -14,8 +16,8 @@ is_parts = is_as_type _ _ _ (λ _. refl) (is_then _ _ is_status (is_then _ _ (is
 same_spelling : (c : CompoundResult) → parts.spell c ≡ spell_compound c
 same_spelling c =
     let results : List ℕ = flat_map spell_result c.results in
-    sym (append_assoc (spelling.number c.status) (spelling.opaque c.tag ++ spelling.number (length c.results)) results
-    ∙ ap (λ (w : List ℕ). spelling.number c.status ++ w) (append_assoc (spelling.opaque c.tag) (spelling.number (length c.results)) results))
+    sym (append_assoc (spelling.number (status_number c.status)) (spelling.opaque c.tag ++ spelling.number (length c.results)) results
+    ∙ ap (λ (w : List ℕ). spelling.number (status_number c.status) ++ w) (append_assoc (spelling.opaque c.tag) (spelling.number (length c.results)) results))
 
 pub is_compound : IsCodec compound_result
 is_compound = record {

@@ -1,25 +1,144 @@
 -- How long results are.
-use Rattle.std.proofs.Common.{◌≡◌, ℕ, ◌+◌, ◌-◌, ◌%◌, ◌≤◌, ◌<◌, List, ◌++◌, length, arith}
+use Rattle.std.proofs.Common.{◌≡◌, ℕ, zero, suc, ◌+◌, ◌*◌, ◌-◌, ◌%◌, ◌≤◌, ◌<◌, Bool, true, false, cond, eqb, ltb, List, [], ◌∷◌, ◌++◌, length, Option, Some, None, subst, sym, ap, refl, arith}
+use Rattle.std.specs.List.{flat_map}
 use Rattle.std.proofs.lemmas.List.{length-append, length-replicate}
+use Rattle.nfs_xdr.specs.Spelling as spelling
+use Rattle.nfs_xdr.specs.Spelling.{padding}
+use Rattle.nfs_xdr.specs.declared.status.Status.{Status}
+use Rattle.nfs_xdr.specs.Status.{status_number}
+use Rattle.nfs_xdr.specs.Codec.{optional, number}
 use Rattle.nfs_xdr.proofs.Putting.{length_number, length_hyper}
-use Rattle.nfs_compound.specs.Operation.{OpExchangeId, Item, Operation, Fault}
-use Rattle.nfs_results.specs.Result.{ExchangeIdOk, Res, ResExchangeId, Refused}
-use Rattle.nfs_results.specs.Results.{exchange_id, spell_result}
+use Rattle.nfs_compound.specs.declared.stateid.Stateid.{Stateid}
+use Rattle.nfs_compound.specs.declared.channel_attrs.ChannelAttrs.{ChannelAttrs}
+use Rattle.nfs_compound.specs.Stateid.{stateid}
+use Rattle.nfs_compound.specs.StateOwner.{StateOwner, state_owner}
+use Rattle.nfs_compound.specs.ChannelAttrs.{channel_attrs}
+use Rattle.nfs_compound.specs.LockArgs.{lock_type}
+use Rattle.nfs_compound.specs.FileArgs.{stable_how}
+use Rattle.nfs_results.specs.declared.res.ChangeInfo.{ChangeInfo}
+use Rattle.nfs_results.specs.Items as item
+use Rattle.nfs_results.specs.Items.{access, attr_set, fattr, change_info, create, denied, open_ok, read_ok, rename, write_ok, exchange_id, create_session, flavors, sequence, status_codes}
+use Rattle.nfs_results.specs.Result.{Denied, Res, ResAccess, ResClose, ResCommit, ResCreate, ResGetAttr, ResGetFh, ResLink, ResLock, ResLockDenied, ResLockT, ResLockTDenied, ResLockU, ResLookup, ResLookupP, ResNVerify, ResOpen, ResOpenDowngrade, ResPutFh, ResPutPubFh, ResPutRootFh, ResRead, ResReadDir, ResReadLink, ResRemove, ResRename, ResRestoreFh, ResSaveFh, ResSetAttr, ResVerify, ResWrite, ResExchangeId, ResCreateSession, ResDestroySession, ResFreeStateid, ResSecinfoNoName, ResSequence, ResTestStateid, ResDestroyClientId, ResReclaimComplete, Refused}
+use Rattle.nfs_results.specs.Results.{head, parts, operation_of, spell_result, HasArrays}
 use Rattle.nfs_results.specs.CompoundResult.{spell_compound_head}
-use Rattle.nfs_results.specs.Largest.{largest, MayAnswer}
-
-length_exchange_id : (r : ExchangeIdOk) → length r.major ≤ 8 → length r.scope ≤ 8 → length (exchange_id.spell r) ≤ 56
-unfolding exchange_id
-length_exchange_id r m s = simp (length-append, length_number, length_hyper, length-replicate) (omega arith)
-
-pub length_result : (i : Item) (r : Res) → MayAnswer i r → length (spell_result r) ≤ largest i
-length_result (Operation (OpExchangeId e)) (ResExchangeId r) may = let l = length_exchange_id r may.0 may.1 in simp (length-append, length_number) (omega (arith, l))
-length_result (Operation (OpExchangeId e)) (Refused operation code) may = simp (length-append, length_number) (omega arith)
-length_result (Fault number status) (ResExchangeId r) may = absurd may
-length_result (Fault number status) (Refused operation code) may = simp (length-append, length_number) (omega arith)
-
-pub length_head_within : (status : ℕ) (tag : List ℕ) (count : ℕ) → length tag ≤ 1024 → length (spell_compound_head status tag count) ≤ 1036
-length_head_within status tag count short = simp (length-append, length_number, length-replicate) (omega arith)
+use Rattle.nfs_results.specs.Largest.{given, largest_of, number_of, asked, largest, HasSizes, IsPlain, MayAnswer}
+use Rattle.nfs_compound.specs.Operation.{Item, Operation, Fault}
 
 -- the lengths of texts whose parts are known
 pub ruleset lengths = (length_number, length_hyper, length-append, length-replicate)
+
+pub length_numbers : (words : List ℕ) → length (flat_map spelling.number words) ≡ 4 * length words
+length_numbers [] = refl
+length_numbers (word ∷ words) = omega (arith, length-append (spelling.number word) (flat_map spelling.number words), length_number word, length_numbers words)
+
+length_flag : (b : Bool) → length (spelling.flag b) ≡ 4
+length_flag true = length_number 1
+length_flag false = length_number 0
+
+pub length_head : (operation : ℕ) (s : Status) → length (head operation s) ≡ 8
+length_head operation s = simp lengths refl
+
+length_attr_set : (words : List ℕ) → length (attr_set.spell words) ≡ 4 + 4 * length words
+unfolding attr_set
+length_attr_set words = omega (arith, length-append (spelling.number (length words)) (flat_map spelling.number words), length_number (length words), length_numbers words)
+
+length_change_info : (c : ChangeInfo) → length (change_info.spell c) ≡ 20
+unfolding change_info
+length_change_info c = simp (lengths, length_flag) refl
+
+length_stateid : (s : Stateid) → length s.other ≡ 12 → length (stateid.spell s) ≡ 16
+unfolding stateid
+length_stateid s twelve = simp (lengths, twelve) refl
+
+length_denied : (d : Denied) → length d.owner.owner ≤ 1024 → length (denied.spell d) ≤ 1056
+unfolding denied state_owner lock_type
+length_denied d short = simp lengths (omega (arith, short))
+
+length_channel : (a : ChannelAttrs) → length (channel_attrs.spell a) ≡ 24 + length ((optional number).spell a.rdma_ird)
+unfolding channel_attrs
+length_channel a = simp lengths (omega arith)
+
+-- a refusal is no longer than the least of the largest results
+eight : (b : Bool) (x y : ℕ) → 8 ≤ x → 8 ≤ y → 8 ≤ cond b x y
+eight true x y f g = f
+eight false x y f g = g
+
+pub at_least : (operation asked : ℕ) → 8 ≤ largest_of operation asked
+at_least operation asked =
+    eight (eqb operation 53) _ _ (omega arith)
+    (eight (eqb operation 43) _ _ (omega arith)
+    (eight (eqb operation 25) _ _ (omega arith)
+    (eight (eqb operation 26) _ _ (omega arith)
+    (eight (eqb operation 12) _ _ (omega arith)
+    (eight (eqb operation 13) _ _ (omega arith)
+    (eight (eqb operation 27) _ _ (omega arith)
+    (eight (eqb operation 9) _ _ (omega arith)
+    (eight (eqb operation 10) _ _ (omega arith)
+    (eight (eqb operation 18) _ _ (omega arith)
+    (eight (eqb operation 55) _ _ (omega arith)
+    (omega arith)))))))))))
+
+-- one line a result
+pub behind_within : (asked : ℕ) (r : Res) → HasArrays r → HasSizes asked r → 8 + length (parts r).behind ≤ largest_of (operation_of r) asked
+unfolding access create fattr open_ok read_ok rename write_ok stable_how exchange_id create_session flavors sequence status_codes
+behind_within wanted (ResAccess x) arrays sizes = simp lengths (omega arith)
+behind_within wanted (ResClose s) arrays sizes = omega (arith, length_stateid s arrays)
+behind_within wanted (ResCommit verifier) arrays sizes = simp (lengths, arrays) (omega arith)
+behind_within wanted (ResCreate c) arrays sizes = omega (arith, sizes, length-append (change_info.spell c.cinfo) (attr_set.spell c.attrset), length_change_info c.cinfo, length_attr_set c.attrset)
+behind_within wanted (ResGetAttr f) arrays sizes = simp (lengths, length_attr_set f.attrmask) (omega (arith, sizes.0, sizes.1))
+behind_within wanted (ResGetFh object) arrays sizes = simp lengths (omega (arith, sizes))
+behind_within wanted (ResLink c) arrays sizes = omega (arith, length_change_info c)
+behind_within wanted (ResLock s) arrays sizes = omega (arith, length_stateid s arrays)
+behind_within wanted (ResLockDenied d) arrays sizes = omega (arith, length_denied d sizes)
+behind_within wanted ResLockT arrays sizes = omega arith
+behind_within wanted (ResLockTDenied d) arrays sizes = omega (arith, length_denied d sizes)
+behind_within wanted (ResLockU s) arrays sizes = omega (arith, length_stateid s arrays)
+behind_within wanted ResLookup arrays sizes = omega arith
+behind_within wanted ResLookupP arrays sizes = omega arith
+behind_within wanted ResNVerify arrays sizes = omega arith
+behind_within wanted (ResOpen o) arrays sizes = simp (lengths, length_stateid o.stateid arrays, length_change_info o.cinfo, length_attr_set o.attrset) (omega (arith, sizes))
+behind_within wanted (ResOpenDowngrade s) arrays sizes = omega (arith, length_stateid s arrays)
+behind_within wanted ResPutFh arrays sizes = omega arith
+behind_within wanted ResPutPubFh arrays sizes = omega arith
+behind_within wanted ResPutRootFh arrays sizes = omega arith
+behind_within wanted (ResRead r) arrays sizes = simp (lengths, length_flag) (omega (arith, sizes))
+behind_within wanted (ResReadDir r) arrays sizes = omega (arith, sizes)
+behind_within wanted (ResReadLink link) arrays sizes = simp lengths (omega (arith, sizes))
+behind_within wanted (ResRemove c) arrays sizes = omega (arith, length_change_info c)
+behind_within wanted (ResRename r) arrays sizes = simp (lengths, length_change_info r.source_cinfo, length_change_info r.target_cinfo) (omega arith)
+behind_within wanted ResRestoreFh arrays sizes = omega arith
+behind_within wanted ResSaveFh arrays sizes = omega arith
+behind_within wanted (ResSetAttr s attrsset) arrays sizes = omega (arith, sizes, length_attr_set attrsset)
+behind_within wanted ResVerify arrays sizes = omega arith
+behind_within wanted (ResWrite w) arrays sizes = simp (lengths, arrays) (omega arith)
+behind_within wanted (ResExchangeId r) arrays sizes = simp lengths (omega (arith, sizes.0, sizes.1))
+behind_within wanted (ResCreateSession s) arrays sizes = simp (lengths, arrays, length_channel s.fore_chan_attrs, length_channel s.back_chan_attrs, sizes) (omega (arith, length_ird s.back_chan_attrs.rdma_ird))
+  where
+    length_ird : (limit : Option ℕ) → length ((optional number).spell limit) ≤ 8
+    length_ird None = omega (arith, length_number 0)
+    length_ird (Some n) = omega (arith, length-append (spelling.number 1) (spelling.number n), length_number 1, length_number n)
+behind_within wanted ResDestroySession arrays sizes = omega arith
+behind_within wanted ResFreeStateid arrays sizes = omega arith
+behind_within wanted (ResSecinfoNoName words) arrays sizes = omega (arith, sizes, length-append (spelling.number (length words)) (flat_map spelling.number words), length_number (length words), length_numbers words)
+behind_within wanted (ResSequence s) arrays sizes = simp (lengths, arrays) (omega arith)
+behind_within wanted (ResTestStateid codes) arrays sizes = omega (arith, sizes, length-append (spelling.number (length codes)) (flat_map spelling.number codes), length_number (length codes), length_numbers codes)
+behind_within wanted ResDestroyClientId arrays sizes = omega arith
+behind_within wanted ResReclaimComplete arrays sizes = omega arith
+behind_within wanted (Refused operation s) arrays sizes = at_least operation wanted
+
+length_plain : (r : Res) → IsPlain r → length (parts r).behind ≤ 16
+length_plain (Refused operation s) plain = omega arith
+length_plain (ResSetAttr s attrsset) plain = omega (arith, plain, length_attr_set attrsset)
+length_plain r plain = absurd plain
+
+pub length_spelled : (r : Res) → length (spell_result r) ≡ 8 + length (parts r).behind
+length_spelled r = omega (arith, length-append (head (operation_of r) (parts r).status) (parts r).behind, length_head (operation_of r) (parts r).status)
+
+pub length_result : (i : Item) (r : Res) → HasArrays r → MayAnswer i r → length (spell_result r) ≤ largest i
+length_result (Operation op) r arrays may =
+    let l : length (spell_result r) ≤ largest_of (operation_of r) (asked op) = omega (arith, behind_within (asked op) r arrays may.2, length_spelled r) in
+    subst (λ (n : ℕ). length (spell_result r) ≤ largest_of n (asked op)) may.0 l
+length_result (Fault number status) r arrays may = omega (arith, length_plain r may.2, length_spelled r)
+
+pub length_head_within : (status : Status) (tag : List ℕ) (count : ℕ) → length tag ≤ 1024 → length (spell_compound_head status tag count) ≤ 1036
+length_head_within status tag count short = simp lengths (omega (arith, short))

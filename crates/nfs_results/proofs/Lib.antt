@@ -1,6 +1,11 @@
-pub mod Room
+pub mod Nothing
+pub mod Numbers
 pub mod Lengths
 pub mod Heads
+pub mod ItemLaws
+pub mod EntryLaws
 pub mod ResultLaws
 pub mod CompoundLaws
 pub mod ReplyLaws
+pub mod StraightLaws
+pub mod TestRoom

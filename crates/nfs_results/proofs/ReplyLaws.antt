@@ -8,7 +8,9 @@ use Rattle.nfs_xdr.specs.declared.cursor.Unreadable.{Unreadable}
 use Rattle.nfs_xdr.specs.Reading.{◌>>=◌, number_at, opaque_at}
 use Rattle.nfs_xdr.specs.Codec.{IsBytes, many_at}
 use Rattle.nfs_results.specs.Result.{Res}
-use Rattle.nfs_results.specs.Results.{status, result}
+use Rattle.nfs_xdr.specs.declared.status.Status.{Status}
+use Rattle.nfs_xdr.specs.Status.{status}
+use Rattle.nfs_results.specs.Results.{result}
 use Rattle.nfs_results.specs.CompoundResult.{CompoundResult, spell_compound, compound_result, IsReply, IsNoReply}
 use Rattle.nfs_results.specs.ReadReply.{whole, is_whole, results_left}
 use Rattle.nfs_results.proofs.CompoundLaws.{is_compound}
@@ -23,6 +25,13 @@ pub one_more : (count i : ℕ) (bytes : List ℕ) (x : Res) (rest : List ℕ) (a
 one_more count i bytes x rest all lt read so_far =
     let left : count - i ≡ suc (count - (i + 1)) = omega arith in
     let same : is_whole (many_at result.read (count - i) bytes) ≡ is_whole (many_at result.read (count - (i + 1)) rest) = rw (left, read) (in_front x (many_at result.read (count - (i + 1)) rest)) in
+    sym same ∙ so_far
+
+-- where one cannot be read, not all stand whole
+pub one_less : (count i : ℕ) (bytes : List ℕ) (all : Bool) → i < count → result.read bytes ≡ None → is_whole (many_at result.read (count - i) bytes) ≡ all → false ≡ all
+one_less count i bytes all lt none so_far =
+    let left : count - i ≡ suc (count - (i + 1)) = omega arith in
+    let same : is_whole (many_at result.read (count - i) bytes) ≡ false = rw (left, none) refl in
     sym same ∙ so_far
 
 at_end : (bytes : List ℕ) → is_whole {A = List Res} (Some ([], bytes)) ≡ true → ◌≡◌ {A = Option (List Res × List ℕ)} (Some ([], bytes)) (Some ([], []))
@@ -60,7 +69,7 @@ more_left (suc n) bytes x rest some read = rw (read, same) refl
     same = omega arith
 
 -- a head and whole results behind it
-pub reply_from : (bytes : List ℕ) (s : ℕ) (r tag t : List ℕ) (n : ℕ) (u : List ℕ) → status.read bytes ≡ Some (s, r) → opaque_at 1024 r ≡ Some (tag, t) → number_at t ≡ Some (n, u) → is_whole (many_at result.read n u) ≡ true
+pub reply_from : (bytes : List ℕ) (s : Status) (r tag t : List ℕ) (n : ℕ) (u : List ℕ) → status.read bytes ≡ Some (s, r) → opaque_at 1024 r ≡ Some (tag, t) → number_at t ≡ Some (n, u) → is_whole (many_at result.read n u) ≡ true
     → whole (compound_result.read bytes) ≡ Some (record { status = s; tag = tag; results = results_left n u })
 reply_from bytes s r tag t n u h i j k = rw (h, i, j, all_left n u k) refl
 

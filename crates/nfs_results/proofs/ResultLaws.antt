@@ -1,87 +1,242 @@
 -- The table of results is a codec.
-use Rattle.std.proofs.Common.{◌≡◌, ◌≢◌, ℕ, ◌^◌, ◌<◌, eqb, cond, List, [], ◌∷◌, ◌++◌, Option, Some, None, refl, sym, ap, ◌∙◌, append_assoc, arith, inl, inr}
-use Rattle.std.proofs.lemmas.Bool.{eqb-true, eq-eqb, ne_eqb, false≢true}
-use Rattle.std.specs.List.{AllByRecursion}
+use Rattle.std.proofs.Common.{◌≡◌, ◌≢◌, ℕ, ◌^◌, ◌<◌, ◌≤◌, Bool, true, false, not, eqb, leb, cond, ◌&&◌, ◌||◌, List, [], ◌++◌, Option, Some, None, refl, sym, ap, ◌∙◌, append_assoc, append-nil, arith, inl, inr}
+use Rattle.std.specs.Prelude.{IsTrue}
+use Rattle.std.proofs.lemmas.Bool.{eqb-true, eq-eqb, ne_eqb, leb-true, and_parts, false≢true}
+use Rattle.std.proofs.lemmas.Option.{same_Some}
 use Rattle.nfs_xdr.specs.Spelling as spelling
 use Rattle.nfs_xdr.specs.Reading.{◌>>=◌, number_at}
-use Rattle.nfs_xdr.specs.Codec.{Codec, IsCodec, IsBytes, number, choose, arm}
-use Rattle.nfs_xdr.proofs.CodecLaws.{bind_some, test_some, chosen, taken_at, arm_takes, is_number, is_hyper, is_opaque, is_then, is_as_type, is_only}
-use Rattle.nfs_results.specs.Result.{Res, ResExchangeId, Refused}
-use Rattle.nfs_results.specs.Results.{answers_status, status, always, exchange_id, spell_result, FitsResult, done, done_arms, done_at, behind, result}
+use Rattle.nfs_xdr.specs.declared.status.Status.{Status}
+use Rattle.nfs_xdr.specs.declared.status.Status.TheVariants.{Nfs4Ok, Denied}
+use Rattle.nfs_xdr.specs.Status.{status_number, status_of, status}
+use Rattle.nfs_xdr.specs.Codec.{Codec, IsCodec, IsBytes, fixed, opaque, unbounded, arm}
+use Rattle.nfs_xdr.proofs.CodecLaws.{bind_some, test_some, chosen, taken_at, arm_takes, is_number, is_fixed, is_opaque, is_unbounded}
+use Rattle.nfs_xdr.proofs.StatusLaws.{is_status, is_status_listing}
+use Rattle.nfs_xdr.proofs.WordLaws.{listed_number}
+use Rattle.nfs_compound.specs.declared.op_num.OpNum.{OpNum}
+use Rattle.nfs_compound.specs.declared.op_num.OpNum.TheVariants as Op
+use Rattle.nfs_compound.specs.OpNum.{op_number, op_nums, op_num}
+use Rattle.nfs_compound.specs.Stateid.{stateid}
+use Rattle.nfs_compound.proofs.OpNumLaws.{is_op_listing}
+use Rattle.nfs_compound.proofs.ItemLaws.{is_stateid}
+use Rattle.nfs_results.specs.Items as item
+use Rattle.nfs_results.specs.Result.{Res, ResAccess, ResClose, ResCommit, ResCreate, ResGetAttr, ResGetFh, ResLink, ResLock, ResLockDenied, ResLockT, ResLockTDenied, ResLockU, ResLookup, ResLookupP, ResNVerify, ResOpen, ResOpenDowngrade, ResPutFh, ResPutPubFh, ResPutRootFh, ResRead, ResReadDir, ResReadLink, ResRemove, ResRename, ResRestoreFh, ResSaveFh, ResSetAttr, ResVerify, ResWrite, ResExchangeId, ResCreateSession, ResDestroySession, ResFreeStateid, ResSecinfoNoName, ResSequence, ResTestStateid, ResDestroyClientId, ResReclaimComplete, Refused}
+use Rattle.nfs_results.specs.Results.{bears, tells, can_refuse, parts, head, spell_result, FitsResult, done_at, done_by, refused_at, behind, result}
+use Rattle.nfs_results.proofs.ItemLaws.{is_attr_set, is_fattr, is_change_info, is_access, is_create, is_denied, is_open_ok, is_read_ok, is_read_dir, is_rename, is_write_ok, is_exchange_id, is_create_session, is_flavors, is_sequence, is_status_codes}
 
-pub is_status : IsCodec status
-is_status = is_only answers_status number is_number
+-- a status is known by its number
+same_status : (s t : Status) → status_number s ≡ status_number t → s ≡ t
+same_status s t e = same_Some s t (sym (is_status_listing.found s) ∙ ap status_of e ∙ is_status_listing.found t)
 
-pub is_always : (k : ℕ) → k < 2 ^ 32 → IsCodec (always k)
-is_always k small = record {
-  takes = λ bytes y rest fits e.
-      let s = bind_some (number_at bytes) (λ n. cond (eqb n.0 k) (Some (tt, n.1)) None) (y, rest) e in
-      let g = test_some (eqb s.0.0 k) (Some (tt, s.0.1)) (y, rest) s.2 in
-      let t = is_number.takes bytes s.0.0 s.0.1 fits s.1 in
-      taken_at (always k) bytes tt y s.0.1 rest g.1 (t.0 ∙ ap (λ (n : ℕ). spelling.number n ++ s.0.1) (eqb-true s.0.0 k g.0), t.1, tt);
-  again = λ y rest fits. rw (is_number.again k rest small, eq-eqb k k refl) refl;
+abbrev Taken : List ℕ → Res → List ℕ → Type 0
+Taken bytes y rest = (bytes ≡ spell_result y ++ rest) × IsBytes rest × FitsResult y
+
+-- An operation that was done: what is read behind its head is spelled so, and what is spelled so is read.
+record IsDone (op : OpNum) : Type 0 where
+  pub takes : (left : List ℕ) (y : Res) (rest : List ℕ) → IsBytes left → done_at op left ≡ Some (y, rest) → Taken (head (op_number op) Nfs4Ok ++ left) y rest
+
+is_told : {A : Type 0} (op : OpNum) (make : A → Res) (c : Codec A) → IsCodec c → ((left : List ℕ) → done_at op left ≡ arm make c left) → ((x : A) → spell_result (make x) ≡ head (op_number op) Nfs4Ok ++ c.spell x)
+    → ((x : A) → c.Fits x → FitsResult (make x)) → IsDone op
+is_told op make c p reads spells fit = record {
+  takes = λ left y rest f e. arm_takes c result make (head (op_number op) Nfs4Ok) p spells fit (head (op_number op) Nfs4Ok ++ left) left y rest refl f (sym (reads left) ∙ e);
 }
 
-pub is_exchange_id : IsCodec exchange_id
-unfolding exchange_id
-is_exchange_id =
-    let words = is_always 0 (omega arith) in
-    let name = is_opaque 1024 (omega arith) in
-    is_as_type _ _ _ (λ _. refl) (is_then _ _ is_hyper (is_then _ _ is_number (is_then _ _ is_number (is_then _ _ words (is_then _ _ is_hyper (is_then _ _ name (is_then _ _ name words)))))))
-
--- what an arm reads behind its operation number and NFS4_OK is a result that is spelled so
-record IsDone (a : ℕ × (List ℕ → Option (Res × List ℕ))) : Type 0 where
-  pub takes : (left : List ℕ) (y : Res) (rest : List ℕ) → IsBytes left → a.1 left ≡ Some (y, rest) → (done a.0 left ≡ spell_result y ++ rest) × IsBytes rest × FitsResult y
-
-is_done : {A : Type 0} (k : ℕ) (make : A → Res) (c : Codec A) → IsCodec c → ((x : A) → spell_result (make x) ≡ done k (c.spell x)) → ((x : A) → c.Fits x → FitsResult (make x)) → IsDone (k, arm make c)
-is_done {A} k make c p spells fit = record {
+is_alone : (op : OpNum) (x : Res) → ((left : List ℕ) → done_at op left ≡ Some (x, left)) → spell_result x ≡ head (op_number op) Nfs4Ok ++ [] → FitsResult x → IsDone op
+is_alone op x reads spells fit = record {
   takes = λ left y rest f e.
-      let head : List ℕ = spelling.number k ++ spelling.number 0 in
-      let split : (w : List ℕ) → done k w ≡ head ++ w = λ w. sym (append_assoc (spelling.number k) (spelling.number 0) w) in
-      arm_takes c result make head p (λ x. spells x ∙ split (c.spell x)) fit (done k left) left y rest (split left) f e;
+      taken_at result (head (op_number op) Nfs4Ok ++ left) x y left rest (sym (reads left) ∙ e)
+      (ap (λ (w : List ℕ). w ++ left) (sym (spells ∙ append-nil (head (op_number op) Nfs4Ok))), f, fit);
 }
-
-chosen_takes : (arms : List (ℕ × (List ℕ → Option (Res × List ℕ)))) → AllByRecursion IsDone arms → (n : ℕ) (left : List ℕ) (y : Res) (rest : List ℕ) → IsBytes left → choose arms n left ≡ Some (y, rest)
-    → (done n left ≡ spell_result y ++ rest) × IsBytes rest × FitsResult y
-chosen_takes [] good n left y rest f e = absurd cc
-chosen_takes (a ∷ arms) good n left y rest f e =
-    elim (chosen (eqb n a.0) (a.1 left) (choose arms n left) (Some (y, rest)) e) [
-      | inl q ↦ let t = good.0.takes left y rest f q.1 in (ap (λ (k : ℕ). done k left) (eqb-true n a.0 q.0) ∙ t.0, t.1, t.2)
-      | inr q ↦ chosen_takes arms good.1 n left y rest f q.1
-    ]
 
 -- one line an operation
-all_done : AllByRecursion IsDone done_arms
-all_done = (is_done 42 ResExchangeId exchange_id is_exchange_id (λ _. refl) (λ _ h. h), tt)
-
-behind_takes : (operation code : ℕ) (left : List ℕ) (y : Res) (rest : List ℕ) → operation < 2 ^ 32 → status.Fits code → IsBytes left → behind operation code left ≡ Some (y, rest)
-    → (spelling.number operation ++ (spelling.number code ++ left) ≡ spell_result y ++ rest) × IsBytes rest × FitsResult y
+all_done : (op : OpNum) → IsDone op
 unfolding done_at
-behind_takes operation code left y rest small fits f e =
-    elim (chosen (eqb code 0) (choose done_arms operation left) (Some (Refused operation code, left)) (Some (y, rest)) e) [
-      | inl q ↦ let t = chosen_takes done_arms all_done operation left y rest f q.1 in (ap (λ (n : ℕ). spelling.number operation ++ (spelling.number n ++ left)) (eqb-true code 0 q.0) ∙ t.0, t.1, t.2)
+all_done Op.Access = is_told Op.Access ResAccess item.access is_access (λ _. refl) (λ _. refl) (λ _ fits. fits)
+all_done Op.Close = is_told Op.Close ResClose stateid is_stateid (λ _. refl) (λ _. refl) (λ _ fits. fits)
+all_done Op.Commit = is_told Op.Commit ResCommit (fixed 8) (is_fixed 8) (λ _. refl) (λ _. refl) (λ _ fits. fits)
+all_done Op.Create = is_told Op.Create ResCreate item.create is_create (λ _. refl) (λ _. refl) (λ _ fits. fits)
+all_done Op.GetAttr = is_told Op.GetAttr ResGetAttr item.fattr is_fattr (λ _. refl) (λ _. refl) (λ _ fits. fits)
+all_done Op.GetFh = is_told Op.GetFh ResGetFh (opaque 128) (is_opaque 128 (omega arith)) (λ _. refl) (λ _. refl) (λ _ fits. fits)
+all_done Op.Link = is_told Op.Link ResLink item.change_info is_change_info (λ _. refl) (λ _. refl) (λ _ fits. fits)
+all_done Op.Lock = is_told Op.Lock ResLock stateid is_stateid (λ _. refl) (λ _. refl) (λ _ fits. fits)
+all_done Op.LockT = is_alone Op.LockT ResLockT (λ _. refl) refl tt
+all_done Op.LockU = is_told Op.LockU ResLockU stateid is_stateid (λ _. refl) (λ _. refl) (λ _ fits. fits)
+all_done Op.Lookup = is_alone Op.Lookup ResLookup (λ _. refl) refl tt
+all_done Op.LookupP = is_alone Op.LookupP ResLookupP (λ _. refl) refl tt
+all_done Op.NVerify = is_alone Op.NVerify ResNVerify (λ _. refl) refl tt
+all_done Op.Open = is_told Op.Open ResOpen item.open_ok is_open_ok (λ _. refl) (λ _. refl) (λ _ fits. fits)
+all_done Op.OpenDowngrade = is_told Op.OpenDowngrade ResOpenDowngrade stateid is_stateid (λ _. refl) (λ _. refl) (λ _ fits. fits)
+all_done Op.PutFh = is_alone Op.PutFh ResPutFh (λ _. refl) refl tt
+all_done Op.PutPubFh = is_alone Op.PutPubFh ResPutPubFh (λ _. refl) refl tt
+all_done Op.PutRootFh = is_alone Op.PutRootFh ResPutRootFh (λ _. refl) refl tt
+all_done Op.Read = is_told Op.Read ResRead item.read_ok is_read_ok (λ _. refl) (λ _. refl) (λ _ fits. fits)
+all_done Op.ReadDir = is_told Op.ReadDir ResReadDir item.read_dir is_read_dir (λ _. refl) (λ _. refl) (λ _ fits. fits)
+all_done Op.ReadLink = is_told Op.ReadLink ResReadLink unbounded is_unbounded (λ _. refl) (λ _. refl) (λ _ fits. fits)
+all_done Op.Remove = is_told Op.Remove ResRemove item.change_info is_change_info (λ _. refl) (λ _. refl) (λ _ fits. fits)
+all_done Op.Rename = is_told Op.Rename ResRename item.rename is_rename (λ _. refl) (λ _. refl) (λ _ fits. fits)
+all_done Op.RestoreFh = is_alone Op.RestoreFh ResRestoreFh (λ _. refl) refl tt
+all_done Op.SaveFh = is_alone Op.SaveFh ResSaveFh (λ _. refl) refl tt
+all_done Op.SetAttr = is_told Op.SetAttr (ResSetAttr Nfs4Ok) item.attr_set is_attr_set (λ _. refl) (λ _. refl) (λ _ fits. fits)
+all_done Op.Verify = is_alone Op.Verify ResVerify (λ _. refl) refl tt
+all_done Op.Write = is_told Op.Write ResWrite item.write_ok is_write_ok (λ _. refl) (λ _. refl) (λ _ fits. fits)
+all_done Op.ExchangeId = is_told Op.ExchangeId ResExchangeId item.exchange_id is_exchange_id (λ _. refl) (λ _. refl) (λ _ fits. fits)
+all_done Op.CreateSession = is_told Op.CreateSession ResCreateSession item.create_session is_create_session (λ _. refl) (λ _. refl) (λ _ fits. fits)
+all_done Op.DestroySession = is_alone Op.DestroySession ResDestroySession (λ _. refl) refl tt
+all_done Op.FreeStateid = is_alone Op.FreeStateid ResFreeStateid (λ _. refl) refl tt
+all_done Op.SecinfoNoName = is_told Op.SecinfoNoName ResSecinfoNoName item.flavors is_flavors (λ _. refl) (λ _. refl) (λ _ fits. fits)
+all_done Op.Sequence = is_told Op.Sequence ResSequence item.sequence is_sequence (λ _. refl) (λ _. refl) (λ _ fits. fits)
+all_done Op.TestStateid = is_told Op.TestStateid ResTestStateid item.status_codes is_status_codes (λ _. refl) (λ _. refl) (λ _ fits. fits)
+all_done Op.DestroyClientId = is_alone Op.DestroyClientId ResDestroyClientId (λ _. refl) refl tt
+all_done Op.ReclaimComplete = is_alone Op.ReclaimComplete ResReclaimComplete (λ _. refl) refl tt
+
+-- the same behind a number that names an operation
+by_takes : (operation : ℕ) (op : Option OpNum) (left : List ℕ) (y : Res) (rest : List ℕ) → op_num operation ≡ op → IsBytes left → done_by op left ≡ Some (y, rest) → Taken (head operation Nfs4Ok ++ left) y rest
+by_takes operation None left y rest is f e = absurd cc
+by_takes operation (Some op) left y rest is f e =
+    let t = (all_done op).takes left y rest f e in
+    (ap (λ (k : ℕ). head k Nfs4Ok ++ left) (listed_number op_number op_nums operation op is) ∙ t.0, t.1, t.2)
+
+-- An operation that was refused.
+refused_takes : (operation : ℕ) (s : Status) (left : List ℕ) (y : Res) (rest : List ℕ) → IsBytes left → refused_at operation s left ≡ Some (y, rest) → Taken (head operation s ++ left) y rest
+unfolding refused_at
+refused_takes operation s left y rest f e =
+    elim (chosen (eqb operation 34) (arm (ResSetAttr s) item.attr_set left) _ (Some (y, rest)) e) [
+      | inl q ↦
+          let t = arm_takes item.attr_set result (ResSetAttr s) (head 34 s) is_attr_set (λ _. refl) (λ _ fits. fits) (head 34 s ++ left) left y rest refl f q.1 in
+          (ap (λ (k : ℕ). head k s ++ left) (eqb-true operation 34 q.0) ∙ t.0, t.1, t.2)
       | inr q ↦
-          let bad : code ≢ 0 = λ zero. absurd (false≢true (sym q.0 ∙ eq-eqb code 0 zero)) in
-          taken_at result (spelling.number operation ++ (spelling.number code ++ left)) (Refused operation code) y left rest q.1 (sym (append_assoc (spelling.number operation) (spelling.number code) left), f, (small, fits, bad))
+          elim (chosen (eqb operation 12 && eqb (status_number s) 10010) (arm ResLockDenied item.denied left) _ (Some (y, rest)) q.1) [
+            | inl r ↦
+                let is = and_parts (eqb operation 12) (eqb (status_number s) 10010) r.0 in
+                let t = arm_takes item.denied result ResLockDenied (head 12 Denied) is_denied (λ _. refl) (λ _ fits. fits) (head 12 Denied ++ left) left y rest refl f r.1 in
+                (told 12 is.0 is.1 ∙ t.0, t.1, t.2)
+            | inr r ↦
+                elim (chosen (eqb operation 13 && eqb (status_number s) 10010) (arm ResLockTDenied item.denied left) _ (Some (y, rest)) r.1) [
+                  | inl u ↦
+                      let is = and_parts (eqb operation 13) (eqb (status_number s) 10010) u.0 in
+                      let t = arm_takes item.denied result ResLockTDenied (head 13 Denied) is_denied (λ _. refl) (λ _ fits. fits) (head 13 Denied ++ left) left y rest refl f u.1 in
+                      (told 13 is.0 is.1 ∙ t.0, t.1, t.2)
+                  | inr u ↦
+                      let g = test_some (can_refuse operation s) (Some (Refused operation s, left)) (y, rest) u.1 in
+                      taken_at result (head operation s ++ left) (Refused operation s) y left rest g.1
+                      (ap (λ (w : List ℕ). w ++ left) (sym (append-nil (head operation s))), f, g.0)
+                ]
+          ]
+    ]
+  where
+    told : (k : ℕ) → eqb operation k ≡ true → eqb (status_number s) 10010 ≡ true → head operation s ++ left ≡ head k Denied ++ left
+    told k same denied = ap (λ (n : ℕ). head n s ++ left) (eqb-true operation k same) ∙ ap (λ (t : Status). head k t ++ left) (same_status s Denied (eqb-true (status_number s) 10010 denied))
+
+behind_takes : (operation : ℕ) (s : Status) (left : List ℕ) (y : Res) (rest : List ℕ) → IsBytes left → behind operation s left ≡ Some (y, rest) → Taken (head operation s ++ left) y rest
+behind_takes operation s left y rest f e =
+    elim (chosen (eqb (status_number s) 0) (done_by (op_num operation) left) (refused_at operation s left) (Some (y, rest)) e) [
+      | inl q ↦
+          let t = by_takes operation (op_num operation) left y rest refl f q.1 in
+          (ap (λ (t : Status). head operation t ++ left) (same_status s Nfs4Ok (eqb-true (status_number s) 0 q.0)) ∙ t.0, t.1, t.2)
+      | inr q ↦ refused_takes operation s left y rest f q.1
     ]
 
-zero_fits : status.Fits 0
-unfolding answers_status
-zero_fits = (refl, omega arith)
+-- what stands behind a head is what is read there
+behind_head : (operation : ℕ) (s : Status) (left : List ℕ) → operation < 2 ^ 32 → result.read (head operation s ++ left) ≡ behind operation s left
+behind_head operation s left small =
+    ap result.read (append_assoc (spelling.number operation) (spelling.number (status_number s)) left)
+    ∙ rw (is_number.again operation (spelling.number (status_number s) ++ left) small, is_status.again s left tt) refl
 
-done_again : (k : ℕ) (left : List ℕ) (y : Res) (rest : List ℕ) → k < 2 ^ 32 → done_at k left ≡ Some (y, rest) → result.read (done k left) ≡ Some (y, rest)
-done_again k left y rest small e = rw (is_number.again k (spelling.number 0 ++ left) small, is_status.again 0 left zero_fits) e
+told_again : {A : Type 0} (operation : ℕ) (s : Status) (make : A → Res) (c : Codec A) → IsCodec c → operation < 2 ^ 32 → (x : A) (rest : List ℕ) → c.Fits x → ((left : List ℕ) → behind operation s left ≡ arm make c left)
+    → spell_result (make x) ≡ head operation s ++ c.spell x → result.read (spell_result (make x) ++ rest) ≡ Some (make x, rest)
+told_again operation s make c p small x rest fits reads spells =
+    ap (λ (w : List ℕ). result.read (w ++ rest)) spells
+    ∙ ap result.read (append_assoc (head operation s) (c.spell x) rest)
+    ∙ behind_head operation s (c.spell x ++ rest) small
+    ∙ reads (c.spell x ++ rest)
+    ∙ rw (p.again x rest fits) refl
 
-done_then : (k : ℕ) (text rest : List ℕ) → done k text ++ rest ≡ done k (text ++ rest)
-done_then k text rest = append_assoc (spelling.number k) (spelling.number 0 ++ text) rest ∙ ap (λ (w : List ℕ). spelling.number k ++ w) (append_assoc (spelling.number 0) text rest)
+alone_again : (operation : ℕ) (s : Status) (x : Res) (rest : List ℕ) → operation < 2 ^ 32 → behind operation s rest ≡ Some (x, rest) → spell_result x ≡ head operation s ++ [] → result.read (spell_result x ++ rest) ≡ Some (x, rest)
+alone_again operation s x rest small reads spells =
+    ap (λ (w : List ℕ). result.read (w ++ rest)) (spells ∙ append-nil (head operation s)) ∙ behind_head operation s rest small ∙ reads
+
+-- the tests of a refusal with nothing behind it, in their order
+passes : {A : Type 0} (bears set lock test denied : Bool) (x y z w v : A) → bears && not (set || ((lock || test) && denied)) ≡ true → cond set x (cond (lock && denied) y (cond (test && denied) z (cond (bears && not (set || ((lock || test) && denied))) w v))) ≡ w
+passes true true lock test denied x y z w v e = absurd (false≢true e)
+passes true false true test true x y z w v e = absurd (false≢true e)
+passes true false true true false x y z w v e = refl
+passes true false true false false x y z w v e = refl
+passes true false false true true x y z w v e = absurd (false≢true e)
+passes true false false true false x y z w v e = refl
+passes true false false false denied x y z w v e = refl
+passes false set lock test denied x y z w v e = absurd (false≢true e)
+
+bears_some : (b : Bool) (operation code : ℕ) → eqb operation 10044 ≡ b → cond b (eqb code 10044 || eqb code 10066) (leb 3 operation && leb operation 58 && not (eqb code 0 || eqb code 10044)) ≡ true → (operation < 2 ^ 32) × (eqb code 0 ≡ false)
+bears_some true operation code is e = (omega (arith, eqb-true operation 10044 is), either (eqb code 10044) (eqb code 10066) refl refl e)
+  where
+    either : (b c : Bool) → eqb code 10044 ≡ b → eqb code 10066 ≡ c → b || c ≡ true → eqb code 0 ≡ false
+    either true c f g h = rw (eqb-true code 10044 f) refl
+    either false true f g h = rw (eqb-true code 10066 g) refl
+    either false false f g h = absurd (false≢true h)
+bears_some false operation code is e =
+    let p = and_parts (leb 3 operation && leb operation 58) (not (eqb code 0 || eqb code 10044)) e in
+    let q = and_parts (leb 3 operation) (leb operation 58) p.0 in
+    (omega (arith, leb-true operation 58 q.1), neither (eqb code 0) (eqb code 10044) p.1)
+  where
+    neither : (b c : Bool) → not (b || c) ≡ true → b ≡ false
+    neither true c h = absurd (false≢true h)
+    neither false c h = refl
+
+refused_again : (operation : ℕ) (s : Status) (rest : List ℕ) → can_refuse operation s ≡ true → result.read (spell_result (Refused operation s) ++ rest) ≡ Some (Refused operation s, rest)
+unfolding refused_at
+refused_again operation s rest fits =
+    let b = bears_some (eqb operation 10044) operation (status_number s) refl (and_parts (bears operation s) (not (tells operation s)) fits).0 in
+    let refuses : refused_at operation s rest ≡ Some (Refused operation s, rest) = passes (bears operation s) (eqb operation 34) (eqb operation 12) (eqb operation 13) (eqb (status_number s) 10010) _ _ _ _ None fits in
+    alone_again operation s (Refused operation s) rest b.0 (ap (λ (ok : Bool). cond ok (done_by (op_num operation) rest) (refused_at operation s rest)) b.1 ∙ refuses) refl
+
+-- SETATTR tells what was set with every status
+set_behind : (b : Bool) (s : Status) (left : List ℕ) → eqb (status_number s) 0 ≡ b → behind 34 s left ≡ arm (ResSetAttr s) item.attr_set left
+unfolding done_at refused_at
+set_behind true s left is = rw (same_status s Nfs4Ok (eqb-true (status_number s) 0 is)) refl
+set_behind false s left is = rw is refl
 
 -- one line a result
 result_again : (y : Res) (rest : List ℕ) → FitsResult y → result.read (spell_result y ++ rest) ≡ Some (y, rest)
-unfolding done_at
-result_again (ResExchangeId r) rest fits = ap result.read (done_then 42 (exchange_id.spell r) rest) ∙ done_again 42 _ _ _ (omega arith) (rw (is_exchange_id.again r rest fits) refl)
-result_again (Refused operation code) rest fits =
-    ap result.read (append_assoc (spelling.number operation) (spelling.number code) rest)
-    ∙ rw (is_number.again operation (spelling.number code ++ rest) fits.0, is_status.again code rest fits.1, ne_eqb code 0 fits.2) refl
+unfolding done_at refused_at
+result_again (ResAccess x) rest fits = told_again 3 Nfs4Ok ResAccess item.access is_access (omega arith) x rest fits (λ _. refl) refl
+result_again (ResClose x) rest fits = told_again 4 Nfs4Ok ResClose stateid is_stateid (omega arith) x rest fits (λ _. refl) refl
+result_again (ResCommit x) rest fits = told_again 5 Nfs4Ok ResCommit (fixed 8) (is_fixed 8) (omega arith) x rest fits (λ _. refl) refl
+result_again (ResCreate x) rest fits = told_again 6 Nfs4Ok ResCreate item.create is_create (omega arith) x rest fits (λ _. refl) refl
+result_again (ResGetAttr x) rest fits = told_again 9 Nfs4Ok ResGetAttr item.fattr is_fattr (omega arith) x rest fits (λ _. refl) refl
+result_again (ResGetFh x) rest fits = told_again 10 Nfs4Ok ResGetFh (opaque 128) (is_opaque 128 (omega arith)) (omega arith) x rest fits (λ _. refl) refl
+result_again (ResLink x) rest fits = told_again 11 Nfs4Ok ResLink item.change_info is_change_info (omega arith) x rest fits (λ _. refl) refl
+result_again (ResLock x) rest fits = told_again 12 Nfs4Ok ResLock stateid is_stateid (omega arith) x rest fits (λ _. refl) refl
+result_again (ResLockDenied x) rest fits = told_again 12 Denied ResLockDenied item.denied is_denied (omega arith) x rest fits (λ _. refl) refl
+result_again ResLockT rest fits = alone_again 13 Nfs4Ok ResLockT rest (omega arith) refl refl
+result_again (ResLockTDenied x) rest fits = told_again 13 Denied ResLockTDenied item.denied is_denied (omega arith) x rest fits (λ _. refl) refl
+result_again (ResLockU x) rest fits = told_again 14 Nfs4Ok ResLockU stateid is_stateid (omega arith) x rest fits (λ _. refl) refl
+result_again ResLookup rest fits = alone_again 15 Nfs4Ok ResLookup rest (omega arith) refl refl
+result_again ResLookupP rest fits = alone_again 16 Nfs4Ok ResLookupP rest (omega arith) refl refl
+result_again ResNVerify rest fits = alone_again 17 Nfs4Ok ResNVerify rest (omega arith) refl refl
+result_again (ResOpen x) rest fits = told_again 18 Nfs4Ok ResOpen item.open_ok is_open_ok (omega arith) x rest fits (λ _. refl) refl
+result_again (ResOpenDowngrade x) rest fits = told_again 21 Nfs4Ok ResOpenDowngrade stateid is_stateid (omega arith) x rest fits (λ _. refl) refl
+result_again ResPutFh rest fits = alone_again 22 Nfs4Ok ResPutFh rest (omega arith) refl refl
+result_again ResPutPubFh rest fits = alone_again 23 Nfs4Ok ResPutPubFh rest (omega arith) refl refl
+result_again ResPutRootFh rest fits = alone_again 24 Nfs4Ok ResPutRootFh rest (omega arith) refl refl
+result_again (ResRead x) rest fits = told_again 25 Nfs4Ok ResRead item.read_ok is_read_ok (omega arith) x rest fits (λ _. refl) refl
+result_again (ResReadDir x) rest fits = told_again 26 Nfs4Ok ResReadDir item.read_dir is_read_dir (omega arith) x rest fits (λ _. refl) refl
+result_again (ResReadLink x) rest fits = told_again 27 Nfs4Ok ResReadLink unbounded is_unbounded (omega arith) x rest fits (λ _. refl) refl
+result_again (ResRemove x) rest fits = told_again 28 Nfs4Ok ResRemove item.change_info is_change_info (omega arith) x rest fits (λ _. refl) refl
+result_again (ResRename x) rest fits = told_again 29 Nfs4Ok ResRename item.rename is_rename (omega arith) x rest fits (λ _. refl) refl
+result_again ResRestoreFh rest fits = alone_again 31 Nfs4Ok ResRestoreFh rest (omega arith) refl refl
+result_again ResSaveFh rest fits = alone_again 32 Nfs4Ok ResSaveFh rest (omega arith) refl refl
+result_again (ResSetAttr s x) rest fits = told_again 34 s (ResSetAttr s) item.attr_set is_attr_set (omega arith) x rest fits (λ left. set_behind (eqb (status_number s) 0) s left refl) refl
+result_again ResVerify rest fits = alone_again 37 Nfs4Ok ResVerify rest (omega arith) refl refl
+result_again (ResWrite x) rest fits = told_again 38 Nfs4Ok ResWrite item.write_ok is_write_ok (omega arith) x rest fits (λ _. refl) refl
+result_again (ResExchangeId x) rest fits = told_again 42 Nfs4Ok ResExchangeId item.exchange_id is_exchange_id (omega arith) x rest fits (λ _. refl) refl
+result_again (ResCreateSession x) rest fits = told_again 43 Nfs4Ok ResCreateSession item.create_session is_create_session (omega arith) x rest fits (λ _. refl) refl
+result_again ResDestroySession rest fits = alone_again 44 Nfs4Ok ResDestroySession rest (omega arith) refl refl
+result_again ResFreeStateid rest fits = alone_again 45 Nfs4Ok ResFreeStateid rest (omega arith) refl refl
+result_again (ResSecinfoNoName x) rest fits = told_again 52 Nfs4Ok ResSecinfoNoName item.flavors is_flavors (omega arith) x rest fits (λ _. refl) refl
+result_again (ResSequence x) rest fits = told_again 53 Nfs4Ok ResSequence item.sequence is_sequence (omega arith) x rest fits (λ _. refl) refl
+result_again (ResTestStateid x) rest fits = told_again 55 Nfs4Ok ResTestStateid item.status_codes is_status_codes (omega arith) x rest fits (λ _. refl) refl
+result_again ResDestroyClientId rest fits = alone_again 57 Nfs4Ok ResDestroyClientId rest (omega arith) refl refl
+result_again ResReclaimComplete rest fits = alone_again 58 Nfs4Ok ResReclaimComplete rest (omega arith) refl refl
+result_again (Refused operation s) rest fits = refused_again operation s rest fits
 
 pub is_result : IsCodec result
 is_result = record {
@@ -90,7 +245,7 @@ is_result = record {
       let t = bind_some (status.read s.0.1) (λ code. behind s.0.0 code.0 code.1) (y, rest) s.2 in
       let first = is_number.takes bytes s.0.0 s.0.1 fits s.1 in
       let second = is_status.takes s.0.1 t.0.0 t.0.1 first.1 t.1 in
-      let third = behind_takes s.0.0 t.0.0 t.0.1 y rest first.2 second.2 second.1 t.2 in
-      (first.0 ∙ ap (λ (w : List ℕ). spelling.number s.0.0 ++ w) second.0 ∙ third.0, third.1, third.2);
+      let third = behind_takes s.0.0 t.0.0 t.0.1 y rest second.1 t.2 in
+      (first.0 ∙ ap (λ (w : List ℕ). spelling.number s.0.0 ++ w) second.0 ∙ sym (append_assoc (spelling.number s.0.0) (spelling.number (status_number t.0.0)) t.0.1) ∙ third.0, third.1, third.2);
   again = result_again;
 }

@@ -5,23 +5,25 @@ use Rattle.nfs_xdr.specs.Spelling.{number, opaque}
 use Rattle.nfs_xdr.specs.Codec as codec
 use Rattle.nfs_xdr.specs.Codec.{Codec, ◌then◌, as_type, array}
 use Rattle.nfs_results.specs.Result.{Res}
-use Rattle.nfs_results.specs.Results.{status, result, spell_result}
+use Rattle.nfs_xdr.specs.declared.status.Status.{Status}
+use Rattle.nfs_xdr.specs.Status.{status_number, status}
+use Rattle.nfs_results.specs.Results.{result, spell_result}
 
 pub record CompoundResult : Type 0 where
-  pub status : ℕ
+  pub status : Status
   pub tag : List ℕ
   pub results : List Res
 
 -- what stands in front of the results
-abbrev pub spell_compound_head : (status : ℕ) (tag : List ℕ) (count : ℕ) → List ℕ
-spell_compound_head status tag count = number status ++ (opaque tag ++ number count)
+abbrev pub spell_compound_head : (status : Status) (tag : List ℕ) (count : ℕ) → List ℕ
+spell_compound_head status tag count = number (status_number status) ++ (opaque tag ++ number count)
 
 abbrev pub spell_compound : CompoundResult → List ℕ
 spell_compound c = spell_compound_head c.status c.tag (length c.results) ++ flat_map spell_result c.results
 
 -- the same item by item, and how it is read
 abbrev pub parts : Codec CompoundResult
-parts = as_type (λ x. record { status = x.0; tag = x.1.0; results = x.1.1 }) (λ c. (c.status, (c.tag, c.results))) (status then codec.opaque 1024 then array result)
+parts = as_type (λ (status, (tag, results)). record { status = status; tag = tag; results = results }) (λ c. (c.status, (c.tag, c.results))) (status then codec.opaque 1024 then array result)
 
 abbrev pub compound_result : Codec CompoundResult
 compound_result = record { spell = spell_compound; Fits = parts.Fits; read = parts.read }

@@ -1,7 +1,10 @@
 pub mod Result
+pub mod Items
 pub mod Results
+pub mod Entries
+pub mod View
+pub mod Straight
 pub mod CompoundResult
 pub mod OpenHead
 pub mod ReadReply
 pub mod Largest
-pub mod View

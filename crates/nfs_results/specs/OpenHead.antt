@@ -1,6 +1,7 @@
 -- A head of a compound's result whose status and count are set once the results stand behind it.
 use Rattle.std.specs.Prelude.{◌≡◌, ℕ, ◌+◌, List, ◌++◌, length}
 use Rattle.nfs_xdr.specs.Spelling.{opaque}
+use Rattle.nfs_xdr.specs.declared.status.Status.{Status}
 use Rattle.nfs_xdr.specs.Paper.{Paper}
 use Rattle.nfs_results.specs.CompoundResult.{spell_compound_head}
 
@@ -12,7 +13,7 @@ pub record HeadsAt (status_at count_at : ℕ) (before tag : List ℕ) : Type 0 w
 -- A head stands there.
 pub record HasHead (status_at count_at : ℕ) (bytes : List ℕ) : Type 0 where
   pub before : List ℕ
-  pub status : ℕ
+  pub status : Status
   pub tag : List ℕ
   pub count : ℕ
   pub behind : List ℕ
@@ -20,7 +21,7 @@ pub record HasHead (status_at count_at : ℕ) (bytes : List ℕ) : Type 0 where
   pub spelled : bytes ≡ (before ++ spell_compound_head status tag count) ++ behind
 
 -- The head there has this status and count now. What is before and behind it, and its tag, are the same.
-pub record SetsHead (status_at count_at status count : ℕ) (old new : Paper) : Type 0 where
-  pub bytes : (before : List ℕ) (s : ℕ) (tag : List ℕ) (n : ℕ) (behind : List ℕ) → HeadsAt status_at count_at before tag
+pub record SetsHead (status_at count_at : ℕ) (status : Status) (count : ℕ) (old new : Paper) : Type 0 where
+  pub bytes : (before : List ℕ) (s : Status) (tag : List ℕ) (n : ℕ) (behind : List ℕ) → HeadsAt status_at count_at before tag
       → old.bytes ≡ (before ++ spell_compound_head s tag n) ++ behind → new.bytes ≡ (before ++ spell_compound_head status tag count) ++ behind
   pub room : new.room ≡ old.room

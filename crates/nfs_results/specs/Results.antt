@@ -1,54 +1,194 @@
--- The table of results: how each is spelled, from its operation number on (RFC 5662; RFC 8881 section 18).
-use Rattle.std.specs.Prelude.{◌≢◌, ℕ, ◌<◌, ◌≤◌, ◌^◌, ◌==◌, List, [], ◌∷◌, ◌++◌, length, Bool, Option, Some, None, is_some, if◌then◌else◌}
+-- The table of results, by operation and then by status (RFC 5662; RFC 8881 section 18), in the order of the operations' numbers.
+use Rattle.std.specs.Prelude.{◌≡◌, ℕ, ◌≤◌, ◌<◌, ◌^◌, ◌==◌, ◌||◌, ◌&&◌, List, [], ◌++◌, length, Bool, not, nat_le, IsTrue, Option, Some, None, if◌then◌else◌}
 use Rattle.nfs_xdr.specs.Spelling as spelling
 use Rattle.nfs_xdr.specs.Reading.{◌>>=◌, number_at}
-use Rattle.nfs_xdr.specs.Status.{status_of}
-use Rattle.nfs_xdr.specs.Codec.{Codec, number, hyper, opaque, ◌then◌, as_type, only, choose, arm}
-use Rattle.nfs_results.specs.Result.{ExchangeIdOk, Res, ResExchangeId, Refused}
+use Rattle.nfs_xdr.specs.declared.status.Status.{Status}
+use Rattle.nfs_xdr.specs.declared.status.Status.TheVariants.{Nfs4Ok, Denied, OpIllegal, RepTooBig}
+use Rattle.nfs_xdr.specs.Status.{status_number, status}
+use Rattle.nfs_xdr.specs.Codec.{Codec, fixed, opaque, unbounded, arm, bare}
+use Rattle.nfs_compound.specs.declared.op_num.OpNum.{OpNum}
+use Rattle.nfs_compound.specs.declared.op_num.OpNum.TheVariants as Op
+use Rattle.nfs_compound.specs.OpNum.{op_number, op_num}
+use Rattle.nfs_compound.specs.Stateid.{stateid}
+use Rattle.nfs_results.specs.Items as item
+use Rattle.nfs_results.specs.Result.{Res, ResAccess, ResClose, ResCommit, ResCreate, ResGetAttr, ResGetFh, ResLink, ResLock, ResLockDenied, ResLockT, ResLockTDenied, ResLockU, ResLookup, ResLookupP, ResNVerify, ResOpen, ResOpenDowngrade, ResPutFh, ResPutPubFh, ResPutRootFh, ResRead, ResReadDir, ResReadLink, ResRemove, ResRename, ResRestoreFh, ResSaveFh, ResSetAttr, ResVerify, ResWrite, ResExchangeId, ResCreateSession, ResDestroySession, ResFreeStateid, ResSecinfoNoName, ResSequence, ResTestStateid, ResDestroyClientId, ResReclaimComplete, Refused}
 
--- the number of a status that this server answers
-unfoldable pub answers_status : ℕ → Bool
-answers_status n = is_some (status_of n)
+-- What makes a result: its operation number, its status, what is behind them, whether that fits, and what has to hold
+-- for that beside the sizes of numbers and of arrays, which their types tell.
+pub record Parts : Type 1 where
+  pub operation : ℕ
+  pub status : Status
+  pub behind : List ℕ
+  pub Fits : Type 0
+  pub Bound : Type 0
 
-abbrev pub status : Codec ℕ
-status = only answers_status number
+-- bytes that can be told with their length in front
+abbrev pub IsText : List ℕ → Type 0
+IsText bytes = length bytes < 2 ^ 32
 
--- a number that is always the same
-abbrev pub always : ℕ → Codec (Unit {0})
-always k = record { spell = λ _. spelling.number k; Fits = λ _. Unit {0}; read = λ bytes. number_at bytes >>= λ n. if n.0 == k then Some (tt, n.1) else None }
+abbrev pub with_status : {A : Type 0} → OpNum → Status → Codec A → A → Parts
+with_status op s c x = record { operation = op_number op; status = s; behind = c.spell x; Fits = c.Fits x; Bound = Unit {0} }
 
--- the client id, the number that CREATE_SESSION is to bear, flags, no state protection, the server's owner, its scope, no implementation
-unfoldable pub exchange_id : Codec ExchangeIdOk
-exchange_id = as_type (λ x. record { client = x.0; sequence = x.1.0; flags = x.1.1.0; minor = x.1.1.1.1.0; major = x.1.1.1.1.1.0; scope = x.1.1.1.1.1.1.0 }) (λ r. (r.client, (r.sequence, (r.flags, (tt, (r.minor, (r.major, (r.scope, tt))))))))
-    (hyper then number then number then always 0 then hyper then opaque 1024 then opaque 1024 then always 0)
+abbrev pub done : {A : Type 0} → OpNum → Codec A → A → Parts
+done op c x = with_status op Nfs4Ok c x
 
--- an operation that was done: its number, NFS4_OK and what is behind
-abbrev pub done : (operation : ℕ) (text : List ℕ) → List ℕ
-done operation text = spelling.number operation ++ (spelling.number 0 ++ text)
+abbrev pub alone : OpNum → Parts
+alone op = record { operation = op_number op; status = Nfs4Ok; behind = []; Fits = Unit {0}; Bound = Unit {0} }
 
--- A refusal has nothing behind its status.
+abbrev pub bounded : Type 0 → Parts → Parts
+bounded bound p = record { operation = p.operation; status = p.status; behind = p.behind; Fits = p.Fits; Bound = bound }
+
+-- A refusal is one of an operation of minor version 1, which are 3 to 58, or of OP_ILLEGAL. That one alone is illegal, and
+-- beside that its answer can only be too big.
+abbrev pub bears : ℕ → Status → Bool
+bears operation s =
+    if operation == 10044 then status_number s == status_number OpIllegal || status_number s == status_number RepTooBig
+    else nat_le 3 operation && nat_le operation 58 && not (status_number s == status_number Nfs4Ok || status_number s == status_number OpIllegal)
+
+-- SETATTR tells more than its status, and so do LOCK and LOCKT that are denied
+abbrev pub tells : ℕ → Status → Bool
+tells operation s = operation == op_number Op.SetAttr || ((operation == op_number Op.Lock || operation == op_number Op.LockT) && status_number s == status_number Denied)
+
+abbrev pub can_refuse : ℕ → Status → Bool
+can_refuse operation s = bears operation s && not (tells operation s)
+
+abbrev pub refused : ℕ → Status → Parts
+refused operation s = record { operation = operation; status = s; behind = []; Fits = IsTrue (can_refuse operation s); Bound = IsTrue (can_refuse operation s) }
+
+abbrev pub parts : Res → Parts
+parts (ResAccess a) = done Op.Access item.access a
+parts (ResClose s) = done Op.Close stateid s
+parts (ResCommit verifier) = done Op.Commit (fixed 8) verifier
+parts (ResCreate c) = done Op.Create item.create c
+parts (ResGetAttr f) = bounded (IsText f.attr_vals) (done Op.GetAttr item.fattr f)
+parts (ResGetFh object) = bounded (length object ≤ 128) (done Op.GetFh (opaque 128) object)
+parts (ResLink c) = done Op.Link item.change_info c
+parts (ResLock s) = done Op.Lock stateid s
+parts (ResLockDenied d) = bounded (length d.owner.owner ≤ 1024) (with_status Op.Lock Denied item.denied d)
+parts ResLockT = alone Op.LockT
+parts (ResLockTDenied d) = bounded (length d.owner.owner ≤ 1024) (with_status Op.LockT Denied item.denied d)
+parts (ResLockU s) = done Op.LockU stateid s
+parts ResLookup = alone Op.Lookup
+parts ResLookupP = alone Op.LookupP
+parts ResNVerify = alone Op.NVerify
+parts (ResOpen o) = done Op.Open item.open_ok o
+parts (ResOpenDowngrade s) = done Op.OpenDowngrade stateid s
+parts ResPutFh = alone Op.PutFh
+parts ResPutPubFh = alone Op.PutPubFh
+parts ResPutRootFh = alone Op.PutRootFh
+parts (ResRead r) = bounded (IsText r.bytes) (done Op.Read item.read_ok r)
+parts (ResReadDir r) = done Op.ReadDir item.read_dir r
+parts (ResReadLink link) = bounded (IsText link) (done Op.ReadLink unbounded link)
+parts (ResRemove c) = done Op.Remove item.change_info c
+parts (ResRename r) = done Op.Rename item.rename r
+parts ResRestoreFh = alone Op.RestoreFh
+parts ResSaveFh = alone Op.SaveFh
+parts (ResSetAttr s attrsset) = with_status Op.SetAttr s item.attr_set attrsset
+parts ResVerify = alone Op.Verify
+parts (ResWrite w) = done Op.Write item.write_ok w
+parts (ResExchangeId r) = bounded ((length r.major_id ≤ 1024) × (length r.server_scope ≤ 1024)) (done Op.ExchangeId item.exchange_id r)
+parts (ResCreateSession s) = done Op.CreateSession item.create_session s
+parts ResDestroySession = alone Op.DestroySession
+parts ResFreeStateid = alone Op.FreeStateid
+parts (ResSecinfoNoName flavors) = bounded (length flavors < 2 ^ 32) (done Op.SecinfoNoName item.flavors flavors)
+parts (ResSequence s) = done Op.Sequence item.sequence s
+parts (ResTestStateid codes) = bounded (IsTrue (item.are_statuses codes) × (length codes < 2 ^ 32)) (done Op.TestStateid item.status_codes codes)
+parts ResDestroyClientId = alone Op.DestroyClientId
+parts ResReclaimComplete = alone Op.ReclaimComplete
+parts (Refused operation s) = refused operation s
+
+-- which operation a result is of, and how that ended
+abbrev pub operation_of : Res → ℕ
+operation_of r = (parts r).operation
+
+abbrev pub status_of_result : Res → Status
+status_of_result r = (parts r).status
+
+abbrev pub head : (operation : ℕ) (s : Status) → List ℕ
+head operation s = spelling.number operation ++ spelling.number (status_number s)
+
 abbrev pub spell_result : Res → List ℕ
-spell_result (ResExchangeId r) = done 42 (exchange_id.spell r)
-spell_result (Refused operation code) = spelling.number operation ++ spelling.number code
+spell_result r = head (operation_of r) (status_of_result r) ++ (parts r).behind
 
 abbrev pub FitsResult : Res → Type 0
-FitsResult (ResExchangeId r) = exchange_id.Fits r
-FitsResult (Refused operation code) = (operation < 2 ^ 32) × status.Fits code × (code ≢ 0)
+FitsResult r = (parts r).Fits
 
--- what stands behind an operation number and NFS4_OK
-abbrev pub done_arms : List (ℕ × (List ℕ → Option (Res × List ℕ)))
-done_arms = (42, arm ResExchangeId exchange_id) ∷ []
+abbrev pub IsBounded : Res → Type 0
+IsBounded r = (parts r).Bound
 
-unfoldable pub done_at : ℕ → List ℕ → Option (Res × List ℕ)
-done_at operation bytes = choose done_arms operation bytes
+-- How an operation of this number is refused with no more told: SETATTR tells that nothing was set.
+abbrev pub refusal : ℕ → Status → Res
+refusal operation s = if operation == op_number Op.SetAttr then ResSetAttr s [] else Refused operation s
 
-abbrev pub behind : (operation code : ℕ) → List ℕ → Option (Res × List ℕ)
-behind operation code bytes = if code == 0 then done_at operation bytes else Some (Refused operation code, bytes)
+-- its arrays are as long as their types say
+abbrev pub HasArrays : Res → Type 0
+HasArrays (ResClose s) = length s.other ≡ 12
+HasArrays (ResCommit verifier) = length verifier ≡ 8
+HasArrays (ResLock s) = length s.other ≡ 12
+HasArrays (ResLockU s) = length s.other ≡ 12
+HasArrays (ResOpen o) = length o.stateid.other ≡ 12
+HasArrays (ResOpenDowngrade s) = length s.other ≡ 12
+HasArrays (ResReadDir r) = length r.cookieverf ≡ 8
+HasArrays (ResWrite w) = length w.writeverf ≡ 8
+HasArrays (ResCreateSession s) = length s.sessionid ≡ 16
+HasArrays (ResSequence s) = length s.sessionid ≡ 16
+HasArrays other = Unit {0}
+
+-- How it is read: what an operation that was done has behind NFS4_OK ..
+unfoldable pub done_at : OpNum → List ℕ → Option (Res × List ℕ)
+done_at Op.Access bytes = arm ResAccess item.access bytes
+done_at Op.Close bytes = arm ResClose stateid bytes
+done_at Op.Commit bytes = arm ResCommit (fixed 8) bytes
+done_at Op.Create bytes = arm ResCreate item.create bytes
+done_at Op.GetAttr bytes = arm ResGetAttr item.fattr bytes
+done_at Op.GetFh bytes = arm ResGetFh (opaque 128) bytes
+done_at Op.Link bytes = arm ResLink item.change_info bytes
+done_at Op.Lock bytes = arm ResLock stateid bytes
+done_at Op.LockT bytes = bare ResLockT bytes
+done_at Op.LockU bytes = arm ResLockU stateid bytes
+done_at Op.Lookup bytes = bare ResLookup bytes
+done_at Op.LookupP bytes = bare ResLookupP bytes
+done_at Op.NVerify bytes = bare ResNVerify bytes
+done_at Op.Open bytes = arm ResOpen item.open_ok bytes
+done_at Op.OpenDowngrade bytes = arm ResOpenDowngrade stateid bytes
+done_at Op.PutFh bytes = bare ResPutFh bytes
+done_at Op.PutPubFh bytes = bare ResPutPubFh bytes
+done_at Op.PutRootFh bytes = bare ResPutRootFh bytes
+done_at Op.Read bytes = arm ResRead item.read_ok bytes
+done_at Op.ReadDir bytes = arm ResReadDir item.read_dir bytes
+done_at Op.ReadLink bytes = arm ResReadLink unbounded bytes
+done_at Op.Remove bytes = arm ResRemove item.change_info bytes
+done_at Op.Rename bytes = arm ResRename item.rename bytes
+done_at Op.RestoreFh bytes = bare ResRestoreFh bytes
+done_at Op.SaveFh bytes = bare ResSaveFh bytes
+done_at Op.SetAttr bytes = arm (ResSetAttr Nfs4Ok) item.attr_set bytes
+done_at Op.Verify bytes = bare ResVerify bytes
+done_at Op.Write bytes = arm ResWrite item.write_ok bytes
+done_at Op.ExchangeId bytes = arm ResExchangeId item.exchange_id bytes
+done_at Op.CreateSession bytes = arm ResCreateSession item.create_session bytes
+done_at Op.DestroySession bytes = bare ResDestroySession bytes
+done_at Op.FreeStateid bytes = bare ResFreeStateid bytes
+done_at Op.SecinfoNoName bytes = arm ResSecinfoNoName item.flavors bytes
+done_at Op.Sequence bytes = arm ResSequence item.sequence bytes
+done_at Op.TestStateid bytes = arm ResTestStateid item.status_codes bytes
+done_at Op.DestroyClientId bytes = bare ResDestroyClientId bytes
+done_at Op.ReclaimComplete bytes = bare ResReclaimComplete bytes
+
+abbrev pub done_by : Option OpNum → List ℕ → Option (Res × List ℕ)
+done_by None bytes = None
+done_by (Some op) bytes = done_at op bytes
+
+-- .. and what one that was refused has behind its status.
+unfoldable pub refused_at : ℕ → Status → List ℕ → Option (Res × List ℕ)
+refused_at operation s bytes =
+    if operation == op_number Op.SetAttr then arm (ResSetAttr s) item.attr_set bytes
+    else if operation == op_number Op.Lock && status_number s == status_number Denied then arm ResLockDenied item.denied bytes
+    else if operation == op_number Op.LockT && status_number s == status_number Denied then arm ResLockTDenied item.denied bytes
+    else if can_refuse operation s then Some (Refused operation s, bytes)
+    else None
+
+abbrev pub behind : ℕ → Status → List ℕ → Option (Res × List ℕ)
+behind operation s bytes = if status_number s == status_number Nfs4Ok then done_by (op_num operation) bytes else refused_at operation s bytes
 
 abbrev pub result : Codec Res
-result = record { spell = spell_result; Fits = FitsResult; read = λ bytes. number_at bytes >>= λ operation. status.read operation.1 >>= λ code. behind operation.0 code.0 code.1 }
-
--- What is put with its length in front is within its bound.
-abbrev pub IsBounded : Res → Type 0
-IsBounded (ResExchangeId r) = (length r.major ≤ 1024) × (length r.scope ≤ 1024)
-IsBounded (Refused operation code) = Unit {0}
+result = record { spell = spell_result; Fits = FitsResult; read = λ bytes. number_at bytes >>= λ operation. status.read operation.1 >>= λ s. behind operation.0 s.0 s.1 }

@@ -2,7 +2,7 @@
 
 ghost use Rattle.std.specs.Prelude.{◌≤◌, length};
 ghost use Rattle.nfs_xdr.specs.Paper.{HasRoom, Puts};
-ghost use Rattle.nfs_xdr.specs.Status.{status_number};
+ghost use Rattle.nfs_xdr.specs.declared.status.Status.TheVariants.{Nfs4Ok};
 ghost use Rattle.nfs_results.specs.CompoundResult.{spell_compound_head};
 ghost use Rattle.nfs_results.specs.OpenHead.{HeadsAt, HasHead, SetsHead};
 
@@ -21,8 +21,8 @@ impl OpenHead {
     /// [`OpenHead::close`] sets the last two.
     pub fn put(tag: &[u8], out: &mut Sheet) -> OpenHead
         requires tag { length tag.now ≤ 1024 }
-        requires room { HasRoom out.old (spell_compound_head 0 tag.now 0) }
-        ensures puts { Puts out.old out.new (spell_compound_head 0 tag.now 0) }
+        requires room { HasRoom out.old (spell_compound_head Nfs4Ok tag.now 0) }
+        ensures puts { Puts out.old out.new (spell_compound_head Nfs4Ok tag.now 0) }
         ensures places { HeadsAt result.status_at result.count_at out.old.bytes tag.now }
     {
         let status_at = out.len();
@@ -36,7 +36,7 @@ impl OpenHead {
     /// Sets the status and the count of the head. Everything else on the sheet stays as it is.
     pub fn close(self, status: Status, count: u32, out: &mut Sheet)
         requires stands { HasHead self.status_at self.count_at out.old.bytes }
-        ensures { SetsHead self.status_at self.count_at (status_number status) count out.old out.new }
+        ensures { SetsHead self.status_at self.count_at status count out.old out.new }
     {
         out.set_u32(self.status_at, status.number());
         out.set_u32(self.count_at, count);
@@ -48,8 +48,8 @@ impl OpenHead {
 #[tactic(auto, using(nfs_xdr::proofs::Putting::putting))]
 pub fn write_compound_head(status: Status, tag: &[u8], count: u32, out: &mut Sheet)
     requires tag { length tag.now ≤ 1024 }
-    requires room { HasRoom out.old (spell_compound_head (status_number status) tag.now count) }
-    ensures { Puts out.old out.new (spell_compound_head (status_number status) tag.now count) }
+    requires room { HasRoom out.old (spell_compound_head status tag.now count) }
+    ensures { Puts out.old out.new (spell_compound_head status tag.now count) }
 {
     out.put_u32(status.number());
     out.put_opaque(tag);

@@ -12,18 +12,31 @@
 //! RFC 8881 sections 16.2.2 and 18, RFC 5662.
 #![tactic(auto)]
 
+mod entries;
 mod head;
+mod item_reading;
+mod item_writing;
 pub mod laws;
 mod limit;
 mod reading;
 mod reply;
 mod res;
+mod straight;
 #[cfg(test)]
 mod tests;
 mod writing;
 
+pub use entries::Entries;
 pub use head::{OpenHead, write_compound_head};
 pub use limit::largest;
+pub use reading::can_refuse;
 pub use reply::{Reply, read_reply};
-pub use res::{ExchangeIdOk, Res};
+pub use res::{
+    AccessOk, AttrSet, ChangeInfo, CreateOk, CreateSessionOk, Denied, Entry, ExchangeIdOk, Fattr,
+    Flavors, OpenOk, ReadDirOk, ReadOk, RenameOk, Res, SequenceOk, StatusCodes, WriteOk,
+};
+pub use straight::{
+    write_done_head, write_entry, write_list_end, write_read_dir_head, write_read_end,
+    write_read_head, write_test_stateid_head,
+};
 pub use writing::write;

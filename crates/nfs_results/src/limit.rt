@@ -1,9 +1,10 @@
 //! How large a result can be.
 
-ghost use Rattle.std.specs.Prelude.{◌≡◌, ◌≤◌, length};
+ghost use Rattle.std.specs.Prelude.{◌≡◌, ◌≤◌, ◌+◌, length};
+ghost use Rattle.nfs_xdr.specs.Spelling.{padding};
 ghost use Rattle.nfs_compound.specs.View.{item};
 ghost use Rattle.nfs_results.specs.Result.{Res};
-ghost use Rattle.nfs_results.specs.Results.{spell_result};
+ghost use Rattle.nfs_results.specs.Results.{spell_result, HasArrays};
 ghost use Rattle.nfs_results.specs.Largest as limit;
 
 use nfs_compound::Arg;
@@ -12,7 +13,7 @@ use nfs_compound::Arg;
 /// profile). A refusal always fits.
 pub fn largest(arg: &Arg<'_>) -> u64
     ensures value { result ≡ limit.largest (item arg.now) }
-    ensures within { (r : Res) → limit.MayAnswer (item arg.now) r → length (spell_result r) ≤ result }
+    ensures within { (r : Res) → HasArrays r → limit.MayAnswer (item arg.now) r → length (spell_result r) ≤ result }
 {
     size(arg)
 }
@@ -21,6 +22,32 @@ fn size(arg: &Arg<'_>) -> u64
     ensures { result ≡ limit.largest (item arg.now) }
 {
     match arg {
-        Arg::ExchangeId(_) | Arg::Fault { .. } => 64,
+        Arg::Sequence(_) => 44,
+        Arg::CreateSession(_) => 92,
+        Arg::Read(read) => 16 + padded(given(read.count)),
+        Arg::ReadDir(listed) => 8 + given(listed.maxcount),
+        Arg::Lock(_) | Arg::LockT(_) => 1064,
+        Arg::ReadLink => 1036,
+        Arg::GetAttr { .. } => 640,
+        Arg::GetFh => 28,
+        Arg::Open(_) => 128,
+        Arg::TestStateid { stateids } => 12 + 4 * stateids.spelled.len() as u64,
+        _ => 64,
     }
+}
+
+/// No more than this many bytes are given at once.
+fn given(count: u32) -> u64
+    ensures value { result ≡ limit.given count }
+    ensures bound { result ≤ 65536 }
+{
+    if count > 65_536 { 65_536 } else { count as u64 }
+}
+
+/// So many bytes, filled up to a whole word.
+fn padded(count: u64) -> u64
+    requires { count ≤ 65536 }
+    ensures { result ≡ count + padding count }
+{
+    count + (4 - count % 4) % 4
 }

@@ -1,12 +1,14 @@
 //! Reading results.
 
+ghost use Rattle.std.specs.Prelude.{◌≡◌};
 ghost use Rattle.nfs_xdr.specs.Reading.{Finds};
-ghost use Rattle.nfs_xdr.specs.Status.{status_number};
+ghost use Rattle.nfs_xdr.specs.Status.{status};
 ghost use Rattle.nfs_results.specs.Results as table;
 ghost use Rattle.nfs_results.specs.View as view;
 
-use crate::res::{ExchangeIdOk, Res};
-use nfs_compound::OP_EXCHANGE_ID;
+use crate::item_reading as item;
+use crate::res::Res;
+use nfs_compound::{OP_ILLEGAL, OpNum, Stateid};
 use nfs_xdr::{Cursor, Status, Unreadable};
 
 /// A result, from its operation number on. A refusal leaves the cursor anywhere.
@@ -16,26 +18,17 @@ pub fn res<'a>(c: &mut Cursor<'a>) -> Result<Res<'a>, Unreadable>
     let operation = c.u32()?;
     let status = status(c)?;
     if status.number() != Status::Nfs4Ok.number() {
-        return Ok(Res::Refused { operation, status });
+        return refused(operation, status, c);
     }
-    done(operation, c)
-}
-
-/// What stands behind an operation number and NFS4_OK.
-#[tactic(auto, unfolding(crate::specs::Results::done_at))]
-fn done<'a>(operation: u32, c: &mut Cursor<'a>) -> Result<Res<'a>, Unreadable>
-    ensures { Finds view.res result (table.done_at operation c.old) c.new }
-{
-    match operation {
-        OP_EXCHANGE_ID => Ok(Res::ExchangeId(exchange_id(c)?)),
-        _ => Err(Unreadable),
-    }
+    let Some(op) = OpNum::of(operation) else {
+        return Err(Unreadable);
+    };
+    done(op, c)
 }
 
 /// A status that this server answers.
-#[tactic(auto, unfolding(crate::specs::Results::answers_status))]
 pub fn status(c: &mut Cursor<'_>) -> Result<Status, Unreadable>
-    ensures { Finds status_number result (table.status.read c.old) c.new }
+    ensures { Finds (λ s. s) result (status.read c.old) c.new }
 {
     let number = c.u32()?;
     let Some(status) = Status::of(number) else {
@@ -44,35 +37,101 @@ pub fn status(c: &mut Cursor<'_>) -> Result<Status, Unreadable>
     Ok(status)
 }
 
-/// A number that is always the same.
-fn always(number: u32, c: &mut Cursor<'_>) -> Result<(), Unreadable>
-    ensures { Finds (λ x. tt) result ((table.always number).read c.old) c.new }
+/// What an operation that was done has behind NFS4_OK.
+#[tactic(auto, unfolding(crate::specs::Results::done_at))]
+fn done<'a>(op: OpNum, c: &mut Cursor<'a>) -> Result<Res<'a>, Unreadable>
+    ensures { Finds view.res result (table.done_at op c.old) c.new }
 {
-    if c.u32()? != number {
-        return Err(Unreadable);
-    }
-    Ok(())
+    Ok(match op {
+        OpNum::Access => Res::Access(item::access(c)?),
+        OpNum::Close => Res::Close(Stateid::read(c)?),
+        OpNum::Commit => Res::Commit(c.fixed::<8>()?),
+        OpNum::Create => Res::Create(item::create(c)?),
+        OpNum::GetAttr => Res::GetAttr(item::fattr(c)?),
+        OpNum::GetFh => Res::GetFh(c.opaque(128)?),
+        OpNum::Link => Res::Link(item::change_info(c)?),
+        OpNum::Lock => Res::Lock(Stateid::read(c)?),
+        OpNum::LockT => Res::LockT,
+        OpNum::LockU => Res::LockU(Stateid::read(c)?),
+        OpNum::Lookup => Res::Lookup,
+        OpNum::LookupP => Res::LookupP,
+        OpNum::NVerify => Res::NVerify,
+        OpNum::Open => Res::Open(item::open_ok(c)?),
+        OpNum::OpenDowngrade => Res::OpenDowngrade(Stateid::read(c)?),
+        OpNum::PutFh => Res::PutFh,
+        OpNum::PutPubFh => Res::PutPubFh,
+        OpNum::PutRootFh => Res::PutRootFh,
+        OpNum::Read => Res::Read(item::read_ok(c)?),
+        OpNum::ReadDir => Res::ReadDir(item::read_dir(c)?),
+        OpNum::ReadLink => Res::ReadLink(c.opaque(u32::MAX)?),
+        OpNum::Remove => Res::Remove(item::change_info(c)?),
+        OpNum::Rename => Res::Rename(item::rename(c)?),
+        OpNum::RestoreFh => Res::RestoreFh,
+        OpNum::SaveFh => Res::SaveFh,
+        OpNum::SetAttr => Res::SetAttr {
+            status: Status::Nfs4Ok,
+            attrsset: item::attr_set(c)?,
+        },
+        OpNum::Verify => Res::Verify,
+        OpNum::Write => Res::Write(item::write_ok(c)?),
+        OpNum::ExchangeId => Res::ExchangeId(item::exchange_id(c)?),
+        OpNum::CreateSession => Res::CreateSession(item::create_session(c)?),
+        OpNum::DestroySession => Res::DestroySession,
+        OpNum::FreeStateid => Res::FreeStateid,
+        OpNum::SecinfoNoName => Res::SecinfoNoName(item::flavors(c)?),
+        OpNum::Sequence => Res::Sequence(item::sequence(c)?),
+        OpNum::TestStateid => Res::TestStateid(item::status_codes(c)?),
+        OpNum::DestroyClientId => Res::DestroyClientId,
+        OpNum::ReclaimComplete => Res::ReclaimComplete,
+    })
 }
 
-/// A granted EXCHANGE_ID, behind NFS4_OK (RFC 8881 section 18.35.2).
-#[tactic(auto, unfolding(crate::specs::Results::exchange_id))]
-fn exchange_id<'a>(c: &mut Cursor<'a>) -> Result<ExchangeIdOk<'a>, Unreadable>
-    ensures { Finds view.exchange_id result (table.exchange_id.read c.old) c.new }
+/// What an operation that was refused has behind its status.
+#[tactic(auto, unfolding(crate::specs::Results::refused_at))]
+fn refused<'a>(operation: u32, status: Status, c: &mut Cursor<'a>) -> Result<Res<'a>, Unreadable>
+    ensures { Finds view.res result (table.refused_at operation status c.old) c.new }
 {
-    let client = c.u64()?;
-    let sequence = c.u32()?;
-    let flags = c.u32()?;
-    always(0, c)?;
-    let minor = c.u64()?;
-    let major = c.opaque(1024)?;
-    let scope = c.opaque(1024)?;
-    always(0, c)?;
-    Ok(ExchangeIdOk {
-        client,
-        sequence,
-        flags,
-        minor,
-        major,
-        scope,
-    })
+    if operation == OpNum::SetAttr.number() {
+        let attrsset = item::attr_set(c)?;
+        return Ok(Res::SetAttr { status, attrsset });
+    }
+    let denied = status.number() == Status::Denied.number();
+    if operation == OpNum::Lock.number() && denied {
+        return Ok(Res::LockDenied(item::denied(c)?));
+    }
+    if operation == OpNum::LockT.number() && denied {
+        return Ok(Res::LockTDenied(item::denied(c)?));
+    }
+    if !can_refuse(operation, status) {
+        return Err(Unreadable);
+    }
+    Ok(Res::Refused { operation, status })
+}
+
+/// Whether a reply can bear this number and this status with nothing behind them.
+pub fn can_refuse(operation: u32, status: Status) -> bool
+    ensures { result ≡ table.can_refuse operation status }
+{
+    bears(operation, status) && !tells(operation, status)
+}
+
+/// Whether an operation of this number can be refused with this status.
+fn bears(operation: u32, status: Status) -> bool
+    ensures { result ≡ table.bears operation status }
+{
+    let number = status.number();
+    if operation == OP_ILLEGAL {
+        return number == Status::OpIllegal.number() || number == Status::RepTooBig.number();
+    }
+    let own = number == Status::Nfs4Ok.number() || number == Status::OpIllegal.number();
+    operation >= 3 && operation <= 58 && !own
+}
+
+/// Whether it then has more behind its status.
+fn tells(operation: u32, status: Status) -> bool
+    ensures { result ≡ table.tells operation status }
+{
+    let denied = status.number() == Status::Denied.number();
+    let locks = operation == OpNum::Lock.number() || operation == OpNum::LockT.number();
+    operation == OpNum::SetAttr.number() || locks && denied
 }

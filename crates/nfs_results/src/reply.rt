@@ -1,7 +1,6 @@
 //! The result of a compound, read again.
 
 ghost use Rattle.std.specs.Prelude.{◌≡◌, [], ◌∷◌, Some, None, MatchOption, MatchResult, IfOk, OnErr};
-ghost use Rattle.nfs_xdr.specs.Status.{status_number};
 ghost use Rattle.nfs_xdr.specs.Codec.{many_at};
 ghost use Rattle.nfs_results.specs.Results as table;
 ghost use Rattle.nfs_results.specs.CompoundResult.{compound_result, IsReply, IsNoReply};
@@ -24,13 +23,12 @@ pub struct Reply<'a> {
 }
 
 impl<'a> Model for Reply<'a> {
-    ghost use Rattle.nfs_xdr.specs.Status.{status_number};
     ghost use Rattle.nfs_results.specs.CompoundResult.{CompoundResult};
     ghost use Rattle.nfs_results.specs.ReadReply.{results_left};
 
     ghost Value = { CompoundResult };
 
-    ghost view = { λ a. record { status = status_number a.status; tag = a.tag.now; results = results_left a.left a.cursor } };
+    ghost view = { λ a. record { status = a.status; tag = a.tag.now; results = results_left a.left a.cursor } };
 }
 
 /// Reads the result of a compound, to the last byte (RFC 8881 section 16.2.2).
@@ -69,9 +67,10 @@ fn are_whole(count: u32, bytes: &[u8]) -> bool
 {
     let mut cursor = Cursor::new(bytes);
     for _ in 0..count {
-        let Ok(_) = reading::res(&mut cursor) else {
-            return false;
-        };
+        match reading::res(&mut cursor) {
+            Ok(_) => {}
+            Err(_) => return false,
+        }
     }
     cursor.left() == 0
 }
@@ -79,7 +78,7 @@ fn are_whole(count: u32, bytes: &[u8]) -> bool
 impl<'a> Reply<'a> {
     /// How the compound ended.
     pub fn status(&self) -> Status
-        ensures { status_number result ≡ self.now.status }
+        ensures { result ≡ self.now.status }
     {
         self.status
     }

@@ -1,31 +1,262 @@
 //! The results of operations.
 
+use crate::entries::Entries;
+use nfs_compound::{ChannelAttrs, LockType, StableHow, StateOwner, Stateid};
 use nfs_xdr::Status;
 
-/// What an operation answers.
-#[derive(Clone, Copy, Debug)]
+/// What an operation answers: a variant for each operation that was done, and what RFC 5662 has behind the
+/// status of one that was not.
+#[derive(Debug, Drop)]
 pub enum Res<'a> {
-    /// EXCHANGE_ID was granted (RFC 8881 section 18.35.2).
+    /// RFC 8881 section 18.1.
+    Access(AccessOk),
+    /// The stateid that is left of the open (RFC 8881 section 18.2).
+    Close(Stateid),
+    /// The write verifier (RFC 8881 section 18.3).
+    Commit([u8; 8]),
+    /// RFC 8881 section 18.4.
+    Create(CreateOk),
+    /// RFC 8881 section 18.7.
+    GetAttr(Fattr<'a>),
+    /// The filehandle, of at most 128 bytes (RFC 8881 section 18.8).
+    GetFh(&'a [u8]),
+    /// The directory's change (RFC 8881 section 18.9).
+    Link(ChangeInfo),
+    /// The lock stateid (RFC 8881 section 18.10).
+    Lock(Stateid),
+    /// NFS4ERR_DENIED to a LOCK, and the lock in its way (RFC 8881 section 18.10).
+    LockDenied(Denied<'a>),
+    /// RFC 8881 section 18.11.
+    LockT,
+    /// NFS4ERR_DENIED to a LOCKT, and the lock in its way (RFC 8881 section 18.11).
+    LockTDenied(Denied<'a>),
+    /// The lock stateid (RFC 8881 section 18.12).
+    LockU(Stateid),
+    /// RFC 8881 section 18.13.
+    Lookup,
+    /// RFC 8881 section 18.14.
+    LookupP,
+    /// RFC 8881 section 18.15.
+    NVerify,
+    /// RFC 8881 section 18.16.
+    Open(OpenOk),
+    /// The open stateid (RFC 8881 section 18.18).
+    OpenDowngrade(Stateid),
+    /// RFC 8881 section 18.19.
+    PutFh,
+    /// RFC 8881 section 18.20.
+    PutPubFh,
+    /// RFC 8881 section 18.21.
+    PutRootFh,
+    /// RFC 8881 section 18.22.
+    Read(ReadOk<'a>),
+    /// RFC 8881 section 18.23.
+    ReadDir(ReadDirOk<'a>),
+    /// The text of the link, below 2^32 bytes (RFC 8881 section 18.24).
+    ReadLink(&'a [u8]),
+    /// The directory's change (RFC 8881 section 18.25).
+    Remove(ChangeInfo),
+    /// RFC 8881 section 18.26.
+    Rename(RenameOk),
+    /// RFC 8881 section 18.27.
+    RestoreFh,
+    /// RFC 8881 section 18.28.
+    SaveFh,
+    /// SETATTR, done or refused: it tells with every status which attributes were set (RFC 8881 section
+    /// 18.30.2).
+    SetAttr { status: Status, attrsset: AttrSet },
+    /// RFC 8881 section 18.31.
+    Verify,
+    /// RFC 8881 section 18.32.
+    Write(WriteOk),
+    /// RFC 8881 section 18.35.
     ExchangeId(ExchangeIdOk<'a>),
-    /// An operation was refused: its number, or that of OP_ILLEGAL, and a status other than NFS4_OK
-    /// (RFC 8881 section 15).
+    /// RFC 8881 section 18.36.
+    CreateSession(CreateSessionOk),
+    /// RFC 8881 section 18.37.
+    DestroySession,
+    /// RFC 8881 section 18.38.
+    FreeStateid,
+    /// RFC 8881 section 18.45.
+    SecinfoNoName(Flavors<'a>),
+    /// RFC 8881 section 18.46.
+    Sequence(SequenceOk),
+    /// RFC 8881 section 18.48.
+    TestStateid(StatusCodes<'a>),
+    /// RFC 8881 section 18.50.
+    DestroyClientId,
+    /// RFC 8881 section 18.51.
+    ReclaimComplete,
+    /// An operation was refused, and nothing is told beside that (RFC 8881 section 15): its number, from 3 to
+    /// 58 whether or not this server reads it, or that of OP_ILLEGAL, and a status other than NFS4_OK.
     Refused { operation: u32, status: Status },
+}
+
+/// Which access is known and which is given, in ACCESS4 bits (RFC 8881 section 18.1.2).
+#[derive(Clone, Copy, Debug, PartialEq, Eq)]
+pub struct AccessOk {
+    pub supported: u32,
+    pub access: u32,
+}
+
+/// How a directory changed (change_info4, RFC 8881 section 3.3.4).
+#[derive(Clone, Copy, Debug, PartialEq, Eq)]
+pub struct ChangeInfo {
+    /// Whether nothing else changed it in between.
+    pub atomic: bool,
+    pub before: u64,
+    pub after: u64,
+}
+
+/// A set of attributes below number 96 (bitmap4, RFC 8881 section 3.2). It is spelled without zero words at
+/// its end.
+#[derive(Clone, Copy, Debug, PartialEq, Eq)]
+pub struct AttrSet {
+    /// Bit `i` of word `w` is attribute `32 * w + i`.
+    pub words: [u32; 3],
+}
+
+/// An object that was made (RFC 8881 section 18.4.2).
+#[derive(Clone, Copy, Debug, PartialEq, Eq)]
+pub struct CreateOk {
+    /// The directory's change.
+    pub cinfo: ChangeInfo,
+    /// The attributes that were set.
+    pub attrset: AttrSet,
+}
+
+/// Attributes and their values (fattr4, RFC 8881 section 3.3.7).
+#[derive(Clone, Copy, Debug, PartialEq, Eq)]
+pub struct Fattr<'a> {
+    pub attrmask: AttrSet,
+    /// The values, one behind the other in rising order of attribute: below 2^32 bytes.
+    pub attr_vals: &'a [u8],
+}
+
+/// The lock that is in the way (RFC 8881 section 18.10.2).
+#[derive(Clone, Copy, Debug, PartialEq, Eq)]
+pub struct Denied<'a> {
+    /// Its first byte.
+    pub offset: u64,
+    /// Its length in bytes; all ones is up to the last byte that there can be.
+    pub length: u64,
+    /// How it is held.
+    pub locktype: LockType,
+    /// Who holds it.
+    pub owner: StateOwner<'a>,
+}
+
+/// A file that was opened, with no delegation (RFC 8881 section 18.16.2). Its locks are POSIX locks, and it
+/// stays while it is open (OPEN4_RESULT_LOCKTYPE_POSIX and OPEN4_RESULT_PRESERVE_UNLINKED; this server's
+/// profile).
+#[derive(Clone, Copy, Debug, PartialEq, Eq)]
+pub struct OpenOk {
+    /// The open stateid.
+    pub stateid: Stateid,
+    /// The directory's change.
+    pub cinfo: ChangeInfo,
+    /// The attributes that were set.
+    pub attrset: AttrSet,
+}
+
+/// Bytes of a file (RFC 8881 section 18.22.2).
+#[derive(Clone, Copy, Debug, PartialEq, Eq)]
+pub struct ReadOk<'a> {
+    /// Whether what is given ends where the file does.
+    pub eof: bool,
+    /// Below 2^32 bytes.
+    pub data: &'a [u8],
+}
+
+/// Entries of a directory (RFC 8881 section 18.23.2).
+#[derive(Debug, Drop)]
+pub struct ReadDirOk<'a> {
+    pub cookieverf: [u8; 8],
+    pub entries: Entries<'a>,
+    /// Whether no entry is left behind these.
+    pub eof: bool,
+}
+
+/// An entry of a directory (entry4, RFC 8881 section 18.23.2).
+#[derive(Clone, Copy, Debug, PartialEq, Eq)]
+pub struct Entry<'a> {
+    pub cookie: u64,
+    /// Below 2^32 bytes.
+    pub name: &'a [u8],
+    pub attrs: Fattr<'a>,
+}
+
+/// A name that was moved (RFC 8881 section 18.26.2).
+#[derive(Clone, Copy, Debug, PartialEq, Eq)]
+pub struct RenameOk {
+    /// The change of the directory that it left.
+    pub source_cinfo: ChangeInfo,
+    /// The change of the directory that it is in.
+    pub target_cinfo: ChangeInfo,
+}
+
+/// Bytes that were written (RFC 8881 section 18.32.2).
+#[derive(Clone, Copy, Debug, PartialEq, Eq)]
+pub struct WriteOk {
+    /// How many bytes.
+    pub count: u32,
+    /// How lasting they are.
+    pub committed: StableHow,
+    pub writeverf: [u8; 8],
 }
 
 /// A granted EXCHANGE_ID, with no state protection and no implementation told (RFC 8881 section 18.35.2;
 /// this server's profile).
-#[derive(Clone, Copy, Debug)]
+#[derive(Clone, Copy, Debug, PartialEq, Eq)]
 pub struct ExchangeIdOk<'a> {
     /// The client id.
-    pub client: u64,
+    pub clientid: u64,
     /// The number that the client's next CREATE_SESSION is to bear.
-    pub sequence: u32,
+    pub sequenceid: u32,
     /// EXCHGID4_FLAG bits (RFC 8881 section 18.35.3).
     pub flags: u32,
     /// The minor id of the server's owner.
-    pub minor: u64,
+    pub minor_id: u64,
     /// The major id of the server's owner: at most 1,024 bytes.
-    pub major: &'a [u8],
-    /// The server's scope: at most 1,024 bytes.
-    pub scope: &'a [u8],
+    pub major_id: &'a [u8],
+    /// At most 1,024 bytes.
+    pub server_scope: &'a [u8],
+}
+
+/// A session that was made (RFC 8881 section 18.36.2).
+#[derive(Clone, Copy, Debug, PartialEq, Eq)]
+pub struct CreateSessionOk {
+    pub sessionid: [u8; 16],
+    /// The number that the call bore.
+    pub sequence: u32,
+    /// CREATE_SESSION4_FLAG bits.
+    pub flags: u32,
+    pub fore_chan_attrs: ChannelAttrs,
+    pub back_chan_attrs: ChannelAttrs,
+}
+
+/// The security flavors of a directory, lent (RFC 8881 section 18.45.2, 18.29.2).
+#[derive(Clone, Copy, Debug, PartialEq, Eq)]
+pub struct Flavors<'a> {
+    /// Each as it is spelled: big-endian. Fewer than 2^32.
+    pub spelled: &'a [[u8; 4]],
+}
+
+/// An accepted SEQUENCE (RFC 8881 section 18.46.2).
+#[derive(Clone, Copy, Debug, PartialEq, Eq)]
+pub struct SequenceOk {
+    pub sessionid: [u8; 16],
+    pub sequenceid: u32,
+    pub slotid: u32,
+    pub highest_slotid: u32,
+    pub target_highest_slotid: u32,
+    /// SEQ4_STATUS bits.
+    pub status_flags: u32,
+}
+
+/// What became of the stateids that were asked for, lent (RFC 8881 section 18.48.2).
+#[derive(Clone, Copy, Debug, PartialEq, Eq)]
+pub struct StatusCodes<'a> {
+    /// The number of a status each, as it is spelled: big-endian. Fewer than 2^32.
+    pub spelled: &'a [[u8; 4]],
 }

@@ -5,4 +5,4 @@ use Rattle.nfs_results.proofs.Lengths.{length_result}
 use Rattle.nfs_results.proofs.limit.largest.Goals as goal
 
 pub returns-clause-within : goal.returns-clause-within
-returns-clause-within c = λ r may. subst (λ (n : ℕ). length (spell_result r) ≤ n) (sym c.size.ensures) (length_result (item c.args.arg.now) r may)
+returns-clause-within c = λ r arrays may. subst (λ (n : ℕ). length (spell_result r) ≤ n) (sym c.size.ensures) (length_result (item c.args.arg.now) r arrays may)

@@ -1,0 +1,125 @@
+-- How the items of results are spelled (RFC 5662). What is put together is named in the order of its bytes.
+use Rattle.std.specs.Prelude.{ℕ, ◌==◌, List, [], ◌∷◌, length, Bool, true, not, is_some, Option, Some, None, if◌then◌else◌}
+use Rattle.std.specs.Int.{w32, from_be_bytes}
+use Rattle.std.specs.List.{list_all}
+use Rattle.nfs_xdr.specs.Spelling as spelling
+use Rattle.nfs_xdr.specs.Reading.{◌>>=◌, number_at}
+use Rattle.nfs_xdr.specs.Status.{status_of}
+use Rattle.nfs_xdr.specs.Codec.{Codec, number, hyper, flag, fixed, opaque, unbounded, ◌then◌, as_type, only, few, pieces}
+use Rattle.nfs_xdr.specs.Chain.{chain}
+use Rattle.nfs_compound.specs.Stateid.{stateid}
+use Rattle.nfs_compound.specs.StateOwner.{state_owner}
+use Rattle.nfs_compound.specs.ChannelAttrs.{channel_attrs}
+use Rattle.nfs_compound.specs.LockArgs.{lock_type}
+use Rattle.nfs_compound.specs.FileArgs.{stable_how}
+use Rattle.nfs_results.specs.declared.res.AccessOk.{AccessOk}
+use Rattle.nfs_results.specs.declared.res.ChangeInfo.{ChangeInfo}
+use Rattle.nfs_results.specs.declared.res.RenameOk.{RenameOk}
+use Rattle.nfs_results.specs.declared.res.WriteOk.{WriteOk}
+use Rattle.nfs_results.specs.declared.res.CreateSessionOk.{CreateSessionOk}
+use Rattle.nfs_results.specs.declared.res.SequenceOk.{SequenceOk}
+use Rattle.nfs_results.specs.Result.{CreateOk, Fattr, Denied, OpenOk, ReadOk, Entry, ReadDirOk, ExchangeIdOk}
+
+-- a number that is always the same
+abbrev pub always : ℕ → Codec (Unit {0})
+always k = record { spell = λ _. spelling.number k; Fits = λ _. Unit {0}; read = λ bytes. number_at bytes >>= λ n. if n.0 == k then Some (tt, n.1) else None }
+
+-- a word that is not zero
+abbrev pub last_word : Codec ℕ
+last_word = only (λ word. not (word == 0)) number
+
+-- bitmap4 of attributes below 96, in which no word at the end is zero
+abbrev pub is_trimmed : List ℕ → Bool
+is_trimmed [] = true
+is_trimmed (word ∷ []) = not (word == 0)
+is_trimmed (word ∷ next ∷ words) = is_trimmed (next ∷ words)
+
+unfoldable pub attr_set : Codec (List ℕ)
+attr_set = only is_trimmed (few 3 number)
+
+-- fattr4
+unfoldable pub fattr : Codec Fattr
+fattr = as_type (λ (attrmask, attr_vals). record { attrmask = attrmask; attr_vals = attr_vals }) (λ f. (f.attrmask, f.attr_vals)) (attr_set then unbounded)
+
+-- change_info4
+unfoldable pub change_info : Codec ChangeInfo
+change_info = as_type (λ (atomic, (before, after)). record { atomic = atomic; before = before; after = after }) (λ c. (c.atomic, (c.before, c.after))) (flag then hyper then hyper)
+
+unfoldable pub access : Codec AccessOk
+access = as_type (λ (supported, access). record { supported = supported; access = access }) (λ a. (a.supported, a.access)) (number then number)
+
+unfoldable pub create : Codec CreateOk
+create = as_type (λ (cinfo, attrset). record { cinfo = cinfo; attrset = attrset }) (λ c. (c.cinfo, c.attrset)) (change_info then attr_set)
+
+unfoldable pub denied : Codec Denied
+denied = as_type (λ (offset, (extent, (locktype, owner))). record { offset = offset; extent = extent; locktype = locktype; owner = owner }) (λ d. (d.offset, (d.extent, (d.locktype, d.owner))))
+    (hyper then hyper then lock_type then state_owner)
+
+-- The flags are OPEN4_RESULT_LOCKTYPE_POSIX and OPEN4_RESULT_PRESERVE_UNLINKED, and the delegation is none.
+unfoldable pub open_ok : Codec OpenOk
+open_ok = as_type (λ (stateid, (cinfo, (rflags, (attrset, delegation)))). record { stateid = stateid; cinfo = cinfo; attrset = attrset }) (λ o. (o.stateid, (o.cinfo, (tt, (o.attrset, tt)))))
+    (stateid then change_info then always 12 then attr_set then always 0)
+
+unfoldable pub read_ok : Codec ReadOk
+read_ok = as_type (λ (eof, bytes). record { eof = eof; bytes = bytes }) (λ r. (r.eof, r.bytes)) (flag then unbounded)
+
+unfoldable pub entry : Codec Entry
+entry = as_type (λ (cookie, (name, attrs)). record { cookie = cookie; name = name; attrs = attrs }) (λ e. (e.cookie, (e.name, e.attrs))) (hyper then unbounded then fattr)
+
+unfoldable pub read_dir : Codec ReadDirOk
+read_dir = as_type (λ (cookieverf, (entries, eof)). record { cookieverf = cookieverf; entries = entries; eof = eof }) (λ r. (r.cookieverf, (r.entries, r.eof))) (fixed 8 then chain entry then flag)
+
+unfoldable pub rename : Codec RenameOk
+rename = as_type (λ (source_cinfo, target_cinfo). record { source_cinfo = source_cinfo; target_cinfo = target_cinfo }) (λ r. (r.source_cinfo, r.target_cinfo)) (change_info then change_info)
+
+unfoldable pub write_ok : Codec WriteOk
+write_ok = as_type (λ (count, (committed, writeverf)). record { count = count; committed = committed; writeverf = writeverf }) (λ w. (w.count, (w.committed, w.writeverf))) (number then stable_how then fixed 8)
+
+-- The state protection is none, and no implementation is told.
+unfoldable pub exchange_id : Codec ExchangeIdOk
+exchange_id = as_type
+    (λ (clientid, (sequenceid, (flags, (protection, (minor_id, (major_id, (server_scope, implementations))))))). record {
+      clientid = clientid;
+      sequenceid = sequenceid;
+      flags = flags;
+      minor_id = minor_id;
+      major_id = major_id;
+      server_scope = server_scope;
+    })
+    (λ r. (r.clientid, (r.sequenceid, (r.flags, (tt, (r.minor_id, (r.major_id, (r.server_scope, tt))))))))
+    (hyper then number then number then always 0 then hyper then opaque 1024 then opaque 1024 then always 0)
+
+unfoldable pub create_session : Codec CreateSessionOk
+create_session = as_type
+    (λ (sessionid, (sequence, (flags, (fore_chan_attrs, back_chan_attrs)))). record {
+      sessionid = sessionid;
+      sequence = sequence;
+      flags = flags;
+      fore_chan_attrs = fore_chan_attrs;
+      back_chan_attrs = back_chan_attrs;
+    })
+    (λ s. (s.sessionid, (s.sequence, (s.flags, (s.fore_chan_attrs, s.back_chan_attrs)))))
+    (fixed 16 then number then number then channel_attrs then channel_attrs)
+
+unfoldable pub flavors : Codec (List ℕ)
+flavors = pieces 4 (from_be_bytes w32) number
+
+unfoldable pub sequence : Codec SequenceOk
+sequence = as_type
+    (λ (sessionid, (sequenceid, (slotid, (highest_slotid, (target_highest_slotid, status_flags))))). record {
+      sessionid = sessionid;
+      sequenceid = sequenceid;
+      slotid = slotid;
+      highest_slotid = highest_slotid;
+      target_highest_slotid = target_highest_slotid;
+      status_flags = status_flags;
+    })
+    (λ s. (s.sessionid, (s.sequenceid, (s.slotid, (s.highest_slotid, (s.target_highest_slotid, s.status_flags))))))
+    (fixed 16 then number then number then number then number then number)
+
+-- the numbers of statuses
+abbrev pub are_statuses : List ℕ → Bool
+are_statuses codes = list_all (λ n. is_some (status_of n)) codes
+
+unfoldable pub status_codes : Codec (List ℕ)
+status_codes = only are_statuses (pieces 4 (from_be_bytes w32) number)

@@ -1,0 +1,39 @@
+-- The parts of results whose bytes come straight from where they are kept: what is put in front of them and behind them.
+use Rattle.std.specs.Prelude.{ℕ, List, ◌++◌, length, Bool, true, false, replicate}
+use Rattle.std.specs.List.{flat_map}
+use Rattle.nfs_xdr.specs.Spelling.{number, hyper, flag, fixed, opaque, padding}
+use Rattle.nfs_xdr.specs.declared.status.Status.TheVariants.{Nfs4Ok}
+use Rattle.nfs_compound.specs.declared.op_num.OpNum.{OpNum}
+use Rattle.nfs_compound.specs.declared.op_num.OpNum.TheVariants as Op
+use Rattle.nfs_compound.specs.OpNum.{op_number}
+use Rattle.nfs_results.specs.Items as item
+use Rattle.nfs_results.specs.Result.{Entry}
+use Rattle.nfs_results.specs.Results.{head}
+
+-- in front of all that an operation has behind NFS4_OK
+abbrev pub done_head : OpNum → List ℕ
+done_head op = head (op_number op) Nfs4Ok
+
+-- READ: in front of so many bytes, and the zeros behind them
+abbrev pub read_head : (eof : Bool) (count : ℕ) → List ℕ
+read_head eof count = done_head Op.Read ++ (flag eof ++ number count)
+
+abbrev pub read_end : (count : ℕ) → List ℕ
+read_end count = replicate (padding count) 0
+
+-- READDIR: in front of the entries, in front of an entry's attributes, and behind the entries
+abbrev pub read_dir_head : (cookieverf : List ℕ) → List ℕ
+read_dir_head cookieverf = done_head Op.ReadDir ++ fixed cookieverf
+
+abbrev pub entry_head : (cookie : ℕ) (name : List ℕ) → List ℕ
+entry_head cookie name = flag true ++ (hyper cookie ++ opaque name)
+
+abbrev pub list_end : (eof : Bool) → List ℕ
+list_end eof = flag false ++ flag eof
+
+abbrev pub entry_text : Entry → List ℕ
+entry_text e = entry_head e.cookie e.name ++ item.fattr.spell e.attrs
+
+-- TEST_STATEID: in front of so many statuses
+abbrev pub test_stateid_head : (count : ℕ) → List ℕ
+test_stateid_head count = done_head Op.TestStateid ++ number count

@@ -1,0 +1,288 @@
+//! Reading what stands behind the status of a result. A refusal leaves the cursor anywhere.
+
+ghost use Rattle.std.specs.Prelude.{◌≡◌, ◌==◌, map, is_some, not};
+ghost use Rattle.std.specs.Int.{w32, from_be_bytes};
+ghost use Rattle.nfs_xdr.specs.Reading.{Finds};
+ghost use Rattle.nfs_xdr.specs.Status.{status_of};
+ghost use Rattle.nfs_results.specs.Items as table;
+ghost use Rattle.nfs_results.specs.View as view;
+
+use crate::entries::Entries;
+use crate::res::{
+    AccessOk, AttrSet, ChangeInfo, CreateOk, CreateSessionOk, Denied, Entry, ExchangeIdOk, Fattr,
+    Flavors, OpenOk, ReadDirOk, ReadOk, RenameOk, SequenceOk, StatusCodes, WriteOk,
+};
+use nfs_compound::{ChannelAttrs, LockType, StableHow, StateOwner, Stateid};
+use nfs_xdr::{Cursor, Status, Unreadable};
+
+/// A number that is always the same.
+fn always(number: u32, c: &mut Cursor<'_>) -> Result<(), Unreadable>
+    ensures { Finds (λ x. tt) result ((table.always number).read c.old) c.new }
+{
+    if c.u32()? != number {
+        return Err(Unreadable);
+    }
+    Ok(())
+}
+
+#[tactic(auto, unfolding(crate::specs::Items::access))]
+pub fn access(c: &mut Cursor<'_>) -> Result<AccessOk, Unreadable>
+    ensures { Finds (λ a. a) result (table.access.read c.old) c.new }
+{
+    let supported = c.u32()?;
+    let access = c.u32()?;
+    Ok(AccessOk { supported, access })
+}
+
+#[tactic(auto, unfolding(crate::specs::Items::change_info))]
+pub fn change_info(c: &mut Cursor<'_>) -> Result<ChangeInfo, Unreadable>
+    ensures { Finds (λ i. i) result (table.change_info.read c.old) c.new }
+{
+    let atomic = c.flag()?;
+    let before = c.u64()?;
+    let after = c.u64()?;
+    Ok(ChangeInfo {
+        atomic,
+        before,
+        after,
+    })
+}
+
+/// A set of attributes below 96, with no word at its end that is zero.
+#[tactic(auto, unfolding(crate::specs::Items::attr_set))]
+pub fn attr_set(c: &mut Cursor<'_>) -> Result<AttrSet, Unreadable>
+    ensures { Finds view.attr_set result (table.attr_set.read c.old) c.new }
+{
+    let words = match c.u32()? {
+        0 => [0, 0, 0],
+        1 => [last_word(c)?, 0, 0],
+        2 => [c.u32()?, last_word(c)?, 0],
+        3 => [c.u32()?, c.u32()?, last_word(c)?],
+        _ => return Err(Unreadable),
+    };
+    Ok(AttrSet { words })
+}
+
+/// A number that is not zero.
+fn last_word(c: &mut Cursor<'_>) -> Result<u32, Unreadable>
+    ensures { Finds (λ n. n) result (table.last_word.read c.old) c.new }
+{
+    let word = c.u32()?;
+    if word == 0 {
+        return Err(Unreadable);
+    }
+    Ok(word)
+}
+
+#[tactic(auto, unfolding(crate::specs::Items::create))]
+pub fn create(c: &mut Cursor<'_>) -> Result<CreateOk, Unreadable>
+    ensures { Finds view.create result (table.create.read c.old) c.new }
+{
+    let cinfo = change_info(c)?;
+    let attrset = attr_set(c)?;
+    Ok(CreateOk { cinfo, attrset })
+}
+
+#[tactic(auto, unfolding(crate::specs::Items::fattr))]
+pub fn fattr<'a>(c: &mut Cursor<'a>) -> Result<Fattr<'a>, Unreadable>
+    ensures { Finds view.fattr result (table.fattr.read c.old) c.new }
+{
+    let attrmask = attr_set(c)?;
+    let attr_vals = c.opaque(u32::MAX)?;
+    Ok(Fattr {
+        attrmask,
+        attr_vals,
+    })
+}
+
+#[tactic(auto, unfolding(crate::specs::Items::denied))]
+pub fn denied<'a>(c: &mut Cursor<'a>) -> Result<Denied<'a>, Unreadable>
+    ensures { Finds view.denied result (table.denied.read c.old) c.new }
+{
+    let offset = c.u64()?;
+    let length = c.u64()?;
+    let locktype = LockType::read(c)?;
+    let owner = StateOwner::read(c)?;
+    Ok(Denied {
+        offset,
+        length,
+        locktype,
+        owner,
+    })
+}
+
+#[tactic(auto, unfolding(crate::specs::Items::open_ok))]
+pub fn open_ok(c: &mut Cursor<'_>) -> Result<OpenOk, Unreadable>
+    ensures { Finds view.open_ok result (table.open_ok.read c.old) c.new }
+{
+    let stateid = Stateid::read(c)?;
+    let cinfo = change_info(c)?;
+    always(12, c)?;
+    let attrset = attr_set(c)?;
+    always(0, c)?;
+    Ok(OpenOk {
+        stateid,
+        cinfo,
+        attrset,
+    })
+}
+
+#[tactic(auto, unfolding(crate::specs::Items::read_ok))]
+pub fn read_ok<'a>(c: &mut Cursor<'a>) -> Result<ReadOk<'a>, Unreadable>
+    ensures { Finds view.read_ok result (table.read_ok.read c.old) c.new }
+{
+    let eof = c.flag()?;
+    let data = c.opaque(u32::MAX)?;
+    Ok(ReadOk { eof, data })
+}
+
+#[tactic(auto, unfolding(crate::specs::Items::entry))]
+pub fn entry<'a>(c: &mut Cursor<'a>) -> Result<Entry<'a>, Unreadable>
+    ensures { Finds view.entry result (table.entry.read c.old) c.new }
+{
+    let cookie = c.u64()?;
+    let name = c.opaque(u32::MAX)?;
+    let attrs = fattr(c)?;
+    Ok(Entry {
+        cookie,
+        name,
+        attrs,
+    })
+}
+
+#[tactic(auto, unfolding(crate::specs::Items::read_dir))]
+pub fn read_dir<'a>(c: &mut Cursor<'a>) -> Result<ReadDirOk<'a>, Unreadable>
+    ensures { Finds view.read_dir result (table.read_dir.read c.old) c.new }
+{
+    let cookieverf = c.fixed::<8>()?;
+    let entries = Entries::read(c)?;
+    let eof = c.flag()?;
+    Ok(ReadDirOk {
+        cookieverf,
+        entries,
+        eof,
+    })
+}
+
+#[tactic(auto, unfolding(crate::specs::Items::rename))]
+pub fn rename(c: &mut Cursor<'_>) -> Result<RenameOk, Unreadable>
+    ensures { Finds (λ r. r) result (table.rename.read c.old) c.new }
+{
+    let source_cinfo = change_info(c)?;
+    let target_cinfo = change_info(c)?;
+    Ok(RenameOk {
+        source_cinfo,
+        target_cinfo,
+    })
+}
+
+#[tactic(auto, unfolding(crate::specs::Items::write_ok))]
+pub fn write_ok(c: &mut Cursor<'_>) -> Result<WriteOk, Unreadable>
+    ensures { Finds (λ w. w) result (table.write_ok.read c.old) c.new }
+{
+    let count = c.u32()?;
+    let committed = StableHow::read(c)?;
+    let writeverf = c.fixed::<8>()?;
+    Ok(WriteOk {
+        count,
+        committed,
+        writeverf,
+    })
+}
+
+#[tactic(auto, unfolding(crate::specs::Items::exchange_id))]
+pub fn exchange_id<'a>(c: &mut Cursor<'a>) -> Result<ExchangeIdOk<'a>, Unreadable>
+    ensures { Finds view.exchange_id result (table.exchange_id.read c.old) c.new }
+{
+    let clientid = c.u64()?;
+    let sequenceid = c.u32()?;
+    let flags = c.u32()?;
+    always(0, c)?;
+    let minor_id = c.u64()?;
+    let major_id = c.opaque(1024)?;
+    let server_scope = c.opaque(1024)?;
+    always(0, c)?;
+    Ok(ExchangeIdOk {
+        clientid,
+        sequenceid,
+        flags,
+        minor_id,
+        major_id,
+        server_scope,
+    })
+}
+
+#[tactic(auto, unfolding(crate::specs::Items::create_session))]
+pub fn create_session(c: &mut Cursor<'_>) -> Result<CreateSessionOk, Unreadable>
+    ensures { Finds (λ s. s) result (table.create_session.read c.old) c.new }
+{
+    let sessionid = c.fixed::<16>()?;
+    let sequence = c.u32()?;
+    let flags = c.u32()?;
+    let fore_chan_attrs = ChannelAttrs::read(c)?;
+    let back_chan_attrs = ChannelAttrs::read(c)?;
+    Ok(CreateSessionOk {
+        sessionid,
+        sequence,
+        flags,
+        fore_chan_attrs,
+        back_chan_attrs,
+    })
+}
+
+#[tactic(auto, unfolding(crate::specs::Items::flavors))]
+pub fn flavors<'a>(c: &mut Cursor<'a>) -> Result<Flavors<'a>, Unreadable>
+    ensures { Finds view.flavors result (table.flavors.read c.old) c.new }
+{
+    let spelled = c.pieces::<4>()?;
+    Ok(Flavors { spelled })
+}
+
+#[tactic(auto, unfolding(crate::specs::Items::sequence))]
+pub fn sequence(c: &mut Cursor<'_>) -> Result<SequenceOk, Unreadable>
+    ensures { Finds (λ s. s) result (table.sequence.read c.old) c.new }
+{
+    let sessionid = c.fixed::<16>()?;
+    let sequenceid = c.u32()?;
+    let slotid = c.u32()?;
+    let highest_slotid = c.u32()?;
+    let target_highest_slotid = c.u32()?;
+    let status_flags = c.u32()?;
+    Ok(SequenceOk {
+        sessionid,
+        sequenceid,
+        slotid,
+        highest_slotid,
+        target_highest_slotid,
+        status_flags,
+    })
+}
+
+#[tactic(auto, unfolding(crate::specs::Items::status_codes))]
+pub fn status_codes<'a>(c: &mut Cursor<'a>) -> Result<StatusCodes<'a>, Unreadable>
+    ensures { Finds view.status_codes result (table.status_codes.read c.old) c.new }
+{
+    let spelled = c.pieces::<4>()?;
+    if !are_statuses(spelled) {
+        return Err(Unreadable);
+    }
+    Ok(StatusCodes { spelled })
+}
+
+/// Whether each of the numbers, four bytes each, is that of a status that this server answers.
+pub fn are_statuses(spelled: &[[u8; 4]]) -> bool
+    ensures { result ≡ table.are_statuses (map (from_be_bytes w32) spelled.now) }
+{
+    for number in spelled {
+        if !is_status(number) {
+            return false;
+        }
+    }
+    true
+}
+
+fn is_status(spelled: &[u8; 4]) -> bool
+    ensures { result ≡ is_some (status_of (from_be_bytes w32 spelled.now)) }
+{
+    Status::of(u32::from_be_bytes(*spelled)).is_some()
+}
