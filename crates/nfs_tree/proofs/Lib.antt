@@ -1,0 +1,14 @@
+pub mod Lists
+pub mod RowsKept
+pub mod Objects
+pub mod Trees
+pub mod Put
+pub mod Refusals
+pub mod Move
+pub mod Moved
+pub mod Written
+pub mod Places
+pub mod Sized
+pub mod Walked
+pub mod Renaming
+pub mod Climb

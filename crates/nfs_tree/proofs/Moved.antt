@@ -1,0 +1,170 @@
+-- The tree that a RENAME leaves keeps what every tree keeps.
+use Rattle.std.proofs.Common.{◌≡◌, ◌≢◌, ◌⊎◌, ℕ, zero, suc, ◌+◌, ◌<◌, ◌≤◌, ltb, eqb, Bool, true, false, cond, not, List, [], ◌∷◌, ◌++◌, length, Option, Some, None, refl, sym, ◌∙◌, ap, subst, arith, inl, inr}
+use Rattle.std.specs.Prelude.{◌==◌, if◌then◌else◌, ◌&&◌, ◌||◌, find, filter, option_map, is_some, unwrap_or}
+use Rattle.std.specs.List.{list_any}
+use Rattle.std.proofs.lemmas.Bool.{cases_Bool, cases_eq, and_parts, eqb-true, eq-eqb, ne_eqb, ltb-true, not-false, false≢true}
+use Rattle.nfs_xdr.specs.Tables.{IsRising}
+use Rattle.nfs_xdr.proofs.Tables.{IsRising-push, IsRising-filter}
+use Rattle.nfs_xdr.proofs.Checks.{all_passed}
+use Rattle.nfs_xdr.specs.declared.time.Time.{Time}
+use Rattle.nfs_tree.specs.declared.row.Row.{Row}
+use Rattle.nfs_tree.specs.declared.stored.Stored.{Stored}
+use Rattle.nfs_tree.specs.Object.{no_sets, modified}
+use Rattle.nfs_tree.specs.Files.{Files, root, last_count, is_name, is_there, is_directory_at, can_change, CanChange, is_entry, entry, has_name, named, has_entries, with_changed, with_entries_changed, with_links_changed, without_entry, IsReached}
+use Rattle.nfs_tree.specs.Names.{with_row, is_at_or_below, Move, moved_object, replaced_object, moves, is_below_itself, is_unlike, is_in_the_way, can_move, rename_checks, rename_fault, with_both_changed, with_moved}
+use Rattle.nfs_tree.specs.Walks.{In}
+use Rattle.nfs_tree.specs.Kept.{Grounded, AreRows, IsTree}
+use Rattle.nfs_tree.proofs.Lists.{in_filter, filter_in, find_in, find_none, filter_swap}
+use Rattle.nfs_tree.proofs.RowsKept.{entry_parts, reached, grounded_without, no_entries}
+use Rattle.nfs_tree.proofs.Objects.{stored_within, can_change_all, can_change_none}
+use Rattle.nfs_tree.proofs.Trees.{tree_changed, tree_dropped, entry_names, row_of, has_one, apart}
+use Rattle.nfs_tree.proofs.Put.{directory_there, vacant_of}
+use Rattle.nfs_tree.proofs.Move.{unique_of, same_entry, depth_bound, clear, rows_moved}
+
+pub record MoveGranted (t : Files) (m : Move) : Type 0 where
+  pub source : is_directory_at t m.source ≡ true
+  pub target : is_directory_at t m.target ≡ true
+  pub short : is_name m.name ≡ true
+  pub old : has_name t m.source m.old ≡ true
+  pub below : is_below_itself t m ≡ false
+  pub way : is_in_the_way t m ≡ false
+  pub change_source : can_change t m.source ≡ true
+  pub change_target : can_change t m.target ≡ true
+  pub change_replaced : not (has_name t m.target m.name) || can_change t (replaced_object t m) ≡ true
+  pub cookie : t.last_cookie < last_count
+
+guarded : (a b : Bool) → a && b ≡ false → a ≡ true → b ≡ false
+guarded true b e is = e
+guarded false b e is = absurd cc
+
+or_right : (a b : Bool) → a || b ≡ false → b ≡ false
+or_right true b e = absurd cc
+or_right false b e = e
+
+or_given : (a b : Bool) → not a || b ≡ true → a ≡ true → b ≡ true
+or_given true b e is = e
+or_given false b e is = absurd cc
+
+not_true : (b : Bool) → not b ≡ true → b ≡ false
+not_true true e = absurd cc
+not_true false e = refl
+
+pub move_granted : (t : Files) (m : Move) → rename_fault t m ≡ None → moves t m ≡ true → MoveGranted t m
+move_granted t m e go =
+    let checks = all_passed (rename_checks t m) e in
+    let dirs = and_parts _ _ (not-false _ checks.1.0) in
+    let can = not-false _ (guarded (moves t m) (not (can_move t m)) checks.1.1.1.1.1.1.0 go) in
+    let first = and_parts _ _ can in
+    let second = and_parts _ _ first.1 in
+    let third = and_parts _ _ second.1 in
+    record {
+      source = dirs.0;
+      target = dirs.1;
+      short = not-false _ checks.1.1.0;
+      old = not-false _ checks.1.1.1.0;
+      below = guarded (moves t m) (is_below_itself t m) checks.1.1.1.1.0 go;
+      way = guarded (moves t m) (is_in_the_way t m) checks.1.1.1.1.1.0 go;
+      change_source = first.0;
+      change_target = second.0;
+      change_replaced = third.0;
+      cookie = ltb-true _ _ third.1;
+    }
+
+-- where no object has the new name its number is 0
+none_replaced : (t : Files) (m : Move) → has_name t m.target m.name ≡ false → replaced_object t m ≡ 0
+none_replaced t m e = ap (λ o. unwrap_or (option_map (λ (r : Row). r.object) o) 0) (vacant_of (entry t.rows m.target m.name) e)
+
+any_none : (p : Row → Bool) (rows : List Row) → ((r : Row) → In r rows → p r ≡ false) → list_any p rows ≡ false
+any_none p [] gone = refl
+any_none p (r ∷ rows) gone = rw (gone r (inl refl)) (any_none p rows (λ r there. gone r (inr there)))
+
+-- no object has the number 0
+above_zero : (t : Files) (n : ℕ) → IsTree t → is_directory_at t n ≡ true → n ≢ 0
+above_zero t n is dir e = let within = stored_within root (t.last_object + 1) t.objects n is.objects (directory_there t n dir) in absurd (omega arith)
+
+pub replaced_empty : (t : Files) (m : Move) → IsTree t → MoveGranted t m → has_entries t.rows (replaced_object t m) ≡ false
+replaced_empty t m is can =
+    elim (cases_Bool (has_name t m.target m.name)) [
+      | inl there ↦ or_right (is_unlike t m) (has_entries t.rows (replaced_object t m)) (guarded (has_name t m.target m.name) (is_unlike t m || has_entries t.rows (replaced_object t m)) can.way there)
+      | inr none ↦ rw (none_replaced t m none) (any_none (λ r. r.directory == 0) t.rows (λ r there. ne_eqb r.directory 0 (above_zero t r.directory is (is.rows.stands r there))))
+    ]
+
+pub replaced_source : (t : Files) (m : Move) → IsTree t → MoveGranted t m → replaced_object t m ≢ m.source
+replaced_source t m is can = apart t m.source (replaced_object t m) (has_one t m.source m.old can.old) (replaced_empty t m is can)
+
+pub replaced_target : (t : Files) (m : Move) → IsTree t → MoveGranted t m → replaced_object t m ≢ m.target
+replaced_target t m is can =
+    elim (cases_Bool (has_name t m.target m.name)) [
+      | inl there ↦ apart t m.target (replaced_object t m) (has_one t m.target m.name there) (replaced_empty t m is can)
+      | inr none ↦ λ e. above_zero t m.target is can.target (sym e ∙ none_replaced t m none)
+    ]
+
+pub replaced_can : (t : Files) (m : Move) → IsTree t → MoveGranted t m → CanChange t.objects (replaced_object t m)
+replaced_can t m is can =
+    elim (cases_Bool (has_name t m.target m.name)) [
+      | inl there ↦ can_change_all t.objects root (t.last_object + 1) (replaced_object t m) is.objects (or_given (has_name t m.target m.name) (can_change t (replaced_object t m)) can.change_replaced there)
+      | inr none ↦ subst (CanChange t.objects) (sym (none_replaced t m none)) (can_change_none t.objects root (t.last_object + 1) 0 is.objects (omega arith))
+    ]
+
+tree_both : (t : Files) (a b : ℕ) (now : Time) → IsTree t → IsTree (record t { objects = with_both_changed a b now t.objects })
+tree_both t a b now is =
+    let one = record t { objects = with_entries_changed a now t.objects } in
+    let is_one : IsTree one = tree_changed t a now (modified now no_sets) is in
+    elim (a == b) as (λ v. IsTree (record t { objects = cond v (with_entries_changed a now t.objects) (with_entries_changed b now (with_entries_changed a now t.objects)) }))
+    [ true ↦ is_one | false ↦ tree_changed one b now (modified now no_sets) is_one ]
+
+-- the target is reached without the row that moves, and without the one that goes
+target_reached : (t : Files) (m : Move) → IsTree t → MoveGranted t m → IsReached t m.target → (q : Row) → In q t.rows → q.object ≡ moved_object t m
+    → (k : ℕ) × Grounded (without_entry q.directory q.name (without_entry m.target m.name t.rows)) k m.target
+target_reached t m is can condition q there object =
+    let dirs = λ (n : ℕ). is_directory_at t n in
+    let unique = unique_of t.rows dirs (λ n. is_there t n) is.rows in
+    let x = replaced_object t m in
+    let empty = replaced_empty t m is can in
+    let up = reached t.rows dirs (λ n. is_there t n) is.rows m.target (condition can.target) in
+    let rest = without_entry q.directory q.name t.rows in
+    let first : Grounded rest up.0 m.target = elim (cases_Bool (dirs q.object)) [
+      | inl dir ↦ (
+          let climb : is_at_or_below t.rows (moved_object t m) (length t.rows) m.target ≡ false = guarded (dirs (moved_object t m)) (is_at_or_below t.rows (moved_object t m) (length t.rows) m.target) can.below (ap dirs (sym object) ∙ dir) in
+          clear t.rows dirs unique q there (length t.rows) up.0 m.target (depth_bound up.0 t.rows dirs unique m.target can.target up.1) can.target
+          (subst (λ o. is_at_or_below t.rows o (length t.rows) m.target ≡ false) (sym object) climb) up.1)
+      | inr file ↦ grounded_without t.rows q.directory q.name q.object (λ r is_r e. ap (λ (r : Row). r.object) (same_entry t.rows dirs unique r q is_r there e))
+          (λ r is_r e. false≢true (sym file ∙ ap dirs (sym e) ∙ is.rows.stands r is_r)) up.0 m.target (λ e. false≢true (sym file ∙ ap dirs (sym e) ∙ can.target)) up.1
+    ] in
+    let old = in_filter (λ (r : Row). not (is_entry q.directory q.name r)) t.rows in
+    let second : Grounded (without_entry m.target m.name rest) up.0 m.target = grounded_without rest m.target m.name x (λ r is_r e. entry_names t m.target m.name is r (old r is_r).0 e)
+    (λ r is_r. no_entries t.rows x empty r (old r is_r).0) up.0 m.target (λ e. replaced_target t m is can (sym e)) first in
+    (up.0, subst (λ rows. Grounded rows up.0 m.target) (filter_swap (λ (r : Row). not (is_entry m.target m.name r)) (λ r. not (is_entry q.directory q.name r)) t.rows) second)
+
+pub tree_moved : (t : Files) (m : Move) (now : Time) → IsTree t → rename_fault t m ≡ None → moves t m ≡ true → IsReached t m.target → IsTree (with_moved t m now)
+tree_moved t m now is granted go condition =
+    let can = move_granted t m granted go in
+    let dirs = λ (n : ℕ). is_directory_at t n in
+    let x = replaced_object t m in
+    let found = row_of t.rows m.source m.old can.old in
+    let q = found.0 in
+    let at = find_in (is_entry m.source m.old) t.rows q found.1 in
+    let parts = entry_parts m.source m.old q at.1 in
+    let object : q.object ≡ moved_object t m = sym (ap (λ o. unwrap_or (option_map (λ (r : Row). r.object) o) 0) found.1) in
+    let left = record t { rows = without_entry m.target m.name t.rows } in
+    let is_left : IsTree left = tree_dropped t m.target m.name is (replaced_empty t m is can) in
+    let apart : moved_object t m ≢ x = λ e. false≢true (sym (not_true _ go) ∙ eq-eqb (moved_object t m) x e) in
+    let stays : is_entry m.target m.name q ≡ false = elim (cases_Bool (is_entry m.target m.name q)) [ inl is_it ↦ absurd (apart (sym object ∙ entry_names t m.target m.name is q at.0 is_it)) | inr other_row ↦ other_row ] in
+    let to : Row = record { directory = m.target; name = m.name; object = moved_object t m; cookie = t.last_cookie + 1 } in
+    let vacant : entry left.rows m.target m.name ≡ None =
+    find_none (is_entry m.target m.name) left.rows (λ r there. not_true _ (in_filter (λ (r : Row). not (is_entry m.target m.name r)) t.rows r there).1) in
+    let rows = rows_moved left.rows dirs (λ n. is_there t n) q to is_left.rows (filter_in (λ r. not (is_entry m.target m.name r)) t.rows q at.0 (rw stays refl)) (sym object) vacant can.target can.short
+    (target_reached t m is can condition q at.0 object) in
+    let named_rows = subst (λ d. AreRows (without_entry d q.name left.rows ++ to ∷ []) dirs (λ n. is_there t n)) parts.0 rows in
+    let done = record left { rows = without_entry m.source m.old left.rows ++ to ∷ []; last_cookie = t.last_cookie + 1 } in
+    let is_done : IsTree done = record {
+      objects = is.objects;
+      cookies = IsRising-push (λ (r : Row). r.cookie) 3 (t.last_cookie + 1) (t.last_cookie + 1 + 1) (without_entry m.source m.old left.rows) to refl refl
+          (IsRising-filter (λ (r : Row). r.cookie) (λ r. not (is_entry m.source m.old r)) 3 (t.last_cookie + 1) left.rows is_left.cookies);
+      counters = (is.counters.0, (let less = can.cookie in omega arith));
+      few = is.few;
+      sized = is.sized;
+      root = is.root;
+      rows = subst (λ name. AreRows (without_entry m.source name left.rows ++ to ∷ []) dirs (λ n. is_there t n)) parts.1 named_rows;
+    } in
+    tree_both (record done { objects = with_links_changed x now done.objects }) m.source m.target now (tree_changed done x now no_sets is_done)

@@ -1,0 +1,17 @@
+use Rattle.std.proofs.Common.{◌≢◌, sym, subst}
+use Rattle.nfs_tree.specs.Files.{CanChange}
+use Rattle.nfs_tree.proofs.Objects.{can_change_after}
+use Rattle.nfs_tree.proofs.stored.change_moved.Goals as goal
+
+pub change_in-requires-2 : goal.change_in-requires-2
+change_in-requires-2 c =
+    subst (λ xs. CanChange xs c.args.source) (sym c.change_in.ensures)
+    (can_change_after c.args.objects.now c.args.replaced c.args.source c.args.now c.none.result (λ e. c.requires.apart_source (sym e)) c.requires.source)
+
+pub change_in-requires-then-source-target : goal.change_in-requires-then-source-target
+change_in-requires-then-source-target c =
+    let apart : c.args.target ≢ c.args.source = λ e. c.if-source-target.true (sym e) in
+    subst (λ xs. CanChange xs c.args.target) (sym c.change_in-2.ensures)
+    (can_change_after c.change_in.new.objects c.args.source c.args.target c.args.now c.modified.result apart
+    (subst (λ xs. CanChange xs c.args.target) (sym c.change_in.ensures)
+    (can_change_after c.args.objects.now c.args.replaced c.args.target c.args.now c.none.result (λ e. c.requires.apart_target (sym e)) c.requires.target)))

@@ -1,0 +1,16 @@
+use Rattle.std.proofs.Common.{true, refl, sym, ◌∙◌, ◌+◌, ap}
+use Rattle.std.specs.Prelude.{Err}
+use Rattle.std.proofs.lemmas.Result.{err_from_is_err_and}
+use Rattle.nfs_tree.specs.Did.{raised}
+use Rattle.nfs_tree.specs.Create.{new_of, create_checks, with_new}
+use Rattle.nfs_tree.proofs.Refusals.{refused, judged_err}
+use Rattle.nfs_tree.proofs.tree.Tree.create.Goals as goal
+
+pub returns-in_err-judge_new : goal.returns-in_err-judge_new
+returns-in_err-judge_new c =
+    let t = c.args.self.now in
+    let d = c.args.directory in
+    let new = new_of c.args.new.now in
+    let p = err_from_is_err_and c.from_residual.result c.from_residual.ensures.1 in
+    refused t true (create_checks t d c.args.name.now new) (record { number = t.last_object + 1; directory = raised t d }) (with_new t d c.args.name.now new c.args.sets.now c.args.now) _ _
+    (refl, (refl, (refl, (refl, (refl, (refl, (refl, (refl, tt)))))))) (judged_err _ _ (sym c.judge_new.ensures ∙ c.in_err-judge_new.was)) (p.1 ∙ ap Err p.2)

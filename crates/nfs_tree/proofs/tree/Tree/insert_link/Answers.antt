@@ -1,0 +1,31 @@
+use Rattle.std.proofs.Common.{◌≡◌, ◌≢◌, ◌+◌, ◌∙◌, ap, sym, arith, subst}
+use Rattle.std.proofs.lemmas.Bool.{false≢true}
+use Rattle.std.proofs.lemmas.Grind.{common_steps}
+use Rattle.nfs_tree.specs.Files.{Files, root, CanChange, is_directory_at}
+use Rattle.nfs_tree.specs.Names.{with_link}
+use Rattle.nfs_tree.specs.Kept.{IsTree}
+use Rattle.nfs_tree.proofs.Objects.{can_change_all}
+use Rattle.nfs_tree.proofs.Trees.{tree_of}
+use Rattle.nfs_tree.proofs.Put.{link_granted, tree_linked}
+use Rattle.nfs_tree.proofs.tree.Tree.insert_link.Goals as goal
+
+pub change_entry-requires : goal.change_entry-requires
+change_entry-requires c =
+    let t = c.args.self.now in
+    let d = c.args.directory in
+    let n = c.args.number in
+    let is : IsTree t = subst IsTree c.self.view_is c.self.invariant in
+    let items : c.deref_mut.result.now ≡ t.objects = c.deref_mut.ensures.value ∙ ap (λ (t : Files). t.objects) c.self.view_is in
+    let can = link_granted t n d c.args.name c.requires.granted in
+    record {
+      apart = λ e. false≢true (sym can.other ∙ ap (is_directory_at t) e ∙ can.directory);
+      directory = subst (λ xs. CanChange xs d) (sym items) (can_change_all t.objects root (t.last_object + 1) d is.objects can.change);
+      number = subst (λ xs. CanChange xs n) (sym items) (can_change_all t.objects root (t.last_object + 1) n is.objects can.change_object);
+    }
+
+pub invariant_of-self-2 : goal.invariant_of-self-2
+invariant_of-self-2 c =
+    let t = c.args.self.now in
+    let is : IsTree t = subst IsTree c.self.view_is c.self.invariant in
+    tree_of (with_link t c.args.number c.args.directory c.args.name c.args.now) (tree_linked t c.args.number c.args.directory c.args.name c.args.now is c.requires.granted c.requires.reached) _ _ _ _
+    (grind (arith, common_steps)) (grind (arith, common_steps)) (grind (arith, common_steps)) (grind (arith, common_steps))

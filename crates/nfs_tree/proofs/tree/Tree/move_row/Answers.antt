@@ -1,0 +1,40 @@
+use Rattle.std.proofs.Common.{◌≡◌, ◌≢◌, ◌+◌, ◌<◌, ◌∙◌, ap, sym, arith, subst}
+use Rattle.std.proofs.lemmas.Grind.{common_steps}
+use Rattle.nfs_tree.specs.Files.{Files, root, last_count, CanChange}
+use Rattle.nfs_tree.specs.Names.{move_of, replaced_object, with_moved}
+use Rattle.nfs_tree.specs.Kept.{IsTree}
+use Rattle.nfs_tree.proofs.Objects.{can_change_all}
+use Rattle.nfs_tree.proofs.Trees.{tree_of}
+use Rattle.nfs_tree.proofs.Moved.{move_granted, replaced_source, replaced_target, replaced_can, tree_moved}
+use Rattle.nfs_tree.proofs.tree.Tree.move_row.Goals as goal
+
+pub overflow_add-cookie : goal.overflow_add-cookie
+overflow_add-cookie c =
+    let t = c.args.self.now in
+    let small : t.last_cookie < last_count = (move_granted t (move_of c.args.m.now) c.requires.granted c.requires.moves).cookie in
+    let same = ap (λ (t : Files). t.last_cookie) c.self.view_is in
+    omega arith
+
+pub change_moved-requires : goal.change_moved-requires
+change_moved-requires c =
+    let t = c.args.self.now in
+    let m = move_of c.args.m.now in
+    let is : IsTree t = subst IsTree c.self.view_is c.self.invariant in
+    let items : c.deref_mut.result.now ≡ t.objects = c.deref_mut.ensures.value ∙ ap (λ (t : Files). t.objects) c.self.view_is in
+    let can = move_granted t m c.requires.granted c.requires.moves in
+    let x = c.replaced_object-replaced.ensures in
+    record {
+      apart_source = subst (λ n. n ≢ m.source) (sym x) (replaced_source t m is can);
+      apart_target = subst (λ n. n ≢ m.target) (sym x) (replaced_target t m is can);
+      source = subst (λ xs. CanChange xs m.source) (sym items) (can_change_all t.objects root (t.last_object + 1) m.source is.objects can.change_source);
+      target = subst (λ xs. CanChange xs m.target) (sym items) (can_change_all t.objects root (t.last_object + 1) m.target is.objects can.change_target);
+      replaced = subst (λ n. CanChange c.deref_mut.result.now n) (sym x) (subst (λ xs. CanChange xs (replaced_object t m)) (sym items) (replaced_can t m is can));
+    }
+
+pub invariant_of-self-2 : goal.invariant_of-self-2
+invariant_of-self-2 c =
+    let t = c.args.self.now in
+    let m = move_of c.args.m.now in
+    let is : IsTree t = subst IsTree c.self.view_is c.self.invariant in
+    tree_of (with_moved t m c.args.now) (tree_moved t m c.args.now is c.requires.granted c.requires.moves c.requires.reached) _ _ _ _
+    (grind (arith, common_steps)) (grind (arith, common_steps)) (grind (arith, common_steps)) (grind (arith, common_steps))

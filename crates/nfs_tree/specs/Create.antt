@@ -1,0 +1,117 @@
+-- A new tree, and a new object in a directory (RFC 8881 sections 18.4 and 18.16).
+use Rattle.std.specs.Prelude.{ℕ, ◌+◌, nat_lt, nat_le, Bool, true, false, not, ◌&&◌, List, [], ◌∷◌, ◌++◌, length, Option, Some, None, unwrap_or, replicate}
+use Rattle.nfs_xdr.specs.Checks.{first_fault}
+use Rattle.nfs_xdr.specs.declared.time.Time.{Time}
+use Rattle.nfs_tree.specs.declared.object.FileType.{FileType}
+use Rattle.nfs_tree.specs.declared.object.FileType.TheVariants as kind
+use Rattle.nfs_tree.specs.declared.object.Object.{Object}
+use Rattle.nfs_tree.specs.declared.sets.Sets.{Sets}
+use Rattle.nfs_tree.specs.declared.new.New.{New as Code}
+use Rattle.nfs_tree.specs.declared.new.New.TheVariants as code
+use Rattle.nfs_tree.specs.declared.done.Created.{Created}
+use Rattle.nfs_tree.specs.declared.fault.TreeFault.{TreeFault}
+use Rattle.nfs_tree.specs.declared.fault.TreeFault.TheVariants.{NoEnt, Exist, NotDir, Inval, Fbig, NoSpc, Counter}
+use Rattle.nfs_tree.specs.Object.{no_sets}
+use Rattle.nfs_tree.specs.Files.{Files, root, last_count, most_objects, most_bytes, most_text, is_name, is_there, is_directory_at, has_name, can_change, with_entries_changed}
+use Rattle.nfs_tree.specs.Did.{Did, does_unless, raised}
+
+-- What is made: a file of so many zeros, with the verifier of an exclusive create; a directory; a symbolic link with its text.
+pub data New : Type 0 where
+  File : ℕ → Option (List ℕ) → New
+  Directory : New
+  Link : List ℕ → New
+
+-- what the code's value says, wherever its bytes lie
+abbrev pub new_of : Code → New
+new_of (code.File size verifier) = File size verifier
+new_of code.Directory = Directory
+new_of (code.Link text) = Link text.now
+
+abbrev pub kind_of : New → FileType
+kind_of (File size verifier) = kind.Regular
+kind_of Directory = kind.Directory
+kind_of (Link text) = kind.Link
+
+abbrev pub size_of : New → ℕ
+size_of (File size verifier) = size
+size_of Directory = 0
+size_of (Link text) = length text
+
+abbrev pub data_of : New → List ℕ
+data_of (File size verifier) = replicate size 0
+data_of Directory = []
+data_of (Link text) = text
+
+abbrev pub verifier_of : New → Option (List ℕ)
+verifier_of (File size verifier) = verifier
+verifier_of Directory = None
+verifier_of (Link text) = None
+
+-- a new object: mode, owner and group are 0 and the times now where they are not set
+abbrev pub new_object : Time → New → Sets → Object
+new_object now new sets = record {
+  kind = kind_of new;
+  mode = unwrap_or sets.mode 0;
+  owner = unwrap_or sets.owner 0;
+  group = unwrap_or sets.group 0;
+  change = 1;
+  size = size_of new;
+  access = unwrap_or sets.access now;
+  metadata = now;
+  modify = unwrap_or sets.modify now;
+  verifier = verifier_of new;
+}
+
+-- a tree of nothing but the root
+abbrev pub new_tree : ℕ → Time → Files
+new_tree mode now = record {
+  objects = record { number = root; object = new_object now Directory (record no_sets { mode = Some mode }); bytes = [] } ∷ [];
+  rows = [];
+  last_object = root;
+  last_cookie = 2;
+}
+
+-- a symbolic link's text that is empty or too long
+abbrev pub is_bad_text : New → Bool
+is_bad_text (File size verifier) = false
+is_bad_text Directory = false
+is_bad_text (Link text) = not (nat_lt 0 (length text) && nat_le (length text) most_text)
+
+-- a file of more bytes than one may have
+abbrev pub is_too_big : New → Bool
+is_too_big (File size verifier) = nat_lt most_bytes size
+is_too_big Directory = false
+is_too_big (Link text) = false
+
+-- whether a directory can get one more object
+abbrev pub room_checks : Files → ℕ → List (Bool × TreeFault)
+room_checks t d =
+    (nat_le most_objects (length t.objects), NoSpc)
+    ∷ (not (can_change t d && (nat_lt t.last_object last_count && nat_lt t.last_cookie last_count)), Counter)
+    ∷ []
+
+abbrev pub create_checks : Files → ℕ → List ℕ → New → List (Bool × TreeFault)
+create_checks t d name new =
+    (not (is_there t d), NoEnt)
+    ∷ (not (is_directory_at t d), NotDir)
+    ∷ (not (is_name name), Inval)
+    ∷ (is_bad_text new, Inval)
+    ∷ (has_name t d name, Exist)
+    ∷ (is_too_big new, Fbig)
+    ∷ room_checks t d
+
+abbrev pub create_fault : Files → ℕ → List ℕ → New → Option TreeFault
+create_fault t d name new = first_fault (create_checks t d name new)
+
+-- the directory changes, and the new object and its row get the next number and cookie
+abbrev pub with_new : Files → ℕ → List ℕ → New → Sets → Time → Files
+with_new t d name new sets now = record {
+  objects = with_entries_changed d now t.objects ++ record { number = t.last_object + 1; object = new_object now new sets; bytes = data_of new } ∷ [];
+  rows = t.rows ++ record { directory = d; name = name; object = t.last_object + 1; cookie = t.last_cookie + 1 } ∷ [];
+  last_object = t.last_object + 1;
+  last_cookie = t.last_cookie + 1;
+}
+
+abbrev pub create : Files → ℕ → List ℕ → New → Sets → Time → Did Created
+create t d name new sets now =
+    does_unless t (create_fault t d name new) (record { number = t.last_object + 1; directory = raised t d }) (with_new t d name new sets now)

@@ -1,0 +1,10 @@
+pub mod Object
+pub mod Files
+pub mod Listing
+pub mod Did
+pub mod Create
+pub mod Names
+pub mod Bytes
+pub mod Walks
+pub mod Kept
+pub mod Laws

@@ -1,0 +1,168 @@
+//! Rows put, dropped and moved, and bytes at the limits, on a tree of a few objects.
+
+ghost use Rattle.std.specs.Prelude.{◌≡◌, ◌==◌, ◌||◌};
+ghost use Rattle.nfs_tree.specs.Files.{root, has_row};
+
+use super::*;
+use crate::row::has_row;
+use nfs_xdr::{Sheet, Time};
+use std::alloc::{AllocError, Global};
+use std::test::Fail;
+
+const START: Time = Time {
+    seconds: 5,
+    nanoseconds: 6,
+};
+
+const NOW: Time = Time {
+    seconds: 7,
+    nanoseconds: 8,
+};
+
+/// A call on names, with what the tests look at of its answer.
+#[derive(Clone, Copy)]
+enum Step {
+    Directory(u64, &'static [u8]),
+    File(u64, &'static [u8]),
+    Link(u64, u64, &'static [u8]),
+    Remove(u64, &'static [u8]),
+    Rename(u64, &'static [u8], u64, &'static [u8]),
+}
+
+fn is_reached(tree: &Tree, directory: u64) -> bool
+    ensures { result ≡ ((directory == root) || has_row tree.now.rows directory) }
+{
+    directory == Tree::ROOT || has_row(&tree.rows, directory)
+}
+
+fn make(
+    tree: &mut Tree,
+    alloc: Global,
+    directory: u64,
+    name: &[u8],
+    new: &New,
+) -> Result<u64, TreeFault> {
+    if !is_reached(tree, directory) {
+        return Err(TreeFault::Memory);
+    }
+    let made = tree.create(alloc, directory, name, new, &Sets::none(), NOW)?;
+    Ok(made.number)
+}
+
+/// The number of the object that was made or removed; the directory's `change` behind a link; the number of the object
+/// that a rename replaced, or 0.
+fn run(tree: &mut Tree, alloc: Global, step: Step) -> Result<u64, TreeFault> {
+    match step {
+        Step::Directory(directory, name) => make(tree, alloc, directory, name, &New::Directory),
+        Step::File(directory, name) => make(
+            tree,
+            alloc,
+            directory,
+            name,
+            &New::File {
+                size: 0,
+                verifier: None,
+            },
+        ),
+        Step::Link(number, directory, name) => {
+            if !is_reached(tree, directory) {
+                return Err(TreeFault::Memory);
+            }
+            let change = tree.link(alloc, number, directory, name, NOW)?;
+            Ok(change.after)
+        }
+        Step::Remove(directory, name) => {
+            let removed = tree.remove(directory, name, NOW)?;
+            Ok(removed.number)
+        }
+        Step::Rename(source, old, target, name) => {
+            if !(is_reached(tree, source) && is_reached(tree, target)) {
+                return Err(TreeFault::Memory);
+            }
+            let renamed = tree.rename(alloc, source, old, target, name, NOW)?;
+            Ok(renamed.replaced.unwrap_or(0))
+        }
+    }
+}
+
+#[test]
+fn names_are_put_dropped_and_moved(rt: HostRuntime) -> Result<(), Fail> {
+    let alloc = rt.alloc();
+    let mut tree = Tree::new(alloc, 0o755, START)?;
+    // each call, what it answers, and behind it the links of object 4 and the root's `change`
+    let steps = [
+        (Step::Directory(1, b"a"), Ok(2), 0, 2),
+        (Step::Directory(2, b"b"), Ok(3), 0, 2),
+        (Step::Rename(1, b"a", 3, b"c"), Err(TreeFault::Inval), 0, 2),
+        (Step::Rename(1, b"a", 2, b"c"), Err(TreeFault::Inval), 0, 2),
+        (Step::Remove(1, b"a"), Err(TreeFault::NotEmpty), 0, 2),
+        (Step::File(1, b"f"), Ok(4), 1, 3),
+        (Step::File(1, b"f"), Err(TreeFault::Exist), 1, 3),
+        (Step::File(4, b"f"), Err(TreeFault::NotDir), 1, 3),
+        (Step::Link(4, 1, b"g"), Ok(4), 2, 4),
+        (Step::Link(2, 1, b"h"), Err(TreeFault::IsDir), 2, 4),
+        (Step::Rename(1, b"f", 1, b"g"), Ok(0), 2, 4),
+        (Step::Rename(1, b"f", 2, b"b"), Err(TreeFault::Exist), 2, 4),
+        (Step::Rename(1, b"f", 1, b"a"), Err(TreeFault::Exist), 2, 4),
+        (Step::File(2, b"x"), Ok(5), 2, 4),
+        (Step::Rename(2, b"x", 1, b"f"), Ok(4), 1, 5),
+        (Step::Rename(2, b"b", 1, b"e"), Ok(0), 1, 6),
+        (Step::Remove(1, b"a"), Ok(2), 1, 7),
+        (Step::Remove(1, b"g"), Ok(4), 0, 8),
+        (Step::Remove(1, b"g"), Err(TreeFault::NoEnt), 0, 8),
+        (Step::Link(4, 1, b"g"), Err(TreeFault::NoEnt), 0, 8),
+        (Step::File(1, b""), Err(TreeFault::Inval), 0, 8),
+    ];
+    for (step, answer, links, change) in steps {
+        assert!(rt; run(&mut tree, alloc, step) == answer);
+        assert!(rt; tree.links(4) == links && tree.change(Tree::ROOT) == Some(change));
+    }
+    // what is left by rising cookie: f, which came by a rename, then e
+    let mut seen = 0u64;
+    for entry in tree.list(Tree::ROOT, 2) {
+        seen = 10u64.wrapping_mul(seen).wrapping_add(entry.number);
+    }
+    assert_eq!(rt; seen, 53);
+    assert!(rt;
+        tree.lookup(Tree::ROOT, b"e") == Some(3)
+            && tree.parent(3) == Some(1)
+            && tree.parent(2).is_none()
+    );
+    Ok(())
+}
+
+/// Bytes 3, 4 and 5 of an object, as READ puts them.
+fn three_bytes(tree: &Tree, alloc: Global, number: u64) -> Result<Sheet, AllocError> {
+    let mut sheet = Sheet::new(alloc, 16)?;
+    tree.read(number, 3, &mut sheet, 3);
+    Ok(sheet)
+}
+
+#[test]
+fn bytes_are_written_cut_and_read(rt: HostRuntime) -> Result<(), Fail> {
+    let alloc = rt.alloc();
+    let mut tree = Tree::new(alloc, 0o755, START)?;
+    let new = New::File {
+        size: 2,
+        verifier: Some([1, 2, 3, 4, 5, 6, 7, 8]),
+    };
+    let made = tree.create(alloc, Tree::ROOT, b"f", &new, &Sets::none(), START)?;
+    let f = made.number;
+    tree.write(alloc, f, 4, b"ab", NOW)?;
+    tree.write(alloc, f, 9_000_000, b"", NOW)?;
+    assert!(rt; tree.write(alloc, f, 1_048_575, b"ab", NOW) == Err(TreeFault::Fbig));
+    tree.resize(alloc, f, 7, &Sets::none(), NOW)?;
+    let sets = Sets {
+        mode: Some(0o600),
+        ..Sets::none()
+    };
+    tree.set(f, &sets, NOW)?;
+    let object = tree.object(f).ok_or("no object")?;
+    assert!(rt; object.size == 7 && object.change == 4 && object.mode == 0o600);
+    assert!(rt; object.modify == NOW && object.access == START);
+    let sheet = three_bytes(&tree, alloc, f)?;
+    assert_eq!(rt; sheet.bytes(), b"\x00\x00\x00\x03\x00ab\x00".as_slice());
+    assert!(rt; tree.judge_create(Tree::ROOT).is_ok());
+    tree.remove(Tree::ROOT, b"f", NOW)?;
+    Ok(())
+}
