@@ -1,0 +1,9 @@
+pub mod Owners
+pub mod MaskWords
+pub mod Room
+pub mod Fronts
+pub mod Lengths
+pub mod Values
+pub mod Whole
+pub mod Bounds
+pub mod SetTimes

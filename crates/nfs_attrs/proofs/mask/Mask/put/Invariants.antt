@@ -1,0 +1,8 @@
+use Rattle.std.proofs.Common.{◌++◌, length, take}
+use Rattle.std.specs.List.{flat_map}
+use Rattle.nfs_xdr.specs.Spelling.{number}
+use Rattle.nfs_xdr.specs.Paper.{Puts}
+use Rattle.nfs_attrs.proofs.mask.Mask.put.Given as goal
+
+abbrev pub invariant-loop-word : goal.invariant-loop-word
+invariant-loop-word l = Puts l.fn.sheet l.sheet (number (length l.words) ++ flat_map number (take l.word-index l.words))

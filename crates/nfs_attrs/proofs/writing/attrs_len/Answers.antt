@@ -1,0 +1,30 @@
+use Rattle.std.proofs.Common.{◌≡◌, ◌%◌, length, ap, ◌∙◌, arith}
+use Rattle.std.proofs.lemmas.List.{length-append}
+use Rattle.nfs_xdr.specs.Spelling.{opaque}
+use Rattle.nfs_attrs.specs.Attributes.{values, readable}
+use Rattle.nfs_attrs.specs.Mask.{common, spell_mask}
+use Rattle.nfs_attrs.proofs.Bounds.{attributes_within, told_within}
+use Rattle.nfs_attrs.proofs.Whole.{length_of_words}
+use Rattle.nfs_attrs.proofs.writing.attrs_len.Goals as goal
+
+pub returns-clause-exact : goal.returns-clause-exact
+returns-clause-exact c =
+    let text = values c.args.asked c.args.about.now c.args.object.now in
+    let told = common c.args.asked readable in
+    let whole : length text % 4 ≡ 0 = rw (← c.values_len-count.ensures.exact) c.values_len-count.ensures.words in
+    let mask : c.len-mask.result ≡ length (spell_mask told) = c.len-mask.ensures.exact ∙ ap (λ m. length (spell_mask m)) c.common-told.ensures in
+    omega (arith, mask, c.values_len-count.ensures.exact, length_of_words text whole, length-append (spell_mask told) (opaque text))
+
+pub returns-clause-within : goal.returns-clause-within
+returns-clause-within c =
+    let text = values c.args.asked c.args.about.now c.args.object.now in
+    let told = common c.args.asked readable in
+    let whole : length text % 4 ≡ 0 = rw (← c.values_len-count.ensures.exact) c.values_len-count.ensures.words in
+    let mask : c.len-mask.result ≡ length (spell_mask told) = c.len-mask.ensures.exact ∙ ap (λ m. length (spell_mask m)) c.common-told.ensures in
+    omega (
+      arith,
+      mask,
+      c.values_len-count.ensures.exact,
+      attributes_within c.args.asked c.args.about.now c.args.object.now,
+      told_within c.args.asked,
+    )

@@ -1,0 +1,14 @@
+pub mod Whole
+pub mod Handle
+pub mod Mask
+pub mod Owner
+pub mod SetTime
+pub mod Attributes
+pub mod Value
+pub mod Following
+pub mod View
+pub mod Reading
+pub mod Comparing
+pub mod Permissions
+pub mod Setting
+pub mod Laws

@@ -1,0 +1,30 @@
+-- How a value is spelled, by its kind.
+use Rattle.std.specs.Prelude.{ℕ, List, [], ◌++◌, Option, Some, None, if◌then◌else◌}
+use Rattle.std.specs.Fmt.{decimal}
+use Rattle.nfs_xdr.specs.Spelling as spelling
+use Rattle.nfs_xdr.specs.Time.{time}
+use Rattle.nfs_attrs.specs.Handle.{handle}
+use Rattle.nfs_attrs.specs.Mask.{has, spell_mask}
+use Rattle.nfs_attrs.specs.Attributes.{attributes, value_at}
+use Rattle.nfs_attrs.specs.declared.about.About.{About}
+use Rattle.nfs_attrs.specs.declared.mask.Mask.{Mask}
+use Rattle.nfs_tree.specs.declared.object.Object.{Object}
+use Rattle.nfs_attrs.specs.declared.value.Value as rust_value
+use Rattle.nfs_attrs.specs.declared.value.Value.TheVariants as V
+
+abbrev pub spell_value : rust_value.Value → List ℕ
+spell_value (V.Number n) = spelling.number n
+spell_value (V.Hyper n) = spelling.hyper n
+spell_value (V.Flag b) = spelling.flag b
+spell_value (V.FsId major minor) = spelling.hyper major ++ spelling.hyper minor
+spell_value (V.Handle h) = spelling.opaque (handle.spell h)
+spell_value (V.Owner n) = spelling.opaque (decimal n)
+spell_value (V.Mask m) = spell_mask m
+spell_value (V.Time t) = time.spell t
+
+abbrev pub spell_found : Option rust_value.Value → List ℕ
+spell_found None = []
+spell_found (Some v) = spell_value v
+
+abbrev pub asked_at : Mask → About → Object → ℕ → List ℕ
+asked_at asked a o n = if has asked n then value_at attributes n a o else []

@@ -1,0 +1,39 @@
+//! Attributes, filehandles and permission bits: what operations tell of an object, what they may set, and who may.
+//!
+//! The table of attributes stands in `specs/Attributes.antt`, a line an attribute: its number, its codec, its value, and
+//! where it goes when it is set. What is written, compared and read are the bytes of that table. Permission bits are in
+//! `specs/Permissions.antt` and `specs/Setting.antt`.
+//!
+//! ```text
+//! let asked = Mask::new(words);
+//! write_attrs(object, &about, asked, &mut sheet);       // GETATTR, READDIR
+//! let wanted = read_attrs(given, values)?;              // SETATTR, CREATE, OPEN
+//! may_set(object, &wanted, &who)?;
+//! ```
+//!
+//! RFC 8881 sections 4 (filehandles), 5 (attributes), 6.2.4 (modes) and 18.1 (ACCESS).
+#![tactic(auto)]
+
+mod about;
+mod following;
+mod handle;
+pub mod laws;
+mod mask;
+mod owner;
+mod permission;
+mod set_time;
+mod setting;
+#[cfg(test)]
+mod tests;
+mod value;
+mod wanted;
+mod writing;
+
+pub use about::About;
+pub use handle::{BadHandle, Handle};
+pub use mask::{Mask, READABLE, SETTABLE, SUPPORTED};
+pub use permission::{Access, Want, in_group, judge_access, may};
+pub use set_time::SetTime;
+pub use setting::{may_make, may_set};
+pub use wanted::{AttrFault, Wanted, read_attrs};
+pub use writing::{attrs_len, same, write_attrs};

@@ -1,0 +1,151 @@
+//! Which attributes are asked for, set or told: `bitmap4` (RFC 8881 sections 3.3.7 and 5).
+
+ghost use Rattle.std.specs.Prelude.{◌≡◌, ◌≤◌, ◌%◌, ◌==◌, ℕ, map, drop, length, not, get_or, bit_and};
+ghost use Rattle.std.specs.Int.{w32, from_be_bytes};
+ghost use Rattle.std.specs.List.{list_any};
+ghost use Rattle.nfs_xdr.specs.Paper.{HasRoom, Puts};
+ghost use Rattle.nfs_attrs.specs.Following.{Follows};
+ghost use Rattle.nfs_attrs.specs.Mask.{mask_of, has, asks_set_only, told, spell_mask, common, within};
+
+use crate::following::{number_follows, numbers_follow};
+use nfs_xdr::{Cursor, Sheet};
+
+/// A set of attributes by their numbers: attribute n is bit n mod 32 of word n / 32.
+#[derive(Clone, Copy, Debug, PartialEq, Eq)]
+pub struct Mask {
+    /// The attributes 0 to 31, 32 to 63 and 64 to 95.
+    pub words: [u32; 3],
+    /// Whether there is one from 96 on.
+    pub beyond: bool,
+}
+
+/// The word at `index`, which is zero behind the last.
+fn word(words: &[[u8; 4]], index: usize) -> u32
+    ensures { result ≡ get_or (map (from_be_bytes w32) words.now) index 0 }
+{
+    words.get(index).map_or(0, |word| u32::from_be_bytes(*word))
+}
+
+/// Whether a word behind the third is not zero.
+fn any_beyond(words: &[[u8; 4]]) -> bool
+    ensures { result ≡ list_any (λ w. not (w == 0)) (drop 3 (map (from_be_bytes w32) words.now)) }
+{
+    words
+        .iter()
+        .map(|word| u32::from_be_bytes(*word))
+        .skip(3)
+        .any(|word| word != 0)
+}
+
+/// The attributes that the server has.
+pub const SUPPORTED: Mask = Mask {
+    words: [0xf818_0fff, 0x00f1_a03a, 0x0000_0800],
+    beyond: false,
+};
+
+/// Those of them that can be read: all but the two that only set a time.
+pub const READABLE: Mask = Mask {
+    words: [0xf818_0fff, 0x00b0_a03a, 0x0000_0800],
+    beyond: false,
+};
+
+/// Those of them that can be set.
+pub const SETTABLE: Mask = Mask {
+    words: [0x0000_0010, 0x0041_0032, 0x0000_0000],
+    beyond: false,
+};
+
+impl Mask {
+    /// The mask of a list of words, as a request lends it. Words that are not there are zero.
+    pub fn new(words: &[[u8; 4]]) -> Mask
+        ensures { result ≡ mask_of (map (from_be_bytes w32) words.now) }
+    {
+        Mask {
+            words: [word(words, 0), word(words, 1), word(words, 2)],
+            beyond: any_beyond(words),
+        }
+    }
+
+    /// Whether the attribute of this number is in the mask.
+    pub fn has(&self, number: u32) -> bool
+        ensures { result ≡ has self.now number }
+    {
+        let word = self.words.get(number as usize / 32).map_or(0, |word| *word);
+        (word >> (number % 32)) % 2 == 1
+    }
+
+    /// Whether it has one of the two attributes that can only be set: `time_access_set` and `time_modify_set`.
+    pub fn asks_set_only(&self) -> bool
+        ensures { result ≡ asks_set_only self.now }
+    {
+        self.has(48) || self.has(54)
+    }
+
+    /// The words of the mask as it is written: without zero words at its end.
+    pub fn told(&self) -> &[u32]
+        ensures words { result.now ≡ told self.now }
+        ensures few { length result.now ≤ 3 }
+    {
+        match self.words {
+            [0, 0, 0] => &[],
+            [_, 0, 0] => &self.words[..1],
+            [_, _, 0] => &self.words[..2],
+            _ => &self.words,
+        }
+    }
+
+    /// How many bytes the mask has as it is written.
+    #[tactic(auto, using(crate::proofs::Lengths::measuring))]
+    pub fn len(&self) -> usize
+        ensures exact { result ≡ length (spell_mask self.now) }
+        ensures small { result ≤ 16 }
+        ensures words { result % 4 ≡ 0 }
+    {
+        4 + 4 * self.told().len()
+    }
+
+    /// Whether each attribute of the mask is one of `others`.
+    pub fn within(&self, others: &Mask) -> bool
+        ensures { result ≡ within self.now others.now }
+    {
+        !self.beyond
+            && self
+                .words
+                .iter()
+                .zip(&others.words)
+                .all(|(word, other)| word & other == *word)
+    }
+
+    /// The attributes below 96 that are in both.
+    pub fn common(&self, others: &Mask) -> Mask
+        ensures { result ≡ common self.now others.now }
+    {
+        let [a, b, c] = self.words;
+        let [x, y, z] = others.words;
+        Mask {
+            words: [a & x, b & y, c & z],
+            beyond: false,
+        }
+    }
+
+    /// Puts the mask: how many words, and the words.
+    #[tactic(auto, using(nfs_xdr::proofs::Putting::putting))]
+    pub fn put(&self, sheet: &mut Sheet)
+        requires room { HasRoom sheet.old (spell_mask self.now) }
+        ensures { Puts sheet.old sheet.new (spell_mask self.now) }
+    {
+        let words = self.told();
+        sheet.put_u32(words.len() as u32);
+        for word in words {
+            sheet.put_u32(*word);
+        }
+    }
+
+    /// Whether the mask stands at the cursor as it is written, and the cursor is then behind it.
+    pub fn follows(&self, cursor: &mut Cursor<'_>) -> bool
+        ensures { Follows result (spell_mask self.now) cursor.old cursor.new }
+    {
+        let words = self.told();
+        number_follows(words.len() as u32, cursor) && numbers_follow(words, cursor)
+    }
+}

@@ -1,0 +1,233 @@
+//! The value of each attribute that can be read (RFC 8881 section 5).
+
+ghost use Rattle.std.specs.Prelude.{◌≡◌, ◌≤◌, ◌%◌, ◌++◌, ℕ, List, length};
+ghost use Rattle.nfs_xdr.specs.Paper.{HasRoom, Puts};
+ghost use Rattle.nfs_attrs.specs.Following.{Follows};
+ghost use Rattle.nfs_attrs.specs.Value.{spell_value, spell_found, asked_at};
+ghost use Rattle.nfs_attrs.specs.Attributes as table;
+
+use crate::about::About;
+use crate::following::{hyper_follows, number_follows, opaque_follows, time_follows};
+use crate::handle::Handle;
+use crate::mask::{Mask, SETTABLE, SUPPORTED};
+use itoa::Buffer;
+use nfs_tree::{FileType, Object};
+use nfs_xdr::{Cursor, Sheet, Time};
+
+/// The value of an attribute, by the kind of its spelling.
+#[derive(Clone, Copy, Debug, PartialEq, Eq)]
+pub enum Value {
+    Number(u32),
+    Hyper(u64),
+    Flag(bool),
+    FsId(u64, u64),
+    Handle(Handle),
+    /// A user or a group, told as text.
+    Owner(u32),
+    Mask(Mask),
+    Time(Time),
+}
+
+impl Value {
+    /// Puts the value.
+    #[tactic(auto, using(nfs_xdr::proofs::Putting::putting))]
+    pub fn put(self, sheet: &mut Sheet)
+        requires room { HasRoom sheet.old (spell_value self) }
+        ensures { Puts sheet.old sheet.new (spell_value self) }
+    {
+        match self {
+            Value::Number(n) => sheet.put_u32(n),
+            Value::Hyper(n) => sheet.put_u64(n),
+            Value::Flag(b) => sheet.put_flag(b),
+            Value::FsId(major, minor) => {
+                sheet.put_u64(major);
+                sheet.put_u64(minor);
+            }
+            Value::Handle(handle) => sheet.put_opaque(&handle.bytes()),
+            Value::Owner(number) => sheet.put_opaque(Buffer::new().format(number).as_bytes()),
+            Value::Mask(mask) => mask.put(sheet),
+            Value::Time(time) => sheet.put_time(time),
+        }
+    }
+
+    /// Whether the value stands at the cursor, which is then behind it.
+    pub fn follows(self, cursor: &mut Cursor<'_>) -> bool
+        ensures { Follows result (spell_value self) cursor.old cursor.new }
+    {
+        match self {
+            Value::Number(n) => number_follows(n, cursor),
+            Value::Hyper(n) => hyper_follows(n, cursor),
+            Value::Flag(b) => number_follows(if b { 1 } else { 0 }, cursor),
+            Value::FsId(major, minor) => hyper_follows(major, cursor)
+                && hyper_follows(minor, cursor),
+            Value::Handle(handle) => opaque_follows(&handle.bytes(), cursor),
+            Value::Owner(number) => opaque_follows(Buffer::new().format(number).as_bytes(), cursor),
+            Value::Mask(mask) => mask.follows(cursor),
+            Value::Time(time) => time_follows(time, cursor),
+        }
+    }
+
+    /// How many bytes the value has.
+    #[tactic(auto, using(crate::proofs::Lengths::measuring))]
+    pub fn len(self) -> usize
+        ensures exact { result ≡ length (spell_value self) }
+        ensures small { result ≤ 20 }
+        ensures words { result % 4 ≡ 0 }
+    {
+        match self {
+            Value::Number(_) => 4,
+            Value::Flag(_) => 4,
+            Value::Hyper(_) => 8,
+            Value::FsId(_, _) => 16,
+            Value::Handle(_) => 20,
+            Value::Owner(number) => {
+                let length = Buffer::new().format(number).len();
+                4 + length + (4 - length % 4) % 4
+            }
+            Value::Mask(mask) => mask.len(),
+            Value::Time(_) => 12,
+        }
+    }
+}
+
+/// The attributes of the table, in its order.
+const NUMBERS: [u32; 31] = [
+    0, 1, 2, 3, 4, 5, 6, 7, 8, 9, 10, 11, 19, 20, 27, 28, 29, 30, 31, 33, 35, 36, 37, 45, 47, 48,
+    52, 53, 54, 55, 75,
+];
+
+/// How many bytes of the attribute of this number are asked for.
+fn asked_len(number: u32, asked: &Mask, object: &Object, about: &About) -> usize
+    ensures exact { result ≡ length (asked_at asked.now about.now object.now number) }
+    ensures small { result ≤ 20 }
+    ensures words { result % 4 ≡ 0 }
+{
+    if !asked.has(number) {
+        return 0;
+    }
+    match value_of(number, object, about) {
+        Some(value) => value.len(),
+        None => 0,
+    }
+}
+
+/// Puts the attribute of this number where it is asked for and can be read.
+fn put_asked(number: u32, asked: &Mask, object: &Object, about: &About, sheet: &mut Sheet)
+    requires room { HasRoom sheet.old (asked_at asked.now about.now object.now number) }
+    ensures { Puts sheet.old sheet.new (asked_at asked.now about.now object.now number) }
+{
+    if !asked.has(number) {
+        return;
+    }
+    if let Some(value) = value_of(number, object, about) {
+        value.put(sheet);
+    }
+}
+
+/// Whether what [`put_asked`] would put stands at the cursor, which is then behind it.
+fn asked_follows(
+    number: u32,
+    asked: &Mask,
+    object: &Object,
+    about: &About,
+    cursor: &mut Cursor<'_>,
+) -> bool
+    ensures { Follows result (asked_at asked.now about.now object.now number) cursor.old cursor.new }
+{
+    if !asked.has(number) {
+        return true;
+    }
+    match value_of(number, object, about) {
+        Some(value) => value.follows(cursor),
+        None => true,
+    }
+}
+
+/// How many bytes the values have that are asked for.
+pub fn values_len(asked: &Mask, object: &Object, about: &About) -> usize
+    ensures exact { result ≡ length (table.values asked.now about.now object.now) }
+    ensures small { result ≤ 620 }
+    ensures words { result % 4 ≡ 0 }
+{
+    let mut length = 0;
+    for number in NUMBERS {
+        length += asked_len(number, asked, object, about);
+    }
+    length
+}
+
+/// Puts the values that are asked for, one behind the other.
+pub fn put_values(asked: &Mask, object: &Object, about: &About, sheet: &mut Sheet)
+    requires room { HasRoom sheet.old (table.values asked.now about.now object.now) }
+    ensures { Puts sheet.old sheet.new (table.values asked.now about.now object.now) }
+{
+    for number in NUMBERS {
+        put_asked(number, asked, object, about, sheet);
+    }
+}
+
+/// Whether the values that are asked for stand at the cursor, which is then behind them.
+pub fn values_follow(asked: &Mask, object: &Object, about: &About, cursor: &mut Cursor<'_>) -> bool
+    ensures { Follows result (table.values asked.now about.now object.now) cursor.old cursor.new }
+{
+    for number in NUMBERS {
+        if !asked_follows(number, asked, object, about, cursor) {
+            return false;
+        }
+    }
+    true
+}
+
+/// The number of a type (`nfs_ftype4`).
+fn type_number(kind: FileType) -> u32
+    ensures { result ≡ table.type_number kind }
+{
+    match kind {
+        FileType::Regular => 1,
+        FileType::Directory => 2,
+        FileType::Link => 5,
+    }
+}
+
+/// The value of the attribute of this number; none where it cannot be read.
+#[tactic(auto, unfolding(crate::specs::Attributes::attributes))]
+pub fn value_of(number: u32, object: &Object, about: &About) -> Option<Value>
+    ensures { spell_found result ≡ table.value_at table.attributes number about.now object.now }
+{
+    let handle = Handle {
+        instance: about.instance,
+        number: about.number,
+    };
+    Some(match number {
+        0 => Value::Mask(SUPPORTED),
+        1 => Value::Number(type_number(object.kind)),
+        2 => Value::Number(0),
+        3 => Value::Hyper(object.change),
+        4 => Value::Hyper(object.size),
+        5 => Value::Flag(true),
+        6 => Value::Flag(true),
+        7 => Value::Flag(false),
+        8 => Value::FsId(0, 1),
+        9 => Value::Flag(true),
+        10 => Value::Number(about.lease),
+        11 => Value::Number(0),
+        19 => Value::Handle(handle),
+        20 => Value::Hyper(about.number),
+        27 => Value::Hyper(1_048_576),
+        28 => Value::Number(1024),
+        29 => Value::Number(255),
+        30 => Value::Hyper(65_536),
+        31 => Value::Hyper(65_536),
+        33 => Value::Number(object.mode),
+        35 => Value::Number(about.links),
+        36 => Value::Owner(object.owner),
+        37 => Value::Owner(object.group),
+        45 => Value::Hyper(object.size),
+        47 => Value::Time(object.access),
+        52 => Value::Time(object.metadata),
+        53 => Value::Time(object.modify),
+        55 => Value::Hyper(about.number),
+        75 => Value::Mask(SETTABLE),
+        _ => return None,
+    })
+}

@@ -1,0 +1,76 @@
+//! Writing and comparing the attributes of an object (RFC 8881 sections 18.7, 18.15, 18.23 and 18.31).
+
+ghost use Rattle.std.specs.Prelude.{◌≡◌, ◌≤◌, ℕ, length, bytes_eq};
+ghost use Rattle.nfs_xdr.specs.Paper.{HasRoom, Puts};
+ghost use Rattle.nfs_xdr.specs.Spelling.{opaque};
+ghost use Rattle.nfs_attrs.specs.Attributes as table;
+ghost use Rattle.nfs_attrs.specs.Comparing as comparing;
+
+use crate::about::About;
+use crate::mask::{Mask, READABLE, SUPPORTED};
+use crate::value::{put_values, values_follow, values_len};
+use crate::wanted::AttrFault;
+use nfs_tree::Object;
+use nfs_xdr::{Cursor, Sheet};
+
+/// The number of `rdattr_error`, which is never compared.
+const RDATTR_ERROR: u32 = 11;
+
+/// How many bytes [`write_attrs`] puts: at most 632.
+pub fn attrs_len(object: &Object, about: &About, asked: Mask) -> usize
+    ensures exact { result ≡ length (table.spell_attrs asked about.now object.now) }
+    ensures within { result ≤ 632 }
+{
+    let told = asked.common(&READABLE);
+    let mask = told.len();
+    let count = values_len(&asked, object, about);
+    mask + 4 + count
+}
+
+/// Puts the values that are asked for, as an opaque: behind the count of their bytes, which are whole words.
+fn put_counted(asked: &Mask, object: &Object, about: &About, sheet: &mut Sheet)
+    requires room { HasRoom sheet.old (opaque (table.values asked.now about.now object.now)) }
+    ensures { Puts sheet.old sheet.new (opaque (table.values asked.now about.now object.now)) }
+{
+    let count = values_len(asked, object, about);
+    sheet.put_u32(count as u32);
+    put_values(asked, object, about, sheet);
+}
+
+/// Puts the attributes that are asked for (`fattr4`): the mask of those that the server has and that can be read, and
+/// their values in rising order of their numbers, behind the count of their bytes. They are [`attrs_len`] bytes.
+///
+/// GETATTR and READDIR refuse a mask that [`Mask::asks_set_only`] before they write any.
+#[tactic(auto, using(nfs_xdr::proofs::Putting::putting))]
+pub fn write_attrs(object: &Object, about: &About, asked: Mask, sheet: &mut Sheet)
+    requires room { HasRoom sheet.old (table.spell_attrs asked about.now object.now) }
+    ensures { Puts sheet.old sheet.new (table.spell_attrs asked about.now object.now) }
+{
+    let readable = asked.common(&READABLE);
+    readable.put(sheet);
+    put_counted(&asked, object, about, sheet);
+}
+
+/// Whether the bytes are the values that are asked for, as the server itself writes them.
+fn are_values(asked: &Mask, object: &Object, about: &About, bytes: &[u8]) -> bool
+    ensures { result ≡ bytes_eq bytes.now (table.values asked.now about.now object.now) }
+{
+    let mut cursor = Cursor::new(bytes);
+    values_follow(asked, object, about, &mut cursor) && cursor.left() == 0
+}
+
+/// Whether the attributes of the object are those of a request, as VERIFY and NVERIFY ask: the mask `asked` and the values.
+///
+/// [`AttrFault::AttrNotSupp`] where the mask has an attribute that the server does not have, else [`AttrFault::Inval`]
+/// where it has `rdattr_error` or one that can only be set. Values that are malformed are other values.
+pub fn same(object: &Object, about: &About, asked: Mask, values: &[u8]) -> Result<bool, AttrFault>
+    ensures { result ≡ comparing.same asked values.now about.now object.now }
+{
+    if !asked.within(&SUPPORTED) {
+        return Err(AttrFault::AttrNotSupp);
+    }
+    if asked.has(RDATTR_ERROR) || asked.asks_set_only() {
+        return Err(AttrFault::Inval);
+    }
+    Ok(are_values(&asked, object, about, values))
+}
