@@ -1,4 +1,10 @@
-pub mod CutLemmas
-pub mod EntryLemmas
-pub mod FirstHitLemmas
+pub mod AnswerLemmas
+pub mod CanonicalLemmas
+pub mod ClashLemmas
+pub mod EditLemmas
+pub mod KindLemmas
+pub mod LayLemmas
+pub mod OwnerLemmas
+pub mod PlaceLemmas
 pub mod ToldLemmas
+mod SpanLemmas

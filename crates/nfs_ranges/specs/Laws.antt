@@ -2,13 +2,19 @@
 use Rattle.std.specs.Prelude.{◌≡◌, ℕ, ◌↔◌, ◌<◌, ◌≤◌, ◌^◌, Option, IsTrue}
 use Rattle.nfs_ranges.specs.declared.Kind.{Kind}
 use Rattle.nfs_ranges.specs.declared.Held.{Held}
-use Rattle.nfs_ranges.specs.Holders.{Holders, HoldsAny, holds_any}
+use Rattle.nfs_ranges.specs.Holders.{Holders, LockedBytes, at, HoldsAny, holds_any}
+use Rattle.nfs_ranges.specs.Owners.{AreCanonical}
 use Rattle.nfs_ranges.specs.Told.{Tells, told, IsBelow}
 
 -- whatever is held, exactly one thing is told, and the function `told` gives it
 abbrev pub ToldIsUnique : Type 0
-ToldIsUnique = (f : Holders) (bound s : ℕ) (kind : Kind) (first last : ℕ) (r : Option Held) → first ≤ last → last < 2 ^ 64 → IsBelow f bound → Tells f s kind first last r ↔ (told f bound s kind first last ≡ r)
+ToldIsUnique = (f : Holders) (bound s : ℕ) (kind : Kind) (first last : ℕ) (r : Option Held) → first ≤ last → last < 2 ^ 64 → IsBelow f bound →
+    Tells f s kind first last r ↔ (told f bound s kind first last ≡ r)
 
 -- whether a lock state holds a byte is what the function `holds_any` says
 abbrev pub AnyIsDecided : Type 0
 AnyIsDecided = (f : Holders) (s : ℕ) → HoldsAny f s ↔ IsTrue (holds_any f s)
+
+-- lists in canonical form that say the same of each lock state and byte are equal
+abbrev pub Canonical : Type 0
+Canonical = (os ps : LockedBytes) → AreCanonical os → AreCanonical ps → ((s b : ℕ) → b < 2 ^ 64 → at os s b ≡ at ps s b) → os ≡ ps

@@ -1,6 +1,6 @@
 //! Laws of what is told and of what is held. Each is the contract of a function that does nothing.
 
-ghost use Rattle.nfs_ranges.specs.Laws.{ToldIsUnique, AnyIsDecided};
+ghost use Rattle.nfs_ranges.specs.Laws.{ToldIsUnique, AnyIsDecided, Canonical};
 
 /// Whatever is held, exactly one answer of [`Ranges::clash`](super::Ranges::clash) is right, and
 /// the function `told` of `specs/Told.antt` gives it.
@@ -12,4 +12,9 @@ pub fn told_is_unique()
 /// computes, says whether there is a byte that the lock state holds.
 pub fn any_is_decided()
     ensures { AnyIsDecided }
+{}
+
+/// Two canonical lists that say the same of each lock state and byte are equal.
+pub fn canonical()
+    ensures { Canonical }
 {}

@@ -1,0 +1,10 @@
+use Rattle.std.proofs.Common.{subst, sym}
+use Rattle.nfs_ranges.specs.Intervals.{IsCanonical}
+use Rattle.nfs_ranges.proofs.EditLemmas.{without-canonical}
+use Rattle.nfs_ranges.proofs.owners.Owner.clear.Goals as goal
+
+pub span-requires : goal.span-requires
+span-requires c =
+    let canonical : IsCanonical c.self.inside.intervals.items = subst (λ o. IsCanonical o.intervals) (sym c.self.view_is) c.requires.canonical in
+    rw (c.deref.ensures.value, c.in_ok-clear.ensures.ok)
+    (without-canonical c.args.first c.args.last c.self.inside.intervals.items c.requires.range c.ranges.last.fits canonical)

@@ -1,0 +1,57 @@
+-- The owners of a list, in rising order of their numbers.
+use Rattle.std.specs.Prelude.{◌≡◌, ℕ, suc, ◌<◌, ◌≤◌, ◌==◌, nat_lt, Bool, true, false, if◌then◌else◌, List, [], ◌∷◌, ◌++◌, take, drop, length}
+use Rattle.std.specs.Prelude.{slice_index_or, Option, Some, None}
+use Rattle.nfs_ranges.specs.declared.interval.Interval.{Interval}
+use Rattle.nfs_ranges.specs.Intervals.{IsCanonical}
+use Rattle.nfs_ranges.specs.Holders.{Owned, LockedBytes, bytes_of}
+
+abbrev pub is_empty : List Interval → Bool
+is_empty [] = true
+is_empty (x ∷ xs) = false
+
+-- from number low on; each holds something, in canonical form
+abbrev pub AreOwners : ℕ → LockedBytes → Type 0
+AreOwners low [] = Unit {0}
+AreOwners low (o ∷ os) = (low ≤ o.number) × (is_empty o.intervals ≡ false) × IsCanonical o.intervals × AreOwners (suc o.number) os
+
+pub record AreCanonical (os : LockedBytes) : Type 0 where
+  pub from : AreOwners 0 os
+
+-- one owner's entry, if it holds anything
+abbrev pub entry : ℕ → List Interval → LockedBytes
+entry s [] = []
+entry s (x ∷ xs) = record { number = s; intervals = x ∷ xs } ∷ []
+
+-- the owner holds these intervals, in place of what it held
+abbrev pub with_owner : ℕ → List Interval → LockedBytes → LockedBytes
+with_owner s xs [] = entry s xs
+with_owner s xs (o ∷ os) =
+    if nat_lt o.number s then o ∷ with_owner s xs os else (if o.number == s then entry s xs ++ os else entry s xs ++ o ∷ os)
+
+abbrev pub is_lower : ℕ → Owned → Bool
+is_lower s o = nat_lt o.number s
+
+abbrev pub is_number : ℕ → Option Owned → Bool
+is_number s None = false
+is_number s (Some o) = o.number == s
+
+-- the owner at its place
+pub record IsFound (s : ℕ) (os : LockedBytes) (i : ℕ) : Type 0 where
+  pub within : i < length os
+  pub number : (d : Owned) → (slice_index_or os i d).number ≡ s
+  pub bytes : (d : Owned) → (slice_index_or os i d).intervals ≡ bytes_of os s
+  pub put : (xs : List Interval) → with_owner s xs os ≡ take i os ++ (entry s xs ++ drop (suc i) os)
+
+-- no such owner, and where it would stand
+pub record IsAbsent (s : ℕ) (os : LockedBytes) (i : ℕ) : Type 0 where
+  pub within : i ≤ length os
+  pub bytes : bytes_of os s ≡ []
+  pub put : (xs : List Interval) → with_owner s xs os ≡ take i os ++ (entry s xs ++ drop i os)
+
+-- no byte before the first is held, and none behind the last
+abbrev pub LieWithin : ℕ → ℕ → List Interval → Type 0
+LieWithin first last [] = Unit {0}
+LieWithin first last (x ∷ xs) = (first ≤ x.first) × (x.last ≤ last) × LieWithin first last xs
+
+pub record IsSpan (first last : ℕ) (xs : List Interval) : Type 0 where
+  pub each : LieWithin first last xs
