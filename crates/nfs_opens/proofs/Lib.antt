@@ -1,0 +1,8 @@
+pub mod Numbered
+pub mod FileLemmas
+pub mod Members
+pub mod HolderLemmas
+pub mod ShareLemmas
+pub mod TableLemmas
+pub mod LockLemmas
+pub mod StepLemmas

@@ -1,0 +1,73 @@
+use Rattle.std.proofs.Common.{◌≡◌, Some, None, ℕ, ◌+◌, ◌<◌, List, sym, subst, ap, ◌∙◌, arith, refl}
+use Rattle.std.specs.Prelude.{◌==◌, ◌^◌, Result, Ok, Err, find, not, if◌then◌else◌, map, IfSome}
+use Rattle.std.specs.Option.{option_copied}
+use Rattle.nfs_xdr.specs.declared.status.Status.{Status}
+use Rattle.nfs_opens.specs.contracts.opens.Opens.{the_view}
+use Rattle.nfs_opens.specs.declared.stateid.StateId.{StateId}
+use Rattle.nfs_opens.specs.declared.locking.OpenFault.{OpenFault}
+use Rattle.nfs_opens.specs.declared.records.OpenState.{OpenState}
+use Rattle.nfs_opens.specs.declared.records.LockState.{LockState}
+use Rattle.nfs_ranges.specs.Holders.{holding, cleared}
+use Rattle.nfs_opens.specs.Holding.{held_by, on_file}
+use Rattle.nfs_opens.specs.StateId.{next_seqid}
+use Rattle.nfs_opens.specs.Table.{Kept, Table, Did, Rises, IsTable, table, lock_at, open_at}
+use Rattle.nfs_opens.specs.Judging.{judge}
+use Rattle.nfs_opens.specs.declared.judging.Sort.TheVariants.{OpenOnly, LockOnly}
+use Rattle.nfs_opens.specs.Opening.{downgrade, downgrade_by, narrow_open, narrows, is_narrower}
+use Rattle.nfs_opens.specs.Closing.{without_lock}
+use Rattle.nfs_opens.specs.Locking.{lock_judged, lock_as, lock_more, raised, unlock, unlock_by, clear_lock}
+use Rattle.nfs_opens.proofs.Numbered.{rises}
+use Rattle.nfs_opens.proofs.LockLemmas.{same_table, holds_none, as_many, judged_open, judged_lock}
+use Rattle.nfs_opens.proofs.TableLemmas.{table_freed, table_narrowed}
+use Rattle.nfs_opens.proofs.StepLemmas.{if_some, judged_tells, found_holder, lock_as_is, table_locked, table_unlocked}
+use Rattle.nfs_opens.proofs.opens.Opens.lock_as.Goals as goal
+
+pub lock_in-requires : goal.lock_in-requires
+lock_in-requires c = subst (Rises (λ (l : LockState). l.number) 1) (sym c.deref.ensures.value)
+    (rises (λ (l : LockState). l.number) 1 _ c.self.inside.locks.items c.self.invariant.table.locks)
+
+pub raise_lock-requires : goal.raise_lock-requires
+raise_lock-requires c = rises (λ (l : LockState). l.number) 1 _ c.self.inside.locks.items c.self.invariant.table.locks
+
+pub invariant_of-self-2 : goal.invariant_of-self-2
+invariant_of-self-2 c =
+    let found : lock_at (table (the_view c.self.inside)) c.args.state ≡ Some c.in-Some.lock.now =
+    ap (find (λ (l : LockState). l.number == c.args.state)) (sym c.deref.ensures.value) ∙ (sym c.lock_in.ensures ∙ ap option_copied c.in-Some.is) in
+    let judged : lock_judged (table (the_view c.self.inside)) c.args.state c.args.access c.args.wish.now ≡ Ok tt =
+    ap (λ (k : Kept). lock_judged (table k) c.args.state c.args.access c.args.wish.now) c.self.view_is ∙ (sym c.judge_lock.ensures ∙ c.in_ok-judge_lock.was) in
+    let of_file : c.in-Some.lock.now.file ≡ c.args.wish.now.file =
+    if_some _ c.in-Some.lock.now (λ (l : LockState). l.file ≡ c.args.wish.now.file) (ap (λ (k : Kept). lock_at (table k) c.args.state) (sym c.self.view_is)
+    ∙ found) c.requires.file in
+    let same = same_table c.self.inside.opens.items _ c.raise_lock.new.locks.items _ (held_by c.set.new.self) _ c.self.inside.last c.self.inside.instance
+    refl c.raise_lock.ensures c.in_ok-set.ensures.ok in
+    record {
+      table = subst IsTable (sym same)
+          (table_locked (table (the_view c.self.inside)) c.args.wish.now c.args.state c.args.access c.in-Some.lock.now c.self.invariant.table
+          c.requires.range (omega arith) judged found of_file);
+      room = c.self.invariant.room;
+    }
+
+pub returns : goal.returns
+returns c =
+    let found : lock_at (table (the_view c.self.inside)) c.args.state ≡ Some c.in-Some.lock.now =
+    ap (find (λ (l : LockState). l.number == c.args.state)) (sym c.deref.ensures.value) ∙ (sym c.lock_in.ensures ∙ ap option_copied c.in-Some.is) in
+    let judged : lock_judged (table (the_view c.self.inside)) c.args.state c.args.access c.args.wish.now ≡ Ok tt =
+    ap (λ (k : Kept). lock_judged (table k) c.args.state c.args.access c.args.wish.now) c.self.view_is ∙ (sym c.judge_lock.ensures ∙ c.in_ok-judge_lock.was) in
+    let is = lock_as_is (table (the_view c.self.inside)) c.args.wish.now c.args.state c.args.access c.in-Some.lock.now judged found in
+    let same = same_table c.self.inside.opens.items _ c.raise_lock.new.locks.items _ (held_by c.set.new.self) _ c.self.inside.last c.self.inside.instance
+    refl c.raise_lock.ensures c.in_ok-set.ensures.ok in
+    subst (λ (k : Kept). (Ok (record { seqid = c.next_seqid-seqid.result; instance = c.self.inside.instance; number = c.args.state }) ≡
+    (lock_as (table k) c.args.wish.now c.args.state c.args.access).answer)
+    × (record {
+      opens = c.self.inside.opens.items;
+      locks = c.raise_lock.new.locks.items;
+      held = held_by c.set.new.self;
+      last = c.self.inside.last;
+      instance =
+          c.self.inside.instance;
+    } ≡ (lock_as (table k) c.args.wish.now c.args.state c.args.access).after))
+    c.self.view_is (
+      ap (λ (s : ℕ). Ok (record { seqid = s; instance = c.self.inside.instance; number = c.args.state })) c.next_seqid-seqid.ensures
+          ∙ sym (ap (λ (d : Did StateId OpenFault). d.answer) is),
+      same ∙ sym (ap (λ (d : Did StateId OpenFault). d.after) is),
+    )

@@ -1,0 +1,64 @@
+use Rattle.std.proofs.Common.{◌≡◌, Some, None, ℕ, ◌+◌, ◌<◌, ◌++◌, ◌∷◌, [], List, length, sym, subst, ap, ◌∙◌, arith, refl, eqb, false, true}
+use Rattle.std.specs.Prelude.{◌==◌, ◌^◌, Result, Ok, Err, find, not, if◌then◌else◌, map, IfSome, IsSomeAnd}
+use Rattle.std.specs.List.{list_any}
+use Rattle.std.specs.Option.{option_copied}
+use Rattle.std.proofs.lemmas.Grind.{common_steps}
+use Rattle.std.proofs.lemmas.Bool.{ne_eqb, eqb-true, and_parts}
+use Rattle.nfs_xdr.specs.declared.status.Status.{Status}
+use Rattle.nfs_opens.specs.contracts.opens.Opens.{the_view}
+use Rattle.nfs_opens.specs.declared.stateid.StateId.{StateId}
+use Rattle.nfs_opens.specs.declared.locking.OpenFault.{OpenFault}
+use Rattle.nfs_opens.specs.declared.records.OpenState.{OpenState}
+use Rattle.nfs_opens.specs.declared.records.LockState.{LockState}
+use Rattle.nfs_opens.specs.Holding.{held_by, on_file}
+use Rattle.nfs_opens.specs.StateId.{next_seqid, last_number}
+use Rattle.nfs_opens.specs.Table.{Kept, Table, Did, Rises, IsTable, table, lock_at, open_at, is_own, clashes_with}
+use Rattle.nfs_opens.specs.Judging.{judge}
+use Rattle.nfs_opens.specs.declared.judging.Sort.TheVariants.{OpenOnly, LockOnly}
+use Rattle.nfs_opens.specs.Opening.{asked, own_open, new_open, joins, downgrade, downgrade_by, narrow_open, narrows, is_narrower}
+use Rattle.nfs_opens.specs.Locking.{lock_judged, lock_first, is_locker, state_of}
+use Rattle.nfs_opens.proofs.Numbered.{rises}
+use Rattle.nfs_opens.proofs.Members.{find_in, in_one}
+use Rattle.nfs_opens.proofs.LockLemmas.{same_table, as_many, judged_open, judged_lock}
+use Rattle.nfs_opens.proofs.TableLemmas.{table_opened}
+use Rattle.nfs_opens.proofs.StepLemmas.{some_there, if_some, judged_tells, first_state, table_first, lock_first_is, narrow_done, narrow_refused, table_narrow, table_join, no_clash_asked}
+use Rattle.nfs_opens.proofs.opens.Opens.lock_first.Goals as goal
+
+pub invariant_of-self-2 : goal.invariant_of-self-2
+invariant_of-self-2 c =
+    let judged : lock_judged (table (the_view c.self.inside)) 0 c.args.access c.args.wish.now ≡ Ok tt =
+    ap (λ (k : Kept). lock_judged (table k) 0 c.args.access c.args.wish.now) c.self.view_is ∙ (sym c.judge_lock.ensures ∙ c.in_ok-judge_lock.was) in
+    let items : c.push.new.self.items ≡ c.self.inside.locks.items ++ first_state (table (the_view c.self.inside)) c.args.wish.now c.args.owner.now
+    c.args.opened ∷ [] = grind (arith, common_steps) in
+    let same = same_table c.self.inside.opens.items _ c.push.new.self.items _ (held_by c.set.new.self) _
+    (c.self.inside.last + 1) c.self.inside.instance refl items c.in_ok-set.ensures.ok in
+    let (o, found, under) = some_there _ _ c.requires.under in
+    record {
+      table = subst IsTable (sym same)
+          (table_first (table (the_view c.self.inside)) c.args.wish.now c.args.owner.now c.args.opened o c.self.invariant.table c.requires.range (omega arith)
+          (judged_tells (table (the_view c.self.inside)) 0 c.args.access c.args.wish.now c.self.invariant.table c.requires.range (omega arith) judged)
+          (ap (λ (k : Kept). open_at (table k) c.args.opened) c.self.view_is ∙ found) under.0 under.1);
+      room = c.self.invariant.room;
+    }
+
+pub returns : goal.returns
+returns c =
+    let judged : lock_judged (table (the_view c.self.inside)) 0 c.args.access c.args.wish.now ≡ Ok tt =
+    ap (λ (k : Kept). lock_judged (table k) 0 c.args.access c.args.wish.now) c.self.view_is ∙ (sym c.judge_lock.ensures ∙ c.in_ok-judge_lock.was) in
+    let items : c.push.new.self.items ≡ c.self.inside.locks.items ++ first_state (table (the_view c.self.inside)) c.args.wish.now c.args.owner.now
+    c.args.opened ∷ [] = grind (arith, common_steps) in
+    let same = same_table c.self.inside.opens.items _ c.push.new.self.items _ (held_by c.set.new.self) _
+    (c.self.inside.last + 1) c.self.inside.instance refl items c.in_ok-set.ensures.ok in
+    let is = lock_first_is (table (the_view c.self.inside)) c.args.wish.now c.args.opened c.args.owner.now c.args.access judged (ne_eqb _ _ c.if-self.false) in
+    subst (λ (k : Kept). (Ok (record { seqid = 1; instance = c.self.inside.instance; number = c.self.inside.last + 1 }) ≡
+    (lock_first (table k) c.args.wish.now c.args.opened c.args.owner.now c.args.access).answer)
+    × (record {
+      opens = c.self.inside.opens.items;
+      locks = c.push.new.self.items;
+      held = held_by c.set.new.self;
+      last = c.self.inside.last + 1;
+      instance =
+          c.self.inside.instance;
+    } ≡ (lock_first (table k) c.args.wish.now c.args.opened c.args.owner.now c.args.access).after))
+    c.self.view_is
+    (sym (ap (λ (d : Did StateId OpenFault). d.answer) is), same ∙ sym (ap (λ (d : Did StateId OpenFault). d.after) is))

@@ -1,0 +1,12 @@
+use Rattle.std.proofs.Common.{◌≡◌, false, true, sym, ap, subst, List, []}
+use Rattle.std.proofs.lemmas.Bool.{false≢true}
+use Rattle.nfs_opens.specs.Table.{Table, IsTable, no_opens}
+use Rattle.nfs_opens.specs.Holding.{held_by}
+use Rattle.nfs_opens.proofs.TableLemmas.{table_new}
+use Rattle.nfs_opens.proofs.opens.Opens.new.Goals as goal
+
+pub invariant_of-result : goal.invariant_of-result
+invariant_of-result c = record {
+  table = rw (c.new.ensures.items, c.new-2.ensures.items, c.new-3.ensures) (table_new c.args.instance);
+  room = λ yes. absurd (false≢true yes);
+}

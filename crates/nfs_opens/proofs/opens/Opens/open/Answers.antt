@@ -1,0 +1,54 @@
+use Rattle.std.proofs.Common.{◌≡◌, Some, None, ℕ, ◌+◌, ◌<◌, ◌++◌, ◌∷◌, [], List, length, sym, subst, ap, ◌∙◌, arith, refl, eqb, false, true}
+use Rattle.std.specs.Prelude.{◌==◌, ◌^◌, Result, Ok, Err, find, not, if◌then◌else◌, map, IfSome, IsSomeAnd}
+use Rattle.std.specs.List.{list_any}
+use Rattle.std.specs.Option.{option_copied}
+use Rattle.std.proofs.lemmas.Grind.{common_steps}
+use Rattle.std.proofs.lemmas.Bool.{ne_eqb, eqb-true, and_parts, false≢true}
+use Rattle.nfs_xdr.specs.declared.status.Status.{Status}
+use Rattle.nfs_opens.specs.contracts.opens.Opens.{the_view}
+use Rattle.nfs_opens.specs.declared.stateid.StateId.{StateId}
+use Rattle.nfs_opens.specs.declared.locking.OpenFault.{OpenFault}
+use Rattle.nfs_opens.specs.declared.records.OpenState.{OpenState}
+use Rattle.nfs_opens.specs.declared.records.LockState.{LockState}
+use Rattle.nfs_opens.specs.Holding.{held_by, on_file}
+use Rattle.nfs_opens.specs.StateId.{next_seqid, last_number}
+use Rattle.nfs_opens.specs.Table.{Kept, Table, Did, Rises, IsTable, table, lock_at, open_at, is_own, clashes_with}
+use Rattle.nfs_opens.specs.Judging.{judge}
+use Rattle.nfs_opens.specs.declared.judging.Sort.TheVariants.{OpenOnly, LockOnly}
+use Rattle.nfs_opens.specs.Opening.{asked, own_open, new_open, joins, downgrade, downgrade_by, narrow_open, narrows, is_narrower}
+use Rattle.nfs_opens.specs.Locking.{lock_judged, lock_first, is_locker, state_of}
+use Rattle.nfs_opens.proofs.Numbered.{rises}
+use Rattle.nfs_opens.proofs.Members.{find_in, in_one}
+use Rattle.nfs_opens.proofs.LockLemmas.{same_table, as_many, judged_open, judged_lock}
+use Rattle.nfs_opens.proofs.TableLemmas.{table_opened}
+use Rattle.nfs_opens.proofs.StepLemmas.{if_some, judged_tells, first_state, table_first, lock_first_is, narrow_done, narrow_refused, table_narrow, table_join, no_clash_asked}
+use Rattle.nfs_opens.proofs.opens.Opens.open.Goals as goal
+
+pub join_open-requires : goal.join_open-requires
+join_open-requires c = rises (λ (o : OpenState). o.number) 1 _ c.self.inside.opens.items c.self.invariant.table.opens
+
+pub invariant_of-self : goal.invariant_of-self
+invariant_of-self c =
+    let own : own_open (table (the_view c.self.inside)) (asked c.args.ask.now) ≡ Some c.in-Some.open.now =
+    ap (find (is_own (asked c.args.ask.now))) (sym c.deref.ensures.value) ∙ (sym c.own_open.ensures ∙ ap option_copied c.in-Some.is) in
+    let free : list_any (clashes_with (asked c.args.ask.now)) c.self.inside.opens.items ≡ false =
+    ap (λ (k : Kept). list_any (clashes_with (asked c.args.ask.now)) k.opens) c.self.view_is ∙ no_clash_asked _ _ c.requires.judged in
+    let same = same_table c.join_open.new.opens.items _ c.self.inside.locks.items _ (held_by c.self.inside.files) _ c.self.inside.last c.self.inside.instance
+    c.join_open.ensures.items refl refl in
+    record {
+      table = subst IsTable (sym same) (table_join (table (the_view c.self.inside)) (asked c.args.ask.now) c.in-Some.open.now c.self.invariant.table own free);
+      room = λ yes. as_many (λ (o : OpenState). if o.number == c.in-Some.open.now.number then joins (asked c.args.ask.now) o else o)
+          c.self.inside.opens.items c.join_open.new.opens.items _ _ c.join_open.ensures.items c.join_open.ensures.room (c.self.invariant.room yes);
+    }
+
+pub invariant_of-self-in-None : goal.invariant_of-self-in-None
+invariant_of-self-in-None c =
+    let free : list_any (clashes_with (asked c.args.ask.now)) c.self.inside.opens.items ≡ false =
+    ap (λ (k : Kept). list_any (clashes_with (asked c.args.ask.now)) k.opens) c.self.view_is ∙ no_clash_asked _ _ c.requires.judged in
+    let items : c.push.new.self.items ≡ c.self.inside.opens.items ++ new_open (table (the_view c.self.inside)) (asked c.args.ask.now) ∷ [] = grind
+    (arith, common_steps) in
+    let same = ap (λ (xs : List OpenState). record (table (the_view c.self.inside)) { opens = xs; last = c.self.inside.last + 1 }) items in
+    record {
+      table = subst IsTable (sym same) (table_opened (table (the_view c.self.inside)) (asked c.args.ask.now) c.self.invariant.table free);
+      room = λ yes. absurd (false≢true yes);
+    }

@@ -1,0 +1,88 @@
+use Rattle.std.proofs.Common.{◌≡◌, Some, None, ℕ, ◌+◌, ◌<◌, List, sym, subst, ap, ◌∙◌, arith, refl}
+use Rattle.std.specs.Prelude.{◌==◌, ◌^◌, Result, Ok, Err, find, not, if◌then◌else◌, map, IfSome}
+use Rattle.std.specs.Option.{option_copied}
+use Rattle.nfs_xdr.specs.declared.status.Status.{Status}
+use Rattle.nfs_opens.specs.contracts.opens.Opens.{the_view}
+use Rattle.nfs_opens.specs.declared.stateid.StateId.{StateId}
+use Rattle.nfs_opens.specs.declared.locking.OpenFault.{OpenFault}
+use Rattle.nfs_opens.specs.declared.locking.OpenFault.TheVariants.{Refused}
+use Rattle.nfs_xdr.specs.declared.status.Status.TheVariants.{BadStateId}
+use Rattle.nfs_opens.specs.declared.records.OpenState.{OpenState}
+use Rattle.nfs_opens.specs.declared.records.LockState.{LockState}
+use Rattle.nfs_ranges.specs.Holders.{holding, cleared}
+use Rattle.nfs_opens.specs.Holding.{held_by, on_file}
+use Rattle.nfs_opens.specs.StateId.{next_seqid}
+use Rattle.nfs_opens.specs.Table.{Kept, Table, Did, Rises, IsTable, table, lock_at, open_at}
+use Rattle.nfs_opens.specs.Judging.{judge}
+use Rattle.nfs_opens.specs.declared.judging.Sort.TheVariants.{OpenOnly, LockOnly}
+use Rattle.nfs_opens.specs.Opening.{downgrade, downgrade_by, narrow_open, narrows, is_narrower}
+use Rattle.nfs_opens.specs.Closing.{without_lock}
+use Rattle.nfs_opens.specs.Locking.{lock_judged, lock_as, lock_more, raised, unlock, unlock_by, clear_lock}
+use Rattle.nfs_opens.proofs.Numbered.{rises}
+use Rattle.nfs_opens.proofs.LockLemmas.{same_table, holds_none, as_many, judged_open, judged_lock}
+use Rattle.nfs_opens.proofs.TableLemmas.{table_freed, table_narrowed}
+use Rattle.nfs_opens.proofs.StepLemmas.{if_some, judged_tells, found_holder, lock_as_is, table_locked, table_unlocked}
+use Rattle.nfs_opens.proofs.opens.Opens.unlock.Goals as goal
+
+pub lock_in-requires : goal.lock_in-requires
+lock_in-requires c = subst (Rises (λ (l : LockState). l.number) 1) (sym c.deref.ensures.value)
+    (rises (λ (l : LockState). l.number) 1 _ c.self.inside.locks.items c.self.invariant.table.locks)
+
+pub clear_bytes-requires-clause-within : goal.clear_bytes-requires-clause-within
+clear_bytes-requires-clause-within c = c.self.invariant.table.within c.args.file
+
+pub returns-in-None : goal.returns-in-None
+returns-in-None c =
+    let judged : judge (table (the_view c.self.inside)) c.args.id c.args.client (Some c.args.file) LockOnly ≡ Ok c.in_ok-judge.field-0 =
+    ap (λ (k : Kept). judge (table k) c.args.id c.args.client (Some c.args.file) LockOnly) c.self.view_is ∙ (sym c.judge.ensures ∙ c.in_ok-judge.was) in
+    let found : lock_at (table (the_view c.self.inside)) c.args.id.number ≡ None =
+    ap (find (λ (l : LockState). l.number == c.args.id.number)) (sym c.deref.ensures.value) ∙ (sym c.lock_in.ensures ∙ ap option_copied c.in-None.is) in
+    let is : unlock (table (the_view c.self.inside)) c.args.id c.args.client c.args.file c.args.first c.args.last ≡ clear_lock
+    (table (the_view c.self.inside)) c.args.id.number c.args.file c.args.first c.args.last None =
+    ap (unlock_by (table (the_view c.self.inside)) c.args.id.number c.args.file c.args.first c.args.last) judged
+    ∙ ap (clear_lock (table (the_view c.self.inside)) c.args.id.number c.args.file c.args.first c.args.last) found in
+    subst (λ (k : Kept). (Err (Refused BadStateId) ≡ (unlock (table k) c.args.id c.args.client c.args.file c.args.first c.args.last).answer) ×
+    (table k ≡ (unlock (table k) c.args.id c.args.client c.args.file c.args.first c.args.last).after))
+    c.self.view_is
+    (sym (ap (λ (d : Did StateId OpenFault). d.answer) is), sym (ap (λ (d : Did StateId OpenFault). d.after) is))
+
+pub raise_lock-requires : goal.raise_lock-requires
+raise_lock-requires c = rises (λ (l : LockState). l.number) 1 _ c.self.inside.locks.items c.self.invariant.table.locks
+
+pub invariant_of-self-2 : goal.invariant_of-self-2
+invariant_of-self-2 c =
+    let same = same_table c.self.inside.opens.items _ c.raise_lock.new.locks.items _
+    (held_by c.clear_bytes.new.files) _ c.self.inside.last c.self.inside.instance refl c.raise_lock.ensures c.in_ok-clear_bytes.ensures.ok in
+    record {
+      table = subst IsTable (sym same)
+          (table_unlocked (table (the_view c.self.inside)) c.args.id.number c.args.file c.args.first c.args.last c.self.invariant.table);
+      room =
+          c.self.invariant.room;
+    }
+
+pub returns : goal.returns
+returns c =
+    let found : lock_at (table (the_view c.self.inside)) c.args.id.number ≡ Some c.in-Some.lock.now =
+    ap (find (λ (l : LockState). l.number == c.args.id.number)) (sym c.deref.ensures.value) ∙ (sym c.lock_in.ensures ∙ ap option_copied c.in-Some.is) in
+    let judged : judge (table (the_view c.self.inside)) c.args.id c.args.client (Some c.args.file) LockOnly ≡ Ok c.in_ok-judge.field-0 =
+    ap (λ (k : Kept). judge (table k) c.args.id c.args.client (Some c.args.file) LockOnly) c.self.view_is ∙ (sym c.judge.ensures ∙ c.in_ok-judge.was) in
+    let is : unlock (table (the_view c.self.inside)) c.args.id c.args.client c.args.file c.args.first c.args.last ≡ clear_lock
+    (table (the_view c.self.inside)) c.args.id.number c.args.file c.args.first c.args.last (Some c.in-Some.lock.now) =
+    ap (unlock_by (table (the_view c.self.inside)) c.args.id.number c.args.file c.args.first c.args.last) judged
+    ∙ ap (clear_lock (table (the_view c.self.inside)) c.args.id.number c.args.file c.args.first c.args.last) found in
+    let same = same_table c.self.inside.opens.items _ c.raise_lock.new.locks.items _
+    (held_by c.clear_bytes.new.files) _ c.self.inside.last c.self.inside.instance refl c.raise_lock.ensures c.in_ok-clear_bytes.ensures.ok in
+    subst (λ (k : Kept). (Ok (record { seqid = c.next_seqid-seqid.result; instance = c.self.inside.instance; number = c.args.id.number }) ≡
+    (unlock (table k) c.args.id c.args.client c.args.file c.args.first c.args.last).answer)
+    × (record {
+      opens = c.self.inside.opens.items;
+      locks = c.raise_lock.new.locks.items;
+      held = held_by c.clear_bytes.new.files;
+      last = c.self.inside.last;
+      instance = c.self.inside.instance;
+    } ≡ (unlock (table k) c.args.id c.args.client c.args.file c.args.first c.args.last).after))
+    c.self.view_is (
+      ap (λ (s : ℕ). Ok (record { seqid = s; instance = c.self.inside.instance; number = c.args.id.number })) c.next_seqid-seqid.ensures
+          ∙ sym (ap (λ (d : Did StateId OpenFault). d.answer) is),
+      same ∙ sym (ap (λ (d : Did StateId OpenFault). d.after) is),
+    )

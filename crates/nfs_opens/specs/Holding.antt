@@ -1,0 +1,29 @@
+-- The locked bytes of all files: of each file who holds which byte, and how (RFC 8881 section 9.1).
+use Rattle.std.specs.Prelude.{◌≡◌, ◌≢◌, ℕ, ◌≤◌, ◌^◌, ◌==◌, Bool, List, [], ◌∷◌, Some, None, if◌then◌else◌}
+use Rattle.nfs_ranges.specs.declared.Kind.TheVariants.{Write}
+use Rattle.nfs_ranges.specs.Holders.{Holders, at, nobody}
+use Rattle.nfs_opens.specs.declared.locked_files.LockedFile.{LockedFile}
+
+-- for each file, each lock state by its number and each byte: how it holds the byte, if it does
+abbrev pub FileHolders : Type 0
+FileHolders = ℕ → Holders
+
+abbrev pub unlocked : FileHolders
+unlocked f = nobody
+
+-- what a list of files says, each with its locked bytes
+abbrev pub held_by : List LockedFile → FileHolders
+held_by [] f = nobody
+held_by (e ∷ es) f = if e.file == f then at e.ranges else held_by es f
+
+-- one file's holders change, all others stay
+abbrev pub on_file : FileHolders → ℕ → (Holders → Holders) → FileHolders
+on_file held file change f = if f == file then change (held f) else held f
+
+-- no byte has a writer beside another holder
+abbrev pub HasNoClash : Holders → Type 0
+HasNoClash h = (s t b : ℕ) → s ≢ t → h s b ≡ Some Write → h t b ≡ None
+
+-- no byte from 2^64 on is held
+abbrev pub HasNoByteBehind : Holders → Type 0
+HasNoByteBehind h = (s b : ℕ) → 2 ^ 64 ≤ b → h s b ≡ None

@@ -1,0 +1,9 @@
+pub mod Closing
+pub mod Holding
+pub mod Judging
+pub mod Laws
+pub mod Locking
+pub mod Opening
+pub mod Share
+pub mod StateId
+pub mod Table

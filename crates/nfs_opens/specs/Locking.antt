@@ -1,0 +1,147 @@
+-- LOCK, LOCKT and LOCKU (RFC 8881 sections 18.10 to 18.12).
+use Rattle.std.specs.Prelude.{◌≡◌, ℕ, ◌+◌, ◌==◌, suc, Bool, not, ◌&&◌, List, [], ◌∷◌, ◌++◌, Option, Some, None, Result, Ok, Err, IsOk, find, bytes_eq, if◌then◌else◌, IsTrue}
+use Rattle.nfs_xdr.specs.declared.status.Status.{Status}
+use Rattle.nfs_xdr.specs.declared.status.Status.TheVariants.{BadStateId, OpenMode, ServerFault}
+use Rattle.nfs_ranges.specs.declared.Kind.{Kind}
+use Rattle.nfs_ranges.specs.declared.Kind.TheVariants.{Read, Write}
+use Rattle.nfs_ranges.specs.declared.Held.{Held}
+use Rattle.nfs_ranges.specs.Holders.{holding, cleared}
+use Rattle.nfs_ranges.specs.Told.{told}
+use Rattle.nfs_opens.specs.declared.share.Share.{Share}
+use Rattle.nfs_opens.specs.declared.stateid.StateId.{StateId}
+use Rattle.nfs_opens.specs.declared.records.LockState.{LockState}
+use Rattle.nfs_opens.specs.declared.judging.Seat.{Seat}
+use Rattle.nfs_opens.specs.declared.judging.Seat.TheVariants.{Anonymous, ReadBypass, Open, Lock}
+use Rattle.nfs_opens.specs.declared.judging.Sort.TheVariants.{OpenOnly, LockOnly}
+use Rattle.nfs_opens.specs.declared.locking.Wish.{Wish}
+use Rattle.nfs_opens.specs.declared.locking.Locker.{Locker}
+use Rattle.nfs_opens.specs.declared.locking.Locker.TheVariants.{New, Known}
+use Rattle.nfs_opens.specs.declared.locking.OpenFault.{OpenFault}
+use Rattle.nfs_opens.specs.declared.locking.OpenFault.TheVariants.{Refused, Denied, Memory}
+use Rattle.nfs_opens.specs.Share.{neither}
+use Rattle.nfs_opens.specs.StateId.{next_seqid, last_number}
+use Rattle.nfs_opens.specs.Holding.{on_file}
+use Rattle.nfs_opens.specs.Table.{Table, Did, lock_at, with_lock}
+use Rattle.nfs_opens.specs.Judging.{judge}
+
+-- the lock state that a lock owner has on a file
+abbrev pub is_locker : ℕ → List ℕ → ℕ → LockState → Bool
+is_locker client owner file l = (l.file == file) && ((l.client == client) && bytes_eq l.owner owner)
+
+abbrev pub state_of : Table → ℕ → List ℕ → ℕ → Option LockState
+state_of t client owner file = find (is_locker client owner file) t.locks
+
+-- under which number a clash is looked for: 0 is no state's
+abbrev pub number_of : Option LockState → ℕ
+number_of None = 0
+number_of (Some l) = l.number
+
+-- what is told against a wish to lock bytes
+abbrev pub clash : Table → ℕ → Wish → Option Held
+clash t state w = told (t.held w.file) (suc t.last) state w.kind w.first w.last
+
+-- LOCKT: no open is needed
+abbrev pub test_lock : Table → List ℕ → Wish → Option Held
+test_lock t owner w = clash t (number_of (state_of t w.client owner w.file)) w
+
+-- the open's access lets bytes be locked in this way
+abbrev pub permits : Share → Kind → Bool
+permits access Read = access.reads
+permits access Write = access.writes
+
+abbrev pub access_in : Seat → Share
+access_in (Open number access) = access
+access_in (Lock number access) = access
+access_in seat = neither
+
+abbrev pub raised : LockState → LockState
+raised l = record l { seqid = next_seqid l.seqid }
+
+abbrev pub lock_refused : Table → OpenFault → Did StateId OpenFault
+lock_refused t fault = record { answer = Err fault; after = t }
+
+-- a lock state that stands holds the bytes in this way, and its seqid rises
+abbrev pub lock_more : Table → Wish → ℕ → Option LockState → Did StateId OpenFault
+lock_more t w n None = lock_refused t (Refused BadStateId)
+lock_more t w n (Some l) = record {
+  answer = Ok (record { seqid = next_seqid l.seqid; instance = t.instance; number = n });
+  after = record (with_lock t n raised) { held = on_file t.held w.file (λ h. holding h n w.kind w.first w.last) };
+}
+
+-- a new lock state under an open holds the bytes
+abbrev pub lock_new : Table → Wish → ℕ → List ℕ → Did StateId OpenFault
+lock_new t w opened owner =
+    if t.last == last_number then lock_refused t (Refused ServerFault)
+    else record {
+      answer = Ok (record { seqid = 1; instance = t.instance; number = t.last + 1 });
+      after = record t {
+        locks = t.locks ++ record { number = t.last + 1; client = w.client; owner = owner; file = w.file; opened = opened; seqid = 1 } ∷ [];
+        held = on_file t.held w.file (λ h. holding h (t.last + 1) w.kind w.first w.last);
+        last = t.last + 1;
+      };
+    }
+
+abbrev pub unless_told : Option Held → Result (Unit {0}) OpenFault
+unless_told (Some h) = Err (Denied h)
+unless_told None = Ok tt
+
+-- the kind against the open's access, then the clash
+abbrev pub lock_judged : Table → ℕ → Share → Wish → Result (Unit {0}) OpenFault
+lock_judged t state access w = if permits access w.kind then unless_told (clash t state w) else Err (Refused OpenMode)
+
+abbrev pub does_if : Table → Result (Unit {0}) OpenFault → Did StateId OpenFault → Did StateId OpenFault
+does_if t (Err fault) granted = lock_refused t fault
+does_if t (Ok unit) granted = granted
+
+-- by a lock state that stands, with the access of an open
+abbrev pub lock_as : Table → Wish → ℕ → Share → Did StateId OpenFault
+lock_as t w n access = does_if t (lock_judged t n access w) (lock_more t w n (lock_at t n))
+
+-- by a lock owner that has no state on the file
+abbrev pub lock_first : Table → Wish → ℕ → List ℕ → Share → Did StateId OpenFault
+lock_first t w opened owner access = does_if t (lock_judged t 0 access w) (lock_new t w opened owner)
+
+abbrev pub lock_by_owner : Table → Wish → ℕ → List ℕ → Share → Option LockState → Did StateId OpenFault
+lock_by_owner t w opened owner access (Some l) = lock_as t w l.number access
+lock_by_owner t w opened owner access None = lock_first t w opened owner access
+
+-- a new lock owner uses the state that it has on the file, if it has one
+abbrev pub lock_under : Table → Wish → ℕ → List ℕ → Result Seat Status → Did StateId OpenFault
+lock_under t w opened owner (Err status) = lock_refused t (Refused status)
+lock_under t w opened owner (Ok seat) = lock_by_owner t w opened owner (access_in seat) (state_of t w.client owner w.file)
+
+abbrev pub lock_known : Table → Wish → ℕ → Result Seat Status → Did StateId OpenFault
+lock_known t w state (Err status) = lock_refused t (Refused status)
+lock_known t w state (Ok seat) = lock_as t w state (access_in seat)
+
+abbrev pub lock : Table → Locker → Wish → Did StateId OpenFault
+lock t (New under owner) w = lock_under t w under.number owner.now (judge t under w.client (Some w.file) OpenOnly)
+lock t (Known state) w = lock_known t w state.number (judge t state w.client (Some w.file) LockOnly)
+
+-- the call does what is said; or it wants memory where it would have been granted, and changes nothing
+abbrev pub LocksOrWants : Table → Did StateId OpenFault → Result StateId OpenFault → Table → Type 0
+LocksOrWants old did (Err Memory) new = IsOk did.answer × (new ≡ old)
+LocksOrWants old did answer new = (answer ≡ did.answer) × (new ≡ did.after)
+
+-- LOCKU: the lock state holds none of the bytes, and its seqid rises
+abbrev pub clear_lock : Table → ℕ → ℕ → ℕ → ℕ → Option LockState → Did StateId OpenFault
+clear_lock t n file first last None = lock_refused t (Refused BadStateId)
+clear_lock t n file first last (Some l) = record {
+  answer = Ok (record { seqid = next_seqid l.seqid; instance = t.instance; number = n });
+  after = record (with_lock t n raised) { held = on_file t.held file (λ h. cleared h n first last) };
+}
+
+abbrev pub unlock_by : Table → ℕ → ℕ → ℕ → ℕ → Result Seat Status → Did StateId OpenFault
+unlock_by t n file first last (Err status) = lock_refused t (Refused status)
+unlock_by t n file first last (Ok seat) = clear_lock t n file first last (lock_at t n)
+
+abbrev pub unlock : Table → StateId → ℕ → ℕ → ℕ → ℕ → Did StateId OpenFault
+unlock t state client file first last = unlock_by t state.number file first last (judge t state client (Some file) LockOnly)
+
+-- the bytes of a whole file, which are given up without memory
+abbrev pub is_whole : ℕ → ℕ → Bool
+is_whole first last = (first == 0) && (last == 0xffff_ffff_ffff_ffff)
+
+abbrev pub UnlocksOrWants : Table → Bool → Did StateId OpenFault → Result StateId OpenFault → Table → Type 0
+UnlocksOrWants old whole did (Err Memory) new = IsTrue (not whole) × IsOk did.answer × (new ≡ old)
+UnlocksOrWants old whole did answer new = (answer ≡ did.answer) × (new ≡ did.after)

@@ -1,0 +1,76 @@
+-- OPEN and OPEN_DOWNGRADE as far as they concern opens (RFC 8881 sections 18.16 and 18.18).
+use Rattle.std.specs.Prelude.{ℕ, ◌+◌, ◌==◌, Bool, true, false, not, ◌&&◌, ◌||◌, List, [], ◌∷◌, ◌++◌, Option, Some, None, is_none, Result, Ok, Err, find, if◌then◌else◌}
+use Rattle.std.specs.List.{list_any}
+use Rattle.nfs_xdr.specs.Checks.{first_fault}
+use Rattle.nfs_xdr.specs.declared.status.Status.{Status}
+use Rattle.nfs_xdr.specs.declared.status.Status.TheVariants.{BadStateId, ShareDenied, ServerFault, Inval}
+use Rattle.nfs_opens.specs.declared.share.Share.{Share}
+use Rattle.nfs_opens.specs.declared.stateid.StateId.{StateId}
+use Rattle.nfs_opens.specs.declared.records.OpenState.{OpenState}
+use Rattle.nfs_opens.specs.declared.opening.Ask.{Ask}
+use Rattle.nfs_opens.specs.declared.judging.Seat.{Seat}
+use Rattle.nfs_opens.specs.declared.judging.Sort.TheVariants.{OpenOnly}
+use Rattle.nfs_opens.specs.Share.{joined, is_part, is_neither}
+use Rattle.nfs_opens.specs.StateId.{next_seqid, last_number}
+use Rattle.nfs_opens.specs.Table.{Table, Did, Asked, is_own, clashes_with, open_at, with_open}
+use Rattle.nfs_opens.specs.Judging.{judge}
+
+abbrev pub asked : Ask → Asked
+asked a = record { client = a.client; owner = a.owner.now; file = a.file; access = a.access; deny = a.deny }
+
+-- the open that the owner has of the file
+abbrev pub own_open : Table → Asked → Option OpenState
+own_open t a = find (is_own a) t.opens
+
+-- a share clash; and no number is left for a new open
+abbrev pub open_checks : Table → Asked → List (Bool × Status)
+open_checks t a =
+    (list_any (clashes_with a) t.opens, ShareDenied)
+    ∷ (is_none (own_open t a) && (t.last == last_number), ServerFault)
+    ∷ []
+
+abbrev pub open_fault : Table → Asked → Option Status
+open_fault t a = first_fault (open_checks t a)
+
+-- the owner's second open joins the bits and raises the seqid
+abbrev pub joins : Asked → OpenState → OpenState
+joins a o = record o { seqid = next_seqid o.seqid; access = joined o.access a.access; deny = joined o.deny a.deny }
+
+abbrev pub new_open : Table → Asked → OpenState
+new_open t a = record { number = t.last + 1; client = a.client; owner = a.owner; file = a.file; seqid = 1; access = a.access; deny = a.deny }
+
+-- the stateid that OPEN answers, and the table after it
+pub record Opened : Type 0 where
+  pub id : StateId
+  pub after : Table
+
+abbrev pub opens_by : Table → Asked → Option OpenState → Opened
+opens_by t a (Some o) = record { id = record { seqid = next_seqid o.seqid; instance = t.instance; number = o.number }; after = with_open t o.number (joins a) }
+opens_by t a None = record {
+  id = record { seqid = 1; instance = t.instance; number = t.last + 1 };
+  after = record t { opens = t.opens ++ new_open t a ∷ []; last = t.last + 1 };
+}
+
+abbrev pub opens : Table → Asked → Opened
+opens t a = opens_by t a (own_open t a)
+
+-- OPEN_DOWNGRADE: some access, and no bit that the open does not have
+abbrev pub is_narrower : Share → Share → OpenState → Bool
+is_narrower access deny o = not (is_neither access) && (is_part access o.access && is_part deny o.deny)
+
+abbrev pub narrows : Share → Share → OpenState → OpenState
+narrows access deny o = record o { seqid = next_seqid o.seqid; access = access; deny = deny }
+
+abbrev pub narrow_open : Table → ℕ → Share → Share → Option OpenState → Did StateId Status
+narrow_open t n access deny None = record { answer = Err BadStateId; after = t }
+narrow_open t n access deny (Some o) =
+    if is_narrower access deny o
+    then record { answer = Ok (record { seqid = next_seqid o.seqid; instance = t.instance; number = n }); after = with_open t n (narrows access deny) }
+    else record { answer = Err Inval; after = t }
+
+abbrev pub downgrade_by : Table → ℕ → Share → Share → Result Seat Status → Did StateId Status
+downgrade_by t n access deny (Err status) = record { answer = Err status; after = t }
+downgrade_by t n access deny (Ok seat) = narrow_open t n access deny (open_at t n)
+
+abbrev pub downgrade : Table → StateId → ℕ → ℕ → Share → Share → Did StateId Status
+downgrade t id client file access deny = downgrade_by t id.number access deny (judge t id client (Some file) OpenOnly)

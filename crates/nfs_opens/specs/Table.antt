@@ -1,0 +1,125 @@
+-- Opens, lock states and locked bytes (RFC 8881 sections 8.2, 9.1 and 9.7).
+use Rattle.std.specs.Prelude.{◌≡◌, ◌≢◌, ◌⊎◌, ℕ, ◌==◌, suc, ◌<◌, ◌≤◌, ⊤, Bool, true, false, length, not, ◌&&◌, ◌||◌, List, [], ◌∷◌, Option, None, Result, find, map, bytes_eq, if◌then◌else◌}
+use Rattle.std.specs.List.{list_any}
+use Rattle.nfs_xdr.specs.Tables.{IsRising}
+use Rattle.nfs_ranges.specs.Told.{IsBelow}
+use Rattle.nfs_opens.specs.declared.share.Share.{Share}
+use Rattle.nfs_opens.specs.declared.records.OpenState.{OpenState}
+use Rattle.nfs_opens.specs.declared.records.LockState.{LockState}
+use Rattle.nfs_opens.specs.declared.locked_files.LockedFile.{LockedFile}
+use Rattle.nfs_opens.specs.Share.{meets}
+use Rattle.nfs_opens.specs.Holding.{FileHolders, HasNoClash, HasNoByteBehind, held_by, unlocked}
+
+-- what an `Opens` keeps: opens and lock states in rising order of their numbers, the locked bytes by file, the last number
+-- that was given (0 before the first), the server's instance, and whether there is room for one more open
+pub record Kept : Type 0 where
+  pub opens : List OpenState
+  pub locks : List LockState
+  pub files : List LockedFile
+  pub last : ℕ
+  pub instance : ℕ
+  pub ready : Bool
+
+-- what it means: who holds a byte is a function of file, lock state and byte
+pub record Table : Type 0 where
+  pub opens : List OpenState
+  pub locks : List LockState
+  pub held : FileHolders
+  pub last : ℕ
+  pub instance : ℕ
+
+abbrev pub table : Kept → Table
+table k = record { opens = k.opens; locks = k.locks; held = held_by k.files; last = k.last; instance = k.instance }
+
+-- nothing is open, nothing is locked
+abbrev pub no_opens : ℕ → Table
+no_opens instance = record { opens = []; locks = []; held = unlocked; last = 0; instance = instance }
+
+-- the open and the lock state of a number
+abbrev pub open_at : Table → ℕ → Option OpenState
+open_at t n = find (λ o. o.number == n) t.opens
+
+abbrev pub lock_at : Table → ℕ → Option LockState
+lock_at t n = find (λ l. l.number == n) t.locks
+
+-- one open or one lock state changes, and all else stays as it is
+abbrev pub with_open : Table → ℕ → (OpenState → OpenState) → Table
+with_open t n change = record t { opens = map (λ o. if o.number == n then change o else o) t.opens }
+
+abbrev pub with_lock : Table → ℕ → (LockState → LockState) → Table
+with_lock t n change = record t { locks = map (λ l. if l.number == n then change l else l) t.locks }
+
+-- what one call answers, and the table after it
+pub record Did (X F : Type 0) : Type 0 where
+  pub answer : Result X F
+  pub after : Table
+
+-- who asks to open which file, and how
+pub record Asked : Type 0 where
+  pub client : ℕ
+  pub owner : List ℕ
+  pub file : ℕ
+  pub access : Share
+  pub deny : Share
+
+-- the open is the asking owner's: an owner is known by its client and its string
+abbrev pub is_owners : Asked → OpenState → Bool
+is_owners a o = (o.client == a.client) && bytes_eq o.owner a.owner
+
+abbrev pub is_own : Asked → OpenState → Bool
+is_own a o = (o.file == a.file) && is_owners a o
+
+-- an open of the same file by another owner, which denies what is asked or has what is to be denied (section 9.7)
+abbrev pub clashes_with : Asked → OpenState → Bool
+clashes_with a o = (o.file == a.file) && (not (is_owners a o) && (meets a.access o.deny || meets a.deny o.access))
+
+abbrev pub as_asked : OpenState → Asked
+as_asked o = record { client = o.client; owner = o.owner; file = o.file; access = o.access; deny = o.deny }
+
+abbrev pub In : {X : Type 0} → X → List X → Type 0
+In x [] = ⊥
+In x (y ∷ ys) = (x ≡ y) ⊎ In x ys
+
+-- the numbers rise, from low on
+abbrev pub Rises : {X : Type 0} → (X → ℕ) → ℕ → List X → Type 0
+Rises number low [] = ⊤
+Rises number low (x ∷ xs) = (low ≤ number x) × Rises number (suc (number x)) xs
+
+-- a lock state's open stands, and is of the same client and file
+pub record IsUnder (opens : List OpenState) (l : LockState) (o : OpenState) : Type 0 where
+  pub stands : In o opens
+  pub number : o.number ≡ l.opened
+  pub client : o.client ≡ l.client
+  pub file : o.file ≡ l.file
+
+-- a holder of bytes of a file is a lock state that stands on that file
+pub record IsHolder (locks : List LockState) (f s : ℕ) (l : LockState) : Type 0 where
+  pub stands : In l locks
+  pub number : l.number ≡ s
+  pub file : l.file ≡ f
+
+abbrev pub AreHolders : List LockState → FileHolders → Type 0
+AreHolders locks held = (f s b : ℕ) → held f s b ≢ None → (l : LockState) × IsHolder locks f s l
+
+-- What holds of every table.
+pub record IsTable (t : Table) : Type 0 where
+  -- numbers rise, and were all given
+  pub opens : IsRising (λ o. o.number) 1 t.opens (suc t.last)
+  pub locks : IsRising (λ l. l.number) 1 t.locks (suc t.last)
+  -- no two opens of different owners clash
+  pub shares : (a b : OpenState) → In a t.opens → In b t.opens → clashes_with (as_asked a) b ≡ false
+  -- each lock state has its open
+  pub under : (l : LockState) → In l t.locks → (o : OpenState) × IsUnder t.opens l o
+  -- each holder of a byte is a lock state on that file
+  pub holders : AreHolders t.locks t.held
+  -- no byte has a writer beside another holder
+  pub bytes : (f : ℕ) → HasNoClash (t.held f)
+  -- a file has no byte from 2^64 on
+  pub within : (f : ℕ) → HasNoByteBehind (t.held f)
+  -- no number behind the last holds a byte
+  pub below : (f : ℕ) → IsBelow (t.held f) (suc t.last)
+
+-- What holds of all that is kept; capacity is how many opens there is room for.
+pub record IsKept (k : Kept) (capacity : ℕ) : Type 0 where
+  pub table : IsTable (table k)
+  pub room : k.ready ≡ true → length k.opens < capacity

@@ -1,0 +1,168 @@
+//! OPEN and OPEN_DOWNGRADE as far as they concern opens (RFC 8881 sections 18.16 and 18.18).
+
+ghost use Rattle.std.specs.Prelude.{◌≡◌, ◌==◌, ◌+◌, ◌<◌, true, None, IfOk, OnOk, OnErr, map, find};
+ghost use Rattle.std.specs.Option.{option_copied};
+ghost use Rattle.std.specs.List.{list_any};
+ghost use Rattle.nfs_xdr.specs.Checks.{judged};
+ghost use Rattle.nfs_opens.specs.Table.{IsTable, table, is_own, clashes_with};
+ghost use Rattle.nfs_opens.specs.Opening.{asked, open_fault, opens, downgrade};
+
+use crate::judging::Sort;
+use crate::opens::Opens;
+use crate::owner::Owner;
+use crate::records::{OpenState, join_open, narrow_open, open_in};
+use crate::share::Share;
+use crate::stateid::{StateId, next_seqid};
+use nfs_xdr::Status;
+use std::alloc::{AllocError, Global};
+use std::marker::Model;
+
+/// Who asks to open which file, and how.
+#[derive(Clone, Copy, Debug)]
+pub struct Ask<'a> {
+    /// The client id of the session.
+    pub client: u64,
+    /// The open owner.
+    pub owner: &'a [u8],
+    /// The number of the file.
+    pub file: u64,
+    /// What the open is to be allowed.
+    pub access: Share,
+    /// What it denies to other owners.
+    pub deny: Share,
+}
+
+/// Room for one open of an owner: [`Opens::reserve`] alone makes it.
+#[derive(Drop)]
+pub struct Ready {
+    owner: Owner,
+}
+
+impl Model for Ready {
+    ghost use Rattle.std.specs.Prelude.{ℕ, List};
+
+    ghost Value = { List ℕ };
+
+    ghost view = { λ r. r.owner };
+}
+
+/// The open that an owner has of a file.
+fn own_open<'a>(opens: &'a [OpenState], ask: &Ask) -> Option<&'a OpenState>
+    ensures { option_copied result ≡ find (is_own (asked ask.now)) opens.now }
+{
+    for open in opens {
+        if open.is_own(ask) {
+            return Some(open);
+        }
+    }
+    None
+}
+
+fn clash_in(opens: &[OpenState], ask: &Ask) -> bool
+    ensures { result ≡ list_any (clashes_with (asked ask.now)) opens.now }
+{
+    opens.iter().any(|o| o.clashes_with(ask))
+}
+
+impl Opens {
+    /// Whether `open` may be called; changes nothing.
+    ///
+    /// The checks in their order: SHARE_DENIED where an open of the file by another owner denies what is asked, or has
+    /// what is to be denied (RFC 8881 section 9.7); SERVERFAULT where the owner has no open of the file and each
+    /// number was given.
+    pub fn judge_open(&self, ask: &Ask) -> Result<(), Status>
+        ensures { result ≡ judged (open_fault (table self.now) (asked ask.now)) }
+    {
+        if clash_in(&self.opens, ask) {
+            return Err(Status::ShareDenied);
+        }
+        if own_open(&self.opens, ask).is_none() && self.last == u64::MAX {
+            return Err(Status::ServerFault);
+        }
+        Ok(())
+    }
+
+    /// Room for one open by this owner. `Err`: there is no memory, and nothing has changed.
+    pub fn reserve(&mut self, alloc: Global, owner: &[u8]) -> Result<Ready, AllocError>
+        ensures owner { IfOk result (λ r. r ≡ owner.now) }
+        ensures ok { OnOk result (self.new ≡ record self.old { ready = true }) }
+        ensures err { OnErr result (self.new ≡ self.old) }
+    {
+        let owner = Owner::of(alloc, owner)?;
+        self.opens.reserve(1)?;
+        self.ready = true;
+        Ok(Ready { owner })
+    }
+
+    /// OPEN's effect: a new open with seqid 1; or, where the owner has an open of the file, what is asked joined to what
+    /// it has, and its seqid raised. Answers its stateid. Takes no memory.
+    pub fn open(&mut self, ready: Ready, ask: &Ask) -> StateId
+        requires owner { ready ≡ ask.now.owner.now }
+        requires room { self.old.ready ≡ true }
+        requires judged { open_fault (table self.old) (asked ask.now) ≡ None }
+        ensures id { result ≡ (opens (table self.old) (asked ask.now)).id }
+        ensures after { table self.new ≡ (opens (table self.old) (asked ask.now)).after }
+    {
+        match own_open(&self.opens, ask) {
+            Some(open) => {
+                let (number, seqid) = (open.number, next_seqid(open.seqid));
+                join_open(&mut self.opens, number, ask);
+                StateId {
+                    seqid,
+                    instance: self.instance,
+                    number,
+                }
+            }
+            None => {
+                let number = self.last + 1;
+                self.ready = false;
+                self.last = number;
+                self.opens
+                    .push(OpenState {
+                        number,
+                        client: ask.client,
+                        owner: ready.owner,
+                        file: ask.file,
+                        seqid: 1,
+                        access: ask.access,
+                        deny: ask.deny,
+                    })
+                    .unwrap();
+                StateId {
+                    seqid: 1,
+                    instance: self.instance,
+                    number,
+                }
+            }
+        }
+    }
+
+    /// OPEN_DOWNGRADE: an open has less access and denies less from now on, and its seqid rises.
+    ///
+    /// `id` and `file` are judged as of an open; then INVAL where the access is none, or access or deny has a bit that
+    /// the open's has not. A refusal changes nothing.
+    pub fn downgrade(
+        &mut self,
+        id: StateId,
+        client: u64,
+        file: u64,
+        access: Share,
+        deny: Share,
+    ) -> Result<StateId, Status>
+        ensures answer { result ≡ (downgrade (table self.old) id client file access deny).answer }
+        ensures after { table self.new ≡ (downgrade (table self.old) id client file access deny).after }
+    {
+        self.judge(id, client, Some(file), Sort::OpenOnly)?;
+        let seqid = match open_in(&self.opens, id.number) {
+            None => return Err(Status::BadStateId),
+            Some(open) if !open.is_narrower(access, deny) => return Err(Status::Inval),
+            Some(open) => next_seqid(open.seqid),
+        };
+        narrow_open(&mut self.opens, id.number, access, deny);
+        Ok(StateId {
+            seqid,
+            instance: self.instance,
+            number: id.number,
+        })
+    }
+}

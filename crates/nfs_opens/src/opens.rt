@@ -1,0 +1,100 @@
+//! The table of all opens, lock states and locked bytes.
+
+ghost use Rattle.std.specs.Prelude.{◌≡◌, ◌==◌, ◌&&◌, count_by, find};
+ghost use Rattle.std.specs.Option.{option_copied};
+ghost use Rattle.std.specs.List.{list_any};
+ghost use Rattle.nfs_opens.specs.Table.{IsTable, table, no_opens, open_at, lock_at};
+
+use crate::locked_files::LockedFiles;
+use crate::records::{LockState, OpenState, lock_in};
+use crate::share::Share;
+use std::alloc::Global;
+use std::marker::Model;
+
+/// All opens and lock states in rising order of their numbers, and the locked bytes of all files.
+#[derive(Drop)]
+pub struct Opens {
+    pub(crate) opens: Vec<OpenState>,
+    pub(crate) locks: Vec<LockState>,
+    pub(crate) files: LockedFiles,
+    /// The last number that was given, to an open or a lock state; 0 before the first.
+    pub(crate) last: u64,
+    pub(crate) instance: u32,
+    /// There is room for one more open.
+    pub(crate) ready: bool,
+}
+
+impl Model for Opens {
+    ghost use Rattle.std.specs.Prelude.{◌≡◌, ◌<◌, true, length, vec_capacity};
+    ghost use Rattle.nfs_opens.specs.Table.{Kept, IsKept};
+
+    ghost Value = { Kept };
+
+    ghost view = { λ t. record { opens = t.opens.items; locks = t.locks.items; files = t.files; last = t.last; instance = t.instance; ready = t.ready } };
+
+    ghost invariant = { λ t. IsKept (record { opens = t.opens.items; locks = t.locks.items; files = t.files; last = t.last; instance = t.instance; ready = t.ready }) (vec_capacity t.opens) };
+}
+
+fn denies_reads(opens: &[OpenState], file: u64) -> bool
+    ensures { result ≡ list_any (λ o. (o.file == file) && o.deny.reads) opens.now }
+{
+    opens.iter().any(|o| o.file == file && o.deny.reads)
+}
+
+fn denies_writes(opens: &[OpenState], file: u64) -> bool
+    ensures { result ≡ list_any (λ o. (o.file == file) && o.deny.writes) opens.now }
+{
+    opens.iter().any(|o| o.file == file && o.deny.writes)
+}
+
+impl Opens {
+    /// Nothing is open and nothing is locked. `instance` tells this start of the server from others, and stands in each
+    /// stateid. Later calls grow by `alloc`.
+    pub fn new(alloc: Global, instance: u32) -> Self
+        ensures { table result ≡ no_opens instance }
+    {
+        Opens {
+            opens: Vec::new(alloc),
+            locks: Vec::new(alloc),
+            files: LockedFiles::new(alloc),
+            last: 0,
+            instance,
+            ready: false,
+        }
+    }
+
+    /// The lock state of a number, as a clash that is told names it: its client and its lock owner.
+    pub fn lock_state(&self, number: u64) -> Option<&LockState>
+        ensures found { option_copied result ≡ lock_at (table self.now) number }
+        ensures kept { IsTable (table self.now) }
+    {
+        lock_in(&self.locks, number)
+    }
+
+    /// How many opens a file has.
+    pub fn opens_of(&self, file: u64) -> usize
+        ensures count { result ≡ count_by (λ o. o.file == file) (table self.now).opens }
+        ensures kept { IsTable (table self.now) }
+    {
+        self.opens.iter().filter(|o| o.file == file).count()
+    }
+
+    /// What the opens of a file deny, joined.
+    pub fn denies(&self, file: u64) -> Share
+        ensures reads { result.reads ≡ list_any (λ o. (o.file == file) && o.deny.reads) (table self.now).opens }
+        ensures writes { result.writes ≡ list_any (λ o. (o.file == file) && o.deny.writes) (table self.now).opens }
+    {
+        Share {
+            reads: denies_reads(&self.opens, file),
+            writes: denies_writes(&self.opens, file),
+        }
+    }
+
+    /// Whether a client has an open.
+    pub fn has_open(&self, client: u64) -> bool
+        ensures found { result ≡ list_any (λ o. o.client == client) (table self.now).opens }
+        ensures kept { IsTable (table self.now) }
+    {
+        self.opens.iter().any(|o| o.client == client)
+    }
+}

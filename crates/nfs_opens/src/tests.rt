@@ -1,0 +1,426 @@
+//! Worked opens and locks of two clients, and each growing call with a growth refused.
+
+use super::*;
+use nfs_ranges::{Held, Kind};
+use nfs_xdr::Status;
+use std::alloc::Global;
+use std::test::Fail;
+
+const A: u64 = 0x7_0000_0001;
+
+const B: u64 = 0x7_0000_0002;
+
+const FILE: u64 = 2;
+
+const LAST: u64 = u64::MAX;
+
+fn share(bits: u32) -> Share {
+    Share::from_bits(bits).unwrap_or(Share::neither())
+}
+
+fn ask(client: u64, access: u32, deny: u32) -> Ask<'static> {
+    Ask {
+        client,
+        owner: b"o",
+        file: FILE,
+        access: share(access),
+        deny: share(deny),
+    }
+}
+
+fn id(seqid: u32, number: u64) -> StateId {
+    StateId {
+        seqid,
+        instance: 7,
+        number,
+    }
+}
+
+fn wish(client: u64, kind: Kind, first: u64, last: u64) -> Wish {
+    Wish {
+        client,
+        file: FILE,
+        kind,
+        first,
+        last,
+    }
+}
+
+/// OPEN as far as it concerns opens.
+fn open_file(opens: &mut Opens, alloc: Global, ask: &Ask) -> Result<StateId, OpenFault> {
+    opens.judge_open(ask)?;
+    let ready = opens.reserve(alloc, ask.owner)?;
+    Ok(opens.open(ready, ask))
+}
+
+/// LOCK of a range whose bounds are in order.
+fn lock_bytes(
+    opens: &mut Opens,
+    alloc: Global,
+    locker: &Locker,
+    wish: &Wish,
+) -> Result<StateId, OpenFault> {
+    if wish.first > wish.last {
+        return Err(OpenFault::Refused(Status::Inval));
+    }
+    opens.lock(alloc, locker, wish)
+}
+
+/// LOCKT of a range whose bounds are in order.
+fn told_of(opens: &Opens, owner: &[u8], wish: &Wish) -> Option<Held> {
+    if wish.first > wish.last {
+        return None;
+    }
+    opens.test_lock(owner, wish)
+}
+
+#[test]
+fn share_reservations(rt: HostRuntime) -> Result<(), Fail> {
+    let mut opens = Opens::new(rt.alloc(), 7);
+    let first = open_file(&mut opens, rt.alloc(), &ask(A, 1, 2));
+    assert_eq!(rt; first, Ok(id(1, 1)));
+    let denied = Err(OpenFault::Refused(Status::ShareDenied));
+    for (access, deny, want) in [
+        (3, 0, denied),
+        (2, 0, denied),
+        (1, 1, denied),
+        (1, 0, Ok(id(1, 2))),
+    ] {
+        let got = open_file(&mut opens, rt.alloc(), &ask(B, access, deny));
+        assert_eq!(rt; got, want, "B opens with {access}, {deny}");
+    }
+    assert_eq!(rt; (opens.opens_of(FILE), opens.denies(FILE)), (2, share(2)));
+    for want in [Ok(()), Err(Status::BadStateId)] {
+        assert_eq!(rt; opens.close(id(1, 1), A, FILE), want);
+    }
+    assert_eq!(rt; (opens.has_open(A), opens.has_open(B)), (false, true));
+    Ok(())
+}
+
+#[test]
+fn a_downgrade_narrows(rt: HostRuntime) -> Result<(), Fail> {
+    let mut opens = Opens::new(rt.alloc(), 7);
+    for (access, want) in [(1, Ok(id(1, 1))), (3, Ok(id(2, 1)))] {
+        let got = open_file(&mut opens, rt.alloc(), &ask(B, access, 0));
+        assert_eq!(rt; got, want, "B opens with {access}");
+    }
+    for (access, deny, want) in [
+        (0, 0, Err(Status::Inval)),
+        (1, 1, Err(Status::Inval)),
+        (1, 0, Ok(id(3, 1))),
+        (2, 0, Err(Status::Inval)),
+    ] {
+        let got = opens.downgrade(id(0, 1), B, FILE, share(access), share(deny));
+        assert_eq!(rt; got, want, "to {access}, {deny}");
+    }
+    Ok(())
+}
+
+#[test]
+fn stateids(rt: HostRuntime) -> Result<(), Fail> {
+    let mut opens = Opens::new(rt.alloc(), 7);
+    let _ = open_file(&mut opens, rt.alloc(), &ask(A, 1, 0));
+    let _ = open_file(&mut opens, rt.alloc(), &ask(A, 3, 0));
+    let open = Ok(Seat::Open {
+        number: 1,
+        access: share(3),
+    });
+    let bad = Err(Status::BadStateId);
+    let all_ones = StateId {
+        seqid: u32::MAX,
+        instance: u32::MAX,
+        number: LAST,
+    };
+    for (given, client, file, sort, want) in [
+        (
+            StateId::ANONYMOUS,
+            A,
+            Some(FILE),
+            Sort::Either,
+            Ok(Seat::Anonymous),
+        ),
+        (StateId::ANONYMOUS, A, Some(FILE), Sort::OpenOnly, bad),
+        (all_ones, A, Some(FILE), Sort::Either, Ok(Seat::ReadBypass)),
+        (
+            StateId {
+                seqid: 1,
+                ..StateId::ANONYMOUS
+            },
+            A,
+            None,
+            Sort::Either,
+            bad,
+        ),
+        (
+            StateId {
+                seqid: 0,
+                ..all_ones
+            },
+            A,
+            None,
+            Sort::Either,
+            bad,
+        ),
+        (id(2, 1), A, Some(FILE), Sort::OpenOnly, open),
+        (id(0, 1), A, None, Sort::Either, open),
+        (
+            id(1, 1),
+            A,
+            Some(FILE),
+            Sort::OpenOnly,
+            Err(Status::OldStateId),
+        ),
+        (id(3, 1), A, Some(FILE), Sort::OpenOnly, bad),
+        (id(2, 1), B, Some(FILE), Sort::OpenOnly, bad),
+        (id(2, 1), A, Some(3), Sort::OpenOnly, bad),
+        (id(2, 1), A, Some(FILE), Sort::LockOnly, bad),
+        (id(2, 9), A, Some(FILE), Sort::OpenOnly, bad),
+        (
+            StateId {
+                instance: 8,
+                ..id(2, 1)
+            },
+            A,
+            Some(FILE),
+            Sort::OpenOnly,
+            bad,
+        ),
+    ] {
+        let got = opens.judge(given, client, file, sort);
+        assert_eq!(rt; got, want, "{given:?} as {sort:?}");
+    }
+    let current = StateId {
+        seqid: 1,
+        ..StateId::ANONYMOUS
+    };
+    for (given, stands, form, want) in [
+        (current, id(4, 1), CurrentSeqid::Any, Ok(id(0, 1))),
+        (current, id(4, 1), CurrentSeqid::Own, Ok(id(4, 1))),
+        (current, StateId::ANONYMOUS, CurrentSeqid::Any, bad_id()),
+        (
+            current,
+            StateId {
+                seqid: u32::MAX,
+                ..StateId::ANONYMOUS
+            },
+            CurrentSeqid::Own,
+            bad_id(),
+        ),
+        (current, all_ones, CurrentSeqid::Any, bad_id()),
+        (id(2, 5), id(4, 1), CurrentSeqid::Any, Ok(id(2, 5))),
+    ] {
+        assert_eq!(rt;
+            given.resolve(stands, form),
+            want,
+            "{given:?} where {stands:?}"
+        );
+    }
+    Ok(())
+}
+
+fn bad_id() -> Result<StateId, Status> {
+    Err(Status::BadStateId)
+}
+
+fn held(kind: Kind, first: u64, last: u64) -> Held {
+    Held {
+        owner: 3,
+        kind,
+        first,
+        last,
+    }
+}
+
+fn denied(held: Held) -> Result<StateId, OpenFault> {
+    Err(OpenFault::Denied(held))
+}
+
+/// The file is open to A (1) and to B (2), for READ and WRITE.
+fn two_opens(alloc: Global) -> Opens {
+    let mut opens = Opens::new(alloc, 7);
+    for client in [A, B] {
+        let _ = open_file(&mut opens, alloc, &ask(client, 3, 0));
+    }
+    opens
+}
+
+const LOCKER_A: Locker = Locker::New {
+    under: StateId {
+        seqid: 1,
+        instance: 7,
+        number: 1,
+    },
+    owner: b"a",
+};
+
+const LOCKER_B: Locker = Locker::New {
+    under: StateId {
+        seqid: 1,
+        instance: 7,
+        number: 2,
+    },
+    owner: b"b",
+};
+
+/// A's lock state 3 holds bytes 0 to 99, 10 to 19 of them for READ, and the last byte; its seqid is 3.
+fn locked(alloc: Global) -> Opens {
+    let mut opens = two_opens(alloc);
+    for (kind, first, last) in [
+        (Kind::Write, 0, 99),
+        (Kind::Read, 10, 19),
+        (Kind::Write, LAST, LAST),
+    ] {
+        let _ = lock_bytes(&mut opens, alloc, &LOCKER_A, &wish(A, kind, first, last));
+    }
+    opens
+}
+
+#[test]
+fn locks(rt: HostRuntime) -> Result<(), Fail> {
+    let mut opens = two_opens(rt.alloc());
+    for (locker, wish, want) in [
+        (LOCKER_A, wish(A, Kind::Write, 0, 99), Ok(id(1, 3))),
+        (
+            LOCKER_B,
+            wish(B, Kind::Write, 40, 59),
+            denied(held(Kind::Write, 0, 99)),
+        ),
+        (LOCKER_B, wish(B, Kind::Write, 200, 219), Ok(id(1, 4))),
+        (LOCKER_A, wish(A, Kind::Read, 10, 19), Ok(id(2, 3))),
+        (LOCKER_B, wish(B, Kind::Read, 10, 19), Ok(id(2, 4))),
+        (
+            LOCKER_B,
+            wish(B, Kind::Write, 10, 19),
+            denied(held(Kind::Read, 10, 19)),
+        ),
+        (LOCKER_A, wish(A, Kind::Write, LAST, LAST), Ok(id(3, 3))),
+    ] {
+        let got = lock_bytes(&mut opens, rt.alloc(), &locker, &wish);
+        assert_eq!(rt; got, want, "{wish:?}");
+    }
+    Ok(())
+}
+
+#[test]
+fn a_wish_is_told_the_run_that_it_meets(rt: HostRuntime) -> Result<(), Fail> {
+    let mut opens = locked(rt.alloc());
+    let unlocked = opens.unlock(rt.alloc(), id(3, 3), A, FILE, 40, 59);
+    assert_eq!(rt; unlocked, Ok(id(4, 3)));
+    for (first, last, want) in [
+        (30, 69, Some(held(Kind::Write, 20, 39))),
+        (40, 59, None),
+        (LAST, LAST, Some(held(Kind::Write, LAST, LAST))),
+    ] {
+        let told = told_of(&opens, b"b", &wish(B, Kind::Read, first, last));
+        assert_eq!(rt; told, want, "from {first} to {last}");
+    }
+    Ok(())
+}
+
+#[test]
+fn what_holds_a_byte_is_not_freed(rt: HostRuntime) -> Result<(), Fail> {
+    let mut opens = locked(rt.alloc());
+    for (given, client, want) in [
+        (id(3, 3), A, Err(Status::LocksHeld)),
+        (id(1, 1), A, Err(Status::LocksHeld)),
+        (id(2, 3), A, Err(Status::OldStateId)),
+        (id(0, 3), B, Err(Status::BadStateId)),
+        (StateId::ANONYMOUS, A, Err(Status::BadStateId)),
+    ] {
+        assert_eq!(rt; opens.free(given, client), want, "{given:?}");
+    }
+    Ok(())
+}
+
+#[test]
+fn a_lock_state_without_bytes_is_freed(rt: HostRuntime) -> Result<(), Fail> {
+    let mut opens = locked(rt.alloc());
+    let unlocked = opens.unlock(rt.alloc(), id(0, 3), A, FILE, 0, LAST);
+    assert_eq!(rt; unlocked, Ok(id(4, 3)));
+    for want in [Ok(()), Err(Status::BadStateId)] {
+        assert_eq!(rt; opens.free(id(4, 3), A), want);
+    }
+    Ok(())
+}
+
+#[test]
+fn a_lock_state_goes_with_its_client(rt: HostRuntime) -> Result<(), Fail> {
+    let mut opens = locked(rt.alloc());
+    let holder = opens
+        .lock_state(3)
+        .map(|l| (l.client, l.owner.bytes() == b"a".as_slice()));
+    assert_eq!(rt; holder, Some((A, true)));
+    for want in [Some(FILE), None] {
+        assert_eq!(rt; opens.drop_client(A), want);
+    }
+    assert!(rt; opens.lock_state(3).is_none());
+    Ok(())
+}
+
+#[test]
+fn a_seqid_after_the_last_is_one(rt: HostRuntime) -> Result<(), Fail> {
+    for (seqid, next) in [(1, 2), (u32::MAX - 1, u32::MAX), (u32::MAX, 1)] {
+        assert_eq!(rt; stateid::next_seqid(seqid), next, "behind {seqid}");
+    }
+    Ok(())
+}
+
+const MOST: usize = 300_000;
+
+/// Takes all memory that there is to take, untouched, down to blocks of 16 bytes.
+fn starve(alloc: Global, taken: &mut Vec<Vec<u8>>) {
+    let mut size = 1usize << 46;
+    for _ in 0..MOST {
+        match Vec::with_capacity(alloc, size) {
+            Ok(block) => {
+                if taken.push(block).is_err() {
+                    return;
+                }
+            }
+            Err(_) => {
+                size /= 2;
+                if size < 16 {
+                    return;
+                }
+            }
+        }
+    }
+}
+
+#[test]
+fn a_refused_growth_changes_nothing(rt: HostRuntime) -> Result<(), Fail> {
+    let mut opens = Opens::new(rt.alloc(), 7);
+    let _ = open_file(&mut opens, rt.alloc(), &ask(A, 3, 0));
+    let new = Locker::New {
+        under: id(1, 1),
+        owner: b"a",
+    };
+    let other = Locker::New {
+        under: id(1, 1),
+        owner: b"other",
+    };
+    let _ = lock_bytes(&mut opens, rt.alloc(), &new, &wish(A, Kind::Write, 0, 99));
+    let mut taken = Vec::with_capacity(rt.alloc(), MOST)?;
+    starve(rt.alloc(), &mut taken);
+    let reserved = opens
+        .reserve(rt.alloc(), b"a longer owner than any block")
+        .is_err();
+    let locked = lock_bytes(
+        &mut opens,
+        rt.alloc(),
+        &other,
+        &wish(A, Kind::Read, 200, 299),
+    );
+    let whole = opens.unlock(rt.alloc(), id(1, 2), A, FILE, 0, LAST);
+    let told = told_of(&opens, b"other", &wish(B, Kind::Read, 15, 45));
+    drop(taken);
+    assert!(rt; reserved, "the growth for an open was not refused");
+    assert_eq!(rt; locked, Err(OpenFault::Memory));
+    assert_eq!(rt;
+        whole,
+        Ok(id(2, 2)),
+        "bytes of a whole file are given up without memory"
+    );
+    assert_eq!(rt; told, None);
+    Ok(())
+}
