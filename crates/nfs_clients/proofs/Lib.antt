@@ -1,4 +1,4 @@
-pub mod Places
 pub mod Members
+pub mod Changes
 pub mod Rows
 pub mod Once

@@ -1,38 +1,16 @@
--- An id that was given names the record that it was given to, or none.
-use Rattle.std.proofs.Common.{◌≡◌, ℕ, ◌<◌, Bool, true, false, not, eqb, List, [], ◌∷◌, ◌++◌, map, Option, Some, None, refl, arith, inl, inr}
-use Rattle.std.specs.Prelude.{find, filter}
-use Rattle.std.proofs.lemmas.Bool.{cases_Bool, ne_eqb}
-use Rattle.nfs_clients.specs.declared.client.Client.{Client}
-use Rattle.nfs_clients.specs.Roster.{Roster, next_id, client_at, is_unconfirmed_of, with_changed}
-use Rattle.nfs_clients.specs.ExchangeId.{Ask, Case, Refuses, Tells, Adds, case_of, does, with_new, new_client}
-use Rattle.nfs_clients.specs.CreateSession.{keeps, leaving, dropped}
-use Rattle.nfs_clients.specs.Laws.{Change, Exchanges, Confirms, Keeps, Reclaims, Holds, Removes, changed, after_all, IdsAreGivenOnce}
-use Rattle.nfs_clients.proofs.Places.{change_at}
-use Rattle.nfs_clients.proofs.Members.{IsMild, mild_keeps, confirms, confirmed_id, mild_at}
-
-gone_filter : (id : ℕ) (p : Client → Bool) (xs : List Client) → find (λ c. eqb c.id id) xs ≡ None → find (λ c. eqb c.id id) (filter p xs) ≡ None
-gone_filter id p [] gone = refl
-gone_filter id p (x ∷ xs) gone =
-    elim (cases_Bool (eqb x.id id)) [
-      | inl here ↦ absurd (let h : Some x ≡ None = rw here at gone in cc)
-      | inr other ↦ (let rest = gone_filter id p xs (rw other at gone) in elim (cases_Bool (p x)) [ inl stays ↦ rw (stays, other) rest | inr goes ↦ rw goes rest ])
-    ]
-
-gone_map : (id : ℕ) (f : Client → Client) → ((c : Client) → (f c).id ≡ c.id) → (xs : List Client) → find (λ c. eqb c.id id) xs ≡ None → find (λ c. eqb c.id id) (map f xs) ≡ None
-gone_map id f same [] gone = refl
-gone_map id f same (x ∷ xs) gone =
-    elim (cases_Bool (eqb x.id id)) [
-      | inl here ↦ absurd (let h : Some x ≡ None = rw here at gone in cc)
-      | inr other ↦ rw (same x, other) (gone_map id f same xs (rw other at gone))
-    ]
-
-gone_push : (id : ℕ) (xs : List Client) (new : Client) → eqb new.id id ≡ false → find (λ c. eqb c.id id) xs ≡ None → find (λ c. eqb c.id id) (xs ++ new ∷ []) ≡ None
-gone_push id [] new other gone = rw other refl
-gone_push id (x ∷ xs) new other gone =
-    elim (cases_Bool (eqb x.id id)) [
-      | inl here ↦ absurd (let h : Some x ≡ None = rw here at gone in cc)
-      | inr not_x ↦ rw not_x (gone_push id xs new other (rw not_x at gone))
-    ]
+-- What holds over all changes of a table: an id that was given names the record that it was given to, or none; and each table is in order.
+use Rattle.std.proofs.Common.{◌≡◌, ℕ, ◌<◌, Bool, true, false, not, eqb, List, [], ◌∷◌, Option, Some, None, refl, arith}
+use Rattle.std.specs.Prelude.{filter}
+use Rattle.std.proofs.lemmas.Bool.{ne_eqb}
+use Rattle.nfs_xdr.proofs.Tables.{gone_filter, gone_map, gone_push}
+use Rattle.nfs_clients.specs.Roster.{ClientRecord, Roster, IsRoster, no_clients, next_id, client_at, is_unconfirmed_of, with_changed}
+use Rattle.nfs_clients.specs.ExchangeId.{Ask, Case, Refuses, Tells, Adds, has_room, if_room, case_by, case_of, does, with_new, new_client}
+use Rattle.nfs_clients.specs.CreateSession.{keeps, leaving, without_any, confirms}
+use Rattle.nfs_clients.specs.DestroyClientId.{destroy_fault, without_unless}
+use Rattle.nfs_clients.specs.declared.destroy.DestroyFault.{DestroyFault}
+use Rattle.nfs_clients.specs.Laws.{Change, Exchanges, Confirms, Keeps, Reclaims, Holds, Destroys, Removes, changed, after_all, IdsAreGivenOnce, TablesAreInOrder}
+use Rattle.nfs_clients.specs.Roster.{confirmed_of}
+use Rattle.nfs_clients.proofs.Members.{the_id, change_at, IsMild, mild_keeps, mild_reclaims, mild_holds, confirmed_id, mild_at, roster_changed, roster_confirmed, roster_without, roster_new}
 
 -- the id stays given, and names none
 record StaysGone (t : Roster) (id : ℕ) : Type 0 where
@@ -42,8 +20,8 @@ record StaysGone (t : Roster) (id : ℕ) : Type 0 where
 gone_new : (t : Roster) (a : Ask) (id : ℕ) → StaysGone t id → StaysGone (with_new t a) id
 gone_new t a id is = record {
   given = (let given = is.given in omega arith);
-  gone = gone_push id (filter (λ c. not (is_unconfirmed_of a.owner c)) t.records) (new_client t a) (ne_eqb (next_id t) id (λ e. absurd (let given = is.given in omega arith)))
-      (gone_filter id (λ c. not (is_unconfirmed_of a.owner c)) t.records is.gone);
+  gone = gone_push the_id id (filter (λ c. not (is_unconfirmed_of a.owner c)) t.records) (new_client t a) (ne_eqb (next_id t) id (λ e. absurd (let given = is.given in omega arith)))
+      (gone_filter the_id id (λ c. not (is_unconfirmed_of a.owner c)) t.records is.gone);
 }
 
 gone_case : (t : Roster) (a : Ask) (k : Case) (id : ℕ) → StaysGone t id → StaysGone (does t a k).after id
@@ -51,23 +29,28 @@ gone_case t a (Refuses fault) id is = is
 gone_case t a (Tells c) id is = is
 gone_case t a Adds id is = gone_new t a id is
 
-gone_changed : (t : Roster) (n : ℕ) (f : Client → Client) (id : ℕ) → IsMild f → StaysGone t id → StaysGone (with_changed t n f) id
-gone_changed t n f id mild is = record { given = is.given; gone = gone_map id (change_at n f) (mild_at f n mild).id t.records is.gone }
+gone_changed : (t : Roster) (n : ℕ) (f : ClientRecord → ClientRecord) (id : ℕ) → IsMild f → StaysGone t id → StaysGone (with_changed t n f) id
+gone_changed t n f id mild is = record { given = is.given; gone = gone_map the_id id (change_at n f) (mild_at f n mild).id t.records is.gone }
 
-gone_dropped : (t : Roster) (o : Option ℕ) (id : ℕ) → StaysGone t id → StaysGone (record t { records = dropped o t.records }) id
+gone_dropped : (t : Roster) (o : Option ℕ) (id : ℕ) → StaysGone t id → StaysGone (without_any t o) id
 gone_dropped t None id is = is
-gone_dropped t (Some n) id is = record { given = is.given; gone = gone_filter id (λ c. not (eqb c.id n)) t.records is.gone }
+gone_dropped t (Some n) id is = record { given = is.given; gone = gone_filter the_id id (λ c. not (eqb c.id n)) t.records is.gone }
 
 gone_confirmed : (t : Roster) (n id : ℕ) → StaysGone t id → StaysGone (with_changed t n confirms) id
-gone_confirmed t n id is = record { given = is.given; gone = gone_map id (change_at n confirms) (confirmed_id n) t.records is.gone }
+gone_confirmed t n id is = record { given = is.given; gone = gone_map the_id id (change_at n confirms) (confirmed_id n) t.records is.gone }
+
+gone_unless : (t : Roster) (n : ℕ) (o : Option DestroyFault) (id : ℕ) → StaysGone t id → StaysGone (without_unless o t n) id
+gone_unless t n None id is = gone_dropped t (Some n) id is
+gone_unless t n (Some fault) id is = is
 
 gone_step : (t : Roster) (change : Change) (id : ℕ) → StaysGone t id → StaysGone (changed t change) id
 gone_step t (Exchanges a) id is = gone_case t a (case_of t a) id is
-gone_step t (Confirms n) id is = gone_confirmed (record t { records = dropped (leaving t n) t.records }) n id (gone_dropped t (leaving t n) id is)
+gone_step t (Confirms n) id is = gone_confirmed (without_any t (leaving t n)) n id (gone_dropped t (leaving t n) id is)
 gone_step t (Keeps n result) id is = gone_changed t n (keeps result) id (mild_keeps result) is
-gone_step t (Reclaims n) id is = gone_changed t n (λ c. record c { reclaimed = true }) id (record { id = λ _. refl; owner = λ _. refl; mark = λ _. refl }) is
-gone_step t (Holds n mark) id is = gone_changed t n (λ c. record c { has_open = mark }) id (record { id = λ _. refl; owner = λ _. refl; mark = λ _. refl }) is
-gone_step t (Removes n) id is = record { given = is.given; gone = gone_filter id (λ c. not (eqb c.id n)) t.records is.gone }
+gone_step t (Reclaims n) id is = gone_changed t n (λ c. record c { reclaimed = true }) id mild_reclaims is
+gone_step t (Holds n mark) id is = gone_changed t n (λ c. record c { has_open = mark }) id (mild_holds mark) is
+gone_step t (Destroys n has_session) id is = gone_unless t n (destroy_fault t n has_session) id is
+gone_step t (Removes n) id is = record { given = is.given; gone = gone_filter the_id id (λ c. not (eqb c.id n)) t.records is.gone }
 
 gone_all : (t : Roster) (changes : List Change) (id : ℕ) → StaysGone t id → client_at (after_all t changes) id ≡ None
 gone_all t [] id is = is.gone
@@ -75,3 +58,39 @@ gone_all t (change ∷ changes) id is = gone_all (changed t change) changes id (
 
 pub given_once : IdsAreGivenOnce
 given_once = λ t changes id given gone. gone_all t changes id (record { given = given; gone = gone })
+
+-- Each table is in order.
+
+order_case : (t : Roster) (a : Ask) (room : Bool) (k : Case) → has_room t a.owner ≡ room → IsRoster t → IsRoster (does t a (if_room room k)).after
+order_case t a true (Refuses fault) e is = is
+order_case t a true (Tells c) e is = is
+order_case t a true Adds e is = roster_new t a is e
+order_case t a false (Refuses fault) e is = is
+order_case t a false (Tells c) e is = is
+order_case t a false Adds e is = is
+
+order_unless : (t : Roster) (n : ℕ) (o : Option DestroyFault) → IsRoster t → IsRoster (without_unless o t n)
+order_unless t n None is = roster_without t n is
+order_unless t n (Some fault) is = is
+
+order_step : (t : Roster) (change : Change) → IsRoster t → IsRoster (changed t change)
+order_step t (Exchanges a) is = order_case t a (has_room t a.owner) (case_by a (confirmed_of t a.owner)) refl is
+order_step t (Confirms n) is = roster_confirmed t n is
+order_step t (Keeps n result) is = roster_changed (keeps result) t n (mild_keeps result) is
+order_step t (Reclaims n) is = roster_changed (λ c. record c { reclaimed = true }) t n mild_reclaims is
+order_step t (Holds n mark) is = roster_changed (λ c. record c { has_open = mark }) t n (mild_holds mark) is
+order_step t (Destroys n has_session) is = order_unless t n (destroy_fault t n has_session) is
+order_step t (Removes n) is = roster_without t n is
+
+order_all : (t : Roster) (changes : List Change) → IsRoster t → IsRoster (after_all t changes)
+order_all t [] is = is
+order_all t (change ∷ changes) is = order_all (changed t change) changes (order_step t change is)
+
+pub in_order : TablesAreInOrder
+in_order = λ instance changes within. order_all (no_clients instance) changes (record {
+  rising = omega arith;
+  alone = λ c d a b owner mark. absurd a;
+  few = omega arith;
+  counter = omega arith;
+  instance = within;
+})

@@ -1,12 +1,12 @@
 -- The rows of EXCHANGE_ID, as the code has judged them.
 use Rattle.std.proofs.Common.{◌≡◌, Bool, true, false, Option, Result, Ok, refl, sym, ◌∙◌, ap, subst, List, ℕ}
 use Rattle.std.specs.Prelude.{find}
-use Rattle.nfs_clients.specs.declared.client.Client.{Client}
 use Rattle.nfs_clients.specs.declared.exchange_id.ClientFault.TheVariants.{ServerFault}
 use Rattle.nfs_clients.specs.declared.exchange_id.Case.{Case as Code}
 use Rattle.nfs_clients.specs.declared.exchange_id.Case.TheVariants as code
-use Rattle.nfs_clients.specs.Roster.{Roster, is_confirmed_of, confirmed_of}
-use Rattle.nfs_clients.specs.ExchangeId.{Case, Refuses, Tells, Adds, if_room, case_seen, asks, case_of, does, exchange, told_new, with_new}
+use Rattle.nfs_clients.specs.Roster.{ClientRecord, Roster, is_confirmed_of, confirmed_of}
+use Rattle.nfs_clients.specs.ExchangeId.{Case, Refuses, Tells, Adds, if_room, asks, case_of, does, exchange, told_new, with_new}
+use Rattle.nfs_clients.specs.Seen.{case_seen}
 use Rattle.nfs_clients.specs.declared.exchange_id.ClientFault.{ClientFault}
 use Rattle.nfs_clients.specs.declared.exchange_id.Exchanged.{Exchanged}
 
@@ -22,7 +22,7 @@ other_row (code.Tells c) room row e other = subst (λ row. Tells c.now ≡ if_ro
 other_row code.Adds room row e other = absurd (other refl)
 
 -- the owner's confirmed record, as a search of the records gave it
-pub confirmed_is : (t u : Roster) (owner : List ℕ) (ys : List Client) (x o : Option Client) → t ≡ u → ys ≡ t.records → x ≡ find (is_confirmed_of owner) ys → x ≡ o → o ≡ confirmed_of u owner
+pub confirmed_is : (t u : Roster) (owner : List ℕ) (ys : List ClientRecord) (x o : Option ClientRecord) → t ≡ u → ys ≡ t.records → x ≡ find (is_confirmed_of owner) ys → x ≡ o → o ≡ confirmed_of u owner
 confirmed_is t u owner ys x o e same is x_is =
     sym x_is ∙ is ∙ ap (find (is_confirmed_of owner)) same ∙ ap (λ (t : Roster). confirmed_of t owner) e
 

@@ -1,9 +1,8 @@
 -- CREATE_SESSION's number and what is kept under it; what a confirmation removes (RFC 8881 section 18.36; which refusals use a number up is this server's profile).
-use Rattle.std.specs.Prelude.{ℕ, ◌+◌, ◌%◌, ◌^◌, ◌==◌, ◌&&◌, not, Bool, true, false, List, Option, Some, None, find, filter, option_map, if◌then◌else◌}
+use Rattle.std.specs.Prelude.{ℕ, ◌+◌, ◌%◌, ◌^◌, ◌==◌, ◌&&◌, not, Bool, true, false, Option, Some, None, find, option_map, if◌then◌else◌}
 use Rattle.nfs_xdr.specs.declared.status.Status.{Status}
 use Rattle.nfs_xdr.specs.declared.status.Status.TheVariants.{TooSmall, NoSpc, ServerFault}
-use Rattle.nfs_clients.specs.Roster.{Roster, client_at, is_confirmed_of, with_changed}
-use Rattle.nfs_clients.specs.declared.client.Client.{Client}
+use Rattle.nfs_clients.specs.Roster.{ClientRecord, Roster, client_at, is_confirmed_of, with_changed, without}
 use Rattle.nfs_clients.specs.declared.created.CreateResult.{CreateResult}
 use Rattle.nfs_clients.specs.declared.created.CreateResult.TheVariants.{Done, Refused}
 use Rattle.nfs_clients.specs.declared.create_session.CreateVerdict.{CreateVerdict}
@@ -34,7 +33,7 @@ repeats None = Misordered
 repeats (Some result) = Again result
 
 -- the number that is expected runs, the one before repeats what was kept under it
-abbrev pub verdict_by : Option Client → ℕ → ℕ → Verdict
+abbrev pub verdict_by : Option ClientRecord → ℕ → ℕ → Verdict
 verdict_by None number uid = Stale
 verdict_by (Some c) number uid =
     if number == c.number then (if c.uid == uid then Runs else InUse)
@@ -56,31 +55,31 @@ uses_up (Done reply) = true
 uses_up (Refused status) = status_uses_up status
 
 -- the record with the result of its expected number
-abbrev pub keeps : CreateResult → Client → Client
+abbrev pub keeps : CreateResult → ClientRecord → ClientRecord
 keeps result c = if uses_up result then record c { number = following c.number; kept = Some result } else c
 
 abbrev pub with_kept : Roster → ℕ → CreateResult → Roster
 with_kept t id result = with_changed t id (keeps result)
 
 -- another confirmed record of the same owner
-abbrev pub is_other_confirmed_of : Client → Client → Bool
+abbrev pub is_other_confirmed_of : ClientRecord → ClientRecord → Bool
 is_other_confirmed_of c d = is_confirmed_of c.owner d && not (d.id == c.id)
 
 -- the record that a client's confirmation removes
-abbrev pub leaving_by : List Client → Option Client → Option ℕ
-leaving_by records None = None
-leaving_by records (Some c) = option_map (λ d. d.id) (find (is_other_confirmed_of c) records)
-
-abbrev pub leaving_in : List Client → ℕ → Option ℕ
-leaving_in records id = leaving_by records (find (λ c. c.id == id) records)
+abbrev pub leaving_by : Roster → Option ClientRecord → Option ℕ
+leaving_by t None = None
+leaving_by t (Some c) = option_map (λ d. d.id) (find (is_other_confirmed_of c) t.records)
 
 abbrev pub leaving : Roster → ℕ → Option ℕ
-leaving t id = leaving_in t.records id
+leaving t id = leaving_by t (client_at t id)
 
-abbrev pub dropped : Option ℕ → List Client → List Client
-dropped None records = records
-dropped (Some id) records = filter (λ c. not (c.id == id)) records
+abbrev pub without_any : Roster → Option ℕ → Roster
+without_any t None = t
+without_any t (Some id) = without t id
+
+abbrev pub confirms : ClientRecord → ClientRecord
+confirms c = record c { confirmed = true }
 
 -- the table behind a confirmation
 abbrev pub with_confirmed : Roster → ℕ → Roster
-with_confirmed t id = with_changed (record t { records = dropped (leaving t id) t.records }) id (λ c. record c { confirmed = true })
+with_confirmed t id = with_changed (without_any t (leaving t id)) id confirms

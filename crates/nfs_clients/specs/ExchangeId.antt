@@ -2,13 +2,10 @@
 use Rattle.std.specs.Prelude.{◌≡◌, ℕ, ◌+◌, ◌==◌, ◌&&◌, ◌||◌, not, nat_lt, Bool, true, false, List, [], ◌∷◌, ◌++◌, length, Option, Some, None, Result, Ok, Err, filter, option_map, is_some, bytes_eq, bit_and, if◌then◌else◌}
 use Rattle.nfs_xdr.specs.declared.status.Status.{Status}
 use Rattle.nfs_xdr.specs.declared.status.Status.TheVariants as status
-use Rattle.nfs_clients.specs.Roster.{Roster, most_records, last_counter, next_id, is_unconfirmed_of, confirmed_of, unconfirmed_of}
-use Rattle.nfs_clients.specs.declared.client.Client.{Client}
+use Rattle.nfs_clients.specs.Roster.{ClientRecord, Roster, most_records, last_counter, next_id, is_unconfirmed_of, confirmed_of, unconfirmed_of}
 use Rattle.nfs_clients.specs.declared.exchange_id.ClientFault.{ClientFault}
 use Rattle.nfs_clients.specs.declared.exchange_id.ClientFault.TheVariants.{Inval, NoEnt, NotSame, Perm, ClidInUse, ServerFault, Memory}
 use Rattle.nfs_clients.specs.declared.exchange_id.Exchanged.{Exchanged}
-use Rattle.nfs_clients.specs.declared.exchange_id.Case.{Case as Code}
-use Rattle.nfs_clients.specs.declared.exchange_id.Case.TheVariants as code
 
 -- the status that a fault is answered with
 abbrev pub fault_status : ClientFault → Status
@@ -38,23 +35,17 @@ carries_confirmed a = not (bit_and a.flags 0x8000_0000 == 0)
 abbrev pub updates : Ask → Bool
 updates a = not (bit_and a.flags 0x4000_0000 == 0)
 
-abbrev pub same_verifier : Ask → Client → Bool
+abbrev pub same_verifier : Ask → ClientRecord → Bool
 same_verifier a c = bytes_eq c.verifier a.verifier
 
-abbrev pub same_user : Ask → Client → Bool
+abbrev pub same_user : Ask → ClientRecord → Bool
 same_user a c = c.uid == a.uid
 
 -- what a call comes to: nothing but an answer, a fault or a record that stands, or a new record
 pub data Case : Type 0 where
   Refuses : ClientFault → Case
-  Tells : Client → Case
+  Tells : ClientRecord → Case
   Adds : Case
-
--- what the code's case says, with the record that it lends
-abbrev pub case_seen : Code → Case
-case_seen (code.Refuses fault) = Refuses fault
-case_seen (code.Tells c) = Tells c.now
-case_seen code.Adds = Adds
 
 -- the first row whose test holds; the last is taken where none does
 abbrev pub first_row : List (Bool × Case) → Case → Case
@@ -62,7 +53,7 @@ first_row [] last = last
 first_row (row ∷ rows) last = if row.0 then row.1 else first_row rows last
 
 -- The rows, by the owner's confirmed record.
-abbrev pub case_by : Ask → Option Client → Case
+abbrev pub case_by : Ask → Option ClientRecord → Case
 case_by a None =
     first_row ((carries_confirmed a, Refuses Inval)
     ∷ (updates a, Refuses NoEnt)
@@ -79,7 +70,7 @@ case_by a (Some c) =
 
 -- a record can be added: ids are left, and it takes the place of the owner's unconfirmed one or finds one free
 abbrev pub has_room : Roster → List ℕ → Bool
-has_room t owner = nat_lt t.next last_counter && (is_some (unconfirmed_of t owner) || nat_lt (length t.records) most_records)
+has_room t owner = nat_lt t.last last_counter && (is_some (unconfirmed_of t owner) || nat_lt (length t.records) most_records)
 
 -- where there is no room, a new record is refused and nothing else
 abbrev pub if_room : Bool → Case → Case
@@ -93,7 +84,7 @@ abbrev pub case_of : Roster → Ask → Case
 case_of t a = if_room (has_room t a.owner) (case_by a (confirmed_of t a.owner))
 
 -- the record that is added
-abbrev pub new_client : Roster → Ask → Client
+abbrev pub new_client : Roster → Ask → ClientRecord
 new_client t a = record {
   id = next_id t;
   owner = a.owner;
@@ -110,7 +101,7 @@ new_client t a = record {
 abbrev pub with_new : Roster → Ask → Roster
 with_new t a = record t {
   records = filter (λ c. not (is_unconfirmed_of a.owner c)) t.records ++ new_client t a ∷ [];
-  next = t.next + 1;
+  last = t.last + 1;
 }
 
 -- what is told of a record that is added
@@ -118,7 +109,7 @@ abbrev pub told_new : Roster → List ℕ → Exchanged
 told_new t owner = record { id = next_id t; number = 1; confirmed = false; added = true; replaced = option_map (λ c. c.id) (unconfirmed_of t owner) }
 
 -- what is told of a record that stands
-abbrev pub told : Client → Exchanged
+abbrev pub told : ClientRecord → Exchanged
 told c = record { id = c.id; number = c.number; confirmed = true; added = false; replaced = None }
 
 -- an answer, and the table behind it

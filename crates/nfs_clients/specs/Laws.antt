@@ -1,9 +1,10 @@
 -- What holds over any run of changes of a client table.
-use Rattle.std.specs.Prelude.{◌≡◌, ℕ, ◌<◌, Bool, List, [], ◌∷◌, None}
+use Rattle.std.specs.Prelude.{◌≡◌, ℕ, ◌<◌, ◌^◌, Bool, List, [], ◌∷◌, None}
 use Rattle.nfs_clients.specs.declared.created.CreateResult.{CreateResult}
-use Rattle.nfs_clients.specs.Roster.{Roster, next_id, client_at, without}
+use Rattle.nfs_clients.specs.Roster.{Roster, IsRoster, no_clients, next_id, client_at, without}
 use Rattle.nfs_clients.specs.ExchangeId.{Ask, exchange}
 use Rattle.nfs_clients.specs.CreateSession.{with_kept, with_confirmed}
+use Rattle.nfs_clients.specs.DestroyClientId.{destroyed}
 use Rattle.nfs_clients.specs.Marks.{with_reclaimed, with_open}
 
 -- what changes a table
@@ -13,6 +14,7 @@ pub data Change : Type 0 where
   Keeps : ℕ → CreateResult → Change
   Reclaims : ℕ → Change
   Holds : ℕ → Bool → Change
+  Destroys : ℕ → Bool → Change
   Removes : ℕ → Change
 
 abbrev pub changed : Roster → Change → Roster
@@ -21,6 +23,7 @@ changed t (Confirms id) = with_confirmed t id
 changed t (Keeps id result) = with_kept t id result
 changed t (Reclaims id) = with_reclaimed t id
 changed t (Holds id mark) = with_open t id mark
+changed t (Destroys id has_session) = destroyed t id has_session
 changed t (Removes id) = without t id
 
 abbrev pub after_all : Roster → List Change → Roster
@@ -30,3 +33,7 @@ after_all t (change ∷ changes) = after_all (changed t change) changes
 -- An id that was given and names no record names none ever after.
 abbrev pub IdsAreGivenOnce : Type 0
 IdsAreGivenOnce = (t : Roster) (changes : List Change) (id : ℕ) → id < next_id t → client_at t id ≡ None → client_at (after_all t changes) id ≡ None
+
+-- Each table that the calls reach is in rising order of its ids, and has at most one confirmed and one unconfirmed record an owner, and at most 1,024 records.
+abbrev pub TablesAreInOrder : Type 0
+TablesAreInOrder = (instance : ℕ) (changes : List Change) → instance < 2 ^ 32 → IsRoster (after_all (no_clients instance) changes)

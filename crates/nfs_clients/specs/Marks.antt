@@ -1,12 +1,11 @@
 -- The marks of a client record: that its reclaim is complete (RFC 8881 section 18.51), and that it has an open.
 use Rattle.std.specs.Prelude.{ℕ, Bool, true, false, Option, Some, None, is_some}
-use Rattle.nfs_clients.specs.Roster.{Roster, client_at, with_changed}
-use Rattle.nfs_clients.specs.declared.client.Client.{Client}
+use Rattle.nfs_clients.specs.Roster.{ClientRecord, Roster, client_at, with_changed}
 
 abbrev pub has_client : Roster → ℕ → Bool
 has_client t id = is_some (client_at t id)
 
-abbrev pub is_reclaimed : Option Client → Bool
+abbrev pub is_reclaimed : Option ClientRecord → Bool
 is_reclaimed None = false
 is_reclaimed (Some c) = c.reclaimed
 
@@ -16,6 +15,14 @@ has_reclaimed t id = is_reclaimed (client_at t id)
 
 abbrev pub with_reclaimed : Roster → ℕ → Roster
 with_reclaimed t id = with_changed t id (λ c. record c { reclaimed = true })
+
+abbrev pub has_open_by : Option ClientRecord → Bool
+has_open_by None = false
+has_open_by (Some c) = c.has_open
+
+-- the client has an open
+abbrev pub has_open : Roster → ℕ → Bool
+has_open t id = has_open_by (client_at t id)
 
 abbrev pub with_open : Roster → ℕ → Bool → Roster
 with_open t id mark = with_changed t id (λ c. record c { has_open = mark })

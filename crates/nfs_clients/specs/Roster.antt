@@ -1,19 +1,32 @@
 -- The client records, and the ids that they get (RFC 8881 section 2.4; ids and limits are this server's profile).
-use Rattle.std.specs.Prelude.{◌≡◌, ◌⊎◌, ℕ, ◌+◌, ◌*◌, ◌^◌, ◌<◌, ◌≤◌, ◌==◌, ◌&&◌, not, Bool, List, [], ◌∷◌, length, Option, find, filter, map, bytes_eq, if◌then◌else◌}
-use Rattle.nfs_xdr.specs.Tables.{IsRising}
-use Rattle.nfs_clients.specs.declared.client.Client.{Client}
+use Rattle.std.specs.Prelude.{◌≡◌, ℕ, ◌+◌, ◌*◌, ◌^◌, ◌<◌, ◌≤◌, ◌&&◌, not, Bool, List, [], length, Option, find, bytes_eq}
+use Rattle.nfs_xdr.specs.Tables.{IsRising, record_at, without_record, with_record, In}
+use Rattle.nfs_clients.specs.declared.created.CreateResult.{CreateResult}
 
--- the records in rising order of their ids, the first four bytes of each id, and the last four of the next one
+-- A client record: its id, the string by which the client names itself, the verifier of its start and its user; whether a CREATE_SESSION has confirmed it;
+-- the number that the next CREATE_SESSION must bear, and the result of the number before, if one was used up; its marks.
+pub record ClientRecord : Type 0 where
+  pub id : ℕ
+  pub owner : List ℕ
+  pub verifier : List ℕ
+  pub uid : ℕ
+  pub confirmed : Bool
+  pub number : ℕ
+  pub kept : Option CreateResult
+  pub reclaimed : Bool
+  pub has_open : Bool
+
+-- the records in rising order of their ids, the first four bytes of each id, and the last four of the last one given, 0 before the first
 pub record Roster : Type 0 where
-  pub records : List Client
+  pub records : List ClientRecord
   pub instance : ℕ
-  pub next : ℕ
+  pub last : ℕ
 
 -- how many records there are at most
 abbrev pub most_records : ℕ
 most_records = 1024
 
--- the counter's last value: there it stays, and no more ids are given
+-- the counter's last value: behind it no more ids are given
 abbrev pub last_counter : ℕ
 last_counter = 0xffff_ffff
 
@@ -23,45 +36,41 @@ id_of instance counter = instance * 2 ^ 32 + counter
 
 -- the id of the record that is added next
 abbrev pub next_id : Roster → ℕ
-next_id t = id_of t.instance t.next
+next_id t = id_of t.instance (t.last + 1)
 
 -- the table of a new server
 abbrev pub no_clients : ℕ → Roster
-no_clients instance = record { records = []; instance = instance; next = 1 }
+no_clients instance = record { records = []; instance = instance; last = 0 }
 
 -- the record of an id
-abbrev pub client_at : Roster → ℕ → Option Client
-client_at t id = find (λ c. c.id == id) t.records
+abbrev pub client_at : Roster → ℕ → Option ClientRecord
+client_at t id = record_at (λ c. c.id) t.records id
 
-abbrev pub is_confirmed_of : List ℕ → Client → Bool
+abbrev pub is_confirmed_of : List ℕ → ClientRecord → Bool
 is_confirmed_of owner c = bytes_eq c.owner owner && c.confirmed
 
-abbrev pub is_unconfirmed_of : List ℕ → Client → Bool
+abbrev pub is_unconfirmed_of : List ℕ → ClientRecord → Bool
 is_unconfirmed_of owner c = bytes_eq c.owner owner && not c.confirmed
 
 -- the owner's confirmed record, and its unconfirmed one
-abbrev pub confirmed_of : Roster → List ℕ → Option Client
+abbrev pub confirmed_of : Roster → List ℕ → Option ClientRecord
 confirmed_of t owner = find (is_confirmed_of owner) t.records
 
-abbrev pub unconfirmed_of : Roster → List ℕ → Option Client
+abbrev pub unconfirmed_of : Roster → List ℕ → Option ClientRecord
 unconfirmed_of t owner = find (is_unconfirmed_of owner) t.records
 
 -- the table without a record
 abbrev pub without : Roster → ℕ → Roster
-without t id = record t { records = filter (λ c. not (c.id == id)) t.records }
+without t id = record t { records = without_record (λ c. c.id) t.records id }
 
 -- the table with one record changed
-abbrev pub with_changed : Roster → ℕ → (Client → Client) → Roster
-with_changed t id change = record t { records = map (λ c. if c.id == id then change c else c) t.records }
-
-abbrev pub In : Client → List Client → Type 0
-In c [] = ⊥
-In c (x ∷ xs) = (c ≡ x) ⊎ In c xs
+abbrev pub with_changed : Roster → ℕ → (ClientRecord → ClientRecord) → Roster
+with_changed t id change = record t { records = with_record (λ c. c.id) t.records id change }
 
 -- What holds of every table. Ids rise and were all given out; no owner has two confirmed records, nor two unconfirmed ones.
 pub record IsRoster (t : Roster) : Type 0 where
   pub rising : IsRising (λ c. c.id) (id_of t.instance 1) t.records (next_id t)
-  pub alone : (c d : Client) → In c t.records → In d t.records → c.owner ≡ d.owner → c.confirmed ≡ d.confirmed → c ≡ d
+  pub alone : (c d : ClientRecord) → In c t.records → In d t.records → c.owner ≡ d.owner → c.confirmed ≡ d.confirmed → c ≡ d
   pub few : length t.records ≤ most_records
-  pub counter : t.next ≤ last_counter
+  pub counter : t.last ≤ last_counter
   pub instance : t.instance < 2 ^ 32

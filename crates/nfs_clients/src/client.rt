@@ -1,8 +1,14 @@
-ghost use Rattle.std.specs.Prelude.{◌≡◌};
+//! One client record (RFC 8881 section 2.4).
+
+ghost use Rattle.std.specs.Prelude.{◌≡◌, false, true, None, Some};
 ghost use Rattle.nfs_clients.specs.Roster.{is_confirmed_of, is_unconfirmed_of};
+ghost use Rattle.nfs_clients.specs.CreateSession.{confirms, following};
+ghost use Rattle.nfs_clients.specs.ExchangeId.{told};
 
 use crate::created::CreateResult;
+use crate::exchange_id::Exchanged;
 use crate::owner::Owner;
+use std::marker::Model;
 
 /// The record of a client (RFC 8881 section 2.4).
 #[derive(Drop)]
@@ -27,7 +33,39 @@ pub(crate) struct Client {
     pub(crate) has_open: bool,
 }
 
+impl Model for Client {
+    ghost use Rattle.nfs_clients.specs.Roster.{ClientRecord};
+
+    ghost Value = { ClientRecord };
+
+    ghost view = { λ c. record { id = c.id; owner = c.owner; verifier = c.verifier; uid = c.uid; confirmed = c.confirmed; number = c.number; kept = c.kept; reclaimed = c.reclaimed; has_open = c.has_open } };
+}
+
 impl Client {
+    /// A record that no CREATE_SESSION has confirmed.
+    pub(crate) fn new(id: u64, owner: Owner, verifier: [u8; 8], uid: u32) -> Self
+        ensures { result ≡ record { id = id; owner = owner; verifier = verifier; uid = uid; confirmed = false; number = 1; kept = None; reclaimed = false; has_open = false } }
+    {
+        Client {
+            id,
+            owner,
+            verifier,
+            uid,
+            confirmed: false,
+            number: 1,
+            kept: None,
+            reclaimed: false,
+            has_open: false,
+        }
+    }
+
+    /// The client id.
+    pub(crate) fn id(&self) -> u64
+        ensures { result ≡ self.now.id }
+    {
+        self.id
+    }
+
     /// Whether this is the owner's confirmed record.
     pub(crate) fn is_confirmed_of(&self, owner: &[u8]) -> bool
         ensures { result ≡ is_confirmed_of owner.now self.now }
@@ -40,5 +78,50 @@ impl Client {
         ensures { result ≡ is_unconfirmed_of owner.now self.now }
     {
         self.owner.is(owner) && !self.confirmed
+    }
+
+    /// What a granted EXCHANGE_ID answers of a record that stands.
+    pub(crate) fn told(&self) -> Exchanged
+        ensures { result ≡ told self.now }
+    {
+        Exchanged {
+            id: self.id,
+            number: self.number,
+            confirmed: true,
+            added: false,
+            replaced: None,
+        }
+    }
+
+    /// A CREATE_SESSION has confirmed the record.
+    pub(crate) fn confirm(&mut self)
+        ensures { self.new ≡ confirms self.old }
+    {
+        self.confirmed = true;
+    }
+
+    /// The expected number is used up by this result.
+    pub(crate) fn keep(&mut self, created: CreateResult)
+        ensures { self.new ≡ record self.old { number = following self.old.number; kept = Some created } }
+    {
+        self.number = self.number.wrapping_add(1);
+        self.kept = Some(created);
+    }
+
+    /// Sets the mark of a complete reclaim, and answers whether it was set.
+    pub(crate) fn reclaim(&mut self) -> bool
+        ensures before { result ≡ self.old.reclaimed }
+        ensures after { self.new ≡ record self.old { reclaimed = true } }
+    {
+        let before = self.reclaimed;
+        self.reclaimed = true;
+        before
+    }
+
+    /// Sets whether the client has an open.
+    pub(crate) fn hold(&mut self, has_open: bool)
+        ensures { self.new ≡ record self.old { has_open = has_open } }
+    {
+        self.has_open = has_open;
     }
 }

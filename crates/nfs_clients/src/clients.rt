@@ -1,6 +1,8 @@
-ghost use Rattle.std.specs.Prelude.{◌≡◌, ◌<◌, ◌==◌, not, find, filter, position, None};
+//! The table of client records, and the ids that they get (RFC 8881 section 2.4).
+
+ghost use Rattle.std.specs.Prelude.{◌≡◌, ◌<◌, ◌==◌, position, None};
 ghost use Rattle.std.specs.Option.{option_copied};
-ghost use Rattle.nfs_clients.specs.Roster.{IsRoster, next_id, no_clients, client_at, without};
+ghost use Rattle.nfs_clients.specs.Roster.{next_id, no_clients, client_at, without, last_counter};
 ghost use Rattle.nfs_clients.specs.Marks.{has_client};
 
 use crate::client::Client;
@@ -12,7 +14,8 @@ use std::marker::Model;
 pub struct Clients {
     pub(crate) records: Vec<Client>,
     pub(crate) instance: u32,
-    pub(crate) next: u32,
+    /// The last counter that was given, 0 before the first.
+    pub(crate) last: u32,
 }
 
 impl Model for Clients {
@@ -20,9 +23,9 @@ impl Model for Clients {
 
     ghost Value = { Roster };
 
-    ghost view = { λ t. record { records = t.records.items; instance = t.instance; next = t.next } };
+    ghost view = { λ t. record { records = t.records.items; instance = t.instance; last = t.last } };
 
-    ghost invariant = { λ t. IsRoster (record { records = t.records.items; instance = t.instance; next = t.next }) };
+    ghost invariant = { λ t. IsRoster (record { records = t.records.items; instance = t.instance; last = t.last }) };
 }
 
 impl Clients {
@@ -34,51 +37,47 @@ impl Clients {
         Clients {
             records: Vec::new(alloc),
             instance,
-            next: 1,
+            last: 0,
         }
     }
 
     /// The id of the record that `exchange` would add: the instance, and behind it the counter.
-    /// No record has it.
+    /// No record has it. Where each counter was given none is added, and the number says nothing.
     pub fn next_id(&self) -> u64
-        ensures value { result ≡ next_id self.now }
+        ensures value { self.now.last < last_counter → result ≡ next_id self.now }
         ensures fresh { client_at self.now result ≡ None }
-        ensures table { IsRoster self.now }
     {
-        (u64::from(self.instance) << 32) + u64::from(self.next)
+        (u64::from(self.instance) << 32).wrapping_add(u64::from(self.last) + 1)
     }
 
     /// Whether there is a record of this id.
     pub fn contains(&self, client: u64) -> bool
         ensures { result ≡ has_client self.now client }
     {
-        record_of(&self.records, client).is_some()
+        self.record(client).is_some()
     }
 
-    /// Removes the record of this id, if there is one: at DESTROY_CLIENTID (RFC 8881 section
-    /// 18.50) and at the end of a lease.
+    /// Removes the record of this id, if there is one: at the end of a lease.
     pub fn remove(&mut self, client: u64)
         ensures { self.new ≡ without self.old client }
     {
-        drop_record(&mut self.records, client);
+        if let Some(place) = self.place(client) {
+            self.records.remove(place);
+        }
     }
-}
 
-pub(crate) fn record_of(records: &[Client], id: u64) -> Option<&Client>
-    ensures { option_copied result ≡ find (λ c. c.id == id) records.now }
-{
-    records.iter().find(|c| c.id == id)
-}
+    /// The record of this id.
+    pub(crate) fn record(&self, client: u64) -> Option<&Client>
+        ensures { option_copied result ≡ client_at self.now client }
+    {
+        let place = self.place(client)?;
+        Some(&self.records[place])
+    }
 
-/// The place of the record of this id.
-pub(crate) fn place_of(records: &[Client], id: u64) -> Option<usize>
-    ensures { result ≡ position (λ c. c.id == id) records.now }
-{
-    records.iter().position(|c| c.id == id)
-}
-
-pub(crate) fn drop_record(records: &mut Vec<Client>, id: u64)
-    ensures { records.new.items ≡ filter (λ c. not (c.id == id)) records.old.items }
-{
-    records.retain(|c| c.id != id);
+    /// The place of the record of this id.
+    pub(crate) fn place(&self, client: u64) -> Option<usize>
+        ensures { result ≡ position (λ c. c.id == client) self.now.records }
+    {
+        self.records.binary_search_by_key(&client, |c| c.id()).ok()
+    }
 }

@@ -1,9 +1,11 @@
-ghost use Rattle.std.specs.Prelude.{◌≡◌, find};
+//! CREATE_SESSION's part of the client table: its number, what is kept under it, and the confirmation (RFC 8881 section 18.36).
+
+ghost use Rattle.std.specs.Prelude.{◌≡◌, find, Some};
 ghost use Rattle.std.specs.Option.{option_copied};
-ghost use Rattle.nfs_clients.specs.CreateSession.{create_verdict, verdict_of, leaving, leaving_in, dropped, with_confirmed, with_kept, is_other_confirmed_of};
+ghost use Rattle.nfs_clients.specs.CreateSession.{create_verdict, verdict_of, verdict_by, leaving, with_confirmed, with_kept, is_other_confirmed_of};
 
 use crate::client::Client;
-use crate::clients::{Clients, drop_record, place_of, record_of};
+use crate::clients::Clients;
 use crate::created::CreateResult;
 
 /// What a CREATE_SESSION comes to by its number and its caller (RFC 8881 section 18.36.4).
@@ -26,19 +28,9 @@ impl Clients {
     pub fn create_judge(&self, client: u64, number: u32, uid: u32) -> CreateVerdict
         ensures { verdict_of result ≡ create_verdict self.now client number uid }
     {
-        let Some(record) = record_of(&self.records, client) else {
-            return CreateVerdict::Stale;
-        };
-        if number == record.number {
-            return if record.uid == uid {
-                CreateVerdict::Runs
-            } else {
-                CreateVerdict::InUse
-            };
-        }
-        match &record.kept {
-            Some(kept) if number.wrapping_add(1) == record.number => CreateVerdict::Again(kept),
-            _ => CreateVerdict::Misordered,
+        match self.record(client) {
+            Some(record) => record.create_judge(number, uid),
+            None => CreateVerdict::Stale,
         }
     }
 
@@ -46,7 +38,8 @@ impl Clients {
     pub fn leaving(&self, client: u64) -> Option<u64>
         ensures { result ≡ leaving self.now client }
     {
-        leaving_in(&self.records, client)
+        let other = other_confirmed(&self.records, self.record(client)?)?;
+        Some(other.id())
     }
 
     /// Confirms the record, and removes its owner's other confirmed one (RFC 8881 section
@@ -54,9 +47,11 @@ impl Clients {
     pub fn confirm(&mut self, client: u64)
         ensures { self.new ≡ with_confirmed self.old client }
     {
-        drop_leaving(&mut self.records, client);
-        if let Some(place) = place_of(&self.records, client) {
-            self.records[place].confirmed = true;
+        if let Some(other) = self.leaving(client) {
+            self.remove(other);
+        }
+        if let Some(place) = self.place(client) {
+            self.records[place].confirm();
         }
     }
 
@@ -69,31 +64,40 @@ impl Clients {
         if !created.uses_up() {
             return;
         }
-        if let Some(place) = place_of(&self.records, client) {
-            let record = &mut self.records[place];
-            record.number = record.number.wrapping_add(1);
-            record.kept = Some(created);
+        if let Some(place) = self.place(client) {
+            self.records[place].keep(created);
         }
+    }
+}
+
+impl Client {
+    /// What a CREATE_SESSION of this client comes to.
+    fn create_judge(&self, number: u32, uid: u32) -> CreateVerdict
+        ensures { verdict_of result ≡ verdict_by (Some self.now) number uid }
+    {
+        if number == self.number {
+            return if self.uid == uid {
+                CreateVerdict::Runs
+            } else {
+                CreateVerdict::InUse
+            };
+        }
+        match &self.kept {
+            Some(kept) if number.wrapping_add(1) == self.number => CreateVerdict::Again(kept),
+            _ => CreateVerdict::Misordered,
+        }
+    }
+
+    /// Whether this is another confirmed record of the client's owner.
+    fn is_other_confirmed_of(&self, client: &Client) -> bool
+        ensures { result ≡ is_other_confirmed_of client.now self.now }
+    {
+        self.is_confirmed_of(client.owner.bytes()) && self.id != client.id
     }
 }
 
 fn other_confirmed<'a>(records: &'a [Client], client: &Client) -> Option<&'a Client>
     ensures { option_copied result ≡ find (is_other_confirmed_of client.now) records.now }
 {
-    records.iter().find(|c| c.is_confirmed_of(client.owner.bytes()) && c.id != client.id)
-}
-
-fn leaving_in(records: &[Client], client: u64) -> Option<u64>
-    ensures { result ≡ leaving_in records.now client }
-{
-    let other = other_confirmed(records, record_of(records, client)?)?;
-    Some(other.id)
-}
-
-fn drop_leaving(records: &mut Vec<Client>, client: u64)
-    ensures { records.new.items ≡ dropped (leaving_in records.old.items client) records.old.items }
-{
-    if let Some(other) = leaving_in(records, client) {
-        drop_record(records, other);
-    }
+    records.iter().find(|c| c.is_other_confirmed_of(client))
 }

@@ -1,3 +1,5 @@
+//! What a CREATE_SESSION came to, as it is kept (RFC 8881 section 18.36.2).
+
 ghost use Rattle.std.specs.Prelude.{◌≡◌, ◌≤◌, length};
 ghost use Rattle.nfs_clients.specs.CreateSession.{uses_up, status_uses_up};
 

@@ -1,8 +1,12 @@
-ghost use Rattle.std.specs.Prelude.{◌≡◌, ℕ, List, IsTrue, OnOk, OnErr, IfOk, find, filter, not, option_map, vec_len, vec_capacity, ◌≤◌};
-ghost use Rattle.std.specs.Option.{option_copied};
+//! EXCHANGE_ID (RFC 8881 section 18.35), by the cases of this server's profile.
+
+ghost use Rattle.std.specs.Prelude.{◌≡◌, ℕ, List, IsTrue, OnOk, OnErr, IfOk, find, position, option_map, vec_len, vec_capacity, ◌≤◌};
+ghost use Rattle.std.specs.Option.{option_copied, option_map_or};
+ghost use Rattle.std.specs.List.{remove};
 ghost use Rattle.nfs_xdr.specs.Checks.{judged};
 ghost use Rattle.nfs_clients.specs.Roster.{confirmed_of, unconfirmed_of, is_unconfirmed_of, is_confirmed_of};
-ghost use Rattle.nfs_clients.specs.ExchangeId.{asks, case_of, case_by, case_seen, has_room, with_new, told_new, exchange_fault, fault_status, ExchangesOrWants};
+ghost use Rattle.nfs_clients.specs.ExchangeId.{asks, case_of, case_by, has_room, with_new, told_new, exchange_fault, fault_status, ExchangesOrWants};
+ghost use Rattle.nfs_clients.specs.Seen.{case_seen};
 ghost use Rattle.nfs_clients.specs.declared.exchange_id.ClientFault.TheVariants.{Memory};
 
 use crate::client::Client;
@@ -104,13 +108,7 @@ impl Clients {
     {
         match self.case(owner, verifier, flags, uid) {
             Case::Refuses(fault) => Err(fault),
-            Case::Tells(client) => Ok(Exchanged {
-                id: client.id,
-                number: client.number,
-                confirmed: true,
-                added: false,
-                replaced: None,
-            }),
+            Case::Tells(client) => Ok(client.told()),
             Case::Adds => {
                 let owner = Owner::of(alloc, owner)?;
                 Ok(self.add(owner, verifier, uid)?)
@@ -148,7 +146,7 @@ impl Clients {
     fn has_room(&self, owner: &[u8]) -> bool
         ensures { result ≡ has_room self.now owner.now }
     {
-        self.next < u32::MAX
+        self.last < u32::MAX
             && (unconfirmed_in(&self.records, owner).is_some() || self.records.len() < MOST_RECORDS)
     }
 
@@ -161,22 +159,11 @@ impl Clients {
     {
         self.records.reserve(1)?;
         let id = self.next_id();
-        let replaced = unconfirmed_in(&self.records, owner.bytes());
-        drop_unconfirmed(&mut self.records, owner.bytes());
+        let replaced = take_unconfirmed(&mut self.records, owner.bytes());
         self.records
-            .push(Client {
-                id,
-                owner,
-                verifier,
-                uid,
-                confirmed: false,
-                number: 1,
-                kept: None,
-                reclaimed: false,
-                has_open: false,
-            })
+            .push(Client::new(id, owner, verifier, uid))
             .unwrap();
-        self.next += 1;
+        self.last += 1;
         Ok(Exchanged {
             id,
             number: 1,
@@ -253,17 +240,26 @@ fn confirmed_in<'a>(records: &'a [Client], owner: &[u8]) -> Option<&'a Client>
     records.iter().find(|c| c.is_confirmed_of(owner))
 }
 
-fn drop_unconfirmed(records: &mut Vec<Client>, owner: &[u8])
-    ensures left { records.new.items ≡ filter (λ c. not (is_unconfirmed_of owner.now c)) records.old.items }
+fn take_unconfirmed(records: &mut Vec<Client>, owner: &[u8]) -> Option<u64>
+    ensures replaced { result ≡ option_map (λ c. c.id) (find (is_unconfirmed_of owner.now) records.old.items) }
+    ensures left { records.new.items ≡ option_map_or (remove records.old.items) (position (is_unconfirmed_of owner.now) records.old.items) records.old.items }
     ensures fewer { vec_len records.new ≤ vec_len records.old }
     ensures room { vec_capacity records.new ≡ vec_capacity records.old }
 {
-    records.retain(|c| !c.is_unconfirmed_of(owner));
+    let place = unconfirmed_place(records, owner)?;
+    let replaced = records.remove(place);
+    Some(replaced.id())
+}
+
+fn unconfirmed_place(records: &[Client], owner: &[u8]) -> Option<usize>
+    ensures { result ≡ position (is_unconfirmed_of owner.now) records.now }
+{
+    records.iter().position(|c| c.is_unconfirmed_of(owner))
 }
 
 fn unconfirmed_in(records: &[Client], owner: &[u8]) -> Option<u64>
     ensures { result ≡ option_map (λ c. c.id) (find (is_unconfirmed_of owner.now) records.now) }
 {
     let found = records.iter().find(|c| c.is_unconfirmed_of(owner))?;
-    Some(found.id)
+    Some(found.id())
 }

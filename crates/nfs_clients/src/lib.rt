@@ -1,13 +1,15 @@
 //! Who a client is: the table that decides whose state is whose.
 //!
 //! Contracts see a `Clients` as a `Roster`: the client records in rising order of their ids, the
-//! server's instance, and the counter of the next id. An owner has at most one confirmed and one
+//! server's instance, and the counter of the last id. An owner has at most one confirmed and one
 //! unconfirmed record, the table has at most 1,024, and an id is never given twice.
 //!
 //! ```text
 //! let asked = clients.exchange(alloc, owner, verifier, flags, uid)?;     // EXCHANGE_ID
-//! let verdict = clients.create_judge(asked.id, asked.number, uid);       // CREATE_SESSION: Runs
-//! clients.confirm(asked.id);
+//! if let CreateVerdict::Runs = clients.create_judge(asked.id, asked.number, uid) {
+//!     clients.confirm(asked.id);                                          // CREATE_SESSION
+//!     clients.keep_created(asked.id, CreateResult::Done(Resok::new(body)));
+//! }
 //! ```
 //!
 //! RFC 8881 sections 2.4 (client ids), 18.35 (EXCHANGE_ID), 18.36 (CREATE_SESSION),
@@ -18,6 +20,7 @@ mod client;
 mod clients;
 mod create_session;
 mod created;
+mod destroy;
 mod exchange_id;
 pub mod laws;
 mod marks;
@@ -28,4 +31,5 @@ mod tests;
 pub use clients::Clients;
 pub use create_session::CreateVerdict;
 pub use created::{CreateResult, Resok};
+pub use destroy::DestroyFault;
 pub use exchange_id::{ClientFault, Exchanged};

@@ -1,7 +1,9 @@
-ghost use Rattle.std.specs.Prelude.{◌≡◌};
-ghost use Rattle.nfs_clients.specs.Marks.{has_reclaimed, with_reclaimed, with_open};
+//! The marks of a client record: its reclaim is complete (RFC 8881 section 18.51), and it has an open.
 
-use crate::clients::{Clients, place_of, record_of};
+ghost use Rattle.std.specs.Prelude.{◌≡◌};
+ghost use Rattle.nfs_clients.specs.Marks.{has_reclaimed, with_reclaimed, has_open, with_open};
+
+use crate::clients::Clients;
 
 impl Clients {
     /// Notes that the client has declared its reclaim complete (RECLAIM_COMPLETE of all, RFC 8881
@@ -11,24 +13,29 @@ impl Clients {
         ensures before { result ≡ has_reclaimed self.old client }
         ensures after { self.new ≡ with_reclaimed self.old client }
     {
-        match place_of(&self.records, client) {
+        match self.place(client) {
             None => false,
-            Some(place) => {
-                let record = &mut self.records[place];
-                let before = record.reclaimed;
-                record.reclaimed = true;
-                before
-            }
+            Some(place) => self.records[place].reclaim(),
         }
     }
 
-    /// Sets whether the client has an open, which EXCHANGE_ID of another user looks at.
-    /// Where there is no such record nothing changes.
+    /// Sets whether the client has an open, which EXCHANGE_ID of another user and
+    /// DESTROY_CLIENTID look at. Where there is no such record nothing changes.
     pub fn hold(&mut self, client: u64, has_open: bool)
         ensures { self.new ≡ with_open self.old client has_open }
     {
-        if let Some(place) = place_of(&self.records, client) {
-            self.records[place].has_open = has_open;
+        if let Some(place) = self.place(client) {
+            self.records[place].hold(has_open);
+        }
+    }
+
+    /// Whether the client has an open, as `hold` was told; false where there is no such record.
+    pub fn has_open(&self, client: u64) -> bool
+        ensures { result ≡ has_open self.now client }
+    {
+        match self.record(client) {
+            Some(record) => record.has_open,
+            None => false,
         }
     }
 }

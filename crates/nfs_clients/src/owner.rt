@@ -1,3 +1,5 @@
+//! The string by which a client names itself (RFC 8881 section 2.4).
+
 ghost use Rattle.std.specs.Prelude.{◌≡◌, IfOk, bytes_eq};
 
 use std::alloc::{AllocError, Global};

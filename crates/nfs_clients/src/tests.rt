@@ -48,13 +48,66 @@ fn exchange_id_without_a_confirmed_record(rt: HostRuntime) -> Result<(), Fail> {
     ];
     for (flags, want) in cases {
         let judged = clients.judge_exchange(b"A", OLD, flags, 0);
-        assert_eq!(rt; judged, want.map(|_| ()), "judged with {flags:x}");
         let asked = clients.exchange(rt.alloc(), b"A", OLD, flags, 0);
-        assert_eq!(rt; asked, want, "with {flags:x}");
+        assert_eq!(rt; (judged, asked), (want.map(|_| ()), want), "with {flags:x}");
     }
-    assert!(rt; !clients.contains(id(1)));
-    assert!(rt; clients.contains(id(2)));
-    assert_eq!(rt; clients.next_id(), id(3));
+    let stands = (clients.contains(id(1)), clients.contains(id(2)));
+    assert_eq!(rt; (stands, clients.next_id()), ((false, true), id(3)));
+    Ok(())
+}
+
+#[test]
+fn every_flag_but_two_is_let_through(rt: HostRuntime) -> Result<(), Fail> {
+    let mut clients = Clients::new(rt.alloc(), 7);
+    for bit in 0..30u32 {
+        let asked = clients.exchange(rt.alloc(), &bit.to_be_bytes(), OLD, 1 << bit, bit);
+        assert_eq!(rt; asked, added(bit + 1, None), "bit {bit}");
+    }
+    let asked = clients.exchange(rt.alloc(), b"all", OLD, UPDATE - 1, 9);
+    assert_eq!(rt; asked, added(31, None));
+    Ok(())
+}
+
+#[test]
+fn the_last_id_is_given_and_none_behind_it(rt: HostRuntime) -> Result<(), Fail> {
+    let mut clients = Clients {
+        records: Vec::new(rt.alloc()),
+        instance: 7,
+        last: u32::MAX - 1,
+    };
+    for (owner, want) in [
+        (b"A", added(u32::MAX, None)),
+        (b"B", Err(ClientFault::ServerFault)),
+    ] {
+        let asked = clients.exchange(rt.alloc(), owner, OLD, 0, 0);
+        assert_eq!(rt; asked, want);
+    }
+    Ok(())
+}
+
+#[test]
+fn a_client_goes_when_it_is_there_and_not_in_use(rt: HostRuntime) -> Result<(), Fail> {
+    let mut clients = Clients::new(rt.alloc(), 7);
+    clients.exchange(rt.alloc(), b"A", OLD, 0, 0)?;
+    clients.exchange(rt.alloc(), b"B", OLD, 0, 0)?;
+    let cases = [
+        (id(3), false, false, Err(DestroyFault::Stale)),
+        (id(3), true, true, Err(DestroyFault::Stale)),
+        (id(1), true, false, Err(DestroyFault::Busy)),
+        (id(1), false, true, Err(DestroyFault::Busy)),
+        (id(1), false, false, Ok(())),
+        (id(1), false, false, Err(DestroyFault::Stale)),
+    ];
+    for (client, has_session, has_open, want) in cases {
+        clients.hold(client, has_open);
+        let held = clients.has_open(client);
+        let gone = clients.destroy(client, has_session);
+        assert_eq!(rt; (gone, held), (want, has_open && client == id(1)));
+    }
+    let statuses = (DestroyFault::Stale.status(), DestroyFault::Busy.status());
+    assert_eq!(rt; statuses, (Status::StaleClientId, Status::ClientIdBusy));
+    let stands = (clients.contains(id(1)), clients.contains(id(2)));
+    assert_eq!(rt; stands, (false, true));
     Ok(())
 }
 

@@ -1,2 +1,2 @@
 pub mod Latest
-pub mod Maps
+pub mod Queue

@@ -1,10 +1,10 @@
 -- Leases: when each client renewed its own last, and who has run out (RFC 8881 section 8.3; how long a lease lasts is this server's profile).
-use Rattle.std.specs.Prelude.{◌≡◌, ℕ, ◌-◌, ◌≤◌, ◌==◌, nat_lt, Bool, true, false, Option, Some, None, List, [], ◌∷◌, find, option_map, if◌then◌else◌}
-use Rattle.nfs_lease.specs.declared.leases.Renewal.{Renewal}
+use Rattle.std.specs.Prelude.{◌≡◌, ℕ, ◌-◌, ◌≤◌, ◌==◌, nat_lt, length, Bool, true, false, Option, Some, None, List, [], ◌∷◌, option_map, if◌then◌else◌}
+use Rattle.std.specs.Map.{lookup}
 
--- what a table keeps; other crates see it through `leases_of` alone
+-- what a table keeps, each client with the moment of its last renewal, the newest first; other crates see it through `leases_of` and `standing` alone
 pub record Kept : Type 0 where
-  pub renewals : List Renewal
+  pub renewals : List (ℕ × ℕ)
   pub duration : ℕ
 
 -- the moment at which each client with a lease renewed it last, and how long a lease lasts
@@ -12,11 +12,15 @@ pub record Book : Type 0 where
   pub renewed : ℕ → Option ℕ
   pub lease : ℕ
 
-abbrev pub renewed_in : List Renewal → ℕ → Option ℕ
-renewed_in renewals client = option_map (λ r. r.moment) (find (λ r. r.client == client) renewals)
+abbrev pub renewed_in : List (ℕ × ℕ) → ℕ → Option ℕ
+renewed_in renewals client = lookup (λ c. client == c) renewals
 
 abbrev pub leases_of : Kept → Book
 leases_of kept = record { renewed = renewed_in kept.renewals; lease = kept.duration }
+
+-- how many leases stand
+abbrev pub standing : Kept → ℕ
+standing kept = length kept.renewals
 
 abbrev pub no_leases : ℕ → Book
 no_leases lease = record { renewed = λ c. None; lease = lease }
@@ -51,11 +55,12 @@ IsNextOut b now (Some client) = has_run_out b now client ≡ true
 pub record IsLatest (b : Book) (now : ℕ) : Type 0 where
   pub each : (client moment : ℕ) → b.renewed client ≡ Some moment → moment ≤ now
 
--- a client has one lease
-abbrev pub AreApart : List Renewal → Type 0
-AreApart [] = Unit {0}
-AreApart (r ∷ rs) = (renewed_in rs r.client ≡ None) × AreApart rs
+-- the newest is not later
+abbrev pub IsUpTo : ℕ → List (ℕ × ℕ) → Type 0
+IsUpTo latest [] = Unit {0}
+IsUpTo latest (e ∷ es) = e.1 ≤ latest
 
--- a renewal of this client becomes one of now
-abbrev pub renewal_at : ℕ → ℕ → Renewal → Renewal
-renewal_at client now r = if r.client == client then record r { moment = now } else r
+-- a client has one lease, and no renewal is later than one that stands before it
+abbrev pub IsQueue : List (ℕ × ℕ) → Type 0
+IsQueue [] = Unit {0}
+IsQueue (e ∷ es) = (renewed_in es e.0 ≡ None) × IsUpTo e.1 es × IsQueue es

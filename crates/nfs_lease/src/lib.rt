@@ -2,10 +2,11 @@
 //!
 //! Contracts see a `Leases` through `leases_of`: a map from client to the moment of its last
 //! renewal, and how long a lease lasts. Moments and the lease are in one unit, seconds in the
-//! server. In what order renewals are kept, no contract says.
+//! server. In what order renewals are kept, no contract says; `standing` counts them, so that a
+//! loop that ends leases is seen to end.
 //!
 //! ```text
-//! leases.add(alloc, client, now)?;                          // EXCHANGE_ID adds a record
+//! leases.add(client, now)?;                                 // EXCHANGE_ID adds a record
 //! leases.renew(client, now);                                // a fresh SEQUENCE
 //! while let Some(client) = leases.next_out(now) { leases.remove(client); }
 //! ```

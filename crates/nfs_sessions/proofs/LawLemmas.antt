@@ -7,11 +7,10 @@ use Rattle.nfs_xdr.specs.Tables.{IsRising}
 use Rattle.nfs_xdr.proofs.Tables.{IsRising-from, IsRising-below}
 use Rattle.nfs_sessions.specs.declared.channel.Wish.{Wish}
 use Rattle.nfs_sessions.specs.declared.id.SessionId.{SessionId}
-use Rattle.nfs_sessions.specs.declared.sessions.Session.{Session}
 use Rattle.nfs_sessions.specs.declared.sessions.SessionFault.{SessionFault}
 use Rattle.nfs_sessions.specs.Channel.{granted}
 use Rattle.nfs_sessions.specs.SessionSlots.{GrantedSlots, unused}
-use Rattle.nfs_sessions.specs.Sessions.{SessionTable, IsSessions, is_session, session_at, create_fault, create_unless, with_session, destroyed, without_client, with_slots}
+use Rattle.nfs_sessions.specs.Sessions.{Session, SessionTable, IsSessions, is_session, session_at, create_fault, create_unless, with_session, destroyed, without_client, with_slots}
 use Rattle.nfs_sessions.specs.Laws.{is_id, SessionsAreAMap, Call, Create, Destroy, DropClient, Change, all_after, all_given, IdsRise}
 
 find_push_none : {X : Type 0} (p : X → Bool) (xs : List X) (x : X) → find p xs ≡ None → find p (xs ++ x ∷ []) ≡ (if p x then Some x else None)

@@ -2,5 +2,4 @@ pub mod Id
 pub mod Channel
 pub mod SessionSlots
 pub mod Sessions
-pub mod Lending
 pub mod Laws

@@ -1,20 +1,32 @@
--- The sessions as a table by id (RFC 8881 sections 2.10.3 and 18.36).
+-- The sessions as a table by id (RFC 8881 sections 2.10, 18.36 and 18.37).
 use Rattle.std.specs.Prelude.{◌≡◌, ℕ, ◌+◌, ◌==◌, suc, nat_le, Bool, true, not, ◌&&◌, if◌then◌else◌, List, [], ◌∷◌, ◌++◌, Option, Some, None, Result, Ok, Err, IsOk, filter, map, find, count_by}
 use Rattle.nfs_xdr.specs.Tables.{IsRising}
 use Rattle.nfs_xdr.specs.Checks.{first_fault}
+use Rattle.nfs_xdr.specs.declared.status.Status.{Status}
+use Rattle.nfs_xdr.specs.declared.status.Status.TheVariants as status
 use Rattle.nfs_sessions.specs.declared.channel.Wish.{Wish}
 use Rattle.nfs_sessions.specs.declared.id.SessionId.{SessionId}
-use Rattle.nfs_sessions.specs.declared.sessions.Session.{Session}
 use Rattle.nfs_sessions.specs.declared.sessions.SessionFault.{SessionFault}
 use Rattle.nfs_sessions.specs.declared.sessions.SessionFault.TheVariants.{TooSmall, NoSpc, ServerFault, Memory}
+use Rattle.nfs_sessions.specs.declared.sessions.TheConstants.Sessions.{MOST}
 use Rattle.nfs_sessions.specs.Channel.{granted, is_too_small}
 use Rattle.nfs_sessions.specs.SessionSlots.{GrantedSlots, unused}
 use Rattle.nfs_sessions.specs.SessionSlots as slots
+
+-- a session: its counter, the id of its client, and its slots
+pub record Session : Type 0 where
+  pub counter : ℕ
+  pub client : ℕ
+  pub slots : GrantedSlots
 
 -- the sessions that stand, and the last counter that was given, 0 before the first
 pub record SessionTable : Type 0 where
   pub sessions : List Session
   pub last : ℕ
+
+-- the table of a new server
+abbrev pub no_sessions : SessionTable
+no_sessions = record { sessions = []; last = 0 }
 
 abbrev pub is_session : SessionId → Session → Bool
 is_session id s = (s.counter == id.counter) && (s.client == id.client)
@@ -26,6 +38,13 @@ session_at t id = find (is_session id) t.sessions
 abbrev pub last_counter : ℕ
 last_counter = 0xffff_ffff_ffff_ffff
 
+-- the status that a fault is answered with
+abbrev pub fault_status : SessionFault → Status
+fault_status TooSmall = status.TooSmall
+fault_status NoSpc = status.NoSpc
+fault_status ServerFault = status.ServerFault
+fault_status Memory = status.Delay
+
 -- whether a session stays where the client record that is leaving goes
 abbrev pub stays : Option ℕ → Session → Bool
 stays None s = true
@@ -34,7 +53,7 @@ stays (Some client) s = not (s.client == client)
 abbrev pub create_checks : SessionTable → Wish → List (Bool × SessionFault)
 create_checks t wish =
     (is_too_small wish.fore, TooSmall)
-    ∷ (nat_le 64 (count_by (stays wish.leaving) t.sessions), NoSpc)
+    ∷ (nat_le MOST (count_by (stays wish.leaving) t.sessions), NoSpc)
     ∷ (t.last == last_counter, ServerFault)
     ∷ []
 

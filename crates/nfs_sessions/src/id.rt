@@ -1,7 +1,7 @@
 ghost use Rattle.std.specs.Prelude.{◌≡◌};
-ghost use Rattle.nfs_sessions.specs.Id.{id_bytes};
+ghost use Rattle.nfs_sessions.specs.Id.{id_bytes, id_of};
 
-/// The id of a session (sessionid4, RFC 8881 section 2.10.3): its client's id, and a counter that no other session has.
+/// The id of a session (sessionid4, RFC 8881 sections 2.10 and 3.2): its client's id, and a counter that no other session has.
 #[derive(Clone, Copy, Debug, PartialEq, Eq)]
 pub struct SessionId {
     pub client: u64,
@@ -23,7 +23,8 @@ impl SessionId {
     /// The id that is spelled in these 16 bytes.
     #[tactic(auto, unfolding(nfs_xdr::specs::Spelling::hyper))]
     pub fn from_bytes(bytes: &[u8; 16]) -> SessionId
-        ensures { id_bytes result ≡ bytes.now }
+        ensures spelled { id_bytes result ≡ bytes.now }
+        ensures read { result ≡ id_of bytes.now }
     {
         let (front, back) = bytes.split_at(8);
         let mut client = [0; 8];

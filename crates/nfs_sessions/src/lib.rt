@@ -21,5 +21,5 @@ mod tests;
 
 pub use channel::{Channel, Wish};
 pub use id::SessionId;
-pub use sessions::{Session, SessionFault, Sessions};
-pub use slots::SessionSlots;
+pub use sessions::{SessionFault, Sessions};
+pub use slots::{RPC_HEAD, SessionSlots};

@@ -1,28 +1,33 @@
-ghost use Rattle.std.specs.Prelude.{◌≡◌, ◌≤◌, ◌+◌, ◌==◌, None, IfOk, OnOk, OnErr, IsSomeAnd, is_some, option_map, count_by, find, filter, not, position, []};
-ghost use Rattle.std.specs.Option.{option_copied, option_copied_mut};
-ghost use Rattle.std.specs.Borrow.{sem};
+ghost use Rattle.std.specs.Prelude.{◌≡◌, ◌≤◌, ◌+◌, ◌==◌, None, IfOk, OnOk, OnErr, IsSomeAnd, is_some, option_map, count_by, find, filter, not, position};
+ghost use Rattle.std.specs.Option.{option_copied};
 ghost use Rattle.std.specs.List.{list_any};
 ghost use Rattle.nfs_xdr.specs.Checks.{judged};
 ghost use Rattle.nfs_sessions.specs.declared.sessions.SessionFault.TheVariants.{Memory};
-ghost use Rattle.nfs_sessions.specs.Sessions.{IsSessions, is_session, session_at, stays, create, create_fault, with_session, CreatesOrWants, destroyed, without_client, keep};
+ghost use Rattle.nfs_sessions.specs.Sessions.{IsSessions, no_sessions, is_session, session_at, stays, create, create_fault, with_session, CreatesOrWants, destroyed, without_client, keep, fault_status};
 ghost use Rattle.nfs_sessions.specs.SessionSlots.{MayKeep};
-ghost use Rattle.nfs_sessions.specs.Lending.{LendsSlots};
+ghost use Rattle.nfs_sessions.specs.SessionSlots as slots;
 
 use crate::channel::Wish;
 use crate::id::SessionId;
 use crate::slots::SessionSlots;
+use nfs_xdr::Status;
 use std::alloc::{AllocError, Global};
 use std::marker::Model;
 
-/// One session.
+/// One session: the counter and the client that stand in its id, and its slots.
 #[derive(Drop)]
-pub struct Session {
-    /// The number of the session, which stands in its id behind the client's.
-    pub counter: u64,
-    /// The id of the client.
-    pub client: u64,
-    /// Its slots, with what was granted of the fore channel.
-    pub slots: SessionSlots,
+struct Session {
+    counter: u64,
+    client: u64,
+    slots: SessionSlots,
+}
+
+impl Model for Session {
+    ghost use Rattle.nfs_sessions.specs.Sessions.{Session as Seen};
+
+    ghost Value = { Seen };
+
+    ghost view = { λ s. record { counter = s.counter; client = s.client; slots = s.slots } };
 }
 
 /// Why there is no new session.
@@ -36,6 +41,20 @@ pub enum SessionFault {
     ServerFault,
     /// There is no memory for its slots (NFS4ERR_DELAY).
     Memory,
+}
+
+impl SessionFault {
+    /// The status that CREATE_SESSION answers: the fault's own, and NFS4ERR_DELAY for want of memory.
+    pub fn status(self) -> Status
+        ensures { result ≡ fault_status self }
+    {
+        match self {
+            SessionFault::TooSmall => Status::TooSmall,
+            SessionFault::NoSpc => Status::NoSpc,
+            SessionFault::ServerFault => Status::ServerFault,
+            SessionFault::Memory => Status::Delay,
+        }
+    }
 }
 
 impl From<AllocError> for SessionFault {
@@ -68,6 +87,13 @@ impl Session {
         ensures { result ≡ is_session id.now self.now }
     {
         self.counter == id.counter && self.client == id.client
+    }
+
+    fn keep(&mut self, slot: u32, number: u32, uid: u32, args: &[u8], reply: &[u8])
+        requires { MayKeep self.old.slots slot number uid args.now reply.now }
+        ensures { self.new ≡ record self.old { slots = slots.keep self.old.slots slot number uid args.now reply.now } }
+    {
+        self.slots.keep(slot, number, uid, args, reply);
     }
 
     fn stays(&self, leaving: Option<u64>) -> bool
@@ -115,7 +141,7 @@ impl Sessions {
 
     /// No sessions. A later `create` grows by `alloc`.
     pub fn new(alloc: Global) -> Sessions
-        ensures { result ≡ record { sessions = []; last = 0 } }
+        ensures { result ≡ no_sessions }
     {
         Sessions {
             sessions: Vec::new(alloc),
@@ -180,35 +206,13 @@ impl Sessions {
         Ok(self.insert(alloc, client, wish)?)
     }
 
-    /// The session with this id: its client, its channel and its slots.
-    pub fn find(&self, id: &SessionId) -> Option<&Session>
-        ensures found { option_copied result ≡ session_at self.now id.now }
-        ensures rising { IsSessions self.now }
-    {
-        session_in(&self.sessions, id)
-    }
-
-    /// The slots of the session with this id.
+    /// The slots of the session with this id, under the channel that was granted.
     pub fn slots(&self, id: &SessionId) -> Option<&SessionSlots>
-        ensures { option_copied result ≡ option_map (λ s. s.slots) (session_at self.now id.now) }
+        ensures found { option_copied result ≡ option_map (λ s. s.slots) (session_at self.now id.now) }
+        ensures rising { IsSessions self.now }
     {
         match session_in(&self.sessions, id) {
             Some(s) => Some(&s.slots),
-            None => None,
-        }
-    }
-
-    /// The slots of the session with this id, to be changed. All else stays as it is.
-    pub fn slots_mut(&mut self, id: &SessionId) -> Option<&mut SessionSlots>
-        ensures* lends { sem 𝓛 (LendsSlots self.entry id.now result) }
-        ensures slots { option_copied_mut result ≡ option_map (λ s. s.slots) (session_at self.old id.now) }
-        ensures rising { IsSessions self.old }
-    {
-        match place_in(&self.sessions, id) {
-            Some(place) => {
-                let session = &mut self.sessions[place];
-                Some(&mut session.slots)
-            }
             None => None,
         }
     }
@@ -233,8 +237,9 @@ impl Sessions {
         requires { IsSomeAnd (session_at self.old id.now) (λ s. MayKeep s.slots slot number uid args.now reply.now) }
         ensures { self.new ≡ keep self.old id.now slot number uid args.now reply.now }
     {
-        if let Some(slots) = self.slots_mut(id) {
-            slots.keep(slot, number, uid, args, reply);
+        if let Some(place) = place_in(&self.sessions, id) {
+            let session = &mut self.sessions[place];
+            session.keep(slot, number, uid, args, reply);
         }
     }
 

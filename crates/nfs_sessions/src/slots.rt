@@ -1,5 +1,6 @@
 ghost use Rattle.std.specs.Prelude.{◌≡◌, ◌≤◌, ◌+◌, IfOk, length};
-ghost use Rattle.nfs_sessions.specs.SessionSlots.{rpc_head, unused, judge, kept, keep, MayKeep};
+ghost use Rattle.nfs_sessions.specs.Channel.{IsGranted};
+ghost use Rattle.nfs_sessions.specs.SessionSlots.{unused, judge, kept, keep, MayKeep, IsGrantedSlots};
 
 use crate::channel::Channel;
 use nfs_slots::{Slots, Verdict};
@@ -7,7 +8,7 @@ use std::alloc::{AllocError, Global};
 use std::marker::Model;
 
 /// The bytes of an accepted reply's RPC head, which a slot does not keep (RFC 5531 section 9).
-const RPC_HEAD: u32 = 24;
+pub const RPC_HEAD: u32 = 24;
 
 /// The slots of a session, each with room for a request and a reply that the session's channel lets pass.
 #[derive(Drop)]
@@ -30,7 +31,7 @@ impl Model for SessionSlots {
 impl SessionSlots {
     /// Slots that took no request yet, as many as the channel has. `AllocError` where there is no room for what they keep.
     pub(crate) fn new(alloc: Global, channel: Channel) -> Result<SessionSlots, AllocError>
-        requires { rpc_head ≤ channel.response }
+        requires { IsGranted channel }
         ensures { IfOk result (λ s. s ≡ unused channel) }
     {
         let count = channel.slots as usize;
@@ -39,9 +40,11 @@ impl SessionSlots {
         Ok(SessionSlots { channel, slots })
     }
 
-    /// What was granted of the fore channel.
+    /// What was granted of the fore channel: 2,048 to 66,560 bytes of a request and of a reply, 1 to 64 operations,
+    /// and 1 to 16 slots.
     pub fn channel(&self) -> Channel
         ensures channel { result ≡ self.now.channel }
+        ensures granted { IsGranted result }
         ensures count { result.slots ≡ length self.now.slots }
     {
         self.channel
@@ -54,9 +57,11 @@ impl SessionSlots {
         self.slots.judge(slot, number, uid, args)
     }
 
-    /// The reply that slot `slot` keeps, from the status of its COMPOUND on; none where it keeps nothing.
+    /// The reply that slot `slot` keeps, from the status of its COMPOUND on; none where it keeps nothing. With the RPC
+    /// head in front it is no longer than the channel's response size.
     pub fn kept(&self, slot: u32) -> &[u8]
-        ensures { result.now ≡ kept self.now slot }
+        ensures reply { result.now ≡ kept self.now slot }
+        ensures fits { IsGrantedSlots self.now }
     {
         self.slots.kept(slot)
     }

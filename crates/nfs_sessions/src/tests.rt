@@ -1,5 +1,6 @@
 use super::*;
 use nfs_slots::Verdict;
+use nfs_xdr::Status;
 use std::alloc::Global;
 use std::test::Fail;
 
@@ -31,7 +32,7 @@ fn serve(
     args: &[u8],
     reply: &[u8],
 ) -> Option<Verdict> {
-    let slots = sessions.slots_mut(id)?;
+    let slots = sessions.slots(id)?;
     let verdict = slots.judge(0, number, 0, args);
     let channel = slots.channel();
     let fits = args.len() <= channel.request as usize
@@ -39,7 +40,7 @@ fn serve(
     if let Verdict::Fresh = verdict
         && fits
     {
-        slots.keep(0, number, 0, args, reply);
+        sessions.keep(id, 0, number, 0, args, reply);
     }
     Some(verdict)
 }
@@ -68,9 +69,9 @@ fn starve(alloc: Global, held: &mut Vec<Vec<u8>>) {
 fn grants_the_lesser_of_the_wish_and_the_limit(rt: HostRuntime) -> Result<(), Fail> {
     let mut sessions = Sessions::new(rt.alloc());
     let id = sessions.create(rt.alloc(), A, &wish(1_049_620, 1_049_480, 8, 64))?;
-    let session = sessions.find(&id).ok_or("no session")?;
-    assert_eq!(rt; session.client, A);
-    assert_eq!(rt; session.counter, 1);
+    assert_eq!(rt; id.client, A);
+    assert_eq!(rt; id.counter, 1);
+    let slots = sessions.slots(&id).ok_or("no session")?;
     let granted = Channel {
         request: 66_560,
         response: 66_560,
@@ -78,9 +79,9 @@ fn grants_the_lesser_of_the_wish_and_the_limit(rt: HostRuntime) -> Result<(), Fa
         operations: 8,
         slots: 16,
     };
-    assert_eq!(rt; session.slots.channel(), granted);
-    assert_eq!(rt; session.slots.judge(15, 1, 0, b""), Verdict::Fresh);
-    assert_eq!(rt; session.slots.judge(16, 1, 0, b""), Verdict::NoSlot);
+    assert_eq!(rt; slots.channel(), granted);
+    assert_eq!(rt; slots.judge(15, 1, 0, b""), Verdict::Fresh);
+    assert_eq!(rt; slots.judge(16, 1, 0, b""), Verdict::NoSlot);
     let less = wish(2_048, 2_049, 65, 3).fore.granted();
     assert_eq!(rt; less.request, 2_048);
     assert_eq!(rt; less.response, 2_049);
@@ -123,6 +124,18 @@ fn a_channel_that_is_too_small_is_refused(rt: HostRuntime) -> Result<(), Fail> {
 }
 
 #[test]
+fn a_fault_is_answered_with_its_status(rt: HostRuntime) {
+    for (fault, status) in [
+        (SessionFault::TooSmall, Status::TooSmall),
+        (SessionFault::NoSpc, Status::NoSpc),
+        (SessionFault::ServerFault, Status::ServerFault),
+        (SessionFault::Memory, Status::Delay),
+    ] {
+        assert_eq!(rt; fault.status(), status);
+    }
+}
+
+#[test]
 fn sessions_of_a_leaving_client_do_not_count(rt: HostRuntime) -> Result<(), Fail> {
     let mut sessions = Sessions::new(rt.alloc());
     let mut small = wish(2_048, 2_048, 1, 1);
@@ -160,15 +173,14 @@ fn a_session_that_is_gone_is_not_found_and_its_id_not_given_again(
     assert!(rt; !sessions.destroy(&strange));
     assert!(rt; sessions.destroy(&first));
     assert!(rt; !sessions.destroy(&first));
-    assert!(rt; sessions.find(&first).is_none());
+    assert!(rt; sessions.slots(&first).is_none());
     assert!(rt; !sessions.has_client(A));
     assert!(rt; sessions.has_client(B));
     let fourth = sessions.create(rt.alloc(), A, &small)?;
     assert_eq!(rt; fourth.counter, 4);
     sessions.drop_client(B);
-    assert!(rt; sessions.find(&second).is_none());
+    assert!(rt; sessions.slots(&second).is_none());
     assert!(rt; sessions.slots(&third).is_none());
-    assert!(rt; sessions.slots_mut(&third).is_none());
     assert!(rt; sessions.slots(&fourth).is_some());
     Ok(())
 }

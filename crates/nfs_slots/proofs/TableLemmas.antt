@@ -1,15 +1,16 @@
 -- A table of slots along a list of requests.
 use Rattle.std.proofs.Common.{◌≡◌, inl, inr, ℕ, ◌+◌, ◌-◌, ◌<◌, ◌≤◌, ◌%◌, ◌^◌, suc, zero, Bool, true, false, cond, List, [], ◌∷◌, map, set, Option, Some, None, refl, sym, ◌∙◌, ap, arith, zero-add}
-use Rattle.std.specs.Prelude.{◌==◌, if◌then◌else◌, not, ◌&&◌, slice_get, count_by, bytes_eq}
+use Rattle.std.specs.Prelude.{◌==◌, if◌then◌else◌, not, ◌&&◌, slice_get, count_by, bytes_eq, length, All}
 use Rattle.std.specs.Option.{option_map_or}
 use Rattle.std.proofs.lemmas.Bool.{cases_eq, ne_eqb, eq-eqb, eqb-true}
 use Rattle.std.proofs.lemmas.List.{map-set}
+use Rattle.std.proofs.lemmas.List.Elements.{All-head, All-tail}
 use Rattle.std.proofs.lemmas.List.Sums.{sum_by-cons}
 use Rattle.std.proofs.lemmas.Slice.Eq.{bytes_eq-Decides}
 use Rattle.nfs_slots.specs.declared.slot.Slot.{Slot}
 use Rattle.nfs_slots.specs.declared.slot.Verdict.TheVariants.{Fresh, Again, FalseRetry, Misordered, NoSlot}
-use Rattle.nfs_slots.specs.Slot.{SlotState, SlotTable, next_number, judge_slot, slot_at, judge, keep}
-use Rattle.nfs_slots.specs.Buffers.{state_of}
+use Rattle.nfs_slots.specs.Slot.{SlotState, SlotTable, next_number, judge_slot, slot_at, judge, keep, IsBounded}
+use Rattle.nfs_slots.specs.Buffers.{state_of, IsKept}
 use Rattle.nfs_slots.specs.Laws.{Request, is_on, Keeps, OnePlace, RepeatsAreAnswered}
 
 -- what a slot's buffers stand for, put into the table
@@ -123,3 +124,21 @@ repeats_are_answered old new r more keeps none =
     let (s, found, number) = fresh_found (slot_at old r.slot) r.number r.uid r.args keeps.0 in
     let there : slot_at new r.slot ≡ Some state = stays r.slot next new more keeps.1 none ∙ slice_get-set_same old.slots r.slot s state found in
     (ap (λ (x : Option SlotState). option_map_or (λ s. judge_slot s r.number r.uid r.args) x NoSlot) there ∙ again r, ap (λ (x : Option SlotState). option_map_or (λ s. s.reply) x []) there)
+
+reply_at : (size request : ℕ) (slots : List Slot) (slot : ℕ) → All (IsKept size request) slots → length (option_map_or (λ s. s.reply) (slice_get (map state_of slots) slot) []) ≤ size
+reply_at size request [] slot all = omega arith
+reply_at size request (s ∷ slots) zero all = (All-head (IsKept size request) s slots all).1
+reply_at size request (s ∷ slots) (suc i) all = reply_at size request slots i (All-tail (IsKept size request) s slots all)
+
+args_at : (size request : ℕ) (slots : List Slot) (slot : ℕ) → All (IsKept size request) slots → length (option_map_or (λ s. s.args) (slice_get (map state_of slots) slot) []) ≤ request
+args_at size request [] slot all = omega arith
+args_at size request (s ∷ slots) zero all = (All-head (IsKept size request) s slots all).2
+args_at size request (s ∷ slots) (suc i) all = args_at size request slots i (All-tail (IsKept size request) s slots all)
+
+pub bounded : (size request : ℕ) (slots : List Slot) → All (IsKept size request) slots → IsBounded (record { slots = map state_of slots; size = size; request = request })
+bounded size request slots all = record { reply = λ slot. reply_at size request slots slot all; args = λ slot. args_at size request slots slot all }
+
+pub none_kept : (slots : List Slot) (slot : ℕ) → length slots ≤ slot → [] ≡ option_map_or (λ s. s.reply) (slice_get (map state_of slots) slot) []
+none_kept [] slot past = refl
+none_kept (s ∷ slots) zero past = absurd (omega arith)
+none_kept (s ∷ slots) (suc i) past = none_kept slots i (omega arith)

@@ -1,5 +1,5 @@
 -- How a slot is kept: in buffers with room that was reserved.
-use Rattle.std.specs.Prelude.{ℕ, ◌≤◌, vec_capacity}
+use Rattle.std.specs.Prelude.{ℕ, ◌≤◌, length, vec_capacity}
 use Rattle.nfs_slots.specs.Slot.{SlotState}
 use Rattle.nfs_slots.specs.declared.slot.Slot.{Slot}
 
@@ -10,3 +10,7 @@ state_of s = record { number = s.number; used = s.used; uid = s.uid; args = s.ar
 -- a reply of size bytes and arguments of request bytes fit with no more memory
 abbrev pub HasRoom : ℕ → ℕ → Slot → Type 0
 HasRoom size request s = (size ≤ vec_capacity s.reply) × (request ≤ vec_capacity s.args)
+
+-- the slot has the room that it reserved, and keeps no more than that
+abbrev pub IsKept : ℕ → ℕ → Slot → Type 0
+IsKept size request s = HasRoom size request s × (length s.reply.items ≤ size) × (length s.args.items ≤ request)

@@ -1,7 +1,8 @@
 ghost use Rattle.std.specs.Prelude.{◌≡◌, ◌≤◌, Bool, true, false, [], length, IfOk, vec_capacity};
-ghost use Rattle.nfs_slots.specs.Slot.{judge_slot, unused_slot};
-ghost use Rattle.nfs_slots.specs.Buffers.{state_of, HasRoom};
+ghost use Rattle.nfs_slots.specs.Slot.{judge_slot, unused_slot, verdict_status};
+ghost use Rattle.nfs_slots.specs.Buffers.{state_of, HasRoom, IsKept};
 
+use nfs_xdr::Status;
 use std::alloc::{AllocError, Global};
 
 /// What a slot says of a request's number (RFC 8881 section 2.10.6.1).
@@ -19,6 +20,20 @@ pub enum Verdict {
     NoSlot,
 }
 
+impl Verdict {
+    /// The status that SEQUENCE answers: NFS4_OK for a new request and for one that is repeated.
+    pub fn status(self) -> Status
+        ensures { result ≡ verdict_status self }
+    {
+        match self {
+            Verdict::Fresh | Verdict::Again => Status::Nfs4Ok,
+            Verdict::FalseRetry => Status::SeqFalseRetry,
+            Verdict::Misordered => Status::SeqMisordered,
+            Verdict::NoSlot => Status::BadSlot,
+        }
+    }
+}
+
 /// One slot, with the room that was reserved for what it keeps.
 #[derive(Drop)]
 pub struct Slot {
@@ -33,7 +48,7 @@ impl Slot {
     /// A slot that took no request yet, with room for a reply of `size` bytes and arguments of `request` bytes.
     pub fn new(alloc: Global, size: usize, request: usize) -> Result<Slot, AllocError>
         ensures unused { IfOk result (λ s. state_of s ≡ unused_slot) }
-        ensures room { IfOk result (HasRoom size request) }
+        ensures room { IfOk result (IsKept size request) }
     {
         let args = Vec::with_capacity(alloc, request)?;
         let reply = Vec::with_capacity(alloc, size)?;

@@ -1,5 +1,5 @@
 ghost use Rattle.std.specs.Prelude.{◌≡◌, ◌≤◌, length, IfOk};
-ghost use Rattle.nfs_slots.specs.Slot.{judge, keep, kept, unused};
+ghost use Rattle.nfs_slots.specs.Slot.{judge, keep, kept, unused, IsBounded};
 
 use crate::slot::{Slot, Verdict};
 use std::alloc::{AllocError, Global};
@@ -16,13 +16,13 @@ pub struct Slots {
 impl Model for Slots {
     ghost use Rattle.std.specs.Prelude.{map, All};
     ghost use Rattle.nfs_slots.specs.Slot.{SlotTable};
-    ghost use Rattle.nfs_slots.specs.Buffers.{state_of, HasRoom};
+    ghost use Rattle.nfs_slots.specs.Buffers.{state_of, IsKept};
 
     ghost Value = { SlotTable };
 
     ghost view = { λ t. record { slots = map state_of t.slots.items; size = t.size; request = t.request } };
 
-    ghost invariant = { λ t. All (HasRoom t.size t.request) t.slots.items };
+    ghost invariant = { λ t. All (IsKept t.size t.request) t.slots.items };
 }
 
 impl Slots {
@@ -71,9 +71,11 @@ impl Slots {
         self.slots[slot as usize].keep(number, uid, args, reply);
     }
 
-    /// The reply that slot `slot` keeps: the bytes of its last `keep`, and none where it keeps nothing.
+    /// The reply that slot `slot` keeps: the bytes of its last `keep`, and none where it keeps nothing. It is no longer
+    /// than the room that was reserved for it.
     pub fn kept(&self, slot: u32) -> &[u8]
-        ensures { result.now ≡ kept self.now slot }
+        ensures reply { result.now ≡ kept self.now slot }
+        ensures bounded { IsBounded self.now }
     {
         match self.slots.get(slot as usize) {
             Some(s) => s.reply(),

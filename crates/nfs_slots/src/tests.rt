@@ -2,6 +2,7 @@ ghost use Rattle.std.specs.Prelude.{◌≡◌, ◌≢◌, ◌≤◌, ◌==◌, �
 ghost use Rattle.nfs_slots.specs.Slot.{next_number};
 
 use super::*;
+use nfs_xdr::Status;
 use std::test::Fail;
 
 const OK: u32 = 0;
@@ -95,6 +96,36 @@ fn other_arguments_are_a_false_retry(rt: HostRuntime) -> Result<(), Fail> {
     );
     assert_eq!(rt; slots.kept(0), b"reply".as_slice());
     Ok(())
+}
+
+#[test]
+fn each_of_16_slots_keeps_its_own_reply(rt: HostRuntime) -> Result<(), Fail> {
+    let mut slots = Slots::new(rt.alloc(), 16, 8, 8)?;
+    let mut fresh = 0u32;
+    for slot in 0..16u32 {
+        if let Verdict::Fresh = slots.judge(slot, 1, 0, b"args") {
+            slots.keep(slot, 1, 0, b"args", &slot.to_be_bytes());
+            fresh += 1;
+        }
+    }
+    assert_eq!(rt; fresh, 16);
+    for slot in 0..16u32 {
+        assert_eq!(rt; slots.kept(slot), slot.to_be_bytes().as_slice());
+    }
+    Ok(())
+}
+
+#[test]
+fn a_verdict_is_answered_with_its_status(rt: HostRuntime) {
+    for (verdict, status) in [
+        (Verdict::Fresh, Status::Nfs4Ok),
+        (Verdict::Again, Status::Nfs4Ok),
+        (Verdict::FalseRetry, Status::SeqFalseRetry),
+        (Verdict::Misordered, Status::SeqMisordered),
+        (Verdict::NoSlot, Status::BadSlot),
+    ] {
+        assert_eq!(rt; verdict.status(), status);
+    }
 }
 
 #[test]

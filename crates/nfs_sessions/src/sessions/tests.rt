@@ -26,7 +26,7 @@ fn the_last_counter_is_given_once(rt: HostRuntime) -> Result<(), Fail> {
         sessions.create(rt.alloc(), 7, &wish),
         Err(SessionFault::ServerFault)
     );
-    assert!(rt; sessions.find(&id).is_some());
+    assert!(rt; sessions.slots(&id).is_some());
     assert!(rt; sessions.destroy(&id));
     assert_eq!(rt;
         sessions.create(rt.alloc(), 7, &wish),

@@ -1,5 +1,5 @@
 use Rattle.std.proofs.Common.{◌∙◌, sym, ap}
-use Rattle.nfs_clients.specs.ExchangeId.{case_seen}
+use Rattle.nfs_clients.specs.Seen.{case_seen}
 use Rattle.nfs_clients.proofs.Rows.{adds_with_room, refuses_without_room, other_row}
 use Rattle.nfs_clients.proofs.clients.Clients.case.Goals as goal
 

@@ -1,23 +1,30 @@
-use Rattle.std.proofs.Common.{refl, sym, subst}
+use Rattle.std.proofs.Common.{◌≡◌, ◌∙◌, ap, subst}
 use Rattle.nfs_clients.specs.Roster.{IsRoster}
-use Rattle.nfs_clients.proofs.Places.{located, missing}
-use Rattle.nfs_clients.proofs.Members.{confirmed_written, confirmed_none, roster_confirmed, roster_left}
+use Rattle.nfs_clients.specs.CreateSession.{without_any, leaving}
+use Rattle.nfs_clients.proofs.Changes.{confirmed_view, confirmed_roster, confirmed_none}
 use Rattle.nfs_clients.proofs.clients.Clients.confirm.Goals as goal
+use Rattle.nfs_clients.proofs.clients.Clients.confirm.Goals.{in-Some, in_default}
 
 pub invariant_of-self : goal.invariant_of-self
 invariant_of-self c =
-    subst IsRoster
-    (sym (confirmed_written _ _ c.args.client _ _ _ refl c.self.invariant c.drop_leaving.ensures (located c.args.client _ _ _ _ _ c.deref.ensures.value c.place_of.ensures c.in-Some.is c.index_mut.ensures.value)))
-    (roster_confirmed _ c.args.client c.self.invariant)
+    let left : c.match-leaving.self ≡ without_any c.args.self.now (leaving c.args.self.now c.args.client) = elim c.match-leaving.branch [
+      | in-Some w ↦ w.self-is ∙ w.remove.ensures ∙ ap (without_any c.args.self.now) w.in-Some.ensures
+      | in_default w ↦ w.self-is ∙ ap (without_any c.args.self.now) w.in_default.ensures
+    ] in
+    rw c.confirm.ensures (confirmed_roster c.args.self.now _ _ c.args.client _ _ (subst IsRoster c.self.view_is c.self.invariant) left c.self-2.view_is c.self-2.invariant c.in-Some-place.ensures c.index_mut.ensures.value)
 
-pub invariant_of-self-in_default : goal.invariant_of-self-in_default
-invariant_of-self-in_default c = roster_left _ c.args.client _ c.self.invariant c.drop_leaving.ensures
+pub returns-in-Some-place : goal.returns-in-Some-place
+returns-in-Some-place c =
+    let left : c.match-leaving.self ≡ without_any c.args.self.now (leaving c.args.self.now c.args.client) = elim c.match-leaving.branch [
+      | in-Some w ↦ w.self-is ∙ w.remove.ensures ∙ ap (without_any c.args.self.now) w.in-Some.ensures
+      | in_default w ↦ w.self-is ∙ ap (without_any c.args.self.now) w.in_default.ensures
+    ] in
+    rw c.confirm.ensures (confirmed_view c.args.self.now _ _ c.args.client _ _ left c.self-2.view_is c.self-2.invariant c.in-Some-place.ensures c.index_mut.ensures.value)
 
-pub returns-in-Some : goal.returns-in-Some
-returns-in-Some c =
-    confirmed_written _ _ c.args.client _ _ _ c.self.view_is c.self.invariant c.drop_leaving.ensures
-    (located c.args.client _ _ _ _ _ c.deref.ensures.value c.place_of.ensures c.in-Some.is c.index_mut.ensures.value)
-
-pub returns-in_default : goal.returns-in_default
-returns-in_default c =
-    confirmed_none _ _ c.args.client _ c.self.view_is c.drop_leaving.ensures (missing c.args.client _ _ _ c.deref.ensures.value c.place_of.ensures c.in_default.is)
+pub returns-in_default-place : goal.returns-in_default-place
+returns-in_default-place c =
+    let left : c.match-leaving.self ≡ without_any c.args.self.now (leaving c.args.self.now c.args.client) = elim c.match-leaving.branch [
+      | in-Some w ↦ w.self-is ∙ w.remove.ensures ∙ ap (without_any c.args.self.now) w.in-Some.ensures
+      | in_default w ↦ w.self-is ∙ ap (without_any c.args.self.now) w.in_default.ensures
+    ] in
+    confirmed_none c.args.self.now _ c.args.client left c.in_default-place.ensures

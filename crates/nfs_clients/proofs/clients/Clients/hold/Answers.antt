@@ -1,19 +1,12 @@
-use Rattle.std.proofs.Common.{refl}
-use Rattle.nfs_clients.proofs.Places.{located, missing}
-use Rattle.nfs_clients.proofs.Members.{written, roster_written, kept_as_is}
+use Rattle.nfs_clients.proofs.Members.{mild_holds}
+use Rattle.nfs_clients.proofs.Changes.{changed_view, changed_roster, unchanged_view}
 use Rattle.nfs_clients.proofs.clients.Clients.hold.Goals as goal
 
 pub invariant_of-self : goal.invariant_of-self
-invariant_of-self c =
-    roster_written (λ x. record x { has_open = c.args.has_open }) _ c.args.client _ _ _ (record { id = λ _. refl; owner = λ _. refl; mark = λ _. refl }) c.self.invariant
-    (located c.args.client _ _ _ _ _ c.deref.ensures.value c.place_of.ensures c.in-Some.is c.index_mut.ensures.value) refl
+invariant_of-self c = changed_roster (λ x. record x { has_open = c.args.has_open }) _ _ c.args.client _ _ _ (mild_holds c.args.has_open) c.self.view_is c.self.invariant c.in-Some.ensures c.index_mut.ensures.value c.hold.ensures
 
 pub returns-in-Some : goal.returns-in-Some
-returns-in-Some c =
-    written (λ x. record x { has_open = c.args.has_open }) _ _ c.args.client _ _ _ c.self.view_is c.self.invariant
-    (located c.args.client _ _ _ _ _ c.deref.ensures.value c.place_of.ensures c.in-Some.is c.index_mut.ensures.value) refl
+returns-in-Some c = changed_view (λ x. record x { has_open = c.args.has_open }) _ _ c.args.client _ _ _ c.self.view_is c.self.invariant c.in-Some.ensures c.index_mut.ensures.value c.hold.ensures
 
 pub returns-in_default : goal.returns-in_default
-returns-in_default c =
-    kept_as_is (λ x. record x { has_open = c.args.has_open }) _ _ c.args.client c.self.view_is
-    (missing c.args.client _ _ _ c.deref.ensures.value c.place_of.ensures c.in_default.is)
+returns-in_default c = unchanged_view (λ x. record x { has_open = c.args.has_open }) _ c.args.client c.in_default.ensures

@@ -1,12 +1,19 @@
-use Rattle.std.proofs.Common.{◌≡◌, ◌+◌, ◌*◌, ◌%◌, None, sym, ap, subst, arith}
-use Rattle.nfs_clients.specs.Roster.{Roster, IsRoster, client_at, next_id}
-use Rattle.nfs_clients.proofs.Members.{fresh}
+use Rattle.std.proofs.Common.{inl, inr, ap, subst, arith}
+use Rattle.std.proofs.lemmas.Bool.{cases_lt}
+use Rattle.nfs_xdr.proofs.Tables.{at_above, at_below}
+use Rattle.nfs_clients.specs.Roster.{Roster, IsRoster, next_id, id_of}
+use Rattle.nfs_clients.proofs.Members.{the_id}
 use Rattle.nfs_clients.proofs.clients.Clients.next_id.Goals as goal
 
 pub returns-clause-fresh : goal.returns-clause-fresh
 returns-clause-fresh c =
-    let is : IsRoster c.args.self.now = subst IsRoster c.self.view_is c.self.invariant in
-    let next = ap (λ (t : Roster). t.next) c.self.view_is in
+    let t : Roster = c.args.self.now in
+    let is : IsRoster t = subst IsRoster c.self.view_is c.self.invariant in
+    let last = ap (λ (t : Roster). t.last) c.self.view_is in
     let instance = ap (λ (t : Roster). t.instance) c.self.view_is in
-    let e : c.from.result * 4294967296 % 18446744073709551616 + c.from-2.result ≡ next_id c.args.self.now = omega arith in
-    subst (λ n. client_at c.args.self.now n ≡ None) (sym e) (fresh c.args.self.now is)
+    let few = is.counter in
+    let low = is.instance in
+    elim (cases_lt (next_id t) 18446744073709551616) [
+      | inl within ↦ at_above the_id (id_of t.instance 1) (next_id t) _ t.records is.rising (omega arith)
+      | inr beyond ↦ at_below the_id (id_of t.instance 1) (next_id t) _ t.records is.rising (omega arith)
+    ]

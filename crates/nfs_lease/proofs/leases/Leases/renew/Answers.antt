@@ -1,15 +1,17 @@
-use Rattle.std.proofs.Common.{subst, sym}
-use Rattle.nfs_lease.specs.Renewals.{AreApart}
-use Rattle.nfs_lease.proofs.Maps.{slice_renewed, apart_renewed, left_renewed}
+use Rattle.std.proofs.Common.{◌∙◌, ap, sym, subst}
+use Rattle.nfs_lease.specs.Renewals.{leases_of, with_renewal, IsLatest}
+use Rattle.nfs_lease.proofs.Queue.{renews, rests}
 use Rattle.nfs_lease.proofs.leases.Leases.renew.Goals as goal
+use Rattle.nfs_lease.proofs.leases.Leases.renew.Goals.{in-Some, in_default}
 
 pub invariant_of-self : goal.invariant_of-self
-invariant_of-self c =
-    subst AreApart
-    (sym (slice_renewed c.self.inside.renewals _ _ c.args.client c.args.now c.renew_in.ensures c.renew_in.auto.renewals c.deref_mut.ensures.len c.deref_mut.ensures.value))
-    (apart_renewed c.args.client c.args.now _ c.self.invariant)
+invariant_of-self c = elim c.match-get_mut.branch [
+  | in-Some w ↦ rw w.self-inside-is ((renews c.args.client c.args.now (record { renewals = c.self.inside.renewals.entries; duration = c.self.inside.lease }) c.self.invariant.0 (subst (λ k. IsLatest (leases_of k) c.args.now) (sym c.self.view_is) c.requires)).queue, c.self.invariant.1)
+  | in_default w ↦ rw w.self-inside-is c.self.invariant
+]
 
 pub returns : goal.returns
-returns c =
-    left_renewed c.args.client c.args.now _ _ _ c.self.view_is
-    (slice_renewed c.self.inside.renewals _ _ c.args.client c.args.now c.renew_in.ensures c.renew_in.auto.renewals c.deref_mut.ensures.len c.deref_mut.ensures.value)
+returns c = elim c.match-get_mut.branch [
+  | in-Some w ↦ rw w.self-inside-is ((renews c.args.client c.args.now (record { renewals = c.self.inside.renewals.entries; duration = c.self.inside.lease }) c.self.invariant.0 (subst (λ k. IsLatest (leases_of k) c.args.now) (sym c.self.view_is) c.requires)).map ∙ ap (λ k. with_renewal (leases_of k) c.args.client c.args.now) c.self.view_is)
+  | in_default w ↦ rw w.self-inside-is (rests c.args.client c.args.now (record { renewals = c.self.inside.renewals.entries; duration = c.self.inside.lease }) (sym w.in_default.ensures.value) ∙ ap (λ k. with_renewal (leases_of k) c.args.client c.args.now) c.self.view_is)
+]
