@@ -1,3 +1,4 @@
-pub mod Room
-pub mod Lone
-pub mod Memory
+mod Bearing
+mod Room
+mod Lone
+mod Memory

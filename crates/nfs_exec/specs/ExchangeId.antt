@@ -1,16 +1,17 @@
 -- EXCHANGE_ID (RFC 8881 section 18.35): the table of clients decides, and its answer is told.
 use Rattle.std.specs.Prelude.{ℕ, List, [], ◌∷◌, Bool, true, false, Result, Ok, Err}
-use Rattle.nfs_xdr.specs.Status.{status_number}
-use Rattle.nfs_compound.specs.Operation.{ExchangeId}
+use Rattle.nfs_compound.specs.declared.op_num.OpNum.TheVariants as Op
+use Rattle.nfs_compound.specs.OpNum.{op_number}
+use Rattle.nfs_compound.specs.SessionArgs.{ExchangeId}
 use Rattle.nfs_results.specs.Result.{ExchangeIdOk, Res, ResExchangeId, Refused}
 use Rattle.nfs_clients.specs.declared.exchange_id.Exchanged.{Exchanged}
 use Rattle.nfs_clients.specs.declared.exchange_id.ClientFault.{ClientFault}
-use Rattle.nfs_clients.specs.ExchangeId.{Ask, Did, exchange, fault_status}
+use Rattle.nfs_clients.specs.ExchangeId.{Ask, Did, asks, exchange, fault_status}
 use Rattle.nfs_xdr.specs.Caller.{Caller}
 use Rattle.nfs_exec.specs.Machine.{Machine, Outcome}
 
 abbrev pub exchange_id_number : ℕ
-exchange_id_number = 42
+exchange_id_number = op_number Op.ExchangeId
 
 -- the text `nfs41d`, by which the server names itself and its scope
 abbrev pub server_name : List ℕ
@@ -23,18 +24,25 @@ flags_of true = 0x8001_0000
 
 -- the answer, with no state protection and no implementation told
 abbrev pub granted : Exchanged → ExchangeIdOk
-granted x = record { client = x.id; sequence = x.number; flags = flags_of x.confirmed; minor = 0; major = server_name; scope = server_name }
+granted x = record {
+  clientid = x.id;
+  sequenceid = x.number;
+  flags = flags_of x.confirmed;
+  minor_id = 0;
+  major_id = server_name;
+  server_scope = server_name;
+}
 
-abbrev pub told : Result Exchanged ClientFault → Res
-told (Ok x) = ResExchangeId (granted x)
-told (Err fault) = Refused exchange_id_number (status_number (fault_status fault))
+abbrev pub answered : Result Exchanged ClientFault → Res
+answered (Ok x) = ResExchangeId (granted x)
+answered (Err fault) = Refused exchange_id_number (fault_status fault)
 
 -- what the caller asks of the table; who made the client is not looked at
 abbrev pub ask_of : Caller → ExchangeId → Ask
-ask_of who e = record { owner = e.owner; verifier = e.verifier; flags = e.flags; uid = who.uid }
+ask_of who e = asks e.ownerid e.verifier e.flags who.uid
 
 abbrev pub exchanged : Machine → Did → Outcome
-exchanged m did = record { result = told did.answer; machine = record m { clients = did.after } }
+exchanged m did = record { result = answered did.answer; machine = record m { clients = did.after } }
 
 abbrev pub exchange_id : Machine → Caller → ExchangeId → Outcome
 exchange_id m who e = exchanged m (exchange m.clients (ask_of who e))

@@ -2,7 +2,8 @@
 use Rattle.std.specs.Prelude.{◌≡◌, ◌≤◌, ◌⊎◌, ℕ, List, ◌∷◌, Option, None}
 use Rattle.nfs_xdr.specs.declared.status.Status.TheVariants.{Nfs4Ok, Delay}
 use Rattle.nfs_xdr.specs.Status.{status_number}
-use Rattle.nfs_compound.specs.Operation.{ExchangeId, OpExchangeId, Item, Operation}
+use Rattle.nfs_compound.specs.SessionArgs.{ExchangeId}
+use Rattle.nfs_compound.specs.Operation.{OpExchangeId, Item, Operation}
 use Rattle.nfs_compound.specs.Request.{Request}
 use Rattle.nfs_xdr.specs.Caller.{Caller}
 use Rattle.nfs_exec.specs.Machine.{Machine, refuses}
@@ -16,7 +17,7 @@ IsExchangeId r = (e : ExchangeId) × (more : List Item) × (r.left ≡ Operation
 -- An EXCHANGE_ID that would have been granted was delayed, and nothing has changed.
 pub record IsDelayed (m : Machine) (r : Request) (granted delayed : Answered) : Type 0 where
   pub asked : IsExchangeId r
-  pub would : granted.result.status ≡ status_number Nfs4Ok
+  pub would : status_number granted.result.status ≡ status_number Nfs4Ok
   pub answer : delayed ≡ lone r (refuses m exchange_id_number Delay)
 
 -- Where memory was refused, the answer is the one without that, or an EXCHANGE_ID is delayed.

@@ -1,4 +1,5 @@
 pub mod Machine
+pub mod Place
 pub mod ExchangeId
 pub mod Compound
 pub mod Expiry

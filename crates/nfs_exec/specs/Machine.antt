@@ -1,10 +1,11 @@
--- What stands between two records: the meanings of the server's tables. Today it is the clients alone.
+-- What stands between two records: the meanings of the server's tables; and what one operation comes to.
 use Rattle.std.specs.Prelude.{ℕ, Bool, ◌==◌, ◌&&◌, if◌then◌else◌}
 use Rattle.nfs_xdr.specs.declared.status.Status.{Status}
 use Rattle.nfs_xdr.specs.declared.status.Status.TheVariants.{Nfs4Ok, Delay}
 use Rattle.nfs_xdr.specs.Status.{status_number}
 use Rattle.nfs_clients.specs.Roster.{Roster, no_clients}
-use Rattle.nfs_results.specs.Result.{Res, ResExchangeId, Refused}
+use Rattle.nfs_results.specs.Result.{Res}
+use Rattle.nfs_results.specs.Results.{status_of_result, refusal}
 
 pub record Machine : Type 0 where
   pub clients : Roster
@@ -18,15 +19,14 @@ pub record Outcome : Type 0 where
   pub result : Res
   pub machine : Machine
 
-abbrev pub result_status : Res → ℕ
-result_status (ResExchangeId granted) = status_number Nfs4Ok
-result_status (Refused operation status) = status
+abbrev pub is_ok : Res → Bool
+is_ok r = status_number (status_of_result r) == status_number Nfs4Ok
 
 -- the refusal of an operation, which changes nothing
 abbrev pub refuses : Machine → ℕ → Status → Outcome
-refuses m operation status = record { result = Refused operation (status_number status); machine = m }
+refuses m operation status = record { result = refusal operation status; machine = m }
 
 -- What an operation that may want memory comes to: where memory was refused it answers NFS4ERR_DELAY in place of
 -- NFS4_OK and changes nothing; a refusal of its own comes before that.
 abbrev pub or_delay : Bool → Machine → ℕ → Outcome → Outcome
-or_delay refused m operation o = if refused && (result_status o.result == status_number Nfs4Ok) then refuses m operation Delay else o
+or_delay refused m operation o = if refused && is_ok o.result then refuses m operation Delay else o

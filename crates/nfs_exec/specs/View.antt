@@ -5,8 +5,9 @@ use Rattle.nfs_xdr.specs.Status.{status_number}
 use Rattle.nfs_clients.specs.Roster.{Roster}
 use Rattle.nfs_results.specs.declared.res.Res.{Res}
 use Rattle.nfs_results.specs.Result as result
+use Rattle.nfs_results.specs.Results.{status_of_result}
 use Rattle.nfs_results.specs.View.{res}
-use Rattle.nfs_exec.specs.Machine.{Machine, Outcome, result_status}
+use Rattle.nfs_exec.specs.Machine.{Machine, Outcome}
 
 -- the machine over these tables
 abbrev pub over : Roster → Machine
@@ -17,4 +18,4 @@ outcome_of answer m = record { result = res answer; machine = m }
 
 -- the answer shows that memory was refused
 abbrev pub is_delay : result.Res → Bool
-is_delay r = result_status r == status_number Delay
+is_delay r = status_number (status_of_result r) == status_number Delay

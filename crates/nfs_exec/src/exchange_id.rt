@@ -6,12 +6,12 @@ ghost use Rattle.nfs_exec.specs.Machine.{or_delay};
 ghost use Rattle.nfs_exec.specs.View.{over, is_delay, outcome_of};
 ghost use Rattle.nfs_exec.specs.ExchangeId.{exchange_id, exchange_id_number, granted};
 ghost use Rattle.nfs_compound.specs.Operation.{Operation, OpExchangeId};
-ghost use Rattle.nfs_compound.specs.View as args;
+ghost use Rattle.nfs_compound.specs.SessionArgs.{view_exchange_id};
 ghost use Rattle.nfs_results.specs.Largest.{MayAnswer};
 ghost use Rattle.nfs_results.specs.View as view;
 
 use nfs_clients::{Clients, Exchanged};
-use nfs_compound::{ExchangeId, OP_EXCHANGE_ID};
+use nfs_compound::{ExchangeId, OpNum};
 use nfs_results::{ExchangeIdOk, Res};
 use nfs_xdr::Who;
 use std::alloc::Global;
@@ -31,13 +31,13 @@ pub fn exchange_id(
 ) -> Res<'static>
     ensures outcome { outcome_of result (over clients.new)
         ≡ or_delay (is_delay (view.res result)) (over clients.old) exchange_id_number
-        (exchange_id (over clients.old) (caller who.now) (args.exchange_id asked.now)) }
-    ensures size { MayAnswer (Operation (OpExchangeId (args.exchange_id asked.now))) (view.res result) }
+        (exchange_id (over clients.old) (caller who.now) (view_exchange_id asked.now)) }
+    ensures size { MayAnswer (Operation (OpExchangeId (view_exchange_id asked.now))) (view.res result) }
 {
-    match clients.exchange(alloc, asked.owner, asked.verifier, asked.flags, who.uid) {
+    match clients.exchange(alloc, asked.ownerid, asked.verifier, asked.flags, who.uid) {
         Ok(exchanged) => Res::ExchangeId(granted(&exchanged)),
         Err(fault) => Res::Refused {
-            operation: OP_EXCHANGE_ID,
+            operation: OpNum::ExchangeId.number(),
             status: fault.status(),
         },
     }
@@ -47,15 +47,15 @@ fn granted(exchanged: &Exchanged) -> ExchangeIdOk<'static>
     ensures { view.exchange_id result ≡ granted exchanged.now }
 {
     ExchangeIdOk {
-        client: exchanged.id,
-        sequence: exchanged.number,
+        clientid: exchanged.id,
+        sequenceid: exchanged.number,
         flags: if exchanged.confirmed {
             USE_NON_PNFS | CONFIRMED_R
         } else {
             USE_NON_PNFS
         },
-        minor: 0,
-        major: b"nfs41d",
-        scope: b"nfs41d",
+        minor_id: 0,
+        major_id: b"nfs41d",
+        server_scope: b"nfs41d",
     }
 }

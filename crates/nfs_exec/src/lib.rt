@@ -14,6 +14,7 @@
 
 mod exchange_id;
 pub mod laws;
+mod place;
 mod put;
 #[cfg(test)]
 mod tests;

@@ -2,18 +2,19 @@
 
 ghost use Rattle.std.specs.Prelude.{◌≡◌, ◌+◌, ◌≤◌, ℕ, Option, length};
 ghost use Rattle.nfs_compound.specs.View.{item};
-ghost use Rattle.nfs_results.specs.Largest.{MayAnswer};
 ghost use Rattle.nfs_results.specs.View.{res};
 ghost use Rattle.nfs_xdr.specs.Caller.{caller};
 ghost use Rattle.nfs_exec.specs.Machine.{starts};
-ghost use Rattle.nfs_exec.specs.Compound.{compound, first_item, HasReplyRoom, Answers};
+ghost use Rattle.nfs_exec.specs.Compound.{compound, first_item, IsOpened, HasReplyRoom, Answers};
+ghost use Rattle.nfs_exec.specs.Place.{CanBear, IsSmall};
 ghost use Rattle.nfs_exec.specs.View.{is_delay, outcome_of};
 ghost use Rattle.nfs_exec.specs.Expiry.{expired};
 
 use crate::exchange_id::exchange_id;
+use crate::place::fault_in_first_place;
 use crate::put::{put_bare, put_lone};
 use nfs_clients::Clients;
-use nfs_compound::{Arg, Compound, OP_EXCHANGE_ID};
+use nfs_compound::{Arg, Compound};
 use nfs_results::Res;
 use nfs_xdr::{Sheet, Status, Who};
 use std::alloc::Global;
@@ -45,8 +46,8 @@ impl World {
     }
 
     /// Runs a compound of this caller at this moment, in seconds, and puts its COMPOUND4res (RFC 8881
-    /// section 16.2.2) on the sheet, behind the head of the reply. The sheet has room for 69,976 bytes
-    /// more: those of a reply of 70,000 bytes that are not of its head.
+    /// section 16.2.2) on the sheet, behind the head of the reply. The compound was just opened, and the sheet
+    /// has room for 69,976 bytes more: those of a reply of 70,000 bytes that are not of its head.
     ///
     /// Each refusal is an answer on the sheet. Where memory is refused, EXCHANGE_ID answers NFS4ERR_DELAY
     /// as its last check and changes nothing; no other answer wants memory.
@@ -58,6 +59,7 @@ impl World {
         now: u64,
         out: &mut Sheet,
     )
+        requires opened { IsOpened args.old }
         requires room { HasReplyRoom out.old }
         ensures { (choice : Option ℕ)
             × Answers (compound self.old args.old (caller who.now) now choice) out.old out.new self.new }
@@ -71,27 +73,24 @@ impl World {
             None => put_bare(Status::Nfs4Ok, tag, out),
             Some(arg) => {
                 let res = self.first(alloc, &arg, args.declared(), who);
-                put_lone(&arg, &res, tag, out);
+                put_lone(&res, tag, out);
             }
         }
     }
 
-    /// The first of so many operations declared: a fault answers its status, and EXCHANGE_ID stands alone.
+    /// The first of so many operations declared: what it may not be in its place, or what it does.
     fn first(&mut self, alloc: Global, arg: &Arg<'_>, declared: u32, who: &Who) -> Res<'static>
+        requires { CanBear (item arg.now) }
         ensures outcome { outcome_of result self.new
             ≡ first_item self.old declared (caller who.now) (is_delay (res result)) (item arg.now) }
-        ensures size { MayAnswer (item arg.now) (res result) }
+        ensures size { IsSmall (res result) }
     {
-        match *arg {
-            Arg::Fault { number, status } => Res::Refused {
-                operation: number,
-                status,
-            },
-            Arg::ExchangeId(_) if declared > 1 => Res::Refused {
-                operation: OP_EXCHANGE_ID,
-                status: Status::NotOnlyOp,
-            },
-            Arg::ExchangeId(asked) => exchange_id(alloc, &mut self.clients, &asked, who),
+        if let Some(status) = fault_in_first_place(arg, declared) {
+            return Res::refusal(arg.number(), status);
+        }
+        match arg {
+            Arg::ExchangeId(asked) => exchange_id(alloc, &mut self.clients, asked, who),
+            _ => Res::refusal(arg.number(), Status::NotSupp),
         }
     }
 
