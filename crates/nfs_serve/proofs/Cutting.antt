@@ -1,12 +1,11 @@
 -- A stream is read in one way, wherever its pieces are cut.
-use Rattle.std.proofs.Common.{◌≡◌, ℕ, List, [], ◌∷◌, ◌++◌, refl, sym, ap, subst, ◌∙◌, append_assoc, append-nil, map, flat_map}
+use Rattle.std.proofs.Common.{◌≡◌, ℕ, List, ◌++◌, sym, ap, subst, ◌∙◌, append_assoc, append-nil, map}
 use Rattle.std.proofs.lemmas.List.{map-append}
-use Rattle.nfs_rpc.specs.RecordMarking.{start}
-use Rattle.nfs_rpc.specs.Stream.{End, Open, TooLong, IsReading, IsUnfinished}
-use Rattle.nfs_rpc.proofs.Readings.{one_reading, reading_then, part_unfinished}
-use Rattle.nfs_serve.specs.Run.{Brings, Event, Arrives, Overflows, overflow, events_of}
-use Rattle.nfs_serve.specs.Laws.{CutsAnywhere, BringsOnce, BringInTurn, calls_of, IsOneStream}
-use Rattle.nfs_serve.proofs.Pieces.{AreRecords-behind, start_holds}
+use Rattle.nfs_rpc.specs.Stream.{End, Open, TooLong, IsReading}
+use Rattle.nfs_rpc.proofs.Readings.{one_reading, reading_then}
+use Rattle.nfs_serve.specs.Run.{Brings, Arrives, overflow, events_of}
+use Rattle.nfs_serve.specs.Laws.{CutsAnywhere, BringsOnce}
+use Rattle.nfs_serve.proofs.Pieces.{AreRecords-behind}
 
 events_of-then : (conn moment : ℕ) (a b : List (List ℕ)) (rest : List ℕ) (end : End) → events_of conn moment a (Open rest) ++ events_of conn moment b end ≡ events_of conn moment (a ++ b) end
 events_of-then conn moment a b rest end =
@@ -14,7 +13,7 @@ events_of-then conn moment a b rest end =
     ap (λ l. l ++ (map f b ++ overflow conn end)) (append-nil (map f a)) ∙ sym (append_assoc (map f a) (map f b) (overflow conn end)) ∙ ap (λ l. l ++ overflow conn end) (sym (map-append f a b))
 
 -- more bytes of a stream that is too long
-still_long : (stream more : List ℕ) (calls : List (List ℕ)) → IsReading stream calls TooLong → IsReading (stream ++ more) calls TooLong
+pub still_long : (stream more : List ℕ) (calls : List (List ℕ)) → IsReading stream calls TooLong → IsReading (stream ++ more) calls TooLong
 still_long stream more calls h =
     let (front, left, split, long) = h.ends in record {
       behind = h.behind ++ more;
@@ -42,46 +41,3 @@ brings_once conn moment (Open rest) piece first other end last one two =
     let same = one_reading (rest ++ piece) a b end last reads reads_too in
     (is ∙ ap (λ c. events_of conn moment c end) same.0 ∙ ap (λ e. events_of conn moment b e) same.1 ∙ sym is_too, same.1)
 brings_once conn moment TooLong piece first other end last one two = (one.0 ∙ sym two.0, one.1 ∙ sym two.1)
-
-calls_of-append : (a b : List Event) → calls_of (a ++ b) ≡ calls_of a ++ calls_of b
-calls_of-append [] b = refl
-calls_of-append (Arrives conn moment call ∷ a) b = ap (λ l. call ∷ l) (calls_of-append a b)
-calls_of-append (Overflows conn ∷ a) b = calls_of-append a b
-
-calls_of-arrived : (conn moment : ℕ) (calls : List (List ℕ)) → calls_of (map (λ call. Arrives conn moment call) calls) ≡ calls
-calls_of-arrived conn moment [] = refl
-calls_of-arrived conn moment (call ∷ calls) = ap (λ l. call ∷ l) (calls_of-arrived conn moment calls)
-
-calls_of-overflow : (conn : ℕ) (end : End) → calls_of (overflow conn end) ≡ []
-calls_of-overflow conn (Open rest) = refl
-calls_of-overflow conn TooLong = refl
-
-calls_of-events : (conn moment : ℕ) (calls : List (List ℕ)) (end : End) → calls_of (events_of conn moment calls end) ≡ calls
-calls_of-events conn moment calls end = calls_of-append (map (λ call. Arrives conn moment call) calls) (overflow conn end) ∙ ap (λ l. l ++ calls_of (overflow conn end)) (calls_of-arrived conn moment calls) ∙ ap (λ l. calls ++ l) (calls_of-overflow conn end) ∙ append-nil calls
-
-ignored : (conn : ℕ) (pieces : List (ℕ × List ℕ)) (brought : List Event) (end : End) → BringInTurn conn TooLong pieces brought end → (brought ≡ []) × (end ≡ TooLong)
-ignored conn [] brought end h = h
-ignored conn (p ∷ pieces) brought end h =
-    let (first, later, between, is, brings, rest) = h in
-    let none = ignored conn pieces later end (subst (λ s. BringInTurn conn s pieces later end) brings.1 rest) in
-    (is ∙ ap (λ l. l ++ later) brings.0 ∙ none.0, none.1)
-
-in_turn : (conn : ℕ) (pieces : List (ℕ × List ℕ)) (brought : List Event) (end : End) (rest : List ℕ) → IsUnfinished rest → BringInTurn conn (Open rest) pieces brought end
-    → IsReading (rest ++ flat_map (λ p. p.1) pieces) (calls_of brought) end
-in_turn conn [] brought end rest unfinished h =
-    subst (λ e. IsReading (rest ++ []) (calls_of brought) e) (sym h.1) (subst (λ b. IsReading (rest ++ []) (calls_of b) (Open rest)) (sym h.0)
-    (record { behind = rest ++ []; stands = refl; ends = (append-nil rest, unfinished) }))
-in_turn conn (p ∷ pieces) brought end rest unfinished (first, later, Open between, is, (a, reads, first_is), more) =
-    let whole = in_turn conn pieces later end between reads.ends.1 more in
-    let calls : calls_of brought ≡ a ++ calls_of later = ap calls_of (is ∙ ap (λ l. l ++ later) first_is) ∙ calls_of-append (events_of conn p.0 a (Open between)) later ∙ ap (λ l. l ++ calls_of later) (calls_of-events conn p.0 a (Open between)) in
-    subst (λ c. IsReading (rest ++ flat_map (λ p. p.1) (p ∷ pieces)) c end) (sym calls)
-    (subst (λ s. IsReading s (a ++ calls_of later) end) (append_assoc rest p.1 (flat_map (λ p. p.1) pieces)) (reading_then (rest ++ p.1) (flat_map (λ p. p.1) pieces) between a (calls_of later) end reads whole))
-in_turn conn (p ∷ pieces) brought end rest unfinished (first, later, TooLong, is, (a, reads, first_is), more) =
-    let none = ignored conn pieces later end more in
-    let calls : calls_of brought ≡ a = ap calls_of (is ∙ ap (λ l. l ++ later) first_is ∙ ap (λ l. events_of conn p.0 a TooLong ++ l) none.0 ∙ append-nil _) ∙ calls_of-events conn p.0 a TooLong in
-    subst (λ e. IsReading (rest ++ flat_map (λ p. p.1) (p ∷ pieces)) (calls_of brought) e) (sym none.1)
-    (subst (λ c. IsReading (rest ++ flat_map (λ p. p.1) (p ∷ pieces)) c TooLong) (sym calls)
-    (subst (λ s. IsReading s a TooLong) (append_assoc rest p.1 (flat_map (λ p. p.1) pieces)) (still_long (rest ++ p.1) (flat_map (λ p. p.1) pieces) a reads)))
-
-pub is_one_stream : IsOneStream
-is_one_stream conn pieces brought end h = in_turn conn pieces brought end [] (part_unfinished [] start start_holds) h

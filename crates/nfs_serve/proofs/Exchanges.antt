@@ -2,18 +2,19 @@
 use Rattle.std.proofs.Common.{◌≡◌, ℕ, List, [], ◌∷◌, ◌++◌, None, refl, sym, arith, append-nil}
 use Rattle.std.proofs.lemmas.List.Elements.{All-nil, All-push}
 use Rattle.nfs_xdr.specs.Spelling.{number, hyper}
-use Rattle.nfs_xdr.specs.Reading.{opaque_at, fixed_at, pieces_at}
+use Rattle.nfs_xdr.specs.Reading.{opaque_at, fixed_at, flag_at, pieces_at}
 use Rattle.nfs_rpc.specs.RecordMarking.{IsRecord, start}
 use Rattle.nfs_rpc.specs.Stream.{Open, IsReading}
 use Rattle.nfs_rpc.specs.CallHead.{call_of, header, opaque_auth, judged, caller_of, auth_sys}
 use Rattle.nfs_rpc.specs.Reply.{spell_head}
 use Rattle.nfs_rpc.proofs.Readings.{part_unfinished}
-use Rattle.nfs_compound.specs.Request.{request_at, items_at, item_at}
-use Rattle.nfs_compound.specs.Arguments.{op_at, fault_at, exchange_id, protected, implementation}
-use Rattle.nfs_results.specs.Results as results
+use Rattle.nfs_compound.specs.ReadRequest.{request_at, items_at, item_at}
+use Rattle.nfs_compound.specs.Arguments.{op_at, fault_at}
+use Rattle.nfs_compound.specs.SessionArgs.{exchange_id_args, protected, impl_id}
+use Rattle.nfs_results.specs.Items as results
 use Rattle.nfs_serve.specs.declared.form.Form.TheVariants.{Tagged}
 use Rattle.nfs_serve.specs.Script.{Entry, head, Fits, IsWhole}
-use Rattle.nfs_serve.specs.Step.{starting, step}
+use Rattle.nfs_serve.specs.Step.{new_state, step}
 use Rattle.nfs_serve.specs.Run.{Streams, all_closed, with_stream, Reads, Event, Arrives, Move, events, output}
 use Rattle.nfs_serve.specs.Exchanges.{RunsTo, words, null_call, null_script, null_output, exchange_call, exchange_script, exchange_output}
 use Rattle.nfs_serve.proofs.Pieces.{start_holds}
@@ -32,7 +33,7 @@ null_record = record { before = []; final = null_call; stands = refl; holds = re
 null_move : Move
 null_move = record { event = Arrives 0 100 null_call; choice = None }
 
-null_output_is : null_output ≡ output Tagged (starting 7) (null_move ∷ [])
+null_output_is : null_output ≡ output Tagged (new_state 7) (null_move ∷ [])
 unfolding null_move number step call_of header opaque_auth opaque_at fixed_at judged spell_head
 null_output_is = refl
 
@@ -69,8 +70,8 @@ exchange_record = record { before = []; final = exchange_call; stands = refl; ho
 exchange_move : Move
 exchange_move = record { event = Arrives 0 100 exchange_call; choice = None }
 
-exchange_output_is : exchange_output ≡ output Tagged (starting 7) (exchange_move ∷ exchange_move ∷ [])
-unfolding exchange_move number hyper step call_of header opaque_auth opaque_at fixed_at judged caller_of auth_sys spell_head request_at items_at item_at op_at fault_at exchange_id protected implementation pieces_at results.exchange_id
+exchange_output_is : exchange_output ≡ output Tagged (new_state 7) (exchange_move ∷ exchange_move ∷ [])
+unfolding exchange_move number hyper step call_of header opaque_auth opaque_at fixed_at judged caller_of auth_sys spell_head request_at items_at item_at op_at fault_at exchange_id_args protected impl_id pieces_at flag_at results.exchange_id
 exchange_output_is = refl
 
 exchange_one : Entry

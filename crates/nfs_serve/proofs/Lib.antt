@@ -3,8 +3,11 @@ pub mod Entries
 pub mod Moves
 pub mod Pieces
 pub mod Runs
+pub mod Speaking
 pub mod Framing
 pub mod Stepping
 pub mod Exchanges
 pub mod Cutting
+pub mod Connections
 pub mod OneReading
+pub mod InMemory

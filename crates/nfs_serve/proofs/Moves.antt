@@ -7,7 +7,7 @@ use Rattle.nfs_serve.specs.declared.form.Form.{Form}
 use Rattle.nfs_serve.specs.Script.{Entry}
 use Rattle.nfs_serve.specs.Step.{State}
 use Rattle.nfs_serve.specs.Run.{Streams, with_stream, Event, Takes, Reads, Move, events, after, after_event, output, output_of}
-use Rattle.nfs_serve.specs.Served.{held_on, IsWith, Stands}
+use Rattle.nfs_serve.specs.Server.{held_on, IsWith, Stands}
 use Rattle.nfs_serve.specs.Replay.{AllStand}
 
 pub after-append : (s : State) (xs ys : List Move) → after s (xs ++ ys) ≡ after (after s xs) ys

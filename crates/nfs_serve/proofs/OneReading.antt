@@ -10,8 +10,8 @@ use Rattle.nfs_xdr.specs.Codec.{Codec, IsCodec, ◌then◌}
 use Rattle.nfs_xdr.proofs.CodecLaws.{is_number, is_hyper, is_then}
 use Rattle.nfs_serve.specs.declared.fault.Stop.{Stop}
 use Rattle.nfs_serve.specs.declared.fault.Stop.TheVariants.{Cut, Connection, Long, Late, Many, ReadFailed, WriteFailed}
-use Rattle.nfs_serve.specs.Script.{Entry, head, spell_entry, Fits, max_entries, refusal, BeginsRefused, IsPartial, StopsAt, StopsBehind}
-use Rattle.nfs_serve.specs.Laws.{IsRead, HasOneReading}
+use Rattle.nfs_serve.specs.Script.{Entry, head, spell_entry, Fits, max_entries, refusal, BeginsRefused, IsPartial, StopsAt, IsRead}
+use Rattle.nfs_serve.specs.Laws.{HasOneReading}
 use Rattle.nfs_serve.proofs.Entries.{length-head}
 
 abbrev heads : Codec (ℕ × (ℕ × ℕ))
@@ -92,11 +92,11 @@ record IsRun (script : List ℕ) (entries : List Entry) (rest : List ℕ) : Type
 run_of : (a : Option Stop) (script : List ℕ) (es : List Entry) (r : List ℕ) → IsRead a script es r → IsRun script es r
 unfolding Ends
 run_of None script es r h = record { spelled = h.0.spelled ∙ sym (append-nil _) ∙ ap (λ l. flat_map spell_entry es ++ l) (sym h.1); fits = h.0.fits; few = h.0.few; ends = inr (no_short r (omega (arith, ap length h.1))) }
-run_of (Some Cut) script es r h = record { spelled = h.spelled; fits = h.fits; few = omega (arith, h.behind); ends = inr (no_partial r h.stands.1) }
-run_of (Some Connection) script es r h = record { spelled = h.spelled; fits = h.fits; few = omega (arith, h.behind); ends = inr (no_refused Connection r h.stands) }
-run_of (Some Long) script es r h = record { spelled = h.spelled; fits = h.fits; few = omega (arith, h.behind); ends = inr (no_refused Long r h.stands) }
-run_of (Some Late) script es r h = record { spelled = h.spelled; fits = h.fits; few = omega (arith, h.behind); ends = inr (no_refused Late r h.stands) }
-run_of (Some Many) script es r h = record { spelled = h.spelled; fits = h.fits; few = omega (arith, h.behind); ends = inl h.behind }
+run_of (Some Cut) script es r h = record { spelled = h.spelled; fits = h.fits; few = omega (arith, h.stands.0); ends = inr (no_partial r h.stands.2) }
+run_of (Some Connection) script es r h = record { spelled = h.spelled; fits = h.fits; few = omega (arith, h.stands.0); ends = inr (no_refused Connection r h.stands.1) }
+run_of (Some Long) script es r h = record { spelled = h.spelled; fits = h.fits; few = omega (arith, h.stands.0); ends = inr (no_refused Long r h.stands.1) }
+run_of (Some Late) script es r h = record { spelled = h.spelled; fits = h.fits; few = omega (arith, h.stands.0); ends = inr (no_refused Late r h.stands.1) }
+run_of (Some Many) script es r h = record { spelled = h.spelled; fits = h.fits; few = omega (arith, h.stands.0); ends = inl h.stands.0 }
 run_of (Some ReadFailed) script es r h = absurd h
 run_of (Some WriteFailed) script es r h = absurd h
 
@@ -145,16 +145,16 @@ refused_same s t r h g =
 -- how the script stops behind n entries
 StopsHow : Option Stop → ℕ → List ℕ → Type 0
 StopsHow None n r = r ≡ []
-StopsHow (Some stop) n r = StopsBehind stop n × StopsAt stop r
+StopsHow (Some stop) n r = StopsAt stop n r
 
 how : (a : Option Stop) (script : List ℕ) (es : List Entry) (r : List ℕ) → IsRead a script es r → StopsHow a (length es) r
 unfolding StopsHow
 how None script es r h = h.1
-how (Some Cut) script es r h = (h.behind, h.stands)
-how (Some Connection) script es r h = (h.behind, h.stands)
-how (Some Long) script es r h = (h.behind, h.stands)
-how (Some Late) script es r h = (h.behind, h.stands)
-how (Some Many) script es r h = (h.behind, h.stands)
+how (Some Cut) script es r h = h.stands
+how (Some Connection) script es r h = h.stands
+how (Some Long) script es r h = h.stands
+how (Some Late) script es r h = h.stands
+how (Some Many) script es r h = h.stands
 how (Some ReadFailed) script es r h = absurd h
 how (Some WriteFailed) script es r h = absurd h
 
@@ -164,23 +164,23 @@ empty_some r e some = omega (arith, ap length e, some)
 same_how : (a b : Option Stop) (script other : List ℕ) (es fs : List Entry) (n : ℕ) (r : List ℕ) → IsRead a script es r → IsRead b other fs r → StopsHow a n r → StopsHow b n r → a ≡ b
 unfolding StopsHow
 same_how None None script other es fs n r ra rb h g = refl
-same_how None (Some Cut) script other es fs n r ra rb h g = absurd (empty_some r h g.1.0)
+same_how None (Some Cut) script other es fs n r ra rb h g = absurd (empty_some r h g.1)
 same_how None (Some Connection) script other es fs n r ra rb h g = absurd (empty_some r h (refused_some Connection r g.1))
 same_how None (Some Long) script other es fs n r ra rb h g = absurd (empty_some r h (refused_some Long r g.1))
 same_how None (Some Late) script other es fs n r ra rb h g = absurd (empty_some r h (refused_some Late r g.1))
 same_how None (Some Many) script other es fs n r ra rb h g = absurd (empty_some r h g.1)
 same_how None (Some ReadFailed) script other es fs n r ra rb h g = absurd rb
 same_how None (Some WriteFailed) script other es fs n r ra rb h g = absurd rb
-same_how (Some Cut) None script other es fs n r ra rb h g = absurd (empty_some r g h.1.0)
+same_how (Some Cut) None script other es fs n r ra rb h g = absurd (empty_some r g h.1)
 same_how (Some Cut) (Some Cut) script other es fs n r ra rb h g = refl
-same_how (Some Cut) (Some Connection) script other es fs n r ra rb h g = absurd (partial_refused Connection r h.1.1 g.1)
-same_how (Some Cut) (Some Long) script other es fs n r ra rb h g = absurd (partial_refused Long r h.1.1 g.1)
-same_how (Some Cut) (Some Late) script other es fs n r ra rb h g = absurd (partial_refused Late r h.1.1 g.1)
+same_how (Some Cut) (Some Connection) script other es fs n r ra rb h g = absurd (partial_refused Connection r h.2 g.1)
+same_how (Some Cut) (Some Long) script other es fs n r ra rb h g = absurd (partial_refused Long r h.2 g.1)
+same_how (Some Cut) (Some Late) script other es fs n r ra rb h g = absurd (partial_refused Late r h.2 g.1)
 same_how (Some Cut) (Some Many) script other es fs n r ra rb h g = absurd (omega (arith, h.0, g.0))
 same_how (Some Cut) (Some ReadFailed) script other es fs n r ra rb h g = absurd rb
 same_how (Some Cut) (Some WriteFailed) script other es fs n r ra rb h g = absurd rb
 same_how (Some Connection) None script other es fs n r ra rb h g = absurd (empty_some r g (refused_some Connection r h.1))
-same_how (Some Connection) (Some Cut) script other es fs n r ra rb h g = absurd (partial_refused Connection r g.1.1 h.1)
+same_how (Some Connection) (Some Cut) script other es fs n r ra rb h g = absurd (partial_refused Connection r g.2 h.1)
 same_how (Some Connection) (Some Connection) script other es fs n r ra rb h g = refl
 same_how (Some Connection) (Some Long) script other es fs n r ra rb h g = refused_same Connection Long r h.1 g.1
 same_how (Some Connection) (Some Late) script other es fs n r ra rb h g = refused_same Connection Late r h.1 g.1
@@ -188,7 +188,7 @@ same_how (Some Connection) (Some Many) script other es fs n r ra rb h g = absurd
 same_how (Some Connection) (Some ReadFailed) script other es fs n r ra rb h g = absurd rb
 same_how (Some Connection) (Some WriteFailed) script other es fs n r ra rb h g = absurd rb
 same_how (Some Long) None script other es fs n r ra rb h g = absurd (empty_some r g (refused_some Long r h.1))
-same_how (Some Long) (Some Cut) script other es fs n r ra rb h g = absurd (partial_refused Long r g.1.1 h.1)
+same_how (Some Long) (Some Cut) script other es fs n r ra rb h g = absurd (partial_refused Long r g.2 h.1)
 same_how (Some Long) (Some Connection) script other es fs n r ra rb h g = refused_same Long Connection r h.1 g.1
 same_how (Some Long) (Some Long) script other es fs n r ra rb h g = refl
 same_how (Some Long) (Some Late) script other es fs n r ra rb h g = refused_same Long Late r h.1 g.1
@@ -196,7 +196,7 @@ same_how (Some Long) (Some Many) script other es fs n r ra rb h g = absurd (omeg
 same_how (Some Long) (Some ReadFailed) script other es fs n r ra rb h g = absurd rb
 same_how (Some Long) (Some WriteFailed) script other es fs n r ra rb h g = absurd rb
 same_how (Some Late) None script other es fs n r ra rb h g = absurd (empty_some r g (refused_some Late r h.1))
-same_how (Some Late) (Some Cut) script other es fs n r ra rb h g = absurd (partial_refused Late r g.1.1 h.1)
+same_how (Some Late) (Some Cut) script other es fs n r ra rb h g = absurd (partial_refused Late r g.2 h.1)
 same_how (Some Late) (Some Connection) script other es fs n r ra rb h g = refused_same Late Connection r h.1 g.1
 same_how (Some Late) (Some Long) script other es fs n r ra rb h g = refused_same Late Long r h.1 g.1
 same_how (Some Late) (Some Late) script other es fs n r ra rb h g = refl

@@ -6,7 +6,7 @@ use Rattle.std.proofs.KnownBytes.{Appends-nil, Appends-trans}
 use Rattle.nfs_xdr.specs.Codec.{IsBytes}
 use Rattle.nfs_rpc.specs.RecordMarking.{Held, Begun, Complete, Failed, IsRecord, Holds, start}
 use Rattle.nfs_rpc.specs.Stream.{End, Open, TooLong, AreRecords, IsReading, IsUnfinished}
-use Rattle.nfs_rpc.specs.Feeding.{waits}
+use Rattle.nfs_rpc.specs.Feeding.{waits, is_too_long}
 use Rattle.nfs_rpc.proofs.Fragments.{IsBytes-append, bytes_behind_front}
 use Rattle.nfs_rpc.proofs.Readings.{part_unfinished}
 use Rattle.nfs_serve.specs.declared.form.Form.{Form}
@@ -14,7 +14,7 @@ use Rattle.nfs_serve.specs.declared.form.Flow.TheVariants as Flow
 use Rattle.nfs_serve.specs.Step.{State, step}
 use Rattle.nfs_serve.specs.Ends.{AppendsFront}
 use Rattle.nfs_serve.specs.Run.{Arrives, Overflows, events_of, Brings, Move, events, after, output, spell_answer, spell_overflow}
-use Rattle.nfs_serve.specs.Served.{Stands, is_too_long, flow_of, Feeds, Breaks}
+use Rattle.nfs_serve.specs.Server.{Stands, flow_of, Feeds, Breaks}
 use Rattle.nfs_serve.proofs.Moves.{after-append, output-last, events-append}
 
 -- more bytes behind the records
@@ -45,7 +45,7 @@ pub no_bytes : IsBytes []
 no_bytes = record { each = λ i. omega arith }
 
 -- a stream that is not too long
-stands_open : (before : End) (was : Held) → is_too_long was ≡ false → Stands before was → (rest : List ℕ) × (before ≡ Open rest) × IsBytes rest × Holds rest was
+pub stands_open : (before : End) (was : Held) → is_too_long was ≡ false → Stands before was → (rest : List ℕ) × (before ≡ Open rest) × IsBytes rest × Holds rest was
 stands_open (Open rest) (Begun p) going h = (rest, refl, h.0, h.1)
 stands_open (Open rest) (Complete call) going h = absurd h
 stands_open (Open rest) Failed going h = absurd h

@@ -7,17 +7,17 @@ use Rattle.std.proofs.lemmas.List.Elements.{All-nil, All-push}
 use Rattle.std.proofs.lemmas.List.Concat.{flat_map-append}
 use Rattle.std.proofs.lemmas.Bool.{eqb-true, eqb-false}
 use Rattle.std.proofs.Math.ListN.{set}
-use Rattle.nfs_rpc.specs.RecordMarking.{Held, Begun, start}
+use Rattle.nfs_rpc.specs.RecordMarking.{Held}
 use Rattle.nfs_rpc.specs.Stream.{End, Open}
 use Rattle.nfs_serve.specs.declared.fault.Stop.{Stop}
 use Rattle.nfs_serve.specs.declared.fault.Stop.TheVariants.{Cut, Connection, Long, Late, Many, ReadFailed, WriteFailed}
 use Rattle.nfs_serve.specs.declared.fault.ReplayFault.{ReplayFault}
 use Rattle.nfs_serve.specs.declared.form.Form.TheVariants.{Tagged}
-use Rattle.nfs_serve.specs.Script.{Entry, spell_entry, Fits, max_entries, StopsAt, StopsBehind, IsStopped}
+use Rattle.nfs_serve.specs.Script.{Entry, spell_entry, Fits, max_entries, StopsAt, IsStopped}
 use Rattle.nfs_serve.specs.Ends.{IsTold}
 use Rattle.nfs_serve.specs.Step.{State}
 use Rattle.nfs_serve.specs.Run.{Streams, with_stream, all_closed, Brings, TakesPiece, Event, events, after, after_event, output, output_of}
-use Rattle.nfs_serve.specs.Served.{held_on, IsWith, Feeds, Breaks}
+use Rattle.nfs_serve.specs.Server.{fresh, held_on, IsWith, Feeds, Breaks}
 use Rattle.nfs_serve.specs.Replay.{AllStand, Runs, ReplaysFault, Replays, Tells}
 use Rattle.nfs_serve.specs.Running.{RunsEntry, EndsBehind}
 use Rattle.nfs_serve.proofs.Moves.{after-append, output-append, events-append, Reads-more, with_stands}
@@ -27,11 +27,11 @@ pub set_is_with : (held : List Held) (conn : ℕ) (now : Held) → conn < length
 set_is_with held conn now within = λ c. cases c (nat_eq c conn) refl
   where
     cases : (c : ℕ) (b : Bool) → nat_eq c conn ≡ b → held_on (set held conn now) c ≡ (if b then now else held_on held c)
-    cases c true e = ap (λ k. held_on (set held conn now) k) (eqb-true c conn e) ∙ get_or-set_same held conn now (Begun start) within
-    cases c false e = get_or-set_other held conn c now (Begun start) (eqb-false c conn e)
+    cases c true e = ap (λ k. held_on (set held conn now) k) (eqb-true c conn e) ∙ get_or-set_same held conn now fresh within
+    cases c false e = get_or-set_other held conn c now fresh (eqb-false c conn e)
 
 -- a piece of some bytes
-takes_piece : (streams : Streams) (moment conn : ℕ) (piece : List ℕ) (brought : List Event) (end : End) → piece ≢ [] → Brings conn moment (streams conn) piece brought end
+pub takes_piece : (streams : Streams) (moment conn : ℕ) (piece : List ℕ) (brought : List Event) (end : End) → piece ≢ [] → Brings conn moment (streams conn) piece brought end
     → TakesPiece streams moment conn piece brought (with_stream streams conn end)
 takes_piece streams moment conn [] brought end some brings = absurd (some refl)
 takes_piece streams moment conn (b ∷ bytes) brought end some brings = (end, brings, refl)
@@ -47,7 +47,7 @@ entry_fed was now e within some f = record {
       (with_stream before e.conn end, takes_piece before e.moment e.conn e.piece (events f.moves) end some brings, with_stands before was (set was e.conn now) e.conn end now all (set_is_with was e.conn now within) stands);
 }
 
-pub entry_closed : (s : State) (h : Option (List ℕ)) (was : List Held) (e : Entry) → e.conn < length was → e.piece ≡ [] → RunsEntry s s was (set was e.conn (Begun start)) e h h
+pub entry_closed : (s : State) (h : Option (List ℕ)) (was : List Held) (e : Entry) → e.conn < length was → e.piece ≡ [] → RunsEntry s s was (set was e.conn fresh) e h h
 entry_closed s h was e within none = record {
   moves = [];
   state = refl;
@@ -55,7 +55,7 @@ entry_closed s h was e within none = record {
   takes = λ before all. (
     with_stream before e.conn (Open []),
     subst (λ p. TakesPiece before e.moment e.conn p [] (with_stream before e.conn (Open []))) (sym none) (refl, refl),
-    with_stands before was (set was e.conn (Begun start)) e.conn (Open []) (Begun start) all (set_is_with was e.conn (Begun start) within) (no_bytes, start_holds),
+    with_stands before was (set was e.conn fresh) e.conn (Open []) fresh all (set_is_with was e.conn fresh within) (no_bytes, start_holds),
   );
 }
 
@@ -117,14 +117,14 @@ module _ {old now : State} {held : List Held} {n : ℕ} {l0 l1 h0 h1 : Option (L
   )
 
   -- the run stops in the place of an entry
-  pub going_stops : (stop : Stop) (f : ReplayFault) (l2 : Option (List ℕ)) (rest : List ℕ) (ended failed : Bool) → f.number ≡ stop → f.entry ≡ suc n → StopsBehind stop n → Consumes l1 l2 rest → StopsAt stop rest
+  pub going_stops : (stop : Stop) (f : ReplayFault) (l2 : Option (List ℕ)) (rest : List ℕ) (ended failed : Bool) → f.number ≡ stop → f.entry ≡ suc n → Consumes l1 l2 rest → StopsAt stop n rest
       → IsTold stop ended failed false → Replays {U = Unit {0}} (Err f) old now held l0 l2 h0 h1
-  going_stops stop f l2 rest ended failed is entry behind read stands told = (
+  going_stops stop f l2 rest ended failed is entry read stands told = (
     flat_map spell_entry g.entries ++ rest,
     g.written,
     Consumes-trans _ _ _ _ _ g.read read,
     g.appended,
-    rw is (cases stop told (g.entries, rest, record { spelled = refl; fits = g.fits; behind = subst (StopsBehind stop) (sym g.count) behind; stands = stands }, entry ∙ ap suc (sym g.count), g.runs)),
+    rw is (cases stop told (g.entries, rest, record { spelled = refl; fits = g.fits; stands = subst (λ k. StopsAt stop k rest) (sym g.count) stands }, entry ∙ ap suc (sym g.count), g.runs)),
   )
     where
       cases : (stop : Stop) → IsTold stop ended failed false
@@ -143,7 +143,7 @@ module _ {old now : State} {held : List Held} {n : ℕ} {l0 l1 h0 h1 : Option (L
 
   -- the writer failed in a reply of an entry
   pub going_breaks : (f : ReplayFault) (l2 h2 : Option (List ℕ)) (new : State) (held_new : List Held) (e : Entry) → f.number ≡ WriteFailed → f.entry ≡ suc n → n < max_entries → Consumes l1 l2 (spell_entry e) → Fits e
-      → Breaks now new (held_on held e.conn) e.conn e.moment e.piece Tagged h1 h2 → IsWith held_new held e.conn (Begun start) → Replays {U = Unit {0}} (Err f) old new held_new l0 l2 h0 h2
+      → Breaks now new (held_on held e.conn) e.conn e.moment e.piece Tagged h1 h2 → IsWith held_new held e.conn fresh → Replays {U = Unit {0}} (Err f) old new held_new l0 l2 h0 h2
   going_breaks f l2 h2 new held_new e is entry few read fits b others =
       let (end, brings) = b.stream (g.runs.streams e.conn) (g.runs.stands e.conn) in
       let moves_state : after now b.moves ≡ after old (g.runs.moves ++ b.moves) = ap (λ s. after s b.moves) g.runs.state ∙ sym (after-append old g.runs.moves b.moves) in (
@@ -157,15 +157,14 @@ module _ {old now : State} {held : List Held} {n : ℕ} {l0 l1 h0 h1 : Option (L
           record {
             spelled = sym (append-nil _ ∙ flat_map-last g.entries e);
             fits = All-push Fits g.entries e g.fits fits;
-            behind = omega (arith, count_more e);
-            stands = refl;
+            stands = (omega (arith, count_more e), refl);
           },
           entry ∙ ap suc (sym g.count),
           record {
             moves = g.runs.moves ++ b.moves;
             breaking = b.last;
             before = events g.runs.moves;
-            later = events (b.moves ++ b.last ∷ []);
+            own = events b.moves;
             streams = g.runs.streams;
             end = end;
             taken = b.taken;
@@ -174,14 +173,14 @@ module _ {old now : State} {held : List Held} {n : ℕ} {l0 l1 h0 h1 : Option (L
             unwritten = b.unwritten;
             reads = g.runs.reads;
             split = b.split;
-            brings = brings;
-            order = ap events (append_assoc g.runs.moves b.moves (b.last ∷ [])) ∙ events-append g.runs.moves (b.moves ++ b.last ∷ []);
+            brings = subst (λ brought. Brings e.conn e.moment (g.runs.streams e.conn) b.taken brought end) (events-append b.moves (b.last ∷ [])) brings;
+            order = events-append g.runs.moves b.moves;
             state = b.state ∙ ap (λ s. after_event s b.last.event b.last.choice) moves_state;
             wrote = ap (λ l. l ++ (output Tagged now b.moves ++ b.written)) g.runs.wrote ∙ sym (append_assoc (output Tagged old g.runs.moves) (output Tagged now b.moves) b.written)
                 ∙ ap (λ l. l ++ b.written) (ap (λ s. output Tagged old g.runs.moves ++ output Tagged s b.moves) g.runs.state ∙ sym (output-append Tagged old g.runs.moves b.moves));
             cut = b.cut ∙ ap (λ s. output_of Tagged s b.last.event b.last.choice) moves_state;
             some = b.some;
-            stands = with_stands g.runs.streams held held_new e.conn (Open []) (Begun start) g.runs.stands others (no_bytes, start_holds);
+            stands = with_stands g.runs.streams held held_new e.conn (Open []) fresh g.runs.stands others (no_bytes, start_holds);
           },
         ),
       )
@@ -190,4 +189,4 @@ module _ {old now : State} {held : List Held} {n : ℕ} {l0 l1 h0 h1 : Option (L
   pub going_behind : (result : Result (Unit {0}) ReplayFault) (l2 : Option (List ℕ)) (rest : List ℕ) (ended failed : Bool) → n ≡ max_entries → Consumes l1 l2 rest → EndsBehind result rest → Tells result ended failed false l2
       → Replays result old now held l0 l2 h0 h1
   going_behind (Ok u) l2 rest ended failed all read none told = going_ends u l2 (omega (arith, all)) (subst (Consumes _ _) none read)
-  going_behind (Err f) l2 rest ended failed all read ends told = going_stops f.number f l2 rest ended failed refl (ends.2 ∙ ap suc (sym all)) (subst (StopsBehind f.number) (sym all) ends.0) read ends.1 told.0
+  going_behind (Err f) l2 rest ended failed all read ends told = going_stops f.number f l2 rest ended failed refl (ends.1 ∙ ap suc (sym all)) read (subst (λ k. StopsAt f.number k rest) (sym all) ends.0) told.0

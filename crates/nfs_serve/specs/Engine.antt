@@ -1,17 +1,17 @@
--- What contracts see of the part of the server that steps records and keeps their replies on a sheet.
+-- What contracts see of the part of the server that steps records and keeps their replies on a sheet; private contracts
+-- alone speak of it.
 use Rattle.std.specs.Prelude.{◌≡◌, ℕ, List, drop, Some}
 use Rattle.nfs_xdr.specs.Paper.{Paper, Puts}
 use Rattle.nfs_rpc.specs.declared.refusal.Refusal.{Refusal}
 use Rattle.nfs_rpc.specs.declared.refusal.Refusal.TheVariants as Refusals
-use Rattle.nfs_exec.specs.Machine.{Machine}
 use Rattle.nfs_serve.specs.declared.form.Form.{Form}
 use Rattle.nfs_serve.specs.declared.form.Form.TheVariants.{Tagged, Plain}
 use Rattle.nfs_serve.specs.declared.form.Outcome.{Outcome}
 use Rattle.nfs_serve.specs.declared.form.Outcome.TheVariants.{Reply, Silent}
-use Rattle.nfs_serve.specs.Step.{State, Replied}
+use Rattle.nfs_serve.specs.Step.{State, Stepped}
 
--- the state that the steps speak of, and the reply that was made last
-pub record Answering : Type 0 where
+-- the state that the steps speak of, and the reply that is lent
+pub record EngineModel : Type 0 where
   pub state : State
   pub reply : List ℕ
 
@@ -22,12 +22,12 @@ outcome_of (Refusals.Mismatch xid) = Reply
 outcome_of (Refusals.Auth xid stat) = Reply
 outcome_of (Refusals.Accept xid stat) = Reply
 
--- The reply was put at the end of the sheet, and these tables are left.
-pub record PutsReply (replied : Replied) (old new : Paper) (left : Machine) : Type 0 where
+-- The reply was put at the end of the sheet, and this state is left.
+pub record PutsReply (stepped : Stepped) (old new : Paper) (left : State) : Type 0 where
   pub text : List ℕ
-  pub reply : replied.reply ≡ Some text
+  pub reply : stepped.reply ≡ Some text
   pub put : Puts old new text
-  pub machine : left ≡ replied.machine
+  pub state : left ≡ stepped.state
 
 -- a reply behind its connection's number, as the form has it
 abbrev pub in_form : Form → List ℕ → List ℕ

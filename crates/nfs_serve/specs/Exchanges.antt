@@ -4,7 +4,7 @@ use Rattle.std.specs.Prelude.{◌≡◌, ℕ, List, [], ◌∷◌, ◌++◌, All
 use Rattle.nfs_xdr.specs.Spelling.{number}
 use Rattle.nfs_serve.specs.declared.form.Form.TheVariants.{Tagged}
 use Rattle.nfs_serve.specs.Script.{Entry, IsWhole}
-use Rattle.nfs_serve.specs.Step.{starting}
+use Rattle.nfs_serve.specs.Step.{new_state}
 use Rattle.nfs_serve.specs.Run.{Streams, all_closed, Reads, Move, events, output}
 
 abbrev pub words : List ℕ → List ℕ
@@ -18,7 +18,7 @@ pub record RunsTo (script written : List ℕ) : Type 0 where
   pub whole : IsWhole script entries
   pub reads : Reads all_closed entries (events moves) streams
   pub granted : All (λ m. m.choice ≡ None) moves
-  pub output : written ≡ output Tagged (starting 7) moves
+  pub output : written ≡ output Tagged (new_state 7) moves
 
 -- xid 1, CALL, RPC version 2, program, version, procedure NULL, and twice AUTH_NONE with no bytes
 abbrev pub null_call : List ℕ

@@ -1,17 +1,9 @@
 -- Statements on the definitions alone.
-use Rattle.std.specs.Prelude.{◌≡◌, ℕ, List, [], ◌∷◌, ◌++◌, flat_map, Option, Some, None}
-use Rattle.nfs_rpc.specs.Stream.{End, Open, IsReading}
+use Rattle.std.specs.Prelude.{◌≡◌, ◌≢◌, ◌⊎◌, ℕ, nat_eq, List, [], ◌∷◌, ◌++◌, All, flat_map, Option, if◌then◌else◌}
+use Rattle.nfs_rpc.specs.Stream.{End, IsReading}
 use Rattle.nfs_serve.specs.declared.fault.Stop.{Stop}
-use Rattle.nfs_serve.specs.declared.fault.Stop.TheVariants.{ReadFailed, WriteFailed}
-use Rattle.nfs_serve.specs.Script.{Entry, IsStopped, IsWhole}
-use Rattle.nfs_serve.specs.Run.{Brings, Event, Arrives, Overflows}
-
--- a script that is whole, or one of the faults 1 to 5, with its whole entries and what stands behind them
-abbrev pub IsRead : Option Stop → List ℕ → List Entry → List ℕ → Type 0
-IsRead None script entries rest = IsWhole script entries × (rest ≡ [])
-IsRead (Some ReadFailed) script entries rest = ⊥
-IsRead (Some WriteFailed) script entries rest = ⊥
-IsRead (Some stop) script entries rest = IsStopped script stop entries rest
+use Rattle.nfs_serve.specs.Script.{Entry, IsRead}
+use Rattle.nfs_serve.specs.Run.{Streams, all_closed, Brings, Reads, Event, Arrives, Overflows, overflow}
 
 -- Which fault a script has, if any, and its whole entries before it are decided by its bytes.
 abbrev pub HasOneReading : Type 0
@@ -30,18 +22,44 @@ abbrev pub BringsOnce : Type 0
 BringsOnce = (conn moment : ℕ) (before : End) (piece : List ℕ) (first other : List Event) (end last : End)
     → Brings conn moment before piece first end → Brings conn moment before piece other last → (first ≡ other) × (end ≡ last)
 
--- pieces that come on a connection one after the other, each with its moment, and what they bring
-abbrev pub BringInTurn : ℕ → End → List (ℕ × List ℕ) → List Event → End → Type 0
-BringInTurn conn before [] brought end = (brought ≡ []) × (end ≡ before)
-BringInTurn conn before (piece ∷ pieces) brought end = (first : List Event) × (later : List Event) × (between : End)
-    × (brought ≡ first ++ later) × Brings conn piece.0 before piece.1 first between × BringInTurn conn between pieces later end
+-- the bytes that come on a connection by these entries, one piece behind the other
+abbrev pub stream_on : ℕ → List Entry → List ℕ
+stream_on conn entries = flat_map (λ e. if nat_eq e.conn conn then e.piece else []) entries
 
-abbrev pub calls_of : List Event → List (List ℕ)
-calls_of [] = []
-calls_of (Arrives conn moment call ∷ brought) = call ∷ calls_of brought
-calls_of (Overflows conn ∷ brought) = calls_of brought
+abbrev pub call_on : ℕ → Event → List (List ℕ)
+call_on conn (Arrives c moment call) = if nat_eq c conn then call ∷ [] else []
+call_on conn (Overflows c) = []
 
--- The pieces since a close form one stream, and its records are those that the pieces bring.
-abbrev pub IsOneStream : Type 0
-IsOneStream = (conn : ℕ) (pieces : List (ℕ × List ℕ)) (brought : List Event) (end : End)
-    → BringInTurn conn (Open []) pieces brought end → IsReading (flat_map (λ p. p.1) pieces) (calls_of brought) end
+abbrev pub overflow_on : ℕ → Event → List Event
+overflow_on conn (Arrives c moment call) = []
+overflow_on conn (Overflows c) = if nat_eq c conn then Overflows c ∷ [] else []
+
+-- nothing has come on the connection since it was last closed, or ever
+abbrev pub IsClosedBehind : ℕ → List Entry → Type 0
+IsClosedBehind conn entries = All (λ e. e.conn ≢ conn) entries
+    ⊎ ((before : List Entry) × (close : Entry) × (others : List Entry) × (entries ≡ before ++ close ∷ others)
+    × (close.conn ≡ conn) × (close.piece ≡ []) × All (λ e. e.conn ≢ conn) others)
+
+abbrev pub NoneCloses : ℕ → List Entry → Type 0
+NoneCloses conn entries = All (λ e. e.conn ≡ conn → e.piece ≢ []) entries
+
+-- What a script brings by a stretch of its entries: the records that arrive on the connection are those of the stream of
+-- its pieces there, and where that stream becomes too long this is told once.
+pub record BringsStream (conn : ℕ) (front stretch back : List Entry) (brought : List Event) (end : Streams) : Type 0 where
+  pub before : List Event
+  pub here : List Event
+  pub later : List Event
+  pub from : Streams
+  pub to : Streams
+  pub order : brought ≡ before ++ (here ++ later)
+  pub reads_front : Reads all_closed front before from
+  pub reads_stretch : Reads from stretch here to
+  pub reads_back : Reads to back later end
+  pub stream : IsReading (stream_on conn stretch) (flat_map (call_on conn) here) (to conn)
+  pub told : flat_map (overflow_on conn) here ≡ overflow conn (to conn)
+
+-- Entries of many connections in any order: on each connection the pieces since its last close form one stream.
+abbrev pub ConnectionsAreStreams : Type 0
+ConnectionsAreStreams = (conn : ℕ) (front stretch back : List Entry) (brought : List Event) (end : Streams)
+    → Reads all_closed (front ++ (stretch ++ back)) brought end → IsClosedBehind conn front → NoneCloses conn stretch
+    → BringsStream conn front stretch back brought end

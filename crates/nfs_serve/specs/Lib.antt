@@ -2,8 +2,9 @@ pub mod Script
 pub mod Step
 pub mod Run
 pub mod Ends
-pub mod Served
+pub mod Server
 pub mod Replay
+pub mod Talk
 pub mod Laws
 pub mod Exchanges
 pub mod Engine

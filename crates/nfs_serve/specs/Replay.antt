@@ -1,5 +1,5 @@
 -- What a run of a script did: which entries were read, what was written, and what was left.
-use Rattle.std.specs.Prelude.{◌≡◌, ℕ, suc, ◌<◌, List, [], ◌∷◌, ◌++◌, length, Bool, true, false, Option, Result, Ok, Err}
+use Rattle.std.specs.Prelude.{◌≡◌, ℕ, suc, ◌<◌, List, [], ◌∷◌, ◌++◌, length, Bool, true, false, Option, Some, None, Result, Ok, Err}
 use Rattle.std.specs.Io.KnownBytes.{Consumes, Appends, IsAtEnd}
 use Rattle.nfs_rpc.specs.RecordMarking.{Held}
 use Rattle.nfs_rpc.specs.Stream.{End, Open}
@@ -7,11 +7,11 @@ use Rattle.nfs_serve.specs.declared.fault.Stop.{Stop}
 use Rattle.nfs_serve.specs.declared.fault.Stop.TheVariants.{WriteFailed}
 use Rattle.nfs_serve.specs.declared.fault.ReplayFault.{ReplayFault}
 use Rattle.nfs_serve.specs.declared.form.Form.TheVariants.{Tagged}
-use Rattle.nfs_serve.specs.Script.{Entry, IsStopped, IsWhole}
+use Rattle.nfs_serve.specs.Script.{Entry, IsStopped, IsWhole, IsRead}
 use Rattle.nfs_serve.specs.Ends.{IsTold, EndsAt}
 use Rattle.nfs_serve.specs.Step.{State}
 use Rattle.nfs_serve.specs.Run.{Streams, with_stream, all_closed, Brings, Reads, Event, Move, events, after, after_event, output, output_of}
-use Rattle.nfs_serve.specs.Served.{held_on, Stands}
+use Rattle.nfs_serve.specs.Server.{held_on, Stands}
 
 -- what is held of each connection stands for its stream
 abbrev pub AllStand : Streams → List Held → Type 0
@@ -27,13 +27,14 @@ pub record Runs (old new : State) (held : List Held) (entries : List Entry) (wri
   pub wrote : written ≡ output Tagged old moves
   pub stands : AllStand streams held
 
--- The writer failed in what the last move of the last entry put out: a front of it was written and not the whole. The
--- state is the one behind that move, the rest of the entry's piece was dropped and its connection closed.
+-- The entries ran, and of the last one its own events up to the one in whose output the writer failed: a front of that
+-- output was written and not the whole. The state is the one behind that event, the rest of the last entry's piece was
+-- dropped and its connection closed.
 pub record RunsInto (old new : State) (held : List Held) (entries : List Entry) (last : Entry) (written : List ℕ) : Type 0 where
   pub moves : List Move
   pub breaking : Move
   pub before : List Event
-  pub later : List Event
+  pub own : List Event
   pub streams : Streams
   pub end : End
   pub taken : List ℕ
@@ -42,8 +43,8 @@ pub record RunsInto (old new : State) (held : List Held) (entries : List Entry) 
   pub unwritten : List ℕ
   pub reads : Reads all_closed entries before streams
   pub split : last.piece ≡ taken ++ dropped
-  pub brings : Brings last.conn last.moment (streams last.conn) taken later end
-  pub order : events (moves ++ breaking ∷ []) ≡ before ++ later
+  pub brings : Brings last.conn last.moment (streams last.conn) taken (own ++ breaking.event ∷ []) end
+  pub order : events moves ≡ before ++ own
   pub state : new ≡ after_event (after old moves) breaking.event breaking.choice
   pub wrote : written ≡ output Tagged old moves ++ front
   pub cut : front ++ unwritten ≡ output_of Tagged (after old moves) breaking.event breaking.choice
@@ -69,3 +70,31 @@ Replays result old new held l0 l1 h0 h1 = (read : List ℕ) × (written : List �
 abbrev pub Tells : {U : Type 0} → Result U ReplayFault → Bool → Bool → Bool → Option (List ℕ) → Type 0
 Tells (Ok u) ended read_failed write_failed left = (ended ≡ true) × (read_failed ≡ false) × (write_failed ≡ false) × IsAtEnd left
 Tells (Err fault) ended read_failed write_failed left = IsTold fault.number ended read_failed write_failed × EndsAt fault.number left
+
+-- the fault that an answer tells, if any
+abbrev pub told_stop : {U : Type 0} → Result U ReplayFault → Option Stop
+told_stop (Ok u) = None
+told_stop (Err fault) = Some fault.number
+
+-- and the entry that it tells: the one behind the whole ones
+abbrev pub TellsEntry : {U : Type 0} → Result U ReplayFault → ℕ → Type 0
+TellsEntry (Ok u) whole = Unit {0}
+TellsEntry (Err fault) whole = fault.entry ≡ suc whole
+
+-- The whole script ran: the answer is the script's own fault, if it has one, and what was written is the output of its
+-- whole entries.
+pub record RunsScript {U : Type 0} (answer : Result U ReplayFault) (old new : State) (held : List Held) (script written : List ℕ) : Type 0 where
+  pub entries : List Entry
+  pub rest : List ℕ
+  pub read : IsRead (told_stop answer) script entries rest
+  pub entry : TellsEntry answer (length entries)
+  pub runs : Runs old new held entries written
+
+-- A front of the script ran up to a reply that could not be written whole.
+pub record RunsFront (old new : State) (held : List Held) (script : List ℕ) : Type 0 where
+  pub entry : ℕ
+  pub read : List ℕ
+  pub left : List ℕ
+  pub written : List ℕ
+  pub split : script ≡ read ++ left
+  pub ran : ReplaysFault WriteFailed entry old new held read written

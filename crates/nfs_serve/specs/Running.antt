@@ -1,13 +1,13 @@
--- What running one entry did, and what stands behind the last entry.
+-- What running one entry did, and what stands behind the last entry; private contracts alone speak of it.
 use Rattle.std.specs.Prelude.{◌≡◌, ℕ, suc, List, [], Bool, true, false, Option, Result, Ok, Err}
 use Rattle.std.specs.Io.KnownBytes.{Appends}
-use Rattle.nfs_rpc.specs.RecordMarking.{Held, Begun, start}
+use Rattle.nfs_rpc.specs.RecordMarking.{Held}
 use Rattle.nfs_serve.specs.declared.fault.ReplayFault.{ReplayFault}
 use Rattle.nfs_serve.specs.declared.form.Form.TheVariants.{Tagged}
-use Rattle.nfs_serve.specs.Script.{Entry, max_entries, StopsAt, StopsBehind}
+use Rattle.nfs_serve.specs.Script.{Entry, max_entries, StopsAt}
 use Rattle.nfs_serve.specs.Step.{State}
 use Rattle.nfs_serve.specs.Run.{Streams, Takes, Move, events, after, output}
-use Rattle.nfs_serve.specs.Served.{held_on, IsWith, Breaks}
+use Rattle.nfs_serve.specs.Server.{fresh, held_on, IsWith, Breaks}
 use Rattle.nfs_serve.specs.Replay.{AllStand}
 
 -- One entry ran: its moves, and each reply was written. `was` and `is` are held of the streams.
@@ -20,9 +20,9 @@ pub record RunsEntry (old new : State) (was is : List Held) (e : Entry) (h0 h1 :
 -- or the writer failed in what its last move put out, and its connection was closed
 abbrev pub RunsEntryOr : {U E : Type 0} → Result U E → State → State → List Held → List Held → Entry → Option (List ℕ) → Option (List ℕ) → Bool → Type 0
 RunsEntryOr (Ok u) old new was is e h0 h1 failed = RunsEntry old new was is e h0 h1 × (failed ≡ false)
-RunsEntryOr (Err f) old new was is e h0 h1 failed = Breaks old new (held_on was e.conn) e.conn e.moment e.piece Tagged h0 h1 × IsWith is was e.conn (Begun start) × (failed ≡ true)
+RunsEntryOr (Err f) old new was is e h0 h1 failed = Breaks old new (held_on was e.conn) e.conn e.moment e.piece Tagged h0 h1 × IsWith is was e.conn fresh × (failed ≡ true)
 
 -- what stands behind the last entry that may be
 abbrev pub EndsBehind : {U : Type 0} → Result U ReplayFault → List ℕ → Type 0
 EndsBehind (Ok u) rest = rest ≡ []
-EndsBehind (Err fault) rest = StopsBehind fault.number max_entries × StopsAt fault.number rest × (fault.entry ≡ suc max_entries)
+EndsBehind (Err fault) rest = StopsAt fault.number max_entries rest × (fault.entry ≡ suc max_entries)

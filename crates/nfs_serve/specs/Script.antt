@@ -45,30 +45,30 @@ abbrev pub IsPartial : List ℕ → Type 0
 IsPartial bytes = (length bytes < 16) ⊎ ((moment : ℕ) × (conn : ℕ) × (len : ℕ) × (part : List ℕ)
     × (bytes ≡ head moment conn len ++ part) × (moment ≤ 2 ^ 62) × (conn ≤ 15) × (len ≤ 65536) × (length part < len))
 
--- what stands in the place of a whole entry
-abbrev pub StopsAt : Stop → List ℕ → Type 0
-StopsAt Cut rest = (0 < length rest) × IsPartial rest
-StopsAt Many rest = 0 < length rest
-StopsAt ReadFailed rest = IsPartial rest
-StopsAt WriteFailed rest = rest ≡ []
-StopsAt stop rest = BeginsRefused stop rest
-
--- behind how many whole entries a run can stop so
-abbrev pub StopsBehind : Stop → ℕ → Type 0
-StopsBehind Many whole = whole ≡ max_entries
-StopsBehind ReadFailed whole = whole ≤ max_entries
-StopsBehind WriteFailed whole = whole ≤ max_entries
-StopsBehind stop whole = whole < max_entries
+-- Why a run stops behind so many whole entries, by what stands there. A byte behind the last entry that may be is one
+-- entry too many, whatever comes behind it.
+abbrev pub StopsAt : Stop → ℕ → List ℕ → Type 0
+StopsAt Cut whole rest = (whole < max_entries) × (0 < length rest) × IsPartial rest
+StopsAt Many whole rest = (whole ≡ max_entries) × (0 < length rest)
+StopsAt ReadFailed whole rest = ((whole < max_entries) × IsPartial rest) ⊎ ((whole ≡ max_entries) × (rest ≡ []))
+StopsAt WriteFailed whole rest = (whole ≤ max_entries) × (rest ≡ [])
+StopsAt stop whole rest = (whole < max_entries) × BeginsRefused stop rest
 
 -- The script is these whole entries and this rest, which is why the run stops.
 pub record IsStopped (script : List ℕ) (stop : Stop) (entries : List Entry) (rest : List ℕ) : Type 0 where
   pub spelled : script ≡ flat_map spell_entry entries ++ rest
   pub fits : All Fits entries
-  pub behind : StopsBehind stop (length entries)
-  pub stands : StopsAt stop rest
+  pub stands : StopsAt stop (length entries) rest
 
 -- The script is these whole entries and nothing else.
 pub record IsWhole (script : List ℕ) (entries : List Entry) : Type 0 where
   pub spelled : script ≡ flat_map spell_entry entries
   pub fits : All Fits entries
   pub few : length entries ≤ max_entries
+
+-- The whole script, with its own fault, if it has one: one of 1 to 5. These are its entries before it, and this is the rest.
+abbrev pub IsRead : Option Stop → List ℕ → List Entry → List ℕ → Type 0
+IsRead None script entries rest = IsWhole script entries × (rest ≡ [])
+IsRead (Some ReadFailed) script entries rest = ⊥
+IsRead (Some WriteFailed) script entries rest = ⊥
+IsRead (Some stop) script entries rest = IsStopped script stop entries rest

@@ -7,7 +7,8 @@ use Rattle.nfs_rpc.specs.declared.refusal.AcceptStat.TheVariants.{GarbageArgs}
 use Rattle.nfs_rpc.specs.declared.procedure.Procedure.{Procedure}
 use Rattle.nfs_rpc.specs.CallHead.{Call, Called, Accepted, Refused, call_of}
 use Rattle.nfs_rpc.specs.Reply.{spell_head, spell_refusal}
-use Rattle.nfs_compound.specs.Request.{Request, request_at}
+use Rattle.nfs_compound.specs.Request.{Request}
+use Rattle.nfs_compound.specs.ReadRequest.{request_at}
 use Rattle.nfs_results.specs.CompoundResult.{spell_compound}
 use Rattle.nfs_exec.specs.Machine.{Machine, starts}
 use Rattle.nfs_exec.specs.Compound.{Answered, compound}
@@ -19,48 +20,40 @@ pub record State : Type 0 where
   pub moment : ℕ
 
 -- a new server
-abbrev pub starting : ℕ → State
-starting instance = record { machine = starts instance; moment = 0 }
-
--- the reply, where there is one, and the tables behind it
-pub record Replied : Type 0 where
-  pub reply : Option (List ℕ)
-  pub machine : Machine
-
-abbrev pub refused : Machine → Refusal → Replied
-refused m Silent = record { reply = None; machine = m }
-refused m (Mismatch xid) = record { reply = Some (spell_refusal (Mismatch xid)); machine = m }
-refused m (Auth xid stat) = record { reply = Some (spell_refusal (Auth xid stat)); machine = m }
-refused m (Accept xid stat) = record { reply = Some (spell_refusal (Accept xid stat)); machine = m }
-
--- the head of an accepted reply, and the result
-abbrev pub answered : ℕ → Answered → Replied
-answered xid a = record { reply = Some (spell_head xid ++ spell_compound a.result); machine = a.machine }
-
--- arguments that are no request are garbage, and nothing is run
-abbrev pub with_arguments : Machine → Call → ℕ → Option ℕ → Option Request → Replied
-with_arguments m call now choice None = refused m (Accept call.xid GarbageArgs)
-with_arguments m call now choice (Some request) = answered call.xid (compound m request call.who now choice)
-
-abbrev pub by_procedure : Machine → Call → ℕ → Option ℕ → Procedure → Replied
-by_procedure m call now choice Procedure.Null = record { reply = Some (spell_head call.xid); machine = m }
-by_procedure m call now choice Procedure.Compound = with_arguments m call now choice (request_at call.args)
-
-abbrev pub replied : Machine → ℕ → Option ℕ → Called → Replied
-replied m now choice (Refused refusal) = refused m refusal
-replied m now choice (Accepted call) = by_procedure m call now choice call.procedure
+abbrev pub new_state : ℕ → State
+new_state instance = record { machine = starts instance; moment = 0 }
 
 -- the reply, where there is one, and the state that the record leaves
 pub record Stepped : Type 0 where
   pub reply : Option (List ℕ)
   pub state : State
 
-abbrev pub stepped : ℕ → Replied → Stepped
-stepped moment r = record { reply = r.reply; state = record { machine = r.machine; moment = moment } }
+abbrev pub refused : State → Refusal → Stepped
+refused s Silent = record { reply = None; state = s }
+refused s (Mismatch xid) = record { reply = Some (spell_refusal (Mismatch xid)); state = s }
+refused s (Auth xid stat) = record { reply = Some (spell_refusal (Auth xid stat)); state = s }
+refused s (Accept xid stat) = record { reply = Some (spell_refusal (Accept xid stat)); state = s }
+
+-- the head of an accepted reply, and the result
+abbrev pub answered : State → ℕ → Answered → Stepped
+answered s xid a = record { reply = Some (spell_head xid ++ spell_compound a.result); state = record { machine = a.machine; moment = s.moment } }
+
+-- arguments that are no request are garbage, and nothing is run
+abbrev pub with_arguments : State → Call → Option ℕ → Option Request → Stepped
+with_arguments s call choice None = refused s (Accept call.xid GarbageArgs)
+with_arguments s call choice (Some request) = answered s call.xid (compound s.machine request call.who s.moment choice)
+
+abbrev pub by_procedure : State → Call → Option ℕ → Procedure → Stepped
+by_procedure s call choice Procedure.Null = record { reply = Some (spell_head call.xid); state = s }
+by_procedure s call choice Procedure.Compound = with_arguments s call choice (request_at call.args)
+
+abbrev pub reply_to : State → Option ℕ → Called → Stepped
+reply_to s choice (Refused refusal) = refused s refusal
+reply_to s choice (Accepted call) = by_procedure s call choice call.procedure
 
 -- A record at a moment. The later of its moment and the one taken last is taken. `choice` is the place in its compound
 -- at which memory is refused, if any.
 unfoldable pub step : State → List ℕ → ℕ → Option ℕ → Stepped
 step s call now choice =
     let moment = max s.moment now in
-    stepped moment (replied (expired moment s.machine) moment choice (call_of call))
+    reply_to (record { machine = expired moment s.machine; moment = moment }) choice (call_of call)

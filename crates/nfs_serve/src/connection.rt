@@ -1,94 +1,78 @@
 ghost use Rattle.std.specs.Prelude.{◌≡◌, ◌++◌, [], IfOk, OnOk, OnErr, false};
 ghost use Rattle.nfs_xdr.specs.Codec.{IsBytes};
 ghost use Rattle.nfs_xdr.specs.Spelling.{number};
-ghost use Rattle.nfs_rpc.specs.RecordMarking.{Begun, start};
-ghost use Rattle.nfs_rpc.specs.Feeding.{waits};
+ghost use Rattle.nfs_rpc.specs.Feeding.{waits, is_too_long};
 ghost use Rattle.nfs_serve.specs.Ends.{Writes};
 ghost use Rattle.nfs_serve.specs.Run.{spell_overflow};
-ghost use Rattle.nfs_serve.specs.Served.{FeedsOr, is_too_long};
+ghost use Rattle.nfs_serve.specs.Server.{fresh, FeedsOr};
 
 use crate::Sink;
 use crate::engine::Engine;
+use crate::entry::Entry;
 use crate::form::{Flow, Form};
 use crate::moving::{WriteFailed, put};
 use nfs_rpc::{Fed, Records};
 use std::alloc::{AllocError, Global};
 use std::marker::Model;
 
-/// A piece of a connection's stream, the moment at which it came, and how its replies are written.
-#[derive(Clone, Copy)]
-pub struct Piece<'a> {
-    pub conn: u32,
-    pub moment: u64,
-    pub bytes: &'a [u8],
-    pub form: Form,
-}
-
 /// What is held of a connection's stream. Between two calls no whole record waits.
 #[derive(Drop)]
 pub struct Connection {
     records: Records,
-    shut: bool,
 }
 
 impl Model for Connection {
     ghost use Rattle.std.specs.Prelude.{◌≡◌, false};
     ghost use Rattle.nfs_rpc.specs.RecordMarking.{Held};
     ghost use Rattle.nfs_rpc.specs.Feeding.{waits};
-    ghost use Rattle.nfs_serve.specs.Served.{is_too_long};
 
     ghost Value = { Held };
 
     ghost view = { λ c. c.records };
 
-    ghost invariant = { λ c. (waits c.records ≡ false) × (c.shut ≡ is_too_long c.records) };
+    ghost invariant = { λ c. waits c.records ≡ false };
 }
 
 impl Connection {
     /// A connection on which nothing has come. Its buffer is made here.
     pub fn new(alloc: Global) -> Result<Connection, AllocError>
-        ensures { IfOk result (λ c. c ≡ Begun start) }
+        ensures { IfOk result (λ c. c ≡ fresh) }
     {
         Ok(Connection {
             records: Records::new(alloc)?,
-            shut: false,
         })
     }
 
     /// Begins a new stream.
     pub fn close(&mut self)
-        ensures { self.new ≡ Begun start }
+        ensures { self.new ≡ fresh }
     {
         self.records.reset();
-        self.shut = false;
     }
 
-    /// Takes a piece: each record that it ends is stepped and its reply written.
+    /// Takes the piece of an entry: each record that it ends is stepped and its reply written.
     pub fn feed<W: Sink>(
         &mut self,
         alloc: Global,
         engine: &mut Engine,
-        piece: &Piece<'_>,
+        entry: &Entry<'_>,
+        form: Form,
         out: &mut W,
     ) -> Result<Flow, WriteFailed>
-        requires bytes { IsBytes piece.now.bytes.now }
+        requires bytes { IsBytes entry.now.piece.now }
         requires out { W.has_failed out.old ≡ false }
-        ensures fed { FeedsOr result engine.old.state engine.new.state self.old self.new piece.now.conn piece.now.moment piece.now.bytes.now piece.now.form (W.held out.old) (W.held out.new) (W.has_failed out.new) }
-        ensures closed { OnErr result (self.new ≡ Begun start) }
-        ensures empty { piece.now.bytes.now ≡ [] → (engine.new ≡ engine.old) × (self.new ≡ self.old) }
+        ensures fed { FeedsOr result engine.old.state engine.new.state self.old self.new entry.now.conn entry.now.moment entry.now.piece.now form (W.held out.old) (W.held out.new) (W.has_failed out.new) }
+        ensures closed { OnErr result (self.new ≡ fresh) }
+        ensures empty { entry.now.piece.now ≡ [] → (engine.new ≡ engine.old) × (self.new ≡ self.old) }
     {
-        if self.shut {
+        if self.records.is_too_long() {
             return Ok(Flow::Shut);
         }
-        if piece.bytes.is_empty() {
+        if entry.piece.is_empty() {
             return Ok(Flow::Open);
         }
-        match take_piece(&mut self.records, alloc, engine, piece, out) {
-            Ok(Flow::Open) => Ok(Flow::Open),
-            Ok(Flow::Shut) => {
-                self.shut = true;
-                Ok(Flow::Shut)
-            }
+        match take_piece(&mut self.records, alloc, engine, entry, form, out) {
+            Ok(flow) => Ok(flow),
             Err(WriteFailed) => {
                 self.records.reset();
                 Err(WriteFailed)
@@ -102,34 +86,28 @@ fn take_piece<W: Sink>(
     records: &mut Records,
     alloc: Global,
     engine: &mut Engine,
-    piece: &Piece<'_>,
+    entry: &Entry<'_>,
+    form: Form,
     out: &mut W,
 ) -> Result<Flow, WriteFailed>
     requires waits { waits records.old ≡ false }
     requires open { is_too_long records.old ≡ false }
-    requires bytes { IsBytes piece.now.bytes.now }
+    requires bytes { IsBytes entry.now.piece.now }
     requires out { W.has_failed out.old ≡ false }
-    ensures taken { FeedsOr result engine.old.state engine.new.state records.old records.new piece.now.conn piece.now.moment piece.now.bytes.now piece.now.form (W.held out.old) (W.held out.new) (W.has_failed out.new) }
+    ensures taken { FeedsOr result engine.old.state engine.new.state records.old records.new entry.now.conn entry.now.moment entry.now.piece.now form (W.held out.old) (W.held out.new) (W.has_failed out.new) }
     ensures waits { OnOk result (waits records.new ≡ false) }
 {
-    let mut rest = piece.bytes;
+    let mut rest = entry.piece;
     while !rest.is_empty() {
         match records.feed(rest) {
             Fed::More => return Ok(Flow::Open),
             Fed::TooLong => {
-                put_overflow(piece.conn, piece.form, out)?;
+                put_overflow(entry.conn, form, out)?;
                 return Ok(Flow::Shut);
             }
             Fed::Whole(used) => {
                 rest = &rest[used..];
-                engine.answer(
-                    alloc,
-                    records.record(),
-                    piece.conn,
-                    piece.moment,
-                    piece.form,
-                    out,
-                )?;
+                engine.answer(alloc, records.record(), entry.conn, entry.moment, form, out)?;
                 records.take();
             }
         }

@@ -1,9 +1,9 @@
 ghost use Rattle.std.specs.Prelude.{◌≡◌, ◌≤◌, ◌+◌, ◌++◌, ℕ, [], length, drop, Option, IfOk, false};
 ghost use Rattle.nfs_xdr.specs.Spelling.{number};
 ghost use Rattle.nfs_rpc.specs.View as view;
-ghost use Rattle.nfs_serve.specs.Step.{step, starting, by_procedure};
+ghost use Rattle.nfs_serve.specs.Step.{State, step, new_state, by_procedure};
 ghost use Rattle.nfs_serve.specs.Run.{one_fragment, spell_reply, spell_answer};
-ghost use Rattle.nfs_serve.specs.Served.{IsAnswer};
+ghost use Rattle.nfs_serve.specs.Server.{IsAnswer};
 ghost use Rattle.nfs_serve.specs.Engine.{PutsReply, outcome_of, in_form};
 ghost use Rattle.nfs_serve.specs.Ends.{Writes};
 
@@ -36,9 +36,9 @@ pub struct Engine {
 
 impl Model for Engine {
     ghost use Rattle.std.specs.Prelude.{◌≡◌, ◌≤◌, length, drop};
-    ghost use Rattle.nfs_serve.specs.Engine.{Answering};
+    ghost use Rattle.nfs_serve.specs.Engine.{EngineModel};
 
-    ghost Value = { Answering };
+    ghost Value = { EngineModel };
 
     ghost view = { λ e. record { state = record { machine = e.world; moment = e.moment }; reply = drop 8 e.sheet.bytes } };
 
@@ -49,7 +49,7 @@ impl Engine {
     /// The engine of a new server. The buffer of replies is made here.
     #[tactic(auto, using(nfs_xdr::proofs::Putting::putting))]
     pub fn new(alloc: Global, instance: u32) -> Result<Engine, AllocError>
-        ensures { IfOk result (λ e. e ≡ record { state = starting instance; reply = [] }) }
+        ensures { IfOk result (λ e. e ≡ record { state = new_state instance; reply = [] }) }
     {
         let mut sheet = Sheet::new(alloc, ROOM)?;
         sheet.put_u64(0);
@@ -86,6 +86,14 @@ impl Engine {
         &self.sheet.bytes()[FRONT..]
     }
 
+    /// Lends no reply from here on.
+    pub fn forget_reply(&mut self)
+        ensures state { self.new.state ≡ self.old.state }
+        ensures reply { self.new.reply ≡ [] }
+    {
+        self.sheet.cut(FRONT);
+    }
+
     /// Steps a record that came on a connection, and writes the reply where there is one.
     pub fn answer<W: Sink>(
         &mut self,
@@ -120,7 +128,8 @@ impl Engine {
 #[tactic(auto, using(nfs_rpc::proofs::Lengths::lengths))]
 fn put_answer(alloc: Global, world: &mut World, call: &Call<'_>, now: u64, out: &mut Sheet)
     requires room { length out.old.bytes + 70000 ≤ out.old.room }
-    ensures { (choice : Option ℕ) × PutsReply (by_procedure world.old (view.call call.now) now choice call.now.procedure) out.old out.new world.new }
+    ensures { let before : State = record { machine = world.old; moment = now } in
+        (choice : Option ℕ) × PutsReply (by_procedure before (view.call call.now) choice call.now.procedure) out.old out.new (record { machine = world.new; moment = now }) }
 {
     match call.procedure {
         Procedure::Null => write_head(call.xid, out),

@@ -1,19 +1,23 @@
 //! Laws of the definitions alone: each is the contract of a function that takes and answers nothing.
 
 ghost use Rattle.nfs_serve.specs.Exchanges.{RunsTo, null_script, null_output, exchange_script, exchange_output};
-ghost use Rattle.nfs_serve.specs.Laws.{HasOneReading, CutsAnywhere, BringsOnce, IsOneStream};
+ghost use Rattle.nfs_serve.specs.Laws.{HasOneReading, CutsAnywhere, BringsOnce, ConnectionsAreStreams};
 
 /// Which fault a script has, if any, and its whole entries before it are decided by its bytes.
 pub fn one_reading()
     ensures { HasOneReading }
 {}
 
-/// What a connection's pieces bring does not depend on where they are cut: the pieces since a close form one stream, whose
-/// records they bring.
+/// What a piece brings on a connection does not depend on where it is cut.
 pub fn cuts_anywhere()
     ensures cuts { CutsAnywhere }
     ensures once { BringsOnce }
-    ensures stream { IsOneStream }
+{}
+
+/// Entries of many connections in any order, and closes: on each connection the pieces since its last close form one stream, and the
+/// records that arrive on it are those of that stream.
+pub fn connections_are_streams()
+    ensures { ConnectionsAreStreams }
 {}
 
 /// The definitions compute: a call of NULL is answered by the head of a reply.

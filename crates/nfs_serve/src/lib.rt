@@ -15,8 +15,10 @@
 //! its faults, and the moments of records are this server's profile.
 #![tactic(auto)]
 
+mod clock;
 mod connection;
 mod engine;
+mod entry;
 mod fault;
 mod form;
 mod host;
@@ -28,9 +30,12 @@ mod script;
 mod server;
 mod sink;
 mod source;
+mod talk;
+mod talking;
 #[cfg(test)]
 mod tests;
 
+pub use clock::Clock;
 pub use fault::{ReplayFault, Stop};
 pub use form::{Flow, Form, Outcome};
 pub use host::Host;
@@ -39,3 +44,4 @@ pub use moving::{WriteFailed, fill, put};
 pub use server::{Server, Settings};
 pub use sink::Sink;
 pub use source::Source;
+pub use talk::Talk;

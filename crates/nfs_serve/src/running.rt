@@ -1,19 +1,20 @@
 //! The run of a script.
-ghost use Rattle.std.specs.Prelude.{◌≡◌, ◌≤◌, ℕ, List, false, length, take};
+ghost use Rattle.std.specs.Prelude.{◌≡◌, ◌≤◌, ℕ, List, false, length};
 ghost use Rattle.std.specs.Io.KnownBytes.{Consumes};
-ghost use Rattle.nfs_rpc.specs.RecordMarking.{Begun, start};
-ghost use Rattle.nfs_serve.specs.Script.{Entry};
+ghost use Rattle.nfs_xdr.specs.Codec.{IsBytes};
 ghost use Rattle.nfs_serve.specs.Run.{all_closed};
-ghost use Rattle.nfs_serve.specs.Served.{held_on};
+ghost use Rattle.nfs_serve.specs.Reading as reading;
+ghost use Rattle.nfs_serve.specs.Server.{fresh, held_on};
 ghost use Rattle.nfs_serve.specs.Replay.{AllStand, Replays, Tells};
 ghost use Rattle.nfs_serve.specs.Running.{RunsEntryOr, EndsBehind};
 
-use crate::connection::{Connection, Piece};
+use crate::connection::Connection;
 use crate::engine::Engine;
+use crate::entry::Entry;
 use crate::fault::{ReplayFault, Stop};
 use crate::form::Form;
 use crate::moving::{WriteFailed, fill};
-use crate::script::{Head, next_entry};
+use crate::script::next_entry;
 use crate::{Sink, Source};
 use std::alloc::Global;
 
@@ -40,17 +41,15 @@ pub fn run<R: Source, W: Sink>(
 {
     for done in 0..MAX_ENTRIES {
         match next_entry(r, buf) {
-            Ok(Some(head)) => {
-                match run_entry(alloc, engine, connections, &head, &buf[..head.len], w) {
-                    Ok(()) => {}
-                    Err(WriteFailed) => {
-                        return Err(ReplayFault {
-                            number: Stop::WriteFailed,
-                            entry: done + 1,
-                        });
-                    }
+            Ok(Some(entry)) => match run_entry(alloc, engine, connections, &entry, w) {
+                Ok(()) => {}
+                Err(WriteFailed) => {
+                    return Err(ReplayFault {
+                        number: Stop::WriteFailed,
+                        entry: done + 1,
+                    });
                 }
-            }
+            },
             Ok(None) => return Ok(()),
             Err(stop) => {
                 return Err(ReplayFault {
@@ -66,7 +65,7 @@ pub fn run<R: Source, W: Sink>(
 /// Closes all connections.
 pub fn close_all(connections: &mut [Connection])
     ensures length { length connections.new ≡ length connections.old }
-    ensures closed { (conn : ℕ) → held_on connections.new conn ≡ Begun start }
+    ensures closed { (conn : ℕ) → held_on connections.new conn ≡ fresh }
 {
     for conn in 0..connections.len() {
         connections[conn].close();
@@ -78,29 +77,22 @@ fn run_entry<W: Sink>(
     alloc: Global,
     engine: &mut Engine,
     connections: &mut [Connection],
-    head: &Head,
-    bytes: &[u8],
+    entry: &Entry<'_>,
     w: &mut W,
 ) -> Result<(), WriteFailed>
     requires connections { length connections.old ≡ 16 }
-    requires conn { head.now.conn ≤ 15 }
+    requires conn { entry.now.conn ≤ 15 }
+    requires bytes { IsBytes entry.now.piece.now }
     requires write { W.has_failed w.old ≡ false }
-    ensures ran { let e : Entry = record { moment = head.now.moment; conn = head.now.conn; piece = bytes.now } in
-        RunsEntryOr result engine.old.state engine.new.state connections.old connections.new e (W.held w.old) (W.held w.new) (W.has_failed w.new) }
+    ensures ran { RunsEntryOr result engine.old.state engine.new.state connections.old connections.new (reading.entry entry.now) (W.held w.old) (W.held w.new) (W.has_failed w.new) }
     ensures length { length connections.new ≡ 16 }
 {
-    let conn = head.conn as usize;
-    if bytes.is_empty() {
+    let conn = entry.conn as usize;
+    if entry.piece.is_empty() {
         connections[conn].close();
         return Ok(());
     }
-    let piece = Piece {
-        conn: head.conn,
-        moment: head.moment,
-        bytes,
-        form: Form::Tagged,
-    };
-    match connections[conn].feed(alloc, engine, &piece, w) {
+    match connections[conn].feed(alloc, engine, entry, Form::Tagged, w) {
         Ok(_) => Ok(()),
         Err(WriteFailed) => Err(WriteFailed),
     }

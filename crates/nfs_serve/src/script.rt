@@ -1,10 +1,12 @@
 //! Reading a script, entry by entry.
-ghost use Rattle.std.specs.Prelude.{◌≡◌, length, false, ◌<◌, ◌^◌};
+ghost use Rattle.std.specs.Prelude.{◌≡◌, length, false, ◌<◌, ◌^◌, IfOk, IfSome};
+ghost use Rattle.nfs_xdr.specs.Codec.{IsBytes};
 ghost use Rattle.nfs_xdr.specs.Spelling.{number, hyper};
 ghost use Rattle.nfs_serve.specs.Script.{IsHead, refusal};
 ghost use Rattle.nfs_serve.specs.Reading.{ReadsEntry, stop_of};
 
 use crate::Source;
+use crate::entry::Entry;
 use crate::fault::Stop;
 use crate::moving::fill;
 
@@ -17,20 +19,13 @@ pub const MAX_PIECE: u32 = 65_536;
 /// The last moment, in seconds.
 const LAST_MOMENT: u64 = 1 << 62;
 
-/// The head of an entry: its moment in seconds, its connection and the length of its piece.
-#[derive(Clone, Copy, Debug)]
-pub struct Head {
-    pub moment: u64,
-    pub conn: u32,
-    pub len: usize,
-}
-
-/// The entry that stands next, whose piece is put at the front of the buffer, or `None` where the script ends.
-pub fn next_entry<R: Source>(r: &mut R, buf: &mut [u8]) -> Result<Option<Head>, Stop>
+/// The entry that stands next, whose piece is put into the buffer, or `None` where the script ends.
+pub fn next_entry<'b, R: Source>(r: &mut R, buf: &'b mut [u8]) -> Result<Option<Entry<'b>>, Stop>
     requires room { length buf.old ≡ 65536 }
     requires failed { R.has_failed r.old ≡ false }
     requires ended { R.has_ended r.old ≡ false }
-    ensures { ReadsEntry result (R.left r.old) (R.left r.new) buf.new (R.has_failed r.new) (R.has_ended r.new) }
+    ensures bytes { IfOk result (λ found. IfSome found (λ e. IsBytes e.piece.now)) }
+    ensures read { ReadsEntry result (R.left r.old) (R.left r.new) (R.has_failed r.new) (R.has_ended r.new) }
 {
     let mut head = [0u8; 16];
     let came = fill(r, &mut head);
@@ -48,7 +43,12 @@ pub fn next_entry<R: Source>(r: &mut R, buf: &mut [u8]) -> Result<Option<Head>, 
     if fill(r, &mut buf[..len]) < len {
         return Err(short_of(r));
     }
-    Ok(Some(Head { moment, conn, len }))
+    let piece = &buf[..len];
+    Ok(Some(Entry {
+        moment,
+        conn,
+        piece,
+    }))
 }
 
 /// Why a reader that stopped short did: it has failed or it has ended.

@@ -1,16 +1,19 @@
-ghost use Rattle.std.specs.Prelude.{◌≡◌, ◌≤◌, ◌^◌, [], false, IfOk, OnErr, replicate};
-ghost use Rattle.nfs_rpc.specs.RecordMarking.{Begun, start};
-ghost use Rattle.nfs_serve.specs.Served.{held_on, IsWith, Steps, FeedsOr, Closes, started};
+ghost use Rattle.std.specs.Prelude.{◌≡◌, ◌≢◌, ◌≤◌, ◌^◌, [], false, IfOk, OnErr, replicate};
+ghost use Rattle.nfs_serve.specs.Server.{fresh, held_on, IsWith, Steps, FeedsOr, Closes, new_server};
 ghost use Rattle.nfs_serve.specs.Replay.{Replays, Tells};
+ghost use Rattle.nfs_serve.specs.Talk.{Talks, TalkTells};
 
-use crate::connection::{Connection, Piece};
+use crate::connection::Connection;
 use crate::engine::Engine;
+use crate::entry::Entry;
 use crate::fault::ReplayFault;
 use crate::form::{Flow, Form, Outcome};
 use crate::moving::WriteFailed;
 use crate::running::{close_all, run};
 use crate::script::MAX_PIECE;
-use crate::{Sink, Source};
+use crate::talk::Talk;
+use crate::talking::converse;
+use crate::{Clock, Sink, Source};
 use std::alloc::{AllocError, Global};
 use std::marker::Model;
 
@@ -29,7 +32,7 @@ pub struct Settings {
 /// An NFS version 4.1 server with 16 connections.
 ///
 /// Contracts see the state that the steps of its records speak of, what is held of each connection's stream, and the reply that
-/// was made last.
+/// is lent.
 #[derive(Drop)]
 pub struct Server {
     engine: Engine,
@@ -39,9 +42,9 @@ pub struct Server {
 
 impl Model for Server {
     ghost use Rattle.std.specs.Prelude.{vec_len, ◌≡◌};
-    ghost use Rattle.nfs_serve.specs.Served.{Served};
+    ghost use Rattle.nfs_serve.specs.Server.{ServerModel};
 
-    ghost Value = { Served };
+    ghost Value = { ServerModel };
 
     ghost view = { λ s. record { state = s.engine.state; held = s.connections.items; reply = s.engine.reply } };
 
@@ -55,7 +58,7 @@ impl Server {
     ///
     /// `AllocError` where memory is refused.
     pub fn new(alloc: Global, settings: Settings, instance: u32) -> Result<Server, AllocError>
-        ensures { IfOk result (λ s. s ≡ started instance) }
+        ensures { IfOk result (λ s. s ≡ new_server instance) }
     {
         let _ = settings;
         Ok(Server {
@@ -74,7 +77,8 @@ impl Server {
         self.engine.record(alloc, call, now)
     }
 
-    /// The reply that was made last, without a record mark.
+    /// The reply to the record that [`Server::record`] stepped last, without a record mark: no bytes where it was silent, and none
+    /// behind a piece of some bytes that was fed or a script that was run.
     pub fn reply(&self) -> &[u8]
         ensures { result.now ≡ self.now.reply }
     {
@@ -100,21 +104,21 @@ impl Server {
         requires now { now ≤ 2 ^ 62 }
         requires out { W.has_failed out.old ≡ false }
         ensures fed { FeedsOr result self.old.state self.new.state (held_on self.old.held conn) (held_on self.new.held conn) conn now piece.now form (W.held out.old) (W.held out.new) (W.has_failed out.new) }
-        ensures closed { OnErr result (held_on self.new.held conn ≡ Begun start) }
+        ensures closed { OnErr result (held_on self.new.held conn ≡ fresh) }
         ensures others { IsWith self.new.held self.old.held conn (held_on self.new.held conn) }
         ensures empty { piece.now ≡ [] → self.new ≡ self.old }
+        ensures reply { piece.now ≢ [] → self.new.reply ≡ [] }
     {
-        self.connections[conn as usize].feed(
-            alloc,
-            &mut self.engine,
-            &Piece {
-                conn,
-                moment: now,
-                bytes: piece,
-                form,
-            },
-            out,
-        )
+        let entry = Entry {
+            moment: now,
+            conn,
+            piece,
+        };
+        let fed = self.connections[conn as usize].feed(alloc, &mut self.engine, &entry, form, out);
+        if !piece.is_empty() {
+            self.engine.forget_reply();
+        }
+        fed
     }
 
     /// Closes the connection `conn` (at most 15): a new stream begins on it.
@@ -140,22 +144,60 @@ impl Server {
         requires write { W.has_failed w.old ≡ false }
         ensures run { Replays result self.old.state self.new.state self.new.held (R.left r.old) (R.left r.new) (W.held w.old) (W.held w.new) }
         ensures told { Tells result (R.has_ended r.new) (R.has_failed r.new) (W.has_failed w.new) (R.left r.new) }
+        ensures reply { self.new.reply ≡ [] }
     {
         close_all(&mut self.connections);
-        run(
+        let ran = run(
             alloc,
             &mut self.engine,
             &mut self.connections,
             &mut self.piece,
             r,
             w,
-        )
+        );
+        self.engine.forget_reply();
+        ran
+    }
+
+    /// Closes connection 0, runs what the reader gives as its pieces, of at most 65,536 bytes each and at the clock's answer for
+    /// it, writes the replies with their record marks alone, and closes connection 0. No other connection changes.
+    ///
+    /// `Ended` comes only where the reader has ended, `Shut` only where the stream is too long, `ReadFailed` and `WriteFailed`
+    /// only where that end has failed, `TooMany` in place of the 1,000,001st read. Every record that was whole has been run, but
+    /// for those of the piece behind a reply that could not be written.
+    pub fn talk<R: Source, W: Sink, C: Clock>(
+        &mut self,
+        alloc: Global,
+        r: &mut R,
+        w: &mut W,
+        clock: &mut C,
+    ) -> Talk
+        requires read { R.has_failed r.old ≡ false }
+        requires ended { R.has_ended r.old ≡ false }
+        requires write { W.has_failed w.old ≡ false }
+        ensures run { Talks result self.old.state self.new.state (R.left r.old) (R.left r.new) (W.held w.old) (W.held w.new) (C.told clock.old) (C.told clock.new) }
+        ensures told { TalkTells result (R.has_ended r.new) (R.has_failed r.new) (W.has_failed w.new) (R.left r.new) }
+        ensures held { IsWith self.new.held self.old.held 0 fresh }
+        ensures reply { self.new.reply ≡ [] }
+    {
+        let ended = converse(
+            alloc,
+            &mut self.engine,
+            &mut self.connections[0],
+            &mut self.piece,
+            r,
+            w,
+            clock,
+        );
+        self.connections[0].close();
+        self.engine.forget_reply();
+        ended
     }
 }
 
 /// Connections on which nothing has come.
 fn connections(alloc: Global) -> Result<Vec<Connection>, AllocError>
-    ensures { IfOk result (λ cs. cs.items ≡ replicate 16 (Begun start)) }
+    ensures { IfOk result (λ cs. cs.items ≡ replicate 16 fresh) }
 {
     let mut connections = Vec::with_capacity(alloc, CONNECTIONS)?;
     for _ in 0..CONNECTIONS {

@@ -1,5 +1,8 @@
 //! Readers and writers that move few bytes at a time, and fail at a call.
 
+ghost use Rattle.std.specs.Prelude.{None};
+
+use crate::Clock;
 use std::io;
 use std::io::{ErrorKind, Read, Write};
 
@@ -34,6 +37,35 @@ impl Read for Zeros {
     fn read(&mut self, buf: &mut [u8]) -> io::Result<usize> {
         buf.fill(0);
         Ok(buf.len())
+    }
+}
+
+/// Gives a zero byte at each call, without end.
+#[derive(Drop)]
+pub struct Trickle;
+
+impl Read for Trickle {
+    fn read(&mut self, buf: &mut [u8]) -> io::Result<usize> {
+        if buf.is_empty() {
+            return Ok(0);
+        }
+        buf[0] = 0;
+        Ok(1)
+    }
+}
+
+/// A clock that counts how often it was asked, and answers that in seconds.
+#[derive(Drop)]
+pub struct Counting {
+    pub asked: usize,
+}
+
+impl Clock for Counting {
+    ghost told = { λ _. None };
+
+    fn now(&mut self) -> u64 {
+        self.asked = self.asked.saturating_add(1);
+        (self.asked as u64).min(1 << 62)
     }
 }
 

@@ -29,7 +29,7 @@ fn replies_are_put_out_in_turn(rt: HostRuntime) -> Result<(), Fail> {
         ],
     )?;
     let mut server = Server::new(rt.alloc(), SETTINGS, 7)?;
-    let (written, done) = replay_bytes(&mut server, rt.alloc(), script.as_slice());
+    let (written, done) = replay_bytes(&mut server, rt.alloc(), script.as_slice())?;
     assert_eq!(rt; done, Ok(()));
     assert_eq!(rt; written, output);
     Ok(())
@@ -41,10 +41,10 @@ fn a_second_script_goes_on_from_the_state_of_the_first(rt: HostRuntime) -> Resul
     let script = bytes_of(rt.alloc(), &[&[0, 100, 0, 108, LAST + 104], &EXCHANGE_ID])?;
     let mut server = Server::new(rt.alloc(), SETTINGS, 7)?;
     for counter in 1..4 {
-        let (written, done) = replay_bytes(&mut server, rt.alloc(), begun.as_slice());
+        let (written, done) = replay_bytes(&mut server, rt.alloc(), begun.as_slice())?;
         assert_eq!(rt; done, Ok(()));
         assert!(rt; written.is_empty());
-        let (written, done) = replay_bytes(&mut server, rt.alloc(), script.as_slice());
+        let (written, done) = replay_bytes(&mut server, rt.alloc(), script.as_slice())?;
         assert_eq!(rt; done, Ok(()));
         let want = bytes_of(rt.alloc(), &[&[0, LAST + 100], &exchanged(counter)])?;
         assert_eq!(rt; written, want);
@@ -72,7 +72,7 @@ fn faults_are_told_with_their_entry(rt: HostRuntime) -> Result<(), Fail> {
     for (words, number, entry) in cases {
         let script = bytes_of(rt.alloc(), &[words])?;
         let mut server = Server::new(rt.alloc(), SETTINGS, 7)?;
-        let (written, done) = replay_bytes(&mut server, rt.alloc(), script.as_slice());
+        let (written, done) = replay_bytes(&mut server, rt.alloc(), script.as_slice())?;
         assert_eq!(rt; done, Err(ReplayFault { number, entry }), "{words:?}");
         assert!(rt; written.is_empty());
     }
@@ -102,7 +102,7 @@ fn connections_do_not_mix(rt: HostRuntime) -> Result<(), Fail> {
         ],
     )?;
     let mut server = Server::new(rt.alloc(), SETTINGS, 7)?;
-    let (written, done) = replay_bytes(&mut server, rt.alloc(), script.as_slice());
+    let (written, done) = replay_bytes(&mut server, rt.alloc(), script.as_slice())?;
     assert_eq!(rt; done, Ok(()));
     assert_eq!(rt; written, output);
     Ok(())
@@ -123,7 +123,7 @@ fn a_stream_that_is_too_long_is_told_once(rt: HostRuntime) -> Result<(), Fail> {
     )?;
     let output = bytes_of(rt.alloc(), &[&[3, 0, 3, LAST + 24], &NULL_REPLY])?;
     let mut server = Server::new(rt.alloc(), SETTINGS, 7)?;
-    let (written, done) = replay_bytes(&mut server, rt.alloc(), script.as_slice());
+    let (written, done) = replay_bytes(&mut server, rt.alloc(), script.as_slice())?;
     assert_eq!(rt; done, Ok(()));
     assert_eq!(rt; written, output);
     Ok(())

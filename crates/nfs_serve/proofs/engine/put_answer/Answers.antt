@@ -6,4 +6,4 @@ use Rattle.nfs_serve.proofs.engine.put_answer.Goals as goal
 pub compound-requires : goal.compound-requires
 compound-requires c =
     let size = length-append c.args.out.now.bytes (spell_head c.args.call.now.xid) in
-    record { room = rw (c.write_head-in-Ok.ensures.bytes, c.write_head-in-Ok.ensures.room) (omega (arith, size, length_head c.args.call.now.xid, c.requires)) }
+    record { opened = record { bytes = c.args.call.now.args.now; request = c.in-Ok.ensures.request }; room = rw (c.write_head-in-Ok.ensures.bytes, c.write_head-in-Ok.ensures.room) (omega (arith, size, length_head c.args.call.now.xid, c.requires)) }

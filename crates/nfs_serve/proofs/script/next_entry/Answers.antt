@@ -5,8 +5,8 @@ use Rattle.nfs_serve.specs.Script.{head, refusal}
 use Rattle.nfs_serve.proofs.Entries.{length-head, partial_piece, stops_short, refused_stops}
 use Rattle.nfs_serve.proofs.script.next_entry.Goals as goal
 
-pub returns-then-fill-len : goal.returns-then-fill-len
-returns-then-fill-len g c =
+pub returns-then-fill-len-clause-read : goal.returns-then-fill-len-clause-read
+returns-then-fill-len-clause-read g c =
     let part = take c.fill.result c.fill.new.buf in
     let h = head c.head_of-moment.result.0 c.head_of-moment.result.1 c.head_of-moment.result.2 in
     let none : refusal c.head_of-moment.result.0 c.head_of-moment.result.1 c.head_of-moment.result.2 ≡ None = search rules in
@@ -19,11 +19,10 @@ returns-then-fill-len g c =
       rw c.short_of-then-fill-len.ensures told.0,
       rw c.short_of-then-fill-len.ensures told.1,
       rw c.short_of-then-fill-len.ensures told.2,
-      rw c.short_of-then-fill-len.ensures told.3,
     )
 
-pub returns-in-Some : goal.returns-in-Some
-returns-in-Some g c =
+pub returns-in-Some-clause-read : goal.returns-in-Some-clause-read
+returns-in-Some-clause-read g c =
     let came : c.fill-came.result ≡ length c.fill-came.new.buf = search rules in
-    let (stops, any, told, at) = refused_stops (g.R.Source.left c.fill-came.new.r) _ _ _ c.fill-came.new.buf c.in-Some.stop (g.R.Source.has_ended c.fill-came.new.r) (g.R.Source.has_failed c.fill-came.new.r) (c.fill-came.ensures.full came).0 c.head_of-moment.ensures (sym c.refusal_of.ensures ∙ c.in-Some.is) in
-    (c.fill-came.new.buf, subst (Consumes _ _) (take_all _ _ (search rules)) c.fill-came.ensures.bytes, stops, any, told, at)
+    let (stops, told, at) = refused_stops (g.R.Source.left c.fill-came.new.r) _ _ _ c.fill-came.new.buf c.in-Some.stop (g.R.Source.has_ended c.fill-came.new.r) (g.R.Source.has_failed c.fill-came.new.r) (c.fill-came.ensures.full came).0 c.head_of-moment.ensures (sym c.refusal_of.ensures ∙ c.in-Some.is) in
+    (c.fill-came.new.buf, subst (Consumes _ _) (take_all _ _ (search rules)) c.fill-came.ensures.bytes, stops, told, at)

@@ -8,31 +8,35 @@ use Rattle.nfs_serve.specs.declared.form.Form.{Form}
 use Rattle.nfs_serve.specs.declared.form.Flow.{Flow}
 use Rattle.nfs_serve.specs.declared.form.Outcome.{Outcome}
 use Rattle.nfs_serve.specs.declared.form.Outcome.TheVariants.{Reply, Silent}
-use Rattle.nfs_serve.specs.Step.{State, starting, step}
+use Rattle.nfs_serve.specs.Step.{State, new_state, step}
 use Rattle.nfs_serve.specs.Run.{Brings, Move, events, after, after_event, output, output_of}
 
--- the state that the steps speak of, what is held of the stream of each connection, and the reply that was made last
-pub record Served : Type 0 where
+-- what is held of a stream of which nothing has come
+abbrev pub fresh : Held
+fresh = Begun start
+
+-- the state that the steps speak of, what is held of the stream of each connection, and the reply that is lent
+pub record ServerModel : Type 0 where
   pub state : State
   pub held : List Held
   pub reply : List ℕ
 
 abbrev pub held_on : List Held → ℕ → Held
-held_on held conn = get_or held conn (Begun start)
+held_on held conn = get_or held conn fresh
 
 -- this connection has this, and every other what it had
 abbrev pub IsWith : List Held → List Held → ℕ → Held → Type 0
 IsWith new old conn now = (c : ℕ) → held_on new c ≡ (if nat_eq c conn then now else held_on old c)
 
 -- a new server, with 16 connections
-abbrev pub started : ℕ → Served
-started instance = record { state = starting instance; held = replicate 16 (Begun start); reply = [] }
+abbrev pub new_server : ℕ → ServerModel
+new_server instance = record { state = new_state instance; held = replicate 16 fresh; reply = [] }
 
 -- the connection is closed, and nothing else has changed
-pub record Closes (old new : Served) (conn : ℕ) : Type 0 where
+pub record Closes (old new : ServerModel) (conn : ℕ) : Type 0 where
   pub state : new.state ≡ old.state
   pub reply : new.reply ≡ old.reply
-  pub held : IsWith new.held old.held conn (Begun start)
+  pub held : IsWith new.held old.held conn fresh
 
 -- what is held of a stream stands for it
 abbrev pub Stands : End → Held → Type 0
@@ -49,17 +53,11 @@ IsAnswer Reply answer reply = answer ≡ Some reply
 IsAnswer Silent answer reply = (answer ≡ None) × (reply ≡ [])
 
 -- The record was stepped: for some choice, reply and state are the step's.
-pub record Steps (outcome : Outcome) (old new : Served) (call : List ℕ) (now : ℕ) : Type 0 where
+pub record Steps (outcome : Outcome) (old new : ServerModel) (call : List ℕ) (now : ℕ) : Type 0 where
   pub choice : Option ℕ
   pub answer : IsAnswer outcome (step old.state call now choice).reply new.reply
   pub state : new.state ≡ (step old.state call now choice).state
   pub held : new.held ≡ old.held
-
--- whether what is held is of a stream that is too long
-abbrev pub is_too_long : Held → Bool
-is_too_long (Begun part) = false
-is_too_long (Complete call) = false
-is_too_long Failed = true
 
 abbrev pub flow_of : Held → Flow
 flow_of (Begun part) = Flow.Open

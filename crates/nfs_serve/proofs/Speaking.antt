@@ -1,0 +1,180 @@
+-- A talk that goes on by a piece, and how it ends.
+use Rattle.std.proofs.Common.{◌≡◌, ◌≢◌, ℕ, ◌+◌, ◌<◌, ◌≤◌, false, List, [], ◌∷◌, ◌++◌, length, flat_map, map, Option, refl, sym, ap, subst, ◌∙◌, arith, append_assoc, append-nil, length-append, All}
+use Rattle.std.specs.Io.KnownBytes.{Consumes, Appends}
+use Rattle.std.proofs.KnownBytes.{Consumes-nil, Consumes-trans, Appends-nil, Appends-trans}
+use Rattle.std.proofs.lemmas.List.{map-append}
+use Rattle.std.proofs.lemmas.List.Elements.{All-nil, All-push}
+use Rattle.std.proofs.lemmas.List.Concat.{flat_map-append}
+use Rattle.nfs_rpc.specs.RecordMarking.{Held, Begun, Complete, Failed}
+use Rattle.nfs_rpc.specs.Stream.{End, Open, TooLong}
+use Rattle.nfs_rpc.specs.Feeding.{is_too_long}
+use Rattle.nfs_serve.specs.declared.form.Form.TheVariants.{Plain}
+use Rattle.nfs_serve.specs.declared.form.Flow.TheVariants as Flow
+use Rattle.nfs_serve.specs.declared.talk.Talk.TheVariants.{Ended, Shut, ReadFailed, WriteFailed, TooMany}
+use Rattle.nfs_serve.specs.Script.{Entry}
+use Rattle.nfs_serve.specs.Step.{State}
+use Rattle.nfs_serve.specs.Run.{Streams, with_stream, all_closed, Brings, events, after, after_event, output, output_of, Move, Reads}
+use Rattle.nfs_serve.specs.Server.{fresh, Stands, Feeds, Breaks, flow_of}
+use Rattle.nfs_serve.specs.Talk.{max_reads, IsPiece, Speaks, Talks}
+use Rattle.nfs_serve.proofs.Moves.{after-append, output-append, events-append, Reads-more}
+use Rattle.nfs_serve.proofs.Pieces.{start_holds, no_bytes, stands_open}
+use Rattle.nfs_serve.proofs.Runs.{takes_piece}
+
+-- A talk that has gone on for n pieces.
+pub record Speaking (old now : State) (is : Held) (n : ℕ) (l0 l1 h0 h1 c0 c1 : Option (List ℕ)) : Type 0 where
+  pub pieces : List Entry
+  pub count : length pieces ≡ n
+  pub each : All IsPiece pieces
+  pub read : Consumes l0 l1 (flat_map (λ e. e.piece) pieces)
+  pub moments : Appends c0 c1 (map (λ e. e.moment) pieces)
+  pub written : List ℕ
+  pub appended : Appends h0 h1 written
+  pub moves : List Move
+  pub streams : Streams
+  pub reads : Reads all_closed pieces (events moves) streams
+  pub state : now ≡ after old moves
+  pub wrote : written ≡ output Plain old moves
+  pub stands : Stands (streams 0) is
+
+pub speaking_start : (s : State) (l h c : Option (List ℕ)) → Speaking s s fresh 0 l l h h c c
+speaking_start s l h c = record {
+  pieces = [];
+  count = refl;
+  each = All-nil IsPiece;
+  read = Consumes-nil l;
+  moments = Appends-nil c;
+  written = [];
+  appended = Appends-nil h;
+  moves = [];
+  streams = all_closed;
+  reads = (refl, refl);
+  state = refl;
+  wrote = refl;
+  stands = (no_bytes, start_holds);
+}
+
+-- whether the stream is too long, as the flow tells it
+pub open_is : (is : Held) → Flow.Open ≡ flow_of is → is_too_long is ≡ false
+open_is (Begun p) h = refl
+open_is (Complete call) h = refl
+open_is Failed h = absurd cc
+
+shut_is : (is : Held) → Flow.Shut ≡ flow_of is → is ≡ Failed
+shut_is (Begun p) h = absurd cc
+shut_is (Complete call) h = absurd cc
+shut_is Failed h = refl
+
+stands_long : (s : End) → Stands s Failed → s ≡ TooLong
+stands_long (Open rest) h = absurd h
+stands_long TooLong h = refl
+
+module _ {old now : State} {is : Held} {n : ℕ} {l0 l1 h0 h1 c0 c1 : Option (List ℕ)} (g : Speaking old now is n l0 l1 h0 h1 c0 c1) where
+  pieces_read : (l2 : Option (List ℕ)) (e : Entry) → Consumes l1 l2 e.piece → Consumes l0 l2 (flat_map (λ d. d.piece) (g.pieces ++ e ∷ []))
+  pieces_read l2 e read = subst (Consumes l0 l2) (sym (flat_map-append (λ d. d.piece) g.pieces (e ∷ []) ∙ ap (λ l. flat_map (λ d. d.piece) g.pieces ++ l) (append-nil e.piece))) (Consumes-trans _ _ _ _ _ g.read read)
+
+  moments_told : (c2 : Option (List ℕ)) (e : Entry) → Appends c1 c2 (e.moment ∷ []) → Appends c0 c2 (map (λ d. d.moment) (g.pieces ++ e ∷ []))
+  moments_told c2 e told = subst (Appends c0 c2) (sym (map-append (λ d. d.moment) g.pieces (e ∷ []))) (Appends-trans _ _ _ _ _ g.moments told)
+
+  count_more : (e : Entry) → length (g.pieces ++ e ∷ []) ≡ n + 1
+  count_more e = length-append g.pieces (e ∷ []) ∙ ap (λ k. k + 1) g.count
+
+  nonempty : (e : Entry) → IsPiece e → e.piece ≢ []
+  nonempty e each none = omega (arith, ap length none, each.2)
+
+  pub speaking_more : (l2 h2 c2 : Option (List ℕ)) (new : State) (held : Held) (e : Entry) → Consumes l1 l2 e.piece → Appends c1 c2 (e.moment ∷ []) → IsPiece e → Feeds now new is held e.conn e.moment e.piece Plain h1 h2
+      → Speaking old new held (n + 1) l0 l2 h0 h2 c0 c2
+  speaking_more l2 h2 c2 new held e read told each fed =
+      let conn = each.1 in
+      let (end, brings, stands) = fed.stream (g.streams e.conn) (subst (λ c. Stands (g.streams c) is) (sym conn) g.stands) in record {
+        pieces = g.pieces ++ e ∷ [];
+        count = count_more e;
+        each = All-push IsPiece g.pieces e g.each each;
+        read = pieces_read l2 e read;
+        moments = moments_told c2 e told;
+        written = g.written ++ output Plain now fed.moves;
+        appended = Appends-trans _ _ _ _ _ g.appended fed.wrote;
+        moves = g.moves ++ fed.moves;
+        streams = with_stream g.streams e.conn end;
+        reads = rw (events-append g.moves fed.moves) (Reads-more all_closed g.pieces (events g.moves) g.streams e (events fed.moves) (with_stream g.streams e.conn end) g.reads (takes_piece g.streams e.moment e.conn e.piece (events fed.moves) end (nonempty e each) brings));
+        state = fed.state ∙ ap (λ s. after s fed.moves) g.state ∙ sym (after-append old g.moves fed.moves);
+        wrote = ap (λ l. l ++ output Plain now fed.moves) g.wrote ∙ ap (λ s. output Plain old g.moves ++ output Plain s fed.moves) g.state ∙ sym (output-append Plain old g.moves fed.moves);
+        stands = subst (λ c. Stands (with_stream g.streams c end 0) held) (sym conn) stands;
+      }
+
+  speaks : (end : End) → g.streams 0 ≡ end → Speaks old now g.pieces end g.written
+  speaks end ends = record { moves = g.moves; streams = g.streams; reads = g.reads; ends = ends; state = g.state; wrote = g.wrote }
+
+  still_open : is_too_long is ≡ false → (rest : List ℕ) × Speaks old now g.pieces (Open rest) g.written
+  still_open going =
+      let (rest, ends, bytes, holds) = stands_open (g.streams 0) is going g.stands in
+      (rest, speaks (Open rest) ends)
+
+  is_shut : Flow.Shut ≡ flow_of is → Speaks old now g.pieces TooLong g.written
+  is_shut flow = speaks TooLong (stands_long (g.streams 0) (subst (Stands (g.streams 0)) (shut_is is flow) g.stands))
+
+  -- the writer failed in a reply of a piece
+  pub speaking_breaks : (l2 h2 c2 : Option (List ℕ)) (new : State) (e : Entry) → Consumes l1 l2 e.piece → Appends c1 c2 (e.moment ∷ []) → IsPiece e → n < max_reads → Breaks now new is e.conn e.moment e.piece Plain h1 h2
+      → Talks WriteFailed old new l0 l2 h0 h2 c0 c2
+  speaking_breaks l2 h2 c2 new e read told each few b =
+      let conn = each.1 in
+      let (end, brings) = b.stream (g.streams e.conn) (subst (λ c. Stands (g.streams c) is) (sym conn) g.stands) in
+      let moves_state : after now b.moves ≡ after old (g.moves ++ b.moves) = ap (λ s. after s b.moves) g.state ∙ sym (after-append old g.moves b.moves) in (
+        g.pieces ++ e ∷ [],
+        g.written ++ (output Plain now b.moves ++ b.written),
+        pieces_read l2 e read,
+        Appends-trans _ _ _ _ _ g.appended b.wrote,
+        moments_told c2 e told,
+        All-push IsPiece g.pieces e g.each each,
+        (
+          omega (arith, count_more e, few),
+          g.pieces,
+          e,
+          refl,
+          record {
+            moves = g.moves ++ b.moves;
+            breaking = b.last;
+            before = events g.moves;
+            own = events b.moves;
+            streams = g.streams;
+            end = end;
+            taken = b.taken;
+            dropped = b.dropped;
+            front = b.written;
+            unwritten = b.unwritten;
+            reads = g.reads;
+            split = b.split;
+            brings = subst (λ c. Brings c e.moment (g.streams c) b.taken (events b.moves ++ b.last.event ∷ []) end) conn (subst (λ brought. Brings e.conn e.moment (g.streams e.conn) b.taken brought end) (events-append b.moves (b.last ∷ [])) brings);
+            order = events-append g.moves b.moves;
+            state = b.state ∙ ap (λ s. after_event s b.last.event b.last.choice) moves_state;
+            wrote = ap (λ l. l ++ (output Plain now b.moves ++ b.written)) g.wrote ∙ sym (append_assoc (output Plain old g.moves) (output Plain now b.moves) b.written)
+                ∙ ap (λ l. l ++ b.written) (ap (λ s. output Plain old g.moves ++ output Plain s b.moves) g.state ∙ sym (output-append Plain old g.moves b.moves));
+            cut = b.cut ∙ ap (λ s. output_of Plain s b.last.event b.last.choice) moves_state;
+            some = b.some;
+          },
+        ),
+      )
+
+  read_to : (l2 : Option (List ℕ)) → Consumes l1 l2 [] → Consumes l0 l2 (flat_map (λ d. d.piece) g.pieces)
+  read_to l2 none = subst (Consumes l0 l2) (append-nil _) (Consumes-trans _ _ _ _ _ g.read none)
+
+  few : n < max_reads → length g.pieces < max_reads
+  few less = omega (arith, g.count, less)
+
+  -- a read that gave no piece
+  pub ends : (l2 : Option (List ℕ)) → Consumes l1 l2 [] → n < max_reads → is_too_long is ≡ false → Talks Ended old now l0 l2 h0 h1 c0 c1
+  ends l2 none less going =
+      let (rest, said) = still_open going in
+      (g.pieces, g.written, read_to l2 none, g.appended, g.moments, g.each, (few less, rest, said))
+
+  pub fails : (l2 : Option (List ℕ)) → Consumes l1 l2 [] → n < max_reads → is_too_long is ≡ false → Talks ReadFailed old now l0 l2 h0 h1 c0 c1
+  fails l2 none less going =
+      let (rest, said) = still_open going in
+      (g.pieces, g.written, read_to l2 none, g.appended, g.moments, g.each, (few less, rest, said))
+
+  pub is_full : n ≡ max_reads → is_too_long is ≡ false → Talks TooMany old now l0 l1 h0 h1 c0 c1
+  is_full all going =
+      let (rest, said) = still_open going in
+      (g.pieces, g.written, g.read, g.appended, g.moments, g.each, (g.count ∙ all, rest, said))
+
+  pub shuts : n ≤ max_reads → Flow.Shut ≡ flow_of is → Talks Shut old now l0 l1 h0 h1 c0 c1
+  shuts most flow = (g.pieces, g.written, g.read, g.appended, g.moments, g.each, (omega (arith, g.count, most), is_shut flow))

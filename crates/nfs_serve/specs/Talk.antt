@@ -1,0 +1,72 @@
+-- A talk over one connection (RFC 5531 section 11): the run of the pieces that were read, as connection 0, each at the
+-- clock's answer for it. No connection number and no zero mark is put out.
+use Rattle.std.specs.Prelude.{◌≡◌, ℕ, ◌<◌, ◌≤◌, List, [], ◌∷◌, ◌++◌, length, flat_map, map, All, Bool, true, false, Option}
+use Rattle.std.specs.Io.KnownBytes.{Consumes, Appends, IsAtEnd}
+use Rattle.nfs_rpc.specs.Stream.{End, Open, TooLong}
+use Rattle.nfs_serve.specs.declared.talk.Talk.{Talk}
+use Rattle.nfs_serve.specs.declared.talk.Talk.TheVariants.{Ended, Shut, ReadFailed, WriteFailed, TooMany}
+use Rattle.nfs_serve.specs.declared.form.Form.TheVariants.{Plain}
+use Rattle.nfs_serve.specs.Script.{Entry, Fits}
+use Rattle.nfs_serve.specs.Step.{State}
+use Rattle.nfs_serve.specs.Run.{Streams, all_closed, Brings, Reads, Event, Move, events, after, after_event, output, output_of}
+
+abbrev pub max_reads : ℕ
+max_reads = 1000000
+
+-- some bytes that came on connection 0
+abbrev pub IsPiece : Entry → Type 0
+IsPiece e = Fits e × (e.conn ≡ 0) × (0 < length e.piece)
+
+-- The pieces ran from a closed connection: for some choices, what was written and the state left are the run's, and the
+-- connection's stream ends so.
+pub record Speaks (old new : State) (pieces : List Entry) (end : End) (written : List ℕ) : Type 0 where
+  pub moves : List Move
+  pub streams : Streams
+  pub reads : Reads all_closed pieces (events moves) streams
+  pub ends : streams 0 ≡ end
+  pub state : new ≡ after old moves
+  pub wrote : written ≡ output Plain old moves
+
+-- The pieces ran, and of the last one its own events up to the one in whose output the writer failed: a front of that
+-- output was written and not the whole. The state is the one behind that event.
+pub record SpeaksInto (old new : State) (pieces : List Entry) (last : Entry) (written : List ℕ) : Type 0 where
+  pub moves : List Move
+  pub breaking : Move
+  pub before : List Event
+  pub own : List Event
+  pub streams : Streams
+  pub end : End
+  pub taken : List ℕ
+  pub dropped : List ℕ
+  pub front : List ℕ
+  pub unwritten : List ℕ
+  pub reads : Reads all_closed pieces before streams
+  pub split : last.piece ≡ taken ++ dropped
+  pub brings : Brings 0 last.moment (streams 0) taken (own ++ breaking.event ∷ []) end
+  pub order : events moves ≡ before ++ own
+  pub state : new ≡ after_event (after old moves) breaking.event breaking.choice
+  pub wrote : written ≡ output Plain old moves ++ front
+  pub cut : front ++ unwritten ≡ output_of Plain (after old moves) breaking.event breaking.choice
+  pub some : 0 < length unwritten
+
+-- What the pieces came to by how the talk ended. The read that ended it, where it gave no piece, is one of the reads.
+abbrev pub SpeaksUntil : Talk → State → State → List Entry → List ℕ → Type 0
+SpeaksUntil Ended old new pieces written = (length pieces < max_reads) × (rest : List ℕ) × Speaks old new pieces (Open rest) written
+SpeaksUntil ReadFailed old new pieces written = (length pieces < max_reads) × (rest : List ℕ) × Speaks old new pieces (Open rest) written
+SpeaksUntil TooMany old new pieces written = (length pieces ≡ max_reads) × (rest : List ℕ) × Speaks old new pieces (Open rest) written
+SpeaksUntil Shut old new pieces written = (length pieces ≤ max_reads) × Speaks old new pieces TooLong written
+SpeaksUntil WriteFailed old new pieces written =
+    (length pieces ≤ max_reads) × (before : List Entry) × (last : Entry) × (pieces ≡ before ++ last ∷ []) × SpeaksInto old new before last written
+
+-- the same of what the ends and the clock tell: one answer of the clock a piece, and no other
+abbrev pub Talks : Talk → State → State → Option (List ℕ) → Option (List ℕ) → Option (List ℕ) → Option (List ℕ) → Option (List ℕ) → Option (List ℕ) → Type 0
+Talks talk old new l0 l1 h0 h1 c0 c1 = (pieces : List Entry) × (written : List ℕ)
+    × Consumes l0 l1 (flat_map (λ e. e.piece) pieces) × Appends h0 h1 written × Appends c0 c1 (map (λ e. e.moment) pieces)
+    × All IsPiece pieces × SpeaksUntil talk old new pieces written
+
+-- which end ended the talk
+abbrev pub TalkTells : Talk → Bool → Bool → Bool → Option (List ℕ) → Type 0
+TalkTells Ended ended read_failed write_failed left = (ended ≡ true) × (read_failed ≡ false) × (write_failed ≡ false) × IsAtEnd left
+TalkTells ReadFailed ended read_failed write_failed left = (read_failed ≡ true) × (write_failed ≡ false)
+TalkTells WriteFailed ended read_failed write_failed left = (read_failed ≡ false) × (write_failed ≡ true)
+TalkTells talk ended read_failed write_failed left = (read_failed ≡ false) × (write_failed ≡ false)

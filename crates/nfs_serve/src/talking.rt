@@ -1,0 +1,54 @@
+//! A talk over one connection.
+ghost use Rattle.std.specs.Prelude.{◌≡◌, false, length};
+ghost use Rattle.nfs_serve.specs.Talk.{Talks, TalkTells};
+
+use crate::connection::Connection;
+use crate::engine::Engine;
+use crate::entry::Entry;
+use crate::form::{Flow, Form};
+use crate::moving::WriteFailed;
+use crate::talk::Talk;
+use crate::{Clock, Sink, Source};
+use std::alloc::Global;
+
+/// The most reads of a talk.
+const MAX_READS: u32 = 1_000_000;
+
+/// Closes connection 0 and runs what the reader gives as its pieces, each at the clock's answer for it.
+pub fn converse<R: Source, W: Sink, C: Clock>(
+    alloc: Global,
+    engine: &mut Engine,
+    connection: &mut Connection,
+    buf: &mut [u8],
+    r: &mut R,
+    w: &mut W,
+    clock: &mut C,
+) -> Talk
+    requires room { length buf.old ≡ 65536 }
+    requires read { R.has_failed r.old ≡ false }
+    requires ended { R.has_ended r.old ≡ false }
+    requires write { W.has_failed w.old ≡ false }
+    ensures run { Talks result engine.old.state engine.new.state (R.left r.old) (R.left r.new) (W.held w.old) (W.held w.new) (C.told clock.old) (C.told clock.new) }
+    ensures told { TalkTells result (R.has_ended r.new) (R.has_failed r.new) (W.has_failed w.new) (R.left r.new) }
+{
+    connection.close();
+    for _ in 0..MAX_READS {
+        match r.read(buf) {
+            Ok(0) => return Talk::Ended,
+            Ok(n) => {
+                let entry = Entry {
+                    moment: clock.now(),
+                    conn: 0,
+                    piece: &buf[..n],
+                };
+                match connection.feed(alloc, engine, &entry, Form::Plain, w) {
+                    Ok(Flow::Open) => {}
+                    Ok(Flow::Shut) => return Talk::Shut,
+                    Err(WriteFailed) => return Talk::WriteFailed,
+                }
+            }
+            Err(_) => return Talk::ReadFailed,
+        }
+    }
+    Talk::TooMany
+}
