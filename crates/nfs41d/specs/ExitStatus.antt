@@ -1,7 +1,10 @@
--- The exit statuses of the program (this server's profile).
-use Rattle.std.specs.Prelude.{ℕ}
+-- How the program ends, and with which status (this server's profile).
+use Rattle.std.specs.Prelude.{ℕ, Bool, true, false, Result, Ok, Err}
+use Rattle.std.specs.declared.io.ErrorKind.{ErrorKind}
+use Rattle.std.specs.declared.io.ErrorKind.TheVariants.{OutOfMemory}
 use Rattle.nfs_serve.specs.declared.fault.Stop.{Stop}
 use Rattle.nfs_serve.specs.declared.fault.Stop.TheVariants.{ReadFailed, WriteFailed}
+use Rattle.nfs_serve.specs.declared.fault.ReplayFault.{ReplayFault}
 use Rattle.nfs41d.specs.declared.fault.Fault.{Fault}
 
 abbrev pub stop_status : Stop → ℕ
@@ -9,8 +12,24 @@ stop_status ReadFailed = 3
 stop_status WriteFailed = 3
 stop_status stop = 2
 
-abbrev pub exit_status : Fault → ℕ
-exit_status Fault.Arguments = 1
-exit_status Fault.Start = 1
-exit_status (Fault.Replay fault) = stop_status fault.number
-exit_status Fault.Flush = 3
+abbrev pub fault_status : Fault → ℕ
+fault_status Fault.Arguments = 1
+fault_status Fault.Start = 1
+fault_status (Fault.Replay fault) = stop_status fault.number
+fault_status Fault.Accept = 3
+fault_status Fault.Flush = 3
+
+abbrev pub status_of : {U : Type 0} → Result U Fault → ℕ
+status_of (Ok u) = 0
+status_of (Err fault) = fault_status fault
+
+-- arguments that cannot be read: for want of memory, or since one is no text
+abbrev pub unread : ErrorKind → Fault
+unread OutOfMemory = Fault.Start
+unread kind = Fault.Arguments
+
+-- a run, and then whether the flush of its output failed
+abbrev pub ending : {U : Type 0} → Result U ReplayFault → Bool → Result U Fault
+ending (Ok u) false = Ok u
+ending (Ok u) true = Err Fault.Flush
+ending (Err fault) failed = Err (Fault.Replay fault)

@@ -2,7 +2,14 @@
 
 /// What the program is to do.
 #[derive(Clone, Copy, Debug, PartialEq, Eq)]
-pub enum Order {
+pub enum Order<'a> {
     /// Run the script of standard input.
     Replay,
+    /// Serve so many TCP connections, one after the other.
+    Serve {
+        /// The IPv4 address and port to listen on, as it was written.
+        listen: &'a str,
+        /// How many connections, from 1 to 1,000,000.
+        connections: u32,
+    },
 }

@@ -1,10 +1,15 @@
 //! Why the program ends, and how it says so.
 
-ghost use Rattle.std.specs.Prelude.{◌≡◌};
-ghost use Rattle.nfs41d.specs.ExitStatus.{exit_status};
+ghost use Rattle.std.specs.Prelude.{◌≡◌, is_err};
+ghost use Rattle.std.specs.IoError.{error_kind};
+ghost use Rattle.std.specs.Process.{exit_status};
+ghost use Rattle.nfs41d.specs.ExitStatus as ends;
+ghost use Rattle.nfs41d.specs.declared.fault.Fault.TheVariants.{Replay};
 
 use nfs_serve::{ReplayFault, Stop};
-use std::io::Write;
+use std::io;
+use std::io::{ErrorKind, Write};
+use std::process::ExitCode;
 use thiserror::Error;
 
 /// Why the program ends with a fault.
@@ -19,21 +24,26 @@ pub enum Fault {
     /// The run of the script has stopped.
     #[error("{0}")]
     Replay(ReplayFault),
+    /// No connection can be taken.
+    #[error("accept failed")]
+    Accept,
     /// What was written did not reach standard output.
     #[error("output failed")]
     Flush,
 }
 
 impl From<ReplayFault> for Fault {
+    ghost from_gives = { λ fault f. f ≡ Replay fault };
+
     fn from(fault: ReplayFault) -> Fault {
         Fault::Replay(fault)
     }
 }
 
 /// Writes the fault's line, whose own failure is passed over, and answers the exit status: 1 where the program has not begun,
-/// 2 for a fault of the script, 3 for a fault of its input or output.
+/// 2 for a fault of the script, 3 for a fault of input, output or connections.
 pub fn told<W: Write>(fault: &Fault, w: &mut W) -> u8
-    ensures { result ≡ exit_status fault.now }
+    ensures { result ≡ ends.fault_status fault.now }
 {
     let _ = writeln!(w, "nfs41d: {fault}");
     match fault {
@@ -42,6 +52,34 @@ pub fn told<W: Write>(fault: &Fault, w: &mut W) -> u8
             Stop::ReadFailed | Stop::WriteFailed => 3,
             Stop::Cut | Stop::Connection | Stop::Long | Stop::Late | Stop::Many => 2,
         },
-        Fault::Flush => 3,
+        Fault::Accept | Fault::Flush => 3,
     }
+}
+
+/// Tells the fault, if there is one, and answers the status with which the process ends: 0 where there is none.
+pub fn status<W: Write>(ran: Result<(), Fault>, w: &mut W) -> ExitCode
+    ensures { exit_status result ≡ ends.status_of ran }
+{
+    match ran {
+        Ok(()) => ExitCode::SUCCESS,
+        Err(fault) => ExitCode::from(told(&fault, w)),
+    }
+}
+
+/// Why the arguments could not be read: for want of memory, or since one is no text.
+pub fn unread(e: &io::Error) -> Fault
+    ensures { result ≡ ends.unread (error_kind e.now) }
+{
+    match e.kind() {
+        ErrorKind::OutOfMemory => Fault::Start,
+        _ => Fault::Arguments,
+    }
+}
+
+/// What a run and the flush behind it come to. The fault of the run is told before that of the flush.
+pub fn ending(ran: Result<(), ReplayFault>, flushed: io::Result<()>) -> Result<(), Fault>
+    ensures { result ≡ ends.ending ran (is_err flushed) }
+{
+    ran?;
+    flushed.map_err(|_| Fault::Flush)
 }

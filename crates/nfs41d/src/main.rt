@@ -1,15 +1,18 @@
 //! `nfs41d replay` runs a script of timed pieces of NFS version 4.1 requests from standard input, and writes the replies
-//! to standard output.
+//! to standard output. `nfs41d serve` answers TCP connections, one after the other.
 #![tactic(auto)]
 
 mod asked;
+mod clock;
 mod fault;
+mod serving;
 #[cfg(test)]
 mod tests;
 mod words;
 
 use crate::asked::Order;
-use crate::fault::{Fault, told};
+use crate::fault::{Fault, ending, status, unread};
+use crate::serving::serve;
 use crate::words::order;
 use nfs_serve::{Host, Server, Settings};
 use std::env;
@@ -19,20 +22,20 @@ use std::process::ExitCode;
 /// The instance of a server that runs a script.
 const INSTANCE: u32 = 7;
 
+/// The bytes that standard input and output are read and written by.
+const BUFFER: usize = 65_536;
+
 const SETTINGS: Settings = Settings {
     lease: 90,
     root_mode: 0o777,
 };
 
 fn main(rt: HostRuntime) -> ExitCode {
-    match run(&rt) {
-        Ok(()) => ExitCode::SUCCESS,
-        Err(fault) => ExitCode::from(told(&fault, &mut rt.stderr())),
-    }
+    status(run(&rt), &mut rt.stderr())
 }
 
 fn run(rt: &HostRuntime) -> Result<(), Fault> {
-    let args = env::args(rt).map_err(|_| Fault::Arguments)?;
+    let args = env::args(rt).map_err(|e| unread(&e))?;
     let words: Vec<String> = args.collect(rt.alloc()).map_err(|_| Fault::Start)?;
     let mut texts = Vec::new(rt.alloc());
     for word in &words {
@@ -40,6 +43,10 @@ fn run(rt: &HostRuntime) -> Result<(), Fault> {
     }
     match order(rt.alloc(), &texts)? {
         Order::Replay => replay(rt),
+        Order::Serve {
+            listen,
+            connections,
+        } => serve(rt, listen, connections, &mut rt.stderr()),
     }
 }
 
@@ -47,12 +54,10 @@ fn run(rt: &HostRuntime) -> Result<(), Fault> {
 fn replay(rt: &HostRuntime) -> Result<(), Fault> {
     let alloc = rt.alloc();
     let mut server = Server::new(alloc, SETTINGS, INSTANCE).map_err(|_| Fault::Start)?;
-    let reader = BufReader::new(alloc, rt.stdin()).map_err(|_| Fault::Start)?;
-    let writer = BufWriter::new(alloc, rt.stdout()).map_err(|_| Fault::Start)?;
+    let reader = BufReader::with_capacity(alloc, BUFFER, rt.stdin()).map_err(|_| Fault::Start)?;
+    let writer = BufWriter::with_capacity(alloc, BUFFER, rt.stdout()).map_err(|_| Fault::Start)?;
     let mut r = Host::new(reader);
     let mut w = Host::new(writer);
     let ran = server.replay(alloc, &mut r, &mut w);
-    let flushed = w.inner.flush();
-    ran?;
-    flushed.map_err(|_| Fault::Flush)
+    ending(ran, w.inner.flush())
 }

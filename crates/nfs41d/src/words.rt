@@ -3,13 +3,16 @@
 use crate::asked::Order;
 use crate::fault::Fault;
 use clap::error::ErrorKind;
-use clap::{ArgMatches, Command};
+use clap::{Arg, ArgAction, ArgMatches, Command};
 use std::alloc::{AllocError, Global};
+
+/// The most connections of one run.
+const MAX_CONNECTIONS: u32 = 1_000_000;
 
 /// Reads the words of a command line, the program's name first.
 ///
 /// `Arguments` where they are no order, help included; `Start` for want of memory.
-pub fn order(alloc: Global, words: &[&str]) -> Result<Order, Fault> {
+pub fn order<'a>(alloc: Global, words: &'a [&'a str]) -> Result<Order<'a>, Fault> {
     let command = command(alloc).map_err(|_| Fault::Start)?;
     match command.try_get_matches_from(words) {
         Ok(matches) => order_of(&matches).ok_or(Fault::Arguments),
@@ -21,15 +24,38 @@ pub fn order(alloc: Global, words: &[&str]) -> Result<Order, Fault> {
 }
 
 fn command<'a>(alloc: Global) -> Result<Command<'a>, AllocError> {
+    let serve = Command::new(alloc, "serve")
+        .arg(option(alloc, "listen").required(true))?
+        .arg(option(alloc, "connections").required(true))?;
     Command::new(alloc, "nfs41d")
         .subcommand_required(true)
-        .subcommand(Command::new(alloc, "replay"))
+        .subcommand(Command::new(alloc, "replay"))?
+        .subcommand(serve)
 }
 
-fn order_of(matches: &ArgMatches<'_>) -> Option<Order> {
-    let (name, _) = matches.subcommand()?;
+/// An option that takes a value.
+fn option<'a>(alloc: Global, name: &'a str) -> Arg<'a> {
+    Arg::new(alloc, name).long(name).action(ArgAction::Set)
+}
+
+fn order_of<'a>(matches: &ArgMatches<'a>) -> Option<Order<'a>> {
+    let (name, found) = matches.subcommand()?;
     match name {
         "replay" => Some(Order::Replay),
+        "serve" => Some(Order::Serve {
+            listen: found.get_str("listen")?,
+            connections: count_of(found.get_str("connections")?)?,
+        }),
         _ => None,
+    }
+}
+
+/// A count of connections.
+fn count_of(text: &str) -> Option<u32> {
+    let count = text.parse::<u32>().ok()?;
+    if count >= 1 && count <= MAX_CONNECTIONS {
+        Some(count)
+    } else {
+        None
     }
 }
