@@ -2,48 +2,52 @@ use super::*;
 use std::test::Fail;
 
 #[test]
-fn reads_each_item_where_it_is_spelled(rt: HostRuntime) {
+fn items_are_read_where_they_are_spelled(rt: HostRuntime) -> Result<(), Fail> {
     let bytes = [
         0, 0, 0, 3, // 3
         0, 0, 0, 1, 0, 0, 0, 2, // 2^32 + 2
+        128, 0, 0, 0, 0, 0, 0, 0, // -2^63
         0, 0, 0, 1, // true
         0, 0, 0, 1, 0x41, 0, 0, 0, // "A"
         1, 2, 3, 4, 5, 6, 0, 0, // six bytes
         0, 0, 0, 2, 1, 2, 3, 4, 5, 6, 7, 8, // two pieces of four bytes
-        0, 0, 0, 0, // false
+        255, 255, 255, 255, 255, 255, 255, 254, 0, 0, 0, 7, // 7 nanoseconds behind second -2
         9,
     ];
     let mut cursor = Cursor::new(&bytes);
-    assert_eq!(rt; cursor.u32(), Ok(3));
-    assert_eq!(rt; cursor.u64(), Ok(4_294_967_298));
-    assert_eq!(rt; cursor.flag(), Ok(true));
-    assert_eq!(rt; cursor.opaque(1), Ok([0x41].as_slice()));
-    assert_eq!(rt; cursor.fixed::<6>(), Ok([1, 2, 3, 4, 5, 6]));
-    assert_eq!(rt;
-        cursor.pieces::<4>(),
-        Ok([[1, 2, 3, 4], [5, 6, 7, 8]].as_slice())
+    let numbers = (cursor.u32()?, cursor.u64()?, cursor.i64()?, cursor.flag()?);
+    let opaques = (
+        cursor.opaque(1)?,
+        cursor.fixed::<6>()?,
+        cursor.pieces::<4>()?,
     );
-    assert_eq!(rt; cursor.flag(), Ok(false));
-    assert_eq!(rt; cursor.rest(), [9].as_slice());
-    assert_eq!(rt; cursor.left(), 1);
+    let moment = cursor.time()?;
+    assert_eq!(rt; numbers, (3, 4_294_967_298, i64::MIN, true));
+    assert_eq!(rt;
+        opaques,
+        (
+            [0x41].as_slice(),
+            [1, 2, 3, 4, 5, 6],
+            [[1, 2, 3, 4], [5, 6, 7, 8]].as_slice()
+        )
+    );
+    assert_eq!(rt; (moment.seconds, moment.nanoseconds), (-2, 7));
+    assert_eq!(rt; (cursor.left(), cursor.rest()), (1, [9].as_slice()));
+    Ok(())
 }
 
 #[test]
 fn a_refused_read_moves_nothing(rt: HostRuntime) {
-    let padded_wrongly = [0, 0, 0, 1, 0x41, 0, 1, 0];
-    let mut cursor = Cursor::new(&padded_wrongly);
-    assert_eq!(rt; cursor.opaque(1), Err(Unreadable));
-    assert_eq!(rt; cursor.opaque(0), Err(Unreadable));
-    assert_eq!(rt; cursor.pieces::<8>(), Err(Unreadable));
-    assert_eq!(rt; cursor.fixed::<9>(), Err(Unreadable));
-    assert_eq!(rt; cursor.fixed::<7>(), Ok([0, 0, 0, 1, 0x41, 0, 1]));
-    let two = [0, 0, 0, 2];
-    let mut cursor = Cursor::new(&two);
-    assert_eq!(rt; cursor.flag(), Err(Unreadable));
-    assert_eq!(rt; cursor.u64(), Err(Unreadable));
-    assert_eq!(rt; cursor.left(), 4);
-    assert_eq!(rt; cursor.u32(), Ok(2));
-    assert_eq!(rt; cursor.u32(), Err(Unreadable));
+    let bytes = [0, 0, 0, 2, 0x41, 0, 1, 0];
+    let mut cursor = Cursor::new(&bytes);
+    let refused = [
+        cursor.flag().is_err(),
+        cursor.opaque(2).is_err(), // padding that is not zero
+        cursor.opaque(1).is_err(), // above the bound
+        cursor.pieces::<8>().is_err(),
+        cursor.fixed::<9>().is_err(),
+    ];
+    assert_eq!(rt; (refused, cursor.left()), ([true; 5], 8));
 }
 
 #[test]
@@ -54,21 +58,33 @@ fn a_sheet_holds_what_was_put(rt: HostRuntime) -> Result<(), Fail> {
     sheet.put_u64(4_294_967_298);
     sheet.put_flag(true);
     sheet.put_opaque(&[0x41]);
-    sheet.put_fixed(&[1, 2, 3, 4, 5, 6]);
+    sheet.set_u32(12, 0);
     let whole = [
-        0, 0, 0, 3, 0, 0, 0, 1, 0, 0, 0, 2, 0, 0, 0, 1, 0, 0, 0, 1, 0x41, 0, 0, 0, 1, 2, 3, 4, 5,
-        6, 0, 0,
+        0, 0, 0, 3, 0, 0, 0, 1, 0, 0, 0, 2, 0, 0, 0, 0, 0, 0, 0, 1, 0x41, 0, 0, 0,
     ];
     assert_eq!(rt; sheet.bytes(), whole.as_slice());
-    assert_eq!(rt; sheet.len(), 32);
-    sheet.set_u32(12, 0);
+    let put = sheet.len();
     sheet.cut(20);
-    assert_eq!(rt;
-        sheet.bytes(),
-        [0, 0, 0, 3, 0, 0, 0, 1, 0, 0, 0, 2, 0, 0, 0, 0, 0, 0, 0, 1].as_slice()
-    );
+    let cut = sheet.len();
     sheet.clear();
-    assert_eq!(rt; sheet.len(), 0);
+    assert_eq!(rt; (put, cut, sheet.len()), (24, 20, 0));
+    Ok(())
+}
+
+#[test]
+#[tactic(auto, using(crate::proofs::Putting::putting), unfolding(crate::specs::Time::time))]
+fn moments_and_bytes_are_put(rt: HostRuntime) -> Result<(), Fail> {
+    let mut sheet = Sheet::new(rt.alloc(), 20)?;
+    sheet.put_bytes(&[1, 2, 3, 4]);
+    sheet.put_time(Time {
+        seconds: -2,
+        nanoseconds: 7,
+    });
+    sheet.put_fixed(&[5]);
+    let whole = [
+        1, 2, 3, 4, 255, 255, 255, 255, 255, 255, 255, 254, 0, 0, 0, 7, 5, 0, 0, 0,
+    ];
+    assert_eq!(rt; sheet.bytes(), whole.as_slice());
     Ok(())
 }
 
@@ -88,34 +104,9 @@ fn statuses_have_their_numbers(rt: HostRuntime) {
         (Status::OpIllegal, 10044),
         (Status::NotOnlyOp, 10081),
     ] {
-        assert_eq!(rt; status.number(), number);
-        assert_eq!(rt; Status::of(number), Some(status));
+        assert_eq!(rt;
+            (status.number(), Status::of(number)),
+            (number, Some(status))
+        );
     }
-    assert_eq!(rt; Status::of(3), None);
-}
-
-#[test]
-fn nobody_owns_nothing(rt: HostRuntime) {
-    let nobody = Who::nobody();
-    assert_eq!(rt; (nobody.uid, nobody.gid, nobody.count), (65534, 65534, 0));
-}
-
-#[test]
-#[tactic(auto, using(crate::proofs::Putting::putting), unfolding(crate::specs::Time::time))]
-fn a_moment_is_read_as_it_was_put(rt: HostRuntime) -> Result<(), Fail> {
-    let moment = Time {
-        seconds: -2,
-        nanoseconds: 7,
-    };
-    let mut sheet = Sheet::new(rt.alloc(), 20)?;
-    sheet.put_time(moment);
-    sheet.put_i64(i64::MIN);
-    let spelled = [
-        255, 255, 255, 255, 255, 255, 255, 254, 0, 0, 0, 7, 128, 0, 0, 0, 0, 0, 0, 0,
-    ];
-    assert_eq!(rt; sheet.bytes(), spelled.as_slice());
-    let mut cursor = Cursor::new(&spelled);
-    assert_eq!(rt; cursor.time(), Ok(moment));
-    assert_eq!(rt; cursor.i64(), Ok(i64::MIN));
-    Ok(())
 }
