@@ -17,7 +17,7 @@ use nfs_xdr::Status;
 
 /// What stands at a place of a compound: an operation of RFC 8881 section 18 with its arguments, or the fault that ends
 /// the list.
-#[derive(Clone, Copy, PartialEq, Eq)]
+#[derive(Clone, Copy)]
 pub enum Arg<'a> {
     /// Section 18.1.
     Access { access: u32 },

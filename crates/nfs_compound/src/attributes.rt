@@ -6,7 +6,7 @@ ghost use Rattle.nfs_compound.specs.Attributes.{bitmap, attributes, view_bitmap,
 use nfs_xdr::{Cursor, Unreadable};
 
 /// An attribute mask, lent from the record (bitmap4, RFC 8881 section 3.2).
-#[derive(Clone, Copy, PartialEq, Eq)]
+#[derive(Clone, Copy)]
 pub struct Bitmap<'a> {
     /// Its words, each as it is spelled: big-endian. Bit `i` of word `w` is attribute `32 * w + i`.
     pub words: &'a [[u8; 4]],
@@ -24,7 +24,7 @@ impl<'a> Bitmap<'a> {
 }
 
 /// Attributes, lent from the record (fattr4, RFC 8881 section 3.3.7).
-#[derive(Clone, Copy, PartialEq, Eq)]
+#[derive(Clone, Copy)]
 pub struct Attributes<'a> {
     pub attrmask: Bitmap<'a>,
     /// The values that the mask names, one behind the other in rising order; nothing here says that they are.

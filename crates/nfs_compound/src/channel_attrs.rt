@@ -6,7 +6,7 @@ ghost use Rattle.nfs_compound.specs.ChannelAttrs.{channel_attrs};
 use nfs_xdr::{Cursor, Unreadable};
 
 /// What a channel of a session can bear (RFC 8881 section 18.36.1). Sizes are in bytes.
-#[derive(Clone, Copy, Debug, PartialEq, Eq)]
+#[derive(Clone, Copy)]
 pub struct ChannelAttrs {
     pub headerpadsize: u32,
     pub maxrequestsize: u32,

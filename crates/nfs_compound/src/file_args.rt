@@ -8,7 +8,7 @@ use crate::stateid::Stateid;
 use nfs_xdr::{Cursor, Unreadable};
 
 /// The arguments of COMMIT.
-#[derive(Clone, Copy, PartialEq, Eq)]
+#[derive(Clone, Copy)]
 pub struct Commit {
     /// In bytes.
     pub offset: u64,
@@ -29,7 +29,7 @@ impl Commit {
 }
 
 /// The arguments of READ.
-#[derive(Clone, Copy, PartialEq, Eq)]
+#[derive(Clone, Copy)]
 pub struct Read {
     pub stateid: Stateid,
     /// In bytes.
@@ -56,7 +56,7 @@ impl Read {
 }
 
 /// How safely bytes are to be written (stable_how4).
-#[derive(Clone, Copy, Debug, PartialEq, Eq)]
+#[derive(Clone, Copy)]
 pub enum StableHow {
     /// UNSTABLE4, 0.
     Unstable,
@@ -82,7 +82,7 @@ impl StableHow {
 }
 
 /// The arguments of WRITE.
-#[derive(Clone, Copy, PartialEq, Eq)]
+#[derive(Clone, Copy)]
 pub struct Write<'a> {
     pub stateid: Stateid,
     /// In bytes.
@@ -112,7 +112,7 @@ impl<'a> Write<'a> {
 }
 
 /// The arguments of SETATTR.
-#[derive(Clone, Copy, PartialEq, Eq)]
+#[derive(Clone, Copy)]
 pub struct SetAttr<'a> {
     pub stateid: Stateid,
     pub obj_attributes: Attributes<'a>,

@@ -28,8 +28,6 @@ mod open_args;
 mod session_args;
 mod state_owner;
 mod stateid;
-#[cfg(test)]
-mod tests;
 
 pub use arg::Arg;
 pub use attributes::{Attributes, Bitmap};

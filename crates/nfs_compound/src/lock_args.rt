@@ -10,7 +10,7 @@ use crate::stateid::Stateid;
 use nfs_xdr::{Cursor, Unreadable};
 
 /// The kind of a lock (nfs_lock_type4).
-#[derive(Clone, Copy, Debug, PartialEq, Eq)]
+#[derive(Clone, Copy)]
 pub enum LockType {
     /// READ_LT, 1.
     Read,
@@ -51,7 +51,7 @@ impl LockType {
 }
 
 /// The first lock of an owner on a file (open_to_lock_owner4).
-#[derive(Clone, Copy, PartialEq, Eq)]
+#[derive(Clone, Copy)]
 pub struct OpenToLockOwner<'a> {
     pub open_seqid: u32,
     pub open_stateid: Stateid,
@@ -79,7 +79,7 @@ impl<'a> OpenToLockOwner<'a> {
 }
 
 /// A further lock of an owner on a file (exist_lock_owner4).
-#[derive(Clone, Copy, PartialEq, Eq)]
+#[derive(Clone, Copy)]
 pub struct ExistLockOwner {
     pub lock_stateid: Stateid,
     pub lock_seqid: u32,
@@ -101,7 +101,7 @@ impl ExistLockOwner {
 }
 
 /// Who locks (locker4).
-#[derive(Clone, Copy, PartialEq, Eq)]
+#[derive(Clone, Copy)]
 pub enum Locker<'a> {
     /// A new lock owner.
     OpenOwner(OpenToLockOwner<'a>),
@@ -124,7 +124,7 @@ impl<'a> Locker<'a> {
 }
 
 /// The arguments of LOCK.
-#[derive(Clone, Copy, PartialEq, Eq)]
+#[derive(Clone, Copy)]
 pub struct Lock<'a> {
     pub locktype: LockType,
     pub reclaim: bool,
@@ -157,7 +157,7 @@ impl<'a> Lock<'a> {
 }
 
 /// The arguments of LOCKT.
-#[derive(Clone, Copy, PartialEq, Eq)]
+#[derive(Clone, Copy)]
 pub struct LockT<'a> {
     pub locktype: LockType,
     pub offset: u64,
@@ -185,7 +185,7 @@ impl<'a> LockT<'a> {
 }
 
 /// The arguments of LOCKU.
-#[derive(Clone, Copy, PartialEq, Eq)]
+#[derive(Clone, Copy)]
 pub struct LockU {
     pub locktype: LockType,
     pub seqid: u32,

@@ -8,7 +8,7 @@ use crate::attributes::{Attributes, Bitmap};
 use nfs_xdr::{Cursor, Unreadable};
 
 /// The numbers of a device (specdata4).
-#[derive(Clone, Copy, PartialEq, Eq)]
+#[derive(Clone, Copy)]
 pub struct SpecData {
     pub specdata1: u32,
     pub specdata2: u32,
@@ -30,7 +30,7 @@ impl SpecData {
 }
 
 /// The type of an object that is made (createtype4 with the numbers of nfs_ftype4).
-#[derive(Clone, Copy, PartialEq, Eq)]
+#[derive(Clone, Copy)]
 pub enum CreateType<'a> {
     /// NF4BLK, 3.
     Block(SpecData),
@@ -60,7 +60,7 @@ impl<'a> CreateType<'a> {
 }
 
 /// The arguments of CREATE.
-#[derive(Clone, Copy, PartialEq, Eq)]
+#[derive(Clone, Copy)]
 pub struct Create<'a> {
     pub objtype: CreateType<'a>,
     pub objname: &'a [u8],
@@ -85,7 +85,7 @@ impl<'a> Create<'a> {
 }
 
 /// The arguments of READDIR.
-#[derive(Clone, Copy, PartialEq, Eq)]
+#[derive(Clone, Copy)]
 pub struct ReadDir<'a> {
     pub cookie: u64,
     pub cookieverf: [u8; 8],
@@ -118,7 +118,7 @@ impl<'a> ReadDir<'a> {
 }
 
 /// The arguments of RENAME.
-#[derive(Clone, Copy, PartialEq, Eq)]
+#[derive(Clone, Copy)]
 pub struct Rename<'a> {
     pub oldname: &'a [u8],
     pub newname: &'a [u8],
@@ -137,7 +137,7 @@ impl<'a> Rename<'a> {
 }
 
 /// Whose flavours SECINFO_NO_NAME asks for (secinfo_style4).
-#[derive(Clone, Copy, PartialEq, Eq)]
+#[derive(Clone, Copy)]
 pub enum SecinfoStyle {
     /// SECINFO_STYLE4_CURRENT_FH, 0.
     CurrentFh,

@@ -4,7 +4,7 @@ ghost use Rattle.std.specs.Prelude.{◌≡◌};
 ghost use Rattle.nfs_compound.specs.OpNum.{op_number, op_num};
 
 /// The operations that this server reads, under RFC 8881's names (nfs_opnum4 of RFC 5662).
-#[derive(Clone, Copy, Debug, PartialEq, Eq)]
+#[derive(Clone, Copy)]
 pub enum OpNum {
     /// ACCESS, RFC 8881 section 18.1.
     Access,

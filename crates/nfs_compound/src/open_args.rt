@@ -10,7 +10,7 @@ use crate::stateid::Stateid;
 use nfs_xdr::{Cursor, Unreadable};
 
 /// How a file is made (createhow4).
-#[derive(Clone, Copy, PartialEq, Eq)]
+#[derive(Clone, Copy)]
 pub enum CreateHow<'a> {
     /// UNCHECKED4, mode 0.
     Unchecked {
@@ -58,7 +58,7 @@ impl<'a> CreateHow<'a> {
 }
 
 /// Whether a file is made (openflag4).
-#[derive(Clone, Copy, PartialEq, Eq)]
+#[derive(Clone, Copy)]
 pub enum OpenHow<'a> {
     /// OPEN4_NOCREATE, 0.
     NoCreate,
@@ -81,7 +81,7 @@ impl<'a> OpenHow<'a> {
 }
 
 /// The kind of a delegation (open_delegation_type4).
-#[derive(Clone, Copy, PartialEq, Eq)]
+#[derive(Clone, Copy)]
 pub enum DelegationType {
     /// OPEN_DELEGATE_NONE, 0.
     NoDelegation,
@@ -110,7 +110,7 @@ impl DelegationType {
 }
 
 /// What is opened (open_claim4).
-#[derive(Clone, Copy, PartialEq, Eq)]
+#[derive(Clone, Copy)]
 pub enum OpenClaim<'a> {
     /// CLAIM_NULL, 0: the file of this name in the current directory.
     Null {
@@ -174,7 +174,7 @@ impl<'a> OpenClaim<'a> {
 }
 
 /// The arguments of OPEN. Access and deny are any numbers.
-#[derive(Clone, Copy, PartialEq, Eq)]
+#[derive(Clone, Copy)]
 pub struct Open<'a> {
     pub seqid: u32,
     pub share_access: u32,
@@ -208,7 +208,7 @@ impl<'a> Open<'a> {
 }
 
 /// The arguments of OPEN_DOWNGRADE. Access and deny are any numbers.
-#[derive(Clone, Copy, PartialEq, Eq)]
+#[derive(Clone, Copy)]
 pub struct OpenDowngrade {
     pub open_stateid: Stateid,
     pub seqid: u32,
@@ -236,7 +236,7 @@ impl OpenDowngrade {
 }
 
 /// The arguments of CLOSE.
-#[derive(Clone, Copy, PartialEq, Eq)]
+#[derive(Clone, Copy)]
 pub struct Close {
     pub seqid: u32,
     pub open_stateid: Stateid,

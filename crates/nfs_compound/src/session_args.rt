@@ -18,7 +18,7 @@ const SP4_MACH_CRED: u32 = 1;
 const SP4_SSV: u32 = 2;
 
 /// Who made a client, and when (nfs_impl_id4).
-#[derive(Clone, Copy, PartialEq, Eq)]
+#[derive(Clone, Copy)]
 pub struct ImplId<'a> {
     pub domain: &'a [u8],
     pub name: &'a [u8],
@@ -39,7 +39,7 @@ impl<'a> ImplId<'a> {
 }
 
 /// The arguments of EXCHANGE_ID with no state protection.
-#[derive(Clone, Copy, PartialEq, Eq)]
+#[derive(Clone, Copy)]
 pub struct ExchangeId<'a> {
     pub verifier: [u8; 8],
     /// At most 1,024 bytes.
@@ -95,7 +95,7 @@ fn protection(c: &mut Cursor<'_>) -> Result<u32, Unreadable>
 }
 
 /// The arguments of CREATE_SESSION.
-#[derive(Clone, Copy, PartialEq, Eq)]
+#[derive(Clone, Copy)]
 pub struct CreateSession<'a> {
     pub clientid: u64,
     pub sequence: u32,
@@ -133,7 +133,7 @@ impl<'a> CreateSession<'a> {
 }
 
 /// The arguments of SEQUENCE.
-#[derive(Clone, Copy, PartialEq, Eq)]
+#[derive(Clone, Copy)]
 pub struct Sequence {
     pub sessionid: [u8; 16],
     pub sequenceid: u32,

@@ -6,7 +6,7 @@ ghost use Rattle.nfs_compound.specs.StateOwner.{state_owner, view};
 use nfs_xdr::{Cursor, Unreadable};
 
 /// An open owner or a lock owner (RFC 8881 section 3.3.13).
-#[derive(Clone, Copy, Debug, PartialEq, Eq)]
+#[derive(Clone, Copy)]
 pub struct StateOwner<'a> {
     pub clientid: u64,
     /// At most 1,024 bytes.

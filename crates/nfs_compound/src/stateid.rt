@@ -7,7 +7,7 @@ ghost use Rattle.nfs_compound.specs.Stateid.{stateid, stateids, stateid_of, view
 use nfs_xdr::{Cursor, Unreadable};
 
 /// Names a state of an open or of a lock (RFC 8881 section 8.2.2).
-#[derive(Clone, Copy, Debug, PartialEq, Eq)]
+#[derive(Clone, Copy)]
 pub struct Stateid {
     pub seqid: u32,
     pub other: [u8; 12],
@@ -26,7 +26,7 @@ impl Stateid {
 }
 
 /// Stateids, lent from the record.
-#[derive(Clone, Copy, PartialEq, Eq)]
+#[derive(Clone, Copy)]
 pub struct Stateids<'a> {
     /// Each as it is spelled.
     pub spelled: &'a [[u8; 16]],

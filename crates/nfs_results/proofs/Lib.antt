@@ -8,4 +8,3 @@ pub mod ResultLaws
 pub mod CompoundLaws
 pub mod ReplyLaws
 pub mod StraightLaws
-pub mod TestRoom

@@ -14,7 +14,7 @@ use nfs_xdr::{Cursor, Sheet, Unreadable};
 use std::marker::Model;
 
 /// Entries as they are spelled, in the order of their cookies. Contracts see the list of them.
-#[derive(Debug, Drop)]
+#[derive(Drop)]
 pub struct Entries<'a> {
     spelled: &'a [u8],
 }

@@ -10,7 +10,7 @@ use nfs_xdr::{Sheet, Status};
 
 /// The head of a compound's result that was put before the results were known: where its status and its count
 /// of results stand on the sheet (RFC 8881 section 16.2.2).
-#[derive(Clone, Copy, Debug)]
+#[derive(Clone, Copy)]
 pub struct OpenHead {
     status_at: usize,
     count_at: usize,

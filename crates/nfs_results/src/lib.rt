@@ -22,8 +22,6 @@ mod reading;
 mod reply;
 mod res;
 mod straight;
-#[cfg(test)]
-mod tests;
 mod writing;
 
 pub use entries::Entries;

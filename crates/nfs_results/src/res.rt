@@ -6,7 +6,7 @@ use nfs_xdr::Status;
 
 /// What an operation answers: a variant for each operation that was done, and what RFC 5662 has behind the
 /// status of one that was not.
-#[derive(Debug, Drop)]
+#[derive(Drop)]
 pub enum Res<'a> {
     /// RFC 8881 section 18.1.
     Access(AccessOk),
@@ -93,14 +93,14 @@ pub enum Res<'a> {
 }
 
 /// Which access is known and which is given, in ACCESS4 bits (RFC 8881 section 18.1.2).
-#[derive(Clone, Copy, Debug, PartialEq, Eq)]
+#[derive(Clone, Copy)]
 pub struct AccessOk {
     pub supported: u32,
     pub access: u32,
 }
 
 /// How a directory changed (change_info4, RFC 8881 section 3.3.4).
-#[derive(Clone, Copy, Debug, PartialEq, Eq)]
+#[derive(Clone, Copy)]
 pub struct ChangeInfo {
     /// Whether nothing else changed it in between.
     pub atomic: bool,
@@ -110,14 +110,14 @@ pub struct ChangeInfo {
 
 /// A set of attributes below number 96 (bitmap4, RFC 8881 section 3.2). It is spelled without zero words at
 /// its end.
-#[derive(Clone, Copy, Debug, PartialEq, Eq)]
+#[derive(Clone, Copy)]
 pub struct AttrSet {
     /// Bit `i` of word `w` is attribute `32 * w + i`.
     pub words: [u32; 3],
 }
 
 /// An object that was made (RFC 8881 section 18.4.2).
-#[derive(Clone, Copy, Debug, PartialEq, Eq)]
+#[derive(Clone, Copy)]
 pub struct CreateOk {
     /// The directory's change.
     pub cinfo: ChangeInfo,
@@ -126,7 +126,7 @@ pub struct CreateOk {
 }
 
 /// Attributes and their values (fattr4, RFC 8881 section 3.3.7).
-#[derive(Clone, Copy, Debug, PartialEq, Eq)]
+#[derive(Clone, Copy)]
 pub struct Fattr<'a> {
     pub attrmask: AttrSet,
     /// The values, one behind the other in rising order of attribute: below 2^32 bytes.
@@ -134,7 +134,7 @@ pub struct Fattr<'a> {
 }
 
 /// The lock that is in the way (RFC 8881 section 18.10.2).
-#[derive(Clone, Copy, Debug, PartialEq, Eq)]
+#[derive(Clone, Copy)]
 pub struct Denied<'a> {
     /// Its first byte.
     pub offset: u64,
@@ -149,7 +149,7 @@ pub struct Denied<'a> {
 /// A file that was opened, with no delegation (RFC 8881 section 18.16.2). Its locks are POSIX locks, and it
 /// stays while it is open (OPEN4_RESULT_LOCKTYPE_POSIX and OPEN4_RESULT_PRESERVE_UNLINKED; this server's
 /// profile).
-#[derive(Clone, Copy, Debug, PartialEq, Eq)]
+#[derive(Clone, Copy)]
 pub struct OpenOk {
     /// The open stateid.
     pub stateid: Stateid,
@@ -160,7 +160,7 @@ pub struct OpenOk {
 }
 
 /// Bytes of a file (RFC 8881 section 18.22.2).
-#[derive(Clone, Copy, Debug, PartialEq, Eq)]
+#[derive(Clone, Copy)]
 pub struct ReadOk<'a> {
     /// Whether what is given ends where the file does.
     pub eof: bool,
@@ -169,7 +169,7 @@ pub struct ReadOk<'a> {
 }
 
 /// Entries of a directory (RFC 8881 section 18.23.2).
-#[derive(Debug, Drop)]
+#[derive(Drop)]
 pub struct ReadDirOk<'a> {
     pub cookieverf: [u8; 8],
     pub entries: Entries<'a>,
@@ -178,7 +178,7 @@ pub struct ReadDirOk<'a> {
 }
 
 /// An entry of a directory (entry4, RFC 8881 section 18.23.2).
-#[derive(Clone, Copy, Debug, PartialEq, Eq)]
+#[derive(Clone, Copy)]
 pub struct Entry<'a> {
     pub cookie: u64,
     /// Below 2^32 bytes.
@@ -187,7 +187,7 @@ pub struct Entry<'a> {
 }
 
 /// A name that was moved (RFC 8881 section 18.26.2).
-#[derive(Clone, Copy, Debug, PartialEq, Eq)]
+#[derive(Clone, Copy)]
 pub struct RenameOk {
     /// The change of the directory that it left.
     pub source_cinfo: ChangeInfo,
@@ -196,7 +196,7 @@ pub struct RenameOk {
 }
 
 /// Bytes that were written (RFC 8881 section 18.32.2).
-#[derive(Clone, Copy, Debug, PartialEq, Eq)]
+#[derive(Clone, Copy)]
 pub struct WriteOk {
     /// How many bytes.
     pub count: u32,
@@ -207,7 +207,7 @@ pub struct WriteOk {
 
 /// A granted EXCHANGE_ID, with no state protection and no implementation told (RFC 8881 section 18.35.2;
 /// this server's profile).
-#[derive(Clone, Copy, Debug, PartialEq, Eq)]
+#[derive(Clone, Copy)]
 pub struct ExchangeIdOk<'a> {
     /// The client id.
     pub clientid: u64,
@@ -224,7 +224,7 @@ pub struct ExchangeIdOk<'a> {
 }
 
 /// A session that was made (RFC 8881 section 18.36.2).
-#[derive(Clone, Copy, Debug, PartialEq, Eq)]
+#[derive(Clone, Copy)]
 pub struct CreateSessionOk {
     pub sessionid: [u8; 16],
     /// The number that the call bore.
@@ -236,14 +236,14 @@ pub struct CreateSessionOk {
 }
 
 /// The security flavors of a directory, lent (RFC 8881 section 18.45.2, 18.29.2).
-#[derive(Clone, Copy, Debug, PartialEq, Eq)]
+#[derive(Clone, Copy)]
 pub struct Flavors<'a> {
     /// Each as it is spelled: big-endian. Fewer than 2^32.
     pub spelled: &'a [[u8; 4]],
 }
 
 /// An accepted SEQUENCE (RFC 8881 section 18.46.2).
-#[derive(Clone, Copy, Debug, PartialEq, Eq)]
+#[derive(Clone, Copy)]
 pub struct SequenceOk {
     pub sessionid: [u8; 16],
     pub sequenceid: u32,
@@ -255,7 +255,7 @@ pub struct SequenceOk {
 }
 
 /// What became of the stateids that were asked for, lent (RFC 8881 section 18.48.2).
-#[derive(Clone, Copy, Debug, PartialEq, Eq)]
+#[derive(Clone, Copy)]
 pub struct StatusCodes<'a> {
     /// The number of a status each, as it is spelled: big-endian. Fewer than 2^32.
     pub spelled: &'a [[u8; 4]],
