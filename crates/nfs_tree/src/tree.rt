@@ -3,6 +3,7 @@ ghost use Rattle.std.specs.Option.{option_copied};
 ghost use Rattle.nfs_tree.specs.Create.{new_tree};
 ghost use Rattle.nfs_tree.specs.Files.{object_at, is_there, is_directory_at, is_regular_at, can_change, change_of, lookup, has_name, named, parent_in, links_in};
 ghost use Rattle.nfs_tree.specs.Walks.{IsWellFormed};
+ghost use Rattle.nfs_tree.specs.Kept.{IsTree};
 
 use crate::bytes::Bytes;
 use crate::object::{FileType, Object};
@@ -114,6 +115,13 @@ impl Tree {
     /// Every tree is well formed; this does nothing but say so to proofs.
     pub fn well_formed(&self)
         ensures { IsWellFormed self.now }
+    {
+        let _ = &self.rows;
+    }
+
+    /// What every tree keeps, also what makes it well formed; this does nothing but say so to proofs.
+    pub fn kept(&self)
+        ensures { IsTree self.now }
     {
         let _ = &self.rows;
     }

@@ -1,0 +1,6 @@
+use Rattle.std.proofs.Common.{subst}
+use Rattle.nfs_tree.specs.Kept.{IsTree}
+use Rattle.nfs_tree.proofs.tree.Tree.kept.Goals as goal
+
+pub returns : goal.returns
+returns c = subst IsTree c.self.view_is c.self.invariant
