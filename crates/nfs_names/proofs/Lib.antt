@@ -1,0 +1,14 @@
+pub mod Refusing
+pub mod Faulted
+pub mod Found
+pub mod Told
+pub mod Rows
+pub mod Changing
+pub mod Renaming
+pub mod Rooted
+pub mod Bounds
+pub mod Whole
+pub mod Arms
+pub mod Entering
+pub mod Listed
+pub mod Beginning

@@ -1,0 +1,132 @@
+-- A listing is put whole, or refused where no entry fits.
+use Rattle.std.proofs.Common.{◌≡◌, ℕ, ◌+◌, ◌<◌, ◌≤◌, Bool, true, false, List, [], ◌∷◌, ◌++◌, length, take, Option, Some, None, refl, sym, ◌∙◌, ap, subst, inl, inr, arith}
+use Rattle.std.specs.Prelude.{nat_lt, ◌==◌, ◌&&◌, Ok}
+use Rattle.std.specs.List.{flat_map}
+use Rattle.std.proofs.lemmas.List.{length-append}
+use Rattle.std.proofs.lemmas.Bool.{cases_Bool, leb-true, le-leb, lt-ltb, eq-eqb, eqb-true, and_right, and_left, and_from, false_from_ne_true, false≢true, eqb-false}
+use Rattle.nfs_xdr.specs.Checks.{first_fault}
+use Rattle.nfs_xdr.specs.Paper.{Paper, Puts}
+use Rattle.nfs_xdr.specs.declared.status.Status.{Status}
+use Rattle.nfs_xdr.specs.declared.status.Status.TheVariants.{Nfs4Ok, TooSmall}
+use Rattle.nfs_compound.specs.NameArgs.{ReadDir}
+use Rattle.nfs_results.specs.Largest.{given}
+use Rattle.nfs_results.specs.Result.{Entry, ReadDirOk, ResReadDir}
+use Rattle.nfs_results.specs.Straight.{entry_head, entry_text, read_dir_head, list_end}
+use Rattle.nfs_results.specs.Items.{fattr}
+use Rattle.nfs_results.specs.Results.{spell_result, refusal, head, parts}
+use Rattle.nfs_results.proofs.Lengths.{length_head, length_spelled}
+use Rattle.nfs_results.proofs.StraightLaws.{read_dir_in_parts}
+use Rattle.nfs_xdr.specs.Spelling.{number, fixed}
+use Rattle.nfs_xdr.proofs.Putting.{length_number, puts_then}
+use Rattle.std.proofs.Math.Seq.{take-append_seam}
+use Rattle.nfs_compound.specs.declared.op_num.OpNum.TheVariants as Op
+use Rattle.nfs_names.specs.declared.context.Context.{Context}
+use Rattle.nfs_names.specs.Comes.{Comes}
+use Rattle.nfs_names.specs.Outcome.{done, passed, checked, answers}
+use Rattle.nfs_names.specs.Checks.{current}
+use Rattle.nfs_names.specs.declared.held.Held.{Held}
+use Rattle.nfs_names.specs.State.{State}
+use Rattle.nfs_names.specs.ReadDir.{longest, fits, fitting, left, zeros, listing_checks, entry_checks, listed, read_dir, Lists}
+use Rattle.nfs_names.proofs.Entering.{length_entry_head, given_least}
+
+longest_passes : {A : Type 0} (test : List A → Bool) (xs : List A) → test [] ≡ true → test (longest test xs) ≡ true
+longest_passes test [] e = e
+longest_passes test (x ∷ xs) e = elim (cases_Bool (test (x ∷ []))) [
+  | inl one ↦ rw one (longest_passes (λ more. test (x ∷ more)) xs one)
+  | inr none ↦ rw none e
+]
+
+-- what fits is within the bytes that are given
+pub fitting_within : (s : State) (a : ReadDir) (d : Held) → 16 ≤ a.maxcount → length (flat_map entry_text (fitting s a d)) + 16 ≤ given a.maxcount
+unfolding fitting
+fitting_within s a d le =
+    let least = given_least a.maxcount le in
+    leb-true _ _ (longest_passes (fits (given a.maxcount)) (left s a d) (le-leb 16 (given a.maxcount) least))
+
+-- an entry has bytes
+pub no_text : (es : List Entry) → length (flat_map entry_text es) ≡ 0 → length es ≡ 0
+no_text [] e = refl
+no_text (x ∷ es) e =
+    let head = length_entry_head x.cookie x.name in
+    let whole = length-append (entry_text x) (flat_map entry_text es) in
+    let one = length-append (entry_head x.cookie x.name) (fattr.spell x.attrs) in
+    absurd (omega arith)
+
+pub too_small : (s : State) (a : ReadDir) (d : Held) → false ≡ (length (fitting s a d) == length (left s a d)) → length (flat_map entry_text (fitting s a d)) ≡ 0 → first_fault (entry_checks s a d) ≡ Some TooSmall
+too_small s a d part none =
+    let empty = no_text (fitting s a d) none in
+    let some : 0 < length (left s a d) = elim (cases_Bool (length (left s a d) == 0)) [
+      | inl zero ↦ absurd (let z : length (left s a d) ≡ 0 = eqb-true _ _ zero in false≢true (part ∙ eq-eqb (length (fitting s a d)) (length (left s a d)) (empty ∙ sym z)))
+      | inr more ↦ (let m = eqb-false _ _ more in omega arith)
+    ] in
+    let both : (nat_lt 0 (length (left s a d)) && (length (fitting s a d) == 0)) ≡ true = and_from _ _ (lt-ltb 0 _ some) (eq-eqb _ _ empty) in
+    rw both refl
+
+pub all_small : (s : State) (a : ReadDir) (d : Held) → true ≡ (length (fitting s a d) == length (left s a d)) → first_fault (entry_checks s a d) ≡ None
+all_small s a d whole =
+    let same : length (fitting s a d) ≡ length (left s a d) = eqb-true _ _ (sym whole) in
+    let none : (nat_lt 0 (length (left s a d)) && (length (fitting s a d) == 0)) ≡ false = elim (cases_Bool (length (fitting s a d) == 0)) [
+      | inl zero ↦ (let z : length (fitting s a d) ≡ 0 = eqb-true _ _ zero in let l : length (left s a d) ≡ 0 = sym same ∙ z in and_left _ _ (ap (nat_lt 0) l))
+      | inr more ↦ and_right _ _ more
+    ] in
+    rw none refl
+
+pub some_small : (s : State) (a : ReadDir) (d : Held) → (length (flat_map entry_text (fitting s a d)) ≡ 0 → ⊥) → first_fault (entry_checks s a d) ≡ None
+some_small s a d some =
+    let none : (nat_lt 0 (length (left s a d)) && (length (fitting s a d) == 0)) ≡ false = and_right _ _ (false_from_ne_true _ (λ e. some (empty_text (fitting s a d) (eqb-true _ _ e)))) in
+    rw none refl
+  where
+    empty_text : (es : List Entry) → length es ≡ 0 → length (flat_map entry_text es) ≡ 0
+    empty_text [] e = refl
+    empty_text (x ∷ es) e = absurd (omega arith)
+
+pub lists_some : (answer status : Status) (o : Option Status) (entries : ReadDirOk) (old new : Paper) → o ≡ Some status → answer ≡ status → Puts old new (spell_result (refusal 26 status)) → Lists answer o entries old new
+lists_some answer status o entries old new is same put = subst (λ o. Lists answer o entries old new) (sym is) (same, put)
+
+pub lists_none : (answer : Status) (o : Option Status) (entries : ReadDirOk) (old new : Paper) → o ≡ None → answer ≡ Nfs4Ok → Puts old new (spell_result (ResReadDir entries)) → Lists answer o entries old new
+lists_none answer o entries old new is same put = subst (λ o. Lists answer o entries old new) (sym is) (same, put)
+
+pub front_length : length (read_dir_head zeros) ≡ 16
+front_length = length-append (head 26 Nfs4Ok) (fixed zeros) ∙ ap (λ n. n + length (fixed zeros)) (length_head 26 Nfs4Ok)
+
+pub end_length : (eof : Bool) → length (list_end eof) ≡ 8
+end_length true = omega (arith, length-append (number 0) (number 1), length_number 0, length_number 1)
+end_length false = omega (arith, length-append (number 0) (number 0), length_number 0)
+
+-- what was put behind the old bytes is taken back
+pub taken_back : (old mid last : Paper) (a b : List ℕ) (start : ℕ) → Puts old mid a → Puts mid last b → start ≡ length old.bytes → record { bytes = take start last.bytes; room = last.room } ≡ old
+taken_back old mid last a b start p q is =
+    let whole : last.bytes ≡ old.bytes ++ (a ++ b) = (puts_then p q).bytes in
+    let bytes : take start last.bytes ≡ old.bytes = ap (λ n. take n last.bytes) is ∙ ap (take (length old.bytes)) whole ∙ take-append_seam old.bytes (a ++ b) in
+    let with_bytes : List ℕ → ℕ → Paper = λ bytes room. record { bytes = bytes; room = room } in
+    ap (λ bytes. with_bytes bytes last.room) bytes ∙ ap (with_bytes old.bytes) (q.room ∙ p.room)
+
+pub listed_whole : (s : State) (a : ReadDir) (d : Held) (old mid out new : Paper) (whole : Bool) → Puts old mid (read_dir_head zeros) → Puts mid out (flat_map entry_text (fitting s a d)) → Puts out new (list_end whole)
+    → whole ≡ (length (fitting s a d) == length (left s a d)) → Puts old new (spell_result (ResReadDir (listed s a d)))
+listed_whole s a d old mid out new whole p q r eof =
+    subst (Puts old new)
+    (ap (λ e. read_dir_head zeros ++ (flat_map entry_text (fitting s a d) ++ list_end e)) eof ∙ sym (read_dir_in_parts (listed s a d)))
+    (puts_then p (puts_then q r))
+
+-- a listing that was put is what READDIR comes to
+pub listing_comes : (s : State) (x : Context) (a : ReadDir) (d : Held) (answer : Status) (old new : Paper) → checked (current s x) (listing_checks x a) ≡ Ok d → Lists answer (first_fault (entry_checks s a d)) (listed s a d) old new
+    → Comes (read_dir s x a) old new answer s x
+unfolding read_dir
+listing_comes s x a d answer old new v lists =
+    subst (λ v. Comes (answers s x Op.ReadDir (checked v (entry_checks s a)) (λ d. done s x (ResReadDir (listed s a d)))) old new answer s x) (sym v)
+    (by_fault (first_fault (entry_checks s a d)) lists)
+  where
+    by_fault : (o : Option Status) → Lists answer o (listed s a d) old new → Comes (answers s x Op.ReadDir (passed d o) (λ d. done s x (ResReadDir (listed s a d)))) old new answer s x
+    by_fault None l = record { put = l.1; status = l.0; state = refl; context = refl }
+    by_fault (Some status) l = record { put = l.1; status = l.0; state = refl; context = refl }
+
+-- all behind the status is within the bytes that are given
+pub listed_within : (s : State) (a : ReadDir) (d : Held) → 16 ≤ a.maxcount → length (parts (ResReadDir (listed s a d))).behind ≤ given a.maxcount
+listed_within s a d le =
+    let text = flat_map entry_text (fitting s a d) in
+    let eof = length (fitting s a d) == length (left s a d) in
+    let whole = ap length (read_dir_in_parts (listed s a d)) ∙ length-append (read_dir_head zeros) (text ++ list_end eof) in
+    let behind = length-append text (list_end eof) in
+    let spelled = length_spelled (ResReadDir (listed s a d)) in
+    let few = fitting_within s a d le in
+    omega (arith, front_length, end_length eof)

@@ -1,0 +1,58 @@
+-- What is told of masks, and room for what is put part by part.
+use Rattle.std.proofs.Common.{◌≡◌, ℕ, suc, inl, inr, ◌+◌, ◌≤◌, true, false, cond, List, [], ◌∷◌, length, get_or, drop, refl, ◌∙◌, ap, arith}
+use Rattle.std.specs.Prelude.{◌==◌, ◌&&◌}
+use Rattle.std.proofs.lemmas.Bool.{ne_eqb, and_right, cases_Bool}
+use Rattle.std.proofs.lemmas.List.{length-append, length-take}
+use Rattle.nfs_tree.specs.Files.{Files, data_at}
+use Rattle.nfs_tree.specs.Bytes.{part}
+use Rattle.nfs_xdr.specs.Paper.{Paper, HasRoom, Puts}
+use Rattle.nfs_results.specs.View.{before, trimmed}
+use Rattle.nfs_results.specs.Items.{attr_set, fattr}
+use Rattle.nfs_tree.specs.declared.object.Object.{Object}
+use Rattle.nfs_attrs.specs.declared.about.About.{About}
+use Rattle.nfs_attrs.specs.declared.mask.Mask.{Mask}
+use Rattle.nfs_attrs.specs.Mask.{before_zero, without_last_zeros, told, common}
+use Rattle.nfs_attrs.specs.Attributes.{readable, values, spell_attrs}
+
+same_before : (word : ℕ) (words : List ℕ) → before word words ≡ before_zero word words
+same_before word [] = elim (word == 0) as (λ b. cond b [] (word ∷ []) ≡ cond (b && true) [] (word ∷ [])) [ true ↦ refl | false ↦ refl ]
+same_before word (next ∷ words) =
+    let some : (length (next ∷ words) == 0) ≡ false = ne_eqb (length (next ∷ words)) 0 (λ e. omega arith) in
+    let off : ((word == 0) && (length (next ∷ words) == 0)) ≡ false = and_right (word == 0) _ some in
+    rw off refl
+
+same_trimmed : (words : List ℕ) → trimmed words ≡ without_last_zeros words
+same_trimmed [] = refl
+same_trimmed (word ∷ words) = same_before word (trimmed words) ∙ ap (before_zero word) (same_trimmed words)
+
+-- three words of a mask, as a result has them
+pub told_words : (words : List ℕ) → length words ≡ 3 → trimmed (get_or words 0 0 ∷ get_or words 1 0 ∷ get_or words 2 0 ∷ []) ≡ without_last_zeros words
+told_words [] e = absurd cc
+told_words (a ∷ []) e = absurd (omega arith)
+told_words (a ∷ b ∷ []) e = absurd (omega arith)
+told_words (a ∷ b ∷ c ∷ []) e = same_trimmed (a ∷ b ∷ c ∷ [])
+told_words (a ∷ b ∷ c ∷ d ∷ more) e = absurd (omega arith)
+
+-- room for the next part
+pub room_then : (old mid : Paper) (a b : List ℕ) (n : ℕ) → Puts old mid a → length a + length b ≤ n → length old.bytes + n ≤ old.room → HasRoom mid b
+room_then old mid a b n put short room = omega (arith, put.room, ap length put.bytes ∙ length-append old.bytes a)
+
+fewer : (word : ℕ) (words : List ℕ) (n : ℕ) → length words ≤ n → length (before_zero word words) ≤ suc n
+fewer word words n le = elim (cases_Bool ((word == 0) && (length words == 0))) [ inl off ↦ rw off (omega arith) | inr on ↦ rw on (omega arith) ]
+
+pub few_words : (words : List ℕ) → length (without_last_zeros words) ≤ length words
+few_words [] = omega arith
+few_words (word ∷ words) = fewer word (without_last_zeros words) (length words) (few_words words)
+
+-- a mask that is told has at most three words
+pub told_few : (a b : Mask) → length (told (common a b)) ≤ 3
+told_few a b = few_words (common a b).words
+
+-- attributes are spelled like those of a result
+pub attributes_spelled : (asked : Mask) (a : About) (o : Object) → spell_attrs asked a o ≡ fattr.spell (record { attrmask = told (common asked readable); attr_vals = values asked a o })
+unfolding fattr attr_set
+attributes_spelled asked a o = refl
+
+-- no more bytes than asked for
+pub part_few : (t : Files) (n count : ℕ) → length (part t n 0 count) ≤ count
+part_few t n count = omega (arith, length-take count (drop 0 (data_at t n)))

@@ -1,0 +1,144 @@
+-- What every operation keeps: its result is one that it may have, and directories stay rooted.
+use Rattle.std.proofs.Common.{◌≡◌, ◌+◌, ◌≤◌, Bool, true, false, cond, length, refl, ◌∙◌, ap, arith}
+use Rattle.std.specs.Prelude.{Result, Ok, Err, ◌&&◌}
+use Rattle.nfs_xdr.specs.declared.time.Time.{Time}
+use Rattle.nfs_xdr.specs.declared.status.Status.{Status}
+use Rattle.nfs_xdr.specs.declared.status.Status.TheVariants.{Delay}
+use Rattle.nfs_compound.specs.NameArgs as args
+use Rattle.nfs_compound.specs.Arguments.{arguments}
+use Rattle.nfs_compound.specs.declared.op_num.OpNum.{OpNum}
+use Rattle.nfs_compound.specs.declared.op_num.OpNum.TheVariants as Num
+use Rattle.nfs_compound.specs.OpNum.{op_number}
+use Rattle.nfs_compound.specs.Operation.{Op, Item, Operation, Fault, OpAccess, OpCreate, OpGetAttr, OpGetFh, OpLink, OpLookup, OpLookupP, OpNVerify, OpPutFh, OpPutPubFh, OpPutRootFh, OpReadDir, OpReadLink, OpRemove, OpRename, OpRestoreFh, OpSaveFh, OpSecinfoNoName, OpVerify}
+use Rattle.nfs_results.specs.Result.{Res}
+use Rattle.nfs_results.specs.Results.{refusal}
+use Rattle.nfs_names.proofs.Bounds.{IsAnswer}
+use Rattle.nfs_results.specs.Largest.{largest}
+use Rattle.nfs_results.specs.Results.{spell_result, IsBounded}
+use Rattle.nfs_results.proofs.Lengths.{length_result}
+use Rattle.nfs_xdr.specs.Paper.{Paper, HasRoom, Puts}
+use Rattle.std.proofs.lemmas.List.{length-append}
+use Rattle.nfs_tree.specs.Kept.{IsTree}
+use Rattle.nfs_tree.specs.Names.{moves}
+use Rattle.nfs_names.specs.declared.context.Context.{Context}
+use Rattle.nfs_names.specs.declared.held.Pair.{Pair}
+use Rattle.nfs_names.specs.State.{State, IsRooted}
+use Rattle.nfs_names.specs.Outcome.{Outcome, refuses, checked, answers, or_delay, is_ok}
+use Rattle.nfs_names.specs.Operation.{one, grows, on_names, is_on_names, comes_to, one_or_delay}
+use Rattle.nfs_names.specs.Access.{access}
+use Rattle.nfs_names.specs.Create.{new_of, sets_of, asked_for, row_checks, created, create}
+use Rattle.nfs_names.specs.GetAttr.{get_attr}
+use Rattle.nfs_names.specs.GetFh.{get_fh}
+use Rattle.nfs_names.specs.Link.{link}
+use Rattle.nfs_names.specs.Lookup.{lookup}
+use Rattle.nfs_names.specs.LookupP.{lookup_p}
+use Rattle.nfs_names.specs.NVerify.{nverify}
+use Rattle.nfs_names.specs.PutFh.{put_fh}
+use Rattle.nfs_names.specs.PutPubFh.{put_pub_fh}
+use Rattle.nfs_names.specs.PutRootFh.{put_root_fh}
+use Rattle.nfs_names.specs.ReadDir.{read_dir}
+use Rattle.nfs_names.specs.ReadLink.{read_link}
+use Rattle.nfs_names.specs.Remove.{remove}
+use Rattle.nfs_names.specs.Rename.{move_of, moved, unmoved, rename}
+use Rattle.nfs_names.specs.RestoreFh.{restore_fh}
+use Rattle.nfs_names.specs.SaveFh.{save_fh}
+use Rattle.nfs_names.specs.SecinfoNoName.{secinfo_no_name}
+use Rattle.nfs_names.specs.Verify.{verify}
+use Rattle.nfs_names.proofs.Bounds as bound
+use Rattle.nfs_names.proofs.Rooted.{rooted_new, rooted_link, rooted_removed, rooted_moved}
+
+delay_may : (b : Bool) (s : State) (x : Context) (op : OpNum) (o : Outcome) (P : Res → Type 0) → P o.result → P (refusal (op_number op) Delay) → P (or_delay b s x op o).result
+delay_may b s x op o P done delayed = elim (b && is_ok o.result) as (λ k. P (cond k (refuses s x op Delay) o).result) [ true ↦ delayed | false ↦ done ]
+
+-- by the operation
+pub may_come : (b : Bool) (s : State) (x : Context) (now : Time) (op : Op) → is_on_names op ≡ true → IsAnswer (Operation op) (one_or_delay b s x now op).result
+may_come b s x now (OpAccess asked) e = bound.may_access s x asked
+may_come b s x now (OpCreate c) e = delay_may (true && b) s x Num.Create (create s x now c) (IsAnswer (Operation (OpCreate c))) (bound.may_create s x now c) (record { may = (refl, refl, tt); arrays = tt })
+may_come b s x now (OpGetAttr mask) e = bound.may_get_attr s x mask
+may_come b s x now OpGetFh e = bound.may_get_fh s x
+may_come b s x now (OpLink name) e = delay_may (true && b) s x Num.Link (link s x now name) (IsAnswer (Operation (OpLink name))) (bound.may_link s x now name) (record { may = (refl, refl, tt); arrays = tt })
+may_come b s x now (OpLookup name) e = bound.may_lookup s x name
+may_come b s x now OpLookupP e = bound.may_lookup_p s x
+may_come b s x now (OpNVerify a) e = bound.may_nverify s x a
+may_come b s x now (OpPutFh object) e = bound.may_put_fh s x object
+may_come b s x now OpPutPubFh e = bound.may_put_pub_fh s x
+may_come b s x now OpPutRootFh e = bound.may_put_root_fh s x
+may_come b s x now (OpReadDir a) e = bound.may_read_dir s x a
+may_come b s x now OpReadLink e = bound.may_read_link s x
+may_come b s x now (OpRemove name) e = bound.may_remove s x now name
+may_come b s x now (OpRename a) e = delay_may (grows s x (OpRename a) && b) s x Num.Rename (rename s x now a) (IsAnswer (Operation (OpRename a))) (bound.may_rename s x now a) (record { may = (refl, refl, tt); arrays = tt })
+may_come b s x now OpRestoreFh e = bound.may_restore_fh s x
+may_come b s x now OpSaveFh e = bound.may_save_fh s x
+may_come b s x now (OpSecinfoNoName style) e = bound.may_secinfo_no_name s x style
+may_come b s x now (OpVerify a) e = bound.may_verify s x a
+may_come b s x now op e = absurd cc
+
+-- the tree after an operation
+answers_state : {A : Type 0} (P : State → Type 0) (s : State) (x : Context) (op : OpNum) (v : Result A Status) (f : A → Outcome) → P s → ((a : A) → P (f a).state) → P (answers s x op v f).state
+answers_state P s x op (Err status) f same done = same
+answers_state P s x op (Ok a) f same done = done a
+
+delay_state : (P : State → Type 0) (b : Bool) (s : State) (x : Context) (op : OpNum) (o : Outcome) → P s → P o.state → P (or_delay b s x op o).state
+delay_state P b s x op o same done = elim (b && is_ok o.result) as (λ k. P (cond k (refuses s x op Delay) o).state) [ true ↦ same | false ↦ done ]
+
+record Rooted (s : State) : Type 0 where
+  all : IsRooted s.tree
+
+rooted_rename : (s : State) (x : Context) (now : Time) (a : args.Rename) (p : Pair) (b : Bool) → IsTree s.tree → IsRooted s.tree → IsRooted (cond b (moved s x now a p) (unmoved s x p)).state.tree
+rooted_rename s x now a p true is r = rooted_moved s.tree (move_of a p) now is r
+rooted_rename s x now a p false is r = r
+
+rooted_one : (s : State) (x : Context) (now : Time) (op : Op) → is_on_names op ≡ true → IsTree s.tree → IsRooted s.tree → Rooted s → Rooted (one s x now op).state
+unfolding access create get_attr get_fh link lookup lookup_p nverify put_fh put_pub_fh put_root_fh read_dir read_link remove rename restore_fh save_fh secinfo_no_name verify
+rooted_one s x now (OpAccess asked) e is r same = answers_state Rooted s x Num.Access _ _ same (λ d. same)
+rooted_one s x now (OpCreate c) e is r same =
+    answers_state Rooted s x Num.Create (checked (asked_for s x c) (row_checks s c.objname)) (created s x now c) same
+    (λ m. record { all = rooted_new s.tree m.place.number c.objname (new_of c.objtype) (sets_of x now (new_of c.objtype) m.wanted) now r })
+rooted_one s x now (OpGetAttr mask) e is r same = answers_state Rooted s x Num.GetAttr _ _ same (λ d. same)
+rooted_one s x now OpGetFh e is r same = answers_state Rooted s x Num.GetFh _ _ same (λ d. same)
+rooted_one s x now (OpLink name) e is r same = answers_state Rooted s x Num.Link _ _ same (λ p. record { all = rooted_link s.tree _ _ name now r })
+rooted_one s x now (OpLookup name) e is r same = answers_state Rooted s x Num.Lookup _ _ same (λ d. same)
+rooted_one s x now OpLookupP e is r same = answers_state Rooted s x Num.LookupP _ _ same (λ d. same)
+rooted_one s x now (OpNVerify a) e is r same = answers_state Rooted s x Num.NVerify _ _ same (λ d. same)
+rooted_one s x now (OpPutFh object) e is r same = answers_state Rooted s x Num.PutFh _ _ same (λ d. same)
+rooted_one s x now OpPutPubFh e is r same = same
+rooted_one s x now OpPutRootFh e is r same = same
+rooted_one s x now (OpReadDir a) e is r same = answers_state Rooted s x Num.ReadDir _ _ same (λ d. same)
+rooted_one s x now OpReadLink e is r same = answers_state Rooted s x Num.ReadLink _ _ same (λ d. same)
+rooted_one s x now (OpRemove name) e is r same = answers_state Rooted s x Num.Remove _ _ same (λ d. record { all = rooted_removed s.tree d.number name now is r })
+rooted_one s x now (OpRename a) e is r same = answers_state Rooted s x Num.Rename _ _ same (λ p. record { all = rooted_rename s x now a p (moves s.tree (move_of a p)) is r })
+rooted_one s x now OpRestoreFh e is r same = answers_state Rooted s x Num.RestoreFh _ _ same (λ d. same)
+rooted_one s x now OpSaveFh e is r same = answers_state Rooted s x Num.SaveFh _ _ same (λ d. same)
+rooted_one s x now (OpSecinfoNoName style) e is r same = answers_state Rooted s x Num.SecinfoNoName _ _ same (λ d. same)
+rooted_one s x now (OpVerify a) e is r same = answers_state Rooted s x Num.Verify _ _ same (λ d. same)
+rooted_one s x now op e is r same = absurd cc
+
+may_item : (b : Bool) (s : State) (x : Context) (now : Time) (i : Item) → on_names i ≡ true → IsAnswer i (comes_to b s x now i).result
+may_item b s x now (Operation op) e = may_come b s x now op e
+may_item b s x now (Fault n st) e = absurd cc
+
+rooted_item : (b : Bool) (s : State) (x : Context) (now : Time) (i : Item) → on_names i ≡ true → IsTree s.tree → IsRooted s.tree → IsRooted (comes_to b s x now i).state.tree
+rooted_item b s x now (Operation op) e is r =
+    (delay_state Rooted (grows s x op && b) s x (arguments op).op (one s x now op) (record { all = r }) (rooted_one s x now op e is r (record { all = r }))).all
+rooted_item b s x now (Fault n st) e is r = absurd cc
+
+-- What every operation on names keeps.
+pub record Keeps (b : Bool) (s : State) (x : Context) (now : Time) (i : Item) : Type 0 where
+  pub may : IsAnswer i (comes_to b s x now i).result
+  pub rooted : IsRooted (comes_to b s x now i).state.tree
+
+pub keeps : (b : Bool) (s : State) (x : Context) (now : Time) (i : Item) → on_names i ≡ true → IsTree s.tree → IsRooted s.tree → Keeps b s x now i
+keeps b s x now i e is r = record { may = may_item b s x now i e; rooted = rooted_item b s x now i e is r }
+
+-- so it is within its largest size
+pub within : (i : Item) (r : Res) (old new : Paper) → IsAnswer i r → Puts old new (spell_result r) → length new.bytes ≤ length old.bytes + largest i
+within i r old new is put =
+    let small = length_result i r is.arrays is.may in
+    omega (arith, ap length put.bytes ∙ length-append old.bytes (spell_result r))
+
+pub bounded_may : (i : Item) (r : Res) → IsAnswer i r → IsBounded r
+bounded_may (Operation op) r is = is.may.1
+bounded_may (Fault n st) r is = is.may.1
+
+pub room_may : (i : Item) (r : Res) (paper : Paper) → IsAnswer i r → length paper.bytes + largest i ≤ paper.room → HasRoom paper (spell_result r)
+room_may i r paper is room = let small = length_result i r is.arrays is.may in omega arith

@@ -1,0 +1,73 @@
+use Rattle.std.proofs.Common.{◌≡◌, not, sym, ap, ◌∙◌, false}
+use Rattle.std.specs.Prelude.{Ok, ◌==◌}
+use Rattle.nfs_compound.specs.declared.op_num.OpNum.TheVariants as Op
+use Rattle.nfs_results.specs.declared.res.ChangeInfo.{ChangeInfo}
+use Rattle.nfs_results.specs.Result.{Res, ResRemove, Refused}
+use Rattle.nfs_tree.specs.declared.row.Row.{Row}
+use Rattle.nfs_tree.specs.declared.done.Removed.{Removed}
+use Rattle.nfs_tree.specs.Files.{Files, is_entry, named, has_entries}
+use Rattle.nfs_tree.specs.Did.{raised}
+use Rattle.nfs_tree.specs.Names.{remove_fault, without_name}
+use Rattle.nfs_tree.proofs.Trees.{remove_granted}
+use Rattle.nfs_names.specs.State.{state_of, with_tree, without_unnamed}
+use Rattle.nfs_names.specs.Outcome.{Outcome, checked}
+use Rattle.nfs_names.specs.Checks.{current}
+use Rattle.nfs_names.specs.Create.{change_info}
+use Rattle.nfs_names.specs.Faults.{status_of}
+use Rattle.nfs_names.specs.Remove.{place_checks, row_checks, removed, remove}
+use Rattle.nfs_names.proofs.Rows.{none_filtered}
+use Rattle.nfs_names.proofs.Changing.{remove_goes, remove_stops}
+use Rattle.nfs_names.proofs.Faulted.{did_ok, does_err, by_error}
+use Rattle.nfs_names.proofs.making.remove.Goals as goal
+
+pub drop_unnamed-requires : goal.drop_unnamed-requires
+drop_unnamed-requires c =
+    let t = c.args.store.now.tree in
+    let d = c.in-Ok.d.number in
+    let name = c.args.name.now in
+    let n = named t d name in
+    let did = did_ok t (remove_fault t d name) (record { number = n; directory = raised t d }) c.in-Ok-remove.removed (without_name t d name c.args.now) c.remove.new.self c.in-Ok-remove.ensures.answer c.in-Ok-remove.ensures.after in
+    let empty = (remove_granted t d name did.0).1 in
+    let gone : has_entries (without_name t d name c.args.now).rows n ≡ false = none_filtered (λ (r : Row). r.directory == n) (λ r. not (is_entry d name r)) t.rows empty in
+    ap (λ (u : Files). has_entries u.rows c.in-Ok-remove.removed.number) did.2 ∙ ap (λ (k : Removed). has_entries (without_name t d name c.args.now).rows k.number) did.1 ∙ gone
+
+pub returns-in-Ok-remove : goal.returns-in-Ok-remove
+returns-in-Ok-remove c =
+    let s = state_of c.args.store.now in
+    let x = c.args.context.now in
+    let t = s.tree in
+    let now = c.args.now in
+    let d = c.in-Ok.d in
+    let name = c.args.name.now in
+    let n = named t d.number name in
+    let v : checked (current s x) (place_checks x name) ≡ Ok d = sym c.judge_remove.ensures ∙ c.in-Ok.is in
+    let did = did_ok t (remove_fault t d.number name) (record { number = n; directory = raised t d.number }) c.in-Ok-remove.removed (without_name t d.number name now) c.remove.new.self c.in-Ok-remove.ensures.answer c.in-Ok-remove.ensures.after in
+    let outcome : ChangeInfo → Files → Outcome = λ info t. record { result = ResRemove info; state = with_tree s t; context = x } in
+    ap (λ info. outcome info c.drop_unnamed.new.tree) (c.change_info.ensures ∙ ap (λ (k : Removed). change_info k.directory) did.1)
+    ∙ ap (outcome (change_info (raised t d.number))) (c.drop_unnamed.ensures ∙ ap (λ u. without_unnamed u c.in-Ok-remove.removed.number) did.2 ∙ ap (λ (k : Removed). without_unnamed (without_name t d.number name now) k.number) did.1)
+    ∙ sym (remove_goes s x now name d v did.0)
+
+pub returns-in-Err-remove : goal.returns-in-Err-remove
+returns-in-Err-remove c =
+    let s = state_of c.args.store.now in
+    let x = c.args.context.now in
+    let t = s.tree in
+    let now = c.args.now in
+    let d = c.in-Ok.d in
+    let name = c.args.name.now in
+    let f = c.in-Err-remove.fault in
+    let v : checked (current s x) (place_checks x name) ≡ Ok d = sym c.judge_remove.ensures ∙ c.in-Ok.is in
+    let did = does_err t (remove_fault t d.number name) (record { number = named t d.number name; directory = raised t d.number }) (without_name t d.number name now) c.remove.new.self f c.in-Err-remove.ensures.answer c.in-Err-remove.ensures.after in
+    let outcome : Res → Files → Outcome = λ r t. record { result = r; state = with_tree s t; context = x } in
+    ap (λ r. outcome r c.remove.new.self) (c.refuse.ensures ∙ ap (Refused 28) c.status_of.ensures) ∙ ap (outcome (Refused 28 (status_of f))) did.1
+    ∙ sym (remove_stops s x now name d f v did.0)
+
+pub returns-in-Err : goal.returns-in-Err
+unfolding remove
+returns-in-Err c =
+    let s = state_of c.args.store.now in
+    let x = c.args.context.now in
+    let name = c.args.name.now in
+    let outcome : Res → Outcome = λ r. record { result = r; state = s; context = x } in
+    ap outcome c.refuse-in-Err.ensures
+    ∙ sym (by_error s x Op.Remove (checked (current s x) (place_checks x name)) (row_checks s name) (removed s x c.args.now name) c.in-Err.status (sym c.judge_remove.ensures ∙ c.in-Err.is))

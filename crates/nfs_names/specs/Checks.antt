@@ -1,0 +1,80 @@
+-- Checks that several operations share, each once.
+use Rattle.std.specs.Prelude.{ℕ, ◌==◌, ◌||◌, Bool, not, List, [], ◌∷◌, length, nat_lt, Option, Some, None, Result, Ok, Err, is_some, bytes_eq, unwrap_or}
+use Rattle.std.specs.List.{list_any}
+use Rattle.nfs_xdr.specs.Caller.{caller}
+use Rattle.nfs_xdr.specs.declared.status.Status.{Status}
+use Rattle.nfs_xdr.specs.declared.status.Status.TheVariants.{Access, NotDir, Inval, NameTooLong, Stale, NoFileHandle, BadChar, BadName, NoEnt}
+use Rattle.nfs_tree.specs.declared.object.Object.{Object}
+use Rattle.nfs_tree.specs.Object.{is_directory}
+use Rattle.nfs_tree.specs.Files.{most_name, object_at, parent_in}
+use Rattle.nfs_attrs.specs.declared.permission.Want.{Want}
+use Rattle.nfs_attrs.specs.Permissions.{may}
+use Rattle.nfs_names.specs.declared.context.Context.{Context}
+use Rattle.nfs_names.specs.declared.context.Saved.{Saved}
+use Rattle.nfs_names.specs.declared.held.Held.{Held}
+use Rattle.nfs_names.specs.declared.held.Pair.{Pair}
+use Rattle.nfs_names.specs.State.{State}
+
+-- A filehandle is wanted and there is none, or its object is gone (RFC 8881 sections 15.1.2.5 and 15.1.2.9).
+abbrev pub held_as : ℕ → Option Object → Result Held Status
+held_as n None = Err Stale
+held_as n (Some o) = Ok (record { number = n; object = o })
+
+abbrev pub held : State → Option ℕ → Result Held Status
+held s None = Err NoFileHandle
+held s (Some n) = held_as n (object_at s.tree n)
+
+abbrev pub saved_object : Option Saved → Option ℕ
+saved_object None = None
+saved_object (Some saved) = Some saved.object
+
+-- the object of the current filehandle
+unfoldable pub current : State → Context → Result Held Status
+current s x = held s x.current
+
+-- the objects of the current filehandle and of the saved one: the current one is looked at first
+abbrev pub paired : Held → Result Held Status → Result Pair Status
+paired d (Err status) = Err status
+paired d (Ok e) = Ok (record { current = d; saved = e })
+
+abbrev pub both_of : Result Held Status → Result Held Status → Result Pair Status
+both_of (Err status) saved = Err status
+both_of (Ok d) saved = paired d saved
+
+unfoldable pub both : State → Context → Result Pair Status
+both s x = both_of (current s x) (held s (saved_object x.saved))
+
+abbrev pub no_directory : Held → Bool × Status
+no_directory d = (not (is_directory d.object.kind), NotDir)
+
+-- whether the permission bits let the caller do it
+unfoldable pub permits : Context → Held → Want → Bool
+permits x d want = may d.object (caller x.who) want
+
+abbrev pub denied : Context → Held → Want → Bool × Status
+denied x d want = (not (permits x d want), Access)
+
+-- the directory in which an object stands: the root stands in none
+abbrev pub has_parent : State → Held → Bool
+has_parent s d = is_some (parent_in s.tree.rows d.number)
+
+abbrev pub parent : State → Held → ℕ
+parent s d = unwrap_or (parent_in s.tree.rows d.number) 0
+
+abbrev pub no_parent : State → Held → Bool × Status
+no_parent s d = (not (has_parent s d), NoEnt)
+
+-- The four checks of a name (component4, RFC 8881 sections 14.3 and 15.1.7): `/` and a zero byte stand in none, and `.` and `..` are none.
+abbrev pub is_barred : ℕ → Bool
+is_barred byte = byte == 0x2f || byte == 0
+
+abbrev pub is_dots : List ℕ → Bool
+is_dots name = bytes_eq name (0x2e ∷ []) || bytes_eq name (0x2e ∷ 0x2e ∷ [])
+
+abbrev pub name_checks : List ℕ → List (Bool × Status)
+name_checks name =
+    (length name == 0, Inval)
+    ∷ (nat_lt most_name (length name), NameTooLong)
+    ∷ (list_any is_barred name, BadChar)
+    ∷ (is_dots name, BadName)
+    ∷ []

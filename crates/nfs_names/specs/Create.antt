@@ -1,0 +1,123 @@
+-- CREATE (RFC 8881 section 18.4): a directory or a symbolic link is made, and becomes the current filehandle's object.
+use Rattle.std.specs.Prelude.{ℕ, ◌+◌, ◌==◌, Bool, true, false, not, ◌&&◌, List, [], ◌∷◌, ◌++◌, length, nat_lt, nat_le, Some, Result, Ok, Err, is_some, unwrap_or, option_map}
+use Rattle.nfs_xdr.specs.Caller.{caller}
+use Rattle.nfs_xdr.specs.declared.time.Time.{Time}
+use Rattle.nfs_xdr.specs.declared.status.Status.{Status}
+use Rattle.nfs_xdr.specs.declared.status.Status.TheVariants.{Inval, NameTooLong, BadType, Exist, NoSpc, ServerFault}
+use Rattle.nfs_compound.specs.declared.op_num.OpNum.TheVariants as Op
+use Rattle.nfs_compound.specs.Attributes.{Attributes}
+use Rattle.nfs_compound.specs.NameArgs.{Create, CreateType, Block, Character, Symlink, Other}
+use Rattle.nfs_results.specs.declared.res.ChangeInfo.{ChangeInfo}
+use Rattle.nfs_results.specs.Result.{ResCreate}
+use Rattle.nfs_tree.specs.declared.change.Change.{Change}
+use Rattle.nfs_tree.specs.declared.sets.Sets.{Sets}
+use Rattle.nfs_tree.specs.Files.{Files, last_count, most_objects, most_text, has_name, can_change}
+use Rattle.nfs_tree.specs.Create.{New, Directory, Link, with_new}
+use Rattle.nfs_tree.specs.Did.{raised}
+use Rattle.nfs_attrs.specs.declared.set_time.SetTime.{SetTime}
+use Rattle.nfs_attrs.specs.declared.set_time.SetTime.TheVariants.{Now, Given}
+use Rattle.nfs_attrs.specs.declared.wanted.Wanted.{Wanted}
+use Rattle.nfs_attrs.specs.declared.wanted.AttrFault.{AttrFault}
+use Rattle.nfs_attrs.specs.Mask.{mask_of, told}
+use Rattle.nfs_attrs.specs.Reading.{read_attrs, fault_status}
+use Rattle.nfs_attrs.specs.Setting.{make_checks}
+use Rattle.nfs_attrs.specs.Permissions.{change}
+use Rattle.nfs_names.specs.declared.context.Context.{Context}
+use Rattle.nfs_names.specs.declared.held.Held.{Held}
+use Rattle.nfs_names.specs.declared.making.Making.{Making}
+use Rattle.nfs_names.specs.State.{State, with_tree}
+use Rattle.nfs_names.specs.Context.{at_object}
+use Rattle.nfs_names.specs.Outcome.{Outcome, checked, answers}
+use Rattle.nfs_names.specs.Checks.{current, no_directory, denied, name_checks}
+
+-- Directories and links are made; a number that is no type's is read like one that has nothing behind it.
+abbrev pub is_made : CreateType → Bool
+is_made (Block d) = false
+is_made (Character d) = false
+is_made (Symlink text) = true
+is_made (Other type) = type == 2
+
+abbrev pub text_is : (ℕ → Bool) → CreateType → Bool
+text_is test (Block d) = false
+text_is test (Character d) = false
+text_is test (Symlink text) = test (length text)
+text_is test (Other type) = false
+
+abbrev pub new_of : CreateType → New
+new_of (Block d) = Directory
+new_of (Character d) = Directory
+new_of (Symlink text) = Link text
+new_of (Other type) = Directory
+
+-- what its mode is where none is given: rwxr-xr-x for a directory, rwxrwxrwx for a link (profile)
+abbrev pub plain_mode : New → ℕ
+plain_mode (Link text) = 511
+plain_mode other = 493
+
+-- first the place, the type and the name are looked at ..
+abbrev pub place_checks : Context → Create → Held → List (Bool × Status)
+place_checks x c d =
+    no_directory d
+    ∷ denied x d change
+    ∷ (not (is_made c.objtype), BadType)
+    ∷ (text_is (λ n. n == 0) c.objtype, Inval)
+    ∷ (text_is (nat_lt most_text) c.objtype, NameTooLong)
+    ∷ name_checks c.objname
+
+-- .. then the attributes are read ..
+unfoldable pub wanted_of : Attributes → Result Wanted AttrFault
+wanted_of a = read_attrs (mask_of a.attrmask) a.attr_vals
+
+abbrev pub making : Held → Result Wanted AttrFault → Result Making Status
+making d (Err fault) = Err (fault_status fault)
+making d (Ok wanted) = Ok (record { place = d; wanted = wanted })
+
+abbrev pub with_wanted : Result Held Status → Result Wanted AttrFault → Result Making Status
+with_wanted (Err status) wanted = Err status
+with_wanted (Ok d) wanted = making d wanted
+
+-- .. then whether the caller may set them ..
+abbrev pub new_checks : Context → Making → List (Bool × Status)
+new_checks x m = make_checks m.wanted (caller x.who) ++ (is_some m.wanted.size, Inval) ∷ []
+
+-- .. then whether there is a place for the object.
+abbrev pub can_create : Files → ℕ → Bool
+can_create t d = can_change t d && (nat_lt t.last_object last_count && nat_lt t.last_cookie last_count)
+
+abbrev pub row_checks : State → List ℕ → Making → List (Bool × Status)
+row_checks s name m =
+    (has_name s.tree m.place.number name, Exist)
+    ∷ (nat_le most_objects (length s.tree.objects), NoSpc)
+    ∷ (not (can_create s.tree m.place.number), ServerFault)
+    ∷ []
+
+-- what is set: what is given, else the plain mode, and the caller's user and group
+abbrev pub time_of : Time → SetTime → Time
+time_of now Now = now
+time_of now (Given t) = t
+
+abbrev pub sets_of : Context → Time → New → Wanted → Sets
+sets_of x now new wanted = record {
+  mode = Some (unwrap_or wanted.mode (plain_mode new));
+  owner = Some (unwrap_or wanted.owner x.who.uid);
+  group = Some (unwrap_or wanted.group x.who.gid);
+  access = option_map (time_of now) wanted.access;
+  modify = option_map (time_of now) wanted.modify;
+}
+
+-- how a directory changed, with nothing else in between
+abbrev pub change_info : Change → ChangeInfo
+change_info c = record { atomic = true; before = c.before; after = c.after }
+
+abbrev pub created : State → Context → Time → Create → Making → Outcome
+created s x now c m = record {
+  result = ResCreate (record { cinfo = change_info (raised s.tree m.place.number); attrset = told (mask_of c.createattrs.attrmask) });
+  state = with_tree s (with_new s.tree m.place.number c.objname (new_of c.objtype) (sets_of x now (new_of c.objtype) m.wanted) now);
+  context = at_object x (s.tree.last_object + 1);
+}
+
+abbrev pub asked_for : State → Context → Create → Result Making Status
+asked_for s x c = checked (with_wanted (checked (current s x) (place_checks x c)) (wanted_of c.createattrs)) (new_checks x)
+
+unfoldable pub create : State → Context → Time → Create → Outcome
+create s x now c = answers s x Op.Create (checked (asked_for s x c) (row_checks s c.objname)) (created s x now c)

@@ -1,0 +1,54 @@
+-- What one operation comes to: its result, and the state and the context behind it.
+use Rattle.std.specs.Prelude.{◌==◌, ◌&&◌, Bool, List, Option, Some, None, Result, Ok, Err, if◌then◌else◌}
+use Rattle.nfs_xdr.specs.Checks.{first_fault}
+use Rattle.nfs_xdr.specs.Status.{status_number}
+use Rattle.nfs_xdr.specs.declared.status.Status.{Status}
+use Rattle.nfs_xdr.specs.declared.status.Status.TheVariants.{Nfs4Ok, Delay}
+use Rattle.nfs_compound.specs.declared.op_num.OpNum.{OpNum}
+use Rattle.nfs_compound.specs.OpNum.{op_number}
+use Rattle.nfs_results.specs.Result.{Res}
+use Rattle.nfs_results.specs.Results.{status_of_result, refusal}
+use Rattle.nfs_names.specs.declared.context.Context.{Context}
+use Rattle.nfs_names.specs.State.{State}
+
+pub record Outcome : Type 0 where
+  pub result : Res
+  pub state : State
+  pub context : Context
+
+-- it was done, and the state is as before
+abbrev pub done : State → Context → Res → Outcome
+done s x r = record { result = r; state = s; context = x }
+
+-- it was refused, and nothing changed
+abbrev pub refuses : State → Context → OpNum → Status → Outcome
+refuses s x op status = record { result = refusal (op_number op) status; state = s; context = x }
+
+-- The checks of an operation in their order, of what was found: the first that fails decides.
+abbrev pub passed : {A : Type 0} → A → Option Status → Result A Status
+passed a None = Ok a
+passed a (Some status) = Err status
+
+abbrev pub checked : {A : Type 0} → Result A Status → (A → List (Bool × Status)) → Result A Status
+checked (Err status) checks = Err status
+checked (Ok a) checks = passed a (first_fault (checks a))
+
+-- what follows from what was found
+abbrev pub mapped : {A B : Type 0} → (A → B) → Result A Status → Result B Status
+mapped f (Err status) = Err status
+mapped f (Ok a) = Ok (f a)
+
+-- An operation is refused, or comes to an outcome by what was found.
+abbrev pub answers : {A : Type 0} → State → Context → OpNum → Result A Status → (A → Outcome) → Outcome
+answers s x op (Err status) outcome = refuses s x op status
+answers s x op (Ok a) outcome = outcome a
+
+abbrev pub is_ok : Res → Bool
+is_ok r = status_number (status_of_result r) == status_number Nfs4Ok
+
+abbrev pub is_delay : Status → Bool
+is_delay status = status_number status == status_number Delay
+
+-- where memory was refused, NFS4ERR_DELAY stands in place of NFS4_OK and nothing changed; a refusal of its own comes before that
+abbrev pub or_delay : Bool → State → Context → OpNum → Outcome → Outcome
+or_delay refused s x op o = if refused && is_ok o.result then refuses s x op Delay else o

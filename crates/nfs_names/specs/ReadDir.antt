@@ -1,0 +1,83 @@
+-- READDIR (RFC 8881 section 18.23): the entries behind a cookie with their attributes, as many as fit into so many bytes.
+use Rattle.std.specs.Prelude.{◌≡◌, ℕ, ◌+◌, ◌<◌, ◌≤◌, ◌==◌, Bool, true, false, not, ◌&&◌, ◌||◌, List, [], ◌∷◌, length, map, nat_lt, nat_le, replicate, bytes_eq, if◌then◌else◌, Option, Some, None}
+use Rattle.std.specs.List.{flat_map}
+use Rattle.nfs_xdr.specs.Paper.{Paper, Puts}
+use Rattle.nfs_xdr.specs.declared.status.Status.{Status}
+use Rattle.nfs_xdr.specs.declared.status.Status.TheVariants.{Nfs4Ok, Inval, NotSame, BadCookie, TooSmall}
+use Rattle.nfs_compound.specs.declared.op_num.OpNum.TheVariants as Op
+use Rattle.nfs_compound.specs.NameArgs.{ReadDir}
+use Rattle.nfs_results.specs.Largest.{given}
+use Rattle.nfs_results.specs.Result.{Entry, Fattr, ReadDirOk, ResReadDir}
+use Rattle.nfs_results.specs.Results.{spell_result, refusal}
+use Rattle.nfs_results.specs.Straight.{entry_text}
+use Rattle.nfs_compound.specs.OpNum.{op_number}
+use Rattle.nfs_tree.specs.declared.object.Object.{Object}
+use Rattle.nfs_tree.specs.Files.{Listed, listing, object_at}
+use Rattle.nfs_attrs.specs.declared.mask.Mask.{Mask}
+use Rattle.nfs_attrs.specs.Mask.{mask_of, asks_set_only}
+use Rattle.nfs_attrs.specs.Permissions.{read}
+use Rattle.nfs_names.specs.declared.context.Context.{Context}
+use Rattle.nfs_names.specs.declared.held.Held.{Held}
+use Rattle.nfs_names.specs.State.{State}
+use Rattle.nfs_names.specs.Outcome.{Outcome, done, checked, answers}
+use Rattle.nfs_names.specs.Checks.{current, no_directory, denied}
+use Rattle.nfs_names.specs.Attributes.{attributes_of}
+
+-- what is told of an object; an entry's object is there, so the first line is never met
+abbrev pub attributes_at : State → Mask → ℕ → Option Object → Fattr
+attributes_at s asked n None = record { attrmask = []; attr_vals = [] }
+attributes_at s asked n (Some o) = attributes_of s asked (record { number = n; object = o })
+
+unfoldable pub entry_of : State → Mask → Listed → Entry
+entry_of s asked e = record { cookie = e.cookie; name = e.name; attrs = attributes_at s asked e.number (object_at s.tree e.number) }
+
+-- all entries that are left
+abbrev pub left : State → ReadDir → Held → List Entry
+left s a d = map (entry_of s (mask_of a.attr_request)) (listing s.tree.rows d.number a.cookie)
+
+-- the longest front of a list that passes a test which no longer one passes again
+abbrev pub longest : {A : Type 0} → (List A → Bool) → List A → List A
+longest test [] = []
+longest test (x ∷ xs) = if test (x ∷ []) then x ∷ longest (λ more. test (x ∷ more)) xs else []
+
+-- as many as fit behind the status, with the verifier in front of them and the two flags behind them
+abbrev pub fits : ℕ → List Entry → Bool
+fits most entries = nat_le (length (flat_map entry_text entries) + 16) most
+
+unfoldable pub fitting : State → ReadDir → Held → List Entry
+fitting s a d = longest (fits (given a.maxcount)) (left s a d)
+
+abbrev pub zeros : List ℕ
+zeros = replicate 8 0
+
+-- first the directory and the arguments are looked at ..
+abbrev pub listing_checks : Context → ReadDir → Held → List (Bool × Status)
+listing_checks x a d =
+    no_directory d
+    ∷ denied x d read
+    ∷ (asks_set_only (mask_of a.attr_request), Inval)
+    ∷ (not (bytes_eq a.cookieverf zeros), NotSame)
+    ∷ (a.cookie == 1 || a.cookie == 2, BadCookie)
+    ∷ (nat_lt a.maxcount 16, TooSmall)
+    ∷ []
+
+-- .. then whether one entry fits, if any is left
+abbrev pub entry_checks : State → ReadDir → Held → List (Bool × Status)
+entry_checks s a d = (nat_lt 0 (length (left s a d)) && length (fitting s a d) == 0, TooSmall) ∷ []
+
+abbrev pub listed : State → ReadDir → Held → ReadDirOk
+listed s a d = record { cookieverf = zeros; entries = fitting s a d; eof = length (fitting s a d) == length (left s a d) }
+
+unfoldable pub read_dir : State → Context → ReadDir → Outcome
+read_dir s x a =
+    answers s x Op.ReadDir (checked (checked (current s x) (listing_checks x a)) (entry_checks s a)) (λ d. done s x (ResReadDir (listed s a d)))
+
+-- what a call that puts an entry has put, if it takes no more than so many bytes
+abbrev pub PutsWithin : Bool → ℕ → Paper → Paper → List ℕ → Type 0
+PutsWithin true room old new text = (length text ≤ room) × Puts old new text
+PutsWithin false room old new text = (room < length text) × (new ≡ old)
+
+-- what a listing answers and puts: its entries, or why there are none
+abbrev pub Lists : Status → Option Status → ReadDirOk → Paper → Paper → Type 0
+Lists answer None entries old new = (answer ≡ Nfs4Ok) × Puts old new (spell_result (ResReadDir entries))
+Lists answer (Some status) entries old new = (answer ≡ status) × Puts old new (spell_result (refusal (op_number Op.ReadDir) status))

@@ -1,0 +1,42 @@
+-- REMOVE (RFC 8881 section 18.25): a name goes, and with its last name an object.
+use Rattle.std.specs.Prelude.{ℕ, Bool, not, ◌&&◌, List, [], ◌∷◌}
+use Rattle.nfs_xdr.specs.declared.time.Time.{Time}
+use Rattle.nfs_xdr.specs.declared.status.Status.{Status}
+use Rattle.nfs_xdr.specs.declared.status.Status.TheVariants.{NoEnt, NotEmpty, ServerFault}
+use Rattle.nfs_compound.specs.declared.op_num.OpNum.TheVariants as Op
+use Rattle.nfs_results.specs.Result.{ResRemove}
+use Rattle.nfs_tree.specs.Files.{has_name, named, has_entries, can_change}
+use Rattle.nfs_tree.specs.Names.{without_name}
+use Rattle.nfs_tree.specs.Did.{raised}
+use Rattle.nfs_attrs.specs.Permissions.{change}
+use Rattle.nfs_names.specs.declared.context.Context.{Context}
+use Rattle.nfs_names.specs.declared.held.Held.{Held}
+use Rattle.nfs_names.specs.State.{State, with_tree, without_unnamed}
+use Rattle.nfs_names.specs.Outcome.{Outcome, checked, answers}
+use Rattle.nfs_names.specs.Checks.{current, no_directory, denied, name_checks}
+use Rattle.nfs_names.specs.Create.{change_info}
+
+-- first the place and the name are looked at ..
+abbrev pub place_checks : Context → List ℕ → Held → List (Bool × Status)
+place_checks x name d =
+    no_directory d
+    ∷ denied x d change
+    ∷ name_checks name
+
+-- .. then what is there
+abbrev pub row_checks : State → List ℕ → Held → List (Bool × Status)
+row_checks s name d =
+    (not (has_name s.tree d.number name), NoEnt)
+    ∷ (has_entries s.tree.rows (named s.tree d.number name), NotEmpty)
+    ∷ (not (can_change s.tree d.number && can_change s.tree (named s.tree d.number name)), ServerFault)
+    ∷ []
+
+abbrev pub removed : State → Context → Time → List ℕ → Held → Outcome
+removed s x now name d = record {
+  result = ResRemove (change_info (raised s.tree d.number));
+  state = with_tree s (without_unnamed (without_name s.tree d.number name now) (named s.tree d.number name));
+  context = x;
+}
+
+unfoldable pub remove : State → Context → Time → List ℕ → Outcome
+remove s x now name = answers s x Op.Remove (checked (checked (current s x) (place_checks x name)) (row_checks s name)) (removed s x now name)

@@ -1,0 +1,67 @@
+-- RENAME (RFC 8881 section 18.26): an entry moves from the saved filehandle's directory to the current one's.
+use Rattle.std.specs.Prelude.{ℕ, Bool, not, ◌&&◌, List, [], ◌∷◌, ◌++◌, Option, Some, None, if◌then◌else◌}
+use Rattle.nfs_xdr.specs.declared.time.Time.{Time}
+use Rattle.nfs_xdr.specs.declared.status.Status.{Status}
+use Rattle.nfs_xdr.specs.declared.status.Status.TheVariants.{NoEnt, Inval, Exist, ServerFault}
+use Rattle.nfs_compound.specs.declared.op_num.OpNum.TheVariants as Op
+use Rattle.nfs_compound.specs.NameArgs as args
+use Rattle.nfs_results.specs.Result.{ResRename}
+use Rattle.nfs_tree.specs.Files.{Files, has_name, lookup}
+use Rattle.nfs_tree.specs.Names.{Move, move, moves, is_below_itself, is_in_the_way, can_move, with_moved}
+use Rattle.nfs_tree.specs.Did.{raised, stays}
+use Rattle.nfs_attrs.specs.Permissions.{change}
+use Rattle.nfs_names.specs.declared.context.Context.{Context}
+use Rattle.nfs_names.specs.declared.held.Pair.{Pair}
+use Rattle.nfs_names.specs.State.{State, with_tree, without_unnamed}
+use Rattle.nfs_names.specs.Outcome.{Outcome, done, checked, answers}
+use Rattle.nfs_names.specs.Checks.{both, no_directory, denied, name_checks}
+use Rattle.nfs_names.specs.Create.{change_info}
+
+abbrev pub move_of : args.Rename → Pair → Move
+move_of a p = move p.saved.number a.oldname p.current.number a.newname
+
+-- first the places and the names are looked at ..
+abbrev pub place_checks : Context → args.Rename → Pair → List (Bool × Status)
+place_checks x a p =
+    no_directory p.saved
+    ∷ no_directory p.current
+    ∷ denied x p.saved change
+    ∷ denied x p.current change
+    ∷ name_checks a.oldname
+    ++ name_checks a.newname
+
+-- .. then what is there. Of two names of one object nothing moves, and nothing more is looked at.
+abbrev pub row_checks : State → args.Rename → Pair → List (Bool × Status)
+row_checks s a p =
+    (not (has_name s.tree p.saved.number a.oldname), NoEnt)
+    ∷ (moves s.tree (move_of a p) && is_below_itself s.tree (move_of a p), Inval)
+    ∷ (moves s.tree (move_of a p) && is_in_the_way s.tree (move_of a p), Exist)
+    ∷ (moves s.tree (move_of a p) && not (can_move s.tree (move_of a p)), ServerFault)
+    ∷ []
+
+-- what had the new name goes as by REMOVE
+abbrev pub without_replaced : Files → Option ℕ → Files
+without_replaced t None = t
+without_replaced t (Some n) = without_unnamed t n
+
+abbrev pub moved : State → Context → Time → args.Rename → Pair → Outcome
+moved s x now a p = record {
+  result = ResRename (record {
+    source_cinfo = change_info (raised s.tree p.saved.number);
+    target_cinfo = change_info (raised s.tree p.current.number);
+  });
+  state = with_tree s (without_replaced (with_moved s.tree (move_of a p) now) (lookup s.tree p.current.number a.newname));
+  context = x;
+}
+
+abbrev pub unmoved : State → Context → Pair → Outcome
+unmoved s x p =
+    done s x (ResRename (record {
+      source_cinfo = change_info (stays s.tree p.saved.number);
+      target_cinfo = change_info (stays s.tree p.current.number);
+    }))
+
+unfoldable pub rename : State → Context → Time → args.Rename → Outcome
+rename s x now a =
+    answers s x Op.Rename (checked (checked (both s x) (place_checks x a)) (row_checks s a))
+    (λ p. if moves s.tree (move_of a p) then moved s x now a p else unmoved s x p)

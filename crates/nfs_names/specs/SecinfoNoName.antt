@@ -1,0 +1,24 @@
+-- SECINFO_NO_NAME (RFC 8881 section 18.45): AUTH_SYS is the one flavour; the current filehandle is then none.
+use Rattle.std.specs.Prelude.{Bool, List, [], ◌∷◌, None}
+use Rattle.nfs_xdr.specs.declared.status.Status.{Status}
+use Rattle.nfs_compound.specs.declared.op_num.OpNum.TheVariants as Op
+use Rattle.nfs_compound.specs.declared.name_args.SecinfoStyle.{SecinfoStyle}
+use Rattle.nfs_compound.specs.declared.name_args.SecinfoStyle.TheVariants.{CurrentFh, Parent}
+use Rattle.nfs_results.specs.Result.{ResSecinfoNoName}
+use Rattle.nfs_names.specs.declared.context.Context.{Context}
+use Rattle.nfs_names.specs.declared.held.Held.{Held}
+use Rattle.nfs_names.specs.State.{State}
+use Rattle.nfs_names.specs.Outcome.{Outcome, done, checked, answers}
+use Rattle.nfs_names.specs.Checks.{current, no_directory, no_parent}
+
+-- the flavours of the directory in which one stands are wanted
+abbrev pub style_checks : State → SecinfoStyle → Held → List (Bool × Status)
+style_checks s CurrentFh d = []
+style_checks s Parent d = no_directory d ∷ no_parent s d ∷ []
+
+abbrev pub without_current : Context → Context
+without_current x = record x { current = None }
+
+unfoldable pub secinfo_no_name : State → Context → SecinfoStyle → Outcome
+secinfo_no_name s x style =
+    answers s x Op.SecinfoNoName (checked (current s x) (style_checks s style)) (λ d. done s (without_current x) (ResSecinfoNoName (1 ∷ [])))

@@ -1,0 +1,179 @@
+//! Operations that tell of attributes and rights (RFC 8881 sections 18.1, 18.7, 18.8, 18.15 and 18.31).
+
+ghost use Rattle.std.specs.Prelude.{◌≡◌, ◌+◌, ◌≤◌, length};
+ghost use Rattle.nfs_xdr.specs.Paper.{Puts};
+ghost use Rattle.nfs_results.specs.Results.{spell_result};
+ghost use Rattle.nfs_results.specs.Result.{ResGetAttr, ResGetFh};
+ghost use Rattle.nfs_attrs.specs.Handle.{handle as spelled};
+ghost use Rattle.nfs_compound.specs.Attributes.{view_bitmap, view_attributes};
+ghost use Rattle.nfs_names.specs.State.{state_of};
+ghost use Rattle.nfs_names.specs.Comes.{Comes};
+ghost use Rattle.nfs_names.specs.Outcome.{checked};
+ghost use Rattle.nfs_names.specs.View.{outcome_of};
+ghost use Rattle.nfs_names.specs.Checks as check;
+ghost use Rattle.nfs_names.specs.Attributes as attributes;
+ghost use Rattle.nfs_names.specs.Access as of_access;
+ghost use Rattle.nfs_names.specs.GetAttr as of_get_attr;
+ghost use Rattle.nfs_names.specs.GetFh as of_get_fh;
+ghost use Rattle.nfs_names.specs.Verify as of_verify;
+ghost use Rattle.nfs_names.specs.NVerify as of_nverify;
+
+use crate::checks::{current, put_refusal, refuse};
+use crate::context::Context;
+use crate::held::Held;
+use crate::store::Store;
+use nfs_attrs::{About, AttrFault, Handle, Mask, judge_access, same, write_attrs};
+use nfs_compound::{Attributes, Bitmap, OpNum};
+use nfs_results::{AccessOk, Res, write_done_head};
+use nfs_xdr::{Sheet, Status};
+
+/// How many names the object has: a directory has one.
+fn links_of(store: &Store, held: &Held) -> u32
+    ensures { result ≡ attributes.links_of (state_of store.now) held.now }
+{
+    if held.object.kind.is_directory() {
+        1
+    } else {
+        store.tree.links(held.number)
+    }
+}
+
+/// What is told of an object beside the object itself.
+pub(crate) fn about(store: &Store, held: &Held) -> About
+    ensures { result ≡ attributes.about (state_of store.now) held.now }
+{
+    About {
+        number: held.number,
+        links: links_of(store, held),
+        instance: store.instance,
+        lease: store.lease,
+    }
+}
+
+/// ACCESS.
+#[tactic(auto, unfolding(crate::specs::Access::access))]
+pub(crate) fn access(store: &Store, context: &Context, asked: u32) -> Res<'static>
+    ensures { outcome_of result (state_of store.now) context.now ≡ of_access.access (state_of store.now) context.now asked }
+{
+    match current(store, context) {
+        Ok(d) => {
+            let judged = judge_access(&d.object, &context.who, asked);
+            Res::Access(AccessOk {
+                supported: judged.supported,
+                access: judged.granted,
+            })
+        }
+        Err(status) => refuse(OpNum::Access, status),
+    }
+}
+
+/// The object whose attributes are asked for: those that can only be set are not told.
+fn judge_mask(store: &Store, context: &Context, mask: &Bitmap<'_>) -> Result<Held, Status>
+    ensures { result ≡ checked (check.current (state_of store.now) context.now) (of_get_attr.mask_checks (view_bitmap mask.now)) }
+{
+    let d = current(store, context)?;
+    if Mask::new(mask.words).asks_set_only() {
+        return Err(Status::Inval);
+    }
+    Ok(d)
+}
+
+/// Whether the attributes of the current object are those that are given.
+fn compare(store: &Store, context: &Context, given: &Attributes<'_>) -> Result<bool, Status>
+    ensures { result ≡ of_verify.compared (state_of store.now) (view_attributes given.now) (check.current (state_of store.now) context.now) }
+{
+    let d = current(store, context)?;
+    match same_at(store, &d, given) {
+        Ok(equal) => Ok(equal),
+        Err(fault) => Err(fault.status()),
+    }
+}
+
+#[tactic(auto, unfolding(crate::specs::Verify::same_at))]
+fn same_at(store: &Store, held: &Held, given: &Attributes<'_>) -> Result<bool, AttrFault>
+    ensures { result ≡ of_verify.same_at (state_of store.now) (view_attributes given.now) held.now }
+{
+    let asked = Mask::new(given.attrmask.words);
+    same(&held.object, &about(store, held), asked, given.attr_vals)
+}
+
+/// VERIFY.
+#[tactic(auto, unfolding(crate::specs::Verify::verify))]
+pub(crate) fn verify(store: &Store, context: &Context, given: &Attributes<'_>) -> Res<'static>
+    ensures { outcome_of result (state_of store.now) context.now ≡ of_verify.verify (state_of store.now) context.now (view_attributes given.now) }
+{
+    match compare(store, context, given) {
+        Ok(true) => Res::Verify,
+        Ok(false) => refuse(OpNum::Verify, Status::NotSame),
+        Err(status) => refuse(OpNum::Verify, status),
+    }
+}
+
+/// NVERIFY.
+#[tactic(auto, unfolding(crate::specs::NVerify::nverify))]
+pub(crate) fn nverify(store: &Store, context: &Context, given: &Attributes<'_>) -> Res<'static>
+    ensures { outcome_of result (state_of store.now) context.now ≡ of_nverify.nverify (state_of store.now) context.now (view_attributes given.now) }
+{
+    match compare(store, context, given) {
+        Ok(true) => refuse(OpNum::NVerify, Status::Same),
+        Ok(false) => Res::NVerify,
+        Err(status) => refuse(OpNum::NVerify, status),
+    }
+}
+
+/// Puts the attributes of an object, as GETATTR answers them.
+fn put_attributes(store: &Store, held: &Held, asked: Mask, out: &mut Sheet)
+    requires { length out.old.bytes + 640 ≤ out.old.room }
+    ensures { Puts out.old out.new (spell_result (ResGetAttr (attributes.attributes_of (state_of store.now) asked held.now))) }
+{
+    write_done_head(OpNum::GetAttr, out);
+    write_attrs(&held.object, &about(store, held), asked, out);
+}
+
+/// GETATTR.
+#[tactic(auto, unfolding(crate::specs::GetAttr::get_attr))]
+pub(crate) fn get_attr(
+    store: &Store,
+    context: &Context,
+    asked: &Bitmap<'_>,
+    out: &mut Sheet,
+) -> Status
+    requires { length out.old.bytes + 640 ≤ out.old.room }
+    ensures { Comes (of_get_attr.get_attr (state_of store.now) context.now (view_bitmap asked.now)) out.old out.new result (state_of store.now) context.now }
+{
+    match judge_mask(store, context, asked) {
+        Ok(d) => {
+            put_attributes(store, &d, Mask::new(asked.words), out);
+            Status::Nfs4Ok
+        }
+        Err(status) => put_refusal(OpNum::GetAttr, status, out),
+    }
+}
+
+/// Puts a filehandle, as GETFH answers it.
+fn put_handle(handle: &Handle, out: &mut Sheet)
+    requires { length out.old.bytes + 28 ≤ out.old.room }
+    ensures { Puts out.old out.new (spell_result (ResGetFh (spelled.spell handle.now))) }
+{
+    write_done_head(OpNum::GetFh, out);
+    out.put_opaque(&handle.bytes());
+}
+
+/// GETFH.
+#[tactic(auto, unfolding(crate::specs::GetFh::get_fh))]
+pub(crate) fn get_fh(store: &Store, context: &Context, out: &mut Sheet) -> Status
+    requires { length out.old.bytes + 28 ≤ out.old.room }
+    ensures { Comes (of_get_fh.get_fh (state_of store.now) context.now) out.old out.new result (state_of store.now) context.now }
+{
+    match current(store, context) {
+        Ok(d) => {
+            let handle = Handle {
+                instance: store.instance,
+                number: d.number,
+            };
+            put_handle(&handle, out);
+            Status::Nfs4Ok
+        }
+        Err(status) => put_refusal(OpNum::GetFh, status, out),
+    }
+}

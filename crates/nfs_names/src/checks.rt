@@ -1,0 +1,141 @@
+//! Checks that several operations share.
+
+ghost use Rattle.std.specs.Prelude.{◌≡◌, ◌+◌, ◌≤◌, is_some, length};
+ghost use Rattle.std.specs.List.{list_any};
+ghost use Rattle.nfs_xdr.specs.Checks.{first_fault, judged};
+ghost use Rattle.nfs_compound.specs.OpNum.{op_number};
+ghost use Rattle.nfs_xdr.specs.Paper.{Puts};
+ghost use Rattle.nfs_results.specs.Result.{Refused};
+ghost use Rattle.nfs_results.specs.Results.{refusal, spell_result};
+ghost use Rattle.nfs_results.specs.View as view;
+ghost use Rattle.nfs_tree.specs.Files.{object_at};
+ghost use Rattle.nfs_names.specs.State.{state_of};
+ghost use Rattle.nfs_names.specs.Checks.{held, current, both, saved_object, permits, is_barred, is_dots, name_checks};
+ghost use Rattle.nfs_names.specs.Lookup.{is_link};
+
+use crate::context::{Context, Saved};
+use crate::held::{Held, Pair};
+use crate::store::Store;
+use nfs_attrs::{Want, may};
+use nfs_compound::OpNum;
+use nfs_results::Res;
+use nfs_tree::FileType;
+use nfs_xdr::{Sheet, Status};
+
+/// The refusal of an operation.
+pub(crate) fn refuse(op: OpNum, status: Status) -> Res<'static>
+    ensures { view.res result ≡ refusal (op_number op) status }
+{
+    Res::refusal(op.number(), status)
+}
+
+/// Puts the refusal of an operation that has nothing behind its status then, and answers the status.
+pub(crate) fn put_refusal(op: OpNum, status: Status, out: &mut Sheet) -> Status
+    requires { length out.old.bytes + 8 ≤ out.old.room }
+    ensures put { Puts out.old out.new (spell_result (Refused (op_number op) status)) }
+    ensures status { result ≡ status }
+{
+    out.put_u32(op.number());
+    out.put_u32(status.number());
+    status
+}
+
+/// The object of a filehandle: there may be no filehandle, or no object any more.
+fn held(store: &Store, number: Option<u64>) -> Result<Held, Status>
+    ensures { result ≡ held (state_of store.now) number }
+{
+    let Some(number) = number else {
+        return Err(Status::NoFileHandle);
+    };
+    match store.tree.object(number) {
+        Some(object) => Ok(Held {
+            number,
+            object: *object,
+        }),
+        None => Err(Status::Stale),
+    }
+}
+
+fn saved_object(saved: Option<Saved>) -> Option<u64>
+    ensures { result ≡ saved_object saved }
+{
+    match saved {
+        Some(saved) => Some(saved.object),
+        None => None,
+    }
+}
+
+/// The object of the current filehandle.
+#[tactic(auto, unfolding(crate::specs::Checks::current))]
+pub(crate) fn current(store: &Store, context: &Context) -> Result<Held, Status>
+    ensures { result ≡ current (state_of store.now) context.now }
+{
+    held(store, context.current)
+}
+
+/// The objects of the current filehandle and of the saved one.
+#[tactic(auto, unfolding(crate::specs::Checks::both, crate::specs::Checks::current))]
+pub(crate) fn both(store: &Store, context: &Context) -> Result<Pair, Status>
+    ensures { result ≡ both (state_of store.now) context.now }
+{
+    let current = held(store, context.current)?;
+    let saved = held(store, saved_object(context.saved))?;
+    Ok(Pair { current, saved })
+}
+
+/// Whether the object of the number is there.
+pub(crate) fn is_there(store: &Store, number: u64) -> bool
+    ensures { result ≡ is_some (object_at store.now.tree number) }
+{
+    store.tree.object(number).is_some()
+}
+
+/// Whether the permission bits let the caller do it.
+#[tactic(auto, unfolding(crate::specs::Checks::permits))]
+pub(crate) fn permits(context: &Context, held: &Held, want: Want) -> bool
+    ensures { result ≡ permits context.now held.now want }
+{
+    may(&held.object, &context.who, want)
+}
+
+/// Whether it is a symbolic link.
+pub(crate) fn is_link(kind: FileType) -> bool
+    ensures { result ≡ is_link kind }
+{
+    match kind {
+        FileType::Link => true,
+        FileType::Regular => false,
+        FileType::Directory => false,
+    }
+}
+
+fn is_barred(name: &[u8]) -> bool
+    ensures { result ≡ list_any is_barred name.now }
+{
+    name.iter().any(|byte| *byte == b'/' || *byte == 0)
+}
+
+fn is_dots(name: &[u8]) -> bool
+    ensures { result ≡ is_dots name.now }
+{
+    name == b".".as_slice() || name == b"..".as_slice()
+}
+
+/// The refusal of what is no name.
+pub(crate) fn judge_name(name: &[u8]) -> Result<(), Status>
+    ensures { result ≡ judged (first_fault (name_checks name.now)) }
+{
+    if name.is_empty() {
+        return Err(Status::Inval);
+    }
+    if name.len() > 255 {
+        return Err(Status::NameTooLong);
+    }
+    if is_barred(name) {
+        return Err(Status::BadChar);
+    }
+    if is_dots(name) {
+        return Err(Status::BadName);
+    }
+    Ok(())
+}

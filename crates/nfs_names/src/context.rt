@@ -1,0 +1,60 @@
+//! What the operations of a compound hand on to one another (RFC 8881 section 16.2.3.1).
+
+ghost use Rattle.std.specs.Prelude.{◌≡◌};
+ghost use Rattle.nfs_names.specs.Context.{anonymous, begins, at_object};
+
+use nfs_compound::Stateid;
+use nfs_xdr::Who;
+
+/// A filehandle that SAVEFH put aside, with its stateid.
+#[derive(Clone, Copy)]
+pub struct Saved {
+    /// The number of its object.
+    pub object: u64,
+    /// The stateid that was the current one.
+    pub stateid: Stateid,
+}
+
+/// What stands between two operations of a compound, and for whom they run.
+#[derive(Clone, Copy)]
+pub struct Context {
+    /// The number of the current filehandle's object, which may have gone.
+    pub current: Option<u64>,
+    /// The current stateid.
+    pub stateid: Stateid,
+    /// The saved filehandle.
+    pub saved: Option<Saved>,
+    /// The client of the session.
+    pub client: u64,
+    /// Who calls.
+    pub who: Who,
+}
+
+/// The anonymous stateid: all zeros (RFC 8881 section 8.2.3).
+const ANONYMOUS: Stateid = Stateid {
+    seqid: 0,
+    other: [0; 12],
+};
+
+impl Context {
+    /// The context in which the first operation behind a SEQUENCE runs: no filehandle, and the anonymous stateid.
+    pub fn new(client: u64, who: &Who) -> Context
+        ensures { result ≡ begins client who.now }
+    {
+        Context {
+            current: None,
+            stateid: ANONYMOUS,
+            saved: None,
+            client,
+            who: *who,
+        }
+    }
+
+    /// The object becomes the current filehandle's, and the current stateid is anonymous.
+    pub(crate) fn go_to(&mut self, object: u64)
+        ensures { self.new ≡ at_object self.old object }
+    {
+        self.current = Some(object);
+        self.stateid = ANONYMOUS;
+    }
+}

@@ -1,0 +1,17 @@
+//! Objects that filehandles name.
+
+use nfs_tree::Object;
+
+/// The object that a filehandle names.
+#[derive(Clone, Copy, Debug, PartialEq, Eq)]
+pub(crate) struct Held {
+    pub(crate) number: u64,
+    pub(crate) object: Object,
+}
+
+/// The objects that the current and the saved filehandle name.
+#[derive(Clone, Copy, Debug, PartialEq, Eq)]
+pub(crate) struct Pair {
+    pub(crate) current: Held,
+    pub(crate) saved: Held,
+}

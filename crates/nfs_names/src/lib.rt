@@ -1,0 +1,28 @@
+//! Operations on names and attributes: what each of them answers, and what it leaves.
+//!
+//! Contracts see a [`Store`] as a state, and an operation as a function of state, [`Context`], moment and arguments to
+//! an outcome: a result, a state and a context. `specs/` has a file for each operation, which is its checks in their
+//! order and then its effect.
+//!
+//! ```text
+//! let mut context = Context::new(client, who);
+//! let status = name_op(alloc, &mut store, &mut context, &arg, now, &mut sheet);
+//! ```
+//!
+//! RFC 8881 sections 4 (filehandles), 16.2.3.1 (current and saved filehandle), 18.1, 18.4, 18.7 to 18.9, 18.13 to 18.15,
+//! 18.19 to 18.21, 18.23 to 18.28, 18.31 and 18.45.
+#![tactic(auto)]
+
+mod attributes;
+mod checks;
+mod context;
+mod held;
+mod listing;
+mod making;
+mod operation;
+mod store;
+mod walking;
+
+pub use context::{Context, Saved};
+pub use operation::name_op;
+pub use store::Store;

@@ -1,0 +1,192 @@
+//! Operations that put bytes of the tree onto the sheet (RFC 8881 sections 18.23 and 18.24).
+
+ghost use Rattle.std.specs.Prelude.{◌≡◌, ◌+◌, ◌≤◌, ◌==◌, true, is_some, length};
+ghost use Rattle.std.specs.List.{flat_map};
+ghost use Rattle.nfs_xdr.specs.Checks.{first_fault};
+ghost use Rattle.nfs_xdr.specs.Paper.{Puts};
+ghost use Rattle.nfs_compound.specs.NameArgs.{view_read_dir};
+ghost use Rattle.nfs_results.specs.Largest.{given};
+ghost use Rattle.nfs_results.specs.Result.{ResReadLink};
+ghost use Rattle.nfs_results.specs.Results.{spell_result};
+ghost use Rattle.nfs_results.specs.Straight.{entry_head, entry_text};
+ghost use Rattle.nfs_tree.specs.Bytes.{part};
+ghost use Rattle.nfs_tree.specs.Files.{most_text, object_at};
+ghost use Rattle.nfs_tree.specs.Listing.{listed_of};
+ghost use Rattle.nfs_attrs.specs.Attributes.{spell_attrs};
+ghost use Rattle.nfs_names.specs.State.{state_of};
+ghost use Rattle.nfs_names.specs.Comes.{Comes};
+ghost use Rattle.nfs_names.specs.Outcome.{checked};
+ghost use Rattle.nfs_names.specs.Checks as check;
+ghost use Rattle.nfs_names.specs.ReadLink as of_read_link;
+ghost use Rattle.nfs_names.specs.ReadDir as of_read_dir;
+ghost use Rattle.nfs_names.specs.ReadDir.{PutsWithin, Lists};
+
+use crate::attributes::about;
+use crate::checks::{current, is_link, permits, put_refusal};
+use crate::context::Context;
+use crate::held::Held;
+use crate::store::Store;
+use nfs_attrs::{About, Mask, Want, attrs_len, write_attrs};
+use nfs_compound::{OpNum, ReadDir};
+use nfs_results::{write_done_head, write_entry, write_list_end, write_read_dir_head};
+use nfs_tree::{Entry, Tree};
+use nfs_xdr::{Sheet, Status};
+
+/// The symbolic link that is to be read.
+fn judge_link(store: &Store, context: &Context) -> Result<Held, Status>
+    ensures { result ≡ checked (check.current (state_of store.now) context.now) of_read_link.link_only }
+{
+    let d = current(store, context)?;
+    if !is_link(d.object.kind) {
+        return Err(Status::WrongType);
+    }
+    Ok(d)
+}
+
+/// Puts the text of a symbolic link, as READLINK answers it.
+fn put_text(tree: &Tree, number: u64, out: &mut Sheet)
+    requires { length out.old.bytes + 1036 ≤ out.old.room }
+    ensures { Puts out.old out.new (spell_result (ResReadLink (part tree.now number 0 most_text))) }
+{
+    write_done_head(OpNum::ReadLink, out);
+    tree.read(number, 0, out, 1024);
+}
+
+/// READLINK.
+#[tactic(auto, unfolding(crate::specs::ReadLink::read_link))]
+pub(crate) fn read_link(store: &Store, context: &Context, out: &mut Sheet) -> Status
+    requires { length out.old.bytes + 1036 ≤ out.old.room }
+    ensures { Comes (of_read_link.read_link (state_of store.now) context.now) out.old out.new result (state_of store.now) context.now }
+{
+    match judge_link(store, context) {
+        Ok(d) => {
+            put_text(&store.tree, d.number, out);
+            Status::Nfs4Ok
+        }
+        Err(status) => put_refusal(OpNum::ReadLink, status, out),
+    }
+}
+
+/// No more bytes than this are given at once.
+fn given(count: u32) -> usize
+    ensures value { result ≡ given count }
+    ensures most { result ≤ 65536 }
+{
+    if count > 65_536 {
+        65_536
+    } else {
+        count as usize
+    }
+}
+
+/// The directory that is to be listed.
+fn judge_listing(store: &Store, context: &Context, asked: &ReadDir<'_>) -> Result<Held, Status>
+    ensures { result ≡ checked (check.current (state_of store.now) context.now) (of_read_dir.listing_checks context.now (view_read_dir asked.now)) }
+{
+    let d = current(store, context)?;
+    if !d.object.kind.is_directory() {
+        return Err(Status::NotDir);
+    }
+    if !permits(context, &d, Want::READ) {
+        return Err(Status::Access);
+    }
+    if Mask::new(asked.attr_request.words).asks_set_only() {
+        return Err(Status::Inval);
+    }
+    if asked.cookieverf.as_slice() != [0; 8].as_slice() {
+        return Err(Status::NotSame);
+    }
+    if asked.cookie == 1 || asked.cookie == 2 {
+        return Err(Status::BadCookie);
+    }
+    if asked.maxcount < 16 {
+        return Err(Status::TooSmall);
+    }
+    Ok(d)
+}
+
+/// How many bytes an entry takes.
+fn entry_len(name: &[u8], held: &Held, about: &About, asked: Mask) -> usize
+    ensures { result ≡ length (entry_head 0 name.now) + length (spell_attrs asked about.now held.now.object) }
+{
+    16 + name.len() + (4 - name.len() % 4) % 4 + attrs_len(&held.object, about, asked)
+}
+
+/// Puts an entry with its attributes, if it takes no more than `room` bytes.
+fn put_entry(store: &Store, entry: &Entry<'_>, asked: Mask, room: usize, out: &mut Sheet) -> bool
+    requires there { is_some (object_at store.now.tree entry.now.number) ≡ true }
+    requires few { room ≤ 65536 }
+    requires room { length out.old.bytes + room ≤ out.old.room }
+    ensures { PutsWithin result room out.old out.new (entry_text (of_read_dir.entry_of (state_of store.now) asked (listed_of entry.now))) }
+{
+    let Some(object) = store.tree.object(entry.number) else {
+        return false;
+    };
+    let held = Held {
+        number: entry.number,
+        object: *object,
+    };
+    let about = about(store, &held);
+    if entry_len(entry.name, &held, &about, asked) > room {
+        return false;
+    }
+    write_entry(entry.cookie, entry.name, out);
+    write_attrs(&held.object, &about, asked, out);
+    true
+}
+
+/// Puts the entries that are left, as many as fit, and answers whether these are all.
+fn put_entries(store: &Store, place: &Held, asked: &ReadDir<'_>, out: &mut Sheet) -> bool
+    requires count { 16 ≤ asked.now.maxcount }
+    requires room { length out.old.bytes + given asked.now.maxcount ≤ out.old.room + 16 }
+    ensures put { Puts out.old out.new (flat_map entry_text (of_read_dir.fitting (state_of store.now) (view_read_dir asked.now) place.now)) }
+    ensures all { result ≡ (length (of_read_dir.fitting (state_of store.now) (view_read_dir asked.now) place.now) == length (of_read_dir.left (state_of store.now) (view_read_dir asked.now) place.now)) }
+{
+    store.tree.kept();
+    let mask = Mask::new(asked.attr_request.words);
+    let mut room = given(asked.maxcount) - 16;
+    let mut listing = store.tree.list(place.number, asked.cookie);
+    while let Some(entry) = listing.next() {
+        let before = out.len();
+        if !put_entry(store, &entry, mask, room, out) {
+            return false;
+        }
+        room -= out.len() - before;
+    }
+    true
+}
+
+/// Puts a listing, as READDIR answers it, if an entry fits or none is left.
+fn put_listing(store: &Store, place: &Held, asked: &ReadDir<'_>, out: &mut Sheet) -> Status
+    requires count { 16 ≤ asked.now.maxcount }
+    requires room { length out.old.bytes + (8 + given asked.now.maxcount) ≤ out.old.room }
+    ensures { Lists result (first_fault (of_read_dir.entry_checks (state_of store.now) (view_read_dir asked.now) place.now)) (of_read_dir.listed (state_of store.now) (view_read_dir asked.now) place.now) out.old out.new }
+{
+    let start = out.len();
+    write_read_dir_head(&[0; 8], out);
+    let before = out.len();
+    let whole = put_entries(store, place, asked, out);
+    if !whole && out.len() == before {
+        out.cut(start);
+        return put_refusal(OpNum::ReadDir, Status::TooSmall, out);
+    }
+    write_list_end(whole, out);
+    Status::Nfs4Ok
+}
+
+/// READDIR.
+#[tactic(auto, unfolding(crate::specs::ReadDir::read_dir))]
+pub(crate) fn read_dir(
+    store: &Store,
+    context: &Context,
+    asked: &ReadDir<'_>,
+    out: &mut Sheet,
+) -> Status
+    requires { length out.old.bytes + (8 + given asked.now.maxcount) ≤ out.old.room }
+    ensures { Comes (of_read_dir.read_dir (state_of store.now) context.now (view_read_dir asked.now)) out.old out.new result (state_of store.now) context.now }
+{
+    match judge_listing(store, context, asked) {
+        Ok(d) => put_listing(store, &d, asked, out),
+        Err(status) => put_refusal(OpNum::ReadDir, status, out),
+    }
+}

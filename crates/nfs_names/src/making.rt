@@ -1,0 +1,412 @@
+//! Operations that make, name and remove objects (RFC 8881 sections 18.4, 18.9, 18.25 and 18.26).
+
+ghost use Rattle.std.specs.Prelude.{◌≡◌, ◌==◌, ℕ, false, length, nat_lt, option_map};
+ghost use Rattle.nfs_compound.specs.Attributes.{view_attributes};
+ghost use Rattle.nfs_compound.specs.NameArgs.{view_create, view_create_type, view_rename};
+ghost use Rattle.nfs_compound.specs.Operation.{OpCreate, OpLink, OpRename};
+ghost use Rattle.nfs_tree.specs.Create.{new_of};
+ghost use Rattle.nfs_tree.specs.Files.{most_text, has_row, has_entries};
+ghost use Rattle.nfs_attrs.specs.Mask.{told};
+ghost use Rattle.nfs_results.specs.View as view;
+ghost use Rattle.nfs_results.specs.Results.{status_of_result};
+ghost use Rattle.nfs_names.specs.State.{state_of, without_unnamed, IsRooted};
+ghost use Rattle.nfs_names.specs.Outcome.{checked, is_delay};
+ghost use Rattle.nfs_names.specs.Operation.{one_or_delay};
+ghost use Rattle.nfs_names.specs.View.{outcome_of};
+ghost use Rattle.nfs_names.specs.Checks as check;
+ghost use Rattle.nfs_names.specs.Create as of_create;
+ghost use Rattle.nfs_names.specs.Link as of_link;
+ghost use Rattle.nfs_names.specs.Remove as of_remove;
+ghost use Rattle.nfs_names.specs.Rename as of_rename;
+ghost use Rattle.nfs_names.specs.Faults as of_tree;
+
+use crate::checks::{both, current, judge_name, permits, refuse};
+use crate::context::Context;
+use crate::held::{Held, Pair};
+use crate::store::Store;
+use nfs_attrs::{AttrFault, Mask, SetTime, Want, Wanted, may_make, read_attrs};
+use nfs_compound::{Attributes, Create, CreateType, OpNum, Rename};
+use nfs_results::{AttrSet, ChangeInfo, CreateOk, RenameOk, Res};
+use nfs_tree::{Change, Created, New, Renamed, Sets, Tree, TreeFault};
+use nfs_xdr::{Status, Time};
+use std::alloc::Global;
+
+/// An object that is to be made in a directory, with these attributes.
+#[derive(Clone, Copy, Debug, PartialEq, Eq)]
+pub(crate) struct Making {
+    pub(crate) place: Held,
+    pub(crate) wanted: Wanted,
+}
+
+fn is_made(objtype: &CreateType<'_>) -> bool
+    ensures { result ≡ of_create.is_made (view_create_type objtype.now) }
+{
+    match objtype {
+        CreateType::Block(_) => false,
+        CreateType::Character(_) => false,
+        CreateType::Symlink { .. } => true,
+        CreateType::Other { objtype } => *objtype == 2,
+    }
+}
+
+fn is_empty_text(objtype: &CreateType<'_>) -> bool
+    ensures { result ≡ of_create.text_is (λ n. n == 0) (view_create_type objtype.now) }
+{
+    match objtype {
+        CreateType::Symlink { linkdata } => linkdata.is_empty(),
+        CreateType::Block(_) => false,
+        CreateType::Character(_) => false,
+        CreateType::Other { .. } => false,
+    }
+}
+
+fn is_long_text(objtype: &CreateType<'_>) -> bool
+    ensures { result ≡ of_create.text_is (nat_lt most_text) (view_create_type objtype.now) }
+{
+    match objtype {
+        CreateType::Symlink { linkdata } => linkdata.len() > 1024,
+        CreateType::Block(_) => false,
+        CreateType::Character(_) => false,
+        CreateType::Other { .. } => false,
+    }
+}
+
+fn new_of<'a>(objtype: &CreateType<'a>) -> New<'a>
+    ensures { new_of result ≡ of_create.new_of (view_create_type objtype.now) }
+{
+    match objtype {
+        CreateType::Symlink { linkdata } => New::Link(linkdata),
+        CreateType::Block(_) => New::Directory,
+        CreateType::Character(_) => New::Directory,
+        CreateType::Other { .. } => New::Directory,
+    }
+}
+
+fn plain_mode(new: &New<'_>) -> u32
+    ensures { result ≡ of_create.plain_mode (new_of new.now) }
+{
+    match new {
+        New::Link(_) => 0o777,
+        New::Directory => 0o755,
+        New::File { .. } => 0o755,
+    }
+}
+
+/// The directory in which an object is to be made, where its type and its name may be.
+fn judge_place(store: &Store, context: &Context, asked: &Create<'_>) -> Result<Held, Status>
+    ensures { result ≡ checked (check.current (state_of store.now) context.now) (of_create.place_checks context.now (view_create asked.now)) }
+{
+    let d = current(store, context)?;
+    if !d.object.kind.is_directory() {
+        return Err(Status::NotDir);
+    }
+    if !permits(context, &d, Want::CHANGE) {
+        return Err(Status::Access);
+    }
+    if !is_made(&asked.objtype) {
+        return Err(Status::BadType);
+    }
+    if is_empty_text(&asked.objtype) {
+        return Err(Status::Inval);
+    }
+    if is_long_text(&asked.objtype) {
+        return Err(Status::NameTooLong);
+    }
+    judge_name(asked.objname)?;
+    Ok(d)
+}
+
+/// The attributes that are given.
+#[tactic(auto, unfolding(crate::specs::Create::wanted_of))]
+fn wanted_of(given: &Attributes<'_>) -> Result<Wanted, AttrFault>
+    ensures { result ≡ of_create.wanted_of (view_attributes given.now) }
+{
+    read_attrs(Mask::new(given.attrmask.words), given.attr_vals)
+}
+
+fn time_of(time: Option<SetTime>, now: Time) -> Option<Time>
+    ensures { result ≡ option_map (of_create.time_of now) time }
+{
+    match time {
+        Some(SetTime::Now) => Some(now),
+        Some(SetTime::Given(given)) => Some(given),
+        None => None,
+    }
+}
+
+/// What a new object's attributes are, where nothing else is given.
+fn sets_of(context: &Context, now: Time, new: &New<'_>, wanted: &Wanted) -> Sets
+    ensures { result ≡ of_create.sets_of context.now now (new_of new.now) wanted.now }
+{
+    Sets {
+        mode: Some(wanted.mode.unwrap_or(plain_mode(new))),
+        owner: Some(wanted.owner.unwrap_or(context.who.uid)),
+        group: Some(wanted.group.unwrap_or(context.who.gid)),
+        access: time_of(wanted.access, now),
+        modify: time_of(wanted.modify, now),
+    }
+}
+
+/// How a directory changed, with nothing else in between.
+pub(crate) fn change_info(change: Change) -> ChangeInfo
+    ensures { result ≡ of_create.change_info change }
+{
+    ChangeInfo {
+        atomic: true,
+        before: change.before,
+        after: change.after,
+    }
+}
+
+/// What is to be made where, if the caller may.
+fn judge_making(store: &Store, context: &Context, asked: &Create<'_>) -> Result<Making, Status>
+    ensures { result ≡ of_create.asked_for (state_of store.now) context.now (view_create asked.now) }
+{
+    let place = judge_place(store, context, asked)?;
+    let wanted = match wanted_of(&asked.createattrs) {
+        Ok(wanted) => wanted,
+        Err(fault) => return Err(fault.status()),
+    };
+    may_make(&wanted, &context.who)?;
+    if wanted.size.is_some() {
+        return Err(Status::Inval);
+    }
+    Ok(Making { place, wanted })
+}
+
+/// The status of what the tree refuses.
+fn status_of(fault: TreeFault) -> Status
+    ensures { result ≡ of_tree.status_of fault }
+{
+    match fault {
+        TreeFault::NoEnt => Status::NoEnt,
+        TreeFault::Exist => Status::Exist,
+        TreeFault::NotDir => Status::NotDir,
+        TreeFault::IsDir => Status::IsDir,
+        TreeFault::NotEmpty => Status::NotEmpty,
+        TreeFault::Inval => Status::Inval,
+        TreeFault::Fbig => Status::FBig,
+        TreeFault::NoSpc => Status::NoSpc,
+        TreeFault::Mlink => Status::MLink,
+        TreeFault::Counter => Status::ServerFault,
+        TreeFault::Memory => Status::Delay,
+    }
+}
+
+/// CREATE.
+pub(crate) fn create(
+    alloc: Global,
+    store: &mut Store,
+    context: &mut Context,
+    asked: &Create<'_>,
+    now: Time,
+) -> Res<'static>
+    requires { IsRooted store.old.tree }
+    ensures { outcome_of result (state_of store.new) context.new ≡ one_or_delay (is_delay (status_of_result (view.res result))) (state_of store.old) context.old now (OpCreate (view_create asked.now)) }
+{
+    match judge_making(store, context, asked) {
+        Ok(making) => {
+            let new = new_of(&asked.objtype);
+            let sets = sets_of(context, now, &new, &making.wanted);
+            match store.tree.create(alloc, making.place.number, asked.objname, &new, &sets, now) {
+                Ok(created) => {
+                    context.go_to(created.number);
+                    let given = Mask::new(asked.createattrs.attrmask.words);
+                    Res::Create(create_ok(&created, &given))
+                }
+                Err(fault) => refuse(OpNum::Create, status_of(fault)),
+            }
+        }
+        Err(status) => refuse(OpNum::Create, status),
+    }
+}
+
+/// The attributes of a mask, as a result tells them.
+fn attr_set(mask: &Mask) -> AttrSet
+    ensures { view.attr_set result ≡ told mask.now }
+{
+    let words = mask.words;
+    measure(&words);
+    AttrSet { words }
+}
+
+/// An array is as long as its type says.
+fn measure(words: &[u32; 3])
+    ensures { length words.now ≡ 3 }
+{
+    let _ = words.len();
+}
+
+/// What is told of an object that was made.
+fn create_ok(created: &Created, given: &Mask) -> CreateOk
+    ensures { view.create result ≡ record { cinfo = of_create.change_info created.now.directory; attrset = told given.now } }
+{
+    CreateOk {
+        cinfo: change_info(created.directory),
+        attrset: attr_set(given),
+    }
+}
+
+/// The directory and the object that is to get one more name.
+fn judge_link(store: &Store, context: &Context, name: &[u8]) -> Result<Pair, Status>
+    ensures { result ≡ checked (check.both (state_of store.now) context.now) (of_link.place_checks context.now name.now) }
+{
+    let p = both(store, context)?;
+    if !p.current.object.kind.is_directory() {
+        return Err(Status::NotDir);
+    }
+    if p.saved.object.kind.is_directory() {
+        return Err(Status::IsDir);
+    }
+    if !permits(context, &p.current, Want::CHANGE) {
+        return Err(Status::Access);
+    }
+    judge_name(name)?;
+    Ok(p)
+}
+
+/// LINK.
+pub(crate) fn link(
+    alloc: Global,
+    store: &mut Store,
+    context: &Context,
+    name: &[u8],
+    now: Time,
+) -> Res<'static>
+    requires { IsRooted store.old.tree }
+    ensures { outcome_of result (state_of store.new) context.now ≡ one_or_delay (is_delay (status_of_result (view.res result))) (state_of store.old) context.now now (OpLink name.now) }
+{
+    match judge_link(store, context, name) {
+        Ok(p) => match store
+            .tree
+            .link(alloc, p.saved.number, p.current.number, name, now)
+        {
+            Ok(change) => Res::Link(change_info(change)),
+            Err(fault) => refuse(OpNum::Link, status_of(fault)),
+        },
+        Err(status) => refuse(OpNum::Link, status),
+    }
+}
+
+/// Whether a row names the object.
+fn is_named(tree: &Tree, number: u64) -> bool
+    ensures { result ≡ has_row tree.now.rows number }
+{
+    tree.links(number) != 0
+}
+
+/// The object goes, unless it is the root or a row names it.
+fn drop_unnamed(tree: &mut Tree, number: u64)
+    requires { has_entries tree.old.rows number ≡ false }
+    ensures { tree.new ≡ without_unnamed tree.old number }
+{
+    if number == Tree::ROOT {
+        return;
+    }
+    if is_named(tree, number) {
+        return;
+    }
+    tree.forget(number);
+}
+
+/// What had a name that another object has now goes as by REMOVE.
+fn drop_replaced(tree: &mut Tree, replaced: Option<u64>)
+    requires { (n : ℕ) → replaced ≡ Some n → has_entries tree.old.rows n ≡ false }
+    ensures { tree.new ≡ of_rename.without_replaced tree.old replaced }
+{
+    if let Some(number) = replaced {
+        drop_unnamed(tree, number);
+    }
+}
+
+/// The directory of a name that is to go.
+fn judge_remove(store: &Store, context: &Context, name: &[u8]) -> Result<Held, Status>
+    ensures { result ≡ checked (check.current (state_of store.now) context.now) (of_remove.place_checks context.now name.now) }
+{
+    let d = current(store, context)?;
+    if !d.object.kind.is_directory() {
+        return Err(Status::NotDir);
+    }
+    if !permits(context, &d, Want::CHANGE) {
+        return Err(Status::Access);
+    }
+    judge_name(name)?;
+    Ok(d)
+}
+
+/// REMOVE.
+pub(crate) fn remove(store: &mut Store, context: &Context, name: &[u8], now: Time) -> Res<'static>
+    ensures { outcome_of result (state_of store.new) context.now ≡ of_remove.remove (state_of store.old) context.now now name.now }
+{
+    match judge_remove(store, context, name) {
+        Ok(d) => match store.tree.remove(d.number, name, now) {
+            Ok(removed) => {
+                drop_unnamed(&mut store.tree, removed.number);
+                Res::Remove(change_info(removed.directory))
+            }
+            Err(fault) => refuse(OpNum::Remove, status_of(fault)),
+        },
+        Err(status) => refuse(OpNum::Remove, status),
+    }
+}
+
+/// The two directories of an entry that is to move.
+fn judge_rename(store: &Store, context: &Context, asked: &Rename<'_>) -> Result<Pair, Status>
+    ensures { result ≡ checked (check.both (state_of store.now) context.now) (of_rename.place_checks context.now (view_rename asked.now)) }
+{
+    let p = both(store, context)?;
+    if !p.saved.object.kind.is_directory() {
+        return Err(Status::NotDir);
+    }
+    if !p.current.object.kind.is_directory() {
+        return Err(Status::NotDir);
+    }
+    if !permits(context, &p.saved, Want::CHANGE) {
+        return Err(Status::Access);
+    }
+    if !permits(context, &p.current, Want::CHANGE) {
+        return Err(Status::Access);
+    }
+    judge_name(asked.oldname)?;
+    judge_name(asked.newname)?;
+    Ok(p)
+}
+
+/// RENAME.
+pub(crate) fn rename(
+    alloc: Global,
+    store: &mut Store,
+    context: &Context,
+    asked: &Rename<'_>,
+    now: Time,
+) -> Res<'static>
+    requires { IsRooted store.old.tree }
+    ensures { outcome_of result (state_of store.new) context.now ≡ one_or_delay (is_delay (status_of_result (view.res result))) (state_of store.old) context.now now (OpRename (view_rename asked.now)) }
+{
+    match judge_rename(store, context, asked) {
+        Ok(p) => match store.tree.rename(
+            alloc,
+            p.saved.number,
+            asked.oldname,
+            p.current.number,
+            asked.newname,
+            now,
+        ) {
+            Ok(renamed) => {
+                drop_replaced(&mut store.tree, renamed.replaced);
+                Res::Rename(rename_ok(&renamed))
+            }
+            Err(fault) => refuse(OpNum::Rename, status_of(fault)),
+        },
+        Err(status) => refuse(OpNum::Rename, status),
+    }
+}
+
+fn rename_ok(renamed: &Renamed) -> RenameOk
+    ensures { result ≡ record { source_cinfo = of_create.change_info renamed.now.source; target_cinfo = of_create.change_info renamed.now.target } }
+{
+    RenameOk {
+        source_cinfo: change_info(renamed.source),
+        target_cinfo: change_info(renamed.target),
+    }
+}
