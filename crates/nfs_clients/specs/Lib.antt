@@ -1,3 +1,4 @@
+pub mod Owner
 pub mod Roster
 pub mod ExchangeId
 pub mod CreateSession

@@ -7,7 +7,7 @@ ghost use Rattle.nfs_clients.specs.ExchangeId.{told};
 
 use crate::created::CreateResult;
 use crate::exchange_id::Exchanged;
-use crate::owner::Owner;
+use crate::owner::{Name, Owner};
 use std::marker::Model;
 
 /// The record of a client (RFC 8881 section 2.4).
@@ -67,17 +67,17 @@ impl Client {
     }
 
     /// Whether this is the owner's confirmed record.
-    pub(crate) fn is_confirmed_of(&self, owner: &[u8]) -> bool
+    pub(crate) fn is_confirmed_of(&self, owner: &Name) -> bool
         ensures { result ≡ is_confirmed_of owner.now self.now }
     {
-        self.owner.is(owner) && self.confirmed
+        self.confirmed && self.owner.is(owner)
     }
 
     /// Whether this is the owner's unconfirmed record.
-    pub(crate) fn is_unconfirmed_of(&self, owner: &[u8]) -> bool
+    pub(crate) fn is_unconfirmed_of(&self, owner: &Name) -> bool
         ensures { result ≡ is_unconfirmed_of owner.now self.now }
     {
-        self.owner.is(owner) && !self.confirmed
+        !self.confirmed && self.owner.is(owner)
     }
 
     /// What a granted EXCHANGE_ID answers of a record that stands.

@@ -92,7 +92,7 @@ impl Client {
     fn is_other_confirmed_of(&self, client: &Client) -> bool
         ensures { result ≡ is_other_confirmed_of client.now self.now }
     {
-        self.is_confirmed_of(client.owner.bytes()) && self.id != client.id
+        self.id != client.id && self.is_confirmed_of(&client.owner.name())
     }
 }
 

@@ -11,7 +11,7 @@ ghost use Rattle.nfs_clients.specs.declared.exchange_id.ClientFault.TheVariants.
 
 use crate::client::Client;
 use crate::clients::Clients;
-use crate::owner::Owner;
+use crate::owner::{Name, Owner};
 use nfs_xdr::Status;
 use std::alloc::{AllocError, Global};
 
@@ -85,7 +85,7 @@ impl Clients {
     ) -> Result<(), ClientFault>
         ensures { result ≡ judged (exchange_fault self.now (asks owner.now verifier flags uid)) }
     {
-        if let Case::Refuses(fault) = self.case(owner, verifier, flags, uid) {
+        if let Case::Refuses(fault) = self.case(&Name::of(owner), verifier, flags, uid) {
             return Err(fault);
         }
         Ok(())
@@ -106,7 +106,7 @@ impl Clients {
     ) -> Result<Exchanged, ClientFault>
         ensures { ExchangesOrWants self.old (asks owner.now verifier flags uid) result self.new }
     {
-        match self.case(owner, verifier, flags, uid) {
+        match self.case(&Name::of(owner), verifier, flags, uid) {
             Case::Refuses(fault) => Err(fault),
             Case::Tells(client) => Ok(client.told()),
             Case::Adds => {
@@ -117,7 +117,7 @@ impl Clients {
     }
 
     /// What the call comes to.
-    fn case(&self, owner: &[u8], verifier: [u8; 8], flags: u32, uid: u32) -> Case
+    fn case(&self, owner: &Name, verifier: [u8; 8], flags: u32, uid: u32) -> Case
         ensures { case_seen result ≡ case_of self.now (asks owner.now verifier flags uid) }
     {
         match self.row(owner, verifier, flags, uid) {
@@ -133,7 +133,7 @@ impl Clients {
     }
 
     /// The row of the call, but for whether there is room.
-    fn row(&self, owner: &[u8], verifier: [u8; 8], flags: u32, uid: u32) -> Case
+    fn row(&self, owner: &Name, verifier: [u8; 8], flags: u32, uid: u32) -> Case
         ensures { case_seen result ≡ case_by (asks owner.now verifier flags uid) (confirmed_of self.now owner.now) }
     {
         match confirmed_in(&self.records, owner) {
@@ -143,11 +143,11 @@ impl Clients {
     }
 
     /// Whether a record of this owner can be added.
-    fn has_room(&self, owner: &[u8]) -> bool
+    fn has_room(&self, owner: &Name) -> bool
         ensures { result ≡ has_room self.now owner.now }
     {
         self.last < u32::MAX
-            && (unconfirmed_in(&self.records, owner).is_some() || self.records.len() < MOST_RECORDS)
+            && (self.records.len() < MOST_RECORDS || unconfirmed_in(&self.records, owner).is_some())
     }
 
     /// Puts a new record in the place of the owner's unconfirmed one.
@@ -159,7 +159,7 @@ impl Clients {
     {
         self.records.reserve(1)?;
         let id = self.next_id();
-        let replaced = take_unconfirmed(&mut self.records, owner.bytes());
+        let replaced = take_unconfirmed(&mut self.records, &owner.name());
         self.records
             .push(Client::new(id, owner, verifier, uid))
             .unwrap();
@@ -234,13 +234,13 @@ fn case_of_unknown<'a>(flags: u32) -> Case<'a>
     Case::Adds
 }
 
-fn confirmed_in<'a>(records: &'a [Client], owner: &[u8]) -> Option<&'a Client>
+fn confirmed_in<'a>(records: &'a [Client], owner: &Name) -> Option<&'a Client>
     ensures { option_copied result ≡ find (is_confirmed_of owner.now) records.now }
 {
     records.iter().find(|c| c.is_confirmed_of(owner))
 }
 
-fn take_unconfirmed(records: &mut Vec<Client>, owner: &[u8]) -> Option<u64>
+fn take_unconfirmed(records: &mut Vec<Client>, owner: &Name) -> Option<u64>
     ensures replaced { result ≡ option_map (λ c. c.id) (find (is_unconfirmed_of owner.now) records.old.items) }
     ensures left { records.new.items ≡ option_map_or (remove records.old.items) (position (is_unconfirmed_of owner.now) records.old.items) records.old.items }
     ensures fewer { vec_len records.new ≤ vec_len records.old }
@@ -251,13 +251,13 @@ fn take_unconfirmed(records: &mut Vec<Client>, owner: &[u8]) -> Option<u64>
     Some(replaced.id())
 }
 
-fn unconfirmed_place(records: &[Client], owner: &[u8]) -> Option<usize>
+fn unconfirmed_place(records: &[Client], owner: &Name) -> Option<usize>
     ensures { result ≡ position (is_unconfirmed_of owner.now) records.now }
 {
     records.iter().position(|c| c.is_unconfirmed_of(owner))
 }
 
-fn unconfirmed_in(records: &[Client], owner: &[u8]) -> Option<u64>
+fn unconfirmed_in(records: &[Client], owner: &Name) -> Option<u64>
     ensures { result ≡ option_map (λ c. c.id) (find (is_unconfirmed_of owner.now) records.now) }
 {
     let found = records.iter().find(|c| c.is_unconfirmed_of(owner))?;

@@ -113,8 +113,11 @@ fn a_client_goes_when_it_is_there_and_not_in_use(rt: HostRuntime) -> Result<(), 
 
 #[test]
 fn want_of_memory_is_answered_by_delay(rt: HostRuntime) {
-    assert_eq!(rt; ClientFault::Memory.status(), Status::Delay);
-    assert_eq!(rt; ClientFault::ServerFault.status(), Status::ServerFault);
+    let statuses = (
+        ClientFault::Memory.status(),
+        ClientFault::ServerFault.status(),
+    );
+    assert_eq!(rt; statuses, (Status::Delay, Status::ServerFault));
 }
 
 #[test]
@@ -122,46 +125,54 @@ fn exchange_id_with_a_confirmed_record(rt: HostRuntime) -> Result<(), Fail> {
     let mut clients = Clients::new(rt.alloc(), 7);
     clients.exchange(rt.alloc(), b"A", OLD, 0, 0)?;
     clients.confirm(id(1));
+    let (a, b, nameless) = (b"A".as_slice(), b"B".as_slice(), b"".as_slice());
     let cases = [
-        (OLD, CONFIRMED_R, 0, Err(ClientFault::Inval)),
-        (NEW, UPDATE, 0, Err(ClientFault::NotSame)),
-        (NEW, UPDATE, 9, Err(ClientFault::NotSame)),
-        (OLD, UPDATE, 9, Err(ClientFault::Perm)),
-        (OLD, UPDATE, 0, stands(1, 1)),
-        (OLD, 0, 0, stands(1, 1)),
-        (NEW, 0, 0, added(2, None)),
-        (OLD, 0, 9, added(3, Some(id(2)))),
-        (NEW, 0, 9, added(4, Some(id(3)))),
-        (OLD, 0, 0, stands(1, 1)),
+        (a, false, OLD, CONFIRMED_R, 0, Err(ClientFault::Inval)),
+        (a, false, NEW, UPDATE, 0, Err(ClientFault::NotSame)),
+        (a, false, NEW, UPDATE, 9, Err(ClientFault::NotSame)),
+        (a, false, OLD, UPDATE, 9, Err(ClientFault::Perm)),
+        (a, false, OLD, UPDATE, 0, stands(1, 1)),
+        (a, false, OLD, 0, 0, stands(1, 1)),
+        (a, false, NEW, 0, 0, added(2, None)),
+        (a, false, OLD, 0, 9, added(3, Some(id(2)))),
+        (a, false, NEW, 0, 9, added(4, Some(id(3)))),
+        (a, false, OLD, 0, 0, stands(1, 1)),
+        (a, true, OLD, 0, 9, Err(ClientFault::ClidInUse)),
+        (a, true, NEW, 0, 0, added(5, Some(id(4)))),
+        (b, true, OLD, 0, 9, added(6, None)),
+        (a, false, OLD, 0, 9, added(7, Some(id(5)))),
+        (nameless, false, OLD, 0, 0, added(8, None)),
     ];
-    for (verifier, flags, uid, want) in cases {
-        let judged = clients.judge_exchange(b"A", verifier, flags, uid);
-        assert_eq!(rt; judged, want.map(|_| ()), "judged with {flags:x} by {uid}");
-        let asked = clients.exchange(rt.alloc(), b"A", verifier, flags, uid);
-        assert_eq!(rt; asked, want, "with {flags:x} by {uid}");
+    for (owner, held, verifier, flags, uid, want) in cases {
+        clients.hold(id(1), held);
+        let judged = clients.judge_exchange(owner, verifier, flags, uid);
+        let asked = clients.exchange(rt.alloc(), owner, verifier, flags, uid);
+        assert_eq!(rt;
+            (judged, asked),
+            (want.map(|_| ()), want),
+            "{flags:x} by {uid}"
+        );
     }
-    clients.hold(id(1), true);
-    let held = clients.exchange(rt.alloc(), b"A", OLD, 0, 9);
-    assert_eq!(rt; held, Err(ClientFault::ClidInUse));
-    assert_eq!(rt;
-        clients.judge_exchange(b"A", OLD, 0, 9),
-        Err(ClientFault::ClidInUse)
-    );
-    assert_eq!(rt;
-        clients.exchange(rt.alloc(), b"A", NEW, 0, 0),
-        added(5, Some(id(4)))
-    );
-    assert_eq!(rt;
-        clients.exchange(rt.alloc(), b"B", OLD, 0, 9),
-        added(6, None)
-    );
-    clients.hold(id(1), false);
-    assert_eq!(rt;
-        clients.exchange(rt.alloc(), b"A", OLD, 0, 9),
-        added(7, Some(id(5)))
-    );
-    let nameless = clients.exchange(rt.alloc(), b"", OLD, 0, 0);
-    assert_eq!(rt; nameless, added(8, None));
+    Ok(())
+}
+
+/// Owners that differ in one byte or in their length alone are apart, and so are two whose digests are equal.
+#[test]
+fn owners_that_are_alike_are_apart(rt: HostRuntime) -> Result<(), Fail> {
+    let mut clients = Clients::new(rt.alloc(), 7);
+    for (owner, want) in [
+        (b"client one".as_slice(), added(1, None)),
+        (b"client onf".as_slice(), added(2, None)),
+        (b"dlient one".as_slice(), added(3, None)),
+        (b"client on".as_slice(), added(4, None)),
+        (b"\0client one".as_slice(), added(5, None)),
+        (b"\x01\x1f".as_slice(), added(6, None)),
+        (b"\x02\x00".as_slice(), added(7, None)),
+        (b"client one".as_slice(), added(8, Some(id(1)))),
+    ] {
+        let asked = clients.exchange(rt.alloc(), owner, OLD, 0, 0);
+        assert_eq!(rt; asked, want);
+    }
     Ok(())
 }
 
@@ -173,20 +184,17 @@ fn a_confirmation_removes_the_other_record(rt: HostRuntime) -> Result<(), Fail> 
     clients.confirm(id(1));
     clients.confirm(id(2));
     clients.exchange(rt.alloc(), b"A", NEW, 0, 0)?;
-    assert_eq!(rt; clients.leaving(id(1)), None);
-    assert_eq!(rt; clients.leaving(id(3)), Some(id(1)));
-    assert_eq!(rt; clients.leaving(id(4)), None);
+    for (count, leaves) in [(1, None), (3, Some(id(1))), (4, None)] {
+        assert_eq!(rt; clients.leaving(id(count)), leaves, "record {count}");
+    }
     clients.confirm(id(3));
     for (count, there) in [(1, false), (2, true), (3, true), (4, false)] {
         assert_eq!(rt; clients.contains(id(count)), there, "record {count}");
     }
-    assert_eq!(rt; clients.exchange(rt.alloc(), b"A", NEW, 0, 0), stands(3, 1));
-    clients.remove(id(3));
-    assert!(rt; !clients.contains(id(3)));
-    assert_eq!(rt;
-        clients.exchange(rt.alloc(), b"A", NEW, 0, 0),
-        added(4, None)
-    );
+    for want in [stands(3, 1), added(4, None)] {
+        assert_eq!(rt; clients.exchange(rt.alloc(), b"A", NEW, 0, 0), want);
+        clients.remove(id(3));
+    }
     Ok(())
 }
 
@@ -216,38 +224,44 @@ fn verdict_of(clients: &Clients, client: u64, number: u32, uid: u32) -> Said {
 fn create_session_numbers(rt: HostRuntime) -> Result<(), Fail> {
     let mut clients = Clients::new(rt.alloc(), 7);
     clients.exchange(rt.alloc(), b"A", OLD, 0, 0)?;
-    assert_eq!(rt; verdict_of(&clients, id(2), 1, 0), Said::Stale);
-    for (number, want) in [
-        (0, Said::Misordered),
-        (1, Said::Runs),
-        (2, Said::Misordered),
-    ] {
-        assert_eq!(rt;
-            verdict_of(&clients, id(1), number, 0),
-            want,
-            "number {number}"
-        );
-    }
-    assert_eq!(rt; verdict_of(&clients, id(1), 1, 9), Said::InUse);
-    for status in [
-        Status::Delay,
-        Status::StaleClientId,
-        Status::SeqMisordered,
-        Status::ClidInUse,
-    ] {
-        clients.keep_created(id(1), CreateResult::Refused(status));
-        assert_eq!(rt; verdict_of(&clients, id(1), 1, 0), Said::Runs);
-    }
-    let refusals = [
-        (1, 2, Status::TooSmall),
-        (2, 3, Status::NoSpc),
-        (3, 4, Status::ServerFault),
+    let cases = [
+        (None, 2, 1, 0, Said::Stale),
+        (None, 1, 0, 0, Said::Misordered),
+        (None, 1, 1, 0, Said::Runs),
+        (None, 1, 2, 0, Said::Misordered),
+        (None, 1, 1, 9, Said::InUse),
+        (Some(Status::Delay), 1, 1, 0, Said::Runs),
+        (Some(Status::StaleClientId), 1, 1, 0, Said::Runs),
+        (Some(Status::SeqMisordered), 1, 1, 0, Said::Runs),
+        (Some(Status::ClidInUse), 1, 1, 0, Said::Runs),
+        (
+            Some(Status::TooSmall),
+            1,
+            1,
+            0,
+            Said::Again(Status::TooSmall),
+        ),
+        (None, 1, 1, 9, Said::Again(Status::TooSmall)),
+        (None, 1, 2, 0, Said::Runs),
+        (Some(Status::NoSpc), 1, 2, 0, Said::Again(Status::NoSpc)),
+        (None, 1, 2, 9, Said::Again(Status::NoSpc)),
+        (None, 1, 3, 0, Said::Runs),
+        (
+            Some(Status::ServerFault),
+            1,
+            3,
+            0,
+            Said::Again(Status::ServerFault),
+        ),
+        (None, 1, 3, 9, Said::Again(Status::ServerFault)),
+        (None, 1, 4, 0, Said::Runs),
     ];
-    for (number, next, status) in refusals {
-        clients.keep_created(id(1), CreateResult::Refused(status));
-        assert_eq!(rt; verdict_of(&clients, id(1), number, 0), Said::Again(status));
-        assert_eq!(rt; verdict_of(&clients, id(1), number, 9), Said::Again(status));
-        assert_eq!(rt; verdict_of(&clients, id(1), next, 0), Said::Runs);
+    for (refused, count, number, uid, want) in cases {
+        if let Some(status) = refused {
+            clients.keep_created(id(1), CreateResult::Refused(status));
+        }
+        let said = verdict_of(&clients, id(count), number, uid);
+        assert_eq!(rt; said, want, "number {number} by {uid}");
     }
     clients.keep_created(id(1), CreateResult::Done(Resok::new(b"body")));
     for (number, want) in [
@@ -256,11 +270,8 @@ fn create_session_numbers(rt: HostRuntime) -> Result<(), Fail> {
         (5, Said::Runs),
         (6, Said::Misordered),
     ] {
-        assert_eq!(rt;
-            verdict_of(&clients, id(1), number, 0),
-            want,
-            "number {number}"
-        );
+        let said = verdict_of(&clients, id(1), number, 0);
+        assert_eq!(rt; said, want, "number {number}");
     }
     let CreateVerdict::Again(CreateResult::Done(kept)) = clients.create_judge(id(1), 4, 9) else {
         return Err(Fail::from("no kept result"));
@@ -294,18 +305,17 @@ fn no_1025th_record(rt: HostRuntime) -> Result<(), Fail> {
     for owner in 0..1024u32 {
         clients.exchange(rt.alloc(), &owner.to_be_bytes(), OLD, 0, 0)?;
     }
-    let full = clients.exchange(rt.alloc(), b"A", OLD, 0, 0);
-    assert_eq!(rt; full, Err(ClientFault::ServerFault));
-    assert_eq!(rt;
-        clients.judge_exchange(b"A", OLD, 0, 0),
-        Err(ClientFault::ServerFault)
-    );
-    let again = clients.exchange(rt.alloc(), &[0, 0, 0, 0], OLD, 0, 0);
-    assert_eq!(rt; again, added(1025, Some(id(1))));
-    clients.remove(id(2));
-    assert_eq!(rt;
-        clients.exchange(rt.alloc(), b"A", OLD, 0, 0),
-        added(1026, None)
-    );
+    let (new, first) = (b"A".as_slice(), [0, 0, 0, 0].as_slice());
+    let cases = [
+        (1025, new, Err(ClientFault::ServerFault)),
+        (1025, first, added(1025, Some(id(1)))),
+        (2, new, added(1026, None)),
+    ];
+    for (gone, owner, want) in cases {
+        clients.remove(id(gone));
+        let judged = clients.judge_exchange(owner, OLD, 0, 0);
+        let asked = clients.exchange(rt.alloc(), owner, OLD, 0, 0);
+        assert_eq!(rt; (judged, asked), (want.map(|_| ()), want));
+    }
     Ok(())
 }

@@ -1,3 +1,4 @@
 pub mod TableLemmas
 pub mod IdLemmas
 pub mod LawLemmas
+mod Places

@@ -4,12 +4,12 @@ use Rattle.std.specs.Prelude.{◌==◌, if◌then◌else◌, filter, position, s
 use Rattle.std.proofs.lemmas.Bool.{eqb-true, and_parts}
 use Rattle.std.proofs.lemmas.Option.{slice_get-get_or}
 use Rattle.std.proofs.lemmas.List.Quantifiers.{position-Some}
-use Rattle.nfs_xdr.proofs.Tables.{IsRising-push, IsRising-map, IsRising-filter, position_finds, one_changed}
+use Rattle.nfs_xdr.proofs.Tables.{IsRising-push, IsRising-map, IsRising-filter, one_changed}
 use Rattle.nfs_sessions.specs.declared.channel.Wish.{Wish}
 use Rattle.nfs_sessions.specs.declared.id.SessionId.{SessionId}
 use Rattle.nfs_sessions.specs.Channel.{granted}
 use Rattle.nfs_sessions.specs.SessionSlots.{GrantedSlots, unused}
-use Rattle.nfs_sessions.specs.Sessions.{Session, SessionTable, IsSessions, is_session, session_at, with_session, with_slots}
+use Rattle.nfs_sessions.specs.Sessions.{Session, SessionTable, IsSessions, is_session, with_session, with_slots}
 
 pub sessions_filtered : (t : SessionTable) (p : Session → Bool) → IsSessions t → IsSessions (record t { sessions = filter p t.sessions })
 sessions_filtered t p is = record { rising = IsRising-filter (λ (s : Session). s.counter) p 1 (suc t.last) t.sessions is.rising }
@@ -39,11 +39,6 @@ slots_changed t id change is =
 stands_at : (t : SessionTable) (id : SessionId) (xs : List Session) (place : ℕ) (s : Session) → xs ≡ t.sessions → position (is_session id) xs ≡ Some place → s ≡ get_or xs place s → (position (is_session id) t.sessions ≡ Some place) × (s ≡ get_or t.sessions place s)
 stands_at t id xs place s same at read =
     (ap (position (is_session id)) (sym same) ∙ at, read ∙ ap (λ (xs : List Session). get_or xs place s) same)
-
-pub found_at_place : (t : SessionTable) (id : SessionId) (xs : List Session) (place : ℕ) (s : Session) → xs ≡ t.sessions → position (is_session id) xs ≡ Some place → s ≡ get_or xs place s → session_at t id ≡ Some s
-found_at_place t id xs place s same at read =
-    let (placed, there) = stands_at t id xs place s same at read in
-    position_finds (is_session id) t.sessions place s placed ∙ ap (λ (x : Session). Some x) (sym there)
 
 written : (t : SessionTable) (id : SessionId) (place : ℕ) (s : Session) (change : GrantedSlots → GrantedSlots) → IsSessions t → position (is_session id) t.sessions ≡ Some place → s ≡ get_or t.sessions place s → set t.sessions place (record s { slots = change s.slots }) ≡ (with_slots t id change).sessions
 written t id place s change is at read =

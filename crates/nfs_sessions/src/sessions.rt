@@ -83,6 +83,12 @@ impl Model for Sessions {
 }
 
 impl Session {
+    fn counter(&self) -> u64
+        ensures { result ≡ self.now.counter }
+    {
+        self.counter
+    }
+
     fn is(&self, id: &SessionId) -> bool
         ensures { result ≡ is_session id.now self.now }
     {
@@ -104,29 +110,6 @@ impl Session {
             None => true,
         }
     }
-}
-
-fn session_in<'a>(sessions: &'a [Session], id: &SessionId) -> Option<&'a Session>
-    ensures { option_copied result ≡ find (is_session id.now) sessions.now }
-{
-    for s in sessions {
-        if s.is(id) {
-            return Some(s);
-        }
-    }
-    None
-}
-
-fn place_in(sessions: &[Session], id: &SessionId) -> Option<usize>
-    ensures { result ≡ position (is_session id.now) sessions.now }
-{
-    sessions.iter().position(|s| s.is(id))
-}
-
-fn drop_session(sessions: &mut Vec<Session>, id: &SessionId)
-    ensures { sessions.new.items ≡ filter (λ s. not (is_session id.now s)) sessions.old.items }
-{
-    sessions.retain(|s| !s.is(id));
 }
 
 fn drop_sessions_of(sessions: &mut Vec<Session>, client: u64)
@@ -211,9 +194,23 @@ impl Sessions {
         ensures found { option_copied result ≡ option_map (λ s. s.slots) (session_at self.now id.now) }
         ensures rising { IsSessions self.now }
     {
-        match session_in(&self.sessions, id) {
-            Some(s) => Some(&s.slots),
-            None => None,
+        let place = self.place(id)?;
+        Some(&self.sessions[place].slots)
+    }
+
+    /// The place of the session with this id, by halves.
+    fn place(&self, id: &SessionId) -> Option<usize>
+        ensures at { result ≡ position (is_session id.now) self.now.sessions }
+        ensures rising { IsSessions self.now }
+    {
+        let place = self
+            .sessions
+            .binary_search_by_key(&id.counter, |s| s.counter())
+            .ok()?;
+        if self.sessions[place].is(id) {
+            Some(place)
+        } else {
+            None
         }
     }
 
@@ -237,7 +234,7 @@ impl Sessions {
         requires { IsSomeAnd (session_at self.old id.now) (λ s. MayKeep s.slots slot number uid args.now reply.now) }
         ensures { self.new ≡ keep self.old id.now slot number uid args.now reply.now }
     {
-        if let Some(place) = place_in(&self.sessions, id) {
+        if let Some(place) = self.place(id) {
             let session = &mut self.sessions[place];
             session.keep(slot, number, uid, args, reply);
         }
@@ -248,9 +245,13 @@ impl Sessions {
         ensures stood { result ≡ is_some (session_at self.old id.now) }
         ensures gone { self.new ≡ destroyed self.old id.now }
     {
-        let stood = session_in(&self.sessions, id).is_some();
-        drop_session(&mut self.sessions, id);
-        stood
+        match self.place(id) {
+            Some(place) => {
+                self.sessions.remove(place);
+                true
+            }
+            None => false,
+        }
     }
 
     /// Ends the sessions of a client.

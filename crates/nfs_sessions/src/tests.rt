@@ -35,14 +35,19 @@ fn serve(
     let slots = sessions.slots(id)?;
     let verdict = slots.judge(0, number, 0, args);
     let channel = slots.channel();
-    let fits = args.len() <= channel.request as usize
-        && reply.len() + 24 <= channel.response as usize;
-    if let Verdict::Fresh = verdict
-        && fits
-    {
-        sessions.keep(id, 0, number, 0, args, reply);
+    if args.len() > channel.request as usize || reply.len() + 24 > channel.response as usize {
+        return Some(verdict);
     }
+    let Verdict::Fresh = verdict else {
+        return Some(verdict);
+    };
+    sessions.keep(id, 0, number, 0, args, reply);
     Some(verdict)
+}
+
+/// What slot 0 of a session keeps.
+fn kept<'a>(sessions: &'a Sessions, id: &SessionId) -> Option<&'a [u8]> {
+    Some(sessions.slots(id)?.kept(0))
 }
 
 /// Takes all memory that there is to take, untouched, down to blocks of 16 bytes.
@@ -69,9 +74,11 @@ fn starve(alloc: Global, held: &mut Vec<Vec<u8>>) {
 fn grants_the_lesser_of_the_wish_and_the_limit(rt: HostRuntime) -> Result<(), Fail> {
     let mut sessions = Sessions::new(rt.alloc());
     let id = sessions.create(rt.alloc(), A, &wish(1_049_620, 1_049_480, 8, 64))?;
-    assert_eq!(rt; id.client, A);
-    assert_eq!(rt; id.counter, 1);
     let slots = sessions.slots(&id).ok_or("no session")?;
+    let first = SessionId {
+        client: A,
+        counter: 1,
+    };
     let granted = Channel {
         request: 66_560,
         response: 66_560,
@@ -79,14 +86,17 @@ fn grants_the_lesser_of_the_wish_and_the_limit(rt: HostRuntime) -> Result<(), Fa
         operations: 8,
         slots: 16,
     };
-    assert_eq!(rt; slots.channel(), granted);
-    assert_eq!(rt; slots.judge(15, 1, 0, b""), Verdict::Fresh);
-    assert_eq!(rt; slots.judge(16, 1, 0, b""), Verdict::NoSlot);
-    let less = wish(2_048, 2_049, 65, 3).fore.granted();
-    assert_eq!(rt; less.request, 2_048);
-    assert_eq!(rt; less.response, 2_049);
-    assert_eq!(rt; less.operations, 64);
-    assert_eq!(rt; less.slots, 3);
+    assert_eq!(rt; (id, slots.channel()), (first, granted));
+    let judged = (slots.judge(15, 1, 0, b""), slots.judge(16, 1, 0, b""));
+    assert_eq!(rt; judged, (Verdict::Fresh, Verdict::NoSlot));
+    let less = Channel {
+        request: 2_048,
+        response: 2_049,
+        cached: 7_584,
+        operations: 64,
+        slots: 3,
+    };
+    assert_eq!(rt; wish(2_048, 2_049, 65, 3).fore.granted(), less);
     Ok(())
 }
 
@@ -97,42 +107,35 @@ fn an_id_is_spelled_in_16_bytes(rt: HostRuntime) {
         counter: 2,
     };
     let bytes = [0, 0, 0, 7, 0, 0, 0, 1, 0, 0, 0, 0, 0, 0, 0, 2];
-    assert_eq!(rt; id.to_bytes(), bytes);
-    assert_eq!(rt; SessionId::from_bytes(&bytes), id);
+    let spelled = (id.to_bytes(), SessionId::from_bytes(&bytes));
+    assert_eq!(rt; spelled, (bytes, id));
 }
 
 #[test]
 fn a_channel_that_is_too_small_is_refused(rt: HostRuntime) -> Result<(), Fail> {
     let mut sessions = Sessions::new(rt.alloc());
-    for (request, response, operations, slots) in [
-        (2_047, 66_560, 64, 16),
-        (66_560, 2_047, 64, 16),
-        (66_560, 66_560, 0, 16),
-        (66_560, 66_560, 64, 0),
+    let least = SessionId {
+        client: A,
+        counter: 1,
+    };
+    for (request, response, operations, slots, want) in [
+        (2_047, 66_560, 64, 16, Err(SessionFault::TooSmall)),
+        (66_560, 2_047, 64, 16, Err(SessionFault::TooSmall)),
+        (66_560, 66_560, 0, 16, Err(SessionFault::TooSmall)),
+        (66_560, 66_560, 64, 0, Err(SessionFault::TooSmall)),
+        (2_048, 2_048, 1, 1, Ok(least)),
     ] {
-        let small = wish(request, response, operations, slots);
-        assert!(rt; small.fore.is_too_small());
-        assert_eq!(rt;
-            sessions.create(rt.alloc(), A, &small),
-            Err(SessionFault::TooSmall)
-        );
+        let mut asked = wish(request, response, operations, slots);
+        asked.back.request = 0;
+        let made = sessions.create(rt.alloc(), A, &asked);
+        assert_eq!(rt; (made, asked.fore.is_too_small()), (want, want.is_err()));
     }
-    let mut least = wish(2_048, 2_048, 1, 1);
-    least.back.request = 0;
-    assert_eq!(rt; sessions.create(rt.alloc(), A, &least)?.counter, 1);
     Ok(())
 }
 
 #[test]
-fn a_fault_is_answered_with_its_status(rt: HostRuntime) {
-    for (fault, status) in [
-        (SessionFault::TooSmall, Status::TooSmall),
-        (SessionFault::NoSpc, Status::NoSpc),
-        (SessionFault::ServerFault, Status::ServerFault),
-        (SessionFault::Memory, Status::Delay),
-    ] {
-        assert_eq!(rt; fault.status(), status);
-    }
+fn want_of_memory_is_answered_by_delay(rt: HostRuntime) {
+    assert_eq!(rt; SessionFault::Memory.status(), Status::Delay);
 }
 
 #[test]
@@ -143,17 +146,18 @@ fn sessions_of_a_leaving_client_do_not_count(rt: HostRuntime) -> Result<(), Fail
     for _ in 1..64 {
         sessions.create(rt.alloc(), A, &small)?;
     }
-    assert_eq!(rt;
-        sessions.create(rt.alloc(), A, &small),
-        Err(SessionFault::NoSpc)
-    );
-    small.leaving = Some(9);
-    assert_eq!(rt;
-        sessions.create(rt.alloc(), A, &small),
-        Err(SessionFault::NoSpc)
-    );
-    small.leaving = Some(B);
-    assert_eq!(rt; sessions.create(rt.alloc(), A, &small)?.counter, 65);
+    let next = SessionId {
+        client: A,
+        counter: 65,
+    };
+    for (leaving, want) in [
+        (None, Err(SessionFault::NoSpc)),
+        (Some(9), Err(SessionFault::NoSpc)),
+        (Some(B), Ok(next)),
+    ] {
+        small.leaving = leaving;
+        assert_eq!(rt; sessions.create(rt.alloc(), A, &small), want);
+    }
     Ok(())
 }
 
@@ -170,18 +174,23 @@ fn a_session_that_is_gone_is_not_found_and_its_id_not_given_again(
         client: B,
         counter: first.counter,
     };
-    assert!(rt; !sessions.destroy(&strange));
-    assert!(rt; sessions.destroy(&first));
-    assert!(rt; !sessions.destroy(&first));
-    assert!(rt; sessions.slots(&first).is_none());
-    assert!(rt; !sessions.has_client(A));
-    assert!(rt; sessions.has_client(B));
+    let ended = (
+        sessions.destroy(&strange),
+        sessions.destroy(&first),
+        sessions.destroy(&first),
+    );
+    assert_eq!(rt; ended, (false, true, false));
+    let stand = (sessions.has_client(A), sessions.has_client(B));
+    assert_eq!(rt; stand, (false, true));
     let fourth = sessions.create(rt.alloc(), A, &small)?;
     assert_eq!(rt; fourth.counter, 4);
     sessions.drop_client(B);
-    assert!(rt; sessions.slots(&second).is_none());
-    assert!(rt; sessions.slots(&third).is_none());
-    assert!(rt; sessions.slots(&fourth).is_some());
+    let found = (
+        sessions.slots(&second).is_some(),
+        sessions.slots(&third).is_some(),
+        sessions.slots(&fourth).is_some(),
+    );
+    assert_eq!(rt; found, (false, false, true));
     Ok(())
 }
 
@@ -189,59 +198,20 @@ fn a_session_that_is_gone_is_not_found_and_its_id_not_given_again(
 fn a_reply_is_kept_in_its_own_session(rt: HostRuntime) -> Result<(), Fail> {
     let mut sessions = Sessions::new(rt.alloc());
     let small = wish(2_048, 2_048, 1, 1);
-    let first = sessions.create(rt.alloc(), A, &small)?;
-    let second = sessions.create(rt.alloc(), A, &small)?;
-    assert_eq!(rt;
-        serve(&mut sessions, &first, 1, b"args", b"reply"),
-        Some(Verdict::Fresh)
-    );
-    assert_eq!(rt;
-        serve(&mut sessions, &first, 1, b"args", b"other"),
-        Some(Verdict::Again)
-    );
-    assert_eq!(rt;
-        serve(&mut sessions, &first, 1, b"arms", b"other"),
-        Some(Verdict::FalseRetry)
-    );
-    assert_eq!(rt;
-        sessions.slots(&first).ok_or("no session")?.kept(0),
-        b"reply".as_slice()
-    );
-    assert_eq!(rt;
-        sessions.slots(&second).ok_or("no session")?.kept(0),
-        b"".as_slice()
-    );
-    assert_eq!(rt;
-        serve(&mut sessions, &second, 1, b"args", b"other"),
-        Some(Verdict::Fresh)
-    );
-    assert_eq!(rt;
-        sessions.slots(&first).ok_or("no session")?.kept(0),
-        b"reply".as_slice()
-    );
-    Ok(())
-}
-
-/// Keeps the reply to a request on slot 0 by the session's id, where the request is fresh and both fit.
-fn keep_by_id(
-    sessions: &mut Sessions,
-    id: &SessionId,
-    number: u32,
-    args: &[u8],
-    reply: &[u8],
-) -> bool {
-    let Some(slots) = sessions.slots(id) else {
-        return false;
-    };
-    let channel = slots.channel();
-    if args.len() > channel.request as usize || reply.len() + 24 > channel.response as usize {
-        return false;
+    let one = sessions.create(rt.alloc(), A, &small)?;
+    let two = sessions.create(rt.alloc(), A, &small)?;
+    let (reply, other) = (b"reply".as_slice(), b"other".as_slice());
+    for (id, args, given, want) in [
+        (one, b"args".as_slice(), reply, Verdict::Fresh),
+        (one, b"args".as_slice(), other, Verdict::Again),
+        (one, b"arms".as_slice(), other, Verdict::FalseRetry),
+        (two, b"args".as_slice(), other, Verdict::Fresh),
+    ] {
+        assert_eq!(rt; serve(&mut sessions, &id, 1, args, given), Some(want));
     }
-    let Verdict::Fresh = slots.judge(0, number, 0, args) else {
-        return false;
-    };
-    sessions.keep(id, 0, number, 0, args, reply);
-    true
+    assert_eq!(rt; kept(&sessions, &one), Some(reply));
+    assert_eq!(rt; kept(&sessions, &two), Some(other));
+    Ok(())
 }
 
 #[test]
@@ -249,13 +219,17 @@ fn a_reply_as_long_as_the_channel_lets_pass_is_kept(rt: HostRuntime) -> Result<(
     let mut sessions = Sessions::new(rt.alloc());
     let id = sessions.create(rt.alloc(), A, &wish(2_048, 2_048, 1, 1))?;
     let args = [1; 2_048];
-    let reply = [2; 2_024];
-    assert!(rt; keep_by_id(&mut sessions, &id, 1, &args, &reply));
-    assert!(rt; !keep_by_id(&mut sessions, &id, 1, &args, &reply));
-    assert!(rt; !keep_by_id(&mut sessions, &id, 2, &args, &[2; 2_025]));
-    let slots = sessions.slots(&id).ok_or("no session")?;
-    assert_eq!(rt; slots.judge(0, 1, 0, &args), Verdict::Again);
-    assert_eq!(rt; slots.kept(0), reply.as_slice());
+    let (reply, longer) = ([2; 2_024], [3; 2_025]);
+    for (number, given, want) in [
+        (1, reply.as_slice(), Verdict::Fresh),
+        (1, reply.as_slice(), Verdict::Again),
+        (2, longer.as_slice(), Verdict::Fresh),
+        (1, longer.as_slice(), Verdict::Again),
+    ] {
+        let said = serve(&mut sessions, &id, number, &args, given);
+        assert_eq!(rt; said, Some(want));
+    }
+    assert_eq!(rt; kept(&sessions, &id), Some(reply.as_slice()));
     Ok(())
 }
 
@@ -264,24 +238,16 @@ fn a_session_without_memory_leaves_all_as_it_was(rt: HostRuntime) -> Result<(), 
     let mut sessions = Sessions::new(rt.alloc());
     let large = wish(66_560, 66_560, 64, 16);
     let first = sessions.create(rt.alloc(), A, &large)?;
-    assert_eq!(rt;
-        serve(&mut sessions, &first, 1, b"args", b"reply"),
-        Some(Verdict::Fresh)
-    );
+    serve(&mut sessions, &first, 1, b"args", b"reply");
     let mut held = Vec::with_capacity(rt.alloc(), 300_000)?;
     starve(rt.alloc(), &mut held);
     let refused = sessions.create(rt.alloc(), B, &large);
     drop(held);
-    assert_eq!(rt; refused, Err(SessionFault::Memory));
-    assert!(rt; !sessions.has_client(B));
-    assert_eq!(rt;
-        serve(&mut sessions, &first, 1, b"args", b"other"),
-        Some(Verdict::Again)
-    );
-    assert_eq!(rt;
-        sessions.slots(&first).ok_or("no session")?.kept(0),
-        b"reply".as_slice()
-    );
+    let after = (refused, sessions.has_client(B));
+    assert_eq!(rt; after, (Err(SessionFault::Memory), false));
+    let said = serve(&mut sessions, &first, 1, b"args", b"other");
+    assert_eq!(rt; said, Some(Verdict::Again));
+    assert_eq!(rt; kept(&sessions, &first), Some(b"reply".as_slice()));
     assert_eq!(rt; sessions.create(rt.alloc(), B, &large)?.counter, 2);
     Ok(())
 }

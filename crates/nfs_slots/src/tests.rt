@@ -34,67 +34,34 @@ fn serve(slots: &mut Slots, number: u32, uid: u32, args: &[u8], reply: &[u8]) ->
 }
 
 #[test]
-fn a_misordered_number_leaves_the_slot(rt: HostRuntime) -> Result<(), Fail> {
-    let mut slots = Slots::new(rt.alloc(), 16, 8, 8)?;
-    assert_eq!(rt;
-        serve(&mut slots, 0, 0, b"args", b"reply"),
-        Verdict::Misordered
-    );
-    assert_eq!(rt; slots.judge(16, 1, 0, b"args"), Verdict::NoSlot);
-    assert_eq!(rt; slots.judge(15, 1, 0, b"args"), Verdict::Fresh);
-    assert_eq!(rt;
-        serve(&mut slots, 2, 0, b"args", b"reply"),
-        Verdict::Misordered
-    );
-    assert_eq!(rt; slots.kept(0), b"".as_slice());
-    assert_eq!(rt; slots.kept(16), b"".as_slice());
-    assert_eq!(rt; serve(&mut slots, 1, 0, b"args", b"reply"), Verdict::Fresh);
-    assert_eq!(rt; slots.kept(0), b"reply".as_slice());
-    assert_eq!(rt; slots.kept(1), b"".as_slice());
-    assert_eq!(rt; slots.judge(1, 1, 0, b"args"), Verdict::Fresh);
-    Ok(())
-}
-
-#[test]
-fn another_caller_is_a_false_retry(rt: HostRuntime) -> Result<(), Fail> {
-    let mut slots = Slots::new(rt.alloc(), 1, 8, 8)?;
-    assert_eq!(rt; serve(&mut slots, 1, 0, b"args", b"reply"), Verdict::Fresh);
-    assert_eq!(rt;
-        serve(&mut slots, 1, 5, b"args", b"other"),
-        Verdict::FalseRetry
-    );
-    assert_eq!(rt; serve(&mut slots, 1, 0, b"args", b"other"), Verdict::Again);
-    assert_eq!(rt; slots.kept(0), b"reply".as_slice());
-    Ok(())
-}
-
-#[test]
-fn other_arguments_are_a_false_retry(rt: HostRuntime) -> Result<(), Fail> {
+fn a_slot_judges_by_number_caller_and_arguments(rt: HostRuntime) -> Result<(), Fail> {
     let putrootfh = sequence_and(0, 24);
     let putpubfh = sequence_and(0, 23);
     let cached = sequence_and(1, 24);
-    let mut slots = Slots::new(rt.alloc(), 1, 8, 52)?;
-    assert_eq!(rt;
-        serve(&mut slots, 1, 0, &putrootfh, b"reply"),
-        Verdict::Fresh
-    );
-    assert_eq!(rt;
-        serve(&mut slots, 1, 0, &putpubfh, b"other"),
-        Verdict::FalseRetry
-    );
-    assert_eq!(rt;
-        serve(&mut slots, 1, 0, &putrootfh, b"other"),
-        Verdict::Again
-    );
-    assert_eq!(rt;
-        serve(&mut slots, 1, 0, &cached, b"other"),
-        Verdict::FalseRetry
-    );
-    assert_eq!(rt;
-        serve(&mut slots, 1, 0, b"args", b"other"),
-        Verdict::FalseRetry
-    );
+    let mut slots = Slots::new(rt.alloc(), 16, 8, 52)?;
+    let (reply, other) = (*b"reply", *b"other");
+    for (number, uid, args, given, want) in [
+        (0, 0, putrootfh, other, Verdict::Misordered),
+        (2, 0, putrootfh, other, Verdict::Misordered),
+        (1, 0, putrootfh, reply, Verdict::Fresh),
+        (1, 5, putrootfh, other, Verdict::FalseRetry),
+        (1, 0, putpubfh, other, Verdict::FalseRetry),
+        (1, 0, cached, other, Verdict::FalseRetry),
+        (1, 0, putrootfh, other, Verdict::Again),
+        (3, 0, putrootfh, other, Verdict::Misordered),
+    ] {
+        let verdict = serve(&mut slots, number, uid, &args, &given);
+        assert_eq!(rt; verdict, want, "{number} by {uid}");
+    }
     assert_eq!(rt; slots.kept(0), b"reply".as_slice());
+    for (slot, want) in [
+        (1, Verdict::Fresh),
+        (15, Verdict::Fresh),
+        (16, Verdict::NoSlot),
+    ] {
+        assert_eq!(rt; slots.judge(slot, 1, 0, b"args"), want);
+        assert!(rt; slots.kept(slot).is_empty());
+    }
     Ok(())
 }
 
@@ -130,9 +97,9 @@ fn a_verdict_is_answered_with_its_status(rt: HostRuntime) {
 
 #[test]
 fn room_that_is_not_to_be_had_is_refused(rt: HostRuntime) {
-    assert!(rt; Slots::new(rt.alloc(), 1, usize::MAX, 0).is_err());
-    assert!(rt; Slots::new(rt.alloc(), 1, 0, usize::MAX).is_err());
-    assert!(rt; Slots::new(rt.alloc(), usize::MAX, 0, 0).is_err());
+    for (count, size, request) in [(1, usize::MAX, 0), (1, 0, usize::MAX), (usize::MAX, 0, 0)] {
+        assert!(rt; Slots::new(rt.alloc(), count, size, request).is_err());
+    }
 }
 
 /// What CREATE of one name answers, where `tries` counts how often it ran: the first makes the directory, and any other finds it there.
@@ -169,14 +136,10 @@ fn a_contract_of_the_number_alone_lets_a_repeat_run_again(rt: HostRuntime) {
         used: false,
     };
     let mut tries = 0;
-    assert_eq!(rt; slot.take(1), Verdict::Fresh);
-    assert_eq!(rt; create(&mut tries), OK);
-    assert_eq!(rt; slot.take(1), Verdict::Fresh);
-    assert_eq!(rt;
-        create(&mut tries),
-        EXIST,
-        "the repeat ran, and its caller is told of its own directory"
-    );
+    for told in [OK, EXIST] {
+        let answer = (slot.take(1), create(&mut tries));
+        assert_eq!(rt; answer, (Verdict::Fresh, told));
+    }
 }
 
 #[test]

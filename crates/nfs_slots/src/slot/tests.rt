@@ -6,13 +6,21 @@ fn numbers_go_round(rt: HostRuntime) -> Result<(), Fail> {
     let mut slot = Slot::new(rt.alloc(), 4, 4)?;
     slot.number = u32::MAX;
     slot.used = true;
-    assert_eq!(rt; slot.judge(u32::MAX, 0, b""), Verdict::Again);
-    assert_eq!(rt; slot.judge(1, 0, b""), Verdict::Misordered);
-    assert_eq!(rt; slot.judge(0, 0, b"args"), Verdict::Fresh);
+    for (number, args, want) in [
+        (u32::MAX, b"".as_slice(), Verdict::Again),
+        (1, b"".as_slice(), Verdict::Misordered),
+        (0, b"args".as_slice(), Verdict::Fresh),
+    ] {
+        assert_eq!(rt; slot.judge(number, 0, args), want, "{number}");
+    }
     slot.keep(0, 0, b"args", b"kept");
-    assert_eq!(rt; slot.judge(0, 0, b"args"), Verdict::Again);
-    assert_eq!(rt; slot.judge(u32::MAX, 0, b"args"), Verdict::Misordered);
-    assert_eq!(rt; slot.judge(1, 0, b"args"), Verdict::Fresh);
+    for (number, want) in [
+        (0, Verdict::Again),
+        (u32::MAX, Verdict::Misordered),
+        (1, Verdict::Fresh),
+    ] {
+        assert_eq!(rt; slot.judge(number, 0, b"args"), want, "{number}");
+    }
     assert_eq!(rt; slot.reply(), b"kept".as_slice());
     Ok(())
 }
