@@ -3,7 +3,7 @@ use Rattle.std.proofs.Common.{◌≡◌, ℕ, ◌≤◌, zero, suc, Bool, true, 
 use Rattle.std.specs.Prelude.{IsTrue, not, is_some}
 use Rattle.std.proofs.lemmas.Bool.{cases_Bool, and_right, le-leb, leb-true, eqb-true, ne_eqb, and_parts}
 use Rattle.nfs_xdr.specs.declared.status.Status.{Status}
-use Rattle.nfs_xdr.specs.declared.status.Status.TheVariants.{NotSupp, OpIllegal, Inval, BadXdr, NotOnlyOp, OpNotInSession}
+use Rattle.nfs_xdr.specs.declared.status.Status.TheVariants.{NotSupp, Inval, BadXdr, NotOnlyOp, OpNotInSession, SequencePos, RepTooBig, BadSession, StaleClientId, ClientIdBusy}
 use Rattle.nfs_xdr.specs.Status.{status_number}
 use Rattle.nfs_compound.specs.declared.op_num.OpNum.{OpNum}
 use Rattle.nfs_compound.specs.declared.op_num.OpNum.TheVariants.{Access, Close, Commit, Create, GetAttr, GetFh, Link, Lock, LockT, LockU, Lookup, LookupP, NVerify, Open, OpenDowngrade, PutFh, PutPubFh, PutRootFh, Read}
@@ -11,25 +11,28 @@ use Rattle.nfs_compound.specs.declared.op_num.OpNum.TheVariants.{ReadDir, ReadLi
 use Rattle.nfs_compound.specs.OpNum.{op_number, op_nums, op_num}
 use Rattle.nfs_compound.specs.Operation.{Op, Item, Operation, Fault}
 use Rattle.nfs_compound.specs.Arguments.{arguments, flaw, fault_of, fault_at}
-use Rattle.nfs_compound.specs.Request.{Request, IsRequest, Lists, HasBody}
+use Rattle.nfs_compound.specs.Request.{Request, Lists, HasBody}
 use Rattle.nfs_results.specs.Results.{bears, tells, can_refuse, refusal}
-use Rattle.nfs_results.specs.Result.{Res, ResSetAttr, Refused}
-use Rattle.nfs_results.specs.Results.{HasArrays, IsBounded, spell_result}
+use Rattle.nfs_results.specs.Result.{Res, ResSetAttr, ResDestroySession, ResDestroyClientId, Refused}
+use Rattle.nfs_results.specs.Results.{HasArrays, IsBounded, head, spell_result, status_of_result}
 use Rattle.nfs_results.specs.Largest.{number_of, MayAnswer}
-use Rattle.nfs_results.proofs.Lengths.{length_result}
+use Rattle.nfs_results.proofs.Lengths.{length_result, length_head}
+use Rattle.nfs_results.specs.Items.{attr_set}
+use Rattle.nfs_xdr.proofs.Putting.{length_number}
+use Rattle.std.proofs.lemmas.List.{length-append, append-nil}
+use Rattle.nfs_xdr.specs.Spelling.{number}
 use Rattle.nfs_compound.specs.SessionArgs.{protected}
 use Rattle.nfs_compound.specs.SessionArgs.{ExchangeId as ExchangeArgs}
-use Rattle.nfs_compound.specs.Operation.{OpExchangeId}
+use Rattle.nfs_compound.specs.Operation.{OpExchangeId, OpDestroySession, OpDestroyClientId, OpSequence}
+use Rattle.nfs_clients.specs.declared.destroy.DestroyFault.{DestroyFault}
+use Rattle.nfs_clients.specs.declared.destroy.DestroyFault.TheVariants.{Stale, Busy}
+use Rattle.nfs_clients.specs.DestroyClientId.{destroy_status}
+use Rattle.nfs_xdr.specs.Tables.{In}
 use Rattle.nfs_xdr.specs.Codec.{listed_at}
 use Rattle.std.proofs.Common.{length}
-use Rattle.nfs_xdr.specs.Caller.{Caller}
 use Rattle.nfs_compound.specs.Arguments.{item_number}
-use Rattle.nfs_exec.specs.Machine.{Machine, refuses}
-use Rattle.nfs_exec.specs.Place.{CanBear, IsSmall}
-use Rattle.nfs_exec.specs.Compound.{IsOpened, stands_alone, is_sequence, item_fault, carried_out}
-use Rattle.nfs_compound.specs.declared.arg.Arg.{Arg}
-use Rattle.nfs_compound.specs.declared.arg.Arg.TheVariants as Args
-use Rattle.nfs_compound.specs.declared.session_args.ExchangeId.{ExchangeId as ExchangeIdArgs}
+use Rattle.nfs_exec.specs.Place.{CanBear, IsSmall, stands_alone, is_sequence, item_fault, status_behind}
+use Rattle.nfs_exec.specs.Compound.{IsOpened}
 use Rattle.nfs_compound.specs.View.{item}
 
 -- a status that every operation of the minor version can be refused with, with nothing behind it
@@ -176,8 +179,91 @@ pub rest_small : (i : Item) (declared : ℕ) → item_fault declared i ≡ None 
 rest_small (Fault n t) declared e = absurd cc
 rest_small (Operation op) declared e = not_supp op
 
--- what is no EXCHANGE_ID is answered that it is not supported
-pub not_exchange : (m : Machine) (who : Caller) (refused : Bool) (a : Arg) → ((asked : ExchangeIdArgs) → a ≡ Args.ExchangeId asked → ⊥) →
-    carried_out m who refused (item a) ≡ refuses m (item_number (item a)) NotSupp
-not_exchange m who refused (Args.ExchangeId e) other = absurd (other e refl)
-not_exchange m who refused a other = refl
+-- every operation of the list that was opened can be answered, and the list is no longer than declared
+
+in_first : (n : ℕ) (bytes : List ℕ) (i : Item) (items : List Item) → Lists n bytes items → In i items → CanBear i
+in_first n bytes i [] lists there = absurd there
+in_first n bytes i (first ∷ more) lists (inl here) = subst CanBear (sym here) (listed_bears n bytes first more lists)
+in_first zero bytes i (first ∷ more) lists (inr there) = absurd lists
+in_first (suc n) bytes i (Operation op ∷ more) lists (inr there) = in_first n lists.0 i more lists.3 there
+in_first (suc n) bytes i (Fault k s ∷ []) lists (inr there) = absurd there
+in_first (suc n) bytes i (Fault k s ∷ next ∷ more) lists (inr there) = absurd lists
+
+few_listed : (n : ℕ) (bytes : List ℕ) (items : List Item) → Lists n bytes items → length items ≤ n
+few_listed n bytes [] lists = omega arith
+few_listed zero bytes (first ∷ more) lists = absurd lists
+few_listed (suc n) bytes (Operation op ∷ more) lists = let rest = few_listed n lists.0 more lists.3 in omega arith
+few_listed (suc n) bytes (Fault k s ∷ []) lists = omega arith
+few_listed (suc n) bytes (Fault k s ∷ next ∷ more) lists = absurd lists
+
+-- the whole list of an opened request of minor version 1
+listed : (r : Request) → (opened : IsOpened r) → r.minor ≡ 1 → Lists r.declared opened.request.body r.left
+listed r opened one = subst (λ m. HasBody m r.declared opened.request.body r.left) one opened.request.items
+
+pub opened_all : (r : Request) → IsOpened r → r.minor ≡ 1 → (i : Item) → In i r.left → CanBear i
+opened_all r opened one i there = in_first r.declared opened.request.body i r.left (listed r opened one) there
+
+pub opened_few : (r : Request) → IsOpened r → r.minor ≡ 1 → length r.left ≤ r.declared
+opened_few r opened one = few_listed r.declared opened.request.body r.left (listed r opened one)
+
+pub done_small : IsSmall ResDestroyClientId
+done_small = (tt, λ arrays. length_result (Operation (OpDestroyClientId 0)) ResDestroyClientId arrays (refl, tt, tt))
+
+pub session_done_small : IsSmall ResDestroySession
+session_done_small = (tt, λ arrays. length_result (Operation (OpDestroySession [])) ResDestroySession arrays (refl, tt, tt))
+
+pub destroy_session_small : IsSmall (refusal 44 BadSession)
+destroy_session_small = op_small (OpDestroySession []) BadSession (refl, refl, refl)
+
+pub destroy_client_small : (fault : DestroyFault) → IsSmall (refusal 57 (destroy_status fault))
+destroy_client_small Stale = op_small (OpDestroyClientId 0) StaleClientId (refl, refl, refl)
+destroy_client_small Busy = op_small (OpDestroyClientId 0) ClientIdBusy (refl, refl, refl)
+
+-- what an item behind a SEQUENCE is refused with
+
+fault_too_big : (n : ℕ) (s : Status) → IsTrue (eqb n 34 || can_refuse n s) → IsTrue (eqb n 34 || can_refuse n RepTooBig)
+fault_too_big n s can = elim (cases_Bool (eqb n 34)) [
+  | inl e ↦ rw e refl
+  | inr e ↦ elim (cases_Bool (eqb n 10044)) [
+    | inl illegal ↦ rw (eqb-true n 10044 illegal) refl
+    | inr other ↦ (
+        let plain : IsTrue (can_refuse n s) = subst (λ b. IsTrue (b || can_refuse n s)) e can in
+        let parts = and_parts (bears n s) (not (tells n s)) plain in
+        let inside = and_parts (leb 3 n && leb n 58) _ (rw other at parts.0) in
+        let range = and_parts (leb 3 n) (leb n 58) inside.0 in
+        common_bears n RepTooBig (leb-true 3 n range.0) (leb-true n 58 range.1) (refl, refl, refl)
+        )
+  ]
+]
+
+pub behind_bears : (i : Item) (big : Bool) → CanBear i → IsTrue (eqb (item_number i) 34 || can_refuse (item_number i) (cond big RepTooBig (status_behind i)))
+behind_bears (Fault n s) true bears = fault_too_big n s bears
+behind_bears (Fault n s) false bears = bears
+behind_bears (Operation op) true bears = op_bears op RepTooBig (refl, refl, refl)
+behind_bears (Operation (OpSequence s)) false bears = op_bears (OpSequence s) SequencePos (refl, refl, refl)
+behind_bears (Operation op) false bears = refl
+
+pub refusal_bounded : (n : ℕ) (s : Status) → IsTrue (eqb n 34 || can_refuse n s) → IsBounded (refusal n s)
+refusal_bounded n s can = (refusal_small n s can).0
+
+length_no_attrs : length (attr_set.spell []) ≡ 4
+unfolding attr_set
+length_no_attrs = ap length (append-nil (number 0)) ∙ length_number 0
+
+pub refusal_short : (n : ℕ) (s : Status) → length (spell_result (refusal n s)) ≤ 12
+refusal_short n s = elim (cases_Bool (eqb n 34)) [
+  | inl e ↦ rw e (omega (arith, length-append (head 34 s) (attr_set.spell []), length_head 34 s, length_no_attrs))
+  | inr e ↦ rw e (omega (arith, length-append (head n s) [], length_head n s))
+]
+
+pub refusal_arrays : (n : ℕ) (s : Status) → HasArrays (refusal n s)
+refusal_arrays n s = elim (cases_Bool (eqb n 34)) [
+  | inl e ↦ rw e tt
+  | inr e ↦ rw e tt
+]
+
+pub refused_status : (n : ℕ) (s : Status) → status_of_result (refusal n s) ≡ s
+refused_status n s = elim (cases_Bool (eqb n 34)) [
+  | inl e ↦ rw e refl
+  | inr e ↦ rw e refl
+]

@@ -1,4 +1,14 @@
-mod Bearing
-mod Room
-mod Lone
-mod Memory
+pub mod Leasing
+pub mod Exchanging
+pub mod Judging
+pub mod Bearing
+pub mod Destroying
+pub mod Expiring
+pub mod Running
+pub mod Creating
+pub mod Standing
+pub mod Keeping
+pub mod Whole
+pub mod Invariant
+pub mod Latest
+pub mod Repeating

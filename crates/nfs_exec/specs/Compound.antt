@@ -1,81 +1,93 @@
 -- A compound (RFC 8881 sections 2.3, 2.10.6.4 and 16.2): what it answers, and the machine behind it.
-use Rattle.std.specs.Prelude.{◌≡◌, ◌+◌, ◌≤◌, ℕ, zero, ◌==◌, nat_lt, Bool, true, false, not, ◌&&◌, ◌||◌, List, [], ◌∷◌, length, Option, Some, None, if◌then◌else◌}
+use Rattle.std.specs.Prelude.{◌≡◌, ◌+◌, ◌≤◌, ℕ, zero, ◌==◌, Bool, true, false, List, [], ◌∷◌, ◌++◌, length, Option, Some, None, if◌then◌else◌}
 use Rattle.nfs_xdr.specs.declared.status.Status.{Status}
-use Rattle.nfs_xdr.specs.declared.status.Status.TheVariants.{Nfs4Ok, MinorVersMismatch, NotOnlyOp, NotSupp, OpNotInSession}
+use Rattle.nfs_xdr.specs.declared.status.Status.TheVariants.{Nfs4Ok, MinorVersMismatch, NotSupp}
 use Rattle.nfs_xdr.specs.Paper.{Paper, Puts}
-use Rattle.nfs_compound.specs.Operation.{Op, OpExchangeId, OpCreateSession, OpDestroySession, OpDestroyClientId, OpSequence, Item, Operation, Fault}
-use Rattle.nfs_compound.specs.Request.{Request, IsRequest}
-use Rattle.nfs_xdr.specs.Checks.{first_fault}
-use Rattle.nfs_compound.specs.Arguments.{item_number}
-use Rattle.nfs_results.specs.Results.{status_of_result}
-use Rattle.nfs_results.specs.CompoundResult.{CompoundResult, spell_compound}
 use Rattle.nfs_xdr.specs.Caller.{Caller}
-use Rattle.nfs_exec.specs.Machine.{Machine, Outcome, refuses, or_delay}
+use Rattle.nfs_compound.specs.Operation.{OpExchangeId, OpCreateSession, OpDestroySession, OpDestroyClientId, OpSequence, Item, Operation}
+use Rattle.nfs_compound.specs.declared.session_args.Sequence.{Sequence}
+use Rattle.nfs_compound.specs.Request.{Request, IsRequest}
+use Rattle.nfs_compound.specs.Arguments.{item_number}
+use Rattle.nfs_results.specs.Result.{ResSequence}
+use Rattle.nfs_results.specs.Results.{spell_result}
+use Rattle.nfs_results.specs.CompoundResult.{spell_compound_head}
+use Rattle.nfs_sessions.specs.declared.channel.Channel.{Channel}
+use Rattle.nfs_sessions.specs.declared.slots.TheConstants.{RPC_HEAD}
+use Rattle.nfs_sessions.specs.Id.{id_of}
+use Rattle.nfs_sessions.specs.Sessions.{keep}
+use Rattle.nfs_lease.specs.Renewals.{with_renewal}
+use Rattle.nfs_exec.specs.Machine.{Machine, Outcome, comes_to, refuses, or_delay}
+use Rattle.nfs_exec.specs.Place.{item_fault}
 use Rattle.nfs_exec.specs.ExchangeId.{exchange_id, exchange_id_number}
+use Rattle.nfs_exec.specs.CreateSession.{create_session}
+use Rattle.nfs_exec.specs.Destroy.{destroy_session, destroy_client}
+use Rattle.nfs_exec.specs.Sequence.{Sequenced, Refuses, Repeats, Runs, sequenced, accepted, sequence_number}
+use Rattle.nfs_exec.specs.Run.{Ran, run, finished, only, follow}
 
 -- The place at which memory was refused, if any, is counted from here.
 abbrev pub is_here : Option ℕ → Bool
 is_here (Some zero) = true
 is_here _ = false
 
+-- The bytes of the result of a compound, from its status on, and the machine behind it.
 pub record Answered : Type 0 where
-  pub result : CompoundResult
+  pub text : List ℕ
   pub machine : Machine
+
+abbrev pub answers : Request → Ran → Answered
+answers r ran = record { text = spell_compound_head ran.status r.tag ran.count ++ ran.results; machine = ran.machine }
 
 -- a compound of which no operation is run
 abbrev pub bare : Request → Status → Machine → Answered
-bare r status m = record { result = record { status = status; tag = r.tag; results = [] }; machine = m }
+bare r status m = answers r (record (finished m) { status = status })
 
--- a compound of one result, which bears its status
-abbrev pub lone : Request → Outcome → Answered
-lone r o = record { result = record { status = status_of_result o.result; tag = r.tag; results = o.result ∷ [] }; machine = o.machine }
-
--- the operations that stand alone in a compound outside a session
-abbrev pub stands_alone : Op → Bool
-stands_alone (OpExchangeId e) = true
-stands_alone (OpCreateSession c) = true
-stands_alone (OpDestroySession sessionid) = true
-stands_alone (OpDestroyClientId clientid) = true
-stands_alone op = false
-
--- SEQUENCE, which begins a compound in a session
-abbrev pub is_sequence : Op → Bool
-is_sequence (OpSequence s) = true
-is_sequence op = false
-
--- Why an operation cannot stand in the first place, of so many declared.
-abbrev pub place_fault : ℕ → Op → Option Status
-place_fault declared op =
-    first_fault ((stands_alone op && nat_lt 1 declared, NotOnlyOp)
-    ∷ (not (stands_alone op || is_sequence op), OpNotInSession)
-    ∷ [])
-
--- a fault answers its own status, whatever place it is
-abbrev pub item_fault : ℕ → Item → Option Status
-item_fault declared (Operation op) = place_fault declared op
-item_fault declared (Fault number status) = Some status
-
--- What is carried out, for a caller. The other operations are read, and answer NFS4ERR_NOTSUPP at their place.
-abbrev pub carried_out : Machine → Caller → Bool → Item → Outcome
-carried_out m who refused (Operation (OpExchangeId e)) = or_delay refused m exchange_id_number (exchange_id m who e)
-carried_out m who refused item = refuses m (item_number item) NotSupp
+-- Outside a session one operation stands alone, and may want memory; no other item is run there.
+abbrev pub carried_out : Machine → Caller → ℕ → Bool → Item → Outcome
+carried_out m who now refused (Operation (OpExchangeId e)) = or_delay refused m exchange_id_number (exchange_id m who now e)
+carried_out m who now refused (Operation (OpCreateSession c)) = create_session m who now refused c
+carried_out m who now refused (Operation (OpDestroySession sessionid)) = destroy_session m sessionid
+carried_out m who now refused (Operation (OpDestroyClientId client)) = destroy_client m client
+carried_out m who now refused item = refuses m (item_number item) NotSupp
 
 abbrev pub by_fault : Machine → ℕ → Option Status → Outcome → Outcome
 by_fault m number None o = o
 by_fault m number (Some status) o = refuses m number status
 
--- the item in the first place, of so many declared
-abbrev pub first_item : Machine → ℕ → Caller → Bool → Item → Outcome
-first_item m declared who refused item = by_fault m (item_number item) (item_fault declared item) (carried_out m who refused item)
+-- an item outside a session, of so many declared
+abbrev pub first_item : Machine → ℕ → Caller → ℕ → Bool → Item → Outcome
+first_item m declared who now refused item = by_fault m (item_number item) (item_fault declared item) (carried_out m who now refused item)
 
-abbrev pub items : Machine → Request → Caller → Option ℕ → List Item → Answered
-items m r who choice [] = bare r Nfs4Ok m
-items m r who choice (item ∷ more) = lone r (first_item m r.declared who (is_here choice) item)
+-- the lease of the session's client is renewed
+abbrev pub renewed : Machine → ℕ → Sequence → Machine
+renewed m now s = record m { leases = with_renewal m.leases (id_of s.sessionid).client now }
 
--- The answer to a request of a caller at a moment, with the place, if any, at which memory was refused. The minor
--- version is looked at first, and no operation of another one is.
-abbrev pub compound : Machine → Request → Caller → ℕ → Option ℕ → Answered
-compound m r who now choice = if r.minor == 1 then items m r who choice r.left else bare r MinorVersMismatch m
+-- the bytes of a reply with SEQUENCE's result, its RPC head and the head of its compound among them
+abbrev pub begun : Request → Sequence → Channel → ℕ
+begun r s c = RPC_HEAD + length (spell_compound_head Nfs4Ok r.tag 0) + length (spell_result (ResSequence (accepted s c)))
+
+-- SEQUENCE answers, and what is behind it runs in what the channel lets pass
+abbrev pub runs_behind : Machine → Request → Sequence → Channel → List Item → Ran
+runs_behind m r s c more = follow (comes_to m (ResSequence (accepted s c))) (run c.response (begun r s c) m more)
+
+-- the slot keeps the whole answer
+abbrev pub keeps : Request → Caller → Sequence → Answered → Answered
+keeps r who s a = record a { machine = record a.machine { sessions = keep a.machine.sessions (id_of s.sessionid) s.slotid s.sequenceid who.uid r.bytes a.text } }
+
+-- a refusal and a repeat change nothing
+abbrev pub in_session : Machine → Request → Caller → ℕ → Sequence → List Item → Sequenced → Answered
+in_session m r who now s more (Refuses status) = answers r (only (refuses m sequence_number status))
+in_session m r who now s more (Repeats reply) = record { text = reply; machine = m }
+in_session m r who now s more (Runs c) = keeps r who s (answers r (runs_behind (renewed m now s) r s c more))
+
+abbrev pub by_first : Machine → Request → Caller → (size now : ℕ) → Option ℕ → List Item → Answered
+by_first m r who size now choice [] = bare r Nfs4Ok m
+by_first m r who size now choice (Operation (OpSequence s) ∷ more) = in_session m r who now s more (sequenced m r who size s)
+by_first m r who size now choice (item ∷ more) = answers r (only (first_item m r.declared who now (is_here choice) item))
+
+-- The answer to a request of a caller, in a record of so many bytes, at a moment, with the place, if any, at which memory
+-- was refused. The minor version is looked at first, and no operation of another one is.
+abbrev pub compound : Machine → Request → Caller → (size now : ℕ) → Option ℕ → Answered
+compound m r who size now choice = if r.minor == 1 then by_first m r who size now choice r.left else bare r MinorVersMismatch m
 
 -- The request was just opened.
 pub record IsOpened (r : Request) : Type 0 where
@@ -88,5 +100,5 @@ HasReplyRoom paper = length paper.bytes + 69976 ≤ paper.room
 
 -- The answer was put on the sheet, and its machine was left.
 pub record Answers (answered : Answered) (old new : Paper) (left : Machine) : Type 0 where
-  pub put : Puts old new (spell_compound answered.result)
+  pub put : Puts old new answered.text
   pub machine : left ≡ answered.machine

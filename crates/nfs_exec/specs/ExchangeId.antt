@@ -1,5 +1,6 @@
--- EXCHANGE_ID (RFC 8881 section 18.35): the table of clients decides, and its answer is told.
-use Rattle.std.specs.Prelude.{ℕ, List, [], ◌∷◌, Bool, true, false, Result, Ok, Err}
+-- EXCHANGE_ID (RFC 8881 section 18.35): the table of clients decides, a record that is added begins its lease, and one that
+-- it replaces loses its own.
+use Rattle.std.specs.Prelude.{ℕ, List, [], ◌∷◌, Bool, true, false, Option, Some, None, Result, Ok, Err, if◌then◌else◌}
 use Rattle.nfs_compound.specs.declared.op_num.OpNum.TheVariants as Op
 use Rattle.nfs_compound.specs.OpNum.{op_number}
 use Rattle.nfs_compound.specs.SessionArgs.{ExchangeId}
@@ -7,8 +8,9 @@ use Rattle.nfs_results.specs.Result.{ExchangeIdOk, Res, ResExchangeId, Refused}
 use Rattle.nfs_clients.specs.declared.exchange_id.Exchanged.{Exchanged}
 use Rattle.nfs_clients.specs.declared.exchange_id.ClientFault.{ClientFault}
 use Rattle.nfs_clients.specs.ExchangeId.{Ask, Did, asks, exchange, fault_status}
+use Rattle.nfs_lease.specs.Renewals.{Book, with_lease, without_lease}
 use Rattle.nfs_xdr.specs.Caller.{Caller}
-use Rattle.nfs_exec.specs.Machine.{Machine, Outcome}
+use Rattle.nfs_exec.specs.Machine.{Machine, Outcome, comes_to}
 
 abbrev pub exchange_id_number : ℕ
 exchange_id_number = op_number Op.ExchangeId
@@ -37,12 +39,20 @@ abbrev pub answered : Result Exchanged ClientFault → Res
 answered (Ok x) = ResExchangeId (granted x)
 answered (Err fault) = Refused exchange_id_number (fault_status fault)
 
+abbrev pub without_any_lease : Book → Option ℕ → Book
+without_any_lease b None = b
+without_any_lease b (Some client) = without_lease b client
+
+abbrev pub leases_behind : Book → ℕ → Result Exchanged ClientFault → Book
+leases_behind b now (Err fault) = b
+leases_behind b now (Ok x) = if x.added then without_any_lease (with_lease b x.id now) x.replaced else b
+
 -- what the caller asks of the table; who made the client is not looked at
 abbrev pub ask_of : Caller → ExchangeId → Ask
 ask_of who e = asks e.ownerid e.verifier e.flags who.uid
 
-abbrev pub exchanged : Machine → Did → Outcome
-exchanged m did = record { result = answered did.answer; machine = record m { clients = did.after } }
+abbrev pub exchanged : Machine → ℕ → Did → Outcome
+exchanged m now did = comes_to (record m { clients = did.after; leases = leases_behind m.leases now did.answer }) (answered did.answer)
 
-abbrev pub exchange_id : Machine → Caller → ExchangeId → Outcome
-exchange_id m who e = exchanged m (exchange m.clients (ask_of who e))
+abbrev pub exchange_id : Machine → Caller → ℕ → ExchangeId → Outcome
+exchange_id m who now e = exchanged m now (exchange m.clients (ask_of who e))

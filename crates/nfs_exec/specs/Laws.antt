@@ -1,27 +1,33 @@
--- Laws of compounds, over the definitions alone.
-use Rattle.std.specs.Prelude.{◌≡◌, ◌≤◌, ◌⊎◌, ℕ, List, ◌∷◌, Option, None}
-use Rattle.nfs_xdr.specs.declared.status.Status.TheVariants.{Nfs4Ok, Delay}
-use Rattle.nfs_xdr.specs.Status.{status_number}
-use Rattle.nfs_compound.specs.SessionArgs.{ExchangeId}
-use Rattle.nfs_compound.specs.Operation.{OpExchangeId, Item, Operation}
-use Rattle.nfs_compound.specs.Request.{Request}
+-- Laws of compounds and of expiry, over the definitions alone.
+use Rattle.std.specs.Prelude.{◌≡◌, ◌≤◌, ℕ, List, ◌∷◌, Option}
+use Rattle.nfs_xdr.specs.declared.status.Status.{Status}
 use Rattle.nfs_xdr.specs.Caller.{Caller}
+use Rattle.nfs_compound.specs.declared.session_args.Sequence.{Sequence}
+use Rattle.nfs_compound.specs.Operation.{OpSequence, Item, Operation}
+use Rattle.nfs_compound.specs.Request.{Request}
 use Rattle.nfs_exec.specs.Machine.{Machine, refuses}
-use Rattle.nfs_exec.specs.ExchangeId.{exchange_id_number}
-use Rattle.nfs_exec.specs.Compound.{Answered, lone, compound}
+use Rattle.nfs_exec.specs.Sequence.{Sequenced, Refuses, Repeats, sequenced, sequence_number}
+use Rattle.nfs_exec.specs.Run.{only}
+use Rattle.nfs_exec.specs.Compound.{answers, compound}
+use Rattle.nfs_exec.specs.Expiry.{expired}
 
--- The request is an EXCHANGE_ID alone.
-abbrev pub IsExchangeId : Request → Type 0
-IsExchangeId r = (e : ExchangeId) × (more : List Item) × (r.left ≡ Operation (OpExchangeId e) ∷ more) × (r.declared ≤ 1)
+-- The request begins with this SEQUENCE, which comes to this.
+pub record Begins (m : Machine) (r : Request) (who : Caller) (size : ℕ) (s : Sequence) (v : Sequenced) : Type 0 where
+  pub more : List Item
+  pub minor : r.minor ≡ 1
+  pub list : r.left ≡ Operation (OpSequence s) ∷ more
+  pub verdict : sequenced m r who size s ≡ v
 
--- An EXCHANGE_ID that would have been granted was delayed, and nothing has changed.
-pub record IsDelayed (m : Machine) (r : Request) (granted delayed : Answered) : Type 0 where
-  pub asked : IsExchangeId r
-  pub would : status_number granted.result.status ≡ status_number Nfs4Ok
-  pub answer : delayed ≡ lone r (refuses m exchange_id_number Delay)
+-- A repeat is answered with the reply that its slot keeps, runs nothing and changes nothing, wherever memory is refused.
+abbrev pub RepeatsChangeNothing : Type 0
+RepeatsChangeNothing = (m : Machine) (r : Request) (who : Caller) (size now : ℕ) (choice : Option ℕ) (s : Sequence) (reply : List ℕ) → Begins m r who size s (Repeats reply)
+    → compound m r who size now choice ≡ record { text = reply; machine = m }
 
--- Where memory was refused, the answer is the one without that, or an EXCHANGE_ID is delayed.
-abbrev pub WantsMemoryLast : Type 0
-WantsMemoryLast = (m : Machine) (r : Request) (who : Caller) (now : ℕ) (choice : Option ℕ)
-    → (compound m r who now choice ≡ compound m r who now None)
-    ⊎ IsDelayed m r (compound m r who now None) (compound m r who now choice)
+-- A SEQUENCE that is refused is the only result, and changes nothing: its slot stays as it was, and no lease is renewed.
+abbrev pub RefusalsChangeNothing : Type 0
+RefusalsChangeNothing = (m : Machine) (r : Request) (who : Caller) (size now : ℕ) (choice : Option ℕ) (s : Sequence) (status : Status) → Begins m r who size s (Refuses status)
+    → compound m r who size now choice ≡ answers r (only (refuses m sequence_number status))
+
+-- Expiry at two moments is expiry at the later.
+abbrev pub ExpiresOnce : Type 0
+ExpiresOnce = (m : Machine) (first later : ℕ) → first ≤ later → expired later (expired first m) ≡ expired later m

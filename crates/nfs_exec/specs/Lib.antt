@@ -1,6 +1,10 @@
 pub mod Machine
 pub mod Place
 pub mod ExchangeId
+pub mod CreateSession
+pub mod Destroy
+pub mod Sequence
+pub mod Run
 pub mod Compound
 pub mod Expiry
 pub mod View

@@ -1,32 +1,59 @@
 -- What stands between two records: the meanings of the server's tables; and what one operation comes to.
-use Rattle.std.specs.Prelude.{ℕ, Bool, ◌==◌, ◌&&◌, if◌then◌else◌}
+use Rattle.std.specs.Prelude.{◌≡◌, ℕ, Bool, true, false, ◌==◌, ◌&&◌, List, is_some, if◌then◌else◌}
+use Rattle.std.specs.Option.{option_map_or}
 use Rattle.nfs_xdr.specs.declared.status.Status.{Status}
 use Rattle.nfs_xdr.specs.declared.status.Status.TheVariants.{Nfs4Ok, Delay}
 use Rattle.nfs_xdr.specs.Status.{status_number}
-use Rattle.nfs_clients.specs.Roster.{Roster, no_clients}
+use Rattle.nfs_xdr.specs.Tables.{In}
+use Rattle.nfs_clients.specs.Roster.{Roster, IsRoster, no_clients, client_at}
+use Rattle.nfs_sessions.specs.Sessions.{Session, SessionTable, no_sessions}
+use Rattle.nfs_lease.specs.Renewals.{Book, no_leases}
 use Rattle.nfs_results.specs.Result.{Res}
-use Rattle.nfs_results.specs.Results.{status_of_result, refusal}
+use Rattle.nfs_results.specs.Results.{status_of_result, spell_result, refusal}
 
 pub record Machine : Type 0 where
   pub clients : Roster
+  pub sessions : SessionTable
+  pub leases : Book
 
--- the machine of a new server
-abbrev pub starts : ℕ → Machine
-starts instance = record { clients = no_clients instance }
+-- the machine of a new server, whose leases last so many seconds
+abbrev pub starts : (instance lease : ℕ) → Machine
+starts instance lease = record { clients = no_clients instance; sessions = no_sessions; leases = no_leases lease }
 
--- What one operation comes to: its result, and the machine behind it.
+-- What one operation comes to: its status, its result as it is spelled, and the machine behind it.
 pub record Outcome : Type 0 where
-  pub result : Res
+  pub status : Status
+  pub result : List ℕ
   pub machine : Machine
 
-abbrev pub is_ok : Res → Bool
-is_ok r = status_number (status_of_result r) == status_number Nfs4Ok
+abbrev pub is_ok : Status → Bool
+is_ok s = status_number s == status_number Nfs4Ok
+
+abbrev pub is_delay : Status → Bool
+is_delay s = status_number s == status_number Delay
+
+-- a result that is a value
+abbrev pub comes_to : Machine → Res → Outcome
+comes_to m r = record { status = status_of_result r; result = spell_result r; machine = m }
 
 -- the refusal of an operation, which changes nothing
 abbrev pub refuses : Machine → ℕ → Status → Outcome
-refuses m operation status = record { result = refusal operation status; machine = m }
+refuses m operation status = comes_to m (refusal operation status)
 
 -- What an operation that may want memory comes to: where memory was refused it answers NFS4ERR_DELAY in place of
 -- NFS4_OK and changes nothing; a refusal of its own comes before that.
 abbrev pub or_delay : Bool → Machine → ℕ → Outcome → Outcome
-or_delay refused m operation o = if refused && is_ok o.result then refuses m operation Delay else o
+or_delay refused m operation o = if refused && is_ok o.status then refuses m operation Delay else o
+
+abbrev pub is_client : Roster → ℕ → Bool
+is_client t client = is_some (client_at t client)
+
+abbrev pub is_confirmed : Roster → ℕ → Bool
+is_confirmed t client = option_map_or (λ c. c.confirmed) (client_at t client) false
+
+-- What holds of every machine that records reach: client ids rise and no owner has two records of one kind; a client record
+-- has a lease and nothing else has one; and the client of each session is there and confirmed.
+pub record IsMachine (m : Machine) : Type 0 where
+  pub clients : IsRoster m.clients
+  pub leased : (client : ℕ) → is_some (m.leases.renewed client) ≡ is_client m.clients client
+  pub confirmed : (s : Session) → In s m.sessions.sessions → is_confirmed m.clients s.client ≡ true

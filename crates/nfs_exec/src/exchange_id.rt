@@ -2,16 +2,22 @@
 
 ghost use Rattle.std.specs.Prelude.{◌≡◌};
 ghost use Rattle.nfs_xdr.specs.Caller.{caller};
-ghost use Rattle.nfs_exec.specs.Machine.{or_delay};
-ghost use Rattle.nfs_exec.specs.View.{over, is_delay, outcome_of};
-ghost use Rattle.nfs_exec.specs.ExchangeId.{exchange_id, exchange_id_number, granted};
 ghost use Rattle.nfs_compound.specs.Operation.{Operation, OpExchangeId};
 ghost use Rattle.nfs_compound.specs.SessionArgs.{view_exchange_id};
+ghost use Rattle.nfs_clients.specs.ExchangeId.{fault_status};
+ghost use Rattle.nfs_lease.specs.Renewals.{IsLatest, leases_of};
 ghost use Rattle.nfs_results.specs.Largest.{MayAnswer};
+ghost use Rattle.nfs_results.specs.Result.{Refused};
+ghost use Rattle.nfs_results.specs.Results.{status_of_result};
 ghost use Rattle.nfs_results.specs.View as view;
+ghost use Rattle.nfs_exec.specs.Machine.{IsMachine, comes_to, is_delay, or_delay};
+ghost use Rattle.nfs_exec.specs.ExchangeId.{exchange_id, exchange_id_number, granted};
+ghost use Rattle.nfs_exec.specs.View.{machine_of, settled};
 
-use nfs_clients::{Clients, Exchanged};
+use crate::tables::Tables;
+use nfs_clients::{ClientFault, Exchanged};
 use nfs_compound::{ExchangeId, OpNum};
+use nfs_lease::Leases;
 use nfs_results::{ExchangeIdOk, Res};
 use nfs_xdr::Who;
 use std::alloc::Global;
@@ -22,24 +28,64 @@ const USE_NON_PNFS: u32 = 0x0001_0000;
 /// EXCHGID4_FLAG_CONFIRMED_R.
 const CONFIRMED_R: u32 = 0x8000_0000;
 
-/// Has the table of clients decide. Where memory is refused the answer is `Delay`, and nothing has changed.
-pub fn exchange_id(
-    alloc: Global,
-    clients: &mut Clients,
-    asked: &ExchangeId<'_>,
-    who: &Who,
-) -> Res<'static>
-    ensures outcome { outcome_of result (over clients.new)
-        ≡ or_delay (is_delay (view.res result)) (over clients.old) exchange_id_number
-        (exchange_id (over clients.old) (caller who.now) (view_exchange_id asked.now)) }
-    ensures size { MayAnswer (Operation (OpExchangeId (view_exchange_id asked.now))) (view.res result) }
+impl Tables {
+    /// Has the table of clients decide at the moment `now`, in seconds. The lease of the record that would be added is made
+    /// first and taken back where none is, so that where memory is refused the answer is `Delay` and nothing has changed.
+    pub fn exchange_id(
+        &mut self,
+        alloc: Global,
+        asked: &ExchangeId<'_>,
+        who: &Who,
+        now: u64,
+    ) -> Res<'static>
+        requires machine { IsMachine (machine_of self.old) }
+        requires latest { IsLatest (machine_of self.old).leases now }
+        ensures outcome { comes_to (machine_of self.new) (view.res result)
+            ≡ or_delay (is_delay (status_of_result (view.res result))) (machine_of self.old) exchange_id_number
+            (exchange_id (machine_of self.old) (caller who.now) now (view_exchange_id asked.now)) }
+        ensures size { MayAnswer (Operation (OpExchangeId (view_exchange_id asked.now))) (view.res result) }
+    {
+        let (owner, verifier, flags) = (asked.ownerid, asked.verifier, asked.flags);
+        if let Err(fault) = self.clients.judge_exchange(owner, verifier, flags, who.uid) {
+            return refused(fault);
+        }
+        let next = self.clients.next_id();
+        let Ok(()) = self.leases.add(next, now) else {
+            return refused(ClientFault::Memory);
+        };
+        match self
+            .clients
+            .exchange(alloc, owner, verifier, flags, who.uid)
+        {
+            Ok(exchanged) => {
+                settle(&mut self.leases, next, &exchanged);
+                Res::ExchangeId(granted(&exchanged))
+            }
+            Err(fault) => {
+                self.leases.remove(next);
+                refused(fault)
+            }
+        }
+    }
+}
+
+/// Leaves the lease that was made first where its record was added, in place of the one that was replaced.
+fn settle(leases: &mut Leases, next: u64, exchanged: &Exchanged)
+    ensures { leases_of leases.new ≡ settled (leases_of leases.old) next exchanged.now }
 {
-    match clients.exchange(alloc, asked.ownerid, asked.verifier, asked.flags, who.uid) {
-        Ok(exchanged) => Res::ExchangeId(granted(&exchanged)),
-        Err(fault) => Res::Refused {
-            operation: OpNum::ExchangeId.number(),
-            status: fault.status(),
-        },
+    if !exchanged.added {
+        leases.remove(next);
+    } else if let Some(replaced) = exchanged.replaced {
+        leases.remove(replaced);
+    }
+}
+
+fn refused(fault: ClientFault) -> Res<'static>
+    ensures { view.res result ≡ Refused exchange_id_number (fault_status fault) }
+{
+    Res::Refused {
+        operation: OpNum::ExchangeId.number(),
+        status: fault.status(),
     }
 }
 

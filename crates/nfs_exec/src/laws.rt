@@ -1,9 +1,18 @@
-//! Laws of compounds.
+//! Laws of compounds and of expiry, over their definitions.
 
-ghost use Rattle.nfs_exec.specs.Laws.{WantsMemoryLast};
+ghost use Rattle.nfs_exec.specs.Laws.{RepeatsChangeNothing, RefusalsChangeNothing, ExpiresOnce};
 
-/// Where memory is refused, the answer is the one without that; or an EXCHANGE_ID that would have been
-/// granted answers NFS4ERR_DELAY, and nothing has changed.
-pub fn memory_is_wanted_last()
-    ensures { WantsMemoryLast }
+/// A request that is repeated is answered with the reply that was kept, byte for byte, and changes nothing.
+pub fn repeats_change_nothing()
+    ensures { RepeatsChangeNothing }
+{}
+
+/// A SEQUENCE that is refused changes nothing: the slot, its kept reply and the lease are as they were.
+pub fn refusals_change_nothing()
+    ensures { RefusalsChangeNothing }
+{}
+
+/// What has run out at a moment has run out at each later one, and expiry at both is expiry at the later.
+pub fn expires_once()
+    ensures { ExpiresOnce }
 {}

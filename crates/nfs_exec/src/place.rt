@@ -3,7 +3,7 @@
 ghost use Rattle.std.specs.Prelude.{◌≡◌, nat_lt, if◌then◌else◌, Some, None};
 ghost use Rattle.nfs_xdr.specs.declared.status.Status.TheVariants.{NotOnlyOp};
 ghost use Rattle.nfs_compound.specs.View.{item};
-ghost use Rattle.nfs_exec.specs.Compound.{item_fault};
+ghost use Rattle.nfs_exec.specs.Place.{item_fault};
 
 use nfs_compound::Arg;
 use nfs_xdr::Status;

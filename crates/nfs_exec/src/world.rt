@@ -1,104 +1,78 @@
 //! The server's tables, and a compound over them.
 
-ghost use Rattle.std.specs.Prelude.{◌≡◌, ◌+◌, ◌≤◌, ℕ, Option, length};
-ghost use Rattle.nfs_compound.specs.View.{item};
-ghost use Rattle.nfs_results.specs.View.{res};
+ghost use Rattle.std.specs.Prelude.{◌≡◌, ◌≤◌, ℕ, Option, IfOk, length};
 ghost use Rattle.nfs_xdr.specs.Caller.{caller};
+ghost use Rattle.nfs_lease.specs.Renewals.{IsLatest};
 ghost use Rattle.nfs_exec.specs.Machine.{starts};
-ghost use Rattle.nfs_exec.specs.Compound.{compound, first_item, IsOpened, HasReplyRoom, Answers};
-ghost use Rattle.nfs_exec.specs.Place.{CanBear, IsSmall};
-ghost use Rattle.nfs_exec.specs.View.{is_delay, outcome_of};
+ghost use Rattle.nfs_exec.specs.Compound.{compound, IsOpened, HasReplyRoom, Answers};
 ghost use Rattle.nfs_exec.specs.Expiry.{expired};
+ghost use Rattle.nfs_exec.specs.View.{machine_of};
 
-use crate::exchange_id::exchange_id;
-use crate::place::fault_in_first_place;
-use crate::put::{put_bare, put_lone};
-use nfs_clients::Clients;
-use nfs_compound::{Arg, Compound};
-use nfs_results::Res;
-use nfs_xdr::{Sheet, Status, Who};
-use std::alloc::Global;
+use crate::tables::Tables;
+use nfs_compound::Compound;
+use nfs_xdr::{Sheet, Who};
+use std::alloc::{AllocError, Global};
 use std::marker::Model;
 
-/// All that the server knows between two records. Contracts see the machine.
+/// All that the server knows between two records. Contracts see the machine, by `machine_of`.
 #[derive(Drop)]
 pub struct World {
-    clients: Clients,
+    tables: Tables,
 }
 
 impl Model for World {
-    ghost use Rattle.nfs_exec.specs.Machine.{Machine};
+    ghost use Rattle.nfs_exec.specs.Machine.{IsMachine};
+    ghost use Rattle.nfs_exec.specs.View.{Kept, machine_of};
 
-    ghost Value = { Machine };
+    ghost Value = { Kept };
 
-    ghost view = { λ w. record { clients = w.clients } };
+    ghost view = { λ w. w.tables };
+
+    ghost invariant = { λ w. IsMachine (machine_of w.tables) };
 }
 
 impl World {
-    /// The world of a new server. `instance` tells it from other starts of the server, and begins each
-    /// client id.
-    pub fn new(alloc: Global, instance: u32) -> World
-        ensures { result ≡ starts instance }
+    /// The world of a new server. `instance` tells it from other starts of the server, and begins each client id; a lease
+    /// lasts `lease` seconds. `AllocError` where memory is refused.
+    pub fn new(alloc: Global, instance: u32, lease: u32) -> Result<World, AllocError>
+        ensures { IfOk result (λ w. machine_of w ≡ starts instance lease) }
     {
-        World {
-            clients: Clients::new(alloc, instance),
-        }
+        let tables = Tables::new(alloc, instance, lease)?;
+        Ok(World { tables })
     }
 
-    /// Runs a compound of this caller at this moment, in seconds, and puts its COMPOUND4res (RFC 8881
-    /// section 16.2.2) on the sheet, behind the head of the reply. The compound was just opened, and the sheet
-    /// has room for 69,976 bytes more: those of a reply of 70,000 bytes that are not of its head.
+    /// Runs a compound of this caller at the moment `now`, in seconds, and puts its COMPOUND4res (RFC 8881 section 16.2.2) on
+    /// the sheet, behind the head of the reply. The compound was just opened, out of a record of `size` bytes; no lease was
+    /// renewed later than `now`; and the sheet has room for 69,976 bytes more: those of a reply of 70,000 bytes that are not
+    /// of its head.
     ///
-    /// Each refusal is an answer on the sheet. Where memory is refused, EXCHANGE_ID answers NFS4ERR_DELAY
-    /// as its last check and changes nothing; no other answer wants memory.
+    /// Each refusal is an answer on the sheet. Where memory is refused, EXCHANGE_ID and CREATE_SESSION answer NFS4ERR_DELAY
+    /// as their last check and change nothing; no other answer wants memory.
     pub fn compound(
         &mut self,
         alloc: Global,
         args: &mut Compound<'_>,
         who: &Who,
+        size: usize,
         now: u64,
         out: &mut Sheet,
     )
         requires opened { IsOpened args.old }
+        requires size { length args.old.bytes ≤ size }
+        requires latest { IsLatest (machine_of self.old).leases now }
         requires room { HasReplyRoom out.old }
-        ensures { (choice : Option ℕ)
-            × Answers (compound self.old args.old (caller who.now) now choice) out.old out.new self.new }
+        ensures answer { (choice : Option ℕ)
+            × Answers (compound (machine_of self.old) args.old (caller who.now) size now choice) out.old out.new (machine_of self.new) }
+        ensures latest { IsLatest (machine_of self.new).leases now }
     {
-        let tag = args.tag();
-        if args.minor() != 1 {
-            put_bare(Status::MinorVersMismatch, tag, out);
-            return;
-        }
-        match args.next() {
-            None => put_bare(Status::Nfs4Ok, tag, out),
-            Some(arg) => {
-                let res = self.first(alloc, &arg, args.declared(), who);
-                put_lone(&res, tag, out);
-            }
-        }
+        self.tables.compound(alloc, args, who, size, now, out);
     }
 
-    /// The first of so many operations declared: what it may not be in its place, or what it does.
-    fn first(&mut self, alloc: Global, arg: &Arg<'_>, declared: u32, who: &Who) -> Res<'static>
-        requires { CanBear (item arg.now) }
-        ensures outcome { outcome_of result self.new
-            ≡ first_item self.old declared (caller who.now) (is_delay (res result)) (item arg.now) }
-        ensures size { IsSmall (res result) }
-    {
-        if let Some(status) = fault_in_first_place(arg, declared) {
-            return Res::refusal(arg.number(), status);
-        }
-        match arg {
-            Arg::ExchangeId(asked) => exchange_id(alloc, &mut self.clients, asked, who),
-            _ => Res::refusal(arg.number(), Status::NotSupp),
-        }
-    }
-
-    /// Takes away what has run out at this moment, in seconds (RFC 8881 section 8.3): nothing, since leases
-    /// begin with sessions.
+    /// Takes away what has run out at the moment `now`, in seconds (RFC 8881 section 8.3): the clients whose last renewal is
+    /// more than a lease ago, with their sessions.
     pub fn expire(&mut self, now: u64)
-        ensures { self.new ≡ expired now self.old }
+        ensures { machine_of self.new ≡ expired now (machine_of self.old) }
     {
-        // No lease stands.
+        self.tables.expire(now);
     }
 }

@@ -1,15 +1,19 @@
-use Rattle.std.proofs.Common.{ap, sym, ◌∙◌}
-use Rattle.nfs_compound.specs.View.{item}
-use Rattle.nfs_compound.specs.Request.{Request}
+use Rattle.std.proofs.Common.{sym, subst}
 use Rattle.nfs_xdr.specs.Caller.{caller}
-use Rattle.nfs_exec.proofs.Bearing.{opened_bears}
-use Rattle.nfs_exec.proofs.Lone.{answers_lone}
+use Rattle.nfs_lease.specs.Renewals.{IsLatest}
+use Rattle.nfs_exec.specs.Machine.{Machine, IsMachine}
+use Rattle.nfs_exec.specs.declared.tables.Tables.{Tables}
+use Rattle.nfs_exec.specs.View.{machine_of}
+use Rattle.nfs_exec.proofs.Invariant.{of_compound}
+use Rattle.nfs_exec.proofs.Latest.{latest_compound}
 use Rattle.nfs_exec.proofs.world.World.compound.Goals as goal
 
-pub returns-in-Some : goal.returns-in-Some
-returns-in-Some c =
-    answers_lone c.args.self.now c.args.args.now _ c.tag-tag.result.now (caller c.args.who.now) c.args.now (item c.in-Some.arg) _ _ _ c.args.out.now c.put_lone.new.out
-    (sym c.minor.ensures ∙ c.if-minor-ne1.false) c.in-Some.ensures.item (c.declared.ensures ∙ ap (λ (r : Request). r.declared) c.in-Some.ensures.head) c.tag-tag.ensures.value c.first-res.ensures.outcome c.put_lone.ensures
+pub invariant_of-self : goal.invariant_of-self
+invariant_of-self c =
+    subst IsMachine (sym c.compound.ensures.1.machine) (of_compound (machine_of c.self.inside.tables) c.args.args.now (caller c.args.who.now) c.args.size c.args.now c.compound.ensures.0 c.self.invariant)
 
-pub first-res-requires : goal.first-res-requires
-first-res-requires c = opened_bears c.args.args.now (item c.in-Some.arg) c.next.new.self.left c.requires.opened (sym c.minor.ensures ∙ c.if-minor-ne1.false) c.in-Some.ensures.item
+pub returns-clause-latest : goal.returns-clause-latest
+returns-clause-latest c =
+    subst (λ (m : Machine). IsLatest m.leases c.args.now) (sym c.compound.ensures.1.machine)
+    (latest_compound (machine_of c.self.inside.tables) c.args.args.now (caller c.args.who.now) c.args.size c.args.now c.compound.ensures.0
+    (subst (λ (t : Tables). IsLatest (machine_of t).leases c.args.now) (sym c.self.view_is) c.requires.latest))

@@ -1,0 +1,90 @@
+-- EXCHANGE_ID: what the code's steps come to.
+use Rattle.std.proofs.Common.{◌≡◌, ℕ, ◌<◌, Bool, true, false, None, Ok, Err, refl, ◌∙◌}
+use Rattle.std.specs.Prelude.{◌||◌, nat_lt, is_some, length}
+use Rattle.std.proofs.lemmas.Bool.{and_parts, ltb-true}
+use Rattle.nfs_clients.specs.declared.exchange_id.Exchanged.{Exchanged}
+use Rattle.nfs_clients.specs.declared.exchange_id.ClientFault.{ClientFault}
+use Rattle.nfs_clients.specs.declared.exchange_id.ClientFault.TheVariants.{Inval, NoEnt, NotSame, Perm, ClidInUse, ServerFault, Memory}
+use Rattle.nfs_clients.specs.Roster.{Roster, client_at, confirmed_of, next_id, last_counter, most_records, unconfirmed_of}
+use Rattle.nfs_clients.specs.ExchangeId.{Ask, Case, Refuses, Tells, Adds, has_room, if_room, case_by, case_of, does, exchange_fault, refusal_of, ExchangesOrWants, fault_status, told, told_new}
+use Rattle.nfs_xdr.specs.Checks.{judged}
+use Rattle.nfs_xdr.specs.Caller.{Caller}
+use Rattle.nfs_compound.specs.SessionArgs.{ExchangeId}
+use Rattle.nfs_lease.specs.Renewals.{Book, with_lease, without_lease}
+use Rattle.nfs_results.specs.Result.{ResExchangeId, Refused}
+use Rattle.nfs_exec.specs.Machine.{Machine, IsMachine, comes_to, is_delay, or_delay}
+use Rattle.nfs_exec.specs.ExchangeId.{exchange_id, exchange_id_number, granted, ask_of, exchanged}
+use Rattle.nfs_exec.specs.View.{settled}
+use Rattle.nfs_exec.proofs.Leasing.{unleased, taken_back}
+
+no_room : (case : Case) → if_room false case ≡ Adds → ⊥
+no_room (Refuses fault) e = absurd cc
+no_room (Tells c) e = absurd cc
+no_room Adds e = absurd cc
+
+pub room_of : (room : Bool) (case : Case) → if_room room case ≡ Adds → room ≡ true
+room_of true case e = refl
+room_of false case e = absurd (no_room case e)
+
+-- a record is added only where an id is left
+adds_below : (t : Roster) (a : Ask) → case_of t a ≡ Adds → t.last < last_counter
+adds_below t a e =
+    let parts = and_parts (nat_lt t.last last_counter) (is_some (unconfirmed_of t a.owner) || nat_lt (length t.records) most_records) (room_of (has_room t a.owner) (case_by a (confirmed_of t a.owner)) e) in
+    ltb-true t.last last_counter parts.0
+
+-- the call was answered: the record's lease stands, or the one that was made first is taken back
+pub answered_ok : (m : Machine) (who : Caller) (now : ℕ) (e : ExchangeId) (next : ℕ) (x : Exchanged) (after : Roster) (b : Book) (case : Case) →
+    IsMachine m → client_at m.clients next ≡ None → (m.clients.last < last_counter → next ≡ next_id m.clients) → case_of m.clients (ask_of who e) ≡ case →
+    Ok x ≡ (does m.clients (ask_of who e) case).answer → after ≡ (does m.clients (ask_of who e) case).after → b ≡ settled (with_lease m.leases next now) next x →
+    comes_to (record m { clients = after; leases = b }) (ResExchangeId (granted x)) ≡ exchanged m now (does m.clients (ask_of who e) case)
+answered_ok m who now e next x after b (Refuses fault) is none value at answer left book = absurd cc
+answered_ok m who now e next x after b (Tells c) is none value at answer left book =
+    let same : x ≡ told c = cc in
+    let back : b ≡ m.leases = rw same at book ∙ taken_back m.leases next now (unleased m next is none) in
+    rw (same, left, back) refl
+answered_ok m who now e next x after b Adds is none value at answer left book =
+    let same : x ≡ told_new m.clients (ask_of who e).owner = cc in
+    let id : next ≡ next_id m.clients = value (adds_below m.clients (ask_of who e) at) in
+    let made : b ≡ settled (with_lease m.leases (next_id m.clients) now) next (told_new m.clients (ask_of who e).owner) = rw (id, same) at book in
+    rw (same, left, made) refl
+
+case_ok : (case : Case) → judged (refusal_of case) ≡ Ok tt → (t : Roster) (a : Ask) → (x : Exchanged) × ((does t a case).answer ≡ Ok x)
+case_ok (Refuses fault) e t a = absurd cc
+case_ok (Tells c) e t a = (told c, refl)
+case_ok Adds e t a = (told_new t a.owner, refl)
+
+-- the call was refused before anything was made
+pub refused_first : (m : Machine) (who : Caller) (now : ℕ) (e : ExchangeId) (fault : ClientFault) (case : Case) → Err fault ≡ judged (refusal_of case) →
+    comes_to m (Refused exchange_id_number (fault_status fault)) ≡ or_delay (is_delay (fault_status fault)) m exchange_id_number (exchanged m now (does m.clients (ask_of who e) case))
+refused_first m who now e fault (Tells c) is = absurd cc
+refused_first m who now e fault Adds is = absurd cc
+refused_first m who now e Inval (Refuses f) is = let same : f ≡ Inval = cc in rw same refl
+refused_first m who now e NoEnt (Refuses f) is = let same : f ≡ NoEnt = cc in rw same refl
+refused_first m who now e NotSame (Refuses f) is = let same : f ≡ NotSame = cc in rw same refl
+refused_first m who now e Perm (Refuses f) is = let same : f ≡ Perm = cc in rw same refl
+refused_first m who now e ClidInUse (Refuses f) is = let same : f ≡ ClidInUse = cc in rw same refl
+refused_first m who now e ServerFault (Refuses f) is = let same : f ≡ ServerFault = cc in rw same refl
+refused_first m who now e Memory (Refuses f) is = let same : f ≡ Memory = cc in rw same refl
+
+-- memory was refused where the call would have been answered
+pub wanted : (m : Machine) (who : Caller) (now : ℕ) (e : ExchangeId) (case : Case) → judged (refusal_of case) ≡ Ok tt →
+    comes_to m (Refused exchange_id_number (fault_status Memory)) ≡ or_delay true m exchange_id_number (exchanged m now (does m.clients (ask_of who e) case))
+wanted m who now e (Refuses f) is = absurd cc
+wanted m who now e (Tells c) is = refl
+wanted m who now e Adds is = refl
+
+told_fault : (m : Machine) (who : Caller) (now : ℕ) (e : ExchangeId) (fault : ClientFault) (after : Roster) (case : Case) → judged (refusal_of case) ≡ Ok tt →
+    Err fault ≡ (does m.clients (ask_of who e) case).answer → ⊥
+told_fault m who now e fault after (Refuses f) is answer = absurd cc
+told_fault m who now e fault after (Tells c) is answer = absurd cc
+told_fault m who now e fault after Adds is answer = absurd cc
+
+-- the call was refused behind its lease, which was taken back
+pub refused_last : (m : Machine) (who : Caller) (now : ℕ) (e : ExchangeId) (next : ℕ) (fault : ClientFault) (after : Roster) (b : Book) →
+    IsMachine m → client_at m.clients next ≡ None → judged (exchange_fault m.clients (ask_of who e)) ≡ Ok tt → ExchangesOrWants m.clients (ask_of who e) (Err fault) after →
+    b ≡ without_lease (with_lease m.leases next now) next →
+    comes_to (record m { clients = after; leases = b }) (Refused exchange_id_number (fault_status fault)) ≡ or_delay (is_delay (fault_status fault)) m exchange_id_number (exchange_id m who now e)
+refused_last m who now e next Memory after b is none judged did book =
+    let back : b ≡ m.leases = book ∙ taken_back m.leases next now (unleased m next is none) in
+    rw (did.1, back) (wanted m who now e (case_of m.clients (ask_of who e)) judged)
+refused_last m who now e next fault after b is none judged did book = absurd (told_fault m who now e fault after (case_of m.clients (ask_of who e)) judged did.0)

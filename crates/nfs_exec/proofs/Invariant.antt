@@ -1,0 +1,392 @@
+-- What holds of every machine is kept by each step.
+use Rattle.std.proofs.Common.{◌≡◌, ℕ, ◌<◌, Bool, true, false, cond, eqb, List, [], ◌∷◌, Option, Some, None, refl, sym, ◌∙◌, ap, subst, arith, inl, inr}
+use Rattle.std.specs.Prelude.{not, ◌&&◌, ◌||◌, filter, is_some, option_map, ◌⊎◌}
+use Rattle.std.specs.Option.{option_map_or}
+use Rattle.std.specs.List.{list_any}
+use Rattle.std.proofs.lemmas.Bool.{cases_Bool, cases_eq, ne_eqb, eq-eqb, and_parts, false≢true}
+use Rattle.nfs_xdr.specs.Caller.{Caller}
+use Rattle.nfs_xdr.specs.declared.status.Status.{Status}
+use Rattle.nfs_xdr.specs.Tables.{In, record_at}
+use Rattle.nfs_xdr.proofs.Tables.{in_filter, in_push, in_map, find_in, at_of_in, at_without, at_with, at_push}
+use Rattle.nfs_compound.specs.Operation.{Item, Operation, OpSequence, OpExchangeId, OpCreateSession, OpDestroySession, OpDestroyClientId}
+use Rattle.nfs_compound.specs.Arguments.{item_number}
+use Rattle.nfs_compound.specs.Request.{Request}
+use Rattle.nfs_compound.specs.SessionArgs.{CreateSession}
+use Rattle.nfs_compound.specs.declared.session_args.Sequence.{Sequence}
+use Rattle.nfs_clients.specs.Roster.{ClientRecord, Roster, IsRoster, id_of as client_id, client_at, without, is_unconfirmed_of, unconfirmed_of, confirmed_of, next_id}
+use Rattle.nfs_clients.specs.ExchangeId.{Ask, Case, Refuses, Tells, Adds, has_room, case_by, case_of, does, new_client, with_new}
+use Rattle.nfs_clients.specs.CreateSession as clients
+use Rattle.nfs_clients.specs.CreateSession.{leaving, without_any, with_confirmed, with_kept, confirms, keeps, verdict_by}
+use Rattle.nfs_clients.specs.DestroyClientId.{destroy_fault}
+use Rattle.nfs_clients.specs.Marks.{has_open}
+use Rattle.nfs_clients.specs.declared.created.CreateResult.{CreateResult}
+use Rattle.nfs_clients.specs.declared.created.CreateResult.TheVariants.{Done, Refused}
+use Rattle.nfs_clients.specs.declared.destroy.DestroyFault.{DestroyFault}
+use Rattle.nfs_clients.specs.declared.destroy.DestroyFault.TheVariants.{Stale, Busy}
+use Rattle.nfs_clients.proofs.Members.{the_id, mild_keeps, fresh, roster_filter, roster_changed, roster_without, roster_confirmed, roster_new, without_unconfirmed}
+use Rattle.nfs_sessions.specs.declared.id.SessionId.{SessionId}
+use Rattle.nfs_sessions.specs.declared.channel.Wish.{Wish}
+use Rattle.nfs_sessions.specs.declared.sessions.SessionFault.{SessionFault}
+use Rattle.nfs_sessions.specs.Id.{id_of}
+use Rattle.nfs_sessions.specs.SessionSlots.{GrantedSlots}
+use Rattle.nfs_sessions.specs.Sessions.{Session, SessionTable, is_session, session_at, create, create_unless, create_fault, fault_status, with_session, with_slots}
+use Rattle.nfs_sessions.specs.Sessions as sessions
+use Rattle.nfs_lease.specs.Renewals.{Book, has_run_out, with_lease, with_renewal, without_lease}
+use Rattle.nfs_exec.specs.Machine.{Machine, IsMachine, Outcome, is_ok, or_delay, starts, is_client, is_confirmed}
+use Rattle.nfs_exec.specs.Place.{item_fault}
+use Rattle.nfs_exec.specs.ExchangeId.{exchange_id, exchange_id_number, ask_of, leases_behind, without_any_lease}
+use Rattle.nfs_exec.specs.CreateSession.{create_session_number, by_verdict, creates, by_created, confirmed, wish_of, without_any_sessions}
+use Rattle.nfs_exec.specs.Destroy.{destroy_session, destroyed_unless, has_session}
+use Rattle.nfs_exec.specs.Sequence as sequence
+use Rattle.nfs_exec.specs.Sequence.{Sequenced, sequenced}
+use Rattle.nfs_exec.specs.Compound.{is_here, carried_out, by_fault, first_item, renewed, begun, runs_behind, in_session, by_first, compound}
+use Rattle.nfs_exec.specs.Expiry.{expired}
+use Rattle.nfs_exec.proofs.Exchanging.{room_of}
+use Rattle.nfs_exec.proofs.Latest.{run_same}
+
+pub of_start : (instance lease : ℕ) → instance < 4294967296 → IsMachine (starts instance lease)
+of_start instance lease small = record {
+  clients = record { rising = omega arith; alone = λ c d a b owner mark. absurd a; few = omega arith; counter = omega arith; instance = small };
+  leased = λ client. refl;
+  confirmed = λ s there. absurd there;
+}
+
+-- Clients behind a filter of their ids.
+
+at_ids : (p : ℕ → Bool) (n : ℕ) (xs : List ClientRecord) → record_at the_id (filter (λ c. p c.id) xs) n ≡ cond (p n) (record_at the_id xs n) None
+at_ids p n [] = elim (p n) as (λ v. ◌≡◌ {A = Option ClientRecord} None (cond v None None)) [ true ↦ refl | false ↦ refl ]
+at_ids p n (x ∷ xs) = elim (cases_eq x.id n) [
+  | inl here ↦ elim (cases_Bool (p n)) [
+    | inl stays ↦ rw (ap p here ∙ stays, eq-eqb x.id n here, stays) refl
+    | inr goes ↦ rw (ap p here ∙ goes, goes) (at_ids p n xs ∙ rw goes refl)
+  ]
+  | inr other ↦ elim (cases_Bool (p x.id)) [
+    | inl stays ↦ rw (stays, ne_eqb x.id n other) (at_ids p n xs)
+    | inr goes ↦ rw (goes, ne_eqb x.id n other) (at_ids p n xs)
+  ]
+]
+
+some_not : (out : Bool) {A B : Type 0} (a : Option A) (b : Option B) → is_some a ≡ is_some b → is_some (cond out None a) ≡ is_some (cond (not out) b None)
+some_not true a b same = refl
+some_not false a b same = same
+
+pub of_expired : (m : Machine) (now : ℕ) → IsMachine m → IsMachine (expired now m)
+of_expired m now is =
+    let out = has_run_out m.leases now in
+    let at : (n : ℕ) → client_at (expired now m).clients n ≡ cond (not (out n)) (client_at m.clients n) None = λ n. at_ids (λ k. not (out k)) n m.clients.records in
+    record {
+      clients = roster_filter m.clients (λ c. not (out c.id)) is.clients;
+      leased = λ c. some_not (out c) (m.leases.renewed c) (client_at m.clients c) (is.leased c) ∙ ap is_some (sym (at c));
+      confirmed = λ s there. (let kept = in_filter (λ (s : Session). not (out s.client)) m.sessions.sessions s there in
+          ap (λ o. option_map_or (λ (c : ClientRecord). c.confirmed) o false) (at s.client ∙ ap (λ b. cond b (client_at m.clients s.client) None) kept.1) ∙ is.confirmed s kept.0);
+    }
+
+-- Without a client that has no session.
+
+some_gone : (gone : Bool) {A B : Type 0} (a : Option A) (b : Option B) → is_some a ≡ is_some b → is_some (cond gone None a) ≡ is_some (cond gone None b)
+some_gone true a b same = refl
+some_gone false a b same = same
+
+any_none : (p : Session → Bool) (xs : List Session) (x : Session) → list_any p xs ≡ false → In x xs → p x ≡ false
+any_none p [] x none there = absurd there
+any_none p (y ∷ ys) x none there = elim (cases_Bool (p y)) [
+  | inl passes ↦ absurd (false≢true (sym none ∙ rw passes refl))
+  | inr fails ↦ elim there [ inl here ↦ ap p here ∙ fails | inr more ↦ any_none p ys x (rw fails at none) more ]
+]
+
+pub of_destroyed_client : (m : Machine) (client : ℕ) → IsMachine m → list_any (λ (s : Session). eqb s.client client) m.sessions.sessions ≡ false →
+    IsMachine (record m { clients = without m.clients client; leases = without_lease m.leases client })
+of_destroyed_client m client is none =
+    let at : (n : ℕ) → client_at (without m.clients client) n ≡ cond (eqb n client) None (client_at m.clients n) = λ n. at_without the_id n client m.clients.records in
+    record {
+      clients = roster_without m.clients client is.clients;
+      leased = λ c. some_gone (eqb c client) (m.leases.renewed c) (client_at m.clients c) (is.leased c) ∙ ap is_some (sym (at c));
+      confirmed = λ s there. (let other = any_none (λ (s : Session). eqb s.client client) m.sessions.sessions s none there in
+          ap (λ o. option_map_or (λ (c : ClientRecord). c.confirmed) o false) (at s.client ∙ ap (λ b. cond b None (client_at m.clients s.client)) other) ∙ is.confirmed s there);
+    }
+
+pub of_fewer_sessions : (m : Machine) (t : SessionTable) → IsMachine m → ((s : Session) → In s t.sessions → In s m.sessions.sessions) → IsMachine (record m { sessions = t })
+of_fewer_sessions m t is fewer = record { clients = is.clients; leased = is.leased; confirmed = λ s there. is.confirmed s (fewer s there) }
+
+-- A renewal, and a slot that keeps a reply.
+
+renewed_some : (b : Book) (client now c : ℕ) → is_some ((with_renewal b client now).renewed c) ≡ is_some (b.renewed c)
+renewed_some b client now c = elim (cases_Bool (eqb c client)) [
+  | inl here ↦ rw here (map_some (b.renewed c))
+  | inr other ↦ rw other refl
+]
+  where
+    map_some : (o : Option ℕ) → is_some (option_map (λ (moment : ℕ). now) o) ≡ is_some o
+    map_some None = refl
+    map_some (Some x) = refl
+
+pub of_renewed : (m : Machine) (client now : ℕ) → IsMachine m → IsMachine (record m { leases = with_renewal m.leases client now })
+of_renewed m client now is = record { clients = is.clients; leased = λ c. renewed_some m.leases client now c ∙ is.leased c; confirmed = is.confirmed }
+
+in_slots : (t : SessionTable) (id : SessionId) (change : GrantedSlots → GrantedSlots) (s : Session) → In s (with_slots t id change).sessions → (x : Session) × In x t.sessions × (s.client ≡ x.client)
+in_slots t id change s there =
+    let was = in_map (λ (s : Session). cond (is_session id s) (record s { slots = change s.slots }) s) t.sessions s there in
+    (was.0, was.1, ap (λ (s : Session). s.client) was.2 ∙ same (is_session id was.0) was.0)
+  where
+    same : (b : Bool) (x : Session) → (cond b (record x { slots = change x.slots }) x).client ≡ x.client
+    same true x = refl
+    same false x = refl
+
+pub of_kept : (m : Machine) (id : SessionId) (change : GrantedSlots → GrantedSlots) → IsMachine m → IsMachine (record m { sessions = with_slots m.sessions id change })
+of_kept m id change is = record {
+  clients = is.clients;
+  leased = is.leased;
+  confirmed = λ s there. (let was = in_slots m.sessions id change s there in ap (is_confirmed m.clients) was.2 ∙ is.confirmed was.0 was.1);
+}
+
+-- A client's result that is kept.
+
+map_mark : (f : ClientRecord → ClientRecord) (o : Option ClientRecord) → ((c : ClientRecord) → (f c).confirmed ≡ c.confirmed) → option_map_or (λ (c : ClientRecord). c.confirmed) (option_map f o) false ≡ option_map_or (λ (c : ClientRecord). c.confirmed) o false
+map_mark f None same = refl
+map_mark f (Some c) same = same c
+
+map_is : (f : ClientRecord → ClientRecord) (o : Option ClientRecord) → is_some (option_map f o) ≡ is_some o
+map_is f None = refl
+map_is f (Some c) = refl
+
+kept_is : (t : Roster) (client c : ℕ) (result : CreateResult) → is_client (with_kept t client result) c ≡ is_client t c
+kept_is t client c result =
+    ap is_some (at_with the_id (keeps result) (mild_keeps result).id c client t.records)
+    ∙ elim (eqb c client) as (λ v. is_some (cond v (option_map (keeps result) (client_at t c)) (client_at t c)) ≡ is_client t c) [ true ↦ map_is (keeps result) (client_at t c) | false ↦ refl ]
+
+kept_mark : (t : Roster) (client c : ℕ) (result : CreateResult) → is_confirmed (with_kept t client result) c ≡ is_confirmed t c
+kept_mark t client c result =
+    ap (λ o. option_map_or (λ (c : ClientRecord). c.confirmed) o false) (at_with the_id (keeps result) (mild_keeps result).id c client t.records)
+    ∙ elim (eqb c client) as (λ v. option_map_or (λ (c : ClientRecord). c.confirmed) (cond v (option_map (keeps result) (client_at t c)) (client_at t c)) false ≡ is_confirmed t c) [
+      | true ↦ map_mark (keeps result) (client_at t c) (mild_keeps result).mark
+      | false ↦ refl
+    ]
+
+pub of_kept_result : (m : Machine) (client : ℕ) (result : CreateResult) → IsMachine m → IsMachine (record m { clients = with_kept m.clients client result })
+of_kept_result m client result is = record {
+  clients = roster_changed (keeps result) m.clients client (mild_keeps result) is.clients;
+  leased = λ c. is.leased c ∙ sym (kept_is m.clients client c result);
+  confirmed = λ s there. kept_mark m.clients client s.client result ∙ is.confirmed s there;
+}
+
+-- What an id names where one record may have gone.
+
+is_id : Option ℕ → ℕ → Bool
+is_id None n = false
+is_id (Some gone) n = eqb n gone
+
+abbrev mark_of : Option ClientRecord → Bool
+mark_of o = option_map_or (λ (c : ClientRecord). c.confirmed) o false
+
+without_is : (t : Roster) (o : Option ℕ) (n : ℕ) → client_at (without_any t o) n ≡ cond (is_id o n) None (client_at t n)
+unfolding is_id
+without_is t None n = refl
+without_is t (Some gone) n = at_without the_id n gone t.records
+
+lease_is : (b : Book) (o : Option ℕ) (n : ℕ) → (without_any_lease b o).renewed n ≡ cond (is_id o n) None (b.renewed n)
+unfolding is_id
+lease_is b None n = refl
+lease_is b (Some gone) n = refl
+
+-- EXCHANGE_ID.
+
+named : (t : Roster) (owner : List ℕ) (d : ClientRecord) → IsRoster t → unconfirmed_of t owner ≡ Some d → (client_at t d.id ≡ Some d) × (d.confirmed ≡ false)
+named t owner d is found =
+    let there = find_in (is_unconfirmed_of owner) t.records d found in
+    let tests = and_parts _ _ there.1 in
+    (at_of_in the_id (client_id t.instance 1) (next_id t) t.records d is.rising there.0, not_false d.confirmed tests.1)
+  where
+    not_false : (b : Bool) → not b ≡ true → b ≡ false
+    not_false true e = absurd cc
+    not_false false e = refl
+
+-- the record that is replaced is not confirmed, and has not the next id
+
+keeps_confirmed : (t : Roster) (owner : List ℕ) (o : Option ClientRecord) (n : ℕ) → IsRoster t → unconfirmed_of t owner ≡ o → is_confirmed t n ≡ true → is_id (option_map the_id o) n ≡ false
+unfolding is_id
+keeps_confirmed t owner None n is found mark = refl
+keeps_confirmed t owner (Some d) n is found mark = elim (cases_eq n d.id) [
+  | inl same ↦ (let at = named t owner d is found in
+      let marked : d.confirmed ≡ true = sym (ap mark_of at.0) ∙ ap (is_confirmed t) (sym same) ∙ mark in
+      absurd (false≢true (sym at.1 ∙ marked)))
+  | inr other ↦ ne_eqb n d.id other
+]
+
+keeps_next : (t : Roster) (owner : List ℕ) (o : Option ClientRecord) (n : ℕ) → IsRoster t → unconfirmed_of t owner ≡ o → client_at t n ≡ None → is_id (option_map the_id o) n ≡ false
+unfolding is_id
+keeps_next t owner None n is found none = refl
+keeps_next t owner (Some d) n is found none = elim (cases_eq n d.id) [
+  | inl same ↦ absurd (let bad : None ≡ Some d = sym none ∙ ap (client_at t) same ∙ (named t owner d is found).0 in cc)
+  | inr other ↦ ne_eqb n d.id other
+]
+
+only_some : {A : Type 0} (o : Option A) → is_some (cond (is_some o) o None) ≡ is_some o
+only_some None = refl
+only_some (Some x) = refl
+
+-- what an id names behind a new record
+new_at : (t : Roster) (a : Ask) (n : ℕ) → IsRoster t → client_at (with_new t a) n ≡
+    (let f = cond (is_id (option_map the_id (unconfirmed_of t a.owner)) n) None (client_at t n) in cond (is_some f) f (cond (eqb (next_id t) n) (Some (new_client t a)) None))
+new_at t a n is =
+    let rest : record_at the_id (filter (λ c. not (is_unconfirmed_of a.owner c)) t.records) n ≡ cond (is_id (option_map the_id (unconfirmed_of t a.owner)) n) None (client_at t n) =
+    ap (λ xs. record_at the_id xs n) (sym (without_unconfirmed t a.owner is (unconfirmed_of t a.owner) refl)) ∙ without_is t (option_map the_id (unconfirmed_of t a.owner)) n in
+    at_push the_id n (filter (λ c. not (is_unconfirmed_of a.owner c)) t.records) (new_client t a)
+    ∙ ap (λ (f : Option ClientRecord). cond (is_some f) f (cond (eqb (next_id t) n) (Some (new_client t a)) None)) rest
+
+new_leased : (b : Book) (id now n : ℕ) (new : ClientRecord) (old : Option ClientRecord) (gone : Bool) → is_some (b.renewed n) ≡ is_some old → (n ≡ id → (old ≡ None) × (gone ≡ false)) →
+    is_some (cond gone None ((with_lease b id now).renewed n)) ≡ is_some (cond (is_some (cond gone None old)) (cond gone None old) (cond (eqb id n) (Some new) None))
+new_leased b id now n new old gone same fresh = elim (cases_eq n id) [
+  | inl here ↦ (let none = fresh here in rw (none.0, none.1, eq-eqb n id here, eq-eqb id n (sym here)) refl)
+  | inr other ↦ rw (ne_eqb n id other, ne_eqb id n (λ e. other (sym e))) (some_gone gone (b.renewed n) old same ∙ sym (only_some (cond gone None old)))
+]
+
+new_mark : (id n : ℕ) (new : ClientRecord) (old : Option ClientRecord) (gone : Bool) → gone ≡ false → mark_of old ≡ true → mark_of (cond (is_some (cond gone None old)) (cond gone None old) (cond (eqb id n) (Some new) None)) ≡ true
+new_mark id n new None gone stays mark = absurd (false≢true mark)
+new_mark id n new (Some c) gone stays mark = rw stays mark
+
+pub of_new : (m : Machine) (a : Ask) (now : ℕ) → IsMachine m → has_room m.clients a.owner ≡ true →
+    IsMachine (record m { clients = with_new m.clients a; leases = without_any_lease (with_lease m.leases (next_id m.clients) now) (option_map the_id (unconfirmed_of m.clients a.owner)) })
+of_new m a now is room =
+    let t = m.clients in
+    let o = unconfirmed_of t a.owner in
+    record {
+      clients = roster_new t a is.clients room;
+      leased = λ n. ap is_some (lease_is (with_lease m.leases (next_id t) now) (option_map the_id o) n)
+          ∙ new_leased m.leases (next_id t) now n (new_client t a) (client_at t n) (is_id (option_map the_id o) n) (is.leased n)
+          (λ here. (let none : client_at t n ≡ None = ap (client_at t) here ∙ fresh t is.clients in (none, keeps_next t a.owner o n is.clients refl none)))
+          ∙ ap is_some (sym (new_at t a n is.clients));
+      confirmed = λ s there. (let mark = is.confirmed s there in
+          ap mark_of (new_at t a s.client is.clients) ∙ new_mark (next_id t) s.client (new_client t a) (client_at t s.client) (is_id (option_map the_id o) s.client) (keeps_confirmed t a.owner o s.client is.clients refl mark) mark);
+    }
+
+pub of_exchanged : (m : Machine) (a : Ask) (now : ℕ) (case : Case) → IsMachine m → case_of m.clients a ≡ case → IsMachine (record m { clients = (does m.clients a case).after; leases = leases_behind m.leases now (does m.clients a case).answer })
+of_exchanged m a now (Refuses fault) is at = is
+of_exchanged m a now (Tells c) is at = is
+of_exchanged m a now Adds is at = of_new m a now is (room_of (has_room m.clients a.owner) (case_by a (confirmed_of m.clients a.owner)) at)
+
+-- CREATE_SESSION.
+
+in_without : (t : SessionTable) (o : Option ℕ) (s : Session) → In s (without_any_sessions t o).sessions → In s t.sessions × (is_id o s.client ≡ false)
+unfolding is_id
+in_without t None s there = (there, refl)
+in_without t (Some gone) s there = (let kept = in_filter (λ (s : Session). not (eqb s.client gone)) t.sessions s there in (kept.0, other (eqb s.client gone) kept.1))
+  where
+    other : (b : Bool) → not b ≡ true → b ≡ false
+    other true e = absurd cc
+    other false e = refl
+
+confirmed_at : (t : Roster) (client n : ℕ) → client_at (with_confirmed t client) n ≡
+    (let f = cond (is_id (leaving t client) n) None (client_at t n) in cond (eqb n client) (option_map confirms f) f)
+confirmed_at t client n =
+    at_with the_id confirms (λ c. refl) n client (without_any t (leaving t client)).records
+    ∙ ap (λ (f : Option ClientRecord). cond (eqb n client) (option_map confirms f) f) (without_is t (leaving t client) n)
+
+confirmed_some : (here : Bool) (f : Option ClientRecord) → is_some (cond here (option_map confirms f) f) ≡ is_some f
+confirmed_some true f = map_is confirms f
+confirmed_some false f = refl
+
+marked_here : (f : Option ClientRecord) → is_some f ≡ true → mark_of (option_map confirms f) ≡ true
+marked_here None e = absurd (false≢true e)
+marked_here (Some c) e = refl
+
+some_of_mark : (f : Option ClientRecord) → mark_of f ≡ true → is_some f ≡ true
+some_of_mark None e = e
+some_of_mark (Some c) e = refl
+
+marked : (here : Bool) (f : Option ClientRecord) → is_some f ≡ true → (here ≡ false → mark_of f ≡ true) → mark_of (cond here (option_map confirms f) f) ≡ true
+marked true f there other = marked_here f there
+marked false f there other = other refl
+
+pub of_confirmed : (m : Machine) (now client : ℕ) (body : List ℕ) (t : SessionTable) → IsMachine m → is_client m.clients client ≡ true → ((s : Session) → In s t.sessions → (s.client ≡ client) ⊎ In s m.sessions.sessions) →
+    IsMachine (confirmed (record m { sessions = t }) now client body)
+of_confirmed m now client body t is known sessions =
+    let r = m.clients in
+    let gone = leaving r client in
+    record {
+      clients = roster_changed (keeps (Done body)) (with_confirmed r client) client (mild_keeps (Done body)) (roster_confirmed r client is.clients);
+      leased = λ n. renewed_some (without_any_lease m.leases gone) client now n ∙ ap is_some (lease_is m.leases gone n) ∙ some_gone (is_id gone n) (m.leases.renewed n) (client_at r n) (is.leased n)
+          ∙ sym (confirmed_some (eqb n client) (cond (is_id gone n) None (client_at r n))) ∙ ap is_some (sym (confirmed_at r client n)) ∙ sym (kept_is (with_confirmed r client) client n (Done body));
+      confirmed = λ s there. (let left = in_without t gone s there in
+          let stays : cond (is_id gone s.client) None (client_at r s.client) ≡ client_at r s.client = ap (λ b. cond b None (client_at r s.client)) left.1 in
+          kept_mark (with_confirmed r client) client s.client (Done body) ∙ ap mark_of (confirmed_at r client s.client) ∙ ap (λ (f : Option ClientRecord). mark_of (cond (eqb s.client client) (option_map confirms f) f)) stays
+          ∙ elim (sessions s left.0) [
+            | inl new ↦ marked (eqb s.client client) (client_at r s.client) (ap (is_client r) new ∙ known) (λ other. absurd (false≢true (sym other ∙ eq-eqb s.client client new)))
+            | inr old ↦ marked (eqb s.client client) (client_at r s.client) (some_of_mark (client_at r s.client) (is.confirmed s old)) (λ other. is.confirmed s old)
+          ]);
+    }
+
+known_runs : (o : Option ClientRecord) (number uid : ℕ) → verdict_by o number uid ≡ clients.Runs → is_some o ≡ true
+known_runs None number uid e = absurd cc
+known_runs (Some c) number uid e = refl
+
+of_made : (m : Machine) (now : ℕ) (c : CreateSession) (wish : Wish) (o : Option SessionFault) → IsMachine m → is_client m.clients c.clientid ≡ true →
+    IsMachine (by_created m now c (create_unless m.sessions c.clientid wish o).after (create_unless m.sessions c.clientid wish o).answer).machine
+of_made m now c wish None is known = of_confirmed m now c.clientid _ (with_session m.sessions c.clientid wish) is known
+    (λ s there. elim (in_push m.sessions.sessions _ s there) [ inl new ↦ inl (ap (λ (s : Session). s.client) new) | inr old ↦ inr old ])
+of_made m now c wish (Some fault) is known = of_kept_result m c.clientid (Refused (fault_status fault)) is
+
+delayed : (m : Machine) (o : Outcome) (refused : Bool) (n : ℕ) → IsMachine m → IsMachine o.machine → IsMachine (or_delay refused m n o).machine
+delayed m o refused n before after = elim (cases_Bool (refused && is_ok o.status)) [
+  | inl here ↦ rw here before
+  | inr other ↦ rw other after
+]
+
+of_created : (m : Machine) (now : ℕ) (refused : Bool) (c : CreateSession) (v : clients.Verdict) → IsMachine m → (v ≡ clients.Runs → is_client m.clients c.clientid ≡ true) → IsMachine (by_verdict m now refused c v).machine
+of_created m now refused c clients.Stale is known = is
+of_created m now refused c (clients.Again (Done body)) is known = is
+of_created m now refused c (clients.Again (Refused status)) is known = is
+of_created m now refused c clients.Misordered is known = is
+of_created m now refused c clients.InUse is known = is
+of_created m now refused c clients.Runs is known =
+    let did = create m.sessions c.clientid (wish_of m c) in
+    delayed m (creates m now c did) refused create_session_number is (of_made m now c (wish_of m c) (create_fault m.sessions (wish_of m c)) is (known refl))
+
+-- The whole compound.
+
+of_destroyed : (m : Machine) (client : ℕ) (o : Option DestroyFault) → IsMachine m → (o ≡ None → list_any (λ (s : Session). eqb s.client client) m.sessions.sessions ≡ false) → IsMachine (destroyed_unless m client o).machine
+of_destroyed m client None is none = of_destroyed_client m client is (none refl)
+of_destroyed m client (Some fault) is none = is
+
+no_sessions_left : (a b held : Bool) → cond a (Some Stale) (cond (b || held) (Some Busy) None) ≡ None → b ≡ false
+no_sessions_left true b held e = absurd cc
+no_sessions_left false true held e = absurd cc
+no_sessions_left false false held e = refl
+
+of_destroyed_session : (m : Machine) (sessionid : List ℕ) → IsMachine m → IsMachine (destroy_session m sessionid).machine
+of_destroyed_session m sessionid is = elim (cases_Bool (is_some (session_at m.sessions (id_of sessionid)))) [
+  | inl stood ↦ rw stood (of_fewer_sessions m (sessions.destroyed m.sessions (id_of sessionid)) is (λ s there. (in_filter (λ s. not (is_session (id_of sessionid) s)) m.sessions.sessions s there).0))
+  | inr not_there ↦ rw not_there is
+]
+
+carried : (m : Machine) (who : Caller) (now : ℕ) (refused : Bool) (i : Item) → IsMachine m → IsMachine (carried_out m who now refused i).machine
+carried m who now refused (Operation (OpExchangeId e)) is = delayed m (exchange_id m who now e) refused exchange_id_number is (of_exchanged m (ask_of who e) now (case_of m.clients (ask_of who e)) is refl)
+carried m who now refused (Operation (OpCreateSession c)) is = of_created m now refused c (clients.create_verdict m.clients c.clientid c.sequence who.uid) is (known_runs (client_at m.clients c.clientid) c.sequence who.uid)
+carried m who now refused (Operation (OpDestroySession sessionid)) is = of_destroyed_session m sessionid is
+carried m who now refused (Operation (OpDestroyClientId client)) is =
+    of_destroyed m client (destroy_fault m.clients client (has_session m.sessions client)) is (no_sessions_left (not (is_client m.clients client)) (has_session m.sessions client) (has_open m.clients client))
+carried m who now refused i is = is
+
+first : (m : Machine) (declared : ℕ) (who : Caller) (now : ℕ) (refused : Bool) (i : Item) → IsMachine m → IsMachine (first_item m declared who now refused i).machine
+first m declared who now refused i is = go (item_fault declared i)
+  where
+    go : (f : Option Status) → IsMachine (by_fault m (item_number i) f (carried_out m who now refused i)).machine
+    go None = carried m who now refused i is
+    go (Some status) = is
+
+sequenced_kept : (m : Machine) (r : Request) (who : Caller) (now : ℕ) (s : Sequence) (more : List Item) (v : Sequenced) → IsMachine m → IsMachine (in_session m r who now s more v).machine
+sequenced_kept m r who now s more (sequence.Refuses status) is = is
+sequenced_kept m r who now s more (sequence.Repeats reply) is = is
+sequenced_kept m r who now s more (sequence.Runs c) is =
+    let ran = runs_behind (renewed m now s) r s c more in
+    of_kept ran.machine (id_of s.sessionid) _ (subst IsMachine (sym (run_same c.response (begun r s c) (renewed m now s) more)) (of_renewed m (id_of s.sessionid).client now is))
+
+items_kept : (m : Machine) (r : Request) (who : Caller) (size now : ℕ) (choice : Option ℕ) (items : List Item) → IsMachine m → IsMachine (by_first m r who size now choice items).machine
+items_kept m r who size now choice [] is = is
+items_kept m r who size now choice (Operation (OpSequence s) ∷ more) is = sequenced_kept m r who now s more (sequenced m r who size s) is
+items_kept m r who size now choice (item ∷ more) is = first m r.declared who now (is_here choice) item is
+
+pub of_compound : (m : Machine) (r : Request) (who : Caller) (size now : ℕ) (choice : Option ℕ) → IsMachine m → IsMachine (compound m r who size now choice).machine
+of_compound m r who size now choice is = elim (cases_Bool (eqb r.minor 1)) [
+  | inl one ↦ rw one (items_kept m r who size now choice r.left is)
+  | inr other ↦ rw other is
+]

@@ -1,0 +1,52 @@
+-- An operation that stands alone: that its result is small, and what it comes to.
+use Rattle.std.proofs.Common.{◌≡◌, ℕ, ◌+◌, ◌≤◌, Bool, length, Option, Some, None, refl, sym, ◌∙◌, ap, subst, arith}
+use Rattle.nfs_xdr.specs.Caller.{Caller}
+use Rattle.nfs_xdr.specs.Paper.{Paper, HasRoom, Puts}
+use Rattle.nfs_xdr.specs.declared.status.Status.{Status}
+use Rattle.nfs_xdr.specs.declared.status.Status.TheVariants.{NotSupp}
+use Rattle.nfs_compound.specs.Operation.{Item}
+use Rattle.nfs_compound.specs.Arguments.{item_number}
+use Rattle.nfs_compound.specs.View.{item}
+use Rattle.nfs_compound.specs.declared.arg.Arg.{Arg}
+use Rattle.nfs_compound.specs.declared.arg.Arg.TheVariants as Args
+use Rattle.nfs_results.specs.Result.{Res}
+use Rattle.nfs_results.specs.Results.{HasArrays, spell_result, status_of_result, refusal}
+use Rattle.nfs_exec.specs.Machine.{Machine, Outcome, comes_to, is_delay, refuses}
+use Rattle.nfs_exec.specs.Place.{IsSmall, item_fault}
+use Rattle.nfs_exec.specs.Compound.{carried_out, by_fault, first_item}
+use Rattle.nfs_exec.specs.View.{Does}
+
+pub small_fits : (paper : Paper) (r : Res) → length paper.bytes + 92 ≤ paper.room → IsSmall r → HasArrays r → HasRoom paper (spell_result r)
+small_fits paper r room small arrays = (let long = small.1 arrays in omega (arith, room, long))
+
+-- a result that was put
+pub put_does : (m left : Machine) (declared : ℕ) (who : Caller) (now : ℕ) (i : Item) (r : Res) (s : Status) (old new : Paper) →
+    comes_to left r ≡ first_item m declared who now (is_delay (status_of_result r)) i → s ≡ status_of_result r → Puts old new (spell_result r) →
+    Does (first_item m declared who now (is_delay s) i) s left old new
+put_does m left declared who now i r s old new is status put =
+    subst (λ (t : Status). Does (first_item m declared who now (is_delay t) i) t left old new) (sym status)
+    (subst (λ (o : Outcome). Does o (status_of_result r) left old new) is (record { status = refl; machine = refl; put = put }))
+
+-- an item that cannot stand in the first place
+pub misplaced : (m : Machine) (declared : ℕ) (who : Caller) (now : ℕ) (refused : Bool) (i : Item) (s : Status) → item_fault declared i ≡ Some s →
+    comes_to m (refusal (item_number i) s) ≡ first_item m declared who now refused i
+misplaced m declared who now refused i s fault = ap (λ (f : Option Status). by_fault m (item_number i) f (carried_out m who now refused i)) (sym fault)
+
+pub in_place : (m : Machine) (declared : ℕ) (who : Caller) (now : ℕ) (refused : Bool) (i : Item) (o : Outcome) → item_fault declared i ≡ None → o ≡ carried_out m who now refused i →
+    o ≡ first_item m declared who now refused i
+in_place m declared who now refused i o none is = is ∙ ap (λ (f : Option Status). by_fault m (item_number i) f (carried_out m who now refused i)) (sym none)
+
+-- what none of the four operations is
+pub not_carried : (m : Machine) (who : Caller) (now : ℕ) (refused : Bool) (a : Arg) → ((x : _) → a ≡ Args.ExchangeId x → ⊥) → ((x : _) → a ≡ Args.CreateSession x → ⊥) → ((x : _) → a ≡ Args.DestroySession x → ⊥) →
+    ((x : _) → a ≡ Args.DestroyClientId x → ⊥) → refuses m (item_number (item a)) NotSupp ≡ carried_out m who now refused (item a)
+not_carried m who now refused (Args.ExchangeId x) e c s d = absurd (e x refl)
+not_carried m who now refused (Args.CreateSession x) e c s d = absurd (c x refl)
+not_carried m who now refused (Args.DestroySession x) e c s d = absurd (s x refl)
+not_carried m who now refused (Args.DestroyClientId x) e c s d = absurd (d x refl)
+not_carried m who now refused a e c s d = refl
+
+pub branch_done : (m left kept : Machine) (declared : ℕ) (who : Caller) (now : ℕ) (i j : Item) (r s : Res) → left ≡ kept → r ≡ s → i ≡ j → item_fault declared i ≡ None → comes_to kept s ≡ carried_out m who now (is_delay (status_of_result s)) j →
+    comes_to left r ≡ first_item m declared who now (is_delay (status_of_result r)) i
+branch_done m left kept declared who now i j r s same told at none is =
+    ap (λ (k : Machine). comes_to k r) same ∙ ap (comes_to kept) told ∙ is ∙ ap (λ (t : Res). carried_out m who now (is_delay (status_of_result t)) j) (sym told)
+    ∙ ap (carried_out m who now (is_delay (status_of_result r))) (sym at) ∙ ap (λ (f : Option Status). by_fault m (item_number i) f (carried_out m who now (is_delay (status_of_result r)) i)) (sym none)

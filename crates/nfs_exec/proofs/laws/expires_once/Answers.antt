@@ -1,0 +1,5 @@
+use Rattle.nfs_exec.proofs.Repeating.{expires}
+use Rattle.nfs_exec.proofs.laws.expires_once.Goals as goal
+
+pub returns : goal.returns
+returns c = expires

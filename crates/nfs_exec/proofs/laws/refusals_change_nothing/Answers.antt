@@ -1,0 +1,5 @@
+use Rattle.nfs_exec.proofs.Repeating.{refusals}
+use Rattle.nfs_exec.proofs.laws.refusals_change_nothing.Goals as goal
+
+pub returns : goal.returns
+returns c = refusals

@@ -1,0 +1,5 @@
+use Rattle.nfs_exec.proofs.Repeating.{repeats}
+use Rattle.nfs_exec.proofs.laws.repeats_change_nothing.Goals as goal
+
+pub returns : goal.returns
+returns c = repeats

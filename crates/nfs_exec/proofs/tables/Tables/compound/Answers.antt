@@ -1,0 +1,57 @@
+use Rattle.std.proofs.Common.{List, ◌∷◌, None, length, inr, ap, sym, subst, ◌∙◌, arith}
+use Rattle.nfs_xdr.specs.Caller.{caller}
+use Rattle.nfs_xdr.specs.Tables.{In}
+use Rattle.nfs_xdr.specs.declared.status.Status.TheVariants.{Nfs4Ok, MinorVersMismatch}
+use Rattle.nfs_compound.specs.Operation.{Item}
+use Rattle.nfs_compound.specs.Request.{Request}
+use Rattle.nfs_compound.specs.View.{item}
+use Rattle.nfs_exec.specs.View.{machine_of}
+use Rattle.nfs_exec.proofs.Bearing.{opened_all, opened_bears, opened_few}
+use Rattle.nfs_exec.proofs.Keeping.{any_head_fits, head_fits, alone_fits, has_one}
+use Rattle.nfs_exec.proofs.Whole.{for_sequence, for_other}
+use Rattle.nfs_exec.proofs.tables.Tables.compound.Goals as goal
+
+pub write_compound_head-requires-clause-room : goal.write_compound_head-requires-clause-room
+write_compound_head-requires-clause-room c = any_head_fits c.args.out.now MinorVersMismatch c.tag-tag.result.now 0 c.tag-tag.ensures.bound c.requires.room
+
+pub write_compound_head-requires-in_default-clause-room : goal.write_compound_head-requires-in_default-clause-room
+write_compound_head-requires-in_default-clause-room c = any_head_fits c.args.out.now Nfs4Ok c.tag-tag.result.now 0 c.tag-tag.ensures.bound c.requires.room
+
+pub in_session-requires-clause-bears : goal.in_session-requires-clause-bears
+in_session-requires-clause-bears c = λ i there. opened_all c.args.args.now c.requires.opened (sym c.minor.ensures ∙ c.if-minor-ne1.false) i (subst (λ (xs : List Item). In i xs) (sym c.in-Some.ensures.item) (inr there))
+
+pub in_session-requires-clause-few : goal.in_session-requires-clause-few
+in_session-requires-clause-few c =
+    let few = opened_few c.args.args.now c.requires.opened (sym c.minor.ensures ∙ c.if-minor-ne1.false) in
+    let long = ap (λ (xs : List Item). length xs) c.in-Some.ensures.item in
+    let same = ap (λ (r : Request). r.declared) c.in-Some.ensures.head in
+    omega (arith, few, long, same)
+
+pub put-head-requires : goal.put-head-requires
+put-head-requires c = record { tag = c.tag-tag.ensures.bound; room = head_fits c.args.out.now c.tag-tag.result.now c.tag-tag.ensures.bound c.requires.room }
+
+pub alone-status-requires : goal.alone-status-requires
+alone-status-requires c = record {
+  bears = opened_bears c.args.args.now (item c.in-Some.arg) c.next.new.self.left c.requires.opened (sym c.minor.ensures ∙ c.if-minor-ne1.false) c.in-Some.ensures.item;
+  machine = c.requires.machine;
+  latest = c.requires.latest;
+  room = alone_fits c.args.out.now c.put-head.new.out c.tag-tag.result.now c.tag-tag.ensures.bound c.requires.room c.put-head.ensures.puts;
+}
+
+pub close-requires : goal.close-requires
+close-requires c = record {
+  stands = has_one c.args.out.now c.put-head.new.out c.alone-status.new.out c.put-head.result.status_at c.put-head.result.count_at c.tag-tag.result.now _ c.put-head.ensures.places c.put-head.ensures.puts c.alone-status.ensures.put;
+}
+
+pub returns-in-Sequence : goal.returns-in-Sequence
+returns-in-Sequence c = (
+  None,
+  for_sequence (machine_of c.args.self.now) c.args.args.now c.next.new.self (caller c.args.who.now) c.args.size c.args.now c.in-Sequence.asked c.args.out.now c.in_session.new.out (machine_of c.in_session.new.self)
+      (sym c.minor.ensures ∙ c.if-minor-ne1.false) (c.in-Some.ensures.item ∙ ap (λ a. item a ∷ c.next.new.self.left) c.in-Sequence.is) c.in-Some.ensures.head c.in_session.ensures,
+)
+
+pub returns-in_default-arg : goal.returns-in_default-arg
+returns-in_default-arg c =
+    for_other (machine_of c.args.self.now) c.args.args.now (caller c.args.who.now) c.args.size c.args.now c.declared.result c.in-Some.arg c.next.new.self.left c.alone-status.result c.put-head.result.status_at c.put-head.result.count_at c.tag-tag.result.now
+    c.args.out.now c.put-head.new.out c.alone-status.new.out c.close.new.out (machine_of c.alone-status.new.self)
+    (sym c.minor.ensures ∙ c.if-minor-ne1.false) c.in-Some.ensures.item c.in_default-arg.not-Sequence (c.declared.ensures ∙ ap (λ (r : Request). r.declared) c.in-Some.ensures.head) c.tag-tag.ensures.value c.put-head.ensures.places c.put-head.ensures.puts c.alone-status.ensures c.close.ensures

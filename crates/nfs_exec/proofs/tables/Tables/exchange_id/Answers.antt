@@ -1,0 +1,40 @@
+use Rattle.std.proofs.Common.{◌≡◌, refl, sym, ◌∙◌, ap, subst}
+use Rattle.nfs_xdr.specs.Caller.{caller}
+use Rattle.nfs_compound.specs.SessionArgs.{view_exchange_id}
+use Rattle.nfs_clients.specs.ExchangeId.{case_of}
+use Rattle.nfs_lease.specs.Renewals.{Book, leases_of, without_lease}
+use Rattle.nfs_results.specs.Result.{Res, ResExchangeId, ExchangeIdOk}
+use Rattle.nfs_results.specs.Results.{status_of_result}
+use Rattle.nfs_exec.specs.Machine.{comes_to, is_delay, or_delay}
+use Rattle.nfs_exec.specs.ExchangeId.{exchange_id, exchange_id_number, ask_of}
+use Rattle.nfs_exec.specs.View.{machine_of, settled}
+use Rattle.nfs_exec.proofs.Exchanging.{answered_ok, refused_first, refused_last}
+use Rattle.nfs_exec.proofs.tables.Tables.exchange_id.Goals as goal
+
+pub returns-in-Err-clause-outcome : goal.returns-in-Err-clause-outcome
+returns-in-Err-clause-outcome c =
+    let m = machine_of c.args.self.now in
+    let who = caller c.args.who.now in
+    let e = view_exchange_id c.args.asked.now in
+    subst (λ (r : Res). comes_to m r ≡ or_delay (is_delay (status_of_result r)) m exchange_id_number (exchange_id m who c.args.now e)) (sym c.refused.ensures)
+    (refused_first m who c.args.now e c.in-Err.fault (case_of m.clients (ask_of who e)) c.in-Err.ensures)
+
+pub returns-in-Ok-exchange-clause-outcome : goal.returns-in-Ok-exchange-clause-outcome
+returns-in-Ok-exchange-clause-outcome c =
+    let m = machine_of c.args.self.now in
+    let who = caller c.args.who.now in
+    let e = view_exchange_id c.args.asked.now in
+    let book = c.settle.ensures ∙ ap (λ (b : Book). settled b c.next_id-next.result c.in-Ok-exchange.exchanged) c.in-Ok.ensures.ok in
+    ap (λ (x : ExchangeIdOk). comes_to (record m { clients = c.exchange.new.self; leases = leases_of c.settle.new.leases }) (ResExchangeId x)) c.granted.ensures
+    ∙ answered_ok m who c.args.now e c.next_id-next.result c.in-Ok-exchange.exchanged c.exchange.new.self (leases_of c.settle.new.leases) (case_of m.clients (ask_of who e))
+    c.requires.machine c.next_id-next.ensures.fresh c.next_id-next.ensures.value refl c.in-Ok-exchange.ensures.0 c.in-Ok-exchange.ensures.1 book
+
+pub returns-in-Err-exchange-clause-outcome : goal.returns-in-Err-exchange-clause-outcome
+returns-in-Err-exchange-clause-outcome c =
+    let m = machine_of c.args.self.now in
+    let who = caller c.args.who.now in
+    let e = view_exchange_id c.args.asked.now in
+    let after = record m { clients = c.exchange.new.self; leases = leases_of c.remove.new.self } in
+    subst (λ (r : Res). comes_to after r ≡ or_delay (is_delay (status_of_result r)) m exchange_id_number (exchange_id m who c.args.now e)) (sym c.refused-in-Err-exchange.ensures)
+    (refused_last m who c.args.now e c.next_id-next.result c.in-Err-exchange.fault c.exchange.new.self (leases_of c.remove.new.self)
+    c.requires.machine c.next_id-next.ensures.fresh (sym c.judge_exchange.ensures ∙ c.in_default.is) c.in-Err-exchange.ensures (c.remove.ensures.lease ∙ ap (λ (b : Book). without_lease b c.next_id-next.result) c.in-Ok.ensures.ok))

@@ -1,0 +1,15 @@
+use Rattle.std.proofs.Common.{sym, ap, ◌∙◌}
+use Rattle.nfs_lease.specs.Renewals.{leases_of, standing}
+use Rattle.nfs_exec.specs.Expiry.{expired}
+use Rattle.nfs_exec.specs.View.{machine_of}
+use Rattle.nfs_exec.proofs.Expiring.{expired_without, expired_none, fewer}
+use Rattle.nfs_exec.proofs.tables.Tables.expire.Goals as goal
+
+pub loop-client-smaller : goal.loop-client-smaller
+loop-client-smaller c = fewer (leases_of c.loop-client.self.leases) c.args.now c.in-Some.client (standing c.loop-client.self.leases) (standing c.drop_client.new.self.leases) c.in-Some.ensures c.drop_client.ensures.standing
+
+pub loop-client-preserved : goal.loop-client-preserved
+loop-client-preserved c = ap (expired c.args.now) c.drop_client.ensures.machine ∙ expired_without (machine_of c.loop-client.self) c.args.now c.in-Some.client c.in-Some.ensures ∙ c.loop-client.invariant
+
+pub returns : goal.returns
+returns c = sym (expired_none (machine_of c.loop-client.self) c.args.now c.in_default.ensures) ∙ c.loop-client.invariant

@@ -1,0 +1,191 @@
+//! CREATE_SESSION (RFC 8881 section 18.36).
+
+ghost use Rattle.std.specs.Prelude.{◌≡◌, ◌≤◌, ◌+◌, ◌++◌, length, Option};
+ghost use Rattle.nfs_xdr.specs.Caller.{caller};
+ghost use Rattle.nfs_xdr.specs.Paper.{Puts};
+ghost use Rattle.nfs_compound.specs.SessionArgs.{view_create_session};
+ghost use Rattle.nfs_clients.specs.CreateSession as clients;
+ghost use Rattle.nfs_compound.specs.declared.op_num.OpNum.TheVariants as Op;
+ghost use Rattle.nfs_results.specs.Straight.{done_head};
+ghost use Rattle.nfs_lease.specs.Renewals.{IsLatest};
+ghost use Rattle.nfs_sessions.specs.Sessions.{create};
+ghost use Rattle.nfs_exec.specs.Machine.{Machine, is_delay, or_delay, refuses};
+ghost use Rattle.nfs_exec.specs.CreateSession.{create_session, create_session_number, wish_of, session_made, made_body, channel_of, attrs_of, creates, kept_again, confirmed};
+ghost use Rattle.nfs_exec.specs.View.{machine_of, Does};
+
+use crate::tables::Tables;
+use nfs_clients::{CreateResult, CreateVerdict, Resok};
+use nfs_compound::{ChannelAttrs, CreateSession, OpNum};
+use nfs_results::{CreateSessionOk, Res, write, write_done_head};
+use nfs_sessions::{Channel, SessionId, Wish};
+use nfs_xdr::{Sheet, Status, Who};
+use std::alloc::Global;
+
+/// The bytes of a result in front of its body: the operation number and the status.
+const HEAD: usize = 8;
+
+impl Tables {
+    /// Judges the call by its number, makes the session where it runs, and puts the result. Returns its status.
+    ///
+    /// Where memory is refused the answer is `Delay`, as the last check, and nothing has changed; the result of the number
+    /// before, which is answered again, wants none.
+    pub fn create_session(
+        &mut self,
+        alloc: Global,
+        asked: &CreateSession<'_>,
+        who: &Who,
+        now: u64,
+        out: &mut Sheet,
+    ) -> Status
+        requires latest { IsLatest (machine_of self.old).leases now }
+        requires room { length out.old.bytes + 92 ≤ out.old.room }
+        ensures { Does (create_session (machine_of self.old) (caller who.now) now (is_delay result) (view_create_session asked.now)) result (machine_of self.new) out.old out.new }
+    {
+        let status = match self
+            .clients
+            .create_judge(asked.clientid, asked.sequence, who.uid)
+        {
+            CreateVerdict::Runs => return self.make_session(alloc, asked, now, out),
+            CreateVerdict::Again(kept) => return put_kept(kept, out),
+            CreateVerdict::Stale => Status::StaleClientId,
+            CreateVerdict::Misordered => Status::SeqMisordered,
+            CreateVerdict::InUse => Status::ClidInUse,
+        };
+        put_refusal(status, out)
+    }
+
+    /// Makes a session under the expected number, or refuses it; what comes of it is kept where it uses the number up.
+    fn make_session(
+        &mut self,
+        alloc: Global,
+        asked: &CreateSession<'_>,
+        now: u64,
+        out: &mut Sheet,
+    ) -> Status
+        requires latest { IsLatest (machine_of self.old).leases now }
+        requires room { length out.old.bytes + 92 ≤ out.old.room }
+        ensures { Does (or_delay (is_delay result) (machine_of self.old) create_session_number
+            (creates (machine_of self.old) now (view_create_session asked.now) (create self.old.sessions asked.now.clientid (wish_of (machine_of self.old) (view_create_session asked.now)))))
+            result (machine_of self.new) out.old out.new }
+    {
+        let client = asked.clientid;
+        let leaving = self.clients.leaving(client);
+        match self.sessions.create(alloc, client, &wish(asked, leaving)) {
+            Ok(id) => {
+                let body = put_made(asked, id, out);
+                self.confirm(client, leaving, body, now);
+                Status::Nfs4Ok
+            }
+            Err(fault) => {
+                let status = fault.status();
+                self.clients
+                    .keep_created(client, CreateResult::Refused(status));
+                put_refusal(status, out)
+            }
+        }
+    }
+
+    /// Confirms the client, keeps the body of its result, renews its lease, and drops the record that goes for it.
+    fn confirm(&mut self, client: u64, leaving: Option<u64>, body: Resok, now: u64)
+        requires latest { IsLatest (machine_of self.old).leases now }
+        requires leaving { leaving ≡ clients.leaving self.old.clients client }
+        ensures { machine_of self.new ≡ confirmed (machine_of self.old) now client body }
+    {
+        self.clients.confirm(client);
+        self.clients.keep_created(client, CreateResult::Done(body));
+        if let Some(other) = leaving {
+            self.sessions.drop_client(other);
+            self.leases.remove(other);
+        }
+        self.leases.renew(client, now);
+    }
+}
+
+/// What is asked for of a session.
+fn wish(asked: &CreateSession<'_>, leaving: Option<u64>) -> Wish
+    ensures { result ≡ record { fore = channel_of asked.now.fore_chan_attrs; back = channel_of asked.now.back_chan_attrs; leaving = leaving } }
+{
+    Wish {
+        fore: channel_of(&asked.fore_chan_attrs),
+        back: channel_of(&asked.back_chan_attrs),
+        leaving,
+    }
+}
+
+fn channel_of(attrs: &ChannelAttrs) -> Channel
+    ensures { result ≡ channel_of attrs.now }
+{
+    Channel {
+        request: attrs.maxrequestsize,
+        response: attrs.maxresponsesize,
+        cached: attrs.maxresponsesize_cached,
+        operations: attrs.maxoperations,
+        slots: attrs.maxrequests,
+    }
+}
+
+fn attrs_of(channel: Channel) -> ChannelAttrs
+    ensures { result ≡ attrs_of channel }
+{
+    ChannelAttrs {
+        headerpadsize: 0,
+        maxrequestsize: channel.request,
+        maxresponsesize: channel.response,
+        maxresponsesize_cached: channel.cached,
+        maxoperations: channel.operations,
+        maxrequests: channel.slots,
+        rdma_ird: None,
+    }
+}
+
+/// The result of a session that was made.
+fn session_made(asked: &CreateSession<'_>, id: SessionId) -> CreateSessionOk
+    ensures { result ≡ session_made (view_create_session asked.now) id }
+{
+    CreateSessionOk {
+        sessionid: id.to_bytes(),
+        sequence: asked.sequence,
+        flags: 0,
+        fore_chan_attrs: attrs_of(channel_of(&asked.fore_chan_attrs).granted()),
+        back_chan_attrs: asked.back_chan_attrs,
+    }
+}
+
+/// Puts the result of a session that was made, and returns its body.
+fn put_made(asked: &CreateSession<'_>, id: SessionId, out: &mut Sheet) -> Resok
+    requires room { length out.old.bytes + 92 ≤ out.old.room }
+    ensures body { result ≡ made_body (view_create_session asked.now) id }
+    ensures put { Puts out.old out.new (done_head Op.CreateSession ++ made_body (view_create_session asked.now) id) }
+{
+    let begin = out.len();
+    write(&Res::CreateSession(session_made(asked, id)), out);
+    let result = &out.bytes()[begin..];
+    Resok::new(&result[HEAD..])
+}
+
+/// Puts a result that was kept.
+#[tactic(auto, using(nfs_xdr::proofs::Putting::putting))]
+fn put_kept(kept: &CreateResult, out: &mut Sheet) -> Status
+    requires room { length out.old.bytes + 92 ≤ out.old.room }
+    ensures { (m : Machine) → Does (kept_again m kept.now) result m out.old out.new }
+{
+    match kept {
+        CreateResult::Done(body) => {
+            write_done_head(OpNum::CreateSession, out);
+            out.put_bytes(body.bytes());
+            Status::Nfs4Ok
+        }
+        CreateResult::Refused(status) => put_refusal(*status, out),
+    }
+}
+
+/// Puts a refusal.
+#[tactic(auto, using(nfs_xdr::proofs::Putting::putting))]
+fn put_refusal(status: Status, out: &mut Sheet) -> Status
+    requires room { length out.old.bytes + 92 ≤ out.old.room }
+    ensures { (m : Machine) → Does (refuses m create_session_number status) result m out.old out.new }
+{
+    out.put_u32(OpNum::CreateSession.number());
+    out.put_u32(status.number());
+    status
+}

@@ -1,0 +1,44 @@
+//! DESTROY_SESSION (RFC 8881 section 18.37) and DESTROY_CLIENTID (section 18.50).
+
+ghost use Rattle.std.specs.Prelude.{◌≡◌};
+ghost use Rattle.nfs_results.specs.View as view;
+ghost use Rattle.nfs_exec.specs.Machine.{comes_to};
+ghost use Rattle.nfs_exec.specs.Destroy.{destroy_session, destroy_client};
+ghost use Rattle.nfs_exec.specs.Place.{IsSmall};
+ghost use Rattle.nfs_exec.specs.View.{machine_of};
+
+use crate::tables::Tables;
+use nfs_compound::OpNum;
+use nfs_results::Res;
+use nfs_sessions::SessionId;
+use nfs_xdr::Status;
+
+impl Tables {
+    /// Ends a session, with its slots.
+    pub fn destroy_session(&mut self, sessionid: &[u8; 16]) -> Res<'static>
+        ensures outcome { comes_to (machine_of self.new) (view.res result) ≡ destroy_session (machine_of self.old) sessionid.now }
+        ensures size { IsSmall (view.res result) }
+    {
+        if self.sessions.destroy(&SessionId::from_bytes(sessionid)) {
+            return Res::DestroySession;
+        }
+        Res::refusal(OpNum::DestroySession.number(), Status::BadSession)
+    }
+
+    /// Ends a client that has neither a session nor an open, with its lease.
+    pub fn destroy_client(&mut self, client: u64) -> Res<'static>
+        ensures outcome { comes_to (machine_of self.new) (view.res result) ≡ destroy_client (machine_of self.old) client }
+        ensures size { IsSmall (view.res result) }
+    {
+        match self
+            .clients
+            .destroy(client, self.sessions.has_client(client))
+        {
+            Ok(()) => {
+                self.leases.remove(client);
+                Res::DestroyClientId
+            }
+            Err(fault) => Res::refusal(OpNum::DestroyClientId.number(), fault.status()),
+        }
+    }
+}

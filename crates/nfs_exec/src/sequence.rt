@@ -1,0 +1,103 @@
+//! SEQUENCE (RFC 8881 sections 2.10.6.1 and 18.46).
+
+ghost use Rattle.std.specs.Prelude.{◌≡◌, ◌≤◌, ◌+◌, List, ℕ, length};
+ghost use Rattle.nfs_xdr.specs.Caller.{caller};
+ghost use Rattle.nfs_sessions.specs.Channel.{IsGranted};
+ghost use Rattle.nfs_sessions.specs.Id.{id_of};
+ghost use Rattle.nfs_sessions.specs.Sessions.{session_at};
+ghost use Rattle.nfs_sessions.specs.declared.channel.Channel.{Channel as Granted};
+ghost use Rattle.nfs_exec.specs.Sequence.{Repeats, Runs, by_session, slot_fault, fresh_fault, accepted};
+ghost use Rattle.nfs_exec.specs.View.{sequenced_of};
+
+use nfs_compound::{Compound, Sequence};
+use nfs_results::SequenceOk;
+use nfs_sessions::{Channel, SessionId, Sessions};
+use nfs_slots::Verdict;
+use nfs_xdr::{Status, Who};
+
+/// What a SEQUENCE comes to, before anything is run.
+#[derive(Clone, Copy)]
+pub enum Sequenced<'a> {
+    /// It is refused, and nothing changes.
+    Refuses(Status),
+    /// The request is a repeat, and this reply was kept: at most 66,536 bytes.
+    Repeats(&'a [u8]),
+    /// The request is new, and runs in a session of this channel.
+    Runs(Channel),
+}
+
+/// Judges a SEQUENCE of a caller, in a record of `size` bytes. The checks in their order: NFS4ERR_BADSESSION,
+/// NFS4ERR_BADSLOT, NFS4ERR_BAD_HIGH_SLOT, NFS4ERR_SEQ_MISORDERED; where the slot's last number comes again,
+/// NFS4ERR_SEQ_FALSE_RETRY for another caller or other arguments; and where the number is new, NFS4ERR_REQ_TOO_BIG for a
+/// record that is longer than the session's requests, and NFS4ERR_TOO_MANY_OPS.
+pub fn judge<'a>(
+    sessions: &'a Sessions,
+    asked: &Sequence,
+    args: &Compound<'_>,
+    who: &Who,
+    size: usize,
+) -> Sequenced<'a>
+    ensures verdict { sequenced_of result ≡ by_session args.now (caller who.now) size asked.now (session_at sessions.now (id_of asked.now.sessionid)) }
+    ensures short { (reply : List ℕ) → sequenced_of result ≡ Repeats reply → length reply + 24 ≤ 66560 }
+    ensures granted { (c : Granted) → sequenced_of result ≡ Runs c → IsGranted c }
+{
+    let id = SessionId::from_bytes(&asked.sessionid);
+    let Some(slots) = sessions.slots(&id) else {
+        return Sequenced::Refuses(Status::BadSession);
+    };
+    let channel = slots.channel();
+    if let Some(status) = slot_fault(asked, &channel) {
+        return Sequenced::Refuses(status);
+    }
+    match slots.judge(asked.slotid, asked.sequenceid, who.uid, args.bytes()) {
+        Verdict::NoSlot => Sequenced::Refuses(Status::BadSlot),
+        Verdict::Misordered => Sequenced::Refuses(Status::SeqMisordered),
+        Verdict::FalseRetry => Sequenced::Refuses(Status::SeqFalseRetry),
+        Verdict::Again => Sequenced::Repeats(slots.kept(asked.slotid)),
+        Verdict::Fresh => match fresh_fault(args, size, &channel) {
+            Some(status) => Sequenced::Refuses(status),
+            None => Sequenced::Runs(channel),
+        },
+    }
+}
+
+/// Why a SEQUENCE names a slot that its session does not have.
+fn slot_fault(asked: &Sequence, channel: &Channel) -> Option<Status>
+    ensures { result ≡ slot_fault asked.now channel.now }
+{
+    if asked.slotid >= channel.slots {
+        return Some(Status::BadSlot);
+    }
+    if asked.highest_slotid >= channel.slots {
+        return Some(Status::BadHighSlot);
+    }
+    None
+}
+
+/// Why a new request is not run.
+fn fresh_fault(args: &Compound<'_>, size: usize, channel: &Channel) -> Option<Status>
+    ensures { result ≡ fresh_fault args.now size channel.now }
+{
+    if size > channel.request as usize {
+        return Some(Status::ReqTooBig);
+    }
+    if args.declared() > channel.operations {
+        return Some(Status::TooManyOps);
+    }
+    None
+}
+
+/// SEQUENCE's result where the request runs: the session's last slot, twice, and no flag.
+pub fn accepted(asked: &Sequence, channel: &Channel) -> SequenceOk
+    ensures { result ≡ accepted asked.now channel.now }
+{
+    let last = channel.slots.saturating_sub(1);
+    SequenceOk {
+        sessionid: asked.sessionid,
+        sequenceid: asked.sequenceid,
+        slotid: asked.slotid,
+        highest_slotid: last,
+        target_highest_slotid: last,
+        status_flags: 0,
+    }
+}
