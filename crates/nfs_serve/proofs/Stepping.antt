@@ -1,11 +1,15 @@
 -- How the reply on the sheet is that of the step.
-use Rattle.std.proofs.Common.{◌≡◌, ℕ, max, List, [], length, drop, Option, Some, refl, sym, ap, ◌∙◌}
-use Rattle.std.proofs.lemmas.List.{drop_at}
+use Rattle.std.proofs.Common.{◌≡◌, ℕ, ◌+◌, ◌≤◌, max, List, [], ◌++◌, length, drop, Option, Some, None, refl, sym, ap, subst, arith, inl, inr, ◌∙◌}
+use Rattle.std.proofs.lemmas.Bool.{cases_Bool}
+use Rattle.std.proofs.lemmas.List.{drop_at, length-append}
+use Rattle.nfs_xdr.specs.Codec.{IsBytes, number}
 use Rattle.nfs_xdr.specs.Paper.{Paper, Puts}
 use Rattle.nfs_rpc.specs.declared.refusal.Refusal.{Refusal}
 use Rattle.nfs_rpc.specs.declared.refusal.Refusal.TheVariants.{Silent, Mismatch, Auth, Accept}
 use Rattle.nfs_rpc.specs.Reply.{spell_refusal}
-use Rattle.nfs_rpc.specs.CallHead.{Called, call_of}
+use Rattle.nfs_rpc.specs.CallHead.{Call, Called, Accepted, header, call_of}
+use Rattle.nfs_rpc.proofs.HeadLaws.{call_taken}
+use Rattle.nfs_lease.specs.Renewals.{IsLatest, has_run_out}
 use Rattle.nfs_exec.specs.Machine.{Machine}
 use Rattle.nfs_exec.specs.Expiry.{expired}
 use Rattle.nfs_serve.specs.Step.{State, Stepped, refused, reply_to, step}
@@ -14,10 +18,10 @@ use Rattle.nfs_serve.specs.Engine.{PutsReply, outcome_of}
 
 -- what a step is, once its call is known
 pub step_of : (s : State) (bytes : List ℕ) (now moment : ℕ) (choice : Option ℕ) (tables : Machine) (called : Called) → moment ≡ max s.moment now → tables ≡ expired moment s.machine → call_of bytes ≡ called
-    → step s bytes now choice ≡ reply_to (record { machine = tables; moment = moment }) choice called
+    → step s bytes now choice ≡ reply_to (record { machine = tables; moment = moment }) (length bytes) choice called
 unfolding step
 step_of s bytes now moment choice tables called taken is read =
-    rw (taken, is, read) refl
+    rw (is, read) (subst (λ (n : ℕ). reply_to (record { machine = expired n s.machine; moment = n }) (length bytes) choice called ≡ reply_to (record { machine = expired moment s.machine; moment = moment }) (length bytes) choice called) taken refl)
 
 -- a reply that was put behind the front of the sheet
 pub lies_behind : {r : Stepped} {old new : Paper} {left : State} → length old.bytes ≡ 8 → PutsReply r old new left → r.reply ≡ Some (drop 8 new.bytes)
@@ -33,3 +37,26 @@ refusal_lies s Silent old new front put = ((refl, ap (drop 8) put.bytes ∙ drop
 refusal_lies s (Mismatch xid) old new front put = (ap Some (sym (ap (drop 8) put.bytes ∙ drop_at old.bytes (spell_refusal (Mismatch xid)) 8 front)), refl)
 refusal_lies s (Auth xid stat) old new front put = (ap Some (sym (ap (drop 8) put.bytes ∙ drop_at old.bytes (spell_refusal (Auth xid stat)) 8 front)), refl)
 refusal_lies s (Accept xid stat) old new front put = (ap Some (sym (ap (drop 8) put.bytes ∙ drop_at old.bytes (spell_refusal (Accept xid stat)) 8 front)), refl)
+
+-- Leases.
+
+-- what has run out takes its lease with it, and what is left was renewed no later
+pub latest_expired : (m left : Machine) (before now : ℕ) → left ≡ expired now m → before ≤ now → IsLatest m.leases before → IsLatest left.leases now
+latest_expired m left before now is le latest = subst (λ (k : Machine). IsLatest k.leases now) (sym is) (record {
+  each = λ client moment e. elim (cases_Bool (has_run_out m.leases now client)) [
+    | inl out ↦ absurd (let bad : None ≡ Some moment = rw out at e in cc)
+    | inr stays ↦ (let h = latest.each client moment (rw stays at e) in omega (arith, h, le))
+  ];
+})
+
+-- the arguments of a call are a part of its record
+pub arguments_within : (bytes : List ℕ) (c : Call) → IsBytes bytes → call_of bytes ≡ Accepted c → length c.args ≤ length bytes
+arguments_within bytes c fits read =
+    let taken = call_taken bytes c fits read in
+    let h = taken.0 in
+    let spelled = ap length taken.3 in
+    let a = length-append (number.spell c.xid) (number.spell 0 ++ (number.spell 2 ++ (header.spell h ++ c.args))) in
+    let b = length-append (number.spell 0) (number.spell 2 ++ (header.spell h ++ c.args)) in
+    let d = length-append (number.spell 2) (header.spell h ++ c.args) in
+    let e = length-append (header.spell h) c.args in
+    omega (arith, spelled, a, b, d, e)

@@ -1,4 +1,4 @@
--- Two scripts and what a new server of instance 7 puts out for them, as words of four bytes: a call of NULL
+-- Two scripts and what a new server of instance 7, whose leases last 90 seconds, puts out for them, as words of four bytes: a call of NULL
 -- (RFC 8881 section 16.1), and EXCHANGE_ID (RFC 8881 section 18.35) of the owner `A`, sent twice.
 use Rattle.std.specs.Prelude.{◌≡◌, ℕ, List, [], ◌∷◌, ◌++◌, All, flat_map, None}
 use Rattle.nfs_xdr.specs.Spelling.{number}
@@ -18,7 +18,7 @@ pub record RunsTo (script written : List ℕ) : Type 0 where
   pub whole : IsWhole script entries
   pub reads : Reads all_closed entries (events moves) streams
   pub granted : All (λ m. m.choice ≡ None) moves
-  pub output : written ≡ output Tagged (new_state 7) moves
+  pub output : written ≡ output Tagged (new_state 7 90) moves
 
 -- xid 1, CALL, RPC version 2, program, version, procedure NULL, and twice AUTH_NONE with no bytes
 abbrev pub null_call : List ℕ

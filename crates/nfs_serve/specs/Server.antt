@@ -9,15 +9,16 @@ use Rattle.nfs_serve.specs.declared.form.Flow.{Flow}
 use Rattle.nfs_serve.specs.declared.form.Outcome.{Outcome}
 use Rattle.nfs_serve.specs.declared.form.Outcome.TheVariants.{Reply, Silent}
 use Rattle.nfs_serve.specs.Step.{State, new_state, step}
+use Rattle.nfs_serve.specs.Engine.{Kept, state_of}
 use Rattle.nfs_serve.specs.Run.{Brings, Move, events, after, after_event, output, output_of}
 
 -- what is held of a stream of which nothing has come
 abbrev pub fresh : Held
 fresh = Begun start
 
--- the state that the steps speak of, what is held of the stream of each connection, and the reply that is lent
+-- what lasts from one record to the next (the steps speak of its `state_of`), what is held of the stream of each connection, and the reply that is lent
 pub record ServerModel : Type 0 where
-  pub state : State
+  pub kept : Kept
   pub held : List Held
   pub reply : List ℕ
 
@@ -29,12 +30,14 @@ abbrev pub IsWith : List Held → List Held → ℕ → Held → Type 0
 IsWith new old conn now = (c : ℕ) → held_on new c ≡ (if nat_eq c conn then now else held_on old c)
 
 -- a new server, with 16 connections
-abbrev pub new_server : ℕ → ServerModel
-new_server instance = record { state = new_state instance; held = replicate 16 fresh; reply = [] }
+pub record IsNew (instance lease : ℕ) (s : ServerModel) : Type 0 where
+  pub state : state_of s.kept ≡ new_state instance lease
+  pub held : s.held ≡ replicate 16 fresh
+  pub reply : s.reply ≡ []
 
 -- the connection is closed, and nothing else has changed
 pub record Closes (old new : ServerModel) (conn : ℕ) : Type 0 where
-  pub state : new.state ≡ old.state
+  pub kept : new.kept ≡ old.kept
   pub reply : new.reply ≡ old.reply
   pub held : IsWith new.held old.held conn fresh
 
@@ -55,8 +58,8 @@ IsAnswer Silent answer reply = (answer ≡ None) × (reply ≡ [])
 -- The record was stepped: for some choice, reply and state are the step's.
 pub record Steps (outcome : Outcome) (old new : ServerModel) (call : List ℕ) (now : ℕ) : Type 0 where
   pub choice : Option ℕ
-  pub answer : IsAnswer outcome (step old.state call now choice).reply new.reply
-  pub state : new.state ≡ (step old.state call now choice).state
+  pub answer : IsAnswer outcome (step (state_of old.kept) call now choice).reply new.reply
+  pub state : state_of new.kept ≡ (step (state_of old.kept) call now choice).state
   pub held : new.held ≡ old.held
 
 abbrev pub flow_of : Held → Flow

@@ -1,6 +1,6 @@
 -- The step of one record: its moment is taken, what has run out goes, and its call is answered (RFC 5531 section 9,
 -- RFC 8881 section 16).
-use Rattle.std.specs.Prelude.{ℕ, max, List, ◌++◌, Option, Some, None}
+use Rattle.std.specs.Prelude.{ℕ, max, List, ◌++◌, length, Option, Some, None}
 use Rattle.nfs_rpc.specs.declared.refusal.Refusal.{Refusal}
 use Rattle.nfs_rpc.specs.declared.refusal.Refusal.TheVariants.{Silent, Mismatch, Auth, Accept}
 use Rattle.nfs_rpc.specs.declared.refusal.AcceptStat.TheVariants.{GarbageArgs}
@@ -9,7 +9,6 @@ use Rattle.nfs_rpc.specs.CallHead.{Call, Called, Accepted, Refused, call_of}
 use Rattle.nfs_rpc.specs.Reply.{spell_head, spell_refusal}
 use Rattle.nfs_compound.specs.Request.{Request}
 use Rattle.nfs_compound.specs.ReadRequest.{request_at}
-use Rattle.nfs_results.specs.CompoundResult.{spell_compound}
 use Rattle.nfs_exec.specs.Machine.{Machine, starts}
 use Rattle.nfs_exec.specs.Compound.{Answered, compound}
 use Rattle.nfs_exec.specs.Expiry.{expired}
@@ -20,8 +19,8 @@ pub record State : Type 0 where
   pub moment : ℕ
 
 -- a new server
-abbrev pub new_state : ℕ → State
-new_state instance = record { machine = starts instance; moment = 0 }
+abbrev pub new_state : (instance lease : ℕ) → State
+new_state instance lease = record { machine = starts instance lease; moment = 0 }
 
 -- the reply, where there is one, and the state that the record leaves
 pub record Stepped : Type 0 where
@@ -36,24 +35,25 @@ refused s (Accept xid stat) = record { reply = Some (spell_refusal (Accept xid s
 
 -- the head of an accepted reply, and the result
 abbrev pub answered : State → ℕ → Answered → Stepped
-answered s xid a = record { reply = Some (spell_head xid ++ spell_compound a.result); state = record { machine = a.machine; moment = s.moment } }
+answered s xid a = record { reply = Some (spell_head xid ++ a.text); state = record { machine = a.machine; moment = s.moment } }
 
 -- arguments that are no request are garbage, and nothing is run
-abbrev pub with_arguments : State → Call → Option ℕ → Option Request → Stepped
-with_arguments s call choice None = refused s (Accept call.xid GarbageArgs)
-with_arguments s call choice (Some request) = answered s call.xid (compound s.machine request call.who s.moment choice)
+abbrev pub with_arguments : State → Call → ℕ → Option ℕ → Option Request → Stepped
+with_arguments s call size choice None = refused s (Accept call.xid GarbageArgs)
+with_arguments s call size choice (Some request) = answered s call.xid (compound s.machine request call.who size s.moment choice)
 
-abbrev pub by_procedure : State → Call → Option ℕ → Procedure → Stepped
-by_procedure s call choice Procedure.Null = record { reply = Some (spell_head call.xid); state = s }
-by_procedure s call choice Procedure.Compound = with_arguments s call choice (request_at call.args)
+-- in a record of so many bytes
+abbrev pub by_procedure : State → Call → ℕ → Option ℕ → Procedure → Stepped
+by_procedure s call size choice Procedure.Null = record { reply = Some (spell_head call.xid); state = s }
+by_procedure s call size choice Procedure.Compound = with_arguments s call size choice (request_at call.args)
 
-abbrev pub reply_to : State → Option ℕ → Called → Stepped
-reply_to s choice (Refused refusal) = refused s refusal
-reply_to s choice (Accepted call) = by_procedure s call choice call.procedure
+abbrev pub reply_to : State → ℕ → Option ℕ → Called → Stepped
+reply_to s size choice (Refused refusal) = refused s refusal
+reply_to s size choice (Accepted call) = by_procedure s call size choice call.procedure
 
 -- A record at a moment. The later of its moment and the one taken last is taken. `choice` is the place in its compound
 -- at which memory is refused, if any.
 unfoldable pub step : State → List ℕ → ℕ → Option ℕ → Stepped
 step s call now choice =
     let moment = max s.moment now in
-    reply_to (record { machine = expired moment s.machine; moment = moment }) choice (call_of call)
+    reply_to (record { machine = expired moment s.machine; moment = moment }) (length call) choice (call_of call)

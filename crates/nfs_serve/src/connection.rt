@@ -2,6 +2,7 @@ ghost use Rattle.std.specs.Prelude.{◌≡◌, ◌++◌, [], IfOk, OnOk, OnErr, 
 ghost use Rattle.nfs_xdr.specs.Codec.{IsBytes};
 ghost use Rattle.nfs_xdr.specs.Spelling.{number};
 ghost use Rattle.nfs_rpc.specs.Feeding.{waits, is_too_long};
+ghost use Rattle.nfs_serve.specs.Engine.{state_of};
 ghost use Rattle.nfs_serve.specs.Ends.{Writes};
 ghost use Rattle.nfs_serve.specs.Run.{spell_overflow};
 ghost use Rattle.nfs_serve.specs.Server.{fresh, FeedsOr};
@@ -61,7 +62,7 @@ impl Connection {
     ) -> Result<Flow, WriteFailed>
         requires bytes { IsBytes entry.now.piece.now }
         requires out { W.has_failed out.old ≡ false }
-        ensures fed { FeedsOr result engine.old.state engine.new.state self.old self.new entry.now.conn entry.now.moment entry.now.piece.now form (W.held out.old) (W.held out.new) (W.has_failed out.new) }
+        ensures fed { FeedsOr result (state_of engine.old.kept) (state_of engine.new.kept) self.old self.new entry.now.conn entry.now.moment entry.now.piece.now form (W.held out.old) (W.held out.new) (W.has_failed out.new) }
         ensures closed { OnErr result (self.new ≡ fresh) }
         ensures empty { entry.now.piece.now ≡ [] → (engine.new ≡ engine.old) × (self.new ≡ self.old) }
     {
@@ -94,7 +95,7 @@ fn take_piece<W: Sink>(
     requires open { is_too_long records.old ≡ false }
     requires bytes { IsBytes entry.now.piece.now }
     requires out { W.has_failed out.old ≡ false }
-    ensures taken { FeedsOr result engine.old.state engine.new.state records.old records.new entry.now.conn entry.now.moment entry.now.piece.now form (W.held out.old) (W.held out.new) (W.has_failed out.new) }
+    ensures taken { FeedsOr result (state_of engine.old.kept) (state_of engine.new.kept) records.old records.new entry.now.conn entry.now.moment entry.now.piece.now form (W.held out.old) (W.held out.new) (W.has_failed out.new) }
     ensures waits { OnOk result (waits records.new ≡ false) }
 {
     let mut rest = entry.piece;

@@ -4,7 +4,9 @@ ghost use Rattle.nfs_rpc.specs.View as view;
 ghost use Rattle.nfs_serve.specs.Step.{State, step, new_state, by_procedure};
 ghost use Rattle.nfs_serve.specs.Run.{one_fragment, spell_reply, spell_answer};
 ghost use Rattle.nfs_serve.specs.Server.{IsAnswer};
-ghost use Rattle.nfs_serve.specs.Engine.{PutsReply, outcome_of, in_form};
+ghost use Rattle.nfs_lease.specs.Renewals.{IsLatest};
+ghost use Rattle.nfs_exec.specs.View.{machine_of};
+ghost use Rattle.nfs_serve.specs.Engine.{PutsReply, outcome_of, in_form, state_of};
 ghost use Rattle.nfs_serve.specs.Ends.{Writes};
 
 use crate::Sink;
@@ -36,25 +38,27 @@ pub struct Engine {
 
 impl Model for Engine {
     ghost use Rattle.std.specs.Prelude.{◌≡◌, ◌≤◌, length, drop};
+    ghost use Rattle.nfs_lease.specs.Renewals.{IsLatest};
+    ghost use Rattle.nfs_exec.specs.View.{machine_of};
     ghost use Rattle.nfs_serve.specs.Engine.{EngineModel};
 
     ghost Value = { EngineModel };
 
-    ghost view = { λ e. record { state = record { machine = e.world; moment = e.moment }; reply = drop 8 e.sheet.bytes } };
+    ghost view = { λ e. record { kept = record { world = e.world; moment = e.moment }; reply = drop 8 e.sheet.bytes } };
 
-    ghost invariant = { λ e. (8 ≤ length e.sheet.bytes) × (e.sheet.room ≡ 70008) };
+    ghost invariant = { λ e. (8 ≤ length e.sheet.bytes) × (e.sheet.room ≡ 70008) × IsLatest (machine_of e.world).leases e.moment };
 }
 
 impl Engine {
     /// The engine of a new server. The buffer of replies is made here.
     #[tactic(auto, using(nfs_xdr::proofs::Putting::putting))]
-    pub fn new(alloc: Global, instance: u32) -> Result<Engine, AllocError>
-        ensures { IfOk result (λ e. e ≡ record { state = new_state instance; reply = [] }) }
+    pub fn new(alloc: Global, instance: u32, lease: u32) -> Result<Engine, AllocError>
+        ensures { IfOk result (λ e. (state_of e.kept ≡ new_state instance lease) × (e.reply ≡ [])) }
     {
         let mut sheet = Sheet::new(alloc, ROOM)?;
         sheet.put_u64(0);
         Ok(Engine {
-            world: World::new(alloc, instance),
+            world: World::new(alloc, instance, lease)?,
             moment: 0,
             sheet,
         })
@@ -62,14 +66,15 @@ impl Engine {
 
     /// Steps a record at a moment. A reply is lent by `reply`.
     pub fn record(&mut self, alloc: Global, call: &[u8], now: u64) -> Outcome
-        ensures { (choice : Option ℕ) × IsAnswer result (step self.old.state call.now now choice).reply self.new.reply × (self.new.state ≡ (step self.old.state call.now now choice).state) }
+        ensures { (choice : Option ℕ) × IsAnswer result (step (state_of self.old.kept) call.now now choice).reply self.new.reply × ((state_of self.new.kept) ≡ (step (state_of self.old.kept) call.now now choice).state) }
     {
         self.moment = self.moment.max(now);
         self.world.expire(self.moment);
         self.sheet.cut(FRONT);
+        let size = call.len();
         match Call::read(call) {
             Ok(call) => {
-                put_answer(alloc, &mut self.world, &call, self.moment, &mut self.sheet);
+                put_answer(alloc, &mut self.world, &call, size, self.moment, &mut self.sheet);
                 Outcome::Reply
             }
             Err(refusal) => {
@@ -88,7 +93,7 @@ impl Engine {
 
     /// Lends no reply from here on.
     pub fn forget_reply(&mut self)
-        ensures state { self.new.state ≡ self.old.state }
+        ensures kept { self.new.kept ≡ self.old.kept }
         ensures reply { self.new.reply ≡ [] }
     {
         self.sheet.cut(FRONT);
@@ -105,7 +110,7 @@ impl Engine {
         out: &mut W,
     ) -> Result<(), WriteFailed>
         requires out { W.has_failed out.old ≡ false }
-        ensures { (choice : Option ℕ) × (self.new.state ≡ (step self.old.state call.now now choice).state) × Writes result (W.held out.old) (W.held out.new) (spell_answer form conn (step self.old.state call.now now choice).reply) (W.has_failed out.new) }
+        ensures { (choice : Option ℕ) × ((state_of self.new.kept) ≡ (step (state_of self.old.kept) call.now now choice).state) × Writes result (W.held out.old) (W.held out.new) (spell_answer form conn (step (state_of self.old.kept) call.now now choice).reply) (W.has_failed out.new) }
     {
         match self.record(alloc, call, now) {
             Outcome::Reply => self.put_reply(conn, form, out),
@@ -124,19 +129,29 @@ impl Engine {
     }
 }
 
-/// Puts the reply to a call that is no refusal, and runs its compound.
+/// Puts the reply to a call that is no refusal, and runs its compound. The call came in a record of `size` bytes.
 #[tactic(auto, using(nfs_rpc::proofs::Lengths::lengths))]
-fn put_answer(alloc: Global, world: &mut World, call: &Call<'_>, now: u64, out: &mut Sheet)
+fn put_answer(
+    alloc: Global,
+    world: &mut World,
+    call: &Call<'_>,
+    size: usize,
+    now: u64,
+    out: &mut Sheet,
+)
+    requires size { length call.now.args.now ≤ size }
+    requires latest { IsLatest (machine_of world.old).leases now }
     requires room { length out.old.bytes + 70000 ≤ out.old.room }
-    ensures { let before : State = record { machine = world.old; moment = now } in
-        (choice : Option ℕ) × PutsReply (by_procedure before (view.call call.now) choice call.now.procedure) out.old out.new (record { machine = world.new; moment = now }) }
+    ensures answer { let before : State = record { machine = machine_of world.old; moment = now } in
+        (choice : Option ℕ) × PutsReply (by_procedure before (view.call call.now) size choice call.now.procedure) out.old out.new (record { machine = machine_of world.new; moment = now }) }
+    ensures latest { IsLatest (machine_of world.new).leases now }
 {
     match call.procedure {
         Procedure::Null => write_head(call.xid, out),
         Procedure::Compound => match Compound::open(call.args) {
             Ok(mut compound) => {
                 write_head(call.xid, out);
-                world.compound(alloc, &mut compound, &call.who, now, out);
+                world.compound(alloc, &mut compound, &call.who, size, now, out);
             }
             Err(Garbage) => {
                 let refusal = Refusal::Accept {

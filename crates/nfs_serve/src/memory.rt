@@ -1,5 +1,6 @@
 //! A script in memory: both ends tell their bytes, and the reader never fails.
 ghost use Rattle.std.specs.Prelude.{◌≡◌, Option, Some, Bool, false, IfOk, OnErr};
+ghost use Rattle.nfs_serve.specs.Engine.{state_of};
 ghost use Rattle.nfs_serve.specs.Replay.{RunsScript, RunsFront};
 
 use crate::fault::ReplayFault;
@@ -18,8 +19,8 @@ pub fn replay_bytes(
     alloc: Global,
     script: &[u8],
 ) -> Result<(Vec<u8>, Result<(), ReplayFault>), AllocError>
-    ensures whole { IfOk result (λ r. RunsScript r.1 server.old.state server.new.state server.new.held script.now r.0.items) }
-    ensures front { OnErr result (RunsFront server.old.state server.new.state server.new.held script.now) }
+    ensures whole { IfOk result (λ r. RunsScript r.1 (state_of server.old.kept) (state_of server.new.kept) server.new.held script.now r.0.items) }
+    ensures front { OnErr result (RunsFront (state_of server.old.kept) (state_of server.new.kept) server.new.held script.now) }
 {
     let mut r = Bytes {
         left: script,

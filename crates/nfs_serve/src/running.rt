@@ -2,6 +2,7 @@
 ghost use Rattle.std.specs.Prelude.{◌≡◌, ◌≤◌, ℕ, List, false, length};
 ghost use Rattle.std.specs.Io.KnownBytes.{Consumes};
 ghost use Rattle.nfs_xdr.specs.Codec.{IsBytes};
+ghost use Rattle.nfs_serve.specs.Engine.{state_of};
 ghost use Rattle.nfs_serve.specs.Run.{all_closed};
 ghost use Rattle.nfs_serve.specs.Reading as reading;
 ghost use Rattle.nfs_serve.specs.Server.{fresh, held_on};
@@ -36,7 +37,7 @@ pub fn run<R: Source, W: Sink>(
     requires read { R.has_failed r.old ≡ false }
     requires ended { R.has_ended r.old ≡ false }
     requires write { W.has_failed w.old ≡ false }
-    ensures run { Replays result engine.old.state engine.new.state connections.new (R.left r.old) (R.left r.new) (W.held w.old) (W.held w.new) }
+    ensures run { Replays result (state_of engine.old.kept) (state_of engine.new.kept) connections.new (R.left r.old) (R.left r.new) (W.held w.old) (W.held w.new) }
     ensures told { Tells result (R.has_ended r.new) (R.has_failed r.new) (W.has_failed w.new) (R.left r.new) }
 {
     for done in 0..MAX_ENTRIES {
@@ -84,7 +85,7 @@ fn run_entry<W: Sink>(
     requires conn { entry.now.conn ≤ 15 }
     requires bytes { IsBytes entry.now.piece.now }
     requires write { W.has_failed w.old ≡ false }
-    ensures ran { RunsEntryOr result engine.old.state engine.new.state connections.old connections.new (reading.entry entry.now) (W.held w.old) (W.held w.new) (W.has_failed w.new) }
+    ensures ran { RunsEntryOr result (state_of engine.old.kept) (state_of engine.new.kept) connections.old connections.new (reading.entry entry.now) (W.held w.old) (W.held w.new) (W.has_failed w.new) }
     ensures length { length connections.new ≡ 16 }
 {
     let conn = entry.conn as usize;

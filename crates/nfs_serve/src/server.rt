@@ -1,5 +1,6 @@
 ghost use Rattle.std.specs.Prelude.{◌≡◌, ◌≢◌, ◌≤◌, ◌^◌, [], false, IfOk, OnErr, replicate};
-ghost use Rattle.nfs_serve.specs.Server.{fresh, held_on, IsWith, Steps, FeedsOr, Closes, new_server};
+ghost use Rattle.nfs_serve.specs.Server.{fresh, held_on, IsWith, Steps, FeedsOr, Closes, IsNew};
+ghost use Rattle.nfs_serve.specs.Engine.{state_of};
 ghost use Rattle.nfs_serve.specs.Replay.{Replays, Tells};
 ghost use Rattle.nfs_serve.specs.Talk.{Talks, TalkTells};
 
@@ -46,23 +47,22 @@ impl Model for Server {
 
     ghost Value = { ServerModel };
 
-    ghost view = { λ s. record { state = s.engine.state; held = s.connections.items; reply = s.engine.reply } };
+    ghost view = { λ s. record { kept = s.engine.kept; held = s.connections.items; reply = s.engine.reply } };
 
     ghost invariant = { λ s. (vec_len s.connections ≡ 16) × (vec_len s.piece ≡ 65536) };
 }
 
 impl Server {
     /// A server at moment 0, on whose connections nothing has come. `instance` tells it from other starts of the server. All
-    /// buffers of records, pieces and replies are made here. The settings have no effect as long as there are no sessions and
-    /// no tree.
+    /// buffers of records, pieces and replies are made here. The mode of the root
+    /// has no effect as long as there is no tree.
     ///
     /// `AllocError` where memory is refused.
     pub fn new(alloc: Global, settings: Settings, instance: u32) -> Result<Server, AllocError>
-        ensures { IfOk result (λ s. s ≡ new_server instance) }
+        ensures { IfOk result (λ s. IsNew instance settings.lease s) }
     {
-        let _ = settings;
         Ok(Server {
-            engine: Engine::new(alloc, instance)?,
+            engine: Engine::new(alloc, instance, settings.lease)?,
             connections: connections(alloc)?,
             piece: vec![in alloc; 0; MAX_PIECE as usize]?,
         })
@@ -103,7 +103,7 @@ impl Server {
         requires conn { conn ≤ 15 }
         requires now { now ≤ 2 ^ 62 }
         requires out { W.has_failed out.old ≡ false }
-        ensures fed { FeedsOr result self.old.state self.new.state (held_on self.old.held conn) (held_on self.new.held conn) conn now piece.now form (W.held out.old) (W.held out.new) (W.has_failed out.new) }
+        ensures fed { FeedsOr result (state_of self.old.kept) (state_of self.new.kept) (held_on self.old.held conn) (held_on self.new.held conn) conn now piece.now form (W.held out.old) (W.held out.new) (W.has_failed out.new) }
         ensures closed { OnErr result (held_on self.new.held conn ≡ fresh) }
         ensures others { IsWith self.new.held self.old.held conn (held_on self.new.held conn) }
         ensures empty { piece.now ≡ [] → self.new ≡ self.old }
@@ -142,7 +142,7 @@ impl Server {
         requires read { R.has_failed r.old ≡ false }
         requires ended { R.has_ended r.old ≡ false }
         requires write { W.has_failed w.old ≡ false }
-        ensures run { Replays result self.old.state self.new.state self.new.held (R.left r.old) (R.left r.new) (W.held w.old) (W.held w.new) }
+        ensures run { Replays result (state_of self.old.kept) (state_of self.new.kept) self.new.held (R.left r.old) (R.left r.new) (W.held w.old) (W.held w.new) }
         ensures told { Tells result (R.has_ended r.new) (R.has_failed r.new) (W.has_failed w.new) (R.left r.new) }
         ensures reply { self.new.reply ≡ [] }
     {
@@ -175,7 +175,7 @@ impl Server {
         requires read { R.has_failed r.old ≡ false }
         requires ended { R.has_ended r.old ≡ false }
         requires write { W.has_failed w.old ≡ false }
-        ensures run { Talks result self.old.state self.new.state (R.left r.old) (R.left r.new) (W.held w.old) (W.held w.new) (C.told clock.old) (C.told clock.new) }
+        ensures run { Talks result (state_of self.old.kept) (state_of self.new.kept) (R.left r.old) (R.left r.new) (W.held w.old) (W.held w.new) (C.told clock.old) (C.told clock.new) }
         ensures told { TalkTells result (R.has_ended r.new) (R.has_failed r.new) (W.has_failed w.new) (R.left r.new) }
         ensures held { IsWith self.new.held self.old.held 0 fresh }
         ensures reply { self.new.reply ≡ [] }

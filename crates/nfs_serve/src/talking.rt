@@ -1,5 +1,6 @@
 //! A talk over one connection.
 ghost use Rattle.std.specs.Prelude.{◌≡◌, false, length};
+ghost use Rattle.nfs_serve.specs.Engine.{state_of};
 ghost use Rattle.nfs_serve.specs.Talk.{Talks, TalkTells};
 
 use crate::connection::Connection;
@@ -28,7 +29,7 @@ pub fn converse<R: Source, W: Sink, C: Clock>(
     requires read { R.has_failed r.old ≡ false }
     requires ended { R.has_ended r.old ≡ false }
     requires write { W.has_failed w.old ≡ false }
-    ensures run { Talks result engine.old.state engine.new.state (R.left r.old) (R.left r.new) (W.held w.old) (W.held w.new) (C.told clock.old) (C.told clock.new) }
+    ensures run { Talks result (state_of engine.old.kept) (state_of engine.new.kept) (R.left r.old) (R.left r.new) (W.held w.old) (W.held w.new) (C.told clock.old) (C.told clock.new) }
     ensures told { TalkTells result (R.has_ended r.new) (R.has_failed r.new) (W.has_failed w.new) (R.left r.new) }
 {
     connection.close();

@@ -29,17 +29,6 @@ impl Read for Drip<'_> {
     }
 }
 
-/// Gives zero bytes without end.
-#[derive(Drop)]
-pub struct Zeros;
-
-impl Read for Zeros {
-    fn read(&mut self, buf: &mut [u8]) -> io::Result<usize> {
-        buf.fill(0);
-        Ok(buf.len())
-    }
-}
-
 /// Gives a zero byte at each call, without end.
 #[derive(Drop)]
 pub struct Trickle;

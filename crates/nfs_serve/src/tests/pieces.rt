@@ -22,79 +22,21 @@ fn fed(
 
 #[test]
 fn records_are_answered(rt: HostRuntime) -> Result<(), Fail> {
+    let first = exchanged(1);
+    let second = exchanged(2);
+    let rows: [(&[u32], Outcome, &[u32]); 4] = [
+        (&NULL, Outcome::Reply, &NULL_REPLY),
+        (&EXCHANGE_ID, Outcome::Reply, &first),
+        (&[9], Outcome::Silent, &[]),
+        (&EXCHANGE_ID, Outcome::Reply, &second),
+    ];
     let mut server = Server::new(rt.alloc(), SETTINGS, 7)?;
-    let null = bytes_of(rt.alloc(), &[&NULL])?;
-    let exchange_id = bytes_of(rt.alloc(), &[&EXCHANGE_ID])?;
-    assert_eq!(rt;
-        server.record(rt.alloc(), null.as_slice(), 100),
-        Outcome::Reply
-    );
-    assert_eq!(rt;
-        server.reply(),
-        bytes_of(rt.alloc(), &[&NULL_REPLY])?.as_slice()
-    );
-    for counter in 1..4 {
-        assert_eq!(rt;
-            server.record(rt.alloc(), exchange_id.as_slice(), 100),
-            Outcome::Reply
-        );
-        assert_eq!(rt;
-            server.reply(),
-            bytes_of(rt.alloc(), &[&exchanged(counter)])?.as_slice()
-        );
+    for (record, outcome, reply) in rows {
+        let record = bytes_of(rt.alloc(), &[record])?;
+        let reply = bytes_of(rt.alloc(), &[reply])?;
+        let stepped = server.record(rt.alloc(), record.as_slice(), 100);
+        assert_eq!(rt; (stepped, server.reply()), (outcome, reply.as_slice()));
     }
-    assert_eq!(rt; server.record(rt.alloc(), b"abc", 100), Outcome::Silent);
-    Ok(())
-}
-
-#[test]
-fn a_record_comes_in_pieces_of_one_byte(rt: HostRuntime) -> Result<(), Fail> {
-    let piece = bytes_of(
-        rt.alloc(),
-        &[&[16, 1, 0, 2, 100_003], &[0, LAST + 24, 4, 0, 0, 0, 0, 0]],
-    )?;
-    let reply = bytes_of(rt.alloc(), &[&[LAST + 24], &NULL_REPLY])?;
-    let mut server = Server::new(rt.alloc(), SETTINGS, 7)?;
-    let mut replies = Vec::new(rt.alloc());
-    for byte in &piece {
-        assert!(rt; replies.is_empty());
-        let (flow, written) = fed(&mut server, rt.alloc(), &[*byte], Form::Plain)?;
-        assert_eq!(rt; flow, Flow::Open);
-        replies.extend_from_slice(written.as_slice())?;
-    }
-    assert_eq!(rt; replies, reply);
-    Ok(())
-}
-
-#[test]
-fn records_come_in_one_piece(rt: HostRuntime) -> Result<(), Fail> {
-    let piece = bytes_of(
-        rt.alloc(),
-        &[
-            &[LAST + 40],
-            &NULL,
-            &[LAST + 104],
-            &EXCHANGE_ID,
-            &[LAST + 40],
-            &NULL,
-            &[LAST],
-        ],
-    )?;
-    let want = bytes_of(
-        rt.alloc(),
-        &[
-            &[9, LAST + 24],
-            &NULL_REPLY,
-            &[9, LAST + 100],
-            &exchanged(1),
-            &[9, LAST + 24],
-            &NULL_REPLY,
-        ],
-    )?;
-    let mut server = Server::new(rt.alloc(), SETTINGS, 7)?;
-    let (flow, written) = fed(&mut server, rt.alloc(), piece.as_slice(), Form::Tagged)?;
-    assert_eq!(rt; flow, Flow::Open);
-    assert_eq!(rt; written, want);
     Ok(())
 }
 
@@ -117,8 +59,7 @@ fn a_closed_connection_begins_anew(rt: HostRuntime) -> Result<(), Fail> {
     ];
     for (piece, flow, bytes, close) in rows {
         let (became, written) = fed(&mut server, rt.alloc(), piece, Form::Plain)?;
-        assert_eq!(rt; became, flow);
-        assert_eq!(rt; written.as_slice(), bytes);
+        assert_eq!(rt; (became, written.as_slice()), (flow, bytes));
         if close {
             server.close(9);
         }

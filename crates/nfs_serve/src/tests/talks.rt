@@ -23,7 +23,7 @@ fn replies(alloc: Global) -> Result<Vec<u8>, AllocError> {
 fn a_reader_fails_at_each_call(rt: HostRuntime) -> Result<(), Fail> {
     let calls = calls(rt.alloc())?;
     let replies = replies(rt.alloc())?;
-    for fails in 1..1000 {
+    for fails in 1..=154 {
         let mut server = Server::new(rt.alloc(), SETTINGS, 7)?;
         let mut clock = Counting { asked: 0 };
         let mut r = Host::new(Drip {
@@ -34,25 +34,18 @@ fn a_reader_fails_at_each_call(rt: HostRuntime) -> Result<(), Fail> {
         });
         let mut w = Host::new(Vec::new(rt.alloc()));
         let ended = server.talk(rt.alloc(), &mut r, &mut w, &mut clock);
-        if ended == Talk::Ended {
-            assert_eq!(rt; (fails, clock.asked), (154, 152), "152 bytes and the end");
-            assert_eq!(rt; w.inner, replies);
-            return Ok(());
-        }
-        let written = if fails <= 44 {
-            0
-        } else if fails <= 152 {
-            28
-        } else {
-            132
+        let (wanted, written, asked) = match fails {
+            1..=44 => (Talk::ReadFailed, 0, fails - 1),
+            45..=152 => (Talk::ReadFailed, 28, fails - 1),
+            153 => (Talk::ReadFailed, 132, 152),
+            _ => (Talk::Ended, 132, 152),
         };
         assert_eq!(rt;
-            (ended, w.inner.len(), clock.asked),
-            (Talk::ReadFailed, written, fails - 1),
+            (ended, Some(w.inner.as_slice()), clock.asked),
+            (wanted, replies.get(..written), asked),
             "at call {fails}"
         );
     }
-    assert!(rt; false, "each talk failed");
     Ok(())
 }
 
@@ -60,7 +53,7 @@ fn a_reader_fails_at_each_call(rt: HostRuntime) -> Result<(), Fail> {
 fn a_writer_fails_at_each_call(rt: HostRuntime) -> Result<(), Fail> {
     let calls = calls(rt.alloc())?;
     let replies = replies(rt.alloc())?;
-    for fails in 1..1000 {
+    for fails in 1..=133 {
         let mut server = Server::new(rt.alloc(), SETTINGS, 7)?;
         let mut clock = Counting { asked: 0 };
         let mut r = Host::new(calls.as_slice());
@@ -71,19 +64,16 @@ fn a_writer_fails_at_each_call(rt: HostRuntime) -> Result<(), Fail> {
             calls: 0,
         });
         let ended = server.talk(rt.alloc(), &mut r, &mut w, &mut clock);
-        if ended == Talk::Ended {
-            assert_eq!(rt; (fails, clock.asked), (133, 1));
-            assert_eq!(rt; w.inner.bytes, replies);
-            return Ok(());
-        }
+        let wanted = match fails {
+            1..=132 => Talk::WriteFailed,
+            _ => Talk::Ended,
+        };
         assert_eq!(rt;
-            (ended, w.inner.bytes.len() + 1),
-            (Talk::WriteFailed, fails),
+            (ended, Some(w.inner.bytes.as_slice()), clock.asked),
+            (wanted, replies.get(..fails - 1), 1),
             "at call {fails}"
         );
-        assert!(rt; replies.starts_with(w.inner.bytes.as_slice()));
     }
-    assert!(rt; false, "each talk failed");
     Ok(())
 }
 
@@ -108,8 +98,7 @@ fn each_talk_begins_with_a_closed_connection(rt: HostRuntime) -> Result<(), Fail
         let mut w = Host::new(Vec::new(rt.alloc()));
         let mut clock = Counting { asked: 0 };
         let ended = server.talk(rt.alloc(), &mut Host::new(calls), &mut w, &mut clock);
-        assert_eq!(rt; ended, how);
-        assert_eq!(rt; w.inner.as_slice(), wanted);
+        assert_eq!(rt; (ended, w.inner.as_slice()), (how, wanted));
     }
     Ok(())
 }

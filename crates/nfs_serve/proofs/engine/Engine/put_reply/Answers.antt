@@ -10,7 +10,7 @@ in_form-requires g c =
     omega (arith, long)
 
 pub invariant_of-self : goal.invariant_of-self
-invariant_of-self g c = (rw c.frame.ensures.bytes (long-framed _ _ _), c.frame.ensures.room ∙ c.self.invariant.1)
+invariant_of-self g c = (rw c.frame.ensures.bytes (long-framed _ _ _), c.frame.ensures.room ∙ c.self.invariant.1, c.self.invariant.2)
 
 pub returns-clause-wrote : goal.returns-clause-wrote
 returns-clause-wrote g c =
@@ -20,4 +20,4 @@ returns-clause-wrote g c =
 pub returns-clause-same : goal.returns-clause-same
 returns-clause-same g c =
     let reply : drop 8 c.frame.new.sheet.bytes ≡ drop 8 c.self.inside.sheet.bytes = ap (drop 8) c.frame.ensures.bytes ∙ drop-framed _ _ _ in
-    ap (λ r. record { state = record { machine = c.self.inside.world; moment = c.self.inside.moment }; reply = r }) reply ∙ c.self.view_is
+    ap (λ r. record { kept = record { world = c.self.inside.world; moment = c.self.inside.moment }; reply = r }) reply ∙ c.self.view_is
