@@ -6,6 +6,8 @@ use Rattle.nfs_serve.specs.declared.fault.Stop.{Stop}
 use Rattle.nfs_serve.specs.declared.fault.Stop.TheVariants.{ReadFailed, WriteFailed}
 use Rattle.nfs_serve.specs.declared.fault.ReplayFault.{ReplayFault}
 use Rattle.nfs41d.specs.declared.fault.Fault.{Fault}
+use Rattle.nfs41d.specs.declared.settings_file.Bad.{Bad}
+use Rattle.nfs41d.specs.declared.settings_file.Bad.TheVariants.{Text, Memory}
 
 abbrev pub stop_status : Stop → ℕ
 stop_status ReadFailed = 3
@@ -14,6 +16,7 @@ stop_status stop = 2
 
 abbrev pub fault_status : Fault → ℕ
 fault_status Fault.Arguments = 1
+fault_status Fault.Settings = 1
 fault_status Fault.Start = 1
 fault_status (Fault.Replay fault) = stop_status fault.number
 fault_status Fault.Accept = 3
@@ -23,10 +26,15 @@ abbrev pub status_of : {U : Type 0} → Result U Fault → ℕ
 status_of (Ok u) = 0
 status_of (Err fault) = fault_status fault
 
--- arguments that cannot be read: for want of memory, or since one is no text
-abbrev pub unread : ErrorKind → Fault
-unread OutOfMemory = Fault.Start
-unread kind = Fault.Arguments
+-- arguments or settings that cannot be read: for want of memory, or with this fault
+abbrev pub unread : ErrorKind → Fault → Fault
+unread OutOfMemory fault = Fault.Start
+unread kind fault = fault
+
+-- a text that gives no settings
+abbrev pub fault_of : Bad → Fault
+fault_of Text = Fault.Settings
+fault_of Memory = Fault.Start
 
 -- a run, and then whether the flush of its output failed
 abbrev pub ending : {U : Type 0} → Result U ReplayFault → Bool → Result U Fault

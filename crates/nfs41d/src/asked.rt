@@ -4,12 +4,17 @@
 #[derive(Clone, Copy, Debug, PartialEq, Eq)]
 pub enum Order<'a> {
     /// Run the script of standard input.
-    Replay,
+    Replay {
+        /// The path of the settings file, if one is named.
+        settings: Option<&'a str>,
+    },
     /// Serve so many TCP connections, one after the other.
     Serve {
         /// The IPv4 address and port to listen on, as it was written.
         listen: &'a str,
         /// How many connections, from 1 to 1,000,000.
         connections: u32,
+        /// The path of the settings file, if one is named.
+        settings: Option<&'a str>,
     },
 }

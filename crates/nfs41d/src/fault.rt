@@ -6,6 +6,7 @@ ghost use Rattle.std.specs.Process.{exit_status};
 ghost use Rattle.nfs41d.specs.ExitStatus as ends;
 ghost use Rattle.nfs41d.specs.declared.fault.Fault.TheVariants.{Replay};
 
+use crate::settings_file::Bad;
 use nfs_serve::{ReplayFault, Stop};
 use std::io;
 use std::io::{ErrorKind, Write};
@@ -18,7 +19,10 @@ pub enum Fault {
     /// The command line is none of those that are understood.
     #[error("bad arguments")]
     Arguments,
-    /// There is no memory to start with.
+    /// The settings file cannot be read, or is none.
+    #[error("bad settings")]
+    Settings,
+    /// There is no memory to start with, or the address cannot be listened on.
     #[error("cannot start")]
     Start,
     /// The run of the script has stopped.
@@ -40,6 +44,17 @@ impl From<ReplayFault> for Fault {
     }
 }
 
+impl From<Bad> for Fault {
+    ghost from_gives = { λ bad f. f ≡ ends.fault_of bad };
+
+    fn from(bad: Bad) -> Fault {
+        match bad {
+            Bad::Text => Fault::Settings,
+            Bad::Memory => Fault::Start,
+        }
+    }
+}
+
 /// Writes the fault's line, whose own failure is passed over, and answers the exit status: 1 where the program has not begun,
 /// 2 for a fault of the script, 3 for a fault of input, output or connections.
 pub fn told<W: Write>(fault: &Fault, w: &mut W) -> u8
@@ -47,7 +62,7 @@ pub fn told<W: Write>(fault: &Fault, w: &mut W) -> u8
 {
     let _ = writeln!(w, "nfs41d: {fault}");
     match fault {
-        Fault::Arguments | Fault::Start => 1,
+        Fault::Arguments | Fault::Settings | Fault::Start => 1,
         Fault::Replay(stopped) => match stopped.number {
             Stop::ReadFailed | Stop::WriteFailed => 3,
             Stop::Cut | Stop::Connection | Stop::Long | Stop::Late | Stop::Many => 2,
@@ -66,13 +81,13 @@ pub fn status<W: Write>(ran: Result<(), Fault>, w: &mut W) -> ExitCode
     }
 }
 
-/// Why the arguments could not be read: for want of memory, or since one is no text.
-pub fn unread(e: &io::Error) -> Fault
-    ensures { result ≡ ends.unread (error_kind e.now) }
+/// Why the arguments or the settings file could not be read: for want of memory, or else the fault that is given.
+pub fn unread(e: &io::Error, fault: Fault) -> Fault
+    ensures { result ≡ ends.unread (error_kind e.now) fault }
 {
     match e.kind() {
         ErrorKind::OutOfMemory => Fault::Start,
-        _ => Fault::Arguments,
+        _ => fault,
     }
 }
 

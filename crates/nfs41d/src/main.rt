@@ -6,54 +6,69 @@ mod asked;
 mod clock;
 mod fault;
 mod serving;
+mod settings_file;
 #[cfg(test)]
 mod tests;
 mod words;
 
 use crate::asked::Order;
+use crate::clock::{SystemClock, instance_at};
 use crate::fault::{Fault, ending, status, unread};
 use crate::serving::serve;
+use crate::settings_file::settings;
 use crate::words::order;
-use nfs_serve::{Host, Server, Settings};
-use std::env;
+use nfs_serve::{Clock, Host, Server};
 use std::io::{BufReader, BufWriter, Write};
+use std::net::SocketAddrV4;
 use std::process::ExitCode;
+use std::{env, fs};
 
-/// The instance of a server that runs a script.
+/// The instance of a server that runs a script, where no settings name one.
 const INSTANCE: u32 = 7;
 
 /// The bytes that standard input and output are read and written by.
 const BUFFER: usize = 65_536;
-
-const SETTINGS: Settings = Settings {
-    lease: 90,
-    root_mode: 0o777,
-};
 
 fn main(rt: HostRuntime) -> ExitCode {
     status(run(&rt), &mut rt.stderr())
 }
 
 fn run(rt: &HostRuntime) -> Result<(), Fault> {
-    let args = env::args(rt).map_err(|e| unread(&e))?;
+    let args = env::args(rt).map_err(|e| unread(&e, Fault::Arguments))?;
     let words: Vec<String> = args.collect(rt.alloc()).map_err(|_| Fault::Start)?;
     let mut texts = Vec::new(rt.alloc());
     for word in &words {
         texts.push(word.as_str()).map_err(|_| Fault::Start)?;
     }
     match order(rt.alloc(), &texts)? {
-        Order::Replay => replay(rt),
+        Order::Replay { settings } => replay(rt, &mut server(rt, settings, INSTANCE)?),
         Order::Serve {
             listen,
             connections,
-        } => serve(rt, listen, connections, &mut rt.stderr()),
+            settings,
+        } => {
+            let second = SystemClock::new(rt).now();
+            let mut server = server(rt, settings, instance_at(second))?;
+            let addr = listen.parse::<SocketAddrV4>().map_err(|_| Fault::Start)?;
+            serve(rt, &mut server, addr, connections, &mut rt.stderr())
+        }
     }
 }
 
-/// Runs the script of standard input over a new server.
-fn replay(rt: &HostRuntime) -> Result<(), Fault> {
+/// A new server with the settings of a file, where one is named. `start` is its instance where the file names none.
+fn server(rt: &HostRuntime, file: Option<&str>, start: u32) -> Result<Server, Fault> {
     let alloc = rt.alloc();
-    let mut server = Server::new(alloc, SETTINGS, INSTANCE).map_err(|_| Fault::Start)?;
+    let text = match file {
+        Some(path) => fs::read_to_string(rt, path).map_err(|e| unread(&e, Fault::Settings))?,
+        None => String::new(alloc),
+    };
+    let (settings, instance) = settings(alloc, text.as_str(), start)?;
+    Server::new(alloc, settings, instance).map_err(|_| Fault::Start)
+}
+
+/// Runs the script of standard input over a server.
+fn replay(rt: &HostRuntime, server: &mut Server) -> Result<(), Fault> {
+    let alloc = rt.alloc();
     let reader = BufReader::with_capacity(alloc, BUFFER, rt.stdin()).map_err(|_| Fault::Start)?;
     let writer = BufWriter::with_capacity(alloc, BUFFER, rt.stdout()).map_err(|_| Fault::Start)?;
     let mut r = Host::new(reader);

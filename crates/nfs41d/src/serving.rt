@@ -1,28 +1,29 @@
 //! TCP connections, one after the other, over one server.
 
-use crate::SETTINGS;
-use crate::clock::{SystemClock, instance_at};
+use crate::clock::SystemClock;
 use crate::fault::Fault;
-use nfs_serve::{Clock, Host, Server};
+use nfs_serve::{Host, Server};
 use std::io::Write;
 use std::net::{Net, SocketAddrV4, TcpListener, TcpStream};
 use std::rt;
 
-/// Listens on an IPv4 address and port, tells on `told` which one it has taken, and serves so many connections, one after the other.
-/// A connection that ends, fails or is too long is closed, and the next is taken; no state but its unfinished record is lost.
+/// Listens on an address, tells on `told` which one it has taken, and serves so many connections, one after the other. A connection
+/// that ends, fails or is too long is closed, and the next is taken; no state but its unfinished record is lost.
 ///
-/// `Start` where the address is none or cannot be listened on, and for want of memory; `Accept` where no connection can be taken.
-pub fn serve<R, W>(rt: &R, listen: &str, connections: u32, told: &mut W) -> Result<(), Fault>
+/// `Start` where the address cannot be listened on; `Accept` where no connection can be taken.
+pub fn serve<R, W>(
+    rt: &R,
+    server: &mut Server,
+    addr: SocketAddrV4,
+    connections: u32,
+    told: &mut W,
+) -> Result<(), Fault>
 where
     R: Net<Listener = TcpListener, Stream = TcpStream> + AllocGlobal + rt::Clock,
     W: Write,
 {
-    let addr = listen.parse::<SocketAddrV4>().map_err(|_| Fault::Start)?;
     let alloc = rt.alloc();
     let mut clock = SystemClock::new(rt);
-    let mut server = Server::new(alloc, SETTINGS, instance_at(clock.now())).map_err(
-        |_| Fault::Start,
-    )?;
     let listener = TcpListener::bind(rt, addr).map_err(|_| Fault::Start)?;
     let addr = listener.local_addr().map_err(|_| Fault::Start)?;
     let _ = writeln!(told, "nfs41d: listening on {addr}");

@@ -24,12 +24,14 @@ pub fn order<'a>(alloc: Global, words: &'a [&'a str]) -> Result<Order<'a>, Fault
 }
 
 fn command<'a>(alloc: Global) -> Result<Command<'a>, AllocError> {
+    let replay = Command::new(alloc, "replay").arg(option(alloc, "settings"))?;
     let serve = Command::new(alloc, "serve")
         .arg(option(alloc, "listen").required(true))?
-        .arg(option(alloc, "connections").required(true))?;
+        .arg(option(alloc, "connections").required(true))?
+        .arg(option(alloc, "settings"))?;
     Command::new(alloc, "nfs41d")
         .subcommand_required(true)
-        .subcommand(Command::new(alloc, "replay"))?
+        .subcommand(replay)?
         .subcommand(serve)
 }
 
@@ -41,10 +43,13 @@ fn option<'a>(alloc: Global, name: &'a str) -> Arg<'a> {
 fn order_of<'a>(matches: &ArgMatches<'a>) -> Option<Order<'a>> {
     let (name, found) = matches.subcommand()?;
     match name {
-        "replay" => Some(Order::Replay),
+        "replay" => Some(Order::Replay {
+            settings: found.get_str("settings"),
+        }),
         "serve" => Some(Order::Serve {
             listen: found.get_str("listen")?,
             connections: count_of(found.get_str("connections")?)?,
+            settings: found.get_str("settings"),
         }),
         _ => None,
     }
