@@ -74,7 +74,14 @@ impl Engine {
         let size = call.len();
         match Call::read(call) {
             Ok(call) => {
-                put_answer(alloc, &mut self.world, &call, size, self.moment, &mut self.sheet);
+                put_answer(
+                    alloc,
+                    &mut self.world,
+                    &call,
+                    size,
+                    self.moment,
+                    &mut self.sheet,
+                );
                 Outcome::Reply
             }
             Err(refusal) => {

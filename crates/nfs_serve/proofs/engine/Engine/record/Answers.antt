@@ -26,9 +26,11 @@ put_answer-requires-clause-latest c =
 pub invariant_of-self-in-Err : goal.invariant_of-self-in-Err
 invariant_of-self-in-Err c =
     let front : length c.cut.new.self.bytes ≡ 8 = rw c.cut.ensures (length-take-le 8 c.self.inside.sheet.bytes c.self.invariant.0) in
-    let long = ap length c.write_refusal.ensures.bytes ∙ length-append c.cut.new.self.bytes (spell_refusal c.in-Err.refusal) in
-    (omega (arith, front, long), c.write_refusal.ensures.room ∙ ap (λ (p : Paper). p.room) c.cut.ensures ∙ c.self.invariant.1,
-    latest_expired (machine_of c.self.inside.world) (machine_of c.expire.new.self) c.self.inside.moment c.max-self-inside.result c.expire.ensures (rw c.max-self-inside.ensures (omega arith)) c.self.invariant.2)
+    let long = ap length c.write_refusal.ensures.bytes ∙ length-append c.cut.new.self.bytes (spell_refusal c.in-Err.refusal) in (
+      omega (arith, front, long),
+      c.write_refusal.ensures.room ∙ ap (λ (p : Paper). p.room) c.cut.ensures ∙ c.self.invariant.1,
+      latest_expired (machine_of c.self.inside.world) (machine_of c.expire.new.self) c.self.inside.moment c.max-self-inside.result c.expire.ensures (rw c.max-self-inside.ensures (omega arith)) c.self.invariant.2,
+    )
 
 pub returns-in-Ok : goal.returns-in-Ok
 returns-in-Ok c =
