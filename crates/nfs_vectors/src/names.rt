@@ -4,7 +4,7 @@ use crate::opens::is_held;
 use nfs_compound::{Arg, Attributes, Bitmap, Create, CreateType, StableHow};
 
 /// The words 1, 5, 1 and `B`.
-pub fn is_attributes(it: &Attributes<'_>) -> bool {
+pub(crate) fn is_attributes(it: &Attributes<'_>) -> bool {
     is_five(&it.attrmask) && it.attr_vals == b"b".as_slice()
 }
 
@@ -13,7 +13,7 @@ fn is_five(it: &Bitmap<'_>) -> bool {
 }
 
 /// The number of the type.
-pub fn create_form(it: &Create<'_>) -> Option<u32> {
+pub(crate) fn create_form(it: &Create<'_>) -> Option<u32> {
     if it.objname != b"a".as_slice() || !is_attributes(&it.createattrs) {
         return None;
     }
@@ -27,7 +27,8 @@ pub fn create_form(it: &Create<'_>) -> Option<u32> {
     }
 }
 
-pub fn is_of_files(arg: &Arg<'_>) -> bool {
+/// Whether the fields of an operation on a file are those of its vector.
+pub(crate) fn is_of_files(arg: &Arg<'_>) -> bool {
     match arg {
         Arg::Access { access } => *access == 31,
         Arg::Commit(it) => (it.offset, it.count) == (7, 8),
@@ -49,7 +50,8 @@ pub fn is_of_files(arg: &Arg<'_>) -> bool {
     }
 }
 
-pub fn is_of_names(arg: &Arg<'_>) -> bool {
+/// Whether the fields of an operation on names are those of its vector.
+pub(crate) fn is_of_names(arg: &Arg<'_>) -> bool {
     match arg {
         Arg::Link { newname: name }
         | Arg::Lookup { objname: name }

@@ -7,17 +7,17 @@ use nfs_compound::{
 };
 
 /// The words 6, 7, 8 and 9.
-pub fn is_held(it: &Stateid) -> bool {
+pub(crate) fn is_held(it: &Stateid) -> bool {
     it.seqid == 6 && it.other == [0, 0, 0, 7, 0, 0, 0, 8, 0, 0, 0, 9]
 }
 
 /// The words 0, 4, 1 and `A`.
-pub fn is_owner(it: &StateOwner<'_>) -> bool {
+pub(crate) fn is_owner(it: &StateOwner<'_>) -> bool {
     it.clientid == 4 && it.owner == b"a".as_slice()
 }
 
 /// The number of the claim; each claim stands with one way to open.
-pub fn open_form(it: &Open<'_>) -> Option<u32> {
+pub(crate) fn open_form(it: &Open<'_>) -> Option<u32> {
     if (it.seqid, it.share_access, it.share_deny) != (1, 2, 3) || !is_owner(&it.owner) {
         return None;
     }
@@ -68,7 +68,7 @@ fn is_verifier(it: &[u8; 8]) -> bool {
 }
 
 /// Whether the owner is a new one.
-pub fn lock_form(it: &Lock<'_>) -> Option<u32> {
+pub(crate) fn lock_form(it: &Lock<'_>) -> Option<u32> {
     if (it.offset, it.length) != (2, 3) {
         return None;
     }
@@ -86,7 +86,7 @@ pub fn lock_form(it: &Lock<'_>) -> Option<u32> {
 }
 
 /// The other operations on opens and locks.
-pub fn is_of_opens(arg: &Arg<'_>) -> bool {
+pub(crate) fn is_of_opens(arg: &Arg<'_>) -> bool {
     match arg {
         Arg::OpenDowngrade(it) => {
             let numbers = (it.seqid, it.share_access, it.share_deny);
