@@ -108,14 +108,18 @@ impl Client {
         self.kept = Some(created);
     }
 
-    /// Sets the mark of a complete reclaim, and answers whether it was set.
-    pub(crate) fn reclaim(&mut self) -> bool
-        ensures before { result ≡ self.old.reclaimed }
-        ensures after { self.new ≡ record self.old { reclaimed = true } }
+    /// Whether the client has declared its reclaim complete.
+    pub(crate) fn is_reclaimed(&self) -> bool
+        ensures { result ≡ self.now.reclaimed }
     {
-        let before = self.reclaimed;
+        self.reclaimed
+    }
+
+    /// Sets the mark of a complete reclaim.
+    pub(crate) fn reclaim(&mut self)
+        ensures { self.new ≡ record self.old { reclaimed = true } }
+    {
         self.reclaimed = true;
-        before
     }
 
     /// Sets whether the client has an open.

@@ -1,6 +1,6 @@
 //! The marks of a client record: its reclaim is complete (RFC 8881 section 18.51), and it has an open.
 
-ghost use Rattle.std.specs.Prelude.{◌≡◌};
+ghost use Rattle.std.specs.Prelude.{◌≡◌, if◌then◌else◌};
 ghost use Rattle.nfs_clients.specs.Marks.{has_reclaimed, with_reclaimed, has_open, with_open};
 
 use crate::clients::Clients;
@@ -8,14 +8,20 @@ use crate::clients::Clients;
 impl Clients {
     /// Notes that the client has declared its reclaim complete (RECLAIM_COMPLETE of all, RFC 8881
     /// section 18.51), and answers whether it had before: then the call is refused with
-    /// NFS4ERR_COMPLETE_ALREADY. Where there is no such record nothing changes.
+    /// NFS4ERR_COMPLETE_ALREADY, and nothing changes. Where there is no such record nothing changes either.
     pub fn reclaimed(&mut self, client: u64) -> bool
         ensures before { result ≡ has_reclaimed self.old client }
-        ensures after { self.new ≡ with_reclaimed self.old client }
+        ensures after { self.new ≡ (if has_reclaimed self.old client then self.old else with_reclaimed self.old client) }
     {
         match self.place(client) {
             None => false,
-            Some(place) => self.records[place].reclaim(),
+            Some(place) => {
+                if self.records[place].is_reclaimed() {
+                    return true;
+                }
+                self.records[place].reclaim();
+                false
+            }
         }
     }
 

@@ -7,6 +7,10 @@ use Rattle.nfs_xdr.proofs.Tables.{filter_all}
 use Rattle.nfs_clients.specs.Roster.{ClientRecord}
 use Rattle.nfs_sessions.specs.Sessions.{Session}
 use Rattle.nfs_lease.specs.Renewals.{Book, is_out, has_run_out, without_lease}
+use Rattle.nfs_names.specs.State.{IsStore}
+use Rattle.nfs_names.specs.Ending.{staying}
+use Rattle.nfs_opens.specs.Table.{IsTable}
+use Rattle.nfs_names.proofs.Staying.{staying_twice, staying_everybody}
 use Rattle.nfs_exec.specs.Machine.{Machine}
 use Rattle.nfs_exec.specs.Expiry.{expired}
 use Rattle.nfs_exec.specs.View.{without_client}
@@ -35,20 +39,30 @@ leases_same b now client c out = elim (cases_eq c client) [
   | inr other ↦ rw (ne_eqb c client other) refl
 ]
 
+pub swapped : (a b : Bool) → (a && b) ≡ (b && a)
+swapped true true = refl
+swapped true false = refl
+swapped false true = refl
+swapped false false = refl
+
 pub expired_without : (m : Machine) (now client : ℕ) → has_run_out m.leases now client ≡ true → expired now (without_client m client) ≡ expired now m
 expired_without m now client out =
     let b = m.leases in
     let clients = filter_both (λ (c : ClientRecord). not (has_run_out (without_lease b client) now c.id)) (λ c. not (eqb c.id client)) (λ c. not (has_run_out b now c.id)) (λ c. stays b now client c.id out) m.clients.records in
     let sessions = filter_both (λ (s : Session). not (has_run_out (without_lease b client) now s.client)) (λ s. not (eqb s.client client)) (λ s. not (has_run_out b now s.client)) (λ s. stays b now client s.client out) m.sessions.sessions in
     let leases = fun_ext (λ c. leases_same b now client c out) in
-    rw (clients, sessions) (ap (λ f. record (expired now m) { leases = record b { renewed = f } }) leases)
+    let store : staying (λ c. not (has_run_out (without_lease b client) now c)) (staying (λ c. not (eqb c client)) m.store) ≡ staying (λ c. not (has_run_out b now c)) m.store =
+    staying_twice (λ c. not (has_run_out (without_lease b client) now c)) (λ c. not (eqb c client)) m.store
+    ∙ ap (λ (p : ℕ → Bool). staying p m.store) (fun_ext (λ c. swapped (not (has_run_out (without_lease b client) now c)) (not (eqb c client)) ∙ stays b now client c out)) in
+    rw (clients, sessions, store) (ap (λ f. record (expired now m) { leases = record b { renewed = f } }) leases)
 
-pub expired_none : (m : Machine) (now : ℕ) → ((client : ℕ) → has_run_out m.leases now client ≡ false) → expired now m ≡ m
-expired_none m now none =
+pub expired_none : (m : Machine) (now : ℕ) → IsStore m.store → IsTable m.store.opens → ((client : ℕ) → has_run_out m.leases now client ≡ false) → expired now m ≡ m
+expired_none m now is table none =
     let clients = filter_all (λ (c : ClientRecord). not (has_run_out m.leases now c.id)) m.clients.records (λ c there. ap not (none c.id)) in
     let sessions = filter_all (λ (s : Session). not (has_run_out m.leases now s.client)) m.sessions.sessions (λ s there. ap not (none s.client)) in
     let leases = fun_ext (λ c. ap (λ out. cond out None (m.leases.renewed c)) (none c)) in
-    rw (clients, sessions) (ap (λ f. record m { leases = record m.leases { renewed = f } }) leases)
+    let store : staying (λ c. not (has_run_out m.leases now c)) m.store ≡ m.store = ap (λ (p : ℕ → Bool). staying p m.store) (fun_ext (λ c. ap not (none c))) ∙ staying_everybody m.store is table in
+    rw (clients, sessions, store) (ap (λ f. record m { leases = record m.leases { renewed = f } }) leases)
 
 -- one lease fewer stands
 pub fewer : (b : Book) (now client old new : ℕ) → has_run_out b now client ≡ true → new + cond (is_some (b.renewed client)) 1 0 ≡ old → new < old
@@ -57,3 +71,8 @@ fewer b now client old new out count = go (b.renewed client) out count
     go : (o : Option ℕ) → is_out b.lease now o ≡ true → new + cond (is_some o) 1 0 ≡ old → new < old
     go None out count = absurd cc
     go (Some moment) out count = omega (arith, count)
+
+-- where the walk over what has run out stands: what the moment leaves is the same behind each client that goes
+pub record Expires (now : ℕ) (first here : Machine) : Type 0 where
+  pub same : expired now here ≡ expired now first
+  pub store : IsStore here.store

@@ -18,12 +18,12 @@ use Rattle.nfs_clients.specs.ExchangeId.{Ask, Case, Refuses, Tells, Adds, has_ro
 use Rattle.nfs_clients.specs.CreateSession as clients
 use Rattle.nfs_clients.specs.CreateSession.{leaving, without_any, with_confirmed, with_kept, confirms, keeps, verdict_by}
 use Rattle.nfs_clients.specs.DestroyClientId.{destroy_fault}
-use Rattle.nfs_clients.specs.Marks.{has_open}
+use Rattle.nfs_clients.specs.Marks.{has_open, has_reclaimed, with_reclaimed, with_open}
 use Rattle.nfs_clients.specs.declared.created.CreateResult.{CreateResult}
 use Rattle.nfs_clients.specs.declared.created.CreateResult.TheVariants.{Done, Refused}
 use Rattle.nfs_clients.specs.declared.destroy.DestroyFault.{DestroyFault}
 use Rattle.nfs_clients.specs.declared.destroy.DestroyFault.TheVariants.{Stale, Busy}
-use Rattle.nfs_clients.proofs.Members.{the_id, mild_keeps, fresh, roster_filter, roster_changed, roster_without, roster_confirmed, roster_new, without_unconfirmed}
+use Rattle.nfs_clients.proofs.Members.{the_id, mild_keeps, mild_reclaims, mild_holds, fresh, roster_filter, roster_changed, roster_without, roster_confirmed, roster_new, without_unconfirmed}
 use Rattle.nfs_sessions.specs.declared.id.SessionId.{SessionId}
 use Rattle.nfs_sessions.specs.declared.channel.Wish.{Wish}
 use Rattle.nfs_sessions.specs.declared.sessions.SessionFault.{SessionFault}
@@ -32,20 +32,25 @@ use Rattle.nfs_sessions.specs.SessionSlots.{GrantedSlots}
 use Rattle.nfs_sessions.specs.Sessions.{Session, SessionTable, is_session, session_at, create, create_unless, create_fault, fault_status, with_session, with_slots}
 use Rattle.nfs_sessions.specs.Sessions as sessions
 use Rattle.nfs_lease.specs.Renewals.{Book, has_run_out, with_lease, with_renewal, without_lease}
-use Rattle.nfs_exec.specs.Machine.{Machine, IsMachine, Outcome, is_ok, or_delay, starts, is_client, is_confirmed}
+use Rattle.nfs_exec.specs.Machine.{Machine, IsMachine, Outcome, is_ok, or_delay, starts, with_mark, is_client, is_confirmed}
 use Rattle.nfs_exec.specs.Place.{item_fault}
 use Rattle.nfs_exec.specs.ExchangeId.{exchange_id, exchange_id_number, ask_of, leases_behind, without_any_lease}
 use Rattle.nfs_exec.specs.CreateSession.{create_session_number, by_verdict, creates, by_created, confirmed, wish_of, without_any_sessions}
 use Rattle.nfs_exec.specs.Destroy.{destroy_session, destroyed_unless, has_session}
 use Rattle.nfs_exec.specs.Sequence as sequence
 use Rattle.nfs_exec.specs.Sequence.{Sequenced, sequenced}
-use Rattle.nfs_exec.specs.Compound.{is_here, carried_out, by_fault, first_item, renewed, begun, runs_behind, in_session, by_first, compound}
+use Rattle.nfs_exec.specs.Compound.{carried_out, by_fault, first_item, renewed, begun, run_in, in_session, by_first, compound}
 use Rattle.nfs_exec.specs.Expiry.{expired}
 use Rattle.nfs_exec.proofs.Exchanging.{room_of}
-use Rattle.nfs_exec.proofs.Latest.{run_same}
+use Rattle.nfs_names.specs.declared.context.Context.{Context}
+use Rattle.nfs_names.specs.Context.{begins}
+use Rattle.nfs_names.specs.Ending.{has_open as has_open_in}
+use Rattle.nfs_exec.specs.ReclaimComplete.{of_all}
+use Rattle.nfs_exec.specs.Run.{is_here, behind_here}
+use Rattle.nfs_exec.proofs.Behind.{IsKept, kept_run}
 
-pub of_start : (instance lease : ℕ) → instance < 4294967296 → IsMachine (starts instance lease)
-of_start instance lease small = record {
+pub of_start : (mode instance lease : ℕ) → instance < 4294967296 → IsMachine (starts mode instance lease)
+of_start mode instance lease small = record {
   clients = record { rising = omega arith; alone = λ c d a b owner mark. absurd a; few = omega arith; counter = omega arith; instance = small };
   leased = λ client. refl;
   confirmed = λ s there. absurd there;
@@ -373,16 +378,78 @@ first m declared who now refused i is = go (item_fault declared i)
     go None = carried m who now refused i is
     go (Some status) = is
 
-sequenced_kept : (m : Machine) (r : Request) (who : Caller) (now : ℕ) (s : Sequence) (more : List Item) (v : Sequenced) → IsMachine m → IsMachine (in_session m r who now s more v).machine
-sequenced_kept m r who now s more (sequence.Refuses status) is = is
-sequenced_kept m r who now s more (sequence.Repeats reply) is = is
-sequenced_kept m r who now s more (sequence.Runs c) is =
-    let ran = runs_behind (renewed m now s) r s c more in
-    of_kept ran.machine (id_of s.sessionid) _ (subst IsMachine (sym (run_same c.response (begun r s c) (renewed m now s) more)) (of_renewed m (id_of s.sessionid).client now is))
+-- a client's mark of its reclaim
+of_reclaimed : (m : Machine) (x : Context) → IsMachine m → IsMachine (of_all m x).machine
+of_reclaimed m x is = elim (cases_Bool (has_reclaimed m.clients x.client)) [
+  | inl again ↦ rw again is
+  | inr once ↦ rw once (record {
+    clients = roster_changed reclaims m.clients x.client mild_reclaims is.clients;
+    leased = λ c. is.leased c ∙ sym (reclaims_is c);
+    confirmed = λ s there. reclaims_mark s.client ∙ is.confirmed s there;
+  })
+]
+  where
+    reclaims : ClientRecord → ClientRecord
+    reclaims c = record c { reclaimed = true }
+
+    reclaims_is : (c : ℕ) → is_client (with_reclaimed m.clients x.client) c ≡ is_client m.clients c
+    reclaims_is c =
+        ap is_some (at_with the_id reclaims mild_reclaims.id c x.client m.clients.records)
+        ∙ elim (eqb c x.client) as (λ v. is_some (cond v (option_map reclaims (client_at m.clients c)) (client_at m.clients c)) ≡ is_client m.clients c) [ true ↦ map_is reclaims (client_at m.clients c) | false ↦ refl ]
+
+    reclaims_mark : (c : ℕ) → is_confirmed (with_reclaimed m.clients x.client) c ≡ is_confirmed m.clients c
+    reclaims_mark c =
+        ap (λ o. option_map_or (λ (c : ClientRecord). c.confirmed) o false) (at_with the_id reclaims mild_reclaims.id c x.client m.clients.records)
+        ∙ elim (eqb c x.client) as (λ v. option_map_or (λ (c : ClientRecord). c.confirmed) (cond v (option_map reclaims (client_at m.clients c)) (client_at m.clients c)) false ≡ is_confirmed m.clients c) [
+          | true ↦ map_mark reclaims (client_at m.clients c) mild_reclaims.mark
+          | false ↦ refl
+        ]
+
+-- a client's mark of an open
+of_marked : (m : Machine) (client : ℕ) → IsMachine m → IsMachine (with_mark client m)
+of_marked m client is = record {
+  clients = roster_changed holds m.clients client (mild_holds mark) is.clients;
+  leased = λ c. is.leased c ∙ sym (holds_is c);
+  confirmed = λ s there. holds_mark s.client ∙ is.confirmed s there;
+}
+  where
+    mark : Bool
+    mark = has_open_in m.store client
+
+    holds : ClientRecord → ClientRecord
+    holds c = record c { has_open = mark }
+
+    holds_is : (c : ℕ) → is_client (with_open m.clients client mark) c ≡ is_client m.clients c
+    holds_is c =
+        ap is_some (at_with the_id holds (mild_holds mark).id c client m.clients.records)
+        ∙ elim (eqb c client) as (λ v. is_some (cond v (option_map holds (client_at m.clients c)) (client_at m.clients c)) ≡ is_client m.clients c) [ true ↦ map_is holds (client_at m.clients c) | false ↦ refl ]
+
+    holds_mark : (c : ℕ) → is_confirmed (with_open m.clients client mark) c ≡ is_confirmed m.clients c
+    holds_mark c =
+        ap (λ o. option_map_or (λ (c : ClientRecord). c.confirmed) o false) (at_with the_id holds (mild_holds mark).id c client m.clients.records)
+        ∙ elim (eqb c client) as (λ v. option_map_or (λ (c : ClientRecord). c.confirmed) (cond v (option_map holds (client_at m.clients c)) (client_at m.clients c)) false ≡ is_confirmed m.clients c) [
+          | true ↦ map_mark holds (client_at m.clients c) (mild_holds mark).mark
+          | false ↦ refl
+        ]
+
+machine_kept : IsKept IsMachine
+machine_kept = record {
+  stored = λ m s is. record { clients = is.clients; leased = is.leased; confirmed = is.confirmed };
+  reclaimed = of_reclaimed;
+  marked = of_marked;
+}
+
+sequenced_kept : (m : Machine) (r : Request) (who : Caller) (now : ℕ) (choice : Option ℕ) (s : Sequence) (more : List Item) (v : Sequenced) → IsMachine m → IsMachine (in_session m r who now choice s more v).machine
+sequenced_kept m r who now choice s more (sequence.Refuses status) is = is
+sequenced_kept m r who now choice s more (sequence.Repeats reply) is = is
+sequenced_kept m r who now choice s more (sequence.Runs c) is =
+    let ran = run_in (renewed m now s) r who now (behind_here choice) s c more in
+    of_kept ran.machine (id_of s.sessionid) _
+    (kept_run IsMachine machine_kept c.response (begun r s c) now (behind_here choice) (renewed m now s) (begins (id_of s.sessionid).client who) more (of_renewed m (id_of s.sessionid).client now is))
 
 items_kept : (m : Machine) (r : Request) (who : Caller) (size now : ℕ) (choice : Option ℕ) (items : List Item) → IsMachine m → IsMachine (by_first m r who size now choice items).machine
 items_kept m r who size now choice [] is = is
-items_kept m r who size now choice (Operation (OpSequence s) ∷ more) is = sequenced_kept m r who now s more (sequenced m r who size s) is
+items_kept m r who size now choice (Operation (OpSequence s) ∷ more) is = sequenced_kept m r who now choice s more (sequenced m r who size s) is
 items_kept m r who size now choice (item ∷ more) is = first m r.declared who now (is_here choice) item is
 
 pub of_compound : (m : Machine) (r : Request) (who : Caller) (size now : ℕ) (choice : Option ℕ) → IsMachine m → IsMachine (compound m r who size now choice).machine

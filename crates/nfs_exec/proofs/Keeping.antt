@@ -20,10 +20,11 @@ use Rattle.nfs_results.specs.OpenHead.{HeadsAt, HasHead, SetsHead}
 use Rattle.nfs_results.proofs.Lengths.{length_result, length_head_within}
 use Rattle.nfs_sessions.specs.declared.channel.Channel.{Channel}
 use Rattle.nfs_sessions.specs.SessionSlots.{GrantedSlots, judge}
-use Rattle.nfs_sessions.specs.Sessions.{Session, SessionTable, keep}
+use Rattle.nfs_sessions.specs.Sessions.{session_at, Session, SessionTable, keep}
 use Rattle.nfs_exec.specs.Machine.{Machine, Outcome, is_ok}
 use Rattle.nfs_exec.specs.Sequence.{Sequenced, Runs, unless, by_verdict, by_session, slot_fault, fresh_fault, accepted}
-use Rattle.nfs_exec.specs.Run.{Ran, run, in_room, follow}
+use Rattle.nfs_names.specs.declared.context.Context.{Context}
+use Rattle.nfs_exec.specs.Run.{Ran, run, in_room, follow, is_here, behind_here}
 use Rattle.nfs_exec.specs.Compound.{HasReplyRoom, renewed}
 use Rattle.nfs_lease.specs.Renewals.{Book, with_renewal}
 use Rattle.nfs_exec.specs.declared.run.Ran.{Ran as Told}
@@ -34,6 +35,8 @@ use Rattle.nfs_xdr.proofs.Putting.{length_number}
 use Rattle.nfs_exec.proofs.Creating.{the_rest, length_id}
 use Rattle.nfs_sessions.specs.declared.id.SessionId.{SessionId}
 use Rattle.nfs_sessions.specs.Id.{id_bytes, id_of}
+use Rattle.std.specs.Option.{IsSomeAnd}
+use Rattle.nfs_sessions.specs.SessionSlots.{MayKeep}
 
 -- what it means that a request runs
 pub record IsFresh (r : Request) (who : Caller) (size : ℕ) (s : Sequence) (o : Option Session) (c : Channel) : Type 0 where
@@ -126,11 +129,12 @@ follow_few o rest n few = elim (cases_Bool (is_ok o.status)) [
   | inr e ↦ rw e (omega arith)
 ]
 
-pub run_few : (limit sofar : ℕ) (m : Machine) (items : List Item) → (run limit sofar m items).count ≤ length items
-run_few limit sofar m [] = omega arith
-run_few limit sofar m (item ∷ more) =
-    let o = in_room limit sofar m item in
-    follow_few o (run limit (sofar + length o.result) o.machine more) (length more) (run_few limit (sofar + length o.result) o.machine more)
+pub run_few : (limit sofar now : ℕ) (choice : Option ℕ) (m : Machine) (x : Context) (items : List Item) → (run limit sofar now choice m x items).count ≤ length items
+run_few limit sofar now choice m x [] = omega arith
+run_few limit sofar now choice m x (item ∷ more) =
+    let s = in_room limit sofar now (is_here choice) m x item in
+    let next = sofar + length s.outcome.result in
+    follow_few s.outcome (run limit next now (behind_here choice) s.outcome.machine s.context more) (length more) (run_few limit next now (behind_here choice) s.outcome.machine s.context more)
 
 pub sixteen : (id : SessionId) (bytes : List ℕ) → id_bytes id ≡ bytes → length bytes ≡ 16
 sixteen id bytes is = ap length (sym is) ∙ length_id id
@@ -158,8 +162,8 @@ run_fits old mid new tag text start limit short one two long at large =
     let more = ap length two.bytes ∙ length-append mid.bytes text in
     omega (arith, h, more, long, at, large)
 
-pub within_64 : (count limit sofar : ℕ) (m : Machine) (items : List Item) → count ≡ (run limit sofar m items).count → length items ≤ 64 → count + 1 < 4294967296
-within_64 count limit sofar m items is few = (let h = run_few limit sofar m items in omega (arith, is, few, h))
+pub within_64 : (count limit sofar now : ℕ) (choice : Option ℕ) (m : Machine) (x : Context) (items : List Item) → count ≡ (run limit sofar now choice m x items).count → length items ≤ 64 → count + 1 < 4294967296
+within_64 count limit sofar now choice m x items is few = (let h = run_few limit sofar now choice m x items in omega (arith, is, few, h))
 
 -- the reply so far, when the run begins
 pub begun_is : (before first second : Paper) (tag text : List ℕ) (start : ℕ) → Puts before first (spell_compound_head Nfs4Ok tag 0) → Puts first second text → start ≡ length before.bytes →
@@ -199,14 +203,34 @@ last_fits before first second third last status_at count_at limit start tag s ra
     omega (arith, fits, at, here, front, there, back, one_head, other_head)
 
 -- the machine behind a request that ran: its lease is renewed, and its slot keeps the reply
-pub kept_machine : (m left : Machine) (r : Request) (who : Caller) (s : Sequence) (now : ℕ) (text : List ℕ) (id : SessionId) (t : SessionTable) (b : Book) (args reply : List ℕ) →
-    id ≡ id_of s.sessionid → b ≡ with_renewal m.leases id.client now → t ≡ keep m.sessions id s.slotid s.sequenceid who.uid args reply → args ≡ r.bytes → reply ≡ text → left ≡ renewed m now s →
-    record { clients = m.clients; sessions = t; leases = b } ≡ record left { sessions = keep left.sessions (id_of s.sessionid) s.slotid s.sequenceid who.uid r.bytes text }
-kept_machine m left r who s now text id t b args reply read book table same whole is =
-    ap (λ (b : Book). record m { sessions = t; leases = b }) (book ∙ ap (λ (i : SessionId). with_renewal m.leases i.client now) read)
-    ∙ ap (λ (t : SessionTable). record (renewed m now s) { sessions = t }) (table ∙ ap (λ (i : SessionId). keep m.sessions i s.slotid s.sequenceid who.uid args reply) read
-    ∙ ap (λ a. keep m.sessions (id_of s.sessionid) s.slotid s.sequenceid who.uid a reply) same ∙ ap (λ a. keep m.sessions (id_of s.sessionid) s.slotid s.sequenceid who.uid r.bytes a) whole)
-    ∙ ap (λ (k : Machine). record k { sessions = keep k.sessions (id_of s.sessionid) s.slotid s.sequenceid who.uid r.bytes text }) (sym is)
+pub renewed_machine : (m : Machine) (s : Sequence) (now : ℕ) (id : SessionId) (b : Book) → id ≡ id_of s.sessionid → b ≡ with_renewal m.leases id.client now → record m { leases = b } ≡ renewed m now s
+renewed_machine m s now id b read book = ap (λ (b : Book). record m { leases = b }) (book ∙ ap (λ (i : SessionId). with_renewal m.leases i.client now) read)
+
+pub kept_machine : (was left : Machine) (r : Request) (who : Caller) (s : Sequence) (text : List ℕ) (id : SessionId) (t : SessionTable) (args reply : List ℕ) →
+    id ≡ id_of s.sessionid → t ≡ keep was.sessions id s.slotid s.sequenceid who.uid args reply → args ≡ r.bytes → reply ≡ text → was ≡ left →
+    record was { sessions = t } ≡ record left { sessions = keep left.sessions (id_of s.sessionid) s.slotid s.sequenceid who.uid r.bytes text }
+kept_machine was left r who s text id t args reply read table same whole is =
+    ap (λ (t : SessionTable). record was { sessions = t }) (table ∙ ap (λ (i : SessionId). keep was.sessions i s.slotid s.sequenceid who.uid args reply) read
+    ∙ ap (λ a. keep was.sessions (id_of s.sessionid) s.slotid s.sequenceid who.uid a reply) same ∙ ap (λ a. keep was.sessions (id_of s.sessionid) s.slotid s.sequenceid who.uid r.bytes a) whole)
+    ∙ ap (λ (k : Machine). record k { sessions = keep k.sessions (id_of s.sessionid) s.slotid s.sequenceid who.uid r.bytes text }) is
+
+-- the slot of a request that runs may keep what it came to
+pub may_keep : (now was : SessionTable) (r : Request) (who : Caller) (size : ℕ) (s : Sequence) (c : Channel) (id : SessionId) (args reply text : List ℕ) (old new : Paper) → now ≡ was → id ≡ id_of s.sessionid → length r.bytes ≤ size →
+    by_session r who size s (session_at was (id_of s.sessionid)) ≡ Runs c → args ≡ r.bytes → reply ≡ text → Puts old new text → length new.bytes + 24 ≤ length old.bytes + c.response →
+    IsSomeAnd (session_at now id) (λ x. MayKeep x.slots s.slotid s.sequenceid who.uid args reply)
+may_keep now was r who size s c id args reply text old new table read short runs same whole put fits =
+    let is = runs_means r who size s (session_at was (id_of s.sessionid)) c runs in
+    let found : session_at now id ≡ Some is.session = ap (λ (t : SessionTable). session_at t id) table ∙ ap (session_at was) read ∙ is.found in
+    let request = is.fits in
+    let long = ap length put.bytes ∙ length-append old.bytes text in
+    let channel = is.channel in
+    subst (λ (o : Option Session). IsSomeAnd o (λ x. MayKeep x.slots s.slotid s.sequenceid who.uid args reply)) (sym found)
+    (subst (λ a. MayKeep is.session.slots s.slotid s.sequenceid who.uid a reply) (sym same)
+    (subst (λ t. MayKeep is.session.slots s.slotid s.sequenceid who.uid r.bytes t) (sym whole) (record {
+      fresh = is.fresh;
+      args_fit = subst (λ (g : Channel). length r.bytes ≤ g.request) (sym channel) (omega (arith, short, request));
+      reply_fits = subst (λ (g : Channel). 24 + length text ≤ g.response) (sym channel) (omega (arith, long, fits));
+    })))
 
 pub any_head_fits : (paper : Paper) (status : Status) (tag : List ℕ) (count : ℕ) → length tag ≤ 1024 → HasReplyRoom paper → HasRoom paper (spell_compound_head status tag count)
 any_head_fits paper status tag count short room = (let h = length_head_within status tag count short in omega (arith, h, room))

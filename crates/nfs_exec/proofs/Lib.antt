@@ -5,6 +5,7 @@ pub mod Bearing
 pub mod Destroying
 pub mod Expiring
 pub mod Running
+pub mod Behind
 pub mod Creating
 pub mod Standing
 pub mod Keeping

@@ -1,5 +1,5 @@
 -- Repeats, refused SEQUENCEs, and expiry twice.
-use Rattle.std.proofs.Common.{◌≡◌, ℕ, ◌-◌, ◌≤◌, true, Option, Some, None, refl, ap, arith, inl, inr}
+use Rattle.std.proofs.Common.{◌≡◌, ℕ, ◌-◌, ◌≤◌, Bool, true, Option, Some, None, refl, ◌∙◌, ap, arith, inl, inr}
 use Rattle.std.specs.Prelude.{not, ◌&&◌}
 use Rattle.std.proofs.Math.Path.{fun_ext}
 use Rattle.std.proofs.lemmas.Bool.{cases_Bool, eq-eqb, ltb-true, lt-ltb}
@@ -8,14 +8,16 @@ use Rattle.nfs_sessions.specs.Sessions.{Session}
 use Rattle.nfs_lease.specs.Renewals.{Book, is_out, has_run_out}
 use Rattle.nfs_exec.specs.Compound.{in_session}
 use Rattle.nfs_exec.specs.Expiry.{expired, leases_kept}
+use Rattle.nfs_names.specs.Ending.{staying}
+use Rattle.nfs_names.proofs.Staying.{staying_twice}
 use Rattle.nfs_exec.specs.Laws.{RepeatsChangeNothing, RefusalsChangeNothing, ExpiresOnce}
-use Rattle.nfs_exec.proofs.Expiring.{filter_both}
+use Rattle.nfs_exec.proofs.Expiring.{filter_both, swapped}
 
 pub repeats : RepeatsChangeNothing
-repeats = λ m r who size now choice s reply begins. rw (eq-eqb r.minor 1 begins.minor, begins.list) (ap (in_session m r who now s begins.more) begins.verdict)
+repeats = λ m r who size now choice s reply begins. rw (eq-eqb r.minor 1 begins.minor, begins.list) (ap (in_session m r who now choice s begins.more) begins.verdict)
 
 pub refusals : RefusalsChangeNothing
-refusals = λ m r who size now choice s status begins. rw (eq-eqb r.minor 1 begins.minor, begins.list) (ap (in_session m r who now s begins.more) begins.verdict)
+refusals = λ m r who size now choice s status begins. rw (eq-eqb r.minor 1 begins.minor, begins.list) (ap (in_session m r who now choice s begins.more) begins.verdict)
 
 out_later : (lease first later : ℕ) (o : Option ℕ) → first ≤ later → is_out lease first o ≡ true → is_out lease later o ≡ true
 out_later lease first later None le out = absurd cc
@@ -40,4 +42,7 @@ expires = λ m first later le.
     let clients = filter_both (λ (c : ClientRecord). not (has_run_out (leases_kept b first) later c.id)) (λ c. not (has_run_out b first c.id)) (λ c. not (has_run_out b later c.id)) (λ c. once b first later c.id le) m.clients.records in
     let sessions = filter_both (λ (s : Session). not (has_run_out (leases_kept b first) later s.client)) (λ s. not (has_run_out b first s.client)) (λ s. not (has_run_out b later s.client)) (λ s. once b first later s.client le) m.sessions.sessions in
     let leases = fun_ext (λ c. once_kept b first later c le) in
-    rw (clients, sessions) (ap (λ f. record (expired later m) { leases = record b { renewed = f } }) leases))
+    let store : staying (λ c. not (has_run_out (leases_kept b first) later c)) (staying (λ c. not (has_run_out b first c)) m.store) ≡ staying (λ c. not (has_run_out b later c)) m.store =
+    staying_twice (λ c. not (has_run_out (leases_kept b first) later c)) (λ c. not (has_run_out b first c)) m.store
+    ∙ ap (λ (p : ℕ → Bool). staying p m.store) (fun_ext (λ c. swapped (not (has_run_out (leases_kept b first) later c)) (not (has_run_out b first c)) ∙ once b first later c le)) in
+    rw (clients, sessions, store) (ap (λ f. record (expired later m) { leases = record b { renewed = f } }) leases))

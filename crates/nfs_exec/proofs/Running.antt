@@ -1,23 +1,45 @@
 -- The operations behind a SEQUENCE: what the loop over them has come to.
-use Rattle.std.proofs.Common.{◌≡◌, ℕ, suc, ◌+◌, ◌-◌, ◌≤◌, Bool, true, false, cond, ltb, List, [], ◌∷◌, ◌++◌, length, refl, sym, ◌∙◌, ap, subst, arith, inl, inr}
-use Rattle.std.specs.Prelude.{nat_lt, if◌then◌else◌}
-use Rattle.std.proofs.lemmas.Bool.{cases_Bool, ltb-false}
+use Rattle.std.proofs.Common.{◌≡◌, ℕ, zero, suc, ◌+◌, ◌-◌, ◌≤◌, Bool, true, false, List, [], ◌∷◌, ◌++◌, length, Option, Some, None, refl, sym, ◌∙◌, ap, subst, arith, inl, inr}
+use Rattle.std.proofs.lemmas.Bool.{cases_Bool}
 use Rattle.std.proofs.lemmas.List.{length-append, append_assoc, append-nil}
 use Rattle.nfs_xdr.specs.Tables.{In}
-use Rattle.nfs_xdr.specs.Paper.{Paper, HasRoom, Puts}
+use Rattle.nfs_xdr.specs.Paper.{Paper, Puts}
 use Rattle.nfs_xdr.specs.declared.status.Status.{Status}
-use Rattle.nfs_xdr.specs.declared.status.Status.TheVariants.{Nfs4Ok, RepTooBig, NotSupp, SequencePos}
-use Rattle.nfs_compound.specs.Operation.{Item, Operation, Fault, OpSequence}
-use Rattle.nfs_compound.specs.Arguments.{item_number}
+use Rattle.nfs_xdr.specs.declared.status.Status.TheVariants.{Nfs4Ok}
+use Rattle.nfs_compound.specs.Operation.{Item}
 use Rattle.nfs_compound.specs.Request.{Request}
-use Rattle.nfs_results.specs.Largest.{largest}
-use Rattle.nfs_results.specs.Result.{Res}
-use Rattle.nfs_results.specs.Results.{status_of_result, spell_result, refusal, IsBounded}
-use Rattle.nfs_exec.specs.Machine.{Machine, Outcome, is_ok}
-use Rattle.nfs_exec.specs.Place.{CanBear, status_behind}
-use Rattle.nfs_exec.specs.Run.{Ran, run, in_room, follow, only}
-use Rattle.nfs_exec.specs.View.{RunsTo}
-use Rattle.nfs_exec.proofs.Bearing.{behind_bears, refusal_bounded, refusal_short, refusal_small, refusal_arrays, refused_status}
+use Rattle.nfs_names.specs.declared.context.Context.{Context}
+use Rattle.nfs_names.specs.State.{IsStore}
+use Rattle.nfs_exec.specs.Machine.{Machine, Outcome, is_ok, is_delay}
+use Rattle.nfs_exec.specs.Place.{CanBear}
+use Rattle.nfs_exec.specs.Behind.{Step}
+use Rattle.nfs_exec.specs.Run.{Ran, run, in_room, follow, only, is_here, behind_here}
+use Rattle.nfs_exec.specs.View.{RunsTo, Steps}
+
+-- The place at which memory was refused: here, or one place further than from behind.
+
+pub choice_of : Bool → Option ℕ
+choice_of true = Some zero
+choice_of false = None
+
+pub chosen : (refused : Bool) → is_here (choice_of refused) ≡ refused
+unfolding choice_of
+chosen true = refl
+chosen false = refl
+
+pub later : Option ℕ → Option ℕ
+later None = None
+later (Some k) = Some (suc k)
+
+pub later_not_here : (choice : Option ℕ) → is_here (later choice) ≡ false
+unfolding later
+later_not_here None = refl
+later_not_here (Some k) = refl
+
+pub later_behind : (choice : Option ℕ) → behind_here (later choice) ≡ choice
+unfolding later
+later_behind None = refl
+later_behind (Some k) = refl
 
 -- what the whole run comes to is what stands on the sheet and what the rest comes to
 pub record Joins (whole rest : Ran) (done : ℕ) (before here : List ℕ) : Type 0 where
@@ -26,39 +48,50 @@ pub record Joins (whole rest : Ran) (done : ℕ) (before here : List ℕ) : Type
   pub machine : whole.machine ≡ rest.machine
   pub results : before ++ whole.results ≡ here ++ rest.results
 
+-- where a run stands: the tables, the context and the sheet
+pub record Stand : Type 0 where
+  pub machine : Machine
+  pub context : Context
+  pub paper : Paper
+
 -- the bytes of a reply whose text begins at a place of the sheet
 abbrev pub so_far : ℕ → Paper → ℕ
 so_far at paper = 24 + (length paper.bytes - at)
 
-pub record Going (limit at : ℕ) (before here : Paper) (all left : List Item) (done : ℕ) : Type 0 where
+abbrev pub run_at : (limit at now : ℕ) → Option ℕ → Stand → List Item → Ran
+run_at limit at now choice s items = run limit (so_far at s.paper) now choice s.machine s.context items
+
+-- one operation where the run stands
+abbrev pub step_at : (limit at now : ℕ) → Bool → Stand → Item → Step
+step_at limit at now refused s item = in_room limit (so_far at s.paper) now refused s.machine s.context item
+
+pub record Going (limit at now : ℕ) (first here : Stand) (all left : List Item) (done : ℕ) : Type 0 where
   pub bears : (i : Item) → In i left → CanBear i
   pub few : done + length left ≤ 64
-  pub start : at ≤ length here.bytes
-  pub fits : length here.bytes + 36 ≤ at + limit
-  pub room : here.room ≡ before.room
-  pub ran : (m : Machine) → Joins (run limit (so_far at before) m all) (run limit (so_far at here) m left) done before.bytes here.bytes
+  pub start : at ≤ length here.paper.bytes
+  pub fits : length here.paper.bytes + 36 ≤ at + limit
+  pub room : here.paper.room ≡ first.paper.room
+  pub ran : (choice : Option ℕ) → (whole : Option ℕ) × Joins (run_at limit at now whole first all) (run_at limit at now choice here left) done first.paper.bytes here.paper.bytes
 
-pub record Loop (limit at : ℕ) (before here : Paper) (all left : Request) (done : ℕ) : Type 0 where
-  pub going : Going limit at before here all.left left.left done
+pub record Loop (limit at now : ℕ) (first here : Stand) (all left : Request) (done : ℕ) : Type 0 where
+  pub going : Going limit at now first here all.left left.left done
   pub same : left ≡ record all { left = left.left }
+  pub store : IsStore here.machine.store
 
--- the status that an item is refused with
-abbrev pub status_in : (limit sofar : ℕ) → Item → Status
-status_in limit sofar item = if nat_lt limit (sofar + largest item + 12) then RepTooBig else status_behind item
-
-abbrev pub refused_in : (limit sofar : ℕ) → Item → Res
-refused_in limit sofar item = refusal (item_number item) (status_in limit sofar item)
-
-pub begins : (limit at : ℕ) (before : Paper) (all : List Item) → ((i : Item) → In i all → CanBear i) → length all ≤ 64 → at ≤ length before.bytes → length before.bytes + 36 ≤ at + limit →
-    Going limit at before before all all 0
-begins limit at before all bears few start fits = record {
+pub begins : (limit at now : ℕ) (first : Stand) (all : List Item) → ((i : Item) → In i all → CanBear i) → length all ≤ 64 → at ≤ length first.paper.bytes → length first.paper.bytes + 36 ≤ at + limit →
+    Going limit at now first first all all 0
+begins limit at now first all bears few start fits = record {
   bears = bears;
   few = omega (arith, few);
   start = start;
   fits = fits;
   room = refl;
-  ran = λ m. record { status = refl; count = omega arith; machine = refl; results = refl };
+  ran = λ choice. (choice, record { status = refl; count = omega arith; machine = refl; results = refl });
 }
+
+-- the operation was run where the run stood, and left it there
+abbrev pub Stepped : (limit at now : ℕ) (here next : Stand) → Item → Status → Type 0
+Stepped limit at now here next item s = Steps (step_at limit at now (is_delay s) here item) s next.machine next.context here.paper next.paper
 
 grown : (old new : Paper) (text : List ℕ) → Puts old new text → length new.bytes ≡ length old.bytes + length text
 grown old new text put = ap length put.bytes ∙ length-append old.bytes text
@@ -79,101 +112,90 @@ joined o whole rest done before here new ok joins put =
       results = j.results ∙ sym (append_assoc here o.result rest.results) ∙ ap (λ xs. xs ++ rest.results) (sym put);
     }
 
-never : (b : Bool) (s : Status) → is_ok s ≡ false → cond b RepTooBig s ≡ Nfs4Ok → ⊥
-never true s bad e = absurd cc
-never false s bad e = absurd (let h : is_ok s ≡ true = ap is_ok e in cc)
+-- what a run comes to by its first operation, and by where that left it
+abbrev unrolled : (limit now : ℕ) → Step → (sofar : ℕ) → Option ℕ → Machine → Context → List Item → Ran
+unrolled limit now s sofar choice m x left = follow s.outcome (run limit sofar now choice m x left)
 
--- there is room for a refusal behind what was granted
-fits_behind : (limit sofar : ℕ) (item : Item) → CanBear item → status_in limit sofar item ≡ Nfs4Ok → length (spell_result (refused_in limit sofar item)) + sofar + 12 ≤ limit
-fits_behind limit sofar (Fault n s) bears ok = elim (cases_Bool (ltb limit (sofar + 64 + 12))) [
-  | inl big ↦ absurd (let h : RepTooBig ≡ Nfs4Ok = rw big at ok in cc)
-  | inr fits ↦ rw fits (let h = (refusal_small n s bears).1 (refusal_arrays n s) in let l = ltb-false limit (sofar + 64 + 12) fits in omega (arith, h, l))
-]
-fits_behind limit sofar (Operation (OpSequence s)) bears ok = absurd (never _ SequencePos refl ok)
-fits_behind limit sofar (Operation op) bears ok = absurd (never _ NotSupp refl ok)
+unrolls : (limit at now : ℕ) (here next : Stand) (left : List Item) (item : Item) (s : Status) (choice : Option ℕ) → Stepped limit at now here next item s → is_here choice ≡ is_delay s → at ≤ length here.paper.bytes →
+    run_at limit at now choice here (item ∷ left) ≡ follow (step_at limit at now (is_delay s) here item).outcome (run_at limit at now (behind_here choice) next left)
+unrolls limit at now here next left item s choice did place start =
+    let o = step_at limit at now (is_delay s) here item in
+    let long = grown here.paper next.paper o.outcome.result did.put in
+    let sofar : so_far at here.paper + length o.outcome.result ≡ so_far at next.paper = omega (arith, long, start) in
+    ap (λ (b : Bool). unrolled limit now (step_at limit at now b here item) (so_far at here.paper + length (step_at limit at now b here item).outcome.result) (behind_here choice)
+    (step_at limit at now b here item).outcome.machine (step_at limit at now b here item).context left) place
+    ∙ ap (λ (n : ℕ). unrolled limit now o n (behind_here choice) o.outcome.machine o.context left) sofar
+    ∙ ap (λ (m : Machine). unrolled limit now o (so_far at next.paper) (behind_here choice) m o.context left) (sym did.machine)
+    ∙ ap (λ (x : Context). unrolled limit now o (so_far at next.paper) (behind_here choice) next.machine x left) (sym did.context)
 
 -- one more was run, and the run goes on
-pub goes_on : (limit at : ℕ) (before here new : Paper) (all left : List Item) (item : Item) (done : ℕ) (r : Res) → Going limit at before here all (item ∷ left) done →
-    r ≡ refused_in limit (so_far at here) item → status_of_result r ≡ Nfs4Ok → Puts here new (spell_result r) → Going limit at before new all left (done + 1)
-goes_on limit at before here new all left item done r going is ok put =
+pub goes_on : (limit at now : ℕ) (first here next : Stand) (all left : List Item) (item : Item) (done : ℕ) (s : Status) → Going limit at now first here all (item ∷ left) done →
+    Stepped limit at now here next item s → s ≡ Nfs4Ok → length next.paper.bytes + so_far at here.paper + 12 ≤ length here.paper.bytes + limit → Going limit at now first next all left (done + 1)
+goes_on limit at now first here next all left item done s going did ok short =
     let start = going.start in
-    let fit = going.fits in
-    let text = spell_result (refused_in limit (so_far at here) item) in
-    let put_text : Puts here new text = subst (λ (r : Res). Puts here new (spell_result r)) is put in
-    let long = grown here new text put_text in
-    let bears : CanBear item = going.bears item (inl refl) in
-    let granted : status_of_result (refused_in limit (so_far at here) item) ≡ Nfs4Ok = ap status_of_result (sym is) ∙ ok in
-    let status : status_in limit (so_far at here) item ≡ Nfs4Ok = sym (refused_status (item_number item) (status_in limit (so_far at here) item)) ∙ granted in
-    let short = fits_behind limit (so_far at here) item bears status in
-    let next : so_far at here + length text ≡ so_far at new = omega (arith, long, start) in
+    let o = (step_at limit at now (is_delay s) here item).outcome in
+    let long = grown here.paper next.paper o.result did.put in
     record {
       bears = λ i there. going.bears i (inr there);
       few = (let few = going.few in omega (arith, few));
       start = omega (arith, long, start);
       fits = omega (arith, long, start, short);
-      room = put.room ∙ going.room;
-      ran = λ m. subst (λ n. Joins (run limit (so_far at before) m all) (run limit n m left) (done + 1) before.bytes new.bytes) next
-          (joined (in_room limit (so_far at here) m item) (run limit (so_far at before) m all) (run limit (so_far at here + length text) m left) done before.bytes here.bytes new.bytes granted (going.ran m) put_text.bytes);
+      room = did.put.room ∙ going.room;
+      ran = λ choice.
+          (let whole = going.ran (later choice) in
+          let place : is_here (later choice) ≡ is_delay s = later_not_here choice ∙ sym (ap is_delay ok) in
+          let rest : run_at limit at now (later choice) here (item ∷ left) ≡ follow o (run_at limit at now choice next left) =
+          unrolls limit at now here next left item s (later choice) did place start ∙ ap (λ (c : Option ℕ). follow o (run_at limit at now c next left)) (later_behind choice) in (
+            whole.0,
+            joined o (run_at limit at now whole.0 first all) (run_at limit at now choice next left) done first.paper.bytes here.paper.bytes next.paper.bytes (sym did.status ∙ ok)
+                (subst (λ (ran : Ran). Joins (run_at limit at now whole.0 first all) ran done first.paper.bytes here.paper.bytes) rest whole.1) did.put.bytes,
+          ));
     }
 
 -- one more was run, and the run ends with it
-pub ends_with : (limit at : ℕ) (before here new : Paper) (all left : List Item) (item : Item) (done : ℕ) (r : Res) (s : Status) → Going limit at before here all (item ∷ left) done →
-    r ≡ refused_in limit (so_far at here) item → s ≡ status_of_result r → is_ok s ≡ false → Puts here new (spell_result r) →
-    (m : Machine) → RunsTo (run limit (so_far at before) m all) (record { status = s; count = done + 1 }) m before new
-ends_with limit at before here new all left item done r s going is told bad put m =
-    let o = in_room limit (so_far at here) m item in
-    let whole = run limit (so_far at before) m all in
-    let status : s ≡ o.status = told ∙ ap status_of_result is in
-    let refused : is_ok o.status ≡ false = ap is_ok (sym status) ∙ bad in
-    let j : Joins whole (only o) done before.bytes here.bytes = subst (λ (ran : Ran). Joins whole ran done before.bytes here.bytes) (stopped o (run limit (so_far at here + length o.result) o.machine left) refused) (going.ran m) in
-    record {
-      status = status ∙ sym j.status;
-      count = sym j.count;
-      machine = sym j.machine;
-      put = record {
-        bytes = put.bytes ∙ ap (λ (r : Res). here.bytes ++ spell_result r) is ∙ sym j.results;
-        room = put.room ∙ going.room;
-      };
-    }
+pub ends_with : (limit at now : ℕ) (first here next : Stand) (all left : List Item) (item : Item) (done : ℕ) (s : Status) → Going limit at now first here all (item ∷ left) done →
+    Stepped limit at now here next item s → is_ok s ≡ false → (choice : Option ℕ) × RunsTo (run_at limit at now choice first all) (record { status = s; count = done + 1 }) next.machine first.paper next.paper
+ends_with limit at now first here next all left item done s going did bad =
+    let choice = choice_of (is_delay s) in
+    let o = (step_at limit at now (is_delay s) here item).outcome in
+    let w = going.ran choice in
+    let whole = run_at limit at now w.0 first all in
+    let rest = run_at limit at now (behind_here choice) next left in
+    let refused : is_ok o.status ≡ false = ap is_ok (sym did.status) ∙ bad in
+    let last : run_at limit at now choice here (item ∷ left) ≡ only o = unrolls limit at now here next left item s choice did (chosen (is_delay s)) going.start ∙ stopped o rest refused in
+    let j : Joins whole (only o) done first.paper.bytes here.paper.bytes = subst (λ (ran : Ran). Joins whole ran done first.paper.bytes here.paper.bytes) last w.1 in (
+      w.0,
+      record {
+        status = did.status ∙ sym j.status;
+        count = sym j.count;
+        machine = did.machine ∙ sym j.machine;
+        put = record { bytes = did.put.bytes ∙ sym j.results; room = did.put.room ∙ going.room };
+      },
+    )
 
-pub ends_within : (limit at : ℕ) (before here new : Paper) (all left : List Item) (item : Item) (done : ℕ) (r : Res) → Going limit at before here all (item ∷ left) done →
-    r ≡ refused_in limit (so_far at here) item → Puts here new (spell_result r) → length new.bytes + 24 ≤ at + limit
-ends_within limit at before here new all left item done r going is put =
-    let long = grown here new (spell_result r) put in
-    let fit = going.fits in
-    let short : length (spell_result r) ≤ 12 = subst (λ (r : Res). length (spell_result r) ≤ 12) (sym is) (refusal_short (item_number item) (status_in limit (so_far at here) item)) in
-    omega (arith, long, fit, short)
+pub ends_within : (limit at now : ℕ) (first here : Stand) (next : Paper) (all left : List Item) (item : Item) (done : ℕ) → Going limit at now first here all (item ∷ left) done →
+    length next.bytes + so_far at here.paper ≤ length here.paper.bytes + limit → length next.bytes + 24 ≤ at + limit
+ends_within limit at now first here next all left item done going short = (let start = going.start in omega (arith, start, short))
 
-pub ends : (limit at : ℕ) (before here : Paper) (all : List Item) (done : ℕ) → Going limit at before here all [] done →
-    (m : Machine) → RunsTo (run limit (so_far at before) m all) (record { status = Nfs4Ok; count = done }) m before here
-ends limit at before here all done going m =
-    let j = going.ran m in
-    record {
-      status = sym j.status;
-      count = (let c = j.count in omega (arith, c));
-      machine = sym j.machine;
-      put = record { bytes = sym (append-nil here.bytes) ∙ sym j.results; room = going.room };
-    }
-
--- what the next item answers can be put
-pub puts_bounded : (limit at : ℕ) (before here : Paper) (all left : List Item) (item : Item) (done : ℕ) (r : Res) → Going limit at before here all (item ∷ left) done →
-    r ≡ refused_in limit (so_far at here) item → IsBounded r
-puts_bounded limit at before here all left item done r going is =
-    subst IsBounded (sym is) (refusal_bounded (item_number item) (status_in limit (so_far at here) item) (behind_bears item (nat_lt limit (so_far at here + largest item + 12)) (going.bears item (inl refl))))
-
-pub puts_fit : (limit at : ℕ) (before here : Paper) (all left : List Item) (item : Item) (done : ℕ) (r : Res) → at + limit ≤ before.room + 24 → Going limit at before here all (item ∷ left) done →
-    r ≡ refused_in limit (so_far at here) item → HasRoom here (spell_result r)
-puts_fit limit at before here all left item done r room going is =
-    let short : length (spell_result r) ≤ 12 = subst (λ (r : Res). length (spell_result r) ≤ 12) (sym is) (refusal_short (item_number item) (status_in limit (so_far at here) item)) in
-    let fit = going.fits in
-    let same = going.room in
-    omega (arith, short, fit, same, room)
+pub ends : (limit at now : ℕ) (first here : Stand) (all : List Item) (done : ℕ) → Going limit at now first here all [] done →
+    (choice : Option ℕ) × RunsTo (run_at limit at now choice first all) (record { status = Nfs4Ok; count = done }) here.machine first.paper here.paper
+ends limit at now first here all done going =
+    let w = going.ran None in
+    let j = w.1 in (
+      w.0,
+      record {
+        status = sym j.status;
+        count = (let c = j.count in omega (arith, c));
+        machine = sym j.machine;
+        put = record { bytes = sym (append-nil here.paper.bytes) ∙ sym j.results; room = going.room };
+      },
+    )
 
 pub not_ok : (s : Status) → (s ≡ Nfs4Ok → ⊥) → is_ok s ≡ false
 not_ok Nfs4Ok other = absurd (other refl)
 not_ok s other = refl
 
--- what the code's check of room answers
-pub refused_here : (limit at : ℕ) (here : Paper) (item : Item) (given head len : ℕ) (r : Res) → r ≡ refused_in given (head + (len - at)) item → given ≡ limit → head ≡ 24 → len ≡ length here.bytes → r ≡ refused_in limit (so_far at here) item
-refused_here limit at here item given head len r is same front long =
-    is ∙ ap (λ n. refused_in n (head + (len - at)) item) same ∙ ap (λ n. refused_in limit (n + (len - at)) item) front ∙ ap (λ n. refused_in limit (24 + (n - at)) item) long
+-- the bytes so far as the code counts them
+pub counted : (P : (limit sofar : ℕ) → Type 0) (limit at : ℕ) (here : Paper) (given head len : ℕ) → given ≡ limit → head ≡ 24 → len ≡ length here.bytes → P given (head + (len - at)) → P limit (so_far at here)
+counted P limit at here given head len same front long p =
+    subst (λ n. P limit (24 + (n - at))) long (subst (λ n. P limit (n + (len - at))) front (subst (λ n. P n (head + (len - at))) same p))

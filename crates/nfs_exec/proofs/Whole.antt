@@ -21,8 +21,10 @@ use Rattle.nfs_sessions.specs.Id.{id_of}
 use Rattle.nfs_exec.specs.Machine.{Machine, is_delay}
 use Rattle.nfs_exec.specs.Sequence.{Sequenced, Refuses, Repeats, Runs, unless, by_verdict, by_session, slot_fault, sequenced}
 use Rattle.nfs_exec.specs.Run.{only}
-use Rattle.nfs_exec.specs.Compound.{Answered, answers, is_here, first_item, in_session, by_first, compound, Answers}
+use Rattle.nfs_exec.specs.Compound.{Answered, answers, first_item, in_session, by_first, compound, Answers}
+use Rattle.nfs_exec.specs.Run.{is_here}
 use Rattle.nfs_exec.specs.View.{Does}
+use Rattle.nfs_exec.proofs.Running.{choice_of, chosen}
 use Rattle.nfs_exec.proofs.Keeping.{closed_one}
 
 -- what is left of the list decides nothing
@@ -38,28 +40,22 @@ session_same : (r : Request) (xs : List Item) (who : Caller) (size : ℕ) (s : S
 session_same r xs who size s None = refl
 session_same r xs who size s (Some x) = ap (unless (slot_fault s x.slots.channel)) (verdict_same r xs size s x.slots (judge x.slots s.slotid s.sequenceid who.uid r.bytes))
 
-answer_same : (m : Machine) (r : Request) (xs : List Item) (who : Caller) (now : ℕ) (s : Sequence) (more : List Item) (v : Sequenced) → in_session m (record r { left = xs }) who now s more v ≡ in_session m r who now s more v
-answer_same m r xs who now s more (Refuses status) = refl
-answer_same m r xs who now s more (Repeats reply) = refl
-answer_same m r xs who now s more (Runs c) = refl
+answer_same : (m : Machine) (r : Request) (xs : List Item) (who : Caller) (now : ℕ) (choice : Option ℕ) (s : Sequence) (more : List Item) (v : Sequenced) →
+    in_session m (record r { left = xs }) who now choice s more v ≡ in_session m r who now choice s more v
+answer_same m r xs who now choice s more (Refuses status) = refl
+answer_same m r xs who now choice s more (Repeats reply) = refl
+answer_same m r xs who now choice s more (Runs c) = refl
 
-pub for_sequence : (m : Machine) (r q : Request) (who : Caller) (size now : ℕ) (s : Sequence) (old new : Paper) (left : Machine) → r.minor ≡ 1 → r.left ≡ Operation (OpSequence s) ∷ q.left → q ≡ record r { left = q.left } →
-    Answers (in_session m q who now s q.left (sequenced m q who size s)) old new left → Answers (compound m r who size now None) old new left
-for_sequence m r q who size now s old new left one list is did =
-    let whole : compound m r who size now None ≡ in_session m r who now s q.left (sequenced m r who size s) = rw (eq-eqb r.minor 1 one, list) refl in
-    let same : in_session m q who now s q.left (sequenced m q who size s) ≡ in_session m r who now s q.left (sequenced m r who size s) =
-    ap (λ (p : Request). in_session m p who now s q.left (sequenced m p who size s)) is ∙ answer_same m r q.left who now s q.left (by_session (record r { left = q.left }) who size s (session_at m.sessions (id_of s.sessionid))) ∙ ap (in_session m r who now s q.left) (session_same r q.left who size s (session_at m.sessions (id_of s.sessionid))) in
+pub for_sequence : (m : Machine) (r q : Request) (who : Caller) (size now : ℕ) (choice : Option ℕ) (s : Sequence) (old new : Paper) (left : Machine) → r.minor ≡ 1 → r.left ≡ Operation (OpSequence s) ∷ q.left → q ≡ record r { left = q.left } →
+    Answers (in_session m q who now choice s q.left (sequenced m q who size s)) old new left → Answers (compound m r who size now choice) old new left
+for_sequence m r q who size now choice s old new left one list is did =
+    let whole : compound m r who size now choice ≡ in_session m r who now choice s q.left (sequenced m r who size s) = rw (eq-eqb r.minor 1 one, list) refl in
+    let found = session_at m.sessions (id_of s.sessionid) in
+    let same : in_session m q who now choice s q.left (sequenced m q who size s) ≡ in_session m r who now choice s q.left (sequenced m r who size s) =
+    ap (λ (p : Request). in_session m p who now choice s q.left (sequenced m p who size s)) is
+    ∙ answer_same m r q.left who now choice s q.left (by_session (record r { left = q.left }) who size s found)
+    ∙ ap (in_session m r who now choice s q.left) (session_same r q.left who size s found) in
     subst (λ (a : Answered). Answers a old new left) (same ∙ sym whole) did
-
--- the place at which memory was refused, as the status shows it
-choice_of : Bool → Option ℕ
-choice_of true = Some zero
-choice_of false = None
-
-here : (refused : Bool) → is_here (choice_of refused) ≡ refused
-unfolding choice_of
-here true = refl
-here false = refl
 
 other_first : (m : Machine) (r : Request) (who : Caller) (size now : ℕ) (choice : Option ℕ) (a : Arg) (more : List Item) → ((x : _) → a ≡ Args.Sequence x → ⊥) →
     by_first m r who size now choice (item a ∷ more) ≡ answers r (only (first_item m r.declared who now (is_here choice) (item a)))
@@ -74,7 +70,7 @@ for_other m r who size now declared a more status status_at count_at tag before 
     let choice = choice_of (is_delay status) in
     let o = first_item m declared who now (is_delay status) (item a) in
     let whole : compound m r who size now choice ≡ answers r (only o) =
-    rw (eq-eqb r.minor 1 one, list) (other_first m r who size now choice a more other) ∙ ap (λ (refused : Bool). answers r (only (first_item m r.declared who now refused (item a)))) (here (is_delay status))
+    rw (eq-eqb r.minor 1 one, list) (other_first m r who size now choice a more other) ∙ ap (λ (refused : Bool). answers r (only (first_item m r.declared who now refused (item a)))) (chosen (is_delay status))
     ∙ ap (λ (n : ℕ). answers r (only (first_item m n who now (is_delay status) (item a)))) (sym count) in
     let text : Puts before last (spell_compound_head o.status r.tag 1 ++ o.result) =
     subst (λ (t : List ℕ). Puts before last (spell_compound_head o.status t 1 ++ o.result)) named

@@ -16,18 +16,14 @@ use Rattle.nfs_sessions.specs.declared.slots.TheConstants.{RPC_HEAD}
 use Rattle.nfs_sessions.specs.Id.{id_of}
 use Rattle.nfs_sessions.specs.Sessions.{keep}
 use Rattle.nfs_lease.specs.Renewals.{with_renewal}
+use Rattle.nfs_names.specs.Context.{begins}
 use Rattle.nfs_exec.specs.Machine.{Machine, Outcome, comes_to, refuses, or_delay}
 use Rattle.nfs_exec.specs.Place.{item_fault}
 use Rattle.nfs_exec.specs.ExchangeId.{exchange_id, exchange_id_number}
 use Rattle.nfs_exec.specs.CreateSession.{create_session}
 use Rattle.nfs_exec.specs.Destroy.{destroy_session, destroy_client}
 use Rattle.nfs_exec.specs.Sequence.{Sequenced, Refuses, Repeats, Runs, sequenced, accepted, sequence_number}
-use Rattle.nfs_exec.specs.Run.{Ran, run, finished, only, follow}
-
--- The place at which memory was refused, if any, is counted from here.
-abbrev pub is_here : Option ℕ → Bool
-is_here (Some zero) = true
-is_here _ = false
+use Rattle.nfs_exec.specs.Run.{Ran, run, finished, only, follow, is_here, behind_here}
 
 -- The bytes of the result of a compound, from its status on, and the machine behind it.
 pub record Answered : Type 0 where
@@ -65,23 +61,27 @@ renewed m now s = record m { leases = with_renewal m.leases (id_of s.sessionid).
 abbrev pub begun : Request → Sequence → Channel → ℕ
 begun r s c = RPC_HEAD + length (spell_compound_head Nfs4Ok r.tag 0) + length (spell_result (ResSequence (accepted s c)))
 
--- SEQUENCE answers, and what is behind it runs in what the channel lets pass
-abbrev pub runs_behind : Machine → Request → Sequence → Channel → List Item → Ran
-runs_behind m r s c more = follow (comes_to m (ResSequence (accepted s c))) (run c.response (begun r s c) m more)
+-- what is behind SEQUENCE runs for the session's client, in what the channel lets pass
+abbrev pub run_in : Machine → Request → Caller → ℕ → Option ℕ → Sequence → Channel → List Item → Ran
+run_in m r who now choice s c more = run c.response (begun r s c) now choice m (begins (id_of s.sessionid).client who) more
+
+-- SEQUENCE answers, and what is behind it runs
+abbrev pub runs_behind : Machine → Request → Caller → ℕ → Option ℕ → Sequence → Channel → List Item → Ran
+runs_behind m r who now choice s c more = follow (comes_to m (ResSequence (accepted s c))) (run_in m r who now (behind_here choice) s c more)
 
 -- the slot keeps the whole answer
 abbrev pub keeps : Request → Caller → Sequence → Answered → Answered
 keeps r who s a = record a { machine = record a.machine { sessions = keep a.machine.sessions (id_of s.sessionid) s.slotid s.sequenceid who.uid r.bytes a.text } }
 
 -- a refusal and a repeat change nothing
-abbrev pub in_session : Machine → Request → Caller → ℕ → Sequence → List Item → Sequenced → Answered
-in_session m r who now s more (Refuses status) = answers r (only (refuses m sequence_number status))
-in_session m r who now s more (Repeats reply) = record { text = reply; machine = m }
-in_session m r who now s more (Runs c) = keeps r who s (answers r (runs_behind (renewed m now s) r s c more))
+abbrev pub in_session : Machine → Request → Caller → ℕ → Option ℕ → Sequence → List Item → Sequenced → Answered
+in_session m r who now choice s more (Refuses status) = answers r (only (refuses m sequence_number status))
+in_session m r who now choice s more (Repeats reply) = record { text = reply; machine = m }
+in_session m r who now choice s more (Runs c) = keeps r who s (answers r (runs_behind (renewed m now s) r who now choice s c more))
 
 abbrev pub by_first : Machine → Request → Caller → (size now : ℕ) → Option ℕ → List Item → Answered
 by_first m r who size now choice [] = bare r Nfs4Ok m
-by_first m r who size now choice (Operation (OpSequence s) ∷ more) = in_session m r who now s more (sequenced m r who size s)
+by_first m r who size now choice (Operation (OpSequence s) ∷ more) = in_session m r who now choice s more (sequenced m r who size s)
 by_first m r who size now choice (item ∷ more) = answers r (only (first_item m r.declared who now (is_here choice) item))
 
 -- The answer to a request of a caller, in a record of so many bytes, at a moment, with the place, if any, at which memory

@@ -1,6 +1,6 @@
 -- CREATE_SESSION (RFC 8881 section 18.36): the table of clients judges its number, the table of sessions what it asks for.
 -- What a number came to is kept with its client, and answered again for that number.
-use Rattle.std.specs.Prelude.{ℕ, Bool, List, ◌++◌, Option, Some, None, Result, Ok, Err}
+use Rattle.std.specs.Prelude.{ℕ, ◌==◌, not, Bool, List, ◌++◌, Option, Some, None, Result, Ok, Err}
 use Rattle.nfs_xdr.specs.declared.status.Status.TheVariants.{Nfs4Ok, StaleClientId, SeqMisordered, ClidInUse}
 use Rattle.nfs_compound.specs.declared.op_num.OpNum.TheVariants as Op
 use Rattle.nfs_compound.specs.OpNum.{op_number}
@@ -21,6 +21,8 @@ use Rattle.nfs_sessions.specs.Channel.{granted}
 use Rattle.nfs_sessions.specs.Id.{id_bytes}
 use Rattle.nfs_sessions.specs.Sessions.{SessionTable, Created, create, fault_status, without_client}
 use Rattle.nfs_lease.specs.Renewals.{with_renewal}
+use Rattle.nfs_names.specs.State.{State}
+use Rattle.nfs_names.specs.Ending.{staying}
 use Rattle.nfs_xdr.specs.Caller.{Caller}
 use Rattle.nfs_exec.specs.Machine.{Machine, Outcome, refuses, or_delay}
 use Rattle.nfs_exec.specs.ExchangeId.{without_any_lease}
@@ -50,13 +52,18 @@ abbrev pub without_any_sessions : SessionTable → Option ℕ → SessionTable
 without_any_sessions t None = t
 without_any_sessions t (Some client) = without_client t client
 
+abbrev pub without_any_opens : State → Option ℕ → State
+without_any_opens s None = s
+without_any_opens s (Some client) = staying (λ c. not (c == client)) s
+
 -- The record is confirmed, with what its number came to, and its lease renewed; the owner's other confirmed record goes with
--- its sessions and its lease.
+-- its sessions, its lease, its opens and its locks.
 abbrev pub confirmed : Machine → ℕ → ℕ → List ℕ → Machine
 confirmed m now client body = record {
   clients = with_kept (with_confirmed m.clients client) client (Done body);
   sessions = without_any_sessions m.sessions (leaving m.clients client);
   leases = with_renewal (without_any_lease m.leases (leaving m.clients client)) client now;
+  store = without_any_opens m.store (leaving m.clients client);
 }
 
 abbrev pub by_created : Machine → ℕ → CreateSession → SessionTable → Result SessionId SessionFault → Outcome

@@ -1,8 +1,10 @@
--- Expiry (RFC 8881 section 8.3): the clients whose lease has run out at a moment go, with their sessions and leases.
+-- Expiry (RFC 8881 section 8.3): the clients whose lease has run out at a moment go, with their sessions, leases, opens and
+-- locks, and with each object that then has neither a row nor an open.
 use Rattle.std.specs.Prelude.{ℕ, not, filter, None, if◌then◌else◌}
 use Rattle.nfs_clients.specs.Roster.{Roster}
 use Rattle.nfs_sessions.specs.Sessions.{SessionTable}
 use Rattle.nfs_lease.specs.Renewals.{Book, has_run_out}
+use Rattle.nfs_names.specs.Ending.{staying}
 use Rattle.nfs_exec.specs.Machine.{Machine}
 
 abbrev pub clients_kept : Book → ℕ → Roster → Roster
@@ -19,4 +21,5 @@ expired now m = record {
   clients = clients_kept m.leases now m.clients;
   sessions = sessions_kept m.leases now m.sessions;
   leases = leases_kept m.leases now;
+  store = staying (λ client. not (has_run_out m.leases now client)) m.store;
 }

@@ -4,6 +4,8 @@ pub mod ExchangeId
 pub mod CreateSession
 pub mod Destroy
 pub mod Sequence
+pub mod ReclaimComplete
+pub mod Behind
 pub mod Run
 pub mod Compound
 pub mod Expiry

@@ -6,8 +6,11 @@ use Rattle.nfs_xdr.specs.declared.status.Status.TheVariants.{Nfs4Ok, Delay}
 use Rattle.nfs_xdr.specs.Status.{status_number}
 use Rattle.nfs_xdr.specs.Tables.{In}
 use Rattle.nfs_clients.specs.Roster.{Roster, IsRoster, no_clients, client_at}
+use Rattle.nfs_clients.specs.Marks.{with_open}
+use Rattle.nfs_names.specs.Ending.{has_open}
 use Rattle.nfs_sessions.specs.Sessions.{Session, SessionTable, no_sessions}
 use Rattle.nfs_lease.specs.Renewals.{Book, no_leases}
+use Rattle.nfs_names.specs.State.{State, new_store, moment}
 use Rattle.nfs_results.specs.Result.{Res}
 use Rattle.nfs_results.specs.Results.{status_of_result, spell_result, refusal}
 
@@ -15,10 +18,20 @@ pub record Machine : Type 0 where
   pub clients : Roster
   pub sessions : SessionTable
   pub leases : Book
+  pub store : State
 
--- the machine of a new server, whose leases last so many seconds
-abbrev pub starts : (instance lease : ℕ) → Machine
-starts instance lease = record { clients = no_clients instance; sessions = no_sessions; leases = no_leases lease }
+-- the machine of a new server, whose leases last so many seconds, and whose root has a mode and the first moment as its times
+abbrev pub starts : (mode instance lease : ℕ) → Machine
+starts mode instance lease = record {
+  clients = no_clients instance;
+  sessions = no_sessions;
+  leases = no_leases lease;
+  store = new_store mode (moment 0) instance lease;
+}
+
+-- a client's record has the mark of an open where one of its opens stands
+abbrev pub with_mark : ℕ → Machine → Machine
+with_mark client m = record m { clients = with_open m.clients client (has_open m.store client) }
 
 -- What one operation comes to: its status, its result as it is spelled, and the machine behind it.
 pub record Outcome : Type 0 where

@@ -34,8 +34,8 @@ abbrev pub item_fault : ℕ → Item → Option Status
 item_fault declared (Operation op) = place_fault declared op
 item_fault declared (Fault number status) = Some status
 
--- What an item behind SEQUENCE is refused with. The four operations that stand alone are not supported there (this server's
--- profile), and the others are read and not carried out yet.
+-- What an item behind SEQUENCE is refused with, where nothing carries it out: the four operations that stand alone are not
+-- supported there (this server's profile).
 abbrev pub status_behind : Item → Status
 status_behind (Fault number status) = status
 status_behind (Operation (OpSequence s)) = SequencePos

@@ -1,23 +1,28 @@
 -- What the code's tables and answers say.
-use Rattle.std.specs.Prelude.{◌≡◌, ℕ, if◌then◌else◌}
+use Rattle.std.specs.Prelude.{◌≡◌, ℕ, ◌==◌, not, Option, if◌then◌else◌}
 use Rattle.nfs_xdr.specs.declared.status.Status.{Status}
 use Rattle.nfs_xdr.specs.Paper.{Paper, Puts}
 use Rattle.nfs_clients.specs.Roster.{without}
 use Rattle.nfs_sessions.specs.Sessions as sessions
+use Rattle.nfs_names.specs.declared.context.Context.{Context}
+use Rattle.nfs_names.specs.State.{state_of, IsStore}
+use Rattle.nfs_names.specs.Ending.{staying}
 use Rattle.nfs_lease.specs.Renewals.{Book, leases_of, without_lease}
 use Rattle.nfs_exec.specs.declared.tables.Tables.{Tables}
 use Rattle.nfs_exec.specs.declared.sequence.Sequenced.{Sequenced as Code}
 use Rattle.nfs_exec.specs.declared.sequence.Sequenced.TheVariants as code
 use Rattle.nfs_exec.specs.declared.run.Ran as told
-use Rattle.nfs_exec.specs.Machine.{Machine, Outcome}
+use Rattle.nfs_exec.specs.Machine.{Machine, IsMachine, Outcome}
+use Rattle.nfs_exec.specs.Behind.{Step}
 use Rattle.nfs_exec.specs.Run.{Ran}
 use Rattle.nfs_exec.specs.ExchangeId.{without_any_lease}
+use Rattle.nfs_exec.specs.CreateSession.{without_any_sessions, without_any_opens}
 use Rattle.nfs_clients.specs.declared.exchange_id.Exchanged.{Exchanged}
 use Rattle.nfs_exec.specs.Sequence.{Sequenced, Refuses, Repeats, Runs}
 
 -- the machine that the tables are
 abbrev pub machine_of : Tables → Machine
-machine_of t = record { clients = t.clients; sessions = t.sessions; leases = leases_of t.leases }
+machine_of t = record { clients = t.clients; sessions = t.sessions; leases = leases_of t.leases; store = state_of t.store }
 
 abbrev pub sequenced_of : Code → Sequenced
 sequenced_of (code.Refuses status) = Refuses status
@@ -30,6 +35,14 @@ pub record Does (o : Outcome) (returned : Status) (left : Machine) (old new : Pa
   pub machine : left ≡ o.machine
   pub put : Puts old new o.result
 
+-- An operation behind SEQUENCE was run: its result stands on the sheet, its status was returned, and the machine and the context
+-- behind it were left.
+pub record Steps (s : Step) (returned : Status) (left : Machine) (behind : Context) (old new : Paper) : Type 0 where
+  pub status : returned ≡ s.outcome.status
+  pub machine : left ≡ s.outcome.machine
+  pub context : behind ≡ s.context
+  pub put : Puts old new s.outcome.result
+
 -- The operations were run: their results stand on the sheet, the machine behind them is this one, and what was returned of
 -- them is so.
 pub record RunsTo (ran : Ran) (told : told.Ran) (left : Machine) (old new : Paper) : Type 0 where
@@ -38,13 +51,22 @@ pub record RunsTo (ran : Ran) (told : told.Ran) (left : Machine) (old new : Pape
   pub machine : left ≡ ran.machine
   pub put : Puts old new ran.results
 
--- a client goes with its sessions and its lease
+-- a client goes with its sessions, its lease, its opens and its locks
 abbrev pub without_client : Machine → ℕ → Machine
-without_client m client = record { clients = without m.clients client; sessions = sessions.without_client m.sessions client; leases = without_lease m.leases client }
+without_client m client = record { clients = without m.clients client; sessions = sessions.without_client m.sessions client; leases = without_lease m.leases client; store = staying (λ c. not (c == client)) m.store }
+
+-- who leaves for another record, if anybody, goes with its sessions, its lease, its opens and its locks
+abbrev pub without_left : Machine → Option ℕ → Machine
+without_left m o = record m { sessions = without_any_sessions m.sessions o; leases = without_any_lease m.leases o; store = without_any_opens m.store o }
 
 -- the lease that an EXCHANGE_ID made first stands where its record was added, in place of the one that was replaced; else it is taken back
 abbrev pub settled : Book → ℕ → Exchanged → Book
 settled b next x = if x.added then without_any_lease b x.replaced else without_lease b next
+
+-- What holds of the tables between two records.
+pub record IsKept (t : Tables) : Type 0 where
+  pub machine : IsMachine (machine_of t)
+  pub store : IsStore (state_of t.store)
 
 -- what a world is kept as; other crates see it through `machine_of` alone
 abbrev pub Kept : Type 0

@@ -1,24 +1,24 @@
 //! A compound over the tables (RFC 8881 sections 2.10.6.4 and 16.2).
 
-ghost use Rattle.std.specs.Prelude.{◌≡◌, ◌≤◌, ◌+◌, ℕ, Option, length};
+ghost use Rattle.std.specs.Prelude.{◌≡◌, ◌≤◌, ◌<◌, ◌^◌, ◌+◌, ℕ, Option, length};
 ghost use Rattle.nfs_xdr.specs.Caller.{caller};
 ghost use Rattle.nfs_xdr.specs.Tables.{In};
-ghost use Rattle.nfs_xdr.specs.Paper.{Puts};
 ghost use Rattle.nfs_compound.specs.Operation.{Item};
 ghost use Rattle.nfs_compound.specs.View.{item};
 ghost use Rattle.nfs_lease.specs.Renewals.{IsLatest};
 ghost use Rattle.nfs_sessions.specs.Channel.{IsGranted};
-ghost use Rattle.nfs_exec.specs.Machine.{Machine, IsMachine, is_delay};
+ghost use Rattle.nfs_names.specs.State.{IsStore};
+ghost use Rattle.nfs_exec.specs.Machine.{IsMachine, is_delay};
 ghost use Rattle.nfs_exec.specs.Place.{CanBear};
 ghost use Rattle.nfs_exec.specs.Sequence.{Runs, sequenced};
 ghost use Rattle.nfs_exec.specs.Compound.{compound, first_item, in_session, answers, runs_behind, IsOpened, HasReplyRoom, Answers};
-ghost use Rattle.nfs_exec.specs.View.{machine_of, Does};
+ghost use Rattle.nfs_exec.specs.View.{machine_of, Does, IsKept};
 
 use crate::place::fault_in_first_place;
-use crate::run::run;
 use crate::sequence::{Sequenced, accepted, judge};
 use crate::tables::Tables;
 use nfs_compound::{Arg, Compound, OpNum, Sequence};
+use nfs_names::Context;
 use nfs_results::{OpenHead, Res, write, write_compound_head};
 use nfs_sessions::{Channel, SessionId};
 use nfs_xdr::{Sheet, Status, Who};
@@ -35,13 +35,15 @@ impl Tables {
         now: u64,
         out: &mut Sheet,
     )
-        requires machine { IsMachine (machine_of self.old) }
+        requires kept { IsKept self.old }
         requires opened { IsOpened args.old }
         requires size { length args.old.bytes ≤ size }
+        requires moment { now < 2 ^ 63 }
         requires latest { IsLatest (machine_of self.old).leases now }
         requires room { HasReplyRoom out.old }
-        ensures { (choice : Option ℕ)
+        ensures answer { (choice : Option ℕ)
             × Answers (compound (machine_of self.old) args.old (caller who.now) size now choice) out.old out.new (machine_of self.new) }
+        ensures store { IsStore (machine_of self.new).store }
     {
         let tag = args.tag();
         if args.minor() != 1 {
@@ -53,7 +55,7 @@ impl Tables {
             return;
         };
         match &arg {
-            Arg::Sequence(asked) => self.in_session(asked, args, who, size, now, out),
+            Arg::Sequence(asked) => self.in_session(alloc, asked, args, who, size, now, out),
             arg => {
                 let head = OpenHead::put(tag, out);
                 let status = self.alone(alloc, arg, args.declared(), who, now, out);
@@ -74,6 +76,7 @@ impl Tables {
     ) -> Status
         requires bears { CanBear (item arg.now) }
         requires machine { IsMachine (machine_of self.old) }
+        requires store { IsStore (machine_of self.old).store }
         requires latest { IsLatest (machine_of self.old).leases now }
         requires room { length out.old.bytes + 92 ≤ out.old.room }
         ensures { Does (first_item (machine_of self.old) declared (caller who.now) now (is_delay result) (item arg.now)) result (machine_of self.new) out.old out.new }
@@ -97,6 +100,7 @@ impl Tables {
     /// Runs a compound that SEQUENCE begins: it is refused, or its kept reply is put again, or what is left of it runs.
     fn in_session(
         &mut self,
+        alloc: Global,
         asked: &Sequence,
         args: &mut Compound<'_>,
         who: &Who,
@@ -108,9 +112,14 @@ impl Tables {
         requires few { length args.old.left ≤ args.old.declared }
         requires tag { length args.old.tag ≤ 1024 }
         requires size { length args.old.bytes ≤ size }
+        requires moment { now < 2 ^ 63 }
+        requires store { IsStore (machine_of self.old).store }
         requires latest { IsLatest (machine_of self.old).leases now }
         requires room { HasReplyRoom out.old }
-        ensures { Answers (in_session (machine_of self.old) args.old (caller who.now) now asked.now args.old.left (sequenced (machine_of self.old) args.old (caller who.now) size asked.now)) out.old out.new (machine_of self.new) }
+        ensures answer { (choice : Option ℕ)
+            × Answers (in_session (machine_of self.old) args.old (caller who.now) now choice asked.now args.old.left
+            (sequenced (machine_of self.old) args.old (caller who.now) size asked.now)) out.old out.new (machine_of self.new) }
+        ensures store { IsStore (machine_of self.new).store }
     {
         match judge(&self.sessions, asked, args, who, size) {
             Sequenced::Refuses(status) => {
@@ -118,7 +127,7 @@ impl Tables {
                 write(&Res::refusal(OpNum::Sequence.number(), status), out);
             }
             Sequenced::Repeats(reply) => out.put_bytes(reply),
-            Sequenced::Runs(channel) => self.run_new(asked, &channel, args, who, now, out),
+            Sequenced::Runs(channel) => self.run_new(alloc, asked, &channel, args, who, now, out),
         }
     }
 
@@ -126,6 +135,7 @@ impl Tables {
     /// keeps the whole result.
     fn run_new(
         &mut self,
+        alloc: Global,
         asked: &Sequence,
         channel: &Channel,
         args: &mut Compound<'_>,
@@ -138,14 +148,18 @@ impl Tables {
         requires tag { length args.old.tag ≤ 1024 }
         requires runs { (size : ℕ) × (length args.old.bytes ≤ size) × (sequenced (machine_of self.old) args.old (caller who.now) size asked.now ≡ Runs channel.now) }
         requires granted { IsGranted channel.now }
+        requires moment { now < 2 ^ 63 }
+        requires store { IsStore (machine_of self.old).store }
         requires latest { IsLatest (machine_of self.old).leases now }
         requires room { HasReplyRoom out.old }
-        ensures { Answers (in_session (machine_of self.old) args.old (caller who.now) now asked.now args.old.left (Runs channel.now)) out.old out.new (machine_of self.new) }
+        ensures answer { (choice : Option ℕ)
+            × Answers (in_session (machine_of self.old) args.old (caller who.now) now choice asked.now args.old.left (Runs channel.now)) out.old out.new (machine_of self.new) }
+        ensures store { IsStore (machine_of self.new).store }
     {
         let id = SessionId::from_bytes(&asked.sessionid);
         self.leases.renew(id.client, now);
         let start = out.len();
-        put_run(asked, channel, args, out);
+        self.put_run(alloc, asked, channel, args, who, now, out);
         let reply = &out.bytes()[start..];
         self.sessions.keep(
             &id,
@@ -156,24 +170,37 @@ impl Tables {
             reply,
         );
     }
-}
 
-/// Puts the result of a compound in a session of this channel: SEQUENCE's own, and those of what is left of the compound.
-fn put_run(asked: &Sequence, channel: &Channel, args: &mut Compound<'_>, out: &mut Sheet)
-    requires sessionid { length asked.now.sessionid ≡ 16 }
-    requires bears { (i : Item) → In i args.old.left → CanBear i }
-    requires few { length args.old.left ≤ 64 }
-    requires tag { length args.old.tag ≤ 1024 }
-    requires granted { IsGranted channel.now }
-    requires room { HasReplyRoom out.old }
-    ensures put { (m : Machine) → Puts out.old out.new (answers args.old (runs_behind m args.old asked.now channel.now args.old.left)).text }
-    ensures machine { (m : Machine) → (runs_behind m args.old asked.now channel.now args.old.left).machine ≡ m }
-    ensures fits { length out.new.bytes + 24 ≤ length out.old.bytes + channel.now.response }
-    ensures same { args.new ≡ record args.old { left = args.new.left } }
-{
-    let start = out.len();
-    let head = OpenHead::put(args.tag(), out);
-    write(&Res::Sequence(accepted(asked, channel)), out);
-    let ran = run(args, channel.response, start, out);
-    head.close(ran.status, ran.count + 1, out);
+    /// Puts the result of a compound in a session of this channel: SEQUENCE's own, and those of what is left of the compound.
+    fn put_run(
+        &mut self,
+        alloc: Global,
+        asked: &Sequence,
+        channel: &Channel,
+        args: &mut Compound<'_>,
+        who: &Who,
+        now: u64,
+        out: &mut Sheet,
+    )
+        requires sessionid { length asked.now.sessionid ≡ 16 }
+        requires bears { (i : Item) → In i args.old.left → CanBear i }
+        requires few { length args.old.left ≤ 64 }
+        requires tag { length args.old.tag ≤ 1024 }
+        requires granted { IsGranted channel.now }
+        requires moment { now < 2 ^ 63 }
+        requires store { IsStore (machine_of self.old).store }
+        requires room { HasReplyRoom out.old }
+        ensures answer { (choice : Option ℕ)
+            × Answers (answers args.old (runs_behind (machine_of self.old) args.old (caller who.now) now choice asked.now channel.now args.old.left)) out.old out.new (machine_of self.new) }
+        ensures fits { length out.new.bytes + 24 ≤ length out.old.bytes + channel.now.response }
+        ensures same { args.new ≡ record args.old { left = args.new.left } }
+        ensures store { IsStore (machine_of self.new).store }
+    {
+        let start = out.len();
+        let head = OpenHead::put(args.tag(), out);
+        write(&Res::Sequence(accepted(asked, channel)), out);
+        let mut context = Context::new(SessionId::from_bytes(&asked.sessionid).client, who);
+        let ran = self.run(alloc, args, &mut context, channel.response, start, now, out);
+        head.close(ran.status, ran.count + 1, out);
+    }
 }

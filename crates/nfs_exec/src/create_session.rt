@@ -10,8 +10,9 @@ ghost use Rattle.nfs_results.specs.Straight.{done_head};
 ghost use Rattle.nfs_lease.specs.Renewals.{IsLatest};
 ghost use Rattle.nfs_sessions.specs.Sessions.{create};
 ghost use Rattle.nfs_exec.specs.Machine.{Machine, is_delay, or_delay, refuses};
+ghost use Rattle.nfs_names.specs.State.{IsStore};
 ghost use Rattle.nfs_exec.specs.CreateSession.{create_session, create_session_number, wish_of, session_made, made_body, channel_of, attrs_of, creates, kept_again, confirmed};
-ghost use Rattle.nfs_exec.specs.View.{machine_of, Does};
+ghost use Rattle.nfs_exec.specs.View.{machine_of, without_left, Does};
 
 use crate::tables::Tables;
 use nfs_clients::{CreateResult, CreateVerdict, Resok};
@@ -38,6 +39,7 @@ impl Tables {
         out: &mut Sheet,
     ) -> Status
         requires latest { IsLatest (machine_of self.old).leases now }
+        requires store { IsStore (machine_of self.old).store }
         requires room { length out.old.bytes + 92 ≤ out.old.room }
         ensures { Does (create_session (machine_of self.old) (caller who.now) now (is_delay result) (view_create_session asked.now)) result (machine_of self.new) out.old out.new }
     {
@@ -63,6 +65,7 @@ impl Tables {
         out: &mut Sheet,
     ) -> Status
         requires latest { IsLatest (machine_of self.old).leases now }
+        requires store { IsStore (machine_of self.old).store }
         requires room { length out.old.bytes + 92 ≤ out.old.room }
         ensures { Does (or_delay (is_delay result) (machine_of self.old) create_session_number
             (creates (machine_of self.old) now (view_create_session asked.now) (create self.old.sessions asked.now.clientid (wish_of (machine_of self.old) (view_create_session asked.now)))))
@@ -88,16 +91,26 @@ impl Tables {
     /// Confirms the client, keeps the body of its result, renews its lease, and drops the record that goes for it.
     fn confirm(&mut self, client: u64, leaving: Option<u64>, body: Resok, now: u64)
         requires latest { IsLatest (machine_of self.old).leases now }
+        requires store { IsStore (machine_of self.old).store }
         requires leaving { leaving ≡ clients.leaving self.old.clients client }
         ensures { machine_of self.new ≡ confirmed (machine_of self.old) now client body }
     {
         self.clients.confirm(client);
         self.clients.keep_created(client, CreateResult::Done(body));
-        if let Some(other) = leaving {
-            self.sessions.drop_client(other);
-            self.leases.remove(other);
-        }
+        self.leave(leaving);
         self.leases.renew(client, now);
+    }
+
+    /// Drops what the client has whose record goes for another, if there is one.
+    fn leave(&mut self, leaving: Option<u64>)
+        requires { IsStore (machine_of self.old).store }
+        ensures { machine_of self.new ≡ without_left (machine_of self.old) leaving }
+    {
+        if let Some(client) = leaving {
+            self.sessions.drop_client(client);
+            self.leases.remove(client);
+            self.store.drop_client(client);
+        }
     }
 }
 

@@ -1,6 +1,6 @@
 //! Laws of compounds and of expiry, over their definitions.
 
-ghost use Rattle.nfs_exec.specs.Laws.{RepeatsChangeNothing, RefusalsChangeNothing, ExpiresOnce};
+ghost use Rattle.nfs_exec.specs.Laws.{RepeatsChangeNothing, RefusalsChangeNothing, ExpiresOnce, ExpiryFindsNothing};
 
 /// A request that is repeated is answered with the reply that was kept, byte for byte, and changes nothing.
 pub fn repeats_change_nothing()
@@ -15,4 +15,9 @@ pub fn refusals_change_nothing()
 /// What has run out at a moment has run out at each later one, and expiry at both is expiry at the later.
 pub fn expires_once()
     ensures { ExpiresOnce }
+{}
+
+/// Behind a compound at the moment of an expiry, expiry at the same moment finds nothing.
+pub fn expiry_finds_nothing()
+    ensures { ExpiryFindsNothing }
 {}

@@ -4,14 +4,14 @@
 //! machine, the request, its caller, the length of its record, the moment, and where memory was refused.
 //!
 //! ```text
-//! let mut world = World::new(alloc, instance, 90)?;
+//! let mut world = World::new(alloc, instance, 90, 0o777)?;
 //! world.expire(now);
 //! let mut compound = Compound::open(call.args)?;
 //! world.compound(alloc, &mut compound, &call.who, record.len(), now, &mut reply);
 //! ```
 //!
 //! RFC 8881 sections 2.3 and 16.2 (COMPOUND), 2.10 (sessions), 8.3 (leases), 18.35 to 18.37 (EXCHANGE_ID, CREATE_SESSION,
-//! DESTROY_SESSION), 18.46 (SEQUENCE) and 18.50 (DESTROY_CLIENTID).
+//! DESTROY_SESSION), 18.46 (SEQUENCE), 18.50 (DESTROY_CLIENTID) and 18.51 (RECLAIM_COMPLETE).
 #![tactic(auto)]
 
 mod compound;
@@ -21,6 +21,7 @@ mod exchange_id;
 mod expiry;
 pub mod laws;
 mod place;
+mod reclaim_complete;
 mod run;
 mod sequence;
 mod tables;

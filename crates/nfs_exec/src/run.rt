@@ -1,23 +1,29 @@
 //! The operations of a compound behind its SEQUENCE (RFC 8881 section 2.3).
 
-ghost use Rattle.std.specs.Prelude.{◌≡◌, ◌≤◌, ◌+◌, ◌-◌, length, nat_lt, if◌then◌else◌};
+ghost use Rattle.std.specs.Prelude.{◌≡◌, ◌≤◌, ◌<◌, ◌^◌, ◌+◌, ◌-◌, ℕ, true, Option, length};
 ghost use Rattle.nfs_xdr.specs.Tables.{In};
-ghost use Rattle.nfs_xdr.specs.declared.status.Status.TheVariants.{RepTooBig};
-ghost use Rattle.nfs_compound.specs.Arguments.{item_number};
+ghost use Rattle.nfs_xdr.specs.declared.status.Status.TheVariants.{Nfs4Ok};
 ghost use Rattle.nfs_compound.specs.Operation.{Item};
 ghost use Rattle.nfs_compound.specs.View.{item};
 ghost use Rattle.nfs_results.specs.Largest.{largest};
-ghost use Rattle.nfs_results.specs.Results.{refusal};
+ghost use Rattle.nfs_results.specs.Results.{spell_result, IsBounded};
 ghost use Rattle.nfs_results.specs.View as view;
-ghost use Rattle.nfs_exec.specs.Machine.{Machine};
+ghost use Rattle.nfs_names.specs.State.{moment, IsStore};
+ghost use Rattle.nfs_files.specs.Operation as files;
+ghost use Rattle.nfs_exec.specs.Machine.{comes_to, is_delay};
 ghost use Rattle.nfs_exec.specs.Place.{CanBear, status_behind};
-ghost use Rattle.nfs_exec.specs.Run.{run};
-ghost use Rattle.nfs_exec.specs.View.{RunsTo};
+ghost use Rattle.nfs_exec.specs.Behind.{step, on_store, marked, otherwise};
+ghost use Rattle.nfs_exec.specs.Run.{run, in_room};
+ghost use Rattle.nfs_exec.specs.View.{machine_of, RunsTo, Steps};
 
+use crate::tables::Tables;
 use nfs_compound::{Arg, Compound};
+use nfs_files::{file_op, is_on_files};
+use nfs_names::{Context, is_on_names, name_op};
 use nfs_results::{Res, largest, write};
 use nfs_sessions::RPC_HEAD;
 use nfs_xdr::{Sheet, Status};
+use std::alloc::Global;
 
 /// The bytes that are kept for a refusal before an operation is run.
 const RESERVE: u64 = 12;
@@ -30,50 +36,146 @@ pub struct Ran {
     pub count: u32,
 }
 
-/// Runs what is left of a compound, up to the first operation whose status is not NFS4_OK, and puts the results. The result
-/// of the compound begins at `start` on the sheet, and its reply may have `limit` bytes, its RPC head among them.
-pub fn run(args: &mut Compound<'_>, limit: u32, start: usize, out: &mut Sheet) -> Ran
-    requires bears { (i : Item) → In i args.old.left → CanBear i }
-    requires few { length args.old.left ≤ 64 }
-    requires start { start ≤ length out.old.bytes }
-    requires fits { length out.old.bytes + 36 ≤ start + limit }
-    requires room { start + limit ≤ out.old.room + 24 }
-    ensures ran { (m : Machine) → RunsTo (run limit (24 + (length out.old.bytes - start)) m args.old.left) result m out.old out.new }
-    ensures fits { length out.new.bytes + 24 ≤ start + limit }
-    ensures same { args.new ≡ record args.old { left = args.new.left } }
-{
-    let mut count = 0;
-    while let Some(arg) = args.next() {
-        let sofar = u64::from(RPC_HEAD) + (out.len() - start) as u64;
-        let res = in_room(&arg, u64::from(limit), sofar);
-        write(&res, out);
-        count += 1;
-        match res.status() {
-            Status::Nfs4Ok => {}
-            status => return Ran { status, count },
+impl Tables {
+    /// Runs what is left of a compound, up to the first operation whose status is not NFS4_OK, and puts the results. The result
+    /// of the compound begins at `start` on the sheet, and its reply may have `limit` bytes, its RPC head among them.
+    pub fn run(
+        &mut self,
+        alloc: Global,
+        args: &mut Compound<'_>,
+        context: &mut Context,
+        limit: u32,
+        start: usize,
+        now: u64,
+        out: &mut Sheet,
+    ) -> Ran
+        requires bears { (i : Item) → In i args.old.left → CanBear i }
+        requires few { length args.old.left ≤ 64 }
+        requires moment { now < 2 ^ 63 }
+        requires store { IsStore (machine_of self.old).store }
+        requires start { start ≤ length out.old.bytes }
+        requires fits { length out.old.bytes + 36 ≤ start + limit }
+        requires room { start + limit ≤ out.old.room + 24 }
+        ensures ran { (choice : Option ℕ)
+            × RunsTo (run limit (24 + (length out.old.bytes - start)) now choice (machine_of self.old) context.old args.old.left) result (machine_of self.new) out.old out.new }
+        ensures fits { length out.new.bytes + 24 ≤ start + limit }
+        ensures same { args.new ≡ record args.old { left = args.new.left } }
+        ensures store { IsStore (machine_of self.new).store }
+    {
+        let mut count = 0;
+        while let Some(arg) = args.next() {
+            let sofar = u64::from(RPC_HEAD) + (out.len() - start) as u64;
+            let status = self.in_room(alloc, &arg, context, u64::from(limit), sofar, now, out);
+            count += 1;
+            match status {
+                Status::Nfs4Ok => {}
+                status => return Ran { status, count },
+            }
+        }
+        Ran {
+            status: Status::Nfs4Ok,
+            count,
         }
     }
-    Ran {
-        status: Status::Nfs4Ok,
-        count,
+
+    /// Runs one operation in its place, where the reply has `sofar` bytes and may have `limit`, puts its result and returns its
+    /// status.
+    fn in_room(
+        &mut self,
+        alloc: Global,
+        arg: &Arg<'_>,
+        context: &mut Context,
+        limit: u64,
+        sofar: u64,
+        now: u64,
+        out: &mut Sheet,
+    ) -> Status
+        requires bears { CanBear (item arg.now) }
+        requires moment { now < 2 ^ 63 }
+        requires store { IsStore (machine_of self.old).store }
+        requires reserve { sofar + 12 ≤ limit }
+        requires room { length out.old.bytes + limit ≤ out.old.room + sofar }
+        ensures steps { Steps (in_room limit sofar now (is_delay result) (machine_of self.old) context.old (item arg.now)) result (machine_of self.new) context.new out.old out.new }
+        ensures fits { length out.new.bytes + sofar ≤ length out.old.bytes + limit }
+        ensures more { result ≡ Nfs4Ok → length out.new.bytes + sofar + 12 ≤ length out.old.bytes + limit }
+        ensures store { IsStore (machine_of self.new).store }
+    {
+        if largest(arg) > limit - RESERVE - sofar {
+            write(&Res::refusal(arg.number(), Status::RepTooBig), out);
+            return Status::RepTooBig;
+        }
+        self.step(alloc, arg, context, now, out)
+    }
+
+    /// Runs one operation, for which there is room, puts its result and returns its status.
+    fn step(
+        &mut self,
+        alloc: Global,
+        arg: &Arg<'_>,
+        context: &mut Context,
+        now: u64,
+        out: &mut Sheet,
+    ) -> Status
+        requires bears { CanBear (item arg.now) }
+        requires moment { now < 2 ^ 63 }
+        requires store { IsStore (machine_of self.old).store }
+        requires room { length out.old.bytes + largest (item arg.now) + 12 ≤ out.old.room }
+        ensures steps { Steps (step (machine_of self.old) context.old now (is_delay result) (item arg.now)) result (machine_of self.new) context.new out.old out.new }
+        ensures fits { length out.new.bytes ≤ length out.old.bytes + largest (item arg.now) + 12 }
+        ensures more { result ≡ Nfs4Ok → length out.new.bytes ≤ length out.old.bytes + largest (item arg.now) }
+        ensures store { IsStore (machine_of self.new).store }
+    {
+        if is_on_names(arg) {
+            return name_op(alloc, &mut self.store, context, arg, now, out);
+        }
+        if is_on_files(arg) {
+            return self.file_step(alloc, arg, context, now, out);
+        }
+        let res = self.otherwise(arg, context);
+        write(&res, out);
+        res.status()
+    }
+
+    /// Runs an operation on open files, and marks its client's record where one of its opens stands.
+    fn file_step(
+        &mut self,
+        alloc: Global,
+        arg: &Arg<'_>,
+        context: &mut Context,
+        now: u64,
+        out: &mut Sheet,
+    ) -> Status
+        requires offered { files.on_files (item arg.now) ≡ true }
+        requires moment { now < 2 ^ 63 }
+        requires store { IsStore (machine_of self.old).store }
+        requires room { length out.old.bytes + largest (item arg.now) ≤ out.old.room }
+        ensures steps { Steps (marked context.old.client (on_store (machine_of self.old) (files.comes_to (is_delay result) (machine_of self.old).store context.old (moment now) (item arg.now))))
+            result (machine_of self.new) context.new out.old out.new }
+        ensures within { length out.new.bytes ≤ length out.old.bytes + largest (item arg.now) }
+        ensures store { IsStore (machine_of self.new).store }
+    {
+        let client = context.client;
+        let status = file_op(alloc, &mut self.store, context, arg, now, out);
+        self.clients.hold(client, self.store.has_open(client));
+        status
+    }
+
+    /// What an operation that is not on the store comes to.
+    fn otherwise(&mut self, arg: &Arg<'_>, context: &Context) -> Res<'static>
+        requires bears { CanBear (item arg.now) }
+        ensures outcome { comes_to (machine_of self.new) (view.res result) ≡ (otherwise (machine_of self.old) context.now (item arg.now)).outcome }
+        ensures bounds { IsBounded (view.res result) }
+        ensures short { length (spell_result (view.res result)) ≤ 12 }
+        ensures store { self.new.store ≡ self.old.store }
+    {
+        match arg {
+            Arg::ReclaimComplete { one_fs } => self.reclaim_complete(context, *one_fs),
+            _ => Res::refusal(arg.number(), status_behind(arg)),
+        }
     }
 }
 
-/// What one operation answers in its place, where the reply has `sofar` bytes and may have `limit`: each is refused, since the
-/// four that stand alone are not supported here and the others are not carried out yet.
-fn in_room(arg: &Arg<'_>, limit: u64, sofar: u64) -> Res<'static>
-    requires { sofar + 12 ≤ limit }
-    ensures { view.res result ≡ refusal (item_number (item arg.now)) (if nat_lt limit (sofar + largest (item arg.now) + 12) then RepTooBig else status_behind (item arg.now)) }
-{
-    let status = if largest(arg) > limit - RESERVE - sofar {
-        Status::RepTooBig
-    } else {
-        status_behind(arg)
-    };
-    Res::refusal(arg.number(), status)
-}
-
-/// What an item behind a SEQUENCE is refused with.
+/// What an item behind a SEQUENCE is refused with, where nothing carries it out.
 fn status_behind(arg: &Arg<'_>) -> Status
     ensures { result ≡ status_behind (item arg.now) }
 {

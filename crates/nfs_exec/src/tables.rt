@@ -1,12 +1,15 @@
 //! The server's tables.
 
 ghost use Rattle.std.specs.Prelude.{◌≡◌, IfOk};
+ghost use Rattle.nfs_names.specs.State.{state_of, IsStore};
 ghost use Rattle.nfs_exec.specs.Machine.{starts};
 ghost use Rattle.nfs_exec.specs.View.{machine_of};
 
 use nfs_clients::Clients;
 use nfs_lease::Leases;
+use nfs_names::Store;
 use nfs_sessions::Sessions;
+use nfs_xdr::Time;
 use std::alloc::{AllocError, Global};
 
 /// The tables on which compounds run. Contracts see them as a machine.
@@ -15,18 +18,32 @@ pub struct Tables {
     pub clients: Clients,
     pub sessions: Sessions,
     pub leases: Leases,
+    pub store: Store,
 }
 
+/// The first moment.
+const FIRST: Time = Time {
+    seconds: 0,
+    nanoseconds: 0,
+};
+
 impl Tables {
-    /// The tables of a new server, whose leases last `lease` seconds. `AllocError` where there is no memory for the ends
-    /// of the queue of leases.
-    pub fn new(alloc: Global, instance: u32, lease: u32) -> Result<Tables, AllocError>
-        ensures { IfOk result (λ t. machine_of t ≡ starts instance lease) }
+    /// The tables of a new server, whose leases last `lease` seconds and whose root has the mode `root_mode` and the first
+    /// moment as its times. `AllocError` where there is no memory for the root and the ends of the queue of leases.
+    pub fn new(
+        alloc: Global,
+        instance: u32,
+        lease: u32,
+        root_mode: u32,
+    ) -> Result<Tables, AllocError>
+        ensures machine { IfOk result (λ t. machine_of t ≡ starts root_mode instance lease) }
+        ensures store { IfOk result (λ t. IsStore (state_of t.store)) }
     {
         Ok(Tables {
             clients: Clients::new(alloc, instance),
             sessions: Sessions::new(alloc),
             leases: Leases::new(alloc, u64::from(lease))?,
+            store: Store::new(alloc, root_mode, FIRST, instance, lease)?,
         })
     }
 }

@@ -24,7 +24,7 @@ fn bytes_of(alloc: Global, words: &[u32]) -> Result<Vec<u8>, AllocError> {
 
 /// What a new world of instance 7 puts on a new sheet for these arguments.
 fn answer(alloc: Global, words: &[u32]) -> Result<Vec<u8>, Fail> {
-    let mut world = World::new(alloc, 7, 90)?;
+    let mut world = World::new(alloc, 7, 90, 0o777)?;
     let args = bytes_of(alloc, words)?;
     let Ok(mut compound) = Compound::open(args.as_slice()) else {
         return Err(Fail::from("garbage"));

@@ -1,11 +1,12 @@
 //! The server's tables, and a compound over them.
 
-ghost use Rattle.std.specs.Prelude.{◌≡◌, ◌≤◌, ℕ, Option, IfOk, length};
+ghost use Rattle.std.specs.Prelude.{◌≡◌, ◌≤◌, ◌<◌, ◌^◌, ℕ, Option, IfOk, length};
 ghost use Rattle.nfs_xdr.specs.Caller.{caller};
 ghost use Rattle.nfs_lease.specs.Renewals.{IsLatest};
 ghost use Rattle.nfs_exec.specs.Machine.{starts};
 ghost use Rattle.nfs_exec.specs.Compound.{compound, IsOpened, HasReplyRoom, Answers};
 ghost use Rattle.nfs_exec.specs.Expiry.{expired};
+ghost use Rattle.nfs_exec.specs.Laws.{HasNoClashes};
 ghost use Rattle.nfs_exec.specs.View.{machine_of};
 
 use crate::tables::Tables;
@@ -21,23 +22,27 @@ pub struct World {
 }
 
 impl Model for World {
-    ghost use Rattle.nfs_exec.specs.Machine.{IsMachine};
-    ghost use Rattle.nfs_exec.specs.View.{Kept, machine_of};
+    ghost use Rattle.nfs_exec.specs.View.{Kept, IsKept};
 
     ghost Value = { Kept };
 
     ghost view = { λ w. w.tables };
 
-    ghost invariant = { λ w. IsMachine (machine_of w.tables) };
+    ghost invariant = { λ w. IsKept w.tables };
 }
 
 impl World {
     /// The world of a new server. `instance` tells it from other starts of the server, and begins each client id; a lease
-    /// lasts `lease` seconds. `AllocError` where memory is refused.
-    pub fn new(alloc: Global, instance: u32, lease: u32) -> Result<World, AllocError>
-        ensures { IfOk result (λ w. machine_of w ≡ starts instance lease) }
+    /// lasts `lease` seconds, and the root has the mode `root_mode`. `AllocError` where memory is refused.
+    pub fn new(
+        alloc: Global,
+        instance: u32,
+        lease: u32,
+        root_mode: u32,
+    ) -> Result<World, AllocError>
+        ensures { IfOk result (λ w. machine_of w ≡ starts root_mode instance lease) }
     {
-        let tables = Tables::new(alloc, instance, lease)?;
+        let tables = Tables::new(alloc, instance, lease, root_mode)?;
         Ok(World { tables })
     }
 
@@ -46,8 +51,9 @@ impl World {
     /// renewed later than `now`; and the sheet has room for 69,976 bytes more: those of a reply of 70,000 bytes that are not
     /// of its head.
     ///
-    /// Each refusal is an answer on the sheet. Where memory is refused, EXCHANGE_ID and CREATE_SESSION answer NFS4ERR_DELAY
-    /// as their last check and change nothing; no other answer wants memory.
+    /// Each refusal is an answer on the sheet. Where memory is refused, the ten operations that grow a table answer
+    /// NFS4ERR_DELAY as their last check and change nothing: EXCHANGE_ID, CREATE_SESSION, CREATE, LINK, RENAME, OPEN, SETATTR of
+    /// size, WRITE of bytes, LOCK and LOCKU. No other answer wants memory.
     pub fn compound(
         &mut self,
         alloc: Global,
@@ -59,6 +65,7 @@ impl World {
     )
         requires opened { IsOpened args.old }
         requires size { length args.old.bytes ≤ size }
+        requires moment { now < 2 ^ 63 }
         requires latest { IsLatest (machine_of self.old).leases now }
         requires room { HasReplyRoom out.old }
         ensures answer { (choice : Option ℕ)
@@ -68,8 +75,16 @@ impl World {
         self.tables.compound(alloc, args, who, size, now, out);
     }
 
+    /// No byte of a file has a writer beside another holder, and no two owners' opens clash, in every world; this does nothing
+    /// but say so.
+    pub fn no_clash(&self)
+        ensures { HasNoClashes (machine_of self.now) }
+    {
+        self.tables.store.kept();
+    }
+
     /// Takes away what has run out at the moment `now`, in seconds (RFC 8881 section 8.3): the clients whose last renewal is
-    /// more than a lease ago, with their sessions.
+    /// more than a lease ago, with their sessions, opens and locks, and each object that then has neither a name nor an open.
     pub fn expire(&mut self, now: u64)
         ensures { machine_of self.new ≡ expired now (machine_of self.old) }
     {

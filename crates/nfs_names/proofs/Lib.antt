@@ -5,10 +5,10 @@ pub mod Told
 pub mod Rows
 pub mod Changing
 pub mod Renaming
-pub mod Rooted
+pub mod Kept
 pub mod Bounds
 pub mod Whole
 pub mod Arms
 pub mod Entering
 pub mod Listed
-pub mod Beginning
+pub mod Staying

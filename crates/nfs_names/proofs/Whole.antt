@@ -1,4 +1,4 @@
--- What every operation keeps: its result is one that it may have, and directories stay rooted.
+-- What every operation keeps: its result is one that it may have, and its state is a store's.
 use Rattle.std.proofs.Common.{◌≡◌, ◌+◌, ◌≤◌, Bool, true, false, cond, length, refl, ◌∙◌, ap, arith}
 use Rattle.std.specs.Prelude.{Result, Ok, Err, ◌&&◌}
 use Rattle.nfs_xdr.specs.declared.time.Time.{Time}
@@ -22,7 +22,7 @@ use Rattle.nfs_tree.specs.Kept.{IsTree}
 use Rattle.nfs_tree.specs.Names.{moves}
 use Rattle.nfs_names.specs.declared.context.Context.{Context}
 use Rattle.nfs_names.specs.declared.held.Pair.{Pair}
-use Rattle.nfs_names.specs.State.{State, IsRooted}
+use Rattle.nfs_names.specs.State.{State, IsStore}
 use Rattle.nfs_names.specs.Outcome.{Outcome, refuses, checked, answers, or_delay, is_ok}
 use Rattle.nfs_names.specs.Operation.{one, grows, on_names, is_on_names, comes_to, one_or_delay}
 use Rattle.nfs_names.specs.Access.{access}
@@ -45,7 +45,7 @@ use Rattle.nfs_names.specs.SaveFh.{save_fh}
 use Rattle.nfs_names.specs.SecinfoNoName.{secinfo_no_name}
 use Rattle.nfs_names.specs.Verify.{verify}
 use Rattle.nfs_names.proofs.Bounds as bound
-use Rattle.nfs_names.proofs.Rooted.{rooted_new, rooted_link, rooted_removed, rooted_moved}
+use Rattle.nfs_names.proofs.Kept.{store_new, store_link, store_removed, store_moved}
 
 delay_may : (b : Bool) (s : State) (x : Context) (op : OpNum) (o : Outcome) (P : Res → Type 0) → P o.result → P (refusal (op_number op) Delay) → P (or_delay b s x op o).result
 delay_may b s x op o P done delayed = elim (b && is_ok o.result) as (λ k. P (cond k (refuses s x op Delay) o).result) [ true ↦ delayed | false ↦ done ]
@@ -81,54 +81,50 @@ answers_state P s x op (Ok a) f same done = done a
 delay_state : (P : State → Type 0) (b : Bool) (s : State) (x : Context) (op : OpNum) (o : Outcome) → P s → P o.state → P (or_delay b s x op o).state
 delay_state P b s x op o same done = elim (b && is_ok o.result) as (λ k. P (cond k (refuses s x op Delay) o).state) [ true ↦ same | false ↦ done ]
 
-record Rooted (s : State) : Type 0 where
-  all : IsRooted s.tree
+store_rename : (s : State) (x : Context) (now : Time) (a : args.Rename) (p : Pair) (b : Bool) → IsTree s.tree → IsStore s → IsStore (cond b (moved s x now a p) (unmoved s x p)).state
+store_rename s x now a p true tree is = store_moved s (move_of a p) now tree is
+store_rename s x now a p false tree is = is
 
-rooted_rename : (s : State) (x : Context) (now : Time) (a : args.Rename) (p : Pair) (b : Bool) → IsTree s.tree → IsRooted s.tree → IsRooted (cond b (moved s x now a p) (unmoved s x p)).state.tree
-rooted_rename s x now a p true is r = rooted_moved s.tree (move_of a p) now is r
-rooted_rename s x now a p false is r = r
-
-rooted_one : (s : State) (x : Context) (now : Time) (op : Op) → is_on_names op ≡ true → IsTree s.tree → IsRooted s.tree → Rooted s → Rooted (one s x now op).state
+store_one : (s : State) (x : Context) (now : Time) (op : Op) → is_on_names op ≡ true → IsTree s.tree → IsStore s → IsStore (one s x now op).state
 unfolding access create get_attr get_fh link lookup lookup_p nverify put_fh put_pub_fh put_root_fh read_dir read_link remove rename restore_fh save_fh secinfo_no_name verify
-rooted_one s x now (OpAccess asked) e is r same = answers_state Rooted s x Num.Access _ _ same (λ d. same)
-rooted_one s x now (OpCreate c) e is r same =
-    answers_state Rooted s x Num.Create (checked (asked_for s x c) (row_checks s c.objname)) (created s x now c) same
-    (λ m. record { all = rooted_new s.tree m.place.number c.objname (new_of c.objtype) (sets_of x now (new_of c.objtype) m.wanted) now r })
-rooted_one s x now (OpGetAttr mask) e is r same = answers_state Rooted s x Num.GetAttr _ _ same (λ d. same)
-rooted_one s x now OpGetFh e is r same = answers_state Rooted s x Num.GetFh _ _ same (λ d. same)
-rooted_one s x now (OpLink name) e is r same = answers_state Rooted s x Num.Link _ _ same (λ p. record { all = rooted_link s.tree _ _ name now r })
-rooted_one s x now (OpLookup name) e is r same = answers_state Rooted s x Num.Lookup _ _ same (λ d. same)
-rooted_one s x now OpLookupP e is r same = answers_state Rooted s x Num.LookupP _ _ same (λ d. same)
-rooted_one s x now (OpNVerify a) e is r same = answers_state Rooted s x Num.NVerify _ _ same (λ d. same)
-rooted_one s x now (OpPutFh object) e is r same = answers_state Rooted s x Num.PutFh _ _ same (λ d. same)
-rooted_one s x now OpPutPubFh e is r same = same
-rooted_one s x now OpPutRootFh e is r same = same
-rooted_one s x now (OpReadDir a) e is r same = answers_state Rooted s x Num.ReadDir _ _ same (λ d. same)
-rooted_one s x now OpReadLink e is r same = answers_state Rooted s x Num.ReadLink _ _ same (λ d. same)
-rooted_one s x now (OpRemove name) e is r same = answers_state Rooted s x Num.Remove _ _ same (λ d. record { all = rooted_removed s.tree d.number name now is r })
-rooted_one s x now (OpRename a) e is r same = answers_state Rooted s x Num.Rename _ _ same (λ p. record { all = rooted_rename s x now a p (moves s.tree (move_of a p)) is r })
-rooted_one s x now OpRestoreFh e is r same = answers_state Rooted s x Num.RestoreFh _ _ same (λ d. same)
-rooted_one s x now OpSaveFh e is r same = answers_state Rooted s x Num.SaveFh _ _ same (λ d. same)
-rooted_one s x now (OpSecinfoNoName style) e is r same = answers_state Rooted s x Num.SecinfoNoName _ _ same (λ d. same)
-rooted_one s x now (OpVerify a) e is r same = answers_state Rooted s x Num.Verify _ _ same (λ d. same)
-rooted_one s x now op e is r same = absurd cc
+store_one s x now (OpAccess asked) e tree is = answers_state IsStore s x Num.Access _ _ is (λ d. is)
+store_one s x now (OpCreate c) e tree is =
+    answers_state IsStore s x Num.Create (checked (asked_for s x c) (row_checks s c.objname)) (created s x now c) is
+    (λ m. store_new s m.place.number c.objname (new_of c.objtype) (sets_of x now (new_of c.objtype) m.wanted) now is)
+store_one s x now (OpGetAttr mask) e tree is = answers_state IsStore s x Num.GetAttr _ _ is (λ d. is)
+store_one s x now OpGetFh e tree is = answers_state IsStore s x Num.GetFh _ _ is (λ d. is)
+store_one s x now (OpLink name) e tree is = answers_state IsStore s x Num.Link _ _ is (λ p. store_link s _ _ name now is)
+store_one s x now (OpLookup name) e tree is = answers_state IsStore s x Num.Lookup _ _ is (λ d. is)
+store_one s x now OpLookupP e tree is = answers_state IsStore s x Num.LookupP _ _ is (λ d. is)
+store_one s x now (OpNVerify a) e tree is = answers_state IsStore s x Num.NVerify _ _ is (λ d. is)
+store_one s x now (OpPutFh object) e tree is = answers_state IsStore s x Num.PutFh _ _ is (λ d. is)
+store_one s x now OpPutPubFh e tree is = is
+store_one s x now OpPutRootFh e tree is = is
+store_one s x now (OpReadDir a) e tree is = answers_state IsStore s x Num.ReadDir _ _ is (λ d. is)
+store_one s x now OpReadLink e tree is = answers_state IsStore s x Num.ReadLink _ _ is (λ d. is)
+store_one s x now (OpRemove name) e tree is = answers_state IsStore s x Num.Remove _ _ is (λ d. store_removed s d.number name now tree is)
+store_one s x now (OpRename a) e tree is = answers_state IsStore s x Num.Rename _ _ is (λ p. store_rename s x now a p (moves s.tree (move_of a p)) tree is)
+store_one s x now OpRestoreFh e tree is = answers_state IsStore s x Num.RestoreFh _ _ is (λ d. is)
+store_one s x now OpSaveFh e tree is = answers_state IsStore s x Num.SaveFh _ _ is (λ d. is)
+store_one s x now (OpSecinfoNoName style) e tree is = answers_state IsStore s x Num.SecinfoNoName _ _ is (λ d. is)
+store_one s x now (OpVerify a) e tree is = answers_state IsStore s x Num.Verify _ _ is (λ d. is)
+store_one s x now op e tree is = absurd cc
 
 may_item : (b : Bool) (s : State) (x : Context) (now : Time) (i : Item) → on_names i ≡ true → IsAnswer i (comes_to b s x now i).result
 may_item b s x now (Operation op) e = may_come b s x now op e
 may_item b s x now (Fault n st) e = absurd cc
 
-rooted_item : (b : Bool) (s : State) (x : Context) (now : Time) (i : Item) → on_names i ≡ true → IsTree s.tree → IsRooted s.tree → IsRooted (comes_to b s x now i).state.tree
-rooted_item b s x now (Operation op) e is r =
-    (delay_state Rooted (grows s x op && b) s x (arguments op).op (one s x now op) (record { all = r }) (rooted_one s x now op e is r (record { all = r }))).all
-rooted_item b s x now (Fault n st) e is r = absurd cc
+store_item : (b : Bool) (s : State) (x : Context) (now : Time) (i : Item) → on_names i ≡ true → IsTree s.tree → IsStore s → IsStore (comes_to b s x now i).state
+store_item b s x now (Operation op) e tree is = delay_state IsStore (grows s x op && b) s x (arguments op).op (one s x now op) is (store_one s x now op e tree is)
+store_item b s x now (Fault n st) e tree is = absurd cc
 
 -- What every operation on names keeps.
 pub record Keeps (b : Bool) (s : State) (x : Context) (now : Time) (i : Item) : Type 0 where
   pub may : IsAnswer i (comes_to b s x now i).result
-  pub rooted : IsRooted (comes_to b s x now i).state.tree
+  pub store : IsStore (comes_to b s x now i).state
 
-pub keeps : (b : Bool) (s : State) (x : Context) (now : Time) (i : Item) → on_names i ≡ true → IsTree s.tree → IsRooted s.tree → Keeps b s x now i
-keeps b s x now i e is r = record { may = may_item b s x now i e; rooted = rooted_item b s x now i e is r }
+pub keeps : (b : Bool) (s : State) (x : Context) (now : Time) (i : Item) → on_names i ≡ true → IsTree s.tree → IsStore s → Keeps b s x now i
+keeps b s x now i e tree is = record { may = may_item b s x now i e; store = store_item b s x now i e tree is }
 
 -- so it is within its largest size
 pub within : (i : Item) (r : Res) (old new : Paper) → IsAnswer i r → Puts old new (spell_result r) → length new.bytes ≤ length old.bytes + largest i

@@ -1,7 +1,6 @@
 -- Checks that several operations share, each once.
 use Rattle.std.specs.Prelude.{ℕ, ◌==◌, ◌||◌, Bool, not, List, [], ◌∷◌, length, nat_lt, Option, Some, None, Result, Ok, Err, is_some, bytes_eq, unwrap_or}
 use Rattle.std.specs.List.{list_any}
-use Rattle.nfs_xdr.specs.Caller.{caller}
 use Rattle.nfs_xdr.specs.declared.status.Status.{Status}
 use Rattle.nfs_xdr.specs.declared.status.Status.TheVariants.{Access, NotDir, Inval, NameTooLong, Stale, NoFileHandle, BadChar, BadName, NoEnt}
 use Rattle.nfs_tree.specs.declared.object.Object.{Object}
@@ -49,7 +48,7 @@ no_directory d = (not (is_directory d.object.kind), NotDir)
 
 -- whether the permission bits let the caller do it
 unfoldable pub permits : Context → Held → Want → Bool
-permits x d want = may d.object (caller x.who) want
+permits x d want = may d.object x.who want
 
 abbrev pub denied : Context → Held → Want → Bool × Status
 denied x d want = (not (permits x d want), Access)

@@ -1,7 +1,7 @@
 -- What the operations of a compound hand on to one another (RFC 8881 section 16.2.3.1): the current filehandle and the
 -- current stateid, and the saved ones.
 use Rattle.std.specs.Prelude.{ℕ, Some, None, replicate}
-use Rattle.nfs_xdr.specs.declared.who.Who.{Who}
+use Rattle.nfs_xdr.specs.Caller.{Caller}
 use Rattle.nfs_compound.specs.declared.stateid.Stateid.{Stateid}
 use Rattle.nfs_names.specs.declared.context.Context.{Context}
 
@@ -10,7 +10,7 @@ abbrev pub anonymous : Stateid
 anonymous = record { seqid = 0; other = replicate 12 0 }
 
 -- in front of the first operation: no filehandle, and the anonymous stateid
-abbrev pub begins : ℕ → Who → Context
+abbrev pub begins : ℕ → Caller → Context
 begins client who = record { current = None; stateid = anonymous; saved = None; client = client; who = who }
 
 -- an object becomes the current filehandle's, and the current stateid is anonymous

@@ -1,6 +1,5 @@
 -- CREATE (RFC 8881 section 18.4): a directory or a symbolic link is made, and becomes the current filehandle's object.
 use Rattle.std.specs.Prelude.{ℕ, ◌+◌, ◌==◌, Bool, true, false, not, ◌&&◌, List, [], ◌∷◌, ◌++◌, length, nat_lt, nat_le, Some, Result, Ok, Err, is_some, unwrap_or, option_map}
-use Rattle.nfs_xdr.specs.Caller.{caller}
 use Rattle.nfs_xdr.specs.declared.time.Time.{Time}
 use Rattle.nfs_xdr.specs.declared.status.Status.{Status}
 use Rattle.nfs_xdr.specs.declared.status.Status.TheVariants.{Inval, NameTooLong, BadType, Exist, NoSpc, ServerFault}
@@ -78,7 +77,7 @@ with_wanted (Ok d) wanted = making d wanted
 
 -- .. then whether the caller may set them ..
 abbrev pub new_checks : Context → Making → List (Bool × Status)
-new_checks x m = make_checks m.wanted (caller x.who) ++ (is_some m.wanted.size, Inval) ∷ []
+new_checks x m = make_checks m.wanted x.who ++ (is_some m.wanted.size, Inval) ∷ []
 
 -- .. then whether there is a place for the object.
 abbrev pub can_create : Files → ℕ → Bool

@@ -26,3 +26,4 @@ pub mod Verify
 pub mod Operation
 pub mod Faults
 pub mod View
+pub mod Ending

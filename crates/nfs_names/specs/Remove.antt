@@ -1,4 +1,4 @@
--- REMOVE (RFC 8881 section 18.25): a name goes, and with its last name an object.
+-- REMOVE (RFC 8881 section 18.25): a name goes, and with its last name an object that is not open.
 use Rattle.std.specs.Prelude.{ℕ, Bool, not, ◌&&◌, List, [], ◌∷◌}
 use Rattle.nfs_xdr.specs.declared.time.Time.{Time}
 use Rattle.nfs_xdr.specs.declared.status.Status.{Status}
@@ -11,7 +11,7 @@ use Rattle.nfs_tree.specs.Did.{raised}
 use Rattle.nfs_attrs.specs.Permissions.{change}
 use Rattle.nfs_names.specs.declared.context.Context.{Context}
 use Rattle.nfs_names.specs.declared.held.Held.{Held}
-use Rattle.nfs_names.specs.State.{State, with_tree, without_unnamed}
+use Rattle.nfs_names.specs.State.{State, with_tree, without_unused}
 use Rattle.nfs_names.specs.Outcome.{Outcome, checked, answers}
 use Rattle.nfs_names.specs.Checks.{current, no_directory, denied, name_checks}
 use Rattle.nfs_names.specs.Create.{change_info}
@@ -34,7 +34,7 @@ row_checks s name d =
 abbrev pub removed : State → Context → Time → List ℕ → Held → Outcome
 removed s x now name d = record {
   result = ResRemove (change_info (raised s.tree d.number));
-  state = with_tree s (without_unnamed (without_name s.tree d.number name now) (named s.tree d.number name));
+  state = without_unused (with_tree s (without_name s.tree d.number name now)) (named s.tree d.number name);
   context = x;
 }
 

@@ -6,13 +6,13 @@ use Rattle.nfs_xdr.specs.declared.status.Status.TheVariants.{NoEnt, Inval, Exist
 use Rattle.nfs_compound.specs.declared.op_num.OpNum.TheVariants as Op
 use Rattle.nfs_compound.specs.NameArgs as args
 use Rattle.nfs_results.specs.Result.{ResRename}
-use Rattle.nfs_tree.specs.Files.{Files, has_name, lookup}
+use Rattle.nfs_tree.specs.Files.{has_name, lookup}
 use Rattle.nfs_tree.specs.Names.{Move, move, moves, is_below_itself, is_in_the_way, can_move, with_moved}
 use Rattle.nfs_tree.specs.Did.{raised, stays}
 use Rattle.nfs_attrs.specs.Permissions.{change}
 use Rattle.nfs_names.specs.declared.context.Context.{Context}
 use Rattle.nfs_names.specs.declared.held.Pair.{Pair}
-use Rattle.nfs_names.specs.State.{State, with_tree, without_unnamed}
+use Rattle.nfs_names.specs.State.{State, with_tree, without_unused}
 use Rattle.nfs_names.specs.Outcome.{Outcome, done, checked, answers}
 use Rattle.nfs_names.specs.Checks.{both, no_directory, denied, name_checks}
 use Rattle.nfs_names.specs.Create.{change_info}
@@ -40,9 +40,9 @@ row_checks s a p =
     ∷ []
 
 -- what had the new name goes as by REMOVE
-abbrev pub without_replaced : Files → Option ℕ → Files
-without_replaced t None = t
-without_replaced t (Some n) = without_unnamed t n
+abbrev pub without_replaced : State → Option ℕ → State
+without_replaced s None = s
+without_replaced s (Some n) = without_unused s n
 
 abbrev pub moved : State → Context → Time → args.Rename → Pair → Outcome
 moved s x now a p = record {
@@ -50,7 +50,7 @@ moved s x now a p = record {
     source_cinfo = change_info (raised s.tree p.saved.number);
     target_cinfo = change_info (raised s.tree p.current.number);
   });
-  state = with_tree s (without_replaced (with_moved s.tree (move_of a p) now) (lookup s.tree p.current.number a.newname));
+  state = without_replaced (with_tree s (with_moved s.tree (move_of a p) now)) (lookup s.tree p.current.number a.newname);
   context = x;
 }
 

@@ -1,29 +1,57 @@
--- What operations act on: the tree, the instance of the server and the length of a lease.
-use Rattle.std.specs.Prelude.{ℕ, ◌==◌, ◌||◌, pos, if◌then◌else◌}
+-- What operations act on: the tree, the opens, the instance of the server and the length of a lease.
+use Rattle.std.specs.Prelude.{◌≡◌, ◌≢◌, ℕ, ◌==◌, ◌||◌, Bool, true, pos, if◌then◌else◌}
+use Rattle.std.specs.List.{list_any}
 use Rattle.nfs_xdr.specs.declared.time.Time.{Time}
-use Rattle.nfs_tree.specs.Files.{Files, root, has_row, IsReached}
+use Rattle.nfs_tree.specs.Files.{Files, root, has_row, is_there, is_regular_at, IsReached}
+use Rattle.nfs_tree.specs.Create.{new_tree}
 use Rattle.nfs_tree.specs.Names.{forget}
+use Rattle.nfs_opens.specs.Table.{Table, table, no_opens}
 use Rattle.nfs_names.specs.declared.store.Store.{Store}
 
 pub record State : Type 0 where
   pub tree : Files
+  pub opens : Table
   pub instance : ℕ
   pub lease : ℕ
 
 abbrev pub state_of : Store → State
-state_of s = record { tree = s.tree; instance = s.instance; lease = s.lease }
+state_of s = record { tree = s.tree; opens = table s.opens; instance = s.instance; lease = s.lease }
+
+-- a new server's: nothing but the root, and nothing is open
+abbrev pub new_store : ℕ → Time → ℕ → ℕ → State
+new_store mode now instance lease = record { tree = new_tree mode now; opens = no_opens instance; instance = instance; lease = lease }
 
 abbrev pub with_tree : State → Files → State
-with_tree s t = record { tree = t; instance = s.instance; lease = s.lease }
+with_tree s t = record { tree = t; opens = s.opens; instance = s.instance; lease = s.lease }
 
 -- so many seconds, as a time
 abbrev pub moment : ℕ → Time
 moment now = record { seconds = pos now; nanoseconds = 0 }
 
--- An object but the root goes with its last row.
-abbrev pub without_unnamed : Files → ℕ → Files
-without_unnamed t n = if n == root || has_row t.rows n then t else forget t n
+-- An object but the root goes when it has no row and no open: one that is open stays until its last CLOSE (RFC 8881 section 18.16, PRESERVE_UNLINKED).
+abbrev pub is_open : State → ℕ → Bool
+is_open s n = list_any (λ o. o.file == n) s.opens.opens
+
+abbrev pub is_used : State → ℕ → Bool
+is_used s n = n == root || (has_row s.tree.rows n || is_open s n)
+
+abbrev pub without_unused : State → ℕ → State
+without_unused s n = if is_used s n then s else with_tree s (forget s.tree n)
 
 -- each directory but the root has a row
 abbrev pub IsRooted : Files → Type 0
 IsRooted t = (n : ℕ) → IsReached t n
+
+-- only files are open
+abbrev pub AreFiles : State → Type 0
+AreFiles s = (n : ℕ) → is_open s n ≡ true → is_regular_at s.tree n ≡ true
+
+-- What every store keeps: each object is used, and only files are open.
+pub record IsStore (s : State) : Type 0 where
+  pub used : (n : ℕ) → is_there s.tree n ≡ true → is_used s n ≡ true
+  pub files : AreFiles s
+
+-- The same, but for one object, which may have lost its last row or its last open.
+pub record IsStoreBut (s : State) (n : ℕ) : Type 0 where
+  pub used : (m : ℕ) → m ≢ n → is_there s.tree m ≡ true → is_used s m ≡ true
+  pub files : AreFiles s

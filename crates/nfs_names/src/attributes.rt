@@ -57,7 +57,7 @@ pub(crate) fn access(store: &Store, context: &Context, asked: u32) -> Res<'stati
 {
     match current(store, context) {
         Ok(d) => {
-            let judged = judge_access(&d.object, &context.who, asked);
+            let judged = judge_access(&d.object, context.who.who(), asked);
             Res::Access(AccessOk {
                 supported: judged.supported,
                 access: judged.granted,

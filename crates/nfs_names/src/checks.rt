@@ -23,14 +23,14 @@ use nfs_tree::FileType;
 use nfs_xdr::{Sheet, Status};
 
 /// The refusal of an operation.
-pub(crate) fn refuse(op: OpNum, status: Status) -> Res<'static>
+pub fn refuse(op: OpNum, status: Status) -> Res<'static>
     ensures { view.res result ≡ refusal (op_number op) status }
 {
     Res::refusal(op.number(), status)
 }
 
 /// Puts the refusal of an operation that has nothing behind its status then, and answers the status.
-pub(crate) fn put_refusal(op: OpNum, status: Status, out: &mut Sheet) -> Status
+pub fn put_refusal(op: OpNum, status: Status, out: &mut Sheet) -> Status
     requires { length out.old.bytes + 8 ≤ out.old.room }
     ensures put { Puts out.old out.new (spell_result (Refused (op_number op) status)) }
     ensures status { result ≡ status }
@@ -41,7 +41,7 @@ pub(crate) fn put_refusal(op: OpNum, status: Status, out: &mut Sheet) -> Status
 }
 
 /// The object of a filehandle: there may be no filehandle, or no object any more.
-fn held(store: &Store, number: Option<u64>) -> Result<Held, Status>
+pub fn held(store: &Store, number: Option<u64>) -> Result<Held, Status>
     ensures { result ≡ held (state_of store.now) number }
 {
     let Some(number) = number else {
@@ -65,9 +65,9 @@ fn saved_object(saved: Option<Saved>) -> Option<u64>
     }
 }
 
-/// The object of the current filehandle.
+/// The object of the current filehandle: NOFILEHANDLE where there is none, STALE where its object is gone.
 #[tactic(auto, unfolding(crate::specs::Checks::current))]
-pub(crate) fn current(store: &Store, context: &Context) -> Result<Held, Status>
+pub fn current(store: &Store, context: &Context) -> Result<Held, Status>
     ensures { result ≡ current (state_of store.now) context.now }
 {
     held(store, context.current)
@@ -92,14 +92,14 @@ pub(crate) fn is_there(store: &Store, number: u64) -> bool
 
 /// Whether the permission bits let the caller do it.
 #[tactic(auto, unfolding(crate::specs::Checks::permits))]
-pub(crate) fn permits(context: &Context, held: &Held, want: Want) -> bool
+pub fn permits(context: &Context, held: &Held, want: Want) -> bool
     ensures { result ≡ permits context.now held.now want }
 {
-    may(&held.object, &context.who, want)
+    may(&held.object, context.who.who(), want)
 }
 
 /// Whether it is a symbolic link.
-pub(crate) fn is_link(kind: FileType) -> bool
+pub fn is_link(kind: FileType) -> bool
     ensures { result ≡ is_link kind }
 {
     match kind {
@@ -122,7 +122,7 @@ fn is_dots(name: &[u8]) -> bool
 }
 
 /// The refusal of what is no name.
-pub(crate) fn judge_name(name: &[u8]) -> Result<(), Status>
+pub fn judge_name(name: &[u8]) -> Result<(), Status>
     ensures { result ≡ judged (first_fault (name_checks name.now)) }
 {
     if name.is_empty() {

@@ -1,10 +1,12 @@
 //! What the operations of a compound hand on to one another (RFC 8881 section 16.2.3.1).
 
 ghost use Rattle.std.specs.Prelude.{◌≡◌};
+ghost use Rattle.nfs_xdr.specs.Caller.{caller};
 ghost use Rattle.nfs_names.specs.Context.{anonymous, begins, at_object};
 
 use nfs_compound::Stateid;
 use nfs_xdr::Who;
+use std::marker::Model;
 
 /// A filehandle that SAVEFH put aside, with its stateid.
 #[derive(Clone, Copy)]
@@ -15,8 +17,31 @@ pub struct Saved {
     pub stateid: Stateid,
 }
 
+/// Who calls. Contracts see the caller, without the places for groups that are not told.
+#[derive(Drop)]
+pub struct Caller {
+    who: Who,
+}
+
+impl Model for Caller {
+    ghost use Rattle.nfs_xdr.specs.Caller.{Caller, caller};
+
+    ghost Value = { Caller };
+
+    ghost view = { λ c. caller c.who };
+}
+
+impl Caller {
+    /// The caller, as permission bits are judged by.
+    pub fn who(&self) -> &Who
+        ensures { caller result.now ≡ self.now }
+    {
+        &self.who
+    }
+}
+
 /// What stands between two operations of a compound, and for whom they run.
-#[derive(Clone, Copy)]
+#[derive(Drop)]
 pub struct Context {
     /// The number of the current filehandle's object, which may have gone.
     pub current: Option<u64>,
@@ -27,7 +52,7 @@ pub struct Context {
     /// The client of the session.
     pub client: u64,
     /// Who calls.
-    pub who: Who,
+    pub who: Caller,
 }
 
 /// The anonymous stateid: all zeros (RFC 8881 section 8.2.3).
@@ -39,14 +64,14 @@ const ANONYMOUS: Stateid = Stateid {
 impl Context {
     /// The context in which the first operation behind a SEQUENCE runs: no filehandle, and the anonymous stateid.
     pub fn new(client: u64, who: &Who) -> Context
-        ensures { result ≡ begins client who.now }
+        ensures { result ≡ begins client (caller who.now) }
     {
         Context {
             current: None,
             stateid: ANONYMOUS,
             saved: None,
             client,
-            who: *who,
+            who: Caller { who: *who },
         }
     }
 

@@ -4,9 +4,11 @@ use nfs_tree::Object;
 
 /// The object that a filehandle names.
 #[derive(Clone, Copy, Debug, PartialEq, Eq)]
-pub(crate) struct Held {
-    pub(crate) number: u64,
-    pub(crate) object: Object,
+pub struct Held {
+    /// Its number.
+    pub number: u64,
+    /// The object itself.
+    pub object: Object,
 }
 
 /// The objects that the current and the saved filehandle name.

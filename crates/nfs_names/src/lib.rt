@@ -10,19 +10,25 @@
 //! ```
 //!
 //! RFC 8881 sections 4 (filehandles), 16.2.3.1 (current and saved filehandle), 18.1, 18.4, 18.7 to 18.9, 18.13 to 18.15,
-//! 18.19 to 18.21, 18.23 to 18.28, 18.31 and 18.45.
+//! 18.19 to 18.21, 18.23 to 18.28, 18.31 and 18.45; of the end of a client 8.3 and 8.4.2.
 #![tactic(auto)]
 
 mod attributes;
 mod checks;
 mod context;
+mod ending;
 mod held;
 mod listing;
 mod making;
 mod operation;
 mod store;
+#[cfg(test)]
+mod tests;
 mod walking;
 
-pub use context::{Context, Saved};
-pub use operation::name_op;
+pub use checks::{current, held as held_object, is_link, judge_name, permits, put_refusal, refuse};
+pub use context::{Caller, Context, Saved};
+pub use held::Held;
+pub use making::{Making, attr_set, change_info, status_of, time_of, wanted_of};
+pub use operation::{is_on_names, moment, name_op};
 pub use store::Store;

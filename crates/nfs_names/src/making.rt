@@ -5,11 +5,11 @@ ghost use Rattle.nfs_compound.specs.Attributes.{view_attributes};
 ghost use Rattle.nfs_compound.specs.NameArgs.{view_create, view_create_type, view_rename};
 ghost use Rattle.nfs_compound.specs.Operation.{OpCreate, OpLink, OpRename};
 ghost use Rattle.nfs_tree.specs.Create.{new_of};
-ghost use Rattle.nfs_tree.specs.Files.{most_text, has_row, has_entries};
+ghost use Rattle.nfs_tree.specs.Files.{most_text, has_entries};
 ghost use Rattle.nfs_attrs.specs.Mask.{told};
 ghost use Rattle.nfs_results.specs.View as view;
 ghost use Rattle.nfs_results.specs.Results.{status_of_result};
-ghost use Rattle.nfs_names.specs.State.{state_of, without_unnamed, IsRooted};
+ghost use Rattle.nfs_names.specs.State.{state_of, IsRooted};
 ghost use Rattle.nfs_names.specs.Outcome.{checked, is_delay};
 ghost use Rattle.nfs_names.specs.Operation.{one_or_delay};
 ghost use Rattle.nfs_names.specs.View.{outcome_of};
@@ -27,15 +27,17 @@ use crate::store::Store;
 use nfs_attrs::{AttrFault, Mask, SetTime, Want, Wanted, may_make, read_attrs};
 use nfs_compound::{Attributes, Create, CreateType, OpNum, Rename};
 use nfs_results::{AttrSet, ChangeInfo, CreateOk, RenameOk, Res};
-use nfs_tree::{Change, Created, New, Renamed, Sets, Tree, TreeFault};
+use nfs_tree::{Change, Created, New, Renamed, Sets, TreeFault};
 use nfs_xdr::{Status, Time};
 use std::alloc::Global;
 
 /// An object that is to be made in a directory, with these attributes.
 #[derive(Clone, Copy, Debug, PartialEq, Eq)]
-pub(crate) struct Making {
-    pub(crate) place: Held,
-    pub(crate) wanted: Wanted,
+pub struct Making {
+    /// The directory.
+    pub place: Held,
+    /// Its attributes.
+    pub wanted: Wanted,
 }
 
 fn is_made(objtype: &CreateType<'_>) -> bool
@@ -118,13 +120,14 @@ fn judge_place(store: &Store, context: &Context, asked: &Create<'_>) -> Result<H
 
 /// The attributes that are given.
 #[tactic(auto, unfolding(crate::specs::Create::wanted_of))]
-fn wanted_of(given: &Attributes<'_>) -> Result<Wanted, AttrFault>
+pub fn wanted_of(given: &Attributes<'_>) -> Result<Wanted, AttrFault>
     ensures { result ≡ of_create.wanted_of (view_attributes given.now) }
 {
     read_attrs(Mask::new(given.attrmask.words), given.attr_vals)
 }
 
-fn time_of(time: Option<SetTime>, now: Time) -> Option<Time>
+/// The time that a request sets, where it sets one at this moment.
+pub fn time_of(time: Option<SetTime>, now: Time) -> Option<Time>
     ensures { result ≡ option_map (of_create.time_of now) time }
 {
     match time {
@@ -140,15 +143,15 @@ fn sets_of(context: &Context, now: Time, new: &New<'_>, wanted: &Wanted) -> Sets
 {
     Sets {
         mode: Some(wanted.mode.unwrap_or(plain_mode(new))),
-        owner: Some(wanted.owner.unwrap_or(context.who.uid)),
-        group: Some(wanted.group.unwrap_or(context.who.gid)),
+        owner: Some(wanted.owner.unwrap_or(context.who.who().uid)),
+        group: Some(wanted.group.unwrap_or(context.who.who().gid)),
         access: time_of(wanted.access, now),
         modify: time_of(wanted.modify, now),
     }
 }
 
 /// How a directory changed, with nothing else in between.
-pub(crate) fn change_info(change: Change) -> ChangeInfo
+pub fn change_info(change: Change) -> ChangeInfo
     ensures { result ≡ of_create.change_info change }
 {
     ChangeInfo {
@@ -167,7 +170,7 @@ fn judge_making(store: &Store, context: &Context, asked: &Create<'_>) -> Result<
         Ok(wanted) => wanted,
         Err(fault) => return Err(fault.status()),
     };
-    may_make(&wanted, &context.who)?;
+    may_make(&wanted, context.who.who())?;
     if wanted.size.is_some() {
         return Err(Status::Inval);
     }
@@ -175,7 +178,7 @@ fn judge_making(store: &Store, context: &Context, asked: &Create<'_>) -> Result<
 }
 
 /// The status of what the tree refuses.
-fn status_of(fault: TreeFault) -> Status
+pub fn status_of(fault: TreeFault) -> Status
     ensures { result ≡ of_tree.status_of fault }
 {
     match fault {
@@ -222,7 +225,7 @@ pub(crate) fn create(
 }
 
 /// The attributes of a mask, as a result tells them.
-fn attr_set(mask: &Mask) -> AttrSet
+pub fn attr_set(mask: &Mask) -> AttrSet
     ensures { view.attr_set result ≡ told mask.now }
 {
     let words = mask.words;
@@ -288,34 +291,13 @@ pub(crate) fn link(
     }
 }
 
-/// Whether a row names the object.
-fn is_named(tree: &Tree, number: u64) -> bool
-    ensures { result ≡ has_row tree.now.rows number }
-{
-    tree.links(number) != 0
-}
-
-/// The object goes, unless it is the root or a row names it.
-fn drop_unnamed(tree: &mut Tree, number: u64)
-    requires { has_entries tree.old.rows number ≡ false }
-    ensures { tree.new ≡ without_unnamed tree.old number }
-{
-    if number == Tree::ROOT {
-        return;
-    }
-    if is_named(tree, number) {
-        return;
-    }
-    tree.forget(number);
-}
-
 /// What had a name that another object has now goes as by REMOVE.
-fn drop_replaced(tree: &mut Tree, replaced: Option<u64>)
-    requires { (n : ℕ) → replaced ≡ Some n → has_entries tree.old.rows n ≡ false }
-    ensures { tree.new ≡ of_rename.without_replaced tree.old replaced }
+fn drop_replaced(store: &mut Store, replaced: Option<u64>)
+    requires { (n : ℕ) → replaced ≡ Some n → has_entries store.old.tree.rows n ≡ false }
+    ensures { state_of store.new ≡ of_rename.without_replaced (state_of store.old) replaced }
 {
     if let Some(number) = replaced {
-        drop_unnamed(tree, number);
+        store.drop_empty(number);
     }
 }
 
@@ -341,7 +323,7 @@ pub(crate) fn remove(store: &mut Store, context: &Context, name: &[u8], now: Tim
     match judge_remove(store, context, name) {
         Ok(d) => match store.tree.remove(d.number, name, now) {
             Ok(removed) => {
-                drop_unnamed(&mut store.tree, removed.number);
+                store.drop_empty(removed.number);
                 Res::Remove(change_info(removed.directory))
             }
             Err(fault) => refuse(OpNum::Remove, status_of(fault)),
@@ -393,7 +375,7 @@ pub(crate) fn rename(
             now,
         ) {
             Ok(renamed) => {
-                drop_replaced(&mut store.tree, renamed.replaced);
+                drop_replaced(store, renamed.replaced);
                 Res::Rename(rename_ok(&renamed))
             }
             Err(fault) => refuse(OpNum::Rename, status_of(fault)),

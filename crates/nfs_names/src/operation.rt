@@ -5,7 +5,7 @@ ghost use Rattle.nfs_compound.specs.View.{item};
 ghost use Rattle.nfs_results.specs.Largest.{largest};
 ghost use Rattle.nfs_results.specs.Results.{status_of_result};
 ghost use Rattle.nfs_results.specs.View as view;
-ghost use Rattle.nfs_names.specs.State.{state_of, moment, IsRooted};
+ghost use Rattle.nfs_names.specs.State.{state_of, moment, IsRooted, IsStore};
 ghost use Rattle.nfs_names.specs.Comes.{Comes};
 ghost use Rattle.nfs_names.specs.Outcome.{is_delay};
 ghost use Rattle.nfs_names.specs.Operation.{on_names, is_plain, comes_to};
@@ -25,13 +25,41 @@ use nfs_xdr::{Sheet, Status, Time};
 use std::alloc::Global;
 
 /// So many whole seconds, as a time.
-fn moment(now: u64) -> Time
+pub fn moment(now: u64) -> Time
     requires { now < 2 ^ 63 }
     ensures { result ≡ moment now }
 {
     Time {
         seconds: now as i64,
         nanoseconds: 0,
+    }
+}
+
+/// Whether an operation is one of those on names and attributes, which [`name_op`] runs.
+pub fn is_on_names(arg: &Arg<'_>) -> bool
+    ensures { result ≡ on_names (item arg.now) }
+{
+    match arg {
+        Arg::Access { .. } => true,
+        Arg::Create(_) => true,
+        Arg::GetAttr { .. } => true,
+        Arg::GetFh => true,
+        Arg::Link { .. } => true,
+        Arg::Lookup { .. } => true,
+        Arg::LookupP => true,
+        Arg::NVerify { .. } => true,
+        Arg::PutFh { .. } => true,
+        Arg::PutPubFh => true,
+        Arg::PutRootFh => true,
+        Arg::ReadDir(_) => true,
+        Arg::ReadLink => true,
+        Arg::Remove { .. } => true,
+        Arg::Rename(_) => true,
+        Arg::RestoreFh => true,
+        Arg::SaveFh => true,
+        Arg::SecinfoNoName { .. } => true,
+        Arg::Verify { .. } => true,
+        _ => false,
     }
 }
 
@@ -82,10 +110,10 @@ pub fn name_op(
 ) -> Status
     requires offered { on_names (item arg.now) ≡ true }
     requires moment { now < 2 ^ 63 }
-    requires rooted { IsRooted store.old.tree }
+    requires store { IsStore (state_of store.old) }
     requires room { length out.old.bytes + largest (item arg.now) ≤ out.old.room }
     ensures comes { Comes (comes_to (is_delay result) (state_of store.old) context.old (moment now) (item arg.now)) out.old out.new result (state_of store.new) context.new }
-    ensures rooted { IsRooted store.new.tree }
+    ensures store { IsStore (state_of store.new) }
     ensures within { length out.new.bytes ≤ length out.old.bytes + largest (item arg.now) }
 {
     store.tree.kept();

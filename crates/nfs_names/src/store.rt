@@ -1,27 +1,30 @@
 //! What operations act on.
 
-ghost use Rattle.std.specs.Prelude.{◌≡◌, IfOk};
-ghost use Rattle.nfs_tree.specs.Create.{new_tree};
-ghost use Rattle.nfs_names.specs.State.{state_of, IsRooted};
+ghost use Rattle.std.specs.Prelude.{◌≡◌, false, IfOk};
+ghost use Rattle.nfs_tree.specs.Files.{has_row, has_entries};
+ghost use Rattle.nfs_names.specs.State.{state_of, new_store, is_open, is_used, without_unused, IsRooted, IsStore, IsStoreBut};
 
+use nfs_opens::Opens;
 use nfs_tree::Tree;
 use nfs_xdr::Time;
 use std::alloc::{AllocError, Global};
 
-/// What operations on names and attributes act on. Contracts see its state, `state_of`.
+/// What operations on names, attributes and bytes act on. Contracts see its state, `state_of`.
 #[derive(Drop)]
 pub struct Store {
     /// The objects and the names.
     pub tree: Tree,
-    /// Tells this start of the server from others: it stands in each filehandle.
+    /// Who has which file open how, and whose bytes are locked.
+    pub opens: Opens,
+    /// Tells this start of the server from others: it stands in each filehandle and in each stateid.
     pub instance: u32,
     /// How long a lease is, in seconds.
     pub lease: u32,
 }
 
 impl Store {
-    /// The store of a new server: nothing but the root, with this mode and three times `now`. Fails only for want of
-    /// memory.
+    /// The store of a new server: nothing but the root, with this mode and three times `now`, and nothing is open. Fails
+    /// only for want of memory.
     pub fn new(
         alloc: Global,
         mode: u32,
@@ -29,14 +32,60 @@ impl Store {
         instance: u32,
         lease: u32,
     ) -> Result<Store, AllocError>
-        ensures state { IfOk result (λ s. state_of s ≡ record { tree = new_tree mode now; instance = instance; lease = lease }) }
-        ensures rooted { IfOk result (λ s. IsRooted s.tree) }
+        ensures state { IfOk result (λ s. state_of s ≡ new_store mode now instance lease) }
+        ensures store { IfOk result (λ s. IsStore (state_of s)) }
     {
         let tree = Tree::new(alloc, mode, now)?;
         Ok(Store {
             tree,
+            opens: Opens::new(alloc, instance),
             instance,
             lease,
         })
+    }
+
+    /// The object goes, unless it is the root, or a row names it, or an open of it stands: then nothing changes. It is
+    /// for an object that may have lost its last row or its last open (RFC 8881 sections 18.16, PRESERVE_UNLINKED, and
+    /// 18.25).
+    pub fn drop_unused(&mut self, number: u64)
+        requires { IsRooted self.old.tree }
+        ensures state { state_of self.new ≡ without_unused (state_of self.old) number }
+        ensures rooted { IsRooted self.new.tree }
+        ensures store { IsStoreBut (state_of self.old) number → IsStore (state_of self.new) }
+    {
+        self.tree.kept();
+        self.drop_empty(number);
+    }
+
+    /// The same of an object that has no entries if it goes.
+    pub(crate) fn drop_empty(&mut self, number: u64)
+        requires { is_used (state_of self.old) number ≡ false → has_entries self.old.tree.rows number ≡ false }
+        ensures { state_of self.new ≡ without_unused (state_of self.old) number }
+    {
+        if self.is_used(number) {
+            return;
+        }
+        self.tree.forget(number);
+    }
+
+    /// Whether it is the root, or has a row or an open.
+    fn is_used(&self, number: u64) -> bool
+        ensures { result ≡ is_used (state_of self.now) number }
+    {
+        number == Tree::ROOT || self.is_named(number) || self.is_open(number)
+    }
+
+    /// Whether a row names it.
+    fn is_named(&self, number: u64) -> bool
+        ensures { result ≡ has_row self.now.tree.rows number }
+    {
+        self.tree.links(number) != 0
+    }
+
+    /// Whether an open of the file stands.
+    fn is_open(&self, file: u64) -> bool
+        ensures { result ≡ is_open (state_of self.now) file }
+    {
+        self.opens.opens_of(file) != 0
     }
 }

@@ -33,7 +33,7 @@ null_record = record { before = []; final = null_call; stands = refl; holds = re
 null_move : Move
 null_move = record { event = Arrives 0 100 null_call; choice = None }
 
-null_output_is : null_output ≡ output Tagged (new_state 7 90) (null_move ∷ [])
+null_output_is : null_output ≡ output Tagged (new_state 511 7 90) (null_move ∷ [])
 unfolding null_move number step call_of header opaque_auth opaque_at fixed_at judged spell_head
 null_output_is = refl
 
@@ -70,7 +70,7 @@ exchange_record = record { before = []; final = exchange_call; stands = refl; ho
 exchange_move : Move
 exchange_move = record { event = Arrives 0 100 exchange_call; choice = None }
 
-exchange_output_is : exchange_output ≡ output Tagged (new_state 7 90) (exchange_move ∷ exchange_move ∷ [])
+exchange_output_is : exchange_output ≡ output Tagged (new_state 511 7 90) (exchange_move ∷ exchange_move ∷ [])
 unfolding exchange_move number hyper step call_of header opaque_auth opaque_at fixed_at judged caller_of auth_sys spell_head request_at items_at item_at op_at fault_at exchange_id_args protected impl_id pieces_at flag_at results.exchange_id
 exchange_output_is = refl
 

@@ -18,7 +18,7 @@ pub record RunsTo (script written : List ℕ) : Type 0 where
   pub whole : IsWhole script entries
   pub reads : Reads all_closed entries (events moves) streams
   pub granted : All (λ m. m.choice ≡ None) moves
-  pub output : written ≡ output Tagged (new_state 7 90) moves
+  pub output : written ≡ output Tagged (new_state 511 7 90) moves
 
 -- xid 1, CALL, RPC version 2, program, version, procedure NULL, and twice AUTH_NONE with no bytes
 abbrev pub null_call : List ℕ

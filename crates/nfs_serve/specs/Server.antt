@@ -30,8 +30,8 @@ abbrev pub IsWith : List Held → List Held → ℕ → Held → Type 0
 IsWith new old conn now = (c : ℕ) → held_on new c ≡ (if nat_eq c conn then now else held_on old c)
 
 -- a new server, with 16 connections
-pub record IsNew (instance lease : ℕ) (s : ServerModel) : Type 0 where
-  pub state : state_of s.kept ≡ new_state instance lease
+pub record IsNew (mode instance lease : ℕ) (s : ServerModel) : Type 0 where
+  pub state : state_of s.kept ≡ new_state mode instance lease
   pub held : s.held ≡ replicate 16 fresh
   pub reply : s.reply ≡ []
 

@@ -19,8 +19,8 @@ pub record State : Type 0 where
   pub moment : ℕ
 
 -- a new server
-abbrev pub new_state : (instance lease : ℕ) → State
-new_state instance lease = record { machine = starts instance lease; moment = 0 }
+abbrev pub new_state : (mode instance lease : ℕ) → State
+new_state mode instance lease = record { machine = starts mode instance lease; moment = 0 }
 
 -- the reply, where there is one, and the state that the record leaves
 pub record Stepped : Type 0 where

@@ -1,6 +1,7 @@
-ghost use Rattle.std.specs.Prelude.{◌≡◌, ◌≤◌, ◌+◌, ◌++◌, ℕ, [], length, drop, Option, IfOk, false};
+ghost use Rattle.std.specs.Prelude.{◌≡◌, ◌≤◌, ◌^◌, ◌+◌, ◌++◌, ℕ, [], length, drop, Option, IfOk, false};
 ghost use Rattle.nfs_xdr.specs.Spelling.{number};
 ghost use Rattle.nfs_rpc.specs.View as view;
+ghost use Rattle.nfs_exec.specs.Laws.{HasNoClashes};
 ghost use Rattle.nfs_serve.specs.Step.{State, step, new_state, by_procedure};
 ghost use Rattle.nfs_serve.specs.Run.{one_fragment, spell_reply, spell_answer};
 ghost use Rattle.nfs_serve.specs.Server.{IsAnswer};
@@ -37,7 +38,7 @@ pub struct Engine {
 }
 
 impl Model for Engine {
-    ghost use Rattle.std.specs.Prelude.{◌≡◌, ◌≤◌, length, drop};
+    ghost use Rattle.std.specs.Prelude.{◌≡◌, ◌≤◌, ◌^◌, length, drop};
     ghost use Rattle.nfs_lease.specs.Renewals.{IsLatest};
     ghost use Rattle.nfs_exec.specs.View.{machine_of};
     ghost use Rattle.nfs_serve.specs.Engine.{EngineModel};
@@ -46,19 +47,24 @@ impl Model for Engine {
 
     ghost view = { λ e. record { kept = record { world = e.world; moment = e.moment }; reply = drop 8 e.sheet.bytes } };
 
-    ghost invariant = { λ e. (8 ≤ length e.sheet.bytes) × (e.sheet.room ≡ 70008) × IsLatest (machine_of e.world).leases e.moment };
+    ghost invariant = { λ e. (8 ≤ length e.sheet.bytes) × (e.sheet.room ≡ 70008) × IsLatest (machine_of e.world).leases e.moment × (e.moment ≤ 2 ^ 62) };
 }
 
 impl Engine {
     /// The engine of a new server. The buffer of replies is made here.
     #[tactic(auto, using(nfs_xdr::proofs::Putting::putting))]
-    pub fn new(alloc: Global, instance: u32, lease: u32) -> Result<Engine, AllocError>
-        ensures { IfOk result (λ e. (state_of e.kept ≡ new_state instance lease) × (e.reply ≡ [])) }
+    pub fn new(
+        alloc: Global,
+        instance: u32,
+        lease: u32,
+        root_mode: u32,
+    ) -> Result<Engine, AllocError>
+        ensures { IfOk result (λ e. (state_of e.kept ≡ new_state root_mode instance lease) × (e.reply ≡ [])) }
     {
         let mut sheet = Sheet::new(alloc, ROOM)?;
         sheet.put_u64(0);
         Ok(Engine {
-            world: World::new(alloc, instance, lease)?,
+            world: World::new(alloc, instance, lease, root_mode)?,
             moment: 0,
             sheet,
         })
@@ -66,6 +72,7 @@ impl Engine {
 
     /// Steps a record at a moment. A reply is lent by `reply`.
     pub fn record(&mut self, alloc: Global, call: &[u8], now: u64) -> Outcome
+        requires { now ≤ 2 ^ 62 }
         ensures { (choice : Option ℕ) × IsAnswer result (step (state_of self.old.kept) call.now now choice).reply self.new.reply × ((state_of self.new.kept) ≡ (step (state_of self.old.kept) call.now now choice).state) }
     {
         self.moment = self.moment.max(now);
@@ -89,6 +96,13 @@ impl Engine {
                 outcome_of(&refusal)
             }
         }
+    }
+
+    /// No byte has a writer beside another holder, and no two owners' opens clash; this does nothing but say so.
+    pub fn no_clash(&self)
+        ensures { HasNoClashes (state_of self.now.kept).machine }
+    {
+        self.world.no_clash();
     }
 
     /// The reply that was made last.
@@ -116,6 +130,7 @@ impl Engine {
         form: Form,
         out: &mut W,
     ) -> Result<(), WriteFailed>
+        requires now { now ≤ 2 ^ 62 }
         requires out { W.has_failed out.old ≡ false }
         ensures { (choice : Option ℕ) × ((state_of self.new.kept) ≡ (step (state_of self.old.kept) call.now now choice).state) × Writes result (W.held out.old) (W.held out.new) (spell_answer form conn (step (state_of self.old.kept) call.now now choice).reply) (W.has_failed out.new) }
     {
@@ -147,6 +162,7 @@ fn put_answer(
     out: &mut Sheet,
 )
     requires size { length call.now.args.now ≤ size }
+    requires now { now ≤ 2 ^ 62 }
     requires latest { IsLatest (machine_of world.old).leases now }
     requires room { length out.old.bytes + 70000 ≤ out.old.room }
     ensures answer { let before : State = record { machine = machine_of world.old; moment = now } in

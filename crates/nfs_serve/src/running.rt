@@ -1,5 +1,5 @@
 //! The run of a script.
-ghost use Rattle.std.specs.Prelude.{◌≡◌, ◌≤◌, ℕ, List, false, length};
+ghost use Rattle.std.specs.Prelude.{◌≡◌, ◌≤◌, ◌^◌, ℕ, List, false, length};
 ghost use Rattle.std.specs.Io.KnownBytes.{Consumes};
 ghost use Rattle.nfs_xdr.specs.Codec.{IsBytes};
 ghost use Rattle.nfs_serve.specs.Engine.{state_of};
@@ -83,6 +83,7 @@ fn run_entry<W: Sink>(
 ) -> Result<(), WriteFailed>
     requires connections { length connections.old ≡ 16 }
     requires conn { entry.now.conn ≤ 15 }
+    requires moment { entry.now.moment ≤ 2 ^ 62 }
     requires bytes { IsBytes entry.now.piece.now }
     requires write { W.has_failed w.old ≡ false }
     ensures ran { RunsEntryOr result (state_of engine.old.kept) (state_of engine.new.kept) connections.old connections.new (reading.entry entry.now) (W.held w.old) (W.held w.new) (W.has_failed w.new) }

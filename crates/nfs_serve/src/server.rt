@@ -1,4 +1,5 @@
 ghost use Rattle.std.specs.Prelude.{◌≡◌, ◌≢◌, ◌≤◌, ◌^◌, [], false, IfOk, OnErr, replicate};
+ghost use Rattle.nfs_exec.specs.Laws.{HasNoClashes};
 ghost use Rattle.nfs_serve.specs.Server.{fresh, held_on, IsWith, Steps, FeedsOr, Closes, IsNew};
 ghost use Rattle.nfs_serve.specs.Engine.{state_of};
 ghost use Rattle.nfs_serve.specs.Replay.{Replays, Tells};
@@ -59,10 +60,10 @@ impl Server {
     ///
     /// `AllocError` where memory is refused.
     pub fn new(alloc: Global, settings: Settings, instance: u32) -> Result<Server, AllocError>
-        ensures { IfOk result (λ s. IsNew instance settings.lease s) }
+        ensures { IfOk result (λ s. IsNew settings.root_mode instance settings.lease s) }
     {
         Ok(Server {
-            engine: Engine::new(alloc, instance, settings.lease)?,
+            engine: Engine::new(alloc, instance, settings.lease, settings.root_mode)?,
             connections: connections(alloc)?,
             piece: vec![in alloc; 0; MAX_PIECE as usize]?,
         })
@@ -75,6 +76,14 @@ impl Server {
         ensures { Steps result self.old self.new call.now now }
     {
         self.engine.record(alloc, call, now)
+    }
+
+    /// No byte of a file has a writer beside another holder, and no two opens of different owners clash, in every state that a
+    /// server reaches; this does nothing but say so.
+    pub fn no_clash(&self)
+        ensures { HasNoClashes (state_of self.now.kept).machine }
+    {
+        self.engine.no_clash();
     }
 
     /// The reply to the record that [`Server::record`] stepped last, without a record mark: no bytes where it was silent, and none

@@ -2,6 +2,7 @@ mod failing;
 mod fakes;
 mod pieces;
 mod scripts;
+mod starting;
 mod talks;
 
 use crate::Settings;

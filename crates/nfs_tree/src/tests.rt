@@ -166,3 +166,69 @@ fn bytes_are_written_cut_and_read(rt: HostRuntime) -> Result<(), Fail> {
     tree.remove(Tree::ROOT, b"f", NOW)?;
     Ok(())
 }
+
+const MOST: usize = 300_000;
+
+/// A name, and bytes, that want memory of their own.
+const LONG: &[u8] = b"a name that is longer than any block that is left over";
+
+/// Takes all memory that there is to take, untouched, down to blocks of 16 bytes.
+fn starve(alloc: Global, taken: &mut Vec<Vec<u8>>) {
+    let mut size = 1usize << 46;
+    for _ in 0..MOST {
+        match Vec::with_capacity(alloc, size) {
+            Ok(block) => {
+                if taken.push(block).is_err() {
+                    return;
+                }
+            }
+            Err(_) => {
+                size /= 2;
+                if size < 16 {
+                    return;
+                }
+            }
+        }
+    }
+}
+
+#[test]
+fn a_refused_growth_changes_nothing(rt: HostRuntime) -> Result<(), Fail> {
+    let alloc = rt.alloc();
+    let mut tree = Tree::new(alloc, 0o755, START)?;
+    let steps = [
+        Step::File(1, LONG),
+        Step::Link(2, 1, LONG),
+        Step::Rename(1, b"f", 1, LONG),
+    ];
+    assert!(rt; run(&mut tree, alloc, Step::File(1, b"f")) == Ok(2));
+    let mut taken = Vec::with_capacity(alloc, MOST)?;
+    starve(alloc, &mut taken);
+    let mut refused = 0u32;
+    for step in steps {
+        if run(&mut tree, alloc, step) == Err(TreeFault::Memory) {
+            refused = refused.wrapping_add(1);
+        }
+    }
+    let written = tree.write(alloc, 2, 0, LONG, NOW);
+    let resized = tree.resize(alloc, 2, 1_000_000, &Sets::none(), NOW);
+    let size = tree.object(2).map(|object| object.size);
+    let same = tree.lookup(1, LONG).is_none()
+        && tree.change(1) == Some(2)
+        && tree.change(2) == Some(1);
+    taken.clear();
+    assert_eq!(rt; refused, 3);
+    assert!(rt; written == Err(TreeFault::Memory) && resized == Err(TreeFault::Memory));
+    assert!(rt; same && size == Some(0));
+    // and with memory there each is done
+    tree.write(alloc, 2, 0, LONG, NOW)?;
+    tree.resize(alloc, 2, 1_000_000, &Sets::none(), NOW)?;
+    for step in [
+        Step::Link(2, 1, LONG),
+        Step::Remove(1, LONG),
+        Step::Rename(1, b"f", 1, LONG),
+    ] {
+        assert!(rt; run(&mut tree, alloc, step).is_ok());
+    }
+    Ok(())
+}

@@ -1,8 +1,7 @@
 use Rattle.std.proofs.Common.{◌≡◌, ◌∷◌, [], Some, sym, ap, ◌∙◌}
 use Rattle.std.specs.Prelude.{Ok, Err, is_some}
 use Rattle.std.proofs.lemmas.Result.{err_from_is_err_and}
-use Rattle.nfs_xdr.specs.Caller.{caller}
-use Rattle.nfs_xdr.specs.Checks.{first_fault}
+use Rattle.nfs_xdr.specs.Checks.{first_fault, judged}
 use Rattle.nfs_xdr.specs.declared.status.Status.TheVariants.{Inval}
 use Rattle.nfs_compound.specs.NameArgs.{view_create}
 use Rattle.nfs_attrs.specs.Setting.{make_checks}
@@ -26,6 +25,6 @@ returns-in_err-may_make c =
     let r = err_from_is_err_and c.from_residual-in_err-may_make.result c.from_residual-in_err-may_make.ensures.1 in
     let v = with_wanted (checked (current s x) (place_checks x a)) (wanted_of a.createattrs) in
     let is : v ≡ Ok m = ap (λ v. with_wanted v (wanted_of a.createattrs)) (sym c.judge_place.ensures ∙ c.in_ok-place.was) ∙ ap (making d) (sym c.wanted_of.ensures ∙ c.in-Ok.is) in
-    let barred : first_fault (make_checks w (caller x.who)) ≡ Some f = judged_err _ _ (sym c.may_make.ensures ∙ c.in_err-may_make.was) in
-    let all : first_fault (new_checks x m) ≡ Some f = append_fault (make_checks w (caller x.who)) ((is_some w.size, Inval) ∷ []) f barred in
+    let barred : first_fault (make_checks w x.who) ≡ Some f = judged_err _ _ (ap (λ who. judged (first_fault (make_checks w who))) (sym c.who.ensures) ∙ sym c.may_make.ensures ∙ c.in_err-may_make.was) in
+    let all : first_fault (new_checks x m) ≡ Some f = append_fault (make_checks w x.who) ((is_some w.size, Inval) ∷ []) f barred in
     r.1 ∙ ap Err r.2 ∙ sym (stopped v (new_checks x) m f is all)

@@ -9,7 +9,7 @@ use Rattle.nfs_tree.specs.Files.{Files, is_entry, named, has_entries}
 use Rattle.nfs_tree.specs.Did.{raised}
 use Rattle.nfs_tree.specs.Names.{remove_fault, without_name}
 use Rattle.nfs_tree.proofs.Trees.{remove_granted}
-use Rattle.nfs_names.specs.State.{state_of, with_tree, without_unnamed}
+use Rattle.nfs_names.specs.State.{State, state_of, with_tree, without_unused}
 use Rattle.nfs_names.specs.Outcome.{Outcome, checked}
 use Rattle.nfs_names.specs.Checks.{current}
 use Rattle.nfs_names.specs.Create.{change_info}
@@ -20,8 +20,8 @@ use Rattle.nfs_names.proofs.Changing.{remove_goes, remove_stops}
 use Rattle.nfs_names.proofs.Faulted.{did_ok, does_err, by_error}
 use Rattle.nfs_names.proofs.making.remove.Goals as goal
 
-pub drop_unnamed-requires : goal.drop_unnamed-requires
-drop_unnamed-requires c =
+pub drop_empty-requires : goal.drop_empty-requires
+drop_empty-requires c unused =
     let t = c.args.store.now.tree in
     let d = c.in-Ok.d.number in
     let name = c.args.name.now in
@@ -42,9 +42,11 @@ returns-in-Ok-remove c =
     let n = named t d.number name in
     let v : checked (current s x) (place_checks x name) ≡ Ok d = sym c.judge_remove.ensures ∙ c.in-Ok.is in
     let did = did_ok t (remove_fault t d.number name) (record { number = n; directory = raised t d.number }) c.in-Ok-remove.removed (without_name t d.number name now) c.remove.new.self c.in-Ok-remove.ensures.answer c.in-Ok-remove.ensures.after in
-    let outcome : ChangeInfo → Files → Outcome = λ info t. record { result = ResRemove info; state = with_tree s t; context = x } in
-    ap (λ info. outcome info c.drop_unnamed.new.tree) (c.change_info.ensures ∙ ap (λ (k : Removed). change_info k.directory) did.1)
-    ∙ ap (outcome (change_info (raised t d.number))) (c.drop_unnamed.ensures ∙ ap (λ u. without_unnamed u c.in-Ok-remove.removed.number) did.2 ∙ ap (λ (k : Removed). without_unnamed (without_name t d.number name now) k.number) did.1)
+    let outcome : ChangeInfo → State → Outcome = λ info u. record { result = ResRemove info; state = u; context = x } in
+    let left : State = with_tree s (without_name t d.number name now) in
+    ap (λ info. outcome info (state_of c.drop_empty.new.self)) (c.change_info.ensures ∙ ap (λ (k : Removed). change_info k.directory) did.1)
+    ∙ ap (outcome (change_info (raised t d.number)))
+    (c.drop_empty.ensures ∙ ap (λ u. without_unused (with_tree s u) c.in-Ok-remove.removed.number) did.2 ∙ ap (λ (k : Removed). without_unused left k.number) did.1)
     ∙ sym (remove_goes s x now name d v did.0)
 
 pub returns-in-Err-remove : goal.returns-in-Err-remove

@@ -5,12 +5,12 @@ use Rattle.nfs_compound.specs.NameArgs.{view_rename}
 use Rattle.nfs_compound.specs.declared.op_num.OpNum.TheVariants as Op
 use Rattle.nfs_results.specs.declared.res.RenameOk.{RenameOk}
 use Rattle.nfs_results.specs.Result.{ResRename, Refused}
-use Rattle.nfs_tree.specs.Files.{Files, lookup}
+use Rattle.nfs_tree.specs.Files.{lookup}
 use Rattle.nfs_tree.specs.Did.{raised, stays}
 use Rattle.nfs_tree.specs.declared.done.Renamed.{Renamed}
 use Rattle.nfs_tree.specs.Names as tree
 use Rattle.nfs_tree.specs.Names.{moves, with_moved}
-use Rattle.nfs_names.specs.State.{state_of, with_tree}
+use Rattle.nfs_names.specs.State.{State, state_of, with_tree}
 use Rattle.nfs_names.specs.Outcome.{Outcome, checked, is_delay}
 use Rattle.nfs_names.specs.Checks.{both}
 use Rattle.nfs_names.specs.Create.{change_info}
@@ -42,21 +42,21 @@ returns-in-Ok-rename c =
     let left = c.rename.new.self in
     let v : checked (both s x) (place_checks x a) ≡ Ok p = sym c.judge_rename.ensures ∙ c.in-Ok.is in
     let w = went t m now r left c.in-Ok-rename.ensures in
-    let outcome : RenameOk → Files → Outcome = λ r t. record { result = ResRename r; state = with_tree s t; context = x } in
+    let outcome : RenameOk → State → Outcome = λ r u. record { result = ResRename r; state = u; context = x } in
     let told_ok : Renamed → RenameOk = λ r. record { source_cinfo = change_info r.source; target_cinfo = change_info r.target } in
-    let by_code = ap (λ k. outcome k c.drop_replaced.new.tree) c.rename_ok.ensures ∙ ap (outcome (told_ok r)) c.drop_replaced.ensures in
-    let whole : outcome (told_ok r) (without_replaced left r.replaced) ≡ what_moves s x now a p = elim (cases_Bool (moves t m)) [
+    let by_code = ap (λ k. outcome k (state_of c.drop_replaced.new.store)) c.rename_ok.ensures ∙ ap (outcome (told_ok r)) c.drop_replaced.ensures in
+    let whole : outcome (told_ok r) (without_replaced (with_tree s left) r.replaced) ≡ what_moves s x now a p = elim (cases_Bool (moves t m)) [
       | inl go ↦ (let answer : Ok r ≡ (tree.moved t m now).answer = rw go at w.answer in
           let after : left ≡ with_moved t m now = rw go at w.after in
           let same : r ≡ record { source = raised t m.source; target = raised t m.target; replaced = lookup t m.target m.name } = cc in
-          ap (λ (k : Renamed). outcome (told_ok k) (without_replaced left k.replaced)) same
-          ∙ ap (λ u. outcome (told_ok (record { source = raised t m.source; target = raised t m.target; replaced = None })) (without_replaced u (lookup t m.target m.name))) after
+          ap (λ (k : Renamed). outcome (told_ok k) (without_replaced (with_tree s left) k.replaced)) same
+          ∙ ap (λ u. outcome (told_ok (record { source = raised t m.source; target = raised t m.target; replaced = None })) (without_replaced (with_tree s u) (lookup t m.target m.name))) after
           ∙ sym (ap (λ b. if b then moved s x now a p else unmoved s x p) go))
       | inr stay ↦ (let answer : Ok r ≡ (tree.unmoved t m).answer = rw stay at w.answer in
           let after : left ≡ t = rw stay at w.after in
           let same : r ≡ record { source = stays t m.source; target = stays t m.target; replaced = None } = cc in
-          ap (λ (k : Renamed). outcome (told_ok k) (without_replaced left k.replaced)) same
-          ∙ ap (outcome (told_ok (record { source = stays t m.source; target = stays t m.target; replaced = None }))) after
+          ap (λ (k : Renamed). outcome (told_ok k) (without_replaced (with_tree s left) k.replaced)) same
+          ∙ ap (λ u. outcome (told_ok (record { source = stays t m.source; target = stays t m.target; replaced = None })) (with_tree s u)) after
           ∙ sym (ap (λ b. if b then moved s x now a p else unmoved s x p) stay))
     ] in
     by_code ∙ whole ∙ sym (not_delayed (moves_in s a (both s x) && false) s x Op.Rename (rename s x now a) (and_right (moves_in s a (both s x)) false refl) ∙ rename_goes s x now a p v w.none)

@@ -8,7 +8,7 @@ use Rattle.nfs_compound.specs.View.{item}
 use Rattle.nfs_results.specs.Largest.{largest}
 use Rattle.nfs_results.specs.Results.{status_of_result}
 use Rattle.nfs_results.specs.View as view
-use Rattle.nfs_names.specs.State.{state_of, moment, IsRooted}
+use Rattle.nfs_names.specs.State.{state_of, moment, IsStore}
 use Rattle.nfs_names.specs.Comes.{Comes}
 use Rattle.nfs_names.specs.Outcome.{Outcome, is_delay}
 use Rattle.nfs_names.specs.Operation.{comes_to}
@@ -21,7 +21,7 @@ pub write-requires : goal.write-requires
 write-requires c =
     let i = item c.args.arg.now in
     let r = view.res c.plain_op-res.result in
-    let kept = keeps (is_delay (status_of_result r)) (state_of c.args.store.now) c.args.context.now c.moment.result i c.requires.offered c.kept.ensures c.requires.rooted in
+    let kept = keeps (is_delay (status_of_result r)) (state_of c.args.store.now) c.args.context.now c.moment.result i c.requires.offered c.kept.ensures c.requires.store in
     let is : IsAnswer i r = subst (λ (o : Outcome). IsAnswer i o.result) (sym c.plain_op-res.ensures) kept.may in
     record { bounds = bounded_may i r is; room = λ arrays. room_may i r c.args.out.now is c.requires.room }
 
@@ -54,7 +54,7 @@ returns-in_default c =
     let x = c.args.context.now in
     let r = view.res c.plain_op-res.result in
     let now = c.moment.result in
-    let kept = keeps (is_delay (status_of_result r)) s x now i c.requires.offered c.kept.ensures c.requires.rooted in
+    let kept = keeps (is_delay (status_of_result r)) s x now i c.requires.offered c.kept.ensures c.requires.store in
     let is : IsAnswer i r = subst (λ (o : Outcome). IsAnswer i o.result) (sym c.plain_op-res.ensures) kept.may in
     let left : Outcome = outcome_of c.plain_op-res.result (state_of c.plain_op-res.new.store) c.plain_op-res.new.context in
     let same : left ≡ comes_to (is_delay c.status.result) s x (moment c.args.now) i =
@@ -63,6 +63,6 @@ returns-in_default c =
     record {
       comes = subst (λ (o : Outcome). Comes o c.args.out.now c.write.new.out c.status.result (state_of c.plain_op-res.new.store) c.plain_op-res.new.context) same
           (record { put = c.write.ensures; status = c.status.ensures; state = refl; context = refl });
-      rooted = subst (λ (o : Outcome). IsRooted o.state.tree) (sym c.plain_op-res.ensures) kept.rooted;
+      store = subst (λ (o : Outcome). IsStore o.state) (sym c.plain_op-res.ensures) kept.store;
       within = within i r c.args.out.now c.write.new.out is c.write.ensures;
     }

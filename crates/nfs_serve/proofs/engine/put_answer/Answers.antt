@@ -9,6 +9,7 @@ compound-requires c =
     record {
       opened = record { bytes = c.args.call.now.args.now; request = c.in-Ok.ensures.request };
       size = subst (λ (b : List ℕ). length b ≤ c.args.size) (sym c.in-Ok.ensures.request.whole) c.requires.size;
+      moment = (let now = c.requires.now in omega (arith, now));
       latest = c.requires.latest;
       room = rw (c.write_head-in-Ok.ensures.bytes, c.write_head-in-Ok.ensures.room) (omega (arith, size, length_head c.args.call.now.xid, c.requires.room));
     }

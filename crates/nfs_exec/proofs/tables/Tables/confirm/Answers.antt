@@ -1,12 +1,10 @@
-use Rattle.std.proofs.Common.{subst, sym}
-use Rattle.nfs_lease.specs.Renewals.{IsLatest, leases_of}
-use Rattle.nfs_lease.proofs.Latest.{latest_without}
-use Rattle.nfs_exec.specs.declared.tables.Tables.{Tables}
+use Rattle.std.proofs.Common.{ap, sym, subst, ◌∙◌}
+use Rattle.nfs_lease.specs.Renewals.{IsLatest, leases_of, with_renewal}
+use Rattle.nfs_clients.specs.Roster.{Roster}
+use Rattle.nfs_exec.specs.Machine.{Machine}
+use Rattle.nfs_exec.specs.View.{machine_of, without_left}
+use Rattle.nfs_exec.proofs.Latest.{latest_left}
 use Rattle.nfs_exec.proofs.tables.Tables.confirm.Goals as goal
-use Rattle.nfs_exec.proofs.tables.Tables.confirm.Goals.{in-Some, in_default}
 
 pub renew-requires : goal.renew-requires
-renew-requires c = elim c.match-leaving.branch [
-  | in-Some w ↦ subst (λ (t : Tables). IsLatest (leases_of t.leases) c.args.now) (sym w.self-is) (latest_without (leases_of c.args.self.now.leases) (leases_of w.remove.new.self) w.in-Some.other c.args.now w.remove.ensures.lease c.requires.latest)
-  | in_default w ↦ subst (λ (t : Tables). IsLatest (leases_of t.leases) c.args.now) (sym w.self-is) c.requires.latest
-]
+renew-requires c = subst (λ (k : Machine). IsLatest k.leases c.args.now) (sym c.leave.ensures) (latest_left (leases_of c.args.self.now.leases) c.args.leaving c.args.now c.requires.latest)

@@ -1,33 +1,58 @@
-use Rattle.std.proofs.Common.{ℕ, ◌-◌, ◌≤◌, List, length, take, drop, ap, sym, subst, ◌∙◌}
+use Rattle.std.proofs.Common.{ℕ, ◌≡◌, ◌-◌, ◌≤◌, List, length, take, drop, ap, sym, subst, ◌∙◌}
 use Rattle.nfs_xdr.specs.Caller.{caller}
+use Rattle.nfs_xdr.specs.Paper.{Puts}
 use Rattle.nfs_compound.specs.Request.{Request}
 use Rattle.nfs_lease.specs.Renewals.{leases_of}
-use Rattle.nfs_exec.specs.Compound.{answers, renewed, runs_behind}
+use Rattle.nfs_exec.specs.Machine.{Machine}
+use Rattle.nfs_names.specs.Context.{begins}
+use Rattle.nfs_sessions.specs.Id.{id_of}
+use Rattle.nfs_exec.specs.Run.{behind_here}
+use Rattle.nfs_exec.specs.Compound.{answers, begun, renewed, runs_behind, Answers}
 use Rattle.nfs_exec.specs.View.{machine_of}
-use Rattle.nfs_exec.proofs.Keeping.{starts_within, text_of, kept_machine}
+use Rattle.nfs_exec.proofs.Behind.{run_sessions}
+use Rattle.nfs_exec.proofs.Keeping.{starts_within, text_of, renewed_machine, kept_machine, may_keep}
 use Rattle.nfs_exec.proofs.tables.Tables.run_new.Goals as goal
 
 pub slice_bounds-reply-count : goal.slice_bounds-reply-count
 slice_bounds-reply-count c =
-    let behind = renewed (machine_of c.args.self.now) c.args.now c.args.asked.now in
-    subst (λ (xs : List ℕ). c.len-start.result ≤ length xs) (sym c.bytes.ensures) (starts_within c.args.out.now c.put_run.new.out _ c.len-start.result (c.put_run.ensures.put behind) c.len-start.ensures.value)
+    subst (λ (xs : List ℕ). c.len-start.result ≤ length xs) (sym c.bytes.ensures) (starts_within c.args.out.now c.put_run.new.out _ c.len-start.result c.put_run.ensures.answer.1.put c.len-start.ensures.value)
 
 pub slice_bounds-reply-start : goal.slice_bounds-reply-start
 slice_bounds-reply-start c =
-    let behind = renewed (machine_of c.args.self.now) c.args.now c.args.asked.now in
-    subst (λ (xs : List ℕ). c.len-start.result ≤ length xs) (sym c.bytes.ensures) (starts_within c.args.out.now c.put_run.new.out _ c.len-start.result (c.put_run.ensures.put behind) c.len-start.ensures.value)
+    subst (λ (xs : List ℕ). c.len-start.result ≤ length xs) (sym c.bytes.ensures) (starts_within c.args.out.now c.put_run.new.out _ c.len-start.result c.put_run.ensures.answer.1.put c.len-start.ensures.value)
 
-pub returns : goal.returns
-returns c =
+pub keep-requires : goal.keep-requires
+keep-requires c =
     let m = machine_of c.args.self.now in
     let r = c.args.args.now in
     let s = c.args.asked.now in
-    let behind = renewed m c.args.now s in
-    let ran = runs_behind behind r s c.args.channel.now r.left in
-    let put = c.put_run.ensures.put behind in
-    let reply = ap (λ (xs : List ℕ). take (length xs - c.len-start.result) (drop c.len-start.result xs)) c.bytes.ensures ∙ text_of c.args.out.now c.put_run.new.out (answers r ran).text c.len-start.result put c.len-start.ensures.value in
-    record {
-      put = put;
-      machine = kept_machine m ran.machine r (caller c.args.who.now) s c.args.now (answers r ran).text c.from_bytes-id.result c.keep.new.self (leases_of c.renew.new.self) c.bytes-2.result.now _
-          c.from_bytes-id.ensures.read c.renew.ensures c.keep.ensures (c.bytes-2.ensures ∙ ap (λ (q : Request). q.bytes) c.put_run.ensures.same) reply (c.put_run.ensures.machine behind);
-    }
+    let who = caller c.args.who.now in
+    let channel = c.args.channel.now in
+    let behind = record m { leases = leases_of c.renew.new.self } in
+    let choice = c.put_run.ensures.answer.0 in
+    let did = c.put_run.ensures.answer.1 in
+    let sessions : c.put_run.new.self.sessions ≡ m.sessions =
+    ap (λ (k : Machine). k.sessions) did.machine ∙ run_sessions channel.response (begun r s channel) c.args.now (behind_here choice) behind (begins (id_of s.sessionid).client who) r.left in
+    let reply = ap (λ (xs : List ℕ). take (length xs - c.len-start.result) (drop c.len-start.result xs)) c.bytes.ensures ∙ text_of c.args.out.now c.put_run.new.out _ c.len-start.result did.put c.len-start.ensures.value in
+    let args : c.bytes-2.result.now ≡ r.bytes = c.bytes-2.ensures ∙ ap (λ (q : Request). q.bytes) c.put_run.ensures.same in
+    may_keep c.put_run.new.self.sessions m.sessions r who c.requires.runs.0 s channel c.from_bytes-id.result c.bytes-2.result.now _ _ c.args.out.now c.put_run.new.out
+    sessions c.from_bytes-id.ensures.read c.requires.runs.1 c.requires.runs.2 args reply did.put c.put_run.ensures.fits
+
+pub returns-clause-answer : goal.returns-clause-answer
+returns-clause-answer c =
+    let m = machine_of c.args.self.now in
+    let r = c.args.args.now in
+    let s = c.args.asked.now in
+    let who = caller c.args.who.now in
+    let choice = c.put_run.ensures.answer.0 in
+    let behind : record m { leases = leases_of c.renew.new.self } ≡ renewed m c.args.now s = renewed_machine m s c.args.now c.from_bytes-id.result (leases_of c.renew.new.self) c.from_bytes-id.ensures.read c.renew.ensures in
+    let did = subst (λ (k : Machine). Answers (answers r (runs_behind k r who c.args.now choice s c.args.channel.now r.left)) c.args.out.now c.put_run.new.out (machine_of c.put_run.new.self)) behind c.put_run.ensures.answer.1 in
+    let ran = runs_behind (renewed m c.args.now s) r who c.args.now choice s c.args.channel.now r.left in
+    let reply = ap (λ (xs : List ℕ). take (length xs - c.len-start.result) (drop c.len-start.result xs)) c.bytes.ensures ∙ text_of c.args.out.now c.put_run.new.out (answers r ran).text c.len-start.result did.put c.len-start.ensures.value in (
+      choice,
+      record {
+        put = did.put;
+        machine = kept_machine (machine_of c.put_run.new.self) ran.machine r who s (answers r ran).text c.from_bytes-id.result c.keep.new.self c.bytes-2.result.now _
+            c.from_bytes-id.ensures.read c.keep.ensures (c.bytes-2.ensures ∙ ap (λ (q : Request). q.bytes) c.put_run.ensures.same) reply did.machine;
+      },
+    )

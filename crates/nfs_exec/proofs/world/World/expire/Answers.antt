@@ -1,8 +1,12 @@
-use Rattle.std.proofs.Common.{sym, subst}
-use Rattle.nfs_exec.specs.Machine.{IsMachine}
+use Rattle.std.proofs.Common.{ap, sym, subst}
+use Rattle.nfs_names.specs.State.{IsStore}
+use Rattle.nfs_exec.specs.Machine.{Machine, IsMachine}
 use Rattle.nfs_exec.specs.View.{machine_of}
 use Rattle.nfs_exec.proofs.Invariant.{of_expired}
 use Rattle.nfs_exec.proofs.world.World.expire.Goals as goal
 
 pub invariant_of-self : goal.invariant_of-self
-invariant_of-self c = subst IsMachine (sym c.expire.ensures) (of_expired (machine_of c.self.inside.tables) c.args.now c.self.invariant)
+invariant_of-self c = record {
+  machine = subst IsMachine (sym c.expire.ensures.machine) (of_expired (machine_of c.self.inside.tables) c.args.now c.self.invariant.machine);
+  store = c.expire.ensures.store;
+}

@@ -1,7 +1,13 @@
-use Rattle.std.proofs.Common.{sym, subst}
-use Rattle.nfs_names.specs.State.{IsRooted}
-use Rattle.nfs_names.proofs.Beginning.{rooted_at_first}
+use Rattle.std.proofs.Common.{sym, ap, subst, ◌∙◌}
+use Rattle.nfs_tree.specs.Files.{Files}
+use Rattle.nfs_tree.specs.Create.{new_tree}
+use Rattle.nfs_opens.specs.Table.{Table, table}
+use Rattle.nfs_names.specs.State.{State, IsStore}
+use Rattle.nfs_names.proofs.Kept.{store_at_first}
 use Rattle.nfs_names.proofs.store.Store.new.Goals as goal
 
-pub returns-clause-rooted : goal.returns-clause-rooted
-returns-clause-rooted c = subst IsRooted (sym c.in_ok-tree.ensures) (rooted_at_first c.args.mode c.args.now)
+pub returns-clause-store : goal.returns-clause-store
+returns-clause-store c =
+    let by_parts : Files → Table → State = λ t o. record { tree = t; opens = o; instance = c.args.instance; lease = c.args.lease } in
+    let same = ap (λ t. by_parts t (table c.new-2.result)) c.in_ok-tree.ensures ∙ ap (by_parts (new_tree c.args.mode c.args.now)) c.new-2.ensures in
+    subst IsStore (sym same) (store_at_first c.args.mode c.args.now c.args.instance c.args.lease)

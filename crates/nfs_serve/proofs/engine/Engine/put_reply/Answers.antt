@@ -10,7 +10,7 @@ in_form-requires g c =
     omega (arith, long)
 
 pub invariant_of-self : goal.invariant_of-self
-invariant_of-self g c = (rw c.frame.ensures.bytes (long-framed _ _ _), c.frame.ensures.room ∙ c.self.invariant.1, c.self.invariant.2)
+invariant_of-self g c = (rw c.frame.ensures.bytes (long-framed _ _ _), c.frame.ensures.room ∙ c.self.invariant.1, c.self.invariant.2, c.self.invariant.3)
 
 pub returns-clause-wrote : goal.returns-clause-wrote
 returns-clause-wrote g c =

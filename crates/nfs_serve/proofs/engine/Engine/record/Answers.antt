@@ -30,6 +30,7 @@ invariant_of-self-in-Err c =
       omega (arith, front, long),
       c.write_refusal.ensures.room ∙ ap (λ (p : Paper). p.room) c.cut.ensures ∙ c.self.invariant.1,
       latest_expired (machine_of c.self.inside.world) (machine_of c.expire.new.self) c.self.inside.moment c.max-self-inside.result c.expire.ensures (rw c.max-self-inside.ensures (omega arith)) c.self.invariant.2,
+      rw c.max-self-inside.ensures (let before = c.self.invariant.3 in let now = c.requires in omega (arith, before, now)),
     )
 
 pub returns-in-Ok : goal.returns-in-Ok

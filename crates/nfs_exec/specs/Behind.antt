@@ -1,0 +1,41 @@
+-- One operation behind a SEQUENCE (RFC 8881 section 2.10.6.4): what it comes to, and the context in which the next one runs.
+use Rattle.std.specs.Prelude.{ℕ, Bool, if◌then◌else◌}
+use Rattle.nfs_xdr.specs.declared.status.Status.{Status}
+use Rattle.nfs_compound.specs.Arguments.{item_number}
+use Rattle.nfs_compound.specs.Operation.{OpReclaimComplete, Item, Operation}
+use Rattle.nfs_names.specs.declared.context.Context.{Context}
+use Rattle.nfs_names.specs.State.{moment}
+use Rattle.nfs_names.specs.Outcome.{Outcome as OfStore}
+use Rattle.nfs_names.specs.Operation as names
+use Rattle.nfs_files.specs.Operation as files
+use Rattle.nfs_exec.specs.Machine.{Machine, Outcome, comes_to, refuses, with_mark}
+use Rattle.nfs_exec.specs.Place.{status_behind}
+use Rattle.nfs_exec.specs.ReclaimComplete.{reclaim_complete}
+
+pub record Step : Type 0 where
+  pub outcome : Outcome
+  pub context : Context
+
+-- it is refused, and nothing changes
+abbrev pub stays : Machine → Context → Item → Status → Step
+stays m x item status = record { outcome = refuses m (item_number item) status; context = x }
+
+-- an operation on the store leaves the other tables as they are
+abbrev pub on_store : Machine → OfStore → Step
+on_store m o = record { outcome = comes_to (record m { store = o.state }) o.result; context = o.context }
+
+-- and the client's record has the mark of an open where one of its opens stands
+abbrev pub marked : ℕ → Step → Step
+marked client s = record s { outcome = record s.outcome { machine = with_mark client s.outcome.machine } }
+
+-- RECLAIM_COMPLETE, and what nothing carries out
+abbrev pub otherwise : Machine → Context → Item → Step
+otherwise m x (Operation (OpReclaimComplete one)) = record { outcome = reclaim_complete m x one; context = x }
+otherwise m x item = stays m x item (status_behind item)
+
+-- an item behind a SEQUENCE, at a moment in seconds, where memory was refused or not
+abbrev pub step : Machine → Context → (now : ℕ) → (refused : Bool) → Item → Step
+step m x now refused item =
+    if names.on_names item then on_store m (names.comes_to refused m.store x (moment now) item)
+    else if files.on_files item then marked x.client (on_store m (files.comes_to refused m.store x (moment now) item))
+    else otherwise m x item

@@ -1,0 +1,26 @@
+-- RECLAIM_COMPLETE (RFC 8881 section 18.51): a client has nothing, or nothing more, to reclaim.
+use Rattle.std.specs.Prelude.{Bool, true, false, Result, Ok, Err, if◌then◌else◌}
+use Rattle.nfs_xdr.specs.declared.status.Status.{Status}
+use Rattle.nfs_xdr.specs.declared.status.Status.TheVariants.{CompleteAlready}
+use Rattle.nfs_compound.specs.declared.op_num.OpNum.TheVariants as Op
+use Rattle.nfs_compound.specs.OpNum.{op_number}
+use Rattle.nfs_results.specs.Result.{ResReclaimComplete}
+use Rattle.nfs_clients.specs.Marks.{has_reclaimed, with_reclaimed}
+use Rattle.nfs_names.specs.declared.context.Context.{Context}
+use Rattle.nfs_names.specs.declared.held.Held.{Held}
+use Rattle.nfs_names.specs.Checks.{current}
+use Rattle.nfs_exec.specs.Machine.{Machine, Outcome, comes_to, refuses}
+
+-- of the current filehandle's file system: the client's mark is neither looked at nor set
+abbrev pub of_one : Machine → Result Held Status → Outcome
+of_one m (Err status) = refuses m (op_number Op.ReclaimComplete) status
+of_one m (Ok found) = comes_to m ResReclaimComplete
+
+-- of all file systems: once
+abbrev pub of_all : Machine → Context → Outcome
+of_all m x =
+    if has_reclaimed m.clients x.client then refuses m (op_number Op.ReclaimComplete) CompleteAlready
+    else comes_to (record m { clients = with_reclaimed m.clients x.client }) ResReclaimComplete
+
+abbrev pub reclaim_complete : Machine → Context → Bool → Outcome
+reclaim_complete m x one = if one then of_one m (current m.store x) else of_all m x

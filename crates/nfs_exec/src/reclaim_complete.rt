@@ -1,0 +1,45 @@
+//! RECLAIM_COMPLETE (RFC 8881 section 18.51).
+
+ghost use Rattle.std.specs.Prelude.{◌≡◌, ◌≤◌, length};
+ghost use Rattle.nfs_compound.specs.declared.op_num.OpNum.TheVariants as Op;
+ghost use Rattle.nfs_compound.specs.OpNum.{op_number};
+ghost use Rattle.nfs_results.specs.Results.{spell_result, refusal, IsBounded};
+ghost use Rattle.nfs_results.specs.View as view;
+ghost use Rattle.nfs_exec.specs.Machine.{comes_to};
+ghost use Rattle.nfs_exec.specs.ReclaimComplete.{reclaim_complete};
+ghost use Rattle.nfs_exec.specs.View.{machine_of};
+
+use crate::tables::Tables;
+use nfs_compound::OpNum;
+use nfs_names::{Context, current};
+use nfs_results::Res;
+use nfs_xdr::Status;
+
+impl Tables {
+    /// Notes that a client has nothing more to reclaim, once; of the current filehandle's file system alone (`one`), nothing
+    /// is noted.
+    pub fn reclaim_complete(&mut self, context: &Context, one: bool) -> Res<'static>
+        ensures outcome { comes_to (machine_of self.new) (view.res result) ≡ reclaim_complete (machine_of self.old) context.now one }
+        ensures bounds { IsBounded (view.res result) }
+        ensures short { length (spell_result (view.res result)) ≤ 12 }
+        ensures store { self.new.store ≡ self.old.store }
+    {
+        if one {
+            return match current(&self.store, context) {
+                Ok(_) => Res::ReclaimComplete,
+                Err(status) => refused(status),
+            };
+        }
+        if self.clients.reclaimed(context.client) {
+            refused(Status::CompleteAlready)
+        } else {
+            Res::ReclaimComplete
+        }
+    }
+}
+
+fn refused(status: Status) -> Res<'static>
+    ensures { view.res result ≡ refusal (op_number Op.ReclaimComplete) status }
+{
+    Res::refusal(OpNum::ReclaimComplete.number(), status)
+}

@@ -1,0 +1,53 @@
+-- COMMIT, READ and WRITE: the results that they may have.
+use Rattle.std.proofs.Common.{◌≡◌, ℕ, ◌≤◌, length, refl, arith, inl, inr}
+use Rattle.std.specs.Prelude.{nat_lt, replicate}
+use Rattle.std.proofs.lemmas.Bool.{cases_Bool, ltb-false}
+use Rattle.std.proofs.lemmas.List.{length-append}
+use Rattle.nfs_xdr.specs.Spelling.{number}
+use Rattle.nfs_xdr.specs.declared.time.Time.{Time}
+use Rattle.nfs_xdr.proofs.Putting.{length_number}
+use Rattle.nfs_compound.specs.declared.op_num.OpNum.TheVariants as Num
+use Rattle.nfs_compound.specs.declared.file_args.Commit.{Commit}
+use Rattle.nfs_compound.specs.declared.file_args.Read.{Read}
+use Rattle.nfs_compound.specs.FileArgs.{Write}
+use Rattle.nfs_compound.specs.Operation.{Operation, OpCommit, OpRead, OpWrite}
+use Rattle.nfs_results.specs.Largest.{given}
+use Rattle.nfs_names.specs.declared.context.Context.{Context}
+use Rattle.nfs_names.specs.State.{State}
+use Rattle.nfs_names.specs.Checks.{current}
+use Rattle.nfs_names.proofs.Bounds.{IsAnswer, current_refuses}
+use Rattle.nfs_names.proofs.Refusing.{refuses_checked, answers_with}
+use Rattle.nfs_files.specs.Bytes.{file_checks, writable}
+use Rattle.nfs_files.specs.Commit.{write_verifier, commit}
+use Rattle.nfs_files.specs.Read.{read}
+use Rattle.nfs_files.specs.Write.{last_checks, write}
+use Rattle.nfs_files.proofs.ReadBytes.{few_given}
+use Rattle.nfs_files.proofs.Seats.{readable_refuses, writable_refuses}
+
+-- a write verifier has 8 bytes
+verifier_length : (s : State) → length (write_verifier s) ≡ 8
+verifier_length s = omega (arith, length-append (number s.instance) (replicate 4 0), length_number s.instance)
+
+given_most : (count : ℕ) → given count ≤ 65536
+given_most count = elim (cases_Bool (nat_lt 65536 count)) [ inl most ↦ rw most (omega arith) | inr few ↦ rw few (ltb-false _ _ few) ]
+
+pub may_commit : (s : State) (x : Context) (a : Commit) → IsAnswer (Operation (OpCommit a)) (commit s x).result
+unfolding commit
+may_commit s x a =
+    answers_with (IsAnswer (Operation (OpCommit a))) s x Num.Commit _ _ (refuses_checked (current s x) file_checks (current_refuses s x) (λ d. refl))
+    (λ status h. record { may = (refl, rw (h.done, h.legal) refl, tt); arrays = tt })
+    (λ d. record { may = (refl, tt, tt); arrays = verifier_length s })
+
+pub may_read_bytes : (s : State) (x : Context) (a : Read) → IsAnswer (Operation (OpRead a)) (read s x a).result
+unfolding read
+may_read_bytes s x a =
+    answers_with (IsAnswer (Operation (OpRead a))) s x Num.Read _ _ (readable_refuses s x a.stateid (current s x) (current_refuses s x))
+    (λ status h. record { may = (refl, rw (h.done, h.legal) refl, tt); arrays = tt })
+    (λ d. (let few = few_given s a d in let most = given_most a.count in record { may = (refl, omega arith, few); arrays = tt }))
+
+pub may_write_bytes : (s : State) (x : Context) (now : Time) (a : Write) → IsAnswer (Operation (OpWrite a)) (write s x now a).result
+unfolding write
+may_write_bytes s x now a =
+    answers_with (IsAnswer (Operation (OpWrite a))) s x Num.Write _ _ (refuses_checked (writable s x a.stateid (current s x)) (last_checks s a) (writable_refuses s x a.stateid (current s x) (current_refuses s x)) (λ d. refl))
+    (λ status h. record { may = (refl, rw (h.done, h.legal) refl, tt); arrays = tt })
+    (λ d. record { may = (refl, tt, tt); arrays = verifier_length s })

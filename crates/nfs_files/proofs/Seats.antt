@@ -1,0 +1,93 @@
+-- What stateids are refused with.
+use Rattle.std.proofs.Common.{◌≡◌, ℕ, Bool, true, false, cond, Option, Some, None, refl}
+use Rattle.std.specs.Prelude.{Result, Ok, Err}
+use Rattle.nfs_xdr.specs.declared.status.Status.{Status}
+use Rattle.nfs_xdr.specs.declared.status.Status.TheVariants as S
+use Rattle.nfs_xdr.specs.Checks.{first_fault}
+use Rattle.nfs_compound.specs.declared.stateid.Stateid.{Stateid}
+use Rattle.nfs_opens.specs.declared.stateid.StateId.{StateId}
+use Rattle.nfs_opens.specs.declared.stateid.CurrentSeqid.{CurrentSeqid}
+use Rattle.nfs_opens.specs.declared.stateid.CurrentSeqid.TheVariants.{Any}
+use Rattle.nfs_opens.specs.declared.judging.Seat.{Seat}
+use Rattle.nfs_opens.specs.declared.judging.Seat.TheVariants.{Anonymous, ReadBypass, Open, Lock}
+use Rattle.nfs_opens.specs.declared.judging.Sort.{Sort}
+use Rattle.nfs_opens.specs.declared.judging.Sort.TheVariants.{OpenOnly, LockOnly, Either}
+use Rattle.nfs_opens.specs.StateId.{is_current, with_seqid, is_anonymous, is_bypass}
+use Rattle.nfs_opens.specs.Table.{Table}
+use Rattle.nfs_opens.specs.Judging.{judge_checks, seated, judge_named, special, judge, named}
+use Rattle.nfs_names.specs.declared.context.Context.{Context}
+use Rattle.nfs_names.specs.declared.held.Held.{Held}
+use Rattle.nfs_names.specs.State.{State}
+use Rattle.nfs_names.specs.Outcome.{passed, checked}
+use Rattle.nfs_names.proofs.Refusing.{Refuses, all_refuse, err_refuses, ok_refuses, refuses_checked}
+use Rattle.nfs_files.specs.StateIds.{state_id, meant}
+use Rattle.nfs_files.specs.Bytes.{file_checks, seat_of, seat, read_checks, write_checks, may_read, may_write, readable, writable}
+use Rattle.nfs_files.proofs.Passing.{if_passed_refuses}
+
+pub bad : {A : Type 0} → Refuses {A = A} (Err S.BadStateId)
+bad = err_refuses S.BadStateId (record { done = refl; legal = refl })
+
+pub by_bool : {A : Type 0} (b : Bool) (v w : Result A Status) → Refuses v → Refuses w → Refuses (cond b v w)
+by_bool true v w h g = h
+by_bool false v w h g = g
+
+pub meant_refuses : (x : Context) (form : CurrentSeqid) (given : Stateid) → Refuses (meant x form given)
+meant_refuses x form given =
+    by_bool (is_current (state_id given)) _ _
+    (by_bool _ _ _ bad (ok_refuses (with_seqid form (state_id x.stateid)))) (ok_refuses (state_id given))
+
+special_refuses : (sort : Sort) (seat : Seat) → Refuses (special sort seat)
+special_refuses Either seat = ok_refuses seat
+special_refuses OpenOnly seat = bad
+special_refuses LockOnly seat = bad
+
+same_passed : (seat : Seat) (o : Option Status) → Refuses (passed seat o) → Refuses (seated seat o)
+same_passed seat None h = h
+same_passed seat (Some status) h = h
+
+named_refuses : (t : Table) (id : StateId) (client : ℕ) (file : Option ℕ) (sort : Sort) → Refuses (judge_named client file sort id.seqid (named t id))
+named_refuses t id client file sort = elim (named t id) as (λ o. Refuses (judge_named client file sort id.seqid o)) [
+  | None ↦ bad
+  | Some n ↦ same_passed n.seat (first_fault (judge_checks client file sort id.seqid n)) (refuses_checked (Ok n.seat) (λ seat. judge_checks client file sort id.seqid n) (ok_refuses n.seat) (λ seat. refl))
+]
+
+pub judge_refuses : (t : Table) (id : StateId) (client : ℕ) (file : Option ℕ) (sort : Sort) → Refuses (judge t id client file sort)
+judge_refuses t id client file sort =
+    by_bool (is_anonymous id) _ _ (special_refuses sort Anonymous)
+    (by_bool (is_bypass id) _ _ (special_refuses sort ReadBypass) (named_refuses t id client file sort))
+
+seat_of_refuses : (s : State) (x : Context) (d : Held) (v : Result StateId Status) → Refuses v → Refuses (seat_of s x d v)
+seat_of_refuses s x d (Err status) h = err_refuses status (h.each status refl)
+seat_of_refuses s x d (Ok id) h = judge_refuses s.opens id x.client (Some d.number) Either
+
+pub seat_refuses : (s : State) (x : Context) (given : Stateid) (d : Held) → Refuses (seat s x given d)
+unfolding seat
+seat_refuses s x given d = seat_of_refuses s x d (meant x Any given) (meant_refuses x Any given)
+
+pub may_read_refuses : (s : State) (x : Context) (given : Stateid) (d : Held) → Refuses (may_read s x given d)
+unfolding may_read
+may_read_refuses s x given d = refuses_checked (seat s x given d) (read_checks s x d) (seat_refuses s x given d) each
+  where
+    each : (k : Seat) → all_refuse (read_checks s x d k) ≡ true
+    each Anonymous = refl
+    each ReadBypass = refl
+    each (Open number access) = refl
+    each (Lock number access) = refl
+
+pub may_write_refuses : (s : State) (x : Context) (given : Stateid) (d : Held) → Refuses (may_write s x given d)
+unfolding may_write
+may_write_refuses s x given d = refuses_checked (seat s x given d) (write_checks s x d) (seat_refuses s x given d) each
+  where
+    each : (k : Seat) → all_refuse (write_checks s x d k) ≡ true
+    each Anonymous = refl
+    each ReadBypass = refl
+    each (Open number access) = refl
+    each (Lock number access) = refl
+
+pub readable_refuses : (s : State) (x : Context) (given : Stateid) (v : Result Held Status) → Refuses v → Refuses (readable s x given v)
+unfolding readable
+readable_refuses s x given v h = if_passed_refuses (checked v file_checks) (may_read s x given) (refuses_checked v file_checks h (λ d. refl)) (may_read_refuses s x given)
+
+pub writable_refuses : (s : State) (x : Context) (given : Stateid) (v : Result Held Status) → Refuses v → Refuses (writable s x given v)
+unfolding writable
+writable_refuses s x given v h = if_passed_refuses (checked v file_checks) (may_write s x given) (refuses_checked v file_checks h (λ d. refl)) (may_write_refuses s x given)

@@ -1,0 +1,131 @@
+-- SETATTR: the tree's own checks are its last ones.
+use Rattle.std.proofs.Common.{◌≡◌, ℕ, inl, inr, Bool, true, false, not, List, [], ◌∷◌, Option, Some, None, refl, sym, ◌∙◌, ap}
+use Rattle.std.specs.Prelude.{Result, Ok, Err, option_map, nat_lt, ◌&&◌}
+use Rattle.std.specs.Option.{option_map_or}
+use Rattle.std.proofs.lemmas.Bool.{cases_Bool, false≢true}
+use Rattle.nfs_xdr.specs.Checks.{first_fault}
+use Rattle.nfs_xdr.proofs.Checks.{all_passed}
+use Rattle.nfs_xdr.specs.declared.time.Time.{Time}
+use Rattle.nfs_xdr.specs.declared.status.Status.{Status}
+use Rattle.nfs_compound.specs.declared.op_num.OpNum.TheVariants as Op
+use Rattle.nfs_compound.specs.declared.stateid.Stateid.{Stateid}
+use Rattle.nfs_compound.specs.FileArgs.{SetAttr}
+use Rattle.nfs_tree.specs.declared.fault.TreeFault.{TreeFault}
+use Rattle.nfs_tree.specs.declared.fault.TreeFault.TheVariants as F
+use Rattle.nfs_tree.specs.declared.object.FileType.{FileType}
+use Rattle.nfs_tree.specs.declared.object.FileType.TheVariants as Kind
+use Rattle.nfs_tree.specs.declared.object.Object.{Object}
+use Rattle.nfs_tree.specs.declared.stored.Stored.{Stored}
+use Rattle.nfs_tree.specs.Object.{is_directory, is_regular}
+use Rattle.nfs_tree.specs.Files.{Files, most_bytes, stored_in, is_there, is_directory_at, is_regular_at, can_change}
+use Rattle.nfs_attrs.specs.declared.wanted.Wanted.{Wanted}
+use Rattle.nfs_attrs.specs.declared.wanted.AttrFault.{AttrFault}
+use Rattle.nfs_names.specs.declared.context.Context.{Context}
+use Rattle.nfs_names.specs.declared.held.Held.{Held}
+use Rattle.nfs_names.specs.State.{State}
+use Rattle.nfs_names.specs.Faults.{status_of}
+use Rattle.nfs_names.specs.Outcome.{refuses, checked}
+use Rattle.nfs_names.specs.Checks.{current}
+use Rattle.nfs_names.specs.Create.{wanted_of}
+use Rattle.nfs_names.specs.Lookup.{is_link}
+use Rattle.nfs_names.proofs.Found.{IsHeld, current_is, checked_ok}
+use Rattle.nfs_names.proofs.Rows.{fault_map}
+use Rattle.nfs_names.proofs.Faulted.{by_last, by_refusal}
+use Rattle.nfs_files.specs.declared.setting.Setting.{Setting}
+use Rattle.nfs_files.specs.Bytes.{file_checks, may_write, writable}
+use Rattle.nfs_files.specs.SetAttr as of_set
+use Rattle.nfs_files.specs.SetAttr.{with_wanted, owner_checks, sized, sized_by, asked_for, gives_some, last_checks, tree_fault, was_set, set_attr}
+use Rattle.nfs_files.proofs.Passing.{if_passed_ok}
+
+kind_regular : (k : FileType) → is_directory k ≡ false → is_link k ≡ false → is_regular k ≡ true
+kind_regular Kind.Regular e h = refl
+kind_regular Kind.Directory e h = absurd (false≢true (sym e))
+kind_regular Kind.Link e h = absurd (false≢true (sym h))
+
+stored_kind : (o : Option Stored) (b : Object) → option_map (λ (s : Stored). s.object) o ≡ Some b → option_map_or (λ (s : Stored). is_regular s.object.kind) o false ≡ is_regular b.kind
+stored_kind None b e = absurd cc
+stored_kind (Some s) b e = let same : s.object ≡ b = cc in ap (λ (o : Object). is_regular o.kind) same
+
+-- what is neither a directory nor a link is a file
+pub file_regular : (t : Files) (d : Held) → IsHeld t d → first_fault (file_checks d) ≡ None → is_regular_at t d.number ≡ true
+file_regular t d is e =
+    let checks = all_passed (file_checks d) e in
+    stored_kind (stored_in t.objects d.number) d.object is.object ∙ kind_regular d.object.kind checks.0 checks.1.0
+
+pub writable_ok : (s : State) (x : Context) (given : Stateid) (v : Result Held Status) (d : Held) → writable s x given v ≡ Ok d → (v ≡ Ok d) × (first_fault (file_checks d) ≡ None)
+unfolding writable
+writable_ok s x given v d e = checked_ok v file_checks d (if_passed_ok (checked v file_checks) (may_write s x given) d e).0
+
+-- the rows of the tree's checks, by whether a size is given
+sized_rows : (s : State) (d : Held) (w : Wanted) (size : ℕ) → IsHeld s.tree d → is_regular_at s.tree d.number ≡ true → first_fault (file_checks d) ≡ None → gives_some w ≡ true
+    → option_map status_of (tree_fault s.tree d.number w (Some size)) ≡ first_fault ((nat_lt most_bytes size, status_of F.Fbig) ∷ (gives_some w && not (can_change s.tree d.number), status_of F.Counter) ∷ [])
+sized_rows s d w size is file e some =
+    let t = s.tree in
+    let checks = all_passed (file_checks d) e in
+    let there : not (is_there t d.number) ≡ false = ap not is.there in
+    let directory : is_directory_at t d.number ≡ false = is.directory ∙ checks.0 in
+    let regular : not (is_regular_at t d.number) ≡ false = ap not file in
+    let tail : List (Bool × TreeFault) = (nat_lt most_bytes size, F.Fbig) ∷ (not (can_change t d.number), F.Counter) ∷ [] in
+    let same : tree_fault t d.number w (Some size) ≡ first_fault tail = rw (there, directory, regular) refl in
+    ap (option_map status_of) same ∙ fault_map status_of tail
+    ∙ sym (ap (λ b. first_fault ((nat_lt most_bytes size, status_of F.Fbig) ∷ (b && not (can_change t d.number), status_of F.Counter) ∷ [])) some)
+
+plain_rows : (s : State) (d : Held) (w : Wanted) → IsHeld s.tree d
+    → option_map status_of (tree_fault s.tree d.number w None) ≡ first_fault ((gives_some w && not (can_change s.tree d.number), status_of F.Counter) ∷ [])
+plain_rows s d w is =
+    let t = s.tree in
+    let there : not (is_there t d.number) ≡ false = ap not is.there in
+    elim (cases_Bool (gives_some w)) [
+      | inl some ↦ rw (some, there) (fault_map status_of ((not (can_change t d.number), F.Counter) ∷ []))
+      | inr none ↦ rw none refl
+    ]
+
+given_some : (w : Wanted) (size : ℕ) → w.size ≡ Some size → gives_some w ≡ true
+given_some w size e = rw e refl
+
+set_rows : (s : State) (x : Context) (given : Stateid) (m : Setting) (o : Option ℕ) (k : Held) → m.wanted.size ≡ o → IsHeld s.tree m.held → sized_by s x given m.held o ≡ Ok k
+    → option_map status_of (tree_fault s.tree m.held.number m.wanted o) ≡ first_fault ((of_set.is_too_big o, status_of F.Fbig) ∷ (gives_some m.wanted && not (can_change s.tree m.held.number), status_of F.Counter) ∷ [])
+set_rows s x given m None k h is e = plain_rows s m.held m.wanted is
+set_rows s x given m (Some size) k h is e =
+    let found = writable_ok s x given (Ok m.held) k e in
+    let same : m.held ≡ k = cc in
+    let file : first_fault (file_checks m.held) ≡ None = ap (λ d. first_fault (file_checks d)) same ∙ found.1 in
+    sized_rows s m.held m.wanted size is (file_regular s.tree m.held is file) file (given_some m.wanted size h)
+
+setting_ok : (v : Result Held Status) (r : Result Wanted AttrFault) (m : Setting) → with_wanted v r ≡ Ok m → v ≡ Ok m.held
+setting_ok (Err f) r m e = absurd cc
+setting_ok (Ok d) (Err f) m e = absurd cc
+setting_ok (Ok d) (Ok w) m e = let same : record { held = d; wanted = w } ≡ m = cc in ap (λ (m : Setting). Ok m.held) same
+
+set_found : (s : State) (x : Context) (a : SetAttr) (m : Setting) → asked_for s x a ≡ Ok m
+    → option_map status_of (tree_fault s.tree m.held.number m.wanted m.wanted.size) ≡ first_fault (last_checks s m)
+unfolding asked_for
+set_found s x a m v =
+    let passed = if_passed_ok (checked (with_wanted (current s x) (wanted_of a.obj_attributes)) (owner_checks x)) (sized s x a.stateid) m v in
+    let owned = checked_ok (with_wanted (current s x) (wanted_of a.obj_attributes)) (owner_checks x) m passed.0 in
+    let found = current_is s x m.held (setting_ok (current s x) (wanted_of a.obj_attributes) m owned.0) in
+    set_rows s x a.stateid m m.wanted.size passed.1.0 refl found passed.1.1
+
+pub set_goes : (s : State) (x : Context) (now : Time) (a : SetAttr) (m : Setting) → asked_for s x a ≡ Ok m → tree_fault s.tree m.held.number m.wanted m.wanted.size ≡ None → set_attr s x now a ≡ was_set s x now a m
+unfolding set_attr
+set_goes s x now a m v none =
+    by_last s x Op.SetAttr (asked_for s x a) (last_checks s) (was_set s x now a) m v (sym (set_found s x a m v) ∙ ap (option_map status_of) none)
+
+pub set_stops : (s : State) (x : Context) (now : Time) (a : SetAttr) (m : Setting) (f : TreeFault) → asked_for s x a ≡ Ok m → tree_fault s.tree m.held.number m.wanted m.wanted.size ≡ Some f
+    → set_attr s x now a ≡ refuses s x Op.SetAttr (status_of f)
+unfolding set_attr
+set_stops s x now a m f v some =
+    by_refusal s x Op.SetAttr (asked_for s x a) (last_checks s) (was_set s x now a) m (status_of f) v (sym (set_found s x a m v) ∙ ap (option_map status_of) some)
+
+-- the size that is given is the one that may want memory
+pub asked_wanted : (s : State) (x : Context) (a : SetAttr) (m : Setting) → asked_for s x a ≡ Ok m → wanted_of a.obj_attributes ≡ Ok m.wanted
+unfolding asked_for
+asked_wanted s x a m v =
+    let passed = if_passed_ok (checked (with_wanted (current s x) (wanted_of a.obj_attributes)) (owner_checks x)) (sized s x a.stateid) m v in
+    let owned = checked_ok (with_wanted (current s x) (wanted_of a.obj_attributes)) (owner_checks x) m passed.0 in
+    by_both (current s x) (wanted_of a.obj_attributes) owned.0
+  where
+    by_both : (v : Result Held Status) (r : Result Wanted AttrFault) → with_wanted v r ≡ Ok m → r ≡ Ok m.wanted
+    by_both (Err f) r e = absurd cc
+    by_both (Ok d) (Err f) e = absurd cc
+    by_both (Ok d) (Ok w) e = let same : record { held = d; wanted = w } ≡ m = cc in ap (λ (m : Setting). Ok m.wanted) same

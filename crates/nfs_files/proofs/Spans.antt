@@ -1,0 +1,71 @@
+-- Ranges that reach the last byte.
+use Rattle.std.proofs.Common.{◌≡◌, ℕ, ◌+◌, ◌-◌, Bool, true, false, cond, eqb, ltb, not, [], ◌∷◌, refl, ◌∙◌, ap, subst, arith}
+use Rattle.std.specs.Prelude.{Result, Ok, Err, ◌&&◌, ◌==◌, nat_lt}
+use Rattle.std.proofs.lemmas.Bool.{eqb-false, ne_eqb, ltb-false}
+use Rattle.nfs_xdr.specs.Checks.{first_fault}
+use Rattle.nfs_xdr.specs.declared.status.Status.{Status}
+use Rattle.nfs_xdr.specs.declared.status.Status.TheVariants.{Inval}
+use Rattle.nfs_compound.specs.declared.stateid.Stateid.{Stateid}
+use Rattle.nfs_compound.specs.declared.lock_args.LockType.{LockType}
+use Rattle.nfs_opens.specs.declared.locking.Wish.{Wish}
+use Rattle.nfs_opens.specs.declared.stateid.StateId.{StateId}
+use Rattle.nfs_opens.specs.declared.stateid.CurrentSeqid.TheVariants.{Any}
+use Rattle.nfs_opens.specs.Locking.{is_whole}
+use Rattle.nfs_names.specs.declared.context.Context.{Context}
+use Rattle.nfs_names.specs.declared.held.Held.{Held}
+use Rattle.nfs_names.specs.State.{State}
+use Rattle.nfs_names.specs.Outcome.{passed, mapped}
+use Rattle.nfs_files.specs.declared.ranges.Wished.{Wished}
+use Rattle.nfs_files.specs.StateIds.{meant}
+use Rattle.nfs_files.specs.Target.{the_file}
+use Rattle.nfs_files.specs.Ranges.{all_ones, last_of, range, wish, wish_of, wished, wished_by}
+
+-- what a range that passes its two checks is
+record Passed (empty over : Bool) (last l : ℕ) : Type 0 where
+  some : empty ≡ false
+  fits : over ≡ false
+  end : last ≡ l
+
+passed_both : (empty over : Bool) (last l : ℕ) → passed last (first_fault ((empty, Inval) ∷ (over, Inval) ∷ [])) ≡ Ok l → Passed empty over last l
+passed_both true over last l e = absurd cc
+passed_both false true last l e = absurd cc
+passed_both false false last l e = record { some = refl; fits = refl; end = cc }
+
+last_whole : (offset size : ℕ) (all : Bool) → eqb size all_ones ≡ all → eqb size 0 ≡ false → not all && ltb all_ones (offset + size) ≡ false → eqb (cond all all_ones (offset + size - 1)) all_ones ≡ all
+last_whole offset size true e some fits = refl
+last_whole offset size false e some fits =
+    let within = ltb-false all_ones (offset + size) fits in
+    ne_eqb (offset + size - 1) all_ones (λ same. eqb-false size 0 some (omega arith))
+
+pub range_whole : (offset size last : ℕ) → range offset size ≡ Ok last → eqb last all_ones ≡ eqb size all_ones
+unfolding range
+range_whole offset size last e =
+    let p = passed_both (size == 0) (not (size == all_ones) && nat_lt all_ones (offset + size)) (last_of offset size) last e in
+    subst (λ l. eqb l all_ones ≡ eqb size all_ones) p.end (last_whole offset size (eqb size all_ones) refl p.some p.fits)
+
+-- the wish of a LOCKU is of a whole file where its arguments are
+record IsWish (offset size : ℕ) (w : Wish) : Type 0 where
+  first : w.first ≡ offset
+  last : range offset size ≡ Ok w.last
+
+wish_is : (x : Context) (how : LockType) (offset size : ℕ) (d : Held) (r : Result ℕ Status) (w : Wish) → range offset size ≡ r → mapped (λ last. wish x how offset last d.number) r ≡ Ok w → IsWish offset size w
+wish_is x how offset size d (Err status) w is e = absurd cc
+wish_is x how offset size d (Ok last) w is e = let same : wish x how offset last d.number ≡ w = cc in subst (IsWish offset size) same (record { first = refl; last = is })
+
+wish_found : (x : Context) (how : LockType) (offset size : ℕ) (found : Result Held Status) (w : Wish) → wish_of x how offset found (range offset size) ≡ Ok w → IsWish offset size w
+wish_found x how offset size (Err status) w e = absurd cc
+wish_found x how offset size (Ok d) w e = wish_is x how offset size d (range offset size) w refl e
+
+with_id : (w : Wish) (id : Result StateId Status) (k : Wished) → mapped (λ id. record { wish = w; id = id }) id ≡ Ok k → w ≡ k.wish
+with_id w (Err status) k e = absurd cc
+with_id w (Ok id) k e = let same : record { wish = w; id = id } ≡ k = cc in ap (λ (k : Wished). k.wish) same
+
+wished_parts : (x : Context) (given : Stateid) (v : Result Wish Status) (k : Wished) → wished_by x given v ≡ Ok k → v ≡ Ok k.wish
+wished_parts x given (Err status) k e = absurd cc
+wished_parts x given (Ok w) k e = ap Ok (with_id w (meant x Any given) k e)
+
+pub wished_whole : (s : State) (x : Context) (how : LockType) (offset size : ℕ) (given : Stateid) (k : Wished) → wished_by x given (wished s x how offset size) ≡ Ok k → is_whole k.wish.first k.wish.last ≡ (offset == 0 && size == all_ones)
+unfolding wished
+wished_whole s x how offset size given k e =
+    let w = wish_found x how offset size (the_file s x) k.wish (wished_parts x given (wished s x how offset size) k e) in
+    ap (λ n. n == 0 && k.wish.last == all_ones) w.first ∙ ap (λ b. offset == 0 && b) (range_whole offset size k.wish.last w.last)

@@ -1,0 +1,87 @@
+-- LOCK, LOCKT and TEST_STATEID: how long their results are.
+use Rattle.std.proofs.Common.{◌≡◌, ◌+◌, ◌≤◌, Bool, true, false, cond, List, length, Option, Some, None, refl, ap, subst, arith}
+use Rattle.std.specs.Prelude.{Result, Ok, Err, ◌&&◌}
+use Rattle.std.proofs.lemmas.List.{length-append, length-map}
+use Rattle.nfs_xdr.specs.Paper.{Paper, Puts}
+use Rattle.nfs_xdr.specs.declared.status.Status.{Status}
+use Rattle.nfs_xdr.specs.declared.status.Status.TheVariants.{Delay}
+use Rattle.nfs_compound.specs.declared.op_num.OpNum.{OpNum}
+use Rattle.nfs_compound.specs.declared.op_num.OpNum.TheVariants as Num
+use Rattle.nfs_compound.specs.declared.stateid.Stateid.{Stateid}
+use Rattle.nfs_compound.specs.OpNum.{op_number}
+use Rattle.nfs_compound.specs.LockArgs as args
+use Rattle.nfs_compound.specs.Operation.{Op, Operation, OpLock, OpLockT, OpTestStateid}
+use Rattle.nfs_results.specs.Result.{Res}
+use Rattle.nfs_results.specs.Results.{spell_result, operation_of, HasArrays, refusal}
+use Rattle.nfs_results.specs.Largest.{largest, largest_of, number_of, asked, HasSizes}
+use Rattle.nfs_results.proofs.Lengths.{behind_within, length_spelled}
+use Rattle.nfs_ranges.specs.declared.Held.{Held}
+use Rattle.nfs_opens.specs.declared.stateid.StateId.{StateId}
+use Rattle.nfs_opens.specs.declared.locking.OpenFault.{OpenFault}
+use Rattle.nfs_opens.specs.declared.locking.OpenFault.TheVariants as F
+use Rattle.nfs_opens.specs.Table.{Table}
+use Rattle.nfs_opens.specs.Locking.{test_lock}
+use Rattle.nfs_names.specs.declared.context.Context.{Context}
+use Rattle.nfs_names.specs.State.{State}
+use Rattle.nfs_names.specs.Outcome.{Outcome, refuses, answers, or_delay, is_ok}
+use Rattle.nfs_files.specs.Ranges.{wished}
+use Rattle.nfs_files.specs.Lock.{locking, locks_as, locked, locks, lock}
+use Rattle.nfs_files.specs.LockT.{tested, lock_t}
+use Rattle.nfs_files.specs.TestStateid.{code, test_stateid}
+use Rattle.nfs_files.proofs.Fitting.{few_denied}
+use Rattle.nfs_files.proofs.StateAnswers.{length_id}
+
+-- a result of the operation, of the sizes that this server's have
+pub record IsShort (op : Op) (r : Res) : Type 0 where
+  pub number : operation_of r ≡ number_of op
+  pub sizes : HasSizes (asked op) r
+  pub arrays : HasArrays r
+
+-- so it is within its largest size
+pub short_within : (op : Op) (r : Res) (old new : Paper) → IsShort op r → Puts old new (spell_result r) → length new.bytes ≤ length old.bytes + largest (Operation op)
+short_within op r old new is put =
+    let own : length (spell_result r) ≤ largest_of (operation_of r) (asked op) = omega (arith, behind_within (asked op) r is.arrays is.sizes, length_spelled r) in
+    let most : length (spell_result r) ≤ largest_of (number_of op) (asked op) = subst (λ n. length (spell_result r) ≤ largest_of n (asked op)) is.number own in
+    omega (arith, ap length put.bytes, length-append old.bytes (spell_result r))
+
+answers_any : {A : Type 0} (P : Res → Type 0) (s : State) (x : Context) (op : OpNum) (v : Result A Status) (f : A → Outcome) → ((status : Status) → P (refusal (op_number op) status)) → ((a : A) → P (f a).result) → P (answers s x op v f).result
+answers_any P s x op (Err status) f refused done = refused status
+answers_any P s x op (Ok a) f refused done = done a
+
+-- LOCK
+locked_short : (s : State) (x : Context) (a : args.Lock) (after : Table) (r : Result StateId OpenFault) → IsShort (OpLock a) (locked s x after r).result
+locked_short s x a after (Ok id) = record { number = refl; sizes = tt; arrays = length_id id }
+locked_short s x a after (Err (F.Refused status)) = record { number = refl; sizes = tt; arrays = tt }
+locked_short s x a after (Err (F.Denied h)) = record { number = refl; sizes = few_denied s.opens h; arrays = tt }
+locked_short s x a after (Err F.Memory) = record { number = refl; sizes = tt; arrays = tt }
+
+lock_short : (s : State) (x : Context) (a : args.Lock) → IsShort (OpLock a) (lock s x a).result
+unfolding lock
+lock_short s x a =
+    answers_any (IsShort (OpLock a)) s x Num.Lock (locking s x a) (locks s x a.locker)
+    (λ status. record { number = refl; sizes = tt; arrays = tt })
+    (λ k. (let did = locks_as s.opens a.locker k.id k.wish in locked_short s x a did.after did.answer))
+
+pub short_lock : (b : Bool) (s : State) (x : Context) (a : args.Lock) → IsShort (OpLock a) (or_delay b s x Num.Lock (lock s x a)).result
+short_lock b s x a =
+    elim (b && is_ok (lock s x a).result) as (λ k. IsShort (OpLock a) (cond k (refuses s x Num.Lock Delay) (lock s x a)).result) [
+      | true ↦ record { number = refl; sizes = tt; arrays = tt }
+      | false ↦ lock_short s x a
+    ]
+
+-- LOCKT
+tested_short : (s : State) (x : Context) (a : args.LockT) (o : Option Held) → IsShort (OpLockT a) (tested s x o).result
+tested_short s x a None = record { number = refl; sizes = tt; arrays = tt }
+tested_short s x a (Some h) = record { number = refl; sizes = few_denied s.opens h; arrays = tt }
+
+pub short_lock_t : (s : State) (x : Context) (a : args.LockT) → IsShort (OpLockT a) (lock_t s x a).result
+unfolding lock_t
+short_lock_t s x a =
+    answers_any (IsShort (OpLockT a)) s x Num.LockT (wished s x a.locktype a.offset a.length) (λ w. tested s x (test_lock s.opens a.owner.owner w))
+    (λ status. record { number = refl; sizes = tt; arrays = tt })
+    (λ w. tested_short s x a (test_lock s.opens a.owner.owner w))
+
+-- TEST_STATEID
+pub short_test : (s : State) (x : Context) (given : List Stateid) → IsShort (OpTestStateid given) (test_stateid s x given).result
+unfolding test_stateid
+short_test s x given = record { number = refl; sizes = omega (arith, length-map given (code s x)); arrays = tt }

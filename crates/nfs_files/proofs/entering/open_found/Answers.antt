@@ -1,0 +1,47 @@
+use Rattle.std.proofs.Common.{◌≡◌, true, Some, None, inl, inr, refl, sym, ap, ◌∙◌}
+use Rattle.nfs_compound.specs.OpenArgs.{view_open}
+use Rattle.nfs_tree.specs.declared.fault.TreeFault.TheVariants.{Memory}
+use Rattle.nfs_tree.specs.Files.{Files}
+use Rattle.nfs_opens.specs.Table.{Kept, table}
+use Rattle.nfs_opens.specs.Opening as of_opens
+use Rattle.nfs_opens.specs.Opening.{open_fault}
+use Rattle.nfs_names.specs.State.{State, state_of}
+use Rattle.nfs_names.proofs.Found.{checked_ok}
+use Rattle.nfs_names.proofs.Faulted.{done_by_tree}
+use Rattle.nfs_files.specs.Open.{asking, asked_for, last_checks, tree_fault, file_of, tree_of}
+use Rattle.nfs_files.proofs.Answering.{refused_tree}
+use Rattle.nfs_names.specs.Faults.{status_of}
+use Rattle.nfs_files.proofs.Granted.{tree_free}
+use Rattle.nfs_files.proofs.Opened.{opened_fault, shared_free}
+use Rattle.nfs_files.proofs.entering.open_found.Goals as goal
+
+-- the checks passed, so memory alone was refused
+pub returns-in-Err : goal.returns-in-Err
+returns-in-Err c =
+    let s = state_of c.args.store.now in
+    let x = c.args.context.now in
+    let t = s.tree in
+    let o = view_open c.args.asked.now in
+    let found = c.args.found.now in
+    let f = c.in-Err.fault in
+    let granted = checked_ok (asked_for s x o) (last_checks s x o) found c.requires.granted in
+    let did = refused_tree t true (tree_fault t o found) (file_of t found) (tree_of t x c.args.now o found) c.enter.new.tree f c.in-Err.ensures in
+    let memory : f ≡ Memory = elim did.1 [
+      | inl w ↦ w.0
+      | inr other ↦ absurd (let bad : None ≡ Some f = sym (tree_free s x o found granted.0 granted.1) ∙ other.0 in cc)
+    ] in
+    let with_parts : Files → Kept → State = λ t k. record { tree = t; opens = table k; instance = s.instance; lease = s.lease } in
+    (c.status_of.ensures ∙ ap status_of memory, ap (λ t. with_parts t c.reserve.new.self) did.0 ∙ ap (with_parts t) c.in-Ok.ensures.ok, refl)
+
+pub open-requires-clause-judged : goal.open-requires-clause-judged
+open-requires-clause-judged c =
+    let s = state_of c.args.store.now in
+    let x = c.args.context.now in
+    let t = s.tree in
+    let o = view_open c.args.asked.now in
+    let found = c.args.found.now in
+    let granted = checked_ok (asked_for s x o) (last_checks s x o) found c.requires.granted in
+    let did = done_by_tree t true (tree_fault t o found) (file_of t found) c.in-Ok-enter.file (tree_of t x c.args.now o found) c.enter.new.tree c.in-Ok-enter.ensures in
+    ap (λ (k : Kept). open_fault (table k) (of_opens.asked c.ask_for.result)) c.in-Ok.ensures.ok
+    ∙ ap (open_fault s.opens) (c.ask_for.ensures ∙ ap (asking x o) did.1)
+    ∙ opened_fault s x o found c.kept.ensures c.requires.store ∙ shared_free s x o found granted.1

@@ -1,0 +1,38 @@
+-- The lock that is told with NFS4ERR_DENIED (LOCK4denied, RFC 8881 section 18.10.2).
+use Rattle.std.specs.Prelude.{ℕ, suc, ◌-◌, ◌==◌, [], take, Option, Some, None, if◌then◌else◌}
+use Rattle.nfs_xdr.specs.declared.status.Status.{Status}
+use Rattle.nfs_xdr.specs.declared.status.Status.TheVariants as S
+use Rattle.nfs_compound.specs.StateOwner.{StateOwner}
+use Rattle.nfs_compound.specs.declared.lock_args.LockType.{LockType}
+use Rattle.nfs_compound.specs.declared.lock_args.LockType.TheVariants as LockTypes
+use Rattle.nfs_results.specs.Result as result
+use Rattle.nfs_ranges.specs.declared.Kind.{Kind}
+use Rattle.nfs_ranges.specs.declared.Kind.TheVariants as Kinds
+use Rattle.nfs_ranges.specs.declared.Held.{Held}
+use Rattle.nfs_opens.specs.declared.records.LockState.{LockState}
+use Rattle.nfs_opens.specs.declared.locking.OpenFault.{OpenFault}
+use Rattle.nfs_opens.specs.declared.locking.OpenFault.TheVariants.{Refused, Denied, Memory}
+use Rattle.nfs_opens.specs.Table.{Table, lock_at}
+use Rattle.nfs_files.specs.Ranges.{all_ones}
+
+abbrev pub type_of : Kind → LockType
+type_of Kinds.Read = LockTypes.Read
+type_of Kinds.Write = LockTypes.Write
+
+-- a run that reaches the last byte has a length of all ones
+abbrev pub size_of : Held → ℕ
+size_of h = if h.last == all_ones then all_ones else suc h.last - h.first
+
+-- The holder's client and lock owner. A holder's state stands, so the first line is never met; and no owner has more than 1,024 bytes.
+abbrev pub holder : Option LockState → StateOwner
+holder None = record { clientid = 0; owner = [] }
+holder (Some l) = record { clientid = l.client; owner = take 1024 l.owner }
+
+unfoldable pub denied : Table → Held → result.Denied
+denied t h = record { offset = h.first; extent = size_of h; locktype = type_of h.kind; owner = holder (lock_at t h.owner) }
+
+-- the status of what the table of opens refuses
+abbrev pub status_of : OpenFault → Status
+status_of (Refused status) = status
+status_of (Denied h) = S.Denied
+status_of Memory = S.Delay

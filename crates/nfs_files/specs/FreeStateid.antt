@@ -1,0 +1,20 @@
+-- FREE_STATEID (RFC 8881 section 18.38): a lock state that holds no byte goes.
+use Rattle.nfs_compound.specs.declared.stateid.Stateid.{Stateid}
+use Rattle.nfs_compound.specs.declared.op_num.OpNum.TheVariants as Op
+use Rattle.nfs_results.specs.Result.{ResFreeStateid}
+use Rattle.nfs_opens.specs.declared.stateid.StateId.{StateId}
+use Rattle.nfs_opens.specs.declared.stateid.CurrentSeqid.TheVariants.{Any}
+use Rattle.nfs_opens.specs.Closing as opens
+use Rattle.nfs_names.specs.declared.context.Context.{Context}
+use Rattle.nfs_names.specs.State.{State}
+use Rattle.nfs_names.specs.Outcome.{Outcome, done, answers}
+use Rattle.nfs_files.specs.StateIds.{meant}
+use Rattle.nfs_files.specs.Target.{with_opens}
+
+abbrev pub frees : State → Context → StateId → Outcome
+frees s x id =
+    let did = opens.free s.opens id x.client in
+    answers s x Op.FreeStateid did.answer (λ u. done (with_opens s did.after) x ResFreeStateid)
+
+unfoldable pub free_stateid : State → Context → Stateid → Outcome
+free_stateid s x given = answers s x Op.FreeStateid (meant x Any given) (frees s x)

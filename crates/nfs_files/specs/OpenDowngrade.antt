@@ -1,0 +1,45 @@
+-- OPEN_DOWNGRADE (RFC 8881 section 18.18): an open has less access and denies less from now on.
+use Rattle.std.specs.Prelude.{ℕ, Bool, List, [], ◌∷◌, Result, Some, is_none, unwrap_or}
+use Rattle.nfs_xdr.specs.declared.status.Status.{Status}
+use Rattle.nfs_xdr.specs.declared.status.Status.TheVariants.{Inval}
+use Rattle.nfs_compound.specs.declared.open_args.OpenDowngrade.{OpenDowngrade}
+use Rattle.nfs_compound.specs.declared.op_num.OpNum.TheVariants as Op
+use Rattle.nfs_results.specs.Result.{ResOpenDowngrade}
+use Rattle.nfs_opens.specs.declared.share.Share.{Share}
+use Rattle.nfs_opens.specs.declared.stateid.StateId.{StateId}
+use Rattle.nfs_opens.specs.declared.stateid.CurrentSeqid.TheVariants.{Own}
+use Rattle.nfs_opens.specs.declared.judging.Seat.{Seat}
+use Rattle.nfs_opens.specs.declared.judging.Sort.TheVariants.{OpenOnly}
+use Rattle.nfs_opens.specs.Share.{neither, share_of}
+use Rattle.nfs_opens.specs.Table.{Table}
+use Rattle.nfs_opens.specs.Judging.{judge}
+use Rattle.nfs_opens.specs.Opening as opens
+use Rattle.nfs_names.specs.declared.context.Context.{Context}
+use Rattle.nfs_names.specs.State.{State}
+use Rattle.nfs_names.specs.Outcome.{Outcome, checked, answers}
+use Rattle.nfs_files.specs.declared.target.Target.{Target}
+use Rattle.nfs_files.specs.Bytes.{if_passed}
+use Rattle.nfs_files.specs.StateIds.{wire_id}
+use Rattle.nfs_files.specs.Target.{target, with_opens, with_stateid}
+
+-- no open has bits above the two
+abbrev pub bit_checks : OpenDowngrade → Seat → List (Bool × Status)
+bit_checks a seat = (is_none (share_of a.share_access), Inval) ∷ (is_none (share_of a.share_deny), Inval) ∷ []
+
+abbrev pub bits : ℕ → Share
+bits n = unwrap_or (share_of n) neither
+
+-- the stateid is looked at before the bits
+abbrev pub narrowing : State → Context → OpenDowngrade → Result Target Status
+narrowing s x a = if_passed (target s x Own a.open_stateid) (λ t. checked (judge s.opens t.id x.client (Some t.file) OpenOnly) (bit_checks a))
+
+abbrev pub narrowed : State → Context → StateId → Table → Outcome
+narrowed s x id after = record { result = ResOpenDowngrade (wire_id id); state = with_opens s after; context = with_stateid x (wire_id id) }
+
+abbrev pub narrows : State → Context → OpenDowngrade → Target → Outcome
+narrows s x a t =
+    let did = opens.downgrade s.opens t.id x.client t.file (bits a.share_access) (bits a.share_deny) in
+    answers s x Op.OpenDowngrade did.answer (λ id. narrowed s x id did.after)
+
+unfoldable pub open_downgrade : State → Context → OpenDowngrade → Outcome
+open_downgrade s x a = answers s x Op.OpenDowngrade (narrowing s x a) (narrows s x a)

@@ -1,0 +1,56 @@
+-- The bytes that LOCK, LOCKT and LOCKU are for, and how they are to be locked (RFC 8881 sections 18.10.3, 18.11.3 and 18.12.3).
+use Rattle.std.specs.Prelude.{ℕ, ◌+◌, ◌-◌, ◌==◌, Bool, not, ◌&&◌, List, [], ◌∷◌, nat_lt, Result, Ok, Err, if◌then◌else◌}
+use Rattle.nfs_xdr.specs.Checks.{first_fault}
+use Rattle.nfs_xdr.specs.declared.status.Status.{Status}
+use Rattle.nfs_xdr.specs.declared.status.Status.TheVariants.{Inval}
+use Rattle.nfs_compound.specs.declared.stateid.Stateid.{Stateid}
+use Rattle.nfs_compound.specs.declared.lock_args.LockType.{LockType}
+use Rattle.nfs_compound.specs.declared.lock_args.LockType.TheVariants as LockTypes
+use Rattle.nfs_ranges.specs.declared.Kind.{Kind}
+use Rattle.nfs_ranges.specs.declared.Kind.TheVariants as Kinds
+use Rattle.nfs_opens.specs.declared.locking.Wish.{Wish}
+use Rattle.nfs_opens.specs.declared.stateid.CurrentSeqid.TheVariants.{Any}
+use Rattle.nfs_names.specs.declared.context.Context.{Context}
+use Rattle.nfs_names.specs.declared.held.Held.{Held}
+use Rattle.nfs_names.specs.State.{State}
+use Rattle.nfs_names.specs.Outcome.{passed, mapped}
+use Rattle.nfs_files.specs.declared.ranges.Wished.{Wished}
+use Rattle.nfs_files.specs.StateIds.{meant}
+use Rattle.nfs_files.specs.Target.{the_file}
+
+-- the last byte that there can be; as a length, up to that byte
+abbrev pub all_ones : ℕ
+all_ones = 0xffff_ffff_ffff_ffff
+
+abbrev pub range_checks : ℕ → ℕ → List (Bool × Status)
+range_checks offset size = (size == 0, Inval) ∷ (not (size == all_ones) && nat_lt all_ones (offset + size), Inval) ∷ []
+
+abbrev pub last_of : ℕ → ℕ → ℕ
+last_of offset size = if size == all_ones then all_ones else offset + size - 1
+
+-- the last byte of a range
+unfoldable pub range : ℕ → ℕ → Result ℕ Status
+range offset size = passed (last_of offset size) (first_fault (range_checks offset size))
+
+-- a client that would wait is answered at once like one that would not
+abbrev pub kind_of : LockType → Kind
+kind_of LockTypes.Read = Kinds.Read
+kind_of LockTypes.Write = Kinds.Write
+kind_of LockTypes.ReadW = Kinds.Read
+kind_of LockTypes.WriteW = Kinds.Write
+
+abbrev pub wish : Context → LockType → ℕ → ℕ → ℕ → Wish
+wish x how first last file = record { client = x.client; file = file; kind = kind_of how; first = first; last = last }
+
+abbrev pub wish_of : Context → LockType → ℕ → Result Held Status → Result ℕ Status → Result Wish Status
+wish_of x how offset (Err status) last = Err status
+wish_of x how offset (Ok d) last = mapped (λ last. wish x how offset last d.number) last
+
+-- the file is looked at before the range
+unfoldable pub wished : State → Context → LockType → (offset size : ℕ) → Result Wish Status
+wished s x how offset size = wish_of x how offset (the_file s x) (range offset size)
+
+-- the stateid is looked at behind both
+abbrev pub wished_by : Context → Stateid → Result Wish Status → Result Wished Status
+wished_by x given (Err status) = Err status
+wished_by x given (Ok w) = mapped (λ id. record { wish = w; id = id }) (meant x Any given)

@@ -1,0 +1,102 @@
+-- SETATTR (RFC 8881 section 18.30): attributes of an object are set, all that are given or none.
+use Rattle.std.specs.Prelude.{ℕ, ◌||◌, ◌&&◌, Bool, false, not, List, [], ◌∷◌, nat_lt, Option, Some, None, Result, Ok, Err, is_some, option_map, if◌then◌else◌}
+use Rattle.nfs_xdr.specs.declared.time.Time.{Time}
+use Rattle.nfs_xdr.specs.declared.status.Status.{Status}
+use Rattle.nfs_xdr.specs.declared.status.Status.TheVariants.{Nfs4Ok, FBig, ServerFault}
+use Rattle.nfs_compound.specs.declared.op_num.OpNum.TheVariants as Op
+use Rattle.nfs_compound.specs.declared.stateid.Stateid.{Stateid}
+use Rattle.nfs_compound.specs.FileArgs.{SetAttr}
+use Rattle.nfs_results.specs.Result.{ResSetAttr}
+use Rattle.nfs_tree.specs.declared.sets.Sets.{Sets}
+use Rattle.nfs_tree.specs.Files.{Files, most_bytes, can_change, with_changed}
+use Rattle.nfs_tree.specs.declared.fault.TreeFault.{TreeFault}
+use Rattle.nfs_tree.specs.Did.{Did, does_unless}
+use Rattle.nfs_tree.specs.Bytes.{resize_fault, set_fault, with_resized}
+use Rattle.nfs_attrs.specs.declared.wanted.Wanted.{Wanted}
+use Rattle.nfs_attrs.specs.declared.wanted.AttrFault.{AttrFault}
+use Rattle.nfs_attrs.specs.Mask.{mask_of, told}
+use Rattle.nfs_attrs.specs.Reading.{fault_status}
+use Rattle.nfs_attrs.specs.Setting.{set_checks}
+use Rattle.nfs_names.specs.declared.context.Context.{Context}
+use Rattle.nfs_names.specs.declared.held.Held.{Held}
+use Rattle.nfs_names.specs.State.{State, with_tree}
+use Rattle.nfs_names.specs.Outcome.{Outcome, checked, answers}
+use Rattle.nfs_names.specs.Checks.{current}
+use Rattle.nfs_names.specs.Create.{wanted_of, time_of}
+use Rattle.nfs_files.specs.declared.setting.Setting.{Setting}
+use Rattle.nfs_files.specs.Bytes.{if_passed, writable}
+
+-- first the attributes are read ..
+abbrev pub setting : Held → Result Wanted AttrFault → Result Setting Status
+setting d (Err fault) = Err (fault_status fault)
+setting d (Ok wanted) = Ok (record { held = d; wanted = wanted })
+
+abbrev pub with_wanted : Result Held Status → Result Wanted AttrFault → Result Setting Status
+with_wanted (Err status) wanted = Err status
+with_wanted (Ok d) wanted = setting d wanted
+
+-- .. then whether the caller may set them ..
+abbrev pub owner_checks : Context → Setting → List (Bool × Status)
+owner_checks x m = set_checks m.held.object m.wanted x.who
+
+-- .. then, where a size is given, whether the object is a file whose bytes may be changed by the stateid ..
+abbrev pub sized_by : State → Context → Stateid → Held → Option ℕ → Result Held Status
+sized_by s x given d None = Ok d
+sized_by s x given d (Some size) = writable s x given (Ok d)
+
+abbrev pub sized : State → Context → Stateid → Setting → Result Held Status
+sized s x given m = sized_by s x given m.held m.wanted.size
+
+unfoldable pub asked_for : State → Context → SetAttr → Result Setting Status
+asked_for s x a = if_passed (checked (with_wanted (current s x) (wanted_of a.obj_attributes)) (owner_checks x)) (sized s x a.stateid)
+
+-- .. then whether the size is one that a file may have, and the change one that can be counted. Nothing given changes nothing.
+abbrev pub is_too_big : Option ℕ → Bool
+is_too_big None = false
+is_too_big (Some size) = nat_lt most_bytes size
+
+abbrev pub gives_some : Wanted → Bool
+gives_some wanted = is_some wanted.size || is_some wanted.mode || is_some wanted.owner || is_some wanted.group || is_some wanted.access || is_some wanted.modify
+
+abbrev pub last_checks : State → Setting → List (Bool × Status)
+last_checks s m =
+    (is_too_big m.wanted.size, FBig)
+    ∷ (gives_some m.wanted && not (can_change s.tree m.held.number), ServerFault)
+    ∷ []
+
+abbrev pub sets_of : Time → Wanted → Sets
+sets_of now wanted = record {
+  mode = wanted.mode;
+  owner = wanted.owner;
+  group = wanted.group;
+  access = option_map (time_of now) wanted.access;
+  modify = option_map (time_of now) wanted.modify;
+}
+
+-- A size cuts the file or puts zeros behind its bytes. The object changes once, whatever is set of it.
+abbrev pub with_set : Files → ℕ → Time → Wanted → Option ℕ → Files
+with_set t n now wanted (Some size) = with_resized t n size (sets_of now wanted) now
+with_set t n now wanted None = if gives_some wanted then record t { objects = with_changed n now (sets_of now wanted) t.objects } else t
+
+abbrev pub was_set : State → Context → Time → SetAttr → Setting → Outcome
+was_set s x now a m = record {
+  result = ResSetAttr Nfs4Ok (told (mask_of a.obj_attributes.attrmask));
+  state = with_tree s (with_set s.tree m.held.number now m.wanted m.wanted.size);
+  context = x;
+}
+
+unfoldable pub set_attr : State → Context → Time → SetAttr → Outcome
+set_attr s x now a = answers s x Op.SetAttr (checked (asked_for s x a) (last_checks s)) (was_set s x now a)
+
+-- only a size can want memory
+abbrev pub gives_size : Result Wanted AttrFault → Bool
+gives_size (Err fault) = false
+gives_size (Ok wanted) = is_some wanted.size
+
+-- what the tree itself refuses
+abbrev pub tree_fault : Files → ℕ → Wanted → Option ℕ → Option TreeFault
+tree_fault t n wanted (Some size) = resize_fault t n size
+tree_fault t n wanted None = if gives_some wanted then set_fault t n else None
+
+abbrev pub changed : Files → Time → Setting → Did (Unit {0})
+changed t now m = does_unless t (tree_fault t m.held.number m.wanted m.wanted.size) tt (with_set t m.held.number now m.wanted m.wanted.size)

@@ -1,0 +1,35 @@
+-- TEST_STATEID (RFC 8881 section 18.48): of each stateid whether it names a state of the client now.
+use Rattle.std.specs.Prelude.{ℕ, List, map, None, Result, Ok, Err, if◌then◌else◌}
+use Rattle.nfs_xdr.specs.Status.{status_number}
+use Rattle.nfs_xdr.specs.declared.status.Status.{Status}
+use Rattle.nfs_xdr.specs.declared.status.Status.TheVariants.{Nfs4Ok, BadStateId}
+use Rattle.nfs_compound.specs.declared.stateid.Stateid.{Stateid}
+use Rattle.nfs_results.specs.Result.{ResTestStateid}
+use Rattle.nfs_opens.specs.declared.stateid.StateId.{StateId}
+use Rattle.nfs_opens.specs.declared.judging.Seat.{Seat}
+use Rattle.nfs_opens.specs.declared.judging.Seat.TheVariants.{Anonymous, ReadBypass, Open, Lock}
+use Rattle.nfs_opens.specs.declared.judging.Sort.TheVariants.{Either}
+use Rattle.nfs_opens.specs.StateId.{is_current}
+use Rattle.nfs_opens.specs.Judging.{judge}
+use Rattle.nfs_names.specs.declared.context.Context.{Context}
+use Rattle.nfs_names.specs.State.{State}
+use Rattle.nfs_names.specs.Outcome.{Outcome, done}
+use Rattle.nfs_files.specs.StateIds.{state_id}
+
+-- special stateids name no state
+abbrev pub status_of : Result Seat Status → Status
+status_of (Err status) = status
+status_of (Ok Anonymous) = BadStateId
+status_of (Ok ReadBypass) = BadStateId
+status_of (Ok (Open number access)) = Nfs4Ok
+status_of (Ok (Lock number access)) = Nfs4Ok
+
+-- nor does the one that stands for the current stateid elsewhere
+abbrev pub tested : State → Context → StateId → Status
+tested s x id = if is_current id then BadStateId else status_of (judge s.opens id x.client None Either)
+
+unfoldable pub code : State → Context → Stateid → ℕ
+code s x given = status_number (tested s x (state_id given))
+
+unfoldable pub test_stateid : State → Context → List Stateid → Outcome
+test_stateid s x given = done s x (ResTestStateid (map (code s x) given))

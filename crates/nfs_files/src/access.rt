@@ -1,0 +1,135 @@
+//! Whether bytes of a file may be read or changed (RFC 8881 sections 8.2.3, 9.1.2 and 9.7).
+
+ghost use Rattle.std.specs.Prelude.{◌≡◌, Ok};
+ghost use Rattle.nfs_names.specs.State.{state_of};
+ghost use Rattle.nfs_names.specs.Outcome.{checked};
+ghost use Rattle.nfs_files.specs.Bytes as of_bytes;
+
+use crate::stateids::meant;
+use nfs_attrs::Want;
+use nfs_compound::Stateid;
+use nfs_names::{Context, Held, Store, is_link, permits};
+use nfs_opens::{CurrentSeqid, Seat, Sort};
+use nfs_xdr::Status;
+
+/// A file alone has bytes.
+pub(crate) fn judge_file(held: Held) -> Result<Held, Status>
+    ensures { result ≡ checked (Ok held) of_bytes.file_checks }
+{
+    if held.object.kind.is_directory() {
+        return Err(Status::IsDir);
+    }
+    if is_link(held.object.kind) {
+        return Err(Status::Symlink);
+    }
+    Ok(held)
+}
+
+/// The state of a file by which its bytes are to be changed.
+#[tactic(auto, unfolding(crate::specs::Bytes::seat))]
+fn seat(store: &Store, context: &Context, given: &Stateid, held: &Held) -> Result<Seat, Status>
+    ensures { result ≡ of_bytes.seat (state_of store.now) context.now given.now held.now }
+{
+    let id = meant(context, CurrentSeqid::Any, given)?;
+    store
+        .opens
+        .judge(id, context.client, Some(held.number), Sort::Either)
+}
+
+/// Whether the state lets the bytes of a file be changed.
+fn judge_seat_writes(
+    store: &Store,
+    context: &Context,
+    held: &Held,
+    seat: Seat,
+) -> Result<Seat, Status>
+    ensures { result ≡ checked (Ok seat) (of_bytes.write_checks (state_of store.now) context.now held.now) }
+{
+    match seat {
+        Seat::Open { access, .. } if !access.writes => Err(Status::OpenMode),
+        Seat::Lock { access, .. } if !access.writes => Err(Status::OpenMode),
+        Seat::Open { .. } => Ok(seat),
+        Seat::Lock { .. } => Ok(seat),
+        _ => {
+            if store.opens.denies(held.number).writes {
+                return Err(Status::Locked);
+            }
+            if !permits(context, held, Want::WRITE) {
+                return Err(Status::Access);
+            }
+            Ok(seat)
+        }
+    }
+}
+
+/// The state by which bytes of a file may be changed.
+#[tactic(auto, unfolding(crate::specs::Bytes::may_write))]
+fn may_write(store: &Store, context: &Context, given: &Stateid, held: &Held) -> Result<Seat, Status>
+    ensures { result ≡ of_bytes.may_write (state_of store.now) context.now given.now held.now }
+{
+    let seat = seat(store, context, given, held)?;
+    judge_seat_writes(store, context, held, seat)
+}
+
+/// Whether the state lets the bytes of a file be read.
+fn judge_seat_reads(
+    store: &Store,
+    context: &Context,
+    held: &Held,
+    seat: Seat,
+) -> Result<Seat, Status>
+    ensures { result ≡ checked (Ok seat) (of_bytes.read_checks (state_of store.now) context.now held.now) }
+{
+    match seat {
+        Seat::Open { access, .. } if !access.reads => Err(Status::OpenMode),
+        Seat::Lock { access, .. } if !access.reads => Err(Status::OpenMode),
+        Seat::Open { .. } => Ok(seat),
+        Seat::Lock { .. } => Ok(seat),
+        Seat::Anonymous if store.opens.denies(held.number).reads => Err(Status::Locked),
+        _ => {
+            if !permits(context, held, Want::READ) {
+                return Err(Status::Access);
+            }
+            Ok(seat)
+        }
+    }
+}
+
+/// The state by which bytes of a file may be read.
+#[tactic(auto, unfolding(crate::specs::Bytes::may_read))]
+fn may_read(store: &Store, context: &Context, given: &Stateid, held: &Held) -> Result<Seat, Status>
+    ensures { result ≡ of_bytes.may_read (state_of store.now) context.now given.now held.now }
+{
+    let seat = seat(store, context, given, held)?;
+    judge_seat_reads(store, context, held, seat)
+}
+
+/// The object, where it is a file whose bytes may be read by the stateid.
+#[tactic(auto, unfolding(crate::specs::Bytes::readable))]
+pub(crate) fn readable(
+    store: &Store,
+    context: &Context,
+    given: &Stateid,
+    held: Held,
+) -> Result<Held, Status>
+    ensures { result ≡ of_bytes.readable (state_of store.now) context.now given.now (Ok held) }
+{
+    let held = judge_file(held)?;
+    may_read(store, context, given, &held)?;
+    Ok(held)
+}
+
+/// The object, where it is a file whose bytes may be changed by the stateid.
+#[tactic(auto, unfolding(crate::specs::Bytes::writable))]
+pub(crate) fn writable(
+    store: &Store,
+    context: &Context,
+    given: &Stateid,
+    held: Held,
+) -> Result<Held, Status>
+    ensures { result ≡ of_bytes.writable (state_of store.now) context.now given.now (Ok held) }
+{
+    let held = judge_file(held)?;
+    may_write(store, context, given, &held)?;
+    Ok(held)
+}

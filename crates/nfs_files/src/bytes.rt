@@ -1,0 +1,152 @@
+//! Operations on the bytes of files (RFC 8881 sections 18.3, 18.22 and 18.32).
+
+ghost use Rattle.std.specs.Prelude.{◌≡◌, ◌+◌, ◌-◌, ◌≤◌, ◌||◌, Some, length, nat_le};
+ghost use Rattle.nfs_xdr.specs.Paper.{Puts};
+ghost use Rattle.nfs_xdr.specs.Spelling.{padding};
+ghost use Rattle.nfs_compound.specs.FileArgs.{view_write};
+ghost use Rattle.nfs_compound.specs.Operation.{OpWrite};
+ghost use Rattle.nfs_results.specs.Largest.{given};
+ghost use Rattle.nfs_results.specs.Result.{ResRead};
+ghost use Rattle.nfs_results.specs.Results.{spell_result, status_of_result};
+ghost use Rattle.nfs_results.specs.View as view;
+ghost use Rattle.nfs_tree.specs.Files.{object_at};
+ghost use Rattle.nfs_names.specs.State.{state_of};
+ghost use Rattle.nfs_names.specs.Comes.{Comes};
+ghost use Rattle.nfs_names.specs.Outcome.{checked, is_delay};
+ghost use Rattle.nfs_names.specs.View.{outcome_of};
+ghost use Rattle.nfs_names.specs.Checks as check;
+ghost use Rattle.nfs_files.specs.Bytes as of_bytes;
+ghost use Rattle.nfs_files.specs.Commit as of_commit;
+ghost use Rattle.nfs_files.specs.Read as of_read;
+ghost use Rattle.nfs_files.specs.Write as of_write;
+ghost use Rattle.nfs_files.specs.Operation.{one_or_delay};
+
+use crate::access::{judge_file, readable, writable};
+use nfs_compound::{OpNum, Read, StableHow, Write};
+use nfs_names::{Context, Held, Store, current, put_refusal, refuse, status_of};
+use nfs_results::{Res, WriteOk, write_done_head};
+use nfs_xdr::{Sheet, Status, Time};
+use std::alloc::Global;
+
+/// Tells this start of the server from others: the instance and four zero bytes.
+#[tactic(auto, unfolding(nfs_xdr::specs::Spelling::number))]
+fn write_verifier(store: &Store) -> [u8; 8]
+    ensures { result ≡ of_commit.write_verifier (state_of store.now) }
+{
+    let [a, b, c, d] = store.instance.to_be_bytes();
+    [a, b, c, d, 0, 0, 0, 0]
+}
+
+/// The file whose bytes are to last.
+fn judge_commit(store: &Store, context: &Context) -> Result<Held, Status>
+    ensures { result ≡ checked (check.current (state_of store.now) context.now) of_bytes.file_checks }
+{
+    let held = current(store, context)?;
+    judge_file(held)
+}
+
+/// COMMIT.
+#[tactic(auto, unfolding(crate::specs::Commit::commit))]
+pub(crate) fn commit(store: &Store, context: &Context) -> Res<'static>
+    ensures { outcome_of result (state_of store.now) context.now ≡ of_commit.commit (state_of store.now) context.now }
+{
+    match judge_commit(store, context) {
+        Ok(_) => Res::Commit(write_verifier(store)),
+        Err(status) => refuse(OpNum::Commit, status),
+    }
+}
+
+/// The file that is to be written.
+#[tactic(auto, unfolding(crate::specs::Bytes::writable))]
+fn judge_write(store: &Store, context: &Context, asked: &Write<'_>) -> Result<Held, Status>
+    ensures { result ≡ of_bytes.writable (state_of store.now) context.now (view_write asked.now).stateid (check.current (state_of store.now) context.now) }
+{
+    let held = current(store, context)?;
+    writable(store, context, &asked.stateid, held)
+}
+
+/// All bytes were written, as lastingly as any are.
+fn write_ok(store: &Store, asked: &Write<'_>) -> WriteOk
+    requires { length (view_write asked.now).bytes ≤ 1048576 }
+    ensures { result ≡ of_write.write_ok (state_of store.now) (view_write asked.now) }
+{
+    WriteOk {
+        count: asked.bytes.len() as u32,
+        committed: StableHow::FileSync,
+        writeverf: write_verifier(store),
+    }
+}
+
+/// WRITE.
+pub(crate) fn write_bytes(
+    alloc: Global,
+    store: &mut Store,
+    context: &Context,
+    asked: &Write<'_>,
+    now: Time,
+) -> Res<'static>
+    ensures { outcome_of result (state_of store.new) context.now ≡ one_or_delay (is_delay (status_of_result (view.res result))) (state_of store.old) context.now now (OpWrite (view_write asked.now)) }
+{
+    match judge_write(store, context, asked) {
+        Ok(held) => match store
+            .tree
+            .write(alloc, held.number, asked.offset, asked.bytes, now)
+        {
+            Ok(()) => Res::Write(write_ok(store, asked)),
+            Err(fault) => refuse(OpNum::Write, status_of(fault)),
+        },
+        Err(status) => refuse(OpNum::Write, status),
+    }
+}
+
+/// No more bytes than this are given at once.
+fn given(count: u32) -> u32
+    ensures value { result ≡ given count }
+    ensures most { result ≤ 65536 }
+{
+    if count > 65_536 { 65_536 } else { count }
+}
+
+/// Whether so many bytes from `offset` on reach the end of a file of this size.
+fn reaches_end(size: u64, offset: u64, count: u32) -> bool
+    ensures { result ≡ (nat_le size offset || nat_le (size - offset) count) }
+{
+    size <= offset || size - offset <= count as u64
+}
+
+/// Puts bytes of a file, as READ answers them.
+fn put_bytes(store: &Store, held: &Held, asked: &Read, out: &mut Sheet)
+    requires there { object_at store.now.tree held.now.number ≡ Some held.now.object }
+    requires room { length out.old.bytes + (16 + (given asked.now.count + padding (given asked.now.count))) ≤ out.old.room }
+    ensures { Puts out.old out.new (spell_result (ResRead (of_read.was_read (state_of store.now) asked.now held.now))) }
+{
+    store.tree.kept();
+    let count = given(asked.count);
+    write_done_head(OpNum::Read, out);
+    out.put_flag(reaches_end(held.object.size, asked.offset, count));
+    store.tree.read(held.number, asked.offset, out, count);
+}
+
+/// The file that is to be read.
+#[tactic(auto, unfolding(crate::specs::Bytes::readable))]
+fn judge_read(store: &Store, context: &Context, asked: &Read) -> Result<Held, Status>
+    ensures { result ≡ of_bytes.readable (state_of store.now) context.now asked.now.stateid (check.current (state_of store.now) context.now) }
+{
+    let held = current(store, context)?;
+    readable(store, context, &asked.stateid, held)
+}
+
+/// READ.
+#[tactic(auto, unfolding(crate::specs::Read::read))]
+pub(crate) fn read(store: &Store, context: &Context, asked: &Read, out: &mut Sheet) -> Status
+    requires { length out.old.bytes + (16 + (given asked.now.count + padding (given asked.now.count))) ≤ out.old.room }
+    ensures { Comes (of_read.read (state_of store.now) context.now asked.now) out.old out.new result (state_of store.now) context.now }
+{
+    match judge_read(store, context, asked) {
+        Ok(held) => {
+            put_bytes(store, &held, asked, out);
+            Status::Nfs4Ok
+        }
+        Err(status) => put_refusal(OpNum::Read, status, out),
+    }
+}

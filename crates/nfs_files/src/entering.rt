@@ -1,0 +1,259 @@
+//! OPEN: a file is made, cut or left, and opened (RFC 8881 section 18.16).
+
+ghost use Rattle.std.specs.Prelude.{◌≡◌, true, Ok};
+ghost use Rattle.nfs_xdr.specs.Checks.{first_fault, judged};
+ghost use Rattle.nfs_compound.specs.OpenArgs.{view_open};
+ghost use Rattle.nfs_compound.specs.Operation.{OpOpen};
+ghost use Rattle.nfs_results.specs.Results.{status_of_result};
+ghost use Rattle.nfs_results.specs.View as view;
+ghost use Rattle.nfs_tree.specs.Create.{new_of};
+ghost use Rattle.nfs_tree.specs.Did.{DoesOrWants};
+ghost use Rattle.nfs_tree.specs.Files as files;
+ghost use Rattle.nfs_opens.specs.Opening as of_opens;
+ghost use Rattle.nfs_names.specs.State.{state_of, IsStore, IsRooted};
+ghost use Rattle.nfs_names.specs.Outcome.{checked, mapped, is_delay};
+ghost use Rattle.nfs_names.specs.View.{outcome_of};
+ghost use Rattle.nfs_files.specs.Open as of_open;
+ghost use Rattle.nfs_files.specs.Operation.{one_or_delay};
+
+use crate::opening::{Found, access_of, deny_of, judge, mask_by, name_of, verifier_of};
+use crate::stateids::wire_id;
+use nfs_attrs::Wanted;
+use nfs_compound::{OpNum, Open};
+use nfs_names::{Context, Store, attr_set, change_info, refuse, status_of, time_of};
+use nfs_opens::Ask;
+use nfs_results::{AttrSet, ChangeInfo, OpenOk, Res};
+use nfs_tree::{Change, New, Sets, Tree, TreeFault};
+use nfs_xdr::{Status, Time};
+use std::alloc::Global;
+
+/// Whether the object is there and can change once more.
+fn can_change(tree: &Tree, number: u64) -> bool
+    ensures { result ≡ files.can_change tree.now number }
+{
+    match tree.change(number) {
+        Some(change) => change < u64::MAX,
+        None => false,
+    }
+}
+
+/// Whether there is a place for what is new, and a count for what changes.
+fn judge_room(tree: &Tree, found: &Found) -> Result<(), Status>
+    ensures { result ≡ judged (first_fault (of_open.room_checks tree.now found.now)) }
+{
+    match found {
+        Found::There { file, cut, .. } => {
+            if *cut && !can_change(tree, file.number) {
+                return Err(Status::ServerFault);
+            }
+            Ok(())
+        }
+        Found::Absent(making) => match tree.judge_create(making.place.number) {
+            Ok(()) => Ok(()),
+            Err(fault) => Err(status_of(fault)),
+        },
+    }
+}
+
+/// What is asked of the opens of a file.
+fn ask_for<'a>(context: &Context, asked: &Open<'a>, file: u64) -> Ask<'a>
+    ensures { of_opens.asked result ≡ of_open.asking context.now (view_open asked.now) file }
+{
+    Ask {
+        client: context.client,
+        owner: asked.owner.owner,
+        file,
+        access: access_of(asked),
+        deny: deny_of(asked),
+    }
+}
+
+/// The number of a file that is there; of one that is to be made 0, which none has.
+fn number_of(found: &Found) -> u64
+    ensures { result ≡ of_open.number_of found.now }
+{
+    match found {
+        Found::There { file, .. } => file.number,
+        Found::Absent(_) => 0,
+    }
+}
+
+/// Whether it may be opened beside the other opens, and there is a place for it.
+fn judge_last(
+    store: &Store,
+    context: &Context,
+    asked: &Open<'_>,
+    found: &Found,
+) -> Result<(), Status>
+    requires { IsStore (state_of store.now) }
+    ensures { result ≡ judged (first_fault (of_open.last_checks (state_of store.now) context.now (view_open asked.now) found.now)) }
+{
+    store.tree.kept();
+    let room = judge_room(&store.tree, found);
+    let ask = ask_for(context, asked, number_of(found));
+    match store.opens.judge_open(&ask) {
+        Ok(()) => room,
+        Err(status) => {
+            if status.number() == Status::ShareDenied.number() {
+                return Err(status);
+            }
+            match room {
+                Ok(()) => Err(status),
+                Err(other) => Err(other),
+            }
+        }
+    }
+}
+
+/// What is to be opened, if it may be.
+fn judge_whole(store: &Store, context: &Context, asked: &Open<'_>) -> Result<Found, Status>
+    requires { IsStore (state_of store.now) }
+    ensures { result ≡ checked (of_open.asked_for (state_of store.now) context.now (view_open asked.now)) (of_open.last_checks (state_of store.now) context.now (view_open asked.now)) }
+{
+    let found = judge(store, context, asked)?;
+    match judge_last(store, context, asked, &found) {
+        Ok(()) => Ok(found),
+        Err(status) => Err(status),
+    }
+}
+
+/// How the directory changes, or the object that is told in its place.
+fn info_of(tree: &Tree, found: &Found) -> ChangeInfo
+    requires { of_open.can_enter tree.now found.now ≡ true }
+    ensures { result ≡ of_open.info_of tree.now found.now }
+{
+    match found {
+        Found::There { place, .. } => {
+            let change = tree.change(*place).unwrap_or(0);
+            change_info(Change {
+                before: change,
+                after: change,
+            })
+        }
+        Found::Absent(making) => {
+            let change = tree.change(making.place.number).unwrap_or(0);
+            change_info(Change {
+                before: change,
+                after: change + 1,
+            })
+        }
+    }
+}
+
+/// What a new file is.
+fn new_file(asked: &Open<'_>, wanted: &Wanted) -> New<'static>
+    ensures { new_of result ≡ of_open.new_of (view_open asked.now) wanted.now }
+{
+    New::File {
+        size: wanted.size.unwrap_or(0),
+        verifier: verifier_of(&asked.openhow),
+    }
+}
+
+/// What its attributes are, where nothing else is given.
+fn sets_of(context: &Context, now: Time, asked: &Open<'_>, wanted: &Wanted) -> Sets
+    ensures { result ≡ of_open.sets_of context.now now (view_open asked.now) wanted.now }
+{
+    let _ = &asked.openhow;
+    Sets {
+        mode: Some(wanted.mode.unwrap_or(0o644)),
+        owner: Some(wanted.owner.unwrap_or(context.who.who().uid)),
+        group: Some(wanted.group.unwrap_or(context.who.who().gid)),
+        access: time_of(wanted.access, now),
+        modify: time_of(wanted.modify, now),
+    }
+}
+
+/// The attributes that are set.
+fn set_of(asked: &Open<'_>, found: &Found) -> AttrSet
+    ensures { view.attr_set result ≡ of_open.set_of (view_open asked.now) found.now }
+{
+    match found {
+        Found::There { cut, .. } => AttrSet {
+            words: [if *cut { 0x10 } else { 0 }, 0, 0],
+        },
+        Found::Absent(_) => attr_set(&mask_by(&asked.openhow)),
+    }
+}
+
+/// The file is made, cut or left. Answers its number.
+fn enter(
+    alloc: Global,
+    tree: &mut Tree,
+    context: &Context,
+    asked: &Open<'_>,
+    found: &Found,
+    now: Time,
+) -> Result<u64, TreeFault>
+    requires { IsRooted tree.old }
+    ensures { DoesOrWants tree.old true (of_open.entered tree.old context.now now (view_open asked.now) found.now) result tree.new }
+{
+    match found {
+        Found::There { file, cut, .. } => {
+            if *cut {
+                tree.resize(alloc, file.number, 0, &Sets::none(), now)?;
+            }
+            Ok(file.number)
+        }
+        Found::Absent(making) => {
+            let name = name_of(&asked.claim);
+            let new = new_file(asked, &making.wanted);
+            let sets = sets_of(context, now, asked, &making.wanted);
+            let created = tree.create(alloc, making.place.number, name, &new, &sets, now)?;
+            Ok(created.number)
+        }
+    }
+}
+
+/// Opens what may be opened. Fails only for want of memory, and then nothing has changed.
+fn open_found(
+    alloc: Global,
+    store: &mut Store,
+    context: &mut Context,
+    asked: &Open<'_>,
+    found: &Found,
+    now: Time,
+) -> Result<OpenOk, Status>
+    requires granted { checked (of_open.asked_for (state_of store.old) context.old (view_open asked.now)) (of_open.last_checks (state_of store.old) context.old (view_open asked.now)) ≡ Ok found.now }
+    requires store { IsStore (state_of store.old) }
+    ensures { of_open.OpensOr (mapped view.open_ok result) (of_open.opened (state_of store.old) context.old now (view_open asked.now) found.now) (state_of store.old) context.old (state_of store.new) context.new }
+{
+    store.tree.kept();
+    let Ok(ready) = store.opens.reserve(alloc, asked.owner.owner) else {
+        return Err(Status::Delay);
+    };
+    let cinfo = info_of(&store.tree, found);
+    let file = match enter(alloc, &mut store.tree, context, asked, found, now) {
+        Ok(file) => file,
+        Err(fault) => return Err(status_of(fault)),
+    };
+    let stateid = wire_id(store.opens.open(ready, &ask_for(context, asked, file)));
+    context.current = Some(file);
+    context.stateid = stateid;
+    Ok(OpenOk {
+        stateid,
+        cinfo,
+        attrset: set_of(asked, found),
+    })
+}
+
+/// OPEN.
+#[tactic(auto, unfolding(crate::specs::Open::open_file))]
+pub(crate) fn open_file(
+    alloc: Global,
+    store: &mut Store,
+    context: &mut Context,
+    asked: &Open<'_>,
+    now: Time,
+) -> Res<'static>
+    requires { IsStore (state_of store.old) }
+    ensures { outcome_of result (state_of store.new) context.new ≡ one_or_delay (is_delay (status_of_result (view.res result))) (state_of store.old) context.old now (OpOpen (view_open asked.now)) }
+{
+    match judge_whole(store, context, asked) {
+        Ok(found) => match open_found(alloc, store, context, asked, &found, now) {
+            Ok(ok) => Res::Open(ok),
+            Err(status) => refuse(OpNum::Open, status),
+        },
+        Err(status) => refuse(OpNum::Open, status),
+    }
+}

@@ -1,0 +1,297 @@
+//! LOCK, LOCKT and LOCKU (RFC 8881 sections 18.10 to 18.12).
+
+ghost use Rattle.std.specs.Prelude.{◌≡◌, ◌+◌, ◌≤◌, ◌&&◌, not, IfOk, length, take};
+ghost use Rattle.nfs_xdr.specs.declared.status.Status.TheVariants as S;
+ghost use Rattle.nfs_compound.specs.declared.op_num.OpNum.TheVariants as Op;
+ghost use Rattle.nfs_compound.specs.LockArgs.{view_lock, view_lock_t, view_locker};
+ghost use Rattle.nfs_compound.specs.StateOwner as state_owner;
+ghost use Rattle.nfs_xdr.specs.Paper.{Puts};
+ghost use Rattle.nfs_results.specs.Result.{ResLock, ResLockDenied, ResLockT, ResLockTDenied};
+ghost use Rattle.nfs_results.specs.Results.{spell_result, status_of_result};
+ghost use Rattle.nfs_results.specs.View as view;
+ghost use Rattle.nfs_opens.specs.Table.{table, lock_at};
+ghost use Rattle.nfs_opens.specs.Locking.{LocksOrWants, is_whole};
+ghost use Rattle.nfs_names.specs.State.{state_of};
+ghost use Rattle.nfs_names.specs.Comes.{Comes};
+ghost use Rattle.nfs_names.specs.Outcome.{checked, or_delay, is_delay};
+ghost use Rattle.nfs_names.specs.View.{outcome_of};
+ghost use Rattle.nfs_files.specs.Denied as of_denied;
+ghost use Rattle.nfs_files.specs.Lock as of_lock;
+ghost use Rattle.nfs_files.specs.LockT as of_lock_t;
+ghost use Rattle.nfs_files.specs.LockU as of_lock_u;
+ghost use Rattle.nfs_files.specs.Ranges as of_ranges;
+
+use crate::ranges::{Wished, wish_for};
+use crate::stateids::{meant, wire_id};
+use nfs_compound::{Lock, LockT, LockType, LockU, Locker, OpNum, StateOwner, Stateid};
+use nfs_names::{Context, Store, put_refusal, refuse};
+use nfs_opens::{CurrentSeqid, OpenFault, Opens, StateId, Wish};
+use nfs_ranges::{Held, Kind};
+use nfs_results::{Denied, Res, write};
+use nfs_xdr::{Sheet, Status};
+use std::alloc::Global;
+
+fn type_of(kind: Kind) -> LockType
+    ensures { result ≡ of_denied.type_of kind }
+{
+    match kind {
+        Kind::Read => LockType::Read,
+        Kind::Write => LockType::Write,
+    }
+}
+
+/// How many bytes a lock that is told has; all ones where it reaches the last byte.
+fn size_of(held: &Held) -> u64
+    ensures { result ≡ of_denied.size_of held.now }
+{
+    if held.last == u64::MAX {
+        u64::MAX
+    } else {
+        (held.last + 1).saturating_sub(held.first)
+    }
+}
+
+/// No owner has more bytes than 1,024.
+fn owner_of(bytes: &[u8]) -> &[u8]
+    ensures { result.now ≡ take 1024 bytes.now }
+{
+    if bytes.len() > 1024 {
+        &bytes[..1024]
+    } else {
+        bytes
+    }
+}
+
+/// Who holds the bytes, by the number of the lock state.
+fn holder(opens: &Opens, number: u64) -> StateOwner<'_>
+    ensures { state_owner.view result ≡ of_denied.holder (lock_at (table opens.now) number) }
+{
+    match opens.lock_state(number) {
+        Some(lock) => StateOwner {
+            clientid: lock.client,
+            owner: owner_of(lock.owner.bytes()),
+        },
+        None => StateOwner {
+            clientid: 0,
+            owner: &[],
+        },
+    }
+}
+
+/// The lock that is in the way.
+#[tactic(auto, unfolding(crate::specs::Denied::denied))]
+fn denied<'a>(opens: &'a Opens, held: &Held) -> Denied<'a>
+    ensures { view.denied result ≡ of_denied.denied (table opens.now) held.now }
+{
+    Denied {
+        offset: held.first,
+        length: size_of(held),
+        locktype: type_of(held.kind),
+        owner: holder(opens, held.owner),
+    }
+}
+
+/// The status of what the table of opens refuses.
+fn status_of(fault: OpenFault) -> Status
+    ensures { result ≡ of_denied.status_of fault }
+{
+    match fault {
+        OpenFault::Refused(status) => status,
+        OpenFault::Denied(_) => Status::Denied,
+        OpenFault::Memory => Status::Delay,
+    }
+}
+
+/// Puts the lock that is in the way of a LOCK, as it answers it.
+fn put_denied(opens: &Opens, held: &Held, out: &mut Sheet) -> Status
+    requires { length out.old.bytes + 1064 ≤ out.old.room }
+    ensures put { Puts out.old out.new (spell_result (ResLockDenied (of_denied.denied (table opens.now) held.now))) }
+    ensures status { result ≡ S.Denied }
+{
+    write(&Res::LockDenied(denied(opens, held)), out);
+    Status::Denied
+}
+
+/// Puts the lock that is in the way of a LOCKT, as it answers it.
+fn put_denied_test(opens: &Opens, held: &Held, out: &mut Sheet) -> Status
+    requires { length out.old.bytes + 1064 ≤ out.old.room }
+    ensures put { Puts out.old out.new (spell_result (ResLockTDenied (of_denied.denied (table opens.now) held.now))) }
+    ensures status { result ≡ S.Denied }
+{
+    write(&Res::LockTDenied(denied(opens, held)), out);
+    Status::Denied
+}
+
+/// Puts the stateid of a lock that was set, as LOCK answers it.
+fn put_locked(id: Stateid, out: &mut Sheet) -> Status
+    requires { length out.old.bytes + 1064 ≤ out.old.room }
+    ensures put { Puts out.old out.new (spell_result (ResLock id)) }
+    ensures status { result ≡ S.Nfs4Ok }
+{
+    write(&Res::Lock(id), out);
+    Status::Nfs4Ok
+}
+
+/// Puts that no lock is in the way, as LOCKT answers it.
+fn put_free(out: &mut Sheet) -> Status
+    requires { length out.old.bytes + 1064 ≤ out.old.room }
+    ensures put { Puts out.old out.new (spell_result ResLockT) }
+    ensures status { result ≡ S.Nfs4Ok }
+{
+    write(&Res::LockT, out);
+    Status::Nfs4Ok
+}
+
+/// LOCKT.
+#[tactic(auto, unfolding(crate::specs::LockT::lock_t))]
+pub(crate) fn lock_t(store: &Store, context: &Context, asked: &LockT<'_>, out: &mut Sheet) -> Status
+    requires { length out.old.bytes + 1064 ≤ out.old.room }
+    ensures { Comes (of_lock_t.lock_t (state_of store.now) context.now (view_lock_t asked.now)) out.old out.new result (state_of store.now) context.now }
+{
+    match wish_for(store, context, asked.locktype, asked.offset, asked.length) {
+        Ok(wish) => match store.opens.test_lock(asked.owner.owner, &wish) {
+            Some(held) => put_denied_test(&store.opens, &held, out),
+            None => put_free(out),
+        },
+        Err(status) => put_refusal(OpNum::LockT, status, out),
+    }
+}
+
+/// The stateid by which a lock owner asks.
+fn stateid_in(locker: &Locker<'_>) -> Stateid
+    ensures { result ≡ of_lock.stateid_in (view_locker locker.now) }
+{
+    match locker {
+        Locker::OpenOwner(first) => first.open_stateid,
+        Locker::LockOwner(further) => further.lock_stateid,
+    }
+}
+
+/// The bytes that are to be locked, and by which open or lock state.
+fn judge_lock(store: &Store, context: &Context, asked: &Lock<'_>) -> Result<Wished, Status>
+    ensures wish { result ≡ of_lock.locking (state_of store.now) context.now (view_lock asked.now) }
+    ensures order { IfOk result (λ k. k.wish.first ≤ k.wish.last) }
+{
+    let wish = wish_for(store, context, asked.locktype, asked.offset, asked.length)?;
+    if asked.reclaim {
+        return Err(Status::NoGrace);
+    }
+    let id = meant(context, CurrentSeqid::Any, &stateid_in(&asked.locker))?;
+    Ok(Wished { wish, id })
+}
+
+/// Sets a lock.
+fn lock_bytes(
+    alloc: Global,
+    opens: &mut Opens,
+    locker: &Locker<'_>,
+    wished: &Wished,
+) -> Result<StateId, OpenFault>
+    requires { wished.now.wish.first ≤ wished.now.wish.last }
+    ensures { LocksOrWants (table opens.old) (of_lock.locks_as (table opens.old) (view_locker locker.now) wished.now.id wished.now.wish) result (table opens.new) }
+{
+    match locker {
+        Locker::OpenOwner(first) => {
+            let locker = nfs_opens::Locker::New {
+                under: wished.id,
+                owner: first.lock_owner.owner,
+            };
+            opens.lock(alloc, &locker, &wished.wish)
+        }
+        Locker::LockOwner(_) => {
+            opens.lock(alloc, &nfs_opens::Locker::Known(wished.id), &wished.wish)
+        }
+    }
+}
+
+/// Sets a lock, and puts what LOCK answers.
+fn set_lock(
+    alloc: Global,
+    store: &mut Store,
+    context: &mut Context,
+    locker: &Locker<'_>,
+    wished: &Wished,
+    out: &mut Sheet,
+) -> Status
+    requires order { wished.now.wish.first ≤ wished.now.wish.last }
+    requires room { length out.old.bytes + 1064 ≤ out.old.room }
+    ensures { Comes (or_delay (is_delay result) (state_of store.old) context.old Op.Lock (of_lock.locks (state_of store.old) context.old (view_locker locker.now) wished.now)) out.old out.new result (state_of store.new) context.new }
+{
+    match lock_bytes(alloc, &mut store.opens, locker, wished) {
+        Ok(id) => {
+            let id = wire_id(id);
+            context.stateid = id;
+            put_locked(id, out)
+        }
+        Err(OpenFault::Denied(held)) => put_denied(&store.opens, &held, out),
+        Err(OpenFault::Refused(status)) => put_refusal(OpNum::Lock, status, out),
+        Err(OpenFault::Memory) => put_refusal(OpNum::Lock, Status::Delay, out),
+    }
+}
+
+/// LOCK.
+#[tactic(auto, unfolding(crate::specs::Lock::lock))]
+pub(crate) fn lock(
+    alloc: Global,
+    store: &mut Store,
+    context: &mut Context,
+    asked: &Lock<'_>,
+    out: &mut Sheet,
+) -> Status
+    requires { length out.old.bytes + 1064 ≤ out.old.room }
+    ensures { Comes (or_delay (is_delay result) (state_of store.old) context.old Op.Lock (of_lock.lock (state_of store.old) context.old (view_lock asked.now))) out.old out.new result (state_of store.new) context.new }
+{
+    match judge_lock(store, context, asked) {
+        Ok(wished) => set_lock(alloc, store, context, &asked.locker, &wished, out),
+        Err(status) => put_refusal(OpNum::Lock, status, out),
+    }
+}
+
+/// The bytes that are to be given up, and by which lock state.
+fn judge_unlock(store: &Store, context: &Context, asked: &LockU) -> Result<Wished, Status>
+    ensures wish { result ≡ of_lock_u.unlocking (state_of store.now) context.now asked.now }
+    ensures order { IfOk result (λ k. k.wish.first ≤ k.wish.last) }
+{
+    let wish = wish_for(store, context, asked.locktype, asked.offset, asked.length)?;
+    let id = meant(context, CurrentSeqid::Any, &asked.lock_stateid)?;
+    Ok(Wished { wish, id })
+}
+
+/// Gives up bytes.
+fn give_up(alloc: Global, store: &mut Store, context: &mut Context, wished: &Wished) -> Res<'static>
+    requires order { wished.now.wish.first ≤ wished.now.wish.last }
+    ensures { outcome_of result (state_of store.new) context.new ≡ or_delay (not (is_whole wished.now.wish.first wished.now.wish.last) && is_delay (status_of_result (view.res result))) (state_of store.old) context.old Op.LockU (of_lock_u.unlocks (state_of store.old) context.old wished.now) }
+{
+    let wish = &wished.wish;
+    match store.opens.unlock(
+        alloc,
+        wished.id,
+        wish.client,
+        wish.file,
+        wish.first,
+        wish.last,
+    ) {
+        Ok(id) => {
+            let id = wire_id(id);
+            context.stateid = id;
+            Res::LockU(id)
+        }
+        Err(fault) => refuse(OpNum::LockU, status_of(fault)),
+    }
+}
+
+/// LOCKU.
+#[tactic(auto, unfolding(crate::specs::LockU::lock_u))]
+pub(crate) fn lock_u(
+    alloc: Global,
+    store: &mut Store,
+    context: &mut Context,
+    asked: &LockU,
+) -> Res<'static>
+    ensures { outcome_of result (state_of store.new) context.new ≡ or_delay (of_lock_u.wants_memory asked.now && is_delay (status_of_result (view.res result))) (state_of store.old) context.old Op.LockU (of_lock_u.lock_u (state_of store.old) context.old asked.now) }
+{
+    match judge_unlock(store, context, asked) {
+        Ok(wished) => give_up(alloc, store, context, &wished),
+        Err(status) => refuse(OpNum::LockU, status),
+    }
+}

@@ -1,0 +1,362 @@
+//! OPEN: what is to be opened, and whether it may be (RFC 8881 section 18.16).
+
+ghost use Rattle.std.specs.Prelude.{◌≡◌, Ok};
+ghost use Rattle.nfs_compound.specs.OpenArgs.{view_open, view_open_how, view_open_claim};
+ghost use Rattle.nfs_names.specs.State.{state_of};
+ghost use Rattle.nfs_names.specs.Outcome.{checked};
+ghost use Rattle.nfs_files.specs.Open as of_open;
+ghost use Rattle.nfs_files.specs.SetAttr as of_set_attr;
+
+use crate::access::judge_file;
+use nfs_attrs::{AttrFault, Mask, Want, Wanted, may_make};
+use nfs_compound::{CreateHow, Open, OpenClaim, OpenHow};
+use nfs_names::{
+    Context, Held, Making, Store, current, held_object, judge_name, permits, wanted_of,
+};
+use nfs_opens::Share;
+use nfs_xdr::Status;
+
+/// What OPEN comes upon.
+#[derive(Clone, Copy, Debug, PartialEq, Eq)]
+pub(crate) enum Found {
+    /// A file that is there, which may be cut, and the object of which the change is told.
+    There { place: u64, file: Held, cut: bool },
+    /// None: a file is to be made.
+    Absent(Making),
+}
+
+/// What the open is to be allowed.
+pub(crate) fn access_of(asked: &Open<'_>) -> Share
+    ensures { result ≡ of_open.access_of (view_open asked.now) }
+{
+    Share::from_bits(asked.share_access % 4).unwrap_or(Share::neither())
+}
+
+/// What it is to deny.
+pub(crate) fn deny_of(asked: &Open<'_>) -> Share
+    ensures { result ≡ of_open.deny_of (view_open asked.now) }
+{
+    Share::from_bits(asked.share_deny).unwrap_or(Share::neither())
+}
+
+fn creates(how: &OpenHow<'_>) -> bool
+    ensures { result ≡ of_open.creates (view_open_how how.now) }
+{
+    match how {
+        OpenHow::NoCreate => false,
+        OpenHow::Create(_) => true,
+    }
+}
+
+fn is_guarded(how: &OpenHow<'_>) -> bool
+    ensures { result ≡ of_open.is_guarded (view_open_how how.now) }
+{
+    match how {
+        OpenHow::NoCreate => false,
+        OpenHow::Create(CreateHow::Unchecked { .. }) => false,
+        OpenHow::Create(CreateHow::Guarded { .. }) => true,
+        OpenHow::Create(CreateHow::Exclusive { .. }) => false,
+        OpenHow::Create(CreateHow::Exclusive41 { .. }) => false,
+    }
+}
+
+fn is_unchecked(how: &OpenHow<'_>) -> bool
+    ensures { result ≡ of_open.is_unchecked (view_open_how how.now) }
+{
+    match how {
+        OpenHow::NoCreate => false,
+        OpenHow::Create(CreateHow::Unchecked { .. }) => true,
+        OpenHow::Create(CreateHow::Guarded { .. }) => false,
+        OpenHow::Create(CreateHow::Exclusive { .. }) => false,
+        OpenHow::Create(CreateHow::Exclusive41 { .. }) => false,
+    }
+}
+
+/// The verifier of an exclusive create.
+pub(crate) fn verifier_of(how: &OpenHow<'_>) -> Option<[u8; 8]>
+    ensures { result ≡ of_open.verifier_of (view_open_how how.now) }
+{
+    match how {
+        OpenHow::NoCreate => None,
+        OpenHow::Create(CreateHow::Unchecked { .. }) => None,
+        OpenHow::Create(CreateHow::Guarded { .. }) => None,
+        OpenHow::Create(CreateHow::Exclusive { createverf }) => Some(*createverf),
+        OpenHow::Create(CreateHow::Exclusive41 { verf, .. }) => Some(*verf),
+    }
+}
+
+const NO_ATTRIBUTES: Mask = Mask {
+    words: [0, 0, 0],
+    beyond: false,
+};
+
+const NOTHING: Wanted = Wanted {
+    size: None,
+    mode: None,
+    owner: None,
+    group: None,
+    access: None,
+    modify: None,
+    mask: NO_ATTRIBUTES,
+};
+
+/// The attributes that are given.
+fn wanted_by(how: &OpenHow<'_>) -> Result<Wanted, AttrFault>
+    ensures { result ≡ of_open.wanted_by (view_open_how how.now) }
+{
+    match how {
+        OpenHow::NoCreate => Ok(NOTHING),
+        OpenHow::Create(CreateHow::Unchecked { createattrs }) => wanted_of(createattrs),
+        OpenHow::Create(CreateHow::Guarded { createattrs }) => wanted_of(createattrs),
+        OpenHow::Create(CreateHow::Exclusive { .. }) => Ok(NOTHING),
+        OpenHow::Create(CreateHow::Exclusive41 { attrs, .. }) => wanted_of(attrs),
+    }
+}
+
+/// Which they are.
+pub(crate) fn mask_by(how: &OpenHow<'_>) -> Mask
+    ensures { result ≡ of_open.mask_by (view_open_how how.now) }
+{
+    match how {
+        OpenHow::NoCreate => NO_ATTRIBUTES,
+        OpenHow::Create(CreateHow::Unchecked { createattrs }) => {
+            Mask::new(createattrs.attrmask.words)
+        }
+        OpenHow::Create(CreateHow::Guarded { createattrs }) => {
+            Mask::new(createattrs.attrmask.words)
+        }
+        OpenHow::Create(CreateHow::Exclusive { .. }) => NO_ATTRIBUTES,
+        OpenHow::Create(CreateHow::Exclusive41 { attrs, .. }) => Mask::new(attrs.attrmask.words),
+    }
+}
+
+fn is_reclaim(claim: &OpenClaim<'_>) -> bool
+    ensures { result ≡ of_open.is_reclaim (view_open_claim claim.now) }
+{
+    match claim {
+        OpenClaim::Null { .. } => false,
+        OpenClaim::Previous { .. } => true,
+        OpenClaim::DelegateCur { .. } => false,
+        OpenClaim::DelegatePrev { .. } => false,
+        OpenClaim::Fh => false,
+        OpenClaim::DelegCurFh { .. } => false,
+        OpenClaim::DelegPrevFh => false,
+    }
+}
+
+fn is_delegation(claim: &OpenClaim<'_>) -> bool
+    ensures { result ≡ of_open.is_delegation (view_open_claim claim.now) }
+{
+    match claim {
+        OpenClaim::Null { .. } => false,
+        OpenClaim::Previous { .. } => false,
+        OpenClaim::DelegateCur { .. } => true,
+        OpenClaim::DelegatePrev { .. } => true,
+        OpenClaim::Fh => false,
+        OpenClaim::DelegCurFh { .. } => true,
+        OpenClaim::DelegPrevFh => true,
+    }
+}
+
+fn is_by_handle(claim: &OpenClaim<'_>) -> bool
+    ensures { result ≡ of_open.is_by_handle (view_open_claim claim.now) }
+{
+    match claim {
+        OpenClaim::Null { .. } => false,
+        OpenClaim::Previous { .. } => false,
+        OpenClaim::DelegateCur { .. } => false,
+        OpenClaim::DelegatePrev { .. } => false,
+        OpenClaim::Fh => true,
+        OpenClaim::DelegCurFh { .. } => false,
+        OpenClaim::DelegPrevFh => false,
+    }
+}
+
+/// The name of the file, which a claim by filehandle does not have.
+pub(crate) fn name_of<'a>(claim: &OpenClaim<'a>) -> &'a [u8]
+    ensures { result.now ≡ of_open.name_of (view_open_claim claim.now) }
+{
+    match claim {
+        OpenClaim::Null { file } => file,
+        OpenClaim::Previous { .. } => &[],
+        OpenClaim::DelegateCur { .. } => &[],
+        OpenClaim::DelegatePrev { .. } => &[],
+        OpenClaim::Fh => &[],
+        OpenClaim::DelegCurFh { .. } => &[],
+        OpenClaim::DelegPrevFh => &[],
+    }
+}
+
+/// The current filehandle's object, where such things may be asked for.
+fn judge_arguments(asked: &Open<'_>, held: Held) -> Result<Held, Status>
+    ensures { result ≡ checked (Ok held) (of_open.argument_checks (view_open asked.now)) }
+{
+    if asked.share_access % 4 == 0 {
+        return Err(Status::Inval);
+    }
+    if Share::from_bits(asked.share_deny).is_none() {
+        return Err(Status::Inval);
+    }
+    if is_reclaim(&asked.claim) {
+        return Err(Status::NoGrace);
+    }
+    if is_delegation(&asked.claim) {
+        return Err(Status::NotSupp);
+    }
+    if is_by_handle(&asked.claim) && creates(&asked.openhow) {
+        return Err(Status::Inval);
+    }
+    Ok(held)
+}
+
+/// The directory in which the name is looked for.
+fn judge_place(context: &Context, asked: &Open<'_>, held: Held) -> Result<Held, Status>
+    ensures { result ≡ checked (Ok held) (of_open.place_checks context.now (view_open asked.now)) }
+{
+    if !held.object.kind.is_directory() {
+        return Err(Status::NotDir);
+    }
+    if !permits(context, &held, Want::EXECUTE) {
+        return Err(Status::Access);
+    }
+    judge_name(name_of(&asked.claim))?;
+    Ok(held)
+}
+
+fn is_too_big(size: Option<u64>) -> bool
+    ensures { result ≡ of_set_attr.is_too_big size }
+{
+    match size {
+        Some(size) => size > 1_048_576,
+        None => false,
+    }
+}
+
+/// What is to be made where, if it may be.
+fn judge_absent(context: &Context, asked: &Open<'_>, making: Making) -> Result<Making, Status>
+    ensures { result ≡ checked (Ok making) (of_open.absent_checks context.now (view_open asked.now)) }
+{
+    if !creates(&asked.openhow) {
+        return Err(Status::NoEnt);
+    }
+    if !permits(context, &making.place, Want::WRITE) {
+        return Err(Status::Access);
+    }
+    may_make(&making.wanted, context.who.who())?;
+    if is_too_big(making.wanted.size) {
+        return Err(Status::FBig);
+    }
+    Ok(making)
+}
+
+/// Whether an exclusive create by this verifier, if it is one, made the object.
+fn was_made_by(verifier: Option<[u8; 8]>, made: Option<[u8; 8]>) -> bool
+    ensures { result ≡ of_open.was_made_by verifier made }
+{
+    match verifier {
+        None => true,
+        Some(verifier) => match made {
+            None => false,
+            Some(made) => made.as_slice() == verifier.as_slice(),
+        },
+    }
+}
+
+fn want_of(access: Share) -> Want
+    ensures { result ≡ of_open.want_of access }
+{
+    Want {
+        read: access.reads,
+        write: access.writes,
+        execute: false,
+    }
+}
+
+/// The object that is there, if it may be opened.
+fn judge_there(context: &Context, asked: &Open<'_>, file: Held) -> Result<Held, Status>
+    ensures { result ≡ checked (Ok file) (of_open.there_checks context.now (view_open asked.now)) }
+{
+    if is_guarded(&asked.openhow) {
+        return Err(Status::Exist);
+    }
+    if !was_made_by(verifier_of(&asked.openhow), file.object.verifier) {
+        return Err(Status::Exist);
+    }
+    let file = judge_file(file)?;
+    if !permits(context, &file, want_of(access_of(asked))) {
+        return Err(Status::Access);
+    }
+    Ok(file)
+}
+
+/// Whether the file is cut.
+fn cuts(asked: &Open<'_>, wanted: &Wanted) -> bool
+    ensures { result ≡ of_open.cuts (view_open asked.now) wanted.now }
+{
+    is_unchecked(&asked.openhow) && wanted.size == Some(0) && access_of(asked).writes
+}
+
+fn found_by(
+    store: &Store,
+    context: &Context,
+    asked: &Open<'_>,
+    making: Making,
+    number: Option<u64>,
+) -> Result<Found, Status>
+    ensures { result ≡ of_open.found_by (state_of store.now) context.now (view_open asked.now) making number }
+{
+    match number {
+        Some(number) => {
+            let file = held_object(store, Some(number))?;
+            let file = judge_there(context, asked, file)?;
+            Ok(Found::There {
+                place: making.place.number,
+                file,
+                cut: cuts(asked, &making.wanted),
+            })
+        }
+        None => {
+            let making = judge_absent(context, asked, making)?;
+            Ok(Found::Absent(making))
+        }
+    }
+}
+
+/// What stands under the name in a directory.
+fn by_name(store: &Store, context: &Context, asked: &Open<'_>, held: Held) -> Result<Found, Status>
+    ensures { result ≡ of_open.by_name (state_of store.now) context.now (view_open asked.now) (Ok held) }
+{
+    let place = judge_place(context, asked, held)?;
+    let wanted = match wanted_by(&asked.openhow) {
+        Ok(wanted) => wanted,
+        Err(fault) => return Err(fault.status()),
+    };
+    let number = store.tree.lookup(place.number, name_of(&asked.claim));
+    found_by(store, context, asked, Making { place, wanted }, number)
+}
+
+/// The current filehandle's file itself.
+fn by_handle(context: &Context, asked: &Open<'_>, held: Held) -> Result<Found, Status>
+    ensures { result ≡ of_open.by_handle context.now (view_open asked.now) (Ok held) }
+{
+    let file = judge_there(context, asked, held)?;
+    Ok(Found::There {
+        place: file.number,
+        file,
+        cut: false,
+    })
+}
+
+/// What is to be opened.
+#[tactic(auto, unfolding(crate::specs::Open::asked_for))]
+pub(crate) fn judge(store: &Store, context: &Context, asked: &Open<'_>) -> Result<Found, Status>
+    ensures { result ≡ of_open.asked_for (state_of store.now) context.now (view_open asked.now) }
+{
+    let held = current(store, context)?;
+    let held = judge_arguments(asked, held)?;
+    if is_by_handle(&asked.claim) {
+        by_handle(context, asked, held)
+    } else {
+        by_name(store, context, asked, held)
+    }
+}

@@ -1,0 +1,133 @@
+//! SETATTR (RFC 8881 section 18.30).
+
+ghost use Rattle.std.specs.Prelude.{◌≡◌, is_some};
+ghost use Rattle.nfs_compound.specs.FileArgs.{view_set_attr};
+ghost use Rattle.nfs_compound.specs.Operation.{OpSetAttr};
+ghost use Rattle.nfs_tree.specs.Did.{DoesOrWants};
+ghost use Rattle.nfs_results.specs.View as view;
+ghost use Rattle.nfs_results.specs.Results.{status_of_result};
+ghost use Rattle.nfs_names.specs.State.{state_of};
+ghost use Rattle.nfs_names.specs.Outcome.{checked, is_delay};
+ghost use Rattle.nfs_names.specs.View.{outcome_of};
+ghost use Rattle.nfs_names.specs.Checks as check;
+ghost use Rattle.nfs_names.specs.Create as of_create;
+ghost use Rattle.nfs_files.specs.SetAttr as of_set_attr;
+ghost use Rattle.nfs_files.specs.Operation.{one_or_delay};
+
+use crate::access::writable;
+use nfs_attrs::{Mask, Wanted, may_set};
+use nfs_compound::{OpNum, SetAttr, Stateid};
+use nfs_names::{Context, Held, Store, attr_set, current, refuse, status_of, time_of, wanted_of};
+use nfs_results::Res;
+use nfs_tree::{Sets, Tree, TreeFault};
+use nfs_xdr::{Status, Time};
+use std::alloc::Global;
+
+/// An object, and what is to be set of it.
+#[derive(Clone, Copy, Debug, PartialEq, Eq)]
+pub(crate) struct Setting {
+    pub(crate) held: Held,
+    pub(crate) wanted: Wanted,
+}
+
+/// What is to be set of which object, where the caller may.
+fn judge_setting(store: &Store, context: &Context, asked: &SetAttr<'_>) -> Result<Setting, Status>
+    ensures { result ≡ checked (of_set_attr.with_wanted (check.current (state_of store.now) context.now) (of_create.wanted_of (view_set_attr asked.now).obj_attributes)) (of_set_attr.owner_checks context.now) }
+{
+    let held = current(store, context)?;
+    let wanted = match wanted_of(&asked.obj_attributes) {
+        Ok(wanted) => wanted,
+        Err(fault) => return Err(fault.status()),
+    };
+    may_set(&held.object, &wanted, context.who.who())?;
+    Ok(Setting { held, wanted })
+}
+
+/// The object, where it can have a size by the stateid if one is to be set.
+fn judge_sized(
+    store: &Store,
+    context: &Context,
+    given: &Stateid,
+    setting: &Setting,
+) -> Result<Held, Status>
+    ensures { result ≡ of_set_attr.sized (state_of store.now) context.now given.now setting.now }
+{
+    match setting.wanted.size {
+        Some(_) => writable(store, context, given, setting.held),
+        None => Ok(setting.held),
+    }
+}
+
+#[tactic(auto, unfolding(crate::specs::SetAttr::asked_for))]
+fn judge(store: &Store, context: &Context, asked: &SetAttr<'_>) -> Result<Setting, Status>
+    ensures { result ≡ of_set_attr.asked_for (state_of store.now) context.now (view_set_attr asked.now) }
+{
+    let setting = judge_setting(store, context, asked)?;
+    judge_sized(store, context, &asked.stateid, &setting)?;
+    Ok(setting)
+}
+
+fn sets_of(now: Time, wanted: &Wanted) -> Sets
+    ensures { result ≡ of_set_attr.sets_of now wanted.now }
+{
+    Sets {
+        mode: wanted.mode,
+        owner: wanted.owner,
+        group: wanted.group,
+        access: time_of(wanted.access, now),
+        modify: time_of(wanted.modify, now),
+    }
+}
+
+/// Whether an attribute is given.
+fn gives_some(wanted: &Wanted) -> bool
+    ensures { result ≡ of_set_attr.gives_some wanted.now }
+{
+    wanted.size.is_some()
+        || wanted.mode.is_some()
+        || wanted.owner.is_some()
+        || wanted.group.is_some()
+        || wanted.access.is_some()
+        || wanted.modify.is_some()
+}
+
+/// Sets what is wanted of an object. The tree's own faults are the last checks.
+fn change(alloc: Global, tree: &mut Tree, setting: &Setting, now: Time) -> Result<(), TreeFault>
+    ensures { DoesOrWants tree.old (is_some setting.now.wanted.size) (of_set_attr.changed tree.old now setting.now) result tree.new }
+{
+    let sets = sets_of(now, &setting.wanted);
+    match setting.wanted.size {
+        Some(size) => tree.resize(alloc, setting.held.number, size, &sets, now),
+        None => {
+            if !gives_some(&setting.wanted) {
+                return Ok(());
+            }
+            tree.set(setting.held.number, &sets, now)
+        }
+    }
+}
+
+/// SETATTR.
+pub(crate) fn set_attr(
+    alloc: Global,
+    store: &mut Store,
+    context: &Context,
+    asked: &SetAttr<'_>,
+    now: Time,
+) -> Res<'static>
+    ensures { outcome_of result (state_of store.new) context.now ≡ one_or_delay (is_delay (status_of_result (view.res result))) (state_of store.old) context.now now (OpSetAttr (view_set_attr asked.now)) }
+{
+    match judge(store, context, asked) {
+        Ok(setting) => match change(alloc, &mut store.tree, &setting, now) {
+            Ok(()) => {
+                let given = Mask::new(asked.obj_attributes.attrmask.words);
+                Res::SetAttr {
+                    status: Status::Nfs4Ok,
+                    attrsset: attr_set(&given),
+                }
+            }
+            Err(fault) => refuse(OpNum::SetAttr, status_of(fault)),
+        },
+        Err(status) => refuse(OpNum::SetAttr, status),
+    }
+}

@@ -1,0 +1,339 @@
+-- The end of clients: one open after the other, one client after the other, and nobody's.
+use Rattle.std.proofs.Common.{◌≡◌, ◌≢◌, ℕ, ◌<◌, Bool, true, false, cond, not, List, [], ◌∷◌, length, Option, Some, None, refl, sym, ◌∙◌, ap, subst, inl, inr, arith}
+use Rattle.std.specs.Prelude.{◌==◌, ◌||◌, ◌&&◌, filter, find, is_some}
+use Rattle.std.specs.List.{list_any}
+use Rattle.std.specs.Option.{option_map_or}
+use Rattle.std.proofs.Math.Path.{fun_ext}
+use Rattle.std.proofs.lemmas.Bool.{cases_Bool, eqb-true, eq-eqb, false≢true}
+use Rattle.nfs_xdr.proofs.Tables.{length_filter}
+use Rattle.nfs_tree.specs.declared.stored.Stored.{Stored}
+use Rattle.nfs_tree.specs.Object.{is_regular}
+use Rattle.nfs_tree.specs.Files.{root, stored_in, has_row}
+use Rattle.nfs_opens.specs.declared.records.OpenState.{OpenState}
+use Rattle.nfs_opens.specs.declared.records.LockState.{LockState}
+use Rattle.nfs_opens.specs.Holding.{FileHolders}
+use Rattle.nfs_opens.specs.Table.{Table, In, IsTable, IsHolder, AreHolders}
+use Rattle.nfs_opens.specs.Closing.{stands, held_within, not_under, without_open, drop_open, drop_client}
+use Rattle.nfs_opens.proofs.Members.{in_filter, filter_in, in_one, find_in, none_pass, any_passes}
+use Rattle.nfs_opens.proofs.LockLemmas.{same_table}
+use Rattle.nfs_names.specs.State.{State, with_tree, is_open, is_used, without_unused, IsStore, IsStoreBut}
+use Rattle.nfs_names.specs.Ending.{has_open, table_staying, with_opens, only_used, staying}
+
+-- Lists.
+filter_of : {X : Type 0} (p q : X → Bool) (xs : List X) → ((x : X) → In x xs → p x ≡ true → q x ≡ true) → filter p (filter q xs) ≡ filter p xs
+filter_of p q [] f = refl
+filter_of {X} p q (x ∷ xs) f =
+    let rest = filter_of p q xs (λ y there. f y (inr there)) in
+    elim (cases_Bool (q x)) [
+      | inl stays ↦ rw stays (ap (λ (ys : List X). cond (p x) (x ∷ ys) ys) rest)
+      | inr goes ↦ elim (cases_Bool (p x)) [
+        | inl passes ↦ absurd (false≢true (sym goes ∙ f x (inl refl) passes))
+        | inr fails ↦ rw (goes, fails) rest
+      ]
+    ]
+
+filter_both : {X : Type 0} (p q : X → Bool) (xs : List X) → filter p (filter q xs) ≡ filter (λ x. p x && q x) xs
+filter_both p q [] = refl
+filter_both p q (x ∷ xs) =
+    let rest = filter_both p q xs in
+    elim (cases_Bool (p x)) [
+      | inl passes ↦ elim (cases_Bool (q x)) [
+        | inl stays ↦ rw (stays, passes) (ap (λ ys. x ∷ ys) rest)
+        | inr goes ↦ rw (passes, goes) rest
+      ]
+      | inr fails ↦ elim (cases_Bool (q x)) [
+        | inl stays ↦ rw (stays, fails) rest
+        | inr goes ↦ rw (goes, fails) rest
+      ]
+    ]
+
+filter_all : {X : Type 0} (p : X → Bool) (xs : List X) → ((x : X) → In x xs → p x ≡ true) → filter p xs ≡ xs
+filter_all p [] f = refl
+filter_all p (x ∷ xs) f = rw (f x (inl refl)) (ap (λ ys. x ∷ ys) (filter_all p xs (λ y there. f y (inr there))))
+
+any_of : {X : Type 0} (p : X → Bool) (xs : List X) (x : X) → In x xs → p x ≡ true → list_any p xs ≡ true
+any_of p [] x there e = absurd there
+any_of {X} p (y ∷ ys) x (inl is) e = let here : p y ≡ true = ap p (sym is) ∙ e in rw here refl
+any_of {X} p (y ∷ ys) x (inr more) e = elim (cases_Bool (p y)) [ inl here ↦ rw here refl | inr other ↦ rw other (any_of p ys x more e) ]
+
+-- what some of what is left passes, some passes
+any_left : {X : Type 0} (p q : X → Bool) (xs : List X) → list_any p (filter q xs) ≡ true → list_any p xs ≡ true
+any_left p q xs e =
+    let x = any_passes p (filter q xs) e in
+    any_of p xs x.0 (in_filter q xs x.0 x.1).0 x.2
+
+shorter : {X : Type 0} (p : X → Bool) (xs : List X) (x : X) → In x xs → p x ≡ false → length (filter p xs) < length xs
+shorter p [] x there e = absurd there
+shorter {X} p (y ∷ ys) x (inl is) e =
+    let goes : p y ≡ false = ap p (sym is) ∙ e in
+    let le = length_filter p ys in
+    rw goes (omega arith)
+shorter {X} p (y ∷ ys) x (inr more) e =
+    let lt = shorter p ys x more e in
+    elim (cases_Bool (p y)) [ inl stays ↦ rw stays (omega arith) | inr goes ↦ rw goes (omega arith) ]
+
+-- Locked bytes.
+within_twice : (few many : List LockState) (held : FileHolders) → ((s : ℕ) → stands few s ≡ true → stands many s ≡ true)
+    → held_within few (held_within many held) ≡ held_within few held
+within_twice few many held f = fun_ext (λ file. fun_ext (λ s. fun_ext (λ b. go (stands few s) (stands many s) (held file s b) (f s))))
+  where
+    go : {K : Type 0} (v w : Bool) (o : Option K) → (v ≡ true → w ≡ true) → cond v (cond w o None) None ≡ cond v o None
+    go true w o f = rw (f refl) refl
+    go false w o f = refl
+
+within_all : (locks : List LockState) (held : FileHolders) → AreHolders locks held → held_within locks held ≡ held
+within_all locks held is = fun_ext (λ f. fun_ext (λ s. fun_ext (λ b. go f s (held f s b) (is f s b))))
+  where
+    go : {K : Type 0} (f s : ℕ) (o : Option K) → (o ≢ None → (l : LockState) × IsHolder locks f s l) → cond (stands locks s) o None ≡ o
+    go {K} f s None is = elim (stands locks s) as (λ v. cond {A = Option K} v None None ≡ None) [ true ↦ refl | false ↦ refl ]
+    go f s (Some k) is = (let (l, holder) = is (λ e. absurd cc) in
+        rw (any_of (λ (l : LockState). l.number == s) locks l holder.stands (eq-eqb l.number s holder.number)) refl)
+
+-- Objects that are used: by the root, a row, or an open.
+used_more : (a r o k : Bool) → (o ≡ true → k ≡ true) → a || (r || o) ≡ true → a || (r || k) ≡ true
+used_more true r o k f e = refl
+used_more false true o k f e = refl
+used_more false false o k f e = f e
+
+-- a table's files are open in the other too
+abbrev pub AreOpenIn : Table → Table → Type 0
+AreOpenIn u t = (n : ℕ) → list_any (λ o. o.file == n) u.opens ≡ true → list_any (λ o. o.file == n) t.opens ≡ true
+
+use_more : (s : State) (u t : Table) → AreOpenIn u t → (n : ℕ) → is_used (with_opens s u) n ≡ true → is_used (with_opens s t) n ≡ true
+use_more s u t f n e = used_more (n == root) (has_row s.tree.rows n) (is_open (with_opens s u) n) (is_open (with_opens s t) n) (f n) e
+
+abbrev with_objects : State → Table → List Stored → State
+with_objects s t objects = with_tree (with_opens s t) (record s.tree { objects = objects })
+
+used_again : (s : State) (u t : Table) → AreOpenIn u t → only_used (with_opens (only_used (with_opens s t)) u) ≡ only_used (with_opens s u)
+used_again s u t f = ap (with_objects s u)
+    (filter_of (λ o. is_used (with_opens s u) o.number) (λ o. is_used (with_opens s t) o.number) s.tree.objects (λ x there. use_more s u t f x.number))
+
+-- an object that goes for want of use would not have stayed
+used_without : (s : State) (u t : Table) (n : ℕ) → AreOpenIn u t → only_used (with_opens (without_unused (with_opens s t) n) u) ≡ only_used (with_opens s u)
+used_without s u t n f =
+    elim (cases_Bool (is_used (with_opens s t) n)) [
+      | inl stays ↦ rw stays refl
+      | inr goes ↦ rw goes (ap (with_objects s u)
+          (filter_of (λ o. is_used (with_opens s u) o.number) (λ o. not (o.number == n)) s.tree.objects (λ x there used.
+          elim (cases_Bool (x.number == n)) [
+            | inl is ↦ absurd (false≢true (sym goes ∙ ap (λ k. is_used (with_opens s t) k) (sym (eqb-true _ _ is)) ∙ use_more s u t f x.number used))
+            | inr other ↦ ap not other
+          ])))
+    ]
+
+opens_without : (s : State) (n : ℕ) → (without_unused s n).opens ≡ s.opens
+opens_without s n = elim (cases_Bool (is_used s n)) [ inl stays ↦ rw stays refl | inr goes ↦ rw goes refl ]
+
+-- One open of a client that goes.
+table_less : (stays : ℕ → Bool) (t : Table) (o : OpenState) → IsTable t → In o t.opens → stays o.client ≡ false
+    → table_staying stays (without_open t o.number) ≡ table_staying stays t
+table_less stays t o is there goes =
+    same_table _ _ _ _ _ _ t.last t.instance opens locks
+    (within_twice _ _ t.held (λ s. any_left (λ (l : LockState). l.number == s) (λ (l : LockState). stays l.client) (filter (not_under o.number) t.locks))
+    ∙ ap (λ ls. held_within ls t.held) locks)
+  where
+    opens : filter (λ x. stays x.client) (filter (λ x. not (x.number == o.number)) t.opens) ≡ filter (λ x. stays x.client) t.opens
+    opens = filter_of (λ (x : OpenState). stays x.client) (λ x. not (x.number == o.number)) t.opens (λ x in_x passes. elim (cases_Bool (x.number == o.number)) [
+      | inl same ↦ (let one = in_one (λ (o : OpenState). o.number) 1 _ t.opens x o is.opens in_x there (eqb-true _ _ same) in
+          absurd (false≢true (sym goes ∙ ap (λ (o : OpenState). stays o.client) (sym one) ∙ passes)))
+      | inr other ↦ ap not other
+    ])
+
+    locks : filter (λ l. stays l.client) (filter (not_under o.number) t.locks) ≡ filter (λ l. stays l.client) t.locks
+    locks = filter_of (λ (l : LockState). stays l.client) (not_under o.number) t.locks (λ l in_l passes. elim (cases_Bool (l.opened == o.number)) [
+      | inl under ↦ (let (x, is_x) = is.under l in_l in
+          let one = in_one (λ (o : OpenState). o.number) 1 _ t.opens x o is.opens is_x.stands there (is_x.number ∙ eqb-true _ _ under) in
+          absurd (false≢true (sym goes ∙ ap (λ (o : OpenState). stays o.client) (sym one) ∙ ap stays is_x.client ∙ passes)))
+      | inr other ↦ ap not other
+    ])
+
+open_left : (stays : ℕ → Bool) (t : Table) → AreOpenIn (table_staying stays t) t
+open_left stays t n = any_left (λ (o : OpenState). o.file == n) (λ (o : OpenState). stays o.client) t.opens
+
+staying_less : (stays : ℕ → Bool) (s : State) (o : OpenState) (n : ℕ) → IsTable s.opens → In o s.opens.opens → stays o.client ≡ false
+    → staying stays (without_unused (with_opens s (without_open s.opens o.number)) n) ≡ staying stays s
+staying_less stays s o n is there goes =
+    let t = without_open s.opens o.number in
+    let left = with_opens s t in
+    let same = table_less stays s.opens o is there goes in
+    ap (λ u. only_used (with_opens (without_unused left n) (table_staying stays u))) (opens_without left n)
+    ∙ (used_without s (table_staying stays t) t n (open_left stays t) ∙ ap (λ u. only_used (with_opens s u)) same)
+
+store_less : (s : State) (o : OpenState) → IsTable s.opens → In o s.opens.opens → IsStore s → IsStoreBut (with_opens s (without_open s.opens o.number)) o.file
+store_less s o table there is = record {
+  used = λ m other stands. used_more (m == root) (has_row s.tree.rows m) (is_open s m) (is_open left m) (still m other) (is.used m stands);
+  files = λ m stands. is.files m (any_left (λ (x : OpenState). x.file == m) (λ (x : OpenState). not (x.number == o.number)) s.opens.opens stands);
+}
+  where
+    left : State
+    left = with_opens s (without_open s.opens o.number)
+
+    still : (m : ℕ) → m ≢ o.file → is_open s m ≡ true → is_open left m ≡ true
+    still m other e =
+        let (x, in_x, file) = any_passes (λ (x : OpenState). x.file == m) s.opens.opens e in
+        let apart : x.number == o.number ≡ false = elim (cases_Bool (x.number == o.number)) [
+          | inl same ↦ (let one = in_one (λ (o : OpenState). o.number) 1 _ s.opens.opens x o table.opens in_x there (eqb-true _ _ same) in
+              absurd (other (sym (eqb-true _ _ file) ∙ ap (λ (o : OpenState). o.file) one)))
+          | inr apart ↦ apart
+        ] in
+        any_of (λ (x : OpenState). x.file == m) _ x (filter_in (λ (x : OpenState). not (x.number == o.number)) s.opens.opens x in_x (ap not apart)) file
+
+-- what a call drops: an open of the client, or nothing
+pub record Drops (t : Table) (who what : ℕ) (left : Table) (o : OpenState) : Type 0 where
+  pub there : In o t.opens
+  pub client : o.client ≡ who
+  pub file : o.file ≡ what
+  pub after : left ≡ without_open t o.number
+
+some_drops : (t : Table) (client file : ℕ) (o : Option OpenState) → find (λ o. o.client == client) t.opens ≡ o → Some file ≡ (drop_open t o).file
+    → (x : OpenState) × Drops t client file (drop_open t o).after x
+some_drops t client file None found e = absurd cc
+some_drops t client file (Some x) found e =
+    let is = find_in (λ (o : OpenState). o.client == client) t.opens x found in
+    (x, record { there = is.0; client = eqb-true _ _ is.1; file = cc; after = refl })
+
+none_drops : (t : Table) (o : Option OpenState) → None ≡ (drop_open t o).file → (o ≡ None) × ((drop_open t o).after ≡ t)
+none_drops t None e = (refl, refl)
+none_drops t (Some x) e = absurd cc
+
+none_any : {X : Type 0} (p : X → Bool) (xs : List X) → find p xs ≡ None → list_any p xs ≡ false
+none_any p [] e = refl
+none_any p (x ∷ xs) e =
+    elim (cases_Bool (p x)) [
+      | inl here ↦ absurd (let h : Some x ≡ None = rw here at e in cc)
+      | inr other ↦ rw other (none_any p xs (rw other at e))
+    ]
+
+-- Clients, one after the other.
+pub staying_twice : (p q : ℕ → Bool) (s : State) → staying p (staying q s) ≡ staying (λ c. p c && q c) s
+staying_twice p q s =
+    let t = table_staying q s.opens in
+    let opens = filter_both (λ (o : OpenState). p o.client) (λ (o : OpenState). q o.client) s.opens.opens in
+    let locks = filter_both (λ (l : LockState). p l.client) (λ (l : LockState). q l.client) s.opens.locks in
+    let held = within_twice (filter (λ (l : LockState). p l.client) t.locks) t.locks s.opens.held
+    (λ n. any_left (λ (l : LockState). l.number == n) (λ (l : LockState). p l.client) t.locks)
+    ∙ ap (λ ls. held_within ls s.opens.held) locks in
+    used_again s (table_staying p t) t (open_left p t)
+    ∙ ap (λ u. only_used (with_opens s u)) (same_table _ _ _ _ _ _ s.opens.last s.opens.instance opens locks held)
+
+-- only the test counts
+pub staying_same : (p q : ℕ → Bool) (s : State) → ((c : ℕ) → p c ≡ q c) → staying p s ≡ staying q s
+staying_same p q s same = ap (λ (stays : ℕ → Bool). staying stays s) (fun_ext same)
+
+-- of a client that ends anyway, nothing is left to end
+pub staying_ends : (stays : ℕ → Bool) (client : ℕ) (s : State) → stays client ≡ false → staying stays (staying (λ c. not (c == client)) s) ≡ staying stays s
+staying_ends stays client s ends =
+    staying_twice stays (λ c. not (c == client)) s
+    ∙ staying_same (λ c. stays c && not (c == client)) stays s (λ c. elim (cases_Bool (c == client)) [
+      | inl is ↦ (let gone : stays c ≡ false = ap stays (eqb-true _ _ is) ∙ ends in rw gone refl)
+      | inr other ↦ rw other (both (stays c))
+    ])
+  where
+    both : (b : Bool) → b && true ≡ b
+    both true = refl
+    both false = refl
+
+-- an object is there
+there_in : (xs : List Stored) (x : Stored) → In x xs → is_some (stored_in xs x.number) ≡ true
+there_in [] x there = absurd there
+there_in (y ∷ ys) x (inl is) = let here : y.number == x.number ≡ true = eq-eqb y.number x.number (ap (λ (x : Stored). x.number) (sym is)) in rw here refl
+there_in (y ∷ ys) x (inr more) = elim (cases_Bool (y.number == x.number)) [ inl here ↦ rw here refl | inr other ↦ rw other (there_in ys x more) ]
+
+found_left : (p : ℕ → Bool) (xs : List Stored) (n : ℕ) → is_some (stored_in (filter (λ x. p x.number) xs) n) ≡ true → p n ≡ true
+found_left p [] n e = absurd cc
+found_left p (x ∷ xs) n e =
+    elim (cases_Bool (p x.number)) [
+      | inl stays ↦ elim (cases_Bool (x.number == n)) [
+        | inl is ↦ subst (λ (k : ℕ). p k ≡ true) (eqb-true _ _ is) stays
+        | inr other ↦ found_left p xs n (rw (stays, other) at e)
+      ]
+      | inr goes ↦ found_left p xs n (rw goes at e)
+    ]
+
+found_same : (p : ℕ → Bool) (xs : List Stored) (n : ℕ) → p n ≡ true → stored_in (filter (λ x. p x.number) xs) n ≡ stored_in xs n
+found_same p [] n e = refl
+found_same p (x ∷ xs) n e =
+    elim (cases_Bool (x.number == n)) [
+      | inl is ↦ (let stays : p x.number ≡ true = ap p (eqb-true _ _ is) ∙ e in rw (stays, is) refl)
+      | inr other ↦ elim (cases_Bool (p x.number)) [
+        | inl stays ↦ rw (stays, other) (found_same p xs n e)
+        | inr goes ↦ rw (goes, other) (found_same p xs n e)
+      ]
+    ]
+
+used_open : (a r o : Bool) → o ≡ true → a || (r || o) ≡ true
+used_open true r o e = refl
+used_open false true o e = refl
+used_open false false o e = e
+
+-- a store stays one
+pub store_staying : (stays : ℕ → Bool) (s : State) → IsStore s → IsStore (staying stays s)
+store_staying stays s is = record {
+  used = λ n there. found_left (λ n. is_used (with_opens s (table_staying stays s.opens)) n) s.tree.objects n there;
+  files = λ n stands.
+      let used = used_open (n == root) (has_row s.tree.rows n) (is_open (with_opens s (table_staying stays s.opens)) n) stands in
+      ap (λ (o : Option Stored). option_map_or (λ (x : Stored). is_regular x.object.kind) o false)
+      (found_same (λ n. is_used (with_opens s (table_staying stays s.opens)) n) s.tree.objects n used)
+      ∙ is.files n (open_left stays s.opens n stands);
+}
+
+-- where no open is of a client that ends, nothing changes
+pub staying_all : (stays : ℕ → Bool) (s : State) → IsStore s → IsTable s.opens → ((o : OpenState) → In o s.opens.opens → stays o.client ≡ true)
+    → staying stays s ≡ s
+staying_all stays s is table all =
+    ap (λ u. only_used (with_opens s u)) (same_table _ _ _ _ _ _ s.opens.last s.opens.instance opens locks held)
+    ∙ ap (with_objects s s.opens) (filter_all (λ o. is_used s o.number) s.tree.objects (λ x there. is.used x.number (there_in s.tree.objects x there)))
+  where
+    opens : filter (λ o. stays o.client) s.opens.opens ≡ s.opens.opens
+    opens = filter_all (λ (o : OpenState). stays o.client) s.opens.opens all
+
+    locks : filter (λ l. stays l.client) s.opens.locks ≡ s.opens.locks
+    locks = filter_all (λ (l : LockState). stays l.client) s.opens.locks (λ l there.
+        let (o, under) = table.under l there in ap stays (sym under.client) ∙ all o under.stands)
+
+    held : held_within (filter (λ l. stays l.client) s.opens.locks) s.opens.held ≡ s.opens.held
+    held = ap (λ ls. held_within ls s.opens.held) locks ∙ within_all s.opens.locks s.opens.held table.holders
+
+pub staying_everybody : (s : State) → IsStore s → IsTable s.opens → staying (λ c. true) s ≡ s
+staying_everybody s is table = staying_all (λ c. true) s is table (λ o there. refl)
+
+-- a client with no open leaves nothing
+pub staying_others : (s : State) (client : ℕ) → IsStore s → IsTable s.opens → has_open s client ≡ false → staying (λ c. not (c == client)) s ≡ s
+staying_others s client is table none =
+    staying_all (λ c. not (c == client)) s is table (λ o there. ap not (none_pass (λ (o : OpenState). o.client == client) s.opens.opens o none there))
+
+-- behind one open of a client that goes
+pub record IsOneLess (s : State) (client : ℕ) (after : State) : Type 0 where
+  pub fewer : length after.opens.opens < length s.opens.opens
+  pub rest : staying (λ c. not (c == client)) after ≡ staying (λ c. not (c == client)) s
+  pub store : IsStore after
+
+pub one_less : (s : State) (client file : ℕ) (t : Table) (after : State) → IsTable s.opens → IsStore s → Some file ≡ (drop_client s.opens client).file
+    → t ≡ (drop_client s.opens client).after → after ≡ without_unused (with_opens s t) file → (IsStoreBut (with_opens s t) file → IsStore after)
+    → IsOneLess s client after
+one_less s client file t after table is found left same keeps =
+    let (o, drops) = some_drops s.opens client file (find (λ o. o.client == client) s.opens.opens) refl found in
+    let stays : ℕ → Bool = λ c. not (c == client) in
+    let u = without_open s.opens o.number in
+    let opens : t ≡ u = left ∙ drops.after in
+    let ends : after ≡ without_unused (with_opens s u) file = same ∙ ap (λ t. without_unused (with_opens s t) file) opens in
+    let gone : not (o.number == o.number) ≡ false = ap not (eq-eqb o.number o.number refl) in
+    record {
+      fewer = subst (λ (t : Table). length t.opens < length s.opens.opens) (sym (ap (λ (s : State). s.opens) ends ∙ opens_without (with_opens s u) file))
+          (shorter (λ (x : OpenState). not (x.number == o.number)) s.opens.opens o drops.there gone);
+      rest = ap (staying stays) ends ∙ staying_less stays s o file table drops.there (ap not (eq-eqb o.client client drops.client));
+      store = keeps (subst (λ (t : Table). IsStoreBut (with_opens s t) file) (sym opens)
+          (subst (λ (n : ℕ). IsStoreBut (with_opens s u) n) drops.file (store_less s o table drops.there is)));
+    }
+
+-- nothing goes
+pub record IsNoneLess (s : State) (client : ℕ) (t : Table) : Type 0 where
+  pub none : has_open s client ≡ false
+  pub same : t ≡ s.opens
+
+pub none_less : (s : State) (client : ℕ) (t : Table) → None ≡ (drop_client s.opens client).file → t ≡ (drop_client s.opens client).after
+    → IsNoneLess s client t
+none_less s client t found left =
+    let none = none_drops s.opens (find (λ o. o.client == client) s.opens.opens) found in
+    record { none = none_any (λ (o : OpenState). o.client == client) s.opens.opens none.0; same = left ∙ none.1 }

@@ -1,0 +1,29 @@
+-- The end of clients (RFC 8881 sections 8.3 and 8.4.2): their opens go, with their lock states and the bytes that these hold; and so does each object but the
+-- root that then has neither a row nor an open.
+use Rattle.std.specs.Prelude.{ℕ, ◌==◌, Bool, filter}
+use Rattle.std.specs.List.{list_any}
+use Rattle.nfs_opens.specs.Table.{Table}
+use Rattle.nfs_opens.specs.Closing.{held_within}
+use Rattle.nfs_names.specs.State.{State, with_tree, is_used}
+
+-- an open of the client stands
+abbrev pub has_open : State → ℕ → Bool
+has_open s client = list_any (λ o. o.client == client) s.opens.opens
+
+-- what the clients that stay have open and locked
+abbrev pub table_staying : (ℕ → Bool) → Table → Table
+table_staying stays t = record t {
+  opens = filter (λ o. stays o.client) t.opens;
+  locks = filter (λ l. stays l.client) t.locks;
+  held = held_within (filter (λ l. stays l.client) t.locks) t.held;
+}
+
+abbrev pub with_opens : State → Table → State
+with_opens s t = record s { opens = t }
+
+-- of the objects those that are the root, have a row or are open
+abbrev pub only_used : State → State
+only_used s = with_tree s (record s.tree { objects = filter (λ o. is_used s o.number) s.tree.objects })
+
+abbrev pub staying : (ℕ → Bool) → State → State
+staying stays s = only_used (with_opens s (table_staying stays s.opens))
