@@ -25,7 +25,8 @@ use Rattle.nfs_names.specs.declared.context.Context.{Context}
 use Rattle.nfs_names.specs.State.{State, IsStore, IsStoreBut}
 use Rattle.nfs_names.specs.Outcome.{answers}
 use Rattle.nfs_names.proofs.Kept.{store_without}
-use Rattle.nfs_files.specs.Target.{target, with_opens}
+use Rattle.nfs_names.specs.Ending.{with_opens}
+use Rattle.nfs_files.specs.Target.{target}
 use Rattle.nfs_files.specs.Close.{closed, closes, close}
 use Rattle.nfs_files.proofs.Keeping.{answers_state}
 

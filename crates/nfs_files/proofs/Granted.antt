@@ -25,7 +25,8 @@ use Rattle.nfs_names.specs.Create.{with_wanted, can_create}
 use Rattle.nfs_names.proofs.Found.{IsHeld, current_is, checked_ok, short_name}
 use Rattle.nfs_files.specs.declared.opening.Found.{Found}
 use Rattle.nfs_files.specs.declared.opening.Found.TheVariants.{There, Absent}
-use Rattle.nfs_files.specs.Open.{name_of, wanted_by, argument_checks, place_checks, absent_checks, there_checks, is_by_handle, cuts, found_by, found_at, by_name, by_handle, asked_for, last_checks, tree_fault}
+use Rattle.nfs_files.specs.Open.{name_of, wanted_by, argument_checks, place_checks, absent_checks, there_checks, is_by_handle, cuts, found_by, found_at, by_name, by_handle, asked_for, last_checks}
+use Rattle.nfs_files.specs.OpenParts.{tree_fault}
 use Rattle.nfs_files.specs.SetAttr.{is_too_big}
 use Rattle.nfs_files.proofs.OpenAnswers.{asked_regular}
 

@@ -17,7 +17,7 @@ use Rattle.nfs_names.specs.declared.context.Context.{Context}
 use Rattle.nfs_names.specs.State.{State}
 use Rattle.nfs_names.specs.Comes.{Comes}
 use Rattle.nfs_names.specs.Outcome.{Outcome, or_delay, is_delay}
-use Rattle.nfs_files.specs.Target.{with_opens}
+use Rattle.nfs_names.specs.Ending.{with_opens}
 use Rattle.nfs_files.specs.Denied.{denied}
 use Rattle.nfs_files.specs.Lock.{locked}
 use Rattle.nfs_files.proofs.Refused.{Stays, told_with, refused_outcome, lock_tells, ok_locked}

@@ -24,7 +24,8 @@ use Rattle.nfs_names.specs.State.{State, is_open, IsStore}
 use Rattle.nfs_names.proofs.Found.{or_fault, first_append}
 use Rattle.nfs_files.specs.declared.opening.Found.{Found}
 use Rattle.nfs_files.specs.declared.opening.Found.TheVariants.{There, Absent}
-use Rattle.nfs_files.specs.Open.{asking, number_of, file_of, clashes, is_used_up, room_checks, last_checks}
+use Rattle.nfs_files.specs.Open.{asking, file_of, clashes, is_used_up, room_checks, last_checks}
+use Rattle.nfs_files.specs.OpenParts.{number_of}
 
 regular_there : (o : Option Stored) → option_map_or (λ (s : Stored). is_regular s.object.kind) o false ≡ true → is_some o ≡ true
 regular_there None e = absurd (false≢true e)

@@ -32,7 +32,7 @@ use Rattle.nfs_names.specs.declared.context.Context.{Context}
 use Rattle.nfs_names.specs.State.{State, IsStore}
 use Rattle.nfs_names.specs.Outcome.{done}
 use Rattle.nfs_files.specs.StateIds.{meant}
-use Rattle.nfs_files.specs.Target.{with_opens}
+use Rattle.nfs_names.specs.Ending.{with_opens}
 use Rattle.nfs_files.specs.FreeStateid.{frees, free_stateid}
 use Rattle.nfs_files.specs.Lock as of_lock
 use Rattle.nfs_files.specs.LockU.{unlocking, unlocked, unlocks, lock_u}

@@ -30,7 +30,7 @@ use Rattle.nfs_opens.specs.Locking as locking
 use Rattle.nfs_names.specs.declared.context.Context.{Context}
 use Rattle.nfs_names.specs.State.{State}
 use Rattle.nfs_names.specs.Outcome.{Outcome, refuses, answers, or_delay, is_ok, is_delay}
-use Rattle.nfs_files.specs.Target.{with_opens}
+use Rattle.nfs_names.specs.Ending.{with_opens}
 use Rattle.nfs_files.specs.Denied.{status_of}
 use Rattle.nfs_files.specs.Lock.{locks_as, locked}
 use Rattle.nfs_files.specs.LockU.{unlocked}

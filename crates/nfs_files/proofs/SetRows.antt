@@ -34,7 +34,8 @@ use Rattle.nfs_names.proofs.Faulted.{by_last, by_refusal}
 use Rattle.nfs_files.specs.declared.setting.Setting.{Setting}
 use Rattle.nfs_files.specs.Bytes.{file_checks, may_write, writable}
 use Rattle.nfs_files.specs.SetAttr as of_set
-use Rattle.nfs_files.specs.SetAttr.{with_wanted, owner_checks, sized, sized_by, asked_for, gives_some, last_checks, tree_fault, was_set, set_attr}
+use Rattle.nfs_files.specs.SetAttr.{with_wanted, owner_checks, sized, sized_by, asked_for, gives_some, last_checks, was_set, set_attr}
+use Rattle.nfs_files.specs.SetAttrParts.{tree_fault}
 use Rattle.nfs_files.proofs.Passing.{if_passed_ok}
 
 kind_regular : (k : FileType) → is_directory k ≡ false → is_link k ≡ false → is_regular k ≡ true

@@ -41,7 +41,8 @@ use Rattle.nfs_names.proofs.Refusing.{Refuses, refuses_checked, refuses_mapped, 
 use Rattle.nfs_files.specs.declared.target.Target.{Target}
 use Rattle.nfs_files.specs.StateIds.{meant, wire_id}
 use Rattle.nfs_files.specs.Bytes.{file_checks}
-use Rattle.nfs_files.specs.Target.{the_file, target_of, target, with_opens}
+use Rattle.nfs_names.specs.Ending.{with_opens}
+use Rattle.nfs_files.specs.Target.{the_file, target_of, target}
 use Rattle.nfs_files.specs.Ranges.{range_checks, last_of, range, wish, wish_of, wished, wished_by}
 use Rattle.nfs_files.specs.Close.{closed, closes, close}
 use Rattle.nfs_files.specs.FreeStateid.{frees, free_stateid}

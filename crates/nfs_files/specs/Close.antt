@@ -12,7 +12,8 @@ use Rattle.nfs_names.specs.declared.context.Context.{Context}
 use Rattle.nfs_names.specs.State.{State, without_unused}
 use Rattle.nfs_names.specs.Outcome.{Outcome, answers}
 use Rattle.nfs_files.specs.declared.target.Target.{Target}
-use Rattle.nfs_files.specs.Target.{target, with_opens, with_stateid}
+use Rattle.nfs_names.specs.Ending.{with_opens}
+use Rattle.nfs_files.specs.Target.{target, with_stateid}
 
 -- what is left of the stateid: no operation takes it
 abbrev pub spent : Stateid

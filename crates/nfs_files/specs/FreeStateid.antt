@@ -9,7 +9,7 @@ use Rattle.nfs_names.specs.declared.context.Context.{Context}
 use Rattle.nfs_names.specs.State.{State}
 use Rattle.nfs_names.specs.Outcome.{Outcome, done, answers}
 use Rattle.nfs_files.specs.StateIds.{meant}
-use Rattle.nfs_files.specs.Target.{with_opens}
+use Rattle.nfs_names.specs.Ending.{with_opens}
 
 abbrev pub frees : State → Context → StateId → Outcome
 frees s x id =

@@ -2,8 +2,10 @@ pub mod StateIds
 pub mod Bytes
 pub mod Commit
 pub mod Open
+pub mod OpenParts
 pub mod Read
 pub mod SetAttr
+pub mod SetAttrParts
 pub mod Write
 pub mod Target
 pub mod Ranges

@@ -13,7 +13,8 @@ use Rattle.nfs_names.specs.State.{State}
 use Rattle.nfs_names.specs.Outcome.{Outcome, refuses, answers}
 use Rattle.nfs_files.specs.declared.ranges.Wished.{Wished}
 use Rattle.nfs_files.specs.StateIds.{wire_id}
-use Rattle.nfs_files.specs.Target.{with_opens, with_stateid}
+use Rattle.nfs_names.specs.Ending.{with_opens}
+use Rattle.nfs_files.specs.Target.{with_stateid}
 use Rattle.nfs_files.specs.Ranges.{all_ones, wished, wished_by}
 use Rattle.nfs_files.specs.Denied.{status_of}
 

@@ -1,20 +1,19 @@
 -- OPEN (RFC 8881 section 18.16): a file is opened, and is made where that is asked for and the name is free.
-use Rattle.std.specs.Prelude.{◌≡◌, ℕ, ◌+◌, ◌==◌, ◌%◌, ◌&&◌, Bool, true, false, not, List, [], ◌∷◌, ◌++◌, length, nat_le, bytes_eq, Option, Some, None, is_none, unwrap_or, Result, Ok, Err, if◌then◌else◌}
+use Rattle.std.specs.Prelude.{ℕ, ◌+◌, ◌==◌, ◌%◌, ◌&&◌, Bool, true, false, not, List, [], ◌∷◌, ◌++◌, length, nat_le, bytes_eq, Option, Some, None, is_none, unwrap_or, Result, Ok, Err, if◌then◌else◌}
 use Rattle.std.specs.List.{list_any}
 use Rattle.nfs_xdr.specs.declared.time.Time.{Time}
 use Rattle.nfs_xdr.specs.declared.status.Status.{Status}
-use Rattle.nfs_xdr.specs.declared.status.Status.TheVariants.{Inval, NoGrace, NotSupp, NoEnt, Exist, FBig, ShareDenied, NoSpc, ServerFault, Delay}
+use Rattle.nfs_xdr.specs.declared.status.Status.TheVariants.{Inval, NoGrace, NotSupp, NoEnt, Exist, FBig, ShareDenied, NoSpc, ServerFault}
 use Rattle.nfs_compound.specs.declared.op_num.OpNum.TheVariants as Op
 use Rattle.nfs_compound.specs.OpenArgs.{Open, OpenHow, NoCreate, Create, Unchecked, Guarded, Exclusive, Exclusive41, OpenClaim, Null, Previous, DelegateCur, DelegatePrev, Fh, DelegCurFh, DelegPrevFh}
 use Rattle.nfs_results.specs.declared.res.ChangeInfo.{ChangeInfo}
-use Rattle.nfs_results.specs.Result.{OpenOk, ResOpen}
+use Rattle.nfs_results.specs.Result.{ResOpen}
 use Rattle.nfs_tree.specs.declared.sets.Sets.{Sets}
 use Rattle.nfs_tree.specs.Object.{no_sets}
 use Rattle.nfs_tree.specs.Files.{Files, most_objects, lookup, can_change}
-use Rattle.nfs_tree.specs.declared.fault.TreeFault.{TreeFault}
-use Rattle.nfs_tree.specs.Create.{New, File, create_fault, with_new}
-use Rattle.nfs_tree.specs.Bytes.{resize_fault, with_resized}
-use Rattle.nfs_tree.specs.Did.{Did, does_unless, raised, stays}
+use Rattle.nfs_tree.specs.Create.{New, File, with_new}
+use Rattle.nfs_tree.specs.Bytes.{with_resized}
+use Rattle.nfs_tree.specs.Did.{raised, stays}
 use Rattle.nfs_attrs.specs.declared.permission.Want.{Want}
 use Rattle.nfs_attrs.specs.declared.wanted.Wanted.{Wanted}
 use Rattle.nfs_attrs.specs.declared.wanted.AttrFault.{AttrFault}
@@ -238,21 +237,3 @@ opened s x now o found = record {
 
 unfoldable pub open_file : State → Context → Time → Open → Outcome
 open_file s x now o = answers s x Op.Open (checked (asked_for s x o) (last_checks s x o)) (opened s x now o)
-
--- what the tree itself refuses
-abbrev pub tree_fault : Files → Open → Found → Option TreeFault
-tree_fault t o (There place f cut) = if cut then resize_fault t f.number 0 else None
-tree_fault t o (Absent m) = create_fault t m.place.number (name_of o.claim) (new_of o m.wanted)
-
--- the number under which its opens are looked for: 0 is no file's
-abbrev pub number_of : Found → ℕ
-number_of (There place f cut) = f.number
-number_of (Absent m) = 0
-
-abbrev pub entered : Files → Context → Time → Open → Found → Did ℕ
-entered t x now o found = does_unless t (tree_fault t o found) (file_of t found) (tree_of t x now o found)
-
--- It was done, or memory was refused and nothing changed.
-abbrev pub OpensOr : Result OpenOk Status → Outcome → State → Context → State → Context → Type 0
-OpensOr (Err status) done s x left context = (status ≡ Delay) × (left ≡ s) × (context ≡ x)
-OpensOr (Ok ok) done s x left context = record { result = ResOpen ok; state = left; context = context } ≡ done

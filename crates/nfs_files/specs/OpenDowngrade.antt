@@ -20,7 +20,8 @@ use Rattle.nfs_names.specs.Outcome.{Outcome, checked, answers}
 use Rattle.nfs_files.specs.declared.target.Target.{Target}
 use Rattle.nfs_files.specs.Bytes.{if_passed}
 use Rattle.nfs_files.specs.StateIds.{wire_id}
-use Rattle.nfs_files.specs.Target.{target, with_opens, with_stateid}
+use Rattle.nfs_names.specs.Ending.{with_opens}
+use Rattle.nfs_files.specs.Target.{target, with_stateid}
 
 -- no open has bits above the two
 abbrev pub bit_checks : OpenDowngrade → Seat → List (Bool × Status)

@@ -9,9 +9,7 @@ use Rattle.nfs_compound.specs.FileArgs.{SetAttr}
 use Rattle.nfs_results.specs.Result.{ResSetAttr}
 use Rattle.nfs_tree.specs.declared.sets.Sets.{Sets}
 use Rattle.nfs_tree.specs.Files.{Files, most_bytes, can_change, with_changed}
-use Rattle.nfs_tree.specs.declared.fault.TreeFault.{TreeFault}
-use Rattle.nfs_tree.specs.Did.{Did, does_unless}
-use Rattle.nfs_tree.specs.Bytes.{resize_fault, set_fault, with_resized}
+use Rattle.nfs_tree.specs.Bytes.{with_resized}
 use Rattle.nfs_attrs.specs.declared.wanted.Wanted.{Wanted}
 use Rattle.nfs_attrs.specs.declared.wanted.AttrFault.{AttrFault}
 use Rattle.nfs_attrs.specs.Mask.{mask_of, told}
@@ -92,11 +90,3 @@ set_attr s x now a = answers s x Op.SetAttr (checked (asked_for s x a) (last_che
 abbrev pub gives_size : Result Wanted AttrFault → Bool
 gives_size (Err fault) = false
 gives_size (Ok wanted) = is_some wanted.size
-
--- what the tree itself refuses
-abbrev pub tree_fault : Files → ℕ → Wanted → Option ℕ → Option TreeFault
-tree_fault t n wanted (Some size) = resize_fault t n size
-tree_fault t n wanted None = if gives_some wanted then set_fault t n else None
-
-abbrev pub changed : Files → Time → Setting → Did (Unit {0})
-changed t now m = does_unless t (tree_fault t m.held.number m.wanted m.wanted.size) tt (with_set t m.held.number now m.wanted m.wanted.size)

@@ -5,7 +5,6 @@ use Rattle.nfs_xdr.specs.declared.status.Status.{Status}
 use Rattle.nfs_compound.specs.declared.stateid.Stateid.{Stateid}
 use Rattle.nfs_opens.specs.declared.stateid.StateId.{StateId}
 use Rattle.nfs_opens.specs.declared.stateid.CurrentSeqid.{CurrentSeqid}
-use Rattle.nfs_opens.specs.Table.{Table}
 use Rattle.nfs_names.specs.declared.context.Context.{Context}
 use Rattle.nfs_names.specs.declared.held.Held.{Held}
 use Rattle.nfs_names.specs.State.{State}
@@ -26,9 +25,6 @@ target_of (Ok d) id = mapped (λ id. record { file = d.number; id = id }) id
 -- the file is looked at first
 unfoldable pub target : State → Context → CurrentSeqid → Stateid → Result Target Status
 target s x form given = target_of (the_file s x) (meant x form given)
-
-abbrev pub with_opens : State → Table → State
-with_opens s t = record s { opens = t }
 
 -- the current stateid is the result's from now on
 abbrev pub with_stateid : Context → Stateid → Context

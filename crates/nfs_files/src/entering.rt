@@ -14,6 +14,7 @@ ghost use Rattle.nfs_names.specs.State.{state_of, IsStore, IsRooted};
 ghost use Rattle.nfs_names.specs.Outcome.{checked, mapped, is_delay};
 ghost use Rattle.nfs_names.specs.View.{outcome_of};
 ghost use Rattle.nfs_files.specs.Open as of_open;
+ghost use Rattle.nfs_files.specs.OpenParts as part;
 ghost use Rattle.nfs_files.specs.Operation.{one_or_delay};
 
 use crate::opening::{Found, access_of, deny_of, judge, mask_by, name_of, verifier_of};
@@ -70,7 +71,7 @@ fn ask_for<'a>(context: &Context, asked: &Open<'a>, file: u64) -> Ask<'a>
 
 /// The number of a file that is there; of one that is to be made 0, which none has.
 fn number_of(found: &Found) -> u64
-    ensures { result ≡ of_open.number_of found.now }
+    ensures { result ≡ part.number_of found.now }
 {
     match found {
         Found::There { file, .. } => file.number,
@@ -186,7 +187,7 @@ fn enter(
     now: Time,
 ) -> Result<u64, TreeFault>
     requires { IsRooted tree.old }
-    ensures { DoesOrWants tree.old true (of_open.entered tree.old context.now now (view_open asked.now) found.now) result tree.new }
+    ensures { DoesOrWants tree.old true (part.entered tree.old context.now now (view_open asked.now) found.now) result tree.new }
 {
     match found {
         Found::There { file, cut, .. } => {
@@ -216,7 +217,7 @@ fn open_found(
 ) -> Result<OpenOk, Status>
     requires granted { checked (of_open.asked_for (state_of store.old) context.old (view_open asked.now)) (of_open.last_checks (state_of store.old) context.old (view_open asked.now)) ≡ Ok found.now }
     requires store { IsStore (state_of store.old) }
-    ensures { of_open.OpensOr (mapped view.open_ok result) (of_open.opened (state_of store.old) context.old now (view_open asked.now) found.now) (state_of store.old) context.old (state_of store.new) context.new }
+    ensures { part.OpensOr (mapped view.open_ok result) (of_open.opened (state_of store.old) context.old now (view_open asked.now) found.now) (state_of store.old) context.old (state_of store.new) context.new }
 {
     store.tree.kept();
     let Ok(ready) = store.opens.reserve(alloc, asked.owner.owner) else {

@@ -5,7 +5,6 @@ ghost use Rattle.nfs_compound.specs.View.{item};
 ghost use Rattle.nfs_results.specs.Largest.{largest};
 ghost use Rattle.nfs_results.specs.Results.{status_of_result};
 ghost use Rattle.nfs_results.specs.View as view;
-ghost use Rattle.nfs_opens.specs.Table.{table, IsTable};
 ghost use Rattle.nfs_names.specs.State.{state_of, moment, IsStore};
 ghost use Rattle.nfs_names.specs.Comes.{Comes};
 ghost use Rattle.nfs_names.specs.Outcome.{is_delay};
@@ -20,7 +19,6 @@ use crate::setting::set_attr;
 use crate::stateids::{free_stateid, test_stateid};
 use nfs_compound::Arg;
 use nfs_names::{Context, Store, moment};
-use nfs_opens::Opens;
 use nfs_results::{Res, write};
 use nfs_xdr::{Sheet, Status, Time};
 use std::alloc::Global;
@@ -44,13 +42,6 @@ pub fn is_on_files(arg: &Arg<'_>) -> bool
         Arg::Write(_) => true,
         _ => false,
     }
-}
-
-/// What every table of opens keeps; this does nothing but say so to proofs.
-fn opens_kept(opens: &Opens)
-    ensures { IsTable (table opens.now) }
-{
-    let _ = opens.lock_state(0);
 }
 
 /// The operations whose results lend no bytes.
@@ -100,7 +91,7 @@ pub fn file_op(
     ensures within { length out.new.bytes ≤ length out.old.bytes + largest (item arg.now) }
 {
     store.tree.kept();
-    opens_kept(&store.opens);
+    store.kept();
     match arg {
         Arg::Lock(asked) => lock(alloc, store, context, asked, out),
         Arg::LockT(asked) => lock_t(store, context, asked, out),

@@ -12,6 +12,7 @@ ghost use Rattle.nfs_names.specs.View.{outcome_of};
 ghost use Rattle.nfs_names.specs.Checks as check;
 ghost use Rattle.nfs_names.specs.Create as of_create;
 ghost use Rattle.nfs_files.specs.SetAttr as of_set_attr;
+ghost use Rattle.nfs_files.specs.SetAttrParts as part;
 ghost use Rattle.nfs_files.specs.Operation.{one_or_delay};
 
 use crate::access::writable;
@@ -93,7 +94,7 @@ fn gives_some(wanted: &Wanted) -> bool
 
 /// Sets what is wanted of an object. The tree's own faults are the last checks.
 fn change(alloc: Global, tree: &mut Tree, setting: &Setting, now: Time) -> Result<(), TreeFault>
-    ensures { DoesOrWants tree.old (is_some setting.now.wanted.size) (of_set_attr.changed tree.old now setting.now) result tree.new }
+    ensures { DoesOrWants tree.old (is_some setting.now.wanted.size) (part.changed tree.old now setting.now) result tree.new }
 {
     let sets = sets_of(now, &setting.wanted);
     match setting.wanted.size {

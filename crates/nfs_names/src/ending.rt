@@ -12,7 +12,7 @@ impl Store {
     pub fn kept(&self)
         ensures { IsTable (state_of self.now).opens }
     {
-        let _ = self.opens.lock_state(0);
+        self.opens.kept();
     }
 
     /// Whether an open of the client stands.

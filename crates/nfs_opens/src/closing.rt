@@ -74,6 +74,7 @@ impl Opens {
     pub fn close(&mut self, id: StateId, client: u64, file: u64) -> Result<(), Status>
         ensures answer { result ≡ (close (table self.old) id client file).answer }
         ensures after { table self.new ≡ (close (table self.old) id client file).after }
+        ensures room { self.new.ready ≡ self.old.ready }
     {
         self.judge(id, client, Some(file), Sort::OpenOnly)?;
         self.remove_open(id.number, file);
@@ -85,6 +86,7 @@ impl Opens {
     pub fn drop_client(&mut self, client: u64) -> Option<u64>
         ensures file { result ≡ (drop_client (table self.old) client).file }
         ensures after { table self.new ≡ (drop_client (table self.old) client).after }
+        ensures room { self.new.ready ≡ self.old.ready }
     {
         match open_of(&self.opens, client) {
             Some(open) => {
@@ -98,7 +100,8 @@ impl Opens {
 
     /// `file`: the open's.
     fn remove_open(&mut self, number: u64, file: u64)
-        ensures { table self.new ≡ without_open (table self.old) number }
+        ensures after { table self.new ≡ without_open (table self.old) number }
+        ensures room { self.new.ready ≡ self.old.ready }
     {
         drop_bytes(&mut self.files, &self.locks, number);
         drop_locks(&mut self.locks, number);
@@ -113,6 +116,7 @@ impl Opens {
     pub fn free(&mut self, id: StateId, client: u64) -> Result<(), Status>
         ensures answer { result ≡ (free (table self.old) id client).answer }
         ensures after { table self.new ≡ (free (table self.old) id client).after }
+        ensures room { self.new.ready ≡ self.old.ready }
     {
         match self.judge(id, client, None, Sort::Either)? {
             Seat::Anonymous | Seat::ReadBypass => Err(Status::BadStateId),
@@ -124,6 +128,7 @@ impl Opens {
     fn free_lock(&mut self, number: u64) -> Result<(), Status>
         ensures answer { result ≡ (free_lock (table self.old) number (lock_at (table self.old) number)).answer }
         ensures after { table self.new ≡ (free_lock (table self.old) number (lock_at (table self.old) number)).after }
+        ensures room { self.new.ready ≡ self.old.ready }
     {
         let file = match lock_in(&self.locks, number) {
             Some(lock) => lock.file,

@@ -135,7 +135,7 @@ fn clear_bytes(
 impl Opens {
     /// LOCKT: the lock that stands against a lock owner's wish, whatever its client has open; changes nothing.
     ///
-    /// What is told is the lowest byte that clashes, of the lock states that clash there the lowest number, and the whole
+    /// What is answered is the lowest byte that clashes, of the lock states that clash there the lowest number, and the whole
     /// run of bytes round it that this one holds with the same kind ([`Ranges::clash`](nfs_ranges::Ranges::clash)).
     pub fn test_lock(&self, owner: &[u8], wish: &Wish) -> Option<Held>
         requires { wish.now.first ≤ wish.now.last }
@@ -169,7 +169,8 @@ impl Opens {
         wish: &Wish,
     ) -> Result<StateId, OpenFault>
         requires { wish.now.first ≤ wish.now.last }
-        ensures { LocksOrWants (table self.old) (lock (table self.old) locker.now wish.now) result (table self.new) }
+        ensures locks { LocksOrWants (table self.old) (lock (table self.old) locker.now wish.now) result (table self.new) }
+        ensures room { self.new.ready ≡ self.old.ready }
     {
         match *locker {
             Locker::New { under, owner } => {
@@ -213,7 +214,8 @@ impl Opens {
     ) -> Result<StateId, OpenFault>
         requires range { wish.now.first ≤ wish.now.last }
         requires file { IfSome (lock_at (table self.old) state) (λ l. l.file ≡ wish.now.file) }
-        ensures { LocksOrWants (table self.old) (lock_as (table self.old) wish.now state access) result (table self.new) }
+        ensures locks { LocksOrWants (table self.old) (lock_as (table self.old) wish.now state access) result (table self.new) }
+        ensures room { self.new.ready ≡ self.old.ready }
     {
         self.judge_lock(state, access, wish)?;
         let seqid = match lock_in(&self.locks, state) {
@@ -241,7 +243,8 @@ impl Opens {
     ) -> Result<StateId, OpenFault>
         requires range { wish.now.first ≤ wish.now.last }
         requires under { IsSomeAnd (open_at (table self.old) opened) (λ o. (o.client ≡ wish.now.client) × (o.file ≡ wish.now.file)) }
-        ensures { LocksOrWants (table self.old) (lock_first (table self.old) wish.now opened owner.now access) result (table self.new) }
+        ensures locks { LocksOrWants (table self.old) (lock_first (table self.old) wish.now opened owner.now access) result (table self.new) }
+        ensures room { self.new.ready ≡ self.old.ready }
     {
         self.judge_lock(0, access, wish)?;
         if self.last == u64::MAX {
@@ -284,7 +287,8 @@ impl Opens {
         last: u64,
     ) -> Result<StateId, OpenFault>
         requires { first ≤ last }
-        ensures { UnlocksOrWants (table self.old) (is_whole first last) (unlock (table self.old) id client file first last) result (table self.new) }
+        ensures unlocks { UnlocksOrWants (table self.old) (is_whole first last) (unlock (table self.old) id client file first last) result (table self.new) }
+        ensures room { self.new.ready ≡ self.old.ready }
     {
         self.judge(id, client, Some(file), Sort::LockOnly)?;
         let seqid = match lock_in(&self.locks, id.number) {

@@ -1,11 +1,11 @@
 //! OPEN and OPEN_DOWNGRADE as far as they concern opens (RFC 8881 sections 18.16 and 18.18).
 
-ghost use Rattle.std.specs.Prelude.{◌≡◌, ◌==◌, ◌+◌, ◌<◌, true, None, IfOk, OnOk, OnErr, map, find};
+ghost use Rattle.std.specs.Prelude.{◌≡◌, ◌==◌, ◌+◌, ◌<◌, true, None, IfOk, OnOk, OnErr, map, find, is_some};
 ghost use Rattle.std.specs.Option.{option_copied};
 ghost use Rattle.std.specs.List.{list_any};
 ghost use Rattle.nfs_xdr.specs.Checks.{judged};
 ghost use Rattle.nfs_opens.specs.Table.{IsTable, table, is_own, clashes_with};
-ghost use Rattle.nfs_opens.specs.Opening.{asked, open_fault, opens, downgrade};
+ghost use Rattle.nfs_opens.specs.Opening.{asked, open_fault, opens, own_open, downgrade};
 
 use crate::judging::Sort;
 use crate::opens::Opens;
@@ -102,6 +102,7 @@ impl Opens {
         requires judged { open_fault (table self.old) (asked ask.now) ≡ None }
         ensures id { result ≡ (opens (table self.old) (asked ask.now)).id }
         ensures after { table self.new ≡ (opens (table self.old) (asked ask.now)).after }
+        ensures room { self.new.ready ≡ is_some (own_open (table self.old) (asked ask.now)) }
     {
         match own_open(&self.opens, ask) {
             Some(open) => {
@@ -151,6 +152,7 @@ impl Opens {
     ) -> Result<StateId, Status>
         ensures answer { result ≡ (downgrade (table self.old) id client file access deny).answer }
         ensures after { table self.new ≡ (downgrade (table self.old) id client file access deny).after }
+        ensures room { self.new.ready ≡ self.old.ready }
     {
         self.judge(id, client, Some(file), Sort::OpenOnly)?;
         let seqid = match open_in(&self.opens, id.number) {

@@ -63,6 +63,13 @@ impl Opens {
         }
     }
 
+    /// What holds of every table; moves nothing.
+    pub fn kept(&self)
+        ensures { IsTable (table self.now) }
+    {
+        let _ = &self.opens;
+    }
+
     /// The lock state of a number, as a clash that is told names it: its client and its lock owner.
     pub fn lock_state(&self, number: u64) -> Option<&LockState>
         ensures found { option_copied result ≡ lock_at (table self.now) number }

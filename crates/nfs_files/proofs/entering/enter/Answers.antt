@@ -7,7 +7,8 @@ use Rattle.nfs_tree.specs.Create.{New, create_fault, with_new}
 use Rattle.nfs_tree.specs.Did.{does_unless, DoesOrWants, raised}
 use Rattle.nfs_files.specs.declared.opening.Found.{Found}
 use Rattle.nfs_files.specs.declared.opening.Found.TheVariants.{Absent}
-use Rattle.nfs_files.specs.Open.{tree_fault, file_of, tree_of, name_of}
+use Rattle.nfs_files.specs.Open.{file_of, tree_of, name_of}
+use Rattle.nfs_files.specs.OpenParts.{tree_fault}
 use Rattle.nfs_files.proofs.Answering.{Wants, Other, refused_tree, refused_again}
 use Rattle.nfs_files.proofs.entering.enter.Goals as goal
 

@@ -28,13 +28,13 @@ pub write-requires : goal.write-requires
 write-requires c =
     let i = item c.args.arg.now in
     let r = view.res c.plain_op-res.result in
-    let kept = keeps (is_delay (status_of_result r)) (state_of c.args.store.now) c.args.context.now c.moment.result i (plain c.args.arg.now c.in_default.not-Lock c.in_default.not-LockT c.in_default.not-Read c.in_default.not-TestStateid c.requires.offered) c.kept.ensures c.opens_kept.ensures c.requires.store in
+    let kept = keeps (is_delay (status_of_result r)) (state_of c.args.store.now) c.args.context.now c.moment.result i (plain c.args.arg.now c.in_default.not-Lock c.in_default.not-LockT c.in_default.not-Read c.in_default.not-TestStateid c.requires.offered) c.kept.ensures c.kept-2.ensures c.requires.store in
     let is : IsAnswer i r = subst (λ (o : Outcome). IsAnswer i o.result) (sym c.plain_op-res.ensures) kept.may in
     record { bounds = bounded_may i r is; room = λ arrays. room_may i r c.args.out.now is c.requires.room }
 
 pub returns-in-Lock-clause-store : goal.returns-in-Lock-clause-store
 returns-in-Lock-clause-store c =
-    subst IsStore (sym c.lock.ensures.state) (store_left (is_delay c.lock.result) (state_of c.args.store.now) c.args.context.now (moment c.args.now) (OpLock (view_lock c.in-Lock.asked)) c.kept.ensures c.opens_kept.ensures c.requires.store)
+    subst IsStore (sym c.lock.ensures.state) (store_left (is_delay c.lock.result) (state_of c.args.store.now) c.args.context.now (moment c.args.now) (OpLock (view_lock c.in-Lock.asked)) c.kept.ensures c.kept-2.ensures c.requires.store)
 
 pub returns-in-Lock-clause-within : goal.returns-in-Lock-clause-within
 returns-in-Lock-clause-within c =
@@ -67,7 +67,7 @@ returns-in_default c =
     let x = c.args.context.now in
     let r = view.res c.plain_op-res.result in
     let now = c.moment.result in
-    let kept = keeps (is_delay (status_of_result r)) s x now i (plain c.args.arg.now c.in_default.not-Lock c.in_default.not-LockT c.in_default.not-Read c.in_default.not-TestStateid c.requires.offered) c.kept.ensures c.opens_kept.ensures c.requires.store in
+    let kept = keeps (is_delay (status_of_result r)) s x now i (plain c.args.arg.now c.in_default.not-Lock c.in_default.not-LockT c.in_default.not-Read c.in_default.not-TestStateid c.requires.offered) c.kept.ensures c.kept-2.ensures c.requires.store in
     let is : IsAnswer i r = subst (λ (o : Outcome). IsAnswer i o.result) (sym c.plain_op-res.ensures) kept.may in
     let left : Outcome = outcome_of c.plain_op-res.result (state_of c.plain_op-res.new.store) c.plain_op-res.new.context in
     let same : left ≡ comes_to (is_delay c.status.result) s x (moment c.args.now) i =

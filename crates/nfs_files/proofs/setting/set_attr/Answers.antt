@@ -12,7 +12,8 @@ use Rattle.nfs_names.specs.Outcome.{Outcome, is_delay, refuses, or_delay}
 use Rattle.nfs_names.specs.Faults.{status_of}
 use Rattle.nfs_names.specs.Create.{wanted_of}
 use Rattle.nfs_names.proofs.Faulted.{done_by_tree, told_refusal_by, error_outcome}
-use Rattle.nfs_files.specs.SetAttr.{asked_for, last_checks, tree_fault, with_set, was_set, set_attr, gives_size}
+use Rattle.nfs_files.specs.SetAttr.{asked_for, last_checks, with_set, was_set, set_attr, gives_size}
+use Rattle.nfs_files.specs.SetAttrParts.{tree_fault}
 use Rattle.nfs_files.proofs.Answering.{refused_tree, refused_growing, was_done}
 use Rattle.nfs_files.proofs.SetRows.{set_goes, set_stops, asked_wanted}
 use Rattle.nfs_files.proofs.SetAnswers.{asked_refuses}

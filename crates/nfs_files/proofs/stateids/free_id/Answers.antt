@@ -3,7 +3,7 @@ use Rattle.nfs_results.specs.Result.{ResFreeStateid}
 use Rattle.nfs_opens.specs.Closing as opens
 use Rattle.nfs_names.specs.State.{state_of}
 use Rattle.nfs_names.specs.Outcome.{done}
-use Rattle.nfs_files.specs.Target.{with_opens}
+use Rattle.nfs_names.specs.Ending.{with_opens}
 use Rattle.nfs_files.proofs.Refused.{by_refusal, free_stays}
 use Rattle.nfs_files.proofs.stateids.free_id.Goals as goal
 

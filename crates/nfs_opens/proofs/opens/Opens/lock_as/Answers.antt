@@ -47,8 +47,8 @@ invariant_of-self-2 c =
       room = c.self.invariant.room;
     }
 
-pub returns : goal.returns
-returns c =
+pub returns-clause-locks : goal.returns-clause-locks
+returns-clause-locks c =
     let found : lock_at (table (the_view c.self.inside)) c.args.state ≡ Some c.in-Some.lock.now =
     ap (find (λ (l : LockState). l.number == c.args.state)) (sym c.deref.ensures.value) ∙ (sym c.lock_in.ensures ∙ ap option_copied c.in-Some.is) in
     let judged : lock_judged (table (the_view c.self.inside)) c.args.state c.args.access c.args.wish.now ≡ Ok tt =

@@ -41,8 +41,8 @@ invariant_of-self-2 c =
       room = c.self.invariant.room;
     }
 
-pub returns : goal.returns
-returns c =
+pub returns-clause-locks : goal.returns-clause-locks
+returns-clause-locks c =
     let judged : lock_judged (table (the_view c.self.inside)) 0 c.args.access c.args.wish.now ≡ Ok tt =
     ap (λ (k : Kept). lock_judged (table k) 0 c.args.access c.args.wish.now) c.self.view_is ∙ (sym c.judge_lock.ensures ∙ c.in_ok-judge_lock.was) in
     let items : c.push.new.self.items ≡ c.self.inside.locks.items ++ first_state (table (the_view c.self.inside)) c.args.wish.now c.args.owner.now

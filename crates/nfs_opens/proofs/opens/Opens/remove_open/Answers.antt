@@ -28,8 +28,8 @@ invariant_of-self c =
           c.drop_open.ensures.items c.drop_open.ensures.room (c.self.invariant.room yes);
     }
 
-pub returns : goal.returns
-returns c =
+pub returns-clause-after : goal.returns-clause-after
+returns-clause-after c =
     let t = table (the_view c.self.inside) in
     let held = c.forget_unlocked.ensures
     ∙ left_held t c.args.number c.deref.result.now (held_by c.drop_bytes.new.files) c.self.invariant.table c.deref.ensures.value c.drop_bytes.ensures in

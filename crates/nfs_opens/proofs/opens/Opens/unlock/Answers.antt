@@ -31,8 +31,8 @@ lock_in-requires c = subst (Rises (λ (l : LockState). l.number) 1) (sym c.deref
 pub clear_bytes-requires-clause-within : goal.clear_bytes-requires-clause-within
 clear_bytes-requires-clause-within c = c.self.invariant.table.within c.args.file
 
-pub returns-in-None : goal.returns-in-None
-returns-in-None c =
+pub returns-in-None-clause-unlocks : goal.returns-in-None-clause-unlocks
+returns-in-None-clause-unlocks c =
     let judged : judge (table (the_view c.self.inside)) c.args.id c.args.client (Some c.args.file) LockOnly ≡ Ok c.in_ok-judge.field-0 =
     ap (λ (k : Kept). judge (table k) c.args.id c.args.client (Some c.args.file) LockOnly) c.self.view_is ∙ (sym c.judge.ensures ∙ c.in_ok-judge.was) in
     let found : lock_at (table (the_view c.self.inside)) c.args.id.number ≡ None =
@@ -60,8 +60,8 @@ invariant_of-self-2 c =
           c.self.invariant.room;
     }
 
-pub returns : goal.returns
-returns c =
+pub returns-clause-unlocks : goal.returns-clause-unlocks
+returns-clause-unlocks c =
     let found : lock_at (table (the_view c.self.inside)) c.args.id.number ≡ Some c.in-Some.lock.now =
     ap (find (λ (l : LockState). l.number == c.args.id.number)) (sym c.deref.ensures.value) ∙ (sym c.lock_in.ensures ∙ ap option_copied c.in-Some.is) in
     let judged : judge (table (the_view c.self.inside)) c.args.id c.args.client (Some c.args.file) LockOnly ≡ Ok c.in_ok-judge.field-0 =
