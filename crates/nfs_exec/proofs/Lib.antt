@@ -13,3 +13,5 @@ pub mod Whole
 pub mod Invariant
 pub mod Latest
 pub mod Repeating
+pub mod Numbering
+pub mod Rounds

@@ -1,16 +1,20 @@
 -- Laws of compounds and of expiry, over the definitions alone.
-use Rattle.std.specs.Prelude.{◌≡◌, ◌≤◌, ℕ, false, List, ◌∷◌, Option}
+use Rattle.std.specs.Prelude.{◌≡◌, ◌≤◌, ℕ, ◌+◌, ◌-◌, ◌^◌, ◌==◌, Bool, false, ◌&&◌, List, [], ◌∷◌, Option, Some, None, if◌then◌else◌}
+use Rattle.std.specs.Option.{option_map_or}
 use Rattle.nfs_xdr.specs.declared.status.Status.{Status}
 use Rattle.nfs_xdr.specs.Caller.{Caller}
 use Rattle.nfs_compound.specs.declared.session_args.Sequence.{Sequence}
 use Rattle.nfs_compound.specs.Operation.{OpSequence, Item, Operation}
 use Rattle.nfs_compound.specs.Request.{Request}
+use Rattle.nfs_sessions.specs.declared.id.SessionId.{SessionId}
+use Rattle.nfs_sessions.specs.Id.{id_of}
+use Rattle.nfs_sessions.specs.Laws.{is_id}
 use Rattle.nfs_lease.specs.Renewals.{has_run_out}
 use Rattle.nfs_opens.specs.declared.records.OpenState.{OpenState}
 use Rattle.nfs_opens.specs.Holding.{HasNoClash}
 use Rattle.nfs_opens.specs.Table.{In, clashes_with, as_asked}
-use Rattle.nfs_exec.specs.Machine.{Machine, refuses}
-use Rattle.nfs_exec.specs.Sequence.{Sequenced, Refuses, Repeats, sequenced, sequence_number}
+use Rattle.nfs_exec.specs.Machine.{Machine, starts, refuses}
+use Rattle.nfs_exec.specs.Sequence.{Sequenced, Refuses, Repeats, Runs, sequenced, sequence_number}
 use Rattle.nfs_exec.specs.Run.{only}
 use Rattle.nfs_exec.specs.Compound.{answers, compound}
 use Rattle.nfs_exec.specs.Expiry.{expired}
@@ -44,3 +48,62 @@ ExpiryFindsNothing = (m : Machine) (r : Request) (who : Caller) (size now : ℕ)
 pub record HasNoClashes (m : Machine) : Type 0 where
   pub bytes : (file : ℕ) → HasNoClash (m.store.opens.held file)
   pub shares : (a b : OpenState) → In a m.store.opens.opens → In b m.store.opens.opens → clashes_with (as_asked a) b ≡ false
+
+-- What comes to a server: a moment at which leases run out; or a request of a caller, in a record of so many bytes, at a moment,
+-- with the place, if any, at which memory was refused.
+pub data Event : Type 0 where
+  Expires : (now : ℕ) → Event
+  Asks : (r : Request) (who : Caller) (size now : ℕ) (choice : Option ℕ) → Event
+
+abbrev pub stepped : Machine → Event → Machine
+stepped m (Expires now) = expired now m
+stepped m (Asks r who size now choice) = (compound m r who size now choice).machine
+
+abbrev pub all_stepped : Machine → List Event → Machine
+all_stepped m [] = m
+all_stepped m (e ∷ more) = all_stepped (stepped m e) more
+
+-- the SEQUENCE, where it comes to a run
+abbrev pub if_runs : Sequence → Sequenced → Option Sequence
+if_runs s (Runs channel) = Some s
+if_runs s verdict = None
+
+abbrev pub first_runs : Machine → Request → Caller → ℕ → List Item → Option Sequence
+first_runs m r who size (Operation (OpSequence s) ∷ more) = if_runs s (sequenced m r who size s)
+first_runs m r who size items = None
+
+-- The SEQUENCE behind which an event runs operations: those of a request that is new on its slot. A repeat, what is refused
+-- and what stands outside a session run behind none.
+abbrev pub ran : Machine → Event → Option Sequence
+ran m (Expires now) = None
+ran m (Asks r who size now choice) = if r.minor == 1 then first_runs m r who size r.left else None
+
+abbrev pub is_on : SessionId → ℕ → Sequence → Bool
+is_on id slot s = is_id id (id_of s.sessionid) && (s.slotid == slot)
+
+-- how many of the events run on a slot of a session
+abbrev pub runs_on : SessionId → ℕ → Machine → List Event → ℕ
+runs_on id slot m [] = 0
+runs_on id slot m (e ∷ more) = (if option_map_or (is_on id slot) (ran m e) false then 1 else 0) + runs_on id slot (stepped m e) more
+
+-- the same session, slot and number
+pub record IsSame (s t : Sequence) : Type 0 where
+  pub session : id_of s.sessionid ≡ id_of t.sessionid
+  pub slot : s.slotid ≡ t.slotid
+  pub number : s.sequenceid ≡ t.sequenceid
+
+-- a machine that a server reaches from its start on
+pub record IsReached (m : Machine) : Type 0 where
+  pub mode : ℕ
+  pub instance : ℕ
+  pub lease : ℕ
+  pub events : List Event
+  pub machine : m ≡ all_stepped (starts mode instance lease) events
+
+-- Where a request ran, one of the same session, slot and number runs again only behind 2^32 - 1 others that ran on that slot,
+-- whatever else comes between. A session that ended never has its id again: nothing more runs there.
+abbrev pub NeverRunsAgain : Type 0
+NeverRunsAgain =
+    (m : Machine) (first : Event) (between : List Event) (again : Event) (s t : Sequence)
+    → IsReached m → ran m first ≡ Some s → ran (all_stepped (stepped m first) between) again ≡ Some t → IsSame s t
+    → 2 ^ 32 - 1 ≤ runs_on (id_of s.sessionid) s.slotid (stepped m first) between

@@ -1,6 +1,6 @@
 //! Laws of compounds and of expiry, over their definitions.
 
-ghost use Rattle.nfs_exec.specs.Laws.{RepeatsChangeNothing, RefusalsChangeNothing, ExpiresOnce, ExpiryFindsNothing};
+ghost use Rattle.nfs_exec.specs.Laws.{RepeatsChangeNothing, RefusalsChangeNothing, NeverRunsAgain, ExpiresOnce, ExpiryFindsNothing};
 
 /// A request that is repeated is answered with the reply that was kept, byte for byte, and changes nothing.
 pub fn repeats_change_nothing()
@@ -10,6 +10,11 @@ pub fn repeats_change_nothing()
 /// A SEQUENCE that is refused changes nothing: the slot, its kept reply and the lease are as they were.
 pub fn refusals_change_nothing()
     ensures { RefusalsChangeNothing }
+{}
+
+/// A request that ran does not run again on its session and slot before 2^32 minus 1 others ran there, whatever comes between.
+pub fn never_runs_again()
+    ensures { NeverRunsAgain }
 {}
 
 /// What has run out at a moment has run out at each later one, and expiry at both is expiry at the later.
