@@ -101,7 +101,7 @@ pub record IsReached (m : Machine) : Type 0 where
   pub machine : m ≡ all_stepped (starts mode instance lease) events
 
 -- Where a request ran, one of the same session, slot and number runs again only behind 2^32 - 1 others that ran on that slot,
--- whatever else comes between. A session that ended never has its id again: nothing more runs there.
+-- whatever else comes between, the end of the session too.
 abbrev pub NeverRunsAgain : Type 0
 NeverRunsAgain =
     (m : Machine) (first : Event) (between : List Event) (again : Event) (s t : Sequence)
