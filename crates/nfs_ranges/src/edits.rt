@@ -52,10 +52,10 @@ pub(super) fn span(intervals: &[Interval]) -> (u64, u64)
     ensures { IsSpan result.0 result.1 intervals.now }
 {
     let Some(x) = at_place(intervals, 0) else {
-        return (0, 0);
+        return (u64::MAX, 0);
     };
     let Some(z) = at_place(intervals, intervals.len().saturating_sub(1)) else {
-        return (0, 0);
+        return (u64::MAX, 0);
     };
     (x.first, z.last)
 }

@@ -1,4 +1,7 @@
 //! The lock states of a file, in rising order of their numbers.
+//!
+//! One that gives up its last byte keeps its entry for its next lock, which then moves no other, until such entries are
+//! more than half of all.
 
 ghost use Rattle.std.specs.Prelude.{◌≡◌, ◌<◌, ◌≤◌, OnOk, OnErr, find, None, MatchResult, [], drop, vec_len, slice_set, slice_index_or};
 ghost use Rattle.std.specs.Bool.{OnTrue};
@@ -7,7 +10,7 @@ ghost use Rattle.nfs_ranges.specs.Clashes.{hits, clash_of, sooner, tell};
 ghost use Rattle.nfs_ranges.specs.declared.Kind.{Kind};
 ghost use Rattle.nfs_ranges.specs.Edits.{lead, head};
 ghost use Rattle.nfs_ranges.specs.Holders.{Owned, bytes_of};
-ghost use Rattle.nfs_ranges.specs.Owners.{AreCanonical, IsFound, IsAbsent, is_lower, is_number, is_empty, with_owner};
+ghost use Rattle.nfs_ranges.specs.Owners.{AreKept, IsFound, IsAbsent, is_lower, is_number, is_empty, that_hold, with_owner};
 
 use super::interval::Interval;
 use super::{Held, Kind, edits};
@@ -123,19 +126,22 @@ pub(super) fn first_clash(
     first: u64,
     last: u64,
 ) -> Option<Held>
-    requires { AreCanonical owners.now }
+    requires { AreKept owners.now }
     ensures { result ≡ tell number kind first last None owners.now }
 {
     let mut best: Option<Held> = None;
     for o in owners {
-        best = sooner(first, best, o.clash(number, kind, first, last));
+        // most owners lie apart from the range: only what clashes is copied
+        if let Some(c) = o.clash(number, kind, first, last) {
+            best = sooner(first, best, Some(c));
+        }
     }
     best
 }
 
 /// The place of the first owner whose number is not lower.
 fn place_of(owners: &[Owner], number: u64) -> usize
-    requires { AreCanonical owners.now }
+    requires { AreKept owners.now }
     ensures { result ≡ lead (is_lower number) owners.now }
 {
     owners.partition_point(|o| o.is_below(number))
@@ -150,7 +156,7 @@ fn is_at(owners: &[Owner], place: usize, number: u64) -> bool
 
 /// The place of the owner, or where it would stand.
 fn find(owners: &[Owner], number: u64) -> Result<usize, usize>
-    requires { AreCanonical owners.now }
+    requires { AreKept owners.now }
     ensures { MatchResult result (λ i. IsFound number owners.now i) (λ i. IsAbsent number owners.now i) }
 {
     let place = place_of(owners, number);
@@ -163,7 +169,7 @@ fn find(owners: &[Owner], number: u64) -> Result<usize, usize>
 
 /// The intervals of an owner.
 pub(super) fn bytes_of(owners: &[Owner], number: u64) -> &[Interval]
-    requires { AreCanonical owners.now }
+    requires { AreKept owners.now }
     ensures { result.now ≡ bytes_of owners.now number }
 {
     match find(owners, number) {
@@ -184,7 +190,7 @@ pub(super) fn set(
     last: u64,
 ) -> Result<(), AllocError>
     requires range { first ≤ last }
-    requires owners { AreCanonical owners.old.items }
+    requires owners { AreKept owners.old.items }
     ensures ok { OnOk result (owners.new.items ≡ with_owner number (with_range (record { kind = kind; first = first; last = last }) (bytes_of owners.old.items number)) owners.old.items) }
     ensures err { OnErr result (owners.new.items ≡ owners.old.items) }
 {
@@ -205,24 +211,57 @@ pub(super) fn set(
     }
 }
 
-/// The owner holds none of the bytes from `first` to `last` from now on.
+/// The owner holds none of the bytes from `first` to `last` from now on; whether it has an entry that holds nothing.
+///
+/// `Err`: no memory, and nothing has changed.
+fn clear_in_place(
+    owners: &mut Vec<Owner>,
+    number: u64,
+    first: u64,
+    last: u64,
+) -> Result<bool, AllocError>
+    requires range { first ≤ last }
+    requires owners { AreKept owners.old.items }
+    ensures kept { AreKept owners.new.items }
+    ensures ok { OnOk result (that_hold owners.new.items ≡ that_hold (with_owner number (without first last (bytes_of owners.old.items number)) owners.old.items)) }
+    ensures err { OnErr result (owners.new.items ≡ owners.old.items) }
+{
+    let Ok(place) = find(owners, number) else {
+        return Ok(false);
+    };
+    owners[place].clear(first, last)?;
+    Ok(owners[place].is_empty())
+}
+
+/// Takes out the entries that hold nothing.
+fn sweep(owners: &mut Vec<Owner>)
+    ensures { owners.new.items ≡ that_hold owners.old.items }
+{
+    owners.retain(|o| !o.is_empty());
+}
+
+/// The owner holds none of the bytes from `first` to `last` from now on. `emptied` counts the entries that came to hold
+/// nothing since those were taken out.
 ///
 /// `Err`: no memory, and nothing has changed.
 pub(super) fn clear(
     owners: &mut Vec<Owner>,
+    emptied: &mut usize,
     number: u64,
     first: u64,
     last: u64,
 ) -> Result<(), AllocError>
     requires range { first ≤ last }
-    requires owners { AreCanonical owners.old.items }
-    ensures ok { OnOk result (owners.new.items ≡ with_owner number (without first last (bytes_of owners.old.items number)) owners.old.items) }
+    requires owners { AreKept owners.old.items }
+    ensures kept { AreKept owners.new.items }
+    ensures ok { OnOk result (that_hold owners.new.items ≡ that_hold (with_owner number (without first last (bytes_of owners.old.items number)) owners.old.items)) }
     ensures err { OnErr result (owners.new.items ≡ owners.old.items) }
 {
-    if let Ok(place) = find(owners, number) {
-        owners[place].clear(first, last)?;
-        if owners[place].is_empty() {
-            owners.remove(place);
+    if clear_in_place(owners, number, first, last)? {
+        *emptied = emptied.saturating_add(1);
+        if *emptied > owners.len() / 2 {
+            sweep(owners);
+            *emptied = 0;
         }
     }
     Ok(())
@@ -230,7 +269,7 @@ pub(super) fn clear(
 
 /// The owner holds nothing from now on.
 pub(super) fn drop_owner(owners: &mut Vec<Owner>, number: u64)
-    requires { AreCanonical owners.old.items }
+    requires { AreKept owners.old.items }
     ensures { owners.new.items ≡ with_owner number [] owners.old.items }
 {
     if let Ok(place) = find(owners, number) {

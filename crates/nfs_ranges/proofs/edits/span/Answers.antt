@@ -1,13 +1,13 @@
-use Rattle.std.proofs.Common.{ap, sym, ◌∙◌, length, drop}
+use Rattle.std.proofs.Common.{ap, sym, ◌∙◌, drop}
 use Rattle.nfs_ranges.specs.Edits.{head}
 use Rattle.nfs_ranges.proofs.SpanLemmas.{no_span, no_end, span_is}
 use Rattle.nfs_ranges.proofs.edits.span.Goals as goal
 
 pub returns-in_default : goal.returns-in_default
-returns-in_default c = no_span 0 0 c.args.intervals.now (sym c.at_place.ensures ∙ c.in_default.is)
+returns-in_default c = no_span 0xffff_ffff_ffff_ffff 0 c.args.intervals.now (sym c.at_place.ensures ∙ c.in_default.is)
 
 pub returns-in_default-at_place : goal.returns-in_default-at_place
-returns-in_default-at_place c = no_end 0 0 c.args.intervals.now
+returns-in_default-at_place c = no_end 0xffff_ffff_ffff_ffff 0 c.args.intervals.now
     (ap (λ n. head (drop n c.args.intervals.now)) (sym c.saturating_sub.ensures) ∙ sym c.at_place-2.ensures ∙ c.in_default-at_place.is)
 
 pub returns : goal.returns
