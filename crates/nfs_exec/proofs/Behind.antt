@@ -1,5 +1,5 @@
 -- What one operation behind a SEQUENCE leaves as it is.
-use Rattle.std.proofs.Common.{◌≡◌, ℕ, Bool, true, false, eqb, ltb, List, [], ◌∷◌, ◌++◌, ◌+◌, ◌≤◌, length, Option, Some, None, Result, Ok, Err, refl, sym, ◌∙◌, ap, subst, arith, inl, inr}
+use Rattle.std.proofs.Common.{◌≡◌, ℕ, Bool, true, false, eqb, ltb, List, [], ◌∷◌, ◌+◌, ◌≤◌, length, Option, Some, None, Result, Ok, Err, refl, ◌∙◌, ap, subst, arith, inl, inr}
 use Rattle.std.specs.Prelude.{IsTrue, ◌||◌}
 use Rattle.std.proofs.lemmas.Bool.{cases_Bool}
 use Rattle.std.proofs.lemmas.List.{length-append}
@@ -32,7 +32,7 @@ use Rattle.nfs_sessions.specs.Sessions.{SessionTable}
 use Rattle.nfs_exec.specs.Machine.{Machine, Outcome, is_ok, comes_to, with_mark}
 use Rattle.nfs_exec.specs.Place.{status_behind}
 use Rattle.nfs_exec.specs.ReclaimComplete.{reclaim_complete, of_one, of_all}
-use Rattle.nfs_exec.specs.Behind.{step, on_store, marked, otherwise, stays}
+use Rattle.nfs_exec.specs.Behind.{step, on_store, moves_opens, marked_if, otherwise, stays}
 use Rattle.nfs_exec.specs.View.{Steps}
 use Rattle.nfs_exec.specs.Run.{Ran, run, in_room, follow, is_here, behind_here, reserve}
 
@@ -68,9 +68,13 @@ pub record IsKept (P : Machine → Type 0) : Type 0 where
 pub kept_step : (P : Machine → Type 0) → IsKept P → (m : Machine) (x : Context) (now : ℕ) (refused : Bool) (i : Item) → P m → P (step m x now refused i).outcome.machine
 kept_step P keeps m x now refused i is = elim (cases_Bool (names.on_names i)) [
   | inl on ↦ rw on (keeps.stored m _ is)
-  | inr off ↦ rw off (elim (cases_Bool (files.on_files i)) [ inl on ↦ rw on (keeps.marked (record m { store = _ }) x.client (keeps.stored m _ is)) | inr other ↦ rw other (by_item i) ])
+  | inr off ↦ rw off (elim (cases_Bool (files.on_files i)) [ inl on ↦ rw on (by_mark (moves_opens i) (files.comes_to refused m.store x (moment now) i)) | inr other ↦ rw other (by_item i) ])
 ]
   where
+    by_mark : (moves : Bool) (o : OfStore) → P (marked_if moves x.client (on_store m o)).outcome.machine
+    by_mark true o = keeps.marked (record m { store = o.state }) x.client (keeps.stored m o.state is)
+    by_mark false o = keeps.stored m o.state is
+
     one : (found : Result Held Status) → P (of_one m found).machine
     one (Ok d) = is
     one (Err status) = is
@@ -132,16 +136,17 @@ other_steps m left x now refused i r s old new unnamed other is status put =
       put = subst (λ (text : List ℕ). Puts old new text) (ap (λ (o : Outcome). o.result) is) put;
     })
 
--- an operation on open files was run, and the mark set
-pub file_done : (m : Machine) (client : ℕ) (o : OfStore) (s : Status) (store : State) (mark : Bool) (clients : Roster) (behind : Context) (old new : Paper) → Comes o old new s store behind → mark ≡ has_open store client →
-    clients ≡ with_open m.clients client mark → Steps (marked client (on_store m o)) s (record { clients = clients; sessions = m.sessions; leases = m.leases; store = store }) behind old new
-file_done m client o s store mark clients behind old new did is held = record {
+-- an operation on open files was run, and the mark set where it can have moved
+pub file_marked : (m : Machine) (client : ℕ) (o : OfStore) (s : Status) (store : State) (moves mark : Bool) (clients : Roster) (behind : Context) (old new : Paper) → moves ≡ true → Comes o old new s store behind →
+    mark ≡ has_open store client → clients ≡ with_open m.clients client mark →
+    Steps (marked_if moves client (on_store m o)) s (record { clients = clients; sessions = m.sessions; leases = m.leases; store = store }) behind old new
+file_marked m client o s store moves mark clients behind old new can did is held = rw can (record {
   status = did.status;
   machine = ap (λ (t : Roster). record m { clients = t; store = store }) (held ∙ ap (with_open m.clients client) is) ∙ ap (λ (t : State). with_mark client (record m { store = t })) did.state;
   context = did.context;
   put = did.put;
-}
+})
 
 pub file_steps : (m left : Machine) (x : Context) (now : ℕ) (refused : Bool) (i : Item) (s : Status) (behind : Context) (old new : Paper) → names.on_names i ≡ false → files.on_files i ≡ true →
-    Steps (marked x.client (on_store m (files.comes_to refused m.store x (moment now) i))) s left behind old new → Steps (step m x now refused i) s left behind old new
+    Steps (marked_if (moves_opens i) x.client (on_store m (files.comes_to refused m.store x (moment now) i))) s left behind old new → Steps (step m x now refused i) s left behind old new
 file_steps m left x now refused i s behind old new unnamed on did = rw (unnamed, on) did

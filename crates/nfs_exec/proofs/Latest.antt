@@ -1,5 +1,5 @@
 -- What holds of leases and of the store behind a compound.
-use Rattle.std.proofs.Common.{◌≡◌, ℕ, ◌+◌, ◌-◌, Bool, false, arith, eqb, List, [], ◌∷◌, length, Option, Some, None, Result, Ok, Err, refl, sym, subst, inl, inr}
+use Rattle.std.proofs.Common.{◌≡◌, ℕ, ◌-◌, Bool, false, arith, eqb, List, [], ◌∷◌, Option, Some, None, Result, Ok, Err, refl, sym, subst, inl, inr}
 use Rattle.std.proofs.lemmas.Bool.{cases_Bool, le-ltb}
 use Rattle.std.specs.Prelude.{◌&&◌, ◌==◌, not, is_some, option_map}
 use Rattle.nfs_xdr.specs.Caller.{Caller}

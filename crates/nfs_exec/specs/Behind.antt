@@ -1,8 +1,8 @@
 -- One operation behind a SEQUENCE (RFC 8881 section 2.10.6.4): what it comes to, and the context in which the next one runs.
-use Rattle.std.specs.Prelude.{ℕ, Bool, if◌then◌else◌}
+use Rattle.std.specs.Prelude.{ℕ, Bool, true, false, if◌then◌else◌}
 use Rattle.nfs_xdr.specs.declared.status.Status.{Status}
 use Rattle.nfs_compound.specs.Arguments.{item_number}
-use Rattle.nfs_compound.specs.Operation.{OpReclaimComplete, Item, Operation}
+use Rattle.nfs_compound.specs.Operation.{OpClose, OpOpen, OpReclaimComplete, Item, Operation}
 use Rattle.nfs_names.specs.declared.context.Context.{Context}
 use Rattle.nfs_names.specs.State.{moment}
 use Rattle.nfs_names.specs.Outcome.{Outcome as OfStore}
@@ -24,9 +24,18 @@ stays m x item status = record { outcome = refuses m (item_number item) status; 
 abbrev pub on_store : Machine → OfStore → Step
 on_store m o = record { outcome = comes_to (record m { store = o.state }) o.result; context = o.context }
 
--- and the client's record has the mark of an open where one of its opens stands
+-- OPEN and CLOSE alone can move whether a client has an open ..
+abbrev pub moves_opens : Item → Bool
+moves_opens (Operation (OpClose a)) = true
+moves_opens (Operation (OpOpen a)) = true
+moves_opens item = false
+
+-- .. and behind them the client's record has the mark of an open where one of its opens stands
 abbrev pub marked : ℕ → Step → Step
 marked client s = record s { outcome = record s.outcome { machine = with_mark client s.outcome.machine } }
+
+abbrev pub marked_if : Bool → ℕ → Step → Step
+marked_if moves client s = if moves then marked client s else s
 
 -- RECLAIM_COMPLETE, and what nothing carries out
 abbrev pub otherwise : Machine → Context → Item → Step
@@ -37,5 +46,5 @@ otherwise m x item = stays m x item (status_behind item)
 abbrev pub step : Machine → Context → (now : ℕ) → (refused : Bool) → Item → Step
 step m x now refused item =
     if names.on_names item then on_store m (names.comes_to refused m.store x (moment now) item)
-    else if files.on_files item then marked x.client (on_store m (files.comes_to refused m.store x (moment now) item))
+    else if files.on_files item then marked_if (moves_opens item) x.client (on_store m (files.comes_to refused m.store x (moment now) item))
     else otherwise m x item

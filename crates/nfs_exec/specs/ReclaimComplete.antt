@@ -1,5 +1,5 @@
 -- RECLAIM_COMPLETE (RFC 8881 section 18.51): a client has nothing, or nothing more, to reclaim.
-use Rattle.std.specs.Prelude.{Bool, true, false, Result, Ok, Err, if◌then◌else◌}
+use Rattle.std.specs.Prelude.{Bool, Result, Ok, Err, if◌then◌else◌}
 use Rattle.nfs_xdr.specs.declared.status.Status.{Status}
 use Rattle.nfs_xdr.specs.declared.status.Status.TheVariants.{CompleteAlready}
 use Rattle.nfs_compound.specs.declared.op_num.OpNum.TheVariants as Op

@@ -12,7 +12,7 @@ ghost use Rattle.nfs_names.specs.State.{moment, IsStore};
 ghost use Rattle.nfs_files.specs.Operation as files;
 ghost use Rattle.nfs_exec.specs.Machine.{comes_to, is_delay};
 ghost use Rattle.nfs_exec.specs.Place.{CanBear, status_behind};
-ghost use Rattle.nfs_exec.specs.Behind.{step, on_store, marked, otherwise};
+ghost use Rattle.nfs_exec.specs.Behind.{step, on_store, moves_opens, marked_if, otherwise};
 ghost use Rattle.nfs_exec.specs.Run.{run, in_room};
 ghost use Rattle.nfs_exec.specs.View.{machine_of, RunsTo, Steps};
 
@@ -136,7 +136,7 @@ impl Tables {
         res.status()
     }
 
-    /// Runs an operation on open files, and marks its client's record where one of its opens stands.
+    /// Runs an operation on open files. Behind OPEN and CLOSE its client's record is marked where one of its opens stands.
     fn file_step(
         &mut self,
         alloc: Global,
@@ -149,14 +149,16 @@ impl Tables {
         requires moment { now < 2 ^ 63 }
         requires store { IsStore (machine_of self.old).store }
         requires room { length out.old.bytes + largest (item arg.now) ≤ out.old.room }
-        ensures steps { Steps (marked context.old.client (on_store (machine_of self.old) (files.comes_to (is_delay result) (machine_of self.old).store context.old (moment now) (item arg.now))))
+        ensures steps { Steps (marked_if (moves_opens (item arg.now)) context.old.client (on_store (machine_of self.old) (files.comes_to (is_delay result) (machine_of self.old).store context.old (moment now) (item arg.now))))
             result (machine_of self.new) context.new out.old out.new }
         ensures within { length out.new.bytes ≤ length out.old.bytes + largest (item arg.now) }
         ensures store { IsStore (machine_of self.new).store }
     {
         let client = context.client;
         let status = file_op(alloc, &mut self.store, context, arg, now, out);
-        self.clients.hold(client, self.store.has_open(client));
+        if moves_opens(arg) {
+            self.clients.hold(client, self.store.has_open(client));
+        }
         status
     }
 
@@ -173,6 +175,13 @@ impl Tables {
             _ => Res::refusal(arg.number(), status_behind(arg)),
         }
     }
+}
+
+/// Whether the operation can move whether its client has an open.
+fn moves_opens(arg: &Arg<'_>) -> bool
+    ensures { result ≡ moves_opens (item arg.now) }
+{
+    matches!(arg, Arg::Close(_) | Arg::Open(_))
 }
 
 /// What an item behind a SEQUENCE is refused with, where nothing carries it out.

@@ -1,4 +1,4 @@
-use Rattle.std.proofs.Common.{List, ◌∷◌, None, length, inr, ap, sym, subst, ◌∙◌, arith}
+use Rattle.std.proofs.Common.{List, ◌∷◌, length, inr, ap, sym, subst, ◌∙◌, arith}
 use Rattle.nfs_xdr.specs.Caller.{caller}
 use Rattle.nfs_xdr.specs.Tables.{In}
 use Rattle.nfs_xdr.specs.declared.status.Status.TheVariants.{Nfs4Ok, MinorVersMismatch}

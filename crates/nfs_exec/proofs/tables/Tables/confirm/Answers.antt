@@ -1,8 +1,6 @@
-use Rattle.std.proofs.Common.{ap, sym, subst, ◌∙◌}
-use Rattle.nfs_lease.specs.Renewals.{IsLatest, leases_of, with_renewal}
-use Rattle.nfs_clients.specs.Roster.{Roster}
+use Rattle.std.proofs.Common.{sym, subst}
+use Rattle.nfs_lease.specs.Renewals.{IsLatest, leases_of}
 use Rattle.nfs_exec.specs.Machine.{Machine}
-use Rattle.nfs_exec.specs.View.{machine_of, without_left}
 use Rattle.nfs_exec.proofs.Latest.{latest_left}
 use Rattle.nfs_exec.proofs.tables.Tables.confirm.Goals as goal
 

@@ -1,11 +1,11 @@
-use Rattle.std.proofs.Common.{ℕ, refl, ◌+◌, ◌≤◌, ap, sym, subst, ◌∙◌, List, length}
+use Rattle.std.proofs.Common.{refl, ◌+◌, ◌≤◌, ap, subst, ◌∙◌, List, length}
 use Rattle.nfs_compound.specs.Operation.{Item}
 use Rattle.nfs_compound.specs.Request.{Request}
 use Rattle.nfs_compound.specs.View.{item}
 use Rattle.nfs_exec.specs.Machine.{is_delay}
 use Rattle.nfs_exec.specs.Run.{in_room}
 use Rattle.nfs_exec.specs.View.{machine_of, Steps}
-use Rattle.nfs_exec.proofs.Running.{Stand, Going, Stepped, begins, goes_on, ends, ends_with, ends_within, not_ok, so_far, counted}
+use Rattle.nfs_exec.proofs.Running.{Stand, Going, Stepped, begins, goes_on, ends, ends_with, ends_within, not_ok, counted}
 use Rattle.nfs_exec.proofs.tables.Tables.run.Goals as goal
 
 pub loop-arg-preserved : goal.loop-arg-preserved

@@ -1,6 +1,5 @@
 use Rattle.std.proofs.Common.{ℕ, ◌≡◌, ◌-◌, ◌≤◌, List, length, take, drop, ap, sym, subst, ◌∙◌}
 use Rattle.nfs_xdr.specs.Caller.{caller}
-use Rattle.nfs_xdr.specs.Paper.{Puts}
 use Rattle.nfs_compound.specs.Request.{Request}
 use Rattle.nfs_lease.specs.Renewals.{leases_of}
 use Rattle.nfs_exec.specs.Machine.{Machine}
