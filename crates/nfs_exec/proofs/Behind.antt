@@ -1,5 +1,5 @@
 -- What one operation behind a SEQUENCE leaves as it is.
-use Rattle.std.proofs.Common.{◌≡◌, ℕ, Bool, true, false, eqb, ltb, List, [], ◌∷◌, ◌+◌, ◌≤◌, length, Option, Some, None, Result, Ok, Err, refl, ◌∙◌, ap, subst, arith, inl, inr}
+use Rattle.std.proofs.Common.{◌≡◌, ℕ, Bool, true, false, eqb, ltb, List, [], ◌∷◌, ◌++◌, ◌+◌, ◌≤◌, length, Option, Some, None, Result, Ok, Err, refl, sym, ◌∙◌, ap, subst, arith, inl, inr}
 use Rattle.std.specs.Prelude.{IsTrue, ◌||◌}
 use Rattle.std.proofs.lemmas.Bool.{cases_Bool}
 use Rattle.std.proofs.lemmas.List.{length-append}
@@ -32,7 +32,7 @@ use Rattle.nfs_sessions.specs.Sessions.{SessionTable}
 use Rattle.nfs_exec.specs.Machine.{Machine, Outcome, is_ok, comes_to, with_mark}
 use Rattle.nfs_exec.specs.Place.{status_behind}
 use Rattle.nfs_exec.specs.ReclaimComplete.{reclaim_complete, of_one, of_all}
-use Rattle.nfs_exec.specs.Behind.{step, on_store, moves_opens, marked_if, otherwise, stays}
+use Rattle.nfs_exec.specs.Behind.{step, on_store, moves_opens, marked, marked_if, otherwise, stays}
 use Rattle.nfs_exec.specs.View.{Steps}
 use Rattle.nfs_exec.specs.Run.{Ran, run, in_room, follow, is_here, behind_here, reserve}
 
@@ -87,16 +87,16 @@ kept_step P keeps m x now refused i is = elim (cases_Bool (names.on_names i)) [
     by_item (Operation (OpReclaimComplete one_fs)) = reclaim one_fs
     by_item i = is
 
+pub follow_kept : (P : Machine → Type 0) (o : Outcome) (rest : Ran) → P o.machine → P rest.machine → P (follow o rest).machine
+follow_kept P o rest one more = elim (cases_Bool (is_ok o.status)) [ inl ok ↦ rw ok more | inr bad ↦ rw bad one ]
+
 pub kept_run : (P : Machine → Type 0) → IsKept P → (limit sofar now : ℕ) (choice : Option ℕ) (m : Machine) (x : Context) (items : List Item) → P m → P (run limit sofar now choice m x items).machine
 kept_run P keeps limit sofar now choice m x [] is = is
 kept_run P keeps limit sofar now choice m x (i ∷ more) is =
     let s = in_room limit sofar now (is_here choice) m x i in
     let one : P s.outcome.machine = elim (cases_Bool (ltb limit (sofar + largest i + reserve))) [ inl big ↦ rw big is | inr fits ↦ rw fits (kept_step P keeps m x now (is_here choice) i is) ] in
-    follow_kept s.outcome (run limit (sofar + length s.outcome.result) now (behind_here choice) s.outcome.machine s.context more) one
+    follow_kept P s.outcome (run limit (sofar + length s.outcome.result) now (behind_here choice) s.outcome.machine s.context more) one
     (kept_run P keeps limit (sofar + length s.outcome.result) now (behind_here choice) s.outcome.machine s.context more one)
-  where
-    follow_kept : (o : Outcome) (rest : Ran) → P o.machine → P rest.machine → P (follow o rest).machine
-    follow_kept o rest one more = elim (cases_Bool (is_ok o.status)) [ inl ok ↦ rw ok more | inr bad ↦ rw bad one ]
 
 -- Neither leases nor sessions change.
 

@@ -1,14 +1,14 @@
 -- What holds of every machine is kept by each step.
-use Rattle.std.proofs.Common.{◌≡◌, ℕ, ◌<◌, Bool, true, false, cond, eqb, List, [], ◌∷◌, Option, Some, None, refl, sym, ◌∙◌, ap, arith, inl, inr}
+use Rattle.std.proofs.Common.{◌≡◌, ◌≢◌, ℕ, ◌+◌, ◌<◌, Bool, true, false, cond, eqb, ltb, List, [], ◌∷◌, length, Option, Some, None, Result, Ok, Err, refl, sym, ◌∙◌, ap, subst, arith, inl, inr}
 use Rattle.std.specs.Prelude.{not, ◌&&◌, ◌||◌, filter, is_some, option_map, ◌⊎◌}
 use Rattle.std.specs.Option.{option_map_or}
 use Rattle.std.specs.List.{list_any}
-use Rattle.std.proofs.lemmas.Bool.{cases_Bool, cases_eq, ne_eqb, eq-eqb, and_parts, false≢true}
+use Rattle.std.proofs.lemmas.Bool.{cases_Bool, cases_eq, ne_eqb, eq-eqb, eqb-true, and_parts, false≢true}
 use Rattle.nfs_xdr.specs.Caller.{Caller}
 use Rattle.nfs_xdr.specs.declared.status.Status.{Status}
 use Rattle.nfs_xdr.specs.Tables.{In, record_at}
 use Rattle.nfs_xdr.proofs.Tables.{in_filter, in_push, in_map, find_in, at_of_in, at_without, at_with, at_push}
-use Rattle.nfs_compound.specs.Operation.{Item, Operation, OpSequence, OpExchangeId, OpCreateSession, OpDestroySession, OpDestroyClientId}
+use Rattle.nfs_compound.specs.Operation.{Item, Operation, OpSequence, OpExchangeId, OpCreateSession, OpDestroySession, OpDestroyClientId, OpReclaimComplete}
 use Rattle.nfs_compound.specs.Arguments.{item_number}
 use Rattle.nfs_compound.specs.Request.{Request}
 use Rattle.nfs_compound.specs.SessionArgs.{CreateSession}
@@ -18,13 +18,14 @@ use Rattle.nfs_clients.specs.ExchangeId.{Ask, Case, Refuses, Tells, Adds, has_ro
 use Rattle.nfs_clients.specs.CreateSession as clients
 use Rattle.nfs_clients.specs.CreateSession.{leaving, without_any, with_confirmed, with_kept, confirms, keeps, verdict_by}
 use Rattle.nfs_clients.specs.DestroyClientId.{destroy_fault}
-use Rattle.nfs_clients.specs.Marks.{has_open, has_reclaimed, with_reclaimed, with_open}
+use Rattle.nfs_clients.specs.Marks.{has_open, has_open_by, has_reclaimed, with_reclaimed, with_open}
 use Rattle.nfs_clients.specs.declared.created.CreateResult.{CreateResult}
 use Rattle.nfs_clients.specs.declared.created.CreateResult.TheVariants.{Done, Refused}
 use Rattle.nfs_clients.specs.declared.destroy.DestroyFault.{DestroyFault}
 use Rattle.nfs_clients.specs.declared.destroy.DestroyFault.TheVariants.{Stale, Busy}
 use Rattle.nfs_clients.proofs.Members.{the_id, mild_keeps, mild_reclaims, mild_holds, fresh, roster_filter, roster_changed, roster_without, roster_confirmed, roster_new, without_unconfirmed}
 use Rattle.nfs_sessions.specs.declared.id.SessionId.{SessionId}
+use Rattle.nfs_sessions.specs.declared.channel.Channel.{Channel}
 use Rattle.nfs_sessions.specs.declared.channel.Wish.{Wish}
 use Rattle.nfs_sessions.specs.declared.sessions.SessionFault.{SessionFault}
 use Rattle.nfs_sessions.specs.Id.{id_of}
@@ -35,7 +36,7 @@ use Rattle.nfs_lease.specs.Renewals.{Book, has_run_out, with_lease, with_renewal
 use Rattle.nfs_exec.specs.Machine.{Machine, IsMachine, Outcome, is_ok, or_delay, starts, with_mark, is_client, is_confirmed}
 use Rattle.nfs_exec.specs.Place.{item_fault}
 use Rattle.nfs_exec.specs.ExchangeId.{exchange_id, exchange_id_number, ask_of, leases_behind, without_any_lease}
-use Rattle.nfs_exec.specs.CreateSession.{create_session_number, by_verdict, creates, by_created, confirmed, wish_of, without_any_sessions}
+use Rattle.nfs_exec.specs.CreateSession.{create_session_number, by_verdict, creates, by_created, confirmed, wish_of, without_any_sessions, without_any_opens}
 use Rattle.nfs_exec.specs.Destroy.{destroy_session, destroyed_unless, has_session}
 use Rattle.nfs_exec.specs.Sequence as sequence
 use Rattle.nfs_exec.specs.Sequence.{Sequenced, sequenced}
@@ -45,16 +46,39 @@ use Rattle.nfs_exec.proofs.Exchanging.{room_of}
 use Rattle.nfs_names.specs.declared.context.Context.{Context}
 use Rattle.nfs_names.specs.Context.{begins}
 use Rattle.nfs_names.specs.Ending.{has_open as has_open_in}
-use Rattle.nfs_exec.specs.ReclaimComplete.{of_all}
-use Rattle.nfs_exec.specs.Run.{is_here, behind_here}
-use Rattle.nfs_exec.proofs.Behind.{IsKept, kept_run}
+use Rattle.nfs_names.specs.declared.held.Held.{Held}
+use Rattle.nfs_names.specs.Checks.{current}
+use Rattle.nfs_names.specs.Operation as names
+use Rattle.nfs_names.specs.Outcome.{Outcome as OfStore}
+use Rattle.nfs_names.specs.State.{State, moment}
+use Rattle.nfs_names.proofs.Untouched.{Leaves, leaves_item}
+use Rattle.nfs_opens.specs.Table.{Table}
+use Rattle.nfs_files.specs.Operation as files
+use Rattle.nfs_files.proofs.OwnOpens.{AreNumbered, Spares, Everybody, OthersThan, spares_all, spares_others}
+use Rattle.nfs_results.specs.Largest.{largest}
+use Rattle.nfs_exec.specs.ReclaimComplete.{reclaim_complete, of_one, of_all}
+use Rattle.nfs_exec.specs.Behind.{Step, step, on_store, moves_opens, marked_if, otherwise}
+use Rattle.nfs_exec.specs.Run.{run, in_room, reserve, is_here, behind_here}
+use Rattle.nfs_exec.proofs.Behind.{follow_kept}
+use Rattle.nfs_exec.proofs.Keeping.{runs_means}
+use Rattle.nfs_exec.proofs.Marks.{changed_holds, keeps_holds, confirms_holds, kept_holds, gone_holds, new_holds, open_staying, numbered_staying, numbered_without}
 
 pub of_start : (mode instance lease : ℕ) → instance < 4294967296 → IsMachine (starts mode instance lease)
 of_start mode instance lease small = record {
   clients = record { rising = omega arith; alone = λ c d a b owner mark. absurd a; few = omega arith; counter = omega arith; instance = small };
   leased = λ client. refl;
   confirmed = λ s there. absurd there;
+  marks = λ client. refl;
+  opened = λ client holds. absurd (false≢true holds);
+  numbers = omega arith;
 }
+
+abbrev mark_of : Option ClientRecord → Bool
+mark_of o = option_map_or (λ (c : ClientRecord). c.confirmed) o false
+
+not_true : (b : Bool) → not b ≡ true → b ≡ false
+not_true true e = absurd cc
+not_true false e = refl
 
 -- Clients behind a filter of their ids.
 
@@ -84,9 +108,14 @@ of_expired m now is =
       leased = λ c. some_not (out c) (m.leases.renewed c) (client_at m.clients c) (is.leased c) ∙ ap is_some (sym (at c));
       confirmed = λ s there. (let kept = in_filter (λ (s : Session). not (out s.client)) m.sessions.sessions s there in
           ap (λ o. option_map_or (λ (c : ClientRecord). c.confirmed) o false) (at s.client ∙ ap (λ b. cond b (client_at m.clients s.client) None) kept.1) ∙ is.confirmed s kept.0);
+      marks = λ c. ap has_open_by (at c) ∙ kept_holds (not (out c)) (client_at m.clients c)
+          ∙ ap (λ b. not (out c) && b) (is.marks c) ∙ sym (open_staying (λ k. not (out k)) m.store c);
+      opened = λ c holds. (let stays = and_parts (not (out c)) (has_open_in m.store c) (sym (open_staying (λ k. not (out k)) m.store c) ∙ holds) in
+          ap mark_of (at c ∙ ap (λ b. cond b (client_at m.clients c) None) stays.0) ∙ is.opened c stays.1);
+      numbers = numbered_staying (λ k. not (out k)) m.store is.numbers;
     }
 
--- Without a client that has no session.
+-- Without a client that has neither a session nor an open.
 
 some_gone : (gone : Bool) {A B : Type 0} (a : Option A) (b : Option B) → is_some a ≡ is_some b → is_some (cond gone None a) ≡ is_some (cond gone None b)
 some_gone true a b same = refl
@@ -100,18 +129,41 @@ any_none p (y ∷ ys) x none there = elim (cases_Bool (p y)) [
 ]
 
 pub of_destroyed_client : (m : Machine) (client : ℕ) → IsMachine m → list_any (λ (s : Session). eqb s.client client) m.sessions.sessions ≡ false →
+    has_open m.clients client ≡ false →
     IsMachine (record m { clients = without m.clients client; leases = without_lease m.leases client })
-of_destroyed_client m client is none =
+of_destroyed_client m client is none unheld =
     let at : (n : ℕ) → client_at (without m.clients client) n ≡ cond (eqb n client) None (client_at m.clients n) = λ n. at_without the_id n client m.clients.records in
     record {
       clients = roster_without m.clients client is.clients;
       leased = λ c. some_gone (eqb c client) (m.leases.renewed c) (client_at m.clients c) (is.leased c) ∙ ap is_some (sym (at c));
       confirmed = λ s there. (let other = any_none (λ (s : Session). eqb s.client client) m.sessions.sessions s none there in
           ap (λ o. option_map_or (λ (c : ClientRecord). c.confirmed) o false) (at s.client ∙ ap (λ b. cond b None (client_at m.clients s.client)) other) ∙ is.confirmed s there);
+      marks = λ c. ap has_open_by (at c) ∙ gone_holds (eqb c client) (client_at m.clients c)
+          ∙ ap (λ b. not (eqb c client) && b) (is.marks c) ∙ still c (cases_eq c client);
+      opened = λ c holds. ap mark_of (at c) ∙ stays c holds (cases_eq c client);
+      numbers = is.numbers;
     }
+  where
+    nothing : (c : ℕ) → c ≡ client → has_open_in m.store c ≡ false
+    nothing c here = sym (is.marks c) ∙ ap (has_open m.clients) here ∙ unheld
+
+    still : (c : ℕ) → (c ≡ client) ⊎ (c ≢ client) → (not (eqb c client) && has_open_in m.store c) ≡ has_open_in m.store c
+    still c (inl here) = rw (eq-eqb c client here) (sym (nothing c here))
+    still c (inr other) = rw (ne_eqb c client other) refl
+
+    stays : (c : ℕ) → has_open_in m.store c ≡ true → (c ≡ client) ⊎ (c ≢ client) → mark_of (cond (eqb c client) None (client_at m.clients c)) ≡ true
+    stays c holds (inl here) = absurd (false≢true (sym (nothing c here) ∙ holds))
+    stays c holds (inr other) = rw (ne_eqb c client other) (is.opened c holds)
 
 pub of_fewer_sessions : (m : Machine) (t : SessionTable) → IsMachine m → ((s : Session) → In s t.sessions → In s m.sessions.sessions) → IsMachine (record m { sessions = t })
-of_fewer_sessions m t is fewer = record { clients = is.clients; leased = is.leased; confirmed = λ s there. is.confirmed s (fewer s there) }
+of_fewer_sessions m t is fewer = record {
+  clients = is.clients;
+  leased = is.leased;
+  confirmed = λ s there. is.confirmed s (fewer s there);
+  marks = is.marks;
+  opened = is.opened;
+  numbers = is.numbers;
+}
 
 -- A renewal, and a slot that keeps a reply.
 
@@ -126,7 +178,14 @@ renewed_some b client now c = elim (cases_Bool (eqb c client)) [
     map_some (Some x) = refl
 
 pub of_renewed : (m : Machine) (client now : ℕ) → IsMachine m → IsMachine (record m { leases = with_renewal m.leases client now })
-of_renewed m client now is = record { clients = is.clients; leased = λ c. renewed_some m.leases client now c ∙ is.leased c; confirmed = is.confirmed }
+of_renewed m client now is = record {
+  clients = is.clients;
+  leased = λ c. renewed_some m.leases client now c ∙ is.leased c;
+  confirmed = is.confirmed;
+  marks = is.marks;
+  opened = is.opened;
+  numbers = is.numbers;
+}
 
 in_slots : (t : SessionTable) (id : SessionId) (change : GrantedSlots → GrantedSlots) (s : Session) → In s (with_slots t id change).sessions → (x : Session) × In x t.sessions × (s.client ≡ x.client)
 in_slots t id change s there =
@@ -142,6 +201,9 @@ of_kept m id change is = record {
   clients = is.clients;
   leased = is.leased;
   confirmed = λ s there. (let was = in_slots m.sessions id change s there in ap (is_confirmed m.clients) was.2 ∙ is.confirmed was.0 was.1);
+  marks = is.marks;
+  opened = is.opened;
+  numbers = is.numbers;
 }
 
 -- A client's result that is kept.
@@ -172,6 +234,9 @@ of_kept_result m client result is = record {
   clients = roster_changed (keeps result) m.clients client (mild_keeps result) is.clients;
   leased = λ c. is.leased c ∙ sym (kept_is m.clients client c result);
   confirmed = λ s there. kept_mark m.clients client s.client result ∙ is.confirmed s there;
+  marks = λ c. changed_holds m.clients client c (keeps result) (mild_keeps result).id (keeps_holds result) ∙ is.marks c;
+  opened = λ c holds. kept_mark m.clients client c result ∙ is.opened c holds;
+  numbers = is.numbers;
 }
 
 -- What an id names where one record may have gone.
@@ -179,9 +244,6 @@ of_kept_result m client result is = record {
 is_id : Option ℕ → ℕ → Bool
 is_id None n = false
 is_id (Some gone) n = eqb n gone
-
-abbrev mark_of : Option ClientRecord → Bool
-mark_of o = option_map_or (λ (c : ClientRecord). c.confirmed) o false
 
 without_is : (t : Roster) (o : Option ℕ) (n : ℕ) → client_at (without_any t o) n ≡ cond (is_id o n) None (client_at t n)
 unfolding is_id
@@ -199,11 +261,7 @@ named : (t : Roster) (owner : List ℕ) (d : ClientRecord) → IsRoster t → un
 named t owner d is found =
     let there = find_in (is_unconfirmed_of owner) t.records d found in
     let tests = and_parts _ _ there.1 in
-    (at_of_in the_id (client_id t.instance 1) (next_id t) t.records d is.rising there.0, not_false d.confirmed tests.1)
-  where
-    not_false : (b : Bool) → not b ≡ true → b ≡ false
-    not_false true e = absurd cc
-    not_false false e = refl
+    (at_of_in the_id (client_id t.instance 1) (next_id t) t.records d is.rising there.0, not_true d.confirmed tests.1)
 
 -- the record that is replaced is not confirmed, and has not the next id
 
@@ -249,6 +307,12 @@ new_mark : (id n : ℕ) (new : ClientRecord) (old : Option ClientRecord) (gone :
 new_mark id n new None gone stays mark = absurd (false≢true mark)
 new_mark id n new (Some c) gone stays mark = rw stays mark
 
+-- who has an open is not the one that goes
+unheld : (gone held : Bool) → (held ≡ true → gone ≡ false) → (not gone && held) ≡ held
+unheld gone true stays = rw (stays refl) refl
+unheld true false stays = refl
+unheld false false stays = refl
+
 pub of_new : (m : Machine) (a : Ask) (now : ℕ) → IsMachine m → has_room m.clients a.owner ≡ true →
     IsMachine (record m { clients = with_new m.clients a; leases = without_any_lease (with_lease m.leases (next_id m.clients) now) (option_map the_id (unconfirmed_of m.clients a.owner)) })
 of_new m a now is room =
@@ -262,6 +326,15 @@ of_new m a now is room =
           ∙ ap is_some (sym (new_at t a n is.clients));
       confirmed = λ s there. (let mark = is.confirmed s there in
           ap mark_of (new_at t a s.client is.clients) ∙ new_mark (next_id t) s.client (new_client t a) (client_at t s.client) (is_id (option_map the_id o) s.client) (keeps_confirmed t a.owner o s.client is.clients refl mark) mark);
+      marks = λ n. ap has_open_by (new_at t a n is.clients)
+          ∙ new_holds (eqb (next_id t) n) (new_client t a) (cond (is_id (option_map the_id o) n) None (client_at t n)) refl
+          ∙ gone_holds (is_id (option_map the_id o) n) (client_at t n) ∙ ap (λ b. not (is_id (option_map the_id o) n) && b) (is.marks n)
+          ∙ unheld (is_id (option_map the_id o) n) (has_open_in m.store n) (λ holds. keeps_confirmed t a.owner o n is.clients refl (is.opened n holds));
+      opened = λ n holds. (let mark = is.opened n holds in
+          ap mark_of (new_at t a n is.clients)
+          ∙ new_mark (next_id t) n (new_client t a) (client_at t n) (is_id (option_map the_id o) n)
+          (keeps_confirmed t a.owner o n is.clients refl mark) mark);
+      numbers = is.numbers;
     }
 
 pub of_exchanged : (m : Machine) (a : Ask) (now : ℕ) (case : Case) → IsMachine m → case_of m.clients a ≡ case → IsMachine (record m { clients = (does m.clients a case).after; leases = leases_behind m.leases now (does m.clients a case).answer })
@@ -274,11 +347,13 @@ of_exchanged m a now Adds is at = of_new m a now is (room_of (has_room m.clients
 in_without : (t : SessionTable) (o : Option ℕ) (s : Session) → In s (without_any_sessions t o).sessions → In s t.sessions × (is_id o s.client ≡ false)
 unfolding is_id
 in_without t None s there = (there, refl)
-in_without t (Some gone) s there = (let kept = in_filter (λ (s : Session). not (eqb s.client gone)) t.sessions s there in (kept.0, other (eqb s.client gone) kept.1))
-  where
-    other : (b : Bool) → not b ≡ true → b ≡ false
-    other true e = absurd cc
-    other false e = refl
+in_without t (Some gone) s there = (let kept = in_filter (λ (s : Session). not (eqb s.client gone)) t.sessions s there in (kept.0, not_true (eqb s.client gone) kept.1))
+
+-- an open that is left is of somebody else
+left_open : (s : State) (o : Option ℕ) (n : ℕ) → has_open_in (without_any_opens s o) n ≡ (not (is_id o n) && has_open_in s n)
+unfolding is_id
+left_open s None n = refl
+left_open s (Some gone) n = open_staying (λ c. not (eqb c gone)) s n
 
 confirmed_at : (t : Roster) (client n : ℕ) → client_at (with_confirmed t client) n ≡
     (let f = cond (is_id (leaving t client) n) None (client_at t n) in cond (eqb n client) (option_map confirms f) f)
@@ -318,6 +393,17 @@ of_confirmed m now client body t is known sessions =
             | inl new ↦ marked (eqb s.client client) (client_at r s.client) (ap (is_client r) new ∙ known) (λ other. absurd (false≢true (sym other ∙ eq-eqb s.client client new)))
             | inr old ↦ marked (eqb s.client client) (client_at r s.client) (some_of_mark (client_at r s.client) (is.confirmed s old)) (λ other. is.confirmed s old)
           ]);
+      marks = λ n. changed_holds (with_confirmed r client) client n (keeps (Done body)) (mild_keeps (Done body)).id (keeps_holds (Done body))
+          ∙ ap has_open_by (confirmed_at r client n)
+          ∙ confirms_holds (eqb n client) (cond (is_id gone n) None (client_at r n)) ∙ gone_holds (is_id gone n) (client_at r n)
+          ∙ ap (λ b. not (is_id gone n) && b) (is.marks n) ∙ sym (left_open m.store gone n);
+      opened = λ n holds. (let left = and_parts (not (is_id gone n)) (has_open_in m.store n) (sym (left_open m.store gone n) ∙ holds) in
+          let old = is.opened n left.1 in
+          let stays : cond (is_id gone n) None (client_at r n) ≡ client_at r n = ap (λ b. cond b None (client_at r n)) (not_true (is_id gone n) left.0) in
+          kept_mark (with_confirmed r client) client n (Done body) ∙ ap mark_of (confirmed_at r client n)
+          ∙ ap (λ (f : Option ClientRecord). mark_of (cond (eqb n client) (option_map confirms f) f)) stays
+          ∙ marked (eqb n client) (client_at r n) (some_of_mark (client_at r n) old) (λ other. old));
+      numbers = numbered_without m.store gone is.numbers;
     }
 
 known_runs : (o : Option ClientRecord) (number uid : ℕ) → verdict_by o number uid ≡ clients.Runs → is_some o ≡ true
@@ -346,16 +432,18 @@ of_created m now refused c clients.Runs is known =
     let did = create m.sessions c.clientid (wish_of m c) in
     delayed m (creates m now c did) refused create_session_number is (of_made m now c (wish_of m c) (create_fault m.sessions (wish_of m c)) is (known refl))
 
--- The whole compound.
+-- The operations that stand alone.
 
-of_destroyed : (m : Machine) (client : ℕ) (o : Option DestroyFault) → IsMachine m → (o ≡ None → list_any (λ (s : Session). eqb s.client client) m.sessions.sessions ≡ false) → IsMachine (destroyed_unless m client o).machine
-of_destroyed m client None is none = of_destroyed_client m client is (none refl)
+of_destroyed : (m : Machine) (client : ℕ) (o : Option DestroyFault) → IsMachine m →
+    (o ≡ None → (list_any (λ (s : Session). eqb s.client client) m.sessions.sessions ≡ false) × (has_open m.clients client ≡ false)) → IsMachine (destroyed_unless m client o).machine
+of_destroyed m client None is none = of_destroyed_client m client is (none refl).0 (none refl).1
 of_destroyed m client (Some fault) is none = is
 
-no_sessions_left : (a b held : Bool) → cond a (Some Stale) (cond (b || held) (Some Busy) None) ≡ None → b ≡ false
-no_sessions_left true b held e = absurd cc
-no_sessions_left false true held e = absurd cc
-no_sessions_left false false held e = refl
+nothing_left : (a b held : Bool) → cond a (Some Stale) (cond (b || held) (Some Busy) None) ≡ None → (b ≡ false) × (held ≡ false)
+nothing_left true b held e = absurd cc
+nothing_left false true held e = absurd cc
+nothing_left false false true e = absurd cc
+nothing_left false false false e = (refl, refl)
 
 of_destroyed_session : (m : Machine) (sessionid : List ℕ) → IsMachine m → IsMachine (destroy_session m sessionid).machine
 of_destroyed_session m sessionid is = elim (cases_Bool (is_some (session_at m.sessions (id_of sessionid)))) [
@@ -368,7 +456,8 @@ carried m who now refused (Operation (OpExchangeId e)) is = delayed m (exchange_
 carried m who now refused (Operation (OpCreateSession c)) is = of_created m now refused c (clients.create_verdict m.clients c.clientid c.sequence who.uid) is (known_runs (client_at m.clients c.clientid) c.sequence who.uid)
 carried m who now refused (Operation (OpDestroySession sessionid)) is = of_destroyed_session m sessionid is
 carried m who now refused (Operation (OpDestroyClientId client)) is =
-    of_destroyed m client (destroy_fault m.clients client (has_session m.sessions client)) is (no_sessions_left (not (is_client m.clients client)) (has_session m.sessions client) (has_open m.clients client))
+    of_destroyed m client (destroy_fault m.clients client (has_session m.sessions client)) is
+    (nothing_left (not (is_client m.clients client)) (has_session m.sessions client) (has_open m.clients client))
 carried m who now refused i is = is
 
 first : (m : Machine) (declared : ℕ) (who : Caller) (now : ℕ) (refused : Bool) (i : Item) → IsMachine m → IsMachine (first_item m declared who now refused i).machine
@@ -378,14 +467,26 @@ first m declared who now refused i is = go (item_fault declared i)
     go None = carried m who now refused i is
     go (Some status) = is
 
+-- One operation behind a SEQUENCE, of a client that is confirmed; and whoever runs the next one is.
+
+record Stands (s : Step) : Type 0 where
+  machine : IsMachine s.outcome.machine
+  client : is_confirmed s.outcome.machine.clients s.context.client ≡ true
+
 -- a client's mark of its reclaim
-of_reclaimed : (m : Machine) (x : Context) → IsMachine m → IsMachine (of_all m x).machine
-of_reclaimed m x is = elim (cases_Bool (has_reclaimed m.clients x.client)) [
-  | inl again ↦ rw again is
+of_reclaimed : (m : Machine) (x : Context) → IsMachine m → is_confirmed m.clients x.client ≡ true → Stands (record { outcome = of_all m x; context = x })
+of_reclaimed m x is known = elim (cases_Bool (has_reclaimed m.clients x.client)) [
+  | inl again ↦ rw again (record { machine = is; client = known })
   | inr once ↦ rw once (record {
-    clients = roster_changed reclaims m.clients x.client mild_reclaims is.clients;
-    leased = λ c. is.leased c ∙ sym (reclaims_is c);
-    confirmed = λ s there. reclaims_mark s.client ∙ is.confirmed s there;
+    machine = record {
+      clients = roster_changed reclaims m.clients x.client mild_reclaims is.clients;
+      leased = λ c. is.leased c ∙ sym (reclaims_is c);
+      confirmed = λ s there. reclaims_mark s.client ∙ is.confirmed s there;
+      marks = λ c. changed_holds m.clients x.client c reclaims mild_reclaims.id (λ c. refl) ∙ is.marks c;
+      opened = λ c holds. reclaims_mark c ∙ is.opened c holds;
+      numbers = is.numbers;
+    };
+    client = reclaims_mark x.client ∙ known;
   })
 ]
   where
@@ -399,57 +500,158 @@ of_reclaimed m x is = elim (cases_Bool (has_reclaimed m.clients x.client)) [
 
     reclaims_mark : (c : ℕ) → is_confirmed (with_reclaimed m.clients x.client) c ≡ is_confirmed m.clients c
     reclaims_mark c =
-        ap (λ o. option_map_or (λ (c : ClientRecord). c.confirmed) o false) (at_with the_id reclaims mild_reclaims.id c x.client m.clients.records)
-        ∙ elim (eqb c x.client) as (λ v. option_map_or (λ (c : ClientRecord). c.confirmed) (cond v (option_map reclaims (client_at m.clients c)) (client_at m.clients c)) false ≡ is_confirmed m.clients c) [
+        ap mark_of (at_with the_id reclaims mild_reclaims.id c x.client m.clients.records)
+        ∙ elim (eqb c x.client) as (λ v. mark_of (cond v (option_map reclaims (client_at m.clients c)) (client_at m.clients c)) ≡ is_confirmed m.clients c) [
           | true ↦ map_mark reclaims (client_at m.clients c) mild_reclaims.mark
           | false ↦ refl
         ]
 
--- a client's mark of an open
-of_marked : (m : Machine) (client : ℕ) → IsMachine m → IsMachine (with_mark client m)
-of_marked m client is = record {
-  clients = roster_changed holds m.clients client (mild_holds mark) is.clients;
-  leased = λ c. is.leased c ∙ sym (holds_is c);
-  confirmed = λ s there. holds_mark s.client ∙ is.confirmed s there;
+-- an operation behind which all clients have opens as before
+of_store : (m : Machine) (s : State) → IsMachine m → Spares Everybody m.store.opens s.opens → IsMachine (record m { store = s })
+of_store m s is spares = record {
+  clients = is.clients;
+  leased = is.leased;
+  confirmed = is.confirmed;
+  marks = λ c. is.marks c ∙ sym (spares.same c tt);
+  opened = λ c holds. is.opened c (sym (spares.same c tt) ∙ holds);
+  numbers = spares.numbers;
 }
+
+spares_same : (t u : Table) → u ≡ t → AreNumbered t → Spares Everybody t u
+spares_same t u same is = subst (Spares Everybody t) (sym same) (record { same = λ c spared. refl; numbers = is })
+
+-- an operation behind which all others have, and the client's record is marked
+
+marking : Bool → ClientRecord → ClientRecord
+marking mark c = record c { has_open = mark }
+
+marking_at : (t : Roster) (client c : ℕ) (mark : Bool) →
+    client_at (with_open t client mark) c ≡ cond (eqb c client) (option_map (marking mark) (client_at t c)) (client_at t c)
+unfolding marking
+marking_at t client c mark = at_with the_id (marking mark) (mild_holds mark).id c client t.records
+
+marking_is : (t : Roster) (client c : ℕ) (mark : Bool) → is_client (with_open t client mark) c ≡ is_client t c
+marking_is t client c mark =
+    ap is_some (marking_at t client c mark)
+    ∙ elim (eqb c client) as (λ v. is_some (cond v (option_map (marking mark) (client_at t c)) (client_at t c)) ≡ is_client t c) [
+      | true ↦ map_is (marking mark) (client_at t c)
+      | false ↦ refl
+    ]
+
+marking_mark : (t : Roster) (client c : ℕ) (mark : Bool) → is_confirmed (with_open t client mark) c ≡ is_confirmed t c
+unfolding marking
+marking_mark t client c mark =
+    ap mark_of (marking_at t client c mark)
+    ∙ elim (eqb c client) as (λ v. mark_of (cond v (option_map (marking mark) (client_at t c)) (client_at t c)) ≡ is_confirmed t c) [
+      | true ↦ map_mark (marking mark) (client_at t c) (mild_holds mark).mark
+      | false ↦ refl
+    ]
+
+marking_holds : (mark : Bool) (o : Option ClientRecord) → is_some o ≡ true → has_open_by (option_map (marking mark) o) ≡ mark
+unfolding marking
+marking_holds mark None there = absurd (false≢true there)
+marking_holds mark (Some c) there = refl
+
+of_marked : (m : Machine) (client : ℕ) (s : State) → IsMachine m → is_confirmed m.clients client ≡ true →
+    Spares (OthersThan client) m.store.opens s.opens → IsMachine (with_mark client (record m { store = s }))
+of_marked m client s is known spares =
+    let mark = has_open_in s client in
+    record {
+      clients = roster_changed (λ c. record c { has_open = mark }) m.clients client (mild_holds mark) is.clients;
+      leased = λ c. is.leased c ∙ sym (marking_is m.clients client c mark);
+      confirmed = λ t there. marking_mark m.clients client t.client mark ∙ is.confirmed t there;
+      marks = λ c. ap has_open_by (marking_at m.clients client c mark) ∙ marks_at c (cases_eq c client);
+      opened = λ c holds. marking_mark m.clients client c mark ∙ opened_at c holds (cases_eq c client);
+      numbers = spares.numbers;
+    }
   where
-    mark : Bool
-    mark = has_open_in m.store client
+    marks_at : (c : ℕ) → (c ≡ client) ⊎ (c ≢ client) →
+        has_open_by (cond (eqb c client) (option_map (marking (has_open_in s client)) (client_at m.clients c)) (client_at m.clients c)) ≡ has_open_in s c
+    marks_at c (inl here) = rw (eq-eqb c client here)
+        (marking_holds (has_open_in s client) (client_at m.clients c) (some_of_mark (client_at m.clients c) (ap (is_confirmed m.clients) here ∙ known))
+        ∙ ap (has_open_in s) (sym here))
+    marks_at c (inr other) = rw (ne_eqb c client other) (is.marks c ∙ sym (spares.same c other))
 
-    holds : ClientRecord → ClientRecord
-    holds c = record c { has_open = mark }
+    opened_at : (c : ℕ) → has_open_in s c ≡ true → (c ≡ client) ⊎ (c ≢ client) → is_confirmed m.clients c ≡ true
+    opened_at c holds (inl here) = ap (is_confirmed m.clients) here ∙ known
+    opened_at c holds (inr other) = is.opened c (sym (spares.same c other) ∙ holds)
 
-    holds_is : (c : ℕ) → is_client (with_open m.clients client mark) c ≡ is_client m.clients c
-    holds_is c =
-        ap is_some (at_with the_id holds (mild_holds mark).id c client m.clients.records)
-        ∙ elim (eqb c client) as (λ v. is_some (cond v (option_map holds (client_at m.clients c)) (client_at m.clients c)) ≡ is_client m.clients c) [ true ↦ map_is holds (client_at m.clients c) | false ↦ refl ]
+of_step : (m : Machine) (x : Context) (now : ℕ) (refused : Bool) (i : Item) → IsMachine m → is_confirmed m.clients x.client ≡ true →
+    Stands (step m x now refused i)
+of_step m x now refused i is known = elim (cases_Bool (names.on_names i)) [
+  | inl on ↦ rw on (by_names (names.comes_to refused m.store x (moment now) i) (leaves_item refused m.store x (moment now) i))
+  | inr off ↦ rw off (elim (cases_Bool (files.on_files i)) [ inl on ↦ rw on (by_mark (moves_opens i) refl) | inr other ↦ rw other (by_item i) ])
+]
+  where
+    by_names : (o : OfStore) → Leaves m.store x o.state o.context → Stands (on_store m o)
+    by_names o left = record {
+      machine = of_store m o.state is (spares_same m.store.opens o.state.opens left.opens is.numbers);
+      client = ap (is_confirmed m.clients) left.client ∙ known;
+    }
 
-    holds_mark : (c : ℕ) → is_confirmed (with_open m.clients client mark) c ≡ is_confirmed m.clients c
-    holds_mark c =
-        ap (λ o. option_map_or (λ (c : ClientRecord). c.confirmed) o false) (at_with the_id holds (mild_holds mark).id c client m.clients.records)
-        ∙ elim (eqb c client) as (λ v. option_map_or (λ (c : ClientRecord). c.confirmed) (cond v (option_map holds (client_at m.clients c)) (client_at m.clients c)) false ≡ is_confirmed m.clients c) [
-          | true ↦ map_mark holds (client_at m.clients c) (mild_holds mark).mark
-          | false ↦ refl
-        ]
+    by_mark : (moves : Bool) → moves_opens i ≡ moves → Stands (marked_if moves x.client (on_store m (files.comes_to refused m.store x (moment now) i)))
+    by_mark true can =
+        let o = files.comes_to refused m.store x (moment now) i in
+        let own = spares_others refused m.store x (moment now) i is.numbers in
+        record {
+          machine = of_marked m x.client o.state is known own.opens;
+          client = marking_mark m.clients x.client o.context.client (has_open_in o.state x.client) ∙ ap (is_confirmed m.clients) own.client ∙ known;
+        }
+    by_mark false cannot =
+        let o = files.comes_to refused m.store x (moment now) i in
+        let all = spares_all refused m.store x (moment now) i (λ a same. false≢true (sym cannot ∙ ap moves_opens same))
+        (λ a same. false≢true (sym cannot ∙ ap moves_opens same)) is.numbers in
+        record { machine = of_store m o.state is all.opens; client = ap (is_confirmed m.clients) all.client ∙ known }
 
-machine_kept : IsKept IsMachine
-machine_kept = record {
-  stored = λ m s is. record { clients = is.clients; leased = is.leased; confirmed = is.confirmed };
-  reclaimed = of_reclaimed;
-  marked = of_marked;
-}
+    one : (found : Result Held Status) → Stands (record { outcome = of_one m found; context = x })
+    one (Ok d) = record { machine = is; client = known }
+    one (Err status) = record { machine = is; client = known }
 
-sequenced_kept : (m : Machine) (r : Request) (who : Caller) (now : ℕ) (choice : Option ℕ) (s : Sequence) (more : List Item) (v : Sequenced) → IsMachine m → IsMachine (in_session m r who now choice s more v).machine
-sequenced_kept m r who now choice s more (sequence.Refuses status) is = is
-sequenced_kept m r who now choice s more (sequence.Repeats reply) is = is
-sequenced_kept m r who now choice s more (sequence.Runs c) is =
+    reclaim : (one_fs : Bool) → Stands (record { outcome = reclaim_complete m x one_fs; context = x })
+    reclaim true = one (current m.store x)
+    reclaim false = of_reclaimed m x is known
+
+    by_item : (i : Item) → Stands (otherwise m x i)
+    by_item (Operation (OpReclaimComplete one_fs)) = reclaim one_fs
+    by_item i = record { machine = is; client = known }
+
+of_run : (limit sofar now : ℕ) (choice : Option ℕ) (m : Machine) (x : Context) (items : List Item) → IsMachine m → is_confirmed m.clients x.client ≡ true →
+    IsMachine (run limit sofar now choice m x items).machine
+of_run limit sofar now choice m x [] is known = is
+of_run limit sofar now choice m x (i ∷ more) is known =
+    let s = in_room limit sofar now (is_here choice) m x i in
+    let one : Stands s = elim (cases_Bool (ltb limit (sofar + largest i + reserve))) [
+      | inl big ↦ rw big (record { machine = is; client = known })
+      | inr fits ↦ rw fits (of_step m x now (is_here choice) i is known)
+    ] in
+    follow_kept IsMachine s.outcome (run limit (sofar + length s.outcome.result) now (behind_here choice) s.outcome.machine s.context more) one.machine
+    (of_run limit (sofar + length s.outcome.result) now (behind_here choice) s.outcome.machine s.context more one.machine one.client)
+
+-- the session in which a request runs stands, so its client is confirmed
+runs_for : (m : Machine) (r : Request) (who : Caller) (size : ℕ) (s : Sequence) (c : Channel) → IsMachine m → sequenced m r who size s ≡ sequence.Runs c →
+    is_confirmed m.clients (id_of s.sessionid).client ≡ true
+runs_for m r who size s c is runs =
+    let fresh = runs_means r who size s (session_at m.sessions (id_of s.sessionid)) c runs in
+    let found = find_in (is_session (id_of s.sessionid)) m.sessions.sessions fresh.session fresh.found in
+    let tests = and_parts _ _ found.1 in
+    ap (is_confirmed m.clients) (sym (eqb-true _ _ tests.1)) ∙ is.confirmed fresh.session found.0
+
+-- The whole compound.
+
+sequenced_kept : (m : Machine) (r : Request) (who : Caller) (size now : ℕ) (choice : Option ℕ) (s : Sequence) (more : List Item) (v : Sequenced) →
+    IsMachine m → sequenced m r who size s ≡ v → IsMachine (in_session m r who now choice s more v).machine
+sequenced_kept m r who size now choice s more (sequence.Refuses status) is comes = is
+sequenced_kept m r who size now choice s more (sequence.Repeats reply) is comes = is
+sequenced_kept m r who size now choice s more (sequence.Runs c) is comes =
     let ran = run_in (renewed m now s) r who now (behind_here choice) s c more in
     of_kept ran.machine (id_of s.sessionid) _
-    (kept_run IsMachine machine_kept c.response (begun r s c) now (behind_here choice) (renewed m now s) (begins (id_of s.sessionid).client who) more (of_renewed m (id_of s.sessionid).client now is))
+    (of_run c.response (begun r s c) now (behind_here choice) (renewed m now s) (begins (id_of s.sessionid).client who) more
+    (of_renewed m (id_of s.sessionid).client now is)
+    (runs_for m r who size s c is comes))
 
 items_kept : (m : Machine) (r : Request) (who : Caller) (size now : ℕ) (choice : Option ℕ) (items : List Item) → IsMachine m → IsMachine (by_first m r who size now choice items).machine
 items_kept m r who size now choice [] is = is
-items_kept m r who size now choice (Operation (OpSequence s) ∷ more) is = sequenced_kept m r who now choice s more (sequenced m r who size s) is
+items_kept m r who size now choice (Operation (OpSequence s) ∷ more) is = sequenced_kept m r who size now choice s more (sequenced m r who size s) is refl
 items_kept m r who size now choice (item ∷ more) is = first m r.declared who now (is_here choice) item is
 
 pub of_compound : (m : Machine) (r : Request) (who : Caller) (size now : ℕ) (choice : Option ℕ) → IsMachine m → IsMachine (compound m r who size now choice).machine

@@ -10,6 +10,7 @@ pub mod Creating
 pub mod Standing
 pub mod Keeping
 pub mod Whole
+pub mod Marks
 pub mod Invariant
 pub mod Latest
 pub mod Repeating

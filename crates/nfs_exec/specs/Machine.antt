@@ -1,12 +1,13 @@
 -- What stands between two records: the meanings of the server's tables; and what one operation comes to.
-use Rattle.std.specs.Prelude.{◌≡◌, ℕ, Bool, true, false, ◌==◌, ◌&&◌, List, is_some, if◌then◌else◌}
+use Rattle.std.specs.Prelude.{◌≡◌, ℕ, suc, Bool, true, false, ◌==◌, ◌&&◌, List, is_some, if◌then◌else◌}
 use Rattle.std.specs.Option.{option_map_or}
 use Rattle.nfs_xdr.specs.declared.status.Status.{Status}
 use Rattle.nfs_xdr.specs.declared.status.Status.TheVariants.{Nfs4Ok, Delay}
 use Rattle.nfs_xdr.specs.Status.{status_number}
-use Rattle.nfs_xdr.specs.Tables.{In}
+use Rattle.nfs_xdr.specs.Tables.{IsRising, In}
 use Rattle.nfs_clients.specs.Roster.{Roster, IsRoster, no_clients, client_at}
 use Rattle.nfs_clients.specs.Marks.{with_open}
+use Rattle.nfs_clients.specs.Marks as marked
 use Rattle.nfs_names.specs.Ending.{has_open}
 use Rattle.nfs_sessions.specs.Sessions.{Session, SessionTable, no_sessions}
 use Rattle.nfs_lease.specs.Renewals.{Book, no_leases}
@@ -64,9 +65,17 @@ is_client t client = is_some (client_at t client)
 abbrev pub is_confirmed : Roster → ℕ → Bool
 is_confirmed t client = option_map_or (λ c. c.confirmed) (client_at t client) false
 
--- What holds of every machine that records reach: client ids rise and no owner has two records of one kind; a client record
--- has a lease and nothing else has one; and the client of each session is there and confirmed.
+-- What holds of every machine that records reach.
 pub record IsMachine (m : Machine) : Type 0 where
+  -- client ids rise, and no owner has two records of one kind
   pub clients : IsRoster m.clients
+  -- a client record has a lease, and nothing else has one
   pub leased : (client : ℕ) → is_some (m.leases.renewed client) ≡ is_client m.clients client
+  -- the client of each session is there and confirmed
   pub confirmed : (s : Session) → In s m.sessions.sessions → is_confirmed m.clients s.client ≡ true
+  -- a client record has the mark of an open where an open of the client stands, and nowhere else
+  pub marks : (client : ℕ) → marked.has_open m.clients client ≡ has_open m.store client
+  -- who has an open is there and confirmed
+  pub opened : (client : ℕ) → has_open m.store client ≡ true → is_confirmed m.clients client ≡ true
+  -- the numbers of opens rise, and were all given
+  pub numbers : IsRising (λ o. o.number) 1 m.store.opens.opens (suc m.store.opens.last)

@@ -3,7 +3,7 @@
 ghost use Rattle.std.specs.Prelude.{◌≡◌, ◌≤◌, ◌<◌, ◌^◌, ℕ, Option, IfOk, length};
 ghost use Rattle.nfs_xdr.specs.Caller.{caller};
 ghost use Rattle.nfs_lease.specs.Renewals.{IsLatest};
-ghost use Rattle.nfs_exec.specs.Machine.{starts};
+ghost use Rattle.nfs_exec.specs.Machine.{starts, IsMachine};
 ghost use Rattle.nfs_exec.specs.Compound.{compound, IsOpened, HasReplyRoom, Answers};
 ghost use Rattle.nfs_exec.specs.Expiry.{expired};
 ghost use Rattle.nfs_exec.specs.Laws.{HasNoClashes};
@@ -81,6 +81,14 @@ impl World {
         ensures { HasNoClashes (machine_of self.now) }
     {
         self.tables.store.kept();
+    }
+
+    /// The tables agree in every world: a client record has a lease, and the mark of an open where one of the client's opens
+    /// stands, and nothing else has; who has a session or an open is there and confirmed. This does nothing but say so.
+    pub fn tables_agree(&self)
+        ensures { IsMachine (machine_of self.now) }
+    {
+        let _tables = &self.tables;
     }
 
     /// Takes away what has run out at the moment `now`, in seconds (RFC 8881 section 8.3): the clients whose last renewal is

@@ -20,5 +20,6 @@ pub mod OpensKept
 pub mod Closed
 pub mod OpenAnswers
 pub mod Granted
+pub mod OwnOpens
 pub mod Arms
 pub mod Whole

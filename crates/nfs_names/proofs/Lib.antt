@@ -12,3 +12,4 @@ pub mod Arms
 pub mod Entering
 pub mod Listed
 pub mod Staying
+pub mod Untouched

@@ -2,6 +2,7 @@ ghost use Rattle.std.specs.Prelude.{◌≡◌, ◌≤◌, ◌^◌, ◌+◌, ◌+
 ghost use Rattle.nfs_xdr.specs.Spelling.{number};
 ghost use Rattle.nfs_rpc.specs.View as view;
 ghost use Rattle.nfs_exec.specs.Laws.{HasNoClashes};
+ghost use Rattle.nfs_exec.specs.Machine.{IsMachine};
 ghost use Rattle.nfs_serve.specs.Step.{State, step, new_state, by_procedure};
 ghost use Rattle.nfs_serve.specs.Run.{one_fragment, spell_reply, spell_answer};
 ghost use Rattle.nfs_serve.specs.Server.{IsAnswer};
@@ -103,6 +104,13 @@ impl Engine {
         ensures { HasNoClashes (state_of self.now.kept).machine }
     {
         self.world.no_clash();
+    }
+
+    /// The tables of clients, sessions, leases and opens agree; this does nothing but say so.
+    pub fn tables_agree(&self)
+        ensures { IsMachine (state_of self.now.kept).machine }
+    {
+        self.world.tables_agree();
     }
 
     /// The reply that was made last.

@@ -1,5 +1,6 @@
 ghost use Rattle.std.specs.Prelude.{◌≡◌, ◌≢◌, ◌≤◌, ◌^◌, [], false, IfOk, OnErr, replicate};
 ghost use Rattle.nfs_exec.specs.Laws.{HasNoClashes};
+ghost use Rattle.nfs_exec.specs.Machine.{IsMachine};
 ghost use Rattle.nfs_serve.specs.Server.{fresh, held_on, IsWith, Steps, FeedsOr, Closes, IsNew};
 ghost use Rattle.nfs_serve.specs.Engine.{state_of};
 ghost use Rattle.nfs_serve.specs.Replay.{Replays, Tells};
@@ -84,6 +85,14 @@ impl Server {
         ensures { HasNoClashes (state_of self.now.kept).machine }
     {
         self.engine.no_clash();
+    }
+
+    /// In every state that a server reaches a client record has a lease, and the mark of an open where one of the client's opens
+    /// stands, and nothing else has; who has a session or an open is there and confirmed. This does nothing but say so.
+    pub fn tables_agree(&self)
+        ensures { IsMachine (state_of self.now.kept).machine }
+    {
+        self.engine.tables_agree();
     }
 
     /// The reply to the record that [`Server::record`] stepped last, without a record mark: no bytes where it was silent, and none
