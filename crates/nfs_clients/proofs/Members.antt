@@ -1,15 +1,19 @@
 -- What keeps every fact of a roster.
-use Rattle.std.proofs.Common.{◌≡◌, ℕ, ◌+◌, ◌<◌, ◌≤◌, Bool, true, false, cond, not, eqb, ltb, List, [], ◌∷◌, ◌++◌, map, length, Option, Some, None, refl, sym, ◌∙◌, ap, subst, arith, inl, inr, length-append}
+use Rattle.std.proofs.Common.{◌≡◌, ℕ, ◌+◌, ◌<◌, ◌≤◌, Bool, true, false, cond, not, eqb, ltb, List, [], ◌∷◌, ◌++◌, map, length, Option, Some, None, refl, sym}
+use Rattle.std.proofs.Common.{◌∙◌, ap, subst, arith, inl, inr, length-append}
 use Rattle.std.specs.Prelude.{◌==◌, if◌then◌else◌, find, filter, is_some, ◌||◌, bytes_eq, option_map}
 use Rattle.std.proofs.lemmas.Bool.{cases_Bool, cases_eq, ne_eqb, eq-eqb, ltb-true, and_parts, false≢true}
 use Rattle.std.proofs.lemmas.Slice.Eq.{bytes_eq-Decides}
 use Rattle.std.proofs.lemmas.List.{length-map}
 use Rattle.nfs_xdr.specs.Tables.{In}
-use Rattle.nfs_xdr.proofs.Tables.{in_filter, in_push, in_map, find_in, none_in, map_same, filter_in, filter_all, length_filter, length_left, IsRising-push, IsRising-map, IsRising-filter, in_once, at_of_in, at_above}
+use Rattle.nfs_xdr.proofs.Tables.{in_filter, in_push, in_map, find_in, none_in, map_same, filter_in, filter_all, length_filter, length_left, IsRising-push}
+use Rattle.nfs_xdr.proofs.Tables.{IsRising-map, IsRising-filter, in_once, at_of_in, at_above}
 use Rattle.nfs_clients.specs.declared.created.CreateResult.{CreateResult}
-use Rattle.nfs_clients.specs.Roster.{ClientRecord, Roster, IsRoster, id_of, next_id, client_at, is_unconfirmed_of, unconfirmed_of, with_changed, without, most_records, last_counter}
+use Rattle.nfs_clients.specs.Roster.{ClientRecord, Roster, IsRoster, id_of, next_id, client_at, is_unconfirmed_of, unconfirmed_of, with_changed, without}
+use Rattle.nfs_clients.specs.Roster.{most_records, last_counter}
 use Rattle.nfs_clients.specs.ExchangeId.{Ask, has_room, with_new, new_client}
-use Rattle.nfs_clients.specs.CreateSession.{following, uses_up, keeps, with_kept, is_other_confirmed_of, leaving, leaving_by, without_any, confirms, with_confirmed}
+use Rattle.nfs_clients.specs.CreateSession.{following, uses_up, keeps, with_kept, is_other_confirmed_of, leaving, leaving_by, without_any, confirms}
+use Rattle.nfs_clients.specs.CreateSession.{with_confirmed}
 
 abbrev pub the_id : ClientRecord → ℕ
 the_id c = c.id
@@ -76,15 +80,19 @@ roster_without_any t (Some n) is = roster_without t n is
 pub mild_keeps : (result : CreateResult) → IsMild (keeps result)
 mild_keeps result = record {
   id = λ c. elim (uses_up result) as (λ v. (cond v (record c { number = following c.number; kept = Some result }) c).id ≡ c.id) [ true ↦ refl | false ↦ refl ];
-  owner = λ c. elim (uses_up result) as (λ v. (cond v (record c { number = following c.number; kept = Some result }) c).owner ≡ c.owner) [ true ↦ refl | false ↦ refl ];
-  mark = λ c. elim (uses_up result) as (λ v. (cond v (record c { number = following c.number; kept = Some result }) c).confirmed ≡ c.confirmed) [ true ↦ refl | false ↦ refl ];
+  owner = λ c. elim (uses_up result) as (λ v. (cond v (record c { number = following c.number; kept = Some result }) c).owner ≡ c.owner)
+      [ true ↦ refl | false ↦ refl ];
+  mark = λ c. elim (uses_up result) as (λ v. (cond v (record c { number = following c.number; kept = Some result }) c).confirmed ≡ c.confirmed)
+      [ true ↦ refl | false ↦ refl ];
 }
 
-pub keeps_used : (result : CreateResult) (c : ClientRecord) → uses_up result ≡ true → record c { number = following c.number; kept = Some result } ≡ keeps result c
+pub keeps_used : (result : CreateResult) (c : ClientRecord) → uses_up result ≡ true
+    → record c { number = following c.number; kept = Some result } ≡ keeps result c
 keeps_used result c up = rw up refl
 
 pub not_kept : (t : Roster) (n : ℕ) (result : CreateResult) → uses_up result ≡ false → t ≡ with_kept t n result
-not_kept t n result not_up = sym (ap (λ xs. record t { records = xs }) (map_same (change_at n (keeps result)) (λ c. elim (eqb c.id n) as (λ v. cond v (keeps result c) c ≡ c) [ true ↦ rw not_up refl | false ↦ refl ]) t.records))
+not_kept t n result not_up = sym (ap (λ xs. record t { records = xs })
+    (map_same (change_at n (keeps result)) (λ c. elim (eqb c.id n) as (λ v. cond v (keeps result c) c ≡ c) [ true ↦ rw not_up refl | false ↦ refl ]) t.records))
 
 -- A confirmation.
 
@@ -102,7 +110,8 @@ not_left : (t : Roster) (n : ℕ) (y : ClientRecord) → In y (without t n).reco
 not_left t n y there same = false≢true (sym (ap not (eq-eqb y.id n same)) ∙ (in_filter (λ c. not (eqb c.id n)) t.records y there).1)
 
 -- what is left has no other confirmed record of the owner
-only_one_left : (t : Roster) (n : ℕ) → IsRoster t → (x y : ClientRecord) → In x t.records → In y (without_any t (leaving t n)).records → x.id ≡ n → y.owner ≡ x.owner → y.confirmed ≡ true → y.id ≡ n
+only_one_left : (t : Roster) (n : ℕ) → IsRoster t → (x y : ClientRecord) → In x t.records
+    → In y (without_any t (leaving t n)).records → x.id ≡ n → y.owner ≡ x.owner → y.confirmed ≡ true → y.id ≡ n
 only_one_left t n is x y a b here owner mark =
     elim (cases_eq y.id x.id) [
       | inl same ↦ same ∙ here
@@ -113,32 +122,39 @@ only_one_left t n is x y a b here owner mark =
     it_is = ap (client_at t) (sym here) ∙ at_of_in the_id (id_of t.instance 1) (next_id t) t.records x is.rising a
 
     by_found : (o : Option ClientRecord) → find (is_other_confirmed_of x) t.records ≡ o → (y.id ≡ x.id → ⊥) → y.id ≡ n
-    by_found None e other = absurd (false≢true (sym (none_in (is_other_confirmed_of x) t.records y e (in_left t (leaving t n) y b)) ∙ is_other x y owner mark other))
+    by_found None e other =
+        absurd (false≢true (sym (none_in (is_other_confirmed_of x) t.records y e (in_left t (leaving t n) y b)) ∙ is_other x y owner mark other))
     by_found (Some d) e other =
         let leaves : leaving t n ≡ Some d.id = ap (leaving_by t) it_is ∙ ap (option_map the_id) e in
         let b' : In y (without t d.id).records = subst (λ o. In y (without_any t o).records) leaves b in
         let found = find_in (is_other_confirmed_of x) t.records d e in
         let tests = and_parts _ _ found.1 in
         let marked = and_parts _ _ tests.0 in
-        let same : y ≡ d = is.alone y d (in_left t (Some d.id) y b') found.0 (owner ∙ sym ((bytes_eq-Decides d.owner x.owner).0 marked.0)) (mark ∙ sym marked.1) in
+        let same : y ≡ d = is.alone y d (in_left t (Some d.id) y b') found.0
+        (owner ∙ sym ((bytes_eq-Decides d.owner x.owner).0 marked.0)) (mark ∙ sym marked.1) in
         absurd (not_left t d.id y b' (ap the_id same))
 
 pub confirmed_id : (n : ℕ) (c : ClientRecord) → (change_at n confirms c).id ≡ c.id
 confirmed_id n c = elim (eqb c.id n) as (λ v. (cond v (confirms c) c).id ≡ c.id) [ true ↦ refl | false ↦ refl ]
 
 -- one record is confirmed, and no other confirmed one has its owner
-alone_confirmed : (t : Roster) (n : ℕ) → IsRoster t → ((x y : ClientRecord) → In x t.records → In y t.records → x.id ≡ n → y.owner ≡ x.owner → y.confirmed ≡ true → y.id ≡ n)
-    → (x y : ClientRecord) → In x t.records → In y t.records → (change_at n confirms x).owner ≡ (change_at n confirms y).owner → (change_at n confirms x).confirmed ≡ (change_at n confirms y).confirmed
+alone_confirmed : (t : Roster) (n : ℕ) → IsRoster t
+    → ((x y : ClientRecord) → In x t.records → In y t.records → x.id ≡ n → y.owner ≡ x.owner → y.confirmed ≡ true → y.id ≡ n)
+    → (x y : ClientRecord) → In x t.records → In y t.records → (change_at n confirms x).owner ≡ (change_at n confirms y).owner
+    → (change_at n confirms x).confirmed ≡ (change_at n confirms y).confirmed
     → change_at n confirms x ≡ change_at n confirms y
 alone_confirmed t n is only x y a b owner mark =
     elim (cases_eq x.id n) [
       | inl x_is ↦ elim (cases_eq y.id n) [
         | inl y_is ↦ ap (change_at n confirms) (in_once the_id (id_of t.instance 1) (next_id t) t.records x y is.rising a b (x_is ∙ sym y_is))
-        | inr y_not ↦ absurd (y_not (only x y a b x_is (sym (rw (eq-eqb x.id n x_is, ne_eqb y.id n y_not) at owner)) (sym (rw (eq-eqb x.id n x_is, ne_eqb y.id n y_not) at mark))))
+        | inr y_not ↦ absurd (y_not
+            (only x y a b x_is (sym (rw (eq-eqb x.id n x_is, ne_eqb y.id n y_not) at owner)) (sym (rw (eq-eqb x.id n x_is, ne_eqb y.id n y_not) at mark))))
       ]
       | inr x_not ↦ elim (cases_eq y.id n) [
-        | inl y_is ↦ absurd (x_not (only y x b a y_is (rw (ne_eqb x.id n x_not, eq-eqb y.id n y_is) at owner) (rw (ne_eqb x.id n x_not, eq-eqb y.id n y_is) at mark)))
-        | inr y_not ↦ rw (ne_eqb x.id n x_not, ne_eqb y.id n y_not) (is.alone x y a b (rw (ne_eqb x.id n x_not, ne_eqb y.id n y_not) at owner) (rw (ne_eqb x.id n x_not, ne_eqb y.id n y_not) at mark))
+        | inl y_is ↦
+            absurd (x_not (only y x b a y_is (rw (ne_eqb x.id n x_not, eq-eqb y.id n y_is) at owner) (rw (ne_eqb x.id n x_not, eq-eqb y.id n y_is) at mark)))
+        | inr y_not ↦ rw (ne_eqb x.id n x_not, ne_eqb y.id n y_not)
+            (is.alone x y a b (rw (ne_eqb x.id n x_not, ne_eqb y.id n y_not) at owner) (rw (ne_eqb x.id n x_not, ne_eqb y.id n y_not) at mark))
       ]
     ]
 
@@ -188,27 +204,36 @@ roster_new t a is room =
       alone = λ c d there there' owner mark. elim (in_push rest (new_client t a) c there) [
         | inl c_new ↦ elim (in_push rest (new_client t a) d there') [
           | inl d_new ↦ c_new ∙ sym d_new
-          | inr d_old ↦ absurd (still_there t a d d_old (sym owner ∙ ap (λ (c : ClientRecord). c.owner) c_new) (sym mark ∙ ap (λ (c : ClientRecord). c.confirmed) c_new))
+          | inr d_old ↦
+              absurd (still_there t a d d_old (sym owner ∙ ap (λ (c : ClientRecord). c.owner) c_new) (sym mark ∙ ap (λ (c : ClientRecord). c.confirmed) c_new))
         ]
         | inr c_old ↦ elim (in_push rest (new_client t a) d there') [
-          | inl d_new ↦ absurd (still_there t a c c_old (owner ∙ ap (λ (c : ClientRecord). c.owner) d_new) (mark ∙ ap (λ (c : ClientRecord). c.confirmed) d_new))
-          | inr d_old ↦ is.alone c d (in_filter (λ c. not (is_unconfirmed_of a.owner c)) t.records c c_old).0 (in_filter (λ c. not (is_unconfirmed_of a.owner c)) t.records d d_old).0 owner mark
+          | inl d_new ↦
+              absurd (still_there t a c c_old (owner ∙ ap (λ (c : ClientRecord). c.owner) d_new) (mark ∙ ap (λ (c : ClientRecord). c.confirmed) d_new))
+          | inr d_old ↦ is.alone c d (in_filter (λ c. not (is_unconfirmed_of a.owner c)) t.records c c_old).0
+              (in_filter (λ c. not (is_unconfirmed_of a.owner c)) t.records d d_old).0 owner mark
         ]
       ];
       few = (let long : length (rest ++ new_client t a ∷ []) ≡ length rest + 1 = length-append rest (new_client t a ∷ []) in
           let fits = room_few (is_some (unconfirmed_of t a.owner)) (ltb (length t.records) most_records) (length rest) (length t.records) most_records parts.1
-          (length_left (is_unconfirmed_of a.owner) t.records) (ltb-true (length t.records) most_records) (length_filter (λ c. not (is_unconfirmed_of a.owner c)) t.records) is.few in omega arith);
+          (length_left (is_unconfirmed_of a.owner) t.records) (ltb-true (length t.records) most_records)
+          (length_filter (λ c. not (is_unconfirmed_of a.owner c)) t.records) is.few in omega arith);
       counter = omega arith;
       instance = is.instance;
     }
   where
-    still_there : (t : Roster) (a : Ask) (d : ClientRecord) → In d (filter (λ c. not (is_unconfirmed_of a.owner c)) t.records) → d.owner ≡ a.owner → d.confirmed ≡ false → ⊥
-    still_there t a d there same mark = false≢true (sym (ap not (is_unconfirmed a.owner d same mark)) ∙ (in_filter (λ c. not (is_unconfirmed_of a.owner c)) t.records d there).1)
+    still_there : (t : Roster) (a : Ask) (d : ClientRecord)
+        → In d (filter (λ c. not (is_unconfirmed_of a.owner c)) t.records) → d.owner ≡ a.owner → d.confirmed ≡ false → ⊥
+    still_there t a d there same mark =
+        false≢true (sym (ap not (is_unconfirmed a.owner d same mark)) ∙ (in_filter (λ c. not (is_unconfirmed_of a.owner c)) t.records d there).1)
 
 -- the owner's unconfirmed record goes by its id: it has no other
-pub without_unconfirmed : (t : Roster) (owner : List ℕ) → IsRoster t → (o : Option ClientRecord) → unconfirmed_of t owner ≡ o → (without_any t (option_map the_id o)).records ≡ filter (λ c. not (is_unconfirmed_of owner c)) t.records
-without_unconfirmed t owner is None e = sym (filter_all (λ c. not (is_unconfirmed_of owner c)) t.records (λ c there. ap not (none_in (is_unconfirmed_of owner) t.records c e there)))
-without_unconfirmed t owner is (Some d) e = filter_in (λ c. not (eqb c.id d.id)) (λ c. not (is_unconfirmed_of owner c)) t.records (λ c there. ap not (same_test c there))
+pub without_unconfirmed : (t : Roster) (owner : List ℕ) → IsRoster t → (o : Option ClientRecord) → unconfirmed_of t owner ≡ o
+    → (without_any t (option_map the_id o)).records ≡ filter (λ c. not (is_unconfirmed_of owner c)) t.records
+without_unconfirmed t owner is None e =
+    sym (filter_all (λ c. not (is_unconfirmed_of owner c)) t.records (λ c there. ap not (none_in (is_unconfirmed_of owner) t.records c e there)))
+without_unconfirmed t owner is (Some d) e =
+    filter_in (λ c. not (eqb c.id d.id)) (λ c. not (is_unconfirmed_of owner c)) t.records (λ c there. ap not (same_test c there))
   where
     found : In d t.records × (is_unconfirmed_of owner d ≡ true)
     found = find_in (is_unconfirmed_of owner) t.records d e
@@ -216,7 +241,9 @@ without_unconfirmed t owner is (Some d) e = filter_in (λ c. not (eqb c.id d.id)
     same_test : (c : ClientRecord) → In c t.records → eqb c.id d.id ≡ is_unconfirmed_of owner c
     same_test c there = elim (cases_Bool (is_unconfirmed_of owner c)) [
       | inl passes ↦ (let p = and_parts _ _ passes in let q = and_parts _ _ found.1 in
-          let one : c ≡ d = is.alone c d there found.0 ((bytes_eq-Decides c.owner owner).0 p.0 ∙ sym ((bytes_eq-Decides d.owner owner).0 q.0)) (not_true c.confirmed p.1 ∙ sym (not_true d.confirmed q.1)) in
+          let one : c ≡ d = is.alone c d there found.0 ((bytes_eq-Decides c.owner owner).0 p.0 ∙ sym ((bytes_eq-Decides d.owner owner).0 q.0))
+          (not_true c.confirmed p.1 ∙ sym (not_true d.confirmed q.1)) in
           eq-eqb c.id d.id (ap the_id one) ∙ sym passes)
-      | inr fails ↦ ne_eqb c.id d.id (λ same. false≢true (sym fails ∙ ap (is_unconfirmed_of owner) (in_once the_id (id_of t.instance 1) (next_id t) t.records c d is.rising there found.0 same) ∙ found.1)) ∙ sym fails
+      | inr fails ↦ ne_eqb c.id d.id (λ same. false≢true (sym fails
+          ∙ ap (is_unconfirmed_of owner) (in_once the_id (id_of t.instance 1) (next_id t) t.records c d is.rising there found.0 same) ∙ found.1)) ∙ sym fails
     ]

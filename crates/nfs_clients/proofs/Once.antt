@@ -8,9 +8,11 @@ use Rattle.nfs_clients.specs.ExchangeId.{Ask, Case, Refuses, Tells, Adds, has_ro
 use Rattle.nfs_clients.specs.CreateSession.{keeps, leaving, without_any, confirms}
 use Rattle.nfs_clients.specs.DestroyClientId.{destroy_fault, without_unless}
 use Rattle.nfs_clients.specs.declared.destroy.DestroyFault.{DestroyFault}
-use Rattle.nfs_clients.specs.Laws.{Change, Exchanges, Confirms, Keeps, Reclaims, Holds, Destroys, Removes, changed, after_all, IdsAreGivenOnce, TablesAreInOrder}
+use Rattle.nfs_clients.specs.Laws.{Change, Exchanges, Confirms, Keeps, Reclaims, Holds, Destroys, Removes, changed, after_all, IdsAreGivenOnce}
+use Rattle.nfs_clients.specs.Laws.{TablesAreInOrder}
 use Rattle.nfs_clients.specs.Roster.{confirmed_of}
-use Rattle.nfs_clients.proofs.Members.{the_id, change_at, IsMild, mild_keeps, mild_reclaims, mild_holds, confirmed_id, mild_at, roster_changed, roster_confirmed, roster_without, roster_new}
+use Rattle.nfs_clients.proofs.Members.{the_id, change_at, IsMild, mild_keeps, mild_reclaims, mild_holds, confirmed_id, mild_at, roster_changed}
+use Rattle.nfs_clients.proofs.Members.{roster_confirmed, roster_without, roster_new}
 
 -- the id stays given, and names none
 record StaysGone (t : Roster) (id : ℕ) : Type 0 where
@@ -20,7 +22,8 @@ record StaysGone (t : Roster) (id : ℕ) : Type 0 where
 gone_new : (t : Roster) (a : Ask) (id : ℕ) → StaysGone t id → StaysGone (with_new t a) id
 gone_new t a id is = record {
   given = (let given = is.given in omega arith);
-  gone = gone_push the_id id (filter (λ c. not (is_unconfirmed_of a.owner c)) t.records) (new_client t a) (ne_eqb (next_id t) id (λ e. absurd (let given = is.given in omega arith)))
+  gone = gone_push the_id id (filter (λ c. not (is_unconfirmed_of a.owner c)) t.records)
+      (new_client t a) (ne_eqb (next_id t) id (λ e. absurd (let given = is.given in omega arith)))
       (gone_filter the_id id (λ c. not (is_unconfirmed_of a.owner c)) t.records is.gone);
 }
 

@@ -14,22 +14,28 @@ pub adds_with_room : (room : Bool) (row : Case) → Adds ≡ row → room ≡ tr
 adds_with_room room row e there = subst (λ row. Adds ≡ if_room room row) e (subst (λ room. Adds ≡ if_room room Adds) (sym there) refl)
 
 pub refuses_without_room : (room : Bool) (row : Case) → Adds ≡ row → room ≡ false → Refuses ServerFault ≡ if_room room row
-refuses_without_room room row e gone = subst (λ row. Refuses ServerFault ≡ if_room room row) e (subst (λ room. Refuses ServerFault ≡ if_room room Adds) (sym gone) refl)
+refuses_without_room room row e gone =
+    subst (λ row. Refuses ServerFault ≡ if_room room row) e (subst (λ room. Refuses ServerFault ≡ if_room room Adds) (sym gone) refl)
 
 pub other_row : (seen : Code) (room : Bool) (row : Case) → case_seen seen ≡ row → (seen ≡ code.Adds → ⊥) → case_seen seen ≡ if_room room row
-other_row (code.Refuses fault) room row e other = subst (λ row. Refuses fault ≡ if_room room row) e (elim room as (λ room. Refuses fault ≡ if_room room (Refuses fault)) [ true ↦ refl | false ↦ refl ])
-other_row (code.Tells c) room row e other = subst (λ row. Tells c.now ≡ if_room room row) e (elim room as (λ room. Tells c.now ≡ if_room room (Tells c.now)) [ true ↦ refl | false ↦ refl ])
+other_row (code.Refuses fault) room row e other =
+    subst (λ row. Refuses fault ≡ if_room room row) e (elim room as (λ room. Refuses fault ≡ if_room room (Refuses fault)) [ true ↦ refl | false ↦ refl ])
+other_row (code.Tells c) room row e other =
+    subst (λ row. Tells c.now ≡ if_room room row) e (elim room as (λ room. Tells c.now ≡ if_room room (Tells c.now)) [ true ↦ refl | false ↦ refl ])
 other_row code.Adds room row e other = absurd (other refl)
 
 -- the owner's confirmed record, as a search of the records gave it
-pub confirmed_is : (t u : Roster) (owner : List ℕ) (ys : List ClientRecord) (x o : Option ClientRecord) → t ≡ u → ys ≡ t.records → x ≡ find (is_confirmed_of owner) ys → x ≡ o → o ≡ confirmed_of u owner
+pub confirmed_is : (t u : Roster) (owner : List ℕ) (ys : List ClientRecord) (x o : Option ClientRecord)
+    → t ≡ u → ys ≡ t.records → x ≡ find (is_confirmed_of owner) ys → x ≡ o → o ≡ confirmed_of u owner
 confirmed_is t u owner ys x o e same is x_is =
     sym x_is ∙ is ∙ ap (find (is_confirmed_of owner)) same ∙ ap (λ (t : Roster). confirmed_of t owner) e
 
 -- a record that was added, and what is told of it
-pub added : (t after : Roster) (owner copy verifier : List ℕ) (flags uid : ℕ) (case : Code) (told : Exchanged) → case ≡ code.Adds → case_seen case ≡ case_of t (asks owner verifier flags uid) → copy ≡ owner
+pub added : (t after : Roster) (owner copy verifier : List ℕ) (flags uid : ℕ) (case : Code) (told : Exchanged)
+    → case ≡ code.Adds → case_seen case ≡ case_of t (asks owner verifier flags uid) → copy ≡ owner
     → after ≡ with_new t (asks copy verifier 0 uid) → told ≡ told_new t copy
-    → (◌≡◌ {A = Result Exchanged ClientFault} (Ok told) (exchange t (asks owner verifier flags uid)).answer) × (after ≡ (exchange t (asks owner verifier flags uid)).after)
+    → (◌≡◌ {A = Result Exchanged ClientFault} (Ok told) (exchange t (asks owner verifier flags uid)).answer)
+    × (after ≡ (exchange t (asks owner verifier flags uid)).after)
 added t after owner copy verifier flags uid case told adds is same done answer =
     let now : Adds ≡ case_of t (asks owner verifier flags uid) = sym (ap case_seen adds) ∙ is in (
       ap Ok (answer ∙ ap (told_new t) same) ∙ ap (λ k. (does t (asks owner verifier flags uid) k).answer) now,

@@ -1,4 +1,5 @@
--- CREATE_SESSION's number and what is kept under it; what a confirmation removes (RFC 8881 section 18.36; which refusals use a number up is this server's profile).
+-- CREATE_SESSION's number and what is kept under it; what a confirmation removes (RFC 8881 section 18.36;
+-- which refusals use a number up is this server's profile).
 use Rattle.std.specs.Prelude.{ℕ, ◌+◌, ◌%◌, ◌^◌, ◌==◌, ◌&&◌, not, Bool, true, false, Option, Some, None, find, option_map, if◌then◌else◌}
 use Rattle.nfs_xdr.specs.declared.status.Status.{Status}
 use Rattle.nfs_xdr.specs.declared.status.Status.TheVariants.{TooSmall, NoSpc, ServerFault}

@@ -3,7 +3,8 @@ use Rattle.std.proofs.Common.{◌≡◌, ℕ, ◌^◌, ◌<◌, ◌||◌, eqb, �
 use Rattle.std.proofs.lemmas.Bool.{ne_eqb}
 use Rattle.nfs_xdr.specs.Spelling as spelling
 use Rattle.nfs_xdr.specs.Codec.{IsCodec, IsListing, listed_at, choose, choose_or, fixed, unbounded, number, ◌then◌}
-use Rattle.nfs_xdr.proofs.CodecLaws.{is_number, is_hyper, is_flag, is_fixed, is_opaque, is_unbounded, is_then, is_as_type, is_only, is_optional, is_led_by, is_union, is_arm, is_bare}
+use Rattle.nfs_xdr.proofs.CodecLaws.{is_number, is_hyper, is_flag, is_fixed, is_opaque, is_unbounded, is_then, is_as_type, is_only, is_optional, is_led_by}
+use Rattle.nfs_xdr.proofs.CodecLaws.{is_union, is_arm, is_bare}
 use Rattle.nfs_xdr.proofs.WordLaws.{is_listed, is_union_or, is_time}
 use Rattle.nfs_compound.proofs.ItemLaws.{is_stateid, is_state_owner, is_channel_attrs, is_bitmap, is_attributes, is_all_sec_parms}
 use Rattle.nfs_compound.specs.Stateid.{stateid}
@@ -17,10 +18,15 @@ use Rattle.nfs_compound.specs.declared.file_args.StableHow.TheVariants as Stable
 use Rattle.nfs_compound.specs.declared.name_args.SecinfoStyle.{SecinfoStyle}
 use Rattle.nfs_compound.specs.declared.name_args.SecinfoStyle.TheVariants as SecinfoStyles
 use Rattle.nfs_compound.specs.SessionArgs.{impl_id, exchange_id_args, protected, create_session_args, sequence_args}
-use Rattle.nfs_compound.specs.OpenArgs.{CreateHow, Unchecked, Guarded, Exclusive, Exclusive41, create_how, spell_create_how, FitsCreateHow, create_how_arms, OpenHow, NoCreate, Create, open_how, spell_open_how, FitsOpenHow, open_how_arms, delegation_number, delegations, delegation_type, OpenClaim, Null, Previous, DelegateCur, DelegatePrev, Fh, DelegCurFh, DelegPrevFh, open_claim, spell_open_claim, FitsOpenClaim, open_claim_arms, open_args, open_downgrade_args, close_args}
-use Rattle.nfs_compound.specs.LockArgs.{lock_type_number, lock_types, lock_type, open_to_lock_owner, exist_lock_owner, Locker, OpenOwner, LockOwner, locker, spell_locker, FitsLocker, locker_arms, lock_args, lock_t_args, lock_u_args}
+use Rattle.nfs_compound.specs.OpenArgs.{CreateHow, Unchecked, Guarded, Exclusive, Exclusive41, create_how, spell_create_how, FitsCreateHow, create_how_arms}
+use Rattle.nfs_compound.specs.OpenArgs.{OpenHow, NoCreate, Create, open_how, spell_open_how, FitsOpenHow, open_how_arms, delegation_number, delegations}
+use Rattle.nfs_compound.specs.OpenArgs.{delegation_type, OpenClaim, Null, Previous, DelegateCur, DelegatePrev, Fh, DelegCurFh, DelegPrevFh, open_claim}
+use Rattle.nfs_compound.specs.OpenArgs.{spell_open_claim, FitsOpenClaim, open_claim_arms, open_args, open_downgrade_args, close_args}
+use Rattle.nfs_compound.specs.LockArgs.{lock_type_number, lock_types, lock_type, open_to_lock_owner, exist_lock_owner, Locker, OpenOwner, LockOwner, locker}
+use Rattle.nfs_compound.specs.LockArgs.{spell_locker, FitsLocker, locker_arms, lock_args, lock_t_args, lock_u_args}
 use Rattle.nfs_compound.specs.FileArgs.{commit_args, read_args, stable_how_number, stable_hows, stable_how, write_args, set_attr_args}
-use Rattle.nfs_compound.specs.NameArgs.{spec_data, CreateType, Block, Character, Symlink, Other, create_type, spell_create_type, FitsCreateType, create_type_arms, create_args, read_dir_args, rename_args, secinfo_style_number, secinfo_styles, secinfo_style}
+use Rattle.nfs_compound.specs.NameArgs.{spec_data, CreateType, Block, Character, Symlink, Other, create_type, spell_create_type, FitsCreateType}
+use Rattle.nfs_compound.specs.NameArgs.{create_type_arms, create_args, read_dir_args, rename_args, secinfo_style_number, secinfo_styles, secinfo_style}
 
 -- Clients and sessions.
 
@@ -30,15 +36,18 @@ is_impl_id = is_as_type _ _ _ (λ _. refl) (is_then _ _ is_unbounded (is_then _ 
 
 pub is_exchange_id_args : IsCodec exchange_id_args
 unfolding exchange_id_args
-is_exchange_id_args = is_as_type _ _ _ (λ _. refl) (is_then _ _ (is_fixed 8) (is_then _ _ (is_opaque 1024 (omega arith)) (is_then _ _ is_number (is_led_by 0 _ (omega arith) (is_optional _ is_impl_id)))))
+is_exchange_id_args = is_as_type _ _ _ (λ _. refl)
+    (is_then _ _ (is_fixed 8) (is_then _ _ (is_opaque 1024 (omega arith)) (is_then _ _ is_number (is_led_by 0 _ (omega arith) (is_optional _ is_impl_id)))))
 
 pub is_protected : IsCodec protected
 unfolding protected
-is_protected = is_then _ _ (is_fixed 8) (is_then _ _ (is_opaque 1024 (omega arith)) (is_then _ _ is_number (is_only (λ n. eqb n 1 || eqb n 2) number is_number)))
+is_protected = is_then _ _ (is_fixed 8)
+    (is_then _ _ (is_opaque 1024 (omega arith)) (is_then _ _ is_number (is_only (λ n. eqb n 1 || eqb n 2) number is_number)))
 
 pub is_create_session_args : IsCodec create_session_args
 unfolding create_session_args
-is_create_session_args = is_as_type _ _ _ (λ _. refl) (is_then _ _ is_hyper (is_then _ _ is_number (is_then _ _ is_number (is_then _ _ is_channel_attrs (is_then _ _ is_channel_attrs (is_then _ _ is_number is_all_sec_parms))))))
+is_create_session_args = is_as_type _ _ _ (λ _. refl) (is_then _ _ is_hyper
+    (is_then _ _ is_number (is_then _ _ is_number (is_then _ _ is_channel_attrs (is_then _ _ is_channel_attrs (is_then _ _ is_number is_all_sec_parms))))))
 
 pub is_sequence_args : IsCodec sequence_args
 unfolding sequence_args
@@ -46,11 +55,21 @@ is_sequence_args = is_as_type _ _ _ (λ _. refl) (is_then _ _ (is_fixed 16) (is_
 
 -- Opens.
 
-create_how_again : (y : CreateHow) (rest : List ℕ) → FitsCreateHow y → (k : ℕ) × (left : List ℕ) × (k < 2 ^ 32) × (spell_create_how y ++ rest ≡ spelling.number k ++ left) × (choose create_how_arms k left ≡ Some (y, rest))
-create_how_again (Unchecked a) rest fits = (0, attributes.spell a ++ rest, omega arith, append_assoc (spelling.number 0) (attributes.spell a) rest, rw (is_attributes.again a rest fits) refl)
-create_how_again (Guarded a) rest fits = (1, attributes.spell a ++ rest, omega arith, append_assoc (spelling.number 1) (attributes.spell a) rest, rw (is_attributes.again a rest fits) refl)
-create_how_again (Exclusive v) rest fits = (2, (fixed 8).spell v ++ rest, omega arith, append_assoc (spelling.number 2) ((fixed 8).spell v) rest, rw ((is_fixed 8).again v rest fits) refl)
-create_how_again (Exclusive41 v a) rest fits = (3, (fixed 8 then attributes).spell (v, a) ++ rest, omega arith, append_assoc (spelling.number 3) ((fixed 8 then attributes).spell (v, a)) rest, rw ((is_then _ _ (is_fixed 8) is_attributes).again (v, a) rest fits) refl)
+create_how_again : (y : CreateHow) (rest : List ℕ) → FitsCreateHow y
+    → (k : ℕ) × (left : List ℕ) × (k < 2 ^ 32) × (spell_create_how y ++ rest ≡ spelling.number k ++ left) × (choose create_how_arms k left ≡ Some (y, rest))
+create_how_again (Unchecked a) rest fits =
+    (0, attributes.spell a ++ rest, omega arith, append_assoc (spelling.number 0) (attributes.spell a) rest, rw (is_attributes.again a rest fits) refl)
+create_how_again (Guarded a) rest fits =
+    (1, attributes.spell a ++ rest, omega arith, append_assoc (spelling.number 1) (attributes.spell a) rest, rw (is_attributes.again a rest fits) refl)
+create_how_again (Exclusive v) rest fits =
+    (2, (fixed 8).spell v ++ rest, omega arith, append_assoc (spelling.number 2) ((fixed 8).spell v) rest, rw ((is_fixed 8).again v rest fits) refl)
+create_how_again (Exclusive41 v a) rest fits = (
+  3,
+  (fixed 8 then attributes).spell (v, a) ++ rest,
+  omega arith,
+  append_assoc (spelling.number 3) ((fixed 8 then attributes).spell (v, a)) rest,
+  rw ((is_then _ _ (is_fixed 8) is_attributes).again (v, a) rest fits) refl,
+)
 
 is_create_how : IsCodec create_how
 unfolding create_how
@@ -66,13 +85,16 @@ is_create_how = is_union spell_create_how FitsCreateHow create_how_arms (
 )
     create_how_again
 
-open_how_again : (y : OpenHow) (rest : List ℕ) → FitsOpenHow y → (k : ℕ) × (left : List ℕ) × (k < 2 ^ 32) × (spell_open_how y ++ rest ≡ spelling.number k ++ left) × (choose open_how_arms k left ≡ Some (y, rest))
+open_how_again : (y : OpenHow) (rest : List ℕ) → FitsOpenHow y
+    → (k : ℕ) × (left : List ℕ) × (k < 2 ^ 32) × (spell_open_how y ++ rest ≡ spelling.number k ++ left) × (choose open_how_arms k left ≡ Some (y, rest))
 open_how_again NoCreate rest fits = (0, rest, omega arith, refl, refl)
-open_how_again (Create how) rest fits = (1, create_how.spell how ++ rest, omega arith, append_assoc (spelling.number 1) (create_how.spell how) rest, rw (is_create_how.again how rest fits) refl)
+open_how_again (Create how) rest fits =
+    (1, create_how.spell how ++ rest, omega arith, append_assoc (spelling.number 1) (create_how.spell how) rest, rw (is_create_how.again how rest fits) refl)
 
 is_open_how : IsCodec open_how
 unfolding open_how
-is_open_how = is_union spell_open_how FitsOpenHow open_how_arms (is_bare _ 0 NoCreate refl tt, (is_arm _ 1 Create create_how is_create_how (λ _. refl) (λ _ fits. fits), tt)) open_how_again
+is_open_how = is_union spell_open_how FitsOpenHow open_how_arms
+    (is_bare _ 0 NoCreate refl tt, (is_arm _ 1 Create create_how is_create_how (λ _. refl) (λ _ fits. fits), tt)) open_how_again
 
 delegation_listing : IsListing delegation_number delegations
 delegation_listing = record { found = found; small = small }
@@ -93,13 +115,29 @@ is_delegation_type : IsCodec delegation_type
 unfolding delegation_type
 is_delegation_type = is_listed delegation_number delegations delegation_listing
 
-open_claim_again : (y : OpenClaim) (rest : List ℕ) → FitsOpenClaim y → (k : ℕ) × (left : List ℕ) × (k < 2 ^ 32) × (spell_open_claim y ++ rest ≡ spelling.number k ++ left) × (choose open_claim_arms k left ≡ Some (y, rest))
-open_claim_again (Null file) rest fits = (0, unbounded.spell file ++ rest, omega arith, append_assoc (spelling.number 0) (unbounded.spell file) rest, rw (is_unbounded.again file rest fits) refl)
-open_claim_again (Previous d) rest fits = (1, delegation_type.spell d ++ rest, omega arith, append_assoc (spelling.number 1) (delegation_type.spell d) rest, rw (is_delegation_type.again d rest fits) refl)
-open_claim_again (DelegateCur s file) rest fits = (2, (stateid then unbounded).spell (s, file) ++ rest, omega arith, append_assoc (spelling.number 2) ((stateid then unbounded).spell (s, file)) rest, rw ((is_then _ _ is_stateid is_unbounded).again (s, file) rest fits) refl)
-open_claim_again (DelegatePrev file) rest fits = (3, unbounded.spell file ++ rest, omega arith, append_assoc (spelling.number 3) (unbounded.spell file) rest, rw (is_unbounded.again file rest fits) refl)
+open_claim_again : (y : OpenClaim) (rest : List ℕ) → FitsOpenClaim y
+    → (k : ℕ) × (left : List ℕ) × (k < 2 ^ 32) × (spell_open_claim y ++ rest ≡ spelling.number k ++ left) × (choose open_claim_arms k left ≡ Some (y, rest))
+open_claim_again (Null file) rest fits =
+    (0, unbounded.spell file ++ rest, omega arith, append_assoc (spelling.number 0) (unbounded.spell file) rest, rw (is_unbounded.again file rest fits) refl)
+open_claim_again (Previous d) rest fits = (
+  1,
+  delegation_type.spell d ++ rest,
+  omega arith,
+  append_assoc (spelling.number 1) (delegation_type.spell d) rest,
+  rw (is_delegation_type.again d rest fits) refl,
+)
+open_claim_again (DelegateCur s file) rest fits = (
+  2,
+  (stateid then unbounded).spell (s, file) ++ rest,
+  omega arith,
+  append_assoc (spelling.number 2) ((stateid then unbounded).spell (s, file)) rest,
+  rw ((is_then _ _ is_stateid is_unbounded).again (s, file) rest fits) refl,
+)
+open_claim_again (DelegatePrev file) rest fits =
+    (3, unbounded.spell file ++ rest, omega arith, append_assoc (spelling.number 3) (unbounded.spell file) rest, rw (is_unbounded.again file rest fits) refl)
 open_claim_again Fh rest fits = (4, rest, omega arith, refl, refl)
-open_claim_again (DelegCurFh s) rest fits = (5, stateid.spell s ++ rest, omega arith, append_assoc (spelling.number 5) (stateid.spell s) rest, rw (is_stateid.again s rest fits) refl)
+open_claim_again (DelegCurFh s) rest fits =
+    (5, stateid.spell s ++ rest, omega arith, append_assoc (spelling.number 5) (stateid.spell s) rest, rw (is_stateid.again s rest fits) refl)
 open_claim_again DelegPrevFh rest fits = (6, rest, omega arith, refl, refl)
 
 is_open_claim : IsCodec open_claim
@@ -127,7 +165,8 @@ is_open_claim = is_union spell_open_claim FitsOpenClaim open_claim_arms (
 
 pub is_open_args : IsCodec open_args
 unfolding open_args
-is_open_args = is_as_type _ _ _ (λ _. refl) (is_then _ _ is_number (is_then _ _ is_number (is_then _ _ is_number (is_then _ _ is_state_owner (is_then _ _ is_open_how is_open_claim)))))
+is_open_args = is_as_type _ _ _ (λ _. refl)
+    (is_then _ _ is_number (is_then _ _ is_number (is_then _ _ is_number (is_then _ _ is_state_owner (is_then _ _ is_open_how is_open_claim)))))
 
 pub is_open_downgrade_args : IsCodec open_downgrade_args
 unfolding open_downgrade_args
@@ -166,14 +205,29 @@ is_exist_lock_owner : IsCodec exist_lock_owner
 unfolding exist_lock_owner
 is_exist_lock_owner = is_as_type _ _ _ (λ _. refl) (is_then _ _ is_stateid is_number)
 
-locker_again : (y : Locker) (rest : List ℕ) → FitsLocker y → (k : ℕ) × (left : List ℕ) × (k < 2 ^ 32) × (spell_locker y ++ rest ≡ spelling.number k ++ left) × (choose locker_arms k left ≡ Some (y, rest))
-locker_again (OpenOwner o) rest fits = (1, open_to_lock_owner.spell o ++ rest, omega arith, append_assoc (spelling.number 1) (open_to_lock_owner.spell o) rest, rw (is_open_to_lock_owner.again o rest fits) refl)
-locker_again (LockOwner o) rest fits = (0, exist_lock_owner.spell o ++ rest, omega arith, append_assoc (spelling.number 0) (exist_lock_owner.spell o) rest, rw (is_exist_lock_owner.again o rest fits) refl)
+locker_again : (y : Locker) (rest : List ℕ) → FitsLocker y
+    → (k : ℕ) × (left : List ℕ) × (k < 2 ^ 32) × (spell_locker y ++ rest ≡ spelling.number k ++ left) × (choose locker_arms k left ≡ Some (y, rest))
+locker_again (OpenOwner o) rest fits = (
+  1,
+  open_to_lock_owner.spell o ++ rest,
+  omega arith,
+  append_assoc (spelling.number 1) (open_to_lock_owner.spell o) rest,
+  rw (is_open_to_lock_owner.again o rest fits) refl,
+)
+locker_again (LockOwner o) rest fits = (
+  0,
+  exist_lock_owner.spell o ++ rest,
+  omega arith,
+  append_assoc (spelling.number 0) (exist_lock_owner.spell o) rest,
+  rw (is_exist_lock_owner.again o rest fits) refl,
+)
 
 is_locker : IsCodec locker
 unfolding locker
-is_locker = is_union spell_locker FitsLocker locker_arms
-    (is_arm _ 1 OpenOwner open_to_lock_owner is_open_to_lock_owner (λ _. refl) (λ _ fits. fits), (is_arm _ 0 LockOwner exist_lock_owner is_exist_lock_owner (λ _. refl) (λ _ fits. fits), tt))
+is_locker = is_union spell_locker FitsLocker locker_arms (
+  is_arm _ 1 OpenOwner open_to_lock_owner is_open_to_lock_owner (λ _. refl) (λ _ fits. fits),
+  (is_arm _ 0 LockOwner exist_lock_owner is_exist_lock_owner (λ _. refl) (λ _ fits. fits), tt),
+)
     locker_again
 
 pub is_lock_args : IsCodec lock_args
@@ -229,10 +283,19 @@ is_spec_data : IsCodec spec_data
 unfolding spec_data
 is_spec_data = is_as_type _ _ _ (λ _. refl) (is_then _ _ is_number is_number)
 
-create_type_again : (y : CreateType) (rest : List ℕ) → FitsCreateType y → (k : ℕ) × (left : List ℕ) × (k < 2 ^ 32) × (spell_create_type y ++ rest ≡ spelling.number k ++ left) × (choose_or create_type_arms Other k left ≡ Some (y, rest))
-create_type_again (Block d) rest fits = (3, spec_data.spell d ++ rest, omega arith, append_assoc (spelling.number 3) (spec_data.spell d) rest, rw (is_spec_data.again d rest fits) refl)
-create_type_again (Character d) rest fits = (4, spec_data.spell d ++ rest, omega arith, append_assoc (spelling.number 4) (spec_data.spell d) rest, rw (is_spec_data.again d rest fits) refl)
-create_type_again (Symlink linkdata) rest fits = (5, unbounded.spell linkdata ++ rest, omega arith, append_assoc (spelling.number 5) (unbounded.spell linkdata) rest, rw (is_unbounded.again linkdata rest fits) refl)
+create_type_again : (y : CreateType) (rest : List ℕ) → FitsCreateType y → (k : ℕ) × (left : List ℕ) × (k < 2 ^ 32)
+    × (spell_create_type y ++ rest ≡ spelling.number k ++ left) × (choose_or create_type_arms Other k left ≡ Some (y, rest))
+create_type_again (Block d) rest fits =
+    (3, spec_data.spell d ++ rest, omega arith, append_assoc (spelling.number 3) (spec_data.spell d) rest, rw (is_spec_data.again d rest fits) refl)
+create_type_again (Character d) rest fits =
+    (4, spec_data.spell d ++ rest, omega arith, append_assoc (spelling.number 4) (spec_data.spell d) rest, rw (is_spec_data.again d rest fits) refl)
+create_type_again (Symlink linkdata) rest fits = (
+  5,
+  unbounded.spell linkdata ++ rest,
+  omega arith,
+  append_assoc (spelling.number 5) (unbounded.spell linkdata) rest,
+  rw (is_unbounded.again linkdata rest fits) refl,
+)
 create_type_again (Other n) rest fits = (n, rest, fits.0, refl, rw (ne_eqb n 3 fits.1, ne_eqb n 4 fits.2, ne_eqb n 5 fits.3) refl)
 
 is_create_type : IsCodec create_type

@@ -1,5 +1,6 @@
 -- What is read of a body is in the grammar, and what is in the grammar is read.
-use Rattle.std.proofs.Common.{◌≡◌, ◌≢◌, ℕ, zero, suc, Bool, true, false, eqb, leb, ◌&&◌, cond, List, [], ◌∷◌, ◌++◌, length, Option, Some, None, refl, sym, ap, subst, ◌∙◌, inl, inr, arith}
+use Rattle.std.proofs.Common.{◌≡◌, ◌≢◌, ℕ, zero, suc, Bool, true, false, eqb, leb, ◌&&◌, cond, List, [], ◌∷◌, ◌++◌, length, Option, Some, None, refl, sym, ap}
+use Rattle.std.proofs.Common.{subst, ◌∙◌, inl, inr, arith}
 use Rattle.std.proofs.lemmas.Bool.{eqb-true, ne_eqb, false≢true}
 use Rattle.std.proofs.lemmas.Option.{same_Some}
 use Rattle.std.proofs.lemmas.List.{nil_from_length}
@@ -50,7 +51,8 @@ is_the_fault : (bytes : List ℕ) (x : Item) → IsFault bytes x → Stands byte
 is_the_fault bytes (Operation o) f = absurd (false≢true (ap is_fault f.told ∙ told_fault f.number f.behind))
 is_the_fault bytes (Fault k status) f = f
 
-at_place : (bytes : List ℕ) (n : ℕ) (left : List ℕ) (fault item : Item) (r : Option (Op × List ℕ)) (rest : List ℕ) → IsBytes bytes → number_at bytes ≡ Some (n, left) → (op_num n >>= λ op. op_at op left) ≡ r
+at_place : (bytes : List ℕ) (n : ℕ) (left : List ℕ) (fault item : Item) (r : Option (Op × List ℕ)) (rest : List ℕ)
+    → IsBytes bytes → number_at bytes ≡ Some (n, left) → (op_num n >>= λ op. op_at op left) ≡ r
     → fault ≡ fault_at n left → op_or_fault fault r ≡ (item, rest) → Stands bytes item rest
 at_place bytes n left fault item (Some x) rest fits read h told e =
     subst (λ (p : Item × List ℕ). Stands bytes p.0 p.1) e (is_op.takes bytes x.0 x.1 fits (rw (read, h) refl))
@@ -75,7 +77,8 @@ fault_stands : (bytes : List ℕ) (x : Item) → IsBytes bytes → IsFault bytes
 unfolding item_at
 fault_stands bytes x fits f =
     let read : number_at bytes ≡ Some (f.number, f.behind) = ap number_at f.stands ∙ is_number.again f.number f.behind f.number_fits in
-    let refused : (op_num f.number >>= λ op. op_at op f.behind) ≡ None = none_of _ (λ y e. let t = is_op.takes bytes y.0 y.1 fits (rw (read, e) refl) in f.none y.0 y.1 t.2 t.0) in
+    let refused : (op_num f.number >>= λ op. op_at op f.behind) ≡ None =
+    none_of _ (λ y e. let t = is_op.takes bytes y.0 y.1 fits (rw (read, e) refl) in f.none y.0 y.1 t.2 t.0) in
     rw (read, refused, f.told) refl
 
 op_stands : (o : Op) (rest : List ℕ) → FitsOp o → item_at (spell_op o ++ rest) ≡ Some (Operation o, rest)
@@ -95,7 +98,8 @@ no_number bytes (Some n) e h = absurd (none≢some (op_or_fault (fault_at n.0 n.
 
 -- The list.
 
-lists_step : (n : ℕ) (bytes : List ℕ) (item : Item) (rest : List ℕ) (items : List Item) → Stands bytes item rest → ((xs : List Item) → IsBytes rest → items_at n rest ≡ Some xs → Lists n rest xs) → in_front item (items_at n rest) ≡ Some items → Lists (suc n) bytes items
+lists_step : (n : ℕ) (bytes : List ℕ) (item : Item) (rest : List ℕ) (items : List Item) → Stands bytes item rest
+    → ((xs : List Item) → IsBytes rest → items_at n rest ≡ Some xs → Lists n rest xs) → in_front item (items_at n rest) ≡ Some items → Lists (suc n) bytes items
 lists_step n bytes (Operation o) rest items s more e =
     let t = bind_some (items_at n rest) (λ ys. Some (Operation o ∷ ys)) items e in
     subst (λ (xs : List Item). Lists (suc n) bytes xs) (same_Some (Operation o ∷ t.0) items t.2) (rest, s.0, s.2, more t.0 s.1 t.1)
@@ -125,11 +129,13 @@ no_more : (o : Op) (r : Option (List Item)) → in_front (Operation o) r ≡ Non
 no_more o None e = refl
 no_more o (Some xs) e = absurd (none≢some (Operation o ∷ xs) (sym e))
 
-spoils_step : (n : ℕ) (bytes : List ℕ) (item : Item) (rest : List ℕ) → Stands bytes item rest → (IsBytes rest → items_at n rest ≡ None → Spoils n rest) → in_front item (items_at n rest) ≡ None → Spoils (suc n) bytes
+spoils_step : (n : ℕ) (bytes : List ℕ) (item : Item) (rest : List ℕ) → Stands bytes item rest
+    → (IsBytes rest → items_at n rest ≡ None → Spoils n rest) → in_front item (items_at n rest) ≡ None → Spoils (suc n) bytes
 spoils_step n bytes (Operation o) rest s more e = inr (o, rest, s.0, s.2, more s.1 (no_more o (items_at n rest) e))
 spoils_step n bytes (Fault k status) rest s more e = absurd (none≢some (Fault k status ∷ []) (sym e))
 
-spoils_at : (n : ℕ) (bytes : List ℕ) (r : Option (Item × List ℕ)) → IsBytes bytes → ((rest : List ℕ) → IsBytes rest → items_at n rest ≡ None → Spoils n rest) → item_at bytes ≡ r
+spoils_at : (n : ℕ) (bytes : List ℕ) (r : Option (Item × List ℕ)) → IsBytes bytes
+    → ((rest : List ℕ) → IsBytes rest → items_at n rest ≡ None → Spoils n rest) → item_at bytes ≡ r
     → (r >>= λ x. in_front x.0 (items_at n x.1)) ≡ None → Spoils (suc n) bytes
 spoils_at n bytes None fits more h e = inl (lacks_from number bytes is_number (no_number bytes (number_at bytes) refl h))
 spoils_at n bytes (Some x) fits more h e = spoils_step n bytes x.0 x.1 (stands_from bytes x.0 x.1 fits h) (more x.1) e

@@ -7,13 +7,15 @@ use Rattle.nfs_xdr.specs.Reading.{fixed_at}
 use Rattle.nfs_compound.specs.declared.stateid.Stateid.{Stateid}
 use Rattle.nfs_xdr.specs.Spelling as spelling
 use Rattle.nfs_xdr.specs.Codec.{IsCodec, IsSized, choose, number}
-use Rattle.nfs_xdr.proofs.CodecLaws.{is_number, is_hyper, is_fixed, is_opaque, is_unbounded, is_then, is_as_type, is_optional, is_array, is_pieces, is_union, is_arm, is_bare}
+use Rattle.nfs_xdr.proofs.CodecLaws.{is_number, is_hyper, is_fixed, is_opaque, is_unbounded, is_then, is_as_type, is_optional, is_array, is_pieces, is_union}
+use Rattle.nfs_xdr.proofs.CodecLaws.{is_arm, is_bare}
 use Rattle.nfs_xdr.proofs.WordLaws.{is_at_most, is_raw}
 use Rattle.nfs_compound.specs.Stateid.{stateid, stateid_of, stateids}
 use Rattle.nfs_compound.specs.StateOwner.{state_owner}
 use Rattle.nfs_compound.specs.ChannelAttrs.{channel_attrs}
 use Rattle.nfs_compound.specs.Attributes.{bitmap, attributes}
-use Rattle.nfs_compound.specs.Callback.{auth_sys, gss_handles, SecParms, AuthNone, Sys, RpcsecGss, sec_parms, sec_parms_arms, spell_sec_parms, FitsSecParms, all_sec_parms}
+use Rattle.nfs_compound.specs.Callback.{auth_sys, gss_handles, SecParms, AuthNone, Sys, RpcsecGss, sec_parms, sec_parms_arms, spell_sec_parms, FitsSecParms}
+use Rattle.nfs_compound.specs.Callback.{all_sec_parms}
 
 pub is_stateid : IsCodec stateid
 unfolding stateid
@@ -41,7 +43,8 @@ sized_stateid = record {
             rw (le-ltb (length bytes) 4 le)
             (elim (cases_lt (length bytes) 16) [
               | inl lt ↦ rw (lt-ltb (length bytes) 16 lt, lt-ltb (length (drop 4 bytes)) 12 (omega (arith, length-drop 4 bytes))) refl
-              | inr more ↦ rw (le-ltb (length bytes) 16 more, le-ltb (length (drop 4 bytes)) 12 (omega (arith, length-drop 4 bytes)), drop-drop 12 4 bytes) (ap (λ (v : Stateid). Some (v, drop 16 bytes)) (from_sixteen bytes))
+              | inr more ↦ rw (le-ltb (length bytes) 16 more, le-ltb (length (drop 4 bytes)) 12 (omega (arith, length-drop 4 bytes)), drop-drop 12 4 bytes)
+                  (ap (λ (v : Stateid). Some (v, drop 16 bytes)) (from_sixteen bytes))
             ])
       ];
 }
@@ -56,7 +59,8 @@ is_state_owner = is_as_type _ _ _ (λ _. refl) (is_then _ _ is_hyper (is_opaque 
 
 pub is_channel_attrs : IsCodec channel_attrs
 unfolding channel_attrs
-is_channel_attrs = is_as_type _ _ _ (λ _. refl) (is_then _ _ is_number (is_then _ _ is_number (is_then _ _ is_number (is_then _ _ is_number (is_then _ _ is_number (is_then _ _ is_number (is_optional _ is_number)))))))
+is_channel_attrs = is_as_type _ _ _ (λ _. refl) (is_then _ _ is_number
+    (is_then _ _ is_number (is_then _ _ is_number (is_then _ _ is_number (is_then _ _ is_number (is_then _ _ is_number (is_optional _ is_number)))))))
 
 pub is_bitmap : IsCodec bitmap
 unfolding bitmap
@@ -68,21 +72,27 @@ is_attributes = is_as_type _ _ _ (λ _. refl) (is_then _ _ is_bitmap is_unbounde
 
 is_auth_sys : IsCodec auth_sys
 unfolding auth_sys
-is_auth_sys = is_as_type _ _ _ (λ _. refl) (is_then _ _ is_number (is_then _ _ (is_opaque 255 (omega arith)) (is_then _ _ is_number (is_then _ _ is_number (is_at_most 16 _ (is_pieces 4 (from_be_bytes w32) number sized_number is_number))))))
+is_auth_sys = is_as_type _ _ _ (λ _. refl) (is_then _ _ is_number (is_then _ _ (is_opaque 255 (omega arith))
+    (is_then _ _ is_number (is_then _ _ is_number (is_at_most 16 _ (is_pieces 4 (from_be_bytes w32) number sized_number is_number))))))
 
 is_gss_handles : IsCodec gss_handles
 unfolding gss_handles
 is_gss_handles = is_as_type _ _ _ (λ _. refl) (is_then _ _ is_number (is_then _ _ is_unbounded is_unbounded))
 
-sec_parms_again : (y : SecParms) (rest : List ℕ) → FitsSecParms y → (k : ℕ) × (left : List ℕ) × (k < 2 ^ 32) × (spell_sec_parms y ++ rest ≡ spelling.number k ++ left) × (choose sec_parms_arms k left ≡ Some (y, rest))
+sec_parms_again : (y : SecParms) (rest : List ℕ) → FitsSecParms y
+    → (k : ℕ) × (left : List ℕ) × (k < 2 ^ 32) × (spell_sec_parms y ++ rest ≡ spelling.number k ++ left) × (choose sec_parms_arms k left ≡ Some (y, rest))
 sec_parms_again AuthNone rest fits = (0, rest, omega arith, refl, refl)
-sec_parms_again (Sys a) rest fits = (1, auth_sys.spell a ++ rest, omega arith, append_assoc (spelling.number 1) (auth_sys.spell a) rest, rw (is_auth_sys.again a rest fits) refl)
-sec_parms_again (RpcsecGss g) rest fits = (6, gss_handles.spell g ++ rest, omega arith, append_assoc (spelling.number 6) (gss_handles.spell g) rest, rw (is_gss_handles.again g rest fits) refl)
+sec_parms_again (Sys a) rest fits =
+    (1, auth_sys.spell a ++ rest, omega arith, append_assoc (spelling.number 1) (auth_sys.spell a) rest, rw (is_auth_sys.again a rest fits) refl)
+sec_parms_again (RpcsecGss g) rest fits =
+    (6, gss_handles.spell g ++ rest, omega arith, append_assoc (spelling.number 6) (gss_handles.spell g) rest, rw (is_gss_handles.again g rest fits) refl)
 
 pub is_sec_parms : IsCodec sec_parms
 unfolding sec_parms
-is_sec_parms = is_union spell_sec_parms FitsSecParms sec_parms_arms
-    (is_bare _ 0 AuthNone refl tt, (is_arm _ 1 Sys auth_sys is_auth_sys (λ _. refl) (λ _ fits. fits), (is_arm _ 6 RpcsecGss gss_handles is_gss_handles (λ _. refl) (λ _ fits. fits), tt)))
+is_sec_parms = is_union spell_sec_parms FitsSecParms sec_parms_arms (
+  is_bare _ 0 AuthNone refl tt,
+  (is_arm _ 1 Sys auth_sys is_auth_sys (λ _. refl) (λ _ fits. fits), (is_arm _ 6 RpcsecGss gss_handles is_gss_handles (λ _. refl) (λ _ fits. fits), tt)),
+)
     sec_parms_again
 
 pub is_all_sec_parms : IsCodec all_sec_parms

@@ -15,11 +15,16 @@ use Rattle.nfs_compound.specs.LockArgs.{lock_args, lock_t_args, lock_u_args}
 use Rattle.nfs_compound.specs.FileArgs.{commit_args, read_args, write_args, set_attr_args}
 use Rattle.nfs_compound.specs.NameArgs.{create_args, read_dir_args, rename_args, secinfo_style}
 use Rattle.nfs_compound.specs.SessionArgs.{exchange_id_args, create_session_args, sequence_args}
-use Rattle.nfs_compound.specs.Operation.{Op, OpAccess, OpClose, OpCommit, OpCreate, OpGetAttr, OpGetFh, OpLink, OpLock, OpLockT, OpLockU, OpLookup, OpLookupP, OpNVerify, OpOpen, OpOpenDowngrade, OpPutFh, OpPutPubFh, OpPutRootFh, OpRead, OpReadDir, OpReadLink, OpRemove, OpRename, OpRestoreFh, OpSaveFh, OpSetAttr, OpVerify, OpWrite, OpExchangeId, OpCreateSession, OpDestroySession, OpFreeStateid, OpSecinfoNoName, OpSequence, OpTestStateid, OpDestroyClientId, OpReclaimComplete}
+use Rattle.nfs_compound.specs.Operation.{Op, OpAccess, OpClose, OpCommit, OpCreate, OpGetAttr, OpGetFh, OpLink, OpLock, OpLockT, OpLockU, OpLookup, OpLookupP}
+use Rattle.nfs_compound.specs.Operation.{OpNVerify, OpOpen, OpOpenDowngrade, OpPutFh, OpPutPubFh, OpPutRootFh, OpRead, OpReadDir, OpReadLink, OpRemove}
+use Rattle.nfs_compound.specs.Operation.{OpRename, OpRestoreFh, OpSaveFh, OpSetAttr, OpVerify, OpWrite, OpExchangeId, OpCreateSession, OpDestroySession}
+use Rattle.nfs_compound.specs.Operation.{OpFreeStateid, OpSecinfoNoName, OpSequence, OpTestStateid, OpDestroyClientId, OpReclaimComplete}
 use Rattle.nfs_compound.specs.Arguments.{arguments, op_at, spell_op, FitsOp, op_codec}
 use Rattle.nfs_compound.proofs.OpNumLaws.{is_op_listing}
 use Rattle.nfs_compound.proofs.ItemLaws.{is_stateid, is_stateids, is_bitmap, is_attributes}
-use Rattle.nfs_compound.proofs.ArgLaws.{is_close_args, is_commit_args, is_create_args, is_create_session_args, is_exchange_id_args, is_lock_args, is_lock_t_args, is_lock_u_args, is_open_args, is_open_downgrade_args, is_read_args, is_read_dir_args, is_rename_args, is_sequence_args, is_set_attr_args, is_write_args, is_secinfo_style}
+use Rattle.nfs_compound.proofs.ArgLaws.{is_close_args, is_commit_args, is_create_args, is_create_session_args, is_exchange_id_args, is_lock_args}
+use Rattle.nfs_compound.proofs.ArgLaws.{is_lock_t_args, is_lock_u_args, is_open_args, is_open_downgrade_args, is_read_args, is_read_dir_args, is_rename_args}
+use Rattle.nfs_compound.proofs.ArgLaws.{is_sequence_args, is_set_attr_args, is_write_args, is_secinfo_style}
 
 arm_of : (op : OpNum) → IsArm op_codec (op_number op, op_at op)
 unfolding op_at
@@ -102,4 +107,10 @@ again (OpDestroyClientId a) rest fits = rw (is_hyper.again a rest fits) refl
 again (OpReclaimComplete a) rest fits = rw (is_flag.again a rest fits) refl
 
 pub is_op : IsCodec op_codec
-is_op = is_union_by op_number op_nums spell_op FitsOp op_at is_op_listing arm_of (λ y rest fits. ((arguments y).op, (arguments y).format.spell (arguments y).value ++ rest, append_assoc (spelling.number (op_number (arguments y).op)) ((arguments y).format.spell (arguments y).value) rest, again y rest fits))
+is_op = is_union_by op_number op_nums spell_op FitsOp op_at is_op_listing arm_of
+    (λ y rest fits. (
+      (arguments y).op,
+      (arguments y).format.spell (arguments y).value ++ rest,
+      append_assoc (spelling.number (op_number (arguments y).op)) ((arguments y).format.spell (arguments y).value) rest,
+      again y rest fits,
+    ))

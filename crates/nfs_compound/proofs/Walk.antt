@@ -1,5 +1,6 @@
 -- Going over the operations of a compound, as a loop does.
-use Rattle.std.proofs.Common.{◌≡◌, ℕ, zero, suc, ◌-◌, ◌+◌, ◌≤◌, ◌<◌, Bool, true, false, eqb, cond, List, [], ◌∷◌, length, Option, Some, None, refl, sym, ap, ◌∙◌, arith}
+use Rattle.std.proofs.Common.{◌≡◌, ℕ, zero, suc, ◌-◌, ◌+◌, ◌≤◌, ◌<◌, Bool, true, false, eqb, cond, List, [], ◌∷◌, length, Option, Some, None, refl, sym, ap}
+use Rattle.std.proofs.Common.{◌∙◌, arith}
 use Rattle.std.proofs.lemmas.Option.{same_Some}
 use Rattle.nfs_xdr.proofs.CodecLaws.{bind_some}
 use Rattle.std.specs.Prelude.{is_some}
@@ -26,18 +27,21 @@ at_none count i bytes whole lt h so_far =
     let one : is_some (items_at (count - i) bytes) ≡ false = rw (k, h) refl in
     sym one ∙ so_far
 
-pub at_fault : (count i : ℕ) (bytes : List ℕ) (x : Item) (rest : List ℕ) (whole : Bool) → i < count → item_at bytes ≡ Some (x, rest) → is_fault x ≡ true → is_some (items_at (count - i) bytes) ≡ whole → true ≡ whole
+pub at_fault : (count i : ℕ) (bytes : List ℕ) (x : Item) (rest : List ℕ) (whole : Bool) → i < count
+    → item_at bytes ≡ Some (x, rest) → is_fault x ≡ true → is_some (items_at (count - i) bytes) ≡ whole → true ≡ whole
 unfolding items_at
 at_fault count i bytes x rest whole lt h f so_far =
     let k : count - i ≡ suc (count - (i + 1)) = omega arith in
     let one : is_some (items_at (count - i) bytes) ≡ true = rw (k, h) (behind_fault x (items_at (count - (i + 1)) rest) f) in
     sym one ∙ so_far
 
-pub at_operation : (count i : ℕ) (bytes : List ℕ) (x : Item) (rest : List ℕ) (whole : Bool) → i < count → item_at bytes ≡ Some (x, rest) → is_fault x ≡ false → is_some (items_at (count - i) bytes) ≡ whole → is_some (items_at (count - (i + 1)) rest) ≡ whole
+pub at_operation : (count i : ℕ) (bytes : List ℕ) (x : Item) (rest : List ℕ) (whole : Bool) → i < count → item_at bytes ≡ Some (x, rest)
+    → is_fault x ≡ false → is_some (items_at (count - i) bytes) ≡ whole → is_some (items_at (count - (i + 1)) rest) ≡ whole
 unfolding items_at
 at_operation count i bytes x rest whole lt h f so_far =
     let k : count - i ≡ suc (count - (i + 1)) = omega arith in
-    let one : is_some (items_at (count - i) bytes) ≡ is_some (items_at (count - (i + 1)) rest) = rw (k, h) (behind_operation x (items_at (count - (i + 1)) rest) f) in
+    let one : is_some (items_at (count - i) bytes) ≡ is_some (items_at (count - (i + 1)) rest) =
+    rw (k, h) (behind_operation x (items_at (count - (i + 1)) rest) f) in
     sym one ∙ so_far
 
 pub at_end : (count i : ℕ) (bytes : List ℕ) (whole : Bool) → count ≤ i → is_some (items_at (count - i) bytes) ≡ whole → eqb (length bytes) 0 ≡ whole
@@ -71,11 +75,13 @@ ended : (b : Bool) → is_some (cond {A = Option (List Item)} b (Some []) None) 
 ended true e = refl
 ended false e = absurd cc
 
-behind_left : (n : ℕ) (x : Item) (rest : List ℕ) → (is_some (items_at n rest) ≡ true → items_at n rest ≡ Some (items_left n rest)) → is_some (in_front x (items_at n rest)) ≡ true → (is_fault x ≡ true → rest ≡ []) → in_front x (items_at n rest) ≡ Some (x ∷ items_left n rest)
+behind_left : (n : ℕ) (x : Item) (rest : List ℕ) → (is_some (items_at n rest) ≡ true → items_at n rest ≡ Some (items_left n rest))
+    → is_some (in_front x (items_at n rest)) ≡ true → (is_fault x ≡ true → rest ≡ []) → in_front x (items_at n rest) ≡ Some (x ∷ items_left n rest)
 behind_left n (Operation op) rest more e f = rw (more (sym (behind_operation (Operation op) (items_at n rest) refl) ∙ e)) refl
 behind_left n (Fault k status) rest more e f = rw (f refl, none_left n) refl
 
-step_left : (n : ℕ) (bytes : List ℕ) (r : Option (Item × List ℕ)) → ((rest : List ℕ) → is_some (items_at n rest) ≡ true → items_at n rest ≡ Some (items_left n rest)) → item_at bytes ≡ r
+step_left : (n : ℕ) (bytes : List ℕ) (r : Option (Item × List ℕ))
+    → ((rest : List ℕ) → is_some (items_at n rest) ≡ true → items_at n rest ≡ Some (items_left n rest)) → item_at bytes ≡ r
     → is_some (r >>= λ x. in_front x.0 (items_at n x.1)) ≡ true → (r >>= λ x. in_front x.0 (items_at n x.1)) ≡ Some (first_of r (λ rest. items_left n rest))
 step_left n bytes None more h e = absurd cc
 step_left n bytes (Some x) more h e = behind_left n x.0 x.1 (more x.1) e (λ f. fault_ends bytes x h f)
@@ -89,11 +95,14 @@ left_is (suc n) bytes e = step_left n bytes (item_at bytes) (left_is n) refl e
 pub at_other : (minor : ℕ) (items : Option (List Item)) → (minor ≡ 1 → ⊥) → cond (eqb minor 1) items (Some []) ≡ Some []
 at_other minor items ne = rw (ne_eqb minor 1 ne) refl
 
-pub at_minor_one : (minor declared : ℕ) (bytes : List ℕ) → minor ≡ 1 → is_some (items_at declared bytes) ≡ true → cond (eqb minor 1) (items_at declared bytes) (Some []) ≡ Some (items_left declared bytes)
+pub at_minor_one : (minor declared : ℕ) (bytes : List ℕ) → minor ≡ 1 → is_some (items_at declared bytes) ≡ true
+    → cond (eqb minor 1) (items_at declared bytes) (Some []) ≡ Some (items_left declared bytes)
 at_minor_one minor declared bytes one e = rw (eq-eqb minor 1 one) (left_is declared bytes e)
 
 -- a head and a list
-pub request_from : (bytes front tag r s t : List ℕ) (minor declared : ℕ) (items : List Item) → front ≡ bytes → opaque_at 1024 front ≡ Some (tag, r) → number_at r ≡ Some (minor, s) → number_at s ≡ Some (declared, t)
-    → cond (eqb minor 1) (items_at declared t) (Some []) ≡ Some items → request_at bytes ≡ Some (record { bytes = bytes; tag = tag; minor = minor; declared = declared; left = items })
+pub request_from : (bytes front tag r s t : List ℕ) (minor declared : ℕ) (items : List Item) → front ≡ bytes
+    → opaque_at 1024 front ≡ Some (tag, r) → number_at r ≡ Some (minor, s) → number_at s ≡ Some (declared, t)
+    → cond (eqb minor 1) (items_at declared t) (Some []) ≡ Some items
+    → request_at bytes ≡ Some (record { bytes = bytes; tag = tag; minor = minor; declared = declared; left = items })
 unfolding request_at
 request_from bytes front tag r s t minor declared items same h i j k = rw (ap (opaque_at 1024) (sym same) ∙ h, i, j, k) refl

@@ -14,7 +14,10 @@ use Rattle.nfs_compound.specs.LockArgs.{lock_args, lock_t_args, lock_u_args}
 use Rattle.nfs_compound.specs.FileArgs.{commit_args, read_args, write_args, set_attr_args}
 use Rattle.nfs_compound.specs.NameArgs.{create_args, read_dir_args, rename_args, secinfo_style}
 use Rattle.nfs_compound.specs.SessionArgs.{exchange_id_args, protected, create_session_args, sequence_args}
-use Rattle.nfs_compound.specs.Operation.{Op, Item, Operation, Fault, OpAccess, OpClose, OpCommit, OpCreate, OpGetAttr, OpGetFh, OpLink, OpLock, OpLockT, OpLockU, OpLookup, OpLookupP, OpNVerify, OpOpen, OpOpenDowngrade, OpPutFh, OpPutPubFh, OpPutRootFh, OpRead, OpReadDir, OpReadLink, OpRemove, OpRename, OpRestoreFh, OpSaveFh, OpSetAttr, OpVerify, OpWrite, OpExchangeId, OpCreateSession, OpDestroySession, OpFreeStateid, OpSecinfoNoName, OpSequence, OpTestStateid, OpDestroyClientId, OpReclaimComplete}
+use Rattle.nfs_compound.specs.Operation.{Op, Item, Operation, Fault, OpAccess, OpClose, OpCommit, OpCreate, OpGetAttr, OpGetFh, OpLink, OpLock, OpLockT}
+use Rattle.nfs_compound.specs.Operation.{OpLockU, OpLookup, OpLookupP, OpNVerify, OpOpen, OpOpenDowngrade, OpPutFh, OpPutPubFh, OpPutRootFh, OpRead, OpReadDir}
+use Rattle.nfs_compound.specs.Operation.{OpReadLink, OpRemove, OpRename, OpRestoreFh, OpSaveFh, OpSetAttr, OpVerify, OpWrite, OpExchangeId, OpCreateSession}
+use Rattle.nfs_compound.specs.Operation.{OpDestroySession, OpFreeStateid, OpSecinfoNoName, OpSequence, OpTestStateid, OpDestroyClientId, OpReclaimComplete}
 
 -- An operation's arguments: its number, their format, and what they are.
 pub record Arguments : Type 1 where

@@ -25,7 +25,11 @@ pub record GssHandles : Type 0 where
 
 unfoldable pub gss_handles : Codec GssHandles
 gss_handles = as_type
-    (λ (service, (handle_from_server, handle_from_client)). record { service = service; handle_from_server = handle_from_server; handle_from_client = handle_from_client })
+    (λ (service, (handle_from_server, handle_from_client)). record {
+      service = service;
+      handle_from_server = handle_from_server;
+      handle_from_client = handle_from_client;
+    })
     (λ g. (g.service, (g.handle_from_server, g.handle_from_client)))
     (number then unbounded then unbounded)
 

@@ -15,7 +15,8 @@ unfoldable pub commit_args : Codec Commit
 commit_args = as_type (λ (offset, count). record { offset = offset; count = count }) (λ c. (c.offset, c.count)) (hyper then number)
 
 unfoldable pub read_args : Codec Read
-read_args = as_type (λ (held, (offset, count)). record { stateid = held; offset = offset; count = count }) (λ r. (r.stateid, (r.offset, r.count))) (stateid then hyper then number)
+read_args = as_type (λ (held, (offset, count)). record { stateid = held; offset = offset; count = count })
+    (λ r. (r.stateid, (r.offset, r.count))) (stateid then hyper then number)
 
 -- stable_how4
 abbrev pub stable_how_number : StableHow → ℕ
@@ -46,7 +47,8 @@ pub record SetAttr : Type 0 where
   pub obj_attributes : Attributes
 
 unfoldable pub set_attr_args : Codec SetAttr
-set_attr_args = as_type (λ (held, obj_attributes). record { stateid = held; obj_attributes = obj_attributes }) (λ s. (s.stateid, s.obj_attributes)) (stateid then attributes)
+set_attr_args = as_type (λ (held, obj_attributes). record { stateid = held; obj_attributes = obj_attributes })
+    (λ s. (s.stateid, s.obj_attributes)) (stateid then attributes)
 
 abbrev pub view_write : rust_write.Write → Write
 view_write w = record { stateid = w.stateid; offset = w.offset; stable = w.stable; bytes = w.bytes.now }

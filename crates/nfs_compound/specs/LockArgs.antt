@@ -48,7 +48,8 @@ open_to_lock_owner = as_type
     (number then stateid then number then state_owner)
 
 unfoldable pub exist_lock_owner : Codec ExistLockOwner
-exist_lock_owner = as_type (λ (lock_stateid, lock_seqid). record { lock_stateid = lock_stateid; lock_seqid = lock_seqid }) (λ o. (o.lock_stateid, o.lock_seqid)) (stateid then number)
+exist_lock_owner = as_type (λ (lock_stateid, lock_seqid). record { lock_stateid = lock_stateid; lock_seqid = lock_seqid })
+    (λ o. (o.lock_stateid, o.lock_seqid)) (stateid then number)
 
 -- Who locks (locker4): the bool says whether the lock owner is new.
 pub data Locker : Type 0 where
@@ -96,12 +97,23 @@ lock_t_args = as_type
 
 unfoldable pub lock_u_args : Codec LockU
 lock_u_args = as_type
-    (λ (locktype, (seqid, (lock_stateid, (offset, size)))). record { locktype = locktype; seqid = seqid; lock_stateid = lock_stateid; offset = offset; length = size })
+    (λ (locktype, (seqid, (lock_stateid, (offset, size)))). record {
+      locktype = locktype;
+      seqid = seqid;
+      lock_stateid = lock_stateid;
+      offset = offset;
+      length = size;
+    })
     (λ l. (l.locktype, (l.seqid, (l.lock_stateid, (l.offset, l.length)))))
     (lock_type then number then stateid then hyper then hyper)
 
 abbrev pub view_open_to_lock_owner : rust_open_to_lock_owner.OpenToLockOwner → OpenToLockOwner
-view_open_to_lock_owner o = record { open_seqid = o.open_seqid; open_stateid = o.open_stateid; lock_seqid = o.lock_seqid; lock_owner = StateOwner.view o.lock_owner }
+view_open_to_lock_owner o = record {
+  open_seqid = o.open_seqid;
+  open_stateid = o.open_stateid;
+  lock_seqid = o.lock_seqid;
+  lock_owner = StateOwner.view o.lock_owner;
+}
 
 abbrev pub view_locker : rust_locker.Locker → Locker
 view_locker (Lockers.OpenOwner o) = OpenOwner (view_open_to_lock_owner o)

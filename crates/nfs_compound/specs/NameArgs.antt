@@ -103,7 +103,13 @@ abbrev pub view_create : rust_create.Create → Create
 view_create c = record { objtype = view_create_type c.objtype; objname = c.objname.now; createattrs = view_attributes c.createattrs }
 
 abbrev pub view_read_dir : rust_read_dir.ReadDir → ReadDir
-view_read_dir r = record { cookie = r.cookie; cookieverf = r.cookieverf; dircount = r.dircount; maxcount = r.maxcount; attr_request = view_bitmap r.attr_request }
+view_read_dir r = record {
+  cookie = r.cookie;
+  cookieverf = r.cookieverf;
+  dircount = r.dircount;
+  maxcount = r.maxcount;
+  attr_request = view_bitmap r.attr_request;
+}
 
 abbrev pub view_rename : rust_rename.Rename → Rename
 view_rename r = record { oldname = r.oldname.now; newname = r.newname.now }

@@ -2,7 +2,10 @@
 use Rattle.std.specs.Prelude.{ℕ, List, [], ◌∷◌, Option}
 use Rattle.nfs_xdr.specs.Codec.{listed_at}
 use Rattle.nfs_compound.specs.declared.op_num.OpNum.{OpNum}
-use Rattle.nfs_compound.specs.declared.op_num.OpNum.TheVariants.{Access, Close, Commit, Create, GetAttr, GetFh, Link, Lock, LockT, LockU, Lookup, LookupP, NVerify, Open, OpenDowngrade, PutFh, PutPubFh, PutRootFh, Read, ReadDir, ReadLink, Remove, Rename, RestoreFh, SaveFh, SetAttr, Verify, Write, ExchangeId, CreateSession, DestroySession, FreeStateid, SecinfoNoName, Sequence, TestStateid, DestroyClientId, ReclaimComplete}
+use Rattle.nfs_compound.specs.declared.op_num.OpNum.TheVariants.{Access, Close, Commit, Create, GetAttr, GetFh, Link, Lock, LockT, LockU, Lookup, LookupP}
+use Rattle.nfs_compound.specs.declared.op_num.OpNum.TheVariants.{NVerify, Open, OpenDowngrade, PutFh, PutPubFh, PutRootFh, Read, ReadDir, ReadLink, Remove}
+use Rattle.nfs_compound.specs.declared.op_num.OpNum.TheVariants.{Rename, RestoreFh, SaveFh, SetAttr, Verify, Write, ExchangeId, CreateSession, DestroySession}
+use Rattle.nfs_compound.specs.declared.op_num.OpNum.TheVariants.{FreeStateid, SecinfoNoName, Sequence, TestStateid, DestroyClientId, ReclaimComplete}
 
 abbrev pub op_number : OpNum → ℕ
 op_number Access = 3

@@ -18,7 +18,8 @@ pub record ImplId : Type 0 where
   pub date : Time
 
 unfoldable pub impl_id : Codec ImplId
-impl_id = as_type (λ (domain, (name, date)). record { domain = domain; name = name; date = date }) (λ i. (i.domain, (i.name, i.date))) (unbounded then unbounded then time)
+impl_id = as_type (λ (domain, (name, date)). record { domain = domain; name = name; date = date })
+    (λ i. (i.domain, (i.name, i.date))) (unbounded then unbounded then time)
 
 -- EXCHANGE_ID with no state protection, which is number 0
 pub record ExchangeId : Type 0 where

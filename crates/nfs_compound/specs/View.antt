@@ -8,7 +8,10 @@ use Rattle.nfs_compound.specs.LockArgs.{view_lock, view_lock_t}
 use Rattle.nfs_compound.specs.FileArgs.{view_write, view_set_attr}
 use Rattle.nfs_compound.specs.NameArgs.{view_create, view_read_dir, view_rename}
 use Rattle.nfs_compound.specs.SessionArgs.{view_exchange_id, view_create_session}
-use Rattle.nfs_compound.specs.Operation.{Item, Operation, Fault, OpAccess, OpClose, OpCommit, OpCreate, OpGetAttr, OpGetFh, OpLink, OpLock, OpLockT, OpLockU, OpLookup, OpLookupP, OpNVerify, OpOpen, OpOpenDowngrade, OpPutFh, OpPutPubFh, OpPutRootFh, OpRead, OpReadDir, OpReadLink, OpRemove, OpRename, OpRestoreFh, OpSaveFh, OpSetAttr, OpVerify, OpWrite, OpExchangeId, OpCreateSession, OpDestroySession, OpFreeStateid, OpSecinfoNoName, OpSequence, OpTestStateid, OpDestroyClientId, OpReclaimComplete}
+use Rattle.nfs_compound.specs.Operation.{Item, Operation, Fault, OpAccess, OpClose, OpCommit, OpCreate, OpGetAttr, OpGetFh, OpLink, OpLock, OpLockT, OpLockU}
+use Rattle.nfs_compound.specs.Operation.{OpLookup, OpLookupP, OpNVerify, OpOpen, OpOpenDowngrade, OpPutFh, OpPutPubFh, OpPutRootFh, OpRead, OpReadDir}
+use Rattle.nfs_compound.specs.Operation.{OpReadLink, OpRemove, OpRename, OpRestoreFh, OpSaveFh, OpSetAttr, OpVerify, OpWrite, OpExchangeId, OpCreateSession}
+use Rattle.nfs_compound.specs.Operation.{OpDestroySession, OpFreeStateid, OpSecinfoNoName, OpSequence, OpTestStateid, OpDestroyClientId, OpReclaimComplete}
 
 abbrev pub item : rust.Arg → Item
 item (Arg.Access access) = Operation (OpAccess access)

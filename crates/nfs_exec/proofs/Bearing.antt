@@ -1,13 +1,18 @@
 -- Refusals are results that a reply can bear, of no more than their largest size.
-use Rattle.std.proofs.Common.{◌≡◌, ℕ, ◌≤◌, zero, suc, Bool, true, false, eqb, leb, ltb, cond, ◌&&◌, ◌||◌, List, [], ◌∷◌, Option, Some, None, refl, sym, ◌∙◌, ap, subst, arith, inl, inr}
+use Rattle.std.proofs.Common.{◌≡◌, ℕ, ◌≤◌, zero, suc, Bool, true, false, eqb, leb, ltb, cond, ◌&&◌, ◌||◌, List, [], ◌∷◌, Option, Some, None, refl, sym, ◌∙◌, ap}
+use Rattle.std.proofs.Common.{subst, arith, inl, inr}
 use Rattle.std.specs.Prelude.{IsTrue, not, is_some}
 use Rattle.std.proofs.lemmas.Bool.{cases_Bool, and_right, le-leb, leb-true, eqb-true, ne_eqb, and_parts}
 use Rattle.nfs_xdr.specs.declared.status.Status.{Status}
-use Rattle.nfs_xdr.specs.declared.status.Status.TheVariants.{NotSupp, Inval, BadXdr, NotOnlyOp, OpNotInSession, SequencePos, RepTooBig, BadSession, StaleClientId, ClientIdBusy}
+use Rattle.nfs_xdr.specs.declared.status.Status.TheVariants.{NotSupp, Inval, BadXdr, NotOnlyOp, OpNotInSession, SequencePos, RepTooBig, BadSession}
+use Rattle.nfs_xdr.specs.declared.status.Status.TheVariants.{StaleClientId, ClientIdBusy}
 use Rattle.nfs_xdr.specs.Status.{status_number}
 use Rattle.nfs_compound.specs.declared.op_num.OpNum.{OpNum}
-use Rattle.nfs_compound.specs.declared.op_num.OpNum.TheVariants.{Access, Close, Commit, Create, GetAttr, GetFh, Link, Lock, LockT, LockU, Lookup, LookupP, NVerify, Open, OpenDowngrade, PutFh, PutPubFh, PutRootFh, Read}
-use Rattle.nfs_compound.specs.declared.op_num.OpNum.TheVariants.{ReadDir, ReadLink, Remove, Rename, RestoreFh, SaveFh, SetAttr, Verify, Write, ExchangeId, CreateSession, DestroySession, FreeStateid, SecinfoNoName, Sequence, TestStateid, DestroyClientId, ReclaimComplete}
+use Rattle.nfs_compound.specs.declared.op_num.OpNum.TheVariants.{Access, Close, Commit, Create, GetAttr, GetFh, Link, Lock, LockT, LockU, Lookup, LookupP}
+use Rattle.nfs_compound.specs.declared.op_num.OpNum.TheVariants.{NVerify, Open, OpenDowngrade, PutFh, PutPubFh, PutRootFh, Read}
+use Rattle.nfs_compound.specs.declared.op_num.OpNum.TheVariants.{ReadDir, ReadLink, Remove, Rename, RestoreFh, SaveFh, SetAttr, Verify, Write, ExchangeId}
+use Rattle.nfs_compound.specs.declared.op_num.OpNum.TheVariants.{CreateSession, DestroySession, FreeStateid, SecinfoNoName, Sequence, TestStateid}
+use Rattle.nfs_compound.specs.declared.op_num.OpNum.TheVariants.{DestroyClientId, ReclaimComplete}
 use Rattle.nfs_compound.specs.OpNum.{op_number, op_nums, op_num}
 use Rattle.nfs_compound.specs.Operation.{Op, Item, Operation, Fault}
 use Rattle.nfs_compound.specs.Arguments.{arguments, flaw, fault_of, fault_at}

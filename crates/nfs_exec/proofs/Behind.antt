@@ -1,5 +1,6 @@
 -- What one operation behind a SEQUENCE leaves as it is.
-use Rattle.std.proofs.Common.{◌≡◌, ℕ, Bool, true, false, eqb, ltb, List, [], ◌∷◌, ◌++◌, ◌+◌, ◌≤◌, length, Option, Some, None, Result, Ok, Err, refl, sym, ◌∙◌, ap, subst, arith, inl, inr}
+use Rattle.std.proofs.Common.{◌≡◌, ℕ, Bool, true, false, eqb, ltb, List, [], ◌∷◌, ◌++◌, ◌+◌, ◌≤◌, length, Option, Some, None, Result, Ok, Err, refl, sym, ◌∙◌}
+use Rattle.std.proofs.Common.{ap, subst, arith, inl, inr}
 use Rattle.std.specs.Prelude.{IsTrue, ◌||◌}
 use Rattle.std.proofs.lemmas.Bool.{cases_Bool}
 use Rattle.std.proofs.lemmas.List.{length-append}
@@ -54,7 +55,8 @@ pub reclaimed_short : length (spell_result ResReclaimComplete) ≤ 12
 reclaimed_short = omega (arith, length-append (head 58 Nfs4Ok) [], length_head 58 Nfs4Ok)
 
 -- what nothing carries out is refused
-pub other_stays : (m : Machine) (x : Context) (a : Arg) → ((one : Bool) → a ≡ Args.ReclaimComplete one → ⊥) → otherwise m x (item a) ≡ stays m x (item a) (status_behind (item a))
+pub other_stays : (m : Machine) (x : Context) (a : Arg) → ((one : Bool) → a ≡ Args.ReclaimComplete one → ⊥)
+    → otherwise m x (item a) ≡ stays m x (item a) (status_behind (item a))
 other_stays m x (Args.ReclaimComplete one) other = absurd (other one refl)
 other_stays m x a other = refl
 
@@ -65,10 +67,12 @@ pub record IsKept (P : Machine → Type 0) : Type 0 where
   pub reclaimed : (m : Machine) (x : Context) → P m → P (of_all m x).machine
   pub marked : (m : Machine) (client : ℕ) → P m → P (with_mark client m)
 
-pub kept_step : (P : Machine → Type 0) → IsKept P → (m : Machine) (x : Context) (now : ℕ) (refused : Bool) (i : Item) → P m → P (step m x now refused i).outcome.machine
+pub kept_step : (P : Machine → Type 0) → IsKept P
+    → (m : Machine) (x : Context) (now : ℕ) (refused : Bool) (i : Item) → P m → P (step m x now refused i).outcome.machine
 kept_step P keeps m x now refused i is = elim (cases_Bool (names.on_names i)) [
   | inl on ↦ rw on (keeps.stored m _ is)
-  | inr off ↦ rw off (elim (cases_Bool (files.on_files i)) [ inl on ↦ rw on (by_mark (moves_opens i) (files.comes_to refused m.store x (moment now) i)) | inr other ↦ rw other (by_item i) ])
+  | inr off ↦ rw off (elim (cases_Bool (files.on_files i))
+      [ inl on ↦ rw on (by_mark (moves_opens i) (files.comes_to refused m.store x (moment now) i)) | inr other ↦ rw other (by_item i) ])
 ]
   where
     by_mark : (moves : Bool) (o : OfStore) → P (marked_if moves x.client (on_store m o)).outcome.machine
@@ -90,11 +94,13 @@ kept_step P keeps m x now refused i is = elim (cases_Bool (names.on_names i)) [
 pub follow_kept : (P : Machine → Type 0) (o : Outcome) (rest : Ran) → P o.machine → P rest.machine → P (follow o rest).machine
 follow_kept P o rest one more = elim (cases_Bool (is_ok o.status)) [ inl ok ↦ rw ok more | inr bad ↦ rw bad one ]
 
-pub kept_run : (P : Machine → Type 0) → IsKept P → (limit sofar now : ℕ) (choice : Option ℕ) (m : Machine) (x : Context) (items : List Item) → P m → P (run limit sofar now choice m x items).machine
+pub kept_run : (P : Machine → Type 0) → IsKept P → (limit sofar now : ℕ) (choice : Option ℕ) (m : Machine) (x : Context) (items : List Item)
+    → P m → P (run limit sofar now choice m x items).machine
 kept_run P keeps limit sofar now choice m x [] is = is
 kept_run P keeps limit sofar now choice m x (i ∷ more) is =
     let s = in_room limit sofar now (is_here choice) m x i in
-    let one : P s.outcome.machine = elim (cases_Bool (ltb limit (sofar + largest i + reserve))) [ inl big ↦ rw big is | inr fits ↦ rw fits (kept_step P keeps m x now (is_here choice) i is) ] in
+    let one : P s.outcome.machine = elim (cases_Bool (ltb limit (sofar + largest i + reserve)))
+    [ inl big ↦ rw big is | inr fits ↦ rw fits (kept_step P keeps m x now (is_here choice) i is) ] in
     follow_kept P s.outcome (run limit (sofar + length s.outcome.result) now (behind_here choice) s.outcome.machine s.context more) one
     (kept_run P keeps limit (sofar + length s.outcome.result) now (behind_here choice) s.outcome.machine s.context more one)
 
@@ -114,10 +120,12 @@ keeps_sessions t = record {
   marked = λ m client is. is;
 }
 
-pub run_leases : (limit sofar now : ℕ) (choice : Option ℕ) (m : Machine) (x : Context) (items : List Item) → (run limit sofar now choice m x items).machine.leases ≡ m.leases
+pub run_leases : (limit sofar now : ℕ) (choice : Option ℕ) (m : Machine) (x : Context) (items : List Item)
+    → (run limit sofar now choice m x items).machine.leases ≡ m.leases
 run_leases limit sofar now choice m x items = kept_run (λ k. k.leases ≡ m.leases) (keeps_leases m.leases) limit sofar now choice m x items refl
 
-pub run_sessions : (limit sofar now : ℕ) (choice : Option ℕ) (m : Machine) (x : Context) (items : List Item) → (run limit sofar now choice m x items).machine.sessions ≡ m.sessions
+pub run_sessions : (limit sofar now : ℕ) (choice : Option ℕ) (m : Machine) (x : Context) (items : List Item)
+    → (run limit sofar now choice m x items).machine.sessions ≡ m.sessions
 run_sessions limit sofar now choice m x items = kept_run (λ k. k.sessions ≡ m.sessions) (keeps_sessions m.sessions) limit sofar now choice m x items refl
 
 -- An operation that is not on the store was run.
@@ -126,7 +134,8 @@ other_context : (m : Machine) (x : Context) (i : Item) → x ≡ (otherwise m x 
 other_context m x (Operation (OpReclaimComplete one)) = refl
 other_context m x i = refl
 
-pub other_steps : (m left : Machine) (x : Context) (now : ℕ) (refused : Bool) (i : Item) (r : Res) (s : Status) (old new : Paper) → names.on_names i ≡ false → files.on_files i ≡ false → comes_to left r ≡ (otherwise m x i).outcome → s ≡ status_of_result r →
+pub other_steps : (m left : Machine) (x : Context) (now : ℕ) (refused : Bool) (i : Item) (r : Res) (s : Status) (old new : Paper) →
+    names.on_names i ≡ false → files.on_files i ≡ false → comes_to left r ≡ (otherwise m x i).outcome → s ≡ status_of_result r →
     Puts old new (spell_result r) → Steps (step m x now refused i) s left x old new
 other_steps m left x now refused i r s old new unnamed other is status put =
     rw (unnamed, other) (record {
@@ -137,16 +146,20 @@ other_steps m left x now refused i r s old new unnamed other is status put =
     })
 
 -- an operation on open files was run, and the mark set where it can have moved
-pub file_marked : (m : Machine) (client : ℕ) (o : OfStore) (s : Status) (store : State) (moves mark : Bool) (clients : Roster) (behind : Context) (old new : Paper) → moves ≡ true → Comes o old new s store behind →
+pub file_marked : (m : Machine) (client : ℕ) (o : OfStore) (s : Status) (store : State) (moves mark : Bool) (clients : Roster) (behind : Context)
+    (old new : Paper) → moves ≡ true → Comes o old new s store behind →
     mark ≡ has_open store client → clients ≡ with_open m.clients client mark →
     Steps (marked_if moves client (on_store m o)) s (record { clients = clients; sessions = m.sessions; leases = m.leases; store = store }) behind old new
 file_marked m client o s store moves mark clients behind old new can did is held = rw can (record {
   status = did.status;
-  machine = ap (λ (t : Roster). record m { clients = t; store = store }) (held ∙ ap (with_open m.clients client) is) ∙ ap (λ (t : State). with_mark client (record m { store = t })) did.state;
+  machine = ap (λ (t : Roster). record m { clients = t; store = store }) (held ∙ ap (with_open m.clients client) is)
+      ∙ ap (λ (t : State). with_mark client (record m { store = t })) did.state;
   context = did.context;
   put = did.put;
 })
 
-pub file_steps : (m left : Machine) (x : Context) (now : ℕ) (refused : Bool) (i : Item) (s : Status) (behind : Context) (old new : Paper) → names.on_names i ≡ false → files.on_files i ≡ true →
-    Steps (marked_if (moves_opens i) x.client (on_store m (files.comes_to refused m.store x (moment now) i))) s left behind old new → Steps (step m x now refused i) s left behind old new
+pub file_steps : (m left : Machine) (x : Context) (now : ℕ) (refused : Bool) (i : Item) (s : Status) (behind : Context) (old new : Paper) →
+    names.on_names i ≡ false → files.on_files i ≡ true →
+    Steps (marked_if (moves_opens i) x.client (on_store m (files.comes_to refused m.store x (moment now) i))) s left behind old new →
+    Steps (step m x now refused i) s left behind old new
 file_steps m left x now refused i s behind old new unnamed on did = rw (unnamed, on) did

@@ -13,9 +13,11 @@ use Rattle.nfs_exec.specs.Destroy.{destroy_session}
 use Rattle.nfs_exec.proofs.Leasing.{none_of}
 
 none_destroyed : (t : SessionTable) (id : SessionId) → session_at t id ≡ None → destroyed t id ≡ t
-none_destroyed t id none = ap (λ xs. record t { sessions = xs }) (filter_all (λ s. not (is_session id s)) t.sessions (λ s there. ap not (none_in (is_session id) t.sessions s none there)))
+none_destroyed t id none = ap (λ xs. record t { sessions = xs })
+    (filter_all (λ s. not (is_session id s)) t.sessions (λ s there. ap not (none_in (is_session id) t.sessions s none there)))
 
-pub no_session : (m : Machine) (sessionid : List ℕ) (id : SessionId) (after : SessionTable) (r : Res) → id ≡ id_of sessionid → false ≡ is_some (session_at m.sessions id) → after ≡ destroyed m.sessions id →
+pub no_session : (m : Machine) (sessionid : List ℕ) (id : SessionId) (after : SessionTable) (r : Res) →
+    id ≡ id_of sessionid → false ≡ is_some (session_at m.sessions id) → after ≡ destroyed m.sessions id →
     r ≡ refusal 44 BadSession → comes_to (record m { sessions = after }) r ≡ destroy_session m sessionid
 no_session m sessionid id after r read stood gone told =
     let none : session_at m.sessions (id_of sessionid) ≡ None = none_of _ (sym (stood ∙ ap (λ id. is_some (session_at m.sessions id)) read)) in

@@ -6,7 +6,8 @@ use Rattle.nfs_clients.specs.declared.exchange_id.Exchanged.{Exchanged}
 use Rattle.nfs_clients.specs.declared.exchange_id.ClientFault.{ClientFault}
 use Rattle.nfs_clients.specs.declared.exchange_id.ClientFault.TheVariants.{Inval, NoEnt, NotSame, Perm, ClidInUse, ServerFault, Memory}
 use Rattle.nfs_clients.specs.Roster.{Roster, client_at, confirmed_of, next_id, last_counter, most_records, unconfirmed_of}
-use Rattle.nfs_clients.specs.ExchangeId.{Ask, Case, Refuses, Tells, Adds, has_room, if_room, case_by, case_of, does, exchange_fault, refusal_of, ExchangesOrWants, fault_status, told, told_new}
+use Rattle.nfs_clients.specs.ExchangeId.{Ask, Case, Refuses, Tells, Adds, has_room, if_room, case_by, case_of, does, exchange_fault, refusal_of}
+use Rattle.nfs_clients.specs.ExchangeId.{ExchangesOrWants, fault_status, told, told_new}
 use Rattle.nfs_xdr.specs.Checks.{judged}
 use Rattle.nfs_xdr.specs.Caller.{Caller}
 use Rattle.nfs_compound.specs.SessionArgs.{ExchangeId}
@@ -29,13 +30,15 @@ room_of false case e = absurd (no_room case e)
 -- a record is added only where an id is left
 adds_below : (t : Roster) (a : Ask) → case_of t a ≡ Adds → t.last < last_counter
 adds_below t a e =
-    let parts = and_parts (nat_lt t.last last_counter) (is_some (unconfirmed_of t a.owner) || nat_lt (length t.records) most_records) (room_of (has_room t a.owner) (case_by a (confirmed_of t a.owner)) e) in
+    let parts = and_parts (nat_lt t.last last_counter) (is_some (unconfirmed_of t a.owner) || nat_lt (length t.records) most_records)
+    (room_of (has_room t a.owner) (case_by a (confirmed_of t a.owner)) e) in
     ltb-true t.last last_counter parts.0
 
 -- the call was answered: the record's lease stands, or the one that was made first is taken back
 pub answered_ok : (m : Machine) (who : Caller) (now : ℕ) (e : ExchangeId) (next : ℕ) (x : Exchanged) (after : Roster) (b : Book) (case : Case) →
     IsMachine m → client_at m.clients next ≡ None → (m.clients.last < last_counter → next ≡ next_id m.clients) → case_of m.clients (ask_of who e) ≡ case →
-    Ok x ≡ (does m.clients (ask_of who e) case).answer → after ≡ (does m.clients (ask_of who e) case).after → b ≡ settled (with_lease m.leases next now) next x →
+    Ok x ≡ (does m.clients (ask_of who e) case).answer →
+    after ≡ (does m.clients (ask_of who e) case).after → b ≡ settled (with_lease m.leases next now) next x →
     comes_to (record m { clients = after; leases = b }) (ResExchangeId (granted x)) ≡ exchanged m now (does m.clients (ask_of who e) case)
 answered_ok m who now e next x after b (Refuses fault) is none value at answer left book = absurd cc
 answered_ok m who now e next x after b (Tells c) is none value at answer left book =
@@ -55,7 +58,8 @@ case_ok Adds e t a = (told_new t a.owner, refl)
 
 -- the call was refused before anything was made
 pub refused_first : (m : Machine) (who : Caller) (now : ℕ) (e : ExchangeId) (fault : ClientFault) (case : Case) → Err fault ≡ judged (refusal_of case) →
-    comes_to m (Refused exchange_id_number (fault_status fault)) ≡ or_delay (is_delay (fault_status fault)) m exchange_id_number (exchanged m now (does m.clients (ask_of who e) case))
+    comes_to m (Refused exchange_id_number (fault_status fault))
+    ≡ or_delay (is_delay (fault_status fault)) m exchange_id_number (exchanged m now (does m.clients (ask_of who e) case))
 refused_first m who now e fault (Tells c) is = absurd cc
 refused_first m who now e fault Adds is = absurd cc
 refused_first m who now e Inval (Refuses f) is = let same : f ≡ Inval = cc in rw same refl
@@ -81,10 +85,13 @@ told_fault m who now e fault after Adds is answer = absurd cc
 
 -- the call was refused behind its lease, which was taken back
 pub refused_last : (m : Machine) (who : Caller) (now : ℕ) (e : ExchangeId) (next : ℕ) (fault : ClientFault) (after : Roster) (b : Book) →
-    IsMachine m → client_at m.clients next ≡ None → judged (exchange_fault m.clients (ask_of who e)) ≡ Ok tt → ExchangesOrWants m.clients (ask_of who e) (Err fault) after →
+    IsMachine m → client_at m.clients next ≡ None → judged (exchange_fault m.clients (ask_of who e)) ≡ Ok tt →
+    ExchangesOrWants m.clients (ask_of who e) (Err fault) after →
     b ≡ without_lease (with_lease m.leases next now) next →
-    comes_to (record m { clients = after; leases = b }) (Refused exchange_id_number (fault_status fault)) ≡ or_delay (is_delay (fault_status fault)) m exchange_id_number (exchange_id m who now e)
+    comes_to (record m { clients = after; leases = b }) (Refused exchange_id_number (fault_status fault))
+    ≡ or_delay (is_delay (fault_status fault)) m exchange_id_number (exchange_id m who now e)
 refused_last m who now e next Memory after b is none judged did book =
     let back : b ≡ m.leases = book ∙ taken_back m.leases next now (unleased m next is none) in
     rw (did.1, back) (wanted m who now e (case_of m.clients (ask_of who e)) judged)
-refused_last m who now e next fault after b is none judged did book = absurd (told_fault m who now e fault after (case_of m.clients (ask_of who e)) judged did.0)
+refused_last m who now e next fault after b is none judged did book =
+    absurd (told_fault m who now e fault after (case_of m.clients (ask_of who e)) judged did.0)

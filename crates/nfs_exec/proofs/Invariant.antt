@@ -1,5 +1,6 @@
 -- What holds of every machine is kept by each step.
-use Rattle.std.proofs.Common.{◌≡◌, ◌≢◌, ℕ, ◌+◌, ◌<◌, Bool, true, false, cond, eqb, ltb, List, [], ◌∷◌, length, Option, Some, None, Result, Ok, Err, refl, sym, ◌∙◌, ap, subst, arith, inl, inr}
+use Rattle.std.proofs.Common.{◌≡◌, ◌≢◌, ℕ, ◌+◌, ◌<◌, Bool, true, false, cond, eqb, ltb, List, [], ◌∷◌, length, Option, Some, None, Result, Ok, Err, refl, sym}
+use Rattle.std.proofs.Common.{◌∙◌, ap, subst, arith, inl, inr}
 use Rattle.std.specs.Prelude.{not, ◌&&◌, ◌||◌, filter, is_some, option_map, ◌⊎◌}
 use Rattle.std.specs.Option.{option_map_or}
 use Rattle.std.specs.List.{list_any}
@@ -13,7 +14,8 @@ use Rattle.nfs_compound.specs.Arguments.{item_number}
 use Rattle.nfs_compound.specs.Request.{Request}
 use Rattle.nfs_compound.specs.SessionArgs.{CreateSession}
 use Rattle.nfs_compound.specs.declared.session_args.Sequence.{Sequence}
-use Rattle.nfs_clients.specs.Roster.{ClientRecord, Roster, IsRoster, id_of as client_id, client_at, without, is_unconfirmed_of, unconfirmed_of, confirmed_of, next_id}
+use Rattle.nfs_clients.specs.Roster.{ClientRecord, Roster, IsRoster, id_of as client_id, client_at, without, is_unconfirmed_of, unconfirmed_of, confirmed_of}
+use Rattle.nfs_clients.specs.Roster.{next_id}
 use Rattle.nfs_clients.specs.ExchangeId.{Ask, Case, Refuses, Tells, Adds, has_room, case_by, case_of, does, new_client, with_new}
 use Rattle.nfs_clients.specs.CreateSession as clients
 use Rattle.nfs_clients.specs.CreateSession.{leaving, without_any, with_confirmed, with_kept, confirms, keeps, verdict_by}
@@ -23,14 +25,16 @@ use Rattle.nfs_clients.specs.declared.created.CreateResult.{CreateResult}
 use Rattle.nfs_clients.specs.declared.created.CreateResult.TheVariants.{Done, Refused}
 use Rattle.nfs_clients.specs.declared.destroy.DestroyFault.{DestroyFault}
 use Rattle.nfs_clients.specs.declared.destroy.DestroyFault.TheVariants.{Stale, Busy}
-use Rattle.nfs_clients.proofs.Members.{the_id, mild_keeps, mild_reclaims, mild_holds, fresh, roster_filter, roster_changed, roster_without, roster_confirmed, roster_new, without_unconfirmed}
+use Rattle.nfs_clients.proofs.Members.{the_id, mild_keeps, mild_reclaims, mild_holds, fresh, roster_filter, roster_changed, roster_without, roster_confirmed}
+use Rattle.nfs_clients.proofs.Members.{roster_new, without_unconfirmed}
 use Rattle.nfs_sessions.specs.declared.id.SessionId.{SessionId}
 use Rattle.nfs_sessions.specs.declared.channel.Channel.{Channel}
 use Rattle.nfs_sessions.specs.declared.channel.Wish.{Wish}
 use Rattle.nfs_sessions.specs.declared.sessions.SessionFault.{SessionFault}
 use Rattle.nfs_sessions.specs.Id.{id_of}
 use Rattle.nfs_sessions.specs.SessionSlots.{GrantedSlots}
-use Rattle.nfs_sessions.specs.Sessions.{Session, SessionTable, is_session, session_at, create, create_unless, create_fault, fault_status, with_session, with_slots}
+use Rattle.nfs_sessions.specs.Sessions.{Session, SessionTable, is_session, session_at, create, create_unless, create_fault, fault_status, with_session}
+use Rattle.nfs_sessions.specs.Sessions.{with_slots}
 use Rattle.nfs_sessions.specs.Sessions as sessions
 use Rattle.nfs_lease.specs.Renewals.{Book, has_run_out, with_lease, with_renewal, without_lease}
 use Rattle.nfs_exec.specs.Machine.{Machine, IsMachine, Outcome, is_ok, or_delay, starts, with_mark, is_client, is_confirmed}
@@ -61,7 +65,8 @@ use Rattle.nfs_exec.specs.Behind.{Step, step, on_store, moves_opens, marked_if, 
 use Rattle.nfs_exec.specs.Run.{run, in_room, reserve, is_here, behind_here}
 use Rattle.nfs_exec.proofs.Behind.{follow_kept}
 use Rattle.nfs_exec.proofs.Keeping.{runs_means}
-use Rattle.nfs_exec.proofs.Marks.{changed_holds, keeps_holds, confirms_holds, kept_holds, gone_holds, new_holds, open_staying, numbered_staying, numbered_without}
+use Rattle.nfs_exec.proofs.Marks.{changed_holds, keeps_holds, confirms_holds, kept_holds, gone_holds, new_holds, open_staying, numbered_staying}
+use Rattle.nfs_exec.proofs.Marks.{numbered_without}
 
 pub of_start : (mode instance lease : ℕ) → instance < 4294967296 → IsMachine (starts mode instance lease)
 of_start mode instance lease small = record {
@@ -102,12 +107,14 @@ some_not false a b same = same
 pub of_expired : (m : Machine) (now : ℕ) → IsMachine m → IsMachine (expired now m)
 of_expired m now is =
     let out = has_run_out m.leases now in
-    let at : (n : ℕ) → client_at (expired now m).clients n ≡ cond (not (out n)) (client_at m.clients n) None = λ n. at_ids (λ k. not (out k)) n m.clients.records in
+    let at : (n : ℕ) → client_at (expired now m).clients n ≡ cond (not (out n)) (client_at m.clients n) None =
+    λ n. at_ids (λ k. not (out k)) n m.clients.records in
     record {
       clients = roster_filter m.clients (λ c. not (out c.id)) is.clients;
       leased = λ c. some_not (out c) (m.leases.renewed c) (client_at m.clients c) (is.leased c) ∙ ap is_some (sym (at c));
       confirmed = λ s there. (let kept = in_filter (λ (s : Session). not (out s.client)) m.sessions.sessions s there in
-          ap (λ o. option_map_or (λ (c : ClientRecord). c.confirmed) o false) (at s.client ∙ ap (λ b. cond b (client_at m.clients s.client) None) kept.1) ∙ is.confirmed s kept.0);
+          ap (λ o. option_map_or (λ (c : ClientRecord). c.confirmed) o false) (at s.client ∙ ap (λ b. cond b (client_at m.clients s.client) None) kept.1)
+          ∙ is.confirmed s kept.0);
       marks = λ c. ap has_open_by (at c) ∙ kept_holds (not (out c)) (client_at m.clients c)
           ∙ ap (λ b. not (out c) && b) (is.marks c) ∙ sym (open_staying (λ k. not (out k)) m.store c);
       opened = λ c holds. (let stays = and_parts (not (out c)) (has_open_in m.store c) (sym (open_staying (λ k. not (out k)) m.store c) ∙ holds) in
@@ -132,12 +139,14 @@ pub of_destroyed_client : (m : Machine) (client : ℕ) → IsMachine m → list_
     has_open m.clients client ≡ false →
     IsMachine (record m { clients = without m.clients client; leases = without_lease m.leases client })
 of_destroyed_client m client is none unheld =
-    let at : (n : ℕ) → client_at (without m.clients client) n ≡ cond (eqb n client) None (client_at m.clients n) = λ n. at_without the_id n client m.clients.records in
+    let at : (n : ℕ) → client_at (without m.clients client) n ≡ cond (eqb n client) None (client_at m.clients n) =
+    λ n. at_without the_id n client m.clients.records in
     record {
       clients = roster_without m.clients client is.clients;
       leased = λ c. some_gone (eqb c client) (m.leases.renewed c) (client_at m.clients c) (is.leased c) ∙ ap is_some (sym (at c));
       confirmed = λ s there. (let other = any_none (λ (s : Session). eqb s.client client) m.sessions.sessions s none there in
-          ap (λ o. option_map_or (λ (c : ClientRecord). c.confirmed) o false) (at s.client ∙ ap (λ b. cond b None (client_at m.clients s.client)) other) ∙ is.confirmed s there);
+          ap (λ o. option_map_or (λ (c : ClientRecord). c.confirmed) o false) (at s.client ∙ ap (λ b. cond b None (client_at m.clients s.client)) other)
+          ∙ is.confirmed s there);
       marks = λ c. ap has_open_by (at c) ∙ gone_holds (eqb c client) (client_at m.clients c)
           ∙ ap (λ b. not (eqb c client) && b) (is.marks c) ∙ still c (cases_eq c client);
       opened = λ c holds. ap mark_of (at c) ∙ stays c holds (cases_eq c client);
@@ -155,7 +164,8 @@ of_destroyed_client m client is none unheld =
     stays c holds (inl here) = absurd (false≢true (sym (nothing c here) ∙ holds))
     stays c holds (inr other) = rw (ne_eqb c client other) (is.opened c holds)
 
-pub of_fewer_sessions : (m : Machine) (t : SessionTable) → IsMachine m → ((s : Session) → In s t.sessions → In s m.sessions.sessions) → IsMachine (record m { sessions = t })
+pub of_fewer_sessions : (m : Machine) (t : SessionTable) → IsMachine m
+    → ((s : Session) → In s t.sessions → In s m.sessions.sessions) → IsMachine (record m { sessions = t })
 of_fewer_sessions m t is fewer = record {
   clients = is.clients;
   leased = is.leased;
@@ -187,7 +197,8 @@ of_renewed m client now is = record {
   numbers = is.numbers;
 }
 
-in_slots : (t : SessionTable) (id : SessionId) (change : GrantedSlots → GrantedSlots) (s : Session) → In s (with_slots t id change).sessions → (x : Session) × In x t.sessions × (s.client ≡ x.client)
+in_slots : (t : SessionTable) (id : SessionId) (change : GrantedSlots → GrantedSlots) (s : Session)
+    → In s (with_slots t id change).sessions → (x : Session) × In x t.sessions × (s.client ≡ x.client)
 in_slots t id change s there =
     let was = in_map (λ (s : Session). cond (is_session id s) (record s { slots = change s.slots }) s) t.sessions s there in
     (was.0, was.1, ap (λ (s : Session). s.client) was.2 ∙ same (is_session id was.0) was.0)
@@ -196,7 +207,8 @@ in_slots t id change s there =
     same true x = refl
     same false x = refl
 
-pub of_kept : (m : Machine) (id : SessionId) (change : GrantedSlots → GrantedSlots) → IsMachine m → IsMachine (record m { sessions = with_slots m.sessions id change })
+pub of_kept : (m : Machine) (id : SessionId) (change : GrantedSlots → GrantedSlots)
+    → IsMachine m → IsMachine (record m { sessions = with_slots m.sessions id change })
 of_kept m id change is = record {
   clients = is.clients;
   leased = is.leased;
@@ -208,7 +220,8 @@ of_kept m id change is = record {
 
 -- A client's result that is kept.
 
-map_mark : (f : ClientRecord → ClientRecord) (o : Option ClientRecord) → ((c : ClientRecord) → (f c).confirmed ≡ c.confirmed) → option_map_or (λ (c : ClientRecord). c.confirmed) (option_map f o) false ≡ option_map_or (λ (c : ClientRecord). c.confirmed) o false
+map_mark : (f : ClientRecord → ClientRecord) (o : Option ClientRecord) → ((c : ClientRecord) → (f c).confirmed ≡ c.confirmed)
+    → option_map_or (λ (c : ClientRecord). c.confirmed) (option_map f o) false ≡ option_map_or (λ (c : ClientRecord). c.confirmed) o false
 map_mark f None same = refl
 map_mark f (Some c) same = same c
 
@@ -219,12 +232,14 @@ map_is f (Some c) = refl
 kept_is : (t : Roster) (client c : ℕ) (result : CreateResult) → is_client (with_kept t client result) c ≡ is_client t c
 kept_is t client c result =
     ap is_some (at_with the_id (keeps result) (mild_keeps result).id c client t.records)
-    ∙ elim (eqb c client) as (λ v. is_some (cond v (option_map (keeps result) (client_at t c)) (client_at t c)) ≡ is_client t c) [ true ↦ map_is (keeps result) (client_at t c) | false ↦ refl ]
+    ∙ elim (eqb c client) as (λ v. is_some (cond v (option_map (keeps result) (client_at t c)) (client_at t c)) ≡ is_client t c)
+    [ true ↦ map_is (keeps result) (client_at t c) | false ↦ refl ]
 
 kept_mark : (t : Roster) (client c : ℕ) (result : CreateResult) → is_confirmed (with_kept t client result) c ≡ is_confirmed t c
 kept_mark t client c result =
     ap (λ o. option_map_or (λ (c : ClientRecord). c.confirmed) o false) (at_with the_id (keeps result) (mild_keeps result).id c client t.records)
-    ∙ elim (eqb c client) as (λ v. option_map_or (λ (c : ClientRecord). c.confirmed) (cond v (option_map (keeps result) (client_at t c)) (client_at t c)) false ≡ is_confirmed t c) [
+    ∙ elim (eqb c client) as (λ v.
+    option_map_or (λ (c : ClientRecord). c.confirmed) (cond v (option_map (keeps result) (client_at t c)) (client_at t c)) false ≡ is_confirmed t c) [
       | true ↦ map_mark (keeps result) (client_at t c) (mild_keeps result).mark
       | false ↦ refl
     ]
@@ -265,7 +280,8 @@ named t owner d is found =
 
 -- the record that is replaced is not confirmed, and has not the next id
 
-keeps_confirmed : (t : Roster) (owner : List ℕ) (o : Option ClientRecord) (n : ℕ) → IsRoster t → unconfirmed_of t owner ≡ o → is_confirmed t n ≡ true → is_id (option_map the_id o) n ≡ false
+keeps_confirmed : (t : Roster) (owner : List ℕ) (o : Option ClientRecord) (n : ℕ) → IsRoster t
+    → unconfirmed_of t owner ≡ o → is_confirmed t n ≡ true → is_id (option_map the_id o) n ≡ false
 unfolding is_id
 keeps_confirmed t owner None n is found mark = refl
 keeps_confirmed t owner (Some d) n is found mark = elim (cases_eq n d.id) [
@@ -275,7 +291,8 @@ keeps_confirmed t owner (Some d) n is found mark = elim (cases_eq n d.id) [
   | inr other ↦ ne_eqb n d.id other
 ]
 
-keeps_next : (t : Roster) (owner : List ℕ) (o : Option ClientRecord) (n : ℕ) → IsRoster t → unconfirmed_of t owner ≡ o → client_at t n ≡ None → is_id (option_map the_id o) n ≡ false
+keeps_next : (t : Roster) (owner : List ℕ) (o : Option ClientRecord) (n : ℕ) → IsRoster t
+    → unconfirmed_of t owner ≡ o → client_at t n ≡ None → is_id (option_map the_id o) n ≡ false
 unfolding is_id
 keeps_next t owner None n is found none = refl
 keeps_next t owner (Some d) n is found none = elim (cases_eq n d.id) [
@@ -289,21 +306,27 @@ only_some (Some x) = refl
 
 -- what an id names behind a new record
 new_at : (t : Roster) (a : Ask) (n : ℕ) → IsRoster t → client_at (with_new t a) n ≡
-    (let f = cond (is_id (option_map the_id (unconfirmed_of t a.owner)) n) None (client_at t n) in cond (is_some f) f (cond (eqb (next_id t) n) (Some (new_client t a)) None))
+    (let f = cond (is_id (option_map the_id (unconfirmed_of t a.owner)) n) None (client_at t n) in
+    cond (is_some f) f (cond (eqb (next_id t) n) (Some (new_client t a)) None))
 new_at t a n is =
-    let rest : record_at the_id (filter (λ c. not (is_unconfirmed_of a.owner c)) t.records) n ≡ cond (is_id (option_map the_id (unconfirmed_of t a.owner)) n) None (client_at t n) =
-    ap (λ xs. record_at the_id xs n) (sym (without_unconfirmed t a.owner is (unconfirmed_of t a.owner) refl)) ∙ without_is t (option_map the_id (unconfirmed_of t a.owner)) n in
+    let rest : record_at the_id (filter (λ c. not (is_unconfirmed_of a.owner c)) t.records) n
+    ≡ cond (is_id (option_map the_id (unconfirmed_of t a.owner)) n) None (client_at t n) =
+    ap (λ xs. record_at the_id xs n) (sym (without_unconfirmed t a.owner is (unconfirmed_of t a.owner) refl))
+    ∙ without_is t (option_map the_id (unconfirmed_of t a.owner)) n in
     at_push the_id n (filter (λ c. not (is_unconfirmed_of a.owner c)) t.records) (new_client t a)
     ∙ ap (λ (f : Option ClientRecord). cond (is_some f) f (cond (eqb (next_id t) n) (Some (new_client t a)) None)) rest
 
-new_leased : (b : Book) (id now n : ℕ) (new : ClientRecord) (old : Option ClientRecord) (gone : Bool) → is_some (b.renewed n) ≡ is_some old → (n ≡ id → (old ≡ None) × (gone ≡ false)) →
-    is_some (cond gone None ((with_lease b id now).renewed n)) ≡ is_some (cond (is_some (cond gone None old)) (cond gone None old) (cond (eqb id n) (Some new) None))
+new_leased : (b : Book) (id now n : ℕ) (new : ClientRecord) (old : Option ClientRecord) (gone : Bool) →
+    is_some (b.renewed n) ≡ is_some old → (n ≡ id → (old ≡ None) × (gone ≡ false)) →
+    is_some (cond gone None ((with_lease b id now).renewed n))
+    ≡ is_some (cond (is_some (cond gone None old)) (cond gone None old) (cond (eqb id n) (Some new) None))
 new_leased b id now n new old gone same fresh = elim (cases_eq n id) [
   | inl here ↦ (let none = fresh here in rw (none.0, none.1, eq-eqb n id here, eq-eqb id n (sym here)) refl)
   | inr other ↦ rw (ne_eqb n id other, ne_eqb id n (λ e. other (sym e))) (some_gone gone (b.renewed n) old same ∙ sym (only_some (cond gone None old)))
 ]
 
-new_mark : (id n : ℕ) (new : ClientRecord) (old : Option ClientRecord) (gone : Bool) → gone ≡ false → mark_of old ≡ true → mark_of (cond (is_some (cond gone None old)) (cond gone None old) (cond (eqb id n) (Some new) None)) ≡ true
+new_mark : (id n : ℕ) (new : ClientRecord) (old : Option ClientRecord) (gone : Bool) → gone ≡ false → mark_of old ≡ true
+    → mark_of (cond (is_some (cond gone None old)) (cond gone None old) (cond (eqb id n) (Some new) None)) ≡ true
 new_mark id n new None gone stays mark = absurd (false≢true mark)
 new_mark id n new (Some c) gone stays mark = rw stays mark
 
@@ -314,7 +337,10 @@ unheld true false stays = refl
 unheld false false stays = refl
 
 pub of_new : (m : Machine) (a : Ask) (now : ℕ) → IsMachine m → has_room m.clients a.owner ≡ true →
-    IsMachine (record m { clients = with_new m.clients a; leases = without_any_lease (with_lease m.leases (next_id m.clients) now) (option_map the_id (unconfirmed_of m.clients a.owner)) })
+    IsMachine (record m {
+      clients = with_new m.clients a;
+      leases = without_any_lease (with_lease m.leases (next_id m.clients) now) (option_map the_id (unconfirmed_of m.clients a.owner));
+    })
 of_new m a now is room =
     let t = m.clients in
     let o = unconfirmed_of t a.owner in
@@ -325,7 +351,8 @@ of_new m a now is room =
           (λ here. (let none : client_at t n ≡ None = ap (client_at t) here ∙ fresh t is.clients in (none, keeps_next t a.owner o n is.clients refl none)))
           ∙ ap is_some (sym (new_at t a n is.clients));
       confirmed = λ s there. (let mark = is.confirmed s there in
-          ap mark_of (new_at t a s.client is.clients) ∙ new_mark (next_id t) s.client (new_client t a) (client_at t s.client) (is_id (option_map the_id o) s.client) (keeps_confirmed t a.owner o s.client is.clients refl mark) mark);
+          ap mark_of (new_at t a s.client is.clients) ∙ new_mark (next_id t) s.client (new_client t a) (client_at t s.client)
+          (is_id (option_map the_id o) s.client) (keeps_confirmed t a.owner o s.client is.clients refl mark) mark);
       marks = λ n. ap has_open_by (new_at t a n is.clients)
           ∙ new_holds (eqb (next_id t) n) (new_client t a) (cond (is_id (option_map the_id o) n) None (client_at t n)) refl
           ∙ gone_holds (is_id (option_map the_id o) n) (client_at t n) ∙ ap (λ b. not (is_id (option_map the_id o) n) && b) (is.marks n)
@@ -337,7 +364,8 @@ of_new m a now is room =
       numbers = is.numbers;
     }
 
-pub of_exchanged : (m : Machine) (a : Ask) (now : ℕ) (case : Case) → IsMachine m → case_of m.clients a ≡ case → IsMachine (record m { clients = (does m.clients a case).after; leases = leases_behind m.leases now (does m.clients a case).answer })
+pub of_exchanged : (m : Machine) (a : Ask) (now : ℕ) (case : Case) → IsMachine m → case_of m.clients a ≡ case
+    → IsMachine (record m { clients = (does m.clients a case).after; leases = leases_behind m.leases now (does m.clients a case).answer })
 of_exchanged m a now (Refuses fault) is at = is
 of_exchanged m a now (Tells c) is at = is
 of_exchanged m a now Adds is at = of_new m a now is (room_of (has_room m.clients a.owner) (case_by a (confirmed_of m.clients a.owner)) at)
@@ -347,7 +375,8 @@ of_exchanged m a now Adds is at = of_new m a now is (room_of (has_room m.clients
 in_without : (t : SessionTable) (o : Option ℕ) (s : Session) → In s (without_any_sessions t o).sessions → In s t.sessions × (is_id o s.client ≡ false)
 unfolding is_id
 in_without t None s there = (there, refl)
-in_without t (Some gone) s there = (let kept = in_filter (λ (s : Session). not (eqb s.client gone)) t.sessions s there in (kept.0, not_true (eqb s.client gone) kept.1))
+in_without t (Some gone) s there =
+    (let kept = in_filter (λ (s : Session). not (eqb s.client gone)) t.sessions s there in (kept.0, not_true (eqb s.client gone) kept.1))
 
 -- an open that is left is of somebody else
 left_open : (s : State) (o : Option ℕ) (n : ℕ) → has_open_in (without_any_opens s o) n ≡ (not (is_id o n) && has_open_in s n)
@@ -377,21 +406,27 @@ marked : (here : Bool) (f : Option ClientRecord) → is_some f ≡ true → (her
 marked true f there other = marked_here f there
 marked false f there other = other refl
 
-pub of_confirmed : (m : Machine) (now client : ℕ) (body : List ℕ) (t : SessionTable) → IsMachine m → is_client m.clients client ≡ true → ((s : Session) → In s t.sessions → (s.client ≡ client) ⊎ In s m.sessions.sessions) →
+pub of_confirmed : (m : Machine) (now client : ℕ) (body : List ℕ) (t : SessionTable) → IsMachine m →
+    is_client m.clients client ≡ true → ((s : Session) → In s t.sessions → (s.client ≡ client) ⊎ In s m.sessions.sessions) →
     IsMachine (confirmed (record m { sessions = t }) now client body)
 of_confirmed m now client body t is known sessions =
     let r = m.clients in
     let gone = leaving r client in
     record {
       clients = roster_changed (keeps (Done body)) (with_confirmed r client) client (mild_keeps (Done body)) (roster_confirmed r client is.clients);
-      leased = λ n. renewed_some (without_any_lease m.leases gone) client now n ∙ ap is_some (lease_is m.leases gone n) ∙ some_gone (is_id gone n) (m.leases.renewed n) (client_at r n) (is.leased n)
-          ∙ sym (confirmed_some (eqb n client) (cond (is_id gone n) None (client_at r n))) ∙ ap is_some (sym (confirmed_at r client n)) ∙ sym (kept_is (with_confirmed r client) client n (Done body));
+      leased = λ n. renewed_some (without_any_lease m.leases gone) client now n ∙ ap is_some (lease_is m.leases gone n)
+          ∙ some_gone (is_id gone n) (m.leases.renewed n) (client_at r n) (is.leased n)
+          ∙ sym (confirmed_some (eqb n client) (cond (is_id gone n) None (client_at r n)))
+          ∙ ap is_some (sym (confirmed_at r client n)) ∙ sym (kept_is (with_confirmed r client) client n (Done body));
       confirmed = λ s there. (let left = in_without t gone s there in
           let stays : cond (is_id gone s.client) None (client_at r s.client) ≡ client_at r s.client = ap (λ b. cond b None (client_at r s.client)) left.1 in
-          kept_mark (with_confirmed r client) client s.client (Done body) ∙ ap mark_of (confirmed_at r client s.client) ∙ ap (λ (f : Option ClientRecord). mark_of (cond (eqb s.client client) (option_map confirms f) f)) stays
+          kept_mark (with_confirmed r client) client s.client (Done body) ∙ ap mark_of (confirmed_at r client s.client)
+          ∙ ap (λ (f : Option ClientRecord). mark_of (cond (eqb s.client client) (option_map confirms f) f)) stays
           ∙ elim (sessions s left.0) [
-            | inl new ↦ marked (eqb s.client client) (client_at r s.client) (ap (is_client r) new ∙ known) (λ other. absurd (false≢true (sym other ∙ eq-eqb s.client client new)))
-            | inr old ↦ marked (eqb s.client client) (client_at r s.client) (some_of_mark (client_at r s.client) (is.confirmed s old)) (λ other. is.confirmed s old)
+            | inl new ↦ marked (eqb s.client client) (client_at r s.client) (ap (is_client r) new ∙ known)
+                (λ other. absurd (false≢true (sym other ∙ eq-eqb s.client client new)))
+            | inr old ↦ marked (eqb s.client client) (client_at r s.client)
+                (some_of_mark (client_at r s.client) (is.confirmed s old)) (λ other. is.confirmed s old)
           ]);
       marks = λ n. changed_holds (with_confirmed r client) client n (keeps (Done body)) (mild_keeps (Done body)).id (keeps_holds (Done body))
           ∙ ap has_open_by (confirmed_at r client n)
@@ -422,7 +457,8 @@ delayed m o refused n before after = elim (cases_Bool (refused && is_ok o.status
   | inr other ↦ rw other after
 ]
 
-of_created : (m : Machine) (now : ℕ) (refused : Bool) (c : CreateSession) (v : clients.Verdict) → IsMachine m → (v ≡ clients.Runs → is_client m.clients c.clientid ≡ true) → IsMachine (by_verdict m now refused c v).machine
+of_created : (m : Machine) (now : ℕ) (refused : Bool) (c : CreateSession) (v : clients.Verdict) → IsMachine m
+    → (v ≡ clients.Runs → is_client m.clients c.clientid ≡ true) → IsMachine (by_verdict m now refused c v).machine
 of_created m now refused c clients.Stale is known = is
 of_created m now refused c (clients.Again (Done body)) is known = is
 of_created m now refused c (clients.Again (Refused status)) is known = is
@@ -435,7 +471,8 @@ of_created m now refused c clients.Runs is known =
 -- The operations that stand alone.
 
 of_destroyed : (m : Machine) (client : ℕ) (o : Option DestroyFault) → IsMachine m →
-    (o ≡ None → (list_any (λ (s : Session). eqb s.client client) m.sessions.sessions ≡ false) × (has_open m.clients client ≡ false)) → IsMachine (destroyed_unless m client o).machine
+    (o ≡ None → (list_any (λ (s : Session). eqb s.client client) m.sessions.sessions ≡ false) × (has_open m.clients client ≡ false)) →
+    IsMachine (destroyed_unless m client o).machine
 of_destroyed m client None is none = of_destroyed_client m client is (none refl).0 (none refl).1
 of_destroyed m client (Some fault) is none = is
 
@@ -447,20 +484,24 @@ nothing_left false false false e = (refl, refl)
 
 of_destroyed_session : (m : Machine) (sessionid : List ℕ) → IsMachine m → IsMachine (destroy_session m sessionid).machine
 of_destroyed_session m sessionid is = elim (cases_Bool (is_some (session_at m.sessions (id_of sessionid)))) [
-  | inl stood ↦ rw stood (of_fewer_sessions m (sessions.destroyed m.sessions (id_of sessionid)) is (λ s there. (in_filter (λ s. not (is_session (id_of sessionid) s)) m.sessions.sessions s there).0))
+  | inl stood ↦ rw stood (of_fewer_sessions m (sessions.destroyed m.sessions (id_of sessionid)) is
+      (λ s there. (in_filter (λ s. not (is_session (id_of sessionid) s)) m.sessions.sessions s there).0))
   | inr not_there ↦ rw not_there is
 ]
 
 carried : (m : Machine) (who : Caller) (now : ℕ) (refused : Bool) (i : Item) → IsMachine m → IsMachine (carried_out m who now refused i).machine
-carried m who now refused (Operation (OpExchangeId e)) is = delayed m (exchange_id m who now e) refused exchange_id_number is (of_exchanged m (ask_of who e) now (case_of m.clients (ask_of who e)) is refl)
-carried m who now refused (Operation (OpCreateSession c)) is = of_created m now refused c (clients.create_verdict m.clients c.clientid c.sequence who.uid) is (known_runs (client_at m.clients c.clientid) c.sequence who.uid)
+carried m who now refused (Operation (OpExchangeId e)) is =
+    delayed m (exchange_id m who now e) refused exchange_id_number is (of_exchanged m (ask_of who e) now (case_of m.clients (ask_of who e)) is refl)
+carried m who now refused (Operation (OpCreateSession c)) is = of_created m now refused c
+    (clients.create_verdict m.clients c.clientid c.sequence who.uid) is (known_runs (client_at m.clients c.clientid) c.sequence who.uid)
 carried m who now refused (Operation (OpDestroySession sessionid)) is = of_destroyed_session m sessionid is
 carried m who now refused (Operation (OpDestroyClientId client)) is =
     of_destroyed m client (destroy_fault m.clients client (has_session m.sessions client)) is
     (nothing_left (not (is_client m.clients client)) (has_session m.sessions client) (has_open m.clients client))
 carried m who now refused i is = is
 
-first : (m : Machine) (declared : ℕ) (who : Caller) (now : ℕ) (refused : Bool) (i : Item) → IsMachine m → IsMachine (first_item m declared who now refused i).machine
+first : (m : Machine) (declared : ℕ) (who : Caller) (now : ℕ) (refused : Bool) (i : Item)
+    → IsMachine m → IsMachine (first_item m declared who now refused i).machine
 first m declared who now refused i is = go (item_fault declared i)
   where
     go : (f : Option Status) → IsMachine (by_fault m (item_number i) f (carried_out m who now refused i)).machine
@@ -496,7 +537,8 @@ of_reclaimed m x is known = elim (cases_Bool (has_reclaimed m.clients x.client))
     reclaims_is : (c : ℕ) → is_client (with_reclaimed m.clients x.client) c ≡ is_client m.clients c
     reclaims_is c =
         ap is_some (at_with the_id reclaims mild_reclaims.id c x.client m.clients.records)
-        ∙ elim (eqb c x.client) as (λ v. is_some (cond v (option_map reclaims (client_at m.clients c)) (client_at m.clients c)) ≡ is_client m.clients c) [ true ↦ map_is reclaims (client_at m.clients c) | false ↦ refl ]
+        ∙ elim (eqb c x.client) as (λ v. is_some (cond v (option_map reclaims (client_at m.clients c)) (client_at m.clients c)) ≡ is_client m.clients c)
+        [ true ↦ map_is reclaims (client_at m.clients c) | false ↦ refl ]
 
     reclaims_mark : (c : ℕ) → is_confirmed (with_reclaimed m.clients x.client) c ≡ is_confirmed m.clients c
     reclaims_mark c =
@@ -649,12 +691,14 @@ sequenced_kept m r who size now choice s more (sequence.Runs c) is comes =
     (of_renewed m (id_of s.sessionid).client now is)
     (runs_for m r who size s c is comes))
 
-items_kept : (m : Machine) (r : Request) (who : Caller) (size now : ℕ) (choice : Option ℕ) (items : List Item) → IsMachine m → IsMachine (by_first m r who size now choice items).machine
+items_kept : (m : Machine) (r : Request) (who : Caller) (size now : ℕ) (choice : Option ℕ) (items : List Item)
+    → IsMachine m → IsMachine (by_first m r who size now choice items).machine
 items_kept m r who size now choice [] is = is
 items_kept m r who size now choice (Operation (OpSequence s) ∷ more) is = sequenced_kept m r who size now choice s more (sequenced m r who size s) is refl
 items_kept m r who size now choice (item ∷ more) is = first m r.declared who now (is_here choice) item is
 
-pub of_compound : (m : Machine) (r : Request) (who : Caller) (size now : ℕ) (choice : Option ℕ) → IsMachine m → IsMachine (compound m r who size now choice).machine
+pub of_compound : (m : Machine) (r : Request) (who : Caller) (size now : ℕ) (choice : Option ℕ)
+    → IsMachine m → IsMachine (compound m r who size now choice).machine
 of_compound m r who size now choice is = elim (cases_Bool (eqb r.minor 1)) [
   | inl one ↦ rw one (items_kept m r who size now choice r.left is)
   | inr other ↦ rw other is

@@ -12,7 +12,8 @@ use Rattle.nfs_exec.specs.Sequence.{Refuses, by_session, slot_fault, fresh_fault
 
 -- a new request is refused
 pub refuses_fresh : (r : Request) (who : Caller) (size : ℕ) (s : Sequence) (o : Option Session) (g : GrantedSlots) (status : Status) →
-    Some g ≡ option_map (λ (x : Session). x.slots) o → slot_fault s g.channel ≡ None → judge g s.slotid s.sequenceid who.uid r.bytes ≡ Fresh → fresh_fault r size g.channel ≡ Some status →
+    Some g ≡ option_map (λ (x : Session). x.slots) o → slot_fault s g.channel ≡ None →
+    judge g s.slotid s.sequenceid who.uid r.bytes ≡ Fresh → fresh_fault r size g.channel ≡ Some status →
     Refuses status ≡ by_session r who size s o
 refuses_fresh r who size s None g status found none fresh fault = absurd cc
 refuses_fresh r who size s (Some session) g status found none fresh fault =

@@ -1,5 +1,6 @@
 -- A request that runs in a session: its room, the head that is closed over its results, and the reply that its slot keeps.
-use Rattle.std.proofs.Common.{◌≡◌, ℕ, suc, ◌+◌, ◌-◌, ◌≤◌, ◌<◌, Bool, true, false, cond, ltb, List, [], ◌∷◌, ◌++◌, length, take, drop, Option, Some, None, refl, sym, ◌∙◌, ap, subst, arith, inl, inr}
+use Rattle.std.proofs.Common.{◌≡◌, ℕ, suc, ◌+◌, ◌-◌, ◌≤◌, ◌<◌, Bool, true, false, cond, ltb, List, [], ◌∷◌, ◌++◌, length, take, drop, Option, Some, None, refl}
+use Rattle.std.proofs.Common.{sym, ◌∙◌, ap, subst, arith, inl, inr}
 use Rattle.std.proofs.lemmas.Bool.{cases_Bool, ltb-false}
 use Rattle.std.proofs.lemmas.List.{length-append, append_assoc}
 use Rattle.std.proofs.Math.Seq.{drop-append_seam}
@@ -51,7 +52,8 @@ unless_runs : (f : Option Status) (v : Sequenced) (c : Channel) → unless f v �
 unless_runs None v c e = (refl, e)
 unless_runs (Some s) v c e = absurd cc
 
-fresh_runs : (r : Request) (size : ℕ) (s : Sequence) (g : GrantedSlots) (v : Verdict) (c : Channel) → by_verdict r size s g v ≡ Runs c → (v ≡ Fresh) × (fresh_fault r size g.channel ≡ None) × (g.channel ≡ c)
+fresh_runs : (r : Request) (size : ℕ) (s : Sequence) (g : GrantedSlots) (v : Verdict) (c : Channel)
+    → by_verdict r size s g v ≡ Runs c → (v ≡ Fresh) × (fresh_fault r size g.channel ≡ None) × (g.channel ≡ c)
 fresh_runs r size s g NoSlot c e = absurd cc
 fresh_runs r size s g Misordered c e = absurd cc
 fresh_runs r size s g FalseRetry c e = absurd cc
@@ -63,7 +65,8 @@ passed true b x y e = absurd cc
 passed false true x y e = absurd cc
 passed false false x y e = (refl, refl)
 
-pub runs_means : (r : Request) (who : Caller) (size : ℕ) (s : Sequence) (o : Option Session) (c : Channel) → by_session r who size s o ≡ Runs c → IsFresh r who size s o c
+pub runs_means : (r : Request) (who : Caller) (size : ℕ) (s : Sequence) (o : Option Session) (c : Channel)
+    → by_session r who size s o ≡ Runs c → IsFresh r who size s o c
 runs_means r who size s None c e = absurd cc
 runs_means r who size s (Some session) c e =
     let g = session.slots in
@@ -90,11 +93,13 @@ accepted_long s c long = length_result (Operation (OpSequence s)) (ResSequence (
 spelled_whole : (a h s r : List ℕ) → ((a ++ h) ++ s) ++ r ≡ (a ++ h) ++ (s ++ r)
 spelled_whole a h s r = append_assoc (a ++ h) s r
 
-put_thrice : (before first second third : Paper) (h s r : List ℕ) → Puts before first h → Puts first second s → Puts second third r → third.bytes ≡ (before.bytes ++ h) ++ (s ++ r)
+put_thrice : (before first second third : Paper) (h s r : List ℕ) → Puts before first h
+    → Puts first second s → Puts second third r → third.bytes ≡ (before.bytes ++ h) ++ (s ++ r)
 put_thrice before first second third h s r one two three =
     three.bytes ∙ ap (λ xs. xs ++ r) (two.bytes ∙ ap (λ xs. xs ++ s) one.bytes) ∙ spelled_whole before.bytes h s r
 
-pub has_head : (before first second third : Paper) (status_at count_at : ℕ) (tag s r : List ℕ) → HeadsAt status_at count_at before.bytes tag → Puts before first (spell_compound_head Nfs4Ok tag 0) → Puts first second s → Puts second third r →
+pub has_head : (before first second third : Paper) (status_at count_at : ℕ) (tag s r : List ℕ) → HeadsAt status_at count_at before.bytes tag →
+    Puts before first (spell_compound_head Nfs4Ok tag 0) → Puts first second s → Puts second third r →
     HasHead status_at count_at third.bytes
 has_head before first second third status_at count_at tag s r places one two three = record {
   before = before.bytes;
@@ -106,7 +111,8 @@ has_head before first second third status_at count_at tag s r places one two thr
   spelled = put_thrice before first second third (spell_compound_head Nfs4Ok tag 0) s r one two three;
 }
 
-pub closed : (before first second third last : Paper) (status_at count_at : ℕ) (status : Status) (count : ℕ) (tag s r : List ℕ) → HeadsAt status_at count_at before.bytes tag → Puts before first (spell_compound_head Nfs4Ok tag 0) → Puts first second s → Puts second third r →
+pub closed : (before first second third last : Paper) (status_at count_at : ℕ) (status : Status) (count : ℕ) (tag s r : List ℕ) →
+    HeadsAt status_at count_at before.bytes tag → Puts before first (spell_compound_head Nfs4Ok tag 0) → Puts first second s → Puts second third r →
     SetsHead status_at count_at status count third last → Puts before last (spell_compound_head status tag count ++ (s ++ r))
 closed before first second third last status_at count_at status count tag s r places one two three sets = record {
   bytes = sets.bytes before.bytes Nfs4Ok tag 0 (s ++ r) places (put_thrice before first second third (spell_compound_head Nfs4Ok tag 0) s r one two three)
@@ -115,8 +121,10 @@ closed before first second third last status_at count_at status count tag s r pl
 }
 
 -- what stands behind the place where a text was put is that text
-pub text_of : (old new : Paper) (text : List ℕ) (start : ℕ) → Puts old new text → start ≡ length old.bytes → take (length new.bytes - start) (drop start new.bytes) ≡ text
-text_of old new text start put at = the_rest start new.bytes ∙ ap (λ n. drop n new.bytes) at ∙ ap (drop (length old.bytes)) put.bytes ∙ drop-append_seam old.bytes text
+pub text_of : (old new : Paper) (text : List ℕ) (start : ℕ) → Puts old new text
+    → start ≡ length old.bytes → take (length new.bytes - start) (drop start new.bytes) ≡ text
+text_of old new text start put at = the_rest start new.bytes ∙ ap (λ n. drop n new.bytes) at
+    ∙ ap (drop (length old.bytes)) put.bytes ∙ drop-append_seam old.bytes text
 
 pub starts_within : (old new : Paper) (text : List ℕ) (start : ℕ) → Puts old new text → start ≡ length old.bytes → start ≤ length new.bytes
 starts_within old new text start put at = (let whole = ap length put.bytes ∙ length-append old.bytes text in omega (arith, whole, at))
@@ -129,12 +137,14 @@ follow_few o rest n few = elim (cases_Bool (is_ok o.status)) [
   | inr e ↦ rw e (omega arith)
 ]
 
-pub run_few : (limit sofar now : ℕ) (choice : Option ℕ) (m : Machine) (x : Context) (items : List Item) → (run limit sofar now choice m x items).count ≤ length items
+pub run_few : (limit sofar now : ℕ) (choice : Option ℕ) (m : Machine) (x : Context) (items : List Item)
+    → (run limit sofar now choice m x items).count ≤ length items
 run_few limit sofar now choice m x [] = omega arith
 run_few limit sofar now choice m x (item ∷ more) =
     let s = in_room limit sofar now (is_here choice) m x item in
     let next = sofar + length s.outcome.result in
-    follow_few s.outcome (run limit next now (behind_here choice) s.outcome.machine s.context more) (length more) (run_few limit next now (behind_here choice) s.outcome.machine s.context more)
+    follow_few s.outcome (run limit next now (behind_here choice) s.outcome.machine s.context more)
+    (length more) (run_few limit next now (behind_here choice) s.outcome.machine s.context more)
 
 pub sixteen : (id : SessionId) (bytes : List ℕ) → id_bytes id ≡ bytes → length bytes ≡ 16
 sixteen id bytes is = ap length (sym is) ∙ length_id id
@@ -143,38 +153,45 @@ pub head_fits : (paper : Paper) (tag : List ℕ) → length tag ≤ 1024 → Has
 head_fits paper tag short room = (let h = length_head_within Nfs4Ok tag 0 short in omega (arith, h, room))
 
 -- SEQUENCE's result behind the head: it fits, and so does the refusal of what follows
-pub first_long : (old mid : Paper) (tag text : List ℕ) → length tag ≤ 1024 → Puts old mid (spell_compound_head Nfs4Ok tag 0) → length mid.bytes ≤ length old.bytes + 1036
+pub first_long : (old mid : Paper) (tag text : List ℕ) → length tag ≤ 1024
+    → Puts old mid (spell_compound_head Nfs4Ok tag 0) → length mid.bytes ≤ length old.bytes + 1036
 first_long old mid tag text short put =
     let h = length_head_within Nfs4Ok tag 0 short in
     let long = ap length put.bytes ∙ length-append old.bytes (spell_compound_head Nfs4Ok tag 0) in
     omega (arith, h, long)
 
-pub second_fits : (old mid : Paper) (tag text : List ℕ) → length tag ≤ 1024 → HasReplyRoom old → Puts old mid (spell_compound_head Nfs4Ok tag 0) → length text ≤ 44 → HasRoom mid text
+pub second_fits : (old mid : Paper) (tag text : List ℕ) → length tag ≤ 1024 → HasReplyRoom old
+    → Puts old mid (spell_compound_head Nfs4Ok tag 0) → length text ≤ 44 → HasRoom mid text
 second_fits old mid tag text short room put long =
     let h = first_long old mid tag text short put in
     let same = put.room in
     omega (arith, h, room, long, same)
 
-pub run_fits : (old mid new : Paper) (tag text : List ℕ) (start limit : ℕ) → length tag ≤ 1024 → Puts old mid (spell_compound_head Nfs4Ok tag 0) → Puts mid new text → length text ≤ 44 → start ≡ length old.bytes → 2048 ≤ limit →
+pub run_fits : (old mid new : Paper) (tag text : List ℕ) (start limit : ℕ) → length tag ≤ 1024 →
+    Puts old mid (spell_compound_head Nfs4Ok tag 0) → Puts mid new text → length text ≤ 44 → start ≡ length old.bytes → 2048 ≤ limit →
     length new.bytes + 36 ≤ start + limit
 run_fits old mid new tag text start limit short one two long at large =
     let h = first_long old mid tag text short one in
     let more = ap length two.bytes ∙ length-append mid.bytes text in
     omega (arith, h, more, long, at, large)
 
-pub within_64 : (count limit sofar now : ℕ) (choice : Option ℕ) (m : Machine) (x : Context) (items : List Item) → count ≡ (run limit sofar now choice m x items).count → length items ≤ 64 → count + 1 < 4294967296
+pub within_64 : (count limit sofar now : ℕ) (choice : Option ℕ) (m : Machine) (x : Context) (items : List Item)
+    → count ≡ (run limit sofar now choice m x items).count → length items ≤ 64 → count + 1 < 4294967296
 within_64 count limit sofar now choice m x items is few = (let h = run_few limit sofar now choice m x items in omega (arith, is, few, h))
 
 -- the reply so far, when the run begins
-pub begun_is : (before first second : Paper) (tag text : List ℕ) (start : ℕ) → Puts before first (spell_compound_head Nfs4Ok tag 0) → Puts first second text → start ≡ length before.bytes →
+pub begun_is : (before first second : Paper) (tag text : List ℕ) (start : ℕ) →
+    Puts before first (spell_compound_head Nfs4Ok tag 0) → Puts first second text → start ≡ length before.bytes →
     24 + (length second.bytes - start) ≡ 24 + length (spell_compound_head Nfs4Ok tag 0) + length text
 begun_is before first second tag text start one two at =
     let h = ap length one.bytes ∙ length-append before.bytes (spell_compound_head Nfs4Ok tag 0) in
     let more = ap length two.bytes ∙ length-append first.bytes text in
     omega (arith, h, more, at)
 
-pub put_closed : (before first second third last : Paper) (status_at count_at : ℕ) (tag s : List ℕ) (ran : Ran) (told : Told) (m : Machine) → HeadsAt status_at count_at before.bytes tag → Puts before first (spell_compound_head Nfs4Ok tag 0) → Puts first second s →
-    RunsTo ran told m second third → SetsHead status_at count_at told.status (told.count + 1) third last → Puts before last (spell_compound_head ran.status tag (suc ran.count) ++ (s ++ ran.results))
+pub put_closed : (before first second third last : Paper) (status_at count_at : ℕ) (tag s : List ℕ) (ran : Ran) (told : Told) (m : Machine) →
+    HeadsAt status_at count_at before.bytes tag → Puts before first (spell_compound_head Nfs4Ok tag 0) → Puts first second s →
+    RunsTo ran told m second third → SetsHead status_at count_at told.status (told.count + 1) third last →
+    Puts before last (spell_compound_head ran.status tag (suc ran.count) ++ (s ++ ran.results))
 put_closed before first second third last status_at count_at tag s ran told m places one two runs sets =
     let put = closed before first second third last status_at count_at told.status (told.count + 1) tag s ran.results places one two runs.put sets in
     let more : told.count + 1 ≡ suc ran.count = (let same = runs.count in omega (arith, same)) in
@@ -189,12 +206,15 @@ length_compound_head status tag count =
     let two = length_number count in
     omega (arith, whole, rest, one, two)
 
-pub last_fits : (before first second third last : Paper) (status_at count_at limit start : ℕ) (tag s : List ℕ) (ran : Ran) (told : Told) (m : Machine) → HeadsAt status_at count_at before.bytes tag → Puts before first (spell_compound_head Nfs4Ok tag 0) → Puts first second s →
-    RunsTo ran told m second third → SetsHead status_at count_at told.status (told.count + 1) third last → length third.bytes + 24 ≤ start + limit → start ≡ length before.bytes → length last.bytes + 24 ≤ length before.bytes + limit
+pub last_fits : (before first second third last : Paper) (status_at count_at limit start : ℕ) (tag s : List ℕ) (ran : Ran) (told : Told) (m : Machine) →
+    HeadsAt status_at count_at before.bytes tag → Puts before first (spell_compound_head Nfs4Ok tag 0) → Puts first second s →
+    RunsTo ran told m second third → SetsHead status_at count_at told.status (told.count + 1) third last →
+    length third.bytes + 24 ≤ start + limit → start ≡ length before.bytes → length last.bytes + 24 ≤ length before.bytes + limit
 last_fits before first second third last status_at count_at limit start tag s ran told m places one two runs sets fits at =
     let put = closed before first second third last status_at count_at told.status (told.count + 1) tag s ran.results places one two runs.put sets in
     let text = s ++ ran.results in
-    let here = ap length (put_thrice before first second third (spell_compound_head Nfs4Ok tag 0) s ran.results one two runs.put) ∙ length-append (before.bytes ++ spell_compound_head Nfs4Ok tag 0) text in
+    let here = ap length (put_thrice before first second third (spell_compound_head Nfs4Ok tag 0) s ran.results one two runs.put)
+    ∙ length-append (before.bytes ++ spell_compound_head Nfs4Ok tag 0) text in
     let front = length-append before.bytes (spell_compound_head Nfs4Ok tag 0) in
     let there = ap length put.bytes ∙ length-append before.bytes (spell_compound_head told.status tag (told.count + 1) ++ text) in
     let back = length-append (spell_compound_head told.status tag (told.count + 1)) text in
@@ -203,7 +223,8 @@ last_fits before first second third last status_at count_at limit start tag s ra
     omega (arith, fits, at, here, front, there, back, one_head, other_head)
 
 -- the machine behind a request that ran: its lease is renewed, and its slot keeps the reply
-pub renewed_machine : (m : Machine) (s : Sequence) (now : ℕ) (id : SessionId) (b : Book) → id ≡ id_of s.sessionid → b ≡ with_renewal m.leases id.client now → record m { leases = b } ≡ renewed m now s
+pub renewed_machine : (m : Machine) (s : Sequence) (now : ℕ) (id : SessionId) (b : Book)
+    → id ≡ id_of s.sessionid → b ≡ with_renewal m.leases id.client now → record m { leases = b } ≡ renewed m now s
 renewed_machine m s now id b read book = ap (λ (b : Book). record m { leases = b }) (book ∙ ap (λ (i : SessionId). with_renewal m.leases i.client now) read)
 
 pub kept_machine : (was left : Machine) (r : Request) (who : Caller) (s : Sequence) (text : List ℕ) (id : SessionId) (t : SessionTable) (args reply : List ℕ) →
@@ -211,12 +232,15 @@ pub kept_machine : (was left : Machine) (r : Request) (who : Caller) (s : Sequen
     record was { sessions = t } ≡ record left { sessions = keep left.sessions (id_of s.sessionid) s.slotid s.sequenceid who.uid r.bytes text }
 kept_machine was left r who s text id t args reply read table same whole is =
     ap (λ (t : SessionTable). record was { sessions = t }) (table ∙ ap (λ (i : SessionId). keep was.sessions i s.slotid s.sequenceid who.uid args reply) read
-    ∙ ap (λ a. keep was.sessions (id_of s.sessionid) s.slotid s.sequenceid who.uid a reply) same ∙ ap (λ a. keep was.sessions (id_of s.sessionid) s.slotid s.sequenceid who.uid r.bytes a) whole)
+    ∙ ap (λ a. keep was.sessions (id_of s.sessionid) s.slotid s.sequenceid who.uid a reply) same
+    ∙ ap (λ a. keep was.sessions (id_of s.sessionid) s.slotid s.sequenceid who.uid r.bytes a) whole)
     ∙ ap (λ (k : Machine). record k { sessions = keep k.sessions (id_of s.sessionid) s.slotid s.sequenceid who.uid r.bytes text }) is
 
 -- the slot of a request that runs may keep what it came to
-pub may_keep : (now was : SessionTable) (r : Request) (who : Caller) (size : ℕ) (s : Sequence) (c : Channel) (id : SessionId) (args reply text : List ℕ) (old new : Paper) → now ≡ was → id ≡ id_of s.sessionid → length r.bytes ≤ size →
-    by_session r who size s (session_at was (id_of s.sessionid)) ≡ Runs c → args ≡ r.bytes → reply ≡ text → Puts old new text → length new.bytes + 24 ≤ length old.bytes + c.response →
+pub may_keep : (now was : SessionTable) (r : Request) (who : Caller) (size : ℕ) (s : Sequence) (c : Channel) (id : SessionId) (args reply text : List ℕ)
+    (old new : Paper) → now ≡ was → id ≡ id_of s.sessionid → length r.bytes ≤ size →
+    by_session r who size s (session_at was (id_of s.sessionid)) ≡ Runs c → args ≡ r.bytes →
+    reply ≡ text → Puts old new text → length new.bytes + 24 ≤ length old.bytes + c.response →
     IsSomeAnd (session_at now id) (λ x. MayKeep x.slots s.slotid s.sequenceid who.uid args reply)
 may_keep now was r who size s c id args reply text old new table read short runs same whole put fits =
     let is = runs_means r who size s (session_at was (id_of s.sessionid)) c runs in
@@ -232,11 +256,13 @@ may_keep now was r who size s c id args reply text old new table read short runs
       reply_fits = subst (λ (g : Channel). 24 + length text ≤ g.response) (sym channel) (omega (arith, long, fits));
     })))
 
-pub any_head_fits : (paper : Paper) (status : Status) (tag : List ℕ) (count : ℕ) → length tag ≤ 1024 → HasReplyRoom paper → HasRoom paper (spell_compound_head status tag count)
+pub any_head_fits : (paper : Paper) (status : Status) (tag : List ℕ) (count : ℕ)
+    → length tag ≤ 1024 → HasReplyRoom paper → HasRoom paper (spell_compound_head status tag count)
 any_head_fits paper status tag count short room = (let h = length_head_within status tag count short in omega (arith, h, room))
 
 -- a refusal behind the head
-pub refusal_fits : (old mid : Paper) (status : Status) (tag : List ℕ) (count : ℕ) (n : ℕ) (s : Status) (r : Res) → length tag ≤ 1024 → HasReplyRoom old → Puts old mid (spell_compound_head status tag count) → r ≡ refusal n s → HasRoom mid (spell_result r)
+pub refusal_fits : (old mid : Paper) (status : Status) (tag : List ℕ) (count : ℕ) (n : ℕ) (s : Status) (r : Res) → length tag ≤ 1024
+    → HasReplyRoom old → Puts old mid (spell_compound_head status tag count) → r ≡ refusal n s → HasRoom mid (spell_result r)
 refusal_fits old mid status tag count n s r short room put is =
     let h = length_head_within status tag count short in
     let long = ap length put.bytes ∙ length-append old.bytes (spell_compound_head status tag count) in
@@ -245,21 +271,25 @@ refusal_fits old mid status tag count n s r short room put is =
     omega (arith, h, long, same, few, room)
 
 -- room for the result of an operation that stands alone
-pub alone_fits : (old mid : Paper) (tag : List ℕ) → length tag ≤ 1024 → HasReplyRoom old → Puts old mid (spell_compound_head Nfs4Ok tag 0) → length mid.bytes + 92 ≤ mid.room
+pub alone_fits : (old mid : Paper) (tag : List ℕ) → length tag ≤ 1024 → HasReplyRoom old
+    → Puts old mid (spell_compound_head Nfs4Ok tag 0) → length mid.bytes + 92 ≤ mid.room
 alone_fits old mid tag short room put =
     let h = first_long old mid tag [] short put in
     let same = put.room in
     omega (arith, h, room, same)
 
 -- the head that is closed over one result
-pub closed_one : (before first second last : Paper) (status_at count_at : ℕ) (status : Status) (count : ℕ) (tag s : List ℕ) → HeadsAt status_at count_at before.bytes tag → Puts before first (spell_compound_head Nfs4Ok tag 0) → Puts first second s →
+pub closed_one : (before first second last : Paper) (status_at count_at : ℕ) (status : Status) (count : ℕ) (tag s : List ℕ) →
+    HeadsAt status_at count_at before.bytes tag → Puts before first (spell_compound_head Nfs4Ok tag 0) → Puts first second s →
     SetsHead status_at count_at status count second last → Puts before last (spell_compound_head status tag count ++ s)
 closed_one before first second last status_at count_at status count tag s places one two sets = record {
-  bytes = sets.bytes before.bytes Nfs4Ok tag 0 s places (two.bytes ∙ ap (λ xs. xs ++ s) one.bytes) ∙ append_assoc before.bytes (spell_compound_head status tag count) s;
+  bytes = sets.bytes before.bytes Nfs4Ok tag 0 s places (two.bytes ∙ ap (λ xs. xs ++ s) one.bytes)
+      ∙ append_assoc before.bytes (spell_compound_head status tag count) s;
   room = sets.room ∙ two.room ∙ one.room;
 }
 
-pub has_one : (before first second : Paper) (status_at count_at : ℕ) (tag s : List ℕ) → HeadsAt status_at count_at before.bytes tag → Puts before first (spell_compound_head Nfs4Ok tag 0) → Puts first second s → HasHead status_at count_at second.bytes
+pub has_one : (before first second : Paper) (status_at count_at : ℕ) (tag s : List ℕ) → HeadsAt status_at count_at before.bytes tag
+    → Puts before first (spell_compound_head Nfs4Ok tag 0) → Puts first second s → HasHead status_at count_at second.bytes
 has_one before first second status_at count_at tag s places one two = record {
   before = before.bytes;
   status = Nfs4Ok;

@@ -60,12 +60,15 @@ delayed P m o refused n before after = elim (cases_Bool (refused && is_ok o.stat
   | inr other ↦ rw other after
 ]
 
-made : (P : Book → Type 0) (now : ℕ) → IsHeld P now → (m : Machine) (c : CreateSession) (t : SessionTable) (answer : Result SessionId SessionFault) → P m.leases → P (by_created m now c t answer).machine.leases
+made : (P : Book → Type 0) (now : ℕ) → IsHeld P now → (m : Machine) (c : CreateSession) (t : SessionTable) (answer : Result SessionId SessionFault)
+    → P m.leases → P (by_created m now c t answer).machine.leases
 made P now held m c t (Ok id) is =
-    held.renewal (without_any_lease m.leases (clients.leaving m.clients c.clientid)) c.clientid (without_any P now held m.leases (clients.leaving m.clients c.clientid) is)
+    held.renewal (without_any_lease m.leases (clients.leaving m.clients c.clientid)) c.clientid
+    (without_any P now held m.leases (clients.leaving m.clients c.clientid) is)
 made P now held m c t (Err fault) is = is
 
-created : (P : Book → Type 0) (now : ℕ) → IsHeld P now → (m : Machine) (refused : Bool) (c : CreateSession) (v : clients.Verdict) → P m.leases → P (by_verdict m now refused c v).machine.leases
+created : (P : Book → Type 0) (now : ℕ) → IsHeld P now → (m : Machine) (refused : Bool) (c : CreateSession) (v : clients.Verdict)
+    → P m.leases → P (by_verdict m now refused c v).machine.leases
 created P now held m refused c clients.Stale is = is
 created P now held m refused c (clients.Again (kept.Done body)) is = is
 created P now held m refused c (clients.Again (kept.Refused status)) is = is
@@ -81,38 +84,47 @@ session_gone P m sessionid is = elim (cases_Bool (is_some (session_at m.sessions
   | inr not_there ↦ rw not_there is
 ]
 
-client_gone : (P : Book → Type 0) (now : ℕ) → IsHeld P now → (m : Machine) (client : ℕ) (o : Option DestroyFault) → P m.leases → P (destroyed_unless m client o).machine.leases
+client_gone : (P : Book → Type 0) (now : ℕ) → IsHeld P now → (m : Machine) (client : ℕ) (o : Option DestroyFault)
+    → P m.leases → P (destroyed_unless m client o).machine.leases
 client_gone P now held m client None is = held.end m.leases client is
 client_gone P now held m client (Some fault) is = is
 
-carried : (P : Book → Type 0) (now : ℕ) → IsHeld P now → (m : Machine) (who : Caller) (refused : Bool) (i : Item) → P m.leases → P (carried_out m who now refused i).machine.leases
+carried : (P : Book → Type 0) (now : ℕ) → IsHeld P now → (m : Machine) (who : Caller) (refused : Bool) (i : Item)
+    → P m.leases → P (carried_out m who now refused i).machine.leases
 carried P now held m who refused (Operation (OpExchangeId e)) is =
     delayed P m (exchange_id m who now e) refused exchange_id_number is (behind P now held m.leases (exchange m.clients (ask_of who e)).answer is)
-carried P now held m who refused (Operation (OpCreateSession c)) is = created P now held m refused c (clients.create_verdict m.clients c.clientid c.sequence who.uid) is
+carried P now held m who refused (Operation (OpCreateSession c)) is =
+    created P now held m refused c (clients.create_verdict m.clients c.clientid c.sequence who.uid) is
 carried P now held m who refused (Operation (OpDestroySession sessionid)) is = session_gone P m sessionid is
-carried P now held m who refused (Operation (OpDestroyClientId client)) is = client_gone P now held m client (destroy_fault m.clients client (has_session m.sessions client)) is
+carried P now held m who refused (Operation (OpDestroyClientId client)) is =
+    client_gone P now held m client (destroy_fault m.clients client (has_session m.sessions client)) is
 carried P now held m who refused i is = is
 
-first : (P : Book → Type 0) (now : ℕ) → IsHeld P now → (m : Machine) (declared : ℕ) (who : Caller) (refused : Bool) (i : Item) → P m.leases → P (first_item m declared who now refused i).machine.leases
+first : (P : Book → Type 0) (now : ℕ) → IsHeld P now → (m : Machine) (declared : ℕ) (who : Caller) (refused : Bool) (i : Item)
+    → P m.leases → P (first_item m declared who now refused i).machine.leases
 first P now held m declared who refused i is = go (item_fault declared i)
   where
     go : (f : Option Status) → P (by_fault m (item_number i) f (carried_out m who now refused i)).machine.leases
     go None = carried P now held m who refused i is
     go (Some status) = is
 
-sequenced_held : (P : Book → Type 0) (now : ℕ) → IsHeld P now → (m : Machine) (r : Request) (who : Caller) (choice : Option ℕ) (s : Sequence) (more : List Item) (v : Sequenced) → P m.leases →
+sequenced_held : (P : Book → Type 0) (now : ℕ) → IsHeld P now →
+    (m : Machine) (r : Request) (who : Caller) (choice : Option ℕ) (s : Sequence) (more : List Item) (v : Sequenced) → P m.leases →
     P (in_session m r who now choice s more v).machine.leases
 sequenced_held P now held m r who choice s more (Refuses status) is = is
 sequenced_held P now held m r who choice s more (Repeats reply) is = is
 sequenced_held P now held m r who choice s more (Runs c) is =
-    subst P (sym (run_leases c.response (begun r s c) now (behind_here choice) (renewed m now s) (begins (id_of s.sessionid).client who) more)) (held.renewal m.leases (id_of s.sessionid).client is)
+    subst P (sym (run_leases c.response (begun r s c) now (behind_here choice) (renewed m now s) (begins (id_of s.sessionid).client who) more))
+    (held.renewal m.leases (id_of s.sessionid).client is)
 
-items_held : (P : Book → Type 0) (now : ℕ) → IsHeld P now → (m : Machine) (r : Request) (who : Caller) (size : ℕ) (choice : Option ℕ) (items : List Item) → P m.leases → P (by_first m r who size now choice items).machine.leases
+items_held : (P : Book → Type 0) (now : ℕ) → IsHeld P now → (m : Machine) (r : Request) (who : Caller) (size : ℕ) (choice : Option ℕ) (items : List Item)
+    → P m.leases → P (by_first m r who size now choice items).machine.leases
 items_held P now held m r who size choice [] is = is
 items_held P now held m r who size choice (Operation (OpSequence s) ∷ more) is = sequenced_held P now held m r who choice s more (sequenced m r who size s) is
 items_held P now held m r who size choice (item ∷ more) is = first P now held m r.declared who (is_here choice) item is
 
-pub compound_held : (P : Book → Type 0) (now : ℕ) → IsHeld P now → (m : Machine) (r : Request) (who : Caller) (size : ℕ) (choice : Option ℕ) → P m.leases → P (compound m r who size now choice).machine.leases
+pub compound_held : (P : Book → Type 0) (now : ℕ) → IsHeld P now → (m : Machine) (r : Request) (who : Caller) (size : ℕ) (choice : Option ℕ)
+    → P m.leases → P (compound m r who size now choice).machine.leases
 compound_held P now held m r who size choice is = elim (cases_Bool (eqb r.minor 1)) [
   | inl one ↦ rw one (items_held P now held m r who size choice r.left is)
   | inr other ↦ rw other is
@@ -130,7 +142,8 @@ is_latest now = record {
 pub latest_left : (b : Book) (o : Option ℕ) (now : ℕ) → IsLatest b now → IsLatest (without_any_lease b o) now
 latest_left b o now is = without_any (λ b. IsLatest b now) now (is_latest now) b o is
 
-pub latest_compound : (m : Machine) (r : Request) (who : Caller) (size now : ℕ) (choice : Option ℕ) → IsLatest m.leases now → IsLatest (compound m r who size now choice).machine.leases now
+pub latest_compound : (m : Machine) (r : Request) (who : Caller) (size now : ℕ) (choice : Option ℕ)
+    → IsLatest m.leases now → IsLatest (compound m r who size now choice).machine.leases now
 latest_compound m r who size now choice is = compound_held (λ b. IsLatest b now) now (is_latest now) m r who size choice is
 
 -- Nor has any lease run out at that moment, where none had before.
@@ -167,11 +180,13 @@ of_left : (s : State) (o : Option ℕ) → IsStore s → IsStore (without_any_op
 of_left s None is = is
 of_left s (Some client) is = store_staying (λ c. not (c == client)) s is
 
-of_made : (m : Machine) (now : ℕ) (c : CreateSession) (t : SessionTable) (answer : Result SessionId SessionFault) → IsStore m.store → IsStore (by_created m now c t answer).machine.store
+of_made : (m : Machine) (now : ℕ) (c : CreateSession) (t : SessionTable) (answer : Result SessionId SessionFault)
+    → IsStore m.store → IsStore (by_created m now c t answer).machine.store
 of_made m now c t (Ok id) is = of_left m.store (clients.leaving m.clients c.clientid) is
 of_made m now c t (Err fault) is = is
 
-of_created : (m : Machine) (now : ℕ) (refused : Bool) (c : CreateSession) (v : clients.Verdict) → IsStore m.store → IsStore (by_verdict m now refused c v).machine.store
+of_created : (m : Machine) (now : ℕ) (refused : Bool) (c : CreateSession) (v : clients.Verdict)
+    → IsStore m.store → IsStore (by_verdict m now refused c v).machine.store
 of_created m now refused c clients.Stale is = is
 of_created m now refused c (clients.Again (kept.Done body)) is = is
 of_created m now refused c (clients.Again (kept.Refused status)) is = is
@@ -195,7 +210,8 @@ of_carried m who now refused (Operation (OpDestroySession sessionid)) is = of_se
 of_carried m who now refused (Operation (OpDestroyClientId client)) is = of_client m client (destroy_fault m.clients client (has_session m.sessions client)) is
 of_carried m who now refused i is = is
 
-pub first_stores : (m : Machine) (declared : ℕ) (who : Caller) (now : ℕ) (refused : Bool) (i : Item) → IsStore m.store → IsStore (first_item m declared who now refused i).machine.store
+pub first_stores : (m : Machine) (declared : ℕ) (who : Caller) (now : ℕ) (refused : Bool) (i : Item)
+    → IsStore m.store → IsStore (first_item m declared who now refused i).machine.store
 first_stores m declared who now refused i is = go (item_fault declared i)
   where
     go : (f : Option Status) → IsStore (by_fault m (item_number i) f (carried_out m who now refused i)).machine.store

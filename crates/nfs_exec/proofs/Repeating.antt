@@ -14,17 +14,20 @@ use Rattle.nfs_exec.specs.Laws.{RepeatsChangeNothing, RefusalsChangeNothing, Exp
 use Rattle.nfs_exec.proofs.Expiring.{filter_both, swapped}
 
 pub repeats : RepeatsChangeNothing
-repeats = λ m r who size now choice s reply begins. rw (eq-eqb r.minor 1 begins.minor, begins.list) (ap (in_session m r who now choice s begins.more) begins.verdict)
+repeats = λ m r who size now choice s reply begins.
+    rw (eq-eqb r.minor 1 begins.minor, begins.list) (ap (in_session m r who now choice s begins.more) begins.verdict)
 
 pub refusals : RefusalsChangeNothing
-refusals = λ m r who size now choice s status begins. rw (eq-eqb r.minor 1 begins.minor, begins.list) (ap (in_session m r who now choice s begins.more) begins.verdict)
+refusals = λ m r who size now choice s status begins.
+    rw (eq-eqb r.minor 1 begins.minor, begins.list) (ap (in_session m r who now choice s begins.more) begins.verdict)
 
 out_later : (lease first later : ℕ) (o : Option ℕ) → first ≤ later → is_out lease first o ≡ true → is_out lease later o ≡ true
 out_later lease first later None le out = absurd cc
 out_later lease first later (Some moment) le out = (let h = ltb-true lease (first - moment) out in lt-ltb lease (later - moment) (omega (arith, h, le)))
 
 -- who is out at the later moment, by what is left of the leases at the first
-once : (b : Book) (first later c : ℕ) → first ≤ later → (not (has_run_out b first c) && not (has_run_out (leases_kept b first) later c)) ≡ not (has_run_out b later c)
+once : (b : Book) (first later c : ℕ) → first ≤ later
+    → (not (has_run_out b first c) && not (has_run_out (leases_kept b first) later c)) ≡ not (has_run_out b later c)
 once b first later c le = elim (cases_Bool (has_run_out b first c)) [
   | inl out ↦ rw (out, out_later b.lease first later (b.renewed c) le out) refl
   | inr stays ↦ rw stays refl
@@ -39,10 +42,14 @@ once_kept b first later c le = elim (cases_Bool (has_run_out b first c)) [
 pub expires : ExpiresOnce
 expires = λ m first later le.
     (let b = m.leases in
-    let clients = filter_both (λ (c : ClientRecord). not (has_run_out (leases_kept b first) later c.id)) (λ c. not (has_run_out b first c.id)) (λ c. not (has_run_out b later c.id)) (λ c. once b first later c.id le) m.clients.records in
-    let sessions = filter_both (λ (s : Session). not (has_run_out (leases_kept b first) later s.client)) (λ s. not (has_run_out b first s.client)) (λ s. not (has_run_out b later s.client)) (λ s. once b first later s.client le) m.sessions.sessions in
+    let clients = filter_both (λ (c : ClientRecord). not (has_run_out (leases_kept b first) later c.id))
+    (λ c. not (has_run_out b first c.id)) (λ c. not (has_run_out b later c.id)) (λ c. once b first later c.id le) m.clients.records in
+    let sessions = filter_both (λ (s : Session). not (has_run_out (leases_kept b first) later s.client)) (λ s. not (has_run_out b first s.client))
+    (λ s. not (has_run_out b later s.client)) (λ s. once b first later s.client le) m.sessions.sessions in
     let leases = fun_ext (λ c. once_kept b first later c le) in
-    let store : staying (λ c. not (has_run_out (leases_kept b first) later c)) (staying (λ c. not (has_run_out b first c)) m.store) ≡ staying (λ c. not (has_run_out b later c)) m.store =
+    let store : staying (λ c. not (has_run_out (leases_kept b first) later c)) (staying (λ c. not (has_run_out b first c)) m.store)
+    ≡ staying (λ c. not (has_run_out b later c)) m.store =
     staying_twice (λ c. not (has_run_out (leases_kept b first) later c)) (λ c. not (has_run_out b first c)) m.store
-    ∙ ap (λ (p : ℕ → Bool). staying p m.store) (fun_ext (λ c. swapped (not (has_run_out (leases_kept b first) later c)) (not (has_run_out b first c)) ∙ once b first later c le)) in
+    ∙ ap (λ (p : ℕ → Bool). staying p m.store)
+    (fun_ext (λ c. swapped (not (has_run_out (leases_kept b first) later c)) (not (has_run_out b first c)) ∙ once b first later c le)) in
     rw (clients, sessions, store) (ap (λ f. record (expired later m) { leases = record b { renewed = f } }) leases))

@@ -1,5 +1,6 @@
 -- The operations behind a SEQUENCE: what the loop over them has come to.
-use Rattle.std.proofs.Common.{◌≡◌, ℕ, zero, suc, ◌+◌, ◌-◌, ◌≤◌, Bool, true, false, List, [], ◌∷◌, ◌++◌, length, Option, Some, None, refl, sym, ◌∙◌, ap, subst, arith, inr}
+use Rattle.std.proofs.Common.{◌≡◌, ℕ, zero, suc, ◌+◌, ◌-◌, ◌≤◌, Bool, true, false, List, [], ◌∷◌, ◌++◌, length, Option, Some, None, refl, sym, ◌∙◌, ap, subst}
+use Rattle.std.proofs.Common.{arith, inr}
 use Rattle.std.proofs.lemmas.List.{length-append, append_assoc, append-nil}
 use Rattle.nfs_xdr.specs.Tables.{In}
 use Rattle.nfs_xdr.specs.Paper.{Paper, Puts}
@@ -70,14 +71,16 @@ pub record Going (limit at now : ℕ) (first here : Stand) (all left : List Item
   pub start : at ≤ length here.paper.bytes
   pub fits : length here.paper.bytes + 36 ≤ at + limit
   pub room : here.paper.room ≡ first.paper.room
-  pub ran : (choice : Option ℕ) → (whole : Option ℕ) × Joins (run_at limit at now whole first all) (run_at limit at now choice here left) done first.paper.bytes here.paper.bytes
+  pub ran : (choice : Option ℕ)
+      → (whole : Option ℕ) × Joins (run_at limit at now whole first all) (run_at limit at now choice here left) done first.paper.bytes here.paper.bytes
 
 pub record Loop (limit at now : ℕ) (first here : Stand) (all left : Request) (done : ℕ) : Type 0 where
   pub going : Going limit at now first here all.left left.left done
   pub same : left ≡ record all { left = left.left }
   pub store : IsStore here.machine.store
 
-pub begins : (limit at now : ℕ) (first : Stand) (all : List Item) → ((i : Item) → In i all → CanBear i) → length all ≤ 64 → at ≤ length first.paper.bytes → length first.paper.bytes + 36 ≤ at + limit →
+pub begins : (limit at now : ℕ) (first : Stand) (all : List Item) → ((i : Item) → In i all → CanBear i) →
+    length all ≤ 64 → at ≤ length first.paper.bytes → length first.paper.bytes + 36 ≤ at + limit →
     Going limit at now first first all all 0
 begins limit at now first all bears few start fits = record {
   bears = bears;
@@ -95,13 +98,15 @@ Stepped limit at now here next item s = Steps (step_at limit at now (is_delay s)
 grown : (old new : Paper) (text : List ℕ) → Puts old new text → length new.bytes ≡ length old.bytes + length text
 grown old new text put = ap length put.bytes ∙ length-append old.bytes text
 
-followed : (o : Outcome) (rest : Ran) → o.status ≡ Nfs4Ok → follow o rest ≡ record { status = rest.status; count = suc rest.count; results = o.result ++ rest.results; machine = rest.machine }
+followed : (o : Outcome) (rest : Ran) → o.status ≡ Nfs4Ok
+    → follow o rest ≡ record { status = rest.status; count = suc rest.count; results = o.result ++ rest.results; machine = rest.machine }
 followed o rest ok = rw ok refl
 
 stopped : (o : Outcome) (rest : Ran) → is_ok o.status ≡ false → follow o rest ≡ only o
 stopped o rest bad = rw bad refl
 
-joined : (o : Outcome) (whole rest : Ran) (done : ℕ) (before here new : List ℕ) → o.status ≡ Nfs4Ok → Joins whole (follow o rest) done before here → new ≡ here ++ o.result → Joins whole rest (done + 1) before new
+joined : (o : Outcome) (whole rest : Ran) (done : ℕ) (before here new : List ℕ) → o.status ≡ Nfs4Ok
+    → Joins whole (follow o rest) done before here → new ≡ here ++ o.result → Joins whole rest (done + 1) before new
 joined o whole rest done before here new ok joins put =
     let j = subst (λ (ran : Ran). Joins whole ran done before here) (followed o rest ok) joins in
     record {
@@ -115,21 +120,26 @@ joined o whole rest done before here new ok joins put =
 abbrev unrolled : (limit now : ℕ) → Step → (sofar : ℕ) → Option ℕ → Machine → Context → List Item → Ran
 unrolled limit now s sofar choice m x left = follow s.outcome (run limit sofar now choice m x left)
 
-unrolls : (limit at now : ℕ) (here next : Stand) (left : List Item) (item : Item) (s : Status) (choice : Option ℕ) → Stepped limit at now here next item s → is_here choice ≡ is_delay s → at ≤ length here.paper.bytes →
-    run_at limit at now choice here (item ∷ left) ≡ follow (step_at limit at now (is_delay s) here item).outcome (run_at limit at now (behind_here choice) next left)
+unrolls : (limit at now : ℕ) (here next : Stand) (left : List Item) (item : Item) (s : Status) (choice : Option ℕ) →
+    Stepped limit at now here next item s → is_here choice ≡ is_delay s → at ≤ length here.paper.bytes →
+    run_at limit at now choice here (item ∷ left)
+    ≡ follow (step_at limit at now (is_delay s) here item).outcome (run_at limit at now (behind_here choice) next left)
 unrolls limit at now here next left item s choice did place start =
     let o = step_at limit at now (is_delay s) here item in
     let long = grown here.paper next.paper o.outcome.result did.put in
     let sofar : so_far at here.paper + length o.outcome.result ≡ so_far at next.paper = omega (arith, long, start) in
-    ap (λ (b : Bool). unrolled limit now (step_at limit at now b here item) (so_far at here.paper + length (step_at limit at now b here item).outcome.result) (behind_here choice)
+    ap (λ (b : Bool). unrolled limit now (step_at limit at now b here item)
+    (so_far at here.paper + length (step_at limit at now b here item).outcome.result) (behind_here choice)
     (step_at limit at now b here item).outcome.machine (step_at limit at now b here item).context left) place
     ∙ ap (λ (n : ℕ). unrolled limit now o n (behind_here choice) o.outcome.machine o.context left) sofar
     ∙ ap (λ (m : Machine). unrolled limit now o (so_far at next.paper) (behind_here choice) m o.context left) (sym did.machine)
     ∙ ap (λ (x : Context). unrolled limit now o (so_far at next.paper) (behind_here choice) next.machine x left) (sym did.context)
 
 -- one more was run, and the run goes on
-pub goes_on : (limit at now : ℕ) (first here next : Stand) (all left : List Item) (item : Item) (done : ℕ) (s : Status) → Going limit at now first here all (item ∷ left) done →
-    Stepped limit at now here next item s → s ≡ Nfs4Ok → length next.paper.bytes + so_far at here.paper + 12 ≤ length here.paper.bytes + limit → Going limit at now first next all left (done + 1)
+pub goes_on : (limit at now : ℕ) (first here next : Stand) (all left : List Item) (item : Item) (done : ℕ) (s : Status) →
+    Going limit at now first here all (item ∷ left) done →
+    Stepped limit at now here next item s → s ≡ Nfs4Ok →
+    length next.paper.bytes + so_far at here.paper + 12 ≤ length here.paper.bytes + limit → Going limit at now first next all left (done + 1)
 goes_on limit at now first here next all left item done s going did ok short =
     let start = going.start in
     let o = (step_at limit at now (is_delay s) here item).outcome in
@@ -144,16 +154,20 @@ goes_on limit at now first here next all left item done s going did ok short =
           (let whole = going.ran (later choice) in
           let place : is_here (later choice) ≡ is_delay s = later_not_here choice ∙ sym (ap is_delay ok) in
           let rest : run_at limit at now (later choice) here (item ∷ left) ≡ follow o (run_at limit at now choice next left) =
-          unrolls limit at now here next left item s (later choice) did place start ∙ ap (λ (c : Option ℕ). follow o (run_at limit at now c next left)) (later_behind choice) in (
+          unrolls limit at now here next left item s (later choice) did place start
+          ∙ ap (λ (c : Option ℕ). follow o (run_at limit at now c next left)) (later_behind choice) in (
             whole.0,
-            joined o (run_at limit at now whole.0 first all) (run_at limit at now choice next left) done first.paper.bytes here.paper.bytes next.paper.bytes (sym did.status ∙ ok)
+            joined o (run_at limit at now whole.0 first all)
+                (run_at limit at now choice next left) done first.paper.bytes here.paper.bytes next.paper.bytes (sym did.status ∙ ok)
                 (subst (λ (ran : Ran). Joins (run_at limit at now whole.0 first all) ran done first.paper.bytes here.paper.bytes) rest whole.1) did.put.bytes,
           ));
     }
 
 -- one more was run, and the run ends with it
-pub ends_with : (limit at now : ℕ) (first here next : Stand) (all left : List Item) (item : Item) (done : ℕ) (s : Status) → Going limit at now first here all (item ∷ left) done →
-    Stepped limit at now here next item s → is_ok s ≡ false → (choice : Option ℕ) × RunsTo (run_at limit at now choice first all) (record { status = s; count = done + 1 }) next.machine first.paper next.paper
+pub ends_with : (limit at now : ℕ) (first here next : Stand) (all left : List Item) (item : Item) (done : ℕ) (s : Status) →
+    Going limit at now first here all (item ∷ left) done →
+    Stepped limit at now here next item s → is_ok s ≡ false →
+    (choice : Option ℕ) × RunsTo (run_at limit at now choice first all) (record { status = s; count = done + 1 }) next.machine first.paper next.paper
 ends_with limit at now first here next all left item done s going did bad =
     let choice = choice_of (is_delay s) in
     let o = (step_at limit at now (is_delay s) here item).outcome in
@@ -161,8 +175,10 @@ ends_with limit at now first here next all left item done s going did bad =
     let whole = run_at limit at now w.0 first all in
     let rest = run_at limit at now (behind_here choice) next left in
     let refused : is_ok o.status ≡ false = ap is_ok (sym did.status) ∙ bad in
-    let last : run_at limit at now choice here (item ∷ left) ≡ only o = unrolls limit at now here next left item s choice did (chosen (is_delay s)) going.start ∙ stopped o rest refused in
-    let j : Joins whole (only o) done first.paper.bytes here.paper.bytes = subst (λ (ran : Ran). Joins whole ran done first.paper.bytes here.paper.bytes) last w.1 in (
+    let last : run_at limit at now choice here (item ∷ left) ≡ only o =
+    unrolls limit at now here next left item s choice did (chosen (is_delay s)) going.start ∙ stopped o rest refused in
+    let j : Joins whole (only o) done first.paper.bytes here.paper.bytes =
+    subst (λ (ran : Ran). Joins whole ran done first.paper.bytes here.paper.bytes) last w.1 in (
       w.0,
       record {
         status = did.status ∙ sym j.status;
@@ -172,7 +188,8 @@ ends_with limit at now first here next all left item done s going did bad =
       },
     )
 
-pub ends_within : (limit at now : ℕ) (first here : Stand) (next : Paper) (all left : List Item) (item : Item) (done : ℕ) → Going limit at now first here all (item ∷ left) done →
+pub ends_within : (limit at now : ℕ) (first here : Stand) (next : Paper) (all left : List Item) (item : Item) (done : ℕ) →
+    Going limit at now first here all (item ∷ left) done →
     length next.bytes + so_far at here.paper ≤ length here.paper.bytes + limit → length next.bytes + 24 ≤ at + limit
 ends_within limit at now first here next all left item done going short = (let start = going.start in omega (arith, start, short))
 
@@ -195,6 +212,7 @@ not_ok Nfs4Ok other = absurd (other refl)
 not_ok s other = refl
 
 -- the bytes so far as the code counts them
-pub counted : (P : (limit sofar : ℕ) → Type 0) (limit at : ℕ) (here : Paper) (given head len : ℕ) → given ≡ limit → head ≡ 24 → len ≡ length here.bytes → P given (head + (len - at)) → P limit (so_far at here)
+pub counted : (P : (limit sofar : ℕ) → Type 0) (limit at : ℕ) (here : Paper) (given head len : ℕ)
+    → given ≡ limit → head ≡ 24 → len ≡ length here.bytes → P given (head + (len - at)) → P limit (so_far at here)
 counted P limit at here given head len same front long p =
     subst (λ n. P limit (24 + (n - at))) long (subst (λ n. P limit (n + (len - at))) front (subst (λ n. P n (head + (len - at))) same p))

@@ -32,12 +32,14 @@ pub misplaced : (m : Machine) (declared : ℕ) (who : Caller) (now : ℕ) (refus
     comes_to m (refusal (item_number i) s) ≡ first_item m declared who now refused i
 misplaced m declared who now refused i s fault = ap (λ (f : Option Status). by_fault m (item_number i) f (carried_out m who now refused i)) (sym fault)
 
-pub in_place : (m : Machine) (declared : ℕ) (who : Caller) (now : ℕ) (refused : Bool) (i : Item) (o : Outcome) → item_fault declared i ≡ None → o ≡ carried_out m who now refused i →
+pub in_place : (m : Machine) (declared : ℕ) (who : Caller) (now : ℕ) (refused : Bool) (i : Item) (o : Outcome) →
+    item_fault declared i ≡ None → o ≡ carried_out m who now refused i →
     o ≡ first_item m declared who now refused i
 in_place m declared who now refused i o none is = is ∙ ap (λ (f : Option Status). by_fault m (item_number i) f (carried_out m who now refused i)) (sym none)
 
 -- what none of the four operations is
-pub not_carried : (m : Machine) (who : Caller) (now : ℕ) (refused : Bool) (a : Arg) → ((x : _) → a ≡ Args.ExchangeId x → ⊥) → ((x : _) → a ≡ Args.CreateSession x → ⊥) → ((x : _) → a ≡ Args.DestroySession x → ⊥) →
+pub not_carried : (m : Machine) (who : Caller) (now : ℕ) (refused : Bool) (a : Arg) →
+    ((x : _) → a ≡ Args.ExchangeId x → ⊥) → ((x : _) → a ≡ Args.CreateSession x → ⊥) → ((x : _) → a ≡ Args.DestroySession x → ⊥) →
     ((x : _) → a ≡ Args.DestroyClientId x → ⊥) → refuses m (item_number (item a)) NotSupp ≡ carried_out m who now refused (item a)
 not_carried m who now refused (Args.ExchangeId x) e c s d = absurd (e x refl)
 not_carried m who now refused (Args.CreateSession x) e c s d = absurd (c x refl)
@@ -45,8 +47,11 @@ not_carried m who now refused (Args.DestroySession x) e c s d = absurd (s x refl
 not_carried m who now refused (Args.DestroyClientId x) e c s d = absurd (d x refl)
 not_carried m who now refused a e c s d = refl
 
-pub branch_done : (m left kept : Machine) (declared : ℕ) (who : Caller) (now : ℕ) (i j : Item) (r s : Res) → left ≡ kept → r ≡ s → i ≡ j → item_fault declared i ≡ None → comes_to kept s ≡ carried_out m who now (is_delay (status_of_result s)) j →
+pub branch_done : (m left kept : Machine) (declared : ℕ) (who : Caller) (now : ℕ) (i j : Item) (r s : Res) → left ≡ kept →
+    r ≡ s → i ≡ j → item_fault declared i ≡ None → comes_to kept s ≡ carried_out m who now (is_delay (status_of_result s)) j →
     comes_to left r ≡ first_item m declared who now (is_delay (status_of_result r)) i
 branch_done m left kept declared who now i j r s same told at none is =
-    ap (λ (k : Machine). comes_to k r) same ∙ ap (comes_to kept) told ∙ is ∙ ap (λ (t : Res). carried_out m who now (is_delay (status_of_result t)) j) (sym told)
-    ∙ ap (carried_out m who now (is_delay (status_of_result r))) (sym at) ∙ ap (λ (f : Option Status). by_fault m (item_number i) f (carried_out m who now (is_delay (status_of_result r)) i)) (sym none)
+    ap (λ (k : Machine). comes_to k r) same ∙ ap (comes_to kept) told ∙ is
+    ∙ ap (λ (t : Res). carried_out m who now (is_delay (status_of_result t)) j) (sym told)
+    ∙ ap (carried_out m who now (is_delay (status_of_result r))) (sym at)
+    ∙ ap (λ (f : Option Status). by_fault m (item_number i) f (carried_out m who now (is_delay (status_of_result r)) i)) (sym none)

@@ -29,16 +29,19 @@ use Rattle.nfs_exec.proofs.Keeping.{closed_one}
 
 -- what is left of the list decides nothing
 
-verdict_same : (r : Request) (xs : List Item) (size : ℕ) (s : Sequence) (g : GrantedSlots) (v : Verdict) → by_verdict (record r { left = xs }) size s g v ≡ by_verdict r size s g v
+verdict_same : (r : Request) (xs : List Item) (size : ℕ) (s : Sequence) (g : GrantedSlots) (v : Verdict)
+    → by_verdict (record r { left = xs }) size s g v ≡ by_verdict r size s g v
 verdict_same r xs size s g NoSlot = refl
 verdict_same r xs size s g Misordered = refl
 verdict_same r xs size s g FalseRetry = refl
 verdict_same r xs size s g Again = refl
 verdict_same r xs size s g Fresh = refl
 
-session_same : (r : Request) (xs : List Item) (who : Caller) (size : ℕ) (s : Sequence) (o : Option Session) → by_session (record r { left = xs }) who size s o ≡ by_session r who size s o
+session_same : (r : Request) (xs : List Item) (who : Caller) (size : ℕ) (s : Sequence) (o : Option Session)
+    → by_session (record r { left = xs }) who size s o ≡ by_session r who size s o
 session_same r xs who size s None = refl
-session_same r xs who size s (Some x) = ap (unless (slot_fault s x.slots.channel)) (verdict_same r xs size s x.slots (judge x.slots s.slotid s.sequenceid who.uid r.bytes))
+session_same r xs who size s (Some x) =
+    ap (unless (slot_fault s x.slots.channel)) (verdict_same r xs size s x.slots (judge x.slots s.slotid s.sequenceid who.uid r.bytes))
 
 answer_same : (m : Machine) (r : Request) (xs : List Item) (who : Caller) (now : ℕ) (choice : Option ℕ) (s : Sequence) (more : List Item) (v : Sequenced) →
     in_session m (record r { left = xs }) who now choice s more v ≡ in_session m r who now choice s more v
@@ -46,7 +49,8 @@ answer_same m r xs who now choice s more (Refuses status) = refl
 answer_same m r xs who now choice s more (Repeats reply) = refl
 answer_same m r xs who now choice s more (Runs c) = refl
 
-pub for_sequence : (m : Machine) (r q : Request) (who : Caller) (size now : ℕ) (choice : Option ℕ) (s : Sequence) (old new : Paper) (left : Machine) → r.minor ≡ 1 → r.left ≡ Operation (OpSequence s) ∷ q.left → q ≡ record r { left = q.left } →
+pub for_sequence : (m : Machine) (r q : Request) (who : Caller) (size now : ℕ) (choice : Option ℕ) (s : Sequence) (old new : Paper) (left : Machine) →
+    r.minor ≡ 1 → r.left ≡ Operation (OpSequence s) ∷ q.left → q ≡ record r { left = q.left } →
     Answers (in_session m q who now choice s q.left (sequenced m q who size s)) old new left → Answers (compound m r who size now choice) old new left
 for_sequence m r q who size now choice s old new left one list is did =
     let whole : compound m r who size now choice ≡ in_session m r who now choice s q.left (sequenced m r who size s) = rw (eq-eqb r.minor 1 one, list) refl in
@@ -62,17 +66,21 @@ other_first : (m : Machine) (r : Request) (who : Caller) (size now : ℕ) (choic
 other_first m r who size now choice (Args.Sequence x) more other = absurd (other x refl)
 other_first m r who size now choice a more other = refl
 
-pub for_other : (m : Machine) (r : Request) (who : Caller) (size now declared : ℕ) (a : Arg) (more : List Item) (status : Status) (status_at count_at : ℕ) (tag : List ℕ) (before first second last : Paper) (left : Machine) →
+pub for_other : (m : Machine) (r : Request) (who : Caller) (size now declared : ℕ) (a : Arg) (more : List Item) (status : Status) (status_at count_at : ℕ)
+    (tag : List ℕ) (before first second last : Paper) (left : Machine) →
     r.minor ≡ 1 → r.left ≡ item a ∷ more → ((x : _) → a ≡ Args.Sequence x → ⊥) → declared ≡ r.declared → tag ≡ r.tag →
-    HeadsAt status_at count_at before.bytes tag → Puts before first (spell_compound_head Nfs4Ok tag 0) → Does (first_item m declared who now (is_delay status) (item a)) status left first second → SetsHead status_at count_at status 1 second last →
+    HeadsAt status_at count_at before.bytes tag → Puts before first (spell_compound_head Nfs4Ok tag 0) →
+    Does (first_item m declared who now (is_delay status) (item a)) status left first second → SetsHead status_at count_at status 1 second last →
     (choice : Option ℕ) × Answers (compound m r who size now choice) before last left
 for_other m r who size now declared a more status status_at count_at tag before first second last left one list other count named places put does sets =
     let choice = choice_of (is_delay status) in
     let o = first_item m declared who now (is_delay status) (item a) in
     let whole : compound m r who size now choice ≡ answers r (only o) =
-    rw (eq-eqb r.minor 1 one, list) (other_first m r who size now choice a more other) ∙ ap (λ (refused : Bool). answers r (only (first_item m r.declared who now refused (item a)))) (chosen (is_delay status))
+    rw (eq-eqb r.minor 1 one, list) (other_first m r who size now choice a more other)
+    ∙ ap (λ (refused : Bool). answers r (only (first_item m r.declared who now refused (item a)))) (chosen (is_delay status))
     ∙ ap (λ (n : ℕ). answers r (only (first_item m n who now (is_delay status) (item a)))) (sym count) in
     let text : Puts before last (spell_compound_head o.status r.tag 1 ++ o.result) =
     subst (λ (t : List ℕ). Puts before last (spell_compound_head o.status t 1 ++ o.result)) named
-    (subst (λ (u : Status). Puts before last (spell_compound_head u tag 1 ++ o.result)) does.status (closed_one before first second last status_at count_at status 1 tag o.result places put does.put sets)) in
+    (subst (λ (u : Status). Puts before last (spell_compound_head u tag 1 ++ o.result)) does.status
+    (closed_one before first second last status_at count_at status 1 tag o.result places put does.put sets)) in
     (choice, subst (λ (answered : Answered). Answers answered before last left) (sym whole) (record { put = text; machine = does.machine }))

@@ -71,7 +71,8 @@ runs_behind m r who now choice s c more = follow (comes_to m (ResSequence (accep
 
 -- the slot keeps the whole answer
 abbrev pub keeps : Request → Caller → Sequence → Answered → Answered
-keeps r who s a = record a { machine = record a.machine { sessions = keep a.machine.sessions (id_of s.sessionid) s.slotid s.sequenceid who.uid r.bytes a.text } }
+keeps r who s a =
+    record a { machine = record a.machine { sessions = keep a.machine.sessions (id_of s.sessionid) s.slotid s.sequenceid who.uid r.bytes a.text } }
 
 -- a refusal and a repeat change nothing
 abbrev pub in_session : Machine → Request → Caller → ℕ → Option ℕ → Sequence → List Item → Sequenced → Answered

@@ -32,17 +32,37 @@ create_session_number = op_number Op.CreateSession
 
 -- what is asked for of a channel, and what is answered of one; there is no header padding and no RDMA
 abbrev pub channel_of : ChannelAttrs → Channel
-channel_of a = record { request = a.maxrequestsize; response = a.maxresponsesize; cached = a.maxresponsesize_cached; operations = a.maxoperations; slots = a.maxrequests }
+channel_of a = record {
+  request = a.maxrequestsize;
+  response = a.maxresponsesize;
+  cached = a.maxresponsesize_cached;
+  operations = a.maxoperations;
+  slots = a.maxrequests;
+}
 
 abbrev pub attrs_of : Channel → ChannelAttrs
-attrs_of c = record { headerpadsize = 0; maxrequestsize = c.request; maxresponsesize = c.response; maxresponsesize_cached = c.cached; maxoperations = c.operations; maxrequests = c.slots; rdma_ird = None }
+attrs_of c = record {
+  headerpadsize = 0;
+  maxrequestsize = c.request;
+  maxresponsesize = c.response;
+  maxresponsesize_cached = c.cached;
+  maxoperations = c.operations;
+  maxrequests = c.slots;
+  rdma_ird = None;
+}
 
 abbrev pub wish_of : Machine → CreateSession → Wish
 wish_of m c = record { fore = channel_of c.fore_chan_attrs; back = channel_of c.back_chan_attrs; leaving = leaving m.clients c.clientid }
 
 -- the answer: no flag is granted, and the back channel's attributes are those asked for
 abbrev pub session_made : CreateSession → SessionId → CreateSessionOk
-session_made c id = record { sessionid = id_bytes id; sequence = c.sequence; flags = 0; fore_chan_attrs = attrs_of (granted (channel_of c.fore_chan_attrs)); back_chan_attrs = c.back_chan_attrs }
+session_made c id = record {
+  sessionid = id_bytes id;
+  sequence = c.sequence;
+  flags = 0;
+  fore_chan_attrs = attrs_of (granted (channel_of c.fore_chan_attrs));
+  back_chan_attrs = c.back_chan_attrs;
+}
 
 -- what stands behind the status
 abbrev pub made_body : CreateSession → SessionId → List ℕ
@@ -67,8 +87,13 @@ confirmed m now client body = record {
 }
 
 abbrev pub by_created : Machine → ℕ → CreateSession → SessionTable → Result SessionId SessionFault → Outcome
-by_created m now c sessions (Ok id) = record { status = Nfs4Ok; result = done_head Op.CreateSession ++ made_body c id; machine = confirmed (record m { sessions = sessions }) now c.clientid (made_body c id) }
-by_created m now c sessions (Err fault) = refuses (record m { clients = with_kept m.clients c.clientid (Refused (fault_status fault)) }) create_session_number (fault_status fault)
+by_created m now c sessions (Ok id) = record {
+  status = Nfs4Ok;
+  result = done_head Op.CreateSession ++ made_body c id;
+  machine = confirmed (record m { sessions = sessions }) now c.clientid (made_body c id);
+}
+by_created m now c sessions (Err fault) =
+    refuses (record m { clients = with_kept m.clients c.clientid (Refused (fault_status fault)) }) create_session_number (fault_status fault)
 
 abbrev pub creates : Machine → ℕ → CreateSession → Created → Outcome
 creates m now c did = by_created m now c did.after did.answer

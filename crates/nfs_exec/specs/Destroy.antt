@@ -17,7 +17,8 @@ use Rattle.nfs_exec.specs.Machine.{Machine, Outcome, comes_to, refuses}
 -- a session goes with its slots
 abbrev pub destroy_session : Machine → List ℕ → Outcome
 destroy_session m sessionid =
-    if is_some (session_at m.sessions (id_of sessionid)) then comes_to (record m { sessions = sessions.destroyed m.sessions (id_of sessionid) }) ResDestroySession
+    if is_some (session_at m.sessions (id_of sessionid))
+    then comes_to (record m { sessions = sessions.destroyed m.sessions (id_of sessionid) }) ResDestroySession
     else refuses m (op_number Op.DestroySession) BadSession
 
 abbrev pub has_session : SessionTable → ℕ → Bool

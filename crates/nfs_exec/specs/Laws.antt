@@ -28,12 +28,14 @@ pub record Begins (m : Machine) (r : Request) (who : Caller) (size : ℕ) (s : S
 
 -- A repeat is answered with the reply that its slot keeps, runs nothing and changes nothing, wherever memory is refused.
 abbrev pub RepeatsChangeNothing : Type 0
-RepeatsChangeNothing = (m : Machine) (r : Request) (who : Caller) (size now : ℕ) (choice : Option ℕ) (s : Sequence) (reply : List ℕ) → Begins m r who size s (Repeats reply)
+RepeatsChangeNothing = (m : Machine) (r : Request) (who : Caller) (size now : ℕ) (choice : Option ℕ) (s : Sequence) (reply : List ℕ)
+    → Begins m r who size s (Repeats reply)
     → compound m r who size now choice ≡ record { text = reply; machine = m }
 
 -- A SEQUENCE that is refused is the only result, and changes nothing: its slot stays as it was, and no lease is renewed.
 abbrev pub RefusalsChangeNothing : Type 0
-RefusalsChangeNothing = (m : Machine) (r : Request) (who : Caller) (size now : ℕ) (choice : Option ℕ) (s : Sequence) (status : Status) → Begins m r who size s (Refuses status)
+RefusalsChangeNothing = (m : Machine) (r : Request) (who : Caller) (size now : ℕ) (choice : Option ℕ) (s : Sequence) (status : Status)
+    → Begins m r who size s (Refuses status)
     → compound m r who size now choice ≡ answers r (only (refuses m sequence_number status))
 
 -- Expiry at two moments is expiry at the later.
@@ -42,7 +44,8 @@ ExpiresOnce = (m : Machine) (first later : ℕ) → first ≤ later → expired 
 
 -- Behind a record, whose compound comes behind the expiry of its moment, expiry at the same moment finds nothing: no lease has run out.
 abbrev pub ExpiryFindsNothing : Type 0
-ExpiryFindsNothing = (m : Machine) (r : Request) (who : Caller) (size now : ℕ) (choice : Option ℕ) (client : ℕ) → has_run_out (compound (expired now m) r who size now choice).machine.leases now client ≡ false
+ExpiryFindsNothing = (m : Machine) (r : Request) (who : Caller) (size now : ℕ) (choice : Option ℕ) (client : ℕ)
+    → has_run_out (compound (expired now m) r who size now choice).machine.leases now client ≡ false
 
 -- No byte of a file has a writer beside another holder, and no two opens of different owners clash (RFC 8881 sections 9.1 and 9.7).
 pub record HasNoClashes (m : Machine) : Type 0 where

@@ -53,7 +53,12 @@ pub record RunsTo (ran : Ran) (told : told.Ran) (left : Machine) (old new : Pape
 
 -- a client goes with its sessions, its lease, its opens and its locks
 abbrev pub without_client : Machine → ℕ → Machine
-without_client m client = record { clients = without m.clients client; sessions = sessions.without_client m.sessions client; leases = without_lease m.leases client; store = staying (λ c. not (c == client)) m.store }
+without_client m client = record {
+  clients = without m.clients client;
+  sessions = sessions.without_client m.sessions client;
+  leases = without_lease m.leases client;
+  store = staying (λ c. not (c == client)) m.store;
+}
 
 -- who leaves for another record, if anybody, goes with its sessions, its lease, its opens and its locks
 abbrev pub without_left : Machine → Option ℕ → Machine

@@ -48,6 +48,7 @@ may_read_bytes s x a =
 pub may_write_bytes : (s : State) (x : Context) (now : Time) (a : Write) → IsAnswer (Operation (OpWrite a)) (write s x now a).result
 unfolding write
 may_write_bytes s x now a =
-    answers_with (IsAnswer (Operation (OpWrite a))) s x Num.Write _ _ (refuses_checked (writable s x a.stateid (current s x)) (last_checks s a) (writable_refuses s x a.stateid (current s x) (current_refuses s x)) (λ d. refl))
+    answers_with (IsAnswer (Operation (OpWrite a))) s x Num.Write _ _
+    (refuses_checked (writable s x a.stateid (current s x)) (last_checks s a) (writable_refuses s x a.stateid (current s x) (current_refuses s x)) (λ d. refl))
     (λ status h. record { may = (refl, rw (h.done, h.legal) refl, tt); arrays = tt })
     (λ d. record { may = (refl, tt, tt); arrays = verifier_length s })

@@ -42,7 +42,8 @@ not_false : (b : Bool) → not b ≡ false → b ≡ true
 not_false true e = refl
 not_false false e = absurd cc
 
-own_named : (t : Table) (n client file seqid : ℕ) (k : Seat) (o : Option OpenState) (l : Option LockState) → open_at t n ≡ o → judge_named client (Some file) OpenOnly seqid (named_by t o l) ≡ Ok k → (o : OpenState) × IsOpenOf t n file o
+own_named : (t : Table) (n client file seqid : ℕ) (k : Seat) (o : Option OpenState) (l : Option LockState) → open_at t n ≡ o
+    → judge_named client (Some file) OpenOnly seqid (named_by t o l) ≡ Ok k → (o : OpenState) × IsOpenOf t n file o
 own_named t n client file seqid k (Some o) l is e =
     let checks = judge_checks client (Some file) OpenOnly seqid (open_named o) in
     let passed = all_passed checks (is_seated (open_named o).seat k (first_fault checks) e) in
@@ -53,11 +54,15 @@ own_named t n client file seqid k None (Some l) is e =
     absurd (false≢true (sym passed.1.1.0))
 own_named t n client file seqid k None None is e = absurd cc
 
-own_by : (t : Table) (id : StateId) (client file : ℕ) (k : Seat) (b : Bool) → judge_named client (Some file) OpenOnly id.seqid (cond b (named_by t (open_at t id.number) (lock_at t id.number)) None) ≡ Ok k → (o : OpenState) × IsOpenOf t id.number file o
+own_by : (t : Table) (id : StateId) (client file : ℕ) (k : Seat) (b : Bool)
+    → judge_named client (Some file) OpenOnly id.seqid (cond b (named_by t (open_at t id.number) (lock_at t id.number)) None) ≡ Ok k
+    → (o : OpenState) × IsOpenOf t id.number file o
 own_by t id client file k true e = own_named t id.number client file id.seqid k (open_at t id.number) (lock_at t id.number) refl e
 own_by t id client file k false e = absurd cc
 
-own_judged : (t : Table) (id : StateId) (client file : ℕ) (k : Seat) (a b : Bool) → cond a (Err BadStateId) (cond b (Err BadStateId) (judge_named client (Some file) OpenOnly id.seqid (named t id))) ≡ Ok k → (o : OpenState) × IsOpenOf t id.number file o
+own_judged : (t : Table) (id : StateId) (client file : ℕ) (k : Seat) (a b : Bool)
+    → cond a (Err BadStateId) (cond b (Err BadStateId) (judge_named client (Some file) OpenOnly id.seqid (named t id))) ≡ Ok k
+    → (o : OpenState) × IsOpenOf t id.number file o
 own_judged t id client file k true b e = absurd cc
 own_judged t id client file k false true e = absurd cc
 own_judged t id client file k false false e = own_by t id client file k (id.instance == t.instance) e
@@ -71,16 +76,19 @@ any_of p [] x there e = absurd there
 any_of p (y ∷ ys) x (inl is) e = let here : p y ≡ true = ap p (sym is) ∙ e in rw here refl
 any_of p (y ∷ ys) x (inr more) e = elim (p y) as (λ b. b || list_any p ys ≡ true) [ true ↦ refl | false ↦ any_of p ys x more e ]
 
-stays_open : (t : Table) (n file m : ℕ) (o : OpenState) → IsTable t → IsOpenOf t n file o → m ≢ file → list_any (λ o. o.file == m) t.opens ≡ true → list_any (λ o. o.file == m) (closing.without_open t n).opens ≡ true
+stays_open : (t : Table) (n file m : ℕ) (o : OpenState) → IsTable t → IsOpenOf t n file o → m ≢ file
+    → list_any (λ o. o.file == m) t.opens ≡ true → list_any (λ o. o.file == m) (closing.without_open t n).opens ≡ true
 stays_open t n file m o is mine other e =
     let found = find_in (λ (o : OpenState). o.number == n) t.opens o mine.0 in
     let q = any_passes (λ (o : OpenState). o.file == m) t.opens e in
     let stays : (q.0.number == n) ≡ false = elim (cases_Bool (q.0.number == n)) [
-      | inl goes ↦ (let same : q.0 ≡ o = in_one (λ (o : OpenState). o.number) 1 (suc t.last) t.opens q.0 o is.opens q.1 found.0 (eqb-true _ _ goes ∙ sym (eqb-true _ _ found.1)) in
+      | inl goes ↦ (let same : q.0 ≡ o =
+          in_one (λ (o : OpenState). o.number) 1 (suc t.last) t.opens q.0 o is.opens q.1 found.0 (eqb-true _ _ goes ∙ sym (eqb-true _ _ found.1)) in
           absurd (other (sym (eqb-true _ _ q.2) ∙ ap (λ (o : OpenState). o.file) same ∙ mine.1)))
       | inr stays ↦ stays
     ] in
-    any_of (λ (o : OpenState). o.file == m) (filter (λ o. not (o.number == n)) t.opens) q.0 (filter_in (λ (o : OpenState). not (o.number == n)) t.opens q.0 q.1 (ap not stays)) q.2
+    any_of (λ (o : OpenState). o.file == m) (filter (λ o. not (o.number == n)) t.opens) q.0
+    (filter_in (λ (o : OpenState). not (o.number == n)) t.opens q.0 q.1 (ap not stays)) q.2
 
 was_open : (t : Table) (n m : ℕ) → list_any (λ o. o.file == m) (closing.without_open t n).opens ≡ true → list_any (λ o. o.file == m) t.opens ≡ true
 was_open t n m e =
@@ -92,13 +100,16 @@ used_by true r o k f e = refl
 used_by false true o k f e = refl
 used_by false false o k f e = f e
 
-but_closed : (s : State) (n file : ℕ) (o : OpenState) → IsTable s.opens → IsOpenOf s.opens n file o → IsStore s → IsStoreBut (with_opens s (closing.without_open s.opens n)) file
+but_closed : (s : State) (n file : ℕ) (o : OpenState) → IsTable s.opens → IsOpenOf s.opens n file o
+    → IsStore s → IsStoreBut (with_opens s (closing.without_open s.opens n)) file
 but_closed s n file o table mine is = record {
-  used = λ m other there. used_by (m == root) (has_row s.tree.rows m) (list_any (λ o. o.file == m) s.opens.opens) (list_any (λ o. o.file == m) (closing.without_open s.opens n).opens) (stays_open s.opens n file m o table mine other) (is.used m there);
+  used = λ m other there. used_by (m == root) (has_row s.tree.rows m) (list_any (λ o. o.file == m) s.opens.opens)
+      (list_any (λ o. o.file == m) (closing.without_open s.opens n).opens) (stays_open s.opens n file m o table mine other) (is.used m there);
   files = λ m stands. is.files m (was_open s.opens n m stands);
 }
 
-closed_store : (s : State) (x : Context) (n file : ℕ) (v : Result Seat Status) → ((k : Seat) → v ≡ Ok k → (o : OpenState) × IsOpenOf s.opens n file o) → IsTable s.opens → IsStore s
+closed_store : (s : State) (x : Context) (n file : ℕ) (v : Result Seat Status)
+    → ((k : Seat) → v ≡ Ok k → (o : OpenState) × IsOpenOf s.opens n file o) → IsTable s.opens → IsStore s
     → IsStore (let did = closing.close_by s.opens n v in answers s x Num.Close did.answer (λ u. closed s x file did.after)).state
 closed_store s x n file (Err status) each table is = is
 closed_store s x n file (Ok k) each table is =

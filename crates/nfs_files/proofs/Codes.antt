@@ -34,17 +34,20 @@ length_text s x (piece ∷ pieces) =
     omega (arith, length-append one (text s x pieces), length_number (code s x (stateid_of piece)), length_text s x pieces)
 
 -- room for the code of the next one
-pub room_for_code : (s : State) (x : Context) (old now : Paper) (pieces : List (List ℕ)) (i next : ℕ) → i < length pieces → length old.bytes + 4 * length pieces ≤ old.room → Puts old now (text s x (take i pieces)) → HasRoom now (number next)
+pub room_for_code : (s : State) (x : Context) (old now : Paper) (pieces : List (List ℕ)) (i next : ℕ) → i < length pieces
+    → length old.bytes + 4 * length pieces ≤ old.room → Puts old now (text s x (take i pieces)) → HasRoom now (number next)
 room_for_code s x old now pieces i next lt room put =
     let before = length-flat_map-take (λ (piece : List ℕ). number (code s x (stateid_of piece))) pieces i [] lt in
     let one = length_number (code s x (stateid_of (get_or pieces i []))) in
     omega (arith, put.room, ap length put.bytes, length-append old.bytes (text s x (take i pieces)), length_text s x pieces, before, one, length_number next)
 
-pub all_codes : (s : State) (x : Context) (old new : Paper) (pieces : List (List ℕ)) (i : ℕ) → length pieces ≤ i → Puts old new (text s x (take i pieces)) → Puts old new (flat_map number (map (code s x) (map stateid_of pieces)))
+pub all_codes : (s : State) (x : Context) (old new : Paper) (pieces : List (List ℕ)) (i : ℕ) → length pieces ≤ i
+    → Puts old new (text s x (take i pieces)) → Puts old new (flat_map number (map (code s x) (map stateid_of pieces)))
 all_codes s x old new pieces i over put = subst (λ (w : List ℕ). Puts old new w) (ap (text s x) (take_all i pieces over) ∙ same_text s x pieces) put
 
 -- the head and the codes are the result
-pub told_codes : (s : State) (x : Context) (old mid new : Paper) (pieces : List (List ℕ)) (count : ℕ) → number count ≡ number (length pieces) → Puts old mid (test_stateid_head count) → Puts mid new (flat_map number (map (code s x) (map stateid_of pieces)))
+pub told_codes : (s : State) (x : Context) (old mid new : Paper) (pieces : List (List ℕ)) (count : ℕ) → number count ≡ number (length pieces)
+    → Puts old mid (test_stateid_head count) → Puts mid new (flat_map number (map (code s x) (map stateid_of pieces)))
     → Puts old new (spell_result (ResTestStateid (map (code s x) (map stateid_of pieces))))
 told_codes s x old mid new pieces count is front codes =
     let all = map (code s x) (map stateid_of pieces) in
@@ -54,7 +57,8 @@ told_codes s x old mid new pieces count is front codes =
     subst (λ (w : List ℕ). Puts old new w) spelled (puts_then front codes)
 
 pub length_test_head : (count : ℕ) → length (test_stateid_head count) ≡ 12
-length_test_head count = omega (arith, length-append (head (op_number Op.TestStateid) Nfs4Ok) (number count), length_head (op_number Op.TestStateid) Nfs4Ok, length_number count)
+length_test_head count =
+    omega (arith, length-append (head (op_number Op.TestStateid) Nfs4Ok) (number count), length_head (op_number Op.TestStateid) Nfs4Ok, length_number count)
 
 -- a word tells what is left of a number
 pub same_word : (n : ℕ) → number (n % 4294967296) ≡ number n

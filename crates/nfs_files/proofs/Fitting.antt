@@ -11,7 +11,8 @@ use Rattle.nfs_opens.specs.declared.records.LockState.{LockState}
 use Rattle.nfs_opens.specs.Table.{Table, lock_at}
 use Rattle.nfs_files.specs.Denied.{holder, denied}
 
-pub room_for : (r : Res) (paper : Paper) (n : ℕ) → HasArrays r → HasSizes 0 r → largest_of (operation_of r) 0 ≡ n → length paper.bytes + n ≤ paper.room → HasRoom paper (spell_result r)
+pub room_for : (r : Res) (paper : Paper) (n : ℕ) → HasArrays r → HasSizes 0 r
+    → largest_of (operation_of r) 0 ≡ n → length paper.bytes + n ≤ paper.room → HasRoom paper (spell_result r)
 room_for r paper n arrays sizes most room =
     let within = behind_within 0 r arrays sizes in
     let whole = length_spelled r in

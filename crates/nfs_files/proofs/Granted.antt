@@ -12,7 +12,8 @@ use Rattle.nfs_tree.specs.declared.object.FileType.TheVariants as Kind
 use Rattle.nfs_tree.specs.declared.row.Row.{Row}
 use Rattle.nfs_tree.specs.declared.stored.Stored.{Stored}
 use Rattle.nfs_tree.specs.Object.{is_directory, is_regular}
-use Rattle.nfs_tree.specs.Files.{Files, most_bytes, most_objects, is_name, stored_in, is_there, is_directory_at, is_regular_at, entry, has_name, lookup, can_change}
+use Rattle.nfs_tree.specs.Files.{Files, most_bytes, most_objects, is_name, stored_in, is_there, is_directory_at, is_regular_at, entry, has_name, lookup}
+use Rattle.nfs_tree.specs.Files.{can_change}
 use Rattle.nfs_attrs.specs.declared.wanted.Wanted.{Wanted}
 use Rattle.nfs_attrs.specs.declared.wanted.AttrFault.{AttrFault}
 use Rattle.nfs_names.specs.declared.context.Context.{Context}
@@ -25,13 +26,15 @@ use Rattle.nfs_names.specs.Create.{with_wanted, can_create}
 use Rattle.nfs_names.proofs.Found.{IsHeld, current_is, checked_ok, short_name}
 use Rattle.nfs_files.specs.declared.opening.Found.{Found}
 use Rattle.nfs_files.specs.declared.opening.Found.TheVariants.{There, Absent}
-use Rattle.nfs_files.specs.Open.{name_of, wanted_by, argument_checks, place_checks, absent_checks, there_checks, is_by_handle, cuts, found_by, found_at, by_name, by_handle, asked_for, last_checks}
+use Rattle.nfs_files.specs.Open.{name_of, wanted_by, argument_checks, place_checks, absent_checks, there_checks, is_by_handle, cuts, found_by, found_at}
+use Rattle.nfs_files.specs.Open.{by_name, by_handle, asked_for, last_checks}
 use Rattle.nfs_files.specs.OpenParts.{tree_fault}
 use Rattle.nfs_files.specs.SetAttr.{is_too_big}
 use Rattle.nfs_files.proofs.OpenAnswers.{asked_regular}
 
 -- a file that is there, and is no directory
-file_there : (o : Option Stored) → option_map_or (λ (s : Stored). is_regular s.object.kind) o false ≡ true → (is_some o ≡ true) × (option_map_or (λ (s : Stored). is_directory s.object.kind) o false ≡ false)
+file_there : (o : Option Stored) → option_map_or (λ (s : Stored). is_regular s.object.kind) o false ≡ true
+    → (is_some o ≡ true) × (option_map_or (λ (s : Stored). is_directory s.object.kind) o false ≡ false)
 file_there None e = absurd (false≢true e)
 file_there (Some s) e = (refl, by_kind s.object.kind e)
   where
@@ -40,7 +43,8 @@ file_there (Some s) e = (refl, by_kind s.object.kind e)
     by_kind Kind.Directory e = absurd (false≢true e)
     by_kind Kind.Link e = absurd (false≢true e)
 
-cut_free : (t : Files) (o : Open) (place : ℕ) (f : Held) (cut : Bool) → is_regular_at t f.number ≡ true → not (cut && not (can_change t f.number)) ≡ true → tree_fault t o (There place f cut) ≡ None
+cut_free : (t : Files) (o : Open) (place : ℕ) (f : Held) (cut : Bool) → is_regular_at t f.number ≡ true
+    → not (cut && not (can_change t f.number)) ≡ true → tree_fault t o (There place f cut) ≡ None
 cut_free t o place f false file can = refl
 cut_free t o place f true file can =
     let n = f.number in
@@ -79,7 +83,8 @@ place_of (Err f) r m e = absurd cc
 place_of (Ok d) (Err f) m e = absurd cc
 place_of (Ok d) (Ok w) m e = let same : record { place = d; wanted = w } ≡ m = cc in ap (λ (m : Making). Ok m.place) same
 
-found_absent : (s : State) (x : Context) (o : Open) (k m : Making) (n : Option ℕ) → found_by s x o k n ≡ Ok (Absent m) → (k ≡ m) × (n ≡ None) × (first_fault (absent_checks x o m) ≡ None)
+found_absent : (s : State) (x : Context) (o : Open) (k m : Making) (n : Option ℕ)
+    → found_by s x o k n ≡ Ok (Absent m) → (k ≡ m) × (n ≡ None) × (first_fault (absent_checks x o m) ≡ None)
 found_absent s x o k m (Some n) e = absurd (no_absent k.place.number (cuts o k.wanted) (checked (held s (Some n)) (there_checks x o)) m e)
 found_absent s x o k m None e =
     let found = checked_ok (Ok k) (absent_checks x o) m (absent_of (checked (Ok k) (absent_checks x o)) m e) in
@@ -93,13 +98,19 @@ named_absent s x o (Ok k) m e =
     (ap Ok found.0, ap (λ (m : Making). lookup s.tree m.place.number (name_of o.claim)) (sym found.0) ∙ found.1, found.2)
 
 claimed_absent : (s : State) (x : Context) (o : Open) (b : Bool) (m : Making)
-    → cond b (by_handle x o (checked (current s x) (argument_checks o))) (by_name s x o (checked (current s x) (argument_checks o))) ≡ Ok (Absent m) → IsFree s x o m
+    → cond b (by_handle x o (checked (current s x) (argument_checks o))) (by_name s x o (checked (current s x) (argument_checks o))) ≡ Ok (Absent m)
+    → IsFree s x o m
 claimed_absent s x o true m e = absurd (no_own (checked (checked (current s x) (argument_checks o)) (there_checks x o)) m e)
 claimed_absent s x o false m e =
     let d = checked (current s x) (argument_checks o) in
     let found = named_absent s x o (with_wanted (checked d (place_checks x o)) (wanted_by o.openhow)) m e in
     let placed = checked_ok d (place_checks x o) m.place (place_of (checked d (place_checks x o)) (wanted_by o.openhow) m found.0) in
-    record { place = current_is s x m.place (checked_ok (current s x) (argument_checks o) m.place placed.0).0; named = placed.1; free = found.1; wanted = found.2 }
+    record {
+      place = current_is s x m.place (checked_ok (current s x) (argument_checks o) m.place placed.0).0;
+      named = placed.1;
+      free = found.1;
+      wanted = found.2;
+    }
 
 asked_absent : (s : State) (x : Context) (o : Open) (m : Making) → asked_for s x o ≡ Ok (Absent m) → IsFree s x o m
 unfolding asked_for
@@ -113,7 +124,8 @@ small_size : (size : Option ℕ) → is_too_big size ≡ false → nat_lt most_b
 small_size None e = refl
 small_size (Some size) e = e
 
-made_free : (s : State) (x : Context) (o : Open) (m : Making) → IsFree s x o m → nat_le most_objects (length s.tree.objects) ≡ false → can_create s.tree m.place.number ≡ true → tree_fault s.tree o (Absent m) ≡ None
+made_free : (s : State) (x : Context) (o : Open) (m : Making) → IsFree s x o m → nat_le most_objects (length s.tree.objects) ≡ false
+    → can_create s.tree m.place.number ≡ true → tree_fault s.tree o (Absent m) ≡ None
 made_free s x o m is few can =
     let t = s.tree in
     let d = m.place.number in
@@ -128,7 +140,8 @@ made_free s x o m is few can =
     let counted : not (can_create t d) ≡ false = ap not can in
     rw (there, directory, short, free, small, few, counted) refl
 
-pub tree_free : (s : State) (x : Context) (o : Open) (found : Found) → asked_for s x o ≡ Ok found → first_fault (last_checks s x o found) ≡ None → tree_fault s.tree o found ≡ None
+pub tree_free : (s : State) (x : Context) (o : Open) (found : Found) → asked_for s x o ≡ Ok found
+    → first_fault (last_checks s x o found) ≡ None → tree_fault s.tree o found ≡ None
 tree_free s x o (There place f cut) v e =
     let checks = all_passed (last_checks s x o (There place f cut)) e in
     cut_free s.tree o place f cut (asked_regular s x o place f cut v) (not-false _ checks.1.1.0)

@@ -49,7 +49,8 @@ pub none_at_zero : (s : State) → IsTree s.tree → IsStore s → is_open s 0 �
 none_at_zero s tree is = unopened s 0 is (no_object s.tree 0 tree (λ within. (let low = within.0 in absurd (omega arith))))
 
 pub none_at_next : (s : State) → IsTree s.tree → IsStore s → is_open s (s.tree.last_object + 1) ≡ false
-none_at_next s tree is = unopened s (s.tree.last_object + 1) is (no_object s.tree (s.tree.last_object + 1) tree (λ within. (let high = within.1 in absurd (omega arith))))
+none_at_next s tree is = unopened s (s.tree.last_object + 1) is
+    (no_object s.tree (s.tree.last_object + 1) tree (λ within. (let high = within.1 in absurd (omega arith))))
 
 none_clash : (a : Asked) (xs : List OpenState) → list_any (λ o. o.file == a.file) xs ≡ false → list_any (clashes_with a) xs ≡ false
 none_clash a [] e = refl
@@ -67,19 +68,23 @@ abbrev pub shared_checks : State → Context → Open → Found → List (Bool �
 shared_checks s x o found = (clashes s x o found, ShareDenied) ∷ (is_used_up s x o found, ServerFault) ∷ []
 
 -- a file that is made has no opens, whatever its number will be
-free_fault : (s : State) (x : Context) (o : Open) (n : ℕ) → is_open s n ≡ false → open_fault s.opens (asking x o n) ≡ first_fault ((false, ShareDenied) ∷ (s.opens.last == last_number, ServerFault) ∷ [])
+free_fault : (s : State) (x : Context) (o : Open) (n : ℕ) → is_open s n ≡ false
+    → open_fault s.opens (asking x o n) ≡ first_fault ((false, ShareDenied) ∷ (s.opens.last == last_number, ServerFault) ∷ [])
 free_fault s x o n e = let free = free_checks s (asking x o n) e in rw (free.0, free.1) refl
 
-pub shared_fault : (s : State) (x : Context) (o : Open) (found : Found) → IsTree s.tree → IsStore s → open_fault s.opens (asking x o (number_of found)) ≡ first_fault (shared_checks s x o found)
+pub shared_fault : (s : State) (x : Context) (o : Open) (found : Found) → IsTree s.tree → IsStore s
+    → open_fault s.opens (asking x o (number_of found)) ≡ first_fault (shared_checks s x o found)
 shared_fault s x o (There place f cut) tree is = refl
 shared_fault s x o (Absent m) tree is = free_fault s x o 0 (none_at_zero s tree is)
 
-pub opened_fault : (s : State) (x : Context) (o : Open) (found : Found) → IsTree s.tree → IsStore s → open_fault s.opens (asking x o (file_of s.tree found)) ≡ first_fault (shared_checks s x o found)
+pub opened_fault : (s : State) (x : Context) (o : Open) (found : Found) → IsTree s.tree → IsStore s
+    → open_fault s.opens (asking x o (file_of s.tree found)) ≡ first_fault (shared_checks s x o found)
 opened_fault s x o (There place f cut) tree is = refl
 opened_fault s x o (Absent m) tree is = free_fault s x o (s.tree.last_object + 1) (none_at_next s tree is)
 
 -- where nothing is shared wrongly and no number is wanted, the room decides
-last_ok : (k u : Bool) (rooms : List (Bool × Status)) → Ok tt ≡ judged (first_fault ((k, ShareDenied) ∷ (u, ServerFault) ∷ [])) → judged (first_fault rooms) ≡ judged (first_fault ((k, ShareDenied) ∷ rooms ++ (u, ServerFault) ∷ []))
+last_ok : (k u : Bool) (rooms : List (Bool × Status)) → Ok tt ≡ judged (first_fault ((k, ShareDenied) ∷ (u, ServerFault) ∷ []))
+    → judged (first_fault rooms) ≡ judged (first_fault ((k, ShareDenied) ∷ rooms ++ (u, ServerFault) ∷ []))
 last_ok true u rooms e = absurd cc
 last_ok false true rooms e = absurd cc
 last_ok false false rooms e = ap judged (sym (first_append rooms ((false, ServerFault) ∷ []) ∙ or_none (first_fault rooms)))
@@ -88,14 +93,19 @@ last_ok false false rooms e = ap judged (sym (first_append rooms ((false, Server
     or_none None = refl
     or_none (Some f) = refl
 
-last_denied : (k u : Bool) (rooms : List (Bool × Status)) (status : Status) → Err status ≡ judged (first_fault ((k, ShareDenied) ∷ (u, ServerFault) ∷ [])) → status_number status ≡ status_number ShareDenied
+last_denied : (k u : Bool) (rooms : List (Bool × Status)) (status : Status)
+    → Err status ≡ judged (first_fault ((k, ShareDenied) ∷ (u, ServerFault) ∷ [])) → status_number status ≡ status_number ShareDenied
     → Err status ≡ judged (first_fault ((k, ShareDenied) ∷ rooms ++ (u, ServerFault) ∷ []))
 last_denied true u rooms status e n = e
-last_denied false true rooms status e n = let same : status ≡ ServerFault = cc in let bad : status_number ServerFault ≡ status_number ShareDenied = sym (ap status_number same) ∙ n in absurd (omega arith)
+last_denied false true rooms status e n = let same : status ≡ ServerFault = cc in
+    let bad : status_number ServerFault ≡ status_number ShareDenied = sym (ap status_number same) ∙ n in absurd (omega arith)
 last_denied false false rooms status e n = absurd cc
 
-last_spent : (k u : Bool) (rooms : List (Bool × Status)) (status : Status) → Err status ≡ judged (first_fault ((k, ShareDenied) ∷ (u, ServerFault) ∷ [])) → (status_number status ≡ status_number ShareDenied → ⊥)
-    → (r : Result (Unit {0}) Status) → r ≡ judged (first_fault rooms) → (Ok tt ≡ r → Err status ≡ judged (first_fault ((k, ShareDenied) ∷ rooms ++ (u, ServerFault) ∷ []))) × ((other : Status) → Err other ≡ r → Err other ≡ judged (first_fault ((k, ShareDenied) ∷ rooms ++ (u, ServerFault) ∷ [])))
+last_spent : (k u : Bool) (rooms : List (Bool × Status)) (status : Status)
+    → Err status ≡ judged (first_fault ((k, ShareDenied) ∷ (u, ServerFault) ∷ [])) → (status_number status ≡ status_number ShareDenied → ⊥)
+    → (r : Result (Unit {0}) Status) → r ≡ judged (first_fault rooms)
+    → (Ok tt ≡ r → Err status ≡ judged (first_fault ((k, ShareDenied) ∷ rooms ++ (u, ServerFault) ∷ [])))
+    × ((other : Status) → Err other ≡ r → Err other ≡ judged (first_fault ((k, ShareDenied) ∷ rooms ++ (u, ServerFault) ∷ [])))
 last_spent true u rooms status e n r is = let same : status ≡ ShareDenied = cc in absurd (n (ap status_number same))
 last_spent false false rooms status e n r is = absurd cc
 last_spent false true rooms status e n r is = (
@@ -103,27 +113,34 @@ last_spent false true rooms status e n r is = (
   λ other er. by_other (first_fault rooms) refl other (er ∙ is),
 )
   where
-    by_room : (o : Option Status) → first_fault rooms ≡ o → Ok tt ≡ judged (first_fault rooms) → Err status ≡ judged (first_fault (rooms ++ (true, ServerFault) ∷ []))
+    by_room : (o : Option Status) → first_fault rooms ≡ o → Ok tt ≡ judged (first_fault rooms)
+        → Err status ≡ judged (first_fault (rooms ++ (true, ServerFault) ∷ []))
     by_room None h ok = e ∙ sym (ap judged (first_append rooms ((true, ServerFault) ∷ []) ∙ ap (λ o. or_fault o (Some ServerFault)) h))
     by_room (Some f) h ok = absurd (let bad : Ok tt ≡ Err f = ok ∙ ap judged h in cc)
 
-    by_other : (o : Option Status) → first_fault rooms ≡ o → (other : Status) → Err other ≡ judged (first_fault rooms) → Err other ≡ judged (first_fault (rooms ++ (true, ServerFault) ∷ []))
+    by_other : (o : Option Status) → first_fault rooms ≡ o → (other : Status)
+        → Err other ≡ judged (first_fault rooms) → Err other ≡ judged (first_fault (rooms ++ (true, ServerFault) ∷ []))
     by_other None h other er = absurd (let bad : Err other ≡ Ok tt = er ∙ ap judged h in cc)
     by_other (Some f) h other er = er ∙ ap judged (h ∙ sym (first_append rooms ((true, ServerFault) ∷ []) ∙ ap (λ o. or_fault o (Some ServerFault)) h))
 
-pub room_decides : (s : State) (x : Context) (o : Open) (found : Found) (shared : Result (Unit {0}) Status) → shared ≡ judged (first_fault (shared_checks s x o found)) → shared ≡ Ok tt
+pub room_decides : (s : State) (x : Context) (o : Open) (found : Found) (shared : Result (Unit {0}) Status)
+    → shared ≡ judged (first_fault (shared_checks s x o found)) → shared ≡ Ok tt
     → judged (first_fault (room_checks s.tree found)) ≡ judged (first_fault (last_checks s x o found))
 room_decides s x o found shared is ok = last_ok (clashes s x o found) (is_used_up s x o found) (room_checks s.tree found) (sym ok ∙ is)
 
-pub denied_decides : (s : State) (x : Context) (o : Open) (found : Found) (status : Status) → Err status ≡ judged (first_fault (shared_checks s x o found)) → status_number status ≡ status_number ShareDenied
+pub denied_decides : (s : State) (x : Context) (o : Open) (found : Found) (status : Status)
+    → Err status ≡ judged (first_fault (shared_checks s x o found)) → status_number status ≡ status_number ShareDenied
     → Err status ≡ judged (first_fault (last_checks s x o found))
 denied_decides s x o found status is n = last_denied (clashes s x o found) (is_used_up s x o found) (room_checks s.tree found) status is n
 
-pub spent_decides : (s : State) (x : Context) (o : Open) (found : Found) (status : Status) → Err status ≡ judged (first_fault (shared_checks s x o found)) → (status_number status ≡ status_number ShareDenied → ⊥)
+pub spent_decides : (s : State) (x : Context) (o : Open) (found : Found) (status : Status)
+    → Err status ≡ judged (first_fault (shared_checks s x o found)) → (status_number status ≡ status_number ShareDenied → ⊥)
     → (r : Result (Unit {0}) Status) → r ≡ judged (first_fault (room_checks s.tree found))
-    → (Ok tt ≡ r → Err status ≡ judged (first_fault (last_checks s x o found))) × ((other : Status) → Err other ≡ r → Err other ≡ judged (first_fault (last_checks s x o found)))
+    → (Ok tt ≡ r → Err status ≡ judged (first_fault (last_checks s x o found)))
+    × ((other : Status) → Err other ≡ r → Err other ≡ judged (first_fault (last_checks s x o found)))
 spent_decides s x o found status is n r room = last_spent (clashes s x o found) (is_used_up s x o found) (room_checks s.tree found) status is n r room
 
 -- nothing is shared wrongly, and a number is left
-pub shared_free : (s : State) (x : Context) (o : Open) (found : Found) → first_fault (last_checks s x o found) ≡ None → first_fault (shared_checks s x o found) ≡ None
+pub shared_free : (s : State) (x : Context) (o : Open) (found : Found)
+    → first_fault (last_checks s x o found) ≡ None → first_fault (shared_checks s x o found) ≡ None
 shared_free s x o found e = let checks = all_passed (last_checks s x o found) e in rw (checks.0, checks.1.1.1.0) refl

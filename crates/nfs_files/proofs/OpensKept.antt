@@ -49,7 +49,8 @@ store_opens s u same is = record {
   files = λ n stands. is.files n (sym (same n) ∙ stands);
 }
 
-either_files : {X F : Type 0} (t : Table) (b : Bool) (here there : Did X F) → SameFiles t here.after → SameFiles t there.after → SameFiles t (cond b here there).after
+either_files : {X F : Type 0} (t : Table) (b : Bool) (here there : Did X F)
+    → SameFiles t here.after → SameFiles t there.after → SameFiles t (cond b here there).after
 either_files t true here there y n = y
 either_files t false here there y n = n
 
@@ -70,7 +71,8 @@ unfolding free_stateid
 store_free s x given is =
     answers_state s x Num.FreeStateid (meant x Any given) (frees s x) is (λ id.
     (let did = closing.free s.opens id x.client in
-    answers_state s x Num.FreeStateid did.answer (λ u. done (with_opens s did.after) x ResFreeStateid) is (λ u. store_opens s did.after (free_files s.opens (judge s.opens id x.client None Either)) is)))
+    answers_state s x Num.FreeStateid did.answer (λ u. done (with_opens s did.after) x ResFreeStateid) is
+    (λ u. store_opens s did.after (free_files s.opens (judge s.opens id x.client None Either)) is)))
 
 -- OPEN_DOWNGRADE
 narrowed_files : (n : ℕ) (access deny : Share) (os : List OpenState) (m : ℕ)
@@ -78,7 +80,8 @@ narrowed_files : (n : ℕ) (access deny : Share) (os : List OpenState) (m : ℕ)
 narrowed_files n access deny [] m = refl
 narrowed_files n access deny (o ∷ os) m =
     let rest = narrowed_files n access deny os m in
-    elim (o.number == n) as (λ b. ((cond b (opening.narrows access deny o) o).file == m) || list_any (λ o. o.file == m) (map (λ o. if o.number == n then opening.narrows access deny o else o) os) ≡ (o.file == m) || list_any (λ o. o.file == m) os) [
+    elim (o.number == n) as (λ b. ((cond b (opening.narrows access deny o) o).file == m) || list_any (λ o. o.file == m)
+    (map (λ o. if o.number == n then opening.narrows access deny o else o) os) ≡ (o.file == m) || list_any (λ o. o.file == m) os) [
       | true ↦ ap (λ b. (o.file == m) || b) rest
       | false ↦ ap (λ b. (o.file == m) || b) rest
     ]
@@ -113,8 +116,10 @@ if_files : (t : Table) (v : Result (Unit {0}) OpenFault) (did : Did StateId Open
 if_files t (Err fault) did same = λ m. refl
 if_files t (Ok unit) did same = same
 
-by_owner_files : (t : Table) (w : Wish) (opened : ℕ) (owner : List ℕ) (access : Share) (l : Option LockState) → SameFiles t (locking.lock_by_owner t w opened owner access l).after
-by_owner_files t w opened owner access (Some l) = if_files t (locking.lock_judged t l.number access w) (locking.lock_more t w l.number (lock_at t l.number)) (more_files t w l.number (lock_at t l.number))
+by_owner_files : (t : Table) (w : Wish) (opened : ℕ) (owner : List ℕ) (access : Share) (l : Option LockState)
+    → SameFiles t (locking.lock_by_owner t w opened owner access l).after
+by_owner_files t w opened owner access (Some l) =
+    if_files t (locking.lock_judged t l.number access w) (locking.lock_more t w l.number (lock_at t l.number)) (more_files t w l.number (lock_at t l.number))
 by_owner_files t w opened owner access None = if_files t (locking.lock_judged t 0 access w) (locking.lock_new t w opened owner) (new_files t w opened owner)
 
 under_files : (t : Table) (w : Wish) (opened : ℕ) (owner : List ℕ) (v : Result Seat Status) → SameFiles t (locking.lock_under t w opened owner v).after
@@ -123,13 +128,15 @@ under_files t w opened owner (Ok seat) = by_owner_files t w opened owner (lockin
 
 known_files : (t : Table) (w : Wish) (n : ℕ) (v : Result Seat Status) → SameFiles t (locking.lock_known t w n v).after
 known_files t w n (Err status) = λ m. refl
-known_files t w n (Ok seat) = if_files t (locking.lock_judged t n (locking.access_in seat) w) (locking.lock_more t w n (lock_at t n)) (more_files t w n (lock_at t n))
+known_files t w n (Ok seat) =
+    if_files t (locking.lock_judged t n (locking.access_in seat) w) (locking.lock_more t w n (lock_at t n)) (more_files t w n (lock_at t n))
 
 lock_files : (t : Table) (who : args.Locker) (id : StateId) (w : Wish) → SameFiles t (of_lock.locks_as t who id w).after
 lock_files t (args.OpenOwner o) id w = under_files t w id.number o.lock_owner.owner (judge t id w.client (Some w.file) OpenOnly)
 lock_files t (args.LockOwner o) id w = known_files t w id.number (judge t id w.client (Some w.file) LockOnly)
 
-locked_store : (s : State) (x : Context) (after : Table) (v : Result StateId OpenFault) → SameFiles s.opens after → IsStore s → IsStore (of_lock.locked s x after v).state
+locked_store : (s : State) (x : Context) (after : Table) (v : Result StateId OpenFault)
+    → SameFiles s.opens after → IsStore s → IsStore (of_lock.locked s x after v).state
 locked_store s x after (Ok id) same is = store_opens s after same is
 locked_store s x after (Err (F.Refused status)) same is = is
 locked_store s x after (Err (F.Denied h)) same is = is
@@ -150,7 +157,8 @@ unlock_files : (t : Table) (n file first last : ℕ) (v : Result Seat Status) �
 unlock_files t n file first last (Err status) = λ m. refl
 unlock_files t n file first last (Ok seat) = clear_files t n file first last (lock_at t n)
 
-unlocked_store : (s : State) (x : Context) (after : Table) (v : Result StateId OpenFault) → SameFiles s.opens after → IsStore s → IsStore (unlocked s x after v).state
+unlocked_store : (s : State) (x : Context) (after : Table) (v : Result StateId OpenFault)
+    → SameFiles s.opens after → IsStore s → IsStore (unlocked s x after v).state
 unlocked_store s x after (Ok id) same is = store_opens s after same is
 unlocked_store s x after (Err fault) same is = is
 

@@ -1,5 +1,6 @@
 -- Whose opens an operation on open files can move: those of its own client, and OPEN and CLOSE alone move them.
-use Rattle.std.proofs.Common.{◌≡◌, ◌≢◌, ℕ, suc, ◌+◌, Bool, true, false, cond, List, [], ◌∷◌, ◌++◌, map, Option, Some, None, refl, sym, ◌∙◌, ap, subst, inl, inr, arith}
+use Rattle.std.proofs.Common.{◌≡◌, ◌≢◌, ℕ, suc, ◌+◌, Bool, true, false, cond, List, [], ◌∷◌, ◌++◌, map, Option, Some, None, refl, sym, ◌∙◌, ap, subst, inl, inr}
+use Rattle.std.proofs.Common.{arith}
 use Rattle.std.specs.Prelude.{◌==◌, ◌||◌, ◌&&◌, not, filter, Result, Ok, Err, if◌then◌else◌}
 use Rattle.std.specs.List.{list_any}
 use Rattle.std.proofs.lemmas.Bool.{cases_Bool, eqb-true, eq-eqb, ne_eqb, false≢true}
@@ -19,7 +20,8 @@ use Rattle.nfs_compound.specs.declared.open_args.OpenDowngrade.{OpenDowngrade}
 use Rattle.nfs_compound.specs.declared.lock_args.LockU.{LockU}
 use Rattle.nfs_compound.specs.LockArgs as args
 use Rattle.nfs_compound.specs.OpenArgs.{Open}
-use Rattle.nfs_compound.specs.Operation.{Op, Item, Operation, Fault, OpClose, OpCommit, OpFreeStateid, OpLock, OpLockT, OpLockU, OpOpen, OpOpenDowngrade, OpRead, OpSetAttr, OpTestStateid, OpWrite}
+use Rattle.nfs_compound.specs.Operation.{Op, Item, Operation, Fault, OpClose, OpCommit, OpFreeStateid, OpLock, OpLockT, OpLockU, OpOpen, OpOpenDowngrade}
+use Rattle.nfs_compound.specs.Operation.{OpRead, OpSetAttr, OpTestStateid, OpWrite}
 use Rattle.nfs_results.specs.Result.{ResFreeStateid}
 use Rattle.nfs_ranges.specs.declared.Held.{Held}
 use Rattle.nfs_ranges.specs.Holders.{holds_any}
@@ -114,7 +116,8 @@ any_filter {X} p q (x ∷ xs) stays =
     ]
 
 -- an open that changes keeps its number and its client
-changed : (p : ℕ → Type 0) (t : Table) (n : ℕ) (f : OpenState → OpenState) → ((o : OpenState) → ((f o).number ≡ o.number) × ((f o).client ≡ o.client)) → AreNumbered t
+changed : (p : ℕ → Type 0) (t : Table) (n : ℕ) (f : OpenState → OpenState)
+    → ((o : OpenState) → ((f o).number ≡ o.number) × ((f o).client ≡ o.client)) → AreNumbered t
     → Spares p t (record t { opens = map (λ o. if o.number == n then f o else o) t.opens })
 changed p t n f mild is = record {
   same = λ c spared. any_map (λ (o : OpenState). o.client == c) (λ o. if o.number == n then f o else o) (λ o. ap (λ (k : ℕ). k == c) (client o)) t.opens;
@@ -127,7 +130,8 @@ changed p t n f mild is = record {
     client : (o : OpenState) → (cond (o.number == n) (f o) o).client ≡ o.client
     client o = elim (o.number == n) as (λ b. (cond b (f o) o).client ≡ o.client) [ true ↦ (mild o).1 | false ↦ refl ]
 
-either : {K G : Type 0} (t : Table) (b : Bool) (here there : Did K G) → Spares Everybody t here.after → Spares Everybody t there.after → Spares Everybody t (cond b here there).after
+either : {K G : Type 0} (t : Table) (b : Bool) (here there : Did K G) → Spares Everybody t here.after
+    → Spares Everybody t there.after → Spares Everybody t (cond b here there).after
 either t true here there y n = y
 either t false here there y n = n
 
@@ -143,23 +147,28 @@ free t (Ok Seats.ReadBypass) is = untouched Everybody t is
 free t (Ok (Seats.Open number access)) is = untouched Everybody t is
 free t (Ok (Seats.Lock number access)) is = free_lock t number (lock_at t number) is
 
-still_free : (s : State) (x : Context) (given : Stateid) → AreNumbered s.opens → SparesIn Everybody s x (free_stateid s x given).state (free_stateid s x given).context
+still_free : (s : State) (x : Context) (given : Stateid) → AreNumbered s.opens
+    → SparesIn Everybody s x (free_stateid s x given).state (free_stateid s x given).context
 unfolding free_stateid
 still_free s x given is =
     by_answers (SparesIn Everybody s x) s x Num.FreeStateid (meant x Any given) (frees s x) (nothing Everybody s x is) (λ id.
-    by_answers (SparesIn Everybody s x) s x Num.FreeStateid (closing.free s.opens id x.client).answer (λ u. done (with_opens s (closing.free s.opens id x.client).after) x ResFreeStateid) (nothing Everybody s x is) (λ u.
+    by_answers (SparesIn Everybody s x) s x Num.FreeStateid (closing.free s.opens id x.client).answer
+    (λ u. done (with_opens s (closing.free s.opens id x.client).after) x ResFreeStateid) (nothing Everybody s x is) (λ u.
     record { opens = free s.opens (judge s.opens id x.client None Either) is; client = refl }))
 
 -- OPEN_DOWNGRADE
 narrow : (t : Table) (n : ℕ) (access deny : Share) (o : Option OpenState) → AreNumbered t → Spares Everybody t (opening.narrow_open t n access deny o).after
 narrow t n access deny None is = untouched Everybody t is
-narrow t n access deny (Some o) is = either t (opening.is_narrower access deny o) _ _ (changed Everybody t n (opening.narrows access deny) (λ o. (refl, refl)) is) (untouched Everybody t is)
+narrow t n access deny (Some o) is =
+    either t (opening.is_narrower access deny o) _ _ (changed Everybody t n (opening.narrows access deny) (λ o. (refl, refl)) is) (untouched Everybody t is)
 
-downgrade : (t : Table) (n : ℕ) (access deny : Share) (v : Result Seat Status) → AreNumbered t → Spares Everybody t (opening.downgrade_by t n access deny v).after
+downgrade : (t : Table) (n : ℕ) (access deny : Share) (v : Result Seat Status)
+    → AreNumbered t → Spares Everybody t (opening.downgrade_by t n access deny v).after
 downgrade t n access deny (Err status) is = untouched Everybody t is
 downgrade t n access deny (Ok seat) is = narrow t n access deny (open_at t n) is
 
-still_downgrade : (s : State) (x : Context) (a : OpenDowngrade) → AreNumbered s.opens → SparesIn Everybody s x (open_downgrade s x a).state (open_downgrade s x a).context
+still_downgrade : (s : State) (x : Context) (a : OpenDowngrade) → AreNumbered s.opens
+    → SparesIn Everybody s x (open_downgrade s x a).state (open_downgrade s x a).context
 unfolding open_downgrade
 still_downgrade s x a is =
     let access = bits a.share_access in
@@ -178,27 +187,33 @@ new : (t : Table) (w : Wish) (opened : ℕ) (owner : List ℕ) → AreNumbered t
 new t w opened owner is = either t (t.last == last_number) _ _ (untouched Everybody t is)
     (record { same = λ c spared. refl; numbers = IsRising-upto (λ (o : OpenState). o.number) 1 (suc t.last) (suc (t.last + 1)) t.opens (omega arith) is })
 
-if_granted : (t : Table) (v : Result (Unit {0}) OpenFault) (did : Did StateId OpenFault) → AreNumbered t → Spares Everybody t did.after → Spares Everybody t (locking.does_if t v did).after
+if_granted : (t : Table) (v : Result (Unit {0}) OpenFault) (did : Did StateId OpenFault)
+    → AreNumbered t → Spares Everybody t did.after → Spares Everybody t (locking.does_if t v did).after
 if_granted t (Err fault) did is granted = untouched Everybody t is
 if_granted t (Ok unit) did is granted = granted
 
-by_owner : (t : Table) (w : Wish) (opened : ℕ) (owner : List ℕ) (access : Share) (l : Option LockState) → AreNumbered t → Spares Everybody t (locking.lock_by_owner t w opened owner access l).after
-by_owner t w opened owner access (Some l) is = if_granted t (locking.lock_judged t l.number access w) (locking.lock_more t w l.number (lock_at t l.number)) is (more t w l.number (lock_at t l.number) is)
+by_owner : (t : Table) (w : Wish) (opened : ℕ) (owner : List ℕ) (access : Share) (l : Option LockState)
+    → AreNumbered t → Spares Everybody t (locking.lock_by_owner t w opened owner access l).after
+by_owner t w opened owner access (Some l) is =
+    if_granted t (locking.lock_judged t l.number access w) (locking.lock_more t w l.number (lock_at t l.number)) is (more t w l.number (lock_at t l.number) is)
 by_owner t w opened owner access None is = if_granted t (locking.lock_judged t 0 access w) (locking.lock_new t w opened owner) is (new t w opened owner is)
 
-under : (t : Table) (w : Wish) (opened : ℕ) (owner : List ℕ) (v : Result Seat Status) → AreNumbered t → Spares Everybody t (locking.lock_under t w opened owner v).after
+under : (t : Table) (w : Wish) (opened : ℕ) (owner : List ℕ) (v : Result Seat Status)
+    → AreNumbered t → Spares Everybody t (locking.lock_under t w opened owner v).after
 under t w opened owner (Err status) is = untouched Everybody t is
 under t w opened owner (Ok seat) is = by_owner t w opened owner (locking.access_in seat) (locking.state_of t w.client owner w.file) is
 
 known : (t : Table) (w : Wish) (n : ℕ) (v : Result Seat Status) → AreNumbered t → Spares Everybody t (locking.lock_known t w n v).after
 known t w n (Err status) is = untouched Everybody t is
-known t w n (Ok seat) is = if_granted t (locking.lock_judged t n (locking.access_in seat) w) (locking.lock_more t w n (lock_at t n)) is (more t w n (lock_at t n) is)
+known t w n (Ok seat) is =
+    if_granted t (locking.lock_judged t n (locking.access_in seat) w) (locking.lock_more t w n (lock_at t n)) is (more t w n (lock_at t n) is)
 
 lock : (t : Table) (who : args.Locker) (id : StateId) (w : Wish) → AreNumbered t → Spares Everybody t (of_lock.locks_as t who id w).after
 lock t (args.OpenOwner o) id w is = under t w id.number o.lock_owner.owner (judge t id w.client (Some w.file) OpenOnly) is
 lock t (args.LockOwner o) id w is = known t w id.number (judge t id w.client (Some w.file) LockOnly) is
 
-locked : (s : State) (x : Context) (after : Table) (v : Result StateId OpenFault) → AreNumbered s.opens → Spares Everybody s.opens after → SparesIn Everybody s x (of_lock.locked s x after v).state (of_lock.locked s x after v).context
+locked : (s : State) (x : Context) (after : Table) (v : Result StateId OpenFault) → AreNumbered s.opens
+    → Spares Everybody s.opens after → SparesIn Everybody s x (of_lock.locked s x after v).state (of_lock.locked s x after v).context
 locked s x after (Ok id) is same = record { opens = same; client = refl }
 locked s x after (Err (F.Refused status)) is same = nothing Everybody s x is
 locked s x after (Err (F.Denied h)) is same = nothing Everybody s x is
@@ -224,7 +239,8 @@ unlock : (t : Table) (n file first last : ℕ) (v : Result Seat Status) → AreN
 unlock t n file first last (Err status) is = untouched Everybody t is
 unlock t n file first last (Ok seat) is = clear t n file first last (lock_at t n) is
 
-unlocks_still : (s : State) (x : Context) (after : Table) (v : Result StateId OpenFault) → AreNumbered s.opens → Spares Everybody s.opens after → SparesIn Everybody s x (unlocked s x after v).state (unlocked s x after v).context
+unlocks_still : (s : State) (x : Context) (after : Table) (v : Result StateId OpenFault) → AreNumbered s.opens
+    → Spares Everybody s.opens after → SparesIn Everybody s x (unlocked s x after v).state (unlocked s x after v).context
 unlocks_still s x after (Ok id) is same = record { opens = same; client = refl }
 unlocks_still s x after (Err fault) is same = nothing Everybody s x is
 
@@ -248,7 +264,8 @@ not_false : (b : Bool) → not b ≡ false → b ≡ true
 not_false true e = refl
 not_false false e = absurd cc
 
-own_named : (t : Table) (n client seqid : ℕ) (file : Option ℕ) (k : Seat) (o : Option OpenState) (l : Option LockState) → open_at t n ≡ o → judge_named client file OpenOnly seqid (named_by t o l) ≡ Ok k → (o : OpenState) × IsOpenOf t n client o
+own_named : (t : Table) (n client seqid : ℕ) (file : Option ℕ) (k : Seat) (o : Option OpenState) (l : Option LockState)
+    → open_at t n ≡ o → judge_named client file OpenOnly seqid (named_by t o l) ≡ Ok k → (o : OpenState) × IsOpenOf t n client o
 own_named t n client seqid file k (Some o) l is e =
     let checks = judge_checks client file OpenOnly seqid (open_named o) in
     let passed = all_passed checks (is_seated (open_named o).seat k (first_fault checks) e) in
@@ -259,11 +276,15 @@ own_named t n client seqid file k None (Some l) is e =
     absurd (false≢true (sym passed.1.1.0))
 own_named t n client seqid file k None None is e = absurd cc
 
-own_by : (t : Table) (id : StateId) (client : ℕ) (file : Option ℕ) (k : Seat) (b : Bool) → judge_named client file OpenOnly id.seqid (cond b (named_by t (open_at t id.number) (lock_at t id.number)) None) ≡ Ok k → (o : OpenState) × IsOpenOf t id.number client o
+own_by : (t : Table) (id : StateId) (client : ℕ) (file : Option ℕ) (k : Seat) (b : Bool)
+    → judge_named client file OpenOnly id.seqid (cond b (named_by t (open_at t id.number) (lock_at t id.number)) None) ≡ Ok k
+    → (o : OpenState) × IsOpenOf t id.number client o
 own_by t id client file k true e = own_named t id.number client id.seqid file k (open_at t id.number) (lock_at t id.number) refl e
 own_by t id client file k false e = absurd cc
 
-own_judged : (t : Table) (id : StateId) (client : ℕ) (file : Option ℕ) (k : Seat) (a b : Bool) → cond a (Err BadStateId) (cond b (Err BadStateId) (judge_named client file OpenOnly id.seqid (named t id))) ≡ Ok k → (o : OpenState) × IsOpenOf t id.number client o
+own_judged : (t : Table) (id : StateId) (client : ℕ) (file : Option ℕ) (k : Seat) (a b : Bool)
+    → cond a (Err BadStateId) (cond b (Err BadStateId) (judge_named client file OpenOnly id.seqid (named t id))) ≡ Ok k
+    → (o : OpenState) × IsOpenOf t id.number client o
 own_judged t id client file k true b e = absurd cc
 own_judged t id client file k false true e = absurd cc
 own_judged t id client file k false false e = own_by t id client file k (id.instance == t.instance) e
@@ -272,21 +293,28 @@ goes : (t : Table) (n client : ℕ) (o : OpenState) → AreNumbered t → IsOpen
 goes t n client o is own =
     let found = find_in (λ (o : OpenState). o.number == n) t.opens o own.0 in
     record {
-      same = λ c other. any_filter (λ (o : OpenState). o.client == c) (λ (o : OpenState). not (o.number == n)) t.opens (λ p there mine. elim (cases_Bool (p.number == n)) [
-        | inl named ↦ (let same : p ≡ o = in_once (λ (o : OpenState). o.number) 1 (suc t.last) t.opens p o is there found.0 (eqb-true _ _ named ∙ sym (eqb-true _ _ found.1)) in
-            absurd (other (sym (eqb-true _ _ mine) ∙ ap (λ (o : OpenState). o.client) same ∙ own.1)))
-        | inr stays ↦ ap not stays
-      ]);
+      same = λ c other. any_filter (λ (o : OpenState). o.client == c)
+          (λ (o : OpenState). not (o.number == n)) t.opens (λ p there mine. elim (cases_Bool (p.number == n)) [
+            | inl named ↦ (let same : p ≡ o =
+                in_once (λ (o : OpenState). o.number) 1 (suc t.last) t.opens p o is there found.0 (eqb-true _ _ named ∙ sym (eqb-true _ _ found.1)) in
+                absurd (other (sym (eqb-true _ _ mine) ∙ ap (λ (o : OpenState). o.client) same ∙ own.1)))
+            | inr stays ↦ ap not stays
+          ]);
       numbers = IsRising-filter (λ (o : OpenState). o.number) (λ o. not (o.number == n)) 1 (suc t.last) t.opens is;
     }
 
-closes_own : (s : State) (x : Context) (n file : ℕ) (v : Result Seat Status) → ((k : Seat) → v ≡ Ok k → (o : OpenState) × IsOpenOf s.opens n x.client o) → AreNumbered s.opens
-    → (let did = closing.close_by s.opens n v in let o = answers s x Num.Close did.answer (λ u. closed s x file did.after) in SparesIn (OthersThan x.client) s x o.state o.context)
+closes_own : (s : State) (x : Context) (n file : ℕ) (v : Result Seat Status)
+    → ((k : Seat) → v ≡ Ok k → (o : OpenState) × IsOpenOf s.opens n x.client o) → AreNumbered s.opens
+    → (let did = closing.close_by s.opens n v in let o = answers s x Num.Close did.answer (λ u. closed s x file did.after) in
+    SparesIn (OthersThan x.client) s x o.state o.context)
 closes_own s x n file (Err status) each is = nothing (OthersThan x.client) s x is
 closes_own s x n file (Ok k) each is =
     let o = each k refl in
     let after = closing.without_open s.opens n in
-    record { opens = subst (Spares (OthersThan x.client) s.opens) (sym (unused_opens (with_opens s after) file)) (goes s.opens n x.client o.0 is o.1); client = refl }
+    record {
+      opens = subst (Spares (OthersThan x.client) s.opens) (sym (unused_opens (with_opens s after) file)) (goes s.opens n x.client o.0 is o.1);
+      client = refl;
+    }
 
 spares_close : (s : State) (x : Context) (a : Close) → AreNumbered s.opens → SparesIn (OthersThan x.client) s x (close s x a).state (close s x a).context
 unfolding close
@@ -303,42 +331,58 @@ opens_own t a None is = record {
   numbers = IsRising-push (λ (o : OpenState). o.number) 1 (suc t.last) (suc (t.last + 1)) t.opens (opening.new_open t a) (omega arith) (omega arith) is;
 }
 
-spares_open : (s : State) (x : Context) (now : Time) (a : Open) → AreNumbered s.opens → SparesIn (OthersThan x.client) s x (of_open.open_file s x now a).state (of_open.open_file s x now a).context
+spares_open : (s : State) (x : Context) (now : Time) (a : Open) → AreNumbered s.opens
+    → SparesIn (OthersThan x.client) s x (of_open.open_file s x now a).state (of_open.open_file s x now a).context
 unfolding of_open.open_file
 spares_open s x now a is =
-    by_answers (SparesIn (OthersThan x.client) s x) s x Num.Open (checked (of_open.asked_for s x a) (of_open.last_checks s x a)) (of_open.opened s x now a) (nothing (OthersThan x.client) s x is) (λ found.
-    (let asked = of_open.asking x a (of_open.file_of s.tree found) in record { opens = opens_own s.opens asked (opening.own_open s.opens asked) is; client = refl }))
+    by_answers (SparesIn (OthersThan x.client) s x) s x Num.Open (checked (of_open.asked_for s x a) (of_open.last_checks s x a))
+    (of_open.opened s x now a) (nothing (OthersThan x.client) s x is) (λ found.
+    (let asked = of_open.asking x a (of_open.file_of s.tree found) in record {
+      opens = opens_own s.opens asked (opening.own_open s.opens asked) is;
+      client = refl;
+    }))
 
 -- By the operation.
 
-still_one : (s : State) (x : Context) (now : Time) (op : Op) → ((a : _) → op ≡ OpClose a → ⊥) → ((a : _) → op ≡ OpOpen a → ⊥) → AreNumbered s.opens → SparesIn Everybody s x (one s x now op).state (one s x now op).context
+still_one : (s : State) (x : Context) (now : Time) (op : Op) → ((a : _) → op ≡ OpClose a → ⊥)
+    → ((a : _) → op ≡ OpOpen a → ⊥) → AreNumbered s.opens → SparesIn Everybody s x (one s x now op).state (one s x now op).context
 unfolding commit lock_t read set_attr test_stateid write
 still_one s x now (OpClose a) close open_it is = absurd (close a refl)
 still_one s x now (OpOpen a) close open_it is = absurd (open_it a refl)
-still_one s x now (OpCommit a) close open_it is = by_answers (SparesIn Everybody s x) s x Num.Commit _ _ (nothing Everybody s x is) (λ d. nothing Everybody s x is)
+still_one s x now (OpCommit a) close open_it is =
+    by_answers (SparesIn Everybody s x) s x Num.Commit _ _ (nothing Everybody s x is) (λ d. nothing Everybody s x is)
 still_one s x now (OpFreeStateid given) close open_it is = still_free s x given is
 still_one s x now (OpLock a) close open_it is = still_lock s x a is
-still_one s x now (OpLockT a) close open_it is = by_answers (SparesIn Everybody s x) s x Num.LockT _ _ (nothing Everybody s x is) (λ w. tests s x (locking.test_lock s.opens a.owner.owner w) is)
+still_one s x now (OpLockT a) close open_it is =
+    by_answers (SparesIn Everybody s x) s x Num.LockT _ _ (nothing Everybody s x is) (λ w. tests s x (locking.test_lock s.opens a.owner.owner w) is)
 still_one s x now (OpLockU a) close open_it is = still_lock_u s x a is
 still_one s x now (OpOpenDowngrade a) close open_it is = still_downgrade s x a is
 still_one s x now (OpRead a) close open_it is = by_answers (SparesIn Everybody s x) s x Num.Read _ _ (nothing Everybody s x is) (λ d. nothing Everybody s x is)
-still_one s x now (OpSetAttr a) close open_it is = by_answers (SparesIn Everybody s x) s x Num.SetAttr _ (was_set s x now a) (nothing Everybody s x is) (λ m. record { opens = untouched Everybody s.opens is; client = refl })
+still_one s x now (OpSetAttr a) close open_it is = by_answers (SparesIn Everybody s x) s x Num.SetAttr _
+    (was_set s x now a) (nothing Everybody s x is) (λ m. record { opens = untouched Everybody s.opens is; client = refl })
 still_one s x now (OpTestStateid given) close open_it is = nothing Everybody s x is
-still_one s x now (OpWrite a) close open_it is = by_answers (SparesIn Everybody s x) s x Num.Write _ (was_written s x now a) (nothing Everybody s x is) (λ d. record { opens = untouched Everybody s.opens is; client = refl })
+still_one s x now (OpWrite a) close open_it is = by_answers (SparesIn Everybody s x) s x Num.Write _
+    (was_written s x now a) (nothing Everybody s x is) (λ d. record { opens = untouched Everybody s.opens is; client = refl })
 still_one s x now op close open_it is = nothing Everybody s x is
 
-own_one : (s : State) (x : Context) (now : Time) (op : Op) → AreNumbered s.opens → SparesIn (OthersThan x.client) s x (one s x now op).state (one s x now op).context
+own_one : (s : State) (x : Context) (now : Time) (op : Op) → AreNumbered s.opens
+    → SparesIn (OthersThan x.client) s x (one s x now op).state (one s x now op).context
 own_one s x now (OpClose a) is = spares_close s x a is
 own_one s x now (OpOpen a) is = spares_open s x now a is
-own_one s x now op is = weaker (OthersThan x.client) s x (one s x now op).state (one s x now op).context (still_one s x now op (λ a e. absurd cc) (λ a e. absurd cc) is)
+own_one s x now op is = weaker (OthersThan x.client) s x (one s x now op).state
+    (one s x now op).context (still_one s x now op (λ a e. absurd cc) (λ a e. absurd cc) is)
 
 -- OPEN and CLOSE alone move whether a client has an open ..
-pub spares_all : (b : Bool) (s : State) (x : Context) (now : Time) (i : Item) → ((a : _) → i ≡ Operation (OpClose a) → ⊥) → ((a : _) → i ≡ Operation (OpOpen a) → ⊥) → AreNumbered s.opens → SparesIn Everybody s x (comes_to b s x now i).state (comes_to b s x now i).context
+pub spares_all : (b : Bool) (s : State) (x : Context) (now : Time) (i : Item) → ((a : _) → i ≡ Operation (OpClose a) → ⊥)
+    → ((a : _) → i ≡ Operation (OpOpen a) → ⊥) → AreNumbered s.opens → SparesIn Everybody s x (comes_to b s x now i).state (comes_to b s x now i).context
 spares_all b s x now (Operation op) close open_it is =
-    by_delay (SparesIn Everybody s x) (grows s x op && b) s x (arguments op).op (one s x now op) (nothing Everybody s x is) (still_one s x now op (λ a e. close a (ap Operation e)) (λ a e. open_it a (ap Operation e)) is)
+    by_delay (SparesIn Everybody s x) (grows s x op && b) s x (arguments op).op (one s x now op) (nothing Everybody s x is)
+    (still_one s x now op (λ a e. close a (ap Operation e)) (λ a e. open_it a (ap Operation e)) is)
 spares_all b s x now (Fault n status) close open_it is = nothing Everybody s x is
 
 -- .. and of their own client alone
-pub spares_others : (b : Bool) (s : State) (x : Context) (now : Time) (i : Item) → AreNumbered s.opens → SparesIn (OthersThan x.client) s x (comes_to b s x now i).state (comes_to b s x now i).context
-spares_others b s x now (Operation op) is = by_delay (SparesIn (OthersThan x.client) s x) (grows s x op && b) s x (arguments op).op (one s x now op) (nothing (OthersThan x.client) s x is) (own_one s x now op is)
+pub spares_others : (b : Bool) (s : State) (x : Context) (now : Time) (i : Item) → AreNumbered s.opens
+    → SparesIn (OthersThan x.client) s x (comes_to b s x now i).state (comes_to b s x now i).context
+spares_others b s x now (Operation op) is = by_delay (SparesIn (OthersThan x.client) s x) (grows s x op && b) s x
+    (arguments op).op (one s x now op) (nothing (OthersThan x.client) s x is) (own_one s x now op is)
 spares_others b s x now (Fault n status) is = nothing (OthersThan x.client) s x is

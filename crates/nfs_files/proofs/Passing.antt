@@ -10,12 +10,14 @@ mapped_ok : {A B : Type 0} (c a : A) (w : Result B Status) → mapped (λ b. c) 
 mapped_ok c a (Err status) e = absurd cc
 mapped_ok c a (Ok b) e = (cc, (b, refl))
 
-pub if_passed_ok : {A B : Type 0} (v : Result A Status) (next : A → Result B Status) (a : A) → if_passed v next ≡ Ok a → (v ≡ Ok a) × ((b : B) × (next a ≡ Ok b))
+pub if_passed_ok : {A B : Type 0} (v : Result A Status) (next : A → Result B Status) (a : A)
+    → if_passed v next ≡ Ok a → (v ≡ Ok a) × ((b : B) × (next a ≡ Ok b))
 if_passed_ok (Err status) next a e = absurd cc
 if_passed_ok (Ok c) next a e =
     let parts = mapped_ok c a (next c) e in
     (ap Ok parts.0, (parts.1.0, ap next (sym parts.0) ∙ parts.1.1))
 
-pub if_passed_refuses : {A B : Type 0} (v : Result A Status) (next : A → Result B Status) → Refuses v → ((a : A) → Refuses (next a)) → Refuses (if_passed v next)
+pub if_passed_refuses : {A B : Type 0} (v : Result A Status) (next : A → Result B Status)
+    → Refuses v → ((a : A) → Refuses (next a)) → Refuses (if_passed v next)
 if_passed_refuses (Err status) next h all = err_refuses status (h.each status refl)
 if_passed_refuses (Ok a) next h all = refuses_mapped (λ b. a) (next a) (all a)

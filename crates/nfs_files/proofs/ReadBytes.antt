@@ -1,5 +1,6 @@
 -- READ: the bytes that are given, and whether they end where the file does.
-use Rattle.std.proofs.Common.{◌≡◌, ℕ, ◌+◌, ◌-◌, ◌<◌, ◌≤◌, Bool, List, [], ◌++◌, length, take, drop, Option, Some, None, refl, sym, ◌∙◌, ap, subst, arith, inl, inr}
+use Rattle.std.proofs.Common.{◌≡◌, ℕ, ◌+◌, ◌-◌, ◌<◌, ◌≤◌, Bool, List, [], ◌++◌, length, take, drop, Option, Some, None, refl, sym, ◌∙◌, ap, subst, arith, inl}
+use Rattle.std.proofs.Common.{inr}
 use Rattle.std.specs.Prelude.{Ok, nat_le, ◌||◌, ◌==◌, min}
 use Rattle.std.specs.Option.{option_map_or}
 use Rattle.std.proofs.lemmas.Bool.{cases_Bool, leb-true, leb-false, le-leb, false_from_ne_true}
@@ -37,17 +38,21 @@ size_is t n o is e = by_stored (stored_in t.objects n) refl
         let sized = is.sized w (find_in (λ (s : Stored). s.number == n) t.objects w h).0 in
         sym (ap (λ (o : Object). o.size) same) ∙ sized.size ∙ sym (ap (λ k. length (option_map_or (λ (s : Stored). s.bytes) k [])) h)
 
-pub ends_is : (bytes : List ℕ) (size offset count : ℕ) → size ≡ length bytes → (nat_le size offset || nat_le (size - offset) count) ≡ nat_le size (offset + length (take count (drop offset bytes)))
+pub ends_is : (bytes : List ℕ) (size offset count : ℕ) → size ≡ length bytes
+    → (nat_le size offset || nat_le (size - offset) count) ≡ nat_le size (offset + length (take count (drop offset bytes)))
 ends_is bytes size offset count e =
     let taken : length (take count (drop offset bytes)) ≡ min count (length (drop offset bytes)) = length-take count (drop offset bytes) in
     let left : length (drop offset bytes) ≡ length bytes - offset = length-drop offset bytes in
     elim (cases_Bool (nat_le size offset)) [
-      | inl behind ↦ (let le : size ≤ offset = leb-true _ _ behind in rw behind (sym (le-leb size (offset + length (take count (drop offset bytes))) (omega arith))))
+      | inl behind ↦
+          (let le : size ≤ offset = leb-true _ _ behind in rw behind (sym (le-leb size (offset + length (take count (drop offset bytes))) (omega arith))))
       | inr within ↦ (let lt : offset < size = leb-false _ _ within in
           rw within (elim (cases_Bool (nat_le (size - offset) count)) [
-            | inl all ↦ (let le : size - offset ≤ count = leb-true _ _ all in all ∙ sym (le-leb size (offset + length (take count (drop offset bytes))) (omega arith)))
+            | inl all ↦
+                (let le : size - offset ≤ count = leb-true _ _ all in all ∙ sym (le-leb size (offset + length (take count (drop offset bytes))) (omega arith)))
             | inr some ↦ (let less : count < size - offset = leb-false _ _ some in
-                some ∙ sym (false_from_ne_true (nat_le size (offset + length (take count (drop offset bytes)))) (λ t. (let le : size ≤ offset + length (take count (drop offset bytes)) = leb-true _ _ t in absurd (omega arith)))))
+                some ∙ sym (false_from_ne_true (nat_le size (offset + length (take count (drop offset bytes))))
+                (λ t. (let le : size ≤ offset + length (take count (drop offset bytes)) = leb-true _ _ t in absurd (omega arith)))))
           ]))
     ]
 
@@ -55,7 +60,8 @@ ends_is bytes size offset count e =
 pub few_given : (s : State) (r : Read) (d : Held) → length (bytes_of s r d) ≤ given r.count
 few_given s r d = omega (arith, length-take (given r.count) (drop r.offset (data_at s.tree d.number)))
 
-pub read_within : (s : State) (r : Read) (d : Held) → 8 + length (flag (was_read s r d).eof ++ opaque (bytes_of s r d)) ≤ 16 + (given r.count + padding (given r.count))
+pub read_within : (s : State) (r : Read) (d : Held)
+    → 8 + length (flag (was_read s r d).eof ++ opaque (bytes_of s r d)) ≤ 16 + (given r.count + padding (given r.count))
 unfolding read_ok
 read_within s r d = behind_within r.count (ResRead (was_read s r d)) tt (few_given s r d)
 
@@ -72,7 +78,8 @@ eof_is s r d n b is there count told =
     told ∙ ap (λ n. nat_le d.object.size r.offset || nat_le (d.object.size - r.offset) n) count
     ∙ ends_is (data_at s.tree d.number) d.object.size r.offset (given r.count) (size_is s.tree d.number d.object is there)
 
-pub read_fits : (s : State) (r : Read) (d : Held) (b : Bool) → b ≡ (was_read s r d).eof → 8 + (length (flag b) + length (opaque (bytes_of s r d))) ≤ 16 + (given r.count + padding (given r.count))
+pub read_fits : (s : State) (r : Read) (d : Held) (b : Bool) → b ≡ (was_read s r d).eof
+    → 8 + (length (flag b) + length (opaque (bytes_of s r d))) ≤ 16 + (given r.count + padding (given r.count))
 read_fits s r d b e =
     let fits = read_within s r d in
     subst (λ (b : Bool). 8 + (length (flag b) + length (opaque (bytes_of s r d))) ≤ 16 + (given r.count + padding (given r.count))) (sym e)

@@ -93,8 +93,10 @@ if_stays : (t : Table) (v : Result (Unit {0}) OpenFault) (did : Did StateId Open
 if_stays t (Err fault) did s = refused_stays t fault
 if_stays t (Ok unit) did s = s
 
-by_owner_stays : (t : Table) (w : Wish) (opened : ℕ) (owner : List ℕ) (access : Share) (l : Option LockState) → Stays t (locking.lock_by_owner t w opened owner access l)
-by_owner_stays t w opened owner access (Some l) = if_stays t (locking.lock_judged t l.number access w) (locking.lock_more t w l.number (lock_at t l.number)) (more_stays t w l.number (lock_at t l.number))
+by_owner_stays : (t : Table) (w : Wish) (opened : ℕ) (owner : List ℕ) (access : Share) (l : Option LockState)
+    → Stays t (locking.lock_by_owner t w opened owner access l)
+by_owner_stays t w opened owner access (Some l) =
+    if_stays t (locking.lock_judged t l.number access w) (locking.lock_more t w l.number (lock_at t l.number)) (more_stays t w l.number (lock_at t l.number))
 by_owner_stays t w opened owner access None = if_stays t (locking.lock_judged t 0 access w) (locking.lock_new t w opened owner) (new_stays t w opened owner)
 
 under_stays : (t : Table) (w : Wish) (opened : ℕ) (owner : List ℕ) (v : Result Seat Status) → Stays t (locking.lock_under t w opened owner v)
@@ -103,7 +105,8 @@ under_stays t w opened owner (Ok seat) = by_owner_stays t w opened owner (lockin
 
 known_stays : (t : Table) (w : Wish) (n : ℕ) (v : Result Seat Status) → Stays t (locking.lock_known t w n v)
 known_stays t w n (Err status) = refused_stays t (F.Refused status)
-known_stays t w n (Ok seat) = if_stays t (locking.lock_judged t n (locking.access_in seat) w) (locking.lock_more t w n (lock_at t n)) (more_stays t w n (lock_at t n))
+known_stays t w n (Ok seat) =
+    if_stays t (locking.lock_judged t n (locking.access_in seat) w) (locking.lock_more t w n (lock_at t n)) (more_stays t w n (lock_at t n))
 
 pub lock_stays : (t : Table) (who : args.Locker) (id : StateId) (w : Wish) → Stays t (locks_as t who id w)
 lock_stays t (args.OpenOwner o) id w = under_stays t w id.number o.lock_owner.owner (judge t id w.client (Some w.file) OpenOnly)
@@ -124,7 +127,8 @@ unlock_stays t id client file first last = unlock_by_stays t id.number file firs
 abbrev pub told_with : State → Context → Res → Table → Outcome
 told_with s x r t = record { result = r; state = with_opens s t; context = x }
 
-pub by_refusal : {X : Type 0} (s : State) (x : Context) (op : OpNum) (did : Did X Status) (f : X → Outcome) (status : Status) (r : Res) (after : Table) → Stays s.opens did → Err status ≡ did.answer → after ≡ did.after
+pub by_refusal : {X : Type 0} (s : State) (x : Context) (op : OpNum) (did : Did X Status) (f : X → Outcome) (status : Status) (r : Res) (after : Table)
+    → Stays s.opens did → Err status ≡ did.answer → after ≡ did.after
     → r ≡ refusal (op_number op) status → told_with s x r after ≡ answers s x op did.answer f
 by_refusal s x op did f status r after stays e left is =
     ap (λ r. told_with s x r after) is ∙ ap (told_with s x (refusal (op_number op) status)) (left ∙ stays.kept status (sym e))
@@ -138,13 +142,16 @@ not_both_by n false e = refl
 not_both : (n : ℕ) → eqb n 10008 && eqb n 0 ≡ false
 not_both n = not_both_by n (eqb n 10008) refl
 
-pub own_refusal : (w : Bool) (s : State) (x : Context) (op : OpNum) (status : Status) (o : Outcome) → status_of_result o.result ≡ status → or_delay (w && is_delay status) s x op o ≡ o
+pub own_refusal : (w : Bool) (s : State) (x : Context) (op : OpNum) (status : Status) (o : Outcome)
+    → status_of_result o.result ≡ status → or_delay (w && is_delay status) s x op o ≡ o
 own_refusal w s x op status o e =
-    let no : (w && is_delay status) && is_ok o.result ≡ false = elim w as (λ v. (v && is_delay status) && is_ok o.result ≡ false) [ true ↦ ap (λ st. is_delay status && eqb (status_number st) 0) e ∙ not_both (status_number status) | false ↦ refl ] in
+    let no : (w && is_delay status) && is_ok o.result ≡ false = elim w as (λ v. (v && is_delay status) && is_ok o.result ≡ false)
+    [ true ↦ ap (λ st. is_delay status && eqb (status_number st) 0) e ∙ not_both (status_number status) | false ↦ refl ] in
     ap (λ b. cond b (refuses s x op S.Delay) o) no
 
 status_of_refusal : (n : ℕ) (status : Status) → status_of_result (refusal n status) ≡ status
-status_of_refusal n status = elim (eqb n 34) as (λ b. status_of_result (cond b (ResSetAttr status []) (Refused n status)) ≡ status) [ true ↦ refl | false ↦ refl ]
+status_of_refusal n status =
+    elim (eqb n 34) as (λ b. status_of_result (cond b (ResSetAttr status []) (Refused n status)) ≡ status) [ true ↦ refl | false ↦ refl ]
 
 -- what a refused call of the table tells: want of memory where it would have been done, or a refusal of its own
 abbrev pub Wanted : Table → Bool → Did StateId OpenFault → Table → OpenFault → Type 0
@@ -153,18 +160,21 @@ Wanted old grows did new fault = (fault ≡ F.Memory) × (grows ≡ true) × IsO
 abbrev pub Told : Did StateId OpenFault → Table → OpenFault → Type 0
 Told did new fault = (Err fault ≡ did.answer) × (new ≡ did.after)
 
-pub unlock_tells : (old : Table) (whole : Bool) (did : Did StateId OpenFault) (new : Table) (fault : OpenFault) → locking.UnlocksOrWants old whole did (Err fault) new → Wanted old (not whole) did new fault ⊎ Told did new fault
+pub unlock_tells : (old : Table) (whole : Bool) (did : Did StateId OpenFault) (new : Table) (fault : OpenFault)
+    → locking.UnlocksOrWants old whole did (Err fault) new → Wanted old (not whole) did new fault ⊎ Told did new fault
 unlock_tells old whole did new (F.Refused status) h = inr h
 unlock_tells old whole did new (F.Denied held) h = inr h
 unlock_tells old whole did new F.Memory h = inl (refl, h.0, h.1, h.2)
 
-pub lock_tells : (old : Table) (did : Did StateId OpenFault) (new : Table) (fault : OpenFault) → locking.LocksOrWants old did (Err fault) new → Wanted old true did new fault ⊎ Told did new fault
+pub lock_tells : (old : Table) (did : Did StateId OpenFault) (new : Table) (fault : OpenFault)
+    → locking.LocksOrWants old did (Err fault) new → Wanted old true did new fault ⊎ Told did new fault
 lock_tells old did new (F.Refused status) h = inr h
 lock_tells old did new (F.Denied held) h = inr h
 lock_tells old did new F.Memory h = inl (refl, refl, h.0, h.1)
 
 -- what an outcome by such a call comes to, if it is done where the call is, and refuses where the call does
-pub refused_outcome : (s : State) (x : Context) (op : OpNum) (grows : Bool) (did : Did StateId OpenFault) (outcome : Table → Result StateId OpenFault → Outcome) (fault : OpenFault) (r : Res) (new : Table)
+pub refused_outcome : (s : State) (x : Context) (op : OpNum) (grows : Bool) (did : Did StateId OpenFault)
+    (outcome : Table → Result StateId OpenFault → Outcome) (fault : OpenFault) (r : Res) (new : Table)
     → Stays s.opens did
     → ((t : Table) (v : Result StateId OpenFault) → IsOk v → is_ok (outcome t v).result ≡ true)
     → ((t : Table) → outcome t (Err fault) ≡ refuses s x op (status_of fault))
@@ -178,7 +188,8 @@ refused_outcome s x op grows did outcome fault r new stays goes stops is (inl wa
 refused_outcome s x op grows did outcome fault r new stays goes stops is (inr told) =
     let o = outcome did.after did.answer in
     let same : o ≡ refuses s x op (status_of fault) = ap (outcome did.after) (sym told.0) ∙ stops did.after in
-    let status : status_of_result o.result ≡ status_of fault = ap (λ (o : Outcome). status_of_result o.result) same ∙ status_of_refusal (op_number op) (status_of fault) in
+    let status : status_of_result o.result ≡ status_of fault =
+    ap (λ (o : Outcome). status_of_result o.result) same ∙ status_of_refusal (op_number op) (status_of fault) in
     ap (λ r. told_with s x r new) is ∙ ap (told_with s x (refusal (op_number op) (status_of fault))) (told.1 ∙ stays.kept fault (sym told.0))
     ∙ sym (own_refusal grows s x op (status_of fault) o status ∙ same)
 

@@ -48,7 +48,8 @@ same_passed seat (Some status) h = h
 named_refuses : (t : Table) (id : StateId) (client : ℕ) (file : Option ℕ) (sort : Sort) → Refuses (judge_named client file sort id.seqid (named t id))
 named_refuses t id client file sort = elim (named t id) as (λ o. Refuses (judge_named client file sort id.seqid o)) [
   | None ↦ bad
-  | Some n ↦ same_passed n.seat (first_fault (judge_checks client file sort id.seqid n)) (refuses_checked (Ok n.seat) (λ seat. judge_checks client file sort id.seqid n) (ok_refuses n.seat) (λ seat. refl))
+  | Some n ↦ same_passed n.seat (first_fault (judge_checks client file sort id.seqid n))
+      (refuses_checked (Ok n.seat) (λ seat. judge_checks client file sort id.seqid n) (ok_refuses n.seat) (λ seat. refl))
 ]
 
 pub judge_refuses : (t : Table) (id : StateId) (client : ℕ) (file : Option ℕ) (sort : Sort) → Refuses (judge t id client file sort)
@@ -86,8 +87,10 @@ may_write_refuses s x given d = refuses_checked (seat s x given d) (write_checks
 
 pub readable_refuses : (s : State) (x : Context) (given : Stateid) (v : Result Held Status) → Refuses v → Refuses (readable s x given v)
 unfolding readable
-readable_refuses s x given v h = if_passed_refuses (checked v file_checks) (may_read s x given) (refuses_checked v file_checks h (λ d. refl)) (may_read_refuses s x given)
+readable_refuses s x given v h =
+    if_passed_refuses (checked v file_checks) (may_read s x given) (refuses_checked v file_checks h (λ d. refl)) (may_read_refuses s x given)
 
 pub writable_refuses : (s : State) (x : Context) (given : Stateid) (v : Result Held Status) → Refuses v → Refuses (writable s x given v)
 unfolding writable
-writable_refuses s x given v h = if_passed_refuses (checked v file_checks) (may_write s x given) (refuses_checked v file_checks h (λ d. refl)) (may_write_refuses s x given)
+writable_refuses s x given v h =
+    if_passed_refuses (checked v file_checks) (may_write s x given) (refuses_checked v file_checks h (λ d. refl)) (may_write_refuses s x given)

@@ -48,7 +48,8 @@ pub asked_refuses : (s : State) (x : Context) (a : SetAttr) → Refuses (asked_f
 unfolding asked_for
 asked_refuses s x a =
     if_passed_refuses (checked (with_wanted (current s x) (wanted_of a.obj_attributes)) (owner_checks x)) (sized s x a.stateid)
-    (refuses_checked (with_wanted (current s x) (wanted_of a.obj_attributes)) (owner_checks x) (wanted_refuses (current s x) (wanted_of a.obj_attributes) (current_refuses s x)) (λ m. refl))
+    (refuses_checked (with_wanted (current s x) (wanted_of a.obj_attributes)) (owner_checks x)
+    (wanted_refuses (current s x) (wanted_of a.obj_attributes) (current_refuses s x)) (λ m. refl))
     (λ m. sized_refuses s x a.stateid m.held m.wanted.size)
 
 pub may_set_attr : (s : State) (x : Context) (now : Time) (a : SetAttr) → IsAnswer (Operation (OpSetAttr a)) (set_attr s x now a).result

@@ -43,7 +43,8 @@ kind_regular Kind.Regular e h = refl
 kind_regular Kind.Directory e h = absurd (false≢true (sym e))
 kind_regular Kind.Link e h = absurd (false≢true (sym h))
 
-stored_kind : (o : Option Stored) (b : Object) → option_map (λ (s : Stored). s.object) o ≡ Some b → option_map_or (λ (s : Stored). is_regular s.object.kind) o false ≡ is_regular b.kind
+stored_kind : (o : Option Stored) (b : Object) → option_map (λ (s : Stored). s.object) o ≡ Some b
+    → option_map_or (λ (s : Stored). is_regular s.object.kind) o false ≡ is_regular b.kind
 stored_kind None b e = absurd cc
 stored_kind (Some s) b e = let same : s.object ≡ b = cc in ap (λ (o : Object). is_regular o.kind) same
 
@@ -53,13 +54,16 @@ file_regular t d is e =
     let checks = all_passed (file_checks d) e in
     stored_kind (stored_in t.objects d.number) d.object is.object ∙ kind_regular d.object.kind checks.0 checks.1.0
 
-pub writable_ok : (s : State) (x : Context) (given : Stateid) (v : Result Held Status) (d : Held) → writable s x given v ≡ Ok d → (v ≡ Ok d) × (first_fault (file_checks d) ≡ None)
+pub writable_ok : (s : State) (x : Context) (given : Stateid) (v : Result Held Status) (d : Held)
+    → writable s x given v ≡ Ok d → (v ≡ Ok d) × (first_fault (file_checks d) ≡ None)
 unfolding writable
 writable_ok s x given v d e = checked_ok v file_checks d (if_passed_ok (checked v file_checks) (may_write s x given) d e).0
 
 -- the rows of the tree's checks, by whether a size is given
-sized_rows : (s : State) (d : Held) (w : Wanted) (size : ℕ) → IsHeld s.tree d → is_regular_at s.tree d.number ≡ true → first_fault (file_checks d) ≡ None → gives_some w ≡ true
-    → option_map status_of (tree_fault s.tree d.number w (Some size)) ≡ first_fault ((nat_lt most_bytes size, status_of F.Fbig) ∷ (gives_some w && not (can_change s.tree d.number), status_of F.Counter) ∷ [])
+sized_rows : (s : State) (d : Held) (w : Wanted) (size : ℕ) → IsHeld s.tree d
+    → is_regular_at s.tree d.number ≡ true → first_fault (file_checks d) ≡ None → gives_some w ≡ true
+    → option_map status_of (tree_fault s.tree d.number w (Some size))
+    ≡ first_fault ((nat_lt most_bytes size, status_of F.Fbig) ∷ (gives_some w && not (can_change s.tree d.number), status_of F.Counter) ∷ [])
 sized_rows s d w size is file e some =
     let t = s.tree in
     let checks = all_passed (file_checks d) e in
@@ -84,8 +88,10 @@ plain_rows s d w is =
 given_some : (w : Wanted) (size : ℕ) → w.size ≡ Some size → gives_some w ≡ true
 given_some w size e = rw e refl
 
-set_rows : (s : State) (x : Context) (given : Stateid) (m : Setting) (o : Option ℕ) (k : Held) → m.wanted.size ≡ o → IsHeld s.tree m.held → sized_by s x given m.held o ≡ Ok k
-    → option_map status_of (tree_fault s.tree m.held.number m.wanted o) ≡ first_fault ((of_set.is_too_big o, status_of F.Fbig) ∷ (gives_some m.wanted && not (can_change s.tree m.held.number), status_of F.Counter) ∷ [])
+set_rows : (s : State) (x : Context) (given : Stateid) (m : Setting) (o : Option ℕ) (k : Held)
+    → m.wanted.size ≡ o → IsHeld s.tree m.held → sized_by s x given m.held o ≡ Ok k
+    → option_map status_of (tree_fault s.tree m.held.number m.wanted o)
+    ≡ first_fault ((of_set.is_too_big o, status_of F.Fbig) ∷ (gives_some m.wanted && not (can_change s.tree m.held.number), status_of F.Counter) ∷ [])
 set_rows s x given m None k h is e = plain_rows s m.held m.wanted is
 set_rows s x given m (Some size) k h is e =
     let found = writable_ok s x given (Ok m.held) k e in
@@ -107,16 +113,19 @@ set_found s x a m v =
     let found = current_is s x m.held (setting_ok (current s x) (wanted_of a.obj_attributes) m owned.0) in
     set_rows s x a.stateid m m.wanted.size passed.1.0 refl found passed.1.1
 
-pub set_goes : (s : State) (x : Context) (now : Time) (a : SetAttr) (m : Setting) → asked_for s x a ≡ Ok m → tree_fault s.tree m.held.number m.wanted m.wanted.size ≡ None → set_attr s x now a ≡ was_set s x now a m
+pub set_goes : (s : State) (x : Context) (now : Time) (a : SetAttr) (m : Setting) → asked_for s x a ≡ Ok m
+    → tree_fault s.tree m.held.number m.wanted m.wanted.size ≡ None → set_attr s x now a ≡ was_set s x now a m
 unfolding set_attr
 set_goes s x now a m v none =
     by_last s x Op.SetAttr (asked_for s x a) (last_checks s) (was_set s x now a) m v (sym (set_found s x a m v) ∙ ap (option_map status_of) none)
 
-pub set_stops : (s : State) (x : Context) (now : Time) (a : SetAttr) (m : Setting) (f : TreeFault) → asked_for s x a ≡ Ok m → tree_fault s.tree m.held.number m.wanted m.wanted.size ≡ Some f
+pub set_stops : (s : State) (x : Context) (now : Time) (a : SetAttr) (m : Setting) (f : TreeFault)
+    → asked_for s x a ≡ Ok m → tree_fault s.tree m.held.number m.wanted m.wanted.size ≡ Some f
     → set_attr s x now a ≡ refuses s x Op.SetAttr (status_of f)
 unfolding set_attr
 set_stops s x now a m f v some =
-    by_refusal s x Op.SetAttr (asked_for s x a) (last_checks s) (was_set s x now a) m (status_of f) v (sym (set_found s x a m v) ∙ ap (option_map status_of) some)
+    by_refusal s x Op.SetAttr (asked_for s x a) (last_checks s) (was_set s x now a) m
+    (status_of f) v (sym (set_found s x a m v) ∙ ap (option_map status_of) some)
 
 -- the size that is given is the one that may want memory
 pub asked_wanted : (s : State) (x : Context) (a : SetAttr) (m : Setting) → asked_for s x a ≡ Ok m → wanted_of a.obj_attributes ≡ Ok m.wanted

@@ -31,7 +31,8 @@ passed_both true over last l e = absurd cc
 passed_both false true last l e = absurd cc
 passed_both false false last l e = record { some = refl; fits = refl; end = cc }
 
-last_whole : (offset size : ℕ) (all : Bool) → eqb size all_ones ≡ all → eqb size 0 ≡ false → not all && ltb all_ones (offset + size) ≡ false → eqb (cond all all_ones (offset + size - 1)) all_ones ≡ all
+last_whole : (offset size : ℕ) (all : Bool) → eqb size all_ones ≡ all → eqb size 0 ≡ false
+    → not all && ltb all_ones (offset + size) ≡ false → eqb (cond all all_ones (offset + size - 1)) all_ones ≡ all
 last_whole offset size true e some fits = refl
 last_whole offset size false e some fits =
     let within = ltb-false all_ones (offset + size) fits in
@@ -48,11 +49,14 @@ record IsWish (offset size : ℕ) (w : Wish) : Type 0 where
   first : w.first ≡ offset
   last : range offset size ≡ Ok w.last
 
-wish_is : (x : Context) (how : LockType) (offset size : ℕ) (d : Held) (r : Result ℕ Status) (w : Wish) → range offset size ≡ r → mapped (λ last. wish x how offset last d.number) r ≡ Ok w → IsWish offset size w
+wish_is : (x : Context) (how : LockType) (offset size : ℕ) (d : Held) (r : Result ℕ Status) (w : Wish)
+    → range offset size ≡ r → mapped (λ last. wish x how offset last d.number) r ≡ Ok w → IsWish offset size w
 wish_is x how offset size d (Err status) w is e = absurd cc
-wish_is x how offset size d (Ok last) w is e = let same : wish x how offset last d.number ≡ w = cc in subst (IsWish offset size) same (record { first = refl; last = is })
+wish_is x how offset size d (Ok last) w is e = let same : wish x how offset last d.number ≡ w = cc in
+    subst (IsWish offset size) same (record { first = refl; last = is })
 
-wish_found : (x : Context) (how : LockType) (offset size : ℕ) (found : Result Held Status) (w : Wish) → wish_of x how offset found (range offset size) ≡ Ok w → IsWish offset size w
+wish_found : (x : Context) (how : LockType) (offset size : ℕ) (found : Result Held Status) (w : Wish)
+    → wish_of x how offset found (range offset size) ≡ Ok w → IsWish offset size w
 wish_found x how offset size (Err status) w e = absurd cc
 wish_found x how offset size (Ok d) w e = wish_is x how offset size d (range offset size) w refl e
 
@@ -64,7 +68,8 @@ wished_parts : (x : Context) (given : Stateid) (v : Result Wish Status) (k : Wis
 wished_parts x given (Err status) k e = absurd cc
 wished_parts x given (Ok w) k e = ap Ok (with_id w (meant x Any given) k e)
 
-pub wished_whole : (s : State) (x : Context) (how : LockType) (offset size : ℕ) (given : Stateid) (k : Wished) → wished_by x given (wished s x how offset size) ≡ Ok k → is_whole k.wish.first k.wish.last ≡ (offset == 0 && size == all_ones)
+pub wished_whole : (s : State) (x : Context) (how : LockType) (offset size : ℕ) (given : Stateid) (k : Wished)
+    → wished_by x given (wished s x how offset size) ≡ Ok k → is_whole k.wish.first k.wish.last ≡ (offset == 0 && size == all_ones)
 unfolding wished
 wished_whole s x how offset size given k e =
     let w = wish_found x how offset size (the_file s x) k.wish (wished_parts x given (wished s x how offset size) k e) in

@@ -141,7 +141,8 @@ narrows_may s x a t =
     let deny = bits a.share_deny in
     let did = opening.downgrade s.opens t.id x.client t.file access deny in
     answers_with (IsAnswer (Operation (OpOpenDowngrade a))) s x Num.OpenDowngrade did.answer (λ id. narrowed s x id did.after)
-    (downgrade_by_refuses s.opens t.id.number access deny (judge s.opens t.id x.client (Some t.file) OpenOnly) (judge_refuses s.opens t.id x.client (Some t.file) OpenOnly))
+    (downgrade_by_refuses s.opens t.id.number access deny (judge s.opens t.id x.client (Some t.file) OpenOnly)
+    (judge_refuses s.opens t.id x.client (Some t.file) OpenOnly))
     (λ status h. record { may = (refl, rw (h.done, h.legal) refl, tt); arrays = tt })
     (λ id. record { may = (refl, tt, tt); arrays = length_id id })
 
@@ -150,7 +151,8 @@ unfolding open_downgrade
 may_downgrade s x a =
     answers_with (IsAnswer (Operation (OpOpenDowngrade a))) s x Num.OpenDowngrade (narrowing s x a) (narrows s x a)
     (if_passed_refuses (target s x Own a.open_stateid) (λ t. _) (target_refuses s x Own a.open_stateid)
-    (λ t. refuses_checked (judge s.opens t.id x.client (Some t.file) OpenOnly) (bit_checks a) (judge_refuses s.opens t.id x.client (Some t.file) OpenOnly) (λ seat. refl)))
+    (λ t. refuses_checked (judge s.opens t.id x.client (Some t.file) OpenOnly) (bit_checks a)
+    (judge_refuses s.opens t.id x.client (Some t.file) OpenOnly) (λ seat. refl)))
     (λ status h. record { may = (refl, rw (h.done, h.legal) refl, tt); arrays = tt })
     (λ t. narrows_may s x a t)
 
@@ -159,7 +161,8 @@ range_refuses : (offset size : ℕ) → Refuses (range offset size)
 unfolding range
 range_refuses offset size = refuses_checked (Ok (last_of offset size)) (λ last. range_checks offset size) (ok_refuses (last_of offset size)) (λ last. refl)
 
-wish_of_refuses : (x : Context) (how : LockType) (offset : ℕ) (v : Result Held Status) (last : Result ℕ Status) → Refuses v → Refuses last → Refuses (wish_of x how offset v last)
+wish_of_refuses : (x : Context) (how : LockType) (offset : ℕ) (v : Result Held Status) (last : Result ℕ Status)
+    → Refuses v → Refuses last → Refuses (wish_of x how offset v last)
 wish_of_refuses x how offset (Err status) last h g = err_refuses status (h.each status refl)
 wish_of_refuses x how offset (Ok d) last h g = refuses_mapped (λ last. wish x how offset last d.number) last g
 
@@ -174,7 +177,10 @@ wished_by_refuses x given (Ok w) h = refuses_mapped (λ id. record { wish = w; i
 cleared_may : (s : State) (x : Context) (a : LockU) (n file first last : ℕ) (l : Option LockState)
     → IsAnswer (Operation (OpLockU a)) (let did = locking.clear_lock s.opens n file first last l in unlocked s x did.after did.answer).result
 cleared_may s x a n file first last None = record { may = (refl, refl, tt); arrays = tt }
-cleared_may s x a n file first last (Some l) = record { may = (refl, tt, tt); arrays = length_id (record { seqid = next_seqid l.seqid; instance = s.opens.instance; number = n }) }
+cleared_may s x a n file first last (Some l) = record {
+  may = (refl, tt, tt);
+  arrays = length_id (record { seqid = next_seqid l.seqid; instance = s.opens.instance; number = n });
+}
 
 unlocked_may : (s : State) (x : Context) (a : LockU) (n file first last : ℕ) (v : Result Seat Status) → Refuses v
     → IsAnswer (Operation (OpLockU a)) (let did = locking.unlock_by s.opens n file first last v in unlocked s x did.after did.answer).result
@@ -187,4 +193,5 @@ may_lock_u s x a =
     answers_with (IsAnswer (Operation (OpLockU a))) s x Num.LockU (unlocking s x a) (unlocks s x)
     (wished_by_refuses x a.lock_stateid (wished s x a.locktype a.offset a.length) (wished_refuses s x a.locktype a.offset a.length))
     (λ status h. record { may = (refl, rw (h.done, h.legal) refl, tt); arrays = tt })
-    (λ k. unlocked_may s x a k.id.number k.wish.file k.wish.first k.wish.last (judge s.opens k.id k.wish.client (Some k.wish.file) LockOnly) (judge_refuses s.opens k.id k.wish.client (Some k.wish.file) LockOnly))
+    (λ k. unlocked_may s x a k.id.number k.wish.file k.wish.first k.wish.last
+    (judge s.opens k.id k.wish.client (Some k.wish.file) LockOnly) (judge_refuses s.opens k.id k.wish.client (Some k.wish.file) LockOnly))

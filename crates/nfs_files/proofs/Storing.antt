@@ -16,7 +16,8 @@ open_in xs n = list_any (λ o. o.file == n) xs
 joined_same : (a : Asked) (k n : ℕ) (xs : List OpenState) → open_in (map (λ o. if o.number == k then joins a o else o) xs) n ≡ open_in xs n
 joined_same a k n [] = refl
 joined_same a k n (o ∷ os) =
-    let file : (if o.number == k then joins a o else o).file ≡ o.file = elim (o.number == k) as (λ b. (cond b (joins a o) o).file ≡ o.file) [ true ↦ refl | false ↦ refl ] in
+    let file : (if o.number == k then joins a o else o).file ≡ o.file =
+    elim (o.number == k) as (λ b. (cond b (joins a o) o).file ≡ o.file) [ true ↦ refl | false ↦ refl ] in
     ap (λ f. (f == n) || open_in (map (λ o. if o.number == k then joins a o else o) os) n) file ∙ ap (λ b. (o.file == n) || b) (joined_same a k n os)
 
 pushed : (xs : List OpenState) (o : OpenState) (n : ℕ) → open_in (xs ++ o ∷ []) n ≡ open_in xs n || (o.file == n)
@@ -45,7 +46,8 @@ stays_open t a None n e = pushed t.opens (new_open t a) n ∙ or_left (open_in t
 stays_open t a (Some o) n e = joined_same a o.number n t.opens ∙ e
 
 was_open : (t : Table) (a : Asked) (o : Option OpenState) (n : ℕ) → open_in (opens_by t a o).after.opens n ≡ true → (open_in t.opens n ≡ true) ⊎ (a.file ≡ n)
-was_open t a None n e = elim (or_split (open_in t.opens n) (a.file == n) (sym (pushed t.opens (new_open t a) n) ∙ e)) [ inl old ↦ inl old | inr new ↦ inr (eqb-true _ _ new) ]
+was_open t a None n e = elim (or_split (open_in t.opens n) (a.file == n) (sym (pushed t.opens (new_open t a) n) ∙ e))
+    [ inl old ↦ inl old | inr new ↦ inr (eqb-true _ _ new) ]
 was_open t a (Some o) n e = inl (sym (joined_same a o.number n t.opens) ∙ e)
 
 used_open : (a r o p : Bool) → (o ≡ true → p ≡ true) → a || (r || o) ≡ true → a || (r || p) ≡ true
@@ -53,8 +55,10 @@ used_open true r o p f e = refl
 used_open false true o p f e = refl
 used_open false false o p f e = f e
 
-pub store_opened : (s : State) (t : Files) (a : Asked) → is_regular_at t a.file ≡ true → IsStore (with_tree s t) → IsStore (record s { tree = t; opens = (opens s.opens a).after })
+pub store_opened : (s : State) (t : Files) (a : Asked) → is_regular_at t a.file ≡ true
+    → IsStore (with_tree s t) → IsStore (record s { tree = t; opens = (opens s.opens a).after })
 store_opened s t a file is = record {
-  used = λ m there. used_open (m == root) (has_row t.rows m) (open_in s.opens.opens m) (open_in (opens s.opens a).after.opens m) (stays_open s.opens a (own_open s.opens a) m) (is.used m there);
+  used = λ m there. used_open (m == root) (has_row t.rows m) (open_in s.opens.opens m)
+      (open_in (opens s.opens a).after.opens m) (stays_open s.opens a (own_open s.opens a) m) (is.used m there);
   files = λ m some. elim (was_open s.opens a (own_open s.opens a) m some) [ inl old ↦ is.files m old | inr new ↦ ap (is_regular_at t) (sym new) ∙ file ];
 }

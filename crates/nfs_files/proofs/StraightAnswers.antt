@@ -38,13 +38,16 @@ pub record IsShort (op : Op) (r : Res) : Type 0 where
   pub arrays : HasArrays r
 
 -- so it is within its largest size
-pub short_within : (op : Op) (r : Res) (old new : Paper) → IsShort op r → Puts old new (spell_result r) → length new.bytes ≤ length old.bytes + largest (Operation op)
+pub short_within : (op : Op) (r : Res) (old new : Paper) → IsShort op r
+    → Puts old new (spell_result r) → length new.bytes ≤ length old.bytes + largest (Operation op)
 short_within op r old new is put =
-    let own : length (spell_result r) ≤ largest_of (operation_of r) (asked op) = omega (arith, behind_within (asked op) r is.arrays is.sizes, length_spelled r) in
+    let own : length (spell_result r) ≤ largest_of (operation_of r) (asked op) =
+    omega (arith, behind_within (asked op) r is.arrays is.sizes, length_spelled r) in
     let most : length (spell_result r) ≤ largest_of (number_of op) (asked op) = subst (λ n. length (spell_result r) ≤ largest_of n (asked op)) is.number own in
     omega (arith, ap length put.bytes, length-append old.bytes (spell_result r))
 
-answers_any : {A : Type 0} (P : Res → Type 0) (s : State) (x : Context) (op : OpNum) (v : Result A Status) (f : A → Outcome) → ((status : Status) → P (refusal (op_number op) status)) → ((a : A) → P (f a).result) → P (answers s x op v f).result
+answers_any : {A : Type 0} (P : Res → Type 0) (s : State) (x : Context) (op : OpNum) (v : Result A Status) (f : A → Outcome)
+    → ((status : Status) → P (refusal (op_number op) status)) → ((a : A) → P (f a).result) → P (answers s x op v f).result
 answers_any P s x op (Err status) f refused done = refused status
 answers_any P s x op (Ok a) f refused done = done a
 

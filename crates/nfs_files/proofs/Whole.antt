@@ -8,7 +8,8 @@ use Rattle.nfs_compound.specs.Arguments.{arguments}
 use Rattle.nfs_compound.specs.declared.op_num.OpNum.{OpNum}
 use Rattle.nfs_compound.specs.declared.op_num.OpNum.TheVariants as Num
 use Rattle.nfs_compound.specs.OpNum.{op_number}
-use Rattle.nfs_compound.specs.Operation.{Op, Item, Operation, Fault, OpClose, OpCommit, OpFreeStateid, OpLock, OpLockT, OpLockU, OpOpen, OpOpenDowngrade, OpRead, OpSetAttr, OpTestStateid, OpWrite}
+use Rattle.nfs_compound.specs.Operation.{Op, Item, Operation, Fault, OpClose, OpCommit, OpFreeStateid, OpLock, OpLockT, OpLockU, OpOpen, OpOpenDowngrade}
+use Rattle.nfs_compound.specs.Operation.{OpRead, OpSetAttr, OpTestStateid, OpWrite}
 use Rattle.nfs_results.specs.Result.{Res}
 use Rattle.nfs_results.specs.Results.{refusal}
 use Rattle.nfs_names.specs.declared.context.Context.{Context}
@@ -43,22 +44,28 @@ use Rattle.nfs_files.proofs.OpensKept.{store_free, store_downgrade, store_lock, 
 use Rattle.nfs_files.proofs.Closed.{store_close}
 use Rattle.nfs_files.proofs.OpenAnswers.{may_open, store_open}
 
-delay_may : (b : Bool) (s : State) (x : Context) (op : OpNum) (o : Outcome) (P : Res → Type 0) → P o.result → P (refusal (op_number op) Delay) → P (or_delay b s x op o).result
+delay_may : (b : Bool) (s : State) (x : Context) (op : OpNum) (o : Outcome) (P : Res → Type 0)
+    → P o.result → P (refusal (op_number op) Delay) → P (or_delay b s x op o).result
 delay_may b s x op o P done delayed = elim (b && is_ok o.result) as (λ k. P (cond k (refuses s x op Delay) o).result) [ true ↦ delayed | false ↦ done ]
 
 -- by the operation
-pub may_come : (b : Bool) (s : State) (x : Context) (now : Time) (op : Op) → is_plain (Operation op) ≡ true → IsAnswer (Operation op) (one_or_delay b s x now op).result
+pub may_come : (b : Bool) (s : State) (x : Context) (now : Time) (op : Op)
+    → is_plain (Operation op) ≡ true → IsAnswer (Operation op) (one_or_delay b s x now op).result
 may_come b s x now (OpClose a) e = may_close s x a
 may_come b s x now (OpCommit a) e = may_commit s x a
 may_come b s x now (OpFreeStateid given) e = may_free s x given
 may_come b s x now (OpLockU a) e =
-    delay_may (wants_memory a && b) s x Num.LockU (lock_u s x a) (IsAnswer (Operation (OpLockU a))) (may_lock_u s x a) (record { may = (refl, refl, tt); arrays = tt })
-may_come b s x now (OpOpen a) e = delay_may (true && b) s x Num.Open (open_file s x now a) (IsAnswer (Operation (OpOpen a))) (may_open s x now a) (record { may = (refl, refl, tt); arrays = tt })
+    delay_may (wants_memory a && b) s x Num.LockU (lock_u s x a) (IsAnswer (Operation (OpLockU a)))
+    (may_lock_u s x a) (record { may = (refl, refl, tt); arrays = tt })
+may_come b s x now (OpOpen a) e = delay_may (true && b) s x Num.Open (open_file s x now a)
+    (IsAnswer (Operation (OpOpen a))) (may_open s x now a) (record { may = (refl, refl, tt); arrays = tt })
 may_come b s x now (OpOpenDowngrade a) e = may_downgrade s x a
 may_come b s x now (OpSetAttr a) e =
-    delay_may (grows s x (OpSetAttr a) && b) s x Num.SetAttr (set_attr s x now a) (IsAnswer (Operation (OpSetAttr a))) (may_set_attr s x now a) (record { may = (refl, tt, omega arith); arrays = tt })
+    delay_may (grows s x (OpSetAttr a) && b) s x Num.SetAttr (set_attr s x now a) (IsAnswer (Operation (OpSetAttr a)))
+    (may_set_attr s x now a) (record { may = (refl, tt, omega arith); arrays = tt })
 may_come b s x now (OpWrite a) e =
-    delay_may (has_bytes a.bytes && b) s x Num.Write (write s x now a) (IsAnswer (Operation (OpWrite a))) (may_write_bytes s x now a) (record { may = (refl, refl, tt); arrays = tt })
+    delay_may (has_bytes a.bytes && b) s x Num.Write (write s x now a) (IsAnswer (Operation (OpWrite a)))
+    (may_write_bytes s x now a) (record { may = (refl, refl, tt); arrays = tt })
 may_come b s x now op e = absurd cc
 
 -- the state after an operation
@@ -66,7 +73,8 @@ delay_state : (b : Bool) (s : State) (x : Context) (op : OpNum) (o : Outcome) �
 delay_state b s x op o same done = elim (b && is_ok o.result) as (λ k. IsStore (cond k (refuses s x op Delay) o).state) [ true ↦ same | false ↦ done ]
 
 -- the same, where what was found counts
-answers_found : {A : Type 0} (s : State) (x : Context) (op : OpNum) (v : Result A Status) (f : A → Outcome) → IsStore s → ((a : A) → v ≡ Ok a → IsStore (f a).state) → IsStore (answers s x op v f).state
+answers_found : {A : Type 0} (s : State) (x : Context) (op : OpNum) (v : Result A Status) (f : A → Outcome)
+    → IsStore s → ((a : A) → v ≡ Ok a → IsStore (f a).state) → IsStore (answers s x op v f).state
 answers_found s x op (Err status) f same done = same
 answers_found s x op (Ok a) f same done = done a refl
 
@@ -81,20 +89,24 @@ store_one s x now (OpCommit a) tree table is = answers_state s x Num.Commit (che
 store_one s x now (OpFreeStateid given) tree table is = store_free s x given is
 store_one s x now (OpLock a) tree table is = store_lock s x a is
 store_one s x now (OpLockT a) tree table is =
-    answers_state s x Num.LockT (wished s x a.locktype a.offset a.length) (λ w. tested s x (test_lock s.opens a.owner.owner w)) is (λ w. tested_state s x (test_lock s.opens a.owner.owner w) is)
+    answers_state s x Num.LockT (wished s x a.locktype a.offset a.length)
+    (λ w. tested s x (test_lock s.opens a.owner.owner w)) is (λ w. tested_state s x (test_lock s.opens a.owner.owner w) is)
 store_one s x now (OpLockU a) tree table is = store_lock_u s x a is
 store_one s x now (OpOpen a) tree table is =
     answers_found s x Num.Open (checked (of_open.asked_for s x a) (of_open.last_checks s x a)) (of_open.opened s x now a) is
     (λ found v. store_open s x now a found tree is (checked_ok (of_open.asked_for s x a) (of_open.last_checks s x a) found v).0)
 store_one s x now (OpOpenDowngrade a) tree table is = store_downgrade s x a is
 store_one s x now (OpRead a) tree table is = answers_state s x Num.Read (readable s x a.stateid (current s x)) _ is (λ d. is)
-store_one s x now (OpSetAttr a) tree table is = answers_state s x Num.SetAttr (checked (asked_for s x a) (last_checks s)) (was_set s x now a) is (λ m. store_set s m.held.number now m.wanted m.wanted.size is)
+store_one s x now (OpSetAttr a) tree table is = answers_state s x Num.SetAttr (checked (asked_for s x a) (last_checks s))
+    (was_set s x now a) is (λ m. store_set s m.held.number now m.wanted m.wanted.size is)
 store_one s x now (OpTestStateid given) tree table is = is
 store_one s x now (OpWrite a) tree table is =
-    answers_state s x Num.Write (checked (writable s x a.stateid (current s x)) (of_write.last_checks s a)) (of_write.was_written s x now a) is (λ d. store_written s a d now is)
+    answers_state s x Num.Write (checked (writable s x a.stateid (current s x)) (of_write.last_checks s a))
+    (of_write.was_written s x now a) is (λ d. store_written s a d now is)
 store_one s x now op tree table is = is
 
-pub store_left : (b : Bool) (s : State) (x : Context) (now : Time) (op : Op) → IsTree s.tree → IsTable s.opens → IsStore s → IsStore (one_or_delay b s x now op).state
+pub store_left : (b : Bool) (s : State) (x : Context) (now : Time) (op : Op)
+    → IsTree s.tree → IsTable s.opens → IsStore s → IsStore (one_or_delay b s x now op).state
 store_left b s x now op tree table is = delay_state (grows s x op && b) s x (arguments op).op (one s x now op) is (store_one s x now op tree table is)
 
 -- What every operation whose result lends nothing keeps.

@@ -23,7 +23,8 @@ use Rattle.nfs_files.specs.Bytes.{file_checks, writable}
 use Rattle.nfs_files.specs.Write.{last_checks, was_written, write}
 use Rattle.nfs_files.proofs.SetRows.{file_regular, writable_ok}
 
-write_rows : (s : State) (w : Write) (d : Held) → IsHeld s.tree d → first_fault (file_checks d) ≡ None → option_map status_of (write_fault s.tree d.number w.offset w.bytes) ≡ first_fault (last_checks s w d)
+write_rows : (s : State) (w : Write) (d : Held) → IsHeld s.tree d → first_fault (file_checks d) ≡ None
+    → option_map status_of (write_fault s.tree d.number w.offset w.bytes) ≡ first_fault (last_checks s w d)
 write_rows s w d is e =
     let t = s.tree in
     let n = d.number in
@@ -31,20 +32,26 @@ write_rows s w d is e =
     let there : not (is_there t n) ≡ false = ap not is.there in
     let directory : is_directory_at t n ≡ false = is.directory ∙ checks.0 in
     let regular : not (is_regular_at t n) ≡ false = ap not (file_regular t d is e) in
-    let tail : List (Bool × TreeFault) = (has_bytes w.bytes && nat_lt most_bytes (w.offset + length w.bytes), F.Fbig) ∷ (has_bytes w.bytes && not (can_change t n), F.Counter) ∷ [] in
+    let tail : List (Bool × TreeFault) =
+    (has_bytes w.bytes && nat_lt most_bytes (w.offset + length w.bytes), F.Fbig) ∷ (has_bytes w.bytes && not (can_change t n), F.Counter) ∷ [] in
     let same : write_fault t n w.offset w.bytes ≡ first_fault tail = rw (there, directory, regular) refl in
     ap (option_map status_of) same ∙ fault_map status_of tail
 
-write_found : (s : State) (x : Context) (w : Write) (d : Held) → writable s x w.stateid (current s x) ≡ Ok d → option_map status_of (write_fault s.tree d.number w.offset w.bytes) ≡ first_fault (last_checks s w d)
+write_found : (s : State) (x : Context) (w : Write) (d : Held) → writable s x w.stateid (current s x) ≡ Ok d
+    → option_map status_of (write_fault s.tree d.number w.offset w.bytes) ≡ first_fault (last_checks s w d)
 write_found s x w d v = let found = writable_ok s x w.stateid (current s x) d v in write_rows s w d (current_is s x d found.0) found.1
 
-pub write_goes : (s : State) (x : Context) (now : Time) (w : Write) (d : Held) → writable s x w.stateid (current s x) ≡ Ok d → write_fault s.tree d.number w.offset w.bytes ≡ None → write s x now w ≡ was_written s x now w d
+pub write_goes : (s : State) (x : Context) (now : Time) (w : Write) (d : Held) → writable s x w.stateid (current s x) ≡ Ok d
+    → write_fault s.tree d.number w.offset w.bytes ≡ None → write s x now w ≡ was_written s x now w d
 unfolding write
 write_goes s x now w d v none =
-    by_last s x Op.Write (writable s x w.stateid (current s x)) (last_checks s w) (was_written s x now w) d v (sym (write_found s x w d v) ∙ ap (option_map status_of) none)
+    by_last s x Op.Write (writable s x w.stateid (current s x)) (last_checks s w)
+    (was_written s x now w) d v (sym (write_found s x w d v) ∙ ap (option_map status_of) none)
 
-pub write_stops : (s : State) (x : Context) (now : Time) (w : Write) (d : Held) (f : TreeFault) → writable s x w.stateid (current s x) ≡ Ok d → write_fault s.tree d.number w.offset w.bytes ≡ Some f
+pub write_stops : (s : State) (x : Context) (now : Time) (w : Write) (d : Held) (f : TreeFault)
+    → writable s x w.stateid (current s x) ≡ Ok d → write_fault s.tree d.number w.offset w.bytes ≡ Some f
     → write s x now w ≡ refuses s x Op.Write (status_of f)
 unfolding write
 write_stops s x now w d f v some =
-    by_refusal s x Op.Write (writable s x w.stateid (current s x)) (last_checks s w) (was_written s x now w) d (status_of f) v (sym (write_found s x w d v) ∙ ap (option_map status_of) some)
+    by_refusal s x Op.Write (writable s x w.stateid (current s x)) (last_checks s w)
+    (was_written s x now w) d (status_of f) v (sym (write_found s x w d v) ∙ ap (option_map status_of) some)

@@ -1,11 +1,13 @@
 -- OPEN (RFC 8881 section 18.16): a file is opened, and is made where that is asked for and the name is free.
-use Rattle.std.specs.Prelude.{ℕ, ◌+◌, ◌==◌, ◌%◌, ◌&&◌, Bool, true, false, not, List, [], ◌∷◌, ◌++◌, length, nat_le, bytes_eq, Option, Some, None, is_none, unwrap_or, Result, Ok, Err, if◌then◌else◌}
+use Rattle.std.specs.Prelude.{ℕ, ◌+◌, ◌==◌, ◌%◌, ◌&&◌, Bool, true, false, not, List, [], ◌∷◌, ◌++◌, length, nat_le, bytes_eq, Option, Some, None, is_none}
+use Rattle.std.specs.Prelude.{unwrap_or, Result, Ok, Err, if◌then◌else◌}
 use Rattle.std.specs.List.{list_any}
 use Rattle.nfs_xdr.specs.declared.time.Time.{Time}
 use Rattle.nfs_xdr.specs.declared.status.Status.{Status}
 use Rattle.nfs_xdr.specs.declared.status.Status.TheVariants.{Inval, NoGrace, NotSupp, NoEnt, Exist, FBig, ShareDenied, NoSpc, ServerFault}
 use Rattle.nfs_compound.specs.declared.op_num.OpNum.TheVariants as Op
-use Rattle.nfs_compound.specs.OpenArgs.{Open, OpenHow, NoCreate, Create, Unchecked, Guarded, Exclusive, Exclusive41, OpenClaim, Null, Previous, DelegateCur, DelegatePrev, Fh, DelegCurFh, DelegPrevFh}
+use Rattle.nfs_compound.specs.OpenArgs.{Open, OpenHow, NoCreate, Create, Unchecked, Guarded, Exclusive, Exclusive41, OpenClaim, Null, Previous, DelegateCur}
+use Rattle.nfs_compound.specs.OpenArgs.{DelegatePrev, Fh, DelegCurFh, DelegPrevFh}
 use Rattle.nfs_results.specs.declared.res.ChangeInfo.{ChangeInfo}
 use Rattle.nfs_results.specs.Result.{ResOpen}
 use Rattle.nfs_tree.specs.declared.sets.Sets.{Sets}
@@ -230,7 +232,8 @@ set_of o (Absent m) = told (mask_by o.openhow)
 
 abbrev pub opened : State → Context → Time → Open → Found → Outcome
 opened s x now o found = record {
-  result = ResOpen (record { stateid = wire_id (opens s.opens (asking x o (file_of s.tree found))).id; cinfo = info_of s.tree found; attrset = set_of o found });
+  result = ResOpen
+      (record { stateid = wire_id (opens s.opens (asking x o (file_of s.tree found))).id; cinfo = info_of s.tree found; attrset = set_of o found });
   state = record s { tree = tree_of s.tree x now o found; opens = (opens s.opens (asking x o (file_of s.tree found))).after };
   context = record x { current = Some (file_of s.tree found); stateid = wire_id (opens s.opens (asking x o (file_of s.tree found))).id };
 }

@@ -3,7 +3,8 @@ use Rattle.std.specs.Prelude.{◌&&◌, Bool, true, false, not}
 use Rattle.nfs_xdr.specs.declared.time.Time.{Time}
 use Rattle.nfs_xdr.specs.declared.status.Status.TheVariants.{NotSupp}
 use Rattle.nfs_compound.specs.Arguments.{arguments}
-use Rattle.nfs_compound.specs.Operation.{Op, Item, Operation, Fault, OpClose, OpCommit, OpFreeStateid, OpLock, OpLockT, OpLockU, OpOpen, OpOpenDowngrade, OpRead, OpSetAttr, OpTestStateid, OpWrite}
+use Rattle.nfs_compound.specs.Operation.{Op, Item, Operation, Fault, OpClose, OpCommit, OpFreeStateid, OpLock, OpLockT, OpLockU, OpOpen, OpOpenDowngrade}
+use Rattle.nfs_compound.specs.Operation.{OpRead, OpSetAttr, OpTestStateid, OpWrite}
 use Rattle.nfs_results.specs.Result.{Refused}
 use Rattle.nfs_tree.specs.Bytes.{has_bytes}
 use Rattle.nfs_names.specs.declared.context.Context.{Context}

@@ -1,5 +1,6 @@
 -- What each change of the queue does to the map that it stands for, and who is out at its end.
-use Rattle.std.proofs.Common.{◌≡◌, ℕ, suc, ◌+◌, ◌-◌, ◌<◌, ◌≤◌, Bool, true, false, cond, eqb, List, [], ◌∷◌, length, take, get_or, Option, Some, None, refl, sym, ◌∙◌, ap, arith, inl, inr}
+use Rattle.std.proofs.Common.{◌≡◌, ℕ, suc, ◌+◌, ◌-◌, ◌<◌, ◌≤◌, Bool, true, false, cond, eqb, List, [], ◌∷◌, length, take, get_or, Option, Some, None, refl, sym}
+use Rattle.std.proofs.Common.{◌∙◌, ap, arith, inl, inr}
 use Rattle.std.specs.Prelude.{◌==◌, if◌then◌else◌, is_some, slice_get, nat_lt}
 use Rattle.std.specs.Option.{option_map_or}
 use Rattle.std.specs.Map.{lookup_entry, remove_entry, set_value}
@@ -31,7 +32,8 @@ at_removed client c (e ∷ es) q =
     ]
 
 none_removed : (client c : ℕ) (es : List (ℕ × ℕ)) → IsQueue es → renewed_in es c ≡ None → renewed_in (remove_entry (is_of client) es) c ≡ None
-none_removed client c es q none = at_removed client c es q ∙ rw none (elim (eqb c client) as (λ v. ◌≡◌ {A = Option ℕ} (cond {A = Option ℕ} v None None) None) [ true ↦ refl | false ↦ refl ])
+none_removed client c es q none = at_removed client c es q
+    ∙ rw none (elim (eqb c client) as (λ v. ◌≡◌ {A = Option ℕ} (cond {A = Option ℕ} v None None) None) [ true ↦ refl | false ↦ refl ])
 
 up_to_more : (low high : ℕ) (es : List (ℕ × ℕ)) → low ≤ high → IsUpTo low es → IsUpTo high es
 up_to_more low high [] le u = tt
@@ -53,7 +55,8 @@ queue_removed client (e ∷ es) q =
       | inr other ↦ rw other (none_removed client e.0 es q.2 q.0, up_to_removed client e.1 es q.2 q.1, queue_removed client es q.2)
     ]
 
-pub maps_removed : (client : ℕ) (k : Kept) → IsQueue k.renewals → leases_of (record k { renewals = remove_entry (is_of client) k.renewals }) ≡ without_lease (leases_of k) client
+pub maps_removed : (client : ℕ) (k : Kept) → IsQueue k.renewals
+    → leases_of (record k { renewals = remove_entry (is_of client) k.renewals }) ≡ without_lease (leases_of k) client
 maps_removed client k q = ap (λ f. record { renewed = f; lease = k.duration }) (fun_ext (λ c. at_removed client c k.renewals q))
 
 pub count_removed : (client : ℕ) (es : List (ℕ × ℕ)) → length (remove_entry (is_of client) es) + (if is_some (renewed_in es client) then 1 else 0) ≡ length es
@@ -74,25 +77,29 @@ up_to_latest k now is = by k.renewals refl
     by [] e = tt
     by (x ∷ xs) e = is.each x.0 x.1 (ap (λ es. renewed_in es x.0) (sym e) ∙ rw (eq-eqb x.0 x.0 refl) refl)
 
-pub queue_front : (client now : ℕ) (k : Kept) → IsQueue k.renewals → IsLatest (leases_of k) now → IsQueue ((client, now) ∷ remove_entry (is_of client) k.renewals)
+pub queue_front : (client now : ℕ) (k : Kept) → IsQueue k.renewals
+    → IsLatest (leases_of k) now → IsQueue ((client, now) ∷ remove_entry (is_of client) k.renewals)
 queue_front client now k q latest = (
   at_removed client client k.renewals q ∙ rw (eq-eqb client client refl) refl,
   up_to_removed client now k.renewals q (up_to_latest k now latest),
   queue_removed client k.renewals q,
 )
 
-at_front : (client now c : ℕ) (es : List (ℕ × ℕ)) → IsQueue es → renewed_in ((client, now) ∷ remove_entry (is_of client) es) c ≡ (if c == client then Some now else renewed_in es c)
+at_front : (client now c : ℕ) (es : List (ℕ × ℕ)) → IsQueue es
+    → renewed_in ((client, now) ∷ remove_entry (is_of client) es) c ≡ (if c == client then Some now else renewed_in es c)
 at_front client now c es q =
     elim (cases_Bool (eqb c client)) [
       | inl here ↦ rw here refl
       | inr other ↦ rw other (at_removed client c es q ∙ rw other refl)
     ]
 
-pub maps_front : (client now : ℕ) (k : Kept) → IsQueue k.renewals → leases_of (record k { renewals = (client, now) ∷ remove_entry (is_of client) k.renewals }) ≡ with_lease (leases_of k) client now
+pub maps_front : (client now : ℕ) (k : Kept) → IsQueue k.renewals
+    → leases_of (record k { renewals = (client, now) ∷ remove_entry (is_of client) k.renewals }) ≡ with_lease (leases_of k) client now
 maps_front client now k q = ap (λ f. record { renewed = f; lease = k.duration }) (fun_ext (λ c. at_front client now c k.renewals q))
 
 -- what a search of the entries says of the map
-none_renewed : (client : ℕ) (es : List (ℕ × ℕ)) → lookup_entry (is_of client) es ≡ None → (renewed_in es client ≡ None) × (remove_entry (is_of client) es ≡ es) × ((w : ℕ) → set_value (is_of client) es w ≡ es)
+none_renewed : (client : ℕ) (es : List (ℕ × ℕ)) → lookup_entry (is_of client) es ≡ None
+    → (renewed_in es client ≡ None) × (remove_entry (is_of client) es ≡ es) × ((w : ℕ) → set_value (is_of client) es w ≡ es)
 none_renewed client [] none = (refl, refl, λ w. refl)
 none_renewed client (e ∷ es) none =
     elim (cases_Bool (eqb client e.0)) [
@@ -110,10 +117,13 @@ some_renewed client (e ∷ es) x some =
       | inr other ↦ rw other (some_renewed client es x (rw other at some))
     ]
 
-pub put_front : (client now cap : ℕ) (es : List (ℕ × ℕ)) → length es < cap → put_entries eqb (lru_cache es cap) client now ≡ (client, now) ∷ remove_entry (is_of client) es
+pub put_front : (client now cap : ℕ) (es : List (ℕ × ℕ)) → length es < cap
+    → put_entries eqb (lru_cache es cap) client now ≡ (client, now) ∷ remove_entry (is_of client) es
 put_front client now cap es few = by (lookup_entry (is_of client) es) refl
   where
-    by : (o : Option (ℕ × ℕ)) → lookup_entry (is_of client) es ≡ o → option_map_or (λ e. (e.0, now) ∷ remove_entry (is_of client) es) o ((client, now) ∷ take (cap - 1) es) ≡ (client, now) ∷ remove_entry (is_of client) es
+    by : (o : Option (ℕ × ℕ)) → lookup_entry (is_of client) es ≡ o
+        → option_map_or (λ e. (e.0, now) ∷ remove_entry (is_of client) es) o ((client, now) ∷ take (cap - 1) es)
+        ≡ (client, now) ∷ remove_entry (is_of client) es
     by None none = rw (none_renewed client es none).1 (ap (λ (xs : List (ℕ × ℕ)). (client, now) ∷ xs) (take_all (cap - 1) es (omega arith)))
     by (Some x) some = rw (← (some_renewed client es x some).1) refl
 
@@ -134,7 +144,8 @@ rests client now k none = ap (λ f. record { renewed = f; lease = k.duration }) 
   | inr other ↦ rw (ne_eqb c client other) refl
 ]))
 
-renewal_some : (client now moment : ℕ) (k : Kept) → renewed_in k.renewals client ≡ Some moment → with_lease (leases_of k) client now ≡ with_renewal (leases_of k) client now
+renewal_some : (client now moment : ℕ) (k : Kept) → renewed_in k.renewals client ≡ Some moment
+    → with_lease (leases_of k) client now ≡ with_renewal (leases_of k) client now
 renewal_some client now moment k some = ap (λ f. record { renewed = f; lease = k.duration }) (fun_ext (λ c. elim (cases_eq c client) [
   | inl is ↦ rw (eq-eqb c client is, is, some) refl
   | inr other ↦ rw (ne_eqb c client other) refl
@@ -146,10 +157,12 @@ renews client now k q latest = by (lookup_entry (is_of client) k.renewals) refl
     front : ℕ × ℕ → List (ℕ × ℕ)
     front e = e ∷ remove_entry (is_of client) k.renewals
 
-    by : (o : Option (ℕ × ℕ)) → lookup_entry (is_of client) k.renewals ≡ o → Renewed client now k (set_value (is_of client) (option_map_or (λ e. e ∷ remove_entry (is_of client) k.renewals) o k.renewals) now)
+    by : (o : Option (ℕ × ℕ)) → lookup_entry (is_of client) k.renewals ≡ o
+        → Renewed client now k (set_value (is_of client) (option_map_or (λ e. e ∷ remove_entry (is_of client) k.renewals) o k.renewals) now)
     by None none = let is = none_renewed client k.renewals none in rw (is.2 now) (record { queue = q; map = rests client now k is.0 })
     by (Some x) some = let is = some_renewed client k.renewals x some in
-        rw (eq-eqb client x.0 is.1, ← is.1) (record { queue = queue_front client now k q latest; map = maps_front client now k q ∙ renewal_some client now x.1 k is.0 })
+        rw (eq-eqb client x.0 is.1, ← is.1)
+        (record { queue = queue_front client now k q latest; map = maps_front client now k q ∙ renewal_some client now x.1 k is.0 })
 
 -- Who is out at the end.
 
@@ -157,7 +170,8 @@ last_found : (es : List (ℕ × ℕ)) (e : ℕ × ℕ) → IsQueue es → last_e
 last_found [] e q last = absurd cc
 last_found (x ∷ []) e q last = let is : x ≡ e = cc in rw (eq-eqb e.0 x.0 (ap (λ (y : ℕ × ℕ). y.0) (sym is))) (ap (λ (y : ℕ × ℕ). Some y.1) is)
 last_found (x ∷ y ∷ ys) e q last =
-    let rest = last_found (y ∷ ys) e q.2 (sym (ap (slice_get (x ∷ y ∷ ys)) (let p : suc (length (y ∷ ys)) - 1 ≡ suc (length (y ∷ ys) - 1) = omega arith in p)) ∙ last) in
+    let rest = last_found (y ∷ ys) e q.2
+    (sym (ap (slice_get (x ∷ y ∷ ys)) (let p : suc (length (y ∷ ys)) - 1 ≡ suc (length (y ∷ ys) - 1) = omega arith in p)) ∙ last) in
     rw (ne_eqb e.0 x.0 (λ same. absurd (let bad : Some e.1 ≡ None = sym rest ∙ ap (renewed_in (y ∷ ys)) same ∙ q.0 in cc))) rest
 
 oldest : (es : List (ℕ × ℕ)) (e : ℕ × ℕ) → IsQueue es → last_entry es ≡ Some e → (c moment : ℕ) → renewed_in es c ≡ Some moment → e.1 ≤ moment
@@ -165,11 +179,13 @@ oldest [] e q last c moment there = absurd cc
 oldest (x ∷ []) e q last c moment there =
     let is : x ≡ e = cc in
     elim (cases_Bool (eqb c x.0)) [
-      | inl here ↦ (let found : Some x.1 ≡ Some moment = rw here at there in let m : x.1 ≡ moment = cc in let same : x.1 ≡ e.1 = ap (λ (y : ℕ × ℕ). y.1) is in omega arith)
+      | inl here ↦ (let found : Some x.1 ≡ Some moment = rw here at there in
+          let m : x.1 ≡ moment = cc in let same : x.1 ≡ e.1 = ap (λ (y : ℕ × ℕ). y.1) is in omega arith)
       | inr other ↦ absurd (let bad : None ≡ Some moment = rw other at there in cc)
     ]
 oldest (x ∷ y ∷ ys) e q last c moment there =
-    let ends : last_entry (y ∷ ys) ≡ Some e = sym (ap (slice_get (x ∷ y ∷ ys)) (let p : suc (length (y ∷ ys)) - 1 ≡ suc (length (y ∷ ys) - 1) = omega arith in p)) ∙ last in
+    let ends : last_entry (y ∷ ys) ≡ Some e =
+    sym (ap (slice_get (x ∷ y ∷ ys)) (let p : suc (length (y ∷ ys)) - 1 ≡ suc (length (y ∷ ys) - 1) = omega arith in p)) ∙ last in
     elim (cases_Bool (eqb c x.0)) [
       | inl here ↦ (let found : Some x.1 ≡ Some moment = rw here at there in let m : x.1 ≡ moment = cc in
           let below = oldest (y ∷ ys) e q.2 ends y.0 y.1 (rw (eq-eqb y.0 y.0 refl) refl) in let up : y.1 ≤ x.1 = q.1 in omega arith)
@@ -185,11 +201,13 @@ none_out k now none = by k.renewals none
     by (x ∷ xs) e = absurd (none-some (get_or (x ∷ xs) (length (x ∷ xs) - 1) x) (sym e ∙ slice_get-get_or (x ∷ xs) (length (x ∷ xs) - 1) x (omega arith)))
 
 -- the oldest is out
-pub some_out : (k : Kept) (now client moment : ℕ) → IsQueue k.renewals → last_entry k.renewals ≡ Some (client, moment) → nat_lt k.duration (now - moment) ≡ true → IsNextOut (leases_of k) now (Some client)
+pub some_out : (k : Kept) (now client moment : ℕ) → IsQueue k.renewals → last_entry k.renewals ≡ Some (client, moment)
+    → nat_lt k.duration (now - moment) ≡ true → IsNextOut (leases_of k) now (Some client)
 some_out k now client moment q last out = ap (is_out k.duration now) (last_found k.renewals (client, moment) q last) ∙ out
 
 -- the oldest is not, and no other
-pub not_out : (k : Kept) (now client moment : ℕ) → IsQueue k.renewals → last_entry k.renewals ≡ Some (client, moment) → now - moment ≤ k.duration → IsNextOut (leases_of k) now None
+pub not_out : (k : Kept) (now client moment : ℕ) → IsQueue k.renewals
+    → last_entry k.renewals ≡ Some (client, moment) → now - moment ≤ k.duration → IsNextOut (leases_of k) now None
 not_out k now client moment q last within c = by (renewed_in k.renewals c) refl
   where
     by : (o : Option ℕ) → renewed_in k.renewals c ≡ o → is_out k.duration now o ≡ false

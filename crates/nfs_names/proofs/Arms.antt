@@ -48,7 +48,8 @@ not_plain (Args.Verify x) h0 h1 h2 h3 h4 h5 h6 h7 h8 h9 h10 h11 h12 h13 h14 = ab
 not_plain a h0 h1 h2 h3 h4 h5 h6 h7 h8 h9 h10 h11 h12 h13 h14 = refl
 
 -- what is not put straight is plain
-pub plain : (a : Arg) → ((x : Bitmap) → a ≡ Args.GetAttr x → ⊥) → (a ≡ Args.GetFh → ⊥) → ((x : ReadDir) → a ≡ Args.ReadDir x → ⊥) → (a ≡ Args.ReadLink → ⊥) → on_names (item a) ≡ true → is_plain (item a) ≡ true
+pub plain : (a : Arg) → ((x : Bitmap) → a ≡ Args.GetAttr x → ⊥) → (a ≡ Args.GetFh → ⊥)
+    → ((x : ReadDir) → a ≡ Args.ReadDir x → ⊥) → (a ≡ Args.ReadLink → ⊥) → on_names (item a) ≡ true → is_plain (item a) ≡ true
 plain (Args.GetAttr x) g h l r e = absurd (g x refl)
 plain Args.GetFh g h l r e = absurd (h refl)
 plain (Args.ReadDir x) g h l r e = absurd (l x refl)

@@ -8,7 +8,8 @@ use Rattle.nfs_compound.specs.NameArgs as args
 use Rattle.nfs_compound.specs.declared.name_args.SecinfoStyle.{SecinfoStyle}
 use Rattle.nfs_compound.specs.declared.name_args.SecinfoStyle.TheVariants.{CurrentFh, Parent}
 use Rattle.nfs_compound.specs.declared.op_num.OpNum.TheVariants as Num
-use Rattle.nfs_compound.specs.Operation.{Item, Operation, OpAccess, OpCreate, OpGetAttr, OpGetFh, OpLink, OpLookup, OpLookupP, OpNVerify, OpPutFh, OpPutPubFh, OpPutRootFh, OpReadDir, OpReadLink, OpRemove, OpRename, OpRestoreFh, OpSaveFh, OpSecinfoNoName, OpVerify}
+use Rattle.nfs_compound.specs.Operation.{Item, Operation, OpAccess, OpCreate, OpGetAttr, OpGetFh, OpLink, OpLookup, OpLookupP, OpNVerify, OpPutFh, OpPutPubFh}
+use Rattle.nfs_compound.specs.Operation.{OpPutRootFh, OpReadDir, OpReadLink, OpRemove, OpRename, OpRestoreFh, OpSaveFh, OpSecinfoNoName, OpVerify}
 use Rattle.nfs_results.specs.Result.{Res, ResReadDir}
 use Rattle.nfs_results.specs.Largest.{MayAnswer}
 use Rattle.nfs_results.specs.Results.{HasArrays}
@@ -102,7 +103,8 @@ wanted_refuses (Ok d) r h = making_refuses d r
 pub asked_refuses : (s : State) (x : Context) (c : args.Create) → Refuses (asked_for s x c)
 asked_refuses s x c =
     refuses_checked (with_wanted (checked (current s x) (place_checks x c)) (wanted_of c.createattrs)) (new_checks x)
-    (wanted_refuses (checked (current s x) (place_checks x c)) (wanted_of c.createattrs) (refuses_checked (current s x) (place_checks x c) (current_refuses s x) (λ d. refl))) (λ m. refl)
+    (wanted_refuses (checked (current s x) (place_checks x c)) (wanted_of c.createattrs)
+    (refuses_checked (current s x) (place_checks x c) (current_refuses s x) (λ d. refl))) (λ m. refl)
 
 or_status_refuses : (r : Result Bool AttrFault) → Refuses (or_status r)
 or_status_refuses (Err f) = err_refuses (fault_status f) (fault_refuses f)
@@ -181,7 +183,8 @@ may_put_fh s x object =
 pub may_remove : (s : State) (x : Context) (now : Time) (name : List ℕ) → IsAnswer (Operation (OpRemove name)) (remove s x now name).result
 unfolding remove
 may_remove s x now name =
-    answers_with (IsAnswer (Operation (OpRemove name))) s x Num.Remove _ _ (refuses_checked _ _ (refuses_checked _ _ (current_refuses s x) (λ d. refl)) (λ d. refl))
+    answers_with (IsAnswer (Operation (OpRemove name))) s x Num.Remove _ _
+    (refuses_checked _ _ (refuses_checked _ _ (current_refuses s x) (λ d. refl)) (λ d. refl))
     (λ status h. record { may = (refl, rw (h.done, h.legal) refl, tt); arrays = tt })
     (λ a. record { may = (refl, tt, tt); arrays = tt })
 
@@ -216,9 +219,11 @@ may_create s x now c =
 pub may_get_attr : (s : State) (x : Context) (words : List ℕ) → IsAnswer (Operation (OpGetAttr words)) (get_attr s x words).result
 unfolding get_attr
 may_get_attr s x words =
-    answers_with (IsAnswer (Operation (OpGetAttr words))) s x Num.GetAttr _ _ (refuses_checked (current s x) (mask_checks words) (current_refuses s x) (λ d. refl))
+    answers_with (IsAnswer (Operation (OpGetAttr words))) s x Num.GetAttr _ _
+    (refuses_checked (current s x) (mask_checks words) (current_refuses s x) (λ d. refl))
     (λ status h. record { may = (refl, rw (h.done, h.legal) refl, tt); arrays = tt })
-    (λ d. (let few = attributes_within (mask_of words) (about s d) d.object in record { may = (refl, omega arith, (told_few (mask_of words) readable, omega arith)); arrays = tt }))
+    (λ d. (let few = attributes_within (mask_of words) (about s d) d.object in
+    record { may = (refl, omega arith, (told_few (mask_of words) readable, omega arith)); arrays = tt }))
 
 pub may_get_fh : (s : State) (x : Context) → IsAnswer (Operation OpGetFh) (get_fh s x).result
 unfolding get_fh
@@ -234,7 +239,8 @@ may_read_link s x =
     (λ status h. record { may = (refl, rw (h.done, h.legal) refl, tt); arrays = tt })
     (λ d. (let few = part_few s.tree d.number most_text in record { may = (refl, omega arith, few); arrays = tt }))
 
-renamed_may : (s : State) (x : Context) (now : Time) (a : args.Rename) (p : Pair) (b : Bool) → IsAnswer (Operation (OpRename a)) (cond b (moved s x now a p) (unmoved s x p)).result
+renamed_may : (s : State) (x : Context) (now : Time) (a : args.Rename) (p : Pair) (b : Bool)
+    → IsAnswer (Operation (OpRename a)) (cond b (moved s x now a p) (unmoved s x p)).result
 renamed_may s x now a p true = record { may = (refl, tt, tt); arrays = tt }
 renamed_may s x now a p false = record { may = (refl, tt, tt); arrays = tt }
 
@@ -258,18 +264,22 @@ listed_may s a d le = record { may = (refl, tt, listed_within s a d le); arrays 
 
 pub may_read_dir : (s : State) (x : Context) (a : args.ReadDir) → IsAnswer (Operation (OpReadDir a)) (read_dir s x a).result
 unfolding read_dir
-may_read_dir s x a = by_place (checked (current s x) (listing_checks x a)) (refuses_checked (current s x) (listing_checks x a) (current_refuses s x) (λ d. refl)) (λ d e. large d (checked_ok (current s x) (listing_checks x a) d e).1)
+may_read_dir s x a = by_place (checked (current s x) (listing_checks x a))
+    (refuses_checked (current s x) (listing_checks x a) (current_refuses s x) (λ d. refl))
+    (λ d e. large d (checked_ok (current s x) (listing_checks x a) d e).1)
   where
     large : (d : Held) → first_fault (listing_checks x a d) ≡ None → 16 ≤ a.maxcount
     large d e = ltb-false _ _ (all_passed (listing_checks x a d) e).1.1.1.1.1.0
 
-    by_fault : (d : Held) (o : Option Status) → 16 ≤ a.maxcount → (o ≡ first_fault (entry_checks s a d)) → IsAnswer (Operation (OpReadDir a)) (answers s x Num.ReadDir (passed d o) (λ d. done s x (ResReadDir (listed s a d)))).result
+    by_fault : (d : Held) (o : Option Status) → 16 ≤ a.maxcount → (o ≡ first_fault (entry_checks s a d))
+        → IsAnswer (Operation (OpReadDir a)) (answers s x Num.ReadDir (passed d o) (λ d. done s x (ResReadDir (listed s a d)))).result
     by_fault d o le e =
         answers_with (IsAnswer (Operation (OpReadDir a))) s x Num.ReadDir (passed d o) (λ d. done s x (ResReadDir (listed s a d)))
         (subst (λ o. Refuses (passed d o)) (sym e) (refuses_checked (Ok d) (entry_checks s a) (ok_refuses d) (λ d. refl)))
         (λ status h. record { may = (refl, rw (h.done, h.legal) refl, tt); arrays = tt })
         (λ d. listed_may s a d le)
 
-    by_place : (v : Result Held Status) → Refuses v → ((d : Held) → v ≡ Ok d → 16 ≤ a.maxcount) → IsAnswer (Operation (OpReadDir a)) (answers s x Num.ReadDir (checked v (entry_checks s a)) (λ d. done s x (ResReadDir (listed s a d)))).result
+    by_place : (v : Result Held Status) → Refuses v → ((d : Held) → v ≡ Ok d → 16 ≤ a.maxcount)
+        → IsAnswer (Operation (OpReadDir a)) (answers s x Num.ReadDir (checked v (entry_checks s a)) (λ d. done s x (ResReadDir (listed s a d)))).result
     by_place (Err status) all le = (let h = all.each status refl in record { may = (refl, rw (h.done, h.legal) refl, tt); arrays = tt })
     by_place (Ok d) all le = by_fault d (first_fault (entry_checks s a d)) (le d refl) refl

@@ -9,7 +9,8 @@ use Rattle.nfs_compound.specs.declared.op_num.OpNum.TheVariants as Op
 use Rattle.nfs_compound.specs.NameArgs.{Create, CreateType, Block, Character, Symlink, Other}
 use Rattle.nfs_tree.specs.declared.fault.TreeFault.{TreeFault}
 use Rattle.nfs_tree.specs.declared.fault.TreeFault.TheVariants as F
-use Rattle.nfs_tree.specs.Files.{Files, last_count, most_links, most_objects, is_name, is_there, is_directory_at, has_name, named, has_row, has_entries, links_in, can_change}
+use Rattle.nfs_tree.specs.Files.{Files, last_count, most_links, most_objects, is_name, is_there, is_directory_at, has_name, named, has_row, has_entries}
+use Rattle.nfs_tree.specs.Files.{links_in, can_change}
 use Rattle.nfs_tree.specs.Names.{link_fault, remove_fault}
 use Rattle.nfs_tree.specs.Create.{create_fault, is_bad_text, is_too_big}
 use Rattle.nfs_attrs.specs.declared.wanted.Wanted.{Wanted}
@@ -33,7 +34,8 @@ there_both : (t : Files) (a b : ℕ) → is_there t a ≡ true → is_there t b 
 there_both t a b e h = rw (e, h) refl
 
 -- LINK
-link_rows : (s : State) (x : Context) (name : List ℕ) (p : Pair) → IsHeld s.tree p.current × IsHeld s.tree p.saved → first_fault (of_link.place_checks x name p) ≡ None
+link_rows : (s : State) (x : Context) (name : List ℕ) (p : Pair)
+    → IsHeld s.tree p.current × IsHeld s.tree p.saved → first_fault (of_link.place_checks x name p) ≡ None
     → option_map status_of (link_fault s.tree p.saved.number p.current.number name) ≡ first_fault (of_link.row_checks s name p)
 link_rows s x name p held e =
     let t = s.tree in
@@ -53,14 +55,16 @@ link_found : (s : State) (x : Context) (name : List ℕ) (p : Pair) → checked 
     → option_map status_of (link_fault s.tree p.saved.number p.current.number name) ≡ first_fault (of_link.row_checks s name p)
 link_found s x name p v = let found = checked_ok (both s x) (of_link.place_checks x name) p v in link_rows s x name p (both_is s x p found.0) found.1
 
-pub link_goes : (s : State) (x : Context) (now : Time) (name : List ℕ) (p : Pair) → checked (both s x) (of_link.place_checks x name) ≡ Ok p → link_fault s.tree p.saved.number p.current.number name ≡ None
+pub link_goes : (s : State) (x : Context) (now : Time) (name : List ℕ) (p : Pair)
+    → checked (both s x) (of_link.place_checks x name) ≡ Ok p → link_fault s.tree p.saved.number p.current.number name ≡ None
     → of_link.link s x now name ≡ of_link.linked s x now name p
 unfolding of_link.link
 link_goes s x now name p v none =
     by_last s x Op.Link (checked (both s x) (of_link.place_checks x name)) (of_link.row_checks s name) (of_link.linked s x now name) p v
     (sym (link_found s x name p v) ∙ ap (option_map status_of) none)
 
-pub link_stops : (s : State) (x : Context) (now : Time) (name : List ℕ) (p : Pair) (f : TreeFault) → checked (both s x) (of_link.place_checks x name) ≡ Ok p → link_fault s.tree p.saved.number p.current.number name ≡ Some f
+pub link_stops : (s : State) (x : Context) (now : Time) (name : List ℕ) (p : Pair) (f : TreeFault)
+    → checked (both s x) (of_link.place_checks x name) ≡ Ok p → link_fault s.tree p.saved.number p.current.number name ≡ Some f
     → of_link.link s x now name ≡ refuses s x Op.Link (status_of f)
 unfolding of_link.link
 link_stops s x now name p f v some =
@@ -76,26 +80,31 @@ remove_rows s x name d held e =
     let checks = all_passed (of_remove.place_checks x name d) e in
     let there : not (is_there t d.number) ≡ false = ap not held.there in
     let directory : not (is_directory_at t d.number) ≡ false = ap not held.directory ∙ checks.0 in
-    let tail : List (Bool × TreeFault) = (not (has_name t d.number name), F.NoEnt) ∷ (has_entries t.rows n, F.NotEmpty) ∷ (not (can_change t d.number && can_change t n), F.Counter) ∷ [] in
+    let tail : List (Bool × TreeFault) =
+    (not (has_name t d.number name), F.NoEnt) ∷ (has_entries t.rows n, F.NotEmpty) ∷ (not (can_change t d.number && can_change t n), F.Counter) ∷ [] in
     let same : remove_fault t d.number name ≡ first_fault tail = rw (there, directory) refl in
     ap (option_map status_of) same ∙ fault_map status_of tail
 
 remove_found : (s : State) (x : Context) (name : List ℕ) (d : Held) → checked (current s x) (of_remove.place_checks x name) ≡ Ok d
     → option_map status_of (remove_fault s.tree d.number name) ≡ first_fault (of_remove.row_checks s name d)
-remove_found s x name d v = let found = checked_ok (current s x) (of_remove.place_checks x name) d v in remove_rows s x name d (current_is s x d found.0) found.1
+remove_found s x name d v = let found = checked_ok (current s x) (of_remove.place_checks x name) d v in
+    remove_rows s x name d (current_is s x d found.0) found.1
 
-pub remove_goes : (s : State) (x : Context) (now : Time) (name : List ℕ) (d : Held) → checked (current s x) (of_remove.place_checks x name) ≡ Ok d → remove_fault s.tree d.number name ≡ None
+pub remove_goes : (s : State) (x : Context) (now : Time) (name : List ℕ) (d : Held)
+    → checked (current s x) (of_remove.place_checks x name) ≡ Ok d → remove_fault s.tree d.number name ≡ None
     → of_remove.remove s x now name ≡ of_remove.removed s x now name d
 unfolding of_remove.remove
 remove_goes s x now name d v none =
     by_last s x Op.Remove (checked (current s x) (of_remove.place_checks x name)) (of_remove.row_checks s name) (of_remove.removed s x now name) d v
     (sym (remove_found s x name d v) ∙ ap (option_map status_of) none)
 
-pub remove_stops : (s : State) (x : Context) (now : Time) (name : List ℕ) (d : Held) (f : TreeFault) → checked (current s x) (of_remove.place_checks x name) ≡ Ok d → remove_fault s.tree d.number name ≡ Some f
+pub remove_stops : (s : State) (x : Context) (now : Time) (name : List ℕ) (d : Held) (f : TreeFault)
+    → checked (current s x) (of_remove.place_checks x name) ≡ Ok d → remove_fault s.tree d.number name ≡ Some f
     → of_remove.remove s x now name ≡ refuses s x Op.Remove (status_of f)
 unfolding of_remove.remove
 remove_stops s x now name d f v some =
-    by_refusal s x Op.Remove (checked (current s x) (of_remove.place_checks x name)) (of_remove.row_checks s name) (of_remove.removed s x now name) d (status_of f) v
+    by_refusal s x Op.Remove (checked (current s x) (of_remove.place_checks x name))
+    (of_remove.row_checks s name) (of_remove.removed s x now name) d (status_of f) v
     (sym (remove_found s x name d v) ∙ ap (option_map status_of) some)
 
 -- CREATE
@@ -104,7 +113,8 @@ wanted_ok (Err f) r m e = absurd cc
 wanted_ok (Ok d) (Err f) m e = absurd cc
 wanted_ok (Ok d) (Ok w) m e = let same : record { place = d; wanted = w } ≡ m = cc in ap (λ (m : Making). Ok m.place) same
 
-text_good : (type : CreateType) → of_create.text_is (λ n. n == 0) type ≡ false → of_create.text_is (nat_lt 1024) type ≡ false → is_bad_text (of_create.new_of type) ≡ false
+text_good : (type : CreateType) → of_create.text_is (λ n. n == 0) type ≡ false
+    → of_create.text_is (nat_lt 1024) type ≡ false → is_bad_text (of_create.new_of type) ≡ false
 text_good (Block d) e h = refl
 text_good (Character d) e h = refl
 text_good (Symlink text) e h = ap not (short_list 1024 text e h)
@@ -136,19 +146,22 @@ create_rows s x c m held e =
 create_found : (s : State) (x : Context) (c : Create) (m : Making) → of_create.asked_for s x c ≡ Ok m
     → option_map status_of (create_fault s.tree m.place.number c.objname (of_create.new_of c.objtype)) ≡ first_fault (of_create.row_checks s c.objname m)
 create_found s x c m v =
-    let asked = checked_ok (of_create.with_wanted (checked (current s x) (of_create.place_checks x c)) (of_create.wanted_of c.createattrs)) (of_create.new_checks x) m v in
+    let asked = checked_ok (of_create.with_wanted (checked (current s x) (of_create.place_checks x c)) (of_create.wanted_of c.createattrs))
+    (of_create.new_checks x) m v in
     let place = wanted_ok (checked (current s x) (of_create.place_checks x c)) (of_create.wanted_of c.createattrs) m asked.0 in
     let found = checked_ok (current s x) (of_create.place_checks x c) m.place place in
     create_rows s x c m (current_is s x m.place found.0) found.1
 
-pub create_goes : (s : State) (x : Context) (now : Time) (c : Create) (m : Making) → of_create.asked_for s x c ≡ Ok m → create_fault s.tree m.place.number c.objname (of_create.new_of c.objtype) ≡ None
+pub create_goes : (s : State) (x : Context) (now : Time) (c : Create) (m : Making)
+    → of_create.asked_for s x c ≡ Ok m → create_fault s.tree m.place.number c.objname (of_create.new_of c.objtype) ≡ None
     → of_create.create s x now c ≡ of_create.created s x now c m
 unfolding of_create.create
 create_goes s x now c m v none =
     by_last s x Op.Create (of_create.asked_for s x c) (of_create.row_checks s c.objname) (of_create.created s x now c) m v
     (sym (create_found s x c m v) ∙ ap (option_map status_of) none)
 
-pub create_stops : (s : State) (x : Context) (now : Time) (c : Create) (m : Making) (f : TreeFault) → of_create.asked_for s x c ≡ Ok m → create_fault s.tree m.place.number c.objname (of_create.new_of c.objtype) ≡ Some f
+pub create_stops : (s : State) (x : Context) (now : Time) (c : Create) (m : Making) (f : TreeFault)
+    → of_create.asked_for s x c ≡ Ok m → create_fault s.tree m.place.number c.objname (of_create.new_of c.objtype) ≡ Some f
     → of_create.create s x now c ≡ refuses s x Op.Create (status_of f)
 unfolding of_create.create
 create_stops s x now c m f v some =

@@ -1,5 +1,6 @@
 -- Entries that fit, put one after another.
-use Rattle.std.proofs.Common.{◌≡◌, ℕ, suc, ◌+◌, ◌-◌, ◌<◌, ◌≤◌, Bool, true, false, cond, List, [], ◌∷◌, ◌++◌, length, map, Option, Some, None, refl, sym, ◌∙◌, ap, subst, inl, inr, arith, append_assoc}
+use Rattle.std.proofs.Common.{◌≡◌, ℕ, suc, ◌+◌, ◌-◌, ◌<◌, ◌≤◌, Bool, true, false, cond, List, [], ◌∷◌, ◌++◌, length, map, Option, Some, None, refl, sym, ◌∙◌}
+use Rattle.std.proofs.Common.{ap, subst, inl, inr, arith, append_assoc}
 use Rattle.std.specs.Prelude.{nat_le, ◌==◌, is_some}
 use Rattle.std.specs.List.{flat_map}
 use Rattle.std.proofs.lemmas.List.{length-append, append-nil}
@@ -39,23 +40,28 @@ fits_in room entries = nat_le (length (flat_map entry_text entries)) room
 
 longest_same : {A : Type 0} (p q : List A → Bool) (xs : List A) → ((more : List A) → p more ≡ q more) → longest p xs ≡ longest q xs
 longest_same p q [] same = refl
-longest_same p q (x ∷ xs) same = rw (same (x ∷ [])) (ap (λ (rest : List _). cond (q (x ∷ [])) (x ∷ rest) []) (longest_same (λ more. p (x ∷ more)) (λ more. q (x ∷ more)) xs (λ more. same (x ∷ more))))
+longest_same p q (x ∷ xs) same = rw (same (x ∷ []))
+    (ap (λ (rest : List _). cond (q (x ∷ [])) (x ∷ rest) []) (longest_same (λ more. p (x ∷ more)) (λ more. q (x ∷ more)) xs (λ more. same (x ∷ more))))
 
 le_shift : (a b c : ℕ) → b ≤ c → nat_le (a + b) c ≡ nat_le a (c - b)
 le_shift a b c le = elim (cases_Bool (nat_le a (c - b))) [
   | inl below ↦ (let h : a ≤ c - b = leb-true _ _ below in le-leb (a + b) c (omega arith) ∙ sym below)
-  | inr above ↦ (let h : c - b < a = leb-false _ _ above in false_from_ne_true (nat_le (a + b) c) (λ e. (let k : a + b ≤ c = leb-true _ _ e in absurd (omega arith))) ∙ sym above)
+  | inr above ↦ (let h : c - b < a = leb-false _ _ above in
+      false_from_ne_true (nat_le (a + b) c) (λ e. (let k : a + b ≤ c = leb-true _ _ e in absurd (omega arith))) ∙ sym above)
 ]
 
 -- the room behind the verifier and the flags
 pub fits_shift : (most : ℕ) (xs : List Entry) → 16 ≤ most → longest (fits most) xs ≡ longest (fits_in (most - 16)) xs
 fits_shift most xs le = longest_same (fits most) (fits_in (most - 16)) xs (λ more. le_shift (length (flat_map entry_text more)) 16 most le)
 
-longest_takes : (room : ℕ) (e : Entry) (es : List Entry) → length (entry_text e) ≤ room → longest (fits_in room) (e ∷ es) ≡ e ∷ longest (fits_in (room - length (entry_text e))) es
+longest_takes : (room : ℕ) (e : Entry) (es : List Entry) → length (entry_text e) ≤ room
+    → longest (fits_in room) (e ∷ es) ≡ e ∷ longest (fits_in (room - length (entry_text e))) es
 longest_takes room e es le =
-    let one : fits_in room (e ∷ []) ≡ true = ap (λ (text : List ℕ). nat_le (length text) room) (append-nil (entry_text e)) ∙ le-leb (length (entry_text e)) room le in
+    let one : fits_in room (e ∷ []) ≡ true =
+    ap (λ (text : List ℕ). nat_le (length text) room) (append-nil (entry_text e)) ∙ le-leb (length (entry_text e)) room le in
     rw one (ap (λ rest. e ∷ rest) (longest_same (λ more. fits_in room (e ∷ more)) (fits_in (room - length (entry_text e))) es
-    (λ more. ap (λ n. nat_le n room) (length-append (entry_text e) (flat_map entry_text more) ∙ omega arith) ∙ le_shift (length (flat_map entry_text more)) (length (entry_text e)) room le)))
+    (λ more. ap (λ n. nat_le n room) (length-append (entry_text e) (flat_map entry_text more) ∙ omega arith)
+    ∙ le_shift (length (flat_map entry_text more)) (length (entry_text e)) room le)))
 
 longest_stops : (room : ℕ) (e : Entry) (es : List Entry) → room < length (entry_text e) → longest (fits_in room) (e ∷ es) ≡ []
 longest_stops room e es lt =
@@ -68,17 +74,20 @@ AllThere t xs = (e : Listed) → In e xs → is_some (object_at t e.number) ≡ 
 
 -- how far the entries have come
 pub record Going (t : Files) (entry : Listed → Entry) (first now : Paper) (most room : ℕ) (all left : List Listed) : Type 0 where
-  pub bytes : first.bytes ++ flat_map entry_text (longest (fits_in most) (map entry all)) ≡ now.bytes ++ flat_map entry_text (longest (fits_in room) (map entry left))
+  pub bytes : first.bytes ++ flat_map entry_text (longest (fits_in most) (map entry all))
+      ≡ now.bytes ++ flat_map entry_text (longest (fits_in room) (map entry left))
   pub count : length (longest (fits_in most) (map entry all)) + length left ≡ length (longest (fits_in room) (map entry left)) + length all
   pub there : AllThere t left
   pub space : length now.bytes + room ≡ length first.bytes + most
   pub same : now.room ≡ first.room
   pub fewer : room ≤ most
 
-pub going_starts : (t : Files) (entry : Listed → Entry) (first : Paper) (most : ℕ) (all : List Listed) → AllThere t all → Going t entry first first most most all all
+pub going_starts : (t : Files) (entry : Listed → Entry) (first : Paper) (most : ℕ) (all : List Listed)
+    → AllThere t all → Going t entry first first most most all all
 going_starts t entry first most all there = record { bytes = refl; count = refl; there = there; space = refl; same = refl; fewer = omega arith }
 
-pub going_on : (t : Files) (entry : Listed → Entry) (first mid now : Paper) (most room rest : ℕ) (all left more : List Listed) (e : Listed) → Going t entry first mid most room all left → left ≡ e ∷ more
+pub going_on : (t : Files) (entry : Listed → Entry) (first mid now : Paper) (most room rest : ℕ) (all left more : List Listed) (e : Listed)
+    → Going t entry first mid most room all left → left ≡ e ∷ more
     → PutsWithin true room mid now (entry_text (entry e)) → rest ≡ room - (length now.bytes - length mid.bytes) → Going t entry first now most rest all more
 going_on t entry first mid now most room rest all left more e g front put less =
     let text = entry_text (entry e) in
@@ -86,7 +95,8 @@ going_on t entry first mid now most room rest all left more e g front put less =
     let short = put.0 in
     let room_left : room - length text ≡ rest = omega arith in
     let takes : longest (fits_in room) (map entry left) ≡ entry e ∷ longest (fits_in rest) (map entry more) =
-    ap (λ xs. longest (fits_in room) (map entry xs)) front ∙ longest_takes room (entry e) (map entry more) short ∙ ap (λ n. entry e ∷ longest (fits_in n) (map entry more)) room_left in
+    ap (λ xs. longest (fits_in room) (map entry xs)) front ∙ longest_takes room (entry e) (map entry more) short
+    ∙ ap (λ n. entry e ∷ longest (fits_in n) (map entry more)) room_left in
     let tail = flat_map entry_text (longest (fits_in rest) (map entry more)) in
     let count = g.count in
     let one : length (longest (fits_in room) (map entry left)) ≡ suc (length (longest (fits_in rest) (map entry more))) = ap length takes in
@@ -106,19 +116,25 @@ pub record Ended (entry : Listed → Entry) (first now : Paper) (most : ℕ) (li
   pub put : Puts first now (flat_map entry_text (longest (fits_in most) (map entry listing)))
   pub all : whole ≡ (length (longest (fits_in most) (map entry listing)) == length listing)
 
-pub going_stops : (t : Files) (entry : Listed → Entry) (first mid now : Paper) (most room : ℕ) (all left more : List Listed) (e : Listed) → Going t entry first mid most room all left → left ≡ e ∷ more
+pub going_stops : (t : Files) (entry : Listed → Entry) (first mid now : Paper) (most room : ℕ) (all left more : List Listed) (e : Listed)
+    → Going t entry first mid most room all left → left ≡ e ∷ more
     → PutsWithin false room mid now (entry_text (entry e)) → Ended entry first now most all false
 going_stops t entry first mid now most room all left more e g front put =
-    let none : longest (fits_in room) (map entry left) ≡ [] = ap (λ xs. longest (fits_in room) (map entry xs)) front ∙ longest_stops room (entry e) (map entry more) put.0 in
+    let none : longest (fits_in room) (map entry left) ≡ [] =
+    ap (λ xs. longest (fits_in room) (map entry xs)) front ∙ longest_stops room (entry e) (map entry more) put.0 in
     let count = g.count in
     let zero : length (longest (fits_in room) (map entry left)) ≡ 0 = ap length none in
     let lefts : length left ≡ suc (length more) = ap length front in
     record {
-      put = record { bytes = ap (λ (p : Paper). p.bytes) put.1 ∙ sym (g.bytes ∙ ap (λ xs. mid.bytes ++ flat_map entry_text xs) none ∙ append-nil mid.bytes); room = ap (λ (p : Paper). p.room) put.1 ∙ g.same };
+      put = record {
+        bytes = ap (λ (p : Paper). p.bytes) put.1 ∙ sym (g.bytes ∙ ap (λ xs. mid.bytes ++ flat_map entry_text xs) none ∙ append-nil mid.bytes);
+        room = ap (λ (p : Paper). p.room) put.1 ∙ g.same;
+      };
       all = sym (ne_eqb (length (longest (fits_in most) (map entry all))) (length all) (λ h. omega arith));
     }
 
-pub going_ends : (t : Files) (entry : Listed → Entry) (first now : Paper) (most room : ℕ) (all left : List Listed) → Going t entry first now most room all left → left ≡ [] → Ended entry first now most all true
+pub going_ends : (t : Files) (entry : Listed → Entry) (first now : Paper) (most room : ℕ) (all left : List Listed)
+    → Going t entry first now most room all left → left ≡ [] → Ended entry first now most all true
 going_ends t entry first now most room all left g none =
     let empty : longest (fits_in room) (map entry left) ≡ [] = ap (λ xs. longest (fits_in room) (map entry xs)) none in
     let count = g.count in
@@ -154,11 +170,13 @@ listed_there t d cookie is e there =
     some_object : (t : Files) (n : ℕ) → is_there t n ≡ true → is_some (object_at t n) ≡ true
     some_object t n e = some_by (stored_in t.objects n) e
 
-pub entry_parts : (s : State) (asked : Mask) (e : Listed) (o : Object) (a : About) → Some o ≡ object_at s.tree e.number → a ≡ about s (record { number = e.number; object = o })
+pub entry_parts : (s : State) (asked : Mask) (e : Listed) (o : Object) (a : About)
+    → Some o ≡ object_at s.tree e.number → a ≡ about s (record { number = e.number; object = o })
     → entry_text (entry_of s asked e) ≡ entry_head e.cookie e.name ++ spell_attrs asked a o
 entry_parts s asked e o a is told = entry_is s asked e o (sym is) ∙ ap (λ a. entry_head e.cookie e.name ++ spell_attrs asked a o) (sym told)
 
-pub entry_length : (s : State) (asked : Mask) (e : Listed) (o : Object) (a : About) (n : ℕ) → Some o ≡ object_at s.tree e.number → a ≡ about s (record { number = e.number; object = o })
+pub entry_length : (s : State) (asked : Mask) (e : Listed) (o : Object) (a : About) (n : ℕ)
+    → Some o ≡ object_at s.tree e.number → a ≡ about s (record { number = e.number; object = o })
     → n ≡ length (entry_head 0 e.name) + length (spell_attrs asked a o) → length (entry_text (entry_of s asked e)) ≡ n
 entry_length s asked e o a n is told count =
     ap length (entry_parts s asked e o a is told) ∙ length-append (entry_head e.cookie e.name) (spell_attrs asked a o)
@@ -167,16 +185,20 @@ entry_length s asked e o a n is told count =
 pub given_least : (count : ℕ) → 16 ≤ count → 16 ≤ given count
 given_least count le = elim (cases_Bool (nat_lt 65536 count)) [ inl most ↦ rw most (omega arith) | inr few ↦ rw few le ]
 
-pub ended_lists : (s : State) (a : ReadDir) (d : Held) (first now : Paper) (mask : Mask) (g : ℕ) (rest : List Listed) (whole : Bool) → Ended (entry_of s mask) first now (g - 16) rest whole → mask ≡ mask_of a.attr_request → g ≡ given a.maxcount
-    → rest ≡ listing s.tree.rows d.number a.cookie → 16 ≤ a.maxcount → Puts first now (flat_map entry_text (fitting s a d)) × (whole ≡ (length (fitting s a d) == length (left s a d)))
+pub ended_lists : (s : State) (a : ReadDir) (d : Held) (first now : Paper) (mask : Mask) (g : ℕ) (rest : List Listed) (whole : Bool)
+    → Ended (entry_of s mask) first now (g - 16) rest whole → mask ≡ mask_of a.attr_request → g ≡ given a.maxcount
+    → rest ≡ listing s.tree.rows d.number a.cookie → 16 ≤ a.maxcount
+    → Puts first now (flat_map entry_text (fitting s a d)) × (whole ≡ (length (fitting s a d) == length (left s a d)))
 unfolding fitting
 ended_lists s a d first now mask g rest whole e em eg er le =
     let by_mask = subst (λ (m : Mask). Ended (entry_of s m) first now (g - 16) rest whole) em e in
     let by_given = subst (λ (g : ℕ). Ended (entry_of s (mask_of a.attr_request)) first now (g - 16) rest whole) eg by_mask in
     let by_rest : Ended (entry_of s (mask_of a.attr_request)) first now (given a.maxcount - 16) (listing s.tree.rows d.number a.cookie) whole =
     subst (λ (xs : List Listed). Ended (entry_of s (mask_of a.attr_request)) first now (given a.maxcount - 16) xs whole) er by_given in
-    let same : longest (fits (given a.maxcount)) (left s a d) ≡ longest (fits_in (given a.maxcount - 16)) (left s a d) = fits_shift (given a.maxcount) (left s a d) (given_least a.maxcount le) in (
+    let same : longest (fits (given a.maxcount)) (left s a d) ≡ longest (fits_in (given a.maxcount - 16)) (left s a d) =
+    fits_shift (given a.maxcount) (left s a d) (given_least a.maxcount le) in (
       subst (λ (xs : List Entry). Puts first now (flat_map entry_text xs)) (sym same) by_rest.put,
       by_rest.all ∙ ap (λ (xs : List Entry). length xs == length (listing s.tree.rows d.number a.cookie)) (sym same)
-          ∙ ap (λ n. length (longest (fits (given a.maxcount)) (left s a d)) == n) (sym (length_map (entry_of s (mask_of a.attr_request)) (listing s.tree.rows d.number a.cookie))),
+          ∙ ap (λ n. length (longest (fits (given a.maxcount)) (left s a d)) == n)
+          (sym (length_map (entry_of s (mask_of a.attr_request)) (listing s.tree.rows d.number a.cookie))),
     )

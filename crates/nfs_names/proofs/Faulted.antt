@@ -27,11 +27,13 @@ Other f fault = (fault ≡ Some f) × (is_delay (status_of f) ≡ false)
 abbrev Wants : TreeFault → Option TreeFault → Type 0
 Wants f fault = (f ≡ Memory) × (fault ≡ None)
 
-pub does_ok : {A : Type 0} (t : Files) (fault : Option TreeFault) (answer a : A) (after : Files) → Ok a ≡ (does_unless t fault answer after).answer → (fault ≡ None) × (a ≡ answer)
+pub does_ok : {A : Type 0} (t : Files) (fault : Option TreeFault) (answer a : A) (after : Files)
+    → Ok a ≡ (does_unless t fault answer after).answer → (fault ≡ None) × (a ≡ answer)
 does_ok t None answer a after e = (refl, cc)
 does_ok t (Some f) answer a after e = absurd cc
 
-pub does_err : {A : Type 0} (t : Files) (fault : Option TreeFault) (answer : A) (after new : Files) (f : TreeFault) → Err f ≡ (does_unless t fault answer after).answer → new ≡ (does_unless t fault answer after).after
+pub does_err : {A : Type 0} (t : Files) (fault : Option TreeFault) (answer : A) (after new : Files) (f : TreeFault)
+    → Err f ≡ (does_unless t fault answer after).answer → new ≡ (does_unless t fault answer after).after
     → (fault ≡ Some f) × (new ≡ t)
 does_err t None answer after new f e n = absurd cc
 does_err t (Some g) answer after new f e n = (ap Some cc, n)
@@ -40,13 +42,15 @@ wants_none : {A : Type 0} (t : Files) (fault : Option TreeFault) (answer : A) (a
 wants_none t None answer after ok = refl
 wants_none t (Some f) answer after ok = absurd cc
 
-pub done_by_tree : {A : Type 0} (t : Files) (grows : Bool) (fault : Option TreeFault) (answer a : A) (after new : Files) → DoesOrWants t grows (does_unless t fault answer after) (Ok a) new
+pub done_by_tree : {A : Type 0} (t : Files) (grows : Bool) (fault : Option TreeFault) (answer a : A) (after new : Files)
+    → DoesOrWants t grows (does_unless t fault answer after) (Ok a) new
     → (fault ≡ None) × (a ≡ answer) × (new ≡ after)
 done_by_tree t grows fault answer a after new d =
     let parts = does_ok t fault answer a after d.0 in
     (parts.0, parts.1, d.1 ∙ ap (λ o. (does_unless t o answer after).after) parts.0)
 
-pub refused_by_tree : {A : Type 0} (t : Files) (grows : Bool) (fault : Option TreeFault) (answer : A) (after new : Files) (f : TreeFault) → DoesOrWants t grows (does_unless t fault answer after) (Err f) new
+pub refused_by_tree : {A : Type 0} (t : Files) (grows : Bool) (fault : Option TreeFault) (answer : A) (after new : Files) (f : TreeFault)
+    → DoesOrWants t grows (does_unless t fault answer after) (Err f) new
     → (new ≡ t) × (Wants f fault ⊎ Other f fault)
 refused_by_tree t grows fault answer after new NoEnt d = let p = does_err t fault answer after new NoEnt d.0 d.1 in (p.1, inr (p.0, refl))
 refused_by_tree t grows fault answer after new Exist d = let p = does_err t fault answer after new Exist d.0 d.1 in (p.1, inr (p.0, refl))
@@ -61,18 +65,22 @@ refused_by_tree t grows fault answer after new Counter d = let p = does_err t fa
 refused_by_tree t grows fault answer after new Memory d = (d.2, inl (refl, wants_none t fault answer after d.1))
 
 -- what a checked operation comes to by what its last checks say
-pub by_last : {A : Type 0} (s : State) (x : Context) (op : OpNum) (v : Result A Status) (checks : A → List (Bool × Status)) (f : A → Outcome) (a : A) → v ≡ Ok a → first_fault (checks a) ≡ None → answers s x op (checked v checks) f ≡ f a
+pub by_last : {A : Type 0} (s : State) (x : Context) (op : OpNum) (v : Result A Status) (checks : A → List (Bool × Status)) (f : A → Outcome) (a : A)
+    → v ≡ Ok a → first_fault (checks a) ≡ None → answers s x op (checked v checks) f ≡ f a
 by_last s x op v checks f a is none = ap (λ v. answers s x op (checked v checks) f) is ∙ ap (λ o. answers s x op (passed a o) f) none
 
-pub by_refusal : {A : Type 0} (s : State) (x : Context) (op : OpNum) (v : Result A Status) (checks : A → List (Bool × Status)) (f : A → Outcome) (a : A) (status : Status) → v ≡ Ok a → first_fault (checks a) ≡ Some status
+pub by_refusal : {A : Type 0} (s : State) (x : Context) (op : OpNum) (v : Result A Status) (checks : A → List (Bool × Status)) (f : A → Outcome) (a : A)
+    (status : Status) → v ≡ Ok a → first_fault (checks a) ≡ Some status
     → answers s x op (checked v checks) f ≡ refuses s x op status
 by_refusal s x op v checks f a status is some = ap (λ v. answers s x op (checked v checks) f) is ∙ ap (λ o. answers s x op (passed a o) f) some
 
-pub by_error : {A : Type 0} (s : State) (x : Context) (op : OpNum) (v : Result A Status) (checks : A → List (Bool × Status)) (f : A → Outcome) (status : Status) → v ≡ Err status → answers s x op (checked v checks) f ≡ refuses s x op status
+pub by_error : {A : Type 0} (s : State) (x : Context) (op : OpNum) (v : Result A Status) (checks : A → List (Bool × Status)) (f : A → Outcome) (status : Status)
+    → v ≡ Err status → answers s x op (checked v checks) f ≡ refuses s x op status
 by_error s x op v checks f status is = ap (λ v. answers s x op (checked v checks) f) is
 
 pub status_of_refusal : (n : ℕ) (status : Status) → status_of_result (refusal n status) ≡ status
-status_of_refusal n status = elim (eqb n 34) as (λ b. status_of_result (cond b (ResSetAttr status []) (Refused n status)) ≡ status) [ true ↦ refl | false ↦ refl ]
+status_of_refusal n status =
+    elim (eqb n 34) as (λ b. status_of_result (cond b (ResSetAttr status []) (Refused n status)) ≡ status) [ true ↦ refl | false ↦ refl ]
 
 -- where nothing wants memory
 pub not_delayed : (refused : Bool) (s : State) (x : Context) (op : OpNum) (o : Outcome) → refused ≡ false → or_delay refused s x op o ≡ o
@@ -82,37 +90,47 @@ pub delayed : (s : State) (x : Context) (op : OpNum) (o : Outcome) → is_ok o.r
 delayed s x op o ok = ap (λ b. cond b (refuses s x op Delay) o) ok
 
 -- A growing operation whose tree refused: the fault is a check's, or memory was refused where it would have been done.
-pub refused_outcome : (s : State) (x : Context) (op : OpNum) (o g : Outcome) (fault : Option TreeFault) (f : TreeFault) → (fault ≡ None → o ≡ g) → (fault ≡ Some f → o ≡ refuses s x op (status_of f)) → is_ok g.result ≡ true → Wants f fault ⊎ Other f fault
+pub refused_outcome : (s : State) (x : Context) (op : OpNum) (o g : Outcome) (fault : Option TreeFault) (f : TreeFault)
+    → (fault ≡ None → o ≡ g) → (fault ≡ Some f → o ≡ refuses s x op (status_of f)) → is_ok g.result ≡ true → Wants f fault ⊎ Other f fault
     → refuses s x op (status_of f) ≡ or_delay (is_delay (status_of f)) s x op o
 refused_outcome s x op o g fault f goes stops ok (inl w) =
-    ap (λ f. refuses s x op (status_of f)) w.0 ∙ sym (ap (λ f. or_delay (is_delay (status_of f)) s x op o) w.0 ∙ ap (or_delay true s x op) (goes w.1) ∙ delayed s x op g ok)
+    ap (λ f. refuses s x op (status_of f)) w.0
+    ∙ sym (ap (λ f. or_delay (is_delay (status_of f)) s x op o) w.0 ∙ ap (or_delay true s x op) (goes w.1) ∙ delayed s x op g ok)
 refused_outcome s x op o g fault f goes stops ok (inr other) = sym (not_delayed _ s x op o other.1 ∙ stops other.0)
 
 -- the refusal of a check is answered whether memory was refused or not
-pub judged_refusal : (b : Bool) (s : State) (x : Context) (op : OpNum) (status : Status) → IsRefusal status → or_delay b s x op (refuses s x op status) ≡ refuses s x op status
+pub judged_refusal : (b : Bool) (s : State) (x : Context) (op : OpNum) (status : Status)
+    → IsRefusal status → or_delay b s x op (refuses s x op status) ≡ refuses s x op status
 judged_refusal b s x op status h =
     let bad : is_ok (refusal (op_number op) status) ≡ false = ap (λ r. eqb (status_number r) 0) (status_of_refusal (op_number op) status) ∙ h.done in
     ap (λ k. cond k (refuses s x op Delay) (refuses s x op status)) (and_right b (is_ok (refusal (op_number op) status)) bad)
 
-pub error_outcome : {A : Type 0} (b : Bool) (s : State) (x : Context) (op : OpNum) (v : Result A Status) (checks : A → List (Bool × Status)) (f : A → Outcome) (status : Status) → Refuses v → v ≡ Err status
+pub error_outcome : {A : Type 0} (b : Bool) (s : State) (x : Context) (op : OpNum) (v : Result A Status) (checks : A → List (Bool × Status)) (f : A → Outcome)
+    (status : Status) → Refuses v → v ≡ Err status
     → refuses s x op status ≡ or_delay b s x op (answers s x op (checked v checks) f)
-error_outcome b s x op v checks f status all is = sym (ap (or_delay b s x op) (by_error s x op v checks f status is) ∙ judged_refusal b s x op status (all.each status is))
+error_outcome b s x op v checks f status all is =
+    sym (ap (or_delay b s x op) (by_error s x op v checks f status is) ∙ judged_refusal b s x op status (all.each status is))
 
 -- the outcome of a refusal that the code made
 pub told_refusal : (s : State) (t : Files) (x : Context) (op : OpNum) (o : Outcome) (r : Res) (status : Status) → r ≡ refusal (op_number op) status → t ≡ s.tree
-    → refuses s x op status ≡ or_delay (is_delay status) s x op o → record { result = r; state = with_tree s t; context = x } ≡ or_delay (is_delay (status_of_result r)) s x op o
+    → refuses s x op status ≡ or_delay (is_delay status) s x op o
+    → record { result = r; state = with_tree s t; context = x } ≡ or_delay (is_delay (status_of_result r)) s x op o
 told_refusal s t x op o r status is same e =
     let with_result : Res → Files → Outcome = λ r t. record { result = r; state = with_tree s t; context = x } in
     ap (λ r. with_result r t) is ∙ ap (with_result (refusal (op_number op) status)) same ∙ e
-    ∙ sym (ap (λ r. or_delay (is_delay (status_of_result r)) s x op o) is ∙ ap (λ st. or_delay (is_delay st) s x op o) (status_of_refusal (op_number op) status))
+    ∙ sym (ap (λ r. or_delay (is_delay (status_of_result r)) s x op o) is
+    ∙ ap (λ st. or_delay (is_delay st) s x op o) (status_of_refusal (op_number op) status))
 
 -- the same, where an operation wants memory only if it grows
-pub told_refusal_by : (g : Bool) (s : State) (t : Files) (x : Context) (op : OpNum) (o : Outcome) (r : Res) (status : Status) → r ≡ refusal (op_number op) status → t ≡ s.tree
-    → refuses s x op status ≡ or_delay (g && is_delay status) s x op o → record { result = r; state = with_tree s t; context = x } ≡ or_delay (g && is_delay (status_of_result r)) s x op o
+pub told_refusal_by : (g : Bool) (s : State) (t : Files) (x : Context) (op : OpNum) (o : Outcome) (r : Res) (status : Status)
+    → r ≡ refusal (op_number op) status → t ≡ s.tree
+    → refuses s x op status ≡ or_delay (g && is_delay status) s x op o
+    → record { result = r; state = with_tree s t; context = x } ≡ or_delay (g && is_delay (status_of_result r)) s x op o
 told_refusal_by g s t x op o r status is same e =
     let with_result : Res → Files → Outcome = λ r t. record { result = r; state = with_tree s t; context = x } in
     ap (λ r. with_result r t) is ∙ ap (with_result (refusal (op_number op) status)) same ∙ e
-    ∙ sym (ap (λ r. or_delay (g && is_delay (status_of_result r)) s x op o) is ∙ ap (λ st. or_delay (g && is_delay st) s x op o) (status_of_refusal (op_number op) status))
+    ∙ sym (ap (λ r. or_delay (g && is_delay (status_of_result r)) s x op o) is
+    ∙ ap (λ st. or_delay (g && is_delay st) s x op o) (status_of_refusal (op_number op) status))
 
 -- what a refused tree tells, whatever it would have done
 abbrev Wanted : {A : Type 0} → Files → Bool → Did A → Files → TreeFault → Type 0
@@ -121,7 +139,8 @@ Wanted t grows did new f = (f ≡ Memory) × (grows ≡ true) × IsOk did.answer
 abbrev Told : {A : Type 0} → Did A → Files → TreeFault → Type 0
 Told did new f = (is_delay (status_of f) ≡ false) × (Err f ≡ did.answer) × (new ≡ did.after)
 
-pub refused_by_did : {A : Type 0} (t : Files) (grows : Bool) (did : Did A) (new : Files) (f : TreeFault) → DoesOrWants t grows did (Err f) new → Wanted t grows did new f ⊎ Told did new f
+pub refused_by_did : {A : Type 0} (t : Files) (grows : Bool) (did : Did A) (new : Files) (f : TreeFault)
+    → DoesOrWants t grows did (Err f) new → Wanted t grows did new f ⊎ Told did new f
 refused_by_did t grows did new NoEnt d = inr (refl, d.0, d.1)
 refused_by_did t grows did new Exist d = inr (refl, d.0, d.1)
 refused_by_did t grows did new NotDir d = inr (refl, d.0, d.1)
@@ -134,7 +153,8 @@ refused_by_did t grows did new Mlink d = inr (refl, d.0, d.1)
 refused_by_did t grows did new Counter d = inr (refl, d.0, d.1)
 refused_by_did t grows did new Memory d = inl (refl, d.0, d.1, d.2)
 
-pub did_ok : {A : Type 0} (t : Files) (fault : Option TreeFault) (answer a : A) (after new : Files) → Ok a ≡ (does_unless t fault answer after).answer → new ≡ (does_unless t fault answer after).after
+pub did_ok : {A : Type 0} (t : Files) (fault : Option TreeFault) (answer a : A) (after new : Files)
+    → Ok a ≡ (does_unless t fault answer after).answer → new ≡ (does_unless t fault answer after).after
     → (fault ≡ None) × (a ≡ answer) × (new ≡ after)
 did_ok t fault answer a after new e n =
     let parts = does_ok t fault answer a after e in

@@ -21,7 +21,8 @@ passed_ok b a None e = (cc, refl)
 passed_ok b a (Some status) e = absurd cc
 
 -- what passed its checks was found
-pub checked_ok : {A : Type 0} (v : Result A Status) (checks : A → List (Bool × Status)) (a : A) → checked v checks ≡ Ok a → (v ≡ Ok a) × (first_fault (checks a) ≡ None)
+pub checked_ok : {A : Type 0} (v : Result A Status) (checks : A → List (Bool × Status)) (a : A)
+    → checked v checks ≡ Ok a → (v ≡ Ok a) × (first_fault (checks a) ≡ None)
 checked_ok (Err status) checks a e = absurd cc
 checked_ok (Ok b) checks a e =
     let p = passed_ok b a (first_fault (checks b)) e in
@@ -41,7 +42,11 @@ is_held t d e = by_stored (stored_in t.objects d.number) refl
     by_stored (Some w) h =
         let found : Some w.object ≡ Some d.object = rw h at e in
         let same : w.object ≡ d.object = cc in
-        record { there = ap is_some h; directory = ap (λ o. option_map_or (λ (s : Stored). is_directory s.object.kind) o false) h ∙ ap (λ (o : Object). is_directory o.kind) same; object = e }
+        record {
+          there = ap is_some h;
+          directory = ap (λ o. option_map_or (λ (s : Stored). is_directory s.object.kind) o false) h ∙ ap (λ (o : Object). is_directory o.kind) same;
+          object = e;
+        }
 
 held_by : (t : Files) (n : ℕ) (o : Option Object) (d : Held) → object_at t n ≡ o → held_as n o ≡ Ok d → IsHeld t d
 held_by t n None d is e = absurd cc
@@ -57,19 +62,22 @@ pub current_is : (s : State) (x : Context) (d : Held) → current s x ≡ Ok d �
 unfolding current
 current_is s x d e = held_is s x.current d e
 
-paired_is : (t : Files) (d : Held) (v : Result Held Status) (p : Pair) → IsHeld t d → ((e : Held) → v ≡ Ok e → IsHeld t e) → paired d v ≡ Ok p → IsHeld t p.current × IsHeld t p.saved
+paired_is : (t : Files) (d : Held) (v : Result Held Status) (p : Pair) → IsHeld t d
+    → ((e : Held) → v ≡ Ok e → IsHeld t e) → paired d v ≡ Ok p → IsHeld t p.current × IsHeld t p.saved
 paired_is t d (Err status) p one other e = absurd cc
 paired_is t d (Ok h) p one other e =
     let same : record { current = d; saved = h } ≡ p = cc in
     (subst (λ (q : Pair). IsHeld t q.current) same one, subst (λ (q : Pair). IsHeld t q.saved) same (other h refl))
 
-both_is_of : (t : Files) (v w : Result Held Status) (p : Pair) → ((e : Held) → v ≡ Ok e → IsHeld t e) → ((e : Held) → w ≡ Ok e → IsHeld t e) → both_of v w ≡ Ok p → IsHeld t p.current × IsHeld t p.saved
+both_is_of : (t : Files) (v w : Result Held Status) (p : Pair) → ((e : Held) → v ≡ Ok e → IsHeld t e)
+    → ((e : Held) → w ≡ Ok e → IsHeld t e) → both_of v w ≡ Ok p → IsHeld t p.current × IsHeld t p.saved
 both_is_of t (Err status) w p one other e = absurd cc
 both_is_of t (Ok d) w p one other e = paired_is t d w p (one d refl) other e
 
 pub both_is : (s : State) (x : Context) (p : Pair) → both s x ≡ Ok p → IsHeld s.tree p.current × IsHeld s.tree p.saved
 unfolding both current
-both_is s x p e = both_is_of s.tree (held s x.current) (held s (saved_object x.saved)) p (λ d h. held_is s x.current d h) (λ d h. held_is s (saved_object x.saved) d h) e
+both_is s x p e = both_is_of s.tree (held s x.current) (held s (saved_object x.saved)) p
+    (λ d h. held_is s x.current d h) (λ d h. held_is s (saved_object x.saved) d h) e
 
 -- neither empty nor longer than so many bytes
 pub short_list : (most : ℕ) (xs : List ℕ) → (length xs == 0) ≡ false → nat_lt most (length xs) ≡ false → nat_lt 0 (length xs) && nat_le (length xs) most ≡ true
@@ -92,7 +100,8 @@ judged_ok None u e = refl
 judged_ok (Some g) u e = absurd cc
 
 -- a check that fails stops what was found
-pub stopped : {A : Type 0} (v : Result A Status) (checks : A → List (Bool × Status)) (a : A) (f : Status) → v ≡ Ok a → first_fault (checks a) ≡ Some f → checked v checks ≡ Err f
+pub stopped : {A : Type 0} (v : Result A Status) (checks : A → List (Bool × Status)) (a : A) (f : Status)
+    → v ≡ Ok a → first_fault (checks a) ≡ Some f → checked v checks ≡ Err f
 stopped v checks a f is some = ap (λ v. checked v checks) is ∙ ap (passed a) some
 
 -- faults behind a name's

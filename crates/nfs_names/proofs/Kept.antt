@@ -10,7 +10,8 @@ use Rattle.nfs_tree.specs.declared.row.Row.{Row}
 use Rattle.nfs_tree.specs.declared.sets.Sets.{Sets}
 use Rattle.nfs_tree.specs.declared.stored.Stored.{Stored}
 use Rattle.nfs_tree.specs.Object.{is_directory, is_regular, modified, no_sets}
-use Rattle.nfs_tree.specs.Files.{Files, root, stored_in, is_there, is_directory_at, is_regular_at, is_entry, entry, named, lookup, has_row, has_entries, with_changed, with_entries_changed, with_links_changed, change_at, without_entry}
+use Rattle.nfs_tree.specs.Files.{Files, root, stored_in, is_there, is_directory_at, is_regular_at, is_entry, entry, named, lookup, has_row, has_entries}
+use Rattle.nfs_tree.specs.Files.{with_changed, with_entries_changed, with_links_changed, change_at, without_entry}
 use Rattle.nfs_tree.specs.Create.{New, with_new, new_object, data_of}
 use Rattle.nfs_tree.specs.Names.{with_link, without_name, forget, Move, moved_object, replaced_object, with_both_changed, with_moved}
 use Rattle.nfs_tree.specs.Walks.{In}
@@ -25,20 +26,23 @@ use Rattle.nfs_names.specs.Rename.{without_replaced}
 abbrev pub kind_in : List Stored → ℕ → Option FileType
 kind_in objects n = option_map (λ s. s.object.kind) (stored_in objects n)
 
-kind_by : (f : Stored → Stored) → ((s : Stored) → (f s).object.kind ≡ s.object.kind) → (o : Option Stored) → option_map (λ (s : Stored). s.object.kind) (option_map f o) ≡ option_map (λ s. s.object.kind) o
+kind_by : (f : Stored → Stored) → ((s : Stored) → (f s).object.kind ≡ s.object.kind) → (o : Option Stored)
+    → option_map (λ (s : Stored). s.object.kind) (option_map f o) ≡ option_map (λ s. s.object.kind) o
 kind_by f same None = refl
 kind_by f same (Some s) = ap Some (same s)
 
 pub kind_changed : (objects : List Stored) (m n : ℕ) (now : Time) (sets : Sets) → kind_in (with_changed m now sets objects) n ≡ kind_in objects n
 kind_changed objects m n now sets =
     let keeps = keeps_changed m now sets objects in
-    ap (option_map (λ (s : Stored). s.object.kind)) (stored_map objects (change_at m now sets) n keeps.number) ∙ kind_by (change_at m now sets) keeps.kind (stored_in objects n)
+    ap (option_map (λ (s : Stored). s.object.kind)) (stored_map objects (change_at m now sets) n keeps.number)
+    ∙ kind_by (change_at m now sets) keeps.kind (stored_in objects n)
 
 there_is : (o : Option Stored) → is_some o ≡ is_some (option_map (λ (s : Stored). s.object.kind) o)
 there_is None = refl
 there_is (Some s) = refl
 
-test_is : (test : FileType → Bool) (o : Option Stored) → option_map_or (λ (s : Stored). test s.object.kind) o false ≡ option_map_or test (option_map (λ (s : Stored). s.object.kind) o) false
+test_is : (test : FileType → Bool) (o : Option Stored)
+    → option_map_or (λ (s : Stored). test s.object.kind) o false ≡ option_map_or test (option_map (λ (s : Stored). s.object.kind) o) false
 test_is test None = refl
 test_is test (Some s) = refl
 
@@ -61,7 +65,8 @@ one_kind Kind.Regular e = absurd cc
 one_kind Kind.Directory e = refl
 one_kind Kind.Link e = absurd cc
 
-no_file : (o : Option Stored) → option_map_or (λ (s : Stored). is_directory s.object.kind) o false ≡ true → option_map_or (λ (s : Stored). is_regular s.object.kind) o false ≡ false
+no_file : (o : Option Stored) → option_map_or (λ (s : Stored). is_directory s.object.kind) o false ≡ true
+    → option_map_or (λ (s : Stored). is_regular s.object.kind) o false ≡ false
 no_file None e = refl
 no_file (Some s) e = one_kind s.object.kind e
 
@@ -111,18 +116,22 @@ unused_empty s n is all unused = elim (cases_Bool (has_entries s.tree.rows n)) [
     reached false false o e = absurd cc
 
 -- objects of the same types, whose rows stay but for one object's
-pub but_by : (s : State) (u : Files) (n : ℕ) → ((m : ℕ) → kind_in u.objects m ≡ kind_in s.tree.objects m) → ((m : ℕ) → m ≢ n → has_row s.tree.rows m ≡ true → has_row u.rows m ≡ true)
+pub but_by : (s : State) (u : Files) (n : ℕ) → ((m : ℕ) → kind_in u.objects m ≡ kind_in s.tree.objects m)
+    → ((m : ℕ) → m ≢ n → has_row s.tree.rows m ≡ true → has_row u.rows m ≡ true)
     → IsStore s → IsStoreBut (with_tree s u) n
 but_by s u n kinds rows is = record {
-  used = λ m other there. used_by (m == root) (has_row s.tree.rows m) (has_row u.rows m) (is_open s m) (rows m other) (is.used m (sym (there_same u.objects s.tree.objects m (kinds m)) ∙ there));
+  used = λ m other there. used_by (m == root) (has_row s.tree.rows m) (has_row u.rows m) (is_open s m)
+      (rows m other) (is.used m (sym (there_same u.objects s.tree.objects m (kinds m)) ∙ there));
   files = λ m stands. regular_same u s.tree m (kinds m) ∙ is.files m stands;
 }
 
 -- objects of the same types, whose rows stay
-pub store_by : (s : State) (u : Files) → ((m : ℕ) → kind_in u.objects m ≡ kind_in s.tree.objects m) → ((m : ℕ) → has_row s.tree.rows m ≡ true → has_row u.rows m ≡ true)
+pub store_by : (s : State) (u : Files) → ((m : ℕ) → kind_in u.objects m ≡ kind_in s.tree.objects m)
+    → ((m : ℕ) → has_row s.tree.rows m ≡ true → has_row u.rows m ≡ true)
     → IsStore s → IsStore (with_tree s u)
 store_by s u kinds rows is = record {
-  used = λ m there. used_by (m == root) (has_row s.tree.rows m) (has_row u.rows m) (is_open s m) (rows m) (is.used m (sym (there_same u.objects s.tree.objects m (kinds m)) ∙ there));
+  used = λ m there. used_by (m == root) (has_row s.tree.rows m) (has_row u.rows m) (is_open s m)
+      (rows m) (is.used m (sym (there_same u.objects s.tree.objects m (kinds m)) ∙ there));
   files = λ m stands. regular_same u s.tree m (kinds m) ∙ is.files m stands;
 }
 
@@ -160,7 +169,8 @@ rooted_without s n is = elim (cases_Bool (is_used s n)) [ inl stays ↦ rw stays
   where
     left : IsRooted (forget s.tree n)
     left m dir = elim (cases_eq m n) [
-      | inl same ↦ absurd (false≢true (sym (ap (λ k. is_directory_at (forget s.tree n) k) same ∙ ap (λ o. option_map_or (λ (s : Stored). is_directory s.object.kind) o false) (lost s.tree.objects n)) ∙ dir))
+      | inl same ↦ absurd (false≢true (sym (ap (λ k. is_directory_at (forget s.tree n) k) same
+          ∙ ap (λ o. option_map_or (λ (s : Stored). is_directory s.object.kind) o false) (lost s.tree.objects n)) ∙ dir))
       | inr other ↦ is m (sym (test_same is_directory (forget s.tree n).objects s.tree.objects m (kind_dropped s.tree.objects n m other)) ∙ dir)
     ]
 
@@ -180,7 +190,8 @@ row_pushed rows to n e =
 row_last : (rows : List Row) (to : Row) (n : ℕ) → to.object ≡ n → has_row (rows ++ to ∷ []) n ≡ true
 row_last rows to n is = any_in (λ (r : Row). r.object == n) (rows ++ to ∷ []) to (last_in rows to) (eq-eqb to.object n is)
 
-row_kept : (t : Files) (d : ℕ) (name : List ℕ) (m : ℕ) → IsTree t → m ≢ named t d name → has_row t.rows m ≡ true → has_row (without_entry d name t.rows) m ≡ true
+row_kept : (t : Files) (d : ℕ) (name : List ℕ) (m : ℕ) → IsTree t → m ≢ named t d name
+    → has_row t.rows m ≡ true → has_row (without_entry d name t.rows) m ≡ true
 row_kept t d name m is other some =
     let r = in_any (λ (r : Row). r.object == m) t.rows some in
     let object : r.0.object ≡ m = eqb-true _ _ r.2 in
@@ -195,7 +206,8 @@ stored_other : (xs : List Stored) (x : Stored) (n : ℕ) → x.number ≢ n → 
 stored_other [] x n other = rw (ne_eqb x.number n other) refl
 stored_other (y ∷ ys) x n other = elim (cases_Bool (y.number == n)) [ inl here ↦ rw here refl | inr gone ↦ rw gone (stored_other ys x n other) ]
 
-pub store_new : (s : State) (d : ℕ) (name : List ℕ) (new : New) (sets : Sets) (now : Time) → IsStore s → IsStore (with_tree s (with_new s.tree d name new sets now))
+pub store_new : (s : State) (d : ℕ) (name : List ℕ) (new : New) (sets : Sets) (now : Time)
+    → IsStore s → IsStore (with_tree s (with_new s.tree d name new sets now))
 store_new s d name new sets now is =
     let t = s.tree in
     let u = with_new t d name new sets now in
@@ -225,30 +237,37 @@ store_link s n d name now is =
     (λ m. row_pushed t.rows (record { directory = d; name = name; object = n; cookie = t.last_cookie + 1 }) m) is
 
 -- REMOVE
-pub store_removed : (s : State) (d : ℕ) (name : List ℕ) (now : Time) → IsTree s.tree → IsStore s → IsStore (without_unused (with_tree s (without_name s.tree d name now)) (named s.tree d name))
+pub store_removed : (s : State) (d : ℕ) (name : List ℕ) (now : Time) → IsTree s.tree → IsStore s
+    → IsStore (without_unused (with_tree s (without_name s.tree d name now)) (named s.tree d name))
 store_removed s d name now tree is =
     let t = s.tree in
     let n = named t d name in
     store_without (with_tree s (without_name t d name now)) n
-    (but_by s (without_name t d name now) n (λ m. kind_changed (with_entries_changed d now t.objects) n m now no_sets ∙ kind_changed t.objects d m now (modified now no_sets)) (λ m. row_kept t d name m tree) is)
+    (but_by s (without_name t d name now) n
+    (λ m. kind_changed (with_entries_changed d now t.objects) n m now no_sets ∙ kind_changed t.objects d m now (modified now no_sets))
+    (λ m. row_kept t d name m tree) is)
 
 -- RENAME: a row goes with its entry, or comes again under its new name
 kind_both : (objects : List Stored) (a b n : ℕ) (now : Time) → kind_in (with_both_changed a b now objects) n ≡ kind_in objects n
 kind_both objects a b n now = elim (cases_Bool (a == b)) [
   | inl same ↦ rw same (kind_changed objects a n now (modified now no_sets))
-  | inr other ↦ rw other (kind_changed (with_entries_changed a now objects) b n now (modified now no_sets) ∙ kind_changed objects a n now (modified now no_sets))
+  | inr other ↦ rw other
+      (kind_changed (with_entries_changed a now objects) b n now (modified now no_sets) ∙ kind_changed objects a n now (modified now no_sets))
 ]
 
 kind_moved : (t : Files) (m : Move) (now : Time) (k : ℕ) → kind_in (with_moved t m now).objects k ≡ kind_in t.objects k
-kind_moved t m now k = kind_both (with_links_changed (replaced_object t m) now t.objects) m.source m.target k now ∙ kind_changed t.objects (replaced_object t m) k now no_sets
+kind_moved t m now k = kind_both (with_links_changed (replaced_object t m) now t.objects) m.source m.target k now
+    ∙ kind_changed t.objects (replaced_object t m) k now no_sets
 
-row_moved : (t : Files) (m : Move) (now : Time) (k : ℕ) → IsTree t → ((r : Row) → In r t.rows → is_entry m.target m.name r ≡ true → r.object ≢ k) → has_row t.rows k ≡ true → has_row (with_moved t m now).rows k ≡ true
+row_moved : (t : Files) (m : Move) (now : Time) (k : ℕ) → IsTree t → ((r : Row) → In r t.rows → is_entry m.target m.name r ≡ true → r.object ≢ k)
+    → has_row t.rows k ≡ true → has_row (with_moved t m now).rows k ≡ true
 row_moved t m now k is free some =
     let r = in_any (λ (r : Row). r.object == k) t.rows some in
     let object : r.0.object ≡ k = eqb-true _ _ r.2 in
     let rest = without_entry m.source m.old (without_entry m.target m.name t.rows) in
     let row : Row = record { directory = m.target; name = m.name; object = moved_object t m; cookie = t.last_cookie + 1 } in
-    let stays : is_entry m.target m.name r.0 ≡ false = elim (cases_Bool (is_entry m.target m.name r.0)) [ inl goes ↦ absurd (free r.0 r.1 goes object) | inr stays ↦ stays ] in
+    let stays : is_entry m.target m.name r.0 ≡ false =
+    elim (cases_Bool (is_entry m.target m.name r.0)) [ inl goes ↦ absurd (free r.0 r.1 goes object) | inr stays ↦ stays ] in
     elim (cases_Bool (is_entry m.source m.old r.0)) [
       | inl moves ↦ row_last rest row k (sym (entry_names t m.source m.old is r.0 r.1 moves) ∙ object)
       | inr apart ↦ any_in (λ (r : Row). r.object == k) (rest ++ row ∷ []) r.0
@@ -257,10 +276,12 @@ row_moved t m now k is free some =
           (filter_in (λ q. not (is_entry m.target m.name q)) t.rows r.0 r.1 (rw stays refl)) (rw apart refl))) r.2
     ]
 
-pub store_moved : (s : State) (m : Move) (now : Time) → IsTree s.tree → IsStore s → IsStore (without_replaced (with_tree s (with_moved s.tree m now)) (lookup s.tree m.target m.name))
+pub store_moved : (s : State) (m : Move) (now : Time) → IsTree s.tree → IsStore s
+    → IsStore (without_replaced (with_tree s (with_moved s.tree m now)) (lookup s.tree m.target m.name))
 store_moved s m now tree is = by_entry (entry s.tree.rows m.target m.name) refl
   where
-    by_entry : (o : Option Row) → entry s.tree.rows m.target m.name ≡ o → IsStore (without_replaced (with_tree s (with_moved s.tree m now)) (lookup s.tree m.target m.name))
+    by_entry : (o : Option Row) → entry s.tree.rows m.target m.name ≡ o
+        → IsStore (without_replaced (with_tree s (with_moved s.tree m now)) (lookup s.tree m.target m.name))
     by_entry None h =
         let none : lookup s.tree m.target m.name ≡ None = ap (option_map (λ (r : Row). r.object)) h in
         subst (λ (o : Option ℕ). IsStore (without_replaced (with_tree s (with_moved s.tree m now)) o)) (sym none)

@@ -1,9 +1,11 @@
 -- A listing is put whole, or refused where no entry fits.
-use Rattle.std.proofs.Common.{◌≡◌, ℕ, ◌+◌, ◌<◌, ◌≤◌, Bool, true, false, List, [], ◌∷◌, ◌++◌, length, take, Option, Some, None, refl, sym, ◌∙◌, ap, subst, inl, inr, arith}
+use Rattle.std.proofs.Common.{◌≡◌, ℕ, ◌+◌, ◌<◌, ◌≤◌, Bool, true, false, List, [], ◌∷◌, ◌++◌, length, take, Option, Some, None, refl, sym, ◌∙◌, ap, subst, inl}
+use Rattle.std.proofs.Common.{inr, arith}
 use Rattle.std.specs.Prelude.{nat_lt, ◌==◌, ◌&&◌, Ok}
 use Rattle.std.specs.List.{flat_map}
 use Rattle.std.proofs.lemmas.List.{length-append}
-use Rattle.std.proofs.lemmas.Bool.{cases_Bool, leb-true, le-leb, lt-ltb, eq-eqb, eqb-true, and_right, and_left, and_from, false_from_ne_true, false≢true, eqb-false}
+use Rattle.std.proofs.lemmas.Bool.{cases_Bool, leb-true, le-leb, lt-ltb, eq-eqb, eqb-true, and_right, and_left, and_from, false_from_ne_true, false≢true}
+use Rattle.std.proofs.lemmas.Bool.{eqb-false}
 use Rattle.nfs_xdr.specs.Checks.{first_fault}
 use Rattle.nfs_xdr.specs.Paper.{Paper, Puts}
 use Rattle.nfs_xdr.specs.declared.status.Status.{Status}
@@ -52,11 +54,13 @@ no_text (x ∷ es) e =
     let one = length-append (entry_head x.cookie x.name) (fattr.spell x.attrs) in
     absurd (omega arith)
 
-pub too_small : (s : State) (a : ReadDir) (d : Held) → false ≡ (length (fitting s a d) == length (left s a d)) → length (flat_map entry_text (fitting s a d)) ≡ 0 → first_fault (entry_checks s a d) ≡ Some TooSmall
+pub too_small : (s : State) (a : ReadDir) (d : Held) → false ≡ (length (fitting s a d) == length (left s a d))
+    → length (flat_map entry_text (fitting s a d)) ≡ 0 → first_fault (entry_checks s a d) ≡ Some TooSmall
 too_small s a d part none =
     let empty = no_text (fitting s a d) none in
     let some : 0 < length (left s a d) = elim (cases_Bool (length (left s a d) == 0)) [
-      | inl zero ↦ absurd (let z : length (left s a d) ≡ 0 = eqb-true _ _ zero in false≢true (part ∙ eq-eqb (length (fitting s a d)) (length (left s a d)) (empty ∙ sym z)))
+      | inl zero ↦ absurd
+          (let z : length (left s a d) ≡ 0 = eqb-true _ _ zero in false≢true (part ∙ eq-eqb (length (fitting s a d)) (length (left s a d)) (empty ∙ sym z)))
       | inr more ↦ (let m = eqb-false _ _ more in omega arith)
     ] in
     let both : (nat_lt 0 (length (left s a d)) && (length (fitting s a d) == 0)) ≡ true = and_from _ _ (lt-ltb 0 _ some) (eq-eqb _ _ empty) in
@@ -73,17 +77,20 @@ all_small s a d whole =
 
 pub some_small : (s : State) (a : ReadDir) (d : Held) → (length (flat_map entry_text (fitting s a d)) ≡ 0 → ⊥) → first_fault (entry_checks s a d) ≡ None
 some_small s a d some =
-    let none : (nat_lt 0 (length (left s a d)) && (length (fitting s a d) == 0)) ≡ false = and_right _ _ (false_from_ne_true _ (λ e. some (empty_text (fitting s a d) (eqb-true _ _ e)))) in
+    let none : (nat_lt 0 (length (left s a d)) && (length (fitting s a d) == 0)) ≡ false =
+    and_right _ _ (false_from_ne_true _ (λ e. some (empty_text (fitting s a d) (eqb-true _ _ e)))) in
     rw none refl
   where
     empty_text : (es : List Entry) → length es ≡ 0 → length (flat_map entry_text es) ≡ 0
     empty_text [] e = refl
     empty_text (x ∷ es) e = absurd (omega arith)
 
-pub lists_some : (answer status : Status) (o : Option Status) (entries : ReadDirOk) (old new : Paper) → o ≡ Some status → answer ≡ status → Puts old new (spell_result (refusal 26 status)) → Lists answer o entries old new
+pub lists_some : (answer status : Status) (o : Option Status) (entries : ReadDirOk) (old new : Paper)
+    → o ≡ Some status → answer ≡ status → Puts old new (spell_result (refusal 26 status)) → Lists answer o entries old new
 lists_some answer status o entries old new is same put = subst (λ o. Lists answer o entries old new) (sym is) (same, put)
 
-pub lists_none : (answer : Status) (o : Option Status) (entries : ReadDirOk) (old new : Paper) → o ≡ None → answer ≡ Nfs4Ok → Puts old new (spell_result (ResReadDir entries)) → Lists answer o entries old new
+pub lists_none : (answer : Status) (o : Option Status) (entries : ReadDirOk) (old new : Paper) → o ≡ None
+    → answer ≡ Nfs4Ok → Puts old new (spell_result (ResReadDir entries)) → Lists answer o entries old new
 lists_none answer o entries old new is same put = subst (λ o. Lists answer o entries old new) (sym is) (same, put)
 
 pub front_length : length (read_dir_head zeros) ≡ 16
@@ -94,14 +101,16 @@ end_length true = omega (arith, length-append (number 0) (number 1), length_numb
 end_length false = omega (arith, length-append (number 0) (number 0), length_number 0)
 
 -- what was put behind the old bytes is taken back
-pub taken_back : (old mid last : Paper) (a b : List ℕ) (start : ℕ) → Puts old mid a → Puts mid last b → start ≡ length old.bytes → record { bytes = take start last.bytes; room = last.room } ≡ old
+pub taken_back : (old mid last : Paper) (a b : List ℕ) (start : ℕ) → Puts old mid a → Puts mid last b
+    → start ≡ length old.bytes → record { bytes = take start last.bytes; room = last.room } ≡ old
 taken_back old mid last a b start p q is =
     let whole : last.bytes ≡ old.bytes ++ (a ++ b) = (puts_then p q).bytes in
     let bytes : take start last.bytes ≡ old.bytes = ap (λ n. take n last.bytes) is ∙ ap (take (length old.bytes)) whole ∙ take-append_seam old.bytes (a ++ b) in
     let with_bytes : List ℕ → ℕ → Paper = λ bytes room. record { bytes = bytes; room = room } in
     ap (λ bytes. with_bytes bytes last.room) bytes ∙ ap (with_bytes old.bytes) (q.room ∙ p.room)
 
-pub listed_whole : (s : State) (a : ReadDir) (d : Held) (old mid out new : Paper) (whole : Bool) → Puts old mid (read_dir_head zeros) → Puts mid out (flat_map entry_text (fitting s a d)) → Puts out new (list_end whole)
+pub listed_whole : (s : State) (a : ReadDir) (d : Held) (old mid out new : Paper) (whole : Bool)
+    → Puts old mid (read_dir_head zeros) → Puts mid out (flat_map entry_text (fitting s a d)) → Puts out new (list_end whole)
     → whole ≡ (length (fitting s a d) == length (left s a d)) → Puts old new (spell_result (ResReadDir (listed s a d)))
 listed_whole s a d old mid out new whole p q r eof =
     subst (Puts old new)
@@ -109,14 +118,16 @@ listed_whole s a d old mid out new whole p q r eof =
     (puts_then p (puts_then q r))
 
 -- a listing that was put is what READDIR comes to
-pub listing_comes : (s : State) (x : Context) (a : ReadDir) (d : Held) (answer : Status) (old new : Paper) → checked (current s x) (listing_checks x a) ≡ Ok d → Lists answer (first_fault (entry_checks s a d)) (listed s a d) old new
+pub listing_comes : (s : State) (x : Context) (a : ReadDir) (d : Held) (answer : Status) (old new : Paper)
+    → checked (current s x) (listing_checks x a) ≡ Ok d → Lists answer (first_fault (entry_checks s a d)) (listed s a d) old new
     → Comes (read_dir s x a) old new answer s x
 unfolding read_dir
 listing_comes s x a d answer old new v lists =
     subst (λ v. Comes (answers s x Op.ReadDir (checked v (entry_checks s a)) (λ d. done s x (ResReadDir (listed s a d)))) old new answer s x) (sym v)
     (by_fault (first_fault (entry_checks s a d)) lists)
   where
-    by_fault : (o : Option Status) → Lists answer o (listed s a d) old new → Comes (answers s x Op.ReadDir (passed d o) (λ d. done s x (ResReadDir (listed s a d)))) old new answer s x
+    by_fault : (o : Option Status) → Lists answer o (listed s a d) old new
+        → Comes (answers s x Op.ReadDir (passed d o) (λ d. done s x (ResReadDir (listed s a d)))) old new answer s x
     by_fault None l = record { put = l.1; status = l.0; state = refl; context = refl }
     by_fault (Some status) l = record { put = l.1; status = l.0; state = refl; context = refl }
 

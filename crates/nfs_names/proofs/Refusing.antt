@@ -48,16 +48,19 @@ each_refuses (check ∷ checks) e =
     let here = and_parts _ _ both.0 in
     (record { done = not-true _ here.0; legal = not-true _ here.1 }, each_refuses checks both.1)
 
-pub refuses_checked : {A : Type 0} (v : Result A Status) (checks : A → List (Bool × Status)) → Refuses v → ((a : A) → all_refuse (checks a) ≡ true) → Refuses (checked v checks)
+pub refuses_checked : {A : Type 0} (v : Result A Status) (checks : A → List (Bool × Status))
+    → Refuses v → ((a : A) → all_refuse (checks a) ≡ true) → Refuses (checked v checks)
 refuses_checked (Err g) checks rest all = record { each = λ f e. rest.each f e }
-refuses_checked (Ok a) checks rest all = record { each = λ f e. fault_of (checks a) f (each_refuses (checks a) (all a)) (passed_refuses a (first_fault (checks a)) f e) }
+refuses_checked (Ok a) checks rest all =
+    record { each = λ f e. fault_of (checks a) f (each_refuses (checks a) (all a)) (passed_refuses a (first_fault (checks a)) f e) }
 
 pub refuses_mapped : {A B : Type 0} (f : A → B) (v : Result A Status) → Refuses v → Refuses (mapped f v)
 refuses_mapped f (Err g) rest = record { each = λ h e. let same : g ≡ h = cc in subst IsRefusal same (rest.each g refl) }
 refuses_mapped f (Ok a) rest = record { each = λ h e. absurd cc }
 
 -- a fact of each refusal, and of what is done, holds of the result
-pub answers_with : {A : Type 0} (P : Res → Type 0) (s : State) (x : Context) (op : OpNum) (v : Result A Status) (f : A → Outcome) → Refuses v → ((status : Status) → IsRefusal status → P (refusal (op_number op) status)) → ((a : A) → P (f a).result)
+pub answers_with : {A : Type 0} (P : Res → Type 0) (s : State) (x : Context) (op : OpNum) (v : Result A Status) (f : A → Outcome)
+    → Refuses v → ((status : Status) → IsRefusal status → P (refusal (op_number op) status)) → ((a : A) → P (f a).result)
     → P (answers s x op v f).result
 answers_with P s x op (Err status) f all refused done = refused status (all.each status refl)
 answers_with P s x op (Ok a) f all refused done = done a

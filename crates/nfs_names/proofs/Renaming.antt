@@ -14,7 +14,8 @@ use Rattle.nfs_tree.specs.declared.fault.TreeFault.TheVariants as F
 use Rattle.nfs_tree.specs.Files.{Files, is_name, is_there, is_directory_at, has_name, lookup, is_entry, entry, has_entries, without_entry}
 use Rattle.nfs_tree.specs.Did.{Did, DoesOrWants, raised, stays}
 use Rattle.nfs_tree.specs.Names as tree
-use Rattle.nfs_tree.specs.Names.{Move, move, moves, moved_object, replaced_object, is_below_itself, is_unlike, is_in_the_way, can_move, rename_checks, rename_fault, rename_unless, with_moved}
+use Rattle.nfs_tree.specs.Names.{Move, move, moves, moved_object, replaced_object, is_below_itself, is_unlike, is_in_the_way, can_move, rename_checks}
+use Rattle.nfs_tree.specs.Names.{rename_fault, rename_unless, with_moved}
 use Rattle.nfs_tree.proofs.Trees.{has_one, apart}
 use Rattle.nfs_names.specs.declared.context.Context.{Context}
 use Rattle.nfs_names.specs.declared.held.Pair.{Pair}
@@ -29,7 +30,8 @@ use Rattle.nfs_names.proofs.Found.{IsHeld, both_is, checked_ok, short_name}
 use Rattle.nfs_names.proofs.Rows.{fault_map, none_filtered, none_pushed}
 use Rattle.nfs_names.proofs.Faulted.{by_last, by_refusal, refused_by_did, delayed, not_delayed}
 
-rename_rows : (s : State) (x : Context) (a : args.Rename) (p : Pair) → IsHeld s.tree p.current × IsHeld s.tree p.saved → first_fault (of_rename.place_checks x a p) ≡ None
+rename_rows : (s : State) (x : Context) (a : args.Rename) (p : Pair)
+    → IsHeld s.tree p.current × IsHeld s.tree p.saved → first_fault (of_rename.place_checks x a p) ≡ None
     → option_map status_of (rename_fault s.tree (move_of a p)) ≡ first_fault (of_rename.row_checks s a p)
 rename_rows s x a p held e =
     let t = s.tree in
@@ -40,7 +42,8 @@ rename_rows s x a p held e =
     let target : is_directory_at t m.target ≡ true = held.0.directory ∙ not-false _ checks.1.0 in
     let directories : not (is_directory_at t m.source && is_directory_at t m.target) ≡ false = rw (source, target) refl in
     let short : not (is_name m.name) ≡ false = ap not (short_name a.newname checks.1.1.1.1.1.1.1.1.0 checks.1.1.1.1.1.1.1.1.1.0) in
-    let tail : List (Bool × TreeFault) = (not (has_name t m.source m.old), F.NoEnt) ∷ (moves t m && is_below_itself t m, F.Inval) ∷ (moves t m && is_in_the_way t m, F.Exist)
+    let tail : List (Bool × TreeFault) =
+    (not (has_name t m.source m.old), F.NoEnt) ∷ (moves t m && is_below_itself t m, F.Inval) ∷ (moves t m && is_in_the_way t m, F.Exist)
     ∷ (moves t m && not (can_move t m), F.Counter) ∷ [] in
     let same : rename_fault t m ≡ first_fault tail = rw (there, directories, short) refl in
     ap (option_map status_of) same ∙ fault_map status_of tail
@@ -52,14 +55,16 @@ rename_found s x a p v = let found = checked_ok (both s x) (of_rename.place_chec
 abbrev pub what_moves : State → Context → Time → args.Rename → Pair → Outcome
 what_moves s x now a p = if moves s.tree (move_of a p) then of_rename.moved s x now a p else of_rename.unmoved s x p
 
-pub rename_goes : (s : State) (x : Context) (now : Time) (a : args.Rename) (p : Pair) → checked (both s x) (of_rename.place_checks x a) ≡ Ok p → rename_fault s.tree (move_of a p) ≡ None
+pub rename_goes : (s : State) (x : Context) (now : Time) (a : args.Rename) (p : Pair)
+    → checked (both s x) (of_rename.place_checks x a) ≡ Ok p → rename_fault s.tree (move_of a p) ≡ None
     → of_rename.rename s x now a ≡ what_moves s x now a p
 unfolding of_rename.rename
 rename_goes s x now a p v none =
     by_last s x Op.Rename (checked (both s x) (of_rename.place_checks x a)) (of_rename.row_checks s a) (what_moves s x now a) p v
     (sym (rename_found s x a p v) ∙ ap (option_map status_of) none)
 
-pub rename_stops : (s : State) (x : Context) (now : Time) (a : args.Rename) (p : Pair) (f : TreeFault) → checked (both s x) (of_rename.place_checks x a) ≡ Ok p → rename_fault s.tree (move_of a p) ≡ Some f
+pub rename_stops : (s : State) (x : Context) (now : Time) (a : args.Rename) (p : Pair) (f : TreeFault)
+    → checked (both s x) (of_rename.place_checks x a) ≡ Ok p → rename_fault s.tree (move_of a p) ≡ Some f
     → of_rename.rename s x now a ≡ refuses s x Op.Rename (status_of f)
 unfolding of_rename.rename
 rename_stops s x now a p f v some =
@@ -70,11 +75,13 @@ rename_stops s x now a p f v some =
 abbrev Goes : Files → Move → Time → Did Renamed
 Goes t m now = if moves t m then tree.moved t m now else tree.unmoved t m
 
-unless_ok : (t : Files) (fault : Option TreeFault) (did : Did Renamed) (r : Renamed) (new : Files) → Ok r ≡ (rename_unless t fault did).answer → new ≡ (rename_unless t fault did).after → (fault ≡ None) × (Ok r ≡ did.answer) × (new ≡ did.after)
+unless_ok : (t : Files) (fault : Option TreeFault) (did : Did Renamed) (r : Renamed) (new : Files) → Ok r ≡ (rename_unless t fault did).answer
+    → new ≡ (rename_unless t fault did).after → (fault ≡ None) × (Ok r ≡ did.answer) × (new ≡ did.after)
 unless_ok t None did r new e n = (refl, e, n)
 unless_ok t (Some f) did r new e n = absurd cc
 
-unless_err : (t : Files) (fault : Option TreeFault) (did : Did Renamed) (f : TreeFault) (new : Files) → IsOk did.answer → Err f ≡ (rename_unless t fault did).answer → new ≡ (rename_unless t fault did).after → (fault ≡ Some f) × (new ≡ t)
+unless_err : (t : Files) (fault : Option TreeFault) (did : Did Renamed) (f : TreeFault) (new : Files) → IsOk did.answer
+    → Err f ≡ (rename_unless t fault did).answer → new ≡ (rename_unless t fault did).after → (fault ≡ Some f) × (new ≡ t)
 unless_err t None did f new ok e n = absurd (false≢true (ap is_right e ∙ ok))
 unless_err t (Some g) did f new ok e n = (ap Some cc, n)
 
@@ -100,24 +107,29 @@ way_free t m none go =
     let both : moves t m && is_in_the_way t m ≡ false = checks.1.1.1.1.1.0 in
     rw go at both
 
-pub replaced_empty : (t : Files) (m : Move) (now : Time) (n : ℕ) → rename_fault t m ≡ None → moves t m ≡ true → lookup t m.target m.name ≡ Some n → has_entries (with_moved t m now).rows n ≡ false
+pub replaced_empty : (t : Files) (m : Move) (now : Time) (n : ℕ) → rename_fault t m ≡ None
+    → moves t m ≡ true → lookup t m.target m.name ≡ Some n → has_entries (with_moved t m now).rows n ≡ false
 replaced_empty t m now n none go found =
     let is : replaced_object t m ≡ n = ap (λ o. unwrap_or o 0) found in
     let some : has_name t m.target m.name ≡ true = by_entry (entry t.rows m.target m.name) refl in
     let way : has_name t m.target m.name && (is_unlike t m || has_entries t.rows (replaced_object t m)) ≡ false = way_free t m none go in
     let rest : is_unlike t m || has_entries t.rows (replaced_object t m) ≡ false = rw some at way in
-    let empty : has_entries t.rows n ≡ false = ap (has_entries t.rows) (sym is) ∙ (or_parts (is_unlike t m) (has_entries t.rows (replaced_object t m)) rest).1 in
+    let empty : has_entries t.rows n ≡ false = ap (has_entries t.rows) (sym is)
+    ∙ (or_parts (is_unlike t m) (has_entries t.rows (replaced_object t m)) rest).1 in
     let other = apart t m.target n (has_one t m.target m.name some) empty in
     let test = λ (r : Row). r.directory == n in
-    none_pushed test (without_entry m.source m.old (without_entry m.target m.name t.rows)) (record { directory = m.target; name = m.name; object = moved_object t m; cookie = t.last_cookie + 1 })
-    (none_filtered test (λ r. not (is_entry m.source m.old r)) (without_entry m.target m.name t.rows) (none_filtered test (λ r. not (is_entry m.target m.name r)) t.rows empty))
+    none_pushed test (without_entry m.source m.old (without_entry m.target m.name t.rows))
+    (record { directory = m.target; name = m.name; object = moved_object t m; cookie = t.last_cookie + 1 })
+    (none_filtered test (λ r. not (is_entry m.source m.old r)) (without_entry m.target m.name t.rows)
+    (none_filtered test (λ r. not (is_entry m.target m.name r)) t.rows empty))
     (ne_eqb m.target n (λ e. other (sym e)))
   where
     by_entry : (o : Option Row) → entry t.rows m.target m.name ≡ o → is_some (entry t.rows m.target m.name) ≡ true
     by_entry None h = absurd (let bad : None ≡ Some n = sym (ap (option_map (λ (r : Row). r.object)) h) ∙ found in cc)
     by_entry (Some r) h = ap is_some h
 
-pub went_empty : (t : Files) (m : Move) (now : Time) (r : Renamed) (new : Files) → Went t m now r new → (n : ℕ) → r.replaced ≡ Some n → has_entries new.rows n ≡ false
+pub went_empty : (t : Files) (m : Move) (now : Time) (r : Renamed) (new : Files)
+    → Went t m now r new → (n : ℕ) → r.replaced ≡ Some n → has_entries new.rows n ≡ false
 went_empty t m now r new w n is = elim (cases_Bool (moves t m)) [
   | inl go ↦ (let answer : Ok r ≡ (tree.moved t m now).answer = rw go at w.answer in
       let after : new ≡ with_moved t m now = rw go at w.after in
@@ -129,9 +141,11 @@ went_empty t m now r new w n is = elim (cases_Bool (moves t m)) [
 ]
 
 -- A RENAME that the tree refused: a check failed, or memory was refused where an entry would have moved.
-pub rename_refused : (s : State) (x : Context) (now : Time) (a : args.Rename) (p : Pair) (f : TreeFault) (new : Files) → checked (both s x) (of_rename.place_checks x a) ≡ Ok p
+pub rename_refused : (s : State) (x : Context) (now : Time) (a : args.Rename) (p : Pair) (f : TreeFault) (new : Files)
+    → checked (both s x) (of_rename.place_checks x a) ≡ Ok p
     → DoesOrWants s.tree (moves s.tree (move_of a p)) (tree.rename s.tree (move_of a p) now) (Err f) new
-    → (new ≡ s.tree) × (refuses s x Op.Rename (status_of f) ≡ or_delay (moves_in s a (both s x) && is_delay (status_of f)) s x Op.Rename (of_rename.rename s x now a))
+    → (new ≡ s.tree)
+    × (refuses s x Op.Rename (status_of f) ≡ or_delay (moves_in s a (both s x) && is_delay (status_of f)) s x Op.Rename (of_rename.rename s x now a))
 rename_refused s x now a p f new v d =
     let t = s.tree in
     let m = move_of a p in
@@ -142,9 +156,11 @@ rename_refused s x now a p f new v d =
       | inl w ↦ (
         w.3,
         (let none = unless_none t (rename_fault t m) (Goes t m now) w.2 in
-            let is : o ≡ of_rename.moved s x now a p = rename_goes s x now a p v none ∙ ap (λ b. if b then of_rename.moved s x now a p else of_rename.unmoved s x p) w.1 in
+            let is : o ≡ of_rename.moved s x now a p = rename_goes s x now a p v none
+            ∙ ap (λ b. if b then of_rename.moved s x now a p else of_rename.unmoved s x p) w.1 in
             let flag : moves_in s a (both s x) && is_delay (status_of f) ≡ true = and_from _ _ (grows ∙ w.1) (ap (λ f. is_delay (status_of f)) w.0) in
-            ap (λ f. refuses s x Op.Rename (status_of f)) w.0 ∙ sym (ap (λ b. or_delay b s x Op.Rename o) flag ∙ ap (or_delay true s x Op.Rename) is ∙ delayed s x Op.Rename (of_rename.moved s x now a p) refl)),
+            ap (λ f. refuses s x Op.Rename (status_of f)) w.0
+            ∙ sym (ap (λ b. or_delay b s x Op.Rename o) flag ∙ ap (or_delay true s x Op.Rename) is ∙ delayed s x Op.Rename (of_rename.moved s x now a p) refl)),
       )
       | inr e ↦ (let err = unless_err t (rename_fault t m) (Goes t m now) f new (goes_ok t m now) e.1 e.2 in
           (err.1, sym (not_delayed _ s x Op.Rename o (and_right (moves_in s a (both s x)) _ e.0) ∙ rename_stops s x now a p f v err.0)))

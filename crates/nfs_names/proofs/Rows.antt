@@ -6,7 +6,8 @@ use Rattle.std.proofs.lemmas.Bool.{cases_Bool, ne_eqb, or_parts, or_from}
 use Rattle.nfs_xdr.specs.Checks.{first_fault}
 
 -- faults under other names
-pub fault_map : {F G : Type 0} (f : F → G) (checks : List (Bool × F)) → option_map f (first_fault checks) ≡ first_fault (map (λ check. (check.0, f check.1)) checks)
+pub fault_map : {F G : Type 0} (f : F → G) (checks : List (Bool × F))
+    → option_map f (first_fault checks) ≡ first_fault (map (λ check. (check.0, f check.1)) checks)
 fault_map f [] = refl
 fault_map f (check ∷ checks) = by_test check.0 (fault_map f checks)
   where

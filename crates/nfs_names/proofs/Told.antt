@@ -49,7 +49,8 @@ pub told_few : (a b : Mask) → length (told (common a b)) ≤ 3
 told_few a b = few_words (common a b).words
 
 -- attributes are spelled like those of a result
-pub attributes_spelled : (asked : Mask) (a : About) (o : Object) → spell_attrs asked a o ≡ fattr.spell (record { attrmask = told (common asked readable); attr_vals = values asked a o })
+pub attributes_spelled : (asked : Mask) (a : About) (o : Object)
+    → spell_attrs asked a o ≡ fattr.spell (record { attrmask = told (common asked readable); attr_vals = values asked a o })
 unfolding fattr attr_set
 attributes_spelled asked a o = refl
 

@@ -9,7 +9,8 @@ use Rattle.nfs_compound.specs.NameArgs as args
 use Rattle.nfs_compound.specs.Arguments.{arguments}
 use Rattle.nfs_compound.specs.declared.op_num.OpNum.{OpNum}
 use Rattle.nfs_compound.specs.declared.op_num.OpNum.TheVariants as Num
-use Rattle.nfs_compound.specs.Operation.{Op, Item, Operation, Fault, OpAccess, OpCreate, OpGetAttr, OpGetFh, OpLink, OpLookup, OpLookupP, OpNVerify, OpPutFh, OpPutPubFh, OpPutRootFh, OpReadDir, OpReadLink, OpRemove, OpRename, OpRestoreFh, OpSaveFh, OpSecinfoNoName, OpVerify}
+use Rattle.nfs_compound.specs.Operation.{Op, Item, Operation, Fault, OpAccess, OpCreate, OpGetAttr, OpGetFh, OpLink, OpLookup, OpLookupP, OpNVerify, OpPutFh}
+use Rattle.nfs_compound.specs.Operation.{OpPutPubFh, OpPutRootFh, OpReadDir, OpReadLink, OpRemove, OpRename, OpRestoreFh, OpSaveFh, OpSecinfoNoName, OpVerify}
 use Rattle.nfs_results.specs.Result.{ResRestoreFh, ResSaveFh, ResSecinfoNoName}
 use Rattle.nfs_attrs.specs.declared.handle.Handle.{Handle}
 use Rattle.nfs_tree.specs.Files.{root, lookup as looked_up, named}
@@ -60,7 +61,8 @@ by_answers P s x op (Ok a) f same done = done a
 
 pub by_delay : (P : State → Context → Type 0) (b : Bool) (s : State) (x : Context) (op : OpNum) (o : Outcome) → P s x → P o.state o.context
     → P (or_delay b s x op o).state (or_delay b s x op o).context
-by_delay P b s x op o same done = elim (b && is_ok o.result) as (λ k. P (cond k (refuses s x op Delay) o).state (cond k (refuses s x op Delay) o).context) [ true ↦ same | false ↦ done ]
+by_delay P b s x op o same done =
+    elim (b && is_ok o.result) as (λ k. P (cond k (refuses s x op Delay) o).state (cond k (refuses s x op Delay) o).context) [ true ↦ same | false ↦ done ]
 
 same : (s : State) (x : Context) → Leaves s x s x
 same s x = record { opens = refl; client = refl }
@@ -77,7 +79,8 @@ leaves_rename s x now a p true = record {
 leaves_rename s x now a p false = same s x
 
 leaves_one : (s : State) (x : Context) (now : Time) (op : Op) → Leaves s x (one s x now op).state (one s x now op).context
-unfolding access create get_attr get_fh link lookup lookup_p nverify put_fh put_pub_fh put_root_fh read_dir read_link remove rename restore_fh save_fh secinfo_no_name verify
+unfolding access create get_attr get_fh link lookup lookup_p nverify put_fh put_pub_fh
+    put_root_fh read_dir read_link remove rename restore_fh save_fh secinfo_no_name verify
 leaves_one s x now (OpAccess asked) = by_answers (Leaves s x) s x Num.Access _ _ (same s x) (λ d. same s x)
 leaves_one s x now (OpCreate c) = by_answers (Leaves s x) s x Num.Create _ (created s x now c) (same s x) (λ m. record { opens = refl; client = refl })
 leaves_one s x now (OpGetAttr mask) = by_answers (Leaves s x) s x Num.GetAttr _ _ (same s x) (λ d. same s x)
@@ -94,9 +97,16 @@ leaves_one s x now OpReadLink = by_answers (Leaves s x) s x Num.ReadLink _ _ (sa
 leaves_one s x now (OpRemove name) = by_answers (Leaves s x) s x Num.Remove _ (removed s x now name) (same s x)
     (λ d. record { opens = unused_opens (with_tree s (without_name s.tree d.number name now)) (named s.tree d.number name); client = refl })
 leaves_one s x now (OpRename a) = by_answers (Leaves s x) s x Num.Rename _ _ (same s x) (λ p. leaves_rename s x now a p (moves s.tree (move_of a p)))
-leaves_one s x now OpRestoreFh = by_answers (Leaves s x) s x Num.RestoreFh _ (λ saved. done s (restored x saved) ResRestoreFh) (same s x) (λ saved. record { opens = refl; client = refl })
-leaves_one s x now OpSaveFh = by_answers (Leaves s x) s x Num.SaveFh _ (λ (d : Held). done s (saving x d.number) ResSaveFh) (same s x) (λ d. record { opens = refl; client = refl })
-leaves_one s x now (OpSecinfoNoName style) = by_answers (Leaves s x) s x Num.SecinfoNoName _ (λ d. done s (without_current x) (ResSecinfoNoName (1 ∷ []))) (same s x) (λ d. record { opens = refl; client = refl })
+leaves_one s x now OpRestoreFh = by_answers (Leaves s x) s x Num.RestoreFh _ (λ saved. done s (restored x saved) ResRestoreFh) (same s x) (λ saved. record {
+  opens = refl;
+  client = refl;
+})
+leaves_one s x now OpSaveFh = by_answers (Leaves s x) s x Num.SaveFh _ (λ (d : Held). done s (saving x d.number) ResSaveFh) (same s x) (λ d. record {
+  opens = refl;
+  client = refl;
+})
+leaves_one s x now (OpSecinfoNoName style) = by_answers (Leaves s x) s x Num.SecinfoNoName _
+    (λ d. done s (without_current x) (ResSecinfoNoName (1 ∷ []))) (same s x) (λ d. record { opens = refl; client = refl })
 leaves_one s x now (OpVerify a) = by_answers (Leaves s x) s x Num.Verify _ _ (same s x) (λ d. same s x)
 leaves_one s x now op = same s x
 

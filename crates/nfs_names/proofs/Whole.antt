@@ -9,7 +9,8 @@ use Rattle.nfs_compound.specs.Arguments.{arguments}
 use Rattle.nfs_compound.specs.declared.op_num.OpNum.{OpNum}
 use Rattle.nfs_compound.specs.declared.op_num.OpNum.TheVariants as Num
 use Rattle.nfs_compound.specs.OpNum.{op_number}
-use Rattle.nfs_compound.specs.Operation.{Op, Item, Operation, Fault, OpAccess, OpCreate, OpGetAttr, OpGetFh, OpLink, OpLookup, OpLookupP, OpNVerify, OpPutFh, OpPutPubFh, OpPutRootFh, OpReadDir, OpReadLink, OpRemove, OpRename, OpRestoreFh, OpSaveFh, OpSecinfoNoName, OpVerify}
+use Rattle.nfs_compound.specs.Operation.{Op, Item, Operation, Fault, OpAccess, OpCreate, OpGetAttr, OpGetFh, OpLink, OpLookup, OpLookupP, OpNVerify, OpPutFh}
+use Rattle.nfs_compound.specs.Operation.{OpPutPubFh, OpPutRootFh, OpReadDir, OpReadLink, OpRemove, OpRename, OpRestoreFh, OpSaveFh, OpSecinfoNoName, OpVerify}
 use Rattle.nfs_results.specs.Result.{Res}
 use Rattle.nfs_results.specs.Results.{refusal}
 use Rattle.nfs_names.proofs.Bounds.{IsAnswer}
@@ -47,16 +48,19 @@ use Rattle.nfs_names.specs.Verify.{verify}
 use Rattle.nfs_names.proofs.Bounds as bound
 use Rattle.nfs_names.proofs.Kept.{store_new, store_link, store_removed, store_moved}
 
-delay_may : (b : Bool) (s : State) (x : Context) (op : OpNum) (o : Outcome) (P : Res → Type 0) → P o.result → P (refusal (op_number op) Delay) → P (or_delay b s x op o).result
+delay_may : (b : Bool) (s : State) (x : Context) (op : OpNum) (o : Outcome) (P : Res → Type 0)
+    → P o.result → P (refusal (op_number op) Delay) → P (or_delay b s x op o).result
 delay_may b s x op o P done delayed = elim (b && is_ok o.result) as (λ k. P (cond k (refuses s x op Delay) o).result) [ true ↦ delayed | false ↦ done ]
 
 -- by the operation
 pub may_come : (b : Bool) (s : State) (x : Context) (now : Time) (op : Op) → is_on_names op ≡ true → IsAnswer (Operation op) (one_or_delay b s x now op).result
 may_come b s x now (OpAccess asked) e = bound.may_access s x asked
-may_come b s x now (OpCreate c) e = delay_may (true && b) s x Num.Create (create s x now c) (IsAnswer (Operation (OpCreate c))) (bound.may_create s x now c) (record { may = (refl, refl, tt); arrays = tt })
+may_come b s x now (OpCreate c) e = delay_may (true && b) s x Num.Create (create s x now c)
+    (IsAnswer (Operation (OpCreate c))) (bound.may_create s x now c) (record { may = (refl, refl, tt); arrays = tt })
 may_come b s x now (OpGetAttr mask) e = bound.may_get_attr s x mask
 may_come b s x now OpGetFh e = bound.may_get_fh s x
-may_come b s x now (OpLink name) e = delay_may (true && b) s x Num.Link (link s x now name) (IsAnswer (Operation (OpLink name))) (bound.may_link s x now name) (record { may = (refl, refl, tt); arrays = tt })
+may_come b s x now (OpLink name) e = delay_may (true && b) s x Num.Link (link s x now name)
+    (IsAnswer (Operation (OpLink name))) (bound.may_link s x now name) (record { may = (refl, refl, tt); arrays = tt })
 may_come b s x now (OpLookup name) e = bound.may_lookup s x name
 may_come b s x now OpLookupP e = bound.may_lookup_p s x
 may_come b s x now (OpNVerify a) e = bound.may_nverify s x a
@@ -66,7 +70,8 @@ may_come b s x now OpPutRootFh e = bound.may_put_root_fh s x
 may_come b s x now (OpReadDir a) e = bound.may_read_dir s x a
 may_come b s x now OpReadLink e = bound.may_read_link s x
 may_come b s x now (OpRemove name) e = bound.may_remove s x now name
-may_come b s x now (OpRename a) e = delay_may (grows s x (OpRename a) && b) s x Num.Rename (rename s x now a) (IsAnswer (Operation (OpRename a))) (bound.may_rename s x now a) (record { may = (refl, refl, tt); arrays = tt })
+may_come b s x now (OpRename a) e = delay_may (grows s x (OpRename a) && b) s x Num.Rename (rename s x now a)
+    (IsAnswer (Operation (OpRename a))) (bound.may_rename s x now a) (record { may = (refl, refl, tt); arrays = tt })
 may_come b s x now OpRestoreFh e = bound.may_restore_fh s x
 may_come b s x now OpSaveFh e = bound.may_save_fh s x
 may_come b s x now (OpSecinfoNoName style) e = bound.may_secinfo_no_name s x style
@@ -74,19 +79,22 @@ may_come b s x now (OpVerify a) e = bound.may_verify s x a
 may_come b s x now op e = absurd cc
 
 -- the tree after an operation
-answers_state : {A : Type 0} (P : State → Type 0) (s : State) (x : Context) (op : OpNum) (v : Result A Status) (f : A → Outcome) → P s → ((a : A) → P (f a).state) → P (answers s x op v f).state
+answers_state : {A : Type 0} (P : State → Type 0) (s : State) (x : Context) (op : OpNum) (v : Result A Status) (f : A → Outcome)
+    → P s → ((a : A) → P (f a).state) → P (answers s x op v f).state
 answers_state P s x op (Err status) f same done = same
 answers_state P s x op (Ok a) f same done = done a
 
 delay_state : (P : State → Type 0) (b : Bool) (s : State) (x : Context) (op : OpNum) (o : Outcome) → P s → P o.state → P (or_delay b s x op o).state
 delay_state P b s x op o same done = elim (b && is_ok o.result) as (λ k. P (cond k (refuses s x op Delay) o).state) [ true ↦ same | false ↦ done ]
 
-store_rename : (s : State) (x : Context) (now : Time) (a : args.Rename) (p : Pair) (b : Bool) → IsTree s.tree → IsStore s → IsStore (cond b (moved s x now a p) (unmoved s x p)).state
+store_rename : (s : State) (x : Context) (now : Time) (a : args.Rename) (p : Pair) (b : Bool)
+    → IsTree s.tree → IsStore s → IsStore (cond b (moved s x now a p) (unmoved s x p)).state
 store_rename s x now a p true tree is = store_moved s (move_of a p) now tree is
 store_rename s x now a p false tree is = is
 
 store_one : (s : State) (x : Context) (now : Time) (op : Op) → is_on_names op ≡ true → IsTree s.tree → IsStore s → IsStore (one s x now op).state
-unfolding access create get_attr get_fh link lookup lookup_p nverify put_fh put_pub_fh put_root_fh read_dir read_link remove rename restore_fh save_fh secinfo_no_name verify
+unfolding access create get_attr get_fh link lookup lookup_p nverify put_fh put_pub_fh
+    put_root_fh read_dir read_link remove rename restore_fh save_fh secinfo_no_name verify
 store_one s x now (OpAccess asked) e tree is = answers_state IsStore s x Num.Access _ _ is (λ d. is)
 store_one s x now (OpCreate c) e tree is =
     answers_state IsStore s x Num.Create (checked (asked_for s x c) (row_checks s c.objname)) (created s x now c) is
@@ -115,7 +123,8 @@ may_item b s x now (Operation op) e = may_come b s x now op e
 may_item b s x now (Fault n st) e = absurd cc
 
 store_item : (b : Bool) (s : State) (x : Context) (now : Time) (i : Item) → on_names i ≡ true → IsTree s.tree → IsStore s → IsStore (comes_to b s x now i).state
-store_item b s x now (Operation op) e tree is = delay_state IsStore (grows s x op && b) s x (arguments op).op (one s x now op) is (store_one s x now op e tree is)
+store_item b s x now (Operation op) e tree is =
+    delay_state IsStore (grows s x op && b) s x (arguments op).op (one s x now op) is (store_one s x now op e tree is)
 store_item b s x now (Fault n st) e tree is = absurd cc
 
 -- What every operation on names keeps.

@@ -1,5 +1,6 @@
 -- LOCK, LOCKT and LOCKU (RFC 8881 sections 18.10 to 18.12).
-use Rattle.std.specs.Prelude.{◌≡◌, ℕ, ◌+◌, ◌==◌, suc, Bool, not, ◌&&◌, List, [], ◌∷◌, ◌++◌, Option, Some, None, Result, Ok, Err, IsOk, find, bytes_eq, if◌then◌else◌, IsTrue}
+use Rattle.std.specs.Prelude.{◌≡◌, ℕ, ◌+◌, ◌==◌, suc, Bool, not, ◌&&◌, List, [], ◌∷◌, ◌++◌, Option, Some, None, Result, Ok, Err, IsOk, find, bytes_eq}
+use Rattle.std.specs.Prelude.{if◌then◌else◌, IsTrue}
 use Rattle.nfs_xdr.specs.declared.status.Status.{Status}
 use Rattle.nfs_xdr.specs.declared.status.Status.TheVariants.{BadStateId, OpenMode, ServerFault}
 use Rattle.nfs_ranges.specs.declared.Kind.{Kind}

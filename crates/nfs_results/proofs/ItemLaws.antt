@@ -5,11 +5,13 @@ use Rattle.std.proofs.lemmas.Bool.{eqb-true, eq-eqb}
 use Rattle.nfs_xdr.specs.Spelling as spelling
 use Rattle.nfs_xdr.specs.Reading.{◌>>=◌, number_at}
 use Rattle.nfs_xdr.specs.Codec.{Codec, IsCodec, IsListing, IsSized, listed_at, number, few}
-use Rattle.nfs_xdr.proofs.CodecLaws.{bind_some, test_some, taken_at, is_number, is_hyper, is_flag, is_fixed, is_opaque, is_unbounded, is_then, is_as_type, is_only, is_few, is_pieces}
+use Rattle.nfs_xdr.proofs.CodecLaws.{bind_some, test_some, taken_at, is_number, is_hyper, is_flag, is_fixed, is_opaque, is_unbounded, is_then, is_as_type}
+use Rattle.nfs_xdr.proofs.CodecLaws.{is_only, is_few, is_pieces}
 use Rattle.nfs_xdr.proofs.ChainLaws.{is_chain}
 use Rattle.nfs_compound.proofs.ArgLaws.{is_lock_type, is_stable_how}
 use Rattle.nfs_compound.proofs.ItemLaws.{is_stateid, is_state_owner, is_channel_attrs}
-use Rattle.nfs_results.specs.Items.{always, is_trimmed, attr_set, fattr, change_info, access, create, denied, open_ok, read_ok, entry, read_dir, rename, write_ok, exchange_id, create_session, flavors, sequence, are_statuses, status_codes}
+use Rattle.nfs_results.specs.Items.{always, is_trimmed, attr_set, fattr, change_info, access, create, denied, open_ok, read_ok, entry, read_dir, rename}
+use Rattle.nfs_results.specs.Items.{write_ok, exchange_id, create_session, flavors, sequence, are_statuses, status_codes}
 
 is_always : (k : ℕ) → k < 2 ^ 32 → IsCodec (always k)
 is_always k small = record {
@@ -76,11 +78,13 @@ unfolding exchange_id
 is_exchange_id =
     let none = is_always 0 (omega arith) in
     let name = is_opaque 1024 (omega arith) in
-    is_as_type _ _ _ (λ _. refl) (is_then _ _ is_hyper (is_then _ _ is_number (is_then _ _ is_number (is_then _ _ none (is_then _ _ is_hyper (is_then _ _ name (is_then _ _ name none)))))))
+    is_as_type _ _ _ (λ _. refl)
+    (is_then _ _ is_hyper (is_then _ _ is_number (is_then _ _ is_number (is_then _ _ none (is_then _ _ is_hyper (is_then _ _ name (is_then _ _ name none)))))))
 
 pub is_create_session : IsCodec create_session
 unfolding create_session
-is_create_session = is_as_type _ _ _ (λ _. refl) (is_then _ _ (is_fixed 16) (is_then _ _ is_number (is_then _ _ is_number (is_then _ _ is_channel_attrs is_channel_attrs))))
+is_create_session = is_as_type _ _ _ (λ _. refl)
+    (is_then _ _ (is_fixed 16) (is_then _ _ is_number (is_then _ _ is_number (is_then _ _ is_channel_attrs is_channel_attrs))))
 
 sized_number : IsSized number 4 (from_be_bytes w32)
 sized_number = record { read = λ bytes. refl }
@@ -91,7 +95,8 @@ is_flavors = is_pieces 4 (from_be_bytes w32) number sized_number is_number
 
 pub is_sequence : IsCodec sequence
 unfolding sequence
-is_sequence = is_as_type _ _ _ (λ _. refl) (is_then _ _ (is_fixed 16) (is_then _ _ is_number (is_then _ _ is_number (is_then _ _ is_number (is_then _ _ is_number is_number)))))
+is_sequence = is_as_type _ _ _ (λ _. refl)
+    (is_then _ _ (is_fixed 16) (is_then _ _ is_number (is_then _ _ is_number (is_then _ _ is_number (is_then _ _ is_number is_number)))))
 
 pub is_status_codes : IsCodec status_codes
 unfolding status_codes

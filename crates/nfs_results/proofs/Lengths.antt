@@ -1,5 +1,6 @@
 -- How long results are.
-use Rattle.std.proofs.Common.{◌≡◌, ℕ, zero, suc, ◌+◌, ◌*◌, ◌-◌, ◌%◌, ◌≤◌, ◌<◌, Bool, true, false, cond, eqb, ltb, List, [], ◌∷◌, ◌++◌, length, Option, Some, None, subst, sym, ap, refl, arith}
+use Rattle.std.proofs.Common.{◌≡◌, ℕ, zero, suc, ◌+◌, ◌*◌, ◌-◌, ◌%◌, ◌≤◌, ◌<◌, Bool, true, false, cond, eqb, ltb, List, [], ◌∷◌, ◌++◌, length, Option, Some}
+use Rattle.std.proofs.Common.{None, subst, sym, ap, refl, arith}
 use Rattle.std.specs.List.{flat_map}
 use Rattle.std.proofs.lemmas.List.{length-append, length-replicate}
 use Rattle.nfs_xdr.specs.Spelling as spelling
@@ -17,8 +18,13 @@ use Rattle.nfs_compound.specs.LockArgs.{lock_type}
 use Rattle.nfs_compound.specs.FileArgs.{stable_how}
 use Rattle.nfs_results.specs.declared.res.ChangeInfo.{ChangeInfo}
 use Rattle.nfs_results.specs.Items as item
-use Rattle.nfs_results.specs.Items.{access, attr_set, fattr, change_info, create, denied, open_ok, read_ok, rename, write_ok, exchange_id, create_session, flavors, sequence, status_codes}
-use Rattle.nfs_results.specs.Result.{Denied, Res, ResAccess, ResClose, ResCommit, ResCreate, ResGetAttr, ResGetFh, ResLink, ResLock, ResLockDenied, ResLockT, ResLockTDenied, ResLockU, ResLookup, ResLookupP, ResNVerify, ResOpen, ResOpenDowngrade, ResPutFh, ResPutPubFh, ResPutRootFh, ResRead, ResReadDir, ResReadLink, ResRemove, ResRename, ResRestoreFh, ResSaveFh, ResSetAttr, ResVerify, ResWrite, ResExchangeId, ResCreateSession, ResDestroySession, ResFreeStateid, ResSecinfoNoName, ResSequence, ResTestStateid, ResDestroyClientId, ResReclaimComplete, Refused}
+use Rattle.nfs_results.specs.Items.{access, attr_set, fattr, change_info, create, denied, open_ok, read_ok, rename, write_ok, exchange_id, create_session}
+use Rattle.nfs_results.specs.Items.{flavors, sequence, status_codes}
+use Rattle.nfs_results.specs.Result.{Denied, Res, ResAccess, ResClose, ResCommit, ResCreate, ResGetAttr, ResGetFh, ResLink, ResLock, ResLockDenied, ResLockT}
+use Rattle.nfs_results.specs.Result.{ResLockTDenied, ResLockU, ResLookup, ResLookupP, ResNVerify, ResOpen, ResOpenDowngrade, ResPutFh, ResPutPubFh}
+use Rattle.nfs_results.specs.Result.{ResPutRootFh, ResRead, ResReadDir, ResReadLink, ResRemove, ResRename, ResRestoreFh, ResSaveFh, ResSetAttr, ResVerify}
+use Rattle.nfs_results.specs.Result.{ResWrite, ResExchangeId, ResCreateSession, ResDestroySession, ResFreeStateid, ResSecinfoNoName, ResSequence}
+use Rattle.nfs_results.specs.Result.{ResTestStateid, ResDestroyClientId, ResReclaimComplete, Refused}
 use Rattle.nfs_results.specs.Results.{head, parts, operation_of, spell_result, HasArrays}
 use Rattle.nfs_results.specs.CompoundResult.{spell_compound_head}
 use Rattle.nfs_results.specs.Largest.{given, largest_of, number_of, asked, largest, HasSizes, IsPlain, MayAnswer}
@@ -40,7 +46,8 @@ length_head operation s = simp lengths refl
 
 length_attr_set : (words : List ℕ) → length (attr_set.spell words) ≡ 4 + 4 * length words
 unfolding attr_set
-length_attr_set words = omega (arith, length-append (spelling.number (length words)) (flat_map spelling.number words), length_number (length words), length_numbers words)
+length_attr_set words =
+    omega (arith, length-append (spelling.number (length words)) (flat_map spelling.number words), length_number (length words), length_numbers words)
 
 length_change_info : (c : ChangeInfo) → length (change_info.spell c) ≡ 20
 unfolding change_info
@@ -84,7 +91,8 @@ unfolding access create fattr open_ok read_ok rename write_ok stable_how exchang
 behind_within wanted (ResAccess x) arrays sizes = simp lengths (omega arith)
 behind_within wanted (ResClose s) arrays sizes = omega (arith, length_stateid s arrays)
 behind_within wanted (ResCommit verifier) arrays sizes = simp (lengths, arrays) (omega arith)
-behind_within wanted (ResCreate c) arrays sizes = omega (arith, sizes, length-append (change_info.spell c.cinfo) (attr_set.spell c.attrset), length_change_info c.cinfo, length_attr_set c.attrset)
+behind_within wanted (ResCreate c) arrays sizes =
+    omega (arith, sizes, length-append (change_info.spell c.cinfo) (attr_set.spell c.attrset), length_change_info c.cinfo, length_attr_set c.attrset)
 behind_within wanted (ResGetAttr f) arrays sizes = simp (lengths, length_attr_set f.attrmask) (omega (arith, sizes.0, sizes.1))
 behind_within wanted (ResGetFh object) arrays sizes = simp lengths (omega (arith, sizes))
 behind_within wanted (ResLink c) arrays sizes = omega (arith, length_change_info c)
@@ -96,7 +104,8 @@ behind_within wanted (ResLockU s) arrays sizes = omega (arith, length_stateid s 
 behind_within wanted ResLookup arrays sizes = omega arith
 behind_within wanted ResLookupP arrays sizes = omega arith
 behind_within wanted ResNVerify arrays sizes = omega arith
-behind_within wanted (ResOpen o) arrays sizes = simp (lengths, length_stateid o.stateid arrays, length_change_info o.cinfo, length_attr_set o.attrset) (omega (arith, sizes))
+behind_within wanted (ResOpen o) arrays sizes =
+    simp (lengths, length_stateid o.stateid arrays, length_change_info o.cinfo, length_attr_set o.attrset) (omega (arith, sizes))
 behind_within wanted (ResOpenDowngrade s) arrays sizes = omega (arith, length_stateid s arrays)
 behind_within wanted ResPutFh arrays sizes = omega arith
 behind_within wanted ResPutPubFh arrays sizes = omega arith
@@ -112,16 +121,19 @@ behind_within wanted (ResSetAttr s attrsset) arrays sizes = omega (arith, sizes,
 behind_within wanted ResVerify arrays sizes = omega arith
 behind_within wanted (ResWrite w) arrays sizes = simp (lengths, arrays) (omega arith)
 behind_within wanted (ResExchangeId r) arrays sizes = simp lengths (omega (arith, sizes.0, sizes.1))
-behind_within wanted (ResCreateSession s) arrays sizes = simp (lengths, arrays, length_channel s.fore_chan_attrs, length_channel s.back_chan_attrs, sizes) (omega (arith, length_ird s.back_chan_attrs.rdma_ird))
+behind_within wanted (ResCreateSession s) arrays sizes =
+    simp (lengths, arrays, length_channel s.fore_chan_attrs, length_channel s.back_chan_attrs, sizes) (omega (arith, length_ird s.back_chan_attrs.rdma_ird))
   where
     length_ird : (limit : Option ℕ) → length ((optional number).spell limit) ≤ 8
     length_ird None = omega (arith, length_number 0)
     length_ird (Some n) = omega (arith, length-append (spelling.number 1) (spelling.number n), length_number 1, length_number n)
 behind_within wanted ResDestroySession arrays sizes = omega arith
 behind_within wanted ResFreeStateid arrays sizes = omega arith
-behind_within wanted (ResSecinfoNoName words) arrays sizes = omega (arith, sizes, length-append (spelling.number (length words)) (flat_map spelling.number words), length_number (length words), length_numbers words)
+behind_within wanted (ResSecinfoNoName words) arrays sizes =
+    omega (arith, sizes, length-append (spelling.number (length words)) (flat_map spelling.number words), length_number (length words), length_numbers words)
 behind_within wanted (ResSequence s) arrays sizes = simp (lengths, arrays) (omega arith)
-behind_within wanted (ResTestStateid codes) arrays sizes = omega (arith, sizes, length-append (spelling.number (length codes)) (flat_map spelling.number codes), length_number (length codes), length_numbers codes)
+behind_within wanted (ResTestStateid codes) arrays sizes =
+    omega (arith, sizes, length-append (spelling.number (length codes)) (flat_map spelling.number codes), length_number (length codes), length_numbers codes)
 behind_within wanted ResDestroyClientId arrays sizes = omega arith
 behind_within wanted ResReclaimComplete arrays sizes = omega arith
 behind_within wanted (Refused operation s) arrays sizes = at_least operation wanted

@@ -1,5 +1,6 @@
 -- Reading the result of a compound, one result after the other.
-use Rattle.std.proofs.Common.{◌≡◌, ℕ, zero, suc, ◌+◌, ◌-◌, ◌<◌, Bool, true, false, eqb, List, [], ◌∷◌, length, append-nil, Option, Some, None, Result, Ok, Err, refl, sym, ap, ◌∙◌, arith}
+use Rattle.std.proofs.Common.{◌≡◌, ℕ, zero, suc, ◌+◌, ◌-◌, ◌<◌, Bool, true, false, eqb, List, [], ◌∷◌, length, append-nil, Option, Some, None, Result, Ok, Err}
+use Rattle.std.proofs.Common.{refl, sym, ap, ◌∙◌, arith}
 use Rattle.std.specs.Prelude.{IfOk, OnErr, MatchResult}
 use Rattle.std.proofs.lemmas.Bool.{eqb-true, false≢true}
 use Rattle.nfs_xdr.proofs.CodecLaws.{test_some}
@@ -20,15 +21,18 @@ in_front : (x : Res) (r : Option (List Res × List ℕ)) → is_whole (r >>= λ 
 in_front x None = refl
 in_front x (Some xs) = refl
 
-pub one_more : (count i : ℕ) (bytes : List ℕ) (x : Res) (rest : List ℕ) (all : Bool) → i < count → result.read bytes ≡ Some (x, rest) → is_whole (many_at result.read (count - i) bytes) ≡ all
+pub one_more : (count i : ℕ) (bytes : List ℕ) (x : Res) (rest : List ℕ) (all : Bool) → i < count
+    → result.read bytes ≡ Some (x, rest) → is_whole (many_at result.read (count - i) bytes) ≡ all
     → is_whole (many_at result.read (count - (i + 1)) rest) ≡ all
 one_more count i bytes x rest all lt read so_far =
     let left : count - i ≡ suc (count - (i + 1)) = omega arith in
-    let same : is_whole (many_at result.read (count - i) bytes) ≡ is_whole (many_at result.read (count - (i + 1)) rest) = rw (left, read) (in_front x (many_at result.read (count - (i + 1)) rest)) in
+    let same : is_whole (many_at result.read (count - i) bytes) ≡ is_whole (many_at result.read (count - (i + 1)) rest) =
+    rw (left, read) (in_front x (many_at result.read (count - (i + 1)) rest)) in
     sym same ∙ so_far
 
 -- where one cannot be read, not all stand whole
-pub one_less : (count i : ℕ) (bytes : List ℕ) (all : Bool) → i < count → result.read bytes ≡ None → is_whole (many_at result.read (count - i) bytes) ≡ all → false ≡ all
+pub one_less : (count i : ℕ) (bytes : List ℕ) (all : Bool) → i < count
+    → result.read bytes ≡ None → is_whole (many_at result.read (count - i) bytes) ≡ all → false ≡ all
 one_less count i bytes all lt none so_far =
     let left : count - i ≡ suc (count - (i + 1)) = omega arith in
     let same : is_whole (many_at result.read (count - i) bytes) ≡ false = rw (left, none) refl in
@@ -37,7 +41,8 @@ one_less count i bytes all lt none so_far =
 at_end : (bytes : List ℕ) → is_whole {A = List Res} (Some ([], bytes)) ≡ true → ◌≡◌ {A = Option (List Res × List ℕ)} (Some ([], bytes)) (Some ([], []))
 at_end bytes e = ap (λ (w : List ℕ). Some ([], w)) (nil_from_length bytes (eqb-true (length bytes) 0 e))
 
-step_left : (n : ℕ) (bytes : List ℕ) (r : Option (Res × List ℕ)) → ((rest : List ℕ) → is_whole (many_at result.read n rest) ≡ true → many_at result.read n rest ≡ Some (results_left n rest, [])) → result.read bytes ≡ r
+step_left : (n : ℕ) (bytes : List ℕ) (r : Option (Res × List ℕ))
+    → ((rest : List ℕ) → is_whole (many_at result.read n rest) ≡ true → many_at result.read n rest ≡ Some (results_left n rest, [])) → result.read bytes ≡ r
     → is_whole (many_at result.read (suc n) bytes) ≡ true → many_at result.read (suc n) bytes ≡ Some (results_left (suc n) bytes, [])
 unfolding results_left
 step_left n bytes None more read e = let one : is_whole (many_at result.read (suc n) bytes) ≡ false = rw read refl in absurd (false≢true (sym one ∙ e))
@@ -60,7 +65,8 @@ unfolding results_left
 unread_left zero bytes e = refl
 unread_left (suc n) bytes e = rw e refl
 
-pub more_left : (n : ℕ) (bytes : List ℕ) (x : Res) (rest : List ℕ) → (n ≡ 0 → ⊥) → result.read bytes ≡ Some (x, rest) → results_left n bytes ≡ x ∷ results_left (n - 1) rest
+pub more_left : (n : ℕ) (bytes : List ℕ) (x : Res) (rest : List ℕ) → (n ≡ 0 → ⊥)
+    → result.read bytes ≡ Some (x, rest) → results_left n bytes ≡ x ∷ results_left (n - 1) rest
 unfolding results_left
 more_left zero bytes x rest some read = absurd (some refl)
 more_left (suc n) bytes x rest some read = rw (read, same) refl
@@ -69,7 +75,8 @@ more_left (suc n) bytes x rest some read = rw (read, same) refl
     same = omega arith
 
 -- a head and whole results behind it
-pub reply_from : (bytes : List ℕ) (s : Status) (r tag t : List ℕ) (n : ℕ) (u : List ℕ) → status.read bytes ≡ Some (s, r) → opaque_at 1024 r ≡ Some (tag, t) → number_at t ≡ Some (n, u) → is_whole (many_at result.read n u) ≡ true
+pub reply_from : (bytes : List ℕ) (s : Status) (r tag t : List ℕ) (n : ℕ) (u : List ℕ) → status.read bytes ≡ Some (s, r)
+    → opaque_at 1024 r ≡ Some (tag, t) → number_at t ≡ Some (n, u) → is_whole (many_at result.read n u) ≡ true
     → whole (compound_result.read bytes) ≡ Some (record { status = s; tag = tag; results = results_left n u })
 reply_from bytes s r tag t n u h i j k = rw (h, i, j, all_left n u k) refl
 
@@ -79,14 +86,17 @@ whole_some (Some x) c e =
     let t = test_some (eqb (length x.1) 0) (Some x.0) c e in
     ap (λ (w : List ℕ). Some (x.0, w)) (nil_from_length x.1 (eqb-true (length x.1) 0 t.0)) ∙ ap (λ (r : Option CompoundResult). r >>= λ y. Some (y, [])) t.1
 
-pub is_found : (bytes : List ℕ) (r : Result CompoundResult Unreadable) → IsBytes bytes → MatchResult r (λ c. whole (compound_result.read bytes) ≡ Some c) (λ _. whole (compound_result.read bytes) ≡ None) → IfOk r (λ c. IsReply bytes c)
+pub is_found : (bytes : List ℕ) (r : Result CompoundResult Unreadable) → IsBytes bytes
+    → MatchResult r (λ c. whole (compound_result.read bytes) ≡ Some c) (λ _. whole (compound_result.read bytes) ≡ None) → IfOk r (λ c. IsReply bytes c)
 is_found bytes (Ok c) fits e = let t = is_compound.takes bytes c [] fits (whole_some _ c e) in (t.0 ∙ append-nil (spell_compound c), t.2)
 is_found bytes (Err g) fits e = tt
 
-pub is_none : (bytes : List ℕ) (r : Result CompoundResult Unreadable) → MatchResult r (λ c. whole (compound_result.read bytes) ≡ Some c) (λ _. whole (compound_result.read bytes) ≡ None) → OnErr r (IsNoReply bytes)
+pub is_none : (bytes : List ℕ) (r : Result CompoundResult Unreadable)
+    → MatchResult r (λ c. whole (compound_result.read bytes) ≡ Some c) (λ _. whole (compound_result.read bytes) ≡ None) → OnErr r (IsNoReply bytes)
 is_none bytes (Ok c) e = tt
 is_none bytes (Err g) e = λ c fits same.
-    let read : whole (compound_result.read bytes) ≡ Some c = ap (λ (w : List ℕ). whole (compound_result.read w)) (same ∙ sym (append-nil (spell_compound c))) ∙ ap whole (is_compound.again c [] fits) in
+    let read : whole (compound_result.read bytes) ≡ Some c =
+    ap (λ (w : List ℕ). whole (compound_result.read w)) (same ∙ sym (append-nil (spell_compound c))) ∙ ap whole (is_compound.again c [] fits) in
     none≢some c (sym e ∙ read)
   where
     none≢some : (c : CompoundResult) → None ≡ Some c → ⊥

@@ -1,5 +1,6 @@
 -- The table of results is a codec.
-use Rattle.std.proofs.Common.{◌≡◌, ◌≢◌, ℕ, ◌^◌, ◌<◌, ◌≤◌, Bool, true, false, not, eqb, leb, cond, ◌&&◌, ◌||◌, List, [], ◌++◌, Option, Some, None, refl, sym, ap, ◌∙◌, append_assoc, append-nil, arith, inl, inr}
+use Rattle.std.proofs.Common.{◌≡◌, ◌≢◌, ℕ, ◌^◌, ◌<◌, ◌≤◌, Bool, true, false, not, eqb, leb, cond, ◌&&◌, ◌||◌, List, [], ◌++◌, Option, Some, None, refl, sym, ap}
+use Rattle.std.proofs.Common.{◌∙◌, append_assoc, append-nil, arith, inl, inr}
 use Rattle.std.specs.Prelude.{IsTrue}
 use Rattle.std.proofs.lemmas.Bool.{eqb-true, eq-eqb, ne_eqb, leb-true, and_parts, false≢true}
 use Rattle.std.proofs.lemmas.Option.{same_Some}
@@ -19,9 +20,14 @@ use Rattle.nfs_compound.specs.Stateid.{stateid}
 use Rattle.nfs_compound.proofs.OpNumLaws.{is_op_listing}
 use Rattle.nfs_compound.proofs.ItemLaws.{is_stateid}
 use Rattle.nfs_results.specs.Items as item
-use Rattle.nfs_results.specs.Result.{Res, ResAccess, ResClose, ResCommit, ResCreate, ResGetAttr, ResGetFh, ResLink, ResLock, ResLockDenied, ResLockT, ResLockTDenied, ResLockU, ResLookup, ResLookupP, ResNVerify, ResOpen, ResOpenDowngrade, ResPutFh, ResPutPubFh, ResPutRootFh, ResRead, ResReadDir, ResReadLink, ResRemove, ResRename, ResRestoreFh, ResSaveFh, ResSetAttr, ResVerify, ResWrite, ResExchangeId, ResCreateSession, ResDestroySession, ResFreeStateid, ResSecinfoNoName, ResSequence, ResTestStateid, ResDestroyClientId, ResReclaimComplete, Refused}
+use Rattle.nfs_results.specs.Result.{Res, ResAccess, ResClose, ResCommit, ResCreate, ResGetAttr, ResGetFh, ResLink, ResLock, ResLockDenied, ResLockT}
+use Rattle.nfs_results.specs.Result.{ResLockTDenied, ResLockU, ResLookup, ResLookupP, ResNVerify, ResOpen, ResOpenDowngrade, ResPutFh, ResPutPubFh}
+use Rattle.nfs_results.specs.Result.{ResPutRootFh, ResRead, ResReadDir, ResReadLink, ResRemove, ResRename, ResRestoreFh, ResSaveFh, ResSetAttr, ResVerify}
+use Rattle.nfs_results.specs.Result.{ResWrite, ResExchangeId, ResCreateSession, ResDestroySession, ResFreeStateid, ResSecinfoNoName, ResSequence}
+use Rattle.nfs_results.specs.Result.{ResTestStateid, ResDestroyClientId, ResReclaimComplete, Refused}
 use Rattle.nfs_results.specs.Results.{bears, tells, can_refuse, parts, head, spell_result, FitsResult, done_at, done_by, refused_at, behind, result}
-use Rattle.nfs_results.proofs.ItemLaws.{is_attr_set, is_fattr, is_change_info, is_access, is_create, is_denied, is_open_ok, is_read_ok, is_read_dir, is_rename, is_write_ok, is_exchange_id, is_create_session, is_flavors, is_sequence, is_status_codes}
+use Rattle.nfs_results.proofs.ItemLaws.{is_attr_set, is_fattr, is_change_info, is_access, is_create, is_denied, is_open_ok, is_read_ok, is_read_dir, is_rename}
+use Rattle.nfs_results.proofs.ItemLaws.{is_write_ok, is_exchange_id, is_create_session, is_flavors, is_sequence, is_status_codes}
 
 -- a status is known by its number
 same_status : (s t : Status) → status_number s ≡ status_number t → s ≡ t
@@ -34,13 +40,16 @@ Taken bytes y rest = (bytes ≡ spell_result y ++ rest) × IsBytes rest × FitsR
 record IsDone (op : OpNum) : Type 0 where
   pub takes : (left : List ℕ) (y : Res) (rest : List ℕ) → IsBytes left → done_at op left ≡ Some (y, rest) → Taken (head (op_number op) Nfs4Ok ++ left) y rest
 
-is_told : {A : Type 0} (op : OpNum) (make : A → Res) (c : Codec A) → IsCodec c → ((left : List ℕ) → done_at op left ≡ arm make c left) → ((x : A) → spell_result (make x) ≡ head (op_number op) Nfs4Ok ++ c.spell x)
+is_told : {A : Type 0} (op : OpNum) (make : A → Res) (c : Codec A) → IsCodec c
+    → ((left : List ℕ) → done_at op left ≡ arm make c left) → ((x : A) → spell_result (make x) ≡ head (op_number op) Nfs4Ok ++ c.spell x)
     → ((x : A) → c.Fits x → FitsResult (make x)) → IsDone op
 is_told op make c p reads spells fit = record {
-  takes = λ left y rest f e. arm_takes c result make (head (op_number op) Nfs4Ok) p spells fit (head (op_number op) Nfs4Ok ++ left) left y rest refl f (sym (reads left) ∙ e);
+  takes = λ left y rest f e. arm_takes c result make (head (op_number op) Nfs4Ok) p spells fit
+      (head (op_number op) Nfs4Ok ++ left) left y rest refl f (sym (reads left) ∙ e);
 }
 
-is_alone : (op : OpNum) (x : Res) → ((left : List ℕ) → done_at op left ≡ Some (x, left)) → spell_result x ≡ head (op_number op) Nfs4Ok ++ [] → FitsResult x → IsDone op
+is_alone : (op : OpNum) (x : Res) → ((left : List ℕ) → done_at op left ≡ Some (x, left))
+    → spell_result x ≡ head (op_number op) Nfs4Ok ++ [] → FitsResult x → IsDone op
 is_alone op x reads spells fit = record {
   takes = λ left y rest f e.
       taken_at result (head (op_number op) Nfs4Ok ++ left) x y left rest (sym (reads left) ∙ e)
@@ -89,31 +98,36 @@ all_done Op.DestroyClientId = is_alone Op.DestroyClientId ResDestroyClientId (λ
 all_done Op.ReclaimComplete = is_alone Op.ReclaimComplete ResReclaimComplete (λ _. refl) refl tt
 
 -- the same behind a number that names an operation
-by_takes : (operation : ℕ) (op : Option OpNum) (left : List ℕ) (y : Res) (rest : List ℕ) → op_num operation ≡ op → IsBytes left → done_by op left ≡ Some (y, rest) → Taken (head operation Nfs4Ok ++ left) y rest
+by_takes : (operation : ℕ) (op : Option OpNum) (left : List ℕ) (y : Res) (rest : List ℕ) → op_num operation ≡ op
+    → IsBytes left → done_by op left ≡ Some (y, rest) → Taken (head operation Nfs4Ok ++ left) y rest
 by_takes operation None left y rest is f e = absurd cc
 by_takes operation (Some op) left y rest is f e =
     let t = (all_done op).takes left y rest f e in
     (ap (λ (k : ℕ). head k Nfs4Ok ++ left) (listed_number op_number op_nums operation op is) ∙ t.0, t.1, t.2)
 
 -- An operation that was refused.
-refused_takes : (operation : ℕ) (s : Status) (left : List ℕ) (y : Res) (rest : List ℕ) → IsBytes left → refused_at operation s left ≡ Some (y, rest) → Taken (head operation s ++ left) y rest
+refused_takes : (operation : ℕ) (s : Status) (left : List ℕ) (y : Res) (rest : List ℕ) → IsBytes left
+    → refused_at operation s left ≡ Some (y, rest) → Taken (head operation s ++ left) y rest
 unfolding refused_at
 refused_takes operation s left y rest f e =
     elim (chosen (eqb operation 34) (arm (ResSetAttr s) item.attr_set left) _ (Some (y, rest)) e) [
       | inl q ↦
-          let t = arm_takes item.attr_set result (ResSetAttr s) (head 34 s) is_attr_set (λ _. refl) (λ _ fits. fits) (head 34 s ++ left) left y rest refl f q.1 in
+          let t = arm_takes item.attr_set result (ResSetAttr s) (head 34 s) is_attr_set
+          (λ _. refl) (λ _ fits. fits) (head 34 s ++ left) left y rest refl f q.1 in
           (ap (λ (k : ℕ). head k s ++ left) (eqb-true operation 34 q.0) ∙ t.0, t.1, t.2)
       | inr q ↦
           elim (chosen (eqb operation 12 && eqb (status_number s) 10010) (arm ResLockDenied item.denied left) _ (Some (y, rest)) q.1) [
             | inl r ↦
                 let is = and_parts (eqb operation 12) (eqb (status_number s) 10010) r.0 in
-                let t = arm_takes item.denied result ResLockDenied (head 12 Denied) is_denied (λ _. refl) (λ _ fits. fits) (head 12 Denied ++ left) left y rest refl f r.1 in
+                let t = arm_takes item.denied result ResLockDenied (head 12 Denied) is_denied
+                (λ _. refl) (λ _ fits. fits) (head 12 Denied ++ left) left y rest refl f r.1 in
                 (told 12 is.0 is.1 ∙ t.0, t.1, t.2)
             | inr r ↦
                 elim (chosen (eqb operation 13 && eqb (status_number s) 10010) (arm ResLockTDenied item.denied left) _ (Some (y, rest)) r.1) [
                   | inl u ↦
                       let is = and_parts (eqb operation 13) (eqb (status_number s) 10010) u.0 in
-                      let t = arm_takes item.denied result ResLockTDenied (head 13 Denied) is_denied (λ _. refl) (λ _ fits. fits) (head 13 Denied ++ left) left y rest refl f u.1 in
+                      let t = arm_takes item.denied result ResLockTDenied (head 13 Denied) is_denied
+                      (λ _. refl) (λ _ fits. fits) (head 13 Denied ++ left) left y rest refl f u.1 in
                       (told 13 is.0 is.1 ∙ t.0, t.1, t.2)
                   | inr u ↦
                       let g = test_some (can_refuse operation s) (Some (Refused operation s, left)) (y, rest) u.1 in
@@ -124,9 +138,11 @@ refused_takes operation s left y rest f e =
     ]
   where
     told : (k : ℕ) → eqb operation k ≡ true → eqb (status_number s) 10010 ≡ true → head operation s ++ left ≡ head k Denied ++ left
-    told k same denied = ap (λ (n : ℕ). head n s ++ left) (eqb-true operation k same) ∙ ap (λ (t : Status). head k t ++ left) (same_status s Denied (eqb-true (status_number s) 10010 denied))
+    told k same denied = ap (λ (n : ℕ). head n s ++ left) (eqb-true operation k same)
+        ∙ ap (λ (t : Status). head k t ++ left) (same_status s Denied (eqb-true (status_number s) 10010 denied))
 
-behind_takes : (operation : ℕ) (s : Status) (left : List ℕ) (y : Res) (rest : List ℕ) → IsBytes left → behind operation s left ≡ Some (y, rest) → Taken (head operation s ++ left) y rest
+behind_takes : (operation : ℕ) (s : Status) (left : List ℕ) (y : Res) (rest : List ℕ)
+    → IsBytes left → behind operation s left ≡ Some (y, rest) → Taken (head operation s ++ left) y rest
 behind_takes operation s left y rest f e =
     elim (chosen (eqb (status_number s) 0) (done_by (op_num operation) left) (refused_at operation s left) (Some (y, rest)) e) [
       | inl q ↦
@@ -141,7 +157,8 @@ behind_head operation s left small =
     ap result.read (append_assoc (spelling.number operation) (spelling.number (status_number s)) left)
     ∙ rw (is_number.again operation (spelling.number (status_number s) ++ left) small, is_status.again s left tt) refl
 
-told_again : {A : Type 0} (operation : ℕ) (s : Status) (make : A → Res) (c : Codec A) → IsCodec c → operation < 2 ^ 32 → (x : A) (rest : List ℕ) → c.Fits x → ((left : List ℕ) → behind operation s left ≡ arm make c left)
+told_again : {A : Type 0} (operation : ℕ) (s : Status) (make : A → Res) (c : Codec A) → IsCodec c → operation < 2 ^ 32
+    → (x : A) (rest : List ℕ) → c.Fits x → ((left : List ℕ) → behind operation s left ≡ arm make c left)
     → spell_result (make x) ≡ head operation s ++ c.spell x → result.read (spell_result (make x) ++ rest) ≡ Some (make x, rest)
 told_again operation s make c p small x rest fits reads spells =
     ap (λ (w : List ℕ). result.read (w ++ rest)) spells
@@ -150,12 +167,14 @@ told_again operation s make c p small x rest fits reads spells =
     ∙ reads (c.spell x ++ rest)
     ∙ rw (p.again x rest fits) refl
 
-alone_again : (operation : ℕ) (s : Status) (x : Res) (rest : List ℕ) → operation < 2 ^ 32 → behind operation s rest ≡ Some (x, rest) → spell_result x ≡ head operation s ++ [] → result.read (spell_result x ++ rest) ≡ Some (x, rest)
+alone_again : (operation : ℕ) (s : Status) (x : Res) (rest : List ℕ) → operation < 2 ^ 32 → behind operation s rest ≡ Some (x, rest)
+    → spell_result x ≡ head operation s ++ [] → result.read (spell_result x ++ rest) ≡ Some (x, rest)
 alone_again operation s x rest small reads spells =
     ap (λ (w : List ℕ). result.read (w ++ rest)) (spells ∙ append-nil (head operation s)) ∙ behind_head operation s rest small ∙ reads
 
 -- the tests of a refusal with nothing behind it, in their order
-passes : {A : Type 0} (bears set lock test denied : Bool) (x y z w v : A) → bears && not (set || ((lock || test) && denied)) ≡ true → cond set x (cond (lock && denied) y (cond (test && denied) z (cond (bears && not (set || ((lock || test) && denied))) w v))) ≡ w
+passes : {A : Type 0} (bears set lock test denied : Bool) (x y z w v : A) → bears && not (set || ((lock || test) && denied)) ≡ true
+    → cond set x (cond (lock && denied) y (cond (test && denied) z (cond (bears && not (set || ((lock || test) && denied))) w v))) ≡ w
 passes true true lock test denied x y z w v e = absurd (false≢true e)
 passes true false true test true x y z w v e = absurd (false≢true e)
 passes true false true true false x y z w v e = refl
@@ -165,7 +184,9 @@ passes true false false true false x y z w v e = refl
 passes true false false false denied x y z w v e = refl
 passes false set lock test denied x y z w v e = absurd (false≢true e)
 
-bears_some : (b : Bool) (operation code : ℕ) → eqb operation 10044 ≡ b → cond b (eqb code 10044 || eqb code 10066) (leb 3 operation && leb operation 58 && not (eqb code 0 || eqb code 10044)) ≡ true → (operation < 2 ^ 32) × (eqb code 0 ≡ false)
+bears_some : (b : Bool) (operation code : ℕ) → eqb operation 10044 ≡ b
+    → cond b (eqb code 10044 || eqb code 10066) (leb 3 operation && leb operation 58 && not (eqb code 0 || eqb code 10044)) ≡ true
+    → (operation < 2 ^ 32) × (eqb code 0 ≡ false)
 bears_some true operation code is e = (omega (arith, eqb-true operation 10044 is), either (eqb code 10044) (eqb code 10066) refl refl e)
   where
     either : (b c : Bool) → eqb code 10044 ≡ b → eqb code 10066 ≡ c → b || c ≡ true → eqb code 0 ≡ false
@@ -181,12 +202,15 @@ bears_some false operation code is e =
     neither true c h = absurd (false≢true h)
     neither false c h = refl
 
-refused_again : (operation : ℕ) (s : Status) (rest : List ℕ) → can_refuse operation s ≡ true → result.read (spell_result (Refused operation s) ++ rest) ≡ Some (Refused operation s, rest)
+refused_again : (operation : ℕ) (s : Status) (rest : List ℕ) → can_refuse operation s ≡ true
+    → result.read (spell_result (Refused operation s) ++ rest) ≡ Some (Refused operation s, rest)
 unfolding refused_at
 refused_again operation s rest fits =
     let b = bears_some (eqb operation 10044) operation (status_number s) refl (and_parts (bears operation s) (not (tells operation s)) fits).0 in
-    let refuses : refused_at operation s rest ≡ Some (Refused operation s, rest) = passes (bears operation s) (eqb operation 34) (eqb operation 12) (eqb operation 13) (eqb (status_number s) 10010) _ _ _ _ None fits in
-    alone_again operation s (Refused operation s) rest b.0 (ap (λ (ok : Bool). cond ok (done_by (op_num operation) rest) (refused_at operation s rest)) b.1 ∙ refuses) refl
+    let refuses : refused_at operation s rest ≡ Some (Refused operation s, rest) =
+    passes (bears operation s) (eqb operation 34) (eqb operation 12) (eqb operation 13) (eqb (status_number s) 10010) _ _ _ _ None fits in
+    alone_again operation s (Refused operation s) rest b.0
+    (ap (λ (ok : Bool). cond ok (done_by (op_num operation) rest) (refused_at operation s rest)) b.1 ∙ refuses) refl
 
 -- SETATTR tells what was set with every status
 set_behind : (b : Bool) (s : Status) (left : List ℕ) → eqb (status_number s) 0 ≡ b → behind 34 s left ≡ arm (ResSetAttr s) item.attr_set left
@@ -224,11 +248,13 @@ result_again (ResRemove x) rest fits = told_again 28 Nfs4Ok ResRemove item.chang
 result_again (ResRename x) rest fits = told_again 29 Nfs4Ok ResRename item.rename is_rename (omega arith) x rest fits (λ _. refl) refl
 result_again ResRestoreFh rest fits = alone_again 31 Nfs4Ok ResRestoreFh rest (omega arith) refl refl
 result_again ResSaveFh rest fits = alone_again 32 Nfs4Ok ResSaveFh rest (omega arith) refl refl
-result_again (ResSetAttr s x) rest fits = told_again 34 s (ResSetAttr s) item.attr_set is_attr_set (omega arith) x rest fits (λ left. set_behind (eqb (status_number s) 0) s left refl) refl
+result_again (ResSetAttr s x) rest fits =
+    told_again 34 s (ResSetAttr s) item.attr_set is_attr_set (omega arith) x rest fits (λ left. set_behind (eqb (status_number s) 0) s left refl) refl
 result_again ResVerify rest fits = alone_again 37 Nfs4Ok ResVerify rest (omega arith) refl refl
 result_again (ResWrite x) rest fits = told_again 38 Nfs4Ok ResWrite item.write_ok is_write_ok (omega arith) x rest fits (λ _. refl) refl
 result_again (ResExchangeId x) rest fits = told_again 42 Nfs4Ok ResExchangeId item.exchange_id is_exchange_id (omega arith) x rest fits (λ _. refl) refl
-result_again (ResCreateSession x) rest fits = told_again 43 Nfs4Ok ResCreateSession item.create_session is_create_session (omega arith) x rest fits (λ _. refl) refl
+result_again (ResCreateSession x) rest fits =
+    told_again 43 Nfs4Ok ResCreateSession item.create_session is_create_session (omega arith) x rest fits (λ _. refl) refl
 result_again ResDestroySession rest fits = alone_again 44 Nfs4Ok ResDestroySession rest (omega arith) refl refl
 result_again ResFreeStateid rest fits = alone_again 45 Nfs4Ok ResFreeStateid rest (omega arith) refl refl
 result_again (ResSecinfoNoName x) rest fits = told_again 52 Nfs4Ok ResSecinfoNoName item.flavors is_flavors (omega arith) x rest fits (λ _. refl) refl
@@ -245,7 +271,11 @@ is_result = record {
       let t = bind_some (status.read s.0.1) (λ code. behind s.0.0 code.0 code.1) (y, rest) s.2 in
       let first = is_number.takes bytes s.0.0 s.0.1 fits s.1 in
       let second = is_status.takes s.0.1 t.0.0 t.0.1 first.1 t.1 in
-      let third = behind_takes s.0.0 t.0.0 t.0.1 y rest second.1 t.2 in
-      (first.0 ∙ ap (λ (w : List ℕ). spelling.number s.0.0 ++ w) second.0 ∙ sym (append_assoc (spelling.number s.0.0) (spelling.number (status_number t.0.0)) t.0.1) ∙ third.0, third.1, third.2);
+      let third = behind_takes s.0.0 t.0.0 t.0.1 y rest second.1 t.2 in (
+        first.0 ∙ ap (λ (w : List ℕ). spelling.number s.0.0 ++ w) second.0
+            ∙ sym (append_assoc (spelling.number s.0.0) (spelling.number (status_number t.0.0)) t.0.1) ∙ third.0,
+        third.1,
+        third.2,
+      );
   again = result_again;
 }

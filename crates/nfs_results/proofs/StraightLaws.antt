@@ -13,7 +13,8 @@ pub read_in_parts : (r : ReadOk) → spell_result (ResRead r) ≡ read_head r.eo
 unfolding read_ok
 read_in_parts r =
     let tail : List ℕ = r.bytes ++ read_end (length r.bytes) in
-    sym (append_assoc (done_head Op.Read) (flag r.eof ++ number (length r.bytes)) tail ∙ ap (λ (w : List ℕ). done_head Op.Read ++ w) (append_assoc (flag r.eof) (number (length r.bytes)) tail))
+    sym (append_assoc (done_head Op.Read) (flag r.eof ++ number (length r.bytes)) tail
+    ∙ ap (λ (w : List ℕ). done_head Op.Read ++ w) (append_assoc (flag r.eof) (number (length r.bytes)) tail))
 
 one_entry : (e : Entry) (rest : List ℕ) → flag true ++ (entry.spell e ++ rest) ≡ entry_text e ++ rest
 unfolding entry
@@ -28,7 +29,8 @@ entries_in_parts : (es : List Entry) (eof : Bool) → spell_chain entry.spell es
 entries_in_parts [] eof = refl
 entries_in_parts (e ∷ es) eof =
     append_assoc (flag true) (entry.spell e ++ spell_chain entry.spell es) (flag eof)
-    ∙ ap (λ (w : List ℕ). flag true ++ w) (append_assoc (entry.spell e) (spell_chain entry.spell es) (flag eof) ∙ ap (λ (w : List ℕ). entry.spell e ++ w) (entries_in_parts es eof))
+    ∙ ap (λ (w : List ℕ). flag true ++ w)
+    (append_assoc (entry.spell e) (spell_chain entry.spell es) (flag eof) ∙ ap (λ (w : List ℕ). entry.spell e ++ w) (entries_in_parts es eof))
     ∙ one_entry e (flat_map entry_text es ++ list_end eof)
     ∙ sym (append_assoc (entry_text e) (flat_map entry_text es) (list_end eof))
 

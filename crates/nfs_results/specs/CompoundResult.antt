@@ -23,7 +23,8 @@ spell_compound c = spell_compound_head c.status c.tag (length c.results) ++ flat
 
 -- the same item by item, and how it is read
 abbrev pub parts : Codec CompoundResult
-parts = as_type (λ (status, (tag, results)). record { status = status; tag = tag; results = results }) (λ c. (c.status, (c.tag, c.results))) (status then codec.opaque 1024 then array result)
+parts = as_type (λ (status, (tag, results)). record { status = status; tag = tag; results = results })
+    (λ c. (c.status, (c.tag, c.results))) (status then codec.opaque 1024 then array result)
 
 abbrev pub compound_result : Codec CompoundResult
 compound_result = record { spell = spell_compound; Fits = parts.Fits; read = parts.read }

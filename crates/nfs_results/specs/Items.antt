@@ -43,7 +43,8 @@ fattr = as_type (λ (attrmask, attr_vals). record { attrmask = attrmask; attr_va
 
 -- change_info4
 unfoldable pub change_info : Codec ChangeInfo
-change_info = as_type (λ (atomic, (before, after)). record { atomic = atomic; before = before; after = after }) (λ c. (c.atomic, (c.before, c.after))) (flag then hyper then hyper)
+change_info = as_type (λ (atomic, (before, after)). record { atomic = atomic; before = before; after = after })
+    (λ c. (c.atomic, (c.before, c.after))) (flag then hyper then hyper)
 
 unfoldable pub access : Codec AccessOk
 access = as_type (λ (supported, access). record { supported = supported; access = access }) (λ a. (a.supported, a.access)) (number then number)
@@ -52,28 +53,34 @@ unfoldable pub create : Codec CreateOk
 create = as_type (λ (cinfo, attrset). record { cinfo = cinfo; attrset = attrset }) (λ c. (c.cinfo, c.attrset)) (change_info then attr_set)
 
 unfoldable pub denied : Codec Denied
-denied = as_type (λ (offset, (extent, (locktype, owner))). record { offset = offset; extent = extent; locktype = locktype; owner = owner }) (λ d. (d.offset, (d.extent, (d.locktype, d.owner))))
+denied = as_type (λ (offset, (extent, (locktype, owner))). record { offset = offset; extent = extent; locktype = locktype; owner = owner })
+    (λ d. (d.offset, (d.extent, (d.locktype, d.owner))))
     (hyper then hyper then lock_type then state_owner)
 
 -- The flags are OPEN4_RESULT_LOCKTYPE_POSIX and OPEN4_RESULT_PRESERVE_UNLINKED, and the delegation is none.
 unfoldable pub open_ok : Codec OpenOk
-open_ok = as_type (λ (stateid, (cinfo, (rflags, (attrset, delegation)))). record { stateid = stateid; cinfo = cinfo; attrset = attrset }) (λ o. (o.stateid, (o.cinfo, (tt, (o.attrset, tt)))))
+open_ok = as_type (λ (stateid, (cinfo, (rflags, (attrset, delegation)))). record { stateid = stateid; cinfo = cinfo; attrset = attrset })
+    (λ o. (o.stateid, (o.cinfo, (tt, (o.attrset, tt)))))
     (stateid then change_info then always 12 then attr_set then always 0)
 
 unfoldable pub read_ok : Codec ReadOk
 read_ok = as_type (λ (eof, bytes). record { eof = eof; bytes = bytes }) (λ r. (r.eof, r.bytes)) (flag then unbounded)
 
 unfoldable pub entry : Codec Entry
-entry = as_type (λ (cookie, (name, attrs)). record { cookie = cookie; name = name; attrs = attrs }) (λ e. (e.cookie, (e.name, e.attrs))) (hyper then unbounded then fattr)
+entry = as_type (λ (cookie, (name, attrs)). record { cookie = cookie; name = name; attrs = attrs })
+    (λ e. (e.cookie, (e.name, e.attrs))) (hyper then unbounded then fattr)
 
 unfoldable pub read_dir : Codec ReadDirOk
-read_dir = as_type (λ (cookieverf, (entries, eof)). record { cookieverf = cookieverf; entries = entries; eof = eof }) (λ r. (r.cookieverf, (r.entries, r.eof))) (fixed 8 then chain entry then flag)
+read_dir = as_type (λ (cookieverf, (entries, eof)). record { cookieverf = cookieverf; entries = entries; eof = eof })
+    (λ r. (r.cookieverf, (r.entries, r.eof))) (fixed 8 then chain entry then flag)
 
 unfoldable pub rename : Codec RenameOk
-rename = as_type (λ (source_cinfo, target_cinfo). record { source_cinfo = source_cinfo; target_cinfo = target_cinfo }) (λ r. (r.source_cinfo, r.target_cinfo)) (change_info then change_info)
+rename = as_type (λ (source_cinfo, target_cinfo). record { source_cinfo = source_cinfo; target_cinfo = target_cinfo })
+    (λ r. (r.source_cinfo, r.target_cinfo)) (change_info then change_info)
 
 unfoldable pub write_ok : Codec WriteOk
-write_ok = as_type (λ (count, (committed, writeverf)). record { count = count; committed = committed; writeverf = writeverf }) (λ w. (w.count, (w.committed, w.writeverf))) (number then stable_how then fixed 8)
+write_ok = as_type (λ (count, (committed, writeverf)). record { count = count; committed = committed; writeverf = writeverf })
+    (λ w. (w.count, (w.committed, w.writeverf))) (number then stable_how then fixed 8)
 
 -- The state protection is none, and no implementation is told.
 unfoldable pub exchange_id : Codec ExchangeIdOk

@@ -5,7 +5,9 @@ use Rattle.nfs_compound.specs.declared.op_num.OpNum.TheVariants as Op
 use Rattle.nfs_compound.specs.OpNum.{op_number}
 use Rattle.nfs_compound.specs.Arguments.{arguments}
 use Rattle.nfs_compound.specs.Operation.{Op, OpRead, OpReadDir, OpTestStateid, Item, Operation, Fault}
-use Rattle.nfs_results.specs.Result.{Res, ResAccess, ResClose, ResCommit, ResCreate, ResGetAttr, ResGetFh, ResLink, ResLock, ResLockDenied, ResLockT, ResLockTDenied, ResLockU, ResOpen, ResRead, ResReadDir, ResReadLink, ResSetAttr, ResExchangeId, ResCreateSession, ResSecinfoNoName, ResTestStateid, Refused}
+use Rattle.nfs_results.specs.Result.{Res, ResAccess, ResClose, ResCommit, ResCreate, ResGetAttr, ResGetFh, ResLink, ResLock, ResLockDenied, ResLockT}
+use Rattle.nfs_results.specs.Result.{ResLockTDenied, ResLockU, ResOpen, ResRead, ResReadDir, ResReadLink, ResSetAttr, ResExchangeId, ResCreateSession}
+use Rattle.nfs_results.specs.Result.{ResSecinfoNoName, ResTestStateid, Refused}
 use Rattle.nfs_results.specs.Results.{operation_of, parts, IsBounded, HasArrays}
 
 -- no more than this many bytes are given at once

@@ -11,7 +11,11 @@ use Rattle.nfs_compound.specs.declared.op_num.OpNum.TheVariants as Op
 use Rattle.nfs_compound.specs.OpNum.{op_number, op_num}
 use Rattle.nfs_compound.specs.Stateid.{stateid}
 use Rattle.nfs_results.specs.Items as item
-use Rattle.nfs_results.specs.Result.{Res, ResAccess, ResClose, ResCommit, ResCreate, ResGetAttr, ResGetFh, ResLink, ResLock, ResLockDenied, ResLockT, ResLockTDenied, ResLockU, ResLookup, ResLookupP, ResNVerify, ResOpen, ResOpenDowngrade, ResPutFh, ResPutPubFh, ResPutRootFh, ResRead, ResReadDir, ResReadLink, ResRemove, ResRename, ResRestoreFh, ResSaveFh, ResSetAttr, ResVerify, ResWrite, ResExchangeId, ResCreateSession, ResDestroySession, ResFreeStateid, ResSecinfoNoName, ResSequence, ResTestStateid, ResDestroyClientId, ResReclaimComplete, Refused}
+use Rattle.nfs_results.specs.Result.{Res, ResAccess, ResClose, ResCommit, ResCreate, ResGetAttr, ResGetFh, ResLink, ResLock, ResLockDenied, ResLockT}
+use Rattle.nfs_results.specs.Result.{ResLockTDenied, ResLockU, ResLookup, ResLookupP, ResNVerify, ResOpen, ResOpenDowngrade, ResPutFh, ResPutPubFh}
+use Rattle.nfs_results.specs.Result.{ResPutRootFh, ResRead, ResReadDir, ResReadLink, ResRemove, ResRename, ResRestoreFh, ResSaveFh, ResSetAttr, ResVerify}
+use Rattle.nfs_results.specs.Result.{ResWrite, ResExchangeId, ResCreateSession, ResDestroySession, ResFreeStateid, ResSecinfoNoName, ResSequence}
+use Rattle.nfs_results.specs.Result.{ResTestStateid, ResDestroyClientId, ResReclaimComplete, Refused}
 
 -- What makes a result: its operation number, its status, what is behind them, whether that fits, and what has to hold
 -- for that beside the sizes of numbers and of arrays, which their types tell.
@@ -47,7 +51,8 @@ bears operation s =
 
 -- SETATTR tells more than its status, and so do LOCK and LOCKT that are denied
 abbrev pub tells : ℕ → Status → Bool
-tells operation s = operation == op_number Op.SetAttr || ((operation == op_number Op.Lock || operation == op_number Op.LockT) && status_number s == status_number Denied)
+tells operation s = operation == op_number Op.SetAttr
+    || ((operation == op_number Op.Lock || operation == op_number Op.LockT) && status_number s == status_number Denied)
 
 abbrev pub can_refuse : ℕ → Status → Bool
 can_refuse operation s = bears operation s && not (tells operation s)
@@ -191,4 +196,8 @@ abbrev pub behind : ℕ → Status → List ℕ → Option (Res × List ℕ)
 behind operation s bytes = if status_number s == status_number Nfs4Ok then done_by (op_num operation) bytes else refused_at operation s bytes
 
 abbrev pub result : Codec Res
-result = record { spell = spell_result; Fits = FitsResult; read = λ bytes. number_at bytes >>= λ operation. status.read operation.1 >>= λ s. behind operation.0 s.0 s.1 }
+result = record {
+  spell = spell_result;
+  Fits = FitsResult;
+  read = λ bytes. number_at bytes >>= λ operation. status.read operation.1 >>= λ s. behind operation.0 s.0 s.1;
+}

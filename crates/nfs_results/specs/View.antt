@@ -51,7 +51,14 @@ abbrev pub read_dir : rust_read_dir.ReadDirOk → result.ReadDirOk
 read_dir r = record { cookieverf = r.cookieverf; entries = r.entries; eof = r.eof }
 
 abbrev pub exchange_id : rust_exchange_id.ExchangeIdOk → result.ExchangeIdOk
-exchange_id r = record { clientid = r.clientid; sequenceid = r.sequenceid; flags = r.flags; minor_id = r.minor_id; major_id = r.major_id.now; server_scope = r.server_scope.now }
+exchange_id r = record {
+  clientid = r.clientid;
+  sequenceid = r.sequenceid;
+  flags = r.flags;
+  minor_id = r.minor_id;
+  major_id = r.major_id.now;
+  server_scope = r.server_scope.now;
+}
 
 abbrev pub flavors : rust_flavors.Flavors → List ℕ
 flavors f = map (from_be_bytes w32) f.spelled.now

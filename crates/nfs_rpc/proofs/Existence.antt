@@ -32,15 +32,28 @@ byte_holds rest p b fits h =
     ]
 
 -- behind it the same bytes are read on
-go_on : (front bytes : List ℕ) (held : Held) → Holds front held → IsBytes (front ++ bytes) → ((rest : List ℕ) (p : Part) → IsPart rest p → IsBytes (rest ++ bytes) → Read (rest ++ bytes)) → Read (front ++ bytes)
+go_on : (front bytes : List ℕ) (held : Held) → Holds front held → IsBytes (front ++ bytes)
+    → ((rest : List ℕ) (p : Part) → IsPart rest p → IsBytes (rest ++ bytes) → Read (rest ++ bytes)) → Read (front ++ bytes)
 go_on front bytes (Begun p) holds fits more = more front p holds fits
 go_on front bytes (Complete d) holds fits more =
     let next = more [] start starts (bytes_behind_front front bytes fits) in
-    record { records = d ∷ next.records; end = next.end; reading = record { behind = next.reading.behind; stands = (front, bytes, refl, holds, next.reading.stands); ends = next.reading.ends } }
-go_on front bytes Failed holds fits more = record { records = []; end = TooLong; reading = record { behind = front ++ bytes; stands = refl; ends = (front, bytes, refl, holds) } }
+    record {
+      records = d ∷ next.records;
+      end = next.end;
+      reading = record { behind = next.reading.behind; stands = (front, bytes, refl, holds, next.reading.stands); ends = next.reading.ends };
+    }
+go_on front bytes Failed holds fits more = record {
+  records = [];
+  end = TooLong;
+  reading = record { behind = front ++ bytes; stands = refl; ends = (front, bytes, refl, holds) };
+}
 
 reads : (bytes rest : List ℕ) (p : Part) → IsPart rest p → IsBytes (rest ++ bytes) → Read (rest ++ bytes)
-reads [] rest p h fits = record { records = []; end = Open rest; reading = record { behind = rest ++ []; stands = refl; ends = (append-nil rest, part_unfinished rest p h) } }
+reads [] rest p h fits = record {
+  records = [];
+  end = Open rest;
+  reading = record { behind = rest ++ []; stands = refl; ends = (append-nil rest, part_unfinished rest p h) };
+}
 reads (b ∷ bytes) rest p h fits =
     let longer : rest ++ b ∷ bytes ≡ (rest ++ b ∷ []) ++ bytes = sym (append_assoc rest (b ∷ []) bytes) in
     let fit : IsBytes ((rest ++ b ∷ []) ++ bytes) = subst IsBytes longer fits in

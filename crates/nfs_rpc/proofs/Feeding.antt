@@ -14,7 +14,8 @@ take_share piece i k =
     ∙ take-append-drop i (take (i + k) piece)
 
 pub share_taken : (rest piece : List ℕ) (i k : ℕ) (self new : Held) → IsBytes rest → IsBytes piece → Holds (rest ++ take i piece) self
-    → ((before : List ℕ) → IsBytes before → Holds before self → Holds (before ++ take k (take (length piece - i) (drop i piece))) new) → Holds (rest ++ take (i + k) piece) new
+    → ((before : List ℕ) → IsBytes before → Holds before self → Holds (before ++ take k (take (length piece - i) (drop i piece))) new)
+    → Holds (rest ++ take (i + k) piece) new
 share_taken rest piece i k self new fits fits_piece holds step =
     subst (λ w. Holds w new) (append_assoc rest (take i piece) _ ∙ ap (λ w. rest ++ w) (take_share piece i k))
     (step (rest ++ take i piece) (IsBytes-append rest (take i piece) fits (IsBytes-take i piece fits_piece)) holds)

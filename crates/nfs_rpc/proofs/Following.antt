@@ -14,7 +14,8 @@ pub part_read : (rest : List ℕ) (p : Part) → IsPart rest p → IsReading res
 part_read rest p h = record { behind = rest; stands = refl; ends = (refl, part_unfinished rest p h) }
 
 -- one is, and the bytes behind it are read on
-pub record_read : (rest piece : List ℕ) (used : ℕ) (d : List ℕ) (records : List (List ℕ)) (end : End) → IsRecord (rest ++ take used piece) d → IsReading (drop used piece) records end → IsReading (rest ++ piece) (d ∷ records) end
+pub record_read : (rest piece : List ℕ) (used : ℕ) (d : List ℕ) (records : List (List ℕ)) (end : End)
+    → IsRecord (rest ++ take used piece) d → IsReading (drop used piece) records end → IsReading (rest ++ piece) (d ∷ records) end
 record_read rest piece used d records end h r = record {
   behind = r.behind;
   stands = (rest ++ take used piece, drop used piece, parted rest piece used, h, r.stands);

@@ -1,5 +1,6 @@
 -- Fragments and their marks.
-use Rattle.std.proofs.Common.{◌≡◌, ℕ, ◌+◌, ◌-◌, ◌%◌, ◌^◌, ◌<◌, Bool, true, false, leb, List, [], ◌∷◌, ◌++◌, length, refl, sym, ap, ◌∙◌, append_assoc, inl, inr, arith}
+use Rattle.std.proofs.Common.{◌≡◌, ℕ, ◌+◌, ◌-◌, ◌%◌, ◌^◌, ◌<◌, Bool, true, false, leb, List, [], ◌∷◌, ◌++◌, length, refl, sym, ap, ◌∙◌, append_assoc, inl, inr}
+use Rattle.std.proofs.Common.{arith}
 use Rattle.std.proofs.lemmas.Bool.{cases_lt, leb-true, leb-false}
 use Rattle.std.proofs.lemmas.List.{append-nil, get_or-append-add, get_or_append_left, get_or-append_right}
 use Rattle.std.proofs.lemmas.List.Concat.{flat_map-append}
@@ -9,7 +10,8 @@ use Rattle.nfs_rpc.specs.RecordMarking.{spell_mark, fragments, joined}
 
 -- a whole fragment that is not the last
 pub more_fragments : (before : List (List ℕ)) (d : List ℕ) → fragments (before ++ d ∷ []) ≡ fragments before ++ (spell_mark false (length d) ++ d)
-more_fragments before d = flat_map-append (λ x. spell_mark false (length x) ++ x) before (d ∷ []) ∙ ap (λ w. fragments before ++ w) (append-nil (spell_mark false (length d) ++ d))
+more_fragments before d = flat_map-append (λ x. spell_mark false (length x) ++ x) before (d ∷ [])
+    ∙ ap (λ w. fragments before ++ w) (append-nil (spell_mark false (length d) ++ d))
 
 pub more_joined : (before : List (List ℕ)) (d : List ℕ) → joined (before ++ d ∷ []) ≡ joined before ++ d
 more_joined before d = flat_map-append (λ x. x) before (d ∷ []) ∙ ap (λ w. joined before ++ w) (append-nil d)
@@ -24,7 +26,8 @@ word_mark word lt = cases (leb 2147483648 word) refl
 
 -- bytes behind an open fragment
 pub further : (stream front head begun bytes : List ℕ) → stream ≡ front ++ (head ++ begun) → stream ++ bytes ≡ front ++ (head ++ (begun ++ bytes))
-further stream front head begun bytes e = ap (λ w. w ++ bytes) e ∙ append_assoc front (head ++ begun) bytes ∙ ap (λ w. front ++ w) (append_assoc head begun bytes)
+further stream front head begun bytes e = ap (λ w. w ++ bytes) e
+    ∙ append_assoc front (head ++ begun) bytes ∙ ap (λ w. front ++ w) (append_assoc head begun bytes)
 
 pub IsBytes-append : (xs ys : List ℕ) → IsBytes xs → IsBytes ys → IsBytes (xs ++ ys)
 IsBytes-append xs ys h k = record {

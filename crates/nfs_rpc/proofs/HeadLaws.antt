@@ -1,5 +1,6 @@
 -- The codecs of a call's head read what they spell, and what is accepted is spelled so.
-use Rattle.std.proofs.Common.{◌≡◌, ℕ, ◌<◌, ◌^◌, Bool, true, false, cond, eqb, not, List, [], ◌∷◌, ◌++◌, length, Option, Some, None, Result, Ok, Err, refl, sym, ap, ◌∙◌, arith}
+use Rattle.std.proofs.Common.{◌≡◌, ℕ, ◌<◌, ◌^◌, Bool, true, false, cond, eqb, not, List, [], ◌∷◌, ◌++◌, length, Option, Some, None, Result, Ok, Err, refl, sym}
+use Rattle.std.proofs.Common.{ap, ◌∙◌, arith}
 use Rattle.std.specs.Prelude.{nat_le}
 use Rattle.std.specs.Int.{w32, from_be_bytes}
 use Rattle.std.proofs.lemmas.Bool.{eqb-true}
@@ -12,7 +13,8 @@ use Rattle.nfs_xdr.proofs.CodecLaws.{bind_some, is_number, is_opaque, is_then, i
 use Rattle.nfs_rpc.specs.declared.refusal.Refusal.{Refusal}
 use Rattle.nfs_rpc.specs.declared.refusal.AuthStat.{AuthStat}
 use Rattle.nfs_xdr.specs.Caller.{Caller}
-use Rattle.nfs_rpc.specs.CallHead.{opaque_auth, Header, header, AuthSys, auth_sys, told, whole, caller_of, caller_by, Call, Called, Accepted, Refused, or_silent, or_auth, unless, checks, call_with, judged, call_of, spell_call}
+use Rattle.nfs_rpc.specs.CallHead.{opaque_auth, Header, header, AuthSys, auth_sys, told, whole, caller_of, caller_by, Call, Called, Accepted, Refused}
+use Rattle.nfs_rpc.specs.CallHead.{or_silent, or_auth, unless, checks, call_with, judged, call_of, spell_call}
 
 pub is_opaque_auth : IsCodec opaque_auth
 unfolding opaque_auth
@@ -41,7 +43,8 @@ call_judged xid h args small fits =
       is_header.again h args fits,
     ) refl
 
-read_some : {A : Type 0} (r : Option (A × List ℕ)) (go : A → List ℕ → Called) (c : Call) → or_silent r go ≡ Accepted c → (x : A × List ℕ) × (r ≡ Some x) × (go x.0 x.1 ≡ Accepted c)
+read_some : {A : Type 0} (r : Option (A × List ℕ)) (go : A → List ℕ → Called) (c : Call)
+    → or_silent r go ≡ Accepted c → (x : A × List ℕ) × (r ≡ Some x) × (go x.0 x.1 ≡ Accepted c)
 read_some None go c e = absurd cc
 read_some (Some x) go c e = (x, refl, e)
 
@@ -100,14 +103,16 @@ call_taken bytes c fits e =
 -- the body of AUTH_SYS, both ways
 pub body_told : (s : AuthSys) → auth_sys.Fits s → caller_of (auth_sys.spell s) ≡ Some (told s)
 unfolding caller_of
-body_told s fits = ap (λ (r : Option (AuthSys × List ℕ)). whole r >>= λ x. Some (told x)) (ap auth_sys.read (sym (append-nil (auth_sys.spell s))) ∙ is_auth_sys.again s [] fits)
+body_told s fits = ap (λ (r : Option (AuthSys × List ℕ)). whole r >>= λ x. Some (told x))
+    (ap auth_sys.read (sym (append-nil (auth_sys.spell s))) ∙ is_auth_sys.again s [] fits)
 
 whole_some : {A : Type 0} (r : Option (A × List ℕ)) (x : A) → whole r ≡ Some x → r ≡ Some (x, [])
 whole_some None x e = absurd cc
 whole_some {A} (Some (y, [])) x e = ap (λ (z : A). Some (z, [])) (same_Some y x e)
 whole_some (Some (y, b ∷ bytes)) x e = absurd cc
 
-pub body_taken : (body : List ℕ) (who : Caller) → IsBytes body → caller_of body ≡ Some who → (s : AuthSys) × auth_sys.Fits s × (body ≡ auth_sys.spell s) × (who ≡ told s)
+pub body_taken : (body : List ℕ) (who : Caller) → IsBytes body → caller_of body ≡ Some who
+    → (s : AuthSys) × auth_sys.Fits s × (body ≡ auth_sys.spell s) × (who ≡ told s)
 unfolding caller_of
 body_taken body who fits e =
     let s = bind_some (whole (auth_sys.read body)) (λ x. Some (told x)) who e in

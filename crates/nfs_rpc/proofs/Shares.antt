@@ -23,9 +23,11 @@ begun_held (Begun p) e = (p, refl)
 begun_held (Complete record_data) e = absurd cc
 begun_held Failed e = absurd cc
 
-pub mark_whole : (q p : Part) (bytes mark : List ℕ) (word : ℕ) (new : Held) → q ≡ p → mark ≡ q.mark ++ bytes → length mark ≡ 4 → word ≡ from_be_bytes w32 mark → new ≡ at_mark q.taken word → new ≡ with_mark p bytes
+pub mark_whole : (q p : Part) (bytes mark : List ℕ) (word : ℕ) (new : Held) → q ≡ p → mark ≡ q.mark ++ bytes
+    → length mark ≡ 4 → word ≡ from_be_bytes w32 mark → new ≡ at_mark q.taken word → new ≡ with_mark p bytes
 unfolding with_mark
 mark_whole q p bytes mark word new same grown four read e =
     let long : length (p.mark ++ bytes) ≡ 4 = ap length (ap (λ (x : Part). x.mark ++ bytes) (sym same) ∙ sym grown) ∙ four in
-    let words : word ≡ from_be_bytes w32 (p.mark ++ bytes) = read ∙ ap (λ (w : List ℕ). from_be_bytes w32 w) (grown ∙ ap (λ (x : Part). x.mark ++ bytes) same) in
+    let words : word ≡ from_be_bytes w32 (p.mark ++ bytes) =
+    read ∙ ap (λ (w : List ℕ). from_be_bytes w32 w) (grown ∙ ap (λ (x : Part). x.mark ++ bytes) same) in
     rw (eq-eqb _ _ long) (e ∙ ap (λ (x : Part). at_mark x.taken word) same ∙ ap (at_mark p.taken) words)

@@ -1,5 +1,6 @@
 -- Two walks along the fragments of one stream stop at one place.
-use Rattle.std.proofs.Common.{◌≡◌, ℕ, ◌+◌, ◌<◌, ◌≤◌, ◌^◌, Bool, true, false, List, [], ◌∷◌, ◌++◌, length, take, drop, refl, sym, ap, subst, ◌∙◌, append_assoc, arith}
+use Rattle.std.proofs.Common.{◌≡◌, ℕ, ◌+◌, ◌<◌, ◌≤◌, ◌^◌, Bool, true, false, List, [], ◌∷◌, ◌++◌, length, take, drop, refl, sym, ap, subst, ◌∙◌, append_assoc}
+use Rattle.std.proofs.Common.{arith}
 use Rattle.std.proofs.lemmas.Option.{some_pair_parts}
 use Rattle.std.proofs.lemmas.List.{take_at, drop_at, length-append}
 use Rattle.nfs_xdr.specs.Spelling.{number}
@@ -37,9 +38,11 @@ length_mark false n = length_number n
 length_mark true n = length_number (2147483648 + n)
 
 -- a mark is read in one way
-pub mark_same : (a b : Bool) (n m : ℕ) (xs ys : List ℕ) → n < 2147483648 → m < 2147483648 → spell_mark a n ++ xs ≡ spell_mark b m ++ ys → (a ≡ b) × (n ≡ m) × (xs ≡ ys)
+pub mark_same : (a b : Bool) (n m : ℕ) (xs ys : List ℕ) → n < 2147483648 → m < 2147483648
+    → spell_mark a n ++ xs ≡ spell_mark b m ++ ys → (a ≡ b) × (n ≡ m) × (xs ≡ ys)
 mark_same a b n m xs ys p q e =
-    let words = number_same (word_of a n) (word_of b m) xs ys (word_small a n p) (word_small b m q) (ap (λ w. w ++ xs) (sym (word_spelled a n)) ∙ e ∙ ap (λ w. w ++ ys) (word_spelled b m)) in
+    let words = number_same (word_of a n) (word_of b m) xs ys (word_small a n p) (word_small b m q)
+    (ap (λ w. w ++ xs) (sym (word_spelled a n)) ∙ e ∙ ap (λ w. w ++ ys) (word_spelled b m)) in
     let parts = word_parts a b n m p q words.0 in
     (parts.0, parts.1, words.1)
 
@@ -56,7 +59,8 @@ pub record Stops (n : ℕ) (tail : List ℕ) : Type 0 where
 first : (d : List ℕ) (ds : List (List ℕ)) (tail : List ℕ) → fragments (d ∷ ds) ++ tail ≡ spell_mark false (length d) ++ (d ++ (fragments ds ++ tail))
 first d ds tail = append_assoc (spell_mark false (length d) ++ d) (fragments ds) tail ∙ append_assoc (spell_mark false (length d)) d (fragments ds ++ tail)
 
-pub meet : (xs ys : List (List ℕ)) (n : ℕ) (s t : List ℕ) → n + length (joined xs) ≤ limit → n + length (joined ys) ≤ limit → Stops (n + length (joined xs)) s → Stops (n + length (joined ys)) t
+pub meet : (xs ys : List (List ℕ)) (n : ℕ) (s t : List ℕ) → n + length (joined xs) ≤ limit
+    → n + length (joined ys) ≤ limit → Stops (n + length (joined xs)) s → Stops (n + length (joined ys)) t
     → fragments xs ++ s ≡ fragments ys ++ t → (xs ≡ ys) × (s ≡ t)
 meet [] [] n s t fits fit p q e = (refl, e)
 meet [] (d ∷ ys) n s t fits fit p q e = absurd (p.none d (fragments ys ++ t) (omega (arith, fit, length-append d (joined ys))) (e ∙ first d ys t))
@@ -64,11 +68,13 @@ meet (d ∷ xs) [] n s t fits fit p q e = absurd (q.none d (fragments xs ++ s) (
 meet (d ∷ xs) (g ∷ ys) n s t fits fit p q e =
     let long = length-append d (joined xs) in
     let longer = length-append g (joined ys) in
-    let m = mark_same false false (length d) (length g) (d ++ (fragments xs ++ s)) (g ++ (fragments ys ++ t)) (omega (arith, fits, long)) (omega (arith, fit, longer)) (sym (first d xs s) ∙ e ∙ first g ys t) in
+    let m = mark_same false false (length d) (length g) (d ++ (fragments xs ++ s)) (g ++ (fragments ys ++ t))
+    (omega (arith, fits, long)) (omega (arith, fit, longer)) (sym (first d xs s) ∙ e ∙ first g ys t) in
     let same = append_same d g (fragments xs ++ s) (fragments ys ++ t) m.1 m.2 in
     let there : n + length (joined (d ∷ xs)) ≡ (n + length d) + length (joined xs) = omega (arith, long) in
     let here : n + length (joined (g ∷ ys)) ≡ (n + length d) + length (joined ys) = omega (arith, longer, m.1) in
-    let rest = meet xs ys (n + length d) s t (omega (arith, there, fits)) (omega (arith, here, fit)) (subst (λ k. Stops k s) there p) (subst (λ k. Stops k t) here q) same.1 in
+    let rest = meet xs ys (n + length d) s t (omega (arith, there, fits)) (omega (arith, here, fit))
+    (subst (λ k. Stops k s) there p) (subst (λ k. Stops k t) here q) same.1 in
     (ap (λ x. x ∷ xs) same.0 ∙ ap (λ zs. g ∷ zs) rest.0, rest.1)
 
 -- the last fragment
@@ -98,7 +104,8 @@ stops_cut n tail short = record {
 }
 
 -- a fragment that is cut
-pub stops_begun : (n : ℕ) (last : Bool) (begun : List ℕ) (lacking : ℕ) → n + (length begun + lacking) ≤ limit → 0 < lacking → Stops n (spell_mark last (length begun + lacking) ++ begun)
+pub stops_begun : (n : ℕ) (last : Bool) (begun : List ℕ) (lacking : ℕ) → n + (length begun + lacking) ≤ limit
+    → 0 < lacking → Stops n (spell_mark last (length begun + lacking) ++ begun)
 stops_begun n last begun lacking fits some = record {
   none = λ d behind fit e.
       let m = mark_same last false (length begun + lacking) (length d) begun (d ++ behind) (omega (arith, fits)) (omega (arith, fit)) e in

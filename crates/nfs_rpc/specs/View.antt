@@ -12,7 +12,13 @@ abbrev pub opaque_auth : rust_opaque_auth.OpaqueAuth → head.OpaqueAuth
 opaque_auth a = record { flavor = a.flavor; body = a.body.now }
 
 abbrev pub header : rust_header.Header → head.Header
-header h = record { program = h.program; version = h.version; procedure = h.procedure; credential = opaque_auth h.credential; verifier = opaque_auth h.verifier }
+header h = record {
+  program = h.program;
+  version = h.version;
+  procedure = h.procedure;
+  credential = opaque_auth h.credential;
+  verifier = opaque_auth h.verifier;
+}
 
 abbrev pub call : rust_call.Call → head.Call
 call c = record { xid = c.xid; procedure = c.procedure; who = caller c.who; args = c.args.now }

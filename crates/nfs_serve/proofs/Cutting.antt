@@ -7,10 +7,12 @@ use Rattle.nfs_serve.specs.Run.{Brings, Arrives, overflow, events_of}
 use Rattle.nfs_serve.specs.Laws.{CutsAnywhere, BringsOnce}
 use Rattle.nfs_serve.proofs.Pieces.{AreRecords-behind}
 
-events_of-then : (conn moment : ℕ) (a b : List (List ℕ)) (rest : List ℕ) (end : End) → events_of conn moment a (Open rest) ++ events_of conn moment b end ≡ events_of conn moment (a ++ b) end
+events_of-then : (conn moment : ℕ) (a b : List (List ℕ)) (rest : List ℕ) (end : End)
+    → events_of conn moment a (Open rest) ++ events_of conn moment b end ≡ events_of conn moment (a ++ b) end
 events_of-then conn moment a b rest end =
     let f = λ (call : List ℕ). Arrives conn moment call in
-    ap (λ l. l ++ (map f b ++ overflow conn end)) (append-nil (map f a)) ∙ sym (append_assoc (map f a) (map f b) (overflow conn end)) ∙ ap (λ l. l ++ overflow conn end) (sym (map-append f a b))
+    ap (λ l. l ++ (map f b ++ overflow conn end)) (append-nil (map f a))
+    ∙ sym (append_assoc (map f a) (map f b) (overflow conn end)) ∙ ap (λ l. l ++ overflow conn end) (sym (map-append f a b))
 
 -- more bytes of a stream that is too long
 pub still_long : (stream more : List ℕ) (calls : List (List ℕ)) → IsReading stream calls TooLong → IsReading (stream ++ more) calls TooLong
@@ -24,12 +26,18 @@ still_long stream more calls h =
 pub cuts_anywhere : CutsAnywhere
 cuts_anywhere conn moment (Open rest) (Open between) end front back first later one two =
     let (a, reads, is) = one in
-    let (b, reads_on, is_on) = two in
-    (a ++ b, subst (λ s. IsReading s (a ++ b) end) (append_assoc rest front back) (reading_then (rest ++ front) back between a b end reads reads_on), ap (λ l. l ++ later) is ∙ ap (λ l. events_of conn moment a (Open between) ++ l) is_on ∙ events_of-then conn moment a b between end)
+    let (b, reads_on, is_on) = two in (
+      a ++ b,
+      subst (λ s. IsReading s (a ++ b) end) (append_assoc rest front back) (reading_then (rest ++ front) back between a b end reads reads_on),
+      ap (λ l. l ++ later) is ∙ ap (λ l. events_of conn moment a (Open between) ++ l) is_on ∙ events_of-then conn moment a b between end,
+    )
 cuts_anywhere conn moment (Open rest) TooLong end front back first later one two =
     let (a, reads, is) = one in
-    subst (λ e. Brings conn moment (Open rest) (front ++ back) (first ++ later) e) (sym two.1)
-    (a, subst (λ s. IsReading s a TooLong) (append_assoc rest front back) (still_long (rest ++ front) back a reads), ap (λ l. first ++ l) two.0 ∙ append-nil first ∙ is)
+    subst (λ e. Brings conn moment (Open rest) (front ++ back) (first ++ later) e) (sym two.1) (
+      a,
+      subst (λ s. IsReading s a TooLong) (append_assoc rest front back) (still_long (rest ++ front) back a reads),
+      ap (λ l. first ++ l) two.0 ∙ append-nil first ∙ is,
+    )
 cuts_anywhere conn moment TooLong between end front back first later one two =
     let then_ignored = subst (λ s. Brings conn moment s back later end) one.1 two in
     (ap (λ l. l ++ later) one.0 ∙ then_ignored.0, then_ignored.1)

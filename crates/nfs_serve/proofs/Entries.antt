@@ -1,5 +1,6 @@
 -- Heads of entries, and what reading one gave.
-use Rattle.std.proofs.Common.{◌≡◌, ℕ, ◌<◌, ◌≤◌, ◌^◌, Bool, true, false, List, ◌++◌, length, take, drop, slice_range, refl, sym, ap, subst, ◌∙◌, arith, inl, inr, ◌⊎◌, Option, take_all, [], append-nil, if◌then◌else◌, nat_lt, Some, None}
+use Rattle.std.proofs.Common.{◌≡◌, ℕ, ◌<◌, ◌≤◌, ◌^◌, Bool, true, false, List, ◌++◌, length, take, drop, slice_range, refl, sym, ap, subst, ◌∙◌, arith, inl, inr}
+use Rattle.std.proofs.Common.{◌⊎◌, Option, take_all, [], append-nil, if◌then◌else◌, nat_lt, Some, None}
 use Rattle.std.specs.Io.KnownBytes.{IsAtEnd}
 use Rattle.nfs_serve.specs.declared.fault.Stop.TheVariants.{Cut, Connection, Long, Late, Many, ReadFailed, WriteFailed}
 use Rattle.std.proofs.lemmas.Bool.{ltb-false}
@@ -18,15 +19,18 @@ length-head moment conn len = refl
 three_parts : (bs a b c : List ℕ) → length bs ≡ 16 → slice_range bs 0 8 ≡ a → slice_range bs 8 12 ≡ b → slice_range bs 12 16 ≡ c → bs ≡ a ++ b ++ c
 three_parts bs a b c long p q r =
     let whole : length bs ≤ 16 = omega arith in
-    sym (take_all 16 bs whole) ∙ take-add 12 4 bs ∙ ap (λ l. l ++ take 4 (drop 12 bs)) (take-add 8 4 bs) ∙ ap (λ l. (take 8 bs ++ take 4 (drop 8 bs)) ++ l) r ∙ ap (λ l. (take 8 bs ++ l) ++ c) q ∙ ap (λ l. (l ++ b) ++ c) p
+    sym (take_all 16 bs whole) ∙ take-add 12 4 bs ∙ ap (λ l. l ++ take 4 (drop 12 bs)) (take-add 8 4 bs)
+    ∙ ap (λ l. (take 8 bs ++ take 4 (drop 8 bs)) ++ l) r ∙ ap (λ l. (take 8 bs ++ l) ++ c) q ∙ ap (λ l. (l ++ b) ++ c) p
 
-pub head_parts : (bs : List ℕ) (moment conn len : ℕ) → length bs ≡ 16 → slice_range bs 0 8 ≡ hyper moment → slice_range bs 8 12 ≡ number conn → slice_range bs 12 16 ≡ number len → bs ≡ head moment conn len
+pub head_parts : (bs : List ℕ) (moment conn len : ℕ) → length bs ≡ 16 → slice_range bs 0 8 ≡ hyper moment
+    → slice_range bs 8 12 ≡ number conn → slice_range bs 12 16 ≡ number len → bs ≡ head moment conn len
 unfolding head
 head_parts bs moment conn len long p q r = three_parts bs _ _ _ long p q r
 
 -- a reader that stopped short of an entry
 pub stops_short : (left : Option (List ℕ)) (rest : List ℕ) (failed ended : Bool) → IsPartial rest → 0 < length rest
-    → (failed ≡ true) ⊎ ((failed ≡ false) × (ended ≡ true) × IsAtEnd left) → StopsAnywhere (stop_of failed) rest × IsTold (stop_of failed) ended failed false × EndsAt (stop_of failed) left
+    → (failed ≡ true) ⊎ ((failed ≡ false) × (ended ≡ true) × IsAtEnd left)
+    → StopsAnywhere (stop_of failed) rest × IsTold (stop_of failed) ended failed false × EndsAt (stop_of failed) left
 stops_short left rest true ended partial some told = (λ whole few. inl (few, partial), (refl, refl), tt)
 stops_short left rest false ended partial some (inl bad) = absurd cc
 stops_short left rest false ended partial some (inr ok) = (λ whole few. (few, some, partial), (ok.1, refl, refl), ok.2)
@@ -60,18 +64,21 @@ why moment conn len stop h = cases (nat_lt 15 conn) (nat_lt 65536 len) (nat_lt (
     some_is : (a b : Stop) → Some a ≡ Some b → a ≡ b
     some_is a b e = cc
 
-    cases : (a b c : Bool) → (if a then Some Connection else if b then Some Long else if c then Some Late else None) ≡ Some stop → WhyRefused moment conn len stop
+    cases : (a b c : Bool) → (if a then Some Connection else if b then Some Long else if c then Some Late else None) ≡ Some stop
+        → WhyRefused moment conn len stop
     cases true b c h = subst (WhyRefused moment conn len) (some_is Connection stop h) connection
     cases false true c h = subst (WhyRefused moment conn len) (some_is Long stop h) long
     cases false false true h = subst (WhyRefused moment conn len) (some_is Late stop h) late
     cases false false false h = absurd cc
 
 -- the head of an entry that is refused
-pub refused_stops : (left : Option (List ℕ)) (moment conn len : ℕ) (bytes : List ℕ) (stop : Stop) (ended failed : Bool) → failed ≡ false → IsHead moment conn len bytes → refusal moment conn len ≡ Some stop
+pub refused_stops : (left : Option (List ℕ)) (moment conn len : ℕ) (bytes : List ℕ) (stop : Stop) (ended failed : Bool)
+    → failed ≡ false → IsHead moment conn len bytes → refusal moment conn len ≡ Some stop
     → StopsAnywhere stop bytes × IsTold stop ended failed false × EndsAt stop left
 refused_stops left moment conn len bytes stop ended failed well is h = cases stop (why moment conn len stop h) h
   where
-    cases : (stop : Stop) → WhyRefused moment conn len stop → refusal moment conn len ≡ Some stop → StopsAnywhere stop bytes × IsTold stop ended failed false × EndsAt stop left
+    cases : (stop : Stop) → WhyRefused moment conn len stop → refusal moment conn len ≡ Some stop
+        → StopsAnywhere stop bytes × IsTold stop ended failed false × EndsAt stop left
     cases Connection connection h = (λ whole few. (few, (moment, conn, len, bytes, [], sym (append-nil bytes), is, h)), (well, refl), tt)
     cases Long long h = (λ whole few. (few, (moment, conn, len, bytes, [], sym (append-nil bytes), is, h)), (well, refl), tt)
     cases Late late h = (λ whole few. (few, (moment, conn, len, bytes, [], sym (append-nil bytes), is, h)), (well, refl), tt)

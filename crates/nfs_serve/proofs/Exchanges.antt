@@ -46,7 +46,14 @@ null_whole = record { spelled = refl; fits = All-push Fits [] null_entry (All-ni
 
 null_reads : Reads all_closed (null_entry ∷ []) (events (null_move ∷ [])) (with_stream all_closed 0 (Open []))
 unfolding null_entry null_move null_piece number
-null_reads = (Arrives 0 100 null_call ∷ [], [], with_stream all_closed 0 (Open []), refl, (Open [], (null_call ∷ [], one_record null_piece null_call null_record, refl), refl), (refl, refl))
+null_reads = (
+  Arrives 0 100 null_call ∷ [],
+  [],
+  with_stream all_closed 0 (Open []),
+  refl,
+  (Open [], (null_call ∷ [], one_record null_piece null_call null_record, refl), refl),
+  (refl, refl),
+)
 
 pub null_runs : RunsTo null_script null_output
 unfolding null_move
@@ -71,7 +78,8 @@ exchange_move : Move
 exchange_move = record { event = Arrives 0 100 exchange_call; choice = None }
 
 exchange_output_is : exchange_output ≡ output Tagged (new_state 511 7 90) (exchange_move ∷ exchange_move ∷ [])
-unfolding exchange_move number hyper step call_of header opaque_auth opaque_at fixed_at judged caller_of auth_sys spell_head request_at items_at item_at op_at fault_at exchange_id_args protected impl_id pieces_at flag_at results.exchange_id
+unfolding exchange_move number hyper step call_of header opaque_auth opaque_at fixed_at judged caller_of auth_sys spell_head
+    request_at items_at item_at op_at fault_at exchange_id_args protected impl_id pieces_at flag_at results.exchange_id
 exchange_output_is = refl
 
 exchange_one : Entry
@@ -79,7 +87,12 @@ exchange_one = record { moment = 100; conn = 0; piece = exchange_piece }
 
 exchange_whole : IsWhole exchange_script (exchange_one ∷ exchange_one ∷ [])
 unfolding exchange_one exchange_piece head number hyper
-exchange_whole = record { spelled = refl; fits = All-push Fits (exchange_one ∷ []) exchange_one (All-push Fits [] exchange_one (All-nil Fits) (omega arith, omega arith, omega arith)) (omega arith, omega arith, omega arith); few = omega arith }
+exchange_whole = record {
+  spelled = refl;
+  fits = All-push Fits (exchange_one ∷ []) exchange_one
+      (All-push Fits [] exchange_one (All-nil Fits) (omega arith, omega arith, omega arith)) (omega arith, omega arith, omega arith);
+  few = omega arith;
+}
 
 once : Streams
 once = with_stream all_closed 0 (Open [])
@@ -93,7 +106,14 @@ exchange_reads =
       once,
       refl,
       (Open [], (exchange_call ∷ [], one_record exchange_piece exchange_call exchange_record, refl), refl),
-      (e ∷ [], [], with_stream once 0 (Open []), refl, (Open [], (exchange_call ∷ [], one_record exchange_piece exchange_call exchange_record, refl), refl), (refl, refl)),
+      (
+        e ∷ [],
+        [],
+        with_stream once 0 (Open []),
+        refl,
+        (Open [], (exchange_call ∷ [], one_record exchange_piece exchange_call exchange_record, refl), refl),
+        (refl, refl),
+      ),
     )
 
 pub exchange_runs : RunsTo exchange_script exchange_output

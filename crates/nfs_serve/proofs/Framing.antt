@@ -11,16 +11,22 @@ use Rattle.nfs_serve.specs.Engine.{in_form}
 pub length-framed : (bytes : List ℕ) (conn : ℕ) → 8 ≤ length bytes → length (number conn ++ drop 4 bytes) ≡ length bytes
 length-framed bytes conn long = omega (arith, length-append (number conn) (drop 4 bytes), length_number conn, length-drop 4 bytes)
 
-pub framed : (bytes : List ℕ) (conn mark : ℕ) → (take 4 (number conn ++ drop 4 bytes) ++ number mark) ++ drop 8 (number conn ++ drop 4 bytes) ≡ number conn ++ (number mark ++ drop 8 bytes)
+pub framed : (bytes : List ℕ) (conn mark : ℕ)
+    → (take 4 (number conn ++ drop 4 bytes) ++ number mark) ++ drop 8 (number conn ++ drop 4 bytes) ≡ number conn ++ (number mark ++ drop 8 bytes)
 framed bytes conn mark =
-    let behind : drop 8 (number conn ++ drop 4 bytes) ≡ drop 8 bytes = sym (drop-drop 4 4 (number conn ++ drop 4 bytes)) ∙ ap (drop 4) (drop_at (number conn) (drop 4 bytes) 4 (length_number conn)) ∙ drop-drop 4 4 bytes in
-    append_assoc (take 4 (number conn ++ drop 4 bytes)) (number mark) (drop 8 (number conn ++ drop 4 bytes)) ∙ ap (λ l. l ++ (number mark ++ drop 8 (number conn ++ drop 4 bytes))) (take_at (number conn) (drop 4 bytes) 4 (length_number conn)) ∙ ap (λ l. number conn ++ (number mark ++ l)) behind
+    let behind : drop 8 (number conn ++ drop 4 bytes) ≡ drop 8 bytes =
+    sym (drop-drop 4 4 (number conn ++ drop 4 bytes)) ∙ ap (drop 4) (drop_at (number conn) (drop 4 bytes) 4 (length_number conn)) ∙ drop-drop 4 4 bytes in
+    append_assoc (take 4 (number conn ++ drop 4 bytes)) (number mark) (drop 8 (number conn ++ drop 4 bytes))
+    ∙ ap (λ l. l ++ (number mark ++ drop 8 (number conn ++ drop 4 bytes))) (take_at (number conn) (drop 4 bytes) 4 (length_number conn))
+    ∙ ap (λ l. number conn ++ (number mark ++ l)) behind
 
 pub drop-framed : (reply : List ℕ) (conn mark : ℕ) → drop 8 (number conn ++ (number mark ++ reply)) ≡ reply
-drop-framed reply conn mark = sym (drop-drop 4 4 (number conn ++ (number mark ++ reply))) ∙ ap (drop 4) (drop_at (number conn) (number mark ++ reply) 4 (length_number conn)) ∙ drop_at (number mark) reply 4 (length_number mark)
+drop-framed reply conn mark = sym (drop-drop 4 4 (number conn ++ (number mark ++ reply)))
+    ∙ ap (drop 4) (drop_at (number conn) (number mark ++ reply) 4 (length_number conn)) ∙ drop_at (number mark) reply 4 (length_number mark)
 
 pub long-framed : (reply : List ℕ) (conn mark : ℕ) → 8 ≤ length (number conn ++ (number mark ++ reply))
-long-framed reply conn mark = omega (arith, length-append (number conn) (number mark ++ reply), length-append (number mark) reply, length_number conn, length_number mark)
+long-framed reply conn mark =
+    omega (arith, length-append (number conn) (number mark ++ reply), length-append (number mark) reply, length_number conn, length_number mark)
 
 pub behind_front : (n : ℕ) → drop 8 (hyper n) ≡ []
 unfolding hyper

@@ -1,5 +1,6 @@
 -- A run over ends in memory: what it read is the whole script, or a front up to a reply that was not written whole.
-use Rattle.std.proofs.Common.{◌≡◌, ℕ, suc, Bool, true, false, List, [], ◌++◌, length, flat_map, Some, Result, Ok, Err, refl, sym, ap, subst, ◌∙◌, arith, append_assoc, append-nil, length-append}
+use Rattle.std.proofs.Common.{◌≡◌, ℕ, suc, Bool, true, false, List, [], ◌++◌, length, flat_map, Some, Result, Ok, Err, refl, sym, ap, subst, ◌∙◌, arith}
+use Rattle.std.proofs.Common.{append_assoc, append-nil, length-append}
 use Rattle.nfs_rpc.specs.RecordMarking.{Held}
 use Rattle.nfs_serve.specs.declared.fault.Stop.{Stop}
 use Rattle.nfs_serve.specs.declared.fault.Stop.TheVariants.{Cut, Connection, Long, Late, Many, ReadFailed, WriteFailed}
@@ -25,22 +26,61 @@ longer front read left rest is = ap (λ b. b ++ left) is ∙ append_assoc front 
 
 module _ (old new : State) (held : List Held) (read written : List ℕ) where
   -- a fault of the script's own
-  faults : (left : List ℕ) (stop : Stop) (entry : ℕ) (ended failed : Bool) → IsTold stop ended false failed → EndsAt stop (Some left) → failed ≡ false → ReplaysFault stop entry old new held read written
-      → (entries : List Entry) × (rest : List ℕ) × IsRead (Some stop) (read ++ left) entries rest × (entry ≡ suc (length entries)) × Runs old new held entries written
+  faults : (left : List ℕ) (stop : Stop) (entry : ℕ) (ended failed : Bool) → IsTold stop ended false failed
+      → EndsAt stop (Some left) → failed ≡ false → ReplaysFault stop entry old new held read written
+      → (entries : List Entry) × (rest : List ℕ) × IsRead (Some stop) (read ++ left) entries rest
+      × (entry ≡ suc (length entries)) × Runs old new held entries written
   faults left Cut entry ended failed told none well (entries, rest, is, at, runs) =
       (entries, rest, subst (λ s. IsStopped s Cut entries rest) (sym (append-nil read) ∙ ap (λ l. read ++ l) (sym none)) is, at, runs)
-  faults left Connection entry ended failed told none well (entries, rest, is, at, runs) =
-      (entries, rest ++ left, record { spelled = longer (flat_map spell_entry entries) read left rest is.spelled; fits = is.fits; stands = (is.stands.0, still_refused Connection rest left is.stands.1) }, at, runs)
-  faults left Long entry ended failed told none well (entries, rest, is, at, runs) =
-      (entries, rest ++ left, record { spelled = longer (flat_map spell_entry entries) read left rest is.spelled; fits = is.fits; stands = (is.stands.0, still_refused Long rest left is.stands.1) }, at, runs)
-  faults left Late entry ended failed told none well (entries, rest, is, at, runs) =
-      (entries, rest ++ left, record { spelled = longer (flat_map spell_entry entries) read left rest is.spelled; fits = is.fits; stands = (is.stands.0, still_refused Late rest left is.stands.1) }, at, runs)
-  faults left Many entry ended failed told none well (entries, rest, is, at, runs) =
-      (entries, rest ++ left, record { spelled = longer (flat_map spell_entry entries) read left rest is.spelled; fits = is.fits; stands = (is.stands.0, omega (arith, is.stands.1, length-append rest left)) }, at, runs)
+  faults left Connection entry ended failed told none well (entries, rest, is, at, runs) = (
+    entries,
+    rest ++ left,
+    record {
+      spelled = longer (flat_map spell_entry entries) read left rest is.spelled;
+      fits = is.fits;
+      stands = (is.stands.0, still_refused Connection rest left is.stands.1);
+    },
+    at,
+    runs,
+  )
+  faults left Long entry ended failed told none well (entries, rest, is, at, runs) = (
+    entries,
+    rest ++ left,
+    record {
+      spelled = longer (flat_map spell_entry entries) read left rest is.spelled;
+      fits = is.fits;
+      stands = (is.stands.0, still_refused Long rest left is.stands.1);
+    },
+    at,
+    runs,
+  )
+  faults left Late entry ended failed told none well (entries, rest, is, at, runs) = (
+    entries,
+    rest ++ left,
+    record {
+      spelled = longer (flat_map spell_entry entries) read left rest is.spelled;
+      fits = is.fits;
+      stands = (is.stands.0, still_refused Late rest left is.stands.1);
+    },
+    at,
+    runs,
+  )
+  faults left Many entry ended failed told none well (entries, rest, is, at, runs) = (
+    entries,
+    rest ++ left,
+    record {
+      spelled = longer (flat_map spell_entry entries) read left rest is.spelled;
+      fits = is.fits;
+      stands = (is.stands.0, omega (arith, is.stands.1, length-append rest left));
+    },
+    at,
+    runs,
+  )
   faults left ReadFailed entry ended failed told none well h = absurd (false≢true told.0)
   faults left WriteFailed entry ended failed told none well h = absurd (false≢true (sym well ∙ told.1))
 
-  breaks : (stop : Stop) (entry : ℕ) (ended : Bool) → IsTold stop ended false true → ReplaysFault stop entry old new held read written → ReplaysFault WriteFailed entry old new held read written
+  breaks : (stop : Stop) (entry : ℕ) (ended : Bool) → IsTold stop ended false true
+      → ReplaysFault stop entry old new held read written → ReplaysFault WriteFailed entry old new held read written
   breaks WriteFailed entry ended told h = h
   breaks Cut entry ended told h = absurd (true≢false told.2)
   breaks Connection entry ended told h = absurd (true≢false told.1)
@@ -49,8 +89,10 @@ module _ (old new : State) (held : List Held) (read written : List ℕ) where
   breaks Many entry ended told h = absurd (true≢false told.1)
   breaks ReadFailed entry ended told h = absurd (true≢false told.1)
 
-pub ran_whole : (answer : Result (Unit {0}) ReplayFault) (old new : State) (held : List Held) (script left was bytes : List ℕ) (ended failed : Bool) → was ≡ [] → failed ≡ false
-    → Replays answer old new held (Some script) (Some left) (Some was) (Some bytes) → Tells answer ended false failed (Some left) → RunsScript answer old new held script bytes
+pub ran_whole : (answer : Result (Unit {0}) ReplayFault) (old new : State) (held : List Held) (script left was bytes : List ℕ) (ended failed : Bool)
+    → was ≡ [] → failed ≡ false
+    → Replays answer old new held (Some script) (Some left) (Some was) (Some bytes)
+    → Tells answer ended false failed (Some left) → RunsScript answer old new held script bytes
 ran_whole (Ok u) old new held script left was bytes ended failed none well (read, written, consumed, appended, (entries, is, runs)) told =
     let same : read ≡ script = sym (consumed ∙ ap (λ l. read ++ l) told.3 ∙ append-nil read) in record {
       entries = entries;
@@ -68,8 +110,10 @@ ran_whole (Err f) old new held script left was bytes ended failed none well (rea
       runs = subst (λ b. Runs old new held entries b) (sym (appended ∙ ap (λ l. l ++ written) none)) runs;
     }
 
-pub ran_front : (answer : Result (Unit {0}) ReplayFault) (old new : State) (held : List Held) (script left was bytes : List ℕ) (ended failed : Bool) → was ≡ [] → failed ≡ true
-    → Replays answer old new held (Some script) (Some left) (Some was) (Some bytes) → Tells answer ended false failed (Some left) → RunsFront old new held script
+pub ran_front : (answer : Result (Unit {0}) ReplayFault) (old new : State) (held : List Held) (script left was bytes : List ℕ) (ended failed : Bool)
+    → was ≡ [] → failed ≡ true
+    → Replays answer old new held (Some script) (Some left) (Some was) (Some bytes)
+    → Tells answer ended false failed (Some left) → RunsFront old new held script
 ran_front (Ok u) old new held script left was bytes ended failed none bad h told = absurd (true≢false (sym bad ∙ told.2))
 ran_front (Err f) old new held script left was bytes ended failed none bad (read, written, consumed, appended, h) told = record {
   entry = f.entry;

@@ -18,10 +18,12 @@ pub output-append : (form : Form) (s : State) (xs ys : List Move) → output for
 output-append form s [] ys = refl
 output-append form s (m ∷ xs) ys =
     ap (λ l. output_of form s m.event m.choice ++ l) (output-append form (after_event s m.event m.choice) xs ys)
-    ∙ sym (append_assoc (output_of form s m.event m.choice) (output form (after_event s m.event m.choice) xs) (output form (after (after_event s m.event m.choice) xs) ys))
+    ∙ sym (append_assoc (output_of form s m.event m.choice) (output form (after_event s m.event m.choice) xs)
+    (output form (after (after_event s m.event m.choice) xs) ys))
 
 -- one more move
-pub output-last : (form : Form) (s : State) (xs : List Move) (m : Move) → output form s (xs ++ m ∷ []) ≡ output form s xs ++ output_of form (after s xs) m.event m.choice
+pub output-last : (form : Form) (s : State) (xs : List Move) (m : Move)
+    → output form s (xs ++ m ∷ []) ≡ output form s xs ++ output_of form (after s xs) m.event m.choice
 output-last form s xs m = output-append form s xs (m ∷ []) ∙ ap (λ l. output form s xs ++ l) (append-nil (output_of form (after s xs) m.event m.choice))
 
 pub events-append : (xs ys : List Move) → events (xs ++ ys) ≡ events xs ++ events ys
@@ -37,7 +39,8 @@ Reads-more old (d ∷ es) first between e later new h t =
     (here, more ++ later, middle, ap (λ l. l ++ later) is ∙ append_assoc here more later, takes, Reads-more middle es more between e later new rest t)
 
 -- a connection whose stream is replaced
-pub with_stands : (streams : Streams) (old new : List Held) (conn : ℕ) (end : End) (held : Held) → AllStand streams old → IsWith new old conn held → Stands end held → AllStand (with_stream streams conn end) new
+pub with_stands : (streams : Streams) (old new : List Held) (conn : ℕ) (end : End) (held : Held)
+    → AllStand streams old → IsWith new old conn held → Stands end held → AllStand (with_stream streams conn end) new
 with_stands streams old new conn end held all others stands = λ c. rw (others c) (cases c (nat_eq c conn))
   where
     cases : (c : ℕ) (b : Bool) → Stands (if b then end else streams c) (if b then held else held_on old c)

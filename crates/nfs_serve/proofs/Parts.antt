@@ -1,5 +1,6 @@
 -- Lists that are read into a part, or written from a front.
-use Rattle.std.proofs.Common.{◌≡◌, ℕ, ◌+◌, ◌-◌, ◌≤◌, List, ◌++◌, arith, length, take, drop, slice_range, sym, ap, ◌∙◌, le_refl, drop_at, length-take-le, append_assoc, take-append-drop}
+use Rattle.std.proofs.Common.{◌≡◌, ℕ, ◌+◌, ◌-◌, ◌≤◌, List, ◌++◌, arith, length, take, drop, slice_range, sym, ap, ◌∙◌, le_refl, drop_at, length-take-le}
+use Rattle.std.proofs.Common.{append_assoc, take-append-drop}
 use Rattle.std.proofs.lemmas.Slice.{take-put_mid_below}
 use Rattle.std.proofs.lemmas.List.{take_rest}
 use borrow.Rule.Slice.PartMut.{put_mid, post_of}
@@ -14,10 +15,12 @@ slice_range-put_mid : (a k n : ℕ) (xs ys : List ℕ) → a ≤ length xs → n
 slice_range-put_mid a k n xs ys within fits =
     let same : (a + n) - a ≡ n = omega arith in
     let after = post_of a k xs in
-    ap (take ((a + n) - a)) (drop_at (take a xs) (ys ++ after) a (length-take-le a xs within)) ∙ ap (λ m. take m (ys ++ after)) same ∙ take-append-le n ys after fits
+    ap (take ((a + n) - a)) (drop_at (take a xs) (ys ++ after) a (length-take-le a xs within))
+    ∙ ap (λ m. take m (ys ++ after)) same ∙ take-append-le n ys after fits
 
 -- what was read behind the front `a` makes that front longer
-pub take-read : (a n : ℕ) (buf part : List ℕ) → a ≤ length buf → n ≤ length part → take a buf ++ take n part ≡ take (a + n) (put_mid a (length buf - a) buf part)
+pub take-read : (a n : ℕ) (buf part : List ℕ) → a ≤ length buf → n ≤ length part
+    → take a buf ++ take n part ≡ take (a + n) (put_mid a (length buf - a) buf part)
 take-read a n buf part within fits =
     ap (λ l. take a buf ++ l) (sym (slice_range-put_mid a (length buf - a) n buf part within fits))
     ∙ take_split a (a + n) buf (put_mid a (length buf - a) buf part) (omega arith) (take-put_mid_below _ _ _ _ _ (le_refl _) within)
@@ -29,7 +32,8 @@ take-unread a buf part within = take-put_mid_below _ _ _ _ _ (le_refl _) within
 -- the front of the rest joins what is done
 pub moves_front : (all done rest : List ℕ) (n : ℕ) → all ≡ done ++ rest → all ≡ (done ++ take n rest) ++ take (length rest - n) (drop n rest)
 moves_front all done rest n e =
-    e ∙ ap (λ l. done ++ l) (sym (take-append-drop n rest)) ∙ sym (append_assoc done (take n rest) (drop n rest)) ∙ ap (λ l. (done ++ take n rest) ++ l) (sym (take_rest rest n))
+    e ∙ ap (λ l. done ++ l) (sym (take-append-drop n rest)) ∙ sym (append_assoc done (take n rest) (drop n rest))
+    ∙ ap (λ l. (done ++ take n rest) ++ l) (sym (take_rest rest n))
 
 -- a list is its front and what stands behind it
 pub front_and_rest : (rest : List ℕ) (n : ℕ) → rest ≡ take n rest ++ take (length rest - n) (drop n rest)

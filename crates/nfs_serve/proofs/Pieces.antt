@@ -1,5 +1,6 @@
 -- A piece that is taken record by record.
-use Rattle.std.proofs.Common.{◌≡◌, ℕ, Bool, false, List, [], ◌∷◌, ◌++◌, Option, None, refl, sym, ap, subst, ◌∙◌, append_assoc, append-nil, take, drop, map, take-append-drop, inl, arith}
+use Rattle.std.proofs.Common.{◌≡◌, ℕ, Bool, false, List, [], ◌∷◌, ◌++◌, Option, None, refl, sym, ap, subst, ◌∙◌, append_assoc, append-nil, take, drop, map}
+use Rattle.std.proofs.Common.{take-append-drop, inl, arith}
 use Rattle.std.proofs.lemmas.List.{map-append}
 use Rattle.std.specs.Io.KnownBytes.{Appends}
 use Rattle.std.proofs.KnownBytes.{Appends-nil, Appends-trans}
@@ -18,14 +19,16 @@ use Rattle.nfs_serve.specs.Server.{Stands, flow_of, Feeds, Breaks}
 use Rattle.nfs_serve.proofs.Moves.{after-append, output-last, events-append}
 
 -- more bytes behind the records
-pub AreRecords-behind : (stream : List ℕ) (calls : List (List ℕ)) (behind more : List ℕ) → AreRecords stream calls behind → AreRecords (stream ++ more) calls (behind ++ more)
+pub AreRecords-behind : (stream : List ℕ) (calls : List (List ℕ)) (behind more : List ℕ)
+    → AreRecords stream calls behind → AreRecords (stream ++ more) calls (behind ++ more)
 AreRecords-behind stream [] behind more h = ap (λ l. l ++ more) h
 AreRecords-behind stream (call ∷ calls) behind more h =
     let (front, left, is, record_is, rest) = h in
     (front, left ++ more, ap (λ l. l ++ more) is ∙ append_assoc front left more, record_is, AreRecords-behind left calls behind more rest)
 
 -- one more record
-pub AreRecords-more : (stream : List ℕ) (calls : List (List ℕ)) (front behind call : List ℕ) → AreRecords stream calls (front ++ behind) → IsRecord front call → AreRecords stream (calls ++ call ∷ []) behind
+pub AreRecords-more : (stream : List ℕ) (calls : List (List ℕ)) (front behind call : List ℕ)
+    → AreRecords stream calls (front ++ behind) → IsRecord front call → AreRecords stream (calls ++ call ∷ []) behind
 AreRecords-more stream [] front behind call h is = (front, behind, h, is, refl)
 AreRecords-more stream (c ∷ calls) front behind call h is =
     let (first, left, split, record_is, rest) = h in
@@ -45,7 +48,8 @@ pub no_bytes : IsBytes []
 no_bytes = record { each = λ i. omega arith }
 
 -- a stream that is not too long
-pub stands_open : (before : End) (was : Held) → is_too_long was ≡ false → Stands before was → (rest : List ℕ) × (before ≡ Open rest) × IsBytes rest × Holds rest was
+pub stands_open : (before : End) (was : Held) → is_too_long was ≡ false
+    → Stands before was → (rest : List ℕ) × (before ≡ Open rest) × IsBytes rest × Holds rest was
 stands_open (Open rest) (Begun p) going h = (rest, refl, h.0, h.1)
 stands_open (Open rest) (Complete call) going h = absurd h
 stands_open (Open rest) Failed going h = absurd h
@@ -53,7 +57,8 @@ stands_open TooLong (Begun p) going h = absurd h
 stands_open TooLong (Complete call) going h = absurd h
 stands_open TooLong Failed going h = absurd cc
 
-holds_stands : (rest : List ℕ) (is : Held) → waits is ≡ false → is_too_long is ≡ false → IsBytes rest → Holds rest is → Stands (Open rest) is × IsUnfinished rest
+holds_stands : (rest : List ℕ) (is : Held) → waits is ≡ false → is_too_long is ≡ false
+    → IsBytes rest → Holds rest is → Stands (Open rest) is × IsUnfinished rest
 holds_stands rest (Begun p) none going bytes h = ((bytes, h), part_unfinished rest p h)
 holds_stands rest (Complete call) none going bytes h = absurd cc
 holds_stands rest Failed none going bytes h = absurd cc
@@ -74,7 +79,8 @@ pub record Taking (old now : State) (was is : Held) (conn moment : ℕ) (form : 
   pub order : events moves ≡ map (λ call. Arrives conn moment call) calls
   pub stream : (before : List ℕ) → IsBytes before → Holds before was → Taken before taken calls is
 
-pub taking_start : (s : State) (was : Held) (conn moment : ℕ) (form : Form) (piece : List ℕ) (h : Option (List ℕ)) → Taking s s was was conn moment form piece piece h h
+pub taking_start : (s : State) (was : Held) (conn moment : ℕ) (form : Form) (piece : List ℕ) (h : Option (List ℕ))
+    → Taking s s was was conn moment form piece piece h h
 taking_start s was conn moment form piece h = record {
   moves = [];
   calls = [];
@@ -90,24 +96,31 @@ taking_start s was conn moment form piece h = record {
 abbrev pub TakesUp : Held → List ℕ → Held → Type 0
 TakesUp is front new = (r : List ℕ) → IsBytes r → Holds r is → Holds (r ++ front) new
 
-module _ {old now : State} {was is : Held} {conn moment : ℕ} {form : Form} {piece rest : List ℕ} {h0 h1 : Option (List ℕ)} (t : Taking old now was is conn moment form piece rest h0 h1) where
+module _ {old now : State} {was is : Held} {conn moment : ℕ} {form : Form} {piece rest : List ℕ} {h0 h1 : Option (List ℕ)}
+    (t : Taking old now was is conn moment form piece rest h0 h1) where
   -- the records behind a front of the rest that ends one
   taken_record : (front behind call before : List ℕ) → rest ≡ front ++ behind → TakesUp is front (Complete call) → IsBytes before → Holds before was
       → AreRecords (before ++ (t.taken ++ front)) (t.calls ++ call ∷ []) []
   taken_record front behind call before split up bytes holds =
       let k = t.stream before bytes holds in
-      let r : AreRecords ((before ++ t.taken) ++ front) t.calls ((k.behind ++ front) ++ []) = rw append-nil (AreRecords-behind (before ++ t.taken) t.calls k.behind front k.records) in
-      rw (← append_assoc before t.taken front) (AreRecords-more ((before ++ t.taken) ++ front) t.calls (k.behind ++ front) [] call r (up k.behind k.bytes k.holds))
+      let r : AreRecords ((before ++ t.taken) ++ front) t.calls ((k.behind ++ front) ++ []) =
+      rw append-nil (AreRecords-behind (before ++ t.taken) t.calls k.behind front k.records) in
+      rw (← append_assoc before t.taken front)
+      (AreRecords-more ((before ++ t.taken) ++ front) t.calls (k.behind ++ front) [] call r (up k.behind k.bytes k.holds))
 
-  order_more : (call : List ℕ) (choice : Option ℕ) → events (t.moves ++ record { event = Arrives conn moment call; choice = choice } ∷ []) ≡ map (λ c. Arrives conn moment c) (t.calls ++ call ∷ [])
-  order_more call choice = events-append t.moves (record { event = Arrives conn moment call; choice = choice } ∷ []) ∙ ap (λ l. l ++ Arrives conn moment call ∷ []) t.order ∙ sym (map-append (λ c. Arrives conn moment c) t.calls (call ∷ []))
+  order_more : (call : List ℕ) (choice : Option ℕ)
+      → events (t.moves ++ record { event = Arrives conn moment call; choice = choice } ∷ []) ≡ map (λ c. Arrives conn moment c) (t.calls ++ call ∷ [])
+  order_more call choice = events-append t.moves (record { event = Arrives conn moment call; choice = choice } ∷ [])
+      ∙ ap (λ l. l ++ Arrives conn moment call ∷ []) t.order ∙ sym (map-append (λ c. Arrives conn moment c) t.calls (call ∷ []))
 
   order_long : events (t.moves ++ record { event = Overflows conn; choice = None } ∷ []) ≡ events_of conn moment t.calls TooLong
   order_long = events-append t.moves (record { event = Overflows conn; choice = None } ∷ []) ∙ ap (λ l. l ++ Overflows conn ∷ []) t.order
 
   -- the record that ends in the rest ran, and its reply was written
-  pub taking_more : (front behind call : List ℕ) (choice : Option ℕ) (later : State) (h2 : Option (List ℕ)) → rest ≡ front ++ behind → TakesUp is front (Complete call)
-      → later ≡ (step now call moment choice).state → Appends h1 h2 (spell_answer form conn (step now call moment choice).reply) → Taking old later was (Begun start) conn moment form piece behind h0 h2
+  pub taking_more : (front behind call : List ℕ) (choice : Option ℕ) (later : State) (h2 : Option (List ℕ))
+      → rest ≡ front ++ behind → TakesUp is front (Complete call)
+      → later ≡ (step now call moment choice).state → Appends h1 h2 (spell_answer form conn (step now call moment choice).reply)
+      → Taking old later was (Begun start) conn moment form piece behind h0 h2
   taking_more front behind call choice later h2 split up state wrote =
       let m : Move = record { event = Arrives conn moment call; choice = choice } in record {
         moves = t.moves ++ m ∷ [];
@@ -115,13 +128,20 @@ module _ {old now : State} {was is : Held} {conn moment : ℕ} {form : Form} {pi
         taken = t.taken ++ front;
         split = t.split ∙ ap (λ l. t.taken ++ l) split ∙ sym (append_assoc t.taken front behind);
         state = state ∙ ap (λ s. (step s call moment choice).state) t.state ∙ sym (after-append old t.moves (m ∷ []));
-        wrote = rw (output-last form old t.moves m) (Appends-trans _ _ _ _ _ t.wrote (subst (λ s. Appends h1 h2 (spell_answer form conn (step s call moment choice).reply)) t.state wrote));
+        wrote = rw (output-last form old t.moves m)
+            (Appends-trans _ _ _ _ _ t.wrote (subst (λ s. Appends h1 h2 (spell_answer form conn (step s call moment choice).reply)) t.state wrote));
         order = order_more call choice;
-        stream = λ before bytes holds. record { behind = []; records = taken_record front behind call before split up bytes holds; bytes = no_bytes; holds = start_holds };
+        stream = λ before bytes holds. record {
+          behind = [];
+          records = taken_record front behind call before split up bytes holds;
+          bytes = no_bytes;
+          holds = start_holds;
+        };
       }
 
   -- nothing of the rest ends a record
-  pub taking_ends : (new : Held) → is_too_long was ≡ false → waits new ≡ false → is_too_long new ≡ false → IsBytes piece → TakesUp is rest new → Feeds old now was new conn moment piece form h0 h1
+  pub taking_ends : (new : Held) → is_too_long was ≡ false → waits new ≡ false → is_too_long new ≡ false
+      → IsBytes piece → TakesUp is rest new → Feeds old now was new conn moment piece form h0 h1
   taking_ends new began none going piece_bytes up =
       let bytes : IsBytes rest = bytes_behind_front t.taken rest (subst IsBytes t.split piece_bytes) in record {
         moves = t.moves;
@@ -130,10 +150,13 @@ module _ {old now : State} {was is : Held} {conn moment : ℕ} {form : Form} {pi
         stream = λ before stands.
             let (b, is_open, b_bytes, holds) = stands_open before was began stands in
             let k = t.stream b b_bytes holds in
-            let (now_stands, unfinished) = holds_stands (k.behind ++ rest) new none going (IsBytes-append k.behind rest k.bytes bytes) (up k.behind k.bytes k.holds) in
-            let records : AreRecords (b ++ piece) t.calls (k.behind ++ rest) = rw (t.split, ← append_assoc b t.taken rest) (AreRecords-behind (b ++ t.taken) t.calls k.behind rest k.records) in (
+            let (now_stands, unfinished) =
+            holds_stands (k.behind ++ rest) new none going (IsBytes-append k.behind rest k.bytes bytes) (up k.behind k.bytes k.holds) in
+            let records : AreRecords (b ++ piece) t.calls (k.behind ++ rest) =
+            rw (t.split, ← append_assoc b t.taken rest) (AreRecords-behind (b ++ t.taken) t.calls k.behind rest k.records) in (
               Open (k.behind ++ rest),
-              subst (λ e. Brings conn moment e piece (events t.moves) (Open (k.behind ++ rest))) (sym is_open) (t.calls, record { behind = k.behind ++ rest; stands = records; ends = (refl, unfinished) }, t.order ∙ sym (append-nil _)),
+              subst (λ e. Brings conn moment e piece (events t.moves) (Open (k.behind ++ rest))) (sym is_open)
+                  (t.calls, record { behind = k.behind ++ rest; stands = records; ends = (refl, unfinished) }, t.order ∙ sym (append-nil _)),
               now_stands,
             );
       }
@@ -145,13 +168,19 @@ module _ {old now : State} {was is : Held} {conn moment : ℕ} {form : Form} {pi
       let up : TakesUp is rest is = λ r r_bytes holds. rw (none, append-nil) holds in
       (taking_ends is began done going bytes up, flow_open is done going, well)
 
-  reads_long : (before : List ℕ) → IsBytes before → Holds before was → ((r : List ℕ) → IsBytes r → Holds r is → (used : ℕ) × Holds (r ++ take used rest) Failed) → IsReading (before ++ piece) t.calls TooLong
+  reads_long : (before : List ℕ) → IsBytes before → Holds before was
+      → ((r : List ℕ) → IsBytes r → Holds r is → (used : ℕ) × Holds (r ++ take used rest) Failed) → IsReading (before ++ piece) t.calls TooLong
   reads_long before bytes holds up =
       let k = t.stream before bytes holds in
       let (used, long) = up k.behind k.bytes k.holds in record {
         behind = k.behind ++ rest;
         stands = rw (t.split, ← append_assoc before t.taken rest) (AreRecords-behind (before ++ t.taken) t.calls k.behind rest k.records);
-        ends = (k.behind ++ take used rest, drop used rest, ap (λ l. k.behind ++ l) (sym (take-append-drop used rest)) ∙ sym (append_assoc k.behind (take used rest) (drop used rest)), long);
+        ends = (
+          k.behind ++ take used rest,
+          drop used rest,
+          ap (λ l. k.behind ++ l) (sym (take-append-drop used rest)) ∙ sym (append_assoc k.behind (take used rest) (drop used rest)),
+          long,
+        );
       }
 
   -- the rest makes the stream too long, which was told
@@ -163,13 +192,19 @@ module _ {old now : State} {was is : Held} {conn moment : ℕ} {form : Form} {pi
         state = t.state ∙ sym (after-append old t.moves (m ∷ []));
         wrote = rw (output-last form old t.moves m) (Appends-trans _ _ _ _ _ t.wrote wrote);
         stream = λ before stands.
-            let (b, is_open, bytes, holds) = stands_open before was began stands in
-            (TooLong, subst (λ e. Brings conn moment e piece (events (t.moves ++ m ∷ [])) TooLong) (sym is_open) (t.calls, reads_long b bytes holds up, order_long), tt);
+            let (b, is_open, bytes, holds) = stands_open before was began stands in (
+              TooLong,
+              subst (λ e. Brings conn moment e piece (events (t.moves ++ m ∷ [])) TooLong)
+                  (sym is_open) (t.calls, reads_long b bytes holds up, order_long),
+              tt,
+            );
       }
 
   -- the writer failed in the reply to the record that ends in the rest
-  pub breaking : (front behind call : List ℕ) (choice : Option ℕ) (later : State) (h2 : Option (List ℕ)) → is_too_long was ≡ false → rest ≡ front ++ behind → TakesUp is front (Complete call)
-      → later ≡ (step now call moment choice).state → AppendsFront h1 h2 (spell_answer form conn (step now call moment choice).reply) → Breaks old later was conn moment piece form h0 h2
+  pub breaking : (front behind call : List ℕ) (choice : Option ℕ) (later : State) (h2 : Option (List ℕ))
+      → is_too_long was ≡ false → rest ≡ front ++ behind → TakesUp is front (Complete call)
+      → later ≡ (step now call moment choice).state → AppendsFront h1 h2 (spell_answer form conn (step now call moment choice).reply)
+      → Breaks old later was conn moment piece form h0 h2
   breaking front behind call choice later h2 began split up state wrote =
       let m : Move = record { event = Arrives conn moment call; choice = choice } in
       let (done, left, parts, some, appended) = wrote in record {
@@ -187,13 +222,21 @@ module _ {old now : State} {was is : Held} {conn moment : ℕ} {form : Form} {pi
         stream = λ before stands.
             let (b, is_open, bytes, holds) = stands_open before was began stands in (
               Open [],
-              subst (λ e. Brings conn moment e (t.taken ++ front) (events (t.moves ++ m ∷ [])) (Open [])) (sym is_open)
-                  (t.calls ++ call ∷ [], record { behind = []; stands = taken_record front behind call b split up bytes holds; ends = (refl, part_unfinished [] start start_holds) }, order_more call choice ∙ sym (append-nil _)),
+              subst (λ e. Brings conn moment e (t.taken ++ front) (events (t.moves ++ m ∷ [])) (Open [])) (sym is_open) (
+                t.calls ++ call ∷ [],
+                record {
+                  behind = [];
+                  stands = taken_record front behind call b split up bytes holds;
+                  ends = (refl, part_unfinished [] start start_holds);
+                },
+                order_more call choice ∙ sym (append-nil _),
+              ),
             );
       }
 
   -- the writer failed in telling that the stream is too long
-  pub breaking_long : (h2 : Option (List ℕ)) → is_too_long was ≡ false → ((r : List ℕ) → IsBytes r → Holds r is → (used : ℕ) × Holds (r ++ take used rest) Failed)
+  pub breaking_long : (h2 : Option (List ℕ)) → is_too_long was ≡ false
+      → ((r : List ℕ) → IsBytes r → Holds r is → (used : ℕ) × Holds (r ++ take used rest) Failed)
       → AppendsFront h1 h2 (spell_overflow form conn) → Breaks old now was conn moment piece form h0 h2
   breaking_long h2 began up wrote =
       let m : Move = record { event = Overflows conn; choice = None } in
@@ -210,6 +253,9 @@ module _ {old now : State} {was is : Held} {conn moment : ℕ} {form : Form} {pi
         cut = parts;
         some = some;
         stream = λ before stands.
-            let (b, is_open, bytes, holds) = stands_open before was began stands in
-            (TooLong, subst (λ e. Brings conn moment e piece (events (t.moves ++ m ∷ [])) TooLong) (sym is_open) (t.calls, reads_long b bytes holds up, order_long));
+            let (b, is_open, bytes, holds) = stands_open before was began stands in (
+              TooLong,
+              subst (λ e. Brings conn moment e piece (events (t.moves ++ m ∷ [])) TooLong)
+                  (sym is_open) (t.calls, reads_long b bytes holds up, order_long),
+            );
       }

@@ -1,5 +1,6 @@
 -- A run that goes on by an entry, and how it stops.
-use Rattle.std.proofs.Common.{◌≡◌, ◌≢◌, ℕ, suc, ◌+◌, ◌<◌, ◌≤◌, Bool, true, false, List, [], ◌∷◌, ◌++◌, length, flat_map, Option, Result, Ok, Err, refl, sym, ap, subst, ◌∙◌, arith, append_assoc, append-nil, length-append, All, nat_eq, if◌then◌else◌}
+use Rattle.std.proofs.Common.{◌≡◌, ◌≢◌, ℕ, suc, ◌+◌, ◌<◌, ◌≤◌, Bool, true, false, List, [], ◌∷◌, ◌++◌, length, flat_map, Option, Result, Ok, Err, refl, sym, ap}
+use Rattle.std.proofs.Common.{subst, ◌∙◌, arith, append_assoc, append-nil, length-append, All, nat_eq, if◌then◌else◌}
 use Rattle.std.specs.Io.KnownBytes.{Consumes, Appends}
 use Rattle.std.proofs.KnownBytes.{Consumes-nil, Consumes-trans, Appends-nil, Appends-trans}
 use Rattle.std.proofs.lemmas.List.{get_or-set_same, get_or-set_other}
@@ -31,7 +32,8 @@ set_is_with held conn now within = λ c. cases c (nat_eq c conn) refl
     cases c false e = get_or-set_other held conn c now fresh (eqb-false c conn e)
 
 -- a piece of some bytes
-pub takes_piece : (streams : Streams) (moment conn : ℕ) (piece : List ℕ) (brought : List Event) (end : End) → piece ≢ [] → Brings conn moment (streams conn) piece brought end
+pub takes_piece : (streams : Streams) (moment conn : ℕ) (piece : List ℕ) (brought : List Event) (end : End)
+    → piece ≢ [] → Brings conn moment (streams conn) piece brought end
     → TakesPiece streams moment conn piece brought (with_stream streams conn end)
 takes_piece streams moment conn [] brought end some brings = absurd (some refl)
 takes_piece streams moment conn (b ∷ bytes) brought end some brings = (end, brings, refl)
@@ -43,11 +45,15 @@ entry_fed was now e within some f = record {
   state = f.state;
   wrote = f.wrote;
   takes = λ before all.
-      let (end, brings, stands) = f.stream (before e.conn) (all e.conn) in
-      (with_stream before e.conn end, takes_piece before e.moment e.conn e.piece (events f.moves) end some brings, with_stands before was (set was e.conn now) e.conn end now all (set_is_with was e.conn now within) stands);
+      let (end, brings, stands) = f.stream (before e.conn) (all e.conn) in (
+        with_stream before e.conn end,
+        takes_piece before e.moment e.conn e.piece (events f.moves) end some brings,
+        with_stands before was (set was e.conn now) e.conn end now all (set_is_with was e.conn now within) stands,
+      );
 }
 
-pub entry_closed : (s : State) (h : Option (List ℕ)) (was : List Held) (e : Entry) → e.conn < length was → e.piece ≡ [] → RunsEntry s s was (set was e.conn fresh) e h h
+pub entry_closed : (s : State) (h : Option (List ℕ)) (was : List Held) (e : Entry)
+    → e.conn < length was → e.piece ≡ [] → RunsEntry s s was (set was e.conn fresh) e h h
 entry_closed s h was e within none = record {
   moves = [];
   state = refl;
@@ -87,7 +93,8 @@ module _ {old now : State} {held : List Held} {n : ℕ} {l0 l1 h0 h1 : Option (L
   count_more : (e : Entry) → length (g.entries ++ e ∷ []) ≡ n + 1
   count_more e = length-append g.entries (e ∷ []) ∙ ap (λ k. k + 1) g.count
 
-  pub going_more : (l2 h2 : Option (List ℕ)) (new : State) (held_new : List Held) (e : Entry) → Consumes l1 l2 (spell_entry e) → Fits e → RunsEntry now new held held_new e h1 h2 → Going old new held_new (n + 1) l0 l2 h0 h2
+  pub going_more : (l2 h2 : Option (List ℕ)) (new : State) (held_new : List Held) (e : Entry) → Consumes l1 l2 (spell_entry e)
+      → Fits e → RunsEntry now new held held_new e h1 h2 → Going old new held_new (n + 1) l0 l2 h0 h2
   going_more l2 h2 new held_new e read fits ran =
       let (end, takes, all) = ran.takes g.runs.streams g.runs.stands in record {
         entries = g.entries ++ e ∷ [];
@@ -99,9 +106,11 @@ module _ {old now : State} {held : List Held} {n : ℕ} {l0 l1 h0 h1 : Option (L
         runs = record {
           moves = g.runs.moves ++ ran.moves;
           streams = end;
-          reads = rw (events-append g.runs.moves ran.moves) (Reads-more all_closed g.entries (events g.runs.moves) g.runs.streams e (events ran.moves) end g.runs.reads takes);
+          reads = rw (events-append g.runs.moves ran.moves)
+              (Reads-more all_closed g.entries (events g.runs.moves) g.runs.streams e (events ran.moves) end g.runs.reads takes);
           state = ran.state ∙ ap (λ s. after s ran.moves) g.runs.state ∙ sym (after-append old g.runs.moves ran.moves);
-          wrote = ap (λ l. l ++ output Tagged now ran.moves) g.runs.wrote ∙ ap (λ s. output Tagged old g.runs.moves ++ output Tagged s ran.moves) g.runs.state ∙ sym (output-append Tagged old g.runs.moves ran.moves);
+          wrote = ap (λ l. l ++ output Tagged now ran.moves) g.runs.wrote
+              ∙ ap (λ s. output Tagged old g.runs.moves ++ output Tagged s ran.moves) g.runs.state ∙ sym (output-append Tagged old g.runs.moves ran.moves);
           stands = all;
         };
       }
@@ -117,18 +126,26 @@ module _ {old now : State} {held : List Held} {n : ℕ} {l0 l1 h0 h1 : Option (L
   )
 
   -- the run stops in the place of an entry
-  pub going_stops : (stop : Stop) (f : ReplayFault) (l2 : Option (List ℕ)) (rest : List ℕ) (ended failed : Bool) → f.number ≡ stop → f.entry ≡ suc n → Consumes l1 l2 rest → StopsAt stop n rest
+  pub going_stops : (stop : Stop) (f : ReplayFault) (l2 : Option (List ℕ)) (rest : List ℕ) (ended failed : Bool)
+      → f.number ≡ stop → f.entry ≡ suc n → Consumes l1 l2 rest → StopsAt stop n rest
       → IsTold stop ended failed false → Replays {U = Unit {0}} (Err f) old now held l0 l2 h0 h1
   going_stops stop f l2 rest ended failed is entry read stands told = (
     flat_map spell_entry g.entries ++ rest,
     g.written,
     Consumes-trans _ _ _ _ _ g.read read,
     g.appended,
-    rw is (cases stop told (g.entries, rest, record { spelled = refl; fits = g.fits; stands = subst (λ k. StopsAt stop k rest) (sym g.count) stands }, entry ∙ ap suc (sym g.count), g.runs)),
+    rw is (cases stop told (
+      g.entries,
+      rest,
+      record { spelled = refl; fits = g.fits; stands = subst (λ k. StopsAt stop k rest) (sym g.count) stands },
+      entry ∙ ap suc (sym g.count),
+      g.runs,
+    )),
   )
     where
       cases : (stop : Stop) → IsTold stop ended failed false
-          → (entries : List Entry) × (left : List ℕ) × IsStopped (flat_map spell_entry g.entries ++ rest) stop entries left × (f.entry ≡ suc (length entries)) × Runs old now held entries g.written
+          → (entries : List Entry) × (left : List ℕ) × IsStopped (flat_map spell_entry g.entries ++ rest) stop entries left
+          × (f.entry ≡ suc (length entries)) × Runs old now held entries g.written
           → ReplaysFault stop f.entry old now held (flat_map spell_entry g.entries ++ rest) g.written
       cases Cut t h = h
       cases Connection t h = h
@@ -142,11 +159,14 @@ module _ {old now : State} {held : List Held} {n : ℕ} {l0 l1 h0 h1 : Option (L
           false≢true e = cc
 
   -- the writer failed in a reply of an entry
-  pub going_breaks : (f : ReplayFault) (l2 h2 : Option (List ℕ)) (new : State) (held_new : List Held) (e : Entry) → f.number ≡ WriteFailed → f.entry ≡ suc n → n < max_entries → Consumes l1 l2 (spell_entry e) → Fits e
-      → Breaks now new (held_on held e.conn) e.conn e.moment e.piece Tagged h1 h2 → IsWith held_new held e.conn fresh → Replays {U = Unit {0}} (Err f) old new held_new l0 l2 h0 h2
+  pub going_breaks : (f : ReplayFault) (l2 h2 : Option (List ℕ)) (new : State) (held_new : List Held) (e : Entry)
+      → f.number ≡ WriteFailed → f.entry ≡ suc n → n < max_entries → Consumes l1 l2 (spell_entry e) → Fits e
+      → Breaks now new (held_on held e.conn) e.conn e.moment e.piece Tagged h1 h2
+      → IsWith held_new held e.conn fresh → Replays {U = Unit {0}} (Err f) old new held_new l0 l2 h0 h2
   going_breaks f l2 h2 new held_new e is entry few read fits b others =
       let (end, brings) = b.stream (g.runs.streams e.conn) (g.runs.stands e.conn) in
-      let moves_state : after now b.moves ≡ after old (g.runs.moves ++ b.moves) = ap (λ s. after s b.moves) g.runs.state ∙ sym (after-append old g.runs.moves b.moves) in (
+      let moves_state : after now b.moves ≡ after old (g.runs.moves ++ b.moves) =
+      ap (λ s. after s b.moves) g.runs.state ∙ sym (after-append old g.runs.moves b.moves) in (
         flat_map spell_entry g.entries ++ spell_entry e,
         g.written ++ (output Tagged now b.moves ++ b.written),
         Consumes-trans _ _ _ _ _ g.read read,
@@ -176,8 +196,10 @@ module _ {old now : State} {held : List Held} {n : ℕ} {l0 l1 h0 h1 : Option (L
             brings = subst (λ brought. Brings e.conn e.moment (g.runs.streams e.conn) b.taken brought end) (events-append b.moves (b.last ∷ [])) brings;
             order = events-append g.runs.moves b.moves;
             state = b.state ∙ ap (λ s. after_event s b.last.event b.last.choice) moves_state;
-            wrote = ap (λ l. l ++ (output Tagged now b.moves ++ b.written)) g.runs.wrote ∙ sym (append_assoc (output Tagged old g.runs.moves) (output Tagged now b.moves) b.written)
-                ∙ ap (λ l. l ++ b.written) (ap (λ s. output Tagged old g.runs.moves ++ output Tagged s b.moves) g.runs.state ∙ sym (output-append Tagged old g.runs.moves b.moves));
+            wrote = ap (λ l. l ++ (output Tagged now b.moves ++ b.written)) g.runs.wrote
+                ∙ sym (append_assoc (output Tagged old g.runs.moves) (output Tagged now b.moves) b.written)
+                ∙ ap (λ l. l ++ b.written)
+                (ap (λ s. output Tagged old g.runs.moves ++ output Tagged s b.moves) g.runs.state ∙ sym (output-append Tagged old g.runs.moves b.moves));
             cut = b.cut ∙ ap (λ s. output_of Tagged s b.last.event b.last.choice) moves_state;
             some = b.some;
             stands = with_stands g.runs.streams held held_new e.conn (Open []) fresh g.runs.stands others (no_bytes, start_holds);
@@ -186,7 +208,9 @@ module _ {old now : State} {held : List Held} {n : ℕ} {l0 l1 h0 h1 : Option (L
       )
 
   -- behind the last entry that may be
-  pub going_behind : (result : Result (Unit {0}) ReplayFault) (l2 : Option (List ℕ)) (rest : List ℕ) (ended failed : Bool) → n ≡ max_entries → Consumes l1 l2 rest → EndsBehind result rest → Tells result ended failed false l2
+  pub going_behind : (result : Result (Unit {0}) ReplayFault) (l2 : Option (List ℕ)) (rest : List ℕ) (ended failed : Bool)
+      → n ≡ max_entries → Consumes l1 l2 rest → EndsBehind result rest → Tells result ended failed false l2
       → Replays result old now held l0 l2 h0 h1
   going_behind (Ok u) l2 rest ended failed all read none told = going_ends u l2 (omega (arith, all)) (subst (Consumes _ _) none read)
-  going_behind (Err f) l2 rest ended failed all read ends told = going_stops f.number f l2 rest ended failed refl (ends.1 ∙ ap suc (sym all)) read (subst (λ k. StopsAt f.number k rest) (sym all) ends.0) told.0
+  going_behind (Err f) l2 rest ended failed all read ends told =
+      going_stops f.number f l2 rest ended failed refl (ends.1 ∙ ap suc (sym all)) read (subst (λ k. StopsAt f.number k rest) (sym all) ends.0) told.0

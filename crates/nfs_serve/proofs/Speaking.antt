@@ -1,5 +1,6 @@
 -- A talk that goes on by a piece, and how it ends.
-use Rattle.std.proofs.Common.{◌≡◌, ◌≢◌, ℕ, ◌+◌, ◌<◌, ◌≤◌, false, List, [], ◌∷◌, ◌++◌, length, flat_map, map, Option, refl, sym, ap, subst, ◌∙◌, arith, append_assoc, append-nil, length-append, All}
+use Rattle.std.proofs.Common.{◌≡◌, ◌≢◌, ℕ, ◌+◌, ◌<◌, ◌≤◌, false, List, [], ◌∷◌, ◌++◌, length, flat_map, map, Option, refl, sym, ap, subst, ◌∙◌, arith}
+use Rattle.std.proofs.Common.{append_assoc, append-nil, length-append, All}
 use Rattle.std.specs.Io.KnownBytes.{Consumes, Appends}
 use Rattle.std.proofs.KnownBytes.{Consumes-nil, Consumes-trans, Appends-nil, Appends-trans}
 use Rattle.std.proofs.lemmas.List.{map-append}
@@ -70,7 +71,9 @@ stands_long TooLong h = refl
 
 module _ {old now : State} {is : Held} {n : ℕ} {l0 l1 h0 h1 c0 c1 : Option (List ℕ)} (g : Speaking old now is n l0 l1 h0 h1 c0 c1) where
   pieces_read : (l2 : Option (List ℕ)) (e : Entry) → Consumes l1 l2 e.piece → Consumes l0 l2 (flat_map (λ d. d.piece) (g.pieces ++ e ∷ []))
-  pieces_read l2 e read = subst (Consumes l0 l2) (sym (flat_map-append (λ d. d.piece) g.pieces (e ∷ []) ∙ ap (λ l. flat_map (λ d. d.piece) g.pieces ++ l) (append-nil e.piece))) (Consumes-trans _ _ _ _ _ g.read read)
+  pieces_read l2 e read = subst (Consumes l0 l2)
+      (sym (flat_map-append (λ d. d.piece) g.pieces (e ∷ []) ∙ ap (λ l. flat_map (λ d. d.piece) g.pieces ++ l) (append-nil e.piece)))
+      (Consumes-trans _ _ _ _ _ g.read read)
 
   moments_told : (c2 : Option (List ℕ)) (e : Entry) → Appends c1 c2 (e.moment ∷ []) → Appends c0 c2 (map (λ d. d.moment) (g.pieces ++ e ∷ []))
   moments_told c2 e told = subst (Appends c0 c2) (sym (map-append (λ d. d.moment) g.pieces (e ∷ []))) (Appends-trans _ _ _ _ _ g.moments told)
@@ -81,7 +84,8 @@ module _ {old now : State} {is : Held} {n : ℕ} {l0 l1 h0 h1 c0 c1 : Option (Li
   nonempty : (e : Entry) → IsPiece e → e.piece ≢ []
   nonempty e each none = omega (arith, ap length none, each.2)
 
-  pub speaking_more : (l2 h2 c2 : Option (List ℕ)) (new : State) (held : Held) (e : Entry) → Consumes l1 l2 e.piece → Appends c1 c2 (e.moment ∷ []) → IsPiece e → Feeds now new is held e.conn e.moment e.piece Plain h1 h2
+  pub speaking_more : (l2 h2 c2 : Option (List ℕ)) (new : State) (held : Held) (e : Entry) → Consumes l1 l2 e.piece
+      → Appends c1 c2 (e.moment ∷ []) → IsPiece e → Feeds now new is held e.conn e.moment e.piece Plain h1 h2
       → Speaking old new held (n + 1) l0 l2 h0 h2 c0 c2
   speaking_more l2 h2 c2 new held e read told each fed =
       let conn = each.1 in
@@ -95,9 +99,11 @@ module _ {old now : State} {is : Held} {n : ℕ} {l0 l1 h0 h1 c0 c1 : Option (Li
         appended = Appends-trans _ _ _ _ _ g.appended fed.wrote;
         moves = g.moves ++ fed.moves;
         streams = with_stream g.streams e.conn end;
-        reads = rw (events-append g.moves fed.moves) (Reads-more all_closed g.pieces (events g.moves) g.streams e (events fed.moves) (with_stream g.streams e.conn end) g.reads (takes_piece g.streams e.moment e.conn e.piece (events fed.moves) end (nonempty e each) brings));
+        reads = rw (events-append g.moves fed.moves) (Reads-more all_closed g.pieces (events g.moves) g.streams e (events fed.moves)
+            (with_stream g.streams e.conn end) g.reads (takes_piece g.streams e.moment e.conn e.piece (events fed.moves) end (nonempty e each) brings));
         state = fed.state ∙ ap (λ s. after s fed.moves) g.state ∙ sym (after-append old g.moves fed.moves);
-        wrote = ap (λ l. l ++ output Plain now fed.moves) g.wrote ∙ ap (λ s. output Plain old g.moves ++ output Plain s fed.moves) g.state ∙ sym (output-append Plain old g.moves fed.moves);
+        wrote = ap (λ l. l ++ output Plain now fed.moves) g.wrote
+            ∙ ap (λ s. output Plain old g.moves ++ output Plain s fed.moves) g.state ∙ sym (output-append Plain old g.moves fed.moves);
         stands = subst (λ c. Stands (with_stream g.streams c end 0) held) (sym conn) stands;
       }
 
@@ -113,7 +119,8 @@ module _ {old now : State} {is : Held} {n : ℕ} {l0 l1 h0 h1 c0 c1 : Option (Li
   is_shut flow = speaks TooLong (stands_long (g.streams 0) (subst (Stands (g.streams 0)) (shut_is is flow) g.stands))
 
   -- the writer failed in a reply of a piece
-  pub speaking_breaks : (l2 h2 c2 : Option (List ℕ)) (new : State) (e : Entry) → Consumes l1 l2 e.piece → Appends c1 c2 (e.moment ∷ []) → IsPiece e → n < max_reads → Breaks now new is e.conn e.moment e.piece Plain h1 h2
+  pub speaking_breaks : (l2 h2 c2 : Option (List ℕ)) (new : State) (e : Entry) → Consumes l1 l2 e.piece
+      → Appends c1 c2 (e.moment ∷ []) → IsPiece e → n < max_reads → Breaks now new is e.conn e.moment e.piece Plain h1 h2
       → Talks WriteFailed old new l0 l2 h0 h2 c0 c2
   speaking_breaks l2 h2 c2 new e read told each few b =
       let conn = each.1 in
@@ -143,11 +150,14 @@ module _ {old now : State} {is : Held} {n : ℕ} {l0 l1 h0 h1 c0 c1 : Option (Li
             unwritten = b.unwritten;
             reads = g.reads;
             split = b.split;
-            brings = subst (λ c. Brings c e.moment (g.streams c) b.taken (events b.moves ++ b.last.event ∷ []) end) conn (subst (λ brought. Brings e.conn e.moment (g.streams e.conn) b.taken brought end) (events-append b.moves (b.last ∷ [])) brings);
+            brings = subst (λ c. Brings c e.moment (g.streams c) b.taken (events b.moves ++ b.last.event ∷ []) end) conn
+                (subst (λ brought. Brings e.conn e.moment (g.streams e.conn) b.taken brought end) (events-append b.moves (b.last ∷ [])) brings);
             order = events-append g.moves b.moves;
             state = b.state ∙ ap (λ s. after_event s b.last.event b.last.choice) moves_state;
-            wrote = ap (λ l. l ++ (output Plain now b.moves ++ b.written)) g.wrote ∙ sym (append_assoc (output Plain old g.moves) (output Plain now b.moves) b.written)
-                ∙ ap (λ l. l ++ b.written) (ap (λ s. output Plain old g.moves ++ output Plain s b.moves) g.state ∙ sym (output-append Plain old g.moves b.moves));
+            wrote = ap (λ l. l ++ (output Plain now b.moves ++ b.written)) g.wrote
+                ∙ sym (append_assoc (output Plain old g.moves) (output Plain now b.moves) b.written)
+                ∙ ap (λ l. l ++ b.written)
+                (ap (λ s. output Plain old g.moves ++ output Plain s b.moves) g.state ∙ sym (output-append Plain old g.moves b.moves));
             cut = b.cut ∙ ap (λ s. output_of Plain s b.last.event b.last.choice) moves_state;
             some = b.some;
           },

@@ -17,11 +17,13 @@ use Rattle.nfs_serve.specs.Server.{IsAnswer}
 use Rattle.nfs_serve.specs.Engine.{PutsReply, outcome_of}
 
 -- what a step is, once its call is known
-pub step_of : (s : State) (bytes : List ℕ) (now moment : ℕ) (choice : Option ℕ) (tables : Machine) (called : Called) → moment ≡ max s.moment now → tables ≡ expired moment s.machine → call_of bytes ≡ called
+pub step_of : (s : State) (bytes : List ℕ) (now moment : ℕ) (choice : Option ℕ) (tables : Machine) (called : Called)
+    → moment ≡ max s.moment now → tables ≡ expired moment s.machine → call_of bytes ≡ called
     → step s bytes now choice ≡ reply_to (record { machine = tables; moment = moment }) (length bytes) choice called
 unfolding step
 step_of s bytes now moment choice tables called taken is read =
-    rw (is, read) (subst (λ (n : ℕ). reply_to (record { machine = expired n s.machine; moment = n }) (length bytes) choice called ≡ reply_to (record { machine = expired moment s.machine; moment = moment }) (length bytes) choice called) taken refl)
+    rw (is, read) (subst (λ (n : ℕ). reply_to (record { machine = expired n s.machine; moment = n }) (length bytes) choice called
+    ≡ reply_to (record { machine = expired moment s.machine; moment = moment }) (length bytes) choice called) taken refl)
 
 -- a reply that was put behind the front of the sheet
 pub lies_behind : {r : Stepped} {old new : Paper} {left : State} → length old.bytes ≡ 8 → PutsReply r old new left → r.reply ≡ Some (drop 8 new.bytes)
@@ -32,7 +34,8 @@ unfolding spell_refusal
 silence = refl
 
 -- what a refusal puts is its reply, where it is answered
-pub refusal_lies : (s : State) (refusal : Refusal) (old new : Paper) → length old.bytes ≡ 8 → Puts old new (spell_refusal refusal) → IsAnswer (outcome_of refusal) (refused s refusal).reply (drop 8 new.bytes) × ((refused s refusal).state ≡ s)
+pub refusal_lies : (s : State) (refusal : Refusal) (old new : Paper) → length old.bytes ≡ 8 → Puts old new (spell_refusal refusal)
+    → IsAnswer (outcome_of refusal) (refused s refusal).reply (drop 8 new.bytes) × ((refused s refusal).state ≡ s)
 refusal_lies s Silent old new front put = ((refl, ap (drop 8) put.bytes ∙ drop_at old.bytes (spell_refusal Silent) 8 front ∙ silence), refl)
 refusal_lies s (Mismatch xid) old new front put = (ap Some (sym (ap (drop 8) put.bytes ∙ drop_at old.bytes (spell_refusal (Mismatch xid)) 8 front)), refl)
 refusal_lies s (Auth xid stat) old new front put = (ap Some (sym (ap (drop 8) put.bytes ∙ drop_at old.bytes (spell_refusal (Auth xid stat)) 8 front)), refl)

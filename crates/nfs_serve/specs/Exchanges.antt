@@ -43,7 +43,8 @@ exchange_script = exchange_entry ++ exchange_entry
 
 -- a client id of the instance and a counter; its server owner and scope are the text `nfs41d`
 abbrev pub exchange_reply : ℕ → List ℕ
-exchange_reply counter = words (0 ∷ 0x8000_0064 ∷ 2 ∷ 1 ∷ 0 ∷ 0 ∷ 0 ∷ 0 ∷ 0 ∷ 0 ∷ 1 ∷ 42 ∷ 0 ∷ 7 ∷ counter ∷ 1 ∷ 0x0001_0000 ∷ 0 ∷ 0 ∷ 0 ∷ 6 ∷ 0x6e66_7334 ∷ 0x3164_0000 ∷ 6 ∷ 0x6e66_7334 ∷ 0x3164_0000 ∷ 0 ∷ [])
+exchange_reply counter = words (0 ∷ 0x8000_0064 ∷ 2 ∷ 1 ∷ 0 ∷ 0 ∷ 0 ∷ 0 ∷ 0 ∷ 0 ∷ 1 ∷ 42 ∷ 0 ∷ 7 ∷ counter
+    ∷ 1 ∷ 0x0001_0000 ∷ 0 ∷ 0 ∷ 0 ∷ 6 ∷ 0x6e66_7334 ∷ 0x3164_0000 ∷ 6 ∷ 0x6e66_7334 ∷ 0x3164_0000 ∷ 0 ∷ [])
 
 abbrev pub exchange_output : List ℕ
 exchange_output = exchange_reply 1 ++ exchange_reply 2

@@ -24,4 +24,5 @@ StopsAnywhere stop rest = (whole : ℕ) → whole < max_entries → StopsAt stop
 abbrev pub ReadsEntry : Result (Option rust.Entry) Stop → Option (List ℕ) → Option (List ℕ) → Bool → Bool → Type 0
 ReadsEntry (Ok (Some e)) old new failed ended = Consumes old new (spell_entry (entry e)) × Fits (entry e) × (failed ≡ false) × (ended ≡ false)
 ReadsEntry (Ok None) old new failed ended = Consumes old new [] × IsAtEnd new × (failed ≡ false) × (ended ≡ true)
-ReadsEntry (Err stop) old new failed ended = (rest : List ℕ) × Consumes old new rest × StopsAnywhere stop rest × IsTold stop ended failed false × EndsAt stop new
+ReadsEntry (Err stop) old new failed ended =
+    (rest : List ℕ) × Consumes old new rest × StopsAnywhere stop rest × IsTold stop ended failed false × EndsAt stop new

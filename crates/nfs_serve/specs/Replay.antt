@@ -54,7 +54,8 @@ pub record RunsInto (old new : State) (held : List Held) (entries : List Entry) 
 -- what was read and run before a fault, which bears the entry that was being read or run
 abbrev pub ReplaysFault : Stop → ℕ → State → State → List Held → List ℕ → List ℕ → Type 0
 ReplaysFault WriteFailed entry old new held read written =
-    (entries : List Entry) × (last : Entry) × IsStopped read WriteFailed (entries ++ last ∷ []) [] × (entry ≡ suc (length entries)) × RunsInto old new held entries last written
+    (entries : List Entry) × (last : Entry) × IsStopped read WriteFailed (entries ++ last ∷ []) []
+    × (entry ≡ suc (length entries)) × RunsInto old new held entries last written
 ReplaysFault stop entry old new held read written =
     (entries : List Entry) × (rest : List ℕ) × IsStopped read stop entries rest × (entry ≡ suc (length entries)) × Runs old new held entries written
 
@@ -63,8 +64,10 @@ Replayed (Ok u) old new held read written = (entries : List Entry) × IsWhole re
 Replayed (Err fault) old new held read written = ReplaysFault fault.number fault.entry old new held read written
 
 -- the same of what the ends tell
-abbrev pub Replays : {U : Type 0} → Result U ReplayFault → State → State → List Held → Option (List ℕ) → Option (List ℕ) → Option (List ℕ) → Option (List ℕ) → Type 0
-Replays result old new held l0 l1 h0 h1 = (read : List ℕ) × (written : List ℕ) × Consumes l0 l1 read × Appends h0 h1 written × Replayed result old new held read written
+abbrev pub Replays : {U : Type 0} → Result U ReplayFault → State → State → List Held
+    → Option (List ℕ) → Option (List ℕ) → Option (List ℕ) → Option (List ℕ) → Type 0
+Replays result old new held l0 l1 h0 h1 =
+    (read : List ℕ) × (written : List ℕ) × Consumes l0 l1 read × Appends h0 h1 written × Replayed result old new held read written
 
 -- which ends a run leaves as they were
 abbrev pub Tells : {U : Type 0} → Result U ReplayFault → Bool → Bool → Bool → Option (List ℕ) → Type 0

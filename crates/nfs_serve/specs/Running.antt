@@ -20,7 +20,8 @@ pub record RunsEntry (old new : State) (was is : List Held) (e : Entry) (h0 h1 :
 -- or the writer failed in what its last move put out, and its connection was closed
 abbrev pub RunsEntryOr : {U E : Type 0} → Result U E → State → State → List Held → List Held → Entry → Option (List ℕ) → Option (List ℕ) → Bool → Type 0
 RunsEntryOr (Ok u) old new was is e h0 h1 failed = RunsEntry old new was is e h0 h1 × (failed ≡ false)
-RunsEntryOr (Err f) old new was is e h0 h1 failed = Breaks old new (held_on was e.conn) e.conn e.moment e.piece Tagged h0 h1 × IsWith is was e.conn fresh × (failed ≡ true)
+RunsEntryOr (Err f) old new was is e h0 h1 failed =
+    Breaks old new (held_on was e.conn) e.conn e.moment e.piece Tagged h0 h1 × IsWith is was e.conn fresh × (failed ≡ true)
 
 -- what stands behind the last entry that may be
 abbrev pub EndsBehind : {U : Type 0} → Result U ReplayFault → List ℕ → Type 0

@@ -1,5 +1,6 @@
 -- What contracts see of a server, and what a record, a piece and a close do to it.
-use Rattle.std.specs.Prelude.{◌≡◌, ℕ, ◌<◌, List, [], ◌∷◌, ◌++◌, length, get_or, Bool, true, false, Option, Some, None, Result, Ok, Err, nat_eq, if◌then◌else◌, replicate}
+use Rattle.std.specs.Prelude.{◌≡◌, ℕ, ◌<◌, List, [], ◌∷◌, ◌++◌, length, get_or, Bool, true, false, Option, Some, None, Result, Ok, Err, nat_eq, if◌then◌else◌}
+use Rattle.std.specs.Prelude.{replicate}
 use Rattle.std.specs.Io.KnownBytes.{Appends}
 use Rattle.nfs_xdr.specs.Codec.{IsBytes}
 use Rattle.nfs_rpc.specs.RecordMarking.{Held, Begun, Complete, Failed, IsPart, start}
@@ -92,5 +93,6 @@ pub record Breaks (old new : State) (was : Held) (conn moment : ℕ) (piece : Li
 
 -- what taking a piece did, by whether the writer failed
 abbrev pub FeedsOr : {E : Type 0} → Result Flow E → State → State → Held → Held → ℕ → ℕ → List ℕ → Form → Option (List ℕ) → Option (List ℕ) → Bool → Type 0
-FeedsOr (Ok flow) old new was is conn moment piece form h0 h1 failed = Feeds old new was is conn moment piece form h0 h1 × (flow ≡ flow_of is) × (failed ≡ false)
+FeedsOr (Ok flow) old new was is conn moment piece form h0 h1 failed =
+    Feeds old new was is conn moment piece form h0 h1 × (flow ≡ flow_of is) × (failed ≡ false)
 FeedsOr (Err e) old new was is conn moment piece form h0 h1 failed = Breaks old new was conn moment piece form h0 h1 × (failed ≡ true)

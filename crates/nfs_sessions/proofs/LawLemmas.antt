@@ -1,5 +1,6 @@
 -- The sessions as a map, and the ids that are given.
-use Rattle.std.proofs.Common.{◌≡◌, inl, inr, ℕ, ◌+◌, suc, Bool, true, false, not, List, [], ◌∷◌, ◌++◌, map, Option, Some, None, refl, sym, ◌∙◌, ap, arith, subst}
+use Rattle.std.proofs.Common.{◌≡◌, inl, inr, ℕ, ◌+◌, suc, Bool, true, false, not, List, [], ◌∷◌, ◌++◌, map, Option, Some, None, refl, sym, ◌∙◌, ap, arith}
+use Rattle.std.proofs.Common.{subst}
 use Rattle.std.specs.Prelude.{◌==◌, if◌then◌else◌, filter, find, option_map, option_to_list}
 use Rattle.std.specs.Result.{result_ok}
 use Rattle.std.proofs.lemmas.Bool.{cases_Bool, eqb-true, eq-eqb, and_parts, cond-true, cond-false}
@@ -10,7 +11,8 @@ use Rattle.nfs_sessions.specs.declared.id.SessionId.{SessionId}
 use Rattle.nfs_sessions.specs.declared.sessions.SessionFault.{SessionFault}
 use Rattle.nfs_sessions.specs.Channel.{granted}
 use Rattle.nfs_sessions.specs.SessionSlots.{GrantedSlots, unused}
-use Rattle.nfs_sessions.specs.Sessions.{Session, SessionTable, IsSessions, is_session, session_at, create_fault, create_unless, with_session, destroyed, without_client, with_slots}
+use Rattle.nfs_sessions.specs.Sessions.{Session, SessionTable, IsSessions, is_session, session_at, create_fault, create_unless, with_session, destroyed}
+use Rattle.nfs_sessions.specs.Sessions.{without_client, with_slots}
 use Rattle.nfs_sessions.specs.Laws.{is_id, SessionsAreAMap, Call, Create, Destroy, DropClient, Change, all_after, all_given, IdsRise}
 
 find_push_none : {X : Type 0} (p : X → Bool) (xs : List X) (x : X) → find p xs ≡ None → find p (xs ++ x ∷ []) ≡ (if p x then Some x else None)
@@ -30,7 +32,8 @@ find_push_other {X} p (y ∷ ys) x e =
     ]
 
 -- no number of a table is its bound
-find_above : {X : Type 0} (number : X → ℕ) (n : ℕ) (p : X → Bool) → ((x : X) → p x ≡ true → number x ≡ n) → (low : ℕ) (xs : List X) → IsRising number low xs n → find p xs ≡ None
+find_above : {X : Type 0} (number : X → ℕ) (n : ℕ) (p : X → Bool) → ((x : X) → p x ≡ true → number x ≡ n)
+    → (low : ℕ) (xs : List X) → IsRising number low xs n → find p xs ≡ None
 find_above number n p only low [] rising = refl
 find_above {X} number n p only low (x ∷ xs) rising =
     elim (cases_Bool (p x)) [
@@ -62,7 +65,8 @@ find_filter_same {X} p q (x ∷ xs) inside =
       ]
     ]
 
-find_map : {X : Type 0} (p : X → Bool) (f g : X → X) (xs : List X) → ((x : X) → p (f x) ≡ p x) → ((x : X) → p x ≡ true → f x ≡ g x) → find p (map f xs) ≡ option_map g (find p xs)
+find_map : {X : Type 0} (p : X → Bool) (f g : X → X) (xs : List X) → ((x : X) → p (f x) ≡ p x)
+    → ((x : X) → p x ≡ true → f x ≡ g x) → find p (map f xs) ≡ option_map g (find p xs)
 find_map p f g [] same equal = refl
 find_map {X} p f g (x ∷ xs) same equal =
     elim (cases_Bool (p x)) [
@@ -108,17 +112,28 @@ destroyed_at : (t : SessionTable) (gone id : SessionId) → session_at (destroye
 destroyed_at t gone id =
     elim (cases_Bool (is_id id gone)) [
       | inl same ↦ simp (same, find_filter_none (is_session id) (λ s. not (is_session gone s)) t.sessions (λ s is. ap not (session_of_same id gone s same is)))
-      | inr apart ↦ simp (apart, find_filter_same (is_session id) (λ s. not (is_session gone s)) t.sessions (λ s is. ap not (session_of_other id gone s apart is)))
+      | inr apart ↦
+          simp (apart, find_filter_same (is_session id) (λ s. not (is_session gone s)) t.sessions (λ s is. ap not (session_of_other id gone s apart is)))
     ]
 
-dropped_at : (t : SessionTable) (client : ℕ) (id : SessionId) → session_at (without_client t client) id ≡ (if id.client == client then None else session_at t id)
+dropped_at : (t : SessionTable) (client : ℕ) (id : SessionId)
+    → session_at (without_client t client) id ≡ (if id.client == client then None else session_at t id)
 dropped_at t client id =
     elim (cases_Bool (id.client == client)) [
-      | inl same ↦ simp (same, find_filter_none (is_session id) (λ s. not (s.client == client)) t.sessions (λ s is. ap (λ (n : ℕ). not (n == client)) (session_is id s is).1 ∙ ap not same))
-      | inr apart ↦ simp (apart, find_filter_same (is_session id) (λ s. not (s.client == client)) t.sessions (λ s is. ap (λ (n : ℕ). not (n == client)) (session_is id s is).1 ∙ ap not apart))
+      | inl same ↦ simp (
+        same,
+        find_filter_none (is_session id) (λ s. not (s.client == client)) t.sessions
+            (λ s is. ap (λ (n : ℕ). not (n == client)) (session_is id s is).1 ∙ ap not same),
+      )
+      | inr apart ↦ simp (
+        apart,
+        find_filter_same (is_session id) (λ s. not (s.client == client)) t.sessions
+            (λ s is. ap (λ (n : ℕ). not (n == client)) (session_is id s is).1 ∙ ap not apart),
+      )
     ]
 
-same_session : (at id : SessionId) (change : GrantedSlots → GrantedSlots) (s : Session) → is_session id (if is_session at s then record s { slots = change s.slots } else s) ≡ is_session id s
+same_session : (at id : SessionId) (change : GrantedSlots → GrantedSlots) (s : Session)
+    → is_session id (if is_session at s then record s { slots = change s.slots } else s) ≡ is_session id s
 same_session at id change s =
     elim (is_session at s) as (λ b. is_session id (if b then record s { slots = change s.slots } else s) ≡ is_session id s)
     [ true ↦ refl | false ↦ refl ]
@@ -127,16 +142,28 @@ option_map_same : {X : Type 0} (o : Option X) → option_map (λ (x : X). x) o �
 option_map_same None = refl
 option_map_same (Some x) = refl
 
-changed_at : (t : SessionTable) (at id : SessionId) (change : GrantedSlots → GrantedSlots) → session_at (with_slots t at change) id ≡ (if is_id id at then option_map (λ (s : Session). record s { slots = change s.slots }) (session_at t id) else session_at t id)
+changed_at : (t : SessionTable) (at id : SessionId) (change : GrantedSlots → GrantedSlots) → session_at (with_slots t at change) id
+    ≡ (if is_id id at then option_map (λ (s : Session). record s { slots = change s.slots }) (session_at t id) else session_at t id)
 changed_at t at id change =
     let p = is_session id in
     let f : Session → Session = λ s. if is_session at s then record s { slots = change s.slots } else s in
     elim (cases_Bool (is_id id at)) [
-      | inl same ↦ simp (same, find_map p f (λ (s : Session). record s { slots = change s.slots }) t.sessions (same_session at id change) (λ s is. cond-true (is_session at s) _ _ (session_of_same id at s same is)))
-      | inr apart ↦ simp (apart, find_map p f (λ (s : Session). s) t.sessions (same_session at id change) (λ s is. cond-false (is_session at s) _ _ (session_of_other id at s apart is)), option_map_same (find p t.sessions))
+      | inl same ↦ simp (
+        same,
+        find_map p f (λ (s : Session). record s { slots = change s.slots }) t.sessions
+            (same_session at id change) (λ s is. cond-true (is_session at s) _ _ (session_of_same id at s same is)),
+      )
+      | inr apart ↦ simp (
+        apart,
+        find_map p f (λ (s : Session). s) t.sessions (same_session at id change)
+            (λ s is. cond-false (is_session at s) _ _ (session_of_other id at s apart is)),
+        option_map_same (find p t.sessions),
+      )
     ]
 
-created : (t : SessionTable) → IsSessions t → (client : ℕ) (wish : Wish) (id : SessionId) → session_at (with_session t client wish) id ≡ (if is_id id (record { client = client; counter = t.last + 1 }) then Some (record { counter = t.last + 1; client = client; slots = unused (granted wish.fore) }) else session_at t id)
+created : (t : SessionTable) → IsSessions t → (client : ℕ) (wish : Wish) (id : SessionId)
+    → session_at (with_session t client wish) id ≡ (if is_id id (record { client = client; counter = t.last + 1 })
+    then Some (record { counter = t.last + 1; client = client; slots = unused (granted wish.fore) }) else session_at t id)
 created t is client wish id =
     let p = is_session id in
     let new : Session = record { counter = t.last + 1; client = client; slots = unused (granted wish.fore) } in
@@ -145,12 +172,16 @@ created t is client wish id =
       | inl same ↦ (
           let (counters, clients) = same_id id new_id same in
           let here : is_session id new ≡ true = is_session_from id new (sym counters) (sym clients) in
-          let rising : IsRising (λ (s : Session). s.counter) 1 t.sessions (t.last + 1) = subst (IsRising (λ (s : Session). s.counter) 1 t.sessions) (omega arith) is.rising in
-          let none : find p t.sessions ≡ None = find_above (λ (s : Session). s.counter) (t.last + 1) p (λ s e. (session_is id s e).0 ∙ counters) 1 t.sessions rising in
+          let rising : IsRising (λ (s : Session). s.counter) 1 t.sessions (t.last + 1) =
+          subst (IsRising (λ (s : Session). s.counter) 1 t.sessions) (omega arith) is.rising in
+          let none : find p t.sessions ≡ None =
+          find_above (λ (s : Session). s.counter) (t.last + 1) p (λ s e. (session_is id s e).0 ∙ counters) 1 t.sessions rising in
           simp (same, here, find_push_none p t.sessions new none))
       | inr apart ↦ (
           let not_here : is_session id new ≡ false = elim (cases_Bool (is_session id new)) [
-            | inl here ↦ (let (counter, client_is) = session_is id new here in let same : is_id id new_id ≡ true = is_id_from id new_id (sym counter) (sym client_is) in let clash : true ≡ false = sym same ∙ apart in absurd (cc))
+            | inl here ↦ (let (counter, client_is) = session_is id new here in
+                let same : is_id id new_id ≡ true = is_id_from id new_id (sym counter) (sym client_is) in
+                let clash : true ≡ false = sym same ∙ apart in absurd (cc))
             | inr other ↦ other
           ] in
           simp (apart, find_push_other p t.sessions new not_here))
@@ -164,11 +195,18 @@ sessions_are_a_map t is = record {
   changed_at = changed_at t;
 }
 
-created_rise : (t : SessionTable) (client : ℕ) (wish : Wish) (calls : List Call) (fault : Option SessionFault) → ((u : SessionTable) → IsRising (λ (id : SessionId). id.counter) (u.last + 1) (all_given u calls) (suc (all_after u calls).last)) → IsRising (λ (id : SessionId). id.counter) (t.last + 1) (option_to_list (result_ok (create_unless t client wish fault).answer) ++ all_given (create_unless t client wish fault).after calls) (suc (all_after (create_unless t client wish fault).after calls).last)
+created_rise : (t : SessionTable) (client : ℕ) (wish : Wish) (calls : List Call) (fault : Option SessionFault)
+    → ((u : SessionTable) → IsRising (λ (id : SessionId). id.counter) (u.last + 1) (all_given u calls) (suc (all_after u calls).last))
+    → IsRising (λ (id : SessionId). id.counter) (t.last + 1)
+    (option_to_list (result_ok (create_unless t client wish fault).answer) ++ all_given (create_unless t client wish fault).after calls)
+    (suc (all_after (create_unless t client wish fault).after calls).last)
 created_rise t client wish calls (Some fault) rest = rest t
 created_rise t client wish calls None rest =
-    let new = with_session t client wish in
-    (omega arith, IsRising-from (λ (id : SessionId). id.counter) (suc (t.last + 1)) (new.last + 1) (suc (all_after new calls).last) (all_given new calls) (omega arith) (rest new))
+    let new = with_session t client wish in (
+      omega arith,
+      IsRising-from (λ (id : SessionId). id.counter) (suc (t.last + 1))
+          (new.last + 1) (suc (all_after new calls).last) (all_given new calls) (omega arith) (rest new),
+    )
 
 pub ids_rise : IdsRise
 ids_rise t [] = omega arith

@@ -26,28 +26,39 @@ pub some_there : {X : Type 0} (o : Option X) (P : X → Type 0) → IsSomeAnd o 
 some_there None P is = absurd is
 some_there (Some x) P is = (x, refl, is)
 
-same_counter : (id : SessionId) (s : Session) (change : GrantedSlots → GrantedSlots) → (if is_session id s then record s { slots = change s.slots } else s).counter ≡ s.counter
+same_counter : (id : SessionId) (s : Session) (change : GrantedSlots → GrantedSlots)
+    → (if is_session id s then record s { slots = change s.slots } else s).counter ≡ s.counter
 same_counter id s change =
     elim (is_session id s) as (λ b. (if b then record s { slots = change s.slots } else s).counter ≡ s.counter)
     [ true ↦ refl | false ↦ refl ]
 
 pub slots_changed : (t : SessionTable) (id : SessionId) (change : GrantedSlots → GrantedSlots) → IsSessions t → IsSessions (with_slots t id change)
 slots_changed t id change is =
-    record { rising = IsRising-map (λ (s : Session). s.counter) (λ s. if is_session id s then record s { slots = change s.slots } else s) (λ s. same_counter id s change) 1 (suc t.last) t.sessions is.rising }
+    record {
+      rising = IsRising-map (λ (s : Session). s.counter) (λ s. if is_session id s then record s { slots = change s.slots } else s)
+          (λ s. same_counter id s change) 1 (suc t.last) t.sessions is.rising;
+    }
 
 -- what is read at the place of an id is the session of that id
-stands_at : (t : SessionTable) (id : SessionId) (xs : List Session) (place : ℕ) (s : Session) → xs ≡ t.sessions → position (is_session id) xs ≡ Some place → s ≡ get_or xs place s → (position (is_session id) t.sessions ≡ Some place) × (s ≡ get_or t.sessions place s)
+stands_at : (t : SessionTable) (id : SessionId) (xs : List Session) (place : ℕ) (s : Session) → xs ≡ t.sessions
+    → position (is_session id) xs ≡ Some place → s ≡ get_or xs place s → (position (is_session id) t.sessions ≡ Some place) × (s ≡ get_or t.sessions place s)
 stands_at t id xs place s same at read =
     (ap (position (is_session id)) (sym same) ∙ at, read ∙ ap (λ (xs : List Session). get_or xs place s) same)
 
-written : (t : SessionTable) (id : SessionId) (place : ℕ) (s : Session) (change : GrantedSlots → GrantedSlots) → IsSessions t → position (is_session id) t.sessions ≡ Some place → s ≡ get_or t.sessions place s → set t.sessions place (record s { slots = change s.slots }) ≡ (with_slots t id change).sessions
+written : (t : SessionTable) (id : SessionId) (place : ℕ) (s : Session) (change : GrantedSlots → GrantedSlots)
+    → IsSessions t → position (is_session id) t.sessions ≡ Some place → s ≡ get_or t.sessions place s
+    → set t.sessions place (record s { slots = change s.slots }) ≡ (with_slots t id change).sessions
 written t id place s change is at read =
     let first = position-Some (is_session id) t.sessions place s at in
     let there : slice_get t.sessions place ≡ Some s = slice_get-get_or t.sessions place s first.0 ∙ ap (λ (x : Session). Some x) (sym read) in
-    one_changed (λ (s : Session). s.counter) id.counter (is_session id) (λ s. record s { slots = change s.slots }) (is_counter id) 1 (suc t.last) t.sessions place s there (ap (is_session id) read ∙ first.1) is.rising
+    one_changed (λ (s : Session). s.counter) id.counter (is_session id) (λ s. record s { slots = change s.slots })
+    (is_counter id) 1 (suc t.last) t.sessions place s there (ap (is_session id) read ∙ first.1) is.rising
 
 -- new slots written at the place of a session make the table with those slots
-pub table_written : (t : SessionTable) (id : SessionId) (xs : List Session) (last place : ℕ) (s : Session) (new : GrantedSlots) (change : GrantedSlots → GrantedSlots) → IsSessions t → record { sessions = xs; last = last } ≡ t → position (is_session id) xs ≡ Some place → s ≡ get_or xs place s → new ≡ change s.slots → record { sessions = set xs place (record s { slots = new }); last = last } ≡ with_slots t id change
+pub table_written : (t : SessionTable) (id : SessionId) (xs : List Session) (last place : ℕ) (s : Session)
+    (new : GrantedSlots) (change : GrantedSlots → GrantedSlots)
+    → IsSessions t → record { sessions = xs; last = last } ≡ t → position (is_session id) xs ≡ Some place → s ≡ get_or xs place s
+    → new ≡ change s.slots → record { sessions = set xs place (record s { slots = new }); last = last } ≡ with_slots t id change
 table_written t id xs last place s new change is same at read changed =
     let same_sessions : xs ≡ t.sessions = ap (λ (t : SessionTable). t.sessions) same in
     let same_last : last ≡ t.last = ap (λ (t : SessionTable). t.last) same in

@@ -15,11 +15,13 @@ is_id id other = (id.counter == other.counter) && (id.client == other.client)
 pub record IsMap (t : SessionTable) : Type 0 where
   pub created : (client : ℕ) (wish : Wish) (id : SessionId) →
       session_at (with_session t client wish) id
-      ≡ (if is_id id (record { client = client; counter = t.last + 1 }) then Some (record { counter = t.last + 1; client = client; slots = unused (granted wish.fore) }) else session_at t id)
+      ≡ (if is_id id (record { client = client; counter = t.last + 1 })
+      then Some (record { counter = t.last + 1; client = client; slots = unused (granted wish.fore) }) else session_at t id)
   pub destroyed_at : (gone id : SessionId) → session_at (destroyed t gone) id ≡ (if is_id id gone then None else session_at t id)
   pub dropped_at : (client : ℕ) (id : SessionId) → session_at (without_client t client) id ≡ (if id.client == client then None else session_at t id)
   pub changed_at : (at id : SessionId) (change : GrantedSlots → GrantedSlots) →
-      session_at (with_slots t at change) id ≡ (if is_id id at then option_map (λ (s : Session). record s { slots = change s.slots }) (session_at t id) else session_at t id)
+      session_at (with_slots t at change) id
+      ≡ (if is_id id at then option_map (λ (s : Session). record s { slots = change s.slots }) (session_at t id) else session_at t id)
 
 abbrev pub SessionsAreAMap : Type 0
 SessionsAreAMap = (t : SessionTable) → IsSessions t → IsMap t

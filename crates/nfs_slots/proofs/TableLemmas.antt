@@ -1,5 +1,6 @@
 -- A table of slots along a list of requests.
-use Rattle.std.proofs.Common.{◌≡◌, inl, inr, ℕ, ◌+◌, ◌-◌, ◌<◌, ◌≤◌, ◌%◌, ◌^◌, suc, zero, Bool, true, false, cond, List, [], ◌∷◌, map, set, Option, Some, None, refl, sym, ◌∙◌, ap, arith, zero-add}
+use Rattle.std.proofs.Common.{◌≡◌, inl, inr, ℕ, ◌+◌, ◌-◌, ◌<◌, ◌≤◌, ◌%◌, ◌^◌, suc, zero, Bool, true, false, cond, List, [], ◌∷◌, map, set, Option, Some, None}
+use Rattle.std.proofs.Common.{refl, sym, ◌∙◌, ap, arith, zero-add}
 use Rattle.std.specs.Prelude.{◌==◌, if◌then◌else◌, not, ◌&&◌, slice_get, count_by, bytes_eq, length, All}
 use Rattle.std.specs.Option.{option_map_or}
 use Rattle.std.proofs.lemmas.Bool.{cases_eq, ne_eqb, eq-eqb, eqb-true}
@@ -14,8 +15,10 @@ use Rattle.nfs_slots.specs.Buffers.{state_of, IsKept}
 use Rattle.nfs_slots.specs.Laws.{Request, is_on, Keeps, OnePlace, RepeatsAreAnswered}
 
 -- what a slot's buffers stand for, put into the table
-pub kept_in : (t : SlotTable) (slots : List Slot) (slot : ℕ) (s : Slot) (state : SlotState) → map state_of slots ≡ t.slots → state_of s ≡ state → map state_of (set slots slot s) ≡ set t.slots slot state
-kept_in t slots slot s state before here = map-set state_of slots slot s ∙ (ap (λ (xs : List SlotState). set xs slot (state_of s)) before ∙ ap (λ (x : SlotState). set t.slots slot x) here)
+pub kept_in : (t : SlotTable) (slots : List Slot) (slot : ℕ) (s : Slot) (state : SlotState)
+    → map state_of slots ≡ t.slots → state_of s ≡ state → map state_of (set slots slot s) ≡ set t.slots slot state
+kept_in t slots slot s state before here = map-set state_of slots slot s
+    ∙ (ap (λ (xs : List SlotState). set xs slot (state_of s)) before ∙ ap (λ (x : SlotState). set t.slots slot x) here)
 
 pub slice_get-set_same : {X : Type 0} (xs : List X) (i : ℕ) (x y : X) → slice_get xs i ≡ Some x → slice_get (set xs i y) i ≡ Some y
 slice_get-set_same [] i x y e = absurd cc
@@ -37,15 +40,19 @@ verdict_fresh false false false e = absurd cc
 
 -- a number that is fresh stands behind the slot's
 pub fresh_number : (s : SlotState) (number uid : ℕ) (args : List ℕ) → judge_slot s number uid args ≡ Fresh → number ≡ next_number s.number
-fresh_number s number uid args e = eqb-true _ _ (verdict_fresh (number == next_number s.number) (not (s.used && (number == s.number))) ((uid == s.uid) && bytes_eq args s.args) e)
+fresh_number s number uid args e =
+    eqb-true _ _ (verdict_fresh (number == next_number s.number) (not (s.used && (number == s.number))) ((uid == s.uid) && bytes_eq args s.args) e)
 
 -- a request is fresh only on a slot that is there
-fresh_found : (found : Option SlotState) (number uid : ℕ) (args : List ℕ) → option_map_or (λ s. judge_slot s number uid args) found NoSlot ≡ Fresh → (s : SlotState) × (found ≡ Some s) × (number ≡ next_number s.number)
+fresh_found : (found : Option SlotState) (number uid : ℕ) (args : List ℕ)
+    → option_map_or (λ s. judge_slot s number uid args) found NoSlot ≡ Fresh → (s : SlotState) × (found ≡ Some s) × (number ≡ next_number s.number)
 fresh_found None number uid args e = absurd cc
 fresh_found (Some s) number uid args e = (s, refl, fresh_number s number uid args e)
 
-pub fresh_at : (t : SlotTable) (slot number uid : ℕ) (args : List ℕ) (s : SlotState) → slot_at t slot ≡ Some s → judge t slot number uid args ≡ Fresh → number ≡ next_number s.number
-fresh_at t slot number uid args s here e = fresh_number s number uid args (ap (λ (found : Option SlotState). option_map_or (λ s. judge_slot s number uid args) found NoSlot) (sym here) ∙ e)
+pub fresh_at : (t : SlotTable) (slot number uid : ℕ) (args : List ℕ) (s : SlotState)
+    → slot_at t slot ≡ Some s → judge t slot number uid args ≡ Fresh → number ≡ next_number s.number
+fresh_at t slot number uid args s here e =
+    fresh_number s number uid args (ap (λ (found : Option SlotState). option_map_or (λ s. judge_slot s number uid args) found NoSlot) (sym here) ∙ e)
 
 pub next_small : (n : ℕ) → next_number n < 2 ^ 32
 next_small n = omega arith
@@ -67,7 +74,8 @@ count_apart slot r more other =
     ∙ (ap (λ (b : Bool). cond b 1 0 + count_by (is_on slot) more) (ne_eqb r.slot slot other) ∙ zero-add (count_by (is_on slot) more))
 
 -- a slot's number moves on by one for each request that is kept there
-pub moves_on : (slot : ℕ) (old new : SlotTable) (more : List Request) (s : SlotState) → s.number < 2 ^ 32 → slot_at old slot ≡ Some s → Keeps old more new → (r : SlotState) × (slot_at new slot ≡ Some r) × (r.number ≡ (s.number + count_by (is_on slot) more) % 2 ^ 32)
+pub moves_on : (slot : ℕ) (old new : SlotTable) (more : List Request) (s : SlotState) → s.number < 2 ^ 32 → slot_at old slot ≡ Some s
+    → Keeps old more new → (r : SlotState) × (slot_at new slot ≡ Some r) × (r.number ≡ (s.number + count_by (is_on slot) more) % 2 ^ 32)
 moves_on slot old new [] s small here keeps = (s, ap (λ (t : SlotTable). slot_at t slot) (sym keeps) ∙ here, behind_all s.number small)
 moves_on slot old new (r ∷ more) s small here keeps =
     let next = keep old r.slot r.number r.uid r.args r.reply in
@@ -78,8 +86,12 @@ moves_on slot old new (r ∷ more) s small here keeps =
           let after : slot_at next slot ≡ Some state = ap (slot_at next) (sym same) ∙ slice_get-set_same old.slots r.slot s state before in
           let number : r.number ≡ next_number s.number = fresh_at old r.slot r.number r.uid r.args s before keeps.0 in
           let (end, there, moved) = moves_on slot next new more state (omega (arith, next_small s.number)) after keeps.1 in
-          let count = count_by (is_on slot) more in
-          (end, there, moved ∙ (ap (λ (n : ℕ). (n + count) % 2 ^ 32) number ∙ (further s.number count ∙ ap (λ (n : ℕ). (s.number + n) % 2 ^ 32) (sym (count_here slot r more same))))))
+          let count = count_by (is_on slot) more in (
+            end,
+            there,
+            moved ∙ (ap (λ (n : ℕ). (n + count) % 2 ^ 32) number
+                ∙ (further s.number count ∙ ap (λ (n : ℕ). (s.number + n) % 2 ^ 32) (sym (count_here slot r more same)))),
+          ))
       | inr other ↦ (
           let after : slot_at next slot ≡ Some s = slice_get-set_other old.slots r.slot slot state (λ e. other (sym e)) ∙ here in
           let (end, there, moved) = moves_on slot next new more s small after keeps.1 in
@@ -93,7 +105,8 @@ stays slot old new (r ∷ more) keeps none =
     let next = keep old r.slot r.number r.uid r.args r.reply in
     elim (cases_eq r.slot slot) [
       | inl same ↦ (let one : 1 + count_by (is_on slot) more ≡ 0 = sym (count_here slot r more same) ∙ none in absurd (omega arith))
-      | inr other ↦ stays slot next new more keeps.1 (sym (count_apart slot r more other) ∙ none) ∙ slice_get-set_other old.slots r.slot slot _ (λ e. other (sym e))
+      | inr other ↦ stays slot next new more keeps.1 (sym (count_apart slot r more other) ∙ none)
+          ∙ slice_get-set_other old.slots r.slot slot _ (λ e. other (sym e))
     ]
 
 bytes_same : (xs : List ℕ) → bytes_eq xs xs ≡ true
@@ -122,20 +135,25 @@ repeats_are_answered old new r more keeps none =
     let next = keep old r.slot r.number r.uid r.args r.reply in
     let state : SlotState = record { number = r.number; used = true; uid = r.uid; args = r.args; reply = r.reply } in
     let (s, found, number) = fresh_found (slot_at old r.slot) r.number r.uid r.args keeps.0 in
-    let there : slot_at new r.slot ≡ Some state = stays r.slot next new more keeps.1 none ∙ slice_get-set_same old.slots r.slot s state found in
-    (ap (λ (x : Option SlotState). option_map_or (λ s. judge_slot s r.number r.uid r.args) x NoSlot) there ∙ again r, ap (λ (x : Option SlotState). option_map_or (λ s. s.reply) x []) there)
+    let there : slot_at new r.slot ≡ Some state = stays r.slot next new more keeps.1 none ∙ slice_get-set_same old.slots r.slot s state found in (
+      ap (λ (x : Option SlotState). option_map_or (λ s. judge_slot s r.number r.uid r.args) x NoSlot) there ∙ again r,
+      ap (λ (x : Option SlotState). option_map_or (λ s. s.reply) x []) there,
+    )
 
-reply_at : (size request : ℕ) (slots : List Slot) (slot : ℕ) → All (IsKept size request) slots → length (option_map_or (λ s. s.reply) (slice_get (map state_of slots) slot) []) ≤ size
+reply_at : (size request : ℕ) (slots : List Slot) (slot : ℕ) → All (IsKept size request) slots
+    → length (option_map_or (λ s. s.reply) (slice_get (map state_of slots) slot) []) ≤ size
 reply_at size request [] slot all = omega arith
 reply_at size request (s ∷ slots) zero all = (All-head (IsKept size request) s slots all).1
 reply_at size request (s ∷ slots) (suc i) all = reply_at size request slots i (All-tail (IsKept size request) s slots all)
 
-args_at : (size request : ℕ) (slots : List Slot) (slot : ℕ) → All (IsKept size request) slots → length (option_map_or (λ s. s.args) (slice_get (map state_of slots) slot) []) ≤ request
+args_at : (size request : ℕ) (slots : List Slot) (slot : ℕ) → All (IsKept size request) slots
+    → length (option_map_or (λ s. s.args) (slice_get (map state_of slots) slot) []) ≤ request
 args_at size request [] slot all = omega arith
 args_at size request (s ∷ slots) zero all = (All-head (IsKept size request) s slots all).2
 args_at size request (s ∷ slots) (suc i) all = args_at size request slots i (All-tail (IsKept size request) s slots all)
 
-pub bounded : (size request : ℕ) (slots : List Slot) → All (IsKept size request) slots → IsBounded (record { slots = map state_of slots; size = size; request = request })
+pub bounded : (size request : ℕ) (slots : List Slot) → All (IsKept size request) slots
+    → IsBounded (record { slots = map state_of slots; size = size; request = request })
 bounded size request slots all = record { reply = λ slot. reply_at size request slots slot all; args = λ slot. args_at size request slots slot all }
 
 pub none_kept : (slots : List Slot) (slot : ℕ) → length slots ≤ slot → [] ≡ option_map_or (λ s. s.reply) (slice_get (map state_of slots) slot) []

@@ -1,5 +1,6 @@
 -- A slot of a session, and what it says of a request's number (RFC 8881 section 2.10.6.1).
-use Rattle.std.specs.Prelude.{ℕ, ◌+◌, ◌%◌, ◌^◌, ◌≤◌, ◌==◌, Bool, true, false, not, ◌&&◌, if◌then◌else◌, List, [], Option, bytes_eq, slice_get, slice_set, replicate, length}
+use Rattle.std.specs.Prelude.{ℕ, ◌+◌, ◌%◌, ◌^◌, ◌≤◌, ◌==◌, Bool, true, false, not, ◌&&◌, if◌then◌else◌, List, [], Option, bytes_eq, slice_get, slice_set}
+use Rattle.std.specs.Prelude.{replicate, length}
 use Rattle.std.specs.Option.{option_map_or}
 use Rattle.nfs_xdr.specs.declared.status.Status.{Status}
 use Rattle.nfs_xdr.specs.declared.status.Status.TheVariants as status

@@ -1,5 +1,6 @@
 -- What is in a list, and what is found in it, after a change of the list.
-use Rattle.std.proofs.Common.{◌≡◌, ◌⊎◌, ℕ, suc, ◌+◌, ◌<◌, ◌≤◌, Bool, true, false, cond, not, List, [], ◌∷◌, ◌++◌, map, length, Option, Some, None, refl, sym, ◌∙◌, ap, subst, arith, inl, inr}
+use Rattle.std.proofs.Common.{◌≡◌, ◌⊎◌, ℕ, suc, ◌+◌, ◌<◌, ◌≤◌, Bool, true, false, cond, not, List, [], ◌∷◌, ◌++◌, map, length, Option, Some, None, refl, sym}
+use Rattle.std.proofs.Common.{◌∙◌, ap, subst, arith, inl, inr}
 use Rattle.std.specs.Prelude.{if◌then◌else◌, ◌&&◌, find, filter, is_some, option_map}
 use Rattle.std.specs.List.{list_any}
 use Rattle.std.proofs.lemmas.Bool.{cases_Bool}
@@ -65,7 +66,8 @@ find_kept p q [] x e kept = absurd cc
 find_kept p q (y ∷ ys) x e kept =
     elim (cases_Bool (p y)) [
       | inl here ↦ (let found : Some y ≡ Some x = rw here at e in let same : y ≡ x = cc in let stays : q y ≡ true = ap q same ∙ kept in rw (stays, here) found)
-      | inr gone ↦ (let rest = find_kept p q ys x (rw gone at e) kept in elim (cases_Bool (q y)) [ inl stays ↦ rw (stays, gone) rest | inr goes ↦ rw goes rest ])
+      | inr gone ↦ (let rest = find_kept p q ys x (rw gone at e) kept in
+          elim (cases_Bool (q y)) [ inl stays ↦ rw (stays, gone) rest | inr goes ↦ rw goes rest ])
     ]
 
 -- what all of them passes that pass the test stands in the way of none that is found
@@ -97,7 +99,10 @@ find_push_some p (z ∷ zs) y x e = elim (cases_Bool (p z)) [ inl here ↦ rw he
 pub find_push_none : {X : Type 0} (p : X → Bool) (xs : List X) (y : X) → find p xs ≡ None → p y ≡ true → find p (xs ++ y ∷ []) ≡ Some y
 find_push_none p [] y e passes = rw passes refl
 find_push_none p (z ∷ zs) y e passes =
-    elim (cases_Bool (p z)) [ inl here ↦ absurd (let h : Some z ≡ None = rw here at e in cc) | inr gone ↦ rw gone (find_push_none p zs y (rw gone at e) passes) ]
+    elim (cases_Bool (p z)) [
+      | inl here ↦ absurd (let h : Some z ≡ None = rw here at e in cc)
+      | inr gone ↦ rw gone (find_push_none p zs y (rw gone at e) passes)
+    ]
 
 -- a map that the test does not see
 pub find_map : {X : Type 0} (p : X → Bool) (f : X → X) (xs : List X) → ((x : X) → p (f x) ≡ p x) → find p (map f xs) ≡ option_map f (find p xs)
@@ -124,7 +129,8 @@ count_filter p q (x ∷ xs) = let ih = count_filter p q xs in
     ]
 
 -- one that passes goes
-pub count_dropped : {X : Type 0} (p q : X → Bool) (xs : List X) (x : X) → In x xs → p x ≡ true → q x ≡ false → length (filter p (filter q xs)) < length (filter p xs)
+pub count_dropped : {X : Type 0} (p q : X → Bool) (xs : List X) (x : X) → In x xs
+    → p x ≡ true → q x ≡ false → length (filter p (filter q xs)) < length (filter p xs)
 count_dropped p q [] x there here gone = absurd there
 count_dropped p q (y ∷ ys) x (inl is) here gone =
     let le = count_filter p q ys in

@@ -1,5 +1,6 @@
 -- An entry that moves: no directory comes to lie below itself, and every directory stays reached.
-use Rattle.std.proofs.Common.{◌≡◌, ◌≢◌, ◌⊎◌, ℕ, zero, suc, ◌+◌, ◌<◌, ◌≤◌, ltb, eqb, Bool, true, false, cond, not, List, [], ◌∷◌, ◌++◌, length, Option, Some, None, refl, sym, ◌∙◌, ap, subst, arith, inl, inr}
+use Rattle.std.proofs.Common.{◌≡◌, ◌≢◌, ◌⊎◌, ℕ, zero, suc, ◌+◌, ◌<◌, ◌≤◌, ltb, eqb, Bool, true, false, cond, not, List, [], ◌∷◌, ◌++◌, length, Option, Some}
+use Rattle.std.proofs.Common.{None, refl, sym, ◌∙◌, ap, subst, arith, inl, inr}
 use Rattle.std.specs.Prelude.{◌==◌, if◌then◌else◌, ◌&&◌, ◌||◌, find, filter, option_map, is_some, unwrap_or}
 use Rattle.std.specs.Option.{option_map_or}
 use Rattle.std.specs.List.{list_any}
@@ -11,12 +12,17 @@ use Rattle.nfs_xdr.specs.declared.time.Time.{Time}
 use Rattle.nfs_tree.specs.declared.row.Row.{Row}
 use Rattle.nfs_tree.specs.declared.stored.Stored.{Stored}
 use Rattle.nfs_tree.specs.Object.{no_sets, modified}
-use Rattle.nfs_tree.specs.Files.{Files, root, last_count, most_links, is_name, stored_in, is_there, is_directory_at, can_change, CanChange, is_entry, entry, has_name, lookup, named, parent_in, links_in, has_row, has_entries, with_changed, with_entries_changed, with_links_changed, without_entry, IsReached}
-use Rattle.nfs_tree.specs.Names.{with_row, is_at_or_below, Move, moved_object, replaced_object, moves, is_below_itself, is_unlike, is_in_the_way, can_move, rename_checks, rename_fault, with_both_changed, with_moved}
+use Rattle.nfs_tree.specs.Files.{Files, root, last_count, most_links, is_name, stored_in, is_there, is_directory_at, can_change, CanChange, is_entry, entry}
+use Rattle.nfs_tree.specs.Files.{has_name, lookup, named, parent_in, links_in, has_row, has_entries, with_changed, with_entries_changed, with_links_changed}
+use Rattle.nfs_tree.specs.Files.{without_entry, IsReached}
+use Rattle.nfs_tree.specs.Names.{with_row, is_at_or_below, Move, moved_object, replaced_object, moves, is_below_itself, is_unlike, is_in_the_way, can_move}
+use Rattle.nfs_tree.specs.Names.{rename_checks, rename_fault, with_both_changed, with_moved}
 use Rattle.nfs_tree.specs.Walks.{In}
 use Rattle.nfs_tree.specs.Kept.{Grounded, AreRows, IsTree}
-use Rattle.nfs_tree.proofs.Lists.{in_filter, filter_in, in_push, push_in, last_in, find_in, none_in, find_kept, find_none, find_none_kept, count_filter, count_dropped, filter_swap}
-use Rattle.nfs_tree.proofs.RowsKept.{entry_parts, entry_self, only_entry, grounded_in, reached, found_put, one_put, few_put, either, grounded_without, rows_dropped, no_entries}
+use Rattle.nfs_tree.proofs.Lists.{in_filter, filter_in, in_push, push_in, last_in, find_in, none_in, find_kept, find_none, find_none_kept, count_filter}
+use Rattle.nfs_tree.proofs.Lists.{count_dropped, filter_swap}
+use Rattle.nfs_tree.proofs.RowsKept.{entry_parts, entry_self, only_entry, grounded_in, reached, found_put, one_put, few_put, either, grounded_without}
+use Rattle.nfs_tree.proofs.RowsKept.{rows_dropped, no_entries}
 use Rattle.nfs_tree.proofs.Objects.{stored_within, can_change_all, can_change_none}
 use Rattle.nfs_tree.proofs.Trees.{tree_changed, tree_dropped, entry_names, row_of, has_one, apart}
 use Rattle.nfs_tree.proofs.Put.{directory_there}
@@ -46,7 +52,8 @@ unique_dropped rows dirs d name are =
 pub same_entry : (rows : List Row) (dirs : ℕ → Bool) → AreUnique rows dirs → (q r : Row) → In q rows → In r rows → is_entry r.directory r.name q ≡ true → q ≡ r
 same_entry rows dirs are q r a b e =
     let parts = entry_parts r.directory r.name q e in
-    let found : entry rows r.directory r.name ≡ Some q = ap (λ x. entry rows x r.name) (sym parts.0) ∙ ap (λ x. entry rows q.directory x) (sym parts.1) ∙ are.found q a in
+    let found : entry rows r.directory r.name ≡ Some q =
+    ap (λ x. entry rows x r.name) (sym parts.0) ∙ ap (λ x. entry rows q.directory x) (sym parts.1) ∙ are.found q a in
     let equal : Some q ≡ Some r = sym found ∙ are.found r b in cc
 
 depth_one : (rows : List Row) (dirs : ℕ → Bool) → AreUnique rows dirs → (n k d : ℕ) → dirs d ≡ true → Grounded rows n d → Grounded rows k d → n ≡ k
@@ -68,8 +75,12 @@ avoids rows dirs are r there k dir deep (suc n) x le dirx g =
           let here : r.object ≡ x = ap (λ (r : Row). r.object) (sym same) ∙ g.2 in
           let equal : suc n ≡ suc k = depth_one rows dirs are (suc n) (suc k) x dirx g (subst (Grounded rows (suc k)) here deep) in absurd (omega arith))
       | inr other_row ↦ other_row
-    ] in
-    (g.0, filter_in (λ q. not (is_entry r.directory r.name q)) rows g.0 g.1 (rw kept refl), g.2, avoids rows dirs are r there k dir deep n g.0.directory (omega arith) (are.stands g.0 g.1) g.3)
+    ] in (
+      g.0,
+      filter_in (λ q. not (is_entry r.directory r.name q)) rows g.0 g.1 (rw kept refl),
+      g.2,
+      avoids rows dirs are r there k dir deep n g.0.directory (omega arith) (are.stands g.0 g.1) g.3,
+    )
 
 fewer : (p : Row → Bool) (rows : List Row) (r : Row) → In r rows → p r ≡ false → length (filter p rows) < length rows
 fewer p [] r there e = absurd there
@@ -78,7 +89,8 @@ fewer p (q ∷ rows) r (inl is) e = let goes : p q ≡ false = ap p is ∙ e in 
     at_most : (p : Row → Bool) (rows : List Row) → length (filter p rows) ≤ length rows
     at_most p [] = omega arith
     at_most p (x ∷ xs) = let ih = at_most p xs in elim (cases_Bool (p x)) [ inl passes ↦ rw passes (omega arith) | inr fails ↦ rw fails (omega arith) ]
-fewer p (q ∷ rows) r (inr more) e = let ih = fewer p rows r more e in elim (cases_Bool (p q)) [ inl passes ↦ rw passes (omega arith) | inr fails ↦ rw fails (omega arith) ]
+fewer p (q ∷ rows) r (inr more) e = let ih = fewer p rows r more e in
+    elim (cases_Bool (p q)) [ inl passes ↦ rw passes (omega arith) | inr fails ↦ rw fails (omega arith) ]
 
 -- the way up is no longer than there are rows
 pub depth_bound : (n : ℕ) (rows : List Row) (dirs : ℕ → Bool) → AreUnique rows dirs → (d : ℕ) → dirs d ≡ true → Grounded rows n d → n ≤ length rows
@@ -101,7 +113,8 @@ not_equal : (a b : ℕ) → (a == b) ≡ false → a ≢ b
 not_equal a b e same = false≢true (sym e ∙ eq-eqb a b same)
 
 -- the parent of a directory is that of its row
-parent_is : (rows : List Row) (dirs : ℕ → Bool) → AreUnique rows dirs → (r : Row) → In r rows → dirs r.object ≡ true → parent_in rows r.object ≡ Some r.directory
+parent_is : (rows : List Row) (dirs : ℕ → Bool) → AreUnique rows dirs → (r : Row)
+    → In r rows → dirs r.object ≡ true → parent_in rows r.object ≡ Some r.directory
 parent_is rows dirs are r there dir = by_option (find (λ q. q.object == r.object) rows) refl
   where
     by_option : (o : Option Row) → find (λ q. q.object == r.object) rows ≡ o → parent_in rows r.object ≡ Some r.directory
@@ -112,7 +125,8 @@ parent_is rows dirs are r there dir = by_option (find (λ q. q.object == r.objec
         rw h (ap (λ (x : Row). Some x.directory) same)
 
 -- where the climb does not meet the moved object, the way up does not go over its row
-pub clear : (rows : List Row) (dirs : ℕ → Bool) → AreUnique rows dirs → (q : Row) → In q rows → (fuel n d : ℕ) → n ≤ fuel → dirs d ≡ true → is_at_or_below rows q.object fuel d ≡ false
+pub clear : (rows : List Row) (dirs : ℕ → Bool) → AreUnique rows dirs → (q : Row)
+    → In q rows → (fuel n d : ℕ) → n ≤ fuel → dirs d ≡ true → is_at_or_below rows q.object fuel d ≡ false
     → Grounded rows n d → Grounded (without_entry q.directory q.name rows) n d
 clear rows dirs are q there fuel zero d le dir e g = g
 clear rows dirs are q there zero (suc n) d le dir e g = absurd (omega arith)
@@ -120,26 +134,42 @@ clear rows dirs are q there (suc fuel) (suc n) d le dir e g =
     let r = g.0 in
     let parts = or_false (d == q.object) (option_map_or (λ p. is_at_or_below rows q.object fuel p) (parent_in rows d) false) e in
     let kept : is_entry q.directory q.name r ≡ false = elim (cases_Bool (is_entry q.directory q.name r)) [
-      | inl is ↦ (let same : r ≡ q = same_entry rows dirs are r q g.1 there is in absurd (not_equal d q.object parts.0 (sym g.2 ∙ ap (λ (x : Row). x.object) same)))
+      | inl is ↦
+          (let same : r ≡ q = same_entry rows dirs are r q g.1 there is in absurd (not_equal d q.object parts.0 (sym g.2 ∙ ap (λ (x : Row). x.object) same)))
       | inr other_row ↦ other_row
     ] in
     let parent : parent_in rows d ≡ Some r.directory = ap (parent_in rows) (sym g.2) ∙ parent_is rows dirs are r g.1 (ap dirs g.2 ∙ dir) in
-    let above : is_at_or_below rows q.object fuel r.directory ≡ false = ap (λ o. option_map_or (λ p. is_at_or_below rows q.object fuel p) o false) (sym parent) ∙ parts.1 in
-    (r, filter_in (λ x. not (is_entry q.directory q.name x)) rows r g.1 (rw kept refl), g.2, clear rows dirs are q there fuel n r.directory (omega arith) (are.stands r g.1) above g.3)
+    let above : is_at_or_below rows q.object fuel r.directory ≡ false =
+    ap (λ o. option_map_or (λ p. is_at_or_below rows q.object fuel p) o false) (sym parent) ∙ parts.1 in (
+      r,
+      filter_in (λ x. not (is_entry q.directory q.name x)) rows r g.1 (rw kept refl),
+      g.2,
+      clear rows dirs are q there fuel n r.directory (omega arith) (are.stands r g.1) above g.3,
+    )
 
 -- A row moves to a directory that is reached without it: whatever was reached is reached.
-still_reached : (rows : List Row) (q to : Row) (k : ℕ) → In q rows → to.object ≡ q.object → ((r : Row) → In r rows → is_entry q.directory q.name r ≡ true → r ≡ q) → Grounded (without_entry q.directory q.name rows) k to.directory
+still_reached : (rows : List Row) (q to : Row) (k : ℕ) → In q rows → to.object ≡ q.object
+    → ((r : Row) → In r rows → is_entry q.directory q.name r ≡ true → r ≡ q) → Grounded (without_entry q.directory q.name rows) k to.directory
     → (n d : ℕ) → Grounded rows n d → (m : ℕ) × Grounded (without_entry q.directory q.name rows ++ to ∷ []) m d
 still_reached rows q to k there same only g zero d at_root = (0, at_root)
 still_reached rows q to k there same only g (suc n) d path =
     let rest = without_entry q.directory q.name rows in
     elim (cases_Bool (is_entry q.directory q.name path.0)) [
-      | inl is ↦ (suc k, (to, last_in rest to, same ∙ ap (λ (r : Row). r.object) (sym (only path.0 path.1 is)) ∙ path.2, grounded_in rest (rest ++ to ∷ []) (push_in rest to) k to.directory g))
+      | inl is ↦ (
+        suc k,
+        (
+          to,
+          last_in rest to,
+          same ∙ ap (λ (r : Row). r.object) (sym (only path.0 path.1 is)) ∙ path.2,
+          grounded_in rest (rest ++ to ∷ []) (push_in rest to) k to.directory g,
+        ),
+      )
       | inr kept ↦ (let up = still_reached rows q to k there same only g n path.0.directory path.3 in
           (suc up.0, (path.0, push_in rest to path.0 (filter_in (λ x. not (is_entry q.directory q.name x)) rows path.0 path.1 (rw kept refl)), path.2, up.1)))
     ]
 
-pub rows_moved : (rows : List Row) (dirs there : ℕ → Bool) (q to : Row) → AreRows rows dirs there → In q rows → to.object ≡ q.object → entry rows to.directory to.name ≡ None → dirs to.directory ≡ true → is_name to.name ≡ true
+pub rows_moved : (rows : List Row) (dirs there : ℕ → Bool) (q to : Row) → AreRows rows dirs there → In q rows
+    → to.object ≡ q.object → entry rows to.directory to.name ≡ None → dirs to.directory ≡ true → is_name to.name ≡ true
     → (k : ℕ) × Grounded (without_entry q.directory q.name rows) k to.directory → AreRows (without_entry q.directory q.name rows ++ to ∷ []) dirs there
 rows_moved rows dirs there q to are is_q same vacant stands short up =
     let test = λ (r : Row). not (is_entry q.directory q.name r) in
@@ -154,7 +184,8 @@ rows_moved rows dirs there q to are is_q same vacant stands short up =
       found = λ r is. found_put rest to r (find_none_kept (is_entry to.directory to.name) test rows vacant)
           (λ r is. let was = old r is in find_kept (is_entry r.directory r.name) test rows r (are.found r was.0) was.1) (in_push rest to r is);
       stands = λ r is. either {P = λ r. dirs r.directory ≡ true} to r rest stands (λ r is. are.stands r (old r is).0) (in_push rest to r is);
-      names = λ r is. either {P = λ r. there r.object ≡ true} to r rest (ap there same ∙ are.names q is_q) (λ r is. are.names r (old r is).0) (in_push rest to r is);
+      names = λ r is. either {P = λ r. there r.object ≡ true} to r rest
+          (ap there same ∙ are.names q is_q) (λ r is. are.names r (old r is).0) (in_push rest to r is);
       free = λ r is. either {P = λ r. r.object ≢ root} to r rest (λ e. are.free q is_q (sym same ∙ e)) (λ r is. are.free r (old r is).0) (in_push rest to r is);
       one = λ a b ia ib e dir. one_put rest dirs to a b
           (λ dir r is e. (let was = old r is in let equal : r ≡ q = are.one r q was.0 is_q (e ∙ same) (ap dirs (sym same) ∙ dir) in

@@ -1,5 +1,6 @@
 -- The tree that a RENAME leaves keeps what every tree keeps.
-use Rattle.std.proofs.Common.{◌≡◌, ◌≢◌, ◌⊎◌, ℕ, zero, suc, ◌+◌, ◌<◌, ◌≤◌, ltb, eqb, Bool, true, false, cond, not, List, [], ◌∷◌, ◌++◌, length, Option, Some, None, refl, sym, ◌∙◌, ap, subst, arith, inl, inr}
+use Rattle.std.proofs.Common.{◌≡◌, ◌≢◌, ◌⊎◌, ℕ, zero, suc, ◌+◌, ◌<◌, ◌≤◌, ltb, eqb, Bool, true, false, cond, not, List, [], ◌∷◌, ◌++◌, length, Option, Some}
+use Rattle.std.proofs.Common.{None, refl, sym, ◌∙◌, ap, subst, arith, inl, inr}
 use Rattle.std.specs.Prelude.{◌==◌, if◌then◌else◌, ◌&&◌, ◌||◌, find, filter, option_map, is_some, unwrap_or}
 use Rattle.std.specs.List.{list_any}
 use Rattle.std.proofs.lemmas.Bool.{cases_Bool, cases_eq, and_parts, eqb-true, eq-eqb, ne_eqb, ltb-true, not-false, false≢true}
@@ -10,8 +11,10 @@ use Rattle.nfs_xdr.specs.declared.time.Time.{Time}
 use Rattle.nfs_tree.specs.declared.row.Row.{Row}
 use Rattle.nfs_tree.specs.declared.stored.Stored.{Stored}
 use Rattle.nfs_tree.specs.Object.{no_sets, modified}
-use Rattle.nfs_tree.specs.Files.{Files, root, last_count, is_name, is_there, is_directory_at, can_change, CanChange, is_entry, entry, has_name, named, has_entries, with_changed, with_entries_changed, with_links_changed, without_entry, IsReached}
-use Rattle.nfs_tree.specs.Names.{with_row, is_at_or_below, Move, moved_object, replaced_object, moves, is_below_itself, is_unlike, is_in_the_way, can_move, rename_checks, rename_fault, with_both_changed, with_moved}
+use Rattle.nfs_tree.specs.Files.{Files, root, last_count, is_name, is_there, is_directory_at, can_change, CanChange, is_entry, entry, has_name, named}
+use Rattle.nfs_tree.specs.Files.{has_entries, with_changed, with_entries_changed, with_links_changed, without_entry, IsReached}
+use Rattle.nfs_tree.specs.Names.{with_row, is_at_or_below, Move, moved_object, replaced_object, moves, is_below_itself, is_unlike, is_in_the_way, can_move}
+use Rattle.nfs_tree.specs.Names.{rename_checks, rename_fault, with_both_changed, with_moved}
 use Rattle.nfs_tree.specs.Walks.{In}
 use Rattle.nfs_tree.specs.Kept.{Grounded, AreRows, IsTree}
 use Rattle.nfs_tree.proofs.Lists.{in_filter, filter_in, find_in, find_none, filter_swap}
@@ -85,8 +88,10 @@ above_zero t n is dir e = let within = stored_within root (t.last_object + 1) t.
 pub replaced_empty : (t : Files) (m : Move) → IsTree t → MoveGranted t m → has_entries t.rows (replaced_object t m) ≡ false
 replaced_empty t m is can =
     elim (cases_Bool (has_name t m.target m.name)) [
-      | inl there ↦ or_right (is_unlike t m) (has_entries t.rows (replaced_object t m)) (guarded (has_name t m.target m.name) (is_unlike t m || has_entries t.rows (replaced_object t m)) can.way there)
-      | inr none ↦ rw (none_replaced t m none) (any_none (λ r. r.directory == 0) t.rows (λ r there. ne_eqb r.directory 0 (above_zero t r.directory is (is.rows.stands r there))))
+      | inl there ↦ or_right (is_unlike t m) (has_entries t.rows (replaced_object t m))
+          (guarded (has_name t m.target m.name) (is_unlike t m || has_entries t.rows (replaced_object t m)) can.way there)
+      | inr none ↦ rw (none_replaced t m none)
+          (any_none (λ r. r.directory == 0) t.rows (λ r there. ne_eqb r.directory 0 (above_zero t r.directory is (is.rows.stands r there))))
     ]
 
 pub replaced_source : (t : Files) (m : Move) → IsTree t → MoveGranted t m → replaced_object t m ≢ m.source
@@ -102,7 +107,8 @@ replaced_target t m is can =
 pub replaced_can : (t : Files) (m : Move) → IsTree t → MoveGranted t m → CanChange t.objects (replaced_object t m)
 replaced_can t m is can =
     elim (cases_Bool (has_name t m.target m.name)) [
-      | inl there ↦ can_change_all t.objects root (t.last_object + 1) (replaced_object t m) is.objects (or_given (has_name t m.target m.name) (can_change t (replaced_object t m)) can.change_replaced there)
+      | inl there ↦ can_change_all t.objects root (t.last_object + 1) (replaced_object t m) is.objects
+          (or_given (has_name t m.target m.name) (can_change t (replaced_object t m)) can.change_replaced there)
       | inr none ↦ subst (CanChange t.objects) (sym (none_replaced t m none)) (can_change_none t.objects root (t.last_object + 1) 0 is.objects (omega arith))
     ]
 
@@ -110,7 +116,8 @@ tree_both : (t : Files) (a b : ℕ) (now : Time) → IsTree t → IsTree (record
 tree_both t a b now is =
     let one = record t { objects = with_entries_changed a now t.objects } in
     let is_one : IsTree one = tree_changed t a now (modified now no_sets) is in
-    elim (a == b) as (λ v. IsTree (record t { objects = cond v (with_entries_changed a now t.objects) (with_entries_changed b now (with_entries_changed a now t.objects)) }))
+    elim (a == b) as (λ v.
+    IsTree (record t { objects = cond v (with_entries_changed a now t.objects) (with_entries_changed b now (with_entries_changed a now t.objects)) }))
     [ true ↦ is_one | false ↦ tree_changed one b now (modified now no_sets) is_one ]
 
 -- the target is reached without the row that moves, and without the one that goes
@@ -125,18 +132,25 @@ target_reached t m is can condition q there object =
     let rest = without_entry q.directory q.name t.rows in
     let first : Grounded rest up.0 m.target = elim (cases_Bool (dirs q.object)) [
       | inl dir ↦ (
-          let climb : is_at_or_below t.rows (moved_object t m) (length t.rows) m.target ≡ false = guarded (dirs (moved_object t m)) (is_at_or_below t.rows (moved_object t m) (length t.rows) m.target) can.below (ap dirs (sym object) ∙ dir) in
+          let climb : is_at_or_below t.rows (moved_object t m) (length t.rows) m.target ≡ false =
+          guarded (dirs (moved_object t m)) (is_at_or_below t.rows (moved_object t m) (length t.rows) m.target) can.below (ap dirs (sym object) ∙ dir) in
           clear t.rows dirs unique q there (length t.rows) up.0 m.target (depth_bound up.0 t.rows dirs unique m.target can.target up.1) can.target
           (subst (λ o. is_at_or_below t.rows o (length t.rows) m.target ≡ false) (sym object) climb) up.1)
       | inr file ↦ grounded_without t.rows q.directory q.name q.object (λ r is_r e. ap (λ (r : Row). r.object) (same_entry t.rows dirs unique r q is_r there e))
-          (λ r is_r e. false≢true (sym file ∙ ap dirs (sym e) ∙ is.rows.stands r is_r)) up.0 m.target (λ e. false≢true (sym file ∙ ap dirs (sym e) ∙ can.target)) up.1
+          (λ r is_r e. false≢true (sym file ∙ ap dirs (sym e) ∙ is.rows.stands r is_r)) up.0 m.target
+          (λ e. false≢true (sym file ∙ ap dirs (sym e) ∙ can.target)) up.1
     ] in
     let old = in_filter (λ (r : Row). not (is_entry q.directory q.name r)) t.rows in
-    let second : Grounded (without_entry m.target m.name rest) up.0 m.target = grounded_without rest m.target m.name x (λ r is_r e. entry_names t m.target m.name is r (old r is_r).0 e)
-    (λ r is_r. no_entries t.rows x empty r (old r is_r).0) up.0 m.target (λ e. replaced_target t m is can (sym e)) first in
-    (up.0, subst (λ rows. Grounded rows up.0 m.target) (filter_swap (λ (r : Row). not (is_entry m.target m.name r)) (λ r. not (is_entry q.directory q.name r)) t.rows) second)
+    let second : Grounded (without_entry m.target m.name rest) up.0 m.target =
+    grounded_without rest m.target m.name x (λ r is_r e. entry_names t m.target m.name is r (old r is_r).0 e)
+    (λ r is_r. no_entries t.rows x empty r (old r is_r).0) up.0 m.target (λ e. replaced_target t m is can (sym e)) first in (
+      up.0,
+      subst (λ rows. Grounded rows up.0 m.target)
+          (filter_swap (λ (r : Row). not (is_entry m.target m.name r)) (λ r. not (is_entry q.directory q.name r)) t.rows) second,
+    )
 
-pub tree_moved : (t : Files) (m : Move) (now : Time) → IsTree t → rename_fault t m ≡ None → moves t m ≡ true → IsReached t m.target → IsTree (with_moved t m now)
+pub tree_moved : (t : Files) (m : Move) (now : Time) → IsTree t → rename_fault t m ≡ None
+    → moves t m ≡ true → IsReached t m.target → IsTree (with_moved t m now)
 tree_moved t m now is granted go condition =
     let can = move_granted t m granted go in
     let dirs = λ (n : ℕ). is_directory_at t n in
@@ -149,11 +163,13 @@ tree_moved t m now is granted go condition =
     let left = record t { rows = without_entry m.target m.name t.rows } in
     let is_left : IsTree left = tree_dropped t m.target m.name is (replaced_empty t m is can) in
     let apart : moved_object t m ≢ x = λ e. false≢true (sym (not_true _ go) ∙ eq-eqb (moved_object t m) x e) in
-    let stays : is_entry m.target m.name q ≡ false = elim (cases_Bool (is_entry m.target m.name q)) [ inl is_it ↦ absurd (apart (sym object ∙ entry_names t m.target m.name is q at.0 is_it)) | inr other_row ↦ other_row ] in
+    let stays : is_entry m.target m.name q ≡ false = elim (cases_Bool (is_entry m.target m.name q))
+    [ inl is_it ↦ absurd (apart (sym object ∙ entry_names t m.target m.name is q at.0 is_it)) | inr other_row ↦ other_row ] in
     let to : Row = record { directory = m.target; name = m.name; object = moved_object t m; cookie = t.last_cookie + 1 } in
     let vacant : entry left.rows m.target m.name ≡ None =
     find_none (is_entry m.target m.name) left.rows (λ r there. not_true _ (in_filter (λ (r : Row). not (is_entry m.target m.name r)) t.rows r there).1) in
-    let rows = rows_moved left.rows dirs (λ n. is_there t n) q to is_left.rows (filter_in (λ r. not (is_entry m.target m.name r)) t.rows q at.0 (rw stays refl)) (sym object) vacant can.target can.short
+    let rows = rows_moved left.rows dirs (λ n. is_there t n) q to is_left.rows
+    (filter_in (λ r. not (is_entry m.target m.name r)) t.rows q at.0 (rw stays refl)) (sym object) vacant can.target can.short
     (target_reached t m is can condition q at.0 object) in
     let named_rows = subst (λ d. AreRows (without_entry d q.name left.rows ++ to ∷ []) dirs (λ n. is_there t n)) parts.0 rows in
     let done = record left { rows = without_entry m.source m.old left.rows ++ to ∷ []; last_cookie = t.last_cookie + 1 } in

@@ -1,5 +1,6 @@
 -- Objects through a change of one, a new one, and one that goes.
-use Rattle.std.proofs.Common.{◌≡◌, ◌≢◌, ◌⊎◌, ℕ, zero, suc, ◌+◌, ◌<◌, ◌≤◌, ltb, Bool, true, false, cond, not, List, [], ◌∷◌, ◌++◌, map, length, get_or, slice_set, Option, Some, None, refl, sym, ◌∙◌, ap, subst, arith, inl, inr}
+use Rattle.std.proofs.Common.{◌≡◌, ◌≢◌, ◌⊎◌, ℕ, zero, suc, ◌+◌, ◌<◌, ◌≤◌, ltb, Bool, true, false, cond, not, List, [], ◌∷◌, ◌++◌, map, length, get_or}
+use Rattle.std.proofs.Common.{slice_set, Option, Some, None, refl, sym, ◌∙◌, ap, subst, arith, inl, inr}
 use Rattle.std.specs.Prelude.{◌==◌, if◌then◌else◌, find, filter, option_map, is_some, position, All}
 use Rattle.std.specs.Option.{option_map_or}
 use Rattle.std.proofs.lemmas.Bool.{cases_Bool, cases_eq, eqb-true, eq-eqb, ne_eqb, ltb-true, false≢true}
@@ -27,11 +28,14 @@ pub record Keeps (objects : List Stored) (f : Stored → Stored) : Type 0 where
 pub keeps_changed : (n : ℕ) (now : Time) (sets : Sets) (objects : List Stored) → Keeps objects (change_at n now sets)
 keeps_changed n now sets objects = record {
   number = λ s. elim (s.number == n) as (λ v. (cond v (record s { object = changed now sets s.object }) s).number ≡ s.number) [ true ↦ refl | false ↦ refl ];
-  kind = λ s. elim (s.number == n) as (λ v. (cond v (record s { object = changed now sets s.object }) s).object.kind ≡ s.object.kind) [ true ↦ refl | false ↦ refl ];
-  sized = λ s is sized. elim (s.number == n) as (λ v. IsSized (cond v (record s { object = changed now sets s.object }) s)) [ true ↦ record { size = sized.size; most = sized.most } | false ↦ sized ];
+  kind = λ s. elim (s.number == n) as (λ v. (cond v (record s { object = changed now sets s.object }) s).object.kind ≡ s.object.kind)
+      [ true ↦ refl | false ↦ refl ];
+  sized = λ s is sized. elim (s.number == n) as (λ v. IsSized (cond v (record s { object = changed now sets s.object }) s))
+      [ true ↦ record { size = sized.size; most = sized.most } | false ↦ sized ];
 }
 
-pub stored_map : (objects : List Stored) (f : Stored → Stored) (n : ℕ) → ((s : Stored) → (f s).number ≡ s.number) → stored_in (map f objects) n ≡ option_map f (stored_in objects n)
+pub stored_map : (objects : List Stored) (f : Stored → Stored) (n : ℕ)
+    → ((s : Stored) → (f s).number ≡ s.number) → stored_in (map f objects) n ≡ option_map f (stored_in objects n)
 stored_map objects f n same = find_map (λ s. s.number == n) f objects (λ s. ap (λ k. k == n) (same s))
 
 there_by : (f : Stored → Stored) (o : Option Stored) → is_some (option_map f o) ≡ is_some o
@@ -41,12 +45,14 @@ there_by f (Some s) = refl
 pub there_map : (objects : List Stored) (f : Stored → Stored) (n : ℕ) → Keeps objects f → is_some (stored_in (map f objects) n) ≡ is_some (stored_in objects n)
 there_map objects f n keeps = ap is_some (stored_map objects f n keeps.number) ∙ there_by f (stored_in objects n)
 
-directory_by : (f : Stored → Stored) → ((s : Stored) → (f s).object.kind ≡ s.object.kind) → (o : Option Stored) → option_map_or (λ s. is_directory s.object.kind) (option_map f o) false ≡ option_map_or (λ s. is_directory s.object.kind) o false
+directory_by : (f : Stored → Stored) → ((s : Stored) → (f s).object.kind ≡ s.object.kind) → (o : Option Stored)
+    → option_map_or (λ s. is_directory s.object.kind) (option_map f o) false ≡ option_map_or (λ s. is_directory s.object.kind) o false
 directory_by f kind None = refl
 directory_by f kind (Some s) = ap is_directory (kind s)
 
 pub directory_map : (objects : List Stored) (f : Stored → Stored) (n : ℕ) → Keeps objects f → is_directory_in (map f objects) n ≡ is_directory_in objects n
-directory_map objects f n keeps = ap (λ o. option_map_or (λ (s : Stored). is_directory s.object.kind) o false) (stored_map objects f n keeps.number) ∙ directory_by f keeps.kind (stored_in objects n)
+directory_map objects f n keeps = ap (λ o. option_map_or (λ (s : Stored). is_directory s.object.kind) o false) (stored_map objects f n keeps.number)
+    ∙ directory_by f keeps.kind (stored_in objects n)
 
 -- the number of what is there is between these
 pub stored_within : (low high : ℕ) (xs : List Stored) (n : ℕ) → IsRising (λ s. s.number) low xs high → is_some (stored_in xs n) ≡ true → (low ≤ n) × (n < high)
@@ -78,10 +84,12 @@ new_there xs x low high r is =
 
 -- others stay when one goes
 pub stored_dropped : (xs : List Stored) (m n : ℕ) → n ≢ m → stored_in (filter (λ s. not (s.number == m)) xs) n ≡ stored_in xs n
-stored_dropped xs m n other = find_past (λ s. s.number == n) (λ s. not (s.number == m)) xs (λ s e. let is : s.number ≡ n = eqb-true _ _ e in rw (ne_eqb s.number m (λ same. other (sym is ∙ same))) refl)
+stored_dropped xs m n other = find_past (λ s. s.number == n) (λ s. not (s.number == m)) xs
+    (λ s e. let is : s.number ≡ n = eqb-true _ _ e in rw (ne_eqb s.number m (λ same. other (sym is ∙ same))) refl)
 
 -- the one object of a number can change
-pub can_change_all : (xs : List Stored) (low high n : ℕ) → IsRising (λ s. s.number) low xs high → option_map_or (λ s. ltb s.object.change last_count) (stored_in xs n) false ≡ true → CanChange xs n
+pub can_change_all : (xs : List Stored) (low high n : ℕ) → IsRising (λ s. s.number) low xs high
+    → option_map_or (λ s. ltb s.object.change last_count) (stored_in xs n) false ≡ true → CanChange xs n
 can_change_all xs low high n r e = by_option (stored_in xs n) refl
   where
     by_option : (o : Option Stored) → stored_in xs n ≡ o → CanChange xs n
@@ -92,7 +100,8 @@ can_change_all xs low high n r e = by_option (stored_in xs n) refl
 
 -- there is none of a number that none has
 pub can_change_none : (xs : List Stored) (low high n : ℕ) → IsRising (λ s. s.number) low xs high → n < low → CanChange xs n
-can_change_none xs low high n r lt = All-from_recursion (λ s. s.number ≡ n → s.object.change < last_count) xs (none_below (λ (s : Stored). s.object.change < last_count) (λ (s : Stored). s.number) n low high xs lt r)
+can_change_none xs low high n r lt = All-from_recursion (λ s. s.number ≡ n → s.object.change < last_count) xs
+    (none_below (λ (s : Stored). s.object.change < last_count) (λ (s : Stored). s.number) n low high xs lt r)
 
 -- a change of another object
 pub can_change_after : (xs : List Stored) (m n : ℕ) (now : Time) (sets : Sets) → n ≢ m → CanChange xs n → CanChange (with_changed m now sets xs) n

@@ -1,5 +1,6 @@
 -- A tree with one row more, or one object more, keeps what every tree keeps.
-use Rattle.std.proofs.Common.{◌≡◌, ◌≢◌, ◌⊎◌, ℕ, zero, suc, ◌+◌, ◌<◌, ◌≤◌, ltb, eqb, Bool, true, false, cond, not, List, [], ◌∷◌, ◌++◌, map, length, Option, Some, None, refl, sym, ◌∙◌, ap, subst, arith, inl, inr, length-append}
+use Rattle.std.proofs.Common.{◌≡◌, ◌≢◌, ◌⊎◌, ℕ, zero, suc, ◌+◌, ◌<◌, ◌≤◌, ltb, eqb, Bool, true, false, cond, not, List, [], ◌∷◌, ◌++◌, map, length, Option}
+use Rattle.std.proofs.Common.{Some, None, refl, sym, ◌∙◌, ap, subst, arith, inl, inr, length-append}
 use Rattle.std.specs.Prelude.{◌==◌, nat_lt, nat_le, if◌then◌else◌, ◌&&◌, ◌||◌, find, filter, option_map, is_some, replicate}
 use Rattle.std.specs.Option.{option_map_or}
 use Rattle.std.proofs.lemmas.Bool.{cases_Bool, cases_eq, and_parts, eqb-true, eq-eqb, ne_eqb, ltb-true, ltb-false, leb-true, leb-false, not-false, false≢true}
@@ -12,8 +13,11 @@ use Rattle.nfs_tree.specs.declared.row.Row.{Row}
 use Rattle.nfs_tree.specs.declared.sets.Sets.{Sets}
 use Rattle.nfs_tree.specs.declared.stored.Stored.{Stored}
 use Rattle.nfs_tree.specs.Object.{is_directory, no_sets, modified}
-use Rattle.nfs_tree.specs.Files.{Files, root, last_count, most_objects, most_links, most_bytes, most_text, is_name, stored_in, is_there, is_directory_in, is_directory_at, can_change, entry, has_name, links_in, has_row, change_at, with_changed, with_entries_changed, with_links_changed, IsReached}
-use Rattle.nfs_tree.specs.Create.{New, File, Directory, Link, size_of, data_of, kind_of, new_object, is_bad_text, is_too_big, create_checks, create_fault, with_new}
+use Rattle.nfs_tree.specs.Files.{Files, root, last_count, most_objects, most_links, most_bytes, most_text, is_name, stored_in, is_there, is_directory_in}
+use Rattle.nfs_tree.specs.Files.{is_directory_at, can_change, entry, has_name, links_in, has_row, change_at, with_changed, with_entries_changed}
+use Rattle.nfs_tree.specs.Files.{with_links_changed, IsReached}
+use Rattle.nfs_tree.specs.Create.{New, File, Directory, Link, size_of, data_of, kind_of, new_object, is_bad_text, is_too_big, create_checks, create_fault}
+use Rattle.nfs_tree.specs.Create.{with_new}
 use Rattle.nfs_tree.specs.Names.{link_checks, link_fault, with_link}
 use Rattle.nfs_tree.specs.Walks.{In}
 use Rattle.nfs_tree.specs.Kept.{AreRows, IsSized, IsTree, most_of}
@@ -34,7 +38,8 @@ directory_there t n e = by_option (stored_in t.objects n) refl
     by_option None h = absurd (let bad : false ≡ true = rw h at e in cc)
     by_option (Some s) h = rw h refl
 
-pub tree_put_row : (t : Files) (to : Row) → IsTree t → to.cookie ≡ t.last_cookie + 1 → t.last_cookie < last_count → CanPut t.rows (λ n. is_directory_at t n) (λ n. is_there t n) to
+pub tree_put_row : (t : Files) (to : Row) → IsTree t → to.cookie ≡ t.last_cookie + 1
+    → t.last_cookie < last_count → CanPut t.rows (λ n. is_directory_at t n) (λ n. is_there t n) to
     → IsTree (record t { rows = t.rows ++ to ∷ []; last_cookie = t.last_cookie + 1 })
 tree_put_row t to is cookie less can = record {
   objects = is.objects;
@@ -46,7 +51,8 @@ tree_put_row t to is cookie less can = record {
   rows = rows_put t.rows (λ n. is_directory_at t n) (λ n. is_there t n) to is.rows can;
 }
 
-pub tree_put_object : (t : Files) (x : Stored) → IsTree t → x.number ≡ t.last_object + 1 → t.last_object < last_count → length t.objects < most_objects → IsSized x
+pub tree_put_object : (t : Files) (x : Stored) → IsTree t → x.number ≡ t.last_object + 1
+    → t.last_object < last_count → length t.objects < most_objects → IsSized x
     → IsTree (record t { objects = t.objects ++ x ∷ []; last_object = t.last_object + 1 })
 tree_put_object t x is number less room sized =
     let more = t.objects ++ x ∷ [] in
@@ -61,7 +67,8 @@ tree_put_object t x is number less room sized =
       sized = λ s there. elim (in_push t.objects x s there) [ inl new ↦ subst IsSized new sized | inr old ↦ is.sized s old ];
       root = directory root (directory_there t root is.root) ∙ is.root;
       rows = rows_same t.rows (λ n. is_directory_at t n) (λ n. is_there t n) (λ n. is_directory_in more n) (λ n. is_some (stored_in more n)) is.rows
-          (λ r there. directory r.directory (stands r there)) (λ r there. directory r.object (is.rows.names r there)) (λ r there. ap is_some (same r.object (is.rows.names r there)));
+          (λ r there. directory r.directory (stands r there)) (λ r there. directory r.object (is.rows.names r there))
+          (λ r there. ap is_some (same r.object (is.rows.names r there)));
     }
 
 -- LINK
@@ -96,15 +103,18 @@ link_granted t n d name e =
       cookie = ltb-true _ _ rest.1;
     }
 
-pub tree_linked : (t : Files) (n d : ℕ) (name : List ℕ) (now : Time) → IsTree t → link_fault t n d name ≡ None → IsReached t d → IsTree (with_link t n d name now)
+pub tree_linked : (t : Files) (n d : ℕ) (name : List ℕ) (now : Time) → IsTree t
+    → link_fault t n d name ≡ None → IsReached t d → IsTree (with_link t n d name now)
 tree_linked t n d name now is granted condition =
     let can = link_granted t n d name granted in
     let one = record t { objects = with_entries_changed d now t.objects } in
     let both = record one { objects = with_links_changed n now one.objects } in
     let is_one : IsTree one = tree_changed t d now (modified now no_sets) is in
     let is_both : IsTree both = tree_changed one n now no_sets is_one in
-    let kinds = λ (m : ℕ). directory_map one.objects (change_at n now no_sets) m (keeps_changed n now no_sets one.objects) ∙ directory_map t.objects (change_at d now (modified now no_sets)) m (keeps_changed d now (modified now no_sets) t.objects) in
-    let theres = λ (m : ℕ). there_map one.objects (change_at n now no_sets) m (keeps_changed n now no_sets one.objects) ∙ there_map t.objects (change_at d now (modified now no_sets)) m (keeps_changed d now (modified now no_sets) t.objects) in
+    let kinds = λ (m : ℕ). directory_map one.objects (change_at n now no_sets) m (keeps_changed n now no_sets one.objects)
+    ∙ directory_map t.objects (change_at d now (modified now no_sets)) m (keeps_changed d now (modified now no_sets) t.objects) in
+    let theres = λ (m : ℕ). there_map one.objects (change_at n now no_sets) m (keeps_changed n now no_sets one.objects)
+    ∙ there_map t.objects (change_at d now (modified now no_sets)) m (keeps_changed d now (modified now no_sets) t.objects) in
     let to : Row = record { directory = d; name = name; object = n; cookie = t.last_cookie + 1 } in
     tree_put_row both to is_both refl can.cookie (record {
       vacant = can.vacant;
@@ -162,24 +172,28 @@ new_size Directory = refl
 new_size (Link text) = refl
 
 new_most : (new : New) → is_bad_text new ≡ false → is_too_big new ≡ false → length (data_of new) ≤ most_of (kind_of new)
-new_most (File size verifier) good small = let l : length (replicate {A = ℕ} size 0) ≡ size = length-replicate size 0 in let le = size_bound size small in omega arith
+new_most (File size verifier) good small = let l : length (replicate {A = ℕ} size 0) ≡ size = length-replicate size 0 in
+    let le = size_bound size small in omega arith
 new_most Directory good small = omega arith
 new_most (Link text) good small = text_bound text good
 
-pub tree_created : (t : Files) (d : ℕ) (name : List ℕ) (new : New) (sets : Sets) (now : Time) → IsTree t → create_fault t d name new ≡ None → IsReached t d → IsTree (with_new t d name new sets now)
+pub tree_created : (t : Files) (d : ℕ) (name : List ℕ) (new : New) (sets : Sets) (now : Time)
+    → IsTree t → create_fault t d name new ≡ None → IsReached t d → IsTree (with_new t d name new sets now)
 tree_created t d name new sets now is granted condition =
     let can = create_granted t d name new granted in
     let one = record t { objects = with_entries_changed d now t.objects } in
     let is_one : IsTree one = tree_changed t d now (modified now no_sets) is in
     let x : Stored = record { number = t.last_object + 1; object = new_object now new sets; bytes = data_of new } in
     let two = record one { objects = one.objects ++ x ∷ []; last_object = t.last_object + 1 } in
-    let room : length one.objects < most_objects = subst (λ l. l < most_objects) (sym (length_map (change_at d now (modified now no_sets)) t.objects)) can.room in
+    let room : length one.objects < most_objects =
+    subst (λ l. l < most_objects) (sym (length_map (change_at d now (modified now no_sets)) t.objects)) can.room in
     let is_two : IsTree two = tree_put_object one x is_one refl can.object room (record { size = new_size new; most = new_most new can.good can.small }) in
     let kind = directory_map t.objects (change_at d now (modified now no_sets)) d (keeps_changed d now (modified now no_sets) t.objects) ∙ can.directory in
     let pushed = stored_push one.objects x d (directory_there one d kind) in
     let last = stored_within root (t.last_object + 1) t.objects root is.objects (directory_there t root is.root) in
     let to : Row = record { directory = d; name = name; object = t.last_object + 1; cookie = t.last_cookie + 1 } in
-    let fresh = λ (r : Row) (there : In r t.rows) (same : r.object ≡ t.last_object + 1). (let within = stored_within root (t.last_object + 1) t.objects r.object is.objects (is.rows.names r there) in absurd (omega arith)) in
+    let fresh = λ (r : Row) (there : In r t.rows) (same : r.object ≡ t.last_object + 1).
+    (let within = stored_within root (t.last_object + 1) t.objects r.object is.objects (is.rows.names r there) in absurd (omega arith)) in
     tree_put_row two to is_two refl can.cookie (record {
       vacant = can.vacant;
       stands = ap (λ o. option_map_or (λ (s : Stored). is_directory s.object.kind) o false) pushed ∙ kind;

@@ -1,5 +1,6 @@
 -- What is kept of rows when one is put, dropped or moved.
-use Rattle.std.proofs.Common.{◌≡◌, ◌≢◌, ◌⊎◌, ℕ, zero, suc, ◌+◌, ◌<◌, ◌≤◌, Bool, true, false, cond, not, List, [], ◌∷◌, ◌++◌, length, Option, Some, None, refl, sym, ◌∙◌, ap, subst, arith, inl, inr}
+use Rattle.std.proofs.Common.{◌≡◌, ◌≢◌, ◌⊎◌, ℕ, zero, suc, ◌+◌, ◌<◌, ◌≤◌, Bool, true, false, cond, not, List, [], ◌∷◌, ◌++◌, length, Option, Some, None, refl}
+use Rattle.std.proofs.Common.{sym, ◌∙◌, ap, subst, arith, inl, inr}
 use Rattle.std.specs.Prelude.{◌==◌, if◌then◌else◌, ◌&&◌, ◌||◌, find, filter, option_map, bytes_eq, is_some}
 use Rattle.std.specs.Option.{option_map_or}
 use Rattle.std.specs.List.{list_any}
@@ -10,10 +11,12 @@ use Rattle.nfs_tree.specs.Files.{root, most_links, is_name, is_entry, entry, par
 use Rattle.nfs_tree.specs.Names.{with_row, is_at_or_below}
 use Rattle.nfs_tree.specs.Walks.{In}
 use Rattle.nfs_tree.specs.Kept.{Grounded, AreRows}
-use Rattle.nfs_tree.proofs.Lists.{in_filter, filter_in, in_push, push_in, last_in, find_in, none_in, find_kept, find_none, find_none_kept, find_push_some, find_push_none, count_filter, count_dropped, count_push, in_any, any_in, length_filter, filter_swap}
+use Rattle.nfs_tree.proofs.Lists.{in_filter, filter_in, in_push, push_in, last_in, find_in, none_in, find_kept, find_none, find_none_kept, find_push_some}
+use Rattle.nfs_tree.proofs.Lists.{find_push_none, count_filter, count_dropped, count_push, in_any, any_in, length_filter, filter_swap}
 
 -- the same rows under tests that give the same
-pub rows_same : (rows : List Row) (dirs there dirs' there' : ℕ → Bool) → AreRows rows dirs there → ((r : Row) → In r rows → dirs' r.directory ≡ dirs r.directory) → ((r : Row) → In r rows → dirs' r.object ≡ dirs r.object)
+pub rows_same : (rows : List Row) (dirs there dirs' there' : ℕ → Bool) → AreRows rows dirs there
+    → ((r : Row) → In r rows → dirs' r.directory ≡ dirs r.directory) → ((r : Row) → In r rows → dirs' r.object ≡ dirs r.object)
     → ((r : Row) → In r rows → there' r.object ≡ there r.object) → AreRows rows dirs' there'
 rows_same rows dirs there dirs' there' are standing object seen = record {
   found = are.found;
@@ -33,7 +36,8 @@ pub entry_self : (r : Row) → is_entry r.directory r.name r ≡ true
 entry_self r = rw (eq-eqb r.directory r.directory refl) ((bytes_eq-Decides r.name r.name).1 refl)
 
 -- a row with the name is the one that is found
-pub only_entry : (rows : List Row) (dirs there : ℕ → Bool) → AreRows rows dirs there → (d : ℕ) (name : List ℕ) (r : Row) → In r rows → is_entry d name r ≡ true → entry rows d name ≡ Some r
+pub only_entry : (rows : List Row) (dirs there : ℕ → Bool) → AreRows rows dirs there
+    → (d : ℕ) (name : List ℕ) (r : Row) → In r rows → is_entry d name r ≡ true → entry rows d name ≡ Some r
 only_entry rows dirs there are d name r is e =
     let parts = entry_parts d name r e in
     ap (λ x. entry rows x name) (sym parts.0) ∙ ap (λ x. entry rows r.directory x) (sym parts.1) ∙ are.found r is
@@ -64,11 +68,14 @@ pub record CanPut (rows : List Row) (dirs there : ℕ → Bool) (to : Row) : Typ
   pub short : is_name to.name ≡ true
   pub few : links_in rows to.object < most_links
 
-pub found_put : (rows : List Row) (to r : Row) → entry rows to.directory to.name ≡ None → ((r : Row) → In r rows → entry rows r.directory r.name ≡ Some r) → (to ≡ r) ⊎ In r rows → entry (rows ++ to ∷ []) r.directory r.name ≡ Some r
-found_put rows to r vacant found (inl is) = subst (λ (q : Row). entry (rows ++ to ∷ []) q.directory q.name ≡ Some q) is (find_push_none (is_entry to.directory to.name) rows to vacant (entry_self to))
+pub found_put : (rows : List Row) (to r : Row) → entry rows to.directory to.name ≡ None
+    → ((r : Row) → In r rows → entry rows r.directory r.name ≡ Some r) → (to ≡ r) ⊎ In r rows → entry (rows ++ to ∷ []) r.directory r.name ≡ Some r
+found_put rows to r vacant found (inl is) =
+    subst (λ (q : Row). entry (rows ++ to ∷ []) q.directory q.name ≡ Some q) is (find_push_none (is_entry to.directory to.name) rows to vacant (entry_self to))
 found_put rows to r vacant found (inr there) = find_push_some (is_entry r.directory r.name) rows to r (found r there)
 
-pub one_put : (rows : List Row) (dirs : ℕ → Bool) (to q r : Row) → (dirs to.object ≡ true → (r : Row) → In r rows → r.object ≢ to.object) → ((q r : Row) → In q rows → In r rows → q.object ≡ r.object → dirs r.object ≡ true → q ≡ r)
+pub one_put : (rows : List Row) (dirs : ℕ → Bool) (to q r : Row) → (dirs to.object ≡ true → (r : Row) → In r rows → r.object ≢ to.object)
+    → ((q r : Row) → In q rows → In r rows → q.object ≡ r.object → dirs r.object ≡ true → q ≡ r)
     → (to ≡ q) ⊎ In q rows → (to ≡ r) ⊎ In r rows → q.object ≡ r.object → dirs r.object ≡ true → q ≡ r
 one_put rows dirs to q r first one (inl a) (inl b) same dir = sym a ∙ b
 one_put rows dirs to q r first one (inl a) (inr b) same dir =
@@ -77,7 +84,8 @@ one_put rows dirs to q r first one (inr a) (inl b) same dir =
     let e : to.object ≡ r.object = ap (λ (x : Row). x.object) b in absurd (first (ap dirs e ∙ dir) q a (same ∙ sym e))
 one_put rows dirs to q r first one (inr a) (inr b) same dir = one q r a b same dir
 
-pub few_put : (rows : List Row) (to : Row) (n : ℕ) → links_in rows to.object < most_links → links_in rows n ≤ most_links → links_in (rows ++ to ∷ []) n ≤ most_links
+pub few_put : (rows : List Row) (to : Row) (n : ℕ) → links_in rows to.object < most_links
+    → links_in rows n ≤ most_links → links_in (rows ++ to ∷ []) n ≤ most_links
 few_put rows to n less few =
     let count = count_push (λ (r : Row). r.object == n) rows to in
     elim (cases_eq to.object n) [
@@ -106,14 +114,21 @@ rows_put rows dirs there to are can = record {
 }
 
 -- What leads to an object other than m without rows that name m. The entry that goes names m.
-pub grounded_without : (rows : List Row) (d : ℕ) (name : List ℕ) (m : ℕ) → ((r : Row) → In r rows → is_entry d name r ≡ true → r.object ≡ m) → ((r : Row) → In r rows → r.directory ≢ m)
+pub grounded_without : (rows : List Row) (d : ℕ) (name : List ℕ) (m : ℕ)
+    → ((r : Row) → In r rows → is_entry d name r ≡ true → r.object ≡ m) → ((r : Row) → In r rows → r.directory ≢ m)
     → (n x : ℕ) → x ≢ m → Grounded rows n x → Grounded (without_entry d name rows) n x
 grounded_without rows d name m names empty zero x other g = g
 grounded_without rows d name m names empty (suc n) x other g =
-    let kept : is_entry d name g.0 ≡ false = elim (cases_Bool (is_entry d name g.0)) [ inl is ↦ absurd (other (sym g.2 ∙ names g.0 g.1 is)) | inr other_row ↦ other_row ] in
-    (g.0, filter_in (λ r. not (is_entry d name r)) rows g.0 g.1 (rw kept refl), g.2, grounded_without rows d name m names empty n g.0.directory (empty g.0 g.1) g.3)
+    let kept : is_entry d name g.0 ≡ false =
+    elim (cases_Bool (is_entry d name g.0)) [ inl is ↦ absurd (other (sym g.2 ∙ names g.0 g.1 is)) | inr other_row ↦ other_row ] in (
+      g.0,
+      filter_in (λ r. not (is_entry d name r)) rows g.0 g.1 (rw kept refl),
+      g.2,
+      grounded_without rows d name m names empty n g.0.directory (empty g.0 g.1) g.3,
+    )
 
-pub rows_dropped : (rows : List Row) (dirs there : ℕ → Bool) (d : ℕ) (name : List ℕ) (m : ℕ) → AreRows rows dirs there → ((r : Row) → In r rows → is_entry d name r ≡ true → r.object ≡ m) → ((r : Row) → In r rows → r.directory ≢ m)
+pub rows_dropped : (rows : List Row) (dirs there : ℕ → Bool) (d : ℕ) (name : List ℕ) (m : ℕ) → AreRows rows dirs there
+    → ((r : Row) → In r rows → is_entry d name r ≡ true → r.object ≡ m) → ((r : Row) → In r rows → r.directory ≢ m)
     → AreRows (without_entry d name rows) dirs there
 rows_dropped rows dirs there d name m are names empty =
     let test = λ (r : Row). not (is_entry d name r) in
@@ -124,7 +139,8 @@ rows_dropped rows dirs there d name m are names empty =
       names = λ r is. are.names r (old r is).0;
       free = λ r is. are.free r (old r is).0;
       one = λ q r a b same dir. are.one q r (old q a).0 (old r b).0 same dir;
-      grounded = λ r is. let was = (old r is).0 in let up = are.grounded r was in (up.0, grounded_without rows d name m names empty up.0 r.directory (empty r was) up.1);
+      grounded = λ r is. let was = (old r is).0 in let up = are.grounded r was in
+          (up.0, grounded_without rows d name m names empty up.0 r.directory (empty r was) up.1);
       short = λ r is. are.short r (old r is).0;
       few = λ n. let le = count_filter (λ (r : Row). r.object == n) test rows in let most = are.few n in omega arith;
     }

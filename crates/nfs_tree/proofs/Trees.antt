@@ -1,5 +1,6 @@
 -- Each call's tree keeps what every tree keeps.
-use Rattle.std.proofs.Common.{◌≡◌, ◌≢◌, ◌⊎◌, ℕ, zero, suc, ◌+◌, ◌<◌, ◌≤◌, ltb, eqb, Bool, true, false, cond, not, List, [], ◌∷◌, ◌++◌, map, length, Option, Some, None, refl, sym, ◌∙◌, ap, subst, arith, inl, inr}
+use Rattle.std.proofs.Common.{◌≡◌, ◌≢◌, ◌⊎◌, ℕ, zero, suc, ◌+◌, ◌<◌, ◌≤◌, ltb, eqb, Bool, true, false, cond, not, List, [], ◌∷◌, ◌++◌, map, length, Option}
+use Rattle.std.proofs.Common.{Some, None, refl, sym, ◌∙◌, ap, subst, arith, inl, inr}
 use Rattle.std.specs.Prelude.{◌==◌, nat_lt, nat_le, if◌then◌else◌, ◌&&◌, ◌||◌, find, filter, option_map, is_some, unwrap_or, All}
 use Rattle.std.specs.Option.{option_map_or}
 use Rattle.std.proofs.lemmas.Bool.{cases_Bool, cases_eq, and_parts, eqb-true, eq-eqb, ne_eqb, ltb-true, ltb-false, not-false, false≢true}
@@ -11,17 +12,21 @@ use Rattle.nfs_tree.specs.declared.row.Row.{Row}
 use Rattle.nfs_tree.specs.declared.sets.Sets.{Sets}
 use Rattle.nfs_tree.specs.declared.stored.Stored.{Stored}
 use Rattle.nfs_tree.specs.Object.{is_directory, no_sets, modified}
-use Rattle.nfs_tree.specs.Files.{Files, root, last_count, most_objects, most_links, stored_in, is_there, is_directory_in, is_directory_at, can_change, is_entry, entry, has_name, lookup, named, links_in, has_row, has_entries, change_at, with_changed, with_entries_changed, with_links_changed, without_entry, IsReached}
+use Rattle.nfs_tree.specs.Files.{Files, root, last_count, most_objects, most_links, stored_in, is_there, is_directory_in, is_directory_at, can_change, is_entry}
+use Rattle.nfs_tree.specs.Files.{entry, has_name, lookup, named, links_in, has_row, has_entries, change_at, with_changed, with_entries_changed}
+use Rattle.nfs_tree.specs.Files.{with_links_changed, without_entry, IsReached}
 use Rattle.nfs_tree.specs.Names.{forget, remove_checks, remove_fault, without_name}
 use Rattle.nfs_tree.specs.Bytes.{set_checks, set_fault}
 use Rattle.nfs_tree.specs.Walks.{In}
 use Rattle.nfs_tree.specs.Kept.{AreRows, IsSized, IsTree}
 use Rattle.nfs_tree.proofs.Lists.{in_filter, in_map, find_in, length_filter, length_map, any_in}
 use Rattle.nfs_tree.proofs.RowsKept.{rows_same, rows_put, CanPut, rows_dropped, no_entries, no_row, only_entry, entry_parts, reached}
-use Rattle.nfs_tree.proofs.Objects.{Keeps, keeps_changed, there_map, directory_map, stored_within, stored_push, stored_dropped, new_there, can_change_all, can_change_none, can_change_after}
+use Rattle.nfs_tree.proofs.Objects.{Keeps, keeps_changed, there_map, directory_map, stored_within, stored_push, stored_dropped, new_there, can_change_all}
+use Rattle.nfs_tree.proofs.Objects.{can_change_none, can_change_after}
 
 -- the same of parts that are equal to those
-pub tree_of : (t : Files) → IsTree t → (objects : List Stored) (rows : List Row) (n k : ℕ) → objects ≡ t.objects → rows ≡ t.rows → n ≡ t.last_object → k ≡ t.last_cookie
+pub tree_of : (t : Files) → IsTree t → (objects : List Stored) (rows : List Row) (n k : ℕ)
+    → objects ≡ t.objects → rows ≡ t.rows → n ≡ t.last_object → k ≡ t.last_cookie
     → IsTree (record { objects = objects; rows = rows; last_object = n; last_cookie = k })
 tree_of t is objects rows n k eo er en ek = rw (eo, er, en, ek) is
 
@@ -33,8 +38,10 @@ tree_mapped t f is keeps = record {
   few = rw (length_map f t.objects) is.few;
   sized = λ s there. let old = in_map f t.objects s there in subst IsSized old.2 (keeps.sized old.0 old.1 (is.sized old.0 old.1));
   root = directory_map t.objects f root keeps ∙ is.root;
-  rows = rows_same t.rows (λ n. is_directory_at t n) (λ n. is_there t n) (λ n. is_directory_in (map f t.objects) n) (λ n. is_some (stored_in (map f t.objects) n)) is.rows
-      (λ r there. directory_map t.objects f r.directory keeps) (λ r there. directory_map t.objects f r.object keeps) (λ r there. there_map t.objects f r.object keeps);
+  rows = rows_same t.rows (λ n. is_directory_at t n) (λ n. is_there t n)
+      (λ n. is_directory_in (map f t.objects) n) (λ n. is_some (stored_in (map f t.objects) n)) is.rows
+      (λ r there. directory_map t.objects f r.directory keeps) (λ r there. directory_map t.objects f r.object keeps)
+      (λ r there. there_map t.objects f r.object keeps);
 }
 
 pub tree_changed : (t : Files) (n : ℕ) (now : Time) (sets : Sets) → IsTree t → IsTree (record t { objects = with_changed n now sets t.objects })
@@ -96,7 +103,8 @@ entry_names t d name is r there e =
     sym (ap (λ o. unwrap_or (option_map (λ (r : Row). r.object) o) 0) found)
 
 -- rows dropped from a tree: what the entry names has no entries
-pub tree_dropped : (t : Files) (d : ℕ) (name : List ℕ) → IsTree t → has_entries t.rows (named t d name) ≡ false → IsTree (record t { rows = without_entry d name t.rows })
+pub tree_dropped : (t : Files) (d : ℕ) (name : List ℕ) → IsTree t
+    → has_entries t.rows (named t d name) ≡ false → IsTree (record t { rows = without_entry d name t.rows })
 tree_dropped t d name is empty = record {
   objects = is.objects;
   cookies = IsRising-filter (λ (r : Row). r.cookie) (λ r. not (is_entry d name r)) 3 (t.last_cookie + 1) t.rows is.cookies;
@@ -104,7 +112,8 @@ tree_dropped t d name is empty = record {
   few = is.few;
   sized = is.sized;
   root = is.root;
-  rows = rows_dropped t.rows (λ n. is_directory_at t n) (λ n. is_there t n) d name (named t d name) is.rows (entry_names t d name is) (no_entries t.rows (named t d name) empty);
+  rows = rows_dropped t.rows (λ n. is_directory_at t n) (λ n. is_there t n) d name
+      (named t d name) is.rows (entry_names t d name is) (no_entries t.rows (named t d name) empty);
 }
 
 pub tree_removed : (t : Files) (d : ℕ) (name : List ℕ) (now : Time) → IsTree t → remove_fault t d name ≡ None → IsTree (without_name t d name now)

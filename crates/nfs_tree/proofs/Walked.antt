@@ -1,5 +1,6 @@
 -- Each directory with a row is reached by one walk.
-use Rattle.std.proofs.Common.{◌≡◌, ◌≢◌, ◌⊎◌, ℕ, zero, suc, Bool, true, false, cond, List, [], ◌∷◌, ◌++◌, Option, Some, None, refl, sym, ◌∙◌, ap, subst, inl, inr}
+use Rattle.std.proofs.Common.{◌≡◌, ◌≢◌, ◌⊎◌, ℕ, zero, suc, Bool, true, false, cond, List, [], ◌∷◌, ◌++◌, Option, Some, None, refl, sym, ◌∙◌, ap, subst, inl}
+use Rattle.std.proofs.Common.{inr}
 use Rattle.std.specs.Prelude.{find, option_and_then}
 use Rattle.nfs_tree.specs.declared.row.Row.{Row}
 use Rattle.nfs_tree.specs.Files.{Files, root, is_entry, entry, is_directory_at, is_there}
@@ -8,7 +9,8 @@ use Rattle.nfs_tree.specs.Kept.{Grounded, AreRows, IsTree}
 use Rattle.nfs_tree.proofs.Lists.{find_in}
 use Rattle.nfs_tree.proofs.RowsKept.{entry_parts}
 
-then_walk : (rows : List Row) (d : ℕ) (names : List (List ℕ)) (r : Row) → walk rows d names ≡ Some r.directory → entry rows r.directory r.name ≡ Some r → walk rows d (names ++ r.name ∷ []) ≡ Some r.object
+then_walk : (rows : List Row) (d : ℕ) (names : List (List ℕ)) (r : Row) → walk rows d names ≡ Some r.directory
+    → entry rows r.directory r.name ≡ Some r → walk rows d (names ++ r.name ∷ []) ≡ Some r.object
 then_walk rows d [] r e found = let same : d ≡ r.directory = cc in rw (same, found) refl
 then_walk rows d (name ∷ names) r e found = then_by (entry rows d name) refl (λ q w. then_walk rows q names r w found)
   where
@@ -19,7 +21,8 @@ then_walk rows d (name ∷ names) r e found = then_by (entry rows d name) refl (
 
 -- a walk is empty, or ends in a row
 abbrev Ends : List Row → ℕ → List (List ℕ) → ℕ → Type 0
-Ends rows d names to = ((names ≡ []) × (d ≡ to)) ⊎ ((first : List (List ℕ)) × (r : Row) × (names ≡ first ++ r.name ∷ []) × (walk rows d first ≡ Some r.directory) × In r rows × (r.object ≡ to))
+Ends rows d names to = ((names ≡ []) × (d ≡ to))
+    ⊎ ((first : List (List ℕ)) × (r : Row) × (names ≡ first ++ r.name ∷ []) × (walk rows d first ≡ Some r.directory) × In r rows × (r.object ≡ to))
 
 ends : (rows : List Row) (d : ℕ) (names : List (List ℕ)) (to : ℕ) → walk rows d names ≡ Some to → Ends rows d names to
 ends rows d [] to e = inl (refl, cc)
@@ -36,7 +39,8 @@ ends rows d (name ∷ names) to e = ends_by (entry rows d name) refl (λ q w. en
         ]
 
 -- two walks to one directory are one
-walks_same : (rows : List Row) (dirs there : ℕ → Bool) → AreRows rows dirs there → (n d : ℕ) → Grounded rows n d → dirs d ≡ true → (a b : List (List ℕ)) → walk rows root a ≡ Some d → walk rows root b ≡ Some d → a ≡ b
+walks_same : (rows : List Row) (dirs there : ℕ → Bool) → AreRows rows dirs there → (n d : ℕ) → Grounded rows n d
+    → dirs d ≡ true → (a b : List (List ℕ)) → walk rows root a ≡ Some d → walk rows root b ≡ Some d → a ≡ b
 walks_same rows dirs there are zero d g dir a b wa wb = by_ends (ends rows root a d wa) (ends rows root b d wb)
   where
     by_ends : Ends rows root a d → Ends rows root b d → a ≡ b
@@ -46,7 +50,8 @@ walks_same rows dirs there are zero d g dir a b wa wb = by_ends (ends rows root 
 walks_same rows dirs there are (suc n) d g dir a b wa wb = by_ends (ends rows root a d wa) (ends rows root b d wb)
     (λ a b wa wb. walks_same rows dirs there are n g.0.directory g.3 (are.stands g.0 g.1) a b wa wb)
   where
-    by_ends : Ends rows root a d → Ends rows root b d → ((a b : List (List ℕ)) → walk rows root a ≡ Some g.0.directory → walk rows root b ≡ Some g.0.directory → a ≡ b) → a ≡ b
+    by_ends : Ends rows root a d → Ends rows root b d
+        → ((a b : List (List ℕ)) → walk rows root a ≡ Some g.0.directory → walk rows root b ≡ Some g.0.directory → a ≡ b) → a ≡ b
     by_ends (inl ea) eb ih = absurd (are.free g.0 g.1 (g.2 ∙ sym ea.1))
     by_ends (inr ea) (inl eb) ih = absurd (are.free g.0 g.1 (g.2 ∙ sym eb.1))
     by_ends (inr ea) (inr eb) ih =
@@ -57,7 +62,8 @@ walks_same rows dirs there are (suc n) d g dir a b wa wb = by_ends (ends rows ro
         ea.2 ∙ ap (λ ns. ns ++ ea.1.name ∷ []) first ∙ ap (λ nm. eb.0 ++ nm ∷ []) name ∙ sym eb.2
 
 -- the names from the root to what is reached
-names_to : (rows : List Row) (dirs there : ℕ → Bool) → AreRows rows dirs there → (n d : ℕ) → Grounded rows n d → (names : List (List ℕ)) × (walk rows root names ≡ Some d)
+names_to : (rows : List Row) (dirs there : ℕ → Bool) → AreRows rows dirs there → (n d : ℕ)
+    → Grounded rows n d → (names : List (List ℕ)) × (walk rows root names ≡ Some d)
 names_to rows dirs there are zero d g = ([], ap Some (sym g))
 names_to rows dirs there are (suc n) d g =
     let up = names_to rows dirs there are n g.0.directory g.3 in

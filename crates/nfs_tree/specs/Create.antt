@@ -12,7 +12,8 @@ use Rattle.nfs_tree.specs.declared.done.Created.{Created}
 use Rattle.nfs_tree.specs.declared.fault.TreeFault.{TreeFault}
 use Rattle.nfs_tree.specs.declared.fault.TreeFault.TheVariants.{NoEnt, Exist, NotDir, Inval, Fbig, NoSpc, Counter}
 use Rattle.nfs_tree.specs.Object.{no_sets}
-use Rattle.nfs_tree.specs.Files.{Files, root, last_count, most_objects, most_bytes, most_text, is_name, is_there, is_directory_at, has_name, can_change, with_entries_changed}
+use Rattle.nfs_tree.specs.Files.{Files, root, last_count, most_objects, most_bytes, most_text, is_name, is_there, is_directory_at, has_name, can_change}
+use Rattle.nfs_tree.specs.Files.{with_entries_changed}
 use Rattle.nfs_tree.specs.Did.{Did, does_unless, raised}
 
 -- What is made: a file of so many zeros, with the verifier of an exclusive create; a directory; a symbolic link with its text.

@@ -1,6 +1,7 @@
 -- Rows put, dropped and moved; objects dropped (RFC 8881 sections 18.9, 18.25 and 18.26).
 use Rattle.std.specs.Option.{option_map_or}
-use Rattle.std.specs.Prelude.{ℕ, zero, suc, ◌+◌, ◌==◌, nat_lt, nat_le, Bool, true, false, not, ◌&&◌, ◌||◌, if◌then◌else◌, List, [], ◌∷◌, ◌++◌, length, Option, Some, None, Ok, Err, filter}
+use Rattle.std.specs.Prelude.{ℕ, zero, suc, ◌+◌, ◌==◌, nat_lt, nat_le, Bool, true, false, not, ◌&&◌, ◌||◌, if◌then◌else◌, List, [], ◌∷◌, ◌++◌, length, Option}
+use Rattle.std.specs.Prelude.{Some, None, Ok, Err, filter}
 use Rattle.nfs_xdr.specs.Checks.{first_fault}
 use Rattle.nfs_xdr.specs.declared.time.Time.{Time}
 use Rattle.nfs_tree.specs.declared.rename.Place.{Place}
@@ -11,7 +12,8 @@ use Rattle.nfs_tree.specs.declared.done.Removed.{Removed}
 use Rattle.nfs_tree.specs.declared.done.Renamed.{Renamed}
 use Rattle.nfs_tree.specs.declared.fault.TreeFault.{TreeFault}
 use Rattle.nfs_tree.specs.declared.fault.TreeFault.TheVariants.{NoEnt, Exist, NotDir, IsDir, NotEmpty, Inval, Mlink, Counter}
-use Rattle.nfs_tree.specs.Files.{Files, last_count, most_links, is_name, is_there, is_directory_at, has_name, lookup, named, parent_in, links_in, has_row, has_entries, can_change, with_entries_changed, with_links_changed, without_entry}
+use Rattle.nfs_tree.specs.Files.{Files, last_count, most_links, is_name, is_there, is_directory_at, has_name, lookup, named, parent_in, links_in, has_row}
+use Rattle.nfs_tree.specs.Files.{has_entries, can_change, with_entries_changed, with_links_changed, without_entry}
 use Rattle.nfs_tree.specs.Did.{Did, does_unless, raised, stays}
 
 -- a row more
@@ -115,7 +117,8 @@ is_in_the_way t m = has_name t m.target m.name && (is_unlike t m || has_entries 
 -- no counter and no `change` that a move raises has its last value
 abbrev pub can_move : Files → Move → Bool
 can_move t m =
-    can_change t m.source && (can_change t m.target && ((not (has_name t m.target m.name) || can_change t (replaced_object t m)) && nat_lt t.last_cookie last_count))
+    can_change t m.source
+    && (can_change t m.target && ((not (has_name t m.target m.name) || can_change t (replaced_object t m)) && nat_lt t.last_cookie last_count))
 
 abbrev pub rename_checks : Files → Move → List (Bool × TreeFault)
 rename_checks t m =
@@ -145,7 +148,10 @@ with_moved t m now = record t {
 
 -- what is answered and left where an entry moves, and where nothing does
 abbrev pub moved : Files → Move → Time → Did Renamed
-moved t m now = record { answer = Ok (record { source = raised t m.source; target = raised t m.target; replaced = lookup t m.target m.name }); after = with_moved t m now }
+moved t m now = record {
+  answer = Ok (record { source = raised t m.source; target = raised t m.target; replaced = lookup t m.target m.name });
+  after = with_moved t m now;
+}
 
 abbrev pub unmoved : Files → Move → Did Renamed
 unmoved t m = record { answer = Ok (record { source = stays t m.source; target = stays t m.target; replaced = None }); after = t }

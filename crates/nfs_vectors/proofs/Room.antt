@@ -53,13 +53,23 @@ room_behind old new status r empty puts sizes arrays =
     ))
     sizes arrays
 
-pub stands_first : (old new : Paper) (status_at count_at : ℕ) (tag : List ℕ) → HeadsAt status_at count_at old.bytes tag → Puts old new (spell_compound_head Nfs4Ok tag 0)
+pub stands_first : (old new : Paper) (status_at count_at : ℕ) (tag : List ℕ)
+    → HeadsAt status_at count_at old.bytes tag → Puts old new (spell_compound_head Nfs4Ok tag 0)
     → HasHead status_at count_at new.bytes
 stands_first old new status_at count_at tag places puts =
-    record { before = old.bytes; status = Nfs4Ok; tag = tag; count = 0; behind = []; places = places; spelled = puts.bytes ∙ sym (append-nil (old.bytes ++ spell_compound_head Nfs4Ok tag 0)) }
+    record {
+      before = old.bytes;
+      status = Nfs4Ok;
+      tag = tag;
+      count = 0;
+      behind = [];
+      places = places;
+      spelled = puts.bytes ∙ sym (append-nil (old.bytes ++ spell_compound_head Nfs4Ok tag 0));
+    }
 
 -- a head stays where it stands when more is put behind it
-pub stands_still : (old new : Paper) (text : List ℕ) (status_at count_at : ℕ) → Puts old new text → HasHead status_at count_at old.bytes → HasHead status_at count_at new.bytes
+pub stands_still : (old new : Paper) (text : List ℕ) (status_at count_at : ℕ)
+    → Puts old new text → HasHead status_at count_at old.bytes → HasHead status_at count_at new.bytes
 stands_still old new text status_at count_at puts h =
     record {
       before = h.before;

@@ -1,7 +1,13 @@
 -- Each number is read as its own status.
 use Rattle.std.proofs.Common.{◌≡◌, ℕ, ◌<◌, ◌^◌, Some, refl, arith}
 use Rattle.nfs_xdr.specs.declared.status.Status.{Status}
-use Rattle.nfs_xdr.specs.declared.status.Status.TheVariants.{Nfs4Ok, Perm, NoEnt, Access, Exist, NotDir, IsDir, Inval, FBig, NoSpc, MLink, NameTooLong, NotEmpty, Stale, BadHandle, BadCookie, NotSupp, TooSmall, ServerFault, BadType, Delay, Same, Denied, Locked, ShareDenied, ClidInUse, NoFileHandle, MinorVersMismatch, StaleClientId, OldStateId, BadStateId, NotSame, Symlink, AttrNotSupp, NoGrace, BadXdr, LocksHeld, OpenMode, BadOwner, BadChar, BadName, OpIllegal, BadSession, BadSlot, CompleteAlready, SeqMisordered, SequencePos, ReqTooBig, RepTooBig, TooManyOps, OpNotInSession, ClientIdBusy, SeqFalseRetry, BadHighSlot, NotOnlyOp, WrongType}
+use Rattle.nfs_xdr.specs.declared.status.Status.TheVariants.{Nfs4Ok, Perm, NoEnt, Access, Exist, NotDir, IsDir, Inval, FBig, NoSpc, MLink, NameTooLong}
+use Rattle.nfs_xdr.specs.declared.status.Status.TheVariants.{NotEmpty, Stale, BadHandle, BadCookie, NotSupp, TooSmall, ServerFault, BadType, Delay, Same}
+use Rattle.nfs_xdr.specs.declared.status.Status.TheVariants.{Denied, Locked, ShareDenied, ClidInUse, NoFileHandle, MinorVersMismatch, StaleClientId, OldStateId}
+use Rattle.nfs_xdr.specs.declared.status.Status.TheVariants.{BadStateId, NotSame, Symlink, AttrNotSupp, NoGrace, BadXdr, LocksHeld, OpenMode, BadOwner, BadChar}
+use Rattle.nfs_xdr.specs.declared.status.Status.TheVariants.{BadName, OpIllegal, BadSession, BadSlot, CompleteAlready, SeqMisordered, SequencePos, ReqTooBig}
+use Rattle.nfs_xdr.specs.declared.status.Status.TheVariants.{RepTooBig, TooManyOps, OpNotInSession, ClientIdBusy, SeqFalseRetry, BadHighSlot, NotOnlyOp}
+use Rattle.nfs_xdr.specs.declared.status.Status.TheVariants.{WrongType}
 use Rattle.nfs_xdr.specs.Status.{status_number, status_of, statuses, status}
 use Rattle.nfs_xdr.specs.Codec.{IsListing, IsCodec}
 use Rattle.nfs_xdr.proofs.WordLaws.{is_listed, listed_number}

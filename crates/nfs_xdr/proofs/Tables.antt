@@ -315,7 +315,8 @@ module _ {X : Type 0} (number : X → ℕ) where
   nowhere n [] none = refl
   nowhere n (x ∷ xs) none =
       let p : X → Bool = λ x. number x == n in
-      let last : position_or_len p (x ∷ xs) ≡ length (x ∷ xs) = position_or_len_is p (x ∷ xs) (length (x ∷ xs)) x (omega arith) (λ k less. none k x less) (λ less. absurd (omega arith)) in
+      let last : position_or_len p (x ∷ xs) ≡ length (x ∷ xs) =
+      position_or_len_is p (x ∷ xs) (length (x ∷ xs)) x (omega arith) (λ k less. none k x less) (λ less. absurd (omega arith)) in
       ap (λ (k : ℕ). cond (nat_lt k (length (x ∷ xs))) (Some k) None) last
       ∙ ap (λ (b : Bool). cond b (Some (length (x ∷ xs))) None) (le-ltb (length (x ∷ xs)) (length (x ∷ xs)) (omega arith))
 
@@ -387,4 +388,5 @@ pub all_one : {X : Type 0} (number : X → ℕ) (n low high : ℕ) (xs : List X)
     → All (λ x. number x ≡ n → x ≡ y) xs
 all_one {X} number n low high xs r y e =
     let is = find_in (λ x. number x == n) xs y e in
-    All-from_recursion (λ x. number x ≡ n → x ≡ y) xs (all_in (λ x. number x ≡ n → x ≡ y) xs (λ x there same. in_once number low high xs x y r there is.0 (same ∙ sym (eqb-true (number y) n is.1))))
+    All-from_recursion (λ x. number x ≡ n → x ≡ y) xs
+    (all_in (λ x. number x ≡ n → x ≡ y) xs (λ x there same. in_once number low high xs x y r there is.0 (same ∙ sym (eqb-true (number y) n is.1))))

@@ -1,5 +1,6 @@
 -- Laws of the words that unions, enums and arrays of the protocol are put together from.
-use Rattle.std.proofs.Common.{◌≡◌, ◌≢◌, ℕ, ℤ, zero, suc, ◌+◌, ◌-◌, ◌^◌, ◌<◌, ◌≤◌, Bool, true, false, cond, eqb, List, [], ◌∷◌, ◌++◌, length, take, Option, Some, None, refl, sym, ap, subst, ◌∙◌, append_assoc, arith, inl, inr}
+use Rattle.std.proofs.Common.{◌≡◌, ◌≢◌, ℕ, ℤ, zero, suc, ◌+◌, ◌-◌, ◌^◌, ◌<◌, ◌≤◌, Bool, true, false, cond, eqb, List, [], ◌∷◌, ◌++◌, length, take, Option, Some}
+use Rattle.std.proofs.Common.{None, refl, sym, ap, subst, ◌∙◌, append_assoc, arith, inl, inr}
 use Rattle.std.specs.Int.{w64, cast_signed, cast_unsigned}
 use Rattle.std.specs.Int.RustNames.{FitsSigned}
 use Rattle.std.specs.List.{AllByRecursion}
@@ -10,7 +11,8 @@ use Rattle.std.proofs.Math.Facts.{sfits_to_z, Fits-of_z}
 use Rattle.std.proofs.lemmas.List.{take_at, length-append}
 use Rattle.nfs_xdr.specs.Spelling as spelling
 use Rattle.nfs_xdr.specs.Reading.{◌>>=◌, number_at, hyper_at}
-use Rattle.nfs_xdr.specs.Codec.{Codec, IsCodec, IsBytes, signed, listed_at, listed, IsListing, at_most, raw, raw_at, passed, many_at, choose_or, union_or, union_by, number}
+use Rattle.nfs_xdr.specs.Codec.{Codec, IsCodec, IsBytes, signed, listed_at, listed, IsListing, at_most, raw, raw_at, passed, many_at, choose_or, union_or}
+use Rattle.nfs_xdr.specs.Codec.{union_by, number}
 use Rattle.nfs_xdr.proofs.CodecLaws.{bind_some, taken_at, chosen, IsArm, is_number, is_hyper, is_only, is_then, is_as_type}
 use Rattle.nfs_xdr.specs.Time.{time}
 
@@ -62,7 +64,8 @@ is_raw {A} c p = record {
   takes = λ bytes front rest fits e.
       let s = bind_some (c.read bytes) (λ x. Some (take (length bytes - length x.1) bytes, x.1)) (front, rest) e in
       let t = p.takes bytes s.0.0 s.0.1 fits s.1 in
-      let same : take (length bytes - length s.0.1) bytes ≡ c.spell s.0.0 = ap (λ (w : List ℕ). take (length w - length s.0.1) w) t.0 ∙ front_of (c.spell s.0.0) s.0.1 in
+      let same : take (length bytes - length s.0.1) bytes ≡ c.spell s.0.0 =
+      ap (λ (w : List ℕ). take (length w - length s.0.1) w) t.0 ∙ front_of (c.spell s.0.0) s.0.1 in
       taken_at (raw c) bytes (take (length bytes - length s.0.1) bytes) front s.0.1 rest s.2
       (t.0 ∙ ap (λ (w : List ℕ). w ++ s.0.1) (sym same), t.1, (s.0.0, same, t.2));
   again = λ front rest fits.
@@ -70,10 +73,12 @@ is_raw {A} c p = record {
       rw (read, front_of front rest) refl;
 }
 
-choose_or_takes : {B : Type 0} (b : Codec B) (other : ℕ → B) (arms : List (ℕ × (List ℕ → Option (B × List ℕ)))) → AllByRecursion (IsArm b) arms → (n : ℕ) (left : List ℕ) (y : B) (rest : List ℕ) → IsBytes left
+choose_or_takes : {B : Type 0} (b : Codec B) (other : ℕ → B) (arms : List (ℕ × (List ℕ → Option (B × List ℕ))))
+    → AllByRecursion (IsArm b) arms → (n : ℕ) (left : List ℕ) (y : B) (rest : List ℕ) → IsBytes left
     → (AllByRecursion (λ a. n ≢ a.0) arms → (b.spell (other n) ≡ spelling.number n) × b.Fits (other n)) → choose_or arms other n left ≡ Some (y, rest)
     → (spelling.number n ++ left ≡ b.spell y ++ rest) × IsBytes rest × b.Fits y
-choose_or_takes b other [] good n left y rest f alone e = let o = alone tt in taken_at b (spelling.number n ++ left) (other n) y left rest e (ap (λ (w : List ℕ). w ++ left) (sym o.0), f, o.1)
+choose_or_takes b other [] good n left y rest f alone e = let o = alone tt in
+    taken_at b (spelling.number n ++ left) (other n) y left rest e (ap (λ (w : List ℕ). w ++ left) (sym o.0), f, o.1)
 choose_or_takes {B} b other (a ∷ arms) good n left y rest f alone e =
     elim (chosen (eqb n a.0) (a.1 left) (choose_or arms other n left) (Some (y, rest)) e) [
       | inl q ↦ let t = good.0.takes left y rest f q.1 in (ap (λ (k : ℕ). spelling.number k ++ left) (eqb-true n a.0 q.0) ∙ t.0, t.1, t.2)
@@ -81,9 +86,12 @@ choose_or_takes {B} b other (a ∷ arms) good n left y rest f alone e =
     ]
 
 -- a union of arms, each of which is read again, and of a number alone where no arm has it
-pub is_union_or : {B : Type 0} (spell : B → List ℕ) (Fits : B → Type 0) (arms : List (ℕ × (List ℕ → Option (B × List ℕ)))) (other : ℕ → B) → AllByRecursion (IsArm (union_or spell Fits arms other)) arms
+pub is_union_or : {B : Type 0} (spell : B → List ℕ) (Fits : B → Type 0) (arms : List (ℕ × (List ℕ → Option (B × List ℕ)))) (other : ℕ → B)
+    → AllByRecursion (IsArm (union_or spell Fits arms other)) arms
     → ((n : ℕ) → n < 2 ^ 32 → AllByRecursion (λ a. n ≢ a.0) arms → (spell (other n) ≡ spelling.number n) × Fits (other n))
-    → ((y : B) (rest : List ℕ) → Fits y → (k : ℕ) × (left : List ℕ) × (k < 2 ^ 32) × (spell y ++ rest ≡ spelling.number k ++ left) × (choose_or arms other k left ≡ Some (y, rest))) → IsCodec (union_or spell Fits arms other)
+    → ((y : B) (rest : List ℕ) → Fits y
+    → (k : ℕ) × (left : List ℕ) × (k < 2 ^ 32) × (spell y ++ rest ≡ spelling.number k ++ left) × (choose_or arms other k left ≡ Some (y, rest)))
+    → IsCodec (union_or spell Fits arms other)
 is_union_or spell Fits arms other good alone back = record {
   takes = λ bytes y rest fits e.
       let s = bind_some (number_at bytes) (λ n. choose_or arms other n.0 n.1) (y, rest) e in
@@ -108,33 +116,42 @@ passed_more x (Some xs) = refl
 passed_one : {A : Type 0} (read : List ℕ → Option (A × List ℕ)) (n : ℕ) (r : Option (A × List ℕ)) (u : Unit {0}) (rest : List ℕ) → passed r ≡ Some (u, rest)
     → passed (r >>= λ x. many_at read n x.1 >>= λ xs. Some (x.0 ∷ xs.0, xs.1)) ≡ passed (many_at read n rest)
 passed_one read n None u rest e = absurd cc
-passed_one read n (Some x) u rest e = passed_more x.0 (many_at read n x.1) ∙ ap (λ (p : Unit {0} × List ℕ). passed (many_at read n p.1)) (same_Some (tt, x.1) (u, rest) e)
+passed_one read n (Some x) u rest e = passed_more x.0 (many_at read n x.1)
+    ∙ ap (λ (p : Unit {0} × List ℕ). passed (many_at read n p.1)) (same_Some (tt, x.1) (u, rest) e)
 
-passed_none : {A : Type 0} (read : List ℕ → Option (A × List ℕ)) (n : ℕ) (r : Option (A × List ℕ)) → passed r ≡ None → passed (r >>= λ x. many_at read n x.1 >>= λ xs. Some (x.0 ∷ xs.0, xs.1)) ≡ None
+passed_none : {A : Type 0} (read : List ℕ → Option (A × List ℕ)) (n : ℕ) (r : Option (A × List ℕ))
+    → passed r ≡ None → passed (r >>= λ x. many_at read n x.1 >>= λ xs. Some (x.0 ∷ xs.0, xs.1)) ≡ None
 passed_none read n None e = refl
 passed_none read n (Some x) e = absurd cc
 
-pub many_refused : {A : Type 0} (read : List ℕ → Option (A × List ℕ)) (count i : ℕ) (bytes : List ℕ) (whole : Option (Unit {0} × List ℕ)) → i < count → passed (read bytes) ≡ None → passed (many_at read (count - i) bytes) ≡ whole → whole ≡ None
+pub many_refused : {A : Type 0} (read : List ℕ → Option (A × List ℕ)) (count i : ℕ) (bytes : List ℕ) (whole : Option (Unit {0} × List ℕ))
+    → i < count → passed (read bytes) ≡ None → passed (many_at read (count - i) bytes) ≡ whole → whole ≡ None
 many_refused read count i bytes whole lt e so_far =
     let k : count - i ≡ suc (count - (i + 1)) = omega arith in
     sym so_far ∙ rw k (passed_none read (count - (i + 1)) (read bytes) e)
 
-pub many_passed : {A : Type 0} (read : List ℕ → Option (A × List ℕ)) (count i : ℕ) (bytes : List ℕ) (u : Unit {0}) (rest : List ℕ) (whole : Option (Unit {0} × List ℕ)) → i < count → passed (read bytes) ≡ Some (u, rest)
+pub many_passed : {A : Type 0} (read : List ℕ → Option (A × List ℕ)) (count i : ℕ) (bytes : List ℕ) (u : Unit {0}) (rest : List ℕ)
+    (whole : Option (Unit {0} × List ℕ)) → i < count → passed (read bytes) ≡ Some (u, rest)
     → passed (many_at read (count - i) bytes) ≡ whole → passed (many_at read (count - (i + 1)) rest) ≡ whole
 many_passed read count i bytes u rest whole lt e so_far =
     let k : count - i ≡ suc (count - (i + 1)) = omega arith in
-    let one : passed (many_at read (count - i) bytes) ≡ passed (many_at read (count - (i + 1)) rest) = rw k (passed_one read (count - (i + 1)) (read bytes) u rest e) in
+    let one : passed (many_at read (count - i) bytes) ≡ passed (many_at read (count - (i + 1)) rest) =
+    rw k (passed_one read (count - (i + 1)) (read bytes) u rest e) in
     sym one ∙ so_far
 
-pub many_over : {A : Type 0} (read : List ℕ → Option (A × List ℕ)) (count i : ℕ) (bytes : List ℕ) (whole : Option (Unit {0} × List ℕ)) → count ≤ i → passed (many_at read (count - i) bytes) ≡ whole → whole ≡ Some (tt, bytes)
+pub many_over : {A : Type 0} (read : List ℕ → Option (A × List ℕ)) (count i : ℕ) (bytes : List ℕ) (whole : Option (Unit {0} × List ℕ))
+    → count ≤ i → passed (many_at read (count - i) bytes) ≡ whole → whole ≡ Some (tt, bytes)
 many_over read count i bytes whole le so_far =
     let k : count - i ≡ 0 = omega arith in
     sym so_far ∙ rw k refl
 
 -- Unions of values that are listed.
 
-pub is_union_by : {K B : Type 0} (number_of : K → ℕ) (all : List K) (spell : B → List ℕ) (Fits : B → Type 0) (arms : K → List ℕ → Option (B × List ℕ)) → IsListing number_of all → ((k : K) → IsArm (union_by number_of all spell Fits arms) (number_of k, arms k))
-    → ((y : B) (rest : List ℕ) → Fits y → (k : K) × (left : List ℕ) × (spell y ++ rest ≡ spelling.number (number_of k) ++ left) × (arms k left ≡ Some (y, rest))) → IsCodec (union_by number_of all spell Fits arms)
+pub is_union_by : {K B : Type 0} (number_of : K → ℕ) (all : List K) (spell : B → List ℕ) (Fits : B → Type 0) (arms : K → List ℕ → Option (B × List ℕ))
+    → IsListing number_of all → ((k : K) → IsArm (union_by number_of all spell Fits arms) (number_of k, arms k))
+    → ((y : B) (rest : List ℕ) → Fits y
+    → (k : K) × (left : List ℕ) × (spell y ++ rest ≡ spelling.number (number_of k) ++ left) × (arms k left ≡ Some (y, rest)))
+    → IsCodec (union_by number_of all spell Fits arms)
 is_union_by {K} {B} number_of all spell Fits arms is good back = record {
   takes = λ bytes y rest fits e.
       let s = bind_some (number_at bytes) (λ n. listed_at number_of all n.0 >>= λ k. arms k n.1) (y, rest) e in

@@ -12,7 +12,8 @@ spell_chain spell (x ∷ xs) = spelling.flag true ++ (spell x ++ spell_chain spe
 -- at most n flags are looked at
 unfoldable pub chain_at : {A : Type 0} → (List ℕ → Option (A × List ℕ)) → ℕ → List ℕ → Option (List A × List ℕ)
 chain_at read zero bytes = None
-chain_at read (suc n) bytes = flag_at bytes >>= λ more. if more.0 then (read more.1 >>= λ x. chain_at read n x.1 >>= λ xs. Some (x.0 ∷ xs.0, xs.1)) else Some ([], more.1)
+chain_at read (suc n) bytes =
+    flag_at bytes >>= λ more. if more.0 then (read more.1 >>= λ x. chain_at read n x.1 >>= λ xs. Some (x.0 ∷ xs.0, xs.1)) else Some ([], more.1)
 
 -- there are no more flags than bytes
 abbrev pub chain : {A : Type 0} → Codec A → Codec (List A)

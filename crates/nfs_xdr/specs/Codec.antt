@@ -1,5 +1,6 @@
 -- A codec: how each value of a type is spelled, which values have a spelling, and how one is read from the front.
-use Rattle.std.specs.Prelude.{◌≡◌, ℕ, ℤ, zero, suc, ◌<◌, ◌≤◌, ◌-◌, ◌^◌, ◌==◌, List, [], ◌∷◌, ◌++◌, length, get_or, Bool, true, false, IsTrue, Option, Some, None, Result, Ok, Err, nat_lt, nat_le, map, take, drop, MatchOption, if◌then◌else◌}
+use Rattle.std.specs.Prelude.{◌≡◌, ℕ, ℤ, zero, suc, ◌<◌, ◌≤◌, ◌-◌, ◌^◌, ◌==◌, List, [], ◌∷◌, ◌++◌, length, get_or, Bool, true, false, IsTrue, Option, Some}
+use Rattle.std.specs.Prelude.{None, Result, Ok, Err, nat_lt, nat_le, map, take, drop, MatchOption, if◌then◌else◌}
 use Rattle.std.specs.Int.{w64, cast_signed, cast_unsigned}
 use Rattle.std.specs.Int.RustNames.{FitsSigned}
 use Rattle.std.specs.List.{flat_map, AllByRecursion}
@@ -40,7 +41,11 @@ hyper = record { spell = spelling.hyper; Fits = λ n. n < 2 ^ 64; read = hyper_a
 
 -- a hyper that is two's complement of 64 bits (RFC 4506 section 4.5)
 abbrev pub signed : Codec ℤ
-signed = record { spell = λ z. spelling.hyper (cast_unsigned w64 z); Fits = FitsSigned w64; read = λ bytes. hyper_at bytes >>= λ n. Some (cast_signed w64 n.0, n.1) }
+signed = record {
+  spell = λ z. spelling.hyper (cast_unsigned w64 z);
+  Fits = FitsSigned w64;
+  read = λ bytes. hyper_at bytes >>= λ n. Some (cast_signed w64 n.0, n.1);
+}
 
 abbrev pub flag : Codec Bool
 flag = record { spell = spelling.flag; Fits = λ _. Unit {0}; read = flag_at }
@@ -199,7 +204,11 @@ union_or spell Fits arms other = record { spell = spell; Fits = Fits; read = λ 
 
 -- the number of a value that is listed, and the arm of that value
 abbrev pub union_by : {K B : Type 0} → (K → ℕ) → List K → (B → List ℕ) → (B → Type 0) → (K → List ℕ → Option (B × List ℕ)) → Codec B
-union_by number_of all spell Fits arms = record { spell = spell; Fits = Fits; read = λ bytes. number_at bytes >>= λ n. listed_at number_of all n.0 >>= λ k. arms k n.1 }
+union_by number_of all spell Fits arms = record {
+  spell = spell;
+  Fits = Fits;
+  read = λ bytes. number_at bytes >>= λ n. listed_at number_of all n.0 >>= λ k. arms k n.1;
+}
 
 -- an arm with arguments, and one with none
 abbrev pub arm : {A B : Type 0} → (A → B) → Codec A → List ℕ → Option (B × List ℕ)

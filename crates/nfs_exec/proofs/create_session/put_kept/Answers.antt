@@ -5,4 +5,5 @@ use Rattle.nfs_exec.specs.View.{Does}
 use Rattle.nfs_exec.proofs.create_session.put_kept.Goals as goal
 
 pub returns-in-Refused : goal.returns-in-Refused
-returns-in-Refused c = λ m. subst (λ (kept : CreateResult). Does (kept_again m kept) c.put_refusal.result m c.args.out.now c.put_refusal.new.out) (sym c.in-Refused.is) (c.put_refusal.ensures m)
+returns-in-Refused c = λ m. subst (λ (kept : CreateResult). Does (kept_again m kept) c.put_refusal.result m c.args.out.now c.put_refusal.new.out)
+    (sym c.in-Refused.is) (c.put_refusal.ensures m)

@@ -43,7 +43,8 @@ read-requires c =
     let same : part s.tree d.number r.offset c.given-count.result ≡ bytes_of s r d = ap (part s.tree d.number r.offset) c.given-count.ensures.value in
     record {
       room = subst (λ (text : List ℕ). HasRoom c.put_flag.new.self (opaque text)) (sym same)
-          (room_then c.args.out.now _ (front ++ flag eof) (opaque (bytes_of s r d)) (16 + (given r.count + padding (given r.count))) (puts_then c.write_done_head.ensures c.put_flag.ensures)
+          (room_then c.args.out.now _ (front ++ flag eof) (opaque (bytes_of s r d))
+          (16 + (given r.count + padding (given r.count))) (puts_then c.write_done_head.ensures c.put_flag.ensures)
           (omega (arith, fits, length-append front (flag eof), length_head (op_number Op.Read) Nfs4Ok)) c.requires.room);
     }
 
@@ -55,7 +56,8 @@ returns c =
     let d = c.args.held.now in
     let eof = c.reaches_end.result in
     let front = head (op_number Op.Read) Nfs4Ok in
-    let ends : eof ≡ (was_read s r d).eof = eof_is s r d c.given-count.result eof c.kept.ensures c.requires.there c.given-count.ensures.value c.reaches_end.ensures in
+    let ends : eof ≡ (was_read s r d).eof =
+    eof_is s r d c.given-count.result eof c.kept.ensures c.requires.there c.given-count.ensures.value c.reaches_end.ensures in
     let same : part s.tree d.number r.offset c.given-count.result ≡ bytes_of s r d = ap (part s.tree d.number r.offset) c.given-count.ensures.value in
     let put : Puts c.args.out.now c.read.new.out (front ++ (flag eof ++ opaque (part s.tree d.number r.offset c.given-count.result))) =
     puts_then c.write_done_head.ensures (puts_then c.put_flag.ensures c.read.ensures) in

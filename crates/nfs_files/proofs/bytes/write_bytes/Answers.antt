@@ -30,7 +30,8 @@ returns-in-Ok-write c =
     let d = c.in-Ok.held in
     let left = c.write.new.self in
     let v : writable s x w.stateid (current s x) ≡ Ok d = sym c.judge_write.ensures ∙ c.in-Ok.is in
-    let did = done_by_tree t (has_bytes w.bytes) (write_fault t d.number w.offset w.bytes) tt c.in-Ok-write.field-0 (with_bytes t w d now) left c.in-Ok-write.ensures in
+    let did = done_by_tree t (has_bytes w.bytes) (write_fault t d.number w.offset w.bytes) tt c.in-Ok-write.field-0
+    (with_bytes t w d now) left c.in-Ok-write.ensures in
     let outcome : WriteOk → Files → Outcome = λ k t. record { result = ResWrite k; state = with_tree s t; context = x } in
     ap (λ k. outcome k left) c.write_ok.ensures ∙ ap (outcome (write_ok s w)) did.2
     ∙ sym (was_done (has_bytes w.bytes) s x Op.Write (write s x now w) ∙ write_goes s x now w d v did.0)
@@ -62,4 +63,5 @@ returns-in-Err c =
     let g = has_bytes w.bytes in
     let status = c.in-Err.status in
     told_refusal_by g s s.tree x Op.Write (write s x c.args.now w) _ status c.refuse-in-Err.ensures refl
-    (error_outcome (g && is_delay status) s x Op.Write v (last_checks s w) (was_written s x c.args.now w) status (writable_refuses s x w.stateid (current s x) (current_refuses s x)) (sym c.judge_write.ensures ∙ c.in-Err.is))
+    (error_outcome (g && is_delay status) s x Op.Write v (last_checks s w) (was_written s x c.args.now w) status
+    (writable_refuses s x w.stateid (current s x) (current_refuses s x)) (sym c.judge_write.ensures ∙ c.in-Err.is))

@@ -11,4 +11,5 @@ returns-in-Err c =
     let x = c.args.context.now in
     let t = c.args.target in
     let did = opens.close s.opens t.id x.client t.file in
-    by_refusal s x Op.Close did (λ u. closed s x t.file did.after) c.in-Err.status _ _ (close_stays s.opens t.id x.client t.file) c.in-Err.ensures.answer c.in-Err.ensures.after c.refuse.ensures
+    by_refusal s x Op.Close did (λ u. closed s x t.file did.after) c.in-Err.status _ _
+    (close_stays s.opens t.id x.client t.file) c.in-Err.ensures.answer c.in-Err.ensures.after c.refuse.ensures

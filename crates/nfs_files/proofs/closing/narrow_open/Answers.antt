@@ -17,7 +17,9 @@ returns-in-Err c =
     let access = c.bits-access.result in
     let deny = c.bits-deny.result in
     let did = λ (access deny : Share). opens.downgrade s.opens t.id x.client t.file access deny in
-    let by_shares : Share → Share → Outcome = λ access deny. answers s x Op.OpenDowngrade (did access deny).answer (λ id. narrowed s x id (did access deny).after) in
-    by_refusal s x Op.OpenDowngrade (did access deny) (λ id. narrowed s x id (did access deny).after) c.in-Err.status _ _ (downgrade_stays s.opens t.id x.client t.file access deny) c.in-Err.ensures.answer c.in-Err.ensures.after
+    let by_shares : Share → Share → Outcome =
+    λ access deny. answers s x Op.OpenDowngrade (did access deny).answer (λ id. narrowed s x id (did access deny).after) in
+    by_refusal s x Op.OpenDowngrade (did access deny) (λ id. narrowed s x id (did access deny).after) c.in-Err.status _ _
+    (downgrade_stays s.opens t.id x.client t.file access deny) c.in-Err.ensures.answer c.in-Err.ensures.after
     c.refuse.ensures
     ∙ ap (λ v. by_shares v deny) c.bits-access.ensures ∙ ap (by_shares (bits a.share_access)) c.bits-deny.ensures

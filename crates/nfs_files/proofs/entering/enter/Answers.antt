@@ -26,10 +26,14 @@ returns-in_err-created-in-Absent c =
     let name = c.name_of-name.result.now in
     let new = tree_create.new_of c.new_file-new.result in
     let sets = c.sets_of-sets.result in
-    let did = refused_tree t true (create_fault t d name new) (record { number = t.last_object + 1; directory = raised t d }) (with_new t d name new sets now) left f
+    let did = refused_tree t true (create_fault t d name new)
+    (record { number = t.last_object + 1; directory = raised t d }) (with_new t d name new sets now) left f
     (subst (λ k. DoesOrWants t true (tree_create.create t d name new sets now) k left) c.in_err-created-in-Absent.was c.create.ensures) in
-    let same : create_fault t d name new ≡ tree_fault t o (Absent m) = ap (λ name. create_fault t d name new) c.name_of-name.ensures ∙ ap (create_fault t d (name_of o.claim)) c.new_file-new.ensures in
+    let same : create_fault t d name new ≡ tree_fault t o (Absent m) =
+    ap (λ name. create_fault t d name new) c.name_of-name.ensures ∙ ap (create_fault t d (name_of o.claim)) c.new_file-new.ensures in
     let why : Wants true f (tree_fault t o (Absent m)) ⊎ Other f (tree_fault t o (Absent m)) = subst (λ k. Wants true f k ⊎ Other f k) same did.1 in
-    subst (λ (k : Found). DoesOrWants t true (does_unless t (tree_fault t o k) (file_of t k) (tree_of t x now o k)) c.from_residual-in_err-created-in-Absent.result left) (sym c.in-Absent.is)
-    (subst (λ k. DoesOrWants t true (does_unless t (tree_fault t o (Absent m)) (file_of t (Absent m)) (tree_of t x now o (Absent m))) k left) (sym (r.1 ∙ ap Err r.2))
+    subst (λ (k : Found). DoesOrWants t true
+    (does_unless t (tree_fault t o k) (file_of t k) (tree_of t x now o k)) c.from_residual-in_err-created-in-Absent.result left) (sym c.in-Absent.is)
+    (subst (λ k. DoesOrWants t true (does_unless t (tree_fault t o (Absent m)) (file_of t (Absent m)) (tree_of t x now o (Absent m))) k left)
+    (sym (r.1 ∙ ap Err r.2))
     (refused_again t (tree_fault t o (Absent m)) (file_of t (Absent m)) (tree_of t x now o (Absent m)) left f did.0 why))

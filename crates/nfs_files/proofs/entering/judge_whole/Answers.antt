@@ -10,4 +10,5 @@ returns-in-Err c =
     let s = state_of c.args.store.now in
     let x = c.args.context.now in
     let o = view_open c.args.asked.now in
-    sym (stopped (asked_for s x o) (last_checks s x o) c.in_ok-found.found c.in-Err.status (sym c.judge.ensures ∙ c.in_ok-found.was) (judged_err _ _ (sym c.judge_last.ensures ∙ c.in-Err.is)))
+    sym (stopped (asked_for s x o) (last_checks s x o) c.in_ok-found.found c.in-Err.status
+    (sym c.judge.ensures ∙ c.in_ok-found.was) (judged_err _ _ (sym c.judge_last.ensures ∙ c.in-Err.is)))

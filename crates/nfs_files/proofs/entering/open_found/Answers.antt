@@ -42,7 +42,8 @@ open-requires-clause-judged c =
     let o = view_open c.args.asked.now in
     let found = c.args.found.now in
     let granted = checked_ok (asked_for s x o) (last_checks s x o) found c.requires.granted in
-    let did = done_by_tree t true (tree_fault t o found) (file_of t found) c.in-Ok-enter.file (tree_of t x c.args.now o found) c.enter.new.tree c.in-Ok-enter.ensures in
+    let did = done_by_tree t true (tree_fault t o found) (file_of t found) c.in-Ok-enter.file
+    (tree_of t x c.args.now o found) c.enter.new.tree c.in-Ok-enter.ensures in
     ap (λ (k : Kept). open_fault (table k) (of_opens.asked c.ask_for.result)) c.in-Ok.ensures.ok
     ∙ ap (open_fault s.opens) (c.ask_for.ensures ∙ ap (asking x o) did.1)
     ∙ opened_fault s x o found c.kept.ensures c.requires.store ∙ shared_free s x o found granted.1

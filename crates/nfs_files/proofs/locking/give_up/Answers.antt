@@ -19,6 +19,7 @@ returns-in-Err c =
     let whole = is_whole w.first w.last in
     let did = unlock s.opens k.id w.client w.file w.first w.last in
     let is = c.refuse.ensures ∙ ap (Refused 14) c.status_of.ensures in
-    refused_outcome s x Op.LockU (not whole) did (unlocked s x) c.in-Err.fault _ _ (unlock_stays s.opens k.id w.client w.file w.first w.last) (ok_unlocked s x) (λ t. refl) is
+    refused_outcome s x Op.LockU (not whole) did (unlocked s x) c.in-Err.fault _ _
+    (unlock_stays s.opens k.id w.client w.file w.first w.last) (ok_unlocked s x) (λ t. refl) is
     (unlock_tells s.opens whole did _ c.in-Err.fault c.in-Err.ensures.unlocks)
     ∙ sym (ap (λ (r : Res). or_delay (not whole && is_delay (status_of_result r)) s x Op.LockU (unlocks s x k)) is)

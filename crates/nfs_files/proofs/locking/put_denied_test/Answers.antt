@@ -10,4 +10,5 @@ write-requires-clause-bounds c = few_told (table c.args.opens.now) c.args.held.n
 
 pub write-requires-clause-room : goal.write-requires-clause-room
 write-requires-clause-room c arrays =
-    room_for (ResLockTDenied (denied c.denied.result)) c.args.out.now 1064 arrays (few_told (table c.args.opens.now) c.args.held.now (denied c.denied.result) c.denied.ensures) refl c.requires
+    room_for (ResLockTDenied (denied c.denied.result)) c.args.out.now 1064 arrays
+    (few_told (table c.args.opens.now) c.args.held.now (denied c.denied.result) c.denied.ensures) refl c.requires

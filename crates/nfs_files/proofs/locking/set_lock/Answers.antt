@@ -13,7 +13,8 @@ returns-in-Err-Denied c =
     let s = state_of c.args.store.now in
     let who = view_locker c.args.locker.now in
     let k = c.args.wished.now in
-    denied_comes s c.args.context.now (locks_as s.opens who k.id k.wish) c.in-Err-Denied.held _ _ _ (table c.lock_bytes.new.opens) (lock_stays s.opens who k.id k.wish)
+    denied_comes s c.args.context.now (locks_as s.opens who k.id k.wish) c.in-Err-Denied.held _ _ _
+    (table c.lock_bytes.new.opens) (lock_stays s.opens who k.id k.wish)
     c.lock_bytes.result (c.in-Err-Denied.is ∙ ap Err c.in-Err-Denied.field-0-is) c.lock_bytes.ensures c.put_denied.ensures.put c.put_denied.ensures.status
 
 pub returns-in-Err-Refused : goal.returns-in-Err-Refused
@@ -21,5 +22,6 @@ returns-in-Err-Refused c =
     let s = state_of c.args.store.now in
     let who = view_locker c.args.locker.now in
     let k = c.args.wished.now in
-    refused_comes s c.args.context.now (locks_as s.opens who k.id k.wish) c.in-Err-Refused.status _ _ _ (table c.lock_bytes.new.opens) (lock_stays s.opens who k.id k.wish)
+    refused_comes s c.args.context.now (locks_as s.opens who k.id k.wish) c.in-Err-Refused.status _ _ _
+    (table c.lock_bytes.new.opens) (lock_stays s.opens who k.id k.wish)
     c.lock_bytes.result (c.in-Err-Refused.is ∙ ap Err c.in-Err-Refused.field-0-is) c.lock_bytes.ensures c.put_refusal.ensures.put c.put_refusal.ensures.status

@@ -19,8 +19,10 @@ returns-in_err-may_make c =
     let m = c.args.making in
     let f = c.in_err-may_make.field-0.0 in
     let r = err_from_is_err_and c.from_residual.result c.from_residual.ensures.1 in
-    let barred : first_fault (make_checks m.wanted x.who) ≡ Some f = judged_err _ _ (ap (λ who. judged (first_fault (make_checks m.wanted who))) (sym c.who.ensures) ∙ sym c.may_make.ensures ∙ c.in_err-may_make.was) in
+    let barred : first_fault (make_checks m.wanted x.who) ≡ Some f =
+    judged_err _ _ (ap (λ who. judged (first_fault (make_checks m.wanted who))) (sym c.who.ensures) ∙ sym c.may_make.ensures ∙ c.in_err-may_make.was) in
     let made : not (creates o.openhow) ≡ false = grind arith in
     let permitted : not (permits x m.place write) ≡ false = grind arith in
-    let all : first_fault (absent_checks x o m) ≡ Some f = rw (made, permitted) (append_fault (make_checks m.wanted x.who) ((is_too_big m.wanted.size, FBig) ∷ []) f barred) in
+    let all : first_fault (absent_checks x o m) ≡ Some f =
+    rw (made, permitted) (append_fault (make_checks m.wanted x.who) ((is_too_big m.wanted.size, FBig) ∷ []) f barred) in
     r.1 ∙ ap Err r.2 ∙ sym (stopped (Ok m) (absent_checks x o) m f refl all)

@@ -22,25 +22,32 @@ use Rattle.nfs_files.proofs.Whole.{keeps, store_left}
 use Rattle.nfs_files.proofs.operation.file_op.Goals as goal
 
 pub plain_op-res-requires : goal.plain_op-res-requires
-plain_op-res-requires c = record { plain = plain c.args.arg.now c.in_default.not-Lock c.in_default.not-LockT c.in_default.not-Read c.in_default.not-TestStateid c.requires.offered; store = c.requires.store }
+plain_op-res-requires c = record {
+  plain = plain c.args.arg.now c.in_default.not-Lock c.in_default.not-LockT c.in_default.not-Read c.in_default.not-TestStateid c.requires.offered;
+  store = c.requires.store;
+}
 
 pub write-requires : goal.write-requires
 write-requires c =
     let i = item c.args.arg.now in
     let r = view.res c.plain_op-res.result in
-    let kept = keeps (is_delay (status_of_result r)) (state_of c.args.store.now) c.args.context.now c.moment.result i (plain c.args.arg.now c.in_default.not-Lock c.in_default.not-LockT c.in_default.not-Read c.in_default.not-TestStateid c.requires.offered) c.kept.ensures c.kept-2.ensures c.requires.store in
+    let kept = keeps (is_delay (status_of_result r)) (state_of c.args.store.now) c.args.context.now c.moment.result i
+    (plain c.args.arg.now c.in_default.not-Lock c.in_default.not-LockT c.in_default.not-Read c.in_default.not-TestStateid c.requires.offered)
+    c.kept.ensures c.kept-2.ensures c.requires.store in
     let is : IsAnswer i r = subst (λ (o : Outcome). IsAnswer i o.result) (sym c.plain_op-res.ensures) kept.may in
     record { bounds = bounded_may i r is; room = λ arrays. room_may i r c.args.out.now is c.requires.room }
 
 pub returns-in-Lock-clause-store : goal.returns-in-Lock-clause-store
 returns-in-Lock-clause-store c =
-    subst IsStore (sym c.lock.ensures.state) (store_left (is_delay c.lock.result) (state_of c.args.store.now) c.args.context.now (moment c.args.now) (OpLock (view_lock c.in-Lock.asked)) c.kept.ensures c.kept-2.ensures c.requires.store)
+    subst IsStore (sym c.lock.ensures.state) (store_left (is_delay c.lock.result) (state_of c.args.store.now) c.args.context.now
+    (moment c.args.now) (OpLock (view_lock c.in-Lock.asked)) c.kept.ensures c.kept-2.ensures c.requires.store)
 
 pub returns-in-Lock-clause-within : goal.returns-in-Lock-clause-within
 returns-in-Lock-clause-within c =
     let a = view_lock c.in-Lock.asked in
     subst (λ (i : Item). length c.lock.new.out.bytes ≤ length c.args.out.now.bytes + largest i) (sym (ap item c.in-Lock.is))
-    (short_within (OpLock a) _ c.args.out.now c.lock.new.out (short_lock (is_delay c.lock.result) (state_of c.args.store.now) c.args.context.now a) c.lock.ensures.put)
+    (short_within (OpLock a) _ c.args.out.now c.lock.new.out
+    (short_lock (is_delay c.lock.result) (state_of c.args.store.now) c.args.context.now a) c.lock.ensures.put)
 
 pub returns-in-LockT-clause-within : goal.returns-in-LockT-clause-within
 returns-in-LockT-clause-within c =
@@ -52,7 +59,8 @@ pub returns-in-TestStateid-clause-within : goal.returns-in-TestStateid-clause-wi
 returns-in-TestStateid-clause-within c =
     let given = view_stateids c.in-TestStateid.stateids in
     subst (λ (i : Item). length c.test_stateid.new.out.bytes ≤ length c.args.out.now.bytes + largest i) (sym (ap item c.in-TestStateid.is))
-    (short_within (OpTestStateid given) _ c.args.out.now c.test_stateid.new.out (short_test (state_of c.args.store.now) c.args.context.now given) c.test_stateid.ensures.put)
+    (short_within (OpTestStateid given) _ c.args.out.now c.test_stateid.new.out
+    (short_test (state_of c.args.store.now) c.args.context.now given) c.test_stateid.ensures.put)
 
 pub returns-in-Read-clause-within : goal.returns-in-Read-clause-within
 returns-in-Read-clause-within c =
@@ -67,14 +75,17 @@ returns-in_default c =
     let x = c.args.context.now in
     let r = view.res c.plain_op-res.result in
     let now = c.moment.result in
-    let kept = keeps (is_delay (status_of_result r)) s x now i (plain c.args.arg.now c.in_default.not-Lock c.in_default.not-LockT c.in_default.not-Read c.in_default.not-TestStateid c.requires.offered) c.kept.ensures c.kept-2.ensures c.requires.store in
+    let kept = keeps (is_delay (status_of_result r)) s x now i
+    (plain c.args.arg.now c.in_default.not-Lock c.in_default.not-LockT c.in_default.not-Read c.in_default.not-TestStateid c.requires.offered)
+    c.kept.ensures c.kept-2.ensures c.requires.store in
     let is : IsAnswer i r = subst (λ (o : Outcome). IsAnswer i o.result) (sym c.plain_op-res.ensures) kept.may in
     let left : Outcome = outcome_of c.plain_op-res.result (state_of c.plain_op-res.new.store) c.plain_op-res.new.context in
     let same : left ≡ comes_to (is_delay c.status.result) s x (moment c.args.now) i =
     c.plain_op-res.ensures ∙ ap (λ (t : Time). comes_to (is_delay (status_of_result r)) s x t i) c.moment.ensures
     ∙ ap (λ (st : Status). comes_to (is_delay st) s x (moment c.args.now) i) (sym c.status.ensures) in
     record {
-      comes = subst (λ (o : Outcome). Comes o c.args.out.now c.write.new.out c.status.result (state_of c.plain_op-res.new.store) c.plain_op-res.new.context) same
+      comes = subst
+          (λ (o : Outcome). Comes o c.args.out.now c.write.new.out c.status.result (state_of c.plain_op-res.new.store) c.plain_op-res.new.context) same
           (record { put = c.write.ensures; status = c.status.ensures; state = refl; context = refl });
       store = subst (λ (o : Outcome). IsStore o.state) (sym c.plain_op-res.ensures) kept.store;
       within = within i r c.args.out.now c.write.new.out is c.write.ensures;

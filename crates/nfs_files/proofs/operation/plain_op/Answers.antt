@@ -18,4 +18,5 @@ returns-in_default c =
     let x = c.args.context.now in
     let outcome : Res → Outcome = λ r. record { result = r; state = s; context = x } in
     ap outcome (c.refusal.ensures ∙ ap (λ n. refusal n NotSupp) c.number.ensures)
-    ∙ sym (unbuilt c.args.arg.now _ s x c.args.now n.not-Close n.not-Commit n.not-FreeStateid n.not-LockU n.not-Open n.not-OpenDowngrade n.not-SetAttr n.not-Write c.requires.plain)
+    ∙ sym (unbuilt c.args.arg.now _ s x c.args.now n.not-Close n.not-Commit n.not-FreeStateid
+    n.not-LockU n.not-Open n.not-OpenDowngrade n.not-SetAttr n.not-Write c.requires.plain)

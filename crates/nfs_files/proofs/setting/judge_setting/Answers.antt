@@ -24,8 +24,10 @@ returns-in_err-may_set c =
     let f = c.in_err-may_set.field-0.0 in
     let r = err_from_is_err_and c.from_residual-in_err-may_set.result c.from_residual-in_err-may_set.ensures.1 in
     let v = with_wanted (current s x) (wanted_of a.obj_attributes) in
-    let is : v ≡ Ok m = ap (λ v. with_wanted v (wanted_of a.obj_attributes)) (sym c.current.ensures ∙ c.in_ok-held.was) ∙ ap (setting d) (sym c.wanted_of.ensures ∙ c.in-Ok.is) in
-    let barred : first_fault (owner_checks x m) ≡ Some f = judged_err _ _ (sym (c.may_set.ensures ∙ ap (may_set d.object w) c.who.ensures) ∙ c.in_err-may_set.was) in
+    let is : v ≡ Ok m = ap (λ v. with_wanted v (wanted_of a.obj_attributes)) (sym c.current.ensures ∙ c.in_ok-held.was)
+    ∙ ap (setting d) (sym c.wanted_of.ensures ∙ c.in-Ok.is) in
+    let barred : first_fault (owner_checks x m) ≡ Some f =
+    judged_err _ _ (sym (c.may_set.ensures ∙ ap (may_set d.object w) c.who.ensures) ∙ c.in_err-may_set.was) in
     r.1 ∙ ap Err r.2 ∙ sym (stopped v (owner_checks x) m f is barred)
 
 pub returns : goal.returns
@@ -37,6 +39,7 @@ returns c =
     let w = c.in-Ok.wanted in
     let m : Setting = record { held = d; wanted = w } in
     let v = with_wanted (current s x) (wanted_of a.obj_attributes) in
-    let is : v ≡ Ok m = ap (λ v. with_wanted v (wanted_of a.obj_attributes)) (sym c.current.ensures ∙ c.in_ok-held.was) ∙ ap (setting d) (sym c.wanted_of.ensures ∙ c.in-Ok.is) in
+    let is : v ≡ Ok m = ap (λ v. with_wanted v (wanted_of a.obj_attributes)) (sym c.current.ensures ∙ c.in_ok-held.was)
+    ∙ ap (setting d) (sym c.wanted_of.ensures ∙ c.in-Ok.is) in
     let free : first_fault (owner_checks x m) ≡ None = judged_ok _ _ (sym (c.may_set.ensures ∙ ap (may_set d.object w) c.who.ensures) ∙ c.in_ok-may_set.was) in
     sym (ap (λ v. checked v (owner_checks x)) is ∙ ap (passed m) free)

@@ -30,7 +30,8 @@ returns-in-Ok-change c =
     let n = m.held.number in
     let left = c.change.new.tree in
     let v : asked_for s x a ≡ Ok m = sym c.judge.ensures ∙ c.in-Ok.is in
-    let did = done_by_tree t (is_some m.wanted.size) (tree_fault t n m.wanted m.wanted.size) tt c.in-Ok-change.field-0 (with_set t n now m.wanted m.wanted.size) left c.in-Ok-change.ensures in
+    let did = done_by_tree t (is_some m.wanted.size) (tree_fault t n m.wanted m.wanted.size) tt c.in-Ok-change.field-0
+    (with_set t n now m.wanted m.wanted.size) left c.in-Ok-change.ensures in
     let outcome : List ℕ → Files → Outcome = λ set t. record { result = ResSetAttr Nfs4Ok set; state = with_tree s t; context = x } in
     ap (λ set. outcome set left) (c.attr_set.ensures ∙ ap told c.new-given.ensures) ∙ ap (outcome (told (mask_of a.obj_attributes.attrmask))) did.2
     ∙ sym (was_done (gives_size (wanted_of a.obj_attributes)) s x Op.SetAttr (set_attr s x now a) ∙ set_goes s x now a m v did.0)
@@ -53,7 +54,8 @@ returns-in-Err-change c =
     let same : g ≡ is_some m.wanted.size = ap gives_size (asked_wanted s x a m v) in
     told_refusal_by g s left x Op.SetAttr (set_attr s x now a) _ (status_of f) (c.refuse.ensures ∙ ap (refusal 34) c.status_of.ensures) did.0
     (subst (λ b. refuses s x Op.SetAttr (status_of f) ≡ or_delay (b && is_delay (status_of f)) s x Op.SetAttr (set_attr s x now a)) (sym same)
-    (refused_growing (is_some m.wanted.size) s x Op.SetAttr (set_attr s x now a) (was_set s x now a m) fault f (set_goes s x now a m v) (set_stops s x now a m f v) refl did.1))
+    (refused_growing (is_some m.wanted.size) s x Op.SetAttr (set_attr s x now a)
+    (was_set s x now a m) fault f (set_goes s x now a m v) (set_stops s x now a m f v) refl did.1))
 
 pub returns-in-Err : goal.returns-in-Err
 unfolding set_attr
@@ -64,4 +66,5 @@ returns-in-Err c =
     let g = gives_size (wanted_of a.obj_attributes) in
     let status = c.in-Err.status in
     told_refusal_by g s s.tree x Op.SetAttr (set_attr s x c.args.now a) _ status c.refuse-in-Err.ensures refl
-    (error_outcome (g && is_delay status) s x Op.SetAttr (asked_for s x a) (last_checks s) (was_set s x c.args.now a) status (asked_refuses s x a) (sym c.judge.ensures ∙ c.in-Err.is))
+    (error_outcome (g && is_delay status) s x Op.SetAttr (asked_for s x a) (last_checks s)
+    (was_set s x c.args.now a) status (asked_refuses s x a) (sym c.judge.ensures ∙ c.in-Err.is))

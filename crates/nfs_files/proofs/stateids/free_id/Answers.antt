@@ -12,4 +12,5 @@ returns-in-Err c =
     let s = state_of c.args.store.now in
     let x = c.args.context.now in
     let did = opens.free s.opens c.args.id x.client in
-    by_refusal s x Op.FreeStateid did (λ u. done (with_opens s did.after) x ResFreeStateid) c.in-Err.status _ _ (free_stays s.opens c.args.id x.client) c.in-Err.ensures.answer c.in-Err.ensures.after c.refuse.ensures
+    by_refusal s x Op.FreeStateid did (λ u. done (with_opens s did.after) x ResFreeStateid) c.in-Err.status _ _
+    (free_stays s.opens c.args.id x.client) c.in-Err.ensures.answer c.in-Err.ensures.after c.refuse.ensures

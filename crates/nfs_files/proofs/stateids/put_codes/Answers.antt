@@ -8,10 +8,14 @@ put_u32-requires c =
     let before = c.loop-place-test.true in
     let end = c.loop-place.auto.place-end in
     let count = c.len-place-end.ensures in
-    record { room = room_for_code (state_of c.args.store.now) c.args.context.now c.args.out.now c.loop-place.out c.args.given.now.spelled.now c.loop-place.place c.code.result (omega arith) c.requires c.loop-place.invariant }
+    record {
+      room = room_for_code (state_of c.args.store.now) c.args.context.now c.args.out.now c.loop-place.out
+          c.args.given.now.spelled.now c.loop-place.place c.code.result (omega arith) c.requires c.loop-place.invariant;
+    }
 
 pub returns : goal.returns
 returns c =
     let behind = c.loop-place-test.false in
     let count = c.len-place-end.ensures in
-    all_codes (state_of c.args.store.now) c.args.context.now c.args.out.now c.loop-place.out c.args.given.now.spelled.now c.loop-place.place (omega arith) c.loop-place.invariant
+    all_codes (state_of c.args.store.now) c.args.context.now c.args.out.now c.loop-place.out c.args.given.now.spelled.now c.loop-place.place
+    (omega arith) c.loop-place.invariant

@@ -7,4 +7,5 @@ loop-client-init g c = latest_none 90 0 _ c.in_ok-leases.ensures
 
 pub loop-client-preserved : goal.loop-client-preserved
 loop-client-preserved g c =
-    latest_later _ c.loop-client.client (c.loop-client.client + 1) (omega arith) (latest_lease _ _ c.loop-client.client c.loop-client.client c.in_ok-add.ensures.ok c.loop-client.invariant)
+    latest_later _ c.loop-client.client (c.loop-client.client + 1) (omega arith)
+    (latest_lease _ _ c.loop-client.client c.loop-client.client c.in_ok-add.ensures.ok c.loop-client.invariant)

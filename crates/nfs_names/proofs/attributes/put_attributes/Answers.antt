@@ -28,7 +28,10 @@ write_attrs-requires c =
     let within : 8 + length (spell_attrs asked a o) ≤ 640 =
     subst (λ (text : List ℕ). 8 + length text ≤ 640) (sym (attributes_spelled asked a o))
     (behind_within 0 (ResGetAttr (record { attrmask = _; attr_vals = _ })) tt (told_few asked table.readable, omega arith)) in
-    record { room = room_then c.args.out.now _ (head (op_number Op.GetAttr) Nfs4Ok) (spell_attrs asked a o) 640 c.write_done_head.ensures (omega (arith, length_head (op_number Op.GetAttr) Nfs4Ok)) c.requires }
+    record {
+      room = room_then c.args.out.now _ (head (op_number Op.GetAttr) Nfs4Ok)
+          (spell_attrs asked a o) 640 c.write_done_head.ensures (omega (arith, length_head (op_number Op.GetAttr) Nfs4Ok)) c.requires;
+    }
 
 pub returns : goal.returns
 returns c =
@@ -37,4 +40,5 @@ returns c =
     let d = c.args.held.now in
     let same : spell_attrs asked c.about.result d.object ≡ fattr.spell (attributes_of s asked d) =
     ap (λ a. spell_attrs asked a d.object) c.about.ensures ∙ attributes_spelled asked (about s d) d.object in
-    subst (λ (text : List ℕ). Puts c.args.out.now c.write_attrs.new.sheet (head (op_number Op.GetAttr) Nfs4Ok ++ text)) same (puts_then c.write_done_head.ensures c.write_attrs.ensures)
+    subst (λ (text : List ℕ). Puts c.args.out.now c.write_attrs.new.sheet (head (op_number Op.GetAttr) Nfs4Ok ++ text)) same
+    (puts_then c.write_done_head.ensures c.write_attrs.ensures)

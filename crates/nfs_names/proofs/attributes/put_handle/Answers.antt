@@ -21,4 +21,5 @@ put_opaque-requires-clause-room c =
     let few : length bytes ≤ 16 = omega (arith, length_handle c.args.handle.now) in
     let within : 8 + length (opaque bytes) ≤ 28 = behind_within 0 (ResGetFh bytes) tt few in
     subst (λ (text : List ℕ). HasRoom c.write_done_head.new.out (opaque text)) (sym c.bytes.ensures)
-    (room_then c.args.out.now _ (head (op_number Op.GetFh) Nfs4Ok) (opaque bytes) 28 c.write_done_head.ensures (omega (arith, length_head (op_number Op.GetFh) Nfs4Ok)) c.requires)
+    (room_then c.args.out.now _ (head (op_number Op.GetFh) Nfs4Ok) (opaque bytes) 28 c.write_done_head.ensures
+    (omega (arith, length_head (op_number Op.GetFh) Nfs4Ok)) c.requires)

@@ -12,7 +12,8 @@ use Rattle.nfs_names.proofs.listing.put_entry.Goals as goal
 pub returns-then-entry_len-room : goal.returns-then-entry_len-room
 returns-then-entry_len-room c =
     let e = listed_of c.args.entry.now in
-    let size = entry_length (state_of c.args.store.now) c.args.asked e c.in-Some.object.now c.about-about.result c.entry_len.result c.in-Some.ensures c.about-about.ensures c.entry_len.ensures in
+    let size = entry_length (state_of c.args.store.now) c.args.asked e c.in-Some.object.now
+    c.about-about.result c.entry_len.result c.in-Some.ensures c.about-about.ensures c.entry_len.ensures in
     (omega (arith, size), refl)
 
 pub write_entry-requires : goal.write_entry-requires
@@ -29,7 +30,10 @@ write_attrs-requires c =
     let head = length_entry_head e.cookie e.name in
     let first = length_entry_head 0 e.name in
     let whole = c.entry_len.ensures in
-    record { room = room_then c.args.out.now c.write_entry.new.out (entry_head e.cookie e.name) (spell_attrs c.args.asked c.about-about.result c.in-Some.object.now) c.args.room c.write_entry.ensures (omega arith) c.requires.room }
+    record {
+      room = room_then c.args.out.now c.write_entry.new.out (entry_head e.cookie e.name)
+          (spell_attrs c.args.asked c.about-about.result c.in-Some.object.now) c.args.room c.write_entry.ensures (omega arith) c.requires.room;
+    }
 
 pub returns : goal.returns
 returns c =
@@ -37,5 +41,8 @@ returns c =
     let e = listed_of c.args.entry.now in
     let o = c.in-Some.object.now in
     let a = c.about-about.result in
-    let size = entry_length s c.args.asked e o a c.entry_len.result c.in-Some.ensures c.about-about.ensures c.entry_len.ensures in
-    (omega (arith, size), subst (λ (text : List ℕ). Puts c.args.out.now c.write_attrs.new.sheet text) (sym (entry_parts s c.args.asked e o a c.in-Some.ensures c.about-about.ensures)) (puts_then c.write_entry.ensures c.write_attrs.ensures))
+    let size = entry_length s c.args.asked e o a c.entry_len.result c.in-Some.ensures c.about-about.ensures c.entry_len.ensures in (
+      omega (arith, size),
+      subst (λ (text : List ℕ). Puts c.args.out.now c.write_attrs.new.sheet text)
+          (sym (entry_parts s c.args.asked e o a c.in-Some.ensures c.about-about.ensures)) (puts_then c.write_entry.ensures c.write_attrs.ensures),
+    )

@@ -17,4 +17,7 @@ pub read-requires : goal.read-requires
 read-requires c =
     let text = part c.args.tree.now c.args.number 0 1024 in
     let within : 8 + length (opaque text) ≤ 1036 = behind_within 0 (ResReadLink text) tt (part_few c.args.tree.now c.args.number 1024) in
-    record { room = room_then c.args.out.now _ (head (op_number Op.ReadLink) Nfs4Ok) (opaque text) 1036 c.write_done_head.ensures (omega (arith, length_head (op_number Op.ReadLink) Nfs4Ok)) c.requires }
+    record {
+      room = room_then c.args.out.now _ (head (op_number Op.ReadLink) Nfs4Ok)
+          (opaque text) 1036 c.write_done_head.ensures (omega (arith, length_head (op_number Op.ReadLink) Nfs4Ok)) c.requires;
+    }

@@ -6,4 +6,5 @@ use Rattle.nfs_names.proofs.listing.read_dir.Goals as goal
 
 pub returns-in-Ok : goal.returns-in-Ok
 returns-in-Ok c =
-    listing_comes (state_of c.args.store.now) c.args.context.now (view_read_dir c.args.asked.now) c.in-Ok.d c.put_listing.result c.args.out.now c.put_listing.new.out (sym c.judge_listing.ensures ∙ c.in-Ok.is) c.put_listing.ensures
+    listing_comes (state_of c.args.store.now) c.args.context.now (view_read_dir c.args.asked.now) c.in-Ok.d
+    c.put_listing.result c.args.out.now c.put_listing.new.out (sym c.judge_listing.ensures ∙ c.in-Ok.is) c.put_listing.ensures

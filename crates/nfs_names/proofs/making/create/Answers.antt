@@ -38,15 +38,18 @@ returns-in-Ok-create c =
     let v : asked_for s x a ≡ Ok m = sym c.judge_making.ensures ∙ c.in-Ok.is in
     let same_sets : c.sets_of-sets.result ≡ sets = c.sets_of-sets.ensures ∙ ap (λ (n : New). sets_of x now n m.wanted) c.new_of-new.ensures in
     let by_new : DoesOrWants t true (tree_create.create t d a.objname new c.sets_of-sets.result now) (Ok made) left =
-    subst (λ (n : New). DoesOrWants t true (tree_create.create t d a.objname n c.sets_of-sets.result now) (Ok made) left) c.new_of-new.ensures c.in-Ok-create.ensures in
-    let did = done_by_tree t true (create_fault t d a.objname new) (record { number = t.last_object + 1; directory = raised t d }) made (with_new t d a.objname new sets now) left
+    subst (λ (n : New). DoesOrWants t true (tree_create.create t d a.objname n c.sets_of-sets.result now) (Ok made) left)
+    c.new_of-new.ensures c.in-Ok-create.ensures in
+    let did = done_by_tree t true (create_fault t d a.objname new)
+    (record { number = t.last_object + 1; directory = raised t d }) made (with_new t d a.objname new sets now) left
     (subst (λ (k : Sets). DoesOrWants t true (tree_create.create t d a.objname new k now) (Ok made) left) same_sets by_new) in
     let outcome : CreateOk → Files → Context → Outcome = λ r t x. record { result = ResCreate r; state = with_tree s t; context = x } in
     let told_ok : Created → CreateOk = λ k. record { cinfo = change_info k.directory; attrset = told (mask_of a.createattrs.attrmask) } in
     let given : Mask → CreateOk = λ mask. record { cinfo = change_info made.directory; attrset = told mask } in
     ap (λ r. outcome r left c.go_to.new.self) (c.create_ok.ensures ∙ ap given c.new-given.ensures ∙ ap told_ok did.1)
     ∙ ap (λ t. outcome (told_ok (record { number = s.tree.last_object + 1; directory = raised s.tree d })) t c.go_to.new.self) did.2
-    ∙ ap (outcome (told_ok (record { number = s.tree.last_object + 1; directory = raised s.tree d })) (with_new t d a.objname new sets now)) (c.go_to.ensures ∙ ap (λ (k : Created). at_object x k.number) did.1)
+    ∙ ap (outcome (told_ok (record { number = s.tree.last_object + 1; directory = raised s.tree d })) (with_new t d a.objname new sets now))
+    (c.go_to.ensures ∙ ap (λ (k : Created). at_object x k.number) did.1)
     ∙ sym (create_goes s x now a m v did.0)
 
 pub returns-in-Err-create : goal.returns-in-Err-create
@@ -77,4 +80,5 @@ returns-in-Err c =
     let a = view_create c.args.asked.now in
     let status = c.in-Err.status in
     told_refusal s s.tree x Op.Create (create s x c.args.now a) _ status c.refuse-in-Err.ensures refl
-    (error_outcome (is_delay status) s x Op.Create (asked_for s x a) (row_checks s a.objname) (created s x c.args.now a) status (asked_refuses s x a) (sym c.judge_making.ensures ∙ c.in-Err.is))
+    (error_outcome (is_delay status) s x Op.Create (asked_for s x a) (row_checks s a.objname)
+    (created s x c.args.now a) status (asked_refuses s x a) (sym c.judge_making.ensures ∙ c.in-Err.is))

@@ -24,7 +24,9 @@ returns-in_err-may_make c =
     let f = c.in_err-may_make.field-0.0 in
     let r = err_from_is_err_and c.from_residual-in_err-may_make.result c.from_residual-in_err-may_make.ensures.1 in
     let v = with_wanted (checked (current s x) (place_checks x a)) (wanted_of a.createattrs) in
-    let is : v ≡ Ok m = ap (λ v. with_wanted v (wanted_of a.createattrs)) (sym c.judge_place.ensures ∙ c.in_ok-place.was) ∙ ap (making d) (sym c.wanted_of.ensures ∙ c.in-Ok.is) in
-    let barred : first_fault (make_checks w x.who) ≡ Some f = judged_err _ _ (ap (λ who. judged (first_fault (make_checks w who))) (sym c.who.ensures) ∙ sym c.may_make.ensures ∙ c.in_err-may_make.was) in
+    let is : v ≡ Ok m = ap (λ v. with_wanted v (wanted_of a.createattrs)) (sym c.judge_place.ensures ∙ c.in_ok-place.was)
+    ∙ ap (making d) (sym c.wanted_of.ensures ∙ c.in-Ok.is) in
+    let barred : first_fault (make_checks w x.who) ≡ Some f =
+    judged_err _ _ (ap (λ who. judged (first_fault (make_checks w who))) (sym c.who.ensures) ∙ sym c.may_make.ensures ∙ c.in_err-may_make.was) in
     let all : first_fault (new_checks x m) ≡ Some f = append_fault (make_checks w x.who) ((is_some w.size, Inval) ∷ []) f barred in
     r.1 ∙ ap Err r.2 ∙ sym (stopped v (new_checks x) m f is all)

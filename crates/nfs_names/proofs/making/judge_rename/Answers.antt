@@ -24,7 +24,8 @@ returns-in_err-judge_name c =
     let target : not (is_directory p.current.object.kind) ≡ false = grind arith in
     let leaves : not (permits x p.saved change) ≡ false = grind arith in
     let comes : not (permits x p.current change) ≡ false = grind arith in
-    let all : first_fault (place_checks x a p) ≡ Some f = rw (source, target, leaves, comes) (append_fault (name_checks a.oldname) (name_checks a.newname) f named) in
+    let all : first_fault (place_checks x a p) ≡ Some f =
+    rw (source, target, leaves, comes) (append_fault (name_checks a.oldname) (name_checks a.newname) f named) in
     r.1 ∙ ap Err r.2 ∙ sym (stopped (both s x) (place_checks x a) p f (sym c.both.ensures ∙ c.in_ok-p.was) all)
 
 pub returns-in_err-judge_name-2 : goal.returns-in_err-judge_name-2
@@ -41,5 +42,6 @@ returns-in_err-judge_name-2 c =
     let target : not (is_directory p.current.object.kind) ≡ false = grind arith in
     let leaves : not (permits x p.saved change) ≡ false = grind arith in
     let comes : not (permits x p.current change) ≡ false = grind arith in
-    let all : first_fault (place_checks x a p) ≡ Some f = rw (source, target, leaves, comes) (append_none (name_checks a.oldname) (name_checks a.newname) old ∙ new) in
+    let all : first_fault (place_checks x a p) ≡ Some f =
+    rw (source, target, leaves, comes) (append_none (name_checks a.oldname) (name_checks a.newname) old ∙ new) in
     r.1 ∙ ap Err r.2 ∙ sym (stopped (both s x) (place_checks x a) p f (sym c.both.ensures ∙ c.in_ok-p.was) all)

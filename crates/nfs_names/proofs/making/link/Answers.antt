@@ -26,9 +26,11 @@ returns-in-Ok-link c =
     let p = c.in-Ok.p in
     let name = c.args.name.now in
     let v : checked (both s x) (place_checks x name) ≡ Ok p = sym c.judge_link.ensures ∙ c.in-Ok.is in
-    let did = done_by_tree t true (link_fault t p.saved.number p.current.number name) (raised t p.current.number) c.in-Ok-link.change (with_link t p.saved.number p.current.number name c.args.now) c.link.new.self c.in-Ok-link.ensures in
+    let did = done_by_tree t true (link_fault t p.saved.number p.current.number name) (raised t p.current.number) c.in-Ok-link.change
+    (with_link t p.saved.number p.current.number name c.args.now) c.link.new.self c.in-Ok-link.ensures in
     let with_change : ChangeInfo → Files → Outcome = λ info t. record { result = ResLink info; state = with_tree s t; context = x } in
-    ap (λ info. with_change info c.link.new.self) (c.change_info.ensures ∙ ap change_info did.1) ∙ ap (with_change (change_info (raised t p.current.number))) did.2
+    ap (λ info. with_change info c.link.new.self) (c.change_info.ensures ∙ ap change_info did.1)
+    ∙ ap (with_change (change_info (raised t p.current.number))) did.2
     ∙ sym (link_goes s x c.args.now name p v did.0)
 
 pub returns-in-Err-link : goal.returns-in-Err-link
@@ -41,9 +43,11 @@ returns-in-Err-link c =
     let f = c.in-Err-link.fault in
     let v : checked (both s x) (place_checks x name) ≡ Ok p = sym c.judge_link.ensures ∙ c.in-Ok.is in
     let fault = link_fault t p.saved.number p.current.number name in
-    let did = refused_by_tree t true fault (raised t p.current.number) (with_link t p.saved.number p.current.number name c.args.now) c.link.new.self f c.in-Err-link.ensures in
+    let did = refused_by_tree t true fault (raised t p.current.number)
+    (with_link t p.saved.number p.current.number name c.args.now) c.link.new.self f c.in-Err-link.ensures in
     told_refusal s c.link.new.self x Op.Link (link s x c.args.now name) _ (status_of f) (c.refuse.ensures ∙ ap (Refused 11) c.status_of.ensures) did.0
-    (refused_outcome s x Op.Link (link s x c.args.now name) (linked s x c.args.now name p) fault f (link_goes s x c.args.now name p v) (link_stops s x c.args.now name p f v) refl did.1)
+    (refused_outcome s x Op.Link (link s x c.args.now name) (linked s x c.args.now name p) fault f
+    (link_goes s x c.args.now name p v) (link_stops s x c.args.now name p f v) refl did.1)
 
 pub returns-in-Err : goal.returns-in-Err
 unfolding link
@@ -54,4 +58,5 @@ returns-in-Err c =
     let v = checked (both s x) (place_checks x name) in
     let status = c.in-Err.status in
     told_refusal s s.tree x Op.Link (link s x c.args.now name) _ status c.refuse-in-Err.ensures refl
-    (error_outcome (is_delay status) s x Op.Link v (row_checks s name) (linked s x c.args.now name) status (refuses_checked (both s x) (place_checks x name) (both_refuses s x) (λ p. refl)) (sym c.judge_link.ensures ∙ c.in-Err.is))
+    (error_outcome (is_delay status) s x Op.Link v (row_checks s name) (linked s x c.args.now name) status
+    (refuses_checked (both s x) (place_checks x name) (both_refuses s x) (λ p. refl)) (sym c.judge_link.ensures ∙ c.in-Err.is))

@@ -26,10 +26,13 @@ drop_empty-requires c unused =
     let d = c.in-Ok.d.number in
     let name = c.args.name.now in
     let n = named t d name in
-    let did = did_ok t (remove_fault t d name) (record { number = n; directory = raised t d }) c.in-Ok-remove.removed (without_name t d name c.args.now) c.remove.new.self c.in-Ok-remove.ensures.answer c.in-Ok-remove.ensures.after in
+    let did = did_ok t (remove_fault t d name) (record { number = n; directory = raised t d }) c.in-Ok-remove.removed
+    (without_name t d name c.args.now) c.remove.new.self c.in-Ok-remove.ensures.answer c.in-Ok-remove.ensures.after in
     let empty = (remove_granted t d name did.0).1 in
-    let gone : has_entries (without_name t d name c.args.now).rows n ≡ false = none_filtered (λ (r : Row). r.directory == n) (λ r. not (is_entry d name r)) t.rows empty in
-    ap (λ (u : Files). has_entries u.rows c.in-Ok-remove.removed.number) did.2 ∙ ap (λ (k : Removed). has_entries (without_name t d name c.args.now).rows k.number) did.1 ∙ gone
+    let gone : has_entries (without_name t d name c.args.now).rows n ≡ false =
+    none_filtered (λ (r : Row). r.directory == n) (λ r. not (is_entry d name r)) t.rows empty in
+    ap (λ (u : Files). has_entries u.rows c.in-Ok-remove.removed.number) did.2
+    ∙ ap (λ (k : Removed). has_entries (without_name t d name c.args.now).rows k.number) did.1 ∙ gone
 
 pub returns-in-Ok-remove : goal.returns-in-Ok-remove
 returns-in-Ok-remove c =
@@ -41,12 +44,14 @@ returns-in-Ok-remove c =
     let name = c.args.name.now in
     let n = named t d.number name in
     let v : checked (current s x) (place_checks x name) ≡ Ok d = sym c.judge_remove.ensures ∙ c.in-Ok.is in
-    let did = did_ok t (remove_fault t d.number name) (record { number = n; directory = raised t d.number }) c.in-Ok-remove.removed (without_name t d.number name now) c.remove.new.self c.in-Ok-remove.ensures.answer c.in-Ok-remove.ensures.after in
+    let did = did_ok t (remove_fault t d.number name) (record { number = n; directory = raised t d.number }) c.in-Ok-remove.removed
+    (without_name t d.number name now) c.remove.new.self c.in-Ok-remove.ensures.answer c.in-Ok-remove.ensures.after in
     let outcome : ChangeInfo → State → Outcome = λ info u. record { result = ResRemove info; state = u; context = x } in
     let left : State = with_tree s (without_name t d.number name now) in
     ap (λ info. outcome info (state_of c.drop_empty.new.self)) (c.change_info.ensures ∙ ap (λ (k : Removed). change_info k.directory) did.1)
     ∙ ap (outcome (change_info (raised t d.number)))
-    (c.drop_empty.ensures ∙ ap (λ u. without_unused (with_tree s u) c.in-Ok-remove.removed.number) did.2 ∙ ap (λ (k : Removed). without_unused left k.number) did.1)
+    (c.drop_empty.ensures ∙ ap (λ u. without_unused (with_tree s u) c.in-Ok-remove.removed.number) did.2
+    ∙ ap (λ (k : Removed). without_unused left k.number) did.1)
     ∙ sym (remove_goes s x now name d v did.0)
 
 pub returns-in-Err-remove : goal.returns-in-Err-remove
@@ -59,7 +64,8 @@ returns-in-Err-remove c =
     let name = c.args.name.now in
     let f = c.in-Err-remove.fault in
     let v : checked (current s x) (place_checks x name) ≡ Ok d = sym c.judge_remove.ensures ∙ c.in-Ok.is in
-    let did = does_err t (remove_fault t d.number name) (record { number = named t d.number name; directory = raised t d.number }) (without_name t d.number name now) c.remove.new.self f c.in-Err-remove.ensures.answer c.in-Err-remove.ensures.after in
+    let did = does_err t (remove_fault t d.number name) (record { number = named t d.number name; directory = raised t d.number })
+    (without_name t d.number name now) c.remove.new.self f c.in-Err-remove.ensures.answer c.in-Err-remove.ensures.after in
     let outcome : Res → Files → Outcome = λ r t. record { result = r; state = with_tree s t; context = x } in
     ap (λ r. outcome r c.remove.new.self) (c.refuse.ensures ∙ ap (Refused 28) c.status_of.ensures) ∙ ap (outcome (Refused 28 (status_of f))) did.1
     ∙ sym (remove_stops s x now name d f v did.0)
@@ -72,4 +78,5 @@ returns-in-Err c =
     let name = c.args.name.now in
     let outcome : Res → Outcome = λ r. record { result = r; state = s; context = x } in
     ap outcome c.refuse-in-Err.ensures
-    ∙ sym (by_error s x Op.Remove (checked (current s x) (place_checks x name)) (row_checks s name) (removed s x c.args.now name) c.in-Err.status (sym c.judge_remove.ensures ∙ c.in-Err.is))
+    ∙ sym (by_error s x Op.Remove (checked (current s x) (place_checks x name)) (row_checks s name)
+    (removed s x c.args.now name) c.in-Err.status (sym c.judge_remove.ensures ∙ c.in-Err.is))

@@ -50,7 +50,8 @@ returns-in-Ok-rename c =
           let after : left ≡ with_moved t m now = rw go at w.after in
           let same : r ≡ record { source = raised t m.source; target = raised t m.target; replaced = lookup t m.target m.name } = cc in
           ap (λ (k : Renamed). outcome (told_ok k) (without_replaced (with_tree s left) k.replaced)) same
-          ∙ ap (λ u. outcome (told_ok (record { source = raised t m.source; target = raised t m.target; replaced = None })) (without_replaced (with_tree s u) (lookup t m.target m.name))) after
+          ∙ ap (λ u. outcome (told_ok (record { source = raised t m.source; target = raised t m.target; replaced = None }))
+          (without_replaced (with_tree s u) (lookup t m.target m.name))) after
           ∙ sym (ap (λ b. if b then moved s x now a p else unmoved s x p) go))
       | inr stay ↦ (let answer : Ok r ≡ (tree.unmoved t m).answer = rw stay at w.answer in
           let after : left ≡ t = rw stay at w.after in
@@ -59,7 +60,8 @@ returns-in-Ok-rename c =
           ∙ ap (λ u. outcome (told_ok (record { source = stays t m.source; target = stays t m.target; replaced = None })) (with_tree s u)) after
           ∙ sym (ap (λ b. if b then moved s x now a p else unmoved s x p) stay))
     ] in
-    by_code ∙ whole ∙ sym (not_delayed (moves_in s a (both s x) && false) s x Op.Rename (rename s x now a) (and_right (moves_in s a (both s x)) false refl) ∙ rename_goes s x now a p v w.none)
+    by_code ∙ whole ∙ sym (not_delayed (moves_in s a (both s x) && false) s x Op.Rename (rename s x now a) (and_right (moves_in s a (both s x)) false refl)
+    ∙ rename_goes s x now a p v w.none)
 
 pub returns-in-Err-rename : goal.returns-in-Err-rename
 returns-in-Err-rename c =
@@ -70,7 +72,8 @@ returns-in-Err-rename c =
     let f = c.in-Err-rename.fault in
     let v : checked (both s x) (place_checks x a) ≡ Ok p = sym c.judge_rename.ensures ∙ c.in-Ok.is in
     let parts = rename_refused s x c.args.now a p f c.rename.new.self v c.in-Err-rename.ensures in
-    told_refusal_by (moves_in s a (both s x)) s c.rename.new.self x Op.Rename (rename s x c.args.now a) _ (status_of f) (c.refuse.ensures ∙ ap (Refused 29) c.status_of.ensures) parts.0 parts.1
+    told_refusal_by (moves_in s a (both s x)) s c.rename.new.self x Op.Rename (rename s x c.args.now a) _
+    (status_of f) (c.refuse.ensures ∙ ap (Refused 29) c.status_of.ensures) parts.0 parts.1
 
 pub returns-in-Err : goal.returns-in-Err
 unfolding rename
@@ -80,5 +83,6 @@ returns-in-Err c =
     let a = view_rename c.args.asked.now in
     let status = c.in-Err.status in
     told_refusal_by (moves_in s a (both s x)) s s.tree x Op.Rename (rename s x c.args.now a) _ status c.refuse-in-Err.ensures refl
-    (error_outcome (moves_in s a (both s x) && is_delay status) s x Op.Rename (checked (both s x) (place_checks x a)) (row_checks s a) (what_moves s x c.args.now a) status
+    (error_outcome (moves_in s a (both s x) && is_delay status) s x Op.Rename
+    (checked (both s x) (place_checks x a)) (row_checks s a) (what_moves s x c.args.now a) status
     (refuses_checked (both s x) (place_checks x a) (both_refuses s x) (λ p. refl)) (sym c.judge_rename.ensures ∙ c.in-Err.is))

@@ -21,7 +21,8 @@ pub write-requires : goal.write-requires
 write-requires c =
     let i = item c.args.arg.now in
     let r = view.res c.plain_op-res.result in
-    let kept = keeps (is_delay (status_of_result r)) (state_of c.args.store.now) c.args.context.now c.moment.result i c.requires.offered c.kept.ensures c.requires.store in
+    let kept = keeps (is_delay (status_of_result r))
+    (state_of c.args.store.now) c.args.context.now c.moment.result i c.requires.offered c.kept.ensures c.requires.store in
     let is : IsAnswer i r = subst (λ (o : Outcome). IsAnswer i o.result) (sym c.plain_op-res.ensures) kept.may in
     record { bounds = bounded_may i r is; room = λ arrays. room_may i r c.args.out.now is c.requires.room }
 
@@ -29,7 +30,8 @@ pub returns-in-GetAttr-clause-within : goal.returns-in-GetAttr-clause-within
 returns-in-GetAttr-clause-within c =
     let words = view_bitmap c.in-GetAttr.attr_request in
     subst (λ (i : Item). length c.get_attr.new.out.bytes ≤ length c.args.out.now.bytes + largest i) (sym (ap item c.in-GetAttr.is))
-    (within (Operation (OpGetAttr words)) _ c.args.out.now c.get_attr.new.out (may_get_attr (state_of c.args.store.now) c.args.context.now words) c.get_attr.ensures.put)
+    (within (Operation (OpGetAttr words)) _ c.args.out.now c.get_attr.new.out
+    (may_get_attr (state_of c.args.store.now) c.args.context.now words) c.get_attr.ensures.put)
 
 pub returns-in-GetFh-clause-within : goal.returns-in-GetFh-clause-within
 returns-in-GetFh-clause-within c =
@@ -40,7 +42,8 @@ pub returns-in-ReadDir-clause-within : goal.returns-in-ReadDir-clause-within
 returns-in-ReadDir-clause-within c =
     let a = view_read_dir c.in-ReadDir.asked in
     subst (λ (i : Item). length c.read_dir.new.out.bytes ≤ length c.args.out.now.bytes + largest i) (sym (ap item c.in-ReadDir.is))
-    (within (Operation (OpReadDir a)) _ c.args.out.now c.read_dir.new.out (may_read_dir (state_of c.args.store.now) c.args.context.now a) c.read_dir.ensures.put)
+    (within (Operation (OpReadDir a)) _ c.args.out.now c.read_dir.new.out
+    (may_read_dir (state_of c.args.store.now) c.args.context.now a) c.read_dir.ensures.put)
 
 pub returns-in-ReadLink-clause-within : goal.returns-in-ReadLink-clause-within
 returns-in-ReadLink-clause-within c =
@@ -61,7 +64,8 @@ returns-in_default c =
     c.plain_op-res.ensures ∙ ap (λ (t : Time). comes_to (is_delay (status_of_result r)) s x t i) c.moment.ensures
     ∙ ap (λ (st : Status). comes_to (is_delay st) s x (moment c.args.now) i) (sym c.status.ensures) in
     record {
-      comes = subst (λ (o : Outcome). Comes o c.args.out.now c.write.new.out c.status.result (state_of c.plain_op-res.new.store) c.plain_op-res.new.context) same
+      comes = subst
+          (λ (o : Outcome). Comes o c.args.out.now c.write.new.out c.status.result (state_of c.plain_op-res.new.store) c.plain_op-res.new.context) same
           (record { put = c.write.ensures; status = c.status.ensures; state = refl; context = refl });
       store = subst (λ (o : Outcome). IsStore o.state) (sym c.plain_op-res.ensures) kept.store;
       within = within i r c.args.out.now c.write.new.out is c.write.ensures;

@@ -14,8 +14,11 @@ loop-rest-init g c = (taking_start _ _ _ _ _ _ _, search rules, search rules, se
 
 pub returns-in-More-clause-taken : goal.returns-in-More-clause-taken
 returns-in-More-clause-taken g c =
-    let (part, is) = c.in-More.ensures.answer in
-    (taking_ends c.loop-rest.invariant.0 c.feed.new.self c.requires.open (rw is refl) (rw is refl) c.requires.bytes c.in-More.ensures.stream, rw is refl, c.loop-rest.invariant.3)
+    let (part, is) = c.in-More.ensures.answer in (
+      taking_ends c.loop-rest.invariant.0 c.feed.new.self c.requires.open (rw is refl) (rw is refl) c.requires.bytes c.in-More.ensures.stream,
+      rw is refl,
+      c.loop-rest.invariant.3,
+    )
 
 pub returns-clause-taken : goal.returns-clause-taken
 returns-clause-taken g c =
@@ -26,30 +29,43 @@ returns-clause-taken g c =
 pub returns-in-TooLong-clause-taken : goal.returns-in-TooLong-clause-taken
 returns-in-TooLong-clause-taken g c =
     let (wrote, well) = c.in_ok-put_overflow-in-TooLong.ensures in
-    let up : (r : List ℕ) → IsBytes r → Holds r c.loop-rest.records → (used : ℕ) × Holds (r ++ take used c.loop-rest.rest.now) Failed = λ r bytes holds. subst (λ h. (used : ℕ) × Holds (r ++ take used c.loop-rest.rest.now) h) c.in-TooLong.ensures.answer (c.in-TooLong.ensures.stream r bytes holds) in
+    let up : (r : List ℕ) → IsBytes r → Holds r c.loop-rest.records → (used : ℕ) × Holds (r ++ take used c.loop-rest.rest.now) Failed = λ r bytes holds.
+    subst (λ h. (used : ℕ) × Holds (r ++ take used c.loop-rest.rest.now) h) c.in-TooLong.ensures.answer (c.in-TooLong.ensures.stream r bytes holds) in
     rw c.in-TooLong.ensures.answer (taking_long c.loop-rest.invariant.0 _ c.requires.open up wrote, refl, well)
 
 pub returns-in_err-put_overflow-in-TooLong-clause-taken : goal.returns-in_err-put_overflow-in-TooLong-clause-taken
 returns-in_err-put_overflow-in-TooLong-clause-taken g c =
     let p = err_from_is_err_and c.from_residual.result c.from_residual.ensures.1 in
     let (wrote, failed) = c.in_err-put_overflow-in-TooLong.ensures in
-    let up : (r : List ℕ) → IsBytes r → Holds r c.loop-rest.records → (used : ℕ) × Holds (r ++ take used c.loop-rest.rest.now) Failed = λ r bytes holds. subst (λ h. (used : ℕ) × Holds (r ++ take used c.loop-rest.rest.now) h) c.in-TooLong.ensures.answer (c.in-TooLong.ensures.stream r bytes holds) in
+    let up : (r : List ℕ) → IsBytes r → Holds r c.loop-rest.records → (used : ℕ) × Holds (r ++ take used c.loop-rest.rest.now) Failed = λ r bytes holds.
+    subst (λ h. (used : ℕ) × Holds (r ++ take used c.loop-rest.rest.now) h) c.in-TooLong.ensures.answer (c.in-TooLong.ensures.stream r bytes holds) in
     rw p.1 (breaking_long c.loop-rest.invariant.0 _ c.requires.open up wrote, failed)
 
 pub returns-in_err-answer-in-Whole-clause-taken : goal.returns-in_err-answer-in-Whole-clause-taken
 returns-in_err-answer-in-Whole-clause-taken g c =
     let p = err_from_is_err_and c.from_residual-in_err-answer-in-Whole.result c.from_residual-in_err-answer-in-Whole.ensures.1 in
     let (call, is, within, some) = c.in-Whole.ensures.answer in
-    let up : TakesUp c.loop-rest.records (take c.in-Whole.used c.loop-rest.rest.now) (Complete call) = λ r bytes holds. subst (Holds (r ++ take c.in-Whole.used c.loop-rest.rest.now)) is (c.in-Whole.ensures.stream r bytes holds) in
+    let up : TakesUp c.loop-rest.records (take c.in-Whole.used c.loop-rest.rest.now) (Complete call) =
+    λ r bytes holds. subst (Holds (r ++ take c.in-Whole.used c.loop-rest.rest.now)) is (c.in-Whole.ensures.stream r bytes holds) in
     let lent : c.record.result.now ≡ call = c.record.ensures ∙ ap waiting is in
     let (choice, state, (wrote, failed)) = rw lent at c.in_err-answer-in-Whole.ensures in
-    rw p.1 (breaking c.loop-rest.invariant.0 (take c.in-Whole.used c.loop-rest.rest.now) (drop c.in-Whole.used c.loop-rest.rest.now) call choice _ _ c.requires.open (sym (take-append-drop _ _)) up state wrote, failed)
+    rw p.1 (
+      breaking c.loop-rest.invariant.0 (take c.in-Whole.used c.loop-rest.rest.now)
+          (drop c.in-Whole.used c.loop-rest.rest.now) call choice _ _ c.requires.open (sym (take-append-drop _ _)) up state wrote,
+      failed,
+    )
 
 pub loop-rest-preserved : goal.loop-rest-preserved
 loop-rest-preserved g c =
     let (call, is, within, some) = c.in-Whole.ensures.answer in
-    let up : TakesUp c.loop-rest.records (take c.in-Whole.used c.loop-rest.rest.now) (Complete call) = λ r bytes holds. subst (Holds (r ++ take c.in-Whole.used c.loop-rest.rest.now)) is (c.in-Whole.ensures.stream r bytes holds) in
+    let up : TakesUp c.loop-rest.records (take c.in-Whole.used c.loop-rest.rest.now) (Complete call) =
+    λ r bytes holds. subst (Holds (r ++ take c.in-Whole.used c.loop-rest.rest.now)) is (c.in-Whole.ensures.stream r bytes holds) in
     let lent : c.record.result.now ≡ call = c.record.ensures ∙ ap waiting is in
     let (choice, state, (wrote, well)) = rw lent at c.in_ok-answer-in-Whole.ensures in
     let done : c.take.new.self ≡ done_with (Complete call) = c.take.ensures ∙ ap done_with is in
-    rw done (taking_more c.loop-rest.invariant.0 (take c.in-Whole.used c.loop-rest.rest.now) _ call choice _ _ (front_and_rest _ _) up state wrote, refl, refl, well)
+    rw done (
+      taking_more c.loop-rest.invariant.0 (take c.in-Whole.used c.loop-rest.rest.now) _ call choice _ _ (front_and_rest _ _) up state wrote,
+      refl,
+      refl,
+      well,
+    )

@@ -5,5 +5,11 @@ use Rattle.nfs_serve.proofs.Parts.{take-read}
 use Rattle.nfs_serve.proofs.moving.fill.Goals as goal
 
 pub loop-at-preserved : goal.loop-at-preserved
-loop-at-preserved g c =
-    (search rules, search rules, subst (Consumes _ _) (take-read _ _ _ _ c.loop-at.invariant.1 c.in-Ok.ensures.bound.0) (Consumes-trans _ _ _ _ _ c.loop-at.invariant.2 c.in-Ok.ensures.bytes.0), search rules, search rules)
+loop-at-preserved g c = (
+  search rules,
+  search rules,
+  subst (Consumes _ _) (take-read _ _ _ _ c.loop-at.invariant.1 c.in-Ok.ensures.bound.0)
+      (Consumes-trans _ _ _ _ _ c.loop-at.invariant.2 c.in-Ok.ensures.bytes.0),
+  search rules,
+  search rules,
+)

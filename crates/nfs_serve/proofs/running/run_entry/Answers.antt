@@ -20,6 +20,11 @@ pub returns-in-Ok-clause-ran : goal.returns-in-Ok-clause-ran
 returns-in-Ok-clause-ran g c =
     let e : Entry = entry c.args.entry.now in
     let within : c.args.entry.now.conn < length c.args.connections.now = omega (arith, c.requires.connections, c.requires.conn) in
-    let is : c.index-connections-conn-2.result ≡ held_on c.args.connections.now c.args.entry.now.conn = get_or_read_under c.args.connections.now c.args.entry.now.conn 16 _ fresh c.index-connections-conn-2.is (omega (arith, c.requires.conn)) (sym c.requires.connections) in
-    let (fed, flow, well) = c.in-Ok.ensures.fed in
-    (entry_fed c.args.connections.now c.feed.new.self e within (λ none. eqb-false _ _ (sym c.is_empty.ensures ∙ c.if-is_empty.false) (ap length none)) (subst (λ h. Feeds (state_of c.args.engine.now.kept) (state_of c.feed.new.engine.kept) h c.feed.new.self c.args.entry.now.conn c.args.entry.now.moment c.args.entry.now.piece.now Tagged (g.W.Sink.held c.args.w.now) (g.W.Sink.held c.feed.new.out)) (sym c.index-connections-conn-2.is ∙ is) fed), well)
+    let is : c.index-connections-conn-2.result ≡ held_on c.args.connections.now c.args.entry.now.conn = get_or_read_under c.args.connections.now
+    c.args.entry.now.conn 16 _ fresh c.index-connections-conn-2.is (omega (arith, c.requires.conn)) (sym c.requires.connections) in
+    let (fed, flow, well) = c.in-Ok.ensures.fed in (
+      entry_fed c.args.connections.now c.feed.new.self e within (λ none. eqb-false _ _ (sym c.is_empty.ensures ∙ c.if-is_empty.false) (ap length none))
+          (subst (λ h. Feeds (state_of c.args.engine.now.kept) (state_of c.feed.new.engine.kept) h c.feed.new.self c.args.entry.now.conn c.args.entry.now.moment
+          c.args.entry.now.piece.now Tagged (g.W.Sink.held c.args.w.now) (g.W.Sink.held c.feed.new.out)) (sym c.index-connections-conn-2.is ∙ is) fed),
+      well,
+    )

@@ -13,30 +13,51 @@ pub loop-preserved : goal.loop-preserved
 loop-preserved g c =
     let e : Entry = record { moment = c.now.result; conn = 0; piece = take c.in-Ok.n c.read.new.buf } in
     let room : length c.read.new.buf ≡ 65536 = search rules in
-    let each : IsPiece e = ((c.now.ensures.bound, search rules, omega (arith, c.in-Ok.ensures.bound.0, c.in-Ok.ensures.bound.1, room)), refl, omega (arith, c.in-Ok.ensures.bound.1, c.in-Ok.n-test)) in
-    let (fed, flow, well) = c.in-Ok-Open.ensures.fed in
-    (speaking_more c.loop.invariant.0 _ _ _ _ _ e c.in-Ok.ensures.bytes.0 c.now.ensures.tells each fed, open_is _ (sym c.in-Ok-Open.field-0-is ∙ flow), search rules, search rules, search rules, well)
+    let each : IsPiece e = (
+      (c.now.ensures.bound, search rules, omega (arith, c.in-Ok.ensures.bound.0, c.in-Ok.ensures.bound.1, room)),
+      refl,
+      omega (arith, c.in-Ok.ensures.bound.1, c.in-Ok.n-test),
+    ) in
+    let (fed, flow, well) = c.in-Ok-Open.ensures.fed in (
+      speaking_more c.loop.invariant.0 _ _ _ _ _ e c.in-Ok.ensures.bytes.0 c.now.ensures.tells each fed,
+      open_is _ (sym c.in-Ok-Open.field-0-is ∙ flow),
+      search rules,
+      search rules,
+      search rules,
+      well,
+    )
 
 pub returns-in-Ok-Shut-clause-run : goal.returns-in-Ok-Shut-clause-run
 returns-in-Ok-Shut-clause-run g c =
     let e : Entry = record { moment = c.now.result; conn = 0; piece = take c.in-Ok.n c.read.new.buf } in
     let room : length c.read.new.buf ≡ 65536 = search rules in
-    let each : IsPiece e = ((c.now.ensures.bound, search rules, omega (arith, c.in-Ok.ensures.bound.0, c.in-Ok.ensures.bound.1, room)), refl, omega (arith, c.in-Ok.ensures.bound.1, c.in-Ok.n-test)) in
+    let each : IsPiece e = (
+      (c.now.ensures.bound, search rules, omega (arith, c.in-Ok.ensures.bound.0, c.in-Ok.ensures.bound.1, room)),
+      refl,
+      omega (arith, c.in-Ok.ensures.bound.1, c.in-Ok.n-test),
+    ) in
     let (fed, flow, well) = c.in-Ok-Shut.ensures.fed in
-    shuts (speaking_more c.loop.invariant.0 _ _ _ _ _ e c.in-Ok.ensures.bytes.0 c.now.ensures.tells each fed) (omega (arith, c.loop-test.true)) (sym c.in-Ok-Shut.field-0-is ∙ flow)
+    shuts (speaking_more c.loop.invariant.0 _ _ _ _ _ e c.in-Ok.ensures.bytes.0 c.now.ensures.tells each fed)
+    (omega (arith, c.loop-test.true)) (sym c.in-Ok-Shut.field-0-is ∙ flow)
 
 pub returns-in-Err-feed-clause-run : goal.returns-in-Err-feed-clause-run
 returns-in-Err-feed-clause-run g c =
     let e : Entry = record { moment = c.now.result; conn = 0; piece = take c.in-Ok.n c.read.new.buf } in
     let room : length c.read.new.buf ≡ 65536 = search rules in
-    let each : IsPiece e = ((c.now.ensures.bound, search rules, omega (arith, c.in-Ok.ensures.bound.0, c.in-Ok.ensures.bound.1, room)), refl, omega (arith, c.in-Ok.ensures.bound.1, c.in-Ok.n-test)) in
+    let each : IsPiece e = (
+      (c.now.ensures.bound, search rules, omega (arith, c.in-Ok.ensures.bound.0, c.in-Ok.ensures.bound.1, room)),
+      refl,
+      omega (arith, c.in-Ok.ensures.bound.1, c.in-Ok.n-test),
+    ) in
     let (breaks, failed) = c.in-Err-feed.ensures.fed in
     speaking_breaks c.loop.invariant.0 _ _ _ _ e c.in-Ok.ensures.bytes.0 c.now.ensures.tells each c.loop-test.true breaks
 
 pub returns-in-Ok-eq0-clause-run : goal.returns-in-Ok-eq0-clause-run
 returns-in-Ok-eq0-clause-run g c =
     let zero : c.in-Ok-eq0.field-0 ≡ 0 = search rules in
-    ends c.loop.invariant.0 _ (subst (λ n. Consumes (g.R.Source.left c.loop.r) (g.R.Source.left c.read.new.self) (take n c.read.new.buf)) zero c.in-Ok-eq0.ensures.bytes.0) c.loop-test.true c.loop.invariant.1
+    ends c.loop.invariant.0 _
+    (subst (λ n. Consumes (g.R.Source.left c.loop.r) (g.R.Source.left c.read.new.self) (take n c.read.new.buf)) zero c.in-Ok-eq0.ensures.bytes.0)
+    c.loop-test.true c.loop.invariant.1
 
 pub returns-in-Err-clause-run : goal.returns-in-Err-clause-run
 returns-in-Err-clause-run g c = fails c.loop.invariant.0 _ (Consumes-kept _ _ _ [] (Consumes-nil _) c.in-Err.ensures.bytes) c.loop-test.true c.loop.invariant.1

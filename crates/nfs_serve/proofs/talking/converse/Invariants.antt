@@ -7,5 +7,7 @@ use Rattle.nfs_serve.proofs.talking.converse.Given as goal
 
 abbrev pub invariant-loop : goal.invariant-loop
 invariant-loop g l =
-    Speaking (state_of l.fn.engine.kept) (state_of l.engine.kept) l.connection l.counter (g.R.Source.left l.fn.r) (g.R.Source.left l.r) (g.W.Sink.held l.fn.w) (g.W.Sink.held l.w) (g.C.Clock.told l.fn.clock) (g.C.Clock.told l.clock)
-    × (is_too_long l.connection ≡ false) × (length l.buf ≡ 65536) × (g.R.Source.has_failed l.r ≡ false) × (g.R.Source.has_ended l.r ≡ false) × (g.W.Sink.has_failed l.w ≡ false)
+    Speaking (state_of l.fn.engine.kept) (state_of l.engine.kept) l.connection l.counter (g.R.Source.left l.fn.r)
+    (g.R.Source.left l.r) (g.W.Sink.held l.fn.w) (g.W.Sink.held l.w) (g.C.Clock.told l.fn.clock) (g.C.Clock.told l.clock)
+    × (is_too_long l.connection ≡ false) × (length l.buf ≡ 65536) × (g.R.Source.has_failed l.r ≡ false)
+    × (g.R.Source.has_ended l.r ≡ false) × (g.W.Sink.has_failed l.w ≡ false)

@@ -10,5 +10,6 @@ loop-step-preserved c =
     let i = c.loop-step._step-index in
     let within : i < length rows = c.loop-step-test.true in
     let more : length rows - i ≡ suc (length rows - (i + 1)) = omega arith in
-    climb_step rows c.args.top (length rows - i) (length rows - (i + 1)) c.loop-step.at c.in-Some.parent (is_at_or_below rows c.args.top (length rows) c.args.object) more
+    climb_step rows c.args.top (length rows - i) (length rows - (i + 1)) c.loop-step.at c.in-Some.parent
+    (is_at_or_below rows c.args.top (length rows) c.args.object) more
     (ne_eqb c.loop-step.at c.args.top c.if-at-top.false) (sym c.parent_in.ensures ∙ c.in-Some.is) c.loop-step.invariant

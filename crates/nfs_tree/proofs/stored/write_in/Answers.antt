@@ -9,17 +9,20 @@ use Rattle.nfs_tree.proofs.stored.write_in.Goals as goal
 
 pub write-requires-clause-change : goal.write-requires-clause-change
 write-requires-clause-change c =
-    let place = place_is c.args.number c.args.objects.now c.place_of.result c.in-Some.place c.index-objects-place.result c.place_of.ensures c.in-Some.is c.index-objects-place.is in
+    let place = place_is c.args.number c.args.objects.now c.place_of.result c.in-Some.place
+    c.index-objects-place.result c.place_of.ensures c.in-Some.is c.index-objects-place.is in
     c.requires.change c.in-Some.place c.index-objects-place.result place.within (ap (λ (s : Stored). s.number) (sym c.index-objects-place.is) ∙ place.here)
 
 pub returns-in-Some-clause-ok : goal.returns-in-Some-clause-ok
 returns-in-Some-clause-ok c =
     let f = λ (s : Stored). with_bytes c.args.now no_sets (written s.bytes c.args.offset c.args.text.now) s in
-    let place = place_is c.args.number c.args.objects.now c.place_of.result c.in-Some.place c.index-objects-place.result c.place_of.ensures c.in-Some.is c.index-objects-place.is in
+    let place = place_is c.args.number c.args.objects.now c.place_of.result c.in-Some.place
+    c.index-objects-place.result c.place_of.ensures c.in-Some.is c.index-objects-place.is in
     on_ok_weaker c.write.result
     (λ e. ap (slice_set c.args.objects.now c.in-Some.place) (e ∙ ap f (sym c.index-objects-place.is))
     ∙ written_at f c.args.number root c.requires.rising.0 c.args.objects.now c.in-Some.place c.index-objects-place.result c.requires.rising.1 place)
     c.write.ensures.ok
 
 pub returns-in-None-clause-ok : goal.returns-in-None-clause-ok
-returns-in-None-clause-ok c = left_alone (λ (s : Stored). with_bytes c.args.now no_sets (written s.bytes c.args.offset c.args.text.now) s) c.args.number c.args.objects.now c.place_of.result c.place_of.ensures c.in-None.is
+returns-in-None-clause-ok c = left_alone (λ (s : Stored). with_bytes c.args.now no_sets (written s.bytes c.args.offset c.args.text.now) s)
+    c.args.number c.args.objects.now c.place_of.result c.place_of.ensures c.in-None.is

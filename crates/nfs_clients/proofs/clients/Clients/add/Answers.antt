@@ -12,7 +12,8 @@ invariant_of-self-3 c =
     let last = ap (λ (t : Roster). t.last) c.self.view_is in
     let below = ltb-true c.args.self.now.last last_counter room.0 in
     let given = c.next_id-id.ensures.value (omega arith) in
-    roster_pushed _ c.args.self.now (asks c.args.owner c.args.verifier 0 c.args.uid) _ _ _ _ _ _ _ c.self.view_is c.self.invariant c.requires c.in_ok-reserve.ensures.items c.name.ensures
+    roster_pushed _ c.args.self.now
+    (asks c.args.owner c.args.verifier 0 c.args.uid) _ _ _ _ _ _ _ c.self.view_is c.self.invariant c.requires c.in_ok-reserve.ensures.items c.name.ensures
     c.take_unconfirmed-replaced.ensures.left given (ap is_ok c.unwrap.ensures) c.new.ensures c.push.ensures.items
 
 pub returns-clause-ok : goal.returns-clause-ok
@@ -21,5 +22,6 @@ returns-clause-ok c =
     let last = ap (λ (t : Roster). t.last) c.self.view_is in
     let below = ltb-true c.args.self.now.last last_counter room.0 in
     let given = c.next_id-id.ensures.value (omega arith) in
-    pushed _ c.args.self.now (asks c.args.owner c.args.verifier 0 c.args.uid) _ _ _ _ _ _ _ c.self.view_is c.self.invariant c.in_ok-reserve.ensures.items c.name.ensures
+    pushed _ c.args.self.now (asks c.args.owner c.args.verifier 0 c.args.uid) _ _ _ _ _ _ _
+    c.self.view_is c.self.invariant c.in_ok-reserve.ensures.items c.name.ensures
     c.take_unconfirmed-replaced.ensures.left given (ap is_ok c.unwrap.ensures) c.new.ensures c.push.ensures.items

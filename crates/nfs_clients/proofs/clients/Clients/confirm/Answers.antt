@@ -11,7 +11,8 @@ invariant_of-self c =
       | in-Some w ↦ w.self-is ∙ w.remove.ensures ∙ ap (without_any c.args.self.now) w.in-Some.ensures
       | in_default w ↦ w.self-is ∙ ap (without_any c.args.self.now) w.in_default.ensures
     ] in
-    rw c.confirm.ensures (confirmed_roster c.args.self.now _ _ c.args.client _ _ (subst IsRoster c.self.view_is c.self.invariant) left c.self-2.view_is c.self-2.invariant c.in-Some-place.ensures c.index_mut.ensures.value)
+    rw c.confirm.ensures (confirmed_roster c.args.self.now _ _ c.args.client _ _
+    (subst IsRoster c.self.view_is c.self.invariant) left c.self-2.view_is c.self-2.invariant c.in-Some-place.ensures c.index_mut.ensures.value)
 
 pub returns-in-Some-place : goal.returns-in-Some-place
 returns-in-Some-place c =
@@ -19,7 +20,8 @@ returns-in-Some-place c =
       | in-Some w ↦ w.self-is ∙ w.remove.ensures ∙ ap (without_any c.args.self.now) w.in-Some.ensures
       | in_default w ↦ w.self-is ∙ ap (without_any c.args.self.now) w.in_default.ensures
     ] in
-    rw c.confirm.ensures (confirmed_view c.args.self.now _ _ c.args.client _ _ left c.self-2.view_is c.self-2.invariant c.in-Some-place.ensures c.index_mut.ensures.value)
+    rw c.confirm.ensures
+    (confirmed_view c.args.self.now _ _ c.args.client _ _ left c.self-2.view_is c.self-2.invariant c.in-Some-place.ensures c.index_mut.ensures.value)
 
 pub returns-in_default-place : goal.returns-in_default-place
 returns-in_default-place c =

@@ -9,7 +9,8 @@ returns-then-not-uses_up c = not_kept c.args.self.now c.args.client c.args.creat
 
 pub invariant_of-self : goal.invariant_of-self
 invariant_of-self c =
-    changed_roster (keeps c.args.created) _ _ c.args.client _ _ _ (mild_keeps c.args.created) c.self.view_is c.self.invariant c.in-Some.ensures c.index_mut.ensures.value
+    changed_roster (keeps c.args.created) _ _ c.args.client _ _ _
+    (mild_keeps c.args.created) c.self.view_is c.self.invariant c.in-Some.ensures c.index_mut.ensures.value
     (c.keep.ensures ∙ keeps_used c.args.created _ (sym c.uses_up.ensures ∙ c.if-not-uses_up.false))
 
 pub returns-in-Some : goal.returns-in-Some

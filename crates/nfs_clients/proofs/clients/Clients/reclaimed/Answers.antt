@@ -5,7 +5,8 @@ use Rattle.nfs_clients.proofs.Changes.{changed_view, changed_roster, unchanged_v
 use Rattle.nfs_clients.proofs.clients.Clients.reclaimed.Goals as goal
 
 pub invariant_of-self : goal.invariant_of-self
-invariant_of-self c = changed_roster (λ x. record x { reclaimed = true }) _ _ c.args.client _ _ _ mild_reclaims c.self.view_is c.self.invariant c.in-Some.ensures c.index_mut.ensures.value c.reclaim.ensures
+invariant_of-self c = changed_roster (λ x. record x { reclaimed = true }) _ _ c.args.client _ _ _
+    mild_reclaims c.self.view_is c.self.invariant c.in-Some.ensures c.index_mut.ensures.value c.reclaim.ensures
 
 pub returns-in-None-clause-before : goal.returns-in-None-clause-before
 returns-in-None-clause-before c = ap is_reclaimed (no_record c.args.self.now c.args.client c.in-None.ensures)
@@ -16,19 +17,24 @@ returns-in-None-clause-after c =
     rw (sym not_there) (unchanged_view (λ x. record x { reclaimed = true }) _ c.args.client c.in-None.ensures)
 
 pub returns-then-is_reclaimed-clause-before : goal.returns-then-is_reclaimed-clause-before
-returns-then-is_reclaimed-clause-before c = sym c.if-is_reclaimed.true ∙ c.is_reclaimed.ensures ∙ ap is_reclaimed (record_there _ _ c.args.client _ _ c.self.view_is c.in-Some.ensures c.index.ensures)
+returns-then-is_reclaimed-clause-before c = sym c.if-is_reclaimed.true ∙ c.is_reclaimed.ensures
+    ∙ ap is_reclaimed (record_there _ _ c.args.client _ _ c.self.view_is c.in-Some.ensures c.index.ensures)
 
 pub returns-then-is_reclaimed-clause-after : goal.returns-then-is_reclaimed-clause-after
 returns-then-is_reclaimed-clause-after c =
     let marked : true ≡ has_reclaimed c.args.self.now c.args.client =
-    sym c.if-is_reclaimed.true ∙ c.is_reclaimed.ensures ∙ ap is_reclaimed (record_there _ _ c.args.client _ _ c.self.view_is c.in-Some.ensures c.index.ensures) in
+    sym c.if-is_reclaimed.true ∙ c.is_reclaimed.ensures
+    ∙ ap is_reclaimed (record_there _ _ c.args.client _ _ c.self.view_is c.in-Some.ensures c.index.ensures) in
     rw (sym marked) refl
 
 pub returns-else-is_reclaimed-clause-before : goal.returns-else-is_reclaimed-clause-before
-returns-else-is_reclaimed-clause-before c = sym c.if-is_reclaimed.false ∙ c.is_reclaimed.ensures ∙ ap is_reclaimed (record_there _ _ c.args.client _ _ c.self.view_is c.in-Some.ensures c.index.ensures)
+returns-else-is_reclaimed-clause-before c = sym c.if-is_reclaimed.false ∙ c.is_reclaimed.ensures
+    ∙ ap is_reclaimed (record_there _ _ c.args.client _ _ c.self.view_is c.in-Some.ensures c.index.ensures)
 
 pub returns-else-is_reclaimed-clause-after : goal.returns-else-is_reclaimed-clause-after
 returns-else-is_reclaimed-clause-after c =
     let unmarked : false ≡ has_reclaimed c.args.self.now c.args.client =
-    sym c.if-is_reclaimed.false ∙ c.is_reclaimed.ensures ∙ ap is_reclaimed (record_there _ _ c.args.client _ _ c.self.view_is c.in-Some.ensures c.index.ensures) in
-    rw (sym unmarked) (changed_view (λ x. record x { reclaimed = true }) _ _ c.args.client _ _ _ c.self.view_is c.self.invariant c.in-Some.ensures c.index_mut.ensures.value c.reclaim.ensures)
+    sym c.if-is_reclaimed.false ∙ c.is_reclaimed.ensures
+    ∙ ap is_reclaimed (record_there _ _ c.args.client _ _ c.self.view_is c.in-Some.ensures c.index.ensures) in
+    rw (sym unmarked) (changed_view (λ x. record x { reclaimed = true }) _ _ c.args.client _ _ _
+    c.self.view_is c.self.invariant c.in-Some.ensures c.index_mut.ensures.value c.reclaim.ensures)

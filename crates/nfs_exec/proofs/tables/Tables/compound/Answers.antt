@@ -21,7 +21,8 @@ pub write_compound_head-requires-in_default-clause-room : goal.write_compound_he
 write_compound_head-requires-in_default-clause-room c = any_head_fits c.args.out.now Nfs4Ok c.tag-tag.result.now 0 c.tag-tag.ensures.bound c.requires.room
 
 pub in_session-requires-clause-bears : goal.in_session-requires-clause-bears
-in_session-requires-clause-bears c = λ i there. opened_all c.args.args.now c.requires.opened (sym c.minor.ensures ∙ c.if-minor-ne1.false) i (subst (λ (xs : List Item). In i xs) (sym c.in-Some.ensures.item) (inr there))
+in_session-requires-clause-bears c = λ i there. opened_all c.args.args.now c.requires.opened
+    (sym c.minor.ensures ∙ c.if-minor-ne1.false) i (subst (λ (xs : List Item). In i xs) (sym c.in-Some.ensures.item) (inr there))
 
 pub in_session-requires-clause-few : goal.in_session-requires-clause-few
 in_session-requires-clause-few c =
@@ -35,7 +36,8 @@ put-head-requires c = record { tag = c.tag-tag.ensures.bound; room = head_fits c
 
 pub alone-status-requires : goal.alone-status-requires
 alone-status-requires c = record {
-  bears = opened_bears c.args.args.now (item c.in-Some.arg) c.next.new.self.left c.requires.opened (sym c.minor.ensures ∙ c.if-minor-ne1.false) c.in-Some.ensures.item;
+  bears = opened_bears c.args.args.now (item c.in-Some.arg) c.next.new.self.left c.requires.opened
+      (sym c.minor.ensures ∙ c.if-minor-ne1.false) c.in-Some.ensures.item;
   machine = c.requires.kept.machine;
   store = c.requires.kept.store;
   latest = c.requires.latest;
@@ -44,15 +46,18 @@ alone-status-requires c = record {
 
 pub close-requires : goal.close-requires
 close-requires c = record {
-  stands = has_one c.args.out.now c.put-head.new.out c.alone-status.new.out c.put-head.result.status_at c.put-head.result.count_at c.tag-tag.result.now _ c.put-head.ensures.places c.put-head.ensures.puts c.alone-status.ensures.put;
+  stands = has_one c.args.out.now c.put-head.new.out c.alone-status.new.out c.put-head.result.status_at
+      c.put-head.result.count_at c.tag-tag.result.now _ c.put-head.ensures.places c.put-head.ensures.puts c.alone-status.ensures.put;
 }
 
 pub returns-in-Sequence : goal.returns-in-Sequence
 returns-in-Sequence c = record {
   answer = (
     c.in_session.ensures.answer.0,
-    for_sequence (machine_of c.args.self.now) c.args.args.now c.next.new.self (caller c.args.who.now) c.args.size c.args.now c.in_session.ensures.answer.0 c.in-Sequence.asked c.args.out.now c.in_session.new.out (machine_of c.in_session.new.self)
-        (sym c.minor.ensures ∙ c.if-minor-ne1.false) (c.in-Some.ensures.item ∙ ap (λ a. item a ∷ c.next.new.self.left) c.in-Sequence.is) c.in-Some.ensures.head c.in_session.ensures.answer.1,
+    for_sequence (machine_of c.args.self.now) c.args.args.now c.next.new.self (caller c.args.who.now) c.args.size c.args.now
+        c.in_session.ensures.answer.0 c.in-Sequence.asked c.args.out.now c.in_session.new.out (machine_of c.in_session.new.self)
+        (sym c.minor.ensures ∙ c.if-minor-ne1.false) (c.in-Some.ensures.item ∙ ap (λ a. item a ∷ c.next.new.self.left) c.in-Sequence.is)
+        c.in-Some.ensures.head c.in_session.ensures.answer.1,
   );
   store = c.in_session.ensures.store;
 }
@@ -60,11 +65,15 @@ returns-in-Sequence c = record {
 pub returns-in_default-arg : goal.returns-in_default-arg
 returns-in_default-arg c = record {
   answer =
-      for_other (machine_of c.args.self.now) c.args.args.now (caller c.args.who.now) c.args.size c.args.now c.declared.result c.in-Some.arg c.next.new.self.left c.alone-status.result c.put-head.result.status_at c.put-head.result.count_at
+      for_other (machine_of c.args.self.now) c.args.args.now (caller c.args.who.now) c.args.size c.args.now c.declared.result
+      c.in-Some.arg c.next.new.self.left c.alone-status.result c.put-head.result.status_at c.put-head.result.count_at
       c.tag-tag.result.now
       c.args.out.now c.put-head.new.out c.alone-status.new.out c.close.new.out (machine_of c.alone-status.new.self)
-      (sym c.minor.ensures ∙ c.if-minor-ne1.false) c.in-Some.ensures.item c.in_default-arg.not-Sequence (c.declared.ensures ∙ ap (λ (r : Request). r.declared) c.in-Some.ensures.head) c.tag-tag.ensures.value c.put-head.ensures.places c.put-head.ensures.puts c.alone-status.ensures c.close.ensures;
+      (sym c.minor.ensures ∙ c.if-minor-ne1.false) c.in-Some.ensures.item c.in_default-arg.not-Sequence
+      (c.declared.ensures ∙ ap (λ (r : Request). r.declared) c.in-Some.ensures.head) c.tag-tag.ensures.value
+      c.put-head.ensures.places c.put-head.ensures.puts c.alone-status.ensures c.close.ensures;
   store =
       subst (λ (m : Machine). IsStore m.store) (sym c.alone-status.ensures.machine)
-      (first_stores (machine_of c.args.self.now) c.declared.result (caller c.args.who.now) c.args.now (is_delay c.alone-status.result) (item c.in-Some.arg) c.requires.kept.store);
+      (first_stores (machine_of c.args.self.now) c.declared.result (caller c.args.who.now) c.args.now
+      (is_delay c.alone-status.result) (item c.in-Some.arg) c.requires.kept.store);
 }

@@ -5,4 +5,5 @@ use Rattle.nfs_exec.proofs.Latest.{latest_left}
 use Rattle.nfs_exec.proofs.tables.Tables.confirm.Goals as goal
 
 pub renew-requires : goal.renew-requires
-renew-requires c = subst (λ (k : Machine). IsLatest k.leases c.args.now) (sym c.leave.ensures) (latest_left (leases_of c.args.self.now.leases) c.args.leaving c.args.now c.requires.latest)
+renew-requires c = subst (λ (k : Machine). IsLatest k.leases c.args.now) (sym c.leave.ensures)
+    (latest_left (leases_of c.args.self.now.leases) c.args.leaving c.args.now c.requires.latest)

@@ -12,7 +12,8 @@ use Rattle.nfs_exec.proofs.tables.Tables.create_session.Goals.{in-Stale, in-Miso
 pub returns-in-Again : goal.returns-in-Again
 returns-in-Again c =
     let m = machine_of c.args.self.now in
-    subst (λ (v : Verdict). Does (by_verdict m c.args.now (is_delay c.put_kept.result) (view_create_session c.args.asked.now) v) c.put_kept.result m c.args.out.now c.put_kept.new.out) c.in-Again.ensures (c.put_kept.ensures m)
+    subst (λ (v : Verdict). Does (by_verdict m c.args.now (is_delay c.put_kept.result) (view_create_session c.args.asked.now) v)
+    c.put_kept.result m c.args.out.now c.put_kept.new.out) c.in-Again.ensures (c.put_kept.ensures m)
 
 pub returns : goal.returns
 returns c =
@@ -20,7 +21,10 @@ returns c =
     let asked = view_create_session c.args.asked.now in
     let verdict = create_verdict m.clients asked.clientid asked.sequence c.args.who.now.uid in
     elim c.match-create_judge.branch [
-      | in-Stale w ↦ refused_call m c.args.now _ asked verdict Stale _ StaleClientId c.put_refusal.result _ c.args.out.now c.put_refusal.new.out w.in-Stale.ensures refl w.status-is (ap machine_of w.self-is) c.put_refusal.ensures
-      | in-Misordered w ↦ refused_call m c.args.now _ asked verdict Misordered _ SeqMisordered c.put_refusal.result _ c.args.out.now c.put_refusal.new.out w.in-Misordered.ensures refl w.status-is (ap machine_of w.self-is) c.put_refusal.ensures
-      | in-InUse w ↦ refused_call m c.args.now _ asked verdict InUse _ ClidInUse c.put_refusal.result _ c.args.out.now c.put_refusal.new.out w.in-InUse.ensures refl w.status-is (ap machine_of w.self-is) c.put_refusal.ensures
+      | in-Stale w ↦ refused_call m c.args.now _ asked verdict Stale _ StaleClientId c.put_refusal.result _ c.args.out.now
+          c.put_refusal.new.out w.in-Stale.ensures refl w.status-is (ap machine_of w.self-is) c.put_refusal.ensures
+      | in-Misordered w ↦ refused_call m c.args.now _ asked verdict Misordered _ SeqMisordered c.put_refusal.result _
+          c.args.out.now c.put_refusal.new.out w.in-Misordered.ensures refl w.status-is (ap machine_of w.self-is) c.put_refusal.ensures
+      | in-InUse w ↦ refused_call m c.args.now _ asked verdict InUse _ ClidInUse c.put_refusal.result _ c.args.out.now
+          c.put_refusal.new.out w.in-InUse.ensures refl w.status-is (ap machine_of w.self-is) c.put_refusal.ensures
     ]

@@ -8,4 +8,5 @@ pub returns-in-Ok-clause-size : goal.returns-in-Ok-clause-size
 returns-in-Ok-clause-size c = done_small
 
 pub returns-in-Err-clause-size : goal.returns-in-Err-clause-size
-returns-in-Err-clause-size c = subst IsSmall (sym (c.refusal.ensures ∙ ap (λ n. refusal n c.status.result) c.number.ensures)) (subst (λ s. IsSmall (refusal 57 s)) (sym c.status.ensures) (destroy_client_small c.in-Err.fault))
+returns-in-Err-clause-size c = subst IsSmall (sym (c.refusal.ensures ∙ ap (λ n. refusal n c.status.result) c.number.ensures))
+    (subst (λ s. IsSmall (refusal 57 s)) (sym c.status.ensures) (destroy_client_small c.in-Err.fault))

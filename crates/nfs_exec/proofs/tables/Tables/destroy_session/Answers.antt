@@ -10,7 +10,8 @@ pub returns-then-destroy-clause-size : goal.returns-then-destroy-clause-size
 returns-then-destroy-clause-size c = session_done_small
 
 pub returns-clause-outcome : goal.returns-clause-outcome
-returns-clause-outcome c = no_session (machine_of c.args.self.now) c.args.sessionid.now c.from_bytes.result c.destroy.new.self _ c.from_bytes.ensures.read c.if-destroy.ensures.stood c.if-destroy.ensures.gone (c.refusal.ensures ∙ ap (λ n. refusal n _) c.number.ensures)
+returns-clause-outcome c = no_session (machine_of c.args.self.now) c.args.sessionid.now c.from_bytes.result c.destroy.new.self _
+    c.from_bytes.ensures.read c.if-destroy.ensures.stood c.if-destroy.ensures.gone (c.refusal.ensures ∙ ap (λ n. refusal n _) c.number.ensures)
 
 pub returns-clause-size : goal.returns-clause-size
 returns-clause-size c = subst IsSmall (sym (c.refusal.ensures ∙ ap (λ n. refusal n _) c.number.ensures)) destroy_session_small

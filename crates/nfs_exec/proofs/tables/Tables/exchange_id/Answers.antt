@@ -26,7 +26,8 @@ returns-in-Ok-exchange-clause-outcome c =
     let e = view_exchange_id c.args.asked.now in
     let book = c.settle.ensures ∙ ap (λ (b : Book). settled b c.next_id-next.result c.in-Ok-exchange.exchanged) c.in-Ok.ensures.ok in
     ap (λ (x : ExchangeIdOk). comes_to (record m { clients = c.exchange.new.self; leases = leases_of c.settle.new.leases }) (ResExchangeId x)) c.granted.ensures
-    ∙ answered_ok m who c.args.now e c.next_id-next.result c.in-Ok-exchange.exchanged c.exchange.new.self (leases_of c.settle.new.leases) (case_of m.clients (ask_of who e))
+    ∙ answered_ok m who c.args.now e c.next_id-next.result c.in-Ok-exchange.exchanged c.exchange.new.self
+    (leases_of c.settle.new.leases) (case_of m.clients (ask_of who e))
     c.requires.machine c.next_id-next.ensures.fresh c.next_id-next.ensures.value refl c.in-Ok-exchange.ensures.0 c.in-Ok-exchange.ensures.1 book
 
 pub returns-in-Err-exchange-clause-outcome : goal.returns-in-Err-exchange-clause-outcome
@@ -35,6 +36,8 @@ returns-in-Err-exchange-clause-outcome c =
     let who = caller c.args.who.now in
     let e = view_exchange_id c.args.asked.now in
     let after = record m { clients = c.exchange.new.self; leases = leases_of c.remove.new.self } in
-    subst (λ (r : Res). comes_to after r ≡ or_delay (is_delay (status_of_result r)) m exchange_id_number (exchange_id m who c.args.now e)) (sym c.refused-in-Err-exchange.ensures)
+    subst (λ (r : Res). comes_to after r ≡ or_delay (is_delay (status_of_result r)) m exchange_id_number (exchange_id m who c.args.now e))
+    (sym c.refused-in-Err-exchange.ensures)
     (refused_last m who c.args.now e c.next_id-next.result c.in-Err-exchange.fault c.exchange.new.self (leases_of c.remove.new.self)
-    c.requires.machine c.next_id-next.ensures.fresh (sym c.judge_exchange.ensures ∙ c.in_default.is) c.in-Err-exchange.ensures (c.remove.ensures.lease ∙ ap (λ (b : Book). without_lease b c.next_id-next.result) c.in-Ok.ensures.ok))
+    c.requires.machine c.next_id-next.ensures.fresh (sym c.judge_exchange.ensures ∙ c.in_default.is) c.in-Err-exchange.ensures
+    (c.remove.ensures.lease ∙ ap (λ (b : Book). without_lease b c.next_id-next.result) c.in-Ok.ensures.ok))

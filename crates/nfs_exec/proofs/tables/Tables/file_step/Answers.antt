@@ -12,5 +12,6 @@ pub returns-then-moves_opens-clause-steps : goal.returns-then-moves_opens-clause
 returns-then-moves_opens-clause-steps c =
     let m = machine_of c.args.self.now in
     let o = files.comes_to (is_delay c.file_op-status.result) m.store c.args.context.now (moment c.args.now) (item c.args.arg.now) in
-    file_marked m c.args.context.now.client o c.file_op-status.result (state_of c.file_op-status.new.store) (moves_opens (item c.args.arg.now)) c.has_open.result c.hold.new.self c.file_op-status.new.context c.args.out.now
+    file_marked m c.args.context.now.client o c.file_op-status.result (state_of c.file_op-status.new.store)
+    (moves_opens (item c.args.arg.now)) c.has_open.result c.hold.new.self c.file_op-status.new.context c.args.out.now
     c.file_op-status.new.out (sym c.moves_opens.ensures ∙ c.if-moves_opens.true) c.file_op-status.ensures.comes c.has_open.ensures.found c.hold.ensures

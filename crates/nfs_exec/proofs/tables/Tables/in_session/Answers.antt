@@ -5,4 +5,5 @@ pub write_compound_head-requires-clause-room : goal.write_compound_head-requires
 write_compound_head-requires-clause-room c = any_head_fits c.args.out.now c.in-Refuses.status c.tag.result.now 1 c.tag.ensures.bound c.requires.room
 
 pub write-requires-clause-room : goal.write-requires-clause-room
-write-requires-clause-room c = λ arrays. refusal_fits c.args.out.now c.write_compound_head.new.out c.in-Refuses.status c.tag.result.now 1 _ _ _ c.tag.ensures.bound c.requires.room c.write_compound_head.ensures c.refusal.ensures
+write-requires-clause-room c = λ arrays. refusal_fits c.args.out.now c.write_compound_head.new.out c.in-Refuses.status
+    c.tag.result.now 1 _ _ _ c.tag.ensures.bound c.requires.room c.write_compound_head.ensures c.refusal.ensures

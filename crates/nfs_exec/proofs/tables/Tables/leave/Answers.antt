@@ -12,5 +12,6 @@ returns-in-Some c =
     let store = state_of c.drop_client-in-Some.new.self in
     ap (λ (t : SessionTable). record m { sessions = t; leases = leases_of c.remove.new.self; store = store }) c.drop_client.ensures
     ∙ ap (λ (b : Book). record m { sessions = without_client m.sessions gone; leases = b; store = store }) c.remove.ensures.lease
-    ∙ ap (λ (s : State). record m { sessions = without_client m.sessions gone; leases = without_lease m.leases gone; store = s }) c.drop_client-in-Some.ensures.state
+    ∙ ap (λ (s : State). record m { sessions = without_client m.sessions gone; leases = without_lease m.leases gone; store = s })
+    c.drop_client-in-Some.ensures.state
     ∙ ap (without_left m) (sym c.in-Some.is)

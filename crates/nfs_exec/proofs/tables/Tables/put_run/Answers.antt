@@ -25,24 +25,30 @@ put-head-requires-clause-room c = head_fits c.args.out.now c.tag.result.now c.ta
 
 pub write-requires-clause-room : goal.write-requires-clause-room
 write-requires-clause-room c = λ arrays.
-    (let long = subst (λ (s : SequenceOk). length (spell_result (ResSequence s)) ≤ 44) (sym c.accepted.ensures) (accepted_long c.args.asked.now c.args.channel.now c.requires.sessionid) in
-    second_fits c.args.out.now c.put-head.new.out c.tag.result.now (spell_result (ResSequence c.accepted.result)) c.tag.ensures.bound c.requires.room c.put-head.ensures.puts long)
+    (let long = subst (λ (s : SequenceOk). length (spell_result (ResSequence s)) ≤ 44)
+    (sym c.accepted.ensures) (accepted_long c.args.asked.now c.args.channel.now c.requires.sessionid) in
+    second_fits c.args.out.now c.put-head.new.out c.tag.result.now
+    (spell_result (ResSequence c.accepted.result)) c.tag.ensures.bound c.requires.room c.put-head.ensures.puts long)
 
 pub run-ran-requires-clause-fits : goal.run-ran-requires-clause-fits
 run-ran-requires-clause-fits c =
-    let long = subst (λ (s : SequenceOk). length (spell_result (ResSequence s)) ≤ 44) (sym c.accepted.ensures) (accepted_long c.args.asked.now c.args.channel.now c.requires.sessionid) in
-    run_fits c.args.out.now c.put-head.new.out c.write.new.out c.tag.result.now (spell_result (ResSequence c.accepted.result)) c.len-start.result c.args.channel.now.response c.tag.ensures.bound c.put-head.ensures.puts c.write.ensures long
+    let long = subst (λ (s : SequenceOk). length (spell_result (ResSequence s)) ≤ 44)
+    (sym c.accepted.ensures) (accepted_long c.args.asked.now c.args.channel.now c.requires.sessionid) in
+    run_fits c.args.out.now c.put-head.new.out c.write.new.out c.tag.result.now (spell_result (ResSequence c.accepted.result))
+    c.len-start.result c.args.channel.now.response c.tag.ensures.bound c.put-head.ensures.puts c.write.ensures long
     c.len-start.ensures.value c.requires.granted.response.0
 
 pub overflow_add-ran : goal.overflow_add-ran
 overflow_add-ran c =
     let ran = c.run-ran.ensures.ran in
-    let few = within_64 c.run-ran.result.count c.args.channel.now.response _ c.args.now ran.0 (machine_of c.args.self.now) c.new-context.result c.args.args.now.left ran.1.count c.requires.few in
+    let few = within_64 c.run-ran.result.count c.args.channel.now.response _ c.args.now ran.0
+    (machine_of c.args.self.now) c.new-context.result c.args.args.now.left ran.1.count c.requires.few in
     omega (arith, few)
 
 pub close-requires : goal.close-requires
 close-requires c = record {
-  stands = has_head c.args.out.now c.put-head.new.out c.write.new.out c.run-ran.new.out c.put-head.result.status_at c.put-head.result.count_at c.tag.result.now _ _ c.put-head.ensures.places c.put-head.ensures.puts c.write.ensures c.run-ran.ensures.ran.1.put;
+  stands = has_head c.args.out.now c.put-head.new.out c.write.new.out c.run-ran.new.out c.put-head.result.status_at c.put-head.result.count_at
+      c.tag.result.now _ _ c.put-head.ensures.places c.put-head.ensures.puts c.write.ensures c.run-ran.ensures.ran.1.put;
 }
 
 pub returns : goal.returns
@@ -62,11 +68,14 @@ returns c =
     let text = spell_result (ResSequence (Sequence.accepted s c.args.channel.now)) in
     let named : c.tag.result.now ≡ r.tag = c.tag.ensures.value in
     let same : spell_result (ResSequence c.accepted.result) ≡ text = ap (λ (s : SequenceOk). spell_result (ResSequence s)) c.accepted.ensures in
-    let one : Puts before heads (spell_compound_head Nfs4Ok r.tag 0) = subst (λ (t : List ℕ). Puts before heads (spell_compound_head Nfs4Ok t 0)) named c.put-head.ensures.puts in
+    let one : Puts before heads (spell_compound_head Nfs4Ok r.tag 0) =
+    subst (λ (t : List ℕ). Puts before heads (spell_compound_head Nfs4Ok t 0)) named c.put-head.ensures.puts in
     let two : Puts heads first text = subst (λ (t : List ℕ). Puts heads first t) same c.write.ensures in
     let places = subst (λ (t : List ℕ). HeadsAt c.put-head.result.status_at c.put-head.result.count_at before.bytes t) named c.put-head.ensures.places in
-    let sofar : 24 + (length first.bytes - c.len-start.result) ≡ begun r s c.args.channel.now = begun_is before heads first r.tag text c.len-start.result one two c.len-start.ensures.value in
-    let context : c.new-context.result ≡ begins (id_of s.sessionid).client who = c.new-context.ensures ∙ ap (λ (i : SessionId). begins i.client who) c.from_bytes.ensures.read in
+    let sofar : 24 + (length first.bytes - c.len-start.result) ≡ begun r s c.args.channel.now =
+    begun_is before heads first r.tag text c.len-start.result one two c.len-start.ensures.value in
+    let context : c.new-context.result ≡ begins (id_of s.sessionid).client who =
+    c.new-context.ensures ∙ ap (λ (i : SessionId). begins i.client who) c.from_bytes.ensures.read in
     let choice = later c.run-ran.ensures.ran.0 in
     let ran = run_in m r who now (behind_here choice) s c.args.channel.now r.left in
     let runs : RunsTo ran told left first rest =
@@ -77,11 +86,13 @@ returns c =
       answer = (
         choice,
         record {
-          put = put_closed before heads first rest c.close.new.out c.put-head.result.status_at c.put-head.result.count_at r.tag text ran told left places one two runs c.close.ensures;
+          put = put_closed before heads first rest c.close.new.out c.put-head.result.status_at
+              c.put-head.result.count_at r.tag text ran told left places one two runs c.close.ensures;
           machine = runs.machine;
         },
       );
-      fits = last_fits before heads first rest c.close.new.out c.put-head.result.status_at c.put-head.result.count_at limit c.len-start.result r.tag text ran told left places one two runs c.close.ensures c.run-ran.ensures.fits
+      fits = last_fits before heads first rest c.close.new.out c.put-head.result.status_at c.put-head.result.count_at
+          limit c.len-start.result r.tag text ran told left places one two runs c.close.ensures c.run-ran.ensures.fits
           c.len-start.ensures.value;
       same = c.run-ran.ensures.same;
       store = c.run-ran.ensures.store;

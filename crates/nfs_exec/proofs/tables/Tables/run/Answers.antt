@@ -15,14 +15,17 @@ loop-arg-preserved c =
     let next : Stand = record { machine = machine_of c.in_room-status.new.self; context = c.in_room-status.new.context; paper = c.in_room-status.new.out } in
     let i = item c.in-Some.arg in
     let s = c.in_room-status.result in
-    let going = subst (λ (left : List Item). Going c.args.limit c.args.start c.args.now first here c.args.args.now.left left c.loop-arg.count) c.in-Some.ensures.item c.loop-arg.invariant.going in
+    let going = subst (λ (left : List Item). Going c.args.limit c.args.start c.args.now first here c.args.args.now.left left c.loop-arg.count)
+    c.in-Some.ensures.item c.loop-arg.invariant.going in
     let did : Stepped c.args.limit c.args.start c.args.now here next i s =
-    counted (λ limit sofar. Steps (in_room limit sofar c.args.now (is_delay s) here.machine here.context i) s next.machine next.context here.paper next.paper) c.args.limit c.args.start here.paper
+    counted (λ limit sofar. Steps (in_room limit sofar c.args.now (is_delay s) here.machine here.context i) s next.machine next.context here.paper next.paper)
+    c.args.limit c.args.start here.paper
     c.from-in-Some.result c.from.result c.len.result c.from-in-Some.ensures c.from.ensures c.len.ensures.value c.in_room-status.ensures.steps in
     let more = counted (λ limit sofar. length next.paper.bytes + sofar + 12 ≤ length here.paper.bytes + limit) c.args.limit c.args.start here.paper
     c.from-in-Some.result c.from.result c.len.result c.from-in-Some.ensures c.from.ensures c.len.ensures.value (c.in_room-status.ensures.more c.in-Nfs4Ok.is) in
     record {
-      going = goes_on c.args.limit c.args.start c.args.now first here next c.args.args.now.left c.next.new.self.left i c.loop-arg.count s going did c.in-Nfs4Ok.is more;
+      going = goes_on c.args.limit c.args.start c.args.now first here next c.args.args.now.left
+          c.next.new.self.left i c.loop-arg.count s going did c.in-Nfs4Ok.is more;
       same = c.in-Some.ensures.head ∙ ap (λ (r : Request). record r { left = c.next.new.self.left }) c.loop-arg.invariant.same;
       store = c.in_room-status.ensures.store;
     }
@@ -34,14 +37,17 @@ returns-in_default-status c =
     let next : Stand = record { machine = machine_of c.in_room-status.new.self; context = c.in_room-status.new.context; paper = c.in_room-status.new.out } in
     let i = item c.in-Some.arg in
     let s = c.in_room-status.result in
-    let going = subst (λ (left : List Item). Going c.args.limit c.args.start c.args.now first here c.args.args.now.left left c.loop-arg.count) c.in-Some.ensures.item c.loop-arg.invariant.going in
+    let going = subst (λ (left : List Item). Going c.args.limit c.args.start c.args.now first here c.args.args.now.left left c.loop-arg.count)
+    c.in-Some.ensures.item c.loop-arg.invariant.going in
     let did : Stepped c.args.limit c.args.start c.args.now here next i s =
-    counted (λ limit sofar. Steps (in_room limit sofar c.args.now (is_delay s) here.machine here.context i) s next.machine next.context here.paper next.paper) c.args.limit c.args.start here.paper
+    counted (λ limit sofar. Steps (in_room limit sofar c.args.now (is_delay s) here.machine here.context i) s next.machine next.context here.paper next.paper)
+    c.args.limit c.args.start here.paper
     c.from-in-Some.result c.from.result c.len.result c.from-in-Some.ensures c.from.ensures c.len.ensures.value c.in_room-status.ensures.steps in
     let fits = counted (λ limit sofar. length next.paper.bytes + sofar ≤ length here.paper.bytes + limit) c.args.limit c.args.start here.paper
     c.from-in-Some.result c.from.result c.len.result c.from-in-Some.ensures c.from.ensures c.len.ensures.value c.in_room-status.ensures.fits in
     record {
-      ran = ends_with c.args.limit c.args.start c.args.now first here next c.args.args.now.left c.next.new.self.left i c.loop-arg.count s going did (not_ok s c.in_default-status.not-Nfs4Ok);
+      ran = ends_with c.args.limit c.args.start c.args.now first here next c.args.args.now.left c.next.new.self.left i c.loop-arg.count s going did
+          (not_ok s c.in_default-status.not-Nfs4Ok);
       fits = ends_within c.args.limit c.args.start c.args.now first here next.paper c.args.args.now.left c.next.new.self.left i c.loop-arg.count going fits;
       same = c.in-Some.ensures.head ∙ ap (λ (r : Request). record r { left = c.next.new.self.left }) c.loop-arg.invariant.same;
       store = c.in_room-status.ensures.store;
@@ -49,7 +55,8 @@ returns-in_default-status c =
 
 pub loop-arg-init : goal.loop-arg-init
 loop-arg-init c = record {
-  going = begins c.args.limit c.args.start c.args.now (record { machine = machine_of c.args.self.now; context = c.args.context.now; paper = c.args.out.now }) c.args.args.now.left c.requires.bears c.requires.few c.requires.start c.requires.fits;
+  going = begins c.args.limit c.args.start c.args.now (record { machine = machine_of c.args.self.now; context = c.args.context.now; paper = c.args.out.now })
+      c.args.args.now.left c.requires.bears c.requires.few c.requires.start c.requires.fits;
   same = refl;
   store = c.requires.store;
 }
@@ -58,5 +65,6 @@ pub returns-clause-ran : goal.returns-clause-ran
 returns-clause-ran c =
     let first : Stand = record { machine = machine_of c.args.self.now; context = c.args.context.now; paper = c.args.out.now } in
     let here : Stand = record { machine = machine_of c.loop-arg.self; context = c.loop-arg.context; paper = c.loop-arg.out } in
-    let going = subst (λ (left : List Item). Going c.args.limit c.args.start c.args.now first here c.args.args.now.left left c.loop-arg.count) c.in_default.ensures.item.0 c.loop-arg.invariant.going in
+    let going = subst (λ (left : List Item). Going c.args.limit c.args.start c.args.now first here c.args.args.now.left left c.loop-arg.count)
+    c.in_default.ensures.item.0 c.loop-arg.invariant.going in
     ends c.args.limit c.args.start c.args.now first here c.args.args.now.left c.loop-arg.count going

@@ -14,11 +14,13 @@ use Rattle.nfs_exec.proofs.tables.Tables.run_new.Goals as goal
 
 pub slice_bounds-reply-count : goal.slice_bounds-reply-count
 slice_bounds-reply-count c =
-    subst (λ (xs : List ℕ). c.len-start.result ≤ length xs) (sym c.bytes.ensures) (starts_within c.args.out.now c.put_run.new.out _ c.len-start.result c.put_run.ensures.answer.1.put c.len-start.ensures.value)
+    subst (λ (xs : List ℕ). c.len-start.result ≤ length xs) (sym c.bytes.ensures)
+    (starts_within c.args.out.now c.put_run.new.out _ c.len-start.result c.put_run.ensures.answer.1.put c.len-start.ensures.value)
 
 pub slice_bounds-reply-start : goal.slice_bounds-reply-start
 slice_bounds-reply-start c =
-    subst (λ (xs : List ℕ). c.len-start.result ≤ length xs) (sym c.bytes.ensures) (starts_within c.args.out.now c.put_run.new.out _ c.len-start.result c.put_run.ensures.answer.1.put c.len-start.ensures.value)
+    subst (λ (xs : List ℕ). c.len-start.result ≤ length xs) (sym c.bytes.ensures)
+    (starts_within c.args.out.now c.put_run.new.out _ c.len-start.result c.put_run.ensures.answer.1.put c.len-start.ensures.value)
 
 pub keep-requires : goal.keep-requires
 keep-requires c =
@@ -31,10 +33,13 @@ keep-requires c =
     let choice = c.put_run.ensures.answer.0 in
     let did = c.put_run.ensures.answer.1 in
     let sessions : c.put_run.new.self.sessions ≡ m.sessions =
-    ap (λ (k : Machine). k.sessions) did.machine ∙ run_sessions channel.response (begun r s channel) c.args.now (behind_here choice) behind (begins (id_of s.sessionid).client who) r.left in
-    let reply = ap (λ (xs : List ℕ). take (length xs - c.len-start.result) (drop c.len-start.result xs)) c.bytes.ensures ∙ text_of c.args.out.now c.put_run.new.out _ c.len-start.result did.put c.len-start.ensures.value in
+    ap (λ (k : Machine). k.sessions) did.machine
+    ∙ run_sessions channel.response (begun r s channel) c.args.now (behind_here choice) behind (begins (id_of s.sessionid).client who) r.left in
+    let reply = ap (λ (xs : List ℕ). take (length xs - c.len-start.result) (drop c.len-start.result xs)) c.bytes.ensures
+    ∙ text_of c.args.out.now c.put_run.new.out _ c.len-start.result did.put c.len-start.ensures.value in
     let args : c.bytes-2.result.now ≡ r.bytes = c.bytes-2.ensures ∙ ap (λ (q : Request). q.bytes) c.put_run.ensures.same in
-    may_keep c.put_run.new.self.sessions m.sessions r who c.requires.runs.0 s channel c.from_bytes-id.result c.bytes-2.result.now _ _ c.args.out.now c.put_run.new.out
+    may_keep c.put_run.new.self.sessions m.sessions r who c.requires.runs.0 s channel
+    c.from_bytes-id.result c.bytes-2.result.now _ _ c.args.out.now c.put_run.new.out
     sessions c.from_bytes-id.ensures.read c.requires.runs.1 c.requires.runs.2 args reply did.put c.put_run.ensures.fits
 
 pub returns-clause-answer : goal.returns-clause-answer
@@ -44,14 +49,18 @@ returns-clause-answer c =
     let s = c.args.asked.now in
     let who = caller c.args.who.now in
     let choice = c.put_run.ensures.answer.0 in
-    let behind : record m { leases = leases_of c.renew.new.self } ≡ renewed m c.args.now s = renewed_machine m s c.args.now c.from_bytes-id.result (leases_of c.renew.new.self) c.from_bytes-id.ensures.read c.renew.ensures in
-    let did = subst (λ (k : Machine). Answers (answers r (runs_behind k r who c.args.now choice s c.args.channel.now r.left)) c.args.out.now c.put_run.new.out (machine_of c.put_run.new.self)) behind c.put_run.ensures.answer.1 in
+    let behind : record m { leases = leases_of c.renew.new.self } ≡ renewed m c.args.now s =
+    renewed_machine m s c.args.now c.from_bytes-id.result (leases_of c.renew.new.self) c.from_bytes-id.ensures.read c.renew.ensures in
+    let did = subst (λ (k : Machine). Answers (answers r (runs_behind k r who c.args.now choice s c.args.channel.now r.left)) c.args.out.now c.put_run.new.out
+    (machine_of c.put_run.new.self)) behind c.put_run.ensures.answer.1 in
     let ran = runs_behind (renewed m c.args.now s) r who c.args.now choice s c.args.channel.now r.left in
-    let reply = ap (λ (xs : List ℕ). take (length xs - c.len-start.result) (drop c.len-start.result xs)) c.bytes.ensures ∙ text_of c.args.out.now c.put_run.new.out (answers r ran).text c.len-start.result did.put c.len-start.ensures.value in (
+    let reply = ap (λ (xs : List ℕ). take (length xs - c.len-start.result) (drop c.len-start.result xs)) c.bytes.ensures
+    ∙ text_of c.args.out.now c.put_run.new.out (answers r ran).text c.len-start.result did.put c.len-start.ensures.value in (
       choice,
       record {
         put = did.put;
-        machine = kept_machine (machine_of c.put_run.new.self) ran.machine r who s (answers r ran).text c.from_bytes-id.result c.keep.new.self c.bytes-2.result.now _
+        machine = kept_machine (machine_of c.put_run.new.self) ran.machine r who s
+            (answers r ran).text c.from_bytes-id.result c.keep.new.self c.bytes-2.result.now _
             c.from_bytes-id.ensures.read c.keep.ensures (c.bytes-2.ensures ∙ ap (λ (q : Request). q.bytes) c.put_run.ensures.same) reply did.machine;
       },
     )

@@ -12,7 +12,8 @@ pub invariant_of-self : goal.invariant_of-self
 invariant_of-self c = record {
   machine =
       subst IsMachine (sym c.compound.ensures.answer.1.machine)
-      (of_compound (machine_of c.self.inside.tables) c.args.args.now (caller c.args.who.now) c.args.size c.args.now c.compound.ensures.answer.0 c.self.invariant.machine);
+      (of_compound (machine_of c.self.inside.tables) c.args.args.now
+      (caller c.args.who.now) c.args.size c.args.now c.compound.ensures.answer.0 c.self.invariant.machine);
   store = c.compound.ensures.store;
 }
 

@@ -12,11 +12,13 @@ returns-in_err-client c =
 pub returns-then-saturating_sub-self : goal.returns-then-saturating_sub-self
 returns-then-saturating_sub-self c =
     rw (← c.self.view_is)
-    (some_out (record { renewals = c.self.inside.renewals.entries; duration = c.self.inside.lease }) c.args.now c.in_ok-client.client.now c.in_ok-client.moment.now c.self.invariant.0
+    (some_out (record { renewals = c.self.inside.renewals.entries; duration = c.self.inside.lease })
+    c.args.now c.in_ok-client.client.now c.in_ok-client.moment.now c.self.invariant.0
     (sym c.in_ok-client.ensures) (lt-ltb c.self.inside.lease (c.args.now - c.in_ok-client.moment.now) (omega arith)))
 
 pub returns-else-saturating_sub-self : goal.returns-else-saturating_sub-self
 returns-else-saturating_sub-self c =
     rw (← c.self.view_is)
-    (not_out (record { renewals = c.self.inside.renewals.entries; duration = c.self.inside.lease }) c.args.now c.in_ok-client.client.now c.in_ok-client.moment.now c.self.invariant.0
+    (not_out (record { renewals = c.self.inside.renewals.entries; duration = c.self.inside.lease })
+    c.args.now c.in_ok-client.client.now c.in_ok-client.moment.now c.self.invariant.0
     (sym c.in_ok-client.ensures) (omega arith))

@@ -21,7 +21,8 @@ use Rattle.nfs_opens.proofs.Numbered.{rises}
 use Rattle.nfs_opens.proofs.Members.{find_number, find_in, in_one}
 use Rattle.nfs_opens.proofs.LockLemmas.{same_table, as_many, judged_open, judged_lock}
 use Rattle.nfs_opens.proofs.TableLemmas.{table_opened}
-use Rattle.nfs_opens.proofs.StepLemmas.{all_some, if_some, judged_tells, first_state, table_first, lock_first_is, narrow_done, narrow_refused, table_narrow, table_join, no_clash_asked}
+use Rattle.nfs_opens.proofs.StepLemmas.{all_some, if_some, judged_tells, first_state, table_first, lock_first_is, narrow_done, narrow_refused, table_narrow}
+use Rattle.nfs_opens.proofs.StepLemmas.{table_join, no_clash_asked}
 use Rattle.nfs_opens.proofs.opens.Opens.lock.Goals as goal
 
 pub lock_as-requires-clause-file : goal.lock_as-requires-clause-file

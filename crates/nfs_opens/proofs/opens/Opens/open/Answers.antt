@@ -21,7 +21,8 @@ use Rattle.nfs_opens.proofs.Numbered.{rises}
 use Rattle.nfs_opens.proofs.Members.{find_in, in_one}
 use Rattle.nfs_opens.proofs.LockLemmas.{same_table, as_many, judged_open, judged_lock}
 use Rattle.nfs_opens.proofs.TableLemmas.{table_opened}
-use Rattle.nfs_opens.proofs.StepLemmas.{if_some, judged_tells, first_state, table_first, lock_first_is, narrow_done, narrow_refused, table_narrow, table_join, no_clash_asked}
+use Rattle.nfs_opens.proofs.StepLemmas.{if_some, judged_tells, first_state, table_first, lock_first_is, narrow_done, narrow_refused, table_narrow, table_join}
+use Rattle.nfs_opens.proofs.StepLemmas.{no_clash_asked}
 use Rattle.nfs_opens.proofs.opens.Opens.open.Goals as goal
 
 pub join_open-requires : goal.join_open-requires

@@ -13,8 +13,18 @@ set_u32-requires c =
 pub set_u32-requires-2 : goal.set_u32-requires-2
 set_u32-requires-2 c =
     let h = c.requires.stands in
-    let same = length_set_at c.args.self.status_at c.number.result c.args.out.now.bytes (omega (arith, h.places.status, ap length h.spelled, length_headed h.before h.status h.count h.tag h.behind)) in
-    record { within = omega (arith, h.places.count, same, ap (λ (p : Paper). length p.bytes) c.set_u32.ensures, ap length h.spelled, length_headed h.before h.status h.count h.tag h.behind) }
+    let same = length_set_at c.args.self.status_at c.number.result c.args.out.now.bytes
+    (omega (arith, h.places.status, ap length h.spelled, length_headed h.before h.status h.count h.tag h.behind)) in
+    record {
+      within = omega (
+        arith,
+        h.places.count,
+        same,
+        ap (λ (p : Paper). length p.bytes) c.set_u32.ensures,
+        ap length h.spelled,
+        length_headed h.before h.status h.count h.tag h.behind,
+      );
+    }
 
 pub returns : goal.returns
 returns c = record {
@@ -22,7 +32,8 @@ returns c = record {
       ap (λ (p : Paper). p.bytes) c.set_u32-2.ensures
       ∙ ap (λ (p : Paper). set_at c.args.self.count_at (number c.args.count) p.bytes) c.set_u32.ensures
       ∙ ap (λ (k : ℕ). set_at c.args.self.count_at (number c.args.count) (set_at c.args.self.status_at (number k) c.args.out.now.bytes)) c.number.ensures
-      ∙ ap (λ (bytes : List ℕ). set_at c.args.self.count_at (number c.args.count) (set_at c.args.self.status_at (number (status_number c.args.status)) bytes)) stood
+      ∙ ap (λ (bytes : List ℕ). set_at c.args.self.count_at (number c.args.count)
+      (set_at c.args.self.status_at (number (status_number c.args.status)) bytes)) stood
       ∙ set_head before s tag n behind _ _ _ _ at;
   room = ap (λ (p : Paper). p.room) c.set_u32-2.ensures ∙ ap (λ (p : Paper). p.room) c.set_u32.ensures;
 }

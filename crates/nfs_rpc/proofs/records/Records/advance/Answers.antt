@@ -14,7 +14,14 @@ returns-then-self-eq0-clause-stream c = λ rest fits h.
     let marked : length (take c.self.inside.marked c.self.inside.mark) ≡ length b.0.mark = ap (λ (p : Part). length p.mark) f.1 in
     rw (c.take_mark.ensures b.0 b.1)
     (mark_holds rest b.0 (take c.min-used.result c.args.piece.now) (sym (ap (λ (p : Part). p.lacking) f.1) ∙ c.if-self-eq0.true)
-    (omega (arith, marked, length-take c.self.inside.marked c.self.inside.mark, length-take c.min-used.result c.args.piece.now, c.min-used.ensures, c.self.told))
+    (omega (
+      arith,
+      marked,
+      length-take c.self.inside.marked c.self.inside.mark,
+      length-take c.min-used.result c.args.piece.now,
+      c.min-used.ensures,
+      c.self.told,
+    ))
     (IsBytes-append rest _ fits (IsBytes-take c.min-used.result c.args.piece.now (record { each = λ i. omega (arith, c.type_inv.piece i) })))
     (subst (Holds rest) b.1 h))
 

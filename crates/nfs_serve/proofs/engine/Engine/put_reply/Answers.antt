@@ -14,8 +14,10 @@ invariant_of-self g c = (rw c.frame.ensures.bytes (long-framed _ _ _), c.frame.e
 
 pub returns-clause-wrote : goal.returns-clause-wrote
 returns-clause-wrote g c =
-    let is = c.in_form.ensures ∙ ap (in_form c.args.form) (c.bytes.ensures ∙ c.frame.ensures.bytes) ∙ spelled_in_form c.args.form c.args.conn (drop 8 c.self.inside.sheet.bytes) in
-    rw (← c.self.view_is) (subst (λ bytes. Writes c.put.result (g.W.Sink.held c.args.out.now) (g.W.Sink.held c.put.new.w) bytes (g.W.Sink.has_failed c.put.new.w)) is c.put.ensures)
+    let is = c.in_form.ensures ∙ ap (in_form c.args.form) (c.bytes.ensures ∙ c.frame.ensures.bytes)
+    ∙ spelled_in_form c.args.form c.args.conn (drop 8 c.self.inside.sheet.bytes) in
+    rw (← c.self.view_is)
+    (subst (λ bytes. Writes c.put.result (g.W.Sink.held c.args.out.now) (g.W.Sink.held c.put.new.w) bytes (g.W.Sink.has_failed c.put.new.w)) is c.put.ensures)
 
 pub returns-clause-same : goal.returns-clause-same
 returns-clause-same g c =

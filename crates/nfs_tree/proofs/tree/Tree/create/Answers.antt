@@ -12,5 +12,6 @@ returns-in_err-judge_new c =
     let d = c.args.directory in
     let new = new_of c.args.new.now in
     let p = err_from_is_err_and c.from_residual.result c.from_residual.ensures.1 in
-    refused t true (create_checks t d c.args.name.now new) (record { number = t.last_object + 1; directory = raised t d }) (with_new t d c.args.name.now new c.args.sets.now c.args.now) _ _
+    refused t true (create_checks t d c.args.name.now new) (record { number = t.last_object + 1; directory = raised t d })
+    (with_new t d c.args.name.now new c.args.sets.now c.args.now) _ _
     (refl, (refl, (refl, (refl, (refl, (refl, (refl, (refl, tt)))))))) (judged_err _ _ (sym c.judge_new.ensures ∙ c.in_err-judge_new.was)) (p.1 ∙ ap Err p.2)

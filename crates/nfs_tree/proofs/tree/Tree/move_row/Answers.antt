@@ -28,7 +28,8 @@ change_moved-requires c =
       apart_target = subst (λ n. n ≢ m.target) (sym x) (replaced_target t m is can);
       source = subst (λ xs. CanChange xs m.source) (sym items) (can_change_all t.objects root (t.last_object + 1) m.source is.objects can.change_source);
       target = subst (λ xs. CanChange xs m.target) (sym items) (can_change_all t.objects root (t.last_object + 1) m.target is.objects can.change_target);
-      replaced = subst (λ n. CanChange c.deref_mut.result.now n) (sym x) (subst (λ xs. CanChange xs (replaced_object t m)) (sym items) (replaced_can t m is can));
+      replaced = subst (λ n. CanChange c.deref_mut.result.now n) (sym x)
+          (subst (λ xs. CanChange xs (replaced_object t m)) (sym items) (replaced_can t m is can));
     }
 
 pub invariant_of-self-2 : goal.invariant_of-self-2

@@ -9,7 +9,8 @@ use Rattle.nfs_tree.proofs.tree.Tree.rename.Goals as goal
 pub returns-in_err-judge_rename : goal.returns-in_err-judge_rename
 returns-in_err-judge_rename c =
     let p = err_from_is_err_and c.from_residual.result c.from_residual.ensures.1 in
-    rename_refused c.args.self.now (move c.args.source c.args.old.now c.args.target c.args.name.now) c.args.now _ _ (judged_err _ _ (sym c.judge_rename.ensures ∙ c.in_err-judge_rename.was)) (p.1 ∙ ap Err p.2)
+    rename_refused c.args.self.now (move c.args.source c.args.old.now c.args.target c.args.name.now) c.args.now _ _
+    (judged_err _ _ (sym c.judge_rename.ensures ∙ c.in_err-judge_rename.was)) (p.1 ∙ ap Err p.2)
 
 pub carry-requires-clause-granted : goal.carry-requires-clause-granted
 carry-requires-clause-granted c = judged_ok _ _ (sym c.judge_rename.ensures ∙ c.in_ok-judge_rename.was)

@@ -18,12 +18,14 @@ change_entry-requires c =
     record {
       apart = subst (λ k. k ≢ d) (sym c.requires.number) (apart t d n (has_one t d c.args.name.now granted.0) granted.1);
       directory = subst (λ xs. CanChange xs d) (sym items) (can_change_all t.objects root (t.last_object + 1) d is.objects granted.2);
-      number = subst (λ k. CanChange c.deref_mut.result.now k) (sym c.requires.number) (subst (λ xs. CanChange xs n) (sym items) (can_change_all t.objects root (t.last_object + 1) n is.objects granted.3));
+      number = subst (λ k. CanChange c.deref_mut.result.now k) (sym c.requires.number)
+          (subst (λ xs. CanChange xs n) (sym items) (can_change_all t.objects root (t.last_object + 1) n is.objects granted.3));
     }
 
 pub invariant_of-self : goal.invariant_of-self
 invariant_of-self c =
     let t = c.args.self.now in
     let is : IsTree t = subst IsTree c.self.view_is c.self.invariant in
-    tree_of (without_name t c.args.directory c.args.name.now c.args.now) (tree_removed t c.args.directory c.args.name.now c.args.now is c.requires.granted) _ _ _ _
+    tree_of (without_name t c.args.directory c.args.name.now c.args.now)
+    (tree_removed t c.args.directory c.args.name.now c.args.now is c.requires.granted) _ _ _ _
     (grind (arith, common_steps)) (grind (arith, common_steps)) (grind (arith, common_steps)) (grind (arith, common_steps))
