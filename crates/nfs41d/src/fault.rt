@@ -91,7 +91,7 @@ pub fn unread(e: &io::Error, fault: Fault) -> Fault
     }
 }
 
-/// What a run and the flush behind it come to. The fault of the run is told before that of the flush.
+/// What a run and the flush behind it come to. The fault of the run is reported before that of the flush.
 pub fn ending(ran: Result<(), ReplayFault>, flushed: io::Result<()>) -> Result<(), Fault>
     ensures { result ≡ ends.ending ran (is_err flushed) }
 {

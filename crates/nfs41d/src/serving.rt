@@ -7,7 +7,7 @@ use std::io::Write;
 use std::net::{Net, SocketAddrV4, TcpListener, TcpStream};
 use std::rt;
 
-/// Listens on an address, tells on `told` which one it has taken, and serves so many connections, one after the other. A connection
+/// Listens on an address, says on `told` which one it has taken, and serves so many connections, one after the other. A connection
 /// that ends, fails or is too long is closed, and the next is taken; no state but its unfinished record is lost.
 ///
 /// `Start` where the address cannot be listened on; `Accept` where no connection can be taken.

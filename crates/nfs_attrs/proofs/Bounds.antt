@@ -7,7 +7,7 @@ use Rattle.nfs_xdr.specs.Spelling as spelling
 use Rattle.nfs_xdr.proofs.Putting.{length_number}
 use Rattle.nfs_tree.specs.declared.object.Object.{Object}
 use Rattle.nfs_attrs.specs.Attributes.{attributes, values, readable, spell_attrs}
-use Rattle.nfs_attrs.specs.Mask.{has, told, common, spell_mask}
+use Rattle.nfs_attrs.specs.Mask.{has, trimmed_words, common, spell_mask}
 use Rattle.nfs_attrs.specs.Value.{asked_at}
 use Rattle.nfs_attrs.specs.declared.about.About.{About}
 use Rattle.nfs_attrs.specs.declared.mask.Mask.{Mask}
@@ -165,7 +165,7 @@ length_opaque text = simp measuring (omega arith)
 
 pub told_within : (asked : Mask) → length (spell_mask (common asked readable)) ≤ 16
 told_within asked =
-    let words = told (common asked readable) in
+    let words = trimmed_words (common asked readable) in
     omega (
       arith,
       length-without_last_zeros (common asked readable).words,

@@ -4,13 +4,13 @@ use Rattle.std.specs.Fmt.{decimal}
 use Rattle.std.specs.List.{flat_map}
 use Rattle.nfs_xdr.specs.Spelling as spelling
 use Rattle.nfs_xdr.specs.Reading.{◌>>=◌}
-use Rattle.nfs_xdr.specs.Codec.{Codec, number, hyper, flag, opaque, ◌then◌, array}
+use Rattle.nfs_xdr.specs.Codec.{Codec, number, hyper, flag, opaque, unbounded, ◌then◌, array}
 use Rattle.nfs_xdr.specs.Time.{time}
 use Rattle.nfs_tree.specs.declared.object.FileType.{FileType}
 use Rattle.nfs_tree.specs.declared.object.FileType.TheVariants.{Regular, Directory, Link}
 use Rattle.nfs_tree.specs.declared.object.Object.{Object}
 use Rattle.nfs_attrs.specs.Handle.{handle}
-use Rattle.nfs_attrs.specs.Mask.{has, told, common, spell_mask}
+use Rattle.nfs_attrs.specs.Mask.{has, trimmed_words, common, spell_mask}
 use Rattle.nfs_attrs.specs.SetTime.{set_time}
 use Rattle.nfs_attrs.specs.declared.about.About.{About}
 use Rattle.nfs_attrs.specs.declared.mask.Mask.{Mask}
@@ -21,10 +21,6 @@ abbrev pub type_number : FileType → ℕ
 type_number Regular = 1
 type_number Directory = 2
 type_number Link = 5
-
--- text that XDR alone bounds
-abbrev pub text : Codec (List ℕ)
-text = opaque 4294967295
 
 abbrev pub mask : Codec (List ℕ)
 mask = array number
@@ -64,7 +60,7 @@ read_write n c value into = record { number = n; value = Some (λ a o. c.spell (
 abbrev pub write_only : {A : Type 0} → ℕ → Codec A → (Option A → Settings → Settings) → Attribute
 write_only n c into = record { number = n; value = None; set = Some (taken c into) }
 
--- the masks of all attributes and of those that can be set, as attributes 0 and 75 tell them
+-- the masks of all attributes and of those that can be set, as attributes 0 and 75 report them
 abbrev pub supported : Mask
 supported = record { words = 0xf8180fff ∷ 0x00f1a03a ∷ 0x00000800 ∷ []; beyond = false }
 
@@ -73,7 +69,7 @@ settable = record { words = 0x00000010 ∷ 0x00410032 ∷ 0x00000000 ∷ []; bey
 
 unfoldable pub attributes : List Attribute
 attributes =
-    read_only 0 mask (λ a o. told supported)  -- supported_attrs
+    read_only 0 mask (λ a o. trimmed_words supported)  -- supported_attrs
     ∷ read_only 1 number (λ a o. type_number o.kind)  -- type
     ∷ read_only 2 number (λ a o. 0)  -- fh_expire_type: never
     ∷ read_only 3 hyper (λ a o. o.change)  -- change
@@ -94,8 +90,8 @@ attributes =
     ∷ read_only 31 hyper (λ a o. 65536)  -- maxwrite
     ∷ read_write 33 number (λ a o. o.mode) (λ x s. record s { mode = x })  -- mode
     ∷ read_only 35 number (λ a o. a.links)  -- numlinks
-    ∷ read_write 36 text (λ a o. decimal o.owner) (λ x s. record s { owner = x })  -- owner
-    ∷ read_write 37 text (λ a o. decimal o.group) (λ x s. record s { group = x })  -- owner_group
+    ∷ read_write 36 unbounded (λ a o. decimal o.owner) (λ x s. record s { owner = x })  -- owner
+    ∷ read_write 37 unbounded (λ a o. decimal o.group) (λ x s. record s { group = x })  -- owner_group
     ∷ read_only 45 hyper (λ a o. o.size)  -- space_used
     ∷ read_only 47 time (λ a o. o.access)  -- time_access
     ∷ write_only 48 set_time (λ x s. record s { access = x })  -- time_access_set
@@ -103,7 +99,7 @@ attributes =
     ∷ read_only 53 time (λ a o. o.modify)  -- time_modify
     ∷ write_only 54 set_time (λ x s. record s { modify = x })  -- time_modify_set
     ∷ read_only 55 hyper (λ a o. a.number)  -- mounted_on_fileid
-    ∷ read_only 75 mask (λ a o. told settable)  -- suppattr_exclcreat
+    ∷ read_only 75 mask (λ a o. trimmed_words settable)  -- suppattr_exclcreat
     ∷ []
 
 -- the attributes that can be read
@@ -126,7 +122,7 @@ values_in lines asked a o = flat_map (λ line. if has asked line.number then val
 unfoldable pub values : Mask → About → Object → List ℕ
 values asked a o = values_in attributes asked a o
 
--- What GETATTR and READDIR tell (fattr4): the mask of the attributes that are asked for and can be read, and their values.
+-- What GETATTR and READDIR report (fattr4): the mask of the attributes that are asked for and can be read, and their values.
 abbrev pub spell_attrs : Mask → About → Object → List ℕ
 spell_attrs asked a o = spell_mask (common asked readable) ++ spelling.opaque (values asked a o)
 

@@ -1,4 +1,4 @@
--- Which attributes are asked for, set or told: bitmap4 (RFC 8881 sections 3.3.7 and 5).
+-- Which attributes are asked for, set or reported: bitmap4 (RFC 8881 sections 3.3.7 and 5).
 use Rattle.std.specs.Prelude.{ℕ, ◌/◌, ◌%◌, ◌==◌, ◌&&◌, ◌||◌, List, [], ◌∷◌, get_or, drop, Bool, false, not, length, bit_and, if◌then◌else◌}
 use Rattle.std.specs.Int.{bit_at}
 use Rattle.std.specs.List.{list_any}
@@ -26,11 +26,11 @@ without_last_zeros [] = []
 without_last_zeros (word ∷ words) = before_zero word (without_last_zeros words)
 
 -- the words in which a mask is written
-abbrev pub told : Mask → List ℕ
-told mask = without_last_zeros mask.words
+abbrev pub trimmed_words : Mask → List ℕ
+trimmed_words mask = without_last_zeros mask.words
 
 abbrev pub spell_mask : Mask → List ℕ
-spell_mask mask = (array number).spell (told mask)
+spell_mask mask = (array number).spell (trimmed_words mask)
 
 -- each bit of a word is one of another
 abbrev pub word_within : ℕ → ℕ → Bool

@@ -1,6 +1,6 @@
-//! What the attributes of an object tell beside the object itself (RFC 8881 section 5.8).
+//! What the attributes of an object say beside the object itself (RFC 8881 section 5.8).
 
-/// What the attributes of an object tell that does not stand in the object itself.
+/// What the attributes of an object say that does not stand in the object itself.
 #[derive(Clone, Copy, Debug, PartialEq, Eq)]
 pub struct About {
     /// The object's number.

@@ -1,4 +1,4 @@
-//! Attributes, filehandles and permission bits: what operations tell of an object, what they may set, and who may.
+//! Attributes, filehandles and permission bits: what operations report of an object, what they may set, and who may.
 //!
 //! The table of attributes stands in `specs/Attributes.antt`, a line an attribute: its number, its codec, its value, and
 //! where it goes when it is set. What is written, compared and read are the bytes of that table. Permission bits are in

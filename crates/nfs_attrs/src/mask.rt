@@ -1,11 +1,11 @@
-//! Which attributes are asked for, set or told: `bitmap4` (RFC 8881 sections 3.3.7 and 5).
+//! Which attributes are asked for, set or reported: `bitmap4` (RFC 8881 sections 3.3.7 and 5).
 
 ghost use Rattle.std.specs.Prelude.{◌≡◌, ◌≤◌, ◌%◌, ◌==◌, ℕ, map, drop, length, not, get_or, bit_and};
 ghost use Rattle.std.specs.Int.{w32, from_be_bytes};
 ghost use Rattle.std.specs.List.{list_any};
-ghost use Rattle.nfs_xdr.specs.Paper.{HasRoom, Puts};
+ghost use Rattle.nfs_xdr.specs.SheetState.{HasRoom, Puts};
 ghost use Rattle.nfs_attrs.specs.Following.{Follows};
-ghost use Rattle.nfs_attrs.specs.Mask.{mask_of, has, asks_set_only, told, spell_mask, common, within};
+ghost use Rattle.nfs_attrs.specs.Mask.{mask_of, has, asks_set_only, trimmed_words, spell_mask, common, within};
 
 use crate::following::{number_follows, numbers_follow};
 use nfs_xdr::{Cursor, Sheet};
@@ -82,8 +82,8 @@ impl Mask {
     }
 
     /// The words of the mask as it is written: without zero words at its end.
-    pub fn told(&self) -> &[u32]
-        ensures words { result.now ≡ told self.now }
+    pub fn trimmed_words(&self) -> &[u32]
+        ensures words { result.now ≡ trimmed_words self.now }
         ensures few { length result.now ≤ 3 }
     {
         match self.words {
@@ -101,7 +101,7 @@ impl Mask {
         ensures small { result ≤ 16 }
         ensures words { result % 4 ≡ 0 }
     {
-        4 + 4 * self.told().len()
+        4 + 4 * self.trimmed_words().len()
     }
 
     /// Whether each attribute of the mask is one of `others`.
@@ -134,7 +134,7 @@ impl Mask {
         requires room { HasRoom sheet.old (spell_mask self.now) }
         ensures { Puts sheet.old sheet.new (spell_mask self.now) }
     {
-        let words = self.told();
+        let words = self.trimmed_words();
         sheet.put_u32(words.len() as u32);
         for word in words {
             sheet.put_u32(*word);
@@ -145,7 +145,7 @@ impl Mask {
     pub fn follows(&self, cursor: &mut Cursor<'_>) -> bool
         ensures { Follows result (spell_mask self.now) cursor.old cursor.new }
     {
-        let words = self.told();
+        let words = self.trimmed_words();
         number_follows(words.len() as u32, cursor) && numbers_follow(words, cursor)
     }
 }

@@ -1,6 +1,6 @@
 //! Times that are set (RFC 8881 sections 3.3.3, 5.8.2.38 and 5.8.2.44).
 
-ghost use Rattle.nfs_xdr.specs.Reading.{Finds};
+ghost use Rattle.nfs_xdr.specs.Reading.{ReadsPartBy};
 ghost use Rattle.nfs_attrs.specs.SetTime as spelled;
 
 use nfs_xdr::{Cursor, Time, Unreadable};
@@ -18,7 +18,7 @@ impl SetTime {
     /// Reads one: the number 0, or the number 1 and a time. Unreadable where it is cut or begins with another number.
     #[tactic(auto, unfolding(crate::specs::SetTime::set_time))]
     pub fn read(cursor: &mut Cursor<'_>) -> Result<SetTime, Unreadable>
-        ensures { Finds (λ t. t) result (spelled.set_time.read cursor.old) cursor.new }
+        ensures { ReadsPartBy (λ t. t) result (spelled.set_time.read cursor.old) cursor.new }
     {
         match cursor.u32()? {
             0 => Ok(SetTime::Now),

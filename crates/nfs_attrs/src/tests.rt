@@ -329,7 +329,7 @@ fn one_class_counts(rt: HostRuntime) {
 #[test]
 fn tells_access(rt: HostRuntime) {
     let cases = [
-        // what ACCESS of 0x3f tells a user 5 of first group 0
+        // what ACCESS of 0x3f grants a user 5 of first group 0
         (object(FileType::Directory, 0o777, 0, 0), 0x1f, 0x1f),
         (object(FileType::Directory, 448, 0, 0), 0x1f, 0),
         (object(FileType::Directory, 0o500, 5, 0), 0x1f, 0x03),
@@ -488,7 +488,7 @@ fn handles_and_masks(rt: HostRuntime) {
             beyond: true
         }
     );
-    assert_eq!(rt; mask.told(), [1, 2].as_slice());
+    assert_eq!(rt; mask.trimmed_words(), [1, 2].as_slice());
     assert_eq!(rt;
         (mask.has(33), mask.has(32), mask.has(200), mask.len()),
         (true, false, false, 12)

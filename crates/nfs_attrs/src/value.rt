@@ -1,7 +1,7 @@
 //! The value of each attribute that can be read (RFC 8881 section 5).
 
 ghost use Rattle.std.specs.Prelude.{◌≡◌, ◌≤◌, ◌%◌, ◌++◌, ℕ, List, length};
-ghost use Rattle.nfs_xdr.specs.Paper.{HasRoom, Puts};
+ghost use Rattle.nfs_xdr.specs.SheetState.{HasRoom, Puts};
 ghost use Rattle.nfs_attrs.specs.Following.{Follows};
 ghost use Rattle.nfs_attrs.specs.Value.{spell_value, spell_found, asked_at};
 ghost use Rattle.nfs_attrs.specs.Attributes as table;
@@ -22,7 +22,7 @@ pub enum Value {
     Flag(bool),
     FsId(u64, u64),
     Handle(Handle),
-    /// A user or a group, told as text.
+    /// A user or a group, as text.
     Owner(u32),
     Mask(Mask),
     Time(Time),

@@ -2,7 +2,7 @@
 
 ghost use Rattle.std.specs.Prelude.{◌≡◌, ℕ, is_some};
 ghost use Rattle.nfs_xdr.specs.Codec as codec;
-ghost use Rattle.nfs_xdr.specs.Reading.{Finds};
+ghost use Rattle.nfs_xdr.specs.Reading.{ReadsPartBy};
 ghost use Rattle.nfs_xdr.specs.Status.{status_number};
 ghost use Rattle.nfs_attrs.specs.Attributes as table;
 ghost use Rattle.nfs_attrs.specs.SetTime.{set_time};
@@ -85,7 +85,7 @@ struct Settings<'a> {
 }
 
 fn number_if(there: bool, cursor: &mut Cursor<'_>) -> Result<Option<u32>, Unreadable>
-    ensures { Finds (λ x. x) result (table.read_if there codec.number cursor.old) cursor.new }
+    ensures { ReadsPartBy (λ x. x) result (table.read_if there codec.number cursor.old) cursor.new }
 {
     if there {
         Ok(Some(cursor.u32()?))
@@ -95,7 +95,7 @@ fn number_if(there: bool, cursor: &mut Cursor<'_>) -> Result<Option<u32>, Unread
 }
 
 fn hyper_if(there: bool, cursor: &mut Cursor<'_>) -> Result<Option<u64>, Unreadable>
-    ensures { Finds (λ x. x) result (table.read_if there codec.hyper cursor.old) cursor.new }
+    ensures { ReadsPartBy (λ x. x) result (table.read_if there codec.hyper cursor.old) cursor.new }
 {
     if there {
         Ok(Some(cursor.u64()?))
@@ -105,7 +105,7 @@ fn hyper_if(there: bool, cursor: &mut Cursor<'_>) -> Result<Option<u64>, Unreada
 }
 
 fn text_if<'a>(there: bool, cursor: &mut Cursor<'a>) -> Result<Option<&'a [u8]>, Unreadable>
-    ensures { Finds view.lent result (table.read_if there table.text cursor.old) cursor.new }
+    ensures { ReadsPartBy view.lent result (table.read_if there codec.unbounded cursor.old) cursor.new }
 {
     if there {
         Ok(Some(cursor.opaque(u32::MAX)?))
@@ -115,7 +115,7 @@ fn text_if<'a>(there: bool, cursor: &mut Cursor<'a>) -> Result<Option<&'a [u8]>,
 }
 
 fn time_if(there: bool, cursor: &mut Cursor<'_>) -> Result<Option<SetTime>, Unreadable>
-    ensures { Finds (λ x. x) result (table.read_if there set_time cursor.old) cursor.new }
+    ensures { ReadsPartBy (λ x. x) result (table.read_if there set_time cursor.old) cursor.new }
 {
     if there {
         Ok(Some(SetTime::read(cursor)?))
@@ -127,7 +127,7 @@ fn time_if(there: bool, cursor: &mut Cursor<'_>) -> Result<Option<SetTime>, Unre
 /// The values that the mask has, in rising order of their attributes.
 #[tactic(auto, unfolding(crate::specs::Attributes::attributes))]
 fn each_setting<'a>(given: &Mask, cursor: &mut Cursor<'a>) -> Result<Settings<'a>, Unreadable>
-    ensures { Finds view.settings result (table.set_in table.attributes given.now table.no_settings cursor.old) cursor.new }
+    ensures { ReadsPartBy view.settings result (table.set_in table.attributes given.now table.no_settings cursor.old) cursor.new }
 {
     let size = hyper_if(given.has(SIZE), cursor)?;
     let mode = number_if(given.has(MODE), cursor)?;

@@ -1,7 +1,7 @@
 //! Writing and comparing the attributes of an object (RFC 8881 sections 18.7, 18.15, 18.23 and 18.31).
 
 ghost use Rattle.std.specs.Prelude.{◌≡◌, ◌≤◌, ℕ, length, bytes_eq};
-ghost use Rattle.nfs_xdr.specs.Paper.{HasRoom, Puts};
+ghost use Rattle.nfs_xdr.specs.SheetState.{HasRoom, Puts};
 ghost use Rattle.nfs_xdr.specs.Spelling.{opaque};
 ghost use Rattle.nfs_attrs.specs.Attributes as table;
 ghost use Rattle.nfs_attrs.specs.Comparing as comparing;
@@ -21,8 +21,8 @@ pub fn attrs_len(object: &Object, about: &About, asked: Mask) -> usize
     ensures exact { result ≡ length (table.spell_attrs asked about.now object.now) }
     ensures within { result ≤ 632 }
 {
-    let told = asked.common(&READABLE);
-    let mask = told.len();
+    let shown = asked.common(&READABLE);
+    let mask = shown.len();
     let count = values_len(&asked, object, about);
     mask + 4 + count
 }

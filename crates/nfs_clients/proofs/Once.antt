@@ -4,7 +4,7 @@ use Rattle.std.specs.Prelude.{filter}
 use Rattle.std.proofs.lemmas.Bool.{ne_eqb}
 use Rattle.nfs_xdr.proofs.Tables.{gone_filter, gone_map, gone_push}
 use Rattle.nfs_clients.specs.Roster.{ClientRecord, Roster, IsRoster, no_clients, next_id, client_at, is_unconfirmed_of, with_changed}
-use Rattle.nfs_clients.specs.ExchangeId.{Ask, Case, Refuses, Tells, Adds, has_room, if_room, case_by, case_of, does, with_new, new_client}
+use Rattle.nfs_clients.specs.ExchangeId.{Ask, Case, Refuses, Stays, Adds, has_room, if_room, case_by, case_of, does, with_new, new_client}
 use Rattle.nfs_clients.specs.CreateSession.{keeps, leaving, without_any, confirms}
 use Rattle.nfs_clients.specs.DestroyClientId.{destroy_fault, without_unless}
 use Rattle.nfs_clients.specs.declared.destroy.DestroyFault.{DestroyFault}
@@ -29,7 +29,7 @@ gone_new t a id is = record {
 
 gone_case : (t : Roster) (a : Ask) (k : Case) (id : ℕ) → StaysGone t id → StaysGone (does t a k).after id
 gone_case t a (Refuses fault) id is = is
-gone_case t a (Tells c) id is = is
+gone_case t a (Stays c) id is = is
 gone_case t a Adds id is = gone_new t a id is
 
 gone_changed : (t : Roster) (n : ℕ) (f : ClientRecord → ClientRecord) (id : ℕ) → IsMild f → StaysGone t id → StaysGone (with_changed t n f) id
@@ -66,10 +66,10 @@ given_once = λ t changes id given gone. gone_all t changes id (record { given =
 
 order_case : (t : Roster) (a : Ask) (room : Bool) (k : Case) → has_room t a.owner ≡ room → IsRoster t → IsRoster (does t a (if_room room k)).after
 order_case t a true (Refuses fault) e is = is
-order_case t a true (Tells c) e is = is
+order_case t a true (Stays c) e is = is
 order_case t a true Adds e is = roster_new t a is e
 order_case t a false (Refuses fault) e is = is
-order_case t a false (Tells c) e is = is
+order_case t a false (Stays c) e is = is
 order_case t a false Adds e is = is
 
 order_unless : (t : Roster) (n : ℕ) (o : Option DestroyFault) → IsRoster t → IsRoster (without_unless o t n)

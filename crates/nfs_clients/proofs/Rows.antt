@@ -5,7 +5,7 @@ use Rattle.nfs_clients.specs.declared.exchange_id.ClientFault.TheVariants.{Serve
 use Rattle.nfs_clients.specs.declared.exchange_id.Case.{Case as Code}
 use Rattle.nfs_clients.specs.declared.exchange_id.Case.TheVariants as code
 use Rattle.nfs_clients.specs.Roster.{ClientRecord, Roster, is_confirmed_of, confirmed_of}
-use Rattle.nfs_clients.specs.ExchangeId.{Case, Refuses, Tells, Adds, if_room, asks, case_of, does, exchange, told_new, with_new}
+use Rattle.nfs_clients.specs.ExchangeId.{Case, Refuses, Stays, Adds, if_room, asks, case_of, does, exchange, answer_added, with_new}
 use Rattle.nfs_clients.specs.Seen.{case_seen}
 use Rattle.nfs_clients.specs.declared.exchange_id.ClientFault.{ClientFault}
 use Rattle.nfs_clients.specs.declared.exchange_id.Exchanged.{Exchanged}
@@ -20,8 +20,8 @@ refuses_without_room room row e gone =
 pub other_row : (seen : Code) (room : Bool) (row : Case) → case_seen seen ≡ row → (seen ≡ code.Adds → ⊥) → case_seen seen ≡ if_room room row
 other_row (code.Refuses fault) room row e other =
     subst (λ row. Refuses fault ≡ if_room room row) e (elim room as (λ room. Refuses fault ≡ if_room room (Refuses fault)) [ true ↦ refl | false ↦ refl ])
-other_row (code.Tells c) room row e other =
-    subst (λ row. Tells c.now ≡ if_room room row) e (elim room as (λ room. Tells c.now ≡ if_room room (Tells c.now)) [ true ↦ refl | false ↦ refl ])
+other_row (code.Stays c) room row e other =
+    subst (λ row. Stays c.now ≡ if_room room row) e (elim room as (λ room. Stays c.now ≡ if_room room (Stays c.now)) [ true ↦ refl | false ↦ refl ])
 other_row code.Adds room row e other = absurd (other refl)
 
 -- the owner's confirmed record, as a search of the records gave it
@@ -30,14 +30,14 @@ pub confirmed_is : (t u : Roster) (owner : List ℕ) (ys : List ClientRecord) (x
 confirmed_is t u owner ys x o e same is x_is =
     sym x_is ∙ is ∙ ap (find (is_confirmed_of owner)) same ∙ ap (λ (t : Roster). confirmed_of t owner) e
 
--- a record that was added, and what is told of it
-pub added : (t after : Roster) (owner copy verifier : List ℕ) (flags uid : ℕ) (case : Code) (told : Exchanged)
+-- a record that was added, and what is reported of it
+pub added : (t after : Roster) (owner copy verifier : List ℕ) (flags uid : ℕ) (case : Code) (granted : Exchanged)
     → case ≡ code.Adds → case_seen case ≡ case_of t (asks owner verifier flags uid) → copy ≡ owner
-    → after ≡ with_new t (asks copy verifier 0 uid) → told ≡ told_new t copy
-    → (◌≡◌ {A = Result Exchanged ClientFault} (Ok told) (exchange t (asks owner verifier flags uid)).answer)
+    → after ≡ with_new t (asks copy verifier 0 uid) → granted ≡ answer_added t copy
+    → (◌≡◌ {A = Result Exchanged ClientFault} (Ok granted) (exchange t (asks owner verifier flags uid)).answer)
     × (after ≡ (exchange t (asks owner verifier flags uid)).after)
-added t after owner copy verifier flags uid case told adds is same done answer =
+added t after owner copy verifier flags uid case granted adds is same done answer =
     let now : Adds ≡ case_of t (asks owner verifier flags uid) = sym (ap case_seen adds) ∙ is in (
-      ap Ok (answer ∙ ap (told_new t) same) ∙ ap (λ k. (does t (asks owner verifier flags uid) k).answer) now,
+      ap Ok (answer ∙ ap (answer_added t) same) ∙ ap (λ k. (does t (asks owner verifier flags uid) k).answer) now,
       done ∙ ap (λ o. with_new t (asks o verifier 0 uid)) same ∙ ap (λ k. (does t (asks owner verifier flags uid) k).after) now,
     )

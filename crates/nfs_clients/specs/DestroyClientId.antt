@@ -13,7 +13,7 @@ abbrev pub destroy_status : DestroyFault → Status
 destroy_status Stale = status.StaleClientId
 destroy_status Busy = status.ClientIdBusy
 
--- whether the client has a session is told by the caller
+-- whether the client has a session is for the caller to say
 abbrev pub destroy_fault : Roster → ℕ → Bool → Option DestroyFault
 destroy_fault t id has_session = first_fault (
     (not (has_client t id), Stale)

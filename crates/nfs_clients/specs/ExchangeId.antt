@@ -46,7 +46,7 @@ same_user a c = c.uid == a.uid
 -- what a call comes to: nothing but an answer, a fault or a record that stands, or a new record
 pub data Case : Type 0 where
   Refuses : ClientFault → Case
-  Tells : ClientRecord → Case
+  Stays : ClientRecord → Case
   Adds : Case
 
 -- the first row whose test holds; the last is taken where none does
@@ -64,8 +64,8 @@ case_by a (Some c) =
     first_row ((carries_confirmed a, Refuses Inval)
     ∷ (updates a && not (same_verifier a c), Refuses NotSame)
     ∷ (updates a && not (same_user a c), Refuses Perm)
-    ∷ (updates a, Tells c)
-    ∷ (same_user a c && same_verifier a c, Tells c)
+    ∷ (updates a, Stays c)
+    ∷ (same_user a c && same_verifier a c, Stays c)
     ∷ (same_user a c, Adds)
     ∷ (c.has_open, Refuses ClidInUse)
     ∷ []) Adds
@@ -78,7 +78,7 @@ has_room t owner = nat_lt t.last last_counter && (is_some (unconfirmed_of t owne
 abbrev pub if_room : Bool → Case → Case
 if_room true case = case
 if_room false (Refuses fault) = Refuses fault
-if_room false (Tells c) = Tells c
+if_room false (Stays c) = Stays c
 if_room false Adds = Refuses ServerFault
 
 -- what a call comes to in this table
@@ -106,13 +106,13 @@ with_new t a = record t {
   last = t.last + 1;
 }
 
--- what is told of a record that is added
-abbrev pub told_new : Roster → List ℕ → Exchanged
-told_new t owner = record { id = next_id t; number = 1; confirmed = false; added = true; replaced = option_map (λ c. c.id) (unconfirmed_of t owner) }
+-- what is reported of a record that is added
+abbrev pub answer_added : Roster → List ℕ → Exchanged
+answer_added t owner = record { id = next_id t; number = 1; confirmed = false; added = true; replaced = option_map (λ c. c.id) (unconfirmed_of t owner) }
 
--- what is told of a record that stands
-abbrev pub told : ClientRecord → Exchanged
-told c = record { id = c.id; number = c.number; confirmed = true; added = false; replaced = None }
+-- what is reported of a record that stands
+abbrev pub answer_standing : ClientRecord → Exchanged
+answer_standing c = record { id = c.id; number = c.number; confirmed = true; added = false; replaced = None }
 
 -- an answer, and the table behind it
 pub record Did : Type 0 where
@@ -121,8 +121,8 @@ pub record Did : Type 0 where
 
 abbrev pub does : Roster → Ask → Case → Did
 does t a (Refuses fault) = record { answer = Err fault; after = t }
-does t a (Tells c) = record { answer = Ok (told c); after = t }
-does t a Adds = record { answer = Ok (told_new t a.owner); after = with_new t a }
+does t a (Stays c) = record { answer = Ok (answer_standing c); after = t }
+does t a Adds = record { answer = Ok (answer_added t a.owner); after = with_new t a }
 
 abbrev pub exchange : Roster → Ask → Did
 exchange t a = does t a (case_of t a)
@@ -130,7 +130,7 @@ exchange t a = does t a (case_of t a)
 -- what the call is refused with, if it is
 abbrev pub refusal_of : Case → Option ClientFault
 refusal_of (Refuses fault) = Some fault
-refusal_of (Tells c) = None
+refusal_of (Stays c) = None
 refusal_of Adds = None
 
 abbrev pub exchange_fault : Roster → Ask → Option ClientFault

@@ -3,7 +3,7 @@
 ghost use Rattle.std.specs.Prelude.{◌≡◌, false, true, None, Some};
 ghost use Rattle.nfs_clients.specs.Roster.{is_confirmed_of, is_unconfirmed_of};
 ghost use Rattle.nfs_clients.specs.CreateSession.{confirms, following};
-ghost use Rattle.nfs_clients.specs.ExchangeId.{told};
+ghost use Rattle.nfs_clients.specs.ExchangeId.{answer_standing};
 
 use crate::created::CreateResult;
 use crate::exchange_id::Exchanged;
@@ -17,7 +17,7 @@ pub(crate) struct Client {
     pub(crate) id: u64,
     /// The string by which the client names itself.
     pub(crate) owner: Owner,
-    /// The verifier of the client's start: another one tells that it began anew.
+    /// The verifier of the client's start: another one means that it began anew.
     pub(crate) verifier: [u8; 8],
     /// The user that made the record.
     pub(crate) uid: u32,
@@ -81,8 +81,8 @@ impl Client {
     }
 
     /// What a granted EXCHANGE_ID answers of a record that stands.
-    pub(crate) fn told(&self) -> Exchanged
-        ensures { result ≡ told self.now }
+    pub(crate) fn answer_standing(&self) -> Exchanged
+        ensures { result ≡ answer_standing self.now }
     {
         Exchanged {
             id: self.id,

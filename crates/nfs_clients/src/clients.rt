@@ -29,7 +29,7 @@ impl Model for Clients {
 }
 
 impl Clients {
-    /// The table of a new server: no records. `instance` tells this start of the server from
+    /// The table of a new server: no records. `instance` marks this start of the server off from
     /// others, and begins each client id.
     pub fn new(alloc: Global, instance: u32) -> Self
         ensures { result ≡ no_clients instance }

@@ -5,7 +5,7 @@ ghost use Rattle.std.specs.Option.{option_copied, option_map_or};
 ghost use Rattle.std.specs.List.{remove};
 ghost use Rattle.nfs_xdr.specs.Checks.{judged};
 ghost use Rattle.nfs_clients.specs.Roster.{confirmed_of, unconfirmed_of, is_unconfirmed_of, is_confirmed_of};
-ghost use Rattle.nfs_clients.specs.ExchangeId.{asks, case_of, case_by, has_room, with_new, told_new, exchange_fault, fault_status, ExchangesOrWants};
+ghost use Rattle.nfs_clients.specs.ExchangeId.{asks, case_of, case_by, has_room, with_new, answer_added, exchange_fault, fault_status, ExchangesOrWants};
 ghost use Rattle.nfs_clients.specs.Seen.{case_seen};
 ghost use Rattle.nfs_clients.specs.declared.exchange_id.ClientFault.TheVariants.{Memory};
 
@@ -108,7 +108,7 @@ impl Clients {
     {
         match self.case(&Name::of(owner), verifier, flags, uid) {
             Case::Refuses(fault) => Err(fault),
-            Case::Tells(client) => Ok(client.told()),
+            Case::Stays(client) => Ok(client.answer_standing()),
             Case::Adds => {
                 let owner = Owner::of(alloc, owner)?;
                 Ok(self.add(owner, verifier, uid)?)
@@ -154,7 +154,7 @@ impl Clients {
     fn add(&mut self, owner: Owner, verifier: [u8; 8], uid: u32) -> Result<Exchanged, AllocError>
         requires { IsTrue (has_room self.old owner) }
         ensures ok { OnOk result (self.new ≡ with_new self.old (asks owner verifier 0 uid)) }
-        ensures answer { IfOk result (λ e. e ≡ told_new self.old owner) }
+        ensures answer { IfOk result (λ e. e ≡ answer_added self.old owner) }
         ensures err { OnErr result (self.new ≡ self.old) }
     {
         self.records.reserve(1)?;
@@ -187,7 +187,7 @@ const UPD_CONFIRMED_REC_A: u32 = 0x4000_0000;
 #[derive(Clone, Copy)]
 enum Case<'a> {
     Refuses(ClientFault),
-    Tells(&'a Client),
+    Stays(&'a Client),
     Adds,
 }
 
@@ -206,11 +206,11 @@ impl Client {
             if self.uid != uid {
                 return Case::Refuses(ClientFault::Perm);
             }
-            return Case::Tells(self);
+            return Case::Stays(self);
         }
         if self.uid == uid {
             if self.verifier == verifier {
-                return Case::Tells(self);
+                return Case::Stays(self);
             }
             return Case::Adds;
         }

@@ -35,7 +35,7 @@ impl Clients {
         }
     }
 
-    /// Whether the client has an open, as `hold` was told; false where there is no such record.
+    /// Whether the client has an open, as `hold` was given it; false where there is no such record.
     pub fn has_open(&self, client: u64) -> bool
         ensures { result ≡ has_open self.now client }
     {

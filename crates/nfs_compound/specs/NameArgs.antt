@@ -16,7 +16,7 @@ use Rattle.nfs_compound.specs.Attributes.{Attributes, attributes, bitmap, view_a
 unfoldable pub spec_data : Codec SpecData
 spec_data = as_type (λ (specdata1, specdata2). record { specdata1 = specdata1; specdata2 = specdata2 }) (λ d. (d.specdata1, d.specdata2)) (number then number)
 
--- What is made (createtype4): devices and links tell more, and any other type is its number alone.
+-- What is made (createtype4): devices and links say more, and any other type is its number alone.
 pub data CreateType : Type 0 where
   Block : SpecData → CreateType
   Character : SpecData → CreateType

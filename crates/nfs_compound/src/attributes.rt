@@ -1,6 +1,6 @@
 //! Attribute masks and attributes: RFC 8881 sections 3.2 and 3.3.7.
 
-ghost use Rattle.nfs_xdr.specs.Reading.{Finds};
+ghost use Rattle.nfs_xdr.specs.Reading.{ReadsPartBy};
 ghost use Rattle.nfs_compound.specs.Attributes.{bitmap, attributes, view_bitmap, view_attributes};
 
 use nfs_xdr::{Cursor, Unreadable};
@@ -16,7 +16,7 @@ impl<'a> Bitmap<'a> {
     /// Reads a mask of any number of words. Unreadable where it is cut.
     #[tactic(auto, unfolding(crate::specs::Attributes::bitmap))]
     pub fn read(c: &mut Cursor<'a>) -> Result<Bitmap<'a>, Unreadable>
-        ensures { Finds view_bitmap result (bitmap.read c.old) c.new }
+        ensures { ReadsPartBy view_bitmap result (bitmap.read c.old) c.new }
     {
         let words = c.pieces::<4>()?;
         Ok(Bitmap { words })
@@ -35,7 +35,7 @@ impl<'a> Attributes<'a> {
     /// Reads a mask and an opaque. Unreadable where they are cut or padded by other than zeros.
     #[tactic(auto, unfolding(crate::specs::Attributes::attributes))]
     pub fn read(c: &mut Cursor<'a>) -> Result<Attributes<'a>, Unreadable>
-        ensures { Finds view_attributes result (attributes.read c.old) c.new }
+        ensures { ReadsPartBy view_attributes result (attributes.read c.old) c.new }
     {
         let attrmask = Bitmap::read(c)?;
         let attr_vals = c.opaque(u32::MAX)?;

@@ -1,7 +1,7 @@
 //! The security parameters of callbacks, which are gone over and not looked at: RFC 8881 section 18.36.1.
 
 ghost use Rattle.std.specs.Prelude.{◌≡◌};
-ghost use Rattle.nfs_xdr.specs.Reading.{Finds};
+ghost use Rattle.nfs_xdr.specs.Reading.{ReadsPartBy};
 ghost use Rattle.nfs_xdr.specs.Codec.{passed, array};
 ghost use Rattle.nfs_compound.specs.Callback.{auth_sys, gss_handles, sec_parms, all_sec_parms};
 
@@ -9,7 +9,7 @@ use nfs_xdr::{Cursor, Unreadable};
 
 /// The bytes of an array of callback security parameters. Unreadable where one of them is.
 pub fn all_sec_parms<'a>(c: &mut Cursor<'a>) -> Result<&'a [u8], Unreadable>
-    ensures { Finds (λ x. x.now) result (all_sec_parms.read c.old) c.new }
+    ensures { ReadsPartBy (λ x. x.now) result (all_sec_parms.read c.old) c.new }
 {
     let bytes = c.rest();
     pass_all(c)?;
@@ -17,7 +17,7 @@ pub fn all_sec_parms<'a>(c: &mut Cursor<'a>) -> Result<&'a [u8], Unreadable>
 }
 
 fn pass_all(c: &mut Cursor<'_>) -> Result<(), Unreadable>
-    ensures { Finds (λ u. u) result (passed ((array sec_parms).read c.old)) c.new }
+    ensures { ReadsPartBy (λ u. u) result (passed ((array sec_parms).read c.old)) c.new }
 {
     let count = c.u32()?;
     for _ in 0..count {
@@ -29,7 +29,7 @@ fn pass_all(c: &mut Cursor<'_>) -> Result<(), Unreadable>
 /// Goes over the parameters of one flavour: AUTH_NONE, AUTH_SYS or RPCSEC_GSS.
 #[tactic(auto, unfolding(crate::specs::Callback::sec_parms))]
 fn pass(c: &mut Cursor<'_>) -> Result<(), Unreadable>
-    ensures { Finds (λ u. u) result (passed (sec_parms.read c.old)) c.new }
+    ensures { ReadsPartBy (λ u. u) result (passed (sec_parms.read c.old)) c.new }
 {
     match c.u32()? {
         0 => Ok(()),
@@ -41,7 +41,7 @@ fn pass(c: &mut Cursor<'_>) -> Result<(), Unreadable>
 
 #[tactic(auto, unfolding(crate::specs::Callback::auth_sys))]
 fn pass_auth_sys(c: &mut Cursor<'_>) -> Result<(), Unreadable>
-    ensures { Finds (λ u. u) result (passed (auth_sys.read c.old)) c.new }
+    ensures { ReadsPartBy (λ u. u) result (passed (auth_sys.read c.old)) c.new }
 {
     c.u32()?;
     c.opaque(255)?;
@@ -56,7 +56,7 @@ fn pass_auth_sys(c: &mut Cursor<'_>) -> Result<(), Unreadable>
 
 #[tactic(auto, unfolding(crate::specs::Callback::gss_handles))]
 fn pass_gss_handles(c: &mut Cursor<'_>) -> Result<(), Unreadable>
-    ensures { Finds (λ u. u) result (passed (gss_handles.read c.old)) c.new }
+    ensures { ReadsPartBy (λ u. u) result (passed (gss_handles.read c.old)) c.new }
 {
     c.u32()?;
     c.opaque(u32::MAX)?;

@@ -1,6 +1,6 @@
 //! The attributes of a channel: RFC 8881 section 18.36.1.
 
-ghost use Rattle.nfs_xdr.specs.Reading.{Finds};
+ghost use Rattle.nfs_xdr.specs.Reading.{ReadsPartBy};
 ghost use Rattle.nfs_compound.specs.ChannelAttrs.{channel_attrs};
 
 use nfs_xdr::{Cursor, Unreadable};
@@ -22,7 +22,7 @@ impl ChannelAttrs {
     /// Reads the attributes of a channel. Unreadable where they are cut or `rdma_ird` is more than one number.
     #[tactic(auto, unfolding(crate::specs::ChannelAttrs::channel_attrs))]
     pub fn read(c: &mut Cursor<'_>) -> Result<ChannelAttrs, Unreadable>
-        ensures { Finds (λ a. a) result (channel_attrs.read c.old) c.new }
+        ensures { ReadsPartBy (λ a. a) result (channel_attrs.read c.old) c.new }
     {
         let headerpadsize = c.u32()?;
         let maxrequestsize = c.u32()?;

@@ -1,6 +1,6 @@
 //! COMMIT, READ, WRITE and SETATTR: RFC 8881 sections 18.3, 18.22, 18.32 and 18.30.
 
-ghost use Rattle.nfs_xdr.specs.Reading.{Finds};
+ghost use Rattle.nfs_xdr.specs.Reading.{ReadsPartBy};
 ghost use Rattle.nfs_compound.specs.FileArgs.{commit_args, read_args, stable_how, write_args, set_attr_args, view_write, view_set_attr};
 
 use crate::attributes::Attributes;
@@ -20,7 +20,7 @@ impl Commit {
     /// Reads the arguments of COMMIT; unreadable where they are not spelled so.
     #[tactic(auto, unfolding(crate::specs::FileArgs::commit_args))]
     pub fn read(c: &mut Cursor<'_>) -> Result<Commit, Unreadable>
-        ensures { Finds (λ x. x) result (commit_args.read c.old) c.new }
+        ensures { ReadsPartBy (λ x. x) result (commit_args.read c.old) c.new }
     {
         let offset = c.u64()?;
         let count = c.u32()?;
@@ -42,7 +42,7 @@ impl Read {
     /// Reads the arguments of READ; unreadable where they are not spelled so.
     #[tactic(auto, unfolding(crate::specs::FileArgs::read_args))]
     pub fn read(c: &mut Cursor<'_>) -> Result<Read, Unreadable>
-        ensures { Finds (λ x. x) result (read_args.read c.old) c.new }
+        ensures { ReadsPartBy (λ x. x) result (read_args.read c.old) c.new }
     {
         let stateid = Stateid::read(c)?;
         let offset = c.u64()?;
@@ -70,7 +70,7 @@ impl StableHow {
     /// Reads how safely bytes are to be written; unreadable where it is not spelled so.
     #[tactic(auto, unfolding(crate::specs::FileArgs::stable_how))]
     pub fn read(c: &mut Cursor<'_>) -> Result<StableHow, Unreadable>
-        ensures { Finds (λ x. x) result (stable_how.read c.old) c.new }
+        ensures { ReadsPartBy (λ x. x) result (stable_how.read c.old) c.new }
     {
         match c.u32()? {
             0 => Ok(StableHow::Unstable),
@@ -96,7 +96,7 @@ impl<'a> Write<'a> {
     /// Reads the arguments of WRITE; unreadable where they are not spelled so.
     #[tactic(auto, unfolding(crate::specs::FileArgs::write_args))]
     pub fn read(c: &mut Cursor<'a>) -> Result<Write<'a>, Unreadable>
-        ensures { Finds view_write result (write_args.read c.old) c.new }
+        ensures { ReadsPartBy view_write result (write_args.read c.old) c.new }
     {
         let stateid = Stateid::read(c)?;
         let offset = c.u64()?;
@@ -122,7 +122,7 @@ impl<'a> SetAttr<'a> {
     /// Reads the arguments of SETATTR; unreadable where they are not spelled so.
     #[tactic(auto, unfolding(crate::specs::FileArgs::set_attr_args))]
     pub fn read(c: &mut Cursor<'a>) -> Result<SetAttr<'a>, Unreadable>
-        ensures { Finds view_set_attr result (set_attr_args.read c.old) c.new }
+        ensures { ReadsPartBy view_set_attr result (set_attr_args.read c.old) c.new }
     {
         let stateid = Stateid::read(c)?;
         let obj_attributes = Attributes::read(c)?;

@@ -1,7 +1,7 @@
 //! Reading what stands at a place: an operation, or the fault that ends the list.
 
 ghost use Rattle.std.specs.Prelude.{◌≡◌, MatchOption, Some, None};
-ghost use Rattle.nfs_xdr.specs.Reading.{Finds};
+ghost use Rattle.nfs_xdr.specs.Reading.{ReadsPartBy};
 ghost use Rattle.nfs_xdr.specs.Codec.{in_arm};
 ghost use Rattle.nfs_compound.specs.Operation.{Operation};
 ghost use Rattle.nfs_compound.specs.Arguments.{op_at, fault_at, flaw};
@@ -43,7 +43,7 @@ pub fn item<'a>(c: &mut Cursor<'a>) -> Option<Arg<'a>>
 /// The arguments of an operation, which stand at the cursor.
 #[tactic(auto, unfolding(crate::specs::Arguments::op_at))]
 fn arguments<'a>(op: OpNum, c: &mut Cursor<'a>) -> Result<Arg<'a>, Unreadable>
-    ensures { Finds view.item result (in_arm Operation (op_at op c.old)) c.new }
+    ensures { ReadsPartBy view.item result (in_arm Operation (op_at op c.old)) c.new }
 {
     Ok(match op {
         OpNum::Access => Arg::Access { access: c.u32()? },

@@ -1,7 +1,7 @@
 //! LOCK, LOCKT and LOCKU: RFC 8881 sections 18.10 to 18.12.
 
 ghost use Rattle.std.specs.Prelude.{◌≡◌};
-ghost use Rattle.nfs_xdr.specs.Reading.{Finds};
+ghost use Rattle.nfs_xdr.specs.Reading.{ReadsPartBy};
 ghost use Rattle.nfs_compound.specs.LockArgs.{lock_type_number, lock_type, open_to_lock_owner, exist_lock_owner, locker, lock_args, lock_t_args, lock_u_args};
 ghost use Rattle.nfs_compound.specs.LockArgs.{view_open_to_lock_owner, view_locker, view_lock, view_lock_t};
 
@@ -26,7 +26,7 @@ impl LockType {
     /// Reads the kind of a lock; unreadable where it is not spelled so.
     #[tactic(auto, unfolding(crate::specs::LockArgs::lock_type))]
     pub fn read(c: &mut Cursor<'_>) -> Result<LockType, Unreadable>
-        ensures { Finds (λ k. k) result (lock_type.read c.old) c.new }
+        ensures { ReadsPartBy (λ k. k) result (lock_type.read c.old) c.new }
     {
         match c.u32()? {
             1 => Ok(LockType::Read),
@@ -63,7 +63,7 @@ impl<'a> OpenToLockOwner<'a> {
     /// Reads the first lock of an owner on a file; unreadable where it is not spelled so.
     #[tactic(auto, unfolding(crate::specs::LockArgs::open_to_lock_owner))]
     pub fn read(c: &mut Cursor<'a>) -> Result<OpenToLockOwner<'a>, Unreadable>
-        ensures { Finds view_open_to_lock_owner result (open_to_lock_owner.read c.old) c.new }
+        ensures { ReadsPartBy view_open_to_lock_owner result (open_to_lock_owner.read c.old) c.new }
     {
         let open_seqid = c.u32()?;
         let open_stateid = Stateid::read(c)?;
@@ -89,7 +89,7 @@ impl ExistLockOwner {
     /// Reads a further lock of an owner on a file; unreadable where it is not spelled so.
     #[tactic(auto, unfolding(crate::specs::LockArgs::exist_lock_owner))]
     pub fn read(c: &mut Cursor<'_>) -> Result<ExistLockOwner, Unreadable>
-        ensures { Finds (λ o. o) result (exist_lock_owner.read c.old) c.new }
+        ensures { ReadsPartBy (λ o. o) result (exist_lock_owner.read c.old) c.new }
     {
         let lock_stateid = Stateid::read(c)?;
         let lock_seqid = c.u32()?;
@@ -113,7 +113,7 @@ impl<'a> Locker<'a> {
     /// Reads who locks; unreadable where it is not spelled so.
     #[tactic(auto, unfolding(crate::specs::LockArgs::locker))]
     pub fn read(c: &mut Cursor<'a>) -> Result<Locker<'a>, Unreadable>
-        ensures { Finds view_locker result (locker.read c.old) c.new }
+        ensures { ReadsPartBy view_locker result (locker.read c.old) c.new }
     {
         match c.u32()? {
             1 => Ok(Locker::OpenOwner(OpenToLockOwner::read(c)?)),
@@ -139,7 +139,7 @@ impl<'a> Lock<'a> {
     /// Reads the arguments of LOCK; unreadable where they are not spelled so.
     #[tactic(auto, unfolding(crate::specs::LockArgs::lock_args))]
     pub fn read(c: &mut Cursor<'a>) -> Result<Lock<'a>, Unreadable>
-        ensures { Finds view_lock result (lock_args.read c.old) c.new }
+        ensures { ReadsPartBy view_lock result (lock_args.read c.old) c.new }
     {
         let locktype = LockType::read(c)?;
         let reclaim = c.flag()?;
@@ -169,7 +169,7 @@ impl<'a> LockT<'a> {
     /// Reads the arguments of LOCKT; unreadable where they are not spelled so.
     #[tactic(auto, unfolding(crate::specs::LockArgs::lock_t_args))]
     pub fn read(c: &mut Cursor<'a>) -> Result<LockT<'a>, Unreadable>
-        ensures { Finds view_lock_t result (lock_t_args.read c.old) c.new }
+        ensures { ReadsPartBy view_lock_t result (lock_t_args.read c.old) c.new }
     {
         let locktype = LockType::read(c)?;
         let offset = c.u64()?;
@@ -198,7 +198,7 @@ impl LockU {
     /// Reads the arguments of LOCKU; unreadable where they are not spelled so.
     #[tactic(auto, unfolding(crate::specs::LockArgs::lock_u_args))]
     pub fn read(c: &mut Cursor<'_>) -> Result<LockU, Unreadable>
-        ensures { Finds (λ l. l) result (lock_u_args.read c.old) c.new }
+        ensures { ReadsPartBy (λ l. l) result (lock_u_args.read c.old) c.new }
     {
         let locktype = LockType::read(c)?;
         let seqid = c.u32()?;

@@ -1,6 +1,6 @@
 //! CREATE, READDIR, RENAME and SECINFO_NO_NAME: RFC 8881 sections 18.4, 18.23, 18.26 and 18.45.
 
-ghost use Rattle.nfs_xdr.specs.Reading.{Finds};
+ghost use Rattle.nfs_xdr.specs.Reading.{ReadsPartBy};
 ghost use Rattle.nfs_compound.specs.NameArgs.{spec_data, create_type, create_args, read_dir_args, rename_args, secinfo_style};
 ghost use Rattle.nfs_compound.specs.NameArgs.{view_create_type, view_create, view_read_dir, view_rename};
 
@@ -18,7 +18,7 @@ impl SpecData {
     /// Reads the numbers of a device; unreadable where they are not spelled so.
     #[tactic(auto, unfolding(crate::specs::NameArgs::spec_data))]
     pub fn read(c: &mut Cursor<'_>) -> Result<SpecData, Unreadable>
-        ensures { Finds (λ d. d) result (spec_data.read c.old) c.new }
+        ensures { ReadsPartBy (λ d. d) result (spec_data.read c.old) c.new }
     {
         let specdata1 = c.u32()?;
         let specdata2 = c.u32()?;
@@ -46,7 +46,7 @@ impl<'a> CreateType<'a> {
     /// Reads the type of an object that is made; unreadable where it is not spelled so.
     #[tactic(auto, unfolding(crate::specs::NameArgs::create_type))]
     pub fn read(c: &mut Cursor<'a>) -> Result<CreateType<'a>, Unreadable>
-        ensures { Finds view_create_type result (create_type.read c.old) c.new }
+        ensures { ReadsPartBy view_create_type result (create_type.read c.old) c.new }
     {
         match c.u32()? {
             3 => Ok(CreateType::Block(SpecData::read(c)?)),
@@ -71,7 +71,7 @@ impl<'a> Create<'a> {
     /// Reads the arguments of CREATE; unreadable where they are not spelled so.
     #[tactic(auto, unfolding(crate::specs::NameArgs::create_args))]
     pub fn read(c: &mut Cursor<'a>) -> Result<Create<'a>, Unreadable>
-        ensures { Finds view_create result (create_args.read c.old) c.new }
+        ensures { ReadsPartBy view_create result (create_args.read c.old) c.new }
     {
         let objtype = CreateType::read(c)?;
         let objname = c.opaque(u32::MAX)?;
@@ -100,7 +100,7 @@ impl<'a> ReadDir<'a> {
     /// Reads the arguments of READDIR; unreadable where they are not spelled so.
     #[tactic(auto, unfolding(crate::specs::NameArgs::read_dir_args))]
     pub fn read(c: &mut Cursor<'a>) -> Result<ReadDir<'a>, Unreadable>
-        ensures { Finds view_read_dir result (read_dir_args.read c.old) c.new }
+        ensures { ReadsPartBy view_read_dir result (read_dir_args.read c.old) c.new }
     {
         let cookie = c.u64()?;
         let cookieverf = c.fixed::<8>()?;
@@ -128,7 +128,7 @@ impl<'a> Rename<'a> {
     /// Reads the arguments of RENAME; unreadable where they are not spelled so.
     #[tactic(auto, unfolding(crate::specs::NameArgs::rename_args))]
     pub fn read(c: &mut Cursor<'a>) -> Result<Rename<'a>, Unreadable>
-        ensures { Finds view_rename result (rename_args.read c.old) c.new }
+        ensures { ReadsPartBy view_rename result (rename_args.read c.old) c.new }
     {
         let oldname = c.opaque(u32::MAX)?;
         let newname = c.opaque(u32::MAX)?;
@@ -149,7 +149,7 @@ impl SecinfoStyle {
     /// Reads whose flavours are asked for; unreadable where it is not spelled so.
     #[tactic(auto, unfolding(crate::specs::NameArgs::secinfo_style))]
     pub fn read(c: &mut Cursor<'_>) -> Result<SecinfoStyle, Unreadable>
-        ensures { Finds (λ s. s) result (secinfo_style.read c.old) c.new }
+        ensures { ReadsPartBy (λ s. s) result (secinfo_style.read c.old) c.new }
     {
         match c.u32()? {
             0 => Ok(SecinfoStyle::CurrentFh),

@@ -1,6 +1,6 @@
 //! OPEN, OPEN_DOWNGRADE and CLOSE: RFC 8881 sections 18.16, 18.18 and 18.2.
 
-ghost use Rattle.nfs_xdr.specs.Reading.{Finds};
+ghost use Rattle.nfs_xdr.specs.Reading.{ReadsPartBy};
 ghost use Rattle.nfs_compound.specs.OpenArgs.{create_how, open_how, delegation_type, open_claim, open_args, open_downgrade_args, close_args};
 ghost use Rattle.nfs_compound.specs.OpenArgs.{view_create_how, view_open_how, view_open_claim, view_open};
 
@@ -35,7 +35,7 @@ impl<'a> CreateHow<'a> {
     /// Reads how a file is made; unreadable where it is not spelled so.
     #[tactic(auto, unfolding(crate::specs::OpenArgs::create_how))]
     pub fn read(c: &mut Cursor<'a>) -> Result<CreateHow<'a>, Unreadable>
-        ensures { Finds view_create_how result (create_how.read c.old) c.new }
+        ensures { ReadsPartBy view_create_how result (create_how.read c.old) c.new }
     {
         match c.u32()? {
             0 => Ok(CreateHow::Unchecked {
@@ -70,7 +70,7 @@ impl<'a> OpenHow<'a> {
     /// Reads whether a file is made; unreadable where it is not spelled so.
     #[tactic(auto, unfolding(crate::specs::OpenArgs::open_how))]
     pub fn read(c: &mut Cursor<'a>) -> Result<OpenHow<'a>, Unreadable>
-        ensures { Finds view_open_how result (open_how.read c.old) c.new }
+        ensures { ReadsPartBy view_open_how result (open_how.read c.old) c.new }
     {
         match c.u32()? {
             0 => Ok(OpenHow::NoCreate),
@@ -97,7 +97,7 @@ impl DelegationType {
     /// Reads the kind of a delegation; unreadable where it is not spelled so.
     #[tactic(auto, unfolding(crate::specs::OpenArgs::delegation_type))]
     pub fn read(c: &mut Cursor<'_>) -> Result<DelegationType, Unreadable>
-        ensures { Finds (λ d. d) result (delegation_type.read c.old) c.new }
+        ensures { ReadsPartBy (λ d. d) result (delegation_type.read c.old) c.new }
     {
         match c.u32()? {
             0 => Ok(DelegationType::NoDelegation),
@@ -143,7 +143,7 @@ impl<'a> OpenClaim<'a> {
     /// Reads what is opened; unreadable where it is not spelled so.
     #[tactic(auto, unfolding(crate::specs::OpenArgs::open_claim))]
     pub fn read(c: &mut Cursor<'a>) -> Result<OpenClaim<'a>, Unreadable>
-        ensures { Finds view_open_claim result (open_claim.read c.old) c.new }
+        ensures { ReadsPartBy view_open_claim result (open_claim.read c.old) c.new }
     {
         match c.u32()? {
             0 => Ok(OpenClaim::Null {
@@ -188,7 +188,7 @@ impl<'a> Open<'a> {
     /// Reads the arguments of OPEN; unreadable where they are not spelled so.
     #[tactic(auto, unfolding(crate::specs::OpenArgs::open_args))]
     pub fn read(c: &mut Cursor<'a>) -> Result<Open<'a>, Unreadable>
-        ensures { Finds view_open result (open_args.read c.old) c.new }
+        ensures { ReadsPartBy view_open result (open_args.read c.old) c.new }
     {
         let seqid = c.u32()?;
         let share_access = c.u32()?;
@@ -220,7 +220,7 @@ impl OpenDowngrade {
     /// Reads the arguments of OPEN_DOWNGRADE; unreadable where they are not spelled so.
     #[tactic(auto, unfolding(crate::specs::OpenArgs::open_downgrade_args))]
     pub fn read(c: &mut Cursor<'_>) -> Result<OpenDowngrade, Unreadable>
-        ensures { Finds (λ o. o) result (open_downgrade_args.read c.old) c.new }
+        ensures { ReadsPartBy (λ o. o) result (open_downgrade_args.read c.old) c.new }
     {
         let open_stateid = Stateid::read(c)?;
         let seqid = c.u32()?;
@@ -246,7 +246,7 @@ impl Close {
     /// Reads the arguments of CLOSE; unreadable where they are not spelled so.
     #[tactic(auto, unfolding(crate::specs::OpenArgs::close_args))]
     pub fn read(c: &mut Cursor<'_>) -> Result<Close, Unreadable>
-        ensures { Finds (λ o. o) result (close_args.read c.old) c.new }
+        ensures { ReadsPartBy (λ o. o) result (close_args.read c.old) c.new }
     {
         let seqid = c.u32()?;
         let open_stateid = Stateid::read(c)?;

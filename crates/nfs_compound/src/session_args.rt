@@ -1,7 +1,7 @@
 //! EXCHANGE_ID, CREATE_SESSION and SEQUENCE: RFC 8881 sections 18.35, 18.36 and 18.46.
 
 ghost use Rattle.std.specs.Prelude.{◌≡◌, is_some};
-ghost use Rattle.nfs_xdr.specs.Reading.{Finds};
+ghost use Rattle.nfs_xdr.specs.Reading.{ReadsPartBy};
 ghost use Rattle.nfs_xdr.specs.Codec.{in_arm};
 ghost use Rattle.nfs_compound.specs.SessionArgs.{impl_id, exchange_id_args, protected, create_session_args, sequence_args};
 ghost use Rattle.nfs_compound.specs.SessionArgs.{view_impl_id, view_exchange_id, view_create_session};
@@ -29,7 +29,7 @@ impl<'a> ImplId<'a> {
     /// Reads who made a client, and when; unreadable where it is not spelled so.
     #[tactic(auto, unfolding(crate::specs::SessionArgs::impl_id))]
     pub fn read(c: &mut Cursor<'a>) -> Result<ImplId<'a>, Unreadable>
-        ensures { Finds view_impl_id result (impl_id.read c.old) c.new }
+        ensures { ReadsPartBy view_impl_id result (impl_id.read c.old) c.new }
     {
         let domain = c.opaque(u32::MAX)?;
         let name = c.opaque(u32::MAX)?;
@@ -52,7 +52,7 @@ impl<'a> ExchangeId<'a> {
     /// Reads the arguments of EXCHANGE_ID with no state protection; unreadable where they are not spelled so.
     #[tactic(auto, unfolding(crate::specs::SessionArgs::exchange_id_args))]
     pub fn read(c: &mut Cursor<'a>) -> Result<ExchangeId<'a>, Unreadable>
-        ensures { Finds view_exchange_id result (exchange_id_args.read c.old) c.new }
+        ensures { ReadsPartBy view_exchange_id result (exchange_id_args.read c.old) c.new }
     {
         let verifier = c.fixed::<8>()?;
         let ownerid = c.opaque(1024)?;
@@ -83,7 +83,7 @@ impl<'a> ExchangeId<'a> {
 
 #[tactic(auto, unfolding(crate::specs::SessionArgs::protected))]
 fn protection(c: &mut Cursor<'_>) -> Result<u32, Unreadable>
-    ensures { Finds (λ n. n) result (in_arm (λ x. x.1.1.1) (protected.read c.old)) c.new }
+    ensures { ReadsPartBy (λ n. n) result (in_arm (λ x. x.1.1.1) (protected.read c.old)) c.new }
 {
     c.fixed::<8>()?;
     c.opaque(1024)?;
@@ -111,7 +111,7 @@ impl<'a> CreateSession<'a> {
     /// Reads the arguments of CREATE_SESSION; unreadable where they are not spelled so.
     #[tactic(auto, unfolding(crate::specs::SessionArgs::create_session_args))]
     pub fn read(c: &mut Cursor<'a>) -> Result<CreateSession<'a>, Unreadable>
-        ensures { Finds view_create_session result (create_session_args.read c.old) c.new }
+        ensures { ReadsPartBy view_create_session result (create_session_args.read c.old) c.new }
     {
         let clientid = c.u64()?;
         let sequence = c.u32()?;
@@ -146,7 +146,7 @@ impl Sequence {
     /// Reads the arguments of SEQUENCE; unreadable where they are not spelled so.
     #[tactic(auto, unfolding(crate::specs::SessionArgs::sequence_args))]
     pub fn read(c: &mut Cursor<'_>) -> Result<Sequence, Unreadable>
-        ensures { Finds (λ s. s) result (sequence_args.read c.old) c.new }
+        ensures { ReadsPartBy (λ s. s) result (sequence_args.read c.old) c.new }
     {
         let sessionid = c.fixed::<16>()?;
         let sequenceid = c.u32()?;

@@ -1,6 +1,6 @@
 //! Open owners and lock owners: RFC 8881 section 3.3.13.
 
-ghost use Rattle.nfs_xdr.specs.Reading.{Finds};
+ghost use Rattle.nfs_xdr.specs.Reading.{ReadsPartBy};
 ghost use Rattle.nfs_compound.specs.StateOwner.{state_owner, view};
 
 use nfs_xdr::{Cursor, Unreadable};
@@ -17,7 +17,7 @@ impl<'a> StateOwner<'a> {
     /// Reads an owner. Unreadable where it is cut, above its bound, or padded by other than zeros.
     #[tactic(auto, unfolding(crate::specs::StateOwner::state_owner))]
     pub fn read(c: &mut Cursor<'a>) -> Result<StateOwner<'a>, Unreadable>
-        ensures { Finds view result (state_owner.read c.old) c.new }
+        ensures { ReadsPartBy view result (state_owner.read c.old) c.new }
     {
         let clientid = c.u64()?;
         let owner = c.opaque(1024)?;

@@ -1,7 +1,7 @@
 //! Stateids: RFC 8881 section 8.2.2.
 
 ghost use Rattle.std.specs.Prelude.{◌≡◌, ◌<◌, length, get_or, []};
-ghost use Rattle.nfs_xdr.specs.Reading.{Finds};
+ghost use Rattle.nfs_xdr.specs.Reading.{ReadsPartBy};
 ghost use Rattle.nfs_compound.specs.Stateid.{stateid, stateids, stateid_of, view_stateids};
 
 use nfs_xdr::{Cursor, Unreadable};
@@ -17,7 +17,7 @@ impl Stateid {
     /// Reads a stateid. Unreadable where it is cut.
     #[tactic(auto, unfolding(crate::specs::Stateid::stateid))]
     pub fn read(c: &mut Cursor<'_>) -> Result<Stateid, Unreadable>
-        ensures { Finds (λ s. s) result (stateid.read c.old) c.new }
+        ensures { ReadsPartBy (λ s. s) result (stateid.read c.old) c.new }
     {
         let seqid = c.u32()?;
         let other = c.fixed::<12>()?;
@@ -36,7 +36,7 @@ impl<'a> Stateids<'a> {
     /// Reads a count and that many stateids. Unreadable where they are cut.
     #[tactic(auto, unfolding(crate::specs::Stateid::stateids))]
     pub fn read(c: &mut Cursor<'a>) -> Result<Stateids<'a>, Unreadable>
-        ensures { Finds view_stateids result (stateids.read c.old) c.new }
+        ensures { ReadsPartBy view_stateids result (stateids.read c.old) c.new }
     {
         let spelled = c.pieces::<16>()?;
         Ok(Stateids { spelled })

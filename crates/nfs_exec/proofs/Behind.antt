@@ -8,7 +8,7 @@ use Rattle.nfs_xdr.specs.declared.status.Status.{Status}
 use Rattle.nfs_xdr.specs.declared.status.Status.TheVariants.{Nfs4Ok, NoFileHandle, Stale}
 use Rattle.nfs_compound.specs.Operation.{Item, Operation, OpReclaimComplete}
 use Rattle.nfs_results.specs.Largest.{largest}
-use Rattle.nfs_xdr.specs.Paper.{Paper, Puts}
+use Rattle.nfs_xdr.specs.SheetState.{SheetState, Puts}
 use Rattle.nfs_results.specs.Result.{Res, ResReclaimComplete}
 use Rattle.nfs_results.specs.Results.{spell_result, status_of_result, head, can_refuse}
 use Rattle.nfs_results.proofs.Lengths.{length_head}
@@ -134,7 +134,7 @@ other_context : (m : Machine) (x : Context) (i : Item) → x ≡ (otherwise m x 
 other_context m x (Operation (OpReclaimComplete one)) = refl
 other_context m x i = refl
 
-pub other_steps : (m left : Machine) (x : Context) (now : ℕ) (refused : Bool) (i : Item) (r : Res) (s : Status) (old new : Paper) →
+pub other_steps : (m left : Machine) (x : Context) (now : ℕ) (refused : Bool) (i : Item) (r : Res) (s : Status) (old new : SheetState) →
     names.on_names i ≡ false → files.on_files i ≡ false → comes_to left r ≡ (otherwise m x i).outcome → s ≡ status_of_result r →
     Puts old new (spell_result r) → Steps (step m x now refused i) s left x old new
 other_steps m left x now refused i r s old new unnamed other is status put =
@@ -147,7 +147,7 @@ other_steps m left x now refused i r s old new unnamed other is status put =
 
 -- an operation on open files was run, and the mark set where it can have moved
 pub file_marked : (m : Machine) (client : ℕ) (o : OfStore) (s : Status) (store : State) (moves mark : Bool) (clients : Roster) (behind : Context)
-    (old new : Paper) → moves ≡ true → Comes o old new s store behind →
+    (old new : SheetState) → moves ≡ true → Comes o old new s store behind →
     mark ≡ has_open store client → clients ≡ with_open m.clients client mark →
     Steps (marked_if moves client (on_store m o)) s (record { clients = clients; sessions = m.sessions; leases = m.leases; store = store }) behind old new
 file_marked m client o s store moves mark clients behind old new can did is held = rw can (record {
@@ -158,7 +158,7 @@ file_marked m client o s store moves mark clients behind old new can did is held
   put = did.put;
 })
 
-pub file_steps : (m left : Machine) (x : Context) (now : ℕ) (refused : Bool) (i : Item) (s : Status) (behind : Context) (old new : Paper) →
+pub file_steps : (m left : Machine) (x : Context) (now : ℕ) (refused : Bool) (i : Item) (s : Status) (behind : Context) (old new : SheetState) →
     names.on_names i ≡ false → files.on_files i ≡ true →
     Steps (marked_if (moves_opens i) x.client (on_store m (files.comes_to refused m.store x (moment now) i))) s left behind old new →
     Steps (step m x now refused i) s left behind old new

@@ -4,7 +4,7 @@ use Rattle.std.proofs.Common.{subst, arith}
 use Rattle.std.specs.Prelude.{IsOk}
 use Rattle.std.proofs.lemmas.List.{length-append, length-drop, take_all}
 use Rattle.std.proofs.Math.Seq.{drop-append_seam}
-use Rattle.nfs_xdr.specs.Paper.{Paper, HasRoom, Puts}
+use Rattle.nfs_xdr.specs.SheetState.{SheetState, HasRoom, Puts}
 use Rattle.nfs_xdr.specs.declared.status.Status.{Status}
 use Rattle.nfs_xdr.specs.declared.status.Status.TheVariants.{Nfs4Ok, Delay}
 use Rattle.nfs_xdr.specs.Spelling.{hyper}
@@ -36,9 +36,9 @@ length_id id = length-append (hyper id.client) (hyper id.counter) ∙ omega (ari
 pub made_long : (c : CreateSession) (id : SessionId) → length (spell_result (ResCreateSession (session_made c id))) ≤ 92
 made_long c id = length_result (Operation (OpCreateSession c)) (ResCreateSession (session_made c id)) (length_id id) (refl, tt, refl)
 
-pub made_fits : (paper : Paper) (c : CreateSession) (id : SessionId) (r : Res)
-    → length paper.bytes + 92 ≤ paper.room → r ≡ ResCreateSession (session_made c id) → HasRoom paper (spell_result r)
-made_fits paper c id r room is =
+pub made_fits : (sheet : SheetState) (c : CreateSession) (id : SessionId) (r : Res)
+    → length sheet.bytes + 92 ≤ sheet.room → r ≡ ResCreateSession (session_made c id) → HasRoom sheet (spell_result r)
+made_fits sheet c id r room is =
     let long : length (spell_result r) ≤ 92 = subst (λ (r : Res). length (spell_result r) ≤ 92) (sym is) (made_long c id) in
     omega (arith, room, long)
 
@@ -47,7 +47,7 @@ the_rest n bytes = take_all (length bytes - n) (drop n bytes) (omega (arith, len
 
 -- what was put, and what stands behind its head
 
-pub put_whole : (old new : Paper) (r : Res) (begin : ℕ) → Puts old new (spell_result r)
+pub put_whole : (old new : SheetState) (r : Res) (begin : ℕ) → Puts old new (spell_result r)
     → begin ≡ length old.bytes → take (length new.bytes - begin) (drop begin new.bytes) ≡ spell_result r
 put_whole old new r begin put at =
     the_rest begin new.bytes ∙ ap (λ n. drop n new.bytes) at ∙ ap (drop (length old.bytes)) put.bytes ∙ drop-append_seam old.bytes (spell_result r)
@@ -71,13 +71,13 @@ body_within c id =
     let front = length_head 43 Nfs4Ok in
     omega (arith, whole, parts_long, front)
 
-pub begins_within : (old new : Paper) (r : Res) (begin : ℕ) → Puts old new (spell_result r) → begin ≡ length old.bytes → begin ≤ length new.bytes
+pub begins_within : (old new : SheetState) (r : Res) (begin : ℕ) → Puts old new (spell_result r) → begin ≡ length old.bytes → begin ≤ length new.bytes
 begins_within old new r begin put at = (let whole = ap length put.bytes ∙ length-append old.bytes (spell_result r) in omega (arith, whole, at))
 
 -- A session was made.
 
 pub made : (m : Machine) (now : ℕ) (c : CreateSession) (id : SessionId) (did : Created) (after : SessionTable)
-    (left : Machine) (body : List ℕ) (old new : Paper) →
+    (left : Machine) (body : List ℕ) (old new : SheetState) →
     Ok id ≡ did.answer → after ≡ did.after → left ≡ confirmed (record m { sessions = after }) now c.clientid body →
     body ≡ made_body c id → Puts old new (done_head Op.CreateSession ++ made_body c id) →
     Does (creates m now c did) Nfs4Ok left old new
@@ -101,7 +101,7 @@ no_memory m now c did ok = go did.answer ok
     go (Err fault) ok = absurd cc
 
 told : (m : Machine) (now : ℕ) (c : CreateSession) (clients : Roster) (after : SessionTable) (fault : SessionFault) (s : Status)
-    (old new : Paper) (wish : Wish) (o : Option SessionFault) →
+    (old new : SheetState) (wish : Wish) (o : Option SessionFault) →
     Err fault ≡ (create_unless m.sessions c.clientid wish o).answer → after ≡ (create_unless m.sessions c.clientid wish o).after →
     clients ≡ with_kept m.clients c.clientid (Refused s) → s ≡ fault_status fault → is_delay s ≡ false →
     ((n : Machine) → Does (refuses n create_session_number s) s n old new) →
@@ -120,7 +120,7 @@ told m now c clients after fault s old new wish (Some f) answer left kept status
     (subst (λ (k : Machine). Does (refuses k create_session_number (fault_status f)) s n old new) to
     (subst (λ (u : Status). Does (refuses n create_session_number u) s n old new) is (does n)))
 
-wanted : (m : Machine) (now : ℕ) (c : CreateSession) (clients : Roster) (after : SessionTable) (s : Status) (old new : Paper) (did : Created) →
+wanted : (m : Machine) (now : ℕ) (c : CreateSession) (clients : Roster) (after : SessionTable) (s : Status) (old new : SheetState) (did : Created) →
     IsOk did.answer → after ≡ m.sessions → clients ≡ with_kept m.clients c.clientid (Refused s) → s ≡ Delay →
     ((n : Machine) → Does (refuses n create_session_number s) s n old new) →
     Does (or_delay (is_delay s) m create_session_number (creates m now c did)) s (record m { clients = clients; sessions = after }) old new
@@ -135,7 +135,7 @@ wanted m now c clients after s old new did ok left kept status does =
     (subst (λ (u : Status). Does (refuses n create_session_number u) s n old new) status (does n)))
 
 pub refused_session : (m : Machine) (now : ℕ) (c : CreateSession) (wish : Wish) (clients : Roster) (after : SessionTable)
-    (fault : SessionFault) (s : Status) (old new : Paper) →
+    (fault : SessionFault) (s : Status) (old new : SheetState) →
     CreatesOrWants m.sessions (create m.sessions c.clientid wish) (Err fault) after →
     clients ≡ with_kept m.clients c.clientid (Refused s) → s ≡ fault_status fault →
     ((n : Machine) → Does (refuses n create_session_number s) s n old new) →
@@ -151,7 +151,7 @@ refused_session m now c wish clients after Memory s old new did kept status does
     wanted m now c clients after s old new (create m.sessions c.clientid wish) did.0 did.1 kept status does
 
 -- the call was refused by its number or its caller
-pub refused_call : (m : Machine) (now : ℕ) (refused : Bool) (c : CreateSession) (v w : Verdict) (s t r : Status) (left : Machine) (old new : Paper) →
+pub refused_call : (m : Machine) (now : ℕ) (refused : Bool) (c : CreateSession) (v w : Verdict) (s t r : Status) (left : Machine) (old new : SheetState) →
     w ≡ v → by_verdict m now refused c w ≡ refuses m create_session_number t → s ≡ t → left ≡ m →
     ((n : Machine) → Does (refuses n create_session_number s) r n old new) → Does (by_verdict m now refused c v) r left old new
 refused_call m now refused c v w s t r left old new is told status same does =

@@ -6,8 +6,8 @@ use Rattle.nfs_clients.specs.declared.exchange_id.Exchanged.{Exchanged}
 use Rattle.nfs_clients.specs.declared.exchange_id.ClientFault.{ClientFault}
 use Rattle.nfs_clients.specs.declared.exchange_id.ClientFault.TheVariants.{Inval, NoEnt, NotSame, Perm, ClidInUse, ServerFault, Memory}
 use Rattle.nfs_clients.specs.Roster.{Roster, client_at, confirmed_of, next_id, last_counter, most_records, unconfirmed_of}
-use Rattle.nfs_clients.specs.ExchangeId.{Ask, Case, Refuses, Tells, Adds, has_room, if_room, case_by, case_of, does, exchange_fault, refusal_of}
-use Rattle.nfs_clients.specs.ExchangeId.{ExchangesOrWants, fault_status, told, told_new}
+use Rattle.nfs_clients.specs.ExchangeId.{Ask, Case, Refuses, Stays, Adds, has_room, if_room, case_by, case_of, does, exchange_fault, refusal_of}
+use Rattle.nfs_clients.specs.ExchangeId.{ExchangesOrWants, fault_status, answer_standing, answer_added}
 use Rattle.nfs_xdr.specs.Checks.{judged}
 use Rattle.nfs_xdr.specs.Caller.{Caller}
 use Rattle.nfs_compound.specs.SessionArgs.{ExchangeId}
@@ -20,7 +20,7 @@ use Rattle.nfs_exec.proofs.Leasing.{unleased, taken_back}
 
 no_room : (case : Case) → if_room false case ≡ Adds → ⊥
 no_room (Refuses fault) e = absurd cc
-no_room (Tells c) e = absurd cc
+no_room (Stays c) e = absurd cc
 no_room Adds e = absurd cc
 
 pub room_of : (room : Bool) (case : Case) → if_room room case ≡ Adds → room ≡ true
@@ -41,26 +41,26 @@ pub answered_ok : (m : Machine) (who : Caller) (now : ℕ) (e : ExchangeId) (nex
     after ≡ (does m.clients (ask_of who e) case).after → b ≡ settled (with_lease m.leases next now) next x →
     comes_to (record m { clients = after; leases = b }) (ResExchangeId (granted x)) ≡ exchanged m now (does m.clients (ask_of who e) case)
 answered_ok m who now e next x after b (Refuses fault) is none value at answer left book = absurd cc
-answered_ok m who now e next x after b (Tells c) is none value at answer left book =
-    let same : x ≡ told c = cc in
+answered_ok m who now e next x after b (Stays c) is none value at answer left book =
+    let same : x ≡ answer_standing c = cc in
     let back : b ≡ m.leases = rw same at book ∙ taken_back m.leases next now (unleased m next is none) in
     rw (same, left, back) refl
 answered_ok m who now e next x after b Adds is none value at answer left book =
-    let same : x ≡ told_new m.clients (ask_of who e).owner = cc in
+    let same : x ≡ answer_added m.clients (ask_of who e).owner = cc in
     let id : next ≡ next_id m.clients = value (adds_below m.clients (ask_of who e) at) in
-    let made : b ≡ settled (with_lease m.leases (next_id m.clients) now) next (told_new m.clients (ask_of who e).owner) = rw (id, same) at book in
+    let made : b ≡ settled (with_lease m.leases (next_id m.clients) now) next (answer_added m.clients (ask_of who e).owner) = rw (id, same) at book in
     rw (same, left, made) refl
 
 case_ok : (case : Case) → judged (refusal_of case) ≡ Ok tt → (t : Roster) (a : Ask) → (x : Exchanged) × ((does t a case).answer ≡ Ok x)
 case_ok (Refuses fault) e t a = absurd cc
-case_ok (Tells c) e t a = (told c, refl)
-case_ok Adds e t a = (told_new t a.owner, refl)
+case_ok (Stays c) e t a = (answer_standing c, refl)
+case_ok Adds e t a = (answer_added t a.owner, refl)
 
 -- the call was refused before anything was made
 pub refused_first : (m : Machine) (who : Caller) (now : ℕ) (e : ExchangeId) (fault : ClientFault) (case : Case) → Err fault ≡ judged (refusal_of case) →
     comes_to m (Refused exchange_id_number (fault_status fault))
     ≡ or_delay (is_delay (fault_status fault)) m exchange_id_number (exchanged m now (does m.clients (ask_of who e) case))
-refused_first m who now e fault (Tells c) is = absurd cc
+refused_first m who now e fault (Stays c) is = absurd cc
 refused_first m who now e fault Adds is = absurd cc
 refused_first m who now e Inval (Refuses f) is = let same : f ≡ Inval = cc in rw same refl
 refused_first m who now e NoEnt (Refuses f) is = let same : f ≡ NoEnt = cc in rw same refl
@@ -74,13 +74,13 @@ refused_first m who now e Memory (Refuses f) is = let same : f ≡ Memory = cc i
 pub wanted : (m : Machine) (who : Caller) (now : ℕ) (e : ExchangeId) (case : Case) → judged (refusal_of case) ≡ Ok tt →
     comes_to m (Refused exchange_id_number (fault_status Memory)) ≡ or_delay true m exchange_id_number (exchanged m now (does m.clients (ask_of who e) case))
 wanted m who now e (Refuses f) is = absurd cc
-wanted m who now e (Tells c) is = refl
+wanted m who now e (Stays c) is = refl
 wanted m who now e Adds is = refl
 
 told_fault : (m : Machine) (who : Caller) (now : ℕ) (e : ExchangeId) (fault : ClientFault) (after : Roster) (case : Case) → judged (refusal_of case) ≡ Ok tt →
     Err fault ≡ (does m.clients (ask_of who e) case).answer → ⊥
 told_fault m who now e fault after (Refuses f) is answer = absurd cc
-told_fault m who now e fault after (Tells c) is answer = absurd cc
+told_fault m who now e fault after (Stays c) is answer = absurd cc
 told_fault m who now e fault after Adds is answer = absurd cc
 
 -- the call was refused behind its lease, which was taken back

@@ -16,7 +16,7 @@ use Rattle.nfs_compound.specs.SessionArgs.{CreateSession}
 use Rattle.nfs_compound.specs.declared.session_args.Sequence.{Sequence}
 use Rattle.nfs_clients.specs.Roster.{ClientRecord, Roster, IsRoster, id_of as client_id, client_at, without, is_unconfirmed_of, unconfirmed_of, confirmed_of}
 use Rattle.nfs_clients.specs.Roster.{next_id}
-use Rattle.nfs_clients.specs.ExchangeId.{Ask, Case, Refuses, Tells, Adds, has_room, case_by, case_of, does, new_client, with_new}
+use Rattle.nfs_clients.specs.ExchangeId.{Ask, Case, Refuses, Stays, Adds, has_room, case_by, case_of, does, new_client, with_new}
 use Rattle.nfs_clients.specs.CreateSession as clients
 use Rattle.nfs_clients.specs.CreateSession.{leaving, without_any, with_confirmed, with_kept, confirms, keeps, verdict_by}
 use Rattle.nfs_clients.specs.DestroyClientId.{destroy_fault}
@@ -367,7 +367,7 @@ of_new m a now is room =
 pub of_exchanged : (m : Machine) (a : Ask) (now : ℕ) (case : Case) → IsMachine m → case_of m.clients a ≡ case
     → IsMachine (record m { clients = (does m.clients a case).after; leases = leases_behind m.leases now (does m.clients a case).answer })
 of_exchanged m a now (Refuses fault) is at = is
-of_exchanged m a now (Tells c) is at = is
+of_exchanged m a now (Stays c) is at = is
 of_exchanged m a now Adds is at = of_new m a now is (room_of (has_room m.clients a.owner) (case_by a (confirmed_of m.clients a.owner)) at)
 
 -- CREATE_SESSION.

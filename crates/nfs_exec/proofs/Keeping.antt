@@ -5,7 +5,7 @@ use Rattle.std.proofs.lemmas.Bool.{cases_Bool, ltb-false}
 use Rattle.std.proofs.lemmas.List.{length-append, append_assoc}
 use Rattle.std.proofs.Math.Seq.{drop-append_seam}
 use Rattle.nfs_xdr.specs.Caller.{Caller}
-use Rattle.nfs_xdr.specs.Paper.{Paper, HasRoom, Puts}
+use Rattle.nfs_xdr.specs.SheetState.{SheetState, HasRoom, Puts}
 use Rattle.nfs_xdr.specs.declared.status.Status.{Status}
 use Rattle.nfs_xdr.specs.declared.status.Status.TheVariants.{Nfs4Ok}
 use Rattle.nfs_compound.specs.Operation.{Item, Operation, OpSequence}
@@ -93,12 +93,12 @@ accepted_long s c long = length_result (Operation (OpSequence s)) (ResSequence (
 spelled_whole : (a h s r : List ℕ) → ((a ++ h) ++ s) ++ r ≡ (a ++ h) ++ (s ++ r)
 spelled_whole a h s r = append_assoc (a ++ h) s r
 
-put_thrice : (before first second third : Paper) (h s r : List ℕ) → Puts before first h
+put_thrice : (before first second third : SheetState) (h s r : List ℕ) → Puts before first h
     → Puts first second s → Puts second third r → third.bytes ≡ (before.bytes ++ h) ++ (s ++ r)
 put_thrice before first second third h s r one two three =
     three.bytes ∙ ap (λ xs. xs ++ r) (two.bytes ∙ ap (λ xs. xs ++ s) one.bytes) ∙ spelled_whole before.bytes h s r
 
-pub has_head : (before first second third : Paper) (status_at count_at : ℕ) (tag s r : List ℕ) → HeadsAt status_at count_at before.bytes tag →
+pub has_head : (before first second third : SheetState) (status_at count_at : ℕ) (tag s r : List ℕ) → HeadsAt status_at count_at before.bytes tag →
     Puts before first (spell_compound_head Nfs4Ok tag 0) → Puts first second s → Puts second third r →
     HasHead status_at count_at third.bytes
 has_head before first second third status_at count_at tag s r places one two three = record {
@@ -111,7 +111,7 @@ has_head before first second third status_at count_at tag s r places one two thr
   spelled = put_thrice before first second third (spell_compound_head Nfs4Ok tag 0) s r one two three;
 }
 
-pub closed : (before first second third last : Paper) (status_at count_at : ℕ) (status : Status) (count : ℕ) (tag s r : List ℕ) →
+pub closed : (before first second third last : SheetState) (status_at count_at : ℕ) (status : Status) (count : ℕ) (tag s r : List ℕ) →
     HeadsAt status_at count_at before.bytes tag → Puts before first (spell_compound_head Nfs4Ok tag 0) → Puts first second s → Puts second third r →
     SetsHead status_at count_at status count third last → Puts before last (spell_compound_head status tag count ++ (s ++ r))
 closed before first second third last status_at count_at status count tag s r places one two three sets = record {
@@ -121,12 +121,12 @@ closed before first second third last status_at count_at status count tag s r pl
 }
 
 -- what stands behind the place where a text was put is that text
-pub text_of : (old new : Paper) (text : List ℕ) (start : ℕ) → Puts old new text
+pub text_of : (old new : SheetState) (text : List ℕ) (start : ℕ) → Puts old new text
     → start ≡ length old.bytes → take (length new.bytes - start) (drop start new.bytes) ≡ text
 text_of old new text start put at = the_rest start new.bytes ∙ ap (λ n. drop n new.bytes) at
     ∙ ap (drop (length old.bytes)) put.bytes ∙ drop-append_seam old.bytes text
 
-pub starts_within : (old new : Paper) (text : List ℕ) (start : ℕ) → Puts old new text → start ≡ length old.bytes → start ≤ length new.bytes
+pub starts_within : (old new : SheetState) (text : List ℕ) (start : ℕ) → Puts old new text → start ≡ length old.bytes → start ≤ length new.bytes
 starts_within old new text start put at = (let whole = ap length put.bytes ∙ length-append old.bytes text in omega (arith, whole, at))
 
 -- no more are run than stand in the list
@@ -149,25 +149,25 @@ run_few limit sofar now choice m x (item ∷ more) =
 pub sixteen : (id : SessionId) (bytes : List ℕ) → id_bytes id ≡ bytes → length bytes ≡ 16
 sixteen id bytes is = ap length (sym is) ∙ length_id id
 
-pub head_fits : (paper : Paper) (tag : List ℕ) → length tag ≤ 1024 → HasReplyRoom paper → HasRoom paper (spell_compound_head Nfs4Ok tag 0)
-head_fits paper tag short room = (let h = length_head_within Nfs4Ok tag 0 short in omega (arith, h, room))
+pub head_fits : (sheet : SheetState) (tag : List ℕ) → length tag ≤ 1024 → HasReplyRoom sheet → HasRoom sheet (spell_compound_head Nfs4Ok tag 0)
+head_fits sheet tag short room = (let h = length_head_within Nfs4Ok tag 0 short in omega (arith, h, room))
 
 -- SEQUENCE's result behind the head: it fits, and so does the refusal of what follows
-pub first_long : (old mid : Paper) (tag text : List ℕ) → length tag ≤ 1024
+pub first_long : (old mid : SheetState) (tag text : List ℕ) → length tag ≤ 1024
     → Puts old mid (spell_compound_head Nfs4Ok tag 0) → length mid.bytes ≤ length old.bytes + 1036
 first_long old mid tag text short put =
     let h = length_head_within Nfs4Ok tag 0 short in
     let long = ap length put.bytes ∙ length-append old.bytes (spell_compound_head Nfs4Ok tag 0) in
     omega (arith, h, long)
 
-pub second_fits : (old mid : Paper) (tag text : List ℕ) → length tag ≤ 1024 → HasReplyRoom old
+pub second_fits : (old mid : SheetState) (tag text : List ℕ) → length tag ≤ 1024 → HasReplyRoom old
     → Puts old mid (spell_compound_head Nfs4Ok tag 0) → length text ≤ 44 → HasRoom mid text
 second_fits old mid tag text short room put long =
     let h = first_long old mid tag text short put in
     let same = put.room in
     omega (arith, h, room, long, same)
 
-pub run_fits : (old mid new : Paper) (tag text : List ℕ) (start limit : ℕ) → length tag ≤ 1024 →
+pub run_fits : (old mid new : SheetState) (tag text : List ℕ) (start limit : ℕ) → length tag ≤ 1024 →
     Puts old mid (spell_compound_head Nfs4Ok tag 0) → Puts mid new text → length text ≤ 44 → start ≡ length old.bytes → 2048 ≤ limit →
     length new.bytes + 36 ≤ start + limit
 run_fits old mid new tag text start limit short one two long at large =
@@ -180,7 +180,7 @@ pub within_64 : (count limit sofar now : ℕ) (choice : Option ℕ) (m : Machine
 within_64 count limit sofar now choice m x items is few = (let h = run_few limit sofar now choice m x items in omega (arith, is, few, h))
 
 -- the reply so far, when the run begins
-pub begun_is : (before first second : Paper) (tag text : List ℕ) (start : ℕ) →
+pub begun_is : (before first second : SheetState) (tag text : List ℕ) (start : ℕ) →
     Puts before first (spell_compound_head Nfs4Ok tag 0) → Puts first second text → start ≡ length before.bytes →
     24 + (length second.bytes - start) ≡ 24 + length (spell_compound_head Nfs4Ok tag 0) + length text
 begun_is before first second tag text start one two at =
@@ -188,7 +188,7 @@ begun_is before first second tag text start one two at =
     let more = ap length two.bytes ∙ length-append first.bytes text in
     omega (arith, h, more, at)
 
-pub put_closed : (before first second third last : Paper) (status_at count_at : ℕ) (tag s : List ℕ) (ran : Ran) (told : Told) (m : Machine) →
+pub put_closed : (before first second third last : SheetState) (status_at count_at : ℕ) (tag s : List ℕ) (ran : Ran) (told : Told) (m : Machine) →
     HeadsAt status_at count_at before.bytes tag → Puts before first (spell_compound_head Nfs4Ok tag 0) → Puts first second s →
     RunsTo ran told m second third → SetsHead status_at count_at told.status (told.count + 1) third last →
     Puts before last (spell_compound_head ran.status tag (suc ran.count) ++ (s ++ ran.results))
@@ -206,7 +206,7 @@ length_compound_head status tag count =
     let two = length_number count in
     omega (arith, whole, rest, one, two)
 
-pub last_fits : (before first second third last : Paper) (status_at count_at limit start : ℕ) (tag s : List ℕ) (ran : Ran) (told : Told) (m : Machine) →
+pub last_fits : (before first second third last : SheetState) (status_at count_at limit start : ℕ) (tag s : List ℕ) (ran : Ran) (told : Told) (m : Machine) →
     HeadsAt status_at count_at before.bytes tag → Puts before first (spell_compound_head Nfs4Ok tag 0) → Puts first second s →
     RunsTo ran told m second third → SetsHead status_at count_at told.status (told.count + 1) third last →
     length third.bytes + 24 ≤ start + limit → start ≡ length before.bytes → length last.bytes + 24 ≤ length before.bytes + limit
@@ -238,7 +238,7 @@ kept_machine was left r who s text id t args reply read table same whole is =
 
 -- the slot of a request that runs may keep what it came to
 pub may_keep : (now was : SessionTable) (r : Request) (who : Caller) (size : ℕ) (s : Sequence) (c : Channel) (id : SessionId) (args reply text : List ℕ)
-    (old new : Paper) → now ≡ was → id ≡ id_of s.sessionid → length r.bytes ≤ size →
+    (old new : SheetState) → now ≡ was → id ≡ id_of s.sessionid → length r.bytes ≤ size →
     by_session r who size s (session_at was (id_of s.sessionid)) ≡ Runs c → args ≡ r.bytes →
     reply ≡ text → Puts old new text → length new.bytes + 24 ≤ length old.bytes + c.response →
     IsSomeAnd (session_at now id) (λ x. MayKeep x.slots s.slotid s.sequenceid who.uid args reply)
@@ -256,12 +256,12 @@ may_keep now was r who size s c id args reply text old new table read short runs
       reply_fits = subst (λ (g : Channel). 24 + length text ≤ g.response) (sym channel) (omega (arith, long, fits));
     })))
 
-pub any_head_fits : (paper : Paper) (status : Status) (tag : List ℕ) (count : ℕ)
-    → length tag ≤ 1024 → HasReplyRoom paper → HasRoom paper (spell_compound_head status tag count)
-any_head_fits paper status tag count short room = (let h = length_head_within status tag count short in omega (arith, h, room))
+pub any_head_fits : (sheet : SheetState) (status : Status) (tag : List ℕ) (count : ℕ)
+    → length tag ≤ 1024 → HasReplyRoom sheet → HasRoom sheet (spell_compound_head status tag count)
+any_head_fits sheet status tag count short room = (let h = length_head_within status tag count short in omega (arith, h, room))
 
 -- a refusal behind the head
-pub refusal_fits : (old mid : Paper) (status : Status) (tag : List ℕ) (count : ℕ) (n : ℕ) (s : Status) (r : Res) → length tag ≤ 1024
+pub refusal_fits : (old mid : SheetState) (status : Status) (tag : List ℕ) (count : ℕ) (n : ℕ) (s : Status) (r : Res) → length tag ≤ 1024
     → HasReplyRoom old → Puts old mid (spell_compound_head status tag count) → r ≡ refusal n s → HasRoom mid (spell_result r)
 refusal_fits old mid status tag count n s r short room put is =
     let h = length_head_within status tag count short in
@@ -271,7 +271,7 @@ refusal_fits old mid status tag count n s r short room put is =
     omega (arith, h, long, same, few, room)
 
 -- room for the result of an operation that stands alone
-pub alone_fits : (old mid : Paper) (tag : List ℕ) → length tag ≤ 1024 → HasReplyRoom old
+pub alone_fits : (old mid : SheetState) (tag : List ℕ) → length tag ≤ 1024 → HasReplyRoom old
     → Puts old mid (spell_compound_head Nfs4Ok tag 0) → length mid.bytes + 92 ≤ mid.room
 alone_fits old mid tag short room put =
     let h = first_long old mid tag [] short put in
@@ -279,7 +279,7 @@ alone_fits old mid tag short room put =
     omega (arith, h, room, same)
 
 -- the head that is closed over one result
-pub closed_one : (before first second last : Paper) (status_at count_at : ℕ) (status : Status) (count : ℕ) (tag s : List ℕ) →
+pub closed_one : (before first second last : SheetState) (status_at count_at : ℕ) (status : Status) (count : ℕ) (tag s : List ℕ) →
     HeadsAt status_at count_at before.bytes tag → Puts before first (spell_compound_head Nfs4Ok tag 0) → Puts first second s →
     SetsHead status_at count_at status count second last → Puts before last (spell_compound_head status tag count ++ s)
 closed_one before first second last status_at count_at status count tag s places one two sets = record {
@@ -288,7 +288,7 @@ closed_one before first second last status_at count_at status count tag s places
   room = sets.room ∙ two.room ∙ one.room;
 }
 
-pub has_one : (before first second : Paper) (status_at count_at : ℕ) (tag s : List ℕ) → HeadsAt status_at count_at before.bytes tag
+pub has_one : (before first second : SheetState) (status_at count_at : ℕ) (tag s : List ℕ) → HeadsAt status_at count_at before.bytes tag
     → Puts before first (spell_compound_head Nfs4Ok tag 0) → Puts first second s → HasHead status_at count_at second.bytes
 has_one before first second status_at count_at tag s places one two = record {
   before = before.bytes;

@@ -3,7 +3,7 @@ use Rattle.std.proofs.Common.{◌≡◌, ℕ, zero, suc, ◌+◌, ◌-◌, ◌�
 use Rattle.std.proofs.Common.{arith, inr}
 use Rattle.std.proofs.lemmas.List.{length-append, append_assoc, append-nil}
 use Rattle.nfs_xdr.specs.Tables.{In}
-use Rattle.nfs_xdr.specs.Paper.{Paper, Puts}
+use Rattle.nfs_xdr.specs.SheetState.{SheetState, Puts}
 use Rattle.nfs_xdr.specs.declared.status.Status.{Status}
 use Rattle.nfs_xdr.specs.declared.status.Status.TheVariants.{Nfs4Ok}
 use Rattle.nfs_compound.specs.Operation.{Item}
@@ -52,27 +52,27 @@ pub record Joins (whole rest : Ran) (done : ℕ) (before here : List ℕ) : Type
 pub record Stand : Type 0 where
   pub machine : Machine
   pub context : Context
-  pub paper : Paper
+  pub sheet : SheetState
 
 -- the bytes of a reply whose text begins at a place of the sheet
-abbrev pub so_far : ℕ → Paper → ℕ
-so_far at paper = 24 + (length paper.bytes - at)
+abbrev pub so_far : ℕ → SheetState → ℕ
+so_far at sheet = 24 + (length sheet.bytes - at)
 
 abbrev pub run_at : (limit at now : ℕ) → Option ℕ → Stand → List Item → Ran
-run_at limit at now choice s items = run limit (so_far at s.paper) now choice s.machine s.context items
+run_at limit at now choice s items = run limit (so_far at s.sheet) now choice s.machine s.context items
 
 -- one operation where the run stands
 abbrev pub step_at : (limit at now : ℕ) → Bool → Stand → Item → Step
-step_at limit at now refused s item = in_room limit (so_far at s.paper) now refused s.machine s.context item
+step_at limit at now refused s item = in_room limit (so_far at s.sheet) now refused s.machine s.context item
 
 pub record Going (limit at now : ℕ) (first here : Stand) (all left : List Item) (done : ℕ) : Type 0 where
   pub bears : (i : Item) → In i left → CanBear i
   pub few : done + length left ≤ 64
-  pub start : at ≤ length here.paper.bytes
-  pub fits : length here.paper.bytes + 36 ≤ at + limit
-  pub room : here.paper.room ≡ first.paper.room
+  pub start : at ≤ length here.sheet.bytes
+  pub fits : length here.sheet.bytes + 36 ≤ at + limit
+  pub room : here.sheet.room ≡ first.sheet.room
   pub ran : (choice : Option ℕ)
-      → (whole : Option ℕ) × Joins (run_at limit at now whole first all) (run_at limit at now choice here left) done first.paper.bytes here.paper.bytes
+      → (whole : Option ℕ) × Joins (run_at limit at now whole first all) (run_at limit at now choice here left) done first.sheet.bytes here.sheet.bytes
 
 pub record Loop (limit at now : ℕ) (first here : Stand) (all left : Request) (done : ℕ) : Type 0 where
   pub going : Going limit at now first here all.left left.left done
@@ -80,7 +80,7 @@ pub record Loop (limit at now : ℕ) (first here : Stand) (all left : Request) (
   pub store : IsStore here.machine.store
 
 pub begins : (limit at now : ℕ) (first : Stand) (all : List Item) → ((i : Item) → In i all → CanBear i) →
-    length all ≤ 64 → at ≤ length first.paper.bytes → length first.paper.bytes + 36 ≤ at + limit →
+    length all ≤ 64 → at ≤ length first.sheet.bytes → length first.sheet.bytes + 36 ≤ at + limit →
     Going limit at now first first all all 0
 begins limit at now first all bears few start fits = record {
   bears = bears;
@@ -93,9 +93,9 @@ begins limit at now first all bears few start fits = record {
 
 -- the operation was run where the run stood, and left it there
 abbrev pub Stepped : (limit at now : ℕ) (here next : Stand) → Item → Status → Type 0
-Stepped limit at now here next item s = Steps (step_at limit at now (is_delay s) here item) s next.machine next.context here.paper next.paper
+Stepped limit at now here next item s = Steps (step_at limit at now (is_delay s) here item) s next.machine next.context here.sheet next.sheet
 
-grown : (old new : Paper) (text : List ℕ) → Puts old new text → length new.bytes ≡ length old.bytes + length text
+grown : (old new : SheetState) (text : List ℕ) → Puts old new text → length new.bytes ≡ length old.bytes + length text
 grown old new text put = ap length put.bytes ∙ length-append old.bytes text
 
 followed : (o : Outcome) (rest : Ran) → o.status ≡ Nfs4Ok
@@ -121,29 +121,29 @@ abbrev unrolled : (limit now : ℕ) → Step → (sofar : ℕ) → Option ℕ �
 unrolled limit now s sofar choice m x left = follow s.outcome (run limit sofar now choice m x left)
 
 unrolls : (limit at now : ℕ) (here next : Stand) (left : List Item) (item : Item) (s : Status) (choice : Option ℕ) →
-    Stepped limit at now here next item s → is_here choice ≡ is_delay s → at ≤ length here.paper.bytes →
+    Stepped limit at now here next item s → is_here choice ≡ is_delay s → at ≤ length here.sheet.bytes →
     run_at limit at now choice here (item ∷ left)
     ≡ follow (step_at limit at now (is_delay s) here item).outcome (run_at limit at now (behind_here choice) next left)
 unrolls limit at now here next left item s choice did place start =
     let o = step_at limit at now (is_delay s) here item in
-    let long = grown here.paper next.paper o.outcome.result did.put in
-    let sofar : so_far at here.paper + length o.outcome.result ≡ so_far at next.paper = omega (arith, long, start) in
+    let long = grown here.sheet next.sheet o.outcome.result did.put in
+    let sofar : so_far at here.sheet + length o.outcome.result ≡ so_far at next.sheet = omega (arith, long, start) in
     ap (λ (b : Bool). unrolled limit now (step_at limit at now b here item)
-    (so_far at here.paper + length (step_at limit at now b here item).outcome.result) (behind_here choice)
+    (so_far at here.sheet + length (step_at limit at now b here item).outcome.result) (behind_here choice)
     (step_at limit at now b here item).outcome.machine (step_at limit at now b here item).context left) place
     ∙ ap (λ (n : ℕ). unrolled limit now o n (behind_here choice) o.outcome.machine o.context left) sofar
-    ∙ ap (λ (m : Machine). unrolled limit now o (so_far at next.paper) (behind_here choice) m o.context left) (sym did.machine)
-    ∙ ap (λ (x : Context). unrolled limit now o (so_far at next.paper) (behind_here choice) next.machine x left) (sym did.context)
+    ∙ ap (λ (m : Machine). unrolled limit now o (so_far at next.sheet) (behind_here choice) m o.context left) (sym did.machine)
+    ∙ ap (λ (x : Context). unrolled limit now o (so_far at next.sheet) (behind_here choice) next.machine x left) (sym did.context)
 
 -- one more was run, and the run goes on
 pub goes_on : (limit at now : ℕ) (first here next : Stand) (all left : List Item) (item : Item) (done : ℕ) (s : Status) →
     Going limit at now first here all (item ∷ left) done →
     Stepped limit at now here next item s → s ≡ Nfs4Ok →
-    length next.paper.bytes + so_far at here.paper + 12 ≤ length here.paper.bytes + limit → Going limit at now first next all left (done + 1)
+    length next.sheet.bytes + so_far at here.sheet + 12 ≤ length here.sheet.bytes + limit → Going limit at now first next all left (done + 1)
 goes_on limit at now first here next all left item done s going did ok short =
     let start = going.start in
     let o = (step_at limit at now (is_delay s) here item).outcome in
-    let long = grown here.paper next.paper o.result did.put in
+    let long = grown here.sheet next.sheet o.result did.put in
     record {
       bears = λ i there. going.bears i (inr there);
       few = (let few = going.few in omega (arith, few));
@@ -158,8 +158,8 @@ goes_on limit at now first here next all left item done s going did ok short =
           ∙ ap (λ (c : Option ℕ). follow o (run_at limit at now c next left)) (later_behind choice) in (
             whole.0,
             joined o (run_at limit at now whole.0 first all)
-                (run_at limit at now choice next left) done first.paper.bytes here.paper.bytes next.paper.bytes (sym did.status ∙ ok)
-                (subst (λ (ran : Ran). Joins (run_at limit at now whole.0 first all) ran done first.paper.bytes here.paper.bytes) rest whole.1) did.put.bytes,
+                (run_at limit at now choice next left) done first.sheet.bytes here.sheet.bytes next.sheet.bytes (sym did.status ∙ ok)
+                (subst (λ (ran : Ran). Joins (run_at limit at now whole.0 first all) ran done first.sheet.bytes here.sheet.bytes) rest whole.1) did.put.bytes,
           ));
     }
 
@@ -167,7 +167,7 @@ goes_on limit at now first here next all left item done s going did ok short =
 pub ends_with : (limit at now : ℕ) (first here next : Stand) (all left : List Item) (item : Item) (done : ℕ) (s : Status) →
     Going limit at now first here all (item ∷ left) done →
     Stepped limit at now here next item s → is_ok s ≡ false →
-    (choice : Option ℕ) × RunsTo (run_at limit at now choice first all) (record { status = s; count = done + 1 }) next.machine first.paper next.paper
+    (choice : Option ℕ) × RunsTo (run_at limit at now choice first all) (record { status = s; count = done + 1 }) next.machine first.sheet next.sheet
 ends_with limit at now first here next all left item done s going did bad =
     let choice = choice_of (is_delay s) in
     let o = (step_at limit at now (is_delay s) here item).outcome in
@@ -177,8 +177,8 @@ ends_with limit at now first here next all left item done s going did bad =
     let refused : is_ok o.status ≡ false = ap is_ok (sym did.status) ∙ bad in
     let last : run_at limit at now choice here (item ∷ left) ≡ only o =
     unrolls limit at now here next left item s choice did (chosen (is_delay s)) going.start ∙ stopped o rest refused in
-    let j : Joins whole (only o) done first.paper.bytes here.paper.bytes =
-    subst (λ (ran : Ran). Joins whole ran done first.paper.bytes here.paper.bytes) last w.1 in (
+    let j : Joins whole (only o) done first.sheet.bytes here.sheet.bytes =
+    subst (λ (ran : Ran). Joins whole ran done first.sheet.bytes here.sheet.bytes) last w.1 in (
       w.0,
       record {
         status = did.status ∙ sym j.status;
@@ -188,13 +188,13 @@ ends_with limit at now first here next all left item done s going did bad =
       },
     )
 
-pub ends_within : (limit at now : ℕ) (first here : Stand) (next : Paper) (all left : List Item) (item : Item) (done : ℕ) →
+pub ends_within : (limit at now : ℕ) (first here : Stand) (next : SheetState) (all left : List Item) (item : Item) (done : ℕ) →
     Going limit at now first here all (item ∷ left) done →
-    length next.bytes + so_far at here.paper ≤ length here.paper.bytes + limit → length next.bytes + 24 ≤ at + limit
+    length next.bytes + so_far at here.sheet ≤ length here.sheet.bytes + limit → length next.bytes + 24 ≤ at + limit
 ends_within limit at now first here next all left item done going short = (let start = going.start in omega (arith, start, short))
 
 pub ends : (limit at now : ℕ) (first here : Stand) (all : List Item) (done : ℕ) → Going limit at now first here all [] done →
-    (choice : Option ℕ) × RunsTo (run_at limit at now choice first all) (record { status = Nfs4Ok; count = done }) here.machine first.paper here.paper
+    (choice : Option ℕ) × RunsTo (run_at limit at now choice first all) (record { status = Nfs4Ok; count = done }) here.machine first.sheet here.sheet
 ends limit at now first here all done going =
     let w = going.ran None in
     let j = w.1 in (
@@ -203,7 +203,7 @@ ends limit at now first here all done going =
         status = sym j.status;
         count = (let c = j.count in omega (arith, c));
         machine = sym j.machine;
-        put = record { bytes = sym (append-nil here.paper.bytes) ∙ sym j.results; room = going.room };
+        put = record { bytes = sym (append-nil here.sheet.bytes) ∙ sym j.results; room = going.room };
       },
     )
 
@@ -212,7 +212,7 @@ not_ok Nfs4Ok other = absurd (other refl)
 not_ok s other = refl
 
 -- the bytes so far as the code counts them
-pub counted : (P : (limit sofar : ℕ) → Type 0) (limit at : ℕ) (here : Paper) (given head len : ℕ)
+pub counted : (P : (limit sofar : ℕ) → Type 0) (limit at : ℕ) (here : SheetState) (given head len : ℕ)
     → given ≡ limit → head ≡ 24 → len ≡ length here.bytes → P given (head + (len - at)) → P limit (so_far at here)
 counted P limit at here given head len same front long p =
     subst (λ n. P limit (24 + (n - at))) long (subst (λ n. P limit (n + (len - at))) front (subst (λ n. P n (head + (len - at))) same p))

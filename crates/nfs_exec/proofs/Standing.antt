@@ -1,7 +1,7 @@
 -- An operation that stands alone: that its result is small, and what it comes to.
 use Rattle.std.proofs.Common.{◌≡◌, ℕ, ◌+◌, ◌≤◌, Bool, length, Option, Some, None, refl, sym, ◌∙◌, ap, subst, arith}
 use Rattle.nfs_xdr.specs.Caller.{Caller}
-use Rattle.nfs_xdr.specs.Paper.{Paper, HasRoom, Puts}
+use Rattle.nfs_xdr.specs.SheetState.{SheetState, HasRoom, Puts}
 use Rattle.nfs_xdr.specs.declared.status.Status.{Status}
 use Rattle.nfs_xdr.specs.declared.status.Status.TheVariants.{NotSupp}
 use Rattle.nfs_compound.specs.Operation.{Item}
@@ -16,11 +16,11 @@ use Rattle.nfs_exec.specs.Place.{IsSmall, item_fault}
 use Rattle.nfs_exec.specs.Compound.{carried_out, by_fault, first_item}
 use Rattle.nfs_exec.specs.View.{Does}
 
-pub small_fits : (paper : Paper) (r : Res) → length paper.bytes + 92 ≤ paper.room → IsSmall r → HasArrays r → HasRoom paper (spell_result r)
-small_fits paper r room small arrays = (let long = small.1 arrays in omega (arith, room, long))
+pub small_fits : (sheet : SheetState) (r : Res) → length sheet.bytes + 92 ≤ sheet.room → IsSmall r → HasArrays r → HasRoom sheet (spell_result r)
+small_fits sheet r room small arrays = (let long = small.1 arrays in omega (arith, room, long))
 
 -- a result that was put
-pub put_does : (m left : Machine) (declared : ℕ) (who : Caller) (now : ℕ) (i : Item) (r : Res) (s : Status) (old new : Paper) →
+pub put_does : (m left : Machine) (declared : ℕ) (who : Caller) (now : ℕ) (i : Item) (r : Res) (s : Status) (old new : SheetState) →
     comes_to left r ≡ first_item m declared who now (is_delay (status_of_result r)) i → s ≡ status_of_result r → Puts old new (spell_result r) →
     Does (first_item m declared who now (is_delay s) i) s left old new
 put_does m left declared who now i r s old new is status put =

@@ -2,7 +2,7 @@
 use Rattle.std.proofs.Common.{◌≡◌, ℕ, Bool, List, ◌∷◌, ◌++◌, Option, Some, None, refl, sym, ◌∙◌, ap, subst}
 use Rattle.std.proofs.lemmas.Bool.{eq-eqb}
 use Rattle.nfs_xdr.specs.Caller.{Caller}
-use Rattle.nfs_xdr.specs.Paper.{Paper, Puts}
+use Rattle.nfs_xdr.specs.SheetState.{SheetState, Puts}
 use Rattle.nfs_xdr.specs.declared.status.Status.{Status}
 use Rattle.nfs_xdr.specs.declared.status.Status.TheVariants.{Nfs4Ok}
 use Rattle.nfs_compound.specs.Operation.{Item, Operation, OpSequence}
@@ -49,7 +49,7 @@ answer_same m r xs who now choice s more (Refuses status) = refl
 answer_same m r xs who now choice s more (Repeats reply) = refl
 answer_same m r xs who now choice s more (Runs c) = refl
 
-pub for_sequence : (m : Machine) (r q : Request) (who : Caller) (size now : ℕ) (choice : Option ℕ) (s : Sequence) (old new : Paper) (left : Machine) →
+pub for_sequence : (m : Machine) (r q : Request) (who : Caller) (size now : ℕ) (choice : Option ℕ) (s : Sequence) (old new : SheetState) (left : Machine) →
     r.minor ≡ 1 → r.left ≡ Operation (OpSequence s) ∷ q.left → q ≡ record r { left = q.left } →
     Answers (in_session m q who now choice s q.left (sequenced m q who size s)) old new left → Answers (compound m r who size now choice) old new left
 for_sequence m r q who size now choice s old new left one list is did =
@@ -67,7 +67,7 @@ other_first m r who size now choice (Args.Sequence x) more other = absurd (other
 other_first m r who size now choice a more other = refl
 
 pub for_other : (m : Machine) (r : Request) (who : Caller) (size now declared : ℕ) (a : Arg) (more : List Item) (status : Status) (status_at count_at : ℕ)
-    (tag : List ℕ) (before first second last : Paper) (left : Machine) →
+    (tag : List ℕ) (before first second last : SheetState) (left : Machine) →
     r.minor ≡ 1 → r.left ≡ item a ∷ more → ((x : _) → a ≡ Args.Sequence x → ⊥) → declared ≡ r.declared → tag ≡ r.tag →
     HeadsAt status_at count_at before.bytes tag → Puts before first (spell_compound_head Nfs4Ok tag 0) →
     Does (first_item m declared who now (is_delay status) (item a)) status left first second → SetsHead status_at count_at status 1 second last →

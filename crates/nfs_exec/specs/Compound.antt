@@ -2,7 +2,7 @@
 use Rattle.std.specs.Prelude.{◌≡◌, ◌+◌, ◌≤◌, ℕ, ◌==◌, Bool, List, [], ◌∷◌, ◌++◌, length, Option, Some, None, if◌then◌else◌}
 use Rattle.nfs_xdr.specs.declared.status.Status.{Status}
 use Rattle.nfs_xdr.specs.declared.status.Status.TheVariants.{Nfs4Ok, MinorVersMismatch, NotSupp}
-use Rattle.nfs_xdr.specs.Paper.{Paper, Puts}
+use Rattle.nfs_xdr.specs.SheetState.{SheetState, Puts}
 use Rattle.nfs_xdr.specs.Caller.{Caller}
 use Rattle.nfs_compound.specs.Operation.{OpExchangeId, OpCreateSession, OpDestroySession, OpDestroyClientId, OpSequence, Item, Operation}
 use Rattle.nfs_compound.specs.declared.session_args.Sequence.{Sequence}
@@ -96,10 +96,10 @@ pub record IsOpened (r : Request) : Type 0 where
   pub request : IsRequest bytes r
 
 -- room for what stands behind the head of a reply of 70,000 bytes
-abbrev pub HasReplyRoom : Paper → Type 0
-HasReplyRoom paper = length paper.bytes + 69976 ≤ paper.room
+abbrev pub HasReplyRoom : SheetState → Type 0
+HasReplyRoom sheet = length sheet.bytes + 69976 ≤ sheet.room
 
 -- The answer was put on the sheet, and its machine was left.
-pub record Answers (answered : Answered) (old new : Paper) (left : Machine) : Type 0 where
+pub record Answers (answered : Answered) (old new : SheetState) (left : Machine) : Type 0 where
   pub put : Puts old new answered.text
   pub machine : left ≡ answered.machine

@@ -24,7 +24,7 @@ abbrev pub flags_of : Bool → ℕ
 flags_of false = 0x0001_0000
 flags_of true = 0x8001_0000
 
--- the answer, with no state protection and no implementation told
+-- the answer, with no state protection and no implementation named
 abbrev pub granted : Exchanged → ExchangeIdOk
 granted x = record {
   clientid = x.id;

@@ -41,7 +41,7 @@ status_behind (Fault number status) = status
 status_behind (Operation (OpSequence s)) = SequencePos
 status_behind (Operation op) = NotSupp
 
--- a reply can bear the fault: SETATTR's tells more, and with any status
+-- a reply can bear the fault: SETATTR's says more, and with any status
 abbrev pub CanBear : Item → Type 0
 CanBear (Operation op) = Unit {0}
 CanBear (Fault number status) = IsTrue ((number == op_number SetAttr) || can_refuse number status)

@@ -1,7 +1,7 @@
 -- What the code's tables and answers say.
 use Rattle.std.specs.Prelude.{◌≡◌, ℕ, ◌==◌, not, Option, if◌then◌else◌}
 use Rattle.nfs_xdr.specs.declared.status.Status.{Status}
-use Rattle.nfs_xdr.specs.Paper.{Paper, Puts}
+use Rattle.nfs_xdr.specs.SheetState.{SheetState, Puts}
 use Rattle.nfs_clients.specs.Roster.{without}
 use Rattle.nfs_sessions.specs.Sessions as sessions
 use Rattle.nfs_names.specs.declared.context.Context.{Context}
@@ -30,14 +30,14 @@ sequenced_of (code.Repeats reply) = Repeats reply.now
 sequenced_of (code.Runs channel) = Runs channel
 
 -- The operation was run: its result stands on the sheet, its status was returned, and the machine behind it was left.
-pub record Does (o : Outcome) (returned : Status) (left : Machine) (old new : Paper) : Type 0 where
+pub record Does (o : Outcome) (returned : Status) (left : Machine) (old new : SheetState) : Type 0 where
   pub status : returned ≡ o.status
   pub machine : left ≡ o.machine
   pub put : Puts old new o.result
 
 -- An operation behind SEQUENCE was run: its result stands on the sheet, its status was returned, and the machine and the context
 -- behind it were left.
-pub record Steps (s : Step) (returned : Status) (left : Machine) (behind : Context) (old new : Paper) : Type 0 where
+pub record Steps (s : Step) (returned : Status) (left : Machine) (behind : Context) (old new : SheetState) : Type 0 where
   pub status : returned ≡ s.outcome.status
   pub machine : left ≡ s.outcome.machine
   pub context : behind ≡ s.context
@@ -45,7 +45,7 @@ pub record Steps (s : Step) (returned : Status) (left : Machine) (behind : Conte
 
 -- The operations were run: their results stand on the sheet, the machine behind them is this one, and what was returned of
 -- them is so.
-pub record RunsTo (ran : Ran) (told : told.Ran) (left : Machine) (old new : Paper) : Type 0 where
+pub record RunsTo (ran : Ran) (told : told.Ran) (left : Machine) (old new : SheetState) : Type 0 where
   pub status : told.status ≡ ran.status
   pub count : told.count ≡ ran.count
   pub machine : left ≡ ran.machine

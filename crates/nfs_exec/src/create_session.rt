@@ -2,7 +2,7 @@
 
 ghost use Rattle.std.specs.Prelude.{◌≡◌, ◌≤◌, ◌+◌, ◌++◌, length, Option};
 ghost use Rattle.nfs_xdr.specs.Caller.{caller};
-ghost use Rattle.nfs_xdr.specs.Paper.{Puts};
+ghost use Rattle.nfs_xdr.specs.SheetState.{Puts};
 ghost use Rattle.nfs_compound.specs.SessionArgs.{view_create_session};
 ghost use Rattle.nfs_clients.specs.CreateSession as clients;
 ghost use Rattle.nfs_compound.specs.declared.op_num.OpNum.TheVariants as Op;

@@ -48,7 +48,7 @@ fn each_compound_is_answered(rt: HostRuntime) -> Result<(), Fail> {
         (&[0, 1, 1, 59], &[10044, 0, 1, 10044, 10044]),
         (&[2, 0x6162_0000, 2, 1, 41], &[10021, 2, 0x6162_0000, 0]),
         (&[0, 1, 0], &[0, 0, 0]),
-        // SETATTR of nothing, under the anonymous stateid: its refusal tells that nothing was set.
+        // SETATTR of nothing, under the anonymous stateid: its refusal reports that nothing was set.
         (
             &[0, 1, 1, 34, 0, 0, 0, 0, 0, 0],
             &[10071, 0, 1, 34, 10071, 0],

@@ -32,7 +32,7 @@ impl Model for World {
 }
 
 impl World {
-    /// The world of a new server. `instance` tells it from other starts of the server, and begins each client id; a lease
+    /// The world of a new server. `instance` marks it off from other starts of the server, and begins each client id; a lease
     /// lasts `lease` seconds, and the root has the mode `root_mode`. `AllocError` where memory is refused.
     pub fn new(
         alloc: Global,

@@ -4,7 +4,7 @@ use Rattle.std.specs.List.{flat_map}
 use Rattle.std.proofs.lemmas.List.{length-append, length-map, take_all}
 use Rattle.std.proofs.lemmas.List.Folds.{length-flat_map-take}
 use Rattle.nfs_xdr.specs.Spelling.{number}
-use Rattle.nfs_xdr.specs.Paper.{Paper, HasRoom, Puts}
+use Rattle.nfs_xdr.specs.SheetState.{SheetState, HasRoom, Puts}
 use Rattle.nfs_xdr.specs.declared.status.Status.TheVariants.{Nfs4Ok}
 use Rattle.nfs_xdr.proofs.Putting.{length_number, puts_then}
 use Rattle.nfs_compound.specs.declared.op_num.OpNum.TheVariants as Op
@@ -20,33 +20,42 @@ use Rattle.nfs_names.specs.State.{State}
 use Rattle.nfs_files.specs.TestStateid.{code}
 
 -- the codes of stateids as they are spelled
-abbrev pub text : State → Context → List (List ℕ) → List ℕ
-text s x pieces = flat_map (λ piece. number (code s x (stateid_of piece))) pieces
+abbrev pub code_words : State → Context → List (List ℕ) → List ℕ
+code_words s x pieces = flat_map (λ piece. number (code s x (stateid_of piece))) pieces
 
-pub same_text : (s : State) (x : Context) (pieces : List (List ℕ)) → text s x pieces ≡ flat_map number (map (code s x) (map stateid_of pieces))
-same_text s x [] = refl
-same_text s x (piece ∷ pieces) = ap (λ (w : List ℕ). number (code s x (stateid_of piece)) ++ w) (same_text s x pieces)
+pub same_words : (s : State) (x : Context) (pieces : List (List ℕ)) → code_words s x pieces ≡ flat_map number (map (code s x) (map stateid_of pieces))
+same_words s x [] = refl
+same_words s x (piece ∷ pieces) = ap (λ (w : List ℕ). number (code s x (stateid_of piece)) ++ w) (same_words s x pieces)
 
-length_text : (s : State) (x : Context) (pieces : List (List ℕ)) → length (text s x pieces) ≡ 4 * length pieces
-length_text s x [] = refl
-length_text s x (piece ∷ pieces) =
+length_words : (s : State) (x : Context) (pieces : List (List ℕ)) → length (code_words s x pieces) ≡ 4 * length pieces
+length_words s x [] = refl
+length_words s x (piece ∷ pieces) =
     let one = number (code s x (stateid_of piece)) in
-    omega (arith, length-append one (text s x pieces), length_number (code s x (stateid_of piece)), length_text s x pieces)
+    omega (arith, length-append one (code_words s x pieces), length_number (code s x (stateid_of piece)), length_words s x pieces)
 
 -- room for the code of the next one
-pub room_for_code : (s : State) (x : Context) (old now : Paper) (pieces : List (List ℕ)) (i next : ℕ) → i < length pieces
-    → length old.bytes + 4 * length pieces ≤ old.room → Puts old now (text s x (take i pieces)) → HasRoom now (number next)
+pub room_for_code : (s : State) (x : Context) (old now : SheetState) (pieces : List (List ℕ)) (i next : ℕ) → i < length pieces
+    → length old.bytes + 4 * length pieces ≤ old.room → Puts old now (code_words s x (take i pieces)) → HasRoom now (number next)
 room_for_code s x old now pieces i next lt room put =
     let before = length-flat_map-take (λ (piece : List ℕ). number (code s x (stateid_of piece))) pieces i [] lt in
     let one = length_number (code s x (stateid_of (get_or pieces i []))) in
-    omega (arith, put.room, ap length put.bytes, length-append old.bytes (text s x (take i pieces)), length_text s x pieces, before, one, length_number next)
+    omega (
+      arith,
+      put.room,
+      ap length put.bytes,
+      length-append old.bytes (code_words s x (take i pieces)),
+      length_words s x pieces,
+      before,
+      one,
+      length_number next,
+    )
 
-pub all_codes : (s : State) (x : Context) (old new : Paper) (pieces : List (List ℕ)) (i : ℕ) → length pieces ≤ i
-    → Puts old new (text s x (take i pieces)) → Puts old new (flat_map number (map (code s x) (map stateid_of pieces)))
-all_codes s x old new pieces i over put = subst (λ (w : List ℕ). Puts old new w) (ap (text s x) (take_all i pieces over) ∙ same_text s x pieces) put
+pub all_codes : (s : State) (x : Context) (old new : SheetState) (pieces : List (List ℕ)) (i : ℕ) → length pieces ≤ i
+    → Puts old new (code_words s x (take i pieces)) → Puts old new (flat_map number (map (code s x) (map stateid_of pieces)))
+all_codes s x old new pieces i over put = subst (λ (w : List ℕ). Puts old new w) (ap (code_words s x) (take_all i pieces over) ∙ same_words s x pieces) put
 
 -- the head and the codes are the result
-pub told_codes : (s : State) (x : Context) (old mid new : Paper) (pieces : List (List ℕ)) (count : ℕ) → number count ≡ number (length pieces)
+pub told_codes : (s : State) (x : Context) (old mid new : SheetState) (pieces : List (List ℕ)) (count : ℕ) → number count ≡ number (length pieces)
     → Puts old mid (test_stateid_head count) → Puts mid new (flat_map number (map (code s x) (map stateid_of pieces)))
     → Puts old new (spell_result (ResTestStateid (map (code s x) (map stateid_of pieces))))
 told_codes s x old mid new pieces count is front codes =
@@ -60,7 +69,7 @@ pub length_test_head : (count : ℕ) → length (test_stateid_head count) ≡ 12
 length_test_head count =
     omega (arith, length-append (head (op_number Op.TestStateid) Nfs4Ok) (number count), length_head (op_number Op.TestStateid) Nfs4Ok, length_number count)
 
--- a word tells what is left of a number
+-- a word holds what is left of a number
 pub same_word : (n : ℕ) → number (n % 4294967296) ≡ number n
 unfolding number
 same_word n =

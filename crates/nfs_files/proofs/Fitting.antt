@@ -1,7 +1,7 @@
 -- What is put fits.
 use Rattle.std.proofs.Common.{◌≡◌, ℕ, ◌+◌, ◌≤◌, length, Option, Some, None, sym, subst, arith}
 use Rattle.std.proofs.lemmas.List.{length-take}
-use Rattle.nfs_xdr.specs.Paper.{Paper, HasRoom}
+use Rattle.nfs_xdr.specs.SheetState.{SheetState, HasRoom}
 use Rattle.nfs_results.specs.Result.{Res, Denied}
 use Rattle.nfs_results.specs.Results.{spell_result, operation_of, HasArrays}
 use Rattle.nfs_results.specs.Largest.{largest_of, HasSizes}
@@ -11,9 +11,9 @@ use Rattle.nfs_opens.specs.declared.records.LockState.{LockState}
 use Rattle.nfs_opens.specs.Table.{Table, lock_at}
 use Rattle.nfs_files.specs.Denied.{holder, denied}
 
-pub room_for : (r : Res) (paper : Paper) (n : ℕ) → HasArrays r → HasSizes 0 r
-    → largest_of (operation_of r) 0 ≡ n → length paper.bytes + n ≤ paper.room → HasRoom paper (spell_result r)
-room_for r paper n arrays sizes most room =
+pub room_for : (r : Res) (sheet : SheetState) (n : ℕ) → HasArrays r → HasSizes 0 r
+    → largest_of (operation_of r) 0 ≡ n → length sheet.bytes + n ≤ sheet.room → HasRoom sheet (spell_result r)
+room_for r sheet n arrays sizes most room =
     let within = behind_within 0 r arrays sizes in
     let whole = length_spelled r in
     omega (arith, most)
@@ -26,6 +26,6 @@ pub few_denied : (t : Table) (h : Held) → length (denied t h).owner.owner ≤ 
 unfolding denied
 few_denied t h = few_held (lock_at t h.owner)
 
--- whatever names the lock that is told
+-- whatever names the lock that is reported
 pub few_told : (t : Table) (h : Held) (d : Denied) → d ≡ denied t h → length d.owner.owner ≤ 1024
 few_told t h d is = subst (λ (d : Denied). length d.owner.owner ≤ 1024) (sym is) (few_denied t h)

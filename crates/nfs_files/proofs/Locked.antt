@@ -1,7 +1,7 @@
 -- What LOCK comes to where the table of opens refused it.
 use Rattle.std.proofs.Common.{◌≡◌, true, refl, sym, ◌∙◌, ap, subst}
 use Rattle.std.specs.Prelude.{Result, Err}
-use Rattle.nfs_xdr.specs.Paper.{Paper, Puts}
+use Rattle.nfs_xdr.specs.SheetState.{SheetState, Puts}
 use Rattle.nfs_xdr.specs.declared.status.Status.{Status}
 use Rattle.nfs_xdr.specs.declared.status.Status.TheVariants as S
 use Rattle.nfs_compound.specs.declared.op_num.OpNum.TheVariants as Op
@@ -22,7 +22,7 @@ use Rattle.nfs_files.specs.Denied.{denied}
 use Rattle.nfs_files.specs.Lock.{locked}
 use Rattle.nfs_files.proofs.Refused.{Stays, told_with, refused_outcome, lock_tells, ok_locked}
 
-comes : (s : State) (x : Context) (o : Outcome) (answer : Status) (r : Res) (old new : Paper) (after : Table)
+comes : (s : State) (x : Context) (o : Outcome) (answer : Status) (r : Res) (old new : SheetState) (after : Table)
     → told_with s x r after ≡ o → Puts old new (spell_result r) → answer ≡ status_of_result r → Comes o old new answer (with_opens s after) x
 comes s x o answer r old new after same put status =
     subst (λ o. Comes o old new answer (with_opens s after) x) same (record { put = put; status = status; state = refl; context = refl })
@@ -32,7 +32,7 @@ by_answer : (t : Table) (did : Did StateId OpenFault) (v w : Result StateId Open
     → v ≡ w → LocksOrWants t did v after → LocksOrWants t did w after
 by_answer t did v w after e tells = subst (λ v. LocksOrWants t did v after) e tells
 
-pub refused_comes : (s : State) (x : Context) (did : Did StateId OpenFault) (status answer : Status) (old new : Paper) (after : Table) → Stays s.opens did
+pub refused_comes : (s : State) (x : Context) (did : Did StateId OpenFault) (status answer : Status) (old new : SheetState) (after : Table) → Stays s.opens did
     → (v : Result StateId OpenFault) → v ≡ Err (F.Refused status) → LocksOrWants s.opens did v after
     → Puts old new (spell_result (Refused 12 status)) → answer ≡ status
     → Comes (or_delay (is_delay answer) s x Op.Lock (locked s x did.after did.answer)) old new answer (with_opens s after) x
@@ -44,7 +44,8 @@ refused_comes s x did status answer old new after stays v found known put is =
     (refused_outcome s x Op.Lock true did (locked s x) (F.Refused status) (Refused 12 status) after stays
     (ok_locked s x) (λ t. refl) refl (lock_tells s.opens did after (F.Refused status) tells)) put refl)
 
-pub denied_comes : (s : State) (x : Context) (did : Did StateId OpenFault) (held : Held) (answer : Status) (old new : Paper) (after : Table) → Stays s.opens did
+pub denied_comes : (s : State) (x : Context) (did : Did StateId OpenFault) (held : Held) (answer : Status) (old new : SheetState) (after : Table)
+    → Stays s.opens did
     → (v : Result StateId OpenFault) → v ≡ Err (F.Denied held) → LocksOrWants s.opens did v after
     → Puts old new (spell_result (ResLockDenied (denied after held))) → answer ≡ S.Denied
     → Comes (or_delay (is_delay answer) s x Op.Lock (locked s x did.after did.answer)) old new answer (with_opens s after) x

@@ -33,7 +33,7 @@ use Rattle.nfs_names.proofs.Bounds.{IsAnswer, held_refuses, current_refuses, wan
 use Rattle.nfs_names.proofs.Found.{IsHeld, current_is, checked_ok}
 use Rattle.nfs_names.proofs.Kept.{regular_same, store_new}
 use Rattle.nfs_names.proofs.Refusing.{Refuses, refuses_checked, refuses_mapped, err_refuses, ok_refuses, answers_with}
-use Rattle.nfs_names.proofs.Told.{few_words}
+use Rattle.nfs_names.proofs.Masks.{few_words}
 use Rattle.nfs_files.specs.declared.opening.Found.{Found}
 use Rattle.nfs_files.specs.declared.opening.Found.TheVariants.{There, Absent}
 use Rattle.nfs_files.specs.StateIds.{wire_id}

@@ -26,7 +26,7 @@ use Rattle.nfs_files.specs.Bytes.{file_checks, may_read, readable}
 use Rattle.nfs_files.specs.Read.{bytes_of, was_read}
 use Rattle.nfs_files.proofs.Passing.{if_passed_ok}
 
--- what is told of an object's size is the number of its bytes
+-- what is reported of an object's size is the number of its bytes
 pub size_is : (t : Files) (n : ℕ) (o : Object) → IsTree t → object_at t n ≡ Some o → o.size ≡ length (data_at t n)
 size_is t n o is e = by_stored (stored_in t.objects n) refl
   where

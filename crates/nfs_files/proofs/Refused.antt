@@ -153,7 +153,7 @@ status_of_refusal : (n : ℕ) (status : Status) → status_of_result (refusal n 
 status_of_refusal n status =
     elim (eqb n 34) as (λ b. status_of_result (cond b (ResSetAttr status []) (Refused n status)) ≡ status) [ true ↦ refl | false ↦ refl ]
 
--- what a refused call of the table tells: want of memory where it would have been done, or a refusal of its own
+-- what a refused call of the table reports: want of memory where it would have been done, or a refusal of its own
 abbrev pub Wanted : Table → Bool → Did StateId OpenFault → Table → OpenFault → Type 0
 Wanted old grows did new fault = (fault ≡ F.Memory) × (grows ≡ true) × IsOk did.answer × (new ≡ old)
 

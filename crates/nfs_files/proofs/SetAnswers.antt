@@ -21,7 +21,7 @@ use Rattle.nfs_names.specs.Checks.{current}
 use Rattle.nfs_names.specs.Create.{wanted_of}
 use Rattle.nfs_names.proofs.Bounds.{IsAnswer, current_refuses}
 use Rattle.nfs_names.proofs.Refusing.{Refuses, IsRefusal, refuses_checked, err_refuses, ok_refuses, answers_with}
-use Rattle.nfs_names.proofs.Told.{few_words}
+use Rattle.nfs_names.proofs.Masks.{few_words}
 use Rattle.nfs_files.specs.SetAttr.{setting, with_wanted, owner_checks, sized_by, sized, asked_for, last_checks, set_attr}
 use Rattle.nfs_files.proofs.Passing.{if_passed_refuses}
 use Rattle.nfs_files.proofs.Seats.{writable_refuses}

@@ -2,7 +2,7 @@
 use Rattle.std.proofs.Common.{◌≡◌, ◌+◌, ◌≤◌, Bool, true, false, cond, List, length, Option, Some, None, refl, ap, subst, arith}
 use Rattle.std.specs.Prelude.{Result, Ok, Err, ◌&&◌}
 use Rattle.std.proofs.lemmas.List.{length-append, length-map}
-use Rattle.nfs_xdr.specs.Paper.{Paper, Puts}
+use Rattle.nfs_xdr.specs.SheetState.{SheetState, Puts}
 use Rattle.nfs_xdr.specs.declared.status.Status.{Status}
 use Rattle.nfs_xdr.specs.declared.status.Status.TheVariants.{Delay}
 use Rattle.nfs_compound.specs.declared.op_num.OpNum.{OpNum}
@@ -38,7 +38,7 @@ pub record IsShort (op : Op) (r : Res) : Type 0 where
   pub arrays : HasArrays r
 
 -- so it is within its largest size
-pub short_within : (op : Op) (r : Res) (old new : Paper) → IsShort op r
+pub short_within : (op : Op) (r : Res) (old new : SheetState) → IsShort op r
     → Puts old new (spell_result r) → length new.bytes ≤ length old.bytes + largest (Operation op)
 short_within op r old new is put =
     let own : length (spell_result r) ≤ largest_of (operation_of r) (asked op) =

@@ -1,4 +1,4 @@
--- COMMIT (RFC 8881 section 18.3): what was written is as lasting as it gets, and the write verifier tells this start of the server from others.
+-- COMMIT (RFC 8881 section 18.3): what was written is as lasting as it gets, and the write verifier marks this start of the server off from others.
 use Rattle.std.specs.Prelude.{ℕ, List, ◌++◌, replicate}
 use Rattle.nfs_xdr.specs.Spelling.{number}
 use Rattle.nfs_compound.specs.declared.op_num.OpNum.TheVariants as Op

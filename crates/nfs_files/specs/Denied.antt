@@ -1,4 +1,4 @@
--- The lock that is told with NFS4ERR_DENIED (LOCK4denied, RFC 8881 section 18.10.2).
+-- The lock that is reported with NFS4ERR_DENIED (LOCK4denied, RFC 8881 section 18.10.2).
 use Rattle.std.specs.Prelude.{ℕ, suc, ◌-◌, ◌==◌, [], take, Option, Some, None, if◌then◌else◌}
 use Rattle.nfs_xdr.specs.declared.status.Status.{Status}
 use Rattle.nfs_xdr.specs.declared.status.Status.TheVariants as S

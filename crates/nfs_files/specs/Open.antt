@@ -20,7 +20,7 @@ use Rattle.nfs_attrs.specs.declared.permission.Want.{Want}
 use Rattle.nfs_attrs.specs.declared.wanted.Wanted.{Wanted}
 use Rattle.nfs_attrs.specs.declared.wanted.AttrFault.{AttrFault}
 use Rattle.nfs_attrs.specs.declared.mask.Mask.{Mask}
-use Rattle.nfs_attrs.specs.Mask.{mask_of, told}
+use Rattle.nfs_attrs.specs.Mask.{mask_of, trimmed_words}
 use Rattle.nfs_attrs.specs.Setting.{make_checks}
 use Rattle.nfs_attrs.specs.Permissions.{execute, write}
 use Rattle.nfs_opens.specs.declared.share.Share.{Share}
@@ -154,7 +154,7 @@ is_zero (Some size) = size == 0
 abbrev pub cuts : Open → Wanted → Bool
 cuts o wanted = is_unchecked o.openhow && (is_zero wanted.size && (access_of o).writes)
 
--- what is to be opened: a file that is there, and the object of which the change is told; or one that is to be made
+-- what is to be opened: a file that is there, and the object of which the change is reported; or one that is to be made
 abbrev pub found_by : State → Context → Open → Making → Option ℕ → Result Found Status
 found_by s x o m None = mapped Absent (checked (Ok m) (absent_checks x o))
 found_by s x o m (Some n) = mapped (λ f. There m.place.number f (cuts o m.wanted)) (checked (held s (Some n)) (there_checks x o))
@@ -228,7 +228,7 @@ info_of t (Absent m) = change_info (raised t m.place.number)
 -- the attributes that were set, of which 4 is the size
 abbrev pub set_of : Open → Found → List ℕ
 set_of o (There place f cut) = if cut then 0x10 ∷ [] else []
-set_of o (Absent m) = told (mask_by o.openhow)
+set_of o (Absent m) = trimmed_words (mask_by o.openhow)
 
 abbrev pub opened : State → Context → Time → Open → Found → Outcome
 opened s x now o found = record {

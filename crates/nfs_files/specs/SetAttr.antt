@@ -12,7 +12,7 @@ use Rattle.nfs_tree.specs.Files.{Files, most_bytes, can_change, with_changed}
 use Rattle.nfs_tree.specs.Bytes.{with_resized}
 use Rattle.nfs_attrs.specs.declared.wanted.Wanted.{Wanted}
 use Rattle.nfs_attrs.specs.declared.wanted.AttrFault.{AttrFault}
-use Rattle.nfs_attrs.specs.Mask.{mask_of, told}
+use Rattle.nfs_attrs.specs.Mask.{mask_of, trimmed_words}
 use Rattle.nfs_attrs.specs.Reading.{fault_status}
 use Rattle.nfs_attrs.specs.Setting.{set_checks}
 use Rattle.nfs_names.specs.declared.context.Context.{Context}
@@ -78,7 +78,7 @@ with_set t n now wanted None = if gives_some wanted then record t { objects = wi
 
 abbrev pub was_set : State → Context → Time → SetAttr → Setting → Outcome
 was_set s x now a m = record {
-  result = ResSetAttr Nfs4Ok (told (mask_of a.obj_attributes.attrmask));
+  result = ResSetAttr Nfs4Ok (trimmed_words (mask_of a.obj_attributes.attrmask));
   state = with_tree s (with_set s.tree m.held.number now m.wanted m.wanted.size);
   context = x;
 }

@@ -1,7 +1,7 @@
 //! Operations on the bytes of files (RFC 8881 sections 18.3, 18.22 and 18.32).
 
 ghost use Rattle.std.specs.Prelude.{◌≡◌, ◌+◌, ◌-◌, ◌≤◌, ◌||◌, Some, length, nat_le};
-ghost use Rattle.nfs_xdr.specs.Paper.{Puts};
+ghost use Rattle.nfs_xdr.specs.SheetState.{Puts};
 ghost use Rattle.nfs_xdr.specs.Spelling.{padding};
 ghost use Rattle.nfs_compound.specs.FileArgs.{view_write};
 ghost use Rattle.nfs_compound.specs.Operation.{OpWrite};

@@ -118,7 +118,7 @@ fn judge_whole(store: &Store, context: &Context, asked: &Open<'_>) -> Result<Fou
     }
 }
 
-/// How the directory changes, or the object that is told in its place.
+/// How the directory changes, or the object that is reported in its place.
 fn info_of(tree: &Tree, found: &Found) -> ChangeInfo
     requires { of_open.can_enter tree.now found.now ≡ true }
     ensures { result ≡ of_open.info_of tree.now found.now }

@@ -5,7 +5,7 @@ ghost use Rattle.nfs_xdr.specs.declared.status.Status.TheVariants as S;
 ghost use Rattle.nfs_compound.specs.declared.op_num.OpNum.TheVariants as Op;
 ghost use Rattle.nfs_compound.specs.LockArgs.{view_lock, view_lock_t, view_locker};
 ghost use Rattle.nfs_compound.specs.StateOwner as state_owner;
-ghost use Rattle.nfs_xdr.specs.Paper.{Puts};
+ghost use Rattle.nfs_xdr.specs.SheetState.{Puts};
 ghost use Rattle.nfs_results.specs.Result.{ResLock, ResLockDenied, ResLockT, ResLockTDenied};
 ghost use Rattle.nfs_results.specs.Results.{spell_result, status_of_result};
 ghost use Rattle.nfs_results.specs.View as view;
@@ -40,7 +40,7 @@ fn type_of(kind: Kind) -> LockType
     }
 }
 
-/// How many bytes a lock that is told has; all ones where it reaches the last byte.
+/// How many bytes a lock that is reported has; all ones where it reaches the last byte.
 fn size_of(held: &Held) -> u64
     ensures { result ≡ of_denied.size_of held.now }
 {

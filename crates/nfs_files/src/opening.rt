@@ -19,7 +19,7 @@ use nfs_xdr::Status;
 /// What OPEN comes upon.
 #[derive(Clone, Copy, Debug, PartialEq, Eq)]
 pub(crate) enum Found {
-    /// A file that is there, which may be cut, and the object of which the change is told.
+    /// A file that is there, which may be cut, and the object of which the change is reported.
     There { place: u64, file: Held, cut: bool },
     /// None: a file is to be made.
     Absent(Making),

@@ -2,7 +2,7 @@
 
 ghost use Rattle.std.specs.Prelude.{◌≡◌, ◌+◌, ◌*◌, ◌≤◌, length, map};
 ghost use Rattle.std.specs.List.{flat_map};
-ghost use Rattle.nfs_xdr.specs.Paper.{Puts};
+ghost use Rattle.nfs_xdr.specs.SheetState.{Puts};
 ghost use Rattle.nfs_xdr.specs.Spelling.{number};
 ghost use Rattle.nfs_compound.specs.Stateid.{view_stateids};
 ghost use Rattle.nfs_names.specs.State.{state_of};
@@ -77,7 +77,7 @@ pub(crate) fn free_stateid(store: &mut Store, context: &Context, given: &Stateid
     }
 }
 
-/// What a stateid was found to be, as TEST_STATEID tells it.
+/// What a stateid was found to be, as TEST_STATEID reports it.
 fn status_of(judged: Result<Seat, Status>) -> Status
     ensures { result ≡ of_test.status_of judged }
 {
@@ -118,7 +118,7 @@ fn put_codes(store: &Store, context: &Context, given: &Stateids<'_>, out: &mut S
     }
 }
 
-/// How many there are, as a word tells it. Their own count was one word too.
+/// How many there are, as a word has it. Their own count was one word too.
 fn count_of(given: &Stateids<'_>) -> u32
     ensures { number result ≡ number (length given.now.spelled.now) }
 {

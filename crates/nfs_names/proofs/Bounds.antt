@@ -38,7 +38,7 @@ use Rattle.nfs_names.specs.PutFh.{or_bad, put_fh}
 use Rattle.nfs_names.specs.PutPubFh.{put_pub_fh}
 use Rattle.nfs_names.specs.PutRootFh.{put_root_fh}
 use Rattle.nfs_names.specs.ReadLink.{link_only, read_link}
-use Rattle.nfs_names.proofs.Told.{few_words, told_few, part_few}
+use Rattle.nfs_names.proofs.Masks.{few_words, at_most_three_words, part_few}
 use Rattle.nfs_names.specs.ReadDir.{listing_checks, entry_checks, listed, read_dir}
 use Rattle.nfs_names.specs.Remove.{remove}
 use Rattle.nfs_names.specs.Rename.{move_of, moved, unmoved, rename}
@@ -223,7 +223,7 @@ may_get_attr s x words =
     (refuses_checked (current s x) (mask_checks words) (current_refuses s x) (λ d. refl))
     (λ status h. record { may = (refl, rw (h.done, h.legal) refl, tt); arrays = tt })
     (λ d. (let few = attributes_within (mask_of words) (about s d) d.object in
-    record { may = (refl, omega arith, (told_few (mask_of words) readable, omega arith)); arrays = tt }))
+    record { may = (refl, omega arith, (at_most_three_words (mask_of words) readable, omega arith)); arrays = tt }))
 
 pub may_get_fh : (s : State) (x : Context) → IsAnswer (Operation OpGetFh) (get_fh s x).result
 unfolding get_fh

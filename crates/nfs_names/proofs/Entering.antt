@@ -5,7 +5,7 @@ use Rattle.std.specs.Prelude.{nat_le, ◌==◌, is_some}
 use Rattle.std.specs.List.{flat_map}
 use Rattle.std.proofs.lemmas.List.{length-append, append-nil}
 use Rattle.std.proofs.lemmas.Bool.{cases_Bool, leb-true, leb-false, le-leb, eq-eqb, ne_eqb, false_from_ne_true}
-use Rattle.nfs_xdr.specs.Paper.{Paper, Puts}
+use Rattle.nfs_xdr.specs.SheetState.{SheetState, Puts}
 use Rattle.nfs_results.specs.Result.{Entry}
 use Rattle.nfs_results.specs.Straight.{entry_text}
 use Rattle.nfs_xdr.specs.Spelling.{padding}
@@ -24,7 +24,7 @@ use Rattle.nfs_attrs.specs.Attributes.{spell_attrs}
 use Rattle.nfs_names.specs.State.{State}
 use Rattle.nfs_names.specs.Attributes.{about}
 use Rattle.nfs_names.specs.ReadDir.{attributes_at, entry_of}
-use Rattle.nfs_names.proofs.Told.{attributes_spelled}
+use Rattle.nfs_names.proofs.Masks.{attributes_spelled}
 use Rattle.nfs_tree.specs.Files.{Files, Listed, listed, listing, stored_in, is_there, object_at}
 use Rattle.nfs_tree.specs.Walks.{In}
 use Rattle.nfs_names.specs.ReadDir.{longest, fits, fitting, left, PutsWithin}
@@ -73,7 +73,7 @@ abbrev pub AllThere : Files → List Listed → Type 0
 AllThere t xs = (e : Listed) → In e xs → is_some (object_at t e.number) ≡ true
 
 -- how far the entries have come
-pub record Going (t : Files) (entry : Listed → Entry) (first now : Paper) (most room : ℕ) (all left : List Listed) : Type 0 where
+pub record Going (t : Files) (entry : Listed → Entry) (first now : SheetState) (most room : ℕ) (all left : List Listed) : Type 0 where
   pub bytes : first.bytes ++ flat_map entry_text (longest (fits_in most) (map entry all))
       ≡ now.bytes ++ flat_map entry_text (longest (fits_in room) (map entry left))
   pub count : length (longest (fits_in most) (map entry all)) + length left ≡ length (longest (fits_in room) (map entry left)) + length all
@@ -82,11 +82,11 @@ pub record Going (t : Files) (entry : Listed → Entry) (first now : Paper) (mos
   pub same : now.room ≡ first.room
   pub fewer : room ≤ most
 
-pub going_starts : (t : Files) (entry : Listed → Entry) (first : Paper) (most : ℕ) (all : List Listed)
+pub going_starts : (t : Files) (entry : Listed → Entry) (first : SheetState) (most : ℕ) (all : List Listed)
     → AllThere t all → Going t entry first first most most all all
 going_starts t entry first most all there = record { bytes = refl; count = refl; there = there; space = refl; same = refl; fewer = omega arith }
 
-pub going_on : (t : Files) (entry : Listed → Entry) (first mid now : Paper) (most room rest : ℕ) (all left more : List Listed) (e : Listed)
+pub going_on : (t : Files) (entry : Listed → Entry) (first mid now : SheetState) (most room rest : ℕ) (all left more : List Listed) (e : Listed)
     → Going t entry first mid most room all left → left ≡ e ∷ more
     → PutsWithin true room mid now (entry_text (entry e)) → rest ≡ room - (length now.bytes - length mid.bytes) → Going t entry first now most rest all more
 going_on t entry first mid now most room rest all left more e g front put less =
@@ -112,11 +112,11 @@ going_on t entry first mid now most room rest all left more e g front put less =
     }
 
 -- where no more fits, or none is left
-pub record Ended (entry : Listed → Entry) (first now : Paper) (most : ℕ) (listing : List Listed) (whole : Bool) : Type 0 where
+pub record Ended (entry : Listed → Entry) (first now : SheetState) (most : ℕ) (listing : List Listed) (whole : Bool) : Type 0 where
   pub put : Puts first now (flat_map entry_text (longest (fits_in most) (map entry listing)))
   pub all : whole ≡ (length (longest (fits_in most) (map entry listing)) == length listing)
 
-pub going_stops : (t : Files) (entry : Listed → Entry) (first mid now : Paper) (most room : ℕ) (all left more : List Listed) (e : Listed)
+pub going_stops : (t : Files) (entry : Listed → Entry) (first mid now : SheetState) (most room : ℕ) (all left more : List Listed) (e : Listed)
     → Going t entry first mid most room all left → left ≡ e ∷ more
     → PutsWithin false room mid now (entry_text (entry e)) → Ended entry first now most all false
 going_stops t entry first mid now most room all left more e g front put =
@@ -127,13 +127,13 @@ going_stops t entry first mid now most room all left more e g front put =
     let lefts : length left ≡ suc (length more) = ap length front in
     record {
       put = record {
-        bytes = ap (λ (p : Paper). p.bytes) put.1 ∙ sym (g.bytes ∙ ap (λ xs. mid.bytes ++ flat_map entry_text xs) none ∙ append-nil mid.bytes);
-        room = ap (λ (p : Paper). p.room) put.1 ∙ g.same;
+        bytes = ap (λ (p : SheetState). p.bytes) put.1 ∙ sym (g.bytes ∙ ap (λ xs. mid.bytes ++ flat_map entry_text xs) none ∙ append-nil mid.bytes);
+        room = ap (λ (p : SheetState). p.room) put.1 ∙ g.same;
       };
       all = sym (ne_eqb (length (longest (fits_in most) (map entry all))) (length all) (λ h. omega arith));
     }
 
-pub going_ends : (t : Files) (entry : Listed → Entry) (first now : Paper) (most room : ℕ) (all left : List Listed)
+pub going_ends : (t : Files) (entry : Listed → Entry) (first now : SheetState) (most room : ℕ) (all left : List Listed)
     → Going t entry first now most room all left → left ≡ [] → Ended entry first now most all true
 going_ends t entry first now most room all left g none =
     let empty : longest (fits_in room) (map entry left) ≡ [] = ap (λ xs. longest (fits_in room) (map entry xs)) none in
@@ -185,7 +185,7 @@ entry_length s asked e o a n is told count =
 pub given_least : (count : ℕ) → 16 ≤ count → 16 ≤ given count
 given_least count le = elim (cases_Bool (nat_lt 65536 count)) [ inl most ↦ rw most (omega arith) | inr few ↦ rw few le ]
 
-pub ended_lists : (s : State) (a : ReadDir) (d : Held) (first now : Paper) (mask : Mask) (g : ℕ) (rest : List Listed) (whole : Bool)
+pub ended_lists : (s : State) (a : ReadDir) (d : Held) (first now : SheetState) (mask : Mask) (g : ℕ) (rest : List Listed) (whole : Bool)
     → Ended (entry_of s mask) first now (g - 16) rest whole → mask ≡ mask_of a.attr_request → g ≡ given a.maxcount
     → rest ≡ listing s.tree.rows d.number a.cookie → 16 ≤ a.maxcount
     → Puts first now (flat_map entry_text (fitting s a d)) × (whole ≡ (length (fitting s a d) == length (left s a d)))

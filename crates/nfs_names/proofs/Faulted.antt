@@ -1,4 +1,4 @@
--- What the tree answers, told under an operation's number.
+-- What the tree answers, under an operation's number.
 use Rattle.std.proofs.Common.{◌≡◌, ◌⊎◌, ℕ, Bool, true, false, cond, eqb, List, [], Option, Some, None, refl, sym, ◌∙◌, ap, inl, inr}
 use Rattle.std.specs.Prelude.{Result, Ok, Err, IsOk, ◌&&◌}
 use Rattle.nfs_xdr.specs.Checks.{first_fault}
@@ -132,7 +132,7 @@ told_refusal_by g s t x op o r status is same e =
     ∙ sym (ap (λ r. or_delay (g && is_delay (status_of_result r)) s x op o) is
     ∙ ap (λ st. or_delay (g && is_delay st) s x op o) (status_of_refusal (op_number op) status))
 
--- what a refused tree tells, whatever it would have done
+-- what a refused tree reports, whatever it would have done
 abbrev Wanted : {A : Type 0} → Files → Bool → Did A → Files → TreeFault → Type 0
 Wanted t grows did new f = (f ≡ Memory) × (grows ≡ true) × IsOk did.answer × (new ≡ t)
 

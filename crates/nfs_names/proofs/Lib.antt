@@ -1,7 +1,7 @@
 pub mod Refusing
 pub mod Faulted
 pub mod Found
-pub mod Told
+pub mod Masks
 pub mod Rows
 pub mod Changing
 pub mod Renaming

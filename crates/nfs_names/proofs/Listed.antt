@@ -7,7 +7,7 @@ use Rattle.std.proofs.lemmas.List.{length-append}
 use Rattle.std.proofs.lemmas.Bool.{cases_Bool, leb-true, le-leb, lt-ltb, eq-eqb, eqb-true, and_right, and_left, and_from, false_from_ne_true, false≢true}
 use Rattle.std.proofs.lemmas.Bool.{eqb-false}
 use Rattle.nfs_xdr.specs.Checks.{first_fault}
-use Rattle.nfs_xdr.specs.Paper.{Paper, Puts}
+use Rattle.nfs_xdr.specs.SheetState.{SheetState, Puts}
 use Rattle.nfs_xdr.specs.declared.status.Status.{Status}
 use Rattle.nfs_xdr.specs.declared.status.Status.TheVariants.{Nfs4Ok, TooSmall}
 use Rattle.nfs_compound.specs.NameArgs.{ReadDir}
@@ -85,11 +85,11 @@ some_small s a d some =
     empty_text [] e = refl
     empty_text (x ∷ es) e = absurd (omega arith)
 
-pub lists_some : (answer status : Status) (o : Option Status) (entries : ReadDirOk) (old new : Paper)
+pub lists_some : (answer status : Status) (o : Option Status) (entries : ReadDirOk) (old new : SheetState)
     → o ≡ Some status → answer ≡ status → Puts old new (spell_result (refusal 26 status)) → Lists answer o entries old new
 lists_some answer status o entries old new is same put = subst (λ o. Lists answer o entries old new) (sym is) (same, put)
 
-pub lists_none : (answer : Status) (o : Option Status) (entries : ReadDirOk) (old new : Paper) → o ≡ None
+pub lists_none : (answer : Status) (o : Option Status) (entries : ReadDirOk) (old new : SheetState) → o ≡ None
     → answer ≡ Nfs4Ok → Puts old new (spell_result (ResReadDir entries)) → Lists answer o entries old new
 lists_none answer o entries old new is same put = subst (λ o. Lists answer o entries old new) (sym is) (same, put)
 
@@ -101,15 +101,15 @@ end_length true = omega (arith, length-append (number 0) (number 1), length_numb
 end_length false = omega (arith, length-append (number 0) (number 0), length_number 0)
 
 -- what was put behind the old bytes is taken back
-pub taken_back : (old mid last : Paper) (a b : List ℕ) (start : ℕ) → Puts old mid a → Puts mid last b
+pub taken_back : (old mid last : SheetState) (a b : List ℕ) (start : ℕ) → Puts old mid a → Puts mid last b
     → start ≡ length old.bytes → record { bytes = take start last.bytes; room = last.room } ≡ old
 taken_back old mid last a b start p q is =
     let whole : last.bytes ≡ old.bytes ++ (a ++ b) = (puts_then p q).bytes in
     let bytes : take start last.bytes ≡ old.bytes = ap (λ n. take n last.bytes) is ∙ ap (take (length old.bytes)) whole ∙ take-append_seam old.bytes (a ++ b) in
-    let with_bytes : List ℕ → ℕ → Paper = λ bytes room. record { bytes = bytes; room = room } in
+    let with_bytes : List ℕ → ℕ → SheetState = λ bytes room. record { bytes = bytes; room = room } in
     ap (λ bytes. with_bytes bytes last.room) bytes ∙ ap (with_bytes old.bytes) (q.room ∙ p.room)
 
-pub listed_whole : (s : State) (a : ReadDir) (d : Held) (old mid out new : Paper) (whole : Bool)
+pub listed_whole : (s : State) (a : ReadDir) (d : Held) (old mid out new : SheetState) (whole : Bool)
     → Puts old mid (read_dir_head zeros) → Puts mid out (flat_map entry_text (fitting s a d)) → Puts out new (list_end whole)
     → whole ≡ (length (fitting s a d) == length (left s a d)) → Puts old new (spell_result (ResReadDir (listed s a d)))
 listed_whole s a d old mid out new whole p q r eof =
@@ -118,7 +118,7 @@ listed_whole s a d old mid out new whole p q r eof =
     (puts_then p (puts_then q r))
 
 -- a listing that was put is what READDIR comes to
-pub listing_comes : (s : State) (x : Context) (a : ReadDir) (d : Held) (answer : Status) (old new : Paper)
+pub listing_comes : (s : State) (x : Context) (a : ReadDir) (d : Held) (answer : Status) (old new : SheetState)
     → checked (current s x) (listing_checks x a) ≡ Ok d → Lists answer (first_fault (entry_checks s a d)) (listed s a d) old new
     → Comes (read_dir s x a) old new answer s x
 unfolding read_dir

@@ -17,7 +17,7 @@ use Rattle.nfs_names.proofs.Bounds.{IsAnswer}
 use Rattle.nfs_results.specs.Largest.{largest}
 use Rattle.nfs_results.specs.Results.{spell_result, IsBounded}
 use Rattle.nfs_results.proofs.Lengths.{length_result}
-use Rattle.nfs_xdr.specs.Paper.{Paper, HasRoom, Puts}
+use Rattle.nfs_xdr.specs.SheetState.{SheetState, HasRoom, Puts}
 use Rattle.std.proofs.lemmas.List.{length-append}
 use Rattle.nfs_tree.specs.Kept.{IsTree}
 use Rattle.nfs_tree.specs.Names.{moves}
@@ -136,7 +136,7 @@ pub keeps : (b : Bool) (s : State) (x : Context) (now : Time) (i : Item) → on_
 keeps b s x now i e tree is = record { may = may_item b s x now i e; store = store_item b s x now i e tree is }
 
 -- so it is within its largest size
-pub within : (i : Item) (r : Res) (old new : Paper) → IsAnswer i r → Puts old new (spell_result r) → length new.bytes ≤ length old.bytes + largest i
+pub within : (i : Item) (r : Res) (old new : SheetState) → IsAnswer i r → Puts old new (spell_result r) → length new.bytes ≤ length old.bytes + largest i
 within i r old new is put =
     let small = length_result i r is.arrays is.may in
     omega (arith, ap length put.bytes ∙ length-append old.bytes (spell_result r))
@@ -145,5 +145,5 @@ pub bounded_may : (i : Item) (r : Res) → IsAnswer i r → IsBounded r
 bounded_may (Operation op) r is = is.may.1
 bounded_may (Fault n st) r is = is.may.1
 
-pub room_may : (i : Item) (r : Res) (paper : Paper) → IsAnswer i r → length paper.bytes + largest i ≤ paper.room → HasRoom paper (spell_result r)
-room_may i r paper is room = let small = length_result i r is.arrays is.may in omega arith
+pub room_may : (i : Item) (r : Res) (sheet : SheetState) → IsAnswer i r → length sheet.bytes + largest i ≤ sheet.room → HasRoom sheet (spell_result r)
+room_may i r sheet is room = let small = length_result i r is.arrays is.may in omega arith

@@ -1,10 +1,10 @@
--- The attributes of an object as operations tell them (RFC 8881 section 5).
+-- The attributes of an object as operations report them (RFC 8881 section 5).
 use Rattle.std.specs.Prelude.{ℕ, if◌then◌else◌}
 use Rattle.nfs_tree.specs.Object.{is_directory}
 use Rattle.nfs_tree.specs.Files.{links_in}
 use Rattle.nfs_attrs.specs.declared.about.About.{About}
 use Rattle.nfs_attrs.specs.declared.mask.Mask.{Mask}
-use Rattle.nfs_attrs.specs.Mask.{told, common}
+use Rattle.nfs_attrs.specs.Mask.{trimmed_words, common}
 use Rattle.nfs_attrs.specs.Attributes.{readable, values}
 use Rattle.nfs_results.specs.Result.{Fattr}
 use Rattle.nfs_names.specs.declared.held.Held.{Held}
@@ -19,4 +19,4 @@ about s d = record { number = d.number; links = links_of s d; instance = s.insta
 
 -- those that are asked for, and their values
 abbrev pub attributes_of : State → Mask → Held → Fattr
-attributes_of s asked d = record { attrmask = told (common asked readable); attr_vals = values asked (about s d) d.object }
+attributes_of s asked d = record { attrmask = trimmed_words (common asked readable); attr_vals = values asked (about s d) d.object }

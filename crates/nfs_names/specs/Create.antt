@@ -18,7 +18,7 @@ use Rattle.nfs_attrs.specs.declared.set_time.SetTime.{SetTime}
 use Rattle.nfs_attrs.specs.declared.set_time.SetTime.TheVariants.{Now, Given}
 use Rattle.nfs_attrs.specs.declared.wanted.Wanted.{Wanted}
 use Rattle.nfs_attrs.specs.declared.wanted.AttrFault.{AttrFault}
-use Rattle.nfs_attrs.specs.Mask.{mask_of, told}
+use Rattle.nfs_attrs.specs.Mask.{mask_of, trimmed_words}
 use Rattle.nfs_attrs.specs.Reading.{read_attrs, fault_status}
 use Rattle.nfs_attrs.specs.Setting.{make_checks}
 use Rattle.nfs_attrs.specs.Permissions.{change}
@@ -111,7 +111,7 @@ change_info c = record { atomic = true; before = c.before; after = c.after }
 
 abbrev pub created : State → Context → Time → Create → Making → Outcome
 created s x now c m = record {
-  result = ResCreate (record { cinfo = change_info (raised s.tree m.place.number); attrset = told (mask_of c.createattrs.attrmask) });
+  result = ResCreate (record { cinfo = change_info (raised s.tree m.place.number); attrset = trimmed_words (mask_of c.createattrs.attrmask) });
   state = with_tree s (with_new s.tree m.place.number c.objname (new_of c.objtype) (sets_of x now (new_of c.objtype) m.wanted) now);
   context = at_object x (s.tree.last_object + 1);
 }

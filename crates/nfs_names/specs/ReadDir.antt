@@ -2,7 +2,7 @@
 use Rattle.std.specs.Prelude.{◌≡◌, ℕ, ◌+◌, ◌<◌, ◌≤◌, ◌==◌, Bool, true, false, not, ◌&&◌, ◌||◌, List, [], ◌∷◌, length, map, nat_lt, nat_le, replicate, bytes_eq}
 use Rattle.std.specs.Prelude.{if◌then◌else◌, Option, Some, None}
 use Rattle.std.specs.List.{flat_map}
-use Rattle.nfs_xdr.specs.Paper.{Paper, Puts}
+use Rattle.nfs_xdr.specs.SheetState.{SheetState, Puts}
 use Rattle.nfs_xdr.specs.declared.status.Status.{Status}
 use Rattle.nfs_xdr.specs.declared.status.Status.TheVariants.{Nfs4Ok, Inval, NotSame, BadCookie, TooSmall}
 use Rattle.nfs_compound.specs.declared.op_num.OpNum.TheVariants as Op
@@ -24,7 +24,7 @@ use Rattle.nfs_names.specs.Outcome.{Outcome, done, checked, answers}
 use Rattle.nfs_names.specs.Checks.{current, no_directory, denied}
 use Rattle.nfs_names.specs.Attributes.{attributes_of}
 
--- what is told of an object; an entry's object is there, so the first line is never met
+-- what is reported of an object; an entry's object is there, so the first line is never met
 abbrev pub attributes_at : State → Mask → ℕ → Option Object → Fattr
 attributes_at s asked n None = record { attrmask = []; attr_vals = [] }
 attributes_at s asked n (Some o) = attributes_of s asked (record { number = n; object = o })
@@ -74,11 +74,11 @@ read_dir s x a =
     answers s x Op.ReadDir (checked (checked (current s x) (listing_checks x a)) (entry_checks s a)) (λ d. done s x (ResReadDir (listed s a d)))
 
 -- what a call that puts an entry has put, if it takes no more than so many bytes
-abbrev pub PutsWithin : Bool → ℕ → Paper → Paper → List ℕ → Type 0
+abbrev pub PutsWithin : Bool → ℕ → SheetState → SheetState → List ℕ → Type 0
 PutsWithin true room old new text = (length text ≤ room) × Puts old new text
 PutsWithin false room old new text = (room < length text) × (new ≡ old)
 
 -- what a listing answers and puts: its entries, or why there are none
-abbrev pub Lists : Status → Option Status → ReadDirOk → Paper → Paper → Type 0
+abbrev pub Lists : Status → Option Status → ReadDirOk → SheetState → SheetState → Type 0
 Lists answer None entries old new = (answer ≡ Nfs4Ok) × Puts old new (spell_result (ResReadDir entries))
 Lists answer (Some status) entries old new = (answer ≡ status) × Puts old new (spell_result (refusal (op_number Op.ReadDir) status))

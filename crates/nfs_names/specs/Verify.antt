@@ -16,7 +16,7 @@ use Rattle.nfs_names.specs.Outcome.{Outcome, done, checked, answers}
 use Rattle.nfs_names.specs.Checks.{current}
 use Rattle.nfs_names.specs.Attributes.{about}
 
--- whether they are the same, or why that cannot be told
+-- whether they are the same, or why that cannot be said
 unfoldable pub same_at : State → Attributes → Held → Result Bool AttrFault
 same_at s a d = same (mask_of a.attrmask) a.attr_vals (about s d) d.object
 

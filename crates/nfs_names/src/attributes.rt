@@ -1,7 +1,7 @@
-//! Operations that tell of attributes and rights (RFC 8881 sections 18.1, 18.7, 18.8, 18.15 and 18.31).
+//! Operations that report attributes and rights (RFC 8881 sections 18.1, 18.7, 18.8, 18.15 and 18.31).
 
 ghost use Rattle.std.specs.Prelude.{◌≡◌, ◌+◌, ◌≤◌, length};
-ghost use Rattle.nfs_xdr.specs.Paper.{Puts};
+ghost use Rattle.nfs_xdr.specs.SheetState.{Puts};
 ghost use Rattle.nfs_results.specs.Results.{spell_result};
 ghost use Rattle.nfs_results.specs.Result.{ResGetAttr, ResGetFh};
 ghost use Rattle.nfs_attrs.specs.Handle.{handle as spelled};
@@ -38,7 +38,7 @@ fn links_of(store: &Store, held: &Held) -> u32
     }
 }
 
-/// What is told of an object beside the object itself.
+/// What is reported of an object beside the object itself.
 pub(crate) fn about(store: &Store, held: &Held) -> About
     ensures { result ≡ attributes.about (state_of store.now) held.now }
 {
@@ -67,7 +67,7 @@ pub(crate) fn access(store: &Store, context: &Context, asked: u32) -> Res<'stati
     }
 }
 
-/// The object whose attributes are asked for: those that can only be set are not told.
+/// The object whose attributes are asked for: those that can only be set are not reported.
 fn judge_mask(store: &Store, context: &Context, mask: &Bitmap<'_>) -> Result<Held, Status>
     ensures { result ≡ checked (check.current (state_of store.now) context.now) (of_get_attr.mask_checks (view_bitmap mask.now)) }
 {

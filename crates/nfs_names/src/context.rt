@@ -17,7 +17,7 @@ pub struct Saved {
     pub stateid: Stateid,
 }
 
-/// Who calls. Contracts see the caller, without the places for groups that are not told.
+/// Who calls. Contracts see the caller, without the places for groups that are not named.
 #[derive(Drop)]
 pub struct Caller {
     who: Who,

@@ -6,7 +6,7 @@ ghost use Rattle.nfs_compound.specs.NameArgs.{view_create, view_create_type, vie
 ghost use Rattle.nfs_compound.specs.Operation.{OpCreate, OpLink, OpRename};
 ghost use Rattle.nfs_tree.specs.Create.{new_of};
 ghost use Rattle.nfs_tree.specs.Files.{most_text, has_entries};
-ghost use Rattle.nfs_attrs.specs.Mask.{told};
+ghost use Rattle.nfs_attrs.specs.Mask.{trimmed_words};
 ghost use Rattle.nfs_results.specs.View as view;
 ghost use Rattle.nfs_results.specs.Results.{status_of_result};
 ghost use Rattle.nfs_names.specs.State.{state_of, IsRooted};
@@ -224,9 +224,9 @@ pub(crate) fn create(
     }
 }
 
-/// The attributes of a mask, as a result tells them.
+/// The attributes of a mask, as a result reports them.
 pub fn attr_set(mask: &Mask) -> AttrSet
-    ensures { view.attr_set result ≡ told mask.now }
+    ensures { view.attr_set result ≡ trimmed_words mask.now }
 {
     let words = mask.words;
     measure(&words);
@@ -240,9 +240,9 @@ fn measure(words: &[u32; 3])
     let _ = words.len();
 }
 
-/// What is told of an object that was made.
+/// What is reported of an object that was made.
 fn create_ok(created: &Created, given: &Mask) -> CreateOk
-    ensures { view.create result ≡ record { cinfo = of_create.change_info created.now.directory; attrset = told given.now } }
+    ensures { view.create result ≡ record { cinfo = of_create.change_info created.now.directory; attrset = trimmed_words given.now } }
 {
     CreateOk {
         cinfo: change_info(created.directory),

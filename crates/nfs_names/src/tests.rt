@@ -69,10 +69,10 @@ struct Desk {
 
 impl Model for Desk {
     ghost use Rattle.std.specs.Prelude.{◌≡◌};
-    ghost use Rattle.nfs_xdr.specs.Paper.{Paper};
+    ghost use Rattle.nfs_xdr.specs.SheetState.{SheetState};
     ghost use Rattle.nfs_names.specs.State.{state_of, IsStore};
 
-    ghost Value = { Paper };
+    ghost Value = { SheetState };
 
     ghost view = { λ d. d.out };
 

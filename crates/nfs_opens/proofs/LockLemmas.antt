@@ -160,7 +160,7 @@ forgotten locks held f holders none = sym (on_file_same held f (λ h. nobody) (f
       (false≢true (sym (none_pass (λ (l : LockState). l.file == f) locks l none holder.stands) ∙ eq-eqb l.file f holder.file)))
 ])))))
 
--- told as a function and as a fact
+-- reported, as a function and as a fact
 pub clash_told : (t : Table) (file state : ℕ) (kind : Kind) (first last : ℕ) (r : Option Held) → IsTable t → first ≤ last → last < 2 ^ 64
     → Tells (t.held file) state kind first last r → told (t.held file) (suc t.last) state kind first last ≡ r
 clash_told t file state kind first last r is range fits tells =

@@ -45,7 +45,7 @@ judged_free true None e = refl
 judged_free true (Some h) e = absurd cc
 judged_free false o e = absurd cc
 
--- no clash is told where a LOCK is not refused
+-- no clash is reported where a LOCK is not refused
 pub judged_tells : (t : Table) (n : ℕ) (access : Share) (w : Wish) → IsTable t → w.first ≤ w.last → w.last < 2 ^ 64 → lock_judged t n access w ≡ Ok tt
     → Tells (t.held w.file) n w.kind w.first w.last None
 judged_tells t n access w is range fits e = clash_tells t w.file n w.kind w.first w.last None is range fits
@@ -95,7 +95,7 @@ and_none : (v : Bool) → (v && false) ≡ false
 and_none true = refl
 and_none false = refl
 
--- what is told to a number that holds nothing is told to any such
+-- what is reported to a number that holds nothing is reported to any such
 tells_any : (h : Holders) (s u : ℕ) (kind : Kind) (first last : ℕ) → Tells h s kind first last None → ((b : ℕ) → h s b ≡ None) → Tells h u kind first last None
 tells_any h s u kind first last tells empty b t lo hi =
     let quiet : meets kind (h t b) ≡ false = elim (cases_eq t s) [

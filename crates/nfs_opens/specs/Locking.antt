@@ -37,7 +37,7 @@ abbrev pub number_of : Option LockState → ℕ
 number_of None = 0
 number_of (Some l) = l.number
 
--- what is told against a wish to lock bytes
+-- what is reported against a wish to lock bytes
 abbrev pub clash : Table → ℕ → Wish → Option Held
 clash t state w = told (t.held w.file) (suc t.last) state w.kind w.first w.last
 

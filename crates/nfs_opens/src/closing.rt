@@ -81,7 +81,7 @@ impl Opens {
         Ok(())
     }
 
-    /// Removes one open of a client, with its lock states and the bytes that they hold, and tells its file. `None`: the
+    /// Removes one open of a client, with its lock states and the bytes that they hold, and returns its file. `None`: the
     /// client has no open left.
     pub fn drop_client(&mut self, client: u64) -> Option<u64>
         ensures file { result ≡ (drop_client (table self.old) client).file }

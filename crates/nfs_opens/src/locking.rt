@@ -160,7 +160,7 @@ impl Opens {
     /// the file gets one with seqid 1; else the seqid of its state rises.
     ///
     /// The checks in their order: the stateid is judged; OPENMODE where the open's access does not permit the kind;
-    /// `Denied` as [`test_lock`](Opens::test_lock) tells it; SERVERFAULT where a new state is wanted and each number was
+    /// `Denied` as [`test_lock`](Opens::test_lock) reports it; SERVERFAULT where a new state is wanted and each number was
     /// given; `Memory`. A refusal changes nothing. RFC 8881 section 18.10.
     pub fn lock(
         &mut self,

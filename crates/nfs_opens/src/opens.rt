@@ -48,7 +48,7 @@ fn denies_writes(opens: &[OpenState], file: u64) -> bool
 }
 
 impl Opens {
-    /// Nothing is open and nothing is locked. `instance` tells this start of the server from others, and stands in each
+    /// Nothing is open and nothing is locked. `instance` marks this start of the server off from others, and stands in each
     /// stateid. Later calls grow by `alloc`.
     pub fn new(alloc: Global, instance: u32) -> Self
         ensures { table result ≡ no_opens instance }
@@ -70,7 +70,7 @@ impl Opens {
         let _ = &self.opens;
     }
 
-    /// The lock state of a number, as a clash that is told names it: its client and its lock owner.
+    /// The lock state of a number, as a clash that is reported names it: its client and its lock owner.
     pub fn lock_state(&self, number: u64) -> Option<&LockState>
         ensures found { option_copied result ≡ lock_at (table self.now) number }
         ensures kept { IsTable (table self.now) }

@@ -1,6 +1,6 @@
 -- Nothing was put.
 use Rattle.std.proofs.Common.{List, [], ◌++◌, refl, sym, append-nil}
-use Rattle.nfs_xdr.specs.Paper.{Paper, Puts}
+use Rattle.nfs_xdr.specs.SheetState.{SheetState, Puts}
 
-pub puts_nothing : {paper : Paper} → Puts paper paper []
-puts_nothing {paper} = record { bytes = sym (append-nil paper.bytes); room = refl }
+pub puts_nothing : {sheet : SheetState} → Puts sheet sheet []
+puts_nothing {sheet} = record { bytes = sym (append-nil sheet.bytes); room = refl }

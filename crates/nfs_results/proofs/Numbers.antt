@@ -8,7 +8,7 @@ use Rattle.std.proofs.Math.ListN.{drop_of_length-le}
 use Rattle.std.proofs.lemmas.List.{length-append, length-map, take_all}
 use Rattle.std.proofs.lemmas.List.Folds.{flat_map-map, length-flat_map-take}
 use Rattle.nfs_xdr.specs.Spelling.{number}
-use Rattle.nfs_xdr.specs.Paper.{Paper, HasRoom, Puts}
+use Rattle.nfs_xdr.specs.SheetState.{SheetState, HasRoom, Puts}
 use Rattle.nfs_xdr.specs.Codec as codec
 use Rattle.nfs_xdr.specs.Status.{status_of}
 use Rattle.nfs_xdr.proofs.Putting.{length_number}
@@ -21,7 +21,7 @@ spelled pieces = flat_map (λ piece. number (from_be_bytes w32 piece)) pieces
 pub same_spelled : (pieces : List (List ℕ)) → flat_map number (map (from_be_bytes w32) pieces) ≡ spelled pieces
 same_spelled pieces = flat_map-map number (from_be_bytes w32) pieces
 
-pub room_for_one : (old now : Paper) (pieces : List (List ℕ)) (i count next : ℕ) (d : List ℕ)
+pub room_for_one : (old now : SheetState) (pieces : List (List ℕ)) (i count next : ℕ) (d : List ℕ)
     → i < length pieces → HasRoom old ((codec.array codec.number).spell (map (from_be_bytes w32) pieces))
     → Puts old now (number count ++ spelled (take i pieces)) → HasRoom now (number next)
 room_for_one old now pieces i count next d lt room put =
@@ -45,7 +45,7 @@ room_for_one old now pieces i count next d lt room put =
       other,
     )
 
-pub all_put : (old new : Paper) (pieces : List (List ℕ)) (i : ℕ) → length pieces ≤ i
+pub all_put : (old new : SheetState) (pieces : List (List ℕ)) (i : ℕ) → length pieces ≤ i
     → Puts old new (number (length pieces) ++ spelled (take i pieces)) → Puts old new ((codec.array codec.number).spell (map (from_be_bytes w32) pieces))
 all_put old new pieces i over put =
     let text : number (length pieces) ++ spelled (take i pieces) ≡ (codec.array codec.number).spell (map (from_be_bytes w32) pieces) =

@@ -212,7 +212,7 @@ refused_again operation s rest fits =
     alone_again operation s (Refused operation s) rest b.0
     (ap (λ (ok : Bool). cond ok (done_by (op_num operation) rest) (refused_at operation s rest)) b.1 ∙ refuses) refl
 
--- SETATTR tells what was set with every status
+-- SETATTR reports what was set with every status
 set_behind : (b : Bool) (s : Status) (left : List ℕ) → eqb (status_number s) 0 ≡ b → behind 34 s left ≡ arm (ResSetAttr s) item.attr_set left
 unfolding done_at refused_at
 set_behind true s left is = rw (same_status s Nfs4Ok (eqb-true (status_number s) 0 is)) refl

@@ -82,7 +82,7 @@ unfoldable pub write_ok : Codec WriteOk
 write_ok = as_type (λ (count, (committed, writeverf)). record { count = count; committed = committed; writeverf = writeverf })
     (λ w. (w.count, (w.committed, w.writeverf))) (number then stable_how then fixed 8)
 
--- The state protection is none, and no implementation is told.
+-- The state protection is none, and no implementation is named.
 unfoldable pub exchange_id : Codec ExchangeIdOk
 exchange_id = as_type
     (λ (clientid, (sequenceid, (flags, (protection, (minor_id, (major_id, (server_scope, implementations))))))). record {

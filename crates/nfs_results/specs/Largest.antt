@@ -63,7 +63,7 @@ HasSizes asked (ResSecinfoNoName flavors) = length flavors ≤ 1
 HasSizes asked (ResTestStateid codes) = length codes ≤ asked
 HasSizes asked other = Unit {0}
 
--- a refusal that tells no more than which attributes were set
+-- a refusal that says no more than which attributes were set
 abbrev pub IsPlain : Res → Type 0
 IsPlain (Refused operation status) = Unit {0}
 IsPlain (ResSetAttr status attrsset) = length attrsset ≤ 3

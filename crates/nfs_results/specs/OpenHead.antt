@@ -2,7 +2,7 @@
 use Rattle.std.specs.Prelude.{◌≡◌, ℕ, ◌+◌, List, ◌++◌, length}
 use Rattle.nfs_xdr.specs.Spelling.{opaque}
 use Rattle.nfs_xdr.specs.declared.status.Status.{Status}
-use Rattle.nfs_xdr.specs.Paper.{Paper}
+use Rattle.nfs_xdr.specs.SheetState.{SheetState}
 use Rattle.nfs_results.specs.CompoundResult.{spell_compound_head}
 
 -- where the status and the count of a head with this tag stand, behind what is before it
@@ -21,7 +21,7 @@ pub record HasHead (status_at count_at : ℕ) (bytes : List ℕ) : Type 0 where
   pub spelled : bytes ≡ (before ++ spell_compound_head status tag count) ++ behind
 
 -- The head there has this status and count now. What is before and behind it, and its tag, are the same.
-pub record SetsHead (status_at count_at : ℕ) (status : Status) (count : ℕ) (old new : Paper) : Type 0 where
+pub record SetsHead (status_at count_at : ℕ) (status : Status) (count : ℕ) (old new : SheetState) : Type 0 where
   pub bytes : (before : List ℕ) (s : Status) (tag : List ℕ) (n : ℕ) (behind : List ℕ) → HeadsAt status_at count_at before tag
       → old.bytes ≡ (before ++ spell_compound_head s tag n) ++ behind → new.bytes ≡ (before ++ spell_compound_head status tag count) ++ behind
   pub room : new.room ≡ old.room

@@ -18,7 +18,7 @@ use Rattle.nfs_results.specs.Result.{ResWrite, ResExchangeId, ResCreateSession, 
 use Rattle.nfs_results.specs.Result.{ResTestStateid, ResDestroyClientId, ResReclaimComplete, Refused}
 
 -- What makes a result: its operation number, its status, what is behind them, whether that fits, and what has to hold
--- for that beside the sizes of numbers and of arrays, which their types tell.
+-- for that beside the sizes of numbers and of arrays, which their types give.
 pub record Parts : Type 1 where
   pub operation : ℕ
   pub status : Status
@@ -26,7 +26,7 @@ pub record Parts : Type 1 where
   pub Fits : Type 0
   pub Bound : Type 0
 
--- bytes that can be told with their length in front
+-- bytes that can be spelled with their length in front
 abbrev pub IsText : List ℕ → Type 0
 IsText bytes = length bytes < 2 ^ 32
 
@@ -49,7 +49,7 @@ bears operation s =
     if operation == 10044 then status_number s == status_number OpIllegal || status_number s == status_number RepTooBig
     else nat_le 3 operation && nat_le operation 58 && not (status_number s == status_number Nfs4Ok || status_number s == status_number OpIllegal)
 
--- SETATTR tells more than its status, and so do LOCK and LOCKT that are denied
+-- SETATTR says more than its status, and so do LOCK and LOCKT that are denied
 abbrev pub tells : ℕ → Status → Bool
 tells operation s = operation == op_number Op.SetAttr
     || ((operation == op_number Op.Lock || operation == op_number Op.LockT) && status_number s == status_number Denied)
@@ -121,7 +121,7 @@ FitsResult r = (parts r).Fits
 abbrev pub IsBounded : Res → Type 0
 IsBounded r = (parts r).Bound
 
--- How an operation of this number is refused with no more told: SETATTR tells that nothing was set.
+-- How an operation of this number is refused with no more said: SETATTR reports that nothing was set.
 abbrev pub refusal : ℕ → Status → Res
 refusal operation s = if operation == op_number Op.SetAttr then ResSetAttr s [] else Refused operation s
 

@@ -1,10 +1,10 @@
 //! The entries of a directory, lent from a reply (RFC 8881 section 18.23.2).
 
 ghost use Rattle.std.specs.Prelude.{◌≡◌, [], ◌∷◌, Some, None, MatchOption, length};
-ghost use Rattle.nfs_xdr.specs.Paper.{HasRoom, Puts};
+ghost use Rattle.nfs_xdr.specs.SheetState.{HasRoom, Puts};
 ghost use Rattle.nfs_xdr.specs.Chain.{chain};
 ghost use Rattle.nfs_xdr.specs.Codec.{IsBytes, passed};
-ghost use Rattle.nfs_xdr.specs.Reading.{Finds};
+ghost use Rattle.nfs_xdr.specs.Reading.{ReadsPartBy};
 ghost use Rattle.nfs_results.specs.Items as table;
 ghost use Rattle.nfs_results.specs.View as view;
 
@@ -63,7 +63,7 @@ impl<'a> Entries<'a> {
 
     /// Reads entries up to the flag that ends them.
     pub fn read(c: &mut Cursor<'a>) -> Result<Entries<'a>, Unreadable>
-        ensures { Finds (λ e. e) result ((chain table.entry).read c.old) c.new }
+        ensures { ReadsPartBy (λ e. e) result ((chain table.entry).read c.old) c.new }
     {
         let front = c.rest();
         let whole = size(front);
@@ -83,7 +83,7 @@ fn size(bytes: &[u8]) -> usize
 
 /// Passes over entries, and over the flag that ends them. There are no more flags than bytes.
 fn pass(c: &mut Cursor<'_>) -> Result<(), Unreadable>
-    ensures { Finds (λ u. u) result (passed ((chain table.entry).read c.old)) c.new }
+    ensures { ReadsPartBy (λ u. u) result (passed ((chain table.entry).read c.old)) c.new }
 {
     let most = c.left();
     for _ in 0..most {

@@ -1,7 +1,7 @@
 //! The head of a compound's result.
 
 ghost use Rattle.std.specs.Prelude.{◌≤◌, length};
-ghost use Rattle.nfs_xdr.specs.Paper.{HasRoom, Puts};
+ghost use Rattle.nfs_xdr.specs.SheetState.{HasRoom, Puts};
 ghost use Rattle.nfs_xdr.specs.declared.status.Status.TheVariants.{Nfs4Ok};
 ghost use Rattle.nfs_results.specs.CompoundResult.{spell_compound_head};
 ghost use Rattle.nfs_results.specs.OpenHead.{HeadsAt, HasHead, SetsHead};

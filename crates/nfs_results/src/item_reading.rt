@@ -2,7 +2,7 @@
 
 ghost use Rattle.std.specs.Prelude.{◌≡◌, ◌==◌, map, is_some, not};
 ghost use Rattle.std.specs.Int.{w32, from_be_bytes};
-ghost use Rattle.nfs_xdr.specs.Reading.{Finds};
+ghost use Rattle.nfs_xdr.specs.Reading.{ReadsPartBy};
 ghost use Rattle.nfs_xdr.specs.Status.{status_of};
 ghost use Rattle.nfs_results.specs.Items as table;
 ghost use Rattle.nfs_results.specs.View as view;
@@ -17,7 +17,7 @@ use nfs_xdr::{Cursor, Status, Unreadable};
 
 /// A number that is always the same.
 fn always(number: u32, c: &mut Cursor<'_>) -> Result<(), Unreadable>
-    ensures { Finds (λ x. tt) result ((table.always number).read c.old) c.new }
+    ensures { ReadsPartBy (λ x. tt) result ((table.always number).read c.old) c.new }
 {
     if c.u32()? != number {
         return Err(Unreadable);
@@ -27,7 +27,7 @@ fn always(number: u32, c: &mut Cursor<'_>) -> Result<(), Unreadable>
 
 #[tactic(auto, unfolding(crate::specs::Items::access))]
 pub fn access(c: &mut Cursor<'_>) -> Result<AccessOk, Unreadable>
-    ensures { Finds (λ a. a) result (table.access.read c.old) c.new }
+    ensures { ReadsPartBy (λ a. a) result (table.access.read c.old) c.new }
 {
     let supported = c.u32()?;
     let access = c.u32()?;
@@ -36,7 +36,7 @@ pub fn access(c: &mut Cursor<'_>) -> Result<AccessOk, Unreadable>
 
 #[tactic(auto, unfolding(crate::specs::Items::change_info))]
 pub fn change_info(c: &mut Cursor<'_>) -> Result<ChangeInfo, Unreadable>
-    ensures { Finds (λ i. i) result (table.change_info.read c.old) c.new }
+    ensures { ReadsPartBy (λ i. i) result (table.change_info.read c.old) c.new }
 {
     let atomic = c.flag()?;
     let before = c.u64()?;
@@ -51,7 +51,7 @@ pub fn change_info(c: &mut Cursor<'_>) -> Result<ChangeInfo, Unreadable>
 /// A set of attributes below 96, with no word at its end that is zero.
 #[tactic(auto, unfolding(crate::specs::Items::attr_set))]
 pub fn attr_set(c: &mut Cursor<'_>) -> Result<AttrSet, Unreadable>
-    ensures { Finds view.attr_set result (table.attr_set.read c.old) c.new }
+    ensures { ReadsPartBy view.attr_set result (table.attr_set.read c.old) c.new }
 {
     let words = match c.u32()? {
         0 => [0, 0, 0],
@@ -65,7 +65,7 @@ pub fn attr_set(c: &mut Cursor<'_>) -> Result<AttrSet, Unreadable>
 
 /// A number that is not zero.
 fn last_word(c: &mut Cursor<'_>) -> Result<u32, Unreadable>
-    ensures { Finds (λ n. n) result (table.last_word.read c.old) c.new }
+    ensures { ReadsPartBy (λ n. n) result (table.last_word.read c.old) c.new }
 {
     let word = c.u32()?;
     if word == 0 {
@@ -76,7 +76,7 @@ fn last_word(c: &mut Cursor<'_>) -> Result<u32, Unreadable>
 
 #[tactic(auto, unfolding(crate::specs::Items::create))]
 pub fn create(c: &mut Cursor<'_>) -> Result<CreateOk, Unreadable>
-    ensures { Finds view.create result (table.create.read c.old) c.new }
+    ensures { ReadsPartBy view.create result (table.create.read c.old) c.new }
 {
     let cinfo = change_info(c)?;
     let attrset = attr_set(c)?;
@@ -85,7 +85,7 @@ pub fn create(c: &mut Cursor<'_>) -> Result<CreateOk, Unreadable>
 
 #[tactic(auto, unfolding(crate::specs::Items::fattr))]
 pub fn fattr<'a>(c: &mut Cursor<'a>) -> Result<Fattr<'a>, Unreadable>
-    ensures { Finds view.fattr result (table.fattr.read c.old) c.new }
+    ensures { ReadsPartBy view.fattr result (table.fattr.read c.old) c.new }
 {
     let attrmask = attr_set(c)?;
     let attr_vals = c.opaque(u32::MAX)?;
@@ -97,7 +97,7 @@ pub fn fattr<'a>(c: &mut Cursor<'a>) -> Result<Fattr<'a>, Unreadable>
 
 #[tactic(auto, unfolding(crate::specs::Items::denied))]
 pub fn denied<'a>(c: &mut Cursor<'a>) -> Result<Denied<'a>, Unreadable>
-    ensures { Finds view.denied result (table.denied.read c.old) c.new }
+    ensures { ReadsPartBy view.denied result (table.denied.read c.old) c.new }
 {
     let offset = c.u64()?;
     let length = c.u64()?;
@@ -113,7 +113,7 @@ pub fn denied<'a>(c: &mut Cursor<'a>) -> Result<Denied<'a>, Unreadable>
 
 #[tactic(auto, unfolding(crate::specs::Items::open_ok))]
 pub fn open_ok(c: &mut Cursor<'_>) -> Result<OpenOk, Unreadable>
-    ensures { Finds view.open_ok result (table.open_ok.read c.old) c.new }
+    ensures { ReadsPartBy view.open_ok result (table.open_ok.read c.old) c.new }
 {
     let stateid = Stateid::read(c)?;
     let cinfo = change_info(c)?;
@@ -129,7 +129,7 @@ pub fn open_ok(c: &mut Cursor<'_>) -> Result<OpenOk, Unreadable>
 
 #[tactic(auto, unfolding(crate::specs::Items::read_ok))]
 pub fn read_ok<'a>(c: &mut Cursor<'a>) -> Result<ReadOk<'a>, Unreadable>
-    ensures { Finds view.read_ok result (table.read_ok.read c.old) c.new }
+    ensures { ReadsPartBy view.read_ok result (table.read_ok.read c.old) c.new }
 {
     let eof = c.flag()?;
     let data = c.opaque(u32::MAX)?;
@@ -138,7 +138,7 @@ pub fn read_ok<'a>(c: &mut Cursor<'a>) -> Result<ReadOk<'a>, Unreadable>
 
 #[tactic(auto, unfolding(crate::specs::Items::entry))]
 pub fn entry<'a>(c: &mut Cursor<'a>) -> Result<Entry<'a>, Unreadable>
-    ensures { Finds view.entry result (table.entry.read c.old) c.new }
+    ensures { ReadsPartBy view.entry result (table.entry.read c.old) c.new }
 {
     let cookie = c.u64()?;
     let name = c.opaque(u32::MAX)?;
@@ -152,7 +152,7 @@ pub fn entry<'a>(c: &mut Cursor<'a>) -> Result<Entry<'a>, Unreadable>
 
 #[tactic(auto, unfolding(crate::specs::Items::read_dir))]
 pub fn read_dir<'a>(c: &mut Cursor<'a>) -> Result<ReadDirOk<'a>, Unreadable>
-    ensures { Finds view.read_dir result (table.read_dir.read c.old) c.new }
+    ensures { ReadsPartBy view.read_dir result (table.read_dir.read c.old) c.new }
 {
     let cookieverf = c.fixed::<8>()?;
     let entries = Entries::read(c)?;
@@ -166,7 +166,7 @@ pub fn read_dir<'a>(c: &mut Cursor<'a>) -> Result<ReadDirOk<'a>, Unreadable>
 
 #[tactic(auto, unfolding(crate::specs::Items::rename))]
 pub fn rename(c: &mut Cursor<'_>) -> Result<RenameOk, Unreadable>
-    ensures { Finds (λ r. r) result (table.rename.read c.old) c.new }
+    ensures { ReadsPartBy (λ r. r) result (table.rename.read c.old) c.new }
 {
     let source_cinfo = change_info(c)?;
     let target_cinfo = change_info(c)?;
@@ -178,7 +178,7 @@ pub fn rename(c: &mut Cursor<'_>) -> Result<RenameOk, Unreadable>
 
 #[tactic(auto, unfolding(crate::specs::Items::write_ok))]
 pub fn write_ok(c: &mut Cursor<'_>) -> Result<WriteOk, Unreadable>
-    ensures { Finds (λ w. w) result (table.write_ok.read c.old) c.new }
+    ensures { ReadsPartBy (λ w. w) result (table.write_ok.read c.old) c.new }
 {
     let count = c.u32()?;
     let committed = StableHow::read(c)?;
@@ -192,7 +192,7 @@ pub fn write_ok(c: &mut Cursor<'_>) -> Result<WriteOk, Unreadable>
 
 #[tactic(auto, unfolding(crate::specs::Items::exchange_id))]
 pub fn exchange_id<'a>(c: &mut Cursor<'a>) -> Result<ExchangeIdOk<'a>, Unreadable>
-    ensures { Finds view.exchange_id result (table.exchange_id.read c.old) c.new }
+    ensures { ReadsPartBy view.exchange_id result (table.exchange_id.read c.old) c.new }
 {
     let clientid = c.u64()?;
     let sequenceid = c.u32()?;
@@ -214,7 +214,7 @@ pub fn exchange_id<'a>(c: &mut Cursor<'a>) -> Result<ExchangeIdOk<'a>, Unreadabl
 
 #[tactic(auto, unfolding(crate::specs::Items::create_session))]
 pub fn create_session(c: &mut Cursor<'_>) -> Result<CreateSessionOk, Unreadable>
-    ensures { Finds (λ s. s) result (table.create_session.read c.old) c.new }
+    ensures { ReadsPartBy (λ s. s) result (table.create_session.read c.old) c.new }
 {
     let sessionid = c.fixed::<16>()?;
     let sequence = c.u32()?;
@@ -232,7 +232,7 @@ pub fn create_session(c: &mut Cursor<'_>) -> Result<CreateSessionOk, Unreadable>
 
 #[tactic(auto, unfolding(crate::specs::Items::flavors))]
 pub fn flavors<'a>(c: &mut Cursor<'a>) -> Result<Flavors<'a>, Unreadable>
-    ensures { Finds view.flavors result (table.flavors.read c.old) c.new }
+    ensures { ReadsPartBy view.flavors result (table.flavors.read c.old) c.new }
 {
     let spelled = c.pieces::<4>()?;
     Ok(Flavors { spelled })
@@ -240,7 +240,7 @@ pub fn flavors<'a>(c: &mut Cursor<'a>) -> Result<Flavors<'a>, Unreadable>
 
 #[tactic(auto, unfolding(crate::specs::Items::sequence))]
 pub fn sequence(c: &mut Cursor<'_>) -> Result<SequenceOk, Unreadable>
-    ensures { Finds (λ s. s) result (table.sequence.read c.old) c.new }
+    ensures { ReadsPartBy (λ s. s) result (table.sequence.read c.old) c.new }
 {
     let sessionid = c.fixed::<16>()?;
     let sequenceid = c.u32()?;
@@ -260,7 +260,7 @@ pub fn sequence(c: &mut Cursor<'_>) -> Result<SequenceOk, Unreadable>
 
 #[tactic(auto, unfolding(crate::specs::Items::status_codes))]
 pub fn status_codes<'a>(c: &mut Cursor<'a>) -> Result<StatusCodes<'a>, Unreadable>
-    ensures { Finds view.status_codes result (table.status_codes.read c.old) c.new }
+    ensures { ReadsPartBy view.status_codes result (table.status_codes.read c.old) c.new }
 {
     let spelled = c.pieces::<4>()?;
     if !are_statuses(spelled) {

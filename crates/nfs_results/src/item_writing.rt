@@ -4,7 +4,7 @@ ghost use Rattle.std.specs.Prelude.{◌≡◌, ◌≤◌, ◌<◌, ◌^◌, ◌+
 ghost use Rattle.std.specs.Int.{w32, from_be_bytes};
 ghost use Rattle.nfs_xdr.specs.Spelling.{opaque};
 ghost use Rattle.nfs_xdr.specs.Spelling as spelling;
-ghost use Rattle.nfs_xdr.specs.Paper.{HasRoom, Puts};
+ghost use Rattle.nfs_xdr.specs.SheetState.{HasRoom, Puts};
 ghost use Rattle.nfs_xdr.specs.Codec.{array, optional, number};
 ghost use Rattle.nfs_compound.specs.Stateid.{stateid};
 ghost use Rattle.nfs_compound.specs.StateOwner.{state_owner};

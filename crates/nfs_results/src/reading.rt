@@ -1,7 +1,7 @@
 //! Reading results.
 
 ghost use Rattle.std.specs.Prelude.{◌≡◌};
-ghost use Rattle.nfs_xdr.specs.Reading.{Finds};
+ghost use Rattle.nfs_xdr.specs.Reading.{ReadsPartBy};
 ghost use Rattle.nfs_xdr.specs.Status.{status};
 ghost use Rattle.nfs_results.specs.Results as table;
 ghost use Rattle.nfs_results.specs.View as view;
@@ -13,7 +13,7 @@ use nfs_xdr::{Cursor, Status, Unreadable};
 
 /// A result, from its operation number on. A refusal leaves the cursor anywhere.
 pub fn res<'a>(c: &mut Cursor<'a>) -> Result<Res<'a>, Unreadable>
-    ensures { Finds view.res result (table.result.read c.old) c.new }
+    ensures { ReadsPartBy view.res result (table.result.read c.old) c.new }
 {
     let operation = c.u32()?;
     let status = status(c)?;
@@ -28,7 +28,7 @@ pub fn res<'a>(c: &mut Cursor<'a>) -> Result<Res<'a>, Unreadable>
 
 /// A status that this server answers.
 pub fn status(c: &mut Cursor<'_>) -> Result<Status, Unreadable>
-    ensures { Finds (λ s. s) result (status.read c.old) c.new }
+    ensures { ReadsPartBy (λ s. s) result (status.read c.old) c.new }
 {
     let number = c.u32()?;
     let Some(status) = Status::of(number) else {
@@ -40,7 +40,7 @@ pub fn status(c: &mut Cursor<'_>) -> Result<Status, Unreadable>
 /// What an operation that was done has behind NFS4_OK.
 #[tactic(auto, unfolding(crate::specs::Results::done_at))]
 fn done<'a>(op: OpNum, c: &mut Cursor<'a>) -> Result<Res<'a>, Unreadable>
-    ensures { Finds view.res result (table.done_at op c.old) c.new }
+    ensures { ReadsPartBy view.res result (table.done_at op c.old) c.new }
 {
     Ok(match op {
         OpNum::Access => Res::Access(item::access(c)?),
@@ -89,7 +89,7 @@ fn done<'a>(op: OpNum, c: &mut Cursor<'a>) -> Result<Res<'a>, Unreadable>
 /// What an operation that was refused has behind its status.
 #[tactic(auto, unfolding(crate::specs::Results::refused_at))]
 fn refused<'a>(operation: u32, status: Status, c: &mut Cursor<'a>) -> Result<Res<'a>, Unreadable>
-    ensures { Finds view.res result (table.refused_at operation status c.old) c.new }
+    ensures { ReadsPartBy view.res result (table.refused_at operation status c.old) c.new }
 {
     if operation == OpNum::SetAttr.number() {
         let attrsset = item::attr_set(c)?;

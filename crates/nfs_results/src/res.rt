@@ -62,7 +62,7 @@ pub enum Res<'a> {
     RestoreFh,
     /// RFC 8881 section 18.28.
     SaveFh,
-    /// SETATTR, done or refused: it tells with every status which attributes were set (RFC 8881 section
+    /// SETATTR, done or refused: it reports with every status which attributes were set (RFC 8881 section
     /// 18.30.2).
     SetAttr { status: Status, attrsset: AttrSet },
     /// RFC 8881 section 18.31.
@@ -87,7 +87,7 @@ pub enum Res<'a> {
     DestroyClientId,
     /// RFC 8881 section 18.51.
     ReclaimComplete,
-    /// An operation was refused, and nothing is told beside that (RFC 8881 section 15): its number, from 3 to
+    /// An operation was refused, with nothing beside that (RFC 8881 section 15): its number, from 3 to
     /// 58 whether or not this server reads it, or that of OP_ILLEGAL, and a status other than NFS4_OK.
     Refused { operation: u32, status: Status },
 }
@@ -205,7 +205,7 @@ pub struct WriteOk {
     pub writeverf: [u8; 8],
 }
 
-/// A granted EXCHANGE_ID, with no state protection and no implementation told (RFC 8881 section 18.35.2;
+/// A granted EXCHANGE_ID, with no state protection and no implementation named (RFC 8881 section 18.35.2;
 /// this server's profile).
 #[derive(Clone, Copy)]
 pub struct ExchangeIdOk<'a> {

@@ -5,7 +5,7 @@
 //! attributes. TEST_STATEID is [`write_test_stateid_head`] and the number of each status.
 
 ghost use Rattle.std.specs.Prelude.{◌<◌, ◌^◌, ◌++◌, length};
-ghost use Rattle.nfs_xdr.specs.Paper.{HasRoom, Puts};
+ghost use Rattle.nfs_xdr.specs.SheetState.{HasRoom, Puts};
 ghost use Rattle.nfs_xdr.specs.Spelling.{number, flag};
 ghost use Rattle.nfs_results.specs.Straight.{done_head, read_head, read_end, read_dir_head, entry_head, list_end, test_stateid_head};
 

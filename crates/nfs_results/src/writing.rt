@@ -1,7 +1,7 @@
 //! Putting results onto a sheet.
 
 ghost use Rattle.std.specs.Prelude.{◌≡◌, ◌≤◌, length};
-ghost use Rattle.nfs_xdr.specs.Paper.{HasRoom, Puts};
+ghost use Rattle.nfs_xdr.specs.SheetState.{HasRoom, Puts};
 ghost use Rattle.nfs_xdr.specs.Status.{status_number};
 ghost use Rattle.nfs_results.specs.Results.{spell_result, IsBounded, HasArrays, parts, head, operation_of, status_of_result, refusal};
 ghost use Rattle.nfs_results.specs.View as view;
@@ -112,7 +112,7 @@ fn put_behind(res: &Res<'_>, out: &mut Sheet)
 }
 
 impl Res<'_> {
-    /// How an operation of this number is refused with nothing told beside that: SETATTR tells that it set no
+    /// How an operation of this number is refused with nothing beside that: SETATTR reports that it set no
     /// attribute (RFC 8881 section 18.30.2).
     pub fn refusal(operation: u32, status: Status) -> Res<'static>
         ensures { view.res result ≡ refusal operation status }

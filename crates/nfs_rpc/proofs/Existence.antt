@@ -3,7 +3,7 @@ use Rattle.std.proofs.Common.{◌≡◌, ℕ, List, [], ◌∷◌, ◌++◌, len
 use Rattle.std.proofs.lemmas.List.{append-nil, take_at}
 use Rattle.nfs_xdr.specs.Codec.{IsBytes}
 use Rattle.nfs_xdr.proofs.CodecLaws.{IsBytes-take}
-use Rattle.nfs_rpc.specs.RecordMarking.{Part, IsPart, Held, Begun, Complete, Failed, Holds, start}
+use Rattle.nfs_rpc.specs.RecordMarking.{Part, IsPart, Gathered, Begun, Complete, Failed, Holds, start}
 use Rattle.nfs_rpc.specs.Stream.{End, Open, TooLong, IsReading}
 use Rattle.nfs_rpc.specs.Share.{with_mark, with_data}
 use Rattle.nfs_rpc.proofs.Fragments.{bytes_behind_front}
@@ -24,7 +24,7 @@ front_bytes : (front back : List ℕ) → IsBytes (front ++ back) → IsBytes fr
 front_bytes front back h = subst IsBytes (take_at front back (length front) refl) (IsBytes-take (length front) (front ++ back) h)
 
 -- one byte more
-byte_holds : (rest : List ℕ) (p : Part) (b : ℕ) → IsBytes (rest ++ b ∷ []) → IsPart rest p → (held : Held) × Holds (rest ++ b ∷ []) held
+byte_holds : (rest : List ℕ) (p : Part) (b : ℕ) → IsBytes (rest ++ b ∷ []) → IsPart rest p → (held : Gathered) × Holds (rest ++ b ∷ []) held
 byte_holds rest p b fits h =
     elim h [
       | inl q ↦ (with_mark p (b ∷ []), mark_holds rest p (b ∷ []) q.lacking (omega (arith, q.cut)) fits (inl q))
@@ -32,7 +32,7 @@ byte_holds rest p b fits h =
     ]
 
 -- behind it the same bytes are read on
-go_on : (front bytes : List ℕ) (held : Held) → Holds front held → IsBytes (front ++ bytes)
+go_on : (front bytes : List ℕ) (held : Gathered) → Holds front held → IsBytes (front ++ bytes)
     → ((rest : List ℕ) (p : Part) → IsPart rest p → IsBytes (rest ++ bytes) → Read (rest ++ bytes)) → Read (front ++ bytes)
 go_on front bytes (Begun p) holds fits more = more front p holds fits
 go_on front bytes (Complete d) holds fits more =

@@ -13,8 +13,8 @@ use Rattle.nfs_xdr.proofs.CodecLaws.{bind_some, is_number, is_opaque, is_then, i
 use Rattle.nfs_rpc.specs.declared.refusal.Refusal.{Refusal}
 use Rattle.nfs_rpc.specs.declared.refusal.AuthStat.{AuthStat}
 use Rattle.nfs_xdr.specs.Caller.{Caller}
-use Rattle.nfs_rpc.specs.CallHead.{opaque_auth, Header, header, AuthSys, auth_sys, told, whole, caller_of, caller_by, Call, Called, Accepted, Refused}
-use Rattle.nfs_rpc.specs.CallHead.{or_silent, or_auth, unless, checks, call_with, judged, call_of, spell_call}
+use Rattle.nfs_rpc.specs.CallHead.{opaque_auth, Header, header, AuthSys, auth_sys, named_by, whole, caller_of, caller_by, Call, Called, Accepted, Refused}
+use Rattle.nfs_rpc.specs.CallHead.{or_silent, or_auth, unless, checks, call_with, behind_header, call_of, spell_call}
 
 pub is_opaque_auth : IsCodec opaque_auth
 unfolding opaque_auth
@@ -33,7 +33,7 @@ is_auth_sys = is_as_type _ _ _ (λ _. refl) (is_then _ _ is_number (is_then _ _ 
     (is_only (λ (gids : List ℕ). nat_le (length gids) 16) _ (is_pieces 4 (from_be_bytes w32) number number_sized is_number))))))
 
 -- a head that is spelled so is judged
-pub call_judged : (xid : ℕ) (h : Header) (args : List ℕ) → xid < 2 ^ 32 → header.Fits h → call_of (spell_call xid h args) ≡ judged xid h args
+pub call_judged : (xid : ℕ) (h : Header) (args : List ℕ) → xid < 2 ^ 32 → header.Fits h → call_of (spell_call xid h args) ≡ behind_header xid h args
 unfolding call_of
 call_judged xid h args small fits =
     rw (
@@ -68,13 +68,13 @@ kept (Err stat) fault xid h args c e = absurd cc
 kept (Ok who) None xid h args c e = (ap (λ k. (call_in c k).xid) e, ap (λ k. (call_in c k).args) e)
 kept (Ok who) (Some fault) xid h args c e = absurd cc
 
-judged_parts : (xid : ℕ) (h : Header) (args : List ℕ) (c : Call) → judged xid h args ≡ Accepted c → (xid ≡ c.xid) × (args ≡ c.args)
-unfolding judged
+judged_parts : (xid : ℕ) (h : Header) (args : List ℕ) (c : Call) → behind_header xid h args ≡ Accepted c → (xid ≡ c.xid) × (args ≡ c.args)
+unfolding behind_header
 judged_parts xid h args c e = kept (caller_by h.credential) (first_fault (checks xid h args)) xid h args c e
 
 -- a call that is accepted is spelled so
 pub call_taken : (bytes : List ℕ) (c : Call) → IsBytes bytes → call_of bytes ≡ Accepted c
-    → (h : Header) × (c.xid < 2 ^ 32) × header.Fits h × (bytes ≡ spell_call c.xid h c.args) × (judged c.xid h c.args ≡ Accepted c)
+    → (h : Header) × (c.xid < 2 ^ 32) × header.Fits h × (bytes ≡ spell_call c.xid h c.args) × (behind_header c.xid h c.args ≡ Accepted c)
 unfolding call_of
 call_taken bytes c fits e =
     let a = read_some (number_at bytes) _ c e in
@@ -97,13 +97,13 @@ call_taken bytes c fits e =
           ∙ ap (λ (k : ℕ). number.spell a.0.0 ++ (number.spell k ++ (number.spell v.0.0 ++ (header.spell h.0.0 ++ h.0.1)))) zero_kind
           ∙ ap (λ (k : ℕ). number.spell a.0.0 ++ (number.spell 0 ++ (number.spell k ++ (header.spell h.0.0 ++ h.0.1)))) version_two
           ∙ ap (λ (k : ℕ). spell_call k h.0.0 h.0.1) parts.0 ∙ ap (spell_call c.xid h.0.0) parts.1,
-      ap (λ (k : ℕ). judged k h.0.0 c.args) (sym parts.0) ∙ ap (judged a.0.0 h.0.0) (sym parts.1) ∙ h.2,
+      ap (λ (k : ℕ). behind_header k h.0.0 c.args) (sym parts.0) ∙ ap (behind_header a.0.0 h.0.0) (sym parts.1) ∙ h.2,
     )
 
 -- the body of AUTH_SYS, both ways
-pub body_told : (s : AuthSys) → auth_sys.Fits s → caller_of (auth_sys.spell s) ≡ Some (told s)
+pub body_told : (s : AuthSys) → auth_sys.Fits s → caller_of (auth_sys.spell s) ≡ Some (named_by s)
 unfolding caller_of
-body_told s fits = ap (λ (r : Option (AuthSys × List ℕ)). whole r >>= λ x. Some (told x))
+body_told s fits = ap (λ (r : Option (AuthSys × List ℕ)). whole r >>= λ x. Some (named_by x))
     (ap auth_sys.read (sym (append-nil (auth_sys.spell s))) ∙ is_auth_sys.again s [] fits)
 
 whole_some : {A : Type 0} (r : Option (A × List ℕ)) (x : A) → whole r ≡ Some x → r ≡ Some (x, [])
@@ -112,9 +112,9 @@ whole_some {A} (Some (y, [])) x e = ap (λ (z : A). Some (z, [])) (same_Some y x
 whole_some (Some (y, b ∷ bytes)) x e = absurd cc
 
 pub body_taken : (body : List ℕ) (who : Caller) → IsBytes body → caller_of body ≡ Some who
-    → (s : AuthSys) × auth_sys.Fits s × (body ≡ auth_sys.spell s) × (who ≡ told s)
+    → (s : AuthSys) × auth_sys.Fits s × (body ≡ auth_sys.spell s) × (who ≡ named_by s)
 unfolding caller_of
 body_taken body who fits e =
-    let s = bind_some (whole (auth_sys.read body)) (λ x. Some (told x)) who e in
+    let s = bind_some (whole (auth_sys.read body)) (λ x. Some (named_by x)) who e in
     let t = is_auth_sys.takes body s.0 [] fits (whole_some (auth_sys.read body) s.0 s.1) in
-    (s.0, t.2, t.0 ∙ append-nil (auth_sys.spell s.0), sym (same_Some (told s.0) who s.2))
+    (s.0, t.2, t.0 ∙ append-nil (auth_sys.spell s.0), sym (same_Some (named_by s.0) who s.2))

@@ -3,10 +3,10 @@ use Rattle.std.proofs.Common.{◌≡◌, ℕ, List, ◌++◌, length, refl, sym,
 use Rattle.std.specs.Int.{w32, from_be_bytes}
 use Rattle.std.proofs.lemmas.Bool.{eq-eqb}
 use Rattle.nfs_rpc.specs.declared.state.State.{State}
-use Rattle.nfs_rpc.specs.RecordMarking.{Part, Held, Begun, Complete, Failed, start}
+use Rattle.nfs_rpc.specs.RecordMarking.{Part, Gathered, Begun, Complete, Failed, start}
 use Rattle.nfs_rpc.specs.Share.{held, state_of, at_mark, with_mark}
 
-part_of : Held → Part
+part_of : Gathered → Part
 part_of (Begun p) = p
 part_of (Complete record_data) = start
 part_of Failed = start
@@ -18,12 +18,12 @@ begun_fields State.Complete q p e = absurd cc
 begun_fields State.Failed q p e = absurd cc
 
 -- what has begun holds a part
-pub begun_held : (h : Held) → state_of h ≡ State.Begun → (p : Part) × (h ≡ Begun p)
+pub begun_held : (h : Gathered) → state_of h ≡ State.Begun → (p : Part) × (h ≡ Begun p)
 begun_held (Begun p) e = (p, refl)
 begun_held (Complete record_data) e = absurd cc
 begun_held Failed e = absurd cc
 
-pub mark_whole : (q p : Part) (bytes mark : List ℕ) (word : ℕ) (new : Held) → q ≡ p → mark ≡ q.mark ++ bytes
+pub mark_whole : (q p : Part) (bytes mark : List ℕ) (word : ℕ) (new : Gathered) → q ≡ p → mark ≡ q.mark ++ bytes
     → length mark ≡ 4 → word ≡ from_be_bytes w32 mark → new ≡ at_mark q.taken word → new ≡ with_mark p bytes
 unfolding with_mark
 mark_whole q p bytes mark word new same grown four read e =

@@ -54,9 +54,9 @@ auth_sys = as_type
 abbrev pub nobody : Caller
 nobody = record { uid = 65534; gid = 65534; gids = [] }
 
--- who is told by the body of an AUTH_SYS credential
-abbrev pub told : AuthSys → Caller
-told s = record { uid = s.uid; gid = s.gid; gids = s.gids }
+-- who is named by the body of an AUTH_SYS credential
+abbrev pub named_by : AuthSys → Caller
+named_by s = record { uid = s.uid; gid = s.gid; gids = s.gids }
 
 -- the value that was read, where nothing stands behind it
 abbrev pub whole : {A : Type 0} → Option (A × List ℕ) → Option A
@@ -66,7 +66,7 @@ whole (Some (x, b ∷ bytes)) = None
 
 -- under AUTH_SYS, where the body is spelled so
 unfoldable pub caller_of : List ℕ → Option Caller
-caller_of body = whole (auth_sys.read body) >>= λ s. Some (told s)
+caller_of body = whole (auth_sys.read body) >>= λ s. Some (named_by s)
 
 abbrev pub or_bad : Option Caller → Result Caller AuthStat
 or_bad None = Err BadCred
@@ -94,7 +94,7 @@ abbrev pub or_silent : {A : Type 0} → Option (A × List ℕ) → (A → List �
 or_silent None go = Refused Silent
 or_silent (Some x) go = go x.0 x.1
 
--- a credential that tells nobody refuses the call
+-- a credential that names nobody refuses the call
 abbrev pub or_auth : ℕ → Result Caller AuthStat → (Caller → Called) → Called
 or_auth xid (Err stat) go = Refused (Auth xid stat)
 or_auth xid (Ok who) go = go who
@@ -118,12 +118,12 @@ abbrev pub call_with : ℕ → Header → List ℕ → Caller → Call
 call_with xid h args who = record { xid = xid; procedure = if h.procedure == 0 then Procedures.Null else Procedures.Compound; who = who; args = args }
 
 -- behind a header that can be read: first the credential, then these checks
-unfoldable pub judged : ℕ → Header → List ℕ → Called
-judged xid h args = or_auth xid (caller_by h.credential) (λ who. unless (first_fault (checks xid h args)) (call_with xid h args who))
+unfoldable pub behind_header : ℕ → Header → List ℕ → Called
+behind_header xid h args = or_auth xid (caller_by h.credential) (λ who. unless (first_fault (checks xid h args)) (call_with xid h args who))
 
 -- behind the version of RPC
 abbrev pub behind_version : ℕ → List ℕ → Called
-behind_version xid bytes = or_silent (header.read bytes) (judged xid)
+behind_version xid bytes = or_silent (header.read bytes) (behind_header xid)
 
 -- The call, or the first refusal.
 unfoldable pub call_of : List ℕ → Called

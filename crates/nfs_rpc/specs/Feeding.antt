@@ -2,40 +2,40 @@
 use Rattle.std.specs.Prelude.{◌≡◌, ℕ, ◌<◌, ◌≤◌, ◌++◌, List, [], take, Bool, true, false}
 use Rattle.nfs_rpc.specs.declared.fed.Fed.{Fed}
 use Rattle.nfs_rpc.specs.declared.fed.Fed.TheVariants.{More, Whole, TooLong}
-use Rattle.nfs_rpc.specs.RecordMarking.{Part, Held, Begun, Complete, Failed, Holds, start}
+use Rattle.nfs_rpc.specs.RecordMarking.{Part, Gathered, Begun, Complete, Failed, Holds, start}
 
 -- whether a whole record waits
-abbrev pub waits : Held → Bool
+abbrev pub waits : Gathered → Bool
 waits (Begun p) = false
 waits (Complete record_data) = true
 waits Failed = false
 
 -- whether the record is too long
-abbrev pub is_too_long : Held → Bool
+abbrev pub is_too_long : Gathered → Bool
 is_too_long (Begun p) = false
 is_too_long (Complete record_data) = false
 is_too_long Failed = true
 
 -- its data, and no bytes where none waits
-abbrev pub waiting : Held → List ℕ
+abbrev pub waiting : Gathered → List ℕ
 waiting (Begun p) = []
 waiting (Complete record_data) = record_data
 waiting Failed = []
 
 -- what is held once the record that waits is done with
-abbrev pub done_with : Held → Held
+abbrev pub done_with : Gathered → Gathered
 done_with (Begun p) = Begun p
 done_with (Complete record_data) = Begun start
 done_with Failed = Failed
 
 -- what each answer to a piece of so many bytes says of what is held
-abbrev pub Answers : Fed → Held → ℕ → Type 0
-Answers More held size = (p : Part) × (held ≡ Begun p)
-Answers (Whole used) held size = (record_data : List ℕ) × (held ≡ Complete record_data) × (used ≤ size) × (0 < used)
-Answers TooLong held size = held ≡ Failed
+abbrev pub AnswersFeed : Fed → Gathered → ℕ → Type 0
+AnswersFeed More held size = (p : Part) × (held ≡ Begun p)
+AnswersFeed (Whole used) held size = (record_data : List ℕ) × (held ≡ Complete record_data) × (used ≤ size) × (0 < used)
+AnswersFeed TooLong held size = held ≡ Failed
 
 -- For the bytes before the piece: they and the bytes taken of it are what is held now.
-abbrev pub StandsNow : Fed → List ℕ → List ℕ → Held → Type 0
+abbrev pub StandsNow : Fed → List ℕ → List ℕ → Gathered → Type 0
 StandsNow More rest piece held = Holds (rest ++ piece) held
 StandsNow (Whole used) rest piece held = Holds (rest ++ take used piece) held
 StandsNow TooLong rest piece held = (used : ℕ) × Holds (rest ++ take used piece) held

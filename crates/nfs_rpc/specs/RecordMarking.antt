@@ -76,13 +76,13 @@ abbrev pub IsPart : List ℕ → Part → Type 0
 IsPart rest p = IsBetween rest p ⊎ IsInside rest p
 
 -- what is held: a part, the data of a whole record that waits, or nothing more of a record that is too long
-pub data Held : Type 0 where
-  Begun : Part → Held
-  Complete : List ℕ → Held
-  Failed : Held
+pub data Gathered : Type 0 where
+  Begun : Part → Gathered
+  Complete : List ℕ → Gathered
+  Failed : Gathered
 
 -- what is held stands for the bytes behind the last record that was done with
-abbrev pub Holds : List ℕ → Held → Type 0
+abbrev pub Holds : List ℕ → Gathered → Type 0
 Holds rest (Begun p) = IsPart rest p
 Holds rest (Complete record_data) = IsRecord rest record_data
 Holds rest Failed = IsTooLong rest

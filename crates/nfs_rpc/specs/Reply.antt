@@ -25,7 +25,7 @@ auth_number BadCred = 1
 auth_number RejectedCred = 2
 auth_number TooWeak = 5
 
--- a wrong version is told with the lowest and the highest that are served
+-- a wrong version is reported with the lowest and the highest that are served
 abbrev pub spell_stat : AcceptStat → List ℕ
 spell_stat ProgUnavail = number 1
 spell_stat ProgMismatch = number 2 ++ (number 4 ++ number 4)

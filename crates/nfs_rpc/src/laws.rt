@@ -7,7 +7,7 @@ ghost use Rattle.nfs_rpc.specs.Stream.{IsUnfinished, End, Open, TooLong, IsReadi
 ghost use Rattle.nfs_rpc.specs.declared.refusal.Refusal.{Refusal};
 ghost use Rattle.nfs_rpc.specs.Reply.{spell_head, spell_refusal};
 ghost use Rattle.nfs_xdr.specs.Caller.{Caller};
-ghost use Rattle.nfs_rpc.specs.CallHead.{Header, header, AuthSys, auth_sys, told, caller_of, Call, Accepted, judged, call_of, spell_call};
+ghost use Rattle.nfs_rpc.specs.CallHead.{Header, header, AuthSys, auth_sys, named_by, caller_of, Call, Accepted, behind_header, call_of, spell_call};
 
 /// One stream is read into records in one way, however it is cut into pieces.
 pub fn one_reading()
@@ -40,13 +40,13 @@ pub fn lengths()
 /// The head of a call is judged exactly where it is spelled, and a call that is accepted is spelled so.
 pub fn heads()
     ensures header { IsCodec header }
-    ensures judged { (xid : ℕ) (h : Header) (args : List ℕ) → xid < 2 ^ 32 → header.Fits h → call_of (spell_call xid h args) ≡ judged xid h args }
-    ensures accepted { (bytes : List ℕ) (c : Call) → IsBytes bytes → call_of bytes ≡ Accepted c → (h : Header) × (c.xid < 2 ^ 32) × header.Fits h × (bytes ≡ spell_call c.xid h c.args) × (judged c.xid h c.args ≡ Accepted c) }
+    ensures judged { (xid : ℕ) (h : Header) (args : List ℕ) → xid < 2 ^ 32 → header.Fits h → call_of (spell_call xid h args) ≡ behind_header xid h args }
+    ensures accepted { (bytes : List ℕ) (c : Call) → IsBytes bytes → call_of bytes ≡ Accepted c → (h : Header) × (c.xid < 2 ^ 32) × header.Fits h × (bytes ≡ spell_call c.xid h c.args) × (behind_header c.xid h c.args ≡ Accepted c) }
 {}
 
-/// The body of AUTH_SYS tells a caller exactly where it is spelled.
+/// The body of AUTH_SYS names a caller exactly where it is spelled.
 pub fn auth_sys_bodies()
     ensures auth_sys { IsCodec auth_sys }
-    ensures told { (s : AuthSys) → auth_sys.Fits s → caller_of (auth_sys.spell s) ≡ Some (told s) }
-    ensures taken { (body : List ℕ) (who : Caller) → IsBytes body → caller_of body ≡ Some who → (s : AuthSys) × auth_sys.Fits s × (body ≡ auth_sys.spell s) × (who ≡ told s) }
+    ensures told { (s : AuthSys) → auth_sys.Fits s → caller_of (auth_sys.spell s) ≡ Some (named_by s) }
+    ensures taken { (body : List ℕ) (who : Caller) → IsBytes body → caller_of body ≡ Some who → (s : AuthSys) × auth_sys.Fits s × (body ≡ auth_sys.spell s) × (who ≡ named_by s) }
 {}

@@ -1,9 +1,9 @@
 ghost use Rattle.std.specs.Prelude.{◌≡◌, ◌≤◌, IfOk, MatchResult, Some, None, Ok, Err};
-ghost use Rattle.nfs_xdr.specs.Reading.{Finds};
+ghost use Rattle.nfs_xdr.specs.Reading.{ReadsPartBy};
 ghost use Rattle.nfs_xdr.specs.Checks.{first_fault};
 ghost use Rattle.nfs_xdr.specs.Caller as calling;
 ghost use Rattle.nfs_rpc.specs.CallHead as head;
-ghost use Rattle.nfs_rpc.specs.CallHead.{call_of, behind_version, judged, caller_of, caller_by, checks, Refused};
+ghost use Rattle.nfs_rpc.specs.CallHead.{call_of, behind_version, behind_header, caller_of, caller_by, checks, Refused};
 ghost use Rattle.nfs_rpc.specs.View as view;
 ghost use Rattle.nfs_rpc.specs.View.{IsCalled};
 
@@ -24,10 +24,10 @@ const NULL: u32 = 0;
 /// The number of procedure COMPOUND.
 const COMPOUND: u32 = 1;
 
-/// The flavor of a credential that tells nothing (RFC 5531 section 10.1).
+/// The flavor of a credential that names nobody (RFC 5531 section 10.1).
 const AUTH_NONE: u32 = 0;
 
-/// The flavor of a credential that tells a user and groups (RFC 5531 appendix A).
+/// The flavor of a credential that names a user and groups (RFC 5531 appendix A).
 const AUTH_SYS: u32 = 1;
 
 impl<'a> Call<'a> {
@@ -80,7 +80,7 @@ fn start(c: &mut Cursor<'_>) -> Result<u32, Refusal>
 
 #[tactic(auto, unfolding(crate::specs::CallHead::header))]
 fn header<'a>(c: &mut Cursor<'a>) -> Result<Header<'a>, Unreadable>
-    ensures { Finds view.header result (head.header.read c.old) c.new }
+    ensures { ReadsPartBy view.header result (head.header.read c.old) c.new }
 {
     let program = c.u32()?;
     let version = c.u32()?;
@@ -98,7 +98,7 @@ fn header<'a>(c: &mut Cursor<'a>) -> Result<Header<'a>, Unreadable>
 
 #[tactic(auto, unfolding(crate::specs::CallHead::opaque_auth))]
 fn opaque_auth<'a>(c: &mut Cursor<'a>) -> Result<OpaqueAuth<'a>, Unreadable>
-    ensures { Finds view.opaque_auth result (head.opaque_auth.read c.old) c.new }
+    ensures { ReadsPartBy view.opaque_auth result (head.opaque_auth.read c.old) c.new }
 {
     let flavor = c.u32()?;
     let body = c.opaque(400)?;
@@ -106,9 +106,9 @@ fn opaque_auth<'a>(c: &mut Cursor<'a>) -> Result<OpaqueAuth<'a>, Unreadable>
 }
 
 /// The call behind a header that can be read, or the first check that refuses it.
-#[tactic(auto, unfolding(crate::specs::CallHead::judged))]
+#[tactic(auto, unfolding(crate::specs::CallHead::behind_header))]
 fn judge<'a>(xid: u32, header: &Header<'a>, args: &'a [u8]) -> Result<Call<'a>, Refusal>
-    ensures called { IsCalled result (judged xid (view.header header.now) args.now) }
+    ensures called { IsCalled result (behind_header xid (view.header header.now) args.now) }
     ensures groups { IfOk result (λ c. c.who.count ≤ 16) }
 {
     let who = caller(&header.credential).map_err(|stat| Refusal::Auth { xid, stat })?;

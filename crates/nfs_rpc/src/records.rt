@@ -2,9 +2,9 @@ ghost use Rattle.std.specs.Prelude.{◌≡◌, ◌≤◌, ◌<◌, List, ℕ, If
 ghost use Rattle.nfs_xdr.specs.Codec.{IsBytes};
 ghost use Rattle.nfs_rpc.specs.declared.state.State.TheVariants as States;
 ghost use Rattle.nfs_rpc.specs.declared.fed.Fed.TheVariants as Feds;
-ghost use Rattle.nfs_rpc.specs.RecordMarking.{Part, Held, Holds, start};
+ghost use Rattle.nfs_rpc.specs.RecordMarking.{Part, Gathered, Holds, start};
 ghost use Rattle.nfs_rpc.specs.RecordMarking as marking;
-ghost use Rattle.nfs_rpc.specs.Feeding.{waits, is_too_long, waiting, done_with, Answers, StandsNow};
+ghost use Rattle.nfs_rpc.specs.Feeding.{waits, is_too_long, waiting, done_with, AnswersFeed, StandsNow};
 ghost use Rattle.nfs_rpc.specs.Share.{state_of, at_mark, with_mark, with_data};
 
 use crate::fed::Fed;
@@ -31,9 +31,9 @@ pub struct Records {
 
 impl Model for Records {
     ghost use Rattle.std.specs.Prelude.{◌+◌, ◌<◌, ◌≤◌, take, vec_len, vec_capacity};
-    ghost use Rattle.nfs_rpc.specs.RecordMarking.{Held};
+    ghost use Rattle.nfs_rpc.specs.RecordMarking.{Gathered};
 
-    ghost Value = { Held };
+    ghost Value = { Gathered };
 
     ghost use Rattle.nfs_rpc.specs.Share.{held};
 
@@ -65,7 +65,7 @@ impl Records {
     /// The bytes behind a whole record are to be fed again, once it is done with.
     pub fn feed(&mut self, piece: &[u8]) -> Fed
         requires { waits self.old ≡ false }
-        ensures answer { Answers result self.new (length piece.now) }
+        ensures answer { AnswersFeed result self.new (length piece.now) }
         ensures stays { self.old ≡ marking.Failed → result ≡ Feds.TooLong }
         // For all bytes that what is held stands for: with the bytes taken they are what is held now.
         ensures stream { (rest : List ℕ) → IsBytes rest → Holds rest self.old → StandsNow result rest piece.now self.new }

@@ -1,4 +1,4 @@
-ghost use Rattle.nfs_xdr.specs.Paper.{HasRoom, Puts};
+ghost use Rattle.nfs_xdr.specs.SheetState.{HasRoom, Puts};
 ghost use Rattle.nfs_rpc.specs.Reply.{spell_accepted, spell_denied, spell_head, spell_stat, spell_refusal};
 
 use crate::refusal::{AcceptStat, AuthStat, Refusal};

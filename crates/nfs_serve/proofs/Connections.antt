@@ -8,7 +8,7 @@ use Rattle.nfs_rpc.specs.RecordMarking.{start}
 use Rattle.nfs_rpc.specs.Stream.{End, Open, TooLong, IsReading, IsUnfinished}
 use Rattle.nfs_rpc.proofs.Readings.{reading_then, part_unfinished}
 use Rattle.nfs_serve.specs.Script.{Entry}
-use Rattle.nfs_serve.specs.Run.{Streams, with_stream, all_closed, Brings, TakesPiece, Reads, Event, Arrives, overflow, events_of}
+use Rattle.nfs_serve.specs.Run.{Streams, with_stream, all_closed, Brings, TakesPiece, TakesAll, Event, Arrives, overflow, events_of}
 use Rattle.nfs_serve.specs.Laws.{stream_on, call_on, overflow_on, IsClosedBehind, NoneCloses, ConnectionsAreStreams}
 use Rattle.nfs_serve.proofs.Pieces.{start_holds}
 use Rattle.nfs_serve.proofs.Cutting.{still_long}
@@ -19,10 +19,10 @@ record ReadsParts (old : Streams) (xs ys : List Entry) (brought : List Event) (n
   later : List Event
   between : Streams
   order : brought ≡ first ++ later
-  front : Reads old xs first between
-  back : Reads between ys later new
+  front : TakesAll old xs first between
+  back : TakesAll between ys later new
 
-parts : (old : Streams) (xs ys : List Entry) (brought : List Event) (new : Streams) → Reads old (xs ++ ys) brought new → ReadsParts old xs ys brought new
+parts : (old : Streams) (xs ys : List Entry) (brought : List Event) (new : Streams) → TakesAll old (xs ++ ys) brought new → ReadsParts old xs ys brought new
 parts old [] ys brought new h = record { first = []; later = brought; between = old; order = refl; front = (refl, refl); back = h }
 parts old (e ∷ xs) ys brought new (here, more, middle, is, takes, rest) =
     let p = parts middle xs ys more new rest in record {
@@ -115,7 +115,7 @@ takes_own old moment conn (b ∷ bytes) brought new some (end, brings, is) =
     subst (λ e. Brings conn moment (old conn) (b ∷ bytes) brought e) (sym here) brings
 
 untouched : (conn : ℕ) (entries : List Entry) (old : Streams) (brought : List Event) (new : Streams)
-    → All (λ e. e.conn ≢ conn) entries → Reads old entries brought new → new conn ≡ old conn
+    → All (λ e. e.conn ≢ conn) entries → TakesAll old entries brought new → new conn ≡ old conn
 untouched conn [] old brought new all h = ap (λ s. s conn) h.1
 untouched conn (e ∷ entries) old brought new all (first, later, between, is, takes, rest) =
     untouched conn entries between later new (All-tail (λ d. d.conn ≢ conn) e entries all) rest
@@ -130,10 +130,10 @@ closes old moment conn (b ∷ bytes) brought new none h = absurd (cons_nil none)
     cons_nil e = cc
 
 closed : (conn : ℕ) (front : List Entry) (brought : List Event) (new : Streams)
-    → IsClosedBehind conn front → Reads all_closed front brought new → new conn ≡ Open []
+    → IsClosedBehind conn front → TakesAll all_closed front brought new → new conn ≡ Open []
 closed conn front brought new (inl all) reads = untouched conn front all_closed brought new all reads
 closed conn front brought new (inr (before, close, others, is, of, none, all)) reads =
-    let p = parts all_closed before (close ∷ others) brought new (subst (λ es. Reads all_closed es brought new) is reads) in
+    let p = parts all_closed before (close ∷ others) brought new (subst (λ es. TakesAll all_closed es brought new) is reads) in
     let (first, later, between, order, takes, rest) = p.back in
     untouched conn others between later new all rest
     ∙ closes p.between close.moment conn close.piece first between none (subst (λ c. TakesPiece p.between close.moment c close.piece first between) of takes)
@@ -143,7 +143,7 @@ abbrev IgnoredFrom : ℕ → Streams → List Event → Streams → Type 0
 IgnoredFrom conn old brought new = old conn ≡ TooLong → (new conn ≡ TooLong) × Sees conn brought [] []
 
 ignored : (conn : ℕ) (entries : List Entry) (old : Streams) (brought : List Event) (new : Streams) → NoneCloses conn entries
-    → old conn ≡ TooLong → Reads old entries brought new → (new conn ≡ TooLong) × Sees conn brought [] []
+    → old conn ≡ TooLong → TakesAll old entries brought new → (new conn ≡ TooLong) × Sees conn brought [] []
 ignored conn [] old brought new none long h = (ap (λ s. s conn) h.1 ∙ long, subst (λ b. Sees conn b [] []) (sym h.0) (refl, refl))
 ignored conn (e ∷ entries) old brought new none long (first, later, between, is, takes, rest) =
     by_conn (λ still. ignored conn entries between later new (All-tail (λ d. d.conn ≡ conn → d.piece ≢ []) e entries none) still rest) (nat_eq e.conn conn) refl
@@ -181,7 +181,7 @@ GoesOnAsOne conn entries old brought new = (mid : List ℕ) → old conn ≡ Ope
     → IsUnfinished mid → AsOne conn (mid ++ stream_on conn entries) brought (new conn)
 
 stretch : (conn : ℕ) (entries : List Entry) (old : Streams) (brought : List Event) (new : Streams) (rest : List ℕ)
-    → NoneCloses conn entries → old conn ≡ Open rest → IsUnfinished rest → Reads old entries brought new
+    → NoneCloses conn entries → old conn ≡ Open rest → IsUnfinished rest → TakesAll old entries brought new
     → AsOne conn (rest ++ stream_on conn entries) brought (new conn)
 stretch conn [] old brought new rest none begun unfinished h =
     let end : new conn ≡ Open rest = ap (λ s. s conn) h.1 ∙ begun in

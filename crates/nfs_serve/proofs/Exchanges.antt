@@ -5,7 +5,7 @@ use Rattle.nfs_xdr.specs.Spelling.{number, hyper}
 use Rattle.nfs_xdr.specs.Reading.{opaque_at, fixed_at, flag_at, pieces_at}
 use Rattle.nfs_rpc.specs.RecordMarking.{IsRecord, start}
 use Rattle.nfs_rpc.specs.Stream.{Open, IsReading}
-use Rattle.nfs_rpc.specs.CallHead.{call_of, header, opaque_auth, judged, caller_of, auth_sys}
+use Rattle.nfs_rpc.specs.CallHead.{call_of, header, opaque_auth, behind_header, caller_of, auth_sys}
 use Rattle.nfs_rpc.specs.Reply.{spell_head}
 use Rattle.nfs_rpc.proofs.Readings.{part_unfinished}
 use Rattle.nfs_compound.specs.ReadRequest.{request_at, items_at, item_at}
@@ -15,7 +15,7 @@ use Rattle.nfs_results.specs.Items as results
 use Rattle.nfs_serve.specs.declared.form.Form.TheVariants.{Tagged}
 use Rattle.nfs_serve.specs.Script.{Entry, head, Fits, IsWhole}
 use Rattle.nfs_serve.specs.Step.{new_state, step}
-use Rattle.nfs_serve.specs.Run.{Streams, all_closed, with_stream, Reads, Event, Arrives, Move, events, output}
+use Rattle.nfs_serve.specs.Run.{Streams, all_closed, with_stream, TakesAll, Event, Arrives, Move, events, output}
 use Rattle.nfs_serve.specs.Exchanges.{RunsTo, words, null_call, null_script, null_output, exchange_call, exchange_script, exchange_output}
 use Rattle.nfs_serve.proofs.Pieces.{start_holds}
 
@@ -34,7 +34,7 @@ null_move : Move
 null_move = record { event = Arrives 0 100 null_call; choice = None }
 
 null_output_is : null_output ≡ output Tagged (new_state 511 7 90) (null_move ∷ [])
-unfolding null_move number step call_of header opaque_auth opaque_at fixed_at judged spell_head
+unfolding null_move number step call_of header opaque_auth opaque_at fixed_at behind_header spell_head
 null_output_is = refl
 
 null_entry : Entry
@@ -44,7 +44,7 @@ null_whole : IsWhole null_script (null_entry ∷ [])
 unfolding null_entry null_piece head number hyper
 null_whole = record { spelled = refl; fits = All-push Fits [] null_entry (All-nil Fits) (omega arith, omega arith, omega arith); few = omega arith }
 
-null_reads : Reads all_closed (null_entry ∷ []) (events (null_move ∷ [])) (with_stream all_closed 0 (Open []))
+null_reads : TakesAll all_closed (null_entry ∷ []) (events (null_move ∷ [])) (with_stream all_closed 0 (Open []))
 unfolding null_entry null_move null_piece number
 null_reads = (
   Arrives 0 100 null_call ∷ [],
@@ -78,7 +78,7 @@ exchange_move : Move
 exchange_move = record { event = Arrives 0 100 exchange_call; choice = None }
 
 exchange_output_is : exchange_output ≡ output Tagged (new_state 511 7 90) (exchange_move ∷ exchange_move ∷ [])
-unfolding exchange_move number hyper step call_of header opaque_auth opaque_at fixed_at judged caller_of auth_sys spell_head
+unfolding exchange_move number hyper step call_of header opaque_auth opaque_at fixed_at behind_header caller_of auth_sys spell_head
     request_at items_at item_at op_at fault_at exchange_id_args protected impl_id pieces_at flag_at results.exchange_id
 exchange_output_is = refl
 
@@ -97,7 +97,7 @@ exchange_whole = record {
 once : Streams
 once = with_stream all_closed 0 (Open [])
 
-exchange_reads : Reads all_closed (exchange_one ∷ exchange_one ∷ []) (events (exchange_move ∷ exchange_move ∷ [])) (with_stream once 0 (Open []))
+exchange_reads : TakesAll all_closed (exchange_one ∷ exchange_one ∷ []) (events (exchange_move ∷ exchange_move ∷ [])) (with_stream once 0 (Open []))
 unfolding exchange_one exchange_move exchange_piece once number
 exchange_reads =
     let e : Event = Arrives 0 100 exchange_call in (

@@ -1,14 +1,14 @@
 -- A run over ends in memory: what it read is the whole script, or a front up to a reply that was not written whole.
 use Rattle.std.proofs.Common.{◌≡◌, ℕ, suc, Bool, true, false, List, [], ◌++◌, length, flat_map, Some, Result, Ok, Err, refl, sym, ap, subst, ◌∙◌, arith}
 use Rattle.std.proofs.Common.{append_assoc, append-nil, length-append}
-use Rattle.nfs_rpc.specs.RecordMarking.{Held}
+use Rattle.nfs_rpc.specs.RecordMarking.{Gathered}
 use Rattle.nfs_serve.specs.declared.fault.Stop.{Stop}
 use Rattle.nfs_serve.specs.declared.fault.Stop.TheVariants.{Cut, Connection, Long, Late, Many, ReadFailed, WriteFailed}
 use Rattle.nfs_serve.specs.declared.fault.ReplayFault.{ReplayFault}
 use Rattle.nfs_serve.specs.Script.{Entry, spell_entry, BeginsRefused, IsStopped, IsWhole, IsRead}
-use Rattle.nfs_serve.specs.Ends.{IsTold, EndsAt}
+use Rattle.nfs_serve.specs.Ends.{IsReported, EndsAt}
 use Rattle.nfs_serve.specs.Step.{State}
-use Rattle.nfs_serve.specs.Replay.{Runs, RunsScript, RunsFront, ReplaysFault, Replays, Tells}
+use Rattle.nfs_serve.specs.Replay.{Runs, RunsScript, RunsFront, ReplaysFault, Replays, Reports}
 
 false≢true : false ≡ true → ⊥
 false≢true e = cc
@@ -24,9 +24,9 @@ still_refused stop rest more h =
 longer : (front read left rest : List ℕ) → read ≡ front ++ rest → read ++ left ≡ front ++ (rest ++ left)
 longer front read left rest is = ap (λ b. b ++ left) is ∙ append_assoc front rest left
 
-module _ (old new : State) (held : List Held) (read written : List ℕ) where
+module _ (old new : State) (held : List Gathered) (read written : List ℕ) where
   -- a fault of the script's own
-  faults : (left : List ℕ) (stop : Stop) (entry : ℕ) (ended failed : Bool) → IsTold stop ended false failed
+  faults : (left : List ℕ) (stop : Stop) (entry : ℕ) (ended failed : Bool) → IsReported stop ended false failed
       → EndsAt stop (Some left) → failed ≡ false → ReplaysFault stop entry old new held read written
       → (entries : List Entry) × (rest : List ℕ) × IsRead (Some stop) (read ++ left) entries rest
       × (entry ≡ suc (length entries)) × Runs old new held entries written
@@ -79,7 +79,7 @@ module _ (old new : State) (held : List Held) (read written : List ℕ) where
   faults left ReadFailed entry ended failed told none well h = absurd (false≢true told.0)
   faults left WriteFailed entry ended failed told none well h = absurd (false≢true (sym well ∙ told.1))
 
-  breaks : (stop : Stop) (entry : ℕ) (ended : Bool) → IsTold stop ended false true
+  breaks : (stop : Stop) (entry : ℕ) (ended : Bool) → IsReported stop ended false true
       → ReplaysFault stop entry old new held read written → ReplaysFault WriteFailed entry old new held read written
   breaks WriteFailed entry ended told h = h
   breaks Cut entry ended told h = absurd (true≢false told.2)
@@ -89,10 +89,10 @@ module _ (old new : State) (held : List Held) (read written : List ℕ) where
   breaks Many entry ended told h = absurd (true≢false told.1)
   breaks ReadFailed entry ended told h = absurd (true≢false told.1)
 
-pub ran_whole : (answer : Result (Unit {0}) ReplayFault) (old new : State) (held : List Held) (script left was bytes : List ℕ) (ended failed : Bool)
+pub ran_whole : (answer : Result (Unit {0}) ReplayFault) (old new : State) (held : List Gathered) (script left was bytes : List ℕ) (ended failed : Bool)
     → was ≡ [] → failed ≡ false
     → Replays answer old new held (Some script) (Some left) (Some was) (Some bytes)
-    → Tells answer ended false failed (Some left) → RunsScript answer old new held script bytes
+    → Reports answer ended false failed (Some left) → RunsScript answer old new held script bytes
 ran_whole (Ok u) old new held script left was bytes ended failed none well (read, written, consumed, appended, (entries, is, runs)) told =
     let same : read ≡ script = sym (consumed ∙ ap (λ l. read ++ l) told.3 ∙ append-nil read) in record {
       entries = entries;
@@ -110,10 +110,10 @@ ran_whole (Err f) old new held script left was bytes ended failed none well (rea
       runs = subst (λ b. Runs old new held entries b) (sym (appended ∙ ap (λ l. l ++ written) none)) runs;
     }
 
-pub ran_front : (answer : Result (Unit {0}) ReplayFault) (old new : State) (held : List Held) (script left was bytes : List ℕ) (ended failed : Bool)
+pub ran_front : (answer : Result (Unit {0}) ReplayFault) (old new : State) (held : List Gathered) (script left was bytes : List ℕ) (ended failed : Bool)
     → was ≡ [] → failed ≡ true
     → Replays answer old new held (Some script) (Some left) (Some was) (Some bytes)
-    → Tells answer ended false failed (Some left) → RunsFront old new held script
+    → Reports answer ended false failed (Some left) → RunsFront old new held script
 ran_front (Ok u) old new held script left was bytes ended failed none bad h told = absurd (true≢false (sym bad ∙ told.2))
 ran_front (Err f) old new held script left was bytes ended failed none bad (read, written, consumed, appended, h) told = record {
   entry = f.entry;
@@ -121,5 +121,5 @@ ran_front (Err f) old new held script left was bytes ended failed none bad (read
   left = left;
   written = written;
   split = consumed;
-  ran = breaks old new held read written f.number f.entry ended (subst (IsTold f.number ended false) bad told.0) h;
+  ran = breaks old new held read written f.number f.entry ended (subst (IsReported f.number ended false) bad told.0) h;
 }

@@ -1,12 +1,12 @@
 -- Moves one after the other, and the events of entries one after the other.
 use Rattle.std.proofs.Common.{◌≡◌, ℕ, Bool, true, false, List, [], ◌∷◌, ◌++◌, refl, sym, ap, ◌∙◌, append_assoc, append-nil, nat_eq, if◌then◌else◌}
 use Rattle.std.proofs.lemmas.List.{map-append}
-use Rattle.nfs_rpc.specs.RecordMarking.{Held}
+use Rattle.nfs_rpc.specs.RecordMarking.{Gathered}
 use Rattle.nfs_rpc.specs.Stream.{End}
 use Rattle.nfs_serve.specs.declared.form.Form.{Form}
 use Rattle.nfs_serve.specs.Script.{Entry}
 use Rattle.nfs_serve.specs.Step.{State}
-use Rattle.nfs_serve.specs.Run.{Streams, with_stream, Event, Takes, Reads, Move, events, after, after_event, output, output_of}
+use Rattle.nfs_serve.specs.Run.{Streams, with_stream, Event, Takes, TakesAll, Move, events, after, after_event, output, output_of}
 use Rattle.nfs_serve.specs.Server.{held_on, IsWith, Stands}
 use Rattle.nfs_serve.specs.Replay.{AllStand}
 
@@ -30,16 +30,16 @@ pub events-append : (xs ys : List Move) → events (xs ++ ys) ≡ events xs ++ e
 events-append xs ys = map-append (λ m. m.event) xs ys
 
 -- one more entry
-pub Reads-more : (old : Streams) (es : List Entry) (first : List Event) (between : Streams) (e : Entry) (later : List Event) (new : Streams)
-    → Reads old es first between → Takes between e later new → Reads old (es ++ e ∷ []) (first ++ later) new
-Reads-more old [] first between e later new h t =
+pub TakesAll-more : (old : Streams) (es : List Entry) (first : List Event) (between : Streams) (e : Entry) (later : List Event) (new : Streams)
+    → TakesAll old es first between → Takes between e later new → TakesAll old (es ++ e ∷ []) (first ++ later) new
+TakesAll-more old [] first between e later new h t =
     (later, [], new, rw h.0 (sym (append-nil later)), rw h.1 at t, (refl, refl))
-Reads-more old (d ∷ es) first between e later new h t =
+TakesAll-more old (d ∷ es) first between e later new h t =
     let (here, more, middle, is, takes, rest) = h in
-    (here, more ++ later, middle, ap (λ l. l ++ later) is ∙ append_assoc here more later, takes, Reads-more middle es more between e later new rest t)
+    (here, more ++ later, middle, ap (λ l. l ++ later) is ∙ append_assoc here more later, takes, TakesAll-more middle es more between e later new rest t)
 
 -- a connection whose stream is replaced
-pub with_stands : (streams : Streams) (old new : List Held) (conn : ℕ) (end : End) (held : Held)
+pub with_stands : (streams : Streams) (old new : List Gathered) (conn : ℕ) (end : End) (held : Gathered)
     → AllStand streams old → IsWith new old conn held → Stands end held → AllStand (with_stream streams conn end) new
 with_stands streams old new conn end held all others stands = λ c. rw (others c) (cases c (nat_eq c conn))
   where

@@ -5,7 +5,7 @@ use Rattle.std.proofs.lemmas.List.{map-append}
 use Rattle.std.specs.Io.KnownBytes.{Appends}
 use Rattle.std.proofs.KnownBytes.{Appends-nil, Appends-trans}
 use Rattle.nfs_xdr.specs.Codec.{IsBytes}
-use Rattle.nfs_rpc.specs.RecordMarking.{Held, Begun, Complete, Failed, IsRecord, Holds, start}
+use Rattle.nfs_rpc.specs.RecordMarking.{Gathered, Begun, Complete, Failed, IsRecord, Holds, start}
 use Rattle.nfs_rpc.specs.Stream.{End, Open, TooLong, AreRecords, IsReading, IsUnfinished}
 use Rattle.nfs_rpc.specs.Feeding.{waits, is_too_long}
 use Rattle.nfs_rpc.proofs.Fragments.{IsBytes-append, bytes_behind_front}
@@ -35,7 +35,7 @@ AreRecords-more stream (c ∷ calls) front behind call h is =
     (first, left, split, record_is, AreRecords-more left calls front behind call rest is)
 
 -- What is taken of a piece behind these bytes: these calls, and bytes for which stands what is held now.
-pub record Taken (before taken : List ℕ) (calls : List (List ℕ)) (held : Held) : Type 0 where
+pub record Taken (before taken : List ℕ) (calls : List (List ℕ)) (held : Gathered) : Type 0 where
   pub behind : List ℕ
   pub records : AreRecords (before ++ taken) calls behind
   pub bytes : IsBytes behind
@@ -48,7 +48,7 @@ pub no_bytes : IsBytes []
 no_bytes = record { each = λ i. omega arith }
 
 -- a stream that is not too long
-pub stands_open : (before : End) (was : Held) → is_too_long was ≡ false
+pub stands_open : (before : End) (was : Gathered) → is_too_long was ≡ false
     → Stands before was → (rest : List ℕ) × (before ≡ Open rest) × IsBytes rest × Holds rest was
 stands_open (Open rest) (Begun p) going h = (rest, refl, h.0, h.1)
 stands_open (Open rest) (Complete call) going h = absurd h
@@ -57,19 +57,19 @@ stands_open TooLong (Begun p) going h = absurd h
 stands_open TooLong (Complete call) going h = absurd h
 stands_open TooLong Failed going h = absurd cc
 
-holds_stands : (rest : List ℕ) (is : Held) → waits is ≡ false → is_too_long is ≡ false
+holds_stands : (rest : List ℕ) (is : Gathered) → waits is ≡ false → is_too_long is ≡ false
     → IsBytes rest → Holds rest is → Stands (Open rest) is × IsUnfinished rest
 holds_stands rest (Begun p) none going bytes h = ((bytes, h), part_unfinished rest p h)
 holds_stands rest (Complete call) none going bytes h = absurd cc
 holds_stands rest Failed none going bytes h = absurd cc
 
-flow_open : (is : Held) → waits is ≡ false → is_too_long is ≡ false → Flow.Open ≡ flow_of is
+flow_open : (is : Gathered) → waits is ≡ false → is_too_long is ≡ false → Flow.Open ≡ flow_of is
 flow_open (Begun p) none going = refl
 flow_open (Complete call) none going = absurd cc
 flow_open Failed none going = absurd cc
 
 -- A piece that was taken as far as the rest: each record in it ran, and its reply was written.
-pub record Taking (old now : State) (was is : Held) (conn moment : ℕ) (form : Form) (piece rest : List ℕ) (h0 h1 : Option (List ℕ)) : Type 0 where
+pub record Taking (old now : State) (was is : Gathered) (conn moment : ℕ) (form : Form) (piece rest : List ℕ) (h0 h1 : Option (List ℕ)) : Type 0 where
   pub moves : List Move
   pub calls : List (List ℕ)
   pub taken : List ℕ
@@ -79,7 +79,7 @@ pub record Taking (old now : State) (was is : Held) (conn moment : ℕ) (form : 
   pub order : events moves ≡ map (λ call. Arrives conn moment call) calls
   pub stream : (before : List ℕ) → IsBytes before → Holds before was → Taken before taken calls is
 
-pub taking_start : (s : State) (was : Held) (conn moment : ℕ) (form : Form) (piece : List ℕ) (h : Option (List ℕ))
+pub taking_start : (s : State) (was : Gathered) (conn moment : ℕ) (form : Form) (piece : List ℕ) (h : Option (List ℕ))
     → Taking s s was was conn moment form piece piece h h
 taking_start s was conn moment form piece h = record {
   moves = [];
@@ -93,10 +93,10 @@ taking_start s was conn moment form piece h = record {
 }
 
 -- what feeding the rest said of the bytes that it took
-abbrev pub TakesUp : Held → List ℕ → Held → Type 0
+abbrev pub TakesUp : Gathered → List ℕ → Gathered → Type 0
 TakesUp is front new = (r : List ℕ) → IsBytes r → Holds r is → Holds (r ++ front) new
 
-module _ {old now : State} {was is : Held} {conn moment : ℕ} {form : Form} {piece rest : List ℕ} {h0 h1 : Option (List ℕ)}
+module _ {old now : State} {was is : Gathered} {conn moment : ℕ} {form : Form} {piece rest : List ℕ} {h0 h1 : Option (List ℕ)}
     (t : Taking old now was is conn moment form piece rest h0 h1) where
   -- the records behind a front of the rest that ends one
   taken_record : (front behind call before : List ℕ) → rest ≡ front ++ behind → TakesUp is front (Complete call) → IsBytes before → Holds before was
@@ -140,7 +140,7 @@ module _ {old now : State} {was is : Held} {conn moment : ℕ} {form : Form} {pi
       }
 
   -- nothing of the rest ends a record
-  pub taking_ends : (new : Held) → is_too_long was ≡ false → waits new ≡ false → is_too_long new ≡ false
+  pub taking_ends : (new : Gathered) → is_too_long was ≡ false → waits new ≡ false → is_too_long new ≡ false
       → IsBytes piece → TakesUp is rest new → Feeds old now was new conn moment piece form h0 h1
   taking_ends new began none going piece_bytes up =
       let bytes : IsBytes rest = bytes_behind_front t.taken rest (subst IsBytes t.split piece_bytes) in record {
@@ -183,7 +183,7 @@ module _ {old now : State} {was is : Held} {conn moment : ℕ} {form : Form} {pi
         );
       }
 
-  -- the rest makes the stream too long, which was told
+  -- the rest makes the stream too long, which was reported
   pub taking_long : (h2 : Option (List ℕ)) → is_too_long was ≡ false → ((r : List ℕ) → IsBytes r → Holds r is → (used : ℕ) × Holds (r ++ take used rest) Failed)
       → Appends h1 h2 (spell_overflow form conn) → Feeds old now was Failed conn moment piece form h0 h2
   taking_long h2 began up wrote =

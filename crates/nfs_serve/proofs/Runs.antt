@@ -8,23 +8,23 @@ use Rattle.std.proofs.lemmas.List.Elements.{All-nil, All-push}
 use Rattle.std.proofs.lemmas.List.Concat.{flat_map-append}
 use Rattle.std.proofs.lemmas.Bool.{eqb-true, eqb-false}
 use Rattle.std.proofs.Math.ListN.{set}
-use Rattle.nfs_rpc.specs.RecordMarking.{Held}
+use Rattle.nfs_rpc.specs.RecordMarking.{Gathered}
 use Rattle.nfs_rpc.specs.Stream.{End, Open}
 use Rattle.nfs_serve.specs.declared.fault.Stop.{Stop}
 use Rattle.nfs_serve.specs.declared.fault.Stop.TheVariants.{Cut, Connection, Long, Late, Many, ReadFailed, WriteFailed}
 use Rattle.nfs_serve.specs.declared.fault.ReplayFault.{ReplayFault}
 use Rattle.nfs_serve.specs.declared.form.Form.TheVariants.{Tagged}
 use Rattle.nfs_serve.specs.Script.{Entry, spell_entry, Fits, max_entries, StopsAt, IsStopped}
-use Rattle.nfs_serve.specs.Ends.{IsTold}
+use Rattle.nfs_serve.specs.Ends.{IsReported}
 use Rattle.nfs_serve.specs.Step.{State}
 use Rattle.nfs_serve.specs.Run.{Streams, with_stream, all_closed, Brings, TakesPiece, Event, events, after, after_event, output, output_of}
 use Rattle.nfs_serve.specs.Server.{fresh, held_on, IsWith, Feeds, Breaks}
-use Rattle.nfs_serve.specs.Replay.{AllStand, Runs, ReplaysFault, Replays, Tells}
+use Rattle.nfs_serve.specs.Replay.{AllStand, Runs, ReplaysFault, Replays, Reports}
 use Rattle.nfs_serve.specs.Running.{RunsEntry, EndsBehind}
-use Rattle.nfs_serve.proofs.Moves.{after-append, output-append, events-append, Reads-more, with_stands}
+use Rattle.nfs_serve.proofs.Moves.{after-append, output-append, events-append, TakesAll-more, with_stands}
 use Rattle.nfs_serve.proofs.Pieces.{start_holds, no_bytes}
 
-pub set_is_with : (held : List Held) (conn : ℕ) (now : Held) → conn < length held → IsWith (set held conn now) held conn now
+pub set_is_with : (held : List Gathered) (conn : ℕ) (now : Gathered) → conn < length held → IsWith (set held conn now) held conn now
 set_is_with held conn now within = λ c. cases c (nat_eq c conn) refl
   where
     cases : (c : ℕ) (b : Bool) → nat_eq c conn ≡ b → held_on (set held conn now) c ≡ (if b then now else held_on held c)
@@ -38,7 +38,7 @@ pub takes_piece : (streams : Streams) (moment conn : ℕ) (piece : List ℕ) (br
 takes_piece streams moment conn [] brought end some brings = absurd (some refl)
 takes_piece streams moment conn (b ∷ bytes) brought end some brings = (end, brings, refl)
 
-pub entry_fed : {old new : State} {h0 h1 : Option (List ℕ)} (was : List Held) (now : Held) (e : Entry) → e.conn < length was → e.piece ≢ []
+pub entry_fed : {old new : State} {h0 h1 : Option (List ℕ)} (was : List Gathered) (now : Gathered) (e : Entry) → e.conn < length was → e.piece ≢ []
     → Feeds old new (held_on was e.conn) now e.conn e.moment e.piece Tagged h0 h1 → RunsEntry old new was (set was e.conn now) e h0 h1
 entry_fed was now e within some f = record {
   moves = f.moves;
@@ -52,7 +52,7 @@ entry_fed was now e within some f = record {
       );
 }
 
-pub entry_closed : (s : State) (h : Option (List ℕ)) (was : List Held) (e : Entry)
+pub entry_closed : (s : State) (h : Option (List ℕ)) (was : List Gathered) (e : Entry)
     → e.conn < length was → e.piece ≡ [] → RunsEntry s s was (set was e.conn fresh) e h h
 entry_closed s h was e within none = record {
   moves = [];
@@ -66,7 +66,7 @@ entry_closed s h was e within none = record {
 }
 
 -- A run that has gone on for n entries.
-pub record Going (old now : State) (held : List Held) (n : ℕ) (l0 l1 h0 h1 : Option (List ℕ)) : Type 0 where
+pub record Going (old now : State) (held : List Gathered) (n : ℕ) (l0 l1 h0 h1 : Option (List ℕ)) : Type 0 where
   pub entries : List Entry
   pub count : length entries ≡ n
   pub fits : All Fits entries
@@ -78,7 +78,7 @@ pub record Going (old now : State) (held : List Held) (n : ℕ) (l0 l1 h0 h1 : O
 flat_map-last : (es : List Entry) (e : Entry) → flat_map spell_entry (es ++ e ∷ []) ≡ flat_map spell_entry es ++ spell_entry e
 flat_map-last es e = flat_map-append spell_entry es (e ∷ []) ∙ ap (λ l. flat_map spell_entry es ++ l) (append-nil (spell_entry e))
 
-pub going_start : (s : State) (held : List Held) (l h : Option (List ℕ)) → AllStand all_closed held → Going s s held 0 l l h h
+pub going_start : (s : State) (held : List Gathered) (l h : Option (List ℕ)) → AllStand all_closed held → Going s s held 0 l l h h
 going_start s held l h all = record {
   entries = [];
   count = refl;
@@ -89,11 +89,11 @@ going_start s held l h all = record {
   runs = record { moves = []; streams = all_closed; reads = (refl, refl); state = refl; wrote = refl; stands = all };
 }
 
-module _ {old now : State} {held : List Held} {n : ℕ} {l0 l1 h0 h1 : Option (List ℕ)} (g : Going old now held n l0 l1 h0 h1) where
+module _ {old now : State} {held : List Gathered} {n : ℕ} {l0 l1 h0 h1 : Option (List ℕ)} (g : Going old now held n l0 l1 h0 h1) where
   count_more : (e : Entry) → length (g.entries ++ e ∷ []) ≡ n + 1
   count_more e = length-append g.entries (e ∷ []) ∙ ap (λ k. k + 1) g.count
 
-  pub going_more : (l2 h2 : Option (List ℕ)) (new : State) (held_new : List Held) (e : Entry) → Consumes l1 l2 (spell_entry e)
+  pub going_more : (l2 h2 : Option (List ℕ)) (new : State) (held_new : List Gathered) (e : Entry) → Consumes l1 l2 (spell_entry e)
       → Fits e → RunsEntry now new held held_new e h1 h2 → Going old new held_new (n + 1) l0 l2 h0 h2
   going_more l2 h2 new held_new e read fits ran =
       let (end, takes, all) = ran.takes g.runs.streams g.runs.stands in record {
@@ -107,7 +107,7 @@ module _ {old now : State} {held : List Held} {n : ℕ} {l0 l1 h0 h1 : Option (L
           moves = g.runs.moves ++ ran.moves;
           streams = end;
           reads = rw (events-append g.runs.moves ran.moves)
-              (Reads-more all_closed g.entries (events g.runs.moves) g.runs.streams e (events ran.moves) end g.runs.reads takes);
+              (TakesAll-more all_closed g.entries (events g.runs.moves) g.runs.streams e (events ran.moves) end g.runs.reads takes);
           state = ran.state ∙ ap (λ s. after s ran.moves) g.runs.state ∙ sym (after-append old g.runs.moves ran.moves);
           wrote = ap (λ l. l ++ output Tagged now ran.moves) g.runs.wrote
               ∙ ap (λ s. output Tagged old g.runs.moves ++ output Tagged s ran.moves) g.runs.state ∙ sym (output-append Tagged old g.runs.moves ran.moves);
@@ -128,7 +128,7 @@ module _ {old now : State} {held : List Held} {n : ℕ} {l0 l1 h0 h1 : Option (L
   -- the run stops in the place of an entry
   pub going_stops : (stop : Stop) (f : ReplayFault) (l2 : Option (List ℕ)) (rest : List ℕ) (ended failed : Bool)
       → f.number ≡ stop → f.entry ≡ suc n → Consumes l1 l2 rest → StopsAt stop n rest
-      → IsTold stop ended failed false → Replays {U = Unit {0}} (Err f) old now held l0 l2 h0 h1
+      → IsReported stop ended failed false → Replays {U = Unit {0}} (Err f) old now held l0 l2 h0 h1
   going_stops stop f l2 rest ended failed is entry read stands told = (
     flat_map spell_entry g.entries ++ rest,
     g.written,
@@ -143,7 +143,7 @@ module _ {old now : State} {held : List Held} {n : ℕ} {l0 l1 h0 h1 : Option (L
     )),
   )
     where
-      cases : (stop : Stop) → IsTold stop ended failed false
+      cases : (stop : Stop) → IsReported stop ended failed false
           → (entries : List Entry) × (left : List ℕ) × IsStopped (flat_map spell_entry g.entries ++ rest) stop entries left
           × (f.entry ≡ suc (length entries)) × Runs old now held entries g.written
           → ReplaysFault stop f.entry old now held (flat_map spell_entry g.entries ++ rest) g.written
@@ -159,7 +159,7 @@ module _ {old now : State} {held : List Held} {n : ℕ} {l0 l1 h0 h1 : Option (L
           false≢true e = cc
 
   -- the writer failed in a reply of an entry
-  pub going_breaks : (f : ReplayFault) (l2 h2 : Option (List ℕ)) (new : State) (held_new : List Held) (e : Entry)
+  pub going_breaks : (f : ReplayFault) (l2 h2 : Option (List ℕ)) (new : State) (held_new : List Gathered) (e : Entry)
       → f.number ≡ WriteFailed → f.entry ≡ suc n → n < max_entries → Consumes l1 l2 (spell_entry e) → Fits e
       → Breaks now new (held_on held e.conn) e.conn e.moment e.piece Tagged h1 h2
       → IsWith held_new held e.conn fresh → Replays {U = Unit {0}} (Err f) old new held_new l0 l2 h0 h2
@@ -209,7 +209,7 @@ module _ {old now : State} {held : List Held} {n : ℕ} {l0 l1 h0 h1 : Option (L
 
   -- behind the last entry that may be
   pub going_behind : (result : Result (Unit {0}) ReplayFault) (l2 : Option (List ℕ)) (rest : List ℕ) (ended failed : Bool)
-      → n ≡ max_entries → Consumes l1 l2 rest → EndsBehind result rest → Tells result ended failed false l2
+      → n ≡ max_entries → Consumes l1 l2 rest → EndsBehind result rest → Reports result ended failed false l2
       → Replays result old now held l0 l2 h0 h1
   going_behind (Ok u) l2 rest ended failed all read none told = going_ends u l2 (omega (arith, all)) (subst (Consumes _ _) none read)
   going_behind (Err f) l2 rest ended failed all read ends told =

@@ -6,7 +6,7 @@ use Rattle.std.proofs.KnownBytes.{Consumes-nil, Consumes-trans, Appends-nil, App
 use Rattle.std.proofs.lemmas.List.{map-append}
 use Rattle.std.proofs.lemmas.List.Elements.{All-nil, All-push}
 use Rattle.std.proofs.lemmas.List.Concat.{flat_map-append}
-use Rattle.nfs_rpc.specs.RecordMarking.{Held, Begun, Complete, Failed}
+use Rattle.nfs_rpc.specs.RecordMarking.{Gathered, Begun, Complete, Failed}
 use Rattle.nfs_rpc.specs.Stream.{End, Open, TooLong}
 use Rattle.nfs_rpc.specs.Feeding.{is_too_long}
 use Rattle.nfs_serve.specs.declared.form.Form.TheVariants.{Plain}
@@ -14,15 +14,15 @@ use Rattle.nfs_serve.specs.declared.form.Flow.TheVariants as Flow
 use Rattle.nfs_serve.specs.declared.talk.Talk.TheVariants.{Ended, Shut, ReadFailed, WriteFailed, TooMany}
 use Rattle.nfs_serve.specs.Script.{Entry}
 use Rattle.nfs_serve.specs.Step.{State}
-use Rattle.nfs_serve.specs.Run.{Streams, with_stream, all_closed, Brings, events, after, after_event, output, output_of, Move, Reads}
+use Rattle.nfs_serve.specs.Run.{Streams, with_stream, all_closed, Brings, events, after, after_event, output, output_of, Move, TakesAll}
 use Rattle.nfs_serve.specs.Server.{fresh, Stands, Feeds, Breaks, flow_of}
 use Rattle.nfs_serve.specs.Talk.{max_reads, IsPiece, Speaks, Talks}
-use Rattle.nfs_serve.proofs.Moves.{after-append, output-append, events-append, Reads-more}
+use Rattle.nfs_serve.proofs.Moves.{after-append, output-append, events-append, TakesAll-more}
 use Rattle.nfs_serve.proofs.Pieces.{start_holds, no_bytes, stands_open}
 use Rattle.nfs_serve.proofs.Runs.{takes_piece}
 
 -- A talk that has gone on for n pieces.
-pub record Speaking (old now : State) (is : Held) (n : ℕ) (l0 l1 h0 h1 c0 c1 : Option (List ℕ)) : Type 0 where
+pub record Speaking (old now : State) (is : Gathered) (n : ℕ) (l0 l1 h0 h1 c0 c1 : Option (List ℕ)) : Type 0 where
   pub pieces : List Entry
   pub count : length pieces ≡ n
   pub each : All IsPiece pieces
@@ -32,7 +32,7 @@ pub record Speaking (old now : State) (is : Held) (n : ℕ) (l0 l1 h0 h1 c0 c1 :
   pub appended : Appends h0 h1 written
   pub moves : List Move
   pub streams : Streams
-  pub reads : Reads all_closed pieces (events moves) streams
+  pub reads : TakesAll all_closed pieces (events moves) streams
   pub state : now ≡ after old moves
   pub wrote : written ≡ output Plain old moves
   pub stands : Stands (streams 0) is
@@ -54,13 +54,13 @@ speaking_start s l h c = record {
   stands = (no_bytes, start_holds);
 }
 
--- whether the stream is too long, as the flow tells it
-pub open_is : (is : Held) → Flow.Open ≡ flow_of is → is_too_long is ≡ false
+-- whether the stream is too long, as the flow has it
+pub open_is : (is : Gathered) → Flow.Open ≡ flow_of is → is_too_long is ≡ false
 open_is (Begun p) h = refl
 open_is (Complete call) h = refl
 open_is Failed h = absurd cc
 
-shut_is : (is : Held) → Flow.Shut ≡ flow_of is → is ≡ Failed
+shut_is : (is : Gathered) → Flow.Shut ≡ flow_of is → is ≡ Failed
 shut_is (Begun p) h = absurd cc
 shut_is (Complete call) h = absurd cc
 shut_is Failed h = refl
@@ -69,7 +69,7 @@ stands_long : (s : End) → Stands s Failed → s ≡ TooLong
 stands_long (Open rest) h = absurd h
 stands_long TooLong h = refl
 
-module _ {old now : State} {is : Held} {n : ℕ} {l0 l1 h0 h1 c0 c1 : Option (List ℕ)} (g : Speaking old now is n l0 l1 h0 h1 c0 c1) where
+module _ {old now : State} {is : Gathered} {n : ℕ} {l0 l1 h0 h1 c0 c1 : Option (List ℕ)} (g : Speaking old now is n l0 l1 h0 h1 c0 c1) where
   pieces_read : (l2 : Option (List ℕ)) (e : Entry) → Consumes l1 l2 e.piece → Consumes l0 l2 (flat_map (λ d. d.piece) (g.pieces ++ e ∷ []))
   pieces_read l2 e read = subst (Consumes l0 l2)
       (sym (flat_map-append (λ d. d.piece) g.pieces (e ∷ []) ∙ ap (λ l. flat_map (λ d. d.piece) g.pieces ++ l) (append-nil e.piece)))
@@ -84,7 +84,7 @@ module _ {old now : State} {is : Held} {n : ℕ} {l0 l1 h0 h1 c0 c1 : Option (Li
   nonempty : (e : Entry) → IsPiece e → e.piece ≢ []
   nonempty e each none = omega (arith, ap length none, each.2)
 
-  pub speaking_more : (l2 h2 c2 : Option (List ℕ)) (new : State) (held : Held) (e : Entry) → Consumes l1 l2 e.piece
+  pub speaking_more : (l2 h2 c2 : Option (List ℕ)) (new : State) (held : Gathered) (e : Entry) → Consumes l1 l2 e.piece
       → Appends c1 c2 (e.moment ∷ []) → IsPiece e → Feeds now new is held e.conn e.moment e.piece Plain h1 h2
       → Speaking old new held (n + 1) l0 l2 h0 h2 c0 c2
   speaking_more l2 h2 c2 new held e read told each fed =
@@ -99,7 +99,7 @@ module _ {old now : State} {is : Held} {n : ℕ} {l0 l1 h0 h1 c0 c1 : Option (Li
         appended = Appends-trans _ _ _ _ _ g.appended fed.wrote;
         moves = g.moves ++ fed.moves;
         streams = with_stream g.streams e.conn end;
-        reads = rw (events-append g.moves fed.moves) (Reads-more all_closed g.pieces (events g.moves) g.streams e (events fed.moves)
+        reads = rw (events-append g.moves fed.moves) (TakesAll-more all_closed g.pieces (events g.moves) g.streams e (events fed.moves)
             (with_stream g.streams e.conn end) g.reads (takes_piece g.streams e.moment e.conn e.piece (events fed.moves) end (nonempty e each) brings));
         state = fed.state ∙ ap (λ s. after s fed.moves) g.state ∙ sym (after-append old g.moves fed.moves);
         wrote = ap (λ l. l ++ output Plain now fed.moves) g.wrote

@@ -3,7 +3,7 @@ use Rattle.std.proofs.Common.{◌≡◌, ℕ, ◌+◌, ◌≤◌, max, List, [],
 use Rattle.std.proofs.lemmas.Bool.{cases_Bool}
 use Rattle.std.proofs.lemmas.List.{drop_at, length-append}
 use Rattle.nfs_xdr.specs.Codec.{IsBytes, number}
-use Rattle.nfs_xdr.specs.Paper.{Paper, Puts}
+use Rattle.nfs_xdr.specs.SheetState.{SheetState, Puts}
 use Rattle.nfs_rpc.specs.declared.refusal.Refusal.{Refusal}
 use Rattle.nfs_rpc.specs.declared.refusal.Refusal.TheVariants.{Silent, Mismatch, Auth, Accept}
 use Rattle.nfs_rpc.specs.Reply.{spell_refusal}
@@ -26,7 +26,7 @@ step_of s bytes now moment choice tables called taken is read =
     ≡ reply_to (record { machine = expired moment s.machine; moment = moment }) (length bytes) choice called) taken refl)
 
 -- a reply that was put behind the front of the sheet
-pub lies_behind : {r : Stepped} {old new : Paper} {left : State} → length old.bytes ≡ 8 → PutsReply r old new left → r.reply ≡ Some (drop 8 new.bytes)
+pub lies_behind : {r : Stepped} {old new : SheetState} {left : State} → length old.bytes ≡ 8 → PutsReply r old new left → r.reply ≡ Some (drop 8 new.bytes)
 lies_behind {r} {old} front h = h.reply ∙ ap Some (sym (ap (drop 8) h.put.bytes ∙ drop_at old.bytes h.text 8 front))
 
 silence : spell_refusal Silent ≡ []
@@ -34,7 +34,7 @@ unfolding spell_refusal
 silence = refl
 
 -- what a refusal puts is its reply, where it is answered
-pub refusal_lies : (s : State) (refusal : Refusal) (old new : Paper) → length old.bytes ≡ 8 → Puts old new (spell_refusal refusal)
+pub refusal_lies : (s : State) (refusal : Refusal) (old new : SheetState) → length old.bytes ≡ 8 → Puts old new (spell_refusal refusal)
     → IsAnswer (outcome_of refusal) (refused s refusal).reply (drop 8 new.bytes) × ((refused s refusal).state ≡ s)
 refusal_lies s Silent old new front put = ((refl, ap (drop 8) put.bytes ∙ drop_at old.bytes (spell_refusal Silent) 8 front ∙ silence), refl)
 refusal_lies s (Mismatch xid) old new front put = (ap Some (sym (ap (drop 8) put.bytes ∙ drop_at old.bytes (spell_refusal (Mismatch xid)) 8 front)), refl)

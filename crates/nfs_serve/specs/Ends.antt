@@ -1,13 +1,13 @@
--- What a read and a write tell about the ends of a run.
+-- What a read and a write show of the ends of a run.
 use Rattle.std.specs.Prelude.{◌≡◌, ℕ, ◌<◌, List, ◌++◌, length, Bool, true, false, ◌&&◌, nat_eq, nat_lt, Option, Result, Ok, Err}
 use Rattle.std.specs.Io.KnownBytes.{Appends, IsAtEnd}
 use Rattle.nfs_serve.specs.declared.fault.Stop.{Stop}
 use Rattle.nfs_serve.specs.declared.fault.Stop.TheVariants.{Cut, ReadFailed, WriteFailed}
 
 -- a read that took no byte into a buffer that is not empty
-abbrev pub tells_end : {E : Type 0} → Result ℕ E → List ℕ → Bool
-tells_end (Ok n) buf = nat_eq n 0 && nat_lt 0 (length buf)
-tells_end (Err e) buf = false
+abbrev pub shows_end : {E : Type 0} → Result ℕ E → List ℕ → Bool
+shows_end (Ok n) buf = nat_eq n 0 && nat_lt 0 (length buf)
+shows_end (Err e) buf = false
 
 -- a front of the bytes was appended, and not the whole
 abbrev pub AppendsFront : Option (List ℕ) → Option (List ℕ) → List ℕ → Type 0
@@ -19,11 +19,11 @@ Writes (Ok u) old new bytes failed = Appends old new bytes × (failed ≡ false)
 Writes (Err e) old new bytes failed = AppendsFront old new bytes × (failed ≡ true)
 
 -- which end is at fault: the reader has ended, the reader has failed, the writer has failed
-abbrev pub IsTold : Stop → Bool → Bool → Bool → Type 0
-IsTold Cut ended read_failed write_failed = (ended ≡ true) × (read_failed ≡ false) × (write_failed ≡ false)
-IsTold ReadFailed ended read_failed write_failed = (read_failed ≡ true) × (write_failed ≡ false)
-IsTold WriteFailed ended read_failed write_failed = (read_failed ≡ false) × (write_failed ≡ true)
-IsTold stop ended read_failed write_failed = (read_failed ≡ false) × (write_failed ≡ false)
+abbrev pub IsReported : Stop → Bool → Bool → Bool → Type 0
+IsReported Cut ended read_failed write_failed = (ended ≡ true) × (read_failed ≡ false) × (write_failed ≡ false)
+IsReported ReadFailed ended read_failed write_failed = (read_failed ≡ true) × (write_failed ≡ false)
+IsReported WriteFailed ended read_failed write_failed = (read_failed ≡ false) × (write_failed ≡ true)
+IsReported stop ended read_failed write_failed = (read_failed ≡ false) × (write_failed ≡ false)
 
 -- a script is cut only where no byte is left
 abbrev pub EndsAt : Stop → Option (List ℕ) → Type 0

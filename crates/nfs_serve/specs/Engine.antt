@@ -1,7 +1,7 @@
 -- What contracts see of the part of the server that steps records and keeps their replies on a sheet; private contracts
 -- alone speak of it.
 use Rattle.std.specs.Prelude.{◌≡◌, ℕ, List, drop, Some}
-use Rattle.nfs_xdr.specs.Paper.{Paper, Puts}
+use Rattle.nfs_xdr.specs.SheetState.{SheetState, Puts}
 use Rattle.nfs_rpc.specs.declared.refusal.Refusal.{Refusal}
 use Rattle.nfs_rpc.specs.declared.refusal.Refusal.TheVariants as Refusals
 use Rattle.nfs_serve.specs.declared.form.Form.{Form}
@@ -33,7 +33,7 @@ outcome_of (Refusals.Auth xid stat) = Reply
 outcome_of (Refusals.Accept xid stat) = Reply
 
 -- The reply was put at the end of the sheet, and this state is left.
-pub record PutsReply (stepped : Stepped) (old new : Paper) (left : State) : Type 0 where
+pub record PutsReply (stepped : Stepped) (old new : SheetState) (left : State) : Type 0 where
   pub text : List ℕ
   pub reply : stepped.reply ≡ Some text
   pub put : Puts old new text

@@ -5,7 +5,7 @@ use Rattle.nfs_xdr.specs.Spelling.{number}
 use Rattle.nfs_serve.specs.declared.form.Form.TheVariants.{Tagged}
 use Rattle.nfs_serve.specs.Script.{Entry, IsWhole}
 use Rattle.nfs_serve.specs.Step.{new_state}
-use Rattle.nfs_serve.specs.Run.{Streams, all_closed, Reads, Move, events, output}
+use Rattle.nfs_serve.specs.Run.{Streams, all_closed, TakesAll, Move, events, output}
 
 abbrev pub words : List ℕ → List ℕ
 words xs = flat_map number xs
@@ -16,7 +16,7 @@ pub record RunsTo (script written : List ℕ) : Type 0 where
   pub moves : List Move
   pub streams : Streams
   pub whole : IsWhole script entries
-  pub reads : Reads all_closed entries (events moves) streams
+  pub reads : TakesAll all_closed entries (events moves) streams
   pub granted : All (λ m. m.choice ≡ None) moves
   pub output : written ≡ output Tagged (new_state 511 7 90) moves
 

@@ -3,7 +3,7 @@ use Rattle.std.specs.Prelude.{◌≡◌, ◌≢◌, ◌⊎◌, ℕ, nat_eq, List
 use Rattle.nfs_rpc.specs.Stream.{End, IsReading}
 use Rattle.nfs_serve.specs.declared.fault.Stop.{Stop}
 use Rattle.nfs_serve.specs.Script.{Entry, IsRead}
-use Rattle.nfs_serve.specs.Run.{Streams, all_closed, Brings, Reads, Event, Arrives, Overflows, overflow}
+use Rattle.nfs_serve.specs.Run.{Streams, all_closed, Brings, TakesAll, Event, Arrives, Overflows, overflow}
 
 -- Which fault a script has, if any, and its whole entries before it are decided by its bytes.
 abbrev pub HasOneReading : Type 0
@@ -44,7 +44,7 @@ abbrev pub NoneCloses : ℕ → List Entry → Type 0
 NoneCloses conn entries = All (λ e. e.conn ≡ conn → e.piece ≢ []) entries
 
 -- What a script brings by a stretch of its entries: the records that arrive on the connection are those of the stream of
--- its pieces there, and where that stream becomes too long this is told once.
+-- its pieces there, and where that stream becomes too long this is reported once.
 pub record BringsStream (conn : ℕ) (front stretch back : List Entry) (brought : List Event) (end : Streams) : Type 0 where
   pub before : List Event
   pub here : List Event
@@ -52,14 +52,14 @@ pub record BringsStream (conn : ℕ) (front stretch back : List Entry) (brought 
   pub from : Streams
   pub to : Streams
   pub order : brought ≡ before ++ (here ++ later)
-  pub reads_front : Reads all_closed front before from
-  pub reads_stretch : Reads from stretch here to
-  pub reads_back : Reads to back later end
+  pub reads_front : TakesAll all_closed front before from
+  pub reads_stretch : TakesAll from stretch here to
+  pub reads_back : TakesAll to back later end
   pub stream : IsReading (stream_on conn stretch) (flat_map (call_on conn) here) (to conn)
   pub told : flat_map (overflow_on conn) here ≡ overflow conn (to conn)
 
 -- Entries of many connections in any order: on each connection the pieces since its last close form one stream.
 abbrev pub ConnectionsAreStreams : Type 0
 ConnectionsAreStreams = (conn : ℕ) (front stretch back : List Entry) (brought : List Event) (end : Streams)
-    → Reads all_closed (front ++ (stretch ++ back)) brought end → IsClosedBehind conn front → NoneCloses conn stretch
+    → TakesAll all_closed (front ++ (stretch ++ back)) brought end → IsClosedBehind conn front → NoneCloses conn stretch
     → BringsStream conn front stretch back brought end

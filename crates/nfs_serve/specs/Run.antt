@@ -45,10 +45,10 @@ abbrev pub Takes : Streams → Entry → List Event → Streams → Type 0
 Takes old e events new = TakesPiece old e.moment e.conn e.piece events new
 
 -- the entries bring these events, in this order
-abbrev pub Reads : Streams → List Entry → List Event → Streams → Type 0
-Reads old [] events new = (events ≡ []) × (new ≡ old)
-Reads old (e ∷ entries) events new = (first : List Event) × (later : List Event) × (between : Streams)
-    × (events ≡ first ++ later) × Takes old e first between × Reads between entries later new
+abbrev pub TakesAll : Streams → List Entry → List Event → Streams → Type 0
+TakesAll old [] events new = (events ≡ []) × (new ≡ old)
+TakesAll old (e ∷ entries) events new = (first : List Event) × (later : List Event) × (between : Streams)
+    × (events ≡ first ++ later) × Takes old e first between × TakesAll between entries later new
 
 -- an event, and the choice of its record: the place at which memory is refused, or none
 pub record Move : Type 0 where
@@ -75,7 +75,7 @@ abbrev pub spell_reply : Form → ℕ → List ℕ → List ℕ
 spell_reply Tagged conn reply = number conn ++ one_fragment reply
 spell_reply Plain conn reply = one_fragment reply
 
--- a stream that became too long is told once, by a zero mark
+-- a stream that became too long is reported once, by a zero mark
 abbrev pub spell_overflow : Form → ℕ → List ℕ
 spell_overflow Tagged conn = number conn ++ number 0
 spell_overflow Plain conn = []

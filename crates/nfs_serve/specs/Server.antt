@@ -3,7 +3,7 @@ use Rattle.std.specs.Prelude.{◌≡◌, ℕ, ◌<◌, List, [], ◌∷◌, ◌+
 use Rattle.std.specs.Prelude.{replicate}
 use Rattle.std.specs.Io.KnownBytes.{Appends}
 use Rattle.nfs_xdr.specs.Codec.{IsBytes}
-use Rattle.nfs_rpc.specs.RecordMarking.{Held, Begun, Complete, Failed, IsPart, start}
+use Rattle.nfs_rpc.specs.RecordMarking.{Gathered, Begun, Complete, Failed, IsPart, start}
 use Rattle.nfs_rpc.specs.Stream.{End, Open, TooLong}
 use Rattle.nfs_serve.specs.declared.form.Form.{Form}
 use Rattle.nfs_serve.specs.declared.form.Flow.{Flow}
@@ -14,20 +14,20 @@ use Rattle.nfs_serve.specs.Engine.{Kept, state_of}
 use Rattle.nfs_serve.specs.Run.{Brings, Move, events, after, after_event, output, output_of}
 
 -- what is held of a stream of which nothing has come
-abbrev pub fresh : Held
+abbrev pub fresh : Gathered
 fresh = Begun start
 
 -- what lasts from one record to the next (the steps speak of its `state_of`), what is held of the stream of each connection, and the reply that is lent
 pub record ServerModel : Type 0 where
   pub kept : Kept
-  pub held : List Held
+  pub held : List Gathered
   pub reply : List ℕ
 
-abbrev pub held_on : List Held → ℕ → Held
+abbrev pub held_on : List Gathered → ℕ → Gathered
 held_on held conn = get_or held conn fresh
 
 -- this connection has this, and every other what it had
-abbrev pub IsWith : List Held → List Held → ℕ → Held → Type 0
+abbrev pub IsWith : List Gathered → List Gathered → ℕ → Gathered → Type 0
 IsWith new old conn now = (c : ℕ) → held_on new c ≡ (if nat_eq c conn then now else held_on old c)
 
 -- a new server, with 16 connections
@@ -43,7 +43,7 @@ pub record Closes (old new : ServerModel) (conn : ℕ) : Type 0 where
   pub held : IsWith new.held old.held conn fresh
 
 -- what is held of a stream stands for it
-abbrev pub Stands : End → Held → Type 0
+abbrev pub Stands : End → Gathered → Type 0
 Stands (Open rest) (Begun part) = IsBytes rest × IsPart rest part
 Stands (Open rest) (Complete call) = ⊥
 Stands (Open rest) Failed = ⊥
@@ -63,13 +63,13 @@ pub record Steps (outcome : Outcome) (old new : ServerModel) (call : List ℕ) (
   pub state : state_of new.kept ≡ (step (state_of old.kept) call now choice).state
   pub held : new.held ≡ old.held
 
-abbrev pub flow_of : Held → Flow
+abbrev pub flow_of : Gathered → Flow
 flow_of (Begun part) = Flow.Open
 flow_of (Complete call) = Flow.Open
 flow_of Failed = Flow.Shut
 
 -- The piece was taken: its moves ran, and each reply was written. `was` and `is` are held of the connection's stream.
-pub record Feeds (old new : State) (was is : Held) (conn moment : ℕ) (piece : List ℕ) (form : Form) (h0 h1 : Option (List ℕ)) : Type 0 where
+pub record Feeds (old new : State) (was is : Gathered) (conn moment : ℕ) (piece : List ℕ) (form : Form) (h0 h1 : Option (List ℕ)) : Type 0 where
   pub moves : List Move
   pub state : new ≡ after old moves
   pub wrote : Appends h0 h1 (output form old moves)
@@ -77,7 +77,7 @@ pub record Feeds (old new : State) (was is : Held) (conn moment : ℕ) (piece : 
 
 -- The writer failed in what the last move put out: a front of it was written and not the whole. The state is the one
 -- behind that move, and the rest of the piece was dropped.
-pub record Breaks (old new : State) (was : Held) (conn moment : ℕ) (piece : List ℕ) (form : Form) (h0 h1 : Option (List ℕ)) : Type 0 where
+pub record Breaks (old new : State) (was : Gathered) (conn moment : ℕ) (piece : List ℕ) (form : Form) (h0 h1 : Option (List ℕ)) : Type 0 where
   pub moves : List Move
   pub last : Move
   pub taken : List ℕ
@@ -92,7 +92,8 @@ pub record Breaks (old new : State) (was : Held) (conn moment : ℕ) (piece : Li
   pub stream : (before : End) → Stands before was → (end : End) × Brings conn moment before taken (events (moves ++ last ∷ [])) end
 
 -- what taking a piece did, by whether the writer failed
-abbrev pub FeedsOr : {E : Type 0} → Result Flow E → State → State → Held → Held → ℕ → ℕ → List ℕ → Form → Option (List ℕ) → Option (List ℕ) → Bool → Type 0
+abbrev pub FeedsOr : {E : Type 0} → Result Flow E → State → State → Gathered → Gathered → ℕ → ℕ → List ℕ → Form
+    → Option (List ℕ) → Option (List ℕ) → Bool → Type 0
 FeedsOr (Ok flow) old new was is conn moment piece form h0 h1 failed =
     Feeds old new was is conn moment piece form h0 h1 × (flow ≡ flow_of is) × (failed ≡ false)
 FeedsOr (Err e) old new was is conn moment piece form h0 h1 failed = Breaks old new was conn moment piece form h0 h1 × (failed ≡ true)

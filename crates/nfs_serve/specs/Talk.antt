@@ -8,7 +8,7 @@ use Rattle.nfs_serve.specs.declared.talk.Talk.TheVariants.{Ended, Shut, ReadFail
 use Rattle.nfs_serve.specs.declared.form.Form.TheVariants.{Plain}
 use Rattle.nfs_serve.specs.Script.{Entry, Fits}
 use Rattle.nfs_serve.specs.Step.{State}
-use Rattle.nfs_serve.specs.Run.{Streams, all_closed, Brings, Reads, Event, Move, events, after, after_event, output, output_of}
+use Rattle.nfs_serve.specs.Run.{Streams, all_closed, Brings, TakesAll, Event, Move, events, after, after_event, output, output_of}
 
 abbrev pub max_reads : ℕ
 max_reads = 1000000
@@ -22,7 +22,7 @@ IsPiece e = Fits e × (e.conn ≡ 0) × (0 < length e.piece)
 pub record Speaks (old new : State) (pieces : List Entry) (end : End) (written : List ℕ) : Type 0 where
   pub moves : List Move
   pub streams : Streams
-  pub reads : Reads all_closed pieces (events moves) streams
+  pub reads : TakesAll all_closed pieces (events moves) streams
   pub ends : streams 0 ≡ end
   pub state : new ≡ after old moves
   pub wrote : written ≡ output Plain old moves
@@ -40,7 +40,7 @@ pub record SpeaksInto (old new : State) (pieces : List Entry) (last : Entry) (wr
   pub dropped : List ℕ
   pub front : List ℕ
   pub unwritten : List ℕ
-  pub reads : Reads all_closed pieces before streams
+  pub reads : TakesAll all_closed pieces before streams
   pub split : last.piece ≡ taken ++ dropped
   pub brings : Brings 0 last.moment (streams 0) taken (own ++ breaking.event ∷ []) end
   pub order : events moves ≡ before ++ own
@@ -58,15 +58,15 @@ SpeaksUntil Shut old new pieces written = (length pieces ≤ max_reads) × Speak
 SpeaksUntil WriteFailed old new pieces written =
     (length pieces ≤ max_reads) × (before : List Entry) × (last : Entry) × (pieces ≡ before ++ last ∷ []) × SpeaksInto old new before last written
 
--- the same of what the ends and the clock tell: one answer of the clock a piece, and no other
+-- the same of what the ends and the clock show: one answer of the clock a piece, and no other
 abbrev pub Talks : Talk → State → State → Option (List ℕ) → Option (List ℕ) → Option (List ℕ) → Option (List ℕ) → Option (List ℕ) → Option (List ℕ) → Type 0
 Talks talk old new l0 l1 h0 h1 c0 c1 = (pieces : List Entry) × (written : List ℕ)
     × Consumes l0 l1 (flat_map (λ e. e.piece) pieces) × Appends h0 h1 written × Appends c0 c1 (map (λ e. e.moment) pieces)
     × All IsPiece pieces × SpeaksUntil talk old new pieces written
 
 -- which end ended the talk
-abbrev pub TalkTells : Talk → Bool → Bool → Bool → Option (List ℕ) → Type 0
-TalkTells Ended ended read_failed write_failed left = (ended ≡ true) × (read_failed ≡ false) × (write_failed ≡ false) × IsAtEnd left
-TalkTells ReadFailed ended read_failed write_failed left = (read_failed ≡ true) × (write_failed ≡ false)
-TalkTells WriteFailed ended read_failed write_failed left = (read_failed ≡ false) × (write_failed ≡ true)
-TalkTells talk ended read_failed write_failed left = (read_failed ≡ false) × (write_failed ≡ false)
+abbrev pub TalkReports : Talk → Bool → Bool → Bool → Option (List ℕ) → Type 0
+TalkReports Ended ended read_failed write_failed left = (ended ≡ true) × (read_failed ≡ false) × (write_failed ≡ false) × IsAtEnd left
+TalkReports ReadFailed ended read_failed write_failed left = (read_failed ≡ true) × (write_failed ≡ false)
+TalkReports WriteFailed ended read_failed write_failed left = (read_failed ≡ false) × (write_failed ≡ true)
+TalkReports talk ended read_failed write_failed left = (read_failed ≡ false) × (write_failed ≡ false)

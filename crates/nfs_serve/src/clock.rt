@@ -1,7 +1,7 @@
 ghost use Rattle.std.specs.Prelude.{◌≤◌, ◌^◌, ℕ, List, [], ◌∷◌, Option};
 ghost use Rattle.std.specs.Io.KnownBytes.{Appends};
 
-/// A clock that tells the moment.
+/// A clock that gives the moment.
 pub trait Clock {
     // The answers so far, where they are known.
     ghost told: { Self → Option (List ℕ) };

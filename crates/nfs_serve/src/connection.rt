@@ -24,10 +24,10 @@ pub struct Connection {
 
 impl Model for Connection {
     ghost use Rattle.std.specs.Prelude.{◌≡◌, false};
-    ghost use Rattle.nfs_rpc.specs.RecordMarking.{Held};
+    ghost use Rattle.nfs_rpc.specs.RecordMarking.{Gathered};
     ghost use Rattle.nfs_rpc.specs.Feeding.{waits};
 
-    ghost Value = { Held };
+    ghost Value = { Gathered };
 
     ghost view = { λ c. c.records };
 

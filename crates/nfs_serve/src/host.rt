@@ -11,7 +11,7 @@ pub struct Host<T> {
     pub inner: T,
     /// Whether a call has answered `Err`.
     pub failed: bool,
-    /// Whether a read has told the end.
+    /// Whether a read has met the end.
     pub ended: bool,
 }
 

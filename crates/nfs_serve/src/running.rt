@@ -6,7 +6,7 @@ ghost use Rattle.nfs_serve.specs.Engine.{state_of};
 ghost use Rattle.nfs_serve.specs.Run.{all_closed};
 ghost use Rattle.nfs_serve.specs.Reading as reading;
 ghost use Rattle.nfs_serve.specs.Server.{fresh, held_on};
-ghost use Rattle.nfs_serve.specs.Replay.{AllStand, Replays, Tells};
+ghost use Rattle.nfs_serve.specs.Replay.{AllStand, Replays, Reports};
 ghost use Rattle.nfs_serve.specs.Running.{RunsEntryOr, EndsBehind};
 
 use crate::connection::Connection;
@@ -38,7 +38,7 @@ pub fn run<R: Source, W: Sink>(
     requires ended { R.has_ended r.old ≡ false }
     requires write { W.has_failed w.old ≡ false }
     ensures run { Replays result (state_of engine.old.kept) (state_of engine.new.kept) connections.new (R.left r.old) (R.left r.new) (W.held w.old) (W.held w.new) }
-    ensures told { Tells result (R.has_ended r.new) (R.has_failed r.new) (W.has_failed w.new) (R.left r.new) }
+    ensures told { Reports result (R.has_ended r.new) (R.has_failed r.new) (W.has_failed w.new) (R.left r.new) }
 {
     for done in 0..MAX_ENTRIES {
         match next_entry(r, buf) {
@@ -104,7 +104,7 @@ fn run_entry<W: Sink>(
 fn behind_last<R: Source>(r: &mut R) -> Result<(), ReplayFault>
     requires failed { R.has_failed r.old ≡ false }
     requires ended { R.has_ended r.old ≡ false }
-    ensures { (rest : List ℕ) × Consumes (R.left r.old) (R.left r.new) rest × EndsBehind result rest × Tells result (R.has_ended r.new) (R.has_failed r.new) false (R.left r.new) }
+    ensures { (rest : List ℕ) × Consumes (R.left r.old) (R.left r.new) rest × EndsBehind result rest × Reports result (R.has_ended r.new) (R.has_failed r.new) false (R.left r.new) }
 {
     let mut one = [0u8; 1];
     if fill(r, &mut one) == 1 {

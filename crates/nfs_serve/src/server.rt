@@ -3,8 +3,8 @@ ghost use Rattle.nfs_exec.specs.Laws.{HasNoClashes};
 ghost use Rattle.nfs_exec.specs.Machine.{IsMachine};
 ghost use Rattle.nfs_serve.specs.Server.{fresh, held_on, IsWith, Steps, FeedsOr, Closes, IsNew};
 ghost use Rattle.nfs_serve.specs.Engine.{state_of};
-ghost use Rattle.nfs_serve.specs.Replay.{Replays, Tells};
-ghost use Rattle.nfs_serve.specs.Talk.{Talks, TalkTells};
+ghost use Rattle.nfs_serve.specs.Replay.{Replays, Reports};
+ghost use Rattle.nfs_serve.specs.Talk.{Talks, TalkReports};
 
 use crate::connection::Connection;
 use crate::engine::Engine;
@@ -55,7 +55,7 @@ impl Model for Server {
 }
 
 impl Server {
-    /// A server at moment 0, on whose connections nothing has come. `instance` tells it from other starts of the server. All
+    /// A server at moment 0, on whose connections nothing has come. `instance` marks it off from other starts of the server. All
     /// buffers of records, pieces and replies are made here. The mode of the root
     /// has no effect as long as there is no tree.
     ///
@@ -104,7 +104,7 @@ impl Server {
     }
 
     /// Takes a piece that came on the connection `conn` (at most 15) at the moment `now` (seconds, at most 2^62): each record that
-    /// it ends is stepped, and its reply written to `out` in the form asked for. Where the stream becomes too long that is told
+    /// it ends is stepped, and its reply written to `out` in the form asked for. Where the stream becomes too long that is reported
     /// once, and what comes is ignored until the connection is closed. An empty piece changes nothing.
     ///
     /// `WriteFailed` only where `out` has failed. The record whose reply was being written is done, the rest of the piece is
@@ -161,7 +161,7 @@ impl Server {
         requires ended { R.has_ended r.old ≡ false }
         requires write { W.has_failed w.old ≡ false }
         ensures run { Replays result (state_of self.old.kept) (state_of self.new.kept) self.new.held (R.left r.old) (R.left r.new) (W.held w.old) (W.held w.new) }
-        ensures told { Tells result (R.has_ended r.new) (R.has_failed r.new) (W.has_failed w.new) (R.left r.new) }
+        ensures told { Reports result (R.has_ended r.new) (R.has_failed r.new) (W.has_failed w.new) (R.left r.new) }
         ensures reply { self.new.reply ≡ [] }
     {
         close_all(&mut self.connections);
@@ -194,7 +194,7 @@ impl Server {
         requires ended { R.has_ended r.old ≡ false }
         requires write { W.has_failed w.old ≡ false }
         ensures run { Talks result (state_of self.old.kept) (state_of self.new.kept) (R.left r.old) (R.left r.new) (W.held w.old) (W.held w.new) (C.told clock.old) (C.told clock.new) }
-        ensures told { TalkTells result (R.has_ended r.new) (R.has_failed r.new) (W.has_failed w.new) (R.left r.new) }
+        ensures told { TalkReports result (R.has_ended r.new) (R.has_failed r.new) (W.has_failed w.new) (R.left r.new) }
         ensures held { IsWith self.new.held self.old.held 0 fresh }
         ensures reply { self.new.reply ≡ [] }
     {

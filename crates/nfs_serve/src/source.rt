@@ -1,7 +1,7 @@
 ghost use Rattle.std.specs.Prelude.{◌≡◌, ℕ, List, Bool, ◌||◌, Option, is_err};
 ghost use Rattle.std.specs.Io.{ReadsAtMost};
 ghost use Rattle.std.specs.Io.KnownBytes.{ReadConsumes};
-ghost use Rattle.nfs_serve.specs.Ends.{tells_end};
+ghost use Rattle.nfs_serve.specs.Ends.{shows_end};
 
 use std::io;
 
@@ -20,13 +20,13 @@ pub trait Source {
         ensures bound { ReadsAtMost result buf.new }
         ensures bytes { ReadConsumes (left self.old) (left self.new) result buf.new }
         ensures failed { has_failed self.new ≡ (has_failed self.old || is_err result) }
-        ensures ended { has_ended self.new ≡ (has_ended self.old || tells_end result buf.new) };
+        ensures ended { has_ended self.new ≡ (has_ended self.old || shows_end result buf.new) };
 
     /// Whether a read has answered `Err`.
     fn failed(&self) -> bool
         ensures { result ≡ has_failed self.now };
 
-    /// Whether a read has told the end.
+    /// Whether a read has met the end.
     fn ended(&self) -> bool
         ensures { result ≡ has_ended self.now };
 }

@@ -110,7 +110,7 @@ has_row rows n = list_any (λ r. r.object == n) rows
 abbrev pub has_entries : List Row → ℕ → Bool
 has_entries rows d = list_any (λ r. r.directory == d) rows
 
--- an entry as a listing tells it
+-- an entry as a listing reports it
 pub record Listed : Type 0 where
   pub cookie : ℕ
   pub name : List ℕ

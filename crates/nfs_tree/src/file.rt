@@ -2,7 +2,7 @@
 
 ghost use Rattle.std.specs.Prelude.{◌≡◌, ◌<◌, OnOk, OnErr, None, true, IfOk};
 ghost use Rattle.nfs_xdr.specs.Checks.{judged};
-ghost use Rattle.nfs_xdr.specs.Paper.{HasRoom, Puts};
+ghost use Rattle.nfs_xdr.specs.SheetState.{HasRoom, Puts};
 ghost use Rattle.nfs_xdr.specs.Spelling.{opaque};
 ghost use Rattle.nfs_tree.specs.Files.{data_at};
 ghost use Rattle.nfs_tree.specs.Did.{DoesOrWants};

@@ -7,7 +7,7 @@ use crate::row::Row;
 use crate::tree::Tree;
 use std::marker::Model;
 
-/// An entry of a directory, as READDIR tells it (RFC 8881 section 18.23.3).
+/// An entry of a directory, as READDIR reports it (RFC 8881 section 18.23.3).
 #[derive(Clone, Copy, Debug)]
 pub struct Entry<'a> {
     /// The entry's cookie: greater than those of the entries before it.

@@ -1,7 +1,7 @@
 -- Room for a result on a sheet of 2,200 bytes, and a head that stands in front of it.
 use Rattle.std.proofs.Common.{◌≡◌, ℕ, ◌+◌, ◌≤◌, Bool, true, false, cond, eqb, List, [], ◌++◌, length, append_assoc, ap, sym, ◌∙◌, arith}
 use Rattle.std.proofs.lemmas.List.{append-nil, length-append}
-use Rattle.nfs_xdr.specs.Paper.{Paper, HasRoom, Puts}
+use Rattle.nfs_xdr.specs.SheetState.{SheetState, HasRoom, Puts}
 use Rattle.nfs_xdr.specs.declared.status.Status.{Status}
 use Rattle.nfs_xdr.specs.declared.status.Status.TheVariants.{Nfs4Ok}
 use Rattle.nfs_results.specs.OpenHead.{HeadsAt, HasHead}
@@ -30,30 +30,30 @@ at_most operation =
     (either (eqb operation 55) _ _ (omega arith)
     (omega arith)))))))))))
 
-room_for : (paper : Paper) (r : Res) → length paper.bytes + 1064 ≤ paper.room → HasSizes 64 r → HasArrays r → HasRoom paper (spell_result r)
-room_for paper r room sizes arrays = omega (arith, room, behind_within 64 r arrays sizes, length_spelled r, at_most (operation_of r))
+room_for : (sheet : SheetState) (r : Res) → length sheet.bytes + 1064 ≤ sheet.room → HasSizes 64 r → HasArrays r → HasRoom sheet (spell_result r)
+room_for sheet r room sizes arrays = omega (arith, room, behind_within 64 r arrays sizes, length_spelled r, at_most (operation_of r))
 
 -- the head of a compound on an empty sheet, and a result behind it
-pub room_at_start : (paper : Paper) (status : Status) → paper ≡ record { bytes = []; room = 2200 } → HasRoom paper (spell_compound_head status [] 1)
-room_at_start paper status empty =
-    omega (arith, ap (λ (p : Paper). p.room) empty, ap (λ (p : Paper). length p.bytes) empty, length_head_within status [] 1 (omega arith))
+pub room_at_start : (sheet : SheetState) (status : Status) → sheet ≡ record { bytes = []; room = 2200 } → HasRoom sheet (spell_compound_head status [] 1)
+room_at_start sheet status empty =
+    omega (arith, ap (λ (p : SheetState). p.room) empty, ap (λ (p : SheetState). length p.bytes) empty, length_head_within status [] 1 (omega arith))
 
-pub room_behind : (old new : Paper) (status : Status) (r : Res) → old ≡ record { bytes = []; room = 2200 } → Puts old new (spell_compound_head status [] 1)
+pub room_behind : (old new : SheetState) (status : Status) (r : Res) → old ≡ record { bytes = []; room = 2200 } → Puts old new (spell_compound_head status [] 1)
     → HasSizes 64 r → HasArrays r → HasRoom new (spell_result r)
 room_behind old new status r empty puts sizes arrays =
     room_for new r
     (omega (
       arith,
       puts.room,
-      ap (λ (p : Paper). p.room) empty,
+      ap (λ (p : SheetState). p.room) empty,
       ap length puts.bytes,
       length-append old.bytes (spell_compound_head status [] 1),
-      ap (λ (p : Paper). length p.bytes) empty,
+      ap (λ (p : SheetState). length p.bytes) empty,
       length_head_within status [] 1 (omega arith),
     ))
     sizes arrays
 
-pub stands_first : (old new : Paper) (status_at count_at : ℕ) (tag : List ℕ)
+pub stands_first : (old new : SheetState) (status_at count_at : ℕ) (tag : List ℕ)
     → HeadsAt status_at count_at old.bytes tag → Puts old new (spell_compound_head Nfs4Ok tag 0)
     → HasHead status_at count_at new.bytes
 stands_first old new status_at count_at tag places puts =
@@ -68,7 +68,7 @@ stands_first old new status_at count_at tag places puts =
     }
 
 -- a head stays where it stands when more is put behind it
-pub stands_still : (old new : Paper) (text : List ℕ) (status_at count_at : ℕ)
+pub stands_still : (old new : SheetState) (text : List ℕ) (status_at count_at : ℕ)
     → Puts old new text → HasHead status_at count_at old.bytes → HasHead status_at count_at new.bytes
 stands_still old new text status_at count_at puts h =
     record {

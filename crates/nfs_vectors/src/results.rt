@@ -258,7 +258,7 @@ fn results_of_a_status_alone_are_read_and_put(rt: HostRuntime) -> Result<(), Fai
         &[58, 0],
         &[14, 10010],
         &[41, 10004],
-        // SETATTR tells what was set with every status.
+        // SETATTR reports what was set with every status.
         &[34, 10004, 0],
         &[34, 10036, 0],
         &[34, 10066, 0],

@@ -13,8 +13,8 @@ use Rattle.std.proofs.lemmas.Nat.{be_bytes_4, be_bytes_8, from_be_bytes-to_be_by
 use Rattle.nfs_xdr.proofs.Bytes.{IsBytes-drop}
 use Rattle.nfs_xdr.specs.Spelling as spelling
 use Rattle.nfs_xdr.specs.Spelling.{padding}
-use Rattle.nfs_xdr.specs.Reading.{◌>>=◌, number_at, flag_at, all_zero, fixed_at, opaque_at, pieces_at, Gives}
-use Rattle.nfs_xdr.specs.Codec.{Codec, IsCodec, IsBytes, Reads, number, hyper, flag, fixed, opaque, unbounded, nothing, ◌then◌, as_type, only, many_at, array}
+use Rattle.nfs_xdr.specs.Reading.{◌>>=◌, number_at, flag_at, all_zero, fixed_at, opaque_at, pieces_at, ReadsBy}
+use Rattle.nfs_xdr.specs.Codec.{Codec, IsCodec, IsBytes, ReadsAs, number, hyper, flag, fixed, opaque, unbounded, nothing, ◌then◌, as_type, only, many_at, array}
 use Rattle.nfs_xdr.specs.Codec.{few, spell_optional, optional, IsPrefixFree, in_arm, led_by, choose, union, arm, bare, IsSized, pieces}
 
 -- steps
@@ -300,7 +300,7 @@ none≢some x e = cc
 
 -- what gives what reading gives reads what is spelled
 pub reads_from_gives : {X Y E : Type 0} (c : Codec Y) (view : X → Y) (r : Result X E) (old new : List ℕ)
-    → IsCodec c → IsBytes old → Gives view r (c.read old) old new → Reads c view r old new
+    → IsCodec c → IsBytes old → ReadsBy view r (c.read old) old new → ReadsAs c view r old new
 reads_from_gives c view (Ok x) old new p fits given = let t = p.takes old (view x) new fits given in (t.0, t.2)
 reads_from_gives c view (Err e) old new p fits given = (given.1, λ y rest f same. absurd (none≢some _ (sym given.0 ∙ ap c.read same ∙ p.again y rest f)))
 
@@ -478,10 +478,10 @@ as_they_are (Some x) = ap (λ (ys : List (List ℕ)). Some (ys, x.1)) (sym (map-
 
 -- an array of fixed opaques is read as pieces
 pub reads_pieces : {X E : Type 0} (n : ℕ) (view : X → List (List ℕ)) (r : Result X E) (old new : List ℕ)
-    → n % 4 ≡ 0 → IsBytes old → Gives view r (pieces_at n old) old new → Reads (array (fixed n)) view r old new
+    → n % 4 ≡ 0 → IsBytes old → ReadsBy view r (pieces_at n old) old new → ReadsAs (array (fixed n)) view r old new
 reads_pieces {X} {E} n view r old new whole bytes given =
     reads_from_gives (pieces n (λ x. x) (fixed n)) view r old new (is_pieces n (λ x. x) (fixed n) (sized_fixed n whole) (is_fixed n)) bytes
-    (subst (λ (read : Option (List (List ℕ) × List ℕ)). Gives view r read old new) (as_they_are (pieces_at n old)) given)
+    (subst (λ (read : Option (List (List ℕ) × List ℕ)). ReadsBy view r read old new) (as_they_are (pieces_at n old)) given)
 
 -- no spelling begins another of the same type
 pub is_prefix_free : {A : Type 0} (c : Codec A) → IsCodec c → IsPrefixFree c

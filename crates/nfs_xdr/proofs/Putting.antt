@@ -2,7 +2,7 @@
 use Rattle.std.proofs.Common.{◌≡◌, ℕ, ◌+◌, List, ◌++◌, length, append_assoc, refl, sym, ap, ◌∙◌}
 use Rattle.std.proofs.lemmas.List.{length-append}
 use Rattle.nfs_xdr.specs.Spelling.{number, hyper}
-use Rattle.nfs_xdr.specs.Paper.{Paper, Puts}
+use Rattle.nfs_xdr.specs.SheetState.{SheetState, Puts}
 
 pub length_number : (n : ℕ) → length (number n) ≡ 4
 unfolding number
@@ -12,7 +12,7 @@ pub length_hyper : (n : ℕ) → length (hyper n) ≡ 8
 unfolding hyper
 length_hyper n = refl
 
-pub puts_then : {old mid new : Paper} {a b : List ℕ} → Puts old mid a → Puts mid new b → Puts old new (a ++ b)
+pub puts_then : {old mid new : SheetState} {a b : List ℕ} → Puts old mid a → Puts mid new b → Puts old new (a ++ b)
 puts_then {old} {mid} {new} {a} {b} p q = record {
   bytes = q.bytes ∙ ap (λ (w : List ℕ). w ++ b) p.bytes ∙ append_assoc old.bytes a b;
   room = q.room ∙ p.room;

@@ -7,6 +7,6 @@ pub record Caller : Type 0 where
   pub gid : ℕ
   pub gids : List ℕ
 
--- the groups behind those that are told say nothing
+-- the groups behind those that are named say nothing
 abbrev pub caller : Who → Caller
 caller w = record { uid = w.uid; gid = w.gid; gids = take w.count w.gids }

@@ -27,11 +27,11 @@ pub record IsCodec {A : Type 0} (c : Codec A) : Type 0 where
 abbrev pub Unspelled : {A : Type 0} → Codec A → List ℕ → Type 0
 Unspelled c bytes = (y : _) (rest : List ℕ) → c.Fits y → bytes ≡ c.spell y ++ rest → ⊥
 
--- What a call returned, seen by view, stood spelled at the front of the old bytes, and the new ones stood behind it.
+-- What a reader returned, seen by view, stood spelled at the front of the old bytes, and the new ones stood behind it.
 -- Where it refused, nothing that has a spelling stood there, and nothing has moved.
-abbrev pub Reads : {X Y E : Type 0} → Codec Y → (X → Y) → Result X E → List ℕ → List ℕ → Type 0
-Reads c view (Ok x) old new = (old ≡ c.spell (view x) ++ new) × c.Fits (view x)
-Reads c view (Err e) old new = (new ≡ old) × Unspelled c old
+abbrev pub ReadsAs : {X Y E : Type 0} → Codec Y → (X → Y) → Result X E → List ℕ → List ℕ → Type 0
+ReadsAs c view (Ok x) old new = (old ≡ c.spell (view x) ++ new) × c.Fits (view x)
+ReadsAs c view (Err e) old new = (new ≡ old) × Unspelled c old
 
 abbrev pub number : Codec ℕ
 number = record { spell = spelling.number; Fits = λ n. n < 2 ^ 32; read = number_at }

@@ -1,6 +1,6 @@
 pub mod Spelling
 pub mod Reading
-pub mod Paper
+pub mod SheetState
 pub mod Codec
 pub mod Chain
 pub mod Time

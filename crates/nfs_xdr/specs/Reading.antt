@@ -10,10 +10,10 @@ abbrev pub ◌>>=◌ : {A B : Type 0} → Option A → (A → Option B) → Opti
 None >>= f = None
 (Some x) >>= f = f x
 
--- What a call returned, seen by view, is what reading the old bytes gives. A refusal moves nothing.
-abbrev pub Gives : {X Y E : Type 0} → (X → Y) → Result X E → Option (Y × List ℕ) → List ℕ → List ℕ → Type 0
-Gives view (Ok x) read old new = read ≡ Some (view x, new)
-Gives view (Err e) read old new = (read ≡ None) × (new ≡ old)
+-- What a reader returned, seen by view, is what reading the old bytes gives. Where it refuses, nothing has moved.
+abbrev pub ReadsBy : {X Y E : Type 0} → (X → Y) → Result X E → Option (Y × List ℕ) → List ℕ → List ℕ → Type 0
+ReadsBy view (Ok x) read old new = read ≡ Some (view x, new)
+ReadsBy view (Err e) read old new = (read ≡ None) × (new ≡ old)
 
 abbrev pub number_at : List ℕ → Option (ℕ × List ℕ)
 number_at bytes = if nat_lt (length bytes) 4 then None else Some (from_be_bytes w32 (take 4 bytes), drop 4 bytes)
@@ -46,7 +46,7 @@ pieces_at n bytes = do
   count ← number_at bytes
   if nat_lt (length count.1) (count.0 * n) then None else Some (first_chunks n count.0 count.1, drop (count.0 * n) count.1)
 
--- The same where a refusal leaves the bytes anywhere.
-abbrev pub Finds : {X Y E : Type 0} → (X → Y) → Result X E → Option (Y × List ℕ) → List ℕ → Type 0
-Finds view (Ok x) read new = read ≡ Some (view x, new)
-Finds view (Err e) read new = read ≡ None
+-- The same of the reader of a part: where it refuses, the bytes are left anywhere.
+abbrev pub ReadsPartBy : {X Y E : Type 0} → (X → Y) → Result X E → Option (Y × List ℕ) → List ℕ → Type 0
+ReadsPartBy view (Ok x) read new = read ≡ Some (view x, new)
+ReadsPartBy view (Err e) read new = read ≡ None

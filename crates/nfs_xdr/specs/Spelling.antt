@@ -23,6 +23,6 @@ padding n = (4 - n % 4) % 4
 abbrev pub fixed : List ℕ → List ℕ
 fixed bytes = bytes ++ replicate (padding (length bytes)) 0
 
--- an opaque of a length that is told (section 4.10)
+-- an opaque with its length in front (section 4.10)
 abbrev pub opaque : List ℕ → List ℕ
 opaque bytes = number (length bytes) ++ fixed bytes

@@ -1,7 +1,7 @@
 ghost use Rattle.std.specs.Prelude.{◌≡◌, ◌<◌, ◌^◌, ◌%◌, ℕ, length, ◌+◌, MatchResult, IfOk, Some, None, drop};
 ghost use Rattle.nfs_xdr.specs.Spelling.{padding};
-ghost use Rattle.nfs_xdr.specs.Reading.{Gives, Finds, number_at, hyper_at, flag_at, fixed_at, opaque_at, pieces_at, all_zero};
-ghost use Rattle.nfs_xdr.specs.Codec.{Reads, IsBytes};
+ghost use Rattle.nfs_xdr.specs.Reading.{ReadsBy, ReadsPartBy, number_at, hyper_at, flag_at, fixed_at, opaque_at, pieces_at, all_zero};
+ghost use Rattle.nfs_xdr.specs.Codec.{ReadsAs, IsBytes};
 ghost use Rattle.nfs_xdr.specs.Codec as codec;
 ghost use Rattle.nfs_xdr.specs.Time.{time};
 
@@ -15,7 +15,7 @@ pub struct Unreadable;
 /// Reads the items that stand at the front of some bytes, one behind the other, and lends what it can.
 ///
 /// Contracts see it as the bytes that are left. Each read has two clauses: `exact` says what the reading function of
-/// the item gives, and `spelled` that a value is told exactly where its spelling stands.
+/// the item gives, and `spelled` that a value is returned exactly where its spelling stands.
 #[derive(Drop)]
 pub struct Cursor<'a> {
     bytes: &'a [u8],
@@ -114,8 +114,8 @@ impl<'a> Cursor<'a> {
     ///
     /// Unreadable where fewer than four bytes are left; the cursor is then unmoved.
     pub fn u32(&mut self) -> Result<u32, Unreadable>
-        ensures exact { Gives (λ n. n) result (number_at self.old) self.old self.new }
-        ensures spelled { Reads codec.number (λ n. n) result self.old self.new }
+        ensures exact { ReadsBy (λ n. n) result (number_at self.old) self.old self.new }
+        ensures spelled { ReadsAs codec.number (λ n. n) result self.old self.new }
     {
         self.take_u32()
     }
@@ -124,8 +124,8 @@ impl<'a> Cursor<'a> {
     ///
     /// Unreadable where fewer than eight bytes are left; the cursor is then unmoved.
     pub fn u64(&mut self) -> Result<u64, Unreadable>
-        ensures exact { Gives (λ n. n) result (hyper_at self.old) self.old self.new }
-        ensures spelled { Reads codec.hyper (λ n. n) result self.old self.new }
+        ensures exact { ReadsBy (λ n. n) result (hyper_at self.old) self.old self.new }
+        ensures spelled { ReadsAs codec.hyper (λ n. n) result self.old self.new }
     {
         self.take_u64()
     }
@@ -134,8 +134,8 @@ impl<'a> Cursor<'a> {
     ///
     /// Unreadable where fewer than eight bytes are left; the cursor is then unmoved.
     pub fn i64(&mut self) -> Result<i64, Unreadable>
-        ensures exact { Gives (λ z. z) result (codec.signed.read self.old) self.old self.new }
-        ensures spelled { Reads codec.signed (λ z. z) result self.old self.new }
+        ensures exact { ReadsBy (λ z. z) result (codec.signed.read self.old) self.old self.new }
+        ensures spelled { ReadsAs codec.signed (λ z. z) result self.old self.new }
     {
         self.take_i64()
     }
@@ -144,8 +144,8 @@ impl<'a> Cursor<'a> {
     ///
     /// Unreadable where no number is left or it is another one; the cursor is then unmoved.
     pub fn flag(&mut self) -> Result<bool, Unreadable>
-        ensures exact { Gives (λ b. b) result (flag_at self.old) self.old self.new }
-        ensures spelled { Reads codec.flag (λ b. b) result self.old self.new }
+        ensures exact { ReadsBy (λ b. b) result (flag_at self.old) self.old self.new }
+        ensures spelled { ReadsAs codec.flag (λ b. b) result self.old self.new }
     {
         self.take_flag()
     }
@@ -155,8 +155,8 @@ impl<'a> Cursor<'a> {
     /// Unreadable where its length is above `limit`, it is cut, or its padding is not zero; the cursor is then
     /// unmoved.
     pub fn opaque(&mut self, limit: u32) -> Result<&'a [u8], Unreadable>
-        ensures exact { Gives (λ x. x.now) result (opaque_at limit self.old) self.old self.new }
-        ensures spelled { Reads (codec.opaque limit) (λ x. x.now) result self.old self.new }
+        ensures exact { ReadsBy (λ x. x.now) result (opaque_at limit self.old) self.old self.new }
+        ensures spelled { ReadsAs (codec.opaque limit) (λ x. x.now) result self.old self.new }
     {
         self.take_opaque(limit)
     }
@@ -166,8 +166,8 @@ impl<'a> Cursor<'a> {
     /// Unreadable where it is cut or its padding is not zero; the cursor is then unmoved.
     pub fn fixed<const N: usize>(&mut self) -> Result<[u8; N], Unreadable>
         requires { N < 2 ^ 32 }
-        ensures exact { Gives (λ x. x) result (fixed_at N self.old) self.old self.new }
-        ensures spelled { Reads (codec.fixed N) (λ x. x) result self.old self.new }
+        ensures exact { ReadsBy (λ x. x) result (fixed_at N self.old) self.old self.new }
+        ensures spelled { ReadsAs (codec.fixed N) (λ x. x) result self.old self.new }
     {
         self.take_fixed::<N>()
     }
@@ -179,8 +179,8 @@ impl<'a> Cursor<'a> {
     pub fn pieces<const N: usize>(&mut self) -> Result<&'a [[u8; N]], Unreadable>
         requires size { (0 < N) × (N < 2 ^ 16) }
         requires words { N % 4 ≡ 0 }
-        ensures exact { Gives (λ x. x.now) result (pieces_at N self.old) self.old self.new }
-        ensures spelled { Reads (codec.array (codec.fixed N)) (λ x. x.now) result self.old self.new }
+        ensures exact { ReadsBy (λ x. x.now) result (pieces_at N self.old) self.old self.new }
+        ensures spelled { ReadsAs (codec.array (codec.fixed N)) (λ x. x.now) result self.old self.new }
     {
         self.take_pieces::<N>()
     }
@@ -190,7 +190,7 @@ impl<'a> Cursor<'a> {
     /// Unreadable where fewer than twelve bytes are left.
     #[tactic(auto, unfolding(crate::specs::Time::time))]
     pub fn time(&mut self) -> Result<Time, Unreadable>
-        ensures { Finds (λ t. t) result (time.read self.old) self.new }
+        ensures { ReadsPartBy (λ t. t) result (time.read self.old) self.new }
     {
         let seconds = self.i64()?;
         let nanoseconds = self.u32()?;
@@ -202,7 +202,7 @@ impl<'a> Cursor<'a> {
 
     fn take_u32(&mut self) -> Result<u32, Unreadable>
         ensures bytes { IsBytes self.old }
-        ensures exact { Gives (λ n. n) result (number_at self.old) self.old self.new }
+        ensures exact { ReadsBy (λ n. n) result (number_at self.old) self.old self.new }
     {
         let Some((front, rest)) = self.bytes.split_first_chunk::<4>() else {
             return Err(Unreadable);
@@ -213,7 +213,7 @@ impl<'a> Cursor<'a> {
 
     fn take_u64(&mut self) -> Result<u64, Unreadable>
         ensures bytes { IsBytes self.old }
-        ensures exact { Gives (λ n. n) result (hyper_at self.old) self.old self.new }
+        ensures exact { ReadsBy (λ n. n) result (hyper_at self.old) self.old self.new }
     {
         let Some((front, rest)) = self.bytes.split_first_chunk::<8>() else {
             return Err(Unreadable);
@@ -224,7 +224,7 @@ impl<'a> Cursor<'a> {
 
     fn take_i64(&mut self) -> Result<i64, Unreadable>
         ensures bytes { IsBytes self.old }
-        ensures exact { Gives (λ z. z) result (codec.signed.read self.old) self.old self.new }
+        ensures exact { ReadsBy (λ z. z) result (codec.signed.read self.old) self.old self.new }
     {
         let bits = self.take_u64()?;
         Ok(bits.cast_signed())
@@ -233,7 +233,7 @@ impl<'a> Cursor<'a> {
     #[tactic(auto, unfolding(crate::specs::Reading::flag_at))]
     fn take_flag(&mut self) -> Result<bool, Unreadable>
         ensures bytes { IsBytes self.old }
-        ensures exact { Gives (λ b. b) result (flag_at self.old) self.old self.new }
+        ensures exact { ReadsBy (λ b. b) result (flag_at self.old) self.old self.new }
     {
         let Some((front, rest)) = self.bytes.split_first_chunk::<4>() else {
             return Err(Unreadable);
@@ -254,7 +254,7 @@ impl<'a> Cursor<'a> {
     #[tactic(auto, unfolding(crate::specs::Reading::opaque_at))]
     fn take_opaque(&mut self, limit: u32) -> Result<&'a [u8], Unreadable>
         ensures bytes { IsBytes self.old }
-        ensures exact { Gives (λ x. x.now) result (opaque_at limit self.old) self.old self.new }
+        ensures exact { ReadsBy (λ x. x.now) result (opaque_at limit self.old) self.old self.new }
     {
         let Some((front, rest)) = self.bytes.split_first_chunk::<4>() else {
             return Err(Unreadable);
@@ -272,7 +272,7 @@ impl<'a> Cursor<'a> {
     fn take_fixed<const N: usize>(&mut self) -> Result<[u8; N], Unreadable>
         requires { N < 2 ^ 32 }
         ensures bytes { IsBytes self.old }
-        ensures exact { Gives (λ x. x) result (fixed_at N self.old) self.old self.new }
+        ensures exact { ReadsBy (λ x. x) result (fixed_at N self.old) self.old self.new }
     {
         let (value, rest) = padded(self.bytes, N)?;
         let mut bytes = [0; N];
@@ -284,7 +284,7 @@ impl<'a> Cursor<'a> {
     fn take_pieces<const N: usize>(&mut self) -> Result<&'a [[u8; N]], Unreadable>
         requires { (0 < N) × (N < 2 ^ 16) }
         ensures bytes { IsBytes self.old }
-        ensures exact { Gives (λ x. x.now) result (pieces_at N self.old) self.old self.new }
+        ensures exact { ReadsBy (λ x. x.now) result (pieces_at N self.old) self.old self.new }
     {
         let (items, rest) = pieces_of::<N>(self.bytes)?;
         self.bytes = rest;

@@ -1,5 +1,5 @@
 ghost use Rattle.std.specs.Prelude.{◌≡◌, ◌+◌, ◌≤◌, ◌<◌, ◌^◌, ◌++◌, [], length, take, drop, IfOk, if◌then◌else◌};
-ghost use Rattle.nfs_xdr.specs.Paper.{HasRoom, Puts};
+ghost use Rattle.nfs_xdr.specs.SheetState.{HasRoom, Puts};
 ghost use Rattle.nfs_xdr.specs.Codec as codec;
 ghost use Rattle.nfs_xdr.specs.Time.{time};
 ghost use Rattle.nfs_xdr.specs.Spelling.{number, hyper, flag, fixed, opaque};
@@ -19,9 +19,9 @@ pub struct Sheet {
 
 impl Model for Sheet {
     ghost use Rattle.std.specs.Prelude.{◌≤◌, vec_len, vec_capacity};
-    ghost use Rattle.nfs_xdr.specs.Paper.{Paper};
+    ghost use Rattle.nfs_xdr.specs.SheetState.{SheetState};
 
-    ghost Value = { Paper };
+    ghost Value = { SheetState };
 
     ghost view = { λ a. record { bytes = a.buf.items; room = a.room } };
 

@@ -1,13 +1,13 @@
 ghost use Rattle.std.specs.Prelude.{◌≡◌};
 
-/// The caller of a call, as its credential tells (RFC 5531 section 10.1 and appendix A).
+/// The caller of a call, as its credential names it (RFC 5531 section 10.1 and appendix A).
 #[derive(Clone, Copy, Debug, PartialEq, Eq)]
 pub struct Who {
     /// The user.
     pub uid: u32,
     /// The user's first group.
     pub gid: u32,
-    /// How many of `gids` are told: at most 16.
+    /// How many of `gids` are named: at most 16.
     pub count: usize,
     /// Further groups of the user; those behind the first `count` say nothing.
     pub gids: [u32; 16],

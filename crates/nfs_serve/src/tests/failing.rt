@@ -40,7 +40,7 @@ fn output(alloc: Global) -> Result<Vec<u8>, AllocError> {
 fn reads_fail_in_turn(rt: HostRuntime) -> Result<(), Fail> {
     let script = script(rt.alloc())?;
     let output = output(rt.alloc())?;
-    // The script is 184 reads of one byte, and call 185 tells its end.
+    // The script is 184 reads of one byte, and call 185 meets its end.
     for fails in 1..=186 {
         let mut server = Server::new(rt.alloc(), SETTINGS, 7)?;
         let mut r = Host::new(Drip {

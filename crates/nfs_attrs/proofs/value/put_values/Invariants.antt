@@ -1,6 +1,6 @@
 use Rattle.std.proofs.Common.{take}
 use Rattle.std.specs.List.{flat_map}
-use Rattle.nfs_xdr.specs.Paper.{Puts}
+use Rattle.nfs_xdr.specs.SheetState.{Puts}
 use Rattle.nfs_attrs.specs.Value.{asked_at}
 use Rattle.nfs_attrs.proofs.value.put_values.Given as goal
 

@@ -1,6 +1,6 @@
 use Rattle.std.proofs.Common.{◌≡◌, ◌≤◌, ◌+◌, ◌%◌, ℕ, List, length, sym, subst, arith}
 use Rattle.nfs_xdr.specs.Spelling.{number, opaque}
-use Rattle.nfs_xdr.specs.Paper.{Puts}
+use Rattle.nfs_xdr.specs.SheetState.{Puts}
 use Rattle.nfs_xdr.proofs.Putting.{puts_then, length_number}
 use Rattle.nfs_attrs.specs.Attributes.{values}
 use Rattle.nfs_attrs.proofs.Room.{room_within}

@@ -1,5 +1,5 @@
 use Rattle.std.proofs.Common.{◌≡◌, ◌+◌, ◌++◌, ℕ, List, Bool, sym, ap, subst, arith}
-use Rattle.nfs_xdr.specs.Paper.{Puts, HasRoom}
+use Rattle.nfs_xdr.specs.SheetState.{Puts, HasRoom}
 use Rattle.nfs_xdr.specs.Spelling.{flag, opaque, padding}
 use Rattle.nfs_xdr.specs.declared.status.Status.TheVariants.{Nfs4Ok}
 use Rattle.nfs_xdr.proofs.Putting.{puts_then}
@@ -12,7 +12,7 @@ use Rattle.nfs_results.specs.Results.{head}
 use Rattle.nfs_results.proofs.Lengths.{length_head}
 use Rattle.nfs_tree.specs.Bytes.{part}
 use Rattle.nfs_names.specs.State.{state_of}
-use Rattle.nfs_names.proofs.Told.{room_then}
+use Rattle.nfs_names.proofs.Masks.{room_then}
 use Rattle.nfs_files.specs.Read.{bytes_of, was_read}
 use Rattle.nfs_files.proofs.ReadBytes.{eof_is, read_fits}
 use Rattle.nfs_files.proofs.bytes.put_bytes.Goals as goal

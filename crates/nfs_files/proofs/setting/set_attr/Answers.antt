@@ -6,7 +6,7 @@ use Rattle.nfs_results.specs.Result.{ResSetAttr}
 use Rattle.nfs_results.specs.Results.{refusal}
 use Rattle.nfs_xdr.specs.declared.status.Status.TheVariants.{Nfs4Ok}
 use Rattle.nfs_tree.specs.Files.{Files}
-use Rattle.nfs_attrs.specs.Mask.{mask_of, told}
+use Rattle.nfs_attrs.specs.Mask.{mask_of, trimmed_words}
 use Rattle.nfs_names.specs.State.{state_of, with_tree}
 use Rattle.nfs_names.specs.Outcome.{Outcome, is_delay, refuses, or_delay}
 use Rattle.nfs_names.specs.Faults.{status_of}
@@ -33,7 +33,8 @@ returns-in-Ok-change c =
     let did = done_by_tree t (is_some m.wanted.size) (tree_fault t n m.wanted m.wanted.size) tt c.in-Ok-change.field-0
     (with_set t n now m.wanted m.wanted.size) left c.in-Ok-change.ensures in
     let outcome : List ℕ → Files → Outcome = λ set t. record { result = ResSetAttr Nfs4Ok set; state = with_tree s t; context = x } in
-    ap (λ set. outcome set left) (c.attr_set.ensures ∙ ap told c.new-given.ensures) ∙ ap (outcome (told (mask_of a.obj_attributes.attrmask))) did.2
+    ap (λ set. outcome set left) (c.attr_set.ensures ∙ ap trimmed_words c.new-given.ensures)
+    ∙ ap (outcome (trimmed_words (mask_of a.obj_attributes.attrmask))) did.2
     ∙ sym (was_done (gives_size (wanted_of a.obj_attributes)) s x Op.SetAttr (set_attr s x now a) ∙ set_goes s x now a m v did.0)
 
 pub returns-in-Err-change : goal.returns-in-Err-change

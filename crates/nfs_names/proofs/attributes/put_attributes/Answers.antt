@@ -1,5 +1,5 @@
 use Rattle.std.proofs.Common.{◌≡◌, ◌≤◌, ◌+◌, ◌++◌, ◌∙◌, List, ℕ, length, sym, ap, subst, arith}
-use Rattle.nfs_xdr.specs.Paper.{Puts}
+use Rattle.nfs_xdr.specs.SheetState.{Puts}
 use Rattle.nfs_xdr.specs.declared.status.Status.TheVariants.{Nfs4Ok}
 use Rattle.nfs_xdr.proofs.Putting.{puts_then}
 use Rattle.nfs_compound.specs.declared.op_num.OpNum.TheVariants as Op
@@ -13,7 +13,7 @@ use Rattle.nfs_attrs.specs.Attributes as table
 use Rattle.nfs_attrs.proofs.Bounds.{attributes_within}
 use Rattle.nfs_names.specs.State.{state_of}
 use Rattle.nfs_names.specs.Attributes.{about, attributes_of}
-use Rattle.nfs_names.proofs.Told.{room_then, told_few, attributes_spelled}
+use Rattle.nfs_names.proofs.Masks.{room_then, at_most_three_words, attributes_spelled}
 use Rattle.nfs_names.proofs.attributes.put_attributes.Goals as goal
 
 pub write_done_head-requires : goal.write_done_head-requires
@@ -27,7 +27,7 @@ write_attrs-requires c =
     let few = attributes_within asked a o in
     let within : 8 + length (spell_attrs asked a o) ≤ 640 =
     subst (λ (text : List ℕ). 8 + length text ≤ 640) (sym (attributes_spelled asked a o))
-    (behind_within 0 (ResGetAttr (record { attrmask = _; attr_vals = _ })) tt (told_few asked table.readable, omega arith)) in
+    (behind_within 0 (ResGetAttr (record { attrmask = _; attr_vals = _ })) tt (at_most_three_words asked table.readable, omega arith)) in
     record {
       room = room_then c.args.out.now _ (head (op_number Op.GetAttr) Nfs4Ok)
           (spell_attrs asked a o) 640 c.write_done_head.ensures (omega (arith, length_head (op_number Op.GetAttr) Nfs4Ok)) c.requires;

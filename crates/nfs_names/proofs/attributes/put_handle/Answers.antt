@@ -1,5 +1,5 @@
 use Rattle.std.proofs.Common.{◌≤◌, ◌+◌, List, ℕ, length, sym, subst, arith}
-use Rattle.nfs_xdr.specs.Paper.{HasRoom}
+use Rattle.nfs_xdr.specs.SheetState.{HasRoom}
 use Rattle.nfs_xdr.specs.Spelling.{opaque}
 use Rattle.nfs_xdr.specs.declared.status.Status.TheVariants.{Nfs4Ok}
 use Rattle.nfs_compound.specs.declared.op_num.OpNum.TheVariants as Op
@@ -9,7 +9,7 @@ use Rattle.nfs_results.specs.Results.{head}
 use Rattle.nfs_results.proofs.Lengths.{length_head, behind_within}
 use Rattle.nfs_attrs.specs.Handle.{handle}
 use Rattle.nfs_attrs.proofs.Lengths.{length_handle}
-use Rattle.nfs_names.proofs.Told.{room_then}
+use Rattle.nfs_names.proofs.Masks.{room_then}
 use Rattle.nfs_names.proofs.attributes.put_handle.Goals as goal
 
 pub write_done_head-requires : goal.write_done_head-requires

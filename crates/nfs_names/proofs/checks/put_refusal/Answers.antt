@@ -1,7 +1,7 @@
 use Rattle.std.proofs.Common.{arith}
 use Rattle.nfs_xdr.specs.Spelling.{number}
 use Rattle.nfs_xdr.proofs.Putting.{length_number}
-use Rattle.nfs_names.proofs.Told.{room_then}
+use Rattle.nfs_names.proofs.Masks.{room_then}
 use Rattle.nfs_names.proofs.checks.put_refusal.Goals as goal
 
 pub put_u32-requires : goal.put_u32-requires

@@ -1,7 +1,7 @@
 use Rattle.std.proofs.Common.{◌≡◌, ◌+◌, length, refl, sym, ap, subst, arith, ◌∙◌}
 use Rattle.std.specs.List.{flat_map}
 use Rattle.std.proofs.lemmas.List.{length-append}
-use Rattle.nfs_xdr.specs.Paper.{Paper, Puts}
+use Rattle.nfs_xdr.specs.SheetState.{SheetState, Puts}
 use Rattle.nfs_xdr.specs.declared.status.Status.TheVariants.{TooSmall}
 use Rattle.nfs_compound.specs.NameArgs.{view_read_dir}
 use Rattle.nfs_results.specs.Results.{spell_result, refusal}
@@ -38,7 +38,7 @@ returns-then-len-before c =
     (read_dir_head zeros) text c.len-start.result c.write_read_dir_head.ensures put c.len-start.ensures.value in
     lists_some c.put_refusal.result TooSmall _ _ c.args.out.now c.put_refusal.new.out
     (too_small s a d c.if-not-whole.ensures.all none) c.put_refusal.ensures.status
-    (subst (λ (p : Paper). Puts p c.put_refusal.new.out (spell_result (refusal 26 TooSmall))) back c.put_refusal.ensures.put)
+    (subst (λ (p : SheetState). Puts p c.put_refusal.new.out (spell_result (refusal 26 TooSmall))) back c.put_refusal.ensures.put)
 
 pub write_list_end-requires : goal.write_list_end-requires
 write_list_end-requires c =

@@ -7,7 +7,7 @@ use Rattle.nfs_results.specs.Result.{ResReadLink}
 use Rattle.nfs_results.specs.Results.{head}
 use Rattle.nfs_results.proofs.Lengths.{length_head, behind_within}
 use Rattle.nfs_tree.specs.Bytes.{part}
-use Rattle.nfs_names.proofs.Told.{room_then, part_few}
+use Rattle.nfs_names.proofs.Masks.{room_then, part_few}
 use Rattle.nfs_names.proofs.listing.put_text.Goals as goal
 
 pub write_done_head-requires : goal.write_done_head-requires

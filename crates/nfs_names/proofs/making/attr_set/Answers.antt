@@ -1,5 +1,5 @@
-use Rattle.nfs_names.proofs.Told.{told_words}
+use Rattle.nfs_names.proofs.Masks.{three_words_trimmed}
 use Rattle.nfs_names.proofs.making.attr_set.Goals as goal
 
 pub returns : goal.returns
-returns c = told_words c.args.mask.now.words c.measure.ensures
+returns c = three_words_trimmed c.args.mask.now.words c.measure.ensures

@@ -10,7 +10,7 @@ use Rattle.nfs_tree.specs.Create as tree_create
 use Rattle.nfs_tree.specs.declared.sets.Sets.{Sets}
 use Rattle.nfs_tree.specs.declared.done.Created.{Created}
 use Rattle.nfs_attrs.specs.declared.mask.Mask.{Mask}
-use Rattle.nfs_attrs.specs.Mask.{mask_of, told}
+use Rattle.nfs_attrs.specs.Mask.{mask_of, trimmed_words}
 use Rattle.nfs_names.specs.declared.context.Context.{Context}
 use Rattle.nfs_names.specs.State.{state_of, with_tree}
 use Rattle.nfs_names.specs.Context.{at_object}
@@ -44,8 +44,8 @@ returns-in-Ok-create c =
     (record { number = t.last_object + 1; directory = raised t d }) made (with_new t d a.objname new sets now) left
     (subst (λ (k : Sets). DoesOrWants t true (tree_create.create t d a.objname new k now) (Ok made) left) same_sets by_new) in
     let outcome : CreateOk → Files → Context → Outcome = λ r t x. record { result = ResCreate r; state = with_tree s t; context = x } in
-    let told_ok : Created → CreateOk = λ k. record { cinfo = change_info k.directory; attrset = told (mask_of a.createattrs.attrmask) } in
-    let given : Mask → CreateOk = λ mask. record { cinfo = change_info made.directory; attrset = told mask } in
+    let told_ok : Created → CreateOk = λ k. record { cinfo = change_info k.directory; attrset = trimmed_words (mask_of a.createattrs.attrmask) } in
+    let given : Mask → CreateOk = λ mask. record { cinfo = change_info made.directory; attrset = trimmed_words mask } in
     ap (λ r. outcome r left c.go_to.new.self) (c.create_ok.ensures ∙ ap given c.new-given.ensures ∙ ap told_ok did.1)
     ∙ ap (λ t. outcome (told_ok (record { number = s.tree.last_object + 1; directory = raised s.tree d })) t c.go_to.new.self) did.2
     ∙ ap (outcome (told_ok (record { number = s.tree.last_object + 1; directory = raised s.tree d })) (with_new t d a.objname new sets now))

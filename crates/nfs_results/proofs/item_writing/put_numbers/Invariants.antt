@@ -1,5 +1,5 @@
 use Rattle.std.proofs.Common.{◌++◌, length, take}
-use Rattle.nfs_xdr.specs.Paper.{Puts}
+use Rattle.nfs_xdr.specs.SheetState.{Puts}
 use Rattle.nfs_xdr.specs.Spelling as spelling
 use Rattle.nfs_results.proofs.Numbers.{spelled}
 use Rattle.nfs_results.proofs.item_writing.put_numbers.Given as goal

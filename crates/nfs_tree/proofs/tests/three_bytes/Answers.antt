@@ -1,6 +1,6 @@
 use Rattle.std.proofs.Common.{◌≡◌, ℕ, ◌≤◌, ◌+◌, List, [], length, take, drop, arith}
 use Rattle.std.proofs.lemmas.List.{length-append, length-replicate, length-take}
-use Rattle.nfs_xdr.specs.Paper.{Paper, HasRoom}
+use Rattle.nfs_xdr.specs.SheetState.{SheetState, HasRoom}
 use Rattle.nfs_xdr.specs.Spelling.{opaque}
 use Rattle.nfs_xdr.proofs.Putting.{length_number}
 use Rattle.nfs_tree.specs.Files.{data_at}
@@ -10,7 +10,7 @@ use Rattle.nfs_tree.proofs.tests.three_bytes.Goals as goal
 length_opaque : (text : List ℕ) → length (opaque text) ≤ 7 + length text
 length_opaque text = simp (length_number, length-append, length-replicate) (omega arith)
 
-three_fit : (text : List ℕ) (s : Paper) → s ≡ record { bytes = []; room = 16 } → HasRoom s (opaque (take 3 text))
+three_fit : (text : List ℕ) (s : SheetState) → s ≡ record { bytes = []; room = 16 } → HasRoom s (opaque (take 3 text))
 three_fit text s is = rw is (omega (arith, length_opaque (take 3 text), length-take 3 text))
 
 pub read-requires : goal.read-requires

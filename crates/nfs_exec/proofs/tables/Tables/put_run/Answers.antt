@@ -3,7 +3,7 @@ use Rattle.nfs_results.specs.Result.{ResSequence}
 use Rattle.nfs_results.specs.declared.res.SequenceOk.{SequenceOk}
 use Rattle.nfs_results.specs.Results.{spell_result}
 use Rattle.std.proofs.Common.{ℕ, List, Option, ◌∙◌}
-use Rattle.nfs_xdr.specs.Paper.{Puts}
+use Rattle.nfs_xdr.specs.SheetState.{Puts}
 use Rattle.nfs_xdr.specs.declared.status.Status.TheVariants.{Nfs4Ok}
 use Rattle.nfs_results.specs.CompoundResult.{spell_compound_head}
 use Rattle.nfs_results.specs.OpenHead.{HeadsAt}

@@ -2,7 +2,7 @@ use Rattle.std.proofs.Common.{◌≡◌, max, None, sym, ap, subst, ◌∙◌, a
 use Rattle.nfs_rpc.proofs.Lengths.{length_refusal}
 use Rattle.nfs_rpc.specs.CallHead.{Accepted, Refused}
 use Rattle.nfs_rpc.specs.View as view
-use Rattle.nfs_xdr.specs.Paper.{Paper}
+use Rattle.nfs_xdr.specs.SheetState.{SheetState}
 use Rattle.nfs_rpc.specs.Reply.{spell_refusal}
 use Rattle.nfs_exec.specs.Expiry.{expired}
 use Rattle.nfs_exec.specs.View.{machine_of}
@@ -30,7 +30,7 @@ invariant_of-self-in-Err c =
     let front : length c.cut.new.self.bytes ≡ 8 = rw c.cut.ensures (length-take-le 8 c.self.inside.sheet.bytes c.self.invariant.0) in
     let long = ap length c.write_refusal.ensures.bytes ∙ length-append c.cut.new.self.bytes (spell_refusal c.in-Err.refusal) in (
       omega (arith, front, long),
-      c.write_refusal.ensures.room ∙ ap (λ (p : Paper). p.room) c.cut.ensures ∙ c.self.invariant.1,
+      c.write_refusal.ensures.room ∙ ap (λ (p : SheetState). p.room) c.cut.ensures ∙ c.self.invariant.1,
       latest_expired (machine_of c.self.inside.world) (machine_of c.expire.new.self) c.self.inside.moment c.max-self-inside.result c.expire.ensures
           (rw c.max-self-inside.ensures (omega arith)) c.self.invariant.2,
       rw c.max-self-inside.ensures (let before = c.self.invariant.3 in let now = c.requires in omega (arith, before, now)),

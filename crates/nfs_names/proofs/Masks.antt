@@ -1,17 +1,17 @@
--- What is told of masks, and room for what is put part by part.
+-- What is reported of masks, and room for what is put part by part.
 use Rattle.std.proofs.Common.{◌≡◌, ℕ, suc, inl, inr, ◌+◌, ◌≤◌, true, false, cond, List, [], ◌∷◌, length, get_or, drop, refl, ◌∙◌, ap, arith}
 use Rattle.std.specs.Prelude.{◌==◌, ◌&&◌}
 use Rattle.std.proofs.lemmas.Bool.{ne_eqb, and_right, cases_Bool}
 use Rattle.std.proofs.lemmas.List.{length-append, length-take}
 use Rattle.nfs_tree.specs.Files.{Files, data_at}
 use Rattle.nfs_tree.specs.Bytes.{part}
-use Rattle.nfs_xdr.specs.Paper.{Paper, HasRoom, Puts}
+use Rattle.nfs_xdr.specs.SheetState.{SheetState, HasRoom, Puts}
 use Rattle.nfs_results.specs.View.{before, trimmed}
 use Rattle.nfs_results.specs.Items.{attr_set, fattr}
 use Rattle.nfs_tree.specs.declared.object.Object.{Object}
 use Rattle.nfs_attrs.specs.declared.about.About.{About}
 use Rattle.nfs_attrs.specs.declared.mask.Mask.{Mask}
-use Rattle.nfs_attrs.specs.Mask.{before_zero, without_last_zeros, told, common}
+use Rattle.nfs_attrs.specs.Mask.{before_zero, without_last_zeros, trimmed_words, common}
 use Rattle.nfs_attrs.specs.Attributes.{readable, values, spell_attrs}
 
 same_before : (word : ℕ) (words : List ℕ) → before word words ≡ before_zero word words
@@ -26,15 +26,15 @@ same_trimmed [] = refl
 same_trimmed (word ∷ words) = same_before word (trimmed words) ∙ ap (before_zero word) (same_trimmed words)
 
 -- three words of a mask, as a result has them
-pub told_words : (words : List ℕ) → length words ≡ 3 → trimmed (get_or words 0 0 ∷ get_or words 1 0 ∷ get_or words 2 0 ∷ []) ≡ without_last_zeros words
-told_words [] e = absurd cc
-told_words (a ∷ []) e = absurd (omega arith)
-told_words (a ∷ b ∷ []) e = absurd (omega arith)
-told_words (a ∷ b ∷ c ∷ []) e = same_trimmed (a ∷ b ∷ c ∷ [])
-told_words (a ∷ b ∷ c ∷ d ∷ more) e = absurd (omega arith)
+pub three_words_trimmed : (words : List ℕ) → length words ≡ 3 → trimmed (get_or words 0 0 ∷ get_or words 1 0 ∷ get_or words 2 0 ∷ []) ≡ without_last_zeros words
+three_words_trimmed [] e = absurd cc
+three_words_trimmed (a ∷ []) e = absurd (omega arith)
+three_words_trimmed (a ∷ b ∷ []) e = absurd (omega arith)
+three_words_trimmed (a ∷ b ∷ c ∷ []) e = same_trimmed (a ∷ b ∷ c ∷ [])
+three_words_trimmed (a ∷ b ∷ c ∷ d ∷ more) e = absurd (omega arith)
 
 -- room for the next part
-pub room_then : (old mid : Paper) (a b : List ℕ) (n : ℕ) → Puts old mid a → length a + length b ≤ n → length old.bytes + n ≤ old.room → HasRoom mid b
+pub room_then : (old mid : SheetState) (a b : List ℕ) (n : ℕ) → Puts old mid a → length a + length b ≤ n → length old.bytes + n ≤ old.room → HasRoom mid b
 room_then old mid a b n put short room = omega (arith, put.room, ap length put.bytes ∙ length-append old.bytes a)
 
 fewer : (word : ℕ) (words : List ℕ) (n : ℕ) → length words ≤ n → length (before_zero word words) ≤ suc n
@@ -44,13 +44,13 @@ pub few_words : (words : List ℕ) → length (without_last_zeros words) ≤ len
 few_words [] = omega arith
 few_words (word ∷ words) = fewer word (without_last_zeros words) (length words) (few_words words)
 
--- a mask that is told has at most three words
-pub told_few : (a b : Mask) → length (told (common a b)) ≤ 3
-told_few a b = few_words (common a b).words
+-- a mask that is reported has at most three words
+pub at_most_three_words : (a b : Mask) → length (trimmed_words (common a b)) ≤ 3
+at_most_three_words a b = few_words (common a b).words
 
 -- attributes are spelled like those of a result
 pub attributes_spelled : (asked : Mask) (a : About) (o : Object)
-    → spell_attrs asked a o ≡ fattr.spell (record { attrmask = told (common asked readable); attr_vals = values asked a o })
+    → spell_attrs asked a o ≡ fattr.spell (record { attrmask = trimmed_words (common asked readable); attr_vals = values asked a o })
 unfolding fattr attr_set
 attributes_spelled asked a o = refl
 
