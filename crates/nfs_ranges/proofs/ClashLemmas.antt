@@ -1,8 +1,8 @@
 -- What is told is the first interval that clashes, of the owner that comes first.
 use Rattle.std.proofs.Common.{◌≡◌, ◌≢◌, ℕ, zero, suc, ◌<◌, ◌≤◌, ◌^◌, max, Bool, true, false, cond, eqb, leb, ◌&&◌, List, [], ◌∷◌, drop, length, get_or, Option}
-use Rattle.std.proofs.Common.{Some, None, refl, sym, ◌∙◌, ap, subst, arith, inl, inr}
+use Rattle.std.proofs.Common.{◌++◌, Some, None, refl, sym, ◌∙◌, ap, subst, arith, inl, inr}
 use Rattle.std.proofs.Math.Path.{fun_ext}
-use Rattle.std.specs.Prelude.{find, not, option_map}
+use Rattle.std.specs.Prelude.{All, find, not, option_map}
 use Rattle.std.proofs.lemmas.Bool.{cases_lt, cases_Bool, and_parts, and_cases, and_left, and_right, leb-true, and_from, cases_eq, ltb-true, lt-ltb, le-ltb}
 use Rattle.std.proofs.lemmas.Bool.{le-leb, lt-leb, eq-eqb, ne_eqb}
 use Rattle.nfs_ranges.specs.declared.Kind.{Kind}
@@ -11,7 +11,7 @@ use Rattle.nfs_ranges.specs.declared.Held.{Held}
 use Rattle.nfs_ranges.specs.Intervals.{kind_at, AreFrom, IsCanonical}
 use Rattle.nfs_ranges.specs.Edits.{lead, ends_before}
 use Rattle.nfs_ranges.specs.Holders.{Holders, Owned, LockedBytes, at, nobody}
-use Rattle.nfs_ranges.specs.Owners.{AreRising, AreKept}
+use Rattle.nfs_ranges.specs.Owners.{AreOwners, AreCanonical}
 use Rattle.nfs_ranges.specs.Clashes.{hits, held_by, clash_of, sooner, tell}
 use Rattle.nfs_ranges.specs.Told.{meets, clashes, IsTold, Tells}
 use Rattle.nfs_ranges.proofs.CanonicalLemmas.{none_below, ends_there, at_above, at_within}
@@ -57,13 +57,37 @@ find_skips k first last (x ∷ xs) = elim (cases_Bool (ends_before first x)) [
   | inr e ↦ rw e refl
 ]
 
-pub each_canonical : (os : LockedBytes) (i : ℕ) (o : Owned) → AreKept os → i < length os → o ≡ get_or os i o → IsCanonical o.intervals
-each_canonical os i o are lt e = rw e (go 0 os i are.from lt)
-  where
-    go : (low : ℕ) (os : LockedBytes) (i : ℕ) → AreRising low os → i < length os → IsCanonical (get_or os i o).intervals
-    go low [] i are lt = absurd (omega arith)
-    go low (p ∷ ps) zero are lt = are.1
-    go low (p ∷ ps) (suc i) are lt = go (suc p.number) ps i are.2 (omega arith)
+-- a part of the owners, each canonical
+abbrev pub AreEach : LockedBytes → Type 0
+AreEach = All (λ o. IsCanonical o.intervals)
+
+pub each_canonical : (os : LockedBytes) (i : ℕ) (o : Owned) → AreEach os → i < length os → o ≡ get_or os i o → IsCanonical o.intervals
+each_canonical os i o are lt e = rw e (are i o lt)
+
+all_canonical : (low : ℕ) (os : LockedBytes) → AreOwners low os → AreEach os
+all_canonical low [] are k d lt = absurd (omega arith)
+all_canonical low (o ∷ os) are zero d lt = are.2
+all_canonical low (o ∷ os) are (suc k) d lt = all_canonical (suc o.number) os are.3 k d (omega arith)
+
+each_of_front : (os ps : LockedBytes) → AreEach (os ++ ps) → AreEach os
+each_of_front [] ps are k d lt = absurd (omega arith)
+each_of_front (o ∷ os) ps are zero d lt = are 0 d (omega arith)
+each_of_front (o ∷ os) ps are (suc k) d lt = each_of_front os ps (λ j e l. are (suc j) e (omega arith)) k d (omega arith)
+
+each_of_back : (os ps : LockedBytes) → AreEach (os ++ ps) → AreEach ps
+each_of_back [] ps are = are
+each_of_back (o ∷ os) ps are = each_of_back os ps (λ j e l. are (suc j) e (omega arith))
+
+pub front_canonical : (os ps qs : LockedBytes) → os ++ ps ≡ qs → AreCanonical qs → AreEach os
+front_canonical os ps qs e are = each_of_front os ps (rw e (all_canonical 0 qs are.from))
+
+pub back_canonical : (os ps qs : LockedBytes) → os ++ ps ≡ qs → AreCanonical qs → AreEach ps
+back_canonical os ps qs e are = each_of_back os ps (rw e (all_canonical 0 qs are.from))
+
+pub tell-append : (s : ℕ) (k : Kind) (first last : ℕ) (best : Option Held) (os ps : LockedBytes) → tell s k first last best (os ++ ps) ≡
+    tell s k first last (tell s k first last best os) ps
+tell-append s k first last best [] ps = refl
+tell-append s k first last best (o ∷ os) ps = tell-append s k first last (sooner first best (clash_of s k first last o)) os ps
 
 -- the first interval of one list that clashes
 record IsHit (k : Kind) (first last : ℕ) (xs : List Interval) (x : Interval) : Type 0 where
@@ -288,7 +312,7 @@ sooner_told f g n s k first last (Some r) (Some q) are a b = elim (cases_lt (max
 ]
 
 -- one owner more
-more : (f : Holders) (o : Owned) (os : LockedBytes) → AreRising (suc o.number) os → (t b : ℕ) → both (both f (at (o ∷ []))) (at os) t b ≡
+more : (f : Holders) (o : Owned) (os : LockedBytes) → AreOwners (suc o.number) os → (t b : ℕ) → both (both f (at (o ∷ []))) (at os) t b ≡
     both f (at (o ∷ os)) t b
 more f o os are t b = elim (cases_eq o.number t) [
   | inl same ↦ (
@@ -303,7 +327,7 @@ more f o os are t b = elim (cases_eq o.number t) [
 ]
 
 tell_is : (f : Holders) (low s : ℕ) (k : Kind) (first last : ℕ) (best : Option Held) (os : LockedBytes) → first ≤ last → ((t b : ℕ) → low ≤ t → f t b ≡ None) →
-    AreRising low os → ToldAt f s k first last best → ToldAt (both f (at os)) s k first last (tell s k first last best os)
+    AreOwners low os → ToldAt f s k first last best → ToldAt (both f (at os)) s k first last (tell s k first last best os)
 tell_is f low s k first last best [] le below are told =
     let same : both f (at []) ≡ f = fun_ext (λ t. fun_ext (λ b. or_none (f t b))) in
     subst (λ u. ToldAt u s k first last best) (sym same) told
@@ -311,17 +335,17 @@ tell_is f low s k first last best (o ∷ os) le below are told =
     let lo = are.0 in
     let apart : AreApart f (at (o ∷ [])) o.number =
     record { below = λ t b ge. below t b (omega arith); only = λ t b lt. not_own o t b (λ same. omega arith) } in
-    let step = sooner_told f (at (o ∷ [])) o.number s k first last best (clash_of s k first last o) apart told (one_told s k first last o le are.1) in
+    let step = sooner_told f (at (o ∷ [])) o.number s k first last best (clash_of s k first last o) apart told (one_told s k first last o le are.2) in
     let rest = tell_is (both f (at (o ∷ []))) (suc o.number) s k first last (sooner first best (clash_of s k first last o)) os le
-    (λ t b ge. ap (λ x. or_else x (at (o ∷ []) t b)) (below t b (omega arith)) ∙ not_own o t b (λ same. omega arith)) are.2 step in
-    let same : both (both f (at (o ∷ []))) (at os) ≡ both f (at (o ∷ os)) = fun_ext (λ t. fun_ext (λ b. more f o os are.2 t b)) in
+    (λ t b ge. ap (λ x. or_else x (at (o ∷ []) t b)) (below t b (omega arith)) ∙ not_own o t b (λ same. omega arith)) are.3 step in
+    let same : both (both f (at (o ∷ []))) (at os) ≡ both f (at (o ∷ os)) = fun_ext (λ t. fun_ext (λ b. more f o os are.3 t b)) in
     subst (λ u. ToldAt u s k first last (tell s k first last (sooner first best (clash_of s k first last o)) os)) same rest
 
 tells_from : (f : Holders) (s : ℕ) (k : Kind) (first last : ℕ) (r : Option Held) → ToldAt f s k first last r → Tells f s k first last r
 tells_from f s k first last None told = told
 tells_from f s k first last (Some h) told = (max h.first first, told)
 
-pub tells : (os : LockedBytes) (s : ℕ) (k : Kind) (first last : ℕ) → first ≤ last → AreKept os → Tells (at os) s k first last (tell s k first last None os)
+pub tells : (os : LockedBytes) (s : ℕ) (k : Kind) (first last : ℕ) → first ≤ last → AreCanonical os → Tells (at os) s k first last (tell s k first last None os)
 tells os s k first last le are =
     tells_from (at os) s k first last (tell s k first last None os)
     (tell_is nobody 0 s k first last None os le (λ t b ge. refl) are.from (λ b t lo hi. and_right (not (eqb t s)) (meets k None) refl))

@@ -2,7 +2,6 @@ pub mod AnswerLemmas
 pub mod CanonicalLemmas
 pub mod ClashLemmas
 pub mod EditLemmas
-pub mod KeptLemmas
 pub mod KindLemmas
 pub mod LayLemmas
 pub mod OwnerLemmas

@@ -1,6 +1,6 @@
 -- The owners of a list, in rising order of their numbers.
-use Rattle.std.specs.Prelude.{◌≡◌, ℕ, suc, ◌<◌, ◌≤◌, ◌==◌, nat_lt, Bool, true, false, not, if◌then◌else◌, List, [], ◌∷◌, ◌++◌, take, drop, length}
-use Rattle.std.specs.Prelude.{slice_index_or, filter, Option, Some, None}
+use Rattle.std.specs.Prelude.{◌≡◌, ℕ, suc, ◌<◌, ◌≤◌, ◌==◌, nat_lt, Bool, true, false, if◌then◌else◌, List, [], ◌∷◌, ◌++◌, take, drop, length}
+use Rattle.std.specs.Prelude.{slice_index_or, Option, Some, None}
 use Rattle.nfs_ranges.specs.declared.interval.Interval.{Interval}
 use Rattle.nfs_ranges.specs.Intervals.{IsCanonical}
 use Rattle.nfs_ranges.specs.Holders.{Owned, LockedBytes, bytes_of}
@@ -16,19 +16,6 @@ AreOwners low (o ∷ os) = (low ≤ o.number) × (is_empty o.intervals ≡ false
 
 pub record AreCanonical (os : LockedBytes) : Type 0 where
   pub from : AreOwners 0 os
-
--- the entries of those that hold something
-abbrev pub that_hold : LockedBytes → LockedBytes
-that_hold os = filter (λ o. not (is_empty o.intervals)) os
-
--- entries from number low on, of which some hold nothing
-abbrev pub AreRising : ℕ → LockedBytes → Type 0
-AreRising low [] = Unit {0}
-AreRising low (o ∷ os) = (low ≤ o.number) × IsCanonical o.intervals × AreRising (suc o.number) os
-
-pub record AreKept (os : LockedBytes) : Type 0 where
-  pub from : AreRising 0 os
-  pub canonical : AreCanonical (that_hold os)
 
 -- one owner's entry, if it holds anything
 abbrev pub entry : ℕ → List Interval → LockedBytes

@@ -1,29 +1,29 @@
-//! The lock states of a file, in rising order of their numbers.
-//!
-//! One that gives up its last byte keeps its entry for its next lock, which then moves no other, until such entries are
-//! more than half of all.
+//! The lock states of a file that hold a byte, in rising order of their numbers.
 
-ghost use Rattle.std.specs.Prelude.{◌≡◌, ◌<◌, ◌≤◌, OnOk, OnErr, find, None, MatchResult, [], drop, vec_len, slice_set, slice_index_or};
+ghost use Rattle.std.specs.Prelude.{◌≡◌, ◌<◌, ◌≤◌, All, OnOk, OnErr, find, None, MatchResult, [], drop};
 ghost use Rattle.std.specs.Bool.{OnTrue};
 ghost use Rattle.nfs_ranges.specs.Intervals.{IsCanonical, without, with_range};
 ghost use Rattle.nfs_ranges.specs.Clashes.{hits, clash_of, sooner, tell};
 ghost use Rattle.nfs_ranges.specs.declared.Kind.{Kind};
 ghost use Rattle.nfs_ranges.specs.Edits.{lead, head};
 ghost use Rattle.nfs_ranges.specs.Holders.{Owned, bytes_of};
-ghost use Rattle.nfs_ranges.specs.Owners.{AreKept, IsFound, IsAbsent, is_lower, is_number, is_empty, that_hold, with_owner};
+ghost use Rattle.nfs_ranges.specs.Owners.{AreCanonical, IsFound, IsAbsent, is_lower, is_number, is_empty, with_owner};
 
 use super::interval::Interval;
 use super::{Held, Kind, edits};
 use std::alloc::{AllocError, Global};
+use std::collections::VecDeque;
 use std::marker::Model;
 
 /// The bytes that one lock state holds, all of them from `first` to `last`.
+///
+/// Entries are walked over and moved, so each is kept short: its intervals stand in a box.
 #[derive(Drop)]
 pub(super) struct Owner {
     number: u64,
-    intervals: Vec<Interval>,
     first: u64,
     last: u64,
+    intervals: Box<Vec<Interval>>,
 }
 
 impl Model for Owner {
@@ -32,9 +32,9 @@ impl Model for Owner {
 
     ghost Value = { Owned };
 
-    ghost view = { λ o. record { number = o.number; intervals = o.intervals.items } };
+    ghost view = { λ o. record { number = o.number; intervals = o.intervals.value.items } };
 
-    ghost invariant = { λ o. IsSpan o.first o.last o.intervals.items };
+    ghost invariant = { λ o. IsSpan o.first o.last o.intervals.value.items };
 }
 
 impl Owner {
@@ -92,7 +92,7 @@ impl Owner {
         requires { IsCanonical self.now.intervals }
         ensures { result ≡ clash_of number kind first last self.now }
     {
-        if self.number == number || self.lies_apart(first, last) {
+        if self.lies_apart(first, last) || self.number == number {
             return None;
         }
         let x = edits::first_hit(&self.intervals, kind, first, last)?;
@@ -118,18 +118,19 @@ fn sooner(first: u64, best: Option<Held>, next: Option<Held>) -> Option<Held>
     }
 }
 
-/// What is told of a wish to lock the range.
-pub(super) fn first_clash(
+/// What is told of a wish to lock the range, where `before` is told of the owners before these.
+fn clash_behind(
+    before: Option<Held>,
     owners: &[Owner],
     number: u64,
     kind: Kind,
     first: u64,
     last: u64,
 ) -> Option<Held>
-    requires { AreKept owners.now }
-    ensures { result ≡ tell number kind first last None owners.now }
+    requires { All (λ o. IsCanonical o.intervals) owners.now }
+    ensures { result ≡ tell number kind first last before owners.now }
 {
-    let mut best: Option<Held> = None;
+    let mut best = before;
     for o in owners {
         // most owners lie apart from the range: only what clashes is copied
         if let Some(c) = o.clash(number, kind, first, last) {
@@ -139,25 +140,41 @@ pub(super) fn first_clash(
     best
 }
 
+/// What is told of a wish to lock the range.
+pub(super) fn first_clash(
+    owners: &VecDeque<Owner>,
+    number: u64,
+    kind: Kind,
+    first: u64,
+    last: u64,
+) -> Option<Held>
+    requires { AreCanonical owners.now.items }
+    ensures { result ≡ tell number kind first last None owners.now.items }
+{
+    let (front, back) = owners.as_slices();
+    let before = clash_behind(None, front, number, kind, first, last);
+    clash_behind(before, back, number, kind, first, last)
+}
+
 /// The place of the first owner whose number is not lower.
-fn place_of(owners: &[Owner], number: u64) -> usize
-    requires { AreKept owners.now }
-    ensures { result ≡ lead (is_lower number) owners.now }
+fn place_of(owners: &VecDeque<Owner>, number: u64) -> usize
+    requires { AreCanonical owners.now.items }
+    ensures { result ≡ lead (is_lower number) owners.now.items }
 {
     owners.partition_point(|o| o.is_below(number))
 }
 
 /// The owner stands at the place.
-fn is_at(owners: &[Owner], place: usize, number: u64) -> bool
-    ensures { result ≡ is_number number (head (drop place owners.now)) }
+fn is_at(owners: &VecDeque<Owner>, place: usize, number: u64) -> bool
+    ensures { result ≡ is_number number (head (drop place owners.now.items)) }
 {
     owners.get(place).is_some_and(|o| o.number == number)
 }
 
 /// The place of the owner, or where it would stand.
-fn find(owners: &[Owner], number: u64) -> Result<usize, usize>
-    requires { AreKept owners.now }
-    ensures { MatchResult result (λ i. IsFound number owners.now i) (λ i. IsAbsent number owners.now i) }
+fn find(owners: &VecDeque<Owner>, number: u64) -> Result<usize, usize>
+    requires { AreCanonical owners.now.items }
+    ensures { MatchResult result (λ i. IsFound number owners.now.items i) (λ i. IsAbsent number owners.now.items i) }
 {
     let place = place_of(owners, number);
     if is_at(owners, place, number) {
@@ -168,9 +185,9 @@ fn find(owners: &[Owner], number: u64) -> Result<usize, usize>
 }
 
 /// The intervals of an owner.
-pub(super) fn bytes_of(owners: &[Owner], number: u64) -> &[Interval]
-    requires { AreKept owners.now }
-    ensures { result.now ≡ bytes_of owners.now number }
+pub(super) fn bytes_of(owners: &VecDeque<Owner>, number: u64) -> &[Interval]
+    requires { AreCanonical owners.now.items }
+    ensures { result.now ≡ bytes_of owners.now.items number }
 {
     match find(owners, number) {
         Ok(place) => owners[place].intervals(),
@@ -182,7 +199,7 @@ pub(super) fn bytes_of(owners: &[Owner], number: u64) -> &[Interval]
 ///
 /// `Err`: no memory, and nothing has changed.
 pub(super) fn set(
-    owners: &mut Vec<Owner>,
+    owners: &mut VecDeque<Owner>,
     alloc: Global,
     number: u64,
     kind: Kind,
@@ -190,7 +207,7 @@ pub(super) fn set(
     last: u64,
 ) -> Result<(), AllocError>
     requires range { first ≤ last }
-    requires owners { AreKept owners.old.items }
+    requires owners { AreCanonical owners.old.items }
     ensures ok { OnOk result (owners.new.items ≡ with_owner number (with_range (record { kind = kind; first = first; last = last }) (bytes_of owners.old.items number)) owners.old.items) }
     ensures err { OnErr result (owners.new.items ≡ owners.old.items) }
 {
@@ -201,9 +218,9 @@ pub(super) fn set(
             intervals.push(Interval { kind, first, last })?;
             let owner = Owner {
                 number,
-                intervals,
                 first,
                 last,
+                intervals: Box::new(alloc, intervals)?,
             };
             owners.insert(place, owner)?;
             Ok(())
@@ -211,65 +228,32 @@ pub(super) fn set(
     }
 }
 
-/// The owner holds none of the bytes from `first` to `last` from now on; whether it has an entry that holds nothing.
-///
-/// `Err`: no memory, and nothing has changed.
-fn clear_in_place(
-    owners: &mut Vec<Owner>,
-    number: u64,
-    first: u64,
-    last: u64,
-) -> Result<bool, AllocError>
-    requires range { first ≤ last }
-    requires owners { AreKept owners.old.items }
-    ensures kept { AreKept owners.new.items }
-    ensures ok { OnOk result (that_hold owners.new.items ≡ that_hold (with_owner number (without first last (bytes_of owners.old.items number)) owners.old.items)) }
-    ensures err { OnErr result (owners.new.items ≡ owners.old.items) }
-{
-    let Ok(place) = find(owners, number) else {
-        return Ok(false);
-    };
-    owners[place].clear(first, last)?;
-    Ok(owners[place].is_empty())
-}
-
-/// Takes out the entries that hold nothing.
-fn sweep(owners: &mut Vec<Owner>)
-    ensures { owners.new.items ≡ that_hold owners.old.items }
-{
-    owners.retain(|o| !o.is_empty());
-}
-
-/// The owner holds none of the bytes from `first` to `last` from now on. `emptied` counts the entries that came to hold
-/// nothing since those were taken out.
+/// The owner holds none of the bytes from `first` to `last` from now on; with its last byte its entry goes.
 ///
 /// `Err`: no memory, and nothing has changed.
 pub(super) fn clear(
-    owners: &mut Vec<Owner>,
-    emptied: &mut usize,
+    owners: &mut VecDeque<Owner>,
     number: u64,
     first: u64,
     last: u64,
 ) -> Result<(), AllocError>
     requires range { first ≤ last }
-    requires owners { AreKept owners.old.items }
-    ensures kept { AreKept owners.new.items }
-    ensures ok { OnOk result (that_hold owners.new.items ≡ that_hold (with_owner number (without first last (bytes_of owners.old.items number)) owners.old.items)) }
+    requires owners { AreCanonical owners.old.items }
+    ensures ok { OnOk result (owners.new.items ≡ with_owner number (without first last (bytes_of owners.old.items number)) owners.old.items) }
     ensures err { OnErr result (owners.new.items ≡ owners.old.items) }
 {
-    if clear_in_place(owners, number, first, last)? {
-        *emptied = emptied.saturating_add(1);
-        if *emptied > owners.len() / 2 {
-            sweep(owners);
-            *emptied = 0;
+    if let Ok(place) = find(owners, number) {
+        owners[place].clear(first, last)?;
+        if owners[place].is_empty() {
+            owners.remove(place);
         }
     }
     Ok(())
 }
 
 /// The owner holds nothing from now on.
-pub(super) fn drop_owner(owners: &mut Vec<Owner>, number: u64)
-    requires { AreKept owners.old.items }
+pub(super) fn drop_owner(owners: &mut VecDeque<Owner>, number: u64)
+    requires { AreCanonical owners.old.items }
     ensures { owners.new.items ≡ with_owner number [] owners.old.items }
 {
     if let Ok(place) = find(owners, number) {
