@@ -22,7 +22,7 @@ use Rattle.nfs_names.specs.State.{State}
 use Rattle.nfs_names.specs.Outcome.{checked}
 use Rattle.nfs_names.specs.Checks.{current}
 use Rattle.nfs_names.proofs.Found.{current_is, checked_ok}
-use Rattle.nfs_files.specs.Bytes.{file_checks, may_read, readable}
+use Rattle.nfs_files.specs.Bytes.{file_checks, reading, may_use, readable}
 use Rattle.nfs_files.specs.Read.{bytes_of, was_read}
 use Rattle.nfs_files.proofs.Passing.{if_passed_ok}
 
@@ -68,7 +68,7 @@ read_within s r d = behind_within r.count (ResRead (was_read s r d)) tt (few_giv
 pub readable_is : (s : State) (x : Context) (r : Read) (d : Held) → readable s x r.stateid (current s x) ≡ Ok d → object_at s.tree d.number ≡ Some d.object
 unfolding readable
 readable_is s x r d e =
-    let found = checked_ok (current s x) file_checks d (if_passed_ok (checked (current s x) file_checks) (may_read s x r.stateid) d e).0 in
+    let found = checked_ok (current s x) file_checks d (if_passed_ok (checked (current s x) file_checks) (may_use s x reading r.stateid) d e).0 in
     (current_is s x d found.0).object
 
 -- the same as the code says it

@@ -12,6 +12,7 @@ use Rattle.nfs_opens.specs.declared.judging.Seat.{Seat}
 use Rattle.nfs_opens.specs.declared.judging.Seat.TheVariants.{Anonymous, ReadBypass, Open, Lock}
 use Rattle.nfs_opens.specs.declared.judging.Sort.{Sort}
 use Rattle.nfs_opens.specs.declared.judging.Sort.TheVariants.{OpenOnly, LockOnly, Either}
+use Rattle.nfs_opens.specs.declared.share.Share.{Share}
 use Rattle.nfs_opens.specs.StateId.{is_current, with_seqid, is_anonymous, is_bypass}
 use Rattle.nfs_opens.specs.Table.{Table}
 use Rattle.nfs_opens.specs.Judging.{judge_checks, seated, judge_named, special, judge, named}
@@ -21,7 +22,7 @@ use Rattle.nfs_names.specs.State.{State}
 use Rattle.nfs_names.specs.Outcome.{passed, checked}
 use Rattle.nfs_names.proofs.Refusing.{Refuses, all_refuse, err_refuses, ok_refuses, refuses_checked}
 use Rattle.nfs_files.specs.StateIds.{state_id, meant}
-use Rattle.nfs_files.specs.Bytes.{file_checks, seat_of, seat, read_checks, write_checks, may_read, may_write, readable, writable}
+use Rattle.nfs_files.specs.Bytes.{file_checks, seat_of, seat, reading, writing, seat_checks, may_use, readable, writable}
 use Rattle.nfs_files.proofs.Passing.{if_passed_refuses}
 
 pub bad : {A : Type 0} → Refuses {A = A} (Err S.BadStateId)
@@ -65,21 +66,11 @@ pub seat_refuses : (s : State) (x : Context) (given : Stateid) (d : Held) → Re
 unfolding seat
 seat_refuses s x given d = seat_of_refuses s x d (meant x Any given) (meant_refuses x Any given)
 
-pub may_read_refuses : (s : State) (x : Context) (given : Stateid) (d : Held) → Refuses (may_read s x given d)
-unfolding may_read
-may_read_refuses s x given d = refuses_checked (seat s x given d) (read_checks s x d) (seat_refuses s x given d) each
+pub may_use_refuses : (s : State) (x : Context) (wanted : Share) (given : Stateid) (d : Held) → Refuses (may_use s x wanted given d)
+unfolding may_use
+may_use_refuses s x wanted given d = refuses_checked (seat s x given d) (seat_checks s x wanted d) (seat_refuses s x given d) each
   where
-    each : (k : Seat) → all_refuse (read_checks s x d k) ≡ true
-    each Anonymous = refl
-    each ReadBypass = refl
-    each (Open number access) = refl
-    each (Lock number access) = refl
-
-pub may_write_refuses : (s : State) (x : Context) (given : Stateid) (d : Held) → Refuses (may_write s x given d)
-unfolding may_write
-may_write_refuses s x given d = refuses_checked (seat s x given d) (write_checks s x d) (seat_refuses s x given d) each
-  where
-    each : (k : Seat) → all_refuse (write_checks s x d k) ≡ true
+    each : (k : Seat) → all_refuse (seat_checks s x wanted d k) ≡ true
     each Anonymous = refl
     each ReadBypass = refl
     each (Open number access) = refl
@@ -88,9 +79,9 @@ may_write_refuses s x given d = refuses_checked (seat s x given d) (write_checks
 pub readable_refuses : (s : State) (x : Context) (given : Stateid) (v : Result Held Status) → Refuses v → Refuses (readable s x given v)
 unfolding readable
 readable_refuses s x given v h =
-    if_passed_refuses (checked v file_checks) (may_read s x given) (refuses_checked v file_checks h (λ d. refl)) (may_read_refuses s x given)
+    if_passed_refuses (checked v file_checks) (may_use s x reading given) (refuses_checked v file_checks h (λ d. refl)) (may_use_refuses s x reading given)
 
 pub writable_refuses : (s : State) (x : Context) (given : Stateid) (v : Result Held Status) → Refuses v → Refuses (writable s x given v)
 unfolding writable
 writable_refuses s x given v h =
-    if_passed_refuses (checked v file_checks) (may_write s x given) (refuses_checked v file_checks h (λ d. refl)) (may_write_refuses s x given)
+    if_passed_refuses (checked v file_checks) (may_use s x writing given) (refuses_checked v file_checks h (λ d. refl)) (may_use_refuses s x writing given)

@@ -32,7 +32,7 @@ use Rattle.nfs_names.proofs.Found.{IsHeld, current_is, checked_ok}
 use Rattle.nfs_names.proofs.Rows.{fault_map}
 use Rattle.nfs_names.proofs.Faulted.{by_last, by_refusal}
 use Rattle.nfs_files.specs.declared.setting.Setting.{Setting}
-use Rattle.nfs_files.specs.Bytes.{file_checks, may_write, writable}
+use Rattle.nfs_files.specs.Bytes.{file_checks, writing, may_use, writable}
 use Rattle.nfs_files.specs.SetAttr as of_set
 use Rattle.nfs_files.specs.SetAttr.{with_wanted, owner_checks, sized, sized_by, asked_for, gives_some, last_checks, was_set, set_attr}
 use Rattle.nfs_files.specs.SetAttrParts.{tree_fault}
@@ -57,7 +57,7 @@ file_regular t d is e =
 pub writable_ok : (s : State) (x : Context) (given : Stateid) (v : Result Held Status) (d : Held)
     → writable s x given v ≡ Ok d → (v ≡ Ok d) × (first_fault (file_checks d) ≡ None)
 unfolding writable
-writable_ok s x given v d e = checked_ok v file_checks d (if_passed_ok (checked v file_checks) (may_write s x given) d e).0
+writable_ok s x given v d e = checked_ok v file_checks d (if_passed_ok (checked v file_checks) (may_use s x writing given) d e).0
 
 -- the rows of the tree's checks, by whether a size is given
 sized_rows : (s : State) (d : Held) (w : Wanted) (size : ℕ) → IsHeld s.tree d

@@ -1,5 +1,5 @@
 -- Whether bytes of a file may be read or changed by a stateid (RFC 8881 sections 8.2.3, 9.1.2 and 9.7).
-use Rattle.std.specs.Prelude.{◌==◌, ◌&&◌, Bool, not, List, [], ◌∷◌, Some, Result, Ok, Err}
+use Rattle.std.specs.Prelude.{◌==◌, ◌&&◌, Bool, true, false, not, List, [], ◌∷◌, Some, Result, Ok, Err}
 use Rattle.std.specs.List.{list_any}
 use Rattle.nfs_xdr.specs.declared.status.Status.{Status}
 use Rattle.nfs_xdr.specs.declared.status.Status.TheVariants.{IsDir, Symlink, Locked, OpenMode}
@@ -10,8 +10,10 @@ use Rattle.nfs_opens.specs.declared.stateid.CurrentSeqid.TheVariants.{Any}
 use Rattle.nfs_opens.specs.declared.judging.Seat.{Seat}
 use Rattle.nfs_opens.specs.declared.judging.Seat.TheVariants.{Anonymous, ReadBypass, Open, Lock}
 use Rattle.nfs_opens.specs.declared.judging.Sort.TheVariants.{Either}
+use Rattle.nfs_opens.specs.declared.share.Share.{Share}
+use Rattle.nfs_opens.specs.Share.{meets, is_part}
 use Rattle.nfs_opens.specs.Judging.{judge}
-use Rattle.nfs_attrs.specs.Permissions.{read, write}
+use Rattle.nfs_attrs.specs.declared.permission.Want.{Want}
 use Rattle.nfs_names.specs.declared.context.Context.{Context}
 use Rattle.nfs_names.specs.declared.held.Held.{Held}
 use Rattle.nfs_names.specs.State.{State}
@@ -32,32 +34,34 @@ seat_of s x d (Ok id) = judge s.opens id x.client (Some d.number) Either
 unfoldable pub seat : State → Context → Stateid → Held → Result Seat Status
 seat s x given d = seat_of s x d (meant x Any given)
 
--- some open of the file denies it to others
-abbrev pub denies_reads : State → Held → Bool
-denies_reads s d = list_any (λ o. (o.file == d.number) && o.deny.reads) s.opens.opens
+-- reading, or changing
+abbrev pub reading : Share
+reading = record { reads = true; writes = false }
 
-abbrev pub denies_writes : State → Held → Bool
-denies_writes s d = list_any (λ o. (o.file == d.number) && o.deny.writes) s.opens.opens
+abbrev pub writing : Share
+writing = record { reads = false; writes = true }
+
+-- the permission bits that an access wants
+abbrev pub want_of : Share → Want
+want_of access = record { read = access.reads; write = access.writes; execute = false }
+
+-- what the opens of the file deny to others
+abbrev pub denials : State → Held → Share
+denials s d = record {
+  reads = list_any (λ o. (o.file == d.number) && o.deny.reads) s.opens.opens;
+  writes = list_any (λ o. (o.file == d.number) && o.deny.writes) s.opens.opens;
+}
 
 -- By an open or a lock state the open's access decides. By a special stateid the share reservations of all opens do, which the one
 -- that bypasses them passes for reading alone, and then the permission bits.
-abbrev pub read_checks : State → Context → Held → Seat → List (Bool × Status)
-read_checks s x d Anonymous = (denies_reads s d, Locked) ∷ denied x d read ∷ []
-read_checks s x d ReadBypass = denied x d read ∷ []
-read_checks s x d (Open number access) = (not access.reads, OpenMode) ∷ []
-read_checks s x d (Lock number access) = (not access.reads, OpenMode) ∷ []
+abbrev pub seat_checks : State → Context → Share → Held → Seat → List (Bool × Status)
+seat_checks s x wanted d Anonymous = (meets wanted (denials s d), Locked) ∷ denied x d (want_of wanted) ∷ []
+seat_checks s x wanted d ReadBypass = (wanted.writes && (denials s d).writes, Locked) ∷ denied x d (want_of wanted) ∷ []
+seat_checks s x wanted d (Open number access) = (not (is_part wanted access), OpenMode) ∷ []
+seat_checks s x wanted d (Lock number access) = (not (is_part wanted access), OpenMode) ∷ []
 
-abbrev pub write_checks : State → Context → Held → Seat → List (Bool × Status)
-write_checks s x d Anonymous = (denies_writes s d, Locked) ∷ denied x d write ∷ []
-write_checks s x d ReadBypass = (denies_writes s d, Locked) ∷ denied x d write ∷ []
-write_checks s x d (Open number access) = (not access.writes, OpenMode) ∷ []
-write_checks s x d (Lock number access) = (not access.writes, OpenMode) ∷ []
-
-unfoldable pub may_read : State → Context → Stateid → Held → Result Seat Status
-may_read s x given d = checked (seat s x given d) (read_checks s x d)
-
-unfoldable pub may_write : State → Context → Stateid → Held → Result Seat Status
-may_write s x given d = checked (seat s x given d) (write_checks s x d)
+unfoldable pub may_use : State → Context → Share → Stateid → Held → Result Seat Status
+may_use s x wanted given d = checked (seat s x given d) (seat_checks s x wanted d)
 
 -- what was found, if what is looked at next passes too
 abbrev pub if_passed : {A B : Type 0} → Result A Status → (A → Result B Status) → Result A Status
@@ -66,7 +70,7 @@ if_passed (Ok a) next = mapped (λ b. a) (next a)
 
 -- the file, where its bytes may be read or changed
 unfoldable pub readable : State → Context → Stateid → Result Held Status → Result Held Status
-readable s x given found = if_passed (checked found file_checks) (may_read s x given)
+readable s x given found = if_passed (checked found file_checks) (may_use s x reading given)
 
 unfoldable pub writable : State → Context → Stateid → Result Held Status → Result Held Status
-writable s x given found = if_passed (checked found file_checks) (may_write s x given)
+writable s x given found = if_passed (checked found file_checks) (may_use s x writing given)

@@ -16,7 +16,6 @@ use Rattle.nfs_tree.specs.Files.{Files, most_objects, lookup, can_change}
 use Rattle.nfs_tree.specs.Create.{New, File, with_new}
 use Rattle.nfs_tree.specs.Bytes.{with_resized}
 use Rattle.nfs_tree.specs.Did.{raised, stays}
-use Rattle.nfs_attrs.specs.declared.permission.Want.{Want}
 use Rattle.nfs_attrs.specs.declared.wanted.Wanted.{Wanted}
 use Rattle.nfs_attrs.specs.declared.wanted.AttrFault.{AttrFault}
 use Rattle.nfs_attrs.specs.declared.mask.Mask.{Mask}
@@ -34,12 +33,12 @@ use Rattle.nfs_names.specs.declared.making.Making.{Making}
 use Rattle.nfs_names.specs.State.{State}
 use Rattle.nfs_names.specs.Outcome.{Outcome, checked, mapped, answers}
 use Rattle.nfs_names.specs.Checks.{held, current, no_directory, denied, name_checks}
-use Rattle.nfs_names.specs.Create.{wanted_of, with_wanted, time_of, can_create, change_info}
+use Rattle.nfs_names.specs.Create.{wanted_of, with_wanted, can_create, change_info}
 use Rattle.nfs_names.specs.Create as create
 use Rattle.nfs_files.specs.declared.opening.Found.{Found}
 use Rattle.nfs_files.specs.declared.opening.Found.TheVariants.{There, Absent}
 use Rattle.nfs_files.specs.StateIds.{wire_id}
-use Rattle.nfs_files.specs.Bytes.{file_checks}
+use Rattle.nfs_files.specs.Bytes.{file_checks, want_of}
 use Rattle.nfs_files.specs.SetAttr.{is_too_big}
 
 -- The two low bits of the access asked for: those above them wish for delegations, and none is given.
@@ -134,9 +133,6 @@ abbrev pub was_made_by : Option (List ℕ) → Option (List ℕ) → Bool
 was_made_by None made = true
 was_made_by (Some verifier) None = false
 was_made_by (Some verifier) (Some made) = bytes_eq made verifier
-
-abbrev pub want_of : Share → Want
-want_of access = record { read = access.reads; write = access.writes; execute = false }
 
 abbrev pub there_checks : Context → Open → Held → List (Bool × Status)
 there_checks x o f =

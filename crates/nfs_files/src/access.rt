@@ -9,8 +9,29 @@ use crate::stateids::meant;
 use nfs_attrs::Want;
 use nfs_compound::Stateid;
 use nfs_names::{Context, Held, Store, is_link, permits};
-use nfs_opens::{CurrentSeqid, Seat, Sort};
+use nfs_opens::{CurrentSeqid, Seat, Share, Sort};
 use nfs_xdr::Status;
+
+const READING: Share = Share {
+    reads: true,
+    writes: false,
+};
+
+const WRITING: Share = Share {
+    reads: false,
+    writes: true,
+};
+
+/// The permission bits that an access wants.
+pub(crate) fn want_of(access: Share) -> Want
+    ensures { result ≡ of_bytes.want_of access }
+{
+    Want {
+        read: access.reads,
+        write: access.writes,
+        execute: false,
+    }
+}
 
 /// A file alone has bytes.
 pub(crate) fn judge_file(held: Held) -> Result<Held, Status>
@@ -36,25 +57,27 @@ fn seat(store: &Store, context: &Context, given: &Stateid, held: &Held) -> Resul
         .judge(id, context.client, Some(held.number), Sort::Either)
 }
 
-/// Whether the state lets the bytes of a file be changed.
-fn judge_seat_writes(
+/// Whether the state lets the bytes of a file be read or changed, as it is wanted.
+fn judge_seat(
     store: &Store,
     context: &Context,
     held: &Held,
+    wanted: Share,
     seat: Seat,
 ) -> Result<Seat, Status>
-    ensures { result ≡ checked (Ok seat) (of_bytes.write_checks (state_of store.now) context.now held.now) }
+    ensures { result ≡ checked (Ok seat) (of_bytes.seat_checks (state_of store.now) context.now wanted held.now) }
 {
     match seat {
-        Seat::Open { access, .. } if !access.writes => Err(Status::OpenMode),
-        Seat::Lock { access, .. } if !access.writes => Err(Status::OpenMode),
+        Seat::Open { access, .. } if !wanted.is_part(access) => Err(Status::OpenMode),
+        Seat::Lock { access, .. } if !wanted.is_part(access) => Err(Status::OpenMode),
         Seat::Open { .. } => Ok(seat),
         Seat::Lock { .. } => Ok(seat),
+        Seat::Anonymous if wanted.meets(store.opens.denies(held.number)) => Err(Status::Locked),
+        Seat::ReadBypass if wanted.writes && store.opens.denies(held.number).writes => {
+            Err(Status::Locked)
+        }
         _ => {
-            if store.opens.denies(held.number).writes {
-                return Err(Status::Locked);
-            }
-            if !permits(context, held, Want::WRITE) {
+            if !permits(context, held, want_of(wanted)) {
                 return Err(Status::Access);
             }
             Ok(seat)
@@ -62,46 +85,19 @@ fn judge_seat_writes(
     }
 }
 
-/// The state by which bytes of a file may be changed.
-#[tactic(auto, unfolding(crate::specs::Bytes::may_write))]
-fn may_write(store: &Store, context: &Context, given: &Stateid, held: &Held) -> Result<Seat, Status>
-    ensures { result ≡ of_bytes.may_write (state_of store.now) context.now given.now held.now }
-{
-    let seat = seat(store, context, given, held)?;
-    judge_seat_writes(store, context, held, seat)
-}
-
-/// Whether the state lets the bytes of a file be read.
-fn judge_seat_reads(
+/// The state by which bytes of a file may be read or changed, as it is wanted.
+#[tactic(auto, unfolding(crate::specs::Bytes::may_use))]
+fn may_use(
     store: &Store,
     context: &Context,
+    wanted: Share,
+    given: &Stateid,
     held: &Held,
-    seat: Seat,
 ) -> Result<Seat, Status>
-    ensures { result ≡ checked (Ok seat) (of_bytes.read_checks (state_of store.now) context.now held.now) }
-{
-    match seat {
-        Seat::Open { access, .. } if !access.reads => Err(Status::OpenMode),
-        Seat::Lock { access, .. } if !access.reads => Err(Status::OpenMode),
-        Seat::Open { .. } => Ok(seat),
-        Seat::Lock { .. } => Ok(seat),
-        Seat::Anonymous if store.opens.denies(held.number).reads => Err(Status::Locked),
-        _ => {
-            if !permits(context, held, Want::READ) {
-                return Err(Status::Access);
-            }
-            Ok(seat)
-        }
-    }
-}
-
-/// The state by which bytes of a file may be read.
-#[tactic(auto, unfolding(crate::specs::Bytes::may_read))]
-fn may_read(store: &Store, context: &Context, given: &Stateid, held: &Held) -> Result<Seat, Status>
-    ensures { result ≡ of_bytes.may_read (state_of store.now) context.now given.now held.now }
+    ensures { result ≡ of_bytes.may_use (state_of store.now) context.now wanted given.now held.now }
 {
     let seat = seat(store, context, given, held)?;
-    judge_seat_reads(store, context, held, seat)
+    judge_seat(store, context, held, wanted, seat)
 }
 
 /// The object, where it is a file whose bytes may be read by the stateid.
@@ -115,7 +111,7 @@ pub(crate) fn readable(
     ensures { result ≡ of_bytes.readable (state_of store.now) context.now given.now (Ok held) }
 {
     let held = judge_file(held)?;
-    may_read(store, context, given, &held)?;
+    may_use(store, context, READING, given, &held)?;
     Ok(held)
 }
 
@@ -130,6 +126,6 @@ pub(crate) fn writable(
     ensures { result ≡ of_bytes.writable (state_of store.now) context.now given.now (Ok held) }
 {
     let held = judge_file(held)?;
-    may_write(store, context, given, &held)?;
+    may_use(store, context, WRITING, given, &held)?;
     Ok(held)
 }

@@ -7,7 +7,7 @@ ghost use Rattle.nfs_names.specs.Outcome.{checked};
 ghost use Rattle.nfs_files.specs.Open as of_open;
 ghost use Rattle.nfs_files.specs.SetAttr as of_set_attr;
 
-use crate::access::judge_file;
+use crate::access::{judge_file, want_of};
 use nfs_attrs::{AttrFault, Mask, Want, Wanted, may_make};
 use nfs_compound::{CreateHow, Open, OpenClaim, OpenHow};
 use nfs_names::{
@@ -259,16 +259,6 @@ fn was_made_by(verifier: Option<[u8; 8]>, made: Option<[u8; 8]>) -> bool
             None => false,
             Some(made) => made.as_slice() == verifier.as_slice(),
         },
-    }
-}
-
-fn want_of(access: Share) -> Want
-    ensures { result ≡ of_open.want_of access }
-{
-    Want {
-        read: access.reads,
-        write: access.writes,
-        execute: false,
     }
 }
 

@@ -1,5 +1,5 @@
 -- What the tree answers, under an operation's number.
-use Rattle.std.proofs.Common.{◌≡◌, ◌⊎◌, ℕ, Bool, true, false, cond, eqb, List, [], Option, Some, None, refl, sym, ◌∙◌, ap, inl, inr}
+use Rattle.std.proofs.Common.{◌≡◌, ◌⊎◌, ℕ, Bool, true, false, cond, eqb, List, [], Option, Some, None, refl, sym, subst, ◌∙◌, ap, inl, inr}
 use Rattle.std.specs.Prelude.{Result, Ok, Err, IsOk, ◌&&◌}
 use Rattle.nfs_xdr.specs.Checks.{first_fault}
 use Rattle.nfs_xdr.specs.Status.{status_number}
@@ -20,13 +20,6 @@ use Rattle.nfs_names.proofs.Refusing.{IsRefusal, Refuses}
 use Rattle.std.proofs.lemmas.Bool.{and_right}
 use Rattle.nfs_names.specs.Outcome.{Outcome, refuses, passed, checked, answers, or_delay, is_ok, is_delay}
 
--- a status of the tree's that is not want of memory
-abbrev Other : TreeFault → Option TreeFault → Type 0
-Other f fault = (fault ≡ Some f) × (is_delay (status_of f) ≡ false)
-
-abbrev Wants : TreeFault → Option TreeFault → Type 0
-Wants f fault = (f ≡ Memory) × (fault ≡ None)
-
 pub does_ok : {A : Type 0} (t : Files) (fault : Option TreeFault) (answer a : A) (after : Files)
     → Ok a ≡ (does_unless t fault answer after).answer → (fault ≡ None) × (a ≡ answer)
 does_ok t None answer a after e = (refl, cc)
@@ -38,31 +31,12 @@ pub does_err : {A : Type 0} (t : Files) (fault : Option TreeFault) (answer : A) 
 does_err t None answer after new f e n = absurd cc
 does_err t (Some g) answer after new f e n = (ap Some cc, n)
 
-wants_none : {A : Type 0} (t : Files) (fault : Option TreeFault) (answer : A) (after : Files) → IsOk (does_unless t fault answer after).answer → fault ≡ None
-wants_none t None answer after ok = refl
-wants_none t (Some f) answer after ok = absurd cc
-
 pub done_by_tree : {A : Type 0} (t : Files) (grows : Bool) (fault : Option TreeFault) (answer a : A) (after new : Files)
     → DoesOrWants t grows (does_unless t fault answer after) (Ok a) new
     → (fault ≡ None) × (a ≡ answer) × (new ≡ after)
 done_by_tree t grows fault answer a after new d =
     let parts = does_ok t fault answer a after d.0 in
     (parts.0, parts.1, d.1 ∙ ap (λ o. (does_unless t o answer after).after) parts.0)
-
-pub refused_by_tree : {A : Type 0} (t : Files) (grows : Bool) (fault : Option TreeFault) (answer : A) (after new : Files) (f : TreeFault)
-    → DoesOrWants t grows (does_unless t fault answer after) (Err f) new
-    → (new ≡ t) × (Wants f fault ⊎ Other f fault)
-refused_by_tree t grows fault answer after new NoEnt d = let p = does_err t fault answer after new NoEnt d.0 d.1 in (p.1, inr (p.0, refl))
-refused_by_tree t grows fault answer after new Exist d = let p = does_err t fault answer after new Exist d.0 d.1 in (p.1, inr (p.0, refl))
-refused_by_tree t grows fault answer after new NotDir d = let p = does_err t fault answer after new NotDir d.0 d.1 in (p.1, inr (p.0, refl))
-refused_by_tree t grows fault answer after new IsDir d = let p = does_err t fault answer after new IsDir d.0 d.1 in (p.1, inr (p.0, refl))
-refused_by_tree t grows fault answer after new NotEmpty d = let p = does_err t fault answer after new NotEmpty d.0 d.1 in (p.1, inr (p.0, refl))
-refused_by_tree t grows fault answer after new Inval d = let p = does_err t fault answer after new Inval d.0 d.1 in (p.1, inr (p.0, refl))
-refused_by_tree t grows fault answer after new Fbig d = let p = does_err t fault answer after new Fbig d.0 d.1 in (p.1, inr (p.0, refl))
-refused_by_tree t grows fault answer after new NoSpc d = let p = does_err t fault answer after new NoSpc d.0 d.1 in (p.1, inr (p.0, refl))
-refused_by_tree t grows fault answer after new Mlink d = let p = does_err t fault answer after new Mlink d.0 d.1 in (p.1, inr (p.0, refl))
-refused_by_tree t grows fault answer after new Counter d = let p = does_err t fault answer after new Counter d.0 d.1 in (p.1, inr (p.0, refl))
-refused_by_tree t grows fault answer after new Memory d = (d.2, inl (refl, wants_none t fault answer after d.1))
 
 -- what a checked operation comes to by what its last checks say
 pub by_last : {A : Type 0} (s : State) (x : Context) (op : OpNum) (v : Result A Status) (checks : A → List (Bool × Status)) (f : A → Outcome) (a : A)
@@ -89,15 +63,6 @@ not_delayed refused s x op o e = ap (λ b. or_delay b s x op o) e
 pub delayed : (s : State) (x : Context) (op : OpNum) (o : Outcome) → is_ok o.result ≡ true → or_delay true s x op o ≡ refuses s x op Delay
 delayed s x op o ok = ap (λ b. cond b (refuses s x op Delay) o) ok
 
--- A growing operation whose tree refused: the fault is a check's, or memory was refused where it would have been done.
-pub refused_outcome : (s : State) (x : Context) (op : OpNum) (o g : Outcome) (fault : Option TreeFault) (f : TreeFault)
-    → (fault ≡ None → o ≡ g) → (fault ≡ Some f → o ≡ refuses s x op (status_of f)) → is_ok g.result ≡ true → Wants f fault ⊎ Other f fault
-    → refuses s x op (status_of f) ≡ or_delay (is_delay (status_of f)) s x op o
-refused_outcome s x op o g fault f goes stops ok (inl w) =
-    ap (λ f. refuses s x op (status_of f)) w.0
-    ∙ sym (ap (λ f. or_delay (is_delay (status_of f)) s x op o) w.0 ∙ ap (or_delay true s x op) (goes w.1) ∙ delayed s x op g ok)
-refused_outcome s x op o g fault f goes stops ok (inr other) = sym (not_delayed _ s x op o other.1 ∙ stops other.0)
-
 -- the refusal of a check is answered whether memory was refused or not
 pub judged_refusal : (b : Bool) (s : State) (x : Context) (op : OpNum) (status : Status)
     → IsRefusal status → or_delay b s x op (refuses s x op status) ≡ refuses s x op status
@@ -111,17 +76,7 @@ pub error_outcome : {A : Type 0} (b : Bool) (s : State) (x : Context) (op : OpNu
 error_outcome b s x op v checks f status all is =
     sym (ap (or_delay b s x op) (by_error s x op v checks f status is) ∙ judged_refusal b s x op status (all.each status is))
 
--- the outcome of a refusal that the code made
-pub told_refusal : (s : State) (t : Files) (x : Context) (op : OpNum) (o : Outcome) (r : Res) (status : Status) → r ≡ refusal (op_number op) status → t ≡ s.tree
-    → refuses s x op status ≡ or_delay (is_delay status) s x op o
-    → record { result = r; state = with_tree s t; context = x } ≡ or_delay (is_delay (status_of_result r)) s x op o
-told_refusal s t x op o r status is same e =
-    let with_result : Res → Files → Outcome = λ r t. record { result = r; state = with_tree s t; context = x } in
-    ap (λ r. with_result r t) is ∙ ap (with_result (refusal (op_number op) status)) same ∙ e
-    ∙ sym (ap (λ r. or_delay (is_delay (status_of_result r)) s x op o) is
-    ∙ ap (λ st. or_delay (is_delay st) s x op o) (status_of_refusal (op_number op) status))
-
--- the same, where an operation wants memory only if it grows
+-- the outcome of a refusal that the code made, where an operation wants memory only if it grows
 pub told_refusal_by : (g : Bool) (s : State) (t : Files) (x : Context) (op : OpNum) (o : Outcome) (r : Res) (status : Status)
     → r ≡ refusal (op_number op) status → t ≡ s.tree
     → refuses s x op status ≡ or_delay (g && is_delay status) s x op o
@@ -159,3 +114,66 @@ pub did_ok : {A : Type 0} (t : Files) (fault : Option TreeFault) (answer a : A) 
 did_ok t fault answer a after new e n =
     let parts = does_ok t fault answer a after e in
     (parts.0, parts.1, n ∙ ap (λ o. (does_unless t o answer after).after) parts.0)
+
+-- memory was refused where it would have been done, or a check of its own failed
+abbrev pub Wants : Bool → TreeFault → Option TreeFault → Type 0
+Wants grows f fault = (f ≡ Memory) × (fault ≡ None) × (grows ≡ true)
+
+abbrev pub Other : TreeFault → Option TreeFault → Type 0
+Other f fault = (fault ≡ Some f) × (is_delay (status_of f) ≡ false)
+
+no_fault : {A : Type 0} (t : Files) (fault : Option TreeFault) (answer : A) (after : Files) → IsOk (does_unless t fault answer after).answer → fault ≡ None
+no_fault t None answer after ok = refl
+no_fault t (Some f) answer after ok = absurd cc
+
+pub refused_tree : {A : Type 0} (t : Files) (grows : Bool) (fault : Option TreeFault) (answer : A) (after new : Files) (f : TreeFault)
+    → DoesOrWants t grows (does_unless t fault answer after) (Err f) new
+    → (new ≡ t) × (Wants grows f fault ⊎ Other f fault)
+refused_tree t grows fault answer after new f d = elim (refused_by_did t grows (does_unless t fault answer after) new f d) [
+  | inl w ↦ (w.3, inl (w.0, no_fault t fault answer after w.2, w.1))
+  | inr told ↦ (let p = does_err t fault answer after new f told.1 told.2 in (p.1, inr (p.0, told.0)))
+]
+
+refused_growing : (grows : Bool) (s : State) (x : Context) (op : OpNum) (o g : Outcome) (fault : Option TreeFault) (f : TreeFault)
+    → (fault ≡ None → o ≡ g) → (fault ≡ Some f → o ≡ refuses s x op (status_of f)) → is_ok g.result ≡ true
+    → Wants grows f fault ⊎ Other f fault → refuses s x op (status_of f) ≡ or_delay (grows && is_delay (status_of f)) s x op o
+refused_growing grows s x op o g fault f goes stops ok (inl w) =
+    rw w.2 (ap (λ f. refuses s x op (status_of f)) w.0
+    ∙ sym (ap (λ f. or_delay (is_delay (status_of f)) s x op o) w.0 ∙ ap (or_delay true s x op) (goes w.1) ∙ delayed s x op g ok))
+refused_growing grows s x op o g fault f goes stops ok (inr other) =
+    sym (not_delayed (grows && is_delay (status_of f)) s x op o (and_right grows (is_delay (status_of f)) other.1) ∙ stops other.0)
+
+-- An operation whose last check is the tree's. `may` says whether it may want memory, and `grows` whether its tree grows.
+
+-- what was done
+pub told_done : {A : Type 0} (may grows : Bool) (s : State) (x : Context) (op : OpNum) (o : Outcome) (result : A → Res) (context : A → Context)
+    (fault : Option TreeFault) (answer a : A) (after new : Files)
+    → (fault ≡ None → o ≡ record { result = result answer; state = with_tree s after; context = context answer })
+    → DoesOrWants s.tree grows (does_unless s.tree fault answer after) (Ok a) new
+    → record { result = result a; state = with_tree s new; context = context a } ≡ or_delay (may && false) s x op o
+told_done may grows s x op o result context fault answer a after new goes d =
+    let did = done_by_tree s.tree grows fault answer a after new d in
+    ap (λ a. record { result = result a; state = with_tree s new; context = context a }) did.1
+    ∙ ap (λ t. record { result = result answer; state = with_tree s t; context = context answer }) did.2
+    ∙ sym (not_delayed (may && false) s x op o (and_right may false refl) ∙ goes did.0)
+
+-- what the tree refused
+pub told_fault : {A : Type 0} (may grows : Bool) (s : State) (x : Context) (op : OpNum) (o done : Outcome) (r : Res)
+    (fault : Option TreeFault) (answer : A) (after new : Files) (f : TreeFault)
+    → may ≡ grows → r ≡ refusal (op_number op) (status_of f)
+    → (fault ≡ None → o ≡ done) → (fault ≡ Some f → o ≡ refuses s x op (status_of f)) → is_ok done.result ≡ true
+    → DoesOrWants s.tree grows (does_unless s.tree fault answer after) (Err f) new
+    → record { result = r; state = with_tree s new; context = x } ≡ or_delay (may && is_delay (status_of_result r)) s x op o
+told_fault may grows s x op o done r fault answer after new f same is goes stops ok d =
+    let did = refused_tree s.tree grows fault answer after new f d in
+    told_refusal_by may s new x op o r (status_of f) is did.0
+    (subst (λ b. refuses s x op (status_of f) ≡ or_delay (b && is_delay (status_of f)) s x op o) (sym same)
+    (refused_growing grows s x op o done fault f goes stops ok did.1))
+
+-- what was refused before the tree was asked
+pub told_error : {A : Type 0} (may : Bool) (s : State) (x : Context) (op : OpNum) (v : Result A Status) (checks : A → List (Bool × Status)) (f : A → Outcome)
+    (r : Res) (status : Status) → Refuses v → v ≡ Err status → r ≡ refusal (op_number op) status
+    → record { result = r; state = s; context = x } ≡ or_delay (may && is_delay (status_of_result r)) s x op (answers s x op (checked v checks) f)
+told_error may s x op v checks f r status all is told =
+    told_refusal_by may s s.tree x op (answers s x op (checked v checks) f) r status told refl
+    (error_outcome (may && is_delay status) s x op v checks f status all is)

@@ -86,6 +86,6 @@ impl Store {
     fn is_open(&self, file: u64) -> bool
         ensures { result ≡ is_open (state_of self.now) file }
     {
-        self.opens.opens_of(file) != 0
+        self.opens.is_open(file)
     }
 }

@@ -86,6 +86,13 @@ impl Opens {
         self.opens.iter().filter(|o| o.file == file).count()
     }
 
+    /// Whether a file has an open.
+    pub fn is_open(&self, file: u64) -> bool
+        ensures { result ≡ list_any (λ o. o.file == file) (table self.now).opens }
+    {
+        self.opens.iter().any(|o| o.file == file)
+    }
+
     /// What the opens of a file deny, joined.
     pub fn denies(&self, file: u64) -> Share
         ensures reads { result.reads ≡ list_any (λ o. (o.file == file) && o.deny.reads) (table self.now).opens }

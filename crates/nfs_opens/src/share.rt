@@ -37,7 +37,7 @@ impl Share {
     }
 
     /// Whether both have a bit.
-    pub(crate) fn meets(self, other: Share) -> bool
+    pub fn meets(self, other: Share) -> bool
         ensures { result ≡ meets self other }
     {
         self.reads && other.reads || self.writes && other.writes
@@ -54,7 +54,7 @@ impl Share {
     }
 
     /// Whether `other` has each bit of this.
-    pub(crate) fn is_part(self, other: Share) -> bool
+    pub fn is_part(self, other: Share) -> bool
         ensures { result ≡ is_part self other }
     {
         (!self.reads || other.reads) && (!self.writes || other.writes)

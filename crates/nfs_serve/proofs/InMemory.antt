@@ -5,7 +5,7 @@ use Rattle.nfs_rpc.specs.RecordMarking.{Gathered}
 use Rattle.nfs_serve.specs.declared.fault.Stop.{Stop}
 use Rattle.nfs_serve.specs.declared.fault.Stop.TheVariants.{Cut, Connection, Long, Late, Many, ReadFailed, WriteFailed}
 use Rattle.nfs_serve.specs.declared.fault.ReplayFault.{ReplayFault}
-use Rattle.nfs_serve.specs.Script.{Entry, spell_entry, BeginsRefused, IsStopped, IsWhole, IsRead}
+use Rattle.nfs_serve.specs.Script.{Entry, spell_entry, BeginsRefused, StopsAt, IsStopped, IsWhole, IsRead}
 use Rattle.nfs_serve.specs.Ends.{IsReported, EndsAt}
 use Rattle.nfs_serve.specs.Step.{State}
 use Rattle.nfs_serve.specs.Replay.{Runs, RunsScript, RunsFront, ReplaysFault, Replays, Reports}
@@ -21,8 +21,14 @@ still_refused stop rest more h =
     let (m, c, l, front, behind, split, is, why) = h in
     (m, c, l, front, behind ++ more, ap (λ b. b ++ more) split ∙ append_assoc front behind more, is, why)
 
-longer : (front read left rest : List ℕ) → read ≡ front ++ rest → read ++ left ≡ front ++ (rest ++ left)
-longer front read left rest is = ap (λ b. b ++ left) is ∙ append_assoc front rest left
+-- bytes that were not read stand behind what was
+longer : (read left : List ℕ) (stop : Stop) (entries : List Entry) (rest : List ℕ) → IsStopped read stop entries rest
+    → StopsAt stop (length entries) (rest ++ left) → IsStopped (read ++ left) stop entries (rest ++ left)
+longer read left stop entries rest is stands = record {
+  spelled = ap (λ b. b ++ left) is.spelled ∙ append_assoc (flat_map spell_entry entries) rest left;
+  fits = is.fits;
+  stands = stands;
+}
 
 module _ (old new : State) (held : List Gathered) (read written : List ℕ) where
   -- a fault of the script's own
@@ -32,50 +38,14 @@ module _ (old new : State) (held : List Gathered) (read written : List ℕ) wher
       × (entry ≡ suc (length entries)) × Runs old new held entries written
   faults left Cut entry ended failed told none well (entries, rest, is, at, runs) =
       (entries, rest, subst (λ s. IsStopped s Cut entries rest) (sym (append-nil read) ∙ ap (λ l. read ++ l) (sym none)) is, at, runs)
-  faults left Connection entry ended failed told none well (entries, rest, is, at, runs) = (
-    entries,
-    rest ++ left,
-    record {
-      spelled = longer (flat_map spell_entry entries) read left rest is.spelled;
-      fits = is.fits;
-      stands = (is.stands.0, still_refused Connection rest left is.stands.1);
-    },
-    at,
-    runs,
-  )
-  faults left Long entry ended failed told none well (entries, rest, is, at, runs) = (
-    entries,
-    rest ++ left,
-    record {
-      spelled = longer (flat_map spell_entry entries) read left rest is.spelled;
-      fits = is.fits;
-      stands = (is.stands.0, still_refused Long rest left is.stands.1);
-    },
-    at,
-    runs,
-  )
-  faults left Late entry ended failed told none well (entries, rest, is, at, runs) = (
-    entries,
-    rest ++ left,
-    record {
-      spelled = longer (flat_map spell_entry entries) read left rest is.spelled;
-      fits = is.fits;
-      stands = (is.stands.0, still_refused Late rest left is.stands.1);
-    },
-    at,
-    runs,
-  )
-  faults left Many entry ended failed told none well (entries, rest, is, at, runs) = (
-    entries,
-    rest ++ left,
-    record {
-      spelled = longer (flat_map spell_entry entries) read left rest is.spelled;
-      fits = is.fits;
-      stands = (is.stands.0, omega (arith, is.stands.1, length-append rest left));
-    },
-    at,
-    runs,
-  )
+  faults left Connection entry ended failed told none well (entries, rest, is, at, runs) =
+      (entries, rest ++ left, longer read left Connection entries rest is (is.stands.0, still_refused Connection rest left is.stands.1), at, runs)
+  faults left Long entry ended failed told none well (entries, rest, is, at, runs) =
+      (entries, rest ++ left, longer read left Long entries rest is (is.stands.0, still_refused Long rest left is.stands.1), at, runs)
+  faults left Late entry ended failed told none well (entries, rest, is, at, runs) =
+      (entries, rest ++ left, longer read left Late entries rest is (is.stands.0, still_refused Late rest left is.stands.1), at, runs)
+  faults left Many entry ended failed told none well (entries, rest, is, at, runs) =
+      (entries, rest ++ left, longer read left Many entries rest is (is.stands.0, omega (arith, is.stands.1, length-append rest left)), at, runs)
   faults left ReadFailed entry ended failed told none well h = absurd (false≢true told.0)
   faults left WriteFailed entry ended failed told none well h = absurd (false≢true (sym well ∙ told.1))
 

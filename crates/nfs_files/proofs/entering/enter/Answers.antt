@@ -3,13 +3,14 @@ use Rattle.std.specs.Prelude.{Err}
 use Rattle.std.proofs.lemmas.Result.{err_from_is_err_and}
 use Rattle.nfs_compound.specs.OpenArgs.{view_open}
 use Rattle.nfs_tree.specs.Create as tree_create
-use Rattle.nfs_tree.specs.Create.{New, create_fault, with_new}
+use Rattle.nfs_tree.specs.Create.{create_fault, with_new}
 use Rattle.nfs_tree.specs.Did.{does_unless, DoesOrWants, raised}
 use Rattle.nfs_files.specs.declared.opening.Found.{Found}
 use Rattle.nfs_files.specs.declared.opening.Found.TheVariants.{Absent}
 use Rattle.nfs_files.specs.Open.{file_of, tree_of, name_of}
 use Rattle.nfs_files.specs.OpenParts.{tree_fault}
-use Rattle.nfs_files.proofs.Answering.{Wants, Other, refused_tree, refused_again}
+use Rattle.nfs_files.proofs.Answering.{refused_again}
+use Rattle.nfs_names.proofs.Faulted.{Wants, Other, refused_tree}
 use Rattle.nfs_files.proofs.entering.enter.Goals as goal
 
 pub returns-in_err-created-in-Absent : goal.returns-in_err-created-in-Absent

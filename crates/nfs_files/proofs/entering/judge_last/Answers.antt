@@ -6,50 +6,39 @@ use Rattle.nfs_names.specs.State.{state_of}
 use Rattle.nfs_files.specs.Open.{asking}
 use Rattle.nfs_files.proofs.Opened.{shared_checks, shared_fault, room_decides, denied_decides, spent_decides}
 use Rattle.nfs_files.proofs.entering.judge_last.Goals as goal
+use Rattle.nfs_files.proofs.entering.judge_last.Goals.{After-judge_open}
+
+-- what the opens judge is what an open asks of them
+shared : (c : After-judge_open) → c.judge_open.result
+    ≡ judged (first_fault (shared_checks (state_of c.args.store.now) c.args.context.now (view_open c.args.asked.now) c.args.found.now))
+shared c =
+    let s = state_of c.args.store.now in
+    let x = c.args.context.now in
+    let o = view_open c.args.asked.now in
+    c.judge_open.ensures ∙ ap (λ a. judged (open_fault s.opens a)) (c.ask_for-ask.ensures ∙ ap (asking x o) c.number_of.ensures)
+    ∙ ap judged (shared_fault s x o c.args.found.now c.kept.ensures c.requires)
 
 pub returns-in-Ok : goal.returns-in-Ok
 returns-in-Ok c =
-    let s = state_of c.args.store.now in
-    let x = c.args.context.now in
-    let o = view_open c.args.asked.now in
-    let found = c.args.found.now in
-    let shared : c.judge_open.result ≡ judged (first_fault (shared_checks s x o found)) =
-    c.judge_open.ensures ∙ ap (λ a. judged (open_fault s.opens a)) (c.ask_for-ask.ensures ∙ ap (asking x o) c.number_of.ensures)
-    ∙ ap judged (shared_fault s x o found c.kept.ensures c.requires) in
-    c.judge_room-room.ensures ∙ room_decides s x o found c.judge_open.result shared c.in-Ok.is
+    c.judge_room-room.ensures ∙ room_decides (state_of c.args.store.now) c.args.context.now (view_open c.args.asked.now) c.args.found.now
+    c.judge_open.result (shared (goal.at.returns-in-Ok c).After-judge_open) c.in-Ok.is
 
 pub returns-then-number : goal.returns-then-number
 returns-then-number c =
-    let s = state_of c.args.store.now in
-    let x = c.args.context.now in
-    let o = view_open c.args.asked.now in
-    let found = c.args.found.now in
-    let shared : c.judge_open.result ≡ judged (first_fault (shared_checks s x o found)) =
-    c.judge_open.ensures ∙ ap (λ a. judged (open_fault s.opens a)) (c.ask_for-ask.ensures ∙ ap (asking x o) c.number_of.ensures)
-    ∙ ap judged (shared_fault s x o found c.kept.ensures c.requires) in
-    denied_decides s x o found c.in-Err.status (sym c.in-Err.is ∙ shared) (sym c.number.ensures ∙ c.if-number.true ∙ c.number-in-Err.ensures)
+    denied_decides (state_of c.args.store.now) c.args.context.now (view_open c.args.asked.now) c.args.found.now
+    c.in-Err.status (sym c.in-Err.is ∙ shared (goal.at.returns-then-number c).After-judge_open)
+    (sym c.number.ensures ∙ c.if-number.true ∙ c.number-in-Err.ensures)
 
 pub returns-in-Ok-room : goal.returns-in-Ok-room
 returns-in-Ok-room c =
-    let s = state_of c.args.store.now in
-    let x = c.args.context.now in
-    let o = view_open c.args.asked.now in
-    let found = c.args.found.now in
-    let shared : c.judge_open.result ≡ judged (first_fault (shared_checks s x o found)) =
-    c.judge_open.ensures ∙ ap (λ a. judged (open_fault s.opens a)) (c.ask_for-ask.ensures ∙ ap (asking x o) c.number_of.ensures)
-    ∙ ap judged (shared_fault s x o found c.kept.ensures c.requires) in
-    (spent_decides s x o found c.in-Err.status (sym c.in-Err.is ∙ shared) (λ e. c.if-number.false (c.number.ensures ∙ e ∙ sym c.number-in-Err.ensures))
-    c.judge_room-room.result c.judge_room-room.ensures).0 (sym c.in-Ok-room.is)
+    let is = shared (goal.at.returns-in-Ok-room c).After-judge_open in
+    (spent_decides (state_of c.args.store.now) c.args.context.now (view_open c.args.asked.now) c.args.found.now c.in-Err.status (sym c.in-Err.is ∙ is)
+    (λ e. c.if-number.false (c.number.ensures ∙ e ∙ sym c.number-in-Err.ensures)) c.judge_room-room.result c.judge_room-room.ensures).0
+    (sym c.in-Ok-room.is)
 
 pub returns-in-Err-room : goal.returns-in-Err-room
 returns-in-Err-room c =
-    let s = state_of c.args.store.now in
-    let x = c.args.context.now in
-    let o = view_open c.args.asked.now in
-    let found = c.args.found.now in
-    let shared : c.judge_open.result ≡ judged (first_fault (shared_checks s x o found)) =
-    c.judge_open.ensures ∙ ap (λ a. judged (open_fault s.opens a)) (c.ask_for-ask.ensures ∙ ap (asking x o) c.number_of.ensures)
-    ∙ ap judged (shared_fault s x o found c.kept.ensures c.requires) in
-    (spent_decides s x o found c.in-Err.status (sym c.in-Err.is ∙ shared)
+    let is = shared (goal.at.returns-in-Err-room c).After-judge_open in
+    (spent_decides (state_of c.args.store.now) c.args.context.now (view_open c.args.asked.now) c.args.found.now c.in-Err.status (sym c.in-Err.is ∙ is)
     (λ e. c.if-number.false (c.number.ensures ∙ e ∙ sym c.number-in-Err.ensures)) c.judge_room-room.result c.judge_room-room.ensures).1
     c.in-Err-room.other (sym c.in-Err-room.is)

@@ -7,10 +7,9 @@ use Rattle.nfs_opens.specs.Opening as of_opens
 use Rattle.nfs_opens.specs.Opening.{open_fault}
 use Rattle.nfs_names.specs.State.{State, state_of}
 use Rattle.nfs_names.proofs.Found.{checked_ok}
-use Rattle.nfs_names.proofs.Faulted.{done_by_tree}
+use Rattle.nfs_names.proofs.Faulted.{done_by_tree, refused_tree}
 use Rattle.nfs_files.specs.Open.{asking, asked_for, last_checks, file_of, tree_of}
 use Rattle.nfs_files.specs.OpenParts.{tree_fault}
-use Rattle.nfs_files.proofs.Answering.{refused_tree}
 use Rattle.nfs_names.specs.Faults.{status_of}
 use Rattle.nfs_files.proofs.Granted.{tree_free}
 use Rattle.nfs_files.proofs.Opened.{opened_fault, shared_free}

@@ -11,7 +11,7 @@ use Rattle.nfs_tree.specs.declared.done.Renamed.{Renamed}
 use Rattle.nfs_tree.specs.Names as tree
 use Rattle.nfs_tree.specs.Names.{moves, with_moved}
 use Rattle.nfs_names.specs.State.{State, state_of, with_tree}
-use Rattle.nfs_names.specs.Outcome.{Outcome, checked, is_delay}
+use Rattle.nfs_names.specs.Outcome.{Outcome, checked}
 use Rattle.nfs_names.specs.Checks.{both}
 use Rattle.nfs_names.specs.Create.{change_info}
 use Rattle.nfs_names.specs.Faults.{status_of}
@@ -19,7 +19,7 @@ use Rattle.nfs_names.specs.Operation.{moves_in}
 use Rattle.nfs_names.specs.Rename.{move_of, place_checks, row_checks, without_replaced, moved, unmoved, rename}
 use Rattle.nfs_names.proofs.Bounds.{both_refuses}
 use Rattle.nfs_names.proofs.Refusing.{refuses_checked}
-use Rattle.nfs_names.proofs.Faulted.{told_refusal_by, error_outcome, not_delayed}
+use Rattle.nfs_names.proofs.Faulted.{told_refusal_by, told_error, not_delayed}
 use Rattle.nfs_names.proofs.Renaming.{went, went_empty, rename_goes, rename_refused, what_moves}
 use Rattle.nfs_names.proofs.making.rename.Goals as goal
 
@@ -81,8 +81,5 @@ returns-in-Err c =
     let s = state_of c.args.store.now in
     let x = c.args.context.now in
     let a = view_rename c.args.asked.now in
-    let status = c.in-Err.status in
-    told_refusal_by (moves_in s a (both s x)) s s.tree x Op.Rename (rename s x c.args.now a) _ status c.refuse-in-Err.ensures refl
-    (error_outcome (moves_in s a (both s x) && is_delay status) s x Op.Rename
-    (checked (both s x) (place_checks x a)) (row_checks s a) (what_moves s x c.args.now a) status
-    (refuses_checked (both s x) (place_checks x a) (both_refuses s x) (λ p. refl)) (sym c.judge_rename.ensures ∙ c.in-Err.is))
+    told_error (moves_in s a (both s x)) s x Op.Rename (checked (both s x) (place_checks x a)) (row_checks s a) (what_moves s x c.args.now a) _ c.in-Err.status
+    (refuses_checked (both s x) (place_checks x a) (both_refuses s x) (λ p. refl)) (sym c.judge_rename.ensures ∙ c.in-Err.is) c.refuse-in-Err.ensures

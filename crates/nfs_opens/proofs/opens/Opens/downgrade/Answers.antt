@@ -1,139 +1,102 @@
-use Rattle.std.proofs.Common.{◌≡◌, Some, None, ℕ, ◌+◌, ◌<◌, ◌++◌, ◌∷◌, [], List, length, sym, subst, ap, ◌∙◌, arith, refl, eqb, false, true}
-use Rattle.std.specs.Prelude.{◌==◌, ◌^◌, Result, Ok, Err, find, not, if◌then◌else◌, map, IfSome, IsSomeAnd}
-use Rattle.std.specs.List.{list_any}
+use Rattle.std.proofs.Common.{◌≡◌, Option, Some, None, ℕ, sym, subst, ap, ◌∙◌, refl, false, true}
+use Rattle.std.specs.Prelude.{◌==◌, Ok, Err, find, if◌then◌else◌}
 use Rattle.std.specs.Option.{option_copied}
-use Rattle.std.proofs.lemmas.Grind.{common_steps}
-use Rattle.std.proofs.lemmas.Bool.{ne_eqb, eqb-true, and_parts}
 use Rattle.nfs_xdr.specs.declared.status.Status.{Status}
 use Rattle.nfs_xdr.specs.declared.status.Status.TheVariants.{Inval}
 use Rattle.nfs_opens.specs.contracts.opens.Opens.{the_view}
 use Rattle.nfs_opens.specs.declared.stateid.StateId.{StateId}
-use Rattle.nfs_opens.specs.declared.locking.OpenFault.{OpenFault}
 use Rattle.nfs_opens.specs.declared.records.OpenState.{OpenState}
-use Rattle.nfs_opens.specs.declared.records.LockState.{LockState}
-use Rattle.nfs_opens.specs.Holding.{held_by, on_file}
-use Rattle.nfs_opens.specs.StateId.{next_seqid, last_number}
-use Rattle.nfs_opens.specs.Table.{Kept, Table, Did, Rises, IsTable, table, lock_at, open_at, is_own, clashes_with}
-use Rattle.nfs_opens.specs.Judging.{judge}
-use Rattle.nfs_opens.specs.declared.judging.Sort.TheVariants.{OpenOnly, LockOnly}
-use Rattle.nfs_opens.specs.Opening.{asked, own_open, new_open, joins, downgrade, downgrade_by, narrow_open, narrows, is_narrower}
-use Rattle.nfs_opens.specs.Locking.{lock_judged, lock_first, is_locker, state_of}
+use Rattle.nfs_opens.specs.Holding.{held_by}
+use Rattle.nfs_opens.specs.StateId.{next_seqid}
+use Rattle.nfs_opens.specs.Table.{Kept, Did, with_open, Rises, IsTable, table, open_at}
+use Rattle.nfs_opens.specs.Opening.{downgrade, downgrade_by, narrow_open, narrows}
 use Rattle.nfs_opens.proofs.Numbered.{rises}
-use Rattle.nfs_opens.proofs.Members.{find_in, in_one}
-use Rattle.nfs_opens.proofs.LockLemmas.{same_table, as_many, judged_open, judged_lock}
-use Rattle.nfs_opens.proofs.TableLemmas.{table_opened}
-use Rattle.nfs_opens.proofs.StepLemmas.{if_some, judged_tells, first_state, table_first, lock_first_is, narrow_done, narrow_refused, table_narrow, table_join}
-use Rattle.nfs_opens.proofs.StepLemmas.{no_clash_asked}
+use Rattle.nfs_opens.proofs.LockLemmas.{same_table, as_many}
+use Rattle.nfs_opens.proofs.StepLemmas.{narrow_done, narrow_refused, table_narrow}
 use Rattle.nfs_opens.proofs.opens.Opens.downgrade.Goals as goal
+use Rattle.nfs_opens.proofs.opens.Opens.downgrade.Goals.{After-open_in, After-is_narrower, After-narrow_open}
 
 pub open_in-requires : goal.open_in-requires
 open_in-requires c = subst (Rises (λ (o : OpenState). o.number) 1) (sym c.deref.ensures.value)
     (rises (λ (o : OpenState). o.number) 1 _ c.self.inside.opens.items c.self.invariant.table.opens)
 
+-- what is found under the number
+found : (c : After-open_in) (o : Option OpenState) → option_copied c.open_in.result ≡ o → open_at (table (the_view c.self.inside)) c.args.id.number ≡ o
+found c o is = ap (find (λ (o : OpenState). o.number == c.args.id.number)) (sym c.deref.ensures.value) ∙ (sym c.open_in.ensures ∙ is)
+
+-- a downgrade by a stateid that was judged well narrows what is found
+narrowed : (c : After-open_in) (o : Option OpenState) → option_copied c.open_in.result ≡ o
+    → downgrade (table c.args.self.now) c.args.id c.args.client c.args.file c.args.access c.args.deny
+    ≡ narrow_open (table (the_view c.self.inside)) c.args.id.number c.args.access c.args.deny o
+narrowed c o is =
+    let n = c.args.id.number in
+    ap (downgrade_by (table c.args.self.now) n c.args.access c.args.deny) (sym c.judge.ensures ∙ c.in_ok-judge.was)
+    ∙ ap (λ (k : Kept). narrow_open (table k) n c.args.access c.args.deny (open_at (table k) n)) (sym c.self.view_is)
+    ∙ ap (narrow_open (table (the_view c.self.inside)) n c.args.access c.args.deny) (found c o is)
+
+refused : (c : After-is_narrower) → c.is_narrower.result ≡ false
+    → narrow_open (table (the_view c.self.inside)) c.args.id.number c.args.access c.args.deny (Some c.in-Some.open.now)
+    ≡ record { answer = Err Inval; after = table (the_view c.self.inside) }
+refused c is = narrow_refused (table (the_view c.self.inside)) c.args.id.number c.args.access c.args.deny c.in-Some.open.now (sym c.is_narrower.ensures ∙ is)
+
+-- the opens alone have changed
+changed : (c : After-narrow_open)
+    → table (record (the_view c.self.inside) { opens = c.narrow_open.new.opens.items })
+    ≡ with_open (table (the_view c.self.inside)) c.args.id.number (narrows c.args.access c.args.deny)
+changed c = same_table c.narrow_open.new.opens.items _ c.self.inside.locks.items _
+    (held_by c.self.inside.files) _ c.self.inside.last c.self.inside.instance c.narrow_open.ensures.items refl refl
+
 pub returns-in-None-clause-after : goal.returns-in-None-clause-after
 returns-in-None-clause-after c =
-    let judged : judge (table (the_view c.self.inside)) c.args.id c.args.client (Some c.args.file) OpenOnly ≡ Ok c.in_ok-judge.field-0 =
-    ap (λ (k : Kept). judge (table k) c.args.id c.args.client (Some c.args.file) OpenOnly) c.self.view_is ∙ (sym c.judge.ensures ∙ c.in_ok-judge.was) in
-    let found : open_at (table (the_view c.self.inside)) c.args.id.number ≡ None =
-    ap (find (λ (o : OpenState). o.number == c.args.id.number)) (sym c.deref.ensures.value) ∙ (sym c.open_in.ensures ∙ ap option_copied c.in-None.is) in
-    let is : downgrade (table (the_view c.self.inside)) c.args.id c.args.client c.args.file c.args.access c.args.deny ≡ narrow_open
-    (table (the_view c.self.inside)) c.args.id.number c.args.access c.args.deny (None) =
-    ap (downgrade_by (table (the_view c.self.inside)) c.args.id.number c.args.access c.args.deny) judged
-    ∙ ap (narrow_open (table (the_view c.self.inside)) c.args.id.number c.args.access c.args.deny) found in
-    subst (λ (k : Kept). table k ≡ (downgrade (table k) c.args.id c.args.client c.args.file c.args.access c.args.deny).after) c.self.view_is
-    (sym (ap (λ (d : Did StateId Status). d.after) is))
+    let is = narrowed (goal.at.returns-in-None-clause-after c).After-open_in None (ap option_copied c.in-None.is) in
+    ap table (sym c.self.view_is) ∙ sym (ap (λ (d : Did StateId Status). d.after) is)
 
 pub returns-in-Some-clause-answer : goal.returns-in-Some-clause-answer
 returns-in-Some-clause-answer c =
-    let judged : judge (table (the_view c.self.inside)) c.args.id c.args.client (Some c.args.file) OpenOnly ≡ Ok c.in_ok-judge.field-0 =
-    ap (λ (k : Kept). judge (table k) c.args.id c.args.client (Some c.args.file) OpenOnly) c.self.view_is ∙ (sym c.judge.ensures ∙ c.in_ok-judge.was) in
-    let found : open_at (table (the_view c.self.inside)) c.args.id.number ≡ Some c.in-Some.open.now =
-    ap (find (λ (o : OpenState). o.number == c.args.id.number)) (sym c.deref.ensures.value) ∙ (sym c.open_in.ensures ∙ ap option_copied c.in-Some.is) in
-    let is : downgrade (table (the_view c.self.inside)) c.args.id c.args.client c.args.file c.args.access c.args.deny ≡ narrow_open
-    (table (the_view c.self.inside)) c.args.id.number c.args.access c.args.deny (Some c.in-Some.open.now) =
-    ap (downgrade_by (table (the_view c.self.inside)) c.args.id.number c.args.access c.args.deny) judged
-    ∙ ap (narrow_open (table (the_view c.self.inside)) c.args.id.number c.args.access c.args.deny) found in
-    let refused = narrow_refused (table (the_view c.self.inside)) c.args.id.number c.args.access c.args.deny c.in-Some.open.now
-    (sym c.is_narrower.ensures ∙ c.if-not-is_narrower.true) in
-    subst (λ (k : Kept). Err Inval ≡ (downgrade (table k) c.args.id c.args.client c.args.file c.args.access c.args.deny).answer) c.self.view_is
-    (sym (ap (λ (d : Did StateId Status). d.answer) (is ∙ refused)))
+    let at = goal.at.returns-in-Some-clause-answer c in
+    let is = narrowed at.After-open_in (Some c.in-Some.open.now) (ap option_copied c.in-Some.is) in
+    sym (ap (λ (d : Did StateId Status). d.answer) (is ∙ refused at.After-is_narrower c.if-not-is_narrower.true))
 
 pub returns-in-Some-clause-after : goal.returns-in-Some-clause-after
 returns-in-Some-clause-after c =
-    let judged : judge (table (the_view c.self.inside)) c.args.id c.args.client (Some c.args.file) OpenOnly ≡ Ok c.in_ok-judge.field-0 =
-    ap (λ (k : Kept). judge (table k) c.args.id c.args.client (Some c.args.file) OpenOnly) c.self.view_is ∙ (sym c.judge.ensures ∙ c.in_ok-judge.was) in
-    let found : open_at (table (the_view c.self.inside)) c.args.id.number ≡ Some c.in-Some.open.now =
-    ap (find (λ (o : OpenState). o.number == c.args.id.number)) (sym c.deref.ensures.value) ∙ (sym c.open_in.ensures ∙ ap option_copied c.in-Some.is) in
-    let is : downgrade (table (the_view c.self.inside)) c.args.id c.args.client c.args.file c.args.access c.args.deny ≡ narrow_open
-    (table (the_view c.self.inside)) c.args.id.number c.args.access c.args.deny (Some c.in-Some.open.now) =
-    ap (downgrade_by (table (the_view c.self.inside)) c.args.id.number c.args.access c.args.deny) judged
-    ∙ ap (narrow_open (table (the_view c.self.inside)) c.args.id.number c.args.access c.args.deny) found in
-    let refused = narrow_refused (table (the_view c.self.inside)) c.args.id.number c.args.access c.args.deny c.in-Some.open.now
-    (sym c.is_narrower.ensures ∙ c.if-not-is_narrower.true) in
-    subst (λ (k : Kept). table k ≡ (downgrade (table k) c.args.id c.args.client c.args.file c.args.access c.args.deny).after) c.self.view_is
-    (sym (ap (λ (d : Did StateId Status). d.after) (is ∙ refused)))
+    let at = goal.at.returns-in-Some-clause-after c in
+    let is = narrowed at.After-open_in (Some c.in-Some.open.now) (ap option_copied c.in-Some.is) in
+    ap table (sym c.self.view_is) ∙ sym (ap (λ (d : Did StateId Status). d.after) (is ∙ refused at.After-is_narrower c.if-not-is_narrower.true))
 
 pub narrow_open-requires : goal.narrow_open-requires
 narrow_open-requires c = rises (λ (o : OpenState). o.number) 1 _ c.self.inside.opens.items c.self.invariant.table.opens
 
 pub invariant_of-self : goal.invariant_of-self
 invariant_of-self c =
-    let judged : judge (table (the_view c.self.inside)) c.args.id c.args.client (Some c.args.file) OpenOnly ≡ Ok c.in_ok-judge.field-0 =
-    ap (λ (k : Kept). judge (table k) c.args.id c.args.client (Some c.args.file) OpenOnly) c.self.view_is ∙ (sym c.judge.ensures ∙ c.in_ok-judge.was) in
-    let found : open_at (table (the_view c.self.inside)) c.args.id.number ≡ Some c.in-Some.open.now =
-    ap (find (λ (o : OpenState). o.number == c.args.id.number)) (sym c.deref.ensures.value) ∙ (sym c.open_in.ensures ∙ ap option_copied c.in-Some.is) in
-    let is : downgrade (table (the_view c.self.inside)) c.args.id c.args.client c.args.file c.args.access c.args.deny ≡ narrow_open
-    (table (the_view c.self.inside)) c.args.id.number c.args.access c.args.deny (Some c.in-Some.open.now) =
-    ap (downgrade_by (table (the_view c.self.inside)) c.args.id.number c.args.access c.args.deny) judged
-    ∙ ap (narrow_open (table (the_view c.self.inside)) c.args.id.number c.args.access c.args.deny) found in
-    let same = same_table c.narrow_open.new.opens.items _ c.self.inside.locks.items _
-    (held_by c.self.inside.files) _ c.self.inside.last c.self.inside.instance c.narrow_open.ensures.items refl refl in
+    let at = goal.at.invariant_of-self c in
+    let one = found at.After-open_in (Some c.in-Some.open.now) (ap option_copied c.in-Some.is) in
     record {
-      table = subst IsTable (sym same)
-          (table_narrow (table (the_view c.self.inside)) c.args.id.number c.args.access c.args.deny c.in-Some.open.now c.self.invariant.table found
+      table = subst IsTable (sym (changed at.After-narrow_open))
+          (table_narrow (table (the_view c.self.inside)) c.args.id.number c.args.access c.args.deny c.in-Some.open.now c.self.invariant.table one
           (sym c.is_narrower.ensures ∙ c.if-not-is_narrower.false));
       room = λ yes. as_many (λ (o : OpenState). if o.number == c.args.id.number then narrows c.args.access c.args.deny o else o) c.self.inside.opens.items
           c.narrow_open.new.opens.items _ _ c.narrow_open.ensures.items c.narrow_open.ensures.room (c.self.invariant.room yes);
     }
 
+-- what a downgrade of an open that is narrowed answers and leaves
+granted : (c : After-narrow_open) → downgrade (table c.args.self.now) c.args.id c.args.client c.args.file c.args.access c.args.deny
+    ≡ narrow_open (table (the_view c.self.inside)) c.args.id.number c.args.access c.args.deny (Some c.in-Some.open.now)
+    → c.is_narrower.result ≡ true → downgrade (table c.args.self.now) c.args.id c.args.client c.args.file c.args.access c.args.deny ≡ record {
+      answer = Ok (record { seqid = next_seqid c.in-Some.open.now.seqid; instance = c.self.inside.instance; number = c.args.id.number });
+      after = with_open (table (the_view c.self.inside)) c.args.id.number (narrows c.args.access c.args.deny);
+    }
+granted c is narrower = is ∙ narrow_done (table (the_view c.self.inside)) c.args.id.number c.args.access c.args.deny c.in-Some.open.now
+    (sym c.is_narrower.ensures ∙ narrower)
+
 pub returns-clause-answer : goal.returns-clause-answer
 returns-clause-answer c =
-    let judged : judge (table (the_view c.self.inside)) c.args.id c.args.client (Some c.args.file) OpenOnly ≡ Ok c.in_ok-judge.field-0 =
-    ap (λ (k : Kept). judge (table k) c.args.id c.args.client (Some c.args.file) OpenOnly) c.self.view_is ∙ (sym c.judge.ensures ∙ c.in_ok-judge.was) in
-    let found : open_at (table (the_view c.self.inside)) c.args.id.number ≡ Some c.in-Some.open.now =
-    ap (find (λ (o : OpenState). o.number == c.args.id.number)) (sym c.deref.ensures.value) ∙ (sym c.open_in.ensures ∙ ap option_copied c.in-Some.is) in
-    let is : downgrade (table (the_view c.self.inside)) c.args.id c.args.client c.args.file c.args.access c.args.deny ≡ narrow_open
-    (table (the_view c.self.inside)) c.args.id.number c.args.access c.args.deny (Some c.in-Some.open.now) =
-    ap (downgrade_by (table (the_view c.self.inside)) c.args.id.number c.args.access c.args.deny) judged
-    ∙ ap (narrow_open (table (the_view c.self.inside)) c.args.id.number c.args.access c.args.deny) found in
-    let granted = narrow_done (table (the_view c.self.inside)) c.args.id.number c.args.access c.args.deny c.in-Some.open.now
-    (sym c.is_narrower.ensures ∙ c.if-not-is_narrower.false) in
-    subst (λ (k : Kept). Ok (record { seqid = c.next_seqid-seqid.result; instance = c.self.inside.instance; number = c.args.id.number }) ≡
-    (downgrade (table k) c.args.id c.args.client c.args.file c.args.access c.args.deny).answer) c.self.view_is
-    (ap (λ (s : ℕ). Ok (record { seqid = s; instance = c.self.inside.instance; number = c.args.id.number })) c.next_seqid-seqid.ensures
-    ∙ sym (ap (λ (d : Did StateId Status). d.answer) (is ∙ granted)))
+    let at = goal.at.returns-clause-answer c in
+    let is = narrowed at.After-open_in (Some c.in-Some.open.now) (ap option_copied c.in-Some.is) in
+    ap (λ (s : ℕ). Ok (record { seqid = s; instance = c.self.inside.instance; number = c.args.id.number })) c.next_seqid-seqid.ensures
+    ∙ sym (ap (λ (d : Did StateId Status). d.answer) (granted at.After-narrow_open is c.if-not-is_narrower.false))
 
 pub returns-clause-after : goal.returns-clause-after
 returns-clause-after c =
-    let judged : judge (table (the_view c.self.inside)) c.args.id c.args.client (Some c.args.file) OpenOnly ≡ Ok c.in_ok-judge.field-0 =
-    ap (λ (k : Kept). judge (table k) c.args.id c.args.client (Some c.args.file) OpenOnly) c.self.view_is ∙ (sym c.judge.ensures ∙ c.in_ok-judge.was) in
-    let found : open_at (table (the_view c.self.inside)) c.args.id.number ≡ Some c.in-Some.open.now =
-    ap (find (λ (o : OpenState). o.number == c.args.id.number)) (sym c.deref.ensures.value) ∙ (sym c.open_in.ensures ∙ ap option_copied c.in-Some.is) in
-    let is : downgrade (table (the_view c.self.inside)) c.args.id c.args.client c.args.file c.args.access c.args.deny ≡ narrow_open
-    (table (the_view c.self.inside)) c.args.id.number c.args.access c.args.deny (Some c.in-Some.open.now) =
-    ap (downgrade_by (table (the_view c.self.inside)) c.args.id.number c.args.access c.args.deny) judged
-    ∙ ap (narrow_open (table (the_view c.self.inside)) c.args.id.number c.args.access c.args.deny) found in
-    let granted = narrow_done (table (the_view c.self.inside)) c.args.id.number c.args.access c.args.deny c.in-Some.open.now
-    (sym c.is_narrower.ensures ∙ c.if-not-is_narrower.false) in
-    let same = same_table c.narrow_open.new.opens.items _ c.self.inside.locks.items _
-    (held_by c.self.inside.files) _ c.self.inside.last c.self.inside.instance c.narrow_open.ensures.items refl refl in
-    subst (λ (k : Kept). record {
-      opens = c.narrow_open.new.opens.items;
-      locks = c.self.inside.locks.items;
-      held = held_by c.self.inside.files;
-      last =
-          c.self.inside.last;
-      instance = c.self.inside.instance;
-    } ≡ (downgrade (table k) c.args.id c.args.client c.args.file c.args.access c.args.deny).after)
-    c.self.view_is
-    (same ∙ sym (ap (λ (d : Did StateId Status). d.after) (is ∙ granted)))
+    let at = goal.at.returns-clause-after c in
+    let is = narrowed at.After-open_in (Some c.in-Some.open.now) (ap option_copied c.in-Some.is) in
+    changed at.After-narrow_open ∙ sym (ap (λ (d : Did StateId Status). d.after) (granted at.After-narrow_open is c.if-not-is_narrower.false))
