@@ -2,8 +2,9 @@
 
 use crate::World;
 use nfs_compound::Compound;
+use nfs_testing::bytes_of;
 use nfs_xdr::{Sheet, Who};
-use std::alloc::{AllocError, Global};
+use std::alloc::Global;
 use std::test::Fail;
 
 /// A letter as an owner of one byte, with its padding.
@@ -14,18 +15,10 @@ const NFS4: u32 = 0x6e66_7334;
 
 const ONE_D: u32 = 0x3164_0000;
 
-fn bytes_of(alloc: Global, words: &[u32]) -> Result<Vec<u8>, AllocError> {
-    let mut bytes = Vec::new(alloc);
-    for word in words {
-        bytes.extend_from_slice(&word.to_be_bytes())?;
-    }
-    Ok(bytes)
-}
-
 /// What a new world of instance 7 puts on a new sheet for these arguments.
 fn answer(alloc: Global, words: &[u32]) -> Result<Vec<u8>, Fail> {
     let mut world = World::new(alloc, 7, 90, 0o777)?;
-    let args = bytes_of(alloc, words)?;
+    let args = bytes_of(alloc, &[words])?;
     let Ok(mut compound) = Compound::open(args.as_slice()) else {
         return Err(Fail::from("garbage"));
     };
@@ -68,7 +61,7 @@ fn each_compound_is_answered(rt: HostRuntime) -> Result<(), Fail> {
     ];
     for (words, want) in cases {
         let got = answer(rt.alloc(), words)?;
-        assert_eq!(rt; got, bytes_of(rt.alloc(), want)?, "{words:?}");
+        assert_eq!(rt; got, bytes_of(rt.alloc(), &[want])?, "{words:?}");
     }
     Ok(())
 }

@@ -7,6 +7,7 @@ ghost use Rattle.nfs_names.specs.Operation.{on_names};
 
 use super::*;
 use nfs_compound::{Arg, Attributes, Bitmap, Create, CreateType, ReadDir, Rename, SecinfoStyle};
+use nfs_testing::{LONG, MOST, starve};
 use nfs_tree::Tree;
 use nfs_xdr::{Sheet, Status, Time, Who};
 use std::alloc::{AllocError, Global};
@@ -30,9 +31,6 @@ const NOTHING: Attributes<'static> = Attributes {
     attrmask: Bitmap { words: &[] },
     attr_vals: &[],
 };
-
-/// A name that wants memory of its own.
-const LONG: &[u8] = b"a name that is longer than any block that is left over";
 
 /// An operation, with as much of its arguments as the tests choose.
 #[derive(Clone, Copy, Debug)]
@@ -227,28 +225,6 @@ fn each_operation_is_answered(rt: HostRuntime) -> Result<(), Fail> {
         assert_eq!(rt; got, want, "{step:?}");
     }
     Ok(())
-}
-
-const MOST: usize = 300_000;
-
-/// Takes all memory that there is to take, untouched, down to blocks of 16 bytes.
-fn starve(alloc: Global, taken: &mut Vec<Vec<u8>>) {
-    let mut size = 1usize << 46;
-    for _ in 0..MOST {
-        match Vec::with_capacity(alloc, size) {
-            Ok(block) => {
-                if taken.push(block).is_err() {
-                    return;
-                }
-            }
-            Err(_) => {
-                size /= 2;
-                if size < 16 {
-                    return;
-                }
-            }
-        }
-    }
 }
 
 #[test]

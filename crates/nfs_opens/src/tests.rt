@@ -2,6 +2,7 @@
 
 use super::*;
 use nfs_ranges::{Held, Kind};
+use nfs_testing::{MOST, starve};
 use nfs_xdr::Status;
 use std::alloc::Global;
 use std::test::Fail;
@@ -363,28 +364,6 @@ fn a_seqid_after_the_last_is_one(rt: HostRuntime) -> Result<(), Fail> {
         assert_eq!(rt; stateid::next_seqid(seqid), next, "behind {seqid}");
     }
     Ok(())
-}
-
-const MOST: usize = 300_000;
-
-/// Takes all memory that there is to take, untouched, down to blocks of 16 bytes.
-fn starve(alloc: Global, taken: &mut Vec<Vec<u8>>) {
-    let mut size = 1usize << 46;
-    for _ in 0..MOST {
-        match Vec::with_capacity(alloc, size) {
-            Ok(block) => {
-                if taken.push(block).is_err() {
-                    return;
-                }
-            }
-            Err(_) => {
-                size /= 2;
-                if size < 16 {
-                    return;
-                }
-            }
-        }
-    }
 }
 
 #[test]

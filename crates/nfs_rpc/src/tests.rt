@@ -3,17 +3,10 @@ ghost use Rattle.nfs_rpc.specs.declared.fed.Fed.TheVariants as Feds;
 ghost use Rattle.nfs_rpc.specs.Feeding.{waits};
 
 use super::*;
+use nfs_testing::bytes_of;
 use nfs_xdr::Sheet;
 use std::alloc::{AllocError, Global};
 use std::test::Fail;
-
-fn bytes_of(alloc: Global, words: &[u32]) -> Result<Vec<u8>, AllocError> {
-    let mut bytes = Vec::new(alloc);
-    for word in words {
-        bytes.extend_from_slice(&word.to_be_bytes())?;
-    }
-    Ok(bytes)
-}
 
 /// What is put in answer to a record: a refusal, or the head of the reply.
 #[tactic(auto, using(crate::proofs::Lengths::lengths))]
@@ -84,8 +77,8 @@ fn calls_are_answered_or_refused(rt: HostRuntime) -> Result<(), Fail> {
         ("a reply", &[5, 1, 2, 100_003, 4, 0, 0, 0, 0, 0], &[]),
     ];
     for (name, call, reply) in &rows {
-        let record = bytes_of(rt.alloc(), call)?;
-        let wanted = bytes_of(rt.alloc(), reply)?;
+        let record = bytes_of(rt.alloc(), &[*call])?;
+        let wanted = bytes_of(rt.alloc(), &[*reply])?;
         let put = answer(rt.alloc(), &record)?;
         assert_eq!(rt; put.bytes(), wanted.as_slice(), "{name}");
     }
@@ -96,7 +89,7 @@ fn calls_are_answered_or_refused(rt: HostRuntime) -> Result<(), Fail> {
 fn a_call_tells_who_calls_what(rt: HostRuntime) -> Result<(), Fail> {
     let record = bytes_of(
         rt.alloc(),
-        &[
+        &[&[
             7,
             0,
             2,
@@ -120,7 +113,7 @@ fn a_call_tells_who_calls_what(rt: HostRuntime) -> Result<(), Fail> {
             0,
             1,
             0, // arguments
-        ],
+        ]],
     )?;
     let call = Call::read(&record).map_err(|_| "a call of COMPOUND")?;
     let who = call.who;

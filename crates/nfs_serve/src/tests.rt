@@ -6,7 +6,6 @@ mod starting;
 mod talks;
 
 use crate::Settings;
-use std::alloc::{AllocError, Global};
 
 const SETTINGS: Settings = Settings {
     lease: 90,
@@ -81,13 +80,3 @@ const fn exchanged(counter: u32) -> [u32; 25] {
 
 /// The top bit of a record mark.
 const LAST: u32 = 0x8000_0000;
-
-fn bytes_of(alloc: Global, parts: &[&[u32]]) -> Result<Vec<u8>, AllocError> {
-    let mut bytes = Vec::new(alloc);
-    for part in parts {
-        for word in *part {
-            bytes.extend_from_slice(&word.to_be_bytes())?;
-        }
-    }
-    Ok(bytes)
-}

@@ -1,7 +1,7 @@
 use super::*;
 use nfs_slots::Verdict;
+use nfs_testing::{MOST, starve};
 use nfs_xdr::Status;
-use std::alloc::Global;
 use std::test::Fail;
 
 const A: u64 = 0x0000_0007_0000_0001;
@@ -48,26 +48,6 @@ fn serve(
 /// What slot 0 of a session keeps.
 fn kept<'a>(sessions: &'a Sessions, id: &SessionId) -> Option<&'a [u8]> {
     Some(sessions.slots(id)?.kept(0))
-}
-
-/// Takes all memory that there is to take, untouched, down to blocks of 16 bytes.
-fn starve(alloc: Global, held: &mut Vec<Vec<u8>>) {
-    let mut size = 1usize << 46;
-    for _ in 0..300_000 {
-        match Vec::with_capacity(alloc, size) {
-            Ok(block) => {
-                if held.push(block).is_err() {
-                    return;
-                }
-            }
-            Err(_) => {
-                size /= 2;
-                if size < 16 {
-                    return;
-                }
-            }
-        }
-    }
 }
 
 #[test]
@@ -239,7 +219,7 @@ fn a_session_without_memory_leaves_all_as_it_was(rt: HostRuntime) -> Result<(), 
     let large = wish(66_560, 66_560, 64, 16);
     let first = sessions.create(rt.alloc(), A, &large)?;
     serve(&mut sessions, &first, 1, b"args", b"reply");
-    let mut held = Vec::with_capacity(rt.alloc(), 300_000)?;
+    let mut held = Vec::with_capacity(rt.alloc(), MOST)?;
     starve(rt.alloc(), &mut held);
     let refused = sessions.create(rt.alloc(), B, &large);
     drop(held);

@@ -5,6 +5,7 @@ ghost use Rattle.nfs_tree.specs.Files.{root, has_row};
 
 use super::*;
 use crate::row::has_row;
+use nfs_testing::{LONG, MOST, starve};
 use nfs_xdr::{Sheet, Time};
 use std::alloc::{AllocError, Global};
 use std::test::Fail;
@@ -165,31 +166,6 @@ fn bytes_are_written_cut_and_read(rt: HostRuntime) -> Result<(), Fail> {
     assert!(rt; tree.judge_create(Tree::ROOT).is_ok());
     tree.remove(Tree::ROOT, b"f", NOW)?;
     Ok(())
-}
-
-const MOST: usize = 300_000;
-
-/// A name, and bytes, that want memory of their own.
-const LONG: &[u8] = b"a name that is longer than any block that is left over";
-
-/// Takes all memory that there is to take, untouched, down to blocks of 16 bytes.
-fn starve(alloc: Global, taken: &mut Vec<Vec<u8>>) {
-    let mut size = 1usize << 46;
-    for _ in 0..MOST {
-        match Vec::with_capacity(alloc, size) {
-            Ok(block) => {
-                if taken.push(block).is_err() {
-                    return;
-                }
-            }
-            Err(_) => {
-                size /= 2;
-                if size < 16 {
-                    return;
-                }
-            }
-        }
-    }
 }
 
 #[test]

@@ -2,8 +2,9 @@
 
 use crate::names::{create_form, is_of_files, is_of_names};
 use crate::opens::{is_held, is_of_opens, lock_form, open_form};
-use crate::words::{A, B, SESSION, behind, bytes_of};
+use crate::words::{A, B, SESSION};
 use nfs_compound::{Arg, ChannelAttrs, Compound, CreateSession, ExchangeId, SecinfoStyle};
+use nfs_testing::bytes_of;
 use std::alloc::{AllocError, Global};
 use std::test::Fail;
 
@@ -87,7 +88,7 @@ fn is_of_sessions(arg: &Arg<'_>) -> bool {
 
 /// Whether the words are the arguments of one operation, in this form.
 fn is_read(alloc: Global, form: u32, words: &[u32]) -> Result<bool, AllocError> {
-    let args = behind(alloc, &[2, 0x6162_0000, 1, 1], words)?;
+    let args = bytes_of(alloc, &[&[2, 0x6162_0000, 1, 1], words])?;
     let Ok(mut compound) = Compound::open(args.as_slice()) else {
         return Ok(false);
     };
@@ -124,7 +125,7 @@ fn has_head(args: &[u8]) -> bool {
 
 #[test]
 fn the_head_of_a_compound_is_read(rt: HostRuntime) -> Result<(), Fail> {
-    let args = bytes_of(rt.alloc(), &[2, 0x6162_0000, 1, 1, 24])?;
+    let args = bytes_of(rt.alloc(), &[&[2, 0x6162_0000, 1, 1, 24]])?;
     assert!(rt; has_head(args.as_slice()));
     Ok(())
 }

@@ -1,7 +1,7 @@
 //! Records that are cut.
 
-use crate::words::bytes_of;
 use nfs_compound::{Arg, Compound};
+use nfs_testing::bytes_of;
 use nfs_xdr::Status;
 use std::alloc::{AllocError, Global};
 use std::test::Fail;
@@ -102,7 +102,7 @@ fn miscut(
     words: &[u32],
     changes: &[(usize, End)],
 ) -> Result<Option<usize>, AllocError> {
-    let args = bytes_of(alloc, words)?;
+    let args = bytes_of(alloc, &[words])?;
     for length in 0..=args.len() {
         if end_of(&args[..length]) != cut_at(length, changes) {
             return Ok(Some(length));

@@ -3,12 +3,12 @@
 ghost use Rattle.std.specs.Prelude.{◌≡◌, ◌≤◌, ◌+◌, ℕ, length};
 ghost use Rattle.nfs_results.specs.OpenHead.{HasHead};
 
-use crate::words::bytes_of;
 use nfs_compound::OpNum;
 use nfs_results::{
     Entry, OpenHead, Res, read_reply, write_done_head, write_entry, write_list_end,
     write_read_dir_head, write_read_end, write_read_head, write_test_stateid_head,
 };
+use nfs_testing::bytes_of;
 use nfs_xdr::{Sheet, Status};
 use std::test::Fail;
 
@@ -94,7 +94,7 @@ fn results_are_put_in_parts(rt: HostRuntime) -> Result<(), Fail> {
         2,
         0x7879_0000,
     ];
-    assert!(rt; out.bytes() == bytes_of(rt.alloc(), &want)?.as_slice());
+    assert!(rt; out.bytes() == bytes_of(rt.alloc(), &[&want])?.as_slice());
     Ok(())
 }
 
@@ -144,7 +144,7 @@ fn entries_are_lent(rt: HostRuntime) -> Result<(), Fail> {
         0,
         1,
     ];
-    let bytes = bytes_of(rt.alloc(), &words)?;
+    let bytes = bytes_of(rt.alloc(), &[&words])?;
     assert!(rt; is_listed(bytes.as_slice()));
     Ok(())
 }

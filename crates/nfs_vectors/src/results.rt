@@ -5,12 +5,13 @@ ghost use Rattle.nfs_results.specs.Largest.{HasSizes};
 ghost use Rattle.nfs_results.specs.Results.{IsBounded};
 ghost use Rattle.nfs_results.specs.View as view;
 
-use crate::words::{A, SESSION, behind};
+use crate::words::{A, SESSION};
 use nfs_compound::{Arg, ChannelAttrs, LockType, Read, StableHow, Stateid};
 use nfs_results::{
     ChangeInfo, CreateSessionOk, Denied, ExchangeIdOk, Res, can_refuse, largest, read_reply, write,
     write_compound_head,
 };
+use nfs_testing::bytes_of;
 use nfs_xdr::{Sheet, Status};
 use std::alloc::{AllocError, Global};
 use std::test::Fail;
@@ -165,7 +166,7 @@ fn is_put(alloc: Global, res: &Res<'_>, bytes: &[u8]) -> Result<bool, AllocError
 
 /// Whether the words behind the head of one result are read as that result, and put again.
 fn is_spelled(alloc: Global, words: &[u32]) -> Result<bool, AllocError> {
-    let bytes = behind(alloc, &[0, 0, 1], words)?;
+    let bytes = bytes_of(alloc, &[&[0, 0, 1], words])?;
     let Ok(mut reply) = read_reply(bytes.as_slice()) else {
         return Ok(false);
     };

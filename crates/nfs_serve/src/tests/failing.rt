@@ -1,8 +1,9 @@
 //! Runs over ends that fail at each of their calls in turn.
 
 use super::fakes::{Drip, Tray};
-use super::{EXCHANGE_ID, LAST, NULL, NULL_REPLY, SETTINGS, bytes_of, exchanged};
+use super::{EXCHANGE_ID, LAST, NULL, NULL_REPLY, SETTINGS, exchanged};
 use crate::{Host, ReplayFault, Server, Stop};
+use nfs_testing::bytes_of;
 use std::alloc::{AllocError, Global};
 use std::test::Fail;
 

@@ -1,7 +1,8 @@
 //! Single records and single pieces.
 
-use super::{EXCHANGE_ID, LAST, NULL, NULL_REPLY, SETTINGS, bytes_of, exchanged};
+use super::{EXCHANGE_ID, LAST, NULL, NULL_REPLY, SETTINGS, exchanged};
 use crate::{Flow, Form, Host, Outcome, Server};
+use nfs_testing::bytes_of;
 use std::alloc::Global;
 use std::test::Fail;
 

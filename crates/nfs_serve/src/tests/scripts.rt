@@ -1,7 +1,8 @@
 //! Scripts one behind the other.
 
-use super::{EXCHANGE_ID, LAST, SETTINGS, bytes_of, exchanged};
+use super::{EXCHANGE_ID, LAST, SETTINGS, exchanged};
 use crate::{Server, replay_bytes};
+use nfs_testing::bytes_of;
 use std::test::Fail;
 
 #[test]

@@ -2,30 +2,8 @@
 
 use super::SETTINGS;
 use crate::Server;
-use std::alloc::Global;
+use nfs_testing::{MOST, starve};
 use std::test::Fail;
-
-const MOST: usize = 300_000;
-
-/// Takes all memory that there is to take, untouched, down to blocks of 16 bytes.
-fn starve(alloc: Global, taken: &mut Vec<Vec<u8>>) {
-    let mut size = 1usize << 46;
-    for _ in 0..MOST {
-        match Vec::with_capacity(alloc, size) {
-            Ok(block) => {
-                if taken.push(block).is_err() {
-                    return;
-                }
-            }
-            Err(_) => {
-                size /= 2;
-                if size < 16 {
-                    return;
-                }
-            }
-        }
-    }
-}
 
 #[test]
 fn a_server_without_memory_cannot_start(rt: HostRuntime) -> Result<(), Fail> {

@@ -1,8 +1,9 @@
 //! Talks over ends that fail at each of their calls in turn, that end in a record, and that never end.
 
 use super::fakes::{Counting, Drip, Tray, Trickle};
-use super::{EXCHANGE_ID, LAST, NULL, NULL_REPLY, SETTINGS, bytes_of, exchanged};
+use super::{EXCHANGE_ID, LAST, NULL, NULL_REPLY, SETTINGS, exchanged};
 use crate::{Form, Host, Server, Talk};
+use nfs_testing::bytes_of;
 use std::alloc::{AllocError, Global};
 use std::test::Fail;
 
