@@ -91,6 +91,7 @@ fn share_reservations(rt: HostRuntime) -> Result<(), Fail> {
         assert_eq!(rt; got, want, "B opens with {access}, {deny}");
     }
     assert_eq!(rt; (opens.opens_of(FILE), opens.denies(FILE)), (2, share(2)));
+    assert_eq!(rt; (opens.is_open(FILE), opens.is_open(3)), (true, false));
     for want in [Ok(()), Err(Status::BadStateId)] {
         assert_eq!(rt; opens.close(id(1, 1), A, FILE), want);
     }
