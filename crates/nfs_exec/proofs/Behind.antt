@@ -19,7 +19,7 @@ use Rattle.nfs_tree.specs.declared.object.Object.{Object}
 use Rattle.nfs_tree.specs.Files.{object_at}
 use Rattle.nfs_names.specs.State.{State, moment}
 use Rattle.nfs_names.specs.declared.context.Context.{Context}
-use Rattle.nfs_names.specs.declared.held.Held.{Held}
+use Rattle.nfs_names.specs.declared.node.Node.{Node}
 use Rattle.nfs_names.specs.Checks.{current, held, held_as}
 use Rattle.nfs_names.specs.Operation as names
 use Rattle.nfs_files.specs.Operation as files
@@ -79,7 +79,7 @@ kept_step P keeps m x now refused i is = elim (cases_Bool (names.on_names i)) [
     by_mark true o = keeps.marked (record m { store = o.state }) x.client (keeps.stored m o.state is)
     by_mark false o = keeps.stored m o.state is
 
-    one : (found : Result Held Status) → P (of_one m found).machine
+    one : (found : Result Node Status) → P (of_one m found).machine
     one (Ok d) = is
     one (Err status) = is
 

@@ -50,7 +50,7 @@ use Rattle.nfs_exec.proofs.Exchanging.{room_of}
 use Rattle.nfs_names.specs.declared.context.Context.{Context}
 use Rattle.nfs_names.specs.Context.{begins}
 use Rattle.nfs_names.specs.Ending.{has_open as has_open_in}
-use Rattle.nfs_names.specs.declared.held.Held.{Held}
+use Rattle.nfs_names.specs.declared.node.Node.{Node}
 use Rattle.nfs_names.specs.Checks.{current}
 use Rattle.nfs_names.specs.Operation as names
 use Rattle.nfs_names.specs.Outcome.{Outcome as OfStore}
@@ -645,7 +645,7 @@ of_step m x now refused i is known = elim (cases_Bool (names.on_names i)) [
         (λ a same. false≢true (sym cannot ∙ ap moves_opens same)) is.numbers in
         record { machine = of_store m o.state is all.opens; client = ap (is_confirmed m.clients) all.client ∙ known }
 
-    one : (found : Result Held Status) → Stands (record { outcome = of_one m found; context = x })
+    one : (found : Result Node Status) → Stands (record { outcome = of_one m found; context = x })
     one (Ok d) = record { machine = is; client = known }
     one (Err status) = record { machine = is; client = known }
 

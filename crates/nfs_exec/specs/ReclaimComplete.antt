@@ -7,12 +7,12 @@ use Rattle.nfs_compound.specs.OpNum.{op_number}
 use Rattle.nfs_results.specs.Result.{ResReclaimComplete}
 use Rattle.nfs_clients.specs.Marks.{has_reclaimed, with_reclaimed}
 use Rattle.nfs_names.specs.declared.context.Context.{Context}
-use Rattle.nfs_names.specs.declared.held.Held.{Held}
+use Rattle.nfs_names.specs.declared.node.Node.{Node}
 use Rattle.nfs_names.specs.Checks.{current}
 use Rattle.nfs_exec.specs.Machine.{Machine, Outcome, comes_to, refuses}
 
 -- of the current filehandle's file system: the client's mark is neither looked at nor set
-abbrev pub of_one : Machine → Result Held Status → Outcome
+abbrev pub of_one : Machine → Result Node Status → Outcome
 of_one m (Err status) = refuses m (op_number Op.ReclaimComplete) status
 of_one m (Ok found) = comes_to m ResReclaimComplete
 

@@ -17,7 +17,7 @@ use Rattle.nfs_tree.specs.Files.{can_change}
 use Rattle.nfs_attrs.specs.declared.wanted.Wanted.{Wanted}
 use Rattle.nfs_attrs.specs.declared.wanted.AttrFault.{AttrFault}
 use Rattle.nfs_names.specs.declared.context.Context.{Context}
-use Rattle.nfs_names.specs.declared.held.Held.{Held}
+use Rattle.nfs_names.specs.declared.node.Node.{Node}
 use Rattle.nfs_names.specs.declared.making.Making.{Making}
 use Rattle.nfs_names.specs.State.{State}
 use Rattle.nfs_names.specs.Outcome.{mapped, checked}
@@ -43,7 +43,7 @@ file_there (Some s) e = (refl, by_kind s.object.kind e)
     by_kind Kind.Directory e = absurd (false≢true e)
     by_kind Kind.Link e = absurd (false≢true e)
 
-cut_free : (t : Files) (o : Open) (place : ℕ) (f : Held) (cut : Bool) → is_regular_at t f.number ≡ true
+cut_free : (t : Files) (o : Open) (place : ℕ) (f : Node) (cut : Bool) → is_regular_at t f.number ≡ true
     → not (cut && not (can_change t f.number)) ≡ true → tree_fault t o (There place f cut) ≡ None
 cut_free t o place f false file can = refl
 cut_free t o place f true file can =
@@ -66,11 +66,11 @@ pub record IsFree (s : State) (x : Context) (o : Open) (m : Making) : Type 0 whe
   pub free : lookup s.tree m.place.number (name_of o.claim) ≡ None
   pub wanted : first_fault (absent_checks x o m) ≡ None
 
-no_absent : (p : ℕ) (c : Bool) (v : Result Held Status) (m : Making) → mapped (λ f. There p f c) v ≡ Ok (Absent m) → ⊥
+no_absent : (p : ℕ) (c : Bool) (v : Result Node Status) (m : Making) → mapped (λ f. There p f c) v ≡ Ok (Absent m) → ⊥
 no_absent p c (Err status) m e = absurd cc
 no_absent p c (Ok g) m e = absurd cc
 
-no_own : (v : Result Held Status) (m : Making) → mapped (λ f. There f.number f false) v ≡ Ok (Absent m) → ⊥
+no_own : (v : Result Node Status) (m : Making) → mapped (λ f. There f.number f false) v ≡ Ok (Absent m) → ⊥
 no_own (Err status) m e = absurd cc
 no_own (Ok g) m e = absurd cc
 
@@ -78,7 +78,7 @@ absent_of : (v : Result Making Status) (m : Making) → mapped Absent v ≡ Ok (
 absent_of (Err status) m e = absurd cc
 absent_of (Ok k) m e = let same : k ≡ m = cc in ap Ok same
 
-place_of : (v : Result Held Status) (r : Result Wanted AttrFault) (m : Making) → with_wanted v r ≡ Ok m → v ≡ Ok m.place
+place_of : (v : Result Node Status) (r : Result Wanted AttrFault) (m : Making) → with_wanted v r ≡ Ok m → v ≡ Ok m.place
 place_of (Err f) r m e = absurd cc
 place_of (Ok d) (Err f) m e = absurd cc
 place_of (Ok d) (Ok w) m e = let same : record { place = d; wanted = w } ≡ m = cc in ap (λ (m : Making). Ok m.place) same

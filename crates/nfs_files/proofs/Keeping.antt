@@ -14,7 +14,7 @@ use Rattle.nfs_attrs.specs.declared.wanted.Wanted.{Wanted}
 use Rattle.nfs_compound.specs.declared.op_num.OpNum.{OpNum}
 use Rattle.nfs_compound.specs.FileArgs.{Write}
 use Rattle.nfs_names.specs.declared.context.Context.{Context}
-use Rattle.nfs_names.specs.declared.held.Held.{Held}
+use Rattle.nfs_names.specs.declared.node.Node.{Node}
 use Rattle.nfs_names.specs.State.{State, with_tree, IsStore}
 use Rattle.nfs_names.specs.Outcome.{Outcome, answers}
 use Rattle.nfs_names.proofs.Kept.{kind_in, kind_changed, store_by}
@@ -50,7 +50,7 @@ store_set s n now w None is = elim (cases_Bool (gives_some w)) [
 ]
 
 -- WRITE
-pub store_written : (s : State) (w : Write) (d : Held) (now : Time) → IsStore s → IsStore (with_tree s (of_write.with_bytes s.tree w d now))
+pub store_written : (s : State) (w : Write) (d : Node) (now : Time) → IsStore s → IsStore (with_tree s (of_write.with_bytes s.tree w d now))
 store_written s w d now is = elim (cases_Bool (has_bytes w.bytes)) [
   | inl some ↦ rw some (store_by s (with_written s.tree d.number w.offset w.bytes now)
       (λ m. kind_bytes s.tree.objects d.number m now no_sets (λ k. written k.bytes w.offset w.bytes)) (λ m e. e) is)

@@ -23,7 +23,7 @@ use Rattle.nfs_tree.proofs.Trees.{tree_changed}
 use Rattle.nfs_opens.specs.declared.stateid.StateId.{StateId}
 use Rattle.nfs_opens.specs.Opening.{opens}
 use Rattle.nfs_names.specs.declared.context.Context.{Context}
-use Rattle.nfs_names.specs.declared.held.Held.{Held}
+use Rattle.nfs_names.specs.declared.node.Node.{Node}
 use Rattle.nfs_names.specs.declared.making.Making.{Making}
 use Rattle.nfs_names.specs.State.{State, with_tree, IsStore}
 use Rattle.nfs_names.specs.Outcome.{mapped, checked}
@@ -92,22 +92,22 @@ may_open s x now o =
     (λ found. record { may = (refl, tt, set_few o found); arrays = wire_length (opens s.opens (asking x o (file_of s.tree found))).id })
 
 -- what is there is a file
-there_of : (p : ℕ) (c : Bool) (v : Result Held Status) (place : ℕ) (f : Held) (cut : Bool) → mapped (λ f. There p f c) v ≡ Ok (There place f cut) → v ≡ Ok f
+there_of : (p : ℕ) (c : Bool) (v : Result Node Status) (place : ℕ) (f : Node) (cut : Bool) → mapped (λ f. There p f c) v ≡ Ok (There place f cut) → v ≡ Ok f
 there_of p c (Err status) place f cut e = absurd cc
 there_of p c (Ok g) place f cut e = let same : g ≡ f = cc in ap Ok same
 
-by_own : (v : Result Held Status) (place : ℕ) (f : Held) (cut : Bool) → mapped (λ f. There f.number f false) v ≡ Ok (There place f cut) → v ≡ Ok f
+by_own : (v : Result Node Status) (place : ℕ) (f : Node) (cut : Bool) → mapped (λ f. There f.number f false) v ≡ Ok (There place f cut) → v ≡ Ok f
 by_own (Err status) place f cut e = absurd cc
 by_own (Ok g) place f cut e = let same : g ≡ f = cc in ap Ok same
 
-there_regular : (s : State) (x : Context) (o : Open) (f : Held) → IsHeld s.tree f
+there_regular : (s : State) (x : Context) (o : Open) (f : Node) → IsHeld s.tree f
     → first_fault (there_checks x o f) ≡ None → is_regular_at s.tree f.number ≡ true
 there_regular s x o f is e =
     let checks = all_passed (there_checks x o f) e in
     let file : first_fault (file_checks f) ≡ None = rw (checks.1.1.0, checks.1.1.1.0) refl in
     file_regular s.tree f is file
 
-found_regular : (s : State) (x : Context) (o : Open) (m : Making) (n : Option ℕ) (place : ℕ) (f : Held) (cut : Bool)
+found_regular : (s : State) (x : Context) (o : Open) (m : Making) (n : Option ℕ) (place : ℕ) (f : Node) (cut : Bool)
     → found_by s x o m n ≡ Ok (There place f cut) → is_regular_at s.tree f.number ≡ true
 unfolding current
 found_regular s x o m None place f cut e = by_absent (checked (Ok m) (absent_checks x o)) e
@@ -120,12 +120,12 @@ found_regular s x o m (Some n) place f cut e =
     (there_of m.place.number (cuts o m.wanted) (checked (held s (Some n)) (there_checks x o)) place f cut e) in
     there_regular s x o f (current_is s (record x { current = Some n }) f found.0) found.1
 
-named_regular : (s : State) (x : Context) (o : Open) (name : List ℕ) (v : Result Making Status) (place : ℕ) (f : Held) (cut : Bool)
+named_regular : (s : State) (x : Context) (o : Open) (name : List ℕ) (v : Result Making Status) (place : ℕ) (f : Node) (cut : Bool)
     → found_at s x o name v ≡ Ok (There place f cut) → is_regular_at s.tree f.number ≡ true
 named_regular s x o name (Err status) place f cut e = absurd cc
 named_regular s x o name (Ok m) place f cut e = found_regular s x o m (lookup s.tree m.place.number name) place f cut e
 
-by_claim : (s : State) (x : Context) (o : Open) (b : Bool) (place : ℕ) (f : Held) (cut : Bool)
+by_claim : (s : State) (x : Context) (o : Open) (b : Bool) (place : ℕ) (f : Node) (cut : Bool)
     → cond b (by_handle x o (checked (current s x) (argument_checks o))) (by_name s x o (checked (current s x) (argument_checks o))) ≡ Ok (There place f cut)
     → is_regular_at s.tree f.number ≡ true
 by_claim s x o true place f cut e =
@@ -135,7 +135,7 @@ by_claim s x o true place f cut e =
 by_claim s x o false place f cut e = named_regular s x o (name_of o.claim)
     (with_wanted (checked (checked (current s x) (argument_checks o)) (place_checks x o)) (wanted_by o.openhow)) place f cut e
 
-pub asked_regular : (s : State) (x : Context) (o : Open) (place : ℕ) (f : Held) (cut : Bool)
+pub asked_regular : (s : State) (x : Context) (o : Open) (place : ℕ) (f : Node) (cut : Bool)
     → asked_for s x o ≡ Ok (There place f cut) → is_regular_at s.tree f.number ≡ true
 unfolding asked_for
 asked_regular s x o place f cut e = by_claim s x o (is_by_handle o.claim) place f cut e
@@ -154,13 +154,13 @@ made_regular t x now o m is =
     (new_there objects made root (t.last_object + 1) (tree_changed t m.place.number now (modified now no_sets) is).objects refl)
 
 -- the store after it
-cut_regular : (t : Files) (x : Context) (now : Time) (o : Open) (place : ℕ) (f : Held) (cut : Bool)
+cut_regular : (t : Files) (x : Context) (now : Time) (o : Open) (place : ℕ) (f : Node) (cut : Bool)
     → is_regular_at t f.number ≡ true → is_regular_at (tree_of t x now o (There place f cut)) f.number ≡ true
 cut_regular t x now o place f true e =
     regular_same (with_resized t f.number 0 no_sets now) t f.number (kind_bytes t.objects f.number f.number now no_sets (λ k. resized k.bytes 0)) ∙ e
 cut_regular t x now o place f false e = e
 
-cut_store : (s : State) (x : Context) (now : Time) (o : Open) (place : ℕ) (f : Held) (cut : Bool)
+cut_store : (s : State) (x : Context) (now : Time) (o : Open) (place : ℕ) (f : Node) (cut : Bool)
     → IsStore s → IsStore (with_tree s (tree_of s.tree x now o (There place f cut)))
 cut_store s x now o place f true is = store_resized s f.number 0 no_sets now is
 cut_store s x now o place f false is = is

@@ -17,7 +17,7 @@ use Rattle.nfs_tree.specs.Files.{Files, stored_in, object_at, data_at}
 use Rattle.nfs_tree.specs.Kept.{IsTree}
 use Rattle.nfs_tree.proofs.Lists.{find_in}
 use Rattle.nfs_names.specs.declared.context.Context.{Context}
-use Rattle.nfs_names.specs.declared.held.Held.{Held}
+use Rattle.nfs_names.specs.declared.node.Node.{Node}
 use Rattle.nfs_names.specs.State.{State}
 use Rattle.nfs_names.specs.Outcome.{checked}
 use Rattle.nfs_names.specs.Checks.{current}
@@ -57,28 +57,28 @@ ends_is bytes size offset count e =
     ]
 
 -- no more bytes are given than were asked for
-pub few_given : (s : State) (r : Read) (d : Held) → length (bytes_of s r d) ≤ given r.count
+pub few_given : (s : State) (r : Read) (d : Node) → length (bytes_of s r d) ≤ given r.count
 few_given s r d = omega (arith, length-take (given r.count) (drop r.offset (data_at s.tree d.number)))
 
-pub read_within : (s : State) (r : Read) (d : Held)
+pub read_within : (s : State) (r : Read) (d : Node)
     → 8 + length (flag (was_read s r d).eof ++ opaque (bytes_of s r d)) ≤ 16 + (given r.count + padding (given r.count))
 unfolding read_ok
 read_within s r d = behind_within r.count (ResRead (was_read s r d)) tt (few_given s r d)
 
-pub readable_is : (s : State) (x : Context) (r : Read) (d : Held) → readable s x r.stateid (current s x) ≡ Ok d → object_at s.tree d.number ≡ Some d.object
+pub readable_is : (s : State) (x : Context) (r : Read) (d : Node) → readable s x r.stateid (current s x) ≡ Ok d → object_at s.tree d.number ≡ Some d.object
 unfolding readable
 readable_is s x r d e =
     let found = checked_ok (current s x) file_checks d (if_passed_ok (checked (current s x) file_checks) (may_use s x reading r.stateid) d e).0 in
     (current_is s x d found.0).object
 
 -- the same as the code says it
-pub eof_is : (s : State) (r : Read) (d : Held) (n : ℕ) (b : Bool) → IsTree s.tree → object_at s.tree d.number ≡ Some d.object → n ≡ given r.count
+pub eof_is : (s : State) (r : Read) (d : Node) (n : ℕ) (b : Bool) → IsTree s.tree → object_at s.tree d.number ≡ Some d.object → n ≡ given r.count
     → b ≡ (nat_le d.object.size r.offset || nat_le (d.object.size - r.offset) n) → b ≡ (was_read s r d).eof
 eof_is s r d n b is there count told =
     told ∙ ap (λ n. nat_le d.object.size r.offset || nat_le (d.object.size - r.offset) n) count
     ∙ ends_is (data_at s.tree d.number) d.object.size r.offset (given r.count) (size_is s.tree d.number d.object is there)
 
-pub read_fits : (s : State) (r : Read) (d : Held) (b : Bool) → b ≡ (was_read s r d).eof
+pub read_fits : (s : State) (r : Read) (d : Node) (b : Bool) → b ≡ (was_read s r d).eof
     → 8 + (length (flag b) + length (opaque (bytes_of s r d))) ≤ 16 + (given r.count + padding (given r.count))
 read_fits s r d b e =
     let fits = read_within s r d in

@@ -17,7 +17,7 @@ use Rattle.nfs_opens.specs.StateId.{is_current, with_seqid, is_anonymous, is_byp
 use Rattle.nfs_opens.specs.Table.{Table}
 use Rattle.nfs_opens.specs.Judging.{judge_checks, seated, judge_named, special, judge, named}
 use Rattle.nfs_names.specs.declared.context.Context.{Context}
-use Rattle.nfs_names.specs.declared.held.Held.{Held}
+use Rattle.nfs_names.specs.declared.node.Node.{Node}
 use Rattle.nfs_names.specs.State.{State}
 use Rattle.nfs_names.specs.Outcome.{passed, checked}
 use Rattle.nfs_names.proofs.Refusing.{Refuses, all_refuse, err_refuses, ok_refuses, refuses_checked}
@@ -58,15 +58,15 @@ judge_refuses t id client file sort =
     by_bool (is_anonymous id) _ _ (special_refuses sort Anonymous)
     (by_bool (is_bypass id) _ _ (special_refuses sort ReadBypass) (named_refuses t id client file sort))
 
-seat_of_refuses : (s : State) (x : Context) (d : Held) (v : Result StateId Status) → Refuses v → Refuses (seat_of s x d v)
+seat_of_refuses : (s : State) (x : Context) (d : Node) (v : Result StateId Status) → Refuses v → Refuses (seat_of s x d v)
 seat_of_refuses s x d (Err status) h = err_refuses status (h.each status refl)
 seat_of_refuses s x d (Ok id) h = judge_refuses s.opens id x.client (Some d.number) Either
 
-pub seat_refuses : (s : State) (x : Context) (given : Stateid) (d : Held) → Refuses (seat s x given d)
+pub seat_refuses : (s : State) (x : Context) (given : Stateid) (d : Node) → Refuses (seat s x given d)
 unfolding seat
 seat_refuses s x given d = seat_of_refuses s x d (meant x Any given) (meant_refuses x Any given)
 
-pub may_use_refuses : (s : State) (x : Context) (wanted : Share) (given : Stateid) (d : Held) → Refuses (may_use s x wanted given d)
+pub may_use_refuses : (s : State) (x : Context) (wanted : Share) (given : Stateid) (d : Node) → Refuses (may_use s x wanted given d)
 unfolding may_use
 may_use_refuses s x wanted given d = refuses_checked (seat s x given d) (seat_checks s x wanted d) (seat_refuses s x given d) each
   where
@@ -76,12 +76,12 @@ may_use_refuses s x wanted given d = refuses_checked (seat s x given d) (seat_ch
     each (Open number access) = refl
     each (Lock number access) = refl
 
-pub readable_refuses : (s : State) (x : Context) (given : Stateid) (v : Result Held Status) → Refuses v → Refuses (readable s x given v)
+pub readable_refuses : (s : State) (x : Context) (given : Stateid) (v : Result Node Status) → Refuses v → Refuses (readable s x given v)
 unfolding readable
 readable_refuses s x given v h =
     if_passed_refuses (checked v file_checks) (may_use s x reading given) (refuses_checked v file_checks h (λ d. refl)) (may_use_refuses s x reading given)
 
-pub writable_refuses : (s : State) (x : Context) (given : Stateid) (v : Result Held Status) → Refuses v → Refuses (writable s x given v)
+pub writable_refuses : (s : State) (x : Context) (given : Stateid) (v : Result Node Status) → Refuses v → Refuses (writable s x given v)
 unfolding writable
 writable_refuses s x given v h =
     if_passed_refuses (checked v file_checks) (may_use s x writing given) (refuses_checked v file_checks h (λ d. refl)) (may_use_refuses s x writing given)

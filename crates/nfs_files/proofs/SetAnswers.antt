@@ -14,7 +14,7 @@ use Rattle.nfs_attrs.specs.declared.wanted.AttrFault.TheVariants as F
 use Rattle.nfs_attrs.specs.Mask.{mask_of}
 use Rattle.nfs_attrs.specs.Reading.{fault_status}
 use Rattle.nfs_names.specs.declared.context.Context.{Context}
-use Rattle.nfs_names.specs.declared.held.Held.{Held}
+use Rattle.nfs_names.specs.declared.node.Node.{Node}
 use Rattle.nfs_names.specs.State.{State}
 use Rattle.nfs_names.specs.Outcome.{checked}
 use Rattle.nfs_names.specs.Checks.{current}
@@ -32,15 +32,15 @@ fault_refuses F.Inval = record { done = refl; legal = refl }
 fault_refuses F.BadXdr = record { done = refl; legal = refl }
 fault_refuses F.BadOwner = record { done = refl; legal = refl }
 
-setting_refuses : (d : Held) (r : Result Wanted AttrFault) → Refuses (setting d r)
+setting_refuses : (d : Node) (r : Result Wanted AttrFault) → Refuses (setting d r)
 setting_refuses d (Err f) = err_refuses (fault_status f) (fault_refuses f)
 setting_refuses d (Ok w) = ok_refuses (record { held = d; wanted = w })
 
-wanted_refuses : (v : Result Held Status) (r : Result Wanted AttrFault) → Refuses v → Refuses (with_wanted v r)
+wanted_refuses : (v : Result Node Status) (r : Result Wanted AttrFault) → Refuses v → Refuses (with_wanted v r)
 wanted_refuses (Err f) r h = err_refuses f (h.each f refl)
 wanted_refuses (Ok d) r h = setting_refuses d r
 
-sized_refuses : (s : State) (x : Context) (given : Stateid) (d : Held) (o : Option ℕ) → Refuses (sized_by s x given d o)
+sized_refuses : (s : State) (x : Context) (given : Stateid) (d : Node) (o : Option ℕ) → Refuses (sized_by s x given d o)
 sized_refuses s x given d None = ok_refuses d
 sized_refuses s x given d (Some size) = writable_refuses s x given (Ok d) (ok_refuses d)
 

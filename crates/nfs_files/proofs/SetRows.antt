@@ -21,7 +21,7 @@ use Rattle.nfs_tree.specs.Files.{Files, most_bytes, stored_in, is_there, is_dire
 use Rattle.nfs_attrs.specs.declared.wanted.Wanted.{Wanted}
 use Rattle.nfs_attrs.specs.declared.wanted.AttrFault.{AttrFault}
 use Rattle.nfs_names.specs.declared.context.Context.{Context}
-use Rattle.nfs_names.specs.declared.held.Held.{Held}
+use Rattle.nfs_names.specs.declared.node.Node.{Node}
 use Rattle.nfs_names.specs.State.{State}
 use Rattle.nfs_names.specs.Faults.{status_of}
 use Rattle.nfs_names.specs.Outcome.{refuses, checked}
@@ -49,18 +49,18 @@ stored_kind None b e = absurd cc
 stored_kind (Some s) b e = let same : s.object ≡ b = cc in ap (λ (o : Object). is_regular o.kind) same
 
 -- what is neither a directory nor a link is a file
-pub file_regular : (t : Files) (d : Held) → IsHeld t d → first_fault (file_checks d) ≡ None → is_regular_at t d.number ≡ true
+pub file_regular : (t : Files) (d : Node) → IsHeld t d → first_fault (file_checks d) ≡ None → is_regular_at t d.number ≡ true
 file_regular t d is e =
     let checks = all_passed (file_checks d) e in
     stored_kind (stored_in t.objects d.number) d.object is.object ∙ kind_regular d.object.kind checks.0 checks.1.0
 
-pub writable_ok : (s : State) (x : Context) (given : Stateid) (v : Result Held Status) (d : Held)
+pub writable_ok : (s : State) (x : Context) (given : Stateid) (v : Result Node Status) (d : Node)
     → writable s x given v ≡ Ok d → (v ≡ Ok d) × (first_fault (file_checks d) ≡ None)
 unfolding writable
 writable_ok s x given v d e = checked_ok v file_checks d (if_passed_ok (checked v file_checks) (may_use s x writing given) d e).0
 
 -- the rows of the tree's checks, by whether a size is given
-sized_rows : (s : State) (d : Held) (w : Wanted) (size : ℕ) → IsHeld s.tree d
+sized_rows : (s : State) (d : Node) (w : Wanted) (size : ℕ) → IsHeld s.tree d
     → is_regular_at s.tree d.number ≡ true → first_fault (file_checks d) ≡ None → gives_some w ≡ true
     → option_map status_of (tree_fault s.tree d.number w (Some size))
     ≡ first_fault ((nat_lt most_bytes size, status_of F.Fbig) ∷ (gives_some w && not (can_change s.tree d.number), status_of F.Counter) ∷ [])
@@ -75,7 +75,7 @@ sized_rows s d w size is file e some =
     ap (option_map status_of) same ∙ fault_map status_of tail
     ∙ sym (ap (λ b. first_fault ((nat_lt most_bytes size, status_of F.Fbig) ∷ (b && not (can_change t d.number), status_of F.Counter) ∷ [])) some)
 
-plain_rows : (s : State) (d : Held) (w : Wanted) → IsHeld s.tree d
+plain_rows : (s : State) (d : Node) (w : Wanted) → IsHeld s.tree d
     → option_map status_of (tree_fault s.tree d.number w None) ≡ first_fault ((gives_some w && not (can_change s.tree d.number), status_of F.Counter) ∷ [])
 plain_rows s d w is =
     let t = s.tree in
@@ -88,7 +88,7 @@ plain_rows s d w is =
 given_some : (w : Wanted) (size : ℕ) → w.size ≡ Some size → gives_some w ≡ true
 given_some w size e = rw e refl
 
-set_rows : (s : State) (x : Context) (given : Stateid) (m : Setting) (o : Option ℕ) (k : Held)
+set_rows : (s : State) (x : Context) (given : Stateid) (m : Setting) (o : Option ℕ) (k : Node)
     → m.wanted.size ≡ o → IsHeld s.tree m.held → sized_by s x given m.held o ≡ Ok k
     → option_map status_of (tree_fault s.tree m.held.number m.wanted o)
     ≡ first_fault ((of_set.is_too_big o, status_of F.Fbig) ∷ (gives_some m.wanted && not (can_change s.tree m.held.number), status_of F.Counter) ∷ [])
@@ -99,7 +99,7 @@ set_rows s x given m (Some size) k h is e =
     let file : first_fault (file_checks m.held) ≡ None = ap (λ d. first_fault (file_checks d)) same ∙ found.1 in
     sized_rows s m.held m.wanted size is (file_regular s.tree m.held is file) file (given_some m.wanted size h)
 
-setting_ok : (v : Result Held Status) (r : Result Wanted AttrFault) (m : Setting) → with_wanted v r ≡ Ok m → v ≡ Ok m.held
+setting_ok : (v : Result Node Status) (r : Result Wanted AttrFault) (m : Setting) → with_wanted v r ≡ Ok m → v ≡ Ok m.held
 setting_ok (Err f) r m e = absurd cc
 setting_ok (Ok d) (Err f) m e = absurd cc
 setting_ok (Ok d) (Ok w) m e = let same : record { held = d; wanted = w } ≡ m = cc in ap (λ (m : Setting). Ok m.held) same
@@ -135,7 +135,7 @@ asked_wanted s x a m v =
     let owned = checked_ok (with_wanted (current s x) (wanted_of a.obj_attributes)) (owner_checks x) m passed.0 in
     by_both (current s x) (wanted_of a.obj_attributes) owned.0
   where
-    by_both : (v : Result Held Status) (r : Result Wanted AttrFault) → with_wanted v r ≡ Ok m → r ≡ Ok m.wanted
+    by_both : (v : Result Node Status) (r : Result Wanted AttrFault) → with_wanted v r ≡ Ok m → r ≡ Ok m.wanted
     by_both (Err f) r e = absurd cc
     by_both (Ok d) (Err f) e = absurd cc
     by_both (Ok d) (Ok w) e = let same : record { held = d; wanted = w } ≡ m = cc in ap (λ (m : Setting). Ok m.wanted) same

@@ -12,7 +12,7 @@ use Rattle.nfs_opens.specs.declared.stateid.StateId.{StateId}
 use Rattle.nfs_opens.specs.declared.stateid.CurrentSeqid.TheVariants.{Any}
 use Rattle.nfs_opens.specs.Locking.{is_whole}
 use Rattle.nfs_names.specs.declared.context.Context.{Context}
-use Rattle.nfs_names.specs.declared.held.Held.{Held}
+use Rattle.nfs_names.specs.declared.node.Node.{Node}
 use Rattle.nfs_names.specs.State.{State}
 use Rattle.nfs_names.specs.Outcome.{passed, mapped}
 use Rattle.nfs_files.specs.declared.ranges.Wished.{Wished}
@@ -49,13 +49,13 @@ record IsWish (offset size : ℕ) (w : Wish) : Type 0 where
   first : w.first ≡ offset
   last : range offset size ≡ Ok w.last
 
-wish_is : (x : Context) (how : LockType) (offset size : ℕ) (d : Held) (r : Result ℕ Status) (w : Wish)
+wish_is : (x : Context) (how : LockType) (offset size : ℕ) (d : Node) (r : Result ℕ Status) (w : Wish)
     → range offset size ≡ r → mapped (λ last. wish x how offset last d.number) r ≡ Ok w → IsWish offset size w
 wish_is x how offset size d (Err status) w is e = absurd cc
 wish_is x how offset size d (Ok last) w is e = let same : wish x how offset last d.number ≡ w = cc in
     subst (IsWish offset size) same (record { first = refl; last = is })
 
-wish_found : (x : Context) (how : LockType) (offset size : ℕ) (found : Result Held Status) (w : Wish)
+wish_found : (x : Context) (how : LockType) (offset size : ℕ) (found : Result Node Status) (w : Wish)
     → wish_of x how offset found (range offset size) ≡ Ok w → IsWish offset size w
 wish_found x how offset size (Err status) w e = absurd cc
 wish_found x how offset size (Ok d) w e = wish_is x how offset size d (range offset size) w refl e

@@ -32,7 +32,7 @@ use Rattle.nfs_opens.specs.Closing as closing
 use Rattle.nfs_opens.specs.Opening as opening
 use Rattle.nfs_opens.specs.Locking as locking
 use Rattle.nfs_names.specs.declared.context.Context.{Context}
-use Rattle.nfs_names.specs.declared.held.Held.{Held}
+use Rattle.nfs_names.specs.declared.node.Node.{Node}
 use Rattle.nfs_names.specs.State.{State}
 use Rattle.nfs_names.specs.Outcome.{done}
 use Rattle.nfs_names.specs.Checks.{current}
@@ -56,7 +56,7 @@ the_file_refuses : (s : State) (x : Context) → Refuses (the_file s x)
 unfolding the_file
 the_file_refuses s x = refuses_checked (current s x) file_checks (current_refuses s x) (λ d. refl)
 
-target_of_refuses : (v : Result Held Status) (id : Result StateId Status) → Refuses v → Refuses id → Refuses (target_of v id)
+target_of_refuses : (v : Result Node Status) (id : Result StateId Status) → Refuses v → Refuses id → Refuses (target_of v id)
 target_of_refuses (Err status) id h g = err_refuses status (h.each status refl)
 target_of_refuses (Ok d) id h g = refuses_mapped (λ id. record { file = d.number; id = id }) id g
 
@@ -161,7 +161,7 @@ range_refuses : (offset size : ℕ) → Refuses (range offset size)
 unfolding range
 range_refuses offset size = refuses_checked (Ok (last_of offset size)) (λ last. range_checks offset size) (ok_refuses (last_of offset size)) (λ last. refl)
 
-wish_of_refuses : (x : Context) (how : LockType) (offset : ℕ) (v : Result Held Status) (last : Result ℕ Status)
+wish_of_refuses : (x : Context) (how : LockType) (offset : ℕ) (v : Result Node Status) (last : Result ℕ Status)
     → Refuses v → Refuses last → Refuses (wish_of x how offset v last)
 wish_of_refuses x how offset (Err status) last h g = err_refuses status (h.each status refl)
 wish_of_refuses x how offset (Ok d) last h g = refuses_mapped (λ last. wish x how offset last d.number) last g

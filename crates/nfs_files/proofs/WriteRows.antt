@@ -11,7 +11,7 @@ use Rattle.nfs_tree.specs.declared.fault.TreeFault.TheVariants as F
 use Rattle.nfs_tree.specs.Bytes.{has_bytes, write_fault}
 use Rattle.nfs_tree.specs.Files.{most_bytes, is_there, is_directory_at, is_regular_at, can_change}
 use Rattle.nfs_names.specs.declared.context.Context.{Context}
-use Rattle.nfs_names.specs.declared.held.Held.{Held}
+use Rattle.nfs_names.specs.declared.node.Node.{Node}
 use Rattle.nfs_names.specs.State.{State}
 use Rattle.nfs_names.specs.Faults.{status_of}
 use Rattle.nfs_names.specs.Outcome.{refuses}
@@ -23,7 +23,7 @@ use Rattle.nfs_files.specs.Bytes.{file_checks, writable}
 use Rattle.nfs_files.specs.Write.{last_checks, was_written, write}
 use Rattle.nfs_files.proofs.SetRows.{file_regular, writable_ok}
 
-write_rows : (s : State) (w : Write) (d : Held) → IsHeld s.tree d → first_fault (file_checks d) ≡ None
+write_rows : (s : State) (w : Write) (d : Node) → IsHeld s.tree d → first_fault (file_checks d) ≡ None
     → option_map status_of (write_fault s.tree d.number w.offset w.bytes) ≡ first_fault (last_checks s w d)
 write_rows s w d is e =
     let t = s.tree in
@@ -37,18 +37,18 @@ write_rows s w d is e =
     let same : write_fault t n w.offset w.bytes ≡ first_fault tail = rw (there, directory, regular) refl in
     ap (option_map status_of) same ∙ fault_map status_of tail
 
-write_found : (s : State) (x : Context) (w : Write) (d : Held) → writable s x w.stateid (current s x) ≡ Ok d
+write_found : (s : State) (x : Context) (w : Write) (d : Node) → writable s x w.stateid (current s x) ≡ Ok d
     → option_map status_of (write_fault s.tree d.number w.offset w.bytes) ≡ first_fault (last_checks s w d)
 write_found s x w d v = let found = writable_ok s x w.stateid (current s x) d v in write_rows s w d (current_is s x d found.0) found.1
 
-pub write_goes : (s : State) (x : Context) (now : Time) (w : Write) (d : Held) → writable s x w.stateid (current s x) ≡ Ok d
+pub write_goes : (s : State) (x : Context) (now : Time) (w : Write) (d : Node) → writable s x w.stateid (current s x) ≡ Ok d
     → write_fault s.tree d.number w.offset w.bytes ≡ None → write s x now w ≡ was_written s x now w d
 unfolding write
 write_goes s x now w d v none =
     by_last s x Op.Write (writable s x w.stateid (current s x)) (last_checks s w)
     (was_written s x now w) d v (sym (write_found s x w d v) ∙ ap (option_map status_of) none)
 
-pub write_stops : (s : State) (x : Context) (now : Time) (w : Write) (d : Held) (f : TreeFault)
+pub write_stops : (s : State) (x : Context) (now : Time) (w : Write) (d : Node) (f : TreeFault)
     → writable s x w.stateid (current s x) ≡ Ok d → write_fault s.tree d.number w.offset w.bytes ≡ Some f
     → write s x now w ≡ refuses s x Op.Write (status_of f)
 unfolding write

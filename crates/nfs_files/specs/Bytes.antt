@@ -15,7 +15,7 @@ use Rattle.nfs_opens.specs.Share.{meets, is_part}
 use Rattle.nfs_opens.specs.Judging.{judge}
 use Rattle.nfs_attrs.specs.declared.permission.Want.{Want}
 use Rattle.nfs_names.specs.declared.context.Context.{Context}
-use Rattle.nfs_names.specs.declared.held.Held.{Held}
+use Rattle.nfs_names.specs.declared.node.Node.{Node}
 use Rattle.nfs_names.specs.State.{State}
 use Rattle.nfs_names.specs.Outcome.{checked, mapped}
 use Rattle.nfs_names.specs.Checks.{denied}
@@ -23,15 +23,15 @@ use Rattle.nfs_names.specs.Lookup.{is_link}
 use Rattle.nfs_files.specs.StateIds.{meant}
 
 -- a file alone has bytes
-abbrev pub file_checks : Held → List (Bool × Status)
+abbrev pub file_checks : Node → List (Bool × Status)
 file_checks d = (is_directory d.object.kind, IsDir) ∷ (is_link d.object.kind, Symlink) ∷ []
 
 -- the state by which the bytes of a file are to be read or changed
-abbrev pub seat_of : State → Context → Held → Result StateId Status → Result Seat Status
+abbrev pub seat_of : State → Context → Node → Result StateId Status → Result Seat Status
 seat_of s x d (Err status) = Err status
 seat_of s x d (Ok id) = judge s.opens id x.client (Some d.number) Either
 
-unfoldable pub seat : State → Context → Stateid → Held → Result Seat Status
+unfoldable pub seat : State → Context → Stateid → Node → Result Seat Status
 seat s x given d = seat_of s x d (meant x Any given)
 
 -- reading, or changing
@@ -46,7 +46,7 @@ abbrev pub want_of : Share → Want
 want_of access = record { read = access.reads; write = access.writes; execute = false }
 
 -- what the opens of the file deny to others
-abbrev pub denials : State → Held → Share
+abbrev pub denials : State → Node → Share
 denials s d = record {
   reads = list_any (λ o. (o.file == d.number) && o.deny.reads) s.opens.opens;
   writes = list_any (λ o. (o.file == d.number) && o.deny.writes) s.opens.opens;
@@ -54,13 +54,13 @@ denials s d = record {
 
 -- By an open or a lock state the open's access decides. By a special stateid the share reservations of all opens do, which the one
 -- that bypasses them passes for reading alone, and then the permission bits.
-abbrev pub seat_checks : State → Context → Share → Held → Seat → List (Bool × Status)
+abbrev pub seat_checks : State → Context → Share → Node → Seat → List (Bool × Status)
 seat_checks s x wanted d Anonymous = (meets wanted (denials s d), Locked) ∷ denied x d (want_of wanted) ∷ []
 seat_checks s x wanted d ReadBypass = (wanted.writes && (denials s d).writes, Locked) ∷ denied x d (want_of wanted) ∷ []
 seat_checks s x wanted d (Open number access) = (not (is_part wanted access), OpenMode) ∷ []
 seat_checks s x wanted d (Lock number access) = (not (is_part wanted access), OpenMode) ∷ []
 
-unfoldable pub may_use : State → Context → Share → Stateid → Held → Result Seat Status
+unfoldable pub may_use : State → Context → Share → Stateid → Node → Result Seat Status
 may_use s x wanted given d = checked (seat s x given d) (seat_checks s x wanted d)
 
 -- what was found, if what is looked at next passes too
@@ -69,8 +69,8 @@ if_passed (Err status) next = Err status
 if_passed (Ok a) next = mapped (λ b. a) (next a)
 
 -- the file, where its bytes may be read or changed
-unfoldable pub readable : State → Context → Stateid → Result Held Status → Result Held Status
+unfoldable pub readable : State → Context → Stateid → Result Node Status → Result Node Status
 readable s x given found = if_passed (checked found file_checks) (may_use s x reading given)
 
-unfoldable pub writable : State → Context → Stateid → Result Held Status → Result Held Status
+unfoldable pub writable : State → Context → Stateid → Result Node Status → Result Node Status
 writable s x given found = if_passed (checked found file_checks) (may_use s x writing given)

@@ -28,7 +28,7 @@ use Rattle.nfs_opens.specs.StateId.{last_number}
 use Rattle.nfs_opens.specs.Table.{Asked, clashes_with}
 use Rattle.nfs_opens.specs.Opening.{own_open, opens}
 use Rattle.nfs_names.specs.declared.context.Context.{Context}
-use Rattle.nfs_names.specs.declared.held.Held.{Held}
+use Rattle.nfs_names.specs.declared.node.Node.{Node}
 use Rattle.nfs_names.specs.declared.making.Making.{Making}
 use Rattle.nfs_names.specs.State.{State}
 use Rattle.nfs_names.specs.Outcome.{Outcome, checked, mapped, answers}
@@ -103,7 +103,7 @@ name_of (Null file) = file
 name_of claim = []
 
 -- first what is asked for is looked at ..
-abbrev pub argument_checks : Open → Held → List (Bool × Status)
+abbrev pub argument_checks : Open → Node → List (Bool × Status)
 argument_checks o d =
     (o.share_access % 4 == 0, Inval)
     ∷ (is_none (share_of o.share_deny), Inval)
@@ -113,7 +113,7 @@ argument_checks o d =
     ∷ []
 
 -- .. then the directory and the name ..
-abbrev pub place_checks : Context → Open → Held → List (Bool × Status)
+abbrev pub place_checks : Context → Open → Node → List (Bool × Status)
 place_checks x o d =
     no_directory d
     ∷ denied x d execute
@@ -134,7 +134,7 @@ was_made_by None made = true
 was_made_by (Some verifier) None = false
 was_made_by (Some verifier) (Some made) = bytes_eq made verifier
 
-abbrev pub there_checks : Context → Open → Held → List (Bool × Status)
+abbrev pub there_checks : Context → Open → Node → List (Bool × Status)
 there_checks x o f =
     (is_guarded o.openhow, Exist)
     ∷ (not (was_made_by (verifier_of o.openhow) f.object.verifier), Exist)
@@ -159,10 +159,10 @@ abbrev pub found_at : State → Context → Open → List ℕ → Result Making 
 found_at s x o name (Err status) = Err status
 found_at s x o name (Ok m) = found_by s x o m (lookup s.tree m.place.number name)
 
-abbrev pub by_name : State → Context → Open → Result Held Status → Result Found Status
+abbrev pub by_name : State → Context → Open → Result Node Status → Result Found Status
 by_name s x o d = found_at s x o (name_of o.claim) (with_wanted (checked d (place_checks x o)) (wanted_by o.openhow))
 
-abbrev pub by_handle : Context → Open → Result Held Status → Result Found Status
+abbrev pub by_handle : Context → Open → Result Node Status → Result Found Status
 by_handle x o d = mapped (λ f. There f.number f false) (checked d (there_checks x o))
 
 unfoldable pub asked_for : State → Context → Open → Result Found Status

@@ -11,7 +11,7 @@ use Rattle.nfs_ranges.specs.declared.Kind.TheVariants as Kinds
 use Rattle.nfs_opens.specs.declared.locking.Wish.{Wish}
 use Rattle.nfs_opens.specs.declared.stateid.CurrentSeqid.TheVariants.{Any}
 use Rattle.nfs_names.specs.declared.context.Context.{Context}
-use Rattle.nfs_names.specs.declared.held.Held.{Held}
+use Rattle.nfs_names.specs.declared.node.Node.{Node}
 use Rattle.nfs_names.specs.State.{State}
 use Rattle.nfs_names.specs.Outcome.{passed, mapped}
 use Rattle.nfs_files.specs.declared.ranges.Wished.{Wished}
@@ -42,7 +42,7 @@ kind_of LockTypes.WriteW = Kinds.Write
 abbrev pub wish : Context → LockType → ℕ → ℕ → ℕ → Wish
 wish x how first last file = record { client = x.client; file = file; kind = kind_of how; first = first; last = last }
 
-abbrev pub wish_of : Context → LockType → ℕ → Result Held Status → Result ℕ Status → Result Wish Status
+abbrev pub wish_of : Context → LockType → ℕ → Result Node Status → Result ℕ Status → Result Wish Status
 wish_of x how offset (Err status) last = Err status
 wish_of x how offset (Ok d) last = mapped (λ last. wish x how offset last d.number) last
 

@@ -6,17 +6,17 @@ use Rattle.nfs_results.specs.Largest.{given}
 use Rattle.nfs_results.specs.Result.{ReadOk, ResRead}
 use Rattle.nfs_tree.specs.Bytes.{part}
 use Rattle.nfs_names.specs.declared.context.Context.{Context}
-use Rattle.nfs_names.specs.declared.held.Held.{Held}
+use Rattle.nfs_names.specs.declared.node.Node.{Node}
 use Rattle.nfs_names.specs.State.{State}
 use Rattle.nfs_names.specs.Outcome.{Outcome, done, answers}
 use Rattle.nfs_names.specs.Checks.{current}
 use Rattle.nfs_files.specs.Bytes.{readable}
 
 -- the file's bytes in the range, of which not too many are given at once
-abbrev pub bytes_of : State → Read → Held → List ℕ
+abbrev pub bytes_of : State → Read → Node → List ℕ
 bytes_of s r d = part s.tree d.number r.offset (given r.count)
 
-abbrev pub was_read : State → Read → Held → ReadOk
+abbrev pub was_read : State → Read → Node → ReadOk
 was_read s r d = record { eof = nat_le d.object.size (r.offset + length (bytes_of s r d)); bytes = bytes_of s r d }
 
 unfoldable pub read : State → Context → Read → Outcome

@@ -16,7 +16,7 @@ use Rattle.nfs_attrs.specs.Mask.{mask_of, trimmed_words}
 use Rattle.nfs_attrs.specs.Reading.{fault_status}
 use Rattle.nfs_attrs.specs.Setting.{set_checks}
 use Rattle.nfs_names.specs.declared.context.Context.{Context}
-use Rattle.nfs_names.specs.declared.held.Held.{Held}
+use Rattle.nfs_names.specs.declared.node.Node.{Node}
 use Rattle.nfs_names.specs.State.{State, with_tree}
 use Rattle.nfs_names.specs.Outcome.{Outcome, checked, answers}
 use Rattle.nfs_names.specs.Checks.{current}
@@ -25,11 +25,11 @@ use Rattle.nfs_files.specs.declared.setting.Setting.{Setting}
 use Rattle.nfs_files.specs.Bytes.{if_passed, writable}
 
 -- first the attributes are read ..
-abbrev pub setting : Held → Result Wanted AttrFault → Result Setting Status
+abbrev pub setting : Node → Result Wanted AttrFault → Result Setting Status
 setting d (Err fault) = Err (fault_status fault)
 setting d (Ok wanted) = Ok (record { held = d; wanted = wanted })
 
-abbrev pub with_wanted : Result Held Status → Result Wanted AttrFault → Result Setting Status
+abbrev pub with_wanted : Result Node Status → Result Wanted AttrFault → Result Setting Status
 with_wanted (Err status) wanted = Err status
 with_wanted (Ok d) wanted = setting d wanted
 
@@ -38,11 +38,11 @@ abbrev pub owner_checks : Context → Setting → List (Bool × Status)
 owner_checks x m = set_checks m.held.object m.wanted x.who
 
 -- .. then, where a size is given, whether the object is a file whose bytes may be changed by the stateid ..
-abbrev pub sized_by : State → Context → Stateid → Held → Option ℕ → Result Held Status
+abbrev pub sized_by : State → Context → Stateid → Node → Option ℕ → Result Node Status
 sized_by s x given d None = Ok d
 sized_by s x given d (Some size) = writable s x given (Ok d)
 
-abbrev pub sized : State → Context → Stateid → Setting → Result Held Status
+abbrev pub sized : State → Context → Stateid → Setting → Result Node Status
 sized s x given m = sized_by s x given m.held m.wanted.size
 
 unfoldable pub asked_for : State → Context → SetAttr → Result Setting Status

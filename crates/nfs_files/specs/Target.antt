@@ -6,7 +6,7 @@ use Rattle.nfs_compound.specs.declared.stateid.Stateid.{Stateid}
 use Rattle.nfs_opens.specs.declared.stateid.StateId.{StateId}
 use Rattle.nfs_opens.specs.declared.stateid.CurrentSeqid.{CurrentSeqid}
 use Rattle.nfs_names.specs.declared.context.Context.{Context}
-use Rattle.nfs_names.specs.declared.held.Held.{Held}
+use Rattle.nfs_names.specs.declared.node.Node.{Node}
 use Rattle.nfs_names.specs.State.{State}
 use Rattle.nfs_names.specs.Outcome.{checked, mapped}
 use Rattle.nfs_names.specs.Checks.{current}
@@ -15,10 +15,10 @@ use Rattle.nfs_files.specs.Bytes.{file_checks}
 use Rattle.nfs_files.specs.StateIds.{meant}
 
 -- the current filehandle's object, which must be a file
-unfoldable pub the_file : State → Context → Result Held Status
+unfoldable pub the_file : State → Context → Result Node Status
 the_file s x = checked (current s x) file_checks
 
-abbrev pub target_of : Result Held Status → Result StateId Status → Result Target Status
+abbrev pub target_of : Result Node Status → Result StateId Status → Result Target Status
 target_of (Err status) id = Err status
 target_of (Ok d) id = mapped (λ id. record { file = d.number; id = id }) id
 

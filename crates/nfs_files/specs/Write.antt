@@ -11,7 +11,7 @@ use Rattle.nfs_results.specs.Result.{ResWrite}
 use Rattle.nfs_tree.specs.Files.{Files, most_bytes, can_change}
 use Rattle.nfs_tree.specs.Bytes.{has_bytes, with_written}
 use Rattle.nfs_names.specs.declared.context.Context.{Context}
-use Rattle.nfs_names.specs.declared.held.Held.{Held}
+use Rattle.nfs_names.specs.declared.node.Node.{Node}
 use Rattle.nfs_names.specs.State.{State, with_tree}
 use Rattle.nfs_names.specs.Outcome.{Outcome, checked, answers}
 use Rattle.nfs_names.specs.Checks.{current}
@@ -19,7 +19,7 @@ use Rattle.nfs_files.specs.Bytes.{writable}
 use Rattle.nfs_files.specs.Commit.{write_verifier}
 
 -- no bytes change nothing, at whatever offset
-abbrev pub last_checks : State → Write → Held → List (Bool × Status)
+abbrev pub last_checks : State → Write → Node → List (Bool × Status)
 last_checks s w d =
     (has_bytes w.bytes && nat_lt most_bytes (w.offset + length w.bytes), FBig)
     ∷ (has_bytes w.bytes && not (can_change s.tree d.number), ServerFault)
@@ -29,10 +29,10 @@ last_checks s w d =
 abbrev pub write_ok : State → Write → WriteOk
 write_ok s w = record { count = length w.bytes; committed = FileSync; writeverf = write_verifier s }
 
-abbrev pub with_bytes : Files → Write → Held → Time → Files
+abbrev pub with_bytes : Files → Write → Node → Time → Files
 with_bytes t w d now = if has_bytes w.bytes then with_written t d.number w.offset w.bytes now else t
 
-abbrev pub was_written : State → Context → Time → Write → Held → Outcome
+abbrev pub was_written : State → Context → Time → Write → Node → Outcome
 was_written s x now w d = record { result = ResWrite (write_ok s w); state = with_tree s (with_bytes s.tree w d now); context = x }
 
 unfoldable pub write : State → Context → Time → Write → Outcome

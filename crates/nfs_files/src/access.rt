@@ -8,7 +8,7 @@ ghost use Rattle.nfs_files.specs.Bytes as of_bytes;
 use crate::stateids::meant;
 use nfs_attrs::Want;
 use nfs_compound::Stateid;
-use nfs_names::{Context, Held, Store, is_link, permits};
+use nfs_names::{Context, Node, Store, is_link, permits};
 use nfs_opens::{CurrentSeqid, Seat, Share, Sort};
 use nfs_xdr::Status;
 
@@ -34,7 +34,7 @@ pub(crate) fn want_of(access: Share) -> Want
 }
 
 /// A file alone has bytes.
-pub(crate) fn judge_file(held: Held) -> Result<Held, Status>
+pub(crate) fn judge_file(held: Node) -> Result<Node, Status>
     ensures { result ≡ checked (Ok held) of_bytes.file_checks }
 {
     if held.object.kind.is_directory() {
@@ -48,7 +48,7 @@ pub(crate) fn judge_file(held: Held) -> Result<Held, Status>
 
 /// The state of a file by which its bytes are to be changed.
 #[tactic(auto, unfolding(crate::specs::Bytes::seat))]
-fn seat(store: &Store, context: &Context, given: &Stateid, held: &Held) -> Result<Seat, Status>
+fn seat(store: &Store, context: &Context, given: &Stateid, held: &Node) -> Result<Seat, Status>
     ensures { result ≡ of_bytes.seat (state_of store.now) context.now given.now held.now }
 {
     let id = meant(context, CurrentSeqid::Any, given)?;
@@ -61,7 +61,7 @@ fn seat(store: &Store, context: &Context, given: &Stateid, held: &Held) -> Resul
 fn judge_seat(
     store: &Store,
     context: &Context,
-    held: &Held,
+    held: &Node,
     wanted: Share,
     seat: Seat,
 ) -> Result<Seat, Status>
@@ -92,7 +92,7 @@ fn may_use(
     context: &Context,
     wanted: Share,
     given: &Stateid,
-    held: &Held,
+    held: &Node,
 ) -> Result<Seat, Status>
     ensures { result ≡ of_bytes.may_use (state_of store.now) context.now wanted given.now held.now }
 {
@@ -106,8 +106,8 @@ pub(crate) fn readable(
     store: &Store,
     context: &Context,
     given: &Stateid,
-    held: Held,
-) -> Result<Held, Status>
+    held: Node,
+) -> Result<Node, Status>
     ensures { result ≡ of_bytes.readable (state_of store.now) context.now given.now (Ok held) }
 {
     let held = judge_file(held)?;
@@ -121,8 +121,8 @@ pub(crate) fn writable(
     store: &Store,
     context: &Context,
     given: &Stateid,
-    held: Held,
-) -> Result<Held, Status>
+    held: Node,
+) -> Result<Node, Status>
     ensures { result ≡ of_bytes.writable (state_of store.now) context.now given.now (Ok held) }
 {
     let held = judge_file(held)?;

@@ -23,7 +23,7 @@ ghost use Rattle.nfs_files.specs.Operation.{one_or_delay};
 
 use crate::access::{judge_file, readable, writable};
 use nfs_compound::{OpNum, Read, StableHow, Write};
-use nfs_names::{Context, Held, Store, current, put_refusal, refuse, status_of};
+use nfs_names::{Context, Node, Store, current, put_refusal, refuse, status_of};
 use nfs_results::{Res, WriteOk, write_done_head};
 use nfs_xdr::{Sheet, Status, Time};
 use std::alloc::Global;
@@ -38,7 +38,7 @@ fn write_verifier(store: &Store) -> [u8; 8]
 }
 
 /// The file whose bytes are to last.
-fn judge_commit(store: &Store, context: &Context) -> Result<Held, Status>
+fn judge_commit(store: &Store, context: &Context) -> Result<Node, Status>
     ensures { result ≡ checked (check.current (state_of store.now) context.now) of_bytes.file_checks }
 {
     let held = current(store, context)?;
@@ -58,7 +58,7 @@ pub(crate) fn commit(store: &Store, context: &Context) -> Res<'static>
 
 /// The file that is to be written.
 #[tactic(auto, unfolding(crate::specs::Bytes::writable))]
-fn judge_write(store: &Store, context: &Context, asked: &Write<'_>) -> Result<Held, Status>
+fn judge_write(store: &Store, context: &Context, asked: &Write<'_>) -> Result<Node, Status>
     ensures { result ≡ of_bytes.writable (state_of store.now) context.now (view_write asked.now).stateid (check.current (state_of store.now) context.now) }
 {
     let held = current(store, context)?;
@@ -115,7 +115,7 @@ fn reaches_end(size: u64, offset: u64, count: u32) -> bool
 }
 
 /// Puts bytes of a file, as READ answers them.
-fn put_bytes(store: &Store, held: &Held, asked: &Read, out: &mut Sheet)
+fn put_bytes(store: &Store, held: &Node, asked: &Read, out: &mut Sheet)
     requires there { object_at store.now.tree held.now.number ≡ Some held.now.object }
     requires room { length out.old.bytes + (16 + (given asked.now.count + padding (given asked.now.count))) ≤ out.old.room }
     ensures { Puts out.old out.new (spell_result (ResRead (of_read.was_read (state_of store.now) asked.now held.now))) }
@@ -129,7 +129,7 @@ fn put_bytes(store: &Store, held: &Held, asked: &Read, out: &mut Sheet)
 
 /// The file that is to be read.
 #[tactic(auto, unfolding(crate::specs::Bytes::readable))]
-fn judge_read(store: &Store, context: &Context, asked: &Read) -> Result<Held, Status>
+fn judge_read(store: &Store, context: &Context, asked: &Read) -> Result<Node, Status>
     ensures { result ≡ of_bytes.readable (state_of store.now) context.now asked.now.stateid (check.current (state_of store.now) context.now) }
 {
     let held = current(store, context)?;

@@ -11,7 +11,7 @@ use crate::access::{judge_file, want_of};
 use nfs_attrs::{AttrFault, Mask, Want, Wanted, may_make};
 use nfs_compound::{CreateHow, Open, OpenClaim, OpenHow};
 use nfs_names::{
-    Context, Held, Making, Store, current, held_object, judge_name, permits, wanted_of,
+    Context, Making, Node, Store, current, held_object, judge_name, permits, wanted_of,
 };
 use nfs_opens::Share;
 use nfs_xdr::Status;
@@ -20,7 +20,7 @@ use nfs_xdr::Status;
 #[derive(Clone, Copy, Debug, PartialEq, Eq)]
 pub(crate) enum Found {
     /// A file that is there, which may be cut, and the object of which the change is reported.
-    There { place: u64, file: Held, cut: bool },
+    There { place: u64, file: Node, cut: bool },
     /// None: a file is to be made.
     Absent(Making),
 }
@@ -188,7 +188,7 @@ pub(crate) fn name_of<'a>(claim: &OpenClaim<'a>) -> &'a [u8]
 }
 
 /// The current filehandle's object, where such things may be asked for.
-fn judge_arguments(asked: &Open<'_>, held: Held) -> Result<Held, Status>
+fn judge_arguments(asked: &Open<'_>, held: Node) -> Result<Node, Status>
     ensures { result ≡ checked (Ok held) (of_open.argument_checks (view_open asked.now)) }
 {
     if asked.share_access % 4 == 0 {
@@ -210,7 +210,7 @@ fn judge_arguments(asked: &Open<'_>, held: Held) -> Result<Held, Status>
 }
 
 /// The directory in which the name is looked for.
-fn judge_place(context: &Context, asked: &Open<'_>, held: Held) -> Result<Held, Status>
+fn judge_place(context: &Context, asked: &Open<'_>, held: Node) -> Result<Node, Status>
     ensures { result ≡ checked (Ok held) (of_open.place_checks context.now (view_open asked.now)) }
 {
     if !held.object.kind.is_directory() {
@@ -263,7 +263,7 @@ fn was_made_by(verifier: Option<[u8; 8]>, made: Option<[u8; 8]>) -> bool
 }
 
 /// The object that is there, if it may be opened.
-fn judge_there(context: &Context, asked: &Open<'_>, file: Held) -> Result<Held, Status>
+fn judge_there(context: &Context, asked: &Open<'_>, file: Node) -> Result<Node, Status>
     ensures { result ≡ checked (Ok file) (of_open.there_checks context.now (view_open asked.now)) }
 {
     if is_guarded(&asked.openhow) {
@@ -313,7 +313,7 @@ fn found_by(
 }
 
 /// What stands under the name in a directory.
-fn by_name(store: &Store, context: &Context, asked: &Open<'_>, held: Held) -> Result<Found, Status>
+fn by_name(store: &Store, context: &Context, asked: &Open<'_>, held: Node) -> Result<Found, Status>
     ensures { result ≡ of_open.by_name (state_of store.now) context.now (view_open asked.now) (Ok held) }
 {
     let place = judge_place(context, asked, held)?;
@@ -326,7 +326,7 @@ fn by_name(store: &Store, context: &Context, asked: &Open<'_>, held: Held) -> Re
 }
 
 /// The current filehandle's file itself.
-fn by_handle(context: &Context, asked: &Open<'_>, held: Held) -> Result<Found, Status>
+fn by_handle(context: &Context, asked: &Open<'_>, held: Node) -> Result<Found, Status>
     ensures { result ≡ of_open.by_handle context.now (view_open asked.now) (Ok held) }
 {
     let file = judge_there(context, asked, held)?;

@@ -18,7 +18,7 @@ ghost use Rattle.nfs_files.specs.Operation.{one_or_delay};
 use crate::access::writable;
 use nfs_attrs::{Mask, Wanted, may_set};
 use nfs_compound::{OpNum, SetAttr, Stateid};
-use nfs_names::{Context, Held, Store, attr_set, current, refuse, status_of, time_of, wanted_of};
+use nfs_names::{Context, Node, Store, attr_set, current, refuse, status_of, time_of, wanted_of};
 use nfs_results::Res;
 use nfs_tree::{Sets, Tree, TreeFault};
 use nfs_xdr::{Status, Time};
@@ -27,7 +27,7 @@ use std::alloc::Global;
 /// An object, and what is to be set of it.
 #[derive(Clone, Copy, Debug, PartialEq, Eq)]
 pub(crate) struct Setting {
-    pub(crate) held: Held,
+    pub(crate) held: Node,
     pub(crate) wanted: Wanted,
 }
 
@@ -50,7 +50,7 @@ fn judge_sized(
     context: &Context,
     given: &Stateid,
     setting: &Setting,
-) -> Result<Held, Status>
+) -> Result<Node, Status>
     ensures { result ≡ of_set_attr.sized (state_of store.now) context.now given.now setting.now }
 {
     match setting.wanted.size {

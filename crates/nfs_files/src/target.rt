@@ -7,7 +7,7 @@ ghost use Rattle.nfs_files.specs.Target.{the_file, target};
 use crate::access::judge_file;
 use crate::stateids::meant;
 use nfs_compound::Stateid;
-use nfs_names::{Context, Held, Store, current};
+use nfs_names::{Context, Node, Store, current};
 use nfs_opens::{CurrentSeqid, StateId};
 use nfs_xdr::Status;
 
@@ -22,7 +22,7 @@ pub(crate) struct Target {
 
 /// The current filehandle's object: ISDIR where it is a directory, SYMLINK where it is a symbolic link.
 #[tactic(auto, unfolding(crate::specs::Target::the_file))]
-pub(crate) fn the_file(store: &Store, context: &Context) -> Result<Held, Status>
+pub(crate) fn the_file(store: &Store, context: &Context) -> Result<Node, Status>
     ensures { result ≡ the_file (state_of store.now) context.now }
 {
     let held = current(store, context)?;

@@ -15,8 +15,8 @@ use Rattle.nfs_results.specs.Largest.{MayAnswer}
 use Rattle.nfs_results.specs.Results.{HasArrays}
 use Rattle.nfs_names.specs.declared.context.Context.{Context}
 use Rattle.nfs_names.specs.declared.context.Saved.{Saved}
-use Rattle.nfs_names.specs.declared.held.Held.{Held}
-use Rattle.nfs_names.specs.declared.held.Pair.{Pair}
+use Rattle.nfs_names.specs.declared.node.Node.{Node}
+use Rattle.nfs_names.specs.declared.node.Pair.{Pair}
 use Rattle.nfs_names.specs.State.{State}
 use Rattle.nfs_names.specs.Outcome.{done, passed, checked, answers}
 use Rattle.nfs_names.proofs.Listed.{listed_within}
@@ -74,11 +74,11 @@ pub current_refuses : (s : State) (x : Context) → Refuses (current s x)
 unfolding current
 current_refuses s x = held_refuses s x.current
 
-paired_refuses : (d : Held) (v : Result Held Status) → Refuses v → Refuses (paired d v)
+paired_refuses : (d : Node) (v : Result Node Status) → Refuses v → Refuses (paired d v)
 paired_refuses d (Err f) h = err_refuses f (h.each f refl)
 paired_refuses d (Ok e) h = ok_refuses (record { current = d; saved = e })
 
-both_of_refuses : (v w : Result Held Status) → Refuses v → Refuses w → Refuses (both_of v w)
+both_of_refuses : (v w : Result Node Status) → Refuses v → Refuses w → Refuses (both_of v w)
 both_of_refuses (Err f) w h g = err_refuses f (h.each f refl)
 both_of_refuses (Ok d) w h g = paired_refuses d w g
 
@@ -92,11 +92,11 @@ fault_refuses F.Inval = record { done = refl; legal = refl }
 fault_refuses F.BadXdr = record { done = refl; legal = refl }
 fault_refuses F.BadOwner = record { done = refl; legal = refl }
 
-making_refuses : (d : Held) (r : Result Wanted AttrFault) → Refuses (making d r)
+making_refuses : (d : Node) (r : Result Wanted AttrFault) → Refuses (making d r)
 making_refuses d (Err f) = err_refuses (fault_status f) (fault_refuses f)
 making_refuses d (Ok w) = ok_refuses (record { place = d; wanted = w })
 
-pub wanted_refuses : (v : Result Held Status) (r : Result Wanted AttrFault) → Refuses v → Refuses (with_wanted v r)
+pub wanted_refuses : (v : Result Node Status) (r : Result Wanted AttrFault) → Refuses v → Refuses (with_wanted v r)
 wanted_refuses (Err f) r h = err_refuses f (h.each f refl)
 wanted_refuses (Ok d) r h = making_refuses d r
 
@@ -110,7 +110,7 @@ or_status_refuses : (r : Result Bool AttrFault) → Refuses (or_status r)
 or_status_refuses (Err f) = err_refuses (fault_status f) (fault_refuses f)
 or_status_refuses (Ok b) = ok_refuses b
 
-compared_refuses : (s : State) (a : Attributes) (v : Result Held Status) → Refuses v → Refuses (compared s a v)
+compared_refuses : (s : State) (a : Attributes) (v : Result Node Status) → Refuses v → Refuses (compared s a v)
 compared_refuses s a (Err f) h = err_refuses f (h.each f refl)
 compared_refuses s a (Ok d) h = or_status_refuses (same_at s a d)
 
@@ -122,7 +122,7 @@ saved_refuses : (o : Option Saved) → Refuses (or_none o)
 saved_refuses None = err_refuses S.NoFileHandle (record { done = refl; legal = refl })
 saved_refuses (Some v) = ok_refuses v
 
-style_refuses : (s : State) (style : SecinfoStyle) (v : Result Held Status) → Refuses v → Refuses (checked v (style_checks s style))
+style_refuses : (s : State) (style : SecinfoStyle) (v : Result Node Status) → Refuses v → Refuses (checked v (style_checks s style))
 style_refuses s CurrentFh v h = refuses_checked v (style_checks s CurrentFh) h (λ d. refl)
 style_refuses s Parent v h = refuses_checked v (style_checks s Parent) h (λ d. refl)
 
@@ -259,7 +259,7 @@ pub may_put_root_fh : (s : State) (x : Context) → IsAnswer (Operation OpPutRoo
 unfolding put_root_fh
 may_put_root_fh s x = record { may = (refl, tt, tt); arrays = tt }
 
-listed_may : (s : State) (a : args.ReadDir) (d : Held) → 16 ≤ a.maxcount → IsAnswer (Operation (OpReadDir a)) (ResReadDir (listed s a d))
+listed_may : (s : State) (a : args.ReadDir) (d : Node) → 16 ≤ a.maxcount → IsAnswer (Operation (OpReadDir a)) (ResReadDir (listed s a d))
 listed_may s a d le = record { may = (refl, tt, listed_within s a d le); arrays = refl }
 
 pub may_read_dir : (s : State) (x : Context) (a : args.ReadDir) → IsAnswer (Operation (OpReadDir a)) (read_dir s x a).result
@@ -268,10 +268,10 @@ may_read_dir s x a = by_place (checked (current s x) (listing_checks x a))
     (refuses_checked (current s x) (listing_checks x a) (current_refuses s x) (λ d. refl))
     (λ d e. large d (checked_ok (current s x) (listing_checks x a) d e).1)
   where
-    large : (d : Held) → first_fault (listing_checks x a d) ≡ None → 16 ≤ a.maxcount
+    large : (d : Node) → first_fault (listing_checks x a d) ≡ None → 16 ≤ a.maxcount
     large d e = ltb-false _ _ (all_passed (listing_checks x a d) e).1.1.1.1.1.0
 
-    by_fault : (d : Held) (o : Option Status) → 16 ≤ a.maxcount → (o ≡ first_fault (entry_checks s a d))
+    by_fault : (d : Node) (o : Option Status) → 16 ≤ a.maxcount → (o ≡ first_fault (entry_checks s a d))
         → IsAnswer (Operation (OpReadDir a)) (answers s x Num.ReadDir (passed d o) (λ d. done s x (ResReadDir (listed s a d)))).result
     by_fault d o le e =
         answers_with (IsAnswer (Operation (OpReadDir a))) s x Num.ReadDir (passed d o) (λ d. done s x (ResReadDir (listed s a d)))
@@ -279,7 +279,7 @@ may_read_dir s x a = by_place (checked (current s x) (listing_checks x a))
         (λ status h. record { may = (refl, rw (h.done, h.legal) refl, tt); arrays = tt })
         (λ d. listed_may s a d le)
 
-    by_place : (v : Result Held Status) → Refuses v → ((d : Held) → v ≡ Ok d → 16 ≤ a.maxcount)
+    by_place : (v : Result Node Status) → Refuses v → ((d : Node) → v ≡ Ok d → 16 ≤ a.maxcount)
         → IsAnswer (Operation (OpReadDir a)) (answers s x Num.ReadDir (checked v (entry_checks s a)) (λ d. done s x (ResReadDir (listed s a d)))).result
     by_place (Err status) all le = (let h = all.each status refl in record { may = (refl, rw (h.done, h.legal) refl, tt); arrays = tt })
     by_place (Ok d) all le = by_fault d (first_fault (entry_checks s a d)) (le d refl) refl

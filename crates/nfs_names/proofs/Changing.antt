@@ -16,8 +16,8 @@ use Rattle.nfs_tree.specs.Create.{create_fault, is_bad_text, is_too_big}
 use Rattle.nfs_attrs.specs.declared.wanted.Wanted.{Wanted}
 use Rattle.nfs_attrs.specs.declared.wanted.AttrFault.{AttrFault}
 use Rattle.nfs_names.specs.declared.context.Context.{Context}
-use Rattle.nfs_names.specs.declared.held.Held.{Held}
-use Rattle.nfs_names.specs.declared.held.Pair.{Pair}
+use Rattle.nfs_names.specs.declared.node.Node.{Node}
+use Rattle.nfs_names.specs.declared.node.Pair.{Pair}
 use Rattle.nfs_names.specs.declared.making.Making.{Making}
 use Rattle.nfs_names.specs.State.{State}
 use Rattle.nfs_names.specs.Faults.{status_of}
@@ -72,7 +72,7 @@ link_stops s x now name p f v some =
     (sym (link_found s x name p v) ∙ ap (option_map status_of) some)
 
 -- REMOVE
-remove_rows : (s : State) (x : Context) (name : List ℕ) (d : Held) → IsHeld s.tree d → first_fault (of_remove.place_checks x name d) ≡ None
+remove_rows : (s : State) (x : Context) (name : List ℕ) (d : Node) → IsHeld s.tree d → first_fault (of_remove.place_checks x name d) ≡ None
     → option_map status_of (remove_fault s.tree d.number name) ≡ first_fault (of_remove.row_checks s name d)
 remove_rows s x name d held e =
     let t = s.tree in
@@ -85,12 +85,12 @@ remove_rows s x name d held e =
     let same : remove_fault t d.number name ≡ first_fault tail = rw (there, directory) refl in
     ap (option_map status_of) same ∙ fault_map status_of tail
 
-remove_found : (s : State) (x : Context) (name : List ℕ) (d : Held) → checked (current s x) (of_remove.place_checks x name) ≡ Ok d
+remove_found : (s : State) (x : Context) (name : List ℕ) (d : Node) → checked (current s x) (of_remove.place_checks x name) ≡ Ok d
     → option_map status_of (remove_fault s.tree d.number name) ≡ first_fault (of_remove.row_checks s name d)
 remove_found s x name d v = let found = checked_ok (current s x) (of_remove.place_checks x name) d v in
     remove_rows s x name d (current_is s x d found.0) found.1
 
-pub remove_goes : (s : State) (x : Context) (now : Time) (name : List ℕ) (d : Held)
+pub remove_goes : (s : State) (x : Context) (now : Time) (name : List ℕ) (d : Node)
     → checked (current s x) (of_remove.place_checks x name) ≡ Ok d → remove_fault s.tree d.number name ≡ None
     → of_remove.remove s x now name ≡ of_remove.removed s x now name d
 unfolding of_remove.remove
@@ -98,7 +98,7 @@ remove_goes s x now name d v none =
     by_last s x Op.Remove (checked (current s x) (of_remove.place_checks x name)) (of_remove.row_checks s name) (of_remove.removed s x now name) d v
     (sym (remove_found s x name d v) ∙ ap (option_map status_of) none)
 
-pub remove_stops : (s : State) (x : Context) (now : Time) (name : List ℕ) (d : Held) (f : TreeFault)
+pub remove_stops : (s : State) (x : Context) (now : Time) (name : List ℕ) (d : Node) (f : TreeFault)
     → checked (current s x) (of_remove.place_checks x name) ≡ Ok d → remove_fault s.tree d.number name ≡ Some f
     → of_remove.remove s x now name ≡ refuses s x Op.Remove (status_of f)
 unfolding of_remove.remove
@@ -108,7 +108,7 @@ remove_stops s x now name d f v some =
     (sym (remove_found s x name d v) ∙ ap (option_map status_of) some)
 
 -- CREATE
-wanted_ok : (v : Result Held Status) (r : Result Wanted AttrFault) (m : Making) → of_create.with_wanted v r ≡ Ok m → v ≡ Ok m.place
+wanted_ok : (v : Result Node Status) (r : Result Wanted AttrFault) (m : Making) → of_create.with_wanted v r ≡ Ok m → v ≡ Ok m.place
 wanted_ok (Err f) r m e = absurd cc
 wanted_ok (Ok d) (Err f) m e = absurd cc
 wanted_ok (Ok d) (Ok w) m e = let same : record { place = d; wanted = w } ≡ m = cc in ap (λ (m : Making). Ok m.place) same

@@ -32,7 +32,7 @@ use Rattle.nfs_compound.specs.NameArgs.{ReadDir}
 use Rattle.nfs_results.specs.Largest.{given}
 use Rattle.nfs_attrs.specs.Mask.{mask_of}
 use Rattle.nfs_attrs.specs.declared.about.About.{About}
-use Rattle.nfs_names.specs.declared.held.Held.{Held}
+use Rattle.nfs_names.specs.declared.node.Node.{Node}
 
 -- a front within so many bytes
 abbrev pub fits_in : ℕ → List Entry → Bool
@@ -185,7 +185,7 @@ entry_length s asked e o a n is told count =
 pub given_least : (count : ℕ) → 16 ≤ count → 16 ≤ given count
 given_least count le = elim (cases_Bool (nat_lt 65536 count)) [ inl most ↦ rw most (omega arith) | inr few ↦ rw few le ]
 
-pub ended_lists : (s : State) (a : ReadDir) (d : Held) (first now : SheetState) (mask : Mask) (g : ℕ) (rest : List Listed) (whole : Bool)
+pub ended_lists : (s : State) (a : ReadDir) (d : Node) (first now : SheetState) (mask : Mask) (g : ℕ) (rest : List Listed) (whole : Bool)
     → Ended (entry_of s mask) first now (g - 16) rest whole → mask ≡ mask_of a.attr_request → g ≡ given a.maxcount
     → rest ≡ listing s.tree.rows d.number a.cookie → 16 ≤ a.maxcount
     → Puts first now (flat_map entry_text (fitting s a d)) × (whole ≡ (length (fitting s a d) == length (left s a d)))

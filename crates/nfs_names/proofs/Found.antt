@@ -10,8 +10,8 @@ use Rattle.nfs_tree.specs.declared.stored.Stored.{Stored}
 use Rattle.nfs_tree.specs.Object.{is_directory}
 use Rattle.nfs_tree.specs.Files.{Files, most_name, is_name, stored_in, object_at, is_there, is_directory_at}
 use Rattle.nfs_names.specs.declared.context.Context.{Context}
-use Rattle.nfs_names.specs.declared.held.Held.{Held}
-use Rattle.nfs_names.specs.declared.held.Pair.{Pair}
+use Rattle.nfs_names.specs.declared.node.Node.{Node}
+use Rattle.nfs_names.specs.declared.node.Pair.{Pair}
 use Rattle.nfs_names.specs.State.{State}
 use Rattle.nfs_names.specs.Outcome.{passed, checked}
 use Rattle.nfs_names.specs.Checks.{held_as, held, saved_object, current, paired, both_of, both}
@@ -29,12 +29,12 @@ checked_ok (Ok b) checks a e =
     (ap Ok p.0, ap (λ c. first_fault (checks c)) (sym p.0) ∙ p.1)
 
 -- the object is the tree's
-pub record IsHeld (t : Files) (d : Held) : Type 0 where
+pub record IsHeld (t : Files) (d : Node) : Type 0 where
   pub there : is_there t d.number ≡ true
   pub directory : is_directory_at t d.number ≡ is_directory d.object.kind
   pub object : object_at t d.number ≡ Some d.object
 
-is_held : (t : Files) (d : Held) → object_at t d.number ≡ Some d.object → IsHeld t d
+is_held : (t : Files) (d : Node) → object_at t d.number ≡ Some d.object → IsHeld t d
 is_held t d e = by_stored (stored_in t.objects d.number) refl
   where
     by_stored : (o : Option Stored) → stored_in t.objects d.number ≡ o → IsHeld t d
@@ -48,29 +48,29 @@ is_held t d e = by_stored (stored_in t.objects d.number) refl
           object = e;
         }
 
-held_by : (t : Files) (n : ℕ) (o : Option Object) (d : Held) → object_at t n ≡ o → held_as n o ≡ Ok d → IsHeld t d
+held_by : (t : Files) (n : ℕ) (o : Option Object) (d : Node) → object_at t n ≡ o → held_as n o ≡ Ok d → IsHeld t d
 held_by t n None d is e = absurd cc
 held_by t n (Some o) d is e =
     let same : record { number = n; object = o } ≡ d = cc in
-    is_held t d (ap (λ (h : Held). object_at t h.number) (sym same) ∙ is ∙ ap (λ (h : Held). Some h.object) same)
+    is_held t d (ap (λ (h : Node). object_at t h.number) (sym same) ∙ is ∙ ap (λ (h : Node). Some h.object) same)
 
-held_is : (s : State) (o : Option ℕ) (d : Held) → held s o ≡ Ok d → IsHeld s.tree d
+held_is : (s : State) (o : Option ℕ) (d : Node) → held s o ≡ Ok d → IsHeld s.tree d
 held_is s None d e = absurd cc
 held_is s (Some n) d e = held_by s.tree n (object_at s.tree n) d refl e
 
-pub current_is : (s : State) (x : Context) (d : Held) → current s x ≡ Ok d → IsHeld s.tree d
+pub current_is : (s : State) (x : Context) (d : Node) → current s x ≡ Ok d → IsHeld s.tree d
 unfolding current
 current_is s x d e = held_is s x.current d e
 
-paired_is : (t : Files) (d : Held) (v : Result Held Status) (p : Pair) → IsHeld t d
-    → ((e : Held) → v ≡ Ok e → IsHeld t e) → paired d v ≡ Ok p → IsHeld t p.current × IsHeld t p.saved
+paired_is : (t : Files) (d : Node) (v : Result Node Status) (p : Pair) → IsHeld t d
+    → ((e : Node) → v ≡ Ok e → IsHeld t e) → paired d v ≡ Ok p → IsHeld t p.current × IsHeld t p.saved
 paired_is t d (Err status) p one other e = absurd cc
 paired_is t d (Ok h) p one other e =
     let same : record { current = d; saved = h } ≡ p = cc in
     (subst (λ (q : Pair). IsHeld t q.current) same one, subst (λ (q : Pair). IsHeld t q.saved) same (other h refl))
 
-both_is_of : (t : Files) (v w : Result Held Status) (p : Pair) → ((e : Held) → v ≡ Ok e → IsHeld t e)
-    → ((e : Held) → w ≡ Ok e → IsHeld t e) → both_of v w ≡ Ok p → IsHeld t p.current × IsHeld t p.saved
+both_is_of : (t : Files) (v w : Result Node Status) (p : Pair) → ((e : Node) → v ≡ Ok e → IsHeld t e)
+    → ((e : Node) → w ≡ Ok e → IsHeld t e) → both_of v w ≡ Ok p → IsHeld t p.current × IsHeld t p.saved
 both_is_of t (Err status) w p one other e = absurd cc
 both_is_of t (Ok d) w p one other e = paired_is t d w p (one d refl) other e
 

@@ -26,7 +26,7 @@ use Rattle.nfs_names.specs.declared.context.Context.{Context}
 use Rattle.nfs_names.specs.Comes.{Comes}
 use Rattle.nfs_names.specs.Outcome.{done, passed, checked, answers}
 use Rattle.nfs_names.specs.Checks.{current}
-use Rattle.nfs_names.specs.declared.held.Held.{Held}
+use Rattle.nfs_names.specs.declared.node.Node.{Node}
 use Rattle.nfs_names.specs.State.{State}
 use Rattle.nfs_names.specs.ReadDir.{longest, fits, fitting, left, zeros, listing_checks, entry_checks, listed, read_dir, Lists}
 use Rattle.nfs_names.proofs.Entering.{length_entry_head, given_least}
@@ -39,7 +39,7 @@ longest_passes test (x ∷ xs) e = elim (cases_Bool (test (x ∷ []))) [
 ]
 
 -- what fits is within the bytes that are given
-pub fitting_within : (s : State) (a : ReadDir) (d : Held) → 16 ≤ a.maxcount → length (flat_map entry_text (fitting s a d)) + 16 ≤ given a.maxcount
+pub fitting_within : (s : State) (a : ReadDir) (d : Node) → 16 ≤ a.maxcount → length (flat_map entry_text (fitting s a d)) + 16 ≤ given a.maxcount
 unfolding fitting
 fitting_within s a d le =
     let least = given_least a.maxcount le in
@@ -54,7 +54,7 @@ no_text (x ∷ es) e =
     let one = length-append (entry_head x.cookie x.name) (fattr.spell x.attrs) in
     absurd (omega arith)
 
-pub too_small : (s : State) (a : ReadDir) (d : Held) → false ≡ (length (fitting s a d) == length (left s a d))
+pub too_small : (s : State) (a : ReadDir) (d : Node) → false ≡ (length (fitting s a d) == length (left s a d))
     → length (flat_map entry_text (fitting s a d)) ≡ 0 → first_fault (entry_checks s a d) ≡ Some TooSmall
 too_small s a d part none =
     let empty = no_text (fitting s a d) none in
@@ -66,7 +66,7 @@ too_small s a d part none =
     let both : (nat_lt 0 (length (left s a d)) && (length (fitting s a d) == 0)) ≡ true = and_from _ _ (lt-ltb 0 _ some) (eq-eqb _ _ empty) in
     rw both refl
 
-pub all_small : (s : State) (a : ReadDir) (d : Held) → true ≡ (length (fitting s a d) == length (left s a d)) → first_fault (entry_checks s a d) ≡ None
+pub all_small : (s : State) (a : ReadDir) (d : Node) → true ≡ (length (fitting s a d) == length (left s a d)) → first_fault (entry_checks s a d) ≡ None
 all_small s a d whole =
     let same : length (fitting s a d) ≡ length (left s a d) = eqb-true _ _ (sym whole) in
     let none : (nat_lt 0 (length (left s a d)) && (length (fitting s a d) == 0)) ≡ false = elim (cases_Bool (length (fitting s a d) == 0)) [
@@ -75,7 +75,7 @@ all_small s a d whole =
     ] in
     rw none refl
 
-pub some_small : (s : State) (a : ReadDir) (d : Held) → (length (flat_map entry_text (fitting s a d)) ≡ 0 → ⊥) → first_fault (entry_checks s a d) ≡ None
+pub some_small : (s : State) (a : ReadDir) (d : Node) → (length (flat_map entry_text (fitting s a d)) ≡ 0 → ⊥) → first_fault (entry_checks s a d) ≡ None
 some_small s a d some =
     let none : (nat_lt 0 (length (left s a d)) && (length (fitting s a d) == 0)) ≡ false =
     and_right _ _ (false_from_ne_true _ (λ e. some (empty_text (fitting s a d) (eqb-true _ _ e)))) in
@@ -109,7 +109,7 @@ taken_back old mid last a b start p q is =
     let with_bytes : List ℕ → ℕ → SheetState = λ bytes room. record { bytes = bytes; room = room } in
     ap (λ bytes. with_bytes bytes last.room) bytes ∙ ap (with_bytes old.bytes) (q.room ∙ p.room)
 
-pub listed_whole : (s : State) (a : ReadDir) (d : Held) (old mid out new : SheetState) (whole : Bool)
+pub listed_whole : (s : State) (a : ReadDir) (d : Node) (old mid out new : SheetState) (whole : Bool)
     → Puts old mid (read_dir_head zeros) → Puts mid out (flat_map entry_text (fitting s a d)) → Puts out new (list_end whole)
     → whole ≡ (length (fitting s a d) == length (left s a d)) → Puts old new (spell_result (ResReadDir (listed s a d)))
 listed_whole s a d old mid out new whole p q r eof =
@@ -118,7 +118,7 @@ listed_whole s a d old mid out new whole p q r eof =
     (puts_then p (puts_then q r))
 
 -- a listing that was put is what READDIR comes to
-pub listing_comes : (s : State) (x : Context) (a : ReadDir) (d : Held) (answer : Status) (old new : SheetState)
+pub listing_comes : (s : State) (x : Context) (a : ReadDir) (d : Node) (answer : Status) (old new : SheetState)
     → checked (current s x) (listing_checks x a) ≡ Ok d → Lists answer (first_fault (entry_checks s a d)) (listed s a d) old new
     → Comes (read_dir s x a) old new answer s x
 unfolding read_dir
@@ -132,7 +132,7 @@ listing_comes s x a d answer old new v lists =
     by_fault (Some status) l = record { put = l.1; status = l.0; state = refl; context = refl }
 
 -- all behind the status is within the bytes that are given
-pub listed_within : (s : State) (a : ReadDir) (d : Held) → 16 ≤ a.maxcount → length (parts (ResReadDir (listed s a d))).behind ≤ given a.maxcount
+pub listed_within : (s : State) (a : ReadDir) (d : Node) → 16 ≤ a.maxcount → length (parts (ResReadDir (listed s a d))).behind ≤ given a.maxcount
 listed_within s a d le =
     let text = flat_map entry_text (fitting s a d) in
     let eof = length (fitting s a d) == length (left s a d) in

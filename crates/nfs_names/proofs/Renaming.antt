@@ -18,7 +18,7 @@ use Rattle.nfs_tree.specs.Names.{Move, move, moves, moved_object, replaced_objec
 use Rattle.nfs_tree.specs.Names.{rename_fault, rename_unless, with_moved}
 use Rattle.nfs_tree.proofs.Trees.{has_one, apart}
 use Rattle.nfs_names.specs.declared.context.Context.{Context}
-use Rattle.nfs_names.specs.declared.held.Pair.{Pair}
+use Rattle.nfs_names.specs.declared.node.Pair.{Pair}
 use Rattle.nfs_names.specs.State.{State}
 use Rattle.nfs_names.specs.Faults.{status_of}
 use Rattle.nfs_names.specs.Outcome.{Outcome, refuses, checked, or_delay, is_delay}

@@ -16,8 +16,8 @@ use Rattle.nfs_attrs.specs.declared.handle.Handle.{Handle}
 use Rattle.nfs_tree.specs.Files.{root, lookup as looked_up, named}
 use Rattle.nfs_tree.specs.Names.{moves, with_moved, without_name}
 use Rattle.nfs_names.specs.declared.context.Context.{Context}
-use Rattle.nfs_names.specs.declared.held.Held.{Held}
-use Rattle.nfs_names.specs.declared.held.Pair.{Pair}
+use Rattle.nfs_names.specs.declared.node.Node.{Node}
+use Rattle.nfs_names.specs.declared.node.Pair.{Pair}
 use Rattle.nfs_names.specs.State.{State, with_tree, is_used, without_unused}
 use Rattle.nfs_names.specs.Outcome.{Outcome, done, refuses, answers, or_delay, is_ok}
 use Rattle.nfs_names.specs.Context.{at_object}
@@ -101,7 +101,7 @@ leaves_one s x now OpRestoreFh = by_answers (Leaves s x) s x Num.RestoreFh _ (λ
   opens = refl;
   client = refl;
 })
-leaves_one s x now OpSaveFh = by_answers (Leaves s x) s x Num.SaveFh _ (λ (d : Held). done s (saving x d.number) ResSaveFh) (same s x) (λ d. record {
+leaves_one s x now OpSaveFh = by_answers (Leaves s x) s x Num.SaveFh _ (λ (d : Node). done s (saving x d.number) ResSaveFh) (same s x) (λ d. record {
   opens = refl;
   client = refl;
 })

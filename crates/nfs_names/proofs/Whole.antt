@@ -22,7 +22,7 @@ use Rattle.std.proofs.lemmas.List.{length-append}
 use Rattle.nfs_tree.specs.Kept.{IsTree}
 use Rattle.nfs_tree.specs.Names.{moves}
 use Rattle.nfs_names.specs.declared.context.Context.{Context}
-use Rattle.nfs_names.specs.declared.held.Pair.{Pair}
+use Rattle.nfs_names.specs.declared.node.Pair.{Pair}
 use Rattle.nfs_names.specs.State.{State, IsStore}
 use Rattle.nfs_names.specs.Outcome.{Outcome, refuses, checked, answers, or_delay, is_ok}
 use Rattle.nfs_names.specs.Operation.{one, grows, on_names, is_on_names, comes_to, one_or_delay}

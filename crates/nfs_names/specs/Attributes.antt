@@ -7,16 +7,16 @@ use Rattle.nfs_attrs.specs.declared.mask.Mask.{Mask}
 use Rattle.nfs_attrs.specs.Mask.{trimmed_words, common}
 use Rattle.nfs_attrs.specs.Attributes.{readable, values}
 use Rattle.nfs_results.specs.Result.{Fattr}
-use Rattle.nfs_names.specs.declared.held.Held.{Held}
+use Rattle.nfs_names.specs.declared.node.Node.{Node}
 use Rattle.nfs_names.specs.State.{State}
 
 -- a directory has one name; any other object has as many as rows name it
-abbrev pub links_of : State → Held → ℕ
+abbrev pub links_of : State → Node → ℕ
 links_of s d = if is_directory d.object.kind then 1 else links_in s.tree.rows d.number
 
-abbrev pub about : State → Held → About
+abbrev pub about : State → Node → About
 about s d = record { number = d.number; links = links_of s d; instance = s.instance; lease = s.lease }
 
 -- those that are asked for, and their values
-abbrev pub attributes_of : State → Mask → Held → Fattr
+abbrev pub attributes_of : State → Mask → Node → Fattr
 attributes_of s asked d = record { attrmask = trimmed_words (common asked readable); attr_vals = values asked (about s d) d.object }

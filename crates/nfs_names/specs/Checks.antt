@@ -10,16 +10,16 @@ use Rattle.nfs_attrs.specs.declared.permission.Want.{Want}
 use Rattle.nfs_attrs.specs.Permissions.{may}
 use Rattle.nfs_names.specs.declared.context.Context.{Context}
 use Rattle.nfs_names.specs.declared.context.Saved.{Saved}
-use Rattle.nfs_names.specs.declared.held.Held.{Held}
-use Rattle.nfs_names.specs.declared.held.Pair.{Pair}
+use Rattle.nfs_names.specs.declared.node.Node.{Node}
+use Rattle.nfs_names.specs.declared.node.Pair.{Pair}
 use Rattle.nfs_names.specs.State.{State}
 
 -- A filehandle is wanted and there is none, or its object is gone (RFC 8881 sections 15.1.2.5 and 15.1.2.9).
-abbrev pub held_as : ℕ → Option Object → Result Held Status
+abbrev pub held_as : ℕ → Option Object → Result Node Status
 held_as n None = Err Stale
 held_as n (Some o) = Ok (record { number = n; object = o })
 
-abbrev pub held : State → Option ℕ → Result Held Status
+abbrev pub held : State → Option ℕ → Result Node Status
 held s None = Err NoFileHandle
 held s (Some n) = held_as n (object_at s.tree n)
 
@@ -28,39 +28,39 @@ saved_object None = None
 saved_object (Some saved) = Some saved.object
 
 -- the object of the current filehandle
-unfoldable pub current : State → Context → Result Held Status
+unfoldable pub current : State → Context → Result Node Status
 current s x = held s x.current
 
 -- the objects of the current filehandle and of the saved one: the current one is looked at first
-abbrev pub paired : Held → Result Held Status → Result Pair Status
+abbrev pub paired : Node → Result Node Status → Result Pair Status
 paired d (Err status) = Err status
 paired d (Ok e) = Ok (record { current = d; saved = e })
 
-abbrev pub both_of : Result Held Status → Result Held Status → Result Pair Status
+abbrev pub both_of : Result Node Status → Result Node Status → Result Pair Status
 both_of (Err status) saved = Err status
 both_of (Ok d) saved = paired d saved
 
 unfoldable pub both : State → Context → Result Pair Status
 both s x = both_of (current s x) (held s (saved_object x.saved))
 
-abbrev pub no_directory : Held → Bool × Status
+abbrev pub no_directory : Node → Bool × Status
 no_directory d = (not (is_directory d.object.kind), NotDir)
 
 -- whether the permission bits let the caller do it
-unfoldable pub permits : Context → Held → Want → Bool
+unfoldable pub permits : Context → Node → Want → Bool
 permits x d want = may d.object x.who want
 
-abbrev pub denied : Context → Held → Want → Bool × Status
+abbrev pub denied : Context → Node → Want → Bool × Status
 denied x d want = (not (permits x d want), Access)
 
 -- the directory in which an object stands: the root stands in none
-abbrev pub has_parent : State → Held → Bool
+abbrev pub has_parent : State → Node → Bool
 has_parent s d = is_some (parent_in s.tree.rows d.number)
 
-abbrev pub parent : State → Held → ℕ
+abbrev pub parent : State → Node → ℕ
 parent s d = unwrap_or (parent_in s.tree.rows d.number) 0
 
-abbrev pub no_parent : State → Held → Bool × Status
+abbrev pub no_parent : State → Node → Bool × Status
 no_parent s d = (not (has_parent s d), NoEnt)
 
 -- The four checks of a name (component4, RFC 8881 sections 14.3 and 15.1.7): `/` and a zero byte stand in none, and `.` and `..` are none.

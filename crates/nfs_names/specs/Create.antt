@@ -23,7 +23,7 @@ use Rattle.nfs_attrs.specs.Reading.{read_attrs, fault_status}
 use Rattle.nfs_attrs.specs.Setting.{make_checks}
 use Rattle.nfs_attrs.specs.Permissions.{change}
 use Rattle.nfs_names.specs.declared.context.Context.{Context}
-use Rattle.nfs_names.specs.declared.held.Held.{Held}
+use Rattle.nfs_names.specs.declared.node.Node.{Node}
 use Rattle.nfs_names.specs.declared.making.Making.{Making}
 use Rattle.nfs_names.specs.State.{State, with_tree}
 use Rattle.nfs_names.specs.Context.{at_object}
@@ -55,7 +55,7 @@ plain_mode (Link text) = 511
 plain_mode other = 493
 
 -- first the place, the type and the name are looked at ..
-abbrev pub place_checks : Context → Create → Held → List (Bool × Status)
+abbrev pub place_checks : Context → Create → Node → List (Bool × Status)
 place_checks x c d =
     no_directory d
     ∷ denied x d change
@@ -68,11 +68,11 @@ place_checks x c d =
 unfoldable pub wanted_of : Attributes → Result Wanted AttrFault
 wanted_of a = read_attrs (mask_of a.attrmask) a.attr_vals
 
-abbrev pub making : Held → Result Wanted AttrFault → Result Making Status
+abbrev pub making : Node → Result Wanted AttrFault → Result Making Status
 making d (Err fault) = Err (fault_status fault)
 making d (Ok wanted) = Ok (record { place = d; wanted = wanted })
 
-abbrev pub with_wanted : Result Held Status → Result Wanted AttrFault → Result Making Status
+abbrev pub with_wanted : Result Node Status → Result Wanted AttrFault → Result Making Status
 with_wanted (Err status) wanted = Err status
 with_wanted (Ok d) wanted = making d wanted
 

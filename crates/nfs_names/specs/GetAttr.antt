@@ -6,13 +6,13 @@ use Rattle.nfs_compound.specs.declared.op_num.OpNum.TheVariants as Op
 use Rattle.nfs_results.specs.Result.{ResGetAttr}
 use Rattle.nfs_attrs.specs.Mask.{mask_of, asks_set_only}
 use Rattle.nfs_names.specs.declared.context.Context.{Context}
-use Rattle.nfs_names.specs.declared.held.Held.{Held}
+use Rattle.nfs_names.specs.declared.node.Node.{Node}
 use Rattle.nfs_names.specs.State.{State}
 use Rattle.nfs_names.specs.Outcome.{Outcome, done, checked, answers}
 use Rattle.nfs_names.specs.Checks.{current}
 use Rattle.nfs_names.specs.Attributes.{attributes_of}
 
-abbrev pub mask_checks : List ℕ → Held → List (Bool × Status)
+abbrev pub mask_checks : List ℕ → Node → List (Bool × Status)
 mask_checks words d = (asks_set_only (mask_of words), Inval) ∷ []
 
 unfoldable pub get_attr : State → Context → List ℕ → Outcome

@@ -9,7 +9,7 @@ use Rattle.nfs_tree.specs.declared.object.FileType.TheVariants.{Regular, Directo
 use Rattle.nfs_tree.specs.Files.{has_name, named}
 use Rattle.nfs_attrs.specs.Permissions.{execute}
 use Rattle.nfs_names.specs.declared.context.Context.{Context}
-use Rattle.nfs_names.specs.declared.held.Held.{Held}
+use Rattle.nfs_names.specs.declared.node.Node.{Node}
 use Rattle.nfs_names.specs.State.{State}
 use Rattle.nfs_names.specs.Context.{at_object}
 use Rattle.nfs_names.specs.Outcome.{Outcome, done, checked, mapped, answers}
@@ -20,7 +20,7 @@ is_link Regular = false
 is_link Directory = false
 is_link Link = true
 
-abbrev pub lookup_checks : State → Context → List ℕ → Held → List (Bool × Status)
+abbrev pub lookup_checks : State → Context → List ℕ → Node → List (Bool × Status)
 lookup_checks s x name d =
     (is_link d.object.kind, Symlink)
     ∷ no_directory d

@@ -5,13 +5,13 @@ use Rattle.nfs_compound.specs.declared.op_num.OpNum.TheVariants as Op
 use Rattle.nfs_results.specs.Result.{ResLookupP}
 use Rattle.nfs_attrs.specs.Permissions.{execute}
 use Rattle.nfs_names.specs.declared.context.Context.{Context}
-use Rattle.nfs_names.specs.declared.held.Held.{Held}
+use Rattle.nfs_names.specs.declared.node.Node.{Node}
 use Rattle.nfs_names.specs.State.{State}
 use Rattle.nfs_names.specs.Context.{at_object}
 use Rattle.nfs_names.specs.Outcome.{Outcome, done, checked, mapped, answers}
 use Rattle.nfs_names.specs.Checks.{current, no_directory, denied, no_parent, parent}
 
-abbrev pub lookup_p_checks : State → Context → Held → List (Bool × Status)
+abbrev pub lookup_p_checks : State → Context → Node → List (Bool × Status)
 lookup_p_checks s x d = no_directory d ∷ denied x d execute ∷ no_parent s d ∷ []
 
 unfoldable pub lookup_p : State → Context → Outcome

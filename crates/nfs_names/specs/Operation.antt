@@ -10,7 +10,7 @@ use Rattle.nfs_compound.specs.Operation.{OpPutPubFh, OpPutRootFh, OpReadDir, OpR
 use Rattle.nfs_results.specs.Result.{Refused}
 use Rattle.nfs_tree.specs.Names.{moves}
 use Rattle.nfs_names.specs.declared.context.Context.{Context}
-use Rattle.nfs_names.specs.declared.held.Pair.{Pair}
+use Rattle.nfs_names.specs.declared.node.Pair.{Pair}
 use Rattle.nfs_names.specs.State.{State}
 use Rattle.nfs_names.specs.Outcome.{Outcome, refuses, or_delay}
 use Rattle.nfs_names.specs.Checks.{both}

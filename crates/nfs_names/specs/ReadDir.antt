@@ -18,7 +18,7 @@ use Rattle.nfs_attrs.specs.declared.mask.Mask.{Mask}
 use Rattle.nfs_attrs.specs.Mask.{mask_of, asks_set_only}
 use Rattle.nfs_attrs.specs.Permissions.{read}
 use Rattle.nfs_names.specs.declared.context.Context.{Context}
-use Rattle.nfs_names.specs.declared.held.Held.{Held}
+use Rattle.nfs_names.specs.declared.node.Node.{Node}
 use Rattle.nfs_names.specs.State.{State}
 use Rattle.nfs_names.specs.Outcome.{Outcome, done, checked, answers}
 use Rattle.nfs_names.specs.Checks.{current, no_directory, denied}
@@ -33,7 +33,7 @@ unfoldable pub entry_of : State → Mask → Listed → Entry
 entry_of s asked e = record { cookie = e.cookie; name = e.name; attrs = attributes_at s asked e.number (object_at s.tree e.number) }
 
 -- all entries that are left
-abbrev pub left : State → ReadDir → Held → List Entry
+abbrev pub left : State → ReadDir → Node → List Entry
 left s a d = map (entry_of s (mask_of a.attr_request)) (listing s.tree.rows d.number a.cookie)
 
 -- the longest front of a list that passes a test which no longer one passes again
@@ -45,14 +45,14 @@ longest test (x ∷ xs) = if test (x ∷ []) then x ∷ longest (λ more. test (
 abbrev pub fits : ℕ → List Entry → Bool
 fits most entries = nat_le (length (flat_map entry_text entries) + 16) most
 
-unfoldable pub fitting : State → ReadDir → Held → List Entry
+unfoldable pub fitting : State → ReadDir → Node → List Entry
 fitting s a d = longest (fits (given a.maxcount)) (left s a d)
 
 abbrev pub zeros : List ℕ
 zeros = replicate 8 0
 
 -- first the directory and the arguments are looked at ..
-abbrev pub listing_checks : Context → ReadDir → Held → List (Bool × Status)
+abbrev pub listing_checks : Context → ReadDir → Node → List (Bool × Status)
 listing_checks x a d =
     no_directory d
     ∷ denied x d read
@@ -63,10 +63,10 @@ listing_checks x a d =
     ∷ []
 
 -- .. then whether one entry fits, if any is left
-abbrev pub entry_checks : State → ReadDir → Held → List (Bool × Status)
+abbrev pub entry_checks : State → ReadDir → Node → List (Bool × Status)
 entry_checks s a d = (nat_lt 0 (length (left s a d)) && length (fitting s a d) == 0, TooSmall) ∷ []
 
-abbrev pub listed : State → ReadDir → Held → ReadDirOk
+abbrev pub listed : State → ReadDir → Node → ReadDirOk
 listed s a d = record { cookieverf = zeros; entries = fitting s a d; eof = length (fitting s a d) == length (left s a d) }
 
 unfoldable pub read_dir : State → Context → ReadDir → Outcome

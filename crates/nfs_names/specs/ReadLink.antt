@@ -7,13 +7,13 @@ use Rattle.nfs_results.specs.Result.{ResReadLink}
 use Rattle.nfs_tree.specs.Files.{most_text}
 use Rattle.nfs_tree.specs.Bytes.{part}
 use Rattle.nfs_names.specs.declared.context.Context.{Context}
-use Rattle.nfs_names.specs.declared.held.Held.{Held}
+use Rattle.nfs_names.specs.declared.node.Node.{Node}
 use Rattle.nfs_names.specs.State.{State}
 use Rattle.nfs_names.specs.Outcome.{Outcome, done, checked, answers}
 use Rattle.nfs_names.specs.Checks.{current}
 use Rattle.nfs_names.specs.Lookup.{is_link}
 
-abbrev pub link_only : Held → List (Bool × Status)
+abbrev pub link_only : Node → List (Bool × Status)
 link_only d = (not (is_link d.object.kind), WrongType) ∷ []
 
 -- the text is all that the object has, and no link has more

@@ -10,28 +10,28 @@ use Rattle.nfs_tree.specs.Names.{without_name}
 use Rattle.nfs_tree.specs.Did.{raised}
 use Rattle.nfs_attrs.specs.Permissions.{change}
 use Rattle.nfs_names.specs.declared.context.Context.{Context}
-use Rattle.nfs_names.specs.declared.held.Held.{Held}
+use Rattle.nfs_names.specs.declared.node.Node.{Node}
 use Rattle.nfs_names.specs.State.{State, with_tree, without_unused}
 use Rattle.nfs_names.specs.Outcome.{Outcome, checked, answers}
 use Rattle.nfs_names.specs.Checks.{current, no_directory, denied, name_checks}
 use Rattle.nfs_names.specs.Create.{change_info}
 
 -- first the place and the name are looked at ..
-abbrev pub place_checks : Context → List ℕ → Held → List (Bool × Status)
+abbrev pub place_checks : Context → List ℕ → Node → List (Bool × Status)
 place_checks x name d =
     no_directory d
     ∷ denied x d change
     ∷ name_checks name
 
 -- .. then what is there
-abbrev pub row_checks : State → List ℕ → Held → List (Bool × Status)
+abbrev pub row_checks : State → List ℕ → Node → List (Bool × Status)
 row_checks s name d =
     (not (has_name s.tree d.number name), NoEnt)
     ∷ (has_entries s.tree.rows (named s.tree d.number name), NotEmpty)
     ∷ (not (can_change s.tree d.number && can_change s.tree (named s.tree d.number name)), ServerFault)
     ∷ []
 
-abbrev pub removed : State → Context → Time → List ℕ → Held → Outcome
+abbrev pub removed : State → Context → Time → List ℕ → Node → Outcome
 removed s x now name d = record {
   result = ResRemove (change_info (raised s.tree d.number));
   state = without_unused (with_tree s (without_name s.tree d.number name now)) (named s.tree d.number name);

@@ -11,7 +11,7 @@ use Rattle.nfs_tree.specs.Names.{Move, move, moves, is_below_itself, is_in_the_w
 use Rattle.nfs_tree.specs.Did.{raised, stays}
 use Rattle.nfs_attrs.specs.Permissions.{change}
 use Rattle.nfs_names.specs.declared.context.Context.{Context}
-use Rattle.nfs_names.specs.declared.held.Pair.{Pair}
+use Rattle.nfs_names.specs.declared.node.Pair.{Pair}
 use Rattle.nfs_names.specs.State.{State, with_tree, without_unused}
 use Rattle.nfs_names.specs.Outcome.{Outcome, done, checked, answers}
 use Rattle.nfs_names.specs.Checks.{both, no_directory, denied, name_checks}

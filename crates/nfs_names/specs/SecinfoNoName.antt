@@ -6,13 +6,13 @@ use Rattle.nfs_compound.specs.declared.name_args.SecinfoStyle.{SecinfoStyle}
 use Rattle.nfs_compound.specs.declared.name_args.SecinfoStyle.TheVariants.{CurrentFh, Parent}
 use Rattle.nfs_results.specs.Result.{ResSecinfoNoName}
 use Rattle.nfs_names.specs.declared.context.Context.{Context}
-use Rattle.nfs_names.specs.declared.held.Held.{Held}
+use Rattle.nfs_names.specs.declared.node.Node.{Node}
 use Rattle.nfs_names.specs.State.{State}
 use Rattle.nfs_names.specs.Outcome.{Outcome, done, checked, answers}
 use Rattle.nfs_names.specs.Checks.{current, no_directory, no_parent}
 
 -- the flavours of the directory in which one stands are wanted
-abbrev pub style_checks : State → SecinfoStyle → Held → List (Bool × Status)
+abbrev pub style_checks : State → SecinfoStyle → Node → List (Bool × Status)
 style_checks s CurrentFh d = []
 style_checks s Parent d = no_directory d ∷ no_parent s d ∷ []
 

@@ -10,21 +10,21 @@ use Rattle.nfs_attrs.specs.Mask.{mask_of}
 use Rattle.nfs_attrs.specs.Comparing.{same}
 use Rattle.nfs_attrs.specs.Reading.{fault_status}
 use Rattle.nfs_names.specs.declared.context.Context.{Context}
-use Rattle.nfs_names.specs.declared.held.Held.{Held}
+use Rattle.nfs_names.specs.declared.node.Node.{Node}
 use Rattle.nfs_names.specs.State.{State}
 use Rattle.nfs_names.specs.Outcome.{Outcome, done, checked, answers}
 use Rattle.nfs_names.specs.Checks.{current}
 use Rattle.nfs_names.specs.Attributes.{about}
 
 -- whether they are the same, or why that cannot be said
-unfoldable pub same_at : State → Attributes → Held → Result Bool AttrFault
+unfoldable pub same_at : State → Attributes → Node → Result Bool AttrFault
 same_at s a d = same (mask_of a.attrmask) a.attr_vals (about s d) d.object
 
 abbrev pub or_status : Result Bool AttrFault → Result Bool Status
 or_status (Err fault) = Err (fault_status fault)
 or_status (Ok equal) = Ok equal
 
-abbrev pub compared : State → Attributes → Result Held Status → Result Bool Status
+abbrev pub compared : State → Attributes → Result Node Status → Result Bool Status
 compared s a (Err status) = Err status
 compared s a (Ok d) = or_status (same_at s a d)
 

@@ -20,7 +20,7 @@ ghost use Rattle.nfs_names.specs.NVerify as of_nverify;
 
 use crate::checks::{current, put_refusal, refuse};
 use crate::context::Context;
-use crate::held::Held;
+use crate::node::Node;
 use crate::store::Store;
 use nfs_attrs::{About, AttrFault, Handle, Mask, judge_access, same, write_attrs};
 use nfs_compound::{Attributes, Bitmap, OpNum};
@@ -28,7 +28,7 @@ use nfs_results::{AccessOk, Res, write_done_head};
 use nfs_xdr::{Sheet, Status};
 
 /// How many names the object has: a directory has one.
-fn links_of(store: &Store, held: &Held) -> u32
+fn links_of(store: &Store, held: &Node) -> u32
     ensures { result ≡ attributes.links_of (state_of store.now) held.now }
 {
     if held.object.kind.is_directory() {
@@ -39,7 +39,7 @@ fn links_of(store: &Store, held: &Held) -> u32
 }
 
 /// What is reported of an object beside the object itself.
-pub(crate) fn about(store: &Store, held: &Held) -> About
+pub(crate) fn about(store: &Store, held: &Node) -> About
     ensures { result ≡ attributes.about (state_of store.now) held.now }
 {
     About {
@@ -68,7 +68,7 @@ pub(crate) fn access(store: &Store, context: &Context, asked: u32) -> Res<'stati
 }
 
 /// The object whose attributes are asked for: those that can only be set are not reported.
-fn judge_mask(store: &Store, context: &Context, mask: &Bitmap<'_>) -> Result<Held, Status>
+fn judge_mask(store: &Store, context: &Context, mask: &Bitmap<'_>) -> Result<Node, Status>
     ensures { result ≡ checked (check.current (state_of store.now) context.now) (of_get_attr.mask_checks (view_bitmap mask.now)) }
 {
     let d = current(store, context)?;
@@ -90,7 +90,7 @@ fn compare(store: &Store, context: &Context, given: &Attributes<'_>) -> Result<b
 }
 
 #[tactic(auto, unfolding(crate::specs::Verify::same_at))]
-fn same_at(store: &Store, held: &Held, given: &Attributes<'_>) -> Result<bool, AttrFault>
+fn same_at(store: &Store, held: &Node, given: &Attributes<'_>) -> Result<bool, AttrFault>
     ensures { result ≡ of_verify.same_at (state_of store.now) (view_attributes given.now) held.now }
 {
     let asked = Mask::new(given.attrmask.words);
@@ -122,7 +122,7 @@ pub(crate) fn nverify(store: &Store, context: &Context, given: &Attributes<'_>) 
 }
 
 /// Puts the attributes of an object, as GETATTR answers them.
-fn put_attributes(store: &Store, held: &Held, asked: Mask, out: &mut Sheet)
+fn put_attributes(store: &Store, held: &Node, asked: Mask, out: &mut Sheet)
     requires { length out.old.bytes + 640 ≤ out.old.room }
     ensures { Puts out.old out.new (spell_result (ResGetAttr (attributes.attributes_of (state_of store.now) asked held.now))) }
 {

@@ -14,7 +14,7 @@ ghost use Rattle.nfs_names.specs.Checks.{held, current, both, saved_object, perm
 ghost use Rattle.nfs_names.specs.Lookup.{is_link};
 
 use crate::context::{Context, Saved};
-use crate::held::{Held, Pair};
+use crate::node::{Node, Pair};
 use crate::store::Store;
 use nfs_attrs::{Want, may};
 use nfs_compound::OpNum;
@@ -41,14 +41,14 @@ pub fn put_refusal(op: OpNum, status: Status, out: &mut Sheet) -> Status
 }
 
 /// The object of a filehandle: there may be no filehandle, or no object any more.
-pub fn held(store: &Store, number: Option<u64>) -> Result<Held, Status>
+pub fn held(store: &Store, number: Option<u64>) -> Result<Node, Status>
     ensures { result ≡ held (state_of store.now) number }
 {
     let Some(number) = number else {
         return Err(Status::NoFileHandle);
     };
     match store.tree.object(number) {
-        Some(object) => Ok(Held {
+        Some(object) => Ok(Node {
             number,
             object: *object,
         }),
@@ -67,7 +67,7 @@ fn saved_object(saved: Option<Saved>) -> Option<u64>
 
 /// The object of the current filehandle: NOFILEHANDLE where there is none, STALE where its object is gone.
 #[tactic(auto, unfolding(crate::specs::Checks::current))]
-pub fn current(store: &Store, context: &Context) -> Result<Held, Status>
+pub fn current(store: &Store, context: &Context) -> Result<Node, Status>
     ensures { result ≡ current (state_of store.now) context.now }
 {
     held(store, context.current)
@@ -92,7 +92,7 @@ pub(crate) fn is_there(store: &Store, number: u64) -> bool
 
 /// Whether the permission bits let the caller do it.
 #[tactic(auto, unfolding(crate::specs::Checks::permits))]
-pub fn permits(context: &Context, held: &Held, want: Want) -> bool
+pub fn permits(context: &Context, held: &Node, want: Want) -> bool
     ensures { result ≡ permits context.now held.now want }
 {
     may(&held.object, context.who.who(), want)

@@ -17,9 +17,9 @@ mod attributes;
 mod checks;
 mod context;
 mod ending;
-mod held;
 mod listing;
 mod making;
+mod node;
 mod operation;
 mod store;
 #[cfg(test)]
@@ -28,7 +28,7 @@ mod walking;
 
 pub use checks::{current, held as held_object, is_link, judge_name, permits, put_refusal, refuse};
 pub use context::{Caller, Context, Saved};
-pub use held::Held;
 pub use making::{Making, attr_set, change_info, status_of, time_of, wanted_of};
+pub use node::Node;
 pub use operation::{is_on_names, moment, name_op};
 pub use store::Store;

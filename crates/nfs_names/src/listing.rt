@@ -24,7 +24,7 @@ ghost use Rattle.nfs_names.specs.ReadDir.{PutsWithin, Lists};
 use crate::attributes::about;
 use crate::checks::{current, is_link, permits, put_refusal};
 use crate::context::Context;
-use crate::held::Held;
+use crate::node::Node;
 use crate::store::Store;
 use nfs_attrs::{About, Mask, Want, attrs_len, write_attrs};
 use nfs_compound::{OpNum, ReadDir};
@@ -33,7 +33,7 @@ use nfs_tree::{Entry, Tree};
 use nfs_xdr::{Sheet, Status};
 
 /// The symbolic link that is to be read.
-fn judge_link(store: &Store, context: &Context) -> Result<Held, Status>
+fn judge_link(store: &Store, context: &Context) -> Result<Node, Status>
     ensures { result ≡ checked (check.current (state_of store.now) context.now) of_read_link.link_only }
 {
     let d = current(store, context)?;
@@ -80,7 +80,7 @@ fn given(count: u32) -> usize
 }
 
 /// The directory that is to be listed.
-fn judge_listing(store: &Store, context: &Context, asked: &ReadDir<'_>) -> Result<Held, Status>
+fn judge_listing(store: &Store, context: &Context, asked: &ReadDir<'_>) -> Result<Node, Status>
     ensures { result ≡ checked (check.current (state_of store.now) context.now) (of_read_dir.listing_checks context.now (view_read_dir asked.now)) }
 {
     let d = current(store, context)?;
@@ -106,7 +106,7 @@ fn judge_listing(store: &Store, context: &Context, asked: &ReadDir<'_>) -> Resul
 }
 
 /// How many bytes an entry takes.
-fn entry_len(name: &[u8], held: &Held, about: &About, asked: Mask) -> usize
+fn entry_len(name: &[u8], held: &Node, about: &About, asked: Mask) -> usize
     ensures { result ≡ length (entry_head 0 name.now) + length (spell_attrs asked about.now held.now.object) }
 {
     16 + name.len() + (4 - name.len() % 4) % 4 + attrs_len(&held.object, about, asked)
@@ -122,7 +122,7 @@ fn put_entry(store: &Store, entry: &Entry<'_>, asked: Mask, room: usize, out: &m
     let Some(object) = store.tree.object(entry.number) else {
         return false;
     };
-    let held = Held {
+    let held = Node {
         number: entry.number,
         object: *object,
     };
@@ -136,7 +136,7 @@ fn put_entry(store: &Store, entry: &Entry<'_>, asked: Mask, room: usize, out: &m
 }
 
 /// Puts the entries that are left, as many as fit, and answers whether these are all.
-fn put_entries(store: &Store, place: &Held, asked: &ReadDir<'_>, out: &mut Sheet) -> bool
+fn put_entries(store: &Store, place: &Node, asked: &ReadDir<'_>, out: &mut Sheet) -> bool
     requires count { 16 ≤ asked.now.maxcount }
     requires room { length out.old.bytes + given asked.now.maxcount ≤ out.old.room + 16 }
     ensures put { Puts out.old out.new (flat_map entry_text (of_read_dir.fitting (state_of store.now) (view_read_dir asked.now) place.now)) }
@@ -157,7 +157,7 @@ fn put_entries(store: &Store, place: &Held, asked: &ReadDir<'_>, out: &mut Sheet
 }
 
 /// Puts a listing, as READDIR answers it, if an entry fits or none is left.
-fn put_listing(store: &Store, place: &Held, asked: &ReadDir<'_>, out: &mut Sheet) -> Status
+fn put_listing(store: &Store, place: &Node, asked: &ReadDir<'_>, out: &mut Sheet) -> Status
     requires count { 16 ≤ asked.now.maxcount }
     requires room { length out.old.bytes + (8 + given asked.now.maxcount) ≤ out.old.room }
     ensures { Lists result (first_fault (of_read_dir.entry_checks (state_of store.now) (view_read_dir asked.now) place.now)) (of_read_dir.listed (state_of store.now) (view_read_dir asked.now) place.now) out.old out.new }

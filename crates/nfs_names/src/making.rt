@@ -22,7 +22,7 @@ ghost use Rattle.nfs_names.specs.Faults as of_tree;
 
 use crate::checks::{both, current, judge_name, permits, refuse};
 use crate::context::Context;
-use crate::held::{Held, Pair};
+use crate::node::{Node, Pair};
 use crate::store::Store;
 use nfs_attrs::{AttrFault, Mask, SetTime, Want, Wanted, may_make, read_attrs};
 use nfs_compound::{Attributes, Create, CreateType, OpNum, Rename};
@@ -35,7 +35,7 @@ use std::alloc::Global;
 #[derive(Clone, Copy, Debug, PartialEq, Eq)]
 pub struct Making {
     /// The directory.
-    pub place: Held,
+    pub place: Node,
     /// Its attributes.
     pub wanted: Wanted,
 }
@@ -95,7 +95,7 @@ fn plain_mode(new: &New<'_>) -> u32
 }
 
 /// The directory in which an object is to be made, where its type and its name may be.
-fn judge_place(store: &Store, context: &Context, asked: &Create<'_>) -> Result<Held, Status>
+fn judge_place(store: &Store, context: &Context, asked: &Create<'_>) -> Result<Node, Status>
     ensures { result ≡ checked (check.current (state_of store.now) context.now) (of_create.place_checks context.now (view_create asked.now)) }
 {
     let d = current(store, context)?;
@@ -302,7 +302,7 @@ fn drop_replaced(store: &mut Store, replaced: Option<u64>)
 }
 
 /// The directory of a name that is to go.
-fn judge_remove(store: &Store, context: &Context, name: &[u8]) -> Result<Held, Status>
+fn judge_remove(store: &Store, context: &Context, name: &[u8]) -> Result<Node, Status>
     ensures { result ≡ checked (check.current (state_of store.now) context.now) (of_remove.place_checks context.now name.now) }
 {
     let d = current(store, context)?;

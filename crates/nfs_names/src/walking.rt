@@ -19,7 +19,7 @@ ghost use Rattle.nfs_names.specs.SecinfoNoName as of_secinfo;
 
 use crate::checks::{current, is_link, is_there, judge_name, permits, refuse};
 use crate::context::{Context, Saved};
-use crate::held::Held;
+use crate::node::Node;
 use crate::store::Store;
 use nfs_attrs::{Handle, Want};
 use nfs_compound::{OpNum, SecinfoStyle};
@@ -192,7 +192,7 @@ pub(crate) fn save_fh(store: &Store, context: &mut Context) -> Res<'static>
 }
 
 /// The object whose flavours are asked for, or in whose directory.
-fn judge_style(store: &Store, context: &Context, style: SecinfoStyle) -> Result<Held, Status>
+fn judge_style(store: &Store, context: &Context, style: SecinfoStyle) -> Result<Node, Status>
     ensures { result ≡ checked (check.current (state_of store.now) context.now) (of_secinfo.style_checks (state_of store.now) style) }
 {
     let d = current(store, context)?;

@@ -4,7 +4,7 @@ use nfs_tree::Object;
 
 /// The object that a filehandle names.
 #[derive(Clone, Copy, Debug, PartialEq, Eq)]
-pub struct Held {
+pub struct Node {
     /// Its number.
     pub number: u64,
     /// The object itself.
@@ -14,6 +14,6 @@ pub struct Held {
 /// The objects that the current and the saved filehandle name.
 #[derive(Clone, Copy, Debug, PartialEq, Eq)]
 pub(crate) struct Pair {
-    pub(crate) current: Held,
-    pub(crate) saved: Held,
+    pub(crate) current: Node,
+    pub(crate) saved: Node,
 }
