@@ -1,3 +1,4 @@
+ghost use Rattle.std.specs.Prelude.{◌≡◌};
 ghost use Rattle.nfs_xdr.specs.SheetState.{HasRoom, Puts};
 ghost use Rattle.nfs_rpc.specs.Reply.{spell_accepted, spell_denied, spell_head, spell_stat, spell_refusal};
 
@@ -5,13 +6,11 @@ use crate::refusal::{AcceptStat, AuthStat, Refusal};
 use nfs_xdr::Sheet;
 
 /// Puts the head of an accepted reply, up to SUCCESS: 24 bytes. The results of the procedure follow.
-#[tactic(auto, using(nfs_xdr::proofs::Putting::putting), unfolding(crate::specs::Reply::spell_head))]
 pub fn write_head(xid: u32, out: &mut Sheet)
     requires room { HasRoom out.old (spell_head xid) }
     ensures { Puts out.old out.new (spell_head xid) }
 {
-    put_accepted(xid, out);
-    out.put_u32(0);
+    out.put_bytes(&head(xid));
 }
 
 /// Puts the whole reply to a call that is refused: 20 to 32 bytes, and nothing for `Refusal::Silent`.
@@ -42,6 +41,22 @@ pub fn write_refusal(refusal: &Refusal, out: &mut Sheet)
             put_stat(*stat, out);
         }
     }
+}
+
+/// The bytes of the head of an accepted reply, which go onto the sheet at once.
+#[tactic(auto, unfolding(crate::specs::Reply::spell_head, nfs_xdr::specs::Spelling::number))]
+fn head(xid: u32) -> [u8; 24]
+    ensures { result ≡ spell_head xid }
+{
+    let x = xid.to_be_bytes();
+    [
+        x[0], x[1], x[2], x[3], // xid
+        0, 0, 0, 1, // REPLY
+        0, 0, 0, 0, // MSG_ACCEPTED
+        0, 0, 0, 0, // AUTH_NONE
+        0, 0, 0, 0, // no bytes
+        0, 0, 0, 0, // SUCCESS
+    ]
 }
 
 #[tactic(auto, using(nfs_xdr::proofs::Putting::putting))]
