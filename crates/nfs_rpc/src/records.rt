@@ -139,9 +139,18 @@ impl Records {
         ensures stream { (rest : List ℕ) → IsBytes rest → Holds rest self.old → Holds (rest ++ take result piece.now) self.new }
     {
         if self.lacking == 0 {
-            let used = (4 - self.marked).min(piece.len());
-            self.take_mark(&piece[..used]);
-            used
+            match piece.first_chunk::<4>() {
+                // A mark that stands whole in the piece is read where it stands.
+                Some(mark) if self.marked == 0 => {
+                    self.open_fragment(u32::from_be_bytes(*mark));
+                    4
+                }
+                _ => {
+                    let used = (4 - self.marked).min(piece.len());
+                    self.take_mark(&piece[..used]);
+                    used
+                }
+            }
         } else {
             let used = self.lacking.min(piece.len());
             self.take_data(&piece[..used]);
