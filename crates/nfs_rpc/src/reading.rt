@@ -111,7 +111,10 @@ fn judge<'a>(xid: u32, header: &Header<'a>, args: &'a [u8]) -> Result<Call<'a>, 
     ensures called { IsCalled result (behind_header xid (view.header header.now) args.now) }
     ensures groups { IfOk result (λ c. c.who.count ≤ 16) }
 {
-    let who = caller(&header.credential).map_err(|stat| Refusal::Auth { xid, stat })?;
+    let who = match caller(&header.credential) {
+        Ok(who) => who,
+        Err(stat) => return Err(Refusal::Auth { xid, stat }),
+    };
     if let Some(refusal) = fault(xid, header, args) {
         return Err(refusal);
     }

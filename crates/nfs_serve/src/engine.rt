@@ -1,9 +1,10 @@
 ghost use Rattle.std.specs.Prelude.{◌≡◌, ◌≤◌, ◌^◌, ◌+◌, ◌++◌, ℕ, [], length, drop, Option, IfOk, false};
 ghost use Rattle.nfs_xdr.specs.Spelling.{number};
 ghost use Rattle.nfs_rpc.specs.View as view;
+ghost use Rattle.nfs_compound.specs.ReadRequest.{request_at};
 ghost use Rattle.nfs_exec.specs.Laws.{HasNoClashes};
 ghost use Rattle.nfs_exec.specs.Machine.{IsMachine};
-ghost use Rattle.nfs_serve.specs.Step.{State, step, new_state, by_procedure};
+ghost use Rattle.nfs_serve.specs.Step.{State, step, new_state, by_procedure, with_arguments};
 ghost use Rattle.nfs_serve.specs.Run.{one_fragment, spell_reply, spell_answer};
 ghost use Rattle.nfs_serve.specs.Server.{IsAnswer};
 ghost use Rattle.nfs_lease.specs.Renewals.{IsLatest};
@@ -179,19 +180,40 @@ fn put_answer(
 {
     match call.procedure {
         Procedure::Null => write_head(call.xid, out),
-        Procedure::Compound => match Compound::open(call.args) {
-            Ok(mut compound) => {
-                write_head(call.xid, out);
-                world.compound(alloc, &mut compound, &call.who, size, now, out);
-            }
-            Err(Garbage) => {
-                let refusal = Refusal::Accept {
-                    xid: call.xid,
-                    stat: AcceptStat::GarbageArgs,
-                };
-                write_refusal(&refusal, out);
-            }
-        },
+        Procedure::Compound => put_compound(alloc, world, *call, size, now, out),
+    }
+}
+
+/// Runs the compound of a call, and puts its reply. The call is a copy, so that no other call has to lie in memory.
+#[tactic(auto, using(nfs_rpc::proofs::Lengths::lengths))]
+fn put_compound(
+    alloc: Global,
+    world: &mut World,
+    call: Call<'_>,
+    size: usize,
+    now: u64,
+    out: &mut Sheet,
+)
+    requires size { length call.args.now ≤ size }
+    requires now { now ≤ 2 ^ 62 }
+    requires latest { IsLatest (machine_of world.old).leases now }
+    requires room { length out.old.bytes + 70000 ≤ out.old.room }
+    ensures answer { let before : State = record { machine = machine_of world.old; moment = now } in
+        (choice : Option ℕ) × PutsReply (with_arguments before (view.call call.entry) size choice (request_at call.entry.args.now)) out.old out.new (record { machine = machine_of world.new; moment = now }) }
+    ensures latest { IsLatest (machine_of world.new).leases now }
+{
+    match Compound::open(call.args) {
+        Ok(mut compound) => {
+            write_head(call.xid, out);
+            world.compound(alloc, &mut compound, &call.who, size, now, out);
+        }
+        Err(Garbage) => {
+            let refusal = Refusal::Accept {
+                xid: call.xid,
+                stat: AcceptStat::GarbageArgs,
+            };
+            write_refusal(&refusal, out);
+        }
     }
 }
 
