@@ -1,15 +1,10 @@
-use Rattle.std.proofs.Common.{rules, subst}
+use Rattle.std.proofs.Common.{subst}
 use Rattle.std.specs.Io.KnownBytes.{Consumes}
 use Rattle.std.proofs.KnownBytes.{Consumes-trans}
 use Rattle.nfs_serve.proofs.Parts.{take-read}
 use Rattle.nfs_serve.proofs.moving.fill.Goals as goal
 
-pub loop-at-preserved : goal.loop-at-preserved
-loop-at-preserved g c = (
-  search rules,
-  search rules,
-  subst (Consumes _ _) (take-read _ _ _ _ c.loop-at.invariant.1 c.in-Ok.ensures.bound.0)
-      (Consumes-trans _ _ _ _ _ c.loop-at.invariant.2 c.in-Ok.ensures.bytes.0),
-  search rules,
-  search rules,
-)
+pub returns-in_default-2-clause-bytes : goal.returns-in_default-2-clause-bytes
+returns-in_default-2-clause-bytes g c =
+    subst (Consumes _ _) (take-read _ _ _ _ c.read_some.ensures.bound c.fill_rest.ensures.bound)
+    (Consumes-trans _ _ _ _ _ c.read_some.ensures.bytes c.fill_rest.ensures.bytes)

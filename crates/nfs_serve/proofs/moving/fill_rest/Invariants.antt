@@ -1,7 +1,7 @@
 -- What stands in the buffer below `at` was read, and the reader goes on.
 use Rattle.std.proofs.Common.{◌≡◌, ◌-◌, ◌≤◌, false, length, take}
 use Rattle.std.specs.Io.KnownBytes.{Consumes}
-use Rattle.nfs_serve.proofs.moving.fill.Given as goal
+use Rattle.nfs_serve.proofs.moving.fill_rest.Given as goal
 
 abbrev pub invariant-loop-at : goal.invariant-loop-at
 invariant-loop-at g l = (length l.buf ≡ length l.initial.buf) × (l.at ≤ length l.buf)
