@@ -1,8 +1,8 @@
 -- What `Records` does with a piece of a stream, and with the record that waits (RFC 5531 section 11).
-use Rattle.std.specs.Prelude.{◌≡◌, ℕ, ◌<◌, ◌≤◌, ◌++◌, List, [], take, Bool, true, false}
+use Rattle.std.specs.Prelude.{◌≡◌, ℕ, ◌+◌, ◌<◌, ◌≤◌, ◌++◌, List, [], length, take, Bool, true, false}
 use Rattle.nfs_rpc.specs.declared.fed.Fed.{Fed}
 use Rattle.nfs_rpc.specs.declared.fed.Fed.TheVariants.{More, Whole, TooLong}
-use Rattle.nfs_rpc.specs.RecordMarking.{Part, Gathered, Begun, Complete, Failed, Holds, start}
+use Rattle.nfs_rpc.specs.RecordMarking.{Part, Gathered, Begun, Complete, Failed, IsRecord, Holds, start}
 
 -- whether a whole record waits
 abbrev pub waits : Gathered → Bool
@@ -39,3 +39,9 @@ abbrev pub StandsNow : Fed → List ℕ → List ℕ → Gathered → Type 0
 StandsNow More rest piece held = Holds (rest ++ piece) held
 StandsNow (Whole used) rest piece held = Holds (rest ++ take used piece) held
 StandsNow TooLong rest piece held = (used : ℕ) × Holds (rest ++ take used piece) held
+
+-- Nothing is held, and the piece begins with a record of one fragment that has this data.
+pub record IsWhole (held : Gathered) (piece record_data : List ℕ) : Type 0 where
+  pub fresh : held ≡ Begun start
+  pub within : 4 + length record_data ≤ length piece
+  pub stream : (rest : List ℕ) → Holds rest held → IsRecord (rest ++ take (4 + length record_data) piece) record_data

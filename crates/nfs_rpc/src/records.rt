@@ -1,10 +1,10 @@
-ghost use Rattle.std.specs.Prelude.{◌≡◌, ◌≤◌, ◌<◌, List, ℕ, IfOk, ◌+◌, ◌++◌, [], length, take, false};
+ghost use Rattle.std.specs.Prelude.{◌≡◌, ◌≤◌, ◌<◌, List, ℕ, IfOk, IfSome, ◌+◌, ◌++◌, [], length, take, true, false};
 ghost use Rattle.nfs_xdr.specs.Codec.{IsBytes};
 ghost use Rattle.nfs_rpc.specs.declared.state.State.TheVariants as States;
 ghost use Rattle.nfs_rpc.specs.declared.fed.Fed.TheVariants as Feds;
 ghost use Rattle.nfs_rpc.specs.RecordMarking.{Part, Gathered, Holds, start};
 ghost use Rattle.nfs_rpc.specs.RecordMarking as marking;
-ghost use Rattle.nfs_rpc.specs.Feeding.{waits, is_too_long, waiting, done_with, AnswersFeed, StandsNow};
+ghost use Rattle.nfs_rpc.specs.Feeding.{waits, is_too_long, waiting, done_with, AnswersFeed, StandsNow, IsWhole};
 ghost use Rattle.nfs_rpc.specs.Share.{state_of, at_mark, with_mark, with_data};
 
 use crate::fed::Fed;
@@ -85,6 +85,23 @@ impl Records {
         Fed::More
     }
 
+    /// The data of a record that stands whole at the front of the piece, in one fragment, where nothing is held. It is lent from the
+    /// piece, and nothing is held behind it either. `None` elsewhere: then the piece is to be fed.
+    pub fn whole<'p>(&self, piece: &'p [u8]) -> Option<&'p [u8]>
+        ensures { IfSome result (λ call. IsWhole self.now piece.now call.now) }
+    {
+        if !self.is_fresh() {
+            return None;
+        }
+        let (mark, rest) = piece.split_first_chunk::<4>()?;
+        let word = u32::from_be_bytes(*mark);
+        let size = (word % 0x8000_0000) as usize;
+        if word < 0x8000_0000 || size > LIMIT || size > rest.len() {
+            return None;
+        }
+        Some(&rest[..size])
+    }
+
     /// The data bytes of the record that waits, and none where no whole record waits.
     pub fn record(&self) -> &[u8]
         ensures { result.now ≡ waiting self.now }
@@ -123,6 +140,17 @@ impl Records {
         self.lacking = 0;
         self.last = false;
         self.state = State::Begun;
+    }
+
+    /// Whether nothing is held.
+    fn is_fresh(&self) -> bool
+        ensures { result ≡ true → self.now ≡ marking.Begun start }
+    {
+        self.state == State::Begun
+            && self.taken.is_empty()
+            && self.marked == 0
+            && self.lacking == 0
+            && !self.last
     }
 
     fn state(&self) -> State

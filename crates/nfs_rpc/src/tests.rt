@@ -86,6 +86,25 @@ fn calls_are_answered_or_refused(rt: HostRuntime) -> Result<(), Fail> {
 }
 
 #[test]
+fn a_record_that_stands_whole_is_lent(rt: HostRuntime) -> Result<(), Fail> {
+    let mut records = Records::new(rt.alloc())?;
+    let rows: [(&str, &[u8], Option<&[u8]>); 6] = [
+        ("whole", &[128, 0, 0, 2, 5, 6, 7], Some(&[5, 6])),
+        ("without data", &[128, 0, 0, 0], Some(&[])),
+        ("not the last fragment", &[0, 0, 0, 2, 5, 6], None),
+        ("data that is cut", &[128, 0, 0, 2, 5], None),
+        ("a mark that is cut", &[128, 0, 0], None),
+        ("more than a record holds", &[128, 1, 4, 1, 5], None),
+    ];
+    for (name, piece, lent) in rows {
+        assert_eq!(rt; records.whole(piece), lent, "{name}");
+    }
+    let _ = records.feed(&[0, 0, 0, 1]);
+    assert_eq!(rt; records.whole(&[128, 0, 0, 0]), None);
+    Ok(())
+}
+
+#[test]
 fn a_call_tells_who_calls_what(rt: HostRuntime) -> Result<(), Fail> {
     let record = bytes_of(
         rt.alloc(),

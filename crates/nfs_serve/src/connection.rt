@@ -16,6 +16,9 @@ use nfs_rpc::{Fed, Records};
 use std::alloc::{AllocError, Global};
 use std::marker::Model;
 
+/// The bytes of a record mark.
+const MARK: usize = 4;
+
 /// What is held of a connection's stream. Between two calls no whole record waits.
 #[derive(Drop)]
 pub struct Connection {
@@ -102,6 +105,12 @@ fn take_piece<W: Sink>(
 {
     let mut rest = entry.piece;
     while !rest.is_empty() {
+        // A record that stands whole in the piece is stepped where it stands.
+        if let Some(call) = records.whole(rest) {
+            engine.answer(alloc, call, entry.conn, entry.moment, form, out)?;
+            rest = &rest[MARK + call.len()..];
+            continue;
+        }
         match records.feed(rest) {
             Fed::More => return Ok(Flow::Open),
             Fed::TooLong => {

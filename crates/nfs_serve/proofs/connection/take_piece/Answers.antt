@@ -1,4 +1,4 @@
-use Rattle.std.proofs.Common.{rules, ◌≡◌, ◌++◌, length, take, drop, refl, sym, ap, subst, ◌∙◌, take-append-drop, [], List, ℕ}
+use Rattle.std.proofs.Common.{rules, ◌≡◌, ◌+◌, ◌++◌, length, take, drop, refl, sym, ap, subst, ◌∙◌, take-append-drop, [], List, ℕ}
 use Rattle.std.proofs.lemmas.List.{nil_from_length}
 use Rattle.std.proofs.lemmas.Bool.{eqb-true}
 use Rattle.std.proofs.lemmas.Result.{err_from_is_err_and}
@@ -35,7 +35,7 @@ returns-in-TooLong-clause-taken g c =
 
 pub returns-in_err-put_overflow-in-TooLong-clause-taken : goal.returns-in_err-put_overflow-in-TooLong-clause-taken
 returns-in_err-put_overflow-in-TooLong-clause-taken g c =
-    let p = err_from_is_err_and c.from_residual.result c.from_residual.ensures.1 in
+    let p = err_from_is_err_and c.from_residual-in_err-put_overflow-in-TooLong.result c.from_residual-in_err-put_overflow-in-TooLong.ensures.1 in
     let (wrote, failed) = c.in_err-put_overflow-in-TooLong.ensures in
     let up : (r : List ℕ) → IsBytes r → Holds r c.loop-rest.records → (used : ℕ) × Holds (r ++ take used c.loop-rest.rest.now) Failed = λ r bytes holds.
     subst (λ h. (used : ℕ) × Holds (r ++ take used c.loop-rest.rest.now) h) c.in-TooLong.ensures.answer (c.in-TooLong.ensures.stream r bytes holds) in
@@ -65,6 +65,32 @@ loop-rest-preserved g c =
     let done : c.take.new.self ≡ done_with (Complete call) = c.take.ensures ∙ ap done_with is in
     rw done (
       taking_more c.loop-rest.invariant.0 (take c.in-Whole.used c.loop-rest.rest.now) _ call choice _ _ (front_and_rest _ _) up state wrote,
+      refl,
+      refl,
+      well,
+    )
+
+pub returns-in_err-answer-clause-taken : goal.returns-in_err-answer-clause-taken
+returns-in_err-answer-clause-taken g c =
+    let p = err_from_is_err_and c.from_residual.result c.from_residual.ensures.1 in
+    let w = c.in-Some.ensures in
+    let call : List ℕ = c.in-Some.call.now in
+    let up : TakesUp c.loop-rest.records (take (4 + length call) c.loop-rest.rest.now) (Complete call) = λ r bytes holds. w.stream r holds in
+    let (choice, state, (wrote, failed)) = c.in_err-answer.ensures in
+    rw p.1 (
+      breaking c.loop-rest.invariant.0 (take (4 + length call) c.loop-rest.rest.now)
+          (drop (4 + length call) c.loop-rest.rest.now) call choice _ _ c.requires.open (sym (take-append-drop _ _)) up state wrote,
+      failed,
+    )
+
+pub loop-rest-preserved-in-Some : goal.loop-rest-preserved-in-Some
+loop-rest-preserved-in-Some g c =
+    let w = c.in-Some.ensures in
+    let call : List ℕ = c.in-Some.call.now in
+    let up : TakesUp c.loop-rest.records (take (4 + length call) c.loop-rest.rest.now) (Complete call) = λ r bytes holds. w.stream r holds in
+    let (choice, state, (wrote, well)) = c.in_ok-answer.ensures in
+    rw w.fresh (
+      taking_more c.loop-rest.invariant.0 (take (4 + length call) c.loop-rest.rest.now) _ call choice _ _ (front_and_rest _ _) up state wrote,
       refl,
       refl,
       well,

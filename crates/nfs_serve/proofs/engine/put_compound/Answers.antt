@@ -1,4 +1,4 @@
-use Rattle.std.proofs.Common.{ℕ, List, ◌≤◌, length, arith, ap, sym, subst, length-append, ◌∙◌}
+use Rattle.std.proofs.Common.{ℕ, List, ◌≤◌, length, arith, sym, subst, length-append}
 use Rattle.nfs_rpc.proofs.Lengths.{length_head}
 use Rattle.nfs_rpc.specs.Reply.{spell_head}
 use Rattle.nfs_serve.proofs.engine.put_compound.Goals as goal

@@ -1,4 +1,4 @@
-use Rattle.std.proofs.Common.{◌≡◌, max, None, sym, ap, subst, ◌∙◌, arith, length, length-append, length-take-le}
+use Rattle.std.proofs.Common.{◌≡◌, max, None, sym, ap, ◌∙◌, arith, length, length-append, length-take-le}
 use Rattle.nfs_rpc.proofs.Lengths.{length_refusal}
 use Rattle.nfs_rpc.specs.CallHead.{Accepted, Refused}
 use Rattle.nfs_rpc.specs.View as view
