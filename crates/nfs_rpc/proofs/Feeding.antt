@@ -2,13 +2,14 @@
 use Rattle.std.proofs.Common.{◌≡◌, ℕ, ◌+◌, ◌-◌, ◌%◌, ◌^◌, ◌<◌, ◌≤◌, List, [], ◌++◌, length, take, drop, true, false, refl, sym, ap, subst, ◌∙◌, append_assoc}
 use Rattle.std.proofs.Common.{inl, inr, arith}
 use Rattle.std.specs.Int.{w32, from_be_bytes}
-use Rattle.std.proofs.lemmas.List.{take-append-drop, take-take, drop-take, take_all, length-take, length-drop}
-use Rattle.std.proofs.lemmas.Nat.{be_bytes_4}
+use Rattle.std.proofs.lemmas.List.{take-append-drop, take-take, drop-take, take_all, take_at, drop_at, length-take, length-drop, length-append}
+use Rattle.std.proofs.lemmas.Nat.{be_bytes_4, from_be_bytes-to_be_bytes_4}
 use Rattle.nfs_xdr.specs.Spelling.{number}
 use Rattle.nfs_xdr.specs.Codec.{IsBytes}
+use Rattle.nfs_xdr.proofs.Putting.{length_number}
 use Rattle.nfs_xdr.proofs.CodecLaws.{IsBytes-take}
 use Rattle.nfs_rpc.specs.RecordMarking.{Gathered, Begun, Complete, Failed, IsPart, IsRecord, Holds, start, limit, spell_mark, fragments}
-use Rattle.nfs_rpc.specs.Feeding.{waits, done_with, IsWhole}
+use Rattle.nfs_rpc.specs.Feeding.{waits, done_with, BeginsWith, IsWhole}
 use Rattle.nfs_rpc.proofs.Fragments.{IsBytes-append}
 
 take_front : (piece : List ℕ) (i k : ℕ) → take i piece ++ take k (drop i piece) ≡ take (i + k) piece
@@ -63,6 +64,28 @@ front_is_whole held piece mark rest word fresh is_front is_behind whole fits rea
       within = omega (arith, long, within, whole);
       stream = λ r holds. behind_nothing r _ (take n rest) (subst (Holds r) fresh holds) stands (omega (arith, long, short));
     }
+
+-- what the front of a piece says that begins with a record of one fragment
+pub front_says : (piece mark rest record_data : List ℕ) (word : ℕ) → mark ≡ take 4 piece → rest ≡ drop 4 piece → word ≡ from_be_bytes w32 mark
+    → BeginsWith piece record_data
+    → (word ≡ 2147483648 + length record_data) × (length record_data ≤ length rest) × (length record_data ≤ limit)
+unfolding number
+front_says piece mark rest record_data word is_front is_behind read b =
+    let n : ℕ = 2147483648 + length record_data in
+    let front : take 4 piece ≡ number n = ap (take 4) b.stands ∙ take_at (number n) (record_data ++ b.behind) 4 (length_number n) in
+    let behind : drop 4 piece ≡ record_data ++ b.behind = ap (drop 4) b.stands ∙ drop_at (number n) (record_data ++ b.behind) 4 (length_number n) in (
+      read ∙ ap (from_be_bytes w32) (is_front ∙ front) ∙ from_be_bytes-to_be_bytes_4 n (omega (arith, b.fits)),
+      omega (arith, ap length (is_behind ∙ behind), length-append record_data b.behind),
+      b.fits,
+    )
+
+pub front_is_long : (piece record_data : List ℕ) → BeginsWith piece record_data → 4 ≤ length piece
+front_is_long piece record_data b = omega (
+  arith,
+  ap length b.stands,
+  length-append (number (2147483648 + length record_data)) (record_data ++ b.behind),
+  length_number (2147483648 + length record_data),
+)
 
 -- no record waits once one is done with
 pub done_waits : (held : Gathered) → waits (done_with held) ≡ false

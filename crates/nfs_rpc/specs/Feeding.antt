@@ -2,7 +2,7 @@
 use Rattle.std.specs.Prelude.{◌≡◌, ℕ, ◌+◌, ◌<◌, ◌≤◌, ◌++◌, List, [], length, take, Bool, true, false}
 use Rattle.nfs_rpc.specs.declared.fed.Fed.{Fed}
 use Rattle.nfs_rpc.specs.declared.fed.Fed.TheVariants.{More, Whole, TooLong}
-use Rattle.nfs_rpc.specs.RecordMarking.{Part, Gathered, Begun, Complete, Failed, IsRecord, Holds, start}
+use Rattle.nfs_rpc.specs.RecordMarking.{Part, Gathered, Begun, Complete, Failed, IsRecord, Holds, start, limit, spell_mark}
 
 -- whether a whole record waits
 abbrev pub waits : Gathered → Bool
@@ -39,6 +39,12 @@ abbrev pub StandsNow : Fed → List ℕ → List ℕ → Gathered → Type 0
 StandsNow More rest piece held = Holds (rest ++ piece) held
 StandsNow (Whole used) rest piece held = Holds (rest ++ take used piece) held
 StandsNow TooLong rest piece held = (used : ℕ) × Holds (rest ++ take used piece) held
+
+-- the piece begins with a record of one fragment that has this data
+pub record BeginsWith (piece record_data : List ℕ) : Type 0 where
+  pub behind : List ℕ
+  pub stands : piece ≡ spell_mark true (length record_data) ++ (record_data ++ behind)
+  pub fits : length record_data ≤ limit
 
 -- Nothing is held, and the piece begins with a record of one fragment that has this data.
 pub record IsWhole (held : Gathered) (piece record_data : List ℕ) : Type 0 where

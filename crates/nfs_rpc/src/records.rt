@@ -1,10 +1,10 @@
-ghost use Rattle.std.specs.Prelude.{◌≡◌, ◌≤◌, ◌<◌, List, ℕ, IfOk, IfSome, ◌+◌, ◌++◌, [], length, take, true, false};
+ghost use Rattle.std.specs.Prelude.{◌≡◌, ◌≤◌, ◌<◌, List, ℕ, IfOk, IfSome, IfNone, ◌+◌, ◌++◌, [], length, take, true, false};
 ghost use Rattle.nfs_xdr.specs.Codec.{IsBytes};
 ghost use Rattle.nfs_rpc.specs.declared.state.State.TheVariants as States;
 ghost use Rattle.nfs_rpc.specs.declared.fed.Fed.TheVariants as Feds;
 ghost use Rattle.nfs_rpc.specs.RecordMarking.{Part, Gathered, Holds, start};
 ghost use Rattle.nfs_rpc.specs.RecordMarking as marking;
-ghost use Rattle.nfs_rpc.specs.Feeding.{waits, is_too_long, waiting, done_with, AnswersFeed, StandsNow, IsWhole};
+ghost use Rattle.nfs_rpc.specs.Feeding.{waits, is_too_long, waiting, done_with, AnswersFeed, StandsNow, BeginsWith, IsWhole};
 ghost use Rattle.nfs_rpc.specs.Share.{state_of, at_mark, with_mark, with_data};
 
 use crate::fed::Fed;
@@ -88,7 +88,8 @@ impl Records {
     /// The data of a record that stands whole at the front of the piece, in one fragment, where nothing is held. It is lent from the
     /// piece, and nothing is held behind it either. `None` elsewhere: then the piece is to be fed.
     pub fn whole<'p>(&self, piece: &'p [u8]) -> Option<&'p [u8]>
-        ensures { IfSome result (λ call. IsWhole self.now piece.now call.now) }
+        ensures some { IfSome result (λ call. IsWhole self.now piece.now call.now) }
+        ensures none { IfNone result (self.now ≡ marking.Begun start → (call : List ℕ) → BeginsWith piece.now call → ⊥) }
     {
         if !self.is_fresh() {
             return None;
@@ -144,11 +145,13 @@ impl Records {
 
     /// Whether nothing is held.
     fn is_fresh(&self) -> bool
-        ensures { result ≡ true → self.now ≡ marking.Begun start }
+        ensures fresh { result ≡ true → self.now ≡ marking.Begun start }
+        ensures held { result ≡ false → self.now ≡ marking.Begun start → ⊥ }
     {
+        let mark = &self.mark[..self.marked];
         self.state == State::Begun
             && self.taken.is_empty()
-            && self.marked == 0
+            && mark.is_empty()
             && self.lacking == 0
             && !self.last
     }

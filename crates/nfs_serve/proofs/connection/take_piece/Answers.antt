@@ -73,7 +73,7 @@ loop-rest-preserved g c =
 pub returns-in_err-answer-clause-taken : goal.returns-in_err-answer-clause-taken
 returns-in_err-answer-clause-taken g c =
     let p = err_from_is_err_and c.from_residual.result c.from_residual.ensures.1 in
-    let w = c.in-Some.ensures in
+    let w = c.in-Some.ensures.some in
     let call : List ℕ = c.in-Some.call.now in
     let up : TakesUp c.loop-rest.records (take (4 + length call) c.loop-rest.rest.now) (Complete call) = λ r bytes holds. w.stream r holds in
     let (choice, state, (wrote, failed)) = c.in_err-answer.ensures in
@@ -85,7 +85,7 @@ returns-in_err-answer-clause-taken g c =
 
 pub loop-rest-preserved-in-Some : goal.loop-rest-preserved-in-Some
 loop-rest-preserved-in-Some g c =
-    let w = c.in-Some.ensures in
+    let w = c.in-Some.ensures.some in
     let call : List ℕ = c.in-Some.call.now in
     let up : TakesUp c.loop-rest.records (take (4 + length call) c.loop-rest.rest.now) (Complete call) = λ r bytes holds. w.stream r holds in
     let (choice, state, (wrote, well)) = c.in_ok-answer.ensures in
