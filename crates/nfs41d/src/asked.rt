@@ -1,7 +1,7 @@
 //! What a command line may ask for.
 
 /// What the program is to do.
-#[derive(Clone, Copy, Debug, PartialEq, Eq)]
+#[derive(Clone, Copy)]
 pub enum Order<'a> {
     /// Run the script of standard input.
     Replay {

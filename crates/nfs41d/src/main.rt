@@ -7,8 +7,6 @@ mod clock;
 mod fault;
 mod serving;
 mod settings_file;
-#[cfg(test)]
-mod tests;
 mod words;
 
 use crate::asked::Order;
@@ -73,6 +71,6 @@ fn replay(rt: &HostRuntime, server: &mut Server) -> Result<(), Fault> {
     let writer = BufWriter::with_capacity(alloc, BUFFER, rt.stdout()).map_err(|_| Fault::Start)?;
     let mut r = Host::new(reader);
     let mut w = Host::new(writer);
-    let ran = server.replay(alloc, &mut r, &mut w);
+    let ran = server.replay_buffered(alloc, &mut r, &mut w);
     ending(ran, w.inner.flush())
 }

@@ -11,7 +11,7 @@ use std::alloc::Global;
 use toml::{Table, Value};
 
 /// Why a text gives no settings.
-#[derive(Clone, Copy, Debug, PartialEq, Eq)]
+#[derive(Clone, Copy)]
 pub enum Bad {
     /// It is no TOML document, or has another key, type or number than may be.
     Text,

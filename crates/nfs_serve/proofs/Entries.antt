@@ -1,14 +1,16 @@
 -- Heads of entries, and what reading one gave.
-use Rattle.std.proofs.Common.{◌≡◌, ℕ, ◌<◌, ◌≤◌, ◌^◌, Bool, true, false, List, ◌++◌, length, take, drop, slice_range, refl, sym, ap, subst, ◌∙◌, arith, inl, inr}
-use Rattle.std.proofs.Common.{◌⊎◌, Option, take_all, [], append-nil, if◌then◌else◌, nat_lt, Some, None}
-use Rattle.std.specs.Io.KnownBytes.{IsAtEnd}
+use Rattle.std.proofs.Common.{◌≡◌, ℕ, ◌+◌, ◌<◌, ◌≤◌, ◌^◌, Bool, true, false, List, ◌++◌, length, take, drop, slice_range, refl, sym, ap, subst, ◌∙◌, arith, inl, inr}
+use Rattle.std.proofs.Common.{◌⊎◌, Option, take_all, [], append-nil, append_assoc, length-append, length-take-le, if◌then◌else◌, nat_lt, Some, None}
+use Rattle.std.specs.Io.KnownBytes.{Consumes, IsAtEnd}
 use Rattle.nfs_serve.specs.declared.fault.Stop.TheVariants.{Cut, Connection, Long, Late, Many, ReadFailed, WriteFailed}
 use Rattle.std.proofs.lemmas.Bool.{ltb-false}
 use lib.Seq.{take-add}
 use Rattle.nfs_serve.specs.declared.fault.Stop.{Stop}
+use Rattle.std.proofs.lemmas.List.{take-append-drop}
+use Rattle.std.proofs.Math.Seq.{take-append_seam}
 use Rattle.nfs_xdr.specs.Spelling.{number, hyper}
-use Rattle.nfs_serve.specs.Script.{head, IsHead, IsPartial, refusal}
-use Rattle.nfs_serve.specs.Reading.{StopsAnywhere, stop_of}
+use Rattle.nfs_serve.specs.Script.{Entry, spell_entry, head, IsHead, IsPartial, refusal}
+use Rattle.nfs_serve.specs.Reading.{BeginsWith, StopsAnywhere, stop_of}
 use Rattle.nfs_serve.specs.Ends.{IsReported, EndsAt}
 
 pub length-head : (moment conn len : ℕ) → length (head moment conn len) ≡ 16
@@ -51,6 +53,31 @@ pub partial_piece : (moment conn len : ℕ) (part : List ℕ) → refusal moment
 partial_piece moment conn len part h short =
     let ok = refusal_none moment conn len h in
     inr (moment, conn, len, part, refl, ok.0, ok.1, ok.2, short)
+
+-- an entry that stands whole in front of other bytes
+pub front_entry : (bytes front rest : List ℕ) (moment conn len : ℕ) → front ≡ take 16 bytes → rest ≡ drop 16 bytes → front ≡ head moment conn len
+    → refusal moment conn len ≡ None → len ≤ length rest → BeginsWith bytes (record { moment = moment; conn = conn; piece = take len rest })
+front_entry bytes front rest moment conn len is_front is_rest is_head well within =
+    let ok = refusal_none moment conn len well in
+    let long : length (take len rest) ≡ len = length-take-le len rest within in (
+      drop len rest,
+      sym (take-append-drop 16 bytes) ∙ ap (λ l. l ++ drop 16 bytes) (sym is_front ∙ is_head) ∙ ap (λ l. head moment conn len ++ l) (sym is_rest)
+          ∙ ap (λ l. head moment conn len ++ l) (sym (take-append-drop len rest)) ∙ sym (append_assoc (head moment conn len) (take len rest) (drop len rest))
+          ∙ ap (λ n. (head moment conn n ++ take len rest) ++ drop len rest) (sym long),
+      (ok.0, ok.1, subst (λ n. n ≤ 65536) (sym long) ok.2),
+    )
+
+length-entry : (e : Entry) → length (spell_entry e) ≡ 16 + length e.piece
+length-entry e = length-append (head e.moment e.conn (length e.piece)) e.piece ∙ ap (λ n. n + length e.piece) (length-head e.moment e.conn (length e.piece))
+
+-- an entry that stands whole in what is lent
+module _ {bytes lent : List ℕ} (e : Entry) (same : bytes ≡ lent) (begins : BeginsWith bytes e) where
+  pub entry_within : 16 + length e.piece ≤ length lent
+  entry_within = omega (arith, ap length (sym same ∙ begins.1), length-append (spell_entry e) begins.0, length-entry e)
+
+  pub entry_taken : (l0 l1 : Option (List ℕ)) → Consumes l0 l1 (take (16 + length e.piece) lent) → Consumes l0 l1 (spell_entry e)
+  entry_taken l0 l1 read = subst (Consumes _ _) (ap (λ n. take n lent) (sym (length-entry e)) ∙ ap (take (length (spell_entry e))) (sym same ∙ begins.1)
+      ∙ take-append_seam (spell_entry e) begins.0) read
 
 -- the tests of a refusal in their order
 data WhyRefused (moment conn len : ℕ) : Stop → Type 0 where

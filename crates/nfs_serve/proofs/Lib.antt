@@ -11,3 +11,4 @@ pub mod Cutting
 pub mod Connections
 pub mod OneReading
 pub mod InMemory
+pub mod Buffers

@@ -2,7 +2,7 @@
 use Rattle.std.proofs.Common.{◌≡◌, ℕ, suc, ◌+◌, ◌<◌, ◌≤◌, ◌^◌, List, [], ◌∷◌, ◌++◌, length, flat_map, take, drop, All, ◌⊎◌, inl, inr, Option, Some, None, refl}
 use Rattle.std.proofs.Common.{sym, ap, subst, ◌∙◌, arith, append_assoc, append-nil, length-append}
 use Rattle.std.proofs.lemmas.Bool.{le-ltb}
-use Rattle.std.proofs.lemmas.List.{take_at, drop_at}
+use Rattle.std.proofs.lemmas.List.{take_at, drop_at, take-append-drop}
 use Rattle.std.proofs.lemmas.List.Elements.{All-head, All-tail}
 use Rattle.std.proofs.lemmas.Option.{some_pair_parts}
 use Rattle.nfs_xdr.specs.Spelling.{number, hyper}
@@ -11,8 +11,9 @@ use Rattle.nfs_xdr.specs.Codec.{Codec, IsCodec, ◌then◌}
 use Rattle.nfs_xdr.proofs.CodecLaws.{is_number, is_hyper, is_then}
 use Rattle.nfs_serve.specs.declared.fault.Stop.{Stop}
 use Rattle.nfs_serve.specs.declared.fault.Stop.TheVariants.{Cut, Connection, Long, Late, Many, ReadFailed, WriteFailed}
-use Rattle.nfs_serve.specs.Script.{Entry, head, spell_entry, Fits, max_entries, refusal, BeginsRefused, IsPartial, StopsAt, IsRead}
+use Rattle.nfs_serve.specs.Script.{Entry, head, spell_entry, Fits, max_entries, refusal, IsHead, BeginsRefused, IsPartial, StopsAt, IsRead}
 use Rattle.nfs_serve.specs.Laws.{HasOneReading}
+use Rattle.nfs_serve.specs.Reading.{BeginsWith}
 use Rattle.nfs_serve.proofs.Entries.{length-head}
 
 abbrev heads : Codec (ℕ × (ℕ × ℕ))
@@ -88,6 +89,17 @@ no_refused stop rest h =
           some_none stop (sym why ∙ ap (λ x. refusal x c l) same.0 ∙ ap (λ x. refusal e.moment x l) same.1
           ∙ ap (λ x. refusal e.moment e.conn x) same.2 ∙ granted e.moment e.conn (length e.piece) fits.0 fits.1 fits.2);
     }
+
+-- where an entry stands whole at the front, the head there is none that is refused, and its piece is there
+pub front_is_entry : (bytes front rest : List ℕ) (m c l : ℕ) → front ≡ take 16 bytes → rest ≡ drop 16 bytes → IsHead m c l front
+    → (e : Entry) → BeginsWith bytes e → (refusal m c l ≡ None) × (l ≤ length rest)
+front_is_entry bytes front rest m c l is_front is_rest is e (behind, at, fits) =
+    let same = head_same m c l e.moment e.conn (length e.piece) rest (e.piece ++ behind) (is.1, is.2, is.3) (small e fits)
+    (ap (λ f. f ++ rest) (sym is.0 ∙ is_front) ∙ ap (λ r. take 16 bytes ++ r) is_rest ∙ take-append-drop 16 bytes ∙ at ∙ behind_head e behind) in (
+      ap (λ x. refusal x c l) same.0 ∙ ap (λ x. refusal e.moment x l) same.1 ∙ ap (λ x. refusal e.moment e.conn x) same.2
+          ∙ granted e.moment e.conn (length e.piece) fits.0 fits.1 fits.2,
+      omega (arith, same.2, ap length same.3, length-append e.piece behind),
+    )
 
 -- no entry is read behind these
 Ends : ℕ → List ℕ → Type 0

@@ -1,5 +1,5 @@
 -- A run that goes on by an entry, and how it stops.
-use Rattle.std.proofs.Common.{◌≡◌, ◌≢◌, ℕ, suc, ◌+◌, ◌<◌, ◌≤◌, Bool, true, false, List, [], ◌∷◌, ◌++◌, length, flat_map, Option, Result, Ok, Err, refl, sym, ap}
+use Rattle.std.proofs.Common.{◌≡◌, ◌≢◌, ℕ, suc, ◌+◌, ◌<◌, ◌≤◌, Bool, true, false, List, [], ◌∷◌, ◌++◌, length, flat_map, Option, Result, Ok, Err, is_err, refl, sym, ap}
 use Rattle.std.proofs.Common.{subst, ◌∙◌, arith, append_assoc, append-nil, length-append, All, nat_eq, if◌then◌else◌}
 use Rattle.std.specs.Io.KnownBytes.{Consumes, Appends}
 use Rattle.std.proofs.KnownBytes.{Consumes-nil, Consumes-trans, Appends-nil, Appends-trans}
@@ -13,6 +13,7 @@ use Rattle.nfs_rpc.specs.Stream.{End, Open}
 use Rattle.nfs_serve.specs.declared.fault.Stop.{Stop}
 use Rattle.nfs_serve.specs.declared.fault.Stop.TheVariants.{Cut, Connection, Long, Late, Many, ReadFailed, WriteFailed}
 use Rattle.nfs_serve.specs.declared.fault.ReplayFault.{ReplayFault}
+use Rattle.nfs_serve.specs.declared.moving.WriteFailed as moving
 use Rattle.nfs_serve.specs.declared.form.Form.TheVariants.{Tagged}
 use Rattle.nfs_serve.specs.Script.{Entry, spell_entry, Fits, max_entries, StopsAt, IsStopped}
 use Rattle.nfs_serve.specs.Ends.{IsReported}
@@ -20,7 +21,7 @@ use Rattle.nfs_serve.specs.Step.{State}
 use Rattle.nfs_serve.specs.Run.{Streams, with_stream, all_closed, Brings, TakesPiece, Event, events, after, after_event, output, output_of}
 use Rattle.nfs_serve.specs.Server.{fresh, held_on, IsWith, Feeds, Breaks}
 use Rattle.nfs_serve.specs.Replay.{AllStand, Runs, ReplaysFault, Replays, Reports}
-use Rattle.nfs_serve.specs.Running.{RunsEntry, EndsBehind}
+use Rattle.nfs_serve.specs.Running.{RunsEntry, RunsEntryOr, EndsBehind}
 use Rattle.nfs_serve.proofs.Moves.{after-append, output-append, events-append, TakesAll-more, with_stands}
 use Rattle.nfs_serve.proofs.Pieces.{start_holds, no_bytes}
 
@@ -64,6 +65,18 @@ entry_closed s h was e within none = record {
     with_stands before was (set was e.conn fresh) e.conn (Open []) fresh all (set_is_with was e.conn fresh within) (no_bytes, start_holds),
   );
 }
+
+-- An entry ran, by what the answer says: all of it, or up to a reply that could not be written.
+module _ {old new : State} (was is : List Gathered) (e : Entry) {h0 h1 : Option (List ℕ)} (failed : Bool) where
+  pub ran_well : (ran : Result (Unit {0}) moving.WriteFailed) → is_err ran ≡ false → RunsEntryOr ran old new was is e h0 h1 failed
+      → RunsEntry old new was is e h0 h1 × (failed ≡ false)
+  ran_well (Ok u) well ran = ran
+  ran_well (Err f) well ran = absurd cc
+
+  pub ran_broken : (ran : Result (Unit {0}) moving.WriteFailed) → is_err ran ≡ true → RunsEntryOr ran old new was is e h0 h1 failed
+      → Breaks old new (held_on was e.conn) e.conn e.moment e.piece Tagged h0 h1 × IsWith is was e.conn fresh
+  ran_broken (Ok u) broken ran = absurd cc
+  ran_broken (Err f) broken ran = (ran.0, ran.1)
 
 -- A run that has gone on for n entries.
 pub record Going (old now : State) (held : List Gathered) (n : ℕ) (l0 l1 h0 h1 : Option (List ℕ)) : Type 0 where

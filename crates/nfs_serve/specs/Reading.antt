@@ -1,5 +1,5 @@
 -- What reading the next entry of a script gives; private contracts alone speak of it.
-use Rattle.std.specs.Prelude.{◌≡◌, ℕ, ◌<◌, List, [], Bool, true, false, Option, None, Some, Result, Ok, Err}
+use Rattle.std.specs.Prelude.{◌≡◌, ℕ, ◌<◌, List, [], ◌++◌, Bool, true, false, Option, None, Some, Result, Ok, Err}
 use Rattle.std.specs.Io.KnownBytes.{Consumes, IsAtEnd}
 use Rattle.nfs_serve.specs.declared.fault.Stop.{Stop}
 use Rattle.nfs_serve.specs.declared.fault.Stop.TheVariants.{Cut, ReadFailed}
@@ -10,6 +10,10 @@ use Rattle.nfs_serve.specs.Script.{Entry, spell_entry, Fits, max_entries, StopsA
 -- an entry, wherever its piece lies in memory
 abbrev pub entry : rust.Entry → Entry
 entry e = record { moment = e.moment; conn = e.conn; piece = e.piece.now }
+
+-- the bytes begin with an entry that is read
+abbrev pub BeginsWith : List ℕ → Entry → Type 0
+BeginsWith bytes e = (rest : List ℕ) × (bytes ≡ spell_entry e ++ rest) × Fits e
 
 -- a reader that stopped short has failed or ended
 abbrev pub stop_of : Bool → Stop

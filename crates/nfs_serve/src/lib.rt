@@ -15,6 +15,7 @@
 //! its faults, and the moments of records are this server's profile.
 #![tactic(auto)]
 
+mod buf_source;
 mod clock;
 mod connection;
 mod engine;
@@ -23,6 +24,7 @@ mod fault;
 mod form;
 mod host;
 pub mod laws;
+mod lending;
 mod memory;
 mod moving;
 mod running;
@@ -35,6 +37,7 @@ mod talking;
 #[cfg(test)]
 mod tests;
 
+pub use buf_source::BufSource;
 pub use clock::Clock;
 pub use fault::{ReplayFault, Stop};
 pub use form::{Flow, Form, Outcome};

@@ -14,16 +14,18 @@ use crate::engine::Engine;
 use crate::entry::Entry;
 use crate::fault::{ReplayFault, Stop};
 use crate::form::Form;
+use crate::lending::Lends;
 use crate::moving::{WriteFailed, fill};
-use crate::script::next_entry;
+use crate::script::{HEAD, next_entry, whole_entry};
 use crate::{Sink, Source};
 use std::alloc::Global;
 
 /// The most entries of a script.
 const MAX_ENTRIES: u32 = 1_000_000;
 
-/// Runs the script that the reader gives, from closed connections, and writes what is put out.
-pub fn run<R: Source, W: Sink>(
+/// Runs the script that the reader gives, from closed connections, and writes what is put out. An entry that stands whole in what
+/// the reader lends is run where it stands.
+pub fn run<L: Lends<R>, R: Source, W: Sink>(
     alloc: Global,
     engine: &mut Engine,
     connections: &mut [Connection],
@@ -41,23 +43,29 @@ pub fn run<R: Source, W: Sink>(
     ensures told { Reports result (R.has_ended r.new) (R.has_failed r.new) (W.has_failed w.new) (R.left r.new) }
 {
     for done in 0..MAX_ENTRIES {
-        match next_entry(r, buf) {
-            Ok(Some(entry)) => match run_entry(alloc, engine, connections, &entry, w) {
-                Ok(()) => {}
-                Err(WriteFailed) => {
+        let ran = match whole_entry(L::bytes(r)) {
+            Some(entry) => {
+                let size = HEAD + entry.piece.len();
+                let ran = run_entry(alloc, engine, connections, &entry, w);
+                L::consume(r, size);
+                ran
+            }
+            None => match next_entry(r, buf) {
+                Ok(Some(entry)) => run_entry(alloc, engine, connections, &entry, w),
+                Ok(None) => return Ok(()),
+                Err(stop) => {
                     return Err(ReplayFault {
-                        number: Stop::WriteFailed,
+                        number: stop,
                         entry: done + 1,
                     });
                 }
             },
-            Ok(None) => return Ok(()),
-            Err(stop) => {
-                return Err(ReplayFault {
-                    number: stop,
-                    entry: done + 1,
-                });
-            }
+        };
+        if ran.is_err() {
+            return Err(ReplayFault {
+                number: Stop::WriteFailed,
+                entry: done + 1,
+            });
         }
     }
     behind_last(r)

@@ -1,9 +1,10 @@
 //! Reading a script, entry by entry.
-ghost use Rattle.std.specs.Prelude.{◌≡◌, length, false, ◌<◌, ◌^◌, IfOk, IfSome};
+ghost use Rattle.std.specs.Prelude.{◌≡◌, length, false, ◌<◌, ◌^◌, IfOk, IfSome, IfNone};
 ghost use Rattle.nfs_xdr.specs.Codec.{IsBytes};
 ghost use Rattle.nfs_xdr.specs.Spelling.{number, hyper};
+ghost use Rattle.nfs_serve.specs.Script as script;
 ghost use Rattle.nfs_serve.specs.Script.{IsHead, refusal};
-ghost use Rattle.nfs_serve.specs.Reading.{ReadsEntry, stop_of};
+ghost use Rattle.nfs_serve.specs.Reading.{ReadsEntry, BeginsWith, stop_of, entry};
 
 use crate::Source;
 use crate::entry::Entry;
@@ -19,6 +20,28 @@ pub const MAX_PIECE: u32 = 65_536;
 /// The last moment, in seconds.
 const LAST_MOMENT: u64 = 1 << 62;
 
+/// The bytes of an entry in front of its piece.
+pub const HEAD: usize = 16;
+
+/// The entry that stands whole at the front of the bytes and is not refused, if there is one.
+pub fn whole_entry(bytes: &[u8]) -> Option<Entry<'_>>
+    ensures bytes { IfSome result (λ e. IsBytes e.piece.now) }
+    ensures whole { IfSome result (λ e. BeginsWith bytes.now (entry e)) }
+    ensures none { IfNone result ((e : script.Entry) → BeginsWith bytes.now e → ⊥) }
+{
+    let (head, rest) = bytes.split_first_chunk::<HEAD>()?;
+    let (moment, conn, len) = head_of(head);
+    if refusal_of(moment, conn, len).is_some() || len as usize > rest.len() {
+        return None;
+    }
+    let piece = &rest[..len as usize];
+    Some(Entry {
+        moment,
+        conn,
+        piece,
+    })
+}
+
 /// The entry that stands next, whose piece is put into the buffer, or `None` where the script ends.
 pub fn next_entry<'b, R: Source>(r: &mut R, buf: &'b mut [u8]) -> Result<Option<Entry<'b>>, Stop>
     requires room { length buf.old ≡ 65536 }
@@ -27,12 +50,12 @@ pub fn next_entry<'b, R: Source>(r: &mut R, buf: &'b mut [u8]) -> Result<Option<
     ensures bytes { IfOk result (λ found. IfSome found (λ e. IsBytes e.piece.now)) }
     ensures read { ReadsEntry result (R.left r.old) (R.left r.new) (R.has_failed r.new) (R.has_ended r.new) }
 {
-    let mut head = [0u8; 16];
+    let mut head = [0u8; HEAD];
     let came = fill(r, &mut head);
     if came == 0 && !r.failed() {
         return Ok(None);
     }
-    if came < 16 {
+    if came < HEAD {
         return Err(short_of(r));
     }
     let (moment, conn, len) = head_of(&head);
@@ -78,7 +101,7 @@ fn refusal_of(moment: u64, conn: u32, len: u32) -> Option<Stop>
 }
 
 /// Moment, connection and length.
-fn head_of(bytes: &[u8; 16]) -> (u64, u32, u32)
+fn head_of(bytes: &[u8; HEAD]) -> (u64, u32, u32)
     ensures { IsHead result.0 result.1 result.2 bytes.now }
 {
     let moment = be64(&bytes[..8]);

@@ -11,12 +11,13 @@ use crate::engine::Engine;
 use crate::entry::Entry;
 use crate::fault::ReplayFault;
 use crate::form::{Flow, Form, Outcome};
+use crate::lending::{ByReading, FromBuffer, Lends};
 use crate::moving::WriteFailed;
 use crate::running::{close_all, run};
 use crate::script::MAX_PIECE;
 use crate::talk::Talk;
 use crate::talking::converse;
-use crate::{Clock, Sink, Source};
+use crate::{BufSource, Clock, Sink, Source};
 use std::alloc::{AllocError, Global};
 use std::marker::Model;
 
@@ -164,8 +165,42 @@ impl Server {
         ensures told { Reports result (R.has_ended r.new) (R.has_failed r.new) (W.has_failed w.new) (R.left r.new) }
         ensures reply { self.new.reply ≡ [] }
     {
+        self.run_script::<ByReading, R, W>(alloc, r, w)
+    }
+
+    /// The same for a reader with a buffer: an entry that stands there whole is run where it stands, with no copy.
+    pub fn replay_buffered<R: BufSource, W: Sink>(
+        &mut self,
+        alloc: Global,
+        r: &mut R,
+        w: &mut W,
+    ) -> Result<(), ReplayFault>
+        requires read { R.has_failed r.old ≡ false }
+        requires ended { R.has_ended r.old ≡ false }
+        requires write { W.has_failed w.old ≡ false }
+        ensures run { Replays result (state_of self.old.kept) (state_of self.new.kept) self.new.held (R.left r.old) (R.left r.new) (W.held w.old) (W.held w.new) }
+        ensures told { Reports result (R.has_ended r.new) (R.has_failed r.new) (W.has_failed w.new) (R.left r.new) }
+        ensures reply { self.new.reply ≡ [] }
+    {
+        self.run_script::<FromBuffer, R, W>(alloc, r, w)
+    }
+
+    /// Both of these, by the way in which the reader lends bytes.
+    fn run_script<L: Lends<R>, R: Source, W: Sink>(
+        &mut self,
+        alloc: Global,
+        r: &mut R,
+        w: &mut W,
+    ) -> Result<(), ReplayFault>
+        requires read { R.has_failed r.old ≡ false }
+        requires ended { R.has_ended r.old ≡ false }
+        requires write { W.has_failed w.old ≡ false }
+        ensures run { Replays result (state_of self.old.kept) (state_of self.new.kept) self.new.held (R.left r.old) (R.left r.new) (W.held w.old) (W.held w.new) }
+        ensures told { Reports result (R.has_ended r.new) (R.has_failed r.new) (W.has_failed w.new) (R.left r.new) }
+        ensures reply { self.new.reply ≡ [] }
+    {
         close_all(&mut self.connections);
-        let ran = run(
+        let ran = run::<L, R, W>(
             alloc,
             &mut self.engine,
             &mut self.connections,
