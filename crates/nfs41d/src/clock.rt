@@ -40,6 +40,8 @@ impl<R: rt::Clock> Clock for SystemClock<'_, R> {
 pub fn instance_at(second: u64) -> u32
     ensures range { (1 ≤ result) × (result ≤ 4294967294) }
     ensures second { 0 < second % 2 ^ 32 → second % 2 ^ 32 < 4294967295 → result ≡ second % 2 ^ 32 }
+    ensures first { second % 2 ^ 32 ≡ 0 → result ≡ 1 }
+    ensures last { second % 2 ^ 32 ≡ 4294967295 → result ≡ 1 }
 {
     match (second % (1 << 32)) as u32 {
         0 | u32::MAX => 1,
