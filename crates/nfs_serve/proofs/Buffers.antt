@@ -1,5 +1,6 @@
 -- What a reader has left, when bytes of its buffer are taken.
-use Rattle.std.proofs.Common.{◌≡◌, ℕ, Bool, true, false, List, ◌++◌, take, drop, Option, None, Some, sym, ap, ◌∙◌, append_assoc, take-append-drop, ◌==◌, if◌then◌else◌}
+use Rattle.std.proofs.Common.{◌≡◌, ℕ, Bool, true, false, List, ◌++◌, take, drop, Option, None, Some, sym, ap, ◌∙◌}
+use Rattle.std.proofs.Common.{append_assoc, take-append-drop, ◌==◌, if◌then◌else◌}
 use Rattle.std.specs.Io.KnownBytes.{Consumes, prepend_known}
 use Rattle.std.specs.Io.Buffered.{reader_buffer, reader_inner, reader_capacity, reader_remaining}
 use Rattle.std.specs.declared.io.buffered.BufReader.{BufReader}
@@ -14,5 +15,5 @@ pub reader_consumed : {T A : Type 0} (remaining : T → Option (List ℕ)) (old 
     → reader_buffer new ≡ drop amount (reader_buffer old) → reader_inner new ≡ reader_inner old → reader_capacity new ≡ reader_capacity old
     → Consumes (reader_remaining remaining old) (reader_remaining remaining new) (take amount (reader_buffer old))
 reader_consumed remaining old new amount buffer inner capacity =
-    rw capacity (rw inner (rw buffer (loses_front (reader_capacity old == 0) (remaining (reader_inner old)) (reader_buffer old) (take amount (reader_buffer old))
-    (drop amount (reader_buffer old)) (take-append-drop amount (reader_buffer old)))))
+    rw capacity (rw inner (rw buffer (loses_front (reader_capacity old == 0) (remaining (reader_inner old)) (reader_buffer old)
+    (take amount (reader_buffer old)) (drop amount (reader_buffer old)) (take-append-drop amount (reader_buffer old)))))

@@ -16,7 +16,8 @@ loop-done-preserved g c =
     elim c.match-whole_entry.branch [
       | in-Some w ↦
           let read = entry_taken (entry w.in-Some.entry) c.bytes.ensures w.in-Some.ensures.whole _ _ w.consume.ensures.bytes in
-          let (ran, well) = ran_well _ _ (entry w.in-Some.entry) _ w.run_entry-ran.result (ap is_err (sym w.ran-is) ∙ sym c.is_err.ensures.value ∙ c.if-is_err.false) w.run_entry-ran.ensures.ran in
+          let (ran, well) = ran_well _ _ (entry w.in-Some.entry) _ w.run_entry-ran.result
+          (ap is_err (sym w.ran-is) ∙ sym c.is_err.ensures.value ∙ c.if-is_err.false) w.run_entry-ran.ensures.ran in
           rw w.engine-is (rw w.connections-is (rw w.r-is (rw w.w-is (
             going_more c.loop-done.invariant.0 _ _ _ _ (entry w.in-Some.entry) read w.in-Some.ensures.whole.2 ran,
             w.run_entry-ran.ensures.length,
@@ -27,7 +28,8 @@ loop-done-preserved g c =
           ))))
       | in-None+in-Ok-Some w ↦
           let (read, fits, going, more) = rw w.in-Ok-Some.field-0-is at w.in-Ok-Some.ensures.read in
-          let (ran, well) = ran_well _ _ (entry w.in-Ok-Some.entry) _ w.run_entry.result (ap is_err (sym w.ran-is) ∙ sym c.is_err.ensures.value ∙ c.if-is_err.false) w.run_entry.ensures.ran in
+          let (ran, well) = ran_well _ _ (entry w.in-Ok-Some.entry) _ w.run_entry.result
+          (ap is_err (sym w.ran-is) ∙ sym c.is_err.ensures.value ∙ c.if-is_err.false) w.run_entry.ensures.ran in
           rw w.engine-is (rw w.connections-is (rw w.r-is (rw w.w-is (
             going_more c.loop-done.invariant.0 _ _ _ _ (entry w.in-Ok-Some.entry) read fits ran,
             w.run_entry.ensures.length,
@@ -43,14 +45,18 @@ returns-then-is_err-clause-run g c =
     elim c.match-whole_entry.branch [
       | in-Some w ↦
           let read = entry_taken (entry w.in-Some.entry) c.bytes.ensures w.in-Some.ensures.whole _ _ w.consume.ensures.bytes in
-          let (breaks, others) = ran_broken _ _ (entry w.in-Some.entry) _ w.run_entry-ran.result (ap is_err (sym w.ran-is) ∙ sym c.is_err.ensures.value ∙ c.if-is_err.true) w.run_entry-ran.ensures.ran in
+          let (breaks, others) = ran_broken _ _ (entry w.in-Some.entry) _ w.run_entry-ran.result
+          (ap is_err (sym w.ran-is) ∙ sym c.is_err.ensures.value ∙ c.if-is_err.true) w.run_entry-ran.ensures.ran in
           rw w.engine-is (rw w.connections-is (rw w.r-is (rw w.w-is (
-          going_breaks c.loop-done.invariant.0 _ _ _ _ _ (entry w.in-Some.entry) refl (add-one c.loop-done.done) c.loop-done-test.true read w.in-Some.ensures.whole.2 breaks others))))
+          going_breaks c.loop-done.invariant.0 _ _ _ _ _ (entry w.in-Some.entry) refl (add-one c.loop-done.done)
+          c.loop-done-test.true read w.in-Some.ensures.whole.2 breaks others))))
       | in-None+in-Ok-Some w ↦
           let (read, fits, going, more) = rw w.in-Ok-Some.field-0-is at w.in-Ok-Some.ensures.read in
-          let (breaks, others) = ran_broken _ _ (entry w.in-Ok-Some.entry) _ w.run_entry.result (ap is_err (sym w.ran-is) ∙ sym c.is_err.ensures.value ∙ c.if-is_err.true) w.run_entry.ensures.ran in
+          let (breaks, others) = ran_broken _ _ (entry w.in-Ok-Some.entry) _ w.run_entry.result
+          (ap is_err (sym w.ran-is) ∙ sym c.is_err.ensures.value ∙ c.if-is_err.true) w.run_entry.ensures.ran in
           rw w.engine-is (rw w.connections-is (rw w.r-is (rw w.w-is (
-          going_breaks c.loop-done.invariant.0 _ _ _ _ _ (entry w.in-Ok-Some.entry) refl (add-one c.loop-done.done) c.loop-done-test.true read fits breaks others))))
+          going_breaks c.loop-done.invariant.0 _ _ _ _ _ (entry w.in-Ok-Some.entry) refl (add-one c.loop-done.done)
+          c.loop-done-test.true read fits breaks others))))
     ]
 
 pub returns-in-Err-clause-run : goal.returns-in-Err-clause-run

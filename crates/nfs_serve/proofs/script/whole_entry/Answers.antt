@@ -22,8 +22,8 @@ returns-in_err-head-clause-none c = rw c.from_residual.ensures (λ e begins. ome
 
 pub returns-then-is_some-clause-none : goal.returns-then-is_some-clause-none
 returns-then-is_some-clause-none c = λ e begins.
-    let (granted, there) = front_is_entry c.args.bytes.now c.in_ok-head.head.now c.in_ok-head.rest.now _ _ _ c.in_ok-head.ensures.cases.0 c.in_ok-head.ensures.cases.1
-    c.head_of-moment.ensures e begins in
+    let (granted, there) = front_is_entry c.args.bytes.now c.in_ok-head.head.now c.in_ok-head.rest.now _ _ _
+    c.in_ok-head.ensures.cases.0 c.in_ok-head.ensures.cases.1 c.head_of-moment.ensures e begins in
     elim c.then-is_some.branch [
       | then-is_some-via-then-is_some w ↦ (let bad = ap is_some (sym (c.refusal_of.ensures ∙ granted)) ∙ sym c.is_some.ensures ∙ w.if-is_some.true in cc)
       | then-is_some-via-else-is_some+then-len-rest w ↦ omega (arith, there, w.if-len-rest.true)
