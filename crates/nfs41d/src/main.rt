@@ -2,19 +2,9 @@
 //! to standard output. `nfs41d serve` answers TCP connections, one after the other.
 #![tactic(auto)]
 
-mod asked;
-mod clock;
-mod fault;
-mod serving;
-mod settings_file;
-mod words;
-
-use crate::asked::Order;
-use crate::clock::{SystemClock, instance_at};
-use crate::fault::{Fault, ending, status, unread};
-use crate::serving::serve;
-use crate::settings_file::settings;
-use crate::words::order;
+use nfs_daemon::{
+    Fault, Order, SystemClock, ending, instance_at, order, serve, settings, status, unread,
+};
 use nfs_serve::{Clock, Host, Server};
 use std::io::{BufReader, BufWriter, Write};
 use std::net::SocketAddrV4;

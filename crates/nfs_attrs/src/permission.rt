@@ -1,6 +1,6 @@
 //! Permission bits (RFC 8881 sections 6.2.4 and 18.1).
 
-ghost use Rattle.std.specs.Prelude.{◌≡◌, ◌==◌, ℕ, take};
+ghost use Rattle.std.specs.Prelude.{◌≡◌, ◌==◌, ℕ};
 ghost use Rattle.std.specs.List.{list_any};
 ghost use Rattle.nfs_xdr.specs.Caller.{caller};
 ghost use Rattle.nfs_attrs.specs.Permissions as permission;
@@ -56,21 +56,24 @@ pub struct Access {
 }
 
 /// Whether the group is one of the caller's further groups.
-fn in_further_group(group: u32, who: &Who) -> bool
-    ensures { result ≡ list_any (λ g. g == group) (take who.now.count who.now.gids) }
+fn in_further_group(group: u32, who: &Who<'_>) -> bool
+    ensures { result ≡ list_any (λ g. g == group) (caller who.now).gids }
 {
-    who.gids.iter().take(who.count).any(|gid| *gid == group)
+    who.groups
+        .iter()
+        .map(|word| u32::from_be_bytes(*word))
+        .any(|gid| gid == group)
 }
 
 /// Whether the caller is in the group.
-pub fn in_group(group: u32, who: &Who) -> bool
+pub fn in_group(group: u32, who: &Who<'_>) -> bool
     ensures { result ≡ permission.in_group group (caller who.now) }
 {
     who.gid == group || in_further_group(group, who)
 }
 
 /// The three bits of the class that the caller belongs to.
-fn class_bits(object: &Object, who: &Who) -> u32
+fn class_bits(object: &Object, who: &Who<'_>) -> u32
     ensures { result ≡ permission.class_bits object.now (caller who.now) }
 {
     if who.uid == 0 {
@@ -88,7 +91,7 @@ fn class_bits(object: &Object, who: &Who) -> u32
 ///
 /// The user 0 may do everything. For others only the bits of one class count: the owner's, else the group's where the
 /// caller is in the group, else the others'.
-pub fn may(object: &Object, who: &Who, want: Want) -> bool
+pub fn may(object: &Object, who: &Who<'_>, want: Want) -> bool
     ensures { result ≡ permission.may object.now (caller who.now) want }
 {
     let bits = class_bits(object, who);
@@ -104,7 +107,7 @@ fn bits_if(granted: bool, bits: u32) -> u32
 }
 
 /// What ACCESS answers where the bits `asked` are asked (RFC 8881 section 18.1.3).
-pub fn judge_access(object: &Object, who: &Who, asked: u32) -> Access
+pub fn judge_access(object: &Object, who: &Who<'_>, asked: u32) -> Access
     ensures { result ≡ permission.judge_access object.now (caller who.now) asked }
 {
     let read = bits_if(may(object, who, Want::READ), 0x01);

@@ -11,14 +11,14 @@ use nfs_tree::Object;
 use nfs_xdr::{Status, Who};
 
 /// Whether the caller is the owner or the user 0.
-fn owns(owner: u32, who: &Who) -> bool
+fn owns(owner: u32, who: &Who<'_>) -> bool
     ensures { result ≡ setting.owns owner (caller who.now) }
 {
     who.uid == 0 || who.uid == owner
 }
 
 /// Whether it wants another owner, and the caller may not give the object to anybody.
-fn takes_owner(wanted: Option<u32>, owner: u32, who: &Who) -> bool
+fn takes_owner(wanted: Option<u32>, owner: u32, who: &Who<'_>) -> bool
     ensures { result ≡ setting.takes_owner wanted owner (caller who.now) }
 {
     match wanted {
@@ -28,7 +28,7 @@ fn takes_owner(wanted: Option<u32>, owner: u32, who: &Who) -> bool
 }
 
 /// Whether it wants another group, and the caller may not give the object to that group.
-fn takes_group(wanted: Option<u32>, owner: u32, group: u32, who: &Who) -> bool
+fn takes_group(wanted: Option<u32>, owner: u32, group: u32, who: &Who<'_>) -> bool
     ensures { result ≡ setting.takes_group wanted owner group (caller who.now) }
 {
     match wanted {
@@ -62,7 +62,7 @@ fn is_now(time: Option<SetTime>) -> bool
 /// [`Status::Perm`] where it takes another owner, or another group of which the caller is not the owning member, or where
 /// somebody else than the owner sets the mode or gives a time; else [`Status::Access`] where the server's own time is
 /// set by one who is not the owner and may not write.
-pub fn may_set(object: &Object, wanted: &Wanted, who: &Who) -> Result<(), Status>
+pub fn may_set(object: &Object, wanted: &Wanted, who: &Who<'_>) -> Result<(), Status>
     ensures { result ≡ setting.may_set object.now wanted.now (caller who.now) }
 {
     let owns = owns(object.owner, who);
@@ -90,7 +90,7 @@ pub fn may_set(object: &Object, wanted: &Wanted, who: &Who) -> Result<(), Status
 /// group until then.
 ///
 /// [`Status::Perm`] where it takes another owner, or another group that the caller is not in.
-pub fn may_make(wanted: &Wanted, who: &Who) -> Result<(), Status>
+pub fn may_make(wanted: &Wanted, who: &Who<'_>) -> Result<(), Status>
     ensures { result ≡ setting.may_make wanted.now (caller who.now) }
 {
     if takes_owner(wanted.owner, who.uid, who) {

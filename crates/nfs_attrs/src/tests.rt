@@ -61,15 +61,13 @@ fn asking(first: u32, second: u32, third: u32) -> Mask {
     ])
 }
 
-fn caller(uid: u32, gid: u32, further: u32) -> Who {
-    let mut gids = [0; 16];
-    gids[0] = further;
-    Who {
-        uid,
-        gid,
-        count: 1,
-        gids,
-    }
+/// The further group 8, and the further group 50.
+const EIGHT: &[[u8; 4]] = &[[0, 0, 0, 8]];
+
+const FIFTY: &[[u8; 4]] = &[[0, 0, 0, 50]];
+
+fn caller(uid: u32, gid: u32, groups: &[[u8; 4]]) -> Who<'_> {
+    Who { uid, gid, groups }
 }
 
 fn written(
@@ -307,14 +305,14 @@ fn refuses_in_order(rt: HostRuntime) {
 fn one_class_counts(rt: HostRuntime) {
     let cases = [
         // mode, caller, r, w, x of an object of user 5 and group 50
-        (0o077, caller(0, 9, 8), true, true, true),
-        (0o741, caller(5, 9, 8), true, true, true),
-        (0o741, caller(6, 50, 8), true, false, false),
-        (0o741, caller(6, 9, 50), true, false, false),
-        (0o741, caller(6, 9, 8), false, false, true),
-        (0o077, caller(5, 50, 8), false, false, false),
-        (0o707, caller(6, 50, 8), false, false, false),
-        (0o7000, caller(5, 50, 8), false, false, false),
+        (0o077, caller(0, 9, EIGHT), true, true, true),
+        (0o741, caller(5, 9, EIGHT), true, true, true),
+        (0o741, caller(6, 50, EIGHT), true, false, false),
+        (0o741, caller(6, 9, FIFTY), true, false, false),
+        (0o741, caller(6, 9, EIGHT), false, false, true),
+        (0o077, caller(5, 50, EIGHT), false, false, false),
+        (0o707, caller(6, 50, EIGHT), false, false, false),
+        (0o7000, caller(5, 50, EIGHT), false, false, false),
     ];
     for (mode, who, read, write, execute) in cases {
         let file = object(FileType::Regular, mode, 5, 50);
@@ -323,7 +321,7 @@ fn one_class_counts(rt: HostRuntime) {
         assert_eq!(rt; may(&file, &who, Want::EXECUTE), execute);
         assert_eq!(rt; may(&file, &who, Want::CHANGE), write && execute);
     }
-    assert!(rt; in_group(50, &caller(6, 9, 50)) && !in_group(0, &caller(6, 9, 50)));
+    assert!(rt; in_group(50, &caller(6, 9, FIFTY)) && !in_group(0, &caller(6, 9, FIFTY)));
 }
 
 #[test]
@@ -339,7 +337,7 @@ fn tells_access(rt: HostRuntime) {
     ];
     for (object, supported, granted) in cases {
         assert_eq!(rt;
-            judge_access(&object, &caller(5, 0, 0), 0x3f),
+            judge_access(&object, &caller(5, 0, EIGHT), 0x3f),
             Access { supported, granted }
         );
     }
@@ -429,9 +427,9 @@ fn sets_by_leave(rt: HostRuntime) {
     ];
     let file = object(FileType::Regular, 0o640, 5, 50);
     for (wanted, owner, member, root) in cases {
-        assert_eq!(rt; may_set(&file, &wanted, &caller(5, 9, 9)), owner);
-        assert_eq!(rt; may_set(&file, &wanted, &caller(6, 50, 50)), member);
-        assert_eq!(rt; may_set(&file, &wanted, &caller(0, 9, 9)), root);
+        assert_eq!(rt; may_set(&file, &wanted, &caller(5, 9, EIGHT)), owner);
+        assert_eq!(rt; may_set(&file, &wanted, &caller(6, 50, FIFTY)), member);
+        assert_eq!(rt; may_set(&file, &wanted, &caller(0, 9, EIGHT)), root);
     }
     assert_eq!(rt;
         may_make(
@@ -439,7 +437,7 @@ fn sets_by_leave(rt: HostRuntime) {
                 owner: Some(6),
                 ..none
             },
-            &caller(5, 9, 8)
+            &caller(5, 9, EIGHT)
         ),
         Err(Status::Perm)
     );
@@ -450,7 +448,7 @@ fn sets_by_leave(rt: HostRuntime) {
                 group: Some(8),
                 ..none
             },
-            &caller(5, 9, 8)
+            &caller(5, 9, EIGHT)
         ),
         Ok(())
     );
@@ -460,7 +458,7 @@ fn sets_by_leave(rt: HostRuntime) {
                 group: Some(7),
                 ..none
             },
-            &caller(5, 9, 8)
+            &caller(5, 9, EIGHT)
         ),
         Err(Status::Perm)
     );

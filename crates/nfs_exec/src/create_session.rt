@@ -34,7 +34,7 @@ impl Tables {
         &mut self,
         alloc: Global,
         asked: &CreateSession<'_>,
-        who: &Who,
+        who: &Who<'_>,
         now: u64,
         out: &mut Sheet,
     ) -> Status

@@ -35,7 +35,7 @@ impl Tables {
         &mut self,
         alloc: Global,
         asked: &ExchangeId<'_>,
-        who: &Who,
+        who: &Who<'_>,
         now: u64,
     ) -> Res<'static>
         requires machine { IsMachine (machine_of self.old) }

@@ -43,7 +43,7 @@ impl Tables {
         &mut self,
         alloc: Global,
         args: &mut Compound<'_>,
-        context: &mut Context,
+        context: &mut Context<'_>,
         limit: u32,
         start: usize,
         now: u64,
@@ -84,7 +84,7 @@ impl Tables {
         &mut self,
         alloc: Global,
         arg: &Arg<'_>,
-        context: &mut Context,
+        context: &mut Context<'_>,
         limit: u64,
         sofar: u64,
         now: u64,
@@ -112,7 +112,7 @@ impl Tables {
         &mut self,
         alloc: Global,
         arg: &Arg<'_>,
-        context: &mut Context,
+        context: &mut Context<'_>,
         now: u64,
         out: &mut Sheet,
     ) -> Status
@@ -141,7 +141,7 @@ impl Tables {
         &mut self,
         alloc: Global,
         arg: &Arg<'_>,
-        context: &mut Context,
+        context: &mut Context<'_>,
         now: u64,
         out: &mut Sheet,
     ) -> Status
@@ -163,7 +163,7 @@ impl Tables {
     }
 
     /// What an operation that is not on the store comes to.
-    fn otherwise(&mut self, arg: &Arg<'_>, context: &Context) -> Res<'static>
+    fn otherwise(&mut self, arg: &Arg<'_>, context: &Context<'_>) -> Res<'static>
         requires bears { CanBear (item arg.now) }
         ensures outcome { comes_to (machine_of self.new) (view.res result) ≡ (otherwise (machine_of self.old) context.now (item arg.now)).outcome }
         ensures bounds { IsBounded (view.res result) }

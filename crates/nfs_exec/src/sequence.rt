@@ -34,7 +34,7 @@ pub fn judge<'a>(
     sessions: &'a Sessions,
     asked: &Sequence,
     args: &Compound<'_>,
-    who: &Who,
+    who: &Who<'_>,
     size: usize,
 ) -> Sequenced<'a>
     ensures verdict { sequenced_of result ≡ by_session args.now (caller who.now) size asked.now (session_at sessions.now (id_of asked.now.sessionid)) }

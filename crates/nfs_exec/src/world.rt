@@ -58,7 +58,7 @@ impl World {
         &mut self,
         alloc: Global,
         args: &mut Compound<'_>,
-        who: &Who,
+        who: &Who<'_>,
         size: usize,
         now: u64,
         out: &mut Sheet,

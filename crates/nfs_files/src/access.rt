@@ -48,7 +48,7 @@ pub(crate) fn judge_file(held: Node) -> Result<Node, Status>
 
 /// The state of a file by which its bytes are to be changed.
 #[tactic(auto, unfolding(crate::specs::Bytes::seat))]
-fn seat(store: &Store, context: &Context, given: &Stateid, held: &Node) -> Result<Seat, Status>
+fn seat(store: &Store, context: &Context<'_>, given: &Stateid, held: &Node) -> Result<Seat, Status>
     ensures { result ≡ of_bytes.seat (state_of store.now) context.now given.now held.now }
 {
     let id = meant(context, CurrentSeqid::Any, given)?;
@@ -60,7 +60,7 @@ fn seat(store: &Store, context: &Context, given: &Stateid, held: &Node) -> Resul
 /// Whether the state lets the bytes of a file be read or changed, as it is wanted.
 fn judge_seat(
     store: &Store,
-    context: &Context,
+    context: &Context<'_>,
     held: &Node,
     wanted: Share,
     seat: Seat,
@@ -89,7 +89,7 @@ fn judge_seat(
 #[tactic(auto, unfolding(crate::specs::Bytes::may_use))]
 fn may_use(
     store: &Store,
-    context: &Context,
+    context: &Context<'_>,
     wanted: Share,
     given: &Stateid,
     held: &Node,
@@ -104,7 +104,7 @@ fn may_use(
 #[tactic(auto, unfolding(crate::specs::Bytes::readable))]
 pub(crate) fn readable(
     store: &Store,
-    context: &Context,
+    context: &Context<'_>,
     given: &Stateid,
     held: Node,
 ) -> Result<Node, Status>
@@ -119,7 +119,7 @@ pub(crate) fn readable(
 #[tactic(auto, unfolding(crate::specs::Bytes::writable))]
 pub(crate) fn writable(
     store: &Store,
-    context: &Context,
+    context: &Context<'_>,
     given: &Stateid,
     held: Node,
 ) -> Result<Node, Status>

@@ -38,7 +38,7 @@ fn write_verifier(store: &Store) -> [u8; 8]
 }
 
 /// The file whose bytes are to last.
-fn judge_commit(store: &Store, context: &Context) -> Result<Node, Status>
+fn judge_commit(store: &Store, context: &Context<'_>) -> Result<Node, Status>
     ensures { result ≡ checked (check.current (state_of store.now) context.now) of_bytes.file_checks }
 {
     let held = current(store, context)?;
@@ -47,7 +47,7 @@ fn judge_commit(store: &Store, context: &Context) -> Result<Node, Status>
 
 /// COMMIT.
 #[tactic(auto, unfolding(crate::specs::Commit::commit))]
-pub(crate) fn commit(store: &Store, context: &Context) -> Res<'static>
+pub(crate) fn commit(store: &Store, context: &Context<'_>) -> Res<'static>
     ensures { outcome_of result (state_of store.now) context.now ≡ of_commit.commit (state_of store.now) context.now }
 {
     match judge_commit(store, context) {
@@ -58,7 +58,7 @@ pub(crate) fn commit(store: &Store, context: &Context) -> Res<'static>
 
 /// The file that is to be written.
 #[tactic(auto, unfolding(crate::specs::Bytes::writable))]
-fn judge_write(store: &Store, context: &Context, asked: &Write<'_>) -> Result<Node, Status>
+fn judge_write(store: &Store, context: &Context<'_>, asked: &Write<'_>) -> Result<Node, Status>
     ensures { result ≡ of_bytes.writable (state_of store.now) context.now (view_write asked.now).stateid (check.current (state_of store.now) context.now) }
 {
     let held = current(store, context)?;
@@ -81,7 +81,7 @@ fn write_ok(store: &Store, asked: &Write<'_>) -> WriteOk
 pub(crate) fn write_bytes(
     alloc: Global,
     store: &mut Store,
-    context: &Context,
+    context: &Context<'_>,
     asked: &Write<'_>,
     now: Time,
 ) -> Res<'static>
@@ -129,7 +129,7 @@ fn put_bytes(store: &Store, held: &Node, asked: &Read, out: &mut Sheet)
 
 /// The file that is to be read.
 #[tactic(auto, unfolding(crate::specs::Bytes::readable))]
-fn judge_read(store: &Store, context: &Context, asked: &Read) -> Result<Node, Status>
+fn judge_read(store: &Store, context: &Context<'_>, asked: &Read) -> Result<Node, Status>
     ensures { result ≡ of_bytes.readable (state_of store.now) context.now asked.now.stateid (check.current (state_of store.now) context.now) }
 {
     let held = current(store, context)?;
@@ -138,7 +138,7 @@ fn judge_read(store: &Store, context: &Context, asked: &Read) -> Result<Node, St
 
 /// READ.
 #[tactic(auto, unfolding(crate::specs::Read::read))]
-pub(crate) fn read(store: &Store, context: &Context, asked: &Read, out: &mut Sheet) -> Status
+pub(crate) fn read(store: &Store, context: &Context<'_>, asked: &Read, out: &mut Sheet) -> Status
     requires { length out.old.bytes + (16 + (given asked.now.count + padding (given asked.now.count))) ≤ out.old.room }
     ensures { Comes (of_read.read (state_of store.now) context.now asked.now) out.old out.new result (state_of store.now) context.now }
 {

@@ -21,7 +21,7 @@ const SPENT: Stateid = Stateid {
 };
 
 /// An open goes, and with its last open a file that no row names.
-fn close_open(store: &mut Store, context: &mut Context, target: Target) -> Res<'static>
+fn close_open(store: &mut Store, context: &mut Context<'_>, target: Target) -> Res<'static>
     requires { IsRooted store.old.tree }
     ensures { outcome_of result (state_of store.new) context.new ≡ of_close.closes (state_of store.old) context.old target }
 {
@@ -37,7 +37,7 @@ fn close_open(store: &mut Store, context: &mut Context, target: Target) -> Res<'
 
 /// CLOSE.
 #[tactic(auto, unfolding(crate::specs::Close::close))]
-pub(crate) fn close(store: &mut Store, context: &mut Context, asked: &Close) -> Res<'static>
+pub(crate) fn close(store: &mut Store, context: &mut Context<'_>, asked: &Close) -> Res<'static>
     requires { IsRooted store.old.tree }
     ensures { outcome_of result (state_of store.new) context.new ≡ of_close.close (state_of store.old) context.old asked.now }
 {
@@ -60,7 +60,7 @@ fn bits(number: u32) -> Share
 /// The open that is to have less.
 fn judge_downgrade(
     store: &Store,
-    context: &Context,
+    context: &Context<'_>,
     asked: &OpenDowngrade,
 ) -> Result<Target, Status>
     ensures { result ≡ of_downgrade.narrowing (state_of store.now) context.now asked.now }
@@ -79,7 +79,7 @@ fn judge_downgrade(
 /// An open has less access and denies less.
 fn narrow_open(
     store: &mut Store,
-    context: &mut Context,
+    context: &mut Context<'_>,
     asked: &OpenDowngrade,
     target: Target,
 ) -> Res<'static>
@@ -104,7 +104,7 @@ fn narrow_open(
 #[tactic(auto, unfolding(crate::specs::OpenDowngrade::open_downgrade))]
 pub(crate) fn open_downgrade(
     store: &mut Store,
-    context: &mut Context,
+    context: &mut Context<'_>,
     asked: &OpenDowngrade,
 ) -> Res<'static>
     ensures { outcome_of result (state_of store.new) context.new ≡ of_downgrade.open_downgrade (state_of store.old) context.old asked.now }

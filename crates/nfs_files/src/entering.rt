@@ -57,7 +57,7 @@ fn judge_room(tree: &Tree, found: &Found) -> Result<(), Status>
 }
 
 /// What is asked of the opens of a file.
-fn ask_for<'a>(context: &Context, asked: &Open<'a>, file: u64) -> Ask<'a>
+fn ask_for<'a>(context: &Context<'_>, asked: &Open<'a>, file: u64) -> Ask<'a>
     ensures { of_opens.asked result ≡ of_open.asking context.now (view_open asked.now) file }
 {
     Ask {
@@ -82,7 +82,7 @@ fn number_of(found: &Found) -> u64
 /// Whether it may be opened beside the other opens, and there is a place for it.
 fn judge_last(
     store: &Store,
-    context: &Context,
+    context: &Context<'_>,
     asked: &Open<'_>,
     found: &Found,
 ) -> Result<(), Status>
@@ -107,7 +107,7 @@ fn judge_last(
 }
 
 /// What is to be opened, if it may be.
-fn judge_whole(store: &Store, context: &Context, asked: &Open<'_>) -> Result<Found, Status>
+fn judge_whole(store: &Store, context: &Context<'_>, asked: &Open<'_>) -> Result<Found, Status>
     requires { IsStore (state_of store.now) }
     ensures { result ≡ checked (of_open.asked_for (state_of store.now) context.now (view_open asked.now)) (of_open.last_checks (state_of store.now) context.now (view_open asked.now)) }
 {
@@ -152,7 +152,7 @@ fn new_file(asked: &Open<'_>, wanted: &Wanted) -> New<'static>
 }
 
 /// What its attributes are, where nothing else is given.
-fn sets_of(context: &Context, now: Time, asked: &Open<'_>, wanted: &Wanted) -> Sets
+fn sets_of(context: &Context<'_>, now: Time, asked: &Open<'_>, wanted: &Wanted) -> Sets
     ensures { result ≡ of_open.sets_of context.now now (view_open asked.now) wanted.now }
 {
     let _ = &asked.openhow;
@@ -181,7 +181,7 @@ fn set_of(asked: &Open<'_>, found: &Found) -> AttrSet
 fn enter(
     alloc: Global,
     tree: &mut Tree,
-    context: &Context,
+    context: &Context<'_>,
     asked: &Open<'_>,
     found: &Found,
     now: Time,
@@ -210,7 +210,7 @@ fn enter(
 fn open_found(
     alloc: Global,
     store: &mut Store,
-    context: &mut Context,
+    context: &mut Context<'_>,
     asked: &Open<'_>,
     found: &Found,
     now: Time,
@@ -243,7 +243,7 @@ fn open_found(
 pub(crate) fn open_file(
     alloc: Global,
     store: &mut Store,
-    context: &mut Context,
+    context: &mut Context<'_>,
     asked: &Open<'_>,
     now: Time,
 ) -> Res<'static>

@@ -144,7 +144,12 @@ fn put_free(out: &mut Sheet) -> Status
 
 /// LOCKT.
 #[tactic(auto, unfolding(crate::specs::LockT::lock_t))]
-pub(crate) fn lock_t(store: &Store, context: &Context, asked: &LockT<'_>, out: &mut Sheet) -> Status
+pub(crate) fn lock_t(
+    store: &Store,
+    context: &Context<'_>,
+    asked: &LockT<'_>,
+    out: &mut Sheet,
+) -> Status
     requires { length out.old.bytes + 1064 ≤ out.old.room }
     ensures { Comes (of_lock_t.lock_t (state_of store.now) context.now (view_lock_t asked.now)) out.old out.new result (state_of store.now) context.now }
 {
@@ -168,7 +173,7 @@ fn stateid_in(locker: &Locker<'_>) -> Stateid
 }
 
 /// The bytes that are to be locked, and by which open or lock state.
-fn judge_lock(store: &Store, context: &Context, asked: &Lock<'_>) -> Result<Wished, Status>
+fn judge_lock(store: &Store, context: &Context<'_>, asked: &Lock<'_>) -> Result<Wished, Status>
     ensures wish { result ≡ of_lock.locking (state_of store.now) context.now (view_lock asked.now) }
     ensures order { IfOk result (λ k. k.wish.first ≤ k.wish.last) }
 {
@@ -208,7 +213,7 @@ fn lock_bytes(
 fn set_lock(
     alloc: Global,
     store: &mut Store,
-    context: &mut Context,
+    context: &mut Context<'_>,
     locker: &Locker<'_>,
     wished: &Wished,
     out: &mut Sheet,
@@ -234,7 +239,7 @@ fn set_lock(
 pub(crate) fn lock(
     alloc: Global,
     store: &mut Store,
-    context: &mut Context,
+    context: &mut Context<'_>,
     asked: &Lock<'_>,
     out: &mut Sheet,
 ) -> Status
@@ -248,7 +253,7 @@ pub(crate) fn lock(
 }
 
 /// The bytes that are to be given up, and by which lock state.
-fn judge_unlock(store: &Store, context: &Context, asked: &LockU) -> Result<Wished, Status>
+fn judge_unlock(store: &Store, context: &Context<'_>, asked: &LockU) -> Result<Wished, Status>
     ensures wish { result ≡ of_lock_u.unlocking (state_of store.now) context.now asked.now }
     ensures order { IfOk result (λ k. k.wish.first ≤ k.wish.last) }
 {
@@ -258,7 +263,12 @@ fn judge_unlock(store: &Store, context: &Context, asked: &LockU) -> Result<Wishe
 }
 
 /// Gives up bytes.
-fn give_up(alloc: Global, store: &mut Store, context: &mut Context, wished: &Wished) -> Res<'static>
+fn give_up(
+    alloc: Global,
+    store: &mut Store,
+    context: &mut Context<'_>,
+    wished: &Wished,
+) -> Res<'static>
     requires order { wished.now.wish.first ≤ wished.now.wish.last }
     ensures { outcome_of result (state_of store.new) context.new ≡ or_delay (not (is_whole wished.now.wish.first wished.now.wish.last) && is_delay (status_of_result (view.res result))) (state_of store.old) context.old Op.LockU (of_lock_u.unlocks (state_of store.old) context.old wished.now) }
 {
@@ -285,7 +295,7 @@ fn give_up(alloc: Global, store: &mut Store, context: &mut Context, wished: &Wis
 pub(crate) fn lock_u(
     alloc: Global,
     store: &mut Store,
-    context: &mut Context,
+    context: &mut Context<'_>,
     asked: &LockU,
 ) -> Res<'static>
     ensures { outcome_of result (state_of store.new) context.new ≡ or_delay (of_lock_u.wants_memory asked.now && is_delay (status_of_result (view.res result))) (state_of store.old) context.old Op.LockU (of_lock_u.lock_u (state_of store.old) context.old asked.now) }

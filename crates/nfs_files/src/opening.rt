@@ -210,7 +210,7 @@ fn judge_arguments(asked: &Open<'_>, held: Node) -> Result<Node, Status>
 }
 
 /// The directory in which the name is looked for.
-fn judge_place(context: &Context, asked: &Open<'_>, held: Node) -> Result<Node, Status>
+fn judge_place(context: &Context<'_>, asked: &Open<'_>, held: Node) -> Result<Node, Status>
     ensures { result ≡ checked (Ok held) (of_open.place_checks context.now (view_open asked.now)) }
 {
     if !held.object.kind.is_directory() {
@@ -233,7 +233,7 @@ fn is_too_big(size: Option<u64>) -> bool
 }
 
 /// What is to be made where, if it may be.
-fn judge_absent(context: &Context, asked: &Open<'_>, making: Making) -> Result<Making, Status>
+fn judge_absent(context: &Context<'_>, asked: &Open<'_>, making: Making) -> Result<Making, Status>
     ensures { result ≡ checked (Ok making) (of_open.absent_checks context.now (view_open asked.now)) }
 {
     if !creates(&asked.openhow) {
@@ -263,7 +263,7 @@ fn was_made_by(verifier: Option<[u8; 8]>, made: Option<[u8; 8]>) -> bool
 }
 
 /// The object that is there, if it may be opened.
-fn judge_there(context: &Context, asked: &Open<'_>, file: Node) -> Result<Node, Status>
+fn judge_there(context: &Context<'_>, asked: &Open<'_>, file: Node) -> Result<Node, Status>
     ensures { result ≡ checked (Ok file) (of_open.there_checks context.now (view_open asked.now)) }
 {
     if is_guarded(&asked.openhow) {
@@ -288,7 +288,7 @@ fn cuts(asked: &Open<'_>, wanted: &Wanted) -> bool
 
 fn found_by(
     store: &Store,
-    context: &Context,
+    context: &Context<'_>,
     asked: &Open<'_>,
     making: Making,
     number: Option<u64>,
@@ -313,7 +313,12 @@ fn found_by(
 }
 
 /// What stands under the name in a directory.
-fn by_name(store: &Store, context: &Context, asked: &Open<'_>, held: Node) -> Result<Found, Status>
+fn by_name(
+    store: &Store,
+    context: &Context<'_>,
+    asked: &Open<'_>,
+    held: Node,
+) -> Result<Found, Status>
     ensures { result ≡ of_open.by_name (state_of store.now) context.now (view_open asked.now) (Ok held) }
 {
     let place = judge_place(context, asked, held)?;
@@ -326,7 +331,7 @@ fn by_name(store: &Store, context: &Context, asked: &Open<'_>, held: Node) -> Re
 }
 
 /// The current filehandle's file itself.
-fn by_handle(context: &Context, asked: &Open<'_>, held: Node) -> Result<Found, Status>
+fn by_handle(context: &Context<'_>, asked: &Open<'_>, held: Node) -> Result<Found, Status>
     ensures { result ≡ of_open.by_handle context.now (view_open asked.now) (Ok held) }
 {
     let file = judge_there(context, asked, held)?;
@@ -339,7 +344,7 @@ fn by_handle(context: &Context, asked: &Open<'_>, held: Node) -> Result<Found, S
 
 /// What is to be opened.
 #[tactic(auto, unfolding(crate::specs::Open::asked_for))]
-pub(crate) fn judge(store: &Store, context: &Context, asked: &Open<'_>) -> Result<Found, Status>
+pub(crate) fn judge(store: &Store, context: &Context<'_>, asked: &Open<'_>) -> Result<Found, Status>
     ensures { result ≡ of_open.asked_for (state_of store.now) context.now (view_open asked.now) }
 {
     let held = current(store, context)?;

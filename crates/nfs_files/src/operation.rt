@@ -48,7 +48,7 @@ pub fn is_on_files(arg: &Arg<'_>) -> bool
 fn plain_op(
     alloc: Global,
     store: &mut Store,
-    context: &mut Context,
+    context: &mut Context<'_>,
     arg: &Arg<'_>,
     now: Time,
 ) -> Res<'static>
@@ -77,7 +77,7 @@ fn plain_op(
 pub fn file_op(
     alloc: Global,
     store: &mut Store,
-    context: &mut Context,
+    context: &mut Context<'_>,
     arg: &Arg<'_>,
     now: u64,
     out: &mut Sheet,

@@ -56,7 +56,7 @@ fn kind_of(how: LockType) -> Kind
 #[tactic(auto, unfolding(crate::specs::Ranges::wished))]
 pub(crate) fn wish_for(
     store: &Store,
-    context: &Context,
+    context: &Context<'_>,
     how: LockType,
     offset: u64,
     length: u64,

@@ -32,7 +32,11 @@ pub(crate) struct Setting {
 }
 
 /// What is to be set of which object, where the caller may.
-fn judge_setting(store: &Store, context: &Context, asked: &SetAttr<'_>) -> Result<Setting, Status>
+fn judge_setting(
+    store: &Store,
+    context: &Context<'_>,
+    asked: &SetAttr<'_>,
+) -> Result<Setting, Status>
     ensures { result ≡ checked (of_set_attr.with_wanted (check.current (state_of store.now) context.now) (of_create.wanted_of (view_set_attr asked.now).obj_attributes)) (of_set_attr.owner_checks context.now) }
 {
     let held = current(store, context)?;
@@ -47,7 +51,7 @@ fn judge_setting(store: &Store, context: &Context, asked: &SetAttr<'_>) -> Resul
 /// The object, where it can have a size by the stateid if one is to be set.
 fn judge_sized(
     store: &Store,
-    context: &Context,
+    context: &Context<'_>,
     given: &Stateid,
     setting: &Setting,
 ) -> Result<Node, Status>
@@ -60,7 +64,7 @@ fn judge_sized(
 }
 
 #[tactic(auto, unfolding(crate::specs::SetAttr::asked_for))]
-fn judge(store: &Store, context: &Context, asked: &SetAttr<'_>) -> Result<Setting, Status>
+fn judge(store: &Store, context: &Context<'_>, asked: &SetAttr<'_>) -> Result<Setting, Status>
     ensures { result ≡ of_set_attr.asked_for (state_of store.now) context.now (view_set_attr asked.now) }
 {
     let setting = judge_setting(store, context, asked)?;
@@ -112,7 +116,7 @@ fn change(alloc: Global, tree: &mut Tree, setting: &Setting, now: Time) -> Resul
 pub(crate) fn set_attr(
     alloc: Global,
     store: &mut Store,
-    context: &Context,
+    context: &Context<'_>,
     asked: &SetAttr<'_>,
     now: Time,
 ) -> Res<'static>

@@ -47,7 +47,7 @@ pub(crate) fn wire_id(id: StateId) -> Stateid
 ///
 /// BAD_STATEID where it is to be the current one and that is special.
 pub(crate) fn meant(
-    context: &Context,
+    context: &Context<'_>,
     form: CurrentSeqid,
     given: &Stateid,
 ) -> Result<StateId, Status>
@@ -57,7 +57,7 @@ pub(crate) fn meant(
 }
 
 /// The stateid that is to be freed.
-fn free_id(store: &mut Store, context: &Context, id: StateId) -> Res<'static>
+fn free_id(store: &mut Store, context: &Context<'_>, id: StateId) -> Res<'static>
     ensures { outcome_of result (state_of store.new) context.now ≡ of_free.frees (state_of store.old) context.now id }
 {
     match store.opens.free(id, context.client) {
@@ -68,7 +68,11 @@ fn free_id(store: &mut Store, context: &Context, id: StateId) -> Res<'static>
 
 /// FREE_STATEID.
 #[tactic(auto, unfolding(crate::specs::FreeStateid::free_stateid))]
-pub(crate) fn free_stateid(store: &mut Store, context: &Context, given: &Stateid) -> Res<'static>
+pub(crate) fn free_stateid(
+    store: &mut Store,
+    context: &Context<'_>,
+    given: &Stateid,
+) -> Res<'static>
     ensures { outcome_of result (state_of store.new) context.now ≡ of_free.free_stateid (state_of store.old) context.now given.now }
 {
     match meant(context, CurrentSeqid::Any, given) {
@@ -91,7 +95,7 @@ fn status_of(judged: Result<Seat, Status>) -> Status
 }
 
 /// Whether a stateid names a state of the client. The one that stands for the current stateid elsewhere names none.
-fn tested(store: &Store, context: &Context, id: StateId) -> Status
+fn tested(store: &Store, context: &Context<'_>, id: StateId) -> Status
     ensures { result ≡ of_test.tested (state_of store.now) context.now id }
 {
     match id.resolve(StateId::ANONYMOUS, CurrentSeqid::Any) {
@@ -102,14 +106,14 @@ fn tested(store: &Store, context: &Context, id: StateId) -> Status
 
 /// The number of its status.
 #[tactic(auto, unfolding(crate::specs::TestStateid::code))]
-fn code(store: &Store, context: &Context, given: &Stateid) -> u32
+fn code(store: &Store, context: &Context<'_>, given: &Stateid) -> u32
     ensures { result ≡ of_test.code (state_of store.now) context.now given.now }
 {
     tested(store, context, state_id(given)).number()
 }
 
 /// Puts the number of the status of each stateid.
-fn put_codes(store: &Store, context: &Context, given: &Stateids<'_>, out: &mut Sheet)
+fn put_codes(store: &Store, context: &Context<'_>, given: &Stateids<'_>, out: &mut Sheet)
     requires { length out.old.bytes + 4 * length given.now.spelled.now ≤ out.old.room }
     ensures { Puts out.old out.new (flat_map number (map (of_test.code (state_of store.now) context.now) (view_stateids given.now))) }
 {
@@ -129,7 +133,7 @@ fn count_of(given: &Stateids<'_>) -> u32
 #[tactic(auto, unfolding(crate::specs::TestStateid::test_stateid))]
 pub(crate) fn test_stateid(
     store: &Store,
-    context: &Context,
+    context: &Context<'_>,
     given: &Stateids<'_>,
     out: &mut Sheet,
 ) -> Status

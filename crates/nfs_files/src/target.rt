@@ -22,7 +22,7 @@ pub(crate) struct Target {
 
 /// The current filehandle's object: ISDIR where it is a directory, SYMLINK where it is a symbolic link.
 #[tactic(auto, unfolding(crate::specs::Target::the_file))]
-pub(crate) fn the_file(store: &Store, context: &Context) -> Result<Node, Status>
+pub(crate) fn the_file(store: &Store, context: &Context<'_>) -> Result<Node, Status>
     ensures { result ≡ the_file (state_of store.now) context.now }
 {
     let held = current(store, context)?;
@@ -33,7 +33,7 @@ pub(crate) fn the_file(store: &Store, context: &Context) -> Result<Node, Status>
 #[tactic(auto, unfolding(crate::specs::Target::target))]
 pub(crate) fn target_for(
     store: &Store,
-    context: &Context,
+    context: &Context<'_>,
     form: CurrentSeqid,
     given: &Stateid,
 ) -> Result<Target, Status>

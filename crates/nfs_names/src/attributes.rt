@@ -52,7 +52,7 @@ pub(crate) fn about(store: &Store, held: &Node) -> About
 
 /// ACCESS.
 #[tactic(auto, unfolding(crate::specs::Access::access))]
-pub(crate) fn access(store: &Store, context: &Context, asked: u32) -> Res<'static>
+pub(crate) fn access(store: &Store, context: &Context<'_>, asked: u32) -> Res<'static>
     ensures { outcome_of result (state_of store.now) context.now ≡ of_access.access (state_of store.now) context.now asked }
 {
     match current(store, context) {
@@ -68,7 +68,7 @@ pub(crate) fn access(store: &Store, context: &Context, asked: u32) -> Res<'stati
 }
 
 /// The object whose attributes are asked for: those that can only be set are not reported.
-fn judge_mask(store: &Store, context: &Context, mask: &Bitmap<'_>) -> Result<Node, Status>
+fn judge_mask(store: &Store, context: &Context<'_>, mask: &Bitmap<'_>) -> Result<Node, Status>
     ensures { result ≡ checked (check.current (state_of store.now) context.now) (of_get_attr.mask_checks (view_bitmap mask.now)) }
 {
     let d = current(store, context)?;
@@ -79,7 +79,7 @@ fn judge_mask(store: &Store, context: &Context, mask: &Bitmap<'_>) -> Result<Nod
 }
 
 /// Whether the attributes of the current object are those that are given.
-fn compare(store: &Store, context: &Context, given: &Attributes<'_>) -> Result<bool, Status>
+fn compare(store: &Store, context: &Context<'_>, given: &Attributes<'_>) -> Result<bool, Status>
     ensures { result ≡ of_verify.compared (state_of store.now) (view_attributes given.now) (check.current (state_of store.now) context.now) }
 {
     let d = current(store, context)?;
@@ -99,7 +99,7 @@ fn same_at(store: &Store, held: &Node, given: &Attributes<'_>) -> Result<bool, A
 
 /// VERIFY.
 #[tactic(auto, unfolding(crate::specs::Verify::verify))]
-pub(crate) fn verify(store: &Store, context: &Context, given: &Attributes<'_>) -> Res<'static>
+pub(crate) fn verify(store: &Store, context: &Context<'_>, given: &Attributes<'_>) -> Res<'static>
     ensures { outcome_of result (state_of store.now) context.now ≡ of_verify.verify (state_of store.now) context.now (view_attributes given.now) }
 {
     match compare(store, context, given) {
@@ -111,7 +111,7 @@ pub(crate) fn verify(store: &Store, context: &Context, given: &Attributes<'_>) -
 
 /// NVERIFY.
 #[tactic(auto, unfolding(crate::specs::NVerify::nverify))]
-pub(crate) fn nverify(store: &Store, context: &Context, given: &Attributes<'_>) -> Res<'static>
+pub(crate) fn nverify(store: &Store, context: &Context<'_>, given: &Attributes<'_>) -> Res<'static>
     ensures { outcome_of result (state_of store.now) context.now ≡ of_nverify.nverify (state_of store.now) context.now (view_attributes given.now) }
 {
     match compare(store, context, given) {
@@ -134,7 +134,7 @@ fn put_attributes(store: &Store, held: &Node, asked: Mask, out: &mut Sheet)
 #[tactic(auto, unfolding(crate::specs::GetAttr::get_attr))]
 pub(crate) fn get_attr(
     store: &Store,
-    context: &Context,
+    context: &Context<'_>,
     asked: &Bitmap<'_>,
     out: &mut Sheet,
 ) -> Status
@@ -161,7 +161,7 @@ fn put_handle(handle: &Handle, out: &mut Sheet)
 
 /// GETFH.
 #[tactic(auto, unfolding(crate::specs::GetFh::get_fh))]
-pub(crate) fn get_fh(store: &Store, context: &Context, out: &mut Sheet) -> Status
+pub(crate) fn get_fh(store: &Store, context: &Context<'_>, out: &mut Sheet) -> Status
     requires { length out.old.bytes + 28 ≤ out.old.room }
     ensures { Comes (of_get_fh.get_fh (state_of store.now) context.now) out.old out.new result (state_of store.now) context.now }
 {

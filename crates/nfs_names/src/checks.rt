@@ -67,7 +67,7 @@ fn saved_object(saved: Option<Saved>) -> Option<u64>
 
 /// The object of the current filehandle: NOFILEHANDLE where there is none, STALE where its object is gone.
 #[tactic(auto, unfolding(crate::specs::Checks::current))]
-pub fn current(store: &Store, context: &Context) -> Result<Node, Status>
+pub fn current(store: &Store, context: &Context<'_>) -> Result<Node, Status>
     ensures { result ≡ current (state_of store.now) context.now }
 {
     held(store, context.current)
@@ -75,7 +75,7 @@ pub fn current(store: &Store, context: &Context) -> Result<Node, Status>
 
 /// The objects of the current filehandle and of the saved one.
 #[tactic(auto, unfolding(crate::specs::Checks::both, crate::specs::Checks::current))]
-pub(crate) fn both(store: &Store, context: &Context) -> Result<Pair, Status>
+pub(crate) fn both(store: &Store, context: &Context<'_>) -> Result<Pair, Status>
     ensures { result ≡ both (state_of store.now) context.now }
 {
     let current = held(store, context.current)?;
@@ -92,7 +92,7 @@ pub(crate) fn is_there(store: &Store, number: u64) -> bool
 
 /// Whether the permission bits let the caller do it.
 #[tactic(auto, unfolding(crate::specs::Checks::permits))]
-pub fn permits(context: &Context, held: &Node, want: Want) -> bool
+pub fn permits(context: &Context<'_>, held: &Node, want: Want) -> bool
     ensures { result ≡ permits context.now held.now want }
 {
     may(&held.object, context.who.who(), want)

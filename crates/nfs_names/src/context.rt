@@ -17,13 +17,13 @@ pub struct Saved {
     pub stateid: Stateid,
 }
 
-/// Who calls. Contracts see the caller, without the places for groups that are not named.
+/// Who calls. Contracts see the caller, its groups as numbers.
 #[derive(Drop)]
-pub struct Caller {
-    who: Who,
+pub struct Caller<'a> {
+    who: Who<'a>,
 }
 
-impl Model for Caller {
+impl<'a> Model for Caller<'a> {
     ghost use Rattle.nfs_xdr.specs.Caller.{Caller, caller};
 
     ghost Value = { Caller };
@@ -31,9 +31,9 @@ impl Model for Caller {
     ghost view = { λ c. caller c.who };
 }
 
-impl Caller {
+impl<'a> Caller<'a> {
     /// The caller, as permission bits are judged by.
-    pub fn who(&self) -> &Who
+    pub fn who(&self) -> &Who<'a>
         ensures { caller result.now ≡ self.now }
     {
         &self.who
@@ -42,7 +42,7 @@ impl Caller {
 
 /// What stands between two operations of a compound, and for whom they run.
 #[derive(Drop)]
-pub struct Context {
+pub struct Context<'a> {
     /// The number of the current filehandle's object, which may have gone.
     pub current: Option<u64>,
     /// The current stateid.
@@ -52,7 +52,7 @@ pub struct Context {
     /// The client of the session.
     pub client: u64,
     /// Who calls.
-    pub who: Caller,
+    pub who: Caller<'a>,
 }
 
 /// The anonymous stateid: all zeros (RFC 8881 section 8.2.3).
@@ -61,9 +61,9 @@ const ANONYMOUS: Stateid = Stateid {
     other: [0; 12],
 };
 
-impl Context {
+impl<'a> Context<'a> {
     /// The context in which the first operation behind a SEQUENCE runs: no filehandle, and the anonymous stateid.
-    pub fn new(client: u64, who: &Who) -> Context
+    pub fn new(client: u64, who: &Who<'a>) -> Context<'a>
         ensures { result ≡ begins client (caller who.now) }
     {
         Context {

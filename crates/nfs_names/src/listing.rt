@@ -33,7 +33,7 @@ use nfs_tree::{Entry, Tree};
 use nfs_xdr::{Sheet, Status};
 
 /// The symbolic link that is to be read.
-fn judge_link(store: &Store, context: &Context) -> Result<Node, Status>
+fn judge_link(store: &Store, context: &Context<'_>) -> Result<Node, Status>
     ensures { result ≡ checked (check.current (state_of store.now) context.now) of_read_link.link_only }
 {
     let d = current(store, context)?;
@@ -54,7 +54,7 @@ fn put_text(tree: &Tree, number: u64, out: &mut Sheet)
 
 /// READLINK.
 #[tactic(auto, unfolding(crate::specs::ReadLink::read_link))]
-pub(crate) fn read_link(store: &Store, context: &Context, out: &mut Sheet) -> Status
+pub(crate) fn read_link(store: &Store, context: &Context<'_>, out: &mut Sheet) -> Status
     requires { length out.old.bytes + 1036 ≤ out.old.room }
     ensures { Comes (of_read_link.read_link (state_of store.now) context.now) out.old out.new result (state_of store.now) context.now }
 {
@@ -80,7 +80,7 @@ fn given(count: u32) -> usize
 }
 
 /// The directory that is to be listed.
-fn judge_listing(store: &Store, context: &Context, asked: &ReadDir<'_>) -> Result<Node, Status>
+fn judge_listing(store: &Store, context: &Context<'_>, asked: &ReadDir<'_>) -> Result<Node, Status>
     ensures { result ≡ checked (check.current (state_of store.now) context.now) (of_read_dir.listing_checks context.now (view_read_dir asked.now)) }
 {
     let d = current(store, context)?;
@@ -178,7 +178,7 @@ fn put_listing(store: &Store, place: &Node, asked: &ReadDir<'_>, out: &mut Sheet
 #[tactic(auto, unfolding(crate::specs::ReadDir::read_dir))]
 pub(crate) fn read_dir(
     store: &Store,
-    context: &Context,
+    context: &Context<'_>,
     asked: &ReadDir<'_>,
     out: &mut Sheet,
 ) -> Status

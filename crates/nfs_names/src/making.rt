@@ -95,7 +95,7 @@ fn plain_mode(new: &New<'_>) -> u32
 }
 
 /// The directory in which an object is to be made, where its type and its name may be.
-fn judge_place(store: &Store, context: &Context, asked: &Create<'_>) -> Result<Node, Status>
+fn judge_place(store: &Store, context: &Context<'_>, asked: &Create<'_>) -> Result<Node, Status>
     ensures { result ≡ checked (check.current (state_of store.now) context.now) (of_create.place_checks context.now (view_create asked.now)) }
 {
     let d = current(store, context)?;
@@ -138,7 +138,7 @@ pub fn time_of(time: Option<SetTime>, now: Time) -> Option<Time>
 }
 
 /// What a new object's attributes are, where nothing else is given.
-fn sets_of(context: &Context, now: Time, new: &New<'_>, wanted: &Wanted) -> Sets
+fn sets_of(context: &Context<'_>, now: Time, new: &New<'_>, wanted: &Wanted) -> Sets
     ensures { result ≡ of_create.sets_of context.now now (new_of new.now) wanted.now }
 {
     Sets {
@@ -162,7 +162,7 @@ pub fn change_info(change: Change) -> ChangeInfo
 }
 
 /// What is to be made where, if the caller may.
-fn judge_making(store: &Store, context: &Context, asked: &Create<'_>) -> Result<Making, Status>
+fn judge_making(store: &Store, context: &Context<'_>, asked: &Create<'_>) -> Result<Making, Status>
     ensures { result ≡ of_create.asked_for (state_of store.now) context.now (view_create asked.now) }
 {
     let place = judge_place(store, context, asked)?;
@@ -200,7 +200,7 @@ pub fn status_of(fault: TreeFault) -> Status
 pub(crate) fn create(
     alloc: Global,
     store: &mut Store,
-    context: &mut Context,
+    context: &mut Context<'_>,
     asked: &Create<'_>,
     now: Time,
 ) -> Res<'static>
@@ -251,7 +251,7 @@ fn create_ok(created: &Created, given: &Mask) -> CreateOk
 }
 
 /// The directory and the object that is to get one more name.
-fn judge_link(store: &Store, context: &Context, name: &[u8]) -> Result<Pair, Status>
+fn judge_link(store: &Store, context: &Context<'_>, name: &[u8]) -> Result<Pair, Status>
     ensures { result ≡ checked (check.both (state_of store.now) context.now) (of_link.place_checks context.now name.now) }
 {
     let p = both(store, context)?;
@@ -272,7 +272,7 @@ fn judge_link(store: &Store, context: &Context, name: &[u8]) -> Result<Pair, Sta
 pub(crate) fn link(
     alloc: Global,
     store: &mut Store,
-    context: &Context,
+    context: &Context<'_>,
     name: &[u8],
     now: Time,
 ) -> Res<'static>
@@ -302,7 +302,7 @@ fn drop_replaced(store: &mut Store, replaced: Option<u64>)
 }
 
 /// The directory of a name that is to go.
-fn judge_remove(store: &Store, context: &Context, name: &[u8]) -> Result<Node, Status>
+fn judge_remove(store: &Store, context: &Context<'_>, name: &[u8]) -> Result<Node, Status>
     ensures { result ≡ checked (check.current (state_of store.now) context.now) (of_remove.place_checks context.now name.now) }
 {
     let d = current(store, context)?;
@@ -317,7 +317,12 @@ fn judge_remove(store: &Store, context: &Context, name: &[u8]) -> Result<Node, S
 }
 
 /// REMOVE.
-pub(crate) fn remove(store: &mut Store, context: &Context, name: &[u8], now: Time) -> Res<'static>
+pub(crate) fn remove(
+    store: &mut Store,
+    context: &Context<'_>,
+    name: &[u8],
+    now: Time,
+) -> Res<'static>
     ensures { outcome_of result (state_of store.new) context.now ≡ of_remove.remove (state_of store.old) context.now now name.now }
 {
     match judge_remove(store, context, name) {
@@ -333,7 +338,7 @@ pub(crate) fn remove(store: &mut Store, context: &Context, name: &[u8], now: Tim
 }
 
 /// The two directories of an entry that is to move.
-fn judge_rename(store: &Store, context: &Context, asked: &Rename<'_>) -> Result<Pair, Status>
+fn judge_rename(store: &Store, context: &Context<'_>, asked: &Rename<'_>) -> Result<Pair, Status>
     ensures { result ≡ checked (check.both (state_of store.now) context.now) (of_rename.place_checks context.now (view_rename asked.now)) }
 {
     let p = both(store, context)?;
@@ -358,7 +363,7 @@ fn judge_rename(store: &Store, context: &Context, asked: &Rename<'_>) -> Result<
 pub(crate) fn rename(
     alloc: Global,
     store: &mut Store,
-    context: &Context,
+    context: &Context<'_>,
     asked: &Rename<'_>,
     now: Time,
 ) -> Res<'static>

@@ -67,7 +67,7 @@ pub fn is_on_names(arg: &Arg<'_>) -> bool
 fn plain_op(
     alloc: Global,
     store: &mut Store,
-    context: &mut Context,
+    context: &mut Context<'_>,
     arg: &Arg<'_>,
     now: Time,
 ) -> Res<'static>
@@ -103,7 +103,7 @@ fn plain_op(
 pub fn name_op(
     alloc: Global,
     store: &mut Store,
-    context: &mut Context,
+    context: &mut Context<'_>,
     arg: &Arg<'_>,
     now: u64,
     out: &mut Sheet,

@@ -20,11 +20,10 @@ const START: Time = Time {
 };
 
 /// The user whom no permission bits keep out.
-const USER: Who = Who {
+const USER: Who<'static> = Who {
     uid: 0,
     gid: 0,
-    count: 0,
-    gids: [0; 16],
+    groups: &[],
 };
 
 const NOTHING: Attributes<'static> = Attributes {
@@ -61,7 +60,7 @@ enum Step {
 #[derive(Drop)]
 struct Desk {
     store: Store,
-    context: Context,
+    context: Context<'static>,
     out: Sheet,
 }
 

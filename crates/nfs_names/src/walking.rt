@@ -31,7 +31,7 @@ use nfs_xdr::Status;
 const AUTH_SYS: [[u8; 4]; 1] = [[0, 0, 0, 1]];
 
 /// The object of a name in the current directory.
-fn find(store: &Store, context: &Context, name: &[u8]) -> Result<u64, Status>
+fn find(store: &Store, context: &Context<'_>, name: &[u8]) -> Result<u64, Status>
     ensures { result ≡ mapped (λ d. named store.now.tree d.number name.now) (checked (check.current (state_of store.now) context.now) (of_lookup.lookup_checks (state_of store.now) context.now name.now)) }
 {
     let d = current(store, context)?;
@@ -53,7 +53,7 @@ fn find(store: &Store, context: &Context, name: &[u8]) -> Result<u64, Status>
 
 /// LOOKUP.
 #[tactic(auto, unfolding(crate::specs::Lookup::lookup))]
-pub(crate) fn lookup(store: &Store, context: &mut Context, name: &[u8]) -> Res<'static>
+pub(crate) fn lookup(store: &Store, context: &mut Context<'_>, name: &[u8]) -> Res<'static>
     ensures { outcome_of result (state_of store.now) context.new ≡ of_lookup.lookup (state_of store.now) context.old name.now }
 {
     match find(store, context, name) {
@@ -66,7 +66,7 @@ pub(crate) fn lookup(store: &Store, context: &mut Context, name: &[u8]) -> Res<'
 }
 
 /// The directory in which the current one stands.
-fn find_parent(store: &Store, context: &Context) -> Result<u64, Status>
+fn find_parent(store: &Store, context: &Context<'_>) -> Result<u64, Status>
     ensures { result ≡ mapped (check.parent (state_of store.now)) (checked (check.current (state_of store.now) context.now) (of_lookup_p.lookup_p_checks (state_of store.now) context.now)) }
 {
     let d = current(store, context)?;
@@ -84,7 +84,7 @@ fn find_parent(store: &Store, context: &Context) -> Result<u64, Status>
 
 /// LOOKUPP.
 #[tactic(auto, unfolding(crate::specs::LookupP::lookup_p))]
-pub(crate) fn lookup_p(store: &Store, context: &mut Context) -> Res<'static>
+pub(crate) fn lookup_p(store: &Store, context: &mut Context<'_>) -> Res<'static>
     ensures { outcome_of result (state_of store.now) context.new ≡ of_lookup_p.lookup_p (state_of store.now) context.old }
 {
     match find_parent(store, context) {
@@ -114,7 +114,7 @@ fn read_handle(store: &Store, object: &[u8]) -> Result<Handle, Status>
 
 /// PUTFH.
 #[tactic(auto, unfolding(crate::specs::PutFh::put_fh))]
-pub(crate) fn put_fh(store: &Store, context: &mut Context, object: &[u8]) -> Res<'static>
+pub(crate) fn put_fh(store: &Store, context: &mut Context<'_>, object: &[u8]) -> Res<'static>
     ensures { outcome_of result (state_of store.now) context.new ≡ of_put_fh.put_fh (state_of store.now) context.old object.now }
 {
     match read_handle(store, object) {
@@ -128,7 +128,7 @@ pub(crate) fn put_fh(store: &Store, context: &mut Context, object: &[u8]) -> Res
 
 /// PUTPUBFH.
 #[tactic(auto, unfolding(crate::specs::PutPubFh::put_pub_fh))]
-pub(crate) fn put_pub_fh(store: &Store, context: &mut Context) -> Res<'static>
+pub(crate) fn put_pub_fh(store: &Store, context: &mut Context<'_>) -> Res<'static>
     ensures { outcome_of result (state_of store.now) context.new ≡ of_put_pub_fh.put_pub_fh (state_of store.now) context.old }
 {
     let _ = &store.tree;
@@ -138,7 +138,7 @@ pub(crate) fn put_pub_fh(store: &Store, context: &mut Context) -> Res<'static>
 
 /// PUTROOTFH.
 #[tactic(auto, unfolding(crate::specs::PutRootFh::put_root_fh))]
-pub(crate) fn put_root_fh(store: &Store, context: &mut Context) -> Res<'static>
+pub(crate) fn put_root_fh(store: &Store, context: &mut Context<'_>) -> Res<'static>
     ensures { outcome_of result (state_of store.now) context.new ≡ of_put_root_fh.put_root_fh (state_of store.now) context.old }
 {
     let _ = &store.tree;
@@ -147,7 +147,7 @@ pub(crate) fn put_root_fh(store: &Store, context: &mut Context) -> Res<'static>
 }
 
 /// The saved filehandle, whose object is there.
-fn saved(store: &Store, context: &Context) -> Result<Saved, Status>
+fn saved(store: &Store, context: &Context<'_>) -> Result<Saved, Status>
     ensures { result ≡ checked (of_restore_fh.or_none context.now.saved) (of_restore_fh.saved_checks (state_of store.now)) }
 {
     let Some(saved) = context.saved else {
@@ -161,7 +161,7 @@ fn saved(store: &Store, context: &Context) -> Result<Saved, Status>
 
 /// RESTOREFH.
 #[tactic(auto, unfolding(crate::specs::RestoreFh::restore_fh))]
-pub(crate) fn restore_fh(store: &Store, context: &mut Context) -> Res<'static>
+pub(crate) fn restore_fh(store: &Store, context: &mut Context<'_>) -> Res<'static>
     ensures { outcome_of result (state_of store.now) context.new ≡ of_restore_fh.restore_fh (state_of store.now) context.old }
 {
     match saved(store, context) {
@@ -176,7 +176,7 @@ pub(crate) fn restore_fh(store: &Store, context: &mut Context) -> Res<'static>
 
 /// SAVEFH.
 #[tactic(auto, unfolding(crate::specs::SaveFh::save_fh))]
-pub(crate) fn save_fh(store: &Store, context: &mut Context) -> Res<'static>
+pub(crate) fn save_fh(store: &Store, context: &mut Context<'_>) -> Res<'static>
     ensures { outcome_of result (state_of store.now) context.new ≡ of_save_fh.save_fh (state_of store.now) context.old }
 {
     match current(store, context) {
@@ -192,7 +192,7 @@ pub(crate) fn save_fh(store: &Store, context: &mut Context) -> Res<'static>
 }
 
 /// The object whose flavours are asked for, or in whose directory.
-fn judge_style(store: &Store, context: &Context, style: SecinfoStyle) -> Result<Node, Status>
+fn judge_style(store: &Store, context: &Context<'_>, style: SecinfoStyle) -> Result<Node, Status>
     ensures { result ≡ checked (check.current (state_of store.now) context.now) (of_secinfo.style_checks (state_of store.now) style) }
 {
     let d = current(store, context)?;
@@ -214,7 +214,7 @@ fn judge_style(store: &Store, context: &Context, style: SecinfoStyle) -> Result<
 #[tactic(auto, unfolding(crate::specs::SecinfoNoName::secinfo_no_name))]
 pub(crate) fn secinfo_no_name(
     store: &Store,
-    context: &mut Context,
+    context: &mut Context<'_>,
     style: SecinfoStyle,
 ) -> Res<'static>
     ensures { outcome_of result (state_of store.now) context.new ≡ of_secinfo.secinfo_no_name (state_of store.now) context.old style }

@@ -9,7 +9,7 @@ pub struct Call<'a> {
     /// What is called.
     pub procedure: Procedure,
     /// Who calls.
-    pub who: Who,
+    pub who: Who<'a>,
     /// The procedure's arguments, lent from the record.
     pub args: &'a [u8],
 }

@@ -1,4 +1,4 @@
-ghost use Rattle.std.specs.Prelude.{◌≡◌, ◌≤◌, IfOk, MatchResult, Some, None, Ok, Err};
+ghost use Rattle.std.specs.Prelude.{◌≡◌, ◌≤◌, length, IfOk, MatchResult, Some, None, Ok, Err};
 ghost use Rattle.nfs_xdr.specs.Reading.{ReadsPartBy};
 ghost use Rattle.nfs_xdr.specs.Checks.{first_fault};
 ghost use Rattle.nfs_xdr.specs.Caller as calling;
@@ -44,7 +44,7 @@ impl<'a> Call<'a> {
     /// 7. `Accept`: `GarbageArgs` for NULL with arguments. The arguments of COMPOUND are not looked at.
     pub fn read(bytes: &'a [u8]) -> Result<Call<'a>, Refusal>
         ensures called { IsCalled result (call_of bytes.now) }
-        ensures groups { IfOk result (λ c. c.who.count ≤ 16) }
+        ensures groups { IfOk result (λ c. length c.who.groups.now ≤ 16) }
     {
         let mut c = Cursor::new(bytes);
         let xid = start(&mut c)?;
@@ -109,7 +109,7 @@ fn opaque_auth<'a>(c: &mut Cursor<'a>) -> Result<OpaqueAuth<'a>, Unreadable>
 #[tactic(auto, unfolding(crate::specs::CallHead::behind_header))]
 fn judge<'a>(xid: u32, header: &Header<'a>, args: &'a [u8]) -> Result<Call<'a>, Refusal>
     ensures called { IsCalled result (behind_header xid (view.header header.now) args.now) }
-    ensures groups { IfOk result (λ c. c.who.count ≤ 16) }
+    ensures groups { IfOk result (λ c. length c.who.groups.now ≤ 16) }
 {
     let who = match caller(&header.credential) {
         Ok(who) => who,
@@ -131,9 +131,9 @@ fn judge<'a>(xid: u32, header: &Header<'a>, args: &'a [u8]) -> Result<Call<'a>, 
 }
 
 /// Who calls by a credential of AUTH_NONE, whose body is not looked at, or of AUTH_SYS.
-fn caller(credential: &OpaqueAuth<'_>) -> Result<Who, AuthStat>
+fn caller<'a>(credential: &OpaqueAuth<'a>) -> Result<Who<'a>, AuthStat>
     ensures told { MatchResult result (λ w. caller_by (view.opaque_auth credential.now) ≡ Ok (calling.caller w)) (λ stat. caller_by (view.opaque_auth credential.now) ≡ Err stat) }
-    ensures groups { IfOk result (λ w. w.count ≤ 16) }
+    ensures groups { IfOk result (λ w. length w.groups.now ≤ 16) }
 {
     match credential.flavor {
         AUTH_NONE => Ok(Who::nobody()),
@@ -167,9 +167,9 @@ fn fault(xid: u32, header: &Header<'_>, args: &[u8]) -> Option<Refusal>
 
 /// Who calls by the body of an AUTH_SYS credential.
 #[tactic(auto, unfolding(crate::specs::CallHead::caller_of, crate::specs::CallHead::auth_sys))]
-fn auth_sys(body: &[u8]) -> Result<Who, Unreadable>
+fn auth_sys(body: &[u8]) -> Result<Who<'_>, Unreadable>
     ensures told { MatchResult result (λ w. caller_of body.now ≡ Some (calling.caller w)) (λ _. caller_of body.now ≡ None) }
-    ensures groups { IfOk result (λ w. w.count ≤ 16) }
+    ensures groups { IfOk result (λ w. length w.groups.now ≤ 16) }
 {
     let mut c = Cursor::new(body);
     let _stamp = c.u32()?;
@@ -180,14 +180,5 @@ fn auth_sys(body: &[u8]) -> Result<Who, Unreadable>
     if groups.len() > 16 || c.left() > 0 {
         return Err(Unreadable);
     }
-    let mut gids = [0; 16];
-    for (i, group) in groups.iter().enumerate() {
-        gids[i] = u32::from_be_bytes(*group);
-    }
-    Ok(Who {
-        uid,
-        gid,
-        count: groups.len(),
-        gids,
-    })
+    Ok(Who { uid, gid, groups })
 }

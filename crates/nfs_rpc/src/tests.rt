@@ -137,13 +137,13 @@ fn a_call_tells_who_calls_what(rt: HostRuntime) -> Result<(), Fail> {
     let call = Call::read(&record).map_err(|_| "a call of COMPOUND")?;
     let who = call.who;
     assert_eq!(rt;
-        (call.xid, call.procedure, who.uid, who.gid, who.count),
-        (7, Procedure::Compound, 1000, 100, 3)
+        (call.xid, call.procedure, who.uid, who.gid),
+        (7, Procedure::Compound, 1000, 100)
     );
     assert_eq!(rt;
-        (&who.gids[..3], call.args),
+        (who.groups, call.args),
         (
-            [20, 30, 40].as_slice(),
+            [[0, 0, 0, 20], [0, 0, 0, 30], [0, 0, 0, 40]].as_slice(),
             [0, 0, 0, 0, 0, 0, 0, 1, 0, 0, 0, 0].as_slice()
         )
     );
