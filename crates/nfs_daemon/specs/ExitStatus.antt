@@ -1,5 +1,5 @@
 -- How the program ends, and with which status (this server's profile).
-use Rattle.std.specs.Prelude.{ℕ, Bool, true, false, Result, Ok, Err}
+use Rattle.std.specs.Prelude.{◌≡◌, ◌⊎◌, ℕ, Bool, true, false, Result, Ok, Err}
 use Rattle.std.specs.declared.io.ErrorKind.{ErrorKind}
 use Rattle.std.specs.declared.io.ErrorKind.TheVariants.{OutOfMemory}
 use Rattle.nfs_serve.specs.declared.fault.Stop.{Stop}
@@ -25,6 +25,14 @@ fault_status Fault.Flush = 3
 abbrev pub status_of : {U : Type 0} → Result U Fault → ℕ
 status_of (Ok u) = 0
 status_of (Err fault) = fault_status fault
+
+-- a command line that is none, or for which there is no memory
+abbrev pub IsOfCommandLine : Fault → Type 0
+IsOfCommandLine fault = (fault ≡ Fault.Arguments) ⊎ (fault ≡ Fault.Start)
+
+-- an address that cannot be listened on, or no connection that can be taken
+abbrev pub IsOfConnections : Fault → Type 0
+IsOfConnections fault = (fault ≡ Fault.Start) ⊎ (fault ≡ Fault.Accept)
 
 -- arguments or settings that cannot be read: for want of memory, or with this fault
 abbrev pub unread : ErrorKind → Fault → Fault

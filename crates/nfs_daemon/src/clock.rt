@@ -3,6 +3,7 @@
 ghost use Rattle.std.specs.Prelude.{◌≡◌, ◌≤◌, ◌<◌, ◌%◌, ◌^◌, None};
 
 use nfs_serve::Clock;
+use std::marker::Model;
 use std::rt;
 use std::time::{SystemTime, UNIX_EPOCH};
 
@@ -16,9 +17,19 @@ pub struct SystemClock<'a, R: rt::Clock> {
     last: u64,
 }
 
+impl<'a, R: rt::Clock> Model for SystemClock<'a, R> {
+    ghost use Rattle.std.specs.Prelude.{ℕ};
+
+    ghost Value = { ℕ };
+
+    ghost view = { λ c. c.last };
+}
+
 impl<'a, R: rt::Clock> SystemClock<'a, R> {
     /// A clock that has not been read.
-    pub fn new(rt: &'a R) -> SystemClock<'a, R> {
+    pub fn new(rt: &'a R) -> SystemClock<'a, R>
+        ensures { result ≡ 0 }
+    {
         SystemClock { rt, last: 0 }
     }
 }

@@ -1,5 +1,8 @@
 //! TCP connections, one after the other, over one server.
 
+ghost use Rattle.std.specs.Prelude.{MatchResult};
+ghost use Rattle.nfs_daemon.specs.ExitStatus.{IsOfConnections};
+
 use crate::clock::SystemClock;
 use crate::fault::Fault;
 use nfs_serve::{Host, Server};
@@ -21,6 +24,7 @@ pub fn serve<R, W>(
 where
     R: Net<Listener = TcpListener, Stream = TcpStream> + AllocGlobal + rt::Clock,
     W: Write,
+    ensures { MatchResult result (λ _. Unit {0}) (λ fault. IsOfConnections fault) }
 {
     let alloc = rt.alloc();
     let mut clock = SystemClock::new(rt);

@@ -1,5 +1,9 @@
 //! What the command line asks for.
 
+ghost use Rattle.std.specs.Prelude.{◌≤◌, IfSome, MatchResult};
+ghost use Rattle.nfs_daemon.specs.CommandLine.{MayBeAsked};
+ghost use Rattle.nfs_daemon.specs.ExitStatus.{IsOfCommandLine};
+
 use crate::asked::Order;
 use crate::fault::Fault;
 use clap::error::ErrorKind;
@@ -12,7 +16,9 @@ const MAX_CONNECTIONS: u32 = 1_000_000;
 /// Reads the words of a command line, the program's name first.
 ///
 /// `Arguments` where they are no order, help included; `Start` for want of memory.
-pub fn order<'a>(alloc: Global, words: &'a [&'a str]) -> Result<Order<'a>, Fault> {
+pub fn order<'a>(alloc: Global, words: &'a [&'a str]) -> Result<Order<'a>, Fault>
+    ensures { MatchResult result (λ order. MayBeAsked order) (λ fault. IsOfCommandLine fault) }
+{
     let command = command(alloc).map_err(|_| Fault::Start)?;
     match command.try_get_matches_from(words) {
         Ok(matches) => order_of(&matches).ok_or(Fault::Arguments),
@@ -40,7 +46,9 @@ fn option<'a>(alloc: Global, name: &'a str) -> Arg<'a> {
     Arg::new(alloc, name).long(name).action(ArgAction::Set)
 }
 
-fn order_of<'a>(matches: &ArgMatches<'a>) -> Option<Order<'a>> {
+fn order_of<'a>(matches: &ArgMatches<'a>) -> Option<Order<'a>>
+    ensures { IfSome result (λ order. MayBeAsked order) }
+{
     let (name, found) = matches.subcommand()?;
     match name {
         "replay" => Some(Order::Replay {
@@ -56,7 +64,9 @@ fn order_of<'a>(matches: &ArgMatches<'a>) -> Option<Order<'a>> {
 }
 
 /// A count of connections.
-fn count_of(text: &str) -> Option<u32> {
+fn count_of(text: &str) -> Option<u32>
+    ensures { IfSome result (λ count. (1 ≤ count) × (count ≤ 1000000)) }
+{
     let count = text.parse::<u32>().ok()?;
     if count >= 1 && count <= MAX_CONNECTIONS {
         Some(count)
