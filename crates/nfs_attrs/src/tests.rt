@@ -1,3 +1,5 @@
+//! Handles, attributes read and written, who may do what, and who may set what (RFC 8881 sections 4, 5 and 6.2.4).
+
 use super::*;
 use nfs_tree::{FileType, Object};
 use nfs_xdr::{Sheet, Status, Time, Who};

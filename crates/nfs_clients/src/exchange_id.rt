@@ -177,8 +177,8 @@ impl Clients {
 /// How many records there are at most (this server's profile).
 const MOST_RECORDS: usize = 1024;
 
-/// EXCHGID4_FLAG_CONFIRMED_R (RFC 8881 section 18.35.1).
-const CONFIRMED_R: u32 = 0x8000_0000;
+/// EXCHGID4_FLAG_CONFIRMED_R (RFC 8881 section 18.35.1): the record is confirmed.
+pub const CONFIRMED_R: u32 = 0x8000_0000;
 
 /// EXCHGID4_FLAG_UPD_CONFIRMED_REC_A (RFC 8881 section 18.35.1).
 const UPD_CONFIRMED_REC_A: u32 = 0x4000_0000;

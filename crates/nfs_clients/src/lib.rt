@@ -32,4 +32,4 @@ pub use clients::Clients;
 pub use create_session::CreateVerdict;
 pub use created::{CreateResult, Resok};
 pub use destroy::DestroyFault;
-pub use exchange_id::{ClientFault, Exchanged};
+pub use exchange_id::{CONFIRMED_R, ClientFault, Exchanged};

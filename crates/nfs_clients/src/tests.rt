@@ -1,3 +1,5 @@
+//! EXCHANGE_ID, CREATE_SESSION and DESTROY_CLIENTID over the table of client records (RFC 8881 sections 18.35, 18.36 and 18.50).
+
 use super::*;
 use nfs_xdr::Status;
 use std::test::Fail;

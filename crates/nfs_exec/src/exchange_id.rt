@@ -15,7 +15,7 @@ ghost use Rattle.nfs_exec.specs.ExchangeId.{exchange_id, exchange_id_number, gra
 ghost use Rattle.nfs_exec.specs.View.{machine_of, settled};
 
 use crate::tables::Tables;
-use nfs_clients::{ClientFault, Exchanged};
+use nfs_clients::{CONFIRMED_R, ClientFault, Exchanged};
 use nfs_compound::{ExchangeId, OpNum};
 use nfs_lease::Leases;
 use nfs_results::{ExchangeIdOk, Res};
@@ -24,9 +24,6 @@ use std::alloc::Global;
 
 /// EXCHGID4_FLAG_USE_NON_PNFS.
 const USE_NON_PNFS: u32 = 0x0001_0000;
-
-/// EXCHGID4_FLAG_CONFIRMED_R.
-const CONFIRMED_R: u32 = 0x8000_0000;
 
 impl Tables {
     /// Has the table of clients decide at the moment `now`, in seconds. The lease of the record that would be added is made

@@ -9,7 +9,7 @@ use Rattle.nfs_compound.specs.Attributes.{Attributes}
 use Rattle.nfs_compound.specs.NameArgs.{Create, CreateType, Block, Character, Symlink, Other}
 use Rattle.nfs_results.specs.declared.res.ChangeInfo.{ChangeInfo}
 use Rattle.nfs_results.specs.Result.{ResCreate}
-use Rattle.nfs_tree.specs.declared.change.Change.{Change}
+use Rattle.nfs_tree.specs.declared.done.Change.{Change}
 use Rattle.nfs_tree.specs.declared.sets.Sets.{Sets}
 use Rattle.nfs_tree.specs.Files.{Files, last_count, most_objects, most_text, has_name, can_change}
 use Rattle.nfs_tree.specs.Create.{New, Directory, Link, with_new}

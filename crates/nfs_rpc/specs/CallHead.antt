@@ -11,8 +11,8 @@ use Rattle.nfs_rpc.specs.declared.refusal.Refusal.TheVariants.{Silent, Mismatch,
 use Rattle.nfs_rpc.specs.declared.refusal.AuthStat.{AuthStat}
 use Rattle.nfs_rpc.specs.declared.refusal.AuthStat.TheVariants.{BadCred, RejectedCred, TooWeak}
 use Rattle.nfs_rpc.specs.declared.refusal.AcceptStat.TheVariants.{ProgUnavail, ProgMismatch, ProcUnavail, GarbageArgs}
-use Rattle.nfs_rpc.specs.declared.procedure.Procedure.{Procedure}
-use Rattle.nfs_rpc.specs.declared.procedure.Procedure.TheVariants as Procedures
+use Rattle.nfs_rpc.specs.declared.call.Procedure.{Procedure}
+use Rattle.nfs_rpc.specs.declared.call.Procedure.TheVariants as Procedures
 
 -- a credential or a verifier: how it is to be understood, and its bytes (RFC 5531 section 8.2)
 pub record OpaqueAuth : Type 0 where

@@ -1,7 +1,7 @@
 -- What `Records` does with a piece of a stream, and with the record that waits (RFC 5531 section 11).
 use Rattle.std.specs.Prelude.{◌≡◌, ℕ, ◌+◌, ◌<◌, ◌≤◌, ◌++◌, List, [], length, take, Bool, true, false}
-use Rattle.nfs_rpc.specs.declared.fed.Fed.{Fed}
-use Rattle.nfs_rpc.specs.declared.fed.Fed.TheVariants.{More, Whole, TooLong}
+use Rattle.nfs_rpc.specs.declared.records.Fed.{Fed}
+use Rattle.nfs_rpc.specs.declared.records.Fed.TheVariants.{More, Whole, TooLong}
 use Rattle.nfs_rpc.specs.RecordMarking.{Part, Gathered, Begun, Complete, Failed, IsRecord, Holds, start, limit, spell_mark}
 
 -- whether a whole record waits

@@ -2,7 +2,7 @@
 -- (RFC 5531 section 11).
 use Rattle.std.specs.Prelude.{ℕ, ◌+◌, ◌-◌, ◌%◌, ◌==◌, ◌&&◌, List, [], ◌++◌, length, nat_lt, nat_le, if◌then◌else◌}
 use Rattle.std.specs.Int.{w32, from_be_bytes}
-use Rattle.nfs_rpc.specs.declared.state.State.{State}
+use Rattle.nfs_rpc.specs.declared.records.State.{State}
 use Rattle.nfs_rpc.specs.RecordMarking.{Part, Gathered, Begun, Complete, Failed, limit}
 
 -- what the fields of a `Records` hold

@@ -13,21 +13,16 @@
 #![tactic(auto)]
 
 mod call;
-mod fed;
 pub mod laws;
-mod procedure;
 mod reading;
 mod records;
 mod refusal;
 mod reply;
-mod state;
 #[cfg(test)]
 mod tests;
 
-pub use call::Call;
-pub use fed::Fed;
+pub use call::{Call, Procedure};
 pub use nfs_xdr::Who;
-pub use procedure::Procedure;
-pub use records::Records;
+pub use records::{Fed, Records};
 pub use refusal::{AcceptStat, AuthStat, Refusal};
 pub use reply::{write_head, write_refusal};

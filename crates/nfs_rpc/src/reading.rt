@@ -1,3 +1,5 @@
+//! Reading the head of a call (RFC 5531 sections 8.2 and 9, appendix A).
+
 ghost use Rattle.std.specs.Prelude.{◌≡◌, ◌≤◌, length, IfOk, MatchResult, Some, None, Ok, Err};
 ghost use Rattle.nfs_xdr.specs.Reading.{ReadsPartBy};
 ghost use Rattle.nfs_xdr.specs.Checks.{first_fault};
@@ -7,8 +9,7 @@ ghost use Rattle.nfs_rpc.specs.CallHead.{call_of, behind_version, behind_header,
 ghost use Rattle.nfs_rpc.specs.View as view;
 ghost use Rattle.nfs_rpc.specs.View.{IsCalled};
 
-use crate::call::{Call, Header, OpaqueAuth};
-use crate::procedure::Procedure;
+use crate::call::{Call, Header, OpaqueAuth, Procedure};
 use crate::refusal::{AcceptStat, AuthStat, Refusal};
 use nfs_xdr::{Cursor, Unreadable, Who};
 

@@ -1,19 +1,44 @@
+//! Records from the pieces of a stream (RFC 5531 section 11).
+
 ghost use Rattle.std.specs.Prelude.{◌≡◌, ◌≤◌, ◌<◌, List, ℕ, IfOk, IfSome, IfNone, ◌+◌, ◌++◌, [], length, take, true, false};
 ghost use Rattle.nfs_xdr.specs.Codec.{IsBytes};
-ghost use Rattle.nfs_rpc.specs.declared.state.State.TheVariants as States;
-ghost use Rattle.nfs_rpc.specs.declared.fed.Fed.TheVariants as Feds;
+ghost use Rattle.nfs_rpc.specs.declared.records.State.TheVariants as States;
+ghost use Rattle.nfs_rpc.specs.declared.records.Fed.TheVariants as Feds;
 ghost use Rattle.nfs_rpc.specs.RecordMarking.{Part, Gathered, Holds, start};
 ghost use Rattle.nfs_rpc.specs.RecordMarking as marking;
 ghost use Rattle.nfs_rpc.specs.Feeding.{waits, is_too_long, waiting, done_with, AnswersFeed, StandsNow, BeginsWith, IsWhole};
 ghost use Rattle.nfs_rpc.specs.Share.{state_of, at_mark, with_mark, with_data};
 
-use crate::fed::Fed;
-use crate::state::State;
 use std::alloc::{AllocError, Global};
 use std::marker::Model;
 
+/// The bit of a mark that says that its fragment is the record's last one.
+const LAST: u32 = 0x8000_0000;
+
 /// The most data bytes of a record, its marks not counted.
 const LIMIT: usize = 66_560;
+
+/// What `Records::feed` answers.
+#[derive(Clone, Copy, Debug, PartialEq, Eq)]
+pub enum Fed {
+    /// All of the piece was taken, and no record is whole.
+    More,
+    /// A record is whole and waits: it ends with the last of this many bytes of the piece. The bytes behind were not taken.
+    Whole(usize),
+    /// A mark promised more than a record may hold. Nothing more is taken until `Records::reset`.
+    TooLong,
+}
+
+/// How far the record that is being put together has come.
+#[derive(Clone, Copy, Debug, PartialEq, Eq)]
+pub enum State {
+    /// It has begun, or nothing of it has come.
+    Begun,
+    /// It is whole, and waits.
+    Complete,
+    /// Its marks promise more than a record may hold.
+    Failed,
+}
 
 /// Puts records together from a stream that comes in pieces of any size (RFC 5531 section 11).
 ///
@@ -96,8 +121,8 @@ impl Records {
         }
         let (mark, rest) = piece.split_first_chunk::<4>()?;
         let word = u32::from_be_bytes(*mark);
-        let size = (word % 0x8000_0000) as usize;
-        if word < 0x8000_0000 || size > LIMIT || size > rest.len() {
+        let size = (word % LAST) as usize;
+        if word < LAST || size > LIMIT || size > rest.len() {
             return None;
         }
         Some(&rest[..size])
@@ -222,8 +247,8 @@ impl Records {
         requires { (p : Part) × (self.old ≡ marking.Begun p) × (p.lacking ≡ 0) × (p.mark ≡ []) }
         ensures { (p : Part) → self.old ≡ marking.Begun p → self.new ≡ at_mark p.taken word }
     {
-        let size = (word % 0x8000_0000) as usize;
-        let last = word >= 0x8000_0000;
+        let size = (word % LAST) as usize;
+        let last = word >= LAST;
         if self.taken.len() + size > LIMIT {
             self.state = State::Failed;
             return;

@@ -1,3 +1,5 @@
+//! Why a call is refused (RFC 5531 section 9).
+
 /// Why a credential is refused: auth_stat (RFC 5531 section 9).
 #[derive(Clone, Copy, Debug, PartialEq, Eq)]
 pub enum AuthStat {

@@ -1,5 +1,7 @@
+//! Records however they are cut, heads of calls, and their refusals (RFC 5531 sections 9 and 11).
+
 ghost use Rattle.std.specs.Prelude.{◌≡◌, ◌<◌, ◌≤◌, ℕ, false, length, IfOk};
-ghost use Rattle.nfs_rpc.specs.declared.fed.Fed.TheVariants as Feds;
+ghost use Rattle.nfs_rpc.specs.declared.records.Fed.TheVariants as Feds;
 ghost use Rattle.nfs_rpc.specs.Feeding.{waits};
 
 use super::*;

@@ -11,7 +11,7 @@ use Rattle.nfs_rpc.specs.Stream.{End, Open, TooLong}
 use Rattle.nfs_rpc.specs.Feeding.{is_too_long}
 use Rattle.nfs_serve.specs.declared.form.Form.TheVariants.{Plain}
 use Rattle.nfs_serve.specs.declared.form.Flow.TheVariants as Flow
-use Rattle.nfs_serve.specs.declared.talk.Talk.TheVariants.{Ended, Shut, ReadFailed, WriteFailed, TooMany}
+use Rattle.nfs_serve.specs.declared.talking.Talk.TheVariants.{Ended, Shut, ReadFailed, WriteFailed, TooMany}
 use Rattle.nfs_serve.specs.Script.{Entry}
 use Rattle.nfs_serve.specs.Step.{State}
 use Rattle.nfs_serve.specs.Run.{Streams, with_stream, all_closed, Brings, events, after, after_event, output, output_of, Move, TakesAll}

@@ -3,7 +3,7 @@ use Rattle.std.specs.Prelude.{◌≡◌, ℕ, ◌<◌, List, [], ◌++◌, Bool,
 use Rattle.std.specs.Io.KnownBytes.{Consumes, IsAtEnd}
 use Rattle.nfs_serve.specs.declared.fault.Stop.{Stop}
 use Rattle.nfs_serve.specs.declared.fault.Stop.TheVariants.{Cut, ReadFailed}
-use Rattle.nfs_serve.specs.declared.entry.Entry as rust
+use Rattle.nfs_serve.specs.declared.script.Entry as rust
 use Rattle.nfs_serve.specs.Ends.{IsReported, EndsAt}
 use Rattle.nfs_serve.specs.Script.{Entry, spell_entry, Fits, max_entries, StopsAt}
 

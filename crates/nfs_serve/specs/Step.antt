@@ -4,7 +4,7 @@ use Rattle.std.specs.Prelude.{ℕ, max, List, ◌++◌, length, Option, Some, No
 use Rattle.nfs_rpc.specs.declared.refusal.Refusal.{Refusal}
 use Rattle.nfs_rpc.specs.declared.refusal.Refusal.TheVariants.{Silent, Mismatch, Auth, Accept}
 use Rattle.nfs_rpc.specs.declared.refusal.AcceptStat.TheVariants.{GarbageArgs}
-use Rattle.nfs_rpc.specs.declared.procedure.Procedure.{Procedure}
+use Rattle.nfs_rpc.specs.declared.call.Procedure.{Procedure}
 use Rattle.nfs_rpc.specs.CallHead.{Call, Called, Accepted, Refused, call_of}
 use Rattle.nfs_rpc.specs.Reply.{spell_head, spell_refusal}
 use Rattle.nfs_compound.specs.Request.{Request}

@@ -3,8 +3,8 @@
 use Rattle.std.specs.Prelude.{◌≡◌, ℕ, ◌<◌, ◌≤◌, List, [], ◌∷◌, ◌++◌, length, flat_map, map, All, Bool, true, false, Option}
 use Rattle.std.specs.Io.KnownBytes.{Consumes, Appends, IsAtEnd}
 use Rattle.nfs_rpc.specs.Stream.{End, Open, TooLong}
-use Rattle.nfs_serve.specs.declared.talk.Talk.{Talk}
-use Rattle.nfs_serve.specs.declared.talk.Talk.TheVariants.{Ended, Shut, ReadFailed, WriteFailed, TooMany}
+use Rattle.nfs_serve.specs.declared.talking.Talk.{Talk}
+use Rattle.nfs_serve.specs.declared.talking.Talk.TheVariants.{Ended, Shut, ReadFailed, WriteFailed, TooMany}
 use Rattle.nfs_serve.specs.declared.form.Form.TheVariants.{Plain}
 use Rattle.nfs_serve.specs.Script.{Entry, Fits}
 use Rattle.nfs_serve.specs.Step.{State}

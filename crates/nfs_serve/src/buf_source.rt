@@ -1,3 +1,5 @@
+//! Readers with a buffer, whose bytes need not be copied.
+
 ghost use Rattle.std.specs.Prelude.{◌≡◌, ◌≤◌, ℕ, List, length, take};
 ghost use Rattle.std.specs.Io.KnownBytes.{Consumes};
 

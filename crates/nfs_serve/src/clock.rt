@@ -1,3 +1,5 @@
+//! Where the moments of a talk come from.
+
 ghost use Rattle.std.specs.Prelude.{◌≤◌, ◌^◌, ℕ, List, [], ◌∷◌, Option};
 ghost use Rattle.std.specs.Io.KnownBytes.{Appends};
 

@@ -1,3 +1,5 @@
+//! A connection: what is held of its stream, and what its pieces come to (RFC 5531 section 11).
+
 ghost use Rattle.std.specs.Prelude.{◌≡◌, ◌≤◌, ◌^◌, ◌++◌, [], IfOk, OnOk, OnErr, false};
 ghost use Rattle.nfs_xdr.specs.Codec.{IsBytes};
 ghost use Rattle.nfs_xdr.specs.Spelling.{number};
@@ -9,9 +11,9 @@ ghost use Rattle.nfs_serve.specs.Server.{fresh, FeedsOr};
 
 use crate::Sink;
 use crate::engine::Engine;
-use crate::entry::Entry;
 use crate::form::{Flow, Form};
 use crate::moving::{WriteFailed, put};
+use crate::script::Entry;
 use nfs_rpc::{Fed, Records};
 use std::alloc::{AllocError, Global};
 use std::marker::Model;

@@ -1,3 +1,5 @@
+//! The step of one record: from the bytes of a call to those of its reply (RFC 5531 section 9; RFC 8881 section 16).
+
 ghost use Rattle.std.specs.Prelude.{◌≡◌, ◌≤◌, ◌^◌, ◌+◌, ◌++◌, ℕ, [], length, drop, Option, IfOk, false};
 ghost use Rattle.nfs_xdr.specs.Spelling.{number};
 ghost use Rattle.nfs_rpc.specs.View as view;

@@ -1,3 +1,5 @@
+//! Why the run of a script stops (docs/PROTOCOL.md).
+
 use std::fmt;
 
 /// Why a run of a script stopped. Its number is that of the fault.

@@ -1,3 +1,5 @@
+//! How replies are written out, and what becomes of a record and of a connection.
+
 /// How replies are written out.
 #[derive(Clone, Copy, Debug, PartialEq, Eq)]
 pub enum Form {

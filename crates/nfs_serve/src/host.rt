@@ -1,3 +1,5 @@
+//! Readers and writers of std's as the ends of a server.
+
 ghost use Rattle.std.specs.Prelude.{◌≡◌, false};
 
 use crate::{Sink, Source};

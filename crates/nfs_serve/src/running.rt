@@ -11,12 +11,11 @@ ghost use Rattle.nfs_serve.specs.Running.{RunsEntryOr, EndsBehind};
 
 use crate::connection::Connection;
 use crate::engine::Engine;
-use crate::entry::Entry;
 use crate::fault::{ReplayFault, Stop};
 use crate::form::Form;
 use crate::lending::Lends;
 use crate::moving::{WriteFailed, fill};
-use crate::script::{HEAD, next_entry, whole_entry};
+use crate::script::{Entry, HEAD, next_entry, whole_entry};
 use crate::{Sink, Source};
 use std::alloc::Global;
 

@@ -7,7 +7,6 @@ ghost use Rattle.nfs_serve.specs.Script.{IsHead, refusal};
 ghost use Rattle.nfs_serve.specs.Reading.{ReadsEntry, BeginsWith, stop_of, entry};
 
 use crate::Source;
-use crate::entry::Entry;
 use crate::fault::Stop;
 use crate::moving::fill;
 
@@ -22,6 +21,17 @@ const LAST_MOMENT: u64 = 1 << 62;
 
 /// The bytes of an entry in front of its piece.
 pub const HEAD: usize = 16;
+
+/// What came on a connection, and when: an entry of a script. No bytes close the connection.
+#[derive(Clone, Copy, Debug)]
+pub struct Entry<'a> {
+    /// The moment at which it came, in seconds.
+    pub moment: u64,
+    /// The connection.
+    pub conn: u32,
+    /// A piece of the connection's stream.
+    pub piece: &'a [u8],
+}
 
 /// The entry that stands whole at the front of the bytes and is not refused, if there is one.
 pub fn whole_entry(bytes: &[u8]) -> Option<Entry<'_>>

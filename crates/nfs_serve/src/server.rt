@@ -1,3 +1,5 @@
+//! A server: records, connections and scripts over one state.
+
 ghost use Rattle.std.specs.Prelude.{◌≡◌, ◌≢◌, ◌≤◌, ◌^◌, [], false, IfOk, OnErr, replicate};
 ghost use Rattle.nfs_exec.specs.Laws.{HasNoClashes};
 ghost use Rattle.nfs_exec.specs.Machine.{IsMachine};
@@ -8,15 +10,13 @@ ghost use Rattle.nfs_serve.specs.Talk.{Talks, TalkReports};
 
 use crate::connection::Connection;
 use crate::engine::Engine;
-use crate::entry::Entry;
 use crate::fault::ReplayFault;
 use crate::form::{Flow, Form, Outcome};
 use crate::lending::{ByReading, FromBuffer, Lends};
 use crate::moving::WriteFailed;
 use crate::running::{close_all, run};
-use crate::script::MAX_PIECE;
-use crate::talk::Talk;
-use crate::talking::converse;
+use crate::script::{Entry, MAX_PIECE};
+use crate::talking::{Talk, converse};
 use crate::{BufSource, Clock, Sink, Source};
 use std::alloc::{AllocError, Global};
 use std::marker::Model;

@@ -5,15 +5,29 @@ ghost use Rattle.nfs_serve.specs.Talk.{Talks, TalkReports};
 
 use crate::connection::Connection;
 use crate::engine::Engine;
-use crate::entry::Entry;
 use crate::form::{Flow, Form};
 use crate::moving::WriteFailed;
-use crate::talk::Talk;
+use crate::script::Entry;
 use crate::{Clock, Sink, Source};
 use std::alloc::Global;
 
 /// The most reads of a talk.
 const MAX_READS: u32 = 1_000_000;
+
+/// How a talk over one connection ended.
+#[derive(Clone, Copy, Debug, PartialEq, Eq)]
+pub enum Talk {
+    /// The reader has ended.
+    Ended,
+    /// The stream is too long (RFC 5531 section 11).
+    Shut,
+    /// The reader has failed.
+    ReadFailed,
+    /// The writer has failed.
+    WriteFailed,
+    /// 1,000,000 pieces were read.
+    TooMany,
+}
 
 /// Closes connection 0 and runs what the reader gives as its pieces, each at the clock's answer for it.
 pub fn converse<R: Source, W: Sink, C: Clock>(

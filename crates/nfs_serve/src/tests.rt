@@ -1,3 +1,5 @@
+//! Records, pieces, scripts and talks, and ends that fail.
+
 mod failing;
 mod fakes;
 mod pieces;

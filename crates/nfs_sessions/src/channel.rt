@@ -1,3 +1,5 @@
+//! What a channel may carry, asked for and granted (RFC 8881 section 18.36).
+
 ghost use Rattle.std.specs.Prelude.{◌≡◌};
 ghost use Rattle.nfs_sessions.specs.Channel.{granted, is_too_small};
 

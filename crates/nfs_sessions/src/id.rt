@@ -1,3 +1,5 @@
+//! The ids of sessions (RFC 8881 sections 2.10 and 3.2).
+
 ghost use Rattle.std.specs.Prelude.{◌≡◌};
 ghost use Rattle.nfs_sessions.specs.Id.{id_bytes, id_of};
 

@@ -1,3 +1,5 @@
+//! The table of sessions (RFC 8881 sections 2.10, 18.36 and 18.37).
+
 ghost use Rattle.std.specs.Prelude.{◌≡◌, ◌≤◌, ◌+◌, ◌==◌, None, IfOk, OnOk, OnErr, IsSomeAnd, is_some, option_map, count_by, find, filter, not, position};
 ghost use Rattle.std.specs.Option.{option_copied};
 ghost use Rattle.std.specs.List.{list_any};

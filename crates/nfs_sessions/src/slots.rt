@@ -1,3 +1,5 @@
+//! A session's slots, with the room that its channel asks for (RFC 8881 section 2.10.6).
+
 ghost use Rattle.std.specs.Prelude.{◌≡◌, ◌≤◌, ◌+◌, IfOk, length};
 ghost use Rattle.nfs_sessions.specs.Channel.{IsGranted};
 ghost use Rattle.nfs_sessions.specs.SessionSlots.{unused, judge, kept, keep, MayKeep, IsGrantedSlots};

@@ -1,3 +1,5 @@
+//! Channels granted, sessions made and ended, and requests repeated in them (RFC 8881 section 2.10.6).
+
 use super::*;
 use nfs_slots::Verdict;
 use nfs_testing::{MOST, starve};

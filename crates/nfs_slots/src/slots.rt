@@ -1,3 +1,5 @@
+//! The slots of one session (RFC 8881 section 2.10.6).
+
 ghost use Rattle.std.specs.Prelude.{◌≡◌, ◌≤◌, length, IfOk};
 ghost use Rattle.nfs_slots.specs.Slot.{judge, keep, kept, unused, IsBounded};
 

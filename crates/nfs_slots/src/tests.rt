@@ -1,3 +1,5 @@
+//! Requests that are new, repeated, late or changed (RFC 8881 sections 2.10.6.1 and 2.10.6.2).
+
 ghost use Rattle.std.specs.Prelude.{◌≡◌, ◌≢◌, ◌≤◌, ◌==◌, ◌||◌, ◌&&◌, true, length, MatchBool};
 ghost use Rattle.nfs_slots.specs.Slot.{next_number};
 

@@ -1,3 +1,5 @@
+//! What the helpers of tests give.
+
 use super::*;
 use std::test::Fail;
 

@@ -6,8 +6,8 @@ use Rattle.nfs_tree.specs.declared.object.FileType.{FileType}
 use Rattle.nfs_tree.specs.declared.object.FileType.TheVariants as kind
 use Rattle.nfs_tree.specs.declared.object.Object.{Object}
 use Rattle.nfs_tree.specs.declared.sets.Sets.{Sets}
-use Rattle.nfs_tree.specs.declared.new.New.{New as Code}
-use Rattle.nfs_tree.specs.declared.new.New.TheVariants as code
+use Rattle.nfs_tree.specs.declared.create.New.{New as Code}
+use Rattle.nfs_tree.specs.declared.create.New.TheVariants as code
 use Rattle.nfs_tree.specs.declared.done.Created.{Created}
 use Rattle.nfs_tree.specs.declared.fault.TreeFault.{TreeFault}
 use Rattle.nfs_tree.specs.declared.fault.TreeFault.TheVariants.{NoEnt, Exist, NotDir, Inval, Fbig, NoSpc, Counter}

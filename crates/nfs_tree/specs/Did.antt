@@ -2,7 +2,7 @@
 use Rattle.std.specs.Prelude.{◌≡◌, ℕ, ◌+◌, Bool, true, List, Option, Some, None, Result, Ok, Err, IsOk}
 use Rattle.nfs_tree.specs.declared.fault.TreeFault.{TreeFault}
 use Rattle.nfs_tree.specs.declared.fault.TreeFault.TheVariants.{Memory}
-use Rattle.nfs_tree.specs.declared.change.Change.{Change}
+use Rattle.nfs_tree.specs.declared.done.Change.{Change}
 use Rattle.nfs_tree.specs.Files.{Files, change_of}
 
 pub record Did (A : Type 0) : Type 0 where

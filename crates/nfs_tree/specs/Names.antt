@@ -7,7 +7,7 @@ use Rattle.nfs_xdr.specs.declared.time.Time.{Time}
 use Rattle.nfs_tree.specs.declared.rename.Place.{Place}
 use Rattle.nfs_tree.specs.declared.row.Row.{Row}
 use Rattle.nfs_tree.specs.declared.stored.Stored.{Stored}
-use Rattle.nfs_tree.specs.declared.change.Change.{Change}
+use Rattle.nfs_tree.specs.declared.done.Change.{Change}
 use Rattle.nfs_tree.specs.declared.done.Removed.{Removed}
 use Rattle.nfs_tree.specs.declared.done.Renamed.{Renamed}
 use Rattle.nfs_tree.specs.declared.fault.TreeFault.{TreeFault}

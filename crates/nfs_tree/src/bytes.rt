@@ -1,3 +1,5 @@
+//! Bytes that are kept: names, texts of links, the contents of files.
+
 ghost use Rattle.std.specs.Prelude.{◌≡◌, [], ◌++◌, length, bytes_eq, replicate, take, drop, ◌+◌, ◌-◌, ◌≤◌, IfOk, OnOk, OnErr};
 ghost use Rattle.nfs_tree.specs.Files.{most_bytes};
 ghost use Rattle.nfs_tree.specs.Bytes.{written, resized};

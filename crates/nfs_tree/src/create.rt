@@ -1,3 +1,5 @@
+//! Objects that are made, with the row that names them (RFC 8881 sections 18.4 and 18.16).
+
 ghost use Rattle.std.specs.Prelude.{◌≡◌, ◌+◌, ◌<◌, true, None, OnOk, OnErr, IfOk, length, nat_le};
 ghost use Rattle.nfs_xdr.specs.Checks.{first_fault, judged};
 ghost use Rattle.nfs_tree.specs.Files.{is_name, can_change, last_count, most_objects, IsReached};
@@ -5,10 +7,8 @@ ghost use Rattle.nfs_tree.specs.Did.{DoesOrWants, raised};
 ghost use Rattle.nfs_tree.specs.Create.{new_of, data_of, new_object, is_bad_text, is_too_big, room_checks, create_fault, create, with_new};
 
 use crate::bytes::Bytes;
-use crate::change::Change;
-use crate::done::Created;
+use crate::done::{Change, Created};
 use crate::fault::TreeFault;
-use crate::new::New;
 use crate::object::{FileType, Object};
 use crate::row::Row;
 use crate::sets::Sets;
@@ -16,6 +16,21 @@ use crate::stored::{Stored, change_in};
 use crate::tree::Tree;
 use nfs_xdr::Time;
 use std::alloc::{AllocError, Global};
+
+/// What `Tree::create` makes.
+#[derive(Clone, Copy, Debug)]
+pub enum New<'a> {
+    /// A regular file of `size` zeros, at most 1,048,576, with the verifier of an exclusive create (RFC 8881 section
+    /// 18.16.3).
+    File {
+        size: u64,
+        verifier: Option<[u8; 8]>,
+    },
+    /// A directory.
+    Directory,
+    /// A symbolic link with its text of 1 to 1,024 bytes.
+    Link(&'a [u8]),
+}
 
 /// Whether a row can have the name: 1 to 255 bytes.
 pub(crate) fn is_name(name: &[u8]) -> bool

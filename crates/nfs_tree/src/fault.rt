@@ -1,3 +1,5 @@
+//! Why a call on the tree is refused (RFC 8881 section 15.1).
+
 ghost use Rattle.std.specs.Prelude.{◌≡◌};
 ghost use Rattle.nfs_tree.specs.declared.fault.TreeFault.TheVariants.{Memory};
 

@@ -17,7 +17,6 @@
 #![tactic(auto)]
 
 mod bytes;
-mod change;
 mod create;
 mod done;
 mod fault;
@@ -25,7 +24,6 @@ mod file;
 pub mod laws;
 mod list;
 mod names;
-mod new;
 mod object;
 mod rename;
 mod row;
@@ -35,11 +33,10 @@ mod stored;
 mod tests;
 mod tree;
 
-pub use change::Change;
-pub use done::{Created, Removed, Renamed};
+pub use create::New;
+pub use done::{Change, Created, Removed, Renamed};
 pub use fault::TreeFault;
 pub use list::{Entry, Listing};
-pub use new::New;
 pub use object::{FileType, Object};
 pub use sets::Sets;
 pub use tree::Tree;

@@ -1,3 +1,5 @@
+//! The entries of a directory in the order of their cookies (RFC 8881 section 18.23.3).
+
 ghost use Rattle.std.specs.Prelude.{◌≡◌};
 ghost use Rattle.std.specs.Iterator.{YieldsFirstBy, item_count};
 ghost use Rattle.nfs_tree.specs.Files.{listing};

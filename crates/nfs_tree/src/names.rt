@@ -7,9 +7,8 @@ ghost use Rattle.nfs_tree.specs.Did.{DoesOrWants, raised, stays};
 ghost use Rattle.nfs_tree.specs.Names.{link_fault, with_link, link, remove_fault, without_name, remove, forget};
 
 use crate::bytes::Bytes;
-use crate::change::Change;
 use crate::create::is_name;
-use crate::done::Removed;
+use crate::done::{Change, Removed};
 use crate::fault::TreeFault;
 use crate::row::{Row, drop_entry, has_entries, has_row};
 use crate::stored::{change_entry, drop_object};

@@ -1,3 +1,5 @@
+//! An object and its attributes (RFC 8881 sections 3.2 and 5).
+
 ghost use Rattle.std.specs.Prelude.{◌≡◌, ◌<◌};
 ghost use Rattle.nfs_tree.specs.Object.{is_directory, is_regular, changed};
 ghost use Rattle.nfs_tree.specs.Files.{last_count};

@@ -1,3 +1,5 @@
+//! Entries that are moved (RFC 8881 section 18.26).
+
 ghost use Rattle.std.specs.Prelude.{◌≡◌, ◌+◌, ◌<◌, true, false, None, OnOk, OnErr, length, vec_len, vec_capacity};
 ghost use Rattle.nfs_xdr.specs.Checks.{judged};
 ghost use Rattle.nfs_tree.specs.Files.{lookup, without_entry, IsReached};
@@ -5,9 +7,8 @@ ghost use Rattle.nfs_tree.specs.Did.{DoesOrWants, raised, stays};
 ghost use Rattle.nfs_tree.specs.Names.{move, move_of, moved_object, replaced_object, moves, is_at_or_below, is_below_itself, is_in_the_way, can_move, rename_fault, with_row, with_moved, moved, unmoved, rename};
 
 use crate::bytes::Bytes;
-use crate::change::Change;
 use crate::create::is_name;
-use crate::done::Renamed;
+use crate::done::{Change, Renamed};
 use crate::fault::TreeFault;
 use crate::row::{Row, drop_entry, has_entries, parent_in};
 use crate::stored::change_moved;

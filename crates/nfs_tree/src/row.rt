@@ -1,3 +1,5 @@
+//! Rows: the entries of all directories, in the order in which they were put.
+
 ghost use Rattle.std.specs.Prelude.{◌≡◌, ◌<◌, option_copied, vec_len, vec_capacity};
 ghost use Rattle.nfs_tree.specs.Files.{is_entry, entry, parent_in, links_in, has_row, has_entries, without_entry};
 

@@ -1,3 +1,5 @@
+//! The attributes that a call sets (RFC 8881 section 5.6).
+
 ghost use Rattle.std.specs.Prelude.{◌≡◌};
 ghost use Rattle.nfs_tree.specs.Object.{no_sets, modified};
 

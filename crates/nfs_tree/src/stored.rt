@@ -1,3 +1,5 @@
+//! Objects as they are stored, in rising order of their numbers.
+
 ghost use Rattle.std.specs.Prelude.{◌≡◌, ◌≢◌, ℕ, ◌+◌, ◌==◌, ◌<◌, ◌≤◌, not, if◌then◌else◌, length, filter, map, position, option_copied, OnOk, OnErr};
 ghost use Rattle.nfs_xdr.specs.Tables.{IsRising};
 ghost use Rattle.nfs_tree.specs.Object.{no_sets};

@@ -1,3 +1,5 @@
+//! The tree: objects and the rows that name them.
+
 ghost use Rattle.std.specs.Prelude.{◌≡◌, IfOk, option_map};
 ghost use Rattle.std.specs.Option.{option_copied};
 ghost use Rattle.nfs_tree.specs.Create.{new_tree};

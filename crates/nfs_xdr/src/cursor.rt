@@ -1,3 +1,5 @@
+//! Reading items of XDR (RFC 4506).
+
 ghost use Rattle.std.specs.Prelude.{◌≡◌, ◌<◌, ◌^◌, ◌%◌, ℕ, length, ◌+◌, MatchResult, IfOk, Some, None, drop};
 ghost use Rattle.nfs_xdr.specs.Spelling.{padding};
 ghost use Rattle.nfs_xdr.specs.Reading.{ReadsBy, ReadsPartBy, number_at, hyper_at, flag_at, fixed_at, opaque_at, pieces_at, all_zero};

@@ -1,3 +1,5 @@
+//! Statuses (nfsstat4, RFC 8881 section 15.1).
+
 ghost use Rattle.std.specs.Prelude.{◌≡◌};
 ghost use Rattle.nfs_xdr.specs.Status.{status_number, status_of};
 

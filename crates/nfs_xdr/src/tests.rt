@@ -1,3 +1,5 @@
+//! Items of XDR that are read and put (RFC 4506).
+
 use super::*;
 use std::test::Fail;
 

@@ -1,3 +1,5 @@
+//! Moments (nfstime4, RFC 8881 section 3.3.1).
+
 /// A moment with its fraction (nfstime4 of RFC 5662; RFC 8881 section 3.3.1).
 #[derive(Clone, Copy, Debug, PartialEq, Eq)]
 pub struct Time {

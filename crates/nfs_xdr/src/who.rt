@@ -1,3 +1,5 @@
+//! Callers (RFC 5531 section 10.1 and appendix A).
+
 ghost use Rattle.std.specs.Prelude.{◌≡◌, []};
 
 /// The caller of a call, as its credential names it (RFC 5531 section 10.1 and appendix A).

@@ -1,3 +1,5 @@
+//! The last counter of a session.
+
 use super::*;
 use crate::channel::Channel;
 use std::test::Fail;

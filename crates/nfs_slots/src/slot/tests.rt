@@ -1,3 +1,5 @@
+//! A slot behind the last number.
+
 use super::*;
 use std::test::Fail;
 
