@@ -25,10 +25,6 @@ take-read a n buf part within fits =
     ap (λ l. take a buf ++ l) (sym (slice_range-put_mid a (length buf - a) n buf part within fits))
     ∙ take_split a (a + n) buf (put_mid a (length buf - a) buf part) (omega arith) (take-put_mid_below _ _ _ _ _ (le_refl _) within)
 
--- a read that failed left the front
-pub take-unread : (a : ℕ) (buf part : List ℕ) → a ≤ length buf → take a (put_mid a (length buf - a) buf part) ≡ take a buf
-take-unread a buf part within = take-put_mid_below _ _ _ _ _ (le_refl _) within
-
 -- the front of the rest joins what is done
 pub moves_front : (all done rest : List ℕ) (n : ℕ) → all ≡ done ++ rest → all ≡ (done ++ take n rest) ++ take (length rest - n) (drop n rest)
 moves_front all done rest n e =
