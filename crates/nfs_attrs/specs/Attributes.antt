@@ -6,6 +6,8 @@ use Rattle.nfs_xdr.specs.Spelling as spelling
 use Rattle.nfs_xdr.specs.Reading.{◌>>=◌}
 use Rattle.nfs_xdr.specs.Codec.{Codec, number, hyper, flag, opaque, unbounded, ◌then◌, array}
 use Rattle.nfs_xdr.specs.Time.{time}
+use Rattle.nfs_xdr.specs.Limits.{fhsize, most_transfer}
+use Rattle.nfs_tree.specs.Files.{most_bytes, most_links, most_name}
 use Rattle.nfs_tree.specs.declared.object.FileType.{FileType}
 use Rattle.nfs_tree.specs.declared.object.FileType.TheVariants.{Regular, Directory, Link}
 use Rattle.nfs_tree.specs.declared.object.Object.{Object}
@@ -81,13 +83,13 @@ attributes =
     ∷ read_only 9 flag (λ a o. true)  -- unique_handles
     ∷ read_only 10 number (λ a o. a.lease)  -- lease_time
     ∷ read_only 11 number (λ a o. 0)  -- rdattr_error
-    ∷ read_only 19 (opaque 128) (λ a o. handle.spell (record { instance = a.instance; number = a.number }))  -- filehandle
+    ∷ read_only 19 (opaque fhsize) (λ a o. handle.spell (record { instance = a.instance; number = a.number }))  -- filehandle
     ∷ read_only 20 hyper (λ a o. a.number)  -- fileid
-    ∷ read_only 27 hyper (λ a o. 1048576)  -- maxfilesize
-    ∷ read_only 28 number (λ a o. 1024)  -- maxlink
-    ∷ read_only 29 number (λ a o. 255)  -- maxname
-    ∷ read_only 30 hyper (λ a o. 65536)  -- maxread
-    ∷ read_only 31 hyper (λ a o. 65536)  -- maxwrite
+    ∷ read_only 27 hyper (λ a o. most_bytes)  -- maxfilesize
+    ∷ read_only 28 number (λ a o. most_links)  -- maxlink
+    ∷ read_only 29 number (λ a o. most_name)  -- maxname
+    ∷ read_only 30 hyper (λ a o. most_transfer)  -- maxread
+    ∷ read_only 31 hyper (λ a o. most_transfer)  -- maxwrite
     ∷ read_write 33 number (λ a o. o.mode) (λ x s. record s { mode = x })  -- mode
     ∷ read_only 35 number (λ a o. a.links)  -- numlinks
     ∷ read_write 36 unbounded (λ a o. decimal o.owner) (λ x s. record s { owner = x })  -- owner

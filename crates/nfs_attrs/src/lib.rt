@@ -15,6 +15,7 @@
 #![tactic(auto)]
 
 mod about;
+mod attribute;
 mod following;
 mod handle;
 pub mod laws;

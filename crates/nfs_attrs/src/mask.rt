@@ -7,6 +7,7 @@ ghost use Rattle.nfs_xdr.specs.SheetState.{HasRoom, Puts};
 ghost use Rattle.nfs_attrs.specs.Following.{Follows};
 ghost use Rattle.nfs_attrs.specs.Mask.{mask_of, has, asks_set_only, trimmed_words, spell_mask, common, within};
 
+use crate::attribute;
 use crate::following::{number_follows, numbers_follow};
 use nfs_xdr::{Cursor, Sheet};
 
@@ -78,7 +79,7 @@ impl Mask {
     pub fn asks_set_only(&self) -> bool
         ensures { result ≡ asks_set_only self.now }
     {
-        self.has(48) || self.has(54)
+        self.has(attribute::TIME_ACCESS_SET) || self.has(attribute::TIME_MODIFY_SET)
     }
 
     /// The words of the mask as it is written: without zero words at its end.

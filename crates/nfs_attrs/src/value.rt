@@ -7,12 +7,13 @@ ghost use Rattle.nfs_attrs.specs.Value.{spell_value, spell_found, asked_at};
 ghost use Rattle.nfs_attrs.specs.Attributes as table;
 
 use crate::about::About;
+use crate::attribute;
 use crate::following::{hyper_follows, number_follows, opaque_follows, time_follows};
 use crate::handle::Handle;
 use crate::mask::{Mask, SETTABLE, SUPPORTED};
 use itoa::Buffer;
-use nfs_tree::{FileType, Object};
-use nfs_xdr::{Cursor, Sheet, Time};
+use nfs_tree::{FileType, Object, Tree};
+use nfs_xdr::{Cursor, MAX_TRANSFER, Sheet, Time};
 
 /// The value of an attribute, by the kind of its spelling.
 #[derive(Clone, Copy, Debug, PartialEq, Eq)]
@@ -90,12 +91,6 @@ impl Value {
     }
 }
 
-/// The attributes of the table, in its order.
-const NUMBERS: [u32; 31] = [
-    0, 1, 2, 3, 4, 5, 6, 7, 8, 9, 10, 11, 19, 20, 27, 28, 29, 30, 31, 33, 35, 36, 37, 45, 47, 48,
-    52, 53, 54, 55, 75,
-];
-
 /// How many bytes of the attribute of this number are asked for.
 fn asked_len(number: u32, asked: &Mask, object: &Object, about: &About) -> usize
     ensures exact { result ≡ length (asked_at asked.now about.now object.now number) }
@@ -150,7 +145,7 @@ pub fn values_len(asked: &Mask, object: &Object, about: &About) -> usize
     ensures words { result % 4 ≡ 0 }
 {
     let mut length = 0;
-    for number in NUMBERS {
+    for number in attribute::ALL {
         length += asked_len(number, asked, object, about);
     }
     length
@@ -161,7 +156,7 @@ pub fn put_values(asked: &Mask, object: &Object, about: &About, sheet: &mut Shee
     requires room { HasRoom sheet.old (table.values asked.now about.now object.now) }
     ensures { Puts sheet.old sheet.new (table.values asked.now about.now object.now) }
 {
-    for number in NUMBERS {
+    for number in attribute::ALL {
         put_asked(number, asked, object, about, sheet);
     }
 }
@@ -170,7 +165,7 @@ pub fn put_values(asked: &Mask, object: &Object, about: &About, sheet: &mut Shee
 pub fn values_follow(asked: &Mask, object: &Object, about: &About, cursor: &mut Cursor<'_>) -> bool
     ensures { Follows result (table.values asked.now about.now object.now) cursor.old cursor.new }
 {
-    for number in NUMBERS {
+    for number in attribute::ALL {
         if !asked_follows(number, asked, object, about, cursor) {
             return false;
         }
@@ -199,35 +194,35 @@ pub fn value_of(number: u32, object: &Object, about: &About) -> Option<Value>
         number: about.number,
     };
     Some(match number {
-        0 => Value::Mask(SUPPORTED),
-        1 => Value::Number(type_number(object.kind)),
-        2 => Value::Number(0),
-        3 => Value::Hyper(object.change),
-        4 => Value::Hyper(object.size),
-        5 => Value::Flag(true),
-        6 => Value::Flag(true),
-        7 => Value::Flag(false),
-        8 => Value::FsId(0, 1),
-        9 => Value::Flag(true),
-        10 => Value::Number(about.lease),
-        11 => Value::Number(0),
-        19 => Value::Handle(handle),
-        20 => Value::Hyper(about.number),
-        27 => Value::Hyper(1_048_576),
-        28 => Value::Number(1024),
-        29 => Value::Number(255),
-        30 => Value::Hyper(65_536),
-        31 => Value::Hyper(65_536),
-        33 => Value::Number(object.mode),
-        35 => Value::Number(about.links),
-        36 => Value::Owner(object.owner),
-        37 => Value::Owner(object.group),
-        45 => Value::Hyper(object.size),
-        47 => Value::Time(object.access),
-        52 => Value::Time(object.metadata),
-        53 => Value::Time(object.modify),
-        55 => Value::Hyper(about.number),
-        75 => Value::Mask(SETTABLE),
+        attribute::SUPPORTED_ATTRS => Value::Mask(SUPPORTED),
+        attribute::TYPE => Value::Number(type_number(object.kind)),
+        attribute::FH_EXPIRE_TYPE => Value::Number(0),
+        attribute::CHANGE => Value::Hyper(object.change),
+        attribute::SIZE => Value::Hyper(object.size),
+        attribute::LINK_SUPPORT => Value::Flag(true),
+        attribute::SYMLINK_SUPPORT => Value::Flag(true),
+        attribute::NAMED_ATTR => Value::Flag(false),
+        attribute::FSID => Value::FsId(0, 1),
+        attribute::UNIQUE_HANDLES => Value::Flag(true),
+        attribute::LEASE_TIME => Value::Number(about.lease),
+        attribute::RDATTR_ERROR => Value::Number(0),
+        attribute::FILEHANDLE => Value::Handle(handle),
+        attribute::FILEID => Value::Hyper(about.number),
+        attribute::MAXFILESIZE => Value::Hyper(Tree::MAX_BYTES),
+        attribute::MAXLINK => Value::Number(Tree::MAX_LINKS),
+        attribute::MAXNAME => Value::Number(Tree::MAX_NAME as u32),
+        attribute::MAXREAD => Value::Hyper(u64::from(MAX_TRANSFER)),
+        attribute::MAXWRITE => Value::Hyper(u64::from(MAX_TRANSFER)),
+        attribute::MODE => Value::Number(object.mode),
+        attribute::NUMLINKS => Value::Number(about.links),
+        attribute::OWNER => Value::Owner(object.owner),
+        attribute::OWNER_GROUP => Value::Owner(object.group),
+        attribute::SPACE_USED => Value::Hyper(object.size),
+        attribute::TIME_ACCESS => Value::Time(object.access),
+        attribute::TIME_METADATA => Value::Time(object.metadata),
+        attribute::TIME_MODIFY => Value::Time(object.modify),
+        attribute::MOUNTED_ON_FILEID => Value::Hyper(about.number),
+        attribute::SUPPATTR_EXCLCREAT => Value::Mask(SETTABLE),
         _ => return None,
     })
 }

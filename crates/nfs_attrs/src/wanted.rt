@@ -9,23 +9,11 @@ ghost use Rattle.nfs_attrs.specs.SetTime.{set_time};
 ghost use Rattle.nfs_attrs.specs.Reading as reading;
 ghost use Rattle.nfs_attrs.specs.View as view;
 
+use crate::attribute;
 use crate::mask::{Mask, SETTABLE, SUPPORTED};
 use crate::owner::owner_of;
 use crate::set_time::SetTime;
 use nfs_xdr::{Cursor, Status, Unreadable};
-
-/// The numbers of the attributes that can be set.
-const SIZE: u32 = 4;
-
-const MODE: u32 = 33;
-
-const OWNER: u32 = 36;
-
-const OWNER_GROUP: u32 = 37;
-
-const TIME_ACCESS_SET: u32 = 48;
-
-const TIME_MODIFY_SET: u32 = 54;
 
 /// What a request sets, each where it is there.
 #[derive(Clone, Copy, Debug, PartialEq, Eq)]
@@ -129,12 +117,12 @@ fn time_if(there: bool, cursor: &mut Cursor<'_>) -> Result<Option<SetTime>, Unre
 fn each_setting<'a>(given: &Mask, cursor: &mut Cursor<'a>) -> Result<Settings<'a>, Unreadable>
     ensures { ReadsPartBy view.settings result (table.set_in table.attributes given.now table.no_settings cursor.old) cursor.new }
 {
-    let size = hyper_if(given.has(SIZE), cursor)?;
-    let mode = number_if(given.has(MODE), cursor)?;
-    let owner = text_if(given.has(OWNER), cursor)?;
-    let group = text_if(given.has(OWNER_GROUP), cursor)?;
-    let access = time_if(given.has(TIME_ACCESS_SET), cursor)?;
-    let modify = time_if(given.has(TIME_MODIFY_SET), cursor)?;
+    let size = hyper_if(given.has(attribute::SIZE), cursor)?;
+    let mode = number_if(given.has(attribute::MODE), cursor)?;
+    let owner = text_if(given.has(attribute::OWNER), cursor)?;
+    let group = text_if(given.has(attribute::OWNER_GROUP), cursor)?;
+    let access = time_if(given.has(attribute::TIME_ACCESS_SET), cursor)?;
+    let modify = time_if(given.has(attribute::TIME_MODIFY_SET), cursor)?;
     Ok(Settings {
         size,
         mode,

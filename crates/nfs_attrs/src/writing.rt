@@ -7,14 +7,12 @@ ghost use Rattle.nfs_attrs.specs.Attributes as table;
 ghost use Rattle.nfs_attrs.specs.Comparing as comparing;
 
 use crate::about::About;
+use crate::attribute;
 use crate::mask::{Mask, READABLE, SUPPORTED};
 use crate::value::{put_values, values_follow, values_len};
 use crate::wanted::AttrFault;
 use nfs_tree::Object;
 use nfs_xdr::{Cursor, Sheet};
-
-/// The number of `rdattr_error`, which is never compared.
-const RDATTR_ERROR: u32 = 11;
 
 /// How many bytes [`write_attrs`] puts: at most 632.
 pub fn attrs_len(object: &Object, about: &About, asked: Mask) -> usize
@@ -69,7 +67,7 @@ pub fn same(object: &Object, about: &About, asked: Mask, values: &[u8]) -> Resul
     if !asked.within(&SUPPORTED) {
         return Err(AttrFault::AttrNotSupp);
     }
-    if asked.has(RDATTR_ERROR) || asked.asks_set_only() {
+    if asked.has(attribute::RDATTR_ERROR) || asked.asks_set_only() {
         return Err(AttrFault::Inval);
     }
     Ok(are_values(&asked, object, about, values))

@@ -8,7 +8,8 @@ use Rattle.std.specs.Ordering.{nat_cmp}
 use Rattle.std.specs.Option.{option_map_or}
 use Rattle.std.specs.List.Sorted.{IsSearchInRange, IsBinarySearchResult}
 use Rattle.std.proofs.lemmas.List.Quantifiers.{position-Some}
-use Rattle.nfs_xdr.proofs.Tables.{searched, written, unwritten, removed, position_is, position_finds, position_nowhere, without_none}
+use Rattle.nfs_xdr.proofs.Lists.{position_finds, position_nowhere}
+use Rattle.nfs_xdr.proofs.Tables.{searched, written, unwritten, removed, position_is, without_none}
 use Rattle.nfs_clients.specs.Roster.{ClientRecord, Roster, IsRoster, id_of, next_id, client_at, is_unconfirmed_of, with_changed, without}
 use Rattle.nfs_clients.specs.ExchangeId.{Ask, has_room, with_new, new_client}
 use Rattle.nfs_clients.specs.CreateSession.{with_confirmed, confirms, leaving, without_any}

@@ -6,8 +6,8 @@ use Rattle.std.proofs.lemmas.Bool.{cases_Bool, cases_eq, ne_eqb, eq-eqb, ltb-tru
 use Rattle.std.proofs.lemmas.Slice.Eq.{bytes_eq-Decides}
 use Rattle.std.proofs.lemmas.List.{length-map}
 use Rattle.nfs_xdr.specs.Tables.{In}
-use Rattle.nfs_xdr.proofs.Tables.{in_filter, in_push, in_map, find_in, none_in, map_same, filter_in, filter_all, length_filter, length_left, IsRising-push}
-use Rattle.nfs_xdr.proofs.Tables.{IsRising-map, IsRising-filter, in_once, at_of_in, at_above}
+use Rattle.nfs_xdr.proofs.Lists.{in_filter, in_push, in_map, find_in, none_in, map_same, filter_in, filter_all, length_filter, length_left}
+use Rattle.nfs_xdr.proofs.Tables.{IsRising-push, IsRising-map, IsRising-filter, in_once, at_of_in, at_above}
 use Rattle.nfs_clients.specs.declared.created.CreateResult.{CreateResult}
 use Rattle.nfs_clients.specs.Roster.{ClientRecord, Roster, IsRoster, id_of, next_id, client_at, is_unconfirmed_of, unconfirmed_of, with_changed, without}
 use Rattle.nfs_clients.specs.Roster.{most_records, last_counter}

@@ -6,12 +6,15 @@ ghost use Rattle.nfs_clients.specs.CreateSession.{uses_up, status_uses_up};
 use nfs_xdr::Status;
 use std::marker::Model;
 
+/// The most bytes of the body of a CREATE_SESSION result.
+const MAX_BODY: usize = 84;
+
 /// The body of a successful CREATE_SESSION result (`CREATE_SESSION4resok`, RFC 8881 section
 /// 18.36.2): what stands behind the operation number and the status, at most 84 bytes.
 /// Contracts see the bytes.
 #[derive(Drop)]
 pub struct Resok {
-    bytes: [u8; 84],
+    bytes: [u8; MAX_BODY],
     len: usize,
 }
 
@@ -32,7 +35,7 @@ impl Resok {
         ensures { result ≡ bytes.now }
     {
         let len = bytes.len();
-        let mut copy = [0; 84];
+        let mut copy = [0; MAX_BODY];
         copy[..len].copy_from_slice(bytes);
         Resok { bytes: copy, len }
     }

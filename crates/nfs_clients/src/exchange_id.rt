@@ -15,6 +15,15 @@ use crate::owner::{Name, Owner};
 use nfs_xdr::Status;
 use std::alloc::{AllocError, Global};
 
+/// How many records there are at most (this server's profile).
+const MAX_RECORDS: usize = 1_024;
+
+/// EXCHGID4_FLAG_CONFIRMED_R (RFC 8881 section 18.35.1): the record is confirmed.
+pub const CONFIRMED_R: u32 = 0x8000_0000;
+
+/// EXCHGID4_FLAG_UPD_CONFIRMED_REC_A (RFC 8881 section 18.35.1).
+const UPD_CONFIRMED_REC_A: u32 = 0x4000_0000;
+
 /// Why EXCHANGE_ID is refused (RFC 8881 section 18.35.3; the cases are this server's profile).
 #[derive(Clone, Copy, Debug, PartialEq, Eq)]
 pub enum ClientFault {
@@ -147,7 +156,7 @@ impl Clients {
         ensures { result ≡ has_room self.now owner.now }
     {
         self.last < u32::MAX
-            && (self.records.len() < MOST_RECORDS || unconfirmed_in(&self.records, owner).is_some())
+            && (self.records.len() < MAX_RECORDS || unconfirmed_in(&self.records, owner).is_some())
     }
 
     /// Puts a new record in the place of the owner's unconfirmed one.
@@ -173,15 +182,6 @@ impl Clients {
         })
     }
 }
-
-/// How many records there are at most (this server's profile).
-const MOST_RECORDS: usize = 1024;
-
-/// EXCHGID4_FLAG_CONFIRMED_R (RFC 8881 section 18.35.1): the record is confirmed.
-pub const CONFIRMED_R: u32 = 0x8000_0000;
-
-/// EXCHGID4_FLAG_UPD_CONFIRMED_REC_A (RFC 8881 section 18.35.1).
-const UPD_CONFIRMED_REC_A: u32 = 0x4000_0000;
 
 /// What a call comes to: a refusal, a record that stands, or a new one.
 #[derive(Clone, Copy)]

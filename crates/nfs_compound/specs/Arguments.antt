@@ -1,12 +1,13 @@
 -- The table of arguments: how each operation is spelled behind its number (RFC 5662; RFC 8881 section 18).
 use Rattle.std.specs.Prelude.{ℕ, ◌&&◌, List, ◌++◌, Option, Some, None, nat_le, is_some, if◌then◌else◌}
 use Rattle.nfs_xdr.specs.Spelling as spelling
+use Rattle.nfs_xdr.specs.Limits.{fhsize}
 use Rattle.nfs_xdr.specs.Codec.{Codec, number, hyper, flag, fixed, opaque, unbounded, nothing, union_by, arm, bare}
 use Rattle.nfs_xdr.specs.declared.status.Status.{Status}
 use Rattle.nfs_xdr.specs.declared.status.Status.TheVariants.{Inval, NotSupp, BadXdr, OpIllegal}
 use Rattle.nfs_compound.specs.declared.op_num.OpNum.{OpNum}
 use Rattle.nfs_compound.specs.declared.op_num.OpNum.TheVariants as Ops
-use Rattle.nfs_compound.specs.OpNum.{op_number, op_nums, op_num}
+use Rattle.nfs_compound.specs.OpNum.{op_number, op_nums, op_num, first_op, last_op, op_illegal}
 use Rattle.nfs_compound.specs.Stateid.{stateid, stateids}
 use Rattle.nfs_compound.specs.Attributes.{bitmap, attributes}
 use Rattle.nfs_compound.specs.OpenArgs.{open_args, open_downgrade_args, close_args}
@@ -48,7 +49,7 @@ arguments OpLookupP = alone Ops.LookupP
 arguments (OpNVerify a) = behind Ops.NVerify attributes a
 arguments (OpOpen a) = behind Ops.Open open_args a
 arguments (OpOpenDowngrade a) = behind Ops.OpenDowngrade open_downgrade_args a
-arguments (OpPutFh object) = behind Ops.PutFh (opaque 128) object
+arguments (OpPutFh object) = behind Ops.PutFh (opaque fhsize) object
 arguments OpPutPubFh = alone Ops.PutPubFh
 arguments OpPutRootFh = alone Ops.PutRootFh
 arguments (OpRead a) = behind Ops.Read read_args a
@@ -88,7 +89,7 @@ op_at Ops.LookupP bytes = bare OpLookupP bytes
 op_at Ops.NVerify bytes = arm OpNVerify attributes bytes
 op_at Ops.Open bytes = arm OpOpen open_args bytes
 op_at Ops.OpenDowngrade bytes = arm OpOpenDowngrade open_downgrade_args bytes
-op_at Ops.PutFh bytes = arm OpPutFh (opaque 128) bytes
+op_at Ops.PutFh bytes = arm OpPutFh (opaque fhsize) bytes
 op_at Ops.PutPubFh bytes = bare OpPutPubFh bytes
 op_at Ops.PutRootFh bytes = bare OpPutRootFh bytes
 op_at Ops.Read bytes = arm OpRead read_args bytes
@@ -126,10 +127,10 @@ flaw Ops.ExchangeId bytes = if is_some (protected.read bytes) then Inval else Ba
 flaw op bytes = BadXdr
 
 -- The fault of a number, with these bytes behind it, where no operation that is read stands. RFC 8881 has the operations
--- 3 to 58 in minor version 1; any other number is answered under that of OP_ILLEGAL.
+-- first_op to last_op in minor version 1; any other number is answered under that of OP_ILLEGAL.
 abbrev pub fault_of : Option OpNum → ℕ → List ℕ → Item
 fault_of (Some op) n bytes = Fault n (flaw op bytes)
-fault_of None n bytes = if nat_le 3 n && nat_le n 58 then Fault n NotSupp else Fault 10044 OpIllegal
+fault_of None n bytes = if nat_le first_op n && nat_le n last_op then Fault n NotSupp else Fault op_illegal OpIllegal
 
 unfoldable pub fault_at : ℕ → List ℕ → Item
 fault_at n bytes = fault_of (op_num n) n bytes

@@ -3,6 +3,7 @@
 use Rattle.std.specs.Prelude.{ℕ, List, [], ◌∷◌, ◌++◌, Option}
 use Rattle.std.specs.Int.{w32, from_be_bytes}
 use Rattle.nfs_xdr.specs.Spelling as spelling
+use Rattle.nfs_xdr.specs.Limits.{most_groups, most_machine_name}
 use Rattle.nfs_xdr.specs.Codec.{Codec, number, opaque, unbounded, ◌then◌, as_type, array, pieces, at_most, raw, union, arm, bare}
 
 pub record AuthSys : Type 0 where
@@ -16,7 +17,7 @@ unfoldable pub auth_sys : Codec AuthSys
 auth_sys = as_type
     (λ (stamp, (machinename, (uid, (gid, gids)))). record { stamp = stamp; machinename = machinename; uid = uid; gid = gid; gids = gids })
     (λ a. (a.stamp, (a.machinename, (a.uid, (a.gid, a.gids)))))
-    (number then opaque 255 then number then number then at_most 16 (pieces 4 (from_be_bytes w32) number))
+    (number then opaque most_machine_name then number then number then at_most most_groups (pieces 4 (from_be_bytes w32) number))
 
 pub record GssHandles : Type 0 where
   pub service : ℕ

@@ -46,6 +46,16 @@ op_number TestStateid = 55
 op_number DestroyClientId = 57
 op_number ReclaimComplete = 58
 
+-- the least and the greatest number of an operation of minor version 1, whether or not it is read, and that of OP_ILLEGAL
+abbrev pub first_op : ℕ
+first_op = 3
+
+abbrev pub last_op : ℕ
+last_op = 58
+
+abbrev pub op_illegal : ℕ
+op_illegal = 10044
+
 -- every operation that is read
 abbrev pub op_nums : List OpNum
 op_nums =

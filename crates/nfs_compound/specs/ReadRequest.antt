@@ -2,6 +2,7 @@
 -- is a law (Laws).
 use Rattle.std.specs.Prelude.{ℕ, zero, suc, ◌==◌, List, [], ◌∷◌, length, Option, Some, None, Bool, true, false, if◌then◌else◌}
 use Rattle.nfs_xdr.specs.Reading.{◌>>=◌, number_at, opaque_at}
+use Rattle.nfs_xdr.specs.Limits.{opaque_limit}
 use Rattle.nfs_compound.specs.Operation.{Op, Item, Operation, Fault}
 use Rattle.nfs_compound.specs.OpNum.{op_num}
 use Rattle.nfs_compound.specs.Arguments.{op_at, fault_at}
@@ -29,7 +30,7 @@ items_at (suc n) bytes = item_at bytes >>= λ x. in_front x.0 (items_at n x.1)
 
 unfoldable pub request_at : List ℕ → Option Request
 request_at bytes = do
-  tag ← opaque_at 1024 bytes
+  tag ← opaque_at opaque_limit bytes
   minor ← number_at tag.1
   declared ← number_at minor.1
   items ← if minor.0 == 1 then items_at declared.0 declared.1 else Some []

@@ -3,6 +3,7 @@ use Rattle.std.specs.Prelude.{◌≡◌, ◌≢◌, ℕ, zero, suc, ◌<◌, ◌
 use Rattle.nfs_xdr.specs.Spelling as spelling
 use Rattle.nfs_xdr.specs.Codec as codec
 use Rattle.nfs_xdr.specs.Codec.{Codec}
+use Rattle.nfs_xdr.specs.Limits.{opaque_limit}
 use Rattle.nfs_compound.specs.Operation.{Op, Item, Operation, Fault}
 use Rattle.nfs_compound.specs.Arguments.{spell_op, FitsOp, fault_at}
 
@@ -21,7 +22,7 @@ pub record Lacks {A : Type 0} (c : Codec A) (bytes : List ℕ) : Type 0 where
 -- The tag of at most 1,024 bytes, the minor version and the count stand in front of the body.
 pub record IsHead (bytes tag : List ℕ) (minor declared : ℕ) (body : List ℕ) : Type 0 where
   pub spelled : bytes ≡ spelling.opaque tag ++ (spelling.number minor ++ (spelling.number declared ++ body))
-  pub tag_fits : (codec.opaque 1024).Fits tag
+  pub tag_fits : (codec.opaque opaque_limit).Fits tag
   pub minor_fits : minor < 2 ^ 32
   pub declared_fits : declared < 2 ^ 32
 
@@ -61,11 +62,11 @@ pub record IsRequest (bytes : List ℕ) (r : Request) : Type 0 where
 
 -- What makes arguments garbage.
 pub data IsGarbage (bytes : List ℕ) : Type 0 where
-  LacksTag : Lacks (codec.opaque 1024) bytes → IsGarbage bytes
-  LacksMinor : (tag rest : List ℕ) → (codec.opaque 1024).Fits tag
+  LacksTag : Lacks (codec.opaque opaque_limit) bytes → IsGarbage bytes
+  LacksMinor : (tag rest : List ℕ) → (codec.opaque opaque_limit).Fits tag
       → bytes ≡ spelling.opaque tag ++ rest
       → Lacks codec.number rest → IsGarbage bytes
-  LacksCount : (tag : List ℕ) (minor : ℕ) (rest : List ℕ) → (codec.opaque 1024).Fits tag → minor < 2 ^ 32
+  LacksCount : (tag : List ℕ) (minor : ℕ) (rest : List ℕ) → (codec.opaque opaque_limit).Fits tag → minor < 2 ^ 32
       → bytes ≡ spelling.opaque tag ++ (spelling.number minor ++ rest)
       → Lacks codec.number rest → IsGarbage bytes
   SpoilsBody : (tag : List ℕ) (declared : ℕ) (body : List ℕ) → IsHead bytes tag 1 declared body

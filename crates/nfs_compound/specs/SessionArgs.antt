@@ -2,6 +2,7 @@
 use Rattle.std.specs.Prelude.{ℕ, ◌==◌, ◌||◌, List, Option, Some, None}
 use Rattle.nfs_xdr.specs.declared.time.Time.{Time}
 use Rattle.nfs_xdr.specs.Time.{time}
+use Rattle.nfs_xdr.specs.Limits.{opaque_limit}
 use Rattle.nfs_xdr.specs.Codec.{Codec, number, hyper, flag, fixed, opaque, unbounded, ◌then◌, as_type, only, optional, led_by}
 use Rattle.nfs_compound.specs.declared.channel_attrs.ChannelAttrs.{ChannelAttrs}
 use Rattle.nfs_compound.specs.declared.session_args.ImplId as rust_impl_id
@@ -32,11 +33,11 @@ unfoldable pub exchange_id_args : Codec ExchangeId
 exchange_id_args = as_type
     (λ (verifier, (ownerid, (flags, made))). record { verifier = verifier; ownerid = ownerid; flags = flags; impl_id = made })
     (λ e. (e.verifier, (e.ownerid, (e.flags, e.impl_id))))
-    (fixed 8 then opaque 1024 then number then led_by 0 (optional impl_id))
+    (fixed 8 then opaque opaque_limit then number then led_by 0 (optional impl_id))
 
 -- an EXCHANGE_ID up to its state protection, where that is one of the two that are not served
 unfoldable pub protected : Codec (List ℕ × (List ℕ × (ℕ × ℕ)))
-protected = fixed 8 then opaque 1024 then number then only (λ n. n == 1 || n == 2) number
+protected = fixed 8 then opaque opaque_limit then number then only (λ n. n == 1 || n == 2) number
 
 pub record CreateSession : Type 0 where
   pub clientid : ℕ

@@ -5,7 +5,14 @@ ghost use Rattle.nfs_xdr.specs.Reading.{ReadsPartBy};
 ghost use Rattle.nfs_xdr.specs.Codec.{passed, array};
 ghost use Rattle.nfs_compound.specs.Callback.{auth_sys, gss_handles, sec_parms, all_sec_parms};
 
-use nfs_xdr::{Cursor, Unreadable};
+use nfs_xdr::{Cursor, MAX_GROUPS, MAX_MACHINE_NAME, Unreadable};
+
+/// The flavors that callbacks may have (RFC 5531 sections 10.1 and appendix A, RFC 2203).
+const AUTH_NONE: u32 = 0;
+
+const AUTH_SYS: u32 = 1;
+
+const RPCSEC_GSS: u32 = 6;
 
 /// The bytes of an array of callback security parameters. Unreadable where one of them is.
 pub fn all_sec_parms<'a>(c: &mut Cursor<'a>) -> Result<&'a [u8], Unreadable>
@@ -26,15 +33,15 @@ fn pass_all(c: &mut Cursor<'_>) -> Result<(), Unreadable>
     Ok(())
 }
 
-/// Goes over the parameters of one flavour: AUTH_NONE, AUTH_SYS or RPCSEC_GSS.
+/// Goes over the parameters of one flavor: AUTH_NONE, AUTH_SYS or RPCSEC_GSS.
 #[tactic(auto, unfolding(crate::specs::Callback::sec_parms))]
 fn pass(c: &mut Cursor<'_>) -> Result<(), Unreadable>
     ensures { ReadsPartBy (λ u. u) result (passed (sec_parms.read c.old)) c.new }
 {
     match c.u32()? {
-        0 => Ok(()),
-        1 => pass_auth_sys(c),
-        6 => pass_gss_handles(c),
+        AUTH_NONE => Ok(()),
+        AUTH_SYS => pass_auth_sys(c),
+        RPCSEC_GSS => pass_gss_handles(c),
         _ => Err(Unreadable),
     }
 }
@@ -44,11 +51,11 @@ fn pass_auth_sys(c: &mut Cursor<'_>) -> Result<(), Unreadable>
     ensures { ReadsPartBy (λ u. u) result (passed (auth_sys.read c.old)) c.new }
 {
     c.u32()?;
-    c.opaque(255)?;
+    c.opaque(MAX_MACHINE_NAME)?;
     c.u32()?;
     c.u32()?;
     let gids = c.pieces::<4>()?;
-    if gids.len() > 16 {
+    if gids.len() > MAX_GROUPS {
         return Err(Unreadable);
     }
     Ok(())

@@ -1,14 +1,18 @@
 //! A compound, read one operation at a time.
 
 ghost use Rattle.std.specs.Prelude.{◌≡◌, ◌∷◌, ◌≤◌, [], length, Some, None, MatchOption, MatchResult, IfOk, OnErr, is_some};
+ghost use Rattle.nfs_xdr.specs.Limits.{opaque_limit};
 ghost use Rattle.nfs_compound.specs.Request.{IsRequest, IsGarbage};
 ghost use Rattle.nfs_compound.specs.ReadRequest.{items_at, request_at};
 ghost use Rattle.nfs_compound.specs.View as view;
 
 use crate::arg::Arg;
 use crate::item::item;
-use nfs_xdr::{Cursor, Unreadable};
+use nfs_xdr::{Cursor, OPAQUE_LIMIT, Unreadable};
 use std::marker::Model;
+
+/// The minor version that is served (RFC 8881 section 2.4).
+pub const MINOR_VERSION: u32 = 1;
 
 /// The arguments of a compound (RFC 8881 section 16.2.1). Contracts see its head and what is left of its
 /// list.
@@ -26,12 +30,13 @@ impl<'a> Model for Compound<'a> {
     ghost use Rattle.std.specs.Prelude.{◌≤◌, length};
     ghost use Rattle.nfs_compound.specs.Request.{Request};
     ghost use Rattle.nfs_compound.specs.ReadRequest.{items_left};
+    ghost use Rattle.nfs_xdr.specs.Limits.{opaque_limit};
 
     ghost Value = { Request };
 
     ghost view = { λ a. record { bytes = a.bytes.now; tag = a.tag.now; minor = a.minor; declared = a.declared; left = items_left a.left a.cursor } };
 
-    ghost invariant = { λ a. length a.tag.now ≤ 1024 };
+    ghost invariant = { λ a. length a.tag.now ≤ opaque_limit };
 }
 
 /// The arguments of a compound cannot be told apart, and nothing of it is run: its tag, minor version or
@@ -72,7 +77,7 @@ impl<'a> Compound<'a> {
     /// The tag, which the answer bears again: at most 1,024 bytes.
     pub fn tag(&self) -> &'a [u8]
         ensures value { result.now ≡ self.now.tag }
-        ensures bound { length result.now ≤ 1024 }
+        ensures bound { length result.now ≤ opaque_limit }
     {
         self.tag
     }
@@ -113,10 +118,10 @@ impl<'a> Compound<'a> {
             (λ _. request_at bytes.now ≡ None) }
     {
         let mut cursor = Cursor::new(bytes);
-        let tag = cursor.opaque(1024)?;
+        let tag = cursor.opaque(OPAQUE_LIMIT)?;
         let minor = cursor.u32()?;
         let declared = cursor.u32()?;
-        if minor != 1 {
+        if minor != MINOR_VERSION {
             return Ok(Compound {
                 bytes,
                 tag,

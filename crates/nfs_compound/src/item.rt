@@ -13,11 +13,11 @@ use crate::attributes::{Attributes, Bitmap};
 use crate::file_args::{Commit, Read, SetAttr, Write};
 use crate::lock_args::{Lock, LockT, LockU};
 use crate::name_args::{Create, ReadDir, Rename, SecinfoStyle};
-use crate::op_num::{OP_ILLEGAL, OpNum};
+use crate::op_num::{FIRST_OP, LAST_OP, OP_ILLEGAL, OpNum};
 use crate::open_args::{Close, Open, OpenDowngrade};
 use crate::session_args::{CreateSession, ExchangeId, Sequence};
 use crate::stateid::{Stateid, Stateids};
-use nfs_xdr::{Cursor, Status, Unreadable};
+use nfs_xdr::{Cursor, FHSIZE, Status, Unreadable};
 
 /// What stands at the cursor, with the cursor behind it; behind a fault nothing is left. `None` where no operation
 /// number can be read.
@@ -70,7 +70,7 @@ fn arguments<'a>(op: OpNum, c: &mut Cursor<'a>) -> Result<Arg<'a>, Unreadable>
         OpNum::Open => Arg::Open(Open::read(c)?),
         OpNum::OpenDowngrade => Arg::OpenDowngrade(OpenDowngrade::read(c)?),
         OpNum::PutFh => Arg::PutFh {
-            object: c.opaque(128)?,
+            object: c.opaque(FHSIZE)?,
         },
         OpNum::PutPubFh => Arg::PutPubFh,
         OpNum::PutRootFh => Arg::PutRootFh,
@@ -118,7 +118,7 @@ fn fault<'a>(number: u32, behind: &[u8]) -> Arg<'a>
             number,
             status: flaw(op, behind),
         },
-        (None, 3..=58) => Arg::Fault {
+        (None, FIRST_OP..=LAST_OP) => Arg::Fault {
             number,
             status: Status::NotSupp,
         },

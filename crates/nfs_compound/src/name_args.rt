@@ -136,7 +136,7 @@ impl<'a> Rename<'a> {
     }
 }
 
-/// Whose flavours SECINFO_NO_NAME asks for (secinfo_style4).
+/// Whose flavors SECINFO_NO_NAME asks for (secinfo_style4).
 #[derive(Clone, Copy)]
 pub enum SecinfoStyle {
     /// SECINFO_STYLE4_CURRENT_FH, 0.
@@ -146,7 +146,7 @@ pub enum SecinfoStyle {
 }
 
 impl SecinfoStyle {
-    /// Reads whose flavours are asked for; unreadable where it is not spelled so.
+    /// Reads whose flavors are asked for; unreadable where it is not spelled so.
     #[tactic(auto, unfolding(crate::specs::NameArgs::secinfo_style))]
     pub fn read(c: &mut Cursor<'_>) -> Result<SecinfoStyle, Unreadable>
         ensures { ReadsPartBy (λ s. s) result (secinfo_style.read c.old) c.new }

@@ -82,6 +82,12 @@ pub enum OpNum {
     ReclaimComplete,
 }
 
+/// The least number of an operation of minor version 1, whether or not this server reads it: ACCESS.
+pub const FIRST_OP: u32 = 3;
+
+/// The greatest: RECLAIM_COMPLETE.
+pub const LAST_OP: u32 = 58;
+
 /// The number under which an illegal operation is answered.
 pub const OP_ILLEGAL: u32 = 10044;
 

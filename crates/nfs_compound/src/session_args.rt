@@ -8,13 +8,15 @@ ghost use Rattle.nfs_compound.specs.SessionArgs.{view_impl_id, view_exchange_id,
 
 use crate::callback::all_sec_parms;
 use crate::channel_attrs::ChannelAttrs;
-use nfs_xdr::{Cursor, Time, Unreadable};
+use nfs_xdr::{Cursor, OPAQUE_LIMIT, Time, Unreadable};
 
-/// No state protection, by machine credentials, and by a secret that client and server share.
-const SP4_NONE: u32 = 0;
+/// No state protection (RFC 8881 section 18.35).
+pub const SP4_NONE: u32 = 0;
 
+/// State protection by machine credentials.
 const SP4_MACH_CRED: u32 = 1;
 
+/// State protection by a secret that client and server share.
 const SP4_SSV: u32 = 2;
 
 /// Who made a client, and when (nfs_impl_id4).
@@ -55,7 +57,7 @@ impl<'a> ExchangeId<'a> {
         ensures { ReadsPartBy view_exchange_id result (exchange_id_args.read c.old) c.new }
     {
         let verifier = c.fixed::<8>()?;
-        let ownerid = c.opaque(1024)?;
+        let ownerid = c.opaque(OPAQUE_LIMIT)?;
         let flags = c.u32()?;
         if c.u32()? != SP4_NONE {
             return Err(Unreadable);
@@ -86,7 +88,7 @@ fn protection(c: &mut Cursor<'_>) -> Result<u32, Unreadable>
     ensures { ReadsPartBy (λ n. n) result (in_arm (λ x. x.1.1.1) (protected.read c.old)) c.new }
 {
     c.fixed::<8>()?;
-    c.opaque(1024)?;
+    c.opaque(OPAQUE_LIMIT)?;
     c.u32()?;
     match c.u32()? {
         how @ (SP4_MACH_CRED | SP4_SSV) => Ok(how),

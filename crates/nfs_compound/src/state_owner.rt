@@ -3,7 +3,7 @@
 ghost use Rattle.nfs_xdr.specs.Reading.{ReadsPartBy};
 ghost use Rattle.nfs_compound.specs.StateOwner.{state_owner, view};
 
-use nfs_xdr::{Cursor, Unreadable};
+use nfs_xdr::{Cursor, OPAQUE_LIMIT, Unreadable};
 
 /// An open owner or a lock owner (RFC 8881 section 3.3.13).
 #[derive(Clone, Copy)]
@@ -20,7 +20,7 @@ impl<'a> StateOwner<'a> {
         ensures { ReadsPartBy view result (state_owner.read c.old) c.new }
     {
         let clientid = c.u64()?;
-        let owner = c.opaque(1024)?;
+        let owner = c.opaque(OPAQUE_LIMIT)?;
         Ok(StateOwner { clientid, owner })
     }
 }

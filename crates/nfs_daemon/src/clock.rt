@@ -2,13 +2,10 @@
 
 ghost use Rattle.std.specs.Prelude.{◌≡◌, ◌≤◌, ◌<◌, ◌%◌, ◌^◌, None};
 
-use nfs_serve::Clock;
+use nfs_serve::{Clock, LAST_MOMENT};
 use std::marker::Model;
 use std::rt;
 use std::time::{SystemTime, UNIX_EPOCH};
-
-/// The last moment that a server takes.
-const LAST_MOMENT: u64 = 1 << 62;
 
 /// The system's clock in seconds since 1970. Where it cannot be read it repeats its last moment, at first 0.
 #[derive(Drop)]

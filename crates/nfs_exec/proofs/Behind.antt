@@ -1,5 +1,5 @@
 -- What one operation behind a SEQUENCE leaves as it is.
-use Rattle.std.proofs.Common.{◌≡◌, ℕ, Bool, true, false, eqb, ltb, List, [], ◌∷◌, ◌++◌, ◌+◌, ◌≤◌, length, Option, Some, None, Result, Ok, Err, refl, sym, ◌∙◌}
+use Rattle.std.proofs.Common.{◌≡◌, ℕ, Bool, true, false, eqb, ltb, List, [], ◌∷◌, ◌+◌, ◌≤◌, length, Option, Some, None, Result, Ok, Err, refl, ◌∙◌}
 use Rattle.std.proofs.Common.{ap, subst, arith, inl, inr}
 use Rattle.std.specs.Prelude.{IsTrue, ◌||◌}
 use Rattle.std.proofs.lemmas.Bool.{cases_Bool}
@@ -33,7 +33,7 @@ use Rattle.nfs_sessions.specs.Sessions.{SessionTable}
 use Rattle.nfs_exec.specs.Machine.{Machine, Outcome, is_ok, comes_to, with_mark}
 use Rattle.nfs_exec.specs.Place.{status_behind}
 use Rattle.nfs_exec.specs.ReclaimComplete.{reclaim_complete, of_one, of_all}
-use Rattle.nfs_exec.specs.Behind.{step, on_store, moves_opens, marked, marked_if, otherwise, stays}
+use Rattle.nfs_exec.specs.Behind.{step, on_store, moves_opens, marked_if, otherwise, stays}
 use Rattle.nfs_exec.specs.View.{Steps}
 use Rattle.nfs_exec.specs.Run.{Ran, run, in_room, follow, is_here, behind_here, reserve}
 

@@ -2,7 +2,7 @@
 use Rattle.std.proofs.Common.{◌≡◌, ℕ, false, List, None, refl, sym, ◌∙◌, ap}
 use Rattle.std.specs.Prelude.{not, is_some}
 use Rattle.nfs_xdr.specs.declared.status.Status.TheVariants.{BadSession}
-use Rattle.nfs_xdr.proofs.Tables.{filter_all, none_in}
+use Rattle.nfs_xdr.proofs.Lists.{filter_all, none_in}
 use Rattle.nfs_sessions.specs.Id.{id_of}
 use Rattle.nfs_sessions.specs.declared.id.SessionId.{SessionId}
 use Rattle.nfs_sessions.specs.Sessions.{SessionTable, is_session, session_at, destroyed}

@@ -1,29 +1,19 @@
 -- A client whose lease has run out goes, and what the moment leaves is the same.
-use Rattle.std.proofs.Common.{◌≡◌, ℕ, ◌+◌, ◌<◌, arith, Bool, true, false, cond, eqb, List, [], ◌∷◌, Option, Some, None, refl, sym, ◌∙◌, ap, inl, inr}
-use Rattle.std.specs.Prelude.{not, ◌&&◌, filter, is_some}
+use Rattle.std.proofs.Common.{◌≡◌, ℕ, ◌+◌, ◌<◌, arith, Bool, true, false, cond, eqb, Option, Some, None, refl, ◌∙◌, ap, inl, inr}
+use Rattle.std.specs.Prelude.{not, ◌&&◌, is_some}
 use Rattle.std.proofs.Math.Path.{fun_ext}
-use Rattle.std.proofs.lemmas.Bool.{cases_Bool, cases_eq, ne_eqb, eq-eqb}
-use Rattle.nfs_xdr.proofs.Tables.{filter_all}
+use Rattle.std.proofs.lemmas.Bool.{cases_eq, ne_eqb, eq-eqb}
+use Rattle.nfs_xdr.proofs.Lists.{filter_all, filter_both}
 use Rattle.nfs_clients.specs.Roster.{ClientRecord}
 use Rattle.nfs_sessions.specs.Sessions.{Session}
 use Rattle.nfs_lease.specs.Renewals.{Book, is_out, has_run_out, without_lease}
 use Rattle.nfs_names.specs.State.{IsStore}
 use Rattle.nfs_names.specs.Ending.{staying}
 use Rattle.nfs_opens.specs.Table.{IsTable}
-use Rattle.nfs_names.proofs.Staying.{staying_twice, staying_everybody}
+use Rattle.nfs_names.proofs.Staying.{staying_twice, staying_everybody, swapped}
 use Rattle.nfs_exec.specs.Machine.{Machine}
 use Rattle.nfs_exec.specs.Expiry.{expired}
 use Rattle.nfs_exec.specs.View.{without_client}
-
-pub filter_both : {X : Type 0} (p q r : X → Bool) → ((x : X) → (q x && p x) ≡ r x) → (xs : List X) → filter p (filter q xs) ≡ filter r xs
-filter_both p q r same [] = refl
-filter_both p q r same (x ∷ xs) = elim (cases_Bool (q x)) [
-  | inl here ↦ (let is : p x ≡ r x = ap (λ b. b && p x) (sym here) ∙ same x in elim (cases_Bool (p x)) [
-    | inl kept ↦ rw (here, kept, sym is ∙ kept) (ap (λ ys. x ∷ ys) (filter_both p q r same xs))
-    | inr gone ↦ rw (here, gone, sym is ∙ gone) (filter_both p q r same xs)
-  ])
-  | inr out ↦ rw (out, sym (same x) ∙ ap (λ b. b && p x) out) (filter_both p q r same xs)
-]
 
 -- who stays behind the client stays at the moment, and nobody else
 stays : (b : Book) (now client c : ℕ) → has_run_out b now client ≡ true
@@ -39,12 +29,6 @@ leases_same b now client c out = elim (cases_eq c client) [
   | inl here ↦ rw (eq-eqb c client here, here, out) refl
   | inr other ↦ rw (ne_eqb c client other) refl
 ]
-
-pub swapped : (a b : Bool) → (a && b) ≡ (b && a)
-swapped true true = refl
-swapped true false = refl
-swapped false true = refl
-swapped false false = refl
 
 pub expired_without : (m : Machine) (now client : ℕ) → has_run_out m.leases now client ≡ true → expired now (without_client m client) ≡ expired now m
 expired_without m now client out =

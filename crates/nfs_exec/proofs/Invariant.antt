@@ -8,7 +8,8 @@ use Rattle.std.proofs.lemmas.Bool.{cases_Bool, cases_eq, ne_eqb, eq-eqb, eqb-tru
 use Rattle.nfs_xdr.specs.Caller.{Caller}
 use Rattle.nfs_xdr.specs.declared.status.Status.{Status}
 use Rattle.nfs_xdr.specs.Tables.{In, record_at}
-use Rattle.nfs_xdr.proofs.Tables.{in_filter, in_push, in_map, find_in, at_of_in, at_without, at_with, at_push}
+use Rattle.nfs_xdr.proofs.Lists.{in_filter, in_push, in_map, find_in}
+use Rattle.nfs_xdr.proofs.Tables.{at_of_in, at_without, at_with, at_push}
 use Rattle.nfs_compound.specs.Operation.{Item, Operation, OpSequence, OpExchangeId, OpCreateSession, OpDestroySession, OpDestroyClientId, OpReclaimComplete}
 use Rattle.nfs_compound.specs.Arguments.{item_number}
 use Rattle.nfs_compound.specs.Request.{Request}

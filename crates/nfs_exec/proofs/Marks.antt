@@ -1,6 +1,6 @@
 -- Who has an open: by the marks of client records, and in the store.
-use Rattle.std.proofs.Common.{◌≡◌, ℕ, suc, Bool, true, false, cond, eqb, List, [], ◌∷◌, Option, Some, None, refl, sym, ◌∙◌, ap, inl, inr}
-use Rattle.std.specs.Prelude.{not, ◌&&◌, ◌||◌, filter, is_some, option_map}
+use Rattle.std.proofs.Common.{◌≡◌, ℕ, suc, Bool, true, false, cond, eqb, List, [], ◌∷◌, Option, Some, None, refl, ◌∙◌, ap, inl, inr}
+use Rattle.std.specs.Prelude.{not, ◌&&◌, filter, is_some, option_map}
 use Rattle.std.specs.List.{list_any}
 use Rattle.std.proofs.lemmas.Bool.{cases_Bool, cases_eq, ne_eqb, eq-eqb}
 use Rattle.nfs_xdr.specs.Tables.{IsRising}

@@ -5,7 +5,7 @@ use Rattle.std.specs.Prelude.{◌==◌, filter, slice_get}
 use Rattle.std.specs.Option.{option_map_or}
 use Rattle.std.proofs.lemmas.Bool.{cases_Bool, eqb-true, eq-eqb, and_parts, false≢true}
 use Rattle.nfs_xdr.specs.Tables.{In}
-use Rattle.nfs_xdr.proofs.Tables.{in_filter, in_push, in_map, find_in}
+use Rattle.nfs_xdr.proofs.Lists.{in_filter, in_push, in_map, find_in}
 use Rattle.nfs_compound.specs.declared.session_args.Sequence.{Sequence}
 use Rattle.nfs_slots.specs.declared.slot.Verdict.TheVariants.{Fresh, NoSlot}
 use Rattle.nfs_slots.specs.Slot.{SlotState, judge_slot, next_number}

@@ -9,9 +9,9 @@ use Rattle.nfs_lease.specs.Renewals.{Book, is_out, has_run_out}
 use Rattle.nfs_exec.specs.Compound.{in_session}
 use Rattle.nfs_exec.specs.Expiry.{expired, leases_kept}
 use Rattle.nfs_names.specs.Ending.{staying}
-use Rattle.nfs_names.proofs.Staying.{staying_twice}
+use Rattle.nfs_names.proofs.Staying.{staying_twice, swapped}
 use Rattle.nfs_exec.specs.Laws.{RepeatsChangeNothing, RefusalsChangeNothing, ExpiresOnce}
-use Rattle.nfs_exec.proofs.Expiring.{filter_both, swapped}
+use Rattle.nfs_xdr.proofs.Lists.{filter_both}
 
 pub repeats : RepeatsChangeNothing
 repeats = λ m r who size now choice s reply begins.

@@ -12,7 +12,7 @@ use Rattle.nfs_results.specs.Result.{ResSequence}
 use Rattle.nfs_results.specs.Results.{spell_result}
 use Rattle.nfs_results.specs.CompoundResult.{spell_compound_head}
 use Rattle.nfs_sessions.specs.declared.channel.Channel.{Channel}
-use Rattle.nfs_sessions.specs.declared.slots.TheConstants.{RPC_HEAD}
+use Rattle.nfs_sessions.specs.SessionSlots.{rpc_head}
 use Rattle.nfs_sessions.specs.Id.{id_of}
 use Rattle.nfs_sessions.specs.Sessions.{keep}
 use Rattle.nfs_lease.specs.Renewals.{with_renewal}
@@ -59,7 +59,7 @@ renewed m now s = record m { leases = with_renewal m.leases (id_of s.sessionid).
 
 -- the bytes of a reply with SEQUENCE's result, its RPC head and the head of its compound among them
 abbrev pub begun : Request → Sequence → Channel → ℕ
-begun r s c = RPC_HEAD + length (spell_compound_head Nfs4Ok r.tag 0) + length (spell_result (ResSequence (accepted s c)))
+begun r s c = rpc_head + length (spell_compound_head Nfs4Ok r.tag 0) + length (spell_result (ResSequence (accepted s c)))
 
 -- what is behind SEQUENCE runs for the session's client, in what the channel lets pass
 abbrev pub run_in : Machine → Request → Caller → ℕ → Option ℕ → Sequence → Channel → List Item → Ran

@@ -12,7 +12,8 @@ use Rattle.nfs_sessions.specs.Laws.{is_id}
 use Rattle.nfs_lease.specs.Renewals.{has_run_out}
 use Rattle.nfs_opens.specs.declared.records.OpenState.{OpenState}
 use Rattle.nfs_opens.specs.Holding.{HasNoClash}
-use Rattle.nfs_opens.specs.Table.{In, clashes_with, as_asked}
+use Rattle.nfs_xdr.specs.Tables.{In}
+use Rattle.nfs_opens.specs.Table.{clashes_with, as_asked}
 use Rattle.nfs_exec.specs.Machine.{Machine, starts, refuses}
 use Rattle.nfs_exec.specs.Sequence.{Sequenced, Refuses, Repeats, Runs, sequenced, sequence_number}
 use Rattle.nfs_exec.specs.Run.{only}

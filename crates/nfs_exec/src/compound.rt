@@ -3,6 +3,7 @@
 ghost use Rattle.std.specs.Prelude.{◌≡◌, ◌≤◌, ◌<◌, ◌^◌, ◌+◌, ℕ, Option, length};
 ghost use Rattle.nfs_xdr.specs.Caller.{caller};
 ghost use Rattle.nfs_xdr.specs.Tables.{In};
+ghost use Rattle.nfs_xdr.specs.Limits.{opaque_limit};
 ghost use Rattle.nfs_compound.specs.Operation.{Item};
 ghost use Rattle.nfs_compound.specs.View.{item};
 ghost use Rattle.nfs_lease.specs.Renewals.{IsLatest};
@@ -17,7 +18,7 @@ ghost use Rattle.nfs_exec.specs.View.{machine_of, Does, IsKept};
 use crate::place::fault_in_first_place;
 use crate::sequence::{Sequenced, accepted, judge};
 use crate::tables::Tables;
-use nfs_compound::{Arg, Compound, OpNum, Sequence};
+use nfs_compound::{Arg, Compound, MINOR_VERSION, OpNum, Sequence};
 use nfs_names::Context;
 use nfs_results::{OpenHead, Res, write, write_compound_head};
 use nfs_sessions::{Channel, SessionId};
@@ -46,7 +47,7 @@ impl Tables {
         ensures store { IsStore (machine_of self.new).store }
     {
         let tag = args.tag();
-        if args.minor() != 1 {
+        if args.minor() != MINOR_VERSION {
             write_compound_head(Status::MinorVersMismatch, tag, 0, out);
             return;
         }
@@ -110,7 +111,7 @@ impl Tables {
     )
         requires bears { (i : Item) → In i args.old.left → CanBear i }
         requires few { length args.old.left ≤ args.old.declared }
-        requires tag { length args.old.tag ≤ 1024 }
+        requires tag { length args.old.tag ≤ opaque_limit }
         requires size { length args.old.bytes ≤ size }
         requires moment { now < 2 ^ 63 }
         requires store { IsStore (machine_of self.old).store }
@@ -145,7 +146,7 @@ impl Tables {
     )
         requires bears { (i : Item) → In i args.old.left → CanBear i }
         requires few { length args.old.left ≤ args.old.declared }
-        requires tag { length args.old.tag ≤ 1024 }
+        requires tag { length args.old.tag ≤ opaque_limit }
         requires runs { (size : ℕ) × (length args.old.bytes ≤ size) × (sequenced (machine_of self.old) args.old (caller who.now) size asked.now ≡ Runs channel.now) }
         requires granted { IsGranted channel.now }
         requires moment { now < 2 ^ 63 }
@@ -185,7 +186,7 @@ impl Tables {
         requires sessionid { length asked.now.sessionid ≡ 16 }
         requires bears { (i : Item) → In i args.old.left → CanBear i }
         requires few { length args.old.left ≤ 64 }
-        requires tag { length args.old.tag ≤ 1024 }
+        requires tag { length args.old.tag ≤ opaque_limit }
         requires granted { IsGranted channel.now }
         requires moment { now < 2 ^ 63 }
         requires store { IsStore (machine_of self.old).store }

@@ -1,5 +1,5 @@
 -- CLOSE: what every store keeps. The open that goes is of the file that was named, so no other file loses one.
-use Rattle.std.proofs.Common.{◌≡◌, ◌≢◌, ℕ, suc, Bool, true, false, cond, List, [], ◌∷◌, Option, Some, None, refl, sym, ◌∙◌, ap, inl, inr}
+use Rattle.std.proofs.Common.{◌≡◌, ◌≢◌, ℕ, suc, Bool, true, false, cond, Option, Some, None, refl, sym, ◌∙◌, ap, inl, inr}
 use Rattle.std.specs.Prelude.{◌==◌, ◌||◌, not, filter, Result, Ok, Err}
 use Rattle.std.specs.List.{list_any}
 use Rattle.std.proofs.lemmas.Bool.{cases_Bool, eqb-true, false≢true}
@@ -17,10 +17,11 @@ use Rattle.nfs_opens.specs.declared.records.LockState.{LockState}
 use Rattle.nfs_opens.specs.declared.judging.Seat.{Seat}
 use Rattle.nfs_opens.specs.declared.judging.Sort.TheVariants.{OpenOnly}
 use Rattle.nfs_opens.specs.StateId.{is_anonymous, is_bypass}
-use Rattle.nfs_opens.specs.Table.{Table, In, IsTable, open_at, lock_at}
+use Rattle.nfs_xdr.proofs.Lists.{in_filter, stays_in, find_in, in_any, any_in}
+use Rattle.nfs_xdr.proofs.Tables.{in_once}
+use Rattle.nfs_opens.specs.Table.{Table, IsTable, open_at, lock_at}
 use Rattle.nfs_opens.specs.Judging.{judge, open_named, lock_named, named, named_by, judge_named, judge_checks, seated}
 use Rattle.nfs_opens.specs.Closing as closing
-use Rattle.nfs_opens.proofs.Members.{in_filter, filter_in, in_one, find_in, any_passes}
 use Rattle.nfs_names.specs.declared.context.Context.{Context}
 use Rattle.nfs_names.specs.State.{State, IsStore, IsStoreBut}
 use Rattle.nfs_names.specs.Outcome.{answers}
@@ -70,30 +71,24 @@ own_judged t id client file k false false e = own_by t id client file k (id.inst
 own : (t : Table) (id : StateId) (client file : ℕ) (k : Seat) → judge t id client (Some file) OpenOnly ≡ Ok k → (o : OpenState) × IsOpenOf t id.number file o
 own t id client file k e = own_judged t id client file k (is_anonymous id) (is_bypass id) e
 
--- one passes
-any_of : {X : Type 0} (p : X → Bool) (xs : List X) (x : X) → In x xs → p x ≡ true → list_any p xs ≡ true
-any_of p [] x there e = absurd there
-any_of p (y ∷ ys) x (inl is) e = let here : p y ≡ true = ap p (sym is) ∙ e in rw here refl
-any_of p (y ∷ ys) x (inr more) e = elim (p y) as (λ b. b || list_any p ys ≡ true) [ true ↦ refl | false ↦ any_of p ys x more e ]
-
 stays_open : (t : Table) (n file m : ℕ) (o : OpenState) → IsTable t → IsOpenOf t n file o → m ≢ file
     → list_any (λ o. o.file == m) t.opens ≡ true → list_any (λ o. o.file == m) (closing.without_open t n).opens ≡ true
 stays_open t n file m o is mine other e =
     let found = find_in (λ (o : OpenState). o.number == n) t.opens o mine.0 in
-    let q = any_passes (λ (o : OpenState). o.file == m) t.opens e in
+    let q = in_any (λ (o : OpenState). o.file == m) t.opens e in
     let stays : (q.0.number == n) ≡ false = elim (cases_Bool (q.0.number == n)) [
       | inl goes ↦ (let same : q.0 ≡ o =
-          in_one (λ (o : OpenState). o.number) 1 (suc t.last) t.opens q.0 o is.opens q.1 found.0 (eqb-true _ _ goes ∙ sym (eqb-true _ _ found.1)) in
+          in_once (λ (o : OpenState). o.number) 1 (suc t.last) t.opens q.0 o is.opens q.1 found.0 (eqb-true _ _ goes ∙ sym (eqb-true _ _ found.1)) in
           absurd (other (sym (eqb-true _ _ q.2) ∙ ap (λ (o : OpenState). o.file) same ∙ mine.1)))
       | inr stays ↦ stays
     ] in
-    any_of (λ (o : OpenState). o.file == m) (filter (λ o. not (o.number == n)) t.opens) q.0
-    (filter_in (λ (o : OpenState). not (o.number == n)) t.opens q.0 q.1 (ap not stays)) q.2
+    any_in (λ (o : OpenState). o.file == m) (filter (λ o. not (o.number == n)) t.opens) q.0
+    (stays_in (λ (o : OpenState). not (o.number == n)) t.opens q.0 q.1 (ap not stays)) q.2
 
 was_open : (t : Table) (n m : ℕ) → list_any (λ o. o.file == m) (closing.without_open t n).opens ≡ true → list_any (λ o. o.file == m) t.opens ≡ true
 was_open t n m e =
-    let q = any_passes (λ (o : OpenState). o.file == m) (filter (λ o. not (o.number == n)) t.opens) e in
-    any_of (λ (o : OpenState). o.file == m) t.opens q.0 (in_filter (λ (o : OpenState). not (o.number == n)) t.opens q.0 q.1).0 q.2
+    let q = in_any (λ (o : OpenState). o.file == m) (filter (λ o. not (o.number == n)) t.opens) e in
+    any_in (λ (o : OpenState). o.file == m) t.opens q.0 (in_filter (λ (o : OpenState). not (o.number == n)) t.opens q.0 q.1).0 q.2
 
 used_by : (a r o k : Bool) → (o ≡ true → k ≡ true) → a || (r || o) ≡ true → a || (r || k) ≡ true
 used_by true r o k f e = refl

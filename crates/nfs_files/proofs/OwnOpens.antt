@@ -1,18 +1,18 @@
 -- Whose opens an operation on open files can move: those of its own client, and OPEN and CLOSE alone move them.
-use Rattle.std.proofs.Common.{◌≡◌, ◌≢◌, ℕ, suc, ◌+◌, Bool, true, false, cond, List, [], ◌∷◌, ◌++◌, map, Option, Some, None, refl, sym, ◌∙◌, ap, subst, inl, inr}
+use Rattle.std.proofs.Common.{◌≡◌, ◌≢◌, ℕ, suc, ◌+◌, Bool, true, false, cond, List, map, Option, Some, None, refl, sym, ◌∙◌, ap, subst, inl, inr}
 use Rattle.std.proofs.Common.{arith}
-use Rattle.std.specs.Prelude.{◌==◌, ◌||◌, ◌&&◌, not, filter, Result, Ok, Err, if◌then◌else◌}
+use Rattle.std.specs.Prelude.{◌==◌, ◌&&◌, not, Result, Ok, Err, if◌then◌else◌}
 use Rattle.std.specs.List.{list_any}
-use Rattle.std.proofs.lemmas.Bool.{cases_Bool, eqb-true, eq-eqb, ne_eqb, false≢true}
+use Rattle.std.proofs.lemmas.Bool.{cases_Bool, eqb-true, ne_eqb, false≢true}
 use Rattle.nfs_xdr.specs.Checks.{first_fault}
-use Rattle.nfs_xdr.specs.Tables.{IsRising, In}
+use Rattle.nfs_xdr.specs.Tables.{IsRising}
 use Rattle.nfs_xdr.specs.declared.time.Time.{Time}
 use Rattle.nfs_xdr.specs.declared.status.Status.{Status}
 use Rattle.nfs_xdr.specs.declared.status.Status.TheVariants.{BadStateId}
 use Rattle.nfs_xdr.proofs.Checks.{all_passed}
-use Rattle.nfs_xdr.proofs.Tables.{find_in, in_once, IsRising-push, IsRising-map, IsRising-filter}
+use Rattle.nfs_xdr.proofs.Lists.{find_in, any_map, any_push, any_filter}
+use Rattle.nfs_xdr.proofs.Tables.{in_once, IsRising-push, IsRising-map, IsRising-filter, IsRising-upto}
 use Rattle.nfs_compound.specs.Arguments.{arguments}
-use Rattle.nfs_compound.specs.declared.op_num.OpNum.{OpNum}
 use Rattle.nfs_compound.specs.declared.op_num.OpNum.TheVariants as Num
 use Rattle.nfs_compound.specs.declared.stateid.Stateid.{Stateid}
 use Rattle.nfs_compound.specs.declared.open_args.Close.{Close}
@@ -42,7 +42,6 @@ use Rattle.nfs_opens.specs.Judging.{judge, judge_named, judge_checks, named, nam
 use Rattle.nfs_opens.specs.Closing as closing
 use Rattle.nfs_opens.specs.Opening as opening
 use Rattle.nfs_opens.specs.Locking as locking
-use Rattle.nfs_opens.proofs.Members.{IsRising-upto}
 use Rattle.nfs_names.specs.declared.context.Context.{Context}
 use Rattle.nfs_names.specs.State.{State}
 use Rattle.nfs_names.specs.Ending.{with_opens}
@@ -92,28 +91,6 @@ weaker p s x left behind is = record { opens = record { same = λ c spared. is.o
 
 nothing : (p : ℕ → Type 0) (s : State) (x : Context) → AreNumbered s.opens → SparesIn p s x s x
 nothing p s x n = record { opens = untouched p s.opens n; client = refl }
-
--- Lists of which some pass.
-
-any_map : {X : Type 0} (p : X → Bool) (f : X → X) → ((x : X) → p (f x) ≡ p x) → (xs : List X) → list_any p (map f xs) ≡ list_any p xs
-any_map p f same [] = refl
-any_map p f same (x ∷ xs) = rw (same x, any_map p f same xs) refl
-
-any_push : {X : Type 0} (p : X → Bool) (xs : List X) (new : X) → p new ≡ false → list_any p (xs ++ new ∷ []) ≡ list_any p xs
-any_push p [] new fails = rw fails refl
-any_push p (x ∷ xs) new fails = ap (λ b. p x || b) (any_push p xs new fails)
-
-any_filter : {X : Type 0} (p q : X → Bool) (xs : List X) → ((x : X) → In x xs → p x ≡ true → q x ≡ true) → list_any p (filter q xs) ≡ list_any p xs
-any_filter p q [] stays = refl
-any_filter {X} p q (x ∷ xs) stays =
-    let rest = any_filter p q xs (λ y there. stays y (inr there)) in
-    elim (cases_Bool (q x)) [
-      | inl left ↦ rw left (ap (λ b. p x || b) rest)
-      | inr goes ↦ elim (cases_Bool (p x)) [
-        | inl passes ↦ absurd (false≢true (sym goes ∙ stays x (inl refl) passes))
-        | inr fails ↦ rw (goes, fails) rest
-      ]
-    ]
 
 -- an open that changes keeps its number and its client
 changed : (p : ℕ → Type 0) (t : Table) (n : ℕ) (f : OpenState → OpenState)

@@ -2,6 +2,7 @@
 use Rattle.std.specs.Prelude.{ℕ, suc, ◌-◌, ◌==◌, [], take, Option, Some, None, if◌then◌else◌}
 use Rattle.nfs_xdr.specs.declared.status.Status.{Status}
 use Rattle.nfs_xdr.specs.declared.status.Status.TheVariants as S
+use Rattle.nfs_xdr.specs.Limits.{opaque_limit}
 use Rattle.nfs_compound.specs.StateOwner.{StateOwner}
 use Rattle.nfs_compound.specs.declared.lock_args.LockType.{LockType}
 use Rattle.nfs_compound.specs.declared.lock_args.LockType.TheVariants as LockTypes
@@ -26,7 +27,7 @@ size_of h = if h.last == all_ones then all_ones else suc h.last - h.first
 -- The holder's client and lock owner. A holder's state stands, so the first line is never met; and no owner has more than 1,024 bytes.
 abbrev pub holder : Option LockState → StateOwner
 holder None = record { clientid = 0; owner = [] }
-holder (Some l) = record { clientid = l.client; owner = take 1024 l.owner }
+holder (Some l) = record { clientid = l.client; owner = take opaque_limit l.owner }
 
 unfoldable pub denied : Table → Held → result.Denied
 denied t h = record { offset = h.first; extent = size_of h; locktype = type_of h.kind; owner = holder (lock_at t h.owner) }

@@ -9,7 +9,7 @@ ghost use Rattle.nfs_results.specs.Largest.{given};
 ghost use Rattle.nfs_results.specs.Result.{ResRead};
 ghost use Rattle.nfs_results.specs.Results.{spell_result, status_of_result};
 ghost use Rattle.nfs_results.specs.View as view;
-ghost use Rattle.nfs_tree.specs.Files.{object_at};
+ghost use Rattle.nfs_tree.specs.Files.{most_bytes, object_at};
 ghost use Rattle.nfs_names.specs.State.{state_of};
 ghost use Rattle.nfs_names.specs.Comes.{Comes};
 ghost use Rattle.nfs_names.specs.Outcome.{checked, is_delay};
@@ -24,7 +24,7 @@ ghost use Rattle.nfs_files.specs.Operation.{one_or_delay};
 use crate::access::{judge_file, readable, writable};
 use nfs_compound::{OpNum, Read, StableHow, Write};
 use nfs_names::{Context, Node, Store, current, put_refusal, refuse, status_of};
-use nfs_results::{Res, WriteOk, write_done_head};
+use nfs_results::{Res, WriteOk, given, write_done_head};
 use nfs_xdr::{Sheet, Status, Time};
 use std::alloc::Global;
 
@@ -67,7 +67,7 @@ fn judge_write(store: &Store, context: &Context<'_>, asked: &Write<'_>) -> Resul
 
 /// All bytes were written, as lastingly as any are.
 fn write_ok(store: &Store, asked: &Write<'_>) -> WriteOk
-    requires { length (view_write asked.now).bytes ≤ 1048576 }
+    requires { length (view_write asked.now).bytes ≤ most_bytes }
     ensures { result ≡ of_write.write_ok (state_of store.now) (view_write asked.now) }
 {
     WriteOk {
@@ -97,14 +97,6 @@ pub(crate) fn write_bytes(
         },
         Err(status) => refuse(OpNum::Write, status),
     }
-}
-
-/// No more bytes than this are given at once.
-fn given(count: u32) -> u32
-    ensures value { result ≡ given count }
-    ensures most { result ≤ 65536 }
-{
-    if count > 65_536 { 65_536 } else { count }
 }
 
 /// Whether so many bytes from `offset` on reach the end of a file of this size.

@@ -28,6 +28,9 @@ use nfs_tree::{Change, New, Sets, Tree, TreeFault};
 use nfs_xdr::{Status, Time};
 use std::alloc::Global;
 
+/// The word of a mask that has the attribute `size` alone (number 4).
+const SIZE: u32 = 1 << 4;
+
 /// Whether the object is there and can change once more.
 fn can_change(tree: &Tree, number: u64) -> bool
     ensures { result ≡ files.can_change tree.now number }
@@ -171,7 +174,7 @@ fn set_of(asked: &Open<'_>, found: &Found) -> AttrSet
 {
     match found {
         Found::There { cut, .. } => AttrSet {
-            words: [if *cut { 0x10 } else { 0 }, 0, 0],
+            words: [if *cut { SIZE } else { 0 }, 0, 0],
         },
         Found::Absent(_) => attr_set(&mask_by(&asked.openhow)),
     }

@@ -6,6 +6,7 @@ ghost use Rattle.nfs_compound.specs.declared.op_num.OpNum.TheVariants as Op;
 ghost use Rattle.nfs_compound.specs.LockArgs.{view_lock, view_lock_t, view_locker};
 ghost use Rattle.nfs_compound.specs.StateOwner as state_owner;
 ghost use Rattle.nfs_xdr.specs.SheetState.{Puts};
+ghost use Rattle.nfs_xdr.specs.Limits.{opaque_limit};
 ghost use Rattle.nfs_results.specs.Result.{ResLock, ResLockDenied, ResLockT, ResLockTDenied};
 ghost use Rattle.nfs_results.specs.Results.{spell_result, status_of_result};
 ghost use Rattle.nfs_results.specs.View as view;
@@ -28,7 +29,7 @@ use nfs_names::{Context, Store, put_refusal, refuse};
 use nfs_opens::{CurrentSeqid, OpenFault, Opens, StateId, Wish};
 use nfs_ranges::{Held, Kind};
 use nfs_results::{Denied, Res, write};
-use nfs_xdr::{Sheet, Status};
+use nfs_xdr::{OPAQUE_LIMIT, Sheet, Status};
 use std::alloc::Global;
 
 fn type_of(kind: Kind) -> LockType
@@ -51,12 +52,13 @@ fn size_of(held: &Held) -> u64
     }
 }
 
-/// No owner has more bytes than 1,024.
+/// No owner has more bytes than [`OPAQUE_LIMIT`].
 fn owner_of(bytes: &[u8]) -> &[u8]
-    ensures { result.now ≡ take 1024 bytes.now }
+    ensures { result.now ≡ take opaque_limit bytes.now }
 {
-    if bytes.len() > 1024 {
-        &bytes[..1024]
+    let most = OPAQUE_LIMIT as usize;
+    if bytes.len() > most {
+        &bytes[..most]
     } else {
         bytes
     }

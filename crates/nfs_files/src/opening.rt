@@ -14,6 +14,7 @@ use nfs_names::{
     Context, Making, Node, Store, current, held_object, judge_name, permits, wanted_of,
 };
 use nfs_opens::Share;
+use nfs_tree::Tree;
 use nfs_xdr::Status;
 
 /// What OPEN comes upon.
@@ -227,7 +228,7 @@ fn is_too_big(size: Option<u64>) -> bool
     ensures { result ≡ of_set_attr.is_too_big size }
 {
     match size {
-        Some(size) => size > 1_048_576,
+        Some(size) => size > Tree::MAX_BYTES,
         None => false,
     }
 }

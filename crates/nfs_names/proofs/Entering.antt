@@ -3,14 +3,12 @@ use Rattle.std.proofs.Common.{◌≡◌, ℕ, suc, ◌+◌, ◌-◌, ◌<◌, �
 use Rattle.std.proofs.Common.{ap, subst, inl, inr, arith, append_assoc}
 use Rattle.std.specs.Prelude.{nat_le, ◌==◌, is_some}
 use Rattle.std.specs.List.{flat_map}
-use Rattle.std.proofs.lemmas.List.{length-append, append-nil}
 use Rattle.std.proofs.lemmas.Bool.{cases_Bool, leb-true, leb-false, le-leb, eq-eqb, ne_eqb, false_from_ne_true}
 use Rattle.nfs_xdr.specs.SheetState.{SheetState, Puts}
 use Rattle.nfs_results.specs.Result.{Entry}
 use Rattle.nfs_results.specs.Straight.{entry_text}
 use Rattle.nfs_xdr.specs.Spelling.{padding}
 use Rattle.nfs_xdr.proofs.Putting.{length_number, length_hyper}
-use Rattle.std.proofs.lemmas.List.{length-replicate}
 use Rattle.std.specs.Prelude.{filter, nat_lt, ◌&&◌, option_map}
 use Rattle.nfs_results.specs.Straight.{entry_head}
 use Rattle.nfs_results.specs.Items.{fattr}
@@ -18,7 +16,9 @@ use Rattle.nfs_tree.specs.declared.object.Object.{Object}
 use Rattle.nfs_tree.specs.declared.row.Row.{Row}
 use Rattle.nfs_tree.specs.declared.stored.Stored.{Stored}
 use Rattle.nfs_tree.specs.Kept.{IsTree}
-use Rattle.nfs_tree.proofs.Lists.{in_map, in_filter, length_map}
+use Rattle.std.proofs.lemmas.List.{length-replicate, length-append, append-nil, length-map}
+use Rattle.nfs_xdr.specs.Tables.{In}
+use Rattle.nfs_xdr.proofs.Lists.{in_map, in_filter}
 use Rattle.nfs_attrs.specs.declared.mask.Mask.{Mask}
 use Rattle.nfs_attrs.specs.Attributes.{spell_attrs}
 use Rattle.nfs_names.specs.State.{State}
@@ -26,7 +26,6 @@ use Rattle.nfs_names.specs.Attributes.{about}
 use Rattle.nfs_names.specs.ReadDir.{attributes_at, entry_of}
 use Rattle.nfs_names.proofs.Masks.{attributes_spelled}
 use Rattle.nfs_tree.specs.Files.{Files, Listed, listed, listing, stored_in, is_there, object_at}
-use Rattle.nfs_tree.specs.Walks.{In}
 use Rattle.nfs_names.specs.ReadDir.{longest, fits, fitting, left, PutsWithin}
 use Rattle.nfs_compound.specs.NameArgs.{ReadDir}
 use Rattle.nfs_results.specs.Largest.{given}
@@ -161,7 +160,7 @@ listed_there t d cookie is e there =
     let r = in_map listed (filter (λ (r : Row). (r.directory == d) && nat_lt cookie r.cookie) t.rows) e there in
     let row = in_filter (λ (r : Row). (r.directory == d) && nat_lt cookie r.cookie) t.rows r.0 r.1 in
     let named = is.rows.names r.0 row.0 in
-    some_object t e.number (subst (λ (k : Listed). is_there t k.number ≡ true) r.2 named)
+    some_object t e.number (subst (λ (k : Listed). is_there t k.number ≡ true) (sym r.2) named)
   where
     some_by : (o : Option Stored) → is_some o ≡ true → is_some (option_map (λ (s : Stored). s.object) o) ≡ true
     some_by None e = e
@@ -200,5 +199,5 @@ ended_lists s a d first now mask g rest whole e em eg er le =
       subst (λ (xs : List Entry). Puts first now (flat_map entry_text xs)) (sym same) by_rest.put,
       by_rest.all ∙ ap (λ (xs : List Entry). length xs == length (listing s.tree.rows d.number a.cookie)) (sym same)
           ∙ ap (λ n. length (longest (fits (given a.maxcount)) (left s a d)) == n)
-          (sym (length_map (entry_of s (mask_of a.attr_request)) (listing s.tree.rows d.number a.cookie))),
+          (sym (length-map (listing s.tree.rows d.number a.cookie) (entry_of s (mask_of a.attr_request)))),
     )

@@ -14,9 +14,9 @@ use Rattle.nfs_tree.specs.Files.{Files, root, stored_in, is_there, is_directory_
 use Rattle.nfs_tree.specs.Files.{with_changed, with_entries_changed, with_links_changed, change_at, without_entry}
 use Rattle.nfs_tree.specs.Create.{New, with_new, new_object, data_of}
 use Rattle.nfs_tree.specs.Names.{with_link, without_name, forget, Move, moved_object, replaced_object, with_both_changed, with_moved}
-use Rattle.nfs_tree.specs.Walks.{In}
+use Rattle.nfs_xdr.specs.Tables.{In}
+use Rattle.nfs_xdr.proofs.Lists.{in_any, any_in, stays_in, push_in, last_in, none_in}
 use Rattle.nfs_tree.specs.Kept.{IsTree}
-use Rattle.nfs_tree.proofs.Lists.{in_any, any_in, filter_in, push_in, last_in, none_in}
 use Rattle.nfs_tree.proofs.Objects.{keeps_changed, stored_map, stored_push, stored_dropped}
 use Rattle.nfs_tree.proofs.Trees.{entry_names}
 use Rattle.nfs_names.specs.State.{State, new_store, with_tree, is_open, is_used, without_unused, IsRooted, IsStore, IsStoreBut}
@@ -199,7 +199,7 @@ row_kept t d name m is other some =
       | inl goes ↦ absurd (other (sym object ∙ entry_names t d name is r.0 r.1 goes))
       | inr stays ↦ stays
     ] in
-    any_in (λ (r : Row). r.object == m) (without_entry d name t.rows) r.0 (filter_in (λ q. not (is_entry d name q)) t.rows r.0 r.1 (rw stays refl)) r.2
+    any_in (λ (r : Row). r.object == m) (without_entry d name t.rows) r.0 (stays_in (λ q. not (is_entry d name q)) t.rows r.0 r.1 (rw stays refl)) r.2
 
 -- CREATE
 stored_other : (xs : List Stored) (x : Stored) (n : ℕ) → x.number ≢ n → stored_in (xs ++ x ∷ []) n ≡ stored_in xs n
@@ -272,8 +272,8 @@ row_moved t m now k is free some =
       | inl moves ↦ row_last rest row k (sym (entry_names t m.source m.old is r.0 r.1 moves) ∙ object)
       | inr apart ↦ any_in (λ (r : Row). r.object == k) (rest ++ row ∷ []) r.0
           (push_in rest row r.0
-          (filter_in (λ q. not (is_entry m.source m.old q)) (without_entry m.target m.name t.rows) r.0
-          (filter_in (λ q. not (is_entry m.target m.name q)) t.rows r.0 r.1 (rw stays refl)) (rw apart refl))) r.2
+          (stays_in (λ q. not (is_entry m.source m.old q)) (without_entry m.target m.name t.rows) r.0
+          (stays_in (λ q. not (is_entry m.target m.name q)) t.rows r.0 r.1 (rw stays refl)) (rw apart refl))) r.2
     ]
 
 pub store_moved : (s : State) (m : Move) (now : Time) → IsTree s.tree → IsStore s

@@ -27,8 +27,9 @@ use Rattle.nfs_names.specs.Operation.{moves_in}
 use Rattle.nfs_names.specs.Rename as of_rename
 use Rattle.nfs_names.specs.Rename.{move_of}
 use Rattle.nfs_names.proofs.Found.{IsHeld, both_is, checked_ok, short_name}
-use Rattle.nfs_names.proofs.Rows.{fault_map, none_filtered, none_pushed}
+use Rattle.nfs_names.proofs.Rows.{fault_map, none_pushed}
 use Rattle.nfs_names.proofs.Faulted.{by_last, by_refusal, refused_by_did, delayed, not_delayed}
+use Rattle.nfs_xdr.proofs.Lists.{none_left}
 
 rename_rows : (s : State) (x : Context) (a : args.Rename) (p : Pair)
     → IsHeld s.tree p.current × IsHeld s.tree p.saved → first_fault (of_rename.place_checks x a p) ≡ None
@@ -120,8 +121,8 @@ replaced_empty t m now n none go found =
     let test = λ (r : Row). r.directory == n in
     none_pushed test (without_entry m.source m.old (without_entry m.target m.name t.rows))
     (record { directory = m.target; name = m.name; object = moved_object t m; cookie = t.last_cookie + 1 })
-    (none_filtered test (λ r. not (is_entry m.source m.old r)) (without_entry m.target m.name t.rows)
-    (none_filtered test (λ r. not (is_entry m.target m.name r)) t.rows empty))
+    (none_left test (λ r. not (is_entry m.source m.old r)) (without_entry m.target m.name t.rows)
+    (none_left test (λ r. not (is_entry m.target m.name r)) t.rows empty))
     (ne_eqb m.target n (λ e. other (sym e)))
   where
     by_entry : (o : Option Row) → entry t.rows m.target m.name ≡ o → is_some (entry t.rows m.target m.name) ≡ true

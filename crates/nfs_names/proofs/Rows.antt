@@ -1,9 +1,10 @@
 -- The last checks of an operation are those of the tree, under the statuses of its faults.
-use Rattle.std.proofs.Common.{◌≡◌, Bool, true, false, cond, eqb, not, List, [], ◌∷◌, ◌++◌, length, map, Option, Some, refl, ap, inl, inr, arith}
+use Rattle.std.proofs.Common.{◌≡◌, Bool, true, false, cond, eqb, not, List, [], ◌∷◌, ◌++◌, length, map, Option, Some, refl, ◌∙◌, ap, inl, inr, arith}
 use Rattle.std.specs.Prelude.{option_map, filter}
 use Rattle.std.specs.List.{list_any}
-use Rattle.std.proofs.lemmas.Bool.{cases_Bool, ne_eqb, or_parts, or_from}
+use Rattle.std.proofs.lemmas.Bool.{cases_Bool, ne_eqb}
 use Rattle.nfs_xdr.specs.Checks.{first_fault}
+use Rattle.nfs_xdr.proofs.Lists.{any_push}
 
 -- faults under other names
 pub fault_map : {F G : Type 0} (f : F → G) (checks : List (Bool × F))
@@ -28,16 +29,6 @@ any_counted p (x ∷ xs) = elim (cases_Bool (p x)) [
   | inr fails ↦ rw fails (any_counted p xs)
 ]
 
--- none passes after a filter where none did, and after a push of one that does not
-pub none_filtered : {X : Type 0} (p q : X → Bool) (xs : List X) → list_any p xs ≡ false → list_any p (filter q xs) ≡ false
-none_filtered p q [] e = refl
-none_filtered p q (x ∷ xs) e =
-    let parts = or_parts (p x) (list_any p xs) e in
-    elim (cases_Bool (q x)) [
-      | inl stays ↦ rw stays (or_from (p x) (list_any p (filter q xs)) parts.0 (none_filtered p q xs parts.1))
-      | inr goes ↦ rw goes (none_filtered p q xs parts.1)
-    ]
-
+-- none passes after a push of one that does not, where none did
 pub none_pushed : {X : Type 0} (p : X → Bool) (xs : List X) (y : X) → list_any p xs ≡ false → p y ≡ false → list_any p (xs ++ y ∷ []) ≡ false
-none_pushed p [] y e fails = rw fails refl
-none_pushed p (x ∷ xs) y e fails = let parts = or_parts (p x) (list_any p xs) e in or_from (p x) _ parts.0 (none_pushed p xs y parts.1 fails)
+none_pushed p xs y e fails = any_push p xs y fails ∙ e

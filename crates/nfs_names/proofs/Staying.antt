@@ -1,77 +1,24 @@
 -- The end of clients: one open after the other, one client after the other, and nobody's.
 use Rattle.std.proofs.Common.{◌≡◌, ◌≢◌, ℕ, ◌<◌, Bool, true, false, cond, not, List, [], ◌∷◌, length, Option, Some, None, refl, sym, ◌∙◌, ap, subst, inl, inr}
-use Rattle.std.proofs.Common.{arith}
 use Rattle.std.specs.Prelude.{◌==◌, ◌||◌, ◌&&◌, filter, find, is_some}
 use Rattle.std.specs.List.{list_any}
 use Rattle.std.specs.Option.{option_map_or}
 use Rattle.std.proofs.Math.Path.{fun_ext}
 use Rattle.std.proofs.lemmas.Bool.{cases_Bool, eqb-true, eq-eqb, false≢true}
-use Rattle.nfs_xdr.proofs.Tables.{length_filter}
+use Rattle.nfs_xdr.specs.Tables.{In}
+use Rattle.nfs_xdr.proofs.Lists.{stays_in, find_in, none_any, in_any, filter_past, filter_both, filter_all, any_in, any_left, length_fewer, none_found}
+use Rattle.nfs_xdr.proofs.Tables.{in_once}
 use Rattle.nfs_tree.specs.declared.stored.Stored.{Stored}
 use Rattle.nfs_tree.specs.Object.{is_regular}
 use Rattle.nfs_tree.specs.Files.{root, stored_in, has_row}
 use Rattle.nfs_opens.specs.declared.records.OpenState.{OpenState}
 use Rattle.nfs_opens.specs.declared.records.LockState.{LockState}
 use Rattle.nfs_opens.specs.Holding.{FileHolders}
-use Rattle.nfs_opens.specs.Table.{Table, In, IsTable, IsHolder, AreHolders}
+use Rattle.nfs_opens.specs.Table.{Table, IsTable, IsHolder, AreHolders}
 use Rattle.nfs_opens.specs.Closing.{stands, held_within, not_under, without_open, drop_open, drop_client}
-use Rattle.nfs_opens.proofs.Members.{in_filter, filter_in, in_one, find_in, none_pass, any_passes}
 use Rattle.nfs_opens.proofs.LockLemmas.{same_table}
 use Rattle.nfs_names.specs.State.{State, with_tree, is_open, is_used, without_unused, IsStore, IsStoreBut}
 use Rattle.nfs_names.specs.Ending.{has_open, table_staying, with_opens, only_used, staying}
-
--- Lists.
-filter_of : {X : Type 0} (p q : X → Bool) (xs : List X) → ((x : X) → In x xs → p x ≡ true → q x ≡ true) → filter p (filter q xs) ≡ filter p xs
-filter_of p q [] f = refl
-filter_of {X} p q (x ∷ xs) f =
-    let rest = filter_of p q xs (λ y there. f y (inr there)) in
-    elim (cases_Bool (q x)) [
-      | inl stays ↦ rw stays (ap (λ (ys : List X). cond (p x) (x ∷ ys) ys) rest)
-      | inr goes ↦ elim (cases_Bool (p x)) [
-        | inl passes ↦ absurd (false≢true (sym goes ∙ f x (inl refl) passes))
-        | inr fails ↦ rw (goes, fails) rest
-      ]
-    ]
-
-filter_both : {X : Type 0} (p q : X → Bool) (xs : List X) → filter p (filter q xs) ≡ filter (λ x. p x && q x) xs
-filter_both p q [] = refl
-filter_both p q (x ∷ xs) =
-    let rest = filter_both p q xs in
-    elim (cases_Bool (p x)) [
-      | inl passes ↦ elim (cases_Bool (q x)) [
-        | inl stays ↦ rw (stays, passes) (ap (λ ys. x ∷ ys) rest)
-        | inr goes ↦ rw (passes, goes) rest
-      ]
-      | inr fails ↦ elim (cases_Bool (q x)) [
-        | inl stays ↦ rw (stays, fails) rest
-        | inr goes ↦ rw (goes, fails) rest
-      ]
-    ]
-
-filter_all : {X : Type 0} (p : X → Bool) (xs : List X) → ((x : X) → In x xs → p x ≡ true) → filter p xs ≡ xs
-filter_all p [] f = refl
-filter_all p (x ∷ xs) f = rw (f x (inl refl)) (ap (λ ys. x ∷ ys) (filter_all p xs (λ y there. f y (inr there))))
-
-any_of : {X : Type 0} (p : X → Bool) (xs : List X) (x : X) → In x xs → p x ≡ true → list_any p xs ≡ true
-any_of p [] x there e = absurd there
-any_of {X} p (y ∷ ys) x (inl is) e = let here : p y ≡ true = ap p (sym is) ∙ e in rw here refl
-any_of {X} p (y ∷ ys) x (inr more) e = elim (cases_Bool (p y)) [ inl here ↦ rw here refl | inr other ↦ rw other (any_of p ys x more e) ]
-
--- what some of what is left passes, some passes
-any_left : {X : Type 0} (p q : X → Bool) (xs : List X) → list_any p (filter q xs) ≡ true → list_any p xs ≡ true
-any_left p q xs e =
-    let x = any_passes p (filter q xs) e in
-    any_of p xs x.0 (in_filter q xs x.0 x.1).0 x.2
-
-shorter : {X : Type 0} (p : X → Bool) (xs : List X) (x : X) → In x xs → p x ≡ false → length (filter p xs) < length xs
-shorter p [] x there e = absurd there
-shorter {X} p (y ∷ ys) x (inl is) e =
-    let goes : p y ≡ false = ap p (sym is) ∙ e in
-    let le = length_filter p ys in
-    rw goes (omega arith)
-shorter {X} p (y ∷ ys) x (inr more) e =
-    let lt = shorter p ys x more e in
-    elim (cases_Bool (p y)) [ inl stays ↦ rw stays (omega arith) | inr goes ↦ rw goes (omega arith) ]
 
 -- Locked bytes.
 within_twice : (few many : List LockState) (held : FileHolders) → ((s : ℕ) → stands few s ≡ true → stands many s ≡ true)
@@ -88,7 +35,7 @@ within_all locks held is = fun_ext (λ f. fun_ext (λ s. fun_ext (λ b. go f s (
     go : {K : Type 0} (f s : ℕ) (o : Option K) → (o ≢ None → (l : LockState) × IsHolder locks f s l) → cond (stands locks s) o None ≡ o
     go {K} f s None is = elim (stands locks s) as (λ v. cond {A = Option K} v None None ≡ None) [ true ↦ refl | false ↦ refl ]
     go f s (Some k) is = (let (l, holder) = is (λ e. absurd cc) in
-        rw (any_of (λ (l : LockState). l.number == s) locks l holder.stands (eq-eqb l.number s holder.number)) refl)
+        rw (any_in (λ (l : LockState). l.number == s) locks l holder.stands (eq-eqb l.number s holder.number)) refl)
 
 -- Objects that are used: by the root, a row, or an open.
 used_more : (a r o k : Bool) → (o ≡ true → k ≡ true) → a || (r || o) ≡ true → a || (r || k) ≡ true
@@ -108,7 +55,7 @@ with_objects s t objects = with_tree (with_opens s t) (record s.tree { objects =
 
 used_again : (s : State) (u t : Table) → AreOpenIn u t → only_used (with_opens (only_used (with_opens s t)) u) ≡ only_used (with_opens s u)
 used_again s u t f = ap (with_objects s u)
-    (filter_of (λ o. is_used (with_opens s u) o.number) (λ o. is_used (with_opens s t) o.number) s.tree.objects (λ x there. use_more s u t f x.number))
+    (filter_past (λ o. is_used (with_opens s u) o.number) (λ o. is_used (with_opens s t) o.number) s.tree.objects (λ x there. use_more s u t f x.number))
 
 -- an object that goes for want of use would not have stayed
 used_without : (s : State) (u t : Table) (n : ℕ) → AreOpenIn u t → only_used (with_opens (without_unused (with_opens s t) n) u) ≡ only_used (with_opens s u)
@@ -116,7 +63,7 @@ used_without s u t n f =
     elim (cases_Bool (is_used (with_opens s t) n)) [
       | inl stays ↦ rw stays refl
       | inr goes ↦ rw goes (ap (with_objects s u)
-          (filter_of (λ o. is_used (with_opens s u) o.number) (λ o. not (o.number == n)) s.tree.objects (λ x there used.
+          (filter_past (λ o. is_used (with_opens s u) o.number) (λ o. not (o.number == n)) s.tree.objects (λ x there used.
           elim (cases_Bool (x.number == n)) [
             | inl is ↦ absurd (false≢true (sym goes ∙ ap (λ k. is_used (with_opens s t) k) (sym (eqb-true _ _ is)) ∙ use_more s u t f x.number used))
             | inr other ↦ ap not other
@@ -135,16 +82,17 @@ table_less stays t o is there goes =
     ∙ ap (λ ls. held_within ls t.held) locks)
   where
     opens : filter (λ x. stays x.client) (filter (λ x. not (x.number == o.number)) t.opens) ≡ filter (λ x. stays x.client) t.opens
-    opens = filter_of (λ (x : OpenState). stays x.client) (λ x. not (x.number == o.number)) t.opens (λ x in_x passes. elim (cases_Bool (x.number == o.number)) [
-      | inl same ↦ (let one = in_one (λ (o : OpenState). o.number) 1 _ t.opens x o is.opens in_x there (eqb-true _ _ same) in
-          absurd (false≢true (sym goes ∙ ap (λ (o : OpenState). stays o.client) (sym one) ∙ passes)))
-      | inr other ↦ ap not other
-    ])
+    opens = filter_past (λ (x : OpenState). stays x.client) (λ x. not (x.number == o.number)) t.opens
+        (λ x in_x passes. elim (cases_Bool (x.number == o.number)) [
+          | inl same ↦ (let one = in_once (λ (o : OpenState). o.number) 1 _ t.opens x o is.opens in_x there (eqb-true _ _ same) in
+              absurd (false≢true (sym goes ∙ ap (λ (o : OpenState). stays o.client) (sym one) ∙ passes)))
+          | inr other ↦ ap not other
+        ])
 
     locks : filter (λ l. stays l.client) (filter (not_under o.number) t.locks) ≡ filter (λ l. stays l.client) t.locks
-    locks = filter_of (λ (l : LockState). stays l.client) (not_under o.number) t.locks (λ l in_l passes. elim (cases_Bool (l.opened == o.number)) [
+    locks = filter_past (λ (l : LockState). stays l.client) (not_under o.number) t.locks (λ l in_l passes. elim (cases_Bool (l.opened == o.number)) [
       | inl under ↦ (let (x, is_x) = is.under l in_l in
-          let one = in_one (λ (o : OpenState). o.number) 1 _ t.opens x o is.opens is_x.stands there (is_x.number ∙ eqb-true _ _ under) in
+          let one = in_once (λ (o : OpenState). o.number) 1 _ t.opens x o is.opens is_x.stands there (is_x.number ∙ eqb-true _ _ under) in
           absurd (false≢true (sym goes ∙ ap (λ (o : OpenState). stays o.client) (sym one) ∙ ap stays is_x.client ∙ passes)))
       | inr other ↦ ap not other
     ])
@@ -172,13 +120,13 @@ store_less s o table there is = record {
 
     still : (m : ℕ) → m ≢ o.file → is_open s m ≡ true → is_open left m ≡ true
     still m other e =
-        let (x, in_x, file) = any_passes (λ (x : OpenState). x.file == m) s.opens.opens e in
+        let (x, in_x, file) = in_any (λ (x : OpenState). x.file == m) s.opens.opens e in
         let apart : x.number == o.number ≡ false = elim (cases_Bool (x.number == o.number)) [
-          | inl same ↦ (let one = in_one (λ (o : OpenState). o.number) 1 _ s.opens.opens x o table.opens in_x there (eqb-true _ _ same) in
+          | inl same ↦ (let one = in_once (λ (o : OpenState). o.number) 1 _ s.opens.opens x o table.opens in_x there (eqb-true _ _ same) in
               absurd (other (sym (eqb-true _ _ file) ∙ ap (λ (o : OpenState). o.file) one)))
           | inr apart ↦ apart
         ] in
-        any_of (λ (x : OpenState). x.file == m) _ x (filter_in (λ (x : OpenState). not (x.number == o.number)) s.opens.opens x in_x (ap not apart)) file
+        any_in (λ (x : OpenState). x.file == m) _ x (stays_in (λ (x : OpenState). not (x.number == o.number)) s.opens.opens x in_x (ap not apart)) file
 
 -- what a call drops: an open of the client, or nothing
 pub record Drops (t : Table) (who what : ℕ) (left : Table) (o : OpenState) : Type 0 where
@@ -198,20 +146,18 @@ none_drops : (t : Table) (o : Option OpenState) → None ≡ (drop_open t o).fil
 none_drops t None e = (refl, refl)
 none_drops t (Some x) e = absurd cc
 
-none_any : {X : Type 0} (p : X → Bool) (xs : List X) → find p xs ≡ None → list_any p xs ≡ false
-none_any p [] e = refl
-none_any p (x ∷ xs) e =
-    elim (cases_Bool (p x)) [
-      | inl here ↦ absurd (let h : Some x ≡ None = rw here at e in cc)
-      | inr other ↦ rw other (none_any p xs (rw other at e))
-    ]
+pub swapped : (a b : Bool) → (a && b) ≡ (b && a)
+swapped true true = refl
+swapped true false = refl
+swapped false true = refl
+swapped false false = refl
 
 -- Clients, one after the other.
 pub staying_twice : (p q : ℕ → Bool) (s : State) → staying p (staying q s) ≡ staying (λ c. p c && q c) s
 staying_twice p q s =
     let t = table_staying q s.opens in
-    let opens = filter_both (λ (o : OpenState). p o.client) (λ (o : OpenState). q o.client) s.opens.opens in
-    let locks = filter_both (λ (l : LockState). p l.client) (λ (l : LockState). q l.client) s.opens.locks in
+    let opens = filter_both (λ (o : OpenState). p o.client) (λ o. q o.client) _ (λ o. swapped (q o.client) (p o.client)) s.opens.opens in
+    let locks = filter_both (λ (l : LockState). p l.client) (λ l. q l.client) _ (λ l. swapped (q l.client) (p l.client)) s.opens.locks in
     let held = within_twice (filter (λ (l : LockState). p l.client) t.locks) t.locks s.opens.held
     (λ n. any_left (λ (l : LockState). l.number == n) (λ (l : LockState). p l.client) t.locks)
     ∙ ap (λ ls. held_within ls s.opens.held) locks in
@@ -302,7 +248,7 @@ staying_everybody s is table = staying_all (λ c. true) s is table (λ o there. 
 -- a client with no open leaves nothing
 pub staying_others : (s : State) (client : ℕ) → IsStore s → IsTable s.opens → has_open s client ≡ false → staying (λ c. not (c == client)) s ≡ s
 staying_others s client is table none =
-    staying_all (λ c. not (c == client)) s is table (λ o there. ap not (none_pass (λ (o : OpenState). o.client == client) s.opens.opens o none there))
+    staying_all (λ c. not (c == client)) s is table (λ o there. ap not (none_any (λ (o : OpenState). o.client == client) s.opens.opens o none there))
 
 -- behind one open of a client that goes
 pub record IsOneLess (s : State) (client : ℕ) (after : State) : Type 0 where
@@ -322,7 +268,7 @@ one_less s client file t after table is found left same keeps =
     let gone : not (o.number == o.number) ≡ false = ap not (eq-eqb o.number o.number refl) in
     record {
       fewer = subst (λ (t : Table). length t.opens < length s.opens.opens) (sym (ap (λ (s : State). s.opens) ends ∙ opens_without (with_opens s u) file))
-          (shorter (λ (x : OpenState). not (x.number == o.number)) s.opens.opens o drops.there gone);
+          (length_fewer (λ (x : OpenState). not (x.number == o.number)) s.opens.opens o drops.there gone);
       rest = ap (staying stays) ends ∙ staying_less stays s o file table drops.there (ap not (eq-eqb o.client client drops.client));
       store = keeps (subst (λ (t : Table). IsStoreBut (with_opens s t) file) (sym opens)
           (subst (λ (n : ℕ). IsStoreBut (with_opens s u) n) drops.file (store_less s o table drops.there is)));
@@ -337,4 +283,4 @@ pub none_less : (s : State) (client : ℕ) (t : Table) → None ≡ (drop_client
     → IsNoneLess s client t
 none_less s client t found left =
     let none = none_drops s.opens (find (λ o. o.client == client) s.opens.opens) found in
-    record { none = none_any (λ (o : OpenState). o.client == client) s.opens.opens none.0; same = left ∙ none.1 }
+    record { none = none_found (λ (o : OpenState). o.client == client) s.opens.opens none.0; same = left ∙ none.1 }

@@ -1,4 +1,4 @@
--- SECINFO_NO_NAME (RFC 8881 section 18.45): AUTH_SYS is the one flavour; the current filehandle is then none.
+-- SECINFO_NO_NAME (RFC 8881 section 18.45): AUTH_SYS is the one flavor; the current filehandle is then none.
 use Rattle.std.specs.Prelude.{Bool, List, [], ◌∷◌, None}
 use Rattle.nfs_xdr.specs.declared.status.Status.{Status}
 use Rattle.nfs_compound.specs.declared.op_num.OpNum.TheVariants as Op
@@ -11,7 +11,7 @@ use Rattle.nfs_names.specs.State.{State}
 use Rattle.nfs_names.specs.Outcome.{Outcome, done, checked, answers}
 use Rattle.nfs_names.specs.Checks.{current, no_directory, no_parent}
 
--- the flavours of the directory in which one stands are wanted
+-- the flavors of the directory in which one stands are wanted
 abbrev pub style_checks : State → SecinfoStyle → Node → List (Bool × Status)
 style_checks s CurrentFh d = []
 style_checks s Parent d = no_directory d ∷ no_parent s d ∷ []

@@ -19,7 +19,7 @@ use crate::store::Store;
 use nfs_attrs::{Want, may};
 use nfs_compound::OpNum;
 use nfs_results::Res;
-use nfs_tree::FileType;
+use nfs_tree::{FileType, Tree};
 use nfs_xdr::{Sheet, Status};
 
 /// The refusal of an operation.
@@ -128,7 +128,7 @@ pub fn judge_name(name: &[u8]) -> Result<(), Status>
     if name.is_empty() {
         return Err(Status::Inval);
     }
-    if name.len() > 255 {
+    if name.len() > Tree::MAX_NAME {
         return Err(Status::NameTooLong);
     }
     if is_barred(name) {

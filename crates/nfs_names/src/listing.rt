@@ -4,6 +4,7 @@ ghost use Rattle.std.specs.Prelude.{◌≡◌, ◌+◌, ◌≤◌, ◌==◌, tru
 ghost use Rattle.std.specs.List.{flat_map};
 ghost use Rattle.nfs_xdr.specs.Checks.{first_fault};
 ghost use Rattle.nfs_xdr.specs.SheetState.{Puts};
+ghost use Rattle.nfs_xdr.specs.Limits.{most_transfer};
 ghost use Rattle.nfs_compound.specs.NameArgs.{view_read_dir};
 ghost use Rattle.nfs_results.specs.Largest.{given};
 ghost use Rattle.nfs_results.specs.Result.{ResReadLink};
@@ -28,7 +29,7 @@ use crate::node::Node;
 use crate::store::Store;
 use nfs_attrs::{About, Mask, Want, attrs_len, write_attrs};
 use nfs_compound::{OpNum, ReadDir};
-use nfs_results::{write_done_head, write_entry, write_list_end, write_read_dir_head};
+use nfs_results::{given, write_done_head, write_entry, write_list_end, write_read_dir_head};
 use nfs_tree::{Entry, Tree};
 use nfs_xdr::{Sheet, Status};
 
@@ -49,7 +50,7 @@ fn put_text(tree: &Tree, number: u64, out: &mut Sheet)
     ensures { Puts out.old out.new (spell_result (ResReadLink (part tree.now number 0 most_text))) }
 {
     write_done_head(OpNum::ReadLink, out);
-    tree.read(number, 0, out, 1024);
+    tree.read(number, 0, out, Tree::MAX_TEXT);
 }
 
 /// READLINK.
@@ -64,18 +65,6 @@ pub(crate) fn read_link(store: &Store, context: &Context<'_>, out: &mut Sheet) -
             Status::Nfs4Ok
         }
         Err(status) => put_refusal(OpNum::ReadLink, status, out),
-    }
-}
-
-/// No more bytes than this are given at once.
-fn given(count: u32) -> usize
-    ensures value { result ≡ given count }
-    ensures most { result ≤ 65536 }
-{
-    if count > 65_536 {
-        65_536
-    } else {
-        count as usize
     }
 }
 
@@ -115,7 +104,7 @@ fn entry_len(name: &[u8], held: &Node, about: &About, asked: Mask) -> usize
 /// Puts an entry with its attributes, if it takes no more than `room` bytes.
 fn put_entry(store: &Store, entry: &Entry<'_>, asked: Mask, room: usize, out: &mut Sheet) -> bool
     requires there { is_some (object_at store.now.tree entry.now.number) ≡ true }
-    requires few { room ≤ 65536 }
+    requires few { room ≤ most_transfer }
     requires room { length out.old.bytes + room ≤ out.old.room }
     ensures { PutsWithin result room out.old out.new (entry_text (of_read_dir.entry_of (state_of store.now) asked (listed_of entry.now))) }
 {
@@ -144,7 +133,7 @@ fn put_entries(store: &Store, place: &Node, asked: &ReadDir<'_>, out: &mut Sheet
 {
     store.tree.kept();
     let mask = Mask::new(asked.attr_request.words);
-    let mut room = given(asked.maxcount) - 16;
+    let mut room = given(asked.maxcount) as usize - 16;
     let mut listing = store.tree.list(place.number, asked.cookie);
     while let Some(entry) = listing.next() {
         let before = out.len();

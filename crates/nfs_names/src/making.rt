@@ -27,7 +27,7 @@ use crate::store::Store;
 use nfs_attrs::{AttrFault, Mask, SetTime, Want, Wanted, may_make, read_attrs};
 use nfs_compound::{Attributes, Create, CreateType, OpNum, Rename};
 use nfs_results::{AttrSet, ChangeInfo, CreateOk, RenameOk, Res};
-use nfs_tree::{Change, Created, New, Renamed, Sets, TreeFault};
+use nfs_tree::{Change, Created, New, Renamed, Sets, Tree, TreeFault};
 use nfs_xdr::{Status, Time};
 use std::alloc::Global;
 
@@ -66,7 +66,7 @@ fn is_long_text(objtype: &CreateType<'_>) -> bool
     ensures { result ≡ of_create.text_is (nat_lt most_text) (view_create_type objtype.now) }
 {
     match objtype {
-        CreateType::Symlink { linkdata } => linkdata.len() > 1024,
+        CreateType::Symlink { linkdata } => linkdata.len() > Tree::MAX_TEXT as usize,
         CreateType::Block(_) => false,
         CreateType::Character(_) => false,
         CreateType::Other { .. } => false,

@@ -7,7 +7,7 @@ ghost use Rattle.nfs_names.specs.Operation.{on_names};
 
 use super::*;
 use nfs_compound::{Arg, Attributes, Bitmap, Create, CreateType, ReadDir, Rename, SecinfoStyle};
-use nfs_testing::{LONG, MOST, starve};
+use nfs_testing::{LONG, MAX_BLOCKS, starve};
 use nfs_tree::Tree;
 use nfs_xdr::{Sheet, Status, Time, Who};
 use std::alloc::{AllocError, Global};
@@ -237,7 +237,7 @@ fn a_refused_growth_is_delayed(rt: HostRuntime) -> Result<(), Fail> {
     ] {
         assert_eq!(rt; desk.run(rt.alloc(), step), Status::Nfs4Ok, "{step:?}");
     }
-    let mut taken = Vec::with_capacity(rt.alloc(), MOST)?;
+    let mut taken = Vec::with_capacity(rt.alloc(), MAX_BLOCKS)?;
     starve(rt.alloc(), &mut taken);
     let starved = [
         desk.run(rt.alloc(), Step::Link(LONG)),

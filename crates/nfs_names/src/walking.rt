@@ -191,7 +191,7 @@ pub(crate) fn save_fh(store: &Store, context: &mut Context<'_>) -> Res<'static>
     }
 }
 
-/// The object whose flavours are asked for, or in whose directory.
+/// The object whose flavors are asked for, or in whose directory.
 fn judge_style(store: &Store, context: &Context<'_>, style: SecinfoStyle) -> Result<Node, Status>
     ensures { result ≡ checked (check.current (state_of store.now) context.now) (of_secinfo.style_checks (state_of store.now) style) }
 {

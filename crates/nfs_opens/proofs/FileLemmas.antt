@@ -1,5 +1,5 @@
 -- What a list of files says of who holds which byte, after a change of one file.
-use Rattle.std.proofs.Common.{◌≡◌, ◌≢◌, inl, inr, ℕ, zero, suc, ◌+◌, ◌<◌, ◌≤◌, Bool, true, false, cond, eqb, not, List, [], ◌∷◌, ◌++◌, set, length, get_or}
+use Rattle.std.proofs.Common.{◌≡◌, ◌≢◌, inl, inr, ℕ, zero, suc, ◌<◌, Bool, true, false, cond, eqb, not, List, [], ◌∷◌, ◌++◌, set, length, get_or}
 use Rattle.std.proofs.Common.{Option, Some, None, refl, sym, ◌∙◌, ap, arith}
 use Rattle.std.proofs.Math.Path.{fun_ext}
 use Rattle.std.specs.Prelude.{◌==◌, find, filter, position, is_some, ◌&&◌, ◌^◌}
@@ -10,7 +10,7 @@ use Rattle.nfs_ranges.specs.Holders.{Holders, at, nobody, cleared, dropped, hold
 use Rattle.nfs_ranges.specs.Told.{Tells}
 use Rattle.nfs_opens.specs.declared.locked_files.LockedFile.{LockedFile}
 use Rattle.nfs_opens.specs.Holding.{FileHolders, held_by, on_file}
-use Rattle.nfs_opens.proofs.Numbered.{position_finds, position_nowhere, fails}
+use Rattle.nfs_xdr.proofs.Lists.{position_finds, position_nowhere, none_in, in_at}
 
 abbrev ranges_of : Option LockedFile → Holders
 ranges_of None = nobody
@@ -39,7 +39,8 @@ held_found f (x ∷ xs) = go (x.file == f) (held_found f xs)
 
 -- the holders of a file stand at its place
 pub held_at : (f : ℕ) (xs : List LockedFile) (i : ℕ) (e : LockedFile) → position (λ e. e.file == f) xs ≡ Some i → e ≡ get_or xs i e → held_by xs f ≡ at e.ranges
-held_at f xs i e place is = held_found f xs ∙ ap ranges_of (position_finds (λ (e : LockedFile). e.file == f) xs i e place is)
+held_at f xs i e place is =
+    held_found f xs ∙ ap ranges_of (position_finds (λ (e : LockedFile). e.file == f) xs i e place ∙ ap (λ (e : LockedFile). Some e) (sym is))
 
 -- a file that is not there has none
 pub held_nowhere : (f : ℕ) (xs : List LockedFile) → position (λ e. e.file == f) xs ≡ None → held_by xs f ≡ nobody
@@ -99,7 +100,10 @@ pushed_held f g (x ∷ xs) new k is none made =
 pub held_pushed : (f : ℕ) (g : Holders → Holders) (xs : List LockedFile) (new : LockedFile) → position (λ e. e.file == f) xs ≡ None → new.file ≡ f
     → at new.ranges ≡ g nobody
     → held_by (xs ++ new ∷ []) ≡ on_file (held_by xs) f g
-held_pushed f g xs new gone is made = fun_ext (λ k. pushed_held f g xs new k is (fails (λ (e : LockedFile). e.file == f) xs gone) made)
+held_pushed f g xs new gone is made =
+    let p : LockedFile → Bool = λ e. e.file == f in
+    let none = λ (j : ℕ) (d : LockedFile) (less : j < length xs). none_in p xs (get_or xs j d) (position_nowhere p xs gone) (in_at xs j d less) in
+    fun_ext (λ k. pushed_held f g xs new k is none made)
 
 filtered_held : (f : ℕ) (xs : List LockedFile) (k : ℕ) → held_by (filter (λ e. not (e.file == f)) xs) k ≡ on_file (held_by xs) f (λ h. nobody) k
 filtered_held f [] k = elim (cases_Bool (eqb k f)) [ inl this ↦ rw this refl | inr other ↦ rw other refl ]

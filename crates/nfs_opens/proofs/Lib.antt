@@ -1,6 +1,4 @@
-pub mod Numbered
 pub mod FileLemmas
-pub mod Members
 pub mod HolderLemmas
 pub mod ShareLemmas
 pub mod TableLemmas

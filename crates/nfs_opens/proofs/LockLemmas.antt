@@ -1,8 +1,8 @@
 -- What a lock, a judged stateid and a closed open come to.
-use Rattle.std.proofs.Common.{◌≡◌, ◌≢◌, ◌⊎◌, inl, inr, ℕ, suc, ◌+◌, ◌<◌, ◌≤◌, Bool, true, false, cond, eqb, not, List, [], ◌∷◌, ◌++◌, map, length, Option, Some}
+use Rattle.std.proofs.Common.{◌≡◌, ◌≢◌, ◌⊎◌, inl, inr, ℕ, suc, ◌<◌, ◌≤◌, Bool, true, false, cond, not, List, [], ◌∷◌, map, length, Option, Some}
 use Rattle.std.proofs.Common.{None, refl, sym, ◌∙◌, ap, subst, arith}
 use Rattle.std.proofs.Math.Path.{fun_ext}
-use Rattle.std.specs.Prelude.{◌==◌, ◌^◌, ◌&&◌, find, filter, Result, Ok, Err, IsSome, IsTrue, nat_lt, ◌||◌, if◌then◌else◌}
+use Rattle.std.specs.Prelude.{◌==◌, ◌^◌, ◌&&◌, filter, Result, Ok, Err, IsSome, nat_lt, if◌then◌else◌}
 use Rattle.std.specs.List.{list_any}
 use Rattle.std.proofs.lemmas.Bool.{cases_Bool, cases_eq, cases_lt, eq-eqb, ne_eqb, eqb-true, and_parts, leb-true, false≢true}
 use Rattle.nfs_xdr.specs.declared.status.Status.{Status}
@@ -10,7 +10,7 @@ use Rattle.nfs_ranges.specs.declared.Kind.{Kind}
 use Rattle.nfs_ranges.specs.Intervals.{is_within}
 use Rattle.nfs_ranges.specs.Holders.{Holders, holding, dropped, nobody, holds_any}
 use Rattle.nfs_ranges.specs.declared.Held.{Held}
-use Rattle.nfs_ranges.specs.Told.{Tells, told, IsBelow}
+use Rattle.nfs_ranges.specs.Told.{Tells, told}
 use Rattle.nfs_ranges.proofs.ToldLemmas.{told_is_unique, any_is_decided}
 use Rattle.nfs_xdr.specs.declared.status.Status.TheVariants.{BadStateId, OldStateId}
 use Rattle.nfs_opens.specs.declared.stateid.StateId.{StateId}
@@ -21,13 +21,16 @@ use Rattle.nfs_opens.specs.StateId.{is_anonymous, is_bypass}
 use Rattle.nfs_opens.specs.Judging.{access_of, judge, judge_named, named_by, seated}
 use Rattle.nfs_opens.specs.declared.records.OpenState.{OpenState}
 use Rattle.nfs_opens.specs.declared.records.LockState.{LockState}
-use Rattle.nfs_opens.specs.Holding.{FileHolders, HasNoClash, on_file}
-use Rattle.nfs_opens.specs.Table.{Table, open_at, lock_at, In, IsTable, IsUnder, IsHolder, AreHolders}
+use Rattle.nfs_opens.specs.Holding.{FileHolders, on_file}
+use Rattle.nfs_xdr.specs.Tables.{In}
+use Rattle.nfs_xdr.proofs.Lists.{any_in, in_filter, stays_in, none_any, in_any, length_filter}
+use Rattle.nfs_xdr.proofs.Tables.{in_once}
+use Rattle.nfs_opens.specs.Table.{Table, open_at, lock_at, IsTable, IsHolder, AreHolders}
 use Rattle.nfs_opens.specs.Closing.{stands, held_within, held_without, not_under}
-use Rattle.nfs_opens.proofs.Members.{in_filter, filter_in, in_push, push_in, push_last, in_one, IsRising-upto, none_pass, any_passes}
 use Rattle.nfs_opens.proofs.FileLemmas.{file_here, file_other, on_file_same}
 use Rattle.nfs_opens.proofs.HolderLemmas.{set_keeps}
 use Rattle.nfs_opens.proofs.TableLemmas.{KeepsBytes, holders_left}
+use Rattle.std.proofs.lemmas.List.{length-map}
 
 -- who holds a byte behind a lock: the lock state that locks, in the range, or whoever held it
 held_then : (h : Holders) (n : ℕ) (kind : Kind) (first last s b : ℕ) → ((n ≡ s) × (first ≤ b) × (b ≤ last)) ⊎ (holding h n kind first last s b ≡ h s b)
@@ -109,12 +112,6 @@ without_kept n (l ∷ locks) held f s b none =
     without_kept n locks (drops n l held) f s b (λ k more. none k (inr more))
     ∙ elim (drop_one n l held f s b) [ inl gone ↦ absurd (none l (inl refl) gone.0) | inr same ↦ same.1 ]
 
-in_any : (p : LockState → Bool) (xs : List LockState) (x : LockState) → In x xs → p x ≡ true → list_any p xs ≡ true
-in_any p [] x there passes = absurd there
-in_any p (y ∷ ys) x (inl is) passes = let here : p y ≡ true = ap p (sym is) ∙ passes in rw here refl
-in_any p (y ∷ ys) x (inr more) passes =
-    elim (p y) as (λ v. (v || list_any p ys) ≡ true) [ true ↦ refl | false ↦ in_any p ys x more passes ]
-
 pub some_or_none : (o : Option Kind) → (o ≢ None) ⊎ (o ≡ None)
 some_or_none None = inr refl
 some_or_none (Some k) = inl (λ e. absurd cc)
@@ -129,8 +126,8 @@ without_is_within t n is = fun_ext (λ f. fun_ext (λ s. fun_ext (λ b. elim (so
     | inr other ↦ without_kept n t.locks t.held f s b
         (λ k there g. other (ap (λ (l : LockState). l.opened) (sym (same k l there holder.stands (g.2 ∙ sym holder.number))) ∙ g.0))
         ∙ sym (ap (λ (v : Bool). cond v (t.held f s b) None)
-        (in_any (λ (l : LockState). l.number == s) (filter (not_under n) t.locks) l
-        (filter_in (not_under n) t.locks l holder.stands (ap not (ne_eqb l.opened n other))) (eq-eqb l.number s holder.number)))
+        (any_in (λ (l : LockState). l.number == s) (filter (not_under n) t.locks) l
+        (stays_in (not_under n) t.locks l holder.stands (ap not (ne_eqb l.opened n other))) (eq-eqb l.number s holder.number)))
   ])
 ])))
   where
@@ -139,13 +136,13 @@ without_is_within t n is = fun_ext (λ f. fun_ext (λ s. fun_ext (λ b. elim (so
     within false o e = refl
 
     same : (k l : LockState) → In k t.locks → In l t.locks → k.number ≡ l.number → k ≡ l
-    same k l a b e = in_one (λ (l : LockState). l.number) 1 (suc t.last) t.locks k l is.locks a b e
+    same k l a b e = in_once (λ (l : LockState). l.number) 1 (suc t.last) t.locks k l is.locks a b e
 
     left_out : (f s : ℕ) (l : LockState) → IsHolder t.locks f s l → l.opened ≡ n → stands (filter (not_under n) t.locks) s ≡ false
     left_out f s l holder under = elim (cases_Bool (stands (filter (not_under n) t.locks) s)) [
       | inr never ↦ never
       | inl stood ↦
-          (let (k, in_k, k_is) = any_passes (λ (l : LockState). l.number == s) (filter (not_under n) t.locks) stood in
+          (let (k, in_k, k_is) = in_any (λ (l : LockState). l.number == s) (filter (not_under n) t.locks) stood in
           let was = in_filter (not_under n) t.locks k in_k in
           let is_l : k ≡ l = same k l was.0 holder.stands (eqb-true _ _ k_is ∙ sym holder.number) in
           absurd (false≢true (sym (ap not (eq-eqb k.opened n (ap (λ (l : LockState). l.opened) is_l ∙ under))) ∙ was.1)))
@@ -157,7 +154,7 @@ pub forgotten : (locks : List LockState) (held : FileHolders) (f : ℕ) → AreH
 forgotten locks held f holders none = sym (on_file_same held f (λ h. nobody) (fun_ext (λ s. fun_ext (λ b. sym (elim (some_or_none (held f s b)) [
   | inr e ↦ e
   | inl some ↦ (let (l, holder) = holders f s b some in absurd
-      (false≢true (sym (none_pass (λ (l : LockState). l.file == f) locks l none holder.stands) ∙ eq-eqb l.file f holder.file)))
+      (false≢true (sym (none_any (λ (l : LockState). l.file == f) locks l none holder.stands) ∙ eq-eqb l.file f holder.file)))
 ])))))
 
 -- reported, as a function and as a fact
@@ -265,18 +262,8 @@ left_holders t n before after held is b a h =
     subst (λ (ls : List LockState). AreHolders ls held) (sym a)
     (subst (λ (k : FileHolders). AreHolders (filter (not_under n) t.locks) k) (sym (left_held t n before held is b h)) (holders_left t (not_under n) is))
 
-length_filter : {X : Type 0} (p : X → Bool) (xs : List X) → length (filter p xs) ≤ length xs
-length_filter p [] = omega arith
-length_filter {X} p (x ∷ xs) =
-    let less = length_filter p xs in
-    elim (p x) as (λ b. length (cond b (x ∷ filter p xs) (filter p xs)) ≤ suc (length xs)) [ true ↦ omega arith | false ↦ omega arith ]
-
 pub fewer_opens : (p : OpenState → Bool) (xs ys : List OpenState) (room more : ℕ) → ys ≡ filter p xs → more ≡ room → length xs < room → length ys < more
 fewer_opens p xs ys room more e same lt = let less = length_filter p xs in let is : length ys ≡ length (filter p xs) = ap length e in omega arith
 
-length_map : {X : Type 0} (f : X → X) (xs : List X) → length (map f xs) ≡ length xs
-length_map f [] = refl
-length_map f (x ∷ xs) = ap suc (length_map f xs)
-
 pub as_many : (f : OpenState → OpenState) (xs ys : List OpenState) (room more : ℕ) → ys ≡ map f xs → more ≡ room → length xs < room → length ys < more
-as_many f xs ys room more e same lt = let is : length ys ≡ length xs = ap length e ∙ length_map f xs in omega arith
+as_many f xs ys room more e same lt = let is : length ys ≡ length xs = ap length e ∙ length-map xs f in omega arith

@@ -2,8 +2,8 @@
 use Rattle.std.proofs.Common.{◌≡◌, ◌≢◌, inl, inr, ℕ, suc, ◌+◌, ◌<◌, ◌≤◌, Bool, true, false, cond, eqb, not, List, [], ◌∷◌, ◌++◌, Option, Some, None, refl, sym}
 use Rattle.std.proofs.Common.{◌∙◌, ap, subst, arith}
 use Rattle.std.proofs.Math.Path.{fun_ext}
-use Rattle.std.specs.Prelude.{◌==◌, ◌^◌, Result, Ok, Err, IfSome, IsSomeAnd, find, nat_le, ◌&&◌}
-use Rattle.std.proofs.lemmas.Bool.{eqb-true, cases_eq, cases_lt, eq-eqb, ne_eqb, and_parts, le-leb}
+use Rattle.std.specs.Prelude.{◌==◌, ◌^◌, Result, Ok, Err, IfSome, nat_le, ◌&&◌}
+use Rattle.std.proofs.lemmas.Bool.{eqb-true, cases_eq, cases_lt, eq-eqb, ne_eqb, le-leb}
 use Rattle.nfs_ranges.specs.declared.Held.{Held}
 use Rattle.nfs_ranges.specs.Holders.{Holders, holding, cleared, dropped, holds_any}
 use Rattle.nfs_ranges.specs.declared.Kind.{Kind}
@@ -16,13 +16,13 @@ use Rattle.nfs_opens.specs.declared.locking.OpenFault.{OpenFault}
 use Rattle.nfs_opens.specs.declared.locking.OpenFault.TheVariants.{Refused}
 use Rattle.nfs_xdr.specs.declared.status.Status.TheVariants.{OpenMode, ShareDenied, Inval}
 use Rattle.nfs_xdr.specs.declared.status.Status.{Status}
-use Rattle.nfs_xdr.proofs.Tables.{IsRising-push}
+use Rattle.nfs_xdr.proofs.Lists.{find_in, in_push, push_in, last_in}
+use Rattle.nfs_xdr.proofs.Tables.{IsRising-push, in_once, IsRising-upto, in_bounds}
 use Rattle.nfs_opens.specs.Holding.{FileHolders, on_file, HasNoByteBehind, HasNoClash}
 use Rattle.nfs_opens.specs.StateId.{next_seqid, last_number}
-use Rattle.nfs_opens.specs.Table.{Table, Did, open_at, lock_at, with_open, with_lock, Asked, is_own, clashes_with, In, IsTable, IsUnder, IsHolder}
+use Rattle.nfs_opens.specs.Table.{Table, open_at, lock_at, with_open, with_lock, Asked, is_own, clashes_with, IsTable, IsHolder}
 use Rattle.nfs_opens.specs.Closing.{without_lock}
 use Rattle.nfs_opens.specs.Locking.{permits, clash, unless_told, lock_judged, lock_as, lock_first, lock_more, lock_new, does_if, raised}
-use Rattle.nfs_opens.proofs.Members.{find_in, in_one, in_push, push_in, push_last, IsRising-upto, in_above}
 use Rattle.nfs_opens.proofs.TableLemmas.{KeepsBytes, table_raised, clears_bytes, table_freed, table_narrowed, table_joined, on_each}
 use Rattle.nfs_opens.proofs.FileLemmas.{file_here, file_other}
 use Rattle.nfs_opens.proofs.ShareLemmas.{own_is}
@@ -32,10 +32,6 @@ use Rattle.nfs_opens.proofs.LockLemmas.{sets_bytes, clash_tells, holds_none, som
 
 pub if_some : {X : Type 0} (o : Option X) (x : X) (P : X → Type 0) → o ≡ Some x → IfSome o P → P x
 if_some {X} o x P e is = let at : IfSome (Some x) P = subst (λ (o : Option X). IfSome o P) e is in at
-
-pub some_there : {X : Type 0} (o : Option X) (P : X → Type 0) → IsSomeAnd o P → (x : X) × (o ≡ Some x) × P x
-some_there None P is = absurd is
-some_there (Some x) P is = (x, refl, is)
 
 pub all_some : {X : Type 0} (o : Option X) (x : X) (P : X → Type 0) → o ≡ Some x → P x → IfSome o P
 all_some {X} o x P e is = subst (λ (o : Option X). IfSome o P) (sym e) is
@@ -66,7 +62,7 @@ pub table_locked : (t : Table) (w : Wish) (n : ℕ) (access : Share) (l : LockSt
     → IsTable (record (with_lock t n raised) { held = on_file t.held w.file (λ h. holding h n w.kind w.first w.last) })
 table_locked t w n access l is range fits e f of_file =
     let holder = found_holder t n w.file l f of_file in
-    let above = in_above (λ (l : LockState). l.number) 1 (suc t.last) t.locks l is.locks holder.stands in
+    let above = in_bounds (λ (l : LockState). l.number) 1 (suc t.last) t.locks l is.locks holder.stands in
     let low : n < suc t.last = let same = holder.number in omega arith in
     table_raised t n w.file (λ h. holding h n w.kind w.first w.last) is
     (sets_bytes t t.locks n w.file w.first w.last t.last w.kind l is (λ k there. there) holder low (omega arith) fits
@@ -85,7 +81,7 @@ free_keeps t n l is found none =
       | inr e ↦ e
       | inl some ↦
           (let (k, holder) = is.holders f n b some in
-          let same : k ≡ l = in_one (λ (l : LockState). l.number) 1 (suc t.last) t.locks k l is.locks holder.stands here.stands
+          let same : k ≡ l = in_once (λ (l : LockState). l.number) 1 (suc t.last) t.locks k l is.locks holder.stands here.stands
           (holder.number ∙ sym here.number) in
           let file : f ≡ l.file = sym holder.file ∙ ap (λ (l : LockState). l.file) same in
           ap (λ j. t.held j n b) file ∙ holds_none (t.held l.file) n (is.within l.file n) none b)
@@ -109,7 +105,7 @@ no_zero : (t : Table) (file b : ℕ) → IsTable t → t.held file 0 b ≡ None
 no_zero t file b is = elim (some_or_none (t.held file 0 b)) [
   | inr e ↦ e
   | inl some ↦ (let (l, holder) = is.holders file 0 b some in
-      let above = in_above (λ (l : LockState). l.number) 1 (suc t.last) t.locks l is.locks holder.stands in
+      let above = in_bounds (λ (l : LockState). l.number) 1 (suc t.last) t.locks l is.locks holder.stands in
       let zero = holder.number in absurd (omega arith))
 ]
 
@@ -132,7 +128,7 @@ table_first t w owner opened o is range fits tells e client of_file =
     let g : Holders → Holders = λ h. holding h (t.last + 1) w.kind w.first w.last in
     let keeps : KeepsBytes (record t { locks = ls; last = t.last + 1 }) w.file (g (t.held w.file)) =
     sets_bytes t ls (t.last + 1) w.file w.first w.last (t.last + 1) w.kind new is (λ k there. push_in t.locks new k there)
-    (record { stands = push_last t.locks new; number = refl; file = refl }) (omega arith) (omega arith) fits
+    (record { stands = last_in t.locks new; number = refl; file = refl }) (omega arith) (omega arith) fits
     (tells_any (t.held w.file) 0 (t.last + 1) w.kind w.first w.last tells (λ b. no_zero t w.file b is)) in
     let found = find_in (λ (o : OpenState). o.number == opened) t.opens o e in
     record {

@@ -1,25 +1,25 @@
 -- What each change keeps of what holds of every table.
-use Rattle.std.proofs.Common.{◌≡◌, ◌≢◌, ◌⊎◌, inl, inr, ℕ, suc, ◌+◌, ◌<◌, ◌≤◌, Bool, true, false, cond, eqb, not, List, [], ◌∷◌, ◌++◌, map, Option, Some, None}
+use Rattle.std.proofs.Common.{◌≡◌, ◌≢◌, ◌⊎◌, inl, inr, ℕ, suc, ◌+◌, ◌≤◌, Bool, true, false, cond, eqb, not, List, [], ◌∷◌, ◌++◌, Option, None}
 use Rattle.std.proofs.Common.{refl, sym, ◌∙◌, ap, subst, arith}
-use Rattle.std.specs.Prelude.{◌==◌, ◌^◌, if◌then◌else◌, find, filter}
+use Rattle.std.specs.Prelude.{◌==◌, ◌^◌, if◌then◌else◌, filter}
 use Rattle.std.specs.List.{list_any}
-use Rattle.std.proofs.lemmas.Bool.{cases_Bool, cases_eq, eq-eqb, ne_eqb, eqb-true, false≢true}
-use Rattle.nfs_xdr.specs.Tables.{IsRising}
-use Rattle.nfs_xdr.proofs.Tables.{IsRising-push, IsRising-map, IsRising-filter}
+use Rattle.std.proofs.lemmas.Bool.{cases_eq, eq-eqb, ne_eqb, eqb-true}
+use Rattle.nfs_xdr.specs.Tables.{In}
+use Rattle.nfs_xdr.proofs.Lists.{in_filter, stays_in, in_push, push_in, in_map, map_in, none_any, in_any}
+use Rattle.nfs_xdr.proofs.Tables.{IsRising-push, IsRising-map, IsRising-filter, in_once, IsRising-upto}
 use Rattle.nfs_ranges.specs.declared.Kind.{Kind}
-use Rattle.nfs_ranges.specs.Holders.{Holders, holding, cleared}
-use Rattle.nfs_ranges.specs.Told.{Tells, IsBelow}
+use Rattle.nfs_ranges.specs.Holders.{Holders, cleared}
+use Rattle.nfs_ranges.specs.Told.{IsBelow}
 use Rattle.nfs_opens.specs.declared.share.Share.{Share}
 use Rattle.nfs_opens.specs.declared.records.OpenState.{OpenState}
 use Rattle.nfs_opens.specs.declared.records.LockState.{LockState}
 use Rattle.nfs_opens.specs.Holding.{FileHolders, HasNoClash, on_file}
-use Rattle.nfs_opens.specs.Table.{Table, Asked, In, IsTable, IsUnder, IsHolder, AreHolders, is_own, clashes_with, as_asked, with_open, with_lock, no_opens}
+use Rattle.nfs_opens.specs.Table.{Table, Asked, IsTable, IsHolder, AreHolders, clashes_with, as_asked, with_open, with_lock, no_opens}
 use Rattle.nfs_opens.specs.Opening.{new_open, joins, narrows, is_narrower}
 use Rattle.nfs_opens.specs.Closing.{stands, held_within, not_under, without_open, without_lock}
 use Rattle.nfs_opens.specs.Locking.{raised}
-use Rattle.nfs_opens.proofs.Members.{in_filter, filter_in, in_push, push_in, push_last, in_map, map_in, in_above, in_one, IsRising-upto, none_pass, any_passes}
 use Rattle.nfs_opens.proofs.FileLemmas.{file_here, file_other}
-use Rattle.nfs_opens.proofs.HolderLemmas.{set_keeps, IsFewer, fewer_keeps}
+use Rattle.nfs_opens.proofs.HolderLemmas.{IsFewer, fewer_keeps}
 use Rattle.nfs_opens.proofs.ShareLemmas.{peace_back, peace_self, joins_apart, narrows_apart}
 
 -- a new table
@@ -44,11 +44,11 @@ table_opened t a is free = record {
   shares = λ x y in_x in_y. elim (in_push t.opens (new_open t a) x in_x) [
     | inl new_x ↦ elim (in_push t.opens (new_open t a) y in_y) [
       | inl new_y ↦ peace_self (as_asked x) y (ap (λ (o : OpenState). o.client) (new_y ∙ sym new_x)) (ap (λ (o : OpenState). o.owner) (new_y ∙ sym new_x))
-      | inr old_y ↦ subst (λ (o : OpenState). clashes_with (as_asked o) y ≡ false) (sym new_x) (none_pass (clashes_with a) t.opens y free old_y)
+      | inr old_y ↦ subst (λ (o : OpenState). clashes_with (as_asked o) y ≡ false) (sym new_x) (none_any (clashes_with a) t.opens y free old_y)
     ]
     | inr old_x ↦ elim (in_push t.opens (new_open t a) y in_y) [
       | inl new_y ↦ subst (λ (o : OpenState). clashes_with (as_asked x) o ≡ false) (sym new_y)
-          (peace_back x (new_open t a) (none_pass (clashes_with a) t.opens x free old_x))
+          (peace_back x (new_open t a) (none_any (clashes_with a) t.opens x free old_x))
       | inr old_y ↦ is.shares x y old_x old_y
     ]
   ];
@@ -112,7 +112,7 @@ table_open_changed t n f is keeps =
     pair a b in_a in_b =
         at_number n f (λ b y. clashes_with (as_asked (if a.number == n then f a else a)) y ≡ false) b
         (λ b_is. at_number n f (λ a x. clashes_with (as_asked x) (f b) ≡ false) a
-        (λ a_is. let same : b ≡ a = in_one (λ (o : OpenState). o.number) 1 (suc t.last) t.opens b a is.opens in_b in_a (b_is ∙ sym a_is) in
+        (λ a_is. let same : b ≡ a = in_once (λ (o : OpenState). o.number) 1 (suc t.last) t.opens b a is.opens in_b in_a (b_is ∙ sym a_is) in
         peace_self (as_asked (f a)) (f b) (ap (λ (o : OpenState). (f o).client) same) (ap (λ (o : OpenState). (f o).owner) same))
         (λ _. peace_back a (f b) (keeps.apart b a in_b b_is in_a)))
         (λ _. at_number n f (λ a x. clashes_with (as_asked x) b ≡ false) a (λ a_is. keeps.apart a b in_a a_is in_b) (λ _. is.shares a b in_a in_b))
@@ -127,9 +127,9 @@ table_joined t a o is there file client owner free = table_open_changed t o.numb
   owner = λ x. refl;
   file = λ x. refl;
   apart = λ x b in_x x_is in_b.
-      let same : o ≡ x = in_one (λ (o : OpenState). o.number) 1 (suc t.last) t.opens o x is.opens there in_x (sym x_is) in
+      let same : o ≡ x = in_once (λ (o : OpenState). o.number) 1 (suc t.last) t.opens o x is.opens there in_x (sym x_is) in
       subst (λ (x : OpenState). clashes_with (as_asked (joins a x)) b ≡ false) same
-      (joins_apart a o b file client owner (is.shares o b there in_b) (none_pass (clashes_with a) t.opens b free in_b));
+      (joins_apart a o b file client owner (is.shares o b there in_b) (none_any (clashes_with a) t.opens b free in_b));
 })
 
 -- a downgrade
@@ -141,7 +141,7 @@ table_narrowed t access deny o is there narrower = table_open_changed t o.number
   owner = λ x. refl;
   file = λ x. refl;
   apart = λ x b in_x x_is in_b.
-      let same : o ≡ x = in_one (λ (o : OpenState). o.number) 1 (suc t.last) t.opens o x is.opens there in_x (sym x_is) in
+      let same : o ≡ x = in_once (λ (o : OpenState). o.number) 1 (suc t.last) t.opens o x is.opens there in_x (sym x_is) in
       subst (λ (x : OpenState). clashes_with (as_asked (narrows access deny x)) b ≡ false) same
       (narrows_apart access deny o b narrower (is.shares o b there in_b));
 })
@@ -166,9 +166,9 @@ pub holders_left : (t : Table) (p : LockState → Bool) → IsTable t → AreHol
 holders_left t p is f s b holds =
     let (left, held) = none_of _ _ holds in
     let (l, holder) = is.holders f s b held in
-    let (k, in_k, k_is) = any_passes (λ (l : LockState). l.number == s) (filter p t.locks) left in
+    let (k, in_k, k_is) = in_any (λ (l : LockState). l.number == s) (filter p t.locks) left in
     let was = in_filter p t.locks k in_k in
-    let same : k ≡ l = in_one (λ (l : LockState). l.number) 1 (suc t.last) t.locks k l is.locks was.0 holder.stands (eqb-true _ _ k_is ∙ sym holder.number) in
+    let same : k ≡ l = in_once (λ (l : LockState). l.number) 1 (suc t.last) t.locks k l is.locks was.0 holder.stands (eqb-true _ _ k_is ∙ sym holder.number) in
     (l, record { stands = subst (λ (l : LockState). In l (filter p t.locks)) same in_k; number = holder.number; file = holder.file })
 
 -- an open is closed
@@ -183,7 +183,7 @@ table_closed t n is = record {
       let (o, under) = is.under l was.0 in (
         o,
         record {
-          stands = filter_in (λ (o : OpenState). not (o.number == n)) t.opens o under.stands (ap (λ k. not (eqb k n)) under.number
+          stands = stays_in (λ (o : OpenState). not (o.number == n)) t.opens o under.stands (ap (λ k. not (eqb k n)) under.number
               ∙ was.1);
           number = under.number;
           client = under.client;
@@ -208,7 +208,7 @@ table_freed t n is empty = record {
       let other : l.number ≢ n = λ same. holds (ap (λ k. t.held f k b) (sym holder.number ∙ same) ∙ empty f b) in (
         l,
         record {
-          stands = filter_in (λ (l : LockState). not (l.number == n)) t.locks l holder.stands
+          stands = stays_in (λ (l : LockState). not (l.number == n)) t.locks l holder.stands
               (ap not (ne_eqb l.number n other));
           number = holder.number;
           file = holder.file;

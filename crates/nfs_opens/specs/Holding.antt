@@ -1,5 +1,5 @@
 -- The locked bytes of all files: of each file who holds which byte, and how (RFC 8881 section 9.1).
-use Rattle.std.specs.Prelude.{◌≡◌, ◌≢◌, ℕ, ◌≤◌, ◌^◌, ◌==◌, Bool, List, [], ◌∷◌, Some, None, if◌then◌else◌}
+use Rattle.std.specs.Prelude.{◌≡◌, ◌≢◌, ℕ, ◌≤◌, ◌^◌, ◌==◌, List, [], ◌∷◌, Some, None, if◌then◌else◌}
 use Rattle.nfs_ranges.specs.declared.Kind.TheVariants.{Write}
 use Rattle.nfs_ranges.specs.Holders.{Holders, at, nobody}
 use Rattle.nfs_opens.specs.declared.locked_files.LockedFile.{LockedFile}

@@ -1,5 +1,5 @@
 -- Stateids (RFC 8881 section 8.2): a seqid, and behind it the server's instance and the number of an open or a lock state.
-use Rattle.std.specs.Prelude.{ℕ, ◌+◌, ◌==◌, Bool, true, false, ◌&&◌, ◌||◌, Result, Ok, Err, if◌then◌else◌}
+use Rattle.std.specs.Prelude.{ℕ, ◌+◌, ◌==◌, Bool, ◌&&◌, ◌||◌, Result, Ok, Err, if◌then◌else◌}
 use Rattle.nfs_xdr.specs.declared.status.Status.{Status}
 use Rattle.nfs_xdr.specs.declared.status.Status.TheVariants.{BadStateId}
 use Rattle.nfs_opens.specs.declared.stateid.StateId.{StateId}

@@ -1,8 +1,7 @@
 -- Opens, lock states and locked bytes (RFC 8881 sections 8.2, 9.1 and 9.7).
-use Rattle.std.specs.Prelude.{◌≡◌, ◌≢◌, ◌⊎◌, ℕ, ◌==◌, suc, ◌<◌, ◌≤◌, ⊤, Bool, true, false, length, not, ◌&&◌, ◌||◌, List, [], ◌∷◌, Option, None, Result, find}
+use Rattle.std.specs.Prelude.{◌≡◌, ◌≢◌, ℕ, ◌==◌, suc, ◌<◌, Bool, true, false, length, not, ◌&&◌, ◌||◌, List, [], Option, None, Result, find}
 use Rattle.std.specs.Prelude.{map, bytes_eq, if◌then◌else◌}
-use Rattle.std.specs.List.{list_any}
-use Rattle.nfs_xdr.specs.Tables.{IsRising}
+use Rattle.nfs_xdr.specs.Tables.{IsRising, In}
 use Rattle.nfs_ranges.specs.Told.{IsBelow}
 use Rattle.nfs_opens.specs.declared.share.Share.{Share}
 use Rattle.nfs_opens.specs.declared.records.OpenState.{OpenState}
@@ -77,14 +76,9 @@ clashes_with a o = (o.file == a.file) && (not (is_owners a o) && (meets a.access
 abbrev pub as_asked : OpenState → Asked
 as_asked o = record { client = o.client; owner = o.owner; file = o.file; access = o.access; deny = o.deny }
 
-abbrev pub In : {X : Type 0} → X → List X → Type 0
-In x [] = ⊥
-In x (y ∷ ys) = (x ≡ y) ⊎ In x ys
-
 -- the numbers rise, from low on
 abbrev pub Rises : {X : Type 0} → (X → ℕ) → ℕ → List X → Type 0
-Rises number low [] = ⊤
-Rises number low (x ∷ xs) = (low ≤ number x) × Rises number (suc (number x)) xs
+Rises number low xs = (high : ℕ) × IsRising number low xs high
 
 -- a lock state's open stands, and is of the same client and file
 pub record IsUnder (opens : List OpenState) (l : LockState) (o : OpenState) : Type 0 where

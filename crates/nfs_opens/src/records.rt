@@ -114,12 +114,7 @@ fn place_of_open(opens: &[OpenState], number: u64) -> Option<usize>
     requires { Rises (λ o. o.number) 1 opens.now }
     ensures { result ≡ position (λ o. o.number == number) opens.now }
 {
-    let place = opens.partition_point(|o| o.number < number);
-    if place < opens.len() && opens[place].number == number {
-        Some(place)
-    } else {
-        None
-    }
+    opens.binary_search_by_key(&number, |o| o.number).ok()
 }
 
 /// The place of the lock state of a number.
@@ -127,12 +122,7 @@ fn place_of_lock(locks: &[LockState], number: u64) -> Option<usize>
     requires { Rises (λ l. l.number) 1 locks.now }
     ensures { result ≡ position (λ l. l.number == number) locks.now }
 {
-    let place = locks.partition_point(|l| l.number < number);
-    if place < locks.len() && locks[place].number == number {
-        Some(place)
-    } else {
-        None
-    }
+    locks.binary_search_by_key(&number, |l| l.number).ok()
 }
 
 /// The open of a number.

@@ -2,7 +2,7 @@
 
 use super::*;
 use nfs_ranges::{Held, Kind};
-use nfs_testing::{MOST, starve};
+use nfs_testing::{MAX_BLOCKS, starve};
 use nfs_xdr::Status;
 use std::alloc::Global;
 use std::test::Fail;
@@ -380,7 +380,7 @@ fn a_refused_growth_changes_nothing(rt: HostRuntime) -> Result<(), Fail> {
         owner: b"other",
     };
     let _ = lock_bytes(&mut opens, rt.alloc(), &new, &wish(A, Kind::Write, 0, 99));
-    let mut taken = Vec::with_capacity(rt.alloc(), MOST)?;
+    let mut taken = Vec::with_capacity(rt.alloc(), MAX_BLOCKS)?;
     starve(rt.alloc(), &mut taken);
     let reserved = opens
         .reserve(rt.alloc(), b"a longer owner than any block")

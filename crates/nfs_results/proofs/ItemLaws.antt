@@ -1,10 +1,10 @@
 -- The items of results are read exactly where they are spelled.
-use Rattle.std.proofs.Common.{◌≡◌, ℕ, ◌^◌, ◌<◌, eqb, cond, List, [], ◌∷◌, ◌++◌, Some, None, refl, ap, ◌∙◌, arith}
+use Rattle.std.proofs.Common.{ℕ, ◌^◌, ◌<◌, eqb, cond, ◌++◌, Some, None, refl, ap, ◌∙◌, arith}
 use Rattle.std.specs.Int.{w32, from_be_bytes}
 use Rattle.std.proofs.lemmas.Bool.{eqb-true, eq-eqb}
 use Rattle.nfs_xdr.specs.Spelling as spelling
-use Rattle.nfs_xdr.specs.Reading.{◌>>=◌, number_at}
-use Rattle.nfs_xdr.specs.Codec.{Codec, IsCodec, IsListing, IsSized, listed_at, number, few}
+use Rattle.nfs_xdr.specs.Reading.{number_at}
+use Rattle.nfs_xdr.specs.Codec.{IsCodec, IsSized, number, few}
 use Rattle.nfs_xdr.proofs.CodecLaws.{bind_some, test_some, taken_at, is_number, is_hyper, is_flag, is_fixed, is_opaque, is_unbounded, is_then, is_as_type}
 use Rattle.nfs_xdr.proofs.CodecLaws.{is_only, is_few, is_pieces}
 use Rattle.nfs_xdr.proofs.ChainLaws.{is_chain}

@@ -1,5 +1,5 @@
 -- Nothing was put.
-use Rattle.std.proofs.Common.{List, [], ◌++◌, refl, sym, append-nil}
+use Rattle.std.proofs.Common.{[], refl, sym, append-nil}
 use Rattle.nfs_xdr.specs.SheetState.{SheetState, Puts}
 
 pub puts_nothing : {sheet : SheetState} → Puts sheet sheet []

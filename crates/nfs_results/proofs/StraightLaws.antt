@@ -1,5 +1,5 @@
 -- Parts that are put one behind the other are a result.
-use Rattle.std.proofs.Common.{◌≡◌, ℕ, Bool, true, false, List, [], ◌∷◌, ◌++◌, length, refl, sym, ap, ◌∙◌, append_assoc}
+use Rattle.std.proofs.Common.{◌≡◌, ℕ, Bool, true, List, [], ◌∷◌, ◌++◌, length, refl, sym, ap, ◌∙◌, append_assoc}
 use Rattle.std.specs.List.{flat_map}
 use Rattle.nfs_xdr.specs.Spelling.{number, hyper, flag, fixed, opaque}
 use Rattle.nfs_xdr.specs.Chain.{spell_chain}

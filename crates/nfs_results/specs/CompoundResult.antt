@@ -2,6 +2,7 @@
 use Rattle.std.specs.Prelude.{◌≡◌, ℕ, List, ◌++◌, length}
 use Rattle.std.specs.List.{flat_map}
 use Rattle.nfs_xdr.specs.Spelling.{number, opaque}
+use Rattle.nfs_xdr.specs.Limits.{opaque_limit}
 use Rattle.nfs_xdr.specs.Codec as codec
 use Rattle.nfs_xdr.specs.Codec.{Codec, ◌then◌, as_type, array}
 use Rattle.nfs_results.specs.Result.{Res}
@@ -24,7 +25,7 @@ spell_compound c = spell_compound_head c.status c.tag (length c.results) ++ flat
 -- the same item by item, and how it is read
 abbrev pub parts : Codec CompoundResult
 parts = as_type (λ (status, (tag, results)). record { status = status; tag = tag; results = results })
-    (λ c. (c.status, (c.tag, c.results))) (status then codec.opaque 1024 then array result)
+    (λ c. (c.status, (c.tag, c.results))) (status then codec.opaque opaque_limit then array result)
 
 abbrev pub compound_result : Codec CompoundResult
 compound_result = record { spell = spell_compound; Fits = parts.Fits; read = parts.read }

@@ -1,10 +1,11 @@
 -- How the items of results are spelled (RFC 5662). What is put together is named in the order of its bytes.
-use Rattle.std.specs.Prelude.{ℕ, ◌==◌, List, [], ◌∷◌, length, Bool, true, not, is_some, Option, Some, None, if◌then◌else◌}
+use Rattle.std.specs.Prelude.{ℕ, ◌==◌, List, [], ◌∷◌, Bool, true, not, is_some, Some, None, if◌then◌else◌}
 use Rattle.std.specs.Int.{w32, from_be_bytes}
 use Rattle.std.specs.List.{list_all}
 use Rattle.nfs_xdr.specs.Spelling as spelling
 use Rattle.nfs_xdr.specs.Reading.{◌>>=◌, number_at}
 use Rattle.nfs_xdr.specs.Status.{status_of}
+use Rattle.nfs_xdr.specs.Limits.{opaque_limit}
 use Rattle.nfs_xdr.specs.Codec.{Codec, number, hyper, flag, fixed, opaque, unbounded, ◌then◌, as_type, only, few, pieces}
 use Rattle.nfs_xdr.specs.Chain.{chain}
 use Rattle.nfs_compound.specs.Stateid.{stateid}
@@ -94,7 +95,7 @@ exchange_id = as_type
       server_scope = server_scope;
     })
     (λ r. (r.clientid, (r.sequenceid, (r.flags, (tt, (r.minor_id, (r.major_id, (r.server_scope, tt))))))))
-    (hyper then number then number then always 0 then hyper then opaque 1024 then opaque 1024 then always 0)
+    (hyper then number then number then always 0 then hyper then opaque opaque_limit then opaque opaque_limit then always 0)
 
 unfoldable pub create_session : Codec CreateSessionOk
 create_session = as_type

@@ -1,18 +1,19 @@
 -- How many bytes the result of an operation takes at most, from its operation number on (this server's profile).
-use Rattle.std.specs.Prelude.{◌≡◌, ℕ, ◌+◌, ◌*◌, ◌≤◌, ◌==◌, List, length, nat_lt, None, if◌then◌else◌}
+use Rattle.std.specs.Prelude.{◌≡◌, ℕ, ◌+◌, ◌*◌, ◌≤◌, ◌==◌, length, nat_lt, None, if◌then◌else◌}
 use Rattle.nfs_xdr.specs.Spelling.{padding}
+use Rattle.nfs_xdr.specs.Limits.{most_transfer, opaque_limit}
 use Rattle.nfs_compound.specs.declared.op_num.OpNum.TheVariants as Op
 use Rattle.nfs_compound.specs.OpNum.{op_number}
 use Rattle.nfs_compound.specs.Arguments.{arguments}
 use Rattle.nfs_compound.specs.Operation.{Op, OpRead, OpReadDir, OpTestStateid, Item, Operation, Fault}
-use Rattle.nfs_results.specs.Result.{Res, ResAccess, ResClose, ResCommit, ResCreate, ResGetAttr, ResGetFh, ResLink, ResLock, ResLockDenied, ResLockT}
-use Rattle.nfs_results.specs.Result.{ResLockTDenied, ResLockU, ResOpen, ResRead, ResReadDir, ResReadLink, ResSetAttr, ResExchangeId, ResCreateSession}
+use Rattle.nfs_results.specs.Result.{Res, ResCreate, ResGetAttr, ResGetFh, ResLockDenied}
+use Rattle.nfs_results.specs.Result.{ResLockTDenied, ResOpen, ResRead, ResReadDir, ResReadLink, ResSetAttr, ResExchangeId, ResCreateSession}
 use Rattle.nfs_results.specs.Result.{ResSecinfoNoName, ResTestStateid, Refused}
-use Rattle.nfs_results.specs.Results.{operation_of, parts, IsBounded, HasArrays}
+use Rattle.nfs_results.specs.Results.{operation_of, parts, IsBounded}
 
 -- no more than this many bytes are given at once
 abbrev pub given : ℕ → ℕ
-given count = if nat_lt 65536 count then 65536 else count
+given count = if nat_lt most_transfer count then most_transfer else count
 
 -- by the operation's number, and by how much was asked for
 abbrev pub largest_of : (operation asked : ℕ) → ℕ
@@ -50,8 +51,8 @@ abbrev pub HasSizes : (asked : ℕ) → Res → Type 0
 HasSizes asked (ResCreate c) = length c.attrset ≤ 3
 HasSizes asked (ResGetAttr f) = (length f.attrmask ≤ 3) × (length f.attr_vals ≤ 612)
 HasSizes asked (ResGetFh object) = length object ≤ 16
-HasSizes asked (ResLockDenied d) = length d.owner.owner ≤ 1024
-HasSizes asked (ResLockTDenied d) = length d.owner.owner ≤ 1024
+HasSizes asked (ResLockDenied d) = length d.owner.owner ≤ opaque_limit
+HasSizes asked (ResLockTDenied d) = length d.owner.owner ≤ opaque_limit
 HasSizes asked (ResOpen o) = length o.attrset ≤ 3
 HasSizes asked (ResRead r) = length r.bytes ≤ given asked
 HasSizes asked (ResReadDir r) = length (parts (ResReadDir r)).behind ≤ given asked

@@ -2,13 +2,14 @@
 use Rattle.std.specs.Prelude.{◌≡◌, ℕ, ◌≤◌, ◌<◌, ◌^◌, ◌==◌, ◌||◌, ◌&&◌, List, [], ◌++◌, length, Bool, not, nat_le, IsTrue, Option, Some, None, if◌then◌else◌}
 use Rattle.nfs_xdr.specs.Spelling as spelling
 use Rattle.nfs_xdr.specs.Reading.{◌>>=◌, number_at}
+use Rattle.nfs_xdr.specs.Limits.{fhsize, opaque_limit}
 use Rattle.nfs_xdr.specs.declared.status.Status.{Status}
 use Rattle.nfs_xdr.specs.declared.status.Status.TheVariants.{Nfs4Ok, Denied, OpIllegal, RepTooBig}
 use Rattle.nfs_xdr.specs.Status.{status_number, status}
 use Rattle.nfs_xdr.specs.Codec.{Codec, fixed, opaque, unbounded, arm, bare}
 use Rattle.nfs_compound.specs.declared.op_num.OpNum.{OpNum}
 use Rattle.nfs_compound.specs.declared.op_num.OpNum.TheVariants as Op
-use Rattle.nfs_compound.specs.OpNum.{op_number, op_num}
+use Rattle.nfs_compound.specs.OpNum.{op_number, op_num, first_op, last_op, op_illegal}
 use Rattle.nfs_compound.specs.Stateid.{stateid}
 use Rattle.nfs_results.specs.Items as item
 use Rattle.nfs_results.specs.Result.{Res, ResAccess, ResClose, ResCommit, ResCreate, ResGetAttr, ResGetFh, ResLink, ResLock, ResLockDenied, ResLockT}
@@ -42,12 +43,12 @@ alone op = record { operation = op_number op; status = Nfs4Ok; behind = []; Fits
 abbrev pub bounded : Type 0 → Parts → Parts
 bounded bound p = record { operation = p.operation; status = p.status; behind = p.behind; Fits = p.Fits; Bound = bound }
 
--- A refusal is one of an operation of minor version 1, which are 3 to 58, or of OP_ILLEGAL. That one alone is illegal, and
+-- A refusal is one of an operation of minor version 1, which are first_op to last_op, or of OP_ILLEGAL. That one alone is illegal, and
 -- beside that its answer can only be too big.
 abbrev pub bears : ℕ → Status → Bool
 bears operation s =
-    if operation == 10044 then status_number s == status_number OpIllegal || status_number s == status_number RepTooBig
-    else nat_le 3 operation && nat_le operation 58 && not (status_number s == status_number Nfs4Ok || status_number s == status_number OpIllegal)
+    if operation == op_illegal then status_number s == status_number OpIllegal || status_number s == status_number RepTooBig
+    else nat_le first_op operation && nat_le operation last_op && not (status_number s == status_number Nfs4Ok || status_number s == status_number OpIllegal)
 
 -- SETATTR says more than its status, and so do LOCK and LOCKT that are denied
 abbrev pub tells : ℕ → Status → Bool
@@ -66,12 +67,12 @@ parts (ResClose s) = done Op.Close stateid s
 parts (ResCommit verifier) = done Op.Commit (fixed 8) verifier
 parts (ResCreate c) = done Op.Create item.create c
 parts (ResGetAttr f) = bounded (IsText f.attr_vals) (done Op.GetAttr item.fattr f)
-parts (ResGetFh object) = bounded (length object ≤ 128) (done Op.GetFh (opaque 128) object)
+parts (ResGetFh object) = bounded (length object ≤ fhsize) (done Op.GetFh (opaque fhsize) object)
 parts (ResLink c) = done Op.Link item.change_info c
 parts (ResLock s) = done Op.Lock stateid s
-parts (ResLockDenied d) = bounded (length d.owner.owner ≤ 1024) (with_status Op.Lock Denied item.denied d)
+parts (ResLockDenied d) = bounded (length d.owner.owner ≤ opaque_limit) (with_status Op.Lock Denied item.denied d)
 parts ResLockT = alone Op.LockT
-parts (ResLockTDenied d) = bounded (length d.owner.owner ≤ 1024) (with_status Op.LockT Denied item.denied d)
+parts (ResLockTDenied d) = bounded (length d.owner.owner ≤ opaque_limit) (with_status Op.LockT Denied item.denied d)
 parts (ResLockU s) = done Op.LockU stateid s
 parts ResLookup = alone Op.Lookup
 parts ResLookupP = alone Op.LookupP
@@ -91,7 +92,7 @@ parts ResSaveFh = alone Op.SaveFh
 parts (ResSetAttr s attrsset) = with_status Op.SetAttr s item.attr_set attrsset
 parts ResVerify = alone Op.Verify
 parts (ResWrite w) = done Op.Write item.write_ok w
-parts (ResExchangeId r) = bounded ((length r.major_id ≤ 1024) × (length r.server_scope ≤ 1024)) (done Op.ExchangeId item.exchange_id r)
+parts (ResExchangeId r) = bounded ((length r.major_id ≤ opaque_limit) × (length r.server_scope ≤ opaque_limit)) (done Op.ExchangeId item.exchange_id r)
 parts (ResCreateSession s) = done Op.CreateSession item.create_session s
 parts ResDestroySession = alone Op.DestroySession
 parts ResFreeStateid = alone Op.FreeStateid
@@ -146,7 +147,7 @@ done_at Op.Close bytes = arm ResClose stateid bytes
 done_at Op.Commit bytes = arm ResCommit (fixed 8) bytes
 done_at Op.Create bytes = arm ResCreate item.create bytes
 done_at Op.GetAttr bytes = arm ResGetAttr item.fattr bytes
-done_at Op.GetFh bytes = arm ResGetFh (opaque 128) bytes
+done_at Op.GetFh bytes = arm ResGetFh (opaque fhsize) bytes
 done_at Op.Link bytes = arm ResLink item.change_info bytes
 done_at Op.Lock bytes = arm ResLock stateid bytes
 done_at Op.LockT bytes = bare ResLockT bytes

@@ -1,6 +1,5 @@
 -- The parts of results whose bytes come straight from where they are kept: what is put in front of them and behind them.
-use Rattle.std.specs.Prelude.{ℕ, List, ◌++◌, length, Bool, true, false, replicate}
-use Rattle.std.specs.List.{flat_map}
+use Rattle.std.specs.Prelude.{ℕ, List, ◌++◌, Bool, true, false, replicate}
 use Rattle.nfs_xdr.specs.Spelling.{number, hyper, flag, fixed, opaque, padding}
 use Rattle.nfs_xdr.specs.declared.status.Status.TheVariants.{Nfs4Ok}
 use Rattle.nfs_compound.specs.declared.op_num.OpNum.{OpNum}

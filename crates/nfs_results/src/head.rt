@@ -3,6 +3,7 @@
 ghost use Rattle.std.specs.Prelude.{◌≤◌, length};
 ghost use Rattle.nfs_xdr.specs.SheetState.{HasRoom, Puts};
 ghost use Rattle.nfs_xdr.specs.declared.status.Status.TheVariants.{Nfs4Ok};
+ghost use Rattle.nfs_xdr.specs.Limits.{opaque_limit};
 ghost use Rattle.nfs_results.specs.CompoundResult.{spell_compound_head};
 ghost use Rattle.nfs_results.specs.OpenHead.{HeadsAt, HasHead, SetsHead};
 
@@ -20,7 +21,7 @@ impl OpenHead {
     /// Puts a head with this tag, of at most 1,024 bytes, the status NFS4_OK and no results.
     /// [`OpenHead::close`] sets the last two.
     pub fn put(tag: &[u8], out: &mut Sheet) -> OpenHead
-        requires tag { length tag.now ≤ 1024 }
+        requires tag { length tag.now ≤ opaque_limit }
         requires room { HasRoom out.old (spell_compound_head Nfs4Ok tag.now 0) }
         ensures puts { Puts out.old out.new (spell_compound_head Nfs4Ok tag.now 0) }
         ensures places { HeadsAt result.status_at result.count_at out.old.bytes tag.now }
@@ -47,7 +48,7 @@ impl OpenHead {
 /// bytes, and how many results follow (RFC 8881 section 16.2.2).
 #[tactic(auto, using(nfs_xdr::proofs::Putting::putting))]
 pub fn write_compound_head(status: Status, tag: &[u8], count: u32, out: &mut Sheet)
-    requires tag { length tag.now ≤ 1024 }
+    requires tag { length tag.now ≤ opaque_limit }
     requires room { HasRoom out.old (spell_compound_head status tag.now count) }
     ensures { Puts out.old out.new (spell_compound_head status tag.now count) }
 {

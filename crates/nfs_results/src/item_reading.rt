@@ -8,12 +8,13 @@ ghost use Rattle.nfs_results.specs.Items as table;
 ghost use Rattle.nfs_results.specs.View as view;
 
 use crate::entries::Entries;
+use crate::item_writing::{OPEN_DELEGATE_NONE, RESULT_FLAGS};
 use crate::res::{
     AccessOk, AttrSet, ChangeInfo, CreateOk, CreateSessionOk, Denied, Entry, ExchangeIdOk, Fattr,
     Flavors, OpenOk, ReadDirOk, ReadOk, RenameOk, SequenceOk, StatusCodes, WriteOk,
 };
-use nfs_compound::{ChannelAttrs, LockType, StableHow, StateOwner, Stateid};
-use nfs_xdr::{Cursor, Status, Unreadable};
+use nfs_compound::{ChannelAttrs, LockType, SP4_NONE, StableHow, StateOwner, Stateid};
+use nfs_xdr::{Cursor, OPAQUE_LIMIT, Status, Unreadable};
 
 /// A number that is always the same.
 fn always(number: u32, c: &mut Cursor<'_>) -> Result<(), Unreadable>
@@ -117,9 +118,9 @@ pub fn open_ok(c: &mut Cursor<'_>) -> Result<OpenOk, Unreadable>
 {
     let stateid = Stateid::read(c)?;
     let cinfo = change_info(c)?;
-    always(12, c)?;
+    always(RESULT_FLAGS, c)?;
     let attrset = attr_set(c)?;
-    always(0, c)?;
+    always(OPEN_DELEGATE_NONE, c)?;
     Ok(OpenOk {
         stateid,
         cinfo,
@@ -197,10 +198,10 @@ pub fn exchange_id<'a>(c: &mut Cursor<'a>) -> Result<ExchangeIdOk<'a>, Unreadabl
     let clientid = c.u64()?;
     let sequenceid = c.u32()?;
     let flags = c.u32()?;
-    always(0, c)?;
+    always(SP4_NONE, c)?;
     let minor_id = c.u64()?;
-    let major_id = c.opaque(1024)?;
-    let server_scope = c.opaque(1024)?;
+    let major_id = c.opaque(OPAQUE_LIMIT)?;
+    let server_scope = c.opaque(OPAQUE_LIMIT)?;
     always(0, c)?;
     Ok(ExchangeIdOk {
         clientid,

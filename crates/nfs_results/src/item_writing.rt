@@ -6,6 +6,7 @@ ghost use Rattle.nfs_xdr.specs.Spelling.{opaque};
 ghost use Rattle.nfs_xdr.specs.Spelling as spelling;
 ghost use Rattle.nfs_xdr.specs.SheetState.{HasRoom, Puts};
 ghost use Rattle.nfs_xdr.specs.Codec.{array, optional, number};
+ghost use Rattle.nfs_xdr.specs.Limits.{opaque_limit};
 ghost use Rattle.nfs_compound.specs.Stateid.{stateid};
 ghost use Rattle.nfs_compound.specs.StateOwner.{state_owner};
 ghost use Rattle.nfs_compound.specs.StateOwner as owner;
@@ -18,7 +19,7 @@ use crate::res::{
     AccessOk, AttrSet, ChangeInfo, CreateOk, CreateSessionOk, Denied, ExchangeIdOk, Fattr, OpenOk,
     ReadDirOk, ReadOk, RenameOk, SequenceOk, WriteOk,
 };
-use nfs_compound::{ChannelAttrs, StableHow, StateOwner, Stateid};
+use nfs_compound::{ChannelAttrs, SP4_NONE, StableHow, StateOwner, Stateid};
 use nfs_xdr::Sheet;
 
 /// OPEN4_RESULT_LOCKTYPE_POSIX.
@@ -27,11 +28,11 @@ const LOCKTYPE_POSIX: u32 = 4;
 /// OPEN4_RESULT_PRESERVE_UNLINKED.
 const PRESERVE_UNLINKED: u32 = 8;
 
-/// No delegation.
-const OPEN_DELEGATE_NONE: u32 = 0;
+/// The flags of every open (RFC 8881 section 18.16.2; this server's profile).
+pub const RESULT_FLAGS: u32 = LOCKTYPE_POSIX | PRESERVE_UNLINKED;
 
-/// No state protection.
-const SP4_NONE: u32 = 0;
+/// No delegation.
+pub const OPEN_DELEGATE_NONE: u32 = 0;
 
 #[tactic(auto, using(nfs_xdr::proofs::Putting::putting), unfolding(nfs_compound::specs::Stateid::stateid))]
 pub fn put_stateid(s: &Stateid, out: &mut Sheet)
@@ -44,7 +45,7 @@ pub fn put_stateid(s: &Stateid, out: &mut Sheet)
 
 #[tactic(auto, using(nfs_xdr::proofs::Putting::putting), unfolding(nfs_compound::specs::StateOwner::state_owner))]
 fn put_state_owner(o: &StateOwner<'_>, out: &mut Sheet)
-    requires size { length o.now.owner.now ≤ 1024 }
+    requires size { length o.now.owner.now ≤ opaque_limit }
     requires room { HasRoom out.old (state_owner.spell (owner.view o.now)) }
     ensures { Puts out.old out.new (state_owner.spell (owner.view o.now)) }
 {
@@ -118,7 +119,7 @@ pub fn put_fattr(f: &Fattr<'_>, out: &mut Sheet)
 
 #[tactic(auto, using(nfs_xdr::proofs::Putting::putting), unfolding(crate::specs::Items::denied, nfs_compound::specs::LockArgs::lock_type))]
 pub fn put_denied(d: &Denied<'_>, out: &mut Sheet)
-    requires size { length d.now.owner.owner.now ≤ 1024 }
+    requires size { length d.now.owner.owner.now ≤ opaque_limit }
     requires room { HasRoom out.old (table.denied.spell (view.denied d.now)) }
     ensures { Puts out.old out.new (table.denied.spell (view.denied d.now)) }
 {
@@ -135,7 +136,7 @@ pub fn put_open(o: &OpenOk, out: &mut Sheet)
 {
     put_stateid(&o.stateid, out);
     put_change_info(&o.cinfo, out);
-    out.put_u32(LOCKTYPE_POSIX | PRESERVE_UNLINKED);
+    out.put_u32(RESULT_FLAGS);
     put_attr_set(&o.attrset, out);
     out.put_u32(OPEN_DELEGATE_NONE);
 }
@@ -191,8 +192,8 @@ fn stable_number(how: StableHow) -> u32
 
 #[tactic(auto, using(nfs_xdr::proofs::Putting::putting), unfolding(crate::specs::Items::exchange_id))]
 pub fn put_exchange_id(r: &ExchangeIdOk<'_>, out: &mut Sheet)
-    requires major { length r.now.major_id.now ≤ 1024 }
-    requires scope { length r.now.server_scope.now ≤ 1024 }
+    requires major { length r.now.major_id.now ≤ opaque_limit }
+    requires scope { length r.now.server_scope.now ≤ opaque_limit }
     requires room { HasRoom out.old (table.exchange_id.spell (view.exchange_id r.now)) }
     ensures { Puts out.old out.new (table.exchange_id.spell (view.exchange_id r.now)) }
 {
@@ -207,8 +208,8 @@ pub fn put_exchange_id(r: &ExchangeIdOk<'_>, out: &mut Sheet)
 /// The tail of an EXCHANGE_ID: the server's major id, its scope, and no implementation.
 #[tactic(auto, using(nfs_xdr::proofs::Putting::putting))]
 fn put_names(major_id: &[u8], server_scope: &[u8], out: &mut Sheet)
-    requires major { length major_id.now ≤ 1024 }
-    requires scope { length server_scope.now ≤ 1024 }
+    requires major { length major_id.now ≤ opaque_limit }
+    requires scope { length server_scope.now ≤ opaque_limit }
     requires room { HasRoom out.old (opaque major_id.now ++ (opaque server_scope.now ++ spelling.number 0)) }
     ensures { Puts out.old out.new (opaque major_id.now ++ (opaque server_scope.now ++ spelling.number 0)) }
 {
@@ -218,7 +219,7 @@ fn put_names(major_id: &[u8], server_scope: &[u8], out: &mut Sheet)
 
 #[tactic(auto, using(nfs_xdr::proofs::Putting::putting))]
 fn put_scope(server_scope: &[u8], out: &mut Sheet)
-    requires scope { length server_scope.now ≤ 1024 }
+    requires scope { length server_scope.now ≤ opaque_limit }
     requires room { HasRoom out.old (opaque server_scope.now ++ spelling.number 0) }
     ensures { Puts out.old out.new (opaque server_scope.now ++ spelling.number 0) }
 {

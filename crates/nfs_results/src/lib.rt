@@ -26,7 +26,7 @@ mod writing;
 
 pub use entries::Entries;
 pub use head::{OpenHead, write_compound_head};
-pub use limit::largest;
+pub use limit::{given, largest};
 pub use reading::can_refuse;
 pub use reply::{Reply, read_reply};
 pub use res::{

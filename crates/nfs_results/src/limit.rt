@@ -2,12 +2,14 @@
 
 ghost use Rattle.std.specs.Prelude.{◌≡◌, ◌≤◌, ◌+◌, length};
 ghost use Rattle.nfs_xdr.specs.Spelling.{padding};
+ghost use Rattle.nfs_xdr.specs.Limits.{most_transfer};
 ghost use Rattle.nfs_compound.specs.View.{item};
 ghost use Rattle.nfs_results.specs.Result.{Res};
 ghost use Rattle.nfs_results.specs.Results.{spell_result, HasArrays};
 ghost use Rattle.nfs_results.specs.Largest as limit;
 
 use nfs_compound::Arg;
+use nfs_xdr::MAX_TRANSFER;
 
 /// How many bytes the result of an operation takes at most, from its operation number on (this server's
 /// profile). A refusal always fits.
@@ -25,7 +27,7 @@ fn size(arg: &Arg<'_>) -> u64
         Arg::Sequence(_) => 44,
         Arg::CreateSession(_) => 92,
         Arg::Read(read) => 16 + padded(given(read.count)),
-        Arg::ReadDir(listed) => 8 + given(listed.maxcount),
+        Arg::ReadDir(listed) => 8 + u64::from(given(listed.maxcount)),
         Arg::Lock(_) | Arg::LockT(_) => 1064,
         Arg::ReadLink => 1036,
         Arg::GetAttr { .. } => 640,
@@ -36,18 +38,23 @@ fn size(arg: &Arg<'_>) -> u64
     }
 }
 
-/// No more than this many bytes are given at once.
-fn given(count: u32) -> u64
+/// How many bytes one READ or READDIR gives of so many that it asks for: no more than [`MAX_TRANSFER`].
+pub fn given(count: u32) -> u32
     ensures value { result ≡ limit.given count }
-    ensures bound { result ≤ 65536 }
+    ensures most { result ≤ most_transfer }
 {
-    if count > 65_536 { 65_536 } else { count as u64 }
+    if count > MAX_TRANSFER {
+        MAX_TRANSFER
+    } else {
+        count
+    }
 }
 
 /// So many bytes, filled up to a whole word.
-fn padded(count: u64) -> u64
-    requires { count ≤ 65536 }
+fn padded(count: u32) -> u64
+    requires { count ≤ most_transfer }
     ensures { result ≡ count + padding count }
 {
+    let count = u64::from(count);
     count + (4 - count % 4) % 4
 }

@@ -8,8 +8,8 @@ ghost use Rattle.nfs_results.specs.View as view;
 
 use crate::item_reading as item;
 use crate::res::Res;
-use nfs_compound::{OP_ILLEGAL, OpNum, Stateid};
-use nfs_xdr::{Cursor, Status, Unreadable};
+use nfs_compound::{FIRST_OP, LAST_OP, OP_ILLEGAL, OpNum, Stateid};
+use nfs_xdr::{Cursor, FHSIZE, Status, Unreadable};
 
 /// A result, from its operation number on. A refusal leaves the cursor anywhere.
 pub fn res<'a>(c: &mut Cursor<'a>) -> Result<Res<'a>, Unreadable>
@@ -48,7 +48,7 @@ fn done<'a>(op: OpNum, c: &mut Cursor<'a>) -> Result<Res<'a>, Unreadable>
         OpNum::Commit => Res::Commit(c.fixed::<8>()?),
         OpNum::Create => Res::Create(item::create(c)?),
         OpNum::GetAttr => Res::GetAttr(item::fattr(c)?),
-        OpNum::GetFh => Res::GetFh(c.opaque(128)?),
+        OpNum::GetFh => Res::GetFh(c.opaque(FHSIZE)?),
         OpNum::Link => Res::Link(item::change_info(c)?),
         OpNum::Lock => Res::Lock(Stateid::read(c)?),
         OpNum::LockT => Res::LockT,
@@ -124,7 +124,7 @@ fn bears(operation: u32, status: Status) -> bool
         return number == Status::OpIllegal.number() || number == Status::RepTooBig.number();
     }
     let own = number == Status::Nfs4Ok.number() || number == Status::OpIllegal.number();
-    operation >= 3 && operation <= 58 && !own
+    operation >= FIRST_OP && operation <= LAST_OP && !own
 }
 
 /// Whether it then has more behind its status.

@@ -9,7 +9,7 @@ ghost use Rattle.nfs_results.specs.View as view;
 
 use crate::reading;
 use crate::res::Res;
-use nfs_xdr::{Cursor, Status, Unreadable};
+use nfs_xdr::{Cursor, OPAQUE_LIMIT, Status, Unreadable};
 use std::marker::Model;
 
 /// The result of a compound, lent from its bytes (RFC 8881 section 16.2.2). Contracts see its status, its tag and the results that
@@ -48,7 +48,7 @@ fn read(bytes: &[u8]) -> Result<Reply<'_>, Unreadable>
 {
     let mut cursor = Cursor::new(bytes);
     let status = reading::status(&mut cursor)?;
-    let tag = cursor.opaque(1024)?;
+    let tag = cursor.opaque(OPAQUE_LIMIT)?;
     let left = cursor.u32()?;
     if !are_whole(left, cursor.rest()) {
         return Err(Unreadable);

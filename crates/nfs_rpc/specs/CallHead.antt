@@ -4,6 +4,7 @@ use Rattle.std.specs.Prelude.{ℕ, ◌==◌, ◌&&◌, List, [], ◌∷◌, ◌+
 use Rattle.std.specs.Int.{w32, from_be_bytes}
 use Rattle.nfs_xdr.specs.Caller.{Caller}
 use Rattle.nfs_xdr.specs.Reading.{◌>>=◌}
+use Rattle.nfs_xdr.specs.Limits.{most_groups, most_machine_name}
 use Rattle.nfs_xdr.specs.Codec.{Codec, number, opaque, ◌then◌, as_type, only, pieces}
 use Rattle.nfs_xdr.specs.Checks.{first_fault}
 use Rattle.nfs_rpc.specs.declared.refusal.Refusal.{Refusal}
@@ -36,7 +37,7 @@ header = as_type
     (λ h. (h.program, (h.version, (h.procedure, (h.credential, h.verifier)))))
     (number then number then number then opaque_auth then opaque_auth)
 
--- the body of an AUTH_SYS credential, with at most 16 groups (RFC 5531 appendix A)
+-- the body of an AUTH_SYS credential, with at most so many groups (RFC 5531 appendix A)
 pub record AuthSys : Type 0 where
   pub stamp : ℕ
   pub machine : List ℕ
@@ -48,7 +49,7 @@ unfoldable pub auth_sys : Codec AuthSys
 auth_sys = as_type
     (λ x. record { stamp = x.0; machine = x.1.0; uid = x.1.1.0; gid = x.1.1.1.0; gids = x.1.1.1.1 })
     (λ s. (s.stamp, (s.machine, (s.uid, (s.gid, s.gids)))))
-    (number then opaque 255 then number then number then only (λ gids. nat_le (length gids) 16) (pieces 4 (from_be_bytes w32) number))
+    (number then opaque most_machine_name then number then number then only (λ gids. nat_le (length gids) most_groups) (pieces 4 (from_be_bytes w32) number))
 
 -- under AUTH_NONE
 abbrev pub nobody : Caller

@@ -14,6 +14,7 @@
 
 mod call;
 pub mod laws;
+mod numbers;
 mod reading;
 mod records;
 mod refusal;
@@ -23,6 +24,7 @@ mod tests;
 
 pub use call::{Call, Procedure};
 pub use nfs_xdr::Who;
+pub use numbers::LAST_FRAGMENT;
 pub use records::{Fed, Records};
 pub use refusal::{AcceptStat, AuthStat, Refusal};
 pub use reply::{write_head, write_refusal};

@@ -10,26 +10,11 @@ ghost use Rattle.nfs_rpc.specs.View as view;
 ghost use Rattle.nfs_rpc.specs.View.{IsCalled};
 
 use crate::call::{Call, Header, OpaqueAuth, Procedure};
+use crate::numbers::{
+    AUTH_NONE, AUTH_SYS, CALL, COMPOUND, MAX_AUTH, NULL, PROGRAM, RPC_VERSION, VERSION,
+};
 use crate::refusal::{AcceptStat, AuthStat, Refusal};
-use nfs_xdr::{Cursor, Unreadable, Who};
-
-/// The program that is served (RFC 5662).
-const PROGRAM: u32 = 100_003;
-
-/// The version of the program that is served.
-const VERSION: u32 = 4;
-
-/// The number of procedure NULL.
-const NULL: u32 = 0;
-
-/// The number of procedure COMPOUND.
-const COMPOUND: u32 = 1;
-
-/// The flavor of a credential that names nobody (RFC 5531 section 10.1).
-const AUTH_NONE: u32 = 0;
-
-/// The flavor of a credential that names a user and groups (RFC 5531 appendix A).
-const AUTH_SYS: u32 = 1;
+use nfs_xdr::{Cursor, MAX_GROUPS, MAX_MACHINE_NAME, Unreadable, Who};
 
 impl<'a> Call<'a> {
     /// Reads the head of a call from the bytes of a record, by this server's order of checks (docs/PROTOCOL.md); the first
@@ -67,13 +52,13 @@ fn start(c: &mut Cursor<'_>) -> Result<u32, Refusal>
     let Ok(kind) = c.u32() else {
         return Err(Refusal::Silent);
     };
-    if kind != 0 {
+    if kind != CALL {
         return Err(Refusal::Silent);
     }
     let Ok(rpcvers) = c.u32() else {
         return Err(Refusal::Silent);
     };
-    if rpcvers != 2 {
+    if rpcvers != RPC_VERSION {
         return Err(Refusal::Mismatch { xid });
     }
     Ok(xid)
@@ -102,7 +87,7 @@ fn opaque_auth<'a>(c: &mut Cursor<'a>) -> Result<OpaqueAuth<'a>, Unreadable>
     ensures { ReadsPartBy view.opaque_auth result (head.opaque_auth.read c.old) c.new }
 {
     let flavor = c.u32()?;
-    let body = c.opaque(400)?;
+    let body = c.opaque(MAX_AUTH)?;
     Ok(OpaqueAuth { flavor, body })
 }
 
@@ -174,11 +159,11 @@ fn auth_sys(body: &[u8]) -> Result<Who<'_>, Unreadable>
 {
     let mut c = Cursor::new(body);
     let _stamp = c.u32()?;
-    let _machine = c.opaque(255)?;
+    let _machine = c.opaque(MAX_MACHINE_NAME)?;
     let uid = c.u32()?;
     let gid = c.u32()?;
     let groups = c.pieces::<4>()?;
-    if groups.len() > 16 || c.left() > 0 {
+    if groups.len() > MAX_GROUPS || c.left() > 0 {
         return Err(Unreadable);
     }
     Ok(Who { uid, gid, groups })

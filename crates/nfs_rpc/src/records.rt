@@ -9,14 +9,13 @@ ghost use Rattle.nfs_rpc.specs.RecordMarking as marking;
 ghost use Rattle.nfs_rpc.specs.Feeding.{waits, is_too_long, waiting, done_with, AnswersFeed, StandsNow, BeginsWith, IsWhole};
 ghost use Rattle.nfs_rpc.specs.Share.{state_of, at_mark, with_mark, with_data};
 
+use crate::numbers::LAST_FRAGMENT;
+use nfs_xdr::MAX_RECORD;
 use std::alloc::{AllocError, Global};
 use std::marker::Model;
 
-/// The bit of a mark that says that its fragment is the record's last one.
-const LAST: u32 = 0x8000_0000;
-
-/// The most data bytes of a record, its marks not counted.
-const LIMIT: usize = 66_560;
+/// The most data bytes of a record.
+const LIMIT: usize = MAX_RECORD as usize;
 
 /// What `Records::feed` answers.
 #[derive(Clone, Copy, Debug, PartialEq, Eq)]
@@ -121,8 +120,8 @@ impl Records {
         }
         let (mark, rest) = piece.split_first_chunk::<4>()?;
         let word = u32::from_be_bytes(*mark);
-        let size = (word % LAST) as usize;
-        if word < LAST || size > LIMIT || size > rest.len() {
+        let size = (word % LAST_FRAGMENT) as usize;
+        if word < LAST_FRAGMENT || size > LIMIT || size > rest.len() {
             return None;
         }
         Some(&rest[..size])
@@ -247,8 +246,8 @@ impl Records {
         requires { (p : Part) × (self.old ≡ marking.Begun p) × (p.lacking ≡ 0) × (p.mark ≡ []) }
         ensures { (p : Part) → self.old ≡ marking.Begun p → self.new ≡ at_mark p.taken word }
     {
-        let size = (word % LAST) as usize;
-        let last = word >= LAST;
+        let size = (word % LAST_FRAGMENT) as usize;
+        let last = word >= LAST_FRAGMENT;
         if self.taken.len() + size > LIMIT {
             self.state = State::Failed;
             return;

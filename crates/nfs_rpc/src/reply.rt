@@ -4,6 +4,9 @@ ghost use Rattle.std.specs.Prelude.{◌≡◌};
 ghost use Rattle.nfs_xdr.specs.SheetState.{HasRoom, Puts};
 ghost use Rattle.nfs_rpc.specs.Reply.{spell_accepted, spell_denied, spell_head, spell_stat, spell_refusal};
 
+use crate::numbers::{
+    AUTH_ERROR, AUTH_NONE, MSG_ACCEPTED, MSG_DENIED, REPLY, RPC_MISMATCH, RPC_VERSION, VERSION,
+};
 use crate::refusal::{AcceptStat, AuthStat, Refusal};
 use nfs_xdr::Sheet;
 
@@ -25,13 +28,13 @@ pub fn write_refusal(refusal: &Refusal, out: &mut Sheet)
         Refusal::Silent => {}
         Refusal::Mismatch { xid } => {
             put_denied(*xid, out);
-            out.put_u32(0);
-            out.put_u32(2);
-            out.put_u32(2);
+            out.put_u32(RPC_MISMATCH);
+            out.put_u32(RPC_VERSION);
+            out.put_u32(RPC_VERSION);
         }
         Refusal::Auth { xid, stat } => {
             put_denied(*xid, out);
-            out.put_u32(1);
+            out.put_u32(AUTH_ERROR);
             out.put_u32(match stat {
                 AuthStat::BadCred => 1,
                 AuthStat::RejectedCred => 2,
@@ -67,10 +70,10 @@ fn put_accepted(xid: u32, out: &mut Sheet)
     ensures { Puts out.old out.new (spell_accepted xid) }
 {
     out.put_u32(xid);
-    out.put_u32(1);
-    out.put_u32(0);
-    out.put_u32(0);
-    out.put_u32(0);
+    out.put_u32(REPLY);
+    out.put_u32(MSG_ACCEPTED);
+    out.put_u32(AUTH_NONE);
+    out.put_u32(0); // the verifier has no bytes
 }
 
 #[tactic(auto, using(nfs_xdr::proofs::Putting::putting))]
@@ -79,8 +82,8 @@ fn put_denied(xid: u32, out: &mut Sheet)
     ensures { Puts out.old out.new (spell_denied xid) }
 {
     out.put_u32(xid);
-    out.put_u32(1);
-    out.put_u32(1);
+    out.put_u32(REPLY);
+    out.put_u32(MSG_DENIED);
 }
 
 #[tactic(auto, using(nfs_xdr::proofs::Putting::putting))]
@@ -92,8 +95,8 @@ fn put_stat(stat: AcceptStat, out: &mut Sheet)
         AcceptStat::ProgUnavail => out.put_u32(1),
         AcceptStat::ProgMismatch => {
             out.put_u32(2);
-            out.put_u32(4);
-            out.put_u32(4);
+            out.put_u32(VERSION);
+            out.put_u32(VERSION);
         }
         AcceptStat::ProcUnavail => out.put_u32(3),
         AcceptStat::GarbageArgs => out.put_u32(4),

@@ -19,7 +19,7 @@ use crate::form::{Form, Outcome};
 use crate::moving::{WriteFailed, put};
 use nfs_compound::{Compound, Garbage};
 use nfs_exec::World;
-use nfs_rpc::{AcceptStat, Call, Procedure, Refusal, write_head, write_refusal};
+use nfs_rpc::{AcceptStat, Call, LAST_FRAGMENT, Procedure, Refusal, write_head, write_refusal};
 use nfs_xdr::Sheet;
 use std::alloc::{AllocError, Global};
 use std::marker::Model;
@@ -29,9 +29,6 @@ const FRONT: usize = 8;
 
 /// The most bytes of a reply and what stands in front of it.
 const ROOM: usize = 70_008;
-
-/// The top bit of a record mark: the fragment is the last one.
-const LAST_FRAGMENT: u32 = 0x8000_0000;
 
 /// The server's tables, the moment that was taken last, and the reply that was made last.
 #[derive(Drop)]

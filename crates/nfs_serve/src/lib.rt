@@ -42,6 +42,7 @@ pub use form::{Flow, Form, Outcome};
 pub use host::Host;
 pub use memory::replay_bytes;
 pub use moving::{WriteFailed, fill, put};
+pub use script::LAST_MOMENT;
 pub use server::{Server, Settings};
 pub use sink::Sink;
 pub use source::Source;

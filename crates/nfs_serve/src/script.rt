@@ -16,8 +16,8 @@ const LAST_CONNECTION: u32 = 15;
 /// The most bytes of a piece.
 pub const MAX_PIECE: u32 = 65_536;
 
-/// The last moment, in seconds.
-const LAST_MOMENT: u64 = 1 << 62;
+/// The last moment that a server takes, in seconds.
+pub const LAST_MOMENT: u64 = 1 << 62;
 
 /// The bytes of an entry in front of its piece.
 pub const HEAD: usize = 16;

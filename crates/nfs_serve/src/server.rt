@@ -57,8 +57,7 @@ impl Model for Server {
 
 impl Server {
     /// A server at moment 0, on whose connections nothing has come. `instance` marks it off from other starts of the server. All
-    /// buffers of records, pieces and replies are made here. The mode of the root
-    /// has no effect as long as there is no tree.
+    /// buffers of records, pieces and replies are made here.
     ///
     /// `AllocError` where memory is refused.
     pub fn new(alloc: Global, settings: Settings, instance: u32) -> Result<Server, AllocError>

@@ -1,11 +1,11 @@
 -- The sessions as a map, and the ids that are given.
-use Rattle.std.proofs.Common.{◌≡◌, inl, inr, ℕ, ◌+◌, suc, Bool, true, false, not, List, [], ◌∷◌, ◌++◌, map, Option, Some, None, refl, sym, ◌∙◌, ap, arith}
+use Rattle.std.proofs.Common.{◌≡◌, inl, inr, ℕ, ◌+◌, suc, Bool, true, false, not, List, [], ◌∷◌, ◌++◌, Option, Some, None, refl, sym, ◌∙◌, ap, arith}
 use Rattle.std.proofs.Common.{subst}
-use Rattle.std.specs.Prelude.{◌==◌, if◌then◌else◌, filter, find, option_map, option_to_list}
+use Rattle.std.specs.Prelude.{◌==◌, if◌then◌else◌, find, option_map, option_to_list}
 use Rattle.std.specs.Result.{result_ok}
 use Rattle.std.proofs.lemmas.Bool.{cases_Bool, eqb-true, eq-eqb, and_parts, cond-true, cond-false}
 use Rattle.nfs_xdr.specs.Tables.{IsRising}
-use Rattle.nfs_xdr.proofs.Tables.{IsRising-from, IsRising-below}
+use Rattle.nfs_xdr.proofs.Tables.{IsRising-from, in_bounds}
 use Rattle.nfs_sessions.specs.declared.channel.Wish.{Wish}
 use Rattle.nfs_sessions.specs.declared.id.SessionId.{SessionId}
 use Rattle.nfs_sessions.specs.declared.sessions.SessionFault.{SessionFault}
@@ -14,65 +14,16 @@ use Rattle.nfs_sessions.specs.SessionSlots.{GrantedSlots, unused}
 use Rattle.nfs_sessions.specs.Sessions.{Session, SessionTable, IsSessions, is_session, session_at, create_fault, create_unless, with_session, destroyed}
 use Rattle.nfs_sessions.specs.Sessions.{without_client, with_slots}
 use Rattle.nfs_sessions.specs.Laws.{is_id, SessionsAreAMap, Call, Create, Destroy, DropClient, Change, all_after, all_given, IdsRise}
-
-find_push_none : {X : Type 0} (p : X → Bool) (xs : List X) (x : X) → find p xs ≡ None → find p (xs ++ x ∷ []) ≡ (if p x then Some x else None)
-find_push_none p [] x e = refl
-find_push_none {X} p (y ∷ ys) x e =
-    elim (cases_Bool (p y)) [
-      | inl here ↦ absurd (let found : Some y ≡ None = rw here at e in cc)
-      | inr other ↦ rw other (find_push_none p ys x (rw other at e))
-    ]
-
-find_push_other : {X : Type 0} (p : X → Bool) (xs : List X) (x : X) → p x ≡ false → find p (xs ++ x ∷ []) ≡ find p xs
-find_push_other p [] x e = rw e refl
-find_push_other {X} p (y ∷ ys) x e =
-    elim (cases_Bool (p y)) [
-      | inl here ↦ simp here
-      | inr other ↦ simp (other, find_push_other p ys x e)
-    ]
+use Rattle.nfs_xdr.proofs.Lists.{find_none, find_out, find_past, find_map_as, find_push, find_push_other}
 
 -- no number of a table is its bound
 find_above : {X : Type 0} (number : X → ℕ) (n : ℕ) (p : X → Bool) → ((x : X) → p x ≡ true → number x ≡ n)
     → (low : ℕ) (xs : List X) → IsRising number low xs n → find p xs ≡ None
-find_above number n p only low [] rising = refl
-find_above {X} number n p only low (x ∷ xs) rising =
-    elim (cases_Bool (p x)) [
-      | inl here ↦ (let below = IsRising-below number (suc (number x)) n xs rising.1 in let is = only x here in absurd (omega arith))
-      | inr other ↦ rw other (find_above number n p only (suc (number x)) xs rising.1)
-    ]
-
-find_filter_none : {X : Type 0} (p q : X → Bool) (xs : List X) → ((x : X) → p x ≡ true → q x ≡ false) → find p (filter q xs) ≡ None
-find_filter_none p q [] out = refl
-find_filter_none {X} p q (x ∷ xs) out =
-    let rest = find_filter_none p q xs out in
-    elim (cases_Bool (q x)) [
-      | inl kept ↦ elim (cases_Bool (p x)) [
-        | inl here ↦ absurd (let dropped = out x here in let clash : true ≡ false = sym kept ∙ dropped in cc)
-        | inr other ↦ simp (kept, other, rest)
-      ]
-      | inr dropped ↦ simp (dropped, rest)
-    ]
-
-find_filter_same : {X : Type 0} (p q : X → Bool) (xs : List X) → ((x : X) → p x ≡ true → q x ≡ true) → find p (filter q xs) ≡ find p xs
-find_filter_same p q [] inside = refl
-find_filter_same {X} p q (x ∷ xs) inside =
-    let rest = find_filter_same p q xs inside in
-    elim (cases_Bool (p x)) [
-      | inl here ↦ (let kept = inside x here in simp (kept, here))
-      | inr other ↦ elim (cases_Bool (q x)) [
-        | inl kept ↦ simp (kept, other, rest)
-        | inr dropped ↦ simp (dropped, other, rest)
-      ]
-    ]
-
-find_map : {X : Type 0} (p : X → Bool) (f g : X → X) (xs : List X) → ((x : X) → p (f x) ≡ p x)
-    → ((x : X) → p x ≡ true → f x ≡ g x) → find p (map f xs) ≡ option_map g (find p xs)
-find_map p f g [] same equal = refl
-find_map {X} p f g (x ∷ xs) same equal =
-    elim (cases_Bool (p x)) [
-      | inl here ↦ (let is = equal x here in let moved : p (g x) ≡ true = ap p (sym is) ∙ (same x ∙ here) in simp (is, moved, here))
-      | inr other ↦ (let moved : p (f x) ≡ false = same x ∙ other in simp (moved, other, find_map p f g xs same equal))
-    ]
+find_above {X} number n p only low xs rising =
+    find_none p xs (λ x there. elim (cases_Bool (p x)) [
+      | inl here ↦ (let bounds = in_bounds number low n xs x rising there in let is = only x here in absurd (omega arith))
+      | inr other ↦ other
+    ])
 
 same_id : (a b : SessionId) → is_id a b ≡ true → (a.counter ≡ b.counter) × (a.client ≡ b.client)
 same_id a b e =
@@ -111,9 +62,9 @@ session_of_other id other s apart is =
 destroyed_at : (t : SessionTable) (gone id : SessionId) → session_at (destroyed t gone) id ≡ (if is_id id gone then None else session_at t id)
 destroyed_at t gone id =
     elim (cases_Bool (is_id id gone)) [
-      | inl same ↦ simp (same, find_filter_none (is_session id) (λ s. not (is_session gone s)) t.sessions (λ s is. ap not (session_of_same id gone s same is)))
+      | inl same ↦ simp (same, find_out (is_session id) (λ s. not (is_session gone s)) t.sessions (λ s is. ap not (session_of_same id gone s same is)))
       | inr apart ↦
-          simp (apart, find_filter_same (is_session id) (λ s. not (is_session gone s)) t.sessions (λ s is. ap not (session_of_other id gone s apart is)))
+          simp (apart, find_past (is_session id) (λ s. not (is_session gone s)) t.sessions (λ s is. ap not (session_of_other id gone s apart is)))
     ]
 
 dropped_at : (t : SessionTable) (client : ℕ) (id : SessionId)
@@ -122,12 +73,12 @@ dropped_at t client id =
     elim (cases_Bool (id.client == client)) [
       | inl same ↦ simp (
         same,
-        find_filter_none (is_session id) (λ s. not (s.client == client)) t.sessions
+        find_out (is_session id) (λ s. not (s.client == client)) t.sessions
             (λ s is. ap (λ (n : ℕ). not (n == client)) (session_is id s is).1 ∙ ap not same),
       )
       | inr apart ↦ simp (
         apart,
-        find_filter_same (is_session id) (λ s. not (s.client == client)) t.sessions
+        find_past (is_session id) (λ s. not (s.client == client)) t.sessions
             (λ s is. ap (λ (n : ℕ). not (n == client)) (session_is id s is).1 ∙ ap not apart),
       )
     ]
@@ -150,12 +101,12 @@ changed_at t at id change =
     elim (cases_Bool (is_id id at)) [
       | inl same ↦ simp (
         same,
-        find_map p f (λ (s : Session). record s { slots = change s.slots }) t.sessions
+        find_map_as p f (λ (s : Session). record s { slots = change s.slots }) t.sessions
             (same_session at id change) (λ s is. cond-true (is_session at s) _ _ (session_of_same id at s same is)),
       )
       | inr apart ↦ simp (
         apart,
-        find_map p f (λ (s : Session). s) t.sessions (same_session at id change)
+        find_map_as p f (λ (s : Session). s) t.sessions (same_session at id change)
             (λ s is. cond-false (is_session at s) _ _ (session_of_other id at s apart is)),
         option_map_same (find p t.sessions),
       )
@@ -176,7 +127,7 @@ created t is client wish id =
           subst (IsRising (λ (s : Session). s.counter) 1 t.sessions) (omega arith) is.rising in
           let none : find p t.sessions ≡ None =
           find_above (λ (s : Session). s.counter) (t.last + 1) p (λ s e. (session_is id s e).0 ∙ counters) 1 t.sessions rising in
-          simp (same, here, find_push_none p t.sessions new none))
+          simp (same, here, find_push p t.sessions new none))
       | inr apart ↦ (
           let not_here : is_session id new ≡ false = elim (cases_Bool (is_session id new)) [
             | inl here ↦ (let (counter, client_is) = session_is id new here in

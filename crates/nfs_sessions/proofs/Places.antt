@@ -11,8 +11,8 @@ use Rattle.std.specs.Result.{result_ok}
 use Rattle.std.specs.Ordering.{nat_cmp}
 use Rattle.std.specs.List.Sorted.{IsSearchInRange, IsBinarySearchResult}
 use Rattle.nfs_xdr.specs.Tables.{IsRising, In}
-use Rattle.nfs_xdr.proofs.Tables.{find_none, none_in, filter_in, filter_all, some_or_none, position_finds}
-use Rattle.nfs_xdr.proofs.Tables.{position_nowhere, position_is, in_at, in_once, removed, searched}
+use Rattle.nfs_xdr.proofs.Lists.{find_none, none_in, filter_in, filter_all, some_or_none, position_finds, position_nowhere, in_at}
+use Rattle.nfs_xdr.proofs.Tables.{position_is, in_once, removed, searched}
 use Rattle.nfs_sessions.specs.declared.id.SessionId.{SessionId}
 use Rattle.nfs_sessions.specs.Sessions.{Session, SessionTable, IsSessions, is_session, session_at, destroyed}
 use Rattle.nfs_sessions.proofs.TableLemmas.{is_counter, sessions_filtered}

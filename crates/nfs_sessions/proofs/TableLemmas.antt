@@ -1,6 +1,6 @@
 -- What keeps a table of sessions in order.
-use Rattle.std.proofs.Common.{◌≡◌, ℕ, ◌+◌, suc, Bool, true, false, List, set, Option, Some, None, refl, sym, ◌∙◌, ap, arith, get_or}
-use Rattle.std.specs.Prelude.{◌==◌, if◌then◌else◌, filter, position, slice_get, IsSomeAnd}
+use Rattle.std.proofs.Common.{◌≡◌, ℕ, ◌+◌, suc, Bool, true, false, List, set, Some, refl, sym, ◌∙◌, ap, arith, get_or}
+use Rattle.std.specs.Prelude.{◌==◌, if◌then◌else◌, filter, position, slice_get}
 use Rattle.std.proofs.lemmas.Bool.{eqb-true, and_parts}
 use Rattle.std.proofs.lemmas.Option.{slice_get-get_or}
 use Rattle.std.proofs.lemmas.List.Quantifiers.{position-Some}
@@ -21,10 +21,6 @@ sessions_with t client wish is =
 
 pub is_counter : (id : SessionId) (s : Session) → is_session id s ≡ true → s.counter ≡ id.counter
 is_counter id s e = eqb-true s.counter id.counter (and_parts (s.counter == id.counter) (s.client == id.client) e).0
-
-pub some_there : {X : Type 0} (o : Option X) (P : X → Type 0) → IsSomeAnd o P → (x : X) × (o ≡ Some x) × P x
-some_there None P is = absurd is
-some_there (Some x) P is = (x, refl, is)
 
 same_counter : (id : SessionId) (s : Session) (change : GrantedSlots → GrantedSlots)
     → (if is_session id s then record s { slots = change s.slots } else s).counter ≡ s.counter

@@ -9,10 +9,13 @@ use Rattle.nfs_sessions.specs.declared.channel.Wish.{Wish}
 use Rattle.nfs_sessions.specs.declared.id.SessionId.{SessionId}
 use Rattle.nfs_sessions.specs.declared.sessions.SessionFault.{SessionFault}
 use Rattle.nfs_sessions.specs.declared.sessions.SessionFault.TheVariants.{TooSmall, NoSpc, ServerFault, Memory}
-use Rattle.nfs_sessions.specs.declared.sessions.TheConstants.Sessions.{MOST}
 use Rattle.nfs_sessions.specs.Channel.{granted, is_too_small}
 use Rattle.nfs_sessions.specs.SessionSlots.{GrantedSlots, unused}
 use Rattle.nfs_sessions.specs.SessionSlots as slots
+
+-- the most sessions that stand at once (this server's profile)
+abbrev pub most_sessions : ℕ
+most_sessions = 64
 
 -- a session: its counter, the id of its client, and its slots
 pub record Session : Type 0 where
@@ -54,7 +57,7 @@ stays (Some client) s = not (s.client == client)
 abbrev pub create_checks : SessionTable → Wish → List (Bool × SessionFault)
 create_checks t wish =
     (is_too_small wish.fore, TooSmall)
-    ∷ (nat_le MOST (count_by (stays wish.leaving) t.sessions), NoSpc)
+    ∷ (nat_le most_sessions (count_by (stays wish.leaving) t.sessions), NoSpc)
     ∷ (t.last == last_counter, ServerFault)
     ∷ []
 

@@ -3,6 +3,8 @@
 ghost use Rattle.std.specs.Prelude.{◌≡◌};
 ghost use Rattle.nfs_sessions.specs.Channel.{granted, is_too_small};
 
+use nfs_xdr::MAX_RECORD;
+
 /// What a channel may carry (channel_attrs4, RFC 8881 section 18.36), but for header padding and RDMA, which this server does not have.
 #[derive(Clone, Copy, Debug, PartialEq, Eq)]
 pub struct Channel {
@@ -30,24 +32,24 @@ pub struct Wish {
 
 impl Channel {
     /// The longest record (this server's profile), in bytes.
-    pub const MOST_BYTES: u32 = 66_560;
+    pub const MAX_BYTES: u32 = MAX_RECORD;
     /// The most operations of a compound (this server's profile).
-    pub const MOST_OPERATIONS: u32 = 64;
+    pub const MAX_OPERATIONS: u32 = 64;
     /// The most slots of a session (this server's profile).
-    pub const MOST_SLOTS: u32 = 16;
+    pub const MAX_SLOTS: u32 = 16;
     /// The least request and response size (this server's profile), in bytes.
-    pub const LEAST_BYTES: u32 = 2_048;
+    pub const MIN_BYTES: u32 = 2_048;
 
     /// What this server grants of a wish: each number as asked for, up to its limit.
     pub fn granted(self) -> Channel
         ensures { result ≡ granted self }
     {
         Channel {
-            request: self.request.min(Channel::MOST_BYTES),
-            response: self.response.min(Channel::MOST_BYTES),
-            cached: self.cached.min(Channel::MOST_BYTES),
-            operations: self.operations.min(Channel::MOST_OPERATIONS),
-            slots: self.slots.min(Channel::MOST_SLOTS),
+            request: self.request.min(Channel::MAX_BYTES),
+            response: self.response.min(Channel::MAX_BYTES),
+            cached: self.cached.min(Channel::MAX_BYTES),
+            operations: self.operations.min(Channel::MAX_OPERATIONS),
+            slots: self.slots.min(Channel::MAX_SLOTS),
         }
     }
 
@@ -55,8 +57,8 @@ impl Channel {
     pub fn is_too_small(self) -> bool
         ensures { result ≡ is_too_small self }
     {
-        self.request < Channel::LEAST_BYTES
-            || self.response < Channel::LEAST_BYTES
+        self.request < Channel::MIN_BYTES
+            || self.response < Channel::MIN_BYTES
             || self.operations == 0
             || self.slots == 0
     }

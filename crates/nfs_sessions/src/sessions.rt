@@ -122,7 +122,7 @@ fn drop_sessions_of(sessions: &mut Vec<Session>, client: u64)
 
 impl Sessions {
     /// The most sessions that stand at once (this server's profile).
-    pub const MOST: usize = 64;
+    pub const MAX: usize = 64;
 
     /// No sessions. A later `create` grows by `alloc`.
     pub fn new(alloc: Global) -> Sessions
@@ -145,7 +145,7 @@ impl Sessions {
             .iter()
             .filter(|s| s.stays(wish.leaving))
             .count();
-        if staying >= Sessions::MOST {
+        if staying >= Sessions::MAX {
             return Err(SessionFault::NoSpc);
         }
         if self.last == u64::MAX {

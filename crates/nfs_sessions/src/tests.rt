@@ -2,7 +2,7 @@
 
 use super::*;
 use nfs_slots::Verdict;
-use nfs_testing::{MOST, starve};
+use nfs_testing::{MAX_BLOCKS, starve};
 use nfs_xdr::Status;
 use std::test::Fail;
 
@@ -221,7 +221,7 @@ fn a_session_without_memory_leaves_all_as_it_was(rt: HostRuntime) -> Result<(), 
     let large = wish(66_560, 66_560, 64, 16);
     let first = sessions.create(rt.alloc(), A, &large)?;
     serve(&mut sessions, &first, 1, b"args", b"reply");
-    let mut held = Vec::with_capacity(rt.alloc(), MOST)?;
+    let mut held = Vec::with_capacity(rt.alloc(), MAX_BLOCKS)?;
     starve(rt.alloc(), &mut held);
     let refused = sessions.create(rt.alloc(), B, &large);
     drop(held);

@@ -15,7 +15,7 @@ fn words_are_sent_highest_byte_first(rt: HostRuntime) -> Result<(), Fail> {
 
 #[test]
 fn a_growth_is_refused_until_the_blocks_are_given_back(rt: HostRuntime) -> Result<(), Fail> {
-    let mut taken = Vec::with_capacity(rt.alloc(), MOST)?;
+    let mut taken = Vec::with_capacity(rt.alloc(), MAX_BLOCKS)?;
     starve(rt.alloc(), &mut taken);
     let refused = Vec::from_slice(rt.alloc(), LONG).is_err();
     taken.clear();

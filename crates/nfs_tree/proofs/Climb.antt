@@ -1,5 +1,5 @@
 -- One step of the climb that looks whether an object lies at or below another.
-use Rattle.std.proofs.Common.{◌≡◌, ℕ, suc, Bool, false, List, Option, Some, sym, ◌∙◌, ap, refl, subst}
+use Rattle.std.proofs.Common.{◌≡◌, ℕ, suc, Bool, false, List, Some, sym, ◌∙◌, ap, subst}
 use Rattle.std.specs.Prelude.{◌==◌, ◌||◌}
 use Rattle.std.specs.Option.{option_map_or}
 use Rattle.nfs_tree.specs.declared.row.Row.{Row}

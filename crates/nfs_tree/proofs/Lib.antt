@@ -1,4 +1,3 @@
-pub mod Lists
 pub mod RowsKept
 pub mod Objects
 pub mod Trees

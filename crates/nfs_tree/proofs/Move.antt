@@ -1,31 +1,19 @@
 -- An entry that moves: no directory comes to lie below itself, and every directory stays reached.
-use Rattle.std.proofs.Common.{◌≡◌, ◌≢◌, ◌⊎◌, ℕ, zero, suc, ◌+◌, ◌<◌, ◌≤◌, ltb, eqb, Bool, true, false, cond, not, List, [], ◌∷◌, ◌++◌, length, Option, Some}
+use Rattle.std.proofs.Common.{◌≡◌, ◌≢◌, ℕ, zero, suc, ◌<◌, ◌≤◌, Bool, true, false, not, List, [], ◌∷◌, ◌++◌, length, Option, Some}
 use Rattle.std.proofs.Common.{None, refl, sym, ◌∙◌, ap, subst, arith, inl, inr}
-use Rattle.std.specs.Prelude.{◌==◌, if◌then◌else◌, ◌&&◌, ◌||◌, find, filter, option_map, is_some, unwrap_or}
+use Rattle.std.specs.Prelude.{◌==◌, ◌||◌, find, filter}
 use Rattle.std.specs.Option.{option_map_or}
-use Rattle.std.specs.List.{list_any}
-use Rattle.std.proofs.lemmas.Bool.{cases_Bool, cases_eq, and_parts, eqb-true, eq-eqb, ne_eqb, ltb-true, not-false, false≢true}
-use Rattle.nfs_xdr.specs.Tables.{IsRising}
-use Rattle.nfs_xdr.proofs.Tables.{IsRising-push, IsRising-filter}
-use Rattle.nfs_xdr.proofs.Checks.{all_passed}
-use Rattle.nfs_xdr.specs.declared.time.Time.{Time}
+use Rattle.std.proofs.lemmas.Bool.{cases_Bool, eqb-true, eq-eqb, false≢true}
+use Rattle.nfs_xdr.specs.Tables.{In}
+use Rattle.nfs_xdr.proofs.Lists.{in_filter, stays_in, in_push, push_in, last_in, find_in, none_in, find_kept, find_none_kept, count_filter, length_fewer}
+use Rattle.nfs_xdr.proofs.Lists.{count_dropped}
 use Rattle.nfs_tree.specs.declared.row.Row.{Row}
-use Rattle.nfs_tree.specs.declared.stored.Stored.{Stored}
-use Rattle.nfs_tree.specs.Object.{no_sets, modified}
-use Rattle.nfs_tree.specs.Files.{Files, root, last_count, most_links, is_name, stored_in, is_there, is_directory_at, can_change, CanChange, is_entry, entry}
-use Rattle.nfs_tree.specs.Files.{has_name, lookup, named, parent_in, links_in, has_row, has_entries, with_changed, with_entries_changed, with_links_changed}
-use Rattle.nfs_tree.specs.Files.{without_entry, IsReached}
-use Rattle.nfs_tree.specs.Names.{with_row, is_at_or_below, Move, moved_object, replaced_object, moves, is_below_itself, is_unlike, is_in_the_way, can_move}
-use Rattle.nfs_tree.specs.Names.{rename_checks, rename_fault, with_both_changed, with_moved}
-use Rattle.nfs_tree.specs.Walks.{In}
-use Rattle.nfs_tree.specs.Kept.{Grounded, AreRows, IsTree}
-use Rattle.nfs_tree.proofs.Lists.{in_filter, filter_in, in_push, push_in, last_in, find_in, none_in, find_kept, find_none, find_none_kept, count_filter}
-use Rattle.nfs_tree.proofs.Lists.{count_dropped, filter_swap}
-use Rattle.nfs_tree.proofs.RowsKept.{entry_parts, entry_self, only_entry, grounded_in, reached, found_put, one_put, few_put, either, grounded_without}
-use Rattle.nfs_tree.proofs.RowsKept.{rows_dropped, no_entries}
-use Rattle.nfs_tree.proofs.Objects.{stored_within, can_change_all, can_change_none}
-use Rattle.nfs_tree.proofs.Trees.{tree_changed, tree_dropped, entry_names, row_of, has_one, apart}
-use Rattle.nfs_tree.proofs.Put.{directory_there}
+use Rattle.nfs_tree.specs.Files.{root, most_links, is_name, is_entry, entry}
+use Rattle.nfs_tree.specs.Files.{parent_in, links_in}
+use Rattle.nfs_tree.specs.Files.{without_entry}
+use Rattle.nfs_tree.specs.Names.{is_at_or_below}
+use Rattle.nfs_tree.specs.Kept.{Grounded, AreRows}
+use Rattle.nfs_tree.proofs.RowsKept.{entry_parts, entry_self, grounded_in, found_put, one_put, few_put, either}
 
 -- what makes the way up from a directory one way
 pub record AreUnique (rows : List Row) (dirs : ℕ → Bool) : Type 0 where
@@ -77,20 +65,10 @@ avoids rows dirs are r there k dir deep (suc n) x le dirx g =
       | inr other_row ↦ other_row
     ] in (
       g.0,
-      filter_in (λ q. not (is_entry r.directory r.name q)) rows g.0 g.1 (rw kept refl),
+      stays_in (λ q. not (is_entry r.directory r.name q)) rows g.0 g.1 (rw kept refl),
       g.2,
       avoids rows dirs are r there k dir deep n g.0.directory (omega arith) (are.stands g.0 g.1) g.3,
     )
-
-fewer : (p : Row → Bool) (rows : List Row) (r : Row) → In r rows → p r ≡ false → length (filter p rows) < length rows
-fewer p [] r there e = absurd there
-fewer p (q ∷ rows) r (inl is) e = let goes : p q ≡ false = ap p is ∙ e in let le = at_most p rows in rw goes (omega arith)
-  where
-    at_most : (p : Row → Bool) (rows : List Row) → length (filter p rows) ≤ length rows
-    at_most p [] = omega arith
-    at_most p (x ∷ xs) = let ih = at_most p xs in elim (cases_Bool (p x)) [ inl passes ↦ rw passes (omega arith) | inr fails ↦ rw fails (omega arith) ]
-fewer p (q ∷ rows) r (inr more) e = let ih = fewer p rows r more e in
-    elim (cases_Bool (p q)) [ inl passes ↦ rw passes (omega arith) | inr fails ↦ rw fails (omega arith) ]
 
 -- the way up is no longer than there are rows
 pub depth_bound : (n : ℕ) (rows : List Row) (dirs : ℕ → Bool) → AreUnique rows dirs → (d : ℕ) → dirs d ≡ true → Grounded rows n d → n ≤ length rows
@@ -102,7 +80,7 @@ depth_bound (suc n) rows dirs are d dir g =
     let deep : Grounded rows (suc n) r.object = (r, g.1, refl, g.3) in
     let up = avoids rows dirs are r g.1 n dir_r deep n r.directory (omega arith) (are.stands r g.1) g.3 in
     let bound = depth_bound n rest dirs (unique_dropped rows dirs r.directory r.name are) r.directory (are.stands r g.1) up in
-    let less : length rest < length rows = fewer (λ q. not (is_entry r.directory r.name q)) rows r g.1 (rw (entry_self r) refl) in
+    let less : length rest < length rows = length_fewer (λ q. not (is_entry r.directory r.name q)) rows r g.1 (rw (entry_self r) refl) in
     omega arith
 
 or_false : (a b : Bool) → a || b ≡ false → (a ≡ false) × (b ≡ false)
@@ -142,7 +120,7 @@ clear rows dirs are q there (suc fuel) (suc n) d le dir e g =
     let above : is_at_or_below rows q.object fuel r.directory ≡ false =
     ap (λ o. option_map_or (λ p. is_at_or_below rows q.object fuel p) o false) (sym parent) ∙ parts.1 in (
       r,
-      filter_in (λ x. not (is_entry q.directory q.name x)) rows r g.1 (rw kept refl),
+      stays_in (λ x. not (is_entry q.directory q.name x)) rows r g.1 (rw kept refl),
       g.2,
       clear rows dirs are q there fuel n r.directory (omega arith) (are.stands r g.1) above g.3,
     )
@@ -165,7 +143,7 @@ still_reached rows q to k there same only g (suc n) d path =
         ),
       )
       | inr kept ↦ (let up = still_reached rows q to k there same only g n path.0.directory path.3 in
-          (suc up.0, (path.0, push_in rest to path.0 (filter_in (λ x. not (is_entry q.directory q.name x)) rows path.0 path.1 (rw kept refl)), path.2, up.1)))
+          (suc up.0, (path.0, push_in rest to path.0 (stays_in (λ x. not (is_entry q.directory q.name x)) rows path.0 path.1 (rw kept refl)), path.2, up.1)))
     ]
 
 pub rows_moved : (rows : List Row) (dirs there : ℕ → Bool) (q to : Row) → AreRows rows dirs there → In q rows

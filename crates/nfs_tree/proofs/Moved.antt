@@ -1,23 +1,21 @@
 -- The tree that a RENAME leaves keeps what every tree keeps.
-use Rattle.std.proofs.Common.{◌≡◌, ◌≢◌, ◌⊎◌, ℕ, zero, suc, ◌+◌, ◌<◌, ◌≤◌, ltb, eqb, Bool, true, false, cond, not, List, [], ◌∷◌, ◌++◌, length, Option, Some}
+use Rattle.std.proofs.Common.{◌≡◌, ◌≢◌, ℕ, ◌+◌, ◌<◌, Bool, true, false, cond, not, List, [], ◌∷◌, ◌++◌, length}
 use Rattle.std.proofs.Common.{None, refl, sym, ◌∙◌, ap, subst, arith, inl, inr}
-use Rattle.std.specs.Prelude.{◌==◌, if◌then◌else◌, ◌&&◌, ◌||◌, find, filter, option_map, is_some, unwrap_or}
+use Rattle.std.specs.Prelude.{◌==◌, ◌&&◌, ◌||◌, option_map, unwrap_or}
 use Rattle.std.specs.List.{list_any}
-use Rattle.std.proofs.lemmas.Bool.{cases_Bool, cases_eq, and_parts, eqb-true, eq-eqb, ne_eqb, ltb-true, not-false, false≢true}
-use Rattle.nfs_xdr.specs.Tables.{IsRising}
+use Rattle.std.proofs.lemmas.Bool.{cases_Bool, and_parts, eq-eqb, ne_eqb, ltb-true, not-false, false≢true}
+use Rattle.nfs_xdr.specs.Tables.{In}
+use Rattle.nfs_xdr.proofs.Lists.{in_filter, stays_in, find_in, find_none, filter_swap}
 use Rattle.nfs_xdr.proofs.Tables.{IsRising-push, IsRising-filter}
 use Rattle.nfs_xdr.proofs.Checks.{all_passed}
 use Rattle.nfs_xdr.specs.declared.time.Time.{Time}
 use Rattle.nfs_tree.specs.declared.row.Row.{Row}
-use Rattle.nfs_tree.specs.declared.stored.Stored.{Stored}
 use Rattle.nfs_tree.specs.Object.{no_sets, modified}
-use Rattle.nfs_tree.specs.Files.{Files, root, last_count, is_name, is_there, is_directory_at, can_change, CanChange, is_entry, entry, has_name, named}
-use Rattle.nfs_tree.specs.Files.{has_entries, with_changed, with_entries_changed, with_links_changed, without_entry, IsReached}
-use Rattle.nfs_tree.specs.Names.{with_row, is_at_or_below, Move, moved_object, replaced_object, moves, is_below_itself, is_unlike, is_in_the_way, can_move}
+use Rattle.nfs_tree.specs.Files.{Files, root, last_count, is_name, is_there, is_directory_at, can_change, CanChange, is_entry, entry, has_name}
+use Rattle.nfs_tree.specs.Files.{has_entries, with_entries_changed, with_links_changed, without_entry, IsReached}
+use Rattle.nfs_tree.specs.Names.{is_at_or_below, Move, moved_object, replaced_object, moves, is_below_itself, is_unlike, is_in_the_way, can_move}
 use Rattle.nfs_tree.specs.Names.{rename_checks, rename_fault, with_both_changed, with_moved}
-use Rattle.nfs_tree.specs.Walks.{In}
 use Rattle.nfs_tree.specs.Kept.{Grounded, AreRows, IsTree}
-use Rattle.nfs_tree.proofs.Lists.{in_filter, filter_in, find_in, find_none, filter_swap}
 use Rattle.nfs_tree.proofs.RowsKept.{entry_parts, reached, grounded_without, no_entries}
 use Rattle.nfs_tree.proofs.Objects.{stored_within, can_change_all, can_change_none}
 use Rattle.nfs_tree.proofs.Trees.{tree_changed, tree_dropped, entry_names, row_of, has_one, apart}
@@ -169,7 +167,7 @@ tree_moved t m now is granted go condition =
     let vacant : entry left.rows m.target m.name ≡ None =
     find_none (is_entry m.target m.name) left.rows (λ r there. not_true _ (in_filter (λ (r : Row). not (is_entry m.target m.name r)) t.rows r there).1) in
     let rows = rows_moved left.rows dirs (λ n. is_there t n) q to is_left.rows
-    (filter_in (λ r. not (is_entry m.target m.name r)) t.rows q at.0 (rw stays refl)) (sym object) vacant can.target can.short
+    (stays_in (λ r. not (is_entry m.target m.name r)) t.rows q at.0 (rw stays refl)) (sym object) vacant can.target can.short
     (target_reached t m is can condition q at.0 object) in
     let named_rows = subst (λ d. AreRows (without_entry d q.name left.rows ++ to ∷ []) dirs (λ n. is_there t n)) parts.0 rows in
     let done = record left { rows = without_entry m.source m.old left.rows ++ to ∷ []; last_cookie = t.last_cookie + 1 } in

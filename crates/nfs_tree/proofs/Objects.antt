@@ -1,23 +1,20 @@
 -- Objects through a change of one, a new one, and one that goes.
-use Rattle.std.proofs.Common.{◌≡◌, ◌≢◌, ◌⊎◌, ℕ, zero, suc, ◌+◌, ◌<◌, ◌≤◌, ltb, Bool, true, false, cond, not, List, [], ◌∷◌, ◌++◌, map, length, get_or}
-use Rattle.std.proofs.Common.{slice_set, Option, Some, None, refl, sym, ◌∙◌, ap, subst, arith, inl, inr}
-use Rattle.std.specs.Prelude.{◌==◌, if◌then◌else◌, find, filter, option_map, is_some, position, All}
+use Rattle.std.proofs.Common.{◌≡◌, ◌≢◌, ℕ, ◌<◌, ◌≤◌, ltb, true, false, cond, not, List, [], ◌∷◌, ◌++◌, map, length, get_or}
+use Rattle.std.proofs.Common.{Option, Some, None, refl, sym, ◌∙◌, ap, subst, arith}
+use Rattle.std.specs.Prelude.{◌==◌, filter, option_map, is_some}
 use Rattle.std.specs.Option.{option_map_or}
-use Rattle.std.proofs.lemmas.Bool.{cases_Bool, cases_eq, eqb-true, eq-eqb, ne_eqb, ltb-true, false≢true}
-use Rattle.std.proofs.lemmas.List.Quantifiers.{position-Some}
-use Rattle.std.proofs.lemmas.List.{get_or-map}
+use Rattle.std.proofs.lemmas.Bool.{eqb-true, eq-eqb, ne_eqb, ltb-true}
 use Rattle.std.proofs.lemmas.List.Elements.{All-from_recursion}
-use Rattle.nfs_xdr.specs.Tables.{IsRising}
-use Rattle.nfs_xdr.proofs.Tables.{IsRising-below, IsRising-map, all_one, none_below}
 use Rattle.nfs_xdr.specs.declared.time.Time.{Time}
-use Rattle.nfs_tree.specs.declared.object.Object.{Object}
+use Rattle.std.proofs.lemmas.List.{get_or-map, length-map}
+use Rattle.nfs_xdr.specs.Tables.{IsRising, In}
+use Rattle.nfs_xdr.proofs.Lists.{find_map, find_in, find_past, find_push_some, find_push_none}
+use Rattle.nfs_xdr.proofs.Tables.{all_one, at_above, in_bounds, none_below}
 use Rattle.nfs_tree.specs.declared.sets.Sets.{Sets}
 use Rattle.nfs_tree.specs.declared.stored.Stored.{Stored}
-use Rattle.nfs_tree.specs.Object.{is_directory, is_regular, changed}
-use Rattle.nfs_tree.specs.Files.{root, last_count, CanChange, stored_in, is_directory_in, change_at, with_changed}
-use Rattle.nfs_tree.specs.Walks.{In}
+use Rattle.nfs_tree.specs.Object.{is_directory, changed}
+use Rattle.nfs_tree.specs.Files.{last_count, CanChange, stored_in, is_directory_in, change_at, with_changed}
 use Rattle.nfs_tree.specs.Kept.{IsSized}
-use Rattle.nfs_tree.proofs.Lists.{find_map, find_in, find_none, find_past, find_push_some, find_push_none, length_map}
 
 -- a change of objects that keeps numbers, types and sizes
 pub record Keeps (objects : List Stored) (f : Stored → Stored) : Type 0 where
@@ -54,15 +51,6 @@ pub directory_map : (objects : List Stored) (f : Stored → Stored) (n : ℕ) �
 directory_map objects f n keeps = ap (λ o. option_map_or (λ (s : Stored). is_directory s.object.kind) o false) (stored_map objects f n keeps.number)
     ∙ directory_by f keeps.kind (stored_in objects n)
 
--- the number of what is there is between these
-pub stored_within : (low high : ℕ) (xs : List Stored) (n : ℕ) → IsRising (λ s. s.number) low xs high → is_some (stored_in xs n) ≡ true → (low ≤ n) × (n < high)
-stored_within low high [] n r e = absurd cc
-stored_within low high (x ∷ xs) n r e =
-    elim (cases_eq x.number n) [
-      | inl is ↦ (let up = IsRising-below (λ (s : Stored). s.number) (suc x.number) high xs r.1 in (omega arith, omega arith))
-      | inr other ↦ (let rest = stored_within (suc x.number) high xs n r.1 (rw (ne_eqb x.number n other) at e) in (omega arith, rest.1))
-    ]
-
 there_some : (xs : List Stored) (n : ℕ) → is_some (stored_in xs n) ≡ true → (s : Stored) × (stored_in xs n ≡ Some s)
 there_some xs n e = by_option (stored_in xs n) refl
   where
@@ -70,17 +58,20 @@ there_some xs n e = by_option (stored_in xs n) refl
     by_option None h = absurd (let bad : false ≡ true = rw h at e in cc)
     by_option (Some s) h = (s, h)
 
+-- the number of what is there is between these
+pub stored_within : (low high : ℕ) (xs : List Stored) (n : ℕ) → IsRising (λ s. s.number) low xs high → is_some (stored_in xs n) ≡ true → (low ≤ n) × (n < high)
+stored_within low high xs n r e =
+    let s = there_some xs n e in
+    let is = find_in (λ (s : Stored). s.number == n) xs s.0 s.1 in
+    subst (λ k. (low ≤ k) × (k < high)) (eqb-true s.0.number n is.1) (in_bounds (λ (s : Stored). s.number) low high xs s.0 r is.0)
+
 -- what is there is there before a new one too
 pub stored_push : (xs : List Stored) (x : Stored) (n : ℕ) → is_some (stored_in xs n) ≡ true → stored_in (xs ++ x ∷ []) n ≡ stored_in xs n
 stored_push xs x n e = let s = there_some xs n e in find_push_some (λ s. s.number == n) xs x s.0 s.1 ∙ sym s.1
 
 pub new_there : (xs : List Stored) (x : Stored) (low high : ℕ) → IsRising (λ s. s.number) low xs high → x.number ≡ high → stored_in (xs ++ x ∷ []) high ≡ Some x
 new_there xs x low high r is =
-    find_push_none (λ s. s.number == high) xs x (absent (stored_in xs high) refl) (eq-eqb x.number high is)
-  where
-    absent : (o : Option Stored) → stored_in xs high ≡ o → stored_in xs high ≡ None
-    absent None h = h
-    absent (Some s) h = absurd (let bound = stored_within low high xs high r (rw h refl) in omega arith)
+    find_push_none (λ s. s.number == high) xs x (at_above (λ (s : Stored). s.number) low high high xs r (omega arith)) (eq-eqb x.number high is)
 
 -- others stay when one goes
 pub stored_dropped : (xs : List Stored) (m n : ℕ) → n ≢ m → stored_in (filter (λ s. not (s.number == m)) xs) n ≡ stored_in xs n
@@ -106,7 +97,7 @@ can_change_none xs low high n r lt = All-from_recursion (λ s. s.number ≡ n �
 -- a change of another object
 pub can_change_after : (xs : List Stored) (m n : ℕ) (now : Time) (sets : Sets) → n ≢ m → CanChange xs n → CanChange (with_changed m now sets xs) n
 can_change_after xs m n now sets other can k d lt same =
-    let within : k < length xs = subst (λ l. k < l) (length_map (change_at m now sets) xs) lt in
+    let within : k < length xs = subst (λ l. k < l) (length-map xs (change_at m now sets)) lt in
     let y = get_or xs k d in
     let is : get_or (with_changed m now sets xs) k d ≡ change_at m now sets y = get_or-map (change_at m now sets) xs k d d within in
     let number : y.number ≡ n = sym ((keeps_changed m now sets xs).number y) ∙ ap (λ (s : Stored). s.number) (sym is) ∙ same in

@@ -1,27 +1,26 @@
 -- A tree with one row more, or one object more, keeps what every tree keeps.
-use Rattle.std.proofs.Common.{◌≡◌, ◌≢◌, ◌⊎◌, ℕ, zero, suc, ◌+◌, ◌<◌, ◌≤◌, ltb, eqb, Bool, true, false, cond, not, List, [], ◌∷◌, ◌++◌, map, length, Option}
+use Rattle.std.proofs.Common.{◌≡◌, ◌≢◌, ℕ, ◌+◌, ◌<◌, ◌≤◌, true, false, not, List, [], ◌∷◌, ◌++◌, length, Option}
 use Rattle.std.proofs.Common.{Some, None, refl, sym, ◌∙◌, ap, subst, arith, inl, inr, length-append}
-use Rattle.std.specs.Prelude.{◌==◌, nat_lt, nat_le, if◌then◌else◌, ◌&&◌, ◌||◌, find, filter, option_map, is_some, replicate}
+use Rattle.std.specs.Prelude.{nat_lt, nat_le, ◌&&◌, is_some, replicate}
 use Rattle.std.specs.Option.{option_map_or}
-use Rattle.std.proofs.lemmas.Bool.{cases_Bool, cases_eq, and_parts, eqb-true, eq-eqb, ne_eqb, ltb-true, ltb-false, leb-true, leb-false, not-false, false≢true}
-use Rattle.std.proofs.lemmas.List.{length-replicate}
-use Rattle.nfs_xdr.specs.Tables.{IsRising}
-use Rattle.nfs_xdr.proofs.Tables.{IsRising-push}
+use Rattle.std.proofs.lemmas.Bool.{and_parts, ne_eqb, ltb-true, ltb-false, leb-true, leb-false, not-false, false≢true}
 use Rattle.nfs_xdr.proofs.Checks.{all_passed}
+use Rattle.std.proofs.lemmas.List.{length-replicate, length-map}
+use Rattle.nfs_xdr.specs.Tables.{In}
+use Rattle.nfs_xdr.proofs.Lists.{in_push}
+use Rattle.nfs_xdr.proofs.Tables.{IsRising-push}
 use Rattle.nfs_xdr.specs.declared.time.Time.{Time}
 use Rattle.nfs_tree.specs.declared.row.Row.{Row}
 use Rattle.nfs_tree.specs.declared.sets.Sets.{Sets}
 use Rattle.nfs_tree.specs.declared.stored.Stored.{Stored}
 use Rattle.nfs_tree.specs.Object.{is_directory, no_sets, modified}
 use Rattle.nfs_tree.specs.Files.{Files, root, last_count, most_objects, most_links, most_bytes, most_text, is_name, stored_in, is_there, is_directory_in}
-use Rattle.nfs_tree.specs.Files.{is_directory_at, can_change, entry, has_name, links_in, has_row, change_at, with_changed, with_entries_changed}
+use Rattle.nfs_tree.specs.Files.{is_directory_at, can_change, entry, links_in, change_at, with_entries_changed}
 use Rattle.nfs_tree.specs.Files.{with_links_changed, IsReached}
 use Rattle.nfs_tree.specs.Create.{New, File, Directory, Link, size_of, data_of, kind_of, new_object, is_bad_text, is_too_big, create_checks, create_fault}
 use Rattle.nfs_tree.specs.Create.{with_new}
 use Rattle.nfs_tree.specs.Names.{link_checks, link_fault, with_link}
-use Rattle.nfs_tree.specs.Walks.{In}
-use Rattle.nfs_tree.specs.Kept.{AreRows, IsSized, IsTree, most_of}
-use Rattle.nfs_tree.proofs.Lists.{in_push, length_map}
+use Rattle.nfs_tree.specs.Kept.{IsSized, IsTree, most_of}
 use Rattle.nfs_tree.proofs.RowsKept.{rows_same, rows_put, CanPut, reached}
 use Rattle.nfs_tree.proofs.Objects.{keeps_changed, there_map, directory_map, stored_within, stored_push, new_there}
 use Rattle.nfs_tree.proofs.Trees.{tree_changed}
@@ -64,7 +63,7 @@ tree_put_object t x is number less room sized =
       cookies = is.cookies;
       counters = (omega arith, is.counters.1);
       few = (let l : length more ≡ length t.objects + 1 = length-append t.objects (x ∷ []) in omega arith);
-      sized = λ s there. elim (in_push t.objects x s there) [ inl new ↦ subst IsSized new sized | inr old ↦ is.sized s old ];
+      sized = λ s there. elim (in_push t.objects x s there) [ inl new ↦ subst IsSized (sym new) sized | inr old ↦ is.sized s old ];
       root = directory root (directory_there t root is.root) ∙ is.root;
       rows = rows_same t.rows (λ n. is_directory_at t n) (λ n. is_there t n) (λ n. is_directory_in more n) (λ n. is_some (stored_in more n)) is.rows
           (λ r there. directory r.directory (stands r there)) (λ r there. directory r.object (is.rows.names r there))
@@ -186,7 +185,7 @@ tree_created t d name new sets now is granted condition =
     let x : Stored = record { number = t.last_object + 1; object = new_object now new sets; bytes = data_of new } in
     let two = record one { objects = one.objects ++ x ∷ []; last_object = t.last_object + 1 } in
     let room : length one.objects < most_objects =
-    subst (λ l. l < most_objects) (sym (length_map (change_at d now (modified now no_sets)) t.objects)) can.room in
+    subst (λ l. l < most_objects) (sym (length-map t.objects (change_at d now (modified now no_sets)))) can.room in
     let is_two : IsTree two = tree_put_object one x is_one refl can.object room (record { size = new_size new; most = new_most new can.good can.small }) in
     let kind = directory_map t.objects (change_at d now (modified now no_sets)) d (keeps_changed d now (modified now no_sets) t.objects) ∙ can.directory in
     let pushed = stored_push one.objects x d (directory_there one d kind) in

@@ -1,11 +1,11 @@
 -- What a RENAME answers and leaves, by its fault and by whether anything moves.
-use Rattle.std.proofs.Common.{◌≡◌, Bool, true, false, List, ◌∷◌, Option, Some, None, refl, sym, ◌∙◌, ap, subst}
+use Rattle.std.proofs.Common.{◌≡◌, true, false, Some, None, refl, sym, ◌∙◌, ap, subst}
 use Rattle.std.specs.Prelude.{Result, Ok, Err, if◌then◌else◌}
 use Rattle.nfs_xdr.specs.declared.time.Time.{Time}
 use Rattle.nfs_tree.specs.declared.done.Renamed.{Renamed}
 use Rattle.nfs_tree.specs.declared.fault.TreeFault.{TreeFault}
 use Rattle.nfs_tree.specs.Files.{Files}
-use Rattle.nfs_tree.specs.Did.{Did, DoesOrWants}
+use Rattle.nfs_tree.specs.Did.{DoesOrWants}
 use Rattle.nfs_tree.specs.Names.{Move, moves, rename_fault, rename_checks, rename_unless, moved, unmoved, rename}
 use Rattle.nfs_tree.proofs.Refusals.{by_fault, fault_of}
 

@@ -1,18 +1,15 @@
 -- What is kept of rows when one is put, dropped or moved.
-use Rattle.std.proofs.Common.{◌≡◌, ◌≢◌, ◌⊎◌, ℕ, zero, suc, ◌+◌, ◌<◌, ◌≤◌, Bool, true, false, cond, not, List, [], ◌∷◌, ◌++◌, length, Option, Some, None, refl}
+use Rattle.std.proofs.Common.{◌≡◌, ◌≢◌, ◌⊎◌, ℕ, zero, suc, ◌+◌, ◌<◌, ◌≤◌, Bool, true, false, not, List, [], ◌∷◌, ◌++◌, Some, None, refl}
 use Rattle.std.proofs.Common.{sym, ◌∙◌, ap, subst, arith, inl, inr}
-use Rattle.std.specs.Prelude.{◌==◌, if◌then◌else◌, ◌&&◌, ◌||◌, find, filter, option_map, bytes_eq, is_some}
-use Rattle.std.specs.Option.{option_map_or}
-use Rattle.std.specs.List.{list_any}
-use Rattle.std.proofs.lemmas.Bool.{cases_Bool, cases_eq, and_parts, eqb-true, eq-eqb, ne_eqb, not-false, false≢true}
+use Rattle.std.specs.Prelude.{◌==◌, ◌||◌}
+use Rattle.std.proofs.lemmas.Bool.{cases_Bool, cases_eq, and_parts, eqb-true, eq-eqb, ne_eqb, false≢true}
 use Rattle.std.proofs.lemmas.Slice.Eq.{bytes_eq-Decides}
 use Rattle.nfs_tree.specs.declared.row.Row.{Row}
-use Rattle.nfs_tree.specs.Files.{root, most_links, is_name, is_entry, entry, parent_in, links_in, has_row, has_entries, without_entry}
-use Rattle.nfs_tree.specs.Names.{with_row, is_at_or_below}
-use Rattle.nfs_tree.specs.Walks.{In}
+use Rattle.nfs_tree.specs.Files.{root, most_links, is_name, is_entry, entry, links_in, has_row, has_entries, without_entry}
+use Rattle.nfs_xdr.specs.Tables.{In}
+use Rattle.nfs_xdr.proofs.Lists.{in_filter, stays_in, in_push, push_in, find_kept, find_push_some}
+use Rattle.nfs_xdr.proofs.Lists.{find_push_none, count_filter, count_push, in_any, any_in}
 use Rattle.nfs_tree.specs.Kept.{Grounded, AreRows}
-use Rattle.nfs_tree.proofs.Lists.{in_filter, filter_in, in_push, push_in, last_in, find_in, none_in, find_kept, find_none, find_none_kept, find_push_some}
-use Rattle.nfs_tree.proofs.Lists.{find_push_none, count_filter, count_dropped, count_push, in_any, any_in, length_filter, filter_swap}
 
 -- the same rows under tests that give the same
 pub rows_same : (rows : List Row) (dirs there dirs' there' : ℕ → Bool) → AreRows rows dirs there
@@ -69,19 +66,20 @@ pub record CanPut (rows : List Row) (dirs there : ℕ → Bool) (to : Row) : Typ
   pub few : links_in rows to.object < most_links
 
 pub found_put : (rows : List Row) (to r : Row) → entry rows to.directory to.name ≡ None
-    → ((r : Row) → In r rows → entry rows r.directory r.name ≡ Some r) → (to ≡ r) ⊎ In r rows → entry (rows ++ to ∷ []) r.directory r.name ≡ Some r
+    → ((r : Row) → In r rows → entry rows r.directory r.name ≡ Some r) → (r ≡ to) ⊎ In r rows → entry (rows ++ to ∷ []) r.directory r.name ≡ Some r
 found_put rows to r vacant found (inl is) =
-    subst (λ (q : Row). entry (rows ++ to ∷ []) q.directory q.name ≡ Some q) is (find_push_none (is_entry to.directory to.name) rows to vacant (entry_self to))
+    subst (λ (q : Row). entry (rows ++ to ∷ []) q.directory q.name ≡ Some q) (sym is)
+    (find_push_none (is_entry to.directory to.name) rows to vacant (entry_self to))
 found_put rows to r vacant found (inr there) = find_push_some (is_entry r.directory r.name) rows to r (found r there)
 
 pub one_put : (rows : List Row) (dirs : ℕ → Bool) (to q r : Row) → (dirs to.object ≡ true → (r : Row) → In r rows → r.object ≢ to.object)
     → ((q r : Row) → In q rows → In r rows → q.object ≡ r.object → dirs r.object ≡ true → q ≡ r)
-    → (to ≡ q) ⊎ In q rows → (to ≡ r) ⊎ In r rows → q.object ≡ r.object → dirs r.object ≡ true → q ≡ r
-one_put rows dirs to q r first one (inl a) (inl b) same dir = sym a ∙ b
+    → (q ≡ to) ⊎ In q rows → (r ≡ to) ⊎ In r rows → q.object ≡ r.object → dirs r.object ≡ true → q ≡ r
+one_put rows dirs to q r first one (inl a) (inl b) same dir = a ∙ sym b
 one_put rows dirs to q r first one (inl a) (inr b) same dir =
-    let e : to.object ≡ r.object = ap (λ (x : Row). x.object) a ∙ same in absurd (first (ap dirs e ∙ dir) r b (sym e))
+    let e : to.object ≡ r.object = ap (λ (x : Row). x.object) (sym a) ∙ same in absurd (first (ap dirs e ∙ dir) r b (sym e))
 one_put rows dirs to q r first one (inr a) (inl b) same dir =
-    let e : to.object ≡ r.object = ap (λ (x : Row). x.object) b in absurd (first (ap dirs e ∙ dir) q a (same ∙ sym e))
+    let e : to.object ≡ r.object = ap (λ (x : Row). x.object) (sym b) in absurd (first (ap dirs e ∙ dir) q a (same ∙ sym e))
 one_put rows dirs to q r first one (inr a) (inr b) same dir = one q r a b same dir
 
 pub few_put : (rows : List Row) (to : Row) (n : ℕ) → links_in rows to.object < most_links
@@ -94,8 +92,8 @@ few_put rows to n less few =
       | inr other ↦ (let none : links_in (rows ++ to ∷ []) n ≡ links_in rows n + 0 = rw (ne_eqb to.object n other) at count in omega arith)
     ]
 
-pub either : {P : Row → Type 0} (to r : Row) (rows : List Row) → P to → ((r : Row) → In r rows → P r) → (to ≡ r) ⊎ In r rows → P r
-either {P} to r rows here rest (inl is) = subst P is here
+pub either : {P : Row → Type 0} (to r : Row) (rows : List Row) → P to → ((r : Row) → In r rows → P r) → (r ≡ to) ⊎ In r rows → P r
+either {P} to r rows here rest (inl is) = subst P (sym is) here
 either {P} to r rows here rest (inr there) = rest r there
 
 pub rows_put : (rows : List Row) (dirs there : ℕ → Bool) (to : Row) → AreRows rows dirs there → CanPut rows dirs there to → AreRows (rows ++ to ∷ []) dirs there
@@ -122,7 +120,7 @@ grounded_without rows d name m names empty (suc n) x other g =
     let kept : is_entry d name g.0 ≡ false =
     elim (cases_Bool (is_entry d name g.0)) [ inl is ↦ absurd (other (sym g.2 ∙ names g.0 g.1 is)) | inr other_row ↦ other_row ] in (
       g.0,
-      filter_in (λ r. not (is_entry d name r)) rows g.0 g.1 (rw kept refl),
+      stays_in (λ r. not (is_entry d name r)) rows g.0 g.1 (rw kept refl),
       g.2,
       grounded_without rows d name m names empty n g.0.directory (empty g.0 g.1) g.3,
     )

@@ -1,10 +1,9 @@
 -- A file that is written or gets another size keeps what every tree keeps.
-use Rattle.std.proofs.Common.{◌≡◌, ◌≢◌, ◌⊎◌, ℕ, suc, ◌+◌, ◌<◌, ◌≤◌, Bool, true, false, cond, not, List, [], ◌∷◌, map, length, Option, Some, None, refl, sym}
+use Rattle.std.proofs.Common.{◌≡◌, ℕ, ◌+◌, ◌≤◌, Bool, true, false, cond, not, List, length, Some, None, refl, sym}
 use Rattle.std.proofs.Common.{◌∙◌, ap, subst, arith, inl, inr}
-use Rattle.std.specs.Prelude.{Result, Ok, Err, OnOk, OnErr, ◌==◌, nat_lt, if◌then◌else◌, ◌&&◌, find, is_some, max}
+use Rattle.std.specs.Prelude.{Result, Ok, Err, OnOk, OnErr, ◌==◌, nat_lt, if◌then◌else◌, ◌&&◌}
 use Rattle.std.specs.Option.{option_map_or}
-use Rattle.std.proofs.lemmas.Bool.{cases_Bool, cases_eq, eqb-true, eq-eqb, ne_eqb, ltb-false, not-false, false≢true}
-use Rattle.nfs_xdr.specs.Tables.{IsRising}
+use Rattle.std.proofs.lemmas.Bool.{cases_eq, eq-eqb, ne_eqb, ltb-false, not-false}
 use Rattle.nfs_xdr.proofs.Checks.{all_passed}
 use Rattle.nfs_xdr.specs.declared.time.Time.{Time}
 use Rattle.nfs_tree.specs.declared.object.FileType.{FileType}
@@ -12,24 +11,14 @@ use Rattle.nfs_tree.specs.declared.object.FileType.TheVariants.{Regular, Directo
 use Rattle.nfs_tree.specs.declared.sets.Sets.{Sets}
 use Rattle.nfs_tree.specs.declared.stored.Stored.{Stored}
 use Rattle.nfs_tree.specs.Object.{is_regular, no_sets}
-use Rattle.nfs_tree.specs.Files.{Files, root, last_count, most_bytes, stored_in, is_regular_at, can_change}
+use Rattle.nfs_tree.specs.Files.{Files, root, most_bytes, stored_in, is_regular_at, can_change}
 use Rattle.nfs_tree.specs.Bytes.{written, resized, with_bytes, has_bytes, write_checks, write_fault, with_written, resize_checks, resize_fault, with_resized}
-use Rattle.nfs_tree.specs.Walks.{In}
-use Rattle.nfs_tree.specs.Kept.{IsSized, IsTree, most_of}
+use Rattle.nfs_xdr.specs.Tables.{In}
+use Rattle.nfs_xdr.proofs.Tables.{at_of_in}
+use Rattle.nfs_tree.specs.Kept.{IsTree, most_of}
 use Rattle.nfs_tree.proofs.Objects.{Keeps}
 use Rattle.nfs_tree.proofs.Trees.{tree_mapped}
 use Rattle.nfs_tree.proofs.Written.{length_written, length_resized}
-
-in_above : (low high : ℕ) (xs : List Stored) (s : Stored) → IsRising (λ s. s.number) low xs high → In s xs → low ≤ s.number
-in_above low high [] s r there = absurd there
-in_above low high (x ∷ xs) s r (inl is) = let e : x.number ≡ s.number = ap (λ (s : Stored). s.number) is in let up = r.0 in omega arith
-in_above low high (x ∷ xs) s r (inr more) = let rest = in_above (suc x.number) high xs s r.1 more in let up = r.0 in omega arith
-
-stored_of : (low high : ℕ) (xs : List Stored) (s : Stored) → IsRising (λ s. s.number) low xs high → In s xs → stored_in xs s.number ≡ Some s
-stored_of low high [] s r there = absurd there
-stored_of low high (x ∷ xs) s r (inl is) = rw (eq-eqb x.number s.number (ap (λ (s : Stored). s.number) is)) (ap Some is)
-stored_of low high (x ∷ xs) s r (inr more) = let above = in_above (suc x.number) high xs s r.1 more in
-    rw (ne_eqb x.number s.number (λ e. absurd (omega arith))) (stored_of (suc x.number) high xs s r.1 more)
 
 regular_most : (k : FileType) → is_regular k ≡ true → most_of k ≡ most_bytes
 regular_most Regular e = refl
@@ -40,7 +29,7 @@ regular_most Link e = absurd cc
 regular : (t : Files) (n : ℕ) (s : Stored) → IsTree t → is_regular_at t n ≡ true → In s t.objects → s.number ≡ n → most_of s.object.kind ≡ most_bytes
 regular t n s is file there e =
     let found : stored_in t.objects n ≡ Some s =
-    subst (λ k. stored_in t.objects k ≡ Some s) e (stored_of root (t.last_object + 1) t.objects s is.objects there) in
+    subst (λ k. stored_in t.objects k ≡ Some s) e (at_of_in (λ (s : Stored). s.number) root (t.last_object + 1) t.objects s is.objects there) in
     regular_most s.object.kind (sym (ap (λ o. option_map_or (λ (s : Stored). is_regular s.object.kind) o false) found) ∙ file)
 
 keeps_bytes : (t : Files) (n : ℕ) (now : Time) (sets : Sets) (bytes : Stored → List ℕ) → IsTree t

@@ -1,28 +1,27 @@
 -- Each call's tree keeps what every tree keeps.
-use Rattle.std.proofs.Common.{◌≡◌, ◌≢◌, ◌⊎◌, ℕ, zero, suc, ◌+◌, ◌<◌, ◌≤◌, ltb, eqb, Bool, true, false, cond, not, List, [], ◌∷◌, ◌++◌, map, length, Option}
-use Rattle.std.proofs.Common.{Some, None, refl, sym, ◌∙◌, ap, subst, arith, inl, inr}
-use Rattle.std.specs.Prelude.{◌==◌, nat_lt, nat_le, if◌then◌else◌, ◌&&◌, ◌||◌, find, filter, option_map, is_some, unwrap_or, All}
+use Rattle.std.proofs.Common.{◌≡◌, ◌≢◌, ℕ, ◌+◌, true, false, not, List, map, Option}
+use Rattle.std.proofs.Common.{Some, None, refl, sym, ◌∙◌, ap, subst, arith}
+use Rattle.std.specs.Prelude.{◌==◌, filter, option_map, is_some, unwrap_or}
 use Rattle.std.specs.Option.{option_map_or}
-use Rattle.std.proofs.lemmas.Bool.{cases_Bool, cases_eq, and_parts, eqb-true, eq-eqb, ne_eqb, ltb-true, ltb-false, not-false, false≢true}
-use Rattle.nfs_xdr.specs.Tables.{IsRising}
-use Rattle.nfs_xdr.proofs.Tables.{IsRising-push, IsRising-map, IsRising-filter}
+use Rattle.std.proofs.lemmas.Bool.{and_parts, eq-eqb, not-false, false≢true}
+use Rattle.std.proofs.lemmas.List.{length-map}
+use Rattle.nfs_xdr.specs.Tables.{In}
+use Rattle.nfs_xdr.proofs.Lists.{in_filter, in_map, find_in, length_filter, any_in}
+use Rattle.nfs_xdr.proofs.Tables.{IsRising-map, IsRising-filter}
 use Rattle.nfs_xdr.proofs.Checks.{all_passed}
 use Rattle.nfs_xdr.specs.declared.time.Time.{Time}
 use Rattle.nfs_tree.specs.declared.row.Row.{Row}
 use Rattle.nfs_tree.specs.declared.sets.Sets.{Sets}
 use Rattle.nfs_tree.specs.declared.stored.Stored.{Stored}
 use Rattle.nfs_tree.specs.Object.{is_directory, no_sets, modified}
-use Rattle.nfs_tree.specs.Files.{Files, root, last_count, most_objects, most_links, stored_in, is_there, is_directory_in, is_directory_at, can_change, is_entry}
-use Rattle.nfs_tree.specs.Files.{entry, has_name, lookup, named, links_in, has_row, has_entries, change_at, with_changed, with_entries_changed}
-use Rattle.nfs_tree.specs.Files.{with_links_changed, without_entry, IsReached}
+use Rattle.nfs_tree.specs.Files.{Files, root, stored_in, is_there, is_directory_in, is_directory_at, can_change, is_entry}
+use Rattle.nfs_tree.specs.Files.{entry, has_name, named, has_row, has_entries, change_at, with_changed, with_entries_changed}
+use Rattle.nfs_tree.specs.Files.{with_links_changed, without_entry}
 use Rattle.nfs_tree.specs.Names.{forget, remove_checks, remove_fault, without_name}
 use Rattle.nfs_tree.specs.Bytes.{set_checks, set_fault}
-use Rattle.nfs_tree.specs.Walks.{In}
-use Rattle.nfs_tree.specs.Kept.{AreRows, IsSized, IsTree}
-use Rattle.nfs_tree.proofs.Lists.{in_filter, in_map, find_in, length_filter, length_map, any_in}
-use Rattle.nfs_tree.proofs.RowsKept.{rows_same, rows_put, CanPut, rows_dropped, no_entries, no_row, only_entry, entry_parts, reached}
-use Rattle.nfs_tree.proofs.Objects.{Keeps, keeps_changed, there_map, directory_map, stored_within, stored_push, stored_dropped, new_there, can_change_all}
-use Rattle.nfs_tree.proofs.Objects.{can_change_none, can_change_after}
+use Rattle.nfs_tree.specs.Kept.{IsSized, IsTree}
+use Rattle.nfs_tree.proofs.RowsKept.{rows_same, rows_dropped, no_entries, no_row, only_entry, entry_parts}
+use Rattle.nfs_tree.proofs.Objects.{Keeps, keeps_changed, there_map, directory_map, stored_dropped}
 
 -- the same of parts that are equal to those
 pub tree_of : (t : Files) → IsTree t → (objects : List Stored) (rows : List Row) (n k : ℕ)
@@ -35,8 +34,8 @@ tree_mapped t f is keeps = record {
   objects = IsRising-map (λ (s : Stored). s.number) f keeps.number root (t.last_object + 1) t.objects is.objects;
   cookies = is.cookies;
   counters = is.counters;
-  few = rw (length_map f t.objects) is.few;
-  sized = λ s there. let old = in_map f t.objects s there in subst IsSized old.2 (keeps.sized old.0 old.1 (is.sized old.0 old.1));
+  few = rw (length-map t.objects f) is.few;
+  sized = λ s there. let old = in_map f t.objects s there in subst IsSized (sym old.2) (keeps.sized old.0 old.1 (is.sized old.0 old.1));
   root = directory_map t.objects f root keeps ∙ is.root;
   rows = rows_same t.rows (λ n. is_directory_at t n) (λ n. is_there t n)
       (λ n. is_directory_in (map f t.objects) n) (λ n. is_some (stored_in (map f t.objects) n)) is.rows

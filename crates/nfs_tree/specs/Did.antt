@@ -1,5 +1,5 @@
 -- What a call on the tree answers and leaves. A refusal leaves the tree; want of memory is answered only where the call grows, and leaves it too.
-use Rattle.std.specs.Prelude.{◌≡◌, ℕ, ◌+◌, Bool, true, List, Option, Some, None, Result, Ok, Err, IsOk}
+use Rattle.std.specs.Prelude.{◌≡◌, ℕ, ◌+◌, Bool, true, Option, Some, None, Result, Ok, Err, IsOk}
 use Rattle.nfs_tree.specs.declared.fault.TreeFault.{TreeFault}
 use Rattle.nfs_tree.specs.declared.fault.TreeFault.TheVariants.{Memory}
 use Rattle.nfs_tree.specs.declared.done.Change.{Change}

@@ -1,6 +1,6 @@
 -- The tree as two tables: objects by their numbers, and rows, each of which names an object in a directory (RFC 8881 sections 4.2 and 5.8).
-use Rattle.std.specs.Prelude.{◌≡◌, ◌||◌, All, ℕ, ◌==◌, ◌<◌, nat_lt, nat_le, Bool, true, false, not, ◌&&◌, if◌then◌else◌, List, [], ◌∷◌, ◌++◌, length, Option}
-use Rattle.std.specs.Prelude.{Some, filter, map, find, is_some, option_map, unwrap_or, bytes_eq}
+use Rattle.std.specs.Prelude.{◌≡◌, ◌||◌, All, ℕ, ◌==◌, ◌<◌, nat_lt, nat_le, Bool, true, false, not, ◌&&◌, if◌then◌else◌, List, [], length, Option}
+use Rattle.std.specs.Prelude.{filter, map, find, is_some, option_map, unwrap_or, bytes_eq}
 use Rattle.std.specs.List.{list_any}
 use Rattle.std.specs.Option.{option_map_or}
 use Rattle.nfs_xdr.specs.declared.time.Time.{Time}

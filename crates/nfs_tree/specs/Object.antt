@@ -1,5 +1,5 @@
 -- An object's type and its attributes, and how they change (RFC 8881 sections 3.2 and 5.8).
-use Rattle.std.specs.Prelude.{ℕ, ◌+◌, Bool, true, false, Some, None, unwrap_or}
+use Rattle.std.specs.Prelude.{◌+◌, Bool, true, false, Some, None, unwrap_or}
 use Rattle.nfs_xdr.specs.declared.time.Time.{Time}
 use Rattle.nfs_tree.specs.declared.object.FileType.{FileType}
 use Rattle.nfs_tree.specs.declared.object.FileType.TheVariants.{Regular, Directory, Link}

@@ -1,14 +1,8 @@
 -- Walks along names (RFC 8881 section 4), and what holds of every tree.
-use Rattle.std.specs.Prelude.{◌≡◌, ◌≢◌, ◌⊎◌, ℕ, ◌+◌, ◌≤◌, zero, suc, Bool, true, List, [], ◌∷◌, length, Option, Some, option_and_then}
-use Rattle.nfs_xdr.specs.Tables.{IsRising}
+use Rattle.std.specs.Prelude.{◌≡◌, ℕ, true, List, [], ◌∷◌, Option, Some, option_and_then}
+use Rattle.nfs_xdr.specs.Tables.{In}
 use Rattle.nfs_tree.specs.declared.row.Row.{Row}
-use Rattle.nfs_tree.specs.declared.stored.Stored.{Stored}
-use Rattle.nfs_tree.specs.Object.{is_directory}
-use Rattle.nfs_tree.specs.Files.{Files, root, last_count, most_objects, most_links, most_bytes, most_text, is_name, entry, is_there, is_directory_at, links_in}
-
-abbrev pub In : {X : Type 0} → X → List X → Type 0
-In x [] = ⊥
-In x (y ∷ ys) = (y ≡ x) ⊎ In x ys
+use Rattle.nfs_tree.specs.Files.{Files, root, entry, is_there, is_directory_at}
 
 -- the object that names lead to, from a directory
 abbrev pub walk : List Row → ℕ → List (List ℕ) → Option ℕ

@@ -36,7 +36,7 @@ pub enum New<'a> {
 pub(crate) fn is_name(name: &[u8]) -> bool
     ensures { result ≡ is_name name.now }
 {
-    !name.is_empty() && name.len() <= 255
+    !name.is_empty() && name.len() <= Tree::MAX_NAME
 }
 
 impl New<'_> {
@@ -44,7 +44,7 @@ impl New<'_> {
         ensures { result ≡ is_bad_text (new_of self.now) }
     {
         match self {
-            New::Link(text) => text.is_empty() || text.len() > 1024,
+            New::Link(text) => text.is_empty() || text.len() > Tree::MAX_TEXT as usize,
             _ => false,
         }
     }
@@ -53,7 +53,7 @@ impl New<'_> {
         ensures { result ≡ is_too_big (new_of self.now) }
     {
         match self {
-            New::File { size, .. } => *size > 1_048_576,
+            New::File { size, .. } => *size > Tree::MAX_BYTES,
             _ => false,
         }
     }
@@ -98,7 +98,7 @@ impl Tree {
     pub fn judge_create(&self, directory: u64) -> Result<(), TreeFault>
         ensures { result ≡ judged (first_fault (room_checks self.now directory)) }
     {
-        if self.objects.len() >= 65_536 {
+        if self.objects.len() >= Tree::MAX_OBJECTS {
             return Err(TreeFault::NoSpc);
         }
         if !(self.can_change(directory)

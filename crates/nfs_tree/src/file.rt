@@ -51,7 +51,8 @@ impl Tree {
             return Err(TreeFault::Inval);
         }
         if !text.is_empty()
-            && (text.len() as u64 > 1_048_576 || offset > 1_048_576 - text.len() as u64)
+            && (text.len() as u64 > Tree::MAX_BYTES
+                || offset > Tree::MAX_BYTES - text.len() as u64)
         {
             return Err(TreeFault::Fbig);
         }
@@ -110,7 +111,7 @@ impl Tree {
         if !self.is_regular_at(number) {
             return Err(TreeFault::Inval);
         }
-        if size > 1_048_576 {
+        if size > Tree::MAX_BYTES {
             return Err(TreeFault::Fbig);
         }
         if !self.can_change(number) {

@@ -38,7 +38,7 @@ impl Tree {
         if !has_row(&self.rows, number) {
             return Err(TreeFault::NoEnt);
         }
-        if self.links(number) >= 1024 {
+        if self.links(number) >= Tree::MAX_LINKS {
             return Err(TreeFault::Mlink);
         }
         if !(self.can_change(directory) && self.can_change(number) && self.last_cookie < u64::MAX) {

@@ -5,7 +5,7 @@ ghost use Rattle.nfs_tree.specs.Files.{root, has_row};
 
 use super::*;
 use crate::row::has_row;
-use nfs_testing::{LONG, MOST, starve};
+use nfs_testing::{LONG, MAX_BLOCKS, starve};
 use nfs_xdr::{Sheet, Time};
 use std::alloc::{AllocError, Global};
 use std::test::Fail;
@@ -178,7 +178,7 @@ fn a_refused_growth_changes_nothing(rt: HostRuntime) -> Result<(), Fail> {
         Step::Rename(1, b"f", 1, LONG),
     ];
     assert!(rt; run(&mut tree, alloc, Step::File(1, b"f")) == Ok(2));
-    let mut taken = Vec::with_capacity(alloc, MOST)?;
+    let mut taken = Vec::with_capacity(alloc, MAX_BLOCKS)?;
     starve(alloc, &mut taken);
     let mut refused = 0u32;
     for step in steps {

@@ -38,6 +38,16 @@ impl Model for Tree {
 impl Tree {
     /// The number of the root.
     pub const ROOT: u64 = 1;
+    /// The most bytes of a file (this server's profile).
+    pub const MAX_BYTES: u64 = 1_048_576;
+    /// The most bytes of a name (this server's profile).
+    pub const MAX_NAME: usize = 255;
+    /// The most bytes of a symbolic link's text (this server's profile).
+    pub const MAX_TEXT: u32 = 1_024;
+    /// The most rows that name one object (this server's profile).
+    pub const MAX_LINKS: u32 = 1_024;
+    /// The most objects, the root among them (this server's profile).
+    pub const MAX_OBJECTS: usize = 65_536;
 
     /// A tree of nothing but the root, with this mode and three times `now`. Fails only for want of memory. Later calls
     /// grow it by `alloc`.

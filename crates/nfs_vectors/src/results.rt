@@ -8,8 +8,8 @@ ghost use Rattle.nfs_results.specs.View as view;
 use crate::words::{A, SESSION};
 use nfs_compound::{Arg, ChannelAttrs, LockType, Read, StableHow, Stateid};
 use nfs_results::{
-    ChangeInfo, CreateSessionOk, Denied, ExchangeIdOk, Res, can_refuse, largest, read_reply, write,
-    write_compound_head,
+    ChangeInfo, CreateSessionOk, Denied, ExchangeIdOk, Res, can_refuse, given, largest, read_reply,
+    write, write_compound_head,
 };
 use nfs_testing::bytes_of;
 use nfs_xdr::{Sheet, Status};
@@ -318,6 +318,7 @@ fn the_largest_results_are_those_of_the_profile(rt: HostRuntime) {
         largest(&Arg::ReadLink),
         largest(&Arg::LookupP),
         largest(&bad),
+        u64::from(given(65_537)),
     ];
-    assert_eq!(rt; sizes, [24, 28, 1036, 64, 64]);
+    assert_eq!(rt; sizes, [24, 28, 1036, 64, 64, 65_536]);
 }

@@ -9,7 +9,7 @@ use Rattle.nfs_xdr.specs.Reading.{◌>>=◌, flag_at}
 use Rattle.nfs_xdr.specs.Codec.{Codec, IsCodec, IsBytes, passed}
 use Rattle.nfs_xdr.specs.Chain.{spell_chain, chain_at, chain}
 use Rattle.nfs_xdr.proofs.Putting.{length_number}
-use Rattle.nfs_xdr.proofs.CodecLaws.{bind_some, taken_at, is_flag}
+use Rattle.nfs_xdr.proofs.CodecLaws.{bind_some, is_flag}
 
 record IsChain {A : Type 0} (c : Codec A) (bytes : List ℕ) (xs : List A) (rest : List ℕ) : Type 0 where
   pub spelled : bytes ≡ spell_chain c.spell xs ++ rest

@@ -6,5 +6,6 @@ pub mod ChainLaws
 pub mod WordLaws
 pub mod StatusLaws
 pub mod Formats
+pub mod Lists
 pub mod Tables
 pub mod Checks

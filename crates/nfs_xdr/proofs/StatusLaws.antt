@@ -1,5 +1,5 @@
 -- Each number is read as its own status.
-use Rattle.std.proofs.Common.{◌≡◌, ℕ, ◌<◌, ◌^◌, Some, refl, arith}
+use Rattle.std.proofs.Common.{◌≡◌, ◌<◌, ◌^◌, Some, refl, arith}
 use Rattle.nfs_xdr.specs.declared.status.Status.{Status}
 use Rattle.nfs_xdr.specs.declared.status.Status.TheVariants.{Nfs4Ok, Perm, NoEnt, Access, Exist, NotDir, IsDir, Inval, FBig, NoSpc, MLink, NameTooLong}
 use Rattle.nfs_xdr.specs.declared.status.Status.TheVariants.{NotEmpty, Stale, BadHandle, BadCookie, NotSupp, TooSmall, ServerFault, BadType, Delay, Same}
@@ -10,7 +10,7 @@ use Rattle.nfs_xdr.specs.declared.status.Status.TheVariants.{RepTooBig, TooManyO
 use Rattle.nfs_xdr.specs.declared.status.Status.TheVariants.{WrongType}
 use Rattle.nfs_xdr.specs.Status.{status_number, status_of, statuses, status}
 use Rattle.nfs_xdr.specs.Codec.{IsListing, IsCodec}
-use Rattle.nfs_xdr.proofs.WordLaws.{is_listed, listed_number}
+use Rattle.nfs_xdr.proofs.WordLaws.{is_listed}
 
 status_found : (s : Status) → status_of (status_number s) ≡ Some s
 status_found Nfs4Ok = refl

@@ -1,5 +1,5 @@
 -- Tables in rising order: what find, filter, map and push leave of the order, and what is found behind them.
-use Rattle.std.proofs.Common.{◌≡◌, ◌⊎◌, ℕ, zero, ◌+◌, ◌<◌, ◌≤◌, suc, Bool, true, false, cond, not, List, [], ◌∷◌, ◌++◌, map, length, set, get_or, Option}
+use Rattle.std.proofs.Common.{◌≡◌, ◌⊎◌, ℕ, zero, ◌+◌, ◌<◌, ◌≤◌, suc, Bool, true, false, cond, List, [], ◌∷◌, ◌++◌, map, length, set, get_or, Option}
 use Rattle.std.proofs.Common.{Some, None, refl, sym, ◌∙◌, ap, subst, arith, inl, inr}
 use Rattle.std.specs.Prelude.{◌==◌, if◌then◌else◌, All, filter, find, position, nat_lt, slice_get, is_some, option_map, Result, Ok, Err}
 use Rattle.std.specs.List.{AllByRecursion, position_or_len, remove}
@@ -11,123 +11,11 @@ use Rattle.std.specs.List.Sorted.{IsSearchInRange, IsBinarySearchResult, IsNonDe
 use Rattle.std.proofs.lemmas.Cmp.{ranked}
 use Rattle.std.proofs.lemmas.Bool.Decides.{nat_tests}
 use Rattle.std.proofs.lemmas.Bool.{cases_Bool, cases_eq, cases_lt, ne_eqb, eq-eqb, eqb-true, lt-ltb, le-ltb, false≢true}
-use Rattle.std.proofs.lemmas.Option.{cond_some, slice_get-get_or, slice_get_within, get_or_from_slice_get, none-some}
-use Rattle.std.proofs.lemmas.List.Folds.{find_at}
+use Rattle.std.proofs.lemmas.Option.{slice_get-get_or}
 use Rattle.std.proofs.lemmas.List.Quantifiers.{position-Some}
 use Rattle.std.proofs.lemmas.List.Sums.{position_or_len_is}
 use Rattle.nfs_xdr.specs.Tables.{IsRising, record_at, without_record, with_record, In}
-
--- What is in a list.
-
-module _ {X : Type 0} where
-  pub in_filter : (p : X → Bool) (xs : List X) (x : X) → In x (filter p xs) → In x xs × (p x ≡ true)
-  in_filter p [] x there = absurd there
-  in_filter p (y ∷ ys) x there =
-      elim (cases_Bool (p y)) [
-        | inl passes ↦ (let h : In x (y ∷ filter p ys) = rw passes at there in elim h [
-          | inl is ↦ (inl is, ap p is ∙ passes)
-          | inr more ↦ (let rest = in_filter p ys x more in (inr rest.0, rest.1))
-        ])
-        | inr fails ↦ (let rest = in_filter p ys x (rw fails at there) in (inr rest.0, rest.1))
-      ]
-
-  pub in_push : (xs : List X) (new x : X) → In x (xs ++ new ∷ []) → (x ≡ new) ⊎ In x xs
-  in_push [] new x (inl is) = inl is
-  in_push [] new x (inr more) = absurd more
-  in_push (y ∷ ys) new x (inl is) = inr (inl is)
-  in_push (y ∷ ys) new x (inr more) = elim (in_push ys new x more) [ inl is ↦ inl is | inr there ↦ inr (inr there) ]
-
-  pub in_map : (f : X → X) (xs : List X) (x : X) → In x (map f xs) → (y : X) × In y xs × (x ≡ f y)
-  in_map f [] x there = absurd there
-  in_map f (y ∷ ys) x (inl is) = (y, inl refl, is)
-  in_map f (y ∷ ys) x (inr more) = let rest = in_map f ys x more in (rest.0, inr rest.1, rest.2)
-
-  pub find_in : (p : X → Bool) (xs : List X) (x : X) → find p xs ≡ Some x → In x xs × (p x ≡ true)
-  find_in p [] x e = absurd cc
-  find_in p (y ∷ ys) x e =
-      elim (cases_Bool (p y)) [
-        | inl passes ↦ (let h : Some y ≡ Some x = rw passes at e in let same : y ≡ x = cc in (inl (sym same), ap p (sym same) ∙ passes))
-        | inr fails ↦ (let rest = find_in p ys x (rw fails at e) in (inr rest.0, rest.1))
-      ]
-
-  pub none_in : (p : X → Bool) (xs : List X) (x : X) → find p xs ≡ None → In x xs → p x ≡ false
-  none_in p [] x e there = absurd there
-  none_in p (y ∷ ys) x e there =
-      elim (cases_Bool (p y)) [
-        | inl passes ↦ absurd (let h : Some y ≡ None = rw passes at e in cc)
-        | inr fails ↦ elim there [ inl is ↦ ap p is ∙ fails | inr more ↦ none_in p ys x (rw fails at e) more ]
-      ]
-
-  pub find_none : (p : X → Bool) (xs : List X) → ((x : X) → In x xs → p x ≡ false) → find p xs ≡ None
-  find_none p [] fails = refl
-  find_none p (x ∷ xs) fails = rw (fails x (inl refl)) (find_none p xs (λ y there. fails y (inr there)))
-
-  pub in_at : (xs : List X) (i : ℕ) (d : X) → i < length xs → In (get_or xs i d) xs
-  in_at [] i d within = absurd (omega arith)
-  in_at (x ∷ xs) zero d within = inl refl
-  in_at (x ∷ xs) (suc i) d within = inr (in_at xs i d (omega arith))
-
-  pub some_or_none : (o : Option X) → ((x : X) × (o ≡ Some x)) ⊎ (o ≡ None)
-  some_or_none None = inr refl
-  some_or_none (Some x) = inl (x, refl)
-
-  -- a filter by what agrees on each record
-  pub filter_in : (p q : X → Bool) (xs : List X) → ((x : X) → In x xs → p x ≡ q x) → filter p xs ≡ filter q xs
-  filter_in p q [] same = refl
-  filter_in p q (x ∷ xs) same =
-      let rest = filter_in p q xs (λ y there. same y (inr there)) in
-      elim (cases_Bool (q x)) [
-        | inl stays ↦ rw (same x (inl refl) ∙ stays, stays) (ap (λ (ys : List X). x ∷ ys) rest)
-        | inr goes ↦ rw (same x (inl refl) ∙ goes, goes) rest
-      ]
-
-  pub filter_all : (p : X → Bool) (xs : List X) → ((x : X) → In x xs → p x ≡ true) → filter p xs ≡ xs
-  filter_all p [] all = refl
-  filter_all p (x ∷ xs) all = rw (all x (inl refl)) (ap (λ (ys : List X). x ∷ ys) (filter_all p xs (λ y there. all y (inr there))))
-
-  -- Lengths.
-
-  pub length_filter : (p : X → Bool) (xs : List X) → length (filter p xs) ≤ length xs
-  length_filter p [] = omega arith
-  length_filter p (x ∷ xs) = let rest = length_filter p xs in
-      elim (cases_Bool (p x)) [ inl passes ↦ rw passes (omega arith) | inr fails ↦ rw fails (omega arith) ]
-
-  -- where something passes, what does not is less
-  pub length_left : (p : X → Bool) (xs : List X) → is_some (find p xs) ≡ true → length (filter (λ x. not (p x)) xs) < length xs
-  length_left p [] e = absurd cc
-  length_left p (x ∷ xs) e =
-      elim (cases_Bool (p x)) [
-        | inl passes ↦ (let le = length_filter (λ x. not (p x)) xs in rw passes (omega arith))
-        | inr fails ↦ (let rest = length_left p xs (rw fails at e) in rw fails (omega arith))
-      ]
-
-  pub map_same : (f : X → X) → ((x : X) → f x ≡ x) → (xs : List X) → map f xs ≡ xs
-  map_same f same [] = refl
-  map_same f same (x ∷ xs) = rw (same x) (ap (λ (rest : List X). x ∷ rest) (map_same f same xs))
-
-  -- The place of what is found.
-
-  -- what stands at the place of the first that passes is what is found
-  pub position_finds : (p : X → Bool) (xs : List X) (i : ℕ) (d : X) → position p xs ≡ Some i → find p xs ≡ Some (get_or xs i d)
-  position_finds p xs i d e =
-      let first = position-Some p xs i d e in
-      let place = cond_some (nat_lt (position_or_len p xs) (length xs)) (position_or_len p xs) i e in
-      find_at p xs ∙ (ap (slice_get xs) place.1 ∙ slice_get-get_or xs i d first.0)
-
-  -- what is found stands at a place
-  pub place_of : (p : X → Bool) (xs : List X) (x : X) → find p xs ≡ Some x → (i : ℕ) × (position p xs ≡ Some i) × (x ≡ get_or xs i x)
-  place_of p xs x e =
-      let place = position_or_len p xs in
-      let there : slice_get xs place ≡ Some x = sym (find_at p xs) ∙ e in
-      let test : nat_lt place (length xs) ≡ true = lt-ltb place (length xs) (slice_get_within xs place x there) in
-      (place, ap (λ (b : Bool). cond b (Some place) None) test, sym (get_or_from_slice_get xs place x x there))
-
-  pub position_nowhere : (p : X → Bool) (xs : List X) → position p xs ≡ None → find p xs ≡ None
-  position_nowhere p xs e =
-      elim (some_or_none (find p xs)) [
-        | inl found ↦ (let (i, at, read) = place_of p xs found.0 found.1 in absurd (none-some i (sym e ∙ at)))
-        | inr nowhere ↦ nowhere
-      ]
+use Rattle.nfs_xdr.proofs.Lists.{in_filter, in_map, find_in, none_in, find_none, in_at, some_or_none, position_nowhere}
 
 module _ {X : Type 0} (number : X → ℕ) where
   -- The order.
@@ -139,6 +27,10 @@ module _ {X : Type 0} (number : X → ℕ) where
   pub IsRising-from : (less low high : ℕ) (xs : List X) → less ≤ low → IsRising number low xs high → IsRising number less xs high
   IsRising-from less low high [] le r = omega arith
   IsRising-from less low high (x ∷ xs) le r = (omega arith, r.1)
+
+  pub IsRising-upto : (low high more : ℕ) (xs : List X) → high ≤ more → IsRising number low xs high → IsRising number low xs more
+  IsRising-upto low high more [] le r = omega arith
+  IsRising-upto low high more (x ∷ xs) le r = (r.0, IsRising-upto (suc (number x)) high more xs le r.1)
 
   pub IsRising-push : (low high more : ℕ) (xs : List X) (x : X) → number x ≡ high → more ≡ high + 1 → IsRising number low xs high
       → IsRising number low (xs ++ x ∷ []) more
@@ -353,6 +245,11 @@ module _ {X : Type 0} (number : X → ℕ) where
       let first = position-Some (λ (x : X). number x == n) xs i x at in
       one_changed n (λ x. number x == n) f (λ x e. eqb-true (number x) n e) low high xs i x
       (slice_get-get_or xs i x first.0 ∙ ap (λ (y : X). Some y) (sym is)) (ap (λ (y : X). number y == n) is ∙ first.1) r
+
+  -- the same, where what is written was made of what stood there
+  pub written_as : (low high n : ℕ) (f : X → X) (xs : List X) (i : ℕ) (x y : X) → IsRising number low xs high → position (λ x. number x == n) xs ≡ Some i
+      → x ≡ get_or xs i x → y ≡ f (get_or xs i x) → set xs i y ≡ with_record number xs n f
+  written_as low high n f xs i x y r at is made = ap (set xs i) (made ∙ ap f (sym is)) ∙ written low high n f xs i x r at is
 
   pub unwritten : (n : ℕ) (f : X → X) (xs : List X) → position (λ x. number x == n) xs ≡ None → with_record number xs n f ≡ xs
   unwritten n f xs nowhere_it = with_none f n xs (position_nowhere (λ x. number x == n) xs nowhere_it)

@@ -1,6 +1,6 @@
 -- Laws of the words that unions, enums and arrays of the protocol are put together from.
-use Rattle.std.proofs.Common.{◌≡◌, ◌≢◌, ℕ, ℤ, zero, suc, ◌+◌, ◌-◌, ◌^◌, ◌<◌, ◌≤◌, Bool, true, false, cond, eqb, List, [], ◌∷◌, ◌++◌, length, take, Option, Some}
-use Rattle.std.proofs.Common.{None, refl, sym, ap, subst, ◌∙◌, append_assoc, arith, inl, inr}
+use Rattle.std.proofs.Common.{◌≡◌, ◌≢◌, ℕ, ℤ, suc, ◌+◌, ◌-◌, ◌^◌, ◌<◌, ◌≤◌, eqb, List, [], ◌∷◌, ◌++◌, length, take, Option, Some}
+use Rattle.std.proofs.Common.{None, refl, sym, ap, ◌∙◌, arith, inl, inr}
 use Rattle.std.specs.Int.{w64, cast_signed, cast_unsigned}
 use Rattle.std.specs.Int.RustNames.{FitsSigned}
 use Rattle.std.specs.List.{AllByRecursion}
@@ -11,8 +11,8 @@ use Rattle.std.proofs.Math.Facts.{sfits_to_z, Fits-of_z}
 use Rattle.std.proofs.lemmas.List.{take_at, length-append}
 use Rattle.nfs_xdr.specs.Spelling as spelling
 use Rattle.nfs_xdr.specs.Reading.{◌>>=◌, number_at, hyper_at}
-use Rattle.nfs_xdr.specs.Codec.{Codec, IsCodec, IsBytes, signed, listed_at, listed, IsListing, at_most, raw, raw_at, passed, many_at, choose_or, union_or}
-use Rattle.nfs_xdr.specs.Codec.{union_by, number}
+use Rattle.nfs_xdr.specs.Codec.{Codec, IsCodec, IsBytes, signed, listed_at, listed, IsListing, at_most, raw, passed, many_at, choose_or, union_or}
+use Rattle.nfs_xdr.specs.Codec.{union_by}
 use Rattle.nfs_xdr.proofs.CodecLaws.{bind_some, taken_at, chosen, IsArm, is_number, is_hyper, is_only, is_then, is_as_type}
 use Rattle.nfs_xdr.specs.Time.{time}
 

@@ -9,3 +9,4 @@ pub mod Tables
 pub mod Checks
 pub mod Status
 pub mod Caller
+pub mod Limits

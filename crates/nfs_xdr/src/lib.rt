@@ -3,7 +3,7 @@
 //!
 //! The spelling of each item is defined in `specs/Spelling.antt`; `specs/Codec.antt` puts items together into the
 //! formats of the protocol, each described once for reading and writing. The small definitions that every other
-//! crate cites stand here too: tables in rising order, checks in the order written, status numbers, the caller.
+//! crate cites stand here too: tables in rising order, checks in the order written, status numbers, the caller, the limits.
 //!
 //! ```text
 //! let mut cursor = Cursor::new(bytes);
@@ -14,6 +14,7 @@
 
 mod cursor;
 pub mod laws;
+mod limits;
 mod sheet;
 mod status;
 #[cfg(test)]
@@ -22,6 +23,7 @@ mod time;
 mod who;
 
 pub use cursor::{Cursor, Unreadable};
+pub use limits::{FHSIZE, MAX_GROUPS, MAX_MACHINE_NAME, MAX_RECORD, MAX_TRANSFER, OPAQUE_LIMIT};
 pub use sheet::Sheet;
 pub use status::Status;
 pub use time::Time;

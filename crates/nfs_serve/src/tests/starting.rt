@@ -2,12 +2,12 @@
 
 use super::SETTINGS;
 use crate::Server;
-use nfs_testing::{MOST, starve};
+use nfs_testing::{MAX_BLOCKS, starve};
 use std::test::Fail;
 
 #[test]
 fn a_server_without_memory_cannot_start(rt: HostRuntime) -> Result<(), Fail> {
-    let mut taken = Vec::with_capacity(rt.alloc(), MOST)?;
+    let mut taken = Vec::with_capacity(rt.alloc(), MAX_BLOCKS)?;
     starve(rt.alloc(), &mut taken);
     let started = Server::new(rt.alloc(), SETTINGS, 7).is_ok();
     taken.clear();

@@ -15,7 +15,7 @@ use Rattle.nfs_names.specs.Checks.{current}
 use Rattle.nfs_names.specs.Create.{change_info}
 use Rattle.nfs_names.specs.Faults.{status_of}
 use Rattle.nfs_names.specs.Remove.{place_checks, row_checks, removed, remove}
-use Rattle.nfs_names.proofs.Rows.{none_filtered}
+use Rattle.nfs_xdr.proofs.Lists.{none_left}
 use Rattle.nfs_names.proofs.Changing.{remove_goes, remove_stops}
 use Rattle.nfs_names.proofs.Faulted.{did_ok, does_err, by_error}
 use Rattle.nfs_names.proofs.making.remove.Goals as goal
@@ -30,7 +30,7 @@ drop_empty-requires c unused =
     (without_name t d name c.args.now) c.remove.new.self c.in-Ok-remove.ensures.answer c.in-Ok-remove.ensures.after in
     let empty = (remove_granted t d name did.0).1 in
     let gone : has_entries (without_name t d name c.args.now).rows n ≡ false =
-    none_filtered (λ (r : Row). r.directory == n) (λ r. not (is_entry d name r)) t.rows empty in
+    none_left (λ (r : Row). r.directory == n) (λ r. not (is_entry d name r)) t.rows empty in
     ap (λ (u : Files). has_entries u.rows c.in-Ok-remove.removed.number) did.2
     ∙ ap (λ (k : Removed). has_entries (without_name t d name c.args.now).rows k.number) did.1 ∙ gone
 

@@ -1,10 +1,9 @@
 use Rattle.std.proofs.Common.{◌≡◌, Some, None, sym, ◌∙◌, ap, subst}
 use Rattle.std.specs.Prelude.{◌==◌, position}
 use Rattle.nfs_opens.specs.declared.records.OpenState.{OpenState}
-use Rattle.nfs_opens.specs.Opening.{asked, joins, narrows}
-use Rattle.nfs_opens.specs.Locking.{raised}
+use Rattle.nfs_opens.specs.Opening.{narrows}
 use Rattle.nfs_opens.specs.Table.{Rises}
-use Rattle.nfs_opens.proofs.Numbered.{written_as, unchanged}
+use Rattle.nfs_xdr.proofs.Tables.{written_as, unwritten}
 use Rattle.nfs_opens.proofs.records.narrow_open.Goals as goal
 
 pub place_of_open-requires : goal.place_of_open-requires
@@ -14,12 +13,12 @@ pub returns-in-Some-clause-items : goal.returns-in-Some-clause-items
 returns-in-Some-clause-items c =
     let place : position (λ (o : OpenState). o.number == c.args.number) c.args.opens.now.items ≡ Some c.in-Some.place =
     ap (position (λ (o : OpenState). o.number == c.args.number)) (sym c.deref.ensures.value) ∙ (sym c.place_of_open.ensures ∙ c.in-Some.is) in
-    written_as (λ (o : OpenState). o.number) (narrows c.args.access c.args.deny) c.args.number 1 c.args.opens.now.items c.in-Some.place
-    c.index_mut.result.now c.narrow.new.self c.requires
+    written_as (λ (o : OpenState). o.number) 1 c.requires.0 c.args.number (narrows c.args.access c.args.deny) c.args.opens.now.items c.in-Some.place
+    c.index_mut.result.now c.narrow.new.self c.requires.1
     place c.index_mut.ensures.value (c.narrow.ensures ∙ ap (narrows c.args.access c.args.deny) c.index_mut.ensures.value)
 
 pub returns-in_default-clause-items : goal.returns-in_default-clause-items
 returns-in_default-clause-items c =
     let gone : position (λ (o : OpenState). o.number == c.args.number) c.args.opens.now.items ≡ None =
     ap (position (λ (o : OpenState). o.number == c.args.number)) (sym c.deref.ensures.value) ∙ (sym c.place_of_open.ensures ∙ c.in_default.is) in
-    sym (unchanged (λ (o : OpenState). o.number == c.args.number) (narrows c.args.access c.args.deny) c.args.opens.now.items gone)
+    sym (unwritten (λ (o : OpenState). o.number) c.args.number (narrows c.args.access c.args.deny) c.args.opens.now.items gone)

@@ -1,7 +1,6 @@
 use Rattle.std.proofs.Common.{◌∙◌, ap, sym, slice_set}
 use Rattle.std.proofs.lemmas.Result.{on_ok_weaker}
 use Rattle.nfs_tree.specs.declared.stored.Stored.{Stored}
-use Rattle.nfs_tree.specs.Object.{no_sets}
 use Rattle.nfs_tree.specs.Files.{root}
 use Rattle.nfs_tree.specs.Bytes.{with_bytes, resized}
 use Rattle.nfs_tree.proofs.Places.{place_is, written_at, left_alone}

@@ -5,14 +5,14 @@ use Rattle.nfs_compound.proofs.Walk.{at_other, at_minor_one, request_from}
 use Rattle.nfs_compound.proofs.RequestLaws.{tag_bound}
 use Rattle.nfs_compound.proofs.compound.Compound.read.Goals as goal
 
-pub returns-then-minor-ne1 : goal.returns-then-minor-ne1
+pub returns-then-minor-ne-MINOR_VERSION : goal.returns-then-minor-ne-MINOR_VERSION
 unfolding items_left
-returns-then-minor-ne1 c = request_from _ _ _ _ _ _ _ _ _ c.new-cursor.ensures c.in_ok-tag.ensures.exact
-    c.in_ok-minor.ensures.exact c.in_ok-declared.ensures.exact (at_other _ _ c.if-minor-ne1.true)
+returns-then-minor-ne-MINOR_VERSION c = request_from _ _ _ _ _ _ _ _ _ c.new-cursor.ensures c.in_ok-tag.ensures.exact
+    c.in_ok-minor.ensures.exact c.in_ok-declared.ensures.exact (at_other _ _ c.if-minor-ne-MINOR_VERSION.true)
 
 pub returns : goal.returns
 returns c = request_from _ _ _ _ _ _ _ _ _ c.new-cursor.ensures c.in_ok-tag.ensures.exact c.in_ok-minor.ensures.exact c.in_ok-declared.ensures.exact
-    (at_minor_one _ _ _ c.if-minor-ne1.false
+    (at_minor_one _ _ _ c.if-minor-ne-MINOR_VERSION.false
     (ap (λ bytes. is_some (items_at c.in_ok-declared.declared bytes)) (sym c.rest.ensures) ∙ sym c.is_readable.ensures ∙ c.if-not-is_readable.false))
 
 pub invariant_of-result : goal.invariant_of-result

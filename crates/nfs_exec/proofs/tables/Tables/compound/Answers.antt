@@ -22,11 +22,11 @@ write_compound_head-requires-in_default-clause-room c = any_head_fits c.args.out
 
 pub in_session-requires-clause-bears : goal.in_session-requires-clause-bears
 in_session-requires-clause-bears c = λ i there. opened_all c.args.args.now c.requires.opened
-    (sym c.minor.ensures ∙ c.if-minor-ne1.false) i (subst (λ (xs : List Item). In i xs) (sym c.in-Some.ensures.item) (inr there))
+    (sym c.minor.ensures ∙ c.if-minor-ne-MINOR_VERSION.false) i (subst (λ (xs : List Item). In i xs) (sym c.in-Some.ensures.item) (inr there))
 
 pub in_session-requires-clause-few : goal.in_session-requires-clause-few
 in_session-requires-clause-few c =
-    let few = opened_few c.args.args.now c.requires.opened (sym c.minor.ensures ∙ c.if-minor-ne1.false) in
+    let few = opened_few c.args.args.now c.requires.opened (sym c.minor.ensures ∙ c.if-minor-ne-MINOR_VERSION.false) in
     let long = ap (λ (xs : List Item). length xs) c.in-Some.ensures.item in
     let same = ap (λ (r : Request). r.declared) c.in-Some.ensures.head in
     omega (arith, few, long, same)
@@ -37,7 +37,7 @@ put-head-requires c = record { tag = c.tag-tag.ensures.bound; room = head_fits c
 pub alone-status-requires : goal.alone-status-requires
 alone-status-requires c = record {
   bears = opened_bears c.args.args.now (item c.in-Some.arg) c.next.new.self.left c.requires.opened
-      (sym c.minor.ensures ∙ c.if-minor-ne1.false) c.in-Some.ensures.item;
+      (sym c.minor.ensures ∙ c.if-minor-ne-MINOR_VERSION.false) c.in-Some.ensures.item;
   machine = c.requires.kept.machine;
   store = c.requires.kept.store;
   latest = c.requires.latest;
@@ -56,7 +56,7 @@ returns-in-Sequence c = record {
     c.in_session.ensures.answer.0,
     for_sequence (machine_of c.args.self.now) c.args.args.now c.next.new.self (caller c.args.who.now) c.args.size c.args.now
         c.in_session.ensures.answer.0 c.in-Sequence.asked c.args.out.now c.in_session.new.out (machine_of c.in_session.new.self)
-        (sym c.minor.ensures ∙ c.if-minor-ne1.false) (c.in-Some.ensures.item ∙ ap (λ a. item a ∷ c.next.new.self.left) c.in-Sequence.is)
+        (sym c.minor.ensures ∙ c.if-minor-ne-MINOR_VERSION.false) (c.in-Some.ensures.item ∙ ap (λ a. item a ∷ c.next.new.self.left) c.in-Sequence.is)
         c.in-Some.ensures.head c.in_session.ensures.answer.1,
   );
   store = c.in_session.ensures.store;
@@ -69,7 +69,7 @@ returns-in_default-arg c = record {
       c.in-Some.arg c.next.new.self.left c.alone-status.result c.put-head.result.status_at c.put-head.result.count_at
       c.tag-tag.result.now
       c.args.out.now c.put-head.new.out c.alone-status.new.out c.close.new.out (machine_of c.alone-status.new.self)
-      (sym c.minor.ensures ∙ c.if-minor-ne1.false) c.in-Some.ensures.item c.in_default-arg.not-Sequence
+      (sym c.minor.ensures ∙ c.if-minor-ne-MINOR_VERSION.false) c.in-Some.ensures.item c.in_default-arg.not-Sequence
       (c.declared.ensures ∙ ap (λ (r : Request). r.declared) c.in-Some.ensures.head) c.tag-tag.ensures.value
       c.put-head.ensures.places c.put-head.ensures.puts c.alone-status.ensures c.close.ensures;
   store =

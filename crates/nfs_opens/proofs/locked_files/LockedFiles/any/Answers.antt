@@ -1,11 +1,10 @@
-use Rattle.std.proofs.Common.{◌≡◌, sym, ◌∙◌, ap, subst, Some, None, set, List, refl}
+use Rattle.std.proofs.Common.{◌≡◌, sym, ◌∙◌, ap, Some, None, List}
 use Rattle.std.specs.Prelude.{◌==◌, position}
-use Rattle.nfs_ranges.specs.Holders.{Holders, holding, cleared, dropped, holds_any, nobody}
-use Rattle.nfs_ranges.specs.Told.{Tells}
+use Rattle.nfs_ranges.specs.Holders.{Holders, holds_any}
 use Rattle.nfs_opens.specs.declared.locked_files.LockedFile.{LockedFile}
-use Rattle.nfs_opens.specs.Holding.{held_by, on_file}
-use Rattle.nfs_opens.proofs.FileLemmas.{held_at, held_nowhere, held_written, held_pushed, held_filtered, on_file_same, nobody_cleared, nobody_dropped}
-use Rattle.nfs_opens.proofs.FileLemmas.{nobody_holds, nobody_clashes}
+use Rattle.nfs_opens.specs.Holding.{held_by}
+use Rattle.nfs_opens.proofs.FileLemmas.{held_at, held_nowhere}
+use Rattle.nfs_opens.proofs.FileLemmas.{nobody_holds}
 use Rattle.nfs_opens.proofs.locked_files.LockedFiles.any.Goals as goal
 
 pub returns-in-Some : goal.returns-in-Some

@@ -1,12 +1,10 @@
-use Rattle.std.proofs.Common.{◌≡◌, sym, ◌∙◌, ap, subst, Some, None, set, List, refl}
+use Rattle.std.proofs.Common.{◌≡◌, sym, ◌∙◌, ap, Some, None, List, refl}
 use Rattle.std.specs.Prelude.{◌==◌, position}
 use Rattle.std.proofs.lemmas.Result.{on_ok_weaker}
-use Rattle.nfs_ranges.specs.Holders.{Holders, holding, cleared, dropped, holds_any, nobody}
-use Rattle.nfs_ranges.specs.Told.{Tells}
+use Rattle.nfs_ranges.specs.Holders.{Holders, cleared}
 use Rattle.nfs_opens.specs.declared.locked_files.LockedFile.{LockedFile}
 use Rattle.nfs_opens.specs.Holding.{held_by, on_file}
-use Rattle.nfs_opens.proofs.FileLemmas.{held_at, held_nowhere, held_written, held_pushed, held_filtered, on_file_same, nobody_cleared, nobody_dropped}
-use Rattle.nfs_opens.proofs.FileLemmas.{nobody_holds, nobody_clashes}
+use Rattle.nfs_opens.proofs.FileLemmas.{held_nowhere, held_written, on_file_same, nobody_cleared}
 use Rattle.nfs_opens.proofs.locked_files.LockedFiles.clear.Goals as goal
 
 pub returns-in-Some-clause-ok : goal.returns-in-Some-clause-ok

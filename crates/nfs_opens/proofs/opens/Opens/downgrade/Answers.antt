@@ -10,7 +10,6 @@ use Rattle.nfs_opens.specs.Holding.{held_by}
 use Rattle.nfs_opens.specs.StateId.{next_seqid}
 use Rattle.nfs_opens.specs.Table.{Kept, Did, with_open, Rises, IsTable, table, open_at}
 use Rattle.nfs_opens.specs.Opening.{downgrade, downgrade_by, narrow_open, narrows}
-use Rattle.nfs_opens.proofs.Numbered.{rises}
 use Rattle.nfs_opens.proofs.LockLemmas.{same_table, as_many}
 use Rattle.nfs_opens.proofs.StepLemmas.{narrow_done, narrow_refused, table_narrow}
 use Rattle.nfs_opens.proofs.opens.Opens.downgrade.Goals as goal
@@ -18,7 +17,7 @@ use Rattle.nfs_opens.proofs.opens.Opens.downgrade.Goals.{After-open_in, After-is
 
 pub open_in-requires : goal.open_in-requires
 open_in-requires c = subst (Rises (λ (o : OpenState). o.number) 1) (sym c.deref.ensures.value)
-    (rises (λ (o : OpenState). o.number) 1 _ c.self.inside.opens.items c.self.invariant.table.opens)
+    (_, c.self.invariant.table.opens)
 
 -- what is found under the number
 found : (c : After-open_in) (o : Option OpenState) → option_copied c.open_in.result ≡ o → open_at (table (the_view c.self.inside)) c.args.id.number ≡ o
@@ -64,7 +63,7 @@ returns-in-Some-clause-after c =
     ap table (sym c.self.view_is) ∙ sym (ap (λ (d : Did StateId Status). d.after) (is ∙ refused at.After-is_narrower c.if-not-is_narrower.true))
 
 pub narrow_open-requires : goal.narrow_open-requires
-narrow_open-requires c = rises (λ (o : OpenState). o.number) 1 _ c.self.inside.opens.items c.self.invariant.table.opens
+narrow_open-requires c = (_, c.self.invariant.table.opens)
 
 pub invariant_of-self : goal.invariant_of-self
 invariant_of-self c =

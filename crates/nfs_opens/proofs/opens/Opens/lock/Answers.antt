@@ -1,28 +1,15 @@
-use Rattle.std.proofs.Common.{◌≡◌, Some, None, ℕ, ◌+◌, ◌<◌, ◌++◌, ◌∷◌, [], List, length, sym, subst, ap, ◌∙◌, arith, refl, eqb, false, true}
-use Rattle.std.specs.Prelude.{◌==◌, ◌^◌, Result, Ok, Err, find, not, if◌then◌else◌, map, IfSome, IsSomeAnd}
-use Rattle.std.specs.List.{list_any}
+use Rattle.std.proofs.Common.{◌≡◌, Some, sym, ap, ◌∙◌}
+use Rattle.std.specs.Prelude.{find}
 use Rattle.std.specs.Option.{option_copied}
-use Rattle.std.proofs.lemmas.Grind.{common_steps}
-use Rattle.std.proofs.lemmas.Bool.{ne_eqb, eqb-true, and_parts}
-use Rattle.nfs_xdr.specs.declared.status.Status.{Status}
+use Rattle.std.proofs.lemmas.Bool.{eqb-true, and_parts}
 use Rattle.nfs_opens.specs.contracts.opens.Opens.{the_view}
-use Rattle.nfs_opens.specs.declared.stateid.StateId.{StateId}
-use Rattle.nfs_opens.specs.declared.locking.OpenFault.{OpenFault}
-use Rattle.nfs_opens.specs.declared.records.OpenState.{OpenState}
 use Rattle.nfs_opens.specs.declared.records.LockState.{LockState}
-use Rattle.nfs_opens.specs.Holding.{held_by, on_file}
-use Rattle.nfs_opens.specs.StateId.{next_seqid, last_number}
-use Rattle.nfs_opens.specs.Table.{Kept, Table, Did, Rises, IsTable, table, lock_at, open_at, is_own, clashes_with}
-use Rattle.nfs_opens.specs.Judging.{judge}
-use Rattle.nfs_opens.specs.declared.judging.Sort.TheVariants.{OpenOnly, LockOnly}
-use Rattle.nfs_opens.specs.Opening.{asked, own_open, new_open, joins, downgrade, downgrade_by, narrow_open, narrows, is_narrower}
-use Rattle.nfs_opens.specs.Locking.{lock_judged, lock_first, is_locker, state_of}
-use Rattle.nfs_opens.proofs.Numbered.{rises}
-use Rattle.nfs_opens.proofs.Members.{find_number, find_in, in_one}
-use Rattle.nfs_opens.proofs.LockLemmas.{same_table, as_many, judged_open, judged_lock}
-use Rattle.nfs_opens.proofs.TableLemmas.{table_opened}
-use Rattle.nfs_opens.proofs.StepLemmas.{all_some, if_some, judged_tells, first_state, table_first, lock_first_is, narrow_done, narrow_refused, table_narrow}
-use Rattle.nfs_opens.proofs.StepLemmas.{table_join, no_clash_asked}
+use Rattle.nfs_opens.specs.Table.{Kept, table, lock_at}
+use Rattle.nfs_opens.specs.Locking.{is_locker, state_of}
+use Rattle.nfs_xdr.proofs.Lists.{find_in}
+use Rattle.nfs_xdr.proofs.Tables.{at_of_in}
+use Rattle.nfs_opens.proofs.LockLemmas.{judged_lock}
+use Rattle.nfs_opens.proofs.StepLemmas.{all_some}
 use Rattle.nfs_opens.proofs.opens.Opens.lock.Goals as goal
 
 pub lock_as-requires-clause-file : goal.lock_as-requires-clause-file
@@ -36,7 +23,7 @@ lock_as-requires-clause-file c =
     let of_file : l.file ≡ c.args.wish.now.file = eqb-true _ _ (and_parts _ _ there.1).0 in
     all_some _ l (λ (l : LockState). l.file ≡ c.args.wish.now.file)
     (ap (λ (k : Kept). lock_at (table k) l.number) (sym c.self.view_is)
-    ∙ find_number (λ (l : LockState). l.number) 1 _ t.locks l c.self.invariant.table.locks there.0) of_file
+    ∙ at_of_in (λ (l : LockState). l.number) 1 _ t.locks l c.self.invariant.table.locks there.0) of_file
 
 pub lock_as-requires-in-Known-clause-file : goal.lock_as-requires-in-Known-clause-file
 lock_as-requires-in-Known-clause-file c =

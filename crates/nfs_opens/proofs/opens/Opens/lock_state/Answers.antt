@@ -1,10 +1,8 @@
 use Rattle.std.proofs.Common.{sym, subst}
-use Rattle.nfs_opens.specs.declared.records.OpenState.{OpenState}
 use Rattle.nfs_opens.specs.declared.records.LockState.{LockState}
 use Rattle.nfs_opens.specs.Table.{Rises}
-use Rattle.nfs_opens.proofs.Numbered.{rises}
 use Rattle.nfs_opens.proofs.opens.Opens.lock_state.Goals as goal
 
 pub lock_in-requires : goal.lock_in-requires
 lock_in-requires c = subst (Rises (λ (x : LockState). x.number) 1) (sym c.deref.ensures.value)
-    (rises (λ (x : LockState). x.number) 1 _ c.self.inside.locks.items c.self.invariant.table.locks)
+    (_, c.self.invariant.table.locks)

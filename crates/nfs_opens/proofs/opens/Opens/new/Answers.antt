@@ -1,7 +1,4 @@
-use Rattle.std.proofs.Common.{◌≡◌, false, true, sym, ap, subst, List, []}
 use Rattle.std.proofs.lemmas.Bool.{false≢true}
-use Rattle.nfs_opens.specs.Table.{Table, IsTable, no_opens}
-use Rattle.nfs_opens.specs.Holding.{held_by}
 use Rattle.nfs_opens.proofs.TableLemmas.{table_new}
 use Rattle.nfs_opens.proofs.opens.Opens.new.Goals as goal
 

@@ -1,32 +1,22 @@
-use Rattle.std.proofs.Common.{◌≡◌, Some, None, ℕ, ◌+◌, ◌<◌, ◌++◌, ◌∷◌, [], List, length, sym, subst, ap, ◌∙◌, arith, refl, eqb, false, true}
-use Rattle.std.specs.Prelude.{◌==◌, ◌^◌, Result, Ok, Err, find, not, if◌then◌else◌, map, IfSome, IsSomeAnd}
+use Rattle.std.proofs.Common.{◌≡◌, Some, ◌+◌, ◌++◌, ◌∷◌, [], List, sym, subst, ap, ◌∙◌, arith, refl, false}
+use Rattle.std.specs.Prelude.{◌==◌, find, if◌then◌else◌}
 use Rattle.std.specs.List.{list_any}
 use Rattle.std.specs.Option.{option_copied}
 use Rattle.std.proofs.lemmas.Grind.{common_steps}
-use Rattle.std.proofs.lemmas.Bool.{ne_eqb, eqb-true, and_parts, false≢true}
-use Rattle.nfs_xdr.specs.declared.status.Status.{Status}
+use Rattle.std.proofs.lemmas.Bool.{false≢true}
 use Rattle.nfs_opens.specs.contracts.opens.Opens.{the_view}
-use Rattle.nfs_opens.specs.declared.stateid.StateId.{StateId}
-use Rattle.nfs_opens.specs.declared.locking.OpenFault.{OpenFault}
 use Rattle.nfs_opens.specs.declared.records.OpenState.{OpenState}
-use Rattle.nfs_opens.specs.declared.records.LockState.{LockState}
-use Rattle.nfs_opens.specs.Holding.{held_by, on_file}
-use Rattle.nfs_opens.specs.StateId.{next_seqid, last_number}
-use Rattle.nfs_opens.specs.Table.{Kept, Table, Did, Rises, IsTable, table, lock_at, open_at, is_own, clashes_with}
-use Rattle.nfs_opens.specs.Judging.{judge}
-use Rattle.nfs_opens.specs.declared.judging.Sort.TheVariants.{OpenOnly, LockOnly}
-use Rattle.nfs_opens.specs.Opening.{asked, own_open, new_open, joins, downgrade, downgrade_by, narrow_open, narrows, is_narrower}
-use Rattle.nfs_opens.specs.Locking.{lock_judged, lock_first, is_locker, state_of}
-use Rattle.nfs_opens.proofs.Numbered.{rises}
-use Rattle.nfs_opens.proofs.Members.{find_in, in_one}
-use Rattle.nfs_opens.proofs.LockLemmas.{same_table, as_many, judged_open, judged_lock}
+use Rattle.nfs_opens.specs.Holding.{held_by}
+use Rattle.nfs_opens.specs.Table.{Kept, IsTable, table, is_own, clashes_with}
+use Rattle.nfs_opens.specs.Opening.{asked, own_open, new_open, joins}
+use Rattle.nfs_opens.proofs.LockLemmas.{same_table, as_many}
 use Rattle.nfs_opens.proofs.TableLemmas.{table_opened}
-use Rattle.nfs_opens.proofs.StepLemmas.{if_some, judged_tells, first_state, table_first, lock_first_is, narrow_done, narrow_refused, table_narrow, table_join}
+use Rattle.nfs_opens.proofs.StepLemmas.{table_join}
 use Rattle.nfs_opens.proofs.StepLemmas.{no_clash_asked}
 use Rattle.nfs_opens.proofs.opens.Opens.open.Goals as goal
 
 pub join_open-requires : goal.join_open-requires
-join_open-requires c = rises (λ (o : OpenState). o.number) 1 _ c.self.inside.opens.items c.self.invariant.table.opens
+join_open-requires c = (_, c.self.invariant.table.opens)
 
 pub invariant_of-self : goal.invariant_of-self
 invariant_of-self c =

@@ -1,9 +1,9 @@
-use Rattle.std.proofs.Common.{◌≡◌, sym, subst, ap, ◌∙◌}
+use Rattle.std.proofs.Common.{sym, subst, ap, ◌∙◌}
 use Rattle.std.specs.Prelude.{◌==◌, not}
 use Rattle.nfs_opens.specs.contracts.opens.Opens.{the_view}
 use Rattle.nfs_opens.specs.declared.records.OpenState.{OpenState}
 use Rattle.nfs_opens.specs.Holding.{held_by}
-use Rattle.nfs_opens.specs.Table.{Kept, Table, IsTable, table}
+use Rattle.nfs_opens.specs.Table.{Kept, IsTable, table}
 use Rattle.nfs_opens.specs.Closing.{without_open}
 use Rattle.nfs_opens.proofs.TableLemmas.{table_closed}
 use Rattle.nfs_opens.proofs.LockLemmas.{left_holders, left_held, same_table, fewer_opens}

@@ -1,4 +1,4 @@
-use Rattle.std.proofs.Common.{◌≡◌, ◌∷◌, ◌∙◌, sym, ap, subst, Bool, true, false, List, ℕ, Option, Some}
+use Rattle.std.proofs.Common.{◌∷◌, ◌∙◌, sym, ap, subst, Bool, List, ℕ, Some}
 use Rattle.nfs_xdr.specs.Reading.{flag_at}
 use Rattle.nfs_results.specs.View as view
 use Rattle.nfs_results.specs.Entries.{entries_in, AreEntries}

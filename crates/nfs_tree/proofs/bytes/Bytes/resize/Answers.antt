@@ -1,4 +1,4 @@
-use Rattle.std.proofs.Common.{◌≡◌, ◌-◌, ◌++◌, ◌∙◌, List, ℕ, length, take, ap}
+use Rattle.std.proofs.Common.{◌-◌, ◌++◌, ◌∙◌, List, ℕ, length, take, ap}
 use Rattle.std.proofs.Math.ListN.{replicate}
 use Rattle.nfs_tree.proofs.Written.{resized_of}
 use Rattle.nfs_tree.proofs.bytes.Bytes.resize.Goals as goal

@@ -4,11 +4,11 @@ use Rattle.std.proofs.lemmas.Grind.{common_steps}
 use Rattle.nfs_tree.specs.declared.stored.Stored.{Stored}
 use Rattle.nfs_tree.specs.Object.{no_sets}
 use Rattle.nfs_tree.specs.Files.{Files, root, CanChange}
-use Rattle.nfs_tree.specs.Bytes.{with_bytes, written, resized, with_written, with_resized}
+use Rattle.nfs_tree.specs.Bytes.{with_bytes, written, with_written}
 use Rattle.nfs_tree.specs.Kept.{IsTree}
 use Rattle.nfs_tree.proofs.Objects.{can_change_all}
 use Rattle.nfs_tree.proofs.Trees.{tree_of}
-use Rattle.nfs_tree.proofs.Sized.{write_granted, tree_written, resize_granted, tree_resized, by_result}
+use Rattle.nfs_tree.proofs.Sized.{write_granted, tree_written, by_result}
 use Rattle.nfs_tree.proofs.tree.Tree.put_bytes.Goals as goal
 
 pub write_in-requires-clause-change : goal.write_in-requires-clause-change

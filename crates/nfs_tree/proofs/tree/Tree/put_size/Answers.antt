@@ -2,13 +2,12 @@ use Rattle.std.proofs.Common.{◌≡◌, ◌+◌, ◌∙◌, List, map, ap, sym,
 use Rattle.std.specs.Prelude.{◌==◌, if◌then◌else◌, OnOk, OnErr}
 use Rattle.std.proofs.lemmas.Grind.{common_steps}
 use Rattle.nfs_tree.specs.declared.stored.Stored.{Stored}
-use Rattle.nfs_tree.specs.Object.{no_sets}
 use Rattle.nfs_tree.specs.Files.{Files, root, CanChange}
-use Rattle.nfs_tree.specs.Bytes.{with_bytes, written, resized, with_written, with_resized}
+use Rattle.nfs_tree.specs.Bytes.{with_bytes, resized, with_resized}
 use Rattle.nfs_tree.specs.Kept.{IsTree}
 use Rattle.nfs_tree.proofs.Objects.{can_change_all}
 use Rattle.nfs_tree.proofs.Trees.{tree_of}
-use Rattle.nfs_tree.proofs.Sized.{write_granted, tree_written, resize_granted, tree_resized, by_result}
+use Rattle.nfs_tree.proofs.Sized.{resize_granted, tree_resized, by_result}
 use Rattle.nfs_tree.proofs.tree.Tree.put_size.Goals as goal
 
 pub resize_in-requires-clause-change : goal.resize_in-requires-clause-change
