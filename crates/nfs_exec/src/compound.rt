@@ -8,6 +8,7 @@ ghost use Rattle.nfs_compound.specs.Operation.{Item};
 ghost use Rattle.nfs_compound.specs.View.{item};
 ghost use Rattle.nfs_lease.specs.Renewals.{IsLatest};
 ghost use Rattle.nfs_sessions.specs.Channel.{IsGranted};
+ghost use Rattle.nfs_sessions.specs.SessionSlots.{rpc_head};
 ghost use Rattle.nfs_names.specs.State.{IsStore};
 ghost use Rattle.nfs_exec.specs.Machine.{IsMachine, is_delay};
 ghost use Rattle.nfs_exec.specs.Place.{CanBear};
@@ -193,7 +194,7 @@ impl Tables {
         requires room { HasReplyRoom out.old }
         ensures answer { (choice : Option ℕ)
             × Answers (answers args.old (runs_behind (machine_of self.old) args.old (caller who.now) now choice asked.now channel.now args.old.left)) out.old out.new (machine_of self.new) }
-        ensures fits { length out.new.bytes + 24 ≤ length out.old.bytes + channel.now.response }
+        ensures fits { length out.new.bytes + rpc_head ≤ length out.old.bytes + channel.now.response }
         ensures same { args.new ≡ record args.old { left = args.new.left } }
         ensures store { IsStore (machine_of self.new).store }
     {

@@ -7,6 +7,7 @@ ghost use Rattle.nfs_results.specs.Results.{spell_result, refusal, IsBounded};
 ghost use Rattle.nfs_results.specs.View as view;
 ghost use Rattle.nfs_exec.specs.Machine.{comes_to};
 ghost use Rattle.nfs_exec.specs.ReclaimComplete.{reclaim_complete};
+ghost use Rattle.nfs_exec.specs.Run.{reserve};
 ghost use Rattle.nfs_exec.specs.View.{machine_of};
 
 use crate::tables::Tables;
@@ -21,7 +22,7 @@ impl Tables {
     pub fn reclaim_complete(&mut self, context: &Context<'_>, one: bool) -> Res<'static>
         ensures outcome { comes_to (machine_of self.new) (view.res result) ≡ reclaim_complete (machine_of self.old) context.now one }
         ensures bounds { IsBounded (view.res result) }
-        ensures short { length (spell_result (view.res result)) ≤ 12 }
+        ensures short { length (spell_result (view.res result)) ≤ reserve }
         ensures store { self.new.store ≡ self.old.store }
     {
         if one {

@@ -10,10 +10,11 @@ ghost use Rattle.nfs_results.specs.Results.{spell_result, IsBounded};
 ghost use Rattle.nfs_results.specs.View as view;
 ghost use Rattle.nfs_names.specs.State.{moment, IsStore};
 ghost use Rattle.nfs_files.specs.Operation as files;
+ghost use Rattle.nfs_sessions.specs.SessionSlots.{rpc_head};
 ghost use Rattle.nfs_exec.specs.Machine.{comes_to, is_delay};
 ghost use Rattle.nfs_exec.specs.Place.{CanBear, status_behind};
 ghost use Rattle.nfs_exec.specs.Behind.{step, on_store, moves_opens, marked_if, otherwise};
-ghost use Rattle.nfs_exec.specs.Run.{run, in_room};
+ghost use Rattle.nfs_exec.specs.Run.{run, in_room, reserve};
 ghost use Rattle.nfs_exec.specs.View.{machine_of, RunsTo, Steps};
 
 use crate::tables::Tables;
@@ -54,11 +55,11 @@ impl Tables {
         requires moment { now < 2 ^ 63 }
         requires store { IsStore (machine_of self.old).store }
         requires start { start ≤ length out.old.bytes }
-        requires fits { length out.old.bytes + 36 ≤ start + limit }
-        requires room { start + limit ≤ out.old.room + 24 }
+        requires fits { length out.old.bytes + (rpc_head + reserve) ≤ start + limit }
+        requires room { start + limit ≤ out.old.room + rpc_head }
         ensures ran { (choice : Option ℕ)
-            × RunsTo (run limit (24 + (length out.old.bytes - start)) now choice (machine_of self.old) context.old args.old.left) result (machine_of self.new) out.old out.new }
-        ensures fits { length out.new.bytes + 24 ≤ start + limit }
+            × RunsTo (run limit (rpc_head + (length out.old.bytes - start)) now choice (machine_of self.old) context.old args.old.left) result (machine_of self.new) out.old out.new }
+        ensures fits { length out.new.bytes + rpc_head ≤ start + limit }
         ensures same { args.new ≡ record args.old { left = args.new.left } }
         ensures store { IsStore (machine_of self.new).store }
     {
@@ -93,11 +94,11 @@ impl Tables {
         requires bears { CanBear (item arg.now) }
         requires moment { now < 2 ^ 63 }
         requires store { IsStore (machine_of self.old).store }
-        requires reserve { sofar + 12 ≤ limit }
+        requires reserve { sofar + reserve ≤ limit }
         requires room { length out.old.bytes + limit ≤ out.old.room + sofar }
         ensures steps { Steps (in_room limit sofar now (is_delay result) (machine_of self.old) context.old (item arg.now)) result (machine_of self.new) context.new out.old out.new }
         ensures fits { length out.new.bytes + sofar ≤ length out.old.bytes + limit }
-        ensures more { result ≡ Nfs4Ok → length out.new.bytes + sofar + 12 ≤ length out.old.bytes + limit }
+        ensures more { result ≡ Nfs4Ok → length out.new.bytes + sofar + reserve ≤ length out.old.bytes + limit }
         ensures store { IsStore (machine_of self.new).store }
     {
         if largest(arg) > limit - RESERVE - sofar {
@@ -119,9 +120,9 @@ impl Tables {
         requires bears { CanBear (item arg.now) }
         requires moment { now < 2 ^ 63 }
         requires store { IsStore (machine_of self.old).store }
-        requires room { length out.old.bytes + largest (item arg.now) + 12 ≤ out.old.room }
+        requires room { length out.old.bytes + largest (item arg.now) + reserve ≤ out.old.room }
         ensures steps { Steps (step (machine_of self.old) context.old now (is_delay result) (item arg.now)) result (machine_of self.new) context.new out.old out.new }
-        ensures fits { length out.new.bytes ≤ length out.old.bytes + largest (item arg.now) + 12 }
+        ensures fits { length out.new.bytes ≤ length out.old.bytes + largest (item arg.now) + reserve }
         ensures more { result ≡ Nfs4Ok → length out.new.bytes ≤ length out.old.bytes + largest (item arg.now) }
         ensures store { IsStore (machine_of self.new).store }
     {
@@ -167,7 +168,7 @@ impl Tables {
         requires bears { CanBear (item arg.now) }
         ensures outcome { comes_to (machine_of self.new) (view.res result) ≡ (otherwise (machine_of self.old) context.now (item arg.now)).outcome }
         ensures bounds { IsBounded (view.res result) }
-        ensures short { length (spell_result (view.res result)) ≤ 12 }
+        ensures short { length (spell_result (view.res result)) ≤ reserve }
         ensures store { self.new.store ≡ self.old.store }
     {
         match arg {

@@ -2,8 +2,10 @@
 
 ghost use Rattle.std.specs.Prelude.{◌≡◌, ◌≤◌, ◌+◌, List, ℕ, length};
 ghost use Rattle.nfs_xdr.specs.Caller.{caller};
+ghost use Rattle.nfs_xdr.specs.Limits.{most_record};
 ghost use Rattle.nfs_sessions.specs.Channel.{IsGranted};
 ghost use Rattle.nfs_sessions.specs.Id.{id_of};
+ghost use Rattle.nfs_sessions.specs.SessionSlots.{rpc_head};
 ghost use Rattle.nfs_sessions.specs.Sessions.{session_at};
 ghost use Rattle.nfs_sessions.specs.declared.channel.Channel.{Channel as Granted};
 ghost use Rattle.nfs_exec.specs.Sequence.{Repeats, Runs, by_session, slot_fault, fresh_fault, accepted};
@@ -38,7 +40,7 @@ pub fn judge<'a>(
     size: usize,
 ) -> Sequenced<'a>
     ensures verdict { sequenced_of result ≡ by_session args.now (caller who.now) size asked.now (session_at sessions.now (id_of asked.now.sessionid)) }
-    ensures short { (reply : List ℕ) → sequenced_of result ≡ Repeats reply → length reply + 24 ≤ 66560 }
+    ensures short { (reply : List ℕ) → sequenced_of result ≡ Repeats reply → length reply + rpc_head ≤ most_record }
     ensures granted { (c : Granted) → sequenced_of result ≡ Runs c → IsGranted c }
 {
     let id = SessionId::from_bytes(&asked.sessionid);

@@ -8,7 +8,8 @@ use Rattle.nfs_xdr.specs.Spelling.{number}
 use Rattle.nfs_xdr.specs.Codec.{IsBytes}
 use Rattle.nfs_xdr.proofs.Putting.{length_number}
 use Rattle.nfs_xdr.proofs.CodecLaws.{IsBytes-take}
-use Rattle.nfs_rpc.specs.RecordMarking.{Gathered, Begun, Complete, Failed, IsPart, IsRecord, Holds, start, limit, spell_mark, fragments}
+use Rattle.nfs_rpc.specs.RecordMarking.{Gathered, Begun, Complete, Failed, IsPart, IsRecord, Holds, start, spell_mark, fragments}
+use Rattle.nfs_xdr.specs.Limits.{most_record}
 use Rattle.nfs_rpc.specs.Feeding.{waits, done_with, BeginsWith, IsWhole}
 use Rattle.nfs_rpc.proofs.Fragments.{IsBytes-append}
 
@@ -30,7 +31,7 @@ share_taken rest piece i k self new fits fits_piece holds step =
 
 -- a record of one fragment, behind bytes that begin no record
 behind_nothing : (rest bytes record_data : List ℕ) → IsPart rest start → bytes ≡ spell_mark true (length record_data) ++ record_data
-    → length record_data ≤ limit → IsRecord (rest ++ bytes) record_data
+    → length record_data ≤ most_record → IsRecord (rest ++ bytes) record_data
 behind_nothing rest bytes record_data part spelled fits =
     elim part [
       | inl b ↦
@@ -47,7 +48,7 @@ behind_nothing rest bytes record_data part spelled fits =
 -- a mark at the front of the piece, and as many bytes behind it as it says
 pub front_is_whole : (held : Gathered) (piece mark rest : List ℕ) (word : ℕ) → held ≡ Begun start → mark ≡ take 4 piece → rest ≡ drop 4 piece
     → length rest + 4 ≡ length piece → IsBytes piece → word ≡ from_be_bytes w32 mark → word < 2 ^ 32 → 2147483648 ≤ word
-    → word % 2147483648 ≤ length rest → word % 2147483648 ≤ limit → IsWhole held piece (take (word % 2147483648) rest)
+    → word % 2147483648 ≤ length rest → word % 2147483648 ≤ most_record → IsWhole held piece (take (word % 2147483648) rest)
 unfolding number
 front_is_whole held piece mark rest word fresh is_front is_behind whole fits read small last within short =
     let n : ℕ = word % 2147483648 in
@@ -68,7 +69,7 @@ front_is_whole held piece mark rest word fresh is_front is_behind whole fits rea
 -- what the front of a piece says that begins with a record of one fragment
 pub front_says : (piece mark rest record_data : List ℕ) (word : ℕ) → mark ≡ take 4 piece → rest ≡ drop 4 piece → word ≡ from_be_bytes w32 mark
     → BeginsWith piece record_data
-    → (word ≡ 2147483648 + length record_data) × (length record_data ≤ length rest) × (length record_data ≤ limit)
+    → (word ≡ 2147483648 + length record_data) × (length record_data ≤ length rest) × (length record_data ≤ most_record)
 unfolding number
 front_says piece mark rest record_data word is_front is_behind read b =
     let n : ℕ = 2147483648 + length record_data in

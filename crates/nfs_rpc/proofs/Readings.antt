@@ -1,7 +1,8 @@
 -- One stream is read into records in one way.
 use Rattle.std.proofs.Common.{◌≡◌, ℕ, ◌+◌, ◌≤◌, true, List, [], ◌∷◌, ◌++◌, length, refl, sym, ap, subst, ◌∙◌, append_assoc, inl, inr, arith}
 use Rattle.std.proofs.lemmas.List.{length-append}
-use Rattle.nfs_rpc.specs.RecordMarking.{limit, spell_mark, fragments, joined, IsRecord, IsTooLong, Part, IsBetween, IsInside, IsPart}
+use Rattle.nfs_rpc.specs.RecordMarking.{spell_mark, fragments, joined, IsRecord, IsTooLong, Part, IsBetween, IsInside, IsPart}
+use Rattle.nfs_xdr.specs.Limits.{most_record}
 use Rattle.nfs_rpc.specs.Stream.{IsUnfinished, AreRecords, End, Open, TooLong, EndsAs, IsReading}
 use Rattle.nfs_rpc.proofs.Walks.{mark_same, append_same, meet, stops_final, stops_long, stops_cut, stops_begun, cut_is_no_mark}
 
@@ -12,7 +13,7 @@ record_behind front record_data left h =
     ap (λ w. w ++ left) h.stands ∙ append_assoc (fragments h.before) (spell_mark true (length h.final) ++ h.final) left
     ∙ ap (λ w. fragments h.before ++ w) (append_assoc (spell_mark true (length h.final)) h.final left)
 
-record_size : (front record_data : List ℕ) → (h : IsRecord front record_data) → length (joined h.before) + length h.final ≤ limit
+record_size : (front record_data : List ℕ) → (h : IsRecord front record_data) → length (joined h.before) + length h.final ≤ most_record
 record_size front record_data h = omega (arith, h.fits, ap length h.holds, length-append (joined h.before) h.final)
 
 long_behind : (front left : List ℕ) → (h : IsTooLong front) → front ++ left ≡ fragments h.before ++ (spell_mark h.last h.size ++ left)

@@ -7,7 +7,8 @@ use Rattle.std.proofs.lemmas.List.{append-nil, length-append}
 use Rattle.std.proofs.lemmas.Nat.{be_bytes_4}
 use Rattle.nfs_xdr.specs.Spelling.{number}
 use Rattle.nfs_xdr.specs.Codec.{IsBytes}
-use Rattle.nfs_rpc.specs.RecordMarking.{limit, spell_mark, fragments, joined, Part, IsBetween, IsInside, IsPart, Begun, Complete, Failed, Holds}
+use Rattle.nfs_rpc.specs.RecordMarking.{spell_mark, fragments, joined, Part, IsBetween, IsInside, IsPart, Begun, Complete, Failed, Holds}
+use Rattle.nfs_xdr.specs.Limits.{most_record}
 use Rattle.nfs_rpc.specs.Share.{at_mark, with_mark, with_data}
 use Rattle.nfs_rpc.proofs.Fragments.{more_fragments, more_joined, word_mark, further, bytes_behind_front}
 
@@ -71,7 +72,7 @@ data_holds rest p bytes some within h =
     ]
 
 -- a mark that opens a fragment
-open_go : (stream taken : List ℕ) (n : ℕ) (last : Bool) (before : List (List ℕ)) → length (joined before) + n ≤ limit
+open_go : (stream taken : List ℕ) (n : ℕ) (last : Bool) (before : List (List ℕ)) → length (joined before) + n ≤ most_record
     → stream ≡ fragments before ++ spell_mark last n → taken ≡ joined before → (eqb n 0 && last) ≡ false
     → IsPart stream (record { taken = taken; mark = []; lacking = n; last = last })
 open_go stream taken n last before fits at same f =
@@ -103,14 +104,14 @@ open_go stream taken n last before fits at same f =
     ]
 
 -- the word of a whole mark says what comes
-word_go : (stream taken : List ℕ) (word : ℕ) (before : List (List ℕ)) → length (joined before) ≤ limit
+word_go : (stream taken : List ℕ) (word : ℕ) (before : List (List ℕ)) → length (joined before) ≤ most_record
     → stream ≡ fragments before ++ number word → word < 2 ^ 32 → taken ≡ joined before → Holds stream (at_mark taken word)
 unfolding at_mark
 word_go stream taken word before fits at small same =
     let n : ℕ = word % 2147483648 in
     let last : Bool = leb 2147483648 word in
     let marked : stream ≡ fragments before ++ spell_mark last n = at ∙ ap (λ w. fragments before ++ w) (sym (word_mark word small)) in
-    cond_both (ltb limit (length taken + n)) Failed
+    cond_both (ltb most_record (length taken + n)) Failed
     (cond (eqb n 0 && last) (Complete taken) (Begun (record { taken = taken; mark = []; lacking = n; last = last }))) (Holds stream)
     (λ e. record {
       before = before;

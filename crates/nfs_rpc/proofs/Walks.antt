@@ -7,7 +7,8 @@ use Rattle.nfs_xdr.specs.Spelling.{number}
 use Rattle.nfs_xdr.specs.Reading.{number_at}
 use Rattle.nfs_xdr.proofs.CodecLaws.{is_number}
 use Rattle.nfs_xdr.proofs.Putting.{length_number}
-use Rattle.nfs_rpc.specs.RecordMarking.{limit, spell_mark, fragments, joined}
+use Rattle.nfs_rpc.specs.RecordMarking.{spell_mark, fragments, joined}
+use Rattle.nfs_xdr.specs.Limits.{most_record}
 
 number_same : (k j : ℕ) (xs ys : List ℕ) → k < 2 ^ 32 → j < 2 ^ 32 → number k ++ xs ≡ number j ++ ys → (k ≡ j) × (xs ≡ ys)
 number_same k j xs ys small smaller e = some_pair_parts k j xs ys (sym (is_number.again k xs small) ∙ ap number_at e ∙ is_number.again j ys smaller)
@@ -54,13 +55,13 @@ append_same a b xs ys len e = (
 
 -- behind n data bytes no fragment that is not the last and has room begins here
 pub record Stops (n : ℕ) (tail : List ℕ) : Type 0 where
-  pub none : (d left : List ℕ) → n + length d ≤ limit → tail ≡ spell_mark false (length d) ++ (d ++ left) → ⊥
+  pub none : (d left : List ℕ) → n + length d ≤ most_record → tail ≡ spell_mark false (length d) ++ (d ++ left) → ⊥
 
 first : (d : List ℕ) (ds : List (List ℕ)) (tail : List ℕ) → fragments (d ∷ ds) ++ tail ≡ spell_mark false (length d) ++ (d ++ (fragments ds ++ tail))
 first d ds tail = append_assoc (spell_mark false (length d) ++ d) (fragments ds) tail ∙ append_assoc (spell_mark false (length d)) d (fragments ds ++ tail)
 
-pub meet : (xs ys : List (List ℕ)) (n : ℕ) (s t : List ℕ) → n + length (joined xs) ≤ limit
-    → n + length (joined ys) ≤ limit → Stops (n + length (joined xs)) s → Stops (n + length (joined ys)) t
+pub meet : (xs ys : List (List ℕ)) (n : ℕ) (s t : List ℕ) → n + length (joined xs) ≤ most_record
+    → n + length (joined ys) ≤ most_record → Stops (n + length (joined xs)) s → Stops (n + length (joined ys)) t
     → fragments xs ++ s ≡ fragments ys ++ t → (xs ≡ ys) × (s ≡ t)
 meet [] [] n s t fits fit p q e = (refl, e)
 meet [] (d ∷ ys) n s t fits fit p q e = absurd (p.none d (fragments ys ++ t) (omega (arith, fit, length-append d (joined ys))) (e ∙ first d ys t))
@@ -78,7 +79,7 @@ meet (d ∷ xs) (g ∷ ys) n s t fits fit p q e =
     (ap (λ x. x ∷ xs) same.0 ∙ ap (λ zs. g ∷ zs) rest.0, rest.1)
 
 -- the last fragment
-pub stops_final : (n : ℕ) (final left : List ℕ) → n + length final ≤ limit → Stops n (spell_mark true (length final) ++ (final ++ left))
+pub stops_final : (n : ℕ) (final left : List ℕ) → n + length final ≤ most_record → Stops n (spell_mark true (length final) ++ (final ++ left))
 stops_final n final left fits = record {
   none = λ d behind fit e.
       let m = mark_same true false (length final) (length d) (final ++ left) (d ++ behind) (omega (arith, fits)) (omega (arith, fit)) e in
@@ -89,7 +90,7 @@ stops_final n final left fits = record {
     true≢false f = cc
 
 -- a mark that promises too much
-pub stops_long : (n : ℕ) (last : Bool) (size : ℕ) (left : List ℕ) → size < 2147483648 → limit < n + size → Stops n (spell_mark last size ++ left)
+pub stops_long : (n : ℕ) (last : Bool) (size : ℕ) (left : List ℕ) → size < 2147483648 → most_record < n + size → Stops n (spell_mark last size ++ left)
 stops_long n last size left small long = record {
   none = λ d behind fit e.
       let m = mark_same last false size (length d) left (d ++ behind) small (omega (arith, fit)) e in
@@ -104,7 +105,7 @@ stops_cut n tail short = record {
 }
 
 -- a fragment that is cut
-pub stops_begun : (n : ℕ) (last : Bool) (begun : List ℕ) (lacking : ℕ) → n + (length begun + lacking) ≤ limit
+pub stops_begun : (n : ℕ) (last : Bool) (begun : List ℕ) (lacking : ℕ) → n + (length begun + lacking) ≤ most_record
     → 0 < lacking → Stops n (spell_mark last (length begun + lacking) ++ begun)
 stops_begun n last begun lacking fits some = record {
   none = λ d behind fit e.

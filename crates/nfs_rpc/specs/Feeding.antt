@@ -2,7 +2,8 @@
 use Rattle.std.specs.Prelude.{◌≡◌, ℕ, ◌+◌, ◌<◌, ◌≤◌, ◌++◌, List, [], length, take, Bool, true, false}
 use Rattle.nfs_rpc.specs.declared.records.Fed.{Fed}
 use Rattle.nfs_rpc.specs.declared.records.Fed.TheVariants.{More, Whole, TooLong}
-use Rattle.nfs_rpc.specs.RecordMarking.{Part, Gathered, Begun, Complete, Failed, IsRecord, Holds, start, limit, spell_mark}
+use Rattle.nfs_rpc.specs.RecordMarking.{Part, Gathered, Begun, Complete, Failed, IsRecord, Holds, start, spell_mark}
+use Rattle.nfs_xdr.specs.Limits.{most_record}
 
 -- whether a whole record waits
 abbrev pub waits : Gathered → Bool
@@ -44,7 +45,7 @@ StandsNow TooLong rest piece held = (used : ℕ) × Holds (rest ++ take used pie
 pub record BeginsWith (piece record_data : List ℕ) : Type 0 where
   pub behind : List ℕ
   pub stands : piece ≡ spell_mark true (length record_data) ++ (record_data ++ behind)
-  pub fits : length record_data ≤ limit
+  pub fits : length record_data ≤ most_record
 
 -- Nothing is held, and the piece begins with a record of one fragment that has this data.
 pub record IsWhole (held : Gathered) (piece record_data : List ℕ) : Type 0 where

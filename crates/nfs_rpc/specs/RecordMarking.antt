@@ -3,15 +3,16 @@
 use Rattle.std.specs.Prelude.{◌≡◌, ℕ, ◌+◌, ◌<◌, ◌≤◌, ◌⊎◌, List, [], ◌++◌, length, Bool, true, false}
 use Rattle.std.specs.List.{flat_map}
 use Rattle.nfs_xdr.specs.Spelling.{number}
+use Rattle.nfs_xdr.specs.Limits.{most_record}
 
--- the most data bytes of a record
-abbrev pub limit : ℕ
-limit = 66560
+-- the top bit of a mark: the fragment is the record's last one
+abbrev pub last_fragment : ℕ
+last_fragment = 0x8000_0000
 
--- the mark of a fragment: the top bit says whether it is the last one, the other 31 how many bytes it has
+-- the mark of a fragment: the top bit, where it is the last one, and in the other 31 how many bytes it has
 abbrev pub spell_mark : Bool → ℕ → List ℕ
 spell_mark false size = number size
-spell_mark true size = number (2147483648 + size)
+spell_mark true size = number (last_fragment + size)
 
 -- fragments that are not the last, each behind its mark
 abbrev pub fragments : List (List ℕ) → List ℕ
@@ -27,17 +28,17 @@ pub record IsRecord (stream record_data : List ℕ) : Type 0 where
   pub final : List ℕ
   pub stands : stream ≡ fragments before ++ (spell_mark true (length final) ++ final)
   pub holds : record_data ≡ joined before ++ final
-  pub fits : length record_data ≤ limit
+  pub fits : length record_data ≤ most_record
 
 -- The stream ends with the first mark by which the lengths of a record add up to more than it may hold.
 pub record IsTooLong (stream : List ℕ) : Type 0 where
   pub before : List (List ℕ)
   pub last : Bool
   pub size : ℕ
-  pub fits : length (joined before) ≤ limit
-  pub small : size < 2147483648
+  pub fits : length (joined before) ≤ most_record
+  pub small : size < last_fragment
   pub stands : stream ≡ fragments before ++ spell_mark last size
-  pub long : limit < length (joined before) + size
+  pub long : most_record < length (joined before) + size
 
 -- What is kept of a record that has begun: the data so far, the bytes of a mark that is not yet whole, what the fragment
 -- of the last whole mark lacks, and whether that mark says that the fragment is the last.
@@ -54,7 +55,7 @@ start = record { taken = []; mark = []; lacking = 0; last = false }
 -- whole fragments, and fewer than the four bytes of a mark
 pub record IsBetween (rest : List ℕ) (p : Part) : Type 0 where
   pub before : List (List ℕ)
-  pub fits : length (joined before) ≤ limit
+  pub fits : length (joined before) ≤ most_record
   pub stands : rest ≡ fragments before ++ p.mark
   pub cut : length p.mark < 4
   pub taken : p.taken ≡ joined before
@@ -65,7 +66,7 @@ pub record IsBetween (rest : List ℕ) (p : Part) : Type 0 where
 pub record IsInside (rest : List ℕ) (p : Part) : Type 0 where
   pub before : List (List ℕ)
   pub begun : List ℕ
-  pub fits : length (joined before) + (length begun + p.lacking) ≤ limit
+  pub fits : length (joined before) + (length begun + p.lacking) ≤ most_record
   pub stands : rest ≡ fragments before ++ (spell_mark p.last (length begun + p.lacking) ++ begun)
   pub taken : p.taken ≡ joined before ++ begun
   pub lacking : 0 < p.lacking

@@ -3,7 +3,8 @@
 use Rattle.std.specs.Prelude.{ℕ, ◌+◌, ◌-◌, ◌%◌, ◌==◌, ◌&&◌, List, [], ◌++◌, length, nat_lt, nat_le, if◌then◌else◌}
 use Rattle.std.specs.Int.{w32, from_be_bytes}
 use Rattle.nfs_rpc.specs.declared.records.State.{State}
-use Rattle.nfs_rpc.specs.RecordMarking.{Part, Gathered, Begun, Complete, Failed, limit}
+use Rattle.nfs_rpc.specs.RecordMarking.{Part, Gathered, Begun, Complete, Failed, last_fragment}
+use Rattle.nfs_xdr.specs.Limits.{most_record}
 
 -- what the fields of a `Records` hold
 abbrev pub held : State → Part → Gathered
@@ -19,9 +20,9 @@ state_of Failed = State.Failed
 -- behind the data so far stands a whole mark, and this is its word
 unfoldable pub at_mark : List ℕ → ℕ → Gathered
 at_mark taken word =
-    let size = word % 2147483648 in
-    let last = nat_le 2147483648 word in
-    if nat_lt limit (length taken + size) then Failed
+    let size = word % last_fragment in
+    let last = nat_le last_fragment word in
+    if nat_lt most_record (length taken + size) then Failed
     else if size == 0 && last then Complete taken
     else Begun (record { taken = taken; mark = []; lacking = size; last = last })
 

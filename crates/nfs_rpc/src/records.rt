@@ -55,6 +55,7 @@ pub struct Records {
 
 impl Model for Records {
     ghost use Rattle.std.specs.Prelude.{◌+◌, ◌<◌, ◌≤◌, take, vec_len, vec_capacity};
+    ghost use Rattle.nfs_xdr.specs.Limits.{most_record};
     ghost use Rattle.nfs_rpc.specs.RecordMarking.{Gathered};
 
     ghost Value = { Gathered };
@@ -63,7 +64,7 @@ impl Model for Records {
 
     ghost view = { λ a. held a.state (record { taken = a.taken.items; mark = take a.marked a.mark; lacking = a.lacking; last = a.last }) };
 
-    ghost invariant = { λ a. (a.marked < 4) × (vec_len a.taken + a.lacking ≤ 66560) × (66560 ≤ vec_capacity a.taken) };
+    ghost invariant = { λ a. (a.marked < 4) × (vec_len a.taken + a.lacking ≤ most_record) × (most_record ≤ vec_capacity a.taken) };
 }
 
 impl Records {

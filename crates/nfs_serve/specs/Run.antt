@@ -1,7 +1,8 @@
 -- The run of a script. On each connection the pieces since its last close form one stream, read by record marking
 -- (RFC 5531 section 11). The records are stepped in the order in which their last bytes came.
-use Rattle.std.specs.Prelude.{◌≡◌, ℕ, ◌+◌, List, [], ◌∷◌, ◌++◌, length, map, Option, Some, None, if◌then◌else◌, nat_eq}
+use Rattle.std.specs.Prelude.{◌≡◌, ℕ, true, List, [], ◌∷◌, ◌++◌, length, map, Option, Some, None, if◌then◌else◌, nat_eq}
 use Rattle.nfs_xdr.specs.Spelling.{number}
+use Rattle.nfs_rpc.specs.RecordMarking.{spell_mark}
 use Rattle.nfs_rpc.specs.Stream.{End, Open, TooLong, IsReading}
 use Rattle.nfs_serve.specs.declared.form.Form.{Form}
 use Rattle.nfs_serve.specs.declared.form.Form.TheVariants.{Tagged, Plain}
@@ -69,7 +70,7 @@ after s (m ∷ moves) = after (after_event s m.event m.choice) moves
 
 -- a record of one fragment
 abbrev pub one_fragment : List ℕ → List ℕ
-one_fragment bytes = number (2147483648 + length bytes) ++ bytes
+one_fragment bytes = spell_mark true (length bytes) ++ bytes
 
 abbrev pub spell_reply : Form → ℕ → List ℕ → List ℕ
 spell_reply Tagged conn reply = number conn ++ one_fragment reply

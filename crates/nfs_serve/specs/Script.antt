@@ -17,8 +17,18 @@ head moment conn len = hyper moment ++ number conn ++ number len
 abbrev pub spell_entry : Entry → List ℕ
 spell_entry e = head e.moment e.conn (length e.piece) ++ e.piece
 
+-- the last moment that a server takes, in seconds; the last connection of a script; and the most bytes of a piece
+abbrev pub last_moment : ℕ
+last_moment = 2 ^ 62
+
+abbrev pub last_connection : ℕ
+last_connection = 15
+
+abbrev pub most_piece : ℕ
+most_piece = 65536
+
 abbrev pub Fits : Entry → Type 0
-Fits e = (e.moment ≤ 2 ^ 62) × (e.conn ≤ 15) × (length e.piece ≤ 65536)
+Fits e = (e.moment ≤ last_moment) × (e.conn ≤ last_connection) × (length e.piece ≤ most_piece)
 
 abbrev pub max_entries : ℕ
 max_entries = 1000000
@@ -26,9 +36,9 @@ max_entries = 1000000
 -- why an entry with this head is not read: the lowest number that applies
 abbrev pub refusal : ℕ → ℕ → ℕ → Option Stop
 refusal moment conn len =
-    if nat_lt 15 conn then Some Connection
-    else if nat_lt 65536 len then Some Long
-    else if nat_lt (2 ^ 62) moment then Some Late
+    if nat_lt last_connection conn then Some Connection
+    else if nat_lt most_piece len then Some Long
+    else if nat_lt last_moment moment then Some Late
     else None
 
 -- these 16 bytes are the head of an entry, whatever its numbers say
@@ -43,7 +53,7 @@ BeginsRefused stop bytes = (moment : ℕ) × (conn : ℕ) × (len : ℕ) × (fro
 -- less than a whole entry, whose head is not refused where it is whole
 abbrev pub IsPartial : List ℕ → Type 0
 IsPartial bytes = (length bytes < 16) ⊎ ((moment : ℕ) × (conn : ℕ) × (len : ℕ) × (part : List ℕ)
-    × (bytes ≡ head moment conn len ++ part) × (moment ≤ 2 ^ 62) × (conn ≤ 15) × (len ≤ 65536) × (length part < len))
+    × (bytes ≡ head moment conn len ++ part) × (moment ≤ last_moment) × (conn ≤ last_connection) × (len ≤ most_piece) × (length part < len))
 
 -- Why a run stops behind so many whole entries, by what stands there. A byte behind the last entry that may be is one
 -- entry too many, whatever comes behind it.

@@ -1,7 +1,8 @@
 //! Where the moments of a talk come from.
 
-ghost use Rattle.std.specs.Prelude.{◌≤◌, ◌^◌, ℕ, List, [], ◌∷◌, Option};
+ghost use Rattle.std.specs.Prelude.{◌≤◌, ℕ, List, [], ◌∷◌, Option};
 ghost use Rattle.std.specs.Io.KnownBytes.{Appends};
+ghost use Rattle.nfs_serve.specs.Script.{last_moment};
 
 /// A clock that gives the moment.
 pub trait Clock {
@@ -10,6 +11,6 @@ pub trait Clock {
 
     /// The moment, in seconds, at most 2^62.
     fn now(&mut self) -> u64
-        ensures bound { result ≤ 2 ^ 62 }
+        ensures bound { result ≤ last_moment }
         ensures tells { Appends (told self.old) (told self.new) (result ∷ []) };
 }

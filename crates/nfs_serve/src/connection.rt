@@ -1,6 +1,6 @@
 //! A connection: what is held of its stream, and what its pieces come to (RFC 5531 section 11).
 
-ghost use Rattle.std.specs.Prelude.{◌≡◌, ◌≤◌, ◌^◌, ◌++◌, [], IfOk, OnOk, OnErr, false};
+ghost use Rattle.std.specs.Prelude.{◌≡◌, ◌≤◌, ◌++◌, [], IfOk, OnOk, OnErr, false};
 ghost use Rattle.nfs_xdr.specs.Codec.{IsBytes};
 ghost use Rattle.nfs_xdr.specs.Spelling.{number};
 ghost use Rattle.nfs_rpc.specs.Feeding.{waits, is_too_long};
@@ -8,6 +8,7 @@ ghost use Rattle.nfs_serve.specs.Engine.{state_of};
 ghost use Rattle.nfs_serve.specs.Ends.{Writes};
 ghost use Rattle.nfs_serve.specs.Run.{spell_overflow};
 ghost use Rattle.nfs_serve.specs.Server.{fresh, FeedsOr};
+ghost use Rattle.nfs_serve.specs.Script.{last_moment};
 
 use crate::Sink;
 use crate::engine::Engine;
@@ -66,7 +67,7 @@ impl Connection {
         out: &mut W,
     ) -> Result<Flow, WriteFailed>
         requires bytes { IsBytes entry.now.piece.now }
-        requires moment { entry.now.moment ≤ 2 ^ 62 }
+        requires moment { entry.now.moment ≤ last_moment }
         requires out { W.has_failed out.old ≡ false }
         ensures fed { FeedsOr result (state_of engine.old.kept) (state_of engine.new.kept) self.old self.new entry.now.conn entry.now.moment entry.now.piece.now form (W.held out.old) (W.held out.new) (W.has_failed out.new) }
         ensures closed { OnErr result (self.new ≡ fresh) }
@@ -100,7 +101,7 @@ fn take_piece<W: Sink>(
     requires waits { waits records.old ≡ false }
     requires open { is_too_long records.old ≡ false }
     requires bytes { IsBytes entry.now.piece.now }
-    requires moment { entry.now.moment ≤ 2 ^ 62 }
+    requires moment { entry.now.moment ≤ last_moment }
     requires out { W.has_failed out.old ≡ false }
     ensures taken { FeedsOr result (state_of engine.old.kept) (state_of engine.new.kept) records.old records.new entry.now.conn entry.now.moment entry.now.piece.now form (W.held out.old) (W.held out.new) (W.has_failed out.new) }
     ensures waits { OnOk result (waits records.new ≡ false) }

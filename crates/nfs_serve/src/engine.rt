@@ -1,6 +1,6 @@
 //! The step of one record: from the bytes of a call to those of its reply (RFC 5531 section 9; RFC 8881 section 16).
 
-ghost use Rattle.std.specs.Prelude.{◌≡◌, ◌≤◌, ◌^◌, ◌+◌, ◌++◌, ℕ, [], length, drop, Option, IfOk, false};
+ghost use Rattle.std.specs.Prelude.{◌≡◌, ◌≤◌, ◌+◌, ◌++◌, ℕ, [], length, drop, Option, IfOk, false};
 ghost use Rattle.nfs_xdr.specs.Spelling.{number};
 ghost use Rattle.nfs_rpc.specs.View as view;
 ghost use Rattle.nfs_compound.specs.ReadRequest.{request_at};
@@ -13,6 +13,7 @@ ghost use Rattle.nfs_lease.specs.Renewals.{IsLatest};
 ghost use Rattle.nfs_exec.specs.View.{machine_of};
 ghost use Rattle.nfs_serve.specs.Engine.{PutsReply, outcome_of, in_form, state_of};
 ghost use Rattle.nfs_serve.specs.Ends.{Writes};
+ghost use Rattle.nfs_serve.specs.Script.{last_moment};
 
 use crate::Sink;
 use crate::form::{Form, Outcome};
@@ -39,16 +40,17 @@ pub struct Engine {
 }
 
 impl Model for Engine {
-    ghost use Rattle.std.specs.Prelude.{◌≡◌, ◌≤◌, ◌^◌, length, drop};
+    ghost use Rattle.std.specs.Prelude.{◌≡◌, ◌≤◌, length, drop};
     ghost use Rattle.nfs_lease.specs.Renewals.{IsLatest};
     ghost use Rattle.nfs_exec.specs.View.{machine_of};
     ghost use Rattle.nfs_serve.specs.Engine.{EngineModel};
+    ghost use Rattle.nfs_serve.specs.Script.{last_moment};
 
     ghost Value = { EngineModel };
 
     ghost view = { λ e. record { kept = record { world = e.world; moment = e.moment }; reply = drop 8 e.sheet.bytes } };
 
-    ghost invariant = { λ e. (8 ≤ length e.sheet.bytes) × (e.sheet.room ≡ 70008) × IsLatest (machine_of e.world).leases e.moment × (e.moment ≤ 2 ^ 62) };
+    ghost invariant = { λ e. (8 ≤ length e.sheet.bytes) × (e.sheet.room ≡ 70008) × IsLatest (machine_of e.world).leases e.moment × (e.moment ≤ last_moment) };
 }
 
 impl Engine {
@@ -73,7 +75,7 @@ impl Engine {
 
     /// Steps a record at a moment. A reply is lent by `reply`.
     pub fn record(&mut self, alloc: Global, call: &[u8], now: u64) -> Outcome
-        requires { now ≤ 2 ^ 62 }
+        requires { now ≤ last_moment }
         ensures { (choice : Option ℕ) × IsAnswer result (step (state_of self.old.kept) call.now now choice).reply self.new.reply × ((state_of self.new.kept) ≡ (step (state_of self.old.kept) call.now now choice).state) }
     {
         self.moment = self.moment.max(now);
@@ -138,7 +140,7 @@ impl Engine {
         form: Form,
         out: &mut W,
     ) -> Result<(), WriteFailed>
-        requires now { now ≤ 2 ^ 62 }
+        requires now { now ≤ last_moment }
         requires out { W.has_failed out.old ≡ false }
         ensures { (choice : Option ℕ) × ((state_of self.new.kept) ≡ (step (state_of self.old.kept) call.now now choice).state) × Writes result (W.held out.old) (W.held out.new) (spell_answer form conn (step (state_of self.old.kept) call.now now choice).reply) (W.has_failed out.new) }
     {
@@ -170,7 +172,7 @@ fn put_answer(
     out: &mut Sheet,
 )
     requires size { length call.now.args.now ≤ size }
-    requires now { now ≤ 2 ^ 62 }
+    requires now { now ≤ last_moment }
     requires latest { IsLatest (machine_of world.old).leases now }
     requires room { length out.old.bytes + 70000 ≤ out.old.room }
     ensures answer { let before : State = record { machine = machine_of world.old; moment = now } in
@@ -194,7 +196,7 @@ fn put_compound(
     out: &mut Sheet,
 )
     requires size { length call.args.now ≤ size }
-    requires now { now ≤ 2 ^ 62 }
+    requires now { now ≤ last_moment }
     requires latest { IsLatest (machine_of world.old).leases now }
     requires room { length out.old.bytes + 70000 ≤ out.old.room }
     ensures answer { let before : State = record { machine = machine_of world.old; moment = now } in

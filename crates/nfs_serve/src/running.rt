@@ -1,5 +1,5 @@
 //! The run of a script.
-ghost use Rattle.std.specs.Prelude.{◌≡◌, ◌≤◌, ◌^◌, ℕ, List, false, length};
+ghost use Rattle.std.specs.Prelude.{◌≡◌, ◌≤◌, ℕ, List, false, length};
 ghost use Rattle.std.specs.Io.KnownBytes.{Consumes};
 ghost use Rattle.nfs_xdr.specs.Codec.{IsBytes};
 ghost use Rattle.nfs_serve.specs.Engine.{state_of};
@@ -8,6 +8,7 @@ ghost use Rattle.nfs_serve.specs.Reading as reading;
 ghost use Rattle.nfs_serve.specs.Server.{fresh, held_on};
 ghost use Rattle.nfs_serve.specs.Replay.{AllStand, Replays, Reports};
 ghost use Rattle.nfs_serve.specs.Running.{RunsEntryOr, EndsBehind};
+ghost use Rattle.nfs_serve.specs.Script.{last_moment, most_piece};
 
 use crate::connection::Connection;
 use crate::engine::Engine;
@@ -34,7 +35,7 @@ pub fn run<L: Lends<R>, R: Source, W: Sink>(
 ) -> Result<(), ReplayFault>
     requires connections { length connections.old ≡ 16 }
     requires closed { AllStand all_closed connections.old }
-    requires room { length buf.old ≡ 65536 }
+    requires room { length buf.old ≡ most_piece }
     requires read { R.has_failed r.old ≡ false }
     requires ended { R.has_ended r.old ≡ false }
     requires write { W.has_failed w.old ≡ false }
@@ -90,7 +91,7 @@ fn run_entry<W: Sink>(
 ) -> Result<(), WriteFailed>
     requires connections { length connections.old ≡ 16 }
     requires conn { entry.now.conn ≤ 15 }
-    requires moment { entry.now.moment ≤ 2 ^ 62 }
+    requires moment { entry.now.moment ≤ last_moment }
     requires bytes { IsBytes entry.now.piece.now }
     requires write { W.has_failed w.old ≡ false }
     ensures ran { RunsEntryOr result (state_of engine.old.kept) (state_of engine.new.kept) connections.old connections.new (reading.entry entry.now) (W.held w.old) (W.held w.new) (W.has_failed w.new) }

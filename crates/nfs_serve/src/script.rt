@@ -3,7 +3,7 @@ ghost use Rattle.std.specs.Prelude.{◌≡◌, length, false, ◌<◌, ◌^◌, 
 ghost use Rattle.nfs_xdr.specs.Codec.{IsBytes};
 ghost use Rattle.nfs_xdr.specs.Spelling.{number, hyper};
 ghost use Rattle.nfs_serve.specs.Script as script;
-ghost use Rattle.nfs_serve.specs.Script.{IsHead, refusal};
+ghost use Rattle.nfs_serve.specs.Script.{IsHead, refusal, most_piece};
 ghost use Rattle.nfs_serve.specs.Reading.{ReadsEntry, BeginsWith, stop_of, entry};
 
 use crate::Source;
@@ -54,7 +54,7 @@ pub fn whole_entry(bytes: &[u8]) -> Option<Entry<'_>>
 
 /// The entry that stands next, whose piece is put into the buffer, or `None` where the script ends.
 pub fn next_entry<'b, R: Source>(r: &mut R, buf: &'b mut [u8]) -> Result<Option<Entry<'b>>, Stop>
-    requires room { length buf.old ≡ 65536 }
+    requires room { length buf.old ≡ most_piece }
     requires failed { R.has_failed r.old ≡ false }
     requires ended { R.has_ended r.old ≡ false }
     ensures bytes { IfOk result (λ found. IfSome found (λ e. IsBytes e.piece.now)) }

@@ -1,12 +1,13 @@
 //! A server: records, connections and scripts over one state.
 
-ghost use Rattle.std.specs.Prelude.{◌≡◌, ◌≢◌, ◌≤◌, ◌^◌, [], false, IfOk, OnErr, replicate};
+ghost use Rattle.std.specs.Prelude.{◌≡◌, ◌≢◌, ◌≤◌, [], false, IfOk, OnErr, replicate};
 ghost use Rattle.nfs_exec.specs.Laws.{HasNoClashes};
 ghost use Rattle.nfs_exec.specs.Machine.{IsMachine};
 ghost use Rattle.nfs_serve.specs.Server.{fresh, held_on, IsWith, Steps, FeedsOr, Closes, IsNew};
 ghost use Rattle.nfs_serve.specs.Engine.{state_of};
 ghost use Rattle.nfs_serve.specs.Replay.{Replays, Reports};
 ghost use Rattle.nfs_serve.specs.Talk.{Talks, TalkReports};
+ghost use Rattle.nfs_serve.specs.Script.{last_moment};
 
 use crate::connection::Connection;
 use crate::engine::Engine;
@@ -47,12 +48,13 @@ pub struct Server {
 impl Model for Server {
     ghost use Rattle.std.specs.Prelude.{vec_len, ◌≡◌};
     ghost use Rattle.nfs_serve.specs.Server.{ServerModel};
+    ghost use Rattle.nfs_serve.specs.Script.{most_piece};
 
     ghost Value = { ServerModel };
 
     ghost view = { λ s. record { kept = s.engine.kept; held = s.connections.items; reply = s.engine.reply } };
 
-    ghost invariant = { λ s. (vec_len s.connections ≡ 16) × (vec_len s.piece ≡ 65536) };
+    ghost invariant = { λ s. (vec_len s.connections ≡ 16) × (vec_len s.piece ≡ most_piece) };
 }
 
 impl Server {
@@ -73,7 +75,7 @@ impl Server {
     /// Steps one record, whose data is `call`, at the moment `now` (seconds, at most 2^62), on no connection. Where the outcome is
     /// `Reply` the reply is lent by [`Server::reply`].
     pub fn record(&mut self, alloc: Global, call: &[u8], now: u64) -> Outcome
-        requires now { now ≤ 2 ^ 62 }
+        requires now { now ≤ last_moment }
         ensures { Steps result self.old self.new call.now now }
     {
         self.engine.record(alloc, call, now)
@@ -119,7 +121,7 @@ impl Server {
         out: &mut W,
     ) -> Result<Flow, WriteFailed>
         requires conn { conn ≤ 15 }
-        requires now { now ≤ 2 ^ 62 }
+        requires now { now ≤ last_moment }
         requires out { W.has_failed out.old ≡ false }
         ensures fed { FeedsOr result (state_of self.old.kept) (state_of self.new.kept) (held_on self.old.held conn) (held_on self.new.held conn) conn now piece.now form (W.held out.old) (W.held out.new) (W.has_failed out.new) }
         ensures closed { OnErr result (held_on self.new.held conn ≡ fresh) }

@@ -2,6 +2,7 @@
 ghost use Rattle.std.specs.Prelude.{◌≡◌, false, length};
 ghost use Rattle.nfs_serve.specs.Engine.{state_of};
 ghost use Rattle.nfs_serve.specs.Talk.{Talks, TalkReports};
+ghost use Rattle.nfs_serve.specs.Script.{most_piece};
 
 use crate::connection::Connection;
 use crate::engine::Engine;
@@ -39,7 +40,7 @@ pub fn converse<R: Source, W: Sink, C: Clock>(
     w: &mut W,
     clock: &mut C,
 ) -> Talk
-    requires room { length buf.old ≡ 65536 }
+    requires room { length buf.old ≡ most_piece }
     requires read { R.has_failed r.old ≡ false }
     requires ended { R.has_ended r.old ≡ false }
     requires write { W.has_failed w.old ≡ false }
