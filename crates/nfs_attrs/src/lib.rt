@@ -15,7 +15,7 @@
 #![tactic(auto)]
 
 mod about;
-mod attribute;
+pub mod attribute;
 mod following;
 mod handle;
 pub mod laws;

@@ -48,7 +48,7 @@ unfolding fault_at
 told_fault n left = told_of (op_num n) n left
 
 is_the_fault : (bytes : List ℕ) (x : Item) → IsFault bytes x → Stands bytes x []
-is_the_fault bytes (Operation o) f = absurd (false≢true (ap is_fault f.told ∙ told_fault f.number f.behind))
+is_the_fault bytes (Operation o) f = absurd (false≢true (ap is_fault f.names ∙ told_fault f.number f.behind))
 is_the_fault bytes (Fault k status) f = f
 
 at_place : (bytes : List ℕ) (n : ℕ) (left : List ℕ) (fault item : Item) (r : Option (Op × List ℕ)) (rest : List ℕ)
@@ -64,7 +64,7 @@ at_place bytes n left fault item None rest fits read h told e =
       number_fits = t.2;
       stands = t.0;
       none = λ o r f same. none≢some (o, r) (sym (rw (read, h) refl) ∙ ap op_codec.read same ∙ is_op.again o r f);
-      told = told;
+      names = told;
     }))
 
 stands_from : (bytes : List ℕ) (item : Item) (rest : List ℕ) → IsBytes bytes → item_at bytes ≡ Some (item, rest) → Stands bytes item rest
@@ -79,7 +79,7 @@ fault_stands bytes x fits f =
     let read : number_at bytes ≡ Some (f.number, f.behind) = ap number_at f.stands ∙ is_number.again f.number f.behind f.number_fits in
     let refused : (op_num f.number >>= λ op. op_at op f.behind) ≡ None =
     none_of _ (λ y e. let t = is_op.takes bytes y.0 y.1 fits (rw (read, e) refl) in f.none y.0 y.1 t.2 t.0) in
-    rw (read, refused, f.told) refl
+    rw (read, refused, f.names) refl
 
 op_stands : (o : Op) (rest : List ℕ) → FitsOp o → item_at (spell_op o ++ rest) ≡ Some (Operation o, rest)
 unfolding item_at

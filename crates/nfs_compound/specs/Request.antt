@@ -33,7 +33,7 @@ pub record IsFault (bytes : List ℕ) (fault : Item) : Type 0 where
   pub number_fits : number < 2 ^ 32
   pub stands : bytes ≡ spelling.number number ++ behind
   pub none : (op : Op) (rest : List ℕ) → FitsOp op → bytes ≡ spell_op op ++ rest → ⊥
-  pub told : fault ≡ fault_at number behind
+  pub names : fault ≡ fault_at number behind
 
 -- n operations one after the other with nothing behind, or fewer and a fault
 abbrev pub Lists : ℕ → List ℕ → List Item → Type 0

@@ -5,13 +5,9 @@ ghost use Rattle.nfs_xdr.specs.Reading.{ReadsPartBy};
 ghost use Rattle.nfs_xdr.specs.Codec.{passed, array};
 ghost use Rattle.nfs_compound.specs.Callback.{auth_sys, gss_handles, sec_parms, all_sec_parms};
 
-use nfs_xdr::{Cursor, MAX_GROUPS, MAX_MACHINE_NAME, Unreadable};
+use nfs_xdr::{AUTH_NONE, AUTH_SYS, Cursor, MAX_GROUPS, MAX_MACHINE_NAME, Unreadable};
 
-/// The flavors that callbacks may have (RFC 5531 sections 10.1 and appendix A, RFC 2203).
-const AUTH_NONE: u32 = 0;
-
-const AUTH_SYS: u32 = 1;
-
+/// The flavor of a callback whose parameters are handles of RPCSEC_GSS (RFC 2203).
 const RPCSEC_GSS: u32 = 6;
 
 /// The bytes of an array of callback security parameters. Unreadable where one of them is.

@@ -131,7 +131,7 @@ fault_bears n bytes = by_number (op_num n) n bytes refl
 listed_bears : (n : ℕ) (bytes : List ℕ) (item : Item) (more : List Item) → Lists n bytes (item ∷ more) → CanBear item
 listed_bears zero bytes item more lists = absurd lists
 listed_bears (suc n) bytes (Operation op) more lists = tt
-listed_bears (suc n) bytes (Fault k s) [] fault = subst CanBear (sym fault.told) (fault_bears fault.number fault.behind)
+listed_bears (suc n) bytes (Fault k s) [] fault = subst CanBear (sym fault.names) (fault_bears fault.number fault.behind)
 listed_bears (suc n) bytes (Fault k s) (item ∷ more) lists = absurd lists
 
 pub opened_bears : (r : Request) (item : Item) (more : List Item) → IsOpened r → r.minor ≡ 1 → r.left ≡ item ∷ more → CanBear item

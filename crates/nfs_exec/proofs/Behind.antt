@@ -158,6 +158,16 @@ file_marked m client o s store moves mark clients behind old new can did is held
   put = did.put;
 })
 
+-- the same where it cannot have moved
+pub file_unmarked : (m : Machine) (client : ℕ) (o : OfStore) (s : Status) (store : State) (moves : Bool) (behind : Context) (old new : SheetState) →
+    moves ≡ false → Comes o old new s store behind → Steps (marked_if moves client (on_store m o)) s (record m { store = store }) behind old new
+file_unmarked m client o s store moves behind old new cannot did = rw cannot (record {
+  status = did.status;
+  machine = ap (λ (t : State). record m { store = t }) did.state;
+  context = did.context;
+  put = did.put;
+})
+
 pub file_steps : (m left : Machine) (x : Context) (now : ℕ) (refused : Bool) (i : Item) (s : Status) (behind : Context) (old new : SheetState) →
     names.on_names i ≡ false → files.on_files i ≡ true →
     Steps (marked_if (moves_opens i) x.client (on_store m (files.comes_to refused m.store x (moment now) i))) s left behind old new →

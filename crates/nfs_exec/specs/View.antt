@@ -11,7 +11,7 @@ use Rattle.nfs_lease.specs.Renewals.{Book, leases_of, without_lease}
 use Rattle.nfs_exec.specs.declared.tables.Tables.{Tables}
 use Rattle.nfs_exec.specs.declared.sequence.Sequenced.{Sequenced as Code}
 use Rattle.nfs_exec.specs.declared.sequence.Sequenced.TheVariants as code
-use Rattle.nfs_exec.specs.declared.run.Ran as told
+use Rattle.nfs_exec.specs.declared.run.Ran as code_run
 use Rattle.nfs_exec.specs.Machine.{Machine, IsMachine, Outcome}
 use Rattle.nfs_exec.specs.Behind.{Step}
 use Rattle.nfs_exec.specs.Run.{Ran}
@@ -45,9 +45,9 @@ pub record Steps (s : Step) (returned : Status) (left : Machine) (behind : Conte
 
 -- The operations were run: their results stand on the sheet, the machine behind them is this one, and what was returned of
 -- them is so.
-pub record RunsTo (ran : Ran) (told : told.Ran) (left : Machine) (old new : SheetState) : Type 0 where
-  pub status : told.status ≡ ran.status
-  pub count : told.count ≡ ran.count
+pub record RunsTo (ran : Ran) (done : code_run.Ran) (left : Machine) (old new : SheetState) : Type 0 where
+  pub status : done.status ≡ ran.status
+  pub count : done.count ≡ ran.count
   pub machine : left ≡ ran.machine
   pub put : Puts old new ran.results
 

@@ -19,7 +19,7 @@ ghost use Rattle.nfs_files.specs.Operation.{one_or_delay};
 
 use crate::opening::{Found, access_of, deny_of, judge, mask_by, name_of, verifier_of};
 use crate::stateids::wire_id;
-use nfs_attrs::Wanted;
+use nfs_attrs::{Wanted, attribute};
 use nfs_compound::{OpNum, Open};
 use nfs_names::{Context, Store, attr_set, change_info, refuse, status_of, time_of};
 use nfs_opens::Ask;
@@ -28,8 +28,8 @@ use nfs_tree::{Change, New, Sets, Tree, TreeFault};
 use nfs_xdr::{Status, Time};
 use std::alloc::Global;
 
-/// The word of a mask that has the attribute `size` alone (number 4).
-const SIZE: u32 = 1 << 4;
+/// The first word of a mask that has the attribute `size` alone.
+const SIZE: u32 = 1 << attribute::SIZE;
 
 /// Whether the object is there and can change once more.
 fn can_change(tree: &Tree, number: u64) -> bool

@@ -68,7 +68,7 @@ fn lock_bytes(
 }
 
 /// LOCKT of a range whose bounds are in order.
-fn told_of(opens: &Opens, owner: &[u8], wish: &Wish) -> Option<Held> {
+fn clash_of(opens: &Opens, owner: &[u8], wish: &Wish) -> Option<Held> {
     if wish.first > wish.last {
         return None;
     }
@@ -313,7 +313,7 @@ fn a_wish_is_told_the_run_that_it_meets(rt: HostRuntime) -> Result<(), Fail> {
         (40, 59, None),
         (LAST, LAST, Some(held(Kind::Write, LAST, LAST))),
     ] {
-        let told = told_of(&opens, b"b", &wish(B, Kind::Read, first, last));
+        let told = clash_of(&opens, b"b", &wish(B, Kind::Read, first, last));
         assert_eq!(rt; told, want, "from {first} to {last}");
     }
     Ok(())
@@ -392,7 +392,7 @@ fn a_refused_growth_changes_nothing(rt: HostRuntime) -> Result<(), Fail> {
         &wish(A, Kind::Read, 200, 299),
     );
     let whole = opens.unlock(rt.alloc(), id(1, 2), A, FILE, 0, LAST);
-    let told = told_of(&opens, b"other", &wish(B, Kind::Read, 15, 45));
+    let told = clash_of(&opens, b"other", &wish(B, Kind::Read, 15, 45));
     drop(taken);
     assert!(rt; reserved, "the growth for an open was not refused");
     assert_eq!(rt; locked, Err(OpenFault::Memory));

@@ -101,9 +101,9 @@ call_taken bytes c fits e =
     )
 
 -- the body of AUTH_SYS, both ways
-pub body_told : (s : AuthSys) → auth_sys.Fits s → caller_of (auth_sys.spell s) ≡ Some (named_by s)
+pub body_named : (s : AuthSys) → auth_sys.Fits s → caller_of (auth_sys.spell s) ≡ Some (named_by s)
 unfolding caller_of
-body_told s fits = ap (λ (r : Option (AuthSys × List ℕ)). whole r >>= λ x. Some (named_by x))
+body_named s fits = ap (λ (r : Option (AuthSys × List ℕ)). whole r >>= λ x. Some (named_by x))
     (ap auth_sys.read (sym (append-nil (auth_sys.spell s))) ∙ is_auth_sys.again s [] fits)
 
 whole_some : {A : Type 0} (r : Option (A × List ℕ)) (x : A) → whole r ≡ Some x → r ≡ Some (x, [])

@@ -47,6 +47,6 @@ pub fn heads()
 /// The body of AUTH_SYS names a caller exactly where it is spelled.
 pub fn auth_sys_bodies()
     ensures auth_sys { IsCodec auth_sys }
-    ensures told { (s : AuthSys) → auth_sys.Fits s → caller_of (auth_sys.spell s) ≡ Some (named_by s) }
+    ensures named { (s : AuthSys) → auth_sys.Fits s → caller_of (auth_sys.spell s) ≡ Some (named_by s) }
     ensures taken { (body : List ℕ) (who : Caller) → IsBytes body → caller_of body ≡ Some who → (s : AuthSys) × auth_sys.Fits s × (body ≡ auth_sys.spell s) × (who ≡ named_by s) }
 {}

@@ -36,11 +36,5 @@ pub(crate) const RPC_MISMATCH: u32 = 0;
 /// A call is denied for its credential.
 pub(crate) const AUTH_ERROR: u32 = 1;
 
-/// The flavor of a credential that names nobody (RFC 5531 section 10.1).
-pub(crate) const AUTH_NONE: u32 = 0;
-
-/// The flavor of a credential that names a user and groups (RFC 5531 appendix A).
-pub(crate) const AUTH_SYS: u32 = 1;
-
 /// The most bytes of a credential or of a verifier (RFC 5531 section 8.2).
 pub(crate) const MAX_AUTH: u32 = 400;

@@ -10,11 +10,9 @@ ghost use Rattle.nfs_rpc.specs.View as view;
 ghost use Rattle.nfs_rpc.specs.View.{IsCalled};
 
 use crate::call::{Call, Header, OpaqueAuth, Procedure};
-use crate::numbers::{
-    AUTH_NONE, AUTH_SYS, CALL, COMPOUND, MAX_AUTH, NULL, PROGRAM, RPC_VERSION, VERSION,
-};
+use crate::numbers::{CALL, COMPOUND, MAX_AUTH, NULL, PROGRAM, RPC_VERSION, VERSION};
 use crate::refusal::{AcceptStat, AuthStat, Refusal};
-use nfs_xdr::{Cursor, MAX_GROUPS, MAX_MACHINE_NAME, Unreadable, Who};
+use nfs_xdr::{AUTH_NONE, AUTH_SYS, Cursor, MAX_GROUPS, MAX_MACHINE_NAME, Unreadable, Who};
 
 impl<'a> Call<'a> {
     /// Reads the head of a call from the bytes of a record, by this server's order of checks (docs/PROTOCOL.md); the first
@@ -118,7 +116,7 @@ fn judge<'a>(xid: u32, header: &Header<'a>, args: &'a [u8]) -> Result<Call<'a>, 
 
 /// Who calls by a credential of AUTH_NONE, whose body is not looked at, or of AUTH_SYS.
 fn caller<'a>(credential: &OpaqueAuth<'a>) -> Result<Who<'a>, AuthStat>
-    ensures told { MatchResult result (λ w. caller_by (view.opaque_auth credential.now) ≡ Ok (calling.caller w)) (λ stat. caller_by (view.opaque_auth credential.now) ≡ Err stat) }
+    ensures caller { MatchResult result (λ w. caller_by (view.opaque_auth credential.now) ≡ Ok (calling.caller w)) (λ stat. caller_by (view.opaque_auth credential.now) ≡ Err stat) }
     ensures groups { IfOk result (λ w. length w.groups.now ≤ 16) }
 {
     match credential.flavor {
@@ -154,7 +152,7 @@ fn fault(xid: u32, header: &Header<'_>, args: &[u8]) -> Option<Refusal>
 /// Who calls by the body of an AUTH_SYS credential.
 #[tactic(auto, unfolding(crate::specs::CallHead::caller_of, crate::specs::CallHead::auth_sys))]
 fn auth_sys(body: &[u8]) -> Result<Who<'_>, Unreadable>
-    ensures told { MatchResult result (λ w. caller_of body.now ≡ Some (calling.caller w)) (λ _. caller_of body.now ≡ None) }
+    ensures caller { MatchResult result (λ w. caller_of body.now ≡ Some (calling.caller w)) (λ _. caller_of body.now ≡ None) }
     ensures groups { IfOk result (λ w. length w.groups.now ≤ 16) }
 {
     let mut c = Cursor::new(body);

@@ -5,10 +5,10 @@ ghost use Rattle.nfs_xdr.specs.SheetState.{HasRoom, Puts};
 ghost use Rattle.nfs_rpc.specs.Reply.{spell_accepted, spell_denied, spell_head, spell_stat, spell_refusal};
 
 use crate::numbers::{
-    AUTH_ERROR, AUTH_NONE, MSG_ACCEPTED, MSG_DENIED, REPLY, RPC_MISMATCH, RPC_VERSION, VERSION,
+    AUTH_ERROR, MSG_ACCEPTED, MSG_DENIED, REPLY, RPC_MISMATCH, RPC_VERSION, VERSION,
 };
 use crate::refusal::{AcceptStat, AuthStat, Refusal};
-use nfs_xdr::Sheet;
+use nfs_xdr::{AUTH_NONE, Sheet};
 
 /// Puts the head of an accepted reply, up to SUCCESS: 24 bytes. The results of the procedure follow.
 pub fn write_head(xid: u32, out: &mut Sheet)

@@ -250,5 +250,5 @@ connections conn front here back brought end reads begins none =
       reads_stretch = b.front;
       reads_back = b.back;
       stream = one.0;
-      told = one.1;
+      overflows = one.1;
     }

@@ -56,7 +56,7 @@ pub record BringsStream (conn : ℕ) (front stretch back : List Entry) (brought 
   pub reads_stretch : TakesAll from stretch here to
   pub reads_back : TakesAll to back later end
   pub stream : IsReading (stream_on conn stretch) (flat_map (call_on conn) here) (to conn)
-  pub told : flat_map (overflow_on conn) here ≡ overflow conn (to conn)
+  pub overflows : flat_map (overflow_on conn) here ≡ overflow conn (to conn)
 
 -- Entries of many connections in any order: on each connection the pieces since its last close form one stream.
 abbrev pub ConnectionsAreStreams : Type 0

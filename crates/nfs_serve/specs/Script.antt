@@ -1,6 +1,6 @@
 -- A script of entries, and which fault its bytes have (this server's profile). An entry is a moment in seconds (8 bytes),
 -- a connection (4), a length (4) and that many bytes that came on the connection. Length 0 closes the connection.
-use Rattle.std.specs.Prelude.{◌≡◌, ℕ, ◌^◌, ◌<◌, ◌≤◌, List, ◌++◌, [], length, flat_map, All, ◌⊎◌, Option, nat_lt, Some, None, if◌then◌else◌}
+use Rattle.std.specs.Prelude.{◌≡◌, ℕ, suc, ◌^◌, ◌<◌, ◌≤◌, List, ◌++◌, [], length, flat_map, All, ◌⊎◌, Option, nat_lt, Some, None, if◌then◌else◌}
 use Rattle.nfs_xdr.specs.Spelling.{number, hyper}
 use Rattle.nfs_serve.specs.declared.fault.Stop.{Stop}
 use Rattle.nfs_serve.specs.declared.fault.Stop.TheVariants.{Cut, Connection, Long, Late, Many, ReadFailed, WriteFailed}
@@ -17,12 +17,15 @@ head moment conn len = hyper moment ++ number conn ++ number len
 abbrev pub spell_entry : Entry → List ℕ
 spell_entry e = head e.moment e.conn (length e.piece) ++ e.piece
 
--- the last moment that a server takes, in seconds; the last connection of a script; and the most bytes of a piece
+-- the last moment that a server takes, in seconds; the last connection of a script, and how many there are; and the most bytes of a piece
 abbrev pub last_moment : ℕ
 last_moment = 2 ^ 62
 
 abbrev pub last_connection : ℕ
 last_connection = 15
+
+abbrev pub connection_count : ℕ
+connection_count = suc last_connection
 
 abbrev pub most_piece : ℕ
 most_piece = 65536

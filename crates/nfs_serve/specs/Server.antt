@@ -9,6 +9,7 @@ use Rattle.nfs_serve.specs.declared.form.Form.{Form}
 use Rattle.nfs_serve.specs.declared.form.Flow.{Flow}
 use Rattle.nfs_serve.specs.declared.form.Outcome.{Outcome}
 use Rattle.nfs_serve.specs.declared.form.Outcome.TheVariants.{Reply, Silent}
+use Rattle.nfs_serve.specs.Script.{connection_count}
 use Rattle.nfs_serve.specs.Step.{State, new_state, step}
 use Rattle.nfs_serve.specs.Engine.{Kept, state_of}
 use Rattle.nfs_serve.specs.Run.{Brings, Move, events, after, after_event, output, output_of}
@@ -30,10 +31,10 @@ held_on held conn = get_or held conn fresh
 abbrev pub IsWith : List Gathered → List Gathered → ℕ → Gathered → Type 0
 IsWith new old conn now = (c : ℕ) → held_on new c ≡ (if nat_eq c conn then now else held_on old c)
 
--- a new server, with 16 connections
+-- a new server, with nothing held on any of its connections
 pub record IsNew (mode instance lease : ℕ) (s : ServerModel) : Type 0 where
   pub state : state_of s.kept ≡ new_state mode instance lease
-  pub held : s.held ≡ replicate 16 fresh
+  pub held : s.held ≡ replicate connection_count fresh
   pub reply : s.reply ≡ []
 
 -- the connection is closed, and nothing else has changed

@@ -8,7 +8,7 @@ ghost use Rattle.nfs_serve.specs.Reading as reading;
 ghost use Rattle.nfs_serve.specs.Server.{fresh, held_on};
 ghost use Rattle.nfs_serve.specs.Replay.{AllStand, Replays, Reports};
 ghost use Rattle.nfs_serve.specs.Running.{RunsEntryOr, EndsBehind};
-ghost use Rattle.nfs_serve.specs.Script.{last_moment, most_piece};
+ghost use Rattle.nfs_serve.specs.Script.{last_moment, last_connection, connection_count, most_piece};
 
 use crate::connection::Connection;
 use crate::engine::Engine;
@@ -33,14 +33,14 @@ pub fn run<L: Lends<R>, R: Source, W: Sink>(
     r: &mut R,
     w: &mut W,
 ) -> Result<(), ReplayFault>
-    requires connections { length connections.old ≡ 16 }
+    requires connections { length connections.old ≡ connection_count }
     requires closed { AllStand all_closed connections.old }
     requires room { length buf.old ≡ most_piece }
     requires read { R.has_failed r.old ≡ false }
     requires ended { R.has_ended r.old ≡ false }
     requires write { W.has_failed w.old ≡ false }
     ensures run { Replays result (state_of engine.old.kept) (state_of engine.new.kept) connections.new (R.left r.old) (R.left r.new) (W.held w.old) (W.held w.new) }
-    ensures told { Reports result (R.has_ended r.new) (R.has_failed r.new) (W.has_failed w.new) (R.left r.new) }
+    ensures reported { Reports result (R.has_ended r.new) (R.has_failed r.new) (W.has_failed w.new) (R.left r.new) }
 {
     for done in 0..MAX_ENTRIES {
         let ran = match whole_entry(L::bytes(r)) {
@@ -89,13 +89,13 @@ fn run_entry<W: Sink>(
     entry: &Entry<'_>,
     w: &mut W,
 ) -> Result<(), WriteFailed>
-    requires connections { length connections.old ≡ 16 }
-    requires conn { entry.now.conn ≤ 15 }
+    requires connections { length connections.old ≡ connection_count }
+    requires conn { entry.now.conn ≤ last_connection }
     requires moment { entry.now.moment ≤ last_moment }
     requires bytes { IsBytes entry.now.piece.now }
     requires write { W.has_failed w.old ≡ false }
     ensures ran { RunsEntryOr result (state_of engine.old.kept) (state_of engine.new.kept) connections.old connections.new (reading.entry entry.now) (W.held w.old) (W.held w.new) (W.has_failed w.new) }
-    ensures length { length connections.new ≡ 16 }
+    ensures length { length connections.new ≡ connection_count }
 {
     let conn = entry.conn as usize;
     if entry.piece.is_empty() {

@@ -11,7 +11,7 @@ use crate::fault::Stop;
 use crate::moving::fill;
 
 /// The last connection.
-const LAST_CONNECTION: u32 = 15;
+pub const LAST_CONNECTION: u32 = 15;
 
 /// The most bytes of a piece.
 pub const MAX_PIECE: u32 = 65_536;

@@ -7,7 +7,7 @@ ghost use Rattle.nfs_serve.specs.Server.{fresh, held_on, IsWith, Steps, FeedsOr,
 ghost use Rattle.nfs_serve.specs.Engine.{state_of};
 ghost use Rattle.nfs_serve.specs.Replay.{Replays, Reports};
 ghost use Rattle.nfs_serve.specs.Talk.{Talks, TalkReports};
-ghost use Rattle.nfs_serve.specs.Script.{last_moment};
+ghost use Rattle.nfs_serve.specs.Script.{last_moment, last_connection, connection_count};
 
 use crate::connection::Connection;
 use crate::engine::Engine;
@@ -16,14 +16,14 @@ use crate::form::{Flow, Form, Outcome};
 use crate::lending::{ByReading, FromBuffer, Lends};
 use crate::moving::WriteFailed;
 use crate::running::{close_all, run};
-use crate::script::{Entry, MAX_PIECE};
+use crate::script::{Entry, LAST_CONNECTION, MAX_PIECE};
 use crate::talking::{Talk, converse};
 use crate::{BufSource, Clock, Sink, Source};
 use std::alloc::{AllocError, Global};
 use std::marker::Model;
 
 /// How many connections a server has, numbered from 0.
-const CONNECTIONS: usize = 16;
+const CONNECTIONS: usize = LAST_CONNECTION as usize + 1;
 
 /// What the server is started with.
 #[derive(Clone, Copy, Debug, PartialEq, Eq)]
@@ -48,13 +48,13 @@ pub struct Server {
 impl Model for Server {
     ghost use Rattle.std.specs.Prelude.{vec_len, ◌≡◌};
     ghost use Rattle.nfs_serve.specs.Server.{ServerModel};
-    ghost use Rattle.nfs_serve.specs.Script.{most_piece};
+    ghost use Rattle.nfs_serve.specs.Script.{most_piece, connection_count};
 
     ghost Value = { ServerModel };
 
     ghost view = { λ s. record { kept = s.engine.kept; held = s.connections.items; reply = s.engine.reply } };
 
-    ghost invariant = { λ s. (vec_len s.connections ≡ 16) × (vec_len s.piece ≡ most_piece) };
+    ghost invariant = { λ s. (vec_len s.connections ≡ connection_count) × (vec_len s.piece ≡ most_piece) };
 }
 
 impl Server {
@@ -120,7 +120,7 @@ impl Server {
         form: Form,
         out: &mut W,
     ) -> Result<Flow, WriteFailed>
-        requires conn { conn ≤ 15 }
+        requires conn { conn ≤ last_connection }
         requires now { now ≤ last_moment }
         requires out { W.has_failed out.old ≡ false }
         ensures fed { FeedsOr result (state_of self.old.kept) (state_of self.new.kept) (held_on self.old.held conn) (held_on self.new.held conn) conn now piece.now form (W.held out.old) (W.held out.new) (W.has_failed out.new) }
@@ -143,7 +143,7 @@ impl Server {
 
     /// Closes the connection `conn` (at most 15): a new stream begins on it.
     pub fn close(&mut self, conn: u32)
-        requires { conn ≤ 15 }
+        requires { conn ≤ last_connection }
         ensures { Closes self.old self.new conn }
     {
         self.connections[conn as usize].close();
@@ -163,7 +163,7 @@ impl Server {
         requires ended { R.has_ended r.old ≡ false }
         requires write { W.has_failed w.old ≡ false }
         ensures run { Replays result (state_of self.old.kept) (state_of self.new.kept) self.new.held (R.left r.old) (R.left r.new) (W.held w.old) (W.held w.new) }
-        ensures told { Reports result (R.has_ended r.new) (R.has_failed r.new) (W.has_failed w.new) (R.left r.new) }
+        ensures reported { Reports result (R.has_ended r.new) (R.has_failed r.new) (W.has_failed w.new) (R.left r.new) }
         ensures reply { self.new.reply ≡ [] }
     {
         self.run_script::<ByReading, R, W>(alloc, r, w)
@@ -180,7 +180,7 @@ impl Server {
         requires ended { R.has_ended r.old ≡ false }
         requires write { W.has_failed w.old ≡ false }
         ensures run { Replays result (state_of self.old.kept) (state_of self.new.kept) self.new.held (R.left r.old) (R.left r.new) (W.held w.old) (W.held w.new) }
-        ensures told { Reports result (R.has_ended r.new) (R.has_failed r.new) (W.has_failed w.new) (R.left r.new) }
+        ensures reported { Reports result (R.has_ended r.new) (R.has_failed r.new) (W.has_failed w.new) (R.left r.new) }
         ensures reply { self.new.reply ≡ [] }
     {
         self.run_script::<FromBuffer, R, W>(alloc, r, w)
@@ -197,7 +197,7 @@ impl Server {
         requires ended { R.has_ended r.old ≡ false }
         requires write { W.has_failed w.old ≡ false }
         ensures run { Replays result (state_of self.old.kept) (state_of self.new.kept) self.new.held (R.left r.old) (R.left r.new) (W.held w.old) (W.held w.new) }
-        ensures told { Reports result (R.has_ended r.new) (R.has_failed r.new) (W.has_failed w.new) (R.left r.new) }
+        ensures reported { Reports result (R.has_ended r.new) (R.has_failed r.new) (W.has_failed w.new) (R.left r.new) }
         ensures reply { self.new.reply ≡ [] }
     {
         close_all(&mut self.connections);
@@ -230,7 +230,7 @@ impl Server {
         requires ended { R.has_ended r.old ≡ false }
         requires write { W.has_failed w.old ≡ false }
         ensures run { Talks result (state_of self.old.kept) (state_of self.new.kept) (R.left r.old) (R.left r.new) (W.held w.old) (W.held w.new) (C.told clock.old) (C.told clock.new) }
-        ensures told { TalkReports result (R.has_ended r.new) (R.has_failed r.new) (W.has_failed w.new) (R.left r.new) }
+        ensures reported { TalkReports result (R.has_ended r.new) (R.has_failed r.new) (W.has_failed w.new) (R.left r.new) }
         ensures held { IsWith self.new.held self.old.held 0 fresh }
         ensures reply { self.new.reply ≡ [] }
     {
@@ -251,7 +251,7 @@ impl Server {
 
 /// Connections on which nothing has come.
 fn connections(alloc: Global) -> Result<Vec<Connection>, AllocError>
-    ensures { IfOk result (λ cs. cs.items ≡ replicate 16 fresh) }
+    ensures { IfOk result (λ cs. cs.items ≡ replicate connection_count fresh) }
 {
     let mut connections = Vec::with_capacity(alloc, CONNECTIONS)?;
     for _ in 0..CONNECTIONS {

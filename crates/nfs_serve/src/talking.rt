@@ -45,7 +45,7 @@ pub fn converse<R: Source, W: Sink, C: Clock>(
     requires ended { R.has_ended r.old ≡ false }
     requires write { W.has_failed w.old ≡ false }
     ensures run { Talks result (state_of engine.old.kept) (state_of engine.new.kept) (R.left r.old) (R.left r.new) (W.held w.old) (W.held w.new) (C.told clock.old) (C.told clock.new) }
-    ensures told { TalkReports result (R.has_ended r.new) (R.has_failed r.new) (W.has_failed w.new) (R.left r.new) }
+    ensures reported { TalkReports result (R.has_ended r.new) (R.has_failed r.new) (W.has_failed w.new) (R.left r.new) }
 {
     connection.close();
     for _ in 0..MAX_READS {

@@ -138,9 +138,9 @@ fn a_contract_of_the_number_alone_lets_a_repeat_run_again(rt: HostRuntime) {
         used: false,
     };
     let mut tries = 0;
-    for told in [OK, EXIST] {
+    for status in [OK, EXIST] {
         let answer = (slot.take(1), create(&mut tries));
-        assert_eq!(rt; answer, (Verdict::Fresh, told));
+        assert_eq!(rt; answer, (Verdict::Fresh, status));
     }
 }
 

@@ -27,4 +27,4 @@ pub use limits::{FHSIZE, MAX_GROUPS, MAX_MACHINE_NAME, MAX_RECORD, MAX_TRANSFER,
 pub use sheet::Sheet;
 pub use status::Status;
 pub use time::Time;
-pub use who::Who;
+pub use who::{AUTH_NONE, AUTH_SYS, Who};

@@ -2,6 +2,12 @@
 
 ghost use Rattle.std.specs.Prelude.{◌≡◌, []};
 
+/// The flavor of a credential that names nobody (RFC 5531 section 10.1).
+pub const AUTH_NONE: u32 = 0;
+
+/// The flavor of a credential that names a user and groups (RFC 5531 appendix A).
+pub const AUTH_SYS: u32 = 1;
+
 /// The caller of a call, as its credential names it (RFC 5531 section 10.1 and appendix A).
 #[derive(Clone, Copy, Debug)]
 pub struct Who<'a> {
