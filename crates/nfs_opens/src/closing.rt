@@ -4,21 +4,24 @@ ghost use Rattle.std.specs.Prelude.{◌≡◌, ◌==◌, not, filter, find, vec_
 ghost use Rattle.std.specs.Option.{option_copied};
 ghost use Rattle.std.specs.List.{list_any};
 ghost use Rattle.nfs_opens.specs.Holding.{held_by, on_file};
-ghost use Rattle.nfs_opens.specs.Table.{table, lock_at, AreHolders};
+ghost use Rattle.nfs_opens.specs.Table.{table, lock_at, AreHolders, Rises};
 ghost use Rattle.nfs_opens.specs.Closing.{not_under, without_open, close, drop_client, without_lock, free_lock, free, held_without};
 
 use crate::judging::{Seat, Sort};
 use crate::locked_files::LockedFiles;
 use crate::opens::Opens;
-use crate::records::{LockState, OpenState, lock_in};
+use crate::records::{LockState, OpenState, lock_in, place_of_lock, place_of_open};
 use crate::stateid::StateId;
 use nfs_xdr::Status;
 
 fn drop_open(opens: &mut Vec<OpenState>, number: u64)
+    requires { Rises (λ o. o.number) 1 opens.old.items }
     ensures items { opens.new.items ≡ filter (λ o. not (o.number == number)) opens.old.items }
     ensures room { vec_capacity opens.new ≡ vec_capacity opens.old }
 {
-    opens.retain(|o| o.number != number);
+    if let Some(place) = place_of_open(opens, number) {
+        let _ = opens.remove(place);
+    }
 }
 
 fn drop_locks(locks: &mut Vec<LockState>, opened: u64)
@@ -28,9 +31,12 @@ fn drop_locks(locks: &mut Vec<LockState>, opened: u64)
 }
 
 fn drop_lock(locks: &mut Vec<LockState>, number: u64)
+    requires { Rises (λ l. l.number) 1 locks.old.items }
     ensures { locks.new.items ≡ filter (λ l. not (l.number == number)) locks.old.items }
 {
-    locks.retain(|l| l.number != number);
+    if let Some(place) = place_of_lock(locks, number) {
+        let _ = locks.remove(place);
+    }
 }
 
 /// The first open of a client.

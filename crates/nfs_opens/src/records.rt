@@ -110,7 +110,7 @@ impl LockState {
 }
 
 /// The place of the open of a number.
-fn place_of_open(opens: &[OpenState], number: u64) -> Option<usize>
+pub(crate) fn place_of_open(opens: &[OpenState], number: u64) -> Option<usize>
     requires { Rises (λ o. o.number) 1 opens.now }
     ensures { result ≡ position (λ o. o.number == number) opens.now }
 {
@@ -118,7 +118,7 @@ fn place_of_open(opens: &[OpenState], number: u64) -> Option<usize>
 }
 
 /// The place of the lock state of a number.
-fn place_of_lock(locks: &[LockState], number: u64) -> Option<usize>
+pub(crate) fn place_of_lock(locks: &[LockState], number: u64) -> Option<usize>
     requires { Rises (λ l. l.number) 1 locks.now }
     ensures { result ≡ position (λ l. l.number == number) locks.now }
 {

@@ -1,6 +1,23 @@
-use Rattle.std.proofs.Common.{rules, tests}
-use Rattle.std.proofs.lemmas.Fn.{filter_same}
+use Rattle.std.proofs.Common.{◌≡◌, Some, None, sym, ◌∙◌, ap, subst}
+use Rattle.std.specs.Prelude.{◌==◌, position}
+use Rattle.nfs_opens.specs.declared.records.LockState.{LockState}
+use Rattle.nfs_opens.specs.Table.{Rises}
+use Rattle.nfs_xdr.proofs.Lists.{position_nowhere}
+use Rattle.nfs_xdr.proofs.Tables.{removed, without_none}
 use Rattle.nfs_opens.proofs.closing.drop_lock.Goals as goal
 
-pub returns : goal.returns
-returns c = filter_same _ _ _ (λ x b f' k. search (rules, tests)) _ _ c.retain.ensures.filtered
+pub place_of_lock-requires : goal.place_of_lock-requires
+place_of_lock-requires c = subst (Rises (λ (l : LockState). l.number) 1) (sym c.deref.ensures.value) c.requires
+
+pub returns-in-Some : goal.returns-in-Some
+returns-in-Some c =
+    let place : position (λ (l : LockState). l.number == c.args.number) c.args.locks.now.items ≡ Some c.in-Some.place =
+    ap (position (λ (l : LockState). l.number == c.args.number)) (sym c.deref.ensures.value) ∙ (sym c.place_of_lock.ensures ∙ c.in-Some.is) in
+    c.remove.ensures.items ∙ removed (λ (l : LockState). l.number) 1 c.requires.0 c.args.number c.args.locks.now.items c.in-Some.place c.requires.1 place
+
+pub returns-in_default : goal.returns-in_default
+returns-in_default c =
+    let gone : position (λ (l : LockState). l.number == c.args.number) c.args.locks.now.items ≡ None =
+    ap (position (λ (l : LockState). l.number == c.args.number)) (sym c.deref.ensures.value) ∙ (sym c.place_of_lock.ensures ∙ c.in_default.is) in
+    sym (without_none (λ (l : LockState). l.number) c.args.number c.args.locks.now.items
+    (position_nowhere (λ (l : LockState). l.number == c.args.number) c.args.locks.now.items gone))

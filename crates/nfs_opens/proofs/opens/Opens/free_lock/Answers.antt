@@ -32,3 +32,6 @@ invariant_of-self c =
       table = subst IsTable (sym same) (free_keeps t c.args.number c.in-Some.lock.now c.self.invariant.table found (sym c.any.ensures ∙ c.if-any.false));
       room = c.self.invariant.room;
     }
+
+pub drop_lock-requires : goal.drop_lock-requires
+drop_lock-requires c = (_, c.self.invariant.table.locks)

@@ -36,3 +36,6 @@ returns-clause-after c =
     let same = same_table c.drop_open.new.opens.items _ c.drop_locks.new.locks.items _
     (held_by c.forget_unlocked.new.files) _ c.self.inside.last c.self.inside.instance c.drop_open.ensures.items c.drop_locks.ensures held in
     same ∙ ap (λ (k : Kept). without_open (table k) c.args.number) c.self.view_is
+
+pub drop_open-requires : goal.drop_open-requires
+drop_open-requires c = (_, c.self.invariant.table.opens)
