@@ -5,6 +5,7 @@ ghost use Rattle.nfs_tree.specs.Files.{root, has_row};
 
 use super::*;
 use crate::row::has_row;
+use crate::stored::stored_in;
 use nfs_testing::{LONG, MAX_BLOCKS, starve};
 use nfs_xdr::{Sheet, Time};
 use std::alloc::{AllocError, Global};
@@ -132,10 +133,15 @@ fn names_are_put_dropped_and_moved(rt: HostRuntime) -> Result<(), Fail> {
     Ok(())
 }
 
-/// Bytes 3, 4 and 5 of an object, as READ puts them.
-fn three_bytes(tree: &Tree, alloc: Global, number: u64) -> Result<Sheet, AllocError> {
+/// Three bytes of an object, as READ puts them.
+fn three_bytes(
+    tree: &Tree,
+    alloc: Global,
+    number: u64,
+    offset: u64,
+) -> Result<Sheet, AllocError> {
     let mut sheet = Sheet::new(alloc, 16)?;
-    tree.read(number, 3, &mut sheet, 3);
+    tree.read(number, offset, &mut sheet, 3);
     Ok(sheet)
 }
 
@@ -161,10 +167,40 @@ fn bytes_are_written_cut_and_read(rt: HostRuntime) -> Result<(), Fail> {
     let object = tree.object(f).ok_or("no object")?;
     assert!(rt; object.size == 7 && object.change == 4 && object.mode == 0o600);
     assert!(rt; object.modify == NOW && object.access == START);
-    let sheet = three_bytes(&tree, alloc, f)?;
+    let sheet = three_bytes(&tree, alloc, f, 3)?;
     assert_eq!(rt; sheet.bytes(), b"\x00\x00\x00\x03\x00ab\x00".as_slice());
     assert!(rt; tree.judge_create(Tree::ROOT).is_ok());
     tree.remove(Tree::ROOT, b"f", NOW)?;
+    Ok(())
+}
+
+/// How many pages of an object have bytes.
+fn pages_made(tree: &Tree, number: u64) -> usize {
+    match stored_in(&tree.objects, number) {
+        Some(stored) => {
+            let pages = stored.bytes.pages.iter();
+            pages.filter(|page| !page.bytes.is_empty()).count()
+        }
+        None => 0,
+    }
+}
+
+#[test]
+fn a_page_is_made_where_bytes_are_written(rt: HostRuntime) -> Result<(), Fail> {
+    let alloc = rt.alloc();
+    let mut tree = Tree::new(alloc, 0o755, START)?;
+    assert!(rt; run(&mut tree, alloc, Step::File(1, b"f")) == Ok(2));
+    // the last byte that a file may have
+    tree.write(alloc, 2, 1_048_575, b"z", NOW)?;
+    assert_eq!(rt; pages_made(&tree, 2), 1);
+    // over the edge of two pages, of which the second is cut to nothing and grows again
+    tree.write(alloc, 2, 4_095, b"ab", NOW)?;
+    assert_eq!(rt; pages_made(&tree, 2), 3);
+    tree.resize(alloc, 2, 4_096, &Sets::none(), NOW)?;
+    tree.resize(alloc, 2, 4_098, &Sets::none(), NOW)?;
+    assert_eq!(rt; pages_made(&tree, 2), 1);
+    let sheet = three_bytes(&tree, alloc, 2, 4_094)?;
+    assert_eq!(rt; sheet.bytes(), b"\x00\x00\x00\x03\x00a\x00\x00".as_slice());
     Ok(())
 }
 
@@ -187,18 +223,18 @@ fn a_refused_growth_changes_nothing(rt: HostRuntime) -> Result<(), Fail> {
         }
     }
     let written = tree.write(alloc, 2, 0, LONG, NOW);
-    let resized = tree.resize(alloc, 2, 1_000_000, &Sets::none(), NOW);
     let size = tree.object(2).map(|object| object.size);
     let same = tree.lookup(1, LONG).is_none()
         && tree.change(1) == Some(2)
         && tree.change(2) == Some(1);
+    // zeros take none
+    let resized = tree.resize(alloc, 2, 1_000_000, &Sets::none(), NOW);
     taken.clear();
     assert_eq!(rt; refused, 3);
-    assert!(rt; written == Err(TreeFault::Memory) && resized == Err(TreeFault::Memory));
+    assert!(rt; written == Err(TreeFault::Memory) && resized.is_ok());
     assert!(rt; same && size == Some(0));
     // and with memory there each is done
     tree.write(alloc, 2, 0, LONG, NOW)?;
-    tree.resize(alloc, 2, 1_000_000, &Sets::none(), NOW)?;
     for step in [
         Step::Link(2, 1, LONG),
         Step::Remove(1, LONG),

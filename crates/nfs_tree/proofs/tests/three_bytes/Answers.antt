@@ -14,4 +14,4 @@ three_fit : (text : List ℕ) (s : SheetState) → s ≡ record { bytes = []; ro
 three_fit text s is = rw is (omega (arith, length_opaque (take 3 text), length-take 3 text))
 
 pub read-requires : goal.read-requires
-read-requires c = record { room = three_fit (drop 3 (data_at c.args.tree.now c.args.number)) c.in_ok-sheet.sheet c.in_ok-sheet.ensures }
+read-requires c = record { room = three_fit (drop c.args.offset (data_at c.args.tree.now c.args.number)) c.in_ok-sheet.sheet c.in_ok-sheet.ensures }
