@@ -23,3 +23,10 @@ pub mod Granted
 pub mod OwnOpens
 pub mod Arms
 pub mod Whole
+pub mod OpenTree
+pub mod KeptLocks
+pub mod KeptOps
+pub mod ToldLocks
+pub mod TableSteps
+pub mod TreeSteps
+pub mod TreeFiles

@@ -16,6 +16,7 @@ mod access;
 mod bytes;
 mod closing;
 mod entering;
+pub mod laws;
 mod locking;
 mod opening;
 mod operation;

@@ -1,0 +1,259 @@
+-- A lock that was told stays through each operation that spares it, and whoever clashes with it is refused.
+use Rattle.std.proofs.Common.{◌≡◌, ◌≢◌, ◌⊎◌, ℕ, suc, ◌+◌, ◌<◌, ◌≤◌, Bool, true, false, cond, eqb, not, List, [], ◌∷◌, ◌++◌, Option, Some, None, refl, sym, ◌∙◌, ap, subst, arith, inl, inr}
+use Rattle.std.specs.Prelude.{◌==◌, ◌&&◌, ◌^◌, nat_le, Result, Ok, Err, if◌then◌else◌, filter, map}
+use Rattle.std.specs.List.{list_any}
+use Rattle.std.proofs.lemmas.Bool.{cases_Bool, cases_eq, cases_lt, eq-eqb, ne_eqb, eqb-true, leb-true, and_parts}
+use Rattle.nfs_xdr.specs.Tables.{In}
+use Rattle.nfs_xdr.specs.declared.status.Status.{Status}
+use Rattle.nfs_xdr.proofs.Lists.{in_filter, stays_in, push_in, map_in, any_in, find_in}
+use Rattle.nfs_xdr.proofs.Tables.{in_once, in_bounds}
+use Rattle.nfs_compound.specs.LockArgs as args
+use Rattle.nfs_compound.specs.declared.op_num.OpNum.{OpNum}
+use Rattle.nfs_ranges.specs.declared.Kind.{Kind}
+use Rattle.nfs_ranges.specs.Holders.{Holders, holding, cleared, holds_any}
+use Rattle.nfs_ranges.specs.Intervals.{is_within}
+use Rattle.nfs_ranges.specs.Told.{Tells, meets}
+use Rattle.nfs_ranges.proofs.CanonicalLemmas.{within_is}
+use Rattle.nfs_opens.specs.declared.share.Share.{Share}
+use Rattle.nfs_opens.specs.declared.records.LockState.{LockState}
+use Rattle.nfs_opens.specs.declared.records.OpenState.{OpenState}
+use Rattle.nfs_opens.specs.declared.stateid.StateId.{StateId}
+use Rattle.nfs_opens.specs.declared.locking.Wish.{Wish}
+use Rattle.nfs_opens.specs.declared.locking.OpenFault.{OpenFault}
+use Rattle.nfs_opens.specs.declared.judging.Seat.{Seat}
+use Rattle.nfs_opens.specs.declared.judging.Sort.TheVariants.{OpenOnly, LockOnly}
+use Rattle.nfs_opens.specs.Holding.{FileHolders, on_file}
+use Rattle.nfs_opens.specs.StateId.{last_number, next_seqid}
+use Rattle.nfs_opens.specs.Table.{Table, Did, IsTable, IsHolder, lock_at, with_lock}
+use Rattle.nfs_opens.specs.Judging.{judge}
+use Rattle.nfs_opens.specs.Closing.{stands, held_within, not_under, without_open, without_lock}
+use Rattle.nfs_opens.specs.Locking as locking
+use Rattle.nfs_opens.specs.Locking.{raised, lock_judged}
+use Rattle.nfs_opens.proofs.FileLemmas.{file_here, file_other}
+use Rattle.nfs_opens.proofs.HolderLemmas.{unmet}
+use Rattle.nfs_opens.proofs.LockLemmas.{holds_none}
+use Rattle.nfs_opens.proofs.StepLemmas.{judged_tells, first_state}
+use Rattle.nfs_files.specs.Lock.{locks_as}
+use Rattle.nfs_files.specs.Kept.{Told, IsHeld, IsBeside, Stands, Clashes}
+
+-- bytes
+
+pub within_not : (first last b : ℕ) → ((first ≤ b) → (b ≤ last) → ⊥) → is_within first last b ≡ false
+within_not first last b out = elim (cases_Bool (is_within first last b)) [
+  | inl inside ↦ (let range = and_parts _ _ inside in absurd (out (leb-true _ _ range.0) (leb-true _ _ range.1)))
+  | inr outside ↦ outside
+]
+
+-- a byte of the lock lies in no wish beside it
+pub outside : (k : Told) (w : Wish) (b : ℕ) → IsBeside w k → k.first ≤ b → b ≤ k.last → is_within w.first w.last b ≡ false
+outside k w b beside lo hi = within_not w.first w.last b (λ a z. elim beside [ inl below ↦ absurd (omega arith) | inr above ↦ absurd (omega arith) ])
+
+pub held_other : (h : Holders) (n : ℕ) (kind : Kind) (first last s b : ℕ) → (n ≡ s → is_within first last b ≡ false) → holding h n kind first last s b ≡ h s b
+held_other h n kind first last s b apart =
+    elim (cases_eq n s) [ inl same ↦ rw (eq-eqb n s same, apart same) refl | inr other ↦ rw (ne_eqb n s other) refl ]
+
+pub cleared_other : (h : Holders) (n first last s b : ℕ) → (n ≡ s → is_within first last b ≡ false) → cleared h n first last s b ≡ h s b
+cleared_other h n first last s b apart =
+    elim (cases_eq n s) [ inl same ↦ rw (eq-eqb n s same, apart same) refl | inr other ↦ rw (ne_eqb n s other) refl ]
+
+on_file_same : (held : FileHolders) (file : ℕ) (g : Holders → Holders) (f s b : ℕ) → ((h : Holders) → g h s b ≡ h s b) → on_file held file g f s b ≡ held f s b
+on_file_same held file g f s b same = elim (cases_Bool (eqb f file)) [ inl here ↦ rw here (same (held f)) | inr there ↦ rw there refl ]
+
+-- the table's changes
+
+-- neither lock states nor bytes move
+pub stands_by : (k : Told) (t u : Table) → u.locks ≡ t.locks → u.held ≡ t.held → Stands k t → Stands k u
+stands_by k t u locks held is = record {
+  lock = is.lock;
+  there = subst (In is.lock) (sym locks) is.there;
+  number = is.number;
+  client = is.client;
+  opened = is.opened;
+  held = λ b lo hi. ap (λ (h : FileHolders). h k.file k.state b) held ∙ is.held b lo hi;
+}
+
+-- another open is closed
+pub stands_closed : (k : Told) (t : Table) (n : ℕ) → n ≢ k.opened → Stands k t → Stands k (without_open t n)
+stands_closed k t n other is =
+    let passes : not_under n is.lock ≡ true = ap not (ne_eqb is.lock.opened n (λ same. other (sym same ∙ is.opened))) in
+    let left : In is.lock (filter (not_under n) t.locks) = stays_in (not_under n) t.locks is.lock is.there passes in
+    let still : stands (filter (not_under n) t.locks) k.state ≡ true = any_in (λ (l : LockState). l.number == k.state)
+    (filter (not_under n) t.locks) is.lock left (eq-eqb is.lock.number k.state is.number) in
+    record {
+      lock = is.lock;
+      there = left;
+      number = is.number;
+      client = is.client;
+      opened = is.opened;
+      held = λ b lo hi. rw still (is.held b lo hi);
+    }
+
+-- a lock state that holds nothing is freed
+pub stands_freed : (k : Told) (t : Table) (n : ℕ) (l : LockState) → IsTable t → k.first ≤ k.last → lock_at t n ≡ Some l
+    → holds_any (t.held l.file) n ≡ false → Stands k t → Stands k (without_lock t n)
+stands_freed k t n l table some found none is =
+    let at = find_in (λ (l : LockState). l.number == n) t.locks l found in
+    let other : is.lock.number ≢ n = λ same. (
+      let holds : t.held k.file k.state k.first ≡ Some k.kind = is.held k.first (omega arith) some in
+      let (h, holder) = table.holders k.file k.state k.first (λ e. let bad : Some k.kind ≡ None = sym holds ∙ e in cc) in
+      let named : k.state ≡ n = sym is.number ∙ same in
+      let one : h ≡ l = in_once (λ (l : LockState). l.number) 1 (suc t.last) t.locks h l table.locks holder.stands at.0
+      (holder.number ∙ named ∙ sym (eqb-true _ _ at.1)) in
+      let file : k.file ≡ l.file = sym holder.file ∙ ap (λ (l : LockState). l.file) one in
+      let gone : t.held l.file n k.first ≡ None = holds_none (t.held l.file) n (table.within l.file n) none k.first in
+      let bad : Some k.kind ≡ None = sym holds ∙ ap (λ f. t.held f k.state k.first) file ∙ ap (λ s. t.held l.file s k.first) named ∙ gone in cc) in
+    record {
+      lock = is.lock;
+      there = stays_in (λ (l : LockState). not (l.number == n)) t.locks is.lock is.there (ap not (ne_eqb is.lock.number n other));
+      number = is.number;
+      client = is.client;
+      opened = is.opened;
+      held = is.held;
+    }
+
+change : ℕ → LockState → LockState
+change n l = if l.number == n then raised l else l
+
+-- a seqid rises, and bytes of a file move, but none of these
+pub stands_raised : (k : Told) (t : Table) (n file : ℕ) (g : Holders → Holders)
+    → ((h : Holders) (b : ℕ) → k.first ≤ b → b ≤ k.last → g h k.state b ≡ h k.state b)
+    → Stands k t → Stands k (record (with_lock t n raised) { held = on_file t.held file g })
+unfolding change
+stands_raised k t n file g same is = record {
+  lock = change n is.lock;
+  there = map_in (change n) t.locks is.lock is.there;
+  number = elim (is.lock.number == n) as (λ v. (cond v (raised is.lock) is.lock).number ≡ k.state) [ true ↦ is.number | false ↦ is.number ];
+  client = elim (is.lock.number == n) as (λ v. (cond v (raised is.lock) is.lock).client ≡ k.client) [ true ↦ is.client | false ↦ is.client ];
+  opened = elim (is.lock.number == n) as (λ v. (cond v (raised is.lock) is.lock).opened ≡ k.opened) [ true ↦ is.opened | false ↦ is.opened ];
+  held = λ b lo hi. on_file_same t.held file g k.file k.state b (λ h. same h b lo hi) ∙ is.held b lo hi;
+}
+
+-- a new lock state takes other bytes, or the same ones beside it
+pub stands_first : (k : Told) (t : Table) (w : Wish) (new : LockState) → IsTable t → Stands k t
+    → Stands k (record t {
+      locks = t.locks ++ new ∷ [];
+      held = on_file t.held w.file (λ h. holding h (t.last + 1) w.kind w.first w.last);
+      last = t.last + 1;
+    })
+stands_first k t w new table is =
+    let below = in_bounds (λ (l : LockState). l.number) 1 (suc t.last) t.locks is.lock table.locks is.there in
+    let other : t.last + 1 ≢ k.state = λ same. (let number = is.number in absurd (omega arith)) in
+    record {
+      lock = is.lock;
+      there = push_in t.locks new is.lock is.there;
+      number = is.number;
+      client = is.client;
+      opened = is.opened;
+      held = λ b lo hi. on_file_same t.held w.file (λ h. holding h (t.last + 1) w.kind w.first w.last) k.file k.state b
+          (λ h. held_other h (t.last + 1) w.kind w.first w.last k.state b (λ same. absurd (other same))) ∙ is.held b lo hi;
+    }
+
+-- What a LOCK that is granted leaves: a lock state that stood has more, or a new one has its first bytes; and nothing clashed.
+
+pub record IsMore (t : Table) (w : Wish) (n : ℕ) (u : Table) : Type 0 where
+  pub access : Share
+  pub judged : lock_judged t n access w ≡ Ok tt
+  pub left : u ≡ record (with_lock t n raised) { held = on_file t.held w.file (λ h. holding h n w.kind w.first w.last) }
+
+pub record IsFirst (t : Table) (w : Wish) (n : ℕ) (u : Table) : Type 0 where
+  pub access : Share
+  pub new : LockState
+  pub judged : lock_judged t 0 access w ≡ Ok tt
+  pub number : n ≡ t.last + 1
+  pub left : u ≡ record t {
+    locks = t.locks ++ new ∷ [];
+    held = on_file t.held w.file (λ h. holding h (t.last + 1) w.kind w.first w.last);
+    last = t.last + 1;
+  }
+
+abbrev pub IsGranted : Table → Wish → Did StateId OpenFault → StateId → Type 0
+IsGranted t w did id = IsMore t w id.number did.after ⊎ IsFirst t w id.number did.after
+
+abbrev Grants : Table → Wish → Did StateId OpenFault → Type 0
+Grants t w did = (id : StateId) → did.answer ≡ Ok id → IsGranted t w did id
+
+raised_id : Table → ℕ → LockState → StateId
+raised_id t n l = record { seqid = next_seqid l.seqid; instance = t.instance; number = n }
+
+more_grants : (t : Table) (w : Wish) (n : ℕ) (access : Share) (v : Result (Unit {0}) OpenFault) (l : Option LockState)
+    → lock_judged t n access w ≡ v → Grants t w (locking.does_if t v (locking.lock_more t w n l))
+unfolding raised_id
+more_grants t w n access (Err fault) l is id e = absurd cc
+more_grants t w n access (Ok u) None is id e = absurd cc
+more_grants t w n access (Ok u) (Some l) is id e =
+    let made : raised_id t n l ≡ id = cc in
+    let number : n ≡ id.number = ap (λ (i : StateId). i.number) made in
+    inl (subst (λ m. IsMore t w m (locking.lock_more t w n (Some l)).after) number (record { access = access; judged = is; left = refl }))
+
+new_grants : (t : Table) (w : Wish) (opened : ℕ) (owner : List ℕ) (access : Share) (full : Bool) → eqb t.last last_number ≡ full
+    → lock_judged t 0 access w ≡ Ok tt → Grants t w (locking.lock_new t w opened owner)
+new_grants t w opened owner access true is judged id e = absurd (let bad = (rw is at e) in cc)
+new_grants t w opened owner access false is judged id e =
+    let granted = (rw is at e) in
+    let number : t.last + 1 ≡ id.number = (let made : record { seqid = 1; instance = t.instance; number = t.last + 1 } ≡ id = cc in ap (λ (i : StateId). i.number) made) in
+    inr (record { access = access; new = first_state t w owner opened; judged = judged; number = sym number; left = rw is refl })
+
+first_grants : (t : Table) (w : Wish) (opened : ℕ) (owner : List ℕ) (access : Share) (v : Result (Unit {0}) OpenFault)
+    → lock_judged t 0 access w ≡ v → Grants t w (locking.does_if t v (locking.lock_new t w opened owner))
+first_grants t w opened owner access (Err fault) is id e = absurd cc
+first_grants t w opened owner access (Ok u) is id e = new_grants t w opened owner access (eqb t.last last_number) refl is id e
+
+owner_grants : (t : Table) (w : Wish) (opened : ℕ) (owner : List ℕ) (access : Share) (l : Option LockState)
+    → Grants t w (locking.lock_by_owner t w opened owner access l)
+owner_grants t w opened owner access (Some l) = more_grants t w l.number access (lock_judged t l.number access w) (lock_at t l.number) refl
+owner_grants t w opened owner access None = first_grants t w opened owner access (lock_judged t 0 access w) refl
+
+under_grants : (t : Table) (w : Wish) (opened : ℕ) (owner : List ℕ) (v : Result Seat Status) → Grants t w (locking.lock_under t w opened owner v)
+under_grants t w opened owner (Err status) id e = absurd cc
+under_grants t w opened owner (Ok seat) id e =
+    owner_grants t w opened owner (locking.access_in seat) (locking.state_of t w.client owner w.file) id e
+
+known_grants : (t : Table) (w : Wish) (n : ℕ) (v : Result Seat Status) → Grants t w (locking.lock_known t w n v)
+known_grants t w n (Err status) id e = absurd cc
+known_grants t w n (Ok seat) id e =
+    more_grants t w n (locking.access_in seat) (lock_judged t n (locking.access_in seat) w) (lock_at t n) refl id e
+
+pub lock_grants : (t : Table) (who : args.Locker) (id : StateId) (w : Wish) → Grants t w (locks_as t who id w)
+lock_grants t (args.OpenOwner o) id w = under_grants t w id.number o.lock_owner.owner (judge t id w.client (Some w.file) OpenOnly)
+lock_grants t (args.LockOwner o) id w = known_grants t w id.number (judge t id w.client (Some w.file) LockOnly)
+
+-- a LOCK that is granted leaves the lock where it spares it
+pub stands_locked : (k : Told) (t : Table) (w : Wish) (did : Did StateId OpenFault) (id : StateId) → IsTable t → IsGranted t w did id
+    → (id.number ≡ k.state → IsBeside w k) → Stands k t → Stands k did.after
+stands_locked k t w did id table (inl more) spares is =
+    subst (Stands k) (sym more.left) (stands_raised k t id.number w.file (λ h. holding h id.number w.kind w.first w.last)
+    (λ h b lo hi. held_other h id.number w.kind w.first w.last k.state b (λ same. outside k w b (spares same) lo hi)) is)
+stands_locked k t w did id table (inr first) spares is = subst (Stands k) (sym first.left) (stands_first k t w first.new table is)
+
+-- no lock state has number 0
+no_zero : (t : Table) (file b : ℕ) (kind : Kind) → IsTable t → t.held file 0 b ≡ Some kind → ⊥
+no_zero t file b kind table holds =
+    let (l, holder) = table.holders file 0 b (λ e. let bad : Some kind ≡ None = sym holds ∙ e in cc) in
+    let above = in_bounds (λ (l : LockState). l.number) 1 (suc t.last) t.locks l table.locks holder.stands in
+    let zero = holder.number in absurd (omega arith)
+
+-- and whoever clashes with it is not granted
+no_byte : (k : Told) (t : Table) (w : Wish) (n b : ℕ) → Tells (t.held w.file) n w.kind w.first w.last None → n ≢ k.state → Stands k t
+    → w.file ≡ k.file → meets w.kind (Some k.kind) ≡ true → k.first ≤ b → b ≤ k.last → w.first ≤ b → b ≤ w.last → ⊥
+no_byte k t w n b tells other is file kinds lo hi a z =
+    let free : meets w.kind (t.held w.file k.state b) ≡ false =
+    unmet (t.held w.file) n w.kind w.first w.last b k.state tells (within_is w.first w.last b a z) (λ same. other (sym same)) in
+    let there : t.held w.file k.state b ≡ Some k.kind = ap (λ f. t.held f k.state b) file ∙ is.held b lo hi in
+    let bad : true ≡ false = sym kinds ∙ ap (meets w.kind) (sym there) ∙ free in cc
+
+clash_byte : (k : Told) (t : Table) (w : Wish) (m n : ℕ) → Tells (t.held w.file) n w.kind w.first w.last None → n ≢ k.state → Stands k t
+    → k.first ≤ k.last → w.first ≤ w.last → Clashes k m w → ⊥
+clash_byte k t w m n tells other is some range clash =
+    let before = clash.before in let behind = clash.behind in
+    elim (cases_lt w.first k.first) [
+      | inl below ↦ no_byte k t w n k.first tells other is clash.file clash.kinds (omega arith) some (omega arith) behind
+      | inr above ↦ no_byte k t w n w.first tells other is clash.file clash.kinds above before (omega arith) range
+    ]
+
+pub refused : (k : Told) (t : Table) (w : Wish) (did : Did StateId OpenFault) (id : StateId) → IsTable t → IsGranted t w did id
+    → k.first ≤ k.last → w.first ≤ w.last → w.last < 2 ^ 64 → Stands k t → Clashes k id.number w → ⊥
+refused k t w did id table (inl more) some range fits is clash =
+    clash_byte k t w id.number id.number (judged_tells t id.number more.access w table range fits more.judged) clash.other is some range clash
+refused k t w did id table (inr first) some range fits is clash =
+    clash_byte k t w id.number 0 (judged_tells t 0 first.access w table range fits first.judged)
+    (λ zero. no_zero t k.file k.first k.kind table (ap (λ s. t.held k.file s k.first) zero ∙ is.held k.first (omega arith) some)) is some range clash

@@ -1,0 +1,319 @@
+-- The same of each operation on open files.
+use Rattle.std.proofs.Common.{◌≡◌, ◌≢◌, ◌⊎◌, ℕ, suc, ◌+◌, ◌-◌, ◌<◌, ◌≤◌, Bool, true, false, cond, eqb, ltb, not, List, [], ◌∷◌, Option, Some, None, refl, sym, ◌∙◌, ap, subst, arith, inl, inr}
+use Rattle.std.specs.Prelude.{◌==◌, ◌&&◌, ◌^◌, nat_lt, Result, Ok, Err}
+use Rattle.std.proofs.lemmas.Bool.{cases_Bool, cases_lt, cases_eq, eqb-false, ltb-false}
+use Rattle.nfs_xdr.specs.Checks.{first_fault}
+use Rattle.nfs_xdr.specs.declared.time.Time.{Time}
+use Rattle.nfs_xdr.specs.declared.status.Status.{Status}
+use Rattle.nfs_xdr.specs.declared.status.Status.TheVariants.{Delay, Inval, NoGrace}
+use Rattle.nfs_compound.specs.LockArgs as args
+use Rattle.nfs_compound.specs.Arguments.{arguments}
+use Rattle.nfs_compound.specs.OpenArgs.{Open}
+use Rattle.nfs_compound.specs.declared.op_num.OpNum.{OpNum}
+use Rattle.nfs_compound.specs.declared.op_num.OpNum.TheVariants as Num
+use Rattle.nfs_compound.specs.declared.stateid.Stateid.{Stateid}
+use Rattle.nfs_compound.specs.declared.lock_args.LockU.{LockU}
+use Rattle.nfs_compound.specs.declared.lock_args.LockType.{LockType}
+use Rattle.nfs_compound.specs.declared.open_args.Close.{Close}
+use Rattle.nfs_compound.specs.declared.open_args.OpenDowngrade.{OpenDowngrade}
+use Rattle.nfs_compound.specs.Operation.{Op, OpClose, OpCommit, OpFreeStateid, OpLock, OpLockT, OpLockU, OpOpen, OpOpenDowngrade, OpRead, OpSetAttr, OpTestStateid, OpWrite}
+use Rattle.nfs_ranges.specs.Holders.{Holders, cleared, holds_any}
+use Rattle.nfs_ranges.specs.Intervals.{is_within}
+use Rattle.nfs_ranges.specs.declared.Held.{Held}
+use Rattle.nfs_opens.specs.declared.share.Share.{Share}
+use Rattle.nfs_opens.specs.declared.stateid.StateId.{StateId}
+use Rattle.nfs_opens.specs.declared.stateid.CurrentSeqid.TheVariants.{Any, Own}
+use Rattle.nfs_opens.specs.declared.records.OpenState.{OpenState}
+use Rattle.nfs_opens.specs.declared.records.LockState.{LockState}
+use Rattle.nfs_opens.specs.declared.judging.Seat.{Seat}
+use Rattle.nfs_opens.specs.declared.judging.Seat.TheVariants as Seats
+use Rattle.nfs_opens.specs.declared.judging.Sort.TheVariants.{OpenOnly, LockOnly, Either}
+use Rattle.nfs_opens.specs.declared.locking.Wish.{Wish}
+use Rattle.nfs_opens.specs.declared.locking.OpenFault.{OpenFault}
+use Rattle.nfs_opens.specs.declared.locking.OpenFault.TheVariants as F
+use Rattle.nfs_opens.specs.Table.{Table, Did, Asked, IsTable, open_at, lock_at, with_open}
+use Rattle.nfs_opens.specs.Judging.{judge}
+use Rattle.nfs_opens.specs.Closing as closing
+use Rattle.nfs_opens.specs.Opening as opening
+use Rattle.nfs_opens.specs.Locking as locking
+use Rattle.nfs_names.specs.declared.context.Context.{Context}
+use Rattle.nfs_names.specs.declared.node.Node.{Node}
+use Rattle.nfs_names.specs.State.{State}
+use Rattle.nfs_names.specs.Ending.{with_opens}
+use Rattle.nfs_names.specs.Outcome.{Outcome, answers, refuses, checked, passed, mapped, is_ok, or_delay}
+use Rattle.nfs_names.proofs.Untouched.{unused_opens, by_answers}
+use Rattle.nfs_files.specs.StateIds.{meant}
+use Rattle.nfs_files.specs.Target.{target, the_file}
+use Rattle.nfs_files.specs.Ranges.{all_ones, last_of, range, wish, wish_of, wished, wished_by}
+use Rattle.nfs_files.specs.Operation.{one, grows, one_or_delay}
+use Rattle.nfs_files.specs.Close.{closed, closes, close}
+use Rattle.nfs_files.specs.Commit.{commit}
+use Rattle.nfs_files.specs.FreeStateid.{frees, free_stateid}
+use Rattle.nfs_files.specs.Lock as of_lock
+use Rattle.nfs_files.specs.LockT.{tested, lock_t}
+use Rattle.nfs_files.specs.LockU.{unlocking, unlocked, unlocks, lock_u}
+use Rattle.nfs_files.specs.Open as of_open
+use Rattle.nfs_files.specs.OpenDowngrade.{bits, narrowing, narrows, open_downgrade}
+use Rattle.nfs_files.specs.Read.{read}
+use Rattle.nfs_files.specs.SetAttr.{was_set, set_attr}
+use Rattle.nfs_files.specs.TestStateid.{test_stateid}
+use Rattle.nfs_files.specs.Write.{was_written, write}
+use Rattle.nfs_files.specs.Kept.{Told, IsBeside, Locks, Unlocks, Closes, Spares, Stands, Clashes, SparedLocksStay, ClashesAreRefused}
+use Rattle.nfs_files.proofs.KeptLocks.{stands_by, stands_closed, stands_freed, stands_raised, stands_locked, lock_grants, outside, cleared_other, refused}
+
+-- a refusal leaves the state, an answer what follows from what was found
+pub found : {A : Type 0} (P : State → Type 0) (s : State) (x : Context) (op : OpNum) (v : Result A Status) (f : A → Outcome)
+    → P s → ((a : A) → v ≡ Ok a → P (f a).state) → P (answers s x op v f).state
+found P s x op (Err status) f same each = same
+found P s x op (Ok a) f same each = each a refl
+
+abbrev Keeps : Told → State → Type 0
+Keeps k s = Stands k s.opens
+
+-- LOCK
+locked_stands : (k : Told) (s : State) (x : Context) (after : Table) (v : Result StateId OpenFault)
+    → Stands k s.opens → ((id : StateId) → v ≡ Ok id → Stands k after) → Keeps k (of_lock.locked s x after v).state
+locked_stands k s x after (Ok id) same each = each id refl
+locked_stands k s x after (Err (F.Refused status)) same each = same
+locked_stands k s x after (Err (F.Denied h)) same each = same
+locked_stands k s x after (Err F.Memory) same each = same
+
+keeps_lock : (k : Told) (s : State) (x : Context) (a : args.Lock) → IsTable s.opens → ((n : ℕ) (w : Wish) → Locks s x (OpLock a) n w → n ≡ k.state → IsBeside w k)
+    → Stands k s.opens → Keeps k (of_lock.lock s x a).state
+unfolding of_lock.lock
+keeps_lock k s x a table spares is =
+    found (Keeps k) s x Num.Lock (of_lock.locking s x a) (of_lock.locks s x a.locker) is (λ m judged.
+    (let did = of_lock.locks_as s.opens a.locker m.id m.wish in
+    locked_stands k s x did.after did.answer is (λ id granted.
+    stands_locked k s.opens m.wish did id table (lock_grants s.opens a.locker m.id m.wish id granted)
+    (λ mine. spares id.number m.wish (record { asked = a; id = m.id; answer = id; is = refl; judged = judged; granted = granted; state = refl }) mine) is)))
+
+-- LOCKU
+cleared_stands : (k : Told) (t : Table) (n file first last : ℕ) (w : Wish) (l : Option LockState) (id : StateId)
+    → first ≡ w.first → last ≡ w.last
+    → (locking.clear_lock t n file first last l).answer ≡ Ok id → (n ≡ k.state → IsBeside w k) → Stands k t
+    → Stands k (locking.clear_lock t n file first last l).after
+cleared_stands k t n file first last w None id from to granted spares is = absurd cc
+cleared_stands k t n file first last w (Some l) id from to granted spares is =
+    stands_raised k t n file (λ h. cleared h n first last)
+    (λ h b lo hi. cleared_other h n first last k.state b (λ same. ap (λ f. is_within f last b) from ∙ ap (λ z. is_within w.first z b) to ∙ outside k w b (spares same) lo hi)) is
+
+unlock_stands : (k : Told) (t : Table) (n : ℕ) (w : Wish) (v : Result Seat Status) (id : StateId)
+    → (locking.unlock_by t n w.file w.first w.last v).answer ≡ Ok id → (n ≡ k.state → IsBeside w k) → Stands k t
+    → Stands k (locking.unlock_by t n w.file w.first w.last v).after
+unlock_stands k t n w (Err status) id granted spares is = absurd cc
+unlock_stands k t n w (Ok seat) id granted spares is = cleared_stands k t n w.file w.first w.last w (lock_at t n) id refl refl granted spares is
+
+unlocked_stands : (k : Told) (s : State) (x : Context) (after : Table) (v : Result StateId OpenFault)
+    → Stands k s.opens → ((id : StateId) → v ≡ Ok id → Stands k after) → Keeps k (unlocked s x after v).state
+unlocked_stands k s x after (Ok id) same each = each id refl
+unlocked_stands k s x after (Err fault) same each = same
+
+keeps_unlock : (k : Told) (s : State) (x : Context) (a : LockU) → ((n : ℕ) (w : Wish) → Unlocks s x (OpLockU a) n w → n ≡ k.state → IsBeside w k)
+    → Stands k s.opens → Keeps k (lock_u s x a).state
+unfolding lock_u
+keeps_unlock k s x a spares is =
+    found (Keeps k) s x Num.LockU (unlocking s x a) (unlocks s x) is (λ m judged.
+    (let w = m.wish in let did = locking.unlock s.opens m.id w.client w.file w.first w.last in
+    unlocked_stands k s x did.after did.answer is (λ id granted.
+    unlock_stands k s.opens m.id.number w (judge s.opens m.id w.client (Some w.file) LockOnly) id granted
+    (λ mine. spares m.id.number w (record { asked = a; id = m.id; answer = id; is = refl; judged = judged; granted = granted; state = refl }) mine) is)))
+
+-- CLOSE
+by_seat : (k : Told) (s : State) (x : Context) (file : ℕ) (id : StateId) (v : Result Seat Status) → Stands k s.opens
+    → ((closing.close_by s.opens id.number v).answer ≡ Ok tt → id.number ≢ k.opened)
+    → Keeps k (answers s x Num.Close (closing.close_by s.opens id.number v).answer
+    (λ u. closed s x file (closing.close_by s.opens id.number v).after)).state
+by_seat k s x file id (Err status) is other = is
+by_seat k s x file id (Ok seat) is other =
+    subst (Stands k) (sym (unused_opens (with_opens s (closing.without_open s.opens id.number)) file))
+    (stands_closed k s.opens id.number (other refl) is)
+
+keeps_close : (k : Told) (s : State) (x : Context) (a : Close) → ((n : ℕ) → Closes s x (OpClose a) n → n ≢ k.opened)
+    → Stands k s.opens → Keeps k (close s x a).state
+unfolding close
+keeps_close k s x a spares is =
+    found (Keeps k) s x Num.Close (target s x Own a.open_stateid) (closes s x) is (λ t judged.
+    by_seat k s x t.file t.id (judge s.opens t.id x.client (Some t.file) OpenOnly) is (λ granted.
+    spares t.id.number (record { asked = a; file = t.file; id = t.id; is = refl; judged = judged; granted = granted; opened = refl })))
+
+-- FREE_STATEID
+freed_stands : (k : Told) (t : Table) (n : ℕ) (l : Option LockState) → IsTable t → k.first ≤ k.last → lock_at t n ≡ l → Stands k t
+    → Stands k (closing.free_lock t n l).after
+freed_stands k t n None table some at is = is
+freed_stands k t n (Some l) table some at is = elim (cases_Bool (holds_any (t.held l.file) n)) [
+  | inl held ↦ rw held is
+  | inr none ↦ rw none (stands_freed k t n l table some at none is)
+]
+
+free_stands : (k : Told) (t : Table) (v : Result Seat Status) → IsTable t → k.first ≤ k.last → Stands k t → Stands k (closing.free_by t v).after
+free_stands k t (Err status) table some is = is
+free_stands k t (Ok Seats.Anonymous) table some is = is
+free_stands k t (Ok Seats.ReadBypass) table some is = is
+free_stands k t (Ok (Seats.Open number access)) table some is = is
+free_stands k t (Ok (Seats.Lock number access)) table some is = freed_stands k t number (lock_at t number) table some refl is
+
+keeps_free : (k : Told) (s : State) (x : Context) (given : Stateid) → IsTable s.opens → k.first ≤ k.last → Stands k s.opens → Keeps k (free_stateid s x given).state
+unfolding free_stateid
+keeps_free k s x given table some is =
+    found (Keeps k) s x Num.FreeStateid (meant x Any given) (frees s x) is (λ id judged.
+    found (Keeps k) s x Num.FreeStateid (closing.free s.opens id x.client).answer _ is (λ u granted.
+    free_stands k s.opens (judge s.opens id x.client None Either) table some is))
+
+-- OPEN and OPEN_DOWNGRADE move no lock state
+opened_stands : (k : Told) (t : Table) (a : Asked) (o : Option OpenState) → Stands k t → Stands k (opening.opens_by t a o).after
+opened_stands k t a (Some o) is = stands_by k t (opening.opens_by t a (Some o)).after refl refl is
+opened_stands k t a None is = stands_by k t (opening.opens_by t a None).after refl refl is
+
+keeps_open : (k : Told) (s : State) (x : Context) (now : Time) (a : Open) → Stands k s.opens → Keeps k (of_open.open_file s x now a).state
+unfolding of_open.open_file
+keeps_open k s x now a is =
+    found (Keeps k) s x Num.Open (checked (of_open.asked_for s x a) (of_open.last_checks s x a)) (of_open.opened s x now a) is (λ f granted.
+    (let asked = of_open.asking x a (of_open.file_of s.tree f) in opened_stands k s.opens asked (opening.own_open s.opens asked) is))
+
+narrowed_stands : (k : Told) (t : Table) (n : ℕ) (access deny : Share) (o : Option OpenState) → Stands k t → Stands k (opening.narrow_open t n access deny o).after
+narrowed_stands k t n access deny None is = is
+narrowed_stands k t n access deny (Some o) is = elim (cases_Bool (opening.is_narrower access deny o)) [
+  | inl part ↦ rw part (stands_by k t (with_open t n (opening.narrows access deny)) refl refl is)
+  | inr more ↦ rw more is
+]
+
+downgrade_stands : (k : Told) (t : Table) (n : ℕ) (access deny : Share) (v : Result Seat Status) → Stands k t → Stands k (opening.downgrade_by t n access deny v).after
+downgrade_stands k t n access deny (Err status) is = is
+downgrade_stands k t n access deny (Ok seat) is = narrowed_stands k t n access deny (open_at t n) is
+
+keeps_downgrade : (k : Told) (s : State) (x : Context) (a : OpenDowngrade) → Stands k s.opens → Keeps k (open_downgrade s x a).state
+unfolding open_downgrade
+keeps_downgrade k s x a is =
+    found (Keeps k) s x Num.OpenDowngrade (narrowing s x a) (narrows s x a) is (λ t judged.
+    (let access = bits a.share_access in let deny = bits a.share_deny in
+    found (Keeps k) s x Num.OpenDowngrade (opening.downgrade s.opens t.id x.client t.file access deny).answer _ is (λ id granted.
+    downgrade_stands k s.opens t.id.number access deny (judge s.opens t.id x.client (Some t.file) OpenOnly) is)))
+
+-- LOCKT
+tested_stands : (k : Told) (s : State) (x : Context) (o : Option Held) → Stands k s.opens → Keeps k (tested s x o).state
+tested_stands k s x None is = is
+tested_stands k s x (Some h) is = is
+
+keeps_one : (k : Told) (s : State) (x : Context) (now : Time) (op : Op) → IsTable s.opens → k.first ≤ k.last → Spares k s x op → Stands k s.opens → Keeps k (one s x now op).state
+unfolding commit lock_t read set_attr test_stateid write
+keeps_one k s x now (OpClose a) table some spares is = keeps_close k s x a spares.closes is
+keeps_one k s x now (OpCommit a) table some spares is = found (Keeps k) s x Num.Commit _ _ is (λ d e. is)
+keeps_one k s x now (OpFreeStateid given) table some spares is = keeps_free k s x given table some is
+keeps_one k s x now (OpLock a) table some spares is = keeps_lock k s x a table spares.locks is
+keeps_one k s x now (OpLockT a) table some spares is = found (Keeps k) s x Num.LockT _ _ is (λ w e. tested_stands k s x (locking.test_lock s.opens a.owner.owner w) is)
+keeps_one k s x now (OpLockU a) table some spares is = keeps_unlock k s x a spares.unlocks is
+keeps_one k s x now (OpOpen a) table some spares is = keeps_open k s x now a is
+keeps_one k s x now (OpOpenDowngrade a) table some spares is = keeps_downgrade k s x a is
+keeps_one k s x now (OpRead a) table some spares is = found (Keeps k) s x Num.Read _ _ is (λ d e. is)
+keeps_one k s x now (OpSetAttr a) table some spares is = found (Keeps k) s x Num.SetAttr _ (was_set s x now a) is (λ m e. is)
+keeps_one k s x now (OpTestStateid given) table some spares is = is
+keeps_one k s x now (OpWrite a) table some spares is = found (Keeps k) s x Num.Write _ (was_written s x now a) is (λ d e. is)
+keeps_one k s x now op table some spares is = is
+
+-- what is granted answers NFS4_OK
+pub lock_ok : (s : State) (x : Context) (now : Time) (a : args.Lock) (m : _) (id : StateId) → of_lock.locking s x a ≡ Ok m
+    → (of_lock.locks_as s.opens a.locker m.id m.wish).answer ≡ Ok id → is_ok (one s x now (OpLock a)).result ≡ true
+unfolding of_lock.lock
+lock_ok s x now a m id judged granted = rw (judged, granted) refl
+
+unlock_ok : (s : State) (x : Context) (now : Time) (a : LockU) (m : _) (id : StateId) → unlocking s x a ≡ Ok m
+    → (locking.unlock s.opens m.id m.wish.client m.wish.file m.wish.first m.wish.last).answer ≡ Ok id → is_ok (one s x now (OpLockU a)).result ≡ true
+unfolding lock_u
+unlock_ok s x now a m id judged granted = rw (judged, granted) refl
+
+close_ok : (s : State) (x : Context) (now : Time) (a : Close) (file : ℕ) (id : StateId) → target s x Own a.open_stateid ≡ Ok (record { file = file; id = id })
+    → (closing.close s.opens id x.client file).answer ≡ Ok tt → is_ok (one s x now (OpClose a)).result ≡ true
+unfolding close
+close_ok s x now a file id judged granted = rw (judged, granted) refl
+
+-- what answers NFS4_OK spares it, so what is granted does
+spares_granted : (k : Told) (s : State) (x : Context) (now : Time) (op : Op) → (is_ok (one s x now op).result ≡ true → Spares k s x op) → Spares k s x op
+spares_granted k s x now op spares = record {
+  locks = λ n w is mine. (spares (subst (λ o. is_ok (one s x now o).result ≡ true) (sym is.is)
+      (lock_ok s x now is.asked (record { wish = w; id = is.id }) is.answer is.judged is.granted))).locks n w is mine;
+  unlocks = λ n w is mine. (spares (subst (λ o. is_ok (one s x now o).result ≡ true) (sym is.is)
+      (unlock_ok s x now is.asked (record { wish = w; id = is.id }) is.answer is.judged is.granted))).unlocks n w is mine;
+  closes = λ n is. (spares (subst (λ o. is_ok (one s x now o).result ≡ true) (sym is.is)
+      (close_ok s x now is.asked is.file is.id is.judged is.granted))).closes n is;
+}
+
+pub spared : SparedLocksStay
+spared k s x now refused op table some spares is = go (grows s x op && refused) spares
+  where
+    go : (b : Bool) → (is_ok (or_delay b s x (arguments op).op (one s x now op)).result ≡ true → Spares k s x op)
+        → Keeps k (or_delay b s x (arguments op).op (one s x now op)).state
+    go false spares = keeps_one k s x now op table some (spares_granted k s x now op spares) is
+    go true spares = elim (cases_Bool (is_ok (one s x now op).result)) [
+      | inl ok ↦ rw ok is
+      | inr bad ↦ rw bad (keeps_one k s x now op table some (spares_granted k s x now op (λ ok. absurd (let no = sym ok ∙ bad in cc))) is)
+    ]
+
+-- the range of a wish, where its first byte is one that there is
+
+pub wish_range : (offset size last : ℕ) → range offset size ≡ Ok last → offset < 2 ^ 64 → (offset ≤ last) × (last < 2 ^ 64)
+unfolding range
+wish_range offset size last e fits = by_size (size == all_ones) (size == 0) refl refl e
+  where
+    by_size : (all empty : Bool) → (size == all_ones) ≡ all → (size == 0) ≡ empty
+        → passed (cond all all_ones (offset + size - 1)) (first_fault ((empty, Inval) ∷ (not all && nat_lt all_ones (offset + size), Inval) ∷ [])) ≡ Ok last
+        → (offset ≤ last) × (last < 2 ^ 64)
+    by_size all true a b e = absurd cc
+    by_size true false a b e = (let same : all_ones ≡ last = cc in (omega arith, omega arith))
+    by_size false false a b e = by_end (nat_lt all_ones (offset + size)) refl e
+      where
+        by_end : (over : Bool) → nat_lt all_ones (offset + size) ≡ over
+            → passed (offset + size - 1) (first_fault ((false, Inval) ∷ (over, Inval) ∷ [])) ≡ Ok last → (offset ≤ last) × (last < 2 ^ 64)
+        by_end true o e = absurd cc
+        by_end false o e =
+            let bound = ltb-false all_ones (offset + size) o in
+            let some : size ≢ 0 = eqb-false size 0 b in
+            let same : offset + size - 1 ≡ last = cc in
+            (elim (cases_eq size 0) [ inl zero ↦ absurd (some zero) | inr more ↦ omega arith ], elim (cases_eq size 0) [ inl zero ↦ absurd (some zero) | inr more ↦ omega arith ])
+
+wish_parts : (x : Context) (how : LockType) (offset size : ℕ) (d : Node) (r : Result ℕ Status) (w : Wish)
+    → range offset size ≡ r → mapped (λ last. wish x how offset last d.number) r ≡ Ok w → (w.first ≡ offset) × (range offset size ≡ Ok w.last)
+wish_parts x how offset size d (Err status) w is e = absurd cc
+wish_parts x how offset size d (Ok last) w is e = let same : wish x how offset last d.number ≡ w = cc in
+    (sym (ap (λ (w : Wish). w.first) same), is ∙ ap (λ (w : Wish). Ok w.last) same)
+
+wish_of_parts : (x : Context) (how : LockType) (offset size : ℕ) (v : Result Node Status) (w : Wish)
+    → wish_of x how offset v (range offset size) ≡ Ok w → (w.first ≡ offset) × (range offset size ≡ Ok w.last)
+wish_of_parts x how offset size (Err status) w e = absurd cc
+wish_of_parts x how offset size (Ok d) w e = wish_parts x how offset size d (range offset size) w refl e
+
+id_parts : {A : Type 0} (m : A) (wish : A → Wish) (make : StateId → A) (w : Wish) → ((id : StateId) → wish (make id) ≡ w) → (v : Result StateId Status)
+    → mapped make v ≡ Ok m → w ≡ wish m
+id_parts m wish make w each (Err status) e = absurd cc
+id_parts m wish make w each (Ok id) e = let same : make id ≡ m = cc in sym (each id) ∙ ap wish same
+
+flag_parts : (x : Context) (given : Stateid) (w : Wish) (b : Bool) (m : _)
+    → wished_by x given (passed w (first_fault ((b, NoGrace) ∷ []))) ≡ Ok m → w ≡ m.wish
+flag_parts x given w true m e = absurd cc
+flag_parts x given w false m e = id_parts m (λ k. k.wish) _ w (λ id. refl) (meant x Any given) e
+
+reclaim_parts : (x : Context) (a : args.Lock) (v : Result Wish Status) (given : Stateid) (m : _)
+    → wished_by x given (checked v (of_lock.reclaim_checks a)) ≡ Ok m → v ≡ Ok m.wish
+reclaim_parts x a (Err status) given m e = absurd cc
+reclaim_parts x a (Ok w) given m e = ap Ok (flag_parts x given w a.reclaim m e)
+
+pub lock_range : (s : State) (x : Context) (a : args.Lock) (m : _) → of_lock.locking s x a ≡ Ok m → (m.wish.first ≡ a.offset) × (range a.offset a.length ≡ Ok m.wish.last)
+unfolding wished
+lock_range s x a m e =
+    wish_of_parts x a.locktype a.offset a.length (the_file s x) m.wish
+    (reclaim_parts x a (wished s x a.locktype a.offset a.length) (of_lock.stateid_in a.locker) m e)
+
+pub clashing : ClashesAreRefused
+clashing k s x op n w table some is lock clash =
+    let parts = lock_range s x lock.asked (record { wish = w; id = lock.id }) lock.judged in
+    let first = parts.0 in
+    let within : k.last < 2 ^ 64 = elim (cases_lt k.last (2 ^ 64)) [
+      | inl fits ↦ fits
+      | inr past ↦ absurd (let holds = is.held k.last some (omega arith) in
+          let none = table.within k.file k.state k.last past in let bad = sym holds ∙ none in cc)
+    ] in
+    let before = clash.before in
+    let range = wish_range lock.asked.offset lock.asked.length w.last parts.1 (omega arith) in
+    refused k s.opens w (of_lock.locks_as s.opens lock.asked.locker lock.id w) lock.answer table
+    (lock_grants s.opens lock.asked.locker lock.id w lock.answer lock.granted) some (let lo = range.0 in omega arith) range.1 is
+    (record { other = λ same. clash.other (sym lock.state ∙ same); file = clash.file; before = clash.before; behind = clash.behind; kinds = clash.kinds })

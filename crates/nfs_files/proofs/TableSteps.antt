@@ -1,0 +1,407 @@
+-- What each operation on open files keeps of the opens.
+use Rattle.std.proofs.Common.{◌≡◌, ◌≢◌, ◌⊎◌, ℕ, suc, ◌+◌, ◌-◌, ◌<◌, ◌≤◌, Bool, true, false, cond, eqb, ltb, not, List, [], ◌∷◌, ◌++◌, Option, Some, None, refl, sym, ◌∙◌, ap, subst, arith, inl, inr}
+use Rattle.std.specs.Prelude.{◌==◌, ◌&&◌, ◌||◌, ◌^◌, nat_lt, Result, Ok, Err, filter}
+use Rattle.std.specs.List.{list_any}
+use Rattle.std.proofs.Math.Path.{fun_ext}
+use Rattle.std.proofs.lemmas.Bool.{cases_Bool, cases_lt, eqb-true, ltb-false, and_parts}
+use Rattle.nfs_xdr.specs.Checks.{first_fault}
+use Rattle.nfs_xdr.specs.Tables.{In}
+use Rattle.nfs_xdr.specs.declared.time.Time.{Time}
+use Rattle.nfs_xdr.specs.declared.status.Status.{Status}
+use Rattle.nfs_xdr.specs.declared.status.Status.TheVariants.{ShareDenied, ServerFault, Inval}
+use Rattle.nfs_xdr.proofs.Checks.{all_passed}
+use Rattle.nfs_xdr.proofs.Lists.{find_in, in_filter, stays_in, in_push, push_in}
+use Rattle.nfs_xdr.proofs.Tables.{IsRising-filter, IsRising-push, IsRising-upto, in_once}
+use Rattle.nfs_compound.specs.LockArgs as args
+use Rattle.nfs_compound.specs.Arguments.{arguments}
+use Rattle.nfs_compound.specs.OpenArgs.{Open}
+use Rattle.nfs_compound.specs.declared.op_num.OpNum.TheVariants as Num
+use Rattle.nfs_compound.specs.declared.stateid.Stateid.{Stateid}
+use Rattle.nfs_compound.specs.declared.lock_args.LockU.{LockU}
+use Rattle.nfs_compound.specs.declared.open_args.Close.{Close}
+use Rattle.nfs_compound.specs.declared.open_args.OpenDowngrade.{OpenDowngrade}
+use Rattle.nfs_compound.specs.Operation.{Op, Item, Operation, Fault, OpClose, OpCommit, OpFreeStateid, OpLock, OpLockT, OpLockU, OpOpen, OpOpenDowngrade, OpRead, OpSetAttr, OpTestStateid, OpWrite}
+use Rattle.nfs_ranges.specs.Holders.{Holders, holding, holds_any}
+use Rattle.nfs_ranges.specs.Told.{Tells}
+use Rattle.nfs_ranges.specs.declared.Held.{Held}
+use Rattle.nfs_opens.specs.declared.share.Share.{Share}
+use Rattle.nfs_opens.specs.declared.stateid.StateId.{StateId}
+use Rattle.nfs_opens.specs.declared.stateid.CurrentSeqid.TheVariants.{Any, Own}
+use Rattle.nfs_opens.specs.declared.records.OpenState.{OpenState}
+use Rattle.nfs_opens.specs.declared.records.LockState.{LockState}
+use Rattle.nfs_opens.specs.declared.judging.Seat.{Seat}
+use Rattle.nfs_opens.specs.declared.judging.Seat.TheVariants as Seats
+use Rattle.nfs_opens.specs.declared.judging.Sort.TheVariants.{OpenOnly, LockOnly, Either}
+use Rattle.nfs_opens.specs.declared.locking.Wish.{Wish}
+use Rattle.nfs_opens.specs.declared.locking.OpenFault.{OpenFault}
+use Rattle.nfs_opens.specs.declared.locking.OpenFault.TheVariants as F
+use Rattle.nfs_opens.specs.Holding.{FileHolders, on_file}
+use Rattle.nfs_opens.specs.Closing.{held_within}
+use Rattle.nfs_opens.proofs.HolderLemmas.{IsFewer, fewer_keeps}
+use Rattle.nfs_ranges.specs.declared.Kind.{Kind}
+use Rattle.nfs_opens.specs.StateId.{last_number}
+use Rattle.nfs_opens.specs.Table.{Table, Did, Asked, IsTable, open_at, lock_at, with_lock, clashes_with}
+use Rattle.nfs_opens.specs.Judging.{judge}
+use Rattle.nfs_opens.specs.Closing as closing
+use Rattle.nfs_opens.specs.Opening as opening
+use Rattle.nfs_opens.specs.Locking as locking
+use Rattle.nfs_opens.specs.Locking.{lock_judged}
+use Rattle.nfs_opens.proofs.TableLemmas.{table_opened, table_closed, holders_left, KeepsBytes, table_raised}
+use Rattle.nfs_opens.proofs.StepLemmas.{table_join, table_narrow, no_clash_asked, free_keeps, table_locked, table_unlocked, table_first, judged_tells, first_state}
+use Rattle.nfs_opens.proofs.LockLemmas.{judged_open, judged_lock}
+use Rattle.nfs_names.specs.declared.context.Context.{Context}
+use Rattle.nfs_names.specs.State.{State, is_open, IsStore}
+use Rattle.nfs_tree.specs.Kept.{IsTree}
+use Rattle.nfs_names.specs.Ending.{with_opens, table_staying}
+use Rattle.nfs_names.specs.Outcome.{answers, checked, passed, or_delay, is_ok}
+use Rattle.nfs_names.proofs.Found.{checked_ok}
+use Rattle.nfs_names.proofs.Untouched.{unused_opens, by_delay}
+use Rattle.nfs_files.specs.StateIds.{meant}
+use Rattle.nfs_files.specs.Target.{target}
+use Rattle.nfs_files.specs.Operation.{one, grows, one_or_delay, comes_to}
+use Rattle.nfs_files.specs.Close.{closed, closes, close}
+use Rattle.nfs_files.specs.Commit.{commit}
+use Rattle.nfs_files.specs.FreeStateid.{frees, free_stateid}
+use Rattle.nfs_files.specs.Lock as of_lock
+use Rattle.nfs_files.specs.LockT.{tested, lock_t}
+use Rattle.nfs_files.specs.LockU.{unlocking, unlocked, unlocks, lock_u}
+use Rattle.nfs_files.specs.Open as of_open
+use Rattle.nfs_files.specs.OpenDowngrade.{bits, narrowing, narrows, open_downgrade}
+use Rattle.nfs_files.specs.Ranges.{all_ones, range}
+use Rattle.nfs_files.specs.Read.{read}
+use Rattle.nfs_files.specs.SetAttr.{was_set, set_attr}
+use Rattle.nfs_files.specs.TestStateid.{test_stateid}
+use Rattle.nfs_files.specs.Write.{was_written, write}
+use Rattle.nfs_files.proofs.Opened.{opened_fault}
+use Rattle.nfs_files.proofs.KeptLocks.{within_not, held_other}
+use Rattle.nfs_files.proofs.KeptOps.{found, lock_range, wish_range}
+
+abbrev Is : State → Type 0
+Is s = IsTable s.opens
+
+-- LOCK
+
+-- a range of bytes that there are, or an empty one
+abbrev IsRange : Wish → Type 0
+IsRange w = ((w.first ≤ w.last) × (w.last < 2 ^ 64)) ⊎ (w.last < w.first)
+
+no_bytes : (h : Holders) (n : ℕ) (kind : Kind) (first last : ℕ) → last < first → holding h n kind first last ≡ h
+no_bytes h n kind first last empty =
+    fun_ext (λ s. fun_ext (λ b. held_other h n kind first last s b (λ same. within_not first last b (λ lo hi. absurd (omega arith)))))
+
+no_bytes_on : (held : FileHolders) (file n : ℕ) (kind : Kind) (first last : ℕ) → last < first → held ≡ on_file held file (λ h. holding h n kind first last)
+no_bytes_on held file n kind first last empty = fun_ext (λ f. elim (cases_Bool (eqb f file)) [
+  | inl here ↦ rw here (sym (no_bytes (held f) n kind first last empty))
+  | inr other ↦ rw other refl
+])
+
+more_is : (t : Table) (w : Wish) (n : ℕ) (access : Share) (l : LockState) → IsTable t → IsRange w → lock_judged t n access w ≡ Ok tt → lock_at t n ≡ Some l → l.file ≡ w.file
+    → IsTable (record (with_lock t n locking.raised) { held = on_file t.held w.file (λ h. holding h n w.kind w.first w.last) })
+more_is t w n access l is (inl range) judged at of_file = table_locked t w n access l is range.0 range.1 judged at of_file
+more_is t w n access l is (inr empty) judged at of_file =
+    let same : holding (t.held w.file) n w.kind w.first w.last ≡ t.held w.file = no_bytes (t.held w.file) n w.kind w.first w.last empty in
+    let kept : KeepsBytes t w.file (t.held w.file) = record {
+      holders = is.holders w.file;
+      bytes = is.bytes w.file;
+      within = λ s b past. is.within w.file s b past;
+      below = is.below w.file;
+    } in
+    table_raised t n w.file (λ h. holding h n w.kind w.first w.last) is (subst (KeepsBytes t w.file) (sym same) kept)
+
+-- a new lock state that holds nothing
+empty_first : (t : Table) (w : Wish) (owner : List ℕ) (opened : ℕ) (o : OpenState) → IsTable t → open_at t opened ≡ Some o → o.client ≡ w.client → o.file ≡ w.file
+    → IsTable (record t { locks = t.locks ++ first_state t w owner opened ∷ []; last = t.last + 1 })
+empty_first t w owner opened o is at client of_file =
+    let new : LockState = first_state t w owner opened in
+    let found = find_in (λ (o : OpenState). o.number == opened) t.opens o at in
+    record {
+      opens = IsRising-upto (λ (o : OpenState). o.number) 1 (suc t.last) (suc (t.last + 1)) t.opens (omega arith) is.opens;
+      locks = IsRising-push (λ (l : LockState). l.number) 1 (suc t.last) (suc (t.last + 1)) t.locks new (omega arith) (omega arith) is.locks;
+      shares = is.shares;
+      under = λ l there. elim (in_push t.locks new l there) [
+        | inl here ↦ (
+          o,
+          record {
+            stands = found.0;
+            number = eqb-true _ _ found.1 ∙ sym (ap (λ (l : LockState). l.opened) here);
+            client = client ∙ sym (ap (λ (l : LockState). l.client) here);
+            file = of_file ∙ sym (ap (λ (l : LockState). l.file) here);
+          },
+        )
+        | inr old ↦ is.under l old
+      ];
+      holders = λ f s b some. (let (l, holder) = is.holders f s b some in
+          (l, record { stands = push_in t.locks new l holder.stands; number = holder.number; file = holder.file }));
+      bytes = is.bytes;
+      within = is.within;
+      below = λ f s b past. is.below f s b (omega arith);
+    }
+
+first_is : (t : Table) (w : Wish) (owner : List ℕ) (opened : ℕ) (access : Share) (o : OpenState) → IsTable t → IsRange w → lock_judged t 0 access w ≡ Ok tt
+    → open_at t opened ≡ Some o → o.client ≡ w.client → o.file ≡ w.file
+    → IsTable (record t {
+      locks = t.locks ++ first_state t w owner opened ∷ [];
+      held = on_file t.held w.file (λ h. holding h (t.last + 1) w.kind w.first w.last);
+      last = t.last + 1;
+    })
+first_is t w owner opened access o is (inl range) judged at client file =
+    table_first t w owner opened o is range.0 range.1 (judged_tells t 0 access w is range.0 range.1 judged) at client file
+first_is t w owner opened access o is (inr empty) judged at client file =
+    subst (λ held. IsTable (record t { locks = t.locks ++ first_state t w owner opened ∷ []; held = held; last = t.last + 1 }))
+    (no_bytes_on t.held w.file (t.last + 1) w.kind w.first w.last empty) (empty_first t w owner opened o is at client file)
+
+granted_more : (t : Table) (w : Wish) (n : ℕ) (access : Share) (v : Result (Unit {0}) OpenFault) (l : Option LockState) → IsTable t → IsRange w
+    → lock_judged t n access w ≡ v → lock_at t n ≡ l → ((x : LockState) → l ≡ Some x → x.file ≡ w.file)
+    → IsTable (locking.does_if t v (locking.lock_more t w n l)).after
+granted_more t w n access (Err fault) l is range judged at of_file = is
+granted_more t w n access (Ok u) None is range judged at of_file = is
+granted_more t w n access (Ok u) (Some l) is range judged at of_file = more_is t w n access l is range judged at (of_file l refl)
+
+granted_new : (t : Table) (w : Wish) (opened : ℕ) (owner : List ℕ) (access : Share) (full : Bool) (o : OpenState) → eqb t.last last_number ≡ full → IsTable t → IsRange w
+    → lock_judged t 0 access w ≡ Ok tt → open_at t opened ≡ Some o → o.client ≡ w.client → o.file ≡ w.file
+    → IsTable (locking.lock_new t w opened owner).after
+granted_new t w opened owner access true o full is range judged at client file = rw full is
+granted_new t w opened owner access false o full is range judged at client file = rw full (first_is t w owner opened access o is range judged at client file)
+
+granted_first : (t : Table) (w : Wish) (opened : ℕ) (owner : List ℕ) (access : Share) (v : Result (Unit {0}) OpenFault) (o : OpenState) → IsTable t → IsRange w
+    → lock_judged t 0 access w ≡ v → open_at t opened ≡ Some o → o.client ≡ w.client → o.file ≡ w.file
+    → IsTable (locking.does_if t v (locking.lock_new t w opened owner)).after
+granted_first t w opened owner access (Err fault) o is range judged at client file = is
+granted_first t w opened owner access (Ok u) o is range judged at client file =
+    granted_new t w opened owner access (eqb t.last last_number) o refl is range judged at client file
+
+-- the lock state that a lock owner has on a file stands under its own number
+locker_file : (t : Table) (w : Wish) (owner : List ℕ) (l : LockState) → locking.state_of t w.client owner w.file ≡ Some l → l.file ≡ w.file
+locker_file t w owner l e =
+    let there = find_in (locking.is_locker w.client owner w.file) t.locks l e in
+    let parts = and_parts _ _ there.1 in eqb-true _ _ parts.0
+
+of_number : (t : Table) (w : Wish) (owner : List ℕ) (l x : LockState) → IsTable t → locking.state_of t w.client owner w.file ≡ Some l → lock_at t l.number ≡ Some x → x.file ≡ w.file
+of_number t w owner l x is e at =
+    let there = find_in (locking.is_locker w.client owner w.file) t.locks l e in
+    let found = find_in (λ (k : LockState). k.number == l.number) t.locks x at in
+    let one : x ≡ l = in_once (λ (l : LockState). l.number) 1 (suc t.last) t.locks x l is.locks found.0 there.0 (eqb-true _ _ found.1) in
+    ap (λ (l : LockState). l.file) one ∙ locker_file t w owner l e
+
+granted_owner : (t : Table) (w : Wish) (opened : ℕ) (owner : List ℕ) (access : Share) (l : Option LockState) (o : OpenState) → IsTable t → IsRange w
+    → locking.state_of t w.client owner w.file ≡ l → open_at t opened ≡ Some o → o.client ≡ w.client → o.file ≡ w.file
+    → IsTable (locking.lock_by_owner t w opened owner access l).after
+granted_owner t w opened owner access (Some l) o is range e at client file =
+    granted_more t w l.number access (lock_judged t l.number access w) (lock_at t l.number) is range refl refl (λ x at. of_number t w owner l x is e at)
+granted_owner t w opened owner access None o is range e at client file =
+    granted_first t w opened owner access (lock_judged t 0 access w) o is range refl at client file
+
+granted_under : (t : Table) (id : StateId) (w : Wish) (owner : List ℕ) (v : Result Seat Status) → IsTable t → IsRange w
+    → judge t id w.client (Some w.file) OpenOnly ≡ v → IsTable (locking.lock_under t w id.number owner v).after
+granted_under t id w owner (Err status) is range e = is
+granted_under t id w owner (Ok seat) is range e =
+    let (o, at, client, file) = judged_open t id w.client w.file seat e in
+    granted_owner t w id.number owner (locking.access_in seat) (locking.state_of t w.client owner w.file) o is range refl at client file
+
+granted_known : (t : Table) (id : StateId) (w : Wish) (v : Result Seat Status) → IsTable t → IsRange w
+    → judge t id w.client (Some w.file) LockOnly ≡ v → IsTable (locking.lock_known t w id.number v).after
+granted_known t id w (Err status) is range e = is
+granted_known t id w (Ok seat) is range e =
+    let (l, at, client, file) = judged_lock t id w.client w.file seat e in
+    granted_more t w id.number (locking.access_in seat) (lock_judged t id.number (locking.access_in seat) w) (lock_at t id.number) is range refl refl
+    (λ x there. (let same : Some l ≡ Some x = sym at ∙ there in let one : l ≡ x = cc in sym (ap (λ (l : LockState). l.file) one) ∙ file))
+
+locks_keep : (t : Table) (who : args.Locker) (id : StateId) (w : Wish) → IsTable t → IsRange w → IsTable (of_lock.locks_as t who id w).after
+locks_keep t (args.OpenOwner o) id w is range = granted_under t id w o.lock_owner.owner (judge t id w.client (Some w.file) OpenOnly) is range refl
+locks_keep t (args.LockOwner o) id w is range = granted_known t id w (judge t id w.client (Some w.file) LockOnly) is range refl
+
+locked_is : (s : State) (x : Context) (after : Table) (v : Result StateId OpenFault) → Is s → IsTable after → Is (of_lock.locked s x after v).state
+locked_is s x after (Ok id) is done = done
+locked_is s x after (Err (F.Refused status)) is done = is
+locked_is s x after (Err (F.Denied h)) is done = is
+locked_is s x after (Err F.Memory) is done = is
+
+-- LOCKU
+cleared_is : (t : Table) (n file first last : ℕ) (l : Option LockState) → IsTable t → IsTable (locking.clear_lock t n file first last l).after
+cleared_is t n file first last None is = is
+cleared_is t n file first last (Some l) is = table_unlocked t n file first last is
+
+unlock_is : (t : Table) (n file first last : ℕ) (v : Result Seat Status) → IsTable t → IsTable (locking.unlock_by t n file first last v).after
+unlock_is t n file first last (Err status) is = is
+unlock_is t n file first last (Ok seat) is = cleared_is t n file first last (lock_at t n) is
+
+unlocked_is : (s : State) (x : Context) (after : Table) (v : Result StateId OpenFault) → Is s → IsTable after → Is (unlocked s x after v).state
+unlocked_is s x after (Ok id) is done = done
+unlocked_is s x after (Err fault) is done = is
+
+table_lock_u : (s : State) (x : Context) (a : LockU) → Is s → Is (lock_u s x a).state
+unfolding lock_u
+table_lock_u s x a is =
+    found Is s x Num.LockU (unlocking s x a) (unlocks s x) is (λ m judged.
+    (let w = m.wish in let did = locking.unlock s.opens m.id w.client w.file w.first w.last in
+    unlocked_is s x did.after did.answer is
+    (unlock_is s.opens m.id.number w.file w.first w.last (judge s.opens m.id w.client (Some w.file) LockOnly) is)))
+
+-- CLOSE
+closed_is : (s : State) (x : Context) (n file : ℕ) (v : Result Seat Status) → Is s
+    → Is (answers s x Num.Close (closing.close_by s.opens n v).answer (λ u. closed s x file (closing.close_by s.opens n v).after)).state
+closed_is s x n file (Err status) is = is
+closed_is s x n file (Ok seat) is =
+    subst IsTable (sym (unused_opens (with_opens s (closing.without_open s.opens n)) file)) (table_closed s.opens n is)
+
+table_close : (s : State) (x : Context) (a : Close) → Is s → Is (close s x a).state
+unfolding close
+table_close s x a is =
+    found Is s x Num.Close (target s x Own a.open_stateid) (closes s x) is (λ t judged.
+    closed_is s x t.id.number t.file (judge s.opens t.id x.client (Some t.file) OpenOnly) is)
+
+-- FREE_STATEID
+freed_is : (t : Table) (n : ℕ) (l : Option LockState) → IsTable t → lock_at t n ≡ l → IsTable (closing.free_lock t n l).after
+freed_is t n None is at = is
+freed_is t n (Some l) is at = elim (cases_Bool (holds_any (t.held l.file) n)) [
+  | inl held ↦ rw held is
+  | inr none ↦ rw none (free_keeps t n l is at none)
+]
+
+free_is : (t : Table) (v : Result Seat Status) → IsTable t → IsTable (closing.free_by t v).after
+free_is t (Err status) is = is
+free_is t (Ok Seats.Anonymous) is = is
+free_is t (Ok Seats.ReadBypass) is = is
+free_is t (Ok (Seats.Open number access)) is = is
+free_is t (Ok (Seats.Lock number access)) is = freed_is t number (lock_at t number) is refl
+
+table_free : (s : State) (x : Context) (given : Stateid) → Is s → Is (free_stateid s x given).state
+unfolding free_stateid
+table_free s x given is =
+    found Is s x Num.FreeStateid (meant x Any given) (frees s x) is (λ id judged.
+    found Is s x Num.FreeStateid (closing.free s.opens id x.client).answer _ is (λ u granted.
+    free_is s.opens (judge s.opens id x.client None Either) is))
+
+-- OPEN_DOWNGRADE
+narrowed_is : (t : Table) (n : ℕ) (access deny : Share) (o : Option OpenState) → IsTable t → open_at t n ≡ o → IsTable (opening.narrow_open t n access deny o).after
+narrowed_is t n access deny None is at = is
+narrowed_is t n access deny (Some o) is at = elim (cases_Bool (opening.is_narrower access deny o)) [
+  | inl part ↦ rw part (table_narrow t n access deny o is at part)
+  | inr more ↦ rw more is
+]
+
+downgrade_is : (t : Table) (n : ℕ) (access deny : Share) (v : Result Seat Status) → IsTable t → IsTable (opening.downgrade_by t n access deny v).after
+downgrade_is t n access deny (Err status) is = is
+downgrade_is t n access deny (Ok seat) is = narrowed_is t n access deny (open_at t n) is refl
+
+table_downgrade : (s : State) (x : Context) (a : OpenDowngrade) → Is s → Is (open_downgrade s x a).state
+unfolding open_downgrade
+table_downgrade s x a is =
+    found Is s x Num.OpenDowngrade (narrowing s x a) (narrows s x a) is (λ t judged.
+    (let access = bits a.share_access in let deny = bits a.share_deny in
+    found Is s x Num.OpenDowngrade (opening.downgrade s.opens t.id x.client t.file access deny).answer _ is (λ id granted.
+    downgrade_is s.opens t.id.number access deny (judge s.opens t.id x.client (Some t.file) OpenOnly) is)))
+
+-- OPEN
+opened_is : (t : Table) (a : Asked) (o : Option OpenState) → IsTable t → opening.own_open t a ≡ o → list_any (clashes_with a) t.opens ≡ false → IsTable (opening.opens_by t a o).after
+opened_is t a (Some o) is own free = table_join t a o is own free
+opened_is t a None is own free = table_opened t a is free
+
+-- LOCKT
+tested_is : (s : State) (x : Context) (o : Option Held) → Is s → Is (tested s x o).state
+tested_is s x None is = is
+tested_is s x (Some h) is = is
+
+nothing_asked : (k u : Bool) (v : Option Status) → k ≡ false → u ≡ false → v ≡ first_fault ((k, ShareDenied) ∷ (u, ServerFault) ∷ []) → v ≡ None
+nothing_asked k u v clash full e = e ∙ rw (clash, full) refl
+
+table_open : (s : State) (x : Context) (now : Time) (a : Open) → IsTree s.tree → IsStore s → Is s → Is (of_open.open_file s x now a).state
+unfolding of_open.open_file
+table_open s x now a tree store is =
+    found Is s x Num.Open (checked (of_open.asked_for s x a) (of_open.last_checks s x a)) (of_open.opened s x now a) is (λ f granted.
+    (let asked = of_open.asking x a (of_open.file_of s.tree f) in
+    let p = checked_ok (of_open.asked_for s x a) (of_open.last_checks s x a) f granted in
+    let passed = all_passed (of_open.last_checks s x a f) p.1 in
+    let none : opening.open_fault s.opens asked ≡ None =
+    nothing_asked (of_open.clashes s x a f) (of_open.is_used_up s x a f) (opening.open_fault s.opens asked) passed.0 passed.1.1.1.0 (opened_fault s x a f tree store) in
+    opened_is s.opens asked (opening.own_open s.opens asked) is refl (no_clash_asked (list_any (clashes_with asked) s.opens.opens) _ none)))
+
+-- a wish that begins behind the last byte that there can be holds none
+empty_range : (offset size last : ℕ) → range offset size ≡ Ok last → 2 ^ 64 ≤ offset → last < offset
+unfolding range
+empty_range offset size last e past = by_size (size == all_ones) (size == 0) e
+  where
+    by_size : (all empty : Bool)
+        → passed (cond all all_ones (offset + size - 1)) (first_fault ((empty, Inval) ∷ (not all && nat_lt all_ones (offset + size), Inval) ∷ [])) ≡ Ok last
+        → last < offset
+    by_size all true e = absurd cc
+    by_size true false e = (let same : all_ones ≡ last = cc in omega arith)
+    by_size false false e = by_end (nat_lt all_ones (offset + size)) refl e
+      where
+        by_end : (over : Bool) → nat_lt all_ones (offset + size) ≡ over
+            → passed (offset + size - 1) (first_fault ((false, Inval) ∷ (over, Inval) ∷ [])) ≡ Ok last → last < offset
+        by_end true o e = absurd cc
+        by_end false o e = (let bound = ltb-false all_ones (offset + size) o in absurd (omega arith))
+
+table_lock : (s : State) (x : Context) (a : args.Lock) → Is s → Is (of_lock.lock s x a).state
+unfolding of_lock.lock
+table_lock s x a is =
+    found Is s x Num.Lock (of_lock.locking s x a) (of_lock.locks s x a.locker) is (λ m judged.
+    (let did = of_lock.locks_as s.opens a.locker m.id m.wish in
+    let parts = lock_range s x a m judged in
+    let from = parts.0 in
+    let is_range : IsRange m.wish = elim (cases_lt a.offset (2 ^ 64)) [
+      | inl here ↦ inl (let range = wish_range a.offset a.length m.wish.last parts.1 here in ((let lo = range.0 in omega arith), range.1))
+      | inr past ↦ inr (let empty = empty_range a.offset a.length m.wish.last parts.1 past in omega arith)
+    ] in
+    locked_is s x did.after did.answer is (locks_keep s.opens a.locker m.id m.wish is is_range)))
+
+-- By the operation.
+table_one : (s : State) (x : Context) (now : Time) (op : Op) → IsTree s.tree → IsStore s → Is s → Is (one s x now op).state
+unfolding commit lock_t read set_attr test_stateid write
+table_one s x now (OpClose a) tree store is = table_close s x a is
+table_one s x now (OpCommit a) tree store is = found Is s x Num.Commit _ _ is (λ d e. is)
+table_one s x now (OpFreeStateid given) tree store is = table_free s x given is
+table_one s x now (OpLock a) tree store is = table_lock s x a is
+table_one s x now (OpLockT a) tree store is = found Is s x Num.LockT _ _ is (λ w e. tested_is s x (locking.test_lock s.opens a.owner.owner w) is)
+table_one s x now (OpLockU a) tree store is = table_lock_u s x a is
+table_one s x now (OpOpen a) tree store is = table_open s x now a tree store is
+table_one s x now (OpOpenDowngrade a) tree store is = table_downgrade s x a is
+table_one s x now (OpRead a) tree store is = found Is s x Num.Read _ _ is (λ d e. is)
+table_one s x now (OpSetAttr a) tree store is = found Is s x Num.SetAttr _ (was_set s x now a) is (λ m e. is)
+table_one s x now (OpTestStateid given) tree store is = is
+table_one s x now (OpWrite a) tree store is = found Is s x Num.Write _ (was_written s x now a) is (λ d e. is)
+table_one s x now op tree store is = is
+
+pub table_item : (refused : Bool) (s : State) (x : Context) (now : Time) (i : Item) → IsTree s.tree → IsStore s → IsTable s.opens → IsTable (comes_to refused s x now i).state.opens
+table_item refused s x now (Operation op) tree store is =
+    by_delay (λ s x. IsTable s.opens) (grows s x op && refused) s x (arguments op).op (one s x now op) is (table_one s x now op tree store is)
+table_item refused s x now (Fault n status) tree store is = is
+
+-- The end of clients: an open whose client stays, stays, so each lock state that is left has its open.
+fewer_within : (locks : List LockState) (held : FileHolders) (f : ℕ) → IsFewer (held_within locks held f) (held f)
+fewer_within locks held f s b = go (closing.stands locks s) (held f s b)
+  where
+    go : (v : Bool) (o : Option Kind) → (cond v o None ≡ None) ⊎ (cond v o None ≡ o)
+    go true o = inr refl
+    go false o = inl refl
+
+within_none : (v : Bool) (o : Option Kind) → o ≡ None → cond v o None ≡ None
+within_none true o e = e
+within_none false o e = refl
+
+pub table_staying_is : (stays : ℕ → Bool) (t : Table) → IsTable t → IsTable (table_staying stays t)
+table_staying_is stays t is =
+    let p : LockState → Bool = λ l. stays l.client in
+    let locks = filter p t.locks in
+    record {
+      opens = IsRising-filter (λ (o : OpenState). o.number) (λ o. stays o.client) 1 (suc t.last) t.opens is.opens;
+      locks = IsRising-filter (λ (l : LockState). l.number) p 1 (suc t.last) t.locks is.locks;
+      shares = λ a b in_a in_b. is.shares a b (in_filter (λ (o : OpenState). stays o.client) t.opens a in_a).0
+          (in_filter (λ (o : OpenState). stays o.client) t.opens b in_b).0;
+      under = λ l there.
+          let was = in_filter p t.locks l there in
+          let (o, under) = is.under l was.0 in (
+            o,
+            record {
+              stands = stays_in (λ (o : OpenState). stays o.client) t.opens o under.stands (ap stays under.client ∙ was.1);
+              number = under.number;
+              client = under.client;
+              file = under.file;
+            },
+          );
+      holders = holders_left t p is;
+      bytes = λ f. fewer_keeps (t.held f) (held_within locks t.held f) (fewer_within locks t.held f) (is.bytes f);
+      within = λ f s b past. within_none _ _ (is.within f s b past);
+      below = λ f s b past. within_none _ _ (is.below f s b past);
+    }
