@@ -1,0 +1,642 @@
+"""What the tools share: XDR (RFC 4506), records and heads of RPC (RFC 5531), the operations of NFS version 4 minor version 1
+(RFC 8881 section 18, RFC 5662), scripts of `nfs41d replay` and what it puts out. Fields have the words of tshark's dissector,
+where it has them. An operation is described once, by a function that is called with a reader or with a writer."""
+import re
+import struct
+from urllib.parse import quote, unquote_to_bytes
+
+OPERATIONS = dict(enumerate(
+    "ACCESS CLOSE COMMIT CREATE DELEGPURGE DELEGRETURN GETATTR GETFH LINK LOCK LOCKT LOCKU LOOKUP LOOKUPP NVERIFY OPEN OPENATTR "
+    "OPEN_CONFIRM OPEN_DOWNGRADE PUTFH PUTPUBFH PUTROOTFH READ READDIR READLINK REMOVE RENAME RENEW RESTOREFH SAVEFH SECINFO SETATTR "
+    "SETCLIENTID SETCLIENTID_CONFIRM VERIFY WRITE RELEASE_LOCKOWNER BACKCHANNEL_CTL BIND_CONN_TO_SESSION EXCHANGE_ID CREATE_SESSION "
+    "DESTROY_SESSION FREE_STATEID GET_DIR_DELEGATION GETDEVICEINFO GETDEVICELIST LAYOUTCOMMIT LAYOUTGET LAYOUTRETURN SECINFO_NO_NAME "
+    "SEQUENCE SET_SSV TEST_STATEID WANT_DELEGATION DESTROY_CLIENTID RECLAIM_COMPLETE".split(), 3))
+OPERATIONS[10044] = "ILLEGAL"
+NUMBERS = {name: number for number, name in OPERATIONS.items()}
+
+STATUSES = {0: "NFS4_OK"} | {number: "NFS4ERR_" + name for name, number in re.findall(
+    r"(\w+) (\d+)",
+    "PERM 1 NOENT 2 IO 5 NXIO 6 ACCESS 13 EXIST 17 XDEV 18 NOTDIR 20 ISDIR 21 INVAL 22 FBIG 27 NOSPC 28 ROFS 30 MLINK 31 NAMETOOLONG 63 "
+    "NOTEMPTY 66 DQUOT 69 STALE 70 BADHANDLE 10001 BAD_COOKIE 10003 NOTSUPP 10004 TOOSMALL 10005 SERVERFAULT 10006 BADTYPE 10007 "
+    "DELAY 10008 SAME 10009 DENIED 10010 EXPIRED 10011 LOCKED 10012 GRACE 10013 FHEXPIRED 10014 SHARE_DENIED 10015 WRONGSEC 10016 "
+    "CLID_INUSE 10017 MOVED 10019 NOFILEHANDLE 10020 MINOR_VERS_MISMATCH 10021 STALE_CLIENTID 10022 STALE_STATEID 10023 "
+    "OLD_STATEID 10024 BAD_STATEID 10025 BAD_SEQID 10026 NOT_SAME 10027 LOCK_RANGE 10028 SYMLINK 10029 RESTOREFH 10030 "
+    "LEASE_MOVED 10031 ATTRNOTSUPP 10032 NO_GRACE 10033 RECLAIM_BAD 10034 RECLAIM_CONFLICT 10035 BADXDR 10036 LOCKS_HELD 10037 "
+    "OPENMODE 10038 BADOWNER 10039 BADCHAR 10040 BADNAME 10041 BAD_RANGE 10042 LOCK_NOTSUPP 10043 OP_ILLEGAL 10044 DEADLOCK 10045 "
+    "FILE_OPEN 10046 ADMIN_REVOKED 10047 CB_PATH_DOWN 10048 BADIOMODE 10049 BADLAYOUT 10050 BAD_SESSION_DIGEST 10051 BADSESSION 10052 "
+    "BADSLOT 10053 COMPLETE_ALREADY 10054 CONN_NOT_BOUND_TO_SESSION 10055 DELEG_ALREADY_WANTED 10056 BACK_CHAN_BUSY 10057 "
+    "LAYOUTTRYLATER 10058 LAYOUTUNAVAILABLE 10059 NOMATCHING_LAYOUT 10060 RECALLCONFLICT 10061 UNKNOWN_LAYOUTTYPE 10062 "
+    "SEQ_MISORDERED 10063 SEQUENCE_POS 10064 REQ_TOO_BIG 10065 REP_TOO_BIG 10066 REP_TOO_BIG_TO_CACHE 10067 RETRY_UNCACHED_REP 10068 "
+    "UNSAFE_COMPOUND 10069 TOO_MANY_OPS 10070 OP_NOT_IN_SESSION 10071 HASH_ALG_UNSUPP 10072 CLIENTID_BUSY 10074 PNFS_IO_HOLE 10075 "
+    "SEQ_FALSE_RETRY 10076 BAD_HIGH_SLOT 10077 DEADSESSION 10078 ENCR_ALG_UNSUPP 10079 PNFS_NO_LAYOUT 10080 NOT_ONLY_OP 10081 "
+    "WRONG_CRED 10082 WRONG_TYPE 10083 DIRDELEG_UNAVAIL 10084 REJECT_DELEG 10085 RETURNCONFLICT 10086 DELEG_REVOKED 10087") for number in [int(number)]}
+
+# Attributes: the number, tshark's word, and how the value is spelled: b bool, n number, N long number, o bytes, M mask, f fsid, t time,
+# s time that is set.
+ATTRIBUTES = {int(number): (name, kind) for number, name, kind in re.findall(
+    r"(\d+) (\w+) (\w)",
+    "0 Supported_Attrs M 1 Type n 2 FH_Expire_Type n 3 Change N 4 Size N 5 Link_Support b 6 Symlink_Support b 7 Named_Attr b 8 FSID f "
+    "9 Unique_Handles b 10 Lease_Time n 11 RDAttr_Error n 19 FileHandle o 20 FileId N 27 MaxFileSize N 28 MaxLink n 29 MaxName n "
+    "30 MaxRead N 31 MaxWrite N 33 Mode n 35 NumLinks n 36 Owner o 37 Owner_Group o 45 Space_Used N 47 Time_Access t 48 Time_Access_Set s "
+    "52 Time_Metadata t 53 Time_Modify t 54 Time_Modify_Set s 55 Mounted_on_FileId N 75 Suppattr_ExclCreat M")}
+ATTRIBUTE_NUMBERS = {name: number for number, (name, _) in ATTRIBUTES.items()}
+
+LAST = 0x80000000
+MOST_CONNECTIONS = 16
+MOST_PIECE = 65_536
+
+
+class Unreadable(Exception):
+    """Bytes that are not what they should be, or words that say nothing."""
+
+
+# Values as words without blanks, and back.
+
+def shown(data, most=None):
+    """Bytes as a word: ASCII with its blanks and marks as in a URL, all else in hexadecimal; cut behind so many bytes if that is asked."""
+    if most is not None and len(data) > most:
+        return f"0x{data[:most].hex()}..({len(data)}_bytes)"
+    if data and all(32 <= byte < 127 for byte in data) and not data.startswith(b"0x"):
+        return quote(data, safe="/@+")
+    return "0x" + data.hex()
+
+
+def meant(word):
+    return bytes.fromhex(word[2:]) if word.startswith("0x") else unquote_to_bytes(word)
+
+
+def numbers_of(mask):
+    return [bit for bit in range(mask.bit_length()) if mask >> bit & 1]
+
+
+def shown_mask(mask):
+    return ",".join(ATTRIBUTES[n][0] if n in ATTRIBUTES else str(n) for n in numbers_of(mask)) or "-"
+
+
+def meant_mask(word):
+    return 0 if word == "-" else sum(1 << (ATTRIBUTE_NUMBERS[w] if w in ATTRIBUTE_NUMBERS else int(w, 0)) for w in word.split(","))
+
+
+class Reader:
+    """Items one behind the other; each read by a name stands in `fields`, as a word."""
+
+    def __init__(self, data, at=0, most=None):
+        self.data, self.at, self.most, self.fields = data, at, most, []
+
+    def take(self, size):
+        part = self.data[self.at:self.at + size]
+        if len(part) != size:
+            raise Unreadable("the bytes end early")
+        self.at += size
+        return part
+
+    def number(self):
+        return int.from_bytes(self.take(4), "big")
+
+    def opaque(self):
+        part = self.take(self.number())
+        if any(self.take(-len(part) % 4)):
+            raise Unreadable("padding that is not zero")
+        return part
+
+    def read_mask(self):
+        count = self.number()
+        if 4 * count > len(self.data) - self.at:
+            raise Unreadable("the bytes end early")
+        return sum(self.number() << 32 * i for i in range(count)), count
+
+    def note(self, name, word):
+        self.fields.append((name, word))
+
+    def u32(self, name, default=0, style="{}"):
+        value = self.number()
+        self.note(name, style.format(value))
+        return value
+
+    def u64(self, name, default=0, style="{}"):
+        value = int.from_bytes(self.take(8), "big")
+        self.note(name, style.format(value))
+        return value
+
+    def fixed(self, name, size):
+        self.note(name, "0x" + self.take(size).hex())
+
+    def bytes_(self, name):
+        self.note(name, shown(self.opaque(), self.most))
+
+    def mask(self, name):
+        value, count = self.read_mask()
+        word = shown_mask(value)
+        if count != (value.bit_length() + 31) // 32:
+            word += f":{count}"
+        self.note(name, word)
+
+    def attributes(self, name):
+        """A mask and the values of its attributes (fattr4)."""
+        value, count = self.read_mask()
+        values = self.opaque()
+        inner, words = Reader(values), []
+        try:
+            for n in numbers_of(value):
+                if n not in ATTRIBUTES:
+                    raise Unreadable("attribute")
+                attribute, kind = ATTRIBUTES[n]
+                words.append(f"{attribute}:{inner.value(kind)}")
+            plain = inner.at == len(values) and count == (value.bit_length() + 31) // 32
+        except Unreadable:
+            plain = False
+        self.note(name, "{" + ";".join(words) + "}" if plain else f"raw:{shown_mask(value)}:{count}:0x{values.hex()}")
+
+    def value(self, kind):
+        if kind == "n":
+            return str(self.number())
+        if kind == "N":
+            return str(int.from_bytes(self.take(8), "big"))
+        if kind == "b":
+            value = self.number()
+            if value > 1:
+                raise Unreadable("no bool")
+            return str(value)
+        if kind == "o":
+            return shown(self.opaque())
+        if kind == "M":
+            value, count = self.read_mask()
+            if count != (value.bit_length() + 31) // 32:
+                raise Unreadable("mask")
+            return shown_mask(value)
+        if kind == "s" and (how := self.number()) != 1:
+            if how:
+                raise Unreadable("time")
+            return "now"
+        long, short = struct.unpack(">QQ" if kind == "f" else ">QI", self.take(16 if kind == "f" else 12))
+        return f"{long}.{short}" if kind == "f" else f"{long}.{short:09}" if short < 10**9 else f"{long}+{short}"
+
+    def many(self, name, one):
+        for _ in range(self.u32(name)):
+            one(self)
+
+
+class Writer:
+    """The same calls put the items that stand in `given`, in that order by name; what is not given is 0 or empty."""
+
+    def __init__(self, given):
+        self.given, self.data = given, b""
+
+    def next(self, name, default):
+        for i, (given, word) in enumerate(self.given):
+            if given == name:
+                del self.given[i]
+                return word
+        return default
+
+    def put_mask(self, value, count=None):
+        count = (value.bit_length() + 31) // 32 if count is None else count
+        self.data += struct.pack(f">{count + 1}I", count, *(value >> 32 * i & 0xffffffff for i in range(count)))
+
+    def put_bytes(self, data):
+        self.data += struct.pack(">I", len(data)) + data + bytes(-len(data) % 4)
+
+    def u32(self, name, default=0, style=None):
+        value = int(self.next(name, str(default)), 0)
+        self.data += struct.pack(">I", value)
+        return value
+
+    def u64(self, name, default=0, style=None):
+        value = int(self.next(name, str(default)), 0)
+        self.data += struct.pack(">Q", value)
+        return value
+
+    def fixed(self, name, size):
+        data = meant(self.next(name, "0x" + bytes(size).hex()))
+        if len(data) != size:
+            raise Unreadable(f"{name} is not {size} bytes")
+        self.data += data
+
+    def bytes_(self, name):
+        self.put_bytes(meant(self.next(name, "0x")))
+
+    def mask(self, name):
+        word, _, count = self.next(name, "-").partition(":")
+        self.put_mask(meant_mask(word), int(count) if count else None)
+
+    def attributes(self, name):
+        word = self.next(name, "{}")
+        if word.startswith("raw:"):
+            _, mask, count, values = word.split(":")
+            self.put_mask(meant_mask(mask), int(count))
+            self.put_bytes(meant(values))
+            return
+        inner, mask = Writer([]), 0
+        pairs = [pair.split(":", 1) for pair in word.strip("{}").split(";") if pair]
+        for number, text in sorted((ATTRIBUTE_NUMBERS[attribute], text) for attribute, text in pairs):
+            mask |= 1 << number
+            inner.value(ATTRIBUTES[number][1], text)
+        self.put_mask(mask)
+        self.put_bytes(inner.data)
+
+    def value(self, kind, text):
+        if kind in "nb":
+            self.data += struct.pack(">I", int(text, 8 if text.startswith("0") and text.isdigit() else 0))
+        elif kind == "N":
+            self.data += struct.pack(">Q", int(text, 0))
+        elif kind == "o":
+            self.put_bytes(meant(text))
+        elif kind == "M":
+            self.put_mask(meant_mask(text))
+        elif text == "now":
+            self.data += struct.pack(">I", 0)
+        else:
+            if kind == "s":
+                self.data += struct.pack(">I", 1)
+            long, short = re.split(r"[.+]", text)
+            self.data += struct.pack(">QQ" if kind == "f" else ">QI", int(long), int(short))
+
+    def many(self, name, one):
+        for _ in range(self.u32(name)):
+            one(self)
+
+
+# Arguments and results of each operation, for a reader or a writer `c`.
+
+def state_owner(c):
+    c.u64("clientid", style="0x{:x}")
+    c.bytes_("owner")
+
+
+def byte_range(c):
+    c.u64("offset")
+    c.u64("length")
+
+
+def channel(side):
+    def attributes(c):
+        for word, default in (("hdr_pad_size", 0), ("max_req_size", 66_560), ("max_resp_size", 66_560), ("max_resp_size_cached", 66_560),
+                              ("max_ops", 64), ("max_reqs", 16)):
+            c.u32(f"{side}_{word}", default)
+        c.many(f"{side}_rdma_ird", lambda c: c.u32(f"{side}_ird"))
+    return attributes
+
+
+def create(c):
+    kind = c.u32("type", 2)
+    if kind == 5:
+        c.bytes_("linkdata")
+    elif kind in (3, 4):
+        c.u32("specdata1")
+        c.u32("specdata2")
+    c.bytes_("name")
+    c.attributes("attrs")
+
+
+def lock(c):
+    c.u32("locktype", 2)
+    c.u32("reclaim")
+    byte_range(c)
+    if c.u32("new_lock_owner"):
+        c.u32("open_seqid")
+        c.fixed("StateID", 16)
+        c.u32("lock_seqid")
+        state_owner(c)
+    else:
+        c.fixed("StateID", 16)
+        c.u32("lock_seqid")
+
+
+def open_(c):
+    c.u32("seqid")
+    c.u32("share_access", 1)
+    c.u32("share_deny")
+    state_owner(c)
+    if c.u32("open_type"):
+        mode = c.u32("create_mode")
+        if mode > 3:
+            raise Unreadable("create mode")
+        if mode >= 2:
+            c.fixed("verifier", 8)
+        if mode != 2:
+            c.attributes("attrs")
+    claim = c.u32("claim_type")
+    if claim in (2, 5):
+        c.fixed("delegate_stateid", 16)
+    if claim == 1:
+        c.u32("delegation_type")
+    if claim in (0, 2, 3):
+        c.bytes_("name")
+    if claim > 6:
+        raise Unreadable("claim")
+
+
+def exchange_id(c):
+    c.fixed("verifier", 8)
+    c.bytes_("owner")
+    c.u32("eia_flags", style="0x{:x}")
+    if c.u32("eia_state_protect"):
+        raise Unreadable("state protection")
+    c.many("eia_client_impl_id", implementation)
+
+
+def implementation(c):
+    c.bytes_("domain")
+    c.bytes_("name")
+    c.u64("seconds")
+    c.u32("nseconds")
+
+
+def create_session(c):
+    c.u64("clientid", style="0x{:x}")
+    c.u32("seqid", 1)
+    c.u32("csa_flags", style="0x{:x}")
+    channel("fore")(c)
+    channel("back")(c)
+    c.u32("cb_program", style="0x{:x}")
+    c.many("cb_sec", callback)
+
+
+def callback(c):
+    flavor = c.u32("flavor")
+    if flavor == 1:
+        c.u32("stamp")
+        c.bytes_("machine_name")
+        c.u32("uid")
+        c.u32("gid")
+        c.many("gids", lambda c: c.u32("auxiliary_gid"))
+    elif flavor == 6:
+        c.u32("service")
+        c.bytes_("handle_from_server")
+        c.bytes_("handle_from_client")
+    elif flavor:
+        raise Unreadable("flavor")
+
+
+def sequence(c):
+    c.fixed("sessionid", 16)
+    c.u32("seqid")
+    c.u32("slot_id")
+    c.u32("high_slot_id")
+    c.u32("cache_this")
+
+
+def in_turn(*items):
+    """The items of these spellings, `name:kind` or a function, one behind the other."""
+    def all_(c):
+        for item in items:
+            if callable(item):
+                item(c)
+                continue
+            name, kind = item.split(":")
+            if kind in ("16", "8"):
+                c.fixed(name, int(kind))
+            else:
+                {"n": c.u32, "N": c.u64, "o": c.bytes_, "M": c.mask, "F": c.attributes}[kind](name)
+    return all_
+
+
+CHANGE = ("atomic:n", "changeid_before:N", "changeid_after:N")
+ARGUMENTS = {
+    "ACCESS": in_turn("access:n"), "CLOSE": in_turn("seqid:n", "StateID:16"), "COMMIT": in_turn("offset:N", "count:n"), "CREATE": create,
+    "GETATTR": in_turn("attr_mask:M"), "GETFH": in_turn(), "LINK": in_turn("name:o"), "LOCK": lock,
+    "LOCKT": in_turn("locktype:n", byte_range, state_owner), "LOCKU": in_turn("locktype:n", "seqid:n", "StateID:16", byte_range),
+    "LOOKUP": in_turn("name:o"), "LOOKUPP": in_turn(), "NVERIFY": in_turn("attrs:F"), "OPEN": open_,
+    "OPEN_DOWNGRADE": in_turn("StateID:16", "seqid:n", "share_access:n", "share_deny:n"), "PUTFH": in_turn("FileHandle:o"),
+    "PUTPUBFH": in_turn(), "PUTROOTFH": in_turn(), "READ": in_turn("StateID:16", "offset:N", "count:n"),
+    "READDIR": in_turn("cookie:N", "cookie_verf:8", "dircount:n", "maxcount:n", "attr_mask:M"), "READLINK": in_turn(),
+    "REMOVE": in_turn("name:o"), "RENAME": in_turn("name:o", "newname:o"), "RESTOREFH": in_turn(), "SAVEFH": in_turn(),
+    "SETATTR": in_turn("StateID:16", "attrs:F"), "VERIFY": in_turn("attrs:F"), "WRITE": in_turn("StateID:16", "offset:N", "stable:n", "data:o"),
+    "EXCHANGE_ID": exchange_id, "CREATE_SESSION": create_session, "DESTROY_SESSION": in_turn("sessionid:16"),
+    "FREE_STATEID": in_turn("StateID:16"), "SECINFO_NO_NAME": in_turn("style:n"), "SEQUENCE": sequence,
+    "TEST_STATEID": lambda c: c.many("num_stateids", lambda c: c.fixed("StateID", 16)),
+    "DESTROY_CLIENTID": lambda c: c.u64("clientid", style="0x{:x}"), "RECLAIM_COMPLETE": in_turn("one_fs:n"),
+}
+
+
+def opened(c):
+    for item in ("StateID:16", *CHANGE, "result_flags:n", "attr_mask:M", "delegation_type:n"):
+        in_turn(item)(c)
+
+
+def listed(c):
+    c.fixed("cookie_verf", 8)
+    while c.u32("value_follows"):
+        c.u64("cookie")
+        c.bytes_("name")
+        c.attributes("attrs")
+    c.u32("eof")
+
+
+def exchanged(c):
+    c.u64("clientid", style="0x{:x}")
+    c.u32("seqid")
+    c.u32("eir_flags", style="0x{:x}")
+    if c.u32("eir_state_protect"):
+        raise Unreadable("state protection")
+    c.u64("minor_id")
+    c.bytes_("major_id")
+    c.bytes_("scope")
+    c.many("eir_server_impl_id", implementation)
+
+
+RESULTS = {
+    "ACCESS": in_turn("supported:n", "access_rights:n"), "CLOSE": in_turn("StateID:16"), "COMMIT": in_turn("verifier:8"),
+    "CREATE": in_turn(*CHANGE, "attr_mask:M"), "GETATTR": in_turn("attrs:F"), "GETFH": in_turn("FileHandle:o"), "LINK": in_turn(*CHANGE),
+    "LOCK": in_turn("StateID:16"), "LOCKU": in_turn("StateID:16"), "OPEN": opened, "OPEN_DOWNGRADE": in_turn("StateID:16"),
+    "READ": in_turn("eof:n", "data:o"), "READDIR": listed, "READLINK": in_turn("linkdata:o"), "REMOVE": in_turn(*CHANGE),
+    "RENAME": in_turn("source_atomic:n", "source_before:N", "source_after:N", "target_atomic:n", "target_before:N", "target_after:N"),
+    "WRITE": in_turn("count:n", "committed:n", "verifier:8"), "EXCHANGE_ID": exchanged,
+    "CREATE_SESSION": lambda c: (c.fixed("sessionid", 16), c.u32("seqid"), c.u32("csr_flags", style="0x{:x}"), channel("fore")(c), channel("back")(c)),
+    "SECINFO_NO_NAME": lambda c: c.many("flavors", lambda c: c.u32("flavor")),
+    "SEQUENCE": in_turn("sessionid:16", "seqid:n", "slot_id:n", "high_slot_id:n", "target_high_slot_id:n", "status_flags:n"),
+    "TEST_STATEID": lambda c: c.many("num_results", lambda c: c.u32("StateID_status")),
+}
+LOCK_DENIED = in_turn(byte_range, "locktype:n", state_owner)
+
+
+def read_operation(c):
+    """An operation of a call: its name and its fields; `c` is a Reader."""
+    number = c.number()
+    name = OPERATIONS.get(number, f"OP_{number}")
+    if name not in ARGUMENTS:
+        raise Unreadable(f"{name} is no operation of this profile")
+    c.fields = []
+    ARGUMENTS[name](c)
+    return name, c.fields
+
+
+def read_result(c):
+    """A result of a reply: its name, status and fields."""
+    name, status = OPERATIONS.get(c.number(), "OP?"), c.number()
+    c.fields = []
+    if name == "SETATTR":
+        c.mask("attr_mask")
+    elif status == 0 and name in RESULTS:
+        RESULTS[name](c)
+    elif status == 10_010 and name in ("LOCK", "LOCKT"):
+        LOCK_DENIED(c)
+    return name, STATUSES.get(status, str(status)), c.fields
+
+
+def write_operation(name, fields):
+    """The bytes of an operation from its fields by name."""
+    if name not in ARGUMENTS:
+        raise Unreadable(f"{name} is no operation of this profile")
+    c = Writer(list(fields))
+    ARGUMENTS[name](c)
+    if c.given:
+        raise Unreadable(f"{name} has no {c.given[0][0]}, or not there")
+    return struct.pack(">I", NUMBERS[name]) + c.data
+
+
+# RPC: records, calls and replies.
+
+def record(data):
+    return struct.pack(">I", LAST | len(data)) + data
+
+
+class Records:
+    """The records of a stream that comes in pieces."""
+
+    def __init__(self):
+        self.kept, self.whole, self.lost = b"", b"", False
+
+    def feed(self, piece):
+        self.kept += piece
+        found = []
+        while len(self.kept) >= 4 and not self.lost:
+            mark = int.from_bytes(self.kept[:4], "big")
+            size = mark & ~LAST
+            if len(self.whole) + size > 66_560 + 65_536:
+                self.lost = True
+            if self.lost or len(self.kept) < 4 + size:
+                break
+            self.whole += self.kept[4:4 + size]
+            self.kept = self.kept[4 + size:]
+            if mark & LAST:
+                found.append(self.whole)
+                self.whole = b""
+        return found
+
+
+def call_head(xid, uid=0, gid=0, gids=(), procedure=1, machine=b""):
+    body = struct.pack(">I", 0) + struct.pack(">I", len(machine)) + machine + bytes(-len(machine) % 4)
+    body += struct.pack(f">{3 + len(gids)}I", uid, gid, len(gids), *gids)
+    return struct.pack(">8I", xid, 0, 2, 100_003, 4, procedure, 1, len(body)) + body + bytes(8)
+
+
+def compound(xid, operations, uid=0, gid=0, gids=(), tag=b"", minor=1):
+    """A call of COMPOUND with these operations' bytes, without its record mark."""
+    tagged = struct.pack(">I", len(tag)) + tag + bytes(-len(tag) % 4)
+    return call_head(xid, uid, gid, gids) + tagged + struct.pack(">2I", minor, len(operations)) + b"".join(operations)
+
+
+class Call:
+    """A call: its head, and its operations as far as they can be read; `fault` says why they end early."""
+
+    def __init__(self, data, most=None):
+        c = Reader(data, most=most)
+        self.data, self.operations, self.fault = data, [], None
+        self.xid, self.uid, self.gid, self.gids, self.tag, self.minor, self.procedure = c.number(), None, None, [], b"", None, None
+        if c.number() != 0:
+            raise Unreadable("no call")
+        versions = c.number(), c.number(), c.number()
+        self.procedure = c.number()
+        flavor, body = c.number(), c.opaque()
+        c.number()
+        c.opaque()
+        if versions != (2, 100_003, 4) or self.procedure > 1:
+            raise Unreadable(f"RPC version {versions[0]}, program {versions[1]}, version {versions[2]}, procedure {self.procedure}")
+        self.flavor = flavor
+        if flavor == 1:
+            b = Reader(body)
+            b.number()
+            self.machine = b.opaque()
+            self.uid, self.gid = b.number(), b.number()
+            self.gids = [b.number() for _ in range(min(b.number(), 16))]
+        if self.procedure == 0:
+            return
+        self.tag, self.minor = c.opaque(), c.number()
+        self.declared = c.number()
+        try:
+            for _ in range(self.declared):
+                self.operations.append(read_operation(c))
+            if c.at != len(data):
+                raise Unreadable("bytes behind the last operation")
+        except Unreadable as fault:
+            self.fault = str(fault)
+
+
+class Reply:
+    """A reply: how it ended, its results, and what could not be read of it."""
+
+    DENIED = {0: "RPC_MISMATCH", 1: "AUTH_ERROR"}
+    ACCEPTED = {0: "SUCCESS", 1: "PROG_UNAVAIL", 2: "PROG_MISMATCH", 3: "PROC_UNAVAIL", 4: "GARBAGE_ARGS", 5: "SYSTEM_ERR"}
+
+    def __init__(self, data, most=None):
+        c = Reader(data, most=most)
+        self.data, self.results, self.fault = data, [], None
+        self.xid = c.number()
+        if c.number() != 1:
+            raise Unreadable("no reply")
+        if c.number():
+            why = c.number()
+            self.status = f"MSG_DENIED {self.DENIED.get(why, why)} {' '.join(str(c.number()) for _ in range((len(data) - c.at) // 4))}"
+            return
+        c.number()
+        c.opaque()
+        status = c.number()
+        self.status = self.ACCEPTED.get(status, str(status))
+        if status or c.at == len(data):
+            return
+        status = c.number()
+        self.status = STATUSES.get(status, str(status))
+        self.tag = c.opaque()
+        try:
+            for _ in range(c.number()):
+                self.results.append(read_result(c))
+            if c.at != len(data):
+                raise Unreadable("bytes behind the last result")
+        except Unreadable as fault:
+            self.fault = str(fault)
+
+
+# Scripts of `nfs41d replay` and what it puts out (docs/PROTOCOL.md).
+
+def entries(script):
+    """Moment, connection and piece of each entry; an empty piece closes the connection."""
+    at = 0
+    while at < len(script):
+        if at + 16 > len(script):
+            raise Unreadable("the script ends inside an entry")
+        moment, connection, size = struct.unpack_from(">QII", script, at)
+        if at + 16 + size > len(script):
+            raise Unreadable("the script ends inside an entry")
+        yield moment, connection, script[at + 16:at + 16 + size]
+        at += 16 + size
+
+
+def entry(moment, connection, piece):
+    return struct.pack(">QII", moment, connection, len(piece)) + piece
+
+
+def whole_calls(script):
+    """Moment, connection and record of each call in the order in which they became whole; None is a close."""
+    streams = {}
+    for moment, connection, piece in entries(script):
+        if not piece:
+            streams.pop(connection, None)
+            yield moment, connection, None
+            continue
+        for call in streams.setdefault(connection, Records()).feed(piece):
+            yield moment, connection, call
+
+
+def replies(output):
+    """Connection and record of each reply; None is a stream that became too long."""
+    at = 0
+    while at < len(output):
+        if at + 8 > len(output):
+            raise Unreadable("the output ends inside a reply")
+        connection, mark = struct.unpack_from(">II", output, at)
+        size = mark & ~LAST
+        if at + 8 + size > len(output):
+            raise Unreadable("the output ends inside a reply")
+        yield connection, output[at + 8:at + 8 + size] if mark else None
+        at += 8 + size

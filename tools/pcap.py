@@ -1,0 +1,133 @@
+"""Captures of TCP, read and written as files of the kind pcap (of pcapng, where tshark turns them into it)."""
+import socket
+import struct
+import subprocess
+
+PCAPNG = b"\n\r\r\n"
+FIN, SYN, RST, PUSH, ACK = 1, 2, 4, 8, 16
+# What stands before the IP packet, by the kind of link: Ethernet, none, Linux's two cooked ones, and the BSD loopback.
+BEFORE = {1: 14, 101: 0, 228: 0, 113: 16, 276: 20, 0: 4}
+
+
+class NoCapture(Exception):
+    """The file is no capture that can be read."""
+
+
+def packets(path):
+    """The second, microsecond and bytes of each IP packet."""
+    data = path.read_bytes()
+    if data.startswith(PCAPNG):
+        try:
+            data = subprocess.run(["tshark", "-r", str(path), "-F", "pcap", "-w", "-"], capture_output=True, check=True).stdout
+        except (OSError, subprocess.CalledProcessError) as fault:
+            raise NoCapture(f"{path} is pcapng, which tshark would turn into pcap: {fault}") from fault
+    order = {b"\xd4\xc3\xb2\xa1": "<", b"\x4d\x3c\xb2\xa1": "<", b"\xa1\xb2\xc3\xd4": ">", b"\xa1\xb2\x3c\x4d": ">"}.get(data[:4])
+    if order is None:
+        raise NoCapture(f"{path} is no pcap")
+    nano = 1000 if data[:4] in (b"\x4d\x3c\xb2\xa1", b"\xa1\xb2\x3c\x4d") else 1
+    link = struct.unpack_from(order + "I", data, 20)[0] & 0xffff
+    if link not in BEFORE:
+        raise NoCapture(f"{path} is of link type {link}")
+    at = 24
+    while at + 16 <= len(data):
+        second, part, size, whole = struct.unpack_from(order + "4I", data, at)
+        if size < whole:
+            raise NoCapture(f"{path} has packets that were cut; capture them whole (tcpdump -s 0)")
+        yield second, part // nano, data[at + 16 + BEFORE[link]:at + 16 + size]
+        at += 16 + size
+
+
+def segments(path, port):
+    """The TCP segments to and from a port over IPv4: moment, client (address and port), whether the server sent it, flags, sequence number, bytes."""
+    for second, part, packet in packets(path):
+        if len(packet) < 20 or packet[0] >> 4 != 4 or packet[9] != socket.IPPROTO_TCP:
+            continue
+        packet = packet[:struct.unpack_from(">H", packet, 2)[0]]
+        tcp = packet[4 * (packet[0] & 15):]
+        source, target, number = struct.unpack_from(">HHI", tcp)
+        data = tcp[4 * (tcp[12] >> 4):]
+        if source == port:
+            yield (second, part), (packet[16:20], target), True, tcp[13], number, data
+        elif target == port:
+            yield (second, part), (packet[12:16], source), False, tcp[13], number, data
+
+
+class Side:
+    """What one side of a connection sent, put into order: segments come twice, and one before the other."""
+
+    def __init__(self):
+        self.next, self.early = None, {}
+
+    def feed(self, number, flags, data):
+        if flags & SYN:
+            self.next, self.early = (number + 1) & 0xffffffff, {}
+        elif self.next is None:
+            self.next = number
+        if data:
+            self.early.setdefault(number, data)
+        out = b""
+        while True:
+            for number, data in sorted(self.early.items(), key=lambda item: (item[0] - self.next + 2**31) & 0xffffffff):
+                behind = (self.next - number) & 0xffffffff
+                if behind < 2**31:
+                    del self.early[number]
+                    if behind < len(data):
+                        out += data[behind:]
+                        self.next = (number + len(data)) & 0xffffffff
+                    break
+            else:
+                return out
+
+
+def checksum(data):
+    total = sum(struct.unpack(f">{len(data + bytes(len(data) % 2)) // 2}H", data + bytes(len(data) % 2)))
+    while total >> 16:
+        total = (total & 0xffff) + (total >> 16)
+    return ~total & 0xffff
+
+
+class Written:
+    """A capture that is written: connections of clients 10.0.0.1 to a server 10.0.0.2, over raw IP."""
+
+    CLIENT, SERVER = socket.inet_aton("10.0.0.1"), socket.inet_aton("10.0.0.2")
+    MOST = 32_768
+
+    def __init__(self, out, port):
+        self.out, self.port, self.numbers, self.opened = out, port, {}, 0
+        self.clock = (0, 0)
+        out.write(struct.pack(">IHHiIII", 0xa1b2c3d4, 2, 4, 0, 0, 262_144, 101))
+
+    def packet(self, moment, client, to_server, flags, data=b""):
+        numbers = self.numbers[client]
+        # moments are whole seconds: what comes in one of them is a microsecond apart
+        second, part = self.clock
+        self.clock = (moment, 0) if moment > second else (second, part + 1) if part < 999_999 else (second + 1, 0)
+        ports = (client, self.port) if to_server else (self.port, client)
+        ends = (self.CLIENT, self.SERVER) if to_server else (self.SERVER, self.CLIENT)
+        here, there = (0, 1) if to_server else (1, 0)
+        answered = 0 if flags == SYN else numbers[there]
+        tcp = struct.pack(">2H2I4H", *ports, numbers[here], answered, 5 << 12 | flags, 65_535, 0, 0) + data
+        pseudo = ends[0] + ends[1] + struct.pack(">2H", socket.IPPROTO_TCP, len(tcp))
+        tcp = tcp[:16] + struct.pack(">H", checksum(pseudo + tcp)) + tcp[18:]
+        head = struct.pack(">2B3H2BH4s4s", 0x45, 0, 20 + len(tcp), 0, 0x4000, 64, socket.IPPROTO_TCP, 0, *ends)
+        head = head[:10] + struct.pack(">H", checksum(head)) + head[12:]
+        self.out.write(struct.pack(">4I", min(self.clock[0], 0xffffffff), self.clock[1], *[len(head + tcp)] * 2) + head + tcp)
+        numbers[here] = (numbers[here] + len(data) + (1 if flags & (SYN | FIN) else 0)) & 0xffffffff
+
+    def open(self, moment):
+        """A new connection: the client's port."""
+        client = 700 + self.opened % 60_000
+        self.opened += 1
+        self.numbers[client] = [1000, 2000]
+        self.packet(moment, client, True, SYN)
+        self.packet(moment, client, False, SYN | ACK)
+        self.packet(moment, client, True, ACK)
+        return client
+
+    def sent(self, moment, client, to_server, data):
+        for at in range(0, len(data), self.MOST):
+            self.packet(moment, client, to_server, PUSH | ACK, data[at:at + self.MOST])
+
+    def close(self, moment, client):
+        self.packet(moment, client, True, FIN | ACK)
+        self.packet(moment, client, False, FIN | ACK)
