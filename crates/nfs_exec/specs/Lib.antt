@@ -11,3 +11,4 @@ pub mod Compound
 pub mod Expiry
 pub mod View
 pub mod Laws
+pub mod Executing

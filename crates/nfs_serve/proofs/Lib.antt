@@ -12,3 +12,15 @@ pub mod Connections
 pub mod OneReading
 pub mod InMemory
 pub mod Buffers
+pub mod ServerLaws
+pub mod NetworkLists
+pub mod NetworkLines
+pub mod NetworkEvents
+pub mod AloneRuns
+pub mod Ticking
+pub mod Quiet
+pub mod SlotsLeft
+pub mod Spelled
+pub mod Mute
+pub mod KeptSlots
+pub mod Good

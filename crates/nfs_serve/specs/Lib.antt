@@ -10,3 +10,7 @@ pub mod Exchanges
 pub mod Engine
 pub mod Reading
 pub mod Running
+pub mod Endpoint
+pub mod Network
+pub mod Alone
+pub mod Seen

@@ -1,7 +1,11 @@
 //! Laws of the definitions alone: each is the contract of a function that takes and answers nothing.
 
+ghost use Rattle.std.specs.Prelude.{ℕ};
+ghost use Rattle.nfs_serve.specs.Alone.{ExecutingAlone};
 ghost use Rattle.nfs_serve.specs.Exchanges.{RunsTo, null_script, null_output, exchange_script, exchange_output};
 ghost use Rattle.nfs_serve.specs.Laws.{HasOneReading, CutsAnywhere, BringsOnce, ConnectionsAreStreams};
+ghost use Rattle.nfs_serve.specs.Network.{ExactlyOnce, AnswersExecuted};
+ghost use Rattle.nfs_serve.specs.Seen.{server};
 
 /// Which fault a script has, if any, and its whole entries before it are decided by its bytes.
 pub fn one_reading()
@@ -28,4 +32,21 @@ pub fn null()
 /// The definitions compute: EXCHANGE_ID of a new owner, sent twice, is answered with the client ids of two counters.
 pub fn exchange_id()
     ensures { RunsTo exchange_script exchange_output }
+{}
+
+/// Over a network that loses, repeats, delays and reorders: each compound that is sent on a slot is executed at most once, the executed ones
+/// are the first that were sent, in their order, and what their caller accepts are the results of those executions, each for its own
+/// compound.
+pub fn exactly_once()
+    ensures { (mode : ℕ) (instance : ℕ) (lease : ℕ) → ExactlyOnce (server mode instance lease) }
+{}
+
+/// What executes on a slot is answered under the xid of its call, with a SEQUENCE that its caller may accept.
+pub fn answers_what_executes()
+    ensures { (mode : ℕ) (instance : ℕ) (lease : ℕ) → AnswersExecuted (server mode instance lease) }
+{}
+
+/// A list of records leaves what those that execute leave alone, once both took the list's last moment, and those are answered alike.
+pub fn executing_alone()
+    ensures { (mode : ℕ) (instance : ℕ) (lease : ℕ) → ExecutingAlone (server mode instance lease) }
 {}

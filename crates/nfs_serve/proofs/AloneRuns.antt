@@ -1,0 +1,68 @@
+-- A list of records against its executing ones alone.
+use Rattle.std.proofs.Common.{◌≡◌, ℕ, Bool, true, false, List, [], ◌∷◌, Option, refl, sym, ◌∙◌, ap, arith}
+use Rattle.std.specs.Prelude.{max, if◌then◌else◌}
+use Rattle.nfs_serve.specs.Endpoint.{Answer, Server, Arrival, Stepped, stepped, ran}
+use Rattle.nfs_serve.specs.Alone.{taken, alone, answers, executing_answers, ExecutingAlone}
+use Rattle.nfs_serve.proofs.ServerLaws.{KeepsTime}
+
+-- x and m are alike once the moment of m is taken
+abbrev pub IsAlike : (s : Server) → s.State → s.State → Type 0
+IsAlike s x m = s.tick m (s.moment m) ≡ s.tick x (s.moment m)
+
+-- what the records `apart` leave and answer from x, against all the records from m
+pub record Alike (s : Server) (x m : s.State) (apart arrivals : List Arrival) (told : List (Option Answer)) : Type 0 where
+  pub state : s.tick (ran s m arrivals) (s.moment (ran s m arrivals)) ≡ s.tick (ran s x apart) (s.moment (ran s m arrivals))
+  pub answered : told ≡ answers s x apart
+
+-- one step of two states that are alike
+same_step : (s : Server) (laws : KeepsTime s) (a : Arrival) (x m : s.State) → IsAlike s x m → stepped s m a ≡ stepped s x (taken s m a)
+same_step s laws a x m is =
+    laws.takes_later m a.bytes a.now a.choice
+    ∙ (sym (laws.ticks_first m a.bytes (s.moment m) a.now a.choice)
+    ∙ (ap (λ (y : s.State). s.step y a.bytes a.now a.choice) is
+    ∙ laws.ticks_first x a.bytes (s.moment m) a.now a.choice))
+
+-- a later moment
+later_alike : (s : Server) (laws : KeepsTime s) (x m : s.State) (now : ℕ) → IsAlike s x m → s.tick m (max (s.moment m) now) ≡ s.tick x (max (s.moment m) now)
+later_alike s laws x m now is = sym (laws.twice m (s.moment m) now) ∙ (ap (λ (y : s.State). s.tick y now) is ∙ laws.twice x (s.moment m) now)
+
+later_last : (now moment : ℕ) → max now (max moment now) ≡ max moment now
+later_last now moment = omega arith
+
+by_test : (s : Server) (laws : KeepsTime s) (a : Arrival) (more : List Arrival) (x m : s.State) → IsAlike s x m
+    → ((x m : s.State) → IsAlike s x m → Alike s x m (alone s m more) more (executing_answers s m more))
+    → (b : Bool) → s.executes m a.bytes a.now ≡ b
+    → Alike s x m
+    (if b then taken s m a ∷ alone s (stepped s m a).state more else alone s (stepped s m a).state more)
+    (a ∷ more)
+    (if b then (stepped s m a).answer ∷ executing_answers s (stepped s m a).state more else executing_answers s (stepped s m a).state more)
+by_test s laws a more x m is rest true e =
+    let after : s.State = (stepped s m a).state in
+    let same = same_step s laws a x m is in
+    let alike = rest (stepped s x (taken s m a)).state after (ap (λ (y : Stepped s.State). s.tick y.state (s.moment after)) same) in
+    record {
+      state = alike.state;
+      answered = ap (λ (y : Stepped s.State). y.answer ∷ executing_answers s after more) same ∙ ap (λ (ys : List (Option Answer)). (stepped s x (taken s m a)).answer ∷ ys) alike.answered;
+    }
+by_test s laws a more x m is rest false e =
+    let after : s.State = (stepped s m a).state in
+    let moment : s.moment after ≡ max (s.moment m) a.now = laws.step_moment m a.bytes a.now a.choice in
+    let alike = rest x after
+    (ap (λ (y : s.State). s.tick y (s.moment after)) (laws.only_ticks m a.bytes a.now a.choice e)
+    ∙ (ap (s.tick (s.tick m a.now)) moment
+    ∙ (laws.twice m a.now (max (s.moment m) a.now)
+    ∙ (ap (s.tick m) (later_last a.now (s.moment m))
+    ∙ (later_alike s laws x m a.now is ∙ ap (s.tick x) (sym moment)))))) in
+    record { state = alike.state; answered = alike.answered }
+
+alike : (s : Server) (laws : KeepsTime s) (arrivals : List Arrival) (x m : s.State) → IsAlike s x m → Alike s x m (alone s m arrivals) arrivals (executing_answers s m arrivals)
+alike s laws [] x m is = record { state = is; answered = refl }
+alike s laws (a ∷ more) x m is = by_test s laws a more x m is (λ y n. alike s laws more y n) (s.executes m a.bytes a.now) refl
+
+-- from any state, once both took the last moment
+pub alone_ticked : (s : Server) → KeepsTime s → (m : s.State) (arrivals : List Arrival) → Alike s m m (alone s m arrivals) arrivals (executing_answers s m arrivals)
+alone_ticked s laws m arrivals = alike s laws arrivals m m refl
+
+pub executing_alone : (s : Server) → KeepsTime s → ExecutingAlone s
+executing_alone s laws before arrivals =
+    let same = alone_ticked s laws (ran s s.new before) arrivals in record { state = same.state; answered = same.answered }

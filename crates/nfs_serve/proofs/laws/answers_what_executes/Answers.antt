@@ -1,0 +1,5 @@
+use Rattle.nfs_serve.proofs.KeptSlots.{answers_well}
+use Rattle.nfs_serve.proofs.laws.answers_what_executes.Goals as goal
+
+pub returns : goal.returns
+returns c = λ mode instance lease s bytes now choice h fits reads executes. answers_well s bytes now choice h fits reads executes

@@ -1,0 +1,7 @@
+use Rattle.nfs_serve.proofs.AloneRuns.{executing_alone}
+use Rattle.nfs_serve.specs.Seen.{server}
+use Rattle.nfs_serve.proofs.Ticking.{keeps_time}
+use Rattle.nfs_serve.proofs.laws.executing_alone.Goals as goal
+
+pub returns : goal.returns
+returns c = λ mode instance lease. executing_alone (server mode instance lease) (keeps_time mode instance lease)
