@@ -58,7 +58,8 @@ use Rattle.nfs_files.specs.Read.{read}
 use Rattle.nfs_files.specs.SetAttr.{was_set, set_attr}
 use Rattle.nfs_files.specs.TestStateid.{test_stateid}
 use Rattle.nfs_files.specs.Write.{was_written, write}
-use Rattle.nfs_files.specs.Kept.{Told, IsBeside, Locks, Unlocks, Closes, Spares, Stands, Clashes, SparedLocksStay, ClashesAreRefused}
+use Rattle.nfs_files.specs.Kept.{Told, IsBeside, Locks, Unlocks, Closes, Spares, Stands, Clashes}
+use Rattle.nfs_files.specs.Laws.{SparedLocksStay, ClashesAreRefused}
 use Rattle.nfs_files.proofs.KeptLocks.{stands_by, stands_closed, stands_freed, stands_raised, stands_locked, lock_grants, outside, cleared_other, refused}
 
 -- a refusal leaves the state, an answer what follows from what was found

@@ -22,7 +22,8 @@ use Rattle.nfs_names.specs.State.{State}
 use Rattle.nfs_names.specs.Outcome.{is_ok, or_delay}
 use Rattle.nfs_files.specs.Operation.{one, grows, one_or_delay}
 use Rattle.nfs_files.specs.Lock as of_lock
-use Rattle.nfs_files.specs.Kept.{Told, IsHeld, Tells, Stands, ToldLocksStand}
+use Rattle.nfs_files.specs.Kept.{Told, IsHeld, Tells, Stands}
+use Rattle.nfs_files.specs.Laws.{ToldLocksStand}
 use Rattle.nfs_files.proofs.KeptLocks.{IsGranted, lock_grants}
 use Rattle.nfs_files.proofs.KeptOps.{lock_ok}
 

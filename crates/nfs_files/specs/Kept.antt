@@ -1,6 +1,5 @@
 -- A lock that was told to its owner, and which operations end it (RFC 8881 sections 9.1, 18.2, 18.10 and 18.12).
-use Rattle.std.specs.Prelude.{◌≡◌, ◌≢◌, ◌⊎◌, ℕ, ◌<◌, ◌≤◌, Bool, true, Some, Ok}
-use Rattle.nfs_xdr.specs.declared.time.Time.{Time}
+use Rattle.std.specs.Prelude.{◌≡◌, ◌≢◌, ◌⊎◌, ℕ, ◌<◌, ◌≤◌, true, Some, Ok}
 use Rattle.nfs_xdr.specs.Tables.{In}
 use Rattle.nfs_compound.specs.LockArgs as args
 use Rattle.nfs_compound.specs.declared.lock_args.LockU.{LockU}
@@ -12,13 +11,11 @@ use Rattle.nfs_opens.specs.declared.records.LockState.{LockState}
 use Rattle.nfs_opens.specs.declared.stateid.StateId.{StateId}
 use Rattle.nfs_opens.specs.declared.stateid.CurrentSeqid.TheVariants.{Own}
 use Rattle.nfs_opens.specs.declared.locking.Wish.{Wish}
-use Rattle.nfs_opens.specs.Table.{Table, IsTable, lock_at}
+use Rattle.nfs_opens.specs.Table.{Table, lock_at}
 use Rattle.nfs_opens.specs.Locking.{unlock}
 use Rattle.nfs_opens.specs.Closing as opens
 use Rattle.nfs_names.specs.declared.context.Context.{Context}
 use Rattle.nfs_names.specs.State.{State}
-use Rattle.nfs_names.specs.Outcome.{is_ok}
-use Rattle.nfs_files.specs.Operation.{one_or_delay}
 use Rattle.nfs_files.specs.Target.{target}
 use Rattle.nfs_files.specs.Lock.{locking, locks_as}
 use Rattle.nfs_files.specs.LockU.{unlocking}
@@ -94,17 +91,6 @@ pub record Clashes (k : Told) (n : ℕ) (w : Wish) : Type 0 where
   pub behind : k.first ≤ w.last
   pub kinds : meets w.kind (Some k.kind) ≡ true
 
--- An operation that spares a lock, or does not answer NFS4_OK, leaves it.
-abbrev pub SparedLocksStay : Type 0
-SparedLocksStay = (k : Told) (s : State) (x : Context) (now : Time) (refused : Bool) (op : Op) → IsTable s.opens → k.first ≤ k.last
-    → (is_ok (one_or_delay refused s x now op).result ≡ true → Spares k s x op) → Stands k s.opens
-    → Stands k (one_or_delay refused s x now op).state.opens
-
--- A LOCK that clashes with a lock that stands is not granted.
-abbrev pub ClashesAreRefused : Type 0
-ClashesAreRefused = (k : Told) (s : State) (x : Context) (op : Op) (n : ℕ) (w : Wish) → IsTable s.opens → k.first ≤ k.last
-    → Stands k s.opens → Locks s x op n w → Clashes k n w → ⊥
-
 -- A LOCK that was granted tells this lock: its lock state as it stands behind the LOCK, and bytes of its range in its way.
 pub record Tells (k : Told) (s : State) (x : Context) (op : Op) (left : Table) : Type 0 where
   pub wish : Wish
@@ -116,9 +102,3 @@ pub record Tells (k : Told) (s : State) (x : Context) (op : Op) (left : Table) :
   pub stands : lock_at left k.state ≡ Some lock
   pub client : k.client ≡ lock.client
   pub opened : k.opened ≡ lock.opened
-
--- Where it answered NFS4_OK, the lock stands behind it.
-abbrev pub ToldLocksStand : Type 0
-ToldLocksStand = (k : Told) (s : State) (x : Context) (now : Time) (refused : Bool) (op : Op)
-    → is_ok (one_or_delay refused s x now op).result ≡ true → Tells k s x op (one_or_delay refused s x now op).state.opens
-    → Stands k (one_or_delay refused s x now op).state.opens

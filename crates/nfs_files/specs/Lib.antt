@@ -18,5 +18,5 @@ pub mod LockU
 pub mod FreeStateid
 pub mod TestStateid
 pub mod Operation
-pub mod Trees
 pub mod Kept
+pub mod Laws

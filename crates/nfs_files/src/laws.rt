@@ -1,7 +1,6 @@
 //! Laws of the operations on open files, over their definitions. Each is the contract of a function that does nothing.
 
-ghost use Rattle.nfs_files.specs.Kept.{SparedLocksStay, ClashesAreRefused, ToldLocksStand};
-ghost use Rattle.nfs_files.specs.Trees.{OpensLeaveTrees};
+ghost use Rattle.nfs_files.specs.Laws.{OpensLeaveTrees, SparedLocksStay, ClashesAreRefused, ToldLocksStand};
 
 /// A lock stays through an operation that does not end it: no LOCK or LOCKU of its lock state on one of its bytes, and no CLOSE of its open.
 pub fn spared_locks_stay()
