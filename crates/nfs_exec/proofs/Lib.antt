@@ -16,3 +16,6 @@ pub mod Latest
 pub mod Repeating
 pub mod Numbering
 pub mod Rounds
+pub mod OpsRun
+pub mod WholeRun
+pub mod HeldRun

@@ -12,3 +12,6 @@ pub mod Expiry
 pub mod View
 pub mod Laws
 pub mod Executing
+pub mod Ops
+pub mod Held
+pub mod Runs

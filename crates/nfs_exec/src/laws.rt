@@ -1,6 +1,8 @@
 //! Laws of compounds and of expiry, over their definitions.
 
 ghost use Rattle.nfs_exec.specs.Laws.{RepeatsChangeNothing, RefusalsChangeNothing, NeverRunsAgain, ExpiresOnce, ExpiryFindsNothing};
+ghost use Rattle.nfs_exec.specs.Ops.{OpsAreRun, OpsAreRunIn};
+ghost use Rattle.nfs_exec.specs.Runs.{NoneInRuns, LocksAreKept};
 
 /// A request that is repeated is answered with the reply that was kept, byte for byte, and changes nothing.
 pub fn repeats_change_nothing()
@@ -25,4 +27,24 @@ pub fn expires_once()
 /// Behind a compound at the moment of an expiry, expiry at the same moment finds nothing.
 pub fn expiry_finds_nothing()
     ensures { ExpiryFindsNothing }
+{}
+
+/// The operations of a compound, one by one, are those that it runs: as many, each from where the one before it ended, and the last leaves its machine.
+pub fn ops_are_run()
+    ensures { OpsAreRun }
+{}
+
+/// The same of what stands behind a SEQUENCE.
+pub fn ops_are_run_in()
+    ensures { OpsAreRunIn }
+{}
+
+/// In every run no byte has a writer beside another holder and no two opens clash, before and behind each operation too.
+pub fn none_in_runs()
+    ensures { NoneInRuns }
+{}
+
+/// In every run a lock that stands stays while nothing ends it and its client stays, and who clashes with it is refused.
+pub fn locks_are_kept()
+    ensures { LocksAreKept }
 {}

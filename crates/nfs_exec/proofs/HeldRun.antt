@@ -1,0 +1,318 @@
+-- A lock that stands, through compounds and expiry.
+use Rattle.std.proofs.Common.{◌≡◌, ◌≢◌, ℕ, ◌+◌, ◌≤◌, Bool, true, false, cond, eqb, ltb, not, List, [], ◌∷◌, length, Option, Some, None, refl, sym, ◌∙◌, ap, subst, inl, inr}
+use Rattle.std.specs.Prelude.{◌==◌, ◌&&◌, filter, find, option_map, is_some, Result, Ok, Err}
+use Rattle.std.proofs.lemmas.Slice.Eq.{bytes_eq-Decides}
+use Rattle.std.proofs.lemmas.Bool.{cases_Bool, eq-eqb, ne_eqb, eqb-true, and_parts, false≢true}
+use Rattle.nfs_xdr.specs.Caller.{Caller}
+use Rattle.nfs_xdr.specs.Tables.{In}
+use Rattle.nfs_xdr.specs.declared.status.Status.{Status}
+use Rattle.nfs_xdr.specs.declared.status.Status.TheVariants.{Delay, MinorVersMismatch}
+use Rattle.nfs_xdr.proofs.Lists.{stays_in, any_in, map_in, find_in}
+use Rattle.nfs_compound.specs.Operation.{Op, Item, Operation, Fault, OpSequence, OpExchangeId, OpCreateSession, OpDestroySession, OpDestroyClientId}
+use Rattle.nfs_compound.specs.Arguments.{item_number}
+use Rattle.nfs_compound.specs.Request.{Request}
+use Rattle.nfs_compound.specs.SessionArgs.{CreateSession}
+use Rattle.nfs_compound.specs.declared.session_args.Sequence.{Sequence}
+use Rattle.nfs_results.specs.Largest.{largest}
+use Rattle.nfs_clients.specs.CreateSession as clients
+use Rattle.nfs_clients.specs.CreateSession.{leaving, leaving_by, without_any, confirms, keeps, with_kept, with_confirmed, is_other_confirmed_of}
+use Rattle.nfs_clients.specs.Roster.{ClientRecord, Roster, client_at, without}
+use Rattle.nfs_clients.proofs.Members.{change_at, mild_at, mild_keeps}
+use Rattle.nfs_clients.specs.declared.created.CreateResult.{CreateResult}
+use Rattle.nfs_clients.specs.DestroyClientId.{destroy_fault}
+use Rattle.nfs_clients.specs.declared.created.CreateResult.TheVariants as results
+use Rattle.nfs_clients.specs.declared.destroy.DestroyFault.{DestroyFault}
+use Rattle.nfs_sessions.specs.Id.{id_of}
+use Rattle.nfs_sessions.specs.Sessions.{SessionTable, session_at, create}
+use Rattle.nfs_sessions.specs.declared.id.SessionId.{SessionId}
+use Rattle.nfs_sessions.specs.declared.sessions.SessionFault.{SessionFault}
+use Rattle.nfs_lease.specs.Renewals.{has_run_out}
+use Rattle.nfs_opens.specs.declared.records.LockState.{LockState}
+use Rattle.nfs_opens.specs.Table.{Table}
+use Rattle.nfs_opens.specs.Closing.{stands}
+use Rattle.nfs_names.specs.declared.context.Context.{Context}
+use Rattle.nfs_names.specs.Context.{begins}
+use Rattle.nfs_names.specs.State.{State, moment}
+use Rattle.nfs_names.specs.Ending.{staying, table_staying}
+use Rattle.nfs_names.specs.Operation as names
+use Rattle.nfs_names.proofs.Untouched.{leaves_item}
+use Rattle.nfs_files.specs.Operation as files
+use Rattle.nfs_exec.specs.Machine.{Machine, Outcome, is_ok, or_delay, refuses, starts}
+use Rattle.nfs_exec.specs.Behind.{Step, step, on_store, moves_opens, marked_if, otherwise}
+use Rattle.nfs_exec.specs.Run.{Ran, run, in_room, follow, reserve, is_here, behind_here}
+use Rattle.nfs_exec.specs.Place.{item_fault}
+use Rattle.nfs_exec.specs.ExchangeId.{exchange_id, exchange_id_number}
+use Rattle.nfs_exec.specs.CreateSession.{create_session_number, by_verdict, creates, by_created, confirmed, made_body, wish_of, without_any_opens}
+use Rattle.nfs_exec.specs.Destroy.{destroy_session, destroyed_unless, has_session}
+use Rattle.nfs_exec.specs.Sequence as sequence
+use Rattle.nfs_exec.specs.Sequence.{Sequenced, sequenced}
+use Rattle.nfs_exec.specs.Compound.{carried_out, by_fault, first_item, renewed, begun, bare, in_session, by_first, compound}
+use Rattle.nfs_exec.specs.Laws.{Event, Expires, Asks, stepped, all_stepped}
+use Rattle.nfs_files.specs.Kept.{Told, Spares, Stands}
+use Rattle.nfs_exec.specs.Ops.{Done, done, ops, ops_in, ops_of, ops_by, left_by, IsRunOf}
+use Rattle.nfs_exec.specs.Held.{SparedBy, AreSpared, NoneClashes, StandsBefore, StandsWhile, IsAlone}
+use Rattle.nfs_exec.specs.Runs.{SparesClient, IsKeptBy, AreSparing, LocksAreKept}
+use Rattle.nfs_files.proofs.KeptOps.{spared, clashing}
+use Rattle.nfs_exec.proofs.OpsRun.{are_run}
+use Rattle.nfs_exec.proofs.WholeRun.{Is, whole_room, whole_event, whole_events, start_whole, marked_store, otherwise_store}
+
+abbrev pub Keeps : Told → Machine → Type 0
+Keeps k m = Stands k m.store.opens
+
+-- One operation.
+
+spared_step : (k : Told) (m : Machine) (x : Context) (now : ℕ) (refused : Bool) (i : Item) → Is m → k.first ≤ k.last → Keeps k m
+    → ((op : Op) → i ≡ Operation op → is_ok (step m x now refused i).outcome.status ≡ true → Spares k m.store x op)
+    → Keeps k (step m x now refused i).outcome.machine
+spared_step k m x now refused i is some keeps = elim (cases_Bool (names.on_names i)) [
+  | inl on ↦ rw on (λ spares. subst (Stands k) (sym (leaves_item refused m.store x (moment now) i).opens) keeps)
+  | inr off ↦ rw off (elim (cases_Bool (files.on_files i)) [
+    | inl on ↦ rw on (by_files (moves_opens i) i)
+    | inr other ↦ rw other (λ spares. subst (λ (s : State). Stands k s.opens) (sym (otherwise_store m x i)) keeps)
+  ])
+]
+  where
+    by_one : (moves : Bool) (op : Op) → (let s = marked_if moves x.client (on_store m (files.comes_to refused m.store x (moment now) (Operation op))) in
+        (is_ok s.outcome.status ≡ true → Spares k m.store x op) → Keeps k s.outcome.machine)
+    by_one true op spares = spared k m.store x (moment now) refused op is.table some spares keeps
+    by_one false op spares = spared k m.store x (moment now) refused op is.table some spares keeps
+
+    by_files : (moves : Bool) (i : Item) → (let s = marked_if moves x.client (on_store m (files.comes_to refused m.store x (moment now) i)) in
+        ((op : Op) → i ≡ Operation op → is_ok s.outcome.status ≡ true → Spares k m.store x op) → Keeps k s.outcome.machine)
+    by_files moves (Operation op) spares = by_one moves op (spares op refl)
+    by_files true (Fault n status) spares = keeps
+    by_files false (Fault n status) spares = keeps
+
+spared_room : (k : Told) (limit sofar now : ℕ) (refused : Bool) (m : Machine) (x : Context) (i : Item) → Is m → k.first ≤ k.last → Keeps k m
+    → ((op : Op) → i ≡ Operation op → is_ok (in_room limit sofar now refused m x i).outcome.status ≡ true → Spares k m.store x op)
+    → Keeps k (in_room limit sofar now refused m x i).outcome.machine
+spared_room k limit sofar now refused m x i is some keeps = elim (cases_Bool (ltb limit (sofar + largest i + reserve))) [
+  | inl big ↦ rw big (λ spares. keeps)
+  | inr fits ↦ rw fits (spared_step k m x now refused i is some keeps)
+]
+
+before : (k : Told) (d : Done) → Is d.before → k.first ≤ k.last → Keeps k d.before → StandsBefore k d
+before k d is some keeps = record {
+  stands = keeps;
+  refused = λ op n w at locks clash. clashing k d.before.store d.context op n w is.table some keeps locks clash;
+}
+
+if_more : (k : Told) (b : Bool) (xs : List Done) → StandsWhile k xs → StandsWhile k (cond b xs [])
+if_more k true xs is = is
+if_more k false xs is = tt
+
+pub while_ops : (k : Told) (limit sofar now : ℕ) (choice : Option ℕ) (m : Machine) (x : Context) (items : List Item) → Is m → k.first ≤ k.last
+    → Keeps k m → StandsWhile k (ops limit sofar now choice m x items)
+while_ops k limit sofar now choice m x [] is some keeps = tt
+while_ops k limit sofar now choice m x (i ∷ more) is some keeps =
+    let s = in_room limit sofar now (is_here choice) m x i in
+    let next = sofar + length s.outcome.result in
+    let rest = ops limit next now (behind_here choice) s.outcome.machine s.context more in
+    (before k (done m x i s) is some keeps, λ spares.
+    (let behind : Keeps k s.outcome.machine = spared_room k limit sofar now (is_here choice) m x i is some keeps spares in
+    (behind, if_more k (is_ok s.outcome.status) rest
+    (while_ops k limit next now (behind_here choice) s.outcome.machine s.context more (whole_room limit sofar now (is_here choice) m x i is) some behind))))
+
+-- where all spare it, it stands behind the last
+pub left_stands : (k : Told) (m : Machine) (ds : List Done) → Keeps k m → StandsWhile k ds → AreSpared k ds → Keeps k (left_by m ds)
+left_stands k m [] keeps while all = keeps
+left_stands k m (d ∷ more) keeps while all =
+    let behind = while.1 (all d (inl refl)) in
+    left_stands k d.behind more behind.0 behind.1 (λ e there. all e (inr there))
+
+-- The end of other clients.
+
+stands_staying : (k : Told) (t : Table) (stays : ℕ → Bool) → stays k.client ≡ true → Stands k t → Stands k (table_staying stays t)
+stands_staying k t stays here is =
+    let p : LockState → Bool = λ l. stays l.client in
+    let left : In is.lock (filter p t.locks) = stays_in p t.locks is.lock is.there (ap stays is.client ∙ here) in
+    let still : stands (filter p t.locks) k.state ≡ true = any_in (λ (l : LockState). l.number == k.state) (filter p t.locks) is.lock left
+    (eq-eqb is.lock.number k.state is.number) in
+    record {
+      lock = is.lock;
+      there = left;
+      number = is.number;
+      client = is.client;
+      opened = is.opened;
+      held = λ b lo hi. rw still (is.held b lo hi);
+    }
+
+-- Outside a session.
+
+confirms_owner : (n : ℕ) (c : ClientRecord) → (change_at n confirms c).owner ≡ c.owner
+confirms_owner n c = elim (c.id == n) as (λ v. (cond v (confirms c) c).owner ≡ c.owner) [ true ↦ refl | false ↦ refl ]
+
+confirms_id : (n : ℕ) (c : ClientRecord) → (change_at n confirms c).id ≡ c.id
+confirms_id n c = elim (c.id == n) as (λ v. (cond v (confirms c) c).id ≡ c.id) [ true ↦ refl | false ↦ refl ]
+
+confirms_mark : (n : ℕ) (c : ClientRecord) → c.id ≡ n → (change_at n confirms c).confirmed ≡ true
+confirms_mark n c is = rw (eq-eqb c.id n is) refl
+
+-- the record that is confirmed stands behind it, where another one goes
+confirmed_in : (t : Roster) (id client : ℕ) (result : CreateResult) (c : ClientRecord) → In c t.records → c.id ≡ id → id ≢ client → leaving t id ≡ Some client
+    → In (change_at id (keeps result) (change_at id confirms c)) (with_kept (with_confirmed t id) id result).records
+confirmed_in t id client result c there is other leaves =
+    let left : In c (without t client).records =
+    stays_in (λ (x : ClientRecord). not (x.id == client)) t.records c there (ap not (ne_eqb c.id client (λ same. other (sym is ∙ same)))) in
+    let stays : In c (without_any t (leaving t id)).records = subst (λ o. In c (without_any t o).records) (sym leaves) left in
+    map_in (change_at id (keeps result)) (with_confirmed t id).records (change_at id confirms c) (map_in (change_at id confirms) (without_any t (leaving t id)).records c stays)
+
+-- a confirmation behind which a client's owner is confirmed under no other id removes no record of the client's
+none_replaced : (m : Machine) (now id client : ℕ) (body : List ℕ) (t : SessionTable) → IsAlone client m (confirmed (record m { sessions = t }) now id body)
+    → leaving m.clients id ≢ Some client
+none_replaced m now id client body t alone leaves = by_record (client_at m.clients id) refl
+  where
+    by_found : (c : ClientRecord) → client_at m.clients id ≡ Some c → (o : Option ClientRecord) → find (is_other_confirmed_of c) m.clients.records ≡ o → ⊥
+    by_found c at None none =
+        let bad : None ≡ Some client = sym (ap (leaving_by m.clients) at ∙ ap (option_map (λ (d : ClientRecord). d.id)) none) ∙ leaves in absurd cc
+    by_found c at (Some d) found =
+        let gone : Some d.id ≡ Some client = sym (ap (leaving_by m.clients) at ∙ ap (option_map (λ (d : ClientRecord). d.id)) found) ∙ leaves in
+        let same : d.id ≡ client = cc in
+        let here = find_in (λ (c : ClientRecord). c.id == id) m.clients.records c at in
+        let named : c.id ≡ id = eqb-true _ _ here.1 in
+        let there = find_in (is_other_confirmed_of c) m.clients.records d found in
+        let tests = and_parts _ _ there.1 in
+        let owner : d.owner ≡ c.owner = (bytes_eq-Decides d.owner c.owner).0 (and_parts _ _ tests.0).0 in
+        let other : id ≢ client = λ e. false≢true (sym (ap not (eq-eqb d.id c.id (same ∙ sym e ∙ sym named))) ∙ tests.1) in
+        let one = change_at id confirms c in
+        let mild = mild_at (keeps (results.Done body)) id (mild_keeps (results.Done body)) in
+        other (sym named ∙ sym (confirms_id id c) ∙ sym (mild.id one)
+        ∙ alone d (change_at id (keeps (results.Done body)) one) there.0 same (confirmed_in m.clients id client (results.Done body) c here.0 named other leaves)
+        (mild.owner one ∙ confirms_owner id c ∙ sym owner) (mild.mark one ∙ confirms_mark id c named))
+
+    by_record : (o : Option ClientRecord) → client_at m.clients id ≡ o → ⊥
+    by_record None none = let bad : None ≡ Some client = sym (ap (leaving_by m.clients) none) ∙ leaves in absurd cc
+    by_record (Some c) at = by_found c at (find (is_other_confirmed_of c) m.clients.records) refl
+
+without_stands : (k : Told) (s : State) (o : Option ℕ) → o ≢ Some k.client → Stands k s.opens → Stands k (without_any_opens s o).opens
+without_stands k s None other is = is
+without_stands k s (Some gone) other is =
+    stands_staying k s.opens (λ c. not (c == gone)) (ap not (ne_eqb k.client gone (λ same. other (ap Some (sym same))))) is
+
+-- it is kept where the client's owner is confirmed under no other id behind it
+abbrev KeepsIfAlone : Told → Machine → Machine → Type 0
+KeepsIfAlone k before behind = IsAlone k.client before behind → Keeps k behind
+
+made_stands : (k : Told) (m : Machine) (now : ℕ) (c : CreateSession) (t : SessionTable) (v : Result SessionId SessionFault)
+    → Keeps k m → KeepsIfAlone k m (by_created m now c t v).machine
+made_stands k m now c t (Ok id) is alone =
+    without_stands k m.store (leaving m.clients c.clientid) (none_replaced m now c.clientid k.client (made_body c id) t alone) is
+made_stands k m now c t (Err fault) is alone = is
+
+delayed : (k : Told) (m : Machine) (o : Outcome) (refused : Bool) (n : ℕ) → Keeps k m → KeepsIfAlone k m o.machine → KeepsIfAlone k m (or_delay refused m n o).machine
+delayed k m o refused n before after = go (refused && is_ok o.status)
+  where
+    go : (b : Bool) → KeepsIfAlone k m (cond b (refuses m n Delay) o).machine
+    go true alone = before
+    go false alone = after alone
+
+created_stands : (k : Told) (m : Machine) (now : ℕ) (refused : Bool) (c : CreateSession) (v : clients.Verdict)
+    → Keeps k m → KeepsIfAlone k m (by_verdict m now refused c v).machine
+created_stands k m now refused c clients.Stale is alone = is
+created_stands k m now refused c (clients.Again (results.Done body)) is alone = is
+created_stands k m now refused c (clients.Again (results.Refused status)) is alone = is
+created_stands k m now refused c clients.Misordered is alone = is
+created_stands k m now refused c clients.InUse is alone = is
+created_stands k m now refused c clients.Runs is alone =
+    let did = create m.sessions c.clientid (wish_of m c) in
+    delayed k m (creates m now c did) refused create_session_number is (made_stands k m now c did.after did.answer is) alone
+
+destroyed_stands : (k : Told) (m : Machine) (client : ℕ) (o : Option DestroyFault) → Keeps k m → Keeps k (destroyed_unless m client o).machine
+destroyed_stands k m client None is = is
+destroyed_stands k m client (Some fault) is = is
+
+session_stands : (k : Told) (m : Machine) (sessionid : List ℕ) → Keeps k m → Keeps k (destroy_session m sessionid).machine
+session_stands k m sessionid is = elim (cases_Bool (is_some (session_at m.sessions (id_of sessionid)))) [ inl stood ↦ rw stood is | inr gone ↦ rw gone is ]
+
+carried_stands : (k : Told) (m : Machine) (who : Caller) (now : ℕ) (refused : Bool) (i : Item) → Keeps k m → KeepsIfAlone k m (carried_out m who now refused i).machine
+carried_stands k m who now refused (Operation (OpExchangeId e)) is alone = delayed k m (exchange_id m who now e) refused exchange_id_number is (λ alone. is) alone
+carried_stands k m who now refused (Operation (OpCreateSession c)) is alone =
+    created_stands k m now refused c (clients.create_verdict m.clients c.clientid c.sequence who.uid) is alone
+carried_stands k m who now refused (Operation (OpDestroySession sessionid)) is alone = session_stands k m sessionid is
+carried_stands k m who now refused (Operation (OpDestroyClientId client)) is alone =
+    destroyed_stands k m client (destroy_fault m.clients client (has_session m.sessions client)) is
+carried_stands k m who now refused i is alone = is
+
+first_stands : (k : Told) (m : Machine) (declared : ℕ) (who : Caller) (now : ℕ) (refused : Bool) (i : Item) → Keeps k m
+    → KeepsIfAlone k m (first_item m declared who now refused i).machine
+first_stands k m declared who now refused i is = go (item_fault declared i)
+  where
+    go : (f : Option Status) → KeepsIfAlone k m (by_fault m (item_number i) f (carried_out m who now refused i)).machine
+    go None alone = carried_stands k m who now refused i is alone
+    go (Some status) alone = is
+
+-- The whole compound.
+
+session_while : (k : Told) (m : Machine) (r : Request) (who : Caller) (now : ℕ) (choice : Option ℕ) (s : Sequence) (more : List Item) (v : Sequenced)
+    → Is m → k.first ≤ k.last → Keeps k m → StandsWhile k (ops_in m r who now choice s more v)
+session_while k m r who now choice s more (sequence.Refuses status) is some keeps = tt
+session_while k m r who now choice s more (sequence.Repeats reply) is some keeps = tt
+session_while k m r who now choice s more (sequence.Runs c) is some keeps =
+    while_ops k c.response (begun r s c) now (behind_here choice) (renewed m now s) (begins (id_of s.sessionid).client who) more is some keeps
+
+session_behind : (k : Told) (m : Machine) (r : Request) (who : Caller) (now : ℕ) (choice : Option ℕ) (s : Sequence) (more : List Item) (v : Sequenced)
+    → Is m → k.first ≤ k.last → Keeps k m → AreSpared k (ops_in m r who now choice s more v) → Keeps k (in_session m r who now choice s more v).machine
+session_behind k m r who now choice s more (sequence.Refuses status) is some keeps all = keeps
+session_behind k m r who now choice s more (sequence.Repeats reply) is some keeps all = keeps
+session_behind k m r who now choice s more (sequence.Runs c) is some keeps all =
+    let x = begins (id_of s.sessionid).client who in
+    let ds = ops c.response (begun r s c) now (behind_here choice) (renewed m now s) x more in
+    subst (Keeps k) (sym (are_run c.response (begun r s c) now (behind_here choice) (renewed m now s) x more).machine)
+    (left_stands k (renewed m now s) ds keeps (session_while k m r who now choice s more (sequence.Runs c) is some keeps) all)
+
+if_while : (k : Told) (b : Bool) (xs : List Done) → StandsWhile k xs → StandsWhile k (cond b xs [])
+if_while k true xs is = is
+if_while k false xs is = tt
+
+first_while : (k : Told) (m : Machine) (r : Request) (who : Caller) (size now : ℕ) (choice : Option ℕ) (items : List Item)
+    → Is m → k.first ≤ k.last → Keeps k m → StandsWhile k (ops_of m r who size now choice items)
+first_while k m r who size now choice [] is some keeps = tt
+first_while k m r who size now choice (Operation (OpSequence s) ∷ more) is some keeps =
+    session_while k m r who now choice s more (sequenced m r who size s) is some keeps
+first_while k m r who size now choice (item ∷ more) is some keeps = tt
+
+first_behind : (k : Told) (m : Machine) (r : Request) (who : Caller) (size now : ℕ) (choice : Option ℕ) (items : List Item)
+    → Is m → k.first ≤ k.last → Keeps k m → AreSpared k (ops_of m r who size now choice items)
+    → KeepsIfAlone k m (by_first m r who size now choice items).machine
+first_behind k m r who size now choice [] is some keeps all alone = keeps
+first_behind k m r who size now choice (Operation (OpSequence s) ∷ more) is some keeps all alone =
+    session_behind k m r who now choice s more (sequenced m r who size s) is some keeps all
+first_behind k m r who size now choice (item ∷ more) is some keeps all alone = first_stands k m r.declared who now (is_here choice) item keeps alone
+
+pub event_while : (k : Told) (m : Machine) (e : Event) → Is m → k.first ≤ k.last → Keeps k m → StandsWhile k (ops_by m e)
+event_while k m (Expires now) is some keeps = tt
+event_while k m (Asks r who size now choice) is some keeps =
+    if_while k (eqb r.minor 1) (ops_of m r who size now choice r.left) (first_while k m r who size now choice r.left is some keeps)
+
+compound_behind : (k : Told) (m : Machine) (r : Request) (who : Caller) (size now : ℕ) (choice : Option ℕ) → Is m → k.first ≤ k.last → Keeps k m
+    → AreSpared k (cond (eqb r.minor 1) (ops_of m r who size now choice r.left) [])
+    → KeepsIfAlone k m (compound m r who size now choice).machine
+compound_behind k m r who size now choice is some keeps all = go (eqb r.minor 1) all
+  where
+    go : (b : Bool) → AreSpared k (cond b (ops_of m r who size now choice r.left) [])
+        → KeepsIfAlone k m (cond b (by_first m r who size now choice r.left) (bare r MinorVersMismatch m)).machine
+    go true all alone = first_behind k m r who size now choice r.left is some keeps all alone
+    go false all alone = keeps
+
+pub event_behind : (k : Told) (m : Machine) (e : Event) → Is m → k.first ≤ k.last → Keeps k m → AreSpared k (ops_by m e) → SparesClient k.client m e
+    → Keeps k (stepped m e)
+event_behind k m (Expires now) is some keeps all client =
+    stands_staying k m.store.opens (λ c. not (has_run_out m.leases now c)) (ap not client) keeps
+event_behind k m (Asks r who size now choice) is some keeps all client = compound_behind k m r who size now choice is some keeps all client
+
+pub kept_by : (k : Told) (m : Machine) (e : Event) → Is m → k.first ≤ k.last → Keeps k m → IsKeptBy k m e
+kept_by k m e is some keeps = record {
+  within = event_while k m e is some keeps;
+  behind = event_behind k m e is some keeps;
+}
+
+through : (k : Told) (m : Machine) (more : List Event) → Is m → k.first ≤ k.last → Keeps k m → AreSparing k m more → (e : Event)
+    → IsKeptBy k (all_stepped m more) e
+through k m [] is some keeps sparing e = kept_by k m e is some keeps
+through k m (c ∷ more) is some keeps sparing e =
+    through k (stepped m c) more (whole_event m c is) some (event_behind k m c is some keeps sparing.0 sparing.1) sparing.2 e
+
+pub locks_are_kept : LocksAreKept
+locks_are_kept mode instance lease events k some stands more sparing e =
+    through k (all_stepped (starts mode instance lease) events) more
+    (whole_events (starts mode instance lease) events (start_whole mode instance lease)) some stands sparing e

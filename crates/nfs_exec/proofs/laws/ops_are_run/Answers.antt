@@ -1,0 +1,5 @@
+use Rattle.nfs_exec.proofs.OpsRun.{are_run}
+use Rattle.nfs_exec.proofs.laws.ops_are_run.Goals as goal
+
+pub returns : goal.returns
+returns c = are_run

@@ -1,0 +1,37 @@
+-- What ends a lock that was told, and what does not (RFC 8881 sections 8.3 and 9.1): an operation that answers NFS4_OK and unlocks a byte
+-- of it, sets one anew or closes its open; and the end of its client.
+use Rattle.std.specs.Prelude.{◌≡◌, ℕ, true, List, [], ◌∷◌}
+use Rattle.nfs_xdr.specs.Tables.{In}
+use Rattle.nfs_compound.specs.Operation.{Op, Operation}
+use Rattle.nfs_clients.specs.Roster.{ClientRecord}
+use Rattle.nfs_opens.specs.declared.locking.Wish.{Wish}
+use Rattle.nfs_exec.specs.Machine.{Machine, is_ok}
+pub use Rattle.nfs_files.specs.Kept.{Told, Stands}
+use Rattle.nfs_files.specs.Kept.{Locks, Spares, Clashes}
+use Rattle.nfs_exec.specs.Ops.{Done}
+
+-- Where it answered NFS4_OK it is no LOCK and no LOCKU for the lock state on a byte of it, and no CLOSE of its open.
+abbrev pub SparedBy : Told → Done → Type 0
+SparedBy k d = (op : Op) → d.item ≡ Operation op → is_ok d.status ≡ true → Spares k d.before.store d.context op
+
+abbrev pub AreSpared : Told → List Done → Type 0
+AreSpared k ds = (d : Done) → In d ds → SparedBy k d
+
+-- no LOCK of another lock state that clashes with it was granted
+abbrev pub NoneClashes : Told → Done → Type 0
+NoneClashes k d = (op : Op) (n : ℕ) (w : Wish) → d.item ≡ Operation op → Locks d.before.store d.context op n w → Clashes k n w → ⊥
+
+-- it stands before the operation, and who clashes is refused
+pub record StandsBefore (k : Told) (d : Done) : Type 0 where
+  pub stands : Stands k d.before.store.opens
+  pub refused : NoneClashes k d
+
+-- before each operation, as long as all before it spared it
+abbrev pub StandsWhile : Told → List Done → Type 0
+StandsWhile k [] = Unit {0}
+StandsWhile k (d ∷ more) = StandsBefore k d × (SparedBy k d → Stands k d.behind.store.opens × StandsWhile k more)
+
+-- Behind it no other id is confirmed for the owner that the client had before it.
+abbrev pub IsAlone : ℕ → (before behind : Machine) → Type 0
+IsAlone client before behind =
+    (a b : ClientRecord) → In a before.clients.records → a.id ≡ client → In b behind.clients.records → b.owner ≡ a.owner → b.confirmed ≡ true → b.id ≡ client

@@ -1,0 +1,77 @@
+-- The operations that a compound runs behind its SEQUENCE, one by one (RFC 8881 section 2.3). That they are those of `run` is a law (OpsAreRun).
+use Rattle.std.specs.Prelude.{◌≡◌, ℕ, ◌+◌, ◌==◌, List, [], ◌∷◌, length, Option, if◌then◌else◌}
+use Rattle.nfs_xdr.specs.declared.status.Status.{Status}
+use Rattle.nfs_xdr.specs.Caller.{Caller}
+use Rattle.nfs_compound.specs.Operation.{OpSequence, Item, Operation}
+use Rattle.nfs_compound.specs.Request.{Request}
+use Rattle.nfs_compound.specs.declared.session_args.Sequence.{Sequence}
+use Rattle.nfs_sessions.specs.Id.{id_of}
+use Rattle.nfs_sessions.specs.declared.channel.Channel.{Channel}
+use Rattle.nfs_names.specs.declared.context.Context.{Context}
+use Rattle.nfs_names.specs.Context.{begins}
+use Rattle.nfs_exec.specs.Machine.{Machine, is_ok}
+use Rattle.nfs_exec.specs.Sequence.{Sequenced, Runs, sequenced}
+use Rattle.nfs_exec.specs.Behind.{Step}
+use Rattle.nfs_exec.specs.Run.{Ran, run, in_room, is_here, behind_here}
+use Rattle.nfs_exec.specs.Compound.{begun, renewed, run_in}
+use Rattle.nfs_exec.specs.Laws.{Event, Expires, Asks}
+
+-- an operation that was run: the machine and the context before it, what it answered, and the machine behind it
+pub record Done : Type 0 where
+  pub before : Machine
+  pub context : Context
+  pub item : Item
+  pub status : Status
+  pub behind : Machine
+
+abbrev pub done : Machine → Context → Item → Step → Done
+done m x item s = record { before = m; context = x; item = item; status = s.outcome.status; behind = s.outcome.machine }
+
+-- they stop at the first that answers another status than NFS4_OK
+abbrev pub ops : (limit sofar now : ℕ) → Option ℕ → Machine → Context → List Item → List Done
+ops limit sofar now choice m x [] = []
+ops limit sofar now choice m x (item ∷ more) =
+    let s = in_room limit sofar now (is_here choice) m x item in
+    done m x item s
+    ∷ (if is_ok s.outcome.status
+    then ops limit (sofar + length s.outcome.result) now (behind_here choice) s.outcome.machine s.context more else [])
+
+-- the machine that they leave
+abbrev pub left_by : Machine → List Done → Machine
+left_by m [] = m
+left_by m (d ∷ more) = left_by d.behind more
+
+-- each begins where the one before it ended
+abbrev pub AreChained : Machine → List Done → Type 0
+AreChained m [] = Unit {0}
+AreChained m (d ∷ more) = (d.before ≡ m) × AreChained d.behind more
+
+-- what a run comes to is what its operations come to
+pub record IsRunOf (m : Machine) (r : Ran) (ds : List Done) : Type 0 where
+  pub machine : r.machine ≡ left_by m ds
+  pub count : r.count ≡ length ds
+  pub chained : AreChained m ds
+
+abbrev pub OpsAreRun : Type 0
+OpsAreRun = (limit sofar now : ℕ) (choice : Option ℕ) (m : Machine) (x : Context) (items : List Item)
+    → IsRunOf m (run limit sofar now choice m x items) (ops limit sofar now choice m x items)
+
+-- a repeat and a refusal run none
+abbrev pub ops_in : Machine → Request → Caller → ℕ → Option ℕ → Sequence → List Item → Sequenced → List Done
+ops_in m r who now choice s more (Runs c) =
+    ops c.response (begun r s c) now (behind_here choice) (renewed m now s) (begins (id_of s.sessionid).client who) more
+ops_in m r who now choice s more verdict = []
+
+abbrev pub ops_of : Machine → Request → Caller → (size now : ℕ) → Option ℕ → List Item → List Done
+ops_of m r who size now choice (Operation (OpSequence s) ∷ more) = ops_in m r who now choice s more (sequenced m r who size s)
+ops_of m r who size now choice items = []
+
+-- the machine that a run in a session begins with is the one whose client's lease was renewed, and this one is behind it
+abbrev pub OpsAreRunIn : Type 0
+OpsAreRunIn = (m : Machine) (r : Request) (who : Caller) (now : ℕ) (choice : Option ℕ) (s : Sequence) (c : Channel) (more : List Item)
+    → IsRunOf (renewed m now s) (run_in (renewed m now s) r who now (behind_here choice) s c more) (ops_in m r who now choice s more (Runs c))
+
+-- those that an event runs
+abbrev pub ops_by : Machine → Event → List Done
+ops_by m (Expires now) = []
+ops_by m (Asks r who size now choice) = if r.minor == 1 then ops_of m r who size now choice r.left else []
