@@ -6,8 +6,7 @@ use Rattle.nfs_compound.specs.Operation.{Op, Operation}
 use Rattle.nfs_clients.specs.Roster.{ClientRecord}
 use Rattle.nfs_opens.specs.declared.locking.Wish.{Wish}
 use Rattle.nfs_exec.specs.Machine.{Machine, is_ok}
-pub use Rattle.nfs_files.specs.Kept.{Told, Stands}
-use Rattle.nfs_files.specs.Kept.{Locks, Spares, Clashes}
+use Rattle.nfs_files.specs.Kept.{Told, Stands, Locks, Spares, Clashes}
 use Rattle.nfs_exec.specs.Ops.{Done}
 
 -- Where it answered NFS4_OK it is no LOCK and no LOCKU for the lock state on a byte of it, and no CLOSE of its open.

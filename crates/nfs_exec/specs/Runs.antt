@@ -6,7 +6,8 @@ use Rattle.nfs_lease.specs.Renewals.{has_run_out}
 use Rattle.nfs_exec.specs.Machine.{Machine, starts}
 use Rattle.nfs_exec.specs.Laws.{Event, Expires, Asks, HasNoClashes, stepped, all_stepped}
 use Rattle.nfs_exec.specs.Ops.{Done, ops_by}
-use Rattle.nfs_exec.specs.Held.{Told, Stands, AreSpared, StandsWhile, IsAlone}
+use Rattle.nfs_files.specs.Kept.{Told, Stands}
+use Rattle.nfs_exec.specs.Held.{AreSpared, StandsWhile, IsAlone}
 
 -- No byte has a writer beside another holder, and no two opens of different owners clash.
 pub record HasNone (m : Machine) (e : Event) : Type 0 where
