@@ -39,7 +39,7 @@ use Rattle.nfs_sessions.specs.Sessions.{Session, SessionTable, IsSessions, sessi
 use Rattle.nfs_sessions.proofs.TableLemmas.{slots_changed, sessions_filtered}
 use Rattle.nfs_exec.specs.Machine.{Machine}
 use Rattle.nfs_exec.specs.Sequence as sequence
-use Rattle.nfs_exec.specs.Sequence.{Sequenced, Refuses, Repeats, Runs as RunsIn, unless, by_session, by_verdict, fresh_fault, slot_fault, sequence_number}
+use Rattle.nfs_exec.specs.Sequence.{Sequenced, Refuses, Repeats, Runs as RunsIn, unless, by_session, by_verdict, fresh_fault, slot_fault}
 use Rattle.nfs_exec.specs.Compound.{in_session, by_first, compound}
 use Rattle.nfs_exec.specs.Laws.{if_runs, first_runs}
 use Rattle.nfs_exec.proofs.Numbering.{IsHeld}

@@ -24,3 +24,4 @@ pub mod Spelled
 pub mod Mute
 pub mod KeptSlots
 pub mod Good
+pub mod LostReply

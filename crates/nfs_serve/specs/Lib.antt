@@ -14,3 +14,4 @@ pub mod Endpoint
 pub mod Network
 pub mod Alone
 pub mod Seen
+pub mod LostReply

@@ -4,6 +4,7 @@ ghost use Rattle.std.specs.Prelude.{ℕ};
 ghost use Rattle.nfs_serve.specs.Alone.{ExecutingAlone};
 ghost use Rattle.nfs_serve.specs.Exchanges.{RunsTo, null_script, null_output, exchange_script, exchange_output};
 ghost use Rattle.nfs_serve.specs.Laws.{HasOneReading, CutsAnywhere, BringsOnce, ConnectionsAreStreams};
+ghost use Rattle.nfs_serve.specs.LostReply.{IsAccepted};
 ghost use Rattle.nfs_serve.specs.Network.{ExactlyOnce, AnswersExecuted};
 ghost use Rattle.nfs_serve.specs.Seen.{server};
 
@@ -44,6 +45,12 @@ pub fn exactly_once()
 /// What executes on a slot is answered under the xid of its call, with a SEQUENCE that its caller may accept.
 pub fn answers_what_executes()
     ensures { (mode : ℕ) (instance : ℕ) (lease : ℕ) → AnswersExecuted (server mode instance lease) }
+{}
+
+/// The definitions compute: two compounds are sent on a slot, the second again since its first reply is lost; each is executed once, and both
+/// results are accepted.
+pub fn exchange_over_a_network()
+    ensures { IsAccepted }
 {}
 
 /// A list of records leaves what those that execute leave alone, once both took the list's last moment, and those are answered alike.

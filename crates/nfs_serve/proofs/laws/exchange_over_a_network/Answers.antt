@@ -1,0 +1,5 @@
+use Rattle.nfs_serve.proofs.LostReply.{is_accepted}
+use Rattle.nfs_serve.proofs.laws.exchange_over_a_network.Goals as goal
+
+pub returns : goal.returns
+returns c = is_accepted
