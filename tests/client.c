@@ -4,7 +4,7 @@
  *     step NAME: ok
  *     step NAME: FAILED what came and what was wanted
  *
- * and at the end `done`. The kernel's command line has `port=N` and `part=plain|cut|expired`. Where a step wants
+ * and at the end `done`. The kernel's command line has `port=N` and `part=plain|cut|expired|restart`. Where a step wants
  * something of the host, the guest prints `ask WORD` and reads a line. */
 #define _GNU_SOURCE
 #include <arpa/inet.h>
@@ -332,6 +332,26 @@ static void lease_runs_out(void) {
     ends("and closed", close(again), 0);
 }
 
+/* The server ends and starts anew, under another instance and with an empty tree. */
+static void server_restarts(const char *options) {
+    char bytes[8];
+    struct stat a;
+    int kept = open(AT "kept", O_CREAT | O_RDWR, 0600);
+    step("a file is opened and written", kept >= 0 && write(kept, "before", 6) == 6 && !fsync(kept), "errno %d", errno);
+    ask("restart");
+    forget();
+    ends("a name is of a filehandle that is stale", stat(AT "kept", &a), ESTALE);
+    ends("and so is the root", mkdir(AT "new", 0755), ESTALE);
+    long came = pread(kept, bytes, 6, 0);
+    step("the open file is not read", came < 0, "%ld bytes", came);
+    printf("note: the open file answers %s\n", strerror(errno));
+    close(kept);
+    ends("it is unmounted", umount("/mnt"), 0);
+    ends("the server is mounted anew", mount("10.0.2.2:/", "/mnt", "nfs4", 0, options), 0);
+    ends("and is empty", stat(AT "kept", &a), ENOENT);
+    ends("a directory is made", mkdir(AT "new", 0755), 0);
+}
+
 static void load_modules(void) {
     char path[128];
     FILE *list = fopen("/modules", "r");
@@ -404,8 +424,10 @@ int main(void) {
         unlinked_while_open();
         locks();
         go_on_for(60);
-    } else {
+    } else if (!strcmp(part, "expired")) {
         lease_runs_out();
+    } else {
+        server_restarts(options);
     }
     ends("it is unmounted", umount("/mnt"), 0);
     printf("done\n");
