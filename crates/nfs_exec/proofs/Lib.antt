@@ -19,3 +19,5 @@ pub mod Rounds
 pub mod OpsRun
 pub mod WholeRun
 pub mod HeldRun
+pub mod ToldRun
+pub mod Renewing

@@ -1,12 +1,16 @@
 -- What ends a lock that was told, and what does not (RFC 8881 sections 8.3 and 9.1): an operation that answers NFS4_OK and unlocks a byte
 -- of it, sets one anew or closes its open; and the end of its client.
-use Rattle.std.specs.Prelude.{◌≡◌, ℕ, true, List, [], ◌∷◌}
+use Rattle.std.specs.Prelude.{◌≡◌, ℕ, ◌==◌, Bool, true, false, List, [], ◌∷◌}
+use Rattle.std.specs.Option.{option_map_or}
 use Rattle.nfs_xdr.specs.Tables.{In}
 use Rattle.nfs_compound.specs.Operation.{Op, Operation}
+use Rattle.nfs_compound.specs.declared.session_args.Sequence.{Sequence}
+use Rattle.nfs_sessions.specs.Id.{id_of}
 use Rattle.nfs_clients.specs.Roster.{ClientRecord}
 use Rattle.nfs_opens.specs.declared.locking.Wish.{Wish}
 use Rattle.nfs_exec.specs.Machine.{Machine, is_ok}
-use Rattle.nfs_files.specs.Kept.{Told, Stands, Locks, Spares, Clashes}
+use Rattle.nfs_exec.specs.Laws.{Event, ran}
+use Rattle.nfs_files.specs.Kept.{Told, Stands, Locks, Spares, Tells, Clashes}
 use Rattle.nfs_exec.specs.Ops.{Done}
 
 -- Where it answered NFS4_OK it is no LOCK and no LOCKU for the lock state on a byte of it, and no CLOSE of its open.
@@ -30,7 +34,21 @@ abbrev pub StandsWhile : Told → List Done → Type 0
 StandsWhile k [] = Unit {0}
 StandsWhile k (d ∷ more) = StandsBefore k d × (SparedBy k d → Stands k d.behind.store.opens × StandsWhile k more)
 
+-- It answered NFS4_OK, and is a LOCK that tells the lock.
+pub record IsToldBy (k : Told) (d : Done) : Type 0 where
+  pub op : Op
+  pub is : d.item ≡ Operation op
+  pub ok : is_ok d.status ≡ true
+  pub tells : Tells k d.before.store d.context op d.behind.store.opens
+
 -- Behind it no other id is confirmed for the owner that the client had before it.
 abbrev pub IsAlone : ℕ → (before behind : Machine) → Type 0
 IsAlone client before behind =
     (a b : ClientRecord) → In a before.clients.records → a.id ≡ client → In b behind.clients.records → b.owner ≡ a.owner → b.confirmed ≡ true → b.id ≡ client
+
+-- The SEQUENCE behind which the event runs operations is of a session of the client, and so renews its lease.
+abbrev pub is_of : ℕ → Sequence → Bool
+is_of client s = (id_of s.sessionid).client == client
+
+abbrev pub renews : ℕ → Machine → Event → Bool
+renews client m e = option_map_or (is_of client) (ran m e) false

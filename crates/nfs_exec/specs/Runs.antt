@@ -1,13 +1,13 @@
 -- Laws of locks and opens in whole runs (RFC 8881 sections 8.3, 9.1 and 9.7): in every machine that events reach, and before and
 -- behind each operation that a compound runs.
-use Rattle.std.specs.Prelude.{◌≡◌, ℕ, ◌≤◌, false, List, [], ◌∷◌}
+use Rattle.std.specs.Prelude.{◌≡◌, ℕ, ◌≤◌, false, List, [], ◌∷◌, ◌++◌}
 use Rattle.nfs_xdr.specs.Tables.{In}
 use Rattle.nfs_lease.specs.Renewals.{has_run_out}
 use Rattle.nfs_exec.specs.Machine.{Machine, starts}
 use Rattle.nfs_exec.specs.Laws.{Event, Expires, Asks, HasNoClashes, stepped, all_stepped}
 use Rattle.nfs_exec.specs.Ops.{Done, ops_by}
 use Rattle.nfs_files.specs.Kept.{Told, Stands}
-use Rattle.nfs_exec.specs.Held.{AreSpared, StandsWhile, IsAlone}
+use Rattle.nfs_exec.specs.Held.{AreSpared, StandsWhile, IsToldBy, IsAlone}
 
 -- No byte has a writer beside another holder, and no two opens of different owners clash.
 pub record HasNone (m : Machine) (e : Event) : Type 0 where
@@ -40,3 +40,13 @@ LocksAreKept = (mode instance lease : ℕ) (events : List Event) (k : Told) → 
     → Stands k (all_stepped (starts mode instance lease) events).store.opens
     → (more : List Event) → AreSparing k (all_stepped (starts mode instance lease) events) more
     → (e : Event) → IsKeptBy k (all_stepped (all_stepped (starts mode instance lease) events) more) e
+
+-- From the LOCK on that tells it: before each operation behind it, while they spare it, and behind its compound.
+pub record IsKeptFrom (k : Told) (left : Machine) (back : List Done) : Type 0 where
+  pub within : StandsWhile k back
+  pub behind : AreSpared k back → Stands k left.store.opens
+
+abbrev pub ToldLocksAreKept : Type 0
+ToldLocksAreKept = (mode instance lease : ℕ) (events : List Event) (e : Event) (k : Told) (front : List Done) (lock : Done) (back : List Done)
+    → ops_by (all_stepped (starts mode instance lease) events) e ≡ front ++ lock ∷ back → IsToldBy k lock
+    → IsKeptFrom k (stepped (all_stepped (starts mode instance lease) events) e) back

@@ -2,7 +2,7 @@
 
 ghost use Rattle.nfs_exec.specs.Laws.{RepeatsChangeNothing, RefusalsChangeNothing, NeverRunsAgain, ExpiresOnce, ExpiryFindsNothing};
 ghost use Rattle.nfs_exec.specs.Ops.{OpsAreRun, OpsAreRunIn};
-ghost use Rattle.nfs_exec.specs.Runs.{NoneInRuns, LocksAreKept};
+ghost use Rattle.nfs_exec.specs.Runs.{NoneInRuns, LocksAreKept, ToldLocksAreKept};
 
 /// A request that is repeated is answered with the reply that was kept, byte for byte, and changes nothing.
 pub fn repeats_change_nothing()
@@ -47,4 +47,9 @@ pub fn none_in_runs()
 /// In every run a lock that stands stays while nothing ends it and its client stays, and who clashes with it is refused.
 pub fn locks_are_kept()
     ensures { LocksAreKept }
+{}
+
+/// In every run the lock that a LOCK tells stands from then on, through the rest of its compound, while nothing ends it.
+pub fn told_locks_are_kept()
+    ensures { ToldLocksAreKept }
 {}
