@@ -25,3 +25,5 @@ pub mod Mute
 pub mod KeptSlots
 pub mod Good
 pub mod LostReply
+pub mod Points
+pub mod Kept

@@ -15,3 +15,5 @@ pub mod Network
 pub mod Alone
 pub mod Seen
 pub mod LostReply
+pub mod Points
+pub mod Kept

@@ -4,8 +4,10 @@ ghost use Rattle.std.specs.Prelude.{ℕ};
 ghost use Rattle.nfs_serve.specs.Alone.{ExecutingAlone};
 ghost use Rattle.nfs_serve.specs.Exchanges.{RunsTo, null_script, null_output, exchange_script, exchange_output};
 ghost use Rattle.nfs_serve.specs.Laws.{HasOneReading, CutsAnywhere, BringsOnce, ConnectionsAreStreams};
+ghost use Rattle.nfs_serve.specs.Kept.{LockKept};
 ghost use Rattle.nfs_serve.specs.LostReply.{IsAccepted};
 ghost use Rattle.nfs_serve.specs.Network.{ExactlyOnce, AnswersExecuted};
+ghost use Rattle.nfs_serve.specs.Points.{NoClash};
 ghost use Rattle.nfs_serve.specs.Seen.{server};
 
 /// Which fault a script has, if any, and its whole entries before it are decided by its bytes.
@@ -56,4 +58,14 @@ pub fn exchange_over_a_network()
 /// A list of records leaves what those that execute leave alone, once both took the list's last moment, and those are answered alike.
 pub fn executing_alone()
     ensures { (mode : ℕ) (instance : ℕ) (lease : ℕ) → ExecutingAlone (server mode instance lease) }
+{}
+
+/// In every run no byte has a writer beside another holder and no two opens clash: behind each record, and before each operation of one.
+pub fn no_clash()
+    ensures { NoClash }
+{}
+
+/// In every run the lock that a LOCK tells is held from then on, while its client renews in time and nothing ends it; and whoever clashes with it is refused.
+pub fn lock_kept()
+    ensures { LockKept }
 {}

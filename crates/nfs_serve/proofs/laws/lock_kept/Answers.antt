@@ -1,0 +1,5 @@
+use Rattle.nfs_serve.proofs.Kept.{lock_kept}
+use Rattle.nfs_serve.proofs.laws.lock_kept.Goals as goal
+
+pub returns : goal.returns
+returns c = lock_kept
