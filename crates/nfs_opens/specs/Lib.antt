@@ -1,5 +1,6 @@
 pub mod Closing
 pub mod Holding
+pub mod Index
 pub mod Judging
 pub mod Laws
 pub mod Locking

@@ -1,5 +1,5 @@
 -- Opens, lock states and locked bytes (RFC 8881 sections 8.2, 9.1 and 9.7).
-use Rattle.std.specs.Prelude.{◌≡◌, ◌≢◌, ℕ, ◌==◌, suc, ◌<◌, Bool, true, false, length, not, ◌&&◌, ◌||◌, List, [], Option, None, Result, find}
+use Rattle.std.specs.Prelude.{◌≡◌, ◌≢◌, ℕ, ◌==◌, suc, Bool, true, false, not, ◌&&◌, ◌||◌, List, [], Option, None, Result, find}
 use Rattle.std.specs.Prelude.{map, bytes_eq, if◌then◌else◌}
 use Rattle.nfs_xdr.specs.Tables.{IsRising, In}
 use Rattle.nfs_ranges.specs.Told.{IsBelow}
@@ -113,8 +113,3 @@ pub record IsTable (t : Table) : Type 0 where
   pub within : (f : ℕ) → HasNoByteBehind (t.held f)
   -- no number behind the last holds a byte
   pub below : (f : ℕ) → IsBelow (t.held f) (suc t.last)
-
--- What holds of all that is kept; capacity is how many opens there is room for.
-pub record IsKept (k : Kept) (capacity : ℕ) : Type 0 where
-  pub table : IsTable (table k)
-  pub room : k.ready ≡ true → length k.opens < capacity

@@ -1,16 +1,18 @@
 //! CLOSE, the end of a client, and FREE_STATEID (RFC 8881 sections 18.2, 8.4.2 and 18.38).
 
-ghost use Rattle.std.specs.Prelude.{◌≡◌, ◌==◌, not, filter, find, vec_capacity};
+ghost use Rattle.std.specs.Prelude.{◌≡◌, ◌≤◌, ◌==◌, not, filter, find, length, vec_capacity};
 ghost use Rattle.std.specs.Option.{option_copied};
 ghost use Rattle.std.specs.List.{list_any};
 ghost use Rattle.nfs_opens.specs.Holding.{held_by, on_file};
 ghost use Rattle.nfs_opens.specs.Table.{table, lock_at, AreHolders, Rises};
+ghost use Rattle.nfs_opens.specs.Index.{IsIndex};
 ghost use Rattle.nfs_opens.specs.Closing.{not_under, without_open, close, drop_client, without_lock, free_lock, free, held_without};
 
+use crate::index::{Pair, take};
 use crate::judging::{Seat, Sort};
 use crate::locked_files::LockedFiles;
 use crate::opens::Opens;
-use crate::records::{LockState, OpenState, lock_in, place_of_lock, place_of_open};
+use crate::records::{LockState, OpenState, lock_in, open_in, place_of_lock, place_of_open};
 use crate::stateid::StateId;
 use nfs_xdr::Status;
 
@@ -21,6 +23,25 @@ fn drop_open(opens: &mut Vec<OpenState>, number: u64)
 {
     if let Some(place) = place_of_open(opens, number) {
         let _ = opens.remove(place);
+    }
+}
+
+/// An open no longer stands among those of its file.
+fn drop_pair(by_file: &mut Vec<Pair>, opens: &[OpenState], number: u64)
+    requires rises { Rises (λ o. o.number) 1 opens.now }
+    requires index { IsIndex (λ o. o.file) (λ o. o.number) opens.now by_file.old.items }
+    ensures index { IsIndex (λ o. o.file) (λ o. o.number) (filter (λ o. not (o.number == number)) opens.now) by_file.new.items }
+    ensures room { vec_capacity by_file.new ≡ vec_capacity by_file.old }
+    ensures fewer { length by_file.new.items ≤ length by_file.old.items }
+{
+    if let Some(open) = open_in(opens, number) {
+        take(
+            by_file,
+            Pair {
+                of: open.file,
+                number,
+            },
+        );
     }
 }
 
@@ -111,6 +132,7 @@ impl Opens {
     {
         drop_bytes(&mut self.files, &self.locks, number);
         drop_locks(&mut self.locks, number);
+        drop_pair(&mut self.by_file, &self.opens, number);
         drop_open(&mut self.opens, number);
         forget_unlocked(&mut self.files, &self.locks, file);
     }

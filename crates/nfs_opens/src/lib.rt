@@ -14,6 +14,7 @@
 #![tactic(auto)]
 
 mod closing;
+mod index;
 mod judging;
 pub mod laws;
 mod locked_files;

@@ -4,9 +4,10 @@ ghost use Rattle.std.specs.Prelude.{◌≡◌, ◌==◌, ◌+◌, ◌<◌, true,
 ghost use Rattle.std.specs.Option.{option_copied};
 ghost use Rattle.std.specs.List.{list_any};
 ghost use Rattle.nfs_xdr.specs.Checks.{judged};
-ghost use Rattle.nfs_opens.specs.Table.{IsTable, table, is_own, clashes_with};
+ghost use Rattle.nfs_opens.specs.Table.{IsTable, table, clashes_with};
 ghost use Rattle.nfs_opens.specs.Opening.{asked, open_fault, opens, own_open, downgrade};
 
+use crate::index::{Pair, put};
 use crate::judging::Sort;
 use crate::opens::Opens;
 use crate::owner::Owner;
@@ -46,25 +47,37 @@ impl Model for Ready {
     ghost view = { λ r. r.owner };
 }
 
-/// The open that an owner has of a file.
-fn own_open<'a>(opens: &'a [OpenState], ask: &Ask) -> Option<&'a OpenState>
-    ensures { option_copied result ≡ find (is_own (asked ask.now)) opens.now }
-{
-    for open in opens {
-        if open.is_own(ask) {
-            return Some(open);
-        }
-    }
-    None
-}
-
-fn clash_in(opens: &[OpenState], ask: &Ask) -> bool
-    ensures { result ≡ list_any (clashes_with (asked ask.now)) opens.now }
-{
-    opens.iter().any(|o| o.clashes_with(ask))
-}
-
 impl Opens {
+    /// The open that an owner has of a file.
+    fn own_open(&self, ask: &Ask) -> Option<&OpenState>
+        ensures { option_copied result ≡ own_open (table self.now) (asked ask.now) }
+    {
+        self.kept();
+        let mut after = 0;
+        while let Some(open) = self.next_open(ask.file, after) {
+            if open.is_own(ask) {
+                return Some(open);
+            }
+            after = open.number;
+        }
+        None
+    }
+
+    /// Whether an open of another owner stands against what is asked.
+    fn has_clash(&self, ask: &Ask) -> bool
+        ensures { result ≡ list_any (clashes_with (asked ask.now)) (table self.now).opens }
+    {
+        self.kept();
+        let mut after = 0;
+        while let Some(open) = self.next_open(ask.file, after) {
+            if open.clashes_with(ask) {
+                return true;
+            }
+            after = open.number;
+        }
+        false
+    }
+
     /// Whether `open` may be called; changes nothing.
     ///
     /// The checks in their order: SHARE_DENIED where an open of the file by another owner denies what is asked, or has
@@ -73,10 +86,10 @@ impl Opens {
     pub fn judge_open(&self, ask: &Ask) -> Result<(), Status>
         ensures { result ≡ judged (open_fault (table self.now) (asked ask.now)) }
     {
-        if clash_in(&self.opens, ask) {
+        if self.has_clash(ask) {
             return Err(Status::ShareDenied);
         }
-        if own_open(&self.opens, ask).is_none() && self.last == u64::MAX {
+        if self.own_open(ask).is_none() && self.last == u64::MAX {
             return Err(Status::ServerFault);
         }
         Ok(())
@@ -90,6 +103,7 @@ impl Opens {
     {
         let owner = Owner::of(alloc, owner)?;
         self.opens.reserve(1)?;
+        self.by_file.reserve(1)?;
         self.ready = true;
         Ok(Ready { owner })
     }
@@ -104,7 +118,7 @@ impl Opens {
         ensures after { table self.new ≡ (opens (table self.old) (asked ask.now)).after }
         ensures room { self.new.ready ≡ is_some (own_open (table self.old) (asked ask.now)) }
     {
-        match own_open(&self.opens, ask) {
+        match self.own_open(ask) {
             Some(open) => {
                 let (number, seqid) = (open.number, next_seqid(open.seqid));
                 join_open(&mut self.opens, number, ask);
@@ -118,6 +132,13 @@ impl Opens {
                 let number = self.last + 1;
                 self.ready = false;
                 self.last = number;
+                put(
+                    &mut self.by_file,
+                    Pair {
+                        of: ask.file,
+                        number,
+                    },
+                );
                 self.opens
                     .push(OpenState {
                         number,

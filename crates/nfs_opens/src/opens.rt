@@ -1,12 +1,13 @@
 //! The table of all opens, lock states and locked bytes.
 
-ghost use Rattle.std.specs.Prelude.{◌≡◌, ◌==◌, ◌&&◌, count_by, find};
+ghost use Rattle.std.specs.Prelude.{◌≡◌, ◌==◌, ◌&&◌, count_by, find, nat_lt};
 ghost use Rattle.std.specs.Option.{option_copied};
 ghost use Rattle.std.specs.List.{list_any};
 ghost use Rattle.nfs_opens.specs.Table.{IsTable, table, no_opens, open_at, lock_at};
 
+use crate::index::{Pair, next_in};
 use crate::locked_files::LockedFiles;
-use crate::records::{LockState, OpenState, lock_in};
+use crate::records::{LockState, OpenState, lock_in, open_in};
 use crate::share::Share;
 use std::alloc::Global;
 use std::marker::Model;
@@ -15,6 +16,8 @@ use std::marker::Model;
 #[derive(Drop)]
 pub struct Opens {
     pub(crate) opens: Vec<OpenState>,
+    /// The opens by their files.
+    pub(crate) by_file: Vec<Pair>,
     pub(crate) locks: Vec<LockState>,
     pub(crate) files: LockedFiles,
     /// The last number that was given, to an open or a lock state; 0 before the first.
@@ -26,25 +29,14 @@ pub struct Opens {
 
 impl Model for Opens {
     ghost use Rattle.std.specs.Prelude.{◌≡◌, ◌<◌, true, length, vec_capacity};
-    ghost use Rattle.nfs_opens.specs.Table.{Kept, IsKept};
+    ghost use Rattle.nfs_opens.specs.Index.{IsKept};
+    ghost use Rattle.nfs_opens.specs.Table.{Kept};
 
     ghost Value = { Kept };
 
     ghost view = { λ t. record { opens = t.opens.items; locks = t.locks.items; files = t.files; last = t.last; instance = t.instance; ready = t.ready } };
 
-    ghost invariant = { λ t. IsKept (record { opens = t.opens.items; locks = t.locks.items; files = t.files; last = t.last; instance = t.instance; ready = t.ready }) (vec_capacity t.opens) };
-}
-
-fn denies_reads(opens: &[OpenState], file: u64) -> bool
-    ensures { result ≡ list_any (λ o. (o.file == file) && o.deny.reads) opens.now }
-{
-    opens.iter().any(|o| o.file == file && o.deny.reads)
-}
-
-fn denies_writes(opens: &[OpenState], file: u64) -> bool
-    ensures { result ≡ list_any (λ o. (o.file == file) && o.deny.writes) opens.now }
-{
-    opens.iter().any(|o| o.file == file && o.deny.writes)
+    ghost invariant = { λ t. IsKept (record { opens = t.opens.items; locks = t.locks.items; files = t.files; last = t.last; instance = t.instance; ready = t.ready }) (vec_capacity t.opens) t.by_file.items (vec_capacity t.by_file) };
 }
 
 impl Opens {
@@ -55,6 +47,7 @@ impl Opens {
     {
         Opens {
             opens: Vec::new(alloc),
+            by_file: Vec::new(alloc),
             locks: Vec::new(alloc),
             files: LockedFiles::new(alloc),
             last: 0,
@@ -78,6 +71,17 @@ impl Opens {
         lock_in(&self.locks, number)
     }
 
+    /// The open of a file with the lowest number behind `after`.
+    pub(crate) fn next_open(&self, file: u64, after: u64) -> Option<&OpenState>
+        ensures found { option_copied result ≡ find (λ o. (o.file == file) && nat_lt after o.number) (table self.now).opens }
+        ensures kept { IsTable (table self.now) }
+    {
+        match next_in(&self.by_file, file, after) {
+            Some(number) => open_in(&self.opens, number),
+            None => None,
+        }
+    }
+
     /// How many opens a file has.
     pub fn opens_of(&self, file: u64) -> usize
         ensures count { result ≡ count_by (λ o. o.file == file) (table self.now).opens }
@@ -90,7 +94,7 @@ impl Opens {
     pub fn is_open(&self, file: u64) -> bool
         ensures { result ≡ list_any (λ o. o.file == file) (table self.now).opens }
     {
-        self.opens.iter().any(|o| o.file == file)
+        self.next_open(file, 0).is_some()
     }
 
     /// What the opens of a file deny, joined.
@@ -99,9 +103,37 @@ impl Opens {
         ensures writes { result.writes ≡ list_any (λ o. (o.file == file) && o.deny.writes) (table self.now).opens }
     {
         Share {
-            reads: denies_reads(&self.opens, file),
-            writes: denies_writes(&self.opens, file),
+            reads: self.denies_reads(file),
+            writes: self.denies_writes(file),
         }
+    }
+
+    fn denies_reads(&self, file: u64) -> bool
+        ensures { result ≡ list_any (λ o. (o.file == file) && o.deny.reads) (table self.now).opens }
+    {
+        self.kept();
+        let mut after = 0;
+        while let Some(open) = self.next_open(file, after) {
+            if open.denies_reads() {
+                return true;
+            }
+            after = open.number;
+        }
+        false
+    }
+
+    fn denies_writes(&self, file: u64) -> bool
+        ensures { result ≡ list_any (λ o. (o.file == file) && o.deny.writes) (table self.now).opens }
+    {
+        self.kept();
+        let mut after = 0;
+        while let Some(open) = self.next_open(file, after) {
+            if open.denies_writes() {
+                return true;
+            }
+            after = open.number;
+        }
+        false
     }
 
     /// Whether a client has an open.

@@ -70,6 +70,18 @@ impl OpenState {
             && (ask.access.meets(self.deny) || ask.deny.meets(self.access))
     }
 
+    pub(crate) fn denies_reads(&self) -> bool
+        ensures { result ≡ self.now.deny.reads }
+    {
+        self.deny.reads
+    }
+
+    pub(crate) fn denies_writes(&self) -> bool
+        ensures { result ≡ self.now.deny.writes }
+    {
+        self.deny.writes
+    }
+
     fn join(&mut self, ask: &Ask)
         ensures { self.new ≡ joins (asked ask.now) self.old }
     {

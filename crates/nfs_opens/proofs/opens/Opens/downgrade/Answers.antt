@@ -12,6 +12,7 @@ use Rattle.nfs_opens.specs.Table.{Kept, Did, with_open, Rises, IsTable, table, o
 use Rattle.nfs_opens.specs.Opening.{downgrade, downgrade_by, narrow_open, narrows}
 use Rattle.nfs_opens.proofs.LockLemmas.{same_table, as_many}
 use Rattle.nfs_opens.proofs.StepLemmas.{narrow_done, narrow_refused, table_narrow}
+use Rattle.nfs_opens.proofs.IndexedLemmas.{opens_changed}
 use Rattle.nfs_opens.proofs.opens.Opens.downgrade.Goals as goal
 use Rattle.nfs_opens.proofs.opens.Opens.downgrade.Goals.{After-open_in, After-is_narrower, After-narrow_open}
 
@@ -75,6 +76,9 @@ invariant_of-self c =
           (sym c.is_narrower.ensures ∙ c.if-not-is_narrower.false));
       room = λ yes. as_many (λ (o : OpenState). if o.number == c.args.id.number then narrows c.args.access c.args.deny o else o) c.self.inside.opens.items
           c.narrow_open.new.opens.items _ _ c.narrow_open.ensures.items c.narrow_open.ensures.room (c.self.invariant.room yes);
+      by_file = opens_changed (narrows c.args.access c.args.deny) c.args.id.number c.self.inside.opens.items c.narrow_open.new.opens.items
+          c.self.inside.by_file.items c.narrow_open.ensures.items (λ o. refl) (λ o. refl) c.self.invariant.by_file;
+      place = c.self.invariant.place;
     }
 
 -- what a downgrade of an open that is narrowed answers and leaves

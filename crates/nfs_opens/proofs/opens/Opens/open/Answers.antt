@@ -1,4 +1,4 @@
-use Rattle.std.proofs.Common.{◌≡◌, Some, ◌+◌, ◌++◌, ◌∷◌, [], List, sym, subst, ap, ◌∙◌, arith, refl, false}
+use Rattle.std.proofs.Common.{◌≡◌, Some, suc, ◌+◌, ◌++◌, ◌∷◌, [], List, sym, subst, ap, ◌∙◌, arith, refl, false}
 use Rattle.std.specs.Prelude.{◌==◌, find, if◌then◌else◌}
 use Rattle.std.specs.List.{list_any}
 use Rattle.std.specs.Option.{option_copied}
@@ -13,6 +13,9 @@ use Rattle.nfs_opens.proofs.LockLemmas.{same_table, as_many}
 use Rattle.nfs_opens.proofs.TableLemmas.{table_opened}
 use Rattle.nfs_opens.proofs.StepLemmas.{table_join}
 use Rattle.nfs_opens.proofs.StepLemmas.{no_clash_asked}
+use Rattle.nfs_opens.specs.Index.{IsIndex}
+use Rattle.nfs_opens.proofs.IndexLemmas.{index_put, index_new}
+use Rattle.nfs_opens.proofs.IndexedLemmas.{opens_changed}
 use Rattle.nfs_opens.proofs.opens.Opens.open.Goals as goal
 
 pub join_open-requires : goal.join_open-requires
@@ -21,7 +24,7 @@ join_open-requires c = (_, c.self.invariant.table.opens)
 pub invariant_of-self : goal.invariant_of-self
 invariant_of-self c =
     let own : own_open (table (the_view c.self.inside)) (asked c.args.ask.now) ≡ Some c.in-Some.open.now =
-    ap (find (is_own (asked c.args.ask.now))) (sym c.deref.ensures.value) ∙ (sym c.own_open.ensures ∙ ap option_copied c.in-Some.is) in
+    ap (λ (k : Kept). own_open (table k) (asked c.args.ask.now)) c.self.view_is ∙ (sym c.own_open.ensures ∙ ap option_copied c.in-Some.is) in
     let free : list_any (clashes_with (asked c.args.ask.now)) c.self.inside.opens.items ≡ false =
     ap (λ (k : Kept). list_any (clashes_with (asked c.args.ask.now)) k.opens) c.self.view_is ∙ no_clash_asked _ _ c.requires.judged in
     let same = same_table c.join_open.new.opens.items _ c.self.inside.locks.items _ (held_by c.self.inside.files) _ c.self.inside.last c.self.inside.instance
@@ -30,6 +33,9 @@ invariant_of-self c =
       table = subst IsTable (sym same) (table_join (table (the_view c.self.inside)) (asked c.args.ask.now) c.in-Some.open.now c.self.invariant.table own free);
       room = λ yes. as_many (λ (o : OpenState). if o.number == c.in-Some.open.now.number then joins (asked c.args.ask.now) o else o)
           c.self.inside.opens.items c.join_open.new.opens.items _ _ c.join_open.ensures.items c.join_open.ensures.room (c.self.invariant.room yes);
+      by_file = opens_changed (joins (asked c.args.ask.now)) c.in-Some.open.now.number c.self.inside.opens.items c.join_open.new.opens.items
+          c.self.inside.by_file.items c.join_open.ensures.items (λ o. refl) (λ o. refl) c.self.invariant.by_file;
+      place = c.self.invariant.place;
     }
 
 pub invariant_of-self-in-None : goal.invariant_of-self-in-None
@@ -42,4 +48,19 @@ invariant_of-self-in-None c =
     record {
       table = subst IsTable (sym same) (table_opened (table (the_view c.self.inside)) (asked c.args.ask.now) c.self.invariant.table free);
       room = λ yes. absurd (false≢true yes);
+      by_file = subst (λ (os : List OpenState). IsIndex (λ (o : OpenState). o.file) (λ o. o.number) os c.put.new.pairs.items) (sym items)
+          (index_put (λ (o : OpenState). o.file) (λ o. o.number) c.self.inside.opens.items (new_open (table (the_view c.self.inside)) (asked c.args.ask.now))
+          c.self.inside.by_file.items c.put.new.pairs.items c.self.invariant.by_file c.put.ensures);
+      place = λ yes. absurd (false≢true yes);
     }
+
+pub put-requires-clause-order : goal.put-requires-clause-order
+put-requires-clause-order c = c.self.invariant.by_file.order
+
+pub put-requires-clause-room : goal.put-requires-clause-room
+put-requires-clause-room c = c.self.invariant.place (ap (λ (k : Kept). k.ready) c.self.view_is ∙ c.requires.room)
+
+pub put-requires-clause-other : goal.put-requires-clause-other
+put-requires-clause-other c = index_new (λ (o : OpenState). o.file) (λ o. o.number) 1 (suc c.self.inside.last) c.self.inside.opens.items
+    c.self.inside.by_file.items (record { of = c.args.ask.now.file; number = c.self.inside.last + 1 }) c.self.invariant.table.opens c.self.invariant.by_file
+    (omega arith)

@@ -48,8 +48,9 @@ invariant_of-self-2 c =
     record {
       table = subst IsTable (sym same)
           (table_unlocked (table (the_view c.self.inside)) c.args.id.number c.args.file c.args.first c.args.last c.self.invariant.table);
-      room =
-          c.self.invariant.room;
+      room = c.self.invariant.room;
+      by_file = c.self.invariant.by_file;
+      place = c.self.invariant.place;
     }
 
 pub returns-clause-unlocks : goal.returns-clause-unlocks

@@ -1,0 +1,28 @@
+use Rattle.std.proofs.Common.{◌≡◌, true, false, Some, None, sym, ◌∙◌, ap, rules}
+use Rattle.std.specs.Prelude.{◌==◌, ◌&&◌, find}
+use Rattle.std.specs.Option.{option_copied}
+use Rattle.std.specs.List.{list_any}
+use Rattle.nfs_opens.specs.declared.records.OpenState.{OpenState}
+use Rattle.nfs_opens.specs.Table.{Table, table, is_own, clashes_with}
+use Rattle.nfs_opens.specs.Opening.{asked}
+use Rattle.nfs_opens.proofs.IndexedLemmas.{Behind, Coming, own_file, clash_file, reads_file, writes_file, walk_begins, walk_bounds, walk_hits, walk_misses, walk_ends, any_begins, any_hits, any_misses, any_ends, denied}
+use Rattle.nfs_opens.proofs.opens.Opens.denies_reads.Goals as goal
+
+pub loop-open-init : goal.loop-open-init
+loop-open-init c = any_begins (table c.args.self.now) (λ o. (o.file == c.args.file) && o.deny.reads) c.kept.ensures
+
+pub loop-open-smaller : goal.loop-open-smaller
+loop-open-smaller c = walk_bounds (table c.args.self.now) c.args.file c.loop-open.after c.in-Some.open.now c.next_open.ensures.kept
+    (sym c.next_open.ensures.found ∙ ap option_copied c.in-Some.is)
+
+pub loop-open-preserved : goal.loop-open-preserved
+loop-open-preserved c = any_misses (table c.args.self.now) (λ o. (o.file == c.args.file) && o.deny.reads) c.args.file (reads_file c.args.file) c.next_open.ensures.kept c.loop-open.after c.in-Some.open.now
+    (sym c.next_open.ensures.found ∙ ap option_copied c.in-Some.is) (denied (table c.args.self.now) c.args.file c.loop-open.after c.in-Some.open.now c.in-Some.open.now.deny.reads false (sym c.next_open.ensures.found ∙ ap option_copied c.in-Some.is) (sym c.denies_reads.ensures ∙ c.if-denies_reads.false)) ∙ c.loop-open.invariant
+
+pub returns-then-denies_reads : goal.returns-then-denies_reads
+returns-then-denies_reads c = sym (any_hits (table c.args.self.now) (λ o. (o.file == c.args.file) && o.deny.reads) c.args.file (reads_file c.args.file) c.next_open.ensures.kept c.loop-open.after c.in-Some.open.now
+    (sym c.next_open.ensures.found ∙ ap option_copied c.in-Some.is) (denied (table c.args.self.now) c.args.file c.loop-open.after c.in-Some.open.now c.in-Some.open.now.deny.reads true (sym c.next_open.ensures.found ∙ ap option_copied c.in-Some.is) (sym c.denies_reads.ensures ∙ c.if-denies_reads.true)))
+
+pub returns : goal.returns
+returns c = sym (any_ends (table c.args.self.now) (λ o. (o.file == c.args.file) && o.deny.reads) c.args.file (reads_file c.args.file) c.next_open.ensures.kept c.loop-open.after
+    (sym c.next_open.ensures.found ∙ ap option_copied c.in_default.is)) ∙ c.loop-open.invariant

@@ -1,0 +1,28 @@
+use Rattle.std.proofs.Common.{◌≡◌, Some, None, sym, ◌∙◌, ap, rules}
+use Rattle.std.specs.Prelude.{◌==◌, ◌&&◌, find}
+use Rattle.std.specs.Option.{option_copied}
+use Rattle.std.specs.List.{list_any}
+use Rattle.nfs_opens.specs.declared.records.OpenState.{OpenState}
+use Rattle.nfs_opens.specs.Table.{Table, table, is_own, clashes_with}
+use Rattle.nfs_opens.specs.Opening.{asked}
+use Rattle.nfs_opens.proofs.IndexedLemmas.{Behind, Coming, own_file, clash_file, reads_file, writes_file, walk_begins, walk_bounds, walk_hits, walk_misses, walk_ends, any_begins, any_hits, any_misses, any_ends}
+use Rattle.nfs_opens.proofs.opens.Opens.has_clash.Goals as goal
+
+pub loop-open-init : goal.loop-open-init
+loop-open-init c = any_begins (table c.args.self.now) (clashes_with (asked c.args.ask.now)) c.kept.ensures
+
+pub loop-open-smaller : goal.loop-open-smaller
+loop-open-smaller c = walk_bounds (table c.args.self.now) c.args.ask.now.file c.loop-open.after c.in-Some.open.now c.next_open.ensures.kept
+    (sym c.next_open.ensures.found ∙ ap option_copied c.in-Some.is)
+
+pub loop-open-preserved : goal.loop-open-preserved
+loop-open-preserved c = any_misses (table c.args.self.now) (clashes_with (asked c.args.ask.now)) c.args.ask.now.file (clash_file (asked c.args.ask.now)) c.next_open.ensures.kept c.loop-open.after c.in-Some.open.now
+    (sym c.next_open.ensures.found ∙ ap option_copied c.in-Some.is) (sym c.clashes_with.ensures ∙ c.if-clashes_with.false) ∙ c.loop-open.invariant
+
+pub returns-then-clashes_with : goal.returns-then-clashes_with
+returns-then-clashes_with c = sym (any_hits (table c.args.self.now) (clashes_with (asked c.args.ask.now)) c.args.ask.now.file (clash_file (asked c.args.ask.now)) c.next_open.ensures.kept c.loop-open.after c.in-Some.open.now
+    (sym c.next_open.ensures.found ∙ ap option_copied c.in-Some.is) (sym c.clashes_with.ensures ∙ c.if-clashes_with.true))
+
+pub returns : goal.returns
+returns c = sym (any_ends (table c.args.self.now) (clashes_with (asked c.args.ask.now)) c.args.ask.now.file (clash_file (asked c.args.ask.now)) c.next_open.ensures.kept c.loop-open.after
+    (sym c.next_open.ensures.found ∙ ap option_copied c.in_default.is)) ∙ c.loop-open.invariant

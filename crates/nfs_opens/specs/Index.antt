@@ -1,0 +1,48 @@
+-- Which states belong to what: each stands in an index as a pair of what it belongs to, a file (RFC 8881 section 9.7) or a client (section 8.3), and its number.
+use Rattle.std.specs.Prelude.{◌≡◌, ◌≢◌, ◌⊎◌, ℕ, ◌<◌, ◌≤◌, ◌==◌, nat_lt, ◌&&◌, ◌||◌, Bool, true, length, List, [], ◌∷◌, Option, Some, None}
+use Rattle.nfs_xdr.specs.Tables.{In}
+use Rattle.nfs_opens.specs.declared.index.Pair.{Pair}
+use Rattle.nfs_opens.specs.Table.{Kept, IsTable, table}
+
+-- pairs stand in the order of what the states belong to, and of one file or client in the order of the numbers
+abbrev pub Precedes : Pair → Pair → Type 0
+Precedes p q = (p.of < q.of) ⊎ ((p.of ≡ q.of) × (p.number < q.number))
+
+abbrev pub IsAscending : List Pair → Type 0
+IsAscending [] = Unit {0}
+IsAscending (p ∷ ps) = ((q : Pair) → In q ps → Precedes p q) × IsAscending ps
+
+-- the pair stands before that of a number, or is that pair where it is wanted too
+abbrev pub is_before : ℕ → ℕ → Bool → Pair → Bool
+is_before of number too p = nat_lt p.of of || ((p.of == of) && (nat_lt p.number number || (too && (p.number == number))))
+
+-- the lowest number behind another that belongs to a file or a client
+abbrev pub IsNext : List Pair → ℕ → ℕ → Option ℕ → Type 0
+IsNext ps of after (Some n) = In (record { of = of; number = n }) ps × (after < n) × ((p : Pair) → In p ps → p.of ≡ of → after < p.number → n ≤ p.number)
+IsNext ps of after None = (p : Pair) → In p ps → p.of ≡ of → p.number ≤ after
+
+-- one more pair
+pub record HasPut (ps : List Pair) (new : Pair) (qs : List Pair) : Type 0 where
+  pub order : IsAscending qs
+  pub put : In new qs
+  pub kept : (p : Pair) → In p ps → In p qs
+  pub only : (p : Pair) → In p qs → (p ≡ new) ⊎ In p ps
+
+-- one pair less
+pub record HasTaken (ps : List Pair) (old : Pair) (qs : List Pair) : Type 0 where
+  pub order : IsAscending qs
+  pub kept : (p : Pair) → In p ps → p ≢ old → In p qs
+  pub only : (p : Pair) → In p qs → In p ps × (p ≢ old)
+
+-- An index of states: each of them stands in it, and no other.
+pub record IsIndex {X : Type 0} (of number : X → ℕ) (states : List X) (ps : List Pair) : Type 0 where
+  pub order : IsAscending ps
+  pub each : (x : X) → In x states → In (record { of = of x; number = number x }) ps
+  pub only : (p : Pair) → In p ps → (x : X) × In x states × (of x ≡ p.of) × (number x ≡ p.number)
+
+-- What holds of all that is kept, and of the pairs that index the opens by their files; capacity is how many opens there is room for, places how many pairs.
+pub record IsKept (k : Kept) (capacity : ℕ) (pairs : List Pair) (places : ℕ) : Type 0 where
+  pub table : IsTable (table k)
+  pub room : k.ready ≡ true → length k.opens < capacity
+  pub by_file : IsIndex (λ o. o.file) (λ o. o.number) k.opens pairs
+  pub place : k.ready ≡ true → length pairs < places
