@@ -107,11 +107,15 @@ while_ops k limit sofar now choice m x [] is some keeps = tt
 while_ops k limit sofar now choice m x (i ∷ more) is some keeps =
     let s = in_room limit sofar now (is_here choice) m x i in
     let next = sofar + length s.outcome.result in
-    let rest = ops limit next now (behind_here choice) s.outcome.machine s.context more in
-    (before k (done m x i s) is some keeps, λ spares.
-    (let behind : Keeps k s.outcome.machine = spared_room k limit sofar now (is_here choice) m x i is some keeps spares in
-    (behind, if_more k (is_ok s.outcome.status) rest
-    (while_ops k limit next now (behind_here choice) s.outcome.machine s.context more (whole_room limit sofar now (is_here choice) m x i is) some behind))))
+    let rest = ops limit next now (behind_here choice) s.outcome.machine s.context more in (
+      before k (done m x i s) is some keeps,
+      λ spares.
+          (let behind : Keeps k s.outcome.machine = spared_room k limit sofar now (is_here choice) m x i is some keeps spares in (
+            behind,
+            if_more k (is_ok s.outcome.status) rest
+                (while_ops k limit next now (behind_here choice) s.outcome.machine s.context more (whole_room limit sofar now (is_here choice) m x i is) some behind),
+          )),
+    )
 
 -- where all spare it, it stands behind the last
 pub left_stands : (k : Told) (m : Machine) (ds : List Done) → Keeps k m → StandsWhile k ds → AreSpared k ds → Keeps k (left_by m ds)

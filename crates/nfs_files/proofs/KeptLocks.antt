@@ -94,14 +94,14 @@ pub stands_freed : (k : Told) (t : Table) (n : ℕ) (l : LockState) → IsTable 
 stands_freed k t n l table some found none is =
     let at = find_in (λ (l : LockState). l.number == n) t.locks l found in
     let other : is.lock.number ≢ n = λ same. (
-      let holds : t.held k.file k.state k.first ≡ Some k.kind = is.held k.first (omega arith) some in
-      let (h, holder) = table.holders k.file k.state k.first (λ e. let bad : Some k.kind ≡ None = sym holds ∙ e in cc) in
-      let named : k.state ≡ n = sym is.number ∙ same in
-      let one : h ≡ l = in_once (λ (l : LockState). l.number) 1 (suc t.last) t.locks h l table.locks holder.stands at.0
-      (holder.number ∙ named ∙ sym (eqb-true _ _ at.1)) in
-      let file : k.file ≡ l.file = sym holder.file ∙ ap (λ (l : LockState). l.file) one in
-      let gone : t.held l.file n k.first ≡ None = holds_none (t.held l.file) n (table.within l.file n) none k.first in
-      let bad : Some k.kind ≡ None = sym holds ∙ ap (λ f. t.held f k.state k.first) file ∙ ap (λ s. t.held l.file s k.first) named ∙ gone in cc) in
+    let holds : t.held k.file k.state k.first ≡ Some k.kind = is.held k.first (omega arith) some in
+    let (h, holder) = table.holders k.file k.state k.first (λ e. let bad : Some k.kind ≡ None = sym holds ∙ e in cc) in
+    let named : k.state ≡ n = sym is.number ∙ same in
+    let one : h ≡ l = in_once (λ (l : LockState). l.number) 1 (suc t.last) t.locks h l table.locks holder.stands at.0
+    (holder.number ∙ named ∙ sym (eqb-true _ _ at.1)) in
+    let file : k.file ≡ l.file = sym holder.file ∙ ap (λ (l : LockState). l.file) one in
+    let gone : t.held l.file n k.first ≡ None = holds_none (t.held l.file) n (table.within l.file n) none k.first in
+    let bad : Some k.kind ≡ None = sym holds ∙ ap (λ f. t.held f k.state k.first) file ∙ ap (λ s. t.held l.file s k.first) named ∙ gone in cc) in
     record {
       lock = is.lock;
       there = stays_in (λ (l : LockState). not (l.number == n)) t.locks is.lock is.there (ap not (ne_eqb is.lock.number n other));

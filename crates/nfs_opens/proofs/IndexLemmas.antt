@@ -253,9 +253,10 @@ insert_order : (ps : List Pair) (i : ℕ) (x : Pair) → IsAscending ps → ((q 
 insert_order [] zero x order low high = ((λ q there. absurd there), tt)
 insert_order [] (suc i) x order low high = ((λ q there. absurd there), tt)
 insert_order (p ∷ ps) zero x order low high = (high, order)
-insert_order (p ∷ ps) (suc i) x order low high =
-    ((λ q there. elim (in_insert ps i x q there) [ inl is ↦ subst (λ (r : Pair). Precedes p r) (sym is) (low p (inl refl)) | inr more ↦ order.0 q more ]),
-    insert_order ps i x order.1 (λ q there. low q (inr there)) high)
+insert_order (p ∷ ps) (suc i) x order low high = (
+  (λ q there. elim (in_insert ps i x q there) [ inl is ↦ subst (λ (r : Pair). Precedes p r) (sym is) (low p (inl refl)) | inr more ↦ order.0 q more ]),
+  insert_order ps i x order.1 (λ q there. low q (inr there)) high,
+)
 
 pub has_put : (ps qs : List Pair) (i : ℕ) (x : Pair) → IsAscending ps → SplitAt x.of x.number false ps i → ((p : Pair) → In p ps → p ≢ x)
     → qs ≡ insert ps i x → HasPut ps x qs

@@ -74,9 +74,14 @@ lives_next k last s c some lives within spared alone =
 
 stays : (k : Told) (last : ℕ) (s : State) (records : List Came) → k.first ≤ k.last → Lives k last s → StaysHeld k last s records
 stays k last s [] some lives = lives.stands
-stays k last s (c ∷ more) some lives =
-    (lives.stands, λ within. ((does k last s c some lives within).through, λ spared alone.
-    stays k (cond (renews_by k.client s c) (taken s c) last) (next s c) more some (lives_next k last s c some lives within spared alone)))
+stays k last s (c ∷ more) some lives = (
+  lives.stands,
+  λ within. (
+    (does k last s c some lives within).through,
+    λ spared alone.
+        stays k (cond (renews_by k.client s c) (taken s c) last) (next s c) more some (lives_next k last s c some lives within spared alone),
+  ),
+)
 
 told_left : (k : Told) (m : Machine) (o : Option Event) (front : List Done) (lock : Done) (back : List Done) → Is m
     → option_map_or (ops_by m) o [] ≡ front ++ lock ∷ back → IsToldBy k lock → IsKeptFrom k (left m o) back

@@ -134,12 +134,7 @@ fn names_are_put_dropped_and_moved(rt: HostRuntime) -> Result<(), Fail> {
 }
 
 /// Three bytes of an object, as READ puts them.
-fn three_bytes(
-    tree: &Tree,
-    alloc: Global,
-    number: u64,
-    offset: u64,
-) -> Result<Sheet, AllocError> {
+fn three_bytes(tree: &Tree, alloc: Global, number: u64, offset: u64) -> Result<Sheet, AllocError> {
     let mut sheet = Sheet::new(alloc, 16)?;
     tree.read(number, offset, &mut sheet, 3);
     Ok(sheet)
