@@ -5,7 +5,6 @@ ghost use Rattle.nfs_tree.specs.Files.{root, has_row};
 
 use super::*;
 use crate::row::has_row;
-use crate::stored::stored_in;
 use nfs_testing::{LONG, MAX_BLOCKS, starve};
 use nfs_xdr::{Sheet, Time};
 use std::alloc::{AllocError, Global};
@@ -171,7 +170,7 @@ fn bytes_are_written_cut_and_read(rt: HostRuntime) -> Result<(), Fail> {
 
 /// How many pages of an object have bytes.
 fn pages_made(tree: &Tree, number: u64) -> usize {
-    match stored_in(&tree.objects, number) {
+    match tree.objects.stored_in(number) {
         Some(stored) => {
             let pages = stored.bytes.pages.iter();
             pages.filter(|page| !page.bytes.is_empty()).count()

@@ -12,6 +12,6 @@ pub change_in-requires-then-source-target : goal.change_in-requires-then-source-
 change_in-requires-then-source-target c =
     let apart : c.args.target ≢ c.args.source = λ e. c.if-source-target.true (sym e) in
     subst (λ xs. CanChange xs c.args.target) (sym c.change_in-2.ensures)
-    (can_change_after c.change_in.new.objects c.args.source c.args.target c.args.now c.modified.result apart
+    (can_change_after c.change_in.new.self c.args.source c.args.target c.args.now c.modified.result apart
     (subst (λ xs. CanChange xs c.args.target) (sym c.change_in.ensures)
     (can_change_after c.args.objects.now c.args.replaced c.args.target c.args.now c.none.result (λ e. c.requires.apart_target (sym e)) c.requires.target)))

@@ -15,7 +15,7 @@ change_entry-requires c =
     let d = c.args.directory in
     let n = c.args.number in
     let is : IsTree t = subst IsTree c.self.view_is c.self.invariant in
-    let items : c.deref_mut.result.now ≡ t.objects = c.deref_mut.ensures.value ∙ ap (λ (t : Files). t.objects) c.self.view_is in
+    let items : c.self.inside.objects ≡ t.objects = ap (λ (t : Files). t.objects) c.self.view_is in
     let can = link_granted t n d c.args.name c.requires.granted in
     record {
       apart = λ e. false≢true (sym can.other ∙ ap (is_directory_at t) e ∙ can.directory);

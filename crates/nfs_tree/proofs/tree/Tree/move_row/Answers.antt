@@ -1,4 +1,4 @@
-use Rattle.std.proofs.Common.{◌≡◌, ◌≢◌, ◌+◌, ◌<◌, ◌∙◌, ap, sym, arith, subst}
+use Rattle.std.proofs.Common.{◌≡◌, ◌≢◌, ◌+◌, ◌<◌, ap, sym, arith, subst}
 use Rattle.std.proofs.lemmas.Grind.{common_steps}
 use Rattle.nfs_tree.specs.Files.{Files, root, last_count, CanChange}
 use Rattle.nfs_tree.specs.Names.{move_of, replaced_object, with_moved}
@@ -20,7 +20,7 @@ change_moved-requires c =
     let t = c.args.self.now in
     let m = move_of c.args.m.now in
     let is : IsTree t = subst IsTree c.self.view_is c.self.invariant in
-    let items : c.deref_mut.result.now ≡ t.objects = c.deref_mut.ensures.value ∙ ap (λ (t : Files). t.objects) c.self.view_is in
+    let items : c.self.inside.objects ≡ t.objects = ap (λ (t : Files). t.objects) c.self.view_is in
     let can = move_granted t m c.requires.granted c.requires.moves in
     let x = c.replaced_object-replaced.ensures in
     record {
@@ -28,7 +28,7 @@ change_moved-requires c =
       apart_target = subst (λ n. n ≢ m.target) (sym x) (replaced_target t m is can);
       source = subst (λ xs. CanChange xs m.source) (sym items) (can_change_all t.objects root (t.last_object + 1) m.source is.objects can.change_source);
       target = subst (λ xs. CanChange xs m.target) (sym items) (can_change_all t.objects root (t.last_object + 1) m.target is.objects can.change_target);
-      replaced = subst (λ n. CanChange c.deref_mut.result.now n) (sym x)
+      replaced = subst (λ n. CanChange c.self.inside.objects n) (sym x)
           (subst (λ xs. CanChange xs (replaced_object t m)) (sym items) (replaced_can t m is can));
     }
 

@@ -1,4 +1,4 @@
-use Rattle.std.proofs.Common.{◌≡◌, ◌+◌, ◌∙◌, List, map, ap, sym, arith, subst}
+use Rattle.std.proofs.Common.{◌≡◌, ◌+◌, List, map, ap, sym, arith, subst}
 use Rattle.std.specs.Prelude.{◌==◌, if◌then◌else◌, OnOk, OnErr}
 use Rattle.std.proofs.lemmas.Grind.{common_steps}
 use Rattle.nfs_tree.specs.declared.stored.Stored.{Stored}
@@ -15,7 +15,7 @@ pub write_in-requires-clause-change : goal.write_in-requires-clause-change
 write_in-requires-clause-change c =
     let t = c.args.self.now in
     let is : IsTree t = subst IsTree c.self.view_is c.self.invariant in
-    let items : c.deref_mut.result.now ≡ t.objects = c.deref_mut.ensures.value ∙ ap (λ (t : Files). t.objects) c.self.view_is in
+    let items : c.self.inside.objects ≡ t.objects = ap (λ (t : Files). t.objects) c.self.view_is in
     subst (λ xs. CanChange xs c.args.number) (sym items) (can_change_all t.objects root (t.last_object + 1) c.args.number is.objects
     (write_granted t c.args.number c.args.offset c.args.text.now c.requires.granted c.requires.some).2)
 
@@ -23,8 +23,8 @@ pub invariant_of-self : goal.invariant_of-self
 invariant_of-self c =
     let t = c.args.self.now in
     let is : IsTree t = subst IsTree c.self.view_is c.self.invariant in
-    let items : c.deref_mut.result.now ≡ t.objects = c.deref_mut.ensures.value ∙ ap (λ (t : Files). t.objects) c.self.view_is in
-    let new = c.write_in.new.objects in
+    let items : c.self.inside.objects ≡ t.objects = ap (λ (t : Files). t.objects) c.self.view_is in
+    let new = c.write_in.new.self in
     let ok = subst (λ (xs : List Stored). OnOk c.write_in.result (new
     ≡ map (λ (s : Stored). if s.number == c.args.number then with_bytes c.args.now no_sets (written s.bytes c.args.offset c.args.text.now) s else s) xs))
     items c.write_in.ensures.ok in

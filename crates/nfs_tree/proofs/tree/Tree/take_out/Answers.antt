@@ -1,4 +1,4 @@
-use Rattle.std.proofs.Common.{◌≡◌, ◌≢◌, ◌+◌, ◌∙◌, ap, sym, arith, subst}
+use Rattle.std.proofs.Common.{◌≡◌, ◌≢◌, ◌+◌, ap, sym, arith, subst}
 use Rattle.std.proofs.lemmas.Grind.{common_steps}
 use Rattle.nfs_tree.specs.Files.{Files, root, CanChange, named}
 use Rattle.nfs_tree.specs.Names.{without_name}
@@ -13,12 +13,12 @@ change_entry-requires c =
     let d = c.args.directory in
     let n = named t d c.args.name.now in
     let is : IsTree t = subst IsTree c.self.view_is c.self.invariant in
-    let items : c.deref_mut.result.now ≡ t.objects = c.deref_mut.ensures.value ∙ ap (λ (t : Files). t.objects) c.self.view_is in
+    let items : c.self.inside.objects ≡ t.objects = ap (λ (t : Files). t.objects) c.self.view_is in
     let granted = remove_granted t d c.args.name.now c.requires.granted in
     record {
       apart = subst (λ k. k ≢ d) (sym c.requires.number) (apart t d n (has_one t d c.args.name.now granted.0) granted.1);
       directory = subst (λ xs. CanChange xs d) (sym items) (can_change_all t.objects root (t.last_object + 1) d is.objects granted.2);
-      number = subst (λ k. CanChange c.deref_mut.result.now k) (sym c.requires.number)
+      number = subst (λ k. CanChange c.self.inside.objects k) (sym c.requires.number)
           (subst (λ xs. CanChange xs n) (sym items) (can_change_all t.objects root (t.last_object + 1) n is.objects granted.3));
     }
 

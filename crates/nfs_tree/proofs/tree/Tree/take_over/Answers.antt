@@ -1,4 +1,4 @@
-use Rattle.std.proofs.Common.{◌≡◌, ◌<◌, ◌+◌, ◌∙◌, List, ap, sym, arith, subst}
+use Rattle.std.proofs.Common.{◌≡◌, ◌<◌, ◌+◌, List, ap, sym, arith, subst}
 use Rattle.std.specs.Prelude.{All}
 use Rattle.std.proofs.lemmas.Grind.{common_steps}
 use Rattle.nfs_tree.specs.declared.stored.Stored.{Stored}
@@ -12,7 +12,7 @@ pub change_in-requires : goal.change_in-requires
 change_in-requires c =
     let t = c.args.self.now in
     let is : IsTree t = subst IsTree c.self.view_is c.self.invariant in
-    let items : c.deref_mut.result.now ≡ t.objects = c.deref_mut.ensures.value ∙ ap (λ (t : Files). t.objects) c.self.view_is in
+    let items : c.self.inside.objects ≡ t.objects = ap (λ (t : Files). t.objects) c.self.view_is in
     let P : List Stored → Type 0 = λ xs. All (λ (s : Stored). s.number ≡ c.args.number → s.object.change < last_count) xs in
     subst P (sym items) (can_change_all t.objects root (t.last_object + 1) c.args.number is.objects (set_granted t c.args.number c.requires))
 

@@ -1,0 +1,125 @@
+-- What each change of the slab and of the map makes of the list of objects.
+use Rattle.std.proofs.Common.{◌≡◌, ◌≢◌, ℕ, ◌+◌, ◌<◌, suc, not, List, [], ◌∷◌, ◌++◌, map, Option, Some, None, refl, sym, ◌∙◌, ap, arith, subst, inl, inr}
+use Rattle.std.specs.Prelude.{slice_index_or, length, zero, ◌==◌, filter, if◌then◌else◌}
+use Rattle.std.specs.Option.{option_and_then}
+use Rattle.std.proofs.lemmas.Bool.{cases_eq, ne_eqb, eq-eqb}
+use Rattle.std.proofs.lemmas.List.{get_or-set_same, get_or-set_other, map-append}
+use Rattle.slab.specs.Slab.{with_value}
+use Rattle.std.specs.Ordering.{nat_cmp}
+use Rattle.std.specs.BTreeMap.{is_at, insert_entry}
+use Rattle.std.specs.Map.{lookup, remove_entry}
+use Rattle.slab.specs.Slab.{Slab, get, Updates}
+use Rattle.nfs_xdr.specs.Tables.{IsRising}
+use Rattle.nfs_xdr.specs.declared.time.Time.{Time}
+use Rattle.nfs_xdr.proofs.Tables.{IsRising-push}
+use Rattle.nfs_tree.specs.declared.stored.Stored.{Stored}
+use Rattle.nfs_tree.specs.declared.sets.Sets.{Sets}
+use Rattle.nfs_tree.specs.Files.{root, last_count, CanChange, change_at, with_changed, stored_in}
+use Rattle.nfs_tree.specs.Indexed.{stored, AreObjects}
+use Rattle.nfs_tree.proofs.StoredLemmas.{insert_last, stored_push, stored_apart, stored_remove, AreStored-push, stored_find, stored_write, filter_none, map_none, found_keeps, rising_keys}
+
+abbrev number : Stored → ℕ
+number s = s.number
+
+pub objects_same : (s t : Slab Stored) (es fs : List (ℕ × ℕ)) → t.slots ≡ s.slots → fs ≡ es → AreObjects (get s) es → AreObjects (get t) fs
+objects_same s t es fs slots entries is = subst (λ fs. AreObjects (get t) fs) (sym entries) (subst (λ slots. AreObjects (get (record s { slots = slots })) es) (sym slots) is)
+
+pub view_same : (s t : Slab Stored) (es : List (ℕ × ℕ)) → t.slots ≡ s.slots → stored (get t) es ≡ stored (get s) es
+view_same s t es slots = ap (λ slots. stored (get (record s { slots = slots })) es) slots
+
+pub record Made (s t : Slab Stored) (es fs : List (ℕ × ℕ)) (o : Stored) : Type 0 where
+  pub is : AreObjects (get t) fs
+  pub view : stored (get t) fs ≡ stored (get s) es ++ o ∷ []
+
+pub objects_new : (s t : Slab Stored) (es fs : List (ℕ × ℕ)) (key : ℕ) (o : Stored) → AreObjects (get s) es → IsRising (λ (s : Stored). s.number) root (stored (get s) es) o.number
+    → get s key ≡ None → Updates s t key (Some o) → fs ≡ insert_entry nat_cmp es o.number key → Made s t es fs o
+objects_new s t es fs key o is up vacant updates entries =
+    let rising = rising_keys number (get s) root o.number es is.stored up in
+    let last : fs ≡ es ++ (o.number, key) ∷ [] = entries ∙ insert_last es root o.number key rising in
+    let kept = stored_apart number (get s) (get t) key vacant updates.others es is.stored in
+    rw last (record {
+      is = record {
+        high = o.number + 1;
+        rising = IsRising-push (λ (e : ℕ × ℕ). e.0) root o.number (o.number + 1) es (o.number, key) refl refl rising;
+        stored = AreStored-push number (get t) o.number key es (rw updates.changed refl) kept.1;
+      };
+      view = stored_push number (get t) o.number key o es updates.changed ∙ ap (λ xs. xs ++ o ∷ []) kept.0;
+    })
+
+pub record Lost (s t : Slab Stored) (es fs : List (ℕ × ℕ)) (n : ℕ) : Type 0 where
+  pub is : AreObjects (get t) fs
+  pub view : stored (get t) fs ≡ filter (λ s. not (s.number == n)) (stored (get s) es)
+
+pub objects_without : (s t : Slab Stored) (es fs : List (ℕ × ℕ)) (n key : ℕ) → AreObjects (get s) es → lookup (is_at (nat_cmp n)) es ≡ Some key → Updates s t key None → fs ≡ remove_entry (is_at (nat_cmp n)) es → Lost s t es fs n
+objects_without s t es fs n key is found updates entries =
+    let gone = stored_remove number (get s) (get t) n key root is.high updates.others es is.rising is.stored found in
+    rw entries (record {
+      is = record { high = is.high; rising = gone.2; stored = gone.1 };
+      view = gone.0;
+    })
+
+pub find_same : (s : Slab Stored) (es : List (ℕ × ℕ)) (n : ℕ) → AreObjects (get s) es → stored_in (stored (get s) es) n ≡ option_and_then (get s) (lookup (is_at (nat_cmp n)) es)
+find_same s es n is = stored_find number (get s) n es is.stored
+
+pub without_none : (s : Slab Stored) (es : List (ℕ × ℕ)) (n : ℕ) → AreObjects (get s) es → lookup (is_at (nat_cmp n)) es ≡ None → filter (λ s. not (s.number == n)) (stored (get s) es) ≡ stored (get s) es
+without_none s es n is none = filter_none number n (stored (get s) es) (find_same s es n is ∙ ap (option_and_then (get s)) none)
+
+pub put_none : (f : Stored → Stored) (s : Slab Stored) (es : List (ℕ × ℕ)) (n : ℕ) → AreObjects (get s) es → lookup (is_at (nat_cmp n)) es ≡ None → map (λ s. if s.number == n then f s else s) (stored (get s) es) ≡ stored (get s) es
+put_none f s es n is none = map_none number f n (stored (get s) es) (find_same s es n is ∙ ap (option_and_then (get s)) none)
+
+pub record Put (f : Stored → Stored) (s t : Slab Stored) (es : List (ℕ × ℕ)) (n : ℕ) : Type 0 where
+  pub is : AreObjects (get t) es
+  pub view : stored (get t) es ≡ map (λ s. if s.number == n then f s else s) (stored (get s) es)
+
+within : (xs : List (Option Stored)) (key : ℕ) (x : Stored) → slice_index_or xs key None ≡ Some x → key < length xs
+within [] key x e = absurd cc
+within (o ∷ xs) zero x e = omega arith
+within (o ∷ xs) (suc key) x e = let rest = within xs key x e in omega arith
+
+-- the value of a number is written
+pub objects_put : (f : Stored → Stored) → ((s : Stored) → (f s).number ≡ s.number) → (s : Slab Stored) (es : List (ℕ × ℕ)) (n key : ℕ) (o p : Stored) → AreObjects (get s) es → lookup (is_at (nat_cmp n)) es ≡ Some key → get s key ≡ Some o → p ≡ f o → Put f s (with_value s key p) es n
+objects_put f same s es n key o p is found was now =
+    let t : Slab Stored = with_value s key p in
+    let put : get t key ≡ Some p = get_or-set_same s.slots key (Some p) None (within s.slots key o was) in
+    let wrote = stored_write number f same (get s) (get t) n key root is.high o was (put ∙ ap Some now) (λ k apart. get_or-set_other s.slots key k (Some p) None apart) es is.rising is.stored found in
+    record {
+      is = record { high = is.high; rising = is.rising; stored = wrote.1 };
+      view = wrote.0;
+    }
+
+-- the map never leads to a vacant key
+pub never_vacant : (s : Slab Stored) (es : List (ℕ × ℕ)) (n key : ℕ) → AreObjects (get s) es → lookup (is_at (nat_cmp n)) es ≡ Some key → get s key ≢ None
+never_vacant s es n key is found vacant = let x = found_keeps number (get s) n key es is.stored found in absurd (let bad : Some x.0 ≡ None = sym x.1 ∙ vacant in cc)
+
+-- writing what stands there
+pub map_same : (n : ℕ) (xs : List Stored) → map (λ s. if s.number == n then s else s) xs ≡ xs
+map_same n [] = refl
+map_same n (x ∷ xs) = elim (cases_eq x.number n) [ inl here ↦ rw (eq-eqb x.number n here, map_same n xs) refl | inr other ↦ rw (ne_eqb x.number n other, map_same n xs) refl ]
+
+-- the object of a number can change
+pub can_of : (xs : List Stored) (n : ℕ) (o : Stored) → stored_in xs n ≡ Some o → CanChange xs n → o.object.change < last_count
+can_of [] n o e can = absurd cc
+can_of (x ∷ xs) n o e can = elim (cases_eq x.number n) [
+  | inl here ↦ (let at : Some x ≡ Some o = rw (eq-eqb x.number n here) at e in let is : x ≡ o = cc in subst (λ (s : Stored). s.object.change < last_count) is (can zero x (omega arith) here))
+  | inr other ↦ can_of xs n o (rw (ne_eqb x.number n other) at e) (λ k d lt. can (suc k) d (omega arith))
+]
+
+-- another object at the end
+pub can_push : (xs : List Stored) (n : ℕ) (x : Stored) → x.number ≢ n → CanChange xs n → CanChange (xs ++ x ∷ []) n
+can_push [] n x other can zero d lt = λ same. absurd (other same)
+can_push [] n x other can (suc k) d lt = absurd (omega arith)
+can_push (y ∷ ys) n x other can zero d lt = can zero y (omega arith)
+can_push (y ∷ ys) n x other can (suc k) d lt = can_push ys n x other (λ k d lt. can (suc k) d (omega arith)) k d (omega arith)
+
+pub changed_push : (xs : List Stored) (n : ℕ) (now : Time) (sets : Sets) (x : Stored) → x.number ≢ n → with_changed n now sets (xs ++ x ∷ []) ≡ with_changed n now sets xs ++ x ∷ []
+changed_push xs n now sets x other = map-append (change_at n now sets) xs (x ∷ []) ∙ ap (λ ys. with_changed n now sets xs ++ ys) (rw (ne_eqb x.number n other) refl)
+
+-- what is written keeps its number
+pub objects_at : (s : Slab Stored) (es : List (ℕ × ℕ)) (n key : ℕ) (o p : Stored) → AreObjects (get s) es → lookup (is_at (nat_cmp n)) es ≡ Some key
+    → get s key ≡ Some o → p.number ≡ o.number → AreObjects (get (with_value s key p)) es
+objects_at s es n key o p is found was same =
+    (objects_put (λ x. record p { number = x.number }) (λ _. refl) s es n key o p is found was (ap (λ k. record p { number = k }) same)).is
+
+-- no objects
+pub objects_none : (s : Slab Stored) (es : List (ℕ × ℕ)) → es ≡ [] → AreObjects (get s) es
+objects_none s es none = subst (AreObjects (get s)) (sym none) (record { high = root; rising = omega arith; stored = tt })

@@ -1,0 +1,36 @@
+use Rattle.std.proofs.Common.{◌≡◌, ◌∙◌, Some, ap, sym, refl}
+use Rattle.std.specs.Option.{option_and_then}
+use Rattle.slab.specs.Slab.{get, with_value}
+use Rattle.nfs_tree.specs.declared.stored.Stored.{Stored}
+use Rattle.nfs_tree.specs.Object.{changed}
+use Rattle.nfs_tree.specs.Files.{stored_in}
+use Rattle.nfs_tree.proofs.IndexedLemmas.{find_same, objects_put, put_none, never_vacant, can_of, Put}
+use Rattle.nfs_tree.proofs.stored.Objects.change_in.Goals as goal
+
+pub note-requires : goal.note-requires
+note-requires c =
+    let found : stored_in c.args.self.now c.args.number ≡ Some c.in-Some-get_mut.stored.now =
+    ap (λ xs. stored_in xs c.args.number) (sym c.self.view_is)
+    ∙ find_same c.self.inside.slab c.self.inside.keys.entries c.args.number c.self.invariant
+    ∙ ap (option_and_then (get c.self.inside.slab)) (sym c.in-Some.ensures.value) ∙ sym c.in-Some-get_mut.ensures.value in
+    can_of c.args.self.now c.args.number c.in-Some-get_mut.stored.now found c.requires
+
+put : (c : goal.After-self-in-Some-get_mut-1) → Put (λ (s : Stored). record s { object = changed c.args.now c.args.sets.now s.object }) c.self.inside.slab
+    (with_value c.self.inside.slab c.in-Some.key.now (record c.in-Some-get_mut.stored.now { object = c.note.new.self })) c.self.inside.keys.entries c.args.number
+put c = objects_put (λ (s : Stored). record s { object = changed c.args.now c.args.sets.now s.object }) (λ _. refl) c.self.inside.slab c.self.inside.keys.entries
+    c.args.number c.in-Some.key.now c.in-Some-get_mut.stored.now (record c.in-Some-get_mut.stored.now { object = c.note.new.self }) c.self.invariant
+    (sym c.in-Some.ensures.value) (sym c.in-Some-get_mut.ensures.value) (ap (λ o. record c.in-Some-get_mut.stored.now { object = o }) c.note.ensures)
+
+pub invariant_of-self : goal.invariant_of-self
+invariant_of-self c = (put c).is
+
+pub returns-in-Some-get_mut : goal.returns-in-Some-get_mut
+returns-in-Some-get_mut c = rw (← c.self.view_is) (put c).view
+
+pub returns-in_default-get_mut : goal.returns-in_default-get_mut
+returns-in_default-get_mut c = absurd (never_vacant c.self.inside.slab c.self.inside.keys.entries c.args.number c.in-Some.key.now
+    c.self.invariant (sym c.in-Some.ensures.value) (sym c.in_default-get_mut.ensures.value))
+
+pub returns-in_default : goal.returns-in_default
+returns-in_default c = rw (← c.self.view_is) (sym (put_none (λ (s : Stored). record s { object = changed c.args.now c.args.sets.now s.object })
+    c.self.inside.slab c.self.inside.keys.entries c.args.number c.self.invariant (sym c.in_default.ensures.value)))
