@@ -1,5 +1,5 @@
 -- The opens by their files, behind what changes one open, and behind one that goes.
-use Rattle.std.proofs.Common.{◌≡◌, ℕ, suc, ◌-◌, ◌<◌, ◌≤◌, Bool, true, false, List, Option, Some, None, map, sym, ◌∙◌, ap, subst, arith, refl, inl, inr, Bor}
+use Rattle.std.proofs.Common.{◌≡◌, ℕ, suc, ◌-◌, ◌<◌, ◌≤◌, Bool, true, false, List, Option, Some, None, map, sym, subst, arith, refl, inl, inr, Bor}
 use Rattle.std.specs.Prelude.{◌==◌, ◌&&◌, not, nat_lt, is_some, find, if◌then◌else◌}
 use Rattle.std.specs.List.{list_any}
 use Rattle.std.specs.Option.{option_copied}
@@ -9,14 +9,14 @@ use Rattle.nfs_opens.specs.declared.index.Pair.{Pair}
 use Rattle.nfs_opens.specs.declared.records.OpenState.{OpenState}
 use Rattle.nfs_opens.specs.Index.{IsIndex}
 use Rattle.nfs_opens.specs.Table.{Table, Asked, IsTable, is_own, clashes_with}
-use Rattle.nfs_opens.proofs.IndexLemmas.{index_changed, ToCome, find_begun, any_begun, find_done, any_done, find_hit, find_missed, any_missed, come_bounds}
+use Rattle.nfs_opens.proofs.IndexLemmas.{index_changed, find_begun, any_begun, find_done, any_done, find_hit, find_missed, any_missed, come_bounds}
 
-pub opens_changed : (f : OpenState → OpenState) (n : ℕ) (xs ys : List OpenState) (ps : List Pair) → ys ≡ map (λ o. if o.number == n then f o else o) xs
-    → ((o : OpenState) → (f o).file ≡ o.file) → ((o : OpenState) → (f o).number ≡ o.number) → IsIndex (λ o. o.file) (λ o. o.number) xs ps
-    → IsIndex (λ o. o.file) (λ o. o.number) ys ps
-opens_changed f n xs ys ps made file number is =
-    subst (λ (os : List OpenState). IsIndex (λ o. o.file) (λ o. o.number) os ps) (sym made)
-    (index_changed (λ (o : OpenState). o.file) (λ o. o.number) (λ o. if o.number == n then f o else o) xs ps
+pub opens_changed : (of : OpenState → ℕ) (f : OpenState → OpenState) (n : ℕ) (xs ys : List OpenState) (ps : List Pair)
+    → ys ≡ map (λ o. if o.number == n then f o else o) xs → ((o : OpenState) → of (f o) ≡ of o) → ((o : OpenState) → (f o).number ≡ o.number)
+    → IsIndex of (λ o. o.number) xs ps → IsIndex of (λ o. o.number) ys ps
+opens_changed of f n xs ys ps made file number is =
+    subst (λ (os : List OpenState). IsIndex of (λ o. o.number) os ps) (sym made)
+    (index_changed of (λ o. o.number) (λ o. if o.number == n then f o else o) xs ps
     (λ o. elim (cases_Bool (o.number == n)) [ inl here ↦ rw here (file o) | inr other ↦ rw other refl ])
     (λ o. elim (cases_Bool (o.number == n)) [ inl here ↦ rw here (number o) | inr other ↦ rw other refl ])
     is)
@@ -46,6 +46,9 @@ reads_file file o e = eqb-true o.file file (and_parts (o.file == file) o.deny.re
 
 pub writes_file : (file : ℕ) → OnFile file (λ o. (o.file == file) && o.deny.writes)
 writes_file file o e = eqb-true o.file file (and_parts (o.file == file) o.deny.writes e).0
+
+pub others_file : (file client : ℕ) → OnFile file (λ o. (o.file == file) && not (o.client == client))
+others_file file client o e = eqb-true o.file file (and_parts (o.file == file) (not (o.client == client)) e).0
 
 abbrev file_of : OpenState → ℕ
 file_of o = o.file
@@ -86,15 +89,6 @@ module _ (t : Table) (q : OpenState → Bool) (file : ℕ) (only : OnFile file q
 
   pub any_ends : (after : ℕ) → find (Behind file after) t.opens ≡ None → list_any (Coming after q) t.opens ≡ false
   any_ends after = any_done file_of number_of q file only 1 (suc t.last) t.opens is.opens after
-
--- whether a file has an open
-pub open_seen : (t : Table) (file : ℕ) (o : Option OpenState) → IsTable t → o ≡ find (Behind file 0) t.opens → (found : Bool) → found ≡ is_some o
-    → found ≡ list_any (λ o. o.file == file) t.opens
-open_seen t file None is at found says =
-    says ∙ sym (sym (any_begins t (λ o. o.file == file) is) ∙ any_ends t (λ o. o.file == file) file (λ o e. eqb-true o.file file e) is 0 (sym at))
-open_seen t file (Some o) is at found says =
-    says ∙ sym (any_hits t (λ o. o.file == file) file (λ o e. eqb-true o.file file e) is 0 o (sym at)
-    (and_parts (o.file == file) (nat_lt 0 o.number) (find_in (Behind file 0) t.opens o (sym at)).1).0)
 
 pub copied_some : {X : Type 0} (o : Option (Bor X)) → is_some o ≡ is_some (option_copied o)
 copied_some None = refl

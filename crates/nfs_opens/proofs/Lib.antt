@@ -6,3 +6,4 @@ pub mod ShareLemmas
 pub mod TableLemmas
 pub mod LockLemmas
 pub mod StepLemmas
+pub mod LockedLemmas

@@ -26,7 +26,8 @@ use Rattle.nfs_xdr.specs.Tables.{In}
 use Rattle.nfs_xdr.proofs.Lists.{any_in, in_filter, stays_in, none_any, in_any, length_filter}
 use Rattle.nfs_xdr.proofs.Tables.{in_once}
 use Rattle.nfs_opens.specs.Table.{Table, open_at, lock_at, IsTable, IsHolder, AreHolders}
-use Rattle.nfs_opens.specs.Closing.{stands, held_within, held_without, not_under}
+use Rattle.nfs_opens.specs.declared.closing.Leaving.{Leaving}
+use Rattle.nfs_opens.specs.Closing.{stands, held_within, held_without, leaves}
 use Rattle.nfs_opens.proofs.FileLemmas.{file_here, file_other, on_file_same}
 use Rattle.nfs_opens.proofs.HolderLemmas.{set_keeps}
 use Rattle.nfs_opens.proofs.TableLemmas.{KeepsBytes, holders_left}
@@ -63,21 +64,21 @@ sets_bytes t locks n file first last next kind l is more holder below_next le fi
   ];
 }
 
--- a lock state among those that go under an open
-abbrev goes : ℕ → ℕ → ℕ → LockState → Type 0
-goes n f s l = (l.opened ≡ n) × (l.file ≡ f) × (l.number ≡ s)
+-- a lock state among those that leave
+abbrev goes : Leaving → ℕ → ℕ → LockState → Type 0
+goes w f s l = (leaves w l ≡ true) × (l.file ≡ f) × (l.number ≡ s)
 
-abbrev drops : ℕ → LockState → FileHolders → FileHolders
-drops n l held = if l.opened == n then on_file held l.file (λ h. dropped h l.number) else held
+abbrev drops : Leaving → LockState → FileHolders → FileHolders
+drops w l held = if leaves w l then on_file held l.file (λ h. dropped h l.number) else held
 
 -- one of them gives up its bytes, or nothing changes
-drop_one : (n : ℕ) (l : LockState) (held : FileHolders) (f s b : ℕ)
-    → (goes n f s l × (drops n l held f s b ≡ None)) ⊎ ((goes n f s l → ⊥) × (drops n l held f s b ≡ held f s b))
-drop_one n l held f s b =
+drop_one : (w : Leaving) (l : LockState) (held : FileHolders) (f s b : ℕ)
+    → (goes w f s l × (drops w l held f s b ≡ None)) ⊎ ((goes w f s l → ⊥) × (drops w l held f s b ≡ held f s b))
+drop_one w l held f s b =
     let after : FileHolders = on_file held l.file (λ h. dropped h l.number) in
-    elim (cases_eq l.opened n) [
-      | inr other ↦ inr (λ g. other g.0, ap (λ (v : Bool). (cond v after held) f s b) (ne_eqb l.opened n other))
-      | inl under ↦ (let first : drops n l held f s b ≡ after f s b = ap (λ (v : Bool). (cond v after held) f s b) (eq-eqb l.opened n under) in
+    elim (cases_Bool (leaves w l)) [
+      | inr other ↦ inr (λ g. absurd (false≢true (sym other ∙ g.0)), ap (λ (v : Bool). (cond v after held) f s b) other)
+      | inl under ↦ (let first : drops w l held f s b ≡ after f s b = ap (λ (v : Bool). (cond v after held) f s b) under in
           elim (cases_eq f l.file) [
             | inr other ↦ inr (λ g. other (sym g.1), first ∙ ap (λ (h : Holders). h s b) (file_other held l.file (λ h. dropped h l.number) f other))
             | inl here ↦ (let there : after f s b ≡ dropped (held l.file) l.number s b = ap (λ (h : Holders). h s b)
@@ -93,41 +94,47 @@ drop_one n l held f s b =
           ])
     ]
 
-without_none : (n : ℕ) (locks : List LockState) (held : FileHolders) (f s b : ℕ) → held f s b ≡ None → held_without n locks held f s b ≡ None
-without_none n [] held f s b e = e
-without_none n (l ∷ locks) held f s b e =
-    without_none n locks (drops n l held) f s b (elim (drop_one n l held f s b) [ inl gone ↦ gone.1 | inr same ↦ same.1 ∙ e ])
+without_none : (w : Leaving) (locks : List LockState) (held : FileHolders) (f s b : ℕ) → held f s b ≡ None → held_without w locks held f s b ≡ None
+without_none w [] held f s b e = e
+without_none w (l ∷ locks) held f s b e =
+    without_none w locks (drops w l held) f s b (elim (drop_one w l held f s b) [ inl gone ↦ gone.1 | inr same ↦ same.1 ∙ e ])
 
-without_gone : (n : ℕ) (locks : List LockState) (held : FileHolders) (f s b : ℕ) (k : LockState) → In k locks → goes n f s k
-    → held_without n locks held f s b ≡ None
-without_gone n [] held f s b k there g = absurd there
-without_gone n (l ∷ locks) held f s b k (inl is) g =
-    without_none n locks (drops n l held) f s b (elim (drop_one n l held f s b) [ inl gone ↦ gone.1 | inr same ↦ absurd (same.0 (subst (goes n f s) is g)) ])
-without_gone n (l ∷ locks) held f s b k (inr more) g = without_gone n locks (drops n l held) f s b k more g
+without_gone : (w : Leaving) (locks : List LockState) (held : FileHolders) (f s b : ℕ) (k : LockState) → In k locks → goes w f s k
+    → held_without w locks held f s b ≡ None
+without_gone w [] held f s b k there g = absurd there
+without_gone w (l ∷ locks) held f s b k (inl is) g =
+    without_none w locks (drops w l held) f s b (elim (drop_one w l held f s b) [ inl gone ↦ gone.1 | inr same ↦ absurd (same.0 (subst (goes w f s) is g)) ])
+without_gone w (l ∷ locks) held f s b k (inr more) g = without_gone w locks (drops w l held) f s b k more g
 
-without_kept : (n : ℕ) (locks : List LockState) (held : FileHolders) (f s b : ℕ) → ((k : LockState) → In k locks → goes n f s k → ⊥)
-    → held_without n locks held f s b ≡ held f s b
-without_kept n [] held f s b none = refl
-without_kept n (l ∷ locks) held f s b none =
-    without_kept n locks (drops n l held) f s b (λ k more. none k (inr more))
-    ∙ elim (drop_one n l held f s b) [ inl gone ↦ absurd (none l (inl refl) gone.0) | inr same ↦ same.1 ]
+without_kept : (w : Leaving) (locks : List LockState) (held : FileHolders) (f s b : ℕ) → ((k : LockState) → In k locks → goes w f s k → ⊥)
+    → held_without w locks held f s b ≡ held f s b
+without_kept w [] held f s b none = refl
+without_kept w (l ∷ locks) held f s b none =
+    without_kept w locks (drops w l held) f s b (λ k more. none k (inr more))
+    ∙ elim (drop_one w l held f s b) [ inl gone ↦ absurd (none l (inl refl) gone.0) | inr same ↦ same.1 ]
+
+-- where none leaves, nothing changes
+pub without_any : (w : Leaving) (locks : List LockState) (held : FileHolders) → list_any (leaves w) locks ≡ false → held_without w locks held ≡ held
+without_any w locks held none = fun_ext (λ f. fun_ext (λ s. fun_ext (λ b.
+    without_kept w locks held f s b (λ k there g. absurd (false≢true (sym (none_any (leaves w) locks k none there) ∙ g.0))))))
 
 pub some_or_none : (o : Option Kind) → (o ≢ None) ⊎ (o ≡ None)
 some_or_none None = inr refl
 some_or_none (Some k) = inl (λ e. absurd cc)
 
 -- of the bytes of a table, those go whose lock state goes
-pub without_is_within : (t : Table) (n : ℕ) → IsTable t → held_without n t.locks t.held ≡ held_within (filter (not_under n) t.locks) t.held
-without_is_within t n is = fun_ext (λ f. fun_ext (λ s. fun_ext (λ b. elim (some_or_none (t.held f s b)) [
-  | inr none ↦ without_none n t.locks t.held f s b none ∙ sym (within _ _ none)
-  | inl some ↦ (let (l, holder) = is.holders f s b some in elim (cases_eq l.opened n) [
-    | inl under ↦ without_gone n t.locks t.held f s b l holder.stands (under, holder.file, holder.number)
+pub without_is_within : (t : Table) (w : Leaving) → IsTable t → held_without w t.locks t.held ≡ held_within (filter (λ l. not (leaves w l)) t.locks) t.held
+without_is_within t w is = fun_ext (λ f. fun_ext (λ s. fun_ext (λ b. elim (some_or_none (t.held f s b)) [
+  | inr none ↦ without_none w t.locks t.held f s b none ∙ sym (within _ _ none)
+  | inl some ↦ (let (l, holder) = is.holders f s b some in elim (cases_Bool (leaves w l)) [
+    | inl under ↦ without_gone w t.locks t.held f s b l holder.stands (under, holder.file, holder.number)
         ∙ sym (ap (λ (v : Bool). cond v (t.held f s b) None) (left_out f s l holder under))
-    | inr other ↦ without_kept n t.locks t.held f s b
-        (λ k there g. other (ap (λ (l : LockState). l.opened) (sym (same k l there holder.stands (g.2 ∙ sym holder.number))) ∙ g.0))
+    | inr other ↦ without_kept w t.locks t.held f s b
+        (λ k there g. absurd (false≢true (sym other
+        ∙ (ap (leaves w) (sym (same k l there holder.stands (g.2 ∙ sym holder.number))) ∙ g.0))))
         ∙ sym (ap (λ (v : Bool). cond v (t.held f s b) None)
-        (any_in (λ (l : LockState). l.number == s) (filter (not_under n) t.locks) l
-        (stays_in (not_under n) t.locks l holder.stands (ap not (ne_eqb l.opened n other))) (eq-eqb l.number s holder.number)))
+        (any_in (λ (l : LockState). l.number == s) (filter (λ l. not (leaves w l)) t.locks) l
+        (stays_in (λ (l : LockState). not (leaves w l)) t.locks l holder.stands (ap not other)) (eq-eqb l.number s holder.number)))
   ])
 ])))
   where
@@ -138,14 +145,14 @@ without_is_within t n is = fun_ext (λ f. fun_ext (λ s. fun_ext (λ b. elim (so
     same : (k l : LockState) → In k t.locks → In l t.locks → k.number ≡ l.number → k ≡ l
     same k l a b e = in_once (λ (l : LockState). l.number) 1 (suc t.last) t.locks k l is.locks a b e
 
-    left_out : (f s : ℕ) (l : LockState) → IsHolder t.locks f s l → l.opened ≡ n → stands (filter (not_under n) t.locks) s ≡ false
-    left_out f s l holder under = elim (cases_Bool (stands (filter (not_under n) t.locks) s)) [
+    left_out : (f s : ℕ) (l : LockState) → IsHolder t.locks f s l → leaves w l ≡ true → stands (filter (λ l. not (leaves w l)) t.locks) s ≡ false
+    left_out f s l holder under = elim (cases_Bool (stands (filter (λ l. not (leaves w l)) t.locks) s)) [
       | inr never ↦ never
       | inl stood ↦
-          (let (k, in_k, k_is) = in_any (λ (l : LockState). l.number == s) (filter (not_under n) t.locks) stood in
-          let was = in_filter (not_under n) t.locks k in_k in
+          (let (k, in_k, k_is) = in_any (λ (l : LockState). l.number == s) (filter (λ l. not (leaves w l)) t.locks) stood in
+          let was = in_filter (λ (l : LockState). not (leaves w l)) t.locks k in_k in
           let is_l : k ≡ l = same k l was.0 holder.stands (eqb-true _ _ k_is ∙ sym holder.number) in
-          absurd (false≢true (sym (ap not (eq-eqb k.opened n (ap (λ (l : LockState). l.opened) is_l ∙ under))) ∙ was.1)))
+          absurd (false≢true (sym (ap not (ap (leaves w) is_l ∙ under)) ∙ was.1)))
     ]
 
 -- a file on which no lock state stands has no holders
@@ -251,19 +258,22 @@ same_table opens opens' locks locks' held held' last instance o l h =
     let C : FileHolders → Table = λ x. record { opens = opens'; locks = locks'; held = x; last = last; instance = instance } in
     ap A o ∙ (ap B l ∙ ap C h)
 
--- what is left when an open goes
-pub left_held : (t : Table) (n : ℕ) (before : List LockState) (held : FileHolders) → IsTable t → before ≡ t.locks → held ≡ held_without n before t.held
-    → held ≡ held_within (filter (not_under n) t.locks) t.held
-left_held t n before held is b h = h ∙ (ap (λ (ls : List LockState). held_without n ls t.held) b ∙ without_is_within t n is)
+-- what is left when lock states leave
+pub left_held : (t : Table) (w : Leaving) (held : FileHolders) → IsTable t → held ≡ held_without w t.locks t.held
+    → held ≡ held_within (filter (λ l. not (leaves w l)) t.locks) t.held
+left_held t w held is h = h ∙ without_is_within t w is
 
-pub left_holders : (t : Table) (n : ℕ) (before after : List LockState) (held : FileHolders) → IsTable t → before ≡ t.locks
-    → after ≡ filter (not_under n) t.locks → held ≡ held_without n before t.held → AreHolders after held
-left_holders t n before after held is b a h =
+pub left_holders : (t : Table) (w : Leaving) (after : List LockState) (held : FileHolders) → IsTable t
+    → after ≡ filter (λ l. not (leaves w l)) t.locks → held ≡ held_without w t.locks t.held → AreHolders after held
+left_holders t w after held is a h =
     subst (λ (ls : List LockState). AreHolders ls held) (sym a)
-    (subst (λ (k : FileHolders). AreHolders (filter (not_under n) t.locks) k) (sym (left_held t n before held is b h)) (holders_left t (not_under n) is))
+    (subst (λ (k : FileHolders). AreHolders (filter (λ l. not (leaves w l)) t.locks) k) (sym (left_held t w held is h)) (holders_left t (λ l. not (leaves w l)) is))
+
+pub fewer_left : {X : Type 0} (p : X → Bool) (xs ys : List X) (room more : ℕ) → ys ≡ filter p xs → more ≡ room → length xs < room → length ys < more
+fewer_left p xs ys room more e same lt = let less = length_filter p xs in let is : length ys ≡ length (filter p xs) = ap length e in omega arith
 
 pub fewer_opens : (p : OpenState → Bool) (xs ys : List OpenState) (room more : ℕ) → ys ≡ filter p xs → more ≡ room → length xs < room → length ys < more
-fewer_opens p xs ys room more e same lt = let less = length_filter p xs in let is : length ys ≡ length (filter p xs) = ap length e in omega arith
+fewer_opens = fewer_left
 
 pub as_many : (f : OpenState → OpenState) (xs ys : List OpenState) (room more : ℕ) → ys ≡ map f xs → more ≡ room → length xs < room → length ys < more
 as_many f xs ys room more e same lt = let is : length ys ≡ length xs = ap length e ∙ length-map xs f in omega arith

@@ -7,6 +7,8 @@ use Rattle.nfs_ranges.specs.Holders.{holds_any, dropped}
 use Rattle.nfs_opens.specs.declared.stateid.StateId.{StateId}
 use Rattle.nfs_opens.specs.declared.records.OpenState.{OpenState}
 use Rattle.nfs_opens.specs.declared.records.LockState.{LockState}
+use Rattle.nfs_opens.specs.declared.closing.Leaving.{Leaving}
+use Rattle.nfs_opens.specs.declared.closing.Leaving.TheVariants.{Under, Of}
 use Rattle.nfs_opens.specs.declared.judging.Seat.{Seat}
 use Rattle.nfs_opens.specs.declared.judging.Seat.TheVariants.{Anonymous, ReadBypass, Open, Lock}
 use Rattle.nfs_opens.specs.declared.judging.Sort.TheVariants.{OpenOnly, Either}
@@ -21,10 +23,15 @@ stands locks s = list_any (λ l. l.number == s) locks
 abbrev pub held_within : List LockState → FileHolders → FileHolders
 held_within locks held f s b = if stands locks s then held f s b else None
 
--- one lock state after the other, of those under an open, gives up its bytes
-abbrev pub held_without : ℕ → List LockState → FileHolders → FileHolders
-held_without n [] held = held
-held_without n (l ∷ locks) held = held_without n locks (if l.opened == n then on_file held l.file (λ h. dropped h l.number) else held)
+-- which lock states leave: those under an open, or a client's
+abbrev pub leaves : Leaving → LockState → Bool
+leaves (Under n) l = l.opened == n
+leaves (Of client) l = l.client == client
+
+-- one lock state after the other, of those that leave, gives up its bytes
+abbrev pub held_without : Leaving → List LockState → FileHolders → FileHolders
+held_without w [] held = held
+held_without w (l ∷ locks) held = held_without w locks (if leaves w l then on_file held l.file (λ h. dropped h l.number) else held)
 
 -- an open goes, with its lock states and their bytes
 abbrev pub not_under : ℕ → LockState → Bool
@@ -35,6 +42,14 @@ without_open t n = record t {
   opens = filter (λ o. not (o.number == n)) t.opens;
   locks = filter (not_under n) t.locks;
   held = held_within (filter (not_under n) t.locks) t.held;
+}
+
+-- a client ends: its opens go, with its lock states and their bytes
+abbrev pub without_client : Table → ℕ → Table
+without_client t client = record t {
+  opens = filter (λ o. not (o.client == client)) t.opens;
+  locks = filter (λ l. not (l.client == client)) t.locks;
+  held = held_within (filter (λ l. not (l.client == client)) t.locks) t.held;
 }
 
 abbrev pub close_by : Table → ℕ → Result Seat Status → Did (Unit {0}) Status

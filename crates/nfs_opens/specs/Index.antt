@@ -1,5 +1,6 @@
 -- Which states belong to what: each stands in an index as a pair of what it belongs to, a file (RFC 8881 section 9.7) or a client (section 8.3), and its number.
-use Rattle.std.specs.Prelude.{◌≡◌, ◌≢◌, ◌⊎◌, ℕ, ◌<◌, ◌≤◌, ◌==◌, nat_lt, ◌&&◌, ◌||◌, Bool, true, length, List, [], ◌∷◌, Option, Some, None}
+use Rattle.std.specs.Prelude.{◌≡◌, ◌≢◌, ◌⊎◌, ℕ, ◌<◌, ◌≤◌, ◌==◌, nat_lt, ◌&&◌, ◌||◌, Bool, true, false, length, List, [], ◌∷◌, Option, Some, None, find}
+use Rattle.std.specs.Option.{option_map_or}
 use Rattle.nfs_xdr.specs.Tables.{In}
 use Rattle.nfs_opens.specs.declared.index.Pair.{Pair}
 use Rattle.nfs_opens.specs.Table.{Kept, IsTable, table}
@@ -40,9 +41,17 @@ pub record IsIndex {X : Type 0} (of number : X → ℕ) (states : List X) (ps : 
   pub each : (x : X) → In x states → In (record { of = of x; number = number x }) ps
   pub only : (p : Pair) → In p ps → (x : X) × In x states × (of x ≡ p.of) × (number x ≡ p.number)
 
--- What holds of all that is kept, and of the pairs that index the opens by their files; capacity is how many opens there is room for, places how many pairs.
-pub record IsKept (k : Kept) (capacity : ℕ) (pairs : List Pair) (places : ℕ) : Type 0 where
+-- the state of a number is one of those that a test marks
+abbrev pub marked : {X : Type 0} → (X → ℕ) → (X → Bool) → List X → ℕ → Bool
+marked number test states n = option_map_or test (find (λ x. number x == n) states) false
+
+-- What holds of all that is kept, and of the pairs that index the opens by their files and by their clients, and the lock states by their files; capacity is how
+-- many opens there is room for, places and seats how many pairs of opens.
+pub record IsKept (k : Kept) (capacity : ℕ) (pairs : List Pair) (places : ℕ) (owned : List Pair) (seats : ℕ) (locked : List Pair) : Type 0 where
   pub table : IsTable (table k)
   pub room : k.ready ≡ true → length k.opens < capacity
   pub by_file : IsIndex (λ o. o.file) (λ o. o.number) k.opens pairs
   pub place : k.ready ≡ true → length pairs < places
+  pub by_client : IsIndex (λ o. o.client) (λ o. o.number) k.opens owned
+  pub seat : k.ready ≡ true → length owned < seats
+  pub locks : IsIndex (λ l. l.file) (λ l. l.number) k.locks locked

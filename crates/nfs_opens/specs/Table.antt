@@ -1,5 +1,5 @@
 -- Opens, lock states and locked bytes (RFC 8881 sections 8.2, 9.1 and 9.7).
-use Rattle.std.specs.Prelude.{◌≡◌, ◌≢◌, ℕ, ◌==◌, suc, Bool, true, false, not, ◌&&◌, ◌||◌, List, [], Option, None, Result, find}
+use Rattle.std.specs.Prelude.{◌≡◌, ◌≢◌, ℕ, ◌==◌, suc, Bool, false, not, ◌&&◌, ◌||◌, List, [], Option, None, Result, find}
 use Rattle.std.specs.Prelude.{map, bytes_eq, if◌then◌else◌}
 use Rattle.nfs_xdr.specs.Tables.{IsRising, In}
 use Rattle.nfs_ranges.specs.Told.{IsBelow}

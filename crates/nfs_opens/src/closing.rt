@@ -1,20 +1,41 @@
 //! CLOSE, the end of a client, and FREE_STATEID (RFC 8881 sections 18.2, 8.4.2 and 18.38).
 
-ghost use Rattle.std.specs.Prelude.{◌≡◌, ◌≤◌, ◌==◌, not, filter, find, length, vec_capacity};
-ghost use Rattle.std.specs.Option.{option_copied};
+ghost use Rattle.std.specs.Prelude.{◌≡◌, ◌≤◌, ◌==◌, ◌&&◌, false, not, filter, find, length, vec_capacity};
 ghost use Rattle.std.specs.List.{list_any};
-ghost use Rattle.nfs_opens.specs.Holding.{held_by, on_file};
-ghost use Rattle.nfs_opens.specs.Table.{table, lock_at, AreHolders, Rises};
-ghost use Rattle.nfs_opens.specs.Index.{IsIndex};
-ghost use Rattle.nfs_opens.specs.Closing.{not_under, without_open, close, drop_client, without_lock, free_lock, free, held_without};
+ghost use Rattle.nfs_opens.specs.Holding.{held_by};
+ghost use Rattle.nfs_opens.specs.Table.{table, lock_at, AreHolders, IsTable, Rises};
+ghost use Rattle.nfs_opens.specs.Index.{IsIndex, marked};
+ghost use Rattle.nfs_opens.specs.Closing.{leaves, without_open, without_client, close, drop_client, free_lock, free, held_without};
 
 use crate::index::{Pair, take};
 use crate::judging::{Seat, Sort};
 use crate::locked_files::LockedFiles;
 use crate::opens::Opens;
-use crate::records::{LockState, OpenState, lock_in, open_in, place_of_lock, place_of_open};
+use crate::records::{
+    LockState, OpenState, is_locked, lock_in, open_in, place_of_lock, place_of_open,
+};
 use crate::stateid::StateId;
 use nfs_xdr::Status;
+
+/// Which lock states leave.
+#[derive(Clone, Copy)]
+enum Leaving {
+    /// Those under an open.
+    Under(u64),
+    /// A client's.
+    Of(u64),
+}
+
+impl Leaving {
+    fn takes(self, lock: &LockState) -> bool
+        ensures { result ≡ leaves self lock.now }
+    {
+        match self {
+            Leaving::Under(opened) => lock.opened == opened,
+            Leaving::Of(client) => lock.client == client,
+        }
+    }
+}
 
 fn drop_open(opens: &mut Vec<OpenState>, number: u64)
     requires { Rises (λ o. o.number) 1 opens.old.items }
@@ -45,10 +66,40 @@ fn drop_pair(by_file: &mut Vec<Pair>, opens: &[OpenState], number: u64)
     }
 }
 
-fn drop_locks(locks: &mut Vec<LockState>, opened: u64)
-    ensures { locks.new.items ≡ filter (not_under opened) locks.old.items }
+/// An open no longer stands among those of its client.
+fn drop_own_pair(by_client: &mut Vec<Pair>, opens: &[OpenState], number: u64)
+    requires rises { Rises (λ o. o.number) 1 opens.now }
+    requires index { IsIndex (λ o. o.client) (λ o. o.number) opens.now by_client.old.items }
+    ensures index { IsIndex (λ o. o.client) (λ o. o.number) (filter (λ o. not (o.number == number)) opens.now) by_client.new.items }
+    ensures room { vec_capacity by_client.new ≡ vec_capacity by_client.old }
+    ensures fewer { length by_client.new.items ≤ length by_client.old.items }
 {
-    locks.retain(|l| l.opened != opened);
+    if let Some(open) = open_in(opens, number) {
+        take(
+            by_client,
+            Pair {
+                of: open.client,
+                number,
+            },
+        );
+    }
+}
+
+/// A lock state no longer stands among those of its file.
+fn drop_lock_pair(by_file: &mut Vec<Pair>, locks: &[LockState], number: u64)
+    requires rises { Rises (λ l. l.number) 1 locks.now }
+    requires index { IsIndex (λ l. l.file) (λ l. l.number) locks.now by_file.old.items }
+    ensures { IsIndex (λ l. l.file) (λ l. l.number) (filter (λ l. not (l.number == number)) locks.now) by_file.new.items }
+{
+    if let Some(lock) = lock_in(locks, number) {
+        take(
+            by_file,
+            Pair {
+                of: lock.file,
+                number,
+            },
+        );
+    }
 }
 
 fn drop_lock(locks: &mut Vec<LockState>, number: u64)
@@ -60,38 +111,107 @@ fn drop_lock(locks: &mut Vec<LockState>, number: u64)
     }
 }
 
-/// The first open of a client.
-fn open_of(opens: &[OpenState], client: u64) -> Option<&OpenState>
-    ensures { option_copied result ≡ find (λ o. o.client == client) opens.now }
+fn is_leaving(locks: &[LockState], number: u64, leaving: Leaving) -> bool
+    requires { Rises (λ l. l.number) 1 locks.now }
+    ensures { result ≡ marked (λ l. l.number) (leaves leaving) locks.now number }
 {
-    opens.iter().find(|o| o.client == client)
+    match lock_in(locks, number) {
+        Some(lock) => leaving.takes(lock),
+        None => false,
+    }
 }
 
-fn is_locked(locks: &[LockState], file: u64) -> bool
-    ensures { result ≡ list_any (λ l. l.file == file) locks.now }
+fn is_clients(opens: &[OpenState], number: u64, client: u64) -> bool
+    requires { Rises (λ o. o.number) 1 opens.now }
+    ensures { result ≡ marked (λ o. o.number) (λ o. o.client == client) opens.now number }
 {
-    locks.iter().any(|l| l.file == file)
+    match open_in(opens, number) {
+        Some(open) => open.client == client,
+        None => false,
+    }
 }
 
-/// The lock states under an open hold no bytes from now on.
-fn drop_bytes(files: &mut LockedFiles, locks: &[LockState], opened: u64)
-    ensures { held_by files.new ≡ held_without opened locks.now (held_by files.old) }
+/// The lock states that leave hold no bytes from now on.
+fn drop_bytes(files: &mut LockedFiles, locks: &[LockState], leaving: Leaving)
+    ensures { held_by files.new ≡ held_without leaving locks.now (held_by files.old) }
 {
     for lock in locks {
-        if lock.opened == opened {
+        if leaving.takes(lock) {
             files.drop_state(lock.file, lock.number);
         }
     }
 }
 
+fn drop_lock_pairs(by_file: &mut Vec<Pair>, locks: &[LockState], leaving: Leaving)
+    requires { Rises (λ l. l.number) 1 locks.now }
+    ensures { by_file.new.items ≡ filter (λ p. not (marked (λ l. l.number) (leaves leaving) locks.now p.number)) by_file.old.items }
+{
+    by_file.retain(|p| !is_leaving(locks, p.number, leaving));
+}
+
+fn drop_locks(locks: &mut Vec<LockState>, leaving: Leaving)
+    ensures { locks.new.items ≡ filter (λ l. not (leaves leaving l)) locks.old.items }
+{
+    locks.retain(|l| !leaving.takes(l));
+}
+
+/// The lock states that leave go, with the bytes that they hold. `any`: whether one may leave.
+fn leave(
+    files: &mut LockedFiles,
+    locks: &mut Vec<LockState>,
+    by_file: &mut Vec<Pair>,
+    leaving: Leaving,
+    any: bool,
+)
+    requires rises { Rises (λ l. l.number) 1 locks.old.items }
+    requires index { IsIndex (λ l. l.file) (λ l. l.number) locks.old.items by_file.old.items }
+    requires any { any ≡ false → list_any (leaves leaving) locks.old.items ≡ false }
+    ensures held { held_by files.new ≡ held_without leaving locks.old.items (held_by files.old) }
+    ensures locks { locks.new.items ≡ filter (λ l. not (leaves leaving l)) locks.old.items }
+    ensures index { IsIndex (λ l. l.file) (λ l. l.number) (filter (λ l. not (leaves leaving l)) locks.old.items) by_file.new.items }
+{
+    if !any {
+        return;
+    }
+    drop_bytes(files, locks, leaving);
+    drop_lock_pairs(by_file, locks, leaving);
+    drop_locks(locks, leaving);
+}
+
 /// A file on which no lock state stands is no longer listed.
-fn forget_unlocked(files: &mut LockedFiles, locks: &[LockState], file: u64)
-    requires { AreHolders locks.now (held_by files.old) }
+fn forget_unlocked(files: &mut LockedFiles, locks: &[LockState], by_file: &[Pair], file: u64)
+    requires rises { Rises (λ l. l.number) 1 locks.now }
+    requires index { IsIndex (λ l. l.file) (λ l. l.number) locks.now by_file.now }
+    requires holders { AreHolders locks.now (held_by files.old) }
     ensures { held_by files.new ≡ held_by files.old }
 {
-    if !is_locked(locks, file) {
+    if !is_locked(locks, by_file, file) {
         files.forget(file);
     }
+}
+
+/// The pairs of a client's opens go.
+fn drop_pairs(by_file: &mut Vec<Pair>, opens: &[OpenState], client: u64)
+    requires { Rises (λ o. o.number) 1 opens.now }
+    ensures items { by_file.new.items ≡ filter (λ p. not (marked (λ o. o.number) (λ o. o.client == client) opens.now p.number)) by_file.old.items }
+    ensures room { vec_capacity by_file.new ≡ vec_capacity by_file.old }
+{
+    by_file.retain(|p| !is_clients(opens, p.number, client));
+}
+
+/// The pairs of a client go.
+fn drop_own_pairs(by_client: &mut Vec<Pair>, client: u64)
+    ensures items { by_client.new.items ≡ filter (λ p. not (p.of == client)) by_client.old.items }
+    ensures room { vec_capacity by_client.new ≡ vec_capacity by_client.old }
+{
+    by_client.retain(|p| p.of != client);
+}
+
+fn drop_opens(opens: &mut Vec<OpenState>, client: u64)
+    ensures items { opens.new.items ≡ filter (λ o. not (o.client == client)) opens.old.items }
+    ensures room { vec_capacity opens.new ≡ vec_capacity opens.old }
+{
+    opens.retain(|o| o.client != client);
 }
 
 impl Opens {
@@ -115,7 +235,7 @@ impl Opens {
         ensures after { table self.new ≡ (drop_client (table self.old) client).after }
         ensures room { self.new.ready ≡ self.old.ready }
     {
-        match open_of(&self.opens, client) {
+        match self.first_of(client) {
             Some(open) => {
                 let (number, file) = (open.number, open.file);
                 self.remove_open(number, file);
@@ -125,16 +245,67 @@ impl Opens {
         }
     }
 
+    /// What a client leaves goes in one pass: its opens, with its lock states and the bytes that they hold.
+    pub fn end_client(&mut self, client: u64)
+        ensures after { table self.new ≡ without_client (table self.old) client }
+        ensures room { self.new.ready ≡ self.old.ready }
+    {
+        leave(
+            &mut self.files,
+            &mut self.locks,
+            &mut self.locks_by_file,
+            Leaving::Of(client),
+            true,
+        );
+        drop_pairs(&mut self.by_file, &self.opens, client);
+        drop_own_pairs(&mut self.by_client, client);
+        drop_opens(&mut self.opens, client);
+        self.files.keep_locked(&self.locks, &self.locks_by_file);
+    }
+
     /// `file`: the open's.
     fn remove_open(&mut self, number: u64, file: u64)
         ensures after { table self.new ≡ without_open (table self.old) number }
         ensures room { self.new.ready ≡ self.old.ready }
     {
-        drop_bytes(&mut self.files, &self.locks, number);
-        drop_locks(&mut self.locks, number);
+        let any = self.has_lock_under(number);
+        leave(
+            &mut self.files,
+            &mut self.locks,
+            &mut self.locks_by_file,
+            Leaving::Under(number),
+            any,
+        );
         drop_pair(&mut self.by_file, &self.opens, number);
+        drop_own_pair(&mut self.by_client, &self.opens, number);
         drop_open(&mut self.opens, number);
-        forget_unlocked(&mut self.files, &self.locks, file);
+        forget_unlocked(&mut self.files, &self.locks, &self.locks_by_file, file);
+    }
+
+    /// Whether a lock state stands under an open.
+    fn has_lock_under(&self, number: u64) -> bool
+        ensures { result ≡ list_any (λ l. l.opened == number) (table self.now).locks }
+    {
+        match open_in(&self.opens, number) {
+            Some(open) => self.has_lock(open.file, number),
+            None => false,
+        }
+    }
+
+    /// Whether one of the lock states on a file stands under an open.
+    fn has_lock(&self, file: u64, number: u64) -> bool
+        ensures found { result ≡ list_any (λ l. (l.file == file) && (l.opened == number)) (table self.now).locks }
+        ensures kept { IsTable (table self.now) }
+    {
+        self.kept();
+        let mut after = 0;
+        while let Some(lock) = self.next_lock(file, after) {
+            if lock.is_under(number) {
+                return true;
+            }
+            after = lock.number;
+        }
+        false
     }
 
     /// FREE_STATEID: a lock state that holds no byte goes.
@@ -165,8 +336,9 @@ impl Opens {
         if self.files.any(file, number) {
             return Err(Status::LocksHeld);
         }
+        drop_lock_pair(&mut self.locks_by_file, &self.locks, number);
         drop_lock(&mut self.locks, number);
-        forget_unlocked(&mut self.files, &self.locks, file);
+        forget_unlocked(&mut self.files, &self.locks, &self.locks_by_file, file);
         Ok(())
     }
 }

@@ -3,8 +3,13 @@
 ghost use Rattle.std.specs.Prelude.{◌≡◌, ◌≤◌, ◌==◌, OnOk, OnErr, IfOk, not, filter, position, []};
 ghost use Rattle.nfs_ranges.specs.Holders.{at, holding, cleared, dropped, holds_any, nobody};
 ghost use Rattle.nfs_ranges.specs.Told.{Tells};
+ghost use Rattle.std.specs.List.{list_any};
 ghost use Rattle.nfs_opens.specs.Holding.{held_by, on_file};
+ghost use Rattle.nfs_opens.specs.Index.{IsIndex};
+ghost use Rattle.nfs_opens.specs.Table.{AreHolders, Rises};
 
+use crate::index::Pair;
+use crate::records::{LockState, is_locked};
 use nfs_ranges::{Held, Kind, Ranges};
 use std::alloc::{AllocError, Global};
 use std::marker::Model;
@@ -41,6 +46,15 @@ fn drop_file(files: &mut Vec<LockedFile>, file: u64)
     ensures { files.new.items ≡ filter (λ e. not (e.file == file)) files.old.items }
 {
     files.retain(|e| e.file != file);
+}
+
+/// The files go on which no lock state stands; `pairs`: the lock states by their files.
+fn drop_unlocked(files: &mut Vec<LockedFile>, locks: &[LockState], pairs: &[Pair])
+    requires rises { Rises (λ l. l.number) 1 locks.now }
+    requires index { IsIndex (λ l. l.file) (λ l. l.number) locks.now pairs.now }
+    ensures { files.new.items ≡ filter (λ e. list_any (λ l. l.file == e.file) locks.now) files.old.items }
+{
+    files.retain(|e| is_locked(locks, pairs, e.file));
 }
 
 /// The bytes of a new file, of which a lock state holds some.
@@ -151,6 +165,16 @@ impl LockedFiles {
         if let Some(place) = place_of(&self.files, file) {
             self.files[place].ranges.drop_owner(state);
         }
+    }
+
+    /// Files on which no lock state stands are no longer listed; `pairs`: the lock states by their files.
+    pub(crate) fn keep_locked(&mut self, locks: &[LockState], pairs: &[Pair])
+        requires rises { Rises (λ l. l.number) 1 locks.now }
+        requires index { IsIndex (λ l. l.file) (λ l. l.number) locks.now pairs.now }
+        requires holders { AreHolders locks.now (held_by self.old) }
+        ensures { held_by self.new ≡ held_by self.old }
+    {
+        drop_unlocked(&mut self.files, locks, pairs);
     }
 
     /// Nobody holds a byte of a file.

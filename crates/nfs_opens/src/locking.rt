@@ -1,13 +1,14 @@
 //! LOCK, LOCKT and LOCKU (RFC 8881 sections 18.10 to 18.12).
 
-ghost use Rattle.std.specs.Prelude.{◌≡◌, ◌≤◌, IfSome, IsSomeAnd, IsTrue, OnOk, OnErr, not, find};
+ghost use Rattle.std.specs.Prelude.{◌≡◌, ◌≤◌, IfSome, IsSomeAnd, IsTrue, OnOk, OnErr, not};
 ghost use Rattle.std.specs.Option.{option_copied};
 ghost use Rattle.nfs_opens.specs.declared.locking.OpenFault.TheVariants.{Refused, Memory};
 ghost use Rattle.nfs_ranges.specs.Holders.{cleared};
 ghost use Rattle.nfs_opens.specs.Holding.{held_by, on_file, HasNoByteBehind};
-ghost use Rattle.nfs_opens.specs.Table.{table, open_at, lock_at};
-ghost use Rattle.nfs_opens.specs.Locking.{LocksOrWants, UnlocksOrWants, lock, lock_as, lock_first, lock_judged, unlock, test_lock, clash, permits, access_in, is_locker, is_whole};
+ghost use Rattle.nfs_opens.specs.Table.{IsTable, table, open_at, lock_at};
+ghost use Rattle.nfs_opens.specs.Locking.{LocksOrWants, UnlocksOrWants, lock, lock_as, lock_first, lock_judged, unlock, test_lock, clash, permits, access_in, state_of, is_whole};
 
+use crate::index::{Pair, put};
 use crate::judging::{Seat, Sort};
 use crate::locked_files::LockedFiles;
 use crate::opens::Opens;
@@ -93,23 +94,6 @@ fn access_in(seat: Seat) -> Share
     }
 }
 
-/// The lock state that a lock owner has on a file.
-fn locker_in<'a>(
-    locks: &'a [LockState],
-    client: u64,
-    owner: &[u8],
-    file: u64,
-) -> Option<&'a LockState>
-    ensures { option_copied result ≡ find (is_locker client owner.now file) locks.now }
-{
-    for lock in locks {
-        if lock.is_lockers(client, owner, file) {
-            return Some(lock);
-        }
-    }
-    None
-}
-
 /// A lock state gives up bytes of a file; those of a whole file without memory.
 fn clear_bytes(
     files: &mut LockedFiles,
@@ -141,11 +125,27 @@ impl Opens {
         requires { wish.now.first ≤ wish.now.last }
         ensures { result ≡ test_lock (table self.now) owner.now wish.now }
     {
-        let state = match locker_in(&self.locks, wish.client, owner, wish.file) {
+        let state = match self.locker(wish.client, owner, wish.file) {
             Some(lock) => lock.number,
             None => 0,
         };
         self.clash(state, wish)
+    }
+
+    /// The lock state that a lock owner has on a file.
+    fn locker(&self, client: u64, owner: &[u8], file: u64) -> Option<&LockState>
+        ensures found { option_copied result ≡ state_of (table self.now) client owner.now file }
+        ensures kept { IsTable (table self.now) }
+    {
+        self.kept();
+        let mut after = 0;
+        while let Some(lock) = self.next_lock(file, after) {
+            if lock.is_lockers(client, owner, file) {
+                return Some(lock);
+            }
+            after = lock.number;
+        }
+        None
     }
 
     fn clash(&self, state: u64, wish: &Wish) -> Option<Held>
@@ -175,7 +175,7 @@ impl Opens {
         match *locker {
             Locker::New { under, owner } => {
                 let seat = self.judge(under, wish.client, Some(wish.file), Sort::OpenOnly)?;
-                match locker_in(&self.locks, wish.client, owner, wish.file) {
+                match self.locker(wish.client, owner, wish.file) {
                     Some(lock) => {
                         let number = lock.number;
                         self.lock_as(alloc, number, access_in(seat), wish)
@@ -253,9 +253,17 @@ impl Opens {
         let number = self.last + 1;
         let owner = Owner::of(alloc, owner)?;
         self.locks.reserve(1)?;
+        self.locks_by_file.reserve(1)?;
         self.files
             .set(alloc, wish.file, number, wish.kind, wish.first, wish.last)?;
         self.last = number;
+        put(
+            &mut self.locks_by_file,
+            Pair {
+                of: wish.file,
+                number,
+            },
+        );
         self.locks
             .push(LockState {
                 number,

@@ -104,6 +104,7 @@ impl Opens {
         let owner = Owner::of(alloc, owner)?;
         self.opens.reserve(1)?;
         self.by_file.reserve(1)?;
+        self.by_client.reserve(1)?;
         self.ready = true;
         Ok(Ready { owner })
     }
@@ -136,6 +137,13 @@ impl Opens {
                     &mut self.by_file,
                     Pair {
                         of: ask.file,
+                        number,
+                    },
+                );
+                put(
+                    &mut self.by_client,
+                    Pair {
+                        of: ask.client,
                         number,
                     },
                 );

@@ -1,13 +1,13 @@
 //! The table of all opens, lock states and locked bytes.
 
-ghost use Rattle.std.specs.Prelude.{◌≡◌, ◌==◌, ◌&&◌, count_by, find, nat_lt};
+ghost use Rattle.std.specs.Prelude.{◌≡◌, ◌==◌, ◌&&◌, not, count_by, find, nat_lt};
 ghost use Rattle.std.specs.Option.{option_copied};
 ghost use Rattle.std.specs.List.{list_any};
 ghost use Rattle.nfs_opens.specs.Table.{IsTable, table, no_opens, open_at, lock_at};
 
 use crate::index::{Pair, next_in};
 use crate::locked_files::LockedFiles;
-use crate::records::{LockState, OpenState, lock_in, open_in};
+use crate::records::{LockState, OpenState, lock_in, next_lock_in, open_in};
 use crate::share::Share;
 use std::alloc::Global;
 use std::marker::Model;
@@ -18,7 +18,11 @@ pub struct Opens {
     pub(crate) opens: Vec<OpenState>,
     /// The opens by their files.
     pub(crate) by_file: Vec<Pair>,
+    /// The opens by their clients.
+    pub(crate) by_client: Vec<Pair>,
     pub(crate) locks: Vec<LockState>,
+    /// The lock states by their files.
+    pub(crate) locks_by_file: Vec<Pair>,
     pub(crate) files: LockedFiles,
     /// The last number that was given, to an open or a lock state; 0 before the first.
     pub(crate) last: u64,
@@ -36,7 +40,7 @@ impl Model for Opens {
 
     ghost view = { λ t. record { opens = t.opens.items; locks = t.locks.items; files = t.files; last = t.last; instance = t.instance; ready = t.ready } };
 
-    ghost invariant = { λ t. IsKept (record { opens = t.opens.items; locks = t.locks.items; files = t.files; last = t.last; instance = t.instance; ready = t.ready }) (vec_capacity t.opens) t.by_file.items (vec_capacity t.by_file) };
+    ghost invariant = { λ t. IsKept (record { opens = t.opens.items; locks = t.locks.items; files = t.files; last = t.last; instance = t.instance; ready = t.ready }) (vec_capacity t.opens) t.by_file.items (vec_capacity t.by_file) t.by_client.items (vec_capacity t.by_client) t.locks_by_file.items };
 }
 
 impl Opens {
@@ -48,7 +52,9 @@ impl Opens {
         Opens {
             opens: Vec::new(alloc),
             by_file: Vec::new(alloc),
+            by_client: Vec::new(alloc),
             locks: Vec::new(alloc),
+            locks_by_file: Vec::new(alloc),
             files: LockedFiles::new(alloc),
             last: 0,
             instance,
@@ -82,6 +88,33 @@ impl Opens {
         }
     }
 
+    /// The open of a client with the lowest number behind `after`.
+    pub fn next_of(&self, client: u64, after: u64) -> Option<&OpenState>
+        ensures found { option_copied result ≡ find (λ o. (o.client == client) && nat_lt after o.number) (table self.now).opens }
+        ensures kept { IsTable (table self.now) }
+    {
+        match next_in(&self.by_client, client, after) {
+            Some(number) => open_in(&self.opens, number),
+            None => None,
+        }
+    }
+
+    /// The first open of a client.
+    pub(crate) fn first_of(&self, client: u64) -> Option<&OpenState>
+        ensures found { option_copied result ≡ find (λ o. o.client == client) (table self.now).opens }
+        ensures kept { IsTable (table self.now) }
+    {
+        self.next_of(client, 0)
+    }
+
+    /// The lock state on a file with the lowest number behind `after`.
+    pub(crate) fn next_lock(&self, file: u64, after: u64) -> Option<&LockState>
+        ensures found { option_copied result ≡ find (λ l. (l.file == file) && nat_lt after l.number) (table self.now).locks }
+        ensures kept { IsTable (table self.now) }
+    {
+        next_lock_in(&self.locks, &self.locks_by_file, file, after)
+    }
+
     /// How many opens a file has.
     pub fn opens_of(&self, file: u64) -> usize
         ensures count { result ≡ count_by (λ o. o.file == file) (table self.now).opens }
@@ -94,7 +127,30 @@ impl Opens {
     pub fn is_open(&self, file: u64) -> bool
         ensures { result ≡ list_any (λ o. o.file == file) (table self.now).opens }
     {
-        self.next_open(file, 0).is_some()
+        self.first_on(file).is_some()
+    }
+
+    /// The first open of a file.
+    pub fn first_on(&self, file: u64) -> Option<&OpenState>
+        ensures found { option_copied result ≡ find (λ o. o.file == file) (table self.now).opens }
+        ensures kept { IsTable (table self.now) }
+    {
+        self.next_open(file, 0)
+    }
+
+    /// Whether a client other than this one has a file open.
+    pub fn has_other(&self, file: u64, client: u64) -> bool
+        ensures { result ≡ list_any (λ o. (o.file == file) && not (o.client == client)) (table self.now).opens }
+    {
+        self.kept();
+        let mut after = 0;
+        while let Some(open) = self.next_open(file, after) {
+            if open.is_others(client) {
+                return true;
+            }
+            after = open.number;
+        }
+        false
     }
 
     /// What the opens of a file deny, joined.
@@ -141,6 +197,6 @@ impl Opens {
         ensures found { result ≡ list_any (λ o. o.client == client) (table self.now).opens }
         ensures kept { IsTable (table self.now) }
     {
-        self.opens.iter().any(|o| o.client == client)
+        self.first_of(client).is_some()
     }
 }

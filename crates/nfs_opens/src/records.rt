@@ -1,11 +1,14 @@
 //! The records of opens and of lock states.
 
-ghost use Rattle.std.specs.Prelude.{◌≡◌, ◌≤◌, ◌==◌, ◌<◌, find, position, map, vec_capacity, if◌then◌else◌};
+ghost use Rattle.std.specs.Prelude.{◌≡◌, ◌≤◌, ◌==◌, ◌<◌, ◌&&◌, nat_lt, not, find, position, map, vec_capacity, if◌then◌else◌};
 ghost use Rattle.std.specs.Option.{option_copied};
+ghost use Rattle.std.specs.List.{list_any};
 ghost use Rattle.nfs_opens.specs.Table.{is_owners, is_own, clashes_with, Rises};
+ghost use Rattle.nfs_opens.specs.Index.{IsIndex};
 ghost use Rattle.nfs_opens.specs.Opening.{asked, joins, narrows, is_narrower};
 ghost use Rattle.nfs_opens.specs.Locking.{is_locker, raised};
 
+use crate::index::{Pair, next_in};
 use crate::opening::Ask;
 use crate::owner::Owner;
 use crate::share::Share;
@@ -70,6 +73,13 @@ impl OpenState {
             && (ask.access.meets(self.deny) || ask.deny.meets(self.access))
     }
 
+    /// Whether it is not this client's.
+    pub(crate) fn is_others(&self, client: u64) -> bool
+        ensures { result ≡ not (self.now.client == client) }
+    {
+        self.client != client
+    }
+
     pub(crate) fn denies_reads(&self) -> bool
         ensures { result ≡ self.now.deny.reads }
     {
@@ -112,6 +122,13 @@ impl LockState {
         ensures { result ≡ is_locker client owner.now file self.now }
     {
         self.file == file && self.client == client && self.owner.is(owner)
+    }
+
+    /// Whether it was made under the open of a number.
+    pub(crate) fn is_under(&self, opened: u64) -> bool
+        ensures { result ≡ (self.now.opened == opened) }
+    {
+        self.opened == opened
     }
 
     fn raise(&mut self)
@@ -157,6 +174,32 @@ pub(crate) fn lock_in(locks: &[LockState], number: u64) -> Option<&LockState>
         Some(place) => Some(&locks[place]),
         None => None,
     }
+}
+
+/// The lock state on a file with the lowest number behind `after`; `pairs`: the lock states by their files.
+pub(crate) fn next_lock_in<'a>(
+    locks: &'a [LockState],
+    pairs: &[Pair],
+    file: u64,
+    after: u64,
+) -> Option<&'a LockState>
+    requires rises { Rises (λ l. l.number) 1 locks.now }
+    requires index { IsIndex (λ l. l.file) (λ l. l.number) locks.now pairs.now }
+    ensures { option_copied result ≡ find (λ l. (l.file == file) && nat_lt after l.number) locks.now }
+{
+    match next_in(pairs, file, after) {
+        Some(number) => lock_in(locks, number),
+        None => None,
+    }
+}
+
+/// Whether a lock state stands on a file; `pairs`: the lock states by their files.
+pub(crate) fn is_locked(locks: &[LockState], pairs: &[Pair], file: u64) -> bool
+    requires rises { Rises (λ l. l.number) 1 locks.now }
+    requires index { IsIndex (λ l. l.file) (λ l. l.number) locks.now pairs.now }
+    ensures { result ≡ list_any (λ l. l.file == file) locks.now }
+{
+    next_lock_in(locks, pairs, file, 0).is_some()
 }
 
 /// What is asked joins the open of a number.

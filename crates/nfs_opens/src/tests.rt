@@ -360,6 +360,28 @@ fn a_lock_state_goes_with_its_client(rt: HostRuntime) -> Result<(), Fail> {
 }
 
 #[test]
+fn a_client_ends_in_one_pass(rt: HostRuntime) -> Result<(), Fail> {
+    let mut opens = locked(rt.alloc());
+    let joined = open_file(&mut opens, rt.alloc(), &ask(B, 3, 0));
+    assert!(rt; joined.is_ok());
+    for (after, want) in [(1, Some(FILE)), (2, None)] {
+        let next = opens.next_of(B, after).map(|o| o.file);
+        assert_eq!(rt; next, want, "behind {after}");
+    }
+    assert_eq!(rt; opens.first_on(FILE).map(|o| o.client), Some(A));
+    assert_eq!(rt;
+        (opens.has_other(FILE, A), opens.has_other(3, A)),
+        (true, false)
+    );
+    opens.end_client(A);
+    assert_eq!(rt; (opens.has_open(A), opens.has_open(B)), (false, true));
+    assert!(rt; opens.lock_state(3).is_none());
+    let told = clash_of(&opens, b"b", &wish(B, Kind::Write, 0, LAST));
+    assert_eq!(rt; told, None);
+    Ok(())
+}
+
+#[test]
 fn a_seqid_after_the_last_is_one(rt: HostRuntime) -> Result<(), Fail> {
     for (seqid, next) in [(1, 2), (u32::MAX - 1, u32::MAX), (u32::MAX, 1)] {
         assert_eq!(rt; stateid::next_seqid(seqid), next, "behind {seqid}");

@@ -1,13 +1,11 @@
 use Rattle.std.proofs.Common.{◌≡◌, ◌+◌, Bool, cond, sym, ap, ◌∙◌, arith, List, ◌∷◌, drop}
-use Rattle.std.specs.Prelude.{◌==◌}
-use Rattle.std.proofs.lemmas.Bool.{eq-eqb, ne_eqb}
 use Rattle.std.proofs.lemmas.Grind.{common_steps}
 use Rattle.nfs_ranges.specs.Holders.{dropped}
 use Rattle.nfs_opens.specs.declared.records.LockState.{LockState}
 use Rattle.nfs_opens.specs.Holding.{FileHolders, held_by, on_file}
-use Rattle.nfs_opens.specs.Closing.{held_without}
+use Rattle.nfs_opens.specs.Closing.{held_without, leaves}
 use Rattle.nfs_opens.proofs.closing.drop_bytes.Goals as goal
-use Rattle.nfs_opens.proofs.closing.drop_bytes.Goals.{then-lock-opened, else-lock-opened}
+use Rattle.nfs_opens.proofs.closing.drop_bytes.Goals.{then-takes, else-takes}
 
 pub loop-lock-preserved : goal.loop-lock-preserved
 loop-lock-preserved c =
@@ -15,10 +13,10 @@ loop-lock-preserved c =
     let before : FileHolders = held_by c.loop-lock.files in
     let after : FileHolders = on_file before l.file (λ h. dropped h l.number) in
     let first : drop c.loop-lock.lock-index c.args.locks.now ≡ l ∷ drop (c.loop-lock.lock-index + 1) c.args.locks.now = grind (arith, common_steps) in
-    let step : held_by c.if-lock-opened.files ≡ cond (l.opened == c.args.opened) after before =
-    elim c.if-lock-opened.branch [
-      | then-lock-opened w ↦ ap held_by w.files-is ∙ (w.drop_state.ensures ∙ sym (ap (λ (v : Bool). cond v after before) (eq-eqb _ _ w.if-lock-opened.true)))
-      | else-lock-opened w ↦ ap held_by w.files-is ∙ sym (ap (λ (v : Bool). cond v after before) (ne_eqb _ _ w.if-lock-opened.false))
+    let step : held_by c.if-takes.files ≡ cond (leaves c.args.leaving l) after before =
+    elim c.if-takes.branch [
+      | then-takes w ↦ ap held_by w.files-is ∙ (w.drop_state.ensures ∙ sym (ap (λ (v : Bool). cond v after before) (sym c.takes.ensures ∙ w.if-takes.true)))
+      | else-takes w ↦ ap held_by w.files-is ∙ sym (ap (λ (v : Bool). cond v after before) (sym c.takes.ensures ∙ w.if-takes.false))
     ] in
-    ap (held_without c.args.opened (drop (c.loop-lock.lock-index + 1) c.args.locks.now)) step
-    ∙ (sym (ap (λ (ls : List LockState). held_without c.args.opened ls before) first) ∙ c.loop-lock.invariant)
+    ap (held_without c.args.leaving (drop (c.loop-lock.lock-index + 1) c.args.locks.now)) step
+    ∙ (sym (ap (λ (ls : List LockState). held_without c.args.leaving ls before) first) ∙ c.loop-lock.invariant)

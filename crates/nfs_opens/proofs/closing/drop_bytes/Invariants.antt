@@ -4,4 +4,4 @@ use Rattle.nfs_opens.specs.Closing.{held_without}
 use Rattle.nfs_opens.proofs.closing.drop_bytes.Given as goal
 
 abbrev pub invariant-loop-lock : goal.invariant-loop-lock
-invariant-loop-lock l = held_without l.opened (drop l.lock-index l.locks) (held_by l.files) ≡ held_without l.opened l.locks (held_by l.initial.files)
+invariant-loop-lock l = held_without l.leaving (drop l.lock-index l.locks) (held_by l.files) ≡ held_without l.leaving l.locks (held_by l.initial.files)

@@ -1,7 +1,6 @@
 use Rattle.std.proofs.Common.{◌≡◌, Some, None, sym, ◌∙◌, ap}
 use Rattle.std.specs.Prelude.{◌==◌, find}
 use Rattle.std.specs.Option.{option_copied}
-use Rattle.nfs_xdr.proofs.Lists.{find_in}
 use Rattle.nfs_opens.specs.declared.records.OpenState.{OpenState}
 use Rattle.nfs_opens.proofs.IndexLemmas.{pair_in, index_taken, index_left}
 use Rattle.nfs_opens.proofs.closing.drop_pair.Goals as goal

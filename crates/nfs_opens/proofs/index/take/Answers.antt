@@ -1,4 +1,4 @@
-use Rattle.std.proofs.Common.{◌≡◌, ℕ, ◌<◌, List, length, false, sym, subst, ap, ◌∙◌, arith}
+use Rattle.std.proofs.Common.{ℕ, ◌<◌, List, length, false, sym, subst, ap, ◌∙◌}
 use Rattle.nfs_opens.specs.declared.index.Pair.{Pair}
 use Rattle.nfs_opens.specs.Index.{IsAscending}
 use Rattle.nfs_opens.proofs.IndexLemmas.{SplitAt, stands_at, got_within, has_taken}

@@ -1,11 +1,8 @@
-use Rattle.std.proofs.Common.{◌≡◌, true, false, Some, None, sym, ◌∙◌, ap, rules}
-use Rattle.std.specs.Prelude.{◌==◌, ◌&&◌, find}
+use Rattle.std.proofs.Common.{true, false, sym, ◌∙◌, ap}
+use Rattle.std.specs.Prelude.{◌==◌, ◌&&◌}
 use Rattle.std.specs.Option.{option_copied}
-use Rattle.std.specs.List.{list_any}
-use Rattle.nfs_opens.specs.declared.records.OpenState.{OpenState}
-use Rattle.nfs_opens.specs.Table.{Table, table, is_own, clashes_with}
-use Rattle.nfs_opens.specs.Opening.{asked}
-use Rattle.nfs_opens.proofs.IndexedLemmas.{Behind, Coming, own_file, clash_file, reads_file, writes_file, walk_begins, walk_bounds, walk_hits, walk_misses, walk_ends, any_begins, any_hits, any_misses, any_ends, denied}
+use Rattle.nfs_opens.specs.Table.{table}
+use Rattle.nfs_opens.proofs.IndexedLemmas.{reads_file, walk_bounds, any_begins, any_hits, any_misses, any_ends, denied}
 use Rattle.nfs_opens.proofs.opens.Opens.denies_reads.Goals as goal
 
 pub loop-open-init : goal.loop-open-init

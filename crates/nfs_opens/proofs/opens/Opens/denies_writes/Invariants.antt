@@ -1,9 +1,7 @@
 use Rattle.std.proofs.Common.{◌≡◌, suc, ◌-◌}
-use Rattle.std.specs.Prelude.{◌==◌, ◌&&◌, find}
+use Rattle.std.specs.Prelude.{◌==◌, ◌&&◌}
 use Rattle.std.specs.List.{list_any}
-use Rattle.nfs_opens.specs.declared.records.OpenState.{OpenState}
-use Rattle.nfs_opens.specs.Table.{table, is_own, clashes_with}
-use Rattle.nfs_opens.specs.Opening.{asked}
+use Rattle.nfs_opens.specs.Table.{table}
 use Rattle.nfs_opens.proofs.IndexedLemmas.{Coming}
 use Rattle.nfs_opens.proofs.opens.Opens.denies_writes.Given as goal
 

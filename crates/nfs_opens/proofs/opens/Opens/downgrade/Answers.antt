@@ -76,9 +76,13 @@ invariant_of-self c =
           (sym c.is_narrower.ensures ∙ c.if-not-is_narrower.false));
       room = λ yes. as_many (λ (o : OpenState). if o.number == c.args.id.number then narrows c.args.access c.args.deny o else o) c.self.inside.opens.items
           c.narrow_open.new.opens.items _ _ c.narrow_open.ensures.items c.narrow_open.ensures.room (c.self.invariant.room yes);
-      by_file = opens_changed (narrows c.args.access c.args.deny) c.args.id.number c.self.inside.opens.items c.narrow_open.new.opens.items
+      by_file = opens_changed (λ o. o.file) (narrows c.args.access c.args.deny) c.args.id.number c.self.inside.opens.items c.narrow_open.new.opens.items
           c.self.inside.by_file.items c.narrow_open.ensures.items (λ o. refl) (λ o. refl) c.self.invariant.by_file;
       place = c.self.invariant.place;
+      by_client = opens_changed (λ o. o.client) (narrows c.args.access c.args.deny) c.args.id.number c.self.inside.opens.items c.narrow_open.new.opens.items
+          c.self.inside.by_client.items c.narrow_open.ensures.items (λ o. refl) (λ o. refl) c.self.invariant.by_client;
+      seat = c.self.invariant.seat;
+      locks = c.self.invariant.locks;
     }
 
 -- what a downgrade of an open that is narrowed answers and leaves

@@ -1,10 +1,8 @@
 use Rattle.std.proofs.Common.{◌≡◌, Some, sym, ap, ◌∙◌}
-use Rattle.std.specs.Prelude.{find}
 use Rattle.std.specs.Option.{option_copied}
 use Rattle.std.proofs.lemmas.Bool.{eqb-true, and_parts}
-use Rattle.nfs_opens.specs.contracts.opens.Opens.{the_view}
 use Rattle.nfs_opens.specs.declared.records.LockState.{LockState}
-use Rattle.nfs_opens.specs.Table.{Kept, table, lock_at}
+use Rattle.nfs_opens.specs.Table.{table}
 use Rattle.nfs_opens.specs.Locking.{is_locker, state_of}
 use Rattle.nfs_xdr.proofs.Lists.{find_in}
 use Rattle.nfs_xdr.proofs.Tables.{at_of_in}
@@ -14,16 +12,12 @@ use Rattle.nfs_opens.proofs.opens.Opens.lock.Goals as goal
 
 pub lock_as-requires-clause-file : goal.lock_as-requires-clause-file
 lock_as-requires-clause-file c =
-    let t = table (the_view c.self.inside) in
+    let t = table c.args.self.now in
     let l = c.in-Some.lock.now in
-    let found : state_of t c.args.wish.now.client c.in-New.owner.now c.args.wish.now.file ≡ Some l =
-    ap (find (is_locker c.args.wish.now.client c.in-New.owner.now c.args.wish.now.file)) (sym c.deref.ensures.value)
-    ∙ (sym c.locker_in.ensures ∙ ap option_copied c.in-Some.is) in
+    let found : state_of t c.args.wish.now.client c.in-New.owner.now c.args.wish.now.file ≡ Some l = sym c.locker.ensures.found ∙ ap option_copied c.in-Some.is in
     let there = find_in (is_locker c.args.wish.now.client c.in-New.owner.now c.args.wish.now.file) t.locks l found in
-    let of_file : l.file ≡ c.args.wish.now.file = eqb-true _ _ (and_parts _ _ there.1).0 in
     all_some _ l (λ (l : LockState). l.file ≡ c.args.wish.now.file)
-    (ap (λ (k : Kept). lock_at (table k) l.number) (sym c.self.view_is)
-    ∙ at_of_in (λ (l : LockState). l.number) 1 _ t.locks l c.self.invariant.table.locks there.0) of_file
+    (at_of_in (λ (l : LockState). l.number) 1 _ t.locks l c.locker.ensures.kept.locks there.0) (eqb-true _ _ (and_parts _ _ there.1).0)
 
 pub lock_as-requires-in-Known-clause-file : goal.lock_as-requires-in-Known-clause-file
 lock_as-requires-in-Known-clause-file c =

@@ -9,6 +9,7 @@ use Rattle.nfs_opens.specs.Holding.{held_by}
 use Rattle.nfs_opens.specs.Table.{Kept, Did, Rises, IsTable, table, lock_at}
 use Rattle.nfs_opens.specs.Locking.{lock_judged, lock_as}
 use Rattle.nfs_opens.proofs.LockLemmas.{same_table}
+use Rattle.nfs_opens.proofs.LockedLemmas.{locks_raised}
 use Rattle.nfs_opens.proofs.StepLemmas.{if_some, lock_as_is, table_locked}
 use Rattle.nfs_opens.proofs.opens.Opens.lock_as.Goals as goal
 
@@ -37,6 +38,9 @@ invariant_of-self-2 c =
       room = c.self.invariant.room;
       by_file = c.self.invariant.by_file;
       place = c.self.invariant.place;
+      by_client = c.self.invariant.by_client;
+      seat = c.self.invariant.seat;
+      locks = locks_raised c.args.state c.self.inside.locks.items c.raise_lock.new.locks.items c.self.inside.locks_by_file.items c.raise_lock.ensures c.self.invariant.locks;
     }
 
 pub returns-clause-locks : goal.returns-clause-locks

@@ -1,10 +1,9 @@
-use Rattle.std.proofs.Common.{◌≡◌, List, Some, None, sym, subst, ap, ◌∙◌}
+use Rattle.std.proofs.Common.{List, Some, None, sym, subst, ap, ◌∙◌}
 use Rattle.std.specs.Prelude.{◌==◌, ◌&&◌, nat_lt, find}
-use Rattle.nfs_opens.specs.contracts.opens.Opens.{the_view}
 use Rattle.nfs_opens.specs.declared.index.Pair.{Pair}
 use Rattle.nfs_opens.specs.declared.records.OpenState.{OpenState}
 use Rattle.nfs_opens.specs.Index.{IsAscending, IsNext}
-use Rattle.nfs_opens.specs.Table.{Kept, Rises, table}
+use Rattle.nfs_opens.specs.Table.{Kept, Rises}
 use Rattle.nfs_opens.proofs.IndexLemmas.{next_state, no_state}
 use Rattle.nfs_opens.proofs.opens.Opens.next_open.Goals as goal
 

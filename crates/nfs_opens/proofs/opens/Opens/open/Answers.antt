@@ -1,5 +1,5 @@
 use Rattle.std.proofs.Common.{◌≡◌, Some, suc, ◌+◌, ◌++◌, ◌∷◌, [], List, sym, subst, ap, ◌∙◌, arith, refl, false}
-use Rattle.std.specs.Prelude.{◌==◌, find, if◌then◌else◌}
+use Rattle.std.specs.Prelude.{◌==◌, if◌then◌else◌}
 use Rattle.std.specs.List.{list_any}
 use Rattle.std.specs.Option.{option_copied}
 use Rattle.std.proofs.lemmas.Grind.{common_steps}
@@ -7,7 +7,7 @@ use Rattle.std.proofs.lemmas.Bool.{false≢true}
 use Rattle.nfs_opens.specs.contracts.opens.Opens.{the_view}
 use Rattle.nfs_opens.specs.declared.records.OpenState.{OpenState}
 use Rattle.nfs_opens.specs.Holding.{held_by}
-use Rattle.nfs_opens.specs.Table.{Kept, IsTable, table, is_own, clashes_with}
+use Rattle.nfs_opens.specs.Table.{Kept, IsTable, table, clashes_with}
 use Rattle.nfs_opens.specs.Opening.{asked, own_open, new_open, joins}
 use Rattle.nfs_opens.proofs.LockLemmas.{same_table, as_many}
 use Rattle.nfs_opens.proofs.TableLemmas.{table_opened}
@@ -33,9 +33,13 @@ invariant_of-self c =
       table = subst IsTable (sym same) (table_join (table (the_view c.self.inside)) (asked c.args.ask.now) c.in-Some.open.now c.self.invariant.table own free);
       room = λ yes. as_many (λ (o : OpenState). if o.number == c.in-Some.open.now.number then joins (asked c.args.ask.now) o else o)
           c.self.inside.opens.items c.join_open.new.opens.items _ _ c.join_open.ensures.items c.join_open.ensures.room (c.self.invariant.room yes);
-      by_file = opens_changed (joins (asked c.args.ask.now)) c.in-Some.open.now.number c.self.inside.opens.items c.join_open.new.opens.items
+      by_file = opens_changed (λ o. o.file) (joins (asked c.args.ask.now)) c.in-Some.open.now.number c.self.inside.opens.items c.join_open.new.opens.items
           c.self.inside.by_file.items c.join_open.ensures.items (λ o. refl) (λ o. refl) c.self.invariant.by_file;
       place = c.self.invariant.place;
+      by_client = opens_changed (λ o. o.client) (joins (asked c.args.ask.now)) c.in-Some.open.now.number c.self.inside.opens.items c.join_open.new.opens.items
+          c.self.inside.by_client.items c.join_open.ensures.items (λ o. refl) (λ o. refl) c.self.invariant.by_client;
+      seat = c.self.invariant.seat;
+      locks = c.self.invariant.locks;
     }
 
 pub invariant_of-self-in-None : goal.invariant_of-self-in-None
@@ -52,6 +56,11 @@ invariant_of-self-in-None c =
           (index_put (λ (o : OpenState). o.file) (λ o. o.number) c.self.inside.opens.items (new_open (table (the_view c.self.inside)) (asked c.args.ask.now))
           c.self.inside.by_file.items c.put.new.pairs.items c.self.invariant.by_file c.put.ensures);
       place = λ yes. absurd (false≢true yes);
+      by_client = subst (λ (os : List OpenState). IsIndex (λ (o : OpenState). o.client) (λ o. o.number) os c.put-in-None.new.pairs.items) (sym items)
+          (index_put (λ (o : OpenState). o.client) (λ o. o.number) c.self.inside.opens.items (new_open (table (the_view c.self.inside)) (asked c.args.ask.now))
+          c.self.inside.by_client.items c.put-in-None.new.pairs.items c.self.invariant.by_client c.put-in-None.ensures);
+      seat = λ yes. absurd (false≢true yes);
+      locks = c.self.invariant.locks;
     }
 
 pub put-requires-clause-order : goal.put-requires-clause-order
@@ -63,4 +72,15 @@ put-requires-clause-room c = c.self.invariant.place (ap (λ (k : Kept). k.ready)
 pub put-requires-clause-other : goal.put-requires-clause-other
 put-requires-clause-other c = index_new (λ (o : OpenState). o.file) (λ o. o.number) 1 (suc c.self.inside.last) c.self.inside.opens.items
     c.self.inside.by_file.items (record { of = c.args.ask.now.file; number = c.self.inside.last + 1 }) c.self.invariant.table.opens c.self.invariant.by_file
+    (omega arith)
+
+pub put-requires-in-None-clause-order : goal.put-requires-in-None-clause-order
+put-requires-in-None-clause-order c = c.self.invariant.by_client.order
+
+pub put-requires-in-None-clause-room : goal.put-requires-in-None-clause-room
+put-requires-in-None-clause-room c = c.self.invariant.seat (ap (λ (k : Kept). k.ready) c.self.view_is ∙ c.requires.room)
+
+pub put-requires-in-None-clause-other : goal.put-requires-in-None-clause-other
+put-requires-in-None-clause-other c = index_new (λ (o : OpenState). o.client) (λ o. o.number) 1 (suc c.self.inside.last) c.self.inside.opens.items
+    c.self.inside.by_client.items (record { of = c.args.ask.now.client; number = c.self.inside.last + 1 }) c.self.invariant.table.opens c.self.invariant.by_client
     (omega arith)

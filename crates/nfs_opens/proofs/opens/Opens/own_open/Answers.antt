@@ -1,11 +1,8 @@
-use Rattle.std.proofs.Common.{◌≡◌, Some, None, sym, ◌∙◌, ap, rules}
-use Rattle.std.specs.Prelude.{◌==◌, ◌&&◌, find}
+use Rattle.std.proofs.Common.{sym, ◌∙◌, ap}
 use Rattle.std.specs.Option.{option_copied}
-use Rattle.std.specs.List.{list_any}
-use Rattle.nfs_opens.specs.declared.records.OpenState.{OpenState}
-use Rattle.nfs_opens.specs.Table.{Table, table, is_own, clashes_with}
+use Rattle.nfs_opens.specs.Table.{table, is_own}
 use Rattle.nfs_opens.specs.Opening.{asked}
-use Rattle.nfs_opens.proofs.IndexedLemmas.{Behind, Coming, own_file, clash_file, reads_file, writes_file, walk_begins, walk_bounds, walk_hits, walk_misses, walk_ends, any_begins, any_hits, any_misses, any_ends}
+use Rattle.nfs_opens.proofs.IndexedLemmas.{own_file, walk_begins, walk_bounds, walk_hits, walk_misses, walk_ends}
 use Rattle.nfs_opens.proofs.opens.Opens.own_open.Goals as goal
 
 pub loop-open-init : goal.loop-open-init

@@ -13,6 +13,7 @@ use Rattle.nfs_opens.specs.Judging.{judge}
 use Rattle.nfs_opens.specs.declared.judging.Sort.TheVariants.{LockOnly}
 use Rattle.nfs_opens.specs.Locking.{unlock, unlock_by, clear_lock}
 use Rattle.nfs_opens.proofs.LockLemmas.{same_table}
+use Rattle.nfs_opens.proofs.LockedLemmas.{locks_raised}
 use Rattle.nfs_opens.proofs.StepLemmas.{table_unlocked}
 use Rattle.nfs_opens.proofs.opens.Opens.unlock.Goals as goal
 
@@ -51,6 +52,9 @@ invariant_of-self-2 c =
       room = c.self.invariant.room;
       by_file = c.self.invariant.by_file;
       place = c.self.invariant.place;
+      by_client = c.self.invariant.by_client;
+      seat = c.self.invariant.seat;
+      locks = locks_raised c.args.id.number c.self.inside.locks.items c.raise_lock.new.locks.items c.self.inside.locks_by_file.items c.raise_lock.ensures c.self.invariant.locks;
     }
 
 pub returns-clause-unlocks : goal.returns-clause-unlocks

@@ -1,0 +1,11 @@
+use Rattle.std.proofs.Common.{List, sym, subst, ap, ◌∙◌}
+use Rattle.nfs_opens.specs.declared.locked_files.LockedFile.{LockedFile}
+use Rattle.nfs_opens.specs.Holding.{held_by}
+use Rattle.nfs_opens.specs.Table.{AreHolders}
+use Rattle.nfs_opens.proofs.LockedLemmas.{kept_listed}
+use Rattle.nfs_opens.proofs.locked_files.LockedFiles.keep_locked.Goals as goal
+
+pub returns : goal.returns
+returns c = ap held_by c.drop_unlocked.ensures
+    ∙ (kept_listed c.args.locks.now c.self.inside.files.items
+    (subst (λ (es : List LockedFile). AreHolders c.args.locks.now (held_by es)) (sym c.self.view_is) c.requires.holders) ∙ ap held_by c.self.view_is)

@@ -1,0 +1,9 @@
+use Rattle.std.proofs.Common.{◌∙◌}
+use Rattle.nfs_opens.specs.declared.records.OpenState.{OpenState}
+use Rattle.nfs_opens.specs.Table.{table}
+use Rattle.nfs_opens.proofs.IndexLemmas.{first_state}
+use Rattle.nfs_opens.proofs.opens.Opens.first_on.Goals as goal
+
+pub returns-clause-found : goal.returns-clause-found
+returns-clause-found c = c.next_open.ensures.found
+    ∙ first_state (λ (o : OpenState). o.file) (λ o. o.number) c.args.file _ (table c.args.self.now).opens c.next_open.ensures.kept.opens
