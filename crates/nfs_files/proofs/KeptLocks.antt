@@ -34,7 +34,7 @@ use Rattle.nfs_opens.proofs.HolderLemmas.{unmet}
 use Rattle.nfs_opens.proofs.LockLemmas.{holds_none}
 use Rattle.nfs_opens.proofs.StepLemmas.{judged_tells, first_state}
 use Rattle.nfs_files.specs.Lock.{locks_as}
-use Rattle.nfs_files.specs.Kept.{Told, IsHeld, IsBeside, Stands, Clashes}
+use Rattle.nfs_files.specs.Kept.{Told, IsHeld, IsBeside, IsAlike, Stands, Clashes}
 
 -- bytes
 
@@ -58,6 +58,25 @@ cleared_other h n first last s b apart =
 
 on_file_same : (held : FileHolders) (file : ℕ) (g : Holders → Holders) (f s b : ℕ) → ((h : Holders) → g h s b ≡ h s b) → on_file held file g f s b ≡ held f s b
 on_file_same held file g f s b same = elim (cases_Bool (eqb f file)) [ inl here ↦ rw here (same (held f)) | inr there ↦ rw there refl ]
+
+on_file_keeps : (held : FileHolders) (file : ℕ) (g : Holders → Holders) (f s b : ℕ) (o : Option Kind) → ((h : Holders) → h s b ≡ o → g h s b ≡ o)
+    → held f s b ≡ o → on_file held file g f s b ≡ o
+on_file_keeps held file g f s b o keeps is = elim (cases_Bool (eqb f file)) [ inl here ↦ rw here (keeps (held f) is) | inr there ↦ rw there is ]
+
+-- a lock state that takes bytes beside the lock, or in the lock's kind, holds it as before
+held_alike : (k : Told) (w : Wish) (h : Holders) (n b : ℕ) → (n ≡ k.state → IsAlike w k) → k.first ≤ b → b ≤ k.last
+    → h k.state b ≡ Some k.kind → holding h n w.kind w.first w.last k.state b ≡ Some k.kind
+held_alike k w h n b spares lo hi is = elim (cases_eq n k.state) [
+  | inl same ↦ by_wish same (spares same)
+  | inr other ↦ held_other h n w.kind w.first w.last k.state b (λ same. absurd (other same)) ∙ is
+]
+  where
+    by_wish : n ≡ k.state → IsAlike w k → holding h n w.kind w.first w.last k.state b ≡ Some k.kind
+    by_wish same (inl beside) = held_other h n w.kind w.first w.last k.state b (λ same. outside k w b beside lo hi) ∙ is
+    by_wish same (inr kind) = elim (cases_Bool (is_within w.first w.last b)) [
+      | inl inside ↦ rw (eq-eqb n k.state same, inside) (ap Some kind)
+      | inr out ↦ held_other h n w.kind w.first w.last k.state b (λ same. out) ∙ is
+    ]
 
 -- the table's changes
 
@@ -114,18 +133,18 @@ stands_freed k t n l table some found none is =
 change : ℕ → LockState → LockState
 change n l = if l.number == n then raised l else l
 
--- a seqid rises, and bytes of a file move, but none of these
+-- a seqid rises, and bytes of a file move, but these are held as before
 pub stands_raised : (k : Told) (t : Table) (n file : ℕ) (g : Holders → Holders)
-    → ((h : Holders) (b : ℕ) → k.first ≤ b → b ≤ k.last → g h k.state b ≡ h k.state b)
+    → ((h : Holders) (b : ℕ) → k.first ≤ b → b ≤ k.last → h k.state b ≡ Some k.kind → g h k.state b ≡ Some k.kind)
     → Stands k t → Stands k (record (with_lock t n raised) { held = on_file t.held file g })
 unfolding change
-stands_raised k t n file g same is = record {
+stands_raised k t n file g keeps is = record {
   lock = change n is.lock;
   there = map_in (change n) t.locks is.lock is.there;
   number = elim (is.lock.number == n) as (λ v. (cond v (raised is.lock) is.lock).number ≡ k.state) [ true ↦ is.number | false ↦ is.number ];
   client = elim (is.lock.number == n) as (λ v. (cond v (raised is.lock) is.lock).client ≡ k.client) [ true ↦ is.client | false ↦ is.client ];
   opened = elim (is.lock.number == n) as (λ v. (cond v (raised is.lock) is.lock).opened ≡ k.opened) [ true ↦ is.opened | false ↦ is.opened ];
-  held = λ b lo hi. on_file_same t.held file g k.file k.state b (λ h. same h b lo hi) ∙ is.held b lo hi;
+  held = λ b lo hi. on_file_keeps t.held file g k.file k.state b (Some k.kind) (λ h. keeps h b lo hi) (is.held b lo hi);
 }
 
 -- a new lock state takes other bytes, or the same ones beside it
@@ -219,10 +238,10 @@ lock_grants t (args.LockOwner o) id w = known_grants t w id.number (judge t id w
 
 -- a LOCK that is granted leaves the lock where it spares it
 pub stands_locked : (k : Told) (t : Table) (w : Wish) (did : Did StateId OpenFault) (id : StateId) → IsTable t → IsGranted t w did id
-    → (id.number ≡ k.state → IsBeside w k) → Stands k t → Stands k did.after
+    → (id.number ≡ k.state → IsAlike w k) → Stands k t → Stands k did.after
 stands_locked k t w did id table (inl more) spares is =
     subst (Stands k) (sym more.left) (stands_raised k t id.number w.file (λ h. holding h id.number w.kind w.first w.last)
-    (λ h b lo hi. held_other h id.number w.kind w.first w.last k.state b (λ same. outside k w b (spares same) lo hi)) is)
+    (λ h b lo hi. held_alike k w h id.number b spares lo hi) is)
 stands_locked k t w did id table (inr first) spares is = subst (Stands k) (sym first.left) (stands_first k t w first.new table is)
 
 -- no lock state has number 0

@@ -58,7 +58,7 @@ use Rattle.nfs_files.specs.Read.{read}
 use Rattle.nfs_files.specs.SetAttr.{was_set, set_attr}
 use Rattle.nfs_files.specs.TestStateid.{test_stateid}
 use Rattle.nfs_files.specs.Write.{was_written, write}
-use Rattle.nfs_files.specs.Kept.{Told, IsBeside, Locks, Unlocks, Closes, Spares, Stands, Clashes}
+use Rattle.nfs_files.specs.Kept.{Told, IsBeside, IsAlike, Locks, Unlocks, Closes, Spares, Stands, Clashes}
 use Rattle.nfs_files.specs.Laws.{SparedLocksStay, ClashesAreRefused}
 use Rattle.nfs_files.proofs.KeptLocks.{stands_by, stands_closed, stands_freed, stands_raised, stands_locked, lock_grants, outside, cleared_other, refused}
 
@@ -79,7 +79,7 @@ locked_stands k s x after (Err (F.Refused status)) same each = same
 locked_stands k s x after (Err (F.Denied h)) same each = same
 locked_stands k s x after (Err F.Memory) same each = same
 
-keeps_lock : (k : Told) (s : State) (x : Context) (a : args.Lock) → IsTable s.opens → ((n : ℕ) (w : Wish) → Locks s x (OpLock a) n w → n ≡ k.state → IsBeside w k)
+keeps_lock : (k : Told) (s : State) (x : Context) (a : args.Lock) → IsTable s.opens → ((n : ℕ) (w : Wish) → Locks s x (OpLock a) n w → n ≡ k.state → IsAlike w k)
     → Stands k s.opens → Keeps k (of_lock.lock s x a).state
 unfolding of_lock.lock
 keeps_lock k s x a table spares is =
@@ -97,7 +97,8 @@ cleared_stands : (k : Told) (t : Table) (n file first last : ℕ) (w : Wish) (l 
 cleared_stands k t n file first last w None id from to granted spares is = absurd cc
 cleared_stands k t n file first last w (Some l) id from to granted spares is =
     stands_raised k t n file (λ h. cleared h n first last)
-    (λ h b lo hi. cleared_other h n first last k.state b (λ same. ap (λ f. is_within f last b) from ∙ ap (λ z. is_within w.first z b) to ∙ outside k w b (spares same) lo hi)) is
+    (λ h b lo hi held. cleared_other h n first last k.state b
+    (λ same. ap (λ f. is_within f last b) from ∙ ap (λ z. is_within w.first z b) to ∙ outside k w b (spares same) lo hi) ∙ held) is
 
 unlock_stands : (k : Told) (t : Table) (n : ℕ) (w : Wish) (v : Result Seat Status) (id : StateId)
     → (locking.unlock_by t n w.file w.first w.last v).answer ≡ Ok id → (n ≡ k.state → IsBeside w k) → Stands k t

@@ -68,9 +68,13 @@ IsHeld k t = (b : ℕ) → k.first ≤ b → b ≤ k.last → t.held k.file k.st
 abbrev pub IsBeside : Wish → Told → Type 0
 IsBeside w k = (w.last < k.first) ⊎ (k.last < w.first)
 
--- No LOCK or LOCKU for the lock state on a byte of it, and no CLOSE of its open.
+-- the wish holds no byte of it in another way
+abbrev pub IsAlike : Wish → Told → Type 0
+IsAlike w k = IsBeside w k ⊎ (w.kind ≡ k.kind)
+
+-- No LOCK of another kind and no LOCKU for the lock state on a byte of it, and no CLOSE of its open.
 pub record Spares (k : Told) (s : State) (x : Context) (op : Op) : Type 0 where
-  pub locks : (n : ℕ) (w : Wish) → Locks s x op n w → n ≡ k.state → IsBeside w k
+  pub locks : (n : ℕ) (w : Wish) → Locks s x op n w → n ≡ k.state → IsAlike w k
   pub unlocks : (n : ℕ) (w : Wish) → Unlocks s x op n w → n ≡ k.state → IsBeside w k
   pub closes : (n : ℕ) → Closes s x op n → n ≢ k.opened
 

@@ -2,7 +2,8 @@
 
 ghost use Rattle.nfs_files.specs.Laws.{OpensLeaveTrees, SparedLocksStay, ClashesAreRefused, ToldLocksStand};
 
-/// A lock stays through an operation that does not end it: no LOCK or LOCKU of its lock state on one of its bytes, and no CLOSE of its open.
+/// A lock stays through an operation that does not end it: no LOCK of another kind and no LOCKU of its lock
+/// state on one of its bytes, and no CLOSE of its open.
 pub fn spared_locks_stay()
     ensures { SparedLocksStay }
 {}

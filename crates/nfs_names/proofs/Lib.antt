@@ -13,3 +13,4 @@ pub mod Entering
 pub mod Listed
 pub mod Staying
 pub mod Untouched
+pub mod Ended

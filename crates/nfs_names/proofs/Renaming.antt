@@ -1,7 +1,7 @@
 -- RENAME: the tree's own checks are its last ones, and what it leaves.
-use Rattle.std.proofs.Common.{◌≡◌, ℕ, ◌+◌, Bool, true, false, not, List, [], ◌∷◌, Option, Some, None, refl, sym, ◌∙◌, ap, inl, inr}
+use Rattle.std.proofs.Common.{◌≡◌, ℕ, ◌+◌, true, false, not, Option, Some, None, refl, sym, ◌∙◌, ap, inl, inr}
 use Rattle.std.specs.Prelude.{Ok, Err, IsOk, is_ok as is_right, option_map, ◌==◌, ◌&&◌, ◌||◌, if◌then◌else◌, is_some, unwrap_or}
-use Rattle.std.proofs.lemmas.Bool.{cases_Bool, not-false, and_right, or_parts, ne_eqb, and_from, false≢true}
+use Rattle.std.proofs.lemmas.Bool.{cases_Bool, and_right, or_parts, ne_eqb, and_from, false≢true}
 use Rattle.nfs_xdr.specs.Checks.{first_fault}
 use Rattle.nfs_xdr.proofs.Checks.{all_passed}
 use Rattle.nfs_xdr.specs.declared.time.Time.{Time}
@@ -10,8 +10,7 @@ use Rattle.nfs_compound.specs.NameArgs as args
 use Rattle.nfs_tree.specs.declared.row.Row.{Row}
 use Rattle.nfs_tree.specs.declared.done.Renamed.{Renamed}
 use Rattle.nfs_tree.specs.declared.fault.TreeFault.{TreeFault}
-use Rattle.nfs_tree.specs.declared.fault.TreeFault.TheVariants as F
-use Rattle.nfs_tree.specs.Files.{Files, is_name, is_there, is_directory_at, has_name, lookup, is_entry, entry, has_entries, without_entry}
+use Rattle.nfs_tree.specs.Files.{Files, has_name, lookup, is_entry, entry, has_entries, without_entry}
 use Rattle.nfs_tree.specs.Did.{Did, DoesOrWants, raised, stays}
 use Rattle.nfs_tree.specs.Names as tree
 use Rattle.nfs_tree.specs.Names.{Move, move, moves, moved_object, replaced_object, is_below_itself, is_unlike, is_in_the_way, can_move, rename_checks}
@@ -26,32 +25,14 @@ use Rattle.nfs_names.specs.Checks.{both}
 use Rattle.nfs_names.specs.Operation.{moves_in}
 use Rattle.nfs_names.specs.Rename as of_rename
 use Rattle.nfs_names.specs.Rename.{move_of}
-use Rattle.nfs_names.proofs.Found.{IsHeld, both_is, checked_ok, short_name}
+use Rattle.nfs_names.proofs.Found.{checked_ok}
 use Rattle.nfs_names.proofs.Rows.{fault_map, none_pushed}
 use Rattle.nfs_names.proofs.Faulted.{by_last, by_refusal, refused_by_did, delayed, not_delayed}
 use Rattle.nfs_xdr.proofs.Lists.{none_left}
 
-rename_rows : (s : State) (x : Context) (a : args.Rename) (p : Pair)
-    → IsHeld s.tree p.current × IsHeld s.tree p.saved → first_fault (of_rename.place_checks x a p) ≡ None
-    → option_map status_of (rename_fault s.tree (move_of a p)) ≡ first_fault (of_rename.row_checks s a p)
-rename_rows s x a p held e =
-    let t = s.tree in
-    let m = move_of a p in
-    let checks = all_passed (of_rename.place_checks x a p) e in
-    let there : not (is_there t m.source && is_there t m.target) ≡ false = rw (held.1.there, held.0.there) refl in
-    let source : is_directory_at t m.source ≡ true = held.1.directory ∙ not-false _ checks.0 in
-    let target : is_directory_at t m.target ≡ true = held.0.directory ∙ not-false _ checks.1.0 in
-    let directories : not (is_directory_at t m.source && is_directory_at t m.target) ≡ false = rw (source, target) refl in
-    let short : not (is_name m.name) ≡ false = ap not (short_name a.newname checks.1.1.1.1.1.1.1.1.0 checks.1.1.1.1.1.1.1.1.1.0) in
-    let tail : List (Bool × TreeFault) =
-    (not (has_name t m.source m.old), F.NoEnt) ∷ (moves t m && is_below_itself t m, F.Inval) ∷ (moves t m && is_in_the_way t m, F.Exist)
-    ∷ (moves t m && not (can_move t m), F.Counter) ∷ [] in
-    let same : rename_fault t m ≡ first_fault tail = rw (there, directories, short) refl in
-    ap (option_map status_of) same ∙ fault_map status_of tail
-
 rename_found : (s : State) (x : Context) (a : args.Rename) (p : Pair) → checked (both s x) (of_rename.place_checks x a) ≡ Ok p
     → option_map status_of (rename_fault s.tree (move_of a p)) ≡ first_fault (of_rename.row_checks s a p)
-rename_found s x a p v = let found = checked_ok (both s x) (of_rename.place_checks x a) p v in rename_rows s x a p (both_is s x p found.0) found.1
+rename_found s x a p v = fault_map status_of (rename_checks s.tree (move_of a p))
 
 abbrev pub what_moves : State → Context → Time → args.Rename → Pair → Outcome
 what_moves s x now a p = if moves s.tree (move_of a p) then of_rename.moved s x now a p else of_rename.unmoved s x p

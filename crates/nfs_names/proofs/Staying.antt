@@ -1,13 +1,12 @@
--- The end of clients: one open after the other, one client after the other, and nobody's.
-use Rattle.std.proofs.Common.{◌≡◌, ◌≢◌, ℕ, ◌<◌, Bool, true, false, cond, not, List, [], ◌∷◌, length, Option, Some, None, refl, sym, ◌∙◌, ap, subst, inl, inr}
-use Rattle.std.specs.Prelude.{◌==◌, ◌||◌, ◌&&◌, filter, find, is_some}
+-- The end of clients: one client after the other, and nobody's.
+use Rattle.std.proofs.Common.{◌≡◌, ◌≢◌, ℕ, Bool, true, false, cond, not, List, [], ◌∷◌, Option, Some, None, refl, sym, ◌∙◌, ap, subst, inl, inr}
+use Rattle.std.specs.Prelude.{◌==◌, ◌||◌, ◌&&◌, filter, is_some}
 use Rattle.std.specs.List.{list_any}
 use Rattle.std.specs.Option.{option_map_or}
 use Rattle.std.proofs.Math.Path.{fun_ext}
 use Rattle.std.proofs.lemmas.Bool.{cases_Bool, eqb-true, eq-eqb, false≢true}
 use Rattle.nfs_xdr.specs.Tables.{In}
-use Rattle.nfs_xdr.proofs.Lists.{stays_in, find_in, none_any, in_any, filter_past, filter_both, filter_all, any_in, any_left, length_fewer, none_found}
-use Rattle.nfs_xdr.proofs.Tables.{in_once}
+use Rattle.nfs_xdr.proofs.Lists.{none_any, filter_past, filter_both, filter_all, any_in, any_left}
 use Rattle.nfs_tree.specs.declared.stored.Stored.{Stored}
 use Rattle.nfs_tree.specs.Object.{is_regular}
 use Rattle.nfs_tree.specs.Files.{root, stored_in, has_row}
@@ -15,9 +14,9 @@ use Rattle.nfs_opens.specs.declared.records.OpenState.{OpenState}
 use Rattle.nfs_opens.specs.declared.records.LockState.{LockState}
 use Rattle.nfs_opens.specs.Holding.{FileHolders}
 use Rattle.nfs_opens.specs.Table.{Table, IsTable, IsHolder, AreHolders}
-use Rattle.nfs_opens.specs.Closing.{stands, held_within, not_under, without_open, drop_open, drop_client}
+use Rattle.nfs_opens.specs.Closing.{stands, held_within}
 use Rattle.nfs_opens.proofs.LockLemmas.{same_table}
-use Rattle.nfs_names.specs.State.{State, with_tree, is_open, is_used, without_unused, IsStore, IsStoreBut}
+use Rattle.nfs_names.specs.State.{State, with_tree, is_open, is_used, without_unused, IsStore}
 use Rattle.nfs_names.specs.Ending.{has_open, table_staying, with_opens, only_used, staying}
 
 -- Locked bytes.
@@ -50,7 +49,7 @@ AreOpenIn u t = (n : ℕ) → list_any (λ o. o.file == n) u.opens ≡ true → 
 use_more : (s : State) (u t : Table) → AreOpenIn u t → (n : ℕ) → is_used (with_opens s u) n ≡ true → is_used (with_opens s t) n ≡ true
 use_more s u t f n e = used_more (n == root) (has_row s.tree.rows n) (is_open (with_opens s u) n) (is_open (with_opens s t) n) (f n) e
 
-abbrev with_objects : State → Table → List Stored → State
+abbrev pub with_objects : State → Table → List Stored → State
 with_objects s t objects = with_tree (with_opens s t) (record s.tree { objects = objects })
 
 used_again : (s : State) (u t : Table) → AreOpenIn u t → only_used (with_opens (only_used (with_opens s t)) u) ≡ only_used (with_opens s u)
@@ -58,7 +57,7 @@ used_again s u t f = ap (with_objects s u)
     (filter_past (λ o. is_used (with_opens s u) o.number) (λ o. is_used (with_opens s t) o.number) s.tree.objects (λ x there. use_more s u t f x.number))
 
 -- an object that goes for want of use would not have stayed
-used_without : (s : State) (u t : Table) (n : ℕ) → AreOpenIn u t → only_used (with_opens (without_unused (with_opens s t) n) u) ≡ only_used (with_opens s u)
+pub used_without : (s : State) (u t : Table) (n : ℕ) → AreOpenIn u t → only_used (with_opens (without_unused (with_opens s t) n) u) ≡ only_used (with_opens s u)
 used_without s u t n f =
     elim (cases_Bool (is_used (with_opens s t) n)) [
       | inl stays ↦ rw stays refl
@@ -70,81 +69,8 @@ used_without s u t n f =
           ])))
     ]
 
-opens_without : (s : State) (n : ℕ) → (without_unused s n).opens ≡ s.opens
-opens_without s n = elim (cases_Bool (is_used s n)) [ inl stays ↦ rw stays refl | inr goes ↦ rw goes refl ]
-
--- One open of a client that goes.
-table_less : (stays : ℕ → Bool) (t : Table) (o : OpenState) → IsTable t → In o t.opens → stays o.client ≡ false
-    → table_staying stays (without_open t o.number) ≡ table_staying stays t
-table_less stays t o is there goes =
-    same_table _ _ _ _ _ _ t.last t.instance opens locks
-    (within_twice _ _ t.held (λ s. any_left (λ (l : LockState). l.number == s) (λ (l : LockState). stays l.client) (filter (not_under o.number) t.locks))
-    ∙ ap (λ ls. held_within ls t.held) locks)
-  where
-    opens : filter (λ x. stays x.client) (filter (λ x. not (x.number == o.number)) t.opens) ≡ filter (λ x. stays x.client) t.opens
-    opens = filter_past (λ (x : OpenState). stays x.client) (λ x. not (x.number == o.number)) t.opens
-        (λ x in_x passes. elim (cases_Bool (x.number == o.number)) [
-          | inl same ↦ (let one = in_once (λ (o : OpenState). o.number) 1 _ t.opens x o is.opens in_x there (eqb-true _ _ same) in
-              absurd (false≢true (sym goes ∙ ap (λ (o : OpenState). stays o.client) (sym one) ∙ passes)))
-          | inr other ↦ ap not other
-        ])
-
-    locks : filter (λ l. stays l.client) (filter (not_under o.number) t.locks) ≡ filter (λ l. stays l.client) t.locks
-    locks = filter_past (λ (l : LockState). stays l.client) (not_under o.number) t.locks (λ l in_l passes. elim (cases_Bool (l.opened == o.number)) [
-      | inl under ↦ (let (x, is_x) = is.under l in_l in
-          let one = in_once (λ (o : OpenState). o.number) 1 _ t.opens x o is.opens is_x.stands there (is_x.number ∙ eqb-true _ _ under) in
-          absurd (false≢true (sym goes ∙ ap (λ (o : OpenState). stays o.client) (sym one) ∙ ap stays is_x.client ∙ passes)))
-      | inr other ↦ ap not other
-    ])
-
 open_left : (stays : ℕ → Bool) (t : Table) → AreOpenIn (table_staying stays t) t
 open_left stays t n = any_left (λ (o : OpenState). o.file == n) (λ (o : OpenState). stays o.client) t.opens
-
-staying_less : (stays : ℕ → Bool) (s : State) (o : OpenState) (n : ℕ) → IsTable s.opens → In o s.opens.opens → stays o.client ≡ false
-    → staying stays (without_unused (with_opens s (without_open s.opens o.number)) n) ≡ staying stays s
-staying_less stays s o n is there goes =
-    let t = without_open s.opens o.number in
-    let left = with_opens s t in
-    let same = table_less stays s.opens o is there goes in
-    ap (λ u. only_used (with_opens (without_unused left n) (table_staying stays u))) (opens_without left n)
-    ∙ (used_without s (table_staying stays t) t n (open_left stays t) ∙ ap (λ u. only_used (with_opens s u)) same)
-
-store_less : (s : State) (o : OpenState) → IsTable s.opens → In o s.opens.opens → IsStore s → IsStoreBut (with_opens s (without_open s.opens o.number)) o.file
-store_less s o table there is = record {
-  used = λ m other stands. used_more (m == root) (has_row s.tree.rows m) (is_open s m) (is_open left m) (still m other) (is.used m stands);
-  files = λ m stands. is.files m (any_left (λ (x : OpenState). x.file == m) (λ (x : OpenState). not (x.number == o.number)) s.opens.opens stands);
-}
-  where
-    left : State
-    left = with_opens s (without_open s.opens o.number)
-
-    still : (m : ℕ) → m ≢ o.file → is_open s m ≡ true → is_open left m ≡ true
-    still m other e =
-        let (x, in_x, file) = in_any (λ (x : OpenState). x.file == m) s.opens.opens e in
-        let apart : x.number == o.number ≡ false = elim (cases_Bool (x.number == o.number)) [
-          | inl same ↦ (let one = in_once (λ (o : OpenState). o.number) 1 _ s.opens.opens x o table.opens in_x there (eqb-true _ _ same) in
-              absurd (other (sym (eqb-true _ _ file) ∙ ap (λ (o : OpenState). o.file) one)))
-          | inr apart ↦ apart
-        ] in
-        any_in (λ (x : OpenState). x.file == m) _ x (stays_in (λ (x : OpenState). not (x.number == o.number)) s.opens.opens x in_x (ap not apart)) file
-
--- what a call drops: an open of the client, or nothing
-pub record Drops (t : Table) (who what : ℕ) (left : Table) (o : OpenState) : Type 0 where
-  pub there : In o t.opens
-  pub client : o.client ≡ who
-  pub file : o.file ≡ what
-  pub after : left ≡ without_open t o.number
-
-some_drops : (t : Table) (client file : ℕ) (o : Option OpenState) → find (λ o. o.client == client) t.opens ≡ o → Some file ≡ (drop_open t o).file
-    → (x : OpenState) × Drops t client file (drop_open t o).after x
-some_drops t client file None found e = absurd cc
-some_drops t client file (Some x) found e =
-    let is = find_in (λ (o : OpenState). o.client == client) t.opens x found in
-    (x, record { there = is.0; client = eqb-true _ _ is.1; file = cc; after = refl })
-
-none_drops : (t : Table) (o : Option OpenState) → None ≡ (drop_open t o).file → (o ≡ None) × ((drop_open t o).after ≡ t)
-none_drops t None e = (refl, refl)
-none_drops t (Some x) e = absurd cc
 
 pub swapped : (a b : Bool) → (a && b) ≡ (b && a)
 swapped true true = refl
@@ -182,7 +108,7 @@ staying_ends stays client s ends =
     both false = refl
 
 -- an object is there
-there_in : (xs : List Stored) (x : Stored) → In x xs → is_some (stored_in xs x.number) ≡ true
+pub there_in : (xs : List Stored) (x : Stored) → In x xs → is_some (stored_in xs x.number) ≡ true
 there_in [] x there = absurd there
 there_in (y ∷ ys) x (inl is) = let here : y.number == x.number ≡ true = eq-eqb y.number x.number (ap (λ (x : Stored). x.number) (sym is)) in rw here refl
 there_in (y ∷ ys) x (inr more) = elim (cases_Bool (y.number == x.number)) [ inl here ↦ rw here refl | inr other ↦ rw other (there_in ys x more) ]
@@ -209,7 +135,7 @@ found_same p (x ∷ xs) n e =
       ]
     ]
 
-used_open : (a r o : Bool) → o ≡ true → a || (r || o) ≡ true
+pub used_open : (a r o : Bool) → o ≡ true → a || (r || o) ≡ true
 used_open true r o e = refl
 used_open false true o e = refl
 used_open false false o e = e
@@ -249,38 +175,3 @@ staying_everybody s is table = staying_all (λ c. true) s is table (λ o there. 
 pub staying_others : (s : State) (client : ℕ) → IsStore s → IsTable s.opens → has_open s client ≡ false → staying (λ c. not (c == client)) s ≡ s
 staying_others s client is table none =
     staying_all (λ c. not (c == client)) s is table (λ o there. ap not (none_any (λ (o : OpenState). o.client == client) s.opens.opens o none there))
-
--- behind one open of a client that goes
-pub record IsOneLess (s : State) (client : ℕ) (after : State) : Type 0 where
-  pub fewer : length after.opens.opens < length s.opens.opens
-  pub rest : staying (λ c. not (c == client)) after ≡ staying (λ c. not (c == client)) s
-  pub store : IsStore after
-
-pub one_less : (s : State) (client file : ℕ) (t : Table) (after : State) → IsTable s.opens → IsStore s → Some file ≡ (drop_client s.opens client).file
-    → t ≡ (drop_client s.opens client).after → after ≡ without_unused (with_opens s t) file → (IsStoreBut (with_opens s t) file → IsStore after)
-    → IsOneLess s client after
-one_less s client file t after table is found left same keeps =
-    let (o, drops) = some_drops s.opens client file (find (λ o. o.client == client) s.opens.opens) refl found in
-    let stays : ℕ → Bool = λ c. not (c == client) in
-    let u = without_open s.opens o.number in
-    let opens : t ≡ u = left ∙ drops.after in
-    let ends : after ≡ without_unused (with_opens s u) file = same ∙ ap (λ t. without_unused (with_opens s t) file) opens in
-    let gone : not (o.number == o.number) ≡ false = ap not (eq-eqb o.number o.number refl) in
-    record {
-      fewer = subst (λ (t : Table). length t.opens < length s.opens.opens) (sym (ap (λ (s : State). s.opens) ends ∙ opens_without (with_opens s u) file))
-          (length_fewer (λ (x : OpenState). not (x.number == o.number)) s.opens.opens o drops.there gone);
-      rest = ap (staying stays) ends ∙ staying_less stays s o file table drops.there (ap not (eq-eqb o.client client drops.client));
-      store = keeps (subst (λ (t : Table). IsStoreBut (with_opens s t) file) (sym opens)
-          (subst (λ (n : ℕ). IsStoreBut (with_opens s u) n) drops.file (store_less s o table drops.there is)));
-    }
-
--- nothing goes
-pub record IsNoneLess (s : State) (client : ℕ) (t : Table) : Type 0 where
-  pub none : has_open s client ≡ false
-  pub same : t ≡ s.opens
-
-pub none_less : (s : State) (client : ℕ) (t : Table) → None ≡ (drop_client s.opens client).file → t ≡ (drop_client s.opens client).after
-    → IsNoneLess s client t
-none_less s client t found left =
-    let none = none_drops s.opens (find (λ o. o.client == client) s.opens.opens) found in
-    record { none = none_found (λ (o : OpenState). o.client == client) s.opens.opens none.0; same = left ∙ none.1 }

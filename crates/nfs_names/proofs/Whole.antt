@@ -97,7 +97,7 @@ unfolding access create get_attr get_fh link lookup lookup_p nverify put_fh put_
     put_root_fh read_dir read_link remove rename restore_fh save_fh secinfo_no_name verify
 store_one s x now (OpAccess asked) e tree is = answers_state IsStore s x Num.Access _ _ is (λ d. is)
 store_one s x now (OpCreate c) e tree is =
-    answers_state IsStore s x Num.Create (checked (asked_for s x c) (row_checks s c.objname)) (created s x now c) is
+    answers_state IsStore s x Num.Create (checked (asked_for s x c) (row_checks s c)) (created s x now c) is
     (λ m. store_new s m.place.number c.objname (new_of c.objtype) (sets_of x now (new_of c.objtype) m.wanted) now is)
 store_one s x now (OpGetAttr mask) e tree is = answers_state IsStore s x Num.GetAttr _ _ is (λ d. is)
 store_one s x now OpGetFh e tree is = answers_state IsStore s x Num.GetFh _ _ is (λ d. is)

@@ -1,9 +1,9 @@
 -- CREATE (RFC 8881 section 18.4): a directory or a symbolic link is made, and becomes the current filehandle's object.
-use Rattle.std.specs.Prelude.{ℕ, ◌+◌, ◌==◌, Bool, true, false, not, ◌&&◌, List, [], ◌∷◌, ◌++◌, length, nat_lt, nat_le, Some, Result, Ok, Err, is_some}
+use Rattle.std.specs.Prelude.{ℕ, ◌+◌, ◌==◌, Bool, true, false, not, ◌&&◌, List, [], ◌∷◌, ◌++◌, length, nat_lt, Some, Result, Ok, Err, is_some}
 use Rattle.std.specs.Prelude.{unwrap_or, option_map}
 use Rattle.nfs_xdr.specs.declared.time.Time.{Time}
 use Rattle.nfs_xdr.specs.declared.status.Status.{Status}
-use Rattle.nfs_xdr.specs.declared.status.Status.TheVariants.{Inval, NameTooLong, BadType, Exist, NoSpc, ServerFault}
+use Rattle.nfs_xdr.specs.declared.status.Status.TheVariants.{Inval, NameTooLong, BadType}
 use Rattle.nfs_compound.specs.declared.op_num.OpNum.TheVariants as Op
 use Rattle.nfs_compound.specs.Attributes.{Attributes}
 use Rattle.nfs_compound.specs.NameArgs.{Create, CreateType, Block, Character, Symlink, Other}
@@ -11,8 +11,8 @@ use Rattle.nfs_results.specs.declared.res.ChangeInfo.{ChangeInfo}
 use Rattle.nfs_results.specs.Result.{ResCreate}
 use Rattle.nfs_tree.specs.declared.done.Change.{Change}
 use Rattle.nfs_tree.specs.declared.sets.Sets.{Sets}
-use Rattle.nfs_tree.specs.Files.{Files, last_count, most_objects, most_text, has_name, can_change}
-use Rattle.nfs_tree.specs.Create.{New, Directory, Link, with_new}
+use Rattle.nfs_tree.specs.Files.{Files, last_count, most_text, can_change}
+use Rattle.nfs_tree.specs.Create.{New, Directory, Link, create_checks, with_new}
 use Rattle.nfs_tree.specs.Did.{raised}
 use Rattle.nfs_attrs.specs.declared.set_time.SetTime.{SetTime}
 use Rattle.nfs_attrs.specs.declared.set_time.SetTime.TheVariants.{Now, Given}
@@ -29,6 +29,7 @@ use Rattle.nfs_names.specs.State.{State, with_tree}
 use Rattle.nfs_names.specs.Context.{at_object}
 use Rattle.nfs_names.specs.Outcome.{Outcome, checked, answers}
 use Rattle.nfs_names.specs.Checks.{current, no_directory, denied, name_checks}
+use Rattle.nfs_names.specs.Faults.{by_tree}
 
 -- Directories and links are made; a number that is no type's is read like one that has nothing behind it.
 abbrev pub is_made : CreateType → Bool
@@ -84,12 +85,8 @@ new_checks x m = make_checks m.wanted x.who ++ (is_some m.wanted.size, Inval) �
 abbrev pub can_create : Files → ℕ → Bool
 can_create t d = can_change t d && (nat_lt t.last_object last_count && nat_lt t.last_cookie last_count)
 
-abbrev pub row_checks : State → List ℕ → Making → List (Bool × Status)
-row_checks s name m =
-    (has_name s.tree m.place.number name, Exist)
-    ∷ (nat_le most_objects (length s.tree.objects), NoSpc)
-    ∷ (not (can_create s.tree m.place.number), ServerFault)
-    ∷ []
+abbrev pub row_checks : State → Create → Making → List (Bool × Status)
+row_checks s c m = by_tree (create_checks s.tree m.place.number c.objname (new_of c.objtype))
 
 -- what is set: what is given, else the plain mode, and the caller's user and group
 abbrev pub time_of : Time → SetTime → Time
@@ -120,4 +117,4 @@ abbrev pub asked_for : State → Context → Create → Result Making Status
 asked_for s x c = checked (with_wanted (checked (current s x) (place_checks x c)) (wanted_of c.createattrs)) (new_checks x)
 
 unfoldable pub create : State → Context → Time → Create → Outcome
-create s x now c = answers s x Op.Create (checked (asked_for s x c) (row_checks s c.objname)) (created s x now c)
+create s x now c = answers s x Op.Create (checked (asked_for s x c) (row_checks s c)) (created s x now c)

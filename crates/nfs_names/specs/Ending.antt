@@ -1,7 +1,8 @@
 -- The end of clients (RFC 8881 sections 8.3 and 8.4.2): their opens go, with their lock states and the bytes that these hold; and so does each object but the
 -- root that then has neither a row nor an open.
-use Rattle.std.specs.Prelude.{ℕ, ◌==◌, Bool, filter}
+use Rattle.std.specs.Prelude.{ℕ, ◌==◌, Bool, not, filter, if◌then◌else◌}
 use Rattle.std.specs.List.{list_any}
+use Rattle.nfs_tree.specs.Names.{forget}
 use Rattle.nfs_opens.specs.Table.{Table}
 use Rattle.nfs_opens.specs.Closing.{held_within}
 use Rattle.nfs_names.specs.State.{State, with_tree, is_used}
@@ -20,6 +21,14 @@ table_staying stays t = record t {
 
 abbrev pub with_opens : State → Table → State
 with_opens s t = record s { opens = t }
+
+-- the state without what a client has open and locked, but with each object
+abbrev pub without_opens : State → ℕ → State
+without_opens s client = with_opens s (table_staying (λ c. not (c == client)) s.opens)
+
+-- an object goes unless it is used without the client
+abbrev pub without_own : State → ℕ → ℕ → State
+without_own s client n = if is_used (without_opens s client) n then s else with_tree s (forget s.tree n)
 
 -- of the objects those that are the root, have a row or are open
 abbrev pub only_used : State → State

@@ -1,4 +1,5 @@
 -- The status of what the tree refuses (RFC 8881 section 15.1).
+use Rattle.std.specs.Prelude.{Bool, List, map}
 use Rattle.nfs_xdr.specs.declared.status.Status.{Status}
 use Rattle.nfs_xdr.specs.declared.status.Status.TheVariants as S
 use Rattle.nfs_tree.specs.declared.fault.TreeFault.{TreeFault}
@@ -16,3 +17,7 @@ status_of F.NoSpc = S.NoSpc
 status_of F.Mlink = S.MLink
 status_of F.Counter = S.ServerFault
 status_of F.Memory = S.Delay
+
+-- the tree's own checks, under the statuses of its faults
+abbrev pub by_tree : List (Bool × TreeFault) → List (Bool × Status)
+by_tree checks = map (λ check. (check.0, status_of check.1)) checks

@@ -1,13 +1,12 @@
 -- LINK (RFC 8881 section 18.9): the saved filehandle's object gets one more name, in the current filehandle's directory.
-use Rattle.std.specs.Prelude.{ℕ, Bool, not, ◌&&◌, List, [], ◌∷◌, nat_lt, nat_le}
+use Rattle.std.specs.Prelude.{ℕ, Bool, List, ◌∷◌}
 use Rattle.nfs_xdr.specs.declared.time.Time.{Time}
 use Rattle.nfs_xdr.specs.declared.status.Status.{Status}
-use Rattle.nfs_xdr.specs.declared.status.Status.TheVariants.{IsDir, Exist, NoEnt, MLink, ServerFault}
+use Rattle.nfs_xdr.specs.declared.status.Status.TheVariants.{IsDir}
 use Rattle.nfs_compound.specs.declared.op_num.OpNum.TheVariants as Op
 use Rattle.nfs_results.specs.Result.{ResLink}
 use Rattle.nfs_tree.specs.Object.{is_directory}
-use Rattle.nfs_tree.specs.Files.{Files, last_count, most_links, has_name, has_row, links_in, can_change}
-use Rattle.nfs_tree.specs.Names.{with_link}
+use Rattle.nfs_tree.specs.Names.{link_checks, with_link}
 use Rattle.nfs_tree.specs.Did.{raised}
 use Rattle.nfs_attrs.specs.Permissions.{change}
 use Rattle.nfs_names.specs.declared.context.Context.{Context}
@@ -16,10 +15,7 @@ use Rattle.nfs_names.specs.State.{State, with_tree}
 use Rattle.nfs_names.specs.Outcome.{Outcome, checked, answers}
 use Rattle.nfs_names.specs.Checks.{both, no_directory, denied, name_checks}
 use Rattle.nfs_names.specs.Create.{change_info}
-
--- the counters let the directory, the object and the row be
-abbrev pub can_link : Files → ℕ → ℕ → Bool
-can_link t d n = can_change t d && (can_change t n && nat_lt t.last_cookie last_count)
+use Rattle.nfs_names.specs.Faults.{by_tree}
 
 -- first the places and the name are looked at ..
 abbrev pub place_checks : Context → List ℕ → Pair → List (Bool × Status)
@@ -29,14 +25,9 @@ place_checks x name p =
     ∷ denied x p.current change
     ∷ name_checks name
 
--- .. then what is there
+-- .. then what is there, as the tree does
 abbrev pub row_checks : State → List ℕ → Pair → List (Bool × Status)
-row_checks s name p =
-    (has_name s.tree p.current.number name, Exist)
-    ∷ (not (has_row s.tree.rows p.saved.number), NoEnt)
-    ∷ (nat_le most_links (links_in s.tree.rows p.saved.number), MLink)
-    ∷ (not (can_link s.tree p.current.number p.saved.number), ServerFault)
-    ∷ []
+row_checks s name p = by_tree (link_checks s.tree p.saved.number p.current.number name)
 
 abbrev pub linked : State → Context → Time → List ℕ → Pair → Outcome
 linked s x now name p = record {

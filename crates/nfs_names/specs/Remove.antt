@@ -1,12 +1,11 @@
 -- REMOVE (RFC 8881 section 18.25): a name goes, and with its last name an object that is not open.
-use Rattle.std.specs.Prelude.{ℕ, Bool, not, ◌&&◌, List, [], ◌∷◌}
+use Rattle.std.specs.Prelude.{ℕ, Bool, List, ◌∷◌}
 use Rattle.nfs_xdr.specs.declared.time.Time.{Time}
 use Rattle.nfs_xdr.specs.declared.status.Status.{Status}
-use Rattle.nfs_xdr.specs.declared.status.Status.TheVariants.{NoEnt, NotEmpty, ServerFault}
 use Rattle.nfs_compound.specs.declared.op_num.OpNum.TheVariants as Op
 use Rattle.nfs_results.specs.Result.{ResRemove}
-use Rattle.nfs_tree.specs.Files.{has_name, named, has_entries, can_change}
-use Rattle.nfs_tree.specs.Names.{without_name}
+use Rattle.nfs_tree.specs.Files.{named}
+use Rattle.nfs_tree.specs.Names.{remove_checks, without_name}
 use Rattle.nfs_tree.specs.Did.{raised}
 use Rattle.nfs_attrs.specs.Permissions.{change}
 use Rattle.nfs_names.specs.declared.context.Context.{Context}
@@ -15,6 +14,7 @@ use Rattle.nfs_names.specs.State.{State, with_tree, without_unused}
 use Rattle.nfs_names.specs.Outcome.{Outcome, checked, answers}
 use Rattle.nfs_names.specs.Checks.{current, no_directory, denied, name_checks}
 use Rattle.nfs_names.specs.Create.{change_info}
+use Rattle.nfs_names.specs.Faults.{by_tree}
 
 -- first the place and the name are looked at ..
 abbrev pub place_checks : Context → List ℕ → Node → List (Bool × Status)
@@ -23,13 +23,9 @@ place_checks x name d =
     ∷ denied x d change
     ∷ name_checks name
 
--- .. then what is there
+-- .. then what is there, as the tree does
 abbrev pub row_checks : State → List ℕ → Node → List (Bool × Status)
-row_checks s name d =
-    (not (has_name s.tree d.number name), NoEnt)
-    ∷ (has_entries s.tree.rows (named s.tree d.number name), NotEmpty)
-    ∷ (not (can_change s.tree d.number && can_change s.tree (named s.tree d.number name)), ServerFault)
-    ∷ []
+row_checks s name d = by_tree (remove_checks s.tree d.number name)
 
 abbrev pub removed : State → Context → Time → List ℕ → Node → Outcome
 removed s x now name d = record {

@@ -1,13 +1,12 @@
 -- RENAME (RFC 8881 section 18.26): an entry moves from the saved filehandle's directory to the current one's.
-use Rattle.std.specs.Prelude.{ℕ, Bool, not, ◌&&◌, List, [], ◌∷◌, ◌++◌, Option, Some, None, if◌then◌else◌}
+use Rattle.std.specs.Prelude.{ℕ, Bool, List, ◌∷◌, ◌++◌, Option, Some, None, if◌then◌else◌}
 use Rattle.nfs_xdr.specs.declared.time.Time.{Time}
 use Rattle.nfs_xdr.specs.declared.status.Status.{Status}
-use Rattle.nfs_xdr.specs.declared.status.Status.TheVariants.{NoEnt, Inval, Exist, ServerFault}
 use Rattle.nfs_compound.specs.declared.op_num.OpNum.TheVariants as Op
 use Rattle.nfs_compound.specs.NameArgs as args
 use Rattle.nfs_results.specs.Result.{ResRename}
-use Rattle.nfs_tree.specs.Files.{has_name, lookup}
-use Rattle.nfs_tree.specs.Names.{Move, move, moves, is_below_itself, is_in_the_way, can_move, with_moved}
+use Rattle.nfs_tree.specs.Files.{lookup}
+use Rattle.nfs_tree.specs.Names.{Move, move, moves, rename_checks, with_moved}
 use Rattle.nfs_tree.specs.Did.{raised, stays}
 use Rattle.nfs_attrs.specs.Permissions.{change}
 use Rattle.nfs_names.specs.declared.context.Context.{Context}
@@ -16,6 +15,7 @@ use Rattle.nfs_names.specs.State.{State, with_tree, without_unused}
 use Rattle.nfs_names.specs.Outcome.{Outcome, done, checked, answers}
 use Rattle.nfs_names.specs.Checks.{both, no_directory, denied, name_checks}
 use Rattle.nfs_names.specs.Create.{change_info}
+use Rattle.nfs_names.specs.Faults.{by_tree}
 
 abbrev pub move_of : args.Rename → Pair → Move
 move_of a p = move p.saved.number a.oldname p.current.number a.newname
@@ -30,14 +30,9 @@ place_checks x a p =
     ∷ name_checks a.oldname
     ++ name_checks a.newname
 
--- .. then what is there. Of two names of one object nothing moves, and nothing more is looked at.
+-- .. then what is there, as the tree does. Of two names of one object nothing moves, and nothing more is looked at.
 abbrev pub row_checks : State → args.Rename → Pair → List (Bool × Status)
-row_checks s a p =
-    (not (has_name s.tree p.saved.number a.oldname), NoEnt)
-    ∷ (moves s.tree (move_of a p) && is_below_itself s.tree (move_of a p), Inval)
-    ∷ (moves s.tree (move_of a p) && is_in_the_way s.tree (move_of a p), Exist)
-    ∷ (moves s.tree (move_of a p) && not (can_move s.tree (move_of a p)), ServerFault)
-    ∷ []
+row_checks s a p = by_tree (rename_checks s.tree (move_of a p))
 
 -- what had the new name goes as by REMOVE
 abbrev pub without_replaced : State → Option ℕ → State

@@ -76,7 +76,7 @@ impl Store {
     }
 
     /// Whether a row names it.
-    fn is_named(&self, number: u64) -> bool
+    pub(crate) fn is_named(&self, number: u64) -> bool
         ensures { result ≡ has_row self.now.tree.rows number }
     {
         self.tree.links(number) != 0

@@ -76,5 +76,5 @@ returns-in-Err c =
     let s = state_of c.args.store.now in
     let x = c.args.context.now in
     let a = view_create c.args.asked.now in
-    told_error true s x Op.Create (asked_for s x a) (row_checks s a.objname) (created s x c.args.now a) _ c.in-Err.status
+    told_error true s x Op.Create (asked_for s x a) (row_checks s a) (created s x c.args.now a) _ c.in-Err.status
     (asked_refuses s x a) (sym c.judge_making.ensures ∙ c.in-Err.is) c.refuse-in-Err.ensures
