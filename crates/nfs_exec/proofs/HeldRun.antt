@@ -33,13 +33,13 @@ use Rattle.nfs_opens.specs.Closing.{stands}
 use Rattle.nfs_names.specs.declared.context.Context.{Context}
 use Rattle.nfs_names.specs.Context.{begins}
 use Rattle.nfs_names.specs.State.{State, moment}
-use Rattle.nfs_names.specs.Ending.{staying, table_staying}
+use Rattle.nfs_names.specs.Ending.{table_staying}
 use Rattle.nfs_names.specs.Operation as names
 use Rattle.nfs_names.proofs.Untouched.{leaves_item}
 use Rattle.nfs_files.specs.Operation as files
 use Rattle.nfs_exec.specs.Machine.{Machine, Outcome, is_ok, or_delay, refuses, starts}
-use Rattle.nfs_exec.specs.Behind.{Step, step, on_store, moves_opens, marked_if, otherwise}
-use Rattle.nfs_exec.specs.Run.{Ran, run, in_room, follow, reserve, is_here, behind_here}
+use Rattle.nfs_exec.specs.Behind.{step, on_store, moves_opens, marked_if}
+use Rattle.nfs_exec.specs.Run.{in_room, reserve, is_here, behind_here}
 use Rattle.nfs_exec.specs.Place.{item_fault}
 use Rattle.nfs_exec.specs.ExchangeId.{exchange_id, exchange_id_number}
 use Rattle.nfs_exec.specs.CreateSession.{create_session_number, by_verdict, creates, by_created, confirmed, made_body, wish_of, without_any_opens}
@@ -49,12 +49,12 @@ use Rattle.nfs_exec.specs.Sequence.{Sequenced, sequenced}
 use Rattle.nfs_exec.specs.Compound.{carried_out, by_fault, first_item, renewed, begun, bare, in_session, by_first, compound}
 use Rattle.nfs_exec.specs.Laws.{Event, Expires, Asks, stepped, all_stepped}
 use Rattle.nfs_files.specs.Kept.{Told, Spares, Stands}
-use Rattle.nfs_exec.specs.Ops.{Done, done, ops, ops_in, ops_of, ops_by, left_by, IsRunOf}
-use Rattle.nfs_exec.specs.Held.{SparedBy, AreSpared, NoneClashes, StandsBefore, StandsWhile, IsAlone}
+use Rattle.nfs_exec.specs.Ops.{Done, done, ops, ops_in, ops_of, ops_by, left_by}
+use Rattle.nfs_exec.specs.Held.{AreSpared, StandsBefore, StandsWhile, IsAlone}
 use Rattle.nfs_exec.specs.Runs.{SparesClient, IsKeptBy, AreSparing, LocksAreKept}
 use Rattle.nfs_files.proofs.KeptOps.{spared, clashing}
 use Rattle.nfs_exec.proofs.OpsRun.{are_run}
-use Rattle.nfs_exec.proofs.WholeRun.{Is, whole_room, whole_event, whole_events, start_whole, marked_store, otherwise_store}
+use Rattle.nfs_exec.proofs.WholeRun.{Is, whole_room, whole_event, whole_events, start_whole, otherwise_store}
 
 abbrev pub Keeps : Told → Machine → Type 0
 Keeps k m = Stands k m.store.opens

@@ -511,9 +511,9 @@ first m declared who now refused i is = go (item_fault declared i)
 
 -- One operation behind a SEQUENCE, of a client that is confirmed; and whoever runs the next one is.
 
-record Stands (s : Step) : Type 0 where
-  machine : IsMachine s.outcome.machine
-  client : is_confirmed s.outcome.machine.clients s.context.client ≡ true
+pub record Stands (s : Step) : Type 0 where
+  pub machine : IsMachine s.outcome.machine
+  pub client : is_confirmed s.outcome.machine.clients s.context.client ≡ true
 
 -- a client's mark of its reclaim
 of_reclaimed : (m : Machine) (x : Context) → IsMachine m → is_confirmed m.clients x.client ≡ true → Stands (record { outcome = of_all m x; context = x })
@@ -658,20 +658,24 @@ of_step m x now refused i is known = elim (cases_Bool (names.on_names i)) [
     by_item (Operation (OpReclaimComplete one_fs)) = reclaim one_fs
     by_item i = record { machine = is; client = known }
 
+pub of_room : (limit sofar now : ℕ) (refused : Bool) (m : Machine) (x : Context) (i : Item) → IsMachine m → is_confirmed m.clients x.client ≡ true →
+    Stands (in_room limit sofar now refused m x i)
+of_room limit sofar now refused m x i is known = elim (cases_Bool (ltb limit (sofar + largest i + reserve))) [
+  | inl big ↦ rw big (record { machine = is; client = known })
+  | inr fits ↦ rw fits (of_step m x now refused i is known)
+]
+
 of_run : (limit sofar now : ℕ) (choice : Option ℕ) (m : Machine) (x : Context) (items : List Item) → IsMachine m → is_confirmed m.clients x.client ≡ true →
     IsMachine (run limit sofar now choice m x items).machine
 of_run limit sofar now choice m x [] is known = is
 of_run limit sofar now choice m x (i ∷ more) is known =
     let s = in_room limit sofar now (is_here choice) m x i in
-    let one : Stands s = elim (cases_Bool (ltb limit (sofar + largest i + reserve))) [
-      | inl big ↦ rw big (record { machine = is; client = known })
-      | inr fits ↦ rw fits (of_step m x now (is_here choice) i is known)
-    ] in
+    let one : Stands s = of_room limit sofar now (is_here choice) m x i is known in
     follow_kept IsMachine s.outcome (run limit (sofar + length s.outcome.result) now (behind_here choice) s.outcome.machine s.context more) one.machine
     (of_run limit (sofar + length s.outcome.result) now (behind_here choice) s.outcome.machine s.context more one.machine one.client)
 
 -- the session in which a request runs stands, so its client is confirmed
-runs_for : (m : Machine) (r : Request) (who : Caller) (size : ℕ) (s : Sequence) (c : Channel) → IsMachine m → sequenced m r who size s ≡ sequence.Runs c →
+pub runs_for : (m : Machine) (r : Request) (who : Caller) (size : ℕ) (s : Sequence) (c : Channel) → IsMachine m → sequenced m r who size s ≡ sequence.Runs c →
     is_confirmed m.clients (id_of s.sessionid).client ≡ true
 runs_for m r who size s c is runs =
     let fresh = runs_means r who size s (session_at m.sessions (id_of s.sessionid)) c runs in

@@ -148,7 +148,7 @@ latest_compound m r who size now choice is = compound_held (λ b. IsLatest b now
 
 -- Nor has any lease run out at that moment, where none had before.
 
-abbrev NoneOut : ℕ → Book → Type 0
+abbrev pub NoneOut : ℕ → Book → Type 0
 NoneOut now b = (client : ℕ) → has_run_out b now client ≡ false
 
 just_now : (lease now : ℕ) → is_out lease now (Some now) ≡ false
@@ -165,7 +165,7 @@ none_out now = record {
   end = λ b client is c. elim (cases_Bool (eqb c client)) [ inl here ↦ rw here refl | inr other ↦ rw other (is c) ];
 }
 
-expired_all : (b : Book) (now : ℕ) → NoneOut now (leases_kept b now)
+pub expired_all : (b : Book) (now : ℕ) → NoneOut now (leases_kept b now)
 expired_all b now c = elim (cases_Bool (has_run_out b now c)) [ inl out ↦ rw out refl | inr stays ↦ rw stays stays ]
 
 pub finds_nothing : ExpiryFindsNothing

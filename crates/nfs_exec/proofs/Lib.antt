@@ -15,9 +15,12 @@ pub mod Invariant
 pub mod Latest
 pub mod Repeating
 pub mod Numbering
+pub mod Quiet
 pub mod Rounds
 pub mod OpsRun
 pub mod WholeRun
 pub mod HeldRun
 pub mod ToldRun
 pub mod Renewing
+pub mod Delayed
+pub mod DelayedOpen

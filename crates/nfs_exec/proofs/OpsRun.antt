@@ -1,5 +1,5 @@
 -- The operations of a run are those that it runs.
-use Rattle.std.proofs.Common.{◌≡◌, ℕ, suc, ◌+◌, Bool, true, false, cond, List, [], ◌∷◌, length, Option, refl, ap}
+use Rattle.std.proofs.Common.{◌≡◌, suc, ◌+◌, Bool, true, false, cond, List, [], ◌∷◌, length, refl, ap}
 use Rattle.nfs_compound.specs.Operation.{Item}
 use Rattle.nfs_names.specs.declared.context.Context.{Context}
 use Rattle.nfs_exec.specs.Machine.{Machine, is_ok}

@@ -1,6 +1,6 @@
 -- How late a client's lease was renewed last.
-use Rattle.std.proofs.Common.{◌≡◌, ℕ, ◌+◌, ◌≤◌, Bool, true, false, cond, eqb, List, [], ◌∷◌, Option, Some, None, refl, sym, ◌∙◌, ap, subst, arith, inl, inr}
-use Rattle.std.specs.Prelude.{◌-◌, ◌==◌, option_map, if◌then◌else◌}
+use Rattle.std.proofs.Common.{◌≡◌, ℕ, ◌+◌, ◌≤◌, Bool, true, false, cond, eqb, List, [], ◌∷◌, Option, Some, None, refl, sym, subst, arith, inl, inr}
+use Rattle.std.specs.Prelude.{◌-◌, option_map}
 use Rattle.std.specs.Option.{option_map_or}
 use Rattle.std.proofs.lemmas.Bool.{cases_Bool, eqb-true, eq-eqb, le-ltb, false≢true}
 use Rattle.nfs_xdr.specs.Caller.{Caller}
@@ -9,7 +9,7 @@ use Rattle.nfs_compound.specs.Operation.{Item, Operation, OpSequence}
 use Rattle.nfs_compound.specs.Request.{Request}
 use Rattle.nfs_compound.specs.declared.session_args.Sequence.{Sequence}
 use Rattle.nfs_sessions.specs.Id.{id_of}
-use Rattle.nfs_lease.specs.Renewals.{Book, is_out, has_run_out, with_lease, with_renewal, without_lease}
+use Rattle.nfs_lease.specs.Renewals.{Book, is_out, has_run_out}
 use Rattle.nfs_names.specs.Context.{begins}
 use Rattle.nfs_exec.specs.Machine.{Machine}
 use Rattle.nfs_exec.specs.Expiry.{leases_kept}

@@ -1,11 +1,11 @@
 -- A LOCK that tells a lock leaves it standing, and it is kept through the rest of its compound.
-use Rattle.std.proofs.Common.{◌≡◌, ℕ, ◌+◌, Bool, true, false, cond, eqb, ltb, List, [], ◌∷◌, ◌++◌, length, Option, refl, sym, ◌∙◌, ap, subst, inl, inr}
+use Rattle.std.proofs.Common.{◌≡◌, ℕ, ◌+◌, Bool, true, false, cond, eqb, ltb, List, [], ◌∷◌, ◌++◌, length, Option, sym, ◌∙◌, ap, subst, inl, inr}
 use Rattle.std.proofs.lemmas.Bool.{cases_Bool}
 use Rattle.nfs_xdr.specs.Caller.{Caller}
 use Rattle.nfs_xdr.specs.declared.status.Status.{Status}
 use Rattle.nfs_xdr.specs.declared.status.Status.TheVariants.{RepTooBig, MinorVersMismatch}
 use Rattle.nfs_compound.specs.LockArgs as args
-use Rattle.nfs_compound.specs.Operation.{Op, Item, Operation, OpLock, OpSequence}
+use Rattle.nfs_compound.specs.Operation.{Item, Operation, OpLock, OpSequence}
 use Rattle.nfs_compound.specs.Arguments.{item_number}
 use Rattle.nfs_compound.specs.Request.{Request}
 use Rattle.nfs_compound.specs.declared.session_args.Sequence.{Sequence}
@@ -14,7 +14,7 @@ use Rattle.nfs_sessions.specs.Id.{id_of}
 use Rattle.nfs_names.specs.declared.context.Context.{Context}
 use Rattle.nfs_names.specs.Context.{begins}
 use Rattle.nfs_names.specs.State.{moment}
-use Rattle.nfs_files.specs.Kept.{Told, Tells, Stands}
+use Rattle.nfs_files.specs.Kept.{Told, Tells}
 use Rattle.nfs_files.proofs.ToldLocks.{told_stands}
 use Rattle.nfs_exec.specs.Machine.{Machine, is_ok, starts}
 use Rattle.nfs_exec.specs.Behind.{step}

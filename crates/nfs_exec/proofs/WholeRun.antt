@@ -1,5 +1,5 @@
 -- What a state keeps, through whole runs.
-use Rattle.std.proofs.Common.{◌≡◌, ℕ, ◌+◌, Bool, true, false, cond, eqb, ltb, List, [], ◌∷◌, length, Option, Some, None, refl, sym, ◌∙◌, ap, subst, inl, inr}
+use Rattle.std.proofs.Common.{◌≡◌, ℕ, ◌+◌, Bool, true, false, cond, eqb, ltb, List, [], ◌∷◌, length, Option, Some, None, refl, sym, subst, inl, inr}
 use Rattle.std.specs.Prelude.{Result, Ok, Err, is_some, not, ◌&&◌}
 use Rattle.std.proofs.lemmas.Bool.{cases_Bool}
 use Rattle.nfs_xdr.specs.Caller.{Caller}
@@ -40,7 +40,6 @@ use Rattle.nfs_files.proofs.Whole.{store_left}
 use Rattle.nfs_exec.specs.Machine.{Machine, Outcome, is_ok, or_delay, starts}
 use Rattle.nfs_exec.specs.Behind.{Step, step, on_store, moves_opens, marked_if, otherwise}
 use Rattle.nfs_exec.specs.Run.{run, in_room, reserve, is_here, behind_here}
-use Rattle.nfs_exec.specs.Expiry.{expired}
 use Rattle.nfs_exec.specs.Place.{item_fault}
 use Rattle.nfs_exec.specs.ReclaimComplete.{reclaim_complete, of_one, of_all}
 use Rattle.nfs_exec.specs.ExchangeId.{exchange_id, exchange_id_number}
@@ -51,8 +50,8 @@ use Rattle.nfs_exec.specs.Sequence.{Sequenced, sequenced}
 use Rattle.nfs_exec.specs.Compound.{carried_out, by_fault, first_item, renewed, begun, in_session, by_first, compound}
 use Rattle.nfs_exec.specs.Laws.{Event, Expires, Asks, HasNoClashes, stepped, all_stepped}
 use Rattle.nfs_exec.proofs.Behind.{follow_kept}
-use Rattle.nfs_exec.specs.Ops.{Done, done, ops, ops_in, ops_of, ops_by}
-use Rattle.nfs_exec.specs.Runs.{HasNone, NoneInRuns}
+use Rattle.nfs_exec.specs.Ops.{Done, ops, ops_in, ops_of, ops_by}
+use Rattle.nfs_exec.specs.Runs.{NoneInRuns}
 use Rattle.nfs_files.proofs.TreeSteps.{tree_names}
 use Rattle.nfs_files.proofs.TreeFiles.{IsWhole, tree_files, tree_ended, tree_new}
 use Rattle.nfs_files.proofs.TableSteps.{table_item, table_staying_is}

@@ -1,5 +1,5 @@
 -- What ends a lock that was told, and what does not (RFC 8881 sections 8.3 and 9.1): an operation that answers NFS4_OK and unlocks a byte
--- of it, sets one anew or closes its open; and the end of its client.
+-- of it, locks one in another way or closes its open; and the end of its client.
 use Rattle.std.specs.Prelude.{◌≡◌, ℕ, ◌==◌, Bool, true, false, List, [], ◌∷◌}
 use Rattle.std.specs.Option.{option_map_or}
 use Rattle.nfs_xdr.specs.Tables.{In}
@@ -13,7 +13,7 @@ use Rattle.nfs_exec.specs.Laws.{Event, ran}
 use Rattle.nfs_files.specs.Kept.{Told, Stands, Locks, Spares, Tells, Clashes}
 use Rattle.nfs_exec.specs.Ops.{Done}
 
--- Where it answered NFS4_OK it is no LOCK and no LOCKU for the lock state on a byte of it, and no CLOSE of its open.
+-- Where it answered NFS4_OK it is no LOCK of another kind and no LOCKU for the lock state on a byte of it, and no CLOSE of its open.
 abbrev pub SparedBy : Told → Done → Type 0
 SparedBy k d = (op : Op) → d.item ≡ Operation op → is_ok d.status ≡ true → Spares k d.before.store d.context op
 

@@ -12,6 +12,8 @@ pub mod Expiry
 pub mod View
 pub mod Laws
 pub mod Executing
+pub mod Delayed
+pub mod DelayedOpen
 pub mod Ops
 pub mod Held
 pub mod Runs

@@ -1,6 +1,8 @@
 //! Laws of compounds and of expiry, over their definitions.
 
 ghost use Rattle.nfs_exec.specs.Laws.{RepeatsChangeNothing, RefusalsChangeNothing, NeverRunsAgain, ExpiresOnce, ExpiryFindsNothing};
+ghost use Rattle.nfs_exec.specs.Delayed.{DelayIsACut};
+ghost use Rattle.nfs_exec.specs.DelayedOpen.{IsWorked};
 ghost use Rattle.nfs_exec.specs.Ops.{OpsAreRun, OpsAreRunIn};
 ghost use Rattle.nfs_exec.specs.Runs.{NoneInRuns, LocksAreKept, ToldLocksAreKept};
 
@@ -27,6 +29,17 @@ pub fn expires_once()
 /// Behind a compound at the moment of an expiry, expiry at the same moment finds nothing.
 pub fn expiry_finds_nothing()
     ensures { ExpiryFindsNothing }
+{}
+
+/// Memory refused at a place of a compound makes no difference, or the operation there answers NFS4ERR_DELAY: then its results and the machine behind it are
+/// those of the same compound cut in front of that operation, but for the last result and for what its slot keeps.
+pub fn delay_is_a_cut()
+    ensures { DelayIsACut }
+{}
+
+/// An OPEN that gets no memory, its number again and the next one, computed to their worked answers.
+pub fn a_delayed_open()
+    ensures { IsWorked }
 {}
 
 /// The operations of a compound, one by one, are those that it runs: as many, each from where the one before it ended, and the last leaves its machine.

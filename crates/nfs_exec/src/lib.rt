@@ -25,8 +25,6 @@ mod reclaim_complete;
 mod run;
 mod sequence;
 mod tables;
-#[cfg(test)]
-mod tests;
 mod world;
 
 pub use world::World;
