@@ -2,7 +2,7 @@
 use Rattle.std.proofs.Common.{◌≡◌, ℕ, Bool, true, false, List, [], ◌∷◌, Option, refl, sym, ◌∙◌, ap, arith}
 use Rattle.std.specs.Prelude.{max, if◌then◌else◌}
 use Rattle.nfs_serve.specs.Endpoint.{Answer, Server, Arrival, Stepped, stepped, ran}
-use Rattle.nfs_serve.specs.Alone.{taken, alone, answers, executing_answers, ExecutingAlone}
+use Rattle.nfs_serve.specs.Alone.{taken, alone, answers, executing_answers, ExecutingAlone, StaysSettled}
 use Rattle.nfs_serve.proofs.ServerLaws.{KeepsTime}
 
 -- x and m are alike once the moment of m is taken
@@ -63,6 +63,23 @@ alike s laws (a ∷ more) x m is = by_test s laws a more x m is (λ y n. alike s
 pub alone_ticked : (s : Server) → KeepsTime s → (m : s.State) (arrivals : List Arrival) → Alike s m m (alone s m arrivals) arrivals (executing_answers s m arrivals)
 alone_ticked s laws m arrivals = alike s laws arrivals m m refl
 
+-- and behind a run of a new server it changes nothing
+
+sound_ran : (s : Server) (laws : KeepsTime s) (records : List Arrival) (m : s.State) → laws.Sound m → laws.Sound (ran s m records)
+sound_ran s laws [] m sound = sound
+sound_ran s laws (a ∷ more) m sound = sound_ran s laws more (stepped s m a).state (laws.step_sound m a.bytes a.now a.choice sound)
+
+sound_here : (s : Server) (laws : KeepsTime s) (records : List Arrival) → laws.Sound (ran s s.new records)
+sound_here s laws records = sound_ran s laws records s.new laws.new_sound
+
+pub stays_settled : (s : Server) → KeepsTime s → StaysSettled s
+stays_settled s laws records = laws.settled (ran s s.new records) (sound_here s laws records)
+
 pub executing_alone : (s : Server) → KeepsTime s → ExecutingAlone s
 executing_alone s laws before arrivals =
-    let same = alone_ticked s laws (ran s s.new before) arrivals in record { state = same.state; answered = same.answered }
+    let m : s.State = ran s s.new before in
+    let same = alone_ticked s laws m arrivals in
+    record {
+      state = sym (laws.settled (ran s m arrivals) (sound_ran s laws arrivals m (sound_here s laws before))) ∙ same.state;
+      answered = same.answered;
+    }

@@ -1,12 +1,15 @@
 -- The connection's number and the record mark in front of a reply.
-use Rattle.std.proofs.Common.{◌≡◌, ℕ, ◌≤◌, List, ◌++◌, length, take, drop, refl, sym, ap, ◌∙◌, arith, [], length-append, length-drop, append_assoc}
+use Rattle.std.proofs.Common.{◌≡◌, ℕ, Option, ◌+◌, ◌≤◌, List, ◌++◌, length, take, drop, refl, sym, ap, ◌∙◌, arith, [], length-append, length-drop, append_assoc}
 use Rattle.std.proofs.lemmas.List.{take_at, drop_at, drop-drop}
 use Rattle.nfs_xdr.specs.Spelling.{number, hyper}
 use Rattle.nfs_xdr.proofs.Putting.{length_number}
 use Rattle.nfs_serve.specs.declared.form.Form.{Form}
 use Rattle.nfs_serve.specs.declared.form.Form.TheVariants.{Tagged, Plain}
-use Rattle.nfs_serve.specs.Run.{one_fragment, spell_reply}
-use Rattle.nfs_serve.specs.Engine.{in_form}
+use Rattle.nfs_serve.specs.declared.form.Outcome.{Outcome}
+use Rattle.nfs_serve.specs.declared.form.Outcome.TheVariants.{Reply, Silent}
+use Rattle.nfs_serve.specs.Run.{one_fragment, spell_reply, spell_answer}
+use Rattle.nfs_serve.specs.Server.{IsAnswer}
+use Rattle.nfs_serve.specs.Engine.{in_form, spell_lent}
 
 pub length-framed : (bytes : List ℕ) (conn : ℕ) → 8 ≤ length bytes → length (number conn ++ drop 4 bytes) ≡ length bytes
 length-framed bytes conn long = omega (arith, length-append (number conn) (drop 4 bytes), length_number conn, length-drop 4 bytes)
@@ -35,3 +38,18 @@ behind_front n = refl
 pub spelled_in_form : (form : Form) (conn : ℕ) (reply : List ℕ) → in_form form (number conn ++ one_fragment reply) ≡ spell_reply form conn reply
 spelled_in_form Tagged conn reply = refl
 spelled_in_form Plain conn reply = drop_at (number conn) (one_fragment reply) 4 (length_number conn)
+
+pub length-framed_reply : (reply : List ℕ) (conn : ℕ) → length (number conn ++ one_fragment reply) ≡ 8 + length reply
+length-framed_reply reply conn = omega (
+  arith,
+  length-append (number conn) (one_fragment reply),
+  length-append (number (2147483648 + length reply)) reply,
+  length_number conn,
+  length_number (2147483648 + length reply),
+)
+
+-- what is written of the reply that is lent is the answer
+pub lent : (form : Form) (conn : ℕ) (outcome : Outcome) (answer : Option (List ℕ)) (reply : List ℕ)
+    → IsAnswer outcome answer reply → spell_answer form conn answer ≡ spell_lent form conn outcome reply
+lent form conn Reply answer reply is = ap (spell_answer form conn) is
+lent form conn Silent answer reply is = ap (spell_answer form conn) is.0

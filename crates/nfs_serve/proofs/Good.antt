@@ -24,7 +24,7 @@ use Rattle.nfs_exec.specs.Run.{behind_here}
 use Rattle.nfs_exec.specs.Compound.{renewed, run_in, in_session, by_first, compound}
 use Rattle.nfs_exec.specs.Laws.{if_runs, first_runs}
 use Rattle.nfs_serve.specs.Seen.{sequenced}
-use Rattle.nfs_serve.proofs.Quiet.{ran_in}
+use Rattle.nfs_exec.proofs.Quiet.{ran_in}
 
 -- a number is read, whatever it is
 number_any : (n : ℕ) (rest : List ℕ) → (k : ℕ) × (number.read (spelling.number n ++ rest) ≡ Some (k, rest))

@@ -49,7 +49,7 @@ use Rattle.nfs_exec.specs.Executing.{first_sequence, sequence_of, is_alone, exec
 use Rattle.nfs_serve.specs.Step.{State, Stepped, refused, answered, with_arguments, by_procedure, reply_to, step}
 use Rattle.nfs_serve.specs.Seen.{slot_in, answer_in, sequenced, ticked, executes_by, asked_by, heading_of, heading_by, heading, seen, server}
 use Rattle.nfs_serve.proofs.Ticking.{step_is}
-use Rattle.nfs_serve.proofs.Quiet.{ran_in, quiet_compound, told_compound}
+use Rattle.nfs_exec.proofs.Quiet.{ran_in, quiet_compound, told_compound}
 use Rattle.nfs_serve.proofs.SlotsLeft.{slot_at, IsGiven, IsLeft, Stays, stands_given, held_sessions, held_given, held_slot, kept_slot, fewer_leaves, keep_there}
 use Rattle.nfs_serve.proofs.Spelled.{IsBad, answer_spelled, refusal_spelled, front_spelled}
 use Rattle.nfs_serve.proofs.Mute.{mute_compound}

@@ -5,6 +5,10 @@ pub mod Pieces
 pub mod Runs
 pub mod Speaking
 pub mod Framing
+pub mod Owing
+pub mod Advancing
+pub mod Rounds
+pub mod Accounts
 pub mod Stepping
 pub mod Exchanges
 pub mod Cutting
@@ -17,8 +21,8 @@ pub mod NetworkLists
 pub mod NetworkLines
 pub mod NetworkEvents
 pub mod AloneRuns
+pub mod Settled
 pub mod Ticking
-pub mod Quiet
 pub mod SlotsLeft
 pub mod Spelled
 pub mod Mute
@@ -27,3 +31,4 @@ pub mod Good
 pub mod LostReply
 pub mod Points
 pub mod Kept
+pub mod HeldLock

@@ -14,6 +14,7 @@ use Rattle.nfs_serve.specs.declared.form.Form.{Form}
 use Rattle.nfs_serve.specs.declared.form.Flow.TheVariants as Flow
 use Rattle.nfs_serve.specs.Step.{State, step}
 use Rattle.nfs_serve.specs.Ends.{AppendsFront}
+use Rattle.nfs_serve.specs.First.{TakesUp}
 use Rattle.nfs_serve.specs.Run.{Arrives, Overflows, events_of, Brings, Move, events, after, output, spell_answer, spell_overflow}
 use Rattle.nfs_serve.specs.Server.{Stands, flow_of, Feeds, Breaks}
 use Rattle.nfs_serve.proofs.Moves.{after-append, output-last, events-append}
@@ -57,13 +58,13 @@ stands_open TooLong (Begun p) going h = absurd h
 stands_open TooLong (Complete call) going h = absurd h
 stands_open TooLong Failed going h = absurd cc
 
-holds_stands : (rest : List ℕ) (is : Gathered) → waits is ≡ false → is_too_long is ≡ false
+pub holds_stands : (rest : List ℕ) (is : Gathered) → waits is ≡ false → is_too_long is ≡ false
     → IsBytes rest → Holds rest is → Stands (Open rest) is × IsUnfinished rest
 holds_stands rest (Begun p) none going bytes h = ((bytes, h), part_unfinished rest p h)
 holds_stands rest (Complete call) none going bytes h = absurd cc
 holds_stands rest Failed none going bytes h = absurd cc
 
-flow_open : (is : Gathered) → waits is ≡ false → is_too_long is ≡ false → Flow.Open ≡ flow_of is
+pub flow_open : (is : Gathered) → waits is ≡ false → is_too_long is ≡ false → Flow.Open ≡ flow_of is
 flow_open (Begun p) none going = refl
 flow_open (Complete call) none going = absurd cc
 flow_open Failed none going = absurd cc
@@ -79,7 +80,7 @@ pub record Taking (old now : State) (was is : Gathered) (conn moment : ℕ) (for
   pub order : events moves ≡ map (λ call. Arrives conn moment call) calls
   pub stream : (before : List ℕ) → IsBytes before → Holds before was → Taken before taken calls is
 
-pub taking_start : (s : State) (was : Gathered) (conn moment : ℕ) (form : Form) (piece : List ℕ) (h : Option (List ℕ))
+unfoldable pub taking_start : (s : State) (was : Gathered) (conn moment : ℕ) (form : Form) (piece : List ℕ) (h : Option (List ℕ))
     → Taking s s was was conn moment form piece piece h h
 taking_start s was conn moment form piece h = record {
   moves = [];
@@ -92,14 +93,10 @@ taking_start s was conn moment form piece h = record {
   stream = λ before bytes holds. record { behind = before; records = append-nil before; bytes = bytes; holds = holds };
 }
 
--- what feeding the rest said of the bytes that it took
-abbrev pub TakesUp : Gathered → List ℕ → Gathered → Type 0
-TakesUp is front new = (r : List ℕ) → IsBytes r → Holds r is → Holds (r ++ front) new
-
 module _ {old now : State} {was is : Gathered} {conn moment : ℕ} {form : Form} {piece rest : List ℕ} {h0 h1 : Option (List ℕ)}
     (t : Taking old now was is conn moment form piece rest h0 h1) where
   -- the records behind a front of the rest that ends one
-  taken_record : (front behind call before : List ℕ) → rest ≡ front ++ behind → TakesUp is front (Complete call) → IsBytes before → Holds before was
+  pub taken_record : (front behind call before : List ℕ) → rest ≡ front ++ behind → TakesUp is front (Complete call) → IsBytes before → Holds before was
       → AreRecords (before ++ (t.taken ++ front)) (t.calls ++ call ∷ []) []
   taken_record front behind call before split up bytes holds =
       let k = t.stream before bytes holds in
@@ -108,16 +105,16 @@ module _ {old now : State} {was is : Gathered} {conn moment : ℕ} {form : Form}
       rw (← append_assoc before t.taken front)
       (AreRecords-more ((before ++ t.taken) ++ front) t.calls (k.behind ++ front) [] call r (up k.behind k.bytes k.holds))
 
-  order_more : (call : List ℕ) (choice : Option ℕ)
+  pub order_more : (call : List ℕ) (choice : Option ℕ)
       → events (t.moves ++ record { event = Arrives conn moment call; choice = choice } ∷ []) ≡ map (λ c. Arrives conn moment c) (t.calls ++ call ∷ [])
   order_more call choice = events-append t.moves (record { event = Arrives conn moment call; choice = choice } ∷ [])
       ∙ ap (λ l. l ++ Arrives conn moment call ∷ []) t.order ∙ sym (map-append (λ c. Arrives conn moment c) t.calls (call ∷ []))
 
-  order_long : events (t.moves ++ record { event = Overflows conn; choice = None } ∷ []) ≡ events_of conn moment t.calls TooLong
+  pub order_long : events (t.moves ++ record { event = Overflows conn; choice = None } ∷ []) ≡ events_of conn moment t.calls TooLong
   order_long = events-append t.moves (record { event = Overflows conn; choice = None } ∷ []) ∙ ap (λ l. l ++ Overflows conn ∷ []) t.order
 
   -- the record that ends in the rest ran, and its reply was written
-  pub taking_more : (front behind call : List ℕ) (choice : Option ℕ) (later : State) (h2 : Option (List ℕ))
+  unfoldable pub taking_more : (front behind call : List ℕ) (choice : Option ℕ) (later : State) (h2 : Option (List ℕ))
       → rest ≡ front ++ behind → TakesUp is front (Complete call)
       → later ≡ (step now call moment choice).state → Appends h1 h2 (spell_answer form conn (step now call moment choice).reply)
       → Taking old later was (Begun start) conn moment form piece behind h0 h2
@@ -140,7 +137,7 @@ module _ {old now : State} {was is : Gathered} {conn moment : ℕ} {form : Form}
       }
 
   -- nothing of the rest ends a record
-  pub taking_ends : (new : Gathered) → is_too_long was ≡ false → waits new ≡ false → is_too_long new ≡ false
+  unfoldable pub taking_ends : (new : Gathered) → is_too_long was ≡ false → waits new ≡ false → is_too_long new ≡ false
       → IsBytes piece → TakesUp is rest new → Feeds old now was new conn moment piece form h0 h1
   taking_ends new began none going piece_bytes up =
       let bytes : IsBytes rest = bytes_behind_front t.taken rest (subst IsBytes t.split piece_bytes) in record {
@@ -168,7 +165,7 @@ module _ {old now : State} {was is : Gathered} {conn moment : ℕ} {form : Form}
       let up : TakesUp is rest is = λ r r_bytes holds. rw (none, append-nil) holds in
       (taking_ends is began done going bytes up, flow_open is done going, well)
 
-  reads_long : (before : List ℕ) → IsBytes before → Holds before was
+  pub reads_long : (before : List ℕ) → IsBytes before → Holds before was
       → ((r : List ℕ) → IsBytes r → Holds r is → (used : ℕ) × Holds (r ++ take used rest) Failed) → IsReading (before ++ piece) t.calls TooLong
   reads_long before bytes holds up =
       let k = t.stream before bytes holds in
@@ -184,7 +181,7 @@ module _ {old now : State} {was is : Gathered} {conn moment : ℕ} {form : Form}
       }
 
   -- the rest makes the stream too long, which was reported
-  pub taking_long : (h2 : Option (List ℕ)) → is_too_long was ≡ false → ((r : List ℕ) → IsBytes r → Holds r is → (used : ℕ) × Holds (r ++ take used rest) Failed)
+  unfoldable pub taking_long : (h2 : Option (List ℕ)) → is_too_long was ≡ false → ((r : List ℕ) → IsBytes r → Holds r is → (used : ℕ) × Holds (r ++ take used rest) Failed)
       → Appends h1 h2 (spell_overflow form conn) → Feeds old now was Failed conn moment piece form h0 h2
   taking_long h2 began up wrote =
       let m : Move = record { event = Overflows conn; choice = None } in record {

@@ -82,7 +82,7 @@ taken_later s c = le-max_left s.moment c.now
 pub whole_before : (s : State) (c : Came) → Is s.machine → Is (before s c)
 whole_before s c is = whole_event s.machine (Expires (taken s c)) is
 
-whole_left : (m : Machine) (o : Option Event) → Is m → Is (left m o)
+pub whole_left : (m : Machine) (o : Option Event) → Is m → Is (left m o)
 whole_left m None is = is
 whole_left m (Some e) is = whole_event m e is
 

@@ -51,7 +51,7 @@ pub record KeepsSlots (s : Server) : Type 1 where
       → Sound m → Given m p → IsElsewhere s m p bytes now
       → (s.slot_at (s.step m bytes now choice).state p ≡ s.slot_at m p) ⊎ (s.slot_at (s.step m bytes now choice).state p ≡ None)
 
-pub record KeepsTime (s : Server) : Type 0 where
+pub record KeepsTime (s : Server) : Type 1 where
   -- expiry at two moments is expiry at the later
   pub twice : (m : s.State) (early late : ℕ) → s.tick (s.tick m early) late ≡ s.tick m (max early late)
   -- a step takes the later of the two moments, and begins with it
@@ -60,3 +60,8 @@ pub record KeepsTime (s : Server) : Type 0 where
   pub ticks_first : (m : s.State) (bytes : List ℕ) (early late : ℕ) (choice : Option ℕ) → s.step (s.tick m early) bytes late choice ≡ s.step m bytes (max early late) choice
   -- and where it does not execute, it does nothing more
   pub only_ticks : (m : s.State) (bytes : List ℕ) (now : ℕ) (choice : Option ℕ) → s.executes m bytes now ≡ false → (s.step m bytes now choice).state ≡ s.tick m now
+  -- what holds of each state that a run of a new server leaves: nothing is left to run out
+  pub Sound : s.State → Type 0
+  pub new_sound : Sound s.new
+  pub step_sound : (m : s.State) (bytes : List ℕ) (now : ℕ) (choice : Option ℕ) → Sound m → Sound (s.step m bytes now choice).state
+  pub settled : (m : s.State) → Sound m → s.tick m (s.moment m) ≡ m

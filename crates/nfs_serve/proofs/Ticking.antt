@@ -23,6 +23,7 @@ use Rattle.nfs_exec.specs.Expiry.{expired}
 use Rattle.nfs_exec.specs.Laws.{if_runs, first_runs}
 use Rattle.nfs_exec.proofs.Repeating.{expires}
 use Rattle.nfs_serve.proofs.ServerLaws.{KeepsTime}
+use Rattle.nfs_serve.proofs.Settled.{IsSettled, settled_new, settled_step, ticks_nothing}
 use Rattle.nfs_exec.specs.Executing.{is_alone, executes}
 use Rattle.nfs_serve.specs.Step.{State, Stepped, with_arguments, by_procedure, reply_to, step}
 use Rattle.nfs_serve.specs.Seen.{ticked, executes_by, asked_by, seen, server}
@@ -133,4 +134,8 @@ keeps_time mode instance lease = record {
   ticks_first = λ s bytes early late choice. ap seen (stepped_from (ticked s early) s bytes late (max early late) choice (twice s early late));
   only_ticks = λ s bytes now choice e.
       ap (λ (r : Stepped). r.state) (step_is s bytes now choice) ∙ reply_idle (ticked s now) (length bytes) choice (call_of bytes) e;
+  Sound = IsSettled;
+  new_sound = settled_new mode instance lease;
+  step_sound = settled_step;
+  settled = ticks_nothing;
 }

@@ -25,12 +25,16 @@ executing_answers s m (a ∷ more) =
     if s.executes m a.bytes a.now then (stepped s m a).answer ∷ executing_answers s (stepped s m a).state more
     else executing_answers s (stepped s m a).state more
 
--- The executing records alone leave the same state as the whole list, once both take the list's last moment and what has run out by then
--- goes; and they are answered as they are in the list.
+-- The whole list leaves what the executing records alone leave, once these take the list's last moment and what has run out by then goes; and
+-- they are answered as they are in the list.
 pub record LeavesAlike (s : Server) (m : s.State) (arrivals : List Arrival) : Type 0 where
-  pub state : s.tick (ran s m arrivals) (s.moment (ran s m arrivals)) ≡ s.tick (ran s m (alone s m arrivals)) (s.moment (ran s m arrivals))
+  pub state : ran s m arrivals ≡ s.tick (ran s m (alone s m arrivals)) (s.moment (ran s m arrivals))
   pub answered : executing_answers s m arrivals ≡ answers s m (alone s m arrivals)
 
 -- this holds of every list of records, behind every run of a new server
 abbrev pub ExecutingAlone : Server → Type 0
 ExecutingAlone s = (before arrivals : List Arrival) → LeavesAlike s (ran s s.new before) arrivals
+
+-- Behind any records to a new server nothing is left to run out: to take the moment that was taken last changes nothing.
+abbrev pub StaysSettled : Server → Type 0
+StaysSettled s = (records : List Arrival) → s.tick (ran s s.new records) (s.moment (ran s s.new records)) ≡ ran s s.new records

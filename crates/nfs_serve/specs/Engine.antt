@@ -1,6 +1,6 @@
 -- What contracts see of the part of the server that steps records and keeps their replies on a sheet; private contracts
 -- alone speak of it.
-use Rattle.std.specs.Prelude.{◌≡◌, ℕ, List, drop, Some}
+use Rattle.std.specs.Prelude.{◌≡◌, ℕ, List, [], drop, Some}
 use Rattle.nfs_xdr.specs.SheetState.{SheetState, Puts}
 use Rattle.nfs_rpc.specs.declared.refusal.Refusal.{Refusal}
 use Rattle.nfs_rpc.specs.declared.refusal.Refusal.TheVariants as Refusals
@@ -11,6 +11,7 @@ use Rattle.nfs_serve.specs.declared.form.Outcome.TheVariants.{Reply, Silent}
 use Rattle.nfs_exec.specs.View as exec
 use Rattle.nfs_exec.specs.View.{machine_of}
 use Rattle.nfs_serve.specs.Step.{State, Stepped}
+use Rattle.nfs_serve.specs.Run.{spell_reply}
 
 -- what lasts from one record to the next, as it is kept, and the state that the steps speak of
 pub record Kept : Type 0 where
@@ -43,3 +44,8 @@ pub record PutsReply (stepped : Stepped) (old new : SheetState) (left : State) :
 abbrev pub in_form : Form → List ℕ → List ℕ
 in_form Tagged bytes = bytes
 in_form Plain bytes = drop 4 bytes
+
+-- what is written of the reply that is lent
+abbrev pub spell_lent : Form → ℕ → Outcome → List ℕ → List ℕ
+spell_lent form conn Reply reply = spell_reply form conn reply
+spell_lent form conn Silent reply = []

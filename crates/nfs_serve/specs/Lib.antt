@@ -10,6 +10,13 @@ pub mod Exchanges
 pub mod Engine
 pub mod Reading
 pub mod Running
+pub mod First
+pub mod Desk
+pub mod Deeds
+pub mod Boxes
+pub mod Lane
+pub mod Hub
+pub mod Account
 pub mod Endpoint
 pub mod Network
 pub mod Alone
@@ -17,3 +24,4 @@ pub mod Seen
 pub mod LostReply
 pub mod Points
 pub mod Kept
+pub mod HeldLock

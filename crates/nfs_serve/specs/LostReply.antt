@@ -1,5 +1,5 @@
 -- A reply that is lost, worked by hand in words of four bytes (RFC 8881 sections 2.10.6.1, 18.35, 18.36 and 18.46). To a new server of
--- instance 7 come EXCHANGE_ID and CREATE_SESSION of one owner. Its caller sends two compounds on slot 1 of the session, each a SEQUENCE
+-- instance 7 come EXCHANGE_ID and CREATE_SESSION of the owner `A`. Its caller sends two compounds on slot 1 of the session, each a SEQUENCE
 -- alone. The reply to the second does not reach it; it sends that one again, under another xid, and accepts what comes.
 use Rattle.std.specs.Prelude.{◌≡◌, ℕ, ◌+◌, ◌*◌, ◌^◌, List, [], ◌∷◌, ◌++◌, None}
 use Rattle.nfs_serve.specs.Exchanges.{words}
@@ -11,16 +11,16 @@ use Rattle.nfs_serve.specs.Seen.{server}
 abbrev pub call : ℕ → List ℕ → List ℕ
 call xid args = words (xid ∷ 0 ∷ 2 ∷ 100003 ∷ 4 ∷ 1 ∷ 1 ∷ 20 ∷ 3 ∷ 0 ∷ 5 ∷ 6 ∷ 0 ∷ 0 ∷ 0 ∷ []) ++ args
 
--- no tag, minor version 1, one operation; verifier 1, owner `A`, no flags, no state protection
-abbrev pub exchange_id : List ℕ
-exchange_id = words (0 ∷ 1 ∷ 1 ∷ 42 ∷ 0 ∷ 1 ∷ 1 ∷ 0x4100_0000 ∷ 0 ∷ 0 ∷ 0 ∷ [])
+-- no tag, minor version 1, one operation; verifier 1, an owner of one byte, no flags, no state protection
+abbrev pub exchange_id : ℕ → List ℕ
+exchange_id owner = words (0 ∷ 1 ∷ 1 ∷ 42 ∷ 0 ∷ 1 ∷ 1 ∷ owner ∷ 0 ∷ 0 ∷ 0 ∷ [])
 
--- client 1 of instance 7, number 1; a channel of 4 slots, and one for calls back, which are not secured
-abbrev pub create_session : List ℕ
-create_session = words (0 ∷ 1 ∷ 1 ∷ 43 ∷ 7 ∷ 1 ∷ 1 ∷ 0 ∷ 0 ∷ 4096 ∷ 4100 ∷ 2052 ∷ 8 ∷ 4 ∷ 0 ∷ 0 ∷ 4104 ∷ 4108 ∷ 2056 ∷ 3 ∷ 2 ∷ 0 ∷ 0x4000_0000 ∷ 1 ∷ 0 ∷ [])
+-- a client of instance 7, number 1; a channel of 4 slots, and one for calls back, which are not secured
+abbrev pub create_session : ℕ → List ℕ
+create_session client = words (0 ∷ 1 ∷ 1 ∷ 43 ∷ 7 ∷ client ∷ 1 ∷ 0 ∷ 0 ∷ 4096 ∷ 4100 ∷ 2052 ∷ 8 ∷ 4 ∷ 0 ∷ 0 ∷ 4104 ∷ 4108 ∷ 2056 ∷ 3 ∷ 2 ∷ 0 ∷ 0x4000_0000 ∷ 1 ∷ 0 ∷ [])
 
 abbrev pub before : List Arrival
-before = record { bytes = call 1 exchange_id; now = 100; choice = None } ∷ record { bytes = call 2 create_session; now = 101; choice = None } ∷ []
+before = record { bytes = call 1 (exchange_id 0x4100_0000); now = 100; choice = None } ∷ record { bytes = call 2 (create_session 1); now = 101; choice = None } ∷ []
 
 abbrev pub here : Server
 here = server 511 7 90

@@ -1,6 +1,6 @@
 //! A connection: what is held of its stream, and what its pieces come to (RFC 5531 section 11).
 
-ghost use Rattle.std.specs.Prelude.{◌≡◌, ◌≤◌, ◌++◌, [], IfOk, OnOk, OnErr, false};
+ghost use Rattle.std.specs.Prelude.{◌≡◌, ◌≤◌, ◌<◌, ◌++◌, ℕ, List, [], length, take, IfOk, OnOk, OnErr, false};
 ghost use Rattle.nfs_xdr.specs.Codec.{IsBytes};
 ghost use Rattle.nfs_xdr.specs.Spelling.{number};
 ghost use Rattle.nfs_rpc.specs.Feeding.{waits, is_too_long};
@@ -9,11 +9,14 @@ ghost use Rattle.nfs_serve.specs.Ends.{Writes};
 ghost use Rattle.nfs_serve.specs.Run.{spell_overflow};
 ghost use Rattle.nfs_serve.specs.Server.{fresh, FeedsOr};
 ghost use Rattle.nfs_serve.specs.Script.{last_moment};
+ghost use Rattle.nfs_serve.specs.First.{TakesFirst};
+ghost use Rattle.nfs_serve.specs.Desk.{TakesPart, most_owed};
 
 use crate::Sink;
 use crate::engine::Engine;
-use crate::form::{Flow, Form};
+use crate::form::{Flow, Form, Outcome};
 use crate::moving::{WriteFailed, put};
+use crate::outbox::Outbox;
 use crate::script::Entry;
 use nfs_rpc::{Fed, Records};
 use std::alloc::{AllocError, Global};
@@ -21,6 +24,17 @@ use std::marker::Model;
 
 /// The bytes of a record mark.
 const MARK: usize = 4;
+
+/// What the first record of a piece comes to.
+#[derive(Clone, Copy, Debug, PartialEq, Eq)]
+pub enum First {
+    /// All of the piece was taken, and no record ends in it.
+    Nothing,
+    /// The record that ends with the last of so many bytes was stepped, and answered so. A reply is lent by the engine.
+    Record(usize, Outcome),
+    /// The stream is too long.
+    TooLong,
+}
 
 /// What is held of a connection's stream. Between two calls no whole record waits.
 #[derive(Drop)]
@@ -55,6 +69,41 @@ impl Connection {
         ensures { self.new ≡ fresh }
     {
         self.records.reset();
+    }
+
+    /// Whether the stream is too long.
+    pub fn is_too_long(&self) -> bool
+        ensures { result ≡ is_too_long self.now }
+    {
+        self.records.is_too_long()
+    }
+
+    /// Takes the bytes of a piece up to the end of the first record in them, or all of them, and steps that record. What it is
+    /// answered, with its record mark, is put behind what is owed. Answers how many bytes were taken.
+    pub fn take_one(
+        &mut self,
+        alloc: Global,
+        engine: &mut Engine,
+        conn: u32,
+        piece: &[u8],
+        now: u64,
+        owed: &mut Outbox,
+    ) -> usize
+        requires open { is_too_long self.old ≡ false }
+        requires some { 0 < length piece.now }
+        requires moment { now ≤ last_moment }
+        requires room { owed.old.laid ≤ most_owed }
+        ensures used { (0 < result) × (result ≤ length piece.now) }
+        ensures taken { (out : List ℕ) × TakesPart conn (state_of engine.old.kept) self.old now (take result piece.now) (state_of engine.new.kept) self.new out × (owed.new.bytes ≡ owed.old.bytes ++ out) }
+    {
+        match take_first(&mut self.records, alloc, engine, piece, now) {
+            First::Nothing => piece.len(),
+            First::TooLong => piece.len(),
+            First::Record(used, outcome) => {
+                engine.owe_answer(outcome, conn, owed);
+                used
+            }
+        }
     }
 
     /// Takes the piece of an entry: each record that it ends is stepped and its reply written.
@@ -108,26 +157,48 @@ fn take_piece<W: Sink>(
 {
     let mut rest = entry.piece;
     while !rest.is_empty() {
-        // A record that stands whole in the piece is stepped where it stands.
-        if let Some(call) = records.whole(rest) {
-            engine.answer(alloc, call, entry.conn, entry.moment, form, out)?;
-            rest = &rest[MARK + call.len()..];
-            continue;
-        }
-        match records.feed(rest) {
-            Fed::More => return Ok(Flow::Open),
-            Fed::TooLong => {
+        match take_first(records, alloc, engine, rest, entry.moment) {
+            First::Nothing => return Ok(Flow::Open),
+            First::TooLong => {
                 put_overflow(entry.conn, form, out)?;
                 return Ok(Flow::Shut);
             }
-            Fed::Whole(used) => {
+            First::Record(used, outcome) => {
                 rest = &rest[used..];
-                engine.answer(alloc, records.record(), entry.conn, entry.moment, form, out)?;
-                records.take();
+                engine.write_answer(outcome, entry.conn, form, out)?;
             }
         }
     }
     Ok(Flow::Open)
+}
+
+/// Takes the bytes of a piece up to the end of the first record in them, or all of them, and steps that record.
+fn take_first(
+    records: &mut Records,
+    alloc: Global,
+    engine: &mut Engine,
+    piece: &[u8],
+    now: u64,
+) -> First
+    requires waits { waits records.old ≡ false }
+    requires open { is_too_long records.old ≡ false }
+    requires moment { now ≤ last_moment }
+    ensures { TakesFirst result engine.old engine.new records.old records.new now piece.now }
+{
+    // A record that stands whole in the piece is stepped where it stands.
+    if let Some(call) = records.whole(piece) {
+        let outcome = engine.record(alloc, call, now);
+        return First::Record(MARK + call.len(), outcome);
+    }
+    match records.feed(piece) {
+        Fed::More => First::Nothing,
+        Fed::TooLong => First::TooLong,
+        Fed::Whole(used) => {
+            let outcome = engine.record(alloc, records.record(), now);
+            records.take();
+            First::Record(used, outcome)
+        }
+    }
 }
 
 /// Tells that a stream has become too long.

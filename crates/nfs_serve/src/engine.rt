@@ -7,17 +7,20 @@ ghost use Rattle.nfs_compound.specs.ReadRequest.{request_at};
 ghost use Rattle.nfs_exec.specs.Laws.{HasNoClashes};
 ghost use Rattle.nfs_exec.specs.Machine.{IsMachine};
 ghost use Rattle.nfs_serve.specs.Step.{State, step, new_state, by_procedure, with_arguments};
-ghost use Rattle.nfs_serve.specs.Run.{one_fragment, spell_reply, spell_answer};
+ghost use Rattle.nfs_serve.specs.Run.{one_fragment, spell_reply};
 ghost use Rattle.nfs_serve.specs.Server.{IsAnswer};
 ghost use Rattle.nfs_lease.specs.Renewals.{IsLatest};
 ghost use Rattle.nfs_exec.specs.View.{machine_of};
-ghost use Rattle.nfs_serve.specs.Engine.{PutsReply, outcome_of, in_form, state_of};
+ghost use Rattle.nfs_serve.specs.Engine.{PutsReply, outcome_of, in_form, spell_lent, state_of};
 ghost use Rattle.nfs_serve.specs.Ends.{Writes};
 ghost use Rattle.nfs_serve.specs.Script.{last_moment};
+ghost use Rattle.nfs_serve.specs.Desk.{most_owed};
+ghost use Rattle.nfs_serve.specs.declared.form.Form.TheVariants.{Plain};
 
 use crate::Sink;
 use crate::form::{Form, Outcome};
 use crate::moving::{WriteFailed, put};
+use crate::outbox::Outbox;
 use nfs_compound::{Compound, Garbage};
 use nfs_exec::World;
 use nfs_rpc::{AcceptStat, Call, LAST_FRAGMENT, Procedure, Refusal, write_head, write_refusal};
@@ -130,23 +133,37 @@ impl Engine {
         self.sheet.cut(FRONT);
     }
 
-    /// Steps a record that came on a connection, and writes the reply where there is one.
-    pub fn answer<W: Sink>(
+    /// Writes what a record that came on a connection was answered.
+    pub fn write_answer<W: Sink>(
         &mut self,
-        alloc: Global,
-        call: &[u8],
+        outcome: Outcome,
         conn: u32,
-        now: u64,
         form: Form,
         out: &mut W,
     ) -> Result<(), WriteFailed>
-        requires now { now ≤ last_moment }
-        requires out { W.has_failed out.old ≡ false }
-        ensures { (choice : Option ℕ) × ((state_of self.new.kept) ≡ (step (state_of self.old.kept) call.now now choice).state) × Writes result (W.held out.old) (W.held out.new) (spell_answer form conn (step (state_of self.old.kept) call.now now choice).reply) (W.has_failed out.new) }
+        requires { W.has_failed out.old ≡ false }
+        ensures wrote { Writes result (W.held out.old) (W.held out.new) (spell_lent form conn outcome self.old.reply) (W.has_failed out.new) }
+        ensures same { self.new ≡ self.old }
     {
-        match self.record(alloc, call, now) {
+        match outcome {
             Outcome::Reply => self.put_reply(conn, form, out),
             Outcome::Silent => Ok(()),
+        }
+    }
+
+    /// Puts what a record was answered, with its record mark alone, behind what is owed. No answer is longer than the room that
+    /// the outbox keeps for one.
+    pub fn owe_answer(&mut self, outcome: Outcome, conn: u32, out: &mut Outbox)
+        requires { out.old.laid ≤ most_owed }
+        ensures owed { out.new.bytes ≡ out.old.bytes ++ spell_lent Plain conn outcome self.old.reply }
+        ensures same { self.new ≡ self.old }
+    {
+        match outcome {
+            Outcome::Reply => {
+                frame(&mut self.sheet, conn);
+                out.put(in_form(self.sheet.bytes(), Form::Plain));
+            }
+            Outcome::Silent => {}
         }
     }
 
@@ -245,6 +262,7 @@ fn frame(sheet: &mut Sheet, conn: u32)
     requires front { 8 ≤ length sheet.old.bytes }
     requires room { sheet.old.room ≡ 70008 }
     ensures bytes { sheet.new.bytes ≡ number conn ++ one_fragment (drop 8 sheet.old.bytes) }
+    ensures size { length sheet.new.bytes ≤ 70008 }
     ensures room { sheet.new.room ≡ sheet.old.room }
 {
     let size = (sheet.len() - FRONT) as u32;

@@ -1,9 +1,11 @@
 //! Laws of the definitions alone: each is the contract of a function that takes and answers nothing.
 
 ghost use Rattle.std.specs.Prelude.{ℕ};
-ghost use Rattle.nfs_serve.specs.Alone.{ExecutingAlone};
+ghost use Rattle.nfs_serve.specs.Account.{NothingIsLost};
+ghost use Rattle.nfs_serve.specs.Alone.{ExecutingAlone, StaysSettled};
 ghost use Rattle.nfs_serve.specs.Exchanges.{RunsTo, null_script, null_output, exchange_script, exchange_output};
 ghost use Rattle.nfs_serve.specs.Laws.{HasOneReading, CutsAnywhere, BringsOnce, ConnectionsAreStreams};
+ghost use Rattle.nfs_serve.specs.HeldLock.{IsHeldTo};
 ghost use Rattle.nfs_serve.specs.Kept.{LockKept};
 ghost use Rattle.nfs_serve.specs.LostReply.{IsAccepted};
 ghost use Rattle.nfs_serve.specs.Network.{ExactlyOnce, AnswersExecuted};
@@ -25,6 +27,11 @@ pub fn cuts_anywhere()
 /// records that arrive on it are those of that stream.
 pub fn connections_are_streams()
     ensures { ConnectionsAreStreams }
+{}
+
+/// While one of many connections is served nothing that came on it is lost, and no reply is lost, doubled or out of its order.
+pub fn nothing_is_lost()
+    ensures { NothingIsLost }
 {}
 
 /// The definitions compute: a call of NULL is answered by the head of a reply.
@@ -55,9 +62,15 @@ pub fn exchange_over_a_network()
     ensures { IsAccepted }
 {}
 
-/// A list of records leaves what those that execute leave alone, once both took the list's last moment, and those are answered alike.
+/// A list of records leaves what those that execute leave alone, but for the list's last moment and what has run out by then; and those are
+/// answered alike.
 pub fn executing_alone()
     ensures { (mode : ℕ) (instance : ℕ) (lease : ℕ) → ExecutingAlone (server mode instance lease) }
+{}
+
+/// Behind each record of a run nothing is left to run out: to take its moment anew changes nothing.
+pub fn stays_settled()
+    ensures { (mode : ℕ) (instance : ℕ) (lease : ℕ) → StaysSettled (server mode instance lease) }
 {}
 
 /// In every run no byte has a writer beside another holder and no two opens clash: behind each record, and before each operation of one.
@@ -68,4 +81,10 @@ pub fn no_clash()
 /// In every run the lock that a LOCK tells is held from then on, while its client renews in time and nothing ends it; and whoever clashes with it is refused.
 pub fn lock_kept()
     ensures { LockKept }
+{}
+
+/// The definitions compute: a client locks a byte and renews its lease at the last second, twice; another client's LOCK is denied a lease behind
+/// that, and the byte is free once it is unlocked. That run meets the premises of `lock_kept`.
+pub fn lock_kept_by_renewals()
+    ensures { IsHeldTo }
 {}

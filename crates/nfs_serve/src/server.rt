@@ -7,18 +7,20 @@ ghost use Rattle.nfs_serve.specs.Server.{fresh, held_on, IsWith, Steps, FeedsOr,
 ghost use Rattle.nfs_serve.specs.Engine.{state_of};
 ghost use Rattle.nfs_serve.specs.Replay.{Replays, Reports};
 ghost use Rattle.nfs_serve.specs.Talk.{Talks, TalkReports};
+ghost use Rattle.nfs_serve.specs.Hub.{Serves};
 ghost use Rattle.nfs_serve.specs.Script.{last_moment, last_connection, connection_count};
 
 use crate::connection::Connection;
 use crate::engine::Engine;
 use crate::fault::ReplayFault;
 use crate::form::{Flow, Form, Outcome};
+use crate::hub::{Hub, serve};
 use crate::lending::{ByReading, FromBuffer, Lends};
 use crate::moving::WriteFailed;
 use crate::running::{close_all, run};
 use crate::script::{Entry, LAST_CONNECTION, MAX_PIECE};
 use crate::talking::{Talk, converse};
-use crate::{BufSource, Clock, Sink, Source};
+use crate::{BufSource, Clock, Ports, Sink, Source};
 use std::alloc::{AllocError, Global};
 use std::marker::Model;
 
@@ -246,6 +248,28 @@ impl Server {
         self.connections[0].close();
         self.engine.forget_reply();
         ended
+    }
+
+    /// Serves the connections that come on the ports, up to 16 at once, until none is left and none will come: each from a fresh
+    /// stream on, in pieces of at most 65,536 bytes, each record at the clock's answer for it, with the replies and their record
+    /// marks alone. No connection of the server's own changes.
+    ///
+    /// Nothing is read on a port while a reply is owed there or a piece waits, and a turn never waits for its peer. A connection
+    /// is closed where its peer has ended or it has failed, and, once its replies are written, where its stream is too long or in
+    /// place of its 1,000,001st read.
+    pub fn serve_ports<P: Ports, C: Clock>(
+        &mut self,
+        alloc: Global,
+        hub: &mut Hub,
+        ports: &mut P,
+        clock: &mut C,
+    )
+        ensures run { Serves (state_of self.old.kept) (state_of self.new.kept) hub.new (P.log ports.old) (P.log ports.new) (C.told clock.old) (C.told clock.new) }
+        ensures held { self.new.held ≡ self.old.held }
+        ensures reply { self.new.reply ≡ [] }
+    {
+        serve(alloc, &mut self.engine, hub, ports, clock);
+        self.engine.forget_reply();
     }
 }
 

@@ -12,8 +12,8 @@ use crate::script::Entry;
 use crate::{Clock, Sink, Source};
 use std::alloc::Global;
 
-/// The most reads of a talk.
-const MAX_READS: u32 = 1_000_000;
+/// The most reads of a connection.
+pub const MAX_READS: u32 = 1_000_000;
 
 /// How a talk over one connection ended.
 #[derive(Clone, Copy, Debug, PartialEq, Eq)]

@@ -1,22 +1,23 @@
-use Rattle.std.proofs.Common.{rules, ◌≡◌, ◌+◌, ◌++◌, length, take, drop, refl, sym, ap, subst, ◌∙◌, take-append-drop, [], List, ℕ}
+use Rattle.std.proofs.Common.{rules, ◌≡◌, ◌++◌, length, take, drop, refl, sym, subst, ◌∙◌, take-append-drop, []}
 use Rattle.std.proofs.lemmas.List.{nil_from_length}
 use Rattle.std.proofs.lemmas.Bool.{eqb-true}
 use Rattle.std.proofs.lemmas.Result.{err_from_is_err_and}
-use Rattle.nfs_xdr.specs.Codec.{IsBytes}
-use Rattle.nfs_rpc.specs.RecordMarking.{Holds, Complete, Failed}
-use Rattle.nfs_rpc.specs.Feeding.{waiting, done_with}
+use Rattle.std.specs.Io.KnownBytes.{Appends}
+use Rattle.nfs_serve.specs.Ends.{AppendsFront}
 use Rattle.nfs_serve.proofs.Parts.{front_and_rest}
-use Rattle.nfs_serve.proofs.Pieces.{taking_start, taking_more, taking_ends, taking_empty, taking_long, breaking, breaking_long, TakesUp}
+use Rattle.nfs_serve.proofs.Framing.{lent}
+use Rattle.nfs_serve.proofs.Pieces.{taking_start, taking_more, taking_ends, taking_empty, taking_long, breaking, breaking_long, flow_open}
 use Rattle.nfs_serve.proofs.connection.take_piece.Goals as goal
 
 pub loop-rest-init : goal.loop-rest-init
 loop-rest-init g c = (taking_start _ _ _ _ _ _ _, search rules, search rules, search rules)
 
-pub returns-in-More-clause-taken : goal.returns-in-More-clause-taken
-returns-in-More-clause-taken g c =
-    let (part, is) = c.in-More.ensures.answer in (
-      taking_ends c.loop-rest.invariant.0 c.feed.new.self c.requires.open (rw is refl) (rw is refl) c.requires.bytes c.in-More.ensures.stream,
-      rw is refl,
+pub returns-in-Nothing-clause-taken : goal.returns-in-Nothing-clause-taken
+returns-in-Nothing-clause-taken g c =
+    let (same, up, none, going) = c.in-Nothing.ensures in
+    rw same (
+      taking_ends c.loop-rest.invariant.0 c.take_first.new.records c.requires.open none going c.requires.bytes up,
+      flow_open _ none going,
       c.loop-rest.invariant.3,
     )
 
@@ -28,70 +29,38 @@ returns-clause-taken g c =
 
 pub returns-in-TooLong-clause-taken : goal.returns-in-TooLong-clause-taken
 returns-in-TooLong-clause-taken g c =
+    let (same, is, over) = c.in-TooLong.ensures in
     let (wrote, well) = c.in_ok-put_overflow-in-TooLong.ensures in
-    let up : (r : List ℕ) → IsBytes r → Holds r c.loop-rest.records → (used : ℕ) × Holds (r ++ take used c.loop-rest.rest.now) Failed = λ r bytes holds.
-    subst (λ h. (used : ℕ) × Holds (r ++ take used c.loop-rest.rest.now) h) c.in-TooLong.ensures.answer (c.in-TooLong.ensures.stream r bytes holds) in
-    rw c.in-TooLong.ensures.answer (taking_long c.loop-rest.invariant.0 _ c.requires.open up wrote, refl, well)
+    rw same (rw is (taking_long c.loop-rest.invariant.0 _ c.requires.open over wrote, refl, well))
 
 pub returns-in_err-put_overflow-in-TooLong-clause-taken : goal.returns-in_err-put_overflow-in-TooLong-clause-taken
 returns-in_err-put_overflow-in-TooLong-clause-taken g c =
-    let p = err_from_is_err_and c.from_residual-in_err-put_overflow-in-TooLong.result c.from_residual-in_err-put_overflow-in-TooLong.ensures.1 in
+    let p = err_from_is_err_and c.from_residual.result c.from_residual.ensures.1 in
+    let (same, is, over) = c.in-TooLong.ensures in
     let (wrote, failed) = c.in_err-put_overflow-in-TooLong.ensures in
-    let up : (r : List ℕ) → IsBytes r → Holds r c.loop-rest.records → (used : ℕ) × Holds (r ++ take used c.loop-rest.rest.now) Failed = λ r bytes holds.
-    subst (λ h. (used : ℕ) × Holds (r ++ take used c.loop-rest.rest.now) h) c.in-TooLong.ensures.answer (c.in-TooLong.ensures.stream r bytes holds) in
-    rw p.1 (breaking_long c.loop-rest.invariant.0 _ c.requires.open up wrote, failed)
-
-pub returns-in_err-answer-in-Whole-clause-taken : goal.returns-in_err-answer-in-Whole-clause-taken
-returns-in_err-answer-in-Whole-clause-taken g c =
-    let p = err_from_is_err_and c.from_residual-in_err-answer-in-Whole.result c.from_residual-in_err-answer-in-Whole.ensures.1 in
-    let (call, is, within, some) = c.in-Whole.ensures.answer in
-    let up : TakesUp c.loop-rest.records (take c.in-Whole.used c.loop-rest.rest.now) (Complete call) =
-    λ r bytes holds. subst (Holds (r ++ take c.in-Whole.used c.loop-rest.rest.now)) is (c.in-Whole.ensures.stream r bytes holds) in
-    let lent : c.record.result.now ≡ call = c.record.ensures ∙ ap waiting is in
-    let (choice, state, (wrote, failed)) = rw lent at c.in_err-answer-in-Whole.ensures in
-    rw p.1 (
-      breaking c.loop-rest.invariant.0 (take c.in-Whole.used c.loop-rest.rest.now)
-          (drop c.in-Whole.used c.loop-rest.rest.now) call choice _ _ c.requires.open (sym (take-append-drop _ _)) up state wrote,
-      failed,
-    )
+    rw p.1 (rw same (breaking_long c.loop-rest.invariant.0 _ c.requires.open over wrote, failed))
 
 pub loop-rest-preserved : goal.loop-rest-preserved
 loop-rest-preserved g c =
-    let (call, is, within, some) = c.in-Whole.ensures.answer in
-    let up : TakesUp c.loop-rest.records (take c.in-Whole.used c.loop-rest.rest.now) (Complete call) =
-    λ r bytes holds. subst (Holds (r ++ take c.in-Whole.used c.loop-rest.rest.now)) is (c.in-Whole.ensures.stream r bytes holds) in
-    let lent : c.record.result.now ≡ call = c.record.ensures ∙ ap waiting is in
-    let (choice, state, (wrote, well)) = rw lent at c.in_ok-answer-in-Whole.ensures in
-    let done : c.take.new.self ≡ done_with (Complete call) = c.take.ensures ∙ ap done_with is in
-    rw done (
-      taking_more c.loop-rest.invariant.0 (take c.in-Whole.used c.loop-rest.rest.now) _ call choice _ _ (front_and_rest _ _) up state wrote,
+    let (call, choice, some, within, up, is, state, answer) = c.in-Record.ensures in
+    let (wrote, well) = c.in_ok-write_answer-in-Record.ensures.wrote in
+    let front = take c.in-Record.used c.loop-rest.rest.now in
+    rw (c.in_ok-write_answer-in-Record.ensures.same, is) (
+      taking_more c.loop-rest.invariant.0 front _ call choice _ _ (front_and_rest _ _) up state
+          (subst (Appends (g.W.Sink.held c.loop-rest.out) (g.W.Sink.held c.write_answer.new.out)) (sym (lent _ _ _ _ _ answer)) wrote),
       refl,
       refl,
       well,
     )
 
-pub returns-in_err-answer-clause-taken : goal.returns-in_err-answer-clause-taken
-returns-in_err-answer-clause-taken g c =
-    let p = err_from_is_err_and c.from_residual.result c.from_residual.ensures.1 in
-    let w = c.in-Some.ensures.some in
-    let call : List ℕ = c.in-Some.call.now in
-    let up : TakesUp c.loop-rest.records (take (4 + length call) c.loop-rest.rest.now) (Complete call) = λ r bytes holds. w.stream r holds in
-    let (choice, state, (wrote, failed)) = c.in_err-answer.ensures in
-    rw p.1 (
-      breaking c.loop-rest.invariant.0 (take (4 + length call) c.loop-rest.rest.now)
-          (drop (4 + length call) c.loop-rest.rest.now) call choice _ _ c.requires.open (sym (take-append-drop _ _)) up state wrote,
+pub returns-in_err-write_answer-in-Record-clause-taken : goal.returns-in_err-write_answer-in-Record-clause-taken
+returns-in_err-write_answer-in-Record-clause-taken g c =
+    let p = err_from_is_err_and c.from_residual-in_err-write_answer-in-Record.result c.from_residual-in_err-write_answer-in-Record.ensures.1 in
+    let (call, choice, some, within, up, is, state, answer) = c.in-Record.ensures in
+    let (wrote, failed) = c.in_err-write_answer-in-Record.ensures.wrote in
+    rw (p.1, c.in_err-write_answer-in-Record.ensures.same) (
+      breaking c.loop-rest.invariant.0 (take c.in-Record.used c.loop-rest.rest.now)
+          (drop c.in-Record.used c.loop-rest.rest.now) call choice _ _ c.requires.open (sym (take-append-drop _ _)) up state
+          (subst (AppendsFront (g.W.Sink.held c.loop-rest.out) (g.W.Sink.held c.write_answer.new.out)) (sym (lent _ _ _ _ _ answer)) wrote),
       failed,
-    )
-
-pub loop-rest-preserved-in-Some : goal.loop-rest-preserved-in-Some
-loop-rest-preserved-in-Some g c =
-    let w = c.in-Some.ensures.some in
-    let call : List ℕ = c.in-Some.call.now in
-    let up : TakesUp c.loop-rest.records (take (4 + length call) c.loop-rest.rest.now) (Complete call) = λ r bytes holds. w.stream r holds in
-    let (choice, state, (wrote, well)) = c.in_ok-answer.ensures in
-    rw w.fresh (
-      taking_more c.loop-rest.invariant.0 (take (4 + length call) c.loop-rest.rest.now) _ call choice _ _ (front_and_rest _ _) up state wrote,
-      refl,
-      refl,
-      well,
     )

@@ -1,0 +1,209 @@
+-- The run of a lock that is kept, computed.
+use Rattle.std.proofs.Common.{◌≡◌, ℕ, ◌+◌, Bool, true, false, cond, List, [], ◌∷◌, ◌++◌, take, Option, Some, None, refl, sym, ◌∙◌, ap, subst, arith, inl, inr}
+use Rattle.std.specs.Prelude.{◌==◌, ◌&&◌, not, nat_le, bytes_eq, if◌then◌else◌}
+use Rattle.std.proofs.lemmas.Bool.{and_parts, eqb-true, eq-eqb, leb-true, true≢false}
+use Rattle.std.proofs.lemmas.Slice.Eq.{bytes_eq-Decides}
+use Rattle.nfs_xdr.specs.Tables.{In}
+use Rattle.nfs_xdr.specs.Spelling.{number, hyper}
+use Rattle.nfs_xdr.specs.Reading.{opaque_at, fixed_at, flag_at, pieces_at}
+use Rattle.nfs_xdr.specs.declared.status.Status.TheVariants.{Nfs4Ok}
+use Rattle.nfs_rpc.specs.CallHead.{call_of, header, opaque_auth, behind_header, caller_of, auth_sys}
+use Rattle.nfs_rpc.specs.Reply.{spell_head}
+use Rattle.nfs_compound.specs.ReadRequest.{request_at, items_at, item_at}
+use Rattle.nfs_compound.specs.Arguments.{op_at, fault_at}
+use Rattle.nfs_compound.specs.Operation.{Item, Operation, Op, OpLock, OpLockU, OpClose, OpPutRootFh}
+use Rattle.nfs_compound.specs.ChannelAttrs.{channel_attrs}
+use Rattle.nfs_compound.specs.Callback.{sec_parms}
+use Rattle.nfs_compound.specs.SessionArgs.{exchange_id_args, create_session_args, sequence_args, protected, impl_id}
+use Rattle.nfs_compound.specs.Stateid.{stateid}
+use Rattle.nfs_compound.specs.StateOwner.{state_owner}
+use Rattle.nfs_compound.specs.Attributes as compound_attributes
+use Rattle.nfs_compound.specs.OpenArgs.{create_how, open_how, delegation_type, open_claim, open_args}
+use Rattle.nfs_compound.specs.LockArgs.{Lock, OpenOwner, lock_type, open_to_lock_owner, exist_lock_owner, locker, lock_args, lock_u_args}
+use Rattle.nfs_compound.specs.declared.lock_args.LockType.TheVariants as LockTypes
+use Rattle.nfs_results.specs.Items as results
+use Rattle.nfs_ranges.specs.Told.{told}
+use Rattle.nfs_ranges.specs.declared.Kind.TheVariants.{Write}
+use Rattle.nfs_attrs.specs.Attributes.{attributes, settings_of}
+use Rattle.nfs_attrs.specs.Handle.{handle}
+use Rattle.nfs_clients.specs.Roster.{ClientRecord}
+use Rattle.nfs_names.specs.Context.{begins}
+use Rattle.nfs_names.specs.Create.{wanted_of}
+use Rattle.nfs_names.specs.Checks.{current, permits}
+use Rattle.nfs_names.specs.PutFh.{put_fh}
+use Rattle.nfs_names.specs.PutRootFh.{put_root_fh}
+use Rattle.nfs_files.specs.Open.{asked_for, open_file}
+use Rattle.nfs_files.specs.Target.{the_file, target}
+use Rattle.nfs_files.specs.Ranges.{range, wished}
+use Rattle.nfs_files.specs.Denied.{denied}
+use Rattle.nfs_files.specs.Lock.{lock}
+use Rattle.nfs_files.specs.LockU.{lock_u}
+use Rattle.nfs_files.specs.Kept.{Told, Locks, Unlocks, Closes}
+use Rattle.nfs_exec.specs.Machine.{Machine, is_ok}
+use Rattle.nfs_exec.specs.Ops.{Done}
+use Rattle.nfs_exec.specs.Held.{SparedBy, AreSpared, IsAlone}
+use Rattle.nfs_serve.specs.Step.{State, step}
+use Rattle.nfs_serve.specs.Points.{Came, next, taken, before, ops_of}
+use Rattle.nfs_serve.specs.Kept.{renews_by}
+use Rattle.nfs_serve.specs.HeldLock as worked
+use Rattle.nfs_serve.specs.HeldLock.{start, locks, AreInTime, IsHeldTo}
+
+-- An operation that was refused, or that is none of the three that end locks, spares each lock.
+
+abbrev ends : Item → Bool
+ends (Operation (OpLock a)) = true
+ends (Operation (OpLockU a)) = true
+ends (Operation (OpClose a)) = true
+ends i = false
+
+abbrev spares : Done → Bool
+spares d = not (is_ok d.status && ends d.item)
+
+abbrev all_spare : List Done → Bool
+all_spare [] = true
+all_spare (d ∷ ds) = spares d && all_spare ds
+
+no_end : (ok end : Bool) → not (ok && end) ≡ true → ok ≡ true → end ≡ false
+no_end true true e is = absurd (true≢false (sym e))
+no_end true false e is = refl
+no_end false end e is = absurd (true≢false (sym is))
+
+spared : (k : Told) (d : Done) → spares d ≡ true → SparedBy k d
+spared k d e op is ok = record {
+  locks = λ n w l same. absurd (true≢false (sym (ap (λ op. ends (Operation op)) l.is) ∙ none));
+  unlocks = λ n w l same. absurd (true≢false (sym (ap (λ op. ends (Operation op)) l.is) ∙ none));
+  closes = λ n l same. true≢false (sym (ap (λ op. ends (Operation op)) l.is) ∙ none);
+}
+  where
+    none : ends (Operation op) ≡ false
+    none = ap ends (sym is) ∙ no_end (is_ok d.status) (ends d.item) e ok
+
+all_spared : (k : Told) (ds : List Done) → all_spare ds ≡ true → AreSpared k ds
+all_spared k [] e d there = absurd there
+all_spared k (x ∷ ds) e d there = (let p = and_parts _ _ e in elim there [
+  | inl here ↦ subst (SparedBy k) (sym here) (spared k x p.0)
+  | inr later ↦ all_spared k ds p.1 d later
+])
+
+-- A client's record has its owner, and no other record has.
+
+abbrev is_own : ℕ → List ℕ → ClientRecord → Bool
+is_own client owner c = if c.id == client then bytes_eq c.owner owner else not (bytes_eq c.owner owner)
+
+abbrev all_own : ℕ → List ℕ → List ClientRecord → Bool
+all_own client owner [] = true
+all_own client owner (c ∷ cs) = is_own client owner c && all_own client owner cs
+
+both : (v w : Bool) → cond v w (not w) ≡ true → v ≡ w
+both true w e = sym e
+both false true e = absurd (true≢false (sym e))
+both false false e = refl
+
+own_in : (client : ℕ) (owner : List ℕ) (cs : List ClientRecord) → all_own client owner cs ≡ true → (c : ClientRecord) → In c cs
+    → (c.id == client) ≡ bytes_eq c.owner owner
+own_in client owner [] e c there = absurd there
+own_in client owner (x ∷ cs) e c there = (let p = and_parts _ _ e in elim there [
+  | inl here ↦ subst (λ (c : ClientRecord). (c.id == client) ≡ bytes_eq c.owner owner) (sym here) (both (x.id == client) (bytes_eq x.owner owner) p.0)
+  | inr later ↦ own_in client owner cs p.1 c later
+])
+
+alone : (client : ℕ) (owner : List ℕ) (first left : Machine) → all_own client owner first.clients.records ≡ true
+    → all_own client owner left.clients.records ≡ true → IsAlone client first left
+alone client owner first left e f a b in_a is in_b same confirmed =
+    let named : a.owner ≡ owner = (bytes_eq-Decides a.owner owner).0 (sym (own_in client owner first.clients.records e a in_a) ∙ eq-eqb a.id client is) in
+    eqb-true b.id client (own_in client owner left.clients.records f b in_b ∙ (bytes_eq-Decides b.owner owner).1 (same ∙ named))
+
+-- So the premises can be tested.
+
+abbrev in_time : Told → List ℕ → (last : ℕ) → State → List Came → Bool
+in_time k owner last s [] = true
+in_time k owner last s (c ∷ more) =
+    nat_le (taken s c) (last + s.machine.leases.lease)
+    && (all_spare (ops_of s c)
+    && (all_own k.client owner (before s c).clients.records
+    && (all_own k.client owner (next s c).machine.clients.records
+    && in_time k owner (if renews_by k.client s c then taken s c else last) (next s c) more)))
+
+are_in_time : (k : Told) (owner : List ℕ) (last : ℕ) (s : State) (cs : List Came) → in_time k owner last s cs ≡ true → AreInTime k last s cs
+are_in_time k owner last s [] e = tt
+are_in_time k owner last s (c ∷ more) e =
+    let p = and_parts _ _ e in
+    let q = and_parts _ _ p.1 in
+    let r = and_parts _ _ q.1 in
+    let t = and_parts _ _ r.1 in (
+      leb-true _ _ p.0,
+      all_spared k (ops_of s c) q.0,
+      alone k.client owner (before s c) (next s c).machine r.0 t.0,
+      are_in_time k owner (if renews_by k.client s c then taken s c else last) (next s c) more t.1,
+    )
+
+-- what stands behind the list is of no account
+nothing : Done
+nothing = record {
+  before = start.machine;
+  context = begins 0 (record { uid = 0; gid = 0; gids = [] });
+  item = Operation OpPutRootFh;
+  status = Nfs4Ok;
+  behind = start.machine;
+}
+
+abbrev last_of : Done → List Done → Done
+last_of d [] = d
+last_of d (e ∷ ds) = last_of e ds
+
+abbrev asked : Lock
+asked = record {
+  locktype = LockTypes.Write;
+  reclaim = false;
+  offset = 0;
+  length = 1;
+  locker = OpenOwner (record {
+    open_seqid = 0;
+    open_stateid = record { seqid = 1; other = 0 ∷ 0 ∷ 0 ∷ 0 ∷ 0 ∷ 0 ∷ 0 ∷ 0 ∷ 0 ∷ 0 ∷ 0 ∷ 0 ∷ [] };
+    lock_seqid = 0;
+    lock_owner = record { clientid = 0; owner = 0x6c ∷ [] };
+  });
+}
+
+pub is_held_to : IsHeldTo
+unfolding number hyper step call_of header opaque_auth opaque_at fixed_at behind_header caller_of auth_sys spell_head
+    request_at items_at item_at op_at fault_at exchange_id_args create_session_args sequence_args channel_attrs sec_parms protected impl_id pieces_at flag_at
+    stateid state_owner compound_attributes.bitmap compound_attributes.attributes create_how open_how delegation_type open_claim open_args
+    lock_type open_to_lock_owner exist_lock_owner locker lock_args lock_u_args
+    results.exchange_id results.create_session results.sequence results.open_ok results.change_info results.attr_set results.denied
+    told attributes settings_of handle wanted_of current permits put_fh put_root_fh asked_for open_file the_file target range wished denied lock lock_u
+is_held_to = record {
+  front = take 2 (ops_of start locks);
+  lock = last_of nothing (ops_of start locks);
+  ops = refl;
+  tells = record {
+    op = OpLock asked;
+    is = refl;
+    ok = refl;
+    tells = record {
+      wish = record { client = worked.told.client; file = 2; kind = Write; first = 0; last = 0 };
+      lock = record { number = 2; client = worked.told.client; owner = 0x6c ∷ []; file = 2; opened = 1; seqid = 1 };
+      locks = record {
+        asked = asked;
+        id = record { seqid = 0; instance = 7; number = 1 };
+        answer = record { seqid = 1; instance = 7; number = 2 };
+        is = refl;
+        judged = refl;
+        granted = refl;
+        state = refl;
+      };
+      range = (omega arith, omega arith, omega arith);
+      kind = refl;
+      file = refl;
+      stands = refl;
+      client = refl;
+      opened = refl;
+    };
+  };
+  renewed = refl;
+  kept = are_in_time worked.told (0x41 ∷ []) 102 worked.locked (worked.waits ++ worked.clashes ∷ []) refl;
+  held = refl;
+  denied = refl;
+  still = refl;
+  unlocked = refl;
+}

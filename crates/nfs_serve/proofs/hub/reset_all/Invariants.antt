@@ -1,0 +1,11 @@
+-- The connections so far are closed.
+use Rattle.std.proofs.Common.{◌≡◌, ◌<◌, ℕ, length}
+use Rattle.nfs_serve.specs.Desk.{closed}
+use Rattle.nfs_serve.specs.Hub.{at, desks_of}
+use Rattle.nfs_serve.proofs.hub.reset_all.Given as goal
+
+abbrev pub invariant-loop-port : goal.invariant-loop-port
+invariant-loop-port l = record {
+  kept : length l.lanes ≡ length l.fn.lanes;
+  closed : (c : ℕ) → c < l.port → at (desks_of l.lanes) c ≡ closed;
+}

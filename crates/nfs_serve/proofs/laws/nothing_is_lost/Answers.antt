@@ -1,0 +1,5 @@
+use Rattle.nfs_serve.proofs.Accounts.{account}
+use Rattle.nfs_serve.proofs.laws.nothing_is_lost.Goals as goal
+
+pub returns : goal.returns
+returns c = account

@@ -1,0 +1,7 @@
+use Rattle.nfs_serve.proofs.AloneRuns.{stays_settled}
+use Rattle.nfs_serve.specs.Seen.{server}
+use Rattle.nfs_serve.proofs.Ticking.{keeps_time}
+use Rattle.nfs_serve.proofs.laws.stays_settled.Goals as goal
+
+pub returns : goal.returns
+returns c = λ mode instance lease. stays_settled (server mode instance lease) (keeps_time mode instance lease)

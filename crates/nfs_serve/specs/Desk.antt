@@ -1,0 +1,108 @@
+-- One of many connections over one server: what came on it and was not stepped, what is owed to its peer, and what may be done with
+-- it (RFC 5531 section 11). This server's profile.
+use Rattle.std.specs.Prelude.{◌≡◌, ◌⊎◌, ℕ, ◌+◌, ◌<◌, ◌≤◌, List, [], ◌∷◌, ◌++◌, length, Bool, true, false}
+use Rattle.nfs_rpc.specs.RecordMarking.{Gathered}
+use Rattle.nfs_rpc.specs.Feeding.{is_too_long}
+use Rattle.nfs_rpc.specs.Stream.{End}
+use Rattle.nfs_serve.specs.declared.form.Form.TheVariants.{Plain}
+use Rattle.nfs_serve.specs.Script.{last_moment, most_piece}
+use Rattle.nfs_serve.specs.Step.{State}
+use Rattle.nfs_serve.specs.Run.{Brings, Move, events, after, output}
+use Rattle.nfs_serve.specs.Server.{fresh, Stands}
+use Rattle.nfs_serve.specs.Talk.{max_reads}
+
+-- a further record is stepped while no more bytes than this are owed; and the most bytes of a reply with its mark
+abbrev pub most_owed : ℕ
+most_owed = 65536
+
+abbrev pub largest_answer : ℕ
+largest_answer = 70004
+
+-- A port: whether a connection is served there, whether it has ended or failed and is to be closed, what is held of its stream, how
+-- many pieces were read, what came and was not stepped, and what is owed.
+pub record Desk : Type 0 where
+  pub live : Bool
+  pub gone : Bool
+  pub stream : Gathered
+  pub reads : ℕ
+  pub unread : List ℕ
+  pub owed : List ℕ
+
+abbrev pub idle : Bool → Bool → Desk
+idle live gone = record { live = live; gone = gone; stream = fresh; reads = 0; unread = []; owed = [] }
+
+abbrev pub closed : Desk
+closed = idle false false
+
+abbrev pub opened : Desk
+opened = idle true false
+
+abbrev pub leaving : Desk
+leaving = idle false true
+
+-- What is done with a connection. `Stepped` alone is not shown to its peer.
+pub data Act : Type 0 where
+  Opened : Act
+  Turn : Act
+  Over : Act
+  Came : (bytes : List ℕ) → Act
+  ReadBlocked : Act
+  Ended : Act
+  Took : (bytes : List ℕ) → Act
+  WriteBlocked : Act
+  Failed : Act
+  Closed : Act
+  Stepped : (moment : ℕ) → (part : List ℕ) → Act
+
+-- A part of a stream that ends no more than one record, which was stepped: the state and the output are those of its moves, of which
+-- there is one at most. `was` and `is` are held of the stream.
+pub record TakesPart (conn : ℕ) (s : State) (was : Gathered) (moment : ℕ) (part : List ℕ) (t : State) (is : Gathered) (out : List ℕ) : Type 0 where
+  pub moves : List Move
+  pub one : length moves ≤ 1
+  pub state : t ≡ after s moves
+  pub wrote : out ≡ output Plain s moves
+  pub stream : (before : End) → Stands before was → (end : End) × Brings conn moment before part (events moves) end × Stands end is
+
+-- a read is asked for only where nothing is owed and nothing waits to be stepped
+pub record IsHungry (d : Desk) : Type 0 where
+  pub live : d.live ≡ true
+  pub short : is_too_long d.stream ≡ false
+  pub unread : d.unread ≡ []
+  pub owed : d.owed ≡ []
+  pub few : d.reads < max_reads
+
+-- a connection is closed where it has ended or failed, and else where nothing is owed and its stream is too long, or so many pieces were read
+abbrev pub MayClose : Desk → Type 0
+MayClose d = (d.gone ≡ true) ⊎ ((d.live ≡ true) × (d.owed ≡ []) × ((is_too_long d.stream ≡ true) ⊎ (max_reads ≤ d.reads)))
+
+-- A front of what waits is stepped, where few enough bytes are owed: this part of it, to this stream and output.
+pub record StepsPart (port : ℕ) (s : State) (d : Desk) (moment : ℕ) (part : List ℕ) (t : State) (is : Gathered) (rest out : List ℕ) : Type 0 where
+  pub live : d.live ≡ true
+  pub short : is_too_long d.stream ≡ false
+  pub room : length d.owed ≤ most_owed
+  pub clock : moment ≤ last_moment
+  pub some : 0 < length part
+  pub split : d.unread ≡ part ++ rest
+  pub takes : TakesPart port s d.stream moment part t is out
+
+-- what an act does to the state of the server and to its connection
+abbrev pub Does : ℕ → State → Desk → Act → State → Desk → Type 0
+Does port s d Opened t e = ⊥
+Does port s d Turn t e = ⊥
+Does port s d Over t e = ⊥
+Does port s d (Came bytes) t e = (t ≡ s) × IsHungry d × (0 < length bytes) × (length bytes ≤ most_piece)
+    × (e ≡ record { live = d.live; gone = d.gone; stream = d.stream; reads = d.reads + 1; unread = bytes; owed = d.owed })
+Does port s d ReadBlocked t e = (t ≡ s) × IsHungry d × (e ≡ d)
+Does port s d Ended t e = (t ≡ s) × IsHungry d × (e ≡ leaving)
+Does port s d (Took bytes) t e = (t ≡ s) × (d.live ≡ true) × (0 < length bytes) × (rest : List ℕ) × (d.owed ≡ bytes ++ rest)
+    × (e ≡ record { live = d.live; gone = d.gone; stream = d.stream; reads = d.reads; unread = d.unread; owed = rest })
+Does port s d WriteBlocked t e = (t ≡ s) × (d.live ≡ true) × (0 < length d.owed) × (e ≡ d)
+Does port s d Failed t e = (t ≡ s) × (d.live ≡ true) × (e ≡ leaving)
+Does port s d Closed t e = (t ≡ s) × MayClose d × (e ≡ closed)
+Does port s d (Stepped moment part) t e = (is : Gathered) × (rest : List ℕ) × (out : List ℕ) × StepsPart port s d moment part t is rest out
+    × (e ≡ record { live = d.live; gone = d.gone; stream = is; reads = d.reads; unread = rest; owed = d.owed ++ out })
+
+-- the acts, one after the other
+abbrev pub Goes : ℕ → State → Desk → List Act → State → Desk → Type 0
+Goes port s d [] t e = (t ≡ s) × (e ≡ d)
+Goes port s d (a ∷ acts) t e = (u : State) × (c : Desk) × Does port s d a u c × Goes port u c acts t e

@@ -1,0 +1,25 @@
+-- What the first record of a piece comes to; private contracts alone speak of it.
+use Rattle.std.specs.Prelude.{◌≡◌, ℕ, ◌<◌, ◌≤◌, List, ◌++◌, length, take, false, Option}
+use Rattle.nfs_xdr.specs.Codec.{IsBytes}
+use Rattle.nfs_rpc.specs.RecordMarking.{Gathered, Complete, Failed, Holds}
+use Rattle.nfs_rpc.specs.Feeding.{waits, is_too_long}
+use Rattle.nfs_serve.specs.declared.connection.First.{First}
+use Rattle.nfs_serve.specs.declared.connection.First.TheVariants.{Nothing, Record, TooLong}
+use Rattle.nfs_serve.specs.Step.{step}
+use Rattle.nfs_serve.specs.Engine.{EngineModel, state_of}
+use Rattle.nfs_serve.specs.Server.{fresh, IsAnswer}
+
+-- with these bytes what is held comes to this
+abbrev pub TakesUp : Gathered → List ℕ → Gathered → Type 0
+TakesUp was front is = (rest : List ℕ) → IsBytes rest → Holds rest was → Holds (rest ++ front) is
+
+abbrev pub RunsOver : Gathered → List ℕ → Type 0
+RunsOver was piece = (rest : List ℕ) → IsBytes rest → Holds rest was → (used : ℕ) × Holds (rest ++ take used piece) Failed
+
+abbrev pub TakesFirst : First → EngineModel → EngineModel → Gathered → Gathered → ℕ → List ℕ → Type 0
+TakesFirst Nothing old new was is moment piece = (new ≡ old) × TakesUp was piece is × (waits is ≡ false) × (is_too_long is ≡ false)
+TakesFirst (Record used outcome) old new was is moment piece = (call : List ℕ) × (choice : Option ℕ) × (0 < used) × (used ≤ length piece)
+    × TakesUp was (take used piece) (Complete call) × (is ≡ fresh)
+    × (state_of new.kept ≡ (step (state_of old.kept) call moment choice).state)
+    × IsAnswer outcome (step (state_of old.kept) call moment choice).reply new.reply
+TakesFirst TooLong old new was is moment piece = (new ≡ old) × (is ≡ Failed) × RunsOver was piece

@@ -1,0 +1,93 @@
+-- A lock that is kept, worked by hand in words of four bytes (RFC 8881 sections 8.3, 18.10, 18.12 and 18.16). To a new server of instance 7,
+-- whose leases last 90 seconds, comes a client `A`, which makes the file `f` and locks its first byte. It renews its lease with SEQUENCEs
+-- alone, each 90 seconds behind the last. A client `B` comes meanwhile, opens `f`, and asks for the byte 90 seconds behind the last renewal:
+-- it is denied. Then A unlocks.
+use Rattle.std.specs.Prelude.{◌≡◌, ℕ, ◌+◌, ◌*◌, ◌^◌, ◌≤◌, List, [], ◌∷◌, ◌++◌, map, Some, None, if◌then◌else◌}
+use Rattle.nfs_xdr.specs.declared.status.Status.{Status}
+use Rattle.nfs_xdr.specs.declared.status.Status.TheVariants.{Nfs4Ok, Denied}
+use Rattle.nfs_ranges.specs.declared.Kind.TheVariants.{Write}
+use Rattle.nfs_files.specs.Kept.{Told}
+use Rattle.nfs_exec.specs.Ops.{Done}
+use Rattle.nfs_exec.specs.Held.{AreSpared, IsToldBy, IsAlone}
+use Rattle.nfs_serve.specs.Step.{State, new_state}
+use Rattle.nfs_serve.specs.Points.{Came, next, all_next, taken, before, ops_of}
+use Rattle.nfs_serve.specs.Kept.{renews_by}
+use Rattle.nfs_serve.specs.Exchanges.{words}
+use Rattle.nfs_serve.specs.LostReply.{call, exchange_id, create_session}
+
+abbrev pub came : (now xid : ℕ) → List ℕ → Came
+came now xid args = record { call = call xid args; now = now; choice = None }
+
+-- No tag, minor version 1, so many operations; the first is SEQUENCE of the session of a client, with a number, on slot 0, which is the
+-- highest in use, and nothing need be kept. Client 1 has session 1, and client 2 session 2.
+abbrev pub in_session : (client number operations : ℕ) → List ℕ → List ℕ
+in_session client number operations behind = words (0 ∷ 1 ∷ operations ∷ 53 ∷ 7 ∷ client ∷ 0 ∷ client ∷ number ∷ 0 ∷ 0 ∷ 0 ∷ []) ++ behind
+
+-- PUTROOTFH; OPEN by the open owner `o` for reading and writing, which denies nothing, of `f`, which is made where it is not there, without
+-- attributes; and LOCK of one byte from 0 on as WRITE_LT, by the lock owner `l`, new under the current stateid, which is the open's
+abbrev pub opens_and_locks : List ℕ
+opens_and_locks = words (24 ∷ 18 ∷ 0 ∷ 3 ∷ 0 ∷ 0 ∷ 0 ∷ 1 ∷ 0x6f00_0000 ∷ 1 ∷ 0 ∷ 0 ∷ 0 ∷ 0 ∷ 1 ∷ 0x6600_0000
+    ∷ 12 ∷ 2 ∷ 0 ∷ 0 ∷ 0 ∷ 0 ∷ 1 ∷ 1 ∷ 0 ∷ 1 ∷ 0 ∷ 0 ∷ 0 ∷ 0 ∷ 0 ∷ 0 ∷ 1 ∷ 0x6c00_0000 ∷ [])
+
+-- PUTFH of object 2, and LOCKU of one byte from 0 on by lock state 2, whose seqid is 1
+abbrev pub unlocks : List ℕ
+unlocks = words (22 ∷ 16 ∷ 7 ∷ 0 ∷ 0 ∷ 2 ∷ 14 ∷ 2 ∷ 0 ∷ 1 ∷ 7 ∷ 0 ∷ 2 ∷ 0 ∷ 0 ∷ 0 ∷ 1 ∷ [])
+
+abbrev pub earlier : List Came
+earlier = came 100 1 (exchange_id 0x4100_0000) ∷ came 101 2 (create_session 1) ∷ []
+
+abbrev pub locks : Came
+locks = came 102 3 (in_session 1 1 4 opens_and_locks)
+
+-- the first renewal of A is at the last second, and so is the second
+abbrev pub waits : List Came
+waits = came 192 4 (in_session 1 2 1 []) ∷ came 200 5 (exchange_id 0x4200_0000) ∷ came 282 6 (in_session 1 3 1 []) ∷ came 283 7 (create_session 2) ∷ []
+
+-- B asks at the last second of A's lease
+abbrev pub clashes : Came
+clashes = came 372 8 (in_session 2 1 4 opens_and_locks)
+
+abbrev pub gives_up : Came
+gives_up = came 372 9 (in_session 1 4 3 unlocks)
+
+abbrev pub start : State
+start = all_next (new_state 511 7 90) earlier
+
+abbrev pub locked : State
+locked = next start locks
+
+abbrev pub asked : State
+asked = all_next locked waits
+
+-- Lock state 2 of client 1, under open 1: byte 0 of object 2, as Write.
+abbrev pub told : Told
+told = record { state = 2; client = 7 * 2 ^ 32 + 1; opened = 1; file = 2; kind = Write; first = 0; last = 0 }
+
+-- The records come in time, and spare the lock and its client: the premises of `StaysHeld`, for all of them.
+abbrev pub AreInTime : Told → (last : ℕ) → State → List Came → Type 0
+AreInTime k last s [] = Unit {0}
+AreInTime k last s (c ∷ more) =
+    (taken s c ≤ last + s.machine.leases.lease)
+    × AreSpared k (ops_of s c)
+    × IsAlone k.client (before s c) (next s c).machine
+    × AreInTime k (if renews_by k.client s c then taken s c else last) (next s c) more
+
+abbrev pub statuses : List Done → List Status
+statuses ds = map (λ d. d.status) ds
+
+-- The run meets the premises of the promise, and computes to what it says.
+pub record IsHeldTo : Type 0 where
+  -- LOCK is the last operation of its compound, and tells the lock
+  pub front : List Done
+  pub lock : Done
+  pub ops : ops_of start locks ≡ front ++ lock ∷ []
+  pub tells : IsToldBy told lock
+  -- that compound renewed the lease of its client, and what follows comes in time and spares the lock
+  pub renewed : locked.machine.leases.renewed told.client ≡ Some 102
+  pub kept : AreInTime told 102 locked (waits ++ clashes ∷ [])
+  -- so the byte is held when B asks for it, and it is denied
+  pub held : asked.machine.store.opens.held 2 2 0 ≡ Some Write
+  pub denied : statuses (ops_of asked clashes) ≡ Nfs4Ok ∷ Nfs4Ok ∷ Denied ∷ []
+  -- it is held until A unlocks, and then by nobody
+  pub still : (next asked clashes).machine.store.opens.held 2 2 0 ≡ Some Write
+  pub unlocked : (next (next asked clashes) gives_up).machine.store.opens.held 2 2 0 ≡ None

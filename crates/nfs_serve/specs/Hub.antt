@@ -1,0 +1,60 @@
+-- Many connections over one server: whose turn it is comes from outside.
+use Rattle.std.specs.Prelude.{length, ◌≡◌, ◌≢◌, ◌≤◌, ◌⊎◌, ◌^◌, ◌-◌, ℕ, List, [], ◌∷◌, flat_map, get_or, map, Option}
+use Rattle.std.specs.Io.KnownBytes.{Appends}
+use Rattle.nfs_serve.specs.Step.{State}
+use Rattle.nfs_serve.specs.Script.{last_connection}
+use Rattle.nfs_serve.specs.Desk.{Desk, closed, opened, Act, Opened, Turn, Goes}
+use Rattle.nfs_serve.specs.Deeds.{Deed, Logs, over, shown, asked}
+use Rattle.nfs_serve.specs.Lane.{desk_of, EndsTurn}
+use Rattle.nfs_serve.specs.declared.lane.Lane.{Lane}
+
+abbrev pub Desks : Type 0
+Desks = ℕ → Desk
+
+-- what stands on each port
+abbrev pub at : List Desk → Desks
+at desks = λ port. get_or desks port closed
+
+abbrev pub desks_of : List Lane → List Desk
+desks_of lanes = map desk_of lanes
+
+abbrev pub none_live : Desks
+none_live = λ port. closed
+
+-- what comes from outside, and what is done in a turn
+pub data Round : Type 0 where
+  Opens : (port : ℕ) → Round
+  Turns : (port : ℕ) → (acts : List Act) → Round
+
+-- every port but this one is as it was
+abbrev pub OthersStay : Desks → Desks → ℕ → Type 0
+OthersStay old new port = (c : ℕ) → c ≢ port → new c ≡ old c
+
+-- The rounds, one after the other: one port alone changes in each, and each turn ends as turns end.
+abbrev pub Turning : State → Desks → List Round → State → Desks → Type 0
+Turning s old [] t new = (t ≡ s) × ((c : ℕ) → new c ≡ old c)
+Turning s old (Opens port ∷ rounds) t new = (between : Desks) × (port ≤ last_connection) × (between port ≡ opened) × OthersStay old between port
+    × Turning s between rounds t new
+Turning s old (Turns port acts ∷ rounds) t new = (u : State) × (between : Desks) × (port ≤ last_connection) × Goes port s (old port) acts u (between port)
+    × EndsTurn acts (between port) × OthersStay old between port × Turning u between rounds t new
+
+abbrev pub shown_in : Round → List Deed
+shown_in (Opens port) = record { port = port; act = Opened } ∷ []
+shown_in (Turns port acts) = record { port = port; act = Turn } ∷ flat_map (shown port) acts
+
+abbrev pub asked_in : Round → List ℕ
+asked_in (Opens port) = []
+asked_in (Turns port acts) = flat_map asked acts
+
+-- From ports without a connection on: for some rounds, what the connections show, the clock's answers and the state left are theirs.
+pub record ServesRounds (old new : State) (desks : List Desk) (count : ℕ) (l0 l1 : Option (List Deed)) (c0 c1 : Option (List ℕ)) : Type 0 where
+  pub rounds : List Round
+  pub counted : length rounds ≡ count
+  pub turning : Turning old none_live rounds new (at desks)
+  pub logs : Logs l0 l1 (flat_map shown_in rounds)
+  pub clock : Appends c0 c1 (flat_map asked_in rounds)
+
+-- The same to the end: until no connection is left and none will come, or for 2^64 - 1 rounds.
+abbrev pub Serves : State → State → List Desk → Option (List Deed) → Option (List Deed) → Option (List ℕ) → Option (List ℕ) → Type 0
+Serves old new desks l0 l1 c0 c1 = (count : ℕ) × (before : Option (List Deed)) × ServesRounds old new desks count l0 before c0 c1
+    × (Logs before l1 over ⊎ ((count ≡ 2 ^ 64 - 1) × (before ≡ l1)))

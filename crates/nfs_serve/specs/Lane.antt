@@ -1,0 +1,73 @@
+-- What a port's fields stand for, and how far its functions bring it.
+use Rattle.std.specs.Prelude.{◌≡◌, ◌⊎◌, ℕ, ◌<◌, List, [], ◌∷◌, ◌++◌, length, flat_map, true, false, Option}
+use Rattle.std.specs.Io.KnownBytes.{Appends}
+use Rattle.nfs_rpc.specs.Feeding.{is_too_long}
+use Rattle.nfs_serve.specs.Step.{State}
+use Rattle.nfs_serve.specs.Desk.{Desk, closed, Act, Came, ReadBlocked, WriteBlocked, StepsPart, Goes}
+use Rattle.nfs_serve.specs.Deeds.{Deed, Logs, shown, asked}
+use Rattle.nfs_serve.specs.declared.lane.Lane.{Lane}
+use Rattle.nfs_serve.specs.declared.lane.Rest.{Rest}
+use Rattle.nfs_serve.specs.declared.lane.Rest.TheVariants.{Clear, Stuck, Gone}
+
+abbrev pub desk_of : Lane → Desk
+desk_of lane = record { live = lane.live; gone = false; stream = lane.connection; reads = lane.reads; unread = lane.unread; owed = lane.owed.bytes }
+
+-- the acts of one port: what they do, what they show, and the moments that were asked for them
+pub record Advances (port : ℕ) (acts : List Act) (s : State) (d : Desk) (t : State) (e : Desk) (l0 l1 : Option (List Deed)) (c0 c1 : Option (List ℕ)) : Type 0 where
+  pub goes : Goes port s d acts t e
+  pub logs : Logs l0 l1 (flat_map (shown port) acts)
+  pub clock : Appends c0 c1 (flat_map asked acts)
+
+-- the peer took no more
+abbrev pub IsStuck : List Act → Desk → Type 0
+IsStuck acts d = (front : List Act) × (acts ≡ front ++ WriteBlocked ∷ []) × (0 < length d.owed)
+
+-- how a flush ends: nothing is owed, the peer took no more, or the connection was closed
+abbrev pub FlushesTo : Rest → List Act → Desk → Desk → Type 0
+FlushesTo Clear acts d e = e ≡ record { live = d.live; gone = d.gone; stream = d.stream; reads = d.reads; unread = d.unread; owed = [] }
+FlushesTo Stuck acts d e = IsStuck acts e
+FlushesTo Gone acts d e = e ≡ closed
+
+-- acts that need no clock and leave the state as it is
+pub record Quiet (port : ℕ) (acts : List Act) (d e : Desk) (l0 l1 : Option (List Deed)) : Type 0 where
+  pub goes : (s : State) → Goes port s d acts s e
+  pub logs : Logs l0 l1 (flat_map (shown port) acts)
+  pub unasked : flat_map asked acts ≡ []
+
+abbrev pub Flushes : Rest → ℕ → Desk → Desk → Option (List Deed) → Option (List Deed) → Type 0
+Flushes rest port d e l0 l1 = (acts : List Act) × Quiet port acts d e l0 l1 × FlushesTo rest acts d e
+
+-- what came to rest
+abbrev pub Settles : Rest → List Act → Desk → Type 0
+Settles Clear acts e = (e.live ≡ true) × (e.gone ≡ false) × (is_too_long e.stream ≡ false) × (e.unread ≡ []) × (e.owed ≡ [])
+Settles Stuck acts e = IsStuck acts e
+Settles Gone acts e = e ≡ closed
+
+abbrev pub IsRead : Act → Type 0
+IsRead (Came bytes) = Unit {0}
+IsRead ReadBlocked = Unit {0}
+IsRead act = ⊥
+
+abbrev pub Reads : List Act → Type 0
+Reads acts = (front : List Act) × (read : Act) × (back : List Act) × (acts ≡ front ++ read ∷ back) × IsRead read
+
+-- A turn ends only where there is no connection, where the peer takes no more of what is owed, or where a read was asked for and all
+-- that came is answered.
+abbrev pub EndsTurn : List Act → Desk → Type 0
+EndsTurn acts d = (d.live ≡ false) ⊎ IsStuck acts d ⊎ ((d.unread ≡ []) × (d.owed ≡ []) × Reads acts)
+
+-- acts that show nothing, from one state to another, with what they asked of the clock
+pub record Working (port : ℕ) (acts : List Act) (s : State) (d : Desk) (t : State) (e : Desk) (c0 c1 : Option (List ℕ)) : Type 0 where
+  pub goes : Goes port s d acts t e
+  pub unshown : flat_map (shown port) acts ≡ []
+  pub clock : Appends c0 c1 (flat_map asked acts)
+
+-- one part was stepped
+abbrev pub StepsOne : ℕ → State → State → Lane → Lane → Option (List ℕ) → Option (List ℕ) → Type 0
+StepsOne port s t a b c0 c1 = (moment : ℕ) × (part : List ℕ) × (out : List ℕ) × Appends c0 c1 (moment ∷ [])
+    × StepsPart port s (desk_of a) moment part t b.connection b.unread out
+    × (b.owed.bytes ≡ a.owed.bytes ++ out) × (b.live ≡ a.live) × (b.reads ≡ a.reads) × (length b.unread < length a.unread)
+
+-- some parts were stepped
+abbrev pub StepsSome : ℕ → State → State → Lane → Lane → Option (List ℕ) → Option (List ℕ) → Type 0
+StepsSome port s t a b c0 c1 = (acts : List Act) × Working port acts s (desk_of a) t (desk_of b) c0 c1 × (b.live ≡ a.live) × (length b.unread < length a.unread)

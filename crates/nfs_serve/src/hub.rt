@@ -1,0 +1,98 @@
+//! Up to 16 connections at once.
+
+ghost use Rattle.std.specs.Prelude.{◌≡◌, ℕ, length, replicate, IfOk};
+ghost use Rattle.nfs_serve.specs.Engine.{state_of};
+ghost use Rattle.nfs_serve.specs.Script.{connection_count};
+ghost use Rattle.nfs_serve.specs.Desk.{closed};
+ghost use Rattle.nfs_serve.specs.Hub.{Serves, at, desks_of};
+
+use crate::Clock;
+use crate::engine::Engine;
+use crate::lane::Lane;
+use crate::ports::{Next, Ports};
+use crate::script::LAST_CONNECTION;
+use std::alloc::{AllocError, Global};
+use std::marker::Model;
+
+/// How many ports there are, numbered from 0.
+const PORTS: usize = LAST_CONNECTION as usize + 1;
+
+/// What 16 connections at once are served with: what is held of each stream, what came, and what is owed.
+#[derive(Drop)]
+pub struct Hub {
+    lanes: Vec<Lane>,
+}
+
+impl Model for Hub {
+    ghost use Rattle.std.specs.Prelude.{List, vec_len, ◌≡◌};
+    ghost use Rattle.nfs_serve.specs.Desk.{Desk};
+    ghost use Rattle.nfs_serve.specs.Script.{connection_count};
+    ghost use Rattle.nfs_serve.specs.Hub.{desks_of};
+
+    ghost Value = { List Desk };
+
+    ghost view = { λ h. desks_of h.lanes.items };
+
+    ghost invariant = { λ h. vec_len h.lanes ≡ connection_count };
+}
+
+impl Hub {
+    /// Ports without a connection. All buffers are made here.
+    ///
+    /// `AllocError` where memory is refused.
+    pub fn new(alloc: Global) -> Result<Hub, AllocError>
+        ensures { IfOk result (λ hub. hub ≡ replicate connection_count closed) }
+    {
+        let mut lanes = Vec::with_capacity(alloc, PORTS)?;
+        for _ in 0..PORTS {
+            lanes.push(Lane::new(alloc)?)?;
+        }
+        Ok(Hub { lanes })
+    }
+}
+
+/// Closes every connection, then serves those that come until none is left and none will come.
+pub fn serve<P: Ports, C: Clock>(
+    alloc: Global,
+    engine: &mut Engine,
+    hub: &mut Hub,
+    ports: &mut P,
+    clock: &mut C,
+)
+    ensures { Serves (state_of engine.old.kept) (state_of engine.new.kept) hub.new (P.log ports.old) (P.log ports.new) (C.told clock.old) (C.told clock.new) }
+{
+    reset_all(&mut hub.lanes);
+    serve_lanes(alloc, engine, &mut hub.lanes, ports, clock);
+}
+
+/// Closes all connections.
+fn reset_all(lanes: &mut [Lane])
+    ensures length { length lanes.new ≡ length lanes.old }
+    ensures closed { (port : ℕ) → at (desks_of lanes.new) port ≡ closed }
+{
+    for port in 0..lanes.len() {
+        lanes[port].reset();
+    }
+}
+
+/// Serves from ports without a connection on.
+fn serve_lanes<P: Ports, C: Clock>(
+    alloc: Global,
+    engine: &mut Engine,
+    lanes: &mut [Lane],
+    ports: &mut P,
+    clock: &mut C,
+)
+    requires ports { length lanes.old ≡ connection_count }
+    requires closed { (port : ℕ) → at (desks_of lanes.old) port ≡ closed }
+    ensures length { length lanes.new ≡ connection_count }
+    ensures serves { Serves (state_of engine.old.kept) (state_of engine.new.kept) (desks_of lanes.new) (P.log ports.old) (P.log ports.new) (C.told clock.old) (C.told clock.new) }
+{
+    for _ in 0..u64::MAX {
+        match ports.next() {
+            Next::Opened(port) => lanes[port as usize].begin(),
+            Next::Turn(port) => lanes[port as usize].turn(alloc, engine, port, ports, clock),
+            Next::Over => return,
+        }
+    }
+}

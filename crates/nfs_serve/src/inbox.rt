@@ -1,0 +1,81 @@
+//! What has come on a connection and was not stepped.
+
+ghost use Rattle.std.specs.Prelude.{◌≡◌, ◌≤◌, ◌<◌, [], length, drop, IfOk};
+ghost use Rattle.nfs_serve.specs.Deeds.{Logs, came};
+ghost use Rattle.nfs_serve.specs.Script.{last_connection, most_piece};
+ghost use Rattle.nfs_serve.specs.Boxes.{Receives};
+
+use crate::ports::{Came, Ports};
+use crate::script::MAX_PIECE;
+use std::alloc::{AllocError, Global};
+use std::marker::Model;
+
+/// Bytes that came and were not stepped, in room that is made once.
+#[derive(Drop)]
+pub struct Inbox {
+    bytes: Vec<u8>,
+    at: usize,
+    end: usize,
+}
+
+impl Model for Inbox {
+    ghost use Rattle.std.specs.Prelude.{ℕ, List, take, drop, vec_len, ◌≡◌, ◌≤◌};
+    ghost use Rattle.nfs_serve.specs.Script.{most_piece};
+
+    ghost Value = { List ℕ };
+
+    ghost view = { λ b. drop b.at (take b.end b.bytes.items) };
+
+    ghost invariant = { λ b. (b.at ≤ b.end) × (b.end ≤ most_piece) × (vec_len b.bytes ≡ most_piece) };
+}
+
+impl Inbox {
+    /// An empty one. Its buffer is made here.
+    pub fn new(alloc: Global) -> Result<Inbox, AllocError>
+        ensures { IfOk result (λ b. b ≡ []) }
+    {
+        Ok(Inbox {
+            bytes: vec![in alloc; 0; MAX_PIECE as usize]?,
+            at: 0,
+            end: 0,
+        })
+    }
+
+    /// The bytes.
+    pub fn rest(&self) -> &[u8]
+        ensures { result.now ≡ self.now }
+    {
+        &self.bytes[self.at..self.end]
+    }
+
+    /// Lets go so many bytes in front.
+    pub fn consume(&mut self, n: usize)
+        requires { n ≤ length self.old }
+        ensures { self.new ≡ drop n self.old }
+    {
+        self.at += n;
+    }
+
+    /// Lets go all.
+    pub fn clear(&mut self)
+        ensures { self.new ≡ [] }
+    {
+        self.at = 0;
+        self.end = 0;
+    }
+
+    /// Takes what one read gives, into an empty one.
+    pub fn receive<P: Ports>(&mut self, ports: &mut P, port: u32) -> Came
+        requires port { port ≤ last_connection }
+        requires empty { self.old ≡ [] }
+        ensures received { Receives port result self.new (P.log ports.old) (P.log ports.new) }
+    {
+        let came = ports.read(port, &mut self.bytes);
+        self.at = 0;
+        self.end = match came {
+            Came::Bytes(n) => n,
+            _ => 0,
+        };
+        came
+    }
+}

@@ -1,0 +1,215 @@
+//! One connection of many: what came, what is owed, and its turn.
+
+ghost use Rattle.std.specs.Prelude.{◌≡◌, ◌≤◌, ◌<◌, ℕ, List, length, true, false, IfOk};
+ghost use Rattle.nfs_rpc.specs.Feeding.{is_too_long};
+ghost use Rattle.nfs_serve.specs.Engine.{state_of};
+ghost use Rattle.nfs_serve.specs.Script.{last_connection};
+ghost use Rattle.nfs_serve.specs.Desk.{Act, closed, opened, most_owed};
+ghost use Rattle.nfs_serve.specs.Lane.{desk_of, Advances, Flushes, Settles, EndsTurn, StepsOne, StepsSome};
+ghost use Rattle.nfs_serve.specs.Boxes as boxes;
+
+use crate::Clock;
+use crate::connection::Connection;
+use crate::engine::Engine;
+use crate::inbox::Inbox;
+use crate::outbox::Outbox;
+use crate::ports::{Came, Ports, Took};
+use crate::talking::MAX_READS;
+use std::alloc::{AllocError, Global};
+
+/// A port, and the connection on it, if there is one.
+#[derive(Drop)]
+pub struct Lane {
+    live: bool,
+    reads: u32,
+    connection: Connection,
+    unread: Inbox,
+    owed: Outbox,
+}
+
+/// How far a lane came.
+#[derive(Clone, Copy, Debug, PartialEq, Eq)]
+pub enum Rest {
+    /// Nothing waits to be written.
+    Clear,
+    /// The peer takes no more for now.
+    Stuck,
+    /// The connection was closed.
+    Gone,
+}
+
+impl Lane {
+    /// A port with no connection. Its buffers are made here.
+    pub fn new(alloc: Global) -> Result<Lane, AllocError>
+        ensures { IfOk result (λ lane. desk_of lane ≡ closed) }
+    {
+        Ok(Lane {
+            live: false,
+            reads: 0,
+            connection: Connection::new(alloc)?,
+            unread: Inbox::new(alloc)?,
+            owed: Outbox::new(alloc)?,
+        })
+    }
+
+    /// A connection begins.
+    pub fn begin(&mut self)
+        ensures { desk_of self.new ≡ opened }
+    {
+        self.reset();
+        self.live = true;
+    }
+
+    /// The port has no connection.
+    pub fn reset(&mut self)
+        ensures { desk_of self.new ≡ closed }
+    {
+        self.live = false;
+        self.reads = 0;
+        self.connection.close();
+        self.unread.clear();
+        self.owed.clear();
+    }
+
+    /// Writes what is owed, as far as the peer takes it.
+    fn flush<P: Ports>(&mut self, port: u32, ports: &mut P) -> Rest
+        requires port { port ≤ last_connection }
+        requires live { self.old.live ≡ true }
+        ensures { Flushes result port (desk_of self.old) (desk_of self.new) (P.log ports.old) (P.log ports.new) }
+    {
+        while !self.owed.rest().is_empty() {
+            match ports.write(port, self.owed.rest()) {
+                Took::Bytes(n) => self.owed.consume(n),
+                Took::Blocked => return Rest::Stuck,
+                Took::Failed => {
+                    ports.close(port);
+                    self.reset();
+                    return Rest::Gone;
+                }
+            }
+        }
+        Rest::Clear
+    }
+
+    /// Whether a record may be stepped: bytes wait that are looked at, and the outbox has room for a reply.
+    fn may_step(&self) -> bool
+        ensures { result ≡ true → (is_too_long self.now.connection ≡ false) × (0 < length self.now.unread) × (self.now.owed.laid ≤ most_owed) × (length self.now.owed.bytes ≤ most_owed) }
+    {
+        !self.connection.is_too_long() && !self.unread.rest().is_empty() && self.owed.has_room()
+    }
+
+    /// Steps the first record of what came, at the clock's moment.
+    fn step_one<C: Clock>(&mut self, alloc: Global, engine: &mut Engine, port: u32, clock: &mut C)
+        requires live { self.old.live ≡ true }
+        requires short { is_too_long self.old.connection ≡ false }
+        requires some { 0 < length self.old.unread }
+        requires laid { self.old.owed.laid ≤ most_owed }
+        requires room { length self.old.owed.bytes ≤ most_owed }
+        ensures { StepsOne port (state_of engine.old.kept) (state_of engine.new.kept) self.old self.new (C.told clock.old) (C.told clock.new) }
+    {
+        let now = clock.now();
+        let used = self.connection.take_one(
+            alloc,
+            engine,
+            port,
+            self.unread.rest(),
+            now,
+            &mut self.owed,
+        );
+        self.unread.consume(used);
+    }
+
+    /// Steps the records of what came, while the outbox has room: one at least.
+    fn step_some<C: Clock>(&mut self, alloc: Global, engine: &mut Engine, port: u32, clock: &mut C)
+        requires live { self.old.live ≡ true }
+        requires short { is_too_long self.old.connection ≡ false }
+        requires some { 0 < length self.old.unread }
+        requires empty { length self.old.owed.bytes ≡ 0 }
+        ensures { StepsSome port (state_of engine.old.kept) (state_of engine.new.kept) self.old self.new (C.told clock.old) (C.told clock.new) }
+    {
+        self.owed.clear();
+        self.step_one(alloc, engine, port, clock);
+        while self.may_step() {
+            self.step_one(alloc, engine, port, clock);
+        }
+    }
+
+    /// Writes what is owed, and steps and answers what came, as far as the peer takes it.
+    fn settle<P: Ports, C: Clock>(
+        &mut self,
+        alloc: Global,
+        engine: &mut Engine,
+        port: u32,
+        ports: &mut P,
+        clock: &mut C,
+    ) -> Rest
+        requires port { port ≤ last_connection }
+        requires live { self.old.live ≡ true }
+        ensures { (acts : List Act) × Advances port acts (state_of engine.old.kept) (desk_of self.old) (state_of engine.new.kept) (desk_of self.new) (P.log ports.old) (P.log ports.new) (C.told clock.old) (C.told clock.new) × Settles result acts (desk_of self.new) }
+    {
+        loop {
+            match self.flush(port, ports) {
+                Rest::Clear => {}
+                Rest::Stuck => return Rest::Stuck,
+                Rest::Gone => return Rest::Gone,
+            }
+            if self.connection.is_too_long() {
+                ports.close(port);
+                self.reset();
+                return Rest::Gone;
+            }
+            if self.unread.rest().is_empty() {
+                return Rest::Clear;
+            }
+            self.step_some(alloc, engine, port, clock);
+        }
+    }
+
+    /// One turn: what waits is answered, then one read, then what came is answered. It ends where the peer takes no more.
+    pub fn turn<P: Ports, C: Clock>(
+        &mut self,
+        alloc: Global,
+        engine: &mut Engine,
+        port: u32,
+        ports: &mut P,
+        clock: &mut C,
+    )
+        requires port { port ≤ last_connection }
+        ensures { (acts : List Act) × Advances port acts (state_of engine.old.kept) (desk_of self.old) (state_of engine.new.kept) (desk_of self.new) (P.log ports.old) (P.log ports.new) (C.told clock.old) (C.told clock.new) × EndsTurn acts (desk_of self.new) }
+    {
+        if !self.live {
+            return;
+        }
+        match self.settle(alloc, engine, port, ports, clock) {
+            Rest::Clear => {}
+            Rest::Stuck => return,
+            Rest::Gone => return,
+        }
+        if self.reads >= MAX_READS {
+            ports.close(port);
+            self.reset();
+            return;
+        }
+        match self.unread.receive(ports, port) {
+            Came::Bytes(_) => {
+                self.reads += 1;
+                match self.settle(alloc, engine, port, ports, clock) {
+                    Rest::Clear => return,
+                    Rest::Stuck => return,
+                    Rest::Gone => return,
+                }
+            }
+            Came::Blocked => return,
+            Came::Ended => {
+                ports.close(port);
+                self.reset();
+                return;
+            }
+            Came::Failed => {
+                ports.close(port);
+                self.reset();
+                return;
+            }
+        }
+    }
+}
