@@ -1,5 +1,5 @@
-use Rattle.nfs_vectors.proofs.Room.{stands_still}
-use Rattle.nfs_vectors.proofs.parts.put_read.Goals as goal
+use Rattle.nfs_tests.proofs.Room.{stands_still}
+use Rattle.nfs_tests.proofs.parts.put_read.Goals as goal
 
 pub returns-clause-stands : goal.returns-clause-stands
 returns-clause-stands c = λ status_at count_at h.

@@ -1,6 +1,6 @@
 use Rattle.nfs_xdr.specs.declared.status.Status.TheVariants.{Nfs4Ok}
-use Rattle.nfs_vectors.proofs.Room.{room_at_start, room_behind}
-use Rattle.nfs_vectors.proofs.results.is_put.Goals as goal
+use Rattle.nfs_tests.proofs.Room.{room_at_start, room_behind}
+use Rattle.nfs_tests.proofs.results.is_put.Goals as goal
 
 pub write_compound_head-requires-clause-room : goal.write_compound_head-requires-clause-room
 write_compound_head-requires-clause-room c = room_at_start _ Nfs4Ok c.in_ok-out.ensures

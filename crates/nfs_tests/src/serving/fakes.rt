@@ -1,0 +1,84 @@
+//! Readers and writers that move few bytes at a time, and fail at a call.
+
+ghost use Rattle.std.specs.Prelude.{None};
+
+use nfs_serve::Clock;
+use std::io;
+use std::io::{ErrorKind, Read, Write};
+
+/// Gives these bytes, at most `most` in a call, and fails at call `fails`, counted from 1.
+#[derive(Drop)]
+pub struct Drip<'a> {
+    pub bytes: &'a [u8],
+    pub most: usize,
+    pub fails: usize,
+    pub calls: usize,
+}
+
+impl Read for Drip<'_> {
+    fn read(&mut self, buf: &mut [u8]) -> io::Result<usize> {
+        self.calls = self.calls.saturating_add(1);
+        if self.calls == self.fails {
+            return Err(io::Error::from(ErrorKind::Interrupted));
+        }
+        let n = buf.len().min(self.bytes.len()).min(self.most);
+        let (front, rest) = self.bytes.split_at(n);
+        buf[..n].copy_from_slice(front);
+        self.bytes = rest;
+        Ok(n)
+    }
+}
+
+/// Gives a zero byte at each call, without end.
+#[derive(Drop)]
+pub struct Trickle;
+
+impl Read for Trickle {
+    fn read(&mut self, buf: &mut [u8]) -> io::Result<usize> {
+        if buf.is_empty() {
+            return Ok(0);
+        }
+        buf[0] = 0;
+        Ok(1)
+    }
+}
+
+/// A clock that counts how often it was asked, and answers that in seconds.
+#[derive(Drop)]
+pub struct Counting {
+    pub asked: usize,
+}
+
+impl Clock for Counting {
+    ghost told = { λ _. None };
+
+    fn now(&mut self) -> u64 {
+        self.asked = self.asked.saturating_add(1);
+        (self.asked as u64).min(1 << 62)
+    }
+}
+
+/// Takes at most `most` bytes in a call, and fails at call `fails`, counted from 1.
+#[derive(Drop)]
+pub struct Tray {
+    pub bytes: Vec<u8>,
+    pub most: usize,
+    pub fails: usize,
+    pub calls: usize,
+}
+
+impl Write for Tray {
+    fn write(&mut self, buf: &[u8]) -> io::Result<usize> {
+        self.calls = self.calls.saturating_add(1);
+        if self.calls == self.fails {
+            return Err(io::Error::from(ErrorKind::Other));
+        }
+        let n = buf.len().min(self.most);
+        self.bytes.extend_from_slice(&buf[..n])?;
+        Ok(n)
+    }
+
+    fn flush(&mut self) -> io::Result<()> {
+        Ok(())
+    }
+}
