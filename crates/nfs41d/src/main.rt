@@ -1,11 +1,12 @@
 //! `nfs41d replay` runs a script of timed pieces of NFS version 4.1 requests from standard input, and writes the replies
-//! to standard output. `nfs41d serve` answers TCP connections, one after the other.
+//! to standard output. `nfs41d serve` answers TCP connections, one after the other or up to 16 at once.
 #![tactic(auto)]
 
 use nfs_daemon::{
-    Fault, Order, SystemClock, ending, instance_at, order, serve, settings, status, unread,
+    Fault, Order, SystemClock, ending, instance_at, order, serve, serve_many, settings, status,
+    unread,
 };
-use nfs_serve::{Clock, Host, Server};
+use nfs_serve::{Clock, Host, Server, Settings};
 use std::io::{BufReader, BufWriter, Write};
 use std::net::SocketAddrV4;
 use std::process::ExitCode;
@@ -29,29 +30,50 @@ fn run(rt: &HostRuntime) -> Result<(), Fault> {
         texts.push(word.as_str()).map_err(|_| Fault::Start)?;
     }
     match order(rt.alloc(), &texts)? {
-        Order::Replay { settings } => replay(rt, &mut server(rt, settings, INSTANCE)?),
+        Order::Replay { settings } => {
+            let (settings, instance) = read(rt, settings, INSTANCE)?;
+            replay(rt, &mut server(rt, settings, instance)?)
+        }
         Order::Serve {
             listen,
             connections,
+            at_once,
             settings,
         } => {
             let second = SystemClock::new(rt).now();
-            let mut server = server(rt, settings, instance_at(second))?;
+            let (settings, instance) = read(rt, settings, instance_at(second))?;
+            let mut server = server(rt, settings, instance)?;
             let addr = listen.parse::<SocketAddrV4>().map_err(|_| Fault::Start)?;
-            serve(rt, &mut server, addr, connections, &mut rt.stderr())
+            let told = &mut rt.stderr();
+            match at_once {
+                1 => serve(rt, &mut server, addr, connections, told),
+                _ => serve_many(
+                    rt,
+                    &mut server,
+                    addr,
+                    connections,
+                    at_once,
+                    settings.lease,
+                    told,
+                ),
+            }
         }
     }
 }
 
-/// A new server with the settings of a file, where one is named. `start` is its instance where the file names none.
-fn server(rt: &HostRuntime, file: Option<&str>, start: u32) -> Result<Server, Fault> {
+/// The settings of a file, where one is named, and the server's instance: `start` where the file names none.
+fn read(rt: &HostRuntime, file: Option<&str>, start: u32) -> Result<(Settings, u32), Fault> {
     let alloc = rt.alloc();
     let text = match file {
         Some(path) => fs::read_to_string(rt, path).map_err(|e| unread(&e, Fault::Settings))?,
         None => String::new(alloc),
     };
-    let (settings, instance) = settings(alloc, text.as_str(), start)?;
-    Server::new(alloc, settings, instance).map_err(|_| Fault::Start)
+    Ok(settings(alloc, text.as_str(), start)?)
+}
+
+/// A new server.
+fn server(rt: &HostRuntime, settings: Settings, instance: u32) -> Result<Server, Fault> {
+    Server::new(rt.alloc(), settings, instance).map_err(|_| Fault::Start)
 }
 
 /// Runs the script of standard input over a server.

@@ -3,7 +3,7 @@ use Rattle.std.specs.Prelude.{◌≤◌}
 use Rattle.nfs_daemon.specs.declared.asked.Order.{Order}
 use Rattle.nfs_daemon.specs.declared.asked.Order.TheVariants.{Replay, Serve}
 
--- 1 to 1,000,000 connections
+-- 1 to 1,000,000 connections, 1 to 16 at once
 abbrev pub MayBeAsked : Order → Type 0
 MayBeAsked (Replay settings) = Unit {0}
-MayBeAsked (Serve listen connections settings) = (1 ≤ connections) × (connections ≤ 1000000)
+MayBeAsked (Serve listen connections at_once settings) = (1 ≤ connections) × (connections ≤ 1000000) × (1 ≤ at_once) × (at_once ≤ 16)

@@ -8,12 +8,14 @@ pub enum Order<'a> {
         /// The path of the settings file, if one is named.
         settings: Option<&'a str>,
     },
-    /// Serve so many TCP connections, one after the other.
+    /// Serve so many TCP connections.
     Serve {
         /// The IPv4 address and port to listen on, as it was written.
         listen: &'a str,
         /// How many connections, from 1 to 1,000,000.
         connections: u32,
+        /// How many at once, from 1 to 16.
+        at_once: u32,
         /// The path of the settings file, if one is named.
         settings: Option<&'a str>,
     },

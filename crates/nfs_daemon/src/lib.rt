@@ -7,11 +7,12 @@ mod clock;
 mod fault;
 mod serving;
 mod settings_file;
+mod sockets;
 mod words;
 
 pub use asked::Order;
 pub use clock::{SystemClock, instance_at};
 pub use fault::{Fault, ending, status, unread};
-pub use serving::serve;
+pub use serving::{serve, serve_many};
 pub use settings_file::{Bad, settings};
 pub use words::order;

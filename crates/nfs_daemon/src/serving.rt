@@ -1,13 +1,14 @@
-//! TCP connections, one after the other, over one server.
+//! TCP connections over one server, one after the other or many at once.
 
 ghost use Rattle.std.specs.Prelude.{MatchResult};
 ghost use Rattle.nfs_daemon.specs.ExitStatus.{IsOfConnections};
 
 use crate::clock::SystemClock;
 use crate::fault::Fault;
-use nfs_serve::{Host, Server};
+use crate::sockets::Sockets;
+use nfs_serve::{Host, Hub, Server};
 use std::io::Write;
-use std::net::{Net, SocketAddrV4, TcpListener, TcpStream};
+use std::net::{Net, SocketAddr, SocketAddrV4, TcpListener, TcpStream};
 use std::rt;
 
 /// Listens on an address, says on `told` which one it has taken, and serves so many connections, one after the other. A connection
@@ -38,6 +39,38 @@ where
         let mut r = Host::new(&stream);
         let mut w = Host::new(&stream);
         let _ = server.talk(alloc, &mut r, &mut w, &mut clock);
+    }
+    Ok(())
+}
+
+/// Listens on an address, says on `told` which one it has taken, and serves so many connections, up to `at_once` of them at once and no
+/// more than 16. One that was silent for `idle` seconds gives way to a new one where all places are taken.
+///
+/// `Start` where the address cannot be listened on, or for want of memory; `Accept` where no connection can be taken any more.
+pub fn serve_many<R, W>(
+    rt: &R,
+    server: &mut Server,
+    addr: SocketAddrV4,
+    connections: u32,
+    at_once: u32,
+    idle: u32,
+    told: &mut W,
+) -> Result<(), Fault>
+where
+    R: Net + AllocGlobal + rt::Clock,
+    W: Write,
+    ensures { MatchResult result (λ _. Unit {0}) (λ fault. IsOfConnections fault) }
+{
+    let mut clock = SystemClock::new(rt);
+    let mut hub = Hub::new(rt.alloc()).map_err(|_| Fault::Start)?;
+    let mut sockets = Sockets::new(rt, SocketAddr::V4(addr), connections, at_once, idle).map_err(
+        |_| Fault::Start,
+    )?;
+    let addr = sockets.local_addr().map_err(|_| Fault::Start)?;
+    let _ = writeln!(told, "nfs41d: listening on {addr}");
+    server.serve_ports(rt.alloc(), &mut hub, &mut sockets, &mut clock);
+    if sockets.failed() {
+        return Err(Fault::Accept);
     }
     Ok(())
 }

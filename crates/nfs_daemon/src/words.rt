@@ -13,6 +13,9 @@ use std::alloc::{AllocError, Global};
 /// The most connections of one run.
 const MAX_CONNECTIONS: u32 = 1_000_000;
 
+/// The most connections at once.
+const MAX_AT_ONCE: u32 = 16;
+
 /// Reads the words of a command line, the program's name first.
 ///
 /// `Arguments` where they are no order, help included; `Start` for want of memory.
@@ -34,6 +37,7 @@ fn command<'a>(alloc: Global) -> Result<Command<'a>, AllocError> {
     let serve = Command::new(alloc, "serve")
         .arg(option(alloc, "listen").required(true))?
         .arg(option(alloc, "connections").required(true))?
+        .arg(option(alloc, "at-once"))?
         .arg(option(alloc, "settings"))?;
     Command::new(alloc, "nfs41d")
         .subcommand_required(true)
@@ -56,7 +60,11 @@ fn order_of<'a>(matches: &ArgMatches<'a>) -> Option<Order<'a>>
         }),
         "serve" => Some(Order::Serve {
             listen: found.get_str("listen")?,
-            connections: count_of(found.get_str("connections")?)?,
+            connections: count_of(found.get_str("connections")?, MAX_CONNECTIONS)?,
+            at_once: match found.get_str("at-once") {
+                Some(text) => count_of(text, MAX_AT_ONCE)?,
+                None => 1,
+            },
             settings: found.get_str("settings"),
         }),
         _ => None,
@@ -64,11 +72,11 @@ fn order_of<'a>(matches: &ArgMatches<'a>) -> Option<Order<'a>>
 }
 
 /// A count of connections.
-fn count_of(text: &str) -> Option<u32>
-    ensures { IfSome result (λ count. (1 ≤ count) × (count ≤ 1000000)) }
+fn count_of(text: &str, most: u32) -> Option<u32>
+    ensures { IfSome result (λ count. (1 ≤ count) × (count ≤ most)) }
 {
     let count = text.parse::<u32>().ok()?;
-    if count >= 1 && count <= MAX_CONNECTIONS {
+    if count >= 1 && count <= most {
         Some(count)
     } else {
         None

@@ -1,0 +1,293 @@
+//! TCP connections as the ports of a hub, by readiness.
+
+ghost use Rattle.std.specs.Prelude.{◌≡◌, ◌≤◌, None, IfSome, IfOk};
+ghost use Rattle.nfs_serve.specs.Script.{last_connection};
+
+use mio::net::{TcpListener, TcpStream};
+use mio::{Events, Interest, Poll, Token};
+use nfs_serve::{Came, Next, Ports, Took};
+use std::io::{ErrorKind, Read, Write};
+use std::net::{Net, SocketAddr};
+use std::time::{Duration, Instant};
+use std::{io, rt};
+
+/// How many ports there are.
+const PORTS: usize = 16;
+
+/// The token of the listener; those of connections are their ports.
+const LISTENER: Token = Token(PORTS);
+
+/// How many milliseconds a wait lasts while somebody may wait for a port.
+const TICK: u64 = 200;
+
+/// The numbers of Linux for want of memory, of descriptors (the system's and the process's) and of buffers.
+const PASSING: [i32; 4] = [12, 23, 24, 105];
+
+/// A connection, and what is known of it.
+#[derive(Drop)]
+struct Slot {
+    stream: TcpStream,
+    /// Whether a read or a write may do something.
+    ready: bool,
+    /// Whether the peer has ended its side or the connection has failed, so that a read says so once all bytes were read.
+    ending: bool,
+    /// When it was last read or written.
+    used: Option<Instant>,
+}
+
+/// A listener and its connections.
+#[derive(Drop)]
+pub struct Sockets<'a, R: rt::Clock> {
+    rt: &'a R,
+    poll: Poll,
+    events: Events,
+    listener: TcpListener,
+    /// Whether somebody may be waiting to be accepted.
+    calling: bool,
+    slots: [Option<Slot>; PORTS],
+    at_once: usize,
+    /// How long a connection is silent at least before a new one is given its port.
+    idle: Duration,
+    /// The port whose turn is next.
+    turn: usize,
+    /// How many connections are still to be accepted.
+    left: u32,
+    /// The moment of the last wait.
+    now: Option<Instant>,
+    failed: bool,
+}
+
+impl<'a, R: Net + AllocGlobal + rt::Clock> Sockets<'a, R> {
+    /// Listens on an address for so many connections, so many of them at once, where a connection that was silent for `idle` seconds
+    /// gives way to a new one.
+    pub fn new(
+        rt: &'a R,
+        addr: SocketAddr,
+        connections: u32,
+        at_once: u32,
+        idle: u32,
+    ) -> io::Result<Self> {
+        let poll = Poll::new(rt)?;
+        let mut listener = TcpListener::bind(rt, addr)?;
+        poll.registry()
+            .register(&mut listener, LISTENER, Interest::READABLE)?;
+        Ok(Sockets {
+            rt,
+            poll,
+            events: Events::with_capacity(rt.alloc(), PORTS + 1)?,
+            listener,
+            calling: true,
+            slots: [const { None }; PORTS],
+            at_once: PORTS.min(at_once as usize),
+            idle: Duration::from_secs(u64::from(idle)),
+            turn: 0,
+            left: connections,
+            now: Instant::now(rt).ok(),
+            failed: false,
+        })
+    }
+}
+
+impl<R: rt::Clock> Sockets<'_, R> {
+    /// The address that was taken.
+    pub fn local_addr(&self) -> io::Result<SocketAddr> {
+        self.listener.local_addr()
+    }
+
+    /// Whether no connection could be taken any more.
+    pub fn failed(&self) -> bool {
+        self.failed
+    }
+
+    /// The connection on a port.
+    fn slot(&mut self, port: u32) -> Option<&mut Slot> {
+        match self.slots.get_mut(port as usize) {
+            Some(Some(slot)) => Some(slot),
+            _ => None,
+        }
+    }
+
+    /// A port that is free, or else that of the connection that has been silent the longest, and long enough.
+    fn place(&self) -> Option<usize>
+        ensures { IfSome result (λ port. port ≤ last_connection) }
+    {
+        let mut longest = None;
+        let mut silent = self.idle;
+        for port in 0..self.at_once.min(PORTS) {
+            let Some(slot) = &self.slots[port] else {
+                return Some(port);
+            };
+            if let (Some(now), Some(used)) = (self.now, slot.used) {
+                let since = now.saturating_duration_since(used);
+                if since >= silent {
+                    silent = since;
+                    longest = Some(port);
+                }
+            }
+        }
+        longest
+    }
+
+    /// Takes a connection that waits, if there is a port for it.
+    fn accept(&mut self) -> io::Result<Option<u32>>
+        ensures { IfOk result (λ taken. IfSome taken (λ port. port ≤ last_connection)) }
+    {
+        if self.left == 0 || !self.calling {
+            return Ok(None);
+        }
+        let Some(port) = self.place() else {
+            return Ok(None);
+        };
+        match self.take_on(port) {
+            Ok(()) => {
+                self.left -= 1;
+                Ok(Some(port as u32))
+            }
+            Err(e) if e.kind() == ErrorKind::WouldBlock => {
+                self.calling = false;
+                Ok(None)
+            }
+            Err(e) if passes(&e) => Ok(None),
+            Err(e) => Err(e),
+        }
+    }
+
+    /// Takes a connection that waits on a port. One that was there is closed.
+    fn take_on(&mut self, port: usize) -> io::Result<()>
+        requires { port ≤ last_connection }
+        ensures left { self.new.left ≡ self.old.left }
+    {
+        let (mut stream, _) = self.listener.accept()?;
+        // A reply leaves at once, where the platform lets it.
+        let _ = stream.set_nodelay(true);
+        self.poll.registry().register(
+            &mut stream,
+            Token(port),
+            Interest::READABLE | Interest::WRITABLE,
+        )?;
+        self.slots[port] = Some(Slot {
+            stream,
+            ready: true,
+            ending: false,
+            used: self.now,
+        });
+        Ok(())
+    }
+
+    /// Looks at which connections are ready, and waits for one or for the listener where none is.
+    fn wait(&mut self) -> io::Result<()> {
+        let ready = self.slots.iter().flatten().any(|slot| slot.ready);
+        let timeout = if ready {
+            Some(Duration::ZERO)
+        } else if self.calling && self.left > 0 {
+            Some(Duration::from_millis(TICK))
+        } else {
+            None
+        };
+        self.poll.poll(&mut self.events, timeout)?;
+        self.now = Instant::now(self.rt).ok();
+        for event in &self.events {
+            match self.slots.get_mut(event.token().0) {
+                Some(Some(slot)) => {
+                    slot.ready = true;
+                    slot.ending = slot.ending || event.is_read_closed() || event.is_error();
+                }
+                Some(None) => {}
+                None => self.calling = true,
+            }
+        }
+        Ok(())
+    }
+}
+
+/// Whether a failure to take a connection passes by itself.
+fn passes(e: &io::Error) -> bool {
+    e.kind() == ErrorKind::ConnectionAborted
+        || e.kind() == ErrorKind::Interrupted
+        || match e.raw_os_error() {
+            Some(number) => PASSING.contains(&number),
+            None => false,
+        }
+}
+
+impl<R: rt::Clock> Ports for Sockets<'_, R> {
+    ghost log = { λ _. None };
+
+    fn next(&mut self) -> Next {
+        for _ in 0..u64::MAX {
+            for port in self.turn..PORTS {
+                self.turn = port + 1;
+                if let Some(slot) = &self.slots[port] {
+                    if slot.ready {
+                        return Next::Turn(port as u32);
+                    }
+                }
+            }
+            match self.accept() {
+                Ok(Some(port)) => return Next::Opened(port),
+                Ok(None) => {}
+                Err(_) => {
+                    self.failed = true;
+                    return Next::Over;
+                }
+            }
+            if self.left == 0 && self.slots.iter().all(|slot| slot.is_none()) {
+                return Next::Over;
+            }
+            if self.wait().is_err() {
+                self.failed = true;
+                return Next::Over;
+            }
+            self.turn = 0;
+        }
+        Next::Over
+    }
+
+    fn read(&mut self, port: u32, buf: &mut [u8]) -> Came {
+        let now = self.now;
+        let Some(slot) = self.slot(port) else {
+            return Came::Failed;
+        };
+        match slot.stream.read(buf) {
+            Ok(0) => Came::Ended,
+            Ok(n) => {
+                slot.used = now;
+                // What comes behind a read that was short is told anew; an end that was told already is not.
+                slot.ready = n == buf.len() || slot.ending;
+                Came::Bytes(n)
+            }
+            Err(e) if e.kind() == ErrorKind::WouldBlock => {
+                slot.ready = false;
+                Came::Blocked
+            }
+            Err(e) if e.kind() == ErrorKind::Interrupted => Came::Blocked,
+            Err(_) => Came::Failed,
+        }
+    }
+
+    fn write(&mut self, port: u32, bytes: &[u8]) -> Took {
+        let now = self.now;
+        let Some(slot) = self.slot(port) else {
+            return Took::Failed;
+        };
+        match slot.stream.write(bytes) {
+            Ok(0) => Took::Failed,
+            Ok(n) => {
+                slot.used = now;
+                Took::Bytes(n)
+            }
+            Err(e) if e.kind() == ErrorKind::WouldBlock => {
+                slot.ready = false;
+                Took::Blocked
+            }
+            Err(e) if e.kind() == ErrorKind::Interrupted => Took::Blocked,
+            Err(_) => Took::Failed,
+        }
+    }
+
+    fn close(&mut self, port: u32) {
+        if let Some(slot) = self.slots.get_mut(port as usize) {
+            *slot = None;
+        }
+    }
+}
