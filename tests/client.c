@@ -4,8 +4,9 @@
  *     step NAME: ok
  *     step NAME: FAILED what came and what was wanted
  *
- * and at the end `done`. The kernel's command line has `port=N` and `part=plain|cut|expired|restart`. Where a step wants
- * something of the host, the guest prints `ask WORD` and reads a line. */
+ * and at the end `done N`, of N steps. Before them it prints `kernel RELEASE`, or `unfit: WHY` where the machine lacks something; and
+ * `beat` each second all the while, so that the host sees when the machine stands still. The kernel's command line has `port=N` and
+ * `part=plain|command|cut|expired|restart`. Where a step wants something of the host, the guest prints `ask WORD` and reads a line. */
 #define _GNU_SOURCE
 #include <arpa/inet.h>
 #include <dirent.h>
@@ -13,7 +14,6 @@
 #include <fcntl.h>
 #include <grp.h>
 #include <net/if.h>
-#include <signal.h>
 #include <stdarg.h>
 #include <stdio.h>
 #include <stdlib.h>
@@ -34,6 +34,7 @@
 enum { PIECE = 4096, LONG = 300000, MANY = 200, BADTYPE = 527 };
 
 static unsigned char wanted[LONG], got[LONG + 1];
+static int steps;
 
 static double now(void) {
     struct timespec t;
@@ -43,6 +44,7 @@ static double now(void) {
 
 static void step(const char *name, int holds, const char *shown, ...) {
     va_list rest;
+    steps++;
     printf("step %s: %s", name, holds ? "ok" : "FAILED ");
     if (!holds) {
         va_start(rest, shown);
@@ -59,11 +61,13 @@ static void ends(const char *name, long value, int error) {
     step(name, came == error, "errno %d (%s), wanted %d", came, strerror(came), error);
 }
 
-static void ask(const char *word) {
-    char line[64];
+/* Asks the host for something and returns whether it says `again`. */
+static int ask(const char *word) {
+    char line[64] = {0};
     printf("ask %s\n", word);
     fflush(stdout);
     if (!fgets(line, sizeof line, stdin)) printf("note: the host said nothing\n");
+    return !strncmp(line, "again", 5);
 }
 
 /* Waits for a child and returns the status that it ended with. */
@@ -224,12 +228,17 @@ static void unlinked_while_open(void) {
     forget();
     step("its bytes are still there", pread(file, bytes, 8, 0) == 4 && !memcmp(bytes, "here", 4), "errno %d, '%.4s'", errno, bytes);
     ends("it is closed", close(file), 0);
-    forget();
-    int left = 0;
-    DIR *list = opendir(AT);
-    for (struct dirent *e; list && (e = readdir(list));) left += !strncmp(e->d_name, ".nfs", 4) || !strcmp(e->d_name, "gone");
-    step("and no name is left of it", list && !left, "%d", left);
-    if (list) closedir(list);
+    /* the kernel removes the name that it gave the file meanwhile behind the close, in its own time */
+    int left = 1;
+    for (int tries = 0; left && tries < 60; tries++) {
+        if (tries) sleep(1);
+        forget();
+        DIR *list = opendir(AT);
+        left = list ? 0 : -1;
+        for (struct dirent *e; list && (e = readdir(list));) left += !strncmp(e->d_name, ".nfs", 4) || !strcmp(e->d_name, "gone");
+        if (list) closedir(list);
+    }
+    step("and no name is left of it", !left, "%d", left);
 }
 
 /* Locks between processes of this machine, which its kernel judges before it asks the server. */
@@ -250,8 +259,8 @@ static void locks(void) {
         if (locked(other, F_SETLK, F_RDLCK, 9, 1) >= 0) code |= 2;
         if (locked(other, F_SETLK, F_WRLCK, 10, 10)) code |= 4;
         if (fcntl(other, F_GETLK, &lock) || lock.l_type != F_WRLCK || lock.l_start != 0 || lock.l_len != 10) code |= 8;
-        if (write(back[1], "r", 1) != 1) code |= 16;
         double begun = now();
+        if (write(back[1], "r", 1) != 1) code |= 16;
         if (locked(other, F_SETLKW, F_WRLCK, 0, 5)) code |= 32;
         if (now() - begun < 1) code |= 64;
         _exit(code);
@@ -276,19 +285,21 @@ static void anothers_lock(void) {
          "errno %d, type %d, %ld and %ld", errno, lock.l_type, (long)lock.l_start, (long)lock.l_len);
     ends("bytes beside it are granted", locked(file, F_SETLK, F_WRLCK, 10, 5), 0);
     double begun = now();
-    alarm(180);
     ends("the lock is waited for, and granted when the other client's lease has run out", locked(file, F_SETLKW, F_WRLCK, 0, 5), 0);
-    alarm(0);
     printf("note: waited %.0f s\n", now() - begun);
     close(file);
 }
 
-/* Small writes and reads for so many seconds: each must come out as it went in. */
-static void go_on_for(double seconds) {
-    double until = now() + seconds;
+/* Small writes and reads, a minute at least and until the host has seen enough: each must come out as it went in. */
+static void go_on(void) {
+    double until = now() + 60;
     long rounds = 0, wrong = 0;
     char name[64];
-    while (now() < until && !wrong) {
+    while (!wrong) {
+        if (now() >= until) {
+            if (!ask("enough")) break;
+            until = now() + 10;
+        }
         snprintf(name, sizeof name, AT "round%ld", rounds % 7);
         for (int i = 0; i < PIECE; i++) wanted[i] = (unsigned char)(rounds * 31 + i % 251);
         wrong += put(name, O_CREAT | O_EXCL, wanted, PIECE) != PIECE;
@@ -336,7 +347,7 @@ static void lease_runs_out(void) {
 static void server_restarts(const char *options) {
     char bytes[8];
     struct stat a;
-    int kept = open(AT "kept", O_CREAT | O_RDWR, 0600);
+    int kept = open(AT "kept", O_CREAT | O_RDWR | O_DIRECT, 0600);
     step("a file is opened and written", kept >= 0 && write(kept, "before", 6) == 6 && !fsync(kept), "errno %d", errno);
     ask("restart");
     forget();
@@ -352,19 +363,63 @@ static void server_restarts(const char *options) {
     ends("a directory is made", mkdir(AT "new", 0755), 0);
 }
 
-static void load_modules(void) {
+/* A command that is to end with status 0; where it does not, what it said is shown, its lines joined. */
+static int command(const char *name, char *const words[]) {
+    char said[400] = {0};
+    size_t size = 0;
+    ssize_t more;
+    int from[2];
+    if (pipe(from)) _exit(1);
+    fflush(stdout);
+    pid_t child = fork();
+    if (!child) {
+        dup2(from[1], 1);
+        dup2(from[1], 2);
+        close(from[0]);
+        execv(words[0], words);
+        _exit(127);
+    }
+    close(from[1]);
+    while (size < sizeof said - 1 && (more = read(from[0], said + size, sizeof said - 1 - size)) > 0) size += more;
+    close(from[0]);
+    int status = ended(child);
+    for (size_t i = 0; i < size; i++) said[i] = said[i] == '\n' ? ';' : said[i];
+    step(name, status == 0, "status %d, and it said: %s", status, said);
+    return status == 0;
+}
+
+/* The mount as it is documented for people, and its end. */
+static int mounted_by_the_command(char *options) {
+    char *const words[] = {"/bin/mount", "-t", "nfs", "-o", options, "10.0.2.2:/", "/mnt", NULL};
+    return command("the server is mounted by the command", words);
+}
+
+static void unmounted_by_the_command(void) {
+    char *const words[] = {"/bin/umount", "/mnt", NULL};
+    command("it is unmounted by the command", words);
+}
+
+/* What the machine lacks is told, and then there is nothing to judge. */
+static int unfit(const char *what) {
+    printf("unfit: %s: %s\n", what, strerror(errno));
+    return 0;
+}
+
+static int modules_loaded(void) {
     char path[128];
     FILE *list = fopen("/modules", "r");
-    while (list && fscanf(list, "%127s", path) == 1) {
+    if (!list) return unfit("/modules");
+    while (fscanf(list, "%127s", path) == 1) {
         int file = open(path, O_RDONLY);
-        if (file < 0 || (syscall(SYS_finit_module, file, "", 0) && errno != EEXIST)) printf("note: %s: %s\n", path, strerror(errno));
-        if (file >= 0) close(file);
+        if (file < 0 || (syscall(SYS_finit_module, file, "", 0) && errno != EEXIST)) return unfit(path);
+        close(file);
     }
-    if (list) fclose(list);
+    fclose(list);
+    return 1;
 }
 
 /* 10.0.2.15 of QEMU's user-mode network, whose 10.0.2.2 is the host's loopback. */
-static void network_up(void) {
+static int network_up(void) {
     struct ifreq r;
     struct sockaddr_in *addr = (struct sockaddr_in *)&r.ifr_addr;
     int s = socket(AF_INET, SOCK_DGRAM, 0);
@@ -374,23 +429,64 @@ static void network_up(void) {
         strcpy(r.ifr_name, names[i]);
         addr->sin_family = AF_INET;
         inet_pton(AF_INET, addrs[i], &addr->sin_addr);
-        ioctl(s, SIOCSIFADDR, &r);
+        if (ioctl(s, SIOCSIFADDR, &r)) return unfit(names[i]);
         inet_pton(AF_INET, masks[i], &addr->sin_addr);
         ioctl(s, SIOCSIFNETMASK, &r);
         r.ifr_flags = IFF_UP | IFF_RUNNING;
-        if (ioctl(s, SIOCSIFFLAGS, &r)) printf("note: %s is not up: %s\n", names[i], strerror(errno));
+        if (ioctl(s, SIOCSIFFLAGS, &r)) return unfit(names[i]);
     }
     close(s);
+    return 1;
 }
 
-static void woken(int signal) { (void)signal; }
+static void beat(void) {
+    if (fork()) return;
+    while (write(1, "beat\n", 5) == 5) sleep(1);
+    _exit(0);
+}
+
+/* Mounts, takes the steps of a part, and unmounts. */
+static void play(const char *part, int port) {
+    char documented[128], options[256];
+    snprintf(documented, sizeof documented, "vers=4.1,port=%d,proto=tcp,sec=sys,nconnect=1", port);
+    snprintf(options, sizeof options, "%s,addr=10.0.2.2,clientaddr=10.0.2.15%s", documented, strcmp(part, "plain") ? ",timeo=50" : "");
+    if (!strcmp(part, "plain")) ask("lock");
+    double begun = now();
+    if (!strcmp(part, "command")) {
+        if (!mounted_by_the_command(documented)) return;
+    } else {
+        int came = mount("10.0.2.2:/", "/mnt", "nfs4", 0, options);
+        ends("the server is mounted", came, 0);
+        if (came) return;
+    }
+    printf("note: mounted in %.1f s\n", now() - begun);
+    if (!strcmp(part, "plain")) {
+        anothers_lock();
+        files_and_names();
+        users();
+        unlinked_while_open();
+        locks();
+    } else if (!strcmp(part, "command")) {
+        files_and_names();
+        unmounted_by_the_command();
+        return;
+    } else if (!strcmp(part, "cut")) {
+        files_and_names();
+        unlinked_while_open();
+        locks();
+        go_on();
+    } else if (!strcmp(part, "expired")) {
+        lease_runs_out();
+    } else {
+        server_restarts(options);
+    }
+    ends("it is unmounted", umount("/mnt"), 0);
+}
 
 int main(void) {
-    char line[512] = {0}, options[256], part[16] = "plain";
+    char line[512] = {0}, part[16] = "plain";
     int port = 2049;
     struct utsname kernel;
-    struct sigaction wake = {.sa_handler = woken};
-    sigaction(SIGALRM, &wake, NULL);
     umask(022);
     mkdir("/proc", 0755);
     mkdir("/mnt", 0755);
@@ -402,35 +498,14 @@ int main(void) {
         at = strstr(line, "part=");
         if (at) sscanf(at, "part=%15s", part);
     }
-    uname(&kernel);
-    printf("kernel %s\n", kernel.release);
-    load_modules();
-    network_up();
-    for (int i = 0; i < LONG; i++) wanted[i] = (unsigned char)(i % 253 ^ i >> 8);
-    snprintf(options, sizeof options, "vers=4.1,port=%d,proto=tcp,sec=sys,nconnect=1,addr=10.0.2.2,clientaddr=10.0.2.15%s",
-             port, strcmp(part, "plain") ? ",timeo=50" : "");
-    double begun = now();
-    if (!strcmp(part, "plain")) ask("lock");
-    ends("the server is mounted", mount("10.0.2.2:/", "/mnt", "nfs4", 0, options), 0);
-    printf("note: mounted in %.1f s\n", now() - begun);
-    if (!strcmp(part, "plain")) {
-        anothers_lock();
-        files_and_names();
-        users();
-        unlinked_while_open();
-        locks();
-    } else if (!strcmp(part, "cut")) {
-        files_and_names();
-        unlinked_while_open();
-        locks();
-        go_on_for(60);
-    } else if (!strcmp(part, "expired")) {
-        lease_runs_out();
-    } else {
-        server_restarts(options);
+    beat();
+    if (modules_loaded() && network_up()) {
+        uname(&kernel);
+        printf("kernel %s\n", kernel.release);
+        for (int i = 0; i < LONG; i++) wanted[i] = (unsigned char)(i % 253 ^ i >> 8);
+        play(part, port);
+        printf("done %d\n", steps);
     }
-    ends("it is unmounted", umount("/mnt"), 0);
-    printf("done\n");
     fflush(stdout);
     sync();
     reboot(RB_POWER_OFF);
