@@ -36,10 +36,21 @@ STATUSES = {0: "NFS4_OK"} | {number: "NFS4ERR_" + name for name, number in re.fi
 ATTRIBUTES = {int(number): (name, kind) for number, name, kind in re.findall(
     r"(\d+) (\w+) (\w)",
     "0 Supported_Attrs M 1 Type n 2 FH_Expire_Type n 3 Change N 4 Size N 5 Link_Support b 6 Symlink_Support b 7 Named_Attr b 8 FSID f "
-    "9 Unique_Handles b 10 Lease_Time n 11 RDAttr_Error n 19 FileHandle o 20 FileId N 27 MaxFileSize N 28 MaxLink n 29 MaxName n "
+    "9 Unique_Handles b 10 Lease_Time n 11 RDAttr_Error n 19 Filehandle o 20 FileId N 27 MaxFileSize N 28 MaxLink n 29 MaxName n "
     "30 MaxRead N 31 MaxWrite N 33 Mode n 35 NumLinks n 36 Owner o 37 Owner_Group o 45 Space_Used N 47 Time_Access t 48 Time_Access_Set s "
     "52 Time_Metadata t 53 Time_Modify t 54 Time_Modify_Set s 55 Mounted_on_FileId N 75 Suppattr_ExclCreat M")}
-ATTRIBUTE_NUMBERS = {name: number for number, (name, _) in ATTRIBUTES.items()}
+# tshark's words of the others, which stand in masks; their values are shown as they came.
+OTHERS = {int(number): name for number, name in re.findall(
+    r"(\d+) (\w+)",
+    "12 ACL 13 ACLSupport 14 Archive 15 CanSetTime 16 Case_Insensitive 17 Case_Preserving 18 Chown_Restricted 21 Files_Avail 22 Files_Free "
+    "23 Files_Total 24 FS_Locations 25 Hidden 26 Homogeneous 32 MimeType 34 No_Trunc 38 Quota_Avail_Hard 39 Quota_Avail_Soft 40 Quota_Used "
+    "41 RawDev 42 Space_Avail 43 Space_Free 44 Space_Total 46 System 49 Time_Backup 50 Time_Create 51 Time_Delta 56 Dir_Notif_Delay 58 DACL "
+    "59 SACL 60 Change_Policy 61 FS_Status 62 FS_Layout_Type 63 Layout_hint 64 Layout_type 65 Layout_blksize 66 Layout_alignment "
+    "67 FS_Locations_info 68 MDS_Threshold 69 Retention_Get 70 Retention_Set 71 RetentEvt_Get 72 RetentEvt_Set 73 Retention_Hold "
+    "74 Mode_Set_Masked 76 FS_Charset_Cap 77 Clone_Block_Size 78 Space_Freed 79 Change_Attr_Type 80 Security_Label 81 Mode_Umask "
+    "82 Xattr_Support 83 Offline 84 Time_Deleg_Access 85 Time_Deleg_Modify")}
+WORDS = OTHERS | {number: name for number, (name, _) in ATTRIBUTES.items()}
+ATTRIBUTE_NUMBERS = {name: number for number, name in WORDS.items()}
 
 LAST = 0x80000000
 MOST_CONNECTIONS = 16
@@ -70,7 +81,7 @@ def numbers_of(mask):
 
 
 def shown_mask(mask):
-    return ",".join(ATTRIBUTES[n][0] if n in ATTRIBUTES else str(n) for n in numbers_of(mask)) or "-"
+    return ",".join(WORDS.get(n, str(n)) for n in numbers_of(mask)) or "-"
 
 
 def meant_mask(word):
@@ -515,16 +526,16 @@ class Records:
         return found
 
 
-def call_head(xid, uid=0, gid=0, gids=(), procedure=1, machine=b""):
-    body = struct.pack(">I", 0) + struct.pack(">I", len(machine)) + machine + bytes(-len(machine) % 4)
+def call_head(xid, uid=0, gid=0, gids=(), procedure=1, machine=b"", stamp=0):
+    body = struct.pack(">2I", stamp, len(machine)) + machine + bytes(-len(machine) % 4)
     body += struct.pack(f">{3 + len(gids)}I", uid, gid, len(gids), *gids)
     return struct.pack(">8I", xid, 0, 2, 100_003, 4, procedure, 1, len(body)) + body + bytes(8)
 
 
-def compound(xid, operations, uid=0, gid=0, gids=(), tag=b"", minor=1):
+def compound(xid, operations, uid=0, gid=0, gids=(), tag=b"", minor=1, machine=b"", stamp=0):
     """A call of COMPOUND with these operations' bytes, without its record mark."""
     tagged = struct.pack(">I", len(tag)) + tag + bytes(-len(tag) % 4)
-    return call_head(xid, uid, gid, gids) + tagged + struct.pack(">2I", minor, len(operations)) + b"".join(operations)
+    return call_head(xid, uid, gid, gids, 1, machine, stamp) + tagged + struct.pack(">2I", minor, len(operations)) + b"".join(operations)
 
 
 class Call:
@@ -546,8 +557,7 @@ class Call:
         self.flavor = flavor
         if flavor == 1:
             b = Reader(body)
-            b.number()
-            self.machine = b.opaque()
+            self.stamp, self.machine = b.number(), b.opaque()
             self.uid, self.gid = b.number(), b.number()
             self.gids = [b.number() for _ in range(min(b.number(), 16))]
         if self.procedure == 0:

@@ -37,13 +37,22 @@ def packets(path):
         at += 16 + size
 
 
+def over_tcp(path):
+    """The packets of TCP over IPv4: moment, packet, and where TCP begins in it."""
+    for second, part, packet in packets(path):
+        if len(packet) >= 20 and packet[0] >> 4 == 4 and packet[9] == socket.IPPROTO_TCP:
+            packet = packet[:struct.unpack_from(">H", packet, 2)[0]]
+            yield second, part, packet, packet[4 * (packet[0] & 15):]
+
+
+def ports(path):
+    """The ports to which connections are made."""
+    return {struct.unpack_from(">H", tcp, 2)[0] for _, _, _, tcp in over_tcp(path) if tcp[13] & (SYN | ACK) == SYN}
+
+
 def segments(path, port):
     """The TCP segments to and from a port over IPv4: moment, client (address and port), whether the server sent it, flags, sequence number, bytes."""
-    for second, part, packet in packets(path):
-        if len(packet) < 20 or packet[0] >> 4 != 4 or packet[9] != socket.IPPROTO_TCP:
-            continue
-        packet = packet[:struct.unpack_from(">H", packet, 2)[0]]
-        tcp = packet[4 * (packet[0] & 15):]
+    for second, part, packet, tcp in over_tcp(path):
         source, target, number = struct.unpack_from(">HHI", tcp)
         data = tcp[4 * (tcp[12] >> 4):]
         if source == port:
