@@ -4,6 +4,8 @@ pub mod Room
 pub mod Fronts
 pub mod Lengths
 pub mod Values
+pub mod Unasked
 pub mod Whole
+pub mod Counted
 pub mod Bounds
 pub mod SetTimes

@@ -30,11 +30,12 @@ pub enum Value {
 }
 
 impl Value {
-    /// Puts the value.
-    #[tactic(auto, using(nfs_xdr::proofs::Putting::putting))]
+    /// Puts the value, which is whole words.
+    #[tactic(auto, using(nfs_xdr::proofs::Putting::putting, crate::proofs::Lengths::measuring))]
     pub fn put(self, sheet: &mut Sheet)
         requires room { HasRoom sheet.old (spell_value self) }
-        ensures { Puts sheet.old sheet.new (spell_value self) }
+        ensures put { Puts sheet.old sheet.new (spell_value self) }
+        ensures words { length (spell_value self) % 4 ≡ 0 }
     {
         match self {
             Value::Number(n) => sheet.put_u32(n),
@@ -109,7 +110,8 @@ fn asked_len(number: u32, asked: &Mask, object: &Object, about: &About) -> usize
 /// Puts the attribute of this number where it is asked for and can be read.
 fn put_asked(number: u32, asked: &Mask, object: &Object, about: &About, sheet: &mut Sheet)
     requires room { HasRoom sheet.old (asked_at asked.now about.now object.now number) }
-    ensures { Puts sheet.old sheet.new (asked_at asked.now about.now object.now number) }
+    ensures put { Puts sheet.old sheet.new (asked_at asked.now about.now object.now number) }
+    ensures words { length (asked_at asked.now about.now object.now number) % 4 ≡ 0 }
 {
     if !asked.has(number) {
         return;
@@ -154,7 +156,8 @@ pub fn values_len(asked: &Mask, object: &Object, about: &About) -> usize
 /// Puts the values that are asked for, one behind the other.
 pub fn put_values(asked: &Mask, object: &Object, about: &About, sheet: &mut Sheet)
     requires room { HasRoom sheet.old (table.values asked.now about.now object.now) }
-    ensures { Puts sheet.old sheet.new (table.values asked.now about.now object.now) }
+    ensures put { Puts sheet.old sheet.new (table.values asked.now about.now object.now) }
+    ensures words { length (table.values asked.now about.now object.now) % 4 ≡ 0 }
 {
     for number in attribute::ALL {
         put_asked(number, asked, object, about, sheet);

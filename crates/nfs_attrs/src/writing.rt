@@ -25,14 +25,17 @@ pub fn attrs_len(object: &Object, about: &About, asked: Mask) -> usize
     mask + 4 + count
 }
 
-/// Puts the values that are asked for, as an opaque: behind the count of their bytes, which are whole words.
+/// Puts the values that are asked for, as an opaque: behind the count of their bytes, which are whole words. The count
+/// is known when they are put, and is then written in its place.
 fn put_counted(asked: &Mask, object: &Object, about: &About, sheet: &mut Sheet)
     requires room { HasRoom sheet.old (opaque (table.values asked.now about.now object.now)) }
     ensures { Puts sheet.old sheet.new (opaque (table.values asked.now about.now object.now)) }
 {
-    let count = values_len(asked, object, about);
-    sheet.put_u32(count as u32);
+    let at = sheet.len();
+    sheet.put_u32(0);
     put_values(asked, object, about, sheet);
+    let count = sheet.len() - at - 4;
+    sheet.set_u32(at, count as u32);
 }
 
 /// Puts the attributes that are asked for (`fattr4`): the mask of those that the server has and that can be read, and

@@ -1,29 +1,45 @@
-use Rattle.std.proofs.Common.{◌≡◌, ◌≤◌, ◌+◌, ◌%◌, ℕ, List, length, sym, subst, arith}
+use Rattle.std.proofs.Common.{◌≤◌, ◌+◌, ◌-◌, length, arith}
 use Rattle.nfs_xdr.specs.Spelling.{number, opaque}
-use Rattle.nfs_xdr.specs.SheetState.{Puts}
-use Rattle.nfs_xdr.proofs.Putting.{puts_then, length_number}
+use Rattle.nfs_xdr.proofs.Putting.{length_number}
 use Rattle.nfs_attrs.specs.Attributes.{values}
+use Rattle.nfs_attrs.proofs.Bounds.{attributes_within}
+use Rattle.nfs_attrs.proofs.Counted.{length_opaque_more, count_of, counted}
 use Rattle.nfs_attrs.proofs.Room.{room_within}
-use Rattle.nfs_attrs.proofs.Whole.{opaque_of_words, length_of_words}
 use Rattle.nfs_attrs.proofs.writing.put_counted.Goals as goal
 
 pub put_u32-requires : goal.put_u32-requires
-put_u32-requires c =
-    let text = values c.args.asked.now c.args.about.now c.args.object.now in
-    let whole : length text % 4 ≡ 0 = rw (← c.values_len-count.ensures.exact) c.values_len-count.ensures.words in
-    record { room = omega (arith, c.requires.room, length_of_words text whole, length_number c.values_len-count.result) }
+put_u32-requires c = record { room = omega (arith, c.requires.room, length_opaque_more (values c.args.asked.now c.args.about.now c.args.object.now), length_number 0) }
 
 pub put_values-requires : goal.put_values-requires
 put_values-requires c =
     let text = values c.args.asked.now c.args.about.now c.args.object.now in
-    let whole : length text % 4 ≡ 0 = rw (← c.values_len-count.ensures.exact) c.values_len-count.ensures.words in
-    let front = number c.values_len-count.result in
-    let short : length front + length text ≤ length (opaque text) = omega (arith, length_of_words text whole, length_number c.values_len-count.result) in
-    record { room = room_within c.args.sheet.now c.put_u32.new.self front text (opaque text) c.put_u32.ensures short c.requires.room }
+    let short : length (number 0) + length text ≤ length (opaque text) = omega (arith, length_opaque_more text, length_number 0) in
+    record { room = room_within c.args.sheet.now c.put_u32.new.self (number 0) text (opaque text) c.put_u32.ensures short c.requires.room }
+
+pub overflow_sub-count-2 : goal.overflow_sub-count-2
+overflow_sub-count-2 c =
+    let text = values c.args.asked.now c.args.about.now c.args.object.now in
+    omega (arith, count_of c.args.sheet.now c.put_u32.new.self c.put_values.new.sheet text c.put_u32.ensures c.put_values.ensures.put)
+
+pub overflow_cast-count : goal.overflow_cast-count
+overflow_cast-count c =
+    let text = values c.args.asked.now c.args.about.now c.args.object.now in
+    omega (
+      arith,
+      attributes_within c.args.asked.now c.args.about.now c.args.object.now,
+      count_of c.args.sheet.now c.put_u32.new.self c.put_values.new.sheet text c.put_u32.ensures c.put_values.ensures.put,
+    )
+
+pub set_u32-requires : goal.set_u32-requires
+set_u32-requires c =
+    let text = values c.args.asked.now c.args.about.now c.args.object.now in
+    record {
+      within = omega (arith, count_of c.args.sheet.now c.put_u32.new.self c.put_values.new.sheet text c.put_u32.ensures c.put_values.ensures.put);
+    }
 
 pub returns : goal.returns
 returns c =
     let text = values c.args.asked.now c.args.about.now c.args.object.now in
-    let whole : length text % 4 ≡ 0 = rw (← c.values_len-count.ensures.exact) c.values_len-count.ensures.words in
-    let front = subst (λ (n : ℕ). Puts c.args.sheet.now c.put_u32.new.self (number n)) c.values_len-count.ensures.exact c.put_u32.ensures in
-    subst (λ (t : List ℕ). Puts c.args.sheet.now c.put_values.new.sheet t) (sym (opaque_of_words text whole)) (puts_then front c.put_values.ensures)
+    let size = count_of c.args.sheet.now c.put_u32.new.self c.put_values.new.sheet text c.put_u32.ensures c.put_values.ensures.put in
+    rw c.set_u32.ensures (counted c.args.sheet.now c.put_u32.new.self c.put_values.new.sheet text c.len-at.result (c.len.result - c.len-at.result - 4)
+    c.put_u32.ensures c.put_values.ensures.put c.put_values.ensures.words c.len-at.ensures.value (omega (arith, size)))
