@@ -7,7 +7,7 @@ use Rattle.std.proofs.lemmas.Bool.{cases_Bool, leb-true, leb-false, le-leb, eq-e
 use Rattle.nfs_xdr.specs.SheetState.{SheetState, Puts}
 use Rattle.nfs_results.specs.Result.{Entry}
 use Rattle.nfs_results.specs.Straight.{entry_text}
-use Rattle.nfs_xdr.specs.Spelling.{padding}
+use Rattle.nfs_xdr.specs.Spelling.{padding, opaque}
 use Rattle.nfs_xdr.proofs.Putting.{length_number, length_hyper}
 use Rattle.std.specs.Prelude.{filter, nat_lt, ◌&&◌, option_map}
 use Rattle.nfs_results.specs.Straight.{entry_head}
@@ -20,7 +20,7 @@ use Rattle.std.proofs.lemmas.List.{length-replicate, length-append, append-nil, 
 use Rattle.nfs_xdr.specs.Tables.{In}
 use Rattle.nfs_xdr.proofs.Lists.{in_map, in_filter}
 use Rattle.nfs_attrs.specs.declared.mask.Mask.{Mask}
-use Rattle.nfs_attrs.specs.Attributes.{spell_attrs}
+use Rattle.nfs_attrs.specs.Attributes.{values, readable, spell_attrs}
 use Rattle.nfs_names.specs.State.{State}
 use Rattle.nfs_names.specs.Attributes.{about}
 use Rattle.nfs_names.specs.ReadDir.{attributes_at, entry_of}
@@ -29,7 +29,7 @@ use Rattle.nfs_tree.specs.Files.{Files, Listed, listed, listing, stored_in, is_t
 use Rattle.nfs_names.specs.ReadDir.{longest, fits, fitting, left, PutsWithin}
 use Rattle.nfs_compound.specs.NameArgs.{ReadDir}
 use Rattle.nfs_results.specs.Largest.{given}
-use Rattle.nfs_attrs.specs.Mask.{mask_of}
+use Rattle.nfs_attrs.specs.Mask.{mask_of, common, spell_mask}
 use Rattle.nfs_attrs.specs.declared.about.About.{About}
 use Rattle.nfs_names.specs.declared.node.Node.{Node}
 
@@ -169,17 +169,20 @@ listed_there t d cookie is e there =
     some_object : (t : Files) (n : ℕ) → is_there t n ≡ true → is_some (object_at t n) ≡ true
     some_object t n e = some_by (stored_in t.objects n) e
 
+-- what an entry's object is told as, where what is asked for of it is told
 pub entry_parts : (s : State) (asked : Mask) (e : Listed) (o : Object) (a : About)
-    → Some o ≡ object_at s.tree e.number → a ≡ about s (record { number = e.number; object = o })
+    → Some o ≡ object_at s.tree e.number → values asked a o ≡ values asked (about s (record { number = e.number; object = o })) o
     → entry_text (entry_of s asked e) ≡ entry_head e.cookie e.name ++ spell_attrs asked a o
-entry_parts s asked e o a is told = entry_is s asked e o (sym is) ∙ ap (λ a. entry_head e.cookie e.name ++ spell_attrs asked a o) (sym told)
+entry_parts s asked e o a is told =
+    entry_is s asked e o (sym is)
+    ∙ ap (λ (text : List ℕ). entry_head e.cookie e.name ++ (spell_mask (common asked readable) ++ opaque text)) (sym told)
 
-pub entry_length : (s : State) (asked : Mask) (e : Listed) (o : Object) (a : About) (n : ℕ)
-    → Some o ≡ object_at s.tree e.number → a ≡ about s (record { number = e.number; object = o })
-    → n ≡ length (entry_head 0 e.name) + length (spell_attrs asked a o) → length (entry_text (entry_of s asked e)) ≡ n
-entry_length s asked e o a n is told count =
+pub entry_length : (s : State) (asked : Mask) (e : Listed) (o : Object) (a : About)
+    → Some o ≡ object_at s.tree e.number → values asked a o ≡ values asked (about s (record { number = e.number; object = o })) o
+    → length (entry_text (entry_of s asked e)) ≡ length (entry_head 0 e.name) + length (spell_attrs asked a o)
+entry_length s asked e o a is told =
     ap length (entry_parts s asked e o a is told) ∙ length-append (entry_head e.cookie e.name) (spell_attrs asked a o)
-    ∙ ap (λ k. k + length (spell_attrs asked a o)) (length_entry_head e.cookie e.name ∙ sym (length_entry_head 0 e.name)) ∙ sym count
+    ∙ ap (λ k. k + length (spell_attrs asked a o)) (length_entry_head e.cookie e.name ∙ sym (length_entry_head 0 e.name))
 
 pub given_least : (count : ℕ) → 16 ≤ count → 16 ≤ given count
 given_least count le = elim (cases_Bool (nat_lt 65536 count)) [ inl most ↦ rw most (omega arith) | inr few ↦ rw few le ]

@@ -4,6 +4,7 @@ ghost use Rattle.std.specs.Prelude.{◌≡◌, ◌+◌, ◌≤◌, length};
 ghost use Rattle.nfs_xdr.specs.SheetState.{Puts};
 ghost use Rattle.nfs_results.specs.Results.{spell_result};
 ghost use Rattle.nfs_results.specs.Result.{ResGetAttr, ResGetFh};
+ghost use Rattle.nfs_attrs.specs.Attributes.{values};
 ghost use Rattle.nfs_attrs.specs.Handle.{handle as spelled};
 ghost use Rattle.nfs_compound.specs.Attributes.{view_bitmap, view_attributes};
 ghost use Rattle.nfs_names.specs.State.{state_of};
@@ -22,7 +23,7 @@ use crate::checks::{current, put_refusal, refuse};
 use crate::context::Context;
 use crate::node::Node;
 use crate::store::Store;
-use nfs_attrs::{About, AttrFault, Handle, Mask, judge_access, same, write_attrs};
+use nfs_attrs::{About, AttrFault, Handle, Mask, attribute, judge_access, same, write_attrs};
 use nfs_compound::{Attributes, Bitmap, OpNum};
 use nfs_results::{AccessOk, Res, write_done_head};
 use nfs_xdr::{Sheet, Status};
@@ -38,13 +39,19 @@ fn links_of(store: &Store, held: &Node) -> u32
     }
 }
 
-/// What is reported of an object beside the object itself.
-pub(crate) fn about(store: &Store, held: &Node) -> About
-    ensures { result ≡ attributes.about (state_of store.now) held.now }
+/// What is reported of an object beside the object itself, as far as it is asked for: names are counted only where
+/// their number is.
+pub(crate) fn about(store: &Store, held: &Node, asked: Mask) -> About
+    ensures { values asked result held.now.object ≡ values asked (attributes.about (state_of store.now) held.now) held.now.object }
 {
+    let links = if asked.has(attribute::NUMLINKS) {
+        links_of(store, held)
+    } else {
+        0
+    };
     About {
         number: held.number,
-        links: links_of(store, held),
+        links,
         instance: store.instance,
         lease: store.lease,
     }
@@ -94,7 +101,12 @@ fn same_at(store: &Store, held: &Node, given: &Attributes<'_>) -> Result<bool, A
     ensures { result ≡ of_verify.same_at (state_of store.now) (view_attributes given.now) held.now }
 {
     let asked = Mask::new(given.attrmask.words);
-    same(&held.object, &about(store, held), asked, given.attr_vals)
+    same(
+        &held.object,
+        &about(store, held, asked),
+        asked,
+        given.attr_vals,
+    )
 }
 
 /// VERIFY.
@@ -127,7 +139,7 @@ fn put_attributes(store: &Store, held: &Node, asked: Mask, out: &mut Sheet)
     ensures { Puts out.old out.new (spell_result (ResGetAttr (attributes.attributes_of (state_of store.now) asked held.now))) }
 {
     write_done_head(OpNum::GetAttr, out);
-    write_attrs(&held.object, &about(store, held), asked, out);
+    write_attrs(&held.object, &about(store, held, asked), asked, out);
 }
 
 /// GETATTR.

@@ -1,6 +1,6 @@
 //! Operations that put bytes of the tree onto the sheet (RFC 8881 sections 18.23 and 18.24).
 
-ghost use Rattle.std.specs.Prelude.{◌≡◌, ◌+◌, ◌≤◌, ◌==◌, true, is_some, length};
+ghost use Rattle.std.specs.Prelude.{◌≡◌, ◌+◌, ◌≤◌, ◌==◌, true, is_some, length, nat_le};
 ghost use Rattle.std.specs.List.{flat_map};
 ghost use Rattle.nfs_xdr.specs.Checks.{first_fault};
 ghost use Rattle.nfs_xdr.specs.SheetState.{Puts};
@@ -101,6 +101,16 @@ fn entry_len(name: &[u8], held: &Node, about: &About, asked: Mask) -> usize
     16 + name.len() + (4 - name.len() % 4) % 4 + attrs_len(&held.object, about, asked)
 }
 
+/// The most bytes that an entry takes beside its name: cookie and length, padding, attributes.
+const MOST_BESIDE_NAME: usize = 16 + 3 + 632;
+
+/// Whether an entry takes no more than `room` bytes. It is measured only where the largest might take more.
+fn fits(name: &[u8], held: &Node, about: &About, asked: Mask, room: usize) -> bool
+    ensures { result ≡ nat_le (length (entry_head 0 name.now) + length (spell_attrs asked about.now held.now.object)) room }
+{
+    name.len() + MOST_BESIDE_NAME <= room || entry_len(name, held, about, asked) <= room
+}
+
 /// Puts an entry with its attributes, if it takes no more than `room` bytes.
 fn put_entry(store: &Store, entry: &Entry<'_>, asked: Mask, room: usize, out: &mut Sheet) -> bool
     requires there { is_some (object_at store.now.tree entry.now.number) ≡ true }
@@ -115,8 +125,8 @@ fn put_entry(store: &Store, entry: &Entry<'_>, asked: Mask, room: usize, out: &m
         number: entry.number,
         object: *object,
     };
-    let about = about(store, &held);
-    if entry_len(entry.name, &held, &about, asked) > room {
+    let about = about(store, &held, asked);
+    if !fits(entry.name, &held, &about, asked, room) {
         return false;
     }
     write_entry(entry.cookie, entry.name, out);

@@ -1,5 +1,6 @@
 use Rattle.std.proofs.Common.{◌≡◌, ◌≤◌, ◌+◌, ◌++◌, ◌∙◌, List, ℕ, length, sym, ap, subst, arith}
 use Rattle.nfs_xdr.specs.SheetState.{Puts}
+use Rattle.nfs_xdr.specs.Spelling.{opaque}
 use Rattle.nfs_xdr.specs.declared.status.Status.TheVariants.{Nfs4Ok}
 use Rattle.nfs_xdr.proofs.Putting.{puts_then}
 use Rattle.nfs_compound.specs.declared.op_num.OpNum.TheVariants as Op
@@ -10,6 +11,7 @@ use Rattle.nfs_results.specs.Items.{fattr}
 use Rattle.nfs_results.proofs.Lengths.{length_head, behind_within}
 use Rattle.nfs_attrs.specs.Attributes.{spell_attrs}
 use Rattle.nfs_attrs.specs.Attributes as table
+use Rattle.nfs_attrs.specs.Mask.{common, spell_mask}
 use Rattle.nfs_attrs.proofs.Bounds.{attributes_within}
 use Rattle.nfs_names.specs.State.{state_of}
 use Rattle.nfs_names.specs.Attributes.{about, attributes_of}
@@ -39,6 +41,6 @@ returns c =
     let asked = c.args.asked in
     let d = c.args.held.now in
     let same : spell_attrs asked c.about.result d.object ≡ fattr.spell (attributes_of s asked d) =
-    ap (λ a. spell_attrs asked a d.object) c.about.ensures ∙ attributes_spelled asked (about s d) d.object in
+    ap (λ (text : List ℕ). spell_mask (common asked table.readable) ++ opaque text) c.about.ensures ∙ attributes_spelled asked (about s d) d.object in
     subst (λ (text : List ℕ). Puts c.args.out.now c.write_attrs.new.sheet (head (op_number Op.GetAttr) Nfs4Ok ++ text)) same
     (puts_then c.write_done_head.ensures c.write_attrs.ensures)

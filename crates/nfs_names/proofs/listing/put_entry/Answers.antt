@@ -1,4 +1,5 @@
-use Rattle.std.proofs.Common.{ℕ, List, refl, sym, subst, arith}
+use Rattle.std.proofs.Common.{ℕ, List, refl, sym, subst, arith, ◌∙◌}
+use Rattle.std.proofs.lemmas.Bool.{leb-true, leb-false}
 use Rattle.nfs_xdr.specs.SheetState.{Puts}
 use Rattle.nfs_xdr.proofs.Putting.{puts_then}
 use Rattle.nfs_results.specs.Straight.{entry_head}
@@ -9,19 +10,18 @@ use Rattle.nfs_names.proofs.Masks.{room_then}
 use Rattle.nfs_names.proofs.Entering.{length_entry_head, entry_parts, entry_length}
 use Rattle.nfs_names.proofs.listing.put_entry.Goals as goal
 
-pub returns-then-entry_len-room : goal.returns-then-entry_len-room
-returns-then-entry_len-room c =
+pub returns-then-not-fits : goal.returns-then-not-fits
+returns-then-not-fits c =
     let e = listed_of c.args.entry.now in
-    let size = entry_length (state_of c.args.store.now) c.args.asked e c.in-Some.object.now
-    c.about-about.result c.entry_len.result c.in-Some.ensures c.about-about.ensures c.entry_len.ensures in
-    (omega (arith, size), refl)
+    let size = entry_length (state_of c.args.store.now) c.args.asked e c.in-Some.object.now c.about-about.result c.in-Some.ensures c.about-about.ensures in
+    (omega (arith, size, leb-false _ _ (sym c.fits.ensures ∙ c.if-not-fits.true)), refl)
 
 pub write_entry-requires : goal.write_entry-requires
 write_entry-requires c =
     let e = listed_of c.args.entry.now in
     let head = length_entry_head e.cookie e.name in
     let first = length_entry_head 0 e.name in
-    let whole = c.entry_len.ensures in
+    let whole = leb-true _ _ (sym c.fits.ensures ∙ c.if-not-fits.false) in
     record { name = omega arith; room = omega arith }
 
 pub write_attrs-requires : goal.write_attrs-requires
@@ -29,7 +29,7 @@ write_attrs-requires c =
     let e = listed_of c.args.entry.now in
     let head = length_entry_head e.cookie e.name in
     let first = length_entry_head 0 e.name in
-    let whole = c.entry_len.ensures in
+    let whole = leb-true _ _ (sym c.fits.ensures ∙ c.if-not-fits.false) in
     record {
       room = room_then c.args.out.now c.write_entry.new.out (entry_head e.cookie e.name)
           (spell_attrs c.args.asked c.about-about.result c.in-Some.object.now) c.args.room c.write_entry.ensures (omega arith) c.requires.room;
@@ -41,8 +41,8 @@ returns c =
     let e = listed_of c.args.entry.now in
     let o = c.in-Some.object.now in
     let a = c.about-about.result in
-    let size = entry_length s c.args.asked e o a c.entry_len.result c.in-Some.ensures c.about-about.ensures c.entry_len.ensures in (
-      omega (arith, size),
+    let size = entry_length s c.args.asked e o a c.in-Some.ensures c.about-about.ensures in (
+      omega (arith, size, leb-true _ _ (sym c.fits.ensures ∙ c.if-not-fits.false)),
       subst (λ (text : List ℕ). Puts c.args.out.now c.write_attrs.new.sheet text)
           (sym (entry_parts s c.args.asked e o a c.in-Some.ensures c.about-about.ensures)) (puts_then c.write_entry.ensures c.write_attrs.ensures),
     )

@@ -1,0 +1,23 @@
+use Rattle.std.proofs.Common.{ℕ, List, ap, ◌∙◌, ◌||◌, not}
+use Rattle.std.specs.Prelude.{bytes_eq, Ok, Err, if◌then◌else◌}
+use Rattle.nfs_attrs.specs.Attributes.{supported}
+use Rattle.nfs_attrs.specs.Comparing.{same}
+use Rattle.nfs_attrs.specs.Mask.{has, within, asks_set_only}
+use Rattle.nfs_attrs.specs.declared.mask.Mask.{Mask}
+use Rattle.nfs_attrs.specs.declared.wanted.AttrFault.TheVariants.{AttrNotSupp, Inval}
+use Rattle.nfs_names.specs.Attributes.{about}
+use Rattle.nfs_names.specs.State.{state_of}
+use Rattle.nfs_names.specs.Verify.{same_at}
+use Rattle.nfs_names.proofs.attributes.same_at.Goals as goal
+
+pub returns : goal.returns
+unfolding same_at
+returns c =
+    let asked = c.new-asked.result in
+    let bytes = c.args.given.now.attr_vals.now in
+    let held = c.args.held.now in
+    c.same.ensures
+    ∙ ap (λ (text : List ℕ). if not (within asked supported) then Err AttrNotSupp
+    else if has asked 11 || asks_set_only asked then Err Inval
+    else Ok (bytes_eq bytes text)) c.about.ensures
+    ∙ ap (λ (m : Mask). same m bytes (about (state_of c.args.store.now) held) held.object) c.new-asked.ensures
