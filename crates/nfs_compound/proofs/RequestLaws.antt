@@ -6,10 +6,12 @@ use Rattle.std.proofs.lemmas.Bool.{ne_eqb}
 use Rattle.std.proofs.lemmas.Option.{same_Some}
 use Rattle.nfs_xdr.specs.Spelling as spelling
 use Rattle.nfs_xdr.specs.Reading.{◌>>=◌, number_at, opaque_at}
-use Rattle.nfs_xdr.specs.Codec.{IsBytes, IsCodec, number, opaque}
+use Rattle.nfs_xdr.specs.Codec.{IsBytes, IsCodec, opaque}
 use Rattle.nfs_xdr.proofs.CodecLaws.{bind_some, is_number, is_opaque}
 use Rattle.nfs_compound.specs.declared.compound.Garbage.{Garbage}
 use Rattle.nfs_compound.specs.Operation.{Item}
+use Rattle.nfs_compound.specs.Wire as text
+use Rattle.nfs_compound.specs.Wire.{uint32}
 use Rattle.nfs_compound.specs.Request.{Request, IsHead, HasBody, IsRequest, IsGarbage, LacksTag, LacksMinor, LacksCount, SpoilsBody}
 use Rattle.nfs_compound.specs.ReadRequest.{items_at, request_at}
 use Rattle.nfs_compound.proofs.Walk.{request_from}
@@ -109,7 +111,7 @@ no_items bytes tag (suc (suc m)) declared body fits head e =
 
 no_count : (bytes tag : List ℕ) (minor : ℕ) (rest : List ℕ) (r : Option (ℕ × List ℕ)) → IsBytes rest → (opaque 1024).Fits tag → minor < 2 ^ 32
     → bytes ≡ spelling.opaque tag ++ (spelling.number minor ++ rest) → number_at rest ≡ r → with_count bytes tag minor r ≡ None → IsGarbage bytes
-no_count bytes tag minor rest None fits tag_fits minor_fits same h e = LacksCount tag minor rest tag_fits minor_fits same (lacks_from number rest is_number h)
+no_count bytes tag minor rest None fits tag_fits minor_fits same h e = LacksCount tag minor rest tag_fits minor_fits same (lacks_from uint32 number_at rest is_number h)
 no_count bytes tag minor rest (Some n) fits tag_fits minor_fits same h e =
     let v = is_number.takes rest n.0 n.1 fits h in
     no_items bytes tag minor n.0 n.1 v.1
@@ -123,14 +125,14 @@ no_count bytes tag minor rest (Some n) fits tag_fits minor_fits same h e =
 
 no_minor : (bytes tag rest : List ℕ) (r : Option (ℕ × List ℕ)) → IsBytes rest → (opaque 1024).Fits tag
     → bytes ≡ spelling.opaque tag ++ rest → number_at rest ≡ r → with_minor bytes tag r ≡ None → IsGarbage bytes
-no_minor bytes tag rest None fits tag_fits same h e = LacksMinor tag rest tag_fits same (lacks_from number rest is_number h)
+no_minor bytes tag rest None fits tag_fits same h e = LacksMinor tag rest tag_fits same (lacks_from uint32 number_at rest is_number h)
 no_minor bytes tag rest (Some n) fits tag_fits same h e =
     let u = is_number.takes rest n.0 n.1 fits h in
     no_count bytes tag n.0 n.1 (number_at n.1) u.1 tag_fits u.2 (same ∙ ap (λ (w : List ℕ). spelling.opaque tag ++ w) u.0) refl e
 
 no_tag : (bytes : List ℕ) (r : Option (List ℕ × List ℕ)) → IsBytes bytes → opaque_at 1024 bytes ≡ r
     → (r >>= λ tag. with_minor bytes tag.0 (number_at tag.1)) ≡ None → IsGarbage bytes
-no_tag bytes None fits h e = LacksTag (lacks_from (opaque 1024) bytes is_tag h)
+no_tag bytes None fits h e = LacksTag (lacks_from (text.opaque 1024) (opaque_at 1024) bytes is_tag h)
 no_tag bytes (Some t) fits h e =
     let s = is_tag.takes bytes t.0 t.1 fits h in
     no_minor bytes t.0 t.1 (number_at t.1) s.1 s.2 s.0 refl e
@@ -141,18 +143,18 @@ garbage_takes bytes fits e = no_tag bytes (opaque_at 1024 bytes) fits refl e
 
 pub garbage_again : (bytes : List ℕ) → IsBytes bytes → IsGarbage bytes → request_at bytes ≡ None
 unfolding request_at
-garbage_again bytes fits (LacksTag lacks) = rw (lacks_again (opaque 1024) bytes is_tag fits lacks) refl
+garbage_again bytes fits (LacksTag lacks) = rw (lacks_again (text.opaque 1024) (opaque_at 1024) bytes is_tag fits lacks) refl
 garbage_again bytes fits (LacksMinor tag rest tag_fits same lacks) =
     let e : opaque_at 1024 bytes ≡ Some (tag, rest) = ap (opaque_at 1024) same ∙ is_tag.again tag rest tag_fits in
     let t = is_tag.takes bytes tag rest fits e in
-    rw (e, lacks_again number rest is_number t.1 lacks) refl
+    rw (e, lacks_again uint32 number_at rest is_number t.1 lacks) refl
 garbage_again bytes fits (LacksCount tag minor rest tag_fits minor_fits same lacks) =
     let e : opaque_at 1024 bytes ≡ Some (tag, spelling.number minor ++ rest) =
     ap (opaque_at 1024) same ∙ is_tag.again tag (spelling.number minor ++ rest) tag_fits in
     let t = is_tag.takes bytes tag (spelling.number minor ++ rest) fits e in
     let f = is_number.again minor rest minor_fits in
     let u = is_number.takes (spelling.number minor ++ rest) minor rest t.1 f in
-    rw (e, f, lacks_again number rest is_number u.1 lacks) refl
+    rw (e, f, lacks_again uint32 number_at rest is_number u.1 lacks) refl
 garbage_again bytes fits (SpoilsBody tag declared body head spoils) =
     let s = head_again bytes tag 1 declared body fits head in
     rw (s.reads_tag, s.reads_minor, s.reads_declared, spoils_again declared body s.fits spoils) refl

@@ -11,6 +11,7 @@ pub mod FileArgs
 pub mod NameArgs
 pub mod Operation
 pub mod Arguments
+pub mod Wire
 pub mod View
 pub mod Request
 pub mod ReadRequest

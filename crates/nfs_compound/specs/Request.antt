@@ -1,11 +1,13 @@
 -- The arguments of a compound (RFC 8881 section 16.2): which bytes are a request, and which are garbage.
-use Rattle.std.specs.Prelude.{◌≡◌, ◌≢◌, ℕ, zero, suc, ◌<◌, ◌^◌, ◌⊎◌, List, [], ◌∷◌, ◌++◌}
+use Rattle.std.specs.Prelude.{◌≡◌, ◌≢◌, ℕ, zero, suc, ◌<◌, ◌≤◌, ◌^◌, ◌⊎◌, List, [], ◌∷◌, ◌++◌, Some, None}
 use Rattle.nfs_xdr.specs.Spelling as spelling
-use Rattle.nfs_xdr.specs.Codec as codec
-use Rattle.nfs_xdr.specs.Codec.{Codec}
 use Rattle.nfs_xdr.specs.Limits.{opaque_limit}
+use Rattle.nfs_xdr.specs.declared.status.Status.TheVariants.{Inval, NotSupp, BadXdr, OpIllegal}
+use Rattle.nfs_compound.specs.declared.op_num.OpNum.{OpNum}
+use Rattle.nfs_compound.specs.declared.op_num.OpNum.TheVariants.{ExchangeId}
+use Rattle.nfs_compound.specs.OpNum.{op_num, first_op, last_op, op_illegal}
 use Rattle.nfs_compound.specs.Operation.{Op, Item, Operation, Fault}
-use Rattle.nfs_compound.specs.Arguments.{spell_op, FitsOp, fault_at}
+use Rattle.nfs_compound.specs.Wire.{Text, uint32, opaque, protected4, nfs_argop4}
 
 -- A request: the bytes that it is spelled by, its tag, minor version and declared count, and what is left of its list.
 pub record Request : Type 0 where
@@ -15,16 +17,31 @@ pub record Request : Type 0 where
   pub declared : ℕ
   pub left : List Item
 
--- nothing that is spelled so stands at the front
-pub record Lacks {A : Type 0} (c : Codec A) (bytes : List ℕ) : Type 0 where
-  pub none : (x : A) (rest : List ℕ) → c.Fits x → bytes ≡ c.spell x ++ rest → ⊥
+-- The text of a value stands at the front of these bytes, with others behind it.
+pub record Begins {A : Type 0} (text : A → Text) (bytes : List ℕ) : Type 0 where
+  pub value : A
+  pub rest : List ℕ
+  pub stands : bytes ≡ (text value).bytes ++ rest
+  pub fits : (text value).Fits
+
+-- no such text does
+abbrev pub Lacks : {A : Type 0} → (A → Text) → List ℕ → Type 0
+Lacks text bytes = Begins text bytes → ⊥
 
 -- The tag of at most 1,024 bytes, the minor version and the count stand in front of the body.
 pub record IsHead (bytes tag : List ℕ) (minor declared : ℕ) (body : List ℕ) : Type 0 where
   pub spelled : bytes ≡ spelling.opaque tag ++ (spelling.number minor ++ (spelling.number declared ++ body))
-  pub tag_fits : (codec.opaque opaque_limit).Fits tag
+  pub tag_fits : (opaque opaque_limit tag).Fits
   pub minor_fits : minor < 2 ^ 32
   pub declared_fits : declared < 2 ^ 32
+
+-- The number and the status of the fault where a number stands and no operation that is supported, by what is behind the number: EXCHANGE_ID may want a
+-- state protection that is not served, RFC 8881 has the numbers first_op to last_op, and any other is answered under that of OP_ILLEGAL.
+pub data Answers (number : ℕ) (behind : List ℕ) (fault : Item) : Type 0 where
+  Unserved : op_num number ≡ Some ExchangeId → Begins protected4 behind → fault ≡ Fault number Inval → Answers number behind fault
+  Unreadable : (op : OpNum) → op_num number ≡ Some op → (op ≡ ExchangeId → Lacks protected4 behind) → fault ≡ Fault number BadXdr → Answers number behind fault
+  Unsupported : op_num number ≡ None → first_op ≤ number → number ≤ last_op → fault ≡ Fault number NotSupp → Answers number behind fault
+  Illegal : op_num number ≡ None → (number < first_op) ⊎ (last_op < number) → fault ≡ Fault op_illegal OpIllegal → Answers number behind fault
 
 -- A number stands here and no supported operation does, whatever stands behind.
 pub record IsFault (bytes : List ℕ) (fault : Item) : Type 0 where
@@ -32,22 +49,22 @@ pub record IsFault (bytes : List ℕ) (fault : Item) : Type 0 where
   pub behind : List ℕ
   pub number_fits : number < 2 ^ 32
   pub stands : bytes ≡ spelling.number number ++ behind
-  pub none : (op : Op) (rest : List ℕ) → FitsOp op → bytes ≡ spell_op op ++ rest → ⊥
-  pub names : fault ≡ fault_at number behind
+  pub none : Lacks nfs_argop4 bytes
+  pub answers : Answers number behind fault
 
 -- n operations one after the other with nothing behind, or fewer and a fault
 abbrev pub Lists : ℕ → List ℕ → List Item → Type 0
 Lists zero bytes [] = bytes ≡ []
 Lists zero bytes (item ∷ items) = ⊥
 Lists (suc n) bytes [] = ⊥
-Lists (suc n) bytes (Operation op ∷ items) = (rest : List ℕ) × (bytes ≡ spell_op op ++ rest) × FitsOp op × Lists n rest items
+Lists (suc n) bytes (Operation op ∷ items) = (rest : List ℕ) × (bytes ≡ (nfs_argop4 op).bytes ++ rest) × (nfs_argop4 op).Fits × Lists n rest items
 Lists (suc n) bytes (Fault k status ∷ []) = IsFault bytes (Fault k status)
 Lists (suc n) bytes (Fault k status ∷ item ∷ items) = ⊥
 
 -- Fewer than n operations, and then no operation number; or all n, and bytes behind them.
 abbrev pub Spoils : ℕ → List ℕ → Type 0
 Spoils zero bytes = bytes ≢ []
-Spoils (suc n) bytes = Lacks codec.number bytes ⊎ ((op : Op) × (rest : List ℕ) × (bytes ≡ spell_op op ++ rest) × FitsOp op × Spoils n rest)
+Spoils (suc n) bytes = Lacks uint32 bytes ⊎ ((op : Op) × (rest : List ℕ) × (bytes ≡ (nfs_argop4 op).bytes ++ rest) × (nfs_argop4 op).Fits × Spoils n rest)
 
 -- The body of a minor version other than 1 is not looked at, and its list is empty.
 abbrev pub HasBody : ℕ → ℕ → List ℕ → List Item → Type 0
@@ -62,12 +79,12 @@ pub record IsRequest (bytes : List ℕ) (r : Request) : Type 0 where
 
 -- What makes arguments garbage.
 pub data IsGarbage (bytes : List ℕ) : Type 0 where
-  LacksTag : Lacks (codec.opaque opaque_limit) bytes → IsGarbage bytes
-  LacksMinor : (tag rest : List ℕ) → (codec.opaque opaque_limit).Fits tag
+  LacksTag : Lacks (opaque opaque_limit) bytes → IsGarbage bytes
+  LacksMinor : (tag rest : List ℕ) → (opaque opaque_limit tag).Fits
       → bytes ≡ spelling.opaque tag ++ rest
-      → Lacks codec.number rest → IsGarbage bytes
-  LacksCount : (tag : List ℕ) (minor : ℕ) (rest : List ℕ) → (codec.opaque opaque_limit).Fits tag → minor < 2 ^ 32
+      → Lacks uint32 rest → IsGarbage bytes
+  LacksCount : (tag : List ℕ) (minor : ℕ) (rest : List ℕ) → (opaque opaque_limit tag).Fits → minor < 2 ^ 32
       → bytes ≡ spelling.opaque tag ++ (spelling.number minor ++ rest)
-      → Lacks codec.number rest → IsGarbage bytes
+      → Lacks uint32 rest → IsGarbage bytes
   SpoilsBody : (tag : List ℕ) (declared : ℕ) (body : List ℕ) → IsHead bytes tag 1 declared body
       → Spoils declared body → IsGarbage bytes

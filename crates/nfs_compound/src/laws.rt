@@ -1,10 +1,12 @@
 //! Laws of the grammar of compounds.
 
-ghost use Rattle.std.specs.Prelude.{◌≡◌, ℕ, Some};
+ghost use Rattle.std.specs.Prelude.{◌≡◌, ◌↔◌, ℕ, Some};
 ghost use Rattle.nfs_xdr.specs.Codec.{IsCodec};
 ghost use Rattle.nfs_compound.specs.declared.op_num.OpNum.{OpNum};
 ghost use Rattle.nfs_compound.specs.OpNum.{op_num, op_number};
-ghost use Rattle.nfs_compound.specs.Arguments.{op_codec};
+ghost use Rattle.nfs_compound.specs.Operation.{Op};
+ghost use Rattle.nfs_compound.specs.Arguments.{op_codec, spell_op, FitsOp};
+ghost use Rattle.nfs_compound.specs.Wire.{nfs_argop4};
 ghost use Rattle.nfs_compound.specs.SessionArgs.{protected};
 ghost use Rattle.nfs_compound.specs.Laws.{HasOneReading, HasNoOther, IsOneRequest, ReadsRequests, RefusesGarbage};
 
@@ -15,6 +17,12 @@ pub fn arguments()
     ensures protected { IsCodec protected }
     ensures own { (op : OpNum) → op_num (op_number op) ≡ Some op }
     ensures none_else { (n : ℕ) (op : OpNum) → op_num n ≡ Some op → n ≡ op_number op }
+{}
+
+/// Each operation is spelled as its structs and unions of RFC 5662 have it, and what has a spelling is just what fits there.
+pub fn wire()
+    ensures spelled { (op : Op) → spell_op op ≡ (nfs_argop4 op).bytes }
+    ensures fits { (op : Op) → FitsOp op ↔ (nfs_argop4 op).Fits }
 {}
 
 /// Each list of bytes is a request or garbage, never both, and it is one request at most.

@@ -2,8 +2,8 @@
 //!
 //! Contracts see a [`Compound`] as a request: its bytes, tag, minor version, declared count, and what is left of its
 //! list. [`Compound::open`] reads all of it once and refuses garbage; [`Compound::next`] then takes the list apart, one
-//! operation a call, and ends it with a fault where an operation cannot be run. `specs/Arguments.antt` is the table of
-//! operations, one line each.
+//! operation a call, and ends it with a fault where an operation cannot be run. `specs/Wire.antt` is the table of
+//! operations as they stand on the wire, one line each.
 //!
 //! ```text
 //! let mut compound = Compound::open(args)?;

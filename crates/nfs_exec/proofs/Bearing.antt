@@ -17,6 +17,7 @@ use Rattle.nfs_compound.specs.OpNum.{op_number, op_nums, op_num}
 use Rattle.nfs_compound.specs.Operation.{Op, Item, Operation, Fault}
 use Rattle.nfs_compound.specs.Arguments.{arguments, flaw, fault_of, fault_at}
 use Rattle.nfs_compound.specs.Request.{Request, Lists, HasBody}
+use Rattle.nfs_compound.proofs.GrammarLaws.{some_answer}
 use Rattle.nfs_results.specs.Results.{bears, tells, can_refuse, refusal}
 use Rattle.nfs_results.specs.Result.{Res, ResSetAttr, ResDestroySession, ResDestroyClientId, Refused}
 use Rattle.nfs_results.specs.Results.{HasArrays, IsBounded, head, spell_result, status_of_result}
@@ -131,7 +132,8 @@ fault_bears n bytes = by_number (op_num n) n bytes refl
 listed_bears : (n : ℕ) (bytes : List ℕ) (item : Item) (more : List Item) → Lists n bytes (item ∷ more) → CanBear item
 listed_bears zero bytes item more lists = absurd lists
 listed_bears (suc n) bytes (Operation op) more lists = tt
-listed_bears (suc n) bytes (Fault k s) [] fault = subst CanBear (sym fault.names) (fault_bears fault.number fault.behind)
+listed_bears (suc n) bytes (Fault k s) [] fault =
+    let told = some_answer fault.number fault.behind (Fault k s) fault.answers in subst CanBear (sym told.1) (fault_bears fault.number told.0)
 listed_bears (suc n) bytes (Fault k s) (item ∷ more) lists = absurd lists
 
 pub opened_bears : (r : Request) (item : Item) (more : List Item) → IsOpened r → r.minor ≡ 1 → r.left ≡ item ∷ more → CanBear item

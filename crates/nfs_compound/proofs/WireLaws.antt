@@ -1,0 +1,449 @@
+-- Each operation is spelled as its text, and fits exactly where the text lets it.
+use Rattle.std.proofs.Common.{◌≡◌, ℕ, ◌<◌, ◌^◌, List, [], ◌∷◌, ◌++◌, length, Option, Some, None, refl, sym, ap, ◌∙◌, arith, ◌⊎◌, inl, inr, eqb}
+use Rattle.std.specs.Prelude.{IsTrue, ◌==◌, ◌||◌}
+use Rattle.std.specs.List.{flat_map, AllByRecursion}
+use Rattle.std.proofs.lemmas.Bool.{cases_Bool, eqb-true, le-leb, leb-true}
+use Rattle.nfs_xdr.specs.Codec as codec
+use Rattle.nfs_xdr.specs.Codec.{Codec, IsCodec, IsBytes}
+use Rattle.nfs_xdr.specs.Time.{time}
+use Rattle.nfs_compound.specs.Stateid.{stateid, stateids}
+use Rattle.nfs_compound.specs.StateOwner.{state_owner}
+use Rattle.nfs_compound.specs.ChannelAttrs.{channel_attrs}
+use Rattle.nfs_compound.specs.Attributes.{bitmap, attributes}
+use Rattle.nfs_compound.specs.Callback as callback
+use Rattle.nfs_compound.specs.Callback.{AuthSys, GssHandles, SecParms, AuthNone, Sys, RpcsecGss, auth_sys, gss_handles, all_sec_parms}
+use Rattle.nfs_compound.specs.SessionArgs.{impl_id, protected, exchange_id_args, create_session_args, sequence_args}
+use Rattle.nfs_compound.specs.OpenArgs.{CreateHow, Unchecked, Guarded, Exclusive, Exclusive41, OpenHow, NoCreate, Create, create_how, open_how, open_claim}
+use Rattle.nfs_compound.specs.OpenArgs.{OpenClaim, Null, Previous, DelegateCur, DelegatePrev, Fh, DelegCurFh, DelegPrevFh, delegation_type, open_args}
+use Rattle.nfs_compound.specs.OpenArgs.{open_downgrade_args, close_args}
+use Rattle.nfs_compound.specs.LockArgs.{Locker, OpenOwner, LockOwner, lock_type, open_to_lock_owner, exist_lock_owner, locker, lock_args, lock_t_args}
+use Rattle.nfs_compound.specs.LockArgs.{lock_u_args}
+use Rattle.nfs_compound.specs.FileArgs.{commit_args, read_args, stable_how, write_args, set_attr_args}
+use Rattle.nfs_compound.specs.NameArgs.{CreateType, Block, Character, Symlink, Other, spec_data, create_type, create_args, read_dir_args, rename_args}
+use Rattle.nfs_compound.specs.NameArgs.{secinfo_style}
+use Rattle.nfs_compound.specs.Operation.{Op, OpAccess, OpClose, OpCommit, OpCreate, OpGetAttr, OpGetFh, OpLink, OpLock, OpLockT, OpLockU, OpLookup, OpLookupP}
+use Rattle.nfs_compound.specs.Operation.{OpNVerify, OpOpen, OpOpenDowngrade, OpPutFh, OpPutPubFh, OpPutRootFh, OpRead, OpReadDir, OpReadLink, OpRemove}
+use Rattle.nfs_compound.specs.Operation.{OpRename, OpRestoreFh, OpSaveFh, OpSetAttr, OpVerify, OpWrite, OpExchangeId, OpCreateSession, OpDestroySession}
+use Rattle.nfs_compound.specs.Operation.{OpFreeStateid, OpSecinfoNoName, OpSequence, OpTestStateid, OpDestroyClientId, OpReclaimComplete}
+use Rattle.nfs_compound.specs.Arguments.{spell_op, FitsOp, op_codec}
+use Rattle.nfs_compound.specs.Wire.{Text, uint32, array, optional, bitmap4, fattr4, state_owner4, stateid4, createtype4, locker4, createhow4, openflag4}
+use Rattle.nfs_compound.specs.Wire.{open_claim4, nfs_impl_id4, channel_attrs4, authsys_parms, gss_cb_handles4, callback_sec_parms4, sec_parms, protected4, nfs_argop4}
+use Rattle.nfs_compound.proofs.ArgLaws.{is_protected}
+use Rattle.nfs_compound.proofs.OpLaws.{is_op}
+
+-- a codec that spells what the text says, of the same values
+pub record Spells {A : Type 0} (c : Codec A) (text : A → Text) : Type 0 where
+  pub same : (x : A) → c.spell x ≡ (text x).bytes
+  pub to : (x : A) → c.Fits x → (text x).Fits
+  pub from : (x : A) → (text x).Fits → c.Fits x
+
+-- Arrays.
+
+all_same : {A : Type 0} (f g : A → List ℕ) → ((x : A) → f x ≡ g x) → (xs : List A) → flat_map f xs ≡ flat_map g xs
+all_same f g each [] = refl
+all_same f g each (x ∷ xs) = rw (each x, all_same f g each xs) refl
+
+all_fit : {A : Type 0} (P Q : A → Type 0) → ((x : A) → P x → Q x) → (xs : List A) → AllByRecursion P xs → AllByRecursion Q xs
+all_fit P Q each [] all = tt
+all_fit P Q each (x ∷ xs) all = (each x all.0, all_fit P Q each xs all.1)
+
+arrays : {A : Type 0} (c : Codec A) (text : A → Text) → Spells c text → Spells (codec.array c) (array 4294967295 text)
+arrays c text is = record {
+  same = λ xs. rw (all_same c.spell (λ x. (text x).bytes) is.same xs) refl;
+  to = λ xs fits. (omega (arith, fits.0), all_fit c.Fits (λ x. (text x).Fits) is.to xs fits.1);
+  from = λ xs fits. (omega (arith, fits.0), all_fit (λ x. (text x).Fits) c.Fits is.from xs fits.1);
+}
+
+optionals : {A : Type 0} (c : Codec A) (text : A → Text) → Spells c text → Spells (codec.optional c) (optional text)
+optionals c text is = record { same = same; to = to; from = from }
+  where
+    same : (x : Option _) → (codec.optional c).spell x ≡ (optional text x).bytes
+    same None = refl
+    same (Some x) = rw (is.same x) refl
+
+    to : (x : Option _) → (codec.optional c).Fits x → (optional text x).Fits
+    to None fits = tt
+    to (Some x) fits = (tt, is.to x fits)
+
+    from : (x : Option _) → (optional text x).Fits → (codec.optional c).Fits x
+    from None fits = tt
+    from (Some x) fits = is.from x fits.1
+
+numbers : Spells codec.number uint32
+numbers = record { same = λ x. refl; to = λ x fits. fits; from = λ x fits. fits }
+
+-- Structs and unions.
+
+masks : Spells bitmap bitmap4
+unfolding bitmap
+masks = let is = arrays codec.number uint32 numbers in record { same = λ x. refl; to = is.to; from = is.from }
+
+attrs : Spells attributes fattr4
+unfolding attributes bitmap
+attrs = record {
+  same = λ a. refl;
+  to = λ a (e, (mask, values)). (masks.to a.attrmask mask, values);
+  from = λ a (mask, values). (refl, (masks.from a.attrmask mask, values));
+}
+
+owners : Spells state_owner state_owner4
+unfolding state_owner
+owners = record { same = λ o. refl; to = λ o (e, fits). fits; from = λ o fits. (refl, fits) }
+
+ids : Spells stateid stateid4
+unfolding stateid
+ids = record { same = λ s. refl; to = λ s (e, fits). fits; from = λ s fits. (refl, fits) }
+
+id_lists : Spells stateids (array 4294967295 stateid4)
+unfolding stateids
+id_lists = let is = arrays stateid stateid4 ids in record { same = is.same; to = is.to; from = is.from }
+
+types : Spells create_type createtype4
+unfolding create_type spec_data
+types = record { same = same; to = to; from = from }
+  where
+    same : (t : CreateType) → create_type.spell t ≡ (createtype4 t).bytes
+    same (Block d) = refl
+    same (Character d) = refl
+    same (Symlink linkdata) = refl
+    same (Other t) = refl
+
+    to : (t : CreateType) → create_type.Fits t → (createtype4 t).Fits
+    to (Block d) (e, fits) = (tt, fits)
+    to (Character d) (e, fits) = (tt, fits)
+    to (Symlink linkdata) fits = (tt, fits)
+    to (Other t) fits = fits
+
+    from : (t : CreateType) → (createtype4 t).Fits → create_type.Fits t
+    from (Block d) (u, fits) = (refl, fits)
+    from (Character d) (u, fits) = (refl, fits)
+    from (Symlink linkdata) (u, fits) = fits
+    from (Other t) fits = fits
+
+lockers : Spells locker locker4
+unfolding locker open_to_lock_owner exist_lock_owner state_owner stateid
+lockers = record { same = same; to = to; from = from }
+  where
+    same : (x : Locker) → locker.spell x ≡ (locker4 x).bytes
+    same (OpenOwner o) = refl
+    same (LockOwner o) = refl
+
+    to : (x : Locker) → locker.Fits x → (locker4 x).Fits
+    to (OpenOwner o) (e, (seqid, (held, (lock, owner)))) = (tt, (seqid, (ids.to o.open_stateid held, (lock, owners.to o.lock_owner owner))))
+    to (LockOwner o) (e, (held, seqid)) = (tt, (ids.to o.lock_stateid held, seqid))
+
+    from : (x : Locker) → (locker4 x).Fits → locker.Fits x
+    from (OpenOwner o) (u, (seqid, (held, (lock, owner)))) = (refl, (seqid, (ids.from o.open_stateid held, (lock, owners.from o.lock_owner owner))))
+    from (LockOwner o) (u, (held, seqid)) = (refl, (ids.from o.lock_stateid held, seqid))
+
+hows : Spells create_how createhow4
+unfolding create_how attributes bitmap
+hows = record { same = same; to = to; from = from }
+  where
+    same : (x : CreateHow) → create_how.spell x ≡ (createhow4 x).bytes
+    same (Unchecked a) = refl
+    same (Guarded a) = refl
+    same (Exclusive v) = refl
+    same (Exclusive41 v a) = refl
+
+    to : (x : CreateHow) → create_how.Fits x → (createhow4 x).Fits
+    to (Unchecked a) fits = (tt, attrs.to a fits)
+    to (Guarded a) fits = (tt, attrs.to a fits)
+    to (Exclusive v) fits = (tt, fits)
+    to (Exclusive41 v a) (verifier, fits) = (tt, (verifier, attrs.to a fits))
+
+    from : (x : CreateHow) → (createhow4 x).Fits → create_how.Fits x
+    from (Unchecked a) (u, fits) = attrs.from a fits
+    from (Guarded a) (u, fits) = attrs.from a fits
+    from (Exclusive v) (u, fits) = fits
+    from (Exclusive41 v a) (u, (verifier, fits)) = (verifier, attrs.from a fits)
+
+flags : Spells open_how openflag4
+unfolding open_how
+flags = record { same = same; to = to; from = from }
+  where
+    same : (x : OpenHow) → open_how.spell x ≡ (openflag4 x).bytes
+    same NoCreate = refl
+    same (Create how) = rw (hows.same how) refl
+
+    to : (x : OpenHow) → open_how.Fits x → (openflag4 x).Fits
+    to NoCreate fits = tt
+    to (Create how) fits = (tt, hows.to how fits)
+
+    from : (x : OpenHow) → (openflag4 x).Fits → open_how.Fits x
+    from NoCreate fits = tt
+    from (Create how) (u, fits) = hows.from how fits
+
+claims : Spells open_claim open_claim4
+unfolding open_claim delegation_type stateid
+claims = record { same = same; to = to; from = from }
+  where
+    same : (x : OpenClaim) → open_claim.spell x ≡ (open_claim4 x).bytes
+    same (Null file) = refl
+    same (Previous t) = refl
+    same (DelegateCur s file) = refl
+    same (DelegatePrev file) = refl
+    same Fh = refl
+    same (DelegCurFh s) = refl
+    same DelegPrevFh = refl
+
+    to : (x : OpenClaim) → open_claim.Fits x → (open_claim4 x).Fits
+    to (Null file) fits = (tt, fits)
+    to (Previous t) fits = (tt, tt)
+    to (DelegateCur s file) (held, fits) = (tt, (ids.to s held, fits))
+    to (DelegatePrev file) fits = (tt, fits)
+    to Fh fits = tt
+    to (DelegCurFh s) fits = (tt, ids.to s fits)
+    to DelegPrevFh fits = tt
+
+    from : (x : OpenClaim) → (open_claim4 x).Fits → open_claim.Fits x
+    from (Null file) (u, fits) = fits
+    from (Previous t) fits = tt
+    from (DelegateCur s file) (u, (held, fits)) = (ids.from s held, fits)
+    from (DelegatePrev file) (u, fits) = fits
+    from Fh fits = tt
+    from (DelegCurFh s) (u, fits) = ids.from s fits
+    from DelegPrevFh fits = tt
+
+-- Clients and sessions.
+
+impls : Spells impl_id nfs_impl_id4
+unfolding impl_id time
+impls = record {
+  same = λ i. refl;
+  to = λ i (e, (domain, (name, (t, date)))). (domain, (name, date));
+  from = λ i (domain, (name, date)). (refl, (domain, (name, (refl, date))));
+}
+
+made : Spells (codec.optional impl_id) (optional nfs_impl_id4)
+made = optionals impl_id nfs_impl_id4 impls
+
+irds : Spells (codec.optional codec.number) (optional uint32)
+irds = optionals codec.number uint32 numbers
+
+channels : Spells channel_attrs channel_attrs4
+unfolding channel_attrs
+channels = record {
+  same = λ a. rw (irds.same a.rdma_ird) refl;
+  to = λ a (e, (f, (g, (h, (i, (j, (k, ird))))))). (f, (g, (h, (i, (j, (k, irds.to a.rdma_ird ird))))));
+  from = λ a (f, (g, (h, (i, (j, (k, ird)))))). (refl, (f, (g, (h, (i, (j, (k, irds.from a.rdma_ird ird)))))));
+}
+
+few : (groups : List ℕ) → (codec.at_most 16 bitmap).Fits groups → (array 16 uint32 groups).Fits
+unfolding bitmap
+few groups (at_most, (count, all)) = (leb-true (length groups) 16 at_most, all)
+
+few_from : (groups : List ℕ) → (array 16 uint32 groups).Fits → (codec.at_most 16 bitmap).Fits groups
+unfolding bitmap
+few_from groups (count, all) = (le-leb (length groups) 16 count, (omega (arith, count), all))
+
+sys : Spells auth_sys authsys_parms
+unfolding auth_sys bitmap
+sys = record {
+  same = λ a. refl;
+  to = λ a (e, (stamp, (name, (uid, (gid, gids))))). (stamp, (name, (uid, (gid, few a.gids gids))));
+  from = λ a (stamp, (name, (uid, (gid, gids)))). (refl, (stamp, (name, (uid, (gid, few_from a.gids gids)))));
+}
+
+handles : Spells gss_handles gss_cb_handles4
+unfolding gss_handles
+handles = record { same = λ g. refl; to = λ g (e, fits). fits; from = λ g fits. (refl, fits) }
+
+parms : Spells callback.sec_parms callback_sec_parms4
+unfolding callback.sec_parms
+parms = record { same = same; to = to; from = from }
+  where
+    same : (x : SecParms) → callback.sec_parms.spell x ≡ (callback_sec_parms4 x).bytes
+    same AuthNone = refl
+    same (Sys a) = rw (sys.same a) refl
+    same (RpcsecGss g) = rw (handles.same g) refl
+
+    to : (x : SecParms) → callback.sec_parms.Fits x → (callback_sec_parms4 x).Fits
+    to AuthNone fits = tt
+    to (Sys a) fits = (tt, sys.to a fits)
+    to (RpcsecGss g) fits = (tt, handles.to g fits)
+
+    from : (x : SecParms) → (callback_sec_parms4 x).Fits → callback.sec_parms.Fits x
+    from AuthNone fits = tt
+    from (Sys a) (u, fits) = sys.from a fits
+    from (RpcsecGss g) (u, fits) = handles.from g fits
+
+parm_lists : Spells (codec.array callback.sec_parms) (array 4294967295 callback_sec_parms4)
+parm_lists = arrays callback.sec_parms callback_sec_parms4 parms
+
+all_parms : Spells all_sec_parms sec_parms
+all_parms = record {
+  same = λ bytes. refl;
+  to = λ bytes (xs, e, fits). (xs, e ∙ parm_lists.same xs, parm_lists.to xs fits);
+  from = λ bytes (xs, e, fits). (xs, e ∙ sym (parm_lists.same xs), parm_lists.from xs fits);
+}
+
+-- The operations.
+
+op_same : (x : Op) → spell_op x ≡ (nfs_argop4 x).bytes
+unfolding stateid stateids state_owner bitmap attributes exchange_id_args create_session_args sequence_args open_args open_downgrade_args close_args lock_type lock_args lock_t_args lock_u_args commit_args read_args stable_how write_args set_attr_args create_args read_dir_args rename_args secinfo_style
+op_same (OpAccess a) = refl
+op_same (OpClose a) = refl
+op_same (OpCommit a) = refl
+op_same (OpCreate a) = rw (types.same a.objtype) refl
+op_same (OpGetAttr a) = refl
+op_same OpGetFh = refl
+op_same (OpLink a) = refl
+op_same (OpLock a) = rw (lockers.same a.locker) refl
+op_same (OpLockT a) = refl
+op_same (OpLockU a) = refl
+op_same (OpLookup a) = refl
+op_same OpLookupP = refl
+op_same (OpNVerify a) = refl
+op_same (OpOpen a) = rw (flags.same a.openhow, claims.same a.claim) refl
+op_same (OpOpenDowngrade a) = refl
+op_same (OpPutFh a) = refl
+op_same OpPutPubFh = refl
+op_same OpPutRootFh = refl
+op_same (OpRead a) = refl
+op_same (OpReadDir a) = refl
+op_same OpReadLink = refl
+op_same (OpRemove a) = refl
+op_same (OpRename a) = refl
+op_same OpRestoreFh = refl
+op_same OpSaveFh = refl
+op_same (OpSetAttr a) = refl
+op_same (OpVerify a) = refl
+op_same (OpWrite a) = refl
+op_same (OpExchangeId a) = rw (made.same a.impl_id) refl
+op_same (OpCreateSession a) = rw (channels.same a.fore_chan_attrs, channels.same a.back_chan_attrs) refl
+op_same (OpDestroySession a) = refl
+op_same (OpFreeStateid a) = refl
+op_same (OpSecinfoNoName a) = refl
+op_same (OpSequence a) = refl
+op_same (OpTestStateid a) = refl
+op_same (OpDestroyClientId a) = refl
+op_same (OpReclaimComplete a) = refl
+
+op_to : (x : Op) → FitsOp x → (nfs_argop4 x).Fits
+unfolding exchange_id_args create_session_args sequence_args open_args open_downgrade_args close_args lock_type lock_args lock_t_args lock_u_args commit_args read_args stable_how write_args set_attr_args create_args read_dir_args rename_args secinfo_style
+op_to (OpAccess a) fits = (tt, fits)
+op_to (OpClose a) (e, (seqid, held)) = (tt, (seqid, ids.to a.open_stateid held))
+op_to (OpCommit a) (e, fits) = (tt, fits)
+op_to (OpCreate a) (e, (t, (name, values))) = (tt, (types.to a.objtype t, (name, attrs.to a.createattrs values)))
+op_to (OpGetAttr a) fits = (tt, masks.to a fits)
+op_to OpGetFh fits = (tt, tt)
+op_to (OpLink a) fits = (tt, fits)
+op_to (OpLock a) (e, (k, (r, (o, (l, who))))) = (tt, (k, (r, (o, (l, lockers.to a.locker who)))))
+op_to (OpLockT a) (e, (k, (o, (l, owner)))) = (tt, (k, (o, (l, owners.to a.owner owner))))
+op_to (OpLockU a) (e, (k, (seqid, (held, range)))) = (tt, (k, (seqid, (ids.to a.lock_stateid held, range))))
+op_to (OpLookup a) fits = (tt, fits)
+op_to OpLookupP fits = (tt, tt)
+op_to (OpNVerify a) fits = (tt, attrs.to a fits)
+op_to (OpOpen a) (e, (seqid, (access, (deny, (owner, (how, claim)))))) =
+    (tt, (seqid, (access, (deny, (owners.to a.owner owner, (flags.to a.openhow how, claims.to a.claim claim))))))
+op_to (OpOpenDowngrade a) (e, (held, fits)) = (tt, (ids.to a.open_stateid held, fits))
+op_to (OpPutFh a) fits = (tt, fits)
+op_to OpPutPubFh fits = (tt, tt)
+op_to OpPutRootFh fits = (tt, tt)
+op_to (OpRead a) (e, (held, fits)) = (tt, (ids.to a.stateid held, fits))
+op_to (OpReadDir a) (e, (cookie, (verf, (dirs, (size, mask))))) = (tt, (cookie, (verf, (dirs, (size, masks.to a.attr_request mask)))))
+op_to OpReadLink fits = (tt, tt)
+op_to (OpRemove a) fits = (tt, fits)
+op_to (OpRename a) (e, fits) = (tt, fits)
+op_to OpRestoreFh fits = (tt, tt)
+op_to OpSaveFh fits = (tt, tt)
+op_to (OpSetAttr a) (e, (held, values)) = (tt, (ids.to a.stateid held, attrs.to a.obj_attributes values))
+op_to (OpVerify a) fits = (tt, attrs.to a fits)
+op_to (OpWrite a) (e, (held, fits)) = (tt, (ids.to a.stateid held, fits))
+op_to (OpExchangeId a) (e, (verf, (owner, (f, impl)))) = (tt, (verf, (owner, (f, (tt, made.to a.impl_id impl)))))
+op_to (OpCreateSession a) (e, (client, (seq, (f, (fore, (back, (program, ps))))))) = (
+  tt,
+  (client, (seq, (f, (channels.to a.fore_chan_attrs fore, (channels.to a.back_chan_attrs back, (program, all_parms.to a.sec_parms ps)))))),
+)
+op_to (OpDestroySession a) fits = (tt, fits)
+op_to (OpFreeStateid a) fits = (tt, ids.to a fits)
+op_to (OpSecinfoNoName a) fits = (tt, tt)
+op_to (OpSequence a) (e, fits) = (tt, fits)
+op_to (OpTestStateid a) fits = (tt, id_lists.to a fits)
+op_to (OpDestroyClientId a) fits = (tt, fits)
+op_to (OpReclaimComplete a) fits = (tt, tt)
+
+op_from : (x : Op) → (nfs_argop4 x).Fits → FitsOp x
+unfolding exchange_id_args create_session_args sequence_args open_args open_downgrade_args close_args lock_type lock_args lock_t_args lock_u_args commit_args read_args stable_how write_args set_attr_args create_args read_dir_args rename_args secinfo_style
+op_from (OpAccess a) (u, fits) = fits
+op_from (OpClose a) (u, (seqid, held)) = (refl, (seqid, ids.from a.open_stateid held))
+op_from (OpCommit a) (u, fits) = (refl, fits)
+op_from (OpCreate a) (u, (t, (name, values))) = (refl, (types.from a.objtype t, (name, attrs.from a.createattrs values)))
+op_from (OpGetAttr a) (u, fits) = masks.from a fits
+op_from OpGetFh fits = refl
+op_from (OpLink a) (u, fits) = fits
+op_from (OpLock a) (u, (k, (r, (o, (l, who))))) = (refl, (k, (r, (o, (l, lockers.from a.locker who)))))
+op_from (OpLockT a) (u, (k, (o, (l, owner)))) = (refl, (k, (o, (l, owners.from a.owner owner))))
+op_from (OpLockU a) (u, (k, (seqid, (held, range)))) = (refl, (k, (seqid, (ids.from a.lock_stateid held, range))))
+op_from (OpLookup a) (u, fits) = fits
+op_from OpLookupP fits = refl
+op_from (OpNVerify a) (u, fits) = attrs.from a fits
+op_from (OpOpen a) (u, (seqid, (access, (deny, (owner, (how, claim)))))) =
+    (refl, (seqid, (access, (deny, (owners.from a.owner owner, (flags.from a.openhow how, claims.from a.claim claim))))))
+op_from (OpOpenDowngrade a) (u, (held, fits)) = (refl, (ids.from a.open_stateid held, fits))
+op_from (OpPutFh a) (u, fits) = fits
+op_from OpPutPubFh fits = refl
+op_from OpPutRootFh fits = refl
+op_from (OpRead a) (u, (held, fits)) = (refl, (ids.from a.stateid held, fits))
+op_from (OpReadDir a) (u, (cookie, (verf, (dirs, (size, mask))))) = (refl, (cookie, (verf, (dirs, (size, masks.from a.attr_request mask)))))
+op_from OpReadLink fits = refl
+op_from (OpRemove a) (u, fits) = fits
+op_from (OpRename a) (u, fits) = (refl, fits)
+op_from OpRestoreFh fits = refl
+op_from OpSaveFh fits = refl
+op_from (OpSetAttr a) (u, (held, values)) = (refl, (ids.from a.stateid held, attrs.from a.obj_attributes values))
+op_from (OpVerify a) (u, fits) = attrs.from a fits
+op_from (OpWrite a) (u, (held, fits)) = (refl, (ids.from a.stateid held, fits))
+op_from (OpExchangeId a) (u, (verf, (owner, (f, (none, impl))))) = (refl, (verf, (owner, (f, made.from a.impl_id impl))))
+op_from (OpCreateSession a) (u, (client, (seq, (f, (fore, (back, (program, ps))))))) = (
+  refl,
+  (client, (seq, (f, (channels.from a.fore_chan_attrs fore, (channels.from a.back_chan_attrs back, (program, all_parms.from a.sec_parms ps)))))),
+)
+op_from (OpDestroySession a) (u, fits) = fits
+op_from (OpFreeStateid a) (u, fits) = ids.from a fits
+op_from (OpSecinfoNoName a) fits = tt
+op_from (OpSequence a) (u, fits) = (refl, fits)
+op_from (OpTestStateid a) (u, fits) = id_lists.from a fits
+op_from (OpDestroyClientId a) (u, fits) = fits
+op_from (OpReclaimComplete a) fits = tt
+
+pub ops : Spells op_codec nfs_argop4
+ops = record { same = op_same; to = op_to; from = op_from }
+
+-- the values of a text, by a reader
+abbrev pub read_as : {A : Type 0} → (A → Text) → (List ℕ → Option (A × List ℕ)) → Codec A
+read_as text read = record { spell = λ x. (text x).bytes; Fits = λ x. (text x).Fits; read = read }
+
+-- what reads the one reads the other
+pub is_read : {A : Type 0} (c : Codec A) (text : A → Text) → Spells c text → IsCodec c → IsCodec (read_as text c.read)
+is_read c text one is = record {
+  takes = λ bytes x rest fits e. let t = is.takes bytes x rest fits e in (t.0 ∙ ap (λ (w : List ℕ). w ++ rest) (one.same x), t.1, one.to x t.2);
+  again = λ x rest fits. ap (λ (w : List ℕ). c.read (w ++ rest)) (sym (one.same x)) ∙ is.again x rest (one.from x fits);
+}
+
+protections : Spells protected protected4
+unfolding protected
+protections = record { same = λ x. refl; to = to; from = from }
+  where
+    how_to : (n : ℕ) → IsTrue (n == 1 || n == 2) → (n ≡ 1) ⊎ (n ≡ 2)
+    how_to n is = elim (cases_Bool (eqb n 1)) [
+      | inl e ↦ inl (eqb-true n 1 e)
+      | inr e ↦ inr (eqb-true n 2 (rw e at is))
+    ]
+
+    to : (x : List ℕ × (List ℕ × (ℕ × ℕ))) → protected.Fits x → (protected4 x).Fits
+    to (verifier, (ownerid, (flags, how))) (v, (o, (f, (is, fits)))) = (v, (o, (f, how_to how is)))
+
+    how_from : (n : ℕ) → (n ≡ 1) ⊎ (n ≡ 2) → IsTrue (n == 1 || n == 2) × (n < 2 ^ 32)
+    how_from n (inl e) = rw e (refl, omega arith)
+    how_from n (inr e) = rw e (refl, omega arith)
+
+    from : (x : List ℕ × (List ℕ × (ℕ × ℕ))) → (protected4 x).Fits → protected.Fits x
+    from (verifier, (ownerid, (flags, how))) (v, (o, (f, is))) = (v, (o, (f, how_from how is)))
+
+pub is_protected_text : IsCodec (read_as protected4 protected.read)
+is_protected_text = is_read protected protected4 protections is_protected
+
+pub is_op_text : IsCodec (read_as nfs_argop4 op_codec.read)
+is_op_text = is_read op_codec nfs_argop4 ops is_op

@@ -1,0 +1,8 @@
+use Rattle.nfs_compound.proofs.WireLaws.{ops}
+use Rattle.nfs_compound.proofs.laws.wire.Goals as goal
+
+pub returns-clause-spelled : goal.returns-clause-spelled
+returns-clause-spelled c = ops.same
+
+pub returns-clause-fits : goal.returns-clause-fits
+returns-clause-fits c = λ op. (ops.to op, ops.from op)

@@ -1,0 +1,210 @@
+-- The arguments of the operations on the wire (RFC 8881 sections 3 and 18, RFC 5662): its structs and unions in the order of RFC 8881, each field
+-- under its type, and nfs_argop4 with the fields of each operation on its line.
+use Rattle.std.specs.Prelude.{◌≡◌, ◌≢◌, ℕ, ℤ, ◌<◌, ◌≤◌, ◌^◌, ◌⊎◌, Bool, List, [], ◌++◌, length, Option, Some, None}
+use Rattle.std.specs.Int.{w64, cast_unsigned}
+use Rattle.std.specs.Int.RustNames.{FitsSigned}
+use Rattle.std.specs.List.{flat_map, AllByRecursion}
+use Rattle.nfs_xdr.specs.Spelling as spelling
+use Rattle.nfs_xdr.specs.Codec.{IsBytes}
+use Rattle.nfs_xdr.specs.Limits.{fhsize, opaque_limit, most_groups, most_machine_name}
+use Rattle.nfs_compound.specs.declared.stateid.Stateid.{Stateid}
+use Rattle.nfs_compound.specs.declared.channel_attrs.ChannelAttrs.{ChannelAttrs}
+use Rattle.nfs_compound.specs.StateOwner.{StateOwner}
+use Rattle.nfs_compound.specs.Attributes.{Attributes}
+use Rattle.nfs_compound.specs.NameArgs.{CreateType, Block, Character, Symlink, Other, secinfo_style_number}
+use Rattle.nfs_compound.specs.LockArgs.{Locker, OpenOwner, LockOwner, lock_type_number}
+use Rattle.nfs_compound.specs.OpenArgs.{CreateHow, Unchecked, Guarded, Exclusive, Exclusive41, OpenHow, NoCreate, Create, delegation_number}
+use Rattle.nfs_compound.specs.OpenArgs.{OpenClaim, Null, Previous, DelegateCur, DelegatePrev, Fh, DelegCurFh, DelegPrevFh}
+use Rattle.nfs_compound.specs.FileArgs.{stable_how_number}
+use Rattle.nfs_compound.specs.SessionArgs.{ImplId}
+use Rattle.nfs_compound.specs.Callback.{AuthSys, GssHandles, SecParms, AuthNone, Sys, RpcsecGss}
+use Rattle.nfs_compound.specs.Operation.{Op, OpAccess, OpClose, OpCommit, OpCreate, OpGetAttr, OpGetFh, OpLink, OpLock, OpLockT, OpLockU, OpLookup, OpLookupP}
+use Rattle.nfs_compound.specs.Operation.{OpNVerify, OpOpen, OpOpenDowngrade, OpPutFh, OpPutPubFh, OpPutRootFh, OpRead, OpReadDir, OpReadLink, OpRemove}
+use Rattle.nfs_compound.specs.Operation.{OpRename, OpRestoreFh, OpSaveFh, OpSetAttr, OpVerify, OpWrite, OpExchangeId, OpCreateSession, OpDestroySession}
+use Rattle.nfs_compound.specs.Operation.{OpFreeStateid, OpSecinfoNoName, OpSequence, OpTestStateid, OpDestroyClientId, OpReclaimComplete}
+
+-- The bytes of a value, and what holds of the values that have bytes.
+pub record Text : Type 1 where
+  pub bytes : List ℕ
+  pub Fits : Type 0
+
+-- The types of RFC 4506.
+
+infixr 6 ◌then◌
+abbrev pub ◌then◌ : Text → Text → Text
+a then b = record { bytes = a.bytes ++ b.bytes; Fits = a.Fits × b.Fits }
+
+abbrev pub void : Text
+void = record { bytes = []; Fits = Unit {0} }
+
+abbrev pub uint32 : ℕ → Text
+uint32 n = record { bytes = spelling.number n; Fits = n < 2 ^ 32 }
+
+abbrev pub uint64 : ℕ → Text
+uint64 n = record { bytes = spelling.hyper n; Fits = n < 2 ^ 64 }
+
+abbrev pub int64 : ℤ → Text
+int64 z = record { bytes = spelling.hyper (cast_unsigned w64 z); Fits = FitsSigned w64 z }
+
+abbrev pub bool : Bool → Text
+bool b = record { bytes = spelling.flag b; Fits = Unit {0} }
+
+-- a value of an enum, or the case of a union
+abbrev pub enum : ℕ → Text
+enum k = record { bytes = spelling.number k; Fits = Unit {0} }
+
+-- opaque x[size]
+abbrev pub fixed : ℕ → List ℕ → Text
+fixed size x = record { bytes = spelling.fixed x; Fits = (length x ≡ size) × IsBytes x }
+
+-- opaque x<limit>
+abbrev pub opaque : ℕ → List ℕ → Text
+opaque limit x = record { bytes = spelling.opaque x; Fits = (length x ≤ limit) × IsBytes x }
+
+-- T xs<limit>, where T is the text of each
+abbrev pub array : {A : Type 0} → ℕ → (A → Text) → List A → Text
+array limit text xs = record {
+  bytes = spelling.number (length xs) ++ flat_map (λ x. (text x).bytes) xs;
+  Fits = (length xs ≤ limit) × AllByRecursion (λ x. (text x).Fits) xs;
+}
+
+-- T x<1>
+abbrev pub optional : {A : Type 0} → (A → Text) → Option A → Text
+optional text None = enum 0
+optional text (Some x) = enum 1 then text x
+
+-- the limit where none is written
+abbrev pub most : ℕ
+most = 4294967295
+
+-- RFC 8881 section 3.
+
+abbrev pub bitmap4 : List ℕ → Text
+bitmap4 words = array most uint32 words
+
+abbrev pub component4 : List ℕ → Text
+component4 name = opaque most name
+
+abbrev pub fattr4 : Attributes → Text
+fattr4 a = bitmap4 a.attrmask then opaque most a.attr_vals
+
+abbrev pub state_owner4 : StateOwner → Text
+state_owner4 o = uint64 o.clientid then opaque opaque_limit o.owner
+
+abbrev pub stateid4 : Stateid → Text
+stateid4 s = uint32 s.seqid then fixed 12 s.other
+
+-- RFC 8881 section 18.4.
+
+abbrev pub createtype4 : CreateType → Text
+createtype4 (Block d) = enum 3 then uint32 d.specdata1 then uint32 d.specdata2
+createtype4 (Character d) = enum 4 then uint32 d.specdata1 then uint32 d.specdata2
+createtype4 (Symlink linkdata) = enum 5 then opaque most linkdata
+createtype4 (Other t) = record { bytes = spelling.number t; Fits = (t < 2 ^ 32) × (t ≢ 3) × (t ≢ 4) × (t ≢ 5) }
+
+-- RFC 8881 section 18.10.
+
+abbrev pub locker4 : Locker → Text
+locker4 (OpenOwner o) = enum 1 then uint32 o.open_seqid then stateid4 o.open_stateid then uint32 o.lock_seqid then state_owner4 o.lock_owner
+locker4 (LockOwner o) = enum 0 then stateid4 o.lock_stateid then uint32 o.lock_seqid
+
+-- RFC 8881 section 18.16.
+
+abbrev pub createhow4 : CreateHow → Text
+createhow4 (Unchecked a) = enum 0 then fattr4 a
+createhow4 (Guarded a) = enum 1 then fattr4 a
+createhow4 (Exclusive verifier) = enum 2 then fixed 8 verifier
+createhow4 (Exclusive41 verifier a) = enum 3 then fixed 8 verifier then fattr4 a
+
+abbrev pub openflag4 : OpenHow → Text
+openflag4 NoCreate = enum 0
+openflag4 (Create how) = enum 1 then createhow4 how
+
+abbrev pub open_claim4 : OpenClaim → Text
+open_claim4 (Null file) = enum 0 then component4 file
+open_claim4 (Previous delegate_type) = enum 1 then enum (delegation_number delegate_type)
+open_claim4 (DelegateCur s file) = enum 2 then stateid4 s then component4 file
+open_claim4 (DelegatePrev file) = enum 3 then component4 file
+open_claim4 Fh = enum 4
+open_claim4 (DelegCurFh s) = enum 5 then stateid4 s
+open_claim4 DelegPrevFh = enum 6
+
+-- RFC 8881 section 18.35. A state protection is SP4_NONE, which is 0.
+
+abbrev pub nfs_impl_id4 : ImplId → Text
+nfs_impl_id4 i = component4 i.domain then component4 i.name then int64 i.date.seconds then uint32 i.date.nanoseconds
+
+-- the verifier, owner and flags of an EXCHANGE_ID that wants SP4_MACH_CRED or SP4_SSV, and which of them, with nothing of what it says of that
+abbrev pub protected4 : List ℕ × (List ℕ × (ℕ × ℕ)) → Text
+protected4 (verifier, (ownerid, (flags, how))) = fixed 8 verifier then opaque opaque_limit ownerid then uint32 flags
+    then record { bytes = spelling.number how; Fits = (how ≡ 1) ⊎ (how ≡ 2) }
+
+-- RFC 8881 section 18.36.
+
+abbrev pub channel_attrs4 : ChannelAttrs → Text
+channel_attrs4 a = uint32 a.headerpadsize then uint32 a.maxrequestsize then uint32 a.maxresponsesize then uint32 a.maxresponsesize_cached
+    then uint32 a.maxoperations then uint32 a.maxrequests then optional uint32 a.rdma_ird
+
+abbrev pub authsys_parms : AuthSys → Text
+authsys_parms a = uint32 a.stamp then opaque most_machine_name a.machinename then uint32 a.uid then uint32 a.gid then array most_groups uint32 a.gids
+
+abbrev pub gss_cb_handles4 : GssHandles → Text
+gss_cb_handles4 g = uint32 g.service then opaque most g.handle_from_server then opaque most g.handle_from_client
+
+abbrev pub callback_sec_parms4 : SecParms → Text
+callback_sec_parms4 AuthNone = enum 0
+callback_sec_parms4 (Sys a) = enum 1 then authsys_parms a
+callback_sec_parms4 (RpcsecGss g) = enum 6 then gss_cb_handles4 g
+
+-- callback_sec_parms4 csa_sec_parms<>, of which an operation has the bytes
+abbrev pub sec_parms : List ℕ → Text
+sec_parms bytes = record {
+  bytes = bytes;
+  Fits = (parms : List SecParms) × (bytes ≡ (array most callback_sec_parms4 parms).bytes) × (array most callback_sec_parms4 parms).Fits;
+}
+
+-- RFC 8881 sections 18.1 to 18.51.
+
+abbrev pub nfs_argop4 : Op → Text
+nfs_argop4 (OpAccess access) = enum 3 then uint32 access
+nfs_argop4 (OpClose a) = enum 4 then uint32 a.seqid then stateid4 a.open_stateid
+nfs_argop4 (OpCommit a) = enum 5 then uint64 a.offset then uint32 a.count
+nfs_argop4 (OpCreate a) = enum 6 then createtype4 a.objtype then component4 a.objname then fattr4 a.createattrs
+nfs_argop4 (OpGetAttr attr_request) = enum 9 then bitmap4 attr_request
+nfs_argop4 OpGetFh = enum 10 then void
+nfs_argop4 (OpLink newname) = enum 11 then component4 newname
+nfs_argop4 (OpLock a) = enum 12 then enum (lock_type_number a.locktype) then bool a.reclaim then uint64 a.offset then uint64 a.length then locker4 a.locker
+nfs_argop4 (OpLockT a) = enum 13 then enum (lock_type_number a.locktype) then uint64 a.offset then uint64 a.length then state_owner4 a.owner
+nfs_argop4 (OpLockU a) = enum 14 then enum (lock_type_number a.locktype) then uint32 a.seqid then stateid4 a.lock_stateid then uint64 a.offset
+    then uint64 a.length
+nfs_argop4 (OpLookup objname) = enum 15 then component4 objname
+nfs_argop4 OpLookupP = enum 16 then void
+nfs_argop4 (OpNVerify obj_attributes) = enum 17 then fattr4 obj_attributes
+nfs_argop4 (OpOpen a) = enum 18 then uint32 a.seqid then uint32 a.share_access then uint32 a.share_deny then state_owner4 a.owner
+    then openflag4 a.openhow then open_claim4 a.claim
+nfs_argop4 (OpOpenDowngrade a) = enum 21 then stateid4 a.open_stateid then uint32 a.seqid then uint32 a.share_access then uint32 a.share_deny
+nfs_argop4 (OpPutFh object) = enum 22 then opaque fhsize object
+nfs_argop4 OpPutPubFh = enum 23 then void
+nfs_argop4 OpPutRootFh = enum 24 then void
+nfs_argop4 (OpRead a) = enum 25 then stateid4 a.stateid then uint64 a.offset then uint32 a.count
+nfs_argop4 (OpReadDir a) = enum 26 then uint64 a.cookie then fixed 8 a.cookieverf then uint32 a.dircount then uint32 a.maxcount then bitmap4 a.attr_request
+nfs_argop4 OpReadLink = enum 27 then void
+nfs_argop4 (OpRemove target) = enum 28 then component4 target
+nfs_argop4 (OpRename a) = enum 29 then component4 a.oldname then component4 a.newname
+nfs_argop4 OpRestoreFh = enum 31 then void
+nfs_argop4 OpSaveFh = enum 32 then void
+nfs_argop4 (OpSetAttr a) = enum 34 then stateid4 a.stateid then fattr4 a.obj_attributes
+nfs_argop4 (OpVerify obj_attributes) = enum 37 then fattr4 obj_attributes
+nfs_argop4 (OpWrite a) = enum 38 then stateid4 a.stateid then uint64 a.offset then enum (stable_how_number a.stable) then opaque most a.bytes
+nfs_argop4 (OpExchangeId a) = enum 42 then fixed 8 a.verifier then opaque opaque_limit a.ownerid then uint32 a.flags then enum 0
+    then optional nfs_impl_id4 a.impl_id
+nfs_argop4 (OpCreateSession a) = enum 43 then uint64 a.clientid then uint32 a.sequence then uint32 a.flags then channel_attrs4 a.fore_chan_attrs
+    then channel_attrs4 a.back_chan_attrs then uint32 a.cb_program then sec_parms a.sec_parms
+nfs_argop4 (OpDestroySession sessionid) = enum 44 then fixed 16 sessionid
+nfs_argop4 (OpFreeStateid stateid) = enum 45 then stateid4 stateid
+nfs_argop4 (OpSecinfoNoName style) = enum 52 then enum (secinfo_style_number style)
+nfs_argop4 (OpSequence a) = enum 53 then fixed 16 a.sessionid then uint32 a.sequenceid then uint32 a.slotid then uint32 a.highest_slotid
+    then bool a.cachethis
+nfs_argop4 (OpTestStateid stateids) = enum 55 then array most stateid4 stateids
+nfs_argop4 (OpDestroyClientId clientid) = enum 57 then uint64 clientid
+nfs_argop4 (OpReclaimComplete one_fs) = enum 58 then bool one_fs
