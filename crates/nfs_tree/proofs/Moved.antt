@@ -12,7 +12,7 @@ use Rattle.nfs_xdr.specs.declared.time.Time.{Time}
 use Rattle.nfs_tree.specs.declared.row.Row.{Row}
 use Rattle.nfs_tree.specs.Object.{no_sets, modified}
 use Rattle.nfs_tree.specs.Files.{Files, root, last_count, is_name, is_there, is_directory_at, can_change, CanChange, is_entry, entry, has_name}
-use Rattle.nfs_tree.specs.Files.{has_entries, with_entries_changed, with_links_changed, without_entry, IsReached}
+use Rattle.nfs_tree.specs.Files.{named, has_entries, with_entries_changed, with_links_changed, without_entry, IsReached}
 use Rattle.nfs_tree.specs.Names.{is_at_or_below, Move, moved_object, replaced_object, moves, is_below_itself, is_unlike, is_in_the_way, can_move}
 use Rattle.nfs_tree.specs.Names.{rename_checks, rename_fault, with_both_changed, with_moved}
 use Rattle.nfs_tree.specs.Kept.{Grounded, AreRows, IsTree}
@@ -182,3 +182,12 @@ tree_moved t m now is granted go condition =
       rows = subst (λ name. AreRows (without_entry m.source name left.rows ++ to ∷ []) dirs (λ n. is_there t n)) parts.1 named_rows;
     } in
     tree_both (record done { objects = with_links_changed x now done.objects }) m.source m.target now (tree_changed done x now no_sets is_done)
+
+-- the row that comes is not the entry that leaves
+pub moved_apart : (t : Files) (m : Move) (n k : ℕ) → moves t m ≡ true → is_entry m.source m.old (let r : Row = record { directory = m.target; name = m.name; object = n; cookie = k } in r) ≡ false
+moved_apart t m n k go = elim (cases_Bool (is_entry m.source m.old (let r : Row = record { directory = m.target; name = m.name; object = n; cookie = k } in r))) [
+  | inl is ↦ (let parts = entry_parts m.source m.old (record { directory = m.target; name = m.name; object = n; cookie = k }) is in
+      let same : moved_object t m ≡ replaced_object t m = ap (λ d. named t d m.old) (sym parts.0) ∙ ap (named t m.target) (sym parts.1) in
+      absurd (let bad : false ≡ true = rw (eq-eqb (moved_object t m) (replaced_object t m) same) at go in false≢true bad))
+  | inr other ↦ other
+]

@@ -5,7 +5,7 @@ ghost use Rattle.std.specs.Iterator.{YieldsFirstBy, item_count};
 ghost use Rattle.nfs_tree.specs.Files.{listing};
 ghost use Rattle.nfs_tree.specs.Listing.{listed_of};
 
-use crate::row::Row;
+use crate::rows::Rows;
 use crate::tree::Tree;
 use std::marker::Model;
 
@@ -23,7 +23,7 @@ pub struct Entry<'a> {
 /// The entries of a directory by rising cookie. Contracts see the list of those that are left.
 #[derive(Drop)]
 pub struct Listing<'a> {
-    rows: &'a [Row],
+    rows: &'a Rows,
     directory: u64,
     cookie: u64,
 }
@@ -45,17 +45,13 @@ impl<'a> Iterator for Listing<'a> {
     ghost remaining = { item_count (λ rest. rest) };
 
     fn next(&mut self) -> Option<Entry<'a>> {
-        while let Some((row, rest)) = self.rows.split_first() {
-            self.rows = rest;
-            if row.directory == self.directory && self.cookie < row.cookie {
-                return Some(Entry {
-                    cookie: row.cookie,
-                    name: row.name.as_slice(),
-                    number: row.object,
-                });
-            }
-        }
-        None
+        let row = self.rows.after(self.directory, self.cookie)?;
+        self.cookie = row.cookie;
+        Some(Entry {
+            cookie: row.cookie,
+            name: row.name.as_slice(),
+            number: row.object,
+        })
     }
 }
 

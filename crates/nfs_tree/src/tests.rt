@@ -4,7 +4,6 @@ ghost use Rattle.std.specs.Prelude.{◌≡◌, ◌==◌, ◌||◌};
 ghost use Rattle.nfs_tree.specs.Files.{root, has_row};
 
 use super::*;
-use crate::row::has_row;
 use nfs_testing::{LONG, MAX_BLOCKS, starve};
 use nfs_xdr::{Sheet, Time};
 use std::alloc::{AllocError, Global};
@@ -33,7 +32,7 @@ enum Step {
 fn is_reached(tree: &Tree, directory: u64) -> bool
     ensures { result ≡ ((directory == root) || has_row tree.now.rows directory) }
 {
-    directory == Tree::ROOT || has_row(&tree.rows, directory)
+    directory == Tree::ROOT || tree.rows.has_row(directory)
 }
 
 fn make(

@@ -1,4 +1,4 @@
-use Rattle.std.proofs.Common.{◌≡◌, ◌+◌, ◌-◌, ◌<◌, ◌∙◌, length, suc, sym, arith}
+use Rattle.std.proofs.Common.{◌≡◌, ◌+◌, ◌-◌, ◌<◌, ◌∙◌, length, suc, sym, subst, arith}
 use Rattle.std.proofs.lemmas.Bool.{ne_eqb}
 use Rattle.nfs_tree.specs.Names.{is_at_or_below}
 use Rattle.nfs_tree.proofs.Climb.{climb_step}
@@ -7,8 +7,8 @@ use Rattle.nfs_tree.proofs.rename.is_at_or_below.Goals as goal
 pub loop-step-preserved : goal.loop-step-preserved
 loop-step-preserved c =
     let rows = c.args.rows.now in
-    let i = c.loop-step._step-index in
-    let within : i < length rows = c.loop-step-test.true in
+    let i = c.loop-step._step in
+    let within : i < length rows = subst (λ n. i < n) c.len-step-end.ensures c.loop-step-test.true in
     let more : length rows - i ≡ suc (length rows - (i + 1)) = omega arith in
     climb_step rows c.args.top (length rows - i) (length rows - (i + 1)) c.loop-step.at c.in-Some.parent
     (is_at_or_below rows c.args.top (length rows) c.args.object) more

@@ -5,7 +5,8 @@ use Rattle.nfs_tree.specs.Names.{move_of, replaced_object, with_moved}
 use Rattle.nfs_tree.specs.Kept.{IsTree}
 use Rattle.nfs_tree.proofs.Objects.{can_change_all}
 use Rattle.nfs_tree.proofs.Trees.{tree_of}
-use Rattle.nfs_tree.proofs.Moved.{move_granted, replaced_source, replaced_target, replaced_can, tree_moved}
+use Rattle.nfs_tree.proofs.Mapped.{short_of}
+use Rattle.nfs_tree.proofs.Moved.{moved_apart, move_granted, replaced_source, replaced_target, replaced_can, tree_moved}
 use Rattle.nfs_tree.proofs.tree.Tree.move_row.Goals as goal
 
 pub overflow_add-cookie : goal.overflow_add-cookie
@@ -14,6 +15,19 @@ overflow_add-cookie c =
     let small : t.last_cookie < last_count = (move_granted t (move_of c.args.m.now) c.requires.granted c.requires.moves).cookie in
     let same = ap (λ (t : Files). t.last_cookie) c.self.view_is in
     omega arith
+
+pub replace_row-requires : goal.replace_row-requires
+replace_row-requires c =
+    let t = c.args.self.now in
+    let m = move_of c.args.m.now in
+    let is : IsTree t = subst IsTree c.self.view_is c.self.invariant in
+    let rows : c.self.inside.rows ≡ t.rows = ap (λ (t : Files). t.rows) c.self.view_is in
+    let last : c.self.inside.last_cookie ≡ t.last_cookie = ap (λ (t : Files). t.last_cookie) c.self.view_is in
+    record {
+      short = short_of m.name (move_granted t m c.requires.granted c.requires.moves).short;
+      last = rw (rows, last) is.cookies;
+      apart = moved_apart t m c.moved_object-object.result (c.self.inside.last_cookie + 1) c.requires.moves;
+    }
 
 pub change_moved-requires : goal.change_moved-requires
 change_moved-requires c =

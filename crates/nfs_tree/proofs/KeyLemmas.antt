@@ -1,0 +1,58 @@
+-- The keys that spell a directory and a name, and what a change of the map of names leaves at each.
+use Rattle.std.proofs.Common.{◌≡◌, ℕ, ◌<◌, ◌^◌, Bool, true, false, cond, List, ◌++◌, take, drop, Option, refl, sym, ◌∙◌, ap, inl, inr}
+use Rattle.std.specs.Prelude.{◌==◌, ◌&&◌, bytes_eq}
+use Rattle.std.specs.Int.{to_be_bytes, from_be_bytes, w64}
+use Rattle.std.specs.Ordering.{nat_cmp, is_eq, eq_by_cmp}
+use Rattle.std.specs.Cmp.{eq_by_cmp_equiv}
+use Rattle.std.specs.Cmp.Lexicographic.{slice_cmp}
+use Rattle.std.specs.BTreeMap.{BTreeMap, is_at, UpdatesBy}
+use Rattle.std.specs.Map.{lookup, KeepsOthers, IsKeyTest, AreApart}
+use Rattle.std.proofs.lemmas.Bool.{cases_Bool, eq-eqb, eqb-true, and_parts, false≢true}
+use Rattle.std.proofs.lemmas.Cmp.{nat_list_cmp_total}
+use Rattle.std.proofs.lemmas.Map.Text.{is_eq-slice_cmp}
+use Rattle.std.proofs.lemmas.Nat.{from_be_bytes-to_be_bytes_8}
+use Rattle.std.proofs.lemmas.Slice.Eq.{bytes_eq-Decides}
+use Rattle.std.proofs.lemmas.List.{take_at, drop_at}
+use Rattle.nfs_tree.specs.Maps.{key_of, cookie_at}
+
+spells : (d0 d : ℕ) (n0 n : List ℕ) → d0 < 2 ^ 64 → d < 2 ^ 64 → key_of d0 n0 ≡ key_of d n → (d0 ≡ d) × (n0 ≡ n)
+spells d0 d n0 n few0 few e =
+    let front : to_be_bytes w64 d0 ≡ to_be_bytes w64 d = sym (take_at (to_be_bytes w64 d0) n0 8 refl) ∙ ap (take 8) e ∙ take_at (to_be_bytes w64 d) n 8 refl in
+    let back : n0 ≡ n = sym (drop_at (to_be_bytes w64 d0) n0 8 refl) ∙ ap (drop 8) e ∙ drop_at (to_be_bytes w64 d) n 8 refl in
+    (sym (from_be_bytes-to_be_bytes_8 d0 few0) ∙ ap (from_be_bytes w64) front ∙ from_be_bytes-to_be_bytes_8 d few, back)
+
+pub key_same : (d0 d : ℕ) (n0 n : List ℕ) → d0 < 2 ^ 64 → d < 2 ^ 64 → bytes_eq (key_of d0 n0) (key_of d n) ≡ ((d0 == d) && bytes_eq n0 n)
+key_same d0 d n0 n few0 few = elim (cases_Bool ((d0 == d) && bytes_eq n0 n)) [
+  | inl same ↦ (let parts = and_parts (d0 == d) (bytes_eq n0 n) same in
+      let de : d0 ≡ d = eqb-true d0 d parts.0 in
+      let ne : n0 ≡ n = (bytes_eq-Decides n0 n).0 parts.1 in
+      (bytes_eq-Decides (key_of d0 n0) (key_of d n)).1 (ap (λ d. key_of d n0) de ∙ ap (key_of d) ne) ∙ sym same)
+  | inr other ↦ elim (cases_Bool (bytes_eq (key_of d0 n0) (key_of d n))) [
+    | inl spelled ↦ (let parts = spells d0 d n0 n few0 few ((bytes_eq-Decides (key_of d0 n0) (key_of d n)).0 spelled) in
+        let t : ((d0 == d) && bytes_eq n0 n) ≡ true = rw (eq-eqb d0 d parts.0) ((bytes_eq-Decides n0 n).1 parts.1) in
+        absurd (false≢true (sym other ∙ t)))
+    | inr differ ↦ differ ∙ sym other
+  ]
+]
+
+module _ {K : Type 0} (bytes : K → List ℕ) where
+  others : (test : K → Bool) (old new : List (K × ℕ)) → KeepsOthers (eq_by_cmp (λ x y. slice_cmp nat_cmp (bytes x) (bytes y))) test old new
+      → (other : K → Bool) → IsKeyTest (eq_by_cmp (λ x y. slice_cmp nat_cmp (bytes x) (bytes y))) other → AreApart test other → lookup other new ≡ lookup other old
+  unfolding KeepsOthers
+  others test old new h = h
+
+  apart : (bs cs : List ℕ) (k : K) → bytes_eq bs cs ≡ false → is_eq (slice_cmp nat_cmp bs (bytes k)) ≡ true → is_eq (slice_cmp nat_cmp cs (bytes k)) ≡ false
+  apart bs cs k differ there = is_eq-slice_cmp cs (bytes k) ∙ (elim (cases_Bool (bytes_eq cs (bytes k))) [
+    | inl same ↦ (let b : bs ≡ bytes k = (bytes_eq-Decides bs (bytes k)).0 (sym (is_eq-slice_cmp bs (bytes k)) ∙ there) in
+        let c : cs ≡ bytes k = (bytes_eq-Decides cs (bytes k)).0 same in
+        absurd (false≢true (sym differ ∙ (bytes_eq-Decides bs cs).1 (b ∙ sym c))))
+    | inr other ↦ other
+  ])
+
+  pub names_after : (m n : BTreeMap K ℕ) (bs : List ℕ) (w : Option ℕ) → UpdatesBy (λ x y. slice_cmp nat_cmp (bytes x) (bytes y)) (λ k. slice_cmp nat_cmp bs (bytes k)) m n w
+      → (cs : List ℕ) → cookie_at bytes n.entries cs ≡ cond (bytes_eq bs cs) w (cookie_at bytes m.entries cs)
+  names_after m n bs w h cs = elim (cases_Bool (bytes_eq bs cs)) [
+    | inl same ↦ rw same (ap (cookie_at bytes n.entries) (sym ((bytes_eq-Decides bs cs).0 same)) ∙ h.1)
+    | inr other ↦ rw other (others (is_at (λ k. slice_cmp nat_cmp bs (bytes k))) m.entries n.entries h.3 (is_at (λ k. slice_cmp nat_cmp cs (bytes k)))
+        (λ x y. (eq_by_cmp_equiv nat_list_cmp_total).congr cs (bytes x) (bytes y)) (λ k. apart bs cs k other))
+  ]

@@ -1,0 +1,306 @@
+-- What changes of the maps make of the list of rows.
+use Rattle.std.proofs.Common.{◌≡◌, ◌≢◌, ℕ, ◌<◌, ◌≤◌, ◌+◌, ◌^◌, suc, Bool, true, false, cond, not, List, [], ◌∷◌, ◌++◌, map, length, Option, Some, None, refl, sym, ◌∙◌, ap, arith, subst, inl, inr}
+use Rattle.std.specs.Prelude.{◌==◌, ◌&&◌, if◌then◌else◌, filter, find, option_map, bytes_eq, nat_lt}
+use Rattle.std.specs.declared.cmp.Ordering.TheVariants.{Greater}
+use Rattle.std.specs.Ordering.{nat_cmp}
+use Rattle.std.specs.BTreeMap.{is_at, insert_entry}
+use Rattle.std.specs.Map.{lookup, remove_entry, values_of}
+use Rattle.std.proofs.lemmas.Bool.{cases_Bool, eq-eqb, ne_eqb, eqb-true, and_parts, false≢true}
+use Rattle.std.proofs.lemmas.Bool.Decides.{nat_tests}
+use Rattle.std.proofs.lemmas.Slice.Eq.{bytes_eq-Decides}
+use Rattle.nfs_xdr.specs.Tables.{IsRising, In, record_at, without_record}
+use Rattle.nfs_xdr.proofs.Lists.{in_filter, in_push, find_in, none_in, find_none, find_kept, find_past, find_out, find_push, find_push_other, filter_in, filter_all, some_or_none}
+use Rattle.nfs_xdr.proofs.Tables.{IsRising-below, IsRising-push, IsRising-filter, in_bounds, in_once, at_of_in, at_above, at_below, without_none}
+use Rattle.nfs_tree.specs.declared.row.Row.{Row}
+use Rattle.nfs_tree.specs.Files.{most_name, is_entry, entry, without_entry, listed, listing}
+use Rattle.nfs_tree.specs.Maps.{by_cookie, key_of, AreNamed, ArePairs}
+use Rattle.nfs_tree.proofs.KeyLemmas.{key_same}
+use Rattle.nfs_tree.proofs.PairLemmas.{row_pair}
+use Rattle.nfs_tree.proofs.RowsKept.{entry_parts, entry_self, found_put, either}
+
+abbrev pub cookie : Row → ℕ
+cookie r = r.cookie
+
+-- ---- rows under their cookies
+at_cookie : (c k : ℕ) → is_at (nat_cmp c) k ≡ (k == c)
+at_cookie c k = grind (arith, nat_tests)
+
+behind : (c k : ℕ) → k < c → nat_cmp c k ≡ Greater
+behind c k lt = grind (arith, nat_tests)
+
+values_by : (rows : List Row) → values_of (by_cookie rows) ≡ rows
+values_by [] = refl
+values_by (r ∷ rs) = ap (λ xs. r ∷ xs) (values_by rs)
+
+pub find_row : (rows : List Row) (c : ℕ) → lookup (is_at (nat_cmp c)) (by_cookie rows) ≡ record_at cookie rows c
+find_row [] c = refl
+find_row (r ∷ rs) c = rw (at_cookie c r.cookie, find_row rs c) refl
+
+put_row : (low : ℕ) (rows : List Row) (r : Row) → IsRising cookie low rows r.cookie → insert_entry nat_cmp (by_cookie rows) r.cookie r ≡ by_cookie (rows ++ r ∷ [])
+put_row low [] r rise = refl
+put_row low (x ∷ xs) r rise =
+    let up : suc x.cookie ≤ r.cookie = IsRising-below cookie (suc x.cookie) r.cookie xs rise.1 in
+    rw (behind r.cookie x.cookie (omega arith), put_row (suc x.cookie) xs r rise.1) refl
+
+take_row : (low high : ℕ) (rows : List Row) (c : ℕ) → IsRising cookie low rows high → remove_entry (is_at (nat_cmp c)) (by_cookie rows) ≡ by_cookie (without_record cookie rows c)
+take_row low high [] c rise = refl
+take_row low high (r ∷ rs) c rise = elim (cases_Bool (r.cookie == c)) [
+  | inl here ↦ (let same : r.cookie ≡ c = eqb-true r.cookie c here in
+      rw (at_cookie c r.cookie, here) (ap by_cookie (sym (without_none cookie c rs (at_below cookie (suc r.cookie) high c rs rise.1 (omega arith))))))
+  | inr other ↦ rw (at_cookie c r.cookie, other) (ap (λ es. (r.cookie, r) ∷ es) (take_row (suc r.cookie) high rs c rise.1))
+]
+
+-- what lies so is so keyed, and is these rows
+pub record Lie (es : List (ℕ × Row)) (rows : List Row) : Type 0 where
+  pub keyed : es ≡ by_cookie (values_of es)
+  pub view : values_of es ≡ rows
+
+lie_so : (es : List (ℕ × Row)) (rows : List Row) → es ≡ by_cookie rows → Lie es rows
+lie_so es rows e = let view : values_of es ≡ rows = ap values_of e ∙ values_by rows in record { keyed = e ∙ ap by_cookie (sym view); view = view }
+
+pub lie_put : (es fs : List (ℕ × Row)) (r : Row) → es ≡ by_cookie (values_of es) → IsRising cookie 3 (values_of es) r.cookie → fs ≡ insert_entry nat_cmp es r.cookie r → Lie fs (values_of es ++ r ∷ [])
+lie_put es fs r keyed rise put = lie_so fs (values_of es ++ r ∷ []) (put ∙ ap (λ es. insert_entry nat_cmp es r.cookie r) keyed ∙ put_row 3 (values_of es) r rise)
+
+pub lie_gone : (es fs : List (ℕ × Row)) (low high c : ℕ) → es ≡ by_cookie (values_of es) → IsRising cookie low (values_of es) high → fs ≡ remove_entry (is_at (nat_cmp c)) es → Lie fs (without_record cookie (values_of es) c)
+lie_gone es fs low high c keyed rise gone = lie_so fs (without_record cookie (values_of es) c) (gone ∙ ap (remove_entry (is_at (nat_cmp c))) keyed ∙ take_row low high (values_of es) c rise)
+
+pub find_keyed : (es : List (ℕ × Row)) (c : ℕ) → es ≡ by_cookie (values_of es) → lookup (is_at (nat_cmp c)) es ≡ record_at cookie (values_of es) c
+find_keyed es c keyed = ap (lookup (is_at (nat_cmp c))) keyed ∙ find_row (values_of es) c
+
+-- ---- rows by their names
+module _ (rows : List Row) (at : List ℕ → Option ℕ) (are : AreNamed rows at) where
+  only : (d : ℕ) (name : List ℕ) (x : Row) → In x rows → is_entry d name x ≡ true → entry rows d name ≡ Some x
+  only d name x there is =
+      let parts = entry_parts d name x is in
+      ap (λ d. entry rows d name) (sym parts.0) ∙ ap (entry rows x.directory) (sym parts.1) ∙ are.found x there
+
+  pub named_row : (d c : ℕ) (name : List ℕ) → d < 2 ^ 64 → at (key_of d name) ≡ Some c → record_at cookie rows c ≡ entry rows d name
+  named_row d c name few e = elim (some_or_none (entry rows d name)) [
+    | inl found ↦ (let both : Some c ≡ Some (cookie found.0) = sym e ∙ are.names d name few ∙ ap (option_map cookie) found.1 in
+        let same : c ≡ cookie found.0 = cc in
+        ap (record_at cookie rows) same ∙ at_of_in cookie 3 are.high rows found.0 are.rising (find_in (is_entry d name) rows found.0 found.1).0 ∙ sym found.1)
+    | inr none ↦ absurd (let bad : Some c ≡ None = sym e ∙ are.names d name few ∙ ap (option_map cookie) none in cc)
+  ]
+
+  pub named_none : (d : ℕ) (name : List ℕ) → d < 2 ^ 64 → at (key_of d name) ≡ None → entry rows d name ≡ None
+  named_none d name few e = elim (some_or_none (entry rows d name)) [
+    | inl found ↦ absurd (let bad : None ≡ Some (cookie found.0) = sym e ∙ are.names d name few ∙ ap (option_map cookie) found.1 in cc)
+    | inr none ↦ none
+  ]
+
+  pub too_long : (d : ℕ) (name : List ℕ) → most_name < length name → entry rows d name ≡ None
+  too_long d name long = elim (some_or_none (entry rows d name)) [
+    | inl found ↦ (let is = find_in (is_entry d name) rows found.0 found.1 in
+        let same : length found.0.name ≡ length name = ap length (entry_parts d name found.0 is.1).1 in
+        let short = are.short found.0 is.0 in
+        absurd (omega arith))
+    | inr none ↦ none
+  ]
+
+  pub short_name : (d : ℕ) (name : List ℕ) (x : Row) → entry rows d name ≡ Some x → length name ≤ most_name
+  short_name d name x found =
+      let is = find_in (is_entry d name) rows x found in
+      let same : length x.name ≡ length name = ap length (entry_parts d name x is.1).1 in
+      let short = are.short x is.0 in
+      omega arith
+
+  -- the row of a name goes where that of its cookie does
+  pub gone_same : (d : ℕ) (name : List ℕ) (x : Row) → entry rows d name ≡ Some x → without_record cookie rows x.cookie ≡ without_entry d name rows
+  gone_same d name x found = filter_in (λ y. not (y.cookie == x.cookie)) (λ y. not (is_entry d name y)) rows (λ y there. ap not (same y there))
+    where
+      same : (y : Row) → In y rows → (y.cookie == x.cookie) ≡ is_entry d name y
+      same y there = elim (cases_Bool (is_entry d name y)) [
+        | inl is ↦ (let both : Some y ≡ Some x = sym (only d name y there is) ∙ found in let one : y ≡ x = cc in eq-eqb y.cookie x.cookie (ap cookie one) ∙ sym is)
+        | inr off ↦ elim (cases_Bool (y.cookie == x.cookie)) [
+          | inl one ↦ (let is = find_in (is_entry d name) rows x found in
+              let both : y ≡ x = in_once cookie 3 are.high rows y x are.rising there is.0 (eqb-true y.cookie x.cookie one) in
+              absurd (false≢true (sym off ∙ ap (is_entry d name) both ∙ is.1)))
+          | inr other ↦ other ∙ sym off
+        ]
+      ]
+
+  kept_names : (d : ℕ) (name : List ℕ) (e : ℕ) (other : List ℕ)
+      → cond ((d == e) && bytes_eq name other) None (option_map cookie (entry rows e other)) ≡ option_map cookie (entry (without_entry d name rows) e other)
+  kept_names d name e other = elim (cases_Bool ((d == e) && bytes_eq name other)) [
+    | inl same ↦ rw same (ap (option_map cookie) (sym (find_out (is_entry e other) (λ r. not (is_entry d name r)) rows (λ r here. ap not (as_well r same here)))))
+    | inr differ ↦ rw differ (ap (option_map cookie) (sym (find_past (is_entry e other) (λ r. not (is_entry d name r)) rows (λ r here. stays r differ here))))
+  ]
+    where
+      as_well : (r : Row) → ((d == e) && bytes_eq name other) ≡ true → is_entry e other r ≡ true → is_entry d name r ≡ true
+      as_well r same here =
+          let parts = and_parts (d == e) (bytes_eq name other) same in
+          let de : d ≡ e = eqb-true d e parts.0 in
+          let ne : name ≡ other = (bytes_eq-Decides name other).0 parts.1 in
+          ap (λ d. is_entry d name r) de ∙ ap (λ name. is_entry e name r) ne ∙ here
+
+      stays : (r : Row) → ((d == e) && bytes_eq name other) ≡ false → is_entry e other r ≡ true → not (is_entry d name r) ≡ true
+      stays r differ here = elim (cases_Bool (is_entry d name r)) [
+        | inl is ↦ (let a = entry_parts d name r is in let b = entry_parts e other r here in
+            let t : ((d == e) && bytes_eq name other) ≡ true = rw (eq-eqb d e (sym a.0 ∙ b.0)) ((bytes_eq-Decides name other).1 (sym a.1 ∙ b.1)) in
+            absurd (false≢true (sym differ ∙ t)))
+        | inr off ↦ ap not off
+      ]
+
+  pub named_gone : (bt : List ℕ → Option ℕ) (d : ℕ) (name : List ℕ) → d < 2 ^ 64
+      → ((cs : List ℕ) → bt cs ≡ cond (bytes_eq (key_of d name) cs) None (at cs)) → AreNamed (without_entry d name rows) bt
+  named_gone bt d name few gone =
+      let test = λ (r : Row). not (is_entry d name r) in
+      let old = in_filter test rows in
+      record {
+        high = are.high;
+        rising = IsRising-filter cookie test 3 are.high rows are.rising;
+        short = λ r is. are.short r (old r is).0;
+        few = λ r is. are.few r (old r is).0;
+        found = λ r is. let was = old r is in find_kept (is_entry r.directory r.name) test rows r (are.found r was.0) was.1;
+        names = λ e other lt. gone (key_of e other)
+            ∙ ap (λ b. cond b None (at (key_of e other))) (key_same d e name other few lt)
+            ∙ ap (cond ((d == e) && bytes_eq name other) None) (are.names e other lt)
+            ∙ kept_names d name e other;
+      }
+
+  pub named_put : (bt : List ℕ → Option ℕ) (r : Row) → IsRising cookie 3 rows r.cookie → entry rows r.directory r.name ≡ None → length r.name ≤ most_name
+      → (r.directory < 2 ^ 64) × (r.cookie < 2 ^ 64)
+      → ((cs : List ℕ) → bt cs ≡ cond (bytes_eq (key_of r.directory r.name) cs) (Some r.cookie) (at cs)) → AreNamed (rows ++ r ∷ []) bt
+  named_put bt r rise vacant short few put =
+      record {
+        high = r.cookie + 1;
+        rising = IsRising-push cookie 3 r.cookie (r.cookie + 1) rows r refl refl rise;
+        short = λ x is. either {P = λ (x : Row). length x.name ≤ most_name} r x rows short are.short (in_push rows r x is);
+        few = λ x is. either {P = λ (x : Row). (x.directory < 2 ^ 64) × (x.cookie < 2 ^ 64)} r x rows few are.few (in_push rows r x is);
+        found = λ x is. found_put rows r x vacant are.found (in_push rows r x is);
+        names = λ d name lt. put (key_of d name)
+            ∙ ap (λ b. cond b (Some r.cookie) (at (key_of d name))) (key_same r.directory d r.name name few.0 lt)
+            ∙ ap (cond (is_entry d name r) (Some r.cookie)) (are.names d name lt)
+            ∙ seen d name;
+      }
+    where
+      seen : (d : ℕ) (name : List ℕ) → cond (is_entry d name r) (Some r.cookie) (option_map cookie (entry rows d name)) ≡ option_map cookie (entry (rows ++ r ∷ []) d name)
+      seen d name = elim (cases_Bool (is_entry d name r)) [
+        | inl here ↦ (let a = entry_parts d name r here in
+            let none : entry rows d name ≡ None = ap (λ d. entry rows d name) (sym a.0) ∙ ap (entry rows r.directory) (sym a.1) ∙ vacant in
+            rw (here, find_push (is_entry d name) rows r none, here) refl)
+        | inr off ↦ rw (off, find_push_other (is_entry d name) rows r off) refl
+      ]
+
+twice : (b : Bool) (n : ℕ) (o : Option ℕ) → cond b (Some n) o ≡ cond b (Some n) (cond b None o)
+twice true n o = refl
+twice false n o = refl
+
+-- a row comes, and one that had its name goes
+pub named_over : (rows : List Row) (at bt : List ℕ → Option ℕ) (r : Row) → AreNamed rows at → IsRising cookie 3 rows r.cookie → length r.name ≤ most_name
+    → (r.directory < 2 ^ 64) × (r.cookie < 2 ^ 64)
+    → ((cs : List ℕ) → bt cs ≡ cond (bytes_eq (key_of r.directory r.name) cs) (Some r.cookie) (at cs)) → AreNamed (without_entry r.directory r.name rows ++ r ∷ []) bt
+named_over rows at bt r are rise short few put =
+    let key = key_of r.directory r.name in
+    let less = without_entry r.directory r.name rows in
+    let mid : List ℕ → Option ℕ = λ cs. cond (bytes_eq key cs) None (at cs) in
+    named_put less mid (named_gone rows at are mid r.directory r.name few.0 (λ cs. refl)) bt r
+    (IsRising-filter cookie (λ x. not (is_entry r.directory r.name x)) 3 r.cookie rows rise)
+    (find_out (is_entry r.directory r.name) (λ x. not (is_entry r.directory r.name x)) rows (λ x here. ap not here))
+    short few (λ cs. put cs ∙ twice (bytes_eq key cs) r.cookie (at cs))
+
+pub none_gone : (rows : List Row) (d : ℕ) (name : List ℕ) → entry rows d name ≡ None → without_entry d name rows ≡ rows
+none_gone rows d name none = filter_all (λ r. not (is_entry d name r)) rows (λ r there. ap not (none_in (is_entry d name) rows r none there))
+
+filter_push : (p : Row → Bool) (rows : List Row) (r : Row) → p r ≡ true → filter p (rows ++ r ∷ []) ≡ filter p rows ++ r ∷ []
+filter_push p [] r passes = rw passes refl
+filter_push p (x ∷ xs) r passes = elim (cases_Bool (p x)) [ inl here ↦ rw here (ap (λ ys. x ∷ ys) (filter_push p xs r passes)) | inr off ↦ rw off (filter_push p xs r passes) ]
+
+-- behind the row that came
+pub gone_before : (rows : List Row) (at : List ℕ → Option ℕ) (r x : Row) → AreNamed rows at → IsRising cookie 3 rows r.cookie → entry rows r.directory r.name ≡ Some x
+    → without_record cookie (rows ++ r ∷ []) x.cookie ≡ without_entry r.directory r.name rows ++ r ∷ []
+gone_before rows at r x are rise found =
+    let lower : x.cookie < r.cookie = (in_bounds cookie 3 r.cookie rows x rise (find_in (is_entry r.directory r.name) rows x found).0).1 in
+    filter_push (λ y. not (y.cookie == x.cookie)) rows r (ap not (ne_eqb r.cookie x.cookie (λ same. absurd (omega arith))))
+    ∙ ap (λ ys. ys ++ r ∷ []) (gone_same rows at are r.directory r.name x found)
+
+-- another entry goes behind the row that came
+pub gone_push : (d : ℕ) (name : List ℕ) (rows : List Row) (r : Row) → is_entry d name r ≡ false → without_entry d name (rows ++ r ∷ []) ≡ without_entry d name rows ++ r ∷ []
+gone_push d name rows r other = filter_push (λ x. not (is_entry d name x)) rows r (ap not other)
+
+-- the row that came goes again
+pub put_back : (d : ℕ) (name : List ℕ) (rows : List Row) (r : Row) → is_entry d name r ≡ true → entry rows d name ≡ None → without_entry d name (rows ++ r ∷ []) ≡ rows
+put_back d name rows r is none = last rows ∙ none_gone rows d name none
+  where
+    last : (xs : List Row) → without_entry d name (xs ++ r ∷ []) ≡ without_entry d name xs
+    last [] = rw is refl
+    last (x ∷ xs) = elim (cases_Bool (is_entry d name x)) [ inl here ↦ rw here (last xs) | inr off ↦ rw off (ap (λ ys. x ∷ ys) (last xs)) ]
+
+-- ---- a listing
+abbrev is_behind : ℕ → ℕ → Row → Bool
+is_behind d k r = (r.directory == d) && nat_lt k r.cookie
+
+filter_none : (p : Row → Bool) (xs : List Row) → ((x : Row) → In x xs → p x ≡ false) → filter p xs ≡ []
+filter_none p [] off = refl
+filter_none p (x ∷ xs) off = rw (off x (inl refl)) (filter_none p xs (λ y there. off y (inr there)))
+
+nat_above : (k n : ℕ) → nat_lt k n ≡ true → k < n
+nat_above k n e = grind (arith, nat_tests)
+
+above_nat : (k n : ℕ) → k < n → nat_lt k n ≡ true
+above_nat k n lt = grind (arith, nat_tests)
+
+not_above : (k n : ℕ) → n ≤ k → nat_lt k n ≡ false
+not_above k n le = grind (arith, nat_tests)
+
+pub listing_none : (rows : List Row) (has : ℕ × ℕ → Bool) (d k : ℕ) → ArePairs (λ (r : Row). r.directory) rows has → ((c : ℕ) → k + 1 ≤ c → has (d, c) ≡ false) → listing rows d k ≡ []
+listing_none rows has d k are none = ap (map listed) (filter_none (is_behind d k) rows off)
+  where
+    off : (x : Row) → In x rows → is_behind d k x ≡ false
+    off x there = elim (cases_Bool (is_behind d k x)) [
+      | inl here ↦ (let parts = and_parts (x.directory == d) (nat_lt k x.cookie) here in
+          let up : k < x.cookie = nat_above k x.cookie parts.1 in
+          absurd (false≢true (sym (none x.cookie (omega arith)) ∙ ap (λ d. has (d, x.cookie)) (sym (eqb-true x.directory d parts.0)) ∙ row_pair (λ (r : Row). r.directory) rows has x are there)))
+      | inr other ↦ other
+    ]
+
+pub listing_end : (rows : List Row) (at : List ℕ → Option ℕ) (d k : ℕ) → AreNamed rows at → k + 1 ≡ 2 ^ 64 → listing rows d k ≡ []
+listing_end rows at d k are top = ap (map listed) (filter_none (is_behind d k) rows off)
+  where
+    off : (x : Row) → In x rows → is_behind d k x ≡ false
+    off x there = elim (cases_Bool (is_behind d k x)) [
+      | inl here ↦ (let up : k < x.cookie = nat_above k x.cookie (and_parts (x.directory == d) (nat_lt k x.cookie) here).1 in let few = (are.few x there).1 in absurd (omega arith))
+      | inr other ↦ other
+    ]
+
+next_behind : (d k low high : ℕ) (rows : List Row) (x : Row) → IsRising cookie low rows high → In x rows → x.directory ≡ d → k < x.cookie
+    → ((y : Row) → In y rows → y.directory ≡ d → k < y.cookie → x.cookie ≤ y.cookie) → filter (is_behind d k) rows ≡ x ∷ filter (is_behind d x.cookie) rows
+next_behind d k low high [] x rise there at up least = absurd there
+next_behind d k low high (y ∷ ys) x rise (inl is) at up least =
+    let here : is_behind d k x ≡ true = rw (eq-eqb x.directory d at, above_nat k x.cookie up) refl in
+    let past : is_behind d x.cookie x ≡ false = rw (eq-eqb x.directory d at, not_above x.cookie x.cookie (omega arith)) refl in
+    let rest = filter_in (is_behind d k) (is_behind d x.cookie) ys (λ z there. (
+    let above = (in_bounds cookie (suc y.cookie) high ys z rise.1 there).0 in
+    let same : cookie x ≡ cookie y = ap cookie is in
+    let a : nat_lt k z.cookie ≡ true = above_nat k z.cookie (omega arith) in
+    let b : nat_lt x.cookie z.cookie ≡ true = above_nat x.cookie z.cookie (omega arith) in
+    rw (a, b) refl)) in
+    rw (← is, here, past) (ap (λ zs. x ∷ zs) rest)
+next_behind d k low high (y ∷ ys) x rise (inr more) at up least =
+    let above = (in_bounds cookie (suc y.cookie) high ys x rise.1 more).0 in
+    let rest = next_behind d k (suc y.cookie) high ys x rise.1 more at up (λ z there. least z (inr there)) in
+    let off : is_behind d k y ≡ false = elim (cases_Bool (is_behind d k y)) [
+      | inl here ↦ (let parts = and_parts (y.directory == d) (nat_lt k y.cookie) here in
+          let le = least y (inl refl) (eqb-true y.directory d parts.0) (nat_above k y.cookie parts.1) in absurd (omega arith))
+      | inr other ↦ other
+    ] in
+    let past : is_behind d x.cookie y ≡ false = elim (cases_Bool (is_behind d x.cookie y)) [
+      | inl here ↦ (let low = nat_above x.cookie y.cookie (and_parts (y.directory == d) (nat_lt x.cookie y.cookie) here).1 in absurd (omega arith))
+      | inr other ↦ other
+    ] in
+    rw (off, past) rest
+
+pub listing_next : (rows : List Row) (at : List ℕ → Option ℕ) (has : ℕ × ℕ → Bool) (d k : ℕ) (x : Row) → AreNamed rows at → ArePairs (λ (r : Row). r.directory) rows has
+    → In x rows → x.directory ≡ d → k + 1 ≤ x.cookie → ((c : ℕ) → k + 1 ≤ c → has (d, c) ≡ true → x.cookie ≤ c) → listing rows d k ≡ listed x ∷ listing rows d x.cookie
+listing_next rows at has d k x named are there stands up least =
+    ap (map listed) (next_behind d k 3 named.high rows x named.rising there stands (omega arith)
+    (λ y in_rows in_d above. least y.cookie (omega arith) (ap (λ d. has (d, y.cookie)) (sym in_d) ∙ row_pair (λ (r : Row). r.directory) rows has y are in_rows)))
+
+-- ---- the cookie of an entry
+pub some_cookie : (o : Option Row) (c : ℕ) → option_map cookie o ≡ Some c → (x : Row) × (o ≡ Some x) × (x.cookie ≡ c)
+some_cookie (Some x) c e = (x, refl, cc)
+some_cookie None c e = absurd cc
+
+pub none_cookie : (o : Option Row) → option_map cookie o ≡ None → o ≡ None
+none_cookie (Some x) e = absurd cc
+none_cookie None e = refl

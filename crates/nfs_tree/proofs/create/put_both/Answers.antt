@@ -1,0 +1,12 @@
+use Rattle.std.proofs.Common.{◌∙◌, ap}
+use Rattle.nfs_tree.specs.declared.row.Row.{Row}
+use Rattle.nfs_tree.specs.Files.{without_entry}
+use Rattle.nfs_tree.proofs.RowsKept.{entry_self}
+use Rattle.nfs_tree.proofs.MapLemmas.{put_back}
+use Rattle.nfs_tree.proofs.create.put_both.Goals as goal
+
+pub returns-in-Err-clause-err_rows : goal.returns-in-Err-clause-err_rows
+returns-in-Err-clause-err_rows c =
+    let row : Row = record { directory = c.args.directory; name = c.args.name.now; object = c.args.stored.number; cookie = c.args.cookie } in
+    c.drop_entry.ensures ∙ ap (without_entry c.args.directory c.args.name.now) c.in_ok-put_new.ensures.ok
+    ∙ put_back c.args.directory c.args.name.now c.args.rows.now row (entry_self row) c.requires.vacant

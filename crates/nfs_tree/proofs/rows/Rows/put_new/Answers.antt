@@ -1,0 +1,10 @@
+use Rattle.std.proofs.Common.{◌∙◌, ap}
+use Rattle.std.proofs.lemmas.Result.{on_ok_weaker}
+use Rattle.nfs_tree.specs.Names.{with_row}
+use Rattle.nfs_tree.proofs.MapLemmas.{none_gone}
+use Rattle.nfs_tree.proofs.rows.Rows.put_new.Goals as goal
+
+pub returns-clause-ok : goal.returns-clause-ok
+returns-clause-ok c = on_ok_weaker c.put.result
+    (λ e. e ∙ ap (λ rows. with_row rows c.args.directory c.args.name.now c.args.object c.args.cookie) (none_gone c.args.self.now c.args.directory c.args.name.now c.requires.vacant))
+    c.put.ensures.ok

@@ -1,0 +1,53 @@
+-- How rows lie in ordered maps: by their cookies, and the cookies by name and by directory.
+use Rattle.std.specs.Prelude.{◌≡◌, ℕ, ◌<◌, ◌≤◌, ◌^◌, ◌==◌, Bool, ◌&&◌, List, ◌++◌, length, Option, Some, map, option_map, is_some}
+use Rattle.std.specs.Int.{to_be_bytes, w64}
+use Rattle.std.specs.List.{list_any}
+use Rattle.std.specs.Ordering.{nat_cmp, ordering_then}
+use Rattle.std.specs.declared.cmp.Ordering.{Ordering}
+use Rattle.std.specs.Cmp.Lexicographic.{slice_cmp}
+use Rattle.std.specs.BTreeMap.{is_at}
+use Rattle.std.specs.Map.{lookup, values_of}
+use Rattle.nfs_xdr.specs.Tables.{IsRising, In}
+use Rattle.nfs_tree.specs.declared.row.Row.{Row}
+use Rattle.nfs_tree.specs.Files.{most_name, entry}
+
+-- rows under their cookies
+abbrev pub by_cookie : List Row → List (ℕ × Row)
+by_cookie rows = map (λ r. (r.cookie, r)) rows
+
+-- a directory's number and a name, in one
+abbrev pub key_of : ℕ → List ℕ → List ℕ
+key_of d name = to_be_bytes w64 d ++ name
+
+-- what stands at a key of these bytes
+abbrev pub cookie_at : {K : Type 0} → (K → List ℕ) → List (K × ℕ) → List ℕ → Option ℕ
+cookie_at bytes names q = lookup (is_at (λ k. slice_cmp nat_cmp q (bytes k))) names
+
+abbrev pub pair_cmp : ℕ × ℕ → ℕ × ℕ → Ordering
+pair_cmp x y = ordering_then (nat_cmp x.0 y.0) (nat_cmp x.1 y.1)
+
+abbrev pub has_pair : List ((ℕ × ℕ) × Unit {0}) → ℕ × ℕ → Bool
+has_pair pairs q = is_some (lookup (is_at (pair_cmp q)) pairs)
+
+-- a row of this number and this cookie
+abbrev pub is_pair : (Row → ℕ) → ℕ × ℕ → Row → Bool
+is_pair of q r = (of r == q.0) && (r.cookie == q.1)
+
+-- there is a pair for each row, and no other
+abbrev pub ArePairs : (Row → ℕ) → List Row → (ℕ × ℕ → Bool) → Type 0
+ArePairs of rows has = (q : ℕ × ℕ) → has q ≡ list_any (is_pair of q) rows
+
+-- rows in rising order of their cookies, each the one found under its name, and the cookies found by name
+pub record AreNamed (rows : List Row) (at : List ℕ → Option ℕ) : Type 0 where
+  pub high : ℕ
+  pub rising : IsRising (λ (r : Row). r.cookie) 3 rows high
+  pub short : (r : Row) → In r rows → length r.name ≤ most_name
+  pub few : (r : Row) → In r rows → (r.directory < 2 ^ 64) × (r.cookie < 2 ^ 64)
+  pub found : (r : Row) → In r rows → entry rows r.directory r.name ≡ Some r
+  pub names : (d : ℕ) (name : List ℕ) → d < 2 ^ 64 → at (key_of d name) ≡ option_map (λ r. r.cookie) (entry rows d name)
+
+-- the rows, the map of names and that of pairs
+pub record AreMapped {K : Type 0} (bytes : K → List ℕ) (es : List (ℕ × Row)) (ns : List (K × ℕ)) (ls : List ((ℕ × ℕ) × Unit {0})) : Type 0 where
+  pub keyed : es ≡ by_cookie (values_of es)
+  pub named : AreNamed (values_of es) (cookie_at bytes ns)
+  pub listed : ArePairs (λ (r : Row). r.directory) (values_of es) (has_pair ls)

@@ -1,0 +1,270 @@
+//! The rows of all directories, found by name, and in each directory by cookie.
+
+ghost use Rattle.std.specs.Prelude.{◌≡◌, ℕ, ◌≤◌, [], ◌∷◌, length, OnOk, OnErr, IfSome, IfNone, IsSome, None, Some, cond, option_copied, option_map};
+ghost use Rattle.std.specs.Ordering.{nat_cmp};
+ghost use Rattle.std.specs.Cmp.Lexicographic.{slice_cmp};
+ghost use Rattle.std.specs.BTreeMap.{insert_entry, get, is_at, Updates, UpdatesBy};
+ghost use Rattle.std.specs.Map.{remove_entry};
+ghost use Rattle.nfs_xdr.specs.Tables.{IsRising};
+ghost use Rattle.nfs_tree.specs.Files.{entry, parent_in, links_in, has_row, has_entries, listing, listed, without_entry, most_name};
+ghost use Rattle.nfs_tree.specs.Maps.{key_of, pair_cmp};
+ghost use Rattle.nfs_tree.specs.Names.{with_row};
+
+use crate::name::Name;
+use crate::row::Row;
+use crate::spelled::Spelled;
+use crate::tree::Tree;
+use std::alloc::{AllocError, Global};
+use std::collections::BTreeMap;
+use std::collections::btree_map::Entry;
+use std::marker::Model;
+
+/// The rows of all directories. Contracts see the list of them, in rising order of their cookies.
+#[derive(Drop)]
+pub(crate) struct Rows {
+    /// Each under its cookie.
+    rows: BTreeMap<u64, Row, Global>,
+    /// The cookie of each, under its directory and its name, as `Spelled` spells them.
+    names: BTreeMap<Vec<u8>, u64, Global>,
+    /// The directory and the cookie of each.
+    listed: BTreeMap<(u64, u64), (), Global>,
+}
+
+impl Model for Rows {
+    ghost use Rattle.std.specs.Prelude.{List};
+    ghost use Rattle.std.specs.Map.{values_of};
+    ghost use Rattle.nfs_tree.specs.declared.row.Row.{Row};
+    ghost use Rattle.nfs_tree.specs.Maps.{AreMapped};
+
+    ghost Value = { List Row };
+
+    ghost view = { λ t. values_of t.rows.entries };
+
+    ghost invariant = { λ t. AreMapped (λ k. k.items) t.rows.entries t.names.entries t.listed.entries };
+}
+
+impl Rows {
+    /// No rows. What comes later grows by `alloc`.
+    pub(crate) fn new(alloc: Global) -> Rows
+        ensures { result ≡ [] }
+    {
+        Rows {
+            rows: BTreeMap::new(alloc),
+            names: BTreeMap::new(alloc),
+            listed: BTreeMap::new(alloc),
+        }
+    }
+
+    pub(crate) fn len(&self) -> usize
+        ensures { result ≡ length self.now }
+    {
+        self.rows.len()
+    }
+
+    /// The row of a name in a directory.
+    pub(crate) fn entry(&self, directory: u64, name: &[u8]) -> Option<&Row>
+        ensures { option_copied result ≡ entry self.now directory name.now }
+    {
+        let names = &self.names;
+        if name.len() > Tree::MAX_NAME {
+            return None;
+        }
+        let spelled = Spelled::new(directory, name);
+        match names.get(spelled.as_slice()) {
+            None => None,
+            Some(cookie) => self.rows.get(cookie),
+        }
+    }
+
+    /// The first row of a directory behind a cookie.
+    pub(crate) fn after(&self, directory: u64, cookie: u64) -> Option<&Row>
+        ensures none { IfNone result (listing self.now directory cookie ≡ []) }
+        ensures some { IfSome result (λ r. listing self.now directory cookie ≡ listed r.now ∷ listing self.now directory r.now.cookie) }
+    {
+        let listed = &self.listed;
+        if cookie == u64::MAX {
+            return None;
+        }
+        match first_from(listed, directory, cookie + 1) {
+            None => None,
+            Some(next) => match self.rows.get(&next) {
+                None => None,
+                Some(row) => Some(row),
+            },
+        }
+    }
+
+    /// Whether a row stands in the directory.
+    pub(crate) fn has_entries(&self, directory: u64) -> bool
+        ensures { result ≡ has_entries self.now directory }
+    {
+        match first_from(&self.listed, directory, 0) {
+            None => false,
+            Some(_) => true,
+        }
+    }
+
+    /// The directory of the first row that names the object.
+    pub(crate) fn parent_in(&self, object: u64) -> Option<u64>
+        ensures { result ≡ parent_in self.now object }
+    {
+        match self.rows.values().find(|r| r.object == object) {
+            Some(row) => Some(row.directory),
+            None => None,
+        }
+    }
+
+    /// How many rows name the object.
+    pub(crate) fn links_in(&self, object: u64) -> usize
+        ensures { result ≡ links_in self.now object }
+    {
+        self.rows.values().filter(|r| r.object == object).count()
+    }
+
+    /// Whether a row names the object.
+    pub(crate) fn has_row(&self, object: u64) -> bool
+        ensures { result ≡ has_row self.now object }
+    {
+        self.rows.values().any(|r| r.object == object)
+    }
+
+    /// The cookie of an entry.
+    fn cookie_of(&self, directory: u64, name: &[u8]) -> Option<u64>
+        ensures { result ≡ option_map (λ r. r.cookie) (entry self.now directory name.now) }
+    {
+        match self.entry(directory, name) {
+            None => None,
+            Some(row) => Some(row.cookie),
+        }
+    }
+
+    /// Puts an entry behind all rows; one that has the name goes.
+    pub(crate) fn put(
+        &mut self,
+        alloc: Global,
+        directory: u64,
+        name: &[u8],
+        object: u64,
+        cookie: u64,
+    ) -> Result<(), AllocError>
+        requires short { length name.now ≤ most_name }
+        requires last { IsRising (λ r. r.cookie) 3 self.old cookie }
+        ensures ok { OnOk result (self.new ≡ with_row (without_entry directory name.now self.old) directory name.now object cookie) }
+        ensures err { OnErr result (self.new ≡ self.old) }
+    {
+        let old = self.cookie_of(directory, name);
+        let spelled = Spelled::new(directory, name);
+        let key = Vec::from_slice(alloc, spelled.as_slice())?;
+        let name = Name::of(alloc, name)?;
+        let row = Row {
+            directory,
+            name,
+            object,
+            cookie,
+        };
+        add(&mut self.rows, &mut self.names, &mut self.listed, key, row)?;
+        if let Some(gone) = old {
+            take(&mut self.rows, &mut self.listed, directory, gone);
+        }
+        Ok(())
+    }
+
+    /// Puts an entry of a new name behind all rows.
+    pub(crate) fn put_new(
+        &mut self,
+        alloc: Global,
+        directory: u64,
+        name: &[u8],
+        object: u64,
+        cookie: u64,
+    ) -> Result<(), AllocError>
+        requires vacant { entry self.old directory name.now ≡ None }
+        requires short { length name.now ≤ most_name }
+        requires last { IsRising (λ r. r.cookie) 3 self.old cookie }
+        ensures ok { OnOk result (self.new ≡ with_row self.old directory name.now object cookie) }
+        ensures err { OnErr result (self.new ≡ self.old) }
+    {
+        self.put(alloc, directory, name, object, cookie)
+    }
+
+    /// Drops an entry.
+    pub(crate) fn drop_entry(&mut self, directory: u64, name: &[u8])
+        ensures { self.new ≡ without_entry directory name.now self.old }
+    {
+        if let Some(gone) = self.cookie_of(directory, name) {
+            take_name(&mut self.names, directory, name);
+            take(&mut self.rows, &mut self.listed, directory, gone);
+        }
+    }
+}
+
+/// The first number behind `number`, from `from` on.
+fn first_from(pairs: &BTreeMap<(u64, u64), (), Global>, number: u64, from: u64) -> Option<u64>
+    ensures none { IfNone result ((c : ℕ) → from ≤ c → get pair_cmp pairs.now (number, c) ≡ None) }
+    ensures there { IfSome result (λ c. IsSome (get pair_cmp pairs.now (number, c))) }
+    ensures from { IfSome result (λ c. from ≤ c) }
+    ensures least { IfSome result (λ c. (x : ℕ) → from ≤ x → IsSome (get pair_cmp pairs.now (number, x)) → c ≤ x) }
+{
+    let mut keys = pairs.range((number, from)..);
+    match keys.next() {
+        None => None,
+        Some((key, _)) => {
+            if key.0 == number {
+                Some(key.1)
+            } else {
+                None
+            }
+        }
+    }
+}
+
+/// Puts a row into the maps, or into none.
+fn add(
+    rows: &mut BTreeMap<u64, Row, Global>,
+    names: &mut BTreeMap<Vec<u8>, u64, Global>,
+    listed: &mut BTreeMap<(u64, u64), (), Global>,
+    key: Vec<u8>,
+    row: Row,
+) -> Result<(), AllocError>
+    requires new_row { get nat_cmp rows.old row.cookie ≡ None }
+    requires new_pair { get pair_cmp listed.old (row.directory, row.cookie) ≡ None }
+    ensures rows { OnOk result (rows.new.entries ≡ insert_entry nat_cmp rows.old.entries row.cookie row) }
+    ensures names { OnOk result (Updates (λ x y. slice_cmp nat_cmp x.items y.items) names.old names.new key (Some row.cookie)) }
+    ensures listed { OnOk result (listed.new.entries ≡ insert_entry pair_cmp listed.old.entries (row.directory, row.cookie) tt) }
+    ensures err_rows { OnErr result (rows.new.entries ≡ rows.old.entries) }
+    ensures err_names { OnErr result (names.new.entries ≡ names.old.entries) }
+    ensures err_listed { OnErr result (listed.new.entries ≡ listed.old.entries) }
+{
+    let cookie = row.cookie;
+    let Entry::Vacant(place) = rows.entry(cookie)? else {
+        return Ok(());
+    };
+    let Entry::Vacant(list_place) = listed.entry((row.directory, cookie))? else {
+        return Ok(());
+    };
+    names.insert(key, cookie)?;
+    list_place.insert(());
+    place.insert(row);
+    Ok(())
+}
+
+fn take_name(names: &mut BTreeMap<Vec<u8>, u64, Global>, directory: u64, name: &[u8])
+    requires { length name.now ≤ most_name }
+    ensures { UpdatesBy (λ x y. slice_cmp nat_cmp x.items y.items) (λ k. slice_cmp nat_cmp (key_of directory name.now) k.items) names.old names.new None }
+{
+    let spelled = Spelled::new(directory, name);
+    names.remove(spelled.as_slice());
+}
+
+fn take(
+    rows: &mut BTreeMap<u64, Row, Global>,
+    listed: &mut BTreeMap<(u64, u64), (), Global>,
+    directory: u64,
+    cookie: u64,
+)
+    ensures rows { rows.new.entries ≡ remove_entry (is_at (nat_cmp cookie)) rows.old.entries }
+    ensures listed { (q : ℕ × ℕ) → get pair_cmp listed.new q ≡ cond (is_at (pair_cmp (directory, cookie)) q) None (get pair_cmp listed.old q) }
+{
+    rows.remove(&cookie);
+    listed.remove(&(directory, cookie));
+}
