@@ -180,7 +180,7 @@ abbrev GoesOnAsOne : ℕ → List Entry → Streams → List Event → Streams �
 GoesOnAsOne conn entries old brought new = (mid : List ℕ) → old conn ≡ Open mid
     → IsUnfinished mid → AsOne conn (mid ++ stream_on conn entries) brought (new conn)
 
-stretch : (conn : ℕ) (entries : List Entry) (old : Streams) (brought : List Event) (new : Streams) (rest : List ℕ)
+pub stretch : (conn : ℕ) (entries : List Entry) (old : Streams) (brought : List Event) (new : Streams) (rest : List ℕ)
     → NoneCloses conn entries → old conn ≡ Open rest → IsUnfinished rest → TakesAll old entries brought new
     → AsOne conn (rest ++ stream_on conn entries) brought (new conn)
 stretch conn [] old brought new rest none begun unfinished h =

@@ -13,6 +13,9 @@ pub mod Stepping
 pub mod Exchanges
 pub mod Cutting
 pub mod Connections
+pub mod Scripts
+pub mod Turns
+pub mod Whole
 pub mod OneReading
 pub mod InMemory
 pub mod Buffers

@@ -17,6 +17,7 @@ pub mod Boxes
 pub mod Lane
 pub mod Hub
 pub mod Account
+pub mod Whole
 pub mod Endpoint
 pub mod Network
 pub mod Alone

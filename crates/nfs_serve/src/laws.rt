@@ -11,6 +11,7 @@ ghost use Rattle.nfs_serve.specs.LostReply.{IsAccepted};
 ghost use Rattle.nfs_serve.specs.Network.{ExactlyOnce, AnswersExecuted};
 ghost use Rattle.nfs_serve.specs.Points.{NoClash};
 ghost use Rattle.nfs_serve.specs.Seen.{server};
+ghost use Rattle.nfs_serve.specs.Whole.{HubRunsScript, NothingIsLostInARun, NothingIsLostInATurn};
 
 /// Which fault a script has, if any, and its whole entries before it are decided by its bytes.
 pub fn one_reading()
@@ -32,6 +33,20 @@ pub fn connections_are_streams()
 /// While one of many connections is served nothing that came on it is lost, and no reply is lost, doubled or out of its order.
 pub fn nothing_is_lost()
     ensures { NothingIsLost }
+{}
+
+/// A run of many connections is the run of a script: of an entry for each part that was stepped, at its moment, and of one that closes for each
+/// connection that began or was closed. So each law of scripts is one of it.
+pub fn a_hub_runs_a_script()
+    ensures { HubRunsScript }
+{}
+
+/// In a run of many connections nothing is lost on one that is served, since it began, while the others change the state in between: behind
+/// each turn, and behind each act of one. Its records are those of what came and does not wait, and the replies to them are what its peer took
+/// and what is owed.
+pub fn nothing_is_lost_in_a_run()
+    ensures ends { NothingIsLostInARun }
+    ensures within { NothingIsLostInATurn }
 {}
 
 /// The definitions compute: a call of NULL is answered by the head of a reply.
