@@ -1,9 +1,10 @@
 """Has a toolchain's script that keeps nothing from one run to the next do no work twice in a run, and judges must-fail edits as tests/run_ci says.
 
-- Edits of a crate are tried in rounds: one check of the crate with several edits, no two of which change the same function. An edit that
-  is not seen to be refused there is tried again alone, as `rt ci` would.
-- What is proved of a library is proved once. Its check, from nothing as always, writes what it checked (as `rt ci` has it for
-  programs), and the library, the check of its tests and the rounds of its edits are made from that. (A program's tests are proved from
+- Edits of a crate are tried in rounds: one check of the crate with several edits, no two of which change the same function. The first
+  reads the whole crate, a later one only the functions that its edits change and what those call. An edit that is not seen to be refused
+  there is tried again alone, as `rt ci` would.
+- What is proved of a library is proved once. It is built from nothing, as always, and holds all that its check wrote, where that of `rt ci`
+  holds its statements; the check of its tests and the rounds of its edits are made from that. (A program's tests are proved from
   nothing, in a folder that is empty when their check begins, and its rounds stand on that or, where it has none, on one check more.)
 
 The lines before the last tell how many minutes of one core the proofs, the tests' proofs and the edits took, and which took most."""
@@ -35,9 +36,10 @@ class Rounds:
         self.outputs, self.unchanged = {}, {}
         rt.checked, rt.must_fail_all = self.checked, self.all_of
 
-    def checked(self, crate, texts, flags, kept):
+    def checked(self, crate, texts, flags, kept, only=()):
         """Checks a copy of the crate with these texts in place of its own, over what kept holds where it is given, and returns how that
-        ended. A library is built, which is checked just so, but offers no files for the proofs that are left open: a third of the time."""
+        ended. A library is built, which is checked just so, but offers no files for the proofs that are left open: a third of the time.
+        Where it is given, no function is read but those of only and what they call."""
         rtlib = self.rt.rtlib
         with tempfile.TemporaryDirectory(prefix="rt-edit-") as room:
             for part in rtlib.PARTS:
@@ -46,7 +48,8 @@ class Rounds:
             for path, text in texts.items():
                 with open(f"{room}/{path}", "w", encoding="utf-8") as it:
                     it.write(text)
-            verb, to = ("check", []) if crate.is_program else ("build", ["-o", f"{room}/{crate.name}.rlib"])
+            verb, to = ("check", []) if crate.is_program or only else ("build", ["-o", f"{room}/{crate.name}.rlib"])
+            to += [word for function in sorted(only) for word in ("--only", function)]
             words = [rtlib.RATTLE, verb, *crate.words(flags, keeps=False), *(["--incremental", kept] if kept else []), *to]
             how = {"cwd": room, "stdin": subprocess.DEVNULL, "stdout": subprocess.PIPE, "stderr": subprocess.STDOUT, "errors": "replace"}
             ran = subprocess.run([*rtlib.guarded(), *words], **how)
@@ -77,10 +80,11 @@ class Rounds:
         return True, f"{label}: refused, as it must be, in {', '.join(refused)}"
 
     def rounds_of(self, crate, edits):
-        """Returns the edits in rounds, each with the texts that its edits together make."""
-        rounds = []
-        for edit in edits:
-            functions = set(changed(self.rt, edit, crate.folder)[0])
+        """Returns the edits in rounds, each with the texts that its edits together make. Those that change most come first, so that a later
+        round has few."""
+        rounds, of_each = [], {it: set(changed(self.rt, it, crate.folder)[0]) for it in edits}
+        for edit in sorted(edits, key=lambda it: -len(of_each[it])):
+            functions = of_each[edit]
             for one in rounds:
                 if one["functions"].isdisjoint(functions) and self.join(crate, one, edit, functions):
                     break
@@ -105,18 +109,19 @@ class Rounds:
         one["functions"].update(functions)
         return True
 
-    def round_of(self, crate, edits, texts, flags, kept):
+    def round_of(self, crate, edits, texts, flags, kept, is_first):
         """Tries the edits of a round together, and again alone those that are not seen to be refused there."""
-        if len(edits) == 1:
+        if len(edits) == 1 and is_first:
             return [self.alone_over(crate, edits[0], flags, kept)]
-        with copied(kept) as copy:
-            ran = self.checked(crate, texts, flags, copy)
-        lines = ran.stdout.rstrip("\n").split("\n")
-        is_read = ran.returncode == 1 and lines[-1].startswith("logic=not-proved") and not self.rt.rtlib.STALE.search(ran.stdout)
-        is_read = is_read and not any(self.rt.unread(it, texts) for it in lines)
-        tried, said = [], Said(ran.stdout)
         of_each = {it: changed(self.rt, it, crate.folder)[0] for it in edits}
         with_it = {function for some in of_each.values() for function in some}
+        with copied(kept) as copy:
+            ran = self.checked(crate, texts, flags, copy, () if is_first else with_it)
+        lines = ran.stdout.rstrip("\n").split("\n")
+        is_ended = lines[-1].startswith("logic=not-proved" if is_first else "only=")
+        is_read = ran.returncode == 1 and is_ended and not self.rt.rtlib.STALE.search(ran.stdout)
+        is_read = is_read and not any(self.rt.unread(it, texts) for it in lines)
+        tried, said = [], Said(ran.stdout)
         for edit in edits:
             is_well, text = self.judged(crate, edit, of_each[edit], with_it, said) if is_read else (False, "")
             if is_well:
@@ -141,8 +146,8 @@ class Rounds:
             able = [it for it in edits if not changed(self.rt, it, crate.folder)[1]]
             # (where nothing was kept, this check fills the folder)
             if able and (is_shown_later or self.is_proved(crate, flags, kept)):
-                for some, texts in self.rounds_of(crate, able):
-                    tried.update(zip(some, self.round_of(crate, some, texts, flags, kept)))
+                for at, (some, texts) in enumerate(self.rounds_of(crate, able)):
+                    tried.update(zip(some, self.round_of(crate, some, texts, flags, kept, at == 0)))
                 if is_shown_later and not self.unchanged.get(crate.name) and not self.is_proved(crate, flags, kept):
                     tried = {}
             shutil.rmtree(kept, ignore_errors=True)
@@ -173,20 +178,18 @@ class Fresh:
 class Now(threading.local):
     """What the check that this thread runs is of."""
 
-    is_of_library = is_of_tests = False
+    is_of_tests = False
 
 
 def keep_all(rt, room):
     """Has each check of a run keep what it proved, in new folders of the room; returns those folders by the crates' names."""
     kept, ci, now = {}, rt.Crate.ci, Now()
-    help_of, chose_a_term = rt.rtlib.help_of, rt.rtlib.chose_a_term
+    help_of = rt.rtlib.help_of
     # contracts that no call can meet are looked for in a library's own check, and not once more in that of its tests
     rt.rtlib.help_of = lambda verb: help_of(verb).replace("--empty-contracts", "" if now.is_of_tests else "--empty-contracts")
-    # a library is checked here where `rt ci` builds it, and is held to the same
-    rt.rtlib.chose_a_term = lambda said, is_built: chose_a_term(said, is_built or now.is_of_library)
 
     def ci_and_keep(crate, flags, tests):
-        now.is_of_library, now.is_of_tests = not crate.is_program and not tests, not crate.is_program and tests
+        now.is_of_tests = not crate.is_program and tests
         if crate.is_program and not tests:
             return ci(crate, flags, tests)
         path = f"{room}/{crate.name}"
@@ -204,19 +207,13 @@ def keep_all(rt, room):
 
 
 def prove_once(rt, crate, flags, path):
-    """Proves a library from nothing, then builds it from what that check wrote, which it also unpacks into the folder."""
-    words = crate.words(flags, keeps=False)
-    with tempfile.TemporaryDirectory(prefix="rt-proved-") as room:
-        status = crate.prove(["check", *words, "-o", f"{room}/checked"])
-        if status:
-            return status
-        unpack(rt, f"{room}/checked/toolchain/checked.a", path)
-        for flag in ("--logic-built", "--jobs"):
-            at = words.index(flag)
-            words = [*words[:at], *words[at + 2 :]]
-        shutil.rmtree(os.path.dirname(crate.rlib), ignore_errors=True)
-        os.makedirs(os.path.dirname(crate.rlib))
-        return crate.call(rt.rtlib.RATTLE, "build", *words, "--crate-checked", f"{room}/checked", "-o", crate.rlib)
+    """Builds a library from nothing, to hold all that its check wrote and not its statements alone, and unpacks that into the folder too."""
+    shutil.rmtree(os.path.dirname(crate.rlib), ignore_errors=True)
+    os.makedirs(os.path.dirname(crate.rlib))
+    status = crate.prove(["build", *crate.words(flags, keeps=False), "-o", crate.rlib])
+    if not status:
+        unpack(rt, f"{crate.rlib}/toolchain/checked.a", path)
+    return status
 
 
 def unpack(rt, archive, path):
