@@ -1,12 +1,13 @@
-/* The guest of tests/client: the first process of a machine that has a kernel, its modules and nothing else. It mounts
- * the server and takes steps whose ends are known beforehand, a line each on the console:
+/* The guest of tests/client: the first process of a machine that has a kernel, its modules, the commands that mount and nothing else. It
+ * mounts the server and takes steps whose ends are known beforehand, a line each on the console:
  *
  *     step NAME: ok
  *     step NAME: FAILED what came and what was wanted
  *
  * and at the end `done N`, of N steps. Before them it prints `kernel RELEASE`, or `unfit: WHY` where the machine lacks something; and
- * `beat` each second all the while, so that the host sees when the machine stands still. The kernel's command line has `port=N` and
- * `part=plain|command|cut|expired|restart`. Where a step wants something of the host, the guest prints `ask WORD` and reads a line. */
+ * `beat` each second all the while, so that the host sees when the machine stands still. The kernel's command line, whose words come as
+ * environment, has `part=`, `host=` (the name of this machine) and `options=` (those of the mount). Where a step wants something of the
+ * host, the guest prints `ask WORD` and reads a line. */
 #define _GNU_SOURCE
 #include <arpa/inet.h>
 #include <dirent.h>
@@ -14,10 +15,12 @@
 #include <fcntl.h>
 #include <grp.h>
 #include <net/if.h>
+#include <poll.h>
 #include <stdarg.h>
 #include <stdio.h>
 #include <stdlib.h>
 #include <string.h>
+#include <sys/file.h>
 #include <sys/ioctl.h>
 #include <sys/mount.h>
 #include <sys/reboot.h>
@@ -31,9 +34,10 @@
 
 #define AT "/mnt/"
 /* BADTYPE is the kernel's own number for NFS4ERR_BADTYPE, which it hands to the caller as it is. */
-enum { PIECE = 4096, LONG = 300000, MANY = 200, BADTYPE = 527 };
+enum { PIECE = 4096, LONG = 300000, MANY = 200, PROCESSES = 6, EACH = 20, BADTYPE = 527 };
 
 static unsigned char wanted[LONG], got[LONG + 1];
+static char names[MANY][16];
 static int steps;
 
 static double now(void) {
@@ -70,11 +74,70 @@ static int ask(const char *word) {
     return !strncmp(line, "again", 5);
 }
 
+/* A moment to which both machines come before either goes on. */
+static void meet(void) {
+    ask("meet");
+}
+
 /* Waits for a child and returns the status that it ended with. */
 static int ended(pid_t child) {
     int status = -1;
     waitpid(child, &status, 0);
     return WIFEXITED(status) ? WEXITSTATUS(status) : 256 + status;
+}
+
+/* A command that is to end with status 0; where it does not, what it said is shown, its lines joined. */
+static int command(const char *name, char *const words[]) {
+    char said[400] = {0};
+    size_t size = 0;
+    ssize_t more;
+    int from[2];
+    if (pipe(from)) _exit(1);
+    fflush(stdout);
+    pid_t child = fork();
+    if (!child) {
+        dup2(from[1], 1);
+        dup2(from[1], 2);
+        close(from[0]);
+        execv(words[0], words);
+        _exit(127);
+    }
+    close(from[1]);
+    while (size < sizeof said - 1 && (more = read(from[0], said + size, sizeof said - 1 - size)) > 0) size += more;
+    close(from[0]);
+    int status = ended(child);
+    for (size_t i = 0; i < size; i++) said[i] = said[i] == '\n' ? ';' : said[i];
+    step(name, status == 0, "status %d, and it said: %s", status, said);
+    return status == 0;
+}
+
+/* The mount as it is documented for people, and its end. */
+static int mounted(char *options) {
+    char *const words[] = {"/bin/mount", "-t", "nfs", "-o", options, "10.0.2.2:/", "/mnt", NULL};
+    return command("the server is mounted", words);
+}
+
+static void unmounted(void) {
+    char *const words[] = {"/bin/umount", "/mnt", NULL};
+    command("it is unmounted", words);
+}
+
+/* Each of the options is one of those that the kernel shows. */
+static void kernel_shows(const char *options) {
+    char line[1024] = {0}, shown[1026] = {0}, each[256], one[258];
+    FILE *mounts = fopen("/proc/mounts", "r");
+    while (mounts && fgets(line, sizeof line, mounts))
+        if (sscanf(line, "10.0.2.2:/ /mnt nfs4 %1023s", shown + 1) == 1) break;
+    if (mounts) fclose(mounts);
+    shown[0] = ',';
+    strcat(shown, ",");
+    snprintf(each, sizeof each, "%s", options);
+    int wrong = 0;
+    for (char *word = strtok(each, ","); word; word = strtok(NULL, ",")) {
+        snprintf(one, sizeof one, ",%s,", word);
+        wrong += !strstr(shown, one);
+    }
+    step("the kernel shows the options", !wrong, "%d of %s are not in %s", wrong, options, shown);
 }
 
 static long put(const char *path, int flags, const void *bytes, size_t size) {
@@ -110,6 +173,21 @@ static void forget(void) {
         if (write(file, "3", 1) < 0) printf("note: caches were not dropped\n");
         close(file);
     }
+}
+
+/* How many of the first of `names` a directory has; less than nothing where it has another, or one of them twice. */
+static int listed(const char *path, int count) {
+    char found[MANY] = {0};
+    int seen = 0;
+    DIR *list = opendir(path);
+    for (struct dirent *e; list && (e = readdir(list));) {
+        int i = 0;
+        while (i < count && strcmp(names[i], e->d_name)) i++;
+        if (i < count && !found[i]) found[i] = 1, seen++;
+        else if (strcmp(e->d_name, ".") && strcmp(e->d_name, "..")) seen -= 2 * MANY;
+    }
+    if (list) closedir(list);
+    return seen;
 }
 
 static void files_and_names(void) {
@@ -151,22 +229,16 @@ static void files_and_names(void) {
     ends("a fifo is not of this server", mkfifo(AT "fifo", 0644), BADTYPE);
 
     ends("a directory for many names is made", mkdir(AT "many", 0755), 0);
-    int made = 0, seen = 0;
+    int made = 0;
     for (int i = 0; i < MANY; i++) {
+        snprintf(names[i], sizeof names[i], "name%03d", i);
         snprintf(name, sizeof name, AT "many/name%03d", i);
         int file = open(name, O_CREAT | O_EXCL | O_WRONLY, 0600);
         made += file >= 0 && !close(file);
     }
     step("200 files are made", made == MANY, "%d", made);
     forget();
-    char found[MANY] = {0};
-    DIR *list = opendir(AT "many");
-    for (struct dirent *e; list && (e = readdir(list));) {
-        int i = -1;
-        if (sscanf(e->d_name, "name%03d", &i) == 1 && i >= 0 && i < MANY && !found[i]) found[i] = 1, seen++;
-        else if (strcmp(e->d_name, ".") && strcmp(e->d_name, "..")) seen = -1000;
-    }
-    if (list) closedir(list);
+    int seen = listed(AT "many", MANY);
     step("each is listed once", seen == MANY, "%d", seen);
     int gone = 0;
     for (int i = 0; i < MANY; i++) {
@@ -274,7 +346,7 @@ static void locks(void) {
     close(file);
 }
 
-/* A lock of another client, which the host has taken before the mount, and which goes with that client's lease. */
+/* A lock of another client, which is not heard any more, and whose lock goes with its lease. */
 static void anothers_lock(void) {
     struct flock lock = {.l_type = F_WRLCK, .l_whence = SEEK_SET, .l_start = 0, .l_len = 100};
     int file = open(AT "held", O_RDWR);
@@ -288,6 +360,318 @@ static void anothers_lock(void) {
     ends("the lock is waited for, and granted when the other client's lease has run out", locked(file, F_SETLKW, F_WRLCK, 0, 5), 0);
     printf("note: waited %.0f s\n", now() - begun);
     close(file);
+}
+
+/* Adds one to the number in a file, so many times, each under a lock over all of it: the number of what went wrong, or 0. */
+static int added(const char *path, int times) {
+    int file = open(path, O_CREAT | O_RDWR, 0666);
+    for (int i = 0; i < times; i++) {
+        char text[16] = {0};
+        if (locked(file, F_SETLKW, F_WRLCK, 0, 0)) return 1;
+        if (pread(file, text, sizeof text - 1, 0) < 0) return 2;
+        snprintf(text, sizeof text, "%06d\n", atoi(text) + 1);
+        if (pwrite(file, text, 7, 0) != 7) return 3;
+        if (locked(file, F_SETLK, F_UNLCK, 0, 0)) return 4;
+    }
+    return close(file) ? 5 : 0;
+}
+
+/* One of several processes at once: the number of what went wrong, or 0. */
+static int one_of_many(int who) {
+    char path[64], to[64];
+    for (int i = 0; i < LONG; i++) wanted[i] += who * 37;
+    snprintf(path, sizeof path, AT "crowd/long%d", who);
+    if (put(path, O_CREAT | O_EXCL, wanted, LONG) != LONG) return 10;
+    snprintf(to, sizeof to, AT "crowd/slow%d", who);
+    for (long at = 0; at < EACH * PIECE; at += PIECE)
+        if (put(to, O_CREAT | O_APPEND, wanted + at, PIECE) != PIECE) return 11;
+    forget();
+    if (taken(path) != LONG || memcmp(got, wanted, LONG)) return 12;
+    if (taken(to) != EACH * PIECE || memcmp(got, wanted, EACH * PIECE)) return 13;
+    for (int i = 0; i < EACH; i++) {
+        snprintf(path, sizeof path, AT "names/%d-%02d", who, i);
+        snprintf(to, sizeof to, AT "names/moved%d-%02d", who, i);
+        if (mkdir(path, 0700)) return 14;
+        if (i % 2 && rename(path, to)) return 15;
+    }
+    return added(AT "crowd/number", 3);
+}
+
+/* The mount's connections, and the fewest replies that came over one of them. */
+static int connections(long *fewest) {
+    char line[1024];
+    long came;
+    int count = 0;
+    FILE *told = fopen("/proc/self/mountstats", "r");
+    while (told && fgets(line, sizeof line, told)) {
+        if (sscanf(line, " xprt: tcp %*u %*u %*u %*u %*d %*u %ld", &came) != 1) continue;
+        *fewest = count && *fewest < came ? *fewest : came;
+        count++;
+    }
+    if (told) fclose(told);
+    return count;
+}
+
+static void many_at_once(void) {
+    pid_t children[PROCESSES];
+    long fewest = 0;
+    int case_of[PROCESSES], wrong = -1;
+    ends("a directory for the files of many processes is made", mkdir(AT "crowd", 0777), 0);
+    ends("and one for their names", mkdir(AT "names", 0777), 0);
+    fflush(stdout);
+    for (int i = 0; i < PROCESSES; i++)
+        if (!(children[i] = fork())) _exit(one_of_many(i));
+    for (int i = 0; i < PROCESSES; i++)
+        if ((case_of[i] = ended(children[i]))) wrong = i;
+    step("six processes at once write, read back, make, rename and lock", wrong < 0, "process %d, case %d", wrong, wrong < 0 ? 0 : case_of[wrong]);
+    forget();
+    holds_bytes("what they counted under a lock is right", AT "crowd/number", "000018\n", 7);
+    for (int i = 0; i < PROCESSES * EACH; i++) snprintf(names[i], sizeof names[i], i % 2 ? "moved%d-%02d" : "%d-%02d", i / EACH, i % EACH);
+    int seen = listed(AT "names", PROCESSES * EACH);
+    step("each of their names is listed once", seen == PROCESSES * EACH, "%d", seen);
+    int count = connections(&fewest);
+    step("the mount has four connections", count == 4, "%d", count);
+    step("over each of which many replies came", fewest >= 100, "%ld", fewest);
+    printf("note: at least %ld replies over each of %d connections\n", fewest, count);
+    ask("count");
+}
+
+/* How many replies to this operation the kernel has had. */
+static long replies(const char *operation) {
+    char line[1024], name[32];
+    long count = 0;
+    FILE *told = fopen("/proc/self/mountstats", "r");
+    snprintf(name, sizeof name, " %s: ", operation);
+    while (told && fgets(line, sizeof line, told)) {
+        char *at = strstr(line, name);
+        if (at) count = atol(at + strlen(name));
+    }
+    if (told) fclose(told);
+    return count;
+}
+
+/* Waits for a lock, looks at what its holder wrote before it gave it up, says so, and keeps it until it is told to end. */
+static int waits(int file, int granted, int go) {
+    char bytes[8], c;
+    if (locked(file, F_SETLKW, F_WRLCK, 0, 10)) return 1;
+    if (pread(file, bytes, 8, 0) != 8 || memcmp(bytes, "released", 8)) return 2;
+    return write(granted, "g", 1) == 1 && read(go, &c, 1) == 1 ? 0 : 3;
+}
+
+/* The other machine has bytes 0 to 9 for writing and 20 to 29 for reading. */
+static void refused_and_granted(int file) {
+    struct flock lock = {.l_type = F_WRLCK, .l_whence = SEEK_SET, .l_start = 0, .l_len = 15};
+    ends("a lock over the other machine's is refused", locked(file, F_SETLK, F_WRLCK, 5, 10), EAGAIN);
+    ends("and one for reading", locked(file, F_SETLK, F_RDLCK, 9, 1), EAGAIN);
+    ends("and one for writing where the other machine reads", locked(file, F_SETLK, F_WRLCK, 29, 1), EAGAIN);
+    ends("one for reading is granted there", locked(file, F_SETLK, F_RDLCK, 20, 10), 0);
+    ends("and bytes between them", locked(file, F_SETLK, F_WRLCK, 10, 5), 0);
+    int told = fcntl(file, F_GETLK, &lock);
+    step("the other machine's lock is told", !told && lock.l_type == F_WRLCK && lock.l_start == 0 && lock.l_len == 10,
+         "errno %d, type %d, %ld and %ld", errno, lock.l_type, (long)lock.l_start, (long)lock.l_len);
+}
+
+/* Locks of two machines. What stands between two meetings is done by both at the same time, or by one of them. */
+static void two_lock(int first) {
+    int granted[2], go[2], file = -1;
+    char c = 0;
+    pid_t child = -1;
+    if (pipe(granted) || pipe(go)) _exit(1);
+    if (first) {
+        file = open(AT "shared", O_CREAT | O_RDWR, 0666);
+        ends("a file is made", file, 0);
+        ends("bytes 0 to 9 are locked", locked(file, F_SETLK, F_WRLCK, 0, 10), 0);
+        ends("and 20 to 29 for reading", locked(file, F_SETLK, F_RDLCK, 20, 10), 0);
+    }
+    meet();
+    if (!first) {
+        file = open(AT "shared", O_RDWR);
+        ends("the other machine's file is opened", file, 0);
+        refused_and_granted(file);
+        struct pollfd its = {.fd = granted[0], .events = POLLIN};
+        long asked = replies("LOCK");
+        fflush(stdout);
+        child = fork();
+        if (!child) _exit(waits(file, granted[1], go[0]));
+        close(granted[1]);
+        while (replies("LOCK") < asked + 2 && !poll(&its, 1, 200)) continue;
+        step("a lock is waited for: it was refused, asked for again, and is not granted", !poll(&its, 1, 0), "its process ended or has it");
+    }
+    meet();
+    if (first) {
+        step("bytes are written while they are locked", pwrite(file, "released", 8, 0) == 8 && !fsync(file), "errno %d", errno);
+        ends("they are released", locked(file, F_SETLK, F_UNLCK, 0, 10), 0);
+    } else {
+        step("it is granted when it is released", read(granted[0], &c, 1) == 1 && c == 'g', "its process ended");
+    }
+    meet();
+    if (first) {
+        ends("what the other machine waited for is refused now", locked(file, F_SETLK, F_RDLCK, 9, 1), EAGAIN);
+        ends("and what it has beside it", locked(file, F_SETLK, F_WRLCK, 14, 1), EAGAIN);
+    }
+    meet();
+    if (!first) {
+        int status = write(go[1], "e", 1) == 1 ? ended(child) : -1;
+        step("what was written before the release was read under the lock", status == 0, "case %d", status);
+        close(file);
+    }
+    meet();
+    if (first) {
+        ends("all is granted when the other machine has released it", locked(file, F_SETLK, F_WRLCK, 0, 100), 0);
+        close(file);
+    }
+    for (int i = 0; i < 2; i++) close(granted[i]), close(go[i]);
+}
+
+static void two_flock(int first) {
+    int file = open(AT "whole", O_CREAT | O_RDWR, 0666);
+    if (first) ends("a file is locked by flock", flock(file, LOCK_EX | LOCK_NB), 0);
+    meet();
+    if (!first) ends("which the other machine is refused", flock(file, LOCK_EX | LOCK_NB), EAGAIN);
+    if (!first) ends("for sharing too", flock(file, LOCK_SH | LOCK_NB), EAGAIN);
+    meet();
+    if (first) ends("it is unlocked", flock(file, LOCK_UN), 0);
+    meet();
+    if (!first) ends("it is granted when it is unlocked", flock(file, LOCK_EX | LOCK_NB), 0);
+    close(file);
+}
+
+/* What one machine has open keeps its bytes when the other removes its name and gives it to another file. */
+static void two_open(int first) {
+    char bytes[8] = {0};
+    int file = first ? open(AT "name", O_CREAT | O_EXCL | O_RDWR, 0666) : -1;
+    if (first) step("a file is opened and written", write(file, "mine", 4) == 4 && !fsync(file), "errno %d", errno);
+    meet();
+    if (!first) {
+        ends("the other machine's name is removed", unlink(AT "name"), 0);
+        step("and given to another file", put(AT "name", O_CREAT | O_EXCL, "another", 7) == 7, "errno %d", errno);
+    }
+    meet();
+    if (!first) return;
+    forget();
+    long came = pread(file, bytes, 8, 0);
+    step("a file that the other machine removed has its bytes", came == 4 && !memcmp(bytes, "mine", 4), "%ld bytes, errno %d", came, errno);
+    step("and is written", pwrite(file, "more", 4, 4) == 4 && !fsync(file), "errno %d", errno);
+    holds_bytes("its name is another file's", AT "name", "another", 7);
+    ends("it is closed", close(file), 0);
+}
+
+/* What one has closed the other opens: in turns, and as many bytes each time, with nothing said of caches. */
+static void two_write(int first) {
+    char text[16];
+    for (int round = 0; round < 6; round++) {
+        snprintf(text, sizeof text, "letter %d", round);
+        if (round % 2 == !first) step("a file is written and closed", put(AT "letter", O_CREAT, text, 8) == 8, "errno %d", errno);
+        meet();
+        if (round % 2 == first) holds_bytes("what the other machine closed is read", AT "letter", text, 8);
+    }
+}
+
+/* Both make names in one directory, rename their own and the other's, and see it all. */
+static void two_make(int first) {
+    char path[64], to[64], mine = first ? 'a' : 'b', others = first ? 'b' : 'a';
+    struct stat a;
+    int made = 0, moved = 0;
+    if (first) ends("a directory for both is made", mkdir(AT "both", 0777), 0);
+    meet();
+    for (int i = 0; i < EACH; i++) {
+        snprintf(path, sizeof path, AT "both/%c%02d", mine, i);
+        snprintf(to, sizeof to, AT "both/moved-%c%02d", mine, i);
+        made += put(path, O_CREAT | O_EXCL, &mine, 1) == 1;
+        moved += i % 2 && !rename(path, to);
+    }
+    step("files are made beside the other machine's, and half of them renamed", made == EACH && moved == EACH / 2, "%d and %d", made, moved);
+    meet();
+    for (int i = 0; i < 2 * EACH; i++) snprintf(names[i], sizeof names[i], i % 2 ? "moved-%c%02d" : "%c%02d", "ab"[i / EACH], i % EACH);
+    int seen = listed(AT "both", 2 * EACH);
+    step("both machines' names are listed, each once", seen == 2 * EACH, "%d", seen);
+    meet();
+    moved = 0;
+    for (int i = 0; i < EACH; i += 2) {
+        snprintf(path, sizeof path, AT "both/%c%02d", others, i);
+        snprintf(to, sizeof to, AT "both/taken-%c%02d", others, i);
+        moved += !rename(path, to);
+    }
+    step("the other machine's are renamed", moved == EACH / 2, "%d", moved);
+    meet();
+    for (int i = 0; i < 2 * EACH; i += 2) snprintf(names[i], sizeof names[i], "taken-%c%02d", "ab"[i / EACH], i % EACH);
+    seen = listed(AT "both", 2 * EACH);
+    step("and both are listed so", seen == 2 * EACH, "%d", seen);
+    snprintf(path, sizeof path, AT "both/%c00", mine);
+    ends("an own name that the other machine took is gone", stat(path, &a), ENOENT);
+    snprintf(path, sizeof path, AT "both/taken-%c00", mine);
+    holds_bytes("and its file has the other name", path, &mine, 1);
+    meet();
+}
+
+/* Both make the same names and rename the same files at the same time: each is one machine's alone. */
+static void two_race(int first) {
+    char path[64], to[64], mine = first ? 'a' : 'b';
+    int made = 0, moved = 0, wrong = 0;
+    for (int i = 0; i < EACH && first; i++) {
+        snprintf(path, sizeof path, AT "both/prize%02d", i);
+        wrong += put(path, O_CREAT | O_EXCL, "p", 1) != 1;
+    }
+    meet();
+    for (int i = 0; i < EACH; i++) {
+        snprintf(path, sizeof path, AT "both/race%02d", i);
+        long size = put(path, O_CREAT | O_EXCL, &mine, 1);
+        made += size == 1;
+        wrong += size != 1 && errno != EEXIST;
+        snprintf(path, sizeof path, AT "both/prize%02d", i);
+        snprintf(to, sizeof to, AT "both/%c-has%02d", mine, i);
+        int came = rename(path, to);
+        moved += !came;
+        wrong += came && errno != ENOENT;
+    }
+    step("each name that both make, and each file that both rename, is this machine's or the other's", !wrong, "%d were neither, errno %d", wrong, errno);
+    printf("note: made %d and renamed %d of %d\n", made, moved, EACH);
+    meet();
+    for (int i = 0; i < EACH; i++) {
+        snprintf(path, sizeof path, AT "both/race%02d", i);
+        wrong += taken(path) != 1 || (got[0] != 'a' && got[0] != 'b');
+        made -= got[0] == mine;
+        snprintf(path, sizeof path, AT "both/a-has%02d", i);
+        snprintf(to, sizeof to, AT "both/b-has%02d", i);
+        int is_a = taken(path) == 1, is_b = taken(to) == 1;
+        wrong += is_a + is_b != 1;
+        moved -= first ? is_a : is_b;
+    }
+    step("each has the byte of one machine, and one new name", !wrong, "%d have not", wrong);
+    step("as many are this machine's as it was told", !made && !moved, "%d more were told to be made, %d to be renamed", made, moved);
+    int went = added(AT "both/number", EACH);
+    step("a number is counted up under a lock", !went, "case %d, errno %d", went, errno);
+    meet();
+    holds_bytes("and has what both counted", AT "both/number", "000040\n", 7);
+}
+
+/* The first machine ends without a word, with a lock that it has just used. */
+static void first_is_killed(int first) {
+    if (!first) {
+        meet();
+        ask("kill");
+        anothers_lock();
+        holds_bytes("what was written under the lock is read", AT "held", "\0\0\0left", 7);
+        return;
+    }
+    int file = open(AT "held", O_CREAT | O_RDWR, 0666);
+    ends("bytes 3 to 9 of a file are locked", locked(file, F_SETLK, F_WRLCK, 3, 7), 0);
+    ask("renew");
+    step("and written", pwrite(file, "left", 4, 3) == 4 && !fsync(file), "errno %d", errno);
+    printf("done %d\n", steps);
+    meet();
+    ask("stay");
+}
+
+static void two_machines(int first) {
+    meet();
+    two_lock(first);
+    two_flock(first);
+    two_open(first);
+    two_write(first);
+    two_make(first);
+    two_race(first);
+    first_is_killed(first);
 }
 
 /* Small writes and reads, a minute at least and until the host has seen enough: each must come out as it went in. */
@@ -344,7 +728,7 @@ static void lease_runs_out(void) {
 }
 
 /* The server ends and starts anew, under another instance and with an empty tree. */
-static void server_restarts(const char *options) {
+static void server_restarts(char *options) {
     char bytes[8];
     struct stat a;
     int kept = open(AT "kept", O_CREAT | O_RDWR | O_DIRECT, 0600);
@@ -357,46 +741,10 @@ static void server_restarts(const char *options) {
     step("the open file is not read", came < 0, "%ld bytes", came);
     printf("note: the open file answers %s\n", strerror(errno));
     close(kept);
-    ends("it is unmounted", umount("/mnt"), 0);
-    ends("the server is mounted anew", mount("10.0.2.2:/", "/mnt", "nfs4", 0, options), 0);
+    unmounted();
+    mounted(options);
     ends("and is empty", stat(AT "kept", &a), ENOENT);
     ends("a directory is made", mkdir(AT "new", 0755), 0);
-}
-
-/* A command that is to end with status 0; where it does not, what it said is shown, its lines joined. */
-static int command(const char *name, char *const words[]) {
-    char said[400] = {0};
-    size_t size = 0;
-    ssize_t more;
-    int from[2];
-    if (pipe(from)) _exit(1);
-    fflush(stdout);
-    pid_t child = fork();
-    if (!child) {
-        dup2(from[1], 1);
-        dup2(from[1], 2);
-        close(from[0]);
-        execv(words[0], words);
-        _exit(127);
-    }
-    close(from[1]);
-    while (size < sizeof said - 1 && (more = read(from[0], said + size, sizeof said - 1 - size)) > 0) size += more;
-    close(from[0]);
-    int status = ended(child);
-    for (size_t i = 0; i < size; i++) said[i] = said[i] == '\n' ? ';' : said[i];
-    step(name, status == 0, "status %d, and it said: %s", status, said);
-    return status == 0;
-}
-
-/* The mount as it is documented for people, and its end. */
-static int mounted_by_the_command(char *options) {
-    char *const words[] = {"/bin/mount", "-t", "nfs", "-o", options, "10.0.2.2:/", "/mnt", NULL};
-    return command("the server is mounted by the command", words);
-}
-
-static void unmounted_by_the_command(void) {
-    char *const words[] = {"/bin/umount", "/mnt", NULL};
-    command("it is unmounted by the command", words);
 }
 
 /* What the machine lacks is told, and then there is nothing to judge. */
@@ -446,64 +794,42 @@ static void beat(void) {
 }
 
 /* Mounts, takes the steps of a part, and unmounts. */
-static void play(const char *part, int port) {
-    char documented[128], options[256];
-    snprintf(documented, sizeof documented, "vers=4.1,port=%d,proto=tcp,sec=sys,nconnect=1", port);
-    snprintf(options, sizeof options, "%s,addr=10.0.2.2,clientaddr=10.0.2.15%s", documented, strcmp(part, "plain") ? ",timeo=50" : "");
+static void play(const char *part, int first, char *options) {
     if (!strcmp(part, "plain")) ask("lock");
     double begun = now();
-    if (!strcmp(part, "command")) {
-        if (!mounted_by_the_command(documented)) return;
-    } else {
-        int came = mount("10.0.2.2:/", "/mnt", "nfs4", 0, options);
-        ends("the server is mounted", came, 0);
-        if (came) return;
-    }
+    if (!mounted(options)) return;
     printf("note: mounted in %.1f s\n", now() - begun);
-    if (!strcmp(part, "plain")) {
-        anothers_lock();
-        files_and_names();
-        users();
+    kernel_shows(options);
+    if (!strcmp(part, "plain")) anothers_lock();
+    if (!strcmp(part, "plain") || !strcmp(part, "command") || !strcmp(part, "several") || !strcmp(part, "cut")) files_and_names();
+    if (!strcmp(part, "plain") || !strcmp(part, "several")) users();
+    if (!strcmp(part, "plain") || !strcmp(part, "several") || !strcmp(part, "cut")) {
         unlinked_while_open();
         locks();
-    } else if (!strcmp(part, "command")) {
-        files_and_names();
-        unmounted_by_the_command();
-        return;
-    } else if (!strcmp(part, "cut")) {
-        files_and_names();
-        unlinked_while_open();
-        locks();
-        go_on();
-    } else if (!strcmp(part, "expired")) {
-        lease_runs_out();
-    } else {
-        server_restarts(options);
     }
-    ends("it is unmounted", umount("/mnt"), 0);
+    if (!strcmp(part, "several")) many_at_once();
+    if (!strcmp(part, "two")) two_machines(first);
+    if (!strcmp(part, "cut")) go_on();
+    if (!strcmp(part, "expired")) lease_runs_out();
+    if (!strcmp(part, "restart")) server_restarts(options);
+    unmounted();
 }
 
 int main(void) {
-    char line[512] = {0}, part[16] = "plain";
-    int port = 2049;
+    const char *part = getenv("part"), *host = getenv("host"), *options = getenv("options");
+    char given[256];
     struct utsname kernel;
     umask(022);
     mkdir("/proc", 0755);
     mkdir("/mnt", 0755);
     mount("proc", "/proc", "proc", 0, "");
-    FILE *words = fopen("/proc/cmdline", "r");
-    if (words && fgets(line, sizeof line, words)) {
-        char *at = strstr(line, "port=");
-        if (at) sscanf(at, "port=%d", &port);
-        at = strstr(line, "part=");
-        if (at) sscanf(at, "part=%15s", part);
-    }
     beat();
-    if (modules_loaded() && network_up()) {
+    if (part && host && options && !sethostname(host, strlen(host)) && modules_loaded() && network_up()) {
         uname(&kernel);
         printf("kernel %s\n", kernel.release);
         for (int i = 0; i < LONG; i++) wanted[i] = (unsigned char)(i % 253 ^ i >> 8);
-        play(part, port);
+        snprintf(given, sizeof given, "%s", options);
+        play(part, !strcmp(host, "first"), given);
         printf("done %d\n", steps);
     }
     fflush(stdout);
