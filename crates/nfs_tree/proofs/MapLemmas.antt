@@ -1,6 +1,6 @@
 -- What changes of the maps make of the list of rows.
-use Rattle.std.proofs.Common.{◌≡◌, ◌≢◌, ℕ, ◌<◌, ◌≤◌, ◌+◌, ◌^◌, suc, Bool, true, false, cond, not, List, [], ◌∷◌, ◌++◌, map, length, Option, Some, None, refl, sym, ◌∙◌, ap, arith, subst, inl, inr}
-use Rattle.std.specs.Prelude.{◌==◌, ◌&&◌, if◌then◌else◌, filter, find, option_map, bytes_eq, nat_lt}
+use Rattle.std.proofs.Common.{◌≡◌, ℕ, ◌<◌, ◌≤◌, ◌+◌, ◌^◌, suc, Bool, true, false, cond, not, List, [], ◌∷◌, ◌++◌, map, length, Option, Some, None, refl, sym, ◌∙◌, ap, arith, inl, inr}
+use Rattle.std.specs.Prelude.{◌==◌, ◌&&◌, filter, find, option_map, bytes_eq, nat_lt}
 use Rattle.std.specs.declared.cmp.Ordering.TheVariants.{Greater}
 use Rattle.std.specs.Ordering.{nat_cmp}
 use Rattle.std.specs.BTreeMap.{is_at, insert_entry}
@@ -8,15 +8,16 @@ use Rattle.std.specs.Map.{lookup, remove_entry, values_of}
 use Rattle.std.proofs.lemmas.Bool.{cases_Bool, eq-eqb, ne_eqb, eqb-true, and_parts, false≢true}
 use Rattle.std.proofs.lemmas.Bool.Decides.{nat_tests}
 use Rattle.std.proofs.lemmas.Slice.Eq.{bytes_eq-Decides}
+use Rattle.std.proofs.lemmas.List.{length-map}
 use Rattle.nfs_xdr.specs.Tables.{IsRising, In, record_at, without_record}
-use Rattle.nfs_xdr.proofs.Lists.{in_filter, in_push, find_in, none_in, find_none, find_kept, find_past, find_out, find_push, find_push_other, filter_in, filter_all, some_or_none}
-use Rattle.nfs_xdr.proofs.Tables.{IsRising-below, IsRising-push, IsRising-filter, in_bounds, in_once, at_of_in, at_above, at_below, without_none}
+use Rattle.nfs_xdr.proofs.Lists.{in_filter, in_push, find_in, none_in, find_none, find_kept, find_past, find_out, find_push, find_push_other, filter_in, filter_all, length_filter, some_or_none}
+use Rattle.nfs_xdr.proofs.Tables.{IsRising-below, IsRising-push, IsRising-filter, in_bounds, in_once, at_of_in, at_below, without_none}
 use Rattle.nfs_tree.specs.declared.row.Row.{Row}
-use Rattle.nfs_tree.specs.Files.{most_name, is_entry, entry, without_entry, listed, listing}
-use Rattle.nfs_tree.specs.Maps.{by_cookie, key_of, AreNamed, ArePairs}
+use Rattle.nfs_tree.specs.Files.{most_name, is_entry, entry, without_entry, listed, listing, links_in}
+use Rattle.nfs_tree.specs.Maps.{by_cookie, key_of, links_behind, AreNamed, ArePairs}
 use Rattle.nfs_tree.proofs.KeyLemmas.{key_same}
 use Rattle.nfs_tree.proofs.PairLemmas.{row_pair}
-use Rattle.nfs_tree.proofs.RowsKept.{entry_parts, entry_self, found_put, either}
+use Rattle.nfs_tree.proofs.RowsKept.{entry_parts, found_put, either}
 
 abbrev pub cookie : Row → ℕ
 cookie r = r.cookie
@@ -226,10 +227,7 @@ put_back d name rows r is none = last rows ∙ none_gone rows d name none
     last [] = rw is refl
     last (x ∷ xs) = elim (cases_Bool (is_entry d name x)) [ inl here ↦ rw here (last xs) | inr off ↦ rw off (ap (λ ys. x ∷ ys) (last xs)) ]
 
--- ---- a listing
-abbrev is_behind : ℕ → ℕ → Row → Bool
-is_behind d k r = (r.directory == d) && nat_lt k r.cookie
-
+-- ---- rows of a number behind a cookie
 filter_none : (p : Row → Bool) (xs : List Row) → ((x : Row) → In x xs → p x ≡ false) → filter p xs ≡ []
 filter_none p [] off = refl
 filter_none p (x ∷ xs) off = rw (off x (inl refl)) (filter_none p xs (λ y there. off y (inr there)))
@@ -243,64 +241,130 @@ above_nat k n lt = grind (arith, nat_tests)
 not_above : (k n : ℕ) → n ≤ k → nat_lt k n ≡ false
 not_above k n le = grind (arith, nat_tests)
 
+module _ (of : Row → ℕ) where
+  abbrev is_behind : ℕ → ℕ → Row → Bool
+  is_behind n k r = (of r == n) && nat_lt k r.cookie
+
+  behind_none : (rows : List Row) (has : ℕ × ℕ → Bool) (n k : ℕ) → ArePairs of rows has → ((c : ℕ) → k + 1 ≤ c → has (n, c) ≡ false) → filter (is_behind n k) rows ≡ []
+  behind_none rows has n k are none = filter_none (is_behind n k) rows off
+    where
+      off : (x : Row) → In x rows → is_behind n k x ≡ false
+      off x there = elim (cases_Bool (is_behind n k x)) [
+        | inl here ↦ (let parts = and_parts (of x == n) (nat_lt k x.cookie) here in
+            let up : k < x.cookie = nat_above k x.cookie parts.1 in
+            absurd (false≢true (sym (none x.cookie (omega arith)) ∙ ap (λ n. has (n, x.cookie)) (sym (eqb-true (of x) n parts.0)) ∙ row_pair of rows has x are there)))
+        | inr other ↦ other
+      ]
+
+  behind_end : (rows : List Row) (at : List ℕ → Option ℕ) (n k : ℕ) → AreNamed rows at → k + 1 ≡ 2 ^ 64 → filter (is_behind n k) rows ≡ []
+  behind_end rows at n k are top = filter_none (is_behind n k) rows off
+    where
+      off : (x : Row) → In x rows → is_behind n k x ≡ false
+      off x there = elim (cases_Bool (is_behind n k x)) [
+        | inl here ↦ (let up : k < x.cookie = nat_above k x.cookie (and_parts (of x == n) (nat_lt k x.cookie) here).1 in let few = (are.few x there).1 in absurd (omega arith))
+        | inr other ↦ other
+      ]
+
+  next_behind : (n k low high : ℕ) (rows : List Row) (x : Row) → IsRising cookie low rows high → In x rows → of x ≡ n → k < x.cookie
+      → ((y : Row) → In y rows → of y ≡ n → k < y.cookie → x.cookie ≤ y.cookie) → filter (is_behind n k) rows ≡ x ∷ filter (is_behind n x.cookie) rows
+  next_behind n k low high [] x rise there at up least = absurd there
+  next_behind n k low high (y ∷ ys) x rise (inl is) at up least =
+      let here : is_behind n k x ≡ true = rw (eq-eqb (of x) n at, above_nat k x.cookie up) refl in
+      let past : is_behind n x.cookie x ≡ false = rw (eq-eqb (of x) n at, not_above x.cookie x.cookie (omega arith)) refl in
+      let rest = filter_in (is_behind n k) (is_behind n x.cookie) ys (λ z there. (
+      let above = (in_bounds cookie (suc y.cookie) high ys z rise.1 there).0 in
+      let same : cookie x ≡ cookie y = ap cookie is in
+      let a : nat_lt k z.cookie ≡ true = above_nat k z.cookie (omega arith) in
+      let b : nat_lt x.cookie z.cookie ≡ true = above_nat x.cookie z.cookie (omega arith) in
+      rw (a, b) refl)) in
+      rw (← is, here, past) (ap (λ zs. x ∷ zs) rest)
+  next_behind n k low high (y ∷ ys) x rise (inr more) at up least =
+      let above = (in_bounds cookie (suc y.cookie) high ys x rise.1 more).0 in
+      let rest = next_behind n k (suc y.cookie) high ys x rise.1 more at up (λ z there. least z (inr there)) in
+      let off : is_behind n k y ≡ false = elim (cases_Bool (is_behind n k y)) [
+        | inl here ↦ (let parts = and_parts (of y == n) (nat_lt k y.cookie) here in
+            let le = least y (inl refl) (eqb-true (of y) n parts.0) (nat_above k y.cookie parts.1) in absurd (omega arith))
+        | inr other ↦ other
+      ] in
+      let past : is_behind n x.cookie y ≡ false = elim (cases_Bool (is_behind n x.cookie y)) [
+        | inl here ↦ (let low = nat_above x.cookie y.cookie (and_parts (of y == n) (nat_lt x.cookie y.cookie) here).1 in absurd (omega arith))
+        | inr other ↦ other
+      ] in
+      rw (off, past) rest
+
+  behind_next : (rows : List Row) (at : List ℕ → Option ℕ) (has : ℕ × ℕ → Bool) (n k : ℕ) (x : Row) → AreNamed rows at → ArePairs of rows has
+      → In x rows → of x ≡ n → k + 1 ≤ x.cookie → ((c : ℕ) → k + 1 ≤ c → has (n, c) ≡ true → x.cookie ≤ c) → filter (is_behind n k) rows ≡ x ∷ filter (is_behind n x.cookie) rows
+  behind_next rows at has n k x named are there stands up least =
+      next_behind n k 3 named.high rows x named.rising there stands (omega arith)
+      (λ y in_rows in_n above. least y.cookie (omega arith) (ap (λ n. has (n, y.cookie)) (sym in_n) ∙ row_pair of rows has y are in_rows))
+
+  -- the first row of a number
+  first_row : (n low high : ℕ) (rows : List Row) (x : Row) → IsRising cookie low rows high → In x rows → of x ≡ n
+      → ((y : Row) → In y rows → of y ≡ n → x.cookie ≤ y.cookie) → find (λ r. of r == n) rows ≡ Some x
+  first_row n low high [] x rise there at least = absurd there
+  first_row n low high (y ∷ ys) x rise (inl is) at least = rw (← is, eq-eqb (of x) n at) refl
+  first_row n low high (y ∷ ys) x rise (inr more) at least = elim (cases_Bool (of y == n)) [
+    | inl here ↦ (let le = least y (inl refl) (eqb-true (of y) n here) in
+        let above = (in_bounds cookie (suc y.cookie) high ys x rise.1 more).0 in absurd (omega arith))
+    | inr other ↦ rw other (first_row n (suc y.cookie) high ys x rise.1 more at (λ z there. least z (inr there)))
+  ]
+
+  pub find_first : (rows : List Row) (at : List ℕ → Option ℕ) (has : ℕ × ℕ → Bool) (n : ℕ) (x : Row) → AreNamed rows at → ArePairs of rows has
+      → In x rows → of x ≡ n → ((c : ℕ) → 0 ≤ c → has (n, c) ≡ true → x.cookie ≤ c) → find (λ r. of r == n) rows ≡ Some x
+  find_first rows at has n x named are there stands least = first_row n 3 named.high rows x named.rising there stands
+      (λ y in_rows in_n. least y.cookie (omega arith) (ap (λ n. has (n, y.cookie)) (sym in_n) ∙ row_pair of rows has y are in_rows))
+
+  pub find_nowhere : (rows : List Row) (has : ℕ × ℕ → Bool) (n : ℕ) → ArePairs of rows has → ((c : ℕ) → 0 ≤ c → has (n, c) ≡ false) → find (λ r. of r == n) rows ≡ None
+  find_nowhere rows has n are none = find_none (λ r. of r == n) rows off
+    where
+      off : (x : Row) → In x rows → (of x == n) ≡ false
+      off x there = elim (cases_Bool (of x == n)) [
+        | inl here ↦ absurd (false≢true (sym (none x.cookie (omega arith)) ∙ ap (λ n. has (n, x.cookie)) (sym (eqb-true (of x) n here)) ∙ row_pair of rows has x are there))
+        | inr other ↦ other
+      ]
+
+-- ---- a listing
 pub listing_none : (rows : List Row) (has : ℕ × ℕ → Bool) (d k : ℕ) → ArePairs (λ (r : Row). r.directory) rows has → ((c : ℕ) → k + 1 ≤ c → has (d, c) ≡ false) → listing rows d k ≡ []
-listing_none rows has d k are none = ap (map listed) (filter_none (is_behind d k) rows off)
-  where
-    off : (x : Row) → In x rows → is_behind d k x ≡ false
-    off x there = elim (cases_Bool (is_behind d k x)) [
-      | inl here ↦ (let parts = and_parts (x.directory == d) (nat_lt k x.cookie) here in
-          let up : k < x.cookie = nat_above k x.cookie parts.1 in
-          absurd (false≢true (sym (none x.cookie (omega arith)) ∙ ap (λ d. has (d, x.cookie)) (sym (eqb-true x.directory d parts.0)) ∙ row_pair (λ (r : Row). r.directory) rows has x are there)))
-      | inr other ↦ other
-    ]
+listing_none rows has d k are none = ap (map listed) (behind_none (λ (r : Row). r.directory) rows has d k are none)
 
 pub listing_end : (rows : List Row) (at : List ℕ → Option ℕ) (d k : ℕ) → AreNamed rows at → k + 1 ≡ 2 ^ 64 → listing rows d k ≡ []
-listing_end rows at d k are top = ap (map listed) (filter_none (is_behind d k) rows off)
-  where
-    off : (x : Row) → In x rows → is_behind d k x ≡ false
-    off x there = elim (cases_Bool (is_behind d k x)) [
-      | inl here ↦ (let up : k < x.cookie = nat_above k x.cookie (and_parts (x.directory == d) (nat_lt k x.cookie) here).1 in let few = (are.few x there).1 in absurd (omega arith))
-      | inr other ↦ other
-    ]
-
-next_behind : (d k low high : ℕ) (rows : List Row) (x : Row) → IsRising cookie low rows high → In x rows → x.directory ≡ d → k < x.cookie
-    → ((y : Row) → In y rows → y.directory ≡ d → k < y.cookie → x.cookie ≤ y.cookie) → filter (is_behind d k) rows ≡ x ∷ filter (is_behind d x.cookie) rows
-next_behind d k low high [] x rise there at up least = absurd there
-next_behind d k low high (y ∷ ys) x rise (inl is) at up least =
-    let here : is_behind d k x ≡ true = rw (eq-eqb x.directory d at, above_nat k x.cookie up) refl in
-    let past : is_behind d x.cookie x ≡ false = rw (eq-eqb x.directory d at, not_above x.cookie x.cookie (omega arith)) refl in
-    let rest = filter_in (is_behind d k) (is_behind d x.cookie) ys (λ z there. (
-    let above = (in_bounds cookie (suc y.cookie) high ys z rise.1 there).0 in
-    let same : cookie x ≡ cookie y = ap cookie is in
-    let a : nat_lt k z.cookie ≡ true = above_nat k z.cookie (omega arith) in
-    let b : nat_lt x.cookie z.cookie ≡ true = above_nat x.cookie z.cookie (omega arith) in
-    rw (a, b) refl)) in
-    rw (← is, here, past) (ap (λ zs. x ∷ zs) rest)
-next_behind d k low high (y ∷ ys) x rise (inr more) at up least =
-    let above = (in_bounds cookie (suc y.cookie) high ys x rise.1 more).0 in
-    let rest = next_behind d k (suc y.cookie) high ys x rise.1 more at up (λ z there. least z (inr there)) in
-    let off : is_behind d k y ≡ false = elim (cases_Bool (is_behind d k y)) [
-      | inl here ↦ (let parts = and_parts (y.directory == d) (nat_lt k y.cookie) here in
-          let le = least y (inl refl) (eqb-true y.directory d parts.0) (nat_above k y.cookie parts.1) in absurd (omega arith))
-      | inr other ↦ other
-    ] in
-    let past : is_behind d x.cookie y ≡ false = elim (cases_Bool (is_behind d x.cookie y)) [
-      | inl here ↦ (let low = nat_above x.cookie y.cookie (and_parts (y.directory == d) (nat_lt x.cookie y.cookie) here).1 in absurd (omega arith))
-      | inr other ↦ other
-    ] in
-    rw (off, past) rest
+listing_end rows at d k are top = ap (map listed) (behind_end (λ (r : Row). r.directory) rows at d k are top)
 
 pub listing_next : (rows : List Row) (at : List ℕ → Option ℕ) (has : ℕ × ℕ → Bool) (d k : ℕ) (x : Row) → AreNamed rows at → ArePairs (λ (r : Row). r.directory) rows has
     → In x rows → x.directory ≡ d → k + 1 ≤ x.cookie → ((c : ℕ) → k + 1 ≤ c → has (d, c) ≡ true → x.cookie ≤ c) → listing rows d k ≡ listed x ∷ listing rows d x.cookie
-listing_next rows at has d k x named are there stands up least =
-    ap (map listed) (next_behind d k 3 named.high rows x named.rising there stands (omega arith)
-    (λ y in_rows in_d above. least y.cookie (omega arith) (ap (λ d. has (d, y.cookie)) (sym in_d) ∙ row_pair (λ (r : Row). r.directory) rows has y are in_rows)))
+listing_next rows at has d k x named are there stands up least = ap (map listed) (behind_next (λ (r : Row). r.directory) rows at has d k x named are there stands up least)
 
--- ---- the cookie of an entry
-pub some_cookie : (o : Option Row) (c : ℕ) → option_map cookie o ≡ Some c → (x : Row) × (o ≡ Some x) × (x.cookie ≡ c)
-some_cookie (Some x) c e = (x, refl, cc)
-some_cookie None c e = absurd cc
+-- ---- links
+pub links_none : (rows : List Row) (has : ℕ × ℕ → Bool) (n k : ℕ) → ArePairs (λ (r : Row). r.object) rows has → ((c : ℕ) → k + 1 ≤ c → has (n, c) ≡ false) → links_behind rows n k ≡ 0
+links_none rows has n k are none = ap length (behind_none (λ (r : Row). r.object) rows has n k are none)
 
-pub none_cookie : (o : Option Row) → option_map cookie o ≡ None → o ≡ None
-none_cookie (Some x) e = absurd cc
-none_cookie None e = refl
+pub links_end : (rows : List Row) (at : List ℕ → Option ℕ) (n k : ℕ) → AreNamed rows at → k + 1 ≡ 2 ^ 64 → links_behind rows n k ≡ 0
+links_end rows at n k are top = ap length (behind_end (λ (r : Row). r.object) rows at n k are top)
+
+pub links_next : (rows : List Row) (at : List ℕ → Option ℕ) (has : ℕ × ℕ → Bool) (n k : ℕ) (x : Row) → AreNamed rows at → ArePairs (λ (r : Row). r.object) rows has
+    → In x rows → x.object ≡ n → k + 1 ≤ x.cookie → ((c : ℕ) → k + 1 ≤ c → has (n, c) ≡ true → x.cookie ≤ c) → links_behind rows n k ≡ links_behind rows n x.cookie + 1
+links_next rows at has n k x named are there stands up least =
+    let one : links_behind rows n k ≡ suc (links_behind rows n x.cookie) = ap length (behind_next (λ (r : Row). r.object) rows at has n k x named are there stands up least) in
+    omega arith
+
+-- every cookie is above 0
+pub links_all : (rows : List Row) (at : List ℕ → Option ℕ) (n : ℕ) → AreNamed rows at → links_behind rows n 0 ≡ links_in rows n
+links_all rows at n are = ap length (filter_in (is_behind (λ (r : Row). r.object) n 0) (λ r. r.object == n) rows (λ x there. all x (in_bounds cookie 3 are.high rows x are.rising there).0))
+  where
+    all : (x : Row) → 3 ≤ x.cookie → ((x.object == n) && nat_lt 0 x.cookie) ≡ (x.object == n)
+    all x up = rw (above_nat 0 x.cookie (omega arith)) (elim (cases_Bool (x.object == n)) [ inl here ↦ rw here refl | inr other ↦ rw other refl ])
+
+pub links_few : (es : List (ℕ × Row)) (n : ℕ) → links_in (values_of es) n ≤ length es
+links_few es n = let few = length_filter (λ (r : Row). r.object == n) (values_of es) in let same = length-map es (λ (e : ℕ × Row). e.1) in omega arith
+
+-- ---- the place of an entry
+abbrev pub place : Row → ℕ × ℕ
+place r = (r.object, r.cookie)
+
+pub some_place : (o : Option Row) (n c : ℕ) → option_map place o ≡ Some (n, c) → (x : Row) × (o ≡ Some x) × (x.object ≡ n) × (x.cookie ≡ c)
+some_place (Some x) n c e = let both : place x ≡ (n, c) = cc in (x, refl, ap (λ (p : ℕ × ℕ). p.0) both, ap (λ (p : ℕ × ℕ). p.1) both)
+some_place None n c e = absurd cc
+
+pub none_place : (o : Option Row) → option_map place o ≡ None → o ≡ None
+none_place (Some x) e = absurd cc
+none_place None e = refl

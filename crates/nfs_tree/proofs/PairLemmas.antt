@@ -1,16 +1,16 @@
 -- Maps of pairs: of a number that each row has, and its cookie.
-use Rattle.std.proofs.Common.{◌≡◌, ℕ, ◌<◌, ◌≤◌, ◌+◌, suc, Bool, true, false, cond, not, List, [], ◌∷◌, ◌++◌, Option, Some, None, refl, sym, ◌∙◌, ap, arith, inl, inr}
-use Rattle.std.specs.Prelude.{◌==◌, ◌&&◌, filter, find, is_some, nat_lt, IsSome}
+use Rattle.std.proofs.Common.{◌≡◌, ℕ, ◌≤◌, Bool, true, false, cond, not, List, [], ◌∷◌, ◌++◌, Option, Some, None, refl, sym, ◌∙◌, ap, arith, inl, inr}
+use Rattle.std.specs.Prelude.{◌==◌, ◌&&◌, is_some, IsSome}
 use Rattle.std.specs.List.{list_any}
 use Rattle.std.specs.declared.cmp.Ordering.{Ordering}
 use Rattle.std.specs.declared.cmp.Ordering.TheVariants.{Less, Equal, Greater}
-use Rattle.std.specs.Ordering.{nat_cmp, is_eq, is_gt}
+use Rattle.std.specs.Ordering.{is_eq, is_gt}
 use Rattle.std.specs.BTreeMap.{is_at, insert_entry}
 use Rattle.std.specs.Map.{lookup}
 use Rattle.std.proofs.lemmas.Bool.{cases_Bool, eq-eqb, eqb-true, and_parts, false≢true}
 use Rattle.std.proofs.lemmas.Bool.Decides.{nat_tests}
 use Rattle.nfs_xdr.specs.Tables.{IsRising, In, without_record}
-use Rattle.nfs_xdr.proofs.Lists.{in_filter, in_any, any_in, any_push, last_in, none_any, any_filter}
+use Rattle.nfs_xdr.proofs.Lists.{in_filter, in_any, any_in, any_push, last_in, any_filter}
 use Rattle.nfs_xdr.proofs.Tables.{in_once, in_bounds}
 use Rattle.nfs_tree.specs.declared.row.Row.{Row}
 use Rattle.nfs_tree.specs.Maps.{pair_cmp, has_pair, is_pair, ArePairs}
@@ -21,7 +21,7 @@ pair_at q k = grind (arith, nat_tests)
 pair_back : (q k : ℕ × ℕ) → is_at (pair_cmp q) k ≡ is_at (pair_cmp k) q
 pair_back q k = grind (arith, nat_tests)
 
-pair_is : (q k : ℕ × ℕ) → is_at (pair_cmp q) k ≡ true → (q.0 ≡ k.0) × (q.1 ≡ k.1)
+pub pair_is : (q k : ℕ × ℕ) → is_at (pair_cmp q) k ≡ true → (q.0 ≡ k.0) × (q.1 ≡ k.1)
 pair_is q k e = let parts = and_parts (q.0 == k.0) (q.1 == k.1) (sym (pair_at q k) ∙ e) in (eqb-true q.0 k.0 parts.0, eqb-true q.1 k.1 parts.1)
 
 -- a look-up after a new key
@@ -168,3 +168,8 @@ is_none (Some x) e = absurd cc
 pub not_there : {X : Type 0} (o : Option X) → o ≡ None → is_some o ≡ false
 not_there None e = refl
 not_there (Some x) e = absurd cc
+
+-- a pair that came and went
+pub pair_back_again : {X : Type 0} (o l m n : Option X) (b : Bool) → (b ≡ true → l ≡ None) → m ≡ cond b o l → n ≡ cond b None m → n ≡ l
+pair_back_again o l m n true none put gone = gone ∙ sym (none refl)
+pair_back_again o l m n false none put gone = gone ∙ put

@@ -1,5 +1,5 @@
--- How rows lie in ordered maps: by their cookies, and the cookies by name and by directory.
-use Rattle.std.specs.Prelude.{◌≡◌, ℕ, ◌<◌, ◌≤◌, ◌^◌, ◌==◌, Bool, ◌&&◌, List, ◌++◌, length, Option, Some, map, option_map, is_some}
+-- How rows lie in ordered maps: by their cookies, and the cookies by name, by directory and by object.
+use Rattle.std.specs.Prelude.{◌≡◌, ℕ, ◌<◌, ◌≤◌, ◌^◌, ◌==◌, nat_lt, Bool, ◌&&◌, List, ◌++◌, length, Option, Some, filter, map, option_map, is_some}
 use Rattle.std.specs.Int.{to_be_bytes, w64}
 use Rattle.std.specs.List.{list_any}
 use Rattle.std.specs.Ordering.{nat_cmp, ordering_then}
@@ -37,6 +37,10 @@ is_pair of q r = (of r == q.0) && (r.cookie == q.1)
 abbrev pub ArePairs : (Row → ℕ) → List Row → (ℕ × ℕ → Bool) → Type 0
 ArePairs of rows has = (q : ℕ × ℕ) → has q ≡ list_any (is_pair of q) rows
 
+-- how many rows behind a cookie name the object
+abbrev pub links_behind : List Row → ℕ → ℕ → ℕ
+links_behind rows n k = length (filter (λ r. (r.object == n) && nat_lt k r.cookie) rows)
+
 -- rows in rising order of their cookies, each the one found under its name, and the cookies found by name
 pub record AreNamed (rows : List Row) (at : List ℕ → Option ℕ) : Type 0 where
   pub high : ℕ
@@ -46,8 +50,9 @@ pub record AreNamed (rows : List Row) (at : List ℕ → Option ℕ) : Type 0 wh
   pub found : (r : Row) → In r rows → entry rows r.directory r.name ≡ Some r
   pub names : (d : ℕ) (name : List ℕ) → d < 2 ^ 64 → at (key_of d name) ≡ option_map (λ r. r.cookie) (entry rows d name)
 
--- the rows, the map of names and that of pairs
-pub record AreMapped {K : Type 0} (bytes : K → List ℕ) (es : List (ℕ × Row)) (ns : List (K × ℕ)) (ls : List ((ℕ × ℕ) × Unit {0})) : Type 0 where
+-- the rows, the map of names, and those of directories and of objects
+pub record AreMapped {K : Type 0} (bytes : K → List ℕ) (es : List (ℕ × Row)) (ns : List (K × ℕ)) (ls os : List ((ℕ × ℕ) × Unit {0})) : Type 0 where
   pub keyed : es ≡ by_cookie (values_of es)
   pub named : AreNamed (values_of es) (cookie_at bytes ns)
   pub listed : ArePairs (λ (r : Row). r.directory) (values_of es) (has_pair ls)
+  pub owned : ArePairs (λ (r : Row). r.object) (values_of es) (has_pair os)

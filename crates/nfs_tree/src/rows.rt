@@ -1,13 +1,13 @@
-//! The rows of all directories, found by name, and in each directory by cookie.
+//! The rows of all directories, found by name, in each directory by cookie, and by the object that they name.
 
-ghost use Rattle.std.specs.Prelude.{◌≡◌, ℕ, ◌≤◌, [], ◌∷◌, length, OnOk, OnErr, IfSome, IfNone, IsSome, None, Some, cond, option_copied, option_map};
+ghost use Rattle.std.specs.Prelude.{◌≡◌, ℕ, ◌+◌, ◌≤◌, [], ◌∷◌, length, OnOk, OnErr, IfSome, IfNone, IsSome, None, Some, cond, option_copied, option_map};
 ghost use Rattle.std.specs.Ordering.{nat_cmp};
 ghost use Rattle.std.specs.Cmp.Lexicographic.{slice_cmp};
 ghost use Rattle.std.specs.BTreeMap.{insert_entry, get, is_at, Updates, UpdatesBy};
 ghost use Rattle.std.specs.Map.{remove_entry};
 ghost use Rattle.nfs_xdr.specs.Tables.{IsRising};
 ghost use Rattle.nfs_tree.specs.Files.{entry, parent_in, links_in, has_row, has_entries, listing, listed, without_entry, most_name};
-ghost use Rattle.nfs_tree.specs.Maps.{key_of, pair_cmp};
+ghost use Rattle.nfs_tree.specs.Maps.{key_of, pair_cmp, links_behind};
 ghost use Rattle.nfs_tree.specs.Names.{with_row};
 
 use crate::name::Name;
@@ -28,6 +28,8 @@ pub(crate) struct Rows {
     names: BTreeMap<Vec<u8>, u64, Global>,
     /// The directory and the cookie of each.
     listed: BTreeMap<(u64, u64), (), Global>,
+    /// The object and the cookie of each.
+    owned: BTreeMap<(u64, u64), (), Global>,
 }
 
 impl Model for Rows {
@@ -40,7 +42,7 @@ impl Model for Rows {
 
     ghost view = { λ t. values_of t.rows.entries };
 
-    ghost invariant = { λ t. AreMapped (λ k. k.items) t.rows.entries t.names.entries t.listed.entries };
+    ghost invariant = { λ t. AreMapped (λ k. k.items) t.rows.entries t.names.entries t.listed.entries t.owned.entries };
 }
 
 impl Rows {
@@ -52,6 +54,7 @@ impl Rows {
             rows: BTreeMap::new(alloc),
             names: BTreeMap::new(alloc),
             listed: BTreeMap::new(alloc),
+            owned: BTreeMap::new(alloc),
         }
     }
 
@@ -108,9 +111,12 @@ impl Rows {
     pub(crate) fn parent_in(&self, object: u64) -> Option<u64>
         ensures { result ≡ parent_in self.now object }
     {
-        match self.rows.values().find(|r| r.object == object) {
-            Some(row) => Some(row.directory),
+        match first_from(&self.owned, object, 0) {
             None => None,
+            Some(first) => match self.rows.get(&first) {
+                None => None,
+                Some(row) => Some(row.directory),
+            },
         }
     }
 
@@ -118,23 +124,52 @@ impl Rows {
     pub(crate) fn links_in(&self, object: u64) -> usize
         ensures { result ≡ links_in self.now object }
     {
-        self.rows.values().filter(|r| r.object == object).count()
+        let mut count = 0;
+        let mut last = 0;
+        for _row in 0..self.rows.len() {
+            match self.owned_after(object, last) {
+                None => return count,
+                Some(cookie) => {
+                    count += 1;
+                    last = cookie;
+                }
+            }
+        }
+        count
     }
 
     /// Whether a row names the object.
     pub(crate) fn has_row(&self, object: u64) -> bool
         ensures { result ≡ has_row self.now object }
     {
-        self.rows.values().any(|r| r.object == object)
+        match first_from(&self.owned, object, 0) {
+            None => false,
+            Some(_) => true,
+        }
     }
 
-    /// The cookie of an entry.
-    fn cookie_of(&self, directory: u64, name: &[u8]) -> Option<u64>
-        ensures { result ≡ option_map (λ r. r.cookie) (entry self.now directory name.now) }
+    /// The cookie of the first row behind a cookie that names the object.
+    fn owned_after(&self, object: u64, cookie: u64) -> Option<u64>
+        ensures none { IfNone result (links_behind self.now object cookie ≡ 0) }
+        ensures some { IfSome result (λ c. links_behind self.now object cookie ≡ links_behind self.now object c + 1) }
+    {
+        let owned = &self.owned;
+        if cookie == u64::MAX {
+            return None;
+        }
+        match first_from(owned, object, cookie + 1) {
+            None => None,
+            Some(next) => Some(next),
+        }
+    }
+
+    /// The object and the cookie of an entry.
+    fn place_of(&self, directory: u64, name: &[u8]) -> Option<(u64, u64)>
+        ensures { result ≡ option_map (λ r. (r.object, r.cookie)) (entry self.now directory name.now) }
     {
         match self.entry(directory, name) {
             None => None,
-            Some(row) => Some(row.cookie),
+            Some(row) => Some((row.object, row.cookie)),
         }
     }
 
@@ -152,7 +187,7 @@ impl Rows {
         ensures ok { OnOk result (self.new ≡ with_row (without_entry directory name.now self.old) directory name.now object cookie) }
         ensures err { OnErr result (self.new ≡ self.old) }
     {
-        let old = self.cookie_of(directory, name);
+        let replaced = self.place_of(directory, name);
         let spelled = Spelled::new(directory, name);
         let key = Vec::from_slice(alloc, spelled.as_slice())?;
         let name = Name::of(alloc, name)?;
@@ -162,9 +197,17 @@ impl Rows {
             object,
             cookie,
         };
-        add(&mut self.rows, &mut self.names, &mut self.listed, key, row)?;
-        if let Some(gone) = old {
-            take(&mut self.rows, &mut self.listed, directory, gone);
+        add_owned(
+            &mut self.rows,
+            &mut self.names,
+            &mut self.listed,
+            &mut self.owned,
+            key,
+            row,
+        )?;
+        if let Some((owner, old)) = replaced {
+            take(&mut self.rows, &mut self.listed, directory, old);
+            take_pair(&mut self.owned, owner, old);
         }
         Ok(())
     }
@@ -191,9 +234,10 @@ impl Rows {
     pub(crate) fn drop_entry(&mut self, directory: u64, name: &[u8])
         ensures { self.new ≡ without_entry directory name.now self.old }
     {
-        if let Some(gone) = self.cookie_of(directory, name) {
+        if let Some((owner, gone)) = self.place_of(directory, name) {
             take_name(&mut self.names, directory, name);
             take(&mut self.rows, &mut self.listed, directory, gone);
+            take_pair(&mut self.owned, owner, gone);
         }
     }
 }
@@ -208,13 +252,7 @@ fn first_from(pairs: &BTreeMap<(u64, u64), (), Global>, number: u64, from: u64) 
     let mut keys = pairs.range((number, from)..);
     match keys.next() {
         None => None,
-        Some((key, _)) => {
-            if key.0 == number {
-                Some(key.1)
-            } else {
-                None
-            }
-        }
+        Some((key, _)) => { if key.0 == number { Some(key.1) } else { None } }
     }
 }
 
@@ -246,6 +284,43 @@ fn add(
     list_place.insert(());
     place.insert(row);
     Ok(())
+}
+
+/// Puts a row into the maps, that of objects among them, or into none.
+fn add_owned(
+    rows: &mut BTreeMap<u64, Row, Global>,
+    names: &mut BTreeMap<Vec<u8>, u64, Global>,
+    listed: &mut BTreeMap<(u64, u64), (), Global>,
+    owned: &mut BTreeMap<(u64, u64), (), Global>,
+    key: Vec<u8>,
+    row: Row,
+) -> Result<(), AllocError>
+    requires new_row { get nat_cmp rows.old row.cookie ≡ None }
+    requires new_pair { get pair_cmp listed.old (row.directory, row.cookie) ≡ None }
+    requires new_owner { get pair_cmp owned.old (row.object, row.cookie) ≡ None }
+    ensures rows { OnOk result (rows.new.entries ≡ insert_entry nat_cmp rows.old.entries row.cookie row) }
+    ensures names { OnOk result (Updates (λ x y. slice_cmp nat_cmp x.items y.items) names.old names.new key (Some row.cookie)) }
+    ensures listed { OnOk result (listed.new.entries ≡ insert_entry pair_cmp listed.old.entries (row.directory, row.cookie) tt) }
+    ensures owned { OnOk result (owned.new.entries ≡ insert_entry pair_cmp owned.old.entries (row.object, row.cookie) tt) }
+    ensures err_rows { OnErr result (rows.new.entries ≡ rows.old.entries) }
+    ensures err_names { OnErr result (names.new.entries ≡ names.old.entries) }
+    ensures err_listed { OnErr result (listed.new.entries ≡ listed.old.entries) }
+    ensures err_owned { OnErr result ((q : ℕ × ℕ) → get pair_cmp owned.new q ≡ get pair_cmp owned.old q) }
+{
+    let owner = row.object;
+    let cookie = row.cookie;
+    owned.insert((owner, cookie), ())?;
+    if let Err(fault) = add(rows, names, listed, key, row) {
+        take_pair(owned, owner, cookie);
+        return Err(fault);
+    }
+    Ok(())
+}
+
+fn take_pair(pairs: &mut BTreeMap<(u64, u64), (), Global>, number: u64, cookie: u64)
+    ensures { (q : ℕ × ℕ) → get pair_cmp pairs.new q ≡ cond (is_at (pair_cmp (number, cookie)) q) None (get pair_cmp pairs.old q) }
+{
+    pairs.remove(&(number, cookie));
 }
 
 fn take_name(names: &mut BTreeMap<Vec<u8>, u64, Global>, directory: u64, name: &[u8])

@@ -1,9 +1,9 @@
-use Rattle.std.proofs.Common.{◌≡◌, ℕ, ◌+◌, ◌≤◌, ◌^◌, true, Some, None, sym, ◌∙◌, ap, arith, subst, refl}
+use Rattle.std.proofs.Common.{◌≡◌, ℕ, ◌+◌, ◌≤◌, ◌^◌, true, Some, None, sym, ◌∙◌, ap}
 use Rattle.std.specs.Map.{values_of}
 use Rattle.nfs_xdr.specs.Tables.{record_at}
 use Rattle.nfs_xdr.proofs.Tables.{at_of_in}
 use Rattle.nfs_tree.specs.declared.row.Row.{Row}
-use Rattle.nfs_tree.specs.Maps.{has_pair, pair_cmp}
+use Rattle.nfs_tree.specs.Maps.{has_pair}
 use Rattle.nfs_tree.proofs.PairLemmas.{pair_row, is_there, there_is, not_there}
 use Rattle.nfs_tree.proofs.MapLemmas.{cookie, find_keyed, listing_none, listing_end, listing_next}
 use Rattle.nfs_tree.proofs.rows.Rows.after.Goals as goal

@@ -1,5 +1,4 @@
 use Rattle.std.proofs.Common.{◌≡◌, ◌<◌, ◌^◌, Some, None, sym, ◌∙◌, ap, arith}
-use Rattle.std.specs.Map.{values_of}
 use Rattle.nfs_tree.specs.Maps.{key_of, cookie_at}
 use Rattle.nfs_tree.proofs.MapLemmas.{find_keyed, named_row, named_none, too_long}
 use Rattle.nfs_tree.proofs.rows.Rows.entry.Goals as goal

@@ -24,8 +24,7 @@ returns c =
     let new = new_of c.args.new.now in
     let granted : create_fault t d c.args.name.now new ≡ None = judged_ok _ _ (sym c.judge_new.ensures ∙ c.in_ok-judge_new.was) in
     let made : Created = record { number = t.last_object + 1; directory = raised t d } in
-    let after = with_new t d c.args.name.now new c.args.sets.now c.args.now in
-    (
+    let after = with_new t d c.args.name.now new c.args.sets.now c.args.now in (
       ap Ok c.made-made.ensures ∙ sym (ap (λ o. (does_unless t o made after).answer) granted),
       c.in_ok-insert.ensures.ok ∙ sym (ap (λ o. (does_unless t o made after).after) granted),
     )
