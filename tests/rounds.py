@@ -1,4 +1,4 @@
-"""Has a toolchain's script that keeps nothing from one run to the next do no work twice in a run, and judges must-fail edits as tests/run_ci says.
+"""Has the toolchain's script do no work twice in a run, and judges must-fail edits as tests/run_ci says.
 
 - Edits of a crate are tried in rounds: one check of the crate with several edits, no two of which change the same function. The first
   reads the whole crate, a later one only the functions that its edits change and what those call. An edit that is not seen to be refused
@@ -6,6 +6,7 @@
 - What is proved of a library is proved once. It is built from nothing, as always, and holds all that its check wrote, where that of `rt ci`
   holds its statements; the check of its tests and the rounds of its edits are made from that. (A program's tests are proved from
   nothing, in a folder that is empty when their check begins, and its rounds stand on that or, where it has none, on one check more.)
+- Where a kit's script keeps what passed for later runs on this machine, tests/kept.py has it keep what these rounds came to.
 
 The lines before the last tell how many minutes of one core the proofs, the tests' proofs and the edits took, and which took most."""
 
@@ -18,6 +19,7 @@ import tempfile
 import threading
 import time
 
+import kept as for_later
 from edits import Said, changed, listed, text_of
 
 KINDS = {"proof": "proofs", "tests": "tests", "edits": "edits"}
@@ -35,6 +37,11 @@ class Rounds:
         # of each crate what its last check said, and whether a function that no edit of the check changes was seen to be proved in it
         self.outputs, self.unchanged = {}, {}
         rt.checked, rt.must_fail_all = self.checked, self.all_of
+
+    def by_toolchain(self, crate, edit, flags, kept):
+        """Returns whether the toolchain's script takes an edit for refused, and what it says."""
+        came, text = self.must_fail(crate, edit, flags, kept)
+        return came is True or came == "refused", text
 
     def checked(self, crate, texts, flags, kept, only=()):
         """Checks a copy of the crate with these texts in place of its own, over what kept holds where it is given, and returns how that
@@ -61,7 +68,7 @@ class Rounds:
         """Tries one edit as `rt ci` does, and asks whether a contract refuses it."""
         label = f"must-fail {crate.name}/{os.path.basename(edit)}"
         functions, why = changed(self.rt, edit, crate.folder)
-        is_well, text = (False, f"{label}: BAD EDIT: {why}") if why else self.must_fail(crate, edit, flags, kept)
+        is_well, text = (False, f"{label}: BAD EDIT: {why}") if why else self.by_toolchain(crate, edit, flags, kept)
         if is_well:
             is_well, text = self.judged(crate, edit, functions, functions, Said(self.outputs[crate.name]))
         print("tried", text[:200], flush=True)
@@ -196,6 +203,9 @@ def keep_all(rt, room):
         if crate.is_program or not tests:
             shutil.rmtree(path, ignore_errors=True)
             os.mkdir(path)
+        elif not os.path.isdir(path):
+            # (an earlier run proved the library)
+            unpacked(rt, crate, path)
         status = ci(crate, [*flags, "--incremental", path], tests) if tests else prove_once(rt, crate, flags, path)
         if not status and os.listdir(path) and (crate.is_program or not tests):
             # the check of a library's tests writes into the folder while edits are tried beside it
@@ -212,13 +222,16 @@ def prove_once(rt, crate, flags, path):
     os.makedirs(os.path.dirname(crate.rlib))
     status = crate.prove(["build", *crate.words(flags, keeps=False), "-o", crate.rlib])
     if not status:
-        unpack(rt, f"{crate.rlib}/toolchain/checked.a", path)
+        unpacked(rt, crate, path)
     return status
 
 
-def unpack(rt, archive, path):
-    """Unpacks checked modules into a folder for kept work, as the prover would have them there. A later check looks at each whether it is
-    that of the module as it stands; where a kit packs them otherwise, it finds none and proves them again."""
+def unpacked(rt, crate, path):
+    """Unpacks what the check of a library that was built wrote into a folder for kept work, as the prover would have it there, and returns the
+    folder. A later check looks at each module whether it is that of the text as it stands; where a kit packs them otherwise, it finds none and
+    proves them again."""
+    os.makedirs(path, exist_ok=True)
+    archive = f"{crate.rlib}/toolchain/checked.a"
     pack = [f"{rt.KIT}/toolchain/bin/llvm-ar"]
     listed = subprocess.run([*pack, "t", archive], stdin=subprocess.DEVNULL, stdout=subprocess.PIPE, text=True, errors="replace")
     names = [it for it in listed.stdout.splitlines() if "/" not in it]
@@ -226,8 +239,9 @@ def unpack(rt, archive, path):
     build = re.search(r"^--@ kernel (\S+)$", head.stdout, re.MULTILINE)
     if names and build:
         folder = f"{path}/{build[1].replace('/', '_')}"
-        os.mkdir(folder)
+        os.makedirs(folder, exist_ok=True)
         subprocess.run([*pack, "x", archive, *names], cwd=folder, stdin=subprocess.DEVNULL)
+    return path
 
 
 def in_order(rt, tasks):
@@ -246,7 +260,7 @@ def in_order(rt, tasks):
             lines = LINES_OF_A_TURN * turns[name]
         if name in libraries and kind == "tests":
             waits = [*waits, (name, "proof")]
-        if name in libraries and kind == "edits":
+        if name in libraries and kind == "edits" and (name, "proof") in tasks:
             waits, call = [(name, "proof")], beside_tests(name, call)
         ordered[key] = (waits, lines, needs, call)
     return ordered
@@ -286,7 +300,9 @@ def run(rt, words):
     rt.in_lanes = lambda tasks: in_lanes({key: (*task[:3], timed(key, task[3])) for key, task in in_order(rt, tasks).items()})
     with tempfile.TemporaryDirectory(prefix="rt-kept-") as room:
         is_ci = words[0] != "must-fail"
-        Rounds(rt, keep_all(rt, room) if is_ci else keep_own(rt, room, words[1:]), is_ci)
+        rounds = Rounds(rt, keep_all(rt, room) if is_ci else keep_own(rt, room, words[1:]), is_ci)
+        if for_later.keeps(rt):
+            for_later.Tries(rt, rounds, lambda crate: unpacked(rt, crate, f"{room}/{crate.name}-edits"))
         status = rt.main(words)
     if longest:
         print("longest, in minutes: " + ", ".join(text for _, text in sorted(longest, reverse=True)[:8]))
