@@ -14,13 +14,13 @@ use Rattle.nfs_opens.specs.Index.{Precedes, IsAscending, is_before, IsNext, HasP
 
 -- Of two pairs one precedes the other, or they are the same.
 
-abbrev pair_of : ℕ → ℕ → Pair
+abbrev pub pair_of : ℕ → ℕ → Pair
 pair_of of number = record { of = of; number = number }
 
 same_pair : (p q : Pair) → p.of ≡ q.of → p.number ≡ q.number → p ≡ q
 same_pair p q o n = ap (λ (k : ℕ). pair_of k p.number) o ∙ ap (λ (k : ℕ). pair_of q.of k) n
 
-compared : (p x : Pair) → Precedes p x ⊎ ((p ≡ x) ⊎ Precedes x p)
+pub compared : (p x : Pair) → Precedes p x ⊎ ((p ≡ x) ⊎ Precedes x p)
 compared p x =
     elim (cases_lt p.of x.of) [
       | inl low ↦ inl (inl low)
@@ -36,11 +36,11 @@ compared p x =
       ]
     ]
 
-never_itself : (p q : Pair) → Precedes p q → p ≢ q
+pub never_itself : (p q : Pair) → Precedes p q → p ≢ q
 never_itself p q (inl low) e = let o : p.of ≡ q.of = ap (λ (r : Pair). r.of) e in absurd (omega arith)
 never_itself p q (inr less) e = let n : p.number ≡ q.number = ap (λ (r : Pair). r.number) e in let lt = less.1 in absurd (omega arith)
 
-carried : (p q r : Pair) → Precedes p q → Precedes q r → Precedes p r
+pub carried : (p q r : Pair) → Precedes p q → Precedes q r → Precedes p r
 carried p q r (inl a) (inl b) = inl (omega arith)
 carried p q r (inl a) (inr b) = let o = b.0 in inl (omega arith)
 carried p q r (inr a) (inl b) = let o = a.0 in inl (omega arith)
@@ -61,12 +61,12 @@ tested of number too p same =
     let here : (p.of == of) ≡ true = eq-eqb p.of of same in
     rw (not_low, here) refl
 
-before_is : (p x : Pair) (too : Bool) → Precedes p x → is_before x.of x.number too p ≡ true
+pub before_is : (p x : Pair) (too : Bool) → Precedes p x → is_before x.of x.number too p ≡ true
 before_is p x too (inl low) = let less : nat_lt p.of x.of ≡ true = lt-ltb p.of x.of low in rw less refl
 before_is p x too (inr less) =
     let lower : nat_lt p.number x.number ≡ true = lt-ltb p.number x.number less.1 in tested x.of x.number too p less.0 ∙ rw lower refl
 
-behind_is : (p x : Pair) (too : Bool) → Precedes x p → is_before x.of x.number too p ≡ false
+pub behind_is : (p x : Pair) (too : Bool) → Precedes x p → is_before x.of x.number too p ≡ false
 behind_is p x too (inl low) =
     let not_low : nat_lt p.of x.of ≡ false = le-ltb p.of x.of (omega arith) in
     let other : (p.of == x.of) ≡ false = ne_eqb p.of x.of (λ e. absurd (omega arith)) in
@@ -77,7 +77,7 @@ behind_is p x too (inr more) =
     let other : (p.number == x.number) ≡ false = ne_eqb p.number x.number (λ e. absurd (omega arith)) in
     tested x.of x.number too p (sym more.0) ∙ rw (not_lower, other) (neither_way too)
 
-itself_is : (x : Pair) (too : Bool) → is_before x.of x.number too x ≡ too
+pub itself_is : (x : Pair) (too : Bool) → is_before x.of x.number too x ≡ too
 itself_is x too =
     let not_lower : nat_lt x.number x.number ≡ false = le-ltb x.number x.number (omega arith) in
     let here : (x.number == x.number) ≡ true = eq-eqb x.number x.number refl in
@@ -87,7 +87,7 @@ itself_is x too =
     both true = refl
     both false = refl
 
-stays_before : (p q x : Pair) (too : Bool) → Precedes p q → is_before x.of x.number too q ≡ true → is_before x.of x.number too p ≡ true
+pub stays_before : (p q x : Pair) (too : Bool) → Precedes p q → is_before x.of x.number too q ≡ true → is_before x.of x.number too p ≡ true
 stays_before p q x too lt e =
     elim (compared q x) [
       | inl low ↦ before_is p x too (carried p q x lt low)
@@ -176,7 +176,7 @@ behind_place ps of number too i q split e there =
 
 -- The next number.
 
-later : (of after : ℕ) (p : Pair) → p.of ≡ of → after < p.number → is_before of after true p ≡ false
+pub later : (of after : ℕ) (p : Pair) → p.of ≡ of → after < p.number → is_before of after true p ≡ false
 later of after p same more = behind_is p (pair_of of after) true (inr (sym same, more))
 
 pub next_found : (ps : List Pair) (of after i : ℕ) (h : Pair) → IsAscending ps → SplitAt of after true ps i → slice_get ps i ≡ Some h → h.of ≡ of
@@ -227,7 +227,7 @@ next_none ps of after i order split at p there same =
 
 -- A pair that comes.
 
-in_insert : (ps : List Pair) (i : ℕ) (x q : Pair) → In q (insert ps i x) → (q ≡ x) ⊎ In q ps
+pub in_insert : {X : Type 0} (ps : List X) (i : ℕ) (x q : X) → In q (insert ps i x) → (q ≡ x) ⊎ In q ps
 in_insert [] zero x q (inl is) = inl is
 in_insert [] zero x q (inr more) = absurd more
 in_insert [] (suc i) x q (inl is) = inl is
@@ -311,7 +311,7 @@ got_within [] i x e = absurd cc
 got_within (p ∷ ps) zero x e = omega arith
 got_within (p ∷ ps) (suc i) x e = let less = got_within ps i x e in omega arith
 
-removed_in : (ps : List Pair) (i : ℕ) (q : Pair) → In q (remove ps i) → In q ps
+pub removed_in : {X : Type 0} (ps : List X) (i : ℕ) (q : X) → In q (remove ps i) → In q ps
 removed_in [] zero q there = absurd there
 removed_in [] (suc i) q there = absurd there
 removed_in (p ∷ ps) zero q there = inr there
@@ -352,6 +352,16 @@ has_taken ps qs i x order split there is =
 pub any_found : {X : Type 0} (p : X → Bool) (xs : List X) → is_some (find p xs) ≡ list_any p xs
 any_found p [] = refl
 any_found p (x ∷ xs) = elim (cases_Bool (p x)) [ inl here ↦ rw here refl | inr gone ↦ rw gone (any_found p xs) ]
+
+-- pairs that go
+pub ascending_left : (keep : Pair → Bool) (ps : List Pair) → IsAscending ps → IsAscending (filter keep ps)
+ascending_left keep [] order = tt
+ascending_left keep (p ∷ ps) order =
+    let rest = ascending_left keep ps order.1 in
+    elim (cases_Bool (keep p)) [
+      | inl stays ↦ rw stays ((λ q there. order.0 q (in_filter keep ps q there).0), rest)
+      | inr goes ↦ rw goes rest
+    ]
 
 -- An index of states, behind what changes the states.
 
@@ -423,15 +433,6 @@ module _ {X : Type 0} (of number : X → ℕ) where
   index_left n xs ps is gone = subst (λ (ys : List X). IsIndex of number ys ps) (sym (without_none number n xs gone)) is
 
   -- states that go with their pairs
-  ascending_left : (keep : Pair → Bool) (ps : List Pair) → IsAscending ps → IsAscending (filter keep ps)
-  ascending_left keep [] order = tt
-  ascending_left keep (p ∷ ps) order =
-      let rest = ascending_left keep ps order.1 in
-      elim (cases_Bool (keep p)) [
-        | inl stays ↦ rw stays ((λ q there. order.0 q (in_filter keep ps q there).0), rest)
-        | inr goes ↦ rw goes rest
-      ]
-
   pub index_part : (keep : X → Bool) (stays : Pair → Bool) (xs : List X) (ps : List Pair) → IsIndex of number xs ps
       → ((x : X) → In x xs → stays (pair x) ≡ keep x) → IsIndex of number (filter keep xs) (filter stays ps)
   index_part keep stays xs ps is same = record {

@@ -1,5 +1,5 @@
 -- The opens by their files, behind what changes one open, and behind one that goes.
-use Rattle.std.proofs.Common.{◌≡◌, ℕ, suc, ◌-◌, ◌<◌, ◌≤◌, Bool, true, false, List, Option, Some, None, map, sym, subst, arith, refl, inl, inr, Bor}
+use Rattle.std.proofs.Common.{◌≡◌, ℕ, suc, ◌-◌, ◌<◌, Bool, true, false, List, Option, Some, None, map, sym, subst, arith, refl, inl, inr, Bor}
 use Rattle.std.specs.Prelude.{◌==◌, ◌&&◌, not, nat_lt, is_some, find, if◌then◌else◌}
 use Rattle.std.specs.List.{list_any}
 use Rattle.std.specs.Option.{option_copied}
@@ -20,9 +20,6 @@ opens_changed of f n xs ys ps made file number is =
     (λ o. elim (cases_Bool (o.number == n)) [ inl here ↦ rw here (file o) | inr other ↦ rw other refl ])
     (λ o. elim (cases_Bool (o.number == n)) [ inl here ↦ rw here (number o) | inr other ↦ rw other refl ])
     is)
-
-pub no_more : (a b room more : ℕ) → b ≤ a → more ≡ room → a < room → b < more
-no_more a b room more le same lt = omega arith
 
 -- A walk over the opens of one file, by a test that only they pass.
 

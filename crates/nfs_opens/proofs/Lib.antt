@@ -1,3 +1,4 @@
+pub mod BlockLemmas
 pub mod FileLemmas
 pub mod HolderLemmas
 pub mod IndexLemmas

@@ -6,8 +6,7 @@ use Rattle.std.proofs.Math.Path.{fun_ext}
 use Rattle.std.proofs.lemmas.Bool.{cases_Bool, cases_eq, and_parts, eqb-true, eq-eqb, ne_eqb, false≢true}
 use Rattle.nfs_xdr.proofs.Lists.{find_in, any_in, in_any, none_in, none_any}
 use Rattle.nfs_xdr.proofs.Tables.{in_once}
-use Rattle.nfs_ranges.specs.Holders.{nobody}
-use Rattle.nfs_opens.specs.declared.locked_files.LockedFile.{LockedFile}
+use Rattle.nfs_ranges.specs.Holders.{LockedBytes, nobody}
 use Rattle.nfs_opens.specs.declared.records.OpenState.{OpenState}
 use Rattle.nfs_opens.specs.declared.records.LockState.{LockState}
 use Rattle.nfs_opens.specs.Holding.{held_by}
@@ -112,23 +111,23 @@ under_none t n is gone =
     ]
 
 -- the files that pass a test of their numbers stay listed
-listed : (p : ℕ → Bool) (es : List LockedFile) (f : ℕ) → held_by (filter (λ e. p e.file) es) f ≡ cond (p f) (held_by es f) nobody
+listed : (p : ℕ → Bool) (es : List (ℕ × LockedBytes)) (f : ℕ) → held_by (filter (λ e. p e.0) es) f ≡ cond (p f) (held_by es f) nobody
 listed p [] f = elim (p f) as (λ (b : Bool). nobody ≡ cond b nobody nobody) [ true ↦ refl | false ↦ refl ]
 listed p (e ∷ es) f =
-    elim (cases_Bool (p e.file)) [
-      | inl stays ↦ rw stays (elim (cases_eq e.file f) [
-        | inl here ↦ (let passes : p f ≡ true = ap p (sym here) ∙ stays in rw (eq-eqb e.file f here, passes) refl)
-        | inr other ↦ rw (ne_eqb e.file f other) (listed p es f)
+    elim (cases_Bool (p e.0)) [
+      | inl stays ↦ rw stays (elim (cases_eq e.0 f) [
+        | inl here ↦ (let passes : p f ≡ true = ap p (sym here) ∙ stays in rw (eq-eqb e.0 f here, passes) refl)
+        | inr other ↦ rw (ne_eqb e.0 f other) (listed p es f)
       ])
-      | inr goes ↦ rw goes (elim (cases_eq e.file f) [
+      | inr goes ↦ rw goes (elim (cases_eq e.0 f) [
         | inl here ↦ (let fails : p f ≡ false = ap p (sym here) ∙ goes in listed p es f ∙ rw fails refl)
-        | inr other ↦ rw (ne_eqb e.file f other) (listed p es f)
+        | inr other ↦ rw (ne_eqb e.0 f other) (listed p es f)
       ])
     ]
 
 -- files on which no lock state stands have no holders
-pub kept_listed : (locks : List LockState) (es : List LockedFile) → AreHolders locks (held_by es)
-    → held_by (filter (λ e. list_any (λ l. l.file == e.file) locks) es) ≡ held_by es
+pub kept_listed : (locks : List LockState) (es : List (ℕ × LockedBytes)) → AreHolders locks (held_by es)
+    → held_by (filter (λ e. list_any (λ l. l.file == e.0) locks) es) ≡ held_by es
 kept_listed locks es holders = fun_ext (λ f. listed (λ f. list_any (λ l. l.file == f) locks) es f ∙ elim (cases_Bool (list_any (λ (l : LockState). l.file == f) locks)) [
   | inl stands ↦ rw stands refl
   | inr none ↦ rw none (fun_ext (λ s. fun_ext (λ b. sym (elim (some_or_none (held_by es f s b)) [

@@ -1,8 +1,7 @@
 -- The locked bytes of all files: of each file who holds which byte, and how (RFC 8881 section 9.1).
 use Rattle.std.specs.Prelude.{◌≡◌, ◌≢◌, ℕ, ◌≤◌, ◌^◌, ◌==◌, List, [], ◌∷◌, Some, None, if◌then◌else◌}
 use Rattle.nfs_ranges.specs.declared.Kind.TheVariants.{Write}
-use Rattle.nfs_ranges.specs.Holders.{Holders, at, nobody}
-use Rattle.nfs_opens.specs.declared.locked_files.LockedFile.{LockedFile}
+use Rattle.nfs_ranges.specs.Holders.{Holders, LockedBytes, at, nobody}
 
 -- for each file, each lock state by its number and each byte: how it holds the byte, if it does
 abbrev pub FileHolders : Type 0
@@ -11,10 +10,10 @@ FileHolders = ℕ → Holders
 abbrev pub unlocked : FileHolders
 unlocked f = nobody
 
--- what a list of files says, each with its locked bytes
-abbrev pub held_by : List LockedFile → FileHolders
+-- what files say, each with its locked bytes
+abbrev pub held_by : List (ℕ × LockedBytes) → FileHolders
 held_by [] f = nobody
-held_by (e ∷ es) f = if e.file == f then at e.ranges else held_by es f
+held_by (e ∷ es) f = if e.0 == f then at e.1 else held_by es f
 
 -- one file's holders change, all others stay
 abbrev pub on_file : FileHolders → ℕ → (Holders → Holders) → FileHolders

@@ -46,12 +46,12 @@ abbrev pub marked : {X : Type 0} → (X → ℕ) → (X → Bool) → List X →
 marked number test states n = option_map_or test (find (λ x. number x == n) states) false
 
 -- What holds of all that is kept, and of the pairs that index the opens by their files and by their clients, and the lock states by their files; capacity is how
--- many opens there is room for, places and seats how many pairs of opens.
-pub record IsKept (k : Kept) (capacity : ℕ) (pairs : List Pair) (places : ℕ) (owned : List Pair) (seats : ℕ) (locked : List Pair) : Type 0 where
+-- many opens there is room for, and two say whether there is room for one more pair of an open.
+pub record IsKept (k : Kept) (capacity : ℕ) (pairs : List Pair) (has_place : Bool) (owned : List Pair) (has_seat : Bool) (locked : List Pair) : Type 0 where
   pub table : IsTable (table k)
   pub room : k.ready ≡ true → length k.opens < capacity
   pub by_file : IsIndex (λ o. o.file) (λ o. o.number) k.opens pairs
-  pub place : k.ready ≡ true → length pairs < places
+  pub place : k.ready ≡ true → has_place ≡ true
   pub by_client : IsIndex (λ o. o.client) (λ o. o.number) k.opens owned
-  pub seat : k.ready ≡ true → length owned < seats
+  pub seat : k.ready ≡ true → has_seat ≡ true
   pub locks : IsIndex (λ l. l.file) (λ l. l.number) k.locks locked

@@ -1,3 +1,4 @@
+pub mod Blocks
 pub mod Closing
 pub mod Holding
 pub mod Index

@@ -2,11 +2,11 @@
 use Rattle.std.specs.Prelude.{◌≡◌, ◌≢◌, ℕ, ◌==◌, suc, Bool, false, not, ◌&&◌, ◌||◌, List, [], Option, None, Result, find}
 use Rattle.std.specs.Prelude.{map, bytes_eq, if◌then◌else◌}
 use Rattle.nfs_xdr.specs.Tables.{IsRising, In}
+use Rattle.nfs_ranges.specs.Holders.{LockedBytes}
 use Rattle.nfs_ranges.specs.Told.{IsBelow}
 use Rattle.nfs_opens.specs.declared.share.Share.{Share}
 use Rattle.nfs_opens.specs.declared.records.OpenState.{OpenState}
 use Rattle.nfs_opens.specs.declared.records.LockState.{LockState}
-use Rattle.nfs_opens.specs.declared.locked_files.LockedFile.{LockedFile}
 use Rattle.nfs_opens.specs.Share.{meets}
 use Rattle.nfs_opens.specs.Holding.{FileHolders, HasNoClash, HasNoByteBehind, held_by, unlocked}
 
@@ -15,7 +15,7 @@ use Rattle.nfs_opens.specs.Holding.{FileHolders, HasNoClash, HasNoByteBehind, he
 pub record Kept : Type 0 where
   pub opens : List OpenState
   pub locks : List LockState
-  pub files : List LockedFile
+  pub files : List (ℕ × LockedBytes)
   pub last : ℕ
   pub instance : ℕ
   pub ready : Bool

@@ -4,10 +4,12 @@ ghost use Rattle.std.specs.Prelude.{◌≡◌, ◌≤◌, ◌==◌, ◌&&◌, fa
 ghost use Rattle.std.specs.List.{list_any};
 ghost use Rattle.nfs_opens.specs.Holding.{held_by};
 ghost use Rattle.nfs_opens.specs.Table.{table, lock_at, AreHolders, IsTable, Rises};
+ghost use Rattle.nfs_opens.specs.Blocks.{goes, IsSearched};
 ghost use Rattle.nfs_opens.specs.Index.{IsIndex, marked};
 ghost use Rattle.nfs_opens.specs.Closing.{leaves, without_open, without_client, close, drop_client, free_lock, free, held_without};
 
-use crate::index::{Pair, take};
+use crate::blocks::Index;
+use crate::index::Pair;
 use crate::judging::{Seat, Sort};
 use crate::locked_files::LockedFiles;
 use crate::opens::Opens;
@@ -19,7 +21,7 @@ use nfs_xdr::Status;
 
 /// Which lock states leave.
 #[derive(Clone, Copy)]
-enum Leaving {
+pub(crate) enum Leaving {
     /// Those under an open.
     Under(u64),
     /// A client's.
@@ -37,6 +39,30 @@ impl Leaving {
     }
 }
 
+/// Which pairs of an index go.
+#[derive(Clone, Copy)]
+pub(crate) enum Going<'a> {
+    /// Those of lock states that leave.
+    Locks(&'a [LockState], Leaving),
+    /// Those of a client's opens.
+    Opens(&'a [OpenState], u64),
+    /// Those that belong to a client.
+    Owned(u64),
+}
+
+impl Going<'_> {
+    pub(crate) fn takes(self, pair: Pair) -> bool
+        requires { IsSearched self }
+        ensures { result ≡ goes self.entry pair }
+    {
+        match self {
+            Going::Locks(locks, leaving) => is_leaving(locks, pair.number, leaving),
+            Going::Opens(opens, client) => is_clients(opens, pair.number, client),
+            Going::Owned(client) => pair.of == client,
+        }
+    }
+}
+
 fn drop_open(opens: &mut Vec<OpenState>, number: u64)
     requires { Rises (λ o. o.number) 1 opens.old.items }
     ensures items { opens.new.items ≡ filter (λ o. not (o.number == number)) opens.old.items }
@@ -48,57 +74,46 @@ fn drop_open(opens: &mut Vec<OpenState>, number: u64)
 }
 
 /// An open no longer stands among those of its file.
-fn drop_pair(by_file: &mut Vec<Pair>, opens: &[OpenState], number: u64)
+fn drop_pair(by_file: &mut Index, opens: &[OpenState], number: u64)
     requires rises { Rises (λ o. o.number) 1 opens.now }
     requires index { IsIndex (λ o. o.file) (λ o. o.number) opens.now by_file.old.items }
     ensures index { IsIndex (λ o. o.file) (λ o. o.number) (filter (λ o. not (o.number == number)) opens.now) by_file.new.items }
-    ensures room { vec_capacity by_file.new ≡ vec_capacity by_file.old }
-    ensures fewer { length by_file.new.items ≤ length by_file.old.items }
+    ensures room { by_file.new.ready ≡ by_file.old.ready }
 {
     if let Some(open) = open_in(opens, number) {
-        take(
-            by_file,
-            Pair {
-                of: open.file,
-                number,
-            },
-        );
+        by_file.take(Pair {
+            of: open.file,
+            number,
+        });
     }
 }
 
 /// An open no longer stands among those of its client.
-fn drop_own_pair(by_client: &mut Vec<Pair>, opens: &[OpenState], number: u64)
+fn drop_own_pair(by_client: &mut Index, opens: &[OpenState], number: u64)
     requires rises { Rises (λ o. o.number) 1 opens.now }
     requires index { IsIndex (λ o. o.client) (λ o. o.number) opens.now by_client.old.items }
     ensures index { IsIndex (λ o. o.client) (λ o. o.number) (filter (λ o. not (o.number == number)) opens.now) by_client.new.items }
-    ensures room { vec_capacity by_client.new ≡ vec_capacity by_client.old }
-    ensures fewer { length by_client.new.items ≤ length by_client.old.items }
+    ensures room { by_client.new.ready ≡ by_client.old.ready }
 {
     if let Some(open) = open_in(opens, number) {
-        take(
-            by_client,
-            Pair {
-                of: open.client,
-                number,
-            },
-        );
+        by_client.take(Pair {
+            of: open.client,
+            number,
+        });
     }
 }
 
 /// A lock state no longer stands among those of its file.
-fn drop_lock_pair(by_file: &mut Vec<Pair>, locks: &[LockState], number: u64)
+fn drop_lock_pair(by_file: &mut Index, locks: &[LockState], number: u64)
     requires rises { Rises (λ l. l.number) 1 locks.now }
     requires index { IsIndex (λ l. l.file) (λ l. l.number) locks.now by_file.old.items }
     ensures { IsIndex (λ l. l.file) (λ l. l.number) (filter (λ l. not (l.number == number)) locks.now) by_file.new.items }
 {
     if let Some(lock) = lock_in(locks, number) {
-        take(
-            by_file,
-            Pair {
-                of: lock.file,
-                number,
-            },
-        );
+        by_file.take(Pair {
+            of: lock.file,
+            number,
+        });
     }
 }
 
@@ -142,11 +157,11 @@ fn drop_bytes(files: &mut LockedFiles, locks: &[LockState], leaving: Leaving)
     }
 }
 
-fn drop_lock_pairs(by_file: &mut Vec<Pair>, locks: &[LockState], leaving: Leaving)
+fn drop_lock_pairs(by_file: &mut Index, locks: &[LockState], leaving: Leaving)
     requires { Rises (λ l. l.number) 1 locks.now }
     ensures { by_file.new.items ≡ filter (λ p. not (marked (λ l. l.number) (leaves leaving) locks.now p.number)) by_file.old.items }
 {
-    by_file.retain(|p| !is_leaving(locks, p.number, leaving));
+    by_file.keep(Going::Locks(locks, leaving));
 }
 
 fn drop_locks(locks: &mut Vec<LockState>, leaving: Leaving)
@@ -159,7 +174,7 @@ fn drop_locks(locks: &mut Vec<LockState>, leaving: Leaving)
 fn leave(
     files: &mut LockedFiles,
     locks: &mut Vec<LockState>,
-    by_file: &mut Vec<Pair>,
+    by_file: &mut Index,
     leaving: Leaving,
     any: bool,
 )
@@ -179,9 +194,9 @@ fn leave(
 }
 
 /// A file on which no lock state stands is no longer listed.
-fn forget_unlocked(files: &mut LockedFiles, locks: &[LockState], by_file: &[Pair], file: u64)
+fn forget_unlocked(files: &mut LockedFiles, locks: &[LockState], by_file: &Index, file: u64)
     requires rises { Rises (λ l. l.number) 1 locks.now }
-    requires index { IsIndex (λ l. l.file) (λ l. l.number) locks.now by_file.now }
+    requires index { IsIndex (λ l. l.file) (λ l. l.number) locks.now by_file.now.items }
     requires holders { AreHolders locks.now (held_by files.old) }
     ensures { held_by files.new ≡ held_by files.old }
 {
@@ -191,20 +206,20 @@ fn forget_unlocked(files: &mut LockedFiles, locks: &[LockState], by_file: &[Pair
 }
 
 /// The pairs of a client's opens go.
-fn drop_pairs(by_file: &mut Vec<Pair>, opens: &[OpenState], client: u64)
+fn drop_pairs(by_file: &mut Index, opens: &[OpenState], client: u64)
     requires { Rises (λ o. o.number) 1 opens.now }
     ensures items { by_file.new.items ≡ filter (λ p. not (marked (λ o. o.number) (λ o. o.client == client) opens.now p.number)) by_file.old.items }
-    ensures room { vec_capacity by_file.new ≡ vec_capacity by_file.old }
+    ensures room { by_file.new.ready ≡ by_file.old.ready }
 {
-    by_file.retain(|p| !is_clients(opens, p.number, client));
+    by_file.keep(Going::Opens(opens, client));
 }
 
 /// The pairs of a client go.
-fn drop_own_pairs(by_client: &mut Vec<Pair>, client: u64)
+fn drop_own_pairs(by_client: &mut Index, client: u64)
     ensures items { by_client.new.items ≡ filter (λ p. not (p.of == client)) by_client.old.items }
-    ensures room { vec_capacity by_client.new ≡ vec_capacity by_client.old }
+    ensures room { by_client.new.ready ≡ by_client.old.ready }
 {
-    by_client.retain(|p| p.of != client);
+    by_client.keep(Going::Owned(client));
 }
 
 fn drop_opens(opens: &mut Vec<OpenState>, client: u64)

@@ -1,6 +1,6 @@
 //! Which states belong to a file or to a client, in an order in which they are found by halving.
 
-ghost use Rattle.std.specs.Prelude.{◌≡◌, ◌≢◌, ◌<◌, ◌≤◌, true, false, length, vec_capacity, slice_get};
+ghost use Rattle.std.specs.Prelude.{◌≡◌, ◌≢◌, ◌+◌, ◌<◌, ◌≤◌, true, false, length, vec_capacity, slice_get};
 ghost use Rattle.std.specs.List.Sorted.{IsPartitionPoint};
 ghost use Rattle.nfs_xdr.specs.Tables.{In};
 ghost use Rattle.nfs_opens.specs.Index.{IsAscending, IsNext, HasPut, HasTaken, is_before};
@@ -13,7 +13,7 @@ pub(crate) struct Pair {
 }
 
 impl Pair {
-    fn is_before(self, of: u64, number: u64, too: bool) -> bool
+    pub(crate) fn is_before(self, of: u64, number: u64, too: bool) -> bool
         ensures { result ≡ is_before of number too self }
     {
         self.of < of || self.of == of && (self.number < number || too && self.number == number)
@@ -52,7 +52,9 @@ pub(crate) fn put(pairs: &mut Vec<Pair>, new: Pair)
     requires order { IsAscending pairs.old.items }
     requires room { length pairs.old.items < vec_capacity pairs.old }
     requires other { (p : Pair) → In p pairs.old.items → p ≢ new }
-    ensures { HasPut pairs.old.items new pairs.new.items }
+    ensures put { HasPut pairs.old.items new pairs.new.items }
+    ensures more { length pairs.new.items ≡ length pairs.old.items + 1 }
+    ensures room { vec_capacity pairs.new ≡ vec_capacity pairs.old }
 {
     let place = place_of(pairs, new.of, new.number, false);
     pairs.insert(place, new).unwrap();

@@ -13,6 +13,7 @@
 //! 18.12 (LOCK, LOCKT, LOCKU), 18.16 (OPEN), 18.18 (OPEN_DOWNGRADE), 18.38 (FREE_STATEID) and 18.48 (TEST_STATEID).
 #![tactic(auto)]
 
+mod blocks;
 mod closing;
 mod index;
 mod judging;

@@ -1,6 +1,6 @@
 //! The locked bytes of all files.
 
-ghost use Rattle.std.specs.Prelude.{◌≡◌, ◌≤◌, ◌==◌, OnOk, OnErr, IfOk, not, filter, position, []};
+ghost use Rattle.std.specs.Prelude.{◌≡◌, ◌≤◌, ◌==◌, OnOk, OnErr, IfOk, filter, []};
 ghost use Rattle.nfs_ranges.specs.Holders.{at, holding, cleared, dropped, holds_any, nobody};
 ghost use Rattle.nfs_ranges.specs.Told.{Tells};
 ghost use Rattle.std.specs.List.{list_any};
@@ -8,71 +8,51 @@ ghost use Rattle.nfs_opens.specs.Holding.{held_by, on_file};
 ghost use Rattle.nfs_opens.specs.Index.{IsIndex};
 ghost use Rattle.nfs_opens.specs.Table.{AreHolders, Rises};
 
-use crate::index::Pair;
+use crate::blocks::Index;
 use crate::records::{LockState, is_locked};
 use nfs_ranges::{Held, Kind, Ranges};
 use std::alloc::{AllocError, Global};
+use std::collections::BTreeMap;
 use std::marker::Model;
 
-/// The locked bytes of one file.
-#[derive(Drop)]
-pub(crate) struct LockedFile {
-    pub(crate) file: u64,
-    pub(crate) ranges: Ranges,
-}
-
-/// The files on which bytes were locked.
+/// The files on which bytes were locked, each with its locked bytes. Contracts see the list of these, in rising order of the files.
 #[derive(Drop)]
 pub(crate) struct LockedFiles {
-    files: Vec<LockedFile>,
+    files: BTreeMap<u64, Ranges, Global>,
 }
 
 impl Model for LockedFiles {
-    ghost use Rattle.std.specs.Prelude.{List};
-    ghost use Rattle.nfs_opens.specs.declared.locked_files.LockedFile.{LockedFile};
+    ghost use Rattle.std.specs.Prelude.{ℕ, List};
+    ghost use Rattle.nfs_ranges.specs.Holders.{LockedBytes};
 
-    ghost Value = { List LockedFile };
+    ghost Value = { List (ℕ × LockedBytes) };
 
-    ghost view = { λ l. l.files.items };
-}
-
-fn place_of(files: &[LockedFile], file: u64) -> Option<usize>
-    ensures { result ≡ position (λ e. e.file == file) files.now }
-{
-    files.iter().position(|e| e.file == file)
-}
-
-fn drop_file(files: &mut Vec<LockedFile>, file: u64)
-    ensures { files.new.items ≡ filter (λ e. not (e.file == file)) files.old.items }
-{
-    files.retain(|e| e.file != file);
+    ghost view = { λ l. l.files.entries };
 }
 
 /// The files go on which no lock state stands; `pairs`: the lock states by their files.
-fn drop_unlocked(files: &mut Vec<LockedFile>, locks: &[LockState], pairs: &[Pair])
+fn drop_unlocked(files: &mut BTreeMap<u64, Ranges, Global>, locks: &[LockState], pairs: &Index)
     requires rises { Rises (λ l. l.number) 1 locks.now }
-    requires index { IsIndex (λ l. l.file) (λ l. l.number) locks.now pairs.now }
-    ensures { files.new.items ≡ filter (λ e. list_any (λ l. l.file == e.file) locks.now) files.old.items }
+    requires index { IsIndex (λ l. l.file) (λ l. l.number) locks.now pairs.now.items }
+    ensures { files.new.entries ≡ filter (λ e. list_any (λ l. l.file == e.0) locks.now) files.old.entries }
 {
-    files.retain(|e| is_locked(locks, pairs, e.file));
+    files.retain(|file, _| is_locked(locks, pairs, *file));
 }
 
 /// The bytes of a new file, of which a lock state holds some.
 fn first_lock(
     alloc: Global,
-    file: u64,
     state: u64,
     kind: Kind,
     first: u64,
     last: u64,
-) -> Result<LockedFile, AllocError>
+) -> Result<Ranges, AllocError>
     requires { first ≤ last }
-    ensures file { IfOk result (λ e. e.file ≡ file) }
-    ensures bytes { IfOk result (λ e. at e.ranges ≡ holding nobody state kind first last) }
+    ensures { IfOk result (λ r. at r ≡ holding nobody state kind first last) }
 {
     let mut ranges = Ranges::new(alloc);
     ranges.set(alloc, state, kind, first, last)?;
-    Ok(LockedFile { file, ranges })
+    Ok(ranges)
 }
 
 impl LockedFiles {
@@ -81,7 +61,7 @@ impl LockedFiles {
         ensures { result ≡ [] }
     {
         LockedFiles {
-            files: Vec::new(alloc),
+            files: BTreeMap::new(alloc),
         }
     }
 
@@ -97,8 +77,8 @@ impl LockedFiles {
         requires { first ≤ last }
         ensures { Tells (held_by self.now file) state kind first last result }
     {
-        match place_of(&self.files, file) {
-            Some(place) => self.files[place].ranges.clash(state, kind, first, last),
+        match self.files.get(&file) {
+            Some(ranges) => ranges.clash(state, kind, first, last),
             None => None,
         }
     }
@@ -107,8 +87,8 @@ impl LockedFiles {
     pub(crate) fn any(&self, file: u64, state: u64) -> bool
         ensures { result ≡ holds_any (held_by self.now file) state }
     {
-        match place_of(&self.files, file) {
-            Some(place) => self.files[place].ranges.any(state),
+        match self.files.get(&file) {
+            Some(ranges) => ranges.any(state),
             None => false,
         }
     }
@@ -127,16 +107,12 @@ impl LockedFiles {
         ensures ok { OnOk result (held_by self.new ≡ on_file (held_by self.old) file (λ h. holding h state kind first last)) }
         ensures err { OnErr result (self.new ≡ self.old) }
     {
-        match place_of(&self.files, file) {
-            Some(place) => self.files[place]
-                .ranges
-                .set(alloc, state, kind, first, last),
-            None => {
-                let locked = first_lock(alloc, file, state, kind, first, last)?;
-                self.files.push(locked)?;
-                Ok(())
-            }
+        if let Some(ranges) = self.files.get_mut(&file) {
+            return ranges.set(alloc, state, kind, first, last);
         }
+        let locked = first_lock(alloc, state, kind, first, last)?;
+        self.files.insert(file, locked)?;
+        Ok(())
     }
 
     /// A lock state holds none of these bytes of a file.
@@ -152,25 +128,26 @@ impl LockedFiles {
         ensures ok { OnOk result (held_by self.new ≡ on_file (held_by self.old) file (λ h. cleared h state first last)) }
         ensures err { OnErr result (self.new ≡ self.old) }
     {
-        match place_of(&self.files, file) {
-            Some(place) => self.files[place].ranges.clear(alloc, state, first, last),
-            None => Ok(()),
+        if let Some(ranges) = self.files.get_mut(&file) {
+            return ranges.clear(alloc, state, first, last);
         }
+        Ok(())
     }
 
     /// A lock state holds no byte of a file.
     pub(crate) fn drop_state(&mut self, file: u64, state: u64)
         ensures { held_by self.new ≡ on_file (held_by self.old) file (λ h. dropped h state) }
     {
-        if let Some(place) = place_of(&self.files, file) {
-            self.files[place].ranges.drop_owner(state);
+        if let Some(ranges) = self.files.get_mut(&file) {
+            ranges.drop_owner(state);
+            return;
         }
     }
 
     /// Files on which no lock state stands are no longer listed; `pairs`: the lock states by their files.
-    pub(crate) fn keep_locked(&mut self, locks: &[LockState], pairs: &[Pair])
+    pub(crate) fn keep_locked(&mut self, locks: &[LockState], pairs: &Index)
         requires rises { Rises (λ l. l.number) 1 locks.now }
-        requires index { IsIndex (λ l. l.file) (λ l. l.number) locks.now pairs.now }
+        requires index { IsIndex (λ l. l.file) (λ l. l.number) locks.now pairs.now.items }
         requires holders { AreHolders locks.now (held_by self.old) }
         ensures { held_by self.new ≡ held_by self.old }
     {
@@ -181,6 +158,6 @@ impl LockedFiles {
     pub(crate) fn forget(&mut self, file: u64)
         ensures { held_by self.new ≡ on_file (held_by self.old) file (λ h. nobody) }
     {
-        drop_file(&mut self.files, file);
+        let _ = self.files.remove(&file);
     }
 }

@@ -8,7 +8,7 @@ ghost use Rattle.nfs_opens.specs.Holding.{held_by, on_file, HasNoByteBehind};
 ghost use Rattle.nfs_opens.specs.Table.{IsTable, table, open_at, lock_at};
 ghost use Rattle.nfs_opens.specs.Locking.{LocksOrWants, UnlocksOrWants, lock, lock_as, lock_first, lock_judged, unlock, test_lock, clash, permits, access_in, state_of, is_whole};
 
-use crate::index::{Pair, put};
+use crate::index::Pair;
 use crate::judging::{Seat, Sort};
 use crate::locked_files::LockedFiles;
 use crate::opens::Opens;
@@ -253,17 +253,14 @@ impl Opens {
         let number = self.last + 1;
         let owner = Owner::of(alloc, owner)?;
         self.locks.reserve(1)?;
-        self.locks_by_file.reserve(1)?;
+        self.locks_by_file.reserve(alloc)?;
         self.files
             .set(alloc, wish.file, number, wish.kind, wish.first, wish.last)?;
         self.last = number;
-        put(
-            &mut self.locks_by_file,
-            Pair {
-                of: wish.file,
-                number,
-            },
-        );
+        self.locks_by_file.put(Pair {
+            of: wish.file,
+            number,
+        });
         self.locks
             .push(LockState {
                 number,

@@ -7,7 +7,7 @@ ghost use Rattle.nfs_xdr.specs.Checks.{judged};
 ghost use Rattle.nfs_opens.specs.Table.{IsTable, table, clashes_with};
 ghost use Rattle.nfs_opens.specs.Opening.{asked, open_fault, opens, own_open, downgrade};
 
-use crate::index::{Pair, put};
+use crate::index::Pair;
 use crate::judging::Sort;
 use crate::opens::Opens;
 use crate::owner::Owner;
@@ -103,8 +103,8 @@ impl Opens {
     {
         let owner = Owner::of(alloc, owner)?;
         self.opens.reserve(1)?;
-        self.by_file.reserve(1)?;
-        self.by_client.reserve(1)?;
+        self.by_file.reserve(alloc)?;
+        self.by_client.reserve(alloc)?;
         self.ready = true;
         Ok(Ready { owner })
     }
@@ -133,20 +133,14 @@ impl Opens {
                 let number = self.last + 1;
                 self.ready = false;
                 self.last = number;
-                put(
-                    &mut self.by_file,
-                    Pair {
-                        of: ask.file,
-                        number,
-                    },
-                );
-                put(
-                    &mut self.by_client,
-                    Pair {
-                        of: ask.client,
-                        number,
-                    },
-                );
+                self.by_file.put(Pair {
+                    of: ask.file,
+                    number,
+                });
+                self.by_client.put(Pair {
+                    of: ask.client,
+                    number,
+                });
                 self.opens
                     .push(OpenState {
                         number,

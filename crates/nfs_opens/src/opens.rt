@@ -1,11 +1,11 @@
 //! The table of all opens, lock states and locked bytes.
 
-ghost use Rattle.std.specs.Prelude.{◌≡◌, ◌==◌, ◌&&◌, not, count_by, find, nat_lt};
+ghost use Rattle.std.specs.Prelude.{◌≡◌, ◌==◌, ◌&&◌, not, find, nat_lt};
 ghost use Rattle.std.specs.Option.{option_copied};
 ghost use Rattle.std.specs.List.{list_any};
 ghost use Rattle.nfs_opens.specs.Table.{IsTable, table, no_opens, open_at, lock_at};
 
-use crate::index::{Pair, next_in};
+use crate::blocks::Index;
 use crate::locked_files::LockedFiles;
 use crate::records::{LockState, OpenState, lock_in, next_lock_in, open_in};
 use crate::share::Share;
@@ -17,12 +17,12 @@ use std::marker::Model;
 pub struct Opens {
     pub(crate) opens: Vec<OpenState>,
     /// The opens by their files.
-    pub(crate) by_file: Vec<Pair>,
+    pub(crate) by_file: Index,
     /// The opens by their clients.
-    pub(crate) by_client: Vec<Pair>,
+    pub(crate) by_client: Index,
     pub(crate) locks: Vec<LockState>,
     /// The lock states by their files.
-    pub(crate) locks_by_file: Vec<Pair>,
+    pub(crate) locks_by_file: Index,
     pub(crate) files: LockedFiles,
     /// The last number that was given, to an open or a lock state; 0 before the first.
     pub(crate) last: u64,
@@ -40,7 +40,7 @@ impl Model for Opens {
 
     ghost view = { λ t. record { opens = t.opens.items; locks = t.locks.items; files = t.files; last = t.last; instance = t.instance; ready = t.ready } };
 
-    ghost invariant = { λ t. IsKept (record { opens = t.opens.items; locks = t.locks.items; files = t.files; last = t.last; instance = t.instance; ready = t.ready }) (vec_capacity t.opens) t.by_file.items (vec_capacity t.by_file) t.by_client.items (vec_capacity t.by_client) t.locks_by_file.items };
+    ghost invariant = { λ t. IsKept (record { opens = t.opens.items; locks = t.locks.items; files = t.files; last = t.last; instance = t.instance; ready = t.ready }) (vec_capacity t.opens) t.by_file.items t.by_file.ready t.by_client.items t.by_client.ready t.locks_by_file.items };
 }
 
 impl Opens {
@@ -51,10 +51,10 @@ impl Opens {
     {
         Opens {
             opens: Vec::new(alloc),
-            by_file: Vec::new(alloc),
-            by_client: Vec::new(alloc),
+            by_file: Index::new(alloc),
+            by_client: Index::new(alloc),
             locks: Vec::new(alloc),
-            locks_by_file: Vec::new(alloc),
+            locks_by_file: Index::new(alloc),
             files: LockedFiles::new(alloc),
             last: 0,
             instance,
@@ -82,7 +82,7 @@ impl Opens {
         ensures found { option_copied result ≡ find (λ o. (o.file == file) && nat_lt after o.number) (table self.now).opens }
         ensures kept { IsTable (table self.now) }
     {
-        match next_in(&self.by_file, file, after) {
+        match self.by_file.next(file, after) {
             Some(number) => open_in(&self.opens, number),
             None => None,
         }
@@ -93,7 +93,7 @@ impl Opens {
         ensures found { option_copied result ≡ find (λ o. (o.client == client) && nat_lt after o.number) (table self.now).opens }
         ensures kept { IsTable (table self.now) }
     {
-        match next_in(&self.by_client, client, after) {
+        match self.by_client.next(client, after) {
             Some(number) => open_in(&self.opens, number),
             None => None,
         }
@@ -113,14 +113,6 @@ impl Opens {
         ensures kept { IsTable (table self.now) }
     {
         next_lock_in(&self.locks, &self.locks_by_file, file, after)
-    }
-
-    /// How many opens a file has.
-    pub fn opens_of(&self, file: u64) -> usize
-        ensures count { result ≡ count_by (λ o. o.file == file) (table self.now).opens }
-        ensures kept { IsTable (table self.now) }
-    {
-        self.opens.iter().filter(|o| o.file == file).count()
     }
 
     /// Whether a file has an open.

@@ -8,7 +8,7 @@ ghost use Rattle.nfs_opens.specs.Index.{IsIndex};
 ghost use Rattle.nfs_opens.specs.Opening.{asked, joins, narrows, is_narrower};
 ghost use Rattle.nfs_opens.specs.Locking.{is_locker, raised};
 
-use crate::index::{Pair, next_in};
+use crate::blocks::Index;
 use crate::opening::Ask;
 use crate::owner::Owner;
 use crate::share::Share;
@@ -179,24 +179,24 @@ pub(crate) fn lock_in(locks: &[LockState], number: u64) -> Option<&LockState>
 /// The lock state on a file with the lowest number behind `after`; `pairs`: the lock states by their files.
 pub(crate) fn next_lock_in<'a>(
     locks: &'a [LockState],
-    pairs: &[Pair],
+    pairs: &Index,
     file: u64,
     after: u64,
 ) -> Option<&'a LockState>
     requires rises { Rises (λ l. l.number) 1 locks.now }
-    requires index { IsIndex (λ l. l.file) (λ l. l.number) locks.now pairs.now }
+    requires index { IsIndex (λ l. l.file) (λ l. l.number) locks.now pairs.now.items }
     ensures { option_copied result ≡ find (λ l. (l.file == file) && nat_lt after l.number) locks.now }
 {
-    match next_in(pairs, file, after) {
+    match pairs.next(file, after) {
         Some(number) => lock_in(locks, number),
         None => None,
     }
 }
 
 /// Whether a lock state stands on a file; `pairs`: the lock states by their files.
-pub(crate) fn is_locked(locks: &[LockState], pairs: &[Pair], file: u64) -> bool
+pub(crate) fn is_locked(locks: &[LockState], pairs: &Index, file: u64) -> bool
     requires rises { Rises (λ l. l.number) 1 locks.now }
-    requires index { IsIndex (λ l. l.file) (λ l. l.number) locks.now pairs.now }
+    requires index { IsIndex (λ l. l.file) (λ l. l.number) locks.now pairs.now.items }
     ensures { result ≡ list_any (λ l. l.file == file) locks.now }
 {
     next_lock_in(locks, pairs, file, 0).is_some()

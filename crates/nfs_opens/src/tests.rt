@@ -90,7 +90,7 @@ fn share_reservations(rt: HostRuntime) -> Result<(), Fail> {
         let got = open_file(&mut opens, rt.alloc(), &ask(B, access, deny));
         assert_eq!(rt; got, want, "B opens with {access}, {deny}");
     }
-    assert_eq!(rt; (opens.opens_of(FILE), opens.denies(FILE)), (2, share(2)));
+    assert_eq!(rt; opens.denies(FILE), share(2));
     assert_eq!(rt; (opens.is_open(FILE), opens.is_open(3)), (true, false));
     for want in [Ok(()), Err(Status::BadStateId)] {
         assert_eq!(rt; opens.close(id(1, 1), A, FILE), want);
@@ -378,6 +378,57 @@ fn a_client_ends_in_one_pass(rt: HostRuntime) -> Result<(), Fail> {
     assert!(rt; opens.lock_state(3).is_none());
     let told = clash_of(&opens, b"b", &wish(B, Kind::Write, 0, LAST));
     assert_eq!(rt; told, None);
+    Ok(())
+}
+
+/// A and then B open the files 9, 2, 7 and 5 (A by 1, 3, 5 and 7), and A's lock states 9 to 12 hold their first bytes.
+fn four_files(alloc: Global) -> Opens {
+    let mut opens = Opens::new(alloc, 7);
+    for file in [9, 2, 7, 5] {
+        for client in [A, B] {
+            let mut asked = ask(client, 3, 0);
+            asked.file = file;
+            let _ = open_file(&mut opens, alloc, &asked);
+        }
+    }
+    for (under, file) in [(1, 9), (3, 2), (5, 7), (7, 5)] {
+        let locker = Locker::New {
+            under: id(1, under),
+            owner: b"a",
+        };
+        let mut wished = wish(A, Kind::Write, 0, 99);
+        wished.file = file;
+        let _ = lock_bytes(&mut opens, alloc, &locker, &wished);
+    }
+    opens
+}
+
+/// Whose lock state a wish of B to read byte 50 of a file meets.
+fn met(opens: &Opens, file: u64) -> Option<u64> {
+    let mut wished = wish(B, Kind::Read, 50, 50);
+    wished.file = file;
+    clash_of(opens, b"b", &wished).map(|held| held.owner)
+}
+
+#[test]
+fn each_file_has_its_own_locks(rt: HostRuntime) -> Result<(), Fail> {
+    let mut opens = four_files(rt.alloc());
+    for (file, want) in [
+        (9, Some(9)),
+        (2, Some(10)),
+        (7, Some(11)),
+        (5, Some(12)),
+        (4, None),
+    ] {
+        assert_eq!(rt; met(&opens, file), want, "on file {file}");
+    }
+    assert_eq!(rt; opens.close(id(1, 3), A, 2), Ok(()));
+    let unlocked = opens.unlock(rt.alloc(), id(1, 11), A, 7, 0, LAST);
+    assert_eq!(rt; unlocked, Ok(id(2, 11)));
+    assert_eq!(rt; opens.free(id(2, 11), A), Ok(()));
+    for (file, want) in [(9, Some(9)), (2, None), (7, None), (5, Some(12))] {
+        assert_eq!(rt; met(&opens, file), want, "then on file {file}");
+    }
     Ok(())
 }
 

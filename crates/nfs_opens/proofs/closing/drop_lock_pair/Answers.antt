@@ -5,11 +5,8 @@ use Rattle.nfs_opens.specs.declared.records.LockState.{LockState}
 use Rattle.nfs_opens.proofs.IndexLemmas.{pair_in, index_taken, index_left}
 use Rattle.nfs_opens.proofs.closing.drop_lock_pair.Goals as goal
 
-pub take-requires-clause-order : goal.take-requires-clause-order
-take-requires-clause-order c = c.requires.index.order
-
-pub take-requires-clause-there : goal.take-requires-clause-there
-take-requires-clause-there c =
+pub take-requires : goal.take-requires
+take-requires c =
     let found : find (λ (l : LockState). l.number == c.args.number) c.args.locks.now ≡ Some c.in-Some.lock.now =
     sym c.lock_in.ensures ∙ ap option_copied c.in-Some.is in
     pair_in (λ (l : LockState). l.file) (λ l. l.number) c.args.number c.args.locks.now c.in-Some.lock.now c.args.by_file.now.items c.requires.index found
@@ -19,7 +16,7 @@ returns-in-Some c =
     let found : find (λ (l : LockState). l.number == c.args.number) c.args.locks.now ≡ Some c.in-Some.lock.now =
     sym c.lock_in.ensures ∙ ap option_copied c.in-Some.is in
     index_taken (λ (l : LockState). l.file) (λ l. l.number) 1 c.requires.rises.0 c.args.number c.args.locks.now c.in-Some.lock.now c.args.by_file.now.items
-    c.take.new.pairs.items c.requires.rises.1 c.requires.index found c.take.ensures.taken
+    c.take.new.self.items c.requires.rises.1 c.requires.index found c.take.ensures.taken
 
 pub returns-in_default : goal.returns-in_default
 returns-in_default c =

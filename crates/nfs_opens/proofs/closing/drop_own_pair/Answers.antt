@@ -5,11 +5,8 @@ use Rattle.nfs_opens.specs.declared.records.OpenState.{OpenState}
 use Rattle.nfs_opens.proofs.IndexLemmas.{pair_in, index_taken, index_left}
 use Rattle.nfs_opens.proofs.closing.drop_own_pair.Goals as goal
 
-pub take-requires-clause-order : goal.take-requires-clause-order
-take-requires-clause-order c = c.requires.index.order
-
-pub take-requires-clause-there : goal.take-requires-clause-there
-take-requires-clause-there c =
+pub take-requires : goal.take-requires
+take-requires c =
     let found : find (λ (o : OpenState). o.number == c.args.number) c.args.opens.now ≡ Some c.in-Some.open.now =
     sym c.open_in.ensures ∙ ap option_copied c.in-Some.is in
     pair_in (λ (o : OpenState). o.client) (λ o. o.number) c.args.number c.args.opens.now c.in-Some.open.now c.args.by_client.now.items c.requires.index found
@@ -19,7 +16,7 @@ returns-in-Some-clause-index c =
     let found : find (λ (o : OpenState). o.number == c.args.number) c.args.opens.now ≡ Some c.in-Some.open.now =
     sym c.open_in.ensures ∙ ap option_copied c.in-Some.is in
     index_taken (λ (o : OpenState). o.client) (λ o. o.number) 1 c.requires.rises.0 c.args.number c.args.opens.now c.in-Some.open.now c.args.by_client.now.items
-    c.take.new.pairs.items c.requires.rises.1 c.requires.index found c.take.ensures.taken
+    c.take.new.self.items c.requires.rises.1 c.requires.index found c.take.ensures.taken
 
 pub returns-in_default-clause-index : goal.returns-in_default-clause-index
 returns-in_default-clause-index c =

@@ -9,8 +9,8 @@ use Rattle.nfs_opens.proofs.index.put.Goals as goal
 pub place_of-place-requires : goal.place_of-place-requires
 place_of-place-requires c = subst IsAscending (sym c.deref.ensures.value) c.requires.order
 
-pub returns : goal.returns
-returns c =
+pub returns-clause-put : goal.returns-clause-put
+returns-clause-put c =
     let items : c.insert.new.self.items ≡ insert c.args.pairs.now.items c.place_of-place.result c.args.new = grind (arith, common_steps) in
     has_put c.args.pairs.now.items c.insert.new.self.items c.place_of-place.result c.args.new c.requires.order
     (subst (λ (ps : List Pair). SplitAt c.args.new.of c.args.new.number false ps c.place_of-place.result) c.deref.ensures.value c.place_of-place.ensures.split)

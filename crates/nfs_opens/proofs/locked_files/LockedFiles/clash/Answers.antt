@@ -1,25 +1,13 @@
-use Rattle.std.proofs.Common.{◌≡◌, sym, ◌∙◌, ap, subst, Some, None, List}
-use Rattle.std.specs.Prelude.{◌==◌, position}
-use Rattle.nfs_ranges.specs.Holders.{Holders}
-use Rattle.nfs_ranges.specs.Told.{Tells}
-use Rattle.nfs_opens.specs.declared.locked_files.LockedFile.{LockedFile}
-use Rattle.nfs_opens.specs.Holding.{held_by}
-use Rattle.nfs_opens.proofs.FileLemmas.{held_at, held_nowhere}
-use Rattle.nfs_opens.proofs.FileLemmas.{nobody_clashes}
+use Rattle.std.proofs.Common.{sym, ◌∙◌, ap}
+use Rattle.nfs_opens.proofs.FileLemmas.{holders_of, held_found, nobody_clashes}
 use Rattle.nfs_opens.proofs.locked_files.LockedFiles.clash.Goals as goal
 
 pub returns-in-Some : goal.returns-in-Some
 returns-in-Some c =
-    let place : position (λ (e : LockedFile). e.file == c.args.file) c.self.inside.files.items ≡ Some c.in-Some.place =
-    ap (position (λ (e : LockedFile). e.file == c.args.file)) (sym c.deref.ensures.value) ∙ (sym c.place_of.ensures ∙ c.in-Some.is) in
-    let held = ap (λ (xs : List LockedFile). held_by xs c.args.file) (sym c.self.view_is)
-    ∙ held_at c.args.file c.self.inside.files.items c.in-Some.place c.index.result.now place c.index.ensures in
-    subst (λ (h : Holders). Tells h c.args.state c.args.kind c.args.first c.args.last c.clash.result) (sym held) c.clash.ensures
+    let held = held_found c.args.file c.self.inside.files.entries ∙ ap holders_of (sym c.in-Some.ensures.value) in
+    rw (← c.self.view_is, held) c.clash.ensures
 
 pub returns-in-None : goal.returns-in-None
 returns-in-None c =
-    let gone : position (λ (e : LockedFile). e.file == c.args.file) c.self.inside.files.items ≡ None =
-    ap (position (λ (e : LockedFile). e.file == c.args.file)) (sym c.deref.ensures.value) ∙ (sym c.place_of.ensures ∙ c.in-None.is) in
-    let held = ap (λ (xs : List LockedFile). held_by xs c.args.file) (sym c.self.view_is) ∙ held_nowhere c.args.file c.self.inside.files.items gone in
-    subst (λ (h : Holders). Tells h c.args.state c.args.kind c.args.first c.args.last None) (sym held)
-    (nobody_clashes c.args.state c.args.kind c.args.first c.args.last)
+    let held = held_found c.args.file c.self.inside.files.entries ∙ ap holders_of (sym c.in-None.ensures.value) in
+    rw (← c.self.view_is, held) (nobody_clashes c.args.state c.args.kind c.args.first c.args.last)

@@ -1,33 +1,28 @@
-use Rattle.std.proofs.Common.{◌≡◌, sym, ◌∙◌, ap, Some, None, List, refl}
-use Rattle.std.specs.Prelude.{◌==◌, position}
-use Rattle.std.proofs.lemmas.Result.{on_ok_weaker}
-use Rattle.nfs_ranges.specs.Holders.{Holders, holding}
-use Rattle.nfs_opens.specs.declared.locked_files.LockedFile.{LockedFile}
-use Rattle.nfs_opens.specs.Holding.{held_by, on_file}
-use Rattle.nfs_opens.proofs.FileLemmas.{held_written, held_pushed}
+use Rattle.std.proofs.Common.{ℕ, sym, ◌∙◌, ap, Some}
+use Rattle.std.proofs.lemmas.Result.{on_ok_weaker, on_err_weaker}
+use Rattle.std.specs.BTreeMap.{BTreeMap}
+use Rattle.nfs_ranges.specs.Holders.{Holders, LockedBytes, holding}
+use Rattle.nfs_opens.specs.Holding.{held_by}
+use Rattle.nfs_opens.proofs.FileLemmas.{holders_of, held_found, held_updated, held_written, written_same}
 use Rattle.nfs_opens.proofs.locked_files.LockedFiles.set.Goals as goal
 
 pub returns-in-Some-clause-ok : goal.returns-in-Some-clause-ok
 returns-in-Some-clause-ok c =
-    let place : position (λ (e : LockedFile). e.file == c.args.file) c.self.inside.files.items ≡ Some c.in-Some.place =
-    ap (position (λ (e : LockedFile). e.file == c.args.file)) (sym c.deref.ensures.value) ∙ (sym c.place_of.ensures ∙ c.in-Some.is) in
-    let items : on_file (held_by c.self.inside.files.items) c.args.file (λ (h : Holders). holding h c.args.state c.args.kind c.args.first c.args.last) ≡
-    on_file (held_by c.args.self.now) c.args.file (λ (h : Holders). holding h c.args.state c.args.kind c.args.first c.args.last) =
-    ap (λ (xs : List LockedFile). on_file (held_by xs) c.args.file (λ (h : Holders). holding h c.args.state c.args.kind c.args.first c.args.last))
-    c.self.view_is in
-    on_ok_weaker c.set.result
-    (λ made. held_written c.args.file (λ (h : Holders). holding h c.args.state c.args.kind c.args.first c.args.last) c.self.inside.files.items
-    c.in-Some.place c.index_mut.result.now (record { file = c.index_mut.result.now.file; ranges = c.set.new.self }) place c.index_mut.ensures.value refl
-    made ∙ items) c.set.ensures.ok
+    rw (← c.self.view_is) (on_ok_weaker c.set.result
+    (λ made. held_written c.args.file (λ (h : Holders). holding h c.args.state c.args.kind c.args.first c.args.last) c.self.inside.files
+    (c.get_mut.follows.lender c.set.new.self) c.in-Some.ranges.now c.set.new.self (sym c.in-Some.ensures.value) (c.get_mut.follows.holds c.set.new.self) made)
+    c.set.ensures.ok)
 
-pub returns-in_ok-push-in-None-clause-ok : goal.returns-in_ok-push-in-None-clause-ok
-returns-in_ok-push-in-None-clause-ok c =
-    let gone : position (λ (e : LockedFile). e.file == c.args.file) c.self.inside.files.items ≡ None =
-    ap (position (λ (e : LockedFile). e.file == c.args.file)) (sym c.deref.ensures.value) ∙ (sym c.place_of.ensures ∙ c.in-None.is) in
-    let items : on_file (held_by c.self.inside.files.items) c.args.file (λ (h : Holders). holding h c.args.state c.args.kind c.args.first c.args.last) ≡
-    on_file (held_by c.args.self.now) c.args.file (λ (h : Holders). holding h c.args.state c.args.kind c.args.first c.args.last) =
-    ap (λ (xs : List LockedFile). on_file (held_by xs) c.args.file (λ (h : Holders). holding h c.args.state c.args.kind c.args.first c.args.last))
-    c.self.view_is in
-    ap held_by c.in_ok-push-in-None.ensures.items
-    ∙ (held_pushed c.args.file (λ (h : Holders). holding h c.args.state c.args.kind c.args.first c.args.last) c.self.inside.files.items
-    c.in_ok-locked-in-None.locked gone c.in_ok-locked-in-None.ensures.file c.in_ok-locked-in-None.ensures.bytes ∙ items)
+pub returns-in-Some-clause-err : goal.returns-in-Some-clause-err
+returns-in-Some-clause-err c =
+    rw (← c.self.view_is) (on_err_weaker c.set.result
+    (λ same. written_same c.args.file c.self.inside.files (c.get_mut.follows.lender c.set.new.self) c.in-Some.ranges.now c.set.new.self
+    (sym c.in-Some.ensures.value) (c.get_mut.follows.holds c.set.new.self) same)
+    c.set.ensures.err)
+
+pub returns-clause-ok : goal.returns-clause-ok
+returns-clause-ok c =
+    let g = λ (h : Holders). holding h c.args.state c.args.kind c.args.first c.args.last in
+    let none = ap (λ (m : BTreeMap ℕ LockedBytes). held_by m.entries c.args.file) c.get_mut.follows.holds-at-none ∙ held_found c.args.file c.self.inside.files.entries ∙ ap holders_of (sym c.in_default.ensures.value) in
+    rw (← c.self.view_is, ← c.get_mut.follows.holds-at-none) (held_updated c.args.file g c.get_mut.follows.lender-at-none c.insert.new.self (Some c.in_ok-locked.locked) c.in_ok-insert.ensures.updates
+    (c.in_ok-locked.ensures ∙ ap g (sym none)))

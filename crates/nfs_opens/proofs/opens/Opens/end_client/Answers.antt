@@ -10,7 +10,7 @@ use Rattle.nfs_opens.specs.Table.{Kept, Rises, IsTable, table}
 use Rattle.nfs_opens.specs.Closing.{without_client}
 use Rattle.nfs_opens.specs.Index.{IsIndex, marked}
 use Rattle.nfs_opens.proofs.TableLemmas.{table_ended}
-use Rattle.nfs_opens.proofs.LockLemmas.{left_holders, left_held, same_table, fewer_opens, fewer_left}
+use Rattle.nfs_opens.proofs.LockLemmas.{left_holders, left_held, same_table, fewer_opens}
 use Rattle.nfs_opens.proofs.IndexLemmas.{index_part, index_unmarked}
 use Rattle.nfs_opens.proofs.opens.Opens.end_client.Goals as goal
 
@@ -29,8 +29,7 @@ keep_locked-requires-clause-rises c = subst (Rises (λ (l : LockState). l.number
 
 pub keep_locked-requires-clause-index : goal.keep_locked-requires-clause-index
 keep_locked-requires-clause-index c =
-    subst (λ (ps : List Pair). IsIndex (λ (l : LockState). l.file) (λ l. l.number) c.deref-2.result.now ps) (sym c.deref-3.ensures.value)
-    (subst (λ (ls : List LockState). IsIndex (λ (l : LockState). l.file) (λ l. l.number) ls c.leave.new.by_file.items) (sym (c.deref-2.ensures.value ∙ c.leave.ensures.locks)) c.leave.ensures.index)
+    subst (λ (ls : List LockState). IsIndex (λ (l : LockState). l.file) (λ l. l.number) ls c.leave.new.by_file.items) (sym (c.deref-2.ensures.value ∙ c.leave.ensures.locks)) c.leave.ensures.index
 
 pub keep_locked-requires-clause-holders : goal.keep_locked-requires-clause-holders
 keep_locked-requires-clause-holders c =
@@ -56,15 +55,14 @@ invariant_of-self c =
           (sym c.drop_opens.ensures.items)
           (index_unmarked (λ (o : OpenState). o.file) (λ o. o.number) (λ o. o.client == c.args.client) 1 _ c.self.inside.opens.items
           c.self.inside.by_file.items c.drop_pairs.new.by_file.items c.self.invariant.table.opens c.self.invariant.by_file pairs);
-      place = λ yes. fewer_left _ c.self.inside.by_file.items c.drop_pairs.new.by_file.items _ _ pairs c.drop_pairs.ensures.room (c.self.invariant.place yes);
+      place = λ yes. c.drop_pairs.ensures.room ∙ c.self.invariant.place yes;
       by_client = subst (λ (os : List OpenState). IsIndex (λ (o : OpenState). o.client) (λ o. o.number) os c.drop_own_pairs.new.by_client.items)
           (sym c.drop_opens.ensures.items)
           (subst (λ (ps : List Pair). IsIndex (λ (o : OpenState). o.client) (λ o. o.number) (filter stays c.self.inside.opens.items) ps)
           (sym c.drop_own_pairs.ensures.items)
           (index_part (λ (o : OpenState). o.client) (λ o. o.number) stays (λ p. not (p.of == c.args.client)) c.self.inside.opens.items
           c.self.inside.by_client.items c.self.invariant.by_client (λ o there. refl)));
-      seat = λ yes. fewer_left _ c.self.inside.by_client.items c.drop_own_pairs.new.by_client.items _ _ c.drop_own_pairs.ensures.items
-          c.drop_own_pairs.ensures.room (c.self.invariant.seat yes);
+      seat = λ yes. c.drop_own_pairs.ensures.room ∙ c.self.invariant.seat yes;
       locks = subst (λ (ls : List LockState). IsIndex (λ (l : LockState). l.file) (λ l. l.number) ls c.leave.new.by_file.items) (sym c.leave.ensures.locks)
           c.leave.ensures.index;
     }

@@ -3,7 +3,6 @@ use Rattle.std.specs.Prelude.{◌==◌, not, filter, find}
 use Rattle.std.specs.Option.{option_copied}
 use Rattle.nfs_opens.specs.contracts.opens.Opens.{the_view}
 use Rattle.nfs_opens.specs.declared.records.LockState.{LockState}
-use Rattle.nfs_opens.specs.declared.index.Pair.{Pair}
 use Rattle.nfs_opens.specs.Index.{IsIndex}
 use Rattle.nfs_opens.specs.Holding.{held_by}
 use Rattle.nfs_opens.specs.Table.{AreHolders, Rises, IsTable, table, lock_at}
@@ -44,9 +43,8 @@ forget_unlocked-requires-clause-rises c =
 
 pub forget_unlocked-requires-clause-index : goal.forget_unlocked-requires-clause-index
 forget_unlocked-requires-clause-index c =
-    subst (λ (ps : List Pair). IsIndex (λ (l : LockState). l.file) (λ l. l.number) c.deref-3.result.now ps) (sym c.deref-4.ensures.value)
-    (subst (λ (ls : List LockState). IsIndex (λ (l : LockState). l.file) (λ l. l.number) ls c.drop_lock_pair.new.by_file.items)
-    (sym (c.deref-3.ensures.value ∙ c.drop_lock.ensures)) (left (goal.at.forget_unlocked-requires-clause-index c).After-drop_lock_pair))
+    subst (λ (ls : List LockState). IsIndex (λ (l : LockState). l.file) (λ l. l.number) ls c.drop_lock_pair.new.by_file.items)
+    (sym (c.deref-3.ensures.value ∙ c.drop_lock.ensures)) (left (goal.at.forget_unlocked-requires-clause-index c).After-drop_lock_pair)
 
 pub forget_unlocked-requires-clause-holders : goal.forget_unlocked-requires-clause-holders
 forget_unlocked-requires-clause-holders c =

@@ -44,11 +44,11 @@ invariant_of-self-2 c =
       place = c.self.invariant.place;
       by_client = c.self.invariant.by_client;
       seat = c.self.invariant.seat;
-      locks = subst (λ (ls : List LockState). IsIndex (λ (l : LockState). l.file) (λ l. l.number) ls c.put.new.pairs.items) (sym items)
+      locks = subst (λ (ls : List LockState). IsIndex (λ (l : LockState). l.file) (λ l. l.number) ls c.put.new.self.items) (sym items)
           (index_put (λ (l : LockState). l.file) (λ l. l.number) c.self.inside.locks.items
           (first_state (table (the_view c.self.inside)) c.args.wish.now c.args.owner.now c.args.opened)
-          c.self.inside.locks_by_file.items c.put.new.pairs.items c.self.invariant.locks
-          (subst (λ (ps : List Pair). HasPut ps (record { of = c.args.wish.now.file; number = c.self.inside.last + 1 }) c.put.new.pairs.items)
+          c.self.inside.locks_by_file.items c.put.new.self.items c.self.invariant.locks
+          (subst (λ (ps : List Pair). HasPut ps (record { of = c.args.wish.now.file; number = c.self.inside.last + 1 }) c.put.new.self.items)
           c.reserve-2.ensures.items c.put.ensures));
     }
 

@@ -1,6 +1,5 @@
 use Rattle.std.proofs.Common.{List, sym, subst, ap, ◌∙◌}
 use Rattle.std.specs.Prelude.{◌==◌, ◌&&◌, nat_lt, find}
-use Rattle.nfs_opens.specs.declared.index.Pair.{Pair}
 use Rattle.nfs_opens.specs.declared.records.LockState.{LockState}
 use Rattle.nfs_opens.specs.Index.{IsIndex}
 use Rattle.nfs_opens.specs.Table.{Kept, Rises}
@@ -11,9 +10,8 @@ next_lock_in-requires-clause-rises c = subst (Rises (λ (l : LockState). l.numbe
 
 pub next_lock_in-requires-clause-index : goal.next_lock_in-requires-clause-index
 next_lock_in-requires-clause-index c =
-    subst (λ (ps : List Pair). IsIndex (λ (l : LockState). l.file) (λ l. l.number) c.deref.result.now ps) (sym c.deref-2.ensures.value)
-    (subst (λ (ls : List LockState). IsIndex (λ (l : LockState). l.file) (λ l. l.number) ls c.self.inside.locks_by_file.items) (sym c.deref.ensures.value)
-    c.self.invariant.locks)
+    subst (λ (ls : List LockState). IsIndex (λ (l : LockState). l.file) (λ l. l.number) ls c.self.inside.locks_by_file.items) (sym c.deref.ensures.value)
+    c.self.invariant.locks
 
 pub returns-clause-found : goal.returns-clause-found
 returns-clause-found c =

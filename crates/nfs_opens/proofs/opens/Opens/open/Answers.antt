@@ -52,33 +52,27 @@ invariant_of-self-in-None c =
     record {
       table = subst IsTable (sym same) (table_opened (table (the_view c.self.inside)) (asked c.args.ask.now) c.self.invariant.table free);
       room = λ yes. absurd (false≢true yes);
-      by_file = subst (λ (os : List OpenState). IsIndex (λ (o : OpenState). o.file) (λ o. o.number) os c.put.new.pairs.items) (sym items)
+      by_file = subst (λ (os : List OpenState). IsIndex (λ (o : OpenState). o.file) (λ o. o.number) os c.put.new.self.items) (sym items)
           (index_put (λ (o : OpenState). o.file) (λ o. o.number) c.self.inside.opens.items (new_open (table (the_view c.self.inside)) (asked c.args.ask.now))
-          c.self.inside.by_file.items c.put.new.pairs.items c.self.invariant.by_file c.put.ensures);
+          c.self.inside.by_file.items c.put.new.self.items c.self.invariant.by_file c.put.ensures);
       place = λ yes. absurd (false≢true yes);
-      by_client = subst (λ (os : List OpenState). IsIndex (λ (o : OpenState). o.client) (λ o. o.number) os c.put-in-None.new.pairs.items) (sym items)
+      by_client = subst (λ (os : List OpenState). IsIndex (λ (o : OpenState). o.client) (λ o. o.number) os c.put-in-None.new.self.items) (sym items)
           (index_put (λ (o : OpenState). o.client) (λ o. o.number) c.self.inside.opens.items (new_open (table (the_view c.self.inside)) (asked c.args.ask.now))
-          c.self.inside.by_client.items c.put-in-None.new.pairs.items c.self.invariant.by_client c.put-in-None.ensures);
+          c.self.inside.by_client.items c.put-in-None.new.self.items c.self.invariant.by_client c.put-in-None.ensures);
       seat = λ yes. absurd (false≢true yes);
       locks = c.self.invariant.locks;
     }
 
-pub put-requires-clause-order : goal.put-requires-clause-order
-put-requires-clause-order c = c.self.invariant.by_file.order
-
-pub put-requires-clause-room : goal.put-requires-clause-room
-put-requires-clause-room c = c.self.invariant.place (ap (λ (k : Kept). k.ready) c.self.view_is ∙ c.requires.room)
+pub put-requires-clause-ready : goal.put-requires-clause-ready
+put-requires-clause-ready c = c.self.invariant.place (ap (λ (k : Kept). k.ready) c.self.view_is ∙ c.requires.room)
 
 pub put-requires-clause-other : goal.put-requires-clause-other
 put-requires-clause-other c = index_new (λ (o : OpenState). o.file) (λ o. o.number) 1 (suc c.self.inside.last) c.self.inside.opens.items
     c.self.inside.by_file.items (record { of = c.args.ask.now.file; number = c.self.inside.last + 1 }) c.self.invariant.table.opens c.self.invariant.by_file
     (omega arith)
 
-pub put-requires-in-None-clause-order : goal.put-requires-in-None-clause-order
-put-requires-in-None-clause-order c = c.self.invariant.by_client.order
-
-pub put-requires-in-None-clause-room : goal.put-requires-in-None-clause-room
-put-requires-in-None-clause-room c = c.self.invariant.seat (ap (λ (k : Kept). k.ready) c.self.view_is ∙ c.requires.room)
+pub put-requires-in-None-clause-ready : goal.put-requires-in-None-clause-ready
+put-requires-in-None-clause-ready c = c.self.invariant.seat (ap (λ (k : Kept). k.ready) c.self.view_is ∙ c.requires.room)
 
 pub put-requires-in-None-clause-other : goal.put-requires-in-None-clause-other
 put-requires-in-None-clause-other c = index_new (λ (o : OpenState). o.client) (λ o. o.number) 1 (suc c.self.inside.last) c.self.inside.opens.items

@@ -1,8 +1,7 @@
-use Rattle.std.proofs.Common.{List, length, sym, subst, ap, ◌∙◌}
+use Rattle.std.proofs.Common.{List, sym, subst, ap, ◌∙◌}
 use Rattle.std.specs.Prelude.{◌==◌, not, filter}
 use Rattle.std.specs.List.{list_any}
 use Rattle.nfs_opens.specs.contracts.opens.Opens.{the_view}
-use Rattle.nfs_opens.specs.declared.index.Pair.{Pair}
 use Rattle.nfs_opens.specs.declared.records.OpenState.{OpenState}
 use Rattle.nfs_opens.specs.declared.records.LockState.{LockState}
 use Rattle.nfs_opens.specs.declared.closing.Leaving.TheVariants.{Under}
@@ -12,7 +11,6 @@ use Rattle.nfs_opens.specs.Closing.{without_open}
 use Rattle.nfs_opens.specs.Index.{IsIndex}
 use Rattle.nfs_opens.proofs.TableLemmas.{table_closed}
 use Rattle.nfs_opens.proofs.LockLemmas.{left_holders, left_held, same_table, fewer_opens}
-use Rattle.nfs_opens.proofs.IndexedLemmas.{no_more}
 use Rattle.nfs_opens.proofs.opens.Opens.remove_open.Goals as goal
 
 pub leave-requires-clause-rises : goal.leave-requires-clause-rises
@@ -31,8 +29,7 @@ forget_unlocked-requires-clause-rises c = subst (Rises (λ (l : LockState). l.nu
 
 pub forget_unlocked-requires-clause-index : goal.forget_unlocked-requires-clause-index
 forget_unlocked-requires-clause-index c =
-    subst (λ (ps : List Pair). IsIndex (λ (l : LockState). l.file) (λ l. l.number) c.deref-3.result.now ps) (sym c.deref-4.ensures.value)
-    (subst (λ (ls : List LockState). IsIndex (λ (l : LockState). l.file) (λ l. l.number) ls c.leave.new.by_file.items) (sym (c.deref-3.ensures.value ∙ c.leave.ensures.locks)) c.leave.ensures.index)
+    subst (λ (ls : List LockState). IsIndex (λ (l : LockState). l.file) (λ l. l.number) ls c.leave.new.by_file.items) (sym (c.deref-3.ensures.value ∙ c.leave.ensures.locks)) c.leave.ensures.index
 
 pub forget_unlocked-requires-clause-holders : goal.forget_unlocked-requires-clause-holders
 forget_unlocked-requires-clause-holders c =
@@ -51,14 +48,12 @@ invariant_of-self c =
       by_file = subst (λ (os : List OpenState). IsIndex (λ (o : OpenState). o.file) (λ o. o.number) os c.drop_pair.new.by_file.items) (sym c.drop_open.ensures.items)
           (subst (λ (os : List OpenState). IsIndex (λ (o : OpenState). o.file) (λ o. o.number) (filter (λ o. not (o.number == c.args.number)) os)
           c.drop_pair.new.by_file.items) c.deref.ensures.value c.drop_pair.ensures.index);
-      place = λ yes. no_more (length c.self.inside.by_file.items) (length c.drop_pair.new.by_file.items) _ _ c.drop_pair.ensures.fewer
-          c.drop_pair.ensures.room (c.self.invariant.place yes);
+      place = λ yes. c.drop_pair.ensures.room ∙ c.self.invariant.place yes;
       by_client = subst (λ (os : List OpenState). IsIndex (λ (o : OpenState). o.client) (λ o. o.number) os c.drop_own_pair.new.by_client.items)
           (sym c.drop_open.ensures.items)
           (subst (λ (os : List OpenState). IsIndex (λ (o : OpenState). o.client) (λ o. o.number) (filter (λ o. not (o.number == c.args.number)) os)
           c.drop_own_pair.new.by_client.items) c.deref-2.ensures.value c.drop_own_pair.ensures.index);
-      seat = λ yes. no_more (length c.self.inside.by_client.items) (length c.drop_own_pair.new.by_client.items) _ _ c.drop_own_pair.ensures.fewer
-          c.drop_own_pair.ensures.room (c.self.invariant.seat yes);
+      seat = λ yes. c.drop_own_pair.ensures.room ∙ c.self.invariant.seat yes;
       locks = subst (λ (ls : List LockState). IsIndex (λ (l : LockState). l.file) (λ l. l.number) ls c.leave.new.by_file.items) (sym c.leave.ensures.locks)
           c.leave.ensures.index;
     }

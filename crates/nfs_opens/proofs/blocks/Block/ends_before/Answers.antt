@@ -1,0 +1,11 @@
+use Rattle.std.proofs.Common.{◌≡◌, ◌-◌, List, length, Some, ap, ◌∙◌}
+use Rattle.std.specs.Prelude.{slice_get}
+use Rattle.nfs_opens.specs.declared.index.Pair.{Pair}
+use Rattle.nfs_opens.proofs.BlockLemmas.{ends_at}
+use Rattle.nfs_opens.proofs.blocks.Block.ends_before.Goals as goal
+
+pub returns-in-Some : goal.returns-in-Some
+returns-in-Some c =
+    let at : Some c.in-Some.pair.now ≡ slice_get c.args.self.now (length c.args.self.now - 1) =
+    c.in-Some.ensures.value ∙ ap (λ (ps : List Pair). slice_get ps (length ps - 1)) (c.deref.ensures.value ∙ c.self.view_is) in
+    c.is_before.ensures ∙ ends_at c.args.of c.args.number c.args.too c.args.self.now c.in-Some.pair.now at
