@@ -1,20 +1,15 @@
 -- What changes of the maps make of the list of rows.
 use Rattle.std.proofs.Common.{◌≡◌, ℕ, ◌<◌, ◌≤◌, ◌+◌, ◌^◌, suc, Bool, true, false, cond, not, List, [], ◌∷◌, ◌++◌, map, length, Option, Some, None, refl, sym, ◌∙◌, ap, arith, inl, inr}
 use Rattle.std.specs.Prelude.{◌==◌, ◌&&◌, filter, find, option_map, bytes_eq, nat_lt}
-use Rattle.std.specs.declared.cmp.Ordering.TheVariants.{Greater}
-use Rattle.std.specs.Ordering.{nat_cmp}
-use Rattle.std.specs.BTreeMap.{is_at, insert_entry}
-use Rattle.std.specs.Map.{lookup, remove_entry, values_of}
 use Rattle.std.proofs.lemmas.Bool.{cases_Bool, eq-eqb, ne_eqb, eqb-true, and_parts, false≢true}
 use Rattle.std.proofs.lemmas.Bool.Decides.{nat_tests}
 use Rattle.std.proofs.lemmas.Slice.Eq.{bytes_eq-Decides}
-use Rattle.std.proofs.lemmas.List.{length-map}
 use Rattle.nfs_xdr.specs.Tables.{IsRising, In, record_at, without_record}
 use Rattle.nfs_xdr.proofs.Lists.{in_filter, in_push, find_in, none_in, find_none, find_kept, find_past, find_out, find_push, find_push_other, filter_in, filter_all, length_filter, some_or_none}
-use Rattle.nfs_xdr.proofs.Tables.{IsRising-below, IsRising-push, IsRising-filter, in_bounds, in_once, at_of_in, at_below, without_none}
+use Rattle.nfs_xdr.proofs.Tables.{IsRising-push, IsRising-filter, in_bounds, in_once, at_of_in}
 use Rattle.nfs_tree.specs.declared.row.Row.{Row}
 use Rattle.nfs_tree.specs.Files.{most_name, is_entry, entry, without_entry, listed, listing, links_in}
-use Rattle.nfs_tree.specs.Maps.{by_cookie, key_of, links_behind, AreNamed, ArePairs}
+use Rattle.nfs_tree.specs.Maps.{key_of, links_behind, AreNamed, ArePairs}
 use Rattle.nfs_tree.proofs.KeyLemmas.{key_same}
 use Rattle.nfs_tree.proofs.PairLemmas.{row_pair}
 use Rattle.nfs_tree.proofs.RowsKept.{entry_parts, found_put, either}
@@ -22,51 +17,16 @@ use Rattle.nfs_tree.proofs.RowsKept.{entry_parts, found_put, either}
 abbrev pub cookie : Row → ℕ
 cookie r = r.cookie
 
--- ---- rows under their cookies
-at_cookie : (c k : ℕ) → is_at (nat_cmp c) k ≡ (k == c)
-at_cookie c k = grind (arith, nat_tests)
+filter_last : (p : Row → Bool) (rows : List Row) (r : Row) → p r ≡ false → filter p (rows ++ r ∷ []) ≡ filter p rows
+filter_last p [] r fails = rw fails refl
+filter_last p (x ∷ xs) r fails = elim (cases_Bool (p x)) [ inl here ↦ rw here (ap (λ ys. x ∷ ys) (filter_last p xs r fails)) | inr off ↦ rw off (filter_last p xs r fails) ]
 
-behind : (c k : ℕ) → k < c → nat_cmp c k ≡ Greater
-behind c k lt = grind (arith, nat_tests)
-
-values_by : (rows : List Row) → values_of (by_cookie rows) ≡ rows
-values_by [] = refl
-values_by (r ∷ rs) = ap (λ xs. r ∷ xs) (values_by rs)
-
-pub find_row : (rows : List Row) (c : ℕ) → lookup (is_at (nat_cmp c)) (by_cookie rows) ≡ record_at cookie rows c
-find_row [] c = refl
-find_row (r ∷ rs) c = rw (at_cookie c r.cookie, find_row rs c) refl
-
-put_row : (low : ℕ) (rows : List Row) (r : Row) → IsRising cookie low rows r.cookie → insert_entry nat_cmp (by_cookie rows) r.cookie r ≡ by_cookie (rows ++ r ∷ [])
-put_row low [] r rise = refl
-put_row low (x ∷ xs) r rise =
-    let up : suc x.cookie ≤ r.cookie = IsRising-below cookie (suc x.cookie) r.cookie xs rise.1 in
-    rw (behind r.cookie x.cookie (omega arith), put_row (suc x.cookie) xs r rise.1) refl
-
-take_row : (low high : ℕ) (rows : List Row) (c : ℕ) → IsRising cookie low rows high → remove_entry (is_at (nat_cmp c)) (by_cookie rows) ≡ by_cookie (without_record cookie rows c)
-take_row low high [] c rise = refl
-take_row low high (r ∷ rs) c rise = elim (cases_Bool (r.cookie == c)) [
-  | inl here ↦ (let same : r.cookie ≡ c = eqb-true r.cookie c here in
-      rw (at_cookie c r.cookie, here) (ap by_cookie (sym (without_none cookie c rs (at_below cookie (suc r.cookie) high c rs rise.1 (omega arith))))))
-  | inr other ↦ rw (at_cookie c r.cookie, other) (ap (λ es. (r.cookie, r) ∷ es) (take_row (suc r.cookie) high rs c rise.1))
-]
-
--- what lies so is so keyed, and is these rows
-pub record Lie (es : List (ℕ × Row)) (rows : List Row) : Type 0 where
-  pub keyed : es ≡ by_cookie (values_of es)
-  pub view : values_of es ≡ rows
-
-lie_so : (es : List (ℕ × Row)) (rows : List Row) → es ≡ by_cookie rows → Lie es rows
-lie_so es rows e = let view : values_of es ≡ rows = ap values_of e ∙ values_by rows in record { keyed = e ∙ ap by_cookie (sym view); view = view }
-
-pub lie_put : (es fs : List (ℕ × Row)) (r : Row) → es ≡ by_cookie (values_of es) → IsRising cookie 3 (values_of es) r.cookie → fs ≡ insert_entry nat_cmp es r.cookie r → Lie fs (values_of es ++ r ∷ [])
-lie_put es fs r keyed rise put = lie_so fs (values_of es ++ r ∷ []) (put ∙ ap (λ es. insert_entry nat_cmp es r.cookie r) keyed ∙ put_row 3 (values_of es) r rise)
-
-pub lie_gone : (es fs : List (ℕ × Row)) (low high c : ℕ) → es ≡ by_cookie (values_of es) → IsRising cookie low (values_of es) high → fs ≡ remove_entry (is_at (nat_cmp c)) es → Lie fs (without_record cookie (values_of es) c)
-lie_gone es fs low high c keyed rise gone = lie_so fs (without_record cookie (values_of es) c) (gone ∙ ap (remove_entry (is_at (nat_cmp c))) keyed ∙ take_row low high (values_of es) c rise)
-
-pub find_keyed : (es : List (ℕ × Row)) (c : ℕ) → es ≡ by_cookie (values_of es) → lookup (is_at (nat_cmp c)) es ≡ record_at cookie (values_of es) c
-find_keyed es c keyed = ap (lookup (is_at (nat_cmp c))) keyed ∙ find_row (values_of es) c
+-- a row that came goes
+pub taken_back : (rows : List Row) (r : Row) → IsRising cookie 3 rows r.cookie → without_record cookie (rows ++ r ∷ []) r.cookie ≡ rows
+taken_back rows r rise =
+    let test = λ (x : Row). not (x.cookie == r.cookie) in
+    filter_last test rows r (ap not (eq-eqb r.cookie r.cookie refl))
+    ∙ filter_all test rows (λ x there. (let lower = in_bounds cookie 3 r.cookie rows x rise there in ap not (ne_eqb x.cookie r.cookie (λ same. absurd (omega arith)))))
 
 -- ---- rows by their names
 module _ (rows : List Row) (at : List ℕ → Option ℕ) (are : AreNamed rows at) where
@@ -354,8 +314,8 @@ links_all rows at n are = ap length (filter_in (is_behind (λ (r : Row). r.objec
     all : (x : Row) → 3 ≤ x.cookie → ((x.object == n) && nat_lt 0 x.cookie) ≡ (x.object == n)
     all x up = rw (above_nat 0 x.cookie (omega arith)) (elim (cases_Bool (x.object == n)) [ inl here ↦ rw here refl | inr other ↦ rw other refl ])
 
-pub links_few : (es : List (ℕ × Row)) (n : ℕ) → links_in (values_of es) n ≤ length es
-links_few es n = let few = length_filter (λ (r : Row). r.object == n) (values_of es) in let same = length-map es (λ (e : ℕ × Row). e.1) in omega arith
+pub links_few : (rows : List Row) (n : ℕ) → links_in rows n ≤ length rows
+links_few rows n = length_filter (λ (r : Row). r.object == n) rows
 
 -- ---- the place of an entry
 abbrev pub place : Row → ℕ × ℕ

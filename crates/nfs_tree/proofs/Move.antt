@@ -91,7 +91,7 @@ not_equal : (a b : ℕ) → (a == b) ≡ false → a ≢ b
 not_equal a b e same = false≢true (sym e ∙ eq-eqb a b same)
 
 -- the parent of a directory is that of its row
-parent_is : (rows : List Row) (dirs : ℕ → Bool) → AreUnique rows dirs → (r : Row)
+pub parent_is : (rows : List Row) (dirs : ℕ → Bool) → AreUnique rows dirs → (r : Row)
     → In r rows → dirs r.object ≡ true → parent_in rows r.object ≡ Some r.directory
 parent_is rows dirs are r there dir = by_option (find (λ q. q.object == r.object) rows) refl
   where

@@ -10,7 +10,7 @@ use Rattle.nfs_tree.specs.Walks.{walk, HasOneWalk, IsWellFormed}
 use Rattle.nfs_tree.specs.Kept.{Grounded, AreRows, IsTree}
 use Rattle.nfs_tree.proofs.RowsKept.{entry_parts}
 
-then_walk : (rows : List Row) (d : ℕ) (names : List (List ℕ)) (r : Row) → walk rows d names ≡ Some r.directory
+pub then_walk : (rows : List Row) (d : ℕ) (names : List (List ℕ)) (r : Row) → walk rows d names ≡ Some r.directory
     → entry rows r.directory r.name ≡ Some r → walk rows d (names ++ r.name ∷ []) ≡ Some r.object
 then_walk rows d [] r e found = let same : d ≡ r.directory = cc in rw (same, found) refl
 then_walk rows d (name ∷ names) r e found = then_by (entry rows d name) refl (λ q w. then_walk rows q names r w found)
@@ -21,11 +21,11 @@ then_walk rows d (name ∷ names) r e found = then_by (entry rows d name) refl (
     then_by (Some q) h ih = rw h (ih q.object (rw h at e))
 
 -- a walk is empty, or ends in a row
-abbrev Ends : List Row → ℕ → List (List ℕ) → ℕ → Type 0
+abbrev pub Ends : List Row → ℕ → List (List ℕ) → ℕ → Type 0
 Ends rows d names to = ((names ≡ []) × (d ≡ to))
     ⊎ ((first : List (List ℕ)) × (r : Row) × (names ≡ first ++ r.name ∷ []) × (walk rows d first ≡ Some r.directory) × In r rows × (r.object ≡ to))
 
-ends : (rows : List Row) (d : ℕ) (names : List (List ℕ)) (to : ℕ) → walk rows d names ≡ Some to → Ends rows d names to
+pub ends : (rows : List Row) (d : ℕ) (names : List (List ℕ)) (to : ℕ) → walk rows d names ≡ Some to → Ends rows d names to
 ends rows d [] to e = inl (refl, cc)
 ends rows d (name ∷ names) to e = ends_by (entry rows d name) refl (λ q w. ends rows q names to w)
   where

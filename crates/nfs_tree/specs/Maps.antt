@@ -1,19 +1,15 @@
--- How rows lie in ordered maps: by their cookies, and the cookies by name, by directory and by object.
-use Rattle.std.specs.Prelude.{◌≡◌, ℕ, ◌<◌, ◌≤◌, ◌^◌, ◌==◌, nat_lt, Bool, ◌&&◌, List, ◌++◌, length, Option, Some, filter, map, option_map, is_some}
+-- How the cookies of rows lie in ordered maps: by name, by directory and by object.
+use Rattle.std.specs.Prelude.{◌≡◌, ℕ, ◌<◌, ◌≤◌, ◌^◌, ◌==◌, nat_lt, Bool, ◌&&◌, List, ◌++◌, length, Option, Some, filter, option_map, is_some}
 use Rattle.std.specs.Int.{to_be_bytes, w64}
 use Rattle.std.specs.List.{list_any}
 use Rattle.std.specs.Ordering.{nat_cmp, ordering_then}
 use Rattle.std.specs.declared.cmp.Ordering.{Ordering}
 use Rattle.std.specs.Cmp.Lexicographic.{slice_cmp}
 use Rattle.std.specs.BTreeMap.{is_at}
-use Rattle.std.specs.Map.{lookup, values_of}
+use Rattle.std.specs.Map.{lookup}
 use Rattle.nfs_xdr.specs.Tables.{IsRising, In}
 use Rattle.nfs_tree.specs.declared.row.Row.{Row}
 use Rattle.nfs_tree.specs.Files.{most_name, entry}
-
--- rows under their cookies
-abbrev pub by_cookie : List Row → List (ℕ × Row)
-by_cookie rows = map (λ r. (r.cookie, r)) rows
 
 -- a directory's number and a name, in one
 abbrev pub key_of : ℕ → List ℕ → List ℕ
@@ -51,8 +47,7 @@ pub record AreNamed (rows : List Row) (at : List ℕ → Option ℕ) : Type 0 wh
   pub names : (d : ℕ) (name : List ℕ) → d < 2 ^ 64 → at (key_of d name) ≡ option_map (λ r. r.cookie) (entry rows d name)
 
 -- the rows, the map of names, and those of directories and of objects
-pub record AreMapped {K : Type 0} (bytes : K → List ℕ) (es : List (ℕ × Row)) (ns : List (K × ℕ)) (ls os : List ((ℕ × ℕ) × Unit {0})) : Type 0 where
-  pub keyed : es ≡ by_cookie (values_of es)
-  pub named : AreNamed (values_of es) (cookie_at bytes ns)
-  pub listed : ArePairs (λ (r : Row). r.directory) (values_of es) (has_pair ls)
-  pub owned : ArePairs (λ (r : Row). r.object) (values_of es) (has_pair os)
+pub record AreMapped {K : Type 0} (bytes : K → List ℕ) (rows : List Row) (ns : List (K × ℕ)) (ls os : List ((ℕ × ℕ) × Unit {0})) : Type 0 where
+  pub named : AreNamed rows (cookie_at bytes ns)
+  pub listed : ArePairs (λ (r : Row). r.directory) rows (has_pair ls)
+  pub owned : ArePairs (λ (r : Row). r.object) rows (has_pair os)

@@ -34,11 +34,14 @@ impl FileType {
     }
 }
 
-/// What is kept of an object beside its bytes and its names (RFC 8881 sections 5.8 and 6.2.4).
+/// What is kept of an object beside its bytes and its names (RFC 8881 sections 5.8 and 6.2.4). Its fields lie in this
+/// order, which leaves the least room between them.
 #[derive(Clone, Copy, Debug, PartialEq, Eq)]
 pub struct Object {
     /// What it is.
     pub kind: FileType,
+    /// The verifier of the exclusive create that made it, if one did (RFC 8881 section 18.16.3).
+    pub verifier: Option<[u8; 8]>,
     /// The permission bits, and the three above them (attribute `mode`).
     pub mode: u32,
     /// The number of the user that owns it.
@@ -55,8 +58,6 @@ pub struct Object {
     pub metadata: Time,
     /// When its bytes or its entries last changed, or what a client has set (attribute `time_modify`).
     pub modify: Time,
-    /// The verifier of the exclusive create that made it, if one did (RFC 8881 section 18.16.3).
-    pub verifier: Option<[u8; 8]>,
 }
 
 impl Object {

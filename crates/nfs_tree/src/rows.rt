@@ -1,15 +1,15 @@
 //! The rows of all directories, found by name, in each directory by cookie, and by the object that they name.
 
-ghost use Rattle.std.specs.Prelude.{◌≡◌, ℕ, ◌+◌, ◌≤◌, [], ◌∷◌, length, OnOk, OnErr, IfSome, IfNone, IsSome, None, Some, cond, option_copied, option_map};
+ghost use Rattle.std.specs.Prelude.{◌≡◌, ℕ, ◌+◌, ◌≤◌, ◌++◌, [], ◌∷◌, length, OnOk, OnErr, IfSome, IfNone, IsSome, None, Some, cond, option_copied, option_map};
 ghost use Rattle.std.specs.Ordering.{nat_cmp};
 ghost use Rattle.std.specs.Cmp.Lexicographic.{slice_cmp};
 ghost use Rattle.std.specs.BTreeMap.{insert_entry, get, is_at, Updates, UpdatesBy};
-ghost use Rattle.std.specs.Map.{remove_entry};
-ghost use Rattle.nfs_xdr.specs.Tables.{IsRising};
+ghost use Rattle.nfs_xdr.specs.Tables.{IsRising, without_record};
 ghost use Rattle.nfs_tree.specs.Files.{entry, parent_in, links_in, has_row, has_entries, listing, listed, without_entry, most_name};
 ghost use Rattle.nfs_tree.specs.Maps.{key_of, pair_cmp, links_behind};
 ghost use Rattle.nfs_tree.specs.Names.{with_row};
 
+use crate::by_cookie::ByCookie;
 use crate::name::Name;
 use crate::row::Row;
 use crate::spelled::Spelled;
@@ -23,7 +23,7 @@ use std::marker::Model;
 #[derive(Drop)]
 pub(crate) struct Rows {
     /// Each under its cookie.
-    rows: BTreeMap<u64, Row, Global>,
+    rows: ByCookie,
     /// The cookie of each, under its directory and its name, as `Spelled` spells them.
     names: BTreeMap<Vec<u8>, u64, Global>,
     /// The directory and the cookie of each.
@@ -34,15 +34,14 @@ pub(crate) struct Rows {
 
 impl Model for Rows {
     ghost use Rattle.std.specs.Prelude.{List};
-    ghost use Rattle.std.specs.Map.{values_of};
     ghost use Rattle.nfs_tree.specs.declared.row.Row.{Row};
     ghost use Rattle.nfs_tree.specs.Maps.{AreMapped};
 
     ghost Value = { List Row };
 
-    ghost view = { λ t. values_of t.rows.entries };
+    ghost view = { λ t. t.rows };
 
-    ghost invariant = { λ t. AreMapped (λ k. k.items) t.rows.entries t.names.entries t.listed.entries t.owned.entries };
+    ghost invariant = { λ t. AreMapped (λ k. k.items) t.rows t.names.entries t.listed.entries t.owned.entries };
 }
 
 impl Rows {
@@ -51,7 +50,7 @@ impl Rows {
         ensures { result ≡ [] }
     {
         Rows {
-            rows: BTreeMap::new(alloc),
+            rows: ByCookie::new(alloc),
             names: BTreeMap::new(alloc),
             listed: BTreeMap::new(alloc),
             owned: BTreeMap::new(alloc),
@@ -75,7 +74,7 @@ impl Rows {
         let spelled = Spelled::new(directory, name);
         match names.get(spelled.as_slice()) {
             None => None,
-            Some(cookie) => self.rows.get(cookie),
+            Some(cookie) => self.rows.row(*cookie),
         }
     }
 
@@ -90,7 +89,7 @@ impl Rows {
         }
         match first_from(listed, directory, cookie + 1) {
             None => None,
-            Some(next) => match self.rows.get(&next) {
+            Some(next) => match self.rows.row(next) {
                 None => None,
                 Some(row) => Some(row),
             },
@@ -113,7 +112,7 @@ impl Rows {
     {
         match first_from(&self.owned, object, 0) {
             None => None,
-            Some(first) => match self.rows.get(&first) {
+            Some(first) => match self.rows.row(first) {
                 None => None,
                 Some(row) => Some(row.directory),
             },
@@ -256,53 +255,70 @@ fn first_from(pairs: &BTreeMap<(u64, u64), (), Global>, number: u64, from: u64) 
     }
 }
 
+/// Puts a row behind the others, and its cookie under its name, or neither.
+fn put_named(
+    rows: &mut ByCookie,
+    names: &mut BTreeMap<Vec<u8>, u64, Global>,
+    key: Vec<u8>,
+    row: Row,
+) -> Result<(), AllocError>
+    requires { IsRising (λ r. r.cookie) 3 rows.old row.cookie }
+    ensures rows { OnOk result (rows.new ≡ rows.old ++ row ∷ []) }
+    ensures names { OnOk result (Updates (λ x y. slice_cmp nat_cmp x.items y.items) names.old names.new key (Some row.cookie)) }
+    ensures err_rows { OnErr result (rows.new ≡ rows.old) }
+    ensures err_names { OnErr result (names.new.entries ≡ names.old.entries) }
+{
+    let cookie = row.cookie;
+    rows.push(row)?;
+    if names.insert(key, cookie).is_err() {
+        rows.drop_row(cookie);
+        return Err(AllocError);
+    }
+    Ok(())
+}
+
 /// Puts a row into the maps, or into none.
 fn add(
-    rows: &mut BTreeMap<u64, Row, Global>,
+    rows: &mut ByCookie,
     names: &mut BTreeMap<Vec<u8>, u64, Global>,
     listed: &mut BTreeMap<(u64, u64), (), Global>,
     key: Vec<u8>,
     row: Row,
 ) -> Result<(), AllocError>
-    requires new_row { get nat_cmp rows.old row.cookie ≡ None }
+    requires rising { IsRising (λ r. r.cookie) 3 rows.old row.cookie }
     requires new_pair { get pair_cmp listed.old (row.directory, row.cookie) ≡ None }
-    ensures rows { OnOk result (rows.new.entries ≡ insert_entry nat_cmp rows.old.entries row.cookie row) }
+    ensures rows { OnOk result (rows.new ≡ rows.old ++ row ∷ []) }
     ensures names { OnOk result (Updates (λ x y. slice_cmp nat_cmp x.items y.items) names.old names.new key (Some row.cookie)) }
     ensures listed { OnOk result (listed.new.entries ≡ insert_entry pair_cmp listed.old.entries (row.directory, row.cookie) tt) }
-    ensures err_rows { OnErr result (rows.new.entries ≡ rows.old.entries) }
+    ensures err_rows { OnErr result (rows.new ≡ rows.old) }
     ensures err_names { OnErr result (names.new.entries ≡ names.old.entries) }
     ensures err_listed { OnErr result (listed.new.entries ≡ listed.old.entries) }
 {
-    let cookie = row.cookie;
-    let Entry::Vacant(place) = rows.entry(cookie)? else {
+    let Entry::Vacant(place) = listed.entry((row.directory, row.cookie))? else {
         return Ok(());
     };
-    let Entry::Vacant(list_place) = listed.entry((row.directory, cookie))? else {
-        return Ok(());
-    };
-    names.insert(key, cookie)?;
-    list_place.insert(());
-    place.insert(row);
+    put_named(rows, names, key, row)?;
+    place.insert(());
     Ok(())
 }
 
 /// Puts a row into the maps, that of objects among them, or into none.
 fn add_owned(
-    rows: &mut BTreeMap<u64, Row, Global>,
+    rows: &mut ByCookie,
     names: &mut BTreeMap<Vec<u8>, u64, Global>,
     listed: &mut BTreeMap<(u64, u64), (), Global>,
     owned: &mut BTreeMap<(u64, u64), (), Global>,
     key: Vec<u8>,
     row: Row,
 ) -> Result<(), AllocError>
-    requires new_row { get nat_cmp rows.old row.cookie ≡ None }
+    requires rising { IsRising (λ r. r.cookie) 3 rows.old row.cookie }
     requires new_pair { get pair_cmp listed.old (row.directory, row.cookie) ≡ None }
     requires new_owner { get pair_cmp owned.old (row.object, row.cookie) ≡ None }
-    ensures rows { OnOk result (rows.new.entries ≡ insert_entry nat_cmp rows.old.entries row.cookie row) }
+    ensures rows { OnOk result (rows.new ≡ rows.old ++ row ∷ []) }
     ensures names { OnOk result (Updates (λ x y. slice_cmp nat_cmp x.items y.items) names.old names.new key (Some row.cookie)) }
     ensures listed { OnOk result (listed.new.entries ≡ insert_entry pair_cmp listed.old.entries (row.directory, row.cookie) tt) }
     ensures owned { OnOk result (owned.new.entries ≡ insert_entry pair_cmp owned.old.entries (row.object, row.cookie) tt) }
-    ensures err_rows { OnErr result (rows.new.entries ≡ rows.old.entries) }
+    ensures err_rows { OnErr result (rows.new ≡ rows.old) }
     ensures err_names { OnErr result (names.new.entries ≡ names.old.entries) }
     ensures err_listed { OnErr result (listed.new.entries ≡ listed.old.entries) }
     ensures err_owned { OnErr result ((q : ℕ × ℕ) → get pair_cmp owned.new q ≡ get pair_cmp owned.old q) }
@@ -332,14 +348,14 @@ fn take_name(names: &mut BTreeMap<Vec<u8>, u64, Global>, directory: u64, name: &
 }
 
 fn take(
-    rows: &mut BTreeMap<u64, Row, Global>,
+    rows: &mut ByCookie,
     listed: &mut BTreeMap<(u64, u64), (), Global>,
     directory: u64,
     cookie: u64,
 )
-    ensures rows { rows.new.entries ≡ remove_entry (is_at (nat_cmp cookie)) rows.old.entries }
+    ensures rows { rows.new ≡ without_record (λ r. r.cookie) rows.old cookie }
     ensures listed { (q : ℕ × ℕ) → get pair_cmp listed.new q ≡ cond (is_at (pair_cmp (directory, cookie)) q) None (get pair_cmp listed.old q) }
 {
-    rows.remove(&cookie);
+    rows.drop_row(cookie);
     listed.remove(&(directory, cookie));
 }

@@ -1,8 +1,5 @@
 //! Rows put, dropped and moved, and bytes at the limits, on a tree of a few objects.
 
-ghost use Rattle.std.specs.Prelude.{◌≡◌, ◌==◌, ◌||◌};
-ghost use Rattle.nfs_tree.specs.Files.{root, has_row};
-
 use super::*;
 use nfs_testing::{LONG, MAX_BLOCKS, starve};
 use nfs_xdr::{Sheet, Time};
@@ -29,12 +26,6 @@ enum Step {
     Rename(u64, &'static [u8], u64, &'static [u8]),
 }
 
-fn is_reached(tree: &Tree, directory: u64) -> bool
-    ensures { result ≡ ((directory == root) || has_row tree.now.rows directory) }
-{
-    directory == Tree::ROOT || tree.rows.has_row(directory)
-}
-
 fn make(
     tree: &mut Tree,
     alloc: Global,
@@ -42,7 +33,7 @@ fn make(
     name: &[u8],
     new: &New,
 ) -> Result<u64, TreeFault> {
-    if !is_reached(tree, directory) {
+    if !tree.is_reached(directory) {
         return Err(TreeFault::Memory);
     }
     let made = tree.create(alloc, directory, name, new, &Sets::none(), NOW)?;
@@ -65,7 +56,7 @@ fn run(tree: &mut Tree, alloc: Global, step: Step) -> Result<u64, TreeFault> {
             },
         ),
         Step::Link(number, directory, name) => {
-            if !is_reached(tree, directory) {
+            if !tree.is_reached(directory) {
                 return Err(TreeFault::Memory);
             }
             let change = tree.link(alloc, number, directory, name, NOW)?;
@@ -76,7 +67,7 @@ fn run(tree: &mut Tree, alloc: Global, step: Step) -> Result<u64, TreeFault> {
             Ok(removed.number)
         }
         Step::Rename(source, old, target, name) => {
-            if !(is_reached(tree, source) && is_reached(tree, target)) {
+            if !(tree.is_reached(source) && tree.is_reached(target)) {
                 return Err(TreeFault::Memory);
             }
             let renamed = tree.rename(alloc, source, old, target, name, NOW)?;
@@ -128,7 +119,42 @@ fn names_are_put_dropped_and_moved(rt: HostRuntime) -> Result<(), Fail> {
             && tree.parent(3) == Some(1)
             && tree.parent(2).is_none()
     );
+    // neither a directory that was removed may get entries nor one that is in none
+    assert!(rt;
+        tree.is_reached(3)
+            && tree.is_reached(Tree::ROOT)
+            && tree.is_reached(9)
+            && !tree.is_reached(2)
+    );
+    assert!(rt; make_and_drop(&mut tree, alloc, 3, b"y", &Sets::none(), NOW) == Ok(None));
     Ok(())
+}
+
+/// Makes a directory under a name, takes the name away again and drops the directory. That this may be done, and what
+/// has the name on the way, the laws say.
+fn make_and_drop(
+    tree: &mut Tree,
+    alloc: Global,
+    directory: u64,
+    name: &[u8],
+    sets: &Sets,
+    now: Time,
+) -> Result<Option<u64>, TreeFault> {
+    if !tree.is_reached(directory) {
+        return Err(TreeFault::NoEnt);
+    }
+    tree.kept();
+    let made = tree.create(alloc, directory, name, &New::Directory, sets, now)?;
+    laws::created_is_found();
+    let found = tree.lookup(directory, name).is_some();
+    prove!(found);
+    let gone = tree.remove(directory, name, now)?;
+    laws::new_is_unused();
+    tree.forget(gone.number);
+    laws::removed_is_absent();
+    let absent = tree.lookup(directory, name).is_none();
+    prove!(absent);
+    Ok(tree.object(gone.number).map(|object| object.change))
 }
 
 /// Three bytes of an object, as READ puts them.

@@ -1,6 +1,6 @@
 use Rattle.std.proofs.Common.{◌≡◌, ◌<◌, ◌^◌, Some, None, sym, ◌∙◌, ap, arith}
 use Rattle.nfs_tree.specs.Maps.{key_of, cookie_at}
-use Rattle.nfs_tree.proofs.MapLemmas.{find_keyed, named_row, named_none, too_long}
+use Rattle.nfs_tree.proofs.MapLemmas.{named_row, named_none, too_long}
 use Rattle.nfs_tree.proofs.rows.Rows.entry.Goals as goal
 
 pub returns-then-name-gt-MAX_NAME : goal.returns-then-name-gt-MAX_NAME
@@ -20,5 +20,5 @@ returns-in-Some c =
     let spelled = c.as_slice.ensures ∙ c.new-spelled.ensures in
     let at : cookie_at (λ k. k.items) c.self.inside.names.entries (key_of c.args.directory c.args.name.now) ≡ Some c.in-Some.cookie.now =
     ap (cookie_at (λ k. k.items) c.self.inside.names.entries) (sym spelled) ∙ sym c.in-Some.ensures.value in
-    rw (← c.self.view_is) (c.get-in-Some.ensures.value ∙ find_keyed c.self.inside.rows.entries c.in-Some.cookie.now c.self.invariant.keyed
+    rw (← c.self.view_is) (c.row.ensures
     ∙ named_row _ _ c.self.invariant.named c.args.directory c.in-Some.cookie.now c.args.name.now few at)

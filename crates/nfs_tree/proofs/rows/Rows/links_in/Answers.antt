@@ -28,7 +28,7 @@ returns c =
     let all : c.loop-row._row ≡ c.len-row-end.result = omega (arith, c.loop-row.auto._row-end, c.loop-row-test.false) in
     let a = c.loop-row.invariant.0 in
     let b = c.loop-row.invariant.1 in
-    let few : links_in c.args.self.now c.args.object ≤ length c.self.inside.rows.entries =
-    subst (λ rows. links_in rows c.args.object ≤ length c.self.inside.rows.entries) c.self.view_is (links_few c.self.inside.rows.entries c.args.object) in
-    let len = c.len-row-end.ensures.len in
+    let few : links_in c.args.self.now c.args.object ≤ length c.self.inside.rows =
+    subst (λ rows. links_in rows c.args.object ≤ length c.self.inside.rows) c.self.view_is (links_few c.self.inside.rows c.args.object) in
+    let len = c.len-row-end.ensures in
     omega arith

@@ -1,5 +1,4 @@
 use Rattle.std.proofs.Common.{◌≡◌, ℕ, ◌+◌, ◌≤◌, ◌^◌, true, sym, ◌∙◌, ap}
-use Rattle.std.specs.Map.{values_of}
 use Rattle.nfs_tree.specs.declared.row.Row.{Row}
 use Rattle.nfs_tree.specs.Maps.{has_pair, links_behind}
 use Rattle.nfs_tree.proofs.PairLemmas.{pair_row, is_there, there_is, not_there}
@@ -17,7 +16,7 @@ returns-in-None-clause-none c = rw (← c.self.view_is) (links_none _ _ c.args.o
 
 pub returns-in-Some-clause-some : goal.returns-in-Some-clause-some
 returns-in-Some-clause-some c =
-    let rows = values_of c.self.inside.rows.entries in
+    let rows = c.self.inside.rows in
     let r = pair_row (λ (r : Row). r.object) rows _ c.args.object c.in-Some.next c.self.invariant.owned (is_there _ c.in-Some.ensures.there) in
     let at : c.in-Some.next ≡ r.0.cookie = sym r.3 in
     let low : c.args.cookie + 1 ≤ r.0.cookie = rw (← at) c.in-Some.ensures.from in

@@ -1,0 +1,12 @@
+-- How the bytes of a name lie: in place where it is short.
+use Rattle.std.specs.Prelude.{ℕ, ◌≤◌, ⊤, List, take}
+use Rattle.nfs_tree.specs.declared.name.Kept.{Kept}
+use Rattle.nfs_tree.specs.declared.name.Kept.TheVariants.{Short, Long}
+
+abbrev pub name_of : Kept → List ℕ
+name_of (Short len bytes) = take len bytes
+name_of (Long bytes) = bytes.items
+
+abbrev pub IsShort : Kept → Type 0
+IsShort (Short len bytes) = len ≤ 23
+IsShort (Long bytes) = ⊤

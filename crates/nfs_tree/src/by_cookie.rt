@@ -1,0 +1,88 @@
+//! Rows as they are stored, in rising order of their cookies.
+
+ghost use Rattle.std.specs.Prelude.{◌≡◌, ◌++◌, ◌∷◌, [], length, option_copied, OnOk, OnErr};
+ghost use Rattle.slab.specs.Slab.{Updates};
+ghost use Rattle.nfs_xdr.specs.Tables.{IsRising, record_at, without_record};
+
+use crate::row::Row;
+use slab::Slab;
+use std::alloc::{AllocError, Global};
+use std::collections::BTreeMap;
+use std::marker::Model;
+
+/// Rows by their cookies. Contracts see the list of them, in rising order of their cookies.
+#[derive(Drop)]
+pub(crate) struct ByCookie {
+    slab: Slab<Row>,
+    keys: BTreeMap<u64, usize, Global>,
+}
+
+impl Model for ByCookie {
+    ghost use Rattle.std.specs.Prelude.{List};
+    ghost use Rattle.slab.specs.Slab.{get};
+    ghost use Rattle.nfs_tree.specs.declared.row.Row.{Row};
+    ghost use Rattle.nfs_tree.specs.Indexed.{stored, AreShelved};
+
+    ghost Value = { List Row };
+
+    ghost view = { λ t. stored (get t.slab) t.keys.entries };
+
+    ghost invariant = { λ t. AreShelved (get t.slab) t.keys.entries };
+}
+
+impl ByCookie {
+    /// No rows. What comes later grows by `alloc`.
+    pub(crate) fn new(alloc: Global) -> ByCookie
+        ensures { result ≡ [] }
+    {
+        ByCookie {
+            slab: Slab::new(alloc),
+            keys: BTreeMap::new(alloc),
+        }
+    }
+
+    pub(crate) fn len(&self) -> usize
+        ensures { result ≡ length self.now }
+    {
+        self.keys.len()
+    }
+
+    /// The row of a cookie.
+    pub(crate) fn row(&self, cookie: u64) -> Option<&Row>
+        ensures { option_copied result ≡ record_at (λ r. r.cookie) self.now cookie }
+    {
+        match self.keys.get(&cookie) {
+            None => None,
+            Some(key) => self.slab.get(*key),
+        }
+    }
+
+    /// Puts a row behind the others.
+    pub(crate) fn push(&mut self, row: Row) -> Result<(), AllocError>
+        requires { IsRising (λ r. r.cookie) 3 self.old row.cookie }
+        ensures ok { OnOk result (self.new ≡ self.old ++ row ∷ []) }
+        ensures err { OnErr result (self.new ≡ self.old) }
+    {
+        self.slab.reserve(1)?;
+        let key = self.slab.vacant_key();
+        self.keys.insert(row.cookie, key)?;
+        self.slab.insert_reserved(row);
+        Ok(())
+    }
+
+    /// Drops the row of a cookie.
+    pub(crate) fn drop_row(&mut self, cookie: u64)
+        ensures { self.new ≡ without_record (λ r. r.cookie) self.old cookie }
+    {
+        if let Some(key) = self.keys.remove(&cookie) {
+            drop_at(&mut self.slab, key);
+        }
+    }
+}
+
+/// Drops what stands at a key.
+fn drop_at(slab: &mut Slab<Row>, key: usize)
+    ensures { Updates slab.old slab.new key None }
+{
+    slab.try_remove(key);
+}
