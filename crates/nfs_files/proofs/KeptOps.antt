@@ -40,11 +40,12 @@ use Rattle.nfs_names.specs.declared.context.Context.{Context}
 use Rattle.nfs_names.specs.declared.node.Node.{Node}
 use Rattle.nfs_names.specs.State.{State}
 use Rattle.nfs_names.specs.Ending.{with_opens}
+use Rattle.nfs_names.proofs.Found.{came}
 use Rattle.nfs_names.specs.Outcome.{Outcome, answers, refuses, checked, passed, mapped, is_ok, or_delay}
 use Rattle.nfs_names.proofs.Untouched.{unused_opens, by_answers}
 use Rattle.nfs_files.specs.StateIds.{meant}
 use Rattle.nfs_files.specs.Target.{target, the_file}
-use Rattle.nfs_files.specs.Ranges.{all_ones, last_of, range, wish, wish_of, wished, wished_by}
+use Rattle.nfs_files.specs.Ranges.{all_ones, last_of, range, wish, wished, wished_by}
 use Rattle.nfs_files.specs.Operation.{one, grows, one_or_delay}
 use Rattle.nfs_files.specs.Close.{closed, closes, close}
 use Rattle.nfs_files.specs.Commit.{commit}
@@ -279,11 +280,6 @@ wish_parts x how offset size d (Err status) w is e = absurd cc
 wish_parts x how offset size d (Ok last) w is e = let same : wish x how offset last d.number ≡ w = cc in
     (sym (ap (λ (w : Wish). w.first) same), is ∙ ap (λ (w : Wish). Ok w.last) same)
 
-wish_of_parts : (x : Context) (how : LockType) (offset size : ℕ) (v : Result Node Status) (w : Wish)
-    → wish_of x how offset v (range offset size) ≡ Ok w → (w.first ≡ offset) × (range offset size ≡ Ok w.last)
-wish_of_parts x how offset size (Err status) w e = absurd cc
-wish_of_parts x how offset size (Ok d) w e = wish_parts x how offset size d (range offset size) w refl e
-
 id_parts : {A : Type 0} (m : A) (wish : A → Wish) (make : StateId → A) (w : Wish) → ((id : StateId) → wish (make id) ≡ w) → (v : Result StateId Status)
     → mapped make v ≡ Ok m → w ≡ wish m
 id_parts m wish make w each (Err status) e = absurd cc
@@ -302,8 +298,8 @@ reclaim_parts x a (Ok w) given m e = ap Ok (flag_parts x given w a.reclaim m e)
 pub lock_range : (s : State) (x : Context) (a : args.Lock) (m : _) → of_lock.locking s x a ≡ Ok m → (m.wish.first ≡ a.offset) × (range a.offset a.length ≡ Ok m.wish.last)
 unfolding wished
 lock_range s x a m e =
-    wish_of_parts x a.locktype a.offset a.length (the_file s x) m.wish
-    (reclaim_parts x a (wished s x a.locktype a.offset a.length) (of_lock.stateid_in a.locker) m e)
+    let d = came (the_file s x) _ m.wish (reclaim_parts x a (wished s x a.locktype a.offset a.length) (of_lock.stateid_in a.locker) m e) in
+    wish_parts x a.locktype a.offset a.length d.found (range a.offset a.length) m.wish refl d.then
 
 pub clashing : ClashesAreRefused
 clashing k s x op n w table some is lock clash =

@@ -1,5 +1,5 @@
 -- OPEN: the results that it may have, and what it leaves.
-use Rattle.std.proofs.Common.{◌≡◌, ℕ, ◌+◌, ◌≤◌, Bool, true, false, cond, List, length, Option, Some, None, refl, ◌∙◌, ap, arith}
+use Rattle.std.proofs.Common.{◌≡◌, ℕ, ◌+◌, ◌≤◌, Bool, true, false, cond, List, length, Option, Some, None, refl, ◌∙◌, ap, subst, arith}
 use Rattle.std.specs.Prelude.{Result, Ok, Err}
 use Rattle.std.specs.Option.{option_map_or}
 use Rattle.std.proofs.lemmas.List.{length-append}
@@ -8,9 +8,10 @@ use Rattle.nfs_xdr.proofs.Checks.{all_passed}
 use Rattle.nfs_xdr.specs.Spelling.{number, hyper}
 use Rattle.nfs_xdr.specs.declared.time.Time.{Time}
 use Rattle.nfs_xdr.specs.declared.status.Status.{Status}
+use Rattle.nfs_xdr.specs.declared.status.Status.TheVariants as S
 use Rattle.nfs_xdr.proofs.Putting.{length_number, length_hyper}
 use Rattle.nfs_compound.specs.declared.op_num.OpNum.TheVariants as Num
-use Rattle.nfs_compound.specs.OpenArgs.{Open, OpenHow, NoCreate, Create, Unchecked, Guarded, Exclusive, Exclusive41}
+use Rattle.nfs_compound.specs.OpenArgs.{Open, OpenClaim, Null, Previous, DelegateCur, DelegatePrev, Fh, DelegCurFh, DelegPrevFh}
 use Rattle.nfs_compound.specs.Operation.{Operation, OpOpen}
 use Rattle.nfs_tree.specs.declared.stored.Stored.{Stored}
 use Rattle.nfs_tree.specs.Object.{is_regular, modified, no_sets}
@@ -28,18 +29,20 @@ use Rattle.nfs_names.specs.declared.making.Making.{Making}
 use Rattle.nfs_names.specs.State.{State, with_tree, IsStore}
 use Rattle.nfs_names.specs.Outcome.{mapped, checked}
 use Rattle.nfs_names.specs.Checks.{held, current}
-use Rattle.nfs_names.specs.Create.{with_wanted}
+use Rattle.nfs_attrs.specs.Mask.{mask_of}
+use Rattle.nfs_names.specs.Create.{attributes_in}
 use Rattle.nfs_names.proofs.Bounds.{IsAnswer, held_refuses, current_refuses, wanted_refuses}
-use Rattle.nfs_names.proofs.Found.{IsHeld, current_is, checked_ok}
+use Rattle.nfs_names.proofs.Found.{IsHeld, current_is, checked_ok, came, ok_is}
 use Rattle.nfs_names.proofs.Kept.{regular_same, store_new}
-use Rattle.nfs_names.proofs.Refusing.{Refuses, refuses_checked, refuses_mapped, err_refuses, ok_refuses, answers_with}
+use Rattle.nfs_names.proofs.Refusing.{Refuses, all_refuse, refuses_checked, refuses_mapped, refuses_then, err_refuses, ok_refuses, answers_with}
 use Rattle.nfs_names.proofs.Masks.{few_words}
 use Rattle.nfs_files.specs.declared.opening.Found.{Found}
 use Rattle.nfs_files.specs.declared.opening.Found.TheVariants.{There, Absent}
 use Rattle.nfs_files.specs.StateIds.{wire_id}
 use Rattle.nfs_files.specs.Bytes.{file_checks}
-use Rattle.nfs_files.specs.Open.{mask_by, name_of, wanted_by, argument_checks, place_checks, absent_checks, there_checks, is_by_handle, cuts, found_by}
-use Rattle.nfs_files.specs.Open.{found_at, by_name, by_handle, asked_for, file_of, asking, last_checks, new_of, sets_of, tree_of, set_of, opened, open_file}
+use Rattle.nfs_files.specs.Open.{makes, name_of, argument_checks, place_checks, absent_checks, there_checks, cuts, found_by}
+use Rattle.nfs_files.specs.Open.{by_name, by_handle, by_claim, asked_for, file_of, asking, last_checks, new_of, sets_of, tree_of, set_of, opened, open_file}
+use Rattle.nfs_files.proofs.Passing.{mapped_came}
 use Rattle.nfs_files.proofs.Seats.{by_bool}
 use Rattle.nfs_files.proofs.SetRows.{file_regular}
 use Rattle.nfs_files.proofs.Keeping.{kind_bytes, store_resized}
@@ -53,32 +56,42 @@ found_by_refuses s x o m (Some n) =
     refuses_mapped (λ f. There m.place.number f (cuts o m.wanted)) (checked (held s (Some n)) (there_checks x o))
     (refuses_checked (held s (Some n)) (there_checks x o) (held_refuses s (Some n)) (λ f. refl))
 
-found_at_refuses : (s : State) (x : Context) (o : Open) (name : List ℕ) (v : Result Making Status) → Refuses v → Refuses (found_at s x o name v)
-found_at_refuses s x o name (Err status) h = err_refuses status (h.each status refl)
-found_at_refuses s x o name (Ok m) h = found_by_refuses s x o m (lookup s.tree m.place.number name)
+name_refuses : (s : State) (x : Context) (o : Open) (name : List ℕ) (d : Node) → Refuses (by_name s x o name d)
+name_refuses s x o name d =
+    refuses_then (checked (Ok d) (place_checks x name)) _ (refuses_checked (Ok d) (place_checks x name) (ok_refuses d) (λ d. refl)) (λ d.
+    refuses_then (attributes_in (makes o.openhow).attributes) _ (wanted_refuses (makes o.openhow).attributes) (λ w.
+    found_by_refuses s x o (record { place = d; wanted = w }) (lookup s.tree d.number name)))
+
+handle_refuses : (x : Context) (o : Open) (d : Node) → Refuses (by_handle x o d)
+handle_refuses x o d =
+    refuses_mapped (λ f. There f.number f false) (checked (Ok d) (there_checks x o))
+    (refuses_checked (Ok d) (there_checks x o) (ok_refuses d) (λ f. refl))
+
+claim_refuses : (s : State) (x : Context) (o : Open) (claim : OpenClaim) (d : Node) → Refuses (by_claim s x o claim d)
+claim_refuses s x o (Null name) d = name_refuses s x o name d
+claim_refuses s x o Fh d =
+    by_bool (makes o.openhow).creates (Err S.Inval) (by_handle x o d) (err_refuses S.Inval (record { done = refl; legal = refl })) (handle_refuses x o d)
+claim_refuses s x o (Previous type) d = err_refuses S.NoGrace (record { done = refl; legal = refl })
+claim_refuses s x o (DelegateCur id file) d = err_refuses S.NotSupp (record { done = refl; legal = refl })
+claim_refuses s x o (DelegatePrev file) d = err_refuses S.NotSupp (record { done = refl; legal = refl })
+claim_refuses s x o (DelegCurFh id) d = err_refuses S.NotSupp (record { done = refl; legal = refl })
+claim_refuses s x o DelegPrevFh d = err_refuses S.NotSupp (record { done = refl; legal = refl })
 
 pub asked_refuses : (s : State) (x : Context) (o : Open) → Refuses (asked_for s x o)
 unfolding asked_for
 asked_refuses s x o =
-    let d = checked (current s x) (argument_checks o) in
-    let argued : Refuses d = refuses_checked (current s x) (argument_checks o) (current_refuses s x) (λ d. refl) in
-    by_bool (is_by_handle o.claim) (by_handle x o d) (by_name s x o d)
-    (refuses_mapped (λ f. There f.number f false) (checked d (there_checks x o)) (refuses_checked d (there_checks x o) argued (λ f. refl)))
-    (found_at_refuses s x o (name_of o.claim) (with_wanted (checked d (place_checks x o)) (wanted_by o.openhow))
-    (wanted_refuses (checked d (place_checks x o)) (wanted_by o.openhow) (refuses_checked d (place_checks x o) argued (λ d. refl))))
+    refuses_then (checked (current s x) (argument_checks o)) (by_claim s x o o.claim)
+    (refuses_checked (current s x) (argument_checks o) (current_refuses s x) (λ d. refl)) (claim_refuses s x o o.claim)
 
 -- results
-mask_few : (how : OpenHow) → length (mask_by how).words ≡ 3
-mask_few NoCreate = refl
-mask_few (Create (Unchecked a)) = refl
-mask_few (Create (Guarded a)) = refl
-mask_few (Create (Exclusive v)) = refl
-mask_few (Create (Exclusive41 v a)) = refl
-
 set_few : (o : Open) (found : Found) → length (set_of o found) ≤ 3
 set_few o (There place f true) = omega arith
 set_few o (There place f false) = omega arith
-set_few o (Absent m) = let few = few_words (mask_by o.openhow).words in omega (arith, mask_few o.openhow)
+set_few o (Absent m) =
+    let mask = mask_of (makes o.openhow).attributes.attrmask in
+    let few = few_words mask.words in
+    let three : length mask.words ≡ 3 = refl in
+    omega (arith, three)
 
 wire_length : (id : StateId) → length (wire_id id).other ≡ 12
 wire_length id = omega (arith, length-append (number id.instance) (hyper id.number), length_number id.instance, length_hyper id.number)
@@ -87,25 +100,29 @@ pub may_open : (s : State) (x : Context) (now : Time) (o : Open) → IsAnswer (O
 unfolding open_file
 may_open s x now o =
     answers_with (IsAnswer (Operation (OpOpen o))) s x Num.Open _ _
-    (refuses_checked (asked_for s x o) (last_checks s x o) (asked_refuses s x o) (λ found. refl))
+    (refuses_checked (asked_for s x o) (last_checks s x o) (asked_refuses s x o) last_refuse)
     (λ status h. record { may = (refl, rw (h.done, h.legal) refl, tt); arrays = tt })
     (λ found. record { may = (refl, tt, set_few o found); arrays = wire_length (opens s.opens (asking x o (file_of s.tree found))).id })
+  where
+    last_refuse : (found : Found) → all_refuse (last_checks s x o found) ≡ true
+    last_refuse (There place f cut) = refl
+    last_refuse (Absent m) = refl
 
 -- what is there is a file
-there_of : (p : ℕ) (c : Bool) (v : Result Node Status) (place : ℕ) (f : Node) (cut : Bool) → mapped (λ f. There p f c) v ≡ Ok (There place f cut) → v ≡ Ok f
-there_of p c (Err status) place f cut e = absurd cc
-there_of p c (Ok g) place f cut e = let same : g ≡ f = cc in ap Ok same
-
-by_own : (v : Result Node Status) (place : ℕ) (f : Node) (cut : Bool) → mapped (λ f. There f.number f false) v ≡ Ok (There place f cut) → v ≡ Ok f
-by_own (Err status) place f cut e = absurd cc
-by_own (Ok g) place f cut e = let same : g ≡ f = cc in ap Ok same
-
 there_regular : (s : State) (x : Context) (o : Open) (f : Node) → IsHeld s.tree f
     → first_fault (there_checks x o f) ≡ None → is_regular_at s.tree f.number ≡ true
 there_regular s x o f is e =
     let checks = all_passed (there_checks x o f) e in
-    let file : first_fault (file_checks f) ≡ None = rw (checks.1.1.0, checks.1.1.1.0) refl in
+    let file : first_fault (file_checks f) ≡ None = rw (checks.1.0, checks.1.1.0) refl in
     file_regular s.tree f is file
+
+-- what was found passed its checks
+there_found : (x : Context) (o : Open) (v : Result Node Status) (to : Node → Found) (place : ℕ) (f : Node) (cut : Bool)
+    → ((g : Node) → to g ≡ There place f cut → g ≡ f)
+    → mapped to (checked v (there_checks x o)) ≡ Ok (There place f cut) → (v ≡ Ok f) × (first_fault (there_checks x o f) ≡ None)
+there_found x o v to place f cut same e =
+    let c = mapped_came to (checked v (there_checks x o)) (There place f cut) e in
+    checked_ok v (there_checks x o) f (c.is ∙ ap Ok (same c.found c.same))
 
 found_regular : (s : State) (x : Context) (o : Open) (m : Making) (n : Option ℕ) (place : ℕ) (f : Node) (cut : Bool)
     → found_by s x o m n ≡ Ok (There place f cut) → is_regular_at s.tree f.number ≡ true
@@ -116,29 +133,40 @@ found_regular s x o m None place f cut e = by_absent (checked (Ok m) (absent_che
     by_absent (Err status) e = absurd cc
     by_absent (Ok m) e = absurd cc
 found_regular s x o m (Some n) place f cut e =
-    let found = checked_ok (held s (Some n)) (there_checks x o) f
-    (there_of m.place.number (cuts o m.wanted) (checked (held s (Some n)) (there_checks x o)) place f cut e) in
+    let found = there_found x o (held s (Some n)) (λ f. There m.place.number f (cuts o m.wanted)) place f cut (λ g e. cc) e in
     there_regular s x o f (current_is s (record x { current = Some n }) f found.0) found.1
 
-named_regular : (s : State) (x : Context) (o : Open) (name : List ℕ) (v : Result Making Status) (place : ℕ) (f : Node) (cut : Bool)
-    → found_at s x o name v ≡ Ok (There place f cut) → is_regular_at s.tree f.number ≡ true
-named_regular s x o name (Err status) place f cut e = absurd cc
-named_regular s x o name (Ok m) place f cut e = found_regular s x o m (lookup s.tree m.place.number name) place f cut e
+named_regular : (s : State) (x : Context) (o : Open) (name : List ℕ) (d : Node) (place : ℕ) (f : Node) (cut : Bool)
+    → by_name s x o name d ≡ Ok (There place f cut) → is_regular_at s.tree f.number ≡ true
+named_regular s x o name d place f cut e =
+    let p = came (checked (Ok d) (place_checks x name)) _ (There place f cut) e in
+    let w = came (attributes_in (makes o.openhow).attributes) _ (There place f cut) p.then in
+    found_regular s x o (record { place = p.found; wanted = w.found }) (lookup s.tree p.found.number name) place f cut w.then
 
-by_claim : (s : State) (x : Context) (o : Open) (b : Bool) (place : ℕ) (f : Node) (cut : Bool)
-    → cond b (by_handle x o (checked (current s x) (argument_checks o))) (by_name s x o (checked (current s x) (argument_checks o))) ≡ Ok (There place f cut)
-    → is_regular_at s.tree f.number ≡ true
-by_claim s x o true place f cut e =
-    let d = checked (current s x) (argument_checks o) in
-    let found = checked_ok d (there_checks x o) f (by_own (checked d (there_checks x o)) place f cut e) in
-    there_regular s x o f (current_is s x f (checked_ok (current s x) (argument_checks o) f found.0).0) found.1
-by_claim s x o false place f cut e = named_regular s x o (name_of o.claim)
-    (with_wanted (checked (checked (current s x) (argument_checks o)) (place_checks x o)) (wanted_by o.openhow)) place f cut e
+handle_regular : (s : State) (x : Context) (o : Open) (b : Bool) (d : Node) (place : ℕ) (f : Node) (cut : Bool) → IsHeld s.tree d
+    → cond b (Err S.Inval) (by_handle x o d) ≡ Ok (There place f cut) → is_regular_at s.tree f.number ≡ true
+handle_regular s x o true d place f cut is e = absurd cc
+handle_regular s x o false d place f cut is e =
+    let found = there_found x o (Ok d) (λ f. There f.number f false) place f cut (λ g e. cc) e in
+    there_regular s x o f (subst (IsHeld s.tree) (ok_is refl found.0) is) found.1
+
+claim_regular : (s : State) (x : Context) (o : Open) (claim : OpenClaim) (d : Node) (place : ℕ) (f : Node) (cut : Bool) → IsHeld s.tree d
+    → by_claim s x o claim d ≡ Ok (There place f cut) → is_regular_at s.tree f.number ≡ true
+claim_regular s x o (Null name) d place f cut is e = named_regular s x o name d place f cut e
+claim_regular s x o Fh d place f cut is e = handle_regular s x o (makes o.openhow).creates d place f cut is e
+claim_regular s x o (Previous type) d place f cut is e = absurd cc
+claim_regular s x o (DelegateCur id file) d place f cut is e = absurd cc
+claim_regular s x o (DelegatePrev file) d place f cut is e = absurd cc
+claim_regular s x o (DelegCurFh id) d place f cut is e = absurd cc
+claim_regular s x o DelegPrevFh d place f cut is e = absurd cc
 
 pub asked_regular : (s : State) (x : Context) (o : Open) (place : ℕ) (f : Node) (cut : Bool)
     → asked_for s x o ≡ Ok (There place f cut) → is_regular_at s.tree f.number ≡ true
 unfolding asked_for
-asked_regular s x o place f cut e = by_claim s x o (is_by_handle o.claim) place f cut e
+asked_regular s x o place f cut e =
+    let c = came (checked (current s x) (argument_checks o)) (by_claim s x o o.claim) (There place f cut) e in
+    let is = current_is s x c.found (checked_ok (current s x) (argument_checks o) c.found c.is).0 in
+    claim_regular s x o o.claim c.found place f cut is c.then
 
 -- what is made is one
 made_regular : (t : Files) (x : Context) (now : Time) (o : Open) (m : Making)

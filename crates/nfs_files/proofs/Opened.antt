@@ -1,11 +1,10 @@
 -- OPEN: which opens there are of which file, and what they refuse.
 use Rattle.std.proofs.Common.{◌≡◌, ℕ, ◌+◌, ◌<◌, ◌≤◌, Bool, true, false, List, [], ◌∷◌, ◌++◌, Option, Some, None, refl, sym, ◌∙◌, ap, inl, inr, arith}
-use Rattle.std.specs.Prelude.{Result, Ok, Err, ◌==◌, is_some, is_none, find}
+use Rattle.std.specs.Prelude.{Result, Ok, Err, ◌==◌, ◌&&◌, is_some, is_none, find}
 use Rattle.std.specs.List.{list_any}
 use Rattle.std.specs.Option.{option_map_or}
 use Rattle.std.proofs.lemmas.Bool.{cases_Bool, or_parts, false≢true}
 use Rattle.nfs_xdr.specs.Checks.{first_fault, judged}
-use Rattle.nfs_xdr.proofs.Checks.{all_passed}
 use Rattle.nfs_xdr.specs.Status.{status_number}
 use Rattle.nfs_xdr.specs.declared.status.Status.{Status}
 use Rattle.nfs_xdr.specs.declared.status.Status.TheVariants.{ShareDenied, ServerFault}
@@ -21,11 +20,13 @@ use Rattle.nfs_opens.specs.Table.{Asked, is_own, clashes_with}
 use Rattle.nfs_opens.specs.Opening.{own_open, open_fault}
 use Rattle.nfs_names.specs.declared.context.Context.{Context}
 use Rattle.nfs_names.specs.State.{State, is_open, IsStore}
+use Rattle.nfs_names.specs.Faults.{by_tree}
 use Rattle.nfs_names.proofs.Found.{or_fault, first_append}
 use Rattle.nfs_files.specs.declared.opening.Found.{Found}
 use Rattle.nfs_files.specs.declared.opening.Found.TheVariants.{There, Absent}
-use Rattle.nfs_files.specs.Open.{asking, file_of, clashes, is_used_up, room_checks, last_checks}
-use Rattle.nfs_files.specs.OpenParts.{number_of}
+use Rattle.nfs_files.specs.Open.{asking, file_of, tree_checks, last_checks}
+use Rattle.nfs_files.specs.OpenParts as part
+use Rattle.nfs_files.specs.OpenParts.{room_checks, number_of}
 
 regular_there : (o : Option Stored) → option_map_or (λ (s : Stored). is_regular s.object.kind) o false ≡ true → is_some o ≡ true
 regular_there None e = absurd (false≢true e)
@@ -64,23 +65,19 @@ none_own a (o ∷ os) e = let parts = or_parts (o.file == a.file) _ e in rw part
 free_checks : (s : State) (a : Asked) → is_open s a.file ≡ false → (list_any (clashes_with a) s.opens.opens ≡ false) × (is_none (own_open s.opens a) ≡ true)
 free_checks s a e = (none_clash a s.opens.opens e, ap is_none (none_own a s.opens.opens e))
 
-abbrev pub shared_checks : State → Context → Open → Found → List (Bool × Status)
-shared_checks s x o found = (clashes s x o found, ShareDenied) ∷ (is_used_up s x o found, ServerFault) ∷ []
-
 -- a file that is made has no opens, whatever its number will be
-free_fault : (s : State) (x : Context) (o : Open) (n : ℕ) → is_open s n ≡ false
-    → open_fault s.opens (asking x o n) ≡ first_fault ((false, ShareDenied) ∷ (s.opens.last == last_number, ServerFault) ∷ [])
-free_fault s x o n e = let free = free_checks s (asking x o n) e in rw (free.0, free.1) refl
+free_at : (s : State) (x : Context) (o : Open) (n : ℕ) → is_open s n ≡ false
+    → (list_any (clashes_with (asking x o n)) s.opens.opens ≡ false) × (is_none (own_open s.opens (asking x o n)) ≡ true)
+free_at s x o n e = free_checks s (asking x o n) e
 
-pub shared_fault : (s : State) (x : Context) (o : Open) (found : Found) → IsTree s.tree → IsStore s
-    → open_fault s.opens (asking x o (number_of found)) ≡ first_fault (shared_checks s x o found)
-shared_fault s x o (There place f cut) tree is = refl
-shared_fault s x o (Absent m) tree is = free_fault s x o 0 (none_at_zero s tree is)
-
-pub opened_fault : (s : State) (x : Context) (o : Open) (found : Found) → IsTree s.tree → IsStore s
-    → open_fault s.opens (asking x o (file_of s.tree found)) ≡ first_fault (shared_checks s x o found)
-opened_fault s x o (There place f cut) tree is = refl
-opened_fault s x o (Absent m) tree is = free_fault s x o (s.tree.last_object + 1) (none_at_next s tree is)
+pub shared_same : (s : State) (x : Context) (o : Open) (found : Found) → IsTree s.tree → IsStore s
+    → (list_any (clashes_with (asking x o (file_of s.tree found))) s.opens.opens ≡ list_any (clashes_with (asking x o (number_of found))) s.opens.opens)
+    × (is_none (own_open s.opens (asking x o (file_of s.tree found))) ≡ is_none (own_open s.opens (asking x o (number_of found))))
+shared_same s x o (There place f cut) tree is = (refl, refl)
+shared_same s x o (Absent m) tree is =
+    let next = free_at s x o (s.tree.last_object + 1) (none_at_next s tree is) in
+    let zero = free_at s x o 0 (none_at_zero s tree is) in
+    (next.0 ∙ sym zero.0, next.1 ∙ sym zero.1)
 
 -- where nothing is shared wrongly and no number is wanted, the room decides
 last_ok : (k u : Bool) (rooms : List (Bool × Status)) → Ok tt ≡ judged (first_fault ((k, ShareDenied) ∷ (u, ServerFault) ∷ []))
@@ -124,23 +121,54 @@ last_spent false true rooms status e n r is = (
     by_other (Some f) h other er = er ∙ ap judged (h ∙ sym (first_append rooms ((true, ServerFault) ∷ []) ∙ ap (λ o. or_fault o (Some ServerFault)) h))
 
 pub room_decides : (s : State) (x : Context) (o : Open) (found : Found) (shared : Result (Unit {0}) Status)
-    → shared ≡ judged (first_fault (shared_checks s x o found)) → shared ≡ Ok tt
-    → judged (first_fault (room_checks s.tree found)) ≡ judged (first_fault (last_checks s x o found))
-room_decides s x o found shared is ok = last_ok (clashes s x o found) (is_used_up s x o found) (room_checks s.tree found) (sym ok ∙ is)
+    → shared ≡ judged (open_fault s.opens (asking x o (number_of found))) → shared ≡ Ok tt
+    → judged (first_fault (room_checks s.tree found)) ≡ judged (first_fault (part.last_checks s x o found))
+room_decides s x o found shared is ok =
+    let a = asking x o (number_of found) in
+    last_ok (list_any (clashes_with a) s.opens.opens) (is_none (own_open s.opens a) && (s.opens.last == last_number)) (room_checks s.tree found) (sym ok ∙ is)
 
 pub denied_decides : (s : State) (x : Context) (o : Open) (found : Found) (status : Status)
-    → Err status ≡ judged (first_fault (shared_checks s x o found)) → status_number status ≡ status_number ShareDenied
-    → Err status ≡ judged (first_fault (last_checks s x o found))
-denied_decides s x o found status is n = last_denied (clashes s x o found) (is_used_up s x o found) (room_checks s.tree found) status is n
+    → Err status ≡ judged (open_fault s.opens (asking x o (number_of found))) → status_number status ≡ status_number ShareDenied
+    → Err status ≡ judged (first_fault (part.last_checks s x o found))
+denied_decides s x o found status is n =
+    let a = asking x o (number_of found) in
+    last_denied (list_any (clashes_with a) s.opens.opens) (is_none (own_open s.opens a) && (s.opens.last == last_number)) (room_checks s.tree found) status is n
 
 pub spent_decides : (s : State) (x : Context) (o : Open) (found : Found) (status : Status)
-    → Err status ≡ judged (first_fault (shared_checks s x o found)) → (status_number status ≡ status_number ShareDenied → ⊥)
+    → Err status ≡ judged (open_fault s.opens (asking x o (number_of found))) → (status_number status ≡ status_number ShareDenied → ⊥)
     → (r : Result (Unit {0}) Status) → r ≡ judged (first_fault (room_checks s.tree found))
-    → (Ok tt ≡ r → Err status ≡ judged (first_fault (last_checks s x o found)))
-    × ((other : Status) → Err other ≡ r → Err other ≡ judged (first_fault (last_checks s x o found)))
-spent_decides s x o found status is n r room = last_spent (clashes s x o found) (is_used_up s x o found) (room_checks s.tree found) status is n r room
+    → (Ok tt ≡ r → Err status ≡ judged (first_fault (part.last_checks s x o found)))
+    × ((other : Status) → Err other ≡ r → Err other ≡ judged (first_fault (part.last_checks s x o found)))
+spent_decides s x o found status is n r room =
+    let a = asking x o (number_of found) in
+    last_spent (list_any (clashes_with a) s.opens.opens) (is_none (own_open s.opens a) && (s.opens.last == last_number)) (room_checks s.tree found) status is n r room
 
--- nothing is shared wrongly, and a number is left
+-- where all passed, nothing is shared wrongly, the tree refuses nothing and a number is left
+ends_free : (k u : Bool) (rooms : List (Bool × Status)) → first_fault ((k, ShareDenied) ∷ rooms ++ (u, ServerFault) ∷ []) ≡ None
+    → (k ≡ false) × (first_fault rooms ≡ None) × (u ≡ false)
+ends_free true u rooms e = absurd cc
+ends_free false u rooms e = by_rooms (first_fault rooms) refl (sym (first_append rooms ((u, ServerFault) ∷ [])) ∙ e)
+  where
+    by_last : (u : Bool) → first_fault ((u, ServerFault) ∷ []) ≡ None → u ≡ false
+    by_last true e = absurd cc
+    by_last false e = refl
+
+    by_rooms : (o : Option Status) → first_fault rooms ≡ o → or_fault (first_fault rooms) (first_fault ((u, ServerFault) ∷ [])) ≡ None
+        → (false ≡ false) × (first_fault rooms ≡ None) × (u ≡ false)
+    by_rooms None h e = (refl, h, by_last u (ap (λ o. or_fault o (first_fault ((u, ServerFault) ∷ []))) (sym h) ∙ e))
+    by_rooms (Some f) h e = absurd (let bad : Some f ≡ None = ap (λ o. or_fault o (first_fault ((u, ServerFault) ∷ []))) (sym h) ∙ e in cc)
+
 pub shared_free : (s : State) (x : Context) (o : Open) (found : Found)
-    → first_fault (last_checks s x o found) ≡ None → first_fault (shared_checks s x o found) ≡ None
-shared_free s x o found e = let checks = all_passed (last_checks s x o found) e in rw (checks.0, checks.1.1.1.0) refl
+    → first_fault (last_checks s x o found) ≡ None → open_fault s.opens (asking x o (file_of s.tree found)) ≡ None
+shared_free s x o found e =
+    let a = asking x o (file_of s.tree found) in
+    let free = ends_free (list_any (clashes_with a) s.opens.opens) (is_none (own_open s.opens a) && (s.opens.last == last_number))
+    (by_tree (tree_checks s.tree o found)) e in
+    rw (free.0, free.2) refl
+
+pub rooms_free : (s : State) (x : Context) (o : Open) (found : Found)
+    → first_fault (last_checks s x o found) ≡ None → first_fault (by_tree (tree_checks s.tree o found)) ≡ None
+rooms_free s x o found e =
+    let a = asking x o (file_of s.tree found) in
+    (ends_free (list_any (clashes_with a) s.opens.opens) (is_none (own_open s.opens a) && (s.opens.last == last_number))
+    (by_tree (tree_checks s.tree o found)) e).1

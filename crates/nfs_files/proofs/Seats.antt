@@ -20,9 +20,9 @@ use Rattle.nfs_names.specs.declared.context.Context.{Context}
 use Rattle.nfs_names.specs.declared.node.Node.{Node}
 use Rattle.nfs_names.specs.State.{State}
 use Rattle.nfs_names.specs.Outcome.{passed, checked}
-use Rattle.nfs_names.proofs.Refusing.{Refuses, all_refuse, err_refuses, ok_refuses, refuses_checked}
+use Rattle.nfs_names.proofs.Refusing.{Refuses, all_refuse, err_refuses, ok_refuses, refuses_checked, refuses_then}
 use Rattle.nfs_files.specs.StateIds.{state_id, meant}
-use Rattle.nfs_files.specs.Bytes.{file_checks, seat_of, seat, reading, writing, seat_checks, may_use, readable, writable}
+use Rattle.nfs_files.specs.Bytes.{file_checks, seat, reading, writing, seat_checks, may_use, readable, writable}
 use Rattle.nfs_files.proofs.Passing.{if_passed_refuses}
 
 pub bad : {A : Type 0} → Refuses {A = A} (Err S.BadStateId)
@@ -58,13 +58,9 @@ judge_refuses t id client file sort =
     by_bool (is_anonymous id) _ _ (special_refuses sort Anonymous)
     (by_bool (is_bypass id) _ _ (special_refuses sort ReadBypass) (named_refuses t id client file sort))
 
-seat_of_refuses : (s : State) (x : Context) (d : Node) (v : Result StateId Status) → Refuses v → Refuses (seat_of s x d v)
-seat_of_refuses s x d (Err status) h = err_refuses status (h.each status refl)
-seat_of_refuses s x d (Ok id) h = judge_refuses s.opens id x.client (Some d.number) Either
-
 pub seat_refuses : (s : State) (x : Context) (given : Stateid) (d : Node) → Refuses (seat s x given d)
 unfolding seat
-seat_refuses s x given d = seat_of_refuses s x d (meant x Any given) (meant_refuses x Any given)
+seat_refuses s x given d = refuses_then (meant x Any given) _ (meant_refuses x Any given) (λ id. judge_refuses s.opens id x.client (Some d.number) Either)
 
 pub may_use_refuses : (s : State) (x : Context) (wanted : Share) (given : Stateid) (d : Node) → Refuses (may_use s x wanted given d)
 unfolding may_use

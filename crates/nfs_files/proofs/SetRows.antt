@@ -1,5 +1,5 @@
 -- SETATTR: the tree's own checks are its last ones.
-use Rattle.std.proofs.Common.{◌≡◌, ℕ, inl, inr, Bool, true, false, not, List, [], ◌∷◌, Option, Some, None, refl, sym, ◌∙◌, ap}
+use Rattle.std.proofs.Common.{◌≡◌, ℕ, inl, inr, Bool, true, false, not, List, [], ◌∷◌, Option, Some, None, refl, sym, ◌∙◌, ap, subst}
 use Rattle.std.specs.Prelude.{Result, Ok, Err, option_map, nat_lt, ◌&&◌}
 use Rattle.std.specs.Option.{option_map_or}
 use Rattle.std.proofs.lemmas.Bool.{cases_Bool, false≢true}
@@ -24,17 +24,18 @@ use Rattle.nfs_names.specs.declared.context.Context.{Context}
 use Rattle.nfs_names.specs.declared.node.Node.{Node}
 use Rattle.nfs_names.specs.State.{State}
 use Rattle.nfs_names.specs.Faults.{status_of}
-use Rattle.nfs_names.specs.Outcome.{refuses, checked}
+use Rattle.nfs_names.specs.Outcome.{with_status, refuses, checked}
+use Rattle.nfs_attrs.specs.Reading.{fault_status}
 use Rattle.nfs_names.specs.Checks.{current}
-use Rattle.nfs_names.specs.Create.{wanted_of}
+use Rattle.nfs_names.specs.Create.{wanted_of, attributes_in}
 use Rattle.nfs_names.specs.Lookup.{is_link}
-use Rattle.nfs_names.proofs.Found.{IsHeld, current_is, checked_ok}
+use Rattle.nfs_names.proofs.Found.{IsHeld, current_is, checked_ok, came, ok_is}
 use Rattle.nfs_names.proofs.Rows.{fault_map}
 use Rattle.nfs_names.proofs.Faulted.{by_last, by_refusal}
 use Rattle.nfs_files.specs.declared.setting.Setting.{Setting}
 use Rattle.nfs_files.specs.Bytes.{file_checks, writing, may_use, writable}
 use Rattle.nfs_files.specs.SetAttr as of_set
-use Rattle.nfs_files.specs.SetAttr.{with_wanted, owner_checks, sized, sized_by, asked_for, gives_some, last_checks, was_set, set_attr}
+use Rattle.nfs_files.specs.SetAttr.{setting, owner_checks, sized, sized_by, asked_for, gives_some, last_checks, was_set, set_attr}
 use Rattle.nfs_files.specs.SetAttrParts.{tree_fault}
 use Rattle.nfs_files.proofs.Passing.{if_passed_ok}
 
@@ -99,18 +100,29 @@ set_rows s x given m (Some size) k h is e =
     let file : first_fault (file_checks m.held) ≡ None = ap (λ d. first_fault (file_checks d)) same ∙ found.1 in
     sized_rows s m.held m.wanted size is (file_regular s.tree m.held is file) file (given_some m.wanted size h)
 
-setting_ok : (v : Result Node Status) (r : Result Wanted AttrFault) (m : Setting) → with_wanted v r ≡ Ok m → v ≡ Ok m.held
-setting_ok (Err f) r m e = absurd cc
-setting_ok (Ok d) (Err f) m e = absurd cc
-setting_ok (Ok d) (Ok w) m e = let same : record { held = d; wanted = w } ≡ m = cc in ap (λ (m : Setting). Ok m.held) same
+-- what is to be set was read, and the caller may set it
+record IsSet (s : State) (x : Context) (a : SetAttr) (m : Setting) : Type 0 where
+  held : current s x ≡ Ok m.held
+  read : attributes_in a.obj_attributes ≡ Ok m.wanted
+
+setting_is : (s : State) (x : Context) (a : SetAttr) (m : Setting) → setting s x a ≡ Ok m → IsSet s x a m
+setting_is s x a m e =
+    let d = came (current s x) _ m e in
+    let w = came (attributes_in a.obj_attributes) _ m d.then in
+    let k : Setting = record { held = d.found; wanted = w.found } in
+    let same = ok_is refl (checked_ok (Ok k) (owner_checks x) m w.then).0 in
+    subst (IsSet s x a) same (record { held = d.is; read = w.is })
+
+pub set_by : (s : State) (x : Context) (a : SetAttr) (d : Node) (w : Wanted) → current s x ≡ Ok d → wanted_of a.obj_attributes ≡ Ok w
+    → setting s x a ≡ checked (Ok (record { held = d; wanted = w })) (owner_checks x)
+set_by s x a d w held read = rw (held, read) refl
 
 set_found : (s : State) (x : Context) (a : SetAttr) (m : Setting) → asked_for s x a ≡ Ok m
     → option_map status_of (tree_fault s.tree m.held.number m.wanted m.wanted.size) ≡ first_fault (last_checks s m)
 unfolding asked_for
 set_found s x a m v =
-    let passed = if_passed_ok (checked (with_wanted (current s x) (wanted_of a.obj_attributes)) (owner_checks x)) (sized s x a.stateid) m v in
-    let owned = checked_ok (with_wanted (current s x) (wanted_of a.obj_attributes)) (owner_checks x) m passed.0 in
-    let found = current_is s x m.held (setting_ok (current s x) (wanted_of a.obj_attributes) m owned.0) in
+    let passed = if_passed_ok (setting s x a) (sized s x a.stateid) m v in
+    let found = current_is s x m.held (setting_is s x a m passed.0).held in
     set_rows s x a.stateid m m.wanted.size passed.1.0 refl found passed.1.1
 
 pub set_goes : (s : State) (x : Context) (now : Time) (a : SetAttr) (m : Setting) → asked_for s x a ≡ Ok m
@@ -131,11 +143,9 @@ set_stops s x now a m f v some =
 pub asked_wanted : (s : State) (x : Context) (a : SetAttr) (m : Setting) → asked_for s x a ≡ Ok m → wanted_of a.obj_attributes ≡ Ok m.wanted
 unfolding asked_for
 asked_wanted s x a m v =
-    let passed = if_passed_ok (checked (with_wanted (current s x) (wanted_of a.obj_attributes)) (owner_checks x)) (sized s x a.stateid) m v in
-    let owned = checked_ok (with_wanted (current s x) (wanted_of a.obj_attributes)) (owner_checks x) m passed.0 in
-    by_both (current s x) (wanted_of a.obj_attributes) owned.0
+    let passed = if_passed_ok (setting s x a) (sized s x a.stateid) m v in
+    by_status (wanted_of a.obj_attributes) (setting_is s x a m passed.0).read
   where
-    by_both : (v : Result Node Status) (r : Result Wanted AttrFault) → with_wanted v r ≡ Ok m → r ≡ Ok m.wanted
-    by_both (Err f) r e = absurd cc
-    by_both (Ok d) (Err f) e = absurd cc
-    by_both (Ok d) (Ok w) e = let same : record { held = d; wanted = w } ≡ m = cc in ap (λ (m : Setting). Ok m.wanted) same
+    by_status : (r : Result Wanted AttrFault) → with_status fault_status r ≡ Ok m.wanted → r ≡ Ok m.wanted
+    by_status (Err f) e = absurd cc
+    by_status (Ok w) e = ap Ok (ok_is refl e)

@@ -14,11 +14,12 @@ use Rattle.nfs_opens.specs.Locking.{is_whole}
 use Rattle.nfs_names.specs.declared.context.Context.{Context}
 use Rattle.nfs_names.specs.declared.node.Node.{Node}
 use Rattle.nfs_names.specs.State.{State}
+use Rattle.nfs_names.proofs.Found.{came}
 use Rattle.nfs_names.specs.Outcome.{passed, mapped}
 use Rattle.nfs_files.specs.declared.ranges.Wished.{Wished}
 use Rattle.nfs_files.specs.StateIds.{meant}
 use Rattle.nfs_files.specs.Target.{the_file}
-use Rattle.nfs_files.specs.Ranges.{all_ones, last_of, range, wish, wish_of, wished, wished_by}
+use Rattle.nfs_files.specs.Ranges.{all_ones, last_of, range, wish, wished, wished_by}
 
 -- what a range that passes its two checks is
 record Passed (empty over : Bool) (last l : ℕ) : Type 0 where
@@ -55,11 +56,6 @@ wish_is x how offset size d (Err status) w is e = absurd cc
 wish_is x how offset size d (Ok last) w is e = let same : wish x how offset last d.number ≡ w = cc in
     subst (IsWish offset size) same (record { first = refl; last = is })
 
-wish_found : (x : Context) (how : LockType) (offset size : ℕ) (found : Result Node Status) (w : Wish)
-    → wish_of x how offset found (range offset size) ≡ Ok w → IsWish offset size w
-wish_found x how offset size (Err status) w e = absurd cc
-wish_found x how offset size (Ok d) w e = wish_is x how offset size d (range offset size) w refl e
-
 with_id : (w : Wish) (id : Result StateId Status) (k : Wished) → mapped (λ id. record { wish = w; id = id }) id ≡ Ok k → w ≡ k.wish
 with_id w (Err status) k e = absurd cc
 with_id w (Ok id) k e = let same : record { wish = w; id = id } ≡ k = cc in ap (λ (k : Wished). k.wish) same
@@ -72,5 +68,6 @@ pub wished_whole : (s : State) (x : Context) (how : LockType) (offset size : ℕ
     → wished_by x given (wished s x how offset size) ≡ Ok k → is_whole k.wish.first k.wish.last ≡ (offset == 0 && size == all_ones)
 unfolding wished
 wished_whole s x how offset size given k e =
-    let w = wish_found x how offset size (the_file s x) k.wish (wished_parts x given (wished s x how offset size) k e) in
+    let d = came (the_file s x) _ k.wish (wished_parts x given (wished s x how offset size) k e) in
+    let w = wish_is x how offset size d.found (range offset size) k.wish refl d.then in
     ap (λ n. n == 0 && k.wish.last == all_ones) w.first ∙ ap (λ b. offset == 0 && b) (range_whole offset size k.wish.last w.last)

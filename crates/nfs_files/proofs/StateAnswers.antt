@@ -32,18 +32,17 @@ use Rattle.nfs_opens.specs.Closing as closing
 use Rattle.nfs_opens.specs.Opening as opening
 use Rattle.nfs_opens.specs.Locking as locking
 use Rattle.nfs_names.specs.declared.context.Context.{Context}
-use Rattle.nfs_names.specs.declared.node.Node.{Node}
 use Rattle.nfs_names.specs.State.{State}
 use Rattle.nfs_names.specs.Outcome.{done}
 use Rattle.nfs_names.specs.Checks.{current}
 use Rattle.nfs_names.proofs.Bounds.{IsAnswer, current_refuses}
-use Rattle.nfs_names.proofs.Refusing.{Refuses, refuses_checked, refuses_mapped, answers_with, err_refuses, ok_refuses}
+use Rattle.nfs_names.proofs.Refusing.{Refuses, refuses_checked, refuses_mapped, refuses_then, answers_with, err_refuses, ok_refuses}
 use Rattle.nfs_files.specs.declared.target.Target.{Target}
 use Rattle.nfs_files.specs.StateIds.{meant, wire_id}
 use Rattle.nfs_files.specs.Bytes.{file_checks}
 use Rattle.nfs_names.specs.Ending.{with_opens}
-use Rattle.nfs_files.specs.Target.{the_file, target_of, target}
-use Rattle.nfs_files.specs.Ranges.{range_checks, last_of, range, wish, wish_of, wished, wished_by}
+use Rattle.nfs_files.specs.Target.{the_file, target}
+use Rattle.nfs_files.specs.Ranges.{range_checks, last_of, range, wish, wished, wished_by}
 use Rattle.nfs_files.specs.Close.{closed, closes, close}
 use Rattle.nfs_files.specs.FreeStateid.{frees, free_stateid}
 use Rattle.nfs_files.specs.LockU.{unlocking, unlocked, unlocks, lock_u}
@@ -56,13 +55,10 @@ the_file_refuses : (s : State) (x : Context) → Refuses (the_file s x)
 unfolding the_file
 the_file_refuses s x = refuses_checked (current s x) file_checks (current_refuses s x) (λ d. refl)
 
-target_of_refuses : (v : Result Node Status) (id : Result StateId Status) → Refuses v → Refuses id → Refuses (target_of v id)
-target_of_refuses (Err status) id h g = err_refuses status (h.each status refl)
-target_of_refuses (Ok d) id h g = refuses_mapped (λ id. record { file = d.number; id = id }) id g
-
 target_refuses : (s : State) (x : Context) (form : CurrentSeqid) (given : Stateid) → Refuses (target s x form given)
 unfolding target
-target_refuses s x form given = target_of_refuses (the_file s x) (meant x form given) (the_file_refuses s x) (meant_refuses x form given)
+target_refuses s x form given = refuses_then (the_file s x) _ (the_file_refuses s x) (λ d.
+    refuses_mapped (λ id. record { file = d.number; id = id }) (meant x form given) (meant_refuses x form given))
 
 -- what the table of opens refuses
 held_refuses : {A : Type 0} → Refuses {A = A} (Err S.LocksHeld)
@@ -161,18 +157,14 @@ range_refuses : (offset size : ℕ) → Refuses (range offset size)
 unfolding range
 range_refuses offset size = refuses_checked (Ok (last_of offset size)) (λ last. range_checks offset size) (ok_refuses (last_of offset size)) (λ last. refl)
 
-wish_of_refuses : (x : Context) (how : LockType) (offset : ℕ) (v : Result Node Status) (last : Result ℕ Status)
-    → Refuses v → Refuses last → Refuses (wish_of x how offset v last)
-wish_of_refuses x how offset (Err status) last h g = err_refuses status (h.each status refl)
-wish_of_refuses x how offset (Ok d) last h g = refuses_mapped (λ last. wish x how offset last d.number) last g
-
 wished_refuses : (s : State) (x : Context) (how : LockType) (offset size : ℕ) → Refuses (wished s x how offset size)
 unfolding wished
-wished_refuses s x how offset size = wish_of_refuses x how offset (the_file s x) (range offset size) (the_file_refuses s x) (range_refuses offset size)
+wished_refuses s x how offset size = refuses_then (the_file s x) _ (the_file_refuses s x) (λ d.
+    refuses_mapped (λ last. wish x how offset last d.number) (range offset size) (range_refuses offset size))
 
 wished_by_refuses : (x : Context) (given : Stateid) (v : Result Wish Status) → Refuses v → Refuses (wished_by x given v)
-wished_by_refuses x given (Err status) h = err_refuses status (h.each status refl)
-wished_by_refuses x given (Ok w) h = refuses_mapped (λ id. record { wish = w; id = id }) (meant x Any given) (meant_refuses x Any given)
+wished_by_refuses x given v h = refuses_then v _ h (λ w.
+    refuses_mapped (λ id. record { wish = w; id = id }) (meant x Any given) (meant_refuses x Any given))
 
 cleared_may : (s : State) (x : Context) (a : LockU) (n file first last : ℕ) (l : Option LockState)
     → IsAnswer (Operation (OpLockU a)) (let did = locking.clear_lock s.opens n file first last l in unlocked s x did.after did.answer).result

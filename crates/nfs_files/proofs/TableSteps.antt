@@ -8,8 +8,7 @@ use Rattle.nfs_xdr.specs.Checks.{first_fault}
 use Rattle.nfs_xdr.specs.Tables.{In}
 use Rattle.nfs_xdr.specs.declared.time.Time.{Time}
 use Rattle.nfs_xdr.specs.declared.status.Status.{Status}
-use Rattle.nfs_xdr.specs.declared.status.Status.TheVariants.{ShareDenied, ServerFault, Inval}
-use Rattle.nfs_xdr.proofs.Checks.{all_passed}
+use Rattle.nfs_xdr.specs.declared.status.Status.TheVariants.{Inval}
 use Rattle.nfs_xdr.proofs.Lists.{find_in, in_filter, stays_in, in_push, push_in}
 use Rattle.nfs_xdr.proofs.Tables.{IsRising-filter, IsRising-push, IsRising-upto, in_once}
 use Rattle.nfs_compound.specs.LockArgs as args
@@ -72,7 +71,7 @@ use Rattle.nfs_files.specs.Read.{read}
 use Rattle.nfs_files.specs.SetAttr.{was_set, set_attr}
 use Rattle.nfs_files.specs.TestStateid.{test_stateid}
 use Rattle.nfs_files.specs.Write.{was_written, write}
-use Rattle.nfs_files.proofs.Opened.{opened_fault}
+use Rattle.nfs_files.proofs.Opened.{shared_free}
 use Rattle.nfs_files.proofs.KeptLocks.{within_not, held_other}
 use Rattle.nfs_files.proofs.KeptOps.{found, lock_range, wish_range}
 
@@ -302,18 +301,13 @@ tested_is : (s : State) (x : Context) (o : Option Held) → Is s → Is (tested 
 tested_is s x None is = is
 tested_is s x (Some h) is = is
 
-nothing_asked : (k u : Bool) (v : Option Status) → k ≡ false → u ≡ false → v ≡ first_fault ((k, ShareDenied) ∷ (u, ServerFault) ∷ []) → v ≡ None
-nothing_asked k u v clash full e = e ∙ rw (clash, full) refl
-
 table_open : (s : State) (x : Context) (now : Time) (a : Open) → IsTree s.tree → IsStore s → Is s → Is (of_open.open_file s x now a).state
 unfolding of_open.open_file
 table_open s x now a tree store is =
     found Is s x Num.Open (checked (of_open.asked_for s x a) (of_open.last_checks s x a)) (of_open.opened s x now a) is (λ f granted.
     (let asked = of_open.asking x a (of_open.file_of s.tree f) in
     let p = checked_ok (of_open.asked_for s x a) (of_open.last_checks s x a) f granted in
-    let passed = all_passed (of_open.last_checks s x a f) p.1 in
-    let none : opening.open_fault s.opens asked ≡ None =
-    nothing_asked (of_open.clashes s x a f) (of_open.is_used_up s x a f) (opening.open_fault s.opens asked) passed.0 passed.1.1.1.0 (opened_fault s x a f tree store) in
+    let none : opening.open_fault s.opens asked ≡ None = shared_free s x a f p.1 in
     opened_is s.opens asked (opening.own_open s.opens asked) is refl (no_clash_asked (list_any (clashes_with asked) s.opens.opens) _ none)))
 
 -- a wish that begins behind the last byte that there can be holds none

@@ -5,7 +5,6 @@ use Rattle.nfs_xdr.specs.declared.status.Status.{Status}
 use Rattle.nfs_xdr.specs.declared.status.Status.TheVariants.{IsDir, Symlink, Locked, OpenMode}
 use Rattle.nfs_compound.specs.declared.stateid.Stateid.{Stateid}
 use Rattle.nfs_tree.specs.Object.{is_directory}
-use Rattle.nfs_opens.specs.declared.stateid.StateId.{StateId}
 use Rattle.nfs_opens.specs.declared.stateid.CurrentSeqid.TheVariants.{Any}
 use Rattle.nfs_opens.specs.declared.judging.Seat.{Seat}
 use Rattle.nfs_opens.specs.declared.judging.Seat.TheVariants.{Anonymous, ReadBypass, Open, Lock}
@@ -17,7 +16,7 @@ use Rattle.nfs_attrs.specs.declared.permission.Want.{Want}
 use Rattle.nfs_names.specs.declared.context.Context.{Context}
 use Rattle.nfs_names.specs.declared.node.Node.{Node}
 use Rattle.nfs_names.specs.State.{State}
-use Rattle.nfs_names.specs.Outcome.{checked, mapped}
+use Rattle.nfs_names.specs.Outcome.{◌>>=◌, checked, mapped}
 use Rattle.nfs_names.specs.Checks.{denied}
 use Rattle.nfs_names.specs.Lookup.{is_link}
 use Rattle.nfs_files.specs.StateIds.{meant}
@@ -27,12 +26,8 @@ abbrev pub file_checks : Node → List (Bool × Status)
 file_checks d = (is_directory d.object.kind, IsDir) ∷ (is_link d.object.kind, Symlink) ∷ []
 
 -- the state by which the bytes of a file are to be read or changed
-abbrev pub seat_of : State → Context → Node → Result StateId Status → Result Seat Status
-seat_of s x d (Err status) = Err status
-seat_of s x d (Ok id) = judge s.opens id x.client (Some d.number) Either
-
 unfoldable pub seat : State → Context → Stateid → Node → Result Seat Status
-seat s x given d = seat_of s x d (meant x Any given)
+seat s x given d = meant x Any given >>= λ id. judge s.opens id x.client (Some d.number) Either
 
 -- reading, or changing
 abbrev pub reading : Share

@@ -1,24 +1,25 @@
 -- OPEN (RFC 8881 section 18.16): a file is opened, and is made where that is asked for and the name is free.
-use Rattle.std.specs.Prelude.{ℕ, ◌+◌, ◌==◌, ◌%◌, ◌&&◌, Bool, true, false, not, List, [], ◌∷◌, ◌++◌, length, nat_le, bytes_eq, Option, Some, None, is_none}
+use Rattle.std.specs.Prelude.{ℕ, ◌+◌, ◌==◌, ◌%◌, ◌&&◌, Bool, true, false, not, List, [], ◌∷◌, ◌++◌, bytes_eq, Option, Some, None, is_none}
 use Rattle.std.specs.Prelude.{unwrap_or, Result, Ok, Err, if◌then◌else◌}
 use Rattle.std.specs.List.{list_any}
+use Rattle.std.specs.Option.{option_map_or}
 use Rattle.nfs_xdr.specs.declared.time.Time.{Time}
 use Rattle.nfs_xdr.specs.declared.status.Status.{Status}
-use Rattle.nfs_xdr.specs.declared.status.Status.TheVariants.{Inval, NoGrace, NotSupp, NoEnt, Exist, FBig, ShareDenied, NoSpc, ServerFault}
+use Rattle.nfs_xdr.specs.declared.status.Status.TheVariants.{Inval, NoGrace, NotSupp, NoEnt, Exist, ShareDenied, ServerFault}
 use Rattle.nfs_compound.specs.declared.op_num.OpNum.TheVariants as Op
-use Rattle.nfs_compound.specs.OpenArgs.{Open, OpenHow, NoCreate, Create, Unchecked, Guarded, Exclusive, Exclusive41, OpenClaim, Null, Previous, DelegateCur}
-use Rattle.nfs_compound.specs.OpenArgs.{DelegatePrev, Fh, DelegCurFh, DelegPrevFh}
+use Rattle.nfs_compound.specs.Attributes.{Attributes}
+use Rattle.nfs_compound.specs.OpenArgs.{Open, OpenHow, NoCreate, Create, Unchecked, Guarded, Exclusive, Exclusive41, OpenClaim, Null, Previous, Fh}
 use Rattle.nfs_results.specs.declared.res.ChangeInfo.{ChangeInfo}
 use Rattle.nfs_results.specs.Result.{ResOpen}
 use Rattle.nfs_tree.specs.declared.sets.Sets.{Sets}
 use Rattle.nfs_tree.specs.Object.{no_sets}
-use Rattle.nfs_tree.specs.Files.{Files, most_objects, lookup, can_change}
-use Rattle.nfs_tree.specs.Create.{New, File, with_new}
+use Rattle.nfs_tree.specs.declared.fault.TreeFault.{TreeFault}
+use Rattle.nfs_tree.specs.declared.fault.TreeFault.TheVariants.{Counter}
+use Rattle.nfs_tree.specs.Files.{Files, lookup, can_change}
+use Rattle.nfs_tree.specs.Create.{New, File, create_checks, with_new}
 use Rattle.nfs_tree.specs.Bytes.{with_resized}
 use Rattle.nfs_tree.specs.Did.{raised, stays}
 use Rattle.nfs_attrs.specs.declared.wanted.Wanted.{Wanted}
-use Rattle.nfs_attrs.specs.declared.wanted.AttrFault.{AttrFault}
-use Rattle.nfs_attrs.specs.declared.mask.Mask.{Mask}
 use Rattle.nfs_attrs.specs.Mask.{mask_of, trimmed_words}
 use Rattle.nfs_attrs.specs.Setting.{make_checks}
 use Rattle.nfs_attrs.specs.Permissions.{execute, write}
@@ -31,15 +32,15 @@ use Rattle.nfs_names.specs.declared.context.Context.{Context}
 use Rattle.nfs_names.specs.declared.node.Node.{Node}
 use Rattle.nfs_names.specs.declared.making.Making.{Making}
 use Rattle.nfs_names.specs.State.{State}
-use Rattle.nfs_names.specs.Outcome.{Outcome, checked, mapped, answers}
+use Rattle.nfs_names.specs.Outcome.{Outcome, ◌>>=◌, checked, mapped, answers}
 use Rattle.nfs_names.specs.Checks.{held, current, no_directory, denied, name_checks}
-use Rattle.nfs_names.specs.Create.{wanted_of, with_wanted, can_create, change_info}
+use Rattle.nfs_names.specs.Create.{attributes_in, change_info}
+use Rattle.nfs_names.specs.Faults.{by_tree}
 use Rattle.nfs_names.specs.Create as create
 use Rattle.nfs_files.specs.declared.opening.Found.{Found}
 use Rattle.nfs_files.specs.declared.opening.Found.TheVariants.{There, Absent}
 use Rattle.nfs_files.specs.StateIds.{wire_id}
 use Rattle.nfs_files.specs.Bytes.{file_checks, want_of}
-use Rattle.nfs_files.specs.SetAttr.{is_too_big}
 
 -- The two low bits of the access asked for: those above them wish for delegations, and none is given.
 abbrev pub access_of : Open → Share
@@ -48,127 +49,87 @@ access_of o = unwrap_or (share_of (o.share_access % 4)) neither
 abbrev pub deny_of : Open → Share
 deny_of o = unwrap_or (share_of o.share_deny) neither
 
-abbrev pub creates : OpenHow → Bool
-creates NoCreate = false
-creates (Create how) = true
+-- What is asked for (openflag4, createhow4): whether a file is made where the name is free, whether one that is there is opened, by the verifier
+-- that it was made with, and whether it may be cut; and with what verifier and which attributes it is made.
+pub record Makes : Type 0 where
+  pub creates : Bool
+  pub opens : Option (List ℕ) → Bool
+  pub cuts : Bool
+  pub verifier : Option (List ℕ)
+  pub attributes : Attributes
 
-abbrev pub is_guarded : OpenHow → Bool
-is_guarded (Create (Guarded attributes)) = true
-is_guarded how = false
+abbrev pub no_attributes : Attributes
+no_attributes = record { attrmask = []; attr_vals = [] }
 
-abbrev pub is_unchecked : OpenHow → Bool
-is_unchecked (Create (Unchecked attributes)) = true
-is_unchecked how = false
+-- an exclusive create opens the file that it made before
+abbrev pub is_made_by : List ℕ → Option (List ℕ) → Bool
+is_made_by verifier made = option_map_or (bytes_eq verifier) made false
 
--- the verifier of an exclusive create
-abbrev pub verifier_of : OpenHow → Option (List ℕ)
-verifier_of (Create (Exclusive verifier)) = Some verifier
-verifier_of (Create (Exclusive41 verifier attributes)) = Some verifier
-verifier_of how = None
+abbrev pub makes : OpenHow → Makes
+makes NoCreate = record { creates = false; opens = λ made. true; cuts = false; verifier = None; attributes = no_attributes }
+makes (Create (Unchecked a)) = record { creates = true; opens = λ made. true; cuts = true; verifier = None; attributes = a }
+makes (Create (Guarded a)) = record { creates = true; opens = λ made. false; cuts = false; verifier = None; attributes = a }
+makes (Create (Exclusive v)) = record { creates = true; opens = is_made_by v; cuts = false; verifier = Some v; attributes = no_attributes }
+makes (Create (Exclusive41 v a)) = record { creates = true; opens = is_made_by v; cuts = false; verifier = Some v; attributes = a }
 
--- the attributes that are given: none, but where a file is made
-abbrev pub nothing_wanted : Wanted
-nothing_wanted = record { size = None; mode = None; owner = None; group = None; access = None; modify = None; mask = mask_of [] }
-
-abbrev pub wanted_by : OpenHow → Result Wanted AttrFault
-wanted_by (Create (Unchecked attributes)) = wanted_of attributes
-wanted_by (Create (Guarded attributes)) = wanted_of attributes
-wanted_by (Create (Exclusive41 verifier attributes)) = wanted_of attributes
-wanted_by how = Ok nothing_wanted
-
-abbrev pub mask_by : OpenHow → Mask
-mask_by (Create (Unchecked attributes)) = mask_of attributes.attrmask
-mask_by (Create (Guarded attributes)) = mask_of attributes.attrmask
-mask_by (Create (Exclusive41 verifier attributes)) = mask_of attributes.attrmask
-mask_by how = mask_of []
-
--- a claim of what was open before, and one of a delegation
-abbrev pub is_reclaim : OpenClaim → Bool
-is_reclaim (Previous type) = true
-is_reclaim claim = false
-
-abbrev pub is_delegation : OpenClaim → Bool
-is_delegation (DelegateCur s file) = true
-is_delegation (DelegatePrev file) = true
-is_delegation (DelegCurFh s) = true
-is_delegation DelegPrevFh = true
-is_delegation claim = false
-
-abbrev pub is_by_handle : OpenClaim → Bool
-is_by_handle Fh = true
-is_by_handle claim = false
-
+-- the name of the file, which a claim by filehandle does not have
 abbrev pub name_of : OpenClaim → List ℕ
 name_of (Null file) = file
 name_of claim = []
 
 -- first what is asked for is looked at ..
 abbrev pub argument_checks : Open → Node → List (Bool × Status)
-argument_checks o d =
-    (o.share_access % 4 == 0, Inval)
-    ∷ (is_none (share_of o.share_deny), Inval)
-    ∷ (is_reclaim o.claim, NoGrace)
-    ∷ (is_delegation o.claim, NotSupp)
-    ∷ (is_by_handle o.claim && creates o.openhow, Inval)
-    ∷ []
+argument_checks o d = (o.share_access % 4 == 0, Inval) ∷ (is_none (share_of o.share_deny), Inval) ∷ []
 
 -- .. then the directory and the name ..
-abbrev pub place_checks : Context → Open → Node → List (Bool × Status)
-place_checks x o d =
+abbrev pub place_checks : Context → List ℕ → Node → List (Bool × Status)
+place_checks x name d =
     no_directory d
     ∷ denied x d execute
-    ∷ name_checks (name_of o.claim)
+    ∷ name_checks name
 
 -- .. then, where the name is free, whether a file may be made ..
 abbrev pub absent_checks : Context → Open → Making → List (Bool × Status)
 absent_checks x o m =
-    (not (creates o.openhow), NoEnt)
+    (not (makes o.openhow).creates, NoEnt)
     ∷ denied x m.place write
     ∷ make_checks m.wanted x.who
-    ++ (is_too_big m.wanted.size, FBig)
-    ∷ []
 
--- .. and where an object is there, whether it may be opened: an exclusive create opens the file that it made before.
-abbrev pub was_made_by : Option (List ℕ) → Option (List ℕ) → Bool
-was_made_by None made = true
-was_made_by (Some verifier) None = false
-was_made_by (Some verifier) (Some made) = bytes_eq made verifier
-
+-- .. and where an object is there, whether it may be opened.
 abbrev pub there_checks : Context → Open → Node → List (Bool × Status)
 there_checks x o f =
-    (is_guarded o.openhow, Exist)
-    ∷ (not (was_made_by (verifier_of o.openhow) f.object.verifier), Exist)
+    (not ((makes o.openhow).opens f.object.verifier), Exist)
     ∷ file_checks f
     ++ denied x f (want_of (access_of o))
     ∷ []
 
 -- Size 0 cuts a file that is opened for writing, and nothing else is set of a file that is there.
-abbrev pub is_zero : Option ℕ → Bool
-is_zero None = false
-is_zero (Some size) = size == 0
-
 abbrev pub cuts : Open → Wanted → Bool
-cuts o wanted = is_unchecked o.openhow && (is_zero wanted.size && (access_of o).writes)
+cuts o wanted = (makes o.openhow).cuts && (option_map_or (λ n. n == 0) wanted.size false && (access_of o).writes)
 
 -- what is to be opened: a file that is there, and the object of which the change is reported; or one that is to be made
 abbrev pub found_by : State → Context → Open → Making → Option ℕ → Result Found Status
 found_by s x o m None = mapped Absent (checked (Ok m) (absent_checks x o))
 found_by s x o m (Some n) = mapped (λ f. There m.place.number f (cuts o m.wanted)) (checked (held s (Some n)) (there_checks x o))
 
-abbrev pub found_at : State → Context → Open → List ℕ → Result Making Status → Result Found Status
-found_at s x o name (Err status) = Err status
-found_at s x o name (Ok m) = found_by s x o m (lookup s.tree m.place.number name)
+abbrev pub by_name : State → Context → Open → List ℕ → Node → Result Found Status
+by_name s x o name d = do
+  place ← checked (Ok d) (place_checks x name)
+  wanted ← attributes_in (makes o.openhow).attributes
+  found_by s x o (record { place = place; wanted = wanted }) (lookup s.tree place.number name)
 
-abbrev pub by_name : State → Context → Open → Result Node Status → Result Found Status
-by_name s x o d = found_at s x o (name_of o.claim) (with_wanted (checked d (place_checks x o)) (wanted_by o.openhow))
+abbrev pub by_handle : Context → Open → Node → Result Found Status
+by_handle x o d = mapped (λ f. There f.number f false) (checked (Ok d) (there_checks x o))
 
-abbrev pub by_handle : Context → Open → Result Node Status → Result Found Status
-by_handle x o d = mapped (λ f. There f.number f false) (checked d (there_checks x o))
+-- The claims (open_claim4): the file of a filehandle is not made, nothing is there to be reclaimed, and nothing is delegated.
+abbrev pub by_claim : State → Context → Open → OpenClaim → Node → Result Found Status
+by_claim s x o (Null name) d = by_name s x o name d
+by_claim s x o Fh d = if (makes o.openhow).creates then Err Inval else by_handle x o d
+by_claim s x o (Previous type) d = Err NoGrace
+by_claim s x o claim d = Err NotSupp
 
 unfoldable pub asked_for : State → Context → Open → Result Found Status
-asked_for s x o =
-    if is_by_handle o.claim then by_handle x o (checked (current s x) (argument_checks o))
-    else by_name s x o (checked (current s x) (argument_checks o))
+asked_for s x o = checked (current s x) (argument_checks o) >>= by_claim s x o o.claim
 
 -- the number of the file: the next one, if it is to be made
 abbrev pub file_of : Files → Found → ℕ
@@ -178,40 +139,24 @@ file_of t (Absent m) = t.last_object + 1
 abbrev pub asking : Context → Open → ℕ → Asked
 asking x o file = record { client = x.client; owner = o.owner.owner; file = file; access = access_of o; deny = deny_of o }
 
--- last the share reservations of a file that is there ..
-abbrev pub clashes : State → Context → Open → Found → Bool
-clashes s x o (There place f cut) = list_any (clashes_with (asking x o f.number)) s.opens.opens
-clashes s x o (Absent m) = false
-
--- .. and whether there is a place for what is new, and a number for what is given one or changes
-abbrev pub is_new : Found → Bool
-is_new (There place f cut) = false
-is_new (Absent m) = true
-
-abbrev pub can_enter : Files → Found → Bool
-can_enter t (There place f cut) = not (cut && not (can_change t f.number))
-can_enter t (Absent m) = can_create t m.place.number
-
-abbrev pub is_used_up : State → Context → Open → Found → Bool
-is_used_up s x o (There place f cut) = is_none (own_open s.opens (asking x o f.number)) && (s.opens.last == last_number)
-is_used_up s x o (Absent m) = s.opens.last == last_number
-
-abbrev pub room_checks : Files → Found → List (Bool × Status)
-room_checks t found = (is_new found && nat_le most_objects (length t.objects), NoSpc) ∷ (not (can_enter t found), ServerFault) ∷ []
-
-abbrev pub last_checks : State → Context → Open → Found → List (Bool × Status)
-last_checks s x o found =
-    (clashes s x o found, ShareDenied)
-    ∷ room_checks s.tree found
-    ++ (is_used_up s x o found, ServerFault)
-    ∷ []
-
--- what a new file is: rw-r--r-- where no mode is given (profile), the caller's own, and with the verifier for good
+-- what a new file is, with the verifier for good: rw-r--r-- where no mode is given (profile), and the caller's own
 abbrev pub new_of : Open → Wanted → New
-new_of o wanted = File (unwrap_or wanted.size 0) (verifier_of o.openhow)
+new_of o wanted = File (unwrap_or wanted.size 0) (makes o.openhow).verifier
 
 abbrev pub sets_of : Context → Time → Open → Wanted → Sets
 sets_of x now o wanted = record (create.sets_of x now (new_of o wanted) wanted) { mode = Some (unwrap_or wanted.mode 420) }
+
+-- last the share reservations, what the tree looks at where it changes, and whether a number is left for a new open
+abbrev pub tree_checks : Files → Open → Found → List (Bool × TreeFault)
+tree_checks t o (There place f cut) = (cut && not (can_change t f.number), Counter) ∷ []
+tree_checks t o (Absent m) = create_checks t m.place.number (name_of o.claim) (new_of o m.wanted)
+
+abbrev pub last_checks : State → Context → Open → Found → List (Bool × Status)
+last_checks s x o found =
+    (list_any (clashes_with (asking x o (file_of s.tree found))) s.opens.opens, ShareDenied)
+    ∷ by_tree (tree_checks s.tree o found)
+    ++ (is_none (own_open s.opens (asking x o (file_of s.tree found))) && (s.opens.last == last_number), ServerFault)
+    ∷ []
 
 abbrev pub tree_of : Files → Context → Time → Open → Found → Files
 tree_of t x now o (There place f cut) = if cut then with_resized t f.number 0 no_sets now else t
@@ -224,15 +169,17 @@ info_of t (Absent m) = change_info (raised t m.place.number)
 -- the attributes that were set, of which 4 is the size
 abbrev pub set_of : Open → Found → List ℕ
 set_of o (There place f cut) = if cut then 0x10 ∷ [] else []
-set_of o (Absent m) = trimmed_words (mask_by o.openhow)
+set_of o (Absent m) = trimmed_words (mask_of (makes o.openhow).attributes.attrmask)
 
 abbrev pub opened : State → Context → Time → Open → Found → Outcome
-opened s x now o found = record {
-  result = ResOpen
-      (record { stateid = wire_id (opens s.opens (asking x o (file_of s.tree found))).id; cinfo = info_of s.tree found; attrset = set_of o found });
-  state = record s { tree = tree_of s.tree x now o found; opens = (opens s.opens (asking x o (file_of s.tree found))).after };
-  context = record x { current = Some (file_of s.tree found); stateid = wire_id (opens s.opens (asking x o (file_of s.tree found))).id };
-}
+opened s x now o found =
+    let file = file_of s.tree found in
+    let did = opens s.opens (asking x o file) in
+    record {
+      result = ResOpen (record { stateid = wire_id did.id; cinfo = info_of s.tree found; attrset = set_of o found });
+      state = record s { tree = tree_of s.tree x now o found; opens = did.after };
+      context = record x { current = Some file; stateid = wire_id did.id };
+    }
 
 unfoldable pub open_file : State → Context → Time → Open → Outcome
 open_file s x now o = answers s x Op.Open (checked (asked_for s x o) (last_checks s x o)) (opened s x now o)

@@ -1,32 +1,59 @@
 -- OPEN in the parts that its code takes, which only contracts inside the crate cite: the tree's part of it, and what is left
 -- where memory is refused.
-use Rattle.std.specs.Prelude.{◌≡◌, ℕ, Option, None, Result, Ok, Err, if◌then◌else◌}
+use Rattle.std.specs.Prelude.{◌≡◌, ◌==◌, ◌&&◌, ℕ, Bool, true, not, List, [], ◌∷◌, ◌++◌, Option, None, is_none, unwrap_or, length, nat_lt, nat_le, Result, Ok, Err, if◌then◌else◌}
+use Rattle.std.specs.List.{list_any}
 use Rattle.nfs_xdr.specs.declared.time.Time.{Time}
 use Rattle.nfs_xdr.specs.declared.status.Status.{Status}
-use Rattle.nfs_xdr.specs.declared.status.Status.TheVariants.{Delay}
+use Rattle.nfs_xdr.specs.declared.status.Status.TheVariants.{Delay, FBig, NoSpc, ShareDenied, ServerFault}
 use Rattle.nfs_compound.specs.OpenArgs.{Open}
 use Rattle.nfs_results.specs.Result.{OpenOk, ResOpen}
-use Rattle.nfs_tree.specs.Files.{Files}
+use Rattle.nfs_tree.specs.Files.{Files, most_bytes, most_objects, last_count, can_change}
 use Rattle.nfs_tree.specs.declared.fault.TreeFault.{TreeFault}
-use Rattle.nfs_tree.specs.Create.{create_fault}
 use Rattle.nfs_tree.specs.Bytes.{resize_fault}
+use Rattle.nfs_tree.specs.Create.{create_fault}
+use Rattle.nfs_opens.specs.StateId.{last_number}
+use Rattle.nfs_opens.specs.Table.{clashes_with}
+use Rattle.nfs_opens.specs.Opening.{own_open}
 use Rattle.nfs_tree.specs.Did.{Did, does_unless}
 use Rattle.nfs_names.specs.declared.context.Context.{Context}
 use Rattle.nfs_names.specs.State.{State}
 use Rattle.nfs_names.specs.Outcome.{Outcome}
 use Rattle.nfs_files.specs.declared.opening.Found.{Found}
 use Rattle.nfs_files.specs.declared.opening.Found.TheVariants.{There, Absent}
-use Rattle.nfs_files.specs.Open.{file_of, tree_of, name_of, new_of}
+use Rattle.nfs_files.specs.Open.{asking, file_of, tree_of, name_of, new_of}
 
 -- what the tree itself refuses
 abbrev pub tree_fault : Files → Open → Found → Option TreeFault
 tree_fault t o (There place f cut) = if cut then resize_fault t f.number 0 else None
 tree_fault t o (Absent m) = create_fault t m.place.number (name_of o.claim) (new_of o m.wanted)
 
+abbrev pub new_checks : Files → ℕ → List (Bool × Status)
+new_checks t d =
+    (nat_le most_objects (length t.objects), NoSpc)
+    ∷ (not (can_change t d && (nat_lt t.last_object last_count && nat_lt t.last_cookie last_count)), ServerFault)
+    ∷ []
+
+-- What it can still refuse where the name and the object were looked at before: a size, and want of room or of a count.
+abbrev pub room_checks : Files → Found → List (Bool × Status)
+room_checks t (There place f cut) = (cut && not (can_change t f.number), ServerFault) ∷ []
+room_checks t (Absent m) = (nat_lt most_bytes (unwrap_or m.wanted.size 0), FBig) ∷ new_checks t m.place.number
+
+-- a directory that gets a new file can change once more
+abbrev pub can_enter : Files → Found → Bool
+can_enter t (There place f cut) = true
+can_enter t (Absent m) = can_change t m.place.number
+
 -- the number under which its opens are looked for: 0 is no file's
 abbrev pub number_of : Found → ℕ
 number_of (There place f cut) = f.number
 number_of (Absent m) = 0
+
+abbrev pub last_checks : State → Context → Open → Found → List (Bool × Status)
+last_checks s x o found =
+    (list_any (clashes_with (asking x o (number_of found))) s.opens.opens, ShareDenied)
+    ∷ room_checks s.tree found
+    ++ (is_none (own_open s.opens (asking x o (number_of found))) && (s.opens.last == last_number), ServerFault)
+    ∷ []
 
 abbrev pub entered : Files → Context → Time → Open → Found → Did ℕ
 entered t x now o found = does_unless t (tree_fault t o found) (file_of t found) (tree_of t x now o found)

@@ -1,5 +1,5 @@
 -- The bytes that LOCK, LOCKT and LOCKU are for, and how they are to be locked (RFC 8881 sections 18.10.3, 18.11.3 and 18.12.3).
-use Rattle.std.specs.Prelude.{ℕ, ◌+◌, ◌-◌, ◌==◌, Bool, not, ◌&&◌, List, [], ◌∷◌, nat_lt, Result, Ok, Err, if◌then◌else◌}
+use Rattle.std.specs.Prelude.{ℕ, ◌+◌, ◌-◌, ◌==◌, Bool, not, ◌&&◌, List, [], ◌∷◌, nat_lt, Result, if◌then◌else◌}
 use Rattle.nfs_xdr.specs.Checks.{first_fault}
 use Rattle.nfs_xdr.specs.declared.status.Status.{Status}
 use Rattle.nfs_xdr.specs.declared.status.Status.TheVariants.{Inval}
@@ -11,9 +11,8 @@ use Rattle.nfs_ranges.specs.declared.Kind.TheVariants as Kinds
 use Rattle.nfs_opens.specs.declared.locking.Wish.{Wish}
 use Rattle.nfs_opens.specs.declared.stateid.CurrentSeqid.TheVariants.{Any}
 use Rattle.nfs_names.specs.declared.context.Context.{Context}
-use Rattle.nfs_names.specs.declared.node.Node.{Node}
 use Rattle.nfs_names.specs.State.{State}
-use Rattle.nfs_names.specs.Outcome.{passed, mapped}
+use Rattle.nfs_names.specs.Outcome.{◌>>=◌, passed, mapped}
 use Rattle.nfs_files.specs.declared.ranges.Wished.{Wished}
 use Rattle.nfs_files.specs.StateIds.{meant}
 use Rattle.nfs_files.specs.Target.{the_file}
@@ -42,15 +41,10 @@ kind_of LockTypes.WriteW = Kinds.Write
 abbrev pub wish : Context → LockType → ℕ → ℕ → ℕ → Wish
 wish x how first last file = record { client = x.client; file = file; kind = kind_of how; first = first; last = last }
 
-abbrev pub wish_of : Context → LockType → ℕ → Result Node Status → Result ℕ Status → Result Wish Status
-wish_of x how offset (Err status) last = Err status
-wish_of x how offset (Ok d) last = mapped (λ last. wish x how offset last d.number) last
-
 -- the file is looked at before the range
 unfoldable pub wished : State → Context → LockType → (offset size : ℕ) → Result Wish Status
-wished s x how offset size = wish_of x how offset (the_file s x) (range offset size)
+wished s x how offset size = the_file s x >>= λ d. mapped (λ last. wish x how offset last d.number) (range offset size)
 
 -- the stateid is looked at behind both
 abbrev pub wished_by : Context → Stateid → Result Wish Status → Result Wished Status
-wished_by x given (Err status) = Err status
-wished_by x given (Ok w) = mapped (λ id. record { wish = w; id = id }) (meant x Any given)
+wished_by x given found = found >>= λ w. mapped (λ id. record { wish = w; id = id }) (meant x Any given)

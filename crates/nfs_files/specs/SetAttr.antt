@@ -13,29 +13,25 @@ use Rattle.nfs_tree.specs.Bytes.{with_resized}
 use Rattle.nfs_attrs.specs.declared.wanted.Wanted.{Wanted}
 use Rattle.nfs_attrs.specs.declared.wanted.AttrFault.{AttrFault}
 use Rattle.nfs_attrs.specs.Mask.{mask_of, trimmed_words}
-use Rattle.nfs_attrs.specs.Reading.{fault_status}
 use Rattle.nfs_attrs.specs.Setting.{set_checks}
 use Rattle.nfs_names.specs.declared.context.Context.{Context}
 use Rattle.nfs_names.specs.declared.node.Node.{Node}
 use Rattle.nfs_names.specs.State.{State, with_tree}
-use Rattle.nfs_names.specs.Outcome.{Outcome, checked, answers}
+use Rattle.nfs_names.specs.Outcome.{◌>>=◌, Outcome, checked, answers}
 use Rattle.nfs_names.specs.Checks.{current}
-use Rattle.nfs_names.specs.Create.{wanted_of, time_of}
+use Rattle.nfs_names.specs.Create.{attributes_in, time_of}
 use Rattle.nfs_files.specs.declared.setting.Setting.{Setting}
 use Rattle.nfs_files.specs.Bytes.{if_passed, writable}
 
--- first the attributes are read ..
-abbrev pub setting : Node → Result Wanted AttrFault → Result Setting Status
-setting d (Err fault) = Err (fault_status fault)
-setting d (Ok wanted) = Ok (record { held = d; wanted = wanted })
-
-abbrev pub with_wanted : Result Node Status → Result Wanted AttrFault → Result Setting Status
-with_wanted (Err status) wanted = Err status
-with_wanted (Ok d) wanted = setting d wanted
-
--- .. then whether the caller may set them ..
+-- first the attributes are read, then it is looked at whether the caller may set them ..
 abbrev pub owner_checks : Context → Setting → List (Bool × Status)
 owner_checks x m = set_checks m.held.object m.wanted x.who
+
+abbrev pub setting : State → Context → SetAttr → Result Setting Status
+setting s x a = do
+  d ← current s x
+  wanted ← attributes_in a.obj_attributes
+  checked (Ok (record { held = d; wanted = wanted })) (owner_checks x)
 
 -- .. then, where a size is given, whether the object is a file whose bytes may be changed by the stateid ..
 abbrev pub sized_by : State → Context → Stateid → Node → Option ℕ → Result Node Status
@@ -46,7 +42,7 @@ abbrev pub sized : State → Context → Stateid → Setting → Result Node Sta
 sized s x given m = sized_by s x given m.held m.wanted.size
 
 unfoldable pub asked_for : State → Context → SetAttr → Result Setting Status
-asked_for s x a = if_passed (checked (with_wanted (current s x) (wanted_of a.obj_attributes)) (owner_checks x)) (sized s x a.stateid)
+asked_for s x a = if_passed (setting s x a) (sized s x a.stateid)
 
 -- .. then whether the size is one that a file may have, and the change one that can be counted. Nothing given changes nothing.
 abbrev pub is_too_big : Option ℕ → Bool

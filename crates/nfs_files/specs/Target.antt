@@ -1,14 +1,13 @@
 -- The open or lock state that an operation is for: the file of the current filehandle, and the stateid that the argument stands
 -- for (RFC 8881 sections 8.2.3 and 16.2.3.1).
-use Rattle.std.specs.Prelude.{Result, Ok, Err}
+use Rattle.std.specs.Prelude.{Result}
 use Rattle.nfs_xdr.specs.declared.status.Status.{Status}
 use Rattle.nfs_compound.specs.declared.stateid.Stateid.{Stateid}
-use Rattle.nfs_opens.specs.declared.stateid.StateId.{StateId}
 use Rattle.nfs_opens.specs.declared.stateid.CurrentSeqid.{CurrentSeqid}
 use Rattle.nfs_names.specs.declared.context.Context.{Context}
 use Rattle.nfs_names.specs.declared.node.Node.{Node}
 use Rattle.nfs_names.specs.State.{State}
-use Rattle.nfs_names.specs.Outcome.{checked, mapped}
+use Rattle.nfs_names.specs.Outcome.{◌>>=◌, checked, mapped}
 use Rattle.nfs_names.specs.Checks.{current}
 use Rattle.nfs_files.specs.declared.target.Target.{Target}
 use Rattle.nfs_files.specs.Bytes.{file_checks}
@@ -18,13 +17,9 @@ use Rattle.nfs_files.specs.StateIds.{meant}
 unfoldable pub the_file : State → Context → Result Node Status
 the_file s x = checked (current s x) file_checks
 
-abbrev pub target_of : Result Node Status → Result StateId Status → Result Target Status
-target_of (Err status) id = Err status
-target_of (Ok d) id = mapped (λ id. record { file = d.number; id = id }) id
-
 -- the file is looked at first
 unfoldable pub target : State → Context → CurrentSeqid → Stateid → Result Target Status
-target s x form given = target_of (the_file s x) (meant x form given)
+target s x form given = the_file s x >>= λ d. mapped (λ id. record { file = d.number; id = id }) (meant x form given)
 
 -- the current stateid is the result's from now on
 abbrev pub with_stateid : Context → Stateid → Context

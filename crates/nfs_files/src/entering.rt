@@ -17,9 +17,9 @@ ghost use Rattle.nfs_files.specs.Open as of_open;
 ghost use Rattle.nfs_files.specs.OpenParts as part;
 ghost use Rattle.nfs_files.specs.Operation.{one_or_delay};
 
-use crate::opening::{Found, access_of, deny_of, judge, mask_by, name_of, verifier_of};
+use crate::opening::{Found, access_of, attributes_in, deny_of, judge, name_of, verifier_of};
 use crate::stateids::wire_id;
-use nfs_attrs::{Wanted, attribute};
+use nfs_attrs::{Mask, Wanted, attribute};
 use nfs_compound::{OpNum, Open};
 use nfs_names::{Context, Store, attr_set, change_info, refuse, status_of, time_of};
 use nfs_opens::Ask;
@@ -41,9 +41,19 @@ fn can_change(tree: &Tree, number: u64) -> bool
     }
 }
 
+/// Whether a directory can get one more file.
+fn judge_new(tree: &Tree, directory: u64) -> Result<(), Status>
+    ensures { result ≡ judged (first_fault (part.new_checks tree.now directory)) }
+{
+    match tree.judge_create(directory) {
+        Ok(()) => Ok(()),
+        Err(fault) => Err(status_of(fault)),
+    }
+}
+
 /// Whether there is a place for what is new, and a count for what changes.
 fn judge_room(tree: &Tree, found: &Found) -> Result<(), Status>
-    ensures { result ≡ judged (first_fault (of_open.room_checks tree.now found.now)) }
+    ensures { result ≡ judged (first_fault (part.room_checks tree.now found.now)) }
 {
     match found {
         Found::There { file, cut, .. } => {
@@ -52,10 +62,12 @@ fn judge_room(tree: &Tree, found: &Found) -> Result<(), Status>
             }
             Ok(())
         }
-        Found::Absent(making) => match tree.judge_create(making.place.number) {
-            Ok(()) => Ok(()),
-            Err(fault) => Err(status_of(fault)),
-        },
+        Found::Absent(making) => {
+            if making.wanted.size.unwrap_or(0) > Tree::MAX_BYTES {
+                return Err(Status::FBig);
+            }
+            judge_new(tree, making.place.number)
+        }
     }
 }
 
@@ -89,10 +101,8 @@ fn judge_last(
     asked: &Open<'_>,
     found: &Found,
 ) -> Result<(), Status>
-    requires { IsStore (state_of store.now) }
-    ensures { result ≡ judged (first_fault (of_open.last_checks (state_of store.now) context.now (view_open asked.now) found.now)) }
+    ensures { result ≡ judged (first_fault (part.last_checks (state_of store.now) context.now (view_open asked.now) found.now)) }
 {
-    store.tree.kept();
     let room = judge_room(&store.tree, found);
     let ask = ask_for(context, asked, number_of(found));
     match store.opens.judge_open(&ask) {
@@ -114,6 +124,7 @@ fn judge_whole(store: &Store, context: &Context<'_>, asked: &Open<'_>) -> Result
     requires { IsStore (state_of store.now) }
     ensures { result ≡ checked (of_open.asked_for (state_of store.now) context.now (view_open asked.now)) (of_open.last_checks (state_of store.now) context.now (view_open asked.now)) }
 {
+    store.tree.kept();
     let found = judge(store, context, asked)?;
     match judge_last(store, context, asked, &found) {
         Ok(()) => Ok(found),
@@ -123,7 +134,7 @@ fn judge_whole(store: &Store, context: &Context<'_>, asked: &Open<'_>) -> Result
 
 /// How the directory changes, or the object that is reported in its place.
 fn info_of(tree: &Tree, found: &Found) -> ChangeInfo
-    requires { of_open.can_enter tree.now found.now ≡ true }
+    requires { part.can_enter tree.now found.now ≡ true }
     ensures { result ≡ of_open.info_of tree.now found.now }
 {
     match found {
@@ -176,7 +187,7 @@ fn set_of(asked: &Open<'_>, found: &Found) -> AttrSet
         Found::There { cut, .. } => AttrSet {
             words: [if *cut { SIZE } else { 0 }, 0, 0],
         },
-        Found::Absent(_) => attr_set(&mask_by(&asked.openhow)),
+        Found::Absent(_) => attr_set(&Mask::new(attributes_in(&asked.openhow).attrmask.words)),
     }
 }
 

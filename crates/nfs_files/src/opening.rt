@@ -1,20 +1,19 @@
 //! OPEN: what is to be opened, and whether it may be (RFC 8881 section 18.16).
 
 ghost use Rattle.std.specs.Prelude.{◌≡◌, Ok};
+ghost use Rattle.nfs_compound.specs.Attributes.{view_attributes};
 ghost use Rattle.nfs_compound.specs.OpenArgs.{view_open, view_open_how, view_open_claim};
 ghost use Rattle.nfs_names.specs.State.{state_of};
 ghost use Rattle.nfs_names.specs.Outcome.{checked};
 ghost use Rattle.nfs_files.specs.Open as of_open;
-ghost use Rattle.nfs_files.specs.SetAttr as of_set_attr;
 
 use crate::access::{judge_file, want_of};
-use nfs_attrs::{AttrFault, Mask, Want, Wanted, may_make};
-use nfs_compound::{CreateHow, Open, OpenClaim, OpenHow};
+use nfs_attrs::{Want, Wanted, may_make};
+use nfs_compound::{Attributes, Bitmap, CreateHow, Open, OpenClaim, OpenHow};
 use nfs_names::{
     Context, Making, Node, Store, current, held_object, judge_name, permits, wanted_of,
 };
 use nfs_opens::Share;
-use nfs_tree::Tree;
 use nfs_xdr::Status;
 
 /// What OPEN comes upon.
@@ -41,7 +40,7 @@ pub(crate) fn deny_of(asked: &Open<'_>) -> Share
 }
 
 fn creates(how: &OpenHow<'_>) -> bool
-    ensures { result ≡ of_open.creates (view_open_how how.now) }
+    ensures { result ≡ (of_open.makes (view_open_how how.now)).creates }
 {
     match how {
         OpenHow::NoCreate => false,
@@ -49,20 +48,31 @@ fn creates(how: &OpenHow<'_>) -> bool
     }
 }
 
-fn is_guarded(how: &OpenHow<'_>) -> bool
-    ensures { result ≡ of_open.is_guarded (view_open_how how.now) }
+/// Whether an exclusive create by this verifier made the object.
+fn is_made_by(verifier: [u8; 8], made: Option<[u8; 8]>) -> bool
+    ensures { result ≡ of_open.is_made_by verifier made }
+{
+    match made {
+        None => false,
+        Some(made) => verifier.as_slice() == made.as_slice(),
+    }
+}
+
+/// Whether an object that was made with this verifier, if with one, is opened.
+fn opens(how: &OpenHow<'_>, made: Option<[u8; 8]>) -> bool
+    ensures { result ≡ (of_open.makes (view_open_how how.now)).opens made }
 {
     match how {
-        OpenHow::NoCreate => false,
-        OpenHow::Create(CreateHow::Unchecked { .. }) => false,
-        OpenHow::Create(CreateHow::Guarded { .. }) => true,
-        OpenHow::Create(CreateHow::Exclusive { .. }) => false,
-        OpenHow::Create(CreateHow::Exclusive41 { .. }) => false,
+        OpenHow::NoCreate => true,
+        OpenHow::Create(CreateHow::Unchecked { .. }) => true,
+        OpenHow::Create(CreateHow::Guarded { .. }) => false,
+        OpenHow::Create(CreateHow::Exclusive { createverf }) => is_made_by(*createverf, made),
+        OpenHow::Create(CreateHow::Exclusive41 { verf, .. }) => is_made_by(*verf, made),
     }
 }
 
 fn is_unchecked(how: &OpenHow<'_>) -> bool
-    ensures { result ≡ of_open.is_unchecked (view_open_how how.now) }
+    ensures { result ≡ (of_open.makes (view_open_how how.now)).cuts }
 {
     match how {
         OpenHow::NoCreate => false,
@@ -75,7 +85,7 @@ fn is_unchecked(how: &OpenHow<'_>) -> bool
 
 /// The verifier of an exclusive create.
 pub(crate) fn verifier_of(how: &OpenHow<'_>) -> Option<[u8; 8]>
-    ensures { result ≡ of_open.verifier_of (view_open_how how.now) }
+    ensures { result ≡ (of_open.makes (view_open_how how.now)).verifier }
 {
     match how {
         OpenHow::NoCreate => None,
@@ -86,90 +96,25 @@ pub(crate) fn verifier_of(how: &OpenHow<'_>) -> Option<[u8; 8]>
     }
 }
 
-const NO_ATTRIBUTES: Mask = Mask {
-    words: [0, 0, 0],
-    beyond: false,
-};
-
-const NOTHING: Wanted = Wanted {
-    size: None,
-    mode: None,
-    owner: None,
-    group: None,
-    access: None,
-    modify: None,
-    mask: NO_ATTRIBUTES,
-};
-
 /// The attributes that are given.
-fn wanted_by(how: &OpenHow<'_>) -> Result<Wanted, AttrFault>
-    ensures { result ≡ of_open.wanted_by (view_open_how how.now) }
+pub(crate) fn attributes_in<'a>(how: &OpenHow<'a>) -> Attributes<'a>
+    ensures { view_attributes result ≡ (of_open.makes (view_open_how how.now)).attributes }
 {
     match how {
-        OpenHow::NoCreate => Ok(NOTHING),
-        OpenHow::Create(CreateHow::Unchecked { createattrs }) => wanted_of(createattrs),
-        OpenHow::Create(CreateHow::Guarded { createattrs }) => wanted_of(createattrs),
-        OpenHow::Create(CreateHow::Exclusive { .. }) => Ok(NOTHING),
-        OpenHow::Create(CreateHow::Exclusive41 { attrs, .. }) => wanted_of(attrs),
+        OpenHow::NoCreate => no_attributes(),
+        OpenHow::Create(CreateHow::Unchecked { createattrs }) => *createattrs,
+        OpenHow::Create(CreateHow::Guarded { createattrs }) => *createattrs,
+        OpenHow::Create(CreateHow::Exclusive { .. }) => no_attributes(),
+        OpenHow::Create(CreateHow::Exclusive41 { attrs, .. }) => *attrs,
     }
 }
 
-/// Which they are.
-pub(crate) fn mask_by(how: &OpenHow<'_>) -> Mask
-    ensures { result ≡ of_open.mask_by (view_open_how how.now) }
+fn no_attributes() -> Attributes<'static>
+    ensures { view_attributes result ≡ of_open.no_attributes }
 {
-    match how {
-        OpenHow::NoCreate => NO_ATTRIBUTES,
-        OpenHow::Create(CreateHow::Unchecked { createattrs }) => {
-            Mask::new(createattrs.attrmask.words)
-        }
-        OpenHow::Create(CreateHow::Guarded { createattrs }) => {
-            Mask::new(createattrs.attrmask.words)
-        }
-        OpenHow::Create(CreateHow::Exclusive { .. }) => NO_ATTRIBUTES,
-        OpenHow::Create(CreateHow::Exclusive41 { attrs, .. }) => Mask::new(attrs.attrmask.words),
-    }
-}
-
-fn is_reclaim(claim: &OpenClaim<'_>) -> bool
-    ensures { result ≡ of_open.is_reclaim (view_open_claim claim.now) }
-{
-    match claim {
-        OpenClaim::Null { .. } => false,
-        OpenClaim::Previous { .. } => true,
-        OpenClaim::DelegateCur { .. } => false,
-        OpenClaim::DelegatePrev { .. } => false,
-        OpenClaim::Fh => false,
-        OpenClaim::DelegCurFh { .. } => false,
-        OpenClaim::DelegPrevFh => false,
-    }
-}
-
-fn is_delegation(claim: &OpenClaim<'_>) -> bool
-    ensures { result ≡ of_open.is_delegation (view_open_claim claim.now) }
-{
-    match claim {
-        OpenClaim::Null { .. } => false,
-        OpenClaim::Previous { .. } => false,
-        OpenClaim::DelegateCur { .. } => true,
-        OpenClaim::DelegatePrev { .. } => true,
-        OpenClaim::Fh => false,
-        OpenClaim::DelegCurFh { .. } => true,
-        OpenClaim::DelegPrevFh => true,
-    }
-}
-
-fn is_by_handle(claim: &OpenClaim<'_>) -> bool
-    ensures { result ≡ of_open.is_by_handle (view_open_claim claim.now) }
-{
-    match claim {
-        OpenClaim::Null { .. } => false,
-        OpenClaim::Previous { .. } => false,
-        OpenClaim::DelegateCur { .. } => false,
-        OpenClaim::DelegatePrev { .. } => false,
-        OpenClaim::Fh => true,
-        OpenClaim::DelegCurFh { .. } => false,
-        OpenClaim::DelegPrevFh => false,
+    Attributes {
+        attrmask: Bitmap { words: &[] },
+        attr_vals: &[],
     }
 }
 
@@ -198,21 +143,12 @@ fn judge_arguments(asked: &Open<'_>, held: Node) -> Result<Node, Status>
     if Share::from_bits(asked.share_deny).is_none() {
         return Err(Status::Inval);
     }
-    if is_reclaim(&asked.claim) {
-        return Err(Status::NoGrace);
-    }
-    if is_delegation(&asked.claim) {
-        return Err(Status::NotSupp);
-    }
-    if is_by_handle(&asked.claim) && creates(&asked.openhow) {
-        return Err(Status::Inval);
-    }
     Ok(held)
 }
 
 /// The directory in which the name is looked for.
-fn judge_place(context: &Context<'_>, asked: &Open<'_>, held: Node) -> Result<Node, Status>
-    ensures { result ≡ checked (Ok held) (of_open.place_checks context.now (view_open asked.now)) }
+fn judge_place(context: &Context<'_>, name: &[u8], held: Node) -> Result<Node, Status>
+    ensures { result ≡ checked (Ok held) (of_open.place_checks context.now name.now) }
 {
     if !held.object.kind.is_directory() {
         return Err(Status::NotDir);
@@ -220,17 +156,8 @@ fn judge_place(context: &Context<'_>, asked: &Open<'_>, held: Node) -> Result<No
     if !permits(context, &held, Want::EXECUTE) {
         return Err(Status::Access);
     }
-    judge_name(name_of(&asked.claim))?;
+    judge_name(name)?;
     Ok(held)
-}
-
-fn is_too_big(size: Option<u64>) -> bool
-    ensures { result ≡ of_set_attr.is_too_big size }
-{
-    match size {
-        Some(size) => size > Tree::MAX_BYTES,
-        None => false,
-    }
 }
 
 /// What is to be made where, if it may be.
@@ -244,33 +171,14 @@ fn judge_absent(context: &Context<'_>, asked: &Open<'_>, making: Making) -> Resu
         return Err(Status::Access);
     }
     may_make(&making.wanted, context.who.who())?;
-    if is_too_big(making.wanted.size) {
-        return Err(Status::FBig);
-    }
     Ok(making)
-}
-
-/// Whether an exclusive create by this verifier, if it is one, made the object.
-fn was_made_by(verifier: Option<[u8; 8]>, made: Option<[u8; 8]>) -> bool
-    ensures { result ≡ of_open.was_made_by verifier made }
-{
-    match verifier {
-        None => true,
-        Some(verifier) => match made {
-            None => false,
-            Some(made) => made.as_slice() == verifier.as_slice(),
-        },
-    }
 }
 
 /// The object that is there, if it may be opened.
 fn judge_there(context: &Context<'_>, asked: &Open<'_>, file: Node) -> Result<Node, Status>
     ensures { result ≡ checked (Ok file) (of_open.there_checks context.now (view_open asked.now)) }
 {
-    if is_guarded(&asked.openhow) {
-        return Err(Status::Exist);
-    }
-    if !was_made_by(verifier_of(&asked.openhow), file.object.verifier) {
+    if !opens(&asked.openhow, file.object.verifier) {
         return Err(Status::Exist);
     }
     let file = judge_file(file)?;
@@ -318,22 +226,23 @@ fn by_name(
     store: &Store,
     context: &Context<'_>,
     asked: &Open<'_>,
+    name: &[u8],
     held: Node,
 ) -> Result<Found, Status>
-    ensures { result ≡ of_open.by_name (state_of store.now) context.now (view_open asked.now) (Ok held) }
+    ensures { result ≡ of_open.by_name (state_of store.now) context.now (view_open asked.now) name.now held }
 {
-    let place = judge_place(context, asked, held)?;
-    let wanted = match wanted_by(&asked.openhow) {
+    let place = judge_place(context, name, held)?;
+    let wanted = match wanted_of(&attributes_in(&asked.openhow)) {
         Ok(wanted) => wanted,
         Err(fault) => return Err(fault.status()),
     };
-    let number = store.tree.lookup(place.number, name_of(&asked.claim));
+    let number = store.tree.lookup(place.number, name);
     found_by(store, context, asked, Making { place, wanted }, number)
 }
 
 /// The current filehandle's file itself.
 fn by_handle(context: &Context<'_>, asked: &Open<'_>, held: Node) -> Result<Found, Status>
-    ensures { result ≡ of_open.by_handle context.now (view_open asked.now) (Ok held) }
+    ensures { result ≡ of_open.by_handle context.now (view_open asked.now) held }
 {
     let file = judge_there(context, asked, held)?;
     Ok(Found::There {
@@ -343,6 +252,32 @@ fn by_handle(context: &Context<'_>, asked: &Open<'_>, held: Node) -> Result<Foun
     })
 }
 
+/// What an open of this claim comes upon.
+fn by_claim(
+    store: &Store,
+    context: &Context<'_>,
+    asked: &Open<'_>,
+    claim: &OpenClaim<'_>,
+    held: Node,
+) -> Result<Found, Status>
+    ensures { result ≡ of_open.by_claim (state_of store.now) context.now (view_open asked.now) (view_open_claim claim.now) held }
+{
+    match claim {
+        OpenClaim::Null { file } => by_name(store, context, asked, file, held),
+        OpenClaim::Fh => {
+            if creates(&asked.openhow) {
+                return Err(Status::Inval);
+            }
+            by_handle(context, asked, held)
+        }
+        OpenClaim::Previous { .. } => Err(Status::NoGrace),
+        OpenClaim::DelegateCur { .. } => Err(Status::NotSupp),
+        OpenClaim::DelegatePrev { .. } => Err(Status::NotSupp),
+        OpenClaim::DelegCurFh { .. } => Err(Status::NotSupp),
+        OpenClaim::DelegPrevFh => Err(Status::NotSupp),
+    }
+}
+
 /// What is to be opened.
 #[tactic(auto, unfolding(crate::specs::Open::asked_for))]
 pub(crate) fn judge(store: &Store, context: &Context<'_>, asked: &Open<'_>) -> Result<Found, Status>
@@ -350,9 +285,5 @@ pub(crate) fn judge(store: &Store, context: &Context<'_>, asked: &Open<'_>) -> R
 {
     let held = current(store, context)?;
     let held = judge_arguments(asked, held)?;
-    if is_by_handle(&asked.claim) {
-        by_handle(context, asked, held)
-    } else {
-        by_name(store, context, asked, held)
-    }
+    by_claim(store, context, asked, &asked.claim, held)
 }

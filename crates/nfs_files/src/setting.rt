@@ -7,10 +7,8 @@ ghost use Rattle.nfs_tree.specs.Did.{DoesOrWants};
 ghost use Rattle.nfs_results.specs.View as view;
 ghost use Rattle.nfs_results.specs.Results.{status_of_result};
 ghost use Rattle.nfs_names.specs.State.{state_of};
-ghost use Rattle.nfs_names.specs.Outcome.{checked, is_delay};
+ghost use Rattle.nfs_names.specs.Outcome.{is_delay};
 ghost use Rattle.nfs_names.specs.View.{outcome_of};
-ghost use Rattle.nfs_names.specs.Checks as check;
-ghost use Rattle.nfs_names.specs.Create as of_create;
 ghost use Rattle.nfs_files.specs.SetAttr as of_set_attr;
 ghost use Rattle.nfs_files.specs.SetAttrParts as part;
 ghost use Rattle.nfs_files.specs.Operation.{one_or_delay};
@@ -37,7 +35,7 @@ fn judge_setting(
     context: &Context<'_>,
     asked: &SetAttr<'_>,
 ) -> Result<Setting, Status>
-    ensures { result ≡ checked (of_set_attr.with_wanted (check.current (state_of store.now) context.now) (of_create.wanted_of (view_set_attr asked.now).obj_attributes)) (of_set_attr.owner_checks context.now) }
+    ensures { result ≡ of_set_attr.setting (state_of store.now) context.now (view_set_attr asked.now) }
 {
     let held = current(store, context)?;
     let wanted = match wanted_of(&asked.obj_attributes) {

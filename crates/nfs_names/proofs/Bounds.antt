@@ -16,18 +16,19 @@ use Rattle.nfs_results.specs.Results.{HasArrays}
 use Rattle.nfs_names.specs.declared.context.Context.{Context}
 use Rattle.nfs_names.specs.declared.context.Saved.{Saved}
 use Rattle.nfs_names.specs.declared.node.Node.{Node}
+use Rattle.nfs_names.specs.declared.making.Making.{Making}
 use Rattle.nfs_names.specs.declared.node.Pair.{Pair}
 use Rattle.nfs_names.specs.State.{State}
-use Rattle.nfs_names.specs.Outcome.{done, passed, checked, answers}
+use Rattle.nfs_names.specs.Outcome.{with_status, done, passed, checked, answers}
 use Rattle.nfs_names.proofs.Listed.{listed_within}
 use Rattle.nfs_names.proofs.Found.{checked_ok}
 use Rattle.nfs_xdr.specs.Checks.{first_fault}
 use Rattle.nfs_xdr.proofs.Checks.{all_passed}
 use Rattle.std.proofs.lemmas.Bool.{ltb-false}
-use Rattle.nfs_names.specs.Checks.{held_as, held, saved_object, current, paired, both_of, both}
+use Rattle.nfs_names.specs.Checks.{held_as, held, saved_object, current, both}
 use Rattle.nfs_names.specs.Attributes.{about}
 use Rattle.nfs_names.specs.Access.{access}
-use Rattle.nfs_names.specs.Create.{wanted_of, making, with_wanted, asked_for, place_checks, new_checks, create}
+use Rattle.nfs_names.specs.Create.{wanted_of, attributes_in, asked_for, place_checks, new_checks, create}
 use Rattle.nfs_names.specs.GetAttr.{mask_checks, get_attr}
 use Rattle.nfs_names.specs.GetFh.{get_fh}
 use Rattle.nfs_names.specs.Link.{link}
@@ -45,10 +46,9 @@ use Rattle.nfs_names.specs.Rename.{move_of, moved, unmoved, rename}
 use Rattle.nfs_names.specs.RestoreFh.{or_none, restore_fh}
 use Rattle.nfs_names.specs.SaveFh.{save_fh}
 use Rattle.nfs_names.specs.SecinfoNoName.{style_checks, secinfo_no_name}
-use Rattle.nfs_names.specs.Verify.{same_at, or_status, compared, verify}
+use Rattle.nfs_names.specs.Verify.{same_at, compared, verify}
 use Rattle.nfs_xdr.specs.declared.status.Status.TheVariants as S
 use Rattle.nfs_attrs.specs.declared.handle.Handle.{Handle}
-use Rattle.nfs_attrs.specs.declared.wanted.Wanted.{Wanted}
 use Rattle.nfs_attrs.specs.declared.wanted.AttrFault.{AttrFault}
 use Rattle.nfs_attrs.specs.declared.wanted.AttrFault.TheVariants as F
 use Rattle.nfs_attrs.specs.Handle.{handle_of}
@@ -60,7 +60,7 @@ use Rattle.nfs_attrs.proofs.Lengths.{length_handle}
 use Rattle.nfs_tree.specs.declared.object.Object.{Object}
 use Rattle.nfs_tree.specs.Files.{object_at, most_text}
 use Rattle.nfs_tree.specs.Names.{moves}
-use Rattle.nfs_names.proofs.Refusing.{Refuses, IsRefusal, refuses_checked, refuses_mapped, answers_with, err_refuses, ok_refuses}
+use Rattle.nfs_names.proofs.Refusing.{Refuses, IsRefusal, refuses_checked, refuses_mapped, refuses_then, answers_with, err_refuses, ok_refuses}
 
 pub held_as_refuses : (n : ℕ) (o : Option Object) → Refuses (held_as n o)
 held_as_refuses n None = err_refuses S.Stale (record { done = refl; legal = refl })
@@ -74,17 +74,10 @@ pub current_refuses : (s : State) (x : Context) → Refuses (current s x)
 unfolding current
 current_refuses s x = held_refuses s x.current
 
-paired_refuses : (d : Node) (v : Result Node Status) → Refuses v → Refuses (paired d v)
-paired_refuses d (Err f) h = err_refuses f (h.each f refl)
-paired_refuses d (Ok e) h = ok_refuses (record { current = d; saved = e })
-
-both_of_refuses : (v w : Result Node Status) → Refuses v → Refuses w → Refuses (both_of v w)
-both_of_refuses (Err f) w h g = err_refuses f (h.each f refl)
-both_of_refuses (Ok d) w h g = paired_refuses d w g
-
 pub both_refuses : (s : State) (x : Context) → Refuses (both s x)
 unfolding both current
-both_refuses s x = both_of_refuses (held s x.current) (held s (saved_object x.saved)) (held_refuses s x.current) (held_refuses s (saved_object x.saved))
+both_refuses s x = refuses_then (held s x.current) _ (held_refuses s x.current) (λ d.
+    refuses_then (held s (saved_object x.saved)) _ (held_refuses s (saved_object x.saved)) (λ e. ok_refuses (record { current = d; saved = e })))
 
 fault_refuses : (f : AttrFault) → IsRefusal (fault_status f)
 fault_refuses F.AttrNotSupp = record { done = refl; legal = refl }
@@ -92,27 +85,21 @@ fault_refuses F.Inval = record { done = refl; legal = refl }
 fault_refuses F.BadXdr = record { done = refl; legal = refl }
 fault_refuses F.BadOwner = record { done = refl; legal = refl }
 
-making_refuses : (d : Node) (r : Result Wanted AttrFault) → Refuses (making d r)
-making_refuses d (Err f) = err_refuses (fault_status f) (fault_refuses f)
-making_refuses d (Ok w) = ok_refuses (record { place = d; wanted = w })
+status_refuses : {A : Type 0} (r : Result A AttrFault) → Refuses (with_status fault_status r)
+status_refuses (Err f) = err_refuses (fault_status f) (fault_refuses f)
+status_refuses (Ok a) = ok_refuses a
 
-pub wanted_refuses : (v : Result Node Status) (r : Result Wanted AttrFault) → Refuses v → Refuses (with_wanted v r)
-wanted_refuses (Err f) r h = err_refuses f (h.each f refl)
-wanted_refuses (Ok d) r h = making_refuses d r
+pub wanted_refuses : (a : Attributes) → Refuses (attributes_in a)
+wanted_refuses a = status_refuses (wanted_of a)
 
 pub asked_refuses : (s : State) (x : Context) (c : args.Create) → Refuses (asked_for s x c)
 asked_refuses s x c =
-    refuses_checked (with_wanted (checked (current s x) (place_checks x c)) (wanted_of c.createattrs)) (new_checks x)
-    (wanted_refuses (checked (current s x) (place_checks x c)) (wanted_of c.createattrs)
-    (refuses_checked (current s x) (place_checks x c) (current_refuses s x) (λ d. refl))) (λ m. refl)
+    refuses_then (checked (current s x) (place_checks x c)) _ (refuses_checked (current s x) (place_checks x c) (current_refuses s x) (λ d. refl)) (λ d.
+    refuses_then (attributes_in c.createattrs) _ (wanted_refuses c.createattrs) (λ w.
+    (let m : Making = record { place = d; wanted = w } in refuses_checked (Ok m) (new_checks x) (ok_refuses m) (λ m. refl))))
 
-or_status_refuses : (r : Result Bool AttrFault) → Refuses (or_status r)
-or_status_refuses (Err f) = err_refuses (fault_status f) (fault_refuses f)
-or_status_refuses (Ok b) = ok_refuses b
-
-compared_refuses : (s : State) (a : Attributes) (v : Result Node Status) → Refuses v → Refuses (compared s a v)
-compared_refuses s a (Err f) h = err_refuses f (h.each f refl)
-compared_refuses s a (Ok d) h = or_status_refuses (same_at s a d)
+compared_refuses : (s : State) (x : Context) (a : Attributes) → Refuses (compared s x a)
+compared_refuses s x a = refuses_then (current s x) _ (current_refuses s x) (λ d. status_refuses (same_at s a d))
 
 handle_refuses : (o : Option Handle) → Refuses (or_bad o)
 handle_refuses None = err_refuses S.BadHandle (record { done = refl; legal = refl })
@@ -162,14 +149,14 @@ may_lookup_p s x =
 pub may_nverify : (s : State) (x : Context) (a : Attributes) → IsAnswer (Operation (OpNVerify a)) (nverify s x a).result
 unfolding nverify
 may_nverify s x a =
-    answers_with (IsAnswer (Operation (OpNVerify a))) s x Num.NVerify _ _ (refuses_checked _ _ (compared_refuses s a _ (current_refuses s x)) (λ equal. refl))
+    answers_with (IsAnswer (Operation (OpNVerify a))) s x Num.NVerify _ _ (refuses_checked _ _ (compared_refuses s x a) (λ equal. refl))
     (λ status h. record { may = (refl, rw (h.done, h.legal) refl, tt); arrays = tt })
     (λ a. record { may = (refl, tt, tt); arrays = tt })
 
 pub may_verify : (s : State) (x : Context) (a : Attributes) → IsAnswer (Operation (OpVerify a)) (verify s x a).result
 unfolding verify
 may_verify s x a =
-    answers_with (IsAnswer (Operation (OpVerify a))) s x Num.Verify _ _ (refuses_checked _ _ (compared_refuses s a _ (current_refuses s x)) (λ equal. refl))
+    answers_with (IsAnswer (Operation (OpVerify a))) s x Num.Verify _ _ (refuses_checked _ _ (compared_refuses s x a) (λ equal. refl))
     (λ status h. record { may = (refl, rw (h.done, h.legal) refl, tt); arrays = tt })
     (λ a. record { may = (refl, tt, tt); arrays = tt })
 

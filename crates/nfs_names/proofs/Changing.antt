@@ -1,17 +1,14 @@
 -- The tree's own checks are the last ones of an operation, under the statuses of its faults.
 use Rattle.std.proofs.Common.{◌≡◌, ℕ, true, false, not, List, Some, None, refl, sym, ◌∙◌, ap}
-use Rattle.std.specs.Prelude.{Result, Ok, Err, option_map, nat_lt, ◌==◌, ◌&&◌}
+use Rattle.std.specs.Prelude.{Ok, option_map, ◌&&◌}
 use Rattle.nfs_xdr.specs.Checks.{first_fault}
 use Rattle.nfs_xdr.specs.declared.time.Time.{Time}
-use Rattle.nfs_xdr.specs.declared.status.Status.{Status}
 use Rattle.nfs_compound.specs.declared.op_num.OpNum.TheVariants as Op
-use Rattle.nfs_compound.specs.NameArgs.{Create, CreateType, Block, Character, Symlink, Other}
+use Rattle.nfs_compound.specs.NameArgs.{Create}
 use Rattle.nfs_tree.specs.declared.fault.TreeFault.{TreeFault}
 use Rattle.nfs_tree.specs.Files.{Files, is_there}
 use Rattle.nfs_tree.specs.Names.{link_checks, link_fault, remove_checks, remove_fault}
-use Rattle.nfs_tree.specs.Create.{create_checks, create_fault, is_bad_text, is_too_big}
-use Rattle.nfs_attrs.specs.declared.wanted.Wanted.{Wanted}
-use Rattle.nfs_attrs.specs.declared.wanted.AttrFault.{AttrFault}
+use Rattle.nfs_tree.specs.Create.{create_checks, create_fault}
 use Rattle.nfs_names.specs.declared.context.Context.{Context}
 use Rattle.nfs_names.specs.declared.node.Node.{Node}
 use Rattle.nfs_names.specs.declared.node.Pair.{Pair}
@@ -23,7 +20,6 @@ use Rattle.nfs_names.specs.Checks.{current, both}
 use Rattle.nfs_names.specs.Link as of_link
 use Rattle.nfs_names.specs.Remove as of_remove
 use Rattle.nfs_names.specs.Create as of_create
-use Rattle.nfs_names.proofs.Found.{short_list}
 use Rattle.nfs_names.proofs.Rows.{fault_map}
 use Rattle.nfs_names.proofs.Faulted.{by_last, by_refusal}
 
@@ -74,24 +70,6 @@ remove_stops s x now name d f v some =
     (sym (remove_found s x name d v) ∙ ap (option_map status_of) some)
 
 -- CREATE
-wanted_ok : (v : Result Node Status) (r : Result Wanted AttrFault) (m : Making) → of_create.with_wanted v r ≡ Ok m → v ≡ Ok m.place
-wanted_ok (Err f) r m e = absurd cc
-wanted_ok (Ok d) (Err f) m e = absurd cc
-wanted_ok (Ok d) (Ok w) m e = let same : record { place = d; wanted = w } ≡ m = cc in ap (λ (m : Making). Ok m.place) same
-
-text_good : (type : CreateType) → of_create.text_is (λ n. n == 0) type ≡ false
-    → of_create.text_is (nat_lt 1024) type ≡ false → is_bad_text (of_create.new_of type) ≡ false
-text_good (Block d) e h = refl
-text_good (Character d) e h = refl
-text_good (Symlink text) e h = ap not (short_list 1024 text e h)
-text_good (Other n) e h = refl
-
-size_good : (type : CreateType) → is_too_big (of_create.new_of type) ≡ false
-size_good (Block d) = refl
-size_good (Character d) = refl
-size_good (Symlink text) = refl
-size_good (Other n) = refl
-
 create_found : (s : State) (x : Context) (c : Create) (m : Making) → of_create.asked_for s x c ≡ Ok m
     → option_map status_of (create_fault s.tree m.place.number c.objname (of_create.new_of c.objtype)) ≡ first_fault (of_create.row_checks s c m)
 create_found s x c m v = fault_map status_of (create_checks s.tree m.place.number c.objname (of_create.new_of c.objtype))

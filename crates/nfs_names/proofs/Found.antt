@@ -13,8 +13,25 @@ use Rattle.nfs_names.specs.declared.context.Context.{Context}
 use Rattle.nfs_names.specs.declared.node.Node.{Node}
 use Rattle.nfs_names.specs.declared.node.Pair.{Pair}
 use Rattle.nfs_names.specs.State.{State}
-use Rattle.nfs_names.specs.Outcome.{passed, checked}
-use Rattle.nfs_names.specs.Checks.{held_as, held, saved_object, current, paired, both_of, both}
+use Rattle.nfs_names.specs.Outcome.{◌>>=◌, passed, checked}
+use Rattle.nfs_names.specs.Checks.{held_as, held, saved_object, current, both}
+
+-- what came of something was found by way of it
+pub record Came {A B F : Type 0} (v : Result A F) (next : A → Result B F) (b : B) : Type 0 where
+  pub found : A
+  pub is : v ≡ Ok found
+  pub then : next found ≡ Ok b
+
+pub came : {A B F : Type 0} (v : Result A F) (next : A → Result B F) (b : B) → (v >>= next) ≡ Ok b → Came v next b
+came (Err f) next b e = absurd cc
+came (Ok a) next b e = record { found = a; is = refl; then = e }
+
+ok_of : {A F : Type 0} (v : Result A F) (a b : A) → v ≡ Ok a → v ≡ Ok b → a ≡ b
+ok_of (Err f) a b e h = absurd cc
+ok_of (Ok c) a b e h = let here : c ≡ a = cc in let there : c ≡ b = cc in sym here ∙ there
+
+pub ok_is : {A F : Type 0} {v : Result A F} {a b : A} → v ≡ Ok a → v ≡ Ok b → a ≡ b
+ok_is {v = v} {a = a} {b = b} e h = ok_of v a b e h
 
 passed_ok : {A : Type 0} (b a : A) (o : Option Status) → passed b o ≡ Ok a → (b ≡ a) × (o ≡ None)
 passed_ok b a None e = (cc, refl)
@@ -62,22 +79,15 @@ pub current_is : (s : State) (x : Context) (d : Node) → current s x ≡ Ok d �
 unfolding current
 current_is s x d e = held_is s x.current d e
 
-paired_is : (t : Files) (d : Node) (v : Result Node Status) (p : Pair) → IsHeld t d
-    → ((e : Node) → v ≡ Ok e → IsHeld t e) → paired d v ≡ Ok p → IsHeld t p.current × IsHeld t p.saved
-paired_is t d (Err status) p one other e = absurd cc
-paired_is t d (Ok h) p one other e =
-    let same : record { current = d; saved = h } ≡ p = cc in
-    (subst (λ (q : Pair). IsHeld t q.current) same one, subst (λ (q : Pair). IsHeld t q.saved) same (other h refl))
-
-both_is_of : (t : Files) (v w : Result Node Status) (p : Pair) → ((e : Node) → v ≡ Ok e → IsHeld t e)
-    → ((e : Node) → w ≡ Ok e → IsHeld t e) → both_of v w ≡ Ok p → IsHeld t p.current × IsHeld t p.saved
-both_is_of t (Err status) w p one other e = absurd cc
-both_is_of t (Ok d) w p one other e = paired_is t d w p (one d refl) other e
-
 pub both_is : (s : State) (x : Context) (p : Pair) → both s x ≡ Ok p → IsHeld s.tree p.current × IsHeld s.tree p.saved
 unfolding both current
-both_is s x p e = both_is_of s.tree (held s x.current) (held s (saved_object x.saved)) p
-    (λ d h. held_is s x.current d h) (λ d h. held_is s (saved_object x.saved) d h) e
+both_is s x p e =
+    let c = came (held s x.current) _ p e in
+    let o = came (held s (saved_object x.saved)) _ p c.then in
+    let same = ok_is refl o.then in (
+      subst (λ (q : Pair). IsHeld s.tree q.current) same (held_is s x.current c.found c.is),
+      subst (λ (q : Pair). IsHeld s.tree q.saved) same (held_is s (saved_object x.saved) o.found o.is),
+    )
 
 -- neither empty nor longer than so many bytes
 pub short_list : (most : ℕ) (xs : List ℕ) → (length xs == 0) ≡ false → nat_lt most (length xs) ≡ false → nat_lt 0 (length xs) && nat_le (length xs) most ≡ true

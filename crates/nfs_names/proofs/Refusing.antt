@@ -12,7 +12,7 @@ use Rattle.nfs_results.specs.Result.{Res}
 use Rattle.nfs_results.specs.Results.{refusal}
 use Rattle.nfs_names.specs.declared.context.Context.{Context}
 use Rattle.nfs_names.specs.State.{State}
-use Rattle.nfs_names.specs.Outcome.{Outcome, passed, checked, mapped, answers}
+use Rattle.nfs_names.specs.Outcome.{Outcome, ◌>>=◌, passed, checked, mapped, answers}
 
 -- neither NFS4_OK nor that of an operation that there is not
 pub record IsRefusal (status : Status) : Type 0 where
@@ -70,3 +70,7 @@ err_refuses g h = record { each = λ f e. let same : g ≡ f = cc in subst IsRef
 
 pub ok_refuses : {A : Type 0} (a : A) → Refuses {A = A} (Ok a)
 ok_refuses a = record { each = λ f e. absurd cc }
+
+pub refuses_then : {A B : Type 0} (v : Result A Status) (next : A → Result B Status) → Refuses v → ((a : A) → Refuses (next a)) → Refuses (v >>= next)
+refuses_then (Err g) next rest each = err_refuses g (rest.each g refl)
+refuses_then (Ok a) next rest each = each a

@@ -13,6 +13,7 @@ use Rattle.nfs_names.specs.declared.context.Saved.{Saved}
 use Rattle.nfs_names.specs.declared.node.Node.{Node}
 use Rattle.nfs_names.specs.declared.node.Pair.{Pair}
 use Rattle.nfs_names.specs.State.{State}
+use Rattle.nfs_names.specs.Outcome.{◌>>=◌}
 
 -- A filehandle is wanted and there is none, or its object is gone (RFC 8881 sections 15.1.2.5 and 15.1.2.9).
 abbrev pub held_as : ℕ → Option Object → Result Node Status
@@ -32,16 +33,11 @@ unfoldable pub current : State → Context → Result Node Status
 current s x = held s x.current
 
 -- the objects of the current filehandle and of the saved one: the current one is looked at first
-abbrev pub paired : Node → Result Node Status → Result Pair Status
-paired d (Err status) = Err status
-paired d (Ok e) = Ok (record { current = d; saved = e })
-
-abbrev pub both_of : Result Node Status → Result Node Status → Result Pair Status
-both_of (Err status) saved = Err status
-both_of (Ok d) saved = paired d saved
-
 unfoldable pub both : State → Context → Result Pair Status
-both s x = both_of (current s x) (held s (saved_object x.saved))
+both s x = do
+  d ← current s x
+  e ← held s (saved_object x.saved)
+  Ok (record { current = d; saved = e })
 
 abbrev pub no_directory : Node → Bool × Status
 no_directory d = (not (is_directory d.object.kind), NotDir)

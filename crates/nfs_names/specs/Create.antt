@@ -1,17 +1,17 @@
 -- CREATE (RFC 8881 section 18.4): a directory or a symbolic link is made, and becomes the current filehandle's object.
-use Rattle.std.specs.Prelude.{ℕ, ◌+◌, ◌==◌, Bool, true, false, not, ◌&&◌, List, [], ◌∷◌, ◌++◌, length, nat_lt, Some, Result, Ok, Err, is_some}
+use Rattle.std.specs.Prelude.{ℕ, ◌+◌, ◌==◌, Bool, true, false, not, List, [], ◌∷◌, ◌++◌, length, nat_lt, Some, Result, Ok, is_some}
 use Rattle.std.specs.Prelude.{unwrap_or, option_map}
 use Rattle.nfs_xdr.specs.declared.time.Time.{Time}
 use Rattle.nfs_xdr.specs.declared.status.Status.{Status}
 use Rattle.nfs_xdr.specs.declared.status.Status.TheVariants.{Inval, NameTooLong, BadType}
 use Rattle.nfs_compound.specs.declared.op_num.OpNum.TheVariants as Op
 use Rattle.nfs_compound.specs.Attributes.{Attributes}
-use Rattle.nfs_compound.specs.NameArgs.{Create, CreateType, Block, Character, Symlink, Other}
+use Rattle.nfs_compound.specs.NameArgs.{Create, CreateType, Symlink, Other}
 use Rattle.nfs_results.specs.declared.res.ChangeInfo.{ChangeInfo}
 use Rattle.nfs_results.specs.Result.{ResCreate}
 use Rattle.nfs_tree.specs.declared.done.Change.{Change}
 use Rattle.nfs_tree.specs.declared.sets.Sets.{Sets}
-use Rattle.nfs_tree.specs.Files.{Files, last_count, most_text, can_change}
+use Rattle.nfs_tree.specs.Files.{most_text}
 use Rattle.nfs_tree.specs.Create.{New, Directory, Link, create_checks, with_new}
 use Rattle.nfs_tree.specs.Did.{raised}
 use Rattle.nfs_attrs.specs.declared.set_time.SetTime.{SetTime}
@@ -27,28 +27,23 @@ use Rattle.nfs_names.specs.declared.node.Node.{Node}
 use Rattle.nfs_names.specs.declared.making.Making.{Making}
 use Rattle.nfs_names.specs.State.{State, with_tree}
 use Rattle.nfs_names.specs.Context.{at_object}
-use Rattle.nfs_names.specs.Outcome.{Outcome, checked, answers}
+use Rattle.nfs_names.specs.Outcome.{Outcome, ◌>>=◌, with_status, checked, answers}
 use Rattle.nfs_names.specs.Checks.{current, no_directory, denied, name_checks}
 use Rattle.nfs_names.specs.Faults.{by_tree}
 
 -- Directories and links are made; a number that is no type's is read like one that has nothing behind it.
 abbrev pub is_made : CreateType → Bool
-is_made (Block d) = false
-is_made (Character d) = false
 is_made (Symlink text) = true
 is_made (Other type) = type == 2
+is_made device = false
 
 abbrev pub text_is : (ℕ → Bool) → CreateType → Bool
-text_is test (Block d) = false
-text_is test (Character d) = false
 text_is test (Symlink text) = test (length text)
-text_is test (Other type) = false
+text_is test type = false
 
 abbrev pub new_of : CreateType → New
-new_of (Block d) = Directory
-new_of (Character d) = Directory
 new_of (Symlink text) = Link text
-new_of (Other type) = Directory
+new_of type = Directory
 
 -- what its mode is where none is given: rwxr-xr-x for a directory, rwxrwxrwx for a link (profile)
 abbrev pub plain_mode : New → ℕ
@@ -69,22 +64,14 @@ place_checks x c d =
 unfoldable pub wanted_of : Attributes → Result Wanted AttrFault
 wanted_of a = read_attrs (mask_of a.attrmask) a.attr_vals
 
-abbrev pub making : Node → Result Wanted AttrFault → Result Making Status
-making d (Err fault) = Err (fault_status fault)
-making d (Ok wanted) = Ok (record { place = d; wanted = wanted })
-
-abbrev pub with_wanted : Result Node Status → Result Wanted AttrFault → Result Making Status
-with_wanted (Err status) wanted = Err status
-with_wanted (Ok d) wanted = making d wanted
+abbrev pub attributes_in : Attributes → Result Wanted Status
+attributes_in a = with_status fault_status (wanted_of a)
 
 -- .. then whether the caller may set them ..
 abbrev pub new_checks : Context → Making → List (Bool × Status)
 new_checks x m = make_checks m.wanted x.who ++ (is_some m.wanted.size, Inval) ∷ []
 
--- .. then whether there is a place for the object.
-abbrev pub can_create : Files → ℕ → Bool
-can_create t d = can_change t d && (nat_lt t.last_object last_count && nat_lt t.last_cookie last_count)
-
+-- .. then what is there, and whether there is a place for the object, as the tree does.
 abbrev pub row_checks : State → Create → Making → List (Bool × Status)
 row_checks s c m = by_tree (create_checks s.tree m.place.number c.objname (new_of c.objtype))
 
@@ -114,7 +101,10 @@ created s x now c m = record {
 }
 
 abbrev pub asked_for : State → Context → Create → Result Making Status
-asked_for s x c = checked (with_wanted (checked (current s x) (place_checks x c)) (wanted_of c.createattrs)) (new_checks x)
+asked_for s x c = do
+  d ← checked (current s x) (place_checks x c)
+  wanted ← attributes_in c.createattrs
+  checked (Ok (record { place = d; wanted = wanted })) (new_checks x)
 
 unfoldable pub create : State → Context → Time → Create → Outcome
 create s x now c = answers s x Op.Create (checked (asked_for s x c) (row_checks s c)) (created s x now c)

@@ -7,8 +7,7 @@ use Rattle.nfs_results.specs.Result.{ResNVerify}
 use Rattle.nfs_names.specs.declared.context.Context.{Context}
 use Rattle.nfs_names.specs.State.{State}
 use Rattle.nfs_names.specs.Outcome.{Outcome, done, checked, answers}
-use Rattle.nfs_names.specs.Checks.{current}
 use Rattle.nfs_names.specs.Verify.{compared}
 
 unfoldable pub nverify : State → Context → Attributes → Outcome
-nverify s x a = answers s x Op.NVerify (checked (compared s a (current s x)) (λ equal. (equal, Same) ∷ [])) (λ equal. done s x ResNVerify)
+nverify s x a = answers s x Op.NVerify (checked (compared s x a) (λ equal. (equal, Same) ∷ [])) (λ equal. done s x ResNVerify)

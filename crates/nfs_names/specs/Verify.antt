@@ -1,5 +1,5 @@
 -- VERIFY (RFC 8881 section 18.31): whether the attributes are those that are given, byte for byte as the server writes them (profile).
-use Rattle.std.specs.Prelude.{Bool, not, [], ◌∷◌, Result, Ok, Err}
+use Rattle.std.specs.Prelude.{Bool, not, [], ◌∷◌, Result}
 use Rattle.nfs_xdr.specs.declared.status.Status.{Status}
 use Rattle.nfs_xdr.specs.declared.status.Status.TheVariants.{NotSame}
 use Rattle.nfs_compound.specs.declared.op_num.OpNum.TheVariants as Op
@@ -12,7 +12,7 @@ use Rattle.nfs_attrs.specs.Reading.{fault_status}
 use Rattle.nfs_names.specs.declared.context.Context.{Context}
 use Rattle.nfs_names.specs.declared.node.Node.{Node}
 use Rattle.nfs_names.specs.State.{State}
-use Rattle.nfs_names.specs.Outcome.{Outcome, done, checked, answers}
+use Rattle.nfs_names.specs.Outcome.{Outcome, ◌>>=◌, with_status, done, checked, answers}
 use Rattle.nfs_names.specs.Checks.{current}
 use Rattle.nfs_names.specs.Attributes.{about}
 
@@ -20,13 +20,8 @@ use Rattle.nfs_names.specs.Attributes.{about}
 unfoldable pub same_at : State → Attributes → Node → Result Bool AttrFault
 same_at s a d = same (mask_of a.attrmask) a.attr_vals (about s d) d.object
 
-abbrev pub or_status : Result Bool AttrFault → Result Bool Status
-or_status (Err fault) = Err (fault_status fault)
-or_status (Ok equal) = Ok equal
-
-abbrev pub compared : State → Attributes → Result Node Status → Result Bool Status
-compared s a (Err status) = Err status
-compared s a (Ok d) = or_status (same_at s a d)
+abbrev pub compared : State → Context → Attributes → Result Bool Status
+compared s x a = current s x >>= λ d. with_status fault_status (same_at s a d)
 
 unfoldable pub verify : State → Context → Attributes → Outcome
-verify s x a = answers s x Op.Verify (checked (compared s a (current s x)) (λ equal. (not equal, NotSame) ∷ [])) (λ equal. done s x ResVerify)
+verify s x a = answers s x Op.Verify (checked (compared s x a) (λ equal. (not equal, NotSame) ∷ [])) (λ equal. done s x ResVerify)

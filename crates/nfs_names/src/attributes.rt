@@ -87,7 +87,7 @@ fn judge_mask(store: &Store, context: &Context<'_>, mask: &Bitmap<'_>) -> Result
 
 /// Whether the attributes of the current object are those that are given.
 fn compare(store: &Store, context: &Context<'_>, given: &Attributes<'_>) -> Result<bool, Status>
-    ensures { result ≡ of_verify.compared (state_of store.now) (view_attributes given.now) (check.current (state_of store.now) context.now) }
+    ensures { result ≡ of_verify.compared (state_of store.now) context.now (view_attributes given.now) }
 {
     let d = current(store, context)?;
     match same_at(store, &d, given) {

@@ -1,22 +1,22 @@
 use Rattle.std.proofs.Common.{◌≡◌, sym, ap, ◌∙◌}
-use Rattle.nfs_xdr.specs.Checks.{first_fault, judged}
+use Rattle.nfs_xdr.specs.Checks.{judged}
 use Rattle.nfs_compound.specs.OpenArgs.{view_open}
 use Rattle.nfs_opens.specs.Opening.{open_fault}
 use Rattle.nfs_names.specs.State.{state_of}
 use Rattle.nfs_files.specs.Open.{asking}
-use Rattle.nfs_files.proofs.Opened.{shared_checks, shared_fault, room_decides, denied_decides, spent_decides}
+use Rattle.nfs_files.specs.OpenParts.{number_of}
+use Rattle.nfs_files.proofs.Opened.{room_decides, denied_decides, spent_decides}
 use Rattle.nfs_files.proofs.entering.judge_last.Goals as goal
 use Rattle.nfs_files.proofs.entering.judge_last.Goals.{After-judge_open}
 
 -- what the opens judge is what an open asks of them
 shared : (c : After-judge_open) → c.judge_open.result
-    ≡ judged (first_fault (shared_checks (state_of c.args.store.now) c.args.context.now (view_open c.args.asked.now) c.args.found.now))
+    ≡ judged (open_fault (state_of c.args.store.now).opens (asking c.args.context.now (view_open c.args.asked.now) (number_of c.args.found.now)))
 shared c =
     let s = state_of c.args.store.now in
     let x = c.args.context.now in
     let o = view_open c.args.asked.now in
     c.judge_open.ensures ∙ ap (λ a. judged (open_fault s.opens a)) (c.ask_for-ask.ensures ∙ ap (asking x o) c.number_of.ensures)
-    ∙ ap judged (shared_fault s x o c.args.found.now c.kept.ensures c.requires)
 
 pub returns-in-Ok : goal.returns-in-Ok
 returns-in-Ok c =

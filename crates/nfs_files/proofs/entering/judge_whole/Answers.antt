@@ -1,8 +1,12 @@
-use Rattle.std.proofs.Common.{sym, ◌∙◌}
+use Rattle.std.proofs.Common.{◌≡◌, None, sym, ap, ◌∙◌}
+use Rattle.std.specs.Prelude.{Ok}
 use Rattle.nfs_compound.specs.OpenArgs.{view_open}
 use Rattle.nfs_names.specs.State.{state_of}
-use Rattle.nfs_names.proofs.Found.{judged_err, stopped}
+use Rattle.nfs_xdr.specs.Checks.{first_fault}
+use Rattle.nfs_names.specs.Outcome.{passed, checked}
+use Rattle.nfs_names.proofs.Found.{judged_err, judged_ok, stopped}
 use Rattle.nfs_files.specs.Open.{asked_for, last_checks}
+use Rattle.nfs_files.proofs.Granted.{last_same}
 use Rattle.nfs_files.proofs.entering.judge_whole.Goals as goal
 
 pub returns-in-Err : goal.returns-in-Err
@@ -10,5 +14,17 @@ returns-in-Err c =
     let s = state_of c.args.store.now in
     let x = c.args.context.now in
     let o = view_open c.args.asked.now in
-    sym (stopped (asked_for s x o) (last_checks s x o) c.in_ok-found.found c.in-Err.status
-    (sym c.judge.ensures ∙ c.in_ok-found.was) (judged_err _ _ (sym c.judge_last.ensures ∙ c.in-Err.is)))
+    let found : asked_for s x o ≡ Ok c.in_ok-found.found = sym c.judge.ensures ∙ c.in_ok-found.was in
+    sym (stopped (asked_for s x o) (last_checks s x o) c.in_ok-found.found c.in-Err.status found
+    (last_same s x o c.in_ok-found.found c.kept.ensures c.requires found ∙ judged_err _ _ (sym c.judge_last.ensures ∙ c.in-Err.is)))
+
+pub returns-in-Ok : goal.returns-in-Ok
+returns-in-Ok c =
+    let s = state_of c.args.store.now in
+    let x = c.args.context.now in
+    let o = view_open c.args.asked.now in
+    let f = c.in_ok-found.found in
+    let found : asked_for s x o ≡ Ok f = sym c.judge.ensures ∙ c.in_ok-found.was in
+    let none : first_fault (last_checks s x o f) ≡ None =
+    last_same s x o f c.kept.ensures c.requires found ∙ judged_ok _ _ (sym c.judge_last.ensures ∙ c.in-Ok.is) in
+    sym (ap (λ v. checked v (last_checks s x o)) found ∙ ap (passed f) none)

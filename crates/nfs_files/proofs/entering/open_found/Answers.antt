@@ -11,8 +11,8 @@ use Rattle.nfs_names.proofs.Faulted.{done_by_tree, refused_tree}
 use Rattle.nfs_files.specs.Open.{asking, asked_for, last_checks, file_of, tree_of}
 use Rattle.nfs_files.specs.OpenParts.{tree_fault}
 use Rattle.nfs_names.specs.Faults.{status_of}
-use Rattle.nfs_files.proofs.Granted.{tree_free}
-use Rattle.nfs_files.proofs.Opened.{opened_fault, shared_free}
+use Rattle.nfs_files.proofs.Granted.{may_change, tree_free}
+use Rattle.nfs_files.proofs.Opened.{shared_free}
 use Rattle.nfs_files.proofs.entering.open_found.Goals as goal
 
 -- the checks passed, so memory alone was refused
@@ -33,6 +33,14 @@ returns-in-Err c =
     let with_parts : Files → Kept → State = λ t k. record { tree = t; opens = table k; instance = s.instance; lease = s.lease } in
     (c.status_of.ensures ∙ ap status_of memory, ap (λ t. with_parts t c.reserve.new.self) did.0 ∙ ap (with_parts t) c.in-Ok.ensures.ok, refl)
 
+pub info_of-cinfo-requires : goal.info_of-cinfo-requires
+info_of-cinfo-requires c =
+    let s = state_of c.args.store.now in
+    let x = c.args.context.now in
+    let o = view_open c.args.asked.now in
+    let found = c.args.found.now in
+    may_change s x o found (checked_ok (asked_for s x o) (last_checks s x o) found c.requires.granted).1
+
 pub open-requires-clause-judged : goal.open-requires-clause-judged
 open-requires-clause-judged c =
     let s = state_of c.args.store.now in
@@ -45,4 +53,4 @@ open-requires-clause-judged c =
     (tree_of t x c.args.now o found) c.enter.new.tree c.in-Ok-enter.ensures in
     ap (λ (k : Kept). open_fault (table k) (of_opens.asked c.ask_for.result)) c.in-Ok.ensures.ok
     ∙ ap (open_fault s.opens) (c.ask_for.ensures ∙ ap (asking x o) did.1)
-    ∙ opened_fault s x o found c.kept.ensures c.requires.store ∙ shared_free s x o found granted.1
+    ∙ shared_free s x o found granted.1

@@ -1,15 +1,16 @@
-use Rattle.std.proofs.Common.{◌≡◌, ◌∷◌, [], Some, sym, ap, ◌∙◌}
+use Rattle.std.proofs.Common.{◌≡◌, ◌∷◌, [], Some, refl, sym, ap, ◌∙◌}
 use Rattle.std.specs.Prelude.{Ok, Err, is_some}
 use Rattle.std.proofs.lemmas.Result.{err_from_is_err_and}
 use Rattle.nfs_xdr.specs.Checks.{first_fault, judged}
 use Rattle.nfs_xdr.specs.declared.status.Status.TheVariants.{Inval}
 use Rattle.nfs_compound.specs.NameArgs.{view_create}
 use Rattle.nfs_attrs.specs.Setting.{make_checks}
+use Rattle.nfs_attrs.specs.Reading.{fault_status}
+use Rattle.nfs_attrs.specs.declared.wanted.Wanted.{Wanted}
 use Rattle.nfs_names.specs.declared.making.Making.{Making}
 use Rattle.nfs_names.specs.State.{state_of}
-use Rattle.nfs_names.specs.Outcome.{checked}
-use Rattle.nfs_names.specs.Checks.{current}
-use Rattle.nfs_names.specs.Create.{place_checks, wanted_of, making, with_wanted, new_checks}
+use Rattle.nfs_names.specs.Outcome.{◌>>=◌, with_status, checked}
+use Rattle.nfs_names.specs.Create.{attributes_in, new_checks, asked_for}
 use Rattle.nfs_names.proofs.Found.{judged_err, stopped, append_fault}
 use Rattle.nfs_names.proofs.making.judge_making.Goals as goal
 
@@ -23,10 +24,12 @@ returns-in_err-may_make c =
     let m : Making = record { place = d; wanted = w } in
     let f = c.in_err-may_make.field-0.0 in
     let r = err_from_is_err_and c.from_residual-in_err-may_make.result c.from_residual-in_err-may_make.ensures.1 in
-    let v = with_wanted (checked (current s x) (place_checks x a)) (wanted_of a.createattrs) in
-    let is : v ≡ Ok m = ap (λ v. with_wanted v (wanted_of a.createattrs)) (sym c.judge_place.ensures ∙ c.in_ok-place.was)
-    ∙ ap (making d) (sym c.wanted_of.ensures ∙ c.in-Ok.is) in
     let barred : first_fault (make_checks w x.who) ≡ Some f =
     judged_err _ _ (ap (λ who. judged (first_fault (make_checks w who))) (sym c.who.ensures) ∙ sym c.may_make.ensures ∙ c.in_err-may_make.was) in
     let all : first_fault (new_checks x m) ≡ Some f = append_fault (make_checks w x.who) ((is_some w.size, Inval) ∷ []) f barred in
-    r.1 ∙ ap Err r.2 ∙ sym (stopped v (new_checks x) m f is all)
+    let judged : Wanted → Making = λ w. record { place = d; wanted = w } in
+    let last : checked (Ok m) (new_checks x) ≡ Err f = stopped (Ok m) (new_checks x) m f refl all in
+    let read = ap (λ v. with_status fault_status v >>= λ w. checked (Ok (judged w)) (new_checks x)) (sym c.wanted_of.ensures ∙ c.in-Ok.is) in
+    let placed : asked_for s x a ≡ Err f = ap (λ v. v >>= λ d. attributes_in a.createattrs >>= λ w. checked (Ok (record { place = d; wanted = w })) (new_checks x))
+    (sym c.judge_place.ensures ∙ c.in_ok-place.was) ∙ read ∙ last in
+    r.1 ∙ ap Err r.2 ∙ sym placed
