@@ -7,16 +7,18 @@ use Rattle.std.proofs.lemmas.List.{nil_from_length}
 use Rattle.nfs_xdr.specs.Reading.{◌>>=◌, number_at, fixed_at}
 use Rattle.nfs_xdr.specs.Codec.{IsCodec, IsBytes}
 use Rattle.nfs_xdr.proofs.CodecLaws.{bind_some, test_some, is_number}
+use Rattle.nfs_xdr.proofs.WordLaws.{listed_number}
 use Rattle.nfs_xdr.specs.declared.status.Status.TheVariants.{BadXdr}
 use Rattle.nfs_compound.specs.declared.op_num.OpNum.{OpNum}
 use Rattle.nfs_compound.specs.declared.op_num.OpNum.TheVariants as Ops
-use Rattle.nfs_compound.specs.OpNum.{op_num}
+use Rattle.nfs_compound.specs.OpNum.{op_number, op_nums, op_num}
 use Rattle.nfs_compound.specs.Operation.{Op, Item, Operation, Fault}
 use Rattle.nfs_compound.specs.SessionArgs.{protected}
 use Rattle.nfs_compound.specs.Arguments.{op_codec, op_at, flaw, fault_of, fault_at}
 use Rattle.nfs_compound.specs.Wire.{Text, uint32, protected4, nfs_argop4}
 use Rattle.nfs_compound.specs.Request.{Lacks, Answers, Unserved, Unreadable, Unsupported, Illegal, IsFault, Lists, Spoils}
 use Rattle.nfs_compound.specs.ReadRequest.{op_or_fault, in_front, item_at, items_at}
+use Rattle.nfs_compound.proofs.OpNumLaws.{is_op_listing}
 use Rattle.nfs_compound.proofs.WireLaws.{read_as, is_protected_text, is_op_text}
 
 pub none≢some : {A : Type 0} (x : A) → None ≡ Some x → ⊥
@@ -37,6 +39,17 @@ pub lacks_again : {A : Type 0} (text : A → Text) (read : List ℕ → Option (
 lacks_again text read bytes is fits lacks = none_of (read bytes)
     (λ x e. let t = is.takes bytes x.0 x.1 fits e in lacks (record { value = x.0; rest = x.1; stands = t.0; fits = t.2 }))
 
+-- An operation has a number of its own.
+
+named : (n : ℕ) (op : OpNum) → n ≡ op_number op → op_num n ≡ Some op
+named n op is = ap op_num is ∙ is_op_listing.found op
+
+unnamed : (n : ℕ) → ((op : OpNum) → n ≢ op_number op) → op_num n ≡ None
+unnamed n never = none_of (op_num n) (λ op e. never op (listed_number op_number op_nums n op e))
+
+names_none : (n : ℕ) → op_num n ≡ None → (op : OpNum) → n ≢ op_number op
+names_none n none op is = none≢some op (sym none ∙ named n op is)
+
 -- The fault of a number.
 
 other_flaw : (op : OpNum) (bytes : List ℕ) → (op ≡ Ops.ExchangeId → protected.read bytes ≡ None) → flaw op bytes ≡ BadXdr
@@ -51,11 +64,11 @@ out_of_range n (inr high) = and_right (leb 3 n) _ (lt-leb n 58 high)
 pub answer_is : (n : ℕ) (behind : List ℕ) (fault : Item) → IsBytes behind → Answers n behind fault → fault ≡ fault_at n behind
 unfolding fault_at
 answer_is n behind fault fits (Unserved at begins e) =
-    rw (e, at, ap protected.read begins.stands ∙ is_protected_text.again begins.value begins.rest begins.fits) refl
+    rw (e, named n Ops.ExchangeId at, ap protected.read begins.stands ∙ is_protected_text.again begins.value begins.rest begins.fits) refl
 answer_is n behind fault fits (Unreadable op at lacks e) =
-    rw (e, at, other_flaw op behind (λ same. lacks_again protected4 protected.read behind is_protected_text fits (lacks same))) refl
-answer_is n behind fault fits (Unsupported at low high e) = rw (e, at, le-leb 3 n low, le-leb n 58 high) refl
-answer_is n behind fault fits (Illegal at out e) = rw (e, at, out_of_range n out) refl
+    rw (e, named n op at, other_flaw op behind (λ same. lacks_again protected4 protected.read behind is_protected_text fits (lacks same))) refl
+answer_is n behind fault fits (Unsupported at low high e) = rw (e, unnamed n at, le-leb 3 n low, le-leb n 58 high) refl
+answer_is n behind fault fits (Illegal at out e) = rw (e, unnamed n at, out_of_range n out) refl
 
 nothing_protected : protected.read [] ≡ None
 unfolding protected fixed_at
@@ -65,12 +78,12 @@ nothing_protected = refl
 pub some_answer : (n : ℕ) (behind : List ℕ) (fault : Item) → Answers n behind fault → (other : List ℕ) × (fault ≡ fault_at n other)
 unfolding fault_at
 some_answer n behind fault (Unserved at begins e) =
-    (behind, rw (e, at, ap protected.read begins.stands ∙ is_protected_text.again begins.value begins.rest begins.fits) refl)
-some_answer n behind fault (Unreadable op at lacks e) = ([], rw (e, at, other_flaw op [] (λ same. nothing_protected)) refl)
-some_answer n behind fault (Unsupported at low high e) = ([], rw (e, at, le-leb 3 n low, le-leb n 58 high) refl)
-some_answer n behind fault (Illegal at out e) = ([], rw (e, at, out_of_range n out) refl)
+    (behind, rw (e, named n Ops.ExchangeId at, ap protected.read begins.stands ∙ is_protected_text.again begins.value begins.rest begins.fits) refl)
+some_answer n behind fault (Unreadable op at lacks e) = ([], rw (e, named n op at, other_flaw op [] (λ same. nothing_protected)) refl)
+some_answer n behind fault (Unsupported at low high e) = ([], rw (e, unnamed n at, le-leb 3 n low, le-leb n 58 high) refl)
+some_answer n behind fault (Illegal at out e) = ([], rw (e, unnamed n at, out_of_range n out) refl)
 
-flaw_answers : (op : OpNum) (n : ℕ) (behind : List ℕ) (r : Option (_ × List ℕ)) → IsBytes behind → op_num n ≡ Some op → protected.read behind ≡ r
+flaw_answers : (op : OpNum) (n : ℕ) (behind : List ℕ) (r : Option (_ × List ℕ)) → IsBytes behind → n ≡ op_number op → protected.read behind ≡ r
     → Answers n behind (Fault n (flaw op behind))
 flaw_answers Ops.ExchangeId n behind (Some x) fits at e =
     let t = is_protected_text.takes behind x.0 x.1 fits e in
@@ -80,13 +93,13 @@ flaw_answers Ops.ExchangeId n behind None fits at e =
 flaw_answers op n behind r fits at e = Unreadable op at (λ same. absurd cc) refl
 
 answers_by : (o : Option OpNum) (n : ℕ) (behind : List ℕ) → IsBytes behind → op_num n ≡ o → Answers n behind (fault_of o n behind)
-answers_by (Some op) n behind fits at = flaw_answers op n behind (protected.read behind) fits at refl
+answers_by (Some op) n behind fits at = flaw_answers op n behind (protected.read behind) fits (listed_number op_number op_nums n op at) refl
 answers_by None n behind fits at = elim (cases_Bool (leb 3 n && leb n 58)) [
   | inl inside ↦ (
       let parts = and_parts (leb 3 n) (leb n 58) inside in
-      Unsupported at (leb-true 3 n parts.0) (leb-true n 58 parts.1) (rw inside refl)
+      Unsupported (names_none n at) (leb-true 3 n parts.0) (leb-true n 58 parts.1) (rw inside refl)
       )
-  | inr outside ↦ Illegal at (outside_of n outside) (rw outside refl)
+  | inr outside ↦ Illegal (names_none n at) (outside_of n outside) (rw outside refl)
 ]
   where
     outside_of : (n : ℕ) → (leb 3 n && leb n 58) ≡ false → (n < 3) ⊎ (58 < n)

@@ -39,15 +39,15 @@ pub record Spells {A : Type 0} (c : Codec A) (text : A → Text) : Type 0 where
 
 -- Arrays.
 
-all_same : {A : Type 0} (f g : A → List ℕ) → ((x : A) → f x ≡ g x) → (xs : List A) → flat_map f xs ≡ flat_map g xs
+pub all_same : {A : Type 0} (f g : A → List ℕ) → ((x : A) → f x ≡ g x) → (xs : List A) → flat_map f xs ≡ flat_map g xs
 all_same f g each [] = refl
 all_same f g each (x ∷ xs) = rw (each x, all_same f g each xs) refl
 
-all_fit : {A : Type 0} (P Q : A → Type 0) → ((x : A) → P x → Q x) → (xs : List A) → AllByRecursion P xs → AllByRecursion Q xs
+pub all_fit : {A : Type 0} (P Q : A → Type 0) → ((x : A) → P x → Q x) → (xs : List A) → AllByRecursion P xs → AllByRecursion Q xs
 all_fit P Q each [] all = tt
 all_fit P Q each (x ∷ xs) all = (each x all.0, all_fit P Q each xs all.1)
 
-arrays : {A : Type 0} (c : Codec A) (text : A → Text) → Spells c text → Spells (codec.array c) (array 4294967295 text)
+pub arrays : {A : Type 0} (c : Codec A) (text : A → Text) → Spells c text → Spells (codec.array c) (array 4294967295 text)
 arrays c text is = record {
   same = λ xs. rw (all_same c.spell (λ x. (text x).bytes) is.same xs) refl;
   to = λ xs fits. (omega (arith, fits.0), all_fit c.Fits (λ x. (text x).Fits) is.to xs fits.1);
@@ -69,7 +69,7 @@ optionals c text is = record { same = same; to = to; from = from }
     from None fits = tt
     from (Some x) fits = is.from x fits.1
 
-numbers : Spells codec.number uint32
+pub numbers : Spells codec.number uint32
 numbers = record { same = λ x. refl; to = λ x fits. fits; from = λ x fits. fits }
 
 -- Structs and unions.
@@ -86,11 +86,11 @@ attrs = record {
   from = λ a (mask, values). (refl, (masks.from a.attrmask mask, values));
 }
 
-owners : Spells state_owner state_owner4
+pub owners : Spells state_owner state_owner4
 unfolding state_owner
 owners = record { same = λ o. refl; to = λ o (e, fits). fits; from = λ o fits. (refl, fits) }
 
-ids : Spells stateid stateid4
+pub ids : Spells stateid stateid4
 unfolding stateid
 ids = record { same = λ s. refl; to = λ s (e, fits). fits; from = λ s fits. (refl, fits) }
 
@@ -221,7 +221,7 @@ made = optionals impl_id nfs_impl_id4 impls
 irds : Spells (codec.optional codec.number) (optional uint32)
 irds = optionals codec.number uint32 numbers
 
-channels : Spells channel_attrs channel_attrs4
+pub channels : Spells channel_attrs channel_attrs4
 unfolding channel_attrs
 channels = record {
   same = λ a. rw (irds.same a.rdma_ird) refl;

@@ -1,11 +1,11 @@
 -- The arguments of a compound (RFC 8881 section 16.2): which bytes are a request, and which are garbage.
-use Rattle.std.specs.Prelude.{◌≡◌, ◌≢◌, ℕ, zero, suc, ◌<◌, ◌≤◌, ◌^◌, ◌⊎◌, List, [], ◌∷◌, ◌++◌, Some, None}
+use Rattle.std.specs.Prelude.{◌≡◌, ◌≢◌, ℕ, zero, suc, ◌<◌, ◌≤◌, ◌^◌, ◌⊎◌, List, [], ◌∷◌, ◌++◌}
 use Rattle.nfs_xdr.specs.Spelling as spelling
 use Rattle.nfs_xdr.specs.Limits.{opaque_limit}
 use Rattle.nfs_xdr.specs.declared.status.Status.TheVariants.{Inval, NotSupp, BadXdr, OpIllegal}
 use Rattle.nfs_compound.specs.declared.op_num.OpNum.{OpNum}
 use Rattle.nfs_compound.specs.declared.op_num.OpNum.TheVariants.{ExchangeId}
-use Rattle.nfs_compound.specs.OpNum.{op_num, first_op, last_op, op_illegal}
+use Rattle.nfs_compound.specs.OpNum.{op_number, first_op, last_op, op_illegal}
 use Rattle.nfs_compound.specs.Operation.{Op, Item, Operation, Fault}
 use Rattle.nfs_compound.specs.Wire.{Text, uint32, opaque, protected4, nfs_argop4}
 
@@ -38,10 +38,10 @@ pub record IsHead (bytes tag : List ℕ) (minor declared : ℕ) (body : List ℕ
 -- The number and the status of the fault where a number stands and no operation that is supported, by what is behind the number: EXCHANGE_ID may want a
 -- state protection that is not served, RFC 8881 has the numbers first_op to last_op, and any other is answered under that of OP_ILLEGAL.
 pub data Answers (number : ℕ) (behind : List ℕ) (fault : Item) : Type 0 where
-  Unserved : op_num number ≡ Some ExchangeId → Begins protected4 behind → fault ≡ Fault number Inval → Answers number behind fault
-  Unreadable : (op : OpNum) → op_num number ≡ Some op → (op ≡ ExchangeId → Lacks protected4 behind) → fault ≡ Fault number BadXdr → Answers number behind fault
-  Unsupported : op_num number ≡ None → first_op ≤ number → number ≤ last_op → fault ≡ Fault number NotSupp → Answers number behind fault
-  Illegal : op_num number ≡ None → (number < first_op) ⊎ (last_op < number) → fault ≡ Fault op_illegal OpIllegal → Answers number behind fault
+  Unserved : number ≡ op_number ExchangeId → Begins protected4 behind → fault ≡ Fault number Inval → Answers number behind fault
+  Unreadable : (op : OpNum) → number ≡ op_number op → (op ≡ ExchangeId → Lacks protected4 behind) → fault ≡ Fault number BadXdr → Answers number behind fault
+  Unsupported : ((op : OpNum) → number ≢ op_number op) → first_op ≤ number → number ≤ last_op → fault ≡ Fault number NotSupp → Answers number behind fault
+  Illegal : ((op : OpNum) → number ≢ op_number op) → (number < first_op) ⊎ (last_op < number) → fault ≡ Fault op_illegal OpIllegal → Answers number behind fault
 
 -- A number stands here and no supported operation does, whatever stands behind.
 pub record IsFault (bytes : List ℕ) (fault : Item) : Type 0 where

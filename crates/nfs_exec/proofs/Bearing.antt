@@ -18,7 +18,7 @@ use Rattle.nfs_compound.specs.Operation.{Op, Item, Operation, Fault}
 use Rattle.nfs_compound.specs.Arguments.{arguments, flaw, fault_of, fault_at}
 use Rattle.nfs_compound.specs.Request.{Request, Lists, HasBody}
 use Rattle.nfs_compound.proofs.GrammarLaws.{some_answer}
-use Rattle.nfs_results.specs.Results.{bears, tells, can_refuse, refusal}
+use Rattle.nfs_results.specs.Results.{bears, is_legal, tells, can_refuse, refusal}
 use Rattle.nfs_results.specs.Result.{Res, ResSetAttr, ResDestroySession, ResDestroyClientId, Refused}
 use Rattle.nfs_results.specs.Results.{HasArrays, IsBounded, head, spell_result, status_of_result}
 use Rattle.nfs_results.specs.Largest.{number_of, MayAnswer}
@@ -45,9 +45,9 @@ use Rattle.nfs_compound.specs.View.{item}
 abbrev IsCommon : Status → Type 0
 IsCommon s = (eqb (status_number s) 0 ≡ false) × (eqb (status_number s) 10044 ≡ false) × (eqb (status_number s) 10010 ≡ false)
 
-common_bears : (n : ℕ) (s : Status) → 3 ≤ n → n ≤ 58 → IsCommon s → IsTrue (eqb n 34 || can_refuse n s)
+common_bears : (n : ℕ) (s : Status) → 3 ≤ n → n ≤ 58 → IsCommon s → IsTrue ((eqb n 34 && is_legal s) || can_refuse n s)
 common_bears n s low high common = elim (cases_Bool (eqb n 34)) [
-  | inl e ↦ rw e refl
+  | inl e ↦ rw (e, common.1) refl
   | inr e ↦ (
       let other : eqb n 10044 ≡ false = ne_eqb n 10044 (λ same. omega (arith, same)) in
       let untold : ((eqb n 12 || eqb n 13) && eqb (status_number s) 10010) ≡ false = and_right (eqb n 12 || eqb n 13) _ common.2 in
@@ -94,7 +94,7 @@ numbered TestStateid = (omega arith, omega arith)
 numbered DestroyClientId = (omega arith, omega arith)
 numbered ReclaimComplete = (omega arith, omega arith)
 
-pub op_bears : (op : Op) (s : Status) → IsCommon s → IsTrue (eqb (number_of op) 34 || can_refuse (number_of op) s)
+pub op_bears : (op : Op) (s : Status) → IsCommon s → IsTrue ((eqb (number_of op) 34 && is_legal s) || can_refuse (number_of op) s)
 op_bears op s common = let in_range = numbered (arguments op).op in common_bears (number_of op) s in_range.0 in_range.1 common
 
 -- the number under which an operation is listed
@@ -107,16 +107,16 @@ number_listed (x ∷ xs) n op e = go (eqb n (op_number x)) refl e (λ there. num
     go true at here further = let same : x ≡ op = cc in eqb-true n (op_number x) at ∙ ap op_number same
     go false at there further = further there
 
-flaw_bears : (op : OpNum) (bytes : List ℕ) → IsTrue (eqb (op_number op) 34 || can_refuse (op_number op) (flaw op bytes))
+flaw_bears : (op : OpNum) (bytes : List ℕ) → IsTrue ((eqb (op_number op) 34 && is_legal (flaw op bytes)) || can_refuse (op_number op) (flaw op bytes))
 flaw_bears ExchangeId bytes = protects (is_some (protected.read bytes))
   where
-    protects : (b : Bool) → IsTrue (eqb 42 34 || can_refuse 42 (cond b Inval BadXdr))
+    protects : (b : Bool) → IsTrue ((eqb 42 34 && is_legal (cond b Inval BadXdr)) || can_refuse 42 (cond b Inval BadXdr))
     protects true = refl
     protects false = refl
 flaw_bears op bytes = refl
 
 by_number : (o : Option OpNum) (n : ℕ) (bytes : List ℕ) → op_num n ≡ o → CanBear (fault_of o n bytes)
-by_number (Some op) n bytes e = subst (λ k. IsTrue (eqb k 34 || can_refuse k (flaw op bytes))) (sym (number_listed op_nums n op e)) (flaw_bears op bytes)
+by_number (Some op) n bytes e = subst (λ k. IsTrue ((eqb k 34 && is_legal (flaw op bytes)) || can_refuse k (flaw op bytes))) (sym (number_listed op_nums n op e)) (flaw_bears op bytes)
 by_number None n bytes e = elim (cases_Bool (leb 3 n && leb n 58)) [
   | inl inside ↦ (
       let parts = and_parts (leb 3 n) (leb n 58) inside in
@@ -142,15 +142,23 @@ opened_bears r item more opened one list =
     (subst (λ items. HasBody r.minor r.declared opened.request.body items) list opened.request.items) in
     listed_bears r.declared opened.request.body item more body
 
+-- SETATTR's refusal is no plain one
+legal_of : (legal bears : Bool) → legal || (bears && false) ≡ true → legal ≡ true
+legal_of true bears e = refl
+legal_of false true e = absurd cc
+legal_of false false e = absurd cc
+
 -- a refusal that a reply can bear is bounded and short
-pub refusal_small : (n : ℕ) (s : Status) → IsTrue (eqb n 34 || can_refuse n s) → IsSmall (refusal n s)
+pub refusal_small : (n : ℕ) (s : Status) → IsTrue ((eqb n 34 && is_legal s) || can_refuse n s) → IsSmall (refusal n s)
 refusal_small n s can = elim (cases_Bool (eqb n 34)) [
   | inl e ↦ (
-      let may : MayAnswer (Fault n s) (ResSetAttr s []) = (sym (eqb-true n 34 e), tt, omega arith) in
+      let legal : is_legal s ≡ true = legal_of (is_legal s) (bears n s)
+      (subst (λ b. IsTrue ((b && is_legal s) || (bears n s && not (b || ((eqb n 12 || eqb n 13) && eqb (status_number s) 10010))))) e can) in
+      let may : MayAnswer (Fault n s) (ResSetAttr s []) = (sym (eqb-true n 34 e), legal, omega arith) in
       rw e (may.1, λ arrays. length_result (Fault n s) (ResSetAttr s []) arrays may)
       )
   | inr e ↦ (
-      let plain : IsTrue (can_refuse n s) = subst (λ b. IsTrue (b || can_refuse n s)) e can in
+      let plain : IsTrue (can_refuse n s) = subst (λ b. IsTrue ((b && is_legal s) || can_refuse n s)) e can in
       let may : MayAnswer (Fault n s) (Refused n s) = (refl, plain, tt) in
       rw e (plain, λ arrays. length_result (Fault n s) (Refused n s) arrays may)
       )
@@ -228,13 +236,14 @@ destroy_client_small Busy = op_small (OpDestroyClientId 0) ClientIdBusy (refl, r
 
 -- what an item behind a SEQUENCE is refused with
 
-fault_too_big : (n : ℕ) (s : Status) → IsTrue (eqb n 34 || can_refuse n s) → IsTrue (eqb n 34 || can_refuse n RepTooBig)
+fault_too_big : (n : ℕ) (s : Status) → IsTrue ((eqb n 34 && is_legal s) || can_refuse n s)
+    → IsTrue ((eqb n 34 && is_legal RepTooBig) || can_refuse n RepTooBig)
 fault_too_big n s can = elim (cases_Bool (eqb n 34)) [
   | inl e ↦ rw e refl
   | inr e ↦ elim (cases_Bool (eqb n 10044)) [
     | inl illegal ↦ rw (eqb-true n 10044 illegal) refl
     | inr other ↦ (
-        let plain : IsTrue (can_refuse n s) = subst (λ b. IsTrue (b || can_refuse n s)) e can in
+        let plain : IsTrue (can_refuse n s) = subst (λ b. IsTrue ((b && is_legal s) || can_refuse n s)) e can in
         let parts = and_parts (bears n s) (not (tells n s)) plain in
         let inside = and_parts (leb 3 n && leb n 58) _ (rw other at parts.0) in
         let range = and_parts (leb 3 n) (leb n 58) inside.0 in
@@ -243,14 +252,16 @@ fault_too_big n s can = elim (cases_Bool (eqb n 34)) [
   ]
 ]
 
-pub behind_bears : (i : Item) (big : Bool) → CanBear i → IsTrue (eqb (item_number i) 34 || can_refuse (item_number i) (cond big RepTooBig (status_behind i)))
+pub behind_bears : (i : Item) (big : Bool) → CanBear i
+    → IsTrue ((eqb (item_number i) 34 && is_legal (cond big RepTooBig (status_behind i)))
+    || can_refuse (item_number i) (cond big RepTooBig (status_behind i)))
 behind_bears (Fault n s) true bears = fault_too_big n s bears
 behind_bears (Fault n s) false bears = bears
 behind_bears (Operation op) true bears = op_bears op RepTooBig (refl, refl, refl)
 behind_bears (Operation (OpSequence s)) false bears = op_bears (OpSequence s) SequencePos (refl, refl, refl)
 behind_bears (Operation op) false bears = refl
 
-pub refusal_bounded : (n : ℕ) (s : Status) → IsTrue (eqb n 34 || can_refuse n s) → IsBounded (refusal n s)
+pub refusal_bounded : (n : ℕ) (s : Status) → IsTrue ((eqb n 34 && is_legal s) || can_refuse n s) → IsBounded (refusal n s)
 refusal_bounded n s can = (refusal_small n s can).0
 
 length_no_attrs : length (attr_set.spell []) ≡ 4

@@ -7,7 +7,7 @@ use Rattle.nfs_compound.specs.declared.op_num.OpNum.TheVariants.{SetAttr}
 use Rattle.nfs_compound.specs.OpNum.{op_number}
 use Rattle.nfs_compound.specs.Operation.{Op, OpExchangeId, OpCreateSession, OpDestroySession, OpDestroyClientId, OpSequence, Item, Operation, Fault}
 use Rattle.nfs_results.specs.Result.{Res}
-use Rattle.nfs_results.specs.Results.{can_refuse, IsBounded, HasArrays, spell_result}
+use Rattle.nfs_results.specs.Results.{is_legal, can_refuse, IsBounded, HasArrays, spell_result}
 
 -- the operations that stand alone in a compound outside a session
 abbrev pub stands_alone : Op → Bool
@@ -41,10 +41,10 @@ status_behind (Fault number status) = status
 status_behind (Operation (OpSequence s)) = SequencePos
 status_behind (Operation op) = NotSupp
 
--- a reply can bear the fault: SETATTR's says more, and with any status
+-- a reply can bear the fault: SETATTR's says more, and with any status but OP_ILLEGAL's own
 abbrev pub CanBear : Item → Type 0
 CanBear (Operation op) = Unit {0}
-CanBear (Fault number status) = IsTrue ((number == op_number SetAttr) || can_refuse number status)
+CanBear (Fault number status) = IsTrue ((number == op_number SetAttr && is_legal status) || can_refuse number status)
 
 -- a result that can be put, and is as short as that of an operation that has no largest size of its own
 abbrev pub IsSmall : Res → Type 0

@@ -38,5 +38,5 @@ pub may_set_attr : (s : State) (x : Context) (now : Time) (a : SetAttr) → IsAn
 unfolding set_attr
 may_set_attr s x now a =
     answers_with (IsAnswer (Operation (OpSetAttr a))) s x Num.SetAttr _ _ (refuses_checked (asked_for s x a) (last_checks s) (asked_refuses s x a) (λ m. refl))
-    (λ status h. record { may = (refl, tt, omega arith); arrays = tt })
-    (λ m. record { may = (refl, tt, few_words (mask_of a.obj_attributes.attrmask).words); arrays = tt })
+    (λ status h. record { may = (refl, rw h.legal refl, omega arith); arrays = tt })
+    (λ m. record { may = (refl, refl, few_words (mask_of a.obj_attributes.attrmask).words); arrays = tt })

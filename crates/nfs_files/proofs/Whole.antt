@@ -62,7 +62,7 @@ may_come b s x now (OpOpen a) e = delay_may (true && b) s x Num.Open (open_file 
 may_come b s x now (OpOpenDowngrade a) e = may_downgrade s x a
 may_come b s x now (OpSetAttr a) e =
     delay_may (grows s x (OpSetAttr a) && b) s x Num.SetAttr (set_attr s x now a) (IsAnswer (Operation (OpSetAttr a)))
-    (may_set_attr s x now a) (record { may = (refl, tt, omega arith); arrays = tt })
+    (may_set_attr s x now a) (record { may = (refl, refl, omega arith); arrays = tt })
 may_come b s x now (OpWrite a) e =
     delay_may (has_bytes a.bytes && b) s x Num.Write (write s x now a) (IsAnswer (Operation (OpWrite a)))
     (may_write_bytes s x now a) (record { may = (refl, refl, tt); arrays = tt })

@@ -152,3 +152,7 @@ length_result (Fault number status) r arrays may = omega (arith, length_plain r 
 
 pub length_head_within : (status : Status) (tag : List ℕ) (count : ℕ) → length tag ≤ 1024 → length (spell_compound_head status tag count) ≤ 1036
 length_head_within status tag count short = simp lengths (omega (arith, short))
+
+pub length_compound_head : (status : Status) (tag : List ℕ) (count : ℕ)
+    → length (spell_compound_head status tag count) ≡ 12 + length tag + padding (length tag)
+length_compound_head status tag count = simp lengths (omega arith)

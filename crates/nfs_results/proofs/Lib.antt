@@ -8,3 +8,4 @@ pub mod ResultLaws
 pub mod CompoundLaws
 pub mod ReplyLaws
 pub mod StraightLaws
+pub mod WireLaws

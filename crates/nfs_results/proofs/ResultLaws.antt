@@ -23,12 +23,12 @@ use Rattle.nfs_results.specs.Result.{ResLockTDenied, ResLockU, ResLookup, ResLoo
 use Rattle.nfs_results.specs.Result.{ResPutRootFh, ResRead, ResReadDir, ResReadLink, ResRemove, ResRename, ResRestoreFh, ResSaveFh, ResSetAttr, ResVerify}
 use Rattle.nfs_results.specs.Result.{ResWrite, ResExchangeId, ResCreateSession, ResDestroySession, ResFreeStateid, ResSecinfoNoName, ResSequence}
 use Rattle.nfs_results.specs.Result.{ResTestStateid, ResDestroyClientId, ResReclaimComplete, Refused}
-use Rattle.nfs_results.specs.Results.{bears, tells, can_refuse, head, spell_result, FitsResult, done_at, done_by, refused_at, behind, result}
+use Rattle.nfs_results.specs.Results.{bears, is_legal, tells, can_refuse, head, spell_result, FitsResult, done_at, done_by, refused_at, read_behind, result}
 use Rattle.nfs_results.proofs.ItemLaws.{is_attr_set, is_fattr, is_change_info, is_access, is_create, is_denied, is_open_ok, is_read_ok, is_read_dir, is_rename}
 use Rattle.nfs_results.proofs.ItemLaws.{is_write_ok, is_exchange_id, is_create_session, is_flavors, is_sequence, is_status_codes}
 
 -- a status is known by its number
-same_status : (s t : Status) → status_number s ≡ status_number t → s ≡ t
+pub same_status : (s t : Status) → status_number s ≡ status_number t → s ≡ t
 same_status s t e = same_Some s t (sym (is_status_listing.found s) ∙ ap status_of e ∙ is_status_listing.found t)
 
 abbrev Taken : List ℕ → Res → List ℕ → Type 0
@@ -82,7 +82,7 @@ all_done Op.Remove = is_told Op.Remove ResRemove item.change_info is_change_info
 all_done Op.Rename = is_told Op.Rename ResRename item.rename is_rename (λ _. refl) (λ _. refl) (λ _ fits. fits)
 all_done Op.RestoreFh = is_alone Op.RestoreFh ResRestoreFh (λ _. refl) refl tt
 all_done Op.SaveFh = is_alone Op.SaveFh ResSaveFh (λ _. refl) refl tt
-all_done Op.SetAttr = is_told Op.SetAttr (ResSetAttr Nfs4Ok) item.attr_set is_attr_set (λ _. refl) (λ _. refl) (λ _ fits. fits)
+all_done Op.SetAttr = is_told Op.SetAttr (ResSetAttr Nfs4Ok) item.attr_set is_attr_set (λ _. refl) (λ _. refl) (λ _ fits. (fits, refl))
 all_done Op.Verify = is_alone Op.Verify ResVerify (λ _. refl) refl tt
 all_done Op.Write = is_told Op.Write ResWrite item.write_ok is_write_ok (λ _. refl) (λ _. refl) (λ _ fits. fits)
 all_done Op.ExchangeId = is_told Op.ExchangeId ResExchangeId item.exchange_id is_exchange_id (λ _. refl) (λ _. refl) (λ _ fits. fits)
@@ -108,11 +108,12 @@ refused_takes : (operation : ℕ) (s : Status) (left : List ℕ) (y : Res) (rest
     → refused_at operation s left ≡ Some (y, rest) → Taken (head operation s ++ left) y rest
 unfolding refused_at
 refused_takes operation s left y rest f e =
-    elim (chosen (eqb operation 34) (arm (ResSetAttr s) item.attr_set left) _ (Some (y, rest)) e) [
+    elim (chosen (eqb operation 34 && is_legal s) (arm (ResSetAttr s) item.attr_set left) _ (Some (y, rest)) e) [
       | inl q ↦
+          let is = and_parts (eqb operation 34) (is_legal s) q.0 in
           let t = arm_takes item.attr_set result (ResSetAttr s) (head 34 s) is_attr_set
-          (λ _. refl) (λ _ fits. fits) (head 34 s ++ left) left y rest refl f q.1 in
-          (ap (λ (k : ℕ). head k s ++ left) (eqb-true operation 34 q.0) ∙ t.0, t.1, t.2)
+          (λ _. refl) (λ _ fits. (fits, is.1)) (head 34 s ++ left) left y rest refl f q.1 in
+          (ap (λ (k : ℕ). head k s ++ left) (eqb-true operation 34 is.0) ∙ t.0, t.1, t.2)
       | inr q ↦
           elim (chosen (eqb operation 12 && eqb (status_number s) 10010) (arm ResLockDenied item.denied left) _ (Some (y, rest)) q.1) [
             | inl r ↦
@@ -140,7 +141,7 @@ refused_takes operation s left y rest f e =
         ∙ ap (λ (t : Status). head k t ++ left) (same_status s Denied (eqb-true (status_number s) 10010 denied))
 
 behind_takes : (operation : ℕ) (s : Status) (left : List ℕ) (y : Res) (rest : List ℕ)
-    → IsBytes left → behind operation s left ≡ Some (y, rest) → Taken (head operation s ++ left) y rest
+    → IsBytes left → read_behind operation s left ≡ Some (y, rest) → Taken (head operation s ++ left) y rest
 behind_takes operation s left y rest f e =
     elim (chosen (eqb (status_number s) 0) (done_by (op_num operation) left) (refused_at operation s left) (Some (y, rest)) e) [
       | inl q ↦
@@ -150,13 +151,13 @@ behind_takes operation s left y rest f e =
     ]
 
 -- what stands behind a head is what is read there
-behind_head : (operation : ℕ) (s : Status) (left : List ℕ) → operation < 2 ^ 32 → result.read (head operation s ++ left) ≡ behind operation s left
+behind_head : (operation : ℕ) (s : Status) (left : List ℕ) → operation < 2 ^ 32 → result.read (head operation s ++ left) ≡ read_behind operation s left
 behind_head operation s left small =
     ap result.read (append_assoc (spelling.number operation) (spelling.number (status_number s)) left)
     ∙ rw (is_number.again operation (spelling.number (status_number s) ++ left) small, is_status.again s left tt) refl
 
 told_again : {A : Type 0} (operation : ℕ) (s : Status) (make : A → Res) (c : Codec A) → IsCodec c → operation < 2 ^ 32
-    → (x : A) (rest : List ℕ) → c.Fits x → ((left : List ℕ) → behind operation s left ≡ arm make c left)
+    → (x : A) (rest : List ℕ) → c.Fits x → ((left : List ℕ) → read_behind operation s left ≡ arm make c left)
     → spell_result (make x) ≡ head operation s ++ c.spell x → result.read (spell_result (make x) ++ rest) ≡ Some (make x, rest)
 told_again operation s make c p small x rest fits reads spells =
     ap (λ (w : List ℕ). result.read (w ++ rest)) spells
@@ -165,22 +166,22 @@ told_again operation s make c p small x rest fits reads spells =
     ∙ reads (c.spell x ++ rest)
     ∙ rw (p.again x rest fits) refl
 
-alone_again : (operation : ℕ) (s : Status) (x : Res) (rest : List ℕ) → operation < 2 ^ 32 → behind operation s rest ≡ Some (x, rest)
+alone_again : (operation : ℕ) (s : Status) (x : Res) (rest : List ℕ) → operation < 2 ^ 32 → read_behind operation s rest ≡ Some (x, rest)
     → spell_result x ≡ head operation s ++ [] → result.read (spell_result x ++ rest) ≡ Some (x, rest)
 alone_again operation s x rest small reads spells =
     ap (λ (w : List ℕ). result.read (w ++ rest)) (spells ∙ append-nil (head operation s)) ∙ behind_head operation s rest small ∙ reads
 
 -- the tests of a refusal with nothing behind it, in their order
-passes : {A : Type 0} (bears set lock test denied : Bool) (x y z w v : A) → bears && not (set || ((lock || test) && denied)) ≡ true
-    → cond set x (cond (lock && denied) y (cond (test && denied) z (cond (bears && not (set || ((lock || test) && denied))) w v))) ≡ w
-passes true true lock test denied x y z w v e = absurd (false≢true e)
-passes true false true test true x y z w v e = absurd (false≢true e)
-passes true false true true false x y z w v e = refl
-passes true false true false false x y z w v e = refl
-passes true false false true true x y z w v e = absurd (false≢true e)
-passes true false false true false x y z w v e = refl
-passes true false false false denied x y z w v e = refl
-passes false set lock test denied x y z w v e = absurd (false≢true e)
+passes : {A : Type 0} (bears set legal lock test denied : Bool) (x y z w v : A) → bears && not (set || ((lock || test) && denied)) ≡ true
+    → cond (set && legal) x (cond (lock && denied) y (cond (test && denied) z (cond (bears && not (set || ((lock || test) && denied))) w v))) ≡ w
+passes true true legal lock test denied x y z w v e = absurd (false≢true e)
+passes true false legal true test true x y z w v e = absurd (false≢true e)
+passes true false legal true true false x y z w v e = refl
+passes true false legal true false false x y z w v e = refl
+passes true false legal false true true x y z w v e = absurd (false≢true e)
+passes true false legal false true false x y z w v e = refl
+passes true false legal false false denied x y z w v e = refl
+passes false set legal lock test denied x y z w v e = absurd (false≢true e)
 
 bears_some : (b : Bool) (operation code : ℕ) → eqb operation 10044 ≡ b
     → cond b (eqb code 10044 || eqb code 10066) (leb 3 operation && leb operation 58 && not (eqb code 0 || eqb code 10044)) ≡ true
@@ -206,15 +207,16 @@ unfolding refused_at
 refused_again operation s rest fits =
     let b = bears_some (eqb operation 10044) operation (status_number s) refl (and_parts (bears operation s) (not (tells operation s)) fits).0 in
     let refuses : refused_at operation s rest ≡ Some (Refused operation s, rest) =
-    passes (bears operation s) (eqb operation 34) (eqb operation 12) (eqb operation 13) (eqb (status_number s) 10010) _ _ _ _ None fits in
+    passes (bears operation s) (eqb operation 34) (is_legal s) (eqb operation 12) (eqb operation 13) (eqb (status_number s) 10010) _ _ _ _ None fits in
     alone_again operation s (Refused operation s) rest b.0
     (ap (λ (ok : Bool). cond ok (done_by (op_num operation) rest) (refused_at operation s rest)) b.1 ∙ refuses) refl
 
--- SETATTR reports what was set with every status
-set_behind : (b : Bool) (s : Status) (left : List ℕ) → eqb (status_number s) 0 ≡ b → behind 34 s left ≡ arm (ResSetAttr s) item.attr_set left
+-- SETATTR reports what was set with every status that it can have
+set_behind : (b : Bool) (s : Status) (left : List ℕ) → eqb (status_number s) 0 ≡ b → is_legal s ≡ true
+    → read_behind 34 s left ≡ arm (ResSetAttr s) item.attr_set left
 unfolding done_at refused_at
-set_behind true s left is = rw (same_status s Nfs4Ok (eqb-true (status_number s) 0 is)) refl
-set_behind false s left is = rw is refl
+set_behind true s left is legal = rw (same_status s Nfs4Ok (eqb-true (status_number s) 0 is)) refl
+set_behind false s left is legal = rw (is, legal) refl
 
 -- one line a result
 result_again : (y : Res) (rest : List ℕ) → FitsResult y → result.read (spell_result y ++ rest) ≡ Some (y, rest)
@@ -246,8 +248,8 @@ result_again (ResRemove x) rest fits = told_again 28 Nfs4Ok ResRemove item.chang
 result_again (ResRename x) rest fits = told_again 29 Nfs4Ok ResRename item.rename is_rename (omega arith) x rest fits (λ _. refl) refl
 result_again ResRestoreFh rest fits = alone_again 31 Nfs4Ok ResRestoreFh rest (omega arith) refl refl
 result_again ResSaveFh rest fits = alone_again 32 Nfs4Ok ResSaveFh rest (omega arith) refl refl
-result_again (ResSetAttr s x) rest fits =
-    told_again 34 s (ResSetAttr s) item.attr_set is_attr_set (omega arith) x rest fits (λ left. set_behind (eqb (status_number s) 0) s left refl) refl
+result_again (ResSetAttr s x) rest (fits, legal) =
+    told_again 34 s (ResSetAttr s) item.attr_set is_attr_set (omega arith) x rest fits (λ left. set_behind (eqb (status_number s) 0) s left refl legal) refl
 result_again ResVerify rest fits = alone_again 37 Nfs4Ok ResVerify rest (omega arith) refl refl
 result_again (ResWrite x) rest fits = told_again 38 Nfs4Ok ResWrite item.write_ok is_write_ok (omega arith) x rest fits (λ _. refl) refl
 result_again (ResExchangeId x) rest fits = told_again 42 Nfs4Ok ResExchangeId item.exchange_id is_exchange_id (omega arith) x rest fits (λ _. refl) refl
@@ -265,8 +267,8 @@ result_again (Refused operation s) rest fits = refused_again operation s rest fi
 pub is_result : IsCodec result
 is_result = record {
   takes = λ bytes y rest fits e.
-      let s = bind_some (number_at bytes) (λ operation. status.read operation.1 >>= λ code. behind operation.0 code.0 code.1) (y, rest) e in
-      let t = bind_some (status.read s.0.1) (λ code. behind s.0.0 code.0 code.1) (y, rest) s.2 in
+      let s = bind_some (number_at bytes) (λ operation. status.read operation.1 >>= λ code. read_behind operation.0 code.0 code.1) (y, rest) e in
+      let t = bind_some (status.read s.0.1) (λ code. read_behind s.0.0 code.0 code.1) (y, rest) s.2 in
       let first = is_number.takes bytes s.0.0 s.0.1 fits s.1 in
       let second = is_status.takes s.0.1 t.0.0 t.0.1 first.1 t.1 in
       let third = behind_takes s.0.0 t.0.0 t.0.1 y rest second.1 t.2 in (

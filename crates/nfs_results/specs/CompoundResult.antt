@@ -7,7 +7,7 @@ use Rattle.nfs_xdr.specs.Codec as codec
 use Rattle.nfs_xdr.specs.Codec.{Codec, ◌then◌, as_type, array}
 use Rattle.nfs_results.specs.Result.{Res}
 use Rattle.nfs_xdr.specs.declared.status.Status.{Status}
-use Rattle.nfs_xdr.specs.Status.{status_number, status}
+use Rattle.nfs_xdr.specs.Status.{status_number, status as any_status}
 use Rattle.nfs_results.specs.Results.{result, spell_result}
 
 pub record CompoundResult : Type 0 where
@@ -25,7 +25,7 @@ spell_compound c = spell_compound_head c.status c.tag (length c.results) ++ flat
 -- the same item by item, and how it is read
 abbrev pub parts : Codec CompoundResult
 parts = as_type (λ (status, (tag, results)). record { status = status; tag = tag; results = results })
-    (λ c. (c.status, (c.tag, c.results))) (status then codec.opaque opaque_limit then array result)
+    (λ c. (c.status, (c.tag, c.results))) (any_status then codec.opaque opaque_limit then array result)
 
 abbrev pub compound_result : Codec CompoundResult
 compound_result = record { spell = spell_compound; Fits = parts.Fits; read = parts.read }

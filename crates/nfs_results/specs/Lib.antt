@@ -8,3 +8,4 @@ pub mod CompoundResult
 pub mod OpenHead
 pub mod ReadReply
 pub mod Largest
+pub mod Wire

@@ -5,7 +5,7 @@ use Rattle.nfs_xdr.specs.Reading.{◌>>=◌, number_at}
 use Rattle.nfs_xdr.specs.Limits.{fhsize, opaque_limit}
 use Rattle.nfs_xdr.specs.declared.status.Status.{Status}
 use Rattle.nfs_xdr.specs.declared.status.Status.TheVariants.{Nfs4Ok, Denied, OpIllegal, RepTooBig}
-use Rattle.nfs_xdr.specs.Status.{status_number, status}
+use Rattle.nfs_xdr.specs.Status.{status_number, status as any_status}
 use Rattle.nfs_xdr.specs.Codec.{Codec, fixed, opaque, unbounded, arm, bare}
 use Rattle.nfs_compound.specs.declared.op_num.OpNum.{OpNum}
 use Rattle.nfs_compound.specs.declared.op_num.OpNum.TheVariants as Op
@@ -36,6 +36,20 @@ with_status op s c x = record { operation = op_number op; status = s; behind = c
 
 abbrev pub done : {A : Type 0} → OpNum → Codec A → A → Parts
 done op c x = with_status op Nfs4Ok c x
+
+-- no operation but OP_ILLEGAL answers its status
+abbrev pub is_legal : Status → Bool
+is_legal s = not (status_number s == status_number OpIllegal)
+
+-- SETATTR says what was set with NFS4_OK and with whatever it is refused with
+abbrev pub reported : Status → List ℕ → Parts
+reported s attrsset = record {
+  operation = op_number Op.SetAttr;
+  status = s;
+  behind = item.attr_set.spell attrsset;
+  Fits = item.attr_set.Fits attrsset × IsTrue (is_legal s);
+  Bound = IsTrue (is_legal s);
+}
 
 abbrev pub alone : OpNum → Parts
 alone op = record { operation = op_number op; status = Nfs4Ok; behind = []; Fits = Unit {0}; Bound = Unit {0} }
@@ -89,7 +103,7 @@ parts (ResRemove c) = done Op.Remove item.change_info c
 parts (ResRename r) = done Op.Rename item.rename r
 parts ResRestoreFh = alone Op.RestoreFh
 parts ResSaveFh = alone Op.SaveFh
-parts (ResSetAttr s attrsset) = with_status Op.SetAttr s item.attr_set attrsset
+parts (ResSetAttr s attrsset) = reported s attrsset
 parts ResVerify = alone Op.Verify
 parts (ResWrite w) = done Op.Write item.write_ok w
 parts (ResExchangeId r) = bounded ((length r.major_id ≤ opaque_limit) × (length r.server_scope ≤ opaque_limit)) (done Op.ExchangeId item.exchange_id r)
@@ -187,18 +201,18 @@ done_by (Some op) bytes = done_at op bytes
 -- .. and what one that was refused has behind its status.
 unfoldable pub refused_at : ℕ → Status → List ℕ → Option (Res × List ℕ)
 refused_at operation s bytes =
-    if operation == op_number Op.SetAttr then arm (ResSetAttr s) item.attr_set bytes
+    if operation == op_number Op.SetAttr && is_legal s then arm (ResSetAttr s) item.attr_set bytes
     else if operation == op_number Op.Lock && status_number s == status_number Denied then arm ResLockDenied item.denied bytes
     else if operation == op_number Op.LockT && status_number s == status_number Denied then arm ResLockTDenied item.denied bytes
     else if can_refuse operation s then Some (Refused operation s, bytes)
     else None
 
-abbrev pub behind : ℕ → Status → List ℕ → Option (Res × List ℕ)
-behind operation s bytes = if status_number s == status_number Nfs4Ok then done_by (op_num operation) bytes else refused_at operation s bytes
+abbrev pub read_behind : ℕ → Status → List ℕ → Option (Res × List ℕ)
+read_behind operation s bytes = if status_number s == status_number Nfs4Ok then done_by (op_num operation) bytes else refused_at operation s bytes
 
 abbrev pub result : Codec Res
 result = record {
   spell = spell_result;
   Fits = FitsResult;
-  read = λ bytes. number_at bytes >>= λ operation. status.read operation.1 >>= λ s. behind operation.0 s.0 s.1;
+  read = λ bytes. number_at bytes >>= λ operation. any_status.read operation.1 >>= λ s. read_behind operation.0 s.0 s.1;
 }

@@ -1,4 +1,5 @@
--- The parts of results whose bytes come straight from where they are kept: what is put in front of them and behind them.
+-- The parts of results whose bytes come straight from where they are kept (RFC 8881 sections 18.7, 18.22, 18.23 and 18.48): what is put in front of
+-- them and behind them.
 use Rattle.std.specs.Prelude.{ℕ, List, ◌++◌, Bool, true, false, replicate}
 use Rattle.nfs_xdr.specs.Spelling.{number, hyper, flag, fixed, opaque, padding}
 use Rattle.nfs_xdr.specs.declared.status.Status.TheVariants.{Nfs4Ok}

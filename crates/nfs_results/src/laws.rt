@@ -3,14 +3,32 @@
 ghost use Rattle.nfs_xdr.specs.Codec.{IsCodec, IsPrefixFree};
 ghost use Rattle.nfs_results.specs.Results as table;
 ghost use Rattle.nfs_results.specs.CompoundResult as whole;
-ghost use Rattle.std.specs.Prelude.{◌≡◌, ◌++◌, ℕ, List, length};
+ghost use Rattle.nfs_results.specs.CompoundResult.{spell_compound_head};
+ghost use Rattle.std.specs.Prelude.{◌≡◌, ◌↔◌, ◌+◌, ◌++◌, ℕ, List, length, true};
 ghost use Rattle.std.specs.List.{flat_map};
-ghost use Rattle.nfs_xdr.specs.Spelling.{number};
+ghost use Rattle.nfs_xdr.specs.Spelling.{number, padding};
+ghost use Rattle.nfs_xdr.specs.declared.status.Status.{Status};
+ghost use Rattle.nfs_compound.specs.Wire.{◌then◌, bool};
 ghost use Rattle.nfs_compound.specs.declared.op_num.OpNum.TheVariants as Op;
 ghost use Rattle.nfs_results.specs.Items as item;
-ghost use Rattle.nfs_results.specs.Result.{Fattr, ReadOk, ReadDirOk, ResGetAttr, ResRead, ResReadDir, ResTestStateid};
-ghost use Rattle.nfs_results.specs.Results.{spell_result};
+ghost use Rattle.nfs_results.specs.Result.{Entry, Fattr, ReadOk, ReadDirOk, Res, ResGetAttr, ResRead, ResReadDir, ResTestStateid};
+ghost use Rattle.nfs_results.specs.Results.{parts, spell_result};
 ghost use Rattle.nfs_results.specs.Straight.{done_head, read_head, read_end, read_dir_head, entry_text, list_end, test_stateid_head};
+ghost use Rattle.nfs_results.specs.Wire.{entry4, nfs_resop4};
+
+/// Each result has the operation's number, the status and the bytes behind them that its structs and unions of RFC 5662 have, and what has a
+/// spelling is just what fits there.
+pub fn wire()
+    ensures operation { (r : Res) → (parts r).operation ≡ (nfs_resop4 r).operation }
+    ensures status { (r : Res) → (parts r).status ≡ (nfs_resop4 r).status }
+    ensures spelled { (r : Res) → (parts r).behind ≡ (nfs_resop4 r).behind.bytes }
+    ensures fits { (r : Res) → (parts r).Fits ↔ (nfs_resop4 r).behind.Fits }
+{}
+
+/// What READDIR puts of an entry is a bool that says that it follows, and entry4 of RFC 5662.
+pub fn entries()
+    ensures { (e : Entry) → entry_text e ≡ (bool true then entry4 e).bytes }
+{}
 
 /// Each result, and each compound's result, is read exactly where it is spelled, and none begins another.
 pub fn results()
@@ -26,4 +44,11 @@ pub fn parts()
     ensures listed { (r : ReadDirOk) → spell_result (ResReadDir r) ≡ read_dir_head r.cookieverf ++ (flat_map entry_text r.entries ++ list_end r.eof) }
     ensures attributes { (f : Fattr) → spell_result (ResGetAttr f) ≡ done_head Op.GetAttr ++ item.fattr.spell f }
     ensures codes { (codes : List ℕ) → spell_result (ResTestStateid codes) ≡ test_stateid_head (length codes) ++ flat_map number codes }
+{}
+
+/// The head of a compound's result has its status, its tag in whole words behind their number, and its count; a result has its operation's
+/// number and its status in front of the rest.
+pub fn lengths()
+    ensures compound { (status : Status) (tag : List ℕ) (count : ℕ) → length (spell_compound_head status tag count) ≡ 12 + length tag + padding (length tag) }
+    ensures result { (r : Res) → length (spell_result r) ≡ 8 + length (parts r).behind }
 {}

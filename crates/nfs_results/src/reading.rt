@@ -91,7 +91,7 @@ fn done<'a>(op: OpNum, c: &mut Cursor<'a>) -> Result<Res<'a>, Unreadable>
 fn refused<'a>(operation: u32, status: Status, c: &mut Cursor<'a>) -> Result<Res<'a>, Unreadable>
     ensures { ReadsPartBy view.res result (table.refused_at operation status c.old) c.new }
 {
-    if operation == OpNum::SetAttr.number() {
+    if operation == OpNum::SetAttr.number() && status.number() != Status::OpIllegal.number() {
         let attrsset = item::attr_set(c)?;
         return Ok(Res::SetAttr { status, attrsset });
     }

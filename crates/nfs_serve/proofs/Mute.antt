@@ -15,7 +15,7 @@ use Rattle.nfs_compound.specs.Arguments.{arguments, item_number}
 use Rattle.nfs_compound.specs.Request.{Request}
 use Rattle.nfs_compound.specs.SessionArgs.{CreateSession}
 use Rattle.nfs_results.specs.Result.{ResSetAttr, Refused}
-use Rattle.nfs_results.specs.Results.{bears, can_refuse, refusal, spell_result}
+use Rattle.nfs_results.specs.Results.{bears, is_legal, can_refuse, refusal, spell_result}
 use Rattle.nfs_clients.specs.declared.destroy.DestroyFault.{DestroyFault}
 use Rattle.nfs_clients.specs.declared.exchange_id.Exchanged.{Exchanged}
 use Rattle.nfs_clients.specs.declared.exchange_id.ClientFault.{ClientFault}
@@ -62,14 +62,14 @@ or_right : (a b : Bool) → (a || b) ≡ true → a ≡ false → b ≡ true
 or_right true b e fails = absurd cc
 or_right false b e fails = e
 
-borne : (n : ℕ) (s : Status) → IsTrue ((n == 34) || can_refuse n s) → (n < 2 ^ 32) × (((n == 53) && (status_number s == 0)) ≡ false)
+borne : (n : ℕ) (s : Status) → IsTrue (((n == 34) && is_legal s) || can_refuse n s) → (n < 2 ^ 32) × (((n == 53) && (status_number s == 0)) ≡ false)
 borne n s bears' = elim (cases_Bool (n == 34)) [
   | inl set ↦ (
       let is : n ≡ 34 = eqb-true n 34 set in
       let apart : (n == 53) ≡ false = ne_eqb n 53 (λ same. omega (arith, is, same)) in
       (omega (arith, is), rw apart refl))
   | inr plain ↦ (
-      let can : can_refuse n s ≡ true = or_right (n == 34) (can_refuse n s) bears' plain in
+      let can : can_refuse n s ≡ true = or_right ((n == 34) && is_legal s) (can_refuse n s) bears' (rw plain refl) in
       let bears'' : bears n s ≡ true = (and_parts (bears n s) _ can).0 in
       elim (cases_Bool (n == 10044)) [
         | inl illegal ↦ (

@@ -1,4 +1,5 @@
--- Checks in the order written: each is a test and what it answers where the test holds. The first that holds decides.
+-- The errors of RFC 8881 section 15 and RFC 5531 section 9 as checks in the order written: each is a test and what it answers where the test holds.
+-- The first that holds decides.
 use Rattle.std.specs.Prelude.{Bool, List, [], ◌∷◌, Option, Some, None, Result, Ok, Err, if◌then◌else◌}
 
 abbrev pub first_fault : {F : Type 0} → List (Bool × F) → Option F

@@ -1,4 +1,4 @@
--- A codec: how each value of a type is spelled, which values have a spelling, and how one is read from the front.
+-- A codec of items of RFC 4506: how each value of a type is spelled, which values have a spelling, and how one is read from the front.
 use Rattle.std.specs.Prelude.{◌≡◌, ℕ, ℤ, zero, suc, ◌<◌, ◌≤◌, ◌-◌, ◌^◌, ◌==◌, List, [], ◌∷◌, ◌++◌, length, get_or, Bool, true, false, IsTrue, Option, Some}
 use Rattle.std.specs.Prelude.{None, Result, Ok, Err, nat_lt, nat_le, map, take, drop, MatchOption, if◌then◌else◌}
 use Rattle.std.specs.Int.{w64, cast_signed, cast_unsigned}

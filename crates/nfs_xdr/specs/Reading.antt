@@ -1,4 +1,4 @@
--- What stands at the front of bytes: a value and the bytes behind it, or nothing that is spelled so.
+-- What stands at the front of bytes, of the items of RFC 4506: a value and the bytes behind it, or nothing that is spelled so.
 use Rattle.std.specs.Prelude.{◌≡◌, ℕ, ◌+◌, ◌*◌, ◌==◌, List, length, take, drop, Bool, true, false, Option, Some, None, Result, Ok, Err, nat_lt, if◌then◌else◌}
 use Rattle.std.specs.Int.{w32, w64, from_be_bytes}
 use Rattle.std.specs.List.{list_all}

@@ -1,4 +1,4 @@
--- Tables kept as lists of records in rising order of their number, which is how every table of the server is seen.
+-- Tables, as of the clients and sessions of RFC 8881 sections 2.4 and 2.10: lists of records in rising order of their number.
 use Rattle.std.specs.Prelude.{◌≡◌, ◌⊎◌, ℕ, ◌≤◌, ◌==◌, suc, not, List, [], ◌∷◌, Option, find, filter, map, if◌then◌else◌}
 
 module _ {X : Type 0} where
