@@ -5,7 +5,7 @@ ghost use Rattle.nfs_xdr.specs.Reading.{ReadsPartBy};
 ghost use Rattle.nfs_xdr.specs.Checks.{first_fault};
 ghost use Rattle.nfs_xdr.specs.Caller as calling;
 ghost use Rattle.nfs_rpc.specs.CallHead as head;
-ghost use Rattle.nfs_rpc.specs.CallHead.{call_of, behind_version, behind_header, caller_of, caller_by, checks, Refused};
+ghost use Rattle.nfs_rpc.specs.CallHead.{call_of, behind_header, caller_of, caller_by, checks, Refused};
 ghost use Rattle.nfs_rpc.specs.View as view;
 ghost use Rattle.nfs_rpc.specs.View.{IsCalled};
 
@@ -31,18 +31,15 @@ impl<'a> Call<'a> {
         ensures groups { IfOk result (λ c. length c.who.groups.now ≤ 16) }
     {
         let mut c = Cursor::new(bytes);
-        let xid = start(&mut c)?;
-        let Ok(header) = header(&mut c) else {
-            return Err(Refusal::Silent);
-        };
+        let (xid, header) = head(&mut c)?;
         judge(xid, &header, c.rest())
     }
 }
 
-/// The xid of a call of RPC version 2, which stands at the front.
+/// The xid and the header of a call of RPC version 2, which stand at the front.
 #[tactic(auto, unfolding(crate::specs::CallHead::call_of))]
-fn start(c: &mut Cursor<'_>) -> Result<u32, Refusal>
-    ensures { MatchResult result (λ xid. call_of c.old ≡ behind_version xid c.new) (λ refusal. call_of c.old ≡ Refused refusal) }
+fn head<'a>(c: &mut Cursor<'a>) -> Result<(u32, Header<'a>), Refusal>
+    ensures { MatchResult result (λ h. call_of c.old ≡ behind_header h.0 (view.header h.1) c.new) (λ refusal. call_of c.old ≡ Refused refusal) }
 {
     let Ok(xid) = c.u32() else {
         return Err(Refusal::Silent);
@@ -59,7 +56,10 @@ fn start(c: &mut Cursor<'_>) -> Result<u32, Refusal>
     if rpcvers != RPC_VERSION {
         return Err(Refusal::Mismatch { xid });
     }
-    Ok(xid)
+    let Ok(header) = header(c) else {
+        return Err(Refusal::Silent);
+    };
+    Ok((xid, header))
 }
 
 #[tactic(auto, unfolding(crate::specs::CallHead::header))]
@@ -95,10 +95,7 @@ fn judge<'a>(xid: u32, header: &Header<'a>, args: &'a [u8]) -> Result<Call<'a>, 
     ensures called { IsCalled result (behind_header xid (view.header header.now) args.now) }
     ensures groups { IfOk result (λ c. length c.who.groups.now ≤ 16) }
 {
-    let who = match caller(&header.credential) {
-        Ok(who) => who,
-        Err(stat) => return Err(Refusal::Auth { xid, stat }),
-    };
+    let who = caller(xid, &header.credential)?;
     if let Some(refusal) = fault(xid, header, args) {
         return Err(refusal);
     }
@@ -115,14 +112,15 @@ fn judge<'a>(xid: u32, header: &Header<'a>, args: &'a [u8]) -> Result<Call<'a>, 
 }
 
 /// Who calls by a credential of AUTH_NONE, whose body is not looked at, or of AUTH_SYS.
-fn caller<'a>(credential: &OpaqueAuth<'a>) -> Result<Who<'a>, AuthStat>
-    ensures caller { MatchResult result (λ w. caller_by (view.opaque_auth credential.now) ≡ Ok (calling.caller w)) (λ stat. caller_by (view.opaque_auth credential.now) ≡ Err stat) }
+fn caller<'a>(xid: u32, credential: &OpaqueAuth<'a>) -> Result<Who<'a>, Refusal>
+    ensures caller { MatchResult result (λ w. caller_by xid (view.opaque_auth credential.now) ≡ Ok (calling.caller w)) (λ refusal. caller_by xid (view.opaque_auth credential.now) ≡ Err refusal) }
     ensures groups { IfOk result (λ w. length w.groups.now ≤ 16) }
 {
+    let refusal = |stat| Refusal::Auth { xid, stat };
     match credential.flavor {
         AUTH_NONE => Ok(Who::nobody()),
-        AUTH_SYS => auth_sys(credential.body).map_err(|_| AuthStat::BadCred),
-        _ => Err(AuthStat::RejectedCred),
+        AUTH_SYS => auth_sys(credential.body).map_err(|_| refusal(AuthStat::BadCred)),
+        _ => Err(refusal(AuthStat::RejectedCred)),
     }
 }
 

@@ -4,14 +4,13 @@ use Rattle.std.proofs.Common.{append_assoc, append-nil, inl, inr, true, false}
 use Rattle.std.proofs.lemmas.List.Concat.{flat_map-append}
 use Rattle.std.specs.Io.KnownBytes.{Appends}
 use Rattle.std.proofs.KnownBytes.{Appends-nil, Appends-trans}
-use Rattle.nfs_rpc.specs.RecordMarking.{Gathered}
 use Rattle.nfs_serve.specs.Script.{most_piece}
 use Rattle.nfs_serve.specs.Talk.{max_reads}
 use Rattle.nfs_serve.specs.Step.{State}
-use Rattle.nfs_serve.specs.Desk.{Desk, closed, leaving, Act, WriteBlocked, Closed, Failed, Stepped, StepsPart, Came, ReadBlocked, Ended, IsHungry, Does, Goes}
+use Rattle.nfs_serve.specs.Desk.{Desk, closed, leaving, Act, WriteBlocked, Closed, Failed, Stepped, StepsPart, Came, ReadBlocked, Ended, IsHungry, Does, Goes, IsStuck, Reads}
 use Rattle.nfs_serve.specs.Deeds.{Deed, Logs, shown, asked}
 use Rattle.nfs_serve.specs.declared.lane.Lane.{Lane}
-use Rattle.nfs_serve.specs.Lane.{desk_of, Advances, Quiet, Working, IsStuck, Reads}
+use Rattle.nfs_serve.specs.Lane.{desk_of, Advances, Quiet, Working}
 
 pub Logs-nil : (a : Option (List Deed)) → Logs a a []
 Logs-nil None = tt

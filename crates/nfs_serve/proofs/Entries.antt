@@ -11,7 +11,7 @@ use Rattle.std.proofs.Math.Seq.{take-append_seam}
 use Rattle.nfs_xdr.specs.Spelling.{number, hyper}
 use Rattle.nfs_serve.specs.Script.{Entry, spell_entry, head, IsHead, IsPartial, refusal}
 use Rattle.nfs_serve.specs.Reading.{BeginsWith, StopsAnywhere, stop_of}
-use Rattle.nfs_serve.specs.Ends.{IsReported, EndsAt}
+use Rattle.nfs_serve.specs.Ends.{IsReported}
 
 pub length-head : (moment conn len : ℕ) → length (head moment conn len) ≡ 16
 unfolding head hyper number
@@ -32,10 +32,10 @@ head_parts bs moment conn len long p q r = three_parts bs _ _ _ long p q r
 -- a reader that stopped short of an entry
 pub stops_short : (left : Option (List ℕ)) (rest : List ℕ) (failed ended : Bool) → IsPartial rest → 0 < length rest
     → (failed ≡ true) ⊎ ((failed ≡ false) × (ended ≡ true) × IsAtEnd left)
-    → StopsAnywhere (stop_of failed) rest × IsReported (stop_of failed) ended failed false × EndsAt (stop_of failed) left
-stops_short left rest true ended partial some told = (λ whole few. inl (few, partial), (refl, refl), tt)
+    → StopsAnywhere (stop_of failed) rest × IsReported (stop_of failed) ended failed false left
+stops_short left rest true ended partial some told = (λ whole few. inl (few, partial), (refl, refl))
 stops_short left rest false ended partial some (inl bad) = absurd cc
-stops_short left rest false ended partial some (inr ok) = (λ whole few. (few, some, partial), (ok.1, refl, refl), ok.2)
+stops_short left rest false ended partial some (inr ok) = (λ whole few. (few, some, partial), (ok.1, refl, refl, ok.2))
 
 if_none : (b : Bool) (x : Stop) (y : Option Stop) → (if b then Some x else y) ≡ None → (b ≡ false) × (y ≡ None)
 if_none true x y h = absurd cc
@@ -101,14 +101,14 @@ why moment conn len stop h = cases (nat_lt 15 conn) (nat_lt 65536 len) (nat_lt (
 -- the head of an entry that is refused
 pub refused_stops : (left : Option (List ℕ)) (moment conn len : ℕ) (bytes : List ℕ) (stop : Stop) (ended failed : Bool)
     → failed ≡ false → IsHead moment conn len bytes → refusal moment conn len ≡ Some stop
-    → StopsAnywhere stop bytes × IsReported stop ended failed false × EndsAt stop left
+    → StopsAnywhere stop bytes × IsReported stop ended failed false left
 refused_stops left moment conn len bytes stop ended failed well is h = cases stop (why moment conn len stop h) h
   where
     cases : (stop : Stop) → WhyRefused moment conn len stop → refusal moment conn len ≡ Some stop
-        → StopsAnywhere stop bytes × IsReported stop ended failed false × EndsAt stop left
-    cases Connection connection h = (λ whole few. (few, (moment, conn, len, bytes, [], sym (append-nil bytes), is, h)), (well, refl), tt)
-    cases Long long h = (λ whole few. (few, (moment, conn, len, bytes, [], sym (append-nil bytes), is, h)), (well, refl), tt)
-    cases Late late h = (λ whole few. (few, (moment, conn, len, bytes, [], sym (append-nil bytes), is, h)), (well, refl), tt)
+        → StopsAnywhere stop bytes × IsReported stop ended failed false left
+    cases Connection connection h = (λ whole few. (few, (moment, conn, len, bytes, [], sym (append-nil bytes), is, h)), (well, refl))
+    cases Long long h = (λ whole few. (few, (moment, conn, len, bytes, [], sym (append-nil bytes), is, h)), (well, refl))
+    cases Late late h = (λ whole few. (few, (moment, conn, len, bytes, [], sym (append-nil bytes), is, h)), (well, refl))
     cases Cut x h = elim x [ ]
     cases Many x h = elim x [ ]
     cases ReadFailed x h = elim x [ ]

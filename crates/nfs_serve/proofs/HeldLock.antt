@@ -1,5 +1,5 @@
 -- The run of a lock that is kept, computed.
-use Rattle.std.proofs.Common.{◌≡◌, ℕ, ◌+◌, Bool, true, false, cond, List, [], ◌∷◌, ◌++◌, take, Option, Some, None, refl, sym, ◌∙◌, ap, subst, arith, inl, inr}
+use Rattle.std.proofs.Common.{◌≡◌, ℕ, ◌+◌, Bool, true, false, cond, List, [], ◌∷◌, ◌++◌, take, refl, sym, ◌∙◌, ap, subst, arith, inl, inr}
 use Rattle.std.specs.Prelude.{◌==◌, ◌&&◌, not, nat_le, bytes_eq, if◌then◌else◌}
 use Rattle.std.proofs.lemmas.Bool.{and_parts, eqb-true, eq-eqb, leb-true, true≢false}
 use Rattle.std.proofs.lemmas.Slice.Eq.{bytes_eq-Decides}
@@ -11,7 +11,7 @@ use Rattle.nfs_rpc.specs.CallHead.{call_of, header, opaque_auth, behind_header, 
 use Rattle.nfs_rpc.specs.Reply.{spell_head}
 use Rattle.nfs_compound.specs.ReadRequest.{request_at, items_at, item_at}
 use Rattle.nfs_compound.specs.Arguments.{op_at, fault_at}
-use Rattle.nfs_compound.specs.Operation.{Item, Operation, Op, OpLock, OpLockU, OpClose, OpPutRootFh}
+use Rattle.nfs_compound.specs.Operation.{Item, Operation, OpLock, OpLockU, OpClose, OpPutRootFh}
 use Rattle.nfs_compound.specs.ChannelAttrs.{channel_attrs}
 use Rattle.nfs_compound.specs.Callback.{sec_parms}
 use Rattle.nfs_compound.specs.SessionArgs.{exchange_id_args, create_session_args, sequence_args, protected, impl_id}
@@ -38,7 +38,7 @@ use Rattle.nfs_files.specs.Ranges.{range, wished}
 use Rattle.nfs_files.specs.Denied.{denied}
 use Rattle.nfs_files.specs.Lock.{lock}
 use Rattle.nfs_files.specs.LockU.{lock_u}
-use Rattle.nfs_files.specs.Kept.{Told, Locks, Unlocks, Closes}
+use Rattle.nfs_files.specs.Kept.{Told}
 use Rattle.nfs_exec.specs.Machine.{Machine, is_ok}
 use Rattle.nfs_exec.specs.Ops.{Done}
 use Rattle.nfs_exec.specs.Held.{SparedBy, AreSpared, IsAlone}

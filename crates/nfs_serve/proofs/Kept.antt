@@ -1,10 +1,10 @@
 -- A lock that was told stays through all records that spare it and come in time.
-use Rattle.std.proofs.Common.{◌≡◌, ℕ, ◌+◌, ◌≤◌, Bool, true, false, cond, List, [], ◌∷◌, ◌++◌, length, Option, Some, None, refl, sym, ◌∙◌, ap, subst, arith}
+use Rattle.std.proofs.Common.{◌≡◌, ℕ, ◌+◌, ◌≤◌, Bool, true, false, cond, List, [], ◌∷◌, ◌++◌, length, Option, Some, None, sym, ◌∙◌, ap, subst, arith}
 use Rattle.std.specs.Option.{option_map_or}
 use Rattle.nfs_exec.specs.Machine.{Machine}
-use Rattle.nfs_exec.specs.Laws.{Event, Expires, Asks, stepped}
+use Rattle.nfs_exec.specs.Laws.{Event, Expires, Asks}
 use Rattle.nfs_exec.specs.Ops.{Done, ops_by}
-use Rattle.nfs_files.specs.Kept.{Told, Stands}
+use Rattle.nfs_files.specs.Kept.{Told}
 use Rattle.nfs_exec.specs.Held.{AreSpared, StandsWhile, IsToldBy, IsAlone, renews}
 use Rattle.nfs_exec.specs.Runs.{IsKeptFrom}
 use Rattle.nfs_exec.proofs.HeldRun.{Keeps, event_while, event_behind}
@@ -13,7 +13,7 @@ use Rattle.nfs_exec.proofs.WholeRun.{Is}
 use Rattle.nfs_exec.proofs.Renewing.{AtLeast, in_time, least_expired, least_behind}
 use Rattle.nfs_serve.specs.Step.{State, new_state}
 use Rattle.nfs_serve.specs.Points.{Came, next, all_next, taken, before, asked_by, ops_of}
-use Rattle.nfs_serve.specs.Kept.{renews_by, StaysHeld, IsKept, LockKept}
+use Rattle.nfs_serve.specs.Kept.{renews_by, StaysHeld, LockKept}
 use Rattle.nfs_serve.proofs.Points.{left, for_asked, next_is, IsSound, taken_later, whole_before, sound_next, sound_all, sound_new}
 
 -- what holds of the state in which the lock stands, where its client renewed last

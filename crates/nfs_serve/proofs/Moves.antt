@@ -6,7 +6,7 @@ use Rattle.nfs_rpc.specs.Stream.{End}
 use Rattle.nfs_serve.specs.declared.form.Form.{Form}
 use Rattle.nfs_serve.specs.Script.{Entry}
 use Rattle.nfs_serve.specs.Step.{State}
-use Rattle.nfs_serve.specs.Run.{Streams, with_stream, Event, Takes, TakesAll, Move, events, after, after_event, output, output_of}
+use Rattle.nfs_serve.specs.Run.{Streams, with_stream, Event, Takes, TakesAll, Move, events, after, after_event, output, output_of, all_closed, Brings, Runs, Breaks, RunsInto}
 use Rattle.nfs_serve.specs.Server.{held_on, IsWith, Stands}
 use Rattle.nfs_serve.specs.Replay.{AllStand}
 
@@ -37,6 +37,46 @@ TakesAll-more old [] first between e later new h t =
 TakesAll-more old (d ∷ es) first between e later new h t =
     let (here, more, middle, is, takes, rest) = h in
     (here, more ++ later, middle, ap (λ l. l ++ later) is ∙ append_assoc here more later, takes, TakesAll-more middle es more between e later new rest t)
+
+-- a run that goes on by an entry
+pub runs_more : (form : Form) (old now new : State) (es : List Entry) (streams end : Streams) (written : List ℕ) (e : Entry) (moves : List Move)
+    → Runs form old now es streams written → Takes streams e (events moves) end → new ≡ after now moves
+    → Runs form old new (es ++ e ∷ []) end (written ++ output form now moves)
+runs_more form old now new es streams end written e moves r takes state = record {
+  moves = r.moves ++ moves;
+  reads = rw (events-append r.moves moves) (TakesAll-more all_closed es (events r.moves) streams e (events moves) end r.reads takes);
+  state = state ∙ ap (λ s. after s moves) r.state ∙ sym (after-append old r.moves moves);
+  wrote = ap (λ l. l ++ output form now moves) r.wrote
+      ∙ ap (λ s. output form old r.moves ++ output form s moves) r.state ∙ sym (output-append form old r.moves moves);
+}
+
+-- a run that breaks in an entry
+pub runs_into : (form : Form) (old now new : State) (es : List Entry) (streams : Streams) (written more : List ℕ) (e : Entry) (own : List Move) (last : Move)
+    (taken dropped : List ℕ) (end : End) → Runs form old now es streams written → e.piece ≡ taken ++ dropped
+    → Brings e.conn e.moment (streams e.conn) taken (events (own ++ last ∷ [])) end → Breaks form now new own last more
+    → RunsInto form old new es e streams (written ++ more)
+runs_into form old now new es streams written more e own last taken dropped end r split brings b =
+    let state : after now own ≡ after old (r.moves ++ own) = ap (λ s. after s own) r.state ∙ sym (after-append old r.moves own) in record {
+      earlier = r.moves;
+      own = own;
+      breaking = last;
+      taken = taken;
+      dropped = dropped;
+      end = end;
+      reads = r.reads;
+      split = split;
+      brings = brings;
+      breaks = record {
+        front = b.front;
+        unwritten = b.unwritten;
+        state = b.state ∙ ap (λ s. after_event s last.event last.choice) state;
+        wrote = ap (λ l. l ++ more) r.wrote ∙ ap (λ l. output form old r.moves ++ l) b.wrote
+            ∙ sym (append_assoc (output form old r.moves) (output form now own) b.front)
+            ∙ ap (λ l. l ++ b.front) (ap (λ s. output form old r.moves ++ output form s own) r.state ∙ sym (output-append form old r.moves own));
+        cut = b.cut ∙ ap (λ s. output_of form s last.event last.choice) state;
+        some = b.some;
+      };
+    }
 
 -- a connection whose stream is replaced
 pub with_stands : (streams : Streams) (old new : List Gathered) (conn : ℕ) (end : End) (held : Gathered)

@@ -16,7 +16,7 @@ use Rattle.nfs_serve.specs.Step.{State, step}
 use Rattle.nfs_serve.specs.Ends.{AppendsFront}
 use Rattle.nfs_serve.specs.First.{TakesUp}
 use Rattle.nfs_serve.specs.Run.{Arrives, Overflows, events_of, Brings, Move, events, after, output, spell_answer, spell_overflow}
-use Rattle.nfs_serve.specs.Server.{Stands, flow_of, Feeds, Breaks}
+use Rattle.nfs_serve.specs.Server.{Stands, flow_of, Feeds, FeedsInto}
 use Rattle.nfs_serve.proofs.Moves.{after-append, output-last, events-append}
 
 -- more bytes behind the records
@@ -201,7 +201,7 @@ module _ {old now : State} {was is : Gathered} {conn moment : ℕ} {form : Form}
   pub breaking : (front behind call : List ℕ) (choice : Option ℕ) (later : State) (h2 : Option (List ℕ))
       → is_too_long was ≡ false → rest ≡ front ++ behind → TakesUp is front (Complete call)
       → later ≡ (step now call moment choice).state → AppendsFront h1 h2 (spell_answer form conn (step now call moment choice).reply)
-      → Breaks old later was conn moment piece form h0 h2
+      → FeedsInto old later was conn moment piece form h0 h2
   breaking front behind call choice later h2 began split up state wrote =
       let m : Move = record { event = Arrives conn moment call; choice = choice } in
       let (done, left, parts, some, appended) = wrote in record {
@@ -209,13 +209,17 @@ module _ {old now : State} {was is : Gathered} {conn moment : ℕ} {form : Form}
         last = m;
         taken = t.taken ++ front;
         dropped = behind;
-        written = done;
-        unwritten = left;
+        written = output form old t.moves ++ done;
         split = t.split ∙ ap (λ l. t.taken ++ l) split ∙ sym (append_assoc t.taken front behind);
-        state = state ∙ ap (λ s. (step s call moment choice).state) t.state;
+        breaks = record {
+          front = done;
+          unwritten = left;
+          state = state ∙ ap (λ s. (step s call moment choice).state) t.state;
+          wrote = refl;
+          cut = subst (λ s. done ++ left ≡ spell_answer form conn (step s call moment choice).reply) t.state parts;
+          some = some;
+        };
         wrote = Appends-trans _ _ _ _ _ t.wrote appended;
-        cut = subst (λ s. done ++ left ≡ spell_answer form conn (step s call moment choice).reply) t.state parts;
-        some = some;
         stream = λ before stands.
             let (b, is_open, bytes, holds) = stands_open before was began stands in (
               Open [],
@@ -234,7 +238,7 @@ module _ {old now : State} {was is : Gathered} {conn moment : ℕ} {form : Form}
   -- the writer failed in telling that the stream is too long
   pub breaking_long : (h2 : Option (List ℕ)) → is_too_long was ≡ false
       → ((r : List ℕ) → IsBytes r → Holds r is → (used : ℕ) × Holds (r ++ take used rest) Failed)
-      → AppendsFront h1 h2 (spell_overflow form conn) → Breaks old now was conn moment piece form h0 h2
+      → AppendsFront h1 h2 (spell_overflow form conn) → FeedsInto old now was conn moment piece form h0 h2
   breaking_long h2 began up wrote =
       let m : Move = record { event = Overflows conn; choice = None } in
       let (done, left, parts, some, appended) = wrote in record {
@@ -242,13 +246,10 @@ module _ {old now : State} {was is : Gathered} {conn moment : ℕ} {form : Form}
         last = m;
         taken = piece;
         dropped = [];
-        written = done;
-        unwritten = left;
+        written = output form old t.moves ++ done;
         split = sym (append-nil piece);
-        state = t.state;
+        breaks = record { front = done; unwritten = left; state = t.state; wrote = refl; cut = parts; some = some };
         wrote = Appends-trans _ _ _ _ _ t.wrote appended;
-        cut = parts;
-        some = some;
         stream = λ before stands.
             let (b, is_open, bytes, holds) = stands_open before was began stands in (
               TooLong,

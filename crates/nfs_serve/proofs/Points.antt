@@ -1,5 +1,5 @@
 -- What holds at each point of a run.
-use Rattle.std.proofs.Common.{◌≡◌, ℕ, ◌≤◌, max, List, [], ◌∷◌, length, Option, Some, None, refl, sym, ◌∙◌, ap, subst, arith}
+use Rattle.std.proofs.Common.{◌≡◌, ℕ, ◌≤◌, List, [], ◌∷◌, length, Option, Some, None, refl, sym, subst}
 use Rattle.std.specs.Option.{option_map_or}
 use Rattle.std.proofs.Math.Nat.{le-max_left}
 use Rattle.nfs_xdr.specs.Tables.{In}
@@ -10,13 +10,13 @@ use Rattle.nfs_rpc.specs.declared.call.Procedure.{Procedure}
 use Rattle.nfs_compound.specs.Request.{Request}
 use Rattle.nfs_compound.specs.ReadRequest.{request_at}
 use Rattle.nfs_lease.specs.Renewals.{IsLatest}
-use Rattle.nfs_exec.specs.Machine.{Machine, starts}
+use Rattle.nfs_exec.specs.Machine.{Machine}
 use Rattle.nfs_exec.specs.Laws.{Event, Expires, Asks, stepped}
 use Rattle.nfs_exec.specs.Ops.{Done, ops_by}
 use Rattle.nfs_exec.proofs.Latest.{latest_compound}
 use Rattle.nfs_exec.proofs.WholeRun.{Is, none_of, event_ops, whole_event, start_whole}
 use Rattle.nfs_serve.specs.Step.{State, new_state, step, with_arguments, by_procedure, reply_to}
-use Rattle.nfs_serve.specs.Points.{Came, next, all_next, taken, before, asks_for, asks_call, asks, asked_by, ops_of, HasNoClash, NoClash}
+use Rattle.nfs_serve.specs.Points.{Came, next, all_next, taken, before, asks_for, asks_call, asks, asked_by, NoClash}
 use Rattle.nfs_serve.proofs.Stepping.{latest_expired}
 
 -- What a record asks for is a compound at its moment, or nothing.

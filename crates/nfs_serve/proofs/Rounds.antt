@@ -6,12 +6,12 @@ use Rattle.std.proofs.lemmas.List.Concat.{flat_map-append}
 use Rattle.std.specs.Io.KnownBytes.{Appends}
 use Rattle.std.proofs.KnownBytes.{Appends-nil, Appends-trans}
 use Rattle.nfs_serve.specs.Step.{State}
-use Rattle.nfs_serve.specs.Desk.{Desk, closed, opened, Act, Opened, Turn}
+use Rattle.nfs_serve.specs.Desk.{Desk, closed, opened, Act, Opened, Turn, EndsTurn}
 use Rattle.nfs_serve.specs.Script.{last_connection}
 use Rattle.nfs_serve.specs.Deeds.{Deed, Logs}
-use Rattle.nfs_serve.specs.Lane.{desk_of, Advances, EndsTurn}
+use Rattle.nfs_serve.specs.Lane.{desk_of, Advances, desks_of}
 use Rattle.nfs_serve.specs.declared.lane.Lane.{Lane}
-use Rattle.nfs_serve.specs.Hub.{Desks, at, desks_of, none_live, Round, Opens, Turns, OthersStay, Turning, shown_in, asked_in, ServesRounds}
+use Rattle.nfs_serve.specs.Hub.{Desks, at, none_live, Round, Opens, Turns, OthersStay, Turning, shown_in, asked_in, ServesRounds}
 use Rattle.nfs_serve.proofs.Advancing.{Logs-nil, Logs-trans}
 
 pub at_same : (lanes : List Lane) (port : ℕ) (lane : Lane) → port < length lanes → at (desks_of (set lanes port lane)) port ≡ desk_of lane

@@ -1,6 +1,6 @@
 -- A run that goes on by an entry, and how it stops.
 use Rattle.std.proofs.Common.{◌≡◌, ◌≢◌, ℕ, suc, ◌+◌, ◌<◌, ◌≤◌, Bool, true, false, List, [], ◌∷◌, ◌++◌, length, flat_map, Option, Result, Ok, Err, refl, sym, ap}
-use Rattle.std.proofs.Common.{is_err, subst, ◌∙◌, arith, append_assoc, append-nil, length-append, All, nat_eq, if◌then◌else◌}
+use Rattle.std.proofs.Common.{is_err, subst, ◌∙◌, arith, append-nil, length-append, All, nat_eq, if◌then◌else◌}
 use Rattle.std.specs.Io.KnownBytes.{Consumes, Appends}
 use Rattle.std.proofs.KnownBytes.{Consumes-nil, Consumes-trans, Appends-nil, Appends-trans}
 use Rattle.std.proofs.lemmas.List.{get_or-set_same, get_or-set_other}
@@ -18,11 +18,11 @@ use Rattle.nfs_serve.specs.declared.form.Form.TheVariants.{Tagged}
 use Rattle.nfs_serve.specs.Script.{Entry, spell_entry, Fits, max_entries, StopsAt, IsStopped}
 use Rattle.nfs_serve.specs.Ends.{IsReported}
 use Rattle.nfs_serve.specs.Step.{State}
-use Rattle.nfs_serve.specs.Run.{Streams, with_stream, all_closed, Brings, TakesPiece, Event, events, after, after_event, output, output_of}
-use Rattle.nfs_serve.specs.Server.{fresh, held_on, IsWith, Feeds, Breaks}
-use Rattle.nfs_serve.specs.Replay.{AllStand, Runs, ReplaysFault, Replays, Reports}
+use Rattle.nfs_serve.specs.Run.{Streams, with_stream, all_closed, Brings, TakesPiece, Event, events, output, Runs}
+use Rattle.nfs_serve.specs.Server.{fresh, held_on, IsWith, Feeds, FeedsInto}
+use Rattle.nfs_serve.specs.Replay.{AllStand, RunsOn, ReplaysFault, Replays, Reports}
 use Rattle.nfs_serve.specs.Running.{RunsEntry, RunsEntryOr, EndsBehind}
-use Rattle.nfs_serve.proofs.Moves.{after-append, output-append, events-append, TakesAll-more, with_stands}
+use Rattle.nfs_serve.proofs.Moves.{runs_more, runs_into, with_stands}
 use Rattle.nfs_serve.proofs.Pieces.{start_holds, no_bytes}
 
 pub set_is_with : (held : List Gathered) (conn : ℕ) (now : Gathered) → conn < length held → IsWith (set held conn now) held conn now
@@ -74,7 +74,7 @@ module _ {old new : State} (was is : List Gathered) (e : Entry) {h0 h1 : Option 
   ran_well (Err f) well ran = absurd cc
 
   pub ran_broken : (ran : Result (Unit {0}) moving.WriteFailed) → is_err ran ≡ true → RunsEntryOr ran old new was is e h0 h1 failed
-      → Breaks old new (held_on was e.conn) e.conn e.moment e.piece Tagged h0 h1 × IsWith is was e.conn fresh
+      → FeedsInto old new (held_on was e.conn) e.conn e.moment e.piece Tagged h0 h1 × IsWith is was e.conn fresh
   ran_broken (Ok u) broken ran = absurd cc
   ran_broken (Err f) broken ran = (ran.0, ran.1)
 
@@ -86,7 +86,9 @@ pub record Going (old now : State) (held : List Gathered) (n : ℕ) (l0 l1 h0 h1
   pub read : Consumes l0 l1 (flat_map spell_entry entries)
   pub written : List ℕ
   pub appended : Appends h0 h1 written
-  pub runs : Runs old now held entries written
+  pub streams : Streams
+  pub runs : Runs Tagged old now entries streams written
+  pub stands : AllStand streams held
 
 flat_map-last : (es : List Entry) (e : Entry) → flat_map spell_entry (es ++ e ∷ []) ≡ flat_map spell_entry es ++ spell_entry e
 flat_map-last es e = flat_map-append spell_entry es (e ∷ []) ∙ ap (λ l. flat_map spell_entry es ++ l) (append-nil (spell_entry e))
@@ -99,7 +101,9 @@ going_start s held l h all = record {
   read = Consumes-nil l;
   written = [];
   appended = Appends-nil h;
-  runs = record { moves = []; streams = all_closed; reads = (refl, refl); state = refl; wrote = refl; stands = all };
+  streams = all_closed;
+  runs = record { moves = []; reads = (refl, refl); state = refl; wrote = refl };
+  stands = all;
 }
 
 module _ {old now : State} {held : List Gathered} {n : ℕ} {l0 l1 h0 h1 : Option (List ℕ)} (g : Going old now held n l0 l1 h0 h1) where
@@ -109,23 +113,16 @@ module _ {old now : State} {held : List Gathered} {n : ℕ} {l0 l1 h0 h1 : Optio
   pub going_more : (l2 h2 : Option (List ℕ)) (new : State) (held_new : List Gathered) (e : Entry) → Consumes l1 l2 (spell_entry e)
       → Fits e → RunsEntry now new held held_new e h1 h2 → Going old new held_new (n + 1) l0 l2 h0 h2
   going_more l2 h2 new held_new e read fits ran =
-      let (end, takes, all) = ran.takes g.runs.streams g.runs.stands in record {
+      let (end, takes, all) = ran.takes g.streams g.stands in record {
         entries = g.entries ++ e ∷ [];
         count = count_more e;
         fits = All-push Fits g.entries e g.fits fits;
         read = subst (Consumes _ _) (sym (flat_map-last g.entries e)) (Consumes-trans _ _ _ _ _ g.read read);
         written = g.written ++ output Tagged now ran.moves;
         appended = Appends-trans _ _ _ _ _ g.appended ran.wrote;
-        runs = record {
-          moves = g.runs.moves ++ ran.moves;
-          streams = end;
-          reads = rw (events-append g.runs.moves ran.moves)
-              (TakesAll-more all_closed g.entries (events g.runs.moves) g.runs.streams e (events ran.moves) end g.runs.reads takes);
-          state = ran.state ∙ ap (λ s. after s ran.moves) g.runs.state ∙ sym (after-append old g.runs.moves ran.moves);
-          wrote = ap (λ l. l ++ output Tagged now ran.moves) g.runs.wrote
-              ∙ ap (λ s. output Tagged old g.runs.moves ++ output Tagged s ran.moves) g.runs.state ∙ sym (output-append Tagged old g.runs.moves ran.moves);
-          stands = all;
-        };
+        streams = end;
+        runs = runs_more Tagged old now new g.entries g.streams end g.written e ran.moves g.runs takes ran.state;
+        stands = all;
       }
 
   -- the script ends behind a whole entry
@@ -135,13 +132,13 @@ module _ {old now : State} {held : List Gathered} {n : ℕ} {l0 l1 h0 h1 : Optio
     g.written,
     Consumes-trans _ _ _ _ _ g.read read,
     g.appended,
-    (g.entries, record { spelled = append-nil _; fits = g.fits; few = subst (λ k. k ≤ max_entries) (sym g.count) few }, g.runs),
+    (g.entries, record { spelled = append-nil _; fits = g.fits; few = subst (λ k. k ≤ max_entries) (sym g.count) few }, (g.streams, g.runs, g.stands)),
   )
 
   -- the run stops in the place of an entry
   pub going_stops : (stop : Stop) (f : ReplayFault) (l2 : Option (List ℕ)) (rest : List ℕ) (ended failed : Bool)
       → f.number ≡ stop → f.entry ≡ suc n → Consumes l1 l2 rest → StopsAt stop n rest
-      → IsReported stop ended failed false → Replays {U = Unit {0}} (Err f) old now held l0 l2 h0 h1
+      → IsReported stop ended failed false l2 → Replays {U = Unit {0}} (Err f) old now held l0 l2 h0 h1
   going_stops stop f l2 rest ended failed is entry read stands told = (
     flat_map spell_entry g.entries ++ rest,
     g.written,
@@ -152,13 +149,13 @@ module _ {old now : State} {held : List Gathered} {n : ℕ} {l0 l1 h0 h1 : Optio
       rest,
       record { spelled = refl; fits = g.fits; stands = subst (λ k. StopsAt stop k rest) (sym g.count) stands },
       entry ∙ ap suc (sym g.count),
-      g.runs,
+      (g.streams, g.runs, g.stands),
     )),
   )
     where
-      cases : (stop : Stop) → IsReported stop ended failed false
+      cases : (stop : Stop) → IsReported stop ended failed false l2
           → (entries : List Entry) × (left : List ℕ) × IsStopped (flat_map spell_entry g.entries ++ rest) stop entries left
-          × (f.entry ≡ suc (length entries)) × Runs old now held entries g.written
+          × (f.entry ≡ suc (length entries)) × RunsOn old now held entries g.written
           → ReplaysFault stop f.entry old now held (flat_map spell_entry g.entries ++ rest) g.written
       cases Cut t h = h
       cases Connection t h = h
@@ -174,14 +171,12 @@ module _ {old now : State} {held : List Gathered} {n : ℕ} {l0 l1 h0 h1 : Optio
   -- the writer failed in a reply of an entry
   pub going_breaks : (f : ReplayFault) (l2 h2 : Option (List ℕ)) (new : State) (held_new : List Gathered) (e : Entry)
       → f.number ≡ WriteFailed → f.entry ≡ suc n → n < max_entries → Consumes l1 l2 (spell_entry e) → Fits e
-      → Breaks now new (held_on held e.conn) e.conn e.moment e.piece Tagged h1 h2
+      → FeedsInto now new (held_on held e.conn) e.conn e.moment e.piece Tagged h1 h2
       → IsWith held_new held e.conn fresh → Replays {U = Unit {0}} (Err f) old new held_new l0 l2 h0 h2
   going_breaks f l2 h2 new held_new e is entry few read fits b others =
-      let (end, brings) = b.stream (g.runs.streams e.conn) (g.runs.stands e.conn) in
-      let moves_state : after now b.moves ≡ after old (g.runs.moves ++ b.moves) =
-      ap (λ s. after s b.moves) g.runs.state ∙ sym (after-append old g.runs.moves b.moves) in (
+      let (end, brings) = b.stream (g.streams e.conn) (g.stands e.conn) in (
         flat_map spell_entry g.entries ++ spell_entry e,
-        g.written ++ (output Tagged now b.moves ++ b.written),
+        g.written ++ b.written,
         Consumes-trans _ _ _ _ _ g.read read,
         Appends-trans _ _ _ _ _ g.appended b.wrote,
         rw is (
@@ -193,30 +188,11 @@ module _ {old now : State} {held : List Gathered} {n : ℕ} {l0 l1 h0 h1 : Optio
             stands = (omega (arith, count_more e), refl);
           },
           entry ∙ ap suc (sym g.count),
-          record {
-            moves = g.runs.moves ++ b.moves;
-            breaking = b.last;
-            before = events g.runs.moves;
-            own = events b.moves;
-            streams = g.runs.streams;
-            end = end;
-            taken = b.taken;
-            dropped = b.dropped;
-            front = b.written;
-            unwritten = b.unwritten;
-            reads = g.runs.reads;
-            split = b.split;
-            brings = subst (λ brought. Brings e.conn e.moment (g.runs.streams e.conn) b.taken brought end) (events-append b.moves (b.last ∷ [])) brings;
-            order = events-append g.runs.moves b.moves;
-            state = b.state ∙ ap (λ s. after_event s b.last.event b.last.choice) moves_state;
-            wrote = ap (λ l. l ++ (output Tagged now b.moves ++ b.written)) g.runs.wrote
-                ∙ sym (append_assoc (output Tagged old g.runs.moves) (output Tagged now b.moves) b.written)
-                ∙ ap (λ l. l ++ b.written)
-                (ap (λ s. output Tagged old g.runs.moves ++ output Tagged s b.moves) g.runs.state ∙ sym (output-append Tagged old g.runs.moves b.moves));
-            cut = b.cut ∙ ap (λ s. output_of Tagged s b.last.event b.last.choice) moves_state;
-            some = b.some;
-            stands = with_stands g.runs.streams held held_new e.conn (Open []) fresh g.runs.stands others (no_bytes, start_holds);
-          },
+          (
+            g.streams,
+            runs_into Tagged old now new g.entries g.streams g.written b.written e b.moves b.last b.taken b.dropped end g.runs b.split brings b.breaks,
+            with_stands g.streams held held_new e.conn (Open []) fresh g.stands others (no_bytes, start_holds),
+          ),
         ),
       )
 
@@ -226,4 +202,4 @@ module _ {old now : State} {held : List Gathered} {n : ℕ} {l0 l1 h0 h1 : Optio
       → Replays result old now held l0 l2 h0 h1
   going_behind (Ok u) l2 rest ended failed all read none told = going_ends u l2 (omega (arith, all)) (subst (Consumes _ _) none read)
   going_behind (Err f) l2 rest ended failed all read ends told =
-      going_stops f.number f l2 rest ended failed refl (ends.1 ∙ ap suc (sym all)) read (subst (λ k. StopsAt f.number k rest) (sym all) ends.0) told.0
+      going_stops f.number f l2 rest ended failed refl (ends.1 ∙ ap suc (sym all)) read (subst (λ k. StopsAt f.number k rest) (sym all) ends.0) told

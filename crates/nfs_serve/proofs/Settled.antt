@@ -1,5 +1,5 @@
 -- Behind each record of a run nothing is left to run out.
-use Rattle.std.proofs.Common.{◌≡◌, ℕ, max, false, List, length, Option, Some, None, refl, sym, ◌∙◌, ap, subst, arith}
+use Rattle.std.proofs.Common.{◌≡◌, ℕ, max, false, List, length, Option, refl, sym, ◌∙◌, ap, subst, arith}
 use Rattle.nfs_lease.specs.Renewals.{has_run_out}
 use Rattle.nfs_exec.specs.Machine.{Machine}
 use Rattle.nfs_exec.specs.Expiry.{expired}

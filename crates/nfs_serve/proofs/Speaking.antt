@@ -1,6 +1,6 @@
 -- A talk that goes on by a piece, and how it ends.
 use Rattle.std.proofs.Common.{◌≡◌, ◌≢◌, ℕ, ◌+◌, ◌<◌, ◌≤◌, false, List, [], ◌∷◌, ◌++◌, length, flat_map, map, Option, refl, sym, ap, subst, ◌∙◌, arith}
-use Rattle.std.proofs.Common.{append_assoc, append-nil, length-append, All}
+use Rattle.std.proofs.Common.{append-nil, length-append, All}
 use Rattle.std.specs.Io.KnownBytes.{Consumes, Appends}
 use Rattle.std.proofs.KnownBytes.{Consumes-nil, Consumes-trans, Appends-nil, Appends-trans}
 use Rattle.std.proofs.lemmas.List.{map-append}
@@ -14,10 +14,10 @@ use Rattle.nfs_serve.specs.declared.form.Flow.TheVariants as Flow
 use Rattle.nfs_serve.specs.declared.talking.Talk.TheVariants.{Ended, Shut, ReadFailed, WriteFailed, TooMany}
 use Rattle.nfs_serve.specs.Script.{Entry}
 use Rattle.nfs_serve.specs.Step.{State}
-use Rattle.nfs_serve.specs.Run.{Streams, with_stream, all_closed, Brings, events, after, after_event, output, output_of, Move, TakesAll}
-use Rattle.nfs_serve.specs.Server.{fresh, Stands, Feeds, Breaks, flow_of}
+use Rattle.nfs_serve.specs.Run.{Streams, with_stream, all_closed, events, output, Runs}
+use Rattle.nfs_serve.specs.Server.{fresh, Stands, Feeds, FeedsInto, flow_of}
 use Rattle.nfs_serve.specs.Talk.{max_reads, IsPiece, Speaks, Talks}
-use Rattle.nfs_serve.proofs.Moves.{after-append, output-append, events-append, TakesAll-more}
+use Rattle.nfs_serve.proofs.Moves.{runs_more, runs_into}
 use Rattle.nfs_serve.proofs.Pieces.{start_holds, no_bytes, stands_open}
 use Rattle.nfs_serve.proofs.Runs.{takes_piece}
 
@@ -30,11 +30,8 @@ pub record Speaking (old now : State) (is : Gathered) (n : ℕ) (l0 l1 h0 h1 c0 
   pub moments : Appends c0 c1 (map (λ e. e.moment) pieces)
   pub written : List ℕ
   pub appended : Appends h0 h1 written
-  pub moves : List Move
   pub streams : Streams
-  pub reads : TakesAll all_closed pieces (events moves) streams
-  pub state : now ≡ after old moves
-  pub wrote : written ≡ output Plain old moves
+  pub runs : Runs Plain old now pieces streams written
   pub stands : Stands (streams 0) is
 
 pub speaking_start : (s : State) (l h c : Option (List ℕ)) → Speaking s s fresh 0 l l h h c c
@@ -46,11 +43,8 @@ speaking_start s l h c = record {
   moments = Appends-nil c;
   written = [];
   appended = Appends-nil h;
-  moves = [];
   streams = all_closed;
-  reads = (refl, refl);
-  state = refl;
-  wrote = refl;
+  runs = record { moves = []; reads = (refl, refl); state = refl; wrote = refl };
   stands = (no_bytes, start_holds);
 }
 
@@ -97,18 +91,14 @@ module _ {old now : State} {is : Gathered} {n : ℕ} {l0 l1 h0 h1 c0 c1 : Option
         moments = moments_told c2 e told;
         written = g.written ++ output Plain now fed.moves;
         appended = Appends-trans _ _ _ _ _ g.appended fed.wrote;
-        moves = g.moves ++ fed.moves;
         streams = with_stream g.streams e.conn end;
-        reads = rw (events-append g.moves fed.moves) (TakesAll-more all_closed g.pieces (events g.moves) g.streams e (events fed.moves)
-            (with_stream g.streams e.conn end) g.reads (takes_piece g.streams e.moment e.conn e.piece (events fed.moves) end (nonempty e each) brings));
-        state = fed.state ∙ ap (λ s. after s fed.moves) g.state ∙ sym (after-append old g.moves fed.moves);
-        wrote = ap (λ l. l ++ output Plain now fed.moves) g.wrote
-            ∙ ap (λ s. output Plain old g.moves ++ output Plain s fed.moves) g.state ∙ sym (output-append Plain old g.moves fed.moves);
+        runs = runs_more Plain old now new g.pieces g.streams (with_stream g.streams e.conn end) g.written e fed.moves g.runs
+            (takes_piece g.streams e.moment e.conn e.piece (events fed.moves) end (nonempty e each) brings) fed.state;
         stands = subst (λ c. Stands (with_stream g.streams c end 0) held) (sym conn) stands;
       }
 
   speaks : (end : End) → g.streams 0 ≡ end → Speaks old now g.pieces end g.written
-  speaks end ends = record { moves = g.moves; streams = g.streams; reads = g.reads; ends = ends; state = g.state; wrote = g.wrote }
+  speaks end ends = (g.streams, g.runs, ends)
 
   still_open : is_too_long is ≡ false → (rest : List ℕ) × Speaks old now g.pieces (Open rest) g.written
   still_open going =
@@ -120,14 +110,13 @@ module _ {old now : State} {is : Gathered} {n : ℕ} {l0 l1 h0 h1 c0 c1 : Option
 
   -- the writer failed in a reply of a piece
   pub speaking_breaks : (l2 h2 c2 : Option (List ℕ)) (new : State) (e : Entry) → Consumes l1 l2 e.piece
-      → Appends c1 c2 (e.moment ∷ []) → IsPiece e → n < max_reads → Breaks now new is e.conn e.moment e.piece Plain h1 h2
+      → Appends c1 c2 (e.moment ∷ []) → IsPiece e → n < max_reads → FeedsInto now new is e.conn e.moment e.piece Plain h1 h2
       → Talks WriteFailed old new l0 l2 h0 h2 c0 c2
   speaking_breaks l2 h2 c2 new e read told each few b =
       let conn = each.1 in
-      let (end, brings) = b.stream (g.streams e.conn) (subst (λ c. Stands (g.streams c) is) (sym conn) g.stands) in
-      let moves_state : after now b.moves ≡ after old (g.moves ++ b.moves) = ap (λ s. after s b.moves) g.state ∙ sym (after-append old g.moves b.moves) in (
+      let (end, brings) = b.stream (g.streams e.conn) (subst (λ c. Stands (g.streams c) is) (sym conn) g.stands) in (
         g.pieces ++ e ∷ [],
-        g.written ++ (output Plain now b.moves ++ b.written),
+        g.written ++ b.written,
         pieces_read l2 e read,
         Appends-trans _ _ _ _ _ g.appended b.wrote,
         moments_told c2 e told,
@@ -137,30 +126,8 @@ module _ {old now : State} {is : Gathered} {n : ℕ} {l0 l1 h0 h1 c0 c1 : Option
           g.pieces,
           e,
           refl,
-          record {
-            moves = g.moves ++ b.moves;
-            breaking = b.last;
-            before = events g.moves;
-            own = events b.moves;
-            streams = g.streams;
-            end = end;
-            taken = b.taken;
-            dropped = b.dropped;
-            front = b.written;
-            unwritten = b.unwritten;
-            reads = g.reads;
-            split = b.split;
-            brings = subst (λ c. Brings c e.moment (g.streams c) b.taken (events b.moves ++ b.last.event ∷ []) end) conn
-                (subst (λ brought. Brings e.conn e.moment (g.streams e.conn) b.taken brought end) (events-append b.moves (b.last ∷ [])) brings);
-            order = events-append g.moves b.moves;
-            state = b.state ∙ ap (λ s. after_event s b.last.event b.last.choice) moves_state;
-            wrote = ap (λ l. l ++ (output Plain now b.moves ++ b.written)) g.wrote
-                ∙ sym (append_assoc (output Plain old g.moves) (output Plain now b.moves) b.written)
-                ∙ ap (λ l. l ++ b.written)
-                (ap (λ s. output Plain old g.moves ++ output Plain s b.moves) g.state ∙ sym (output-append Plain old g.moves b.moves));
-            cut = b.cut ∙ ap (λ s. output_of Plain s b.last.event b.last.choice) moves_state;
-            some = b.some;
-          },
+          g.streams,
+          runs_into Plain old now new g.pieces g.streams g.written b.written e b.moves b.last b.taken b.dropped end g.runs b.split brings b.breaks,
         ),
       )
 

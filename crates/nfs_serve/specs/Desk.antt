@@ -11,12 +11,9 @@ use Rattle.nfs_serve.specs.Run.{Brings, Move, events, after, output}
 use Rattle.nfs_serve.specs.Server.{fresh, Stands}
 use Rattle.nfs_serve.specs.Talk.{max_reads}
 
--- a further record is stepped while no more bytes than this are owed; and the most bytes of a reply with its mark
+-- a further record is stepped while no more bytes than this are owed
 abbrev pub most_owed : ℕ
 most_owed = 65536
-
-abbrev pub largest_answer : ℕ
-largest_answer = 70004
 
 -- A port: whether a connection is served there, whether it has ended or failed and is to be closed, what is held of its stream, how
 -- many pieces were read, what came and was not stepped, and what is owed.
@@ -87,22 +84,37 @@ pub record StepsPart (port : ℕ) (s : State) (d : Desk) (moment : ℕ) (part : 
 
 -- what an act does to the state of the server and to its connection
 abbrev pub Does : ℕ → State → Desk → Act → State → Desk → Type 0
-Does port s d Opened t e = ⊥
-Does port s d Turn t e = ⊥
-Does port s d Over t e = ⊥
 Does port s d (Came bytes) t e = (t ≡ s) × IsHungry d × (0 < length bytes) × (length bytes ≤ most_piece)
-    × (e ≡ record { live = d.live; gone = d.gone; stream = d.stream; reads = d.reads + 1; unread = bytes; owed = d.owed })
+    × (e ≡ record d { reads = d.reads + 1; unread = bytes })
 Does port s d ReadBlocked t e = (t ≡ s) × IsHungry d × (e ≡ d)
 Does port s d Ended t e = (t ≡ s) × IsHungry d × (e ≡ leaving)
 Does port s d (Took bytes) t e = (t ≡ s) × (d.live ≡ true) × (0 < length bytes) × (rest : List ℕ) × (d.owed ≡ bytes ++ rest)
-    × (e ≡ record { live = d.live; gone = d.gone; stream = d.stream; reads = d.reads; unread = d.unread; owed = rest })
+    × (e ≡ record d { owed = rest })
 Does port s d WriteBlocked t e = (t ≡ s) × (d.live ≡ true) × (0 < length d.owed) × (e ≡ d)
 Does port s d Failed t e = (t ≡ s) × (d.live ≡ true) × (e ≡ leaving)
 Does port s d Closed t e = (t ≡ s) × MayClose d × (e ≡ closed)
 Does port s d (Stepped moment part) t e = (is : Gathered) × (rest : List ℕ) × (out : List ℕ) × StepsPart port s d moment part t is rest out
-    × (e ≡ record { live = d.live; gone = d.gone; stream = is; reads = d.reads; unread = rest; owed = d.owed ++ out })
+    × (e ≡ record d { stream = is; unread = rest; owed = d.owed ++ out })
+Does port s d act t e = ⊥
 
 -- the acts, one after the other
 abbrev pub Goes : ℕ → State → Desk → List Act → State → Desk → Type 0
 Goes port s d [] t e = (t ≡ s) × (e ≡ d)
 Goes port s d (a ∷ acts) t e = (u : State) × (c : Desk) × Does port s d a u c × Goes port u c acts t e
+
+-- the peer took no more
+abbrev pub IsStuck : List Act → Desk → Type 0
+IsStuck acts d = (front : List Act) × (acts ≡ front ++ WriteBlocked ∷ []) × (0 < length d.owed)
+
+abbrev pub IsRead : Act → Type 0
+IsRead (Came bytes) = Unit {0}
+IsRead ReadBlocked = Unit {0}
+IsRead act = ⊥
+
+abbrev pub Reads : List Act → Type 0
+Reads acts = (front : List Act) × (read : Act) × (back : List Act) × (acts ≡ front ++ read ∷ back) × IsRead read
+
+-- A turn ends only where there is no connection, where the peer takes no more of what is owed, or where a read was asked for and all
+-- that came is answered.
+abbrev pub EndsTurn : List Act → Desk → Type 0
+EndsTurn acts d = (d.live ≡ false) ⊎ IsStuck acts d ⊎ ((d.unread ≡ []) × (d.owed ≡ []) × Reads acts)

@@ -18,14 +18,10 @@ abbrev pub Writes : {U E : Type 0} → Result U E → Option (List ℕ) → Opti
 Writes (Ok u) old new bytes failed = Appends old new bytes × (failed ≡ false)
 Writes (Err e) old new bytes failed = AppendsFront old new bytes × (failed ≡ true)
 
--- which end is at fault: the reader has ended, the reader has failed, the writer has failed
-abbrev pub IsReported : Stop → Bool → Bool → Bool → Type 0
-IsReported Cut ended read_failed write_failed = (ended ≡ true) × (read_failed ≡ false) × (write_failed ≡ false)
-IsReported ReadFailed ended read_failed write_failed = (read_failed ≡ true) × (write_failed ≡ false)
-IsReported WriteFailed ended read_failed write_failed = (read_failed ≡ false) × (write_failed ≡ true)
-IsReported stop ended read_failed write_failed = (read_failed ≡ false) × (write_failed ≡ false)
-
--- a script is cut only where no byte is left
-abbrev pub EndsAt : Stop → Option (List ℕ) → Type 0
-EndsAt Cut left = IsAtEnd left
-EndsAt stop left = Unit {0}
+-- Which end is at fault: the reader has ended, the reader has failed, the writer has failed. A script is cut only where no
+-- byte is left.
+abbrev pub IsReported : Stop → Bool → Bool → Bool → Option (List ℕ) → Type 0
+IsReported Cut ended read_failed write_failed left = (ended ≡ true) × (read_failed ≡ false) × (write_failed ≡ false) × IsAtEnd left
+IsReported ReadFailed ended read_failed write_failed left = (read_failed ≡ true) × (write_failed ≡ false)
+IsReported WriteFailed ended read_failed write_failed left = (read_failed ≡ false) × (write_failed ≡ true)
+IsReported stop ended read_failed write_failed left = (read_failed ≡ false) × (write_failed ≡ false)

@@ -8,20 +8,11 @@ use Rattle.nfs_serve.specs.declared.form.Form.{Form}
 use Rattle.nfs_serve.specs.declared.form.Form.TheVariants.{Tagged, Plain}
 use Rattle.nfs_serve.specs.declared.form.Outcome.{Outcome}
 use Rattle.nfs_serve.specs.declared.form.Outcome.TheVariants.{Reply, Silent}
-use Rattle.nfs_exec.specs.View as exec
-use Rattle.nfs_exec.specs.View.{machine_of}
 use Rattle.nfs_serve.specs.Step.{State, Stepped}
 use Rattle.nfs_serve.specs.Run.{spell_reply}
+use Rattle.nfs_serve.specs.Server.{Kept}
 
--- what lasts from one record to the next, as it is kept, and the state that the steps speak of
-pub record Kept : Type 0 where
-  pub world : exec.Kept
-  pub moment : ℕ
-
-abbrev pub state_of : Kept → State
-state_of k = record { machine = machine_of k.world; moment = k.moment }
-
--- that, and the reply that is lent
+-- what lasts from one record to the next, and the reply that is lent
 pub record EngineModel : Type 0 where
   pub kept : Kept
   pub reply : List ℕ

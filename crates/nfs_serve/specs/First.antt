@@ -6,8 +6,8 @@ use Rattle.nfs_rpc.specs.Feeding.{waits, is_too_long}
 use Rattle.nfs_serve.specs.declared.connection.First.{First}
 use Rattle.nfs_serve.specs.declared.connection.First.TheVariants.{Nothing, Record, TooLong}
 use Rattle.nfs_serve.specs.Step.{step}
-use Rattle.nfs_serve.specs.Engine.{EngineModel, state_of}
-use Rattle.nfs_serve.specs.Server.{fresh, IsAnswer}
+use Rattle.nfs_serve.specs.Engine.{EngineModel}
+use Rattle.nfs_serve.specs.Server.{fresh, IsAnswer, state_of}
 
 -- with these bytes what is held comes to this
 abbrev pub TakesUp : Gathered → List ℕ → Gathered → Type 0

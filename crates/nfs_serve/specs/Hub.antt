@@ -1,12 +1,10 @@
 -- Many connections over one server: whose turn it is comes from outside.
-use Rattle.std.specs.Prelude.{length, ◌≡◌, ◌≢◌, ◌≤◌, ◌⊎◌, ◌^◌, ◌-◌, ℕ, List, [], ◌∷◌, flat_map, get_or, map, Option}
+use Rattle.std.specs.Prelude.{length, ◌≡◌, ◌≢◌, ◌≤◌, ◌⊎◌, ◌^◌, ◌-◌, ℕ, List, [], ◌∷◌, flat_map, get_or, Option}
 use Rattle.std.specs.Io.KnownBytes.{Appends}
 use Rattle.nfs_serve.specs.Step.{State}
 use Rattle.nfs_serve.specs.Script.{last_connection}
-use Rattle.nfs_serve.specs.Desk.{Desk, closed, opened, Act, Opened, Turn, Goes}
+use Rattle.nfs_serve.specs.Desk.{Desk, closed, opened, Act, Opened, Turn, Goes, EndsTurn}
 use Rattle.nfs_serve.specs.Deeds.{Deed, Logs, over, shown, asked}
-use Rattle.nfs_serve.specs.Lane.{desk_of, EndsTurn}
-use Rattle.nfs_serve.specs.declared.lane.Lane.{Lane}
 
 abbrev pub Desks : Type 0
 Desks = ℕ → Desk
@@ -14,9 +12,6 @@ Desks = ℕ → Desk
 -- what stands on each port
 abbrev pub at : List Desk → Desks
 at desks = λ port. get_or desks port closed
-
-abbrev pub desks_of : List Lane → List Desk
-desks_of lanes = map desk_of lanes
 
 abbrev pub none_live : Desks
 none_live = λ port. closed

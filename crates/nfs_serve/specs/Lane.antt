@@ -1,9 +1,9 @@
--- What a port's fields stand for, and how far its functions bring it.
-use Rattle.std.specs.Prelude.{◌≡◌, ◌⊎◌, ℕ, ◌<◌, List, [], ◌∷◌, ◌++◌, length, flat_map, true, false, Option}
+-- What a port's fields stand for, and how far its functions bring it; private contracts alone speak of it.
+use Rattle.std.specs.Prelude.{◌≡◌, ℕ, ◌<◌, List, [], ◌∷◌, ◌++◌, length, map, flat_map, true, false, Option}
 use Rattle.std.specs.Io.KnownBytes.{Appends}
 use Rattle.nfs_rpc.specs.Feeding.{is_too_long}
 use Rattle.nfs_serve.specs.Step.{State}
-use Rattle.nfs_serve.specs.Desk.{Desk, closed, Act, Came, ReadBlocked, WriteBlocked, StepsPart, Goes}
+use Rattle.nfs_serve.specs.Desk.{Desk, closed, Act, StepsPart, Goes, IsStuck}
 use Rattle.nfs_serve.specs.Deeds.{Deed, Logs, shown, asked}
 use Rattle.nfs_serve.specs.declared.lane.Lane.{Lane}
 use Rattle.nfs_serve.specs.declared.lane.Rest.{Rest}
@@ -12,19 +12,18 @@ use Rattle.nfs_serve.specs.declared.lane.Rest.TheVariants.{Clear, Stuck, Gone}
 abbrev pub desk_of : Lane → Desk
 desk_of lane = record { live = lane.live; gone = false; stream = lane.connection; reads = lane.reads; unread = lane.unread; owed = lane.owed.bytes }
 
+abbrev pub desks_of : List Lane → List Desk
+desks_of lanes = map desk_of lanes
+
 -- the acts of one port: what they do, what they show, and the moments that were asked for them
 pub record Advances (port : ℕ) (acts : List Act) (s : State) (d : Desk) (t : State) (e : Desk) (l0 l1 : Option (List Deed)) (c0 c1 : Option (List ℕ)) : Type 0 where
   pub goes : Goes port s d acts t e
   pub logs : Logs l0 l1 (flat_map (shown port) acts)
   pub clock : Appends c0 c1 (flat_map asked acts)
 
--- the peer took no more
-abbrev pub IsStuck : List Act → Desk → Type 0
-IsStuck acts d = (front : List Act) × (acts ≡ front ++ WriteBlocked ∷ []) × (0 < length d.owed)
-
 -- how a flush ends: nothing is owed, the peer took no more, or the connection was closed
 abbrev pub FlushesTo : Rest → List Act → Desk → Desk → Type 0
-FlushesTo Clear acts d e = e ≡ record { live = d.live; gone = d.gone; stream = d.stream; reads = d.reads; unread = d.unread; owed = [] }
+FlushesTo Clear acts d e = e ≡ record d { owed = [] }
 FlushesTo Stuck acts d e = IsStuck acts e
 FlushesTo Gone acts d e = e ≡ closed
 
@@ -42,19 +41,6 @@ abbrev pub Settles : Rest → List Act → Desk → Type 0
 Settles Clear acts e = (e.live ≡ true) × (e.gone ≡ false) × (is_too_long e.stream ≡ false) × (e.unread ≡ []) × (e.owed ≡ [])
 Settles Stuck acts e = IsStuck acts e
 Settles Gone acts e = e ≡ closed
-
-abbrev pub IsRead : Act → Type 0
-IsRead (Came bytes) = Unit {0}
-IsRead ReadBlocked = Unit {0}
-IsRead act = ⊥
-
-abbrev pub Reads : List Act → Type 0
-Reads acts = (front : List Act) × (read : Act) × (back : List Act) × (acts ≡ front ++ read ∷ back) × IsRead read
-
--- A turn ends only where there is no connection, where the peer takes no more of what is owed, or where a read was asked for and all
--- that came is answered.
-abbrev pub EndsTurn : List Act → Desk → Type 0
-EndsTurn acts d = (d.live ≡ false) ⊎ IsStuck acts d ⊎ ((d.unread ≡ []) × (d.owed ≡ []) × Reads acts)
 
 -- acts that show nothing, from one state to another, with what they asked of the clock
 pub record Working (port : ℕ) (acts : List Act) (s : State) (d : Desk) (t : State) (e : Desk) (c0 c1 : Option (List ℕ)) : Type 0 where

@@ -1,7 +1,7 @@
 -- The points of a run over any list of records that come to a server: behind each record, and before each operation of its
 -- compound. At none of them has a byte a writer beside another holder, and no two opens of different owners clash (RFC 8881
 -- sections 9.1 and 9.7).
-use Rattle.std.specs.Prelude.{ℕ, max, List, [], ◌∷◌, length, Option, Some, None, option_map}
+use Rattle.std.specs.Prelude.{ℕ, max, List, [], ◌∷◌, length, Option, None, option_map}
 use Rattle.std.specs.Option.{option_map_or}
 use Rattle.nfs_xdr.specs.Tables.{In}
 use Rattle.nfs_rpc.specs.CallHead.{Call, Called, Accepted, Refused, call_of}

@@ -4,7 +4,7 @@ use Rattle.std.specs.Io.KnownBytes.{Consumes, IsAtEnd}
 use Rattle.nfs_serve.specs.declared.fault.Stop.{Stop}
 use Rattle.nfs_serve.specs.declared.fault.Stop.TheVariants.{Cut, ReadFailed}
 use Rattle.nfs_serve.specs.declared.script.Entry as rust
-use Rattle.nfs_serve.specs.Ends.{IsReported, EndsAt}
+use Rattle.nfs_serve.specs.Ends.{IsReported}
 use Rattle.nfs_serve.specs.Script.{Entry, spell_entry, Fits, max_entries, StopsAt}
 
 -- an entry, wherever its piece lies in memory
@@ -29,4 +29,4 @@ abbrev pub ReadsEntry : Result (Option rust.Entry) Stop → Option (List ℕ) �
 ReadsEntry (Ok (Some e)) old new failed ended = Consumes old new (spell_entry (entry e)) × Fits (entry e) × (failed ≡ false) × (ended ≡ false)
 ReadsEntry (Ok None) old new failed ended = Consumes old new [] × IsAtEnd new × (failed ≡ false) × (ended ≡ true)
 ReadsEntry (Err stop) old new failed ended =
-    (rest : List ℕ) × Consumes old new rest × StopsAnywhere stop rest × IsReported stop ended failed false × EndsAt stop new
+    (rest : List ℕ) × Consumes old new rest × StopsAnywhere stop rest × IsReported stop ended failed false new

@@ -1,6 +1,6 @@
 -- The run of a script. On each connection the pieces since its last close form one stream, read by record marking
 -- (RFC 5531 section 11). The records are stepped in the order in which their last bytes came.
-use Rattle.std.specs.Prelude.{◌≡◌, ℕ, true, List, [], ◌∷◌, ◌++◌, length, map, Option, Some, None, if◌then◌else◌, nat_eq}
+use Rattle.std.specs.Prelude.{◌≡◌, ℕ, ◌<◌, true, List, [], ◌∷◌, ◌++◌, length, map, Option, Some, None, if◌then◌else◌, nat_eq}
 use Rattle.nfs_xdr.specs.Spelling.{number}
 use Rattle.nfs_rpc.specs.RecordMarking.{spell_mark}
 use Rattle.nfs_rpc.specs.Stream.{End, Open, TooLong, IsReading}
@@ -93,3 +93,34 @@ output_of form s (Overflows conn) choice = spell_overflow form conn
 abbrev pub output : Form → State → List Move → List ℕ
 output form s [] = []
 output form s (m ∷ moves) = output_of form s m.event m.choice ++ output form (after_event s m.event m.choice) moves
+
+-- The entries ran from closed connections: for some choices, what was written and the state left are the run's.
+pub record Runs (form : Form) (old new : State) (entries : List Entry) (streams : Streams) (written : List ℕ) : Type 0 where
+  pub moves : List Move
+  pub reads : TakesAll all_closed entries (events moves) streams
+  pub state : new ≡ after old moves
+  pub wrote : written ≡ output form old moves
+
+-- These moves ran, and behind them a last one, in whose output the writer failed: a front of that was written and not the
+-- whole. The state is the one behind the last move.
+pub record Breaks (form : Form) (old new : State) (moves : List Move) (last : Move) (written : List ℕ) : Type 0 where
+  pub front : List ℕ
+  pub unwritten : List ℕ
+  pub state : new ≡ after_event (after old moves) last.event last.choice
+  pub wrote : written ≡ output form old moves ++ front
+  pub cut : front ++ unwritten ≡ output_of form (after old moves) last.event last.choice
+  pub some : 0 < length unwritten
+
+-- The entries ran from closed connections, and of one more entry its own events up to the one in whose output the writer
+-- failed. The rest of that entry's piece was dropped. The streams are those before it.
+pub record RunsInto (form : Form) (old new : State) (entries : List Entry) (last : Entry) (streams : Streams) (written : List ℕ) : Type 0 where
+  pub earlier : List Move
+  pub own : List Move
+  pub breaking : Move
+  pub taken : List ℕ
+  pub dropped : List ℕ
+  pub end : End
+  pub reads : TakesAll all_closed entries (events earlier) streams
+  pub split : last.piece ≡ taken ++ dropped
+  pub brings : Brings last.conn last.moment (streams last.conn) taken (events (own ++ breaking ∷ [])) end
+  pub breaks : Breaks form old new (earlier ++ own) breaking written

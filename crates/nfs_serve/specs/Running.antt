@@ -7,7 +7,7 @@ use Rattle.nfs_serve.specs.declared.form.Form.TheVariants.{Tagged}
 use Rattle.nfs_serve.specs.Script.{Entry, max_entries, StopsAt}
 use Rattle.nfs_serve.specs.Step.{State}
 use Rattle.nfs_serve.specs.Run.{Streams, Takes, Move, events, after, output}
-use Rattle.nfs_serve.specs.Server.{fresh, held_on, IsWith, Breaks}
+use Rattle.nfs_serve.specs.Server.{fresh, held_on, IsWith, FeedsInto}
 use Rattle.nfs_serve.specs.Replay.{AllStand}
 
 -- One entry ran: its moves, and each reply was written. `was` and `is` are held of the streams.
@@ -21,7 +21,7 @@ pub record RunsEntry (old new : State) (was is : List Gathered) (e : Entry) (h0 
 abbrev pub RunsEntryOr : {U E : Type 0} → Result U E → State → State → List Gathered → List Gathered → Entry → Option (List ℕ) → Option (List ℕ) → Bool → Type 0
 RunsEntryOr (Ok u) old new was is e h0 h1 failed = RunsEntry old new was is e h0 h1 × (failed ≡ false)
 RunsEntryOr (Err f) old new was is e h0 h1 failed =
-    Breaks old new (held_on was e.conn) e.conn e.moment e.piece Tagged h0 h1 × IsWith is was e.conn fresh × (failed ≡ true)
+    FeedsInto old new (held_on was e.conn) e.conn e.moment e.piece Tagged h0 h1 × IsWith is was e.conn fresh × (failed ≡ true)
 
 -- what stands behind the last entry that may be
 abbrev pub EndsBehind : {U : Type 0} → Result U ReplayFault → List ℕ → Type 0

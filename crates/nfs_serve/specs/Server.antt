@@ -1,24 +1,33 @@
 -- What contracts see of a server, and what a record, a piece and a close do to it.
-use Rattle.std.specs.Prelude.{◌≡◌, ℕ, ◌<◌, List, [], ◌∷◌, ◌++◌, length, get_or, Bool, true, false, Option, Some, None, Result, Ok, Err, nat_eq, if◌then◌else◌}
+use Rattle.std.specs.Prelude.{◌≡◌, ℕ, List, [], ◌∷◌, ◌++◌, get_or, Bool, true, false, Option, Some, None, Result, Ok, Err, nat_eq, if◌then◌else◌}
 use Rattle.std.specs.Prelude.{replicate}
 use Rattle.std.specs.Io.KnownBytes.{Appends}
 use Rattle.nfs_xdr.specs.Codec.{IsBytes}
-use Rattle.nfs_rpc.specs.RecordMarking.{Gathered, Begun, Complete, Failed, IsPart, start}
+use Rattle.nfs_rpc.specs.RecordMarking.{Gathered, Begun, Failed, IsPart, start}
 use Rattle.nfs_rpc.specs.Stream.{End, Open, TooLong}
 use Rattle.nfs_serve.specs.declared.form.Form.{Form}
 use Rattle.nfs_serve.specs.declared.form.Flow.{Flow}
 use Rattle.nfs_serve.specs.declared.form.Outcome.{Outcome}
 use Rattle.nfs_serve.specs.declared.form.Outcome.TheVariants.{Reply, Silent}
+use Rattle.nfs_exec.specs.View as exec
+use Rattle.nfs_exec.specs.View.{machine_of}
 use Rattle.nfs_serve.specs.Script.{connection_count}
 use Rattle.nfs_serve.specs.Step.{State, new_state, step}
-use Rattle.nfs_serve.specs.Engine.{Kept, state_of}
-use Rattle.nfs_serve.specs.Run.{Brings, Move, events, after, after_event, output, output_of}
+use Rattle.nfs_serve.specs.Run.{Brings, Move, events, after, output, Breaks}
 
 -- what is held of a stream of which nothing has come
 abbrev pub fresh : Gathered
 fresh = Begun start
 
--- what lasts from one record to the next (the steps speak of its `state_of`), what is held of the stream of each connection, and the reply that is lent
+-- what lasts from one record to the next, as it is kept, and the state that the steps speak of
+pub record Kept : Type 0 where
+  pub world : exec.Kept
+  pub moment : ℕ
+
+abbrev pub state_of : Kept → State
+state_of k = record { machine = machine_of k.world; moment = k.moment }
+
+-- what is kept, what is held of the stream of each connection, and the reply that is lent
 pub record ServerModel : Type 0 where
   pub kept : Kept
   pub held : List Gathered
@@ -46,11 +55,8 @@ pub record Closes (old new : ServerModel) (conn : ℕ) : Type 0 where
 -- what is held of a stream stands for it
 abbrev pub Stands : End → Gathered → Type 0
 Stands (Open rest) (Begun part) = IsBytes rest × IsPart rest part
-Stands (Open rest) (Complete call) = ⊥
-Stands (Open rest) Failed = ⊥
-Stands TooLong (Begun part) = ⊥
-Stands TooLong (Complete call) = ⊥
 Stands TooLong Failed = Unit {0}
+Stands stream held = ⊥
 
 -- the reply that was made, or none, and then no bytes are lent
 abbrev pub IsAnswer : Outcome → Option (List ℕ) → List ℕ → Type 0
@@ -65,9 +71,8 @@ pub record Steps (outcome : Outcome) (old new : ServerModel) (call : List ℕ) (
   pub held : new.held ≡ old.held
 
 abbrev pub flow_of : Gathered → Flow
-flow_of (Begun part) = Flow.Open
-flow_of (Complete call) = Flow.Open
 flow_of Failed = Flow.Shut
+flow_of held = Flow.Open
 
 -- The piece was taken: its moves ran, and each reply was written. `was` and `is` are held of the connection's stream.
 pub record Feeds (old new : State) (was is : Gathered) (conn moment : ℕ) (piece : List ℕ) (form : Form) (h0 h1 : Option (List ℕ)) : Type 0 where
@@ -76,20 +81,16 @@ pub record Feeds (old new : State) (was is : Gathered) (conn moment : ℕ) (piec
   pub wrote : Appends h0 h1 (output form old moves)
   pub stream : (before : End) → Stands before was → (end : End) × Brings conn moment before piece (events moves) end × Stands end is
 
--- The writer failed in what the last move put out: a front of it was written and not the whole. The state is the one
--- behind that move, and the rest of the piece was dropped.
-pub record Breaks (old new : State) (was : Gathered) (conn moment : ℕ) (piece : List ℕ) (form : Form) (h0 h1 : Option (List ℕ)) : Type 0 where
+-- A front of the piece was taken, the writer failed in what its last move put out, and the rest of the piece was dropped.
+pub record FeedsInto (old new : State) (was : Gathered) (conn moment : ℕ) (piece : List ℕ) (form : Form) (h0 h1 : Option (List ℕ)) : Type 0 where
   pub moves : List Move
   pub last : Move
   pub taken : List ℕ
   pub dropped : List ℕ
   pub written : List ℕ
-  pub unwritten : List ℕ
   pub split : piece ≡ taken ++ dropped
-  pub state : new ≡ after_event (after old moves) last.event last.choice
-  pub wrote : Appends h0 h1 (output form old moves ++ written)
-  pub cut : written ++ unwritten ≡ output_of form (after old moves) last.event last.choice
-  pub some : 0 < length unwritten
+  pub breaks : Breaks form old new moves last written
+  pub wrote : Appends h0 h1 written
   pub stream : (before : End) → Stands before was → (end : End) × Brings conn moment before taken (events (moves ++ last ∷ [])) end
 
 -- what taking a piece did, by whether the writer failed
@@ -97,4 +98,4 @@ abbrev pub FeedsOr : {E : Type 0} → Result Flow E → State → State → Gath
     → Option (List ℕ) → Option (List ℕ) → Bool → Type 0
 FeedsOr (Ok flow) old new was is conn moment piece form h0 h1 failed =
     Feeds old new was is conn moment piece form h0 h1 × (flow ≡ flow_of is) × (failed ≡ false)
-FeedsOr (Err e) old new was is conn moment piece form h0 h1 failed = Breaks old new was conn moment piece form h0 h1 × (failed ≡ true)
+FeedsOr (Err e) old new was is conn moment piece form h0 h1 failed = FeedsInto old new was conn moment piece form h0 h1 × (failed ≡ true)

@@ -2,7 +2,7 @@
 -- RFC 8881 section 16).
 use Rattle.std.specs.Prelude.{ℕ, max, List, ◌++◌, length, Option, Some, None}
 use Rattle.nfs_rpc.specs.declared.refusal.Refusal.{Refusal}
-use Rattle.nfs_rpc.specs.declared.refusal.Refusal.TheVariants.{Silent, Mismatch, Auth, Accept}
+use Rattle.nfs_rpc.specs.declared.refusal.Refusal.TheVariants.{Silent, Accept}
 use Rattle.nfs_rpc.specs.declared.refusal.AcceptStat.TheVariants.{GarbageArgs}
 use Rattle.nfs_rpc.specs.declared.call.Procedure.{Procedure}
 use Rattle.nfs_rpc.specs.CallHead.{Call, Called, Accepted, Refused, call_of}
@@ -29,9 +29,7 @@ pub record Stepped : Type 0 where
 
 abbrev pub refused : State → Refusal → Stepped
 refused s Silent = record { reply = None; state = s }
-refused s (Mismatch xid) = record { reply = Some (spell_refusal (Mismatch xid)); state = s }
-refused s (Auth xid stat) = record { reply = Some (spell_refusal (Auth xid stat)); state = s }
-refused s (Accept xid stat) = record { reply = Some (spell_refusal (Accept xid stat)); state = s }
+refused s refusal = record { reply = Some (spell_refusal refusal); state = s }
 
 -- the head of an accepted reply, and the result
 abbrev pub answered : State → ℕ → Answered → Stepped

@@ -8,7 +8,7 @@ use Rattle.nfs_serve.specs.declared.talking.Talk.TheVariants.{Ended, Shut, ReadF
 use Rattle.nfs_serve.specs.declared.form.Form.TheVariants.{Plain}
 use Rattle.nfs_serve.specs.Script.{Entry, Fits}
 use Rattle.nfs_serve.specs.Step.{State}
-use Rattle.nfs_serve.specs.Run.{Streams, all_closed, Brings, TakesAll, Event, Move, events, after, after_event, output, output_of}
+use Rattle.nfs_serve.specs.Run.{Streams, Runs, RunsInto}
 
 abbrev pub max_reads : ℕ
 max_reads = 1000000
@@ -17,37 +17,9 @@ max_reads = 1000000
 abbrev pub IsPiece : Entry → Type 0
 IsPiece e = Fits e × (e.conn ≡ 0) × (0 < length e.piece)
 
--- The pieces ran from a closed connection: for some choices, what was written and the state left are the run's, and the
--- connection's stream ends so.
-pub record Speaks (old new : State) (pieces : List Entry) (end : End) (written : List ℕ) : Type 0 where
-  pub moves : List Move
-  pub streams : Streams
-  pub reads : TakesAll all_closed pieces (events moves) streams
-  pub ends : streams 0 ≡ end
-  pub state : new ≡ after old moves
-  pub wrote : written ≡ output Plain old moves
-
--- The pieces ran, and of the last one its own events up to the one in whose output the writer failed: a front of that
--- output was written and not the whole. The state is the one behind that event.
-pub record SpeaksInto (old new : State) (pieces : List Entry) (last : Entry) (written : List ℕ) : Type 0 where
-  pub moves : List Move
-  pub breaking : Move
-  pub before : List Event
-  pub own : List Event
-  pub streams : Streams
-  pub end : End
-  pub taken : List ℕ
-  pub dropped : List ℕ
-  pub front : List ℕ
-  pub unwritten : List ℕ
-  pub reads : TakesAll all_closed pieces before streams
-  pub split : last.piece ≡ taken ++ dropped
-  pub brings : Brings 0 last.moment (streams 0) taken (own ++ breaking.event ∷ []) end
-  pub order : events moves ≡ before ++ own
-  pub state : new ≡ after_event (after old moves) breaking.event breaking.choice
-  pub wrote : written ≡ output Plain old moves ++ front
-  pub cut : front ++ unwritten ≡ output_of Plain (after old moves) breaking.event breaking.choice
-  pub some : 0 < length unwritten
+-- the pieces ran from a closed connection, and its stream ends so
+abbrev pub Speaks : State → State → List Entry → End → List ℕ → Type 0
+Speaks old new pieces end written = (streams : Streams) × Runs Plain old new pieces streams written × (streams 0 ≡ end)
 
 -- What the pieces came to by how the talk ended. The read that ended it, where it gave no piece, is one of the reads.
 abbrev pub SpeaksUntil : Talk → State → State → List Entry → List ℕ → Type 0
@@ -56,7 +28,8 @@ SpeaksUntil ReadFailed old new pieces written = (length pieces < max_reads) × (
 SpeaksUntil TooMany old new pieces written = (length pieces ≡ max_reads) × (rest : List ℕ) × Speaks old new pieces (Open rest) written
 SpeaksUntil Shut old new pieces written = (length pieces ≤ max_reads) × Speaks old new pieces TooLong written
 SpeaksUntil WriteFailed old new pieces written =
-    (length pieces ≤ max_reads) × (before : List Entry) × (last : Entry) × (pieces ≡ before ++ last ∷ []) × SpeaksInto old new before last written
+    (length pieces ≤ max_reads) × (before : List Entry) × (last : Entry) × (pieces ≡ before ++ last ∷ [])
+    × (streams : Streams) × RunsInto Plain old new before last streams written
 
 -- the same of what the ends and the clock show: one answer of the clock a piece, and no other
 abbrev pub Talks : Talk → State → State → Option (List ℕ) → Option (List ℕ) → Option (List ℕ) → Option (List ℕ) → Option (List ℕ) → Option (List ℕ) → Type 0

@@ -4,10 +4,9 @@ ghost use Rattle.std.specs.Prelude.{◌≡◌, ◌≤◌, ◌<◌, ◌++◌, ℕ
 ghost use Rattle.nfs_xdr.specs.Codec.{IsBytes};
 ghost use Rattle.nfs_xdr.specs.Spelling.{number};
 ghost use Rattle.nfs_rpc.specs.Feeding.{waits, is_too_long};
-ghost use Rattle.nfs_serve.specs.Engine.{state_of};
 ghost use Rattle.nfs_serve.specs.Ends.{Writes};
 ghost use Rattle.nfs_serve.specs.Run.{spell_overflow};
-ghost use Rattle.nfs_serve.specs.Server.{fresh, FeedsOr};
+ghost use Rattle.nfs_serve.specs.Server.{fresh, FeedsOr, state_of};
 ghost use Rattle.nfs_serve.specs.Script.{last_moment};
 ghost use Rattle.nfs_serve.specs.First.{TakesFirst};
 ghost use Rattle.nfs_serve.specs.Desk.{TakesPart, most_owed};

@@ -1,10 +1,11 @@
 //! Up to 16 connections at once.
 
 ghost use Rattle.std.specs.Prelude.{◌≡◌, ℕ, length, replicate, IfOk};
-ghost use Rattle.nfs_serve.specs.Engine.{state_of};
+ghost use Rattle.nfs_serve.specs.Server.{state_of};
 ghost use Rattle.nfs_serve.specs.Script.{connection_count};
 ghost use Rattle.nfs_serve.specs.Desk.{closed};
-ghost use Rattle.nfs_serve.specs.Hub.{Serves, at, desks_of};
+ghost use Rattle.nfs_serve.specs.Hub.{Serves, at};
+ghost use Rattle.nfs_serve.specs.Lane.{desks_of};
 
 use crate::Clock;
 use crate::engine::Engine;
@@ -27,7 +28,7 @@ impl Model for Hub {
     ghost use Rattle.std.specs.Prelude.{List, vec_len, ◌≡◌};
     ghost use Rattle.nfs_serve.specs.Desk.{Desk};
     ghost use Rattle.nfs_serve.specs.Script.{connection_count};
-    ghost use Rattle.nfs_serve.specs.Hub.{desks_of};
+    ghost use Rattle.nfs_serve.specs.Lane.{desks_of};
 
     ghost Value = { List Desk };
 

@@ -2,10 +2,10 @@
 
 ghost use Rattle.std.specs.Prelude.{◌≡◌, ◌≤◌, ◌<◌, ℕ, List, length, true, false, IfOk};
 ghost use Rattle.nfs_rpc.specs.Feeding.{is_too_long};
-ghost use Rattle.nfs_serve.specs.Engine.{state_of};
+ghost use Rattle.nfs_serve.specs.Server.{state_of};
 ghost use Rattle.nfs_serve.specs.Script.{last_connection};
-ghost use Rattle.nfs_serve.specs.Desk.{Act, closed, opened, most_owed};
-ghost use Rattle.nfs_serve.specs.Lane.{desk_of, Advances, Flushes, Settles, EndsTurn, StepsOne, StepsSome};
+ghost use Rattle.nfs_serve.specs.Desk.{Act, closed, opened, most_owed, EndsTurn};
+ghost use Rattle.nfs_serve.specs.Lane.{desk_of, Advances, Flushes, Settles, StepsOne, StepsSome};
 ghost use Rattle.nfs_serve.specs.Boxes as boxes;
 
 use crate::Clock;

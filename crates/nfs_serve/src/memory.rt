@@ -1,6 +1,6 @@
 //! A script in memory: both ends show their bytes, and the reader never fails.
 ghost use Rattle.std.specs.Prelude.{◌≡◌, Option, Some, Bool, false, IfOk, OnErr};
-ghost use Rattle.nfs_serve.specs.Engine.{state_of};
+ghost use Rattle.nfs_serve.specs.Server.{state_of};
 ghost use Rattle.nfs_serve.specs.Replay.{RunsScript, RunsFront};
 
 use crate::fault::ReplayFault;

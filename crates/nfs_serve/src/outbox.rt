@@ -1,7 +1,8 @@
 //! What is owed to the peer of a connection.
 
 ghost use Rattle.std.specs.Prelude.{◌≡◌, ◌≤◌, ◌+◌, ◌++◌, [], length, drop, take, true, IfOk};
-ghost use Rattle.nfs_serve.specs.Desk.{most_owed, largest_answer};
+ghost use Rattle.nfs_serve.specs.Boxes.{largest_answer};
+ghost use Rattle.nfs_serve.specs.Desk.{most_owed};
 
 use std::alloc::{AllocError, Global};
 use std::marker::Model;

@@ -2,10 +2,9 @@
 ghost use Rattle.std.specs.Prelude.{◌≡◌, ◌≤◌, ℕ, List, false, length};
 ghost use Rattle.std.specs.Io.KnownBytes.{Consumes};
 ghost use Rattle.nfs_xdr.specs.Codec.{IsBytes};
-ghost use Rattle.nfs_serve.specs.Engine.{state_of};
 ghost use Rattle.nfs_serve.specs.Run.{all_closed};
 ghost use Rattle.nfs_serve.specs.Reading as reading;
-ghost use Rattle.nfs_serve.specs.Server.{fresh, held_on};
+ghost use Rattle.nfs_serve.specs.Server.{fresh, held_on, state_of};
 ghost use Rattle.nfs_serve.specs.Replay.{AllStand, Replays, Reports};
 ghost use Rattle.nfs_serve.specs.Running.{RunsEntryOr, EndsBehind};
 ghost use Rattle.nfs_serve.specs.Script.{last_moment, last_connection, connection_count, most_piece};

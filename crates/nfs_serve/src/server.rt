@@ -3,9 +3,8 @@
 ghost use Rattle.std.specs.Prelude.{◌≡◌, ◌≢◌, ◌≤◌, [], false, IfOk, OnErr, replicate};
 ghost use Rattle.nfs_exec.specs.Laws.{HasNoClashes};
 ghost use Rattle.nfs_exec.specs.Machine.{IsMachine};
-ghost use Rattle.nfs_serve.specs.Server.{fresh, held_on, IsWith, Steps, FeedsOr, Closes, IsNew};
-ghost use Rattle.nfs_serve.specs.Engine.{state_of};
-ghost use Rattle.nfs_serve.specs.Replay.{Replays, Reports};
+ghost use Rattle.nfs_serve.specs.Server.{fresh, held_on, IsWith, Steps, FeedsOr, Closes, IsNew, state_of};
+ghost use Rattle.nfs_serve.specs.Replay.{IsReplay};
 ghost use Rattle.nfs_serve.specs.Talk.{Talks, TalkReports};
 ghost use Rattle.nfs_serve.specs.Hub.{Serves};
 ghost use Rattle.nfs_serve.specs.Script.{last_moment, last_connection, connection_count};
@@ -164,9 +163,7 @@ impl Server {
         requires read { R.has_failed r.old ≡ false }
         requires ended { R.has_ended r.old ≡ false }
         requires write { W.has_failed w.old ≡ false }
-        ensures run { Replays result (state_of self.old.kept) (state_of self.new.kept) self.new.held (R.left r.old) (R.left r.new) (W.held w.old) (W.held w.new) }
-        ensures reported { Reports result (R.has_ended r.new) (R.has_failed r.new) (W.has_failed w.new) (R.left r.new) }
-        ensures reply { self.new.reply ≡ [] }
+        ensures { IsReplay result self.old self.new (R.left r.old) (R.left r.new) (W.held w.old) (W.held w.new) (R.has_ended r.new) (R.has_failed r.new) (W.has_failed w.new) }
     {
         self.run_script::<ByReading, R, W>(alloc, r, w)
     }
@@ -181,9 +178,7 @@ impl Server {
         requires read { R.has_failed r.old ≡ false }
         requires ended { R.has_ended r.old ≡ false }
         requires write { W.has_failed w.old ≡ false }
-        ensures run { Replays result (state_of self.old.kept) (state_of self.new.kept) self.new.held (R.left r.old) (R.left r.new) (W.held w.old) (W.held w.new) }
-        ensures reported { Reports result (R.has_ended r.new) (R.has_failed r.new) (W.has_failed w.new) (R.left r.new) }
-        ensures reply { self.new.reply ≡ [] }
+        ensures { IsReplay result self.old self.new (R.left r.old) (R.left r.new) (W.held w.old) (W.held w.new) (R.has_ended r.new) (R.has_failed r.new) (W.has_failed w.new) }
     {
         self.run_script::<FromBuffer, R, W>(alloc, r, w)
     }
@@ -198,9 +193,7 @@ impl Server {
         requires read { R.has_failed r.old ≡ false }
         requires ended { R.has_ended r.old ≡ false }
         requires write { W.has_failed w.old ≡ false }
-        ensures run { Replays result (state_of self.old.kept) (state_of self.new.kept) self.new.held (R.left r.old) (R.left r.new) (W.held w.old) (W.held w.new) }
-        ensures reported { Reports result (R.has_ended r.new) (R.has_failed r.new) (W.has_failed w.new) (R.left r.new) }
-        ensures reply { self.new.reply ≡ [] }
+        ensures { IsReplay result self.old self.new (R.left r.old) (R.left r.new) (W.held w.old) (W.held w.new) (R.has_ended r.new) (R.has_failed r.new) (W.has_failed w.new) }
     {
         close_all(&mut self.connections);
         let ran = run::<L, R, W>(

@@ -1,6 +1,6 @@
 //! A talk over one connection.
 ghost use Rattle.std.specs.Prelude.{◌≡◌, false, length};
-ghost use Rattle.nfs_serve.specs.Engine.{state_of};
+ghost use Rattle.nfs_serve.specs.Server.{state_of};
 ghost use Rattle.nfs_serve.specs.Talk.{Talks, TalkReports};
 ghost use Rattle.nfs_serve.specs.Script.{most_piece};
 

@@ -1,4 +1,4 @@
-use Rattle.std.proofs.Common.{rules, ◌≡◌, ◌++◌, length, take, drop, refl, sym, subst, ◌∙◌, take-append-drop, []}
+use Rattle.std.proofs.Common.{rules, ◌≡◌, length, take, drop, refl, sym, subst, ◌∙◌, take-append-drop, []}
 use Rattle.std.proofs.lemmas.List.{nil_from_length}
 use Rattle.std.proofs.lemmas.Bool.{eqb-true}
 use Rattle.std.proofs.lemmas.Result.{err_from_is_err_and}

@@ -1,4 +1,4 @@
-use Rattle.std.proofs.Common.{◌≡◌, ◌≤◌, ◌+◌, ◌-◌, ◌++◌, length, drop, ap, ◌∙◌, arith, length-drop}
+use Rattle.std.proofs.Common.{◌≡◌, ◌+◌, ◌-◌, ◌++◌, length, drop, ap, ◌∙◌, arith, length-drop}
 use Rattle.nfs_xdr.specs.Spelling.{number}
 use Rattle.nfs_serve.proofs.Framing.{framed, length-framed, length-framed_reply}
 use Rattle.nfs_serve.proofs.engine.frame.Goals as goal

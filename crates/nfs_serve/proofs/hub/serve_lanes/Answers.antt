@@ -1,5 +1,5 @@
 use Rattle.std.proofs.Common.{◌≤◌, ◌<◌, length, length-set, arith, ◌≡◌, ◌^◌, ◌-◌, inl, inr, refl}
-use Rattle.nfs_serve.specs.Engine.{state_of}
+use Rattle.nfs_serve.specs.Server.{state_of}
 use Rattle.nfs_serve.proofs.Rounds.{start, opens, turns}
 use Rattle.nfs_serve.proofs.hub.serve_lanes.Goals.{in-Opened, in-Turn}
 use Rattle.nfs_serve.proofs.hub.serve_lanes.Goals as goal

@@ -1,7 +1,8 @@
 -- What was done so far were rounds.
 use Rattle.std.proofs.Common.{◌≡◌, length}
-use Rattle.nfs_serve.specs.Engine.{state_of}
-use Rattle.nfs_serve.specs.Hub.{ServesRounds, desks_of}
+use Rattle.nfs_serve.specs.Server.{state_of}
+use Rattle.nfs_serve.specs.Hub.{ServesRounds}
+use Rattle.nfs_serve.specs.Lane.{desks_of}
 use Rattle.nfs_serve.proofs.hub.serve_lanes.Given as goal
 
 abbrev pub invariant-loop : goal.invariant-loop

@@ -61,7 +61,7 @@ returns-then-is_err-clause-run g c =
 
 pub returns-in-Err-clause-run : goal.returns-in-Err-clause-run
 returns-in-Err-clause-run g c =
-    let (rest, read, stands, told, at) = c.in-Err.ensures.read in
+    let (rest, read, stands, told) = c.in-Err.ensures.read in
     going_stops c.loop-done.invariant.0 c.in-Err.stop _ _ rest _ _ refl (add-one c.loop-done.done) read (stands c.loop-done.done c.loop-done-test.true) told
 
 pub returns-clause-run : goal.returns-clause-run

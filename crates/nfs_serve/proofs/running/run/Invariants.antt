@@ -1,6 +1,6 @@
 -- The run so far is a run of whole entries, and neither end has failed.
 use Rattle.std.proofs.Common.{◌≡◌, false, length}
-use Rattle.nfs_serve.specs.Engine.{state_of}
+use Rattle.nfs_serve.specs.Server.{state_of}
 use Rattle.nfs_serve.proofs.Runs.{Going}
 use Rattle.nfs_serve.proofs.running.run.Given as goal
 

@@ -18,12 +18,11 @@ returns-then-fill-len-clause-read g c =
       Consumes-trans _ _ _ _ _ (subst (Consumes _ _) (take_all _ _ (search rules) ∙ c.head_of-moment.ensures.0) c.fill-came.ensures.bytes) c.fill.ensures.bytes,
       rw c.short_of-then-fill-len.ensures told.0,
       rw c.short_of-then-fill-len.ensures told.1,
-      rw c.short_of-then-fill-len.ensures told.2,
     )
 
 pub returns-in-Some-clause-read : goal.returns-in-Some-clause-read
 returns-in-Some-clause-read g c =
     let came : c.fill-came.result ≡ length c.fill-came.new.buf = search rules in
-    let (stops, told, at) = refused_stops (g.R.Source.left c.fill-came.new.r) _ _ _ c.fill-came.new.buf c.in-Some.stop (g.R.Source.has_ended c.fill-came.new.r)
+    let (stops, told) = refused_stops (g.R.Source.left c.fill-came.new.r) _ _ _ c.fill-came.new.buf c.in-Some.stop (g.R.Source.has_ended c.fill-came.new.r)
     (g.R.Source.has_failed c.fill-came.new.r) (c.fill-came.ensures.full came).0 c.head_of-moment.ensures (sym c.refusal_of.ensures ∙ c.in-Some.is) in
-    (c.fill-came.new.buf, subst (Consumes _ _) (take_all _ _ (search rules)) c.fill-came.ensures.bytes, stops, told, at)
+    (c.fill-came.new.buf, subst (Consumes _ _) (take_all _ _ (search rules)) c.fill-came.ensures.bytes, stops, told)

@@ -1,4 +1,4 @@
-use Rattle.std.proofs.Common.{◌≡◌, ◌<◌, ◌≤◌, arith, rules, refl, sym, ap, ◌∙◌, ◌++◌, append-nil, take, take_all, length, le_refl, [], false}
+use Rattle.std.proofs.Common.{◌≡◌, arith, sym, ap, ◌∙◌, ◌++◌, append-nil, take_all, length, le_refl, [], false}
 use Rattle.nfs_xdr.specs.Codec.{IsBytes}
 use Rattle.nfs_rpc.specs.Feeding.{is_too_long}
 use Rattle.nfs_serve.specs.declared.form.Form.TheVariants.{Plain}

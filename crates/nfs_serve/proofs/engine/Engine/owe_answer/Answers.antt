@@ -1,6 +1,5 @@
 use Rattle.std.proofs.Common.{◌≡◌, ◌≤◌, ◌++◌, length, drop, sym, ap, ◌∙◌, arith}
 use Rattle.nfs_serve.specs.declared.form.Form.TheVariants.{Plain}
-use Rattle.nfs_serve.specs.declared.form.Outcome.TheVariants.{Reply}
 use Rattle.nfs_serve.specs.Engine.{in_form, spell_lent}
 use Rattle.nfs_serve.proofs.Framing.{drop-framed, long-framed, spelled_in_form}
 use Rattle.nfs_serve.proofs.engine.Engine.owe_answer.Goals as goal

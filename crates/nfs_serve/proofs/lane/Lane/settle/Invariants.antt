@@ -1,6 +1,6 @@
 -- What was done so far were acts of this port.
 use Rattle.std.proofs.Common.{◌≡◌, List, true, length}
-use Rattle.nfs_serve.specs.Engine.{state_of}
+use Rattle.nfs_serve.specs.Server.{state_of}
 use Rattle.nfs_serve.specs.Desk.{Act}
 use Rattle.nfs_serve.specs.Lane.{desk_of, Advances}
 use Rattle.nfs_serve.proofs.lane.Lane.settle.Given as goal

@@ -1,4 +1,4 @@
-use Rattle.std.proofs.Common.{◌≡◌, ◌<◌, rules, refl, sym, ◌++◌, ◌∙◌, ap, take, drop, length, take-append-drop, arith, length-drop, length-take-le}
+use Rattle.std.proofs.Common.{◌≡◌, ◌<◌, refl, sym, ◌++◌, ap, take, length, take-append-drop, arith, length-drop, length-take-le}
 use Rattle.nfs_serve.proofs.lane.Lane.step_one.Goals as goal
 
 pub returns : goal.returns

@@ -1,6 +1,6 @@
-use Rattle.std.proofs.Common.{◌≡◌, ◌<◌, ◌++◌, [], ◌∷◌, sym, ap, ◌∙◌, arith, length, subst, false}
+use Rattle.std.proofs.Common.{◌≡◌, ◌++◌, [], ◌∷◌, sym, ap, ◌∙◌, arith, subst, false}
 use Rattle.std.proofs.lemmas.List.{nil_from_length}
-use Rattle.nfs_serve.specs.Engine.{state_of}
+use Rattle.nfs_serve.specs.Server.{state_of}
 use Rattle.nfs_serve.specs.Desk.{Stepped}
 use Rattle.nfs_serve.specs.Lane.{desk_of, Working}
 use Rattle.nfs_serve.proofs.Advancing.{stepped, working_on}

@@ -1,6 +1,6 @@
 -- Parts were stepped, one at least.
 use Rattle.std.proofs.Common.{length}
-use Rattle.nfs_serve.specs.Engine.{state_of}
+use Rattle.nfs_serve.specs.Server.{state_of}
 use Rattle.nfs_serve.specs.Lane.{StepsSome}
 use Rattle.nfs_serve.proofs.lane.Lane.step_some.Given as goal
 
