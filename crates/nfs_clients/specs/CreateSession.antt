@@ -1,6 +1,7 @@
 -- CREATE_SESSION's number and what is kept under it; what a confirmation removes (RFC 8881 section 18.36;
 -- which refusals use a number up is this server's profile).
-use Rattle.std.specs.Prelude.{ℕ, ◌+◌, ◌%◌, ◌^◌, ◌==◌, ◌&&◌, not, Bool, true, false, Option, Some, None, find, option_map, if◌then◌else◌}
+use Rattle.std.specs.Prelude.{ℕ, ◌+◌, ◌%◌, ◌^◌, ◌==◌, ◌&&◌, not, Bool, true, false, Option, Some, None, find, option_map, option_and_then, if◌then◌else◌}
+use Rattle.std.specs.Option.{option_map_or}
 use Rattle.nfs_xdr.specs.declared.status.Status.{Status}
 use Rattle.nfs_xdr.specs.declared.status.Status.TheVariants.{TooSmall, NoSpc, ServerFault}
 use Rattle.nfs_clients.specs.Roster.{ClientRecord, Roster, client_at, is_confirmed_of, with_changed, without}
@@ -29,16 +30,12 @@ verdict_of code.Misordered = Misordered
 verdict_of code.InUse = InUse
 verdict_of code.Runs = Runs
 
-abbrev pub repeats : Option CreateResult → Verdict
-repeats None = Misordered
-repeats (Some result) = Again result
-
 -- the number that is expected runs, the one before repeats what was kept under it
 abbrev pub verdict_by : Option ClientRecord → ℕ → ℕ → Verdict
 verdict_by None number uid = Stale
 verdict_by (Some c) number uid =
     if number == c.number then (if c.uid == uid then Runs else InUse)
-    else if following number == c.number then repeats c.kept
+    else if following number == c.number then option_map_or Again c.kept Misordered
     else Misordered
 
 abbrev pub create_verdict : Roster → ℕ → ℕ → ℕ → Verdict
@@ -68,8 +65,7 @@ is_other_confirmed_of c d = is_confirmed_of c.owner d && not (d.id == c.id)
 
 -- the record that a client's confirmation removes
 abbrev pub leaving_by : Roster → Option ClientRecord → Option ℕ
-leaving_by t None = None
-leaving_by t (Some c) = option_map (λ d. d.id) (find (is_other_confirmed_of c) t.records)
+leaving_by t found = option_and_then (λ c. option_map (λ d. d.id) (find (is_other_confirmed_of c) t.records)) found
 
 abbrev pub leaving : Roster → ℕ → Option ℕ
 leaving t id = leaving_by t (client_at t id)

@@ -1,9 +1,10 @@
 -- EXCHANGE_ID: the cases in the order in which they are judged, the answer, and the table behind it (RFC 8881 section 18.35;
 -- the cases are this server's profile).
 use Rattle.std.specs.Prelude.{◌≡◌, ℕ, ◌+◌, ◌==◌, ◌&&◌, ◌||◌, not, nat_lt, Bool, true, false, List, [], ◌∷◌, ◌++◌, length, Option, Some, None, Result, Ok, Err}
-use Rattle.std.specs.Prelude.{filter, option_map, is_some, bytes_eq, bit_and, if◌then◌else◌}
+use Rattle.std.specs.Prelude.{filter, option_map, is_some, unwrap_or, bytes_eq, bit_and, if◌then◌else◌}
 use Rattle.nfs_xdr.specs.declared.status.Status.{Status}
 use Rattle.nfs_xdr.specs.declared.status.Status.TheVariants as status
+use Rattle.nfs_xdr.specs.Checks.{first_fault}
 use Rattle.nfs_clients.specs.Roster.{ClientRecord, Roster, most_records, last_counter, next_id, is_unconfirmed_of, confirmed_of, unconfirmed_of}
 use Rattle.nfs_clients.specs.declared.exchange_id.ClientFault.{ClientFault}
 use Rattle.nfs_clients.specs.declared.exchange_id.ClientFault.TheVariants.{Inval, NoEnt, NotSame, Perm, ClidInUse, ServerFault, Memory}
@@ -49,26 +50,21 @@ pub data Case : Type 0 where
   Stays : ClientRecord → Case
   Adds : Case
 
--- the first row whose test holds; the last is taken where none does
-abbrev pub first_row : List (Bool × Case) → Case → Case
-first_row [] last = last
-first_row (row ∷ rows) last = if row.0 then row.1 else first_row rows last
-
--- The rows, by the owner's confirmed record.
+-- The rows, by the owner's confirmed record. The first whose test holds decides, and a record is added where none does.
 abbrev pub case_by : Ask → Option ClientRecord → Case
 case_by a None =
-    first_row ((carries_confirmed a, Refuses Inval)
+    unwrap_or (first_fault ((carries_confirmed a, Refuses Inval)
     ∷ (updates a, Refuses NoEnt)
-    ∷ []) Adds
+    ∷ [])) Adds
 case_by a (Some c) =
-    first_row ((carries_confirmed a, Refuses Inval)
+    unwrap_or (first_fault ((carries_confirmed a, Refuses Inval)
     ∷ (updates a && not (same_verifier a c), Refuses NotSame)
     ∷ (updates a && not (same_user a c), Refuses Perm)
     ∷ (updates a, Stays c)
     ∷ (same_user a c && same_verifier a c, Stays c)
     ∷ (same_user a c, Adds)
     ∷ (c.has_open, Refuses ClidInUse)
-    ∷ []) Adds
+    ∷ [])) Adds
 
 -- a record can be added: ids are left, and it takes the place of the owner's unconfirmed one or finds one free
 abbrev pub has_room : Roster → List ℕ → Bool
@@ -76,10 +72,8 @@ has_room t owner = nat_lt t.last last_counter && (is_some (unconfirmed_of t owne
 
 -- where there is no room, a new record is refused and nothing else
 abbrev pub if_room : Bool → Case → Case
-if_room true case = case
-if_room false (Refuses fault) = Refuses fault
-if_room false (Stays c) = Stays c
 if_room false Adds = Refuses ServerFault
+if_room room case = case
 
 -- what a call comes to in this table
 abbrev pub case_of : Roster → Ask → Case

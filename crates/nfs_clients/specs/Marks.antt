@@ -1,13 +1,13 @@
 -- The marks of a client record: that its reclaim is complete (RFC 8881 section 18.51), and that it has an open.
-use Rattle.std.specs.Prelude.{ℕ, Bool, true, false, Option, Some, None, is_some}
+use Rattle.std.specs.Prelude.{ℕ, Bool, true, false, Option, is_some}
+use Rattle.std.specs.Option.{option_map_or}
 use Rattle.nfs_clients.specs.Roster.{ClientRecord, Roster, client_at, with_changed}
 
 abbrev pub has_client : Roster → ℕ → Bool
 has_client t id = is_some (client_at t id)
 
 abbrev pub is_reclaimed : Option ClientRecord → Bool
-is_reclaimed None = false
-is_reclaimed (Some c) = c.reclaimed
+is_reclaimed found = option_map_or (λ c. c.reclaimed) found false
 
 -- the client has declared its reclaim complete
 abbrev pub has_reclaimed : Roster → ℕ → Bool
@@ -17,8 +17,7 @@ abbrev pub with_reclaimed : Roster → ℕ → Roster
 with_reclaimed t id = with_changed t id (λ c. record c { reclaimed = true })
 
 abbrev pub has_open_by : Option ClientRecord → Bool
-has_open_by None = false
-has_open_by (Some c) = c.has_open
+has_open_by found = option_map_or (λ c. c.has_open) found false
 
 -- the client has an open
 abbrev pub has_open : Roster → ℕ → Bool
