@@ -1,8 +1,17 @@
 -- What the code's tables and answers say.
-use Rattle.std.specs.Prelude.{◌≡◌, ℕ, ◌==◌, not, Option, if◌then◌else◌}
+use Rattle.std.specs.Prelude.{◌≡◌, ℕ, ◌+◌, ◌^◌, ◌<◌, ◌≤◌, ◌==◌, length, not, Option, if◌then◌else◌}
 use Rattle.nfs_xdr.specs.declared.status.Status.{Status}
 use Rattle.nfs_xdr.specs.SheetState.{SheetState, Puts}
+use Rattle.nfs_xdr.specs.Caller.{Caller}
+use Rattle.nfs_xdr.specs.Limits.{opaque_limit}
+use Rattle.nfs_xdr.specs.Tables.{In}
+use Rattle.nfs_compound.specs.Operation.{Item}
+use Rattle.nfs_compound.specs.Request.{Request}
+use Rattle.nfs_compound.specs.declared.session_args.Sequence.{Sequence}
 use Rattle.nfs_clients.specs.Roster.{without}
+use Rattle.nfs_sessions.specs.Channel.{IsGranted}
+use Rattle.nfs_sessions.specs.SessionSlots.{rpc_head}
+use Rattle.nfs_sessions.specs.declared.channel.Channel.{Channel}
 use Rattle.nfs_sessions.specs.Sessions as sessions
 use Rattle.nfs_names.specs.declared.context.Context.{Context}
 use Rattle.nfs_names.specs.State.{state_of, IsStore}
@@ -14,6 +23,8 @@ use Rattle.nfs_exec.specs.declared.sequence.Sequenced.TheVariants as code
 use Rattle.nfs_exec.specs.declared.run.Ran as code_run
 use Rattle.nfs_exec.specs.Machine.{Machine, IsMachine, Outcome}
 use Rattle.nfs_exec.specs.Behind.{Step}
+use Rattle.nfs_exec.specs.Compound.{answers, runs_behind, HasReplyRoom, Answers}
+use Rattle.nfs_exec.specs.Place.{CanBear}
 use Rattle.nfs_exec.specs.Run.{Ran}
 use Rattle.nfs_exec.specs.ExchangeId.{without_any_lease}
 use Rattle.nfs_exec.specs.CreateSession.{without_any_sessions, without_any_opens}
@@ -50,6 +61,25 @@ pub record RunsTo (ran : Ran) (done : code_run.Ran) (left : Machine) (old new : 
   pub count : done.count ≡ ran.count
   pub machine : left ≡ ran.machine
   pub put : Puts old new ran.results
+
+-- What running a compound in a session of this channel stands on.
+pub record MayRun (m : Machine) (r : Request) (s : Sequence) (channel : Channel) (now : ℕ) (sheet : SheetState) : Type 0 where
+  pub sessionid : length s.sessionid ≡ 16
+  pub bears : (i : Item) → In i r.left → CanBear i
+  pub few : length r.left ≤ 64
+  pub tag : length r.tag ≤ opaque_limit
+  pub granted : IsGranted channel
+  pub moment : now < 2 ^ 63
+  pub store : IsStore m.store
+  pub room : HasReplyRoom sheet
+
+-- It was run: for some choice the answer was put, within what the channel lets pass. `behind` is what is left of the compound.
+pub record RanIn (m : Machine) (r : Request) (who : Caller) (now : ℕ) (s : Sequence) (channel : Channel) (left : Machine) (behind : Request)
+    (old new : SheetState) : Type 0 where
+  pub answer : (choice : Option ℕ) × Answers (answers r (runs_behind m r who now choice s channel r.left)) old new left
+  pub fits : length new.bytes + rpc_head ≤ length old.bytes + channel.response
+  pub same : behind ≡ record r { left = behind.left }
+  pub store : IsStore left.store
 
 -- a client goes with its sessions, its lease, its opens and its locks
 abbrev pub without_client : Machine → ℕ → Machine

@@ -8,13 +8,12 @@ ghost use Rattle.nfs_compound.specs.Operation.{Item};
 ghost use Rattle.nfs_compound.specs.View.{item};
 ghost use Rattle.nfs_lease.specs.Renewals.{IsLatest};
 ghost use Rattle.nfs_sessions.specs.Channel.{IsGranted};
-ghost use Rattle.nfs_sessions.specs.SessionSlots.{rpc_head};
 ghost use Rattle.nfs_names.specs.State.{IsStore};
 ghost use Rattle.nfs_exec.specs.Machine.{IsMachine, is_delay};
 ghost use Rattle.nfs_exec.specs.Place.{CanBear};
 ghost use Rattle.nfs_exec.specs.Sequence.{Runs, sequenced};
-ghost use Rattle.nfs_exec.specs.Compound.{compound, first_item, in_session, answers, runs_behind, IsOpened, HasReplyRoom, Answers};
-ghost use Rattle.nfs_exec.specs.View.{machine_of, Does, IsKept};
+ghost use Rattle.nfs_exec.specs.Compound.{compound, first_item, in_session, IsOpened, HasReplyRoom, Answers};
+ghost use Rattle.nfs_exec.specs.View.{machine_of, Does, IsKept, MayRun, RanIn};
 
 use crate::place::fault_in_first_place;
 use crate::sequence::{Sequenced, accepted, judge};
@@ -184,19 +183,8 @@ impl Tables {
         now: u64,
         out: &mut Sheet,
     )
-        requires sessionid { length asked.now.sessionid ≡ 16 }
-        requires bears { (i : Item) → In i args.old.left → CanBear i }
-        requires few { length args.old.left ≤ 64 }
-        requires tag { length args.old.tag ≤ opaque_limit }
-        requires granted { IsGranted channel.now }
-        requires moment { now < 2 ^ 63 }
-        requires store { IsStore (machine_of self.old).store }
-        requires room { HasReplyRoom out.old }
-        ensures answer { (choice : Option ℕ)
-            × Answers (answers args.old (runs_behind (machine_of self.old) args.old (caller who.now) now choice asked.now channel.now args.old.left)) out.old out.new (machine_of self.new) }
-        ensures fits { length out.new.bytes + rpc_head ≤ length out.old.bytes + channel.now.response }
-        ensures same { args.new ≡ record args.old { left = args.new.left } }
-        ensures store { IsStore (machine_of self.new).store }
+        requires { MayRun (machine_of self.old) args.old asked.now channel.now now out.old }
+        ensures { RanIn (machine_of self.old) args.old (caller who.now) now asked.now channel.now (machine_of self.new) args.new out.old out.new }
     {
         let start = out.len();
         let head = OpenHead::put(args.tag(), out);
