@@ -4,7 +4,8 @@ use Rattle.std.proofs.Common.{◌++◌, length, take, drop, get_or, Some, refl, 
 use Rattle.std.specs.List.{flat_map}
 use Rattle.std.proofs.lemmas.Option.{same_Some}
 use Rattle.std.proofs.lemmas.List.{drop_at, append-nil}
-use Rattle.nfs_xdr.specs.Codec.{Codec, IsCodec}
+use Rattle.nfs_xdr.specs.Codec.{Codec}
+use Rattle.nfs_xdr.specs.Lawful.{IsCodec}
 use Rattle.nfs_attrs.specs.Following.{Follows}
 
 -- no spelling begins another

@@ -1,7 +1,8 @@
 -- A set time is read exactly where it is spelled.
 use Rattle.std.proofs.Common.{◌≡◌, ℕ, ◌<◌, ◌^◌, List, ◌++◌, Some, refl, append_assoc, arith}
 use Rattle.nfs_xdr.specs.Spelling as spelling
-use Rattle.nfs_xdr.specs.Codec.{IsCodec, choose}
+use Rattle.nfs_xdr.specs.Codec.{choose}
+use Rattle.nfs_xdr.specs.Lawful.{IsCodec}
 use Rattle.nfs_xdr.specs.Time.{time}
 use Rattle.nfs_xdr.proofs.CodecLaws.{is_union, is_arm, is_bare}
 use Rattle.nfs_xdr.proofs.WordLaws.{is_time}

@@ -1,7 +1,7 @@
 //! Laws of the table of attributes and of what is spelled.
 
 ghost use Rattle.std.specs.Prelude.{◌≡◌, ◌≤◌, ◌<◌, ◌^◌, ℕ, true, length, is_some};
-ghost use Rattle.nfs_xdr.specs.Codec.{IsCodec};
+ghost use Rattle.nfs_xdr.specs.Lawful.{IsCodec};
 ghost use Rattle.nfs_xdr.specs.Tables.{IsRising};
 ghost use Rattle.nfs_tree.specs.declared.object.Object.{Object};
 ghost use Rattle.nfs_attrs.specs.Attributes as table;

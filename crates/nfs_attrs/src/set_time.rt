@@ -1,6 +1,6 @@
 //! Times that are set (RFC 8881 sections 3.3.3, 5.8.2.38 and 5.8.2.44).
 
-ghost use Rattle.nfs_xdr.specs.Reading.{ReadsPartBy};
+ghost use Rattle.nfs_xdr.specs.Readers.{ReadsPartBy};
 ghost use Rattle.nfs_attrs.specs.SetTime as spelled;
 
 use nfs_xdr::{Cursor, Time, Unreadable};

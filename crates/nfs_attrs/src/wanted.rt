@@ -2,7 +2,7 @@
 
 ghost use Rattle.std.specs.Prelude.{◌≡◌, ℕ, is_some};
 ghost use Rattle.nfs_xdr.specs.Codec as codec;
-ghost use Rattle.nfs_xdr.specs.Reading.{ReadsPartBy};
+ghost use Rattle.nfs_xdr.specs.Readers.{ReadsPartBy};
 ghost use Rattle.nfs_xdr.specs.Status.{status_number};
 ghost use Rattle.nfs_attrs.specs.Attributes as table;
 ghost use Rattle.nfs_attrs.specs.SetTime.{set_time};

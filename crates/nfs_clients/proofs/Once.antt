@@ -6,7 +6,8 @@ use Rattle.nfs_xdr.proofs.Tables.{gone_filter, gone_map, gone_push}
 use Rattle.nfs_clients.specs.Roster.{ClientRecord, Roster, IsRoster, no_clients, next_id, client_at, is_unconfirmed_of, with_changed}
 use Rattle.nfs_clients.specs.ExchangeId.{Ask, Case, Refuses, Stays, Adds, has_room, if_room, case_by, case_of, does, with_new, new_client}
 use Rattle.nfs_clients.specs.CreateSession.{keeps, leaving, without_any, confirms}
-use Rattle.nfs_clients.specs.DestroyClientId.{destroy_fault, without_unless}
+use Rattle.nfs_clients.specs.DestroyClientId.{destroy_fault}
+use Rattle.nfs_clients.specs.Calls.{without_unless}
 use Rattle.nfs_clients.specs.declared.destroy.DestroyFault.{DestroyFault}
 use Rattle.nfs_clients.specs.Laws.{Change, Exchanges, Confirms, Keeps, Reclaims, Holds, Destroys, Removes, changed, after_all, IdsAreGivenOnce}
 use Rattle.nfs_clients.specs.Laws.{TablesAreInOrder}

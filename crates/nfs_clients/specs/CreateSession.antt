@@ -7,8 +7,6 @@ use Rattle.nfs_xdr.specs.declared.status.Status.TheVariants.{TooSmall, NoSpc, Se
 use Rattle.nfs_clients.specs.Roster.{ClientRecord, Roster, client_at, is_confirmed_of, with_changed, without}
 use Rattle.nfs_clients.specs.declared.created.CreateResult.{CreateResult}
 use Rattle.nfs_clients.specs.declared.created.CreateResult.TheVariants.{Done, Refused}
-use Rattle.nfs_clients.specs.declared.create_session.CreateVerdict.{CreateVerdict}
-use Rattle.nfs_clients.specs.declared.create_session.CreateVerdict.TheVariants as code
 
 -- numbers go round behind 2^32 - 1
 abbrev pub following : ℕ → ℕ
@@ -21,14 +19,6 @@ pub data Verdict : Type 0 where
   Misordered : Verdict
   InUse : Verdict
   Runs : Verdict
-
--- what the code's answer says, with the result that it lends
-abbrev pub verdict_of : CreateVerdict → Verdict
-verdict_of code.Stale = Stale
-verdict_of (code.Again result) = Again result.now
-verdict_of code.Misordered = Misordered
-verdict_of code.InUse = InUse
-verdict_of code.Runs = Runs
 
 -- the number that is expected runs, the one before repeats what was kept under it
 abbrev pub verdict_by : Option ClientRecord → ℕ → ℕ → Verdict

@@ -1,11 +1,11 @@
 -- DESTROY_CLIENTID: an id that names no record, a client that has a session or an open, or the record goes (RFC 8881 section 18.50).
-use Rattle.std.specs.Prelude.{ℕ, Bool, not, ◌||◌, [], ◌∷◌, Option, Some, None}
+use Rattle.std.specs.Prelude.{ℕ, Bool, not, ◌||◌, [], ◌∷◌, Option}
 use Rattle.nfs_xdr.specs.Checks.{first_fault}
 use Rattle.nfs_xdr.specs.declared.status.Status.{Status}
 use Rattle.nfs_xdr.specs.declared.status.Status.TheVariants as status
 use Rattle.nfs_clients.specs.declared.destroy.DestroyFault.{DestroyFault}
 use Rattle.nfs_clients.specs.declared.destroy.DestroyFault.TheVariants.{Stale, Busy}
-use Rattle.nfs_clients.specs.Roster.{Roster, without}
+use Rattle.nfs_clients.specs.Roster.{Roster}
 use Rattle.nfs_clients.specs.Marks.{has_client, has_open}
 
 -- the status that a fault is answered with
@@ -19,11 +19,3 @@ destroy_fault t id has_session = first_fault (
     (not (has_client t id), Stale)
     ∷ (has_session || has_open t id, Busy)
     ∷ [])
-
-abbrev pub without_unless : Option DestroyFault → Roster → ℕ → Roster
-without_unless None t id = without t id
-without_unless (Some fault) t id = t
-
--- the table behind the call
-abbrev pub destroyed : Roster → ℕ → Bool → Roster
-destroyed t id has_session = without_unless (destroy_fault t id has_session) t id

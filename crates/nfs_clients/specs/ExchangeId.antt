@@ -1,7 +1,7 @@
 -- EXCHANGE_ID: the cases in the order in which they are judged, the answer, and the table behind it (RFC 8881 section 18.35;
 -- the cases are this server's profile).
-use Rattle.std.specs.Prelude.{◌≡◌, ℕ, ◌+◌, ◌==◌, ◌&&◌, ◌||◌, not, nat_lt, Bool, true, false, List, [], ◌∷◌, ◌++◌, length, Option, Some, None, Result, Ok, Err}
-use Rattle.std.specs.Prelude.{filter, option_map, is_some, unwrap_or, bytes_eq, bit_and, if◌then◌else◌}
+use Rattle.std.specs.Prelude.{ℕ, ◌+◌, ◌==◌, ◌&&◌, ◌||◌, not, nat_lt, Bool, true, false, List, [], ◌∷◌, ◌++◌, length, Option, Some, None, Result, Ok, Err}
+use Rattle.std.specs.Prelude.{filter, option_map, is_some, unwrap_or, bytes_eq, bit_and}
 use Rattle.nfs_xdr.specs.declared.status.Status.{Status}
 use Rattle.nfs_xdr.specs.declared.status.Status.TheVariants as status
 use Rattle.nfs_xdr.specs.Checks.{first_fault}
@@ -120,17 +120,3 @@ does t a Adds = record { answer = Ok (answer_added t a.owner); after = with_new 
 
 abbrev pub exchange : Roster → Ask → Did
 exchange t a = does t a (case_of t a)
-
--- what the call is refused with, if it is
-abbrev pub refusal_of : Case → Option ClientFault
-refusal_of (Refuses fault) = Some fault
-refusal_of (Stays c) = None
-refusal_of Adds = None
-
-abbrev pub exchange_fault : Roster → Ask → Option ClientFault
-exchange_fault t a = refusal_of (case_of t a)
-
--- The answer and the table are those of the definition; or memory was refused where a record is added, and nothing has changed.
-abbrev pub ExchangesOrWants : Roster → Ask → Result Exchanged ClientFault → Roster → Type 0
-ExchangesOrWants old a (Err Memory) new = (case_of old a ≡ Adds) × (new ≡ old)
-ExchangesOrWants old a result new = (result ≡ (exchange old a).answer) × (new ≡ (exchange old a).after)

@@ -4,7 +4,7 @@ use Rattle.nfs_clients.specs.declared.created.CreateResult.{CreateResult}
 use Rattle.nfs_clients.specs.Roster.{Roster, IsRoster, no_clients, next_id, client_at, without}
 use Rattle.nfs_clients.specs.ExchangeId.{Ask, exchange}
 use Rattle.nfs_clients.specs.CreateSession.{with_kept, with_confirmed}
-use Rattle.nfs_clients.specs.DestroyClientId.{destroyed}
+use Rattle.nfs_clients.specs.Calls.{destroyed}
 use Rattle.nfs_clients.specs.Marks.{with_reclaimed, with_open}
 
 -- what changes a table

@@ -6,3 +6,4 @@ pub mod DestroyClientId
 pub mod Marks
 pub mod Laws
 pub mod Seen
+pub mod Calls

@@ -2,7 +2,8 @@
 
 ghost use Rattle.std.specs.Prelude.{◌≡◌, find, Some};
 ghost use Rattle.std.specs.Option.{option_copied};
-ghost use Rattle.nfs_clients.specs.CreateSession.{create_verdict, verdict_of, verdict_by, leaving, with_confirmed, with_kept, is_other_confirmed_of};
+ghost use Rattle.nfs_clients.specs.CreateSession.{create_verdict, verdict_by, leaving, with_confirmed, with_kept, is_other_confirmed_of};
+ghost use Rattle.nfs_clients.specs.Calls.{verdict_of};
 
 use crate::client::Client;
 use crate::clients::Clients;

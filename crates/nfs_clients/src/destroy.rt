@@ -2,7 +2,8 @@
 
 ghost use Rattle.std.specs.Prelude.{◌≡◌};
 ghost use Rattle.nfs_xdr.specs.Checks.{judged};
-ghost use Rattle.nfs_clients.specs.DestroyClientId.{destroy_fault, destroy_status, destroyed};
+ghost use Rattle.nfs_clients.specs.DestroyClientId.{destroy_fault, destroy_status};
+ghost use Rattle.nfs_clients.specs.Calls.{destroyed};
 
 use crate::clients::Clients;
 use nfs_xdr::Status;

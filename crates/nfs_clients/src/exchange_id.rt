@@ -5,7 +5,8 @@ ghost use Rattle.std.specs.Option.{option_copied, option_map_or};
 ghost use Rattle.std.specs.List.{remove};
 ghost use Rattle.nfs_xdr.specs.Checks.{judged};
 ghost use Rattle.nfs_clients.specs.Roster.{confirmed_of, unconfirmed_of, is_unconfirmed_of, is_confirmed_of};
-ghost use Rattle.nfs_clients.specs.ExchangeId.{asks, case_of, case_by, has_room, with_new, answer_added, exchange_fault, fault_status, ExchangesOrWants};
+ghost use Rattle.nfs_clients.specs.ExchangeId.{asks, case_of, case_by, has_room, with_new, answer_added, fault_status};
+ghost use Rattle.nfs_clients.specs.Calls.{exchange_fault, ExchangesOrWants};
 ghost use Rattle.nfs_clients.specs.Seen.{case_seen};
 ghost use Rattle.nfs_clients.specs.declared.exchange_id.ClientFault.TheVariants.{Memory};
 

@@ -5,7 +5,8 @@ use Rattle.std.proofs.lemmas.Bool.{cases_Bool, and_parts, and_right, eqb-true, n
 use Rattle.std.proofs.lemmas.Option.{same_Some}
 use Rattle.std.proofs.lemmas.List.{nil_from_length}
 use Rattle.nfs_xdr.specs.Reading.{◌>>=◌, number_at, fixed_at}
-use Rattle.nfs_xdr.specs.Codec.{IsCodec, IsBytes}
+use Rattle.nfs_xdr.specs.Codec.{IsBytes}
+use Rattle.nfs_xdr.specs.Lawful.{IsCodec}
 use Rattle.nfs_xdr.proofs.CodecLaws.{bind_some, test_some, is_number}
 use Rattle.nfs_xdr.proofs.WordLaws.{listed_number}
 use Rattle.nfs_xdr.specs.declared.status.Status.TheVariants.{BadXdr}
@@ -13,8 +14,8 @@ use Rattle.nfs_compound.specs.declared.op_num.OpNum.{OpNum}
 use Rattle.nfs_compound.specs.declared.op_num.OpNum.TheVariants as Ops
 use Rattle.nfs_compound.specs.OpNum.{op_number, op_nums, op_num}
 use Rattle.nfs_compound.specs.Operation.{Op, Item, Operation, Fault}
-use Rattle.nfs_compound.specs.SessionArgs.{protected}
-use Rattle.nfs_compound.specs.Arguments.{op_codec, op_at, flaw, fault_of, fault_at}
+use Rattle.nfs_compound.specs.ArgCodecs.{protected}
+use Rattle.nfs_compound.specs.OpCodec.{op_codec, op_at, flaw, fault_of, fault_at}
 use Rattle.nfs_compound.specs.Wire.{Text, uint32, protected4, nfs_argop4}
 use Rattle.nfs_compound.specs.Request.{Lacks, Answers, Unserved, Unreadable, Unsupported, Illegal, IsFault, Lists, Spoils}
 use Rattle.nfs_compound.specs.ReadRequest.{op_or_fault, in_front, item_at, items_at}

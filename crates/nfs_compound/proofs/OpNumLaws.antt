@@ -1,6 +1,6 @@
 -- Each number is read as its own operation.
 use Rattle.std.proofs.Common.{◌≡◌, ◌<◌, ◌^◌, Some, refl, arith}
-use Rattle.nfs_xdr.specs.Codec.{IsListing}
+use Rattle.nfs_xdr.specs.Lawful.{IsListing}
 use Rattle.nfs_compound.specs.declared.op_num.OpNum.{OpNum}
 use Rattle.nfs_compound.specs.declared.op_num.OpNum.TheVariants.{Access, Close, Commit, Create, GetAttr, GetFh, Link, Lock, LockT, LockU, Lookup, LookupP}
 use Rattle.nfs_compound.specs.declared.op_num.OpNum.TheVariants.{NVerify, Open, OpenDowngrade, PutFh, PutPubFh, PutRootFh, Read, ReadDir, ReadLink, Remove}

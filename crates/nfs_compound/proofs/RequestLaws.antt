@@ -6,7 +6,8 @@ use Rattle.std.proofs.lemmas.Bool.{ne_eqb}
 use Rattle.std.proofs.lemmas.Option.{same_Some}
 use Rattle.nfs_xdr.specs.Spelling as spelling
 use Rattle.nfs_xdr.specs.Reading.{◌>>=◌, number_at, opaque_at}
-use Rattle.nfs_xdr.specs.Codec.{IsBytes, IsCodec, opaque}
+use Rattle.nfs_xdr.specs.Codec.{IsBytes, opaque}
+use Rattle.nfs_xdr.specs.Lawful.{IsCodec}
 use Rattle.nfs_xdr.proofs.CodecLaws.{bind_some, is_number, is_opaque}
 use Rattle.nfs_compound.specs.declared.compound.Garbage.{Garbage}
 use Rattle.nfs_compound.specs.Operation.{Item}

@@ -4,28 +4,31 @@ use Rattle.std.specs.Prelude.{IsTrue, ◌==◌, ◌||◌}
 use Rattle.std.specs.List.{flat_map, AllByRecursion}
 use Rattle.std.proofs.lemmas.Bool.{cases_Bool, eqb-true, le-leb, leb-true}
 use Rattle.nfs_xdr.specs.Codec as codec
-use Rattle.nfs_xdr.specs.Codec.{Codec, IsCodec, IsBytes}
+use Rattle.nfs_xdr.specs.Combinators as combinators
+use Rattle.nfs_xdr.specs.Codec.{Codec, IsBytes}
+use Rattle.nfs_xdr.specs.Lawful.{IsCodec}
 use Rattle.nfs_xdr.specs.Time.{time}
 use Rattle.nfs_compound.specs.Stateid.{stateid, stateids}
 use Rattle.nfs_compound.specs.StateOwner.{state_owner}
 use Rattle.nfs_compound.specs.ChannelAttrs.{channel_attrs}
-use Rattle.nfs_compound.specs.Attributes.{bitmap, attributes}
-use Rattle.nfs_compound.specs.Callback as callback
-use Rattle.nfs_compound.specs.Callback.{AuthSys, GssHandles, SecParms, AuthNone, Sys, RpcsecGss, auth_sys, gss_handles, all_sec_parms}
-use Rattle.nfs_compound.specs.SessionArgs.{impl_id, protected, exchange_id_args, create_session_args, sequence_args}
-use Rattle.nfs_compound.specs.OpenArgs.{CreateHow, Unchecked, Guarded, Exclusive, Exclusive41, OpenHow, NoCreate, Create, create_how, open_how, open_claim}
-use Rattle.nfs_compound.specs.OpenArgs.{OpenClaim, Null, Previous, DelegateCur, DelegatePrev, Fh, DelegCurFh, DelegPrevFh, delegation_type, open_args}
-use Rattle.nfs_compound.specs.OpenArgs.{open_downgrade_args, close_args}
-use Rattle.nfs_compound.specs.LockArgs.{Locker, OpenOwner, LockOwner, lock_type, open_to_lock_owner, exist_lock_owner, locker, lock_args, lock_t_args}
-use Rattle.nfs_compound.specs.LockArgs.{lock_u_args}
-use Rattle.nfs_compound.specs.FileArgs.{commit_args, read_args, stable_how, write_args, set_attr_args}
-use Rattle.nfs_compound.specs.NameArgs.{CreateType, Block, Character, Symlink, Other, spec_data, create_type, create_args, read_dir_args, rename_args}
-use Rattle.nfs_compound.specs.NameArgs.{secinfo_style}
+use Rattle.nfs_compound.specs.ArgCodecs.{bitmap, attributes, gss_handles, all_sec_parms, impl_id, protected, exchange_id_args, create_session_args}
+use Rattle.nfs_compound.specs.ArgCodecs.{sequence_args, lock_type, open_to_lock_owner, exist_lock_owner, locker, lock_args, lock_t_args, lock_u_args}
+use Rattle.nfs_compound.specs.ArgCodecs.{commit_args, read_args, stable_how, write_args, set_attr_args, spec_data, create_type, create_args, read_dir_args}
+use Rattle.nfs_compound.specs.ArgCodecs.{rename_args, secinfo_style}
+use Rattle.nfs_compound.specs.ArgCodecs as callback
+use Rattle.nfs_compound.specs.Callback.{GssHandles, SecParms, AuthNone, Sys, RpcsecGss}
+use Rattle.nfs_xdr.specs.AuthSys.{AuthSys, auth_sys}
+use Rattle.nfs_compound.specs.OpenArgs.{CreateHow, Unchecked, Guarded, Exclusive, Exclusive41, OpenHow, NoCreate, Create}
+use Rattle.nfs_compound.specs.OpenCodecs.{create_how, open_how, open_claim, delegation_type, open_args, open_downgrade_args, close_args}
+use Rattle.nfs_compound.specs.OpenArgs.{OpenClaim, Null, Previous, DelegateCur, DelegatePrev, Fh, DelegCurFh, DelegPrevFh}
+use Rattle.nfs_compound.specs.LockArgs.{Locker, OpenOwner, LockOwner}
+use Rattle.nfs_compound.specs.NameArgs.{CreateType, Block, Character, Symlink, Other}
 use Rattle.nfs_compound.specs.Operation.{Op, OpAccess, OpClose, OpCommit, OpCreate, OpGetAttr, OpGetFh, OpLink, OpLock, OpLockT, OpLockU, OpLookup, OpLookupP}
 use Rattle.nfs_compound.specs.Operation.{OpNVerify, OpOpen, OpOpenDowngrade, OpPutFh, OpPutPubFh, OpPutRootFh, OpRead, OpReadDir, OpReadLink, OpRemove}
 use Rattle.nfs_compound.specs.Operation.{OpRename, OpRestoreFh, OpSaveFh, OpSetAttr, OpVerify, OpWrite, OpExchangeId, OpCreateSession, OpDestroySession}
 use Rattle.nfs_compound.specs.Operation.{OpFreeStateid, OpSecinfoNoName, OpSequence, OpTestStateid, OpDestroyClientId, OpReclaimComplete}
-use Rattle.nfs_compound.specs.Arguments.{spell_op, FitsOp, op_codec}
+use Rattle.nfs_compound.specs.Request.{spell_op, FitsOp}
+use Rattle.nfs_compound.specs.OpCodec.{op_codec}
 use Rattle.nfs_compound.specs.Wire.{Text, uint32, array, optional, bitmap4, fattr4, state_owner4, stateid4, createtype4, locker4, createhow4, openflag4}
 use Rattle.nfs_compound.specs.Wire.{open_claim4, nfs_impl_id4, channel_attrs4, authsys_parms, gss_cb_handles4, callback_sec_parms4, sec_parms, protected4, nfs_argop4}
 use Rattle.nfs_compound.proofs.ArgLaws.{is_protected}
@@ -54,18 +57,18 @@ arrays c text is = record {
   from = λ xs fits. (omega (arith, fits.0), all_fit (λ x. (text x).Fits) c.Fits is.from xs fits.1);
 }
 
-optionals : {A : Type 0} (c : Codec A) (text : A → Text) → Spells c text → Spells (codec.optional c) (optional text)
+optionals : {A : Type 0} (c : Codec A) (text : A → Text) → Spells c text → Spells (combinators.optional c) (optional text)
 optionals c text is = record { same = same; to = to; from = from }
   where
-    same : (x : Option _) → (codec.optional c).spell x ≡ (optional text x).bytes
+    same : (x : Option _) → (combinators.optional c).spell x ≡ (optional text x).bytes
     same None = refl
     same (Some x) = rw (is.same x) refl
 
-    to : (x : Option _) → (codec.optional c).Fits x → (optional text x).Fits
+    to : (x : Option _) → (combinators.optional c).Fits x → (optional text x).Fits
     to None fits = tt
     to (Some x) fits = (tt, is.to x fits)
 
-    from : (x : Option _) → (optional text x).Fits → (codec.optional c).Fits x
+    from : (x : Option _) → (optional text x).Fits → (combinators.optional c).Fits x
     from None fits = tt
     from (Some x) fits = is.from x fits.1
 
@@ -215,10 +218,10 @@ impls = record {
   from = λ i (domain, (name, date)). (refl, (domain, (name, (refl, date))));
 }
 
-made : Spells (codec.optional impl_id) (optional nfs_impl_id4)
+made : Spells (combinators.optional impl_id) (optional nfs_impl_id4)
 made = optionals impl_id nfs_impl_id4 impls
 
-irds : Spells (codec.optional codec.number) (optional uint32)
+irds : Spells (combinators.optional codec.number) (optional uint32)
 irds = optionals codec.number uint32 numbers
 
 pub channels : Spells channel_attrs channel_attrs4

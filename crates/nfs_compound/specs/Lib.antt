@@ -16,3 +16,6 @@ pub mod View
 pub mod Request
 pub mod ReadRequest
 pub mod Laws
+pub mod ArgCodecs
+pub mod OpCodec
+pub mod OpenCodecs

@@ -1,6 +1,6 @@
 -- The numbers of the operations (nfs_opnum4 of RFC 5662), each once.
 use Rattle.std.specs.Prelude.{ℕ, List, [], ◌∷◌, Option}
-use Rattle.nfs_xdr.specs.Codec.{listed_at}
+use Rattle.nfs_xdr.specs.Combinators.{listed_at}
 use Rattle.nfs_compound.specs.declared.op_num.OpNum.{OpNum}
 use Rattle.nfs_compound.specs.declared.op_num.OpNum.TheVariants.{Access, Close, Commit, Create, GetAttr, GetFh, Link, Lock, LockT, LockU, Lookup, LookupP}
 use Rattle.nfs_compound.specs.declared.op_num.OpNum.TheVariants.{NVerify, Open, OpenDowngrade, PutFh, PutPubFh, PutRootFh, Read, ReadDir, ReadLink, Remove}

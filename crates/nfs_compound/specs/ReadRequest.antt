@@ -5,7 +5,7 @@ use Rattle.nfs_xdr.specs.Reading.{◌>>=◌, number_at, opaque_at}
 use Rattle.nfs_xdr.specs.Limits.{opaque_limit}
 use Rattle.nfs_compound.specs.Operation.{Op, Item, Operation, Fault}
 use Rattle.nfs_compound.specs.OpNum.{op_num}
-use Rattle.nfs_compound.specs.Arguments.{op_at, fault_at}
+use Rattle.nfs_compound.specs.OpCodec.{op_at, fault_at}
 use Rattle.nfs_compound.specs.Request.{Request}
 
 abbrev pub is_fault : Item → Bool

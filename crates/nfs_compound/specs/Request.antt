@@ -8,6 +8,7 @@ use Rattle.nfs_compound.specs.declared.op_num.OpNum.TheVariants.{ExchangeId}
 use Rattle.nfs_compound.specs.OpNum.{op_number, first_op, last_op, op_illegal}
 use Rattle.nfs_compound.specs.Operation.{Op, Item, Operation, Fault}
 use Rattle.nfs_compound.specs.Wire.{Text, uint32, opaque, protected4, nfs_argop4}
+use Rattle.nfs_compound.specs.Arguments.{arguments}
 
 -- A request: the bytes that it is spelled by, its tag, minor version and declared count, and what is left of its list.
 pub record Request : Type 0 where
@@ -88,3 +89,14 @@ pub data IsGarbage (bytes : List ℕ) : Type 0 where
       → Lacks uint32 rest → IsGarbage bytes
   SpoilsBody : (tag : List ℕ) (declared : ℕ) (body : List ℕ) → IsHead bytes tag 1 declared body
       → Spoils declared body → IsGarbage bytes
+
+abbrev pub spell_op : Op → List ℕ
+spell_op op = spelling.number (op_number (arguments op).op) ++ (arguments op).format.spell (arguments op).value
+
+abbrev pub FitsOp : Op → Type 0
+FitsOp op = (arguments op).format.Fits (arguments op).value
+
+-- the operation number under which what stands at a place is answered
+abbrev pub item_number : Item → ℕ
+item_number (Operation op) = op_number (arguments op).op
+item_number (Fault n status) = n

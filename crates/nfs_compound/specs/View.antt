@@ -2,12 +2,9 @@
 use Rattle.nfs_compound.specs.declared.arg.Arg as rust
 use Rattle.nfs_compound.specs.declared.arg.Arg.TheVariants as Arg
 use Rattle.nfs_compound.specs.Stateid.{view_stateids}
-use Rattle.nfs_compound.specs.Attributes.{view_bitmap, view_attributes}
-use Rattle.nfs_compound.specs.OpenArgs.{view_open}
-use Rattle.nfs_compound.specs.LockArgs.{view_lock, view_lock_t}
-use Rattle.nfs_compound.specs.FileArgs.{view_write, view_set_attr}
-use Rattle.nfs_compound.specs.NameArgs.{view_create, view_read_dir, view_rename}
-use Rattle.nfs_compound.specs.SessionArgs.{view_exchange_id, view_create_session}
+use Rattle.nfs_compound.specs.ArgCodecs.{view_bitmap, view_attributes, view_lock, view_lock_t, view_write, view_set_attr, view_create, view_read_dir}
+use Rattle.nfs_compound.specs.ArgCodecs.{view_rename, view_exchange_id, view_create_session}
+use Rattle.nfs_compound.specs.OpenCodecs.{view_open}
 use Rattle.nfs_compound.specs.Operation.{Item, Operation, Fault, OpAccess, OpClose, OpCommit, OpCreate, OpGetAttr, OpGetFh, OpLink, OpLock, OpLockT, OpLockU}
 use Rattle.nfs_compound.specs.Operation.{OpLookup, OpLookupP, OpNVerify, OpOpen, OpOpenDowngrade, OpPutFh, OpPutPubFh, OpPutRootFh, OpRead, OpReadDir}
 use Rattle.nfs_compound.specs.Operation.{OpReadLink, OpRemove, OpRename, OpRestoreFh, OpSaveFh, OpSetAttr, OpVerify, OpWrite, OpExchangeId, OpCreateSession}

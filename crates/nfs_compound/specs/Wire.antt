@@ -17,7 +17,8 @@ use Rattle.nfs_compound.specs.OpenArgs.{CreateHow, Unchecked, Guarded, Exclusive
 use Rattle.nfs_compound.specs.OpenArgs.{OpenClaim, Null, Previous, DelegateCur, DelegatePrev, Fh, DelegCurFh, DelegPrevFh}
 use Rattle.nfs_compound.specs.FileArgs.{stable_how_number}
 use Rattle.nfs_compound.specs.SessionArgs.{ImplId}
-use Rattle.nfs_compound.specs.Callback.{AuthSys, GssHandles, SecParms, AuthNone, Sys, RpcsecGss}
+use Rattle.nfs_compound.specs.Callback.{GssHandles, SecParms, AuthNone, Sys, RpcsecGss}
+use Rattle.nfs_xdr.specs.AuthSys.{AuthSys}
 use Rattle.nfs_compound.specs.Operation.{Op, OpAccess, OpClose, OpCommit, OpCreate, OpGetAttr, OpGetFh, OpLink, OpLock, OpLockT, OpLockU, OpLookup, OpLookupP}
 use Rattle.nfs_compound.specs.Operation.{OpNVerify, OpOpen, OpOpenDowngrade, OpPutFh, OpPutPubFh, OpPutRootFh, OpRead, OpReadDir, OpReadLink, OpRemove}
 use Rattle.nfs_compound.specs.Operation.{OpRename, OpRestoreFh, OpSaveFh, OpSetAttr, OpVerify, OpWrite, OpExchangeId, OpCreateSession, OpDestroySession}

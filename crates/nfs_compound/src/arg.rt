@@ -1,7 +1,7 @@
 //! The operations with their arguments, lent from the record.
 
 ghost use Rattle.std.specs.Prelude.{◌≡◌};
-ghost use Rattle.nfs_compound.specs.Arguments.{item_number};
+ghost use Rattle.nfs_compound.specs.Request.{item_number};
 ghost use Rattle.nfs_compound.specs.View as view;
 ghost use Rattle.nfs_compound.specs.ReadRequest.{is_fault};
 

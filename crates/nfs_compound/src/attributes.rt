@@ -1,7 +1,7 @@
 //! Attribute masks and attributes: RFC 8881 sections 3.2 and 3.3.7.
 
-ghost use Rattle.nfs_xdr.specs.Reading.{ReadsPartBy};
-ghost use Rattle.nfs_compound.specs.Attributes.{bitmap, attributes, view_bitmap, view_attributes};
+ghost use Rattle.nfs_xdr.specs.Readers.{ReadsPartBy};
+ghost use Rattle.nfs_compound.specs.ArgCodecs.{bitmap, attributes, view_bitmap, view_attributes};
 
 use nfs_xdr::{Cursor, Unreadable};
 
@@ -14,7 +14,7 @@ pub struct Bitmap<'a> {
 
 impl<'a> Bitmap<'a> {
     /// Reads a mask of any number of words. Unreadable where it is cut.
-    #[tactic(auto, unfolding(crate::specs::Attributes::bitmap))]
+    #[tactic(auto, unfolding(crate::specs::ArgCodecs::bitmap))]
     pub fn read(c: &mut Cursor<'a>) -> Result<Bitmap<'a>, Unreadable>
         ensures { ReadsPartBy view_bitmap result (bitmap.read c.old) c.new }
     {
@@ -33,7 +33,7 @@ pub struct Attributes<'a> {
 
 impl<'a> Attributes<'a> {
     /// Reads a mask and an opaque. Unreadable where they are cut or padded by other than zeros.
-    #[tactic(auto, unfolding(crate::specs::Attributes::attributes))]
+    #[tactic(auto, unfolding(crate::specs::ArgCodecs::attributes))]
     pub fn read(c: &mut Cursor<'a>) -> Result<Attributes<'a>, Unreadable>
         ensures { ReadsPartBy view_attributes result (attributes.read c.old) c.new }
     {

@@ -1,9 +1,11 @@
 //! The security parameters of callbacks, which are gone over and not looked at: RFC 8881 section 18.36.1.
 
 ghost use Rattle.std.specs.Prelude.{◌≡◌};
-ghost use Rattle.nfs_xdr.specs.Reading.{ReadsPartBy};
-ghost use Rattle.nfs_xdr.specs.Codec.{passed, array};
-ghost use Rattle.nfs_compound.specs.Callback.{auth_sys, gss_handles, sec_parms, all_sec_parms};
+ghost use Rattle.nfs_xdr.specs.Readers.{ReadsPartBy};
+ghost use Rattle.nfs_xdr.specs.Codec.{array};
+ghost use Rattle.nfs_xdr.specs.Combinators.{passed};
+ghost use Rattle.nfs_xdr.specs.AuthSys.{auth_sys};
+ghost use Rattle.nfs_compound.specs.ArgCodecs.{gss_handles, sec_parms, all_sec_parms};
 
 use nfs_xdr::{AUTH_NONE, AUTH_SYS, Cursor, MAX_GROUPS, MAX_MACHINE_NAME, Unreadable};
 
@@ -30,7 +32,7 @@ fn pass_all(c: &mut Cursor<'_>) -> Result<(), Unreadable>
 }
 
 /// Goes over the parameters of one flavor: AUTH_NONE, AUTH_SYS or RPCSEC_GSS.
-#[tactic(auto, unfolding(crate::specs::Callback::sec_parms))]
+#[tactic(auto, unfolding(crate::specs::ArgCodecs::sec_parms))]
 fn pass(c: &mut Cursor<'_>) -> Result<(), Unreadable>
     ensures { ReadsPartBy (λ u. u) result (passed (sec_parms.read c.old)) c.new }
 {
@@ -42,7 +44,7 @@ fn pass(c: &mut Cursor<'_>) -> Result<(), Unreadable>
     }
 }
 
-#[tactic(auto, unfolding(crate::specs::Callback::auth_sys))]
+#[tactic(auto, unfolding(nfs_xdr::specs::AuthSys::auth_sys))]
 fn pass_auth_sys(c: &mut Cursor<'_>) -> Result<(), Unreadable>
     ensures { ReadsPartBy (λ u. u) result (passed (auth_sys.read c.old)) c.new }
 {
@@ -57,7 +59,7 @@ fn pass_auth_sys(c: &mut Cursor<'_>) -> Result<(), Unreadable>
     Ok(())
 }
 
-#[tactic(auto, unfolding(crate::specs::Callback::gss_handles))]
+#[tactic(auto, unfolding(crate::specs::ArgCodecs::gss_handles))]
 fn pass_gss_handles(c: &mut Cursor<'_>) -> Result<(), Unreadable>
     ensures { ReadsPartBy (λ u. u) result (passed (gss_handles.read c.old)) c.new }
 {

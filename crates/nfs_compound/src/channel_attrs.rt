@@ -1,6 +1,6 @@
 //! The attributes of a channel: RFC 8881 section 18.36.1.
 
-ghost use Rattle.nfs_xdr.specs.Reading.{ReadsPartBy};
+ghost use Rattle.nfs_xdr.specs.Readers.{ReadsPartBy};
 ghost use Rattle.nfs_compound.specs.ChannelAttrs.{channel_attrs};
 
 use nfs_xdr::{Cursor, Unreadable};

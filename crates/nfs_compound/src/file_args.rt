@@ -1,7 +1,7 @@
 //! COMMIT, READ, WRITE and SETATTR: RFC 8881 sections 18.3, 18.22, 18.32 and 18.30.
 
-ghost use Rattle.nfs_xdr.specs.Reading.{ReadsPartBy};
-ghost use Rattle.nfs_compound.specs.FileArgs.{commit_args, read_args, stable_how, write_args, set_attr_args, view_write, view_set_attr};
+ghost use Rattle.nfs_xdr.specs.Readers.{ReadsPartBy};
+ghost use Rattle.nfs_compound.specs.ArgCodecs.{commit_args, read_args, stable_how, write_args, set_attr_args, view_write, view_set_attr};
 
 use crate::attributes::Attributes;
 use crate::stateid::Stateid;
@@ -18,7 +18,7 @@ pub struct Commit {
 
 impl Commit {
     /// Reads the arguments of COMMIT; unreadable where they are not spelled so.
-    #[tactic(auto, unfolding(crate::specs::FileArgs::commit_args))]
+    #[tactic(auto, unfolding(crate::specs::ArgCodecs::commit_args))]
     pub fn read(c: &mut Cursor<'_>) -> Result<Commit, Unreadable>
         ensures { ReadsPartBy (λ x. x) result (commit_args.read c.old) c.new }
     {
@@ -40,7 +40,7 @@ pub struct Read {
 
 impl Read {
     /// Reads the arguments of READ; unreadable where they are not spelled so.
-    #[tactic(auto, unfolding(crate::specs::FileArgs::read_args))]
+    #[tactic(auto, unfolding(crate::specs::ArgCodecs::read_args))]
     pub fn read(c: &mut Cursor<'_>) -> Result<Read, Unreadable>
         ensures { ReadsPartBy (λ x. x) result (read_args.read c.old) c.new }
     {
@@ -68,7 +68,7 @@ pub enum StableHow {
 
 impl StableHow {
     /// Reads how safely bytes are to be written; unreadable where it is not spelled so.
-    #[tactic(auto, unfolding(crate::specs::FileArgs::stable_how))]
+    #[tactic(auto, unfolding(crate::specs::ArgCodecs::stable_how))]
     pub fn read(c: &mut Cursor<'_>) -> Result<StableHow, Unreadable>
         ensures { ReadsPartBy (λ x. x) result (stable_how.read c.old) c.new }
     {
@@ -94,7 +94,7 @@ pub struct Write<'a> {
 
 impl<'a> Write<'a> {
     /// Reads the arguments of WRITE; unreadable where they are not spelled so.
-    #[tactic(auto, unfolding(crate::specs::FileArgs::write_args))]
+    #[tactic(auto, unfolding(crate::specs::ArgCodecs::write_args))]
     pub fn read(c: &mut Cursor<'a>) -> Result<Write<'a>, Unreadable>
         ensures { ReadsPartBy view_write result (write_args.read c.old) c.new }
     {
@@ -120,7 +120,7 @@ pub struct SetAttr<'a> {
 
 impl<'a> SetAttr<'a> {
     /// Reads the arguments of SETATTR; unreadable where they are not spelled so.
-    #[tactic(auto, unfolding(crate::specs::FileArgs::set_attr_args))]
+    #[tactic(auto, unfolding(crate::specs::ArgCodecs::set_attr_args))]
     pub fn read(c: &mut Cursor<'a>) -> Result<SetAttr<'a>, Unreadable>
         ensures { ReadsPartBy view_set_attr result (set_attr_args.read c.old) c.new }
     {

@@ -1,10 +1,10 @@
 //! Reading what stands at a place: an operation, or the fault that ends the list.
 
 ghost use Rattle.std.specs.Prelude.{◌≡◌, MatchOption, Some, None};
-ghost use Rattle.nfs_xdr.specs.Reading.{ReadsPartBy};
-ghost use Rattle.nfs_xdr.specs.Codec.{in_arm};
+ghost use Rattle.nfs_xdr.specs.Readers.{ReadsPartBy};
+ghost use Rattle.nfs_xdr.specs.Combinators.{in_arm};
 ghost use Rattle.nfs_compound.specs.Operation.{Operation};
-ghost use Rattle.nfs_compound.specs.Arguments.{op_at, fault_at, flaw};
+ghost use Rattle.nfs_compound.specs.OpCodec.{op_at, fault_at, flaw};
 ghost use Rattle.nfs_compound.specs.ReadRequest.{item_at};
 ghost use Rattle.nfs_compound.specs.View as view;
 
@@ -41,7 +41,7 @@ pub fn item<'a>(c: &mut Cursor<'a>) -> Option<Arg<'a>>
 }
 
 /// The arguments of an operation, which stand at the cursor.
-#[tactic(auto, unfolding(crate::specs::Arguments::op_at))]
+#[tactic(auto, unfolding(crate::specs::OpCodec::op_at))]
 fn arguments<'a>(op: OpNum, c: &mut Cursor<'a>) -> Result<Arg<'a>, Unreadable>
     ensures { ReadsPartBy view.item result (in_arm Operation (op_at op c.old)) c.new }
 {
@@ -109,7 +109,7 @@ fn arguments<'a>(op: OpNum, c: &mut Cursor<'a>) -> Result<Arg<'a>, Unreadable>
 }
 
 /// Why no operation is read of this number and the bytes behind it.
-#[tactic(auto, unfolding(crate::specs::Arguments::fault_at))]
+#[tactic(auto, unfolding(crate::specs::OpCodec::fault_at))]
 fn fault<'a>(number: u32, behind: &[u8]) -> Arg<'a>
     ensures { view.item result ≡ fault_at number behind.now }
 {

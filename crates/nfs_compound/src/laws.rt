@@ -1,13 +1,14 @@
 //! Laws of the grammar of compounds.
 
 ghost use Rattle.std.specs.Prelude.{◌≡◌, ◌↔◌, ℕ, Some};
-ghost use Rattle.nfs_xdr.specs.Codec.{IsCodec};
+ghost use Rattle.nfs_xdr.specs.Lawful.{IsCodec};
 ghost use Rattle.nfs_compound.specs.declared.op_num.OpNum.{OpNum};
 ghost use Rattle.nfs_compound.specs.OpNum.{op_num, op_number};
 ghost use Rattle.nfs_compound.specs.Operation.{Op};
-ghost use Rattle.nfs_compound.specs.Arguments.{op_codec, spell_op, FitsOp};
+ghost use Rattle.nfs_compound.specs.OpCodec.{op_codec};
+ghost use Rattle.nfs_compound.specs.Request.{spell_op, FitsOp};
 ghost use Rattle.nfs_compound.specs.Wire.{nfs_argop4};
-ghost use Rattle.nfs_compound.specs.SessionArgs.{protected};
+ghost use Rattle.nfs_compound.specs.ArgCodecs.{protected};
 ghost use Rattle.nfs_compound.specs.Laws.{HasOneReading, HasNoOther, IsOneRequest, ReadsRequests, RefusesGarbage};
 
 /// Each operation is read exactly where it is spelled, and so is an EXCHANGE_ID that wants a state protection that is

@@ -1,9 +1,10 @@
 //! LOCK, LOCKT and LOCKU: RFC 8881 sections 18.10 to 18.12.
 
 ghost use Rattle.std.specs.Prelude.{◌≡◌};
-ghost use Rattle.nfs_xdr.specs.Reading.{ReadsPartBy};
-ghost use Rattle.nfs_compound.specs.LockArgs.{lock_type_number, lock_type, open_to_lock_owner, exist_lock_owner, locker, lock_args, lock_t_args, lock_u_args};
-ghost use Rattle.nfs_compound.specs.LockArgs.{view_open_to_lock_owner, view_locker, view_lock, view_lock_t};
+ghost use Rattle.nfs_xdr.specs.Readers.{ReadsPartBy};
+ghost use Rattle.nfs_compound.specs.LockArgs.{lock_type_number};
+ghost use Rattle.nfs_compound.specs.ArgCodecs.{lock_type, open_to_lock_owner, exist_lock_owner, locker, lock_args, lock_t_args, lock_u_args};
+ghost use Rattle.nfs_compound.specs.ArgCodecs.{view_open_to_lock_owner, view_locker, view_lock, view_lock_t};
 
 use crate::state_owner::StateOwner;
 use crate::stateid::Stateid;
@@ -24,7 +25,7 @@ pub enum LockType {
 
 impl LockType {
     /// Reads the kind of a lock; unreadable where it is not spelled so.
-    #[tactic(auto, unfolding(crate::specs::LockArgs::lock_type))]
+    #[tactic(auto, unfolding(crate::specs::ArgCodecs::lock_type))]
     pub fn read(c: &mut Cursor<'_>) -> Result<LockType, Unreadable>
         ensures { ReadsPartBy (λ k. k) result (lock_type.read c.old) c.new }
     {
@@ -61,7 +62,7 @@ pub struct OpenToLockOwner<'a> {
 
 impl<'a> OpenToLockOwner<'a> {
     /// Reads the first lock of an owner on a file; unreadable where it is not spelled so.
-    #[tactic(auto, unfolding(crate::specs::LockArgs::open_to_lock_owner))]
+    #[tactic(auto, unfolding(crate::specs::ArgCodecs::open_to_lock_owner))]
     pub fn read(c: &mut Cursor<'a>) -> Result<OpenToLockOwner<'a>, Unreadable>
         ensures { ReadsPartBy view_open_to_lock_owner result (open_to_lock_owner.read c.old) c.new }
     {
@@ -87,7 +88,7 @@ pub struct ExistLockOwner {
 
 impl ExistLockOwner {
     /// Reads a further lock of an owner on a file; unreadable where it is not spelled so.
-    #[tactic(auto, unfolding(crate::specs::LockArgs::exist_lock_owner))]
+    #[tactic(auto, unfolding(crate::specs::ArgCodecs::exist_lock_owner))]
     pub fn read(c: &mut Cursor<'_>) -> Result<ExistLockOwner, Unreadable>
         ensures { ReadsPartBy (λ o. o) result (exist_lock_owner.read c.old) c.new }
     {
@@ -111,7 +112,7 @@ pub enum Locker<'a> {
 
 impl<'a> Locker<'a> {
     /// Reads who locks; unreadable where it is not spelled so.
-    #[tactic(auto, unfolding(crate::specs::LockArgs::locker))]
+    #[tactic(auto, unfolding(crate::specs::ArgCodecs::locker))]
     pub fn read(c: &mut Cursor<'a>) -> Result<Locker<'a>, Unreadable>
         ensures { ReadsPartBy view_locker result (locker.read c.old) c.new }
     {
@@ -137,7 +138,7 @@ pub struct Lock<'a> {
 
 impl<'a> Lock<'a> {
     /// Reads the arguments of LOCK; unreadable where they are not spelled so.
-    #[tactic(auto, unfolding(crate::specs::LockArgs::lock_args))]
+    #[tactic(auto, unfolding(crate::specs::ArgCodecs::lock_args))]
     pub fn read(c: &mut Cursor<'a>) -> Result<Lock<'a>, Unreadable>
         ensures { ReadsPartBy view_lock result (lock_args.read c.old) c.new }
     {
@@ -167,7 +168,7 @@ pub struct LockT<'a> {
 
 impl<'a> LockT<'a> {
     /// Reads the arguments of LOCKT; unreadable where they are not spelled so.
-    #[tactic(auto, unfolding(crate::specs::LockArgs::lock_t_args))]
+    #[tactic(auto, unfolding(crate::specs::ArgCodecs::lock_t_args))]
     pub fn read(c: &mut Cursor<'a>) -> Result<LockT<'a>, Unreadable>
         ensures { ReadsPartBy view_lock_t result (lock_t_args.read c.old) c.new }
     {
@@ -196,7 +197,7 @@ pub struct LockU {
 
 impl LockU {
     /// Reads the arguments of LOCKU; unreadable where they are not spelled so.
-    #[tactic(auto, unfolding(crate::specs::LockArgs::lock_u_args))]
+    #[tactic(auto, unfolding(crate::specs::ArgCodecs::lock_u_args))]
     pub fn read(c: &mut Cursor<'_>) -> Result<LockU, Unreadable>
         ensures { ReadsPartBy (λ l. l) result (lock_u_args.read c.old) c.new }
     {

@@ -1,8 +1,8 @@
 //! CREATE, READDIR, RENAME and SECINFO_NO_NAME: RFC 8881 sections 18.4, 18.23, 18.26 and 18.45.
 
-ghost use Rattle.nfs_xdr.specs.Reading.{ReadsPartBy};
-ghost use Rattle.nfs_compound.specs.NameArgs.{spec_data, create_type, create_args, read_dir_args, rename_args, secinfo_style};
-ghost use Rattle.nfs_compound.specs.NameArgs.{view_create_type, view_create, view_read_dir, view_rename};
+ghost use Rattle.nfs_xdr.specs.Readers.{ReadsPartBy};
+ghost use Rattle.nfs_compound.specs.ArgCodecs.{spec_data, create_type, create_args, read_dir_args, rename_args, secinfo_style, view_create_type, view_create};
+ghost use Rattle.nfs_compound.specs.ArgCodecs.{view_read_dir, view_rename};
 
 use crate::attributes::{Attributes, Bitmap};
 use nfs_xdr::{Cursor, Unreadable};
@@ -16,7 +16,7 @@ pub struct SpecData {
 
 impl SpecData {
     /// Reads the numbers of a device; unreadable where they are not spelled so.
-    #[tactic(auto, unfolding(crate::specs::NameArgs::spec_data))]
+    #[tactic(auto, unfolding(crate::specs::ArgCodecs::spec_data))]
     pub fn read(c: &mut Cursor<'_>) -> Result<SpecData, Unreadable>
         ensures { ReadsPartBy (λ d. d) result (spec_data.read c.old) c.new }
     {
@@ -44,7 +44,7 @@ pub enum CreateType<'a> {
 
 impl<'a> CreateType<'a> {
     /// Reads the type of an object that is made; unreadable where it is not spelled so.
-    #[tactic(auto, unfolding(crate::specs::NameArgs::create_type))]
+    #[tactic(auto, unfolding(crate::specs::ArgCodecs::create_type))]
     pub fn read(c: &mut Cursor<'a>) -> Result<CreateType<'a>, Unreadable>
         ensures { ReadsPartBy view_create_type result (create_type.read c.old) c.new }
     {
@@ -69,7 +69,7 @@ pub struct Create<'a> {
 
 impl<'a> Create<'a> {
     /// Reads the arguments of CREATE; unreadable where they are not spelled so.
-    #[tactic(auto, unfolding(crate::specs::NameArgs::create_args))]
+    #[tactic(auto, unfolding(crate::specs::ArgCodecs::create_args))]
     pub fn read(c: &mut Cursor<'a>) -> Result<Create<'a>, Unreadable>
         ensures { ReadsPartBy view_create result (create_args.read c.old) c.new }
     {
@@ -98,7 +98,7 @@ pub struct ReadDir<'a> {
 
 impl<'a> ReadDir<'a> {
     /// Reads the arguments of READDIR; unreadable where they are not spelled so.
-    #[tactic(auto, unfolding(crate::specs::NameArgs::read_dir_args))]
+    #[tactic(auto, unfolding(crate::specs::ArgCodecs::read_dir_args))]
     pub fn read(c: &mut Cursor<'a>) -> Result<ReadDir<'a>, Unreadable>
         ensures { ReadsPartBy view_read_dir result (read_dir_args.read c.old) c.new }
     {
@@ -126,7 +126,7 @@ pub struct Rename<'a> {
 
 impl<'a> Rename<'a> {
     /// Reads the arguments of RENAME; unreadable where they are not spelled so.
-    #[tactic(auto, unfolding(crate::specs::NameArgs::rename_args))]
+    #[tactic(auto, unfolding(crate::specs::ArgCodecs::rename_args))]
     pub fn read(c: &mut Cursor<'a>) -> Result<Rename<'a>, Unreadable>
         ensures { ReadsPartBy view_rename result (rename_args.read c.old) c.new }
     {
@@ -147,7 +147,7 @@ pub enum SecinfoStyle {
 
 impl SecinfoStyle {
     /// Reads whose flavors are asked for; unreadable where it is not spelled so.
-    #[tactic(auto, unfolding(crate::specs::NameArgs::secinfo_style))]
+    #[tactic(auto, unfolding(crate::specs::ArgCodecs::secinfo_style))]
     pub fn read(c: &mut Cursor<'_>) -> Result<SecinfoStyle, Unreadable>
         ensures { ReadsPartBy (λ s. s) result (secinfo_style.read c.old) c.new }
     {

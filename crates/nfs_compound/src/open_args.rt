@@ -1,8 +1,8 @@
 //! OPEN, OPEN_DOWNGRADE and CLOSE: RFC 8881 sections 18.16, 18.18 and 18.2.
 
-ghost use Rattle.nfs_xdr.specs.Reading.{ReadsPartBy};
-ghost use Rattle.nfs_compound.specs.OpenArgs.{create_how, open_how, delegation_type, open_claim, open_args, open_downgrade_args, close_args};
-ghost use Rattle.nfs_compound.specs.OpenArgs.{view_create_how, view_open_how, view_open_claim, view_open};
+ghost use Rattle.nfs_xdr.specs.Readers.{ReadsPartBy};
+ghost use Rattle.nfs_compound.specs.OpenCodecs.{create_how, open_how, delegation_type, open_claim, open_args, open_downgrade_args, close_args, view_create_how};
+ghost use Rattle.nfs_compound.specs.OpenCodecs.{view_open_how, view_open_claim, view_open};
 
 use crate::attributes::Attributes;
 use crate::state_owner::StateOwner;
@@ -33,7 +33,7 @@ pub enum CreateHow<'a> {
 
 impl<'a> CreateHow<'a> {
     /// Reads how a file is made; unreadable where it is not spelled so.
-    #[tactic(auto, unfolding(crate::specs::OpenArgs::create_how))]
+    #[tactic(auto, unfolding(crate::specs::OpenCodecs::create_how))]
     pub fn read(c: &mut Cursor<'a>) -> Result<CreateHow<'a>, Unreadable>
         ensures { ReadsPartBy view_create_how result (create_how.read c.old) c.new }
     {
@@ -68,7 +68,7 @@ pub enum OpenHow<'a> {
 
 impl<'a> OpenHow<'a> {
     /// Reads whether a file is made; unreadable where it is not spelled so.
-    #[tactic(auto, unfolding(crate::specs::OpenArgs::open_how))]
+    #[tactic(auto, unfolding(crate::specs::OpenCodecs::open_how))]
     pub fn read(c: &mut Cursor<'a>) -> Result<OpenHow<'a>, Unreadable>
         ensures { ReadsPartBy view_open_how result (open_how.read c.old) c.new }
     {
@@ -95,7 +95,7 @@ pub enum DelegationType {
 
 impl DelegationType {
     /// Reads the kind of a delegation; unreadable where it is not spelled so.
-    #[tactic(auto, unfolding(crate::specs::OpenArgs::delegation_type))]
+    #[tactic(auto, unfolding(crate::specs::OpenCodecs::delegation_type))]
     pub fn read(c: &mut Cursor<'_>) -> Result<DelegationType, Unreadable>
         ensures { ReadsPartBy (λ d. d) result (delegation_type.read c.old) c.new }
     {
@@ -141,7 +141,7 @@ pub enum OpenClaim<'a> {
 
 impl<'a> OpenClaim<'a> {
     /// Reads what is opened; unreadable where it is not spelled so.
-    #[tactic(auto, unfolding(crate::specs::OpenArgs::open_claim))]
+    #[tactic(auto, unfolding(crate::specs::OpenCodecs::open_claim))]
     pub fn read(c: &mut Cursor<'a>) -> Result<OpenClaim<'a>, Unreadable>
         ensures { ReadsPartBy view_open_claim result (open_claim.read c.old) c.new }
     {
@@ -186,7 +186,7 @@ pub struct Open<'a> {
 
 impl<'a> Open<'a> {
     /// Reads the arguments of OPEN; unreadable where they are not spelled so.
-    #[tactic(auto, unfolding(crate::specs::OpenArgs::open_args))]
+    #[tactic(auto, unfolding(crate::specs::OpenCodecs::open_args))]
     pub fn read(c: &mut Cursor<'a>) -> Result<Open<'a>, Unreadable>
         ensures { ReadsPartBy view_open result (open_args.read c.old) c.new }
     {
@@ -218,7 +218,7 @@ pub struct OpenDowngrade {
 
 impl OpenDowngrade {
     /// Reads the arguments of OPEN_DOWNGRADE; unreadable where they are not spelled so.
-    #[tactic(auto, unfolding(crate::specs::OpenArgs::open_downgrade_args))]
+    #[tactic(auto, unfolding(crate::specs::OpenCodecs::open_downgrade_args))]
     pub fn read(c: &mut Cursor<'_>) -> Result<OpenDowngrade, Unreadable>
         ensures { ReadsPartBy (λ o. o) result (open_downgrade_args.read c.old) c.new }
     {
@@ -244,7 +244,7 @@ pub struct Close {
 
 impl Close {
     /// Reads the arguments of CLOSE; unreadable where they are not spelled so.
-    #[tactic(auto, unfolding(crate::specs::OpenArgs::close_args))]
+    #[tactic(auto, unfolding(crate::specs::OpenCodecs::close_args))]
     pub fn read(c: &mut Cursor<'_>) -> Result<Close, Unreadable>
         ensures { ReadsPartBy (λ o. o) result (close_args.read c.old) c.new }
     {

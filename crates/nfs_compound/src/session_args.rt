@@ -1,10 +1,10 @@
 //! EXCHANGE_ID, CREATE_SESSION and SEQUENCE: RFC 8881 sections 18.35, 18.36 and 18.46.
 
 ghost use Rattle.std.specs.Prelude.{◌≡◌, is_some};
-ghost use Rattle.nfs_xdr.specs.Reading.{ReadsPartBy};
-ghost use Rattle.nfs_xdr.specs.Codec.{in_arm};
-ghost use Rattle.nfs_compound.specs.SessionArgs.{impl_id, exchange_id_args, protected, create_session_args, sequence_args};
-ghost use Rattle.nfs_compound.specs.SessionArgs.{view_impl_id, view_exchange_id, view_create_session};
+ghost use Rattle.nfs_xdr.specs.Readers.{ReadsPartBy};
+ghost use Rattle.nfs_xdr.specs.Combinators.{in_arm};
+ghost use Rattle.nfs_compound.specs.ArgCodecs.{impl_id, exchange_id_args, protected, create_session_args, sequence_args, view_impl_id, view_exchange_id};
+ghost use Rattle.nfs_compound.specs.ArgCodecs.{view_create_session};
 
 use crate::callback::all_sec_parms;
 use crate::channel_attrs::ChannelAttrs;
@@ -29,7 +29,7 @@ pub struct ImplId<'a> {
 
 impl<'a> ImplId<'a> {
     /// Reads who made a client, and when; unreadable where it is not spelled so.
-    #[tactic(auto, unfolding(crate::specs::SessionArgs::impl_id))]
+    #[tactic(auto, unfolding(crate::specs::ArgCodecs::impl_id))]
     pub fn read(c: &mut Cursor<'a>) -> Result<ImplId<'a>, Unreadable>
         ensures { ReadsPartBy view_impl_id result (impl_id.read c.old) c.new }
     {
@@ -52,7 +52,7 @@ pub struct ExchangeId<'a> {
 
 impl<'a> ExchangeId<'a> {
     /// Reads the arguments of EXCHANGE_ID with no state protection; unreadable where they are not spelled so.
-    #[tactic(auto, unfolding(crate::specs::SessionArgs::exchange_id_args))]
+    #[tactic(auto, unfolding(crate::specs::ArgCodecs::exchange_id_args))]
     pub fn read(c: &mut Cursor<'a>) -> Result<ExchangeId<'a>, Unreadable>
         ensures { ReadsPartBy view_exchange_id result (exchange_id_args.read c.old) c.new }
     {
@@ -83,7 +83,7 @@ impl<'a> ExchangeId<'a> {
     }
 }
 
-#[tactic(auto, unfolding(crate::specs::SessionArgs::protected))]
+#[tactic(auto, unfolding(crate::specs::ArgCodecs::protected))]
 fn protection(c: &mut Cursor<'_>) -> Result<u32, Unreadable>
     ensures { ReadsPartBy (λ n. n) result (in_arm (λ x. x.1.1.1) (protected.read c.old)) c.new }
 {
@@ -111,7 +111,7 @@ pub struct CreateSession<'a> {
 
 impl<'a> CreateSession<'a> {
     /// Reads the arguments of CREATE_SESSION; unreadable where they are not spelled so.
-    #[tactic(auto, unfolding(crate::specs::SessionArgs::create_session_args))]
+    #[tactic(auto, unfolding(crate::specs::ArgCodecs::create_session_args))]
     pub fn read(c: &mut Cursor<'a>) -> Result<CreateSession<'a>, Unreadable>
         ensures { ReadsPartBy view_create_session result (create_session_args.read c.old) c.new }
     {
@@ -146,7 +146,7 @@ pub struct Sequence {
 
 impl Sequence {
     /// Reads the arguments of SEQUENCE; unreadable where they are not spelled so.
-    #[tactic(auto, unfolding(crate::specs::SessionArgs::sequence_args))]
+    #[tactic(auto, unfolding(crate::specs::ArgCodecs::sequence_args))]
     pub fn read(c: &mut Cursor<'_>) -> Result<Sequence, Unreadable>
         ensures { ReadsPartBy (λ s. s) result (sequence_args.read c.old) c.new }
     {

@@ -1,6 +1,6 @@
 //! Open owners and lock owners: RFC 8881 section 3.3.13.
 
-ghost use Rattle.nfs_xdr.specs.Reading.{ReadsPartBy};
+ghost use Rattle.nfs_xdr.specs.Readers.{ReadsPartBy};
 ghost use Rattle.nfs_compound.specs.StateOwner.{state_owner, view};
 
 use nfs_xdr::{Cursor, OPAQUE_LIMIT, Unreadable};

@@ -1,7 +1,7 @@
 //! Stateids: RFC 8881 section 8.2.2.
 
 ghost use Rattle.std.specs.Prelude.{◌≡◌, ◌<◌, length, get_or, []};
-ghost use Rattle.nfs_xdr.specs.Reading.{ReadsPartBy};
+ghost use Rattle.nfs_xdr.specs.Readers.{ReadsPartBy};
 ghost use Rattle.nfs_compound.specs.Stateid.{stateid, stateids, stateid_of, view_stateids};
 
 use nfs_xdr::{Cursor, Unreadable};

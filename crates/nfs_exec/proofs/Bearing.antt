@@ -15,30 +15,34 @@ use Rattle.nfs_compound.specs.declared.op_num.OpNum.TheVariants.{CreateSession, 
 use Rattle.nfs_compound.specs.declared.op_num.OpNum.TheVariants.{DestroyClientId, ReclaimComplete}
 use Rattle.nfs_compound.specs.OpNum.{op_number, op_nums, op_num}
 use Rattle.nfs_compound.specs.Operation.{Op, Item, Operation, Fault}
-use Rattle.nfs_compound.specs.Arguments.{arguments, flaw, fault_of, fault_at}
-use Rattle.nfs_compound.specs.Request.{Request, Lists, HasBody}
+use Rattle.nfs_compound.specs.Arguments.{arguments}
+use Rattle.nfs_compound.specs.OpCodec.{flaw, fault_of, fault_at}
+use Rattle.nfs_compound.specs.Request.{Request, Lists, HasBody, item_number}
 use Rattle.nfs_compound.proofs.GrammarLaws.{some_answer}
-use Rattle.nfs_results.specs.Results.{bears, is_legal, tells, can_refuse, refusal}
+use Rattle.nfs_results.specs.Results.{refusal}
+use Rattle.nfs_results.specs.Refusals.{bears, tells, can_refuse}
+use Rattle.nfs_results.specs.Parts.{is_legal}
 use Rattle.nfs_results.specs.Result.{Res, ResSetAttr, ResDestroySession, ResDestroyClientId, Refused}
-use Rattle.nfs_results.specs.Results.{HasArrays, IsBounded, head, spell_result, status_of_result}
-use Rattle.nfs_results.specs.Largest.{number_of, MayAnswer}
+use Rattle.nfs_results.specs.Results.{head, spell_result, status_of_result}
+use Rattle.nfs_results.specs.ResultCodec.{HasArrays, IsBounded}
+use Rattle.nfs_results.specs.Largest.{number_of}
+use Rattle.nfs_results.specs.MayAnswer.{MayAnswer}
 use Rattle.nfs_results.proofs.Lengths.{length_result, length_head}
 use Rattle.nfs_results.specs.Items.{attr_set}
 use Rattle.nfs_xdr.proofs.Putting.{length_number}
 use Rattle.std.proofs.lemmas.List.{length-append, append-nil}
 use Rattle.nfs_xdr.specs.Spelling.{number}
-use Rattle.nfs_compound.specs.SessionArgs.{protected}
+use Rattle.nfs_compound.specs.ArgCodecs.{protected}
 use Rattle.nfs_compound.specs.SessionArgs.{ExchangeId as ExchangeArgs}
 use Rattle.nfs_compound.specs.Operation.{OpExchangeId, OpDestroySession, OpDestroyClientId, OpSequence}
 use Rattle.nfs_clients.specs.declared.destroy.DestroyFault.{DestroyFault}
 use Rattle.nfs_clients.specs.declared.destroy.DestroyFault.TheVariants.{Stale, Busy}
 use Rattle.nfs_clients.specs.DestroyClientId.{destroy_status}
 use Rattle.nfs_xdr.specs.Tables.{In}
-use Rattle.nfs_xdr.specs.Codec.{listed_at}
+use Rattle.nfs_xdr.specs.Combinators.{listed_at}
 use Rattle.std.proofs.Common.{length}
-use Rattle.nfs_compound.specs.Arguments.{item_number}
-use Rattle.nfs_exec.specs.Place.{CanBear, IsSmall, stands_alone, is_sequence, item_fault, status_behind}
-use Rattle.nfs_exec.specs.Compound.{IsOpened}
+use Rattle.nfs_exec.specs.Place.{stands_alone, is_sequence, item_fault, status_behind}
+use Rattle.nfs_exec.specs.View.{CanBear, IsSmall, IsOpened}
 use Rattle.nfs_compound.specs.View.{item}
 
 -- a status that every operation of the minor version can be refused with, with nothing behind it

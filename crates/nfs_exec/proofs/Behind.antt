@@ -10,7 +10,8 @@ use Rattle.nfs_compound.specs.Operation.{Item, Operation, OpReclaimComplete}
 use Rattle.nfs_results.specs.Largest.{largest}
 use Rattle.nfs_xdr.specs.SheetState.{SheetState, Puts}
 use Rattle.nfs_results.specs.Result.{Res, ResReclaimComplete}
-use Rattle.nfs_results.specs.Results.{spell_result, status_of_result, head, can_refuse}
+use Rattle.nfs_results.specs.Results.{spell_result, status_of_result, head}
+use Rattle.nfs_results.specs.Refusals.{can_refuse}
 use Rattle.nfs_results.proofs.Lengths.{length_head}
 use Rattle.nfs_compound.specs.declared.arg.Arg.{Arg}
 use Rattle.nfs_compound.specs.declared.arg.Arg.TheVariants as Args
@@ -20,7 +21,7 @@ use Rattle.nfs_tree.specs.Files.{object_at}
 use Rattle.nfs_names.specs.State.{State, moment}
 use Rattle.nfs_names.specs.declared.context.Context.{Context}
 use Rattle.nfs_names.specs.declared.node.Node.{Node}
-use Rattle.nfs_names.specs.Checks.{current, held, held_as}
+use Rattle.nfs_names.specs.Checks.{current, node_at, node_as}
 use Rattle.nfs_names.specs.Operation as names
 use Rattle.nfs_files.specs.Operation as files
 use Rattle.nfs_clients.specs.Roster.{Roster}
@@ -39,11 +40,11 @@ use Rattle.nfs_exec.specs.Run.{Ran, run, in_room, follow, is_here, behind_here, 
 
 -- What it answers can be put, and is short.
 
-held_bears : (s : State) (o : Option ℕ) (status : Status) → held s o ≡ Err status → IsTrue (eqb 58 34 || can_refuse 58 status)
+held_bears : (s : State) (o : Option ℕ) (status : Status) → node_at s o ≡ Err status → IsTrue (eqb 58 34 || can_refuse 58 status)
 held_bears s None status e = (let same : NoFileHandle ≡ status = cc in subst (λ u. IsTrue (eqb 58 34 || can_refuse 58 u)) same refl)
 held_bears s (Some n) status e = go (object_at s.tree n) e
   where
-    go : (o : Option Object) → held_as n o ≡ Err status → IsTrue (eqb 58 34 || can_refuse 58 status)
+    go : (o : Option Object) → node_as n o ≡ Err status → IsTrue (eqb 58 34 || can_refuse 58 status)
     go None e = (let same : Stale ≡ status = cc in subst (λ u. IsTrue (eqb 58 34 || can_refuse 58 u)) same refl)
     go (Some object) e = absurd cc
 

@@ -12,8 +12,8 @@ use Rattle.nfs_xdr.proofs.Putting.{length_hyper}
 use Rattle.nfs_compound.specs.SessionArgs.{CreateSession}
 use Rattle.nfs_compound.specs.Operation.{Operation, OpCreateSession}
 use Rattle.nfs_results.specs.Result.{Res, ResCreateSession}
-use Rattle.nfs_results.specs.Results.{parts, spell_result, head, operation_of, status_of_result}
-use Rattle.nfs_results.specs.Straight.{done_head}
+use Rattle.nfs_results.specs.Results.{spell_result, head, operation_of, status_of_result, done_head}
+use Rattle.nfs_results.specs.Parts.{parts}
 use Rattle.nfs_compound.specs.declared.op_num.OpNum.TheVariants as Op
 use Rattle.nfs_results.proofs.Lengths.{length_result, length_head}
 use Rattle.nfs_clients.specs.Roster.{Roster}
@@ -25,7 +25,8 @@ use Rattle.nfs_sessions.specs.declared.channel.Wish.{Wish}
 use Rattle.nfs_sessions.specs.declared.sessions.SessionFault.{SessionFault}
 use Rattle.nfs_sessions.specs.declared.sessions.SessionFault.TheVariants.{TooSmall, NoSpc, ServerFault, Memory}
 use Rattle.nfs_sessions.specs.Id.{id_bytes}
-use Rattle.nfs_sessions.specs.Sessions.{SessionTable, Created, CreatesOrWants, create, create_unless, create_fault, fault_status}
+use Rattle.nfs_sessions.specs.Sessions.{SessionTable, Created, create, create_unless, create_fault, fault_status}
+use Rattle.nfs_sessions.specs.Kept.{CreatesOrWants}
 use Rattle.nfs_exec.specs.Machine.{Machine, Outcome, is_delay, or_delay, refuses}
 use Rattle.nfs_exec.specs.CreateSession.{create_session_number, session_made, made_body, by_verdict, by_created, creates, confirmed}
 use Rattle.nfs_exec.specs.View.{Does}

@@ -10,17 +10,16 @@ use Rattle.nfs_xdr.specs.Tables.{In, with_record}
 use Rattle.nfs_xdr.specs.declared.status.Status.{Status}
 use Rattle.nfs_xdr.specs.declared.status.Status.TheVariants.{Nfs4Ok, MinorVersMismatch, Delay}
 use Rattle.nfs_xdr.proofs.Tables.{at_of_in}
-use Rattle.nfs_compound.specs.Arguments.{arguments, item_number}
+use Rattle.nfs_compound.specs.Arguments.{arguments}
 use Rattle.nfs_compound.specs.Operation.{Op, Item, Operation, Fault, OpSequence, OpExchangeId, OpCreateSession, OpCreate, OpLink, OpRename, OpOpen, OpSetAttr}
 use Rattle.nfs_compound.specs.Operation.{OpWrite, OpLock, OpLockU}
-use Rattle.nfs_compound.specs.Request.{Request}
+use Rattle.nfs_compound.specs.Request.{Request, item_number}
 use Rattle.nfs_compound.specs.SessionArgs.{CreateSession}
 use Rattle.nfs_compound.specs.declared.op_num.OpNum.{OpNum}
 use Rattle.nfs_compound.specs.declared.session_args.Sequence.{Sequence}
 use Rattle.nfs_results.specs.Largest.{largest}
 use Rattle.nfs_results.specs.Result.{ResSequence}
-use Rattle.nfs_results.specs.Results.{refusal, spell_result}
-use Rattle.nfs_results.specs.CompoundResult.{spell_compound_head}
+use Rattle.nfs_results.specs.Results.{refusal, spell_result, spell_compound_head}
 use Rattle.nfs_clients.specs.Roster.{ClientRecord, client_at, id_of as client_id, next_id}
 use Rattle.nfs_clients.specs.CreateSession as clients
 use Rattle.nfs_clients.specs.Marks.{has_open_by}

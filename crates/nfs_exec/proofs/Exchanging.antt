@@ -6,8 +6,9 @@ use Rattle.nfs_clients.specs.declared.exchange_id.Exchanged.{Exchanged}
 use Rattle.nfs_clients.specs.declared.exchange_id.ClientFault.{ClientFault}
 use Rattle.nfs_clients.specs.declared.exchange_id.ClientFault.TheVariants.{Inval, NoEnt, NotSame, Perm, ClidInUse, ServerFault, Memory}
 use Rattle.nfs_clients.specs.Roster.{Roster, client_at, confirmed_of, next_id, last_counter, most_records, unconfirmed_of}
-use Rattle.nfs_clients.specs.ExchangeId.{Ask, Case, Refuses, Stays, Adds, has_room, if_room, case_by, case_of, does, exchange_fault, refusal_of}
-use Rattle.nfs_clients.specs.ExchangeId.{ExchangesOrWants, fault_status, answer_standing, answer_added}
+use Rattle.nfs_clients.specs.ExchangeId.{Ask, Case, Refuses, Stays, Adds, has_room, if_room, case_by, case_of, does}
+use Rattle.nfs_clients.specs.Calls.{exchange_fault, refusal_of, ExchangesOrWants}
+use Rattle.nfs_clients.specs.ExchangeId.{fault_status, answer_standing, answer_added}
 use Rattle.nfs_xdr.specs.Checks.{judged}
 use Rattle.nfs_xdr.specs.Caller.{Caller}
 use Rattle.nfs_compound.specs.SessionArgs.{ExchangeId}

@@ -9,8 +9,7 @@ use Rattle.nfs_xdr.specs.declared.status.Status.{Status}
 use Rattle.nfs_xdr.specs.declared.status.Status.TheVariants.{Delay, MinorVersMismatch}
 use Rattle.nfs_xdr.proofs.Lists.{stays_in, any_in, map_in, find_in}
 use Rattle.nfs_compound.specs.Operation.{Op, Item, Operation, Fault, OpSequence, OpExchangeId, OpCreateSession, OpDestroySession, OpDestroyClientId}
-use Rattle.nfs_compound.specs.Arguments.{item_number}
-use Rattle.nfs_compound.specs.Request.{Request}
+use Rattle.nfs_compound.specs.Request.{Request, item_number}
 use Rattle.nfs_compound.specs.SessionArgs.{CreateSession}
 use Rattle.nfs_compound.specs.declared.session_args.Sequence.{Sequence}
 use Rattle.nfs_results.specs.Largest.{largest}

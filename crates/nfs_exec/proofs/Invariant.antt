@@ -11,8 +11,7 @@ use Rattle.nfs_xdr.specs.Tables.{In, record_at}
 use Rattle.nfs_xdr.proofs.Lists.{in_filter, in_push, in_map, find_in}
 use Rattle.nfs_xdr.proofs.Tables.{at_of_in, at_without, at_with, at_push}
 use Rattle.nfs_compound.specs.Operation.{Item, Operation, OpSequence, OpExchangeId, OpCreateSession, OpDestroySession, OpDestroyClientId, OpReclaimComplete}
-use Rattle.nfs_compound.specs.Arguments.{item_number}
-use Rattle.nfs_compound.specs.Request.{Request}
+use Rattle.nfs_compound.specs.Request.{Request, item_number}
 use Rattle.nfs_compound.specs.SessionArgs.{CreateSession}
 use Rattle.nfs_compound.specs.declared.session_args.Sequence.{Sequence}
 use Rattle.nfs_clients.specs.Roster.{ClientRecord, Roster, IsRoster, id_of as client_id, client_at, without, is_unconfirmed_of, unconfirmed_of, confirmed_of}

@@ -14,9 +14,8 @@ use Rattle.nfs_compound.specs.declared.session_args.Sequence.{Sequence}
 use Rattle.nfs_slots.specs.declared.slot.Verdict.{Verdict}
 use Rattle.nfs_slots.specs.declared.slot.Verdict.TheVariants.{Fresh, Again, FalseRetry, Misordered, NoSlot}
 use Rattle.nfs_results.specs.Result.{Res, ResSequence}
-use Rattle.nfs_results.specs.Results.{spell_result, refusal}
+use Rattle.nfs_results.specs.Results.{spell_result, refusal, spell_compound_head}
 use Rattle.nfs_exec.proofs.Bearing.{refusal_short}
-use Rattle.nfs_results.specs.CompoundResult.{spell_compound_head}
 use Rattle.nfs_results.specs.OpenHead.{HeadsAt, HasHead, SetsHead}
 use Rattle.nfs_results.proofs.Lengths.{length_result, length_head_within}
 use Rattle.nfs_sessions.specs.declared.channel.Channel.{Channel}
@@ -26,10 +25,10 @@ use Rattle.nfs_exec.specs.Machine.{Machine, Outcome, is_ok}
 use Rattle.nfs_exec.specs.Sequence.{Sequenced, Runs, unless, by_verdict, by_session, slot_fault, fresh_fault, accepted}
 use Rattle.nfs_names.specs.declared.context.Context.{Context}
 use Rattle.nfs_exec.specs.Run.{Ran, run, in_room, follow, is_here, behind_here}
-use Rattle.nfs_exec.specs.Compound.{HasReplyRoom, renewed}
+use Rattle.nfs_exec.specs.Compound.{renewed}
 use Rattle.nfs_lease.specs.Renewals.{Book, with_renewal}
 use Rattle.nfs_exec.specs.declared.run.Ran.{Ran as Told}
-use Rattle.nfs_exec.specs.View.{RunsTo}
+use Rattle.nfs_exec.specs.View.{RunsTo, HasReplyRoom}
 use Rattle.nfs_xdr.specs.Spelling.{number, opaque}
 use Rattle.nfs_xdr.specs.Status.{status_number}
 use Rattle.nfs_xdr.proofs.Putting.{length_number}
@@ -37,7 +36,7 @@ use Rattle.nfs_exec.proofs.Creating.{the_rest, length_id}
 use Rattle.nfs_sessions.specs.declared.id.SessionId.{SessionId}
 use Rattle.nfs_sessions.specs.Id.{id_bytes, id_of}
 use Rattle.std.specs.Option.{IsSomeAnd}
-use Rattle.nfs_sessions.specs.SessionSlots.{MayKeep}
+use Rattle.nfs_sessions.specs.Kept.{MayKeep}
 
 -- what it means that a request runs
 pub record IsFresh (r : Request) (who : Caller) (size : ℕ) (s : Sequence) (o : Option Session) (c : Channel) : Type 0 where

@@ -5,8 +5,7 @@ use Rattle.std.specs.Prelude.{◌&&◌, ◌==◌, not, is_some, option_map}
 use Rattle.nfs_xdr.specs.Caller.{Caller}
 use Rattle.nfs_xdr.specs.declared.status.Status.{Status}
 use Rattle.nfs_compound.specs.Operation.{Item, Operation, OpSequence, OpExchangeId, OpCreateSession, OpDestroySession, OpDestroyClientId}
-use Rattle.nfs_compound.specs.Arguments.{item_number}
-use Rattle.nfs_compound.specs.Request.{Request}
+use Rattle.nfs_compound.specs.Request.{Request, item_number}
 use Rattle.nfs_compound.specs.SessionArgs.{CreateSession}
 use Rattle.nfs_compound.specs.declared.session_args.Sequence.{Sequence}
 use Rattle.nfs_clients.specs.declared.exchange_id.Exchanged.{Exchanged}
@@ -20,7 +19,8 @@ use Rattle.nfs_sessions.specs.declared.id.SessionId.{SessionId}
 use Rattle.nfs_sessions.specs.declared.sessions.SessionFault.{SessionFault}
 use Rattle.nfs_sessions.specs.Id.{id_of}
 use Rattle.nfs_sessions.specs.Sessions.{SessionTable, create, session_at}
-use Rattle.nfs_lease.specs.Renewals.{Book, IsLatest, is_out, has_run_out, with_lease, with_renewal, without_lease}
+use Rattle.nfs_lease.specs.Renewals.{Book, is_out, has_run_out, with_lease, with_renewal, without_lease}
+use Rattle.nfs_lease.specs.Queue.{IsLatest}
 use Rattle.nfs_lease.proofs.Latest.{latest_lease, latest_renewal, latest_without}
 use Rattle.nfs_exec.specs.Machine.{Machine, Outcome, is_ok, or_delay}
 use Rattle.nfs_exec.specs.Expiry.{expired, leases_kept}
@@ -31,7 +31,8 @@ use Rattle.nfs_exec.specs.CreateSession.{create_session_number, by_verdict, crea
 use Rattle.nfs_exec.specs.Destroy.{destroy_session, destroyed_unless, has_session}
 use Rattle.nfs_exec.specs.Sequence.{Sequenced, Refuses, Repeats, Runs, sequenced}
 use Rattle.nfs_names.specs.Context.{begins}
-use Rattle.nfs_names.specs.State.{State, IsStore}
+use Rattle.nfs_names.specs.State.{State}
+use Rattle.nfs_names.specs.Kept.{IsStore}
 use Rattle.nfs_names.proofs.Staying.{store_staying}
 use Rattle.nfs_exec.specs.Run.{is_here, behind_here}
 use Rattle.nfs_exec.proofs.Behind.{run_leases}

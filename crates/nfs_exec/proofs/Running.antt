@@ -9,12 +9,11 @@ use Rattle.nfs_xdr.specs.declared.status.Status.TheVariants.{Nfs4Ok}
 use Rattle.nfs_compound.specs.Operation.{Item}
 use Rattle.nfs_compound.specs.Request.{Request}
 use Rattle.nfs_names.specs.declared.context.Context.{Context}
-use Rattle.nfs_names.specs.State.{IsStore}
+use Rattle.nfs_names.specs.Kept.{IsStore}
 use Rattle.nfs_exec.specs.Machine.{Machine, Outcome, is_ok, is_delay}
-use Rattle.nfs_exec.specs.Place.{CanBear}
 use Rattle.nfs_exec.specs.Behind.{Step}
 use Rattle.nfs_exec.specs.Run.{Ran, run, in_room, follow, only, is_here, behind_here}
-use Rattle.nfs_exec.specs.View.{RunsTo, Steps}
+use Rattle.nfs_exec.specs.View.{RunsTo, Steps, CanBear}
 
 -- The place at which memory was refused: here, or one place further than from behind.
 

@@ -5,16 +5,17 @@ use Rattle.nfs_xdr.specs.SheetState.{SheetState, HasRoom, Puts}
 use Rattle.nfs_xdr.specs.declared.status.Status.{Status}
 use Rattle.nfs_xdr.specs.declared.status.Status.TheVariants.{NotSupp}
 use Rattle.nfs_compound.specs.Operation.{Item}
-use Rattle.nfs_compound.specs.Arguments.{item_number}
+use Rattle.nfs_compound.specs.Request.{item_number}
 use Rattle.nfs_compound.specs.View.{item}
 use Rattle.nfs_compound.specs.declared.arg.Arg.{Arg}
 use Rattle.nfs_compound.specs.declared.arg.Arg.TheVariants as Args
 use Rattle.nfs_results.specs.Result.{Res}
-use Rattle.nfs_results.specs.Results.{HasArrays, spell_result, status_of_result, refusal}
+use Rattle.nfs_results.specs.Results.{spell_result, status_of_result, refusal}
+use Rattle.nfs_results.specs.ResultCodec.{HasArrays}
 use Rattle.nfs_exec.specs.Machine.{Machine, Outcome, comes_to, is_delay, refuses}
-use Rattle.nfs_exec.specs.Place.{IsSmall, item_fault}
+use Rattle.nfs_exec.specs.Place.{item_fault}
 use Rattle.nfs_exec.specs.Compound.{carried_out, by_fault, first_item}
-use Rattle.nfs_exec.specs.View.{Does}
+use Rattle.nfs_exec.specs.View.{Does, IsSmall}
 
 pub small_fits : (sheet : SheetState) (r : Res) → length sheet.bytes + 92 ≤ sheet.room → IsSmall r → HasArrays r → HasRoom sheet (spell_result r)
 small_fits sheet r room small arrays = (let long = small.1 arrays in omega (arith, room, long))

@@ -11,7 +11,7 @@ use Rattle.nfs_compound.specs.View.{item}
 use Rattle.nfs_compound.specs.declared.session_args.Sequence.{Sequence}
 use Rattle.nfs_compound.specs.declared.arg.Arg.{Arg}
 use Rattle.nfs_compound.specs.declared.arg.Arg.TheVariants as Args
-use Rattle.nfs_results.specs.CompoundResult.{spell_compound_head}
+use Rattle.nfs_results.specs.Results.{spell_compound_head}
 use Rattle.nfs_results.specs.OpenHead.{HeadsAt, SetsHead}
 use Rattle.nfs_slots.specs.declared.slot.Verdict.{Verdict}
 use Rattle.nfs_slots.specs.declared.slot.Verdict.TheVariants.{Fresh, Again, FalseRetry, Misordered, NoSlot}
@@ -21,9 +21,9 @@ use Rattle.nfs_sessions.specs.Id.{id_of}
 use Rattle.nfs_exec.specs.Machine.{Machine, is_delay}
 use Rattle.nfs_exec.specs.Sequence.{Sequenced, Refuses, Repeats, Runs, unless, by_verdict, by_session, slot_fault, sequenced}
 use Rattle.nfs_exec.specs.Run.{only}
-use Rattle.nfs_exec.specs.Compound.{Answered, answers, first_item, in_session, by_first, compound, Answers}
+use Rattle.nfs_exec.specs.Compound.{Answered, answers, first_item, in_session, by_first, compound}
 use Rattle.nfs_exec.specs.Run.{is_here}
-use Rattle.nfs_exec.specs.View.{Does}
+use Rattle.nfs_exec.specs.View.{Does, Answers}
 use Rattle.nfs_exec.proofs.Running.{choice_of, chosen}
 use Rattle.nfs_exec.proofs.Keeping.{closed_one}
 

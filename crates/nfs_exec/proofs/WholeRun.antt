@@ -6,8 +6,7 @@ use Rattle.nfs_xdr.specs.Caller.{Caller}
 use Rattle.nfs_xdr.specs.Tables.{In}
 use Rattle.nfs_xdr.specs.declared.status.Status.{Status}
 use Rattle.nfs_compound.specs.Operation.{Item, Operation, Fault, OpSequence, OpExchangeId, OpCreateSession, OpDestroySession, OpDestroyClientId, OpReclaimComplete}
-use Rattle.nfs_compound.specs.Arguments.{item_number}
-use Rattle.nfs_compound.specs.Request.{Request}
+use Rattle.nfs_compound.specs.Request.{Request, item_number}
 use Rattle.nfs_compound.specs.SessionArgs.{CreateSession}
 use Rattle.nfs_compound.specs.declared.session_args.Sequence.{Sequence}
 use Rattle.nfs_results.specs.Largest.{largest}
@@ -22,13 +21,14 @@ use Rattle.nfs_sessions.specs.Sessions.{SessionTable, session_at, create}
 use Rattle.nfs_sessions.specs.declared.id.SessionId.{SessionId}
 use Rattle.nfs_sessions.specs.declared.sessions.SessionFault.{SessionFault}
 use Rattle.nfs_lease.specs.Renewals.{has_run_out}
-use Rattle.nfs_opens.specs.Table.{IsTable}
+use Rattle.nfs_opens.specs.Kept.{IsTable}
 use Rattle.nfs_opens.proofs.TableLemmas.{table_new}
 use Rattle.nfs_names.specs.declared.context.Context.{Context}
 use Rattle.nfs_names.specs.declared.node.Node.{Node}
 use Rattle.nfs_names.specs.Checks.{current}
 use Rattle.nfs_names.specs.Context.{begins}
-use Rattle.nfs_names.specs.State.{State, IsStore, moment}
+use Rattle.nfs_names.specs.State.{State, moment}
+use Rattle.nfs_names.specs.Kept.{IsStore}
 use Rattle.nfs_names.specs.Ending.{staying}
 use Rattle.nfs_names.specs.Operation as names
 use Rattle.nfs_names.proofs.Untouched.{leaves_item}
@@ -37,7 +37,7 @@ use Rattle.nfs_names.proofs.Kept.{store_at_first}
 use Rattle.nfs_names.proofs.Whole as of_names
 use Rattle.nfs_files.specs.Operation as files
 use Rattle.nfs_files.proofs.Whole.{store_left}
-use Rattle.nfs_exec.specs.Machine.{Machine, Outcome, is_ok, or_delay, starts}
+use Rattle.nfs_exec.specs.Machine.{Machine, Outcome, is_ok, or_delay, starts, HasNoClashes}
 use Rattle.nfs_exec.specs.Behind.{Step, step, on_store, moves_opens, marked_if, otherwise}
 use Rattle.nfs_exec.specs.Run.{run, in_room, reserve, is_here, behind_here}
 use Rattle.nfs_exec.specs.Place.{item_fault}
@@ -48,7 +48,7 @@ use Rattle.nfs_exec.specs.Destroy.{destroy_session, destroyed_unless, has_sessio
 use Rattle.nfs_exec.specs.Sequence as sequence
 use Rattle.nfs_exec.specs.Sequence.{Sequenced, sequenced}
 use Rattle.nfs_exec.specs.Compound.{carried_out, by_fault, first_item, renewed, begun, in_session, by_first, compound}
-use Rattle.nfs_exec.specs.Laws.{Event, Expires, Asks, HasNoClashes, stepped, all_stepped}
+use Rattle.nfs_exec.specs.Laws.{Event, Expires, Asks, stepped, all_stepped}
 use Rattle.nfs_exec.proofs.Behind.{follow_kept}
 use Rattle.nfs_exec.specs.Ops.{Done, ops, ops_in, ops_of, ops_by}
 use Rattle.nfs_exec.specs.Runs.{NoneInRuns}

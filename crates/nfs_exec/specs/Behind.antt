@@ -1,7 +1,7 @@
 -- One operation behind a SEQUENCE (RFC 8881 section 2.10.6.4): what it comes to, and the context in which the next one runs.
 use Rattle.std.specs.Prelude.{ℕ, Bool, true, false, if◌then◌else◌}
 use Rattle.nfs_xdr.specs.declared.status.Status.{Status}
-use Rattle.nfs_compound.specs.Arguments.{item_number}
+use Rattle.nfs_compound.specs.Request.{item_number}
 use Rattle.nfs_compound.specs.Operation.{OpClose, OpOpen, OpReclaimComplete, Item, Operation}
 use Rattle.nfs_names.specs.declared.context.Context.{Context}
 use Rattle.nfs_names.specs.State.{moment}

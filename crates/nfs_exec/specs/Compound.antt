@@ -1,22 +1,19 @@
 -- A compound (RFC 8881 sections 2.3, 2.10.6.4 and 16.2): what it answers, and the machine behind it.
-use Rattle.std.specs.Prelude.{◌≡◌, ◌+◌, ◌≤◌, ℕ, ◌==◌, Bool, List, [], ◌∷◌, ◌++◌, length, Option, Some, None, if◌then◌else◌}
+use Rattle.std.specs.Prelude.{◌+◌, ℕ, ◌==◌, Bool, List, [], ◌∷◌, ◌++◌, length, Option, Some, None, if◌then◌else◌}
 use Rattle.nfs_xdr.specs.declared.status.Status.{Status}
 use Rattle.nfs_xdr.specs.declared.status.Status.TheVariants.{Nfs4Ok, MinorVersMismatch, NotSupp}
-use Rattle.nfs_xdr.specs.SheetState.{SheetState, Puts}
 use Rattle.nfs_xdr.specs.Caller.{Caller}
 use Rattle.nfs_compound.specs.Operation.{OpExchangeId, OpCreateSession, OpDestroySession, OpDestroyClientId, OpSequence, Item, Operation}
 use Rattle.nfs_compound.specs.declared.session_args.Sequence.{Sequence}
-use Rattle.nfs_compound.specs.Request.{Request, IsRequest}
-use Rattle.nfs_compound.specs.Arguments.{item_number}
+use Rattle.nfs_compound.specs.Request.{Request, item_number}
 use Rattle.nfs_results.specs.Result.{ResSequence}
-use Rattle.nfs_results.specs.Results.{spell_result}
-use Rattle.nfs_results.specs.CompoundResult.{spell_compound_head}
+use Rattle.nfs_results.specs.Results.{spell_result, spell_compound_head}
+use Rattle.nfs_names.specs.Context.{begins}
+use Rattle.nfs_lease.specs.Renewals.{with_renewal}
 use Rattle.nfs_sessions.specs.declared.channel.Channel.{Channel}
 use Rattle.nfs_sessions.specs.SessionSlots.{rpc_head}
 use Rattle.nfs_sessions.specs.Id.{id_of}
 use Rattle.nfs_sessions.specs.Sessions.{keep}
-use Rattle.nfs_lease.specs.Renewals.{with_renewal}
-use Rattle.nfs_names.specs.Context.{begins}
 use Rattle.nfs_exec.specs.Machine.{Machine, Outcome, comes_to, refuses, or_delay}
 use Rattle.nfs_exec.specs.Place.{item_fault}
 use Rattle.nfs_exec.specs.ExchangeId.{exchange_id, exchange_id_number}
@@ -89,17 +86,3 @@ by_first m r who size now choice (item ∷ more) = answers r (only (first_item m
 -- was refused. The minor version is looked at first, and no operation of another one is.
 abbrev pub compound : Machine → Request → Caller → (size now : ℕ) → Option ℕ → Answered
 compound m r who size now choice = if r.minor == 1 then by_first m r who size now choice r.left else bare r MinorVersMismatch m
-
--- The request was just opened.
-pub record IsOpened (r : Request) : Type 0 where
-  pub bytes : List ℕ
-  pub request : IsRequest bytes r
-
--- room for what stands behind the head of a reply of 70,000 bytes
-abbrev pub HasReplyRoom : SheetState → Type 0
-HasReplyRoom sheet = length sheet.bytes + 69976 ≤ sheet.room
-
--- The answer was put on the sheet, and its machine was left.
-pub record Answers (answered : Answered) (old new : SheetState) (left : Machine) : Type 0 where
-  pub put : Puts old new answered.text
-  pub machine : left ≡ answered.machine

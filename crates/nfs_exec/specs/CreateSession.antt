@@ -8,8 +8,8 @@ use Rattle.nfs_compound.specs.declared.channel_attrs.ChannelAttrs.{ChannelAttrs}
 use Rattle.nfs_compound.specs.SessionArgs.{CreateSession}
 use Rattle.nfs_results.specs.declared.res.CreateSessionOk.{CreateSessionOk}
 use Rattle.nfs_results.specs.Result.{ResCreateSession}
-use Rattle.nfs_results.specs.Results.{parts}
-use Rattle.nfs_results.specs.Straight.{done_head}
+use Rattle.nfs_results.specs.Parts.{parts}
+use Rattle.nfs_results.specs.Results.{done_head}
 use Rattle.nfs_clients.specs.declared.created.CreateResult.{CreateResult}
 use Rattle.nfs_clients.specs.declared.created.CreateResult.TheVariants.{Done, Refused}
 use Rattle.nfs_clients.specs.CreateSession.{Verdict, Stale, Again, Misordered, InUse, Runs, create_verdict, leaving, with_confirmed, with_kept}

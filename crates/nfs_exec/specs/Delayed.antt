@@ -3,13 +3,11 @@
 use Rattle.std.specs.Prelude.{◌≡◌, ◌⊎◌, ℕ, suc, ◌≤◌, Bool, true, false, List, ◌++◌, take, slice_get, Option, Some, None}
 use Rattle.nfs_xdr.specs.declared.status.Status.TheVariants.{Nfs4Ok, Delay}
 use Rattle.nfs_xdr.specs.Caller.{Caller}
-use Rattle.nfs_compound.specs.Arguments.{item_number}
 use Rattle.nfs_compound.specs.Operation.{Item, Operation, OpCreate, OpLink, OpRename, OpOpen, OpSetAttr, OpWrite, OpLock, OpLockU, OpExchangeId}
 use Rattle.nfs_compound.specs.Operation.{OpCreateSession}
-use Rattle.nfs_compound.specs.Request.{Request}
+use Rattle.nfs_compound.specs.Request.{Request, item_number}
 use Rattle.nfs_compound.specs.declared.session_args.Sequence.{Sequence}
-use Rattle.nfs_results.specs.Results.{refusal, spell_result}
-use Rattle.nfs_results.specs.CompoundResult.{spell_compound_head}
+use Rattle.nfs_results.specs.Results.{refusal, spell_result, spell_compound_head}
 use Rattle.nfs_exec.specs.Machine.{Machine, IsMachine}
 use Rattle.nfs_exec.specs.Compound.{Answered, keeps, compound}
 use Rattle.nfs_exec.specs.Laws.{first_runs}

@@ -6,14 +6,10 @@ use Rattle.nfs_xdr.specs.Caller.{Caller}
 use Rattle.nfs_compound.specs.declared.session_args.Sequence.{Sequence}
 use Rattle.nfs_compound.specs.Operation.{OpSequence, Item, Operation}
 use Rattle.nfs_compound.specs.Request.{Request}
+use Rattle.nfs_lease.specs.Renewals.{has_run_out}
 use Rattle.nfs_sessions.specs.declared.id.SessionId.{SessionId}
 use Rattle.nfs_sessions.specs.Id.{id_of}
 use Rattle.nfs_sessions.specs.Laws.{is_id}
-use Rattle.nfs_lease.specs.Renewals.{has_run_out}
-use Rattle.nfs_opens.specs.declared.records.OpenState.{OpenState}
-use Rattle.nfs_opens.specs.Holding.{HasNoClash}
-use Rattle.nfs_xdr.specs.Tables.{In}
-use Rattle.nfs_opens.specs.Table.{clashes_with, as_asked}
 use Rattle.nfs_exec.specs.Machine.{Machine, starts, refuses}
 use Rattle.nfs_exec.specs.Sequence.{Sequenced, Refuses, Repeats, Runs, sequenced, sequence_number}
 use Rattle.nfs_exec.specs.Run.{only}
@@ -47,11 +43,6 @@ ExpiresOnce = (m : Machine) (first later : ℕ) → first ≤ later → expired 
 abbrev pub ExpiryFindsNothing : Type 0
 ExpiryFindsNothing = (m : Machine) (r : Request) (who : Caller) (size now : ℕ) (choice : Option ℕ) (client : ℕ)
     → has_run_out (compound (expired now m) r who size now choice).machine.leases now client ≡ false
-
--- No byte of a file has a writer beside another holder, and no two opens of different owners clash (RFC 8881 sections 9.1 and 9.7).
-pub record HasNoClashes (m : Machine) : Type 0 where
-  pub bytes : (file : ℕ) → HasNoClash (m.store.opens.held file)
-  pub shares : (a b : OpenState) → In a m.store.opens.opens → In b m.store.opens.opens → clashes_with (as_asked a) b ≡ false
 
 -- What comes to a server: a moment at which leases run out; or a request of a caller, in a record of so many bytes, at a moment,
 -- with the place, if any, at which memory was refused.

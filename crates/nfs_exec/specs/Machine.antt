@@ -5,15 +5,19 @@ use Rattle.nfs_xdr.specs.declared.status.Status.{Status}
 use Rattle.nfs_xdr.specs.declared.status.Status.TheVariants.{Nfs4Ok, Delay}
 use Rattle.nfs_xdr.specs.Status.{status_number}
 use Rattle.nfs_xdr.specs.Tables.{IsRising, In}
+use Rattle.nfs_results.specs.Result.{Res}
+use Rattle.nfs_results.specs.Results.{status_of_result, spell_result, refusal}
+use Rattle.nfs_opens.specs.declared.records.OpenState.{OpenState}
+use Rattle.nfs_opens.specs.Holding.{HasNoClash}
+use Rattle.nfs_opens.specs.Table.{clashes_with, as_asked}
+use Rattle.nfs_names.specs.Ending.{has_open}
+use Rattle.nfs_names.specs.State.{State, new_store, moment, state_of}
+use Rattle.nfs_lease.specs.Renewals.{Book, no_leases, leases_of}
 use Rattle.nfs_clients.specs.Roster.{Roster, IsRoster, no_clients, client_at}
 use Rattle.nfs_clients.specs.Marks.{with_open}
 use Rattle.nfs_clients.specs.Marks as marked
-use Rattle.nfs_names.specs.Ending.{has_open}
 use Rattle.nfs_sessions.specs.Sessions.{Session, SessionTable, no_sessions}
-use Rattle.nfs_lease.specs.Renewals.{Book, no_leases}
-use Rattle.nfs_names.specs.State.{State, new_store, moment}
-use Rattle.nfs_results.specs.Result.{Res}
-use Rattle.nfs_results.specs.Results.{status_of_result, spell_result, refusal}
+use Rattle.nfs_exec.specs.declared.tables.Tables.{Tables}
 
 pub record Machine : Type 0 where
   pub clients : Roster
@@ -79,3 +83,16 @@ pub record IsMachine (m : Machine) : Type 0 where
   pub opened : (client : ℕ) → has_open m.store client ≡ true → is_confirmed m.clients client ≡ true
   -- the numbers of opens rise, and were all given
   pub numbers : IsRising (λ o. o.number) 1 m.store.opens.opens (suc m.store.opens.last)
+
+-- the machine that the tables are
+abbrev pub machine_of : Tables → Machine
+machine_of t = record { clients = t.clients; sessions = t.sessions; leases = leases_of t.leases; store = state_of t.store }
+
+-- what a world is kept as; other crates see it through `machine_of` alone
+abbrev pub Kept : Type 0
+Kept = Tables
+
+-- No byte of a file has a writer beside another holder, and no two opens of different owners clash (RFC 8881 sections 9.1 and 9.7).
+pub record HasNoClashes (m : Machine) : Type 0 where
+  pub bytes : (file : ℕ) → HasNoClash (m.store.opens.held file)
+  pub shares : (a b : OpenState) → In a m.store.opens.opens → In b m.store.opens.opens → clashes_with (as_asked a) b ≡ false

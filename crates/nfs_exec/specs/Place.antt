@@ -1,13 +1,9 @@
 -- What may stand in which place of a compound (RFC 8881 sections 2.10.6.4 and 15.1.3), and that it is short.
-use Rattle.std.specs.Prelude.{IsTrue, ℕ, ◌||◌, ◌&&◌, ◌==◌, ◌≤◌, nat_lt, not, Bool, true, false, [], ◌∷◌, length, Option, Some}
+use Rattle.std.specs.Prelude.{ℕ, ◌||◌, ◌&&◌, nat_lt, not, Bool, true, false, [], ◌∷◌, Option, Some}
 use Rattle.nfs_xdr.specs.Checks.{first_fault}
 use Rattle.nfs_xdr.specs.declared.status.Status.{Status}
 use Rattle.nfs_xdr.specs.declared.status.Status.TheVariants.{NotOnlyOp, NotSupp, OpNotInSession, SequencePos}
-use Rattle.nfs_compound.specs.declared.op_num.OpNum.TheVariants.{SetAttr}
-use Rattle.nfs_compound.specs.OpNum.{op_number}
 use Rattle.nfs_compound.specs.Operation.{Op, OpExchangeId, OpCreateSession, OpDestroySession, OpDestroyClientId, OpSequence, Item, Operation, Fault}
-use Rattle.nfs_results.specs.Result.{Res}
-use Rattle.nfs_results.specs.Results.{is_legal, can_refuse, IsBounded, HasArrays, spell_result}
 
 -- the operations that stand alone in a compound outside a session
 abbrev pub stands_alone : Op → Bool
@@ -40,12 +36,3 @@ abbrev pub status_behind : Item → Status
 status_behind (Fault number status) = status
 status_behind (Operation (OpSequence s)) = SequencePos
 status_behind (Operation op) = NotSupp
-
--- a reply can bear the fault: SETATTR's says more, and with any status but OP_ILLEGAL's own
-abbrev pub CanBear : Item → Type 0
-CanBear (Operation op) = Unit {0}
-CanBear (Fault number status) = IsTrue ((number == op_number SetAttr && is_legal status) || can_refuse number status)
-
--- a result that can be put, and is as short as that of an operation that has no largest size of its own
-abbrev pub IsSmall : Res → Type 0
-IsSmall r = IsBounded r × (HasArrays r → length (spell_result r) ≤ 64)

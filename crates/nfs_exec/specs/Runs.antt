@@ -3,8 +3,8 @@
 use Rattle.std.specs.Prelude.{◌≡◌, ℕ, ◌≤◌, false, List, [], ◌∷◌, ◌++◌}
 use Rattle.nfs_xdr.specs.Tables.{In}
 use Rattle.nfs_lease.specs.Renewals.{has_run_out}
-use Rattle.nfs_exec.specs.Machine.{Machine, starts}
-use Rattle.nfs_exec.specs.Laws.{Event, Expires, Asks, HasNoClashes, stepped, all_stepped}
+use Rattle.nfs_exec.specs.Machine.{Machine, starts, HasNoClashes}
+use Rattle.nfs_exec.specs.Laws.{Event, Expires, Asks, stepped, all_stepped}
 use Rattle.nfs_exec.specs.Ops.{Done, ops_by}
 use Rattle.nfs_files.specs.Kept.{Told, Stands}
 use Rattle.nfs_exec.specs.Held.{AreSpared, StandsWhile, IsToldBy, IsAlone}

@@ -1,39 +1,65 @@
 -- What the code's tables and answers say.
-use Rattle.std.specs.Prelude.{◌≡◌, ℕ, ◌+◌, ◌^◌, ◌<◌, ◌≤◌, ◌==◌, length, not, Option, if◌then◌else◌}
+use Rattle.std.specs.Prelude.{◌≡◌, ℕ, ◌+◌, ◌^◌, ◌<◌, ◌≤◌, ◌==◌, length, not, Option, if◌then◌else◌, List, IsTrue, ◌||◌, ◌&&◌}
 use Rattle.nfs_xdr.specs.declared.status.Status.{Status}
 use Rattle.nfs_xdr.specs.SheetState.{SheetState, Puts}
 use Rattle.nfs_xdr.specs.Caller.{Caller}
 use Rattle.nfs_xdr.specs.Limits.{opaque_limit}
 use Rattle.nfs_xdr.specs.Tables.{In}
-use Rattle.nfs_compound.specs.Operation.{Item}
-use Rattle.nfs_compound.specs.Request.{Request}
+use Rattle.nfs_compound.specs.Operation.{Item, Operation, Fault}
+use Rattle.nfs_compound.specs.Request.{Request, IsRequest}
 use Rattle.nfs_compound.specs.declared.session_args.Sequence.{Sequence}
+use Rattle.nfs_compound.specs.declared.op_num.OpNum.TheVariants.{SetAttr}
+use Rattle.nfs_compound.specs.OpNum.{op_number}
+use Rattle.nfs_results.specs.Result.{Res}
+use Rattle.nfs_results.specs.Parts.{is_legal}
+use Rattle.nfs_results.specs.Refusals.{can_refuse}
+use Rattle.nfs_results.specs.ResultCodec.{IsBounded, HasArrays}
+use Rattle.nfs_results.specs.Results.{spell_result}
+use Rattle.nfs_names.specs.declared.context.Context.{Context}
+use Rattle.nfs_names.specs.State.{state_of}
+use Rattle.nfs_names.specs.Kept.{IsStore}
+use Rattle.nfs_names.specs.Ending.{staying}
+use Rattle.nfs_lease.specs.Renewals.{Book, without_lease}
 use Rattle.nfs_clients.specs.Roster.{without}
-use Rattle.nfs_sessions.specs.Channel.{IsGranted}
+use Rattle.nfs_clients.specs.declared.exchange_id.Exchanged.{Exchanged}
+use Rattle.nfs_sessions.specs.Kept.{IsGranted}
 use Rattle.nfs_sessions.specs.SessionSlots.{rpc_head}
 use Rattle.nfs_sessions.specs.declared.channel.Channel.{Channel}
 use Rattle.nfs_sessions.specs.Sessions as sessions
-use Rattle.nfs_names.specs.declared.context.Context.{Context}
-use Rattle.nfs_names.specs.State.{state_of, IsStore}
-use Rattle.nfs_names.specs.Ending.{staying}
-use Rattle.nfs_lease.specs.Renewals.{Book, leases_of, without_lease}
 use Rattle.nfs_exec.specs.declared.tables.Tables.{Tables}
 use Rattle.nfs_exec.specs.declared.sequence.Sequenced.{Sequenced as Code}
 use Rattle.nfs_exec.specs.declared.sequence.Sequenced.TheVariants as code
 use Rattle.nfs_exec.specs.declared.run.Ran as code_run
-use Rattle.nfs_exec.specs.Machine.{Machine, IsMachine, Outcome}
+use Rattle.nfs_exec.specs.Machine.{Machine, IsMachine, Outcome, machine_of}
 use Rattle.nfs_exec.specs.Behind.{Step}
-use Rattle.nfs_exec.specs.Compound.{answers, runs_behind, HasReplyRoom, Answers}
-use Rattle.nfs_exec.specs.Place.{CanBear}
+use Rattle.nfs_exec.specs.Compound.{answers, runs_behind, Answered}
 use Rattle.nfs_exec.specs.Run.{Ran}
 use Rattle.nfs_exec.specs.ExchangeId.{without_any_lease}
 use Rattle.nfs_exec.specs.CreateSession.{without_any_sessions, without_any_opens}
-use Rattle.nfs_clients.specs.declared.exchange_id.Exchanged.{Exchanged}
 use Rattle.nfs_exec.specs.Sequence.{Sequenced, Refuses, Repeats, Runs}
 
--- the machine that the tables are
-abbrev pub machine_of : Tables → Machine
-machine_of t = record { clients = t.clients; sessions = t.sessions; leases = leases_of t.leases; store = state_of t.store }
+-- The request was just opened.
+pub record IsOpened (r : Request) : Type 0 where
+  pub bytes : List ℕ
+  pub request : IsRequest bytes r
+
+-- room for what stands behind the head of a reply of 70,000 bytes
+abbrev pub HasReplyRoom : SheetState → Type 0
+HasReplyRoom sheet = length sheet.bytes + 69976 ≤ sheet.room
+
+-- The answer was put on the sheet, and its machine was left.
+pub record Answers (answered : Answered) (old new : SheetState) (left : Machine) : Type 0 where
+  pub put : Puts old new answered.text
+  pub machine : left ≡ answered.machine
+
+-- a reply can bear the fault: SETATTR's says more, and with any status but OP_ILLEGAL's own
+abbrev pub CanBear : Item → Type 0
+CanBear (Operation op) = Unit {0}
+CanBear (Fault number status) = IsTrue ((number == op_number SetAttr && is_legal status) || can_refuse number status)
+
+-- a result that can be put, and is as short as that of an operation that has no largest size of its own
+abbrev pub IsSmall : Res → Type 0
+IsSmall r = IsBounded r × (HasArrays r → length (spell_result r) ≤ 64)
 
 abbrev pub sequenced_of : Code → Sequenced
 sequenced_of (code.Refuses status) = Refuses status
@@ -102,7 +128,3 @@ settled b next x = if x.added then without_any_lease b x.replaced else without_l
 pub record IsKept (t : Tables) : Type 0 where
   pub machine : IsMachine (machine_of t)
   pub store : IsStore (state_of t.store)
-
--- what a world is kept as; other crates see it through `machine_of` alone
-abbrev pub Kept : Type 0
-Kept = Tables

@@ -3,16 +3,16 @@
 ghost use Rattle.std.specs.Prelude.{◌≡◌, ◌≤◌, ◌+◌, ◌++◌, length, Option};
 ghost use Rattle.nfs_xdr.specs.Caller.{caller};
 ghost use Rattle.nfs_xdr.specs.SheetState.{Puts};
-ghost use Rattle.nfs_compound.specs.SessionArgs.{view_create_session};
+ghost use Rattle.nfs_compound.specs.ArgCodecs.{view_create_session};
 ghost use Rattle.nfs_clients.specs.CreateSession as clients;
 ghost use Rattle.nfs_compound.specs.declared.op_num.OpNum.TheVariants as Op;
-ghost use Rattle.nfs_results.specs.Straight.{done_head};
-ghost use Rattle.nfs_lease.specs.Renewals.{IsLatest};
+ghost use Rattle.nfs_results.specs.Results.{done_head};
+ghost use Rattle.nfs_lease.specs.Queue.{IsLatest};
 ghost use Rattle.nfs_sessions.specs.Sessions.{create};
-ghost use Rattle.nfs_exec.specs.Machine.{Machine, is_delay, or_delay, refuses};
-ghost use Rattle.nfs_names.specs.State.{IsStore};
+ghost use Rattle.nfs_exec.specs.Machine.{Machine, is_delay, or_delay, refuses, machine_of};
+ghost use Rattle.nfs_names.specs.Kept.{IsStore};
 ghost use Rattle.nfs_exec.specs.CreateSession.{create_session, create_session_number, wish_of, session_made, made_body, channel_of, attrs_of, creates, kept_again, confirmed};
-ghost use Rattle.nfs_exec.specs.View.{machine_of, without_left, Does};
+ghost use Rattle.nfs_exec.specs.View.{without_left, Does};
 
 use crate::tables::Tables;
 use nfs_clients::{CreateResult, CreateVerdict, Resok};

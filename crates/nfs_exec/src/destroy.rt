@@ -2,10 +2,9 @@
 
 ghost use Rattle.std.specs.Prelude.{◌≡◌};
 ghost use Rattle.nfs_results.specs.View as view;
-ghost use Rattle.nfs_exec.specs.Machine.{comes_to};
+ghost use Rattle.nfs_exec.specs.Machine.{comes_to, machine_of};
 ghost use Rattle.nfs_exec.specs.Destroy.{destroy_session, destroy_client};
-ghost use Rattle.nfs_exec.specs.Place.{IsSmall};
-ghost use Rattle.nfs_exec.specs.View.{machine_of};
+ghost use Rattle.nfs_exec.specs.View.{IsSmall};
 
 use crate::tables::Tables;
 use nfs_compound::OpNum;

@@ -3,16 +3,17 @@
 ghost use Rattle.std.specs.Prelude.{◌≡◌};
 ghost use Rattle.nfs_xdr.specs.Caller.{caller};
 ghost use Rattle.nfs_compound.specs.Operation.{Operation, OpExchangeId};
-ghost use Rattle.nfs_compound.specs.SessionArgs.{view_exchange_id};
+ghost use Rattle.nfs_compound.specs.ArgCodecs.{view_exchange_id};
 ghost use Rattle.nfs_clients.specs.ExchangeId.{fault_status};
-ghost use Rattle.nfs_lease.specs.Renewals.{IsLatest, leases_of};
-ghost use Rattle.nfs_results.specs.Largest.{MayAnswer};
+ghost use Rattle.nfs_lease.specs.Renewals.{leases_of};
+ghost use Rattle.nfs_lease.specs.Queue.{IsLatest};
+ghost use Rattle.nfs_results.specs.MayAnswer.{MayAnswer};
 ghost use Rattle.nfs_results.specs.Result.{Refused};
 ghost use Rattle.nfs_results.specs.Results.{status_of_result};
 ghost use Rattle.nfs_results.specs.View as view;
-ghost use Rattle.nfs_exec.specs.Machine.{IsMachine, comes_to, is_delay, or_delay};
+ghost use Rattle.nfs_exec.specs.Machine.{IsMachine, comes_to, is_delay, or_delay, machine_of};
 ghost use Rattle.nfs_exec.specs.ExchangeId.{exchange_id, exchange_id_number, granted};
-ghost use Rattle.nfs_exec.specs.View.{machine_of, settled};
+ghost use Rattle.nfs_exec.specs.View.{settled};
 
 use crate::tables::Tables;
 use nfs_clients::{CONFIRMED_R, ClientFault, Exchanged};

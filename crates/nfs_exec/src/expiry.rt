@@ -1,10 +1,12 @@
 //! Expiry (RFC 8881 section 8.3).
 
 ghost use Rattle.std.specs.Prelude.{◌≡◌, ◌+◌, is_some, if◌then◌else◌};
-ghost use Rattle.nfs_lease.specs.Renewals.{leases_of, standing};
-ghost use Rattle.nfs_names.specs.State.{IsStore};
+ghost use Rattle.nfs_lease.specs.Renewals.{leases_of};
+ghost use Rattle.nfs_lease.specs.Queue.{standing};
+ghost use Rattle.nfs_names.specs.Kept.{IsStore};
 ghost use Rattle.nfs_exec.specs.Expiry.{expired};
-ghost use Rattle.nfs_exec.specs.View.{machine_of, without_client};
+ghost use Rattle.nfs_exec.specs.View.{without_client};
+ghost use Rattle.nfs_exec.specs.Machine.{machine_of};
 
 use crate::tables::Tables;
 

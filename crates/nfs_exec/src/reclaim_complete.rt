@@ -3,12 +3,12 @@
 ghost use Rattle.std.specs.Prelude.{◌≡◌, ◌≤◌, length};
 ghost use Rattle.nfs_compound.specs.declared.op_num.OpNum.TheVariants as Op;
 ghost use Rattle.nfs_compound.specs.OpNum.{op_number};
-ghost use Rattle.nfs_results.specs.Results.{spell_result, refusal, IsBounded};
+ghost use Rattle.nfs_results.specs.Results.{spell_result, refusal};
+ghost use Rattle.nfs_results.specs.ResultCodec.{IsBounded};
 ghost use Rattle.nfs_results.specs.View as view;
-ghost use Rattle.nfs_exec.specs.Machine.{comes_to};
+ghost use Rattle.nfs_exec.specs.Machine.{comes_to, machine_of};
 ghost use Rattle.nfs_exec.specs.ReclaimComplete.{reclaim_complete};
 ghost use Rattle.nfs_exec.specs.Run.{reserve};
-ghost use Rattle.nfs_exec.specs.View.{machine_of};
 
 use crate::tables::Tables;
 use nfs_compound::OpNum;

@@ -1,9 +1,9 @@
 //! The server's tables.
 
 ghost use Rattle.std.specs.Prelude.{◌≡◌, IfOk};
-ghost use Rattle.nfs_names.specs.State.{state_of, IsStore};
-ghost use Rattle.nfs_exec.specs.Machine.{starts};
-ghost use Rattle.nfs_exec.specs.View.{machine_of};
+ghost use Rattle.nfs_names.specs.State.{state_of};
+ghost use Rattle.nfs_names.specs.Kept.{IsStore};
+ghost use Rattle.nfs_exec.specs.Machine.{starts, machine_of};
 
 use nfs_clients::Clients;
 use nfs_lease::Leases;

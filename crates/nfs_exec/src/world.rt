@@ -2,12 +2,11 @@
 
 ghost use Rattle.std.specs.Prelude.{◌≡◌, ◌≤◌, ◌<◌, ◌^◌, ℕ, Option, IfOk, length};
 ghost use Rattle.nfs_xdr.specs.Caller.{caller};
-ghost use Rattle.nfs_lease.specs.Renewals.{IsLatest};
-ghost use Rattle.nfs_exec.specs.Machine.{starts, IsMachine};
-ghost use Rattle.nfs_exec.specs.Compound.{compound, IsOpened, HasReplyRoom, Answers};
+ghost use Rattle.nfs_lease.specs.Queue.{IsLatest};
+ghost use Rattle.nfs_exec.specs.Machine.{starts, IsMachine, HasNoClashes, machine_of};
+ghost use Rattle.nfs_exec.specs.Compound.{compound};
+ghost use Rattle.nfs_exec.specs.View.{IsOpened, HasReplyRoom, Answers};
 ghost use Rattle.nfs_exec.specs.Expiry.{expired};
-ghost use Rattle.nfs_exec.specs.Laws.{HasNoClashes};
-ghost use Rattle.nfs_exec.specs.View.{machine_of};
 
 use crate::tables::Tables;
 use nfs_compound::Compound;
@@ -22,7 +21,8 @@ pub struct World {
 }
 
 impl Model for World {
-    ghost use Rattle.nfs_exec.specs.View.{Kept, IsKept};
+    ghost use Rattle.nfs_exec.specs.View.{IsKept};
+    ghost use Rattle.nfs_exec.specs.Machine.{Kept};
 
     ghost Value = { Kept };
 

@@ -5,7 +5,7 @@ use Rattle.std.proofs.lemmas.Bool.{false≢true}
 use Rattle.nfs_tree.specs.declared.fault.TreeFault.{TreeFault}
 use Rattle.nfs_tree.specs.declared.fault.TreeFault.TheVariants as F
 use Rattle.nfs_tree.specs.Files.{Files}
-use Rattle.nfs_tree.specs.Did.{does_unless, DoesOrWants}
+use Rattle.nfs_tree.specs.Calls.{does_unless, DoesOrWants}
 use Rattle.nfs_names.specs.Faults.{status_of}
 use Rattle.nfs_names.specs.Outcome.{is_delay}
 use Rattle.nfs_names.proofs.Faulted.{Wants, Other}

@@ -17,7 +17,7 @@ use Rattle.nfs_compound.specs.declared.open_args.Open.{Open}
 use Rattle.nfs_compound.specs.declared.file_args.Read.{Read}
 use Rattle.nfs_compound.specs.declared.file_args.SetAttr.{SetAttr}
 use Rattle.nfs_compound.specs.declared.file_args.Write.{Write}
-use Rattle.nfs_compound.specs.Arguments.{item_number}
+use Rattle.nfs_compound.specs.Request.{item_number}
 use Rattle.nfs_compound.specs.View.{item}
 use Rattle.nfs_results.specs.Results.{refusal}
 use Rattle.nfs_names.specs.declared.context.Context.{Context}

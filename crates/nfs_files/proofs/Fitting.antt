@@ -3,8 +3,10 @@ use Rattle.std.proofs.Common.{◌≡◌, ℕ, ◌+◌, ◌≤◌, length, Option
 use Rattle.std.proofs.lemmas.List.{length-take}
 use Rattle.nfs_xdr.specs.SheetState.{SheetState, HasRoom}
 use Rattle.nfs_results.specs.Result.{Res, Denied}
-use Rattle.nfs_results.specs.Results.{spell_result, operation_of, HasArrays}
-use Rattle.nfs_results.specs.Largest.{largest_of, HasSizes}
+use Rattle.nfs_results.specs.Results.{spell_result, operation_of}
+use Rattle.nfs_results.specs.ResultCodec.{HasArrays}
+use Rattle.nfs_results.specs.Largest.{largest_of}
+use Rattle.nfs_results.specs.MayAnswer.{HasSizes}
 use Rattle.nfs_results.proofs.Lengths.{behind_within, length_spelled}
 use Rattle.nfs_ranges.specs.declared.Held.{Held}
 use Rattle.nfs_opens.specs.declared.records.LockState.{LockState}

@@ -13,19 +13,20 @@ use Rattle.nfs_tree.specs.declared.object.FileType.TheVariants as Kind
 use Rattle.nfs_tree.specs.declared.row.Row.{Row}
 use Rattle.nfs_tree.specs.declared.stored.Stored.{Stored}
 use Rattle.nfs_tree.specs.Object.{is_directory, is_regular}
-use Rattle.nfs_tree.specs.Files.{Files, is_name, stored_in, is_there, is_directory_at, is_regular_at, can_change, entry, has_name, lookup}
+use Rattle.nfs_tree.specs.Files.{Files, is_name, stored_in, is_there, is_directory_at, can_change, entry, has_name, lookup}
+use Rattle.nfs_tree.specs.Calls.{is_regular_at}
 use Rattle.nfs_tree.specs.Kept.{IsTree}
 use Rattle.nfs_names.specs.declared.context.Context.{Context}
 use Rattle.nfs_names.specs.declared.node.Node.{Node}
 use Rattle.nfs_names.specs.declared.making.Making.{Making}
 use Rattle.nfs_names.specs.State.{State}
 use Rattle.nfs_names.specs.Outcome.{mapped, checked}
-use Rattle.nfs_names.specs.Checks.{held, current}
+use Rattle.nfs_names.specs.Checks.{node_at, current}
 use Rattle.nfs_names.specs.Create.{attributes_in}
 use Rattle.nfs_names.specs.Faults.{status_of, by_tree}
 use Rattle.nfs_names.proofs.Rows.{fault_map}
 use Rattle.nfs_tree.specs.declared.fault.TreeFault.{TreeFault}
-use Rattle.nfs_names.specs.State.{IsStore}
+use Rattle.nfs_names.specs.Kept.{IsStore}
 use Rattle.nfs_opens.specs.StateId.{last_number}
 use Rattle.nfs_names.proofs.Found.{IsHeld, current_is, checked_ok, came, ok_is, short_name, or_fault, first_append}
 use Rattle.nfs_files.specs.declared.opening.Found.{Found}
@@ -80,7 +81,7 @@ absent_found x o k m e =
 found_absent : (s : State) (x : Context) (o : Open) (k m : Making) (n : Option ℕ)
     → found_by s x o k n ≡ Ok (Absent m) → (k ≡ m) × (n ≡ None) × (first_fault (absent_checks x o m) ≡ None)
 found_absent s x o k m (Some n) e =
-    let c = mapped_came (λ f. There k.place.number f (cuts o k.wanted)) (checked (held s (Some n)) (there_checks x o)) (Absent m) e in
+    let c = mapped_came (λ f. There k.place.number f (cuts o k.wanted)) (checked (node_at s (Some n)) (there_checks x o)) (Absent m) e in
     let bad : There k.place.number c.found (cuts o k.wanted) ≡ Absent m = c.same in
     absurd cc
 found_absent s x o k m None e = let found = absent_found x o k m e in (found.0, refl, found.1)

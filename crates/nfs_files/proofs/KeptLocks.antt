@@ -10,9 +10,9 @@ use Rattle.nfs_xdr.proofs.Tables.{in_once, in_bounds}
 use Rattle.nfs_compound.specs.LockArgs as args
 use Rattle.nfs_compound.specs.declared.op_num.OpNum.{OpNum}
 use Rattle.nfs_ranges.specs.declared.Kind.{Kind}
-use Rattle.nfs_ranges.specs.Holders.{Holders, holding, cleared, holds_any}
-use Rattle.nfs_ranges.specs.Intervals.{is_within}
-use Rattle.nfs_ranges.specs.Told.{Tells, meets}
+use Rattle.nfs_ranges.specs.Holders.{Holders, holding, cleared, holds_any, is_within}
+use Rattle.nfs_ranges.specs.Told.{meets}
+use Rattle.nfs_ranges.specs.Facts.{Tells}
 use Rattle.nfs_ranges.proofs.CanonicalLemmas.{within_is}
 use Rattle.nfs_opens.specs.declared.share.Share.{Share}
 use Rattle.nfs_opens.specs.declared.records.LockState.{LockState}
@@ -24,7 +24,8 @@ use Rattle.nfs_opens.specs.declared.judging.Seat.{Seat}
 use Rattle.nfs_opens.specs.declared.judging.Sort.TheVariants.{OpenOnly, LockOnly}
 use Rattle.nfs_opens.specs.Holding.{FileHolders, on_file}
 use Rattle.nfs_opens.specs.StateId.{last_number, next_seqid}
-use Rattle.nfs_opens.specs.Table.{Table, Did, IsTable, IsHolder, lock_at, with_lock}
+use Rattle.nfs_opens.specs.Table.{Table, Did, lock_at, with_lock}
+use Rattle.nfs_opens.specs.Kept.{IsTable, IsHolder}
 use Rattle.nfs_opens.specs.Judging.{judge}
 use Rattle.nfs_opens.specs.Closing.{stands, held_within, not_under, without_open, without_lock}
 use Rattle.nfs_opens.specs.Locking as locking

@@ -12,7 +12,7 @@ use Rattle.nfs_opens.specs.declared.stateid.StateId.{StateId}
 use Rattle.nfs_opens.specs.declared.locking.OpenFault.{OpenFault}
 use Rattle.nfs_opens.specs.declared.locking.OpenFault.TheVariants as F
 use Rattle.nfs_opens.specs.Table.{Table, Did}
-use Rattle.nfs_opens.specs.Locking.{LocksOrWants}
+use Rattle.nfs_opens.specs.Calls.{LocksOrWants}
 use Rattle.nfs_names.specs.declared.context.Context.{Context}
 use Rattle.nfs_names.specs.State.{State}
 use Rattle.nfs_names.specs.Comes.{Comes}

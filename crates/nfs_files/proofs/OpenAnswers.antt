@@ -15,7 +15,8 @@ use Rattle.nfs_compound.specs.OpenArgs.{Open, OpenClaim, Null, Previous, Delegat
 use Rattle.nfs_compound.specs.Operation.{Operation, OpOpen}
 use Rattle.nfs_tree.specs.declared.stored.Stored.{Stored}
 use Rattle.nfs_tree.specs.Object.{is_regular, modified, no_sets}
-use Rattle.nfs_tree.specs.Files.{Files, root, lookup, is_regular_at, with_entries_changed}
+use Rattle.nfs_tree.specs.Files.{Files, root, lookup, with_entries_changed}
+use Rattle.nfs_tree.specs.Calls.{is_regular_at}
 use Rattle.nfs_tree.specs.Create.{data_of, new_object}
 use Rattle.nfs_tree.specs.Bytes.{resized, with_resized}
 use Rattle.nfs_tree.specs.Kept.{IsTree}
@@ -26,12 +27,13 @@ use Rattle.nfs_opens.specs.Opening.{opens}
 use Rattle.nfs_names.specs.declared.context.Context.{Context}
 use Rattle.nfs_names.specs.declared.node.Node.{Node}
 use Rattle.nfs_names.specs.declared.making.Making.{Making}
-use Rattle.nfs_names.specs.State.{State, with_tree, IsStore}
+use Rattle.nfs_names.specs.State.{State, with_tree}
+use Rattle.nfs_names.specs.Kept.{IsStore}
 use Rattle.nfs_names.specs.Outcome.{mapped, checked}
-use Rattle.nfs_names.specs.Checks.{held, current}
+use Rattle.nfs_names.specs.Checks.{node_at, current}
 use Rattle.nfs_attrs.specs.Mask.{mask_of}
 use Rattle.nfs_names.specs.Create.{attributes_in}
-use Rattle.nfs_names.proofs.Bounds.{IsAnswer, held_refuses, current_refuses, wanted_refuses}
+use Rattle.nfs_names.proofs.Bounds.{IsAnswer, node_refuses, current_refuses, wanted_refuses}
 use Rattle.nfs_names.proofs.Found.{IsHeld, current_is, checked_ok, came, ok_is}
 use Rattle.nfs_names.proofs.Kept.{regular_same, store_new}
 use Rattle.nfs_names.proofs.Refusing.{Refuses, all_refuse, refuses_checked, refuses_mapped, refuses_then, err_refuses, ok_refuses, answers_with}
@@ -53,8 +55,8 @@ found_by_refuses : (s : State) (x : Context) (o : Open) (m : Making) (n : Option
 found_by_refuses s x o m None =
     refuses_mapped Absent (checked (Ok m) (absent_checks x o)) (refuses_checked (Ok m) (absent_checks x o) (ok_refuses m) (λ m. refl))
 found_by_refuses s x o m (Some n) =
-    refuses_mapped (λ f. There m.place.number f (cuts o m.wanted)) (checked (held s (Some n)) (there_checks x o))
-    (refuses_checked (held s (Some n)) (there_checks x o) (held_refuses s (Some n)) (λ f. refl))
+    refuses_mapped (λ f. There m.place.number f (cuts o m.wanted)) (checked (node_at s (Some n)) (there_checks x o))
+    (refuses_checked (node_at s (Some n)) (there_checks x o) (node_refuses s (Some n)) (λ f. refl))
 
 name_refuses : (s : State) (x : Context) (o : Open) (name : List ℕ) (d : Node) → Refuses (by_name s x o name d)
 name_refuses s x o name d =
@@ -133,7 +135,7 @@ found_regular s x o m None place f cut e = by_absent (checked (Ok m) (absent_che
     by_absent (Err status) e = absurd cc
     by_absent (Ok m) e = absurd cc
 found_regular s x o m (Some n) place f cut e =
-    let found = there_found x o (held s (Some n)) (λ f. There m.place.number f (cuts o m.wanted)) place f cut (λ g e. cc) e in
+    let found = there_found x o (node_at s (Some n)) (λ f. There m.place.number f (cuts o m.wanted)) place f cut (λ g e. cc) e in
     there_regular s x o f (current_is s (record x { current = Some n }) f found.0) found.1
 
 named_regular : (s : State) (x : Context) (o : Open) (name : List ℕ) (d : Node) (place : ℕ) (f : Node) (cut : Bool)

@@ -17,9 +17,11 @@ use Rattle.nfs_tree.proofs.Objects.{stored_within}
 use Rattle.nfs_opens.specs.declared.records.OpenState.{OpenState}
 use Rattle.nfs_opens.specs.StateId.{last_number}
 use Rattle.nfs_opens.specs.Table.{Asked, is_own, clashes_with}
-use Rattle.nfs_opens.specs.Opening.{own_open, open_fault}
+use Rattle.nfs_opens.specs.Opening.{own_open}
+use Rattle.nfs_opens.specs.Calls.{open_fault}
 use Rattle.nfs_names.specs.declared.context.Context.{Context}
-use Rattle.nfs_names.specs.State.{State, is_open, IsStore}
+use Rattle.nfs_names.specs.State.{State, is_open}
+use Rattle.nfs_names.specs.Kept.{IsStore}
 use Rattle.nfs_names.specs.Faults.{by_tree}
 use Rattle.nfs_names.proofs.Found.{or_fault, first_append}
 use Rattle.nfs_files.specs.declared.opening.Found.{Found}

@@ -27,6 +27,7 @@ use Rattle.nfs_opens.specs.Judging.{judge}
 use Rattle.nfs_opens.specs.Closing as closing
 use Rattle.nfs_opens.specs.Opening as opening
 use Rattle.nfs_opens.specs.Locking as locking
+use Rattle.nfs_opens.specs.Calls as calls
 use Rattle.nfs_names.specs.declared.context.Context.{Context}
 use Rattle.nfs_names.specs.State.{State}
 use Rattle.nfs_names.specs.Outcome.{Outcome, refuses, answers, or_delay, is_ok, is_delay}
@@ -161,13 +162,13 @@ abbrev pub Told : Did StateId OpenFault → Table → OpenFault → Type 0
 Told did new fault = (Err fault ≡ did.answer) × (new ≡ did.after)
 
 pub unlock_tells : (old : Table) (whole : Bool) (did : Did StateId OpenFault) (new : Table) (fault : OpenFault)
-    → locking.UnlocksOrWants old whole did (Err fault) new → Wanted old (not whole) did new fault ⊎ Told did new fault
+    → calls.UnlocksOrWants old whole did (Err fault) new → Wanted old (not whole) did new fault ⊎ Told did new fault
 unlock_tells old whole did new (F.Refused status) h = inr h
 unlock_tells old whole did new (F.Denied held) h = inr h
 unlock_tells old whole did new F.Memory h = inl (refl, h.0, h.1, h.2)
 
 pub lock_tells : (old : Table) (did : Did StateId OpenFault) (new : Table) (fault : OpenFault)
-    → locking.LocksOrWants old did (Err fault) new → Wanted old true did new fault ⊎ Told did new fault
+    → calls.LocksOrWants old did (Err fault) new → Wanted old true did new fault ⊎ Told did new fault
 lock_tells old did new (F.Refused status) h = inr h
 lock_tells old did new (F.Denied held) h = inr h
 lock_tells old did new F.Memory h = inl (refl, refl, h.0, h.1)

@@ -17,7 +17,8 @@ use Rattle.nfs_tree.specs.declared.object.FileType.TheVariants as Kind
 use Rattle.nfs_tree.specs.declared.object.Object.{Object}
 use Rattle.nfs_tree.specs.declared.stored.Stored.{Stored}
 use Rattle.nfs_tree.specs.Object.{is_directory, is_regular}
-use Rattle.nfs_tree.specs.Files.{Files, most_bytes, stored_in, is_there, is_directory_at, is_regular_at, can_change}
+use Rattle.nfs_tree.specs.Files.{Files, most_bytes, stored_in, is_there, is_directory_at, can_change}
+use Rattle.nfs_tree.specs.Calls.{is_regular_at}
 use Rattle.nfs_attrs.specs.declared.wanted.Wanted.{Wanted}
 use Rattle.nfs_attrs.specs.declared.wanted.AttrFault.{AttrFault}
 use Rattle.nfs_names.specs.declared.context.Context.{Context}
@@ -90,49 +91,49 @@ given_some : (w : Wanted) (size : ℕ) → w.size ≡ Some size → gives_some w
 given_some w size e = rw e refl
 
 set_rows : (s : State) (x : Context) (given : Stateid) (m : Setting) (o : Option ℕ) (k : Node)
-    → m.wanted.size ≡ o → IsHeld s.tree m.held → sized_by s x given m.held o ≡ Ok k
-    → option_map status_of (tree_fault s.tree m.held.number m.wanted o)
-    ≡ first_fault ((of_set.is_too_big o, status_of F.Fbig) ∷ (gives_some m.wanted && not (can_change s.tree m.held.number), status_of F.Counter) ∷ [])
-set_rows s x given m None k h is e = plain_rows s m.held m.wanted is
+    → m.wanted.size ≡ o → IsHeld s.tree m.node → sized_by s x given m.node o ≡ Ok k
+    → option_map status_of (tree_fault s.tree m.node.number m.wanted o)
+    ≡ first_fault ((of_set.is_too_big o, status_of F.Fbig) ∷ (gives_some m.wanted && not (can_change s.tree m.node.number), status_of F.Counter) ∷ [])
+set_rows s x given m None k h is e = plain_rows s m.node m.wanted is
 set_rows s x given m (Some size) k h is e =
-    let found = writable_ok s x given (Ok m.held) k e in
-    let same : m.held ≡ k = cc in
-    let file : first_fault (file_checks m.held) ≡ None = ap (λ d. first_fault (file_checks d)) same ∙ found.1 in
-    sized_rows s m.held m.wanted size is (file_regular s.tree m.held is file) file (given_some m.wanted size h)
+    let found = writable_ok s x given (Ok m.node) k e in
+    let same : m.node ≡ k = cc in
+    let file : first_fault (file_checks m.node) ≡ None = ap (λ d. first_fault (file_checks d)) same ∙ found.1 in
+    sized_rows s m.node m.wanted size is (file_regular s.tree m.node is file) file (given_some m.wanted size h)
 
 -- what is to be set was read, and the caller may set it
 record IsSet (s : State) (x : Context) (a : SetAttr) (m : Setting) : Type 0 where
-  held : current s x ≡ Ok m.held
+  held : current s x ≡ Ok m.node
   read : attributes_in a.obj_attributes ≡ Ok m.wanted
 
 setting_is : (s : State) (x : Context) (a : SetAttr) (m : Setting) → setting s x a ≡ Ok m → IsSet s x a m
 setting_is s x a m e =
     let d = came (current s x) _ m e in
     let w = came (attributes_in a.obj_attributes) _ m d.then in
-    let k : Setting = record { held = d.found; wanted = w.found } in
+    let k : Setting = record { node = d.found; wanted = w.found } in
     let same = ok_is refl (checked_ok (Ok k) (owner_checks x) m w.then).0 in
     subst (IsSet s x a) same (record { held = d.is; read = w.is })
 
 pub set_by : (s : State) (x : Context) (a : SetAttr) (d : Node) (w : Wanted) → current s x ≡ Ok d → wanted_of a.obj_attributes ≡ Ok w
-    → setting s x a ≡ checked (Ok (record { held = d; wanted = w })) (owner_checks x)
+    → setting s x a ≡ checked (Ok (record { node = d; wanted = w })) (owner_checks x)
 set_by s x a d w held read = rw (held, read) refl
 
 set_found : (s : State) (x : Context) (a : SetAttr) (m : Setting) → asked_for s x a ≡ Ok m
-    → option_map status_of (tree_fault s.tree m.held.number m.wanted m.wanted.size) ≡ first_fault (last_checks s m)
+    → option_map status_of (tree_fault s.tree m.node.number m.wanted m.wanted.size) ≡ first_fault (last_checks s m)
 unfolding asked_for
 set_found s x a m v =
     let passed = if_passed_ok (setting s x a) (sized s x a.stateid) m v in
-    let found = current_is s x m.held (setting_is s x a m passed.0).held in
+    let found = current_is s x m.node (setting_is s x a m passed.0).held in
     set_rows s x a.stateid m m.wanted.size passed.1.0 refl found passed.1.1
 
 pub set_goes : (s : State) (x : Context) (now : Time) (a : SetAttr) (m : Setting) → asked_for s x a ≡ Ok m
-    → tree_fault s.tree m.held.number m.wanted m.wanted.size ≡ None → set_attr s x now a ≡ was_set s x now a m
+    → tree_fault s.tree m.node.number m.wanted m.wanted.size ≡ None → set_attr s x now a ≡ was_set s x now a m
 unfolding set_attr
 set_goes s x now a m v none =
     by_last s x Op.SetAttr (asked_for s x a) (last_checks s) (was_set s x now a) m v (sym (set_found s x a m v) ∙ ap (option_map status_of) none)
 
 pub set_stops : (s : State) (x : Context) (now : Time) (a : SetAttr) (m : Setting) (f : TreeFault)
-    → asked_for s x a ≡ Ok m → tree_fault s.tree m.held.number m.wanted m.wanted.size ≡ Some f
+    → asked_for s x a ≡ Ok m → tree_fault s.tree m.node.number m.wanted m.wanted.size ≡ Some f
     → set_attr s x now a ≡ refuses s x Op.SetAttr (status_of f)
 unfolding set_attr
 set_stops s x now a m f v some =

@@ -12,8 +12,10 @@ use Rattle.nfs_compound.specs.OpNum.{op_number}
 use Rattle.nfs_compound.specs.LockArgs as args
 use Rattle.nfs_compound.specs.Operation.{Op, Operation, OpLock, OpLockT, OpTestStateid}
 use Rattle.nfs_results.specs.Result.{Res}
-use Rattle.nfs_results.specs.Results.{spell_result, operation_of, HasArrays, refusal}
-use Rattle.nfs_results.specs.Largest.{largest, largest_of, number_of, asked, HasSizes}
+use Rattle.nfs_results.specs.Results.{spell_result, operation_of, refusal}
+use Rattle.nfs_results.specs.ResultCodec.{HasArrays}
+use Rattle.nfs_results.specs.Largest.{largest, largest_of, number_of, asked}
+use Rattle.nfs_results.specs.MayAnswer.{HasSizes}
 use Rattle.nfs_results.proofs.Lengths.{behind_within, length_spelled}
 use Rattle.nfs_ranges.specs.declared.Held.{Held}
 use Rattle.nfs_opens.specs.declared.stateid.StateId.{StateId}

@@ -21,7 +21,7 @@ use Rattle.nfs_compound.specs.declared.open_args.Close.{Close}
 use Rattle.nfs_compound.specs.declared.open_args.OpenDowngrade.{OpenDowngrade}
 use Rattle.nfs_compound.specs.Operation.{Op, Item, Operation, Fault, OpClose, OpCommit, OpFreeStateid, OpLock, OpLockT, OpLockU, OpOpen, OpOpenDowngrade, OpRead, OpSetAttr, OpTestStateid, OpWrite}
 use Rattle.nfs_ranges.specs.Holders.{Holders, holding, holds_any}
-use Rattle.nfs_ranges.specs.Told.{Tells}
+use Rattle.nfs_ranges.specs.Facts.{Tells}
 use Rattle.nfs_ranges.specs.declared.Held.{Held}
 use Rattle.nfs_opens.specs.declared.share.Share.{Share}
 use Rattle.nfs_opens.specs.declared.stateid.StateId.{StateId}
@@ -39,17 +39,20 @@ use Rattle.nfs_opens.specs.Closing.{held_within}
 use Rattle.nfs_opens.proofs.HolderLemmas.{IsFewer, fewer_keeps}
 use Rattle.nfs_ranges.specs.declared.Kind.{Kind}
 use Rattle.nfs_opens.specs.StateId.{last_number}
-use Rattle.nfs_opens.specs.Table.{Table, Did, Asked, IsTable, open_at, lock_at, with_lock, clashes_with}
+use Rattle.nfs_opens.specs.Table.{Table, Did, Asked, open_at, lock_at, with_lock, clashes_with}
+use Rattle.nfs_opens.specs.Kept.{IsTable}
 use Rattle.nfs_opens.specs.Judging.{judge}
 use Rattle.nfs_opens.specs.Closing as closing
 use Rattle.nfs_opens.specs.Opening as opening
+use Rattle.nfs_opens.specs.Calls as calls
 use Rattle.nfs_opens.specs.Locking as locking
 use Rattle.nfs_opens.specs.Locking.{lock_judged}
 use Rattle.nfs_opens.proofs.TableLemmas.{table_opened, table_closed, holders_left, KeepsBytes, table_raised}
 use Rattle.nfs_opens.proofs.StepLemmas.{table_join, table_narrow, no_clash_asked, free_keeps, table_locked, table_unlocked, table_first, judged_tells, first_state}
 use Rattle.nfs_opens.proofs.LockLemmas.{judged_open, judged_lock}
 use Rattle.nfs_names.specs.declared.context.Context.{Context}
-use Rattle.nfs_names.specs.State.{State, is_open, IsStore}
+use Rattle.nfs_names.specs.State.{State, is_open}
+use Rattle.nfs_names.specs.Kept.{IsStore}
 use Rattle.nfs_tree.specs.Kept.{IsTree}
 use Rattle.nfs_names.specs.Ending.{with_opens, table_staying}
 use Rattle.nfs_names.specs.Outcome.{answers, checked, passed, or_delay, is_ok}
@@ -307,7 +310,7 @@ table_open s x now a tree store is =
     found Is s x Num.Open (checked (of_open.asked_for s x a) (of_open.last_checks s x a)) (of_open.opened s x now a) is (λ f granted.
     (let asked = of_open.asking x a (of_open.file_of s.tree f) in
     let p = checked_ok (of_open.asked_for s x a) (of_open.last_checks s x a) f granted in
-    let none : opening.open_fault s.opens asked ≡ None = shared_free s x a f p.1 in
+    let none : calls.open_fault s.opens asked ≡ None = shared_free s x a f p.1 in
     opened_is s.opens asked (opening.own_open s.opens asked) is refl (no_clash_asked (list_any (clashes_with asked) s.opens.opens) _ none)))
 
 -- a wish that begins behind the last byte that there can be holds none

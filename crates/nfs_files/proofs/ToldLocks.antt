@@ -8,8 +8,7 @@ use Rattle.nfs_compound.specs.LockArgs as args
 use Rattle.nfs_compound.specs.Arguments.{arguments}
 use Rattle.nfs_compound.specs.Operation.{Op, OpLock}
 use Rattle.nfs_ranges.specs.declared.Kind.{Kind}
-use Rattle.nfs_ranges.specs.Holders.{holding}
-use Rattle.nfs_ranges.specs.Intervals.{is_within}
+use Rattle.nfs_ranges.specs.Holders.{holding, is_within}
 use Rattle.nfs_ranges.proofs.CanonicalLemmas.{within_is}
 use Rattle.nfs_opens.specs.declared.stateid.StateId.{StateId}
 use Rattle.nfs_opens.specs.declared.records.LockState.{LockState}

@@ -26,7 +26,8 @@ use Rattle.nfs_tree.specs.declared.row.Row.{Row}
 use Rattle.nfs_tree.specs.Object.{is_directory}
 use Rattle.nfs_tree.specs.Files.{Files, root, has_row, stored_in, is_there, is_directory_at}
 use Rattle.nfs_tree.specs.Create.{new_tree}
-use Rattle.nfs_tree.specs.Bytes.{has_bytes, write_fault, resize_fault, set_fault}
+use Rattle.nfs_tree.specs.Bytes.{has_bytes}
+use Rattle.nfs_tree.specs.Calls.{write_fault, resize_fault, set_fault}
 use Rattle.nfs_tree.specs.Kept.{IsTree, IsSized}
 use Rattle.nfs_tree.proofs.Trees.{tree_changed}
 use Rattle.nfs_tree.proofs.Sized.{tree_written, tree_resized}
@@ -37,14 +38,16 @@ use Rattle.nfs_opens.specs.declared.judging.Seat.{Seat}
 use Rattle.nfs_opens.specs.declared.judging.Sort.TheVariants.{OpenOnly}
 use Rattle.nfs_opens.specs.declared.locking.OpenFault.{OpenFault}
 use Rattle.nfs_opens.specs.declared.locking.OpenFault.TheVariants as F
-use Rattle.nfs_opens.specs.Table.{Table, IsTable}
+use Rattle.nfs_opens.specs.Table.{Table}
+use Rattle.nfs_opens.specs.Kept.{IsTable}
 use Rattle.nfs_opens.specs.Judging.{judge}
 use Rattle.nfs_opens.specs.Closing as closing
 use Rattle.nfs_opens.specs.Opening as opening
 use Rattle.nfs_opens.specs.Locking as locking
 use Rattle.nfs_names.specs.declared.context.Context.{Context}
 use Rattle.nfs_names.specs.declared.node.Node.{Node}
-use Rattle.nfs_names.specs.State.{State, IsStore, IsRooted, moment, new_store, with_tree, is_open, is_used}
+use Rattle.nfs_names.specs.State.{State, moment, new_store, with_tree, is_open, is_used}
+use Rattle.nfs_names.specs.Kept.{IsStore, IsRooted}
 use Rattle.nfs_names.specs.Ending.{with_opens, table_staying, only_used, staying}
 use Rattle.nfs_names.specs.Outcome.{Outcome, answers, checked, or_delay}
 use Rattle.nfs_names.specs.Checks.{current}
@@ -120,13 +123,13 @@ set_refused s x now a status e is = rw e is
 tree_set_attr : (s : State) (x : Context) (now : Time) (a : SetAttr) → Is s → In_ (set_attr s x now a)
 tree_set_attr s x now a is = by_asked (asked_for s x a) refl
   where
-    by_fault : (m : _) → asked_for s x a ≡ Ok m → (f : Option TreeFault) → tree_fault s.tree m.held.number m.wanted m.wanted.size ≡ f → In_ (set_attr s x now a)
-    by_fault m e None none = subst In_ (sym (set_goes s x now a m e none)) (tree_set s.tree m.held.number now m.wanted m.wanted.size is none)
+    by_fault : (m : _) → asked_for s x a ≡ Ok m → (f : Option TreeFault) → tree_fault s.tree m.node.number m.wanted m.wanted.size ≡ f → In_ (set_attr s x now a)
+    by_fault m e None none = subst In_ (sym (set_goes s x now a m e none)) (tree_set s.tree m.node.number now m.wanted m.wanted.size is none)
     by_fault m e (Some f) some = subst In_ (sym (set_stops s x now a m f e some)) is
 
     by_asked : (v : _) → asked_for s x a ≡ v → In_ (set_attr s x now a)
     by_asked (Err status) e = set_refused s x now a status e is
-    by_asked (Ok m) e = by_fault m e (tree_fault s.tree m.held.number m.wanted m.wanted.size) refl
+    by_asked (Ok m) e = by_fault m e (tree_fault s.tree m.node.number m.wanted m.wanted.size) refl
 
 -- CLOSE
 closed_tree : (s : State) (x : Context) (n file : ℕ) (v : Result Seat Status) → Is s → IsStore s

@@ -15,8 +15,8 @@ use Rattle.nfs_compound.specs.Operation.{Op, Item, Operation, Fault, OpAccess, O
 use Rattle.nfs_compound.specs.Operation.{OpPutPubFh, OpPutRootFh, OpReadDir, OpReadLink, OpRemove, OpRename, OpRestoreFh, OpSaveFh, OpSecinfoNoName, OpVerify}
 use Rattle.nfs_tree.specs.declared.fault.TreeFault.{TreeFault}
 use Rattle.nfs_tree.specs.Files.{Files, root, has_row, has_entries, is_entry, lookup, named}
-use Rattle.nfs_tree.specs.Names.{Move, link_fault, remove_fault, rename_fault, moves, with_moved, without_name}
-use Rattle.nfs_tree.specs.Create.{create_fault}
+use Rattle.nfs_tree.specs.Names.{Move, moves, with_moved, without_name}
+use Rattle.nfs_tree.specs.Calls.{link_fault, remove_fault, rename_fault, create_fault}
 use Rattle.nfs_tree.specs.Kept.{IsTree}
 use Rattle.nfs_tree.proofs.Trees.{tree_forgets, tree_removed, remove_granted}
 use Rattle.nfs_tree.proofs.Put.{tree_created, tree_linked}
@@ -24,7 +24,8 @@ use Rattle.nfs_tree.proofs.Moved.{tree_moved}
 use Rattle.nfs_names.specs.declared.context.Context.{Context}
 use Rattle.nfs_names.specs.declared.node.Node.{Node}
 use Rattle.nfs_names.specs.declared.making.Making.{Making}
-use Rattle.nfs_names.specs.State.{State, IsStore, with_tree, is_open, is_used, without_unused}
+use Rattle.nfs_names.specs.State.{State, with_tree, is_open, is_used, without_unused}
+use Rattle.nfs_names.specs.Kept.{IsStore}
 use Rattle.nfs_names.specs.Outcome.{Outcome, answers, checked, or_delay, is_ok}
 use Rattle.nfs_names.specs.Checks.{current, both}
 use Rattle.nfs_names.specs.Link as of_link

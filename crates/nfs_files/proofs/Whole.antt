@@ -14,9 +14,10 @@ use Rattle.nfs_results.specs.Result.{Res}
 use Rattle.nfs_results.specs.Results.{refusal}
 use Rattle.nfs_names.specs.declared.context.Context.{Context}
 use Rattle.nfs_ranges.specs.declared.Held.{Held}
-use Rattle.nfs_opens.specs.Table.{IsTable}
+use Rattle.nfs_opens.specs.Kept.{IsTable}
 use Rattle.nfs_opens.specs.Locking.{test_lock}
-use Rattle.nfs_names.specs.State.{State, IsStore}
+use Rattle.nfs_names.specs.State.{State}
+use Rattle.nfs_names.specs.Kept.{IsStore}
 use Rattle.nfs_names.specs.Outcome.{Outcome, refuses, checked, answers, or_delay, is_ok}
 use Rattle.nfs_tree.specs.Kept.{IsTree}
 use Rattle.nfs_names.proofs.Found.{checked_ok}
@@ -98,7 +99,7 @@ store_one s x now (OpOpen a) tree table is =
 store_one s x now (OpOpenDowngrade a) tree table is = store_downgrade s x a is
 store_one s x now (OpRead a) tree table is = answers_state s x Num.Read (readable s x a.stateid (current s x)) _ is (λ d. is)
 store_one s x now (OpSetAttr a) tree table is = answers_state s x Num.SetAttr (checked (asked_for s x a) (last_checks s))
-    (was_set s x now a) is (λ m. store_set s m.held.number now m.wanted m.wanted.size is)
+    (was_set s x now a) is (λ m. store_set s m.node.number now m.wanted m.wanted.size is)
 store_one s x now (OpTestStateid given) tree table is = is
 store_one s x now (OpWrite a) tree table is =
     answers_state s x Num.Write (checked (writable s x a.stateid (current s x)) (of_write.last_checks s a))

@@ -8,8 +8,9 @@ use Rattle.nfs_compound.specs.declared.op_num.OpNum.TheVariants as Op
 use Rattle.nfs_compound.specs.FileArgs.{Write}
 use Rattle.nfs_tree.specs.declared.fault.TreeFault.{TreeFault}
 use Rattle.nfs_tree.specs.declared.fault.TreeFault.TheVariants as F
-use Rattle.nfs_tree.specs.Bytes.{has_bytes, write_fault}
-use Rattle.nfs_tree.specs.Files.{most_bytes, is_there, is_directory_at, is_regular_at, can_change}
+use Rattle.nfs_tree.specs.Bytes.{has_bytes}
+use Rattle.nfs_tree.specs.Calls.{write_fault, is_regular_at}
+use Rattle.nfs_tree.specs.Files.{most_bytes, is_there, is_directory_at, can_change}
 use Rattle.nfs_names.specs.declared.context.Context.{Context}
 use Rattle.nfs_names.specs.declared.node.Node.{Node}
 use Rattle.nfs_names.specs.State.{State}

@@ -5,9 +5,10 @@ use Rattle.nfs_compound.specs.OpenArgs.{Open}
 use Rattle.nfs_compound.specs.Operation.{Op}
 use Rattle.nfs_tree.specs.Kept.{IsTree}
 use Rattle.nfs_opens.specs.declared.locking.Wish.{Wish}
-use Rattle.nfs_opens.specs.Table.{IsTable}
+use Rattle.nfs_opens.specs.Kept.{IsTable}
 use Rattle.nfs_names.specs.declared.context.Context.{Context}
-use Rattle.nfs_names.specs.State.{State, IsStore}
+use Rattle.nfs_names.specs.State.{State}
+use Rattle.nfs_names.specs.Kept.{IsStore}
 use Rattle.nfs_names.specs.Outcome.{is_ok}
 use Rattle.nfs_files.specs.Operation.{one_or_delay}
 use Rattle.nfs_files.specs.Open.{open_file}

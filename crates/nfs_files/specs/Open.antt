@@ -15,10 +15,9 @@ use Rattle.nfs_tree.specs.declared.sets.Sets.{Sets}
 use Rattle.nfs_tree.specs.Object.{no_sets}
 use Rattle.nfs_tree.specs.declared.fault.TreeFault.{TreeFault}
 use Rattle.nfs_tree.specs.declared.fault.TreeFault.TheVariants.{Counter}
-use Rattle.nfs_tree.specs.Files.{Files, lookup, can_change}
+use Rattle.nfs_tree.specs.Files.{Files, lookup, can_change, raised, stays}
 use Rattle.nfs_tree.specs.Create.{New, File, create_checks, with_new}
 use Rattle.nfs_tree.specs.Bytes.{with_resized}
-use Rattle.nfs_tree.specs.Did.{raised, stays}
 use Rattle.nfs_attrs.specs.declared.wanted.Wanted.{Wanted}
 use Rattle.nfs_attrs.specs.Mask.{mask_of, trimmed_words}
 use Rattle.nfs_attrs.specs.Setting.{make_checks}
@@ -33,7 +32,7 @@ use Rattle.nfs_names.specs.declared.node.Node.{Node}
 use Rattle.nfs_names.specs.declared.making.Making.{Making}
 use Rattle.nfs_names.specs.State.{State}
 use Rattle.nfs_names.specs.Outcome.{Outcome, ◌>>=◌, checked, mapped, answers}
-use Rattle.nfs_names.specs.Checks.{held, current, no_directory, denied, name_checks}
+use Rattle.nfs_names.specs.Checks.{node_at, current, no_directory, denied, name_checks}
 use Rattle.nfs_names.specs.Create.{attributes_in, change_info}
 use Rattle.nfs_names.specs.Faults.{by_tree}
 use Rattle.nfs_names.specs.Create as create
@@ -110,7 +109,7 @@ cuts o wanted = (makes o.openhow).cuts && (option_map_or (λ n. n == 0) wanted.s
 -- what is to be opened: a file that is there, and the object of which the change is reported; or one that is to be made
 abbrev pub found_by : State → Context → Open → Making → Option ℕ → Result Found Status
 found_by s x o m None = mapped Absent (checked (Ok m) (absent_checks x o))
-found_by s x o m (Some n) = mapped (λ f. There m.place.number f (cuts o m.wanted)) (checked (held s (Some n)) (there_checks x o))
+found_by s x o m (Some n) = mapped (λ f. There m.place.number f (cuts o m.wanted)) (checked (node_at s (Some n)) (there_checks x o))
 
 abbrev pub by_name : State → Context → Open → List ℕ → Node → Result Found Status
 by_name s x o name d = do

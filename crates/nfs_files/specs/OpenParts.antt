@@ -9,12 +9,10 @@ use Rattle.nfs_compound.specs.OpenArgs.{Open}
 use Rattle.nfs_results.specs.Result.{OpenOk, ResOpen}
 use Rattle.nfs_tree.specs.Files.{Files, most_bytes, most_objects, last_count, can_change}
 use Rattle.nfs_tree.specs.declared.fault.TreeFault.{TreeFault}
-use Rattle.nfs_tree.specs.Bytes.{resize_fault}
-use Rattle.nfs_tree.specs.Create.{create_fault}
+use Rattle.nfs_tree.specs.Calls.{resize_fault, create_fault, Did, does_unless}
 use Rattle.nfs_opens.specs.StateId.{last_number}
 use Rattle.nfs_opens.specs.Table.{clashes_with}
 use Rattle.nfs_opens.specs.Opening.{own_open}
-use Rattle.nfs_tree.specs.Did.{Did, does_unless}
 use Rattle.nfs_names.specs.declared.context.Context.{Context}
 use Rattle.nfs_names.specs.State.{State}
 use Rattle.nfs_names.specs.Outcome.{Outcome}

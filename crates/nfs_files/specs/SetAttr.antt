@@ -25,13 +25,13 @@ use Rattle.nfs_files.specs.Bytes.{if_passed, writable}
 
 -- first the attributes are read, then it is looked at whether the caller may set them ..
 abbrev pub owner_checks : Context → Setting → List (Bool × Status)
-owner_checks x m = set_checks m.held.object m.wanted x.who
+owner_checks x m = set_checks m.node.object m.wanted x.who
 
 abbrev pub setting : State → Context → SetAttr → Result Setting Status
 setting s x a = do
   d ← current s x
   wanted ← attributes_in a.obj_attributes
-  checked (Ok (record { held = d; wanted = wanted })) (owner_checks x)
+  checked (Ok (record { node = d; wanted = wanted })) (owner_checks x)
 
 -- .. then, where a size is given, whether the object is a file whose bytes may be changed by the stateid ..
 abbrev pub sized_by : State → Context → Stateid → Node → Option ℕ → Result Node Status
@@ -39,7 +39,7 @@ sized_by s x given d None = Ok d
 sized_by s x given d (Some size) = writable s x given (Ok d)
 
 abbrev pub sized : State → Context → Stateid → Setting → Result Node Status
-sized s x given m = sized_by s x given m.held m.wanted.size
+sized s x given m = sized_by s x given m.node m.wanted.size
 
 unfoldable pub asked_for : State → Context → SetAttr → Result Setting Status
 asked_for s x a = if_passed (setting s x a) (sized s x a.stateid)
@@ -55,7 +55,7 @@ gives_some wanted = is_some wanted.size || is_some wanted.mode || is_some wanted
 abbrev pub last_checks : State → Setting → List (Bool × Status)
 last_checks s m =
     (is_too_big m.wanted.size, FBig)
-    ∷ (gives_some m.wanted && not (can_change s.tree m.held.number), ServerFault)
+    ∷ (gives_some m.wanted && not (can_change s.tree m.node.number), ServerFault)
     ∷ []
 
 abbrev pub sets_of : Time → Wanted → Sets
@@ -75,7 +75,7 @@ with_set t n now wanted None = if gives_some wanted then record t { objects = wi
 abbrev pub was_set : State → Context → Time → SetAttr → Setting → Outcome
 was_set s x now a m = record {
   result = ResSetAttr Nfs4Ok (trimmed_words (mask_of a.obj_attributes.attrmask));
-  state = with_tree s (with_set s.tree m.held.number now m.wanted m.wanted.size);
+  state = with_tree s (with_set s.tree m.node.number now m.wanted m.wanted.size);
   context = x;
 }
 

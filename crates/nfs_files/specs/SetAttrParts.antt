@@ -3,8 +3,7 @@ use Rattle.std.specs.Prelude.{ℕ, Option, Some, None, if◌then◌else◌}
 use Rattle.nfs_xdr.specs.declared.time.Time.{Time}
 use Rattle.nfs_tree.specs.Files.{Files}
 use Rattle.nfs_tree.specs.declared.fault.TreeFault.{TreeFault}
-use Rattle.nfs_tree.specs.Did.{Did, does_unless}
-use Rattle.nfs_tree.specs.Bytes.{resize_fault, set_fault}
+use Rattle.nfs_tree.specs.Calls.{Did, does_unless, resize_fault, set_fault}
 use Rattle.nfs_attrs.specs.declared.wanted.Wanted.{Wanted}
 use Rattle.nfs_files.specs.declared.setting.Setting.{Setting}
 use Rattle.nfs_files.specs.SetAttr.{gives_some, with_set}
@@ -15,4 +14,4 @@ tree_fault t n wanted (Some size) = resize_fault t n size
 tree_fault t n wanted None = if gives_some wanted then set_fault t n else None
 
 abbrev pub changed : Files → Time → Setting → Did (Unit {0})
-changed t now m = does_unless t (tree_fault t m.held.number m.wanted m.wanted.size) tt (with_set t m.held.number now m.wanted m.wanted.size)
+changed t now m = does_unless t (tree_fault t m.node.number m.wanted m.wanted.size) tt (with_set t m.node.number now m.wanted m.wanted.size)

@@ -34,50 +34,50 @@ pub(crate) fn want_of(access: Share) -> Want
 }
 
 /// A file alone has bytes.
-pub(crate) fn judge_file(held: Node) -> Result<Node, Status>
-    ensures { result ≡ checked (Ok held) of_bytes.file_checks }
+pub(crate) fn judge_file(node: Node) -> Result<Node, Status>
+    ensures { result ≡ checked (Ok node) of_bytes.file_checks }
 {
-    if held.object.kind.is_directory() {
+    if node.object.kind.is_directory() {
         return Err(Status::IsDir);
     }
-    if is_link(held.object.kind) {
+    if is_link(node.object.kind) {
         return Err(Status::Symlink);
     }
-    Ok(held)
+    Ok(node)
 }
 
 /// The state of a file by which its bytes are to be changed.
 #[tactic(auto, unfolding(crate::specs::Bytes::seat))]
-fn seat(store: &Store, context: &Context<'_>, given: &Stateid, held: &Node) -> Result<Seat, Status>
-    ensures { result ≡ of_bytes.seat (state_of store.now) context.now given.now held.now }
+fn seat(store: &Store, context: &Context<'_>, given: &Stateid, node: &Node) -> Result<Seat, Status>
+    ensures { result ≡ of_bytes.seat (state_of store.now) context.now given.now node.now }
 {
     let id = meant(context, CurrentSeqid::Any, given)?;
     store
         .opens
-        .judge(id, context.client, Some(held.number), Sort::Either)
+        .judge(id, context.client, Some(node.number), Sort::Either)
 }
 
 /// Whether the state lets the bytes of a file be read or changed, as it is wanted.
 fn judge_seat(
     store: &Store,
     context: &Context<'_>,
-    held: &Node,
+    node: &Node,
     wanted: Share,
     seat: Seat,
 ) -> Result<Seat, Status>
-    ensures { result ≡ checked (Ok seat) (of_bytes.seat_checks (state_of store.now) context.now wanted held.now) }
+    ensures { result ≡ checked (Ok seat) (of_bytes.seat_checks (state_of store.now) context.now wanted node.now) }
 {
     match seat {
         Seat::Open { access, .. } if !wanted.is_part(access) => Err(Status::OpenMode),
         Seat::Lock { access, .. } if !wanted.is_part(access) => Err(Status::OpenMode),
         Seat::Open { .. } => Ok(seat),
         Seat::Lock { .. } => Ok(seat),
-        Seat::Anonymous if wanted.meets(store.opens.denies(held.number)) => Err(Status::Locked),
-        Seat::ReadBypass if wanted.writes && store.opens.denies(held.number).writes => {
+        Seat::Anonymous if wanted.meets(store.opens.denies(node.number)) => Err(Status::Locked),
+        Seat::ReadBypass if wanted.writes && store.opens.denies(node.number).writes => {
             Err(Status::Locked)
         }
         _ => {
-            if !permits(context, held, want_of(wanted)) {
+            if !permits(context, node, want_of(wanted)) {
                 return Err(Status::Access);
             }
             Ok(seat)
@@ -92,12 +92,12 @@ fn may_use(
     context: &Context<'_>,
     wanted: Share,
     given: &Stateid,
-    held: &Node,
+    node: &Node,
 ) -> Result<Seat, Status>
-    ensures { result ≡ of_bytes.may_use (state_of store.now) context.now wanted given.now held.now }
+    ensures { result ≡ of_bytes.may_use (state_of store.now) context.now wanted given.now node.now }
 {
-    let seat = seat(store, context, given, held)?;
-    judge_seat(store, context, held, wanted, seat)
+    let seat = seat(store, context, given, node)?;
+    judge_seat(store, context, node, wanted, seat)
 }
 
 /// The object, where it is a file whose bytes may be read by the stateid.
@@ -106,13 +106,13 @@ pub(crate) fn readable(
     store: &Store,
     context: &Context<'_>,
     given: &Stateid,
-    held: Node,
+    node: Node,
 ) -> Result<Node, Status>
-    ensures { result ≡ of_bytes.readable (state_of store.now) context.now given.now (Ok held) }
+    ensures { result ≡ of_bytes.readable (state_of store.now) context.now given.now (Ok node) }
 {
-    let held = judge_file(held)?;
-    may_use(store, context, READING, given, &held)?;
-    Ok(held)
+    let node = judge_file(node)?;
+    may_use(store, context, READING, given, &node)?;
+    Ok(node)
 }
 
 /// The object, where it is a file whose bytes may be changed by the stateid.
@@ -121,11 +121,11 @@ pub(crate) fn writable(
     store: &Store,
     context: &Context<'_>,
     given: &Stateid,
-    held: Node,
+    node: Node,
 ) -> Result<Node, Status>
-    ensures { result ≡ of_bytes.writable (state_of store.now) context.now given.now (Ok held) }
+    ensures { result ≡ of_bytes.writable (state_of store.now) context.now given.now (Ok node) }
 {
-    let held = judge_file(held)?;
-    may_use(store, context, WRITING, given, &held)?;
-    Ok(held)
+    let node = judge_file(node)?;
+    may_use(store, context, WRITING, given, &node)?;
+    Ok(node)
 }

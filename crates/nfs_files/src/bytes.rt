@@ -3,7 +3,7 @@
 ghost use Rattle.std.specs.Prelude.{◌≡◌, ◌+◌, ◌-◌, ◌≤◌, ◌||◌, Some, length, nat_le};
 ghost use Rattle.nfs_xdr.specs.SheetState.{Puts};
 ghost use Rattle.nfs_xdr.specs.Spelling.{padding};
-ghost use Rattle.nfs_compound.specs.FileArgs.{view_write};
+ghost use Rattle.nfs_compound.specs.ArgCodecs.{view_write};
 ghost use Rattle.nfs_compound.specs.Operation.{OpWrite};
 ghost use Rattle.nfs_results.specs.Largest.{given};
 ghost use Rattle.nfs_results.specs.Result.{ResRead};
@@ -41,8 +41,8 @@ fn write_verifier(store: &Store) -> [u8; 8]
 fn judge_commit(store: &Store, context: &Context<'_>) -> Result<Node, Status>
     ensures { result ≡ checked (check.current (state_of store.now) context.now) of_bytes.file_checks }
 {
-    let held = current(store, context)?;
-    judge_file(held)
+    let node = current(store, context)?;
+    judge_file(node)
 }
 
 /// COMMIT.
@@ -58,11 +58,11 @@ pub(crate) fn commit(store: &Store, context: &Context<'_>) -> Res<'static>
 
 /// The file that is to be written.
 #[tactic(auto, unfolding(crate::specs::Bytes::writable))]
-fn judge_write(store: &Store, context: &Context<'_>, asked: &Write<'_>) -> Result<Node, Status>
+fn to_write(store: &Store, context: &Context<'_>, asked: &Write<'_>) -> Result<Node, Status>
     ensures { result ≡ of_bytes.writable (state_of store.now) context.now (view_write asked.now).stateid (check.current (state_of store.now) context.now) }
 {
-    let held = current(store, context)?;
-    writable(store, context, &asked.stateid, held)
+    let node = current(store, context)?;
+    writable(store, context, &asked.stateid, node)
 }
 
 /// All bytes were written, as lastingly as any are.
@@ -87,10 +87,10 @@ pub(crate) fn write_bytes(
 ) -> Res<'static>
     ensures { outcome_of result (state_of store.new) context.now ≡ one_or_delay (is_delay (status_of_result (view.res result))) (state_of store.old) context.now now (OpWrite (view_write asked.now)) }
 {
-    match judge_write(store, context, asked) {
-        Ok(held) => match store
+    match to_write(store, context, asked) {
+        Ok(node) => match store
             .tree
-            .write(alloc, held.number, asked.offset, asked.bytes, now)
+            .write(alloc, node.number, asked.offset, asked.bytes, now)
         {
             Ok(()) => Res::Write(write_ok(store, asked)),
             Err(fault) => refuse(OpNum::Write, status_of(fault)),
@@ -107,25 +107,25 @@ fn reaches_end(size: u64, offset: u64, count: u32) -> bool
 }
 
 /// Puts bytes of a file, as READ answers them.
-fn put_bytes(store: &Store, held: &Node, asked: &Read, out: &mut Sheet)
-    requires there { object_at store.now.tree held.now.number ≡ Some held.now.object }
+fn put_read(store: &Store, node: &Node, asked: &Read, out: &mut Sheet)
+    requires there { object_at store.now.tree node.now.number ≡ Some node.now.object }
     requires room { length out.old.bytes + (16 + (given asked.now.count + padding (given asked.now.count))) ≤ out.old.room }
-    ensures { Puts out.old out.new (spell_result (ResRead (of_read.was_read (state_of store.now) asked.now held.now))) }
+    ensures { Puts out.old out.new (spell_result (ResRead (of_read.was_read (state_of store.now) asked.now node.now))) }
 {
     store.tree.kept();
     let count = given(asked.count);
     write_done_head(OpNum::Read, out);
-    out.put_flag(reaches_end(held.object.size, asked.offset, count));
-    store.tree.read(held.number, asked.offset, out, count);
+    out.put_flag(reaches_end(node.object.size, asked.offset, count));
+    store.tree.read(node.number, asked.offset, out, count);
 }
 
 /// The file that is to be read.
 #[tactic(auto, unfolding(crate::specs::Bytes::readable))]
-fn judge_read(store: &Store, context: &Context<'_>, asked: &Read) -> Result<Node, Status>
+fn to_read(store: &Store, context: &Context<'_>, asked: &Read) -> Result<Node, Status>
     ensures { result ≡ of_bytes.readable (state_of store.now) context.now asked.now.stateid (check.current (state_of store.now) context.now) }
 {
-    let held = current(store, context)?;
-    readable(store, context, &asked.stateid, held)
+    let node = current(store, context)?;
+    readable(store, context, &asked.stateid, node)
 }
 
 /// READ.
@@ -134,9 +134,9 @@ pub(crate) fn read(store: &Store, context: &Context<'_>, asked: &Read, out: &mut
     requires { length out.old.bytes + (16 + (given asked.now.count + padding (given asked.now.count))) ≤ out.old.room }
     ensures { Comes (of_read.read (state_of store.now) context.now asked.now) out.old out.new result (state_of store.now) context.now }
 {
-    match judge_read(store, context, asked) {
-        Ok(held) => {
-            put_bytes(store, &held, asked, out);
+    match to_read(store, context, asked) {
+        Ok(node) => {
+            put_read(store, &node, asked, out);
             Status::Nfs4Ok
         }
         Err(status) => put_refusal(OpNum::Read, status, out),

@@ -2,15 +2,15 @@
 
 ghost use Rattle.std.specs.Prelude.{◌≡◌, true, Ok};
 ghost use Rattle.nfs_xdr.specs.Checks.{first_fault, judged};
-ghost use Rattle.nfs_compound.specs.OpenArgs.{view_open};
+ghost use Rattle.nfs_compound.specs.OpenCodecs.{view_open};
 ghost use Rattle.nfs_compound.specs.Operation.{OpOpen};
 ghost use Rattle.nfs_results.specs.Results.{status_of_result};
 ghost use Rattle.nfs_results.specs.View as view;
-ghost use Rattle.nfs_tree.specs.Create.{new_of};
-ghost use Rattle.nfs_tree.specs.Did.{DoesOrWants};
+ghost use Rattle.nfs_tree.specs.Calls.{new_of, DoesOrWants};
 ghost use Rattle.nfs_tree.specs.Files as files;
-ghost use Rattle.nfs_opens.specs.Opening as of_opens;
-ghost use Rattle.nfs_names.specs.State.{state_of, IsStore, IsRooted};
+ghost use Rattle.nfs_opens.specs.Calls as of_opens;
+ghost use Rattle.nfs_names.specs.State.{state_of};
+ghost use Rattle.nfs_names.specs.Kept.{IsStore, IsRooted};
 ghost use Rattle.nfs_names.specs.Outcome.{checked, mapped, is_delay};
 ghost use Rattle.nfs_names.specs.View.{outcome_of};
 ghost use Rattle.nfs_files.specs.Open as of_open;

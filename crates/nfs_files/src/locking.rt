@@ -3,7 +3,7 @@
 ghost use Rattle.std.specs.Prelude.{◌≡◌, ◌+◌, ◌≤◌, ◌&&◌, not, IfOk, length, take};
 ghost use Rattle.nfs_xdr.specs.declared.status.Status.TheVariants as S;
 ghost use Rattle.nfs_compound.specs.declared.op_num.OpNum.TheVariants as Op;
-ghost use Rattle.nfs_compound.specs.LockArgs.{view_lock, view_lock_t, view_locker};
+ghost use Rattle.nfs_compound.specs.ArgCodecs.{view_lock, view_lock_t, view_locker};
 ghost use Rattle.nfs_compound.specs.StateOwner as state_owner;
 ghost use Rattle.nfs_xdr.specs.SheetState.{Puts};
 ghost use Rattle.nfs_xdr.specs.Limits.{opaque_limit};
@@ -11,7 +11,7 @@ ghost use Rattle.nfs_results.specs.Result.{ResLock, ResLockDenied, ResLockT, Res
 ghost use Rattle.nfs_results.specs.Results.{spell_result, status_of_result};
 ghost use Rattle.nfs_results.specs.View as view;
 ghost use Rattle.nfs_opens.specs.Table.{table, lock_at};
-ghost use Rattle.nfs_opens.specs.Locking.{LocksOrWants, is_whole};
+ghost use Rattle.nfs_opens.specs.Calls.{LocksOrWants, is_whole};
 ghost use Rattle.nfs_names.specs.State.{state_of};
 ghost use Rattle.nfs_names.specs.Comes.{Comes};
 ghost use Rattle.nfs_names.specs.Outcome.{checked, or_delay, is_delay};

@@ -1,8 +1,8 @@
 //! OPEN: what is to be opened, and whether it may be (RFC 8881 section 18.16).
 
 ghost use Rattle.std.specs.Prelude.{◌≡◌, Ok};
-ghost use Rattle.nfs_compound.specs.Attributes.{view_attributes};
-ghost use Rattle.nfs_compound.specs.OpenArgs.{view_open, view_open_how, view_open_claim};
+ghost use Rattle.nfs_compound.specs.ArgCodecs.{view_attributes};
+ghost use Rattle.nfs_compound.specs.OpenCodecs.{view_open, view_open_how, view_open_claim};
 ghost use Rattle.nfs_names.specs.State.{state_of};
 ghost use Rattle.nfs_names.specs.Outcome.{checked};
 ghost use Rattle.nfs_files.specs.Open as of_open;
@@ -10,9 +10,7 @@ ghost use Rattle.nfs_files.specs.Open as of_open;
 use crate::access::{judge_file, want_of};
 use nfs_attrs::{Want, Wanted, may_make};
 use nfs_compound::{Attributes, Bitmap, CreateHow, Open, OpenClaim, OpenHow};
-use nfs_names::{
-    Context, Making, Node, Store, current, held_object, judge_name, permits, wanted_of,
-};
+use nfs_names::{Context, Making, Node, Store, current, judge_name, node_at, permits, wanted_of};
 use nfs_opens::Share;
 use nfs_xdr::Status;
 
@@ -134,8 +132,8 @@ pub(crate) fn name_of<'a>(claim: &OpenClaim<'a>) -> &'a [u8]
 }
 
 /// The current filehandle's object, where such things may be asked for.
-fn judge_arguments(asked: &Open<'_>, held: Node) -> Result<Node, Status>
-    ensures { result ≡ checked (Ok held) (of_open.argument_checks (view_open asked.now)) }
+fn judge_arguments(asked: &Open<'_>, node: Node) -> Result<Node, Status>
+    ensures { result ≡ checked (Ok node) (of_open.argument_checks (view_open asked.now)) }
 {
     if asked.share_access % 4 == 0 {
         return Err(Status::Inval);
@@ -143,21 +141,21 @@ fn judge_arguments(asked: &Open<'_>, held: Node) -> Result<Node, Status>
     if Share::from_bits(asked.share_deny).is_none() {
         return Err(Status::Inval);
     }
-    Ok(held)
+    Ok(node)
 }
 
 /// The directory in which the name is looked for.
-fn judge_place(context: &Context<'_>, name: &[u8], held: Node) -> Result<Node, Status>
-    ensures { result ≡ checked (Ok held) (of_open.place_checks context.now name.now) }
+fn judge_place(context: &Context<'_>, name: &[u8], node: Node) -> Result<Node, Status>
+    ensures { result ≡ checked (Ok node) (of_open.place_checks context.now name.now) }
 {
-    if !held.object.kind.is_directory() {
+    if !node.object.kind.is_directory() {
         return Err(Status::NotDir);
     }
-    if !permits(context, &held, Want::EXECUTE) {
+    if !permits(context, &node, Want::EXECUTE) {
         return Err(Status::Access);
     }
     judge_name(name)?;
-    Ok(held)
+    Ok(node)
 }
 
 /// What is to be made where, if it may be.
@@ -206,7 +204,7 @@ fn found_by(
 {
     match number {
         Some(number) => {
-            let file = held_object(store, Some(number))?;
+            let file = node_at(store, Some(number))?;
             let file = judge_there(context, asked, file)?;
             Ok(Found::There {
                 place: making.place.number,
@@ -227,11 +225,11 @@ fn by_name(
     context: &Context<'_>,
     asked: &Open<'_>,
     name: &[u8],
-    held: Node,
+    node: Node,
 ) -> Result<Found, Status>
-    ensures { result ≡ of_open.by_name (state_of store.now) context.now (view_open asked.now) name.now held }
+    ensures { result ≡ of_open.by_name (state_of store.now) context.now (view_open asked.now) name.now node }
 {
-    let place = judge_place(context, name, held)?;
+    let place = judge_place(context, name, node)?;
     let wanted = match wanted_of(&attributes_in(&asked.openhow)) {
         Ok(wanted) => wanted,
         Err(fault) => return Err(fault.status()),
@@ -241,10 +239,10 @@ fn by_name(
 }
 
 /// The current filehandle's file itself.
-fn by_handle(context: &Context<'_>, asked: &Open<'_>, held: Node) -> Result<Found, Status>
-    ensures { result ≡ of_open.by_handle context.now (view_open asked.now) held }
+fn by_handle(context: &Context<'_>, asked: &Open<'_>, node: Node) -> Result<Found, Status>
+    ensures { result ≡ of_open.by_handle context.now (view_open asked.now) node }
 {
-    let file = judge_there(context, asked, held)?;
+    let file = judge_there(context, asked, node)?;
     Ok(Found::There {
         place: file.number,
         file,
@@ -258,17 +256,17 @@ fn by_claim(
     context: &Context<'_>,
     asked: &Open<'_>,
     claim: &OpenClaim<'_>,
-    held: Node,
+    node: Node,
 ) -> Result<Found, Status>
-    ensures { result ≡ of_open.by_claim (state_of store.now) context.now (view_open asked.now) (view_open_claim claim.now) held }
+    ensures { result ≡ of_open.by_claim (state_of store.now) context.now (view_open asked.now) (view_open_claim claim.now) node }
 {
     match claim {
-        OpenClaim::Null { file } => by_name(store, context, asked, file, held),
+        OpenClaim::Null { file } => by_name(store, context, asked, file, node),
         OpenClaim::Fh => {
             if creates(&asked.openhow) {
                 return Err(Status::Inval);
             }
-            by_handle(context, asked, held)
+            by_handle(context, asked, node)
         }
         OpenClaim::Previous { .. } => Err(Status::NoGrace),
         OpenClaim::DelegateCur { .. } => Err(Status::NotSupp),
@@ -283,7 +281,7 @@ fn by_claim(
 pub(crate) fn judge(store: &Store, context: &Context<'_>, asked: &Open<'_>) -> Result<Found, Status>
     ensures { result ≡ of_open.asked_for (state_of store.now) context.now (view_open asked.now) }
 {
-    let held = current(store, context)?;
-    let held = judge_arguments(asked, held)?;
-    by_claim(store, context, asked, &asked.claim, held)
+    let node = current(store, context)?;
+    let node = judge_arguments(asked, node)?;
+    by_claim(store, context, asked, &asked.claim, node)
 }

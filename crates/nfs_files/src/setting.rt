@@ -1,9 +1,9 @@
 //! SETATTR (RFC 8881 section 18.30).
 
 ghost use Rattle.std.specs.Prelude.{◌≡◌, is_some};
-ghost use Rattle.nfs_compound.specs.FileArgs.{view_set_attr};
+ghost use Rattle.nfs_compound.specs.ArgCodecs.{view_set_attr};
 ghost use Rattle.nfs_compound.specs.Operation.{OpSetAttr};
-ghost use Rattle.nfs_tree.specs.Did.{DoesOrWants};
+ghost use Rattle.nfs_tree.specs.Calls.{DoesOrWants};
 ghost use Rattle.nfs_results.specs.View as view;
 ghost use Rattle.nfs_results.specs.Results.{status_of_result};
 ghost use Rattle.nfs_names.specs.State.{state_of};
@@ -25,7 +25,7 @@ use std::alloc::Global;
 /// An object, and what is to be set of it.
 #[derive(Clone, Copy, Debug, PartialEq, Eq)]
 pub(crate) struct Setting {
-    pub(crate) held: Node,
+    pub(crate) node: Node,
     pub(crate) wanted: Wanted,
 }
 
@@ -37,13 +37,13 @@ fn judge_setting(
 ) -> Result<Setting, Status>
     ensures { result ≡ of_set_attr.setting (state_of store.now) context.now (view_set_attr asked.now) }
 {
-    let held = current(store, context)?;
+    let node = current(store, context)?;
     let wanted = match wanted_of(&asked.obj_attributes) {
         Ok(wanted) => wanted,
         Err(fault) => return Err(fault.status()),
     };
-    may_set(&held.object, &wanted, context.who.who())?;
-    Ok(Setting { held, wanted })
+    may_set(&node.object, &wanted, context.who.who())?;
+    Ok(Setting { node, wanted })
 }
 
 /// The object, where it can have a size by the stateid if one is to be set.
@@ -56,8 +56,8 @@ fn judge_sized(
     ensures { result ≡ of_set_attr.sized (state_of store.now) context.now given.now setting.now }
 {
     match setting.wanted.size {
-        Some(_) => writable(store, context, given, setting.held),
-        None => Ok(setting.held),
+        Some(_) => writable(store, context, given, setting.node),
+        None => Ok(setting.node),
     }
 }
 
@@ -100,12 +100,12 @@ fn change(alloc: Global, tree: &mut Tree, setting: &Setting, now: Time) -> Resul
 {
     let sets = sets_of(now, &setting.wanted);
     match setting.wanted.size {
-        Some(size) => tree.resize(alloc, setting.held.number, size, &sets, now),
+        Some(size) => tree.resize(alloc, setting.node.number, size, &sets, now),
         None => {
             if !gives_some(&setting.wanted) {
                 return Ok(());
             }
-            tree.set(setting.held.number, &sets, now)
+            tree.set(setting.node.number, &sets, now)
         }
     }
 }

@@ -25,8 +25,8 @@ pub(crate) struct Target {
 pub(crate) fn the_file(store: &Store, context: &Context<'_>) -> Result<Node, Status>
     ensures { result ≡ the_file (state_of store.now) context.now }
 {
-    let held = current(store, context)?;
-    judge_file(held)
+    let node = current(store, context)?;
+    judge_file(node)
 }
 
 /// The file, and then the stateid, that an operation is for.

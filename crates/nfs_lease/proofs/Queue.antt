@@ -9,7 +9,8 @@ use Rattle.std.proofs.lemmas.Option.{none-some, slice_get-get_or}
 use Rattle.std.proofs.lemmas.List.{take_all}
 use Rattle.std.proofs.lemmas.Bool.{cases_Bool, cases_eq, ne_eqb, eq-eqb, eqb-true, le-ltb}
 use Rattle.lru.specs.LruCache.{lru_cache, promoted, put_entries, last_entry}
-use Rattle.nfs_lease.specs.Renewals.{Kept, renewed_in, leases_of, with_lease, with_renewal, without_lease, is_out, IsNextOut, IsLatest, IsUpTo, IsQueue}
+use Rattle.nfs_lease.specs.Renewals.{Kept, renewed_in, leases_of, with_lease, with_renewal, without_lease, is_out}
+use Rattle.nfs_lease.specs.Queue.{IsNextOut, IsLatest, IsUpTo, IsQueue}
 
 -- the test of a client's entry
 abbrev pub is_of : ℕ → ℕ → Bool

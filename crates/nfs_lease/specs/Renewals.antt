@@ -1,5 +1,5 @@
 -- Leases: when each client renewed its own last, and who has run out (RFC 8881 section 8.3; how long a lease lasts is this server's profile).
-use Rattle.std.specs.Prelude.{◌≡◌, ℕ, ◌-◌, ◌≤◌, ◌==◌, nat_lt, length, Bool, true, false, Option, Some, None, List, [], ◌∷◌, option_map, if◌then◌else◌}
+use Rattle.std.specs.Prelude.{ℕ, ◌-◌, ◌==◌, nat_lt, Bool, false, Option, Some, None, List, option_map, if◌then◌else◌}
 use Rattle.std.specs.Map.{lookup}
 
 -- what a table keeps, each client with the moment of its last renewal, the newest first; other crates see it through `leases_of` and `standing` alone
@@ -17,10 +17,6 @@ renewed_in renewals client = lookup (λ c. client == c) renewals
 
 abbrev pub leases_of : Kept → Book
 leases_of kept = record { renewed = renewed_in kept.renewals; lease = kept.duration }
-
--- how many leases stand
-abbrev pub standing : Kept → ℕ
-standing kept = length kept.renewals
 
 abbrev pub no_leases : ℕ → Book
 no_leases lease = record { renewed = λ c. None; lease = lease }
@@ -45,22 +41,3 @@ is_out lease now (Some moment) = nat_lt lease (now - moment)
 -- the client's lease has run out
 abbrev pub has_run_out : Book → ℕ → ℕ → Bool
 has_run_out b now client = is_out b.lease now (b.renewed client)
-
--- a client whose lease has run out; none where there is none
-abbrev pub IsNextOut : Book → ℕ → Option ℕ → Type 0
-IsNextOut b now None = (client : ℕ) → has_run_out b now client ≡ false
-IsNextOut b now (Some client) = has_run_out b now client ≡ true
-
--- no renewal that stands is later
-pub record IsLatest (b : Book) (now : ℕ) : Type 0 where
-  pub each : (client moment : ℕ) → b.renewed client ≡ Some moment → moment ≤ now
-
--- the newest is not later
-abbrev pub IsUpTo : ℕ → List (ℕ × ℕ) → Type 0
-IsUpTo latest [] = Unit {0}
-IsUpTo latest (e ∷ es) = e.1 ≤ latest
-
--- a client has one lease, and no renewal is later than one that stands before it
-abbrev pub IsQueue : List (ℕ × ℕ) → Type 0
-IsQueue [] = Unit {0}
-IsQueue (e ∷ es) = (renewed_in es e.0 ≡ None) × IsUpTo e.1 es × IsQueue es

@@ -1,7 +1,8 @@
 //! The leases as a queue: a renewal goes behind all that stand (RFC 8881 section 8.3).
 
 ghost use Rattle.std.specs.Prelude.{◌≡◌, ◌+◌, ◌<◌, IfOk, OnOk, OnErr, is_some, if◌then◌else◌};
-ghost use Rattle.nfs_lease.specs.Renewals.{leases_of, standing, no_leases, with_lease, with_renewal, without_lease, IsNextOut, IsLatest};
+ghost use Rattle.nfs_lease.specs.Renewals.{leases_of, no_leases, with_lease, with_renewal, without_lease};
+ghost use Rattle.nfs_lease.specs.Queue.{standing, IsNextOut, IsLatest};
 
 use lru::LruCache;
 use std::alloc::{AllocError, Global};
@@ -18,7 +19,8 @@ pub struct Leases {
 
 impl Model for Leases {
     ghost use Rattle.std.specs.Prelude.{◌≡◌, ◌-◌, ◌^◌};
-    ghost use Rattle.nfs_lease.specs.Renewals.{Kept, IsQueue};
+    ghost use Rattle.nfs_lease.specs.Renewals.{Kept};
+    ghost use Rattle.nfs_lease.specs.Queue.{IsQueue};
 
     ghost Value = { Kept };
 

@@ -1,7 +1,8 @@
 //! Leases that run out, in the order of their renewals.
 
 ghost use Rattle.std.specs.Prelude.{◌≡◌, None};
-ghost use Rattle.nfs_lease.specs.Renewals.{leases_of, IsNextOut};
+ghost use Rattle.nfs_lease.specs.Renewals.{leases_of};
+ghost use Rattle.nfs_lease.specs.Queue.{IsNextOut};
 
 use super::*;
 use std::test::Fail;

@@ -11,8 +11,8 @@ use Rattle.nfs_compound.specs.declared.op_num.OpNum.TheVariants as Num
 use Rattle.nfs_compound.specs.Operation.{Item, Operation, OpAccess, OpCreate, OpGetAttr, OpGetFh, OpLink, OpLookup, OpLookupP, OpNVerify, OpPutFh, OpPutPubFh}
 use Rattle.nfs_compound.specs.Operation.{OpPutRootFh, OpReadDir, OpReadLink, OpRemove, OpRename, OpRestoreFh, OpSaveFh, OpSecinfoNoName, OpVerify}
 use Rattle.nfs_results.specs.Result.{Res, ResReadDir}
-use Rattle.nfs_results.specs.Largest.{MayAnswer}
-use Rattle.nfs_results.specs.Results.{HasArrays}
+use Rattle.nfs_results.specs.MayAnswer.{MayAnswer}
+use Rattle.nfs_results.specs.ResultCodec.{HasArrays}
 use Rattle.nfs_names.specs.declared.context.Context.{Context}
 use Rattle.nfs_names.specs.declared.context.Saved.{Saved}
 use Rattle.nfs_names.specs.declared.node.Node.{Node}
@@ -25,7 +25,7 @@ use Rattle.nfs_names.proofs.Found.{checked_ok}
 use Rattle.nfs_xdr.specs.Checks.{first_fault}
 use Rattle.nfs_xdr.proofs.Checks.{all_passed}
 use Rattle.std.proofs.lemmas.Bool.{ltb-false}
-use Rattle.nfs_names.specs.Checks.{held_as, held, saved_object, current, both}
+use Rattle.nfs_names.specs.Checks.{node_as, node_at, saved_object, current, both}
 use Rattle.nfs_names.specs.Attributes.{about}
 use Rattle.nfs_names.specs.Access.{access}
 use Rattle.nfs_names.specs.Create.{wanted_of, attributes_in, asked_for, place_checks, new_checks, create}
@@ -62,22 +62,22 @@ use Rattle.nfs_tree.specs.Files.{object_at, most_text}
 use Rattle.nfs_tree.specs.Names.{moves}
 use Rattle.nfs_names.proofs.Refusing.{Refuses, IsRefusal, refuses_checked, refuses_mapped, refuses_then, answers_with, err_refuses, ok_refuses}
 
-pub held_as_refuses : (n : ℕ) (o : Option Object) → Refuses (held_as n o)
-held_as_refuses n None = err_refuses S.Stale (record { done = refl; legal = refl })
-held_as_refuses n (Some o) = ok_refuses (record { number = n; object = o })
+pub node_as_refuses : (n : ℕ) (o : Option Object) → Refuses (node_as n o)
+node_as_refuses n None = err_refuses S.Stale (record { done = refl; legal = refl })
+node_as_refuses n (Some o) = ok_refuses (record { number = n; object = o })
 
-pub held_refuses : (s : State) (o : Option ℕ) → Refuses (held s o)
-held_refuses s None = err_refuses S.NoFileHandle (record { done = refl; legal = refl })
-held_refuses s (Some n) = held_as_refuses n (object_at s.tree n)
+pub node_refuses : (s : State) (o : Option ℕ) → Refuses (node_at s o)
+node_refuses s None = err_refuses S.NoFileHandle (record { done = refl; legal = refl })
+node_refuses s (Some n) = node_as_refuses n (object_at s.tree n)
 
 pub current_refuses : (s : State) (x : Context) → Refuses (current s x)
 unfolding current
-current_refuses s x = held_refuses s x.current
+current_refuses s x = node_refuses s x.current
 
 pub both_refuses : (s : State) (x : Context) → Refuses (both s x)
 unfolding both current
-both_refuses s x = refuses_then (held s x.current) _ (held_refuses s x.current) (λ d.
-    refuses_then (held s (saved_object x.saved)) _ (held_refuses s (saved_object x.saved)) (λ e. ok_refuses (record { current = d; saved = e })))
+both_refuses s x = refuses_then (node_at s x.current) _ (node_refuses s x.current) (λ d.
+    refuses_then (node_at s (saved_object x.saved)) _ (node_refuses s (saved_object x.saved)) (λ e. ok_refuses (record { current = d; saved = e })))
 
 fault_refuses : (f : AttrFault) → IsRefusal (fault_status f)
 fault_refuses F.AttrNotSupp = record { done = refl; legal = refl }

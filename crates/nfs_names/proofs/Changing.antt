@@ -7,8 +7,9 @@ use Rattle.nfs_compound.specs.declared.op_num.OpNum.TheVariants as Op
 use Rattle.nfs_compound.specs.NameArgs.{Create}
 use Rattle.nfs_tree.specs.declared.fault.TreeFault.{TreeFault}
 use Rattle.nfs_tree.specs.Files.{Files, is_there}
-use Rattle.nfs_tree.specs.Names.{link_checks, link_fault, remove_checks, remove_fault}
-use Rattle.nfs_tree.specs.Create.{create_checks, create_fault}
+use Rattle.nfs_tree.specs.Names.{link_checks, remove_checks}
+use Rattle.nfs_tree.specs.Calls.{link_fault, remove_fault, create_fault}
+use Rattle.nfs_tree.specs.Create.{create_checks}
 use Rattle.nfs_names.specs.declared.context.Context.{Context}
 use Rattle.nfs_names.specs.declared.node.Node.{Node}
 use Rattle.nfs_names.specs.declared.node.Pair.{Pair}

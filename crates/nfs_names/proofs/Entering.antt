@@ -26,7 +26,8 @@ use Rattle.nfs_names.specs.Attributes.{about}
 use Rattle.nfs_names.specs.ReadDir.{attributes_at, entry_of}
 use Rattle.nfs_names.proofs.Masks.{attributes_spelled}
 use Rattle.nfs_tree.specs.Files.{Files, Listed, listed, listing, stored_in, is_there, object_at}
-use Rattle.nfs_names.specs.ReadDir.{longest, fits, fitting, left, PutsWithin}
+use Rattle.nfs_names.specs.ReadDir.{longest, fits, fitting, left}
+use Rattle.nfs_names.specs.Lists.{PutsWithin}
 use Rattle.nfs_compound.specs.NameArgs.{ReadDir}
 use Rattle.nfs_results.specs.Largest.{given}
 use Rattle.nfs_attrs.specs.Mask.{mask_of, common, spell_mask}

@@ -12,7 +12,7 @@ use Rattle.nfs_results.specs.Results.{status_of_result, refusal}
 use Rattle.nfs_tree.specs.declared.fault.TreeFault.{TreeFault}
 use Rattle.nfs_tree.specs.declared.fault.TreeFault.TheVariants.{NoEnt, Exist, NotDir, IsDir, NotEmpty, Inval, Fbig, NoSpc, Mlink, Counter, Memory}
 use Rattle.nfs_tree.specs.Files.{Files}
-use Rattle.nfs_tree.specs.Did.{Did, does_unless, DoesOrWants}
+use Rattle.nfs_tree.specs.Calls.{Did, does_unless, DoesOrWants}
 use Rattle.nfs_names.specs.declared.context.Context.{Context}
 use Rattle.nfs_names.specs.State.{State, with_tree}
 use Rattle.nfs_names.specs.Faults.{status_of}

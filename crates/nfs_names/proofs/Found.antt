@@ -14,7 +14,7 @@ use Rattle.nfs_names.specs.declared.node.Node.{Node}
 use Rattle.nfs_names.specs.declared.node.Pair.{Pair}
 use Rattle.nfs_names.specs.State.{State}
 use Rattle.nfs_names.specs.Outcome.{◌>>=◌, passed, checked}
-use Rattle.nfs_names.specs.Checks.{held_as, held, saved_object, current, both}
+use Rattle.nfs_names.specs.Checks.{node_as, node_at, saved_object, current, both}
 
 -- what came of something was found by way of it
 pub record Came {A B F : Type 0} (v : Result A F) (next : A → Result B F) (b : B) : Type 0 where
@@ -65,28 +65,28 @@ is_held t d e = by_stored (stored_in t.objects d.number) refl
           object = e;
         }
 
-held_by : (t : Files) (n : ℕ) (o : Option Object) (d : Node) → object_at t n ≡ o → held_as n o ≡ Ok d → IsHeld t d
-held_by t n None d is e = absurd cc
-held_by t n (Some o) d is e =
+node_by : (t : Files) (n : ℕ) (o : Option Object) (d : Node) → object_at t n ≡ o → node_as n o ≡ Ok d → IsHeld t d
+node_by t n None d is e = absurd cc
+node_by t n (Some o) d is e =
     let same : record { number = n; object = o } ≡ d = cc in
     is_held t d (ap (λ (h : Node). object_at t h.number) (sym same) ∙ is ∙ ap (λ (h : Node). Some h.object) same)
 
-held_is : (s : State) (o : Option ℕ) (d : Node) → held s o ≡ Ok d → IsHeld s.tree d
-held_is s None d e = absurd cc
-held_is s (Some n) d e = held_by s.tree n (object_at s.tree n) d refl e
+node_is : (s : State) (o : Option ℕ) (d : Node) → node_at s o ≡ Ok d → IsHeld s.tree d
+node_is s None d e = absurd cc
+node_is s (Some n) d e = node_by s.tree n (object_at s.tree n) d refl e
 
 pub current_is : (s : State) (x : Context) (d : Node) → current s x ≡ Ok d → IsHeld s.tree d
 unfolding current
-current_is s x d e = held_is s x.current d e
+current_is s x d e = node_is s x.current d e
 
 pub both_is : (s : State) (x : Context) (p : Pair) → both s x ≡ Ok p → IsHeld s.tree p.current × IsHeld s.tree p.saved
 unfolding both current
 both_is s x p e =
-    let c = came (held s x.current) _ p e in
-    let o = came (held s (saved_object x.saved)) _ p c.then in
+    let c = came (node_at s x.current) _ p e in
+    let o = came (node_at s (saved_object x.saved)) _ p c.then in
     let same = ok_is refl o.then in (
-      subst (λ (q : Pair). IsHeld s.tree q.current) same (held_is s x.current c.found c.is),
-      subst (λ (q : Pair). IsHeld s.tree q.saved) same (held_is s (saved_object x.saved) o.found o.is),
+      subst (λ (q : Pair). IsHeld s.tree q.current) same (node_is s x.current c.found c.is),
+      subst (λ (q : Pair). IsHeld s.tree q.saved) same (node_is s (saved_object x.saved) o.found o.is),
     )
 
 -- neither empty nor longer than so many bytes

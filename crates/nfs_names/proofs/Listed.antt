@@ -15,7 +15,8 @@ use Rattle.nfs_results.specs.Largest.{given}
 use Rattle.nfs_results.specs.Result.{Entry, ReadDirOk, ResReadDir}
 use Rattle.nfs_results.specs.Straight.{entry_head, entry_text, read_dir_head, list_end}
 use Rattle.nfs_results.specs.Items.{fattr}
-use Rattle.nfs_results.specs.Results.{spell_result, refusal, head, parts}
+use Rattle.nfs_results.specs.Results.{spell_result, refusal, head}
+use Rattle.nfs_results.specs.Parts.{parts}
 use Rattle.nfs_results.proofs.Lengths.{length_head, length_spelled}
 use Rattle.nfs_results.proofs.StraightLaws.{read_dir_in_parts}
 use Rattle.nfs_xdr.specs.Spelling.{number, fixed}
@@ -28,7 +29,8 @@ use Rattle.nfs_names.specs.Outcome.{done, passed, checked, answers}
 use Rattle.nfs_names.specs.Checks.{current}
 use Rattle.nfs_names.specs.declared.node.Node.{Node}
 use Rattle.nfs_names.specs.State.{State}
-use Rattle.nfs_names.specs.ReadDir.{longest, fits, fitting, left, zeros, listing_checks, entry_checks, listed, read_dir, Lists}
+use Rattle.nfs_names.specs.ReadDir.{longest, fits, fitting, left, zeros, listing_checks, entry_checks, listed, read_dir}
+use Rattle.nfs_names.specs.Lists.{Lists}
 use Rattle.nfs_names.proofs.Entering.{length_entry_head, given_least}
 
 longest_passes : {A : Type 0} (test : List A → Bool) (xs : List A) → test [] ≡ true → test (longest test xs) ≡ true

@@ -10,11 +10,11 @@ use Rattle.nfs_compound.specs.NameArgs as args
 use Rattle.nfs_tree.specs.declared.row.Row.{Row}
 use Rattle.nfs_tree.specs.declared.done.Renamed.{Renamed}
 use Rattle.nfs_tree.specs.declared.fault.TreeFault.{TreeFault}
-use Rattle.nfs_tree.specs.Files.{Files, has_name, lookup, is_entry, entry, has_entries, without_entry}
-use Rattle.nfs_tree.specs.Did.{Did, DoesOrWants, raised, stays}
-use Rattle.nfs_tree.specs.Names as tree
+use Rattle.nfs_tree.specs.Files.{Files, has_name, lookup, is_entry, entry, has_entries, without_entry, raised, stays}
+use Rattle.nfs_tree.specs.Calls.{Did, DoesOrWants, rename_fault, rename_unless}
+use Rattle.nfs_tree.specs.Calls as tree
 use Rattle.nfs_tree.specs.Names.{Move, move, moves, moved_object, replaced_object, is_below_itself, is_unlike, is_in_the_way, can_move, rename_checks}
-use Rattle.nfs_tree.specs.Names.{rename_fault, rename_unless, with_moved}
+use Rattle.nfs_tree.specs.Names.{with_moved}
 use Rattle.nfs_tree.proofs.Trees.{has_one, apart}
 use Rattle.nfs_names.specs.declared.context.Context.{Context}
 use Rattle.nfs_names.specs.declared.node.Pair.{Pair}

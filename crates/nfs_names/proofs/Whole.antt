@@ -15,7 +15,8 @@ use Rattle.nfs_results.specs.Result.{Res}
 use Rattle.nfs_results.specs.Results.{refusal}
 use Rattle.nfs_names.proofs.Bounds.{IsAnswer}
 use Rattle.nfs_results.specs.Largest.{largest}
-use Rattle.nfs_results.specs.Results.{spell_result, IsBounded}
+use Rattle.nfs_results.specs.Results.{spell_result}
+use Rattle.nfs_results.specs.ResultCodec.{IsBounded}
 use Rattle.nfs_results.proofs.Lengths.{length_result}
 use Rattle.nfs_xdr.specs.SheetState.{SheetState, HasRoom, Puts}
 use Rattle.std.proofs.lemmas.List.{length-append}
@@ -23,7 +24,8 @@ use Rattle.nfs_tree.specs.Kept.{IsTree}
 use Rattle.nfs_tree.specs.Names.{moves}
 use Rattle.nfs_names.specs.declared.context.Context.{Context}
 use Rattle.nfs_names.specs.declared.node.Pair.{Pair}
-use Rattle.nfs_names.specs.State.{State, IsStore}
+use Rattle.nfs_names.specs.State.{State}
+use Rattle.nfs_names.specs.Kept.{IsStore}
 use Rattle.nfs_names.specs.Outcome.{Outcome, refuses, checked, answers, or_delay, is_ok}
 use Rattle.nfs_names.specs.Operation.{one, grows, on_names, is_on_names, comes_to, one_or_delay}
 use Rattle.nfs_names.specs.Access.{access}

@@ -16,13 +16,13 @@ use Rattle.nfs_names.specs.State.{State}
 use Rattle.nfs_names.specs.Outcome.{◌>>=◌}
 
 -- A filehandle is wanted and there is none, or its object is gone (RFC 8881 sections 15.1.2.5 and 15.1.2.9).
-abbrev pub held_as : ℕ → Option Object → Result Node Status
-held_as n None = Err Stale
-held_as n (Some o) = Ok (record { number = n; object = o })
+abbrev pub node_as : ℕ → Option Object → Result Node Status
+node_as n None = Err Stale
+node_as n (Some o) = Ok (record { number = n; object = o })
 
-abbrev pub held : State → Option ℕ → Result Node Status
-held s None = Err NoFileHandle
-held s (Some n) = held_as n (object_at s.tree n)
+abbrev pub node_at : State → Option ℕ → Result Node Status
+node_at s None = Err NoFileHandle
+node_at s (Some n) = node_as n (object_at s.tree n)
 
 abbrev pub saved_object : Option Saved → Option ℕ
 saved_object None = None
@@ -30,13 +30,13 @@ saved_object (Some saved) = Some saved.object
 
 -- the object of the current filehandle
 unfoldable pub current : State → Context → Result Node Status
-current s x = held s x.current
+current s x = node_at s x.current
 
 -- the objects of the current filehandle and of the saved one: the current one is looked at first
 unfoldable pub both : State → Context → Result Pair Status
 both s x = do
   d ← current s x
-  e ← held s (saved_object x.saved)
+  e ← node_at s (saved_object x.saved)
   Ok (record { current = d; saved = e })
 
 abbrev pub no_directory : Node → Bool × Status

@@ -11,9 +11,8 @@ use Rattle.nfs_results.specs.declared.res.ChangeInfo.{ChangeInfo}
 use Rattle.nfs_results.specs.Result.{ResCreate}
 use Rattle.nfs_tree.specs.declared.done.Change.{Change}
 use Rattle.nfs_tree.specs.declared.sets.Sets.{Sets}
-use Rattle.nfs_tree.specs.Files.{most_text}
+use Rattle.nfs_tree.specs.Files.{most_text, raised}
 use Rattle.nfs_tree.specs.Create.{New, Directory, Link, create_checks, with_new}
-use Rattle.nfs_tree.specs.Did.{raised}
 use Rattle.nfs_attrs.specs.declared.set_time.SetTime.{SetTime}
 use Rattle.nfs_attrs.specs.declared.set_time.SetTime.TheVariants.{Now, Given}
 use Rattle.nfs_attrs.specs.declared.wanted.Wanted.{Wanted}

@@ -1,17 +1,14 @@
 -- READDIR (RFC 8881 section 18.23): the entries behind a cookie with their attributes, as many as fit into so many bytes.
-use Rattle.std.specs.Prelude.{◌≡◌, ℕ, ◌+◌, ◌<◌, ◌≤◌, ◌==◌, Bool, true, false, not, ◌&&◌, ◌||◌, List, [], ◌∷◌, length, map, nat_lt, nat_le, replicate, bytes_eq}
-use Rattle.std.specs.Prelude.{if◌then◌else◌, Option, Some, None}
+use Rattle.std.specs.Prelude.{ℕ, ◌+◌, ◌==◌, Bool, not, ◌&&◌, ◌||◌, List, [], ◌∷◌, length, map, nat_lt, nat_le, replicate, bytes_eq, if◌then◌else◌, Option, Some}
+use Rattle.std.specs.Prelude.{None}
 use Rattle.std.specs.List.{flat_map}
-use Rattle.nfs_xdr.specs.SheetState.{SheetState, Puts}
 use Rattle.nfs_xdr.specs.declared.status.Status.{Status}
-use Rattle.nfs_xdr.specs.declared.status.Status.TheVariants.{Nfs4Ok, Inval, NotSame, BadCookie, TooSmall}
+use Rattle.nfs_xdr.specs.declared.status.Status.TheVariants.{Inval, NotSame, BadCookie, TooSmall}
 use Rattle.nfs_compound.specs.declared.op_num.OpNum.TheVariants as Op
 use Rattle.nfs_compound.specs.NameArgs.{ReadDir}
 use Rattle.nfs_results.specs.Largest.{given}
 use Rattle.nfs_results.specs.Result.{Entry, Fattr, ReadDirOk, ResReadDir}
-use Rattle.nfs_results.specs.Results.{spell_result, refusal}
 use Rattle.nfs_results.specs.Straight.{entry_text}
-use Rattle.nfs_compound.specs.OpNum.{op_number}
 use Rattle.nfs_tree.specs.declared.object.Object.{Object}
 use Rattle.nfs_tree.specs.Files.{Listed, listing, object_at}
 use Rattle.nfs_attrs.specs.declared.mask.Mask.{Mask}
@@ -72,13 +69,3 @@ listed s a d = record { cookieverf = zeros; entries = fitting s a d; eof = lengt
 unfoldable pub read_dir : State → Context → ReadDir → Outcome
 read_dir s x a =
     answers s x Op.ReadDir (checked (checked (current s x) (listing_checks x a)) (entry_checks s a)) (λ d. done s x (ResReadDir (listed s a d)))
-
--- what a call that puts an entry has put, if it takes no more than so many bytes
-abbrev pub PutsWithin : Bool → ℕ → SheetState → SheetState → List ℕ → Type 0
-PutsWithin true room old new text = (length text ≤ room) × Puts old new text
-PutsWithin false room old new text = (room < length text) × (new ≡ old)
-
--- what a listing answers and puts: its entries, or why there are none
-abbrev pub Lists : Status → Option Status → ReadDirOk → SheetState → SheetState → Type 0
-Lists answer None entries old new = (answer ≡ Nfs4Ok) × Puts old new (spell_result (ResReadDir entries))
-Lists answer (Some status) entries old new = (answer ≡ status) × Puts old new (spell_result (refusal (op_number Op.ReadDir) status))

@@ -4,9 +4,8 @@ use Rattle.nfs_xdr.specs.declared.time.Time.{Time}
 use Rattle.nfs_xdr.specs.declared.status.Status.{Status}
 use Rattle.nfs_compound.specs.declared.op_num.OpNum.TheVariants as Op
 use Rattle.nfs_results.specs.Result.{ResRemove}
-use Rattle.nfs_tree.specs.Files.{named}
+use Rattle.nfs_tree.specs.Files.{named, raised}
 use Rattle.nfs_tree.specs.Names.{remove_checks, without_name}
-use Rattle.nfs_tree.specs.Did.{raised}
 use Rattle.nfs_attrs.specs.Permissions.{change}
 use Rattle.nfs_names.specs.declared.context.Context.{Context}
 use Rattle.nfs_names.specs.declared.node.Node.{Node}

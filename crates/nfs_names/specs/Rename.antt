@@ -5,9 +5,8 @@ use Rattle.nfs_xdr.specs.declared.status.Status.{Status}
 use Rattle.nfs_compound.specs.declared.op_num.OpNum.TheVariants as Op
 use Rattle.nfs_compound.specs.NameArgs as args
 use Rattle.nfs_results.specs.Result.{ResRename}
-use Rattle.nfs_tree.specs.Files.{lookup}
+use Rattle.nfs_tree.specs.Files.{lookup, raised, stays}
 use Rattle.nfs_tree.specs.Names.{Move, move, moves, rename_checks, with_moved}
-use Rattle.nfs_tree.specs.Did.{raised, stays}
 use Rattle.nfs_attrs.specs.Permissions.{change}
 use Rattle.nfs_names.specs.declared.context.Context.{Context}
 use Rattle.nfs_names.specs.declared.node.Pair.{Pair}

@@ -1,8 +1,8 @@
 -- What operations act on: the tree, the opens, the instance of the server and the length of a lease.
-use Rattle.std.specs.Prelude.{◌≡◌, ◌≢◌, ℕ, ◌==◌, ◌||◌, Bool, true, pos, if◌then◌else◌}
+use Rattle.std.specs.Prelude.{ℕ, ◌==◌, ◌||◌, Bool, pos, if◌then◌else◌}
 use Rattle.std.specs.List.{list_any}
 use Rattle.nfs_xdr.specs.declared.time.Time.{Time}
-use Rattle.nfs_tree.specs.Files.{Files, root, has_row, is_there, is_regular_at, IsReached}
+use Rattle.nfs_tree.specs.Files.{Files, root, has_row}
 use Rattle.nfs_tree.specs.Create.{new_tree}
 use Rattle.nfs_tree.specs.Names.{forget}
 use Rattle.nfs_opens.specs.Table.{Table, table, no_opens}
@@ -37,21 +37,3 @@ is_used s n = n == root || (has_row s.tree.rows n || is_open s n)
 
 abbrev pub without_unused : State → ℕ → State
 without_unused s n = if is_used s n then s else with_tree s (forget s.tree n)
-
--- each directory but the root has a row
-abbrev pub IsRooted : Files → Type 0
-IsRooted t = (n : ℕ) → IsReached t n
-
--- only files are open
-abbrev pub AreFiles : State → Type 0
-AreFiles s = (n : ℕ) → is_open s n ≡ true → is_regular_at s.tree n ≡ true
-
--- What every store keeps: each object is used, and only files are open.
-pub record IsStore (s : State) : Type 0 where
-  pub used : (n : ℕ) → is_there s.tree n ≡ true → is_used s n ≡ true
-  pub files : AreFiles s
-
--- The same, but for one object, which may have lost its last row or its last open.
-pub record IsStoreBut (s : State) (n : ℕ) : Type 0 where
-  pub used : (m : ℕ) → m ≢ n → is_there s.tree m ≡ true → is_used s m ≡ true
-  pub files : AreFiles s

@@ -6,7 +6,7 @@ ghost use Rattle.nfs_results.specs.Results.{spell_result};
 ghost use Rattle.nfs_results.specs.Result.{ResGetAttr, ResGetFh};
 ghost use Rattle.nfs_attrs.specs.Attributes.{values};
 ghost use Rattle.nfs_attrs.specs.Handle.{handle as spelled};
-ghost use Rattle.nfs_compound.specs.Attributes.{view_bitmap, view_attributes};
+ghost use Rattle.nfs_compound.specs.ArgCodecs.{view_bitmap, view_attributes};
 ghost use Rattle.nfs_names.specs.State.{state_of};
 ghost use Rattle.nfs_names.specs.Comes.{Comes};
 ghost use Rattle.nfs_names.specs.Outcome.{checked};
@@ -29,28 +29,28 @@ use nfs_results::{AccessOk, Res, write_done_head};
 use nfs_xdr::{Sheet, Status};
 
 /// How many names the object has: a directory has one.
-fn links_of(store: &Store, held: &Node) -> u32
-    ensures { result ≡ attributes.links_of (state_of store.now) held.now }
+fn links_of(store: &Store, node: &Node) -> u32
+    ensures { result ≡ attributes.links_of (state_of store.now) node.now }
 {
-    if held.object.kind.is_directory() {
+    if node.object.kind.is_directory() {
         1
     } else {
-        store.tree.links(held.number)
+        store.tree.links(node.number)
     }
 }
 
 /// What is reported of an object beside the object itself, as far as it is asked for: names are counted only where
 /// their number is.
-pub(crate) fn about(store: &Store, held: &Node, asked: Mask) -> About
-    ensures { values asked result held.now.object ≡ values asked (attributes.about (state_of store.now) held.now) held.now.object }
+pub(crate) fn about(store: &Store, node: &Node, asked: Mask) -> About
+    ensures { values asked result node.now.object ≡ values asked (attributes.about (state_of store.now) node.now) node.now.object }
 {
     let links = if asked.has(attribute::NUMLINKS) {
-        links_of(store, held)
+        links_of(store, node)
     } else {
         0
     };
     About {
-        number: held.number,
+        number: node.number,
         links,
         instance: store.instance,
         lease: store.lease,
@@ -97,13 +97,13 @@ fn compare(store: &Store, context: &Context<'_>, given: &Attributes<'_>) -> Resu
 }
 
 #[tactic(auto, unfolding(crate::specs::Verify::same_at))]
-fn same_at(store: &Store, held: &Node, given: &Attributes<'_>) -> Result<bool, AttrFault>
-    ensures { result ≡ of_verify.same_at (state_of store.now) (view_attributes given.now) held.now }
+fn same_at(store: &Store, node: &Node, given: &Attributes<'_>) -> Result<bool, AttrFault>
+    ensures { result ≡ of_verify.same_at (state_of store.now) (view_attributes given.now) node.now }
 {
     let asked = Mask::new(given.attrmask.words);
     same(
-        &held.object,
-        &about(store, held, asked),
+        &node.object,
+        &about(store, node, asked),
         asked,
         given.attr_vals,
     )
@@ -134,12 +134,12 @@ pub(crate) fn nverify(store: &Store, context: &Context<'_>, given: &Attributes<'
 }
 
 /// Puts the attributes of an object, as GETATTR answers them.
-fn put_attributes(store: &Store, held: &Node, asked: Mask, out: &mut Sheet)
+fn put_attributes(store: &Store, node: &Node, asked: Mask, out: &mut Sheet)
     requires { length out.old.bytes + 640 ≤ out.old.room }
-    ensures { Puts out.old out.new (spell_result (ResGetAttr (attributes.attributes_of (state_of store.now) asked held.now))) }
+    ensures { Puts out.old out.new (spell_result (ResGetAttr (attributes.attributes_of (state_of store.now) asked node.now))) }
 {
     write_done_head(OpNum::GetAttr, out);
-    write_attrs(&held.object, &about(store, held, asked), asked, out);
+    write_attrs(&node.object, &about(store, node, asked), asked, out);
 }
 
 /// GETATTR.

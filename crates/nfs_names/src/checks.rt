@@ -10,7 +10,7 @@ ghost use Rattle.nfs_results.specs.Results.{refusal, spell_result};
 ghost use Rattle.nfs_results.specs.View as view;
 ghost use Rattle.nfs_tree.specs.Files.{object_at};
 ghost use Rattle.nfs_names.specs.State.{state_of};
-ghost use Rattle.nfs_names.specs.Checks.{held, current, both, saved_object, permits, is_barred, is_dots, name_checks};
+ghost use Rattle.nfs_names.specs.Checks.{node_at, current, both, saved_object, permits, is_barred, is_dots, name_checks};
 ghost use Rattle.nfs_names.specs.Lookup.{is_link};
 
 use crate::context::{Context, Saved};
@@ -41,8 +41,8 @@ pub fn put_refusal(op: OpNum, status: Status, out: &mut Sheet) -> Status
 }
 
 /// The object of a filehandle: there may be no filehandle, or no object any more.
-pub fn held(store: &Store, number: Option<u64>) -> Result<Node, Status>
-    ensures { result ≡ held (state_of store.now) number }
+pub fn node_at(store: &Store, number: Option<u64>) -> Result<Node, Status>
+    ensures { result ≡ node_at (state_of store.now) number }
 {
     let Some(number) = number else {
         return Err(Status::NoFileHandle);
@@ -70,7 +70,7 @@ fn saved_object(saved: Option<Saved>) -> Option<u64>
 pub fn current(store: &Store, context: &Context<'_>) -> Result<Node, Status>
     ensures { result ≡ current (state_of store.now) context.now }
 {
-    held(store, context.current)
+    node_at(store, context.current)
 }
 
 /// The objects of the current filehandle and of the saved one.
@@ -78,8 +78,8 @@ pub fn current(store: &Store, context: &Context<'_>) -> Result<Node, Status>
 pub(crate) fn both(store: &Store, context: &Context<'_>) -> Result<Pair, Status>
     ensures { result ≡ both (state_of store.now) context.now }
 {
-    let current = held(store, context.current)?;
-    let saved = held(store, saved_object(context.saved))?;
+    let current = node_at(store, context.current)?;
+    let saved = node_at(store, saved_object(context.saved))?;
     Ok(Pair { current, saved })
 }
 
@@ -92,10 +92,10 @@ pub(crate) fn is_there(store: &Store, number: u64) -> bool
 
 /// Whether the permission bits let the caller do it.
 #[tactic(auto, unfolding(crate::specs::Checks::permits))]
-pub fn permits(context: &Context<'_>, held: &Node, want: Want) -> bool
-    ensures { result ≡ permits context.now held.now want }
+pub fn permits(context: &Context<'_>, node: &Node, want: Want) -> bool
+    ensures { result ≡ permits context.now node.now want }
 {
-    may(&held.object, context.who.who(), want)
+    may(&node.object, context.who.who(), want)
 }
 
 /// Whether it is a symbolic link.

@@ -26,7 +26,7 @@ mod store;
 mod tests;
 mod walking;
 
-pub use checks::{current, held as held_object, is_link, judge_name, permits, put_refusal, refuse};
+pub use checks::{current, is_link, judge_name, node_at, permits, put_refusal, refuse};
 pub use context::{Caller, Context, Saved};
 pub use making::{Making, attr_set, change_info, status_of, time_of, wanted_of};
 pub use node::Node;

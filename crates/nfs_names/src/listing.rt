@@ -5,7 +5,7 @@ ghost use Rattle.std.specs.List.{flat_map};
 ghost use Rattle.nfs_xdr.specs.Checks.{first_fault};
 ghost use Rattle.nfs_xdr.specs.SheetState.{Puts};
 ghost use Rattle.nfs_xdr.specs.Limits.{most_transfer};
-ghost use Rattle.nfs_compound.specs.NameArgs.{view_read_dir};
+ghost use Rattle.nfs_compound.specs.ArgCodecs.{view_read_dir};
 ghost use Rattle.nfs_results.specs.Largest.{given};
 ghost use Rattle.nfs_results.specs.Result.{ResReadLink};
 ghost use Rattle.nfs_results.specs.Results.{spell_result};
@@ -20,7 +20,7 @@ ghost use Rattle.nfs_names.specs.Outcome.{checked};
 ghost use Rattle.nfs_names.specs.Checks as check;
 ghost use Rattle.nfs_names.specs.ReadLink as of_read_link;
 ghost use Rattle.nfs_names.specs.ReadDir as of_read_dir;
-ghost use Rattle.nfs_names.specs.ReadDir.{PutsWithin, Lists};
+ghost use Rattle.nfs_names.specs.Lists.{PutsWithin, Lists};
 
 use crate::attributes::about;
 use crate::checks::{current, is_link, permits, put_refusal};
@@ -95,20 +95,20 @@ fn judge_listing(store: &Store, context: &Context<'_>, asked: &ReadDir<'_>) -> R
 }
 
 /// How many bytes an entry takes.
-fn entry_len(name: &[u8], held: &Node, about: &About, asked: Mask) -> usize
-    ensures { result ≡ length (entry_head 0 name.now) + length (spell_attrs asked about.now held.now.object) }
+fn entry_len(name: &[u8], node: &Node, about: &About, asked: Mask) -> usize
+    ensures { result ≡ length (entry_head 0 name.now) + length (spell_attrs asked about.now node.now.object) }
 {
-    16 + name.len() + (4 - name.len() % 4) % 4 + attrs_len(&held.object, about, asked)
+    16 + name.len() + (4 - name.len() % 4) % 4 + attrs_len(&node.object, about, asked)
 }
 
 /// The most bytes that an entry takes beside its name: cookie and length, padding, attributes.
 const MOST_BESIDE_NAME: usize = 16 + 3 + 632;
 
 /// Whether an entry takes no more than `room` bytes. It is measured only where the largest might take more.
-fn fits(name: &[u8], held: &Node, about: &About, asked: Mask, room: usize) -> bool
-    ensures { result ≡ nat_le (length (entry_head 0 name.now) + length (spell_attrs asked about.now held.now.object)) room }
+fn fits(name: &[u8], node: &Node, about: &About, asked: Mask, room: usize) -> bool
+    ensures { result ≡ nat_le (length (entry_head 0 name.now) + length (spell_attrs asked about.now node.now.object)) room }
 {
-    name.len() + MOST_BESIDE_NAME <= room || entry_len(name, held, about, asked) <= room
+    name.len() + MOST_BESIDE_NAME <= room || entry_len(name, node, about, asked) <= room
 }
 
 /// Puts an entry with its attributes, if it takes no more than `room` bytes.
@@ -121,16 +121,16 @@ fn put_entry(store: &Store, entry: &Entry<'_>, asked: Mask, room: usize, out: &m
     let Some(object) = store.tree.object(entry.number) else {
         return false;
     };
-    let held = Node {
+    let node = Node {
         number: entry.number,
         object: *object,
     };
-    let about = about(store, &held, asked);
-    if !fits(entry.name, &held, &about, asked, room) {
+    let about = about(store, &node, asked);
+    if !fits(entry.name, &node, &about, asked, room) {
         return false;
     }
     write_entry(entry.cookie, entry.name, out);
-    write_attrs(&held.object, &about, asked, out);
+    write_attrs(&node.object, &about, asked, out);
     true
 }
 

@@ -1,15 +1,15 @@
 //! Operations that make, name and remove objects (RFC 8881 sections 18.4, 18.9, 18.25 and 18.26).
 
 ghost use Rattle.std.specs.Prelude.{◌≡◌, ◌==◌, ℕ, false, length, nat_lt, option_map};
-ghost use Rattle.nfs_compound.specs.Attributes.{view_attributes};
-ghost use Rattle.nfs_compound.specs.NameArgs.{view_create, view_create_type, view_rename};
+ghost use Rattle.nfs_compound.specs.ArgCodecs.{view_attributes, view_create, view_create_type, view_rename};
 ghost use Rattle.nfs_compound.specs.Operation.{OpCreate, OpLink, OpRename};
-ghost use Rattle.nfs_tree.specs.Create.{new_of};
+ghost use Rattle.nfs_tree.specs.Calls.{new_of};
 ghost use Rattle.nfs_tree.specs.Files.{most_text, has_entries};
 ghost use Rattle.nfs_attrs.specs.Mask.{trimmed_words};
 ghost use Rattle.nfs_results.specs.View as view;
 ghost use Rattle.nfs_results.specs.Results.{status_of_result};
-ghost use Rattle.nfs_names.specs.State.{state_of, IsRooted};
+ghost use Rattle.nfs_names.specs.State.{state_of};
+ghost use Rattle.nfs_names.specs.Kept.{IsRooted};
 ghost use Rattle.nfs_names.specs.Outcome.{checked, is_delay};
 ghost use Rattle.nfs_names.specs.Operation.{one_or_delay};
 ghost use Rattle.nfs_names.specs.View.{outcome_of};

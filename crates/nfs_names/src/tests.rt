@@ -67,7 +67,8 @@ struct Desk {
 impl Model for Desk {
     ghost use Rattle.std.specs.Prelude.{◌≡◌};
     ghost use Rattle.nfs_xdr.specs.SheetState.{SheetState};
-    ghost use Rattle.nfs_names.specs.State.{state_of, IsStore};
+    ghost use Rattle.nfs_names.specs.State.{state_of};
+    ghost use Rattle.nfs_names.specs.Kept.{IsStore};
 
     ghost Value = { SheetState };
 

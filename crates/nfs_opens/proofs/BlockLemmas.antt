@@ -11,24 +11,10 @@ use Rattle.std.proofs.lemmas.List.Elements.{filter-append}
 use Rattle.nfs_xdr.specs.Tables.{In}
 use Rattle.nfs_opens.specs.declared.index.Pair.{Pair}
 use Rattle.nfs_opens.specs.Index.{Precedes, IsAscending, is_before, IsNext, HasPut, HasTaken}
-use Rattle.nfs_opens.specs.Blocks.{flat, last_of, ends_before, front_of, rest_of, AreOrdered, IsPlace}
+use Rattle.nfs_opens.specs.Flat.{flat, last_of, front_of, rest_of}
+use Rattle.nfs_opens.specs.Blocks.{ends_before, AreOrdered, IsPlace}
+use Rattle.nfs_opens.proofs.FlatLemmas.{in_front, in_rear, in_either, last_among, in_flat, block_in, around, set_around, added_around, removed_around, in_set, all_front, removed_set, rest_last, same_block, last_got}
 use Rattle.nfs_opens.proofs.IndexLemmas.{pair_of, compared, never_itself, carried, before_is, behind_is, itself_is, stays_before, later, in_insert, removed_in}
-
--- Lists behind each other.
-
-in_front : (xs ys : List Pair) (q : Pair) → In q xs → In q (xs ++ ys)
-in_front [] ys q there = absurd there
-in_front (x ∷ xs) ys q (inl is) = inl is
-in_front (x ∷ xs) ys q (inr more) = inr (in_front xs ys q more)
-
-in_rear : (xs ys : List Pair) (q : Pair) → In q ys → In q (xs ++ ys)
-in_rear [] ys q there = there
-in_rear (x ∷ xs) ys q there = inr (in_rear xs ys q there)
-
-in_either : (xs ys : List Pair) (q : Pair) → In q (xs ++ ys) → In q xs ⊎ In q ys
-in_either [] ys q there = inr there
-in_either (x ∷ xs) ys q (inl is) = inl (inl is)
-in_either (x ∷ xs) ys q (inr more) = elim (in_either xs ys q more) [ inl front ↦ inl (inr front) | inr rear ↦ inr rear ]
 
 order_front : (xs ys : List Pair) → IsAscending (xs ++ ys) → IsAscending xs
 order_front [] ys order = tt
@@ -114,10 +100,6 @@ module _ (front b rest c : List Pair) (x : Pair) (order : IsAscending (front ++ 
 
 -- The last pair of a block.
 
-last_got : (q : Pair) (qs : List Pair) → slice_get (q ∷ qs) (length qs) ≡ Some (last_of q qs)
-last_got q [] = refl
-last_got q (r ∷ rs) = last_got r rs
-
 pub ends_at : (of number : ℕ) (too : Bool) (ps : List Pair) (p : Pair) → Some p ≡ slice_get ps (length ps - 1)
     → is_before of number too p ≡ ends_before of number too ps
 ends_at of number too [] p e = absurd cc
@@ -126,10 +108,6 @@ ends_at of number too (q ∷ qs) p e =
     let same : Some p ≡ Some (last_of q qs) = e ∙ (ap (slice_get (q ∷ qs)) last ∙ last_got q qs) in
     let is : p ≡ last_of q qs = cc in
     ap (is_before of number too) is
-
-last_among : (p : Pair) (ps : List Pair) → In (last_of p ps) (p ∷ ps)
-last_among p [] = inl refl
-last_among p (q ∷ qs) = inr (last_among q qs)
 
 to_last : (p : Pair) (ps : List Pair) (q : Pair) → IsAscending (p ∷ ps) → In q (p ∷ ps) → (q ≡ last_of p ps) ⊎ Precedes q (last_of p ps)
 to_last p [] q order (inl is) = inl is
@@ -142,11 +120,6 @@ all_before of number too [] q order e there = absurd there
 all_before of number too (p ∷ ps) q order e there =
     elim (to_last p ps q order there) [ inl is ↦ ap (is_before of number too) is ∙ e | inr less ↦ stays_before q (last_of p ps) (pair_of of number) too less e ]
 
-in_flat : (bs : List (List Pair)) (c : List Pair) (q : Pair) → In c bs → In q c → In q (flat bs)
-in_flat [] c q there in_c = absurd there
-in_flat (b ∷ bs) c q (inl is) in_c = in_front b (flat bs) q (subst (λ (d : List Pair). In q d) is in_c)
-in_flat (b ∷ bs) c q (inr more) in_c = in_rear b (flat bs) q (in_flat bs c q more in_c)
-
 pub ordered_rest : (b : List Pair) (bs : List (List Pair)) → AreOrdered (b ∷ bs) → AreOrdered bs
 ordered_rest b bs is = (order_rear b (flat bs) is.0, (λ c there. is.1 c (inr there)))
 
@@ -158,67 +131,12 @@ ends_so of number too (p ∷ ps) bs (r ∷ rs) is in_c e =
     stays_before (last_of p ps) (last_of r rs) (pair_of of number) too
     (order_across (p ∷ ps) (flat bs) is.0 (last_of p ps) (last_of r rs) (last_among p ps) (in_flat bs (r ∷ rs) (last_of r rs) in_c (last_among r rs))) e
 
-block_in : (bs : List (List Pair)) (i : ℕ) (d : List Pair) → i < length bs → In (get_or bs i d) bs
-block_in [] i d less = absurd (omega arith)
-block_in (b ∷ bs) zero d less = inl refl
-block_in (b ∷ bs) (suc i) d less = inr (block_in bs i d (omega arith))
-
 pub blocks_parted : (bs : List (List Pair)) (of number : ℕ) (too : Bool) → AreOrdered bs → IsPartitionedBy (ends_before of number too) bs
 blocks_parted [] of number too is i j d le within e = absurd (omega arith)
 blocks_parted (b ∷ bs) of number too is zero zero d le within e = e
 blocks_parted (b ∷ bs) of number too is zero (suc j) d le within e = ends_so of number too b bs (get_or bs j d) is (block_in bs j d (omega arith)) e
 blocks_parted (b ∷ bs) of number too is (suc i) zero d le within e = absurd (omega arith)
 blocks_parted (b ∷ bs) of number too is (suc i) (suc j) d le within e = blocks_parted bs of number too (ordered_rest b bs is) i j d (omega arith) (omega arith) e
-
--- What stands round a block.
-
-pub around : (bs : List (List Pair)) (i : ℕ) (b : List Pair) → i < length bs → b ≡ get_or bs i b → flat bs ≡ front_of bs i ++ (b ++ rest_of bs i)
-around [] i b less is = absurd (omega arith)
-around (c ∷ bs) zero b less is = ap (λ (d : List Pair). d ++ flat bs) (sym is)
-around (c ∷ bs) (suc i) b less is =
-    ap (λ (ps : List Pair). c ++ ps) (around bs i b (omega arith) is) ∙ sym (append_assoc c (front_of bs i) (b ++ rest_of bs i))
-
-pub set_around : (bs : List (List Pair)) (i : ℕ) (b : List Pair) → i < length bs → flat (set bs i b) ≡ front_of bs i ++ (b ++ rest_of bs i)
-set_around [] i b less = absurd (omega arith)
-set_around (c ∷ bs) zero b less = refl
-set_around (c ∷ bs) (suc i) b less = ap (λ (ps : List Pair). c ++ ps) (set_around bs i b (omega arith)) ∙ sym (append_assoc c (front_of bs i) (b ++ rest_of bs i))
-
-insert_first : (bs : List (List Pair)) (t : List Pair) → insert bs 0 t ≡ t ∷ bs
-insert_first [] t = refl
-insert_first (b ∷ bs) t = refl
-
-pub added_around : (bs : List (List Pair)) (i : ℕ) (b t : List Pair) → i < length bs
-    → flat (insert (set bs i b) (suc i) t) ≡ front_of bs i ++ ((b ++ t) ++ rest_of bs i)
-added_around [] i b t less = absurd (omega arith)
-added_around (c ∷ bs) zero b t less = ap (λ (ds : List (List Pair)). b ++ flat ds) (insert_first bs t) ∙ sym (append_assoc b t (flat bs))
-added_around (c ∷ bs) (suc i) b t less =
-    ap (λ (ps : List Pair). c ++ ps) (added_around bs i b t (omega arith)) ∙ sym (append_assoc c (front_of bs i) ((b ++ t) ++ rest_of bs i))
-
-remove_first : (b : List Pair) (bs : List (List Pair)) → remove (b ∷ bs) 0 ≡ bs
-remove_first b [] = refl
-remove_first b (c ∷ bs) = refl
-
-pub removed_around : (bs : List (List Pair)) (i : ℕ) → i < length bs → flat (remove bs i) ≡ front_of bs i ++ rest_of bs i
-removed_around [] i less = absurd (omega arith)
-removed_around (c ∷ bs) zero less = ap flat (remove_first c bs)
-removed_around (c ∷ bs) (suc i) less = ap (λ (ps : List Pair). c ++ ps) (removed_around bs i (omega arith)) ∙ sym (append_assoc c (front_of bs i) (rest_of bs i))
-
-pub front_set : (bs : List (List Pair)) (i : ℕ) (b : List Pair) → front_of (set bs i b) i ≡ front_of bs i
-front_set [] i b = refl
-front_set (c ∷ bs) zero b = refl
-front_set (c ∷ bs) (suc i) b = ap (λ (ps : List Pair). c ++ ps) (front_set bs i b)
-
-pub rest_set : (bs : List (List Pair)) (i : ℕ) (b : List Pair) → rest_of (set bs i b) i ≡ rest_of bs i
-rest_set [] i b = refl
-rest_set (c ∷ bs) zero b = refl
-rest_set (c ∷ bs) (suc i) b = rest_set bs i b
-
-pub in_set : (bs : List (List Pair)) (i : ℕ) (b d : List Pair) → In d (set bs i b) → (d ≡ b) ⊎ In d bs
-in_set [] i b d there = inr there
-in_set (c ∷ bs) zero b d (inl is) = inl is
-in_set (c ∷ bs) zero b d (inr more) = inr (inr more)
-in_set (c ∷ bs) (suc i) b d (inl is) = inr (inl is)
-in_set (c ∷ bs) (suc i) b d (inr more) = elim (in_set bs i b d more) [ inl is ↦ inl is | inr there ↦ inr (inr there) ]
 
 -- Where a pair belongs.
 
@@ -289,15 +207,6 @@ next_there of after bs i b next is split less at found =
     (front_before of after true bs i is.0 (λ k d lt within. split.0 k d (omega arith) lt))
     (ap (ends_before of after true) at ∙ split.1 i b (omega arith) less) found)
 
-all_front : (bs : List (List Pair)) (i : ℕ) (q : Pair) → length bs ≤ i → In q (flat bs) → In q (front_of bs i)
-all_front [] i q le there = absurd there
-all_front (b ∷ bs) zero q le there = absurd (omega arith)
-all_front (b ∷ bs) (suc i) q le there =
-    elim (in_either b (flat bs) q there) [
-      | inl here ↦ in_front b (front_of bs i) q here
-      | inr more ↦ in_rear b (front_of bs i) q (all_front bs i q (omega arith) more)
-    ]
-
 pub next_nowhere : (of after : ℕ) (bs : List (List Pair)) (i : ℕ) → AreOrdered bs → BlocksAt of after true bs i → length bs ≤ i → IsNext (flat bs) of after None
 next_nowhere of after bs i is split le p there same =
     elim (cases_lt after p.number) [
@@ -366,17 +275,6 @@ place_here x bs i is split less other = record {
         above x b (rest_of bs i) (order_rear (front_of bs i) (b ++ rest_of bs i) (subst IsAscending round is.0))
         (λ p there. other p (subst (λ (ps : List Pair). In p ps) (sym round) (in_rear (front_of bs i) (b ++ rest_of bs i) p (in_front b (rest_of bs i) p there))))
         (ap (ends_before x.of x.number false) at ∙ split.1 i [] (omega arith) less)
-      where
-        same_block : (bs : List (List Pair)) (i : ℕ) (d e : List Pair) → i < length bs → get_or bs i d ≡ get_or bs i e
-        same_block [] i d e less = absurd (omega arith)
-        same_block (c ∷ bs) zero d e less = refl
-        same_block (c ∷ bs) (suc i) d e less = same_block bs i d e (omega arith)
-
-rest_last : (bs : List (List Pair)) (i : ℕ) → length bs ≤ suc i → rest_of bs i ≡ []
-rest_last [] i le = refl
-rest_last (b ∷ []) zero le = refl
-rest_last (b ∷ c ∷ bs) zero le = absurd (omega arith)
-rest_last (b ∷ bs) (suc i) le = rest_last bs i (omega arith)
 
 -- behind all, it belongs into the last
 pub place_last : (x : Pair) (bs : List (List Pair)) (i k : ℕ) → AreOrdered bs → BlocksAt x.of x.number false bs i → length bs ≤ i → length bs ≤ suc k → IsPlace bs x k
@@ -384,18 +282,6 @@ place_last x bs i k is split le last = record {
   below = below x bs k is.0 (λ j d lt within. split.0 j d (omega arith) (omega arith));
   above = λ q there. absurd (subst (λ (ps : List Pair). In q ps) (rest_last bs k last) there);
 }
-
--- The block at a place.
-
-pub got_block : (bs : List (List Pair)) (i : ℕ) (b : List Pair) → slice_get bs i ≡ Some b → (i < length bs) × (b ≡ get_or bs i b)
-got_block [] i b e = absurd cc
-got_block (c ∷ bs) zero b e = let same : c ≡ b = cc in (omega arith, sym same)
-got_block (c ∷ bs) (suc i) b e = let rest = got_block bs i b e in let less = rest.0 in (omega arith, rest.1)
-
-pub no_block : (bs : List (List Pair)) (i : ℕ) → slice_get bs i ≡ None → length bs ≤ i
-no_block [] i e = omega arith
-no_block (c ∷ bs) zero e = absurd (let bad : Some c ≡ None = e in cc)
-no_block (c ∷ bs) (suc i) e = let le = no_block bs i e in omega arith
 
 -- What each change leaves.
 
@@ -467,11 +353,6 @@ take_plain bs i b c x is less at there taken some =
       ordered = (has.order, (λ d in_d. elim (in_set bs i c d in_d) [ inl same ↦ (λ none. some (sym same ∙ none)) | inr old ↦ is.1 d old ]));
     }
 
-removed_set : (bs : List (List Pair)) (i : ℕ) (b : List Pair) → remove (set bs i b) i ≡ remove bs i
-removed_set [] i b = refl
-removed_set (c ∷ bs) zero b = remove_first b bs ∙ sym (remove_first c bs)
-removed_set (c ∷ bs) (suc i) b = ap (λ (ds : List (List Pair)). c ∷ ds) (removed_set bs i b)
-
 pub take_empty : (bs cs : List (List Pair)) (i : ℕ) (b c : List Pair) (x : Pair) → AreOrdered bs → i < length bs → b ≡ get_or bs i b → In x b
     → HasTaken b x c → c ≡ [] → cs ≡ remove (set bs i c) i → TakenIn bs cs x
 take_empty bs cs i b c x is less at there taken none made =
@@ -491,28 +372,3 @@ block_order bs i b is less at =
 pub block_pairs : (bs : List (List Pair)) (i : ℕ) (b : List Pair) (q : Pair) → i < length bs → b ≡ get_or bs i b → In q b → In q (flat bs)
 block_pairs bs i b q less at there =
     subst (λ (ps : List Pair). In q ps) (sym (around bs i b less at)) (in_rear (front_of bs i) (b ++ rest_of bs i) q (in_front b (rest_of bs i) q there))
-
--- room stays room
-pub room_kept : (o : Option (List Pair)) (n m room more : ℕ) → IfSome o (λ s. (s ≡ []) × (n < room)) → m ≤ n → more ≡ room → IfSome o (λ s. (s ≡ []) × (m < more))
-room_kept None n m room more is le same = tt
-room_kept (Some s) n m room more is le same = let less = is.1 in (is.0, omega arith)
-
--- blocks from which pairs went, without those that are empty now
-module _ {S : Type 0} (R : S → List Pair → Bool → S → List Pair → Type 0) (f : S) (keep : Pair → Bool)
-    (step : (b : List Pair) (stays : Bool) (t : S) (c : List Pair) → R f b stays t c
-    → (c ≡ filter keep b) × (stays ≡ true → c ≢ []) × (stays ≡ false → c ≡ []) × (t ≡ f)) where
-  pub kept_in : (bs cs : List (List Pair)) → RetainsInTurn R f bs cs → (flat cs ≡ filter keep (flat bs)) × ((c : List Pair) → In c cs → c ≢ [])
-  kept_in [] cs told = subst (λ (ds : List (List Pair)). (flat ds ≡ []) × ((c : List Pair) → In c ds → c ≢ [])) (sym told) (refl, (λ c there. absurd there))
-  kept_in (x ∷ xs) cs (stays, t, y, called, zs, rest, left) =
-      let made = step x stays t y called in
-      let more = kept_in xs zs (subst (λ (u : S). RetainsInTurn R u xs zs) made.3 rest) in
-      let all : y ++ flat zs ≡ filter keep (x ++ flat xs) = ap (λ (ps : List Pair). ps ++ flat zs) made.0
-      ∙ (ap (λ (ps : List Pair). filter keep x ++ ps) more.0 ∙ sym (filter-append keep x (flat xs))) in
-      elim (cases_Bool stays) [
-        | inl stayed ↦ (let is : cs ≡ y ∷ zs = left ∙ ap (λ (v : Bool). cond v (y ∷ zs) zs) stayed in
-            subst (λ (ds : List (List Pair)). (flat ds ≡ filter keep (x ++ flat xs)) × ((c : List Pair) → In c ds → c ≢ [])) (sym is)
-            (all, (λ c there. elim there [ inl e ↦ (λ none. made.1 stayed (sym e ∙ none)) | inr later ↦ more.1 c later ])))
-        | inr went ↦ (let is : cs ≡ zs = left ∙ ap (λ (v : Bool). cond v (y ∷ zs) zs) went in
-            subst (λ (ds : List (List Pair)). (flat ds ≡ filter keep (x ++ flat xs)) × ((c : List Pair) → In c ds → c ≢ [])) (sym is)
-            (ap (λ (ps : List Pair). ps ++ flat zs) (sym (made.2 went)) ∙ all, more.1))
-      ]

@@ -10,7 +10,7 @@ use Rattle.std.proofs.lemmas.Bool.{cases_eq, ne_eqb, eq-eqb}
 use Rattle.std.proofs.lemmas.Bool.Decides.{nat_tests}
 use Rattle.nfs_ranges.specs.declared.Kind.{Kind}
 use Rattle.nfs_ranges.specs.Holders.{Holders, LockedBytes, at, nobody, cleared, dropped, holds_any, least}
-use Rattle.nfs_ranges.specs.Told.{Tells}
+use Rattle.nfs_ranges.specs.Facts.{Tells}
 use Rattle.nfs_opens.specs.Holding.{FileHolders, held_by, on_file}
 
 abbrev pub holders_of : Option LockedBytes → Holders

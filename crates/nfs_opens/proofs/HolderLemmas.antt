@@ -3,9 +3,9 @@ use Rattle.std.proofs.Common.{◌≡◌, ◌≢◌, ◌⊎◌, ℕ, Bool, true, 
 use Rattle.std.proofs.lemmas.Bool.{cases_Bool, cases_eq, and_parts, eq-eqb, ne_eqb, leb-true}
 use Rattle.nfs_ranges.specs.declared.Kind.{Kind}
 use Rattle.nfs_ranges.specs.declared.Kind.TheVariants.{Read, Write}
-use Rattle.nfs_ranges.specs.Intervals.{is_within}
-use Rattle.nfs_ranges.specs.Holders.{Holders}
-use Rattle.nfs_ranges.specs.Told.{meets, clashes, Tells}
+use Rattle.nfs_ranges.specs.Holders.{Holders, is_within}
+use Rattle.nfs_ranges.specs.Told.{meets, clashes}
+use Rattle.nfs_ranges.specs.Facts.{Tells}
 use Rattle.nfs_opens.specs.Holding.{HasNoClash}
 use Rattle.nfs_opens.specs.Laws.{SetKeeps}
 

@@ -8,7 +8,8 @@ use Rattle.nfs_xdr.proofs.Lists.{find_in, any_in}
 use Rattle.nfs_opens.specs.declared.index.Pair.{Pair}
 use Rattle.nfs_opens.specs.declared.records.OpenState.{OpenState}
 use Rattle.nfs_opens.specs.Index.{IsIndex}
-use Rattle.nfs_opens.specs.Table.{Table, Asked, IsTable, is_own, clashes_with}
+use Rattle.nfs_opens.specs.Table.{Table, Asked, is_own, clashes_with}
+use Rattle.nfs_opens.specs.Kept.{IsTable}
 use Rattle.nfs_opens.proofs.IndexLemmas.{index_changed, find_begun, any_begun, find_done, any_done, find_hit, find_missed, any_missed, come_bounds}
 
 pub opens_changed : (of : OpenState → ℕ) (f : OpenState → OpenState) (n : ℕ) (xs ys : List OpenState) (ps : List Pair)

@@ -1,10 +1,12 @@
 pub mod BlockLemmas
 pub mod FileLemmas
+pub mod FlatLemmas
 pub mod HolderLemmas
 pub mod IndexLemmas
 pub mod IndexedLemmas
 pub mod ShareLemmas
 pub mod TableLemmas
+pub mod NumberLemmas
 pub mod LockLemmas
 pub mod StepLemmas
 pub mod LockedLemmas

@@ -7,10 +7,10 @@ use Rattle.std.specs.List.{list_any}
 use Rattle.std.proofs.lemmas.Bool.{cases_Bool, cases_eq, cases_lt, eq-eqb, ne_eqb, eqb-true, and_parts, leb-true, false≢true}
 use Rattle.nfs_xdr.specs.declared.status.Status.{Status}
 use Rattle.nfs_ranges.specs.declared.Kind.{Kind}
-use Rattle.nfs_ranges.specs.Intervals.{is_within}
-use Rattle.nfs_ranges.specs.Holders.{Holders, holding, dropped, nobody, holds_any}
+use Rattle.nfs_ranges.specs.Holders.{Holders, holding, dropped, nobody, holds_any, is_within}
 use Rattle.nfs_ranges.specs.declared.Held.{Held}
-use Rattle.nfs_ranges.specs.Told.{Tells, told}
+use Rattle.nfs_ranges.specs.Told.{told}
+use Rattle.nfs_ranges.specs.Facts.{Tells}
 use Rattle.nfs_ranges.proofs.ToldLemmas.{told_is_unique, any_is_decided}
 use Rattle.nfs_xdr.specs.declared.status.Status.TheVariants.{BadStateId, OldStateId}
 use Rattle.nfs_opens.specs.declared.stateid.StateId.{StateId}
@@ -25,9 +25,11 @@ use Rattle.nfs_opens.specs.Holding.{FileHolders, on_file}
 use Rattle.nfs_xdr.specs.Tables.{In}
 use Rattle.nfs_xdr.proofs.Lists.{any_in, in_filter, stays_in, none_any, in_any, length_filter}
 use Rattle.nfs_xdr.proofs.Tables.{in_once}
-use Rattle.nfs_opens.specs.Table.{Table, open_at, lock_at, IsTable, IsHolder, AreHolders}
+use Rattle.nfs_opens.specs.Table.{Table, open_at, lock_at}
+use Rattle.nfs_opens.specs.Kept.{IsTable, IsHolder, AreHolders}
 use Rattle.nfs_opens.specs.declared.closing.Leaving.{Leaving}
-use Rattle.nfs_opens.specs.Closing.{stands, held_within, held_without, leaves}
+use Rattle.nfs_opens.specs.Closing.{stands, held_within}
+use Rattle.nfs_opens.specs.Calls.{held_without, leaves}
 use Rattle.nfs_opens.proofs.FileLemmas.{file_here, file_other, on_file_same}
 use Rattle.nfs_opens.proofs.HolderLemmas.{set_keeps}
 use Rattle.nfs_opens.proofs.TableLemmas.{KeepsBytes, holders_left}
@@ -268,12 +270,3 @@ pub left_holders : (t : Table) (w : Leaving) (after : List LockState) (held : Fi
 left_holders t w after held is a h =
     subst (λ (ls : List LockState). AreHolders ls held) (sym a)
     (subst (λ (k : FileHolders). AreHolders (filter (λ l. not (leaves w l)) t.locks) k) (sym (left_held t w held is h)) (holders_left t (λ l. not (leaves w l)) is))
-
-pub fewer_left : {X : Type 0} (p : X → Bool) (xs ys : List X) (room more : ℕ) → ys ≡ filter p xs → more ≡ room → length xs < room → length ys < more
-fewer_left p xs ys room more e same lt = let less = length_filter p xs in let is : length ys ≡ length (filter p xs) = ap length e in omega arith
-
-pub fewer_opens : (p : OpenState → Bool) (xs ys : List OpenState) (room more : ℕ) → ys ≡ filter p xs → more ≡ room → length xs < room → length ys < more
-fewer_opens = fewer_left
-
-pub as_many : (f : OpenState → OpenState) (xs ys : List OpenState) (room more : ℕ) → ys ≡ map f xs → more ≡ room → length xs < room → length ys < more
-as_many f xs ys room more e same lt = let is : length ys ≡ length xs = ap length e ∙ length-map xs f in omega arith

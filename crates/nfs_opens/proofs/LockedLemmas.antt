@@ -11,7 +11,8 @@ use Rattle.nfs_opens.specs.declared.records.OpenState.{OpenState}
 use Rattle.nfs_opens.specs.declared.records.LockState.{LockState}
 use Rattle.nfs_opens.specs.Holding.{held_by}
 use Rattle.nfs_opens.specs.Locking.{is_locker, raised}
-use Rattle.nfs_opens.specs.Table.{Table, IsTable, AreHolders, open_at}
+use Rattle.nfs_opens.specs.Table.{Table, open_at}
+use Rattle.nfs_opens.specs.Kept.{IsTable, AreHolders}
 use Rattle.nfs_opens.proofs.IndexLemmas.{find_begun, any_begun, find_done, any_done, find_hit, find_missed, any_missed, come_bounds, index_changed}
 use Rattle.nfs_opens.specs.declared.index.Pair.{Pair}
 use Rattle.nfs_opens.specs.Index.{IsIndex}

@@ -7,7 +7,8 @@ use Rattle.std.proofs.lemmas.Bool.{eqb-true, cases_eq, cases_lt, eq-eqb, ne_eqb,
 use Rattle.nfs_ranges.specs.declared.Held.{Held}
 use Rattle.nfs_ranges.specs.Holders.{Holders, holding, cleared, dropped, holds_any}
 use Rattle.nfs_ranges.specs.declared.Kind.{Kind}
-use Rattle.nfs_ranges.specs.Told.{Tells, IsBelow, meets}
+use Rattle.nfs_ranges.specs.Told.{meets}
+use Rattle.nfs_ranges.specs.Facts.{Tells, IsBelow}
 use Rattle.nfs_opens.specs.declared.share.Share.{Share}
 use Rattle.nfs_opens.specs.declared.records.OpenState.{OpenState}
 use Rattle.nfs_opens.specs.declared.records.LockState.{LockState}
@@ -18,9 +19,10 @@ use Rattle.nfs_xdr.specs.declared.status.Status.TheVariants.{OpenMode, ShareDeni
 use Rattle.nfs_xdr.specs.declared.status.Status.{Status}
 use Rattle.nfs_xdr.proofs.Lists.{find_in, in_push, push_in, last_in}
 use Rattle.nfs_xdr.proofs.Tables.{IsRising-push, in_once, IsRising-upto, in_bounds}
-use Rattle.nfs_opens.specs.Holding.{FileHolders, on_file, HasNoByteBehind, HasNoClash}
+use Rattle.nfs_opens.specs.Holding.{FileHolders, on_file, HasNoClash}
+use Rattle.nfs_opens.specs.Kept.{HasNoByteBehind, IsTable, IsHolder}
 use Rattle.nfs_opens.specs.StateId.{next_seqid, last_number}
-use Rattle.nfs_opens.specs.Table.{Table, open_at, lock_at, with_open, with_lock, Asked, is_own, clashes_with, IsTable, IsHolder}
+use Rattle.nfs_opens.specs.Table.{Table, open_at, lock_at, with_open, with_lock, Asked, is_own, clashes_with}
 use Rattle.nfs_opens.specs.Closing.{without_lock}
 use Rattle.nfs_opens.specs.Locking.{permits, clash, unless_told, lock_judged, lock_as, lock_first, lock_more, lock_new, does_if, raised}
 use Rattle.nfs_opens.proofs.TableLemmas.{KeepsBytes, table_raised, clears_bytes, table_freed, table_narrowed, table_joined, on_each}

@@ -1,30 +1,22 @@
 -- How an index lies: in blocks, each with pairs that stand next to each other (RFC 8881 sections 8.3 and 9.7: states of one client and of one file).
-use Rattle.std.specs.Prelude.{◌≡◌, ◌≢◌, ℕ, zero, suc, ◌<◌, ◌==◌, Bool, true, length, List, [], ◌∷◌, ◌++◌, Option, Some, None, IfSome}
+use Rattle.std.specs.Prelude.{◌≡◌, ◌≢◌, ℕ, ◌<◌, ◌==◌, Bool, true, length, List, [], ◌∷◌, Option, Some, None, IfSome}
 use Rattle.nfs_xdr.specs.Tables.{In}
 use Rattle.nfs_opens.specs.declared.index.Pair.{Pair}
 use Rattle.nfs_opens.specs.declared.closing.Going.{Going}
 use Rattle.nfs_opens.specs.declared.closing.Going.TheVariants.{Locks, Opens, Owned}
 use Rattle.nfs_opens.specs.Index.{Precedes, IsAscending, is_before, marked}
-use Rattle.nfs_opens.specs.Table.{Rises}
-use Rattle.nfs_opens.specs.Closing.{leaves}
+use Rattle.nfs_opens.specs.Flat.{flat, last_of, front_of, rest_of}
+use Rattle.nfs_opens.specs.Kept.{Rises}
+use Rattle.nfs_opens.specs.Calls.{leaves}
 
 -- the pairs, and whether there is room for one more
 pub record Listed : Type 0 where
   pub items : List Pair
   pub ready : Bool
 
--- the pairs of one block behind those of the other
-abbrev pub flat : List (List Pair) → List Pair
-flat [] = []
-flat (b ∷ bs) = b ++ flat bs
-
 abbrev pub pairs_in : Option (List Pair) → List Pair
 pairs_in None = []
 pairs_in (Some b) = b
-
-abbrev pub last_of : Pair → List Pair → Pair
-last_of p [] = p
-last_of p (q ∷ qs) = last_of q qs
 
 -- no pair of the block stands behind that of a number
 abbrev pub ends_before : ℕ → ℕ → Bool → List Pair → Bool
@@ -33,17 +25,6 @@ ends_before of number too (p ∷ ps) = is_before of number too (last_of p ps)
 
 abbrev pub AreOrdered : List (List Pair) → Type 0
 AreOrdered bs = IsAscending (flat bs) × ((b : List Pair) → In b bs → b ≢ [])
-
--- what stands before the block at a place, and what behind it
-abbrev pub front_of : List (List Pair) → ℕ → List Pair
-front_of [] i = []
-front_of (b ∷ bs) zero = []
-front_of (b ∷ bs) (suc i) = b ++ front_of bs i
-
-abbrev pub rest_of : List (List Pair) → ℕ → List Pair
-rest_of [] i = []
-rest_of (b ∷ bs) zero = flat bs
-rest_of (b ∷ bs) (suc i) = rest_of bs i
 
 -- a pair belongs into the block at a place
 pub record IsPlace (bs : List (List Pair)) (x : Pair) (i : ℕ) : Type 0 where
@@ -58,11 +39,11 @@ pub record AreBlocks (bs : List (List Pair)) (capacity : ℕ) (spare : Option (L
 -- which pairs go: those of lock states that leave, those of a client's opens, and those that belong to a client
 abbrev pub goes : Going → Pair → Bool
 goes (Locks locks w) p = marked (λ l. l.number) (leaves w) locks.now p.number
-goes (Opens opens client) p = marked (λ o. o.number) (λ o. o.client == client) opens.now p.number
+goes (Opens opens client) p = marked (λ o. o.number) (λ o. o.client == client) opens.now.items p.number
 goes (Owned client) p = p.of == client
 
--- the states among which a pair's is looked for rise
+-- the lock states among which a pair's is looked for rise
 abbrev pub IsSearched : Going → Type 0
 IsSearched (Locks locks w) = Rises (λ l. l.number) 1 locks.now
-IsSearched (Opens opens client) = Rises (λ o. o.number) 1 opens.now
+IsSearched (Opens opens client) = Unit {0}
 IsSearched (Owned client) = Unit {0}

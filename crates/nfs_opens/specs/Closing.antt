@@ -1,18 +1,15 @@
--- CLOSE, the end of a client, and FREE_STATEID (RFC 8881 sections 18.2, 8.4.2 and 18.38).
-use Rattle.std.specs.Prelude.{ℕ, ◌==◌, Bool, not, List, [], ◌∷◌, Option, Some, None, Result, Ok, Err, filter, find, if◌then◌else◌}
+-- CLOSE and FREE_STATEID (RFC 8881 sections 18.2 and 18.38).
+use Rattle.std.specs.Prelude.{ℕ, ◌==◌, Bool, not, List, Option, Some, None, Result, Ok, Err, filter, if◌then◌else◌}
 use Rattle.std.specs.List.{list_any}
 use Rattle.nfs_xdr.specs.declared.status.Status.{Status}
 use Rattle.nfs_xdr.specs.declared.status.Status.TheVariants.{BadStateId, LocksHeld}
-use Rattle.nfs_ranges.specs.Holders.{holds_any, dropped}
+use Rattle.nfs_ranges.specs.Holders.{holds_any}
 use Rattle.nfs_opens.specs.declared.stateid.StateId.{StateId}
-use Rattle.nfs_opens.specs.declared.records.OpenState.{OpenState}
 use Rattle.nfs_opens.specs.declared.records.LockState.{LockState}
-use Rattle.nfs_opens.specs.declared.closing.Leaving.{Leaving}
-use Rattle.nfs_opens.specs.declared.closing.Leaving.TheVariants.{Under, Of}
 use Rattle.nfs_opens.specs.declared.judging.Seat.{Seat}
 use Rattle.nfs_opens.specs.declared.judging.Seat.TheVariants.{Anonymous, ReadBypass, Open, Lock}
 use Rattle.nfs_opens.specs.declared.judging.Sort.TheVariants.{OpenOnly, Either}
-use Rattle.nfs_opens.specs.Holding.{FileHolders, on_file}
+use Rattle.nfs_opens.specs.Holding.{FileHolders}
 use Rattle.nfs_opens.specs.Table.{Table, Did, lock_at}
 use Rattle.nfs_opens.specs.Judging.{judge}
 
@@ -22,16 +19,6 @@ stands locks s = list_any (λ l. l.number == s) locks
 -- the bytes of the lock states that stand
 abbrev pub held_within : List LockState → FileHolders → FileHolders
 held_within locks held f s b = if stands locks s then held f s b else None
-
--- which lock states leave: those under an open, or a client's
-abbrev pub leaves : Leaving → LockState → Bool
-leaves (Under n) l = l.opened == n
-leaves (Of client) l = l.client == client
-
--- one lock state after the other, of those that leave, gives up its bytes
-abbrev pub held_without : Leaving → List LockState → FileHolders → FileHolders
-held_without w [] held = held
-held_without w (l ∷ locks) held = held_without w locks (if leaves w l then on_file held l.file (λ h. dropped h l.number) else held)
 
 -- an open goes, with its lock states and their bytes
 abbrev pub not_under : ℕ → LockState → Bool
@@ -44,32 +31,12 @@ without_open t n = record t {
   held = held_within (filter (not_under n) t.locks) t.held;
 }
 
--- a client ends: its opens go, with its lock states and their bytes
-abbrev pub without_client : Table → ℕ → Table
-without_client t client = record t {
-  opens = filter (λ o. not (o.client == client)) t.opens;
-  locks = filter (λ l. not (l.client == client)) t.locks;
-  held = held_within (filter (λ l. not (l.client == client)) t.locks) t.held;
-}
-
 abbrev pub close_by : Table → ℕ → Result Seat Status → Did (Unit {0}) Status
 close_by t n (Err status) = record { answer = Err status; after = t }
 close_by t n (Ok seat) = record { answer = Ok tt; after = without_open t n }
 
 abbrev pub close : Table → StateId → ℕ → ℕ → Did (Unit {0}) Status
 close t id client file = close_by t id.number (judge t id client (Some file) OpenOnly)
-
--- one open of a client goes: its file, and the table after it
-pub record Dropped : Type 0 where
-  pub file : Option ℕ
-  pub after : Table
-
-abbrev pub drop_open : Table → Option OpenState → Dropped
-drop_open t None = record { file = None; after = t }
-drop_open t (Some o) = record { file = Some o.file; after = without_open t o.number }
-
-abbrev pub drop_client : Table → ℕ → Dropped
-drop_client t client = drop_open t (find (λ o. o.client == client) t.opens)
 
 -- a lock state goes
 abbrev pub without_lock : Table → ℕ → Table

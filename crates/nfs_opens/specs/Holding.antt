@@ -1,5 +1,5 @@
 -- The locked bytes of all files: of each file who holds which byte, and how (RFC 8881 section 9.1).
-use Rattle.std.specs.Prelude.{◌≡◌, ◌≢◌, ℕ, ◌≤◌, ◌^◌, ◌==◌, List, [], ◌∷◌, Some, None, if◌then◌else◌}
+use Rattle.std.specs.Prelude.{◌≡◌, ◌≢◌, ℕ, ◌==◌, List, [], ◌∷◌, Some, None, if◌then◌else◌}
 use Rattle.nfs_ranges.specs.declared.Kind.TheVariants.{Write}
 use Rattle.nfs_ranges.specs.Holders.{Holders, LockedBytes, at, nobody}
 
@@ -22,7 +22,3 @@ on_file held file change f = if f == file then change (held f) else held f
 -- no byte has a writer beside another holder
 abbrev pub HasNoClash : Holders → Type 0
 HasNoClash h = (s t b : ℕ) → s ≢ t → h s b ≡ Some Write → h t b ≡ None
-
--- no byte from 2^64 on is held
-abbrev pub HasNoByteBehind : Holders → Type 0
-HasNoByteBehind h = (s b : ℕ) → 2 ^ 64 ≤ b → h s b ≡ None

@@ -2,7 +2,7 @@
 use Rattle.std.specs.Prelude.{ℕ, None}
 use Rattle.nfs_ranges.specs.declared.Kind.{Kind}
 use Rattle.nfs_ranges.specs.Holders.{Holders, holding}
-use Rattle.nfs_ranges.specs.Told.{Tells}
+use Rattle.nfs_ranges.specs.Facts.{Tells}
 use Rattle.nfs_opens.specs.Holding.{HasNoClash}
 
 -- a lock that meets no clash brings none

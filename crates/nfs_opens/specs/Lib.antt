@@ -1,5 +1,7 @@
 pub mod Blocks
+pub mod ByNumber
 pub mod Closing
+pub mod Flat
 pub mod Holding
 pub mod Index
 pub mod Judging
@@ -9,3 +11,5 @@ pub mod Opening
 pub mod Share
 pub mod StateId
 pub mod Table
+pub mod Calls
+pub mod Kept

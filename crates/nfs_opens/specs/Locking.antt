@@ -1,6 +1,5 @@
 -- LOCK, LOCKT and LOCKU (RFC 8881 sections 18.10 to 18.12).
-use Rattle.std.specs.Prelude.{◌≡◌, ℕ, ◌+◌, ◌==◌, suc, Bool, not, ◌&&◌, List, [], ◌∷◌, ◌++◌, Option, Some, None, Result, Ok, Err, IsOk, find, bytes_eq}
-use Rattle.std.specs.Prelude.{if◌then◌else◌, IsTrue}
+use Rattle.std.specs.Prelude.{ℕ, ◌+◌, ◌==◌, suc, Bool, ◌&&◌, List, [], ◌∷◌, ◌++◌, Option, Some, None, Result, Ok, Err, find, bytes_eq, if◌then◌else◌}
 use Rattle.nfs_xdr.specs.declared.status.Status.{Status}
 use Rattle.nfs_xdr.specs.declared.status.Status.TheVariants.{BadStateId, OpenMode, ServerFault}
 use Rattle.nfs_ranges.specs.declared.Kind.{Kind}
@@ -13,12 +12,10 @@ use Rattle.nfs_opens.specs.declared.stateid.StateId.{StateId}
 use Rattle.nfs_opens.specs.declared.records.LockState.{LockState}
 use Rattle.nfs_opens.specs.declared.judging.Seat.{Seat}
 use Rattle.nfs_opens.specs.declared.judging.Seat.TheVariants.{Open, Lock}
-use Rattle.nfs_opens.specs.declared.judging.Sort.TheVariants.{OpenOnly, LockOnly}
+use Rattle.nfs_opens.specs.declared.judging.Sort.TheVariants.{LockOnly}
 use Rattle.nfs_opens.specs.declared.locking.Wish.{Wish}
-use Rattle.nfs_opens.specs.declared.locking.Locker.{Locker}
-use Rattle.nfs_opens.specs.declared.locking.Locker.TheVariants.{New, Known}
 use Rattle.nfs_opens.specs.declared.locking.OpenFault.{OpenFault}
-use Rattle.nfs_opens.specs.declared.locking.OpenFault.TheVariants.{Refused, Denied, Memory}
+use Rattle.nfs_opens.specs.declared.locking.OpenFault.TheVariants.{Refused, Denied}
 use Rattle.nfs_opens.specs.Share.{neither}
 use Rattle.nfs_opens.specs.StateId.{next_seqid, last_number}
 use Rattle.nfs_opens.specs.Holding.{on_file}
@@ -115,15 +112,6 @@ abbrev pub lock_known : Table → Wish → ℕ → Result Seat Status → Did St
 lock_known t w state (Err status) = lock_refused t (Refused status)
 lock_known t w state (Ok seat) = lock_as t w state (access_in seat)
 
-abbrev pub lock : Table → Locker → Wish → Did StateId OpenFault
-lock t (New under owner) w = lock_under t w under.number owner.now (judge t under w.client (Some w.file) OpenOnly)
-lock t (Known state) w = lock_known t w state.number (judge t state w.client (Some w.file) LockOnly)
-
--- the call does what is said; or it wants memory where it would have been granted, and changes nothing
-abbrev pub LocksOrWants : Table → Did StateId OpenFault → Result StateId OpenFault → Table → Type 0
-LocksOrWants old did (Err Memory) new = IsOk did.answer × (new ≡ old)
-LocksOrWants old did answer new = (answer ≡ did.answer) × (new ≡ did.after)
-
 -- LOCKU: the lock state holds none of the bytes, and its seqid rises
 abbrev pub clear_lock : Table → ℕ → ℕ → ℕ → ℕ → Option LockState → Did StateId OpenFault
 clear_lock t n file first last None = lock_refused t (Refused BadStateId)
@@ -138,11 +126,3 @@ unlock_by t n file first last (Ok seat) = clear_lock t n file first last (lock_a
 
 abbrev pub unlock : Table → StateId → ℕ → ℕ → ℕ → ℕ → Did StateId OpenFault
 unlock t state client file first last = unlock_by t state.number file first last (judge t state client (Some file) LockOnly)
-
--- the bytes of a whole file, which are given up without memory
-abbrev pub is_whole : ℕ → ℕ → Bool
-is_whole first last = (first == 0) && (last == 0xffff_ffff_ffff_ffff)
-
-abbrev pub UnlocksOrWants : Table → Bool → Did StateId OpenFault → Result StateId OpenFault → Table → Type 0
-UnlocksOrWants old whole did (Err Memory) new = IsTrue (not whole) × IsOk did.answer × (new ≡ old)
-UnlocksOrWants old whole did answer new = (answer ≡ did.answer) × (new ≡ did.after)

@@ -1,37 +1,20 @@
 -- OPEN and OPEN_DOWNGRADE as far as they concern opens (RFC 8881 sections 18.16 and 18.18).
-use Rattle.std.specs.Prelude.{ℕ, ◌+◌, ◌==◌, Bool, not, ◌&&◌, List, [], ◌∷◌, ◌++◌, Option, Some, None, is_none, Result, Ok, Err, find}
-use Rattle.std.specs.Prelude.{if◌then◌else◌}
-use Rattle.std.specs.List.{list_any}
-use Rattle.nfs_xdr.specs.Checks.{first_fault}
+use Rattle.std.specs.Prelude.{ℕ, ◌+◌, Bool, not, ◌&&◌, [], ◌∷◌, ◌++◌, Option, Some, None, Result, Ok, Err, find, if◌then◌else◌}
 use Rattle.nfs_xdr.specs.declared.status.Status.{Status}
-use Rattle.nfs_xdr.specs.declared.status.Status.TheVariants.{BadStateId, ShareDenied, ServerFault, Inval}
+use Rattle.nfs_xdr.specs.declared.status.Status.TheVariants.{BadStateId, Inval}
 use Rattle.nfs_opens.specs.declared.share.Share.{Share}
 use Rattle.nfs_opens.specs.declared.stateid.StateId.{StateId}
 use Rattle.nfs_opens.specs.declared.records.OpenState.{OpenState}
-use Rattle.nfs_opens.specs.declared.opening.Ask.{Ask}
 use Rattle.nfs_opens.specs.declared.judging.Seat.{Seat}
 use Rattle.nfs_opens.specs.declared.judging.Sort.TheVariants.{OpenOnly}
 use Rattle.nfs_opens.specs.Share.{joined, is_part, is_neither}
-use Rattle.nfs_opens.specs.StateId.{next_seqid, last_number}
-use Rattle.nfs_opens.specs.Table.{Table, Did, Asked, is_own, clashes_with, open_at, with_open}
+use Rattle.nfs_opens.specs.StateId.{next_seqid}
+use Rattle.nfs_opens.specs.Table.{Table, Did, Asked, is_own, open_at, with_open}
 use Rattle.nfs_opens.specs.Judging.{judge}
-
-abbrev pub asked : Ask → Asked
-asked a = record { client = a.client; owner = a.owner.now; file = a.file; access = a.access; deny = a.deny }
 
 -- the open that the owner has of the file
 abbrev pub own_open : Table → Asked → Option OpenState
 own_open t a = find (is_own a) t.opens
-
--- a share clash; and no number is left for a new open
-abbrev pub open_checks : Table → Asked → List (Bool × Status)
-open_checks t a =
-    (list_any (clashes_with a) t.opens, ShareDenied)
-    ∷ (is_none (own_open t a) && (t.last == last_number), ServerFault)
-    ∷ []
-
-abbrev pub open_fault : Table → Asked → Option Status
-open_fault t a = first_fault (open_checks t a)
 
 -- the owner's second open joins the bits and raises the seqid
 abbrev pub joins : Asked → OpenState → OpenState

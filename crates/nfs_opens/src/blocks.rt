@@ -4,7 +4,8 @@ ghost use Rattle.std.specs.Prelude.{◌≡◌, ◌≢◌, ◌+◌, ◌<◌, ◌�
 ghost use Rattle.std.specs.List.Sorted.{IsPartitionPoint};
 ghost use Rattle.nfs_xdr.specs.Tables.{In};
 ghost use Rattle.nfs_opens.specs.Index.{IsAscending, IsNext, HasPut, HasTaken};
-ghost use Rattle.nfs_opens.specs.Blocks.{flat, ends_before, AreOrdered, IsPlace, pairs_in, goes, IsSearched};
+ghost use Rattle.nfs_opens.specs.Flat.{flat};
+ghost use Rattle.nfs_opens.specs.Blocks.{ends_before, AreOrdered, IsPlace, pairs_in, goes, IsSearched};
 
 use crate::closing::Going;
 use crate::index::{Pair, next_in, put, take};
@@ -145,7 +146,8 @@ pub(crate) struct Index {
 
 impl Model for Index {
     ghost use Rattle.std.specs.Prelude.{vec_capacity, is_some};
-    ghost use Rattle.nfs_opens.specs.Blocks.{Listed, flat, AreBlocks};
+    ghost use Rattle.nfs_opens.specs.Flat.{flat};
+    ghost use Rattle.nfs_opens.specs.Blocks.{Listed, AreBlocks};
 
     ghost Value = { Listed };
 

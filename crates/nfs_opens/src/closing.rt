@@ -3,19 +3,20 @@
 ghost use Rattle.std.specs.Prelude.{◌≡◌, ◌≤◌, ◌==◌, ◌&&◌, false, not, filter, find, length, vec_capacity};
 ghost use Rattle.std.specs.List.{list_any};
 ghost use Rattle.nfs_opens.specs.Holding.{held_by};
-ghost use Rattle.nfs_opens.specs.Table.{table, lock_at, AreHolders, IsTable, Rises};
+ghost use Rattle.nfs_opens.specs.Table.{table, lock_at};
+ghost use Rattle.nfs_opens.specs.Kept.{AreHolders, IsTable, Rises};
 ghost use Rattle.nfs_opens.specs.Blocks.{goes, IsSearched};
 ghost use Rattle.nfs_opens.specs.Index.{IsIndex, marked};
-ghost use Rattle.nfs_opens.specs.Closing.{leaves, without_open, without_client, close, drop_client, free_lock, free, held_without};
+ghost use Rattle.nfs_opens.specs.Closing.{without_open, close, free_lock, free};
+ghost use Rattle.nfs_opens.specs.Calls.{leaves, without_client, drop_client, held_without};
 
 use crate::blocks::Index;
+use crate::by_number::ByNumber;
 use crate::index::Pair;
 use crate::judging::{Seat, Sort};
 use crate::locked_files::LockedFiles;
 use crate::opens::Opens;
-use crate::records::{
-    LockState, OpenState, is_locked, lock_in, open_in, place_of_lock, place_of_open,
-};
+use crate::records::{LockState, is_locked, lock_in, place_of_lock};
 use crate::stateid::StateId;
 use nfs_xdr::Status;
 
@@ -45,7 +46,7 @@ pub(crate) enum Going<'a> {
     /// Those of lock states that leave.
     Locks(&'a [LockState], Leaving),
     /// Those of a client's opens.
-    Opens(&'a [OpenState], u64),
+    Opens(&'a ByNumber, u64),
     /// Those that belong to a client.
     Owned(u64),
 }
@@ -63,24 +64,14 @@ impl Going<'_> {
     }
 }
 
-fn drop_open(opens: &mut Vec<OpenState>, number: u64)
-    requires { Rises (λ o. o.number) 1 opens.old.items }
-    ensures items { opens.new.items ≡ filter (λ o. not (o.number == number)) opens.old.items }
-    ensures room { vec_capacity opens.new ≡ vec_capacity opens.old }
-{
-    if let Some(place) = place_of_open(opens, number) {
-        let _ = opens.remove(place);
-    }
-}
-
 /// An open no longer stands among those of its file.
-fn drop_pair(by_file: &mut Index, opens: &[OpenState], number: u64)
-    requires rises { Rises (λ o. o.number) 1 opens.now }
-    requires index { IsIndex (λ o. o.file) (λ o. o.number) opens.now by_file.old.items }
-    ensures index { IsIndex (λ o. o.file) (λ o. o.number) (filter (λ o. not (o.number == number)) opens.now) by_file.new.items }
+fn drop_pair(by_file: &mut Index, opens: &ByNumber, number: u64)
+    requires rises { Rises (λ o. o.number) 1 opens.now.items }
+    requires index { IsIndex (λ o. o.file) (λ o. o.number) opens.now.items by_file.old.items }
+    ensures index { IsIndex (λ o. o.file) (λ o. o.number) (filter (λ o. not (o.number == number)) opens.now.items) by_file.new.items }
     ensures room { by_file.new.ready ≡ by_file.old.ready }
 {
-    if let Some(open) = open_in(opens, number) {
+    if let Some(open) = opens.get(number) {
         by_file.take(Pair {
             of: open.file,
             number,
@@ -89,13 +80,13 @@ fn drop_pair(by_file: &mut Index, opens: &[OpenState], number: u64)
 }
 
 /// An open no longer stands among those of its client.
-fn drop_own_pair(by_client: &mut Index, opens: &[OpenState], number: u64)
-    requires rises { Rises (λ o. o.number) 1 opens.now }
-    requires index { IsIndex (λ o. o.client) (λ o. o.number) opens.now by_client.old.items }
-    ensures index { IsIndex (λ o. o.client) (λ o. o.number) (filter (λ o. not (o.number == number)) opens.now) by_client.new.items }
+fn drop_own_pair(by_client: &mut Index, opens: &ByNumber, number: u64)
+    requires rises { Rises (λ o. o.number) 1 opens.now.items }
+    requires index { IsIndex (λ o. o.client) (λ o. o.number) opens.now.items by_client.old.items }
+    ensures index { IsIndex (λ o. o.client) (λ o. o.number) (filter (λ o. not (o.number == number)) opens.now.items) by_client.new.items }
     ensures room { by_client.new.ready ≡ by_client.old.ready }
 {
-    if let Some(open) = open_in(opens, number) {
+    if let Some(open) = opens.get(number) {
         by_client.take(Pair {
             of: open.client,
             number,
@@ -136,11 +127,10 @@ fn is_leaving(locks: &[LockState], number: u64, leaving: Leaving) -> bool
     }
 }
 
-fn is_clients(opens: &[OpenState], number: u64, client: u64) -> bool
-    requires { Rises (λ o. o.number) 1 opens.now }
-    ensures { result ≡ marked (λ o. o.number) (λ o. o.client == client) opens.now number }
+fn is_clients(opens: &ByNumber, number: u64, client: u64) -> bool
+    ensures { result ≡ marked (λ o. o.number) (λ o. o.client == client) opens.now.items number }
 {
-    match open_in(opens, number) {
+    match opens.get(number) {
         Some(open) => open.client == client,
         None => false,
     }
@@ -206,9 +196,8 @@ fn forget_unlocked(files: &mut LockedFiles, locks: &[LockState], by_file: &Index
 }
 
 /// The pairs of a client's opens go.
-fn drop_pairs(by_file: &mut Index, opens: &[OpenState], client: u64)
-    requires { Rises (λ o. o.number) 1 opens.now }
-    ensures items { by_file.new.items ≡ filter (λ p. not (marked (λ o. o.number) (λ o. o.client == client) opens.now p.number)) by_file.old.items }
+fn drop_pairs(by_file: &mut Index, opens: &ByNumber, client: u64)
+    ensures items { by_file.new.items ≡ filter (λ p. not (marked (λ o. o.number) (λ o. o.client == client) opens.now.items p.number)) by_file.old.items }
     ensures room { by_file.new.ready ≡ by_file.old.ready }
 {
     by_file.keep(Going::Opens(opens, client));
@@ -220,13 +209,6 @@ fn drop_own_pairs(by_client: &mut Index, client: u64)
     ensures room { by_client.new.ready ≡ by_client.old.ready }
 {
     by_client.keep(Going::Owned(client));
-}
-
-fn drop_opens(opens: &mut Vec<OpenState>, client: u64)
-    ensures items { opens.new.items ≡ filter (λ o. not (o.client == client)) opens.old.items }
-    ensures room { vec_capacity opens.new ≡ vec_capacity opens.old }
-{
-    opens.retain(|o| o.client != client);
 }
 
 impl Opens {
@@ -274,7 +256,7 @@ impl Opens {
         );
         drop_pairs(&mut self.by_file, &self.opens, client);
         drop_own_pairs(&mut self.by_client, client);
-        drop_opens(&mut self.opens, client);
+        self.opens.drop_client(client);
         self.files.keep_locked(&self.locks, &self.locks_by_file);
     }
 
@@ -293,7 +275,7 @@ impl Opens {
         );
         drop_pair(&mut self.by_file, &self.opens, number);
         drop_own_pair(&mut self.by_client, &self.opens, number);
-        drop_open(&mut self.opens, number);
+        self.opens.remove(number);
         forget_unlocked(&mut self.files, &self.locks, &self.locks_by_file, file);
     }
 
@@ -301,7 +283,7 @@ impl Opens {
     fn has_lock_under(&self, number: u64) -> bool
         ensures { result ≡ list_any (λ l. l.opened == number) (table self.now).locks }
     {
-        match open_in(&self.opens, number) {
+        match self.opens.get(number) {
             Some(open) => self.has_lock(open.file, number),
             None => false,
         }

@@ -5,7 +5,7 @@ ghost use Rattle.nfs_opens.specs.Table.{table, open_at};
 ghost use Rattle.nfs_opens.specs.Judging.{named, judge, judge_named, special, is_sort, is_file, lock_named, open_named, access_of};
 
 use crate::opens::Opens;
-use crate::records::{LockState, OpenState, lock_in, open_in};
+use crate::records::{LockState, OpenState, lock_in};
 use crate::share::Share;
 use crate::stateid::StateId;
 use nfs_xdr::Status;
@@ -149,7 +149,7 @@ impl Opens {
         if id.instance != self.instance {
             return None;
         }
-        if let Some(open) = open_in(&self.opens, id.number) {
+        if let Some(open) = self.opens.get(id.number) {
             return Some(open_named(open));
         }
         match lock_in(&self.locks, id.number) {
@@ -175,7 +175,7 @@ impl Opens {
     fn access_of(&self, number: u64) -> Share
         ensures { result ≡ access_of (open_at (table self.now) number) }
     {
-        match open_in(&self.opens, number) {
+        match self.opens.get(number) {
             Some(open) => open.access,
             None => Share::neither(),
         }

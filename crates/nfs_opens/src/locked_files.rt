@@ -2,11 +2,11 @@
 
 ghost use Rattle.std.specs.Prelude.{◌≡◌, ◌≤◌, ◌==◌, OnOk, OnErr, IfOk, filter, []};
 ghost use Rattle.nfs_ranges.specs.Holders.{at, holding, cleared, dropped, holds_any, nobody};
-ghost use Rattle.nfs_ranges.specs.Told.{Tells};
+ghost use Rattle.nfs_ranges.specs.Facts.{Tells};
 ghost use Rattle.std.specs.List.{list_any};
 ghost use Rattle.nfs_opens.specs.Holding.{held_by, on_file};
 ghost use Rattle.nfs_opens.specs.Index.{IsIndex};
-ghost use Rattle.nfs_opens.specs.Table.{AreHolders, Rises};
+ghost use Rattle.nfs_opens.specs.Kept.{AreHolders, Rises};
 
 use crate::blocks::Index;
 use crate::records::{LockState, is_locked};

@@ -4,9 +4,11 @@ ghost use Rattle.std.specs.Prelude.{◌≡◌, ◌≤◌, IfSome, IsSomeAnd, IsT
 ghost use Rattle.std.specs.Option.{option_copied};
 ghost use Rattle.nfs_opens.specs.declared.locking.OpenFault.TheVariants.{Refused, Memory};
 ghost use Rattle.nfs_ranges.specs.Holders.{cleared};
-ghost use Rattle.nfs_opens.specs.Holding.{held_by, on_file, HasNoByteBehind};
-ghost use Rattle.nfs_opens.specs.Table.{IsTable, table, open_at, lock_at};
-ghost use Rattle.nfs_opens.specs.Locking.{LocksOrWants, UnlocksOrWants, lock, lock_as, lock_first, lock_judged, unlock, test_lock, clash, permits, access_in, state_of, is_whole};
+ghost use Rattle.nfs_opens.specs.Holding.{held_by, on_file};
+ghost use Rattle.nfs_opens.specs.Kept.{HasNoByteBehind, IsTable};
+ghost use Rattle.nfs_opens.specs.Table.{table, open_at, lock_at};
+ghost use Rattle.nfs_opens.specs.Locking.{lock_as, lock_first, lock_judged, unlock, test_lock, clash, permits, access_in, state_of};
+ghost use Rattle.nfs_opens.specs.Calls.{LocksOrWants, UnlocksOrWants, lock, is_whole};
 
 use crate::index::Pair;
 use crate::judging::{Seat, Sort};

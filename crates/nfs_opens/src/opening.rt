@@ -4,14 +4,16 @@ ghost use Rattle.std.specs.Prelude.{◌≡◌, ◌==◌, ◌+◌, ◌<◌, true,
 ghost use Rattle.std.specs.Option.{option_copied};
 ghost use Rattle.std.specs.List.{list_any};
 ghost use Rattle.nfs_xdr.specs.Checks.{judged};
-ghost use Rattle.nfs_opens.specs.Table.{IsTable, table, clashes_with};
-ghost use Rattle.nfs_opens.specs.Opening.{asked, open_fault, opens, own_open, downgrade};
+ghost use Rattle.nfs_opens.specs.Table.{table, clashes_with};
+ghost use Rattle.nfs_opens.specs.Kept.{IsTable};
+ghost use Rattle.nfs_opens.specs.Opening.{opens, own_open, downgrade};
+ghost use Rattle.nfs_opens.specs.Calls.{asked, open_fault};
 
 use crate::index::Pair;
 use crate::judging::Sort;
 use crate::opens::Opens;
 use crate::owner::Owner;
-use crate::records::{OpenState, join_open, narrow_open, open_in};
+use crate::records::OpenState;
 use crate::share::Share;
 use crate::stateid::{StateId, next_seqid};
 use nfs_xdr::Status;
@@ -102,7 +104,7 @@ impl Opens {
         ensures err { OnErr result (self.new ≡ self.old) }
     {
         let owner = Owner::of(alloc, owner)?;
-        self.opens.reserve(1)?;
+        self.opens.reserve(alloc)?;
         self.by_file.reserve(alloc)?;
         self.by_client.reserve(alloc)?;
         self.ready = true;
@@ -122,7 +124,7 @@ impl Opens {
         match self.own_open(ask) {
             Some(open) => {
                 let (number, seqid) = (open.number, next_seqid(open.seqid));
-                join_open(&mut self.opens, number, ask);
+                self.opens.join(number, ask);
                 StateId {
                     seqid,
                     instance: self.instance,
@@ -141,17 +143,15 @@ impl Opens {
                     of: ask.client,
                     number,
                 });
-                self.opens
-                    .push(OpenState {
-                        number,
-                        client: ask.client,
-                        owner: ready.owner,
-                        file: ask.file,
-                        seqid: 1,
-                        access: ask.access,
-                        deny: ask.deny,
-                    })
-                    .unwrap();
+                self.opens.push(OpenState {
+                    number,
+                    client: ask.client,
+                    owner: ready.owner,
+                    file: ask.file,
+                    seqid: 1,
+                    access: ask.access,
+                    deny: ask.deny,
+                });
                 StateId {
                     seqid: 1,
                     instance: self.instance,
@@ -178,12 +178,12 @@ impl Opens {
         ensures room { self.new.ready ≡ self.old.ready }
     {
         self.judge(id, client, Some(file), Sort::OpenOnly)?;
-        let seqid = match open_in(&self.opens, id.number) {
+        let seqid = match self.opens.get(id.number) {
             None => return Err(Status::BadStateId),
             Some(open) if !open.is_narrower(access, deny) => return Err(Status::Inval),
             Some(open) => next_seqid(open.seqid),
         };
-        narrow_open(&mut self.opens, id.number, access, deny);
+        self.opens.narrow(id.number, access, deny);
         Ok(StateId {
             seqid,
             instance: self.instance,

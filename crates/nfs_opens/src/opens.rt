@@ -3,11 +3,13 @@
 ghost use Rattle.std.specs.Prelude.{◌≡◌, ◌==◌, ◌&&◌, not, find, nat_lt};
 ghost use Rattle.std.specs.Option.{option_copied};
 ghost use Rattle.std.specs.List.{list_any};
-ghost use Rattle.nfs_opens.specs.Table.{IsTable, table, no_opens, open_at, lock_at};
+ghost use Rattle.nfs_opens.specs.Table.{table, no_opens, open_at, lock_at};
+ghost use Rattle.nfs_opens.specs.Kept.{IsTable};
 
 use crate::blocks::Index;
+use crate::by_number::ByNumber;
 use crate::locked_files::LockedFiles;
-use crate::records::{LockState, OpenState, lock_in, next_lock_in, open_in};
+use crate::records::{LockState, OpenState, lock_in, next_lock_in};
 use crate::share::Share;
 use std::alloc::Global;
 use std::marker::Model;
@@ -15,7 +17,7 @@ use std::marker::Model;
 /// All opens and lock states in rising order of their numbers, and the locked bytes of all files.
 #[derive(Drop)]
 pub struct Opens {
-    pub(crate) opens: Vec<OpenState>,
+    pub(crate) opens: ByNumber,
     /// The opens by their files.
     pub(crate) by_file: Index,
     /// The opens by their clients.
@@ -32,7 +34,6 @@ pub struct Opens {
 }
 
 impl Model for Opens {
-    ghost use Rattle.std.specs.Prelude.{◌≡◌, ◌<◌, true, length, vec_capacity};
     ghost use Rattle.nfs_opens.specs.Index.{IsKept};
     ghost use Rattle.nfs_opens.specs.Table.{Kept};
 
@@ -40,7 +41,7 @@ impl Model for Opens {
 
     ghost view = { λ t. record { opens = t.opens.items; locks = t.locks.items; files = t.files; last = t.last; instance = t.instance; ready = t.ready } };
 
-    ghost invariant = { λ t. IsKept (record { opens = t.opens.items; locks = t.locks.items; files = t.files; last = t.last; instance = t.instance; ready = t.ready }) (vec_capacity t.opens) t.by_file.items t.by_file.ready t.by_client.items t.by_client.ready t.locks_by_file.items };
+    ghost invariant = { λ t. IsKept (record { opens = t.opens.items; locks = t.locks.items; files = t.files; last = t.last; instance = t.instance; ready = t.ready }) t.opens.ready t.by_file.items t.by_file.ready t.by_client.items t.by_client.ready t.locks_by_file.items };
 }
 
 impl Opens {
@@ -50,7 +51,7 @@ impl Opens {
         ensures { table result ≡ no_opens instance }
     {
         Opens {
-            opens: Vec::new(alloc),
+            opens: ByNumber::new(alloc),
             by_file: Index::new(alloc),
             by_client: Index::new(alloc),
             locks: Vec::new(alloc),
@@ -83,7 +84,7 @@ impl Opens {
         ensures kept { IsTable (table self.now) }
     {
         match self.by_file.next(file, after) {
-            Some(number) => open_in(&self.opens, number),
+            Some(number) => self.opens.get(number),
             None => None,
         }
     }
@@ -94,7 +95,7 @@ impl Opens {
         ensures kept { IsTable (table self.now) }
     {
         match self.by_client.next(client, after) {
-            Some(number) => open_in(&self.opens, number),
+            Some(number) => self.opens.get(number),
             None => None,
         }
     }

@@ -3,9 +3,11 @@
 ghost use Rattle.std.specs.Prelude.{◌≡◌, ◌≤◌, ◌==◌, ◌<◌, ◌&&◌, nat_lt, not, find, position, map, vec_capacity, if◌then◌else◌};
 ghost use Rattle.std.specs.Option.{option_copied};
 ghost use Rattle.std.specs.List.{list_any};
-ghost use Rattle.nfs_opens.specs.Table.{is_owners, is_own, clashes_with, Rises};
+ghost use Rattle.nfs_opens.specs.Table.{is_owners, is_own, clashes_with};
+ghost use Rattle.nfs_opens.specs.Kept.{Rises};
 ghost use Rattle.nfs_opens.specs.Index.{IsIndex};
-ghost use Rattle.nfs_opens.specs.Opening.{asked, joins, narrows, is_narrower};
+ghost use Rattle.nfs_opens.specs.Opening.{joins, narrows, is_narrower};
+ghost use Rattle.nfs_opens.specs.Calls.{asked};
 ghost use Rattle.nfs_opens.specs.Locking.{is_locker, raised};
 
 use crate::blocks::Index;

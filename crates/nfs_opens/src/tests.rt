@@ -432,6 +432,47 @@ fn each_file_has_its_own_locks(rt: HostRuntime) -> Result<(), Fail> {
     Ok(())
 }
 
+/// A opens the files 1 to 600, by opens of the same numbers.
+fn many_opens(alloc: Global) -> Opens {
+    let mut opens = Opens::new(alloc, 7);
+    for file in 1..=600 {
+        let mut asked = ask(A, 3, 0);
+        asked.file = file;
+        let _ = open_file(&mut opens, alloc, &asked);
+    }
+    opens
+}
+
+/// Whether A's open of a number stands, and whether it is found by its file.
+fn stands(opens: &Opens, number: u64) -> (bool, bool) {
+    let judged = opens.judge(id(0, number), A, Some(number), Sort::OpenOnly);
+    (judged.is_ok(), opens.is_open(number))
+}
+
+#[test]
+fn opens_close_at_both_ends_and_in_the_middle(rt: HostRuntime) -> Result<(), Fail> {
+    let mut opens = many_opens(rt.alloc());
+    for turn in 0..150 {
+        for number in [1 + turn, 201 + turn, 600 - turn] {
+            let closed = opens.close(id(1, number), A, number);
+            assert_eq!(rt; closed, Ok(()), "CLOSE of {number}");
+        }
+    }
+    for number in 1..=600 {
+        let want = matches!(number, 151..=200 | 351..=450);
+        assert_eq!(rt; stands(&opens, number), (want, want), "open {number}");
+    }
+    let mut asked = ask(A, 3, 0);
+    asked.file = 601;
+    let reopened = open_file(&mut opens, rt.alloc(), &asked);
+    assert_eq!(rt; reopened, Ok(id(1, 601)));
+    opens.end_client(A);
+    for number in [151, 400, 601] {
+        assert_eq!(rt; stands(&opens, number), (false, false), "open {number}");
+    }
+    Ok(())
+}
+
 #[test]
 fn a_seqid_after_the_last_is_one(rt: HostRuntime) -> Result<(), Fail> {
     for (seqid, next) in [(1, 2), (u32::MAX - 1, u32::MAX), (u32::MAX, 1)] {

@@ -3,9 +3,10 @@ use Rattle.std.proofs.Common.{◌≡◌, ℕ, ◌<◌, ◌≤◌, ◌^◌, Bool,
 use Rattle.std.specs.Prelude.{IsTrue, IsSome, is_some, ◌↔◌, OnOk, OnErr, not, length, ◌==◌}
 use Rattle.std.proofs.lemmas.Bool.{cases_Bool, ltb-true, ltb-false, ne_eqb}
 use Rattle.nfs_ranges.specs.declared.interval.Interval.{Interval}
-use Rattle.nfs_ranges.specs.Intervals.{kind_at, AreFrom, IsCanonical}
+use Rattle.nfs_ranges.specs.Intervals.{AreFrom, IsCanonical}
 use Rattle.nfs_ranges.specs.Edits.{lead, head, ends_before}
-use Rattle.nfs_ranges.specs.Holders.{LockedBytes, bytes_of, at, HoldsAny, holds_any}
+use Rattle.nfs_ranges.specs.Holders.{LockedBytes, bytes_of, at, holds_any, kind_at}
+use Rattle.nfs_ranges.specs.Facts.{HoldsAny}
 use Rattle.nfs_ranges.specs.Owners.{AreCanonical, is_empty, with_owner}
 use Rattle.nfs_ranges.proofs.CanonicalLemmas.{within_is, within_above, none_below, at_first}
 use Rattle.nfs_ranges.proofs.PlaceLemmas.{Fails, fails, from_drop}

@@ -4,7 +4,8 @@ use Rattle.std.proofs.lemmas.Bool.{cases_lt, and_left, and_right, and_from, le-l
 use Rattle.nfs_ranges.specs.declared.Kind.{Kind}
 use Rattle.nfs_ranges.specs.declared.Kind.TheVariants.{Read, Write}
 use Rattle.nfs_ranges.specs.declared.interval.Interval.{Interval}
-use Rattle.nfs_ranges.specs.Intervals.{is_within, is_same, kind_at, joins, touches, AreFrom, IsCanonical}
+use Rattle.nfs_ranges.specs.Intervals.{is_same, joins, touches, AreFrom, IsCanonical}
+use Rattle.nfs_ranges.specs.Holders.{is_within, kind_at}
 
 pub within_is : (first last b : ℕ) → first ≤ b → b ≤ last → is_within first last b ≡ true
 within_is first last b lo hi = and_from _ _ (le-leb first b lo) (le-leb b last hi)

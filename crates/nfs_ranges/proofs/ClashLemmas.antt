@@ -8,12 +8,13 @@ use Rattle.std.proofs.lemmas.Bool.{le-leb, lt-leb, eq-eqb, ne_eqb}
 use Rattle.nfs_ranges.specs.declared.Kind.{Kind}
 use Rattle.nfs_ranges.specs.declared.interval.Interval.{Interval}
 use Rattle.nfs_ranges.specs.declared.Held.{Held}
-use Rattle.nfs_ranges.specs.Intervals.{kind_at, AreFrom, IsCanonical}
+use Rattle.nfs_ranges.specs.Intervals.{AreFrom, IsCanonical}
 use Rattle.nfs_ranges.specs.Edits.{lead, ends_before}
-use Rattle.nfs_ranges.specs.Holders.{Holders, Owned, LockedBytes, at, nobody}
+use Rattle.nfs_ranges.specs.Holders.{Holders, Owned, LockedBytes, at, nobody, kind_at}
 use Rattle.nfs_ranges.specs.Owners.{AreOwners, AreCanonical}
 use Rattle.nfs_ranges.specs.Clashes.{hits, held_by, clash_of, sooner, tell}
-use Rattle.nfs_ranges.specs.Told.{meets, clashes, IsTold, Tells}
+use Rattle.nfs_ranges.specs.Told.{meets, clashes}
+use Rattle.nfs_ranges.specs.Facts.{IsTold, Tells}
 use Rattle.nfs_ranges.proofs.CanonicalLemmas.{none_below, ends_there, at_above, at_within}
 use Rattle.nfs_ranges.proofs.EditLemmas.{or_else}
 use Rattle.nfs_ranges.proofs.PlaceLemmas.{from_drop}

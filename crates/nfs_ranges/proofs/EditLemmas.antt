@@ -5,7 +5,8 @@ use Rattle.std.proofs.lemmas.Bool.{cases_lt, cases_Bool, and_parts, ltb-true, lt
 use Rattle.std.proofs.lemmas.Bool.Decides.{nat_tests}
 use Rattle.nfs_ranges.specs.declared.Kind.{Kind}
 use Rattle.nfs_ranges.specs.declared.interval.Interval.{Interval}
-use Rattle.nfs_ranges.specs.Intervals.{is_within, is_same, kind_at, joins, touches, AreFrom, IsCanonical, kept_below, kept_above, put, glue, without}
+use Rattle.nfs_ranges.specs.Intervals.{is_same, joins, touches, AreFrom, IsCanonical, kept_below, kept_above, put, glue, without}
+use Rattle.nfs_ranges.specs.Holders.{is_within, kind_at}
 use Rattle.nfs_ranges.specs.Intervals.{with_range}
 use Rattle.nfs_ranges.proofs.CanonicalLemmas.{within_is, within_below, within_above, same_is, none_below}
 

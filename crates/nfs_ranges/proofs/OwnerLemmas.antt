@@ -9,9 +9,9 @@ use Rattle.std.proofs.lemmas.List.{set_split, take-set, drop-set-lt, get_or-set_
 use Rattle.std.proofs.lemmas.Bool.{cases_lt, cases_Bool, cases_order, ltb-true, lt-ltb, le-ltb, eqb-true, eq-eqb, ne_eqb}
 use Rattle.nfs_ranges.specs.declared.Kind.{Kind}
 use Rattle.nfs_ranges.specs.declared.interval.Interval.{Interval}
-use Rattle.nfs_ranges.specs.Intervals.{is_within, kind_at, IsCanonical, joins, kept_below, kept_above, put, glue, without, with_range}
+use Rattle.nfs_ranges.specs.Intervals.{IsCanonical, joins, kept_below, kept_above, put, glue, without, with_range}
 use Rattle.nfs_ranges.specs.Edits.{lead, head}
-use Rattle.nfs_ranges.specs.Holders.{Owned, LockedBytes, bytes_of, at, holding, cleared, dropped}
+use Rattle.nfs_ranges.specs.Holders.{Owned, LockedBytes, bytes_of, at, holding, cleared, dropped, is_within, kind_at}
 use Rattle.nfs_ranges.specs.Laws.{Canonical}
 use Rattle.nfs_ranges.specs.Owners.{is_empty, AreOwners, AreCanonical, IsFound, IsAbsent, entry, with_owner, is_lower, is_number}
 use Rattle.nfs_ranges.proofs.CanonicalLemmas.{canonical_unique, at_first}

@@ -1,24 +1,14 @@
--- The bytes that one lock state holds, as a list of intervals.
-use Rattle.std.specs.Prelude.{◌≡◌, ℕ, suc, ◌-◌, ◌<◌, ◌≤◌, ◌^◌, ◌==◌, min, max, nat_le, nat_lt, Bool, true, false, ◌&&◌, if◌then◌else◌, List, [], ◌∷◌, Option}
-use Rattle.std.specs.Prelude.{Some, None}
+-- The bytes that one lock state holds, as a list of intervals in canonical form, and how that changes.
+use Rattle.std.specs.Prelude.{◌≡◌, ℕ, suc, ◌-◌, ◌<◌, ◌≤◌, ◌^◌, ◌==◌, min, max, nat_lt, Bool, true, false, ◌&&◌, if◌then◌else◌, List, [], ◌∷◌}
 use Rattle.nfs_ranges.specs.declared.Kind.{Kind}
 use Rattle.nfs_ranges.specs.declared.Kind.TheVariants.{Read, Write}
 use Rattle.nfs_ranges.specs.declared.interval.Interval.{Interval}
-
--- byte b lies in the range
-abbrev pub is_within : ℕ → ℕ → ℕ → Bool
-is_within first last b = nat_le first b && nat_le b last
 
 abbrev pub is_same : Kind → Kind → Bool
 is_same Read Read = true
 is_same Read Write = false
 is_same Write Read = false
 is_same Write Write = true
-
--- how the intervals say that a byte is held
-abbrev pub kind_at : List Interval → ℕ → Option Kind
-kind_at [] b = None
-kind_at (x ∷ xs) b = if is_within x.first x.last b then Some x.kind else kind_at xs b
 
 -- y is of one kind with x and begins directly behind it
 abbrev pub joins : Interval → Interval → Bool

@@ -2,9 +2,10 @@
 use Rattle.std.specs.Prelude.{◌≡◌, ℕ, ◌↔◌, ◌<◌, ◌≤◌, ◌^◌, Option, IsTrue}
 use Rattle.nfs_ranges.specs.declared.Kind.{Kind}
 use Rattle.nfs_ranges.specs.declared.Held.{Held}
-use Rattle.nfs_ranges.specs.Holders.{Holders, LockedBytes, at, HoldsAny, holds_any}
+use Rattle.nfs_ranges.specs.Holders.{Holders, LockedBytes, at, holds_any}
+use Rattle.nfs_ranges.specs.Facts.{HoldsAny, Tells, IsBelow}
 use Rattle.nfs_ranges.specs.Owners.{AreCanonical}
-use Rattle.nfs_ranges.specs.Told.{Tells, told, IsBelow}
+use Rattle.nfs_ranges.specs.Told.{told}
 
 -- whatever is held, exactly one thing is told, and the function `told` gives it
 abbrev pub ToldIsUnique : Type 0

@@ -2,7 +2,8 @@
 
 ghost use Rattle.std.specs.Prelude.{◌≡◌, ◌+◌, ◌-◌, ◌<◌, ◌≤◌, ◌++◌, ◌∷◌, [], List, IfSome, OnOk, OnErr, take, drop, length, find, vec_len, vec_capacity, Some, None};
 ghost use Rattle.std.specs.Option.{option_to_list};
-ghost use Rattle.nfs_ranges.specs.Intervals.{IsCanonical, kind_at, without, with_range};
+ghost use Rattle.nfs_ranges.specs.Intervals.{IsCanonical, without, with_range};
+ghost use Rattle.nfs_ranges.specs.Holders.{kind_at};
 ghost use Rattle.nfs_ranges.specs.Owners.{IsSpan};
 ghost use Rattle.nfs_ranges.specs.Clashes.{hits};
 ghost use Rattle.nfs_ranges.specs.Edits.{lead, ends_before, ends_by, head, begin_at, end_at, left_before, left_behind, edited, added, FitsIn};

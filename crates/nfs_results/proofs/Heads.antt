@@ -5,7 +5,7 @@ use Rattle.nfs_xdr.specs.Spelling.{number, opaque}
 use Rattle.nfs_xdr.proofs.Putting.{length_number}
 use Rattle.nfs_xdr.specs.declared.status.Status.{Status}
 use Rattle.nfs_xdr.specs.Status.{status_number}
-use Rattle.nfs_results.specs.CompoundResult.{spell_compound_head}
+use Rattle.nfs_results.specs.Results.{spell_compound_head}
 use Rattle.nfs_results.specs.OpenHead.{HeadsAt}
 
 -- what `set_u32` makes of bytes

@@ -4,7 +4,9 @@ use Rattle.std.specs.Int.{w32, from_be_bytes}
 use Rattle.std.proofs.lemmas.Bool.{eqb-true, eq-eqb}
 use Rattle.nfs_xdr.specs.Spelling as spelling
 use Rattle.nfs_xdr.specs.Reading.{number_at}
-use Rattle.nfs_xdr.specs.Codec.{IsCodec, IsSized, number, few}
+use Rattle.nfs_xdr.specs.Codec.{number}
+use Rattle.nfs_xdr.specs.Lawful.{IsCodec, IsSized}
+use Rattle.nfs_xdr.specs.Combinators.{few}
 use Rattle.nfs_xdr.proofs.CodecLaws.{bind_some, test_some, taken_at, is_number, is_hyper, is_flag, is_fixed, is_opaque, is_unbounded, is_then, is_as_type}
 use Rattle.nfs_xdr.proofs.CodecLaws.{is_only, is_few, is_pieces}
 use Rattle.nfs_xdr.proofs.ChainLaws.{is_chain}

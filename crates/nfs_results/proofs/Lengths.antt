@@ -6,15 +6,15 @@ use Rattle.std.proofs.lemmas.List.{length-append, length-replicate}
 use Rattle.nfs_xdr.specs.Spelling as spelling
 use Rattle.nfs_xdr.specs.Spelling.{padding}
 use Rattle.nfs_xdr.specs.declared.status.Status.{Status}
-use Rattle.nfs_xdr.specs.Codec.{optional, number}
+use Rattle.nfs_xdr.specs.Codec.{number}
+use Rattle.nfs_xdr.specs.Combinators.{optional}
 use Rattle.nfs_xdr.proofs.Putting.{length_number, length_hyper}
 use Rattle.nfs_compound.specs.declared.stateid.Stateid.{Stateid}
 use Rattle.nfs_compound.specs.declared.channel_attrs.ChannelAttrs.{ChannelAttrs}
 use Rattle.nfs_compound.specs.Stateid.{stateid}
 use Rattle.nfs_compound.specs.StateOwner.{state_owner}
 use Rattle.nfs_compound.specs.ChannelAttrs.{channel_attrs}
-use Rattle.nfs_compound.specs.LockArgs.{lock_type}
-use Rattle.nfs_compound.specs.FileArgs.{stable_how}
+use Rattle.nfs_compound.specs.ArgCodecs.{lock_type, stable_how}
 use Rattle.nfs_results.specs.declared.res.ChangeInfo.{ChangeInfo}
 use Rattle.nfs_results.specs.Items.{access, attr_set, fattr, change_info, create, denied, open_ok, read_ok, rename, write_ok, exchange_id, create_session}
 use Rattle.nfs_results.specs.Items.{flavors, sequence, status_codes}
@@ -23,9 +23,11 @@ use Rattle.nfs_results.specs.Result.{ResLockTDenied, ResLockU, ResLookup, ResLoo
 use Rattle.nfs_results.specs.Result.{ResPutRootFh, ResRead, ResReadDir, ResReadLink, ResRemove, ResRename, ResRestoreFh, ResSaveFh, ResSetAttr, ResVerify}
 use Rattle.nfs_results.specs.Result.{ResWrite, ResExchangeId, ResCreateSession, ResDestroySession, ResFreeStateid, ResSecinfoNoName, ResSequence}
 use Rattle.nfs_results.specs.Result.{ResTestStateid, ResDestroyClientId, ResReclaimComplete, Refused}
-use Rattle.nfs_results.specs.Results.{head, parts, operation_of, spell_result, HasArrays}
-use Rattle.nfs_results.specs.CompoundResult.{spell_compound_head}
-use Rattle.nfs_results.specs.Largest.{largest_of, asked, largest, HasSizes, IsPlain, MayAnswer}
+use Rattle.nfs_results.specs.Results.{head, operation_of, spell_result, spell_compound_head}
+use Rattle.nfs_results.specs.Parts.{parts}
+use Rattle.nfs_results.specs.ResultCodec.{HasArrays}
+use Rattle.nfs_results.specs.Largest.{largest_of, asked, largest}
+use Rattle.nfs_results.specs.MayAnswer.{HasSizes, IsPlain, MayAnswer}
 use Rattle.nfs_compound.specs.Operation.{Item, Operation, Fault}
 
 -- the lengths of texts whose parts are known

@@ -10,7 +10,7 @@ use Rattle.std.proofs.lemmas.List.Folds.{flat_map-map, length-flat_map-take}
 use Rattle.nfs_xdr.specs.Spelling.{number}
 use Rattle.nfs_xdr.specs.SheetState.{SheetState, HasRoom, Puts}
 use Rattle.nfs_xdr.specs.Codec as codec
-use Rattle.nfs_xdr.specs.Status.{status_of}
+use Rattle.nfs_xdr.specs.StatusCodec.{status_of}
 use Rattle.nfs_xdr.proofs.Putting.{length_number}
 use Rattle.nfs_results.specs.Items.{are_statuses}
 

@@ -10,8 +10,8 @@ use Rattle.nfs_xdr.specs.Reading.{◌>>=◌, number_at, opaque_at}
 use Rattle.nfs_xdr.specs.Codec.{IsBytes, many_at}
 use Rattle.nfs_results.specs.Result.{Res}
 use Rattle.nfs_xdr.specs.declared.status.Status.{Status}
-use Rattle.nfs_xdr.specs.Status.{status}
-use Rattle.nfs_results.specs.Results.{result}
+use Rattle.nfs_xdr.specs.StatusCodec.{status}
+use Rattle.nfs_results.specs.ResultCodec.{result}
 use Rattle.nfs_results.specs.CompoundResult.{CompoundResult, spell_compound, compound_result, IsReply, IsNoReply}
 use Rattle.nfs_results.specs.ReadReply.{whole, is_whole, results_left}
 use Rattle.nfs_results.proofs.CompoundLaws.{is_compound}

@@ -7,8 +7,11 @@ use Rattle.nfs_xdr.specs.Spelling as spelling
 use Rattle.nfs_xdr.specs.Reading.{◌>>=◌, number_at}
 use Rattle.nfs_xdr.specs.declared.status.Status.{Status}
 use Rattle.nfs_xdr.specs.declared.status.Status.TheVariants.{Nfs4Ok, Denied}
-use Rattle.nfs_xdr.specs.Status.{status_number, status_of, status}
-use Rattle.nfs_xdr.specs.Codec.{Codec, IsCodec, IsBytes, fixed, opaque, unbounded, arm}
+use Rattle.nfs_xdr.specs.Status.{status_number}
+use Rattle.nfs_xdr.specs.StatusCodec.{status_of, status}
+use Rattle.nfs_xdr.specs.Codec.{Codec, IsBytes, opaque, unbounded, arm}
+use Rattle.nfs_xdr.specs.Lawful.{IsCodec}
+use Rattle.nfs_xdr.specs.Combinators.{fixed}
 use Rattle.nfs_xdr.proofs.CodecLaws.{bind_some, test_some, chosen, taken_at, arm_takes, is_number, is_fixed, is_opaque, is_unbounded}
 use Rattle.nfs_xdr.proofs.StatusLaws.{is_status, is_status_listing}
 use Rattle.nfs_xdr.proofs.WordLaws.{listed_number}
@@ -23,7 +26,10 @@ use Rattle.nfs_results.specs.Result.{ResLockTDenied, ResLockU, ResLookup, ResLoo
 use Rattle.nfs_results.specs.Result.{ResPutRootFh, ResRead, ResReadDir, ResReadLink, ResRemove, ResRename, ResRestoreFh, ResSaveFh, ResSetAttr, ResVerify}
 use Rattle.nfs_results.specs.Result.{ResWrite, ResExchangeId, ResCreateSession, ResDestroySession, ResFreeStateid, ResSecinfoNoName, ResSequence}
 use Rattle.nfs_results.specs.Result.{ResTestStateid, ResDestroyClientId, ResReclaimComplete, Refused}
-use Rattle.nfs_results.specs.Results.{bears, is_legal, tells, can_refuse, head, spell_result, FitsResult, done_at, done_by, refused_at, read_behind, result}
+use Rattle.nfs_results.specs.Results.{head, spell_result}
+use Rattle.nfs_results.specs.Refusals.{bears, tells, can_refuse}
+use Rattle.nfs_results.specs.Parts.{is_legal}
+use Rattle.nfs_results.specs.ResultCodec.{FitsResult, done_at, done_by, refused_at, read_behind, result}
 use Rattle.nfs_results.proofs.ItemLaws.{is_attr_set, is_fattr, is_change_info, is_access, is_create, is_denied, is_open_ok, is_read_ok, is_read_dir, is_rename}
 use Rattle.nfs_results.proofs.ItemLaws.{is_write_ok, is_exchange_id, is_create_session, is_flavors, is_sequence, is_status_codes}
 

@@ -6,8 +6,8 @@ use Rattle.nfs_xdr.specs.Chain.{spell_chain}
 use Rattle.nfs_compound.specs.declared.op_num.OpNum.TheVariants as Op
 use Rattle.nfs_results.specs.Items.{fattr, entry, read_ok, read_dir, status_codes}
 use Rattle.nfs_results.specs.Result.{ReadOk, Entry, ReadDirOk, ResRead, ResReadDir, ResTestStateid}
-use Rattle.nfs_results.specs.Results.{spell_result}
-use Rattle.nfs_results.specs.Straight.{done_head, read_head, read_end, read_dir_head, entry_head, entry_text, list_end, test_stateid_head}
+use Rattle.nfs_results.specs.Results.{spell_result, done_head}
+use Rattle.nfs_results.specs.Straight.{read_head, read_end, read_dir_head, entry_head, entry_text, list_end, test_stateid_head}
 
 pub read_in_parts : (r : ReadOk) → spell_result (ResRead r) ≡ read_head r.eof (length r.bytes) ++ (r.bytes ++ read_end (length r.bytes))
 unfolding read_ok

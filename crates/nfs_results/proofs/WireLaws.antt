@@ -6,9 +6,11 @@ use Rattle.std.proofs.lemmas.Bool.{false≢true, and_parts, cases_Bool, eqb-true
 use Rattle.nfs_xdr.specs.Spelling.{hyper, flag}
 use Rattle.nfs_xdr.specs.Spelling as spelling
 use Rattle.nfs_xdr.specs.Codec as codec
+use Rattle.nfs_xdr.specs.Combinators as combinators
 use Rattle.nfs_xdr.specs.Codec.{Codec}
 use Rattle.nfs_xdr.specs.Chain.{chain, spell_chain}
-use Rattle.nfs_xdr.specs.Status.{status_number, statuses, status_of}
+use Rattle.nfs_xdr.specs.Status.{status_number}
+use Rattle.nfs_xdr.specs.StatusCodec.{statuses, status_of}
 use Rattle.nfs_xdr.specs.declared.status.Status.{Status}
 use Rattle.nfs_xdr.specs.declared.status.Status.TheVariants.{Nfs4Ok, Denied, OpIllegal}
 use Rattle.nfs_xdr.proofs.StatusLaws.{is_status_listing}
@@ -18,8 +20,8 @@ use Rattle.nfs_compound.specs.declared.op_num.OpNum.TheVariants as Op
 use Rattle.nfs_compound.specs.OpNum.{op_number}
 use Rattle.nfs_compound.specs.Stateid.{stateid}
 use Rattle.nfs_compound.specs.StateOwner.{state_owner}
-use Rattle.nfs_compound.specs.LockArgs.{lock_type}
-use Rattle.nfs_compound.specs.FileArgs.{stable_how, stable_how_number}
+use Rattle.nfs_compound.specs.ArgCodecs.{lock_type, stable_how}
+use Rattle.nfs_compound.specs.FileArgs.{stable_how_number}
 use Rattle.nfs_compound.specs.Wire.{Text, ◌then◌, void, uint32, bool, enum, fixed, opaque, array, most, channel_attrs4}
 use Rattle.nfs_compound.proofs.WireLaws.{Spells, all_fit, arrays, numbers, owners, ids, channels}
 use Rattle.nfs_results.specs.Items as item
@@ -29,7 +31,7 @@ use Rattle.nfs_results.specs.Result.{ResLockTDenied, ResLockU, ResLookup, ResLoo
 use Rattle.nfs_results.specs.Result.{ResPutRootFh, ResRead, ResReadDir, ResReadLink, ResRemove, ResRename, ResRestoreFh, ResSaveFh, ResSetAttr, ResVerify}
 use Rattle.nfs_results.specs.Result.{ResWrite, ResExchangeId, ResCreateSession, ResDestroySession, ResFreeStateid, ResSecinfoNoName, ResSequence}
 use Rattle.nfs_results.specs.Result.{ResTestStateid, ResDestroyClientId, ResReclaimComplete, Refused}
-use Rattle.nfs_results.specs.Results.{is_legal, parts}
+use Rattle.nfs_results.specs.Parts.{is_legal, parts}
 use Rattle.nfs_results.specs.Straight.{entry_text}
 use Rattle.nfs_results.proofs.ResultLaws.{same_status}
 use Rattle.nfs_results.specs.Wire.{nfsstat4, bitmap4, fattr4, change_info4, lock4denied, open4resok, entry4, entries4, exchange_id4resok, Resop, ends, nfs_resop4}
@@ -221,7 +223,7 @@ is_legal_by s false e other = absurd (other (same_status s OpIllegal (eqb-true (
     not_false true h = refl
     not_false false h = absurd (false≢true (sym h))
 
-verifiers : (n : ℕ) → Spells (codec.fixed n) (fixed n)
+verifiers : (n : ℕ) → Spells (combinators.fixed n) (fixed n)
 verifiers n = record { same = λ x. refl; to = λ x fits. fits; from = λ x fits. fits }
 
 texts : (limit : ℕ) → Spells (codec.opaque limit) (opaque limit)
@@ -230,7 +232,7 @@ texts limit = record { same = λ x. refl; to = λ x fits. fits; from = λ x fits
 pub says : (r : Res) → Says (parts r).operation (parts r).status (parts r).behind (parts r).Fits (nfs_resop4 r)
 says (ResAccess a) = done Op.Access item.access _ accesses a
 says (ResClose s) = done Op.Close stateid _ ids s
-says (ResCommit verifier) = done Op.Commit (codec.fixed 8) _ (verifiers 8) verifier
+says (ResCommit verifier) = done Op.Commit (combinators.fixed 8) _ (verifiers 8) verifier
 says (ResCreate c) = done Op.Create item.create _ creates c
 says (ResGetAttr f) = done Op.GetAttr item.fattr _ attrs f
 says (ResGetFh object) = done Op.GetFh (codec.opaque 128) _ (texts 128) object

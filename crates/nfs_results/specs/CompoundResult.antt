@@ -1,23 +1,19 @@
 -- The result of a compound (RFC 8881 section 16.2.2): its status, the tag of its call and the results of the operations that were run.
 use Rattle.std.specs.Prelude.{◌≡◌, ℕ, List, ◌++◌, length}
 use Rattle.std.specs.List.{flat_map}
-use Rattle.nfs_xdr.specs.Spelling.{number, opaque}
 use Rattle.nfs_xdr.specs.Limits.{opaque_limit}
 use Rattle.nfs_xdr.specs.Codec as codec
 use Rattle.nfs_xdr.specs.Codec.{Codec, ◌then◌, as_type, array}
-use Rattle.nfs_results.specs.Result.{Res}
 use Rattle.nfs_xdr.specs.declared.status.Status.{Status}
-use Rattle.nfs_xdr.specs.Status.{status_number, status as any_status}
-use Rattle.nfs_results.specs.Results.{result, spell_result}
+use Rattle.nfs_xdr.specs.StatusCodec.{status as any_status}
+use Rattle.nfs_results.specs.Result.{Res}
+use Rattle.nfs_results.specs.ResultCodec.{result}
+use Rattle.nfs_results.specs.Results.{spell_result, spell_compound_head}
 
 pub record CompoundResult : Type 0 where
   pub status : Status
   pub tag : List ℕ
   pub results : List Res
-
--- what stands in front of the results
-abbrev pub spell_compound_head : (status : Status) (tag : List ℕ) (count : ℕ) → List ℕ
-spell_compound_head status tag count = number (status_number status) ++ (opaque tag ++ number count)
 
 abbrev pub spell_compound : CompoundResult → List ℕ
 spell_compound c = spell_compound_head c.status c.tag (length c.results) ++ flat_map spell_result c.results

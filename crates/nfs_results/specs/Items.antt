@@ -4,15 +4,15 @@ use Rattle.std.specs.Int.{w32, from_be_bytes}
 use Rattle.std.specs.List.{list_all}
 use Rattle.nfs_xdr.specs.Spelling as spelling
 use Rattle.nfs_xdr.specs.Reading.{◌>>=◌, number_at}
-use Rattle.nfs_xdr.specs.Status.{status_of}
+use Rattle.nfs_xdr.specs.StatusCodec.{status_of}
 use Rattle.nfs_xdr.specs.Limits.{opaque_limit}
-use Rattle.nfs_xdr.specs.Codec.{Codec, number, hyper, flag, fixed, opaque, unbounded, ◌then◌, as_type, only, few, pieces}
+use Rattle.nfs_xdr.specs.Codec.{Codec, number, hyper, flag, opaque, unbounded, ◌then◌, as_type, only, pieces}
+use Rattle.nfs_xdr.specs.Combinators.{fixed, few}
 use Rattle.nfs_xdr.specs.Chain.{chain}
 use Rattle.nfs_compound.specs.Stateid.{stateid}
 use Rattle.nfs_compound.specs.StateOwner.{state_owner}
 use Rattle.nfs_compound.specs.ChannelAttrs.{channel_attrs}
-use Rattle.nfs_compound.specs.LockArgs.{lock_type}
-use Rattle.nfs_compound.specs.FileArgs.{stable_how}
+use Rattle.nfs_compound.specs.ArgCodecs.{lock_type, stable_how}
 use Rattle.nfs_results.specs.declared.res.AccessOk.{AccessOk}
 use Rattle.nfs_results.specs.declared.res.ChangeInfo.{ChangeInfo}
 use Rattle.nfs_results.specs.declared.res.RenameOk.{RenameOk}

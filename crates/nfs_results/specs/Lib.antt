@@ -9,3 +9,7 @@ pub mod OpenHead
 pub mod ReadReply
 pub mod Largest
 pub mod Wire
+pub mod MayAnswer
+pub mod Parts
+pub mod Refusals
+pub mod ResultCodec

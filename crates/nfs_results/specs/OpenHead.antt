@@ -3,7 +3,7 @@ use Rattle.std.specs.Prelude.{◌≡◌, ℕ, ◌+◌, List, ◌++◌, length}
 use Rattle.nfs_xdr.specs.Spelling.{opaque}
 use Rattle.nfs_xdr.specs.declared.status.Status.{Status}
 use Rattle.nfs_xdr.specs.SheetState.{SheetState}
-use Rattle.nfs_results.specs.CompoundResult.{spell_compound_head}
+use Rattle.nfs_results.specs.Results.{spell_compound_head}
 
 -- where the status and the count of a head with this tag stand, behind what is before it
 pub record HeadsAt (status_at count_at : ℕ) (before tag : List ℕ) : Type 0 where

@@ -2,7 +2,7 @@
 use Rattle.std.specs.Prelude.{ℕ, zero, suc, ◌==◌, List, [], ◌∷◌, length, Bool, false, Option, Some, None, if◌then◌else◌}
 use Rattle.nfs_xdr.specs.Reading.{◌>>=◌}
 use Rattle.nfs_results.specs.Result.{Res}
-use Rattle.nfs_results.specs.Results.{result}
+use Rattle.nfs_results.specs.ResultCodec.{result}
 
 -- what was read, where nothing stands behind it
 abbrev pub whole : {A : Type 0} → Option (A × List ℕ) → Option A

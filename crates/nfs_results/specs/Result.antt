@@ -55,7 +55,7 @@ pub record ExchangeIdOk : Type 0 where
   pub server_scope : List ℕ
 
 -- One constructor an operation that was done, in the order of their numbers; DENIED of LOCK and of LOCKT, which reports the
--- lock in the way; SETATTR, which reports what was set with every status; and any other refusal.
+-- lock in the way; SETATTR, which reports what was set with every status that it can have; and any other refusal.
 pub data Res : Type 0 where
   ResAccess : AccessOk → Res
   ResClose : Stateid → Res

@@ -2,17 +2,10 @@
 -- them and behind them.
 use Rattle.std.specs.Prelude.{ℕ, List, ◌++◌, Bool, true, false, replicate}
 use Rattle.nfs_xdr.specs.Spelling.{number, hyper, flag, fixed, opaque, padding}
-use Rattle.nfs_xdr.specs.declared.status.Status.TheVariants.{Nfs4Ok}
-use Rattle.nfs_compound.specs.declared.op_num.OpNum.{OpNum}
 use Rattle.nfs_compound.specs.declared.op_num.OpNum.TheVariants as Op
-use Rattle.nfs_compound.specs.OpNum.{op_number}
 use Rattle.nfs_results.specs.Items as item
 use Rattle.nfs_results.specs.Result.{Entry}
-use Rattle.nfs_results.specs.Results.{head}
-
--- in front of all that an operation has behind NFS4_OK
-abbrev pub done_head : OpNum → List ℕ
-done_head op = head (op_number op) Nfs4Ok
+use Rattle.nfs_results.specs.Results.{done_head}
 
 -- READ: in front of so many bytes, and the zeros behind them
 abbrev pub read_head : (eof : Bool) (count : ℕ) → List ℕ

@@ -16,7 +16,7 @@ use Rattle.nfs_results.specs.Result.{ResLockTDenied, ResLockU, ResLookup, ResLoo
 use Rattle.nfs_results.specs.Result.{ResPutRootFh, ResRead, ResReadDir, ResReadLink, ResRemove, ResRename, ResRestoreFh, ResSaveFh, ResSetAttr, ResVerify}
 use Rattle.nfs_results.specs.Result.{ResWrite, ResExchangeId, ResCreateSession, ResDestroySession, ResFreeStateid, ResSecinfoNoName, ResSequence}
 use Rattle.nfs_results.specs.Result.{ResTestStateid, ResDestroyClientId, ResReclaimComplete, Refused}
-use Rattle.nfs_results.specs.Results.{can_refuse}
+use Rattle.nfs_results.specs.Refusals.{can_refuse}
 
 -- the text of those values alone of which this holds too
 infixl 5 ◌provided◌

@@ -4,7 +4,7 @@ ghost use Rattle.std.specs.Prelude.{◌≤◌, length};
 ghost use Rattle.nfs_xdr.specs.SheetState.{HasRoom, Puts};
 ghost use Rattle.nfs_xdr.specs.declared.status.Status.TheVariants.{Nfs4Ok};
 ghost use Rattle.nfs_xdr.specs.Limits.{opaque_limit};
-ghost use Rattle.nfs_results.specs.CompoundResult.{spell_compound_head};
+ghost use Rattle.nfs_results.specs.Results.{spell_compound_head};
 ghost use Rattle.nfs_results.specs.OpenHead.{HeadsAt, HasHead, SetsHead};
 
 use nfs_xdr::{Sheet, Status};

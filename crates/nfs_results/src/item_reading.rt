@@ -2,8 +2,8 @@
 
 ghost use Rattle.std.specs.Prelude.{◌≡◌, ◌==◌, map, is_some, not};
 ghost use Rattle.std.specs.Int.{w32, from_be_bytes};
-ghost use Rattle.nfs_xdr.specs.Reading.{ReadsPartBy};
-ghost use Rattle.nfs_xdr.specs.Status.{status_of};
+ghost use Rattle.nfs_xdr.specs.Readers.{ReadsPartBy};
+ghost use Rattle.nfs_xdr.specs.StatusCodec.{status_of};
 ghost use Rattle.nfs_results.specs.Items as table;
 ghost use Rattle.nfs_results.specs.View as view;
 

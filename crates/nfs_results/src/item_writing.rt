@@ -5,7 +5,8 @@ ghost use Rattle.std.specs.Int.{w32, from_be_bytes};
 ghost use Rattle.nfs_xdr.specs.Spelling.{opaque};
 ghost use Rattle.nfs_xdr.specs.Spelling as spelling;
 ghost use Rattle.nfs_xdr.specs.SheetState.{HasRoom, Puts};
-ghost use Rattle.nfs_xdr.specs.Codec.{array, optional, number};
+ghost use Rattle.nfs_xdr.specs.Codec.{array, number};
+ghost use Rattle.nfs_xdr.specs.Combinators.{optional};
 ghost use Rattle.nfs_xdr.specs.Limits.{opaque_limit};
 ghost use Rattle.nfs_compound.specs.Stateid.{stateid};
 ghost use Rattle.nfs_compound.specs.StateOwner.{state_owner};
@@ -117,7 +118,7 @@ pub fn put_fattr(f: &Fattr<'_>, out: &mut Sheet)
     out.put_opaque(f.attr_vals);
 }
 
-#[tactic(auto, using(nfs_xdr::proofs::Putting::putting), unfolding(crate::specs::Items::denied, nfs_compound::specs::LockArgs::lock_type))]
+#[tactic(auto, using(nfs_xdr::proofs::Putting::putting), unfolding(crate::specs::Items::denied, nfs_compound::specs::ArgCodecs::lock_type))]
 pub fn put_denied(d: &Denied<'_>, out: &mut Sheet)
     requires size { length d.now.owner.owner.now ≤ opaque_limit }
     requires room { HasRoom out.old (table.denied.spell (view.denied d.now)) }
@@ -170,7 +171,7 @@ pub fn put_rename(r: &RenameOk, out: &mut Sheet)
     put_change_info(&r.target_cinfo, out);
 }
 
-#[tactic(auto, using(nfs_xdr::proofs::Putting::putting), unfolding(crate::specs::Items::write_ok, nfs_compound::specs::FileArgs::stable_how))]
+#[tactic(auto, using(nfs_xdr::proofs::Putting::putting), unfolding(crate::specs::Items::write_ok, nfs_compound::specs::ArgCodecs::stable_how))]
 pub fn put_write(w: &WriteOk, out: &mut Sheet)
     requires room { HasRoom out.old (table.write_ok.spell w.now) }
     ensures { Puts out.old out.new (table.write_ok.spell w.now) }

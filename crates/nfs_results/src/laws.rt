@@ -1,9 +1,8 @@
 //! Laws of the table of results (RFC 5662).
 
-ghost use Rattle.nfs_xdr.specs.Codec.{IsCodec, IsPrefixFree};
-ghost use Rattle.nfs_results.specs.Results as table;
+ghost use Rattle.nfs_xdr.specs.Lawful.{IsCodec, IsPrefixFree};
+ghost use Rattle.nfs_results.specs.ResultCodec as table;
 ghost use Rattle.nfs_results.specs.CompoundResult as whole;
-ghost use Rattle.nfs_results.specs.CompoundResult.{spell_compound_head};
 ghost use Rattle.std.specs.Prelude.{◌≡◌, ◌↔◌, ◌+◌, ◌++◌, ℕ, List, length, true};
 ghost use Rattle.std.specs.List.{flat_map};
 ghost use Rattle.nfs_xdr.specs.Spelling.{number, padding};
@@ -12,8 +11,9 @@ ghost use Rattle.nfs_compound.specs.Wire.{◌then◌, bool};
 ghost use Rattle.nfs_compound.specs.declared.op_num.OpNum.TheVariants as Op;
 ghost use Rattle.nfs_results.specs.Items as item;
 ghost use Rattle.nfs_results.specs.Result.{Entry, Fattr, ReadOk, ReadDirOk, Res, ResGetAttr, ResRead, ResReadDir, ResTestStateid};
-ghost use Rattle.nfs_results.specs.Results.{parts, spell_result};
-ghost use Rattle.nfs_results.specs.Straight.{done_head, read_head, read_end, read_dir_head, entry_text, list_end, test_stateid_head};
+ghost use Rattle.nfs_results.specs.Results.{spell_result, spell_compound_head, done_head};
+ghost use Rattle.nfs_results.specs.Parts.{parts};
+ghost use Rattle.nfs_results.specs.Straight.{read_head, read_end, read_dir_head, entry_text, list_end, test_stateid_head};
 ghost use Rattle.nfs_results.specs.Wire.{entry4, nfs_resop4};
 
 /// Each result has the operation's number, the status and the bytes behind them that its structs and unions of RFC 5662 have, and what has a

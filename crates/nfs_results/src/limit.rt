@@ -5,8 +5,10 @@ ghost use Rattle.nfs_xdr.specs.Spelling.{padding};
 ghost use Rattle.nfs_xdr.specs.Limits.{most_transfer};
 ghost use Rattle.nfs_compound.specs.View.{item};
 ghost use Rattle.nfs_results.specs.Result.{Res};
-ghost use Rattle.nfs_results.specs.Results.{spell_result, HasArrays};
+ghost use Rattle.nfs_results.specs.Results.{spell_result};
+ghost use Rattle.nfs_results.specs.ResultCodec.{HasArrays};
 ghost use Rattle.nfs_results.specs.Largest as limit;
+ghost use Rattle.nfs_results.specs.MayAnswer as may_answer;
 
 use nfs_compound::Arg;
 use nfs_xdr::MAX_TRANSFER;
@@ -15,7 +17,7 @@ use nfs_xdr::MAX_TRANSFER;
 /// profile). A refusal always fits.
 pub fn largest(arg: &Arg<'_>) -> u64
     ensures value { result ≡ limit.largest (item arg.now) }
-    ensures within { (r : Res) → HasArrays r → limit.MayAnswer (item arg.now) r → length (spell_result r) ≤ result }
+    ensures within { (r : Res) → HasArrays r → may_answer.MayAnswer (item arg.now) r → length (spell_result r) ≤ result }
 {
     size(arg)
 }

@@ -1,9 +1,10 @@
 //! Reading results.
 
 ghost use Rattle.std.specs.Prelude.{◌≡◌};
-ghost use Rattle.nfs_xdr.specs.Reading.{ReadsPartBy};
-ghost use Rattle.nfs_xdr.specs.Status.{status};
-ghost use Rattle.nfs_results.specs.Results as table;
+ghost use Rattle.nfs_xdr.specs.Readers.{ReadsPartBy};
+ghost use Rattle.nfs_xdr.specs.StatusCodec.{status};
+ghost use Rattle.nfs_results.specs.Refusals as refusals;
+ghost use Rattle.nfs_results.specs.ResultCodec as result_codec;
 ghost use Rattle.nfs_results.specs.View as view;
 
 use crate::item_reading as item;
@@ -13,7 +14,7 @@ use nfs_xdr::{Cursor, FHSIZE, Status, Unreadable};
 
 /// A result, from its operation number on. A refusal leaves the cursor anywhere.
 pub fn res<'a>(c: &mut Cursor<'a>) -> Result<Res<'a>, Unreadable>
-    ensures { ReadsPartBy view.res result (table.result.read c.old) c.new }
+    ensures { ReadsPartBy view.res result (result_codec.result.read c.old) c.new }
 {
     let operation = c.u32()?;
     let status = status(c)?;
@@ -38,9 +39,9 @@ pub fn status(c: &mut Cursor<'_>) -> Result<Status, Unreadable>
 }
 
 /// What an operation that was done has behind NFS4_OK.
-#[tactic(auto, unfolding(crate::specs::Results::done_at))]
+#[tactic(auto, unfolding(crate::specs::ResultCodec::done_at))]
 fn done<'a>(op: OpNum, c: &mut Cursor<'a>) -> Result<Res<'a>, Unreadable>
-    ensures { ReadsPartBy view.res result (table.done_at op c.old) c.new }
+    ensures { ReadsPartBy view.res result (result_codec.done_at op c.old) c.new }
 {
     Ok(match op {
         OpNum::Access => Res::Access(item::access(c)?),
@@ -87,9 +88,9 @@ fn done<'a>(op: OpNum, c: &mut Cursor<'a>) -> Result<Res<'a>, Unreadable>
 }
 
 /// What an operation that was refused has behind its status.
-#[tactic(auto, unfolding(crate::specs::Results::refused_at))]
+#[tactic(auto, unfolding(crate::specs::ResultCodec::refused_at))]
 fn refused<'a>(operation: u32, status: Status, c: &mut Cursor<'a>) -> Result<Res<'a>, Unreadable>
-    ensures { ReadsPartBy view.res result (table.refused_at operation status c.old) c.new }
+    ensures { ReadsPartBy view.res result (result_codec.refused_at operation status c.old) c.new }
 {
     if operation == OpNum::SetAttr.number() && status.number() != Status::OpIllegal.number() {
         let attrsset = item::attr_set(c)?;
@@ -110,14 +111,14 @@ fn refused<'a>(operation: u32, status: Status, c: &mut Cursor<'a>) -> Result<Res
 
 /// Whether a reply can bear this number and this status with nothing behind them.
 pub fn can_refuse(operation: u32, status: Status) -> bool
-    ensures { result ≡ table.can_refuse operation status }
+    ensures { result ≡ refusals.can_refuse operation status }
 {
     bears(operation, status) && !tells(operation, status)
 }
 
 /// Whether an operation of this number can be refused with this status.
 fn bears(operation: u32, status: Status) -> bool
-    ensures { result ≡ table.bears operation status }
+    ensures { result ≡ refusals.bears operation status }
 {
     let number = status.number();
     if operation == OP_ILLEGAL {
@@ -129,7 +130,7 @@ fn bears(operation: u32, status: Status) -> bool
 
 /// Whether it then has more behind its status.
 fn tells(operation: u32, status: Status) -> bool
-    ensures { result ≡ table.tells operation status }
+    ensures { result ≡ refusals.tells operation status }
 {
     let denied = status.number() == Status::Denied.number();
     let locks = operation == OpNum::Lock.number() || operation == OpNum::LockT.number();

@@ -2,7 +2,7 @@
 
 ghost use Rattle.std.specs.Prelude.{◌≡◌, [], ◌∷◌, Some, None, MatchOption, MatchResult, IfOk, OnErr};
 ghost use Rattle.nfs_xdr.specs.Codec.{many_at};
-ghost use Rattle.nfs_results.specs.Results as table;
+ghost use Rattle.nfs_results.specs.ResultCodec as table;
 ghost use Rattle.nfs_results.specs.CompoundResult.{compound_result, IsReply, IsNoReply};
 ghost use Rattle.nfs_results.specs.ReadReply.{whole, is_whole};
 ghost use Rattle.nfs_results.specs.View as view;

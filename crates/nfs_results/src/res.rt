@@ -62,7 +62,7 @@ pub enum Res<'a> {
     RestoreFh,
     /// RFC 8881 section 18.28.
     SaveFh,
-    /// SETATTR, done or refused: it reports with every status which attributes were set (RFC 8881 section
+    /// SETATTR, done or refused: it reports with every status that it can have which attributes were set (RFC 8881 section
     /// 18.30.2).
     SetAttr { status: Status, attrsset: AttrSet },
     /// RFC 8881 section 18.31.

@@ -7,7 +7,8 @@
 ghost use Rattle.std.specs.Prelude.{◌<◌, ◌^◌, ◌++◌, length};
 ghost use Rattle.nfs_xdr.specs.SheetState.{HasRoom, Puts};
 ghost use Rattle.nfs_xdr.specs.Spelling.{number, flag};
-ghost use Rattle.nfs_results.specs.Straight.{done_head, read_head, read_end, read_dir_head, entry_head, list_end, test_stateid_head};
+ghost use Rattle.nfs_results.specs.Straight.{read_head, read_end, read_dir_head, entry_head, list_end, test_stateid_head};
+ghost use Rattle.nfs_results.specs.Results.{done_head};
 
 use crate::writing::put_head;
 use nfs_compound::OpNum;

@@ -3,7 +3,9 @@
 ghost use Rattle.std.specs.Prelude.{◌≡◌, ◌≤◌, length};
 ghost use Rattle.nfs_xdr.specs.SheetState.{HasRoom, Puts};
 ghost use Rattle.nfs_xdr.specs.Status.{status_number};
-ghost use Rattle.nfs_results.specs.Results.{spell_result, IsBounded, HasArrays, parts, head, operation_of, status_of_result, refusal};
+ghost use Rattle.nfs_results.specs.Results.{spell_result, head, operation_of, status_of_result, refusal};
+ghost use Rattle.nfs_results.specs.ResultCodec.{IsBounded, HasArrays};
+ghost use Rattle.nfs_results.specs.Parts.{parts};
 ghost use Rattle.nfs_results.specs.View as view;
 
 use crate::item_writing::{

@@ -3,7 +3,8 @@ use Rattle.std.proofs.Common.{◌≡◌, ℕ, List, [], ◌∷◌, ◌++◌, len
 use Rattle.std.proofs.lemmas.List.{append-nil, take_at}
 use Rattle.nfs_xdr.specs.Codec.{IsBytes}
 use Rattle.nfs_xdr.proofs.CodecLaws.{IsBytes-take}
-use Rattle.nfs_rpc.specs.RecordMarking.{Part, IsPart, Gathered, Begun, Complete, Failed, Holds, start}
+use Rattle.nfs_rpc.specs.RecordMarking.{Part, IsPart, Gathered, Begun, Complete, Failed, start}
+use Rattle.nfs_rpc.specs.Feeding.{Holds}
 use Rattle.nfs_rpc.specs.Stream.{End, Open, TooLong, IsReading}
 use Rattle.nfs_rpc.specs.Share.{with_mark, with_data}
 use Rattle.nfs_rpc.proofs.Fragments.{bytes_behind_front}

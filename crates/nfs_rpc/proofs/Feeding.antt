@@ -8,9 +8,9 @@ use Rattle.nfs_xdr.specs.Spelling.{number}
 use Rattle.nfs_xdr.specs.Codec.{IsBytes}
 use Rattle.nfs_xdr.proofs.Putting.{length_number}
 use Rattle.nfs_xdr.proofs.CodecLaws.{IsBytes-take}
-use Rattle.nfs_rpc.specs.RecordMarking.{Gathered, Begun, Complete, Failed, IsPart, IsRecord, Holds, start, spell_mark, fragments}
+use Rattle.nfs_rpc.specs.RecordMarking.{Gathered, Begun, Complete, Failed, IsPart, IsRecord, start, spell_mark, fragments}
 use Rattle.nfs_xdr.specs.Limits.{most_record}
-use Rattle.nfs_rpc.specs.Feeding.{waits, done_with, BeginsWith, IsWhole}
+use Rattle.nfs_rpc.specs.Feeding.{waits, done_with, BeginsWith, IsWhole, Holds}
 use Rattle.nfs_rpc.proofs.Fragments.{IsBytes-append}
 
 take_front : (piece : List ℕ) (i k : ℕ) → take i piece ++ take k (drop i piece) ≡ take (i + k) piece

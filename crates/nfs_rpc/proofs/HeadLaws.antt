@@ -6,14 +6,16 @@ use Rattle.std.specs.Int.{w32, from_be_bytes}
 use Rattle.std.proofs.lemmas.Bool.{eqb-true}
 use Rattle.std.proofs.lemmas.List.{append-nil}
 use Rattle.std.proofs.lemmas.Option.{same_Some}
-use Rattle.nfs_xdr.specs.Codec.{IsBytes, IsCodec, IsSized, number}
+use Rattle.nfs_xdr.specs.Codec.{IsBytes, number}
+use Rattle.nfs_xdr.specs.Lawful.{IsCodec, IsSized}
 use Rattle.nfs_xdr.specs.Checks.{first_fault, judged}
 use Rattle.nfs_xdr.proofs.CodecLaws.{test_some, is_number, is_opaque, is_then, is_as_type, is_only, is_led_by, is_pieces}
 use Rattle.nfs_rpc.specs.declared.refusal.Refusal.{Refusal}
 use Rattle.nfs_rpc.specs.declared.refusal.Refusal.TheVariants.{Silent}
 use Rattle.nfs_rpc.specs.declared.call.Procedure.{Procedure}
 use Rattle.nfs_xdr.specs.Caller.{Caller}
-use Rattle.nfs_rpc.specs.CallHead.{opaque_auth, Header, header, AuthSys, auth_sys, named_by, caller_of, caller_by, Call, Called, Accepted, Refused}
+use Rattle.nfs_rpc.specs.CallHead.{opaque_auth, Header, header, named_by, caller_of, caller_by, Call, Called, Accepted, Refused}
+use Rattle.nfs_xdr.specs.AuthSys.{AuthSys, auth_sys}
 use Rattle.nfs_rpc.specs.CallHead.{◌>>=◌, message, checks, behind_header, call_of, spell_call}
 
 pub is_opaque_auth : IsCodec opaque_auth

@@ -7,7 +7,8 @@ use Rattle.std.proofs.lemmas.List.{append-nil, length-append}
 use Rattle.std.proofs.lemmas.Nat.{be_bytes_4}
 use Rattle.nfs_xdr.specs.Spelling.{number}
 use Rattle.nfs_xdr.specs.Codec.{IsBytes}
-use Rattle.nfs_rpc.specs.RecordMarking.{spell_mark, fragments, joined, Part, IsBetween, IsInside, IsPart, Begun, Complete, Failed, Holds}
+use Rattle.nfs_rpc.specs.RecordMarking.{spell_mark, fragments, joined, Part, IsBetween, IsInside, IsPart, Begun, Complete, Failed}
+use Rattle.nfs_rpc.specs.Feeding.{Holds}
 use Rattle.nfs_xdr.specs.Limits.{most_record}
 use Rattle.nfs_rpc.specs.Share.{at_mark, with_mark, with_data}
 use Rattle.nfs_rpc.proofs.Fragments.{more_fragments, more_joined, word_mark, further, bytes_behind_front}

@@ -1,12 +1,11 @@
 -- The head of a call (RFC 5531 sections 8.2 and 9, appendix A): from the bytes of a record to the call, or to the first refusal
 -- by this server's order of checks.
-use Rattle.std.specs.Prelude.{ℕ, ◌==◌, ◌&&◌, List, [], ◌∷◌, ◌++◌, length, Bool, Option, Some, None, Result, Ok, Err, nat_le, nat_lt, if◌then◌else◌, not}
+use Rattle.std.specs.Prelude.{ℕ, ◌==◌, ◌&&◌, List, [], ◌∷◌, ◌++◌, length, Bool, Option, Some, None, Result, Ok, Err, nat_lt, if◌then◌else◌, not}
 use Rattle.std.specs.Prelude.{option_and_then, ok_or}
-use Rattle.std.specs.Int.{w32, from_be_bytes}
 use Rattle.nfs_xdr.specs.Caller.{Caller}
-use Rattle.nfs_xdr.specs.Limits.{most_groups, most_machine_name}
-use Rattle.nfs_xdr.specs.Codec.{Codec, number, opaque, ◌then◌, as_type, led_by, only, pieces}
+use Rattle.nfs_xdr.specs.Codec.{Codec, number, opaque, ◌then◌, as_type, led_by}
 use Rattle.nfs_xdr.specs.Checks.{first_fault, judged}
+use Rattle.nfs_xdr.specs.AuthSys.{AuthSys, auth_sys}
 use Rattle.nfs_rpc.specs.declared.refusal.Refusal.{Refusal}
 use Rattle.nfs_rpc.specs.declared.refusal.Refusal.TheVariants.{Silent, Mismatch, Auth, Accept}
 use Rattle.nfs_rpc.specs.declared.refusal.AuthStat.TheVariants.{BadCred, RejectedCred, TooWeak}
@@ -35,20 +34,6 @@ header = as_type
     (λ (prog, (vers, (proc, (cred, verf)))). record { program = prog; version = vers; procedure = proc; credential = cred; verifier = verf })
     (λ h. (h.program, (h.version, (h.procedure, (h.credential, h.verifier)))))
     (number then number then number then opaque_auth then opaque_auth)
-
--- the body of an AUTH_SYS credential, with at most so many groups (RFC 5531 appendix A)
-pub record AuthSys : Type 0 where
-  pub stamp : ℕ
-  pub machine : List ℕ
-  pub uid : ℕ
-  pub gid : ℕ
-  pub gids : List ℕ
-
-unfoldable pub auth_sys : Codec AuthSys
-auth_sys = as_type
-    (λ (stamp, (machine, (uid, (gid, gids)))). record { stamp = stamp; machine = machine; uid = uid; gid = gid; gids = gids })
-    (λ s. (s.stamp, (s.machine, (s.uid, (s.gid, s.gids)))))
-    (number then opaque most_machine_name then number then number then only (λ gids. nat_le (length gids) most_groups) (pieces 4 (from_be_bytes w32) number))
 
 -- under AUTH_NONE
 abbrev pub nobody : Caller

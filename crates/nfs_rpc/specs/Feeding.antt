@@ -1,21 +1,21 @@
 -- What `Records` does with a piece of a stream, and with the record that waits (RFC 5531 section 11).
 use Rattle.std.specs.Prelude.{◌≡◌, ℕ, ◌+◌, ◌<◌, ◌≤◌, ◌++◌, List, [], length, take, Bool, true, false}
+use Rattle.nfs_xdr.specs.Limits.{most_record}
 use Rattle.nfs_rpc.specs.declared.records.Fed.{Fed}
 use Rattle.nfs_rpc.specs.declared.records.Fed.TheVariants.{More, Whole, TooLong}
-use Rattle.nfs_rpc.specs.RecordMarking.{Part, Gathered, Begun, Complete, Failed, IsRecord, Holds, start, spell_mark}
-use Rattle.nfs_xdr.specs.Limits.{most_record}
+use Rattle.nfs_rpc.specs.RecordMarking.{Part, Gathered, Begun, Complete, Failed, IsRecord, start, spell_mark, IsTooLong, IsPart}
+
+-- what is held stands for the bytes behind the last record that was done with
+abbrev pub Holds : List ℕ → Gathered → Type 0
+Holds rest (Begun p) = IsPart rest p
+Holds rest (Complete record_data) = IsRecord rest record_data
+Holds rest Failed = IsTooLong rest
 
 -- whether a whole record waits
 abbrev pub waits : Gathered → Bool
 waits (Begun p) = false
 waits (Complete record_data) = true
 waits Failed = false
-
--- whether the record is too long
-abbrev pub is_too_long : Gathered → Bool
-is_too_long (Begun p) = false
-is_too_long (Complete record_data) = false
-is_too_long Failed = true
 
 -- its data, and no bytes where none waits
 abbrev pub waiting : Gathered → List ℕ

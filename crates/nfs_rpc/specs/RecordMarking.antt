@@ -82,8 +82,8 @@ pub data Gathered : Type 0 where
   Complete : List ℕ → Gathered
   Failed : Gathered
 
--- what is held stands for the bytes behind the last record that was done with
-abbrev pub Holds : List ℕ → Gathered → Type 0
-Holds rest (Begun p) = IsPart rest p
-Holds rest (Complete record_data) = IsRecord rest record_data
-Holds rest Failed = IsTooLong rest
+-- whether the record is too long
+abbrev pub is_too_long : Gathered → Bool
+is_too_long (Begun p) = false
+is_too_long (Complete record_data) = false
+is_too_long Failed = true

@@ -1,13 +1,15 @@
 //! Laws of the streams, and of the codecs of a call's head.
 
 ghost use Rattle.std.specs.Prelude.{◌≡◌, ◌<◌, ◌≤◌, ◌^◌, ◌++◌, ◌∷◌, List, [], ℕ, Some, length, take, drop};
-ghost use Rattle.nfs_xdr.specs.Codec.{IsBytes, IsCodec};
+ghost use Rattle.nfs_xdr.specs.Codec.{IsBytes};
+ghost use Rattle.nfs_xdr.specs.Lawful.{IsCodec};
 ghost use Rattle.nfs_rpc.specs.RecordMarking.{IsRecord, IsTooLong, Part, IsPart, start};
 ghost use Rattle.nfs_rpc.specs.Stream.{IsUnfinished, End, Open, TooLong, IsReading};
 ghost use Rattle.nfs_rpc.specs.declared.refusal.Refusal.{Refusal};
 ghost use Rattle.nfs_rpc.specs.Reply.{spell_head, spell_refusal};
 ghost use Rattle.nfs_xdr.specs.Caller.{Caller};
-ghost use Rattle.nfs_rpc.specs.CallHead.{Header, header, AuthSys, auth_sys, named_by, caller_of, Call, Accepted, behind_header, call_of, spell_call};
+ghost use Rattle.nfs_rpc.specs.CallHead.{Header, header, named_by, caller_of, Call, Accepted, behind_header, call_of, spell_call};
+ghost use Rattle.nfs_xdr.specs.AuthSys.{AuthSys, auth_sys};
 
 /// One stream is read into records in one way, however it is cut into pieces.
 pub fn one_reading()

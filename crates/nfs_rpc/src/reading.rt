@@ -1,7 +1,7 @@
 //! Reading the head of a call (RFC 5531 sections 8.2 and 9, appendix A).
 
 ghost use Rattle.std.specs.Prelude.{◌≡◌, ◌≤◌, length, IfOk, MatchResult, Some, None, Ok, Err};
-ghost use Rattle.nfs_xdr.specs.Reading.{ReadsPartBy};
+ghost use Rattle.nfs_xdr.specs.Readers.{ReadsPartBy};
 ghost use Rattle.nfs_xdr.specs.Checks.{first_fault};
 ghost use Rattle.nfs_xdr.specs.Caller as calling;
 ghost use Rattle.nfs_rpc.specs.CallHead as head;
@@ -148,7 +148,7 @@ fn fault(xid: u32, header: &Header<'_>, args: &[u8]) -> Option<Refusal>
 }
 
 /// Who calls by the body of an AUTH_SYS credential.
-#[tactic(auto, unfolding(crate::specs::CallHead::caller_of, crate::specs::CallHead::auth_sys))]
+#[tactic(auto, unfolding(crate::specs::CallHead::caller_of, nfs_xdr::specs::AuthSys::auth_sys))]
 fn auth_sys(body: &[u8]) -> Result<Who<'_>, Unreadable>
     ensures caller { MatchResult result (λ w. caller_of body.now ≡ Some (calling.caller w)) (λ _. caller_of body.now ≡ None) }
     ensures groups { IfOk result (λ w. length w.groups.now ≤ 16) }

@@ -4,9 +4,9 @@ ghost use Rattle.std.specs.Prelude.{◌≡◌, ◌≤◌, ◌<◌, List, ℕ, If
 ghost use Rattle.nfs_xdr.specs.Codec.{IsBytes};
 ghost use Rattle.nfs_rpc.specs.declared.records.State.TheVariants as States;
 ghost use Rattle.nfs_rpc.specs.declared.records.Fed.TheVariants as Feds;
-ghost use Rattle.nfs_rpc.specs.RecordMarking.{Part, Gathered, Holds, start};
+ghost use Rattle.nfs_rpc.specs.RecordMarking.{Part, Gathered, start, is_too_long};
 ghost use Rattle.nfs_rpc.specs.RecordMarking as marking;
-ghost use Rattle.nfs_rpc.specs.Feeding.{waits, is_too_long, waiting, done_with, AnswersFeed, StandsNow, BeginsWith, IsWhole};
+ghost use Rattle.nfs_rpc.specs.Feeding.{waits, waiting, done_with, AnswersFeed, StandsNow, BeginsWith, IsWhole, Holds};
 ghost use Rattle.nfs_rpc.specs.Share.{state_of, at_mark, with_mark, with_data};
 
 use crate::numbers::LAST_FRAGMENT;

@@ -5,12 +5,13 @@ use Rattle.nfs_xdr.specs.Spelling.{number, hyper}
 use Rattle.nfs_xdr.specs.Reading.{opaque_at, fixed_at, flag_at, pieces_at}
 use Rattle.nfs_rpc.specs.RecordMarking.{IsRecord, start}
 use Rattle.nfs_rpc.specs.Stream.{Open, IsReading}
-use Rattle.nfs_rpc.specs.CallHead.{call_of, header, opaque_auth, behind_header, caller_of, auth_sys}
+use Rattle.nfs_rpc.specs.CallHead.{call_of, header, opaque_auth, behind_header, caller_of}
+use Rattle.nfs_xdr.specs.AuthSys.{auth_sys}
 use Rattle.nfs_rpc.specs.Reply.{spell_head}
 use Rattle.nfs_rpc.proofs.Readings.{part_unfinished}
 use Rattle.nfs_compound.specs.ReadRequest.{request_at, items_at, item_at}
-use Rattle.nfs_compound.specs.Arguments.{op_at, fault_at}
-use Rattle.nfs_compound.specs.SessionArgs.{exchange_id_args, protected, impl_id}
+use Rattle.nfs_compound.specs.OpCodec.{op_at, fault_at}
+use Rattle.nfs_compound.specs.ArgCodecs.{exchange_id_args, protected, impl_id}
 use Rattle.nfs_results.specs.Items as results
 use Rattle.nfs_serve.specs.declared.form.Form.TheVariants.{Tagged}
 use Rattle.nfs_serve.specs.Script.{Entry, head, Fits, IsWhole}

@@ -16,7 +16,7 @@ use Rattle.nfs_compound.specs.Operation.{Item, Operation, OpSequence}
 use Rattle.nfs_compound.specs.Request.{Request}
 use Rattle.nfs_compound.specs.declared.session_args.Sequence.{Sequence}
 use Rattle.nfs_results.specs.Result.{ResSequence}
-use Rattle.nfs_results.specs.Results.{parts}
+use Rattle.nfs_results.specs.Parts.{parts}
 use Rattle.nfs_exec.specs.Machine.{Machine}
 use Rattle.nfs_exec.specs.Sequence as sequence
 use Rattle.nfs_exec.specs.Sequence.{Sequenced, Refuses, Repeats, Runs, accepted}

@@ -7,19 +7,20 @@ use Rattle.nfs_xdr.specs.Tables.{In}
 use Rattle.nfs_xdr.specs.Spelling.{number, hyper}
 use Rattle.nfs_xdr.specs.Reading.{opaque_at, fixed_at, flag_at, pieces_at}
 use Rattle.nfs_xdr.specs.declared.status.Status.TheVariants.{Nfs4Ok}
-use Rattle.nfs_rpc.specs.CallHead.{call_of, header, opaque_auth, behind_header, caller_of, auth_sys}
+use Rattle.nfs_rpc.specs.CallHead.{call_of, header, opaque_auth, behind_header, caller_of}
+use Rattle.nfs_xdr.specs.AuthSys.{auth_sys}
 use Rattle.nfs_rpc.specs.Reply.{spell_head}
 use Rattle.nfs_compound.specs.ReadRequest.{request_at, items_at, item_at}
-use Rattle.nfs_compound.specs.Arguments.{op_at, fault_at}
+use Rattle.nfs_compound.specs.OpCodec.{op_at, fault_at}
 use Rattle.nfs_compound.specs.Operation.{Item, Operation, OpLock, OpLockU, OpClose, OpPutRootFh}
 use Rattle.nfs_compound.specs.ChannelAttrs.{channel_attrs}
-use Rattle.nfs_compound.specs.Callback.{sec_parms}
-use Rattle.nfs_compound.specs.SessionArgs.{exchange_id_args, create_session_args, sequence_args, protected, impl_id}
+use Rattle.nfs_compound.specs.ArgCodecs.{sec_parms, exchange_id_args, create_session_args, sequence_args, protected, impl_id, lock_type, open_to_lock_owner}
+use Rattle.nfs_compound.specs.ArgCodecs.{exist_lock_owner, locker, lock_args, lock_u_args}
 use Rattle.nfs_compound.specs.Stateid.{stateid}
 use Rattle.nfs_compound.specs.StateOwner.{state_owner}
-use Rattle.nfs_compound.specs.Attributes as compound_attributes
-use Rattle.nfs_compound.specs.OpenArgs.{create_how, open_how, delegation_type, open_claim, open_args}
-use Rattle.nfs_compound.specs.LockArgs.{Lock, OpenOwner, lock_type, open_to_lock_owner, exist_lock_owner, locker, lock_args, lock_u_args}
+use Rattle.nfs_compound.specs.ArgCodecs as compound_attributes
+use Rattle.nfs_compound.specs.OpenCodecs.{create_how, open_how, delegation_type, open_claim, open_args}
+use Rattle.nfs_compound.specs.LockArgs.{Lock, OpenOwner}
 use Rattle.nfs_compound.specs.declared.lock_args.LockType.TheVariants as LockTypes
 use Rattle.nfs_results.specs.Items as results
 use Rattle.nfs_ranges.specs.Told.{told}

@@ -11,11 +11,13 @@ use Rattle.nfs_xdr.specs.Status.{status_number}
 use Rattle.nfs_xdr.proofs.StatusLaws.{is_status_listing}
 use Rattle.nfs_compound.proofs.OpNumLaws.{is_op_listing}
 use Rattle.nfs_compound.specs.Operation.{Op, Item, Operation, Fault, OpSequence, OpExchangeId, OpCreateSession, OpDestroySession, OpDestroyClientId}
-use Rattle.nfs_compound.specs.Arguments.{arguments, item_number}
-use Rattle.nfs_compound.specs.Request.{Request}
+use Rattle.nfs_compound.specs.Arguments.{arguments}
+use Rattle.nfs_compound.specs.Request.{Request, item_number}
 use Rattle.nfs_compound.specs.SessionArgs.{CreateSession}
 use Rattle.nfs_results.specs.Result.{ResSetAttr, Refused}
-use Rattle.nfs_results.specs.Results.{bears, is_legal, can_refuse, refusal, spell_result}
+use Rattle.nfs_results.specs.Results.{refusal, spell_result}
+use Rattle.nfs_results.specs.Refusals.{bears, can_refuse}
+use Rattle.nfs_results.specs.Parts.{is_legal}
 use Rattle.nfs_clients.specs.declared.destroy.DestroyFault.{DestroyFault}
 use Rattle.nfs_clients.specs.declared.exchange_id.Exchanged.{Exchanged}
 use Rattle.nfs_clients.specs.declared.exchange_id.ClientFault.{ClientFault}
@@ -28,12 +30,13 @@ use Rattle.nfs_sessions.specs.declared.sessions.SessionFault.{SessionFault}
 use Rattle.nfs_sessions.specs.Id.{id_of}
 use Rattle.nfs_sessions.specs.Sessions.{SessionTable, create, session_at, fault_status}
 use Rattle.nfs_exec.specs.Machine.{Machine, Outcome, is_ok, or_delay}
-use Rattle.nfs_exec.specs.Place.{CanBear, stands_alone, is_sequence}
+use Rattle.nfs_exec.specs.Place.{stands_alone, is_sequence}
+use Rattle.nfs_exec.specs.View.{CanBear, IsOpened}
 use Rattle.nfs_exec.specs.ExchangeId.{exchange_id, exchange_id_number, answered, ask_of}
 use Rattle.nfs_exec.specs.CreateSession.{create_session_number, by_verdict, by_created, wish_of}
 use Rattle.nfs_exec.specs.Destroy.{destroy_session, destroyed_unless, has_session}
 use Rattle.nfs_exec.specs.Run.{is_here}
-use Rattle.nfs_exec.specs.Compound.{IsOpened, carried_out, by_fault, first_item, by_first, compound}
+use Rattle.nfs_exec.specs.Compound.{carried_out, by_fault, first_item, by_first, compound}
 use Rattle.nfs_exec.proofs.Bearing.{opened_bears}
 use Rattle.nfs_exec.specs.Executing.{first_sequence, sequence_of}
 use Rattle.nfs_serve.specs.Seen.{sequenced}

@@ -7,7 +7,8 @@ use Rattle.std.proofs.lemmas.List.Elements.{All-head, All-tail}
 use Rattle.std.proofs.lemmas.Option.{some_pair_parts}
 use Rattle.nfs_xdr.specs.Spelling.{number, hyper}
 use Rattle.nfs_xdr.specs.Codec as codec
-use Rattle.nfs_xdr.specs.Codec.{Codec, IsCodec, ◌then◌}
+use Rattle.nfs_xdr.specs.Codec.{Codec, ◌then◌}
+use Rattle.nfs_xdr.specs.Lawful.{IsCodec}
 use Rattle.nfs_xdr.proofs.CodecLaws.{is_number, is_hyper, is_then}
 use Rattle.nfs_serve.specs.declared.fault.Stop.{Stop}
 use Rattle.nfs_serve.specs.declared.fault.Stop.TheVariants.{Cut, Connection, Long, Late, Many, ReadFailed, WriteFailed}

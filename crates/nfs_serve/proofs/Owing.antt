@@ -4,8 +4,8 @@ use Rattle.std.proofs.Math.ListN.{get_or-eq_default}
 use Rattle.std.proofs.lemmas.List.{get_or-take, length-take}
 use Rattle.std.proofs.lemmas.Bool.{cases_lt}
 use Rattle.nfs_xdr.specs.Codec.{IsBytes}
-use Rattle.nfs_rpc.specs.RecordMarking.{Gathered, Complete, Failed}
-use Rattle.nfs_rpc.specs.Feeding.{waits, is_too_long}
+use Rattle.nfs_rpc.specs.RecordMarking.{Gathered, Complete, Failed, is_too_long}
+use Rattle.nfs_rpc.specs.Feeding.{waits}
 use Rattle.nfs_serve.specs.declared.form.Form.TheVariants.{Plain}
 use Rattle.nfs_serve.specs.Step.{State, step}
 use Rattle.nfs_serve.specs.Run.{spell_answer}

@@ -5,9 +5,9 @@ use Rattle.std.proofs.lemmas.List.{map-append}
 use Rattle.std.specs.Io.KnownBytes.{Appends}
 use Rattle.std.proofs.KnownBytes.{Appends-nil, Appends-trans}
 use Rattle.nfs_xdr.specs.Codec.{IsBytes}
-use Rattle.nfs_rpc.specs.RecordMarking.{Gathered, Begun, Complete, Failed, IsRecord, Holds, start}
+use Rattle.nfs_rpc.specs.RecordMarking.{Gathered, Begun, Complete, Failed, IsRecord, start, is_too_long}
 use Rattle.nfs_rpc.specs.Stream.{End, Open, TooLong, AreRecords, IsReading, IsUnfinished}
-use Rattle.nfs_rpc.specs.Feeding.{waits, is_too_long}
+use Rattle.nfs_rpc.specs.Feeding.{waits, Holds}
 use Rattle.nfs_rpc.proofs.Fragments.{IsBytes-append, bytes_behind_front}
 use Rattle.nfs_rpc.proofs.Readings.{part_unfinished}
 use Rattle.nfs_serve.specs.declared.form.Form.{Form}

@@ -9,7 +9,7 @@ use Rattle.nfs_rpc.specs.CallHead.{Call, Called, Accepted, Refused, call_of}
 use Rattle.nfs_rpc.specs.declared.call.Procedure.{Procedure}
 use Rattle.nfs_compound.specs.Request.{Request}
 use Rattle.nfs_compound.specs.ReadRequest.{request_at}
-use Rattle.nfs_lease.specs.Renewals.{IsLatest}
+use Rattle.nfs_lease.specs.Queue.{IsLatest}
 use Rattle.nfs_exec.specs.Machine.{Machine}
 use Rattle.nfs_exec.specs.Laws.{Event, Expires, Asks, stepped}
 use Rattle.nfs_exec.specs.Ops.{Done, ops_by}

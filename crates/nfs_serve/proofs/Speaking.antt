@@ -6,9 +6,8 @@ use Rattle.std.proofs.KnownBytes.{Consumes-nil, Consumes-trans, Appends-nil, App
 use Rattle.std.proofs.lemmas.List.{map-append}
 use Rattle.std.proofs.lemmas.List.Elements.{All-nil, All-push}
 use Rattle.std.proofs.lemmas.List.Concat.{flat_map-append}
-use Rattle.nfs_rpc.specs.RecordMarking.{Gathered, Begun, Complete, Failed}
+use Rattle.nfs_rpc.specs.RecordMarking.{Gathered, Begun, Complete, Failed, is_too_long}
 use Rattle.nfs_rpc.specs.Stream.{End, Open, TooLong}
-use Rattle.nfs_rpc.specs.Feeding.{is_too_long}
 use Rattle.nfs_serve.specs.declared.form.Form.TheVariants.{Plain}
 use Rattle.nfs_serve.specs.declared.form.Flow.TheVariants as Flow
 use Rattle.nfs_serve.specs.declared.talking.Talk.TheVariants.{Ended, Shut, ReadFailed, WriteFailed, TooMany}

@@ -9,7 +9,8 @@ use Rattle.nfs_rpc.specs.declared.refusal.Refusal.TheVariants.{Silent, Mismatch,
 use Rattle.nfs_rpc.specs.Reply.{spell_refusal}
 use Rattle.nfs_rpc.specs.CallHead.{Call, Called, Accepted, header, call_of}
 use Rattle.nfs_rpc.proofs.HeadLaws.{call_taken}
-use Rattle.nfs_lease.specs.Renewals.{IsLatest, has_run_out}
+use Rattle.nfs_lease.specs.Renewals.{has_run_out}
+use Rattle.nfs_lease.specs.Queue.{IsLatest}
 use Rattle.nfs_exec.specs.Machine.{Machine}
 use Rattle.nfs_exec.specs.Expiry.{expired}
 use Rattle.nfs_serve.specs.Step.{State, Stepped, refused, reply_to, step}

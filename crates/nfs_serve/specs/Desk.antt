@@ -1,8 +1,7 @@
 -- One of many connections over one server: what came on it and was not stepped, what is owed to its peer, and what may be done with
 -- it (RFC 5531 section 11). This server's profile.
 use Rattle.std.specs.Prelude.{◌≡◌, ◌⊎◌, ℕ, ◌+◌, ◌<◌, ◌≤◌, List, [], ◌∷◌, ◌++◌, length, Bool, true, false}
-use Rattle.nfs_rpc.specs.RecordMarking.{Gathered}
-use Rattle.nfs_rpc.specs.Feeding.{is_too_long}
+use Rattle.nfs_rpc.specs.RecordMarking.{Gathered, is_too_long}
 use Rattle.nfs_rpc.specs.Stream.{End}
 use Rattle.nfs_serve.specs.declared.form.Form.TheVariants.{Plain}
 use Rattle.nfs_serve.specs.Script.{last_moment, most_piece}

@@ -1,7 +1,7 @@
 -- What a port's fields stand for, and how far its functions bring it; private contracts alone speak of it.
 use Rattle.std.specs.Prelude.{◌≡◌, ℕ, ◌<◌, List, [], ◌∷◌, ◌++◌, length, map, flat_map, true, false, Option}
 use Rattle.std.specs.Io.KnownBytes.{Appends}
-use Rattle.nfs_rpc.specs.Feeding.{is_too_long}
+use Rattle.nfs_rpc.specs.RecordMarking.{is_too_long}
 use Rattle.nfs_serve.specs.Step.{State}
 use Rattle.nfs_serve.specs.Desk.{Desk, closed, Act, StepsPart, Goes, IsStuck}
 use Rattle.nfs_serve.specs.Deeds.{Deed, Logs, shown, asked}

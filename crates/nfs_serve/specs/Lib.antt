@@ -26,3 +26,4 @@ pub mod LostReply
 pub mod Points
 pub mod Kept
 pub mod HeldLock
+pub mod Shows

@@ -8,9 +8,9 @@ use Rattle.nfs_rpc.specs.CallHead.{Call, Called, Accepted, Refused, call_of}
 use Rattle.nfs_rpc.specs.declared.call.Procedure.{Procedure}
 use Rattle.nfs_compound.specs.Request.{Request}
 use Rattle.nfs_compound.specs.ReadRequest.{request_at}
-use Rattle.nfs_exec.specs.Machine.{Machine}
+use Rattle.nfs_exec.specs.Machine.{Machine, HasNoClashes}
 use Rattle.nfs_exec.specs.Expiry.{expired}
-use Rattle.nfs_exec.specs.Laws.{Event, Asks, HasNoClashes}
+use Rattle.nfs_exec.specs.Laws.{Event, Asks}
 use Rattle.nfs_exec.specs.Ops.{Done, ops_by}
 use Rattle.nfs_serve.specs.Step.{State, new_state, step}
 

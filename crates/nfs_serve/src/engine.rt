@@ -4,13 +4,11 @@ ghost use Rattle.std.specs.Prelude.{◌≡◌, ◌≤◌, ◌+◌, ◌++◌, ℕ
 ghost use Rattle.nfs_xdr.specs.Spelling.{number};
 ghost use Rattle.nfs_rpc.specs.View as view;
 ghost use Rattle.nfs_compound.specs.ReadRequest.{request_at};
-ghost use Rattle.nfs_exec.specs.Laws.{HasNoClashes};
-ghost use Rattle.nfs_exec.specs.Machine.{IsMachine};
+ghost use Rattle.nfs_exec.specs.Machine.{IsMachine, HasNoClashes, machine_of};
 ghost use Rattle.nfs_serve.specs.Step.{State, step, new_state, by_procedure, with_arguments};
 ghost use Rattle.nfs_serve.specs.Run.{one_fragment, spell_reply};
 ghost use Rattle.nfs_serve.specs.Server.{IsAnswer, state_of};
-ghost use Rattle.nfs_lease.specs.Renewals.{IsLatest};
-ghost use Rattle.nfs_exec.specs.View.{machine_of};
+ghost use Rattle.nfs_lease.specs.Queue.{IsLatest};
 ghost use Rattle.nfs_serve.specs.Engine.{PutsReply, outcome_of, in_form, spell_lent};
 ghost use Rattle.nfs_serve.specs.Ends.{Writes};
 ghost use Rattle.nfs_serve.specs.Script.{last_moment};
@@ -44,8 +42,8 @@ pub struct Engine {
 
 impl Model for Engine {
     ghost use Rattle.std.specs.Prelude.{◌≡◌, ◌≤◌, length, drop};
-    ghost use Rattle.nfs_lease.specs.Renewals.{IsLatest};
-    ghost use Rattle.nfs_exec.specs.View.{machine_of};
+    ghost use Rattle.nfs_lease.specs.Queue.{IsLatest};
+    ghost use Rattle.nfs_exec.specs.Machine.{machine_of};
     ghost use Rattle.nfs_serve.specs.Engine.{EngineModel};
     ghost use Rattle.nfs_serve.specs.Script.{last_moment};
 

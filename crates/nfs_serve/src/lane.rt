@@ -1,7 +1,7 @@
 //! One connection of many: what came, what is owed, and its turn.
 
 ghost use Rattle.std.specs.Prelude.{◌≡◌, ◌≤◌, ◌<◌, ℕ, List, length, true, false, IfOk};
-ghost use Rattle.nfs_rpc.specs.Feeding.{is_too_long};
+ghost use Rattle.nfs_rpc.specs.RecordMarking.{is_too_long};
 ghost use Rattle.nfs_serve.specs.Server.{state_of};
 ghost use Rattle.nfs_serve.specs.Script.{last_connection};
 ghost use Rattle.nfs_serve.specs.Desk.{Act, closed, opened, most_owed, EndsTurn};

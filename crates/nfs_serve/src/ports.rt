@@ -2,7 +2,8 @@
 
 ghost use Rattle.std.specs.Prelude.{◌<◌, ◌≤◌, ℕ, [], ◌∷◌, List, Option, length};
 ghost use Rattle.nfs_serve.specs.Desk.{Act, Closed};
-ghost use Rattle.nfs_serve.specs.Deeds.{Deed, Logs, NamesPort, named, ComesWithin, came, TakesWithin, took};
+ghost use Rattle.nfs_serve.specs.Deeds.{Deed, Logs};
+ghost use Rattle.nfs_serve.specs.Shows.{NamesPort, named, ComesWithin, came, TakesWithin, took};
 ghost use Rattle.nfs_serve.specs.Script.{last_connection};
 
 /// What comes next.

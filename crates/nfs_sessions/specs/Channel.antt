@@ -1,5 +1,5 @@
 -- What is granted of a channel that is asked for (RFC 8881 section 18.36; the limits are this server's profile).
-use Rattle.std.specs.Prelude.{ℕ, min, nat_lt, ◌≤◌, ◌==◌, Bool, ◌||◌}
+use Rattle.std.specs.Prelude.{ℕ, min, nat_lt, ◌==◌, Bool, ◌||◌}
 use Rattle.nfs_xdr.specs.Limits.{most_record}
 use Rattle.nfs_sessions.specs.declared.channel.Channel.{Channel}
 
@@ -24,11 +24,3 @@ granted c = record {
 
 abbrev pub is_too_small : Channel → Bool
 is_too_small c = nat_lt c.request least_bytes || nat_lt c.response least_bytes || (c.operations == 0) || (c.slots == 0)
-
--- the channel of a session that stands
-pub record IsGranted (c : Channel) : Type 0 where
-  pub request : (least_bytes ≤ c.request) × (c.request ≤ most_record)
-  pub response : (least_bytes ≤ c.response) × (c.response ≤ most_record)
-  pub cached : c.cached ≤ most_record
-  pub operations : (1 ≤ c.operations) × (c.operations ≤ most_operations)
-  pub slots : (1 ≤ c.slots) × (c.slots ≤ most_slots)

@@ -3,3 +3,4 @@ pub mod Channel
 pub mod SessionSlots
 pub mod Sessions
 pub mod Laws
+pub mod Kept

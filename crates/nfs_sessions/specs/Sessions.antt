@@ -1,7 +1,6 @@
 -- The sessions as a table by id (RFC 8881 sections 2.10, 18.36 and 18.37).
-use Rattle.std.specs.Prelude.{◌≡◌, ℕ, ◌+◌, ◌==◌, suc, nat_le, Bool, true, not, ◌&&◌, if◌then◌else◌, List, [], ◌∷◌, ◌++◌, Option, Some, None, Result, Ok, Err}
-use Rattle.std.specs.Prelude.{IsOk, filter, map, find, count_by}
-use Rattle.nfs_xdr.specs.Tables.{IsRising}
+use Rattle.std.specs.Prelude.{ℕ, ◌+◌, ◌==◌, nat_le, Bool, true, not, ◌&&◌, if◌then◌else◌, List, [], ◌∷◌, ◌++◌, Option, Some, None, Result, Ok, Err, filter, map}
+use Rattle.std.specs.Prelude.{find, count_by}
 use Rattle.nfs_xdr.specs.Checks.{first_fault}
 use Rattle.nfs_xdr.specs.declared.status.Status.{Status}
 use Rattle.nfs_xdr.specs.declared.status.Status.TheVariants as status
@@ -84,11 +83,6 @@ create_unless t client wish (Some fault) = record { answer = Err fault; after = 
 abbrev pub create : SessionTable → ℕ → Wish → Created
 create t client wish = create_unless t client wish (create_fault t wish)
 
--- the call does what `create` says; or it wants memory, where it would have been granted, and leaves the table
-abbrev pub CreatesOrWants : SessionTable → Created → Result SessionId SessionFault → SessionTable → Type 0
-CreatesOrWants old did (Err Memory) new = IsOk did.answer × (new ≡ old)
-CreatesOrWants old did answer new = (answer ≡ did.answer) × (new ≡ did.after)
-
 abbrev pub destroyed : SessionTable → SessionId → SessionTable
 destroyed t id = record t { sessions = filter (λ s. not (is_session id s)) t.sessions }
 
@@ -102,7 +96,3 @@ with_slots t id change = record t { sessions = map (λ s. if is_session id s the
 -- a session's slot keeps a reply
 abbrev pub keep : SessionTable → SessionId → ℕ → ℕ → ℕ → List ℕ → List ℕ → SessionTable
 keep t id slot number uid args reply = with_slots t id (λ g. slots.keep g slot number uid args reply)
-
--- the counters rise from 1 on, up to the last that was given
-pub record IsSessions (t : SessionTable) : Type 0 where
-  pub rising : IsRising (λ s. s.counter) 1 t.sessions (suc t.last)

@@ -5,8 +5,9 @@ ghost use Rattle.std.specs.Option.{option_copied};
 ghost use Rattle.std.specs.List.{list_any};
 ghost use Rattle.nfs_xdr.specs.Checks.{judged};
 ghost use Rattle.nfs_sessions.specs.declared.sessions.SessionFault.TheVariants.{Memory};
-ghost use Rattle.nfs_sessions.specs.Sessions.{IsSessions, no_sessions, is_session, session_at, stays, create, create_fault, with_session, CreatesOrWants, destroyed, without_client, keep, fault_status};
-ghost use Rattle.nfs_sessions.specs.SessionSlots.{MayKeep};
+ghost use Rattle.nfs_sessions.specs.Sessions.{no_sessions, is_session, session_at, stays, create, create_fault, with_session, destroyed, without_client, keep};
+ghost use Rattle.nfs_sessions.specs.Sessions.{fault_status};
+ghost use Rattle.nfs_sessions.specs.Kept.{IsSessions, CreatesOrWants, MayKeep};
 ghost use Rattle.nfs_sessions.specs.SessionSlots as slots;
 
 use crate::channel::Wish;
@@ -75,7 +76,8 @@ pub struct Sessions {
 }
 
 impl Model for Sessions {
-    ghost use Rattle.nfs_sessions.specs.Sessions.{SessionTable, IsSessions};
+    ghost use Rattle.nfs_sessions.specs.Sessions.{SessionTable};
+    ghost use Rattle.nfs_sessions.specs.Kept.{IsSessions};
 
     ghost Value = { SessionTable };
 

@@ -10,7 +10,8 @@ use Rattle.std.proofs.lemmas.List.Sums.{sum_by-cons}
 use Rattle.std.proofs.lemmas.Slice.Eq.{bytes_eq-Decides}
 use Rattle.nfs_slots.specs.declared.slot.Slot.{Slot}
 use Rattle.nfs_slots.specs.declared.slot.Verdict.TheVariants.{Fresh, Again, FalseRetry, Misordered, NoSlot}
-use Rattle.nfs_slots.specs.Slot.{SlotState, SlotTable, next_number, judge_slot, slot_at, judge, keep, IsBounded}
+use Rattle.nfs_slots.specs.Slot.{SlotState, SlotTable, next_number, judge_slot, slot_at, judge, keep}
+use Rattle.nfs_slots.specs.Kept.{IsBounded}
 use Rattle.nfs_slots.specs.Buffers.{state_of, IsKept}
 use Rattle.nfs_slots.specs.Laws.{Request, is_on, Keeps, OnePlace, RepeatsAreAnswered}
 

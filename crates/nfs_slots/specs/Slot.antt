@@ -1,9 +1,6 @@
 -- A slot of a session, and what it says of a request's number (RFC 8881 section 2.10.6.1).
-use Rattle.std.specs.Prelude.{ℕ, ◌+◌, ◌%◌, ◌^◌, ◌≤◌, ◌==◌, Bool, true, false, not, ◌&&◌, if◌then◌else◌, List, [], Option, bytes_eq, slice_get, slice_set}
-use Rattle.std.specs.Prelude.{replicate, length}
+use Rattle.std.specs.Prelude.{ℕ, ◌+◌, ◌%◌, ◌^◌, ◌==◌, Bool, true, false, not, ◌&&◌, if◌then◌else◌, List, [], Option, bytes_eq, slice_get, slice_set}
 use Rattle.std.specs.Option.{option_map_or}
-use Rattle.nfs_xdr.specs.declared.status.Status.{Status}
-use Rattle.nfs_xdr.specs.declared.status.Status.TheVariants as status
 use Rattle.nfs_slots.specs.declared.slot.Verdict.{Verdict}
 use Rattle.nfs_slots.specs.declared.slot.Verdict.TheVariants.{Fresh, Again, FalseRetry, Misordered, NoSlot}
 
@@ -24,9 +21,6 @@ pub record SlotTable : Type 0 where
 -- a slot that took no request
 abbrev pub unused_slot : SlotState
 unused_slot = record { number = 0; used = false; uid = 0; args = []; reply = [] }
-
-abbrev pub unused : ℕ → ℕ → ℕ → SlotTable
-unused count size request = record { slots = replicate count unused_slot; size = size; request = request }
 
 -- numbers go round: 0 stands behind 2^32 - 1
 abbrev pub next_number : ℕ → ℕ
@@ -55,20 +49,3 @@ keep t slot number uid args reply = record t {
 -- the reply that a slot keeps
 abbrev pub kept : SlotTable → ℕ → List ℕ
 kept t slot = option_map_or (λ s. s.reply) (slot_at t slot) []
-
--- the argument bytes that a slot keeps
-abbrev pub kept_args : SlotTable → ℕ → List ℕ
-kept_args t slot = option_map_or (λ s. s.args) (slot_at t slot) []
-
--- no slot keeps a reply or arguments of more bytes than the table has room for
-pub record IsBounded (t : SlotTable) : Type 0 where
-  pub reply : (slot : ℕ) → length (kept t slot) ≤ t.size
-  pub args : (slot : ℕ) → length (kept_args t slot) ≤ t.request
-
--- the status that a verdict is answered with: a new request, and one that is repeated, are not refused
-abbrev pub verdict_status : Verdict → Status
-verdict_status Fresh = status.Nfs4Ok
-verdict_status Again = status.Nfs4Ok
-verdict_status FalseRetry = status.SeqFalseRetry
-verdict_status Misordered = status.SeqMisordered
-verdict_status NoSlot = status.BadSlot

@@ -1,7 +1,8 @@
 //! One slot: what it says of a request, and the reply that it keeps (RFC 8881 section 2.10.6.1).
 
 ghost use Rattle.std.specs.Prelude.{◌≡◌, ◌≤◌, Bool, true, false, [], length, IfOk, vec_capacity};
-ghost use Rattle.nfs_slots.specs.Slot.{judge_slot, unused_slot, verdict_status};
+ghost use Rattle.nfs_slots.specs.Slot.{judge_slot, unused_slot};
+ghost use Rattle.nfs_slots.specs.Kept.{verdict_status};
 ghost use Rattle.nfs_slots.specs.Buffers.{state_of, HasRoom, IsKept};
 
 use nfs_xdr::Status;

@@ -1,7 +1,8 @@
 //! The slots of one session (RFC 8881 section 2.10.6).
 
 ghost use Rattle.std.specs.Prelude.{◌≡◌, ◌≤◌, length, IfOk};
-ghost use Rattle.nfs_slots.specs.Slot.{judge, keep, kept, unused, IsBounded};
+ghost use Rattle.nfs_slots.specs.Slot.{judge, keep, kept};
+ghost use Rattle.nfs_slots.specs.Kept.{unused, IsBounded};
 
 use crate::slot::{Slot, Verdict};
 use std::alloc::{AllocError, Global};

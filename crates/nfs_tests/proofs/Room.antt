@@ -6,9 +6,10 @@ use Rattle.nfs_xdr.specs.declared.status.Status.{Status}
 use Rattle.nfs_xdr.specs.declared.status.Status.TheVariants.{Nfs4Ok}
 use Rattle.nfs_results.specs.OpenHead.{HeadsAt, HasHead}
 use Rattle.nfs_results.specs.Result.{Res}
-use Rattle.nfs_results.specs.CompoundResult.{spell_compound_head}
-use Rattle.nfs_results.specs.Results.{operation_of, spell_result, HasArrays}
-use Rattle.nfs_results.specs.Largest.{largest_of, HasSizes}
+use Rattle.nfs_results.specs.Results.{operation_of, spell_result, spell_compound_head}
+use Rattle.nfs_results.specs.ResultCodec.{HasArrays}
+use Rattle.nfs_results.specs.Largest.{largest_of}
+use Rattle.nfs_results.specs.MayAnswer.{HasSizes}
 use Rattle.nfs_results.proofs.Lengths.{behind_within, length_spelled, length_head_within}
 
 either : (b : Bool) (x y : ℕ) → x ≤ 1064 → y ≤ 1064 → cond b x y ≤ 1064

@@ -1,8 +1,8 @@
 //! Each operation's results, read and put again, with a field of its own number for each word.
 
 ghost use Rattle.std.specs.Prelude.{◌≤◌, IsTrue, length};
-ghost use Rattle.nfs_results.specs.Largest.{HasSizes};
-ghost use Rattle.nfs_results.specs.Results.{IsBounded};
+ghost use Rattle.nfs_results.specs.MayAnswer.{HasSizes};
+ghost use Rattle.nfs_results.specs.ResultCodec.{IsBounded};
 ghost use Rattle.nfs_results.specs.View as view;
 
 use crate::words::{A, SESSION};

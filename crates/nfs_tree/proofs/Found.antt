@@ -11,10 +11,10 @@ use Rattle.nfs_tree.specs.declared.sets.Sets.{Sets}
 use Rattle.nfs_tree.specs.declared.done.Created.{Created}
 use Rattle.nfs_tree.specs.declared.done.Removed.{Removed}
 use Rattle.nfs_tree.specs.declared.fault.TreeFault.{TreeFault}
-use Rattle.nfs_tree.specs.Files.{Files, root, is_entry, entry, lookup, named, has_entries, without_entry}
-use Rattle.nfs_tree.specs.Did.{does_unless, raised}
-use Rattle.nfs_tree.specs.Create.{New, create, create_fault, with_new}
-use Rattle.nfs_tree.specs.Names.{remove, remove_fault, without_name}
+use Rattle.nfs_tree.specs.Files.{Files, root, is_entry, entry, lookup, named, has_entries, without_entry, raised}
+use Rattle.nfs_tree.specs.Calls.{does_unless, create, create_fault, remove, remove_fault}
+use Rattle.nfs_tree.specs.Create.{New, with_new}
+use Rattle.nfs_tree.specs.Names.{without_name}
 use Rattle.nfs_tree.specs.Kept.{IsTree}
 use Rattle.nfs_tree.specs.Laws.{CreatedIsFound, RemovedIsAbsent, RemovedIsEmpty, IsUnused, NewIsUnused, UnlinkedIsUnnamed}
 use Rattle.nfs_tree.proofs.RowsKept.{entry_self}

@@ -14,7 +14,8 @@ use Rattle.nfs_xdr.specs.declared.time.Time.{Time}
 use Rattle.nfs_xdr.proofs.Tables.{IsRising-push}
 use Rattle.nfs_tree.specs.declared.stored.Stored.{Stored}
 use Rattle.nfs_tree.specs.declared.sets.Sets.{Sets}
-use Rattle.nfs_tree.specs.Files.{root, last_count, CanChange, change_at, with_changed, stored_in}
+use Rattle.nfs_tree.specs.Files.{root, last_count, change_at, with_changed, stored_in}
+use Rattle.nfs_tree.specs.Calls.{CanChange}
 use Rattle.nfs_tree.specs.Indexed.{stored, AreObjects}
 use Rattle.nfs_tree.proofs.StoredLemmas.{insert_last, stored_push, stored_apart, stored_remove, AreStored-push, stored_find, stored_write, filter_none, map_none, found_keeps, rising_keys}
 

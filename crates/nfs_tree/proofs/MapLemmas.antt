@@ -4,13 +4,14 @@ use Rattle.std.specs.Prelude.{◌==◌, ◌&&◌, filter, find, option_map, byte
 use Rattle.std.proofs.lemmas.Bool.{cases_Bool, eq-eqb, ne_eqb, eqb-true, and_parts, false≢true}
 use Rattle.std.proofs.lemmas.Bool.Decides.{nat_tests}
 use Rattle.std.proofs.lemmas.Slice.Eq.{bytes_eq-Decides}
+use Rattle.nfs_xdr.specs.Codec.{IsBytes}
 use Rattle.nfs_xdr.specs.Tables.{IsRising, In, record_at, without_record}
 use Rattle.nfs_xdr.proofs.Lists.{in_filter, in_push, find_in, none_in, find_none, find_kept, find_past, find_out, find_push, find_push_other, filter_in, filter_all, length_filter, some_or_none}
 use Rattle.nfs_xdr.proofs.Tables.{IsRising-push, IsRising-filter, in_bounds, in_once, at_of_in}
 use Rattle.nfs_tree.specs.declared.row.Row.{Row}
 use Rattle.nfs_tree.specs.Files.{most_name, is_entry, entry, without_entry, listed, listing, links_in}
-use Rattle.nfs_tree.specs.Maps.{key_of, links_behind, AreNamed, ArePairs}
-use Rattle.nfs_tree.proofs.KeyLemmas.{key_same}
+use Rattle.nfs_tree.specs.ByName.{NamesAnew}
+use Rattle.nfs_tree.specs.Maps.{links_behind, AreNamed, ArePairs}
 use Rattle.nfs_tree.proofs.PairLemmas.{row_pair}
 use Rattle.nfs_tree.proofs.RowsKept.{entry_parts, found_put, either}
 
@@ -29,23 +30,23 @@ taken_back rows r rise =
     ∙ filter_all test rows (λ x there. (let lower = in_bounds cookie 3 r.cookie rows x rise there in ap not (ne_eqb x.cookie r.cookie (λ same. absurd (omega arith)))))
 
 -- ---- rows by their names
-module _ (rows : List Row) (at : List ℕ → Option ℕ) (are : AreNamed rows at) where
+module _ (rows : List Row) (at : ℕ → List ℕ → Option ℕ) (are : AreNamed rows at) where
   only : (d : ℕ) (name : List ℕ) (x : Row) → In x rows → is_entry d name x ≡ true → entry rows d name ≡ Some x
   only d name x there is =
       let parts = entry_parts d name x is in
       ap (λ d. entry rows d name) (sym parts.0) ∙ ap (entry rows x.directory) (sym parts.1) ∙ are.found x there
 
-  pub named_row : (d c : ℕ) (name : List ℕ) → d < 2 ^ 64 → at (key_of d name) ≡ Some c → record_at cookie rows c ≡ entry rows d name
-  named_row d c name few e = elim (some_or_none (entry rows d name)) [
-    | inl found ↦ (let both : Some c ≡ Some (cookie found.0) = sym e ∙ are.names d name few ∙ ap (option_map cookie) found.1 in
+  pub named_row : (d c : ℕ) (name : List ℕ) → d < 2 ^ 64 → IsBytes name → at d name ≡ Some c → record_at cookie rows c ≡ entry rows d name
+  named_row d c name few is e = elim (some_or_none (entry rows d name)) [
+    | inl found ↦ (let both : Some c ≡ Some (cookie found.0) = sym e ∙ are.names d name few is ∙ ap (option_map cookie) found.1 in
         let same : c ≡ cookie found.0 = cc in
         ap (record_at cookie rows) same ∙ at_of_in cookie 3 are.high rows found.0 are.rising (find_in (is_entry d name) rows found.0 found.1).0 ∙ sym found.1)
-    | inr none ↦ absurd (let bad : Some c ≡ None = sym e ∙ are.names d name few ∙ ap (option_map cookie) none in cc)
+    | inr none ↦ absurd (let bad : Some c ≡ None = sym e ∙ are.names d name few is ∙ ap (option_map cookie) none in cc)
   ]
 
-  pub named_none : (d : ℕ) (name : List ℕ) → d < 2 ^ 64 → at (key_of d name) ≡ None → entry rows d name ≡ None
-  named_none d name few e = elim (some_or_none (entry rows d name)) [
-    | inl found ↦ absurd (let bad : None ≡ Some (cookie found.0) = sym e ∙ are.names d name few ∙ ap (option_map cookie) found.1 in cc)
+  pub named_none : (d : ℕ) (name : List ℕ) → d < 2 ^ 64 → IsBytes name → at d name ≡ None → entry rows d name ≡ None
+  named_none d name few is e = elim (some_or_none (entry rows d name)) [
+    | inl found ↦ absurd (let bad : None ≡ Some (cookie found.0) = sym e ∙ are.names d name few is ∙ ap (option_map cookie) found.1 in cc)
     | inr none ↦ none
   ]
 
@@ -102,9 +103,8 @@ module _ (rows : List Row) (at : List ℕ → Option ℕ) (are : AreNamed rows a
         | inr off ↦ ap not off
       ]
 
-  pub named_gone : (bt : List ℕ → Option ℕ) (d : ℕ) (name : List ℕ) → d < 2 ^ 64
-      → ((cs : List ℕ) → bt cs ≡ cond (bytes_eq (key_of d name) cs) None (at cs)) → AreNamed (without_entry d name rows) bt
-  named_gone bt d name few gone =
+  pub named_gone : (bt : ℕ → List ℕ → Option ℕ) (d : ℕ) (name : List ℕ) → NamesAnew at bt d name None → AreNamed (without_entry d name rows) bt
+  named_gone bt d name gone =
       let test = λ (r : Row). not (is_entry d name r) in
       let old = in_filter test rows in
       record {
@@ -113,15 +113,12 @@ module _ (rows : List Row) (at : List ℕ → Option ℕ) (are : AreNamed rows a
         short = λ r is. are.short r (old r is).0;
         few = λ r is. are.few r (old r is).0;
         found = λ r is. let was = old r is in find_kept (is_entry r.directory r.name) test rows r (are.found r was.0) was.1;
-        names = λ e other lt. gone (key_of e other)
-            ∙ ap (λ b. cond b None (at (key_of e other))) (key_same d e name other few lt)
-            ∙ ap (cond ((d == e) && bytes_eq name other) None) (are.names e other lt)
-            ∙ kept_names d name e other;
+        names = λ e other lt is. gone e other lt is ∙ ap (cond ((d == e) && bytes_eq name other) None) (are.names e other lt is) ∙ kept_names d name e other;
       }
 
-  pub named_put : (bt : List ℕ → Option ℕ) (r : Row) → IsRising cookie 3 rows r.cookie → entry rows r.directory r.name ≡ None → length r.name ≤ most_name
+  pub named_put : (bt : ℕ → List ℕ → Option ℕ) (r : Row) → IsRising cookie 3 rows r.cookie → entry rows r.directory r.name ≡ None → length r.name ≤ most_name
       → (r.directory < 2 ^ 64) × (r.cookie < 2 ^ 64)
-      → ((cs : List ℕ) → bt cs ≡ cond (bytes_eq (key_of r.directory r.name) cs) (Some r.cookie) (at cs)) → AreNamed (rows ++ r ∷ []) bt
+      → NamesAnew at bt r.directory r.name (Some r.cookie) → AreNamed (rows ++ r ∷ []) bt
   named_put bt r rise vacant short few put =
       record {
         high = r.cookie + 1;
@@ -129,10 +126,7 @@ module _ (rows : List Row) (at : List ℕ → Option ℕ) (are : AreNamed rows a
         short = λ x is. either {P = λ (x : Row). length x.name ≤ most_name} r x rows short are.short (in_push rows r x is);
         few = λ x is. either {P = λ (x : Row). (x.directory < 2 ^ 64) × (x.cookie < 2 ^ 64)} r x rows few are.few (in_push rows r x is);
         found = λ x is. found_put rows r x vacant are.found (in_push rows r x is);
-        names = λ d name lt. put (key_of d name)
-            ∙ ap (λ b. cond b (Some r.cookie) (at (key_of d name))) (key_same r.directory d r.name name few.0 lt)
-            ∙ ap (cond (is_entry d name r) (Some r.cookie)) (are.names d name lt)
-            ∙ seen d name;
+        names = λ d name lt is. put d name lt is ∙ ap (cond (is_entry d name r) (Some r.cookie)) (are.names d name lt is) ∙ seen d name;
       }
     where
       seen : (d : ℕ) (name : List ℕ) → cond (is_entry d name r) (Some r.cookie) (option_map cookie (entry rows d name)) ≡ option_map cookie (entry (rows ++ r ∷ []) d name)
@@ -148,17 +142,16 @@ twice true n o = refl
 twice false n o = refl
 
 -- a row comes, and one that had its name goes
-pub named_over : (rows : List Row) (at bt : List ℕ → Option ℕ) (r : Row) → AreNamed rows at → IsRising cookie 3 rows r.cookie → length r.name ≤ most_name
+pub named_over : (rows : List Row) (at bt : ℕ → List ℕ → Option ℕ) (r : Row) → AreNamed rows at → IsRising cookie 3 rows r.cookie → length r.name ≤ most_name
     → (r.directory < 2 ^ 64) × (r.cookie < 2 ^ 64)
-    → ((cs : List ℕ) → bt cs ≡ cond (bytes_eq (key_of r.directory r.name) cs) (Some r.cookie) (at cs)) → AreNamed (without_entry r.directory r.name rows ++ r ∷ []) bt
+    → NamesAnew at bt r.directory r.name (Some r.cookie) → AreNamed (without_entry r.directory r.name rows ++ r ∷ []) bt
 named_over rows at bt r are rise short few put =
-    let key = key_of r.directory r.name in
     let less = without_entry r.directory r.name rows in
-    let mid : List ℕ → Option ℕ = λ cs. cond (bytes_eq key cs) None (at cs) in
-    named_put less mid (named_gone rows at are mid r.directory r.name few.0 (λ cs. refl)) bt r
+    let mid : ℕ → List ℕ → Option ℕ = λ e other. cond ((r.directory == e) && bytes_eq r.name other) None (at e other) in
+    named_put less mid (named_gone rows at are mid r.directory r.name (λ e other lt is. refl)) bt r
     (IsRising-filter cookie (λ x. not (is_entry r.directory r.name x)) 3 r.cookie rows rise)
     (find_out (is_entry r.directory r.name) (λ x. not (is_entry r.directory r.name x)) rows (λ x here. ap not here))
-    short few (λ cs. put cs ∙ twice (bytes_eq key cs) r.cookie (at cs))
+    short few (λ e other lt is. put e other lt is ∙ twice ((r.directory == e) && bytes_eq r.name other) r.cookie (at e other))
 
 pub none_gone : (rows : List Row) (d : ℕ) (name : List ℕ) → entry rows d name ≡ None → without_entry d name rows ≡ rows
 none_gone rows d name none = filter_all (λ r. not (is_entry d name r)) rows (λ r there. ap not (none_in (is_entry d name) rows r none there))
@@ -168,7 +161,7 @@ filter_push p [] r passes = rw passes refl
 filter_push p (x ∷ xs) r passes = elim (cases_Bool (p x)) [ inl here ↦ rw here (ap (λ ys. x ∷ ys) (filter_push p xs r passes)) | inr off ↦ rw off (filter_push p xs r passes) ]
 
 -- behind the row that came
-pub gone_before : (rows : List Row) (at : List ℕ → Option ℕ) (r x : Row) → AreNamed rows at → IsRising cookie 3 rows r.cookie → entry rows r.directory r.name ≡ Some x
+pub gone_before : (rows : List Row) (at : ℕ → List ℕ → Option ℕ) (r x : Row) → AreNamed rows at → IsRising cookie 3 rows r.cookie → entry rows r.directory r.name ≡ Some x
     → without_record cookie (rows ++ r ∷ []) x.cookie ≡ without_entry r.directory r.name rows ++ r ∷ []
 gone_before rows at r x are rise found =
     let lower : x.cookie < r.cookie = (in_bounds cookie 3 r.cookie rows x rise (find_in (is_entry r.directory r.name) rows x found).0).1 in
@@ -216,7 +209,7 @@ module _ (of : Row → ℕ) where
         | inr other ↦ other
       ]
 
-  behind_end : (rows : List Row) (at : List ℕ → Option ℕ) (n k : ℕ) → AreNamed rows at → k + 1 ≡ 2 ^ 64 → filter (is_behind n k) rows ≡ []
+  behind_end : (rows : List Row) (at : ℕ → List ℕ → Option ℕ) (n k : ℕ) → AreNamed rows at → k + 1 ≡ 2 ^ 64 → filter (is_behind n k) rows ≡ []
   behind_end rows at n k are top = filter_none (is_behind n k) rows off
     where
       off : (x : Row) → In x rows → is_behind n k x ≡ false
@@ -252,7 +245,7 @@ module _ (of : Row → ℕ) where
       ] in
       rw (off, past) rest
 
-  behind_next : (rows : List Row) (at : List ℕ → Option ℕ) (has : ℕ × ℕ → Bool) (n k : ℕ) (x : Row) → AreNamed rows at → ArePairs of rows has
+  behind_next : (rows : List Row) (at : ℕ → List ℕ → Option ℕ) (has : ℕ × ℕ → Bool) (n k : ℕ) (x : Row) → AreNamed rows at → ArePairs of rows has
       → In x rows → of x ≡ n → k + 1 ≤ x.cookie → ((c : ℕ) → k + 1 ≤ c → has (n, c) ≡ true → x.cookie ≤ c) → filter (is_behind n k) rows ≡ x ∷ filter (is_behind n x.cookie) rows
   behind_next rows at has n k x named are there stands up least =
       next_behind n k 3 named.high rows x named.rising there stands (omega arith)
@@ -269,7 +262,7 @@ module _ (of : Row → ℕ) where
     | inr other ↦ rw other (first_row n (suc y.cookie) high ys x rise.1 more at (λ z there. least z (inr there)))
   ]
 
-  pub find_first : (rows : List Row) (at : List ℕ → Option ℕ) (has : ℕ × ℕ → Bool) (n : ℕ) (x : Row) → AreNamed rows at → ArePairs of rows has
+  pub find_first : (rows : List Row) (at : ℕ → List ℕ → Option ℕ) (has : ℕ × ℕ → Bool) (n : ℕ) (x : Row) → AreNamed rows at → ArePairs of rows has
       → In x rows → of x ≡ n → ((c : ℕ) → 0 ≤ c → has (n, c) ≡ true → x.cookie ≤ c) → find (λ r. of r == n) rows ≡ Some x
   find_first rows at has n x named are there stands least = first_row n 3 named.high rows x named.rising there stands
       (λ y in_rows in_n. least y.cookie (omega arith) (ap (λ n. has (n, y.cookie)) (sym in_n) ∙ row_pair of rows has y are in_rows))
@@ -287,10 +280,10 @@ module _ (of : Row → ℕ) where
 pub listing_none : (rows : List Row) (has : ℕ × ℕ → Bool) (d k : ℕ) → ArePairs (λ (r : Row). r.directory) rows has → ((c : ℕ) → k + 1 ≤ c → has (d, c) ≡ false) → listing rows d k ≡ []
 listing_none rows has d k are none = ap (map listed) (behind_none (λ (r : Row). r.directory) rows has d k are none)
 
-pub listing_end : (rows : List Row) (at : List ℕ → Option ℕ) (d k : ℕ) → AreNamed rows at → k + 1 ≡ 2 ^ 64 → listing rows d k ≡ []
+pub listing_end : (rows : List Row) (at : ℕ → List ℕ → Option ℕ) (d k : ℕ) → AreNamed rows at → k + 1 ≡ 2 ^ 64 → listing rows d k ≡ []
 listing_end rows at d k are top = ap (map listed) (behind_end (λ (r : Row). r.directory) rows at d k are top)
 
-pub listing_next : (rows : List Row) (at : List ℕ → Option ℕ) (has : ℕ × ℕ → Bool) (d k : ℕ) (x : Row) → AreNamed rows at → ArePairs (λ (r : Row). r.directory) rows has
+pub listing_next : (rows : List Row) (at : ℕ → List ℕ → Option ℕ) (has : ℕ × ℕ → Bool) (d k : ℕ) (x : Row) → AreNamed rows at → ArePairs (λ (r : Row). r.directory) rows has
     → In x rows → x.directory ≡ d → k + 1 ≤ x.cookie → ((c : ℕ) → k + 1 ≤ c → has (d, c) ≡ true → x.cookie ≤ c) → listing rows d k ≡ listed x ∷ listing rows d x.cookie
 listing_next rows at has d k x named are there stands up least = ap (map listed) (behind_next (λ (r : Row). r.directory) rows at has d k x named are there stands up least)
 
@@ -298,17 +291,17 @@ listing_next rows at has d k x named are there stands up least = ap (map listed)
 pub links_none : (rows : List Row) (has : ℕ × ℕ → Bool) (n k : ℕ) → ArePairs (λ (r : Row). r.object) rows has → ((c : ℕ) → k + 1 ≤ c → has (n, c) ≡ false) → links_behind rows n k ≡ 0
 links_none rows has n k are none = ap length (behind_none (λ (r : Row). r.object) rows has n k are none)
 
-pub links_end : (rows : List Row) (at : List ℕ → Option ℕ) (n k : ℕ) → AreNamed rows at → k + 1 ≡ 2 ^ 64 → links_behind rows n k ≡ 0
+pub links_end : (rows : List Row) (at : ℕ → List ℕ → Option ℕ) (n k : ℕ) → AreNamed rows at → k + 1 ≡ 2 ^ 64 → links_behind rows n k ≡ 0
 links_end rows at n k are top = ap length (behind_end (λ (r : Row). r.object) rows at n k are top)
 
-pub links_next : (rows : List Row) (at : List ℕ → Option ℕ) (has : ℕ × ℕ → Bool) (n k : ℕ) (x : Row) → AreNamed rows at → ArePairs (λ (r : Row). r.object) rows has
+pub links_next : (rows : List Row) (at : ℕ → List ℕ → Option ℕ) (has : ℕ × ℕ → Bool) (n k : ℕ) (x : Row) → AreNamed rows at → ArePairs (λ (r : Row). r.object) rows has
     → In x rows → x.object ≡ n → k + 1 ≤ x.cookie → ((c : ℕ) → k + 1 ≤ c → has (n, c) ≡ true → x.cookie ≤ c) → links_behind rows n k ≡ links_behind rows n x.cookie + 1
 links_next rows at has n k x named are there stands up least =
     let one : links_behind rows n k ≡ suc (links_behind rows n x.cookie) = ap length (behind_next (λ (r : Row). r.object) rows at has n k x named are there stands up least) in
     omega arith
 
 -- every cookie is above 0
-pub links_all : (rows : List Row) (at : List ℕ → Option ℕ) (n : ℕ) → AreNamed rows at → links_behind rows n 0 ≡ links_in rows n
+pub links_all : (rows : List Row) (at : ℕ → List ℕ → Option ℕ) (n : ℕ) → AreNamed rows at → links_behind rows n 0 ≡ links_in rows n
 links_all rows at n are = ap length (filter_in (is_behind (λ (r : Row). r.object) n 0) (λ r. r.object == n) rows (λ x there. all x (in_bounds cookie 3 are.high rows x are.rising there).0))
   where
     all : (x : Row) → 3 ≤ x.cookie → ((x.object == n) && nat_lt 0 x.cookie) ≡ (x.object == n)

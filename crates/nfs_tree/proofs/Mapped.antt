@@ -1,9 +1,7 @@
 -- The maps of rows behind each of their changes.
-use Rattle.std.proofs.Common.{◌≡◌, ℕ, ◌<◌, ◌≤◌, ◌+◌, ◌^◌, List, [], ◌∷◌, ◌++◌, length, true, false, cond, Some, None, refl, sym, ◌∙◌, ap, arith, subst}
-use Rattle.std.specs.Prelude.{◌==◌, ◌&&◌, bytes_eq, is_some}
-use Rattle.std.specs.Ordering.{nat_cmp}
-use Rattle.std.specs.Cmp.Lexicographic.{slice_cmp}
-use Rattle.std.specs.BTreeMap.{BTreeMap, is_at, insert_entry, Updates, UpdatesBy}
+use Rattle.std.proofs.Common.{◌≡◌, ℕ, ◌<◌, ◌≤◌, ◌+◌, ◌^◌, List, [], ◌∷◌, ◌++◌, length, true, false, cond, Option, Some, None, refl, sym, ◌∙◌, ap, arith, subst}
+use Rattle.std.specs.Prelude.{◌==◌, ◌&&◌, is_some}
+use Rattle.std.specs.BTreeMap.{is_at, insert_entry}
 use Rattle.std.specs.Map.{lookup}
 use Rattle.std.proofs.lemmas.Bool.{and_parts, leb-true}
 use Rattle.nfs_xdr.specs.Tables.{IsRising, In, without_record}
@@ -11,9 +9,9 @@ use Rattle.nfs_xdr.proofs.Lists.{find_in, push_in}
 use Rattle.nfs_xdr.proofs.Tables.{IsRising-push}
 use Rattle.nfs_tree.specs.declared.row.Row.{Row}
 use Rattle.nfs_tree.specs.Files.{most_name, is_name, is_entry, entry, without_entry}
-use Rattle.nfs_tree.specs.Maps.{key_of, cookie_at, pair_cmp, has_pair, ArePairs, AreMapped}
+use Rattle.nfs_tree.specs.ByName.{NamesAnew}
+use Rattle.nfs_tree.specs.Maps.{pair_cmp, has_pair, ArePairs, AreMapped}
 use Rattle.nfs_tree.proofs.RowsKept.{entry_parts}
-use Rattle.nfs_tree.proofs.KeyLemmas.{names_after}
 use Rattle.nfs_tree.proofs.PairLemmas.{pair_put, pair_gone, pairs_put, pairs_gone}
 use Rattle.nfs_tree.proofs.MapLemmas.{cookie, named_put, named_over, named_gone, none_gone, gone_before, gone_same}
 
@@ -32,102 +30,96 @@ pairs_less of high n rows fs ls ms r view rise there is are gone =
     rw view (pairs_gone of 3 high rows (has_pair ls) (has_pair ms) r rise there are
     (λ q. pair_gone ls ms (n, r.cookie) gone q ∙ ap (λ n. cond ((n == q.0) && (r.cookie == q.1)) false (has_pair ls q)) (sym is)))
 
-module _ {K : Type 0} (bytes : K → List ℕ) where
-  pub record Done (fs : List Row) (ns : List (K × ℕ)) (ls os : List ((ℕ × ℕ) × Unit {0})) (rows : List Row) : Type 0 where
-    pub is : AreMapped bytes fs ns ls os
-    pub view : fs ≡ rows
+pub record Done (fs : List Row) (at : ℕ → List ℕ → Option ℕ) (ls os : List ((ℕ × ℕ) × Unit {0})) (rows : List Row) : Type 0 where
+  pub is : AreMapped fs at ls os
+  pub view : fs ≡ rows
 
-  module _ (rows fs : List Row) (m n : BTreeMap K ℕ) (ls ms os us : List ((ℕ × ℕ) × Unit {0})) (key : K) (r : Row) (are : AreMapped bytes rows m.entries ls os)
-      (rise : IsRising cookie 3 rows r.cookie) (short : length r.name ≤ most_name) (few : (r.directory < 2 ^ 64) × (r.cookie < 2 ^ 64))
-      (put : fs ≡ rows ++ r ∷ []) (spelled : bytes key ≡ key_of r.directory r.name)
-      (updates : Updates (λ x y. slice_cmp nat_cmp (bytes x) (bytes y)) m n key (Some r.cookie))
-      (listed : ms ≡ insert_entry pair_cmp ls (r.directory, r.cookie) tt) (owned : us ≡ insert_entry pair_cmp os (r.object, r.cookie) tt) where
-    named_at : (cs : List ℕ) → cookie_at bytes n.entries cs ≡ cond (bytes_eq (key_of r.directory r.name) cs) (Some r.cookie) (cookie_at bytes m.entries cs)
-    named_at = names_after bytes m n (key_of r.directory r.name) (Some r.cookie)
-        (subst (λ (q : List ℕ). UpdatesBy (λ x y. slice_cmp nat_cmp (bytes x) (bytes y)) (λ k. slice_cmp nat_cmp q (bytes k)) m n (Some r.cookie)) spelled updates)
+module _ (rows fs : List Row) (at bt : ℕ → List ℕ → Option ℕ) (ls ms os us : List ((ℕ × ℕ) × Unit {0})) (r : Row) (are : AreMapped rows at ls os)
+    (rise : IsRising cookie 3 rows r.cookie) (short : length r.name ≤ most_name) (few : (r.directory < 2 ^ 64) × (r.cookie < 2 ^ 64))
+    (put : fs ≡ rows ++ r ∷ []) (anew : NamesAnew at bt r.directory r.name (Some r.cookie))
+    (listed : ms ≡ insert_entry pair_cmp ls (r.directory, r.cookie) tt) (owned : us ≡ insert_entry pair_cmp os (r.object, r.cookie) tt) where
+  pairs : ArePairs (λ (r : Row). r.directory) fs (has_pair ms)
+  pairs = pairs_new (λ (r : Row). r.directory) rows fs ls ms r put are.listed listed
 
-    pairs : ArePairs (λ (r : Row). r.directory) fs (has_pair ms)
-    pairs = pairs_new (λ (r : Row). r.directory) rows fs ls ms r put are.listed listed
+  owners : ArePairs (λ (r : Row). r.object) fs (has_pair us)
+  owners = pairs_new (λ (r : Row). r.object) rows fs os us r put are.owned owned
 
-    owners : ArePairs (λ (r : Row). r.object) fs (has_pair us)
-    owners = pairs_new (λ (r : Row). r.object) rows fs os us r put are.owned owned
+  -- a row of a new name came
+  pub done_new : entry rows r.directory r.name ≡ None → Done fs bt ms us (without_entry r.directory r.name rows ++ r ∷ [])
+  done_new none = record {
+    is = record {
+      named = rw put (named_put rows at are.named bt r rise none short few anew);
+      listed = pairs;
+      owned = owners;
+    };
+    view = put ∙ ap (λ rows. rows ++ r ∷ []) (sym (none_gone rows r.directory r.name none));
+  }
 
-    -- a row of a new name came
-    pub done_new : entry rows r.directory r.name ≡ None → Done fs n.entries ms us (without_entry r.directory r.name rows ++ r ∷ [])
-    done_new none = record {
-      is = record {
-        named = rw put (named_put rows (cookie_at bytes m.entries) are.named (cookie_at bytes n.entries) r rise none short few named_at);
-        listed = pairs;
-        owned = owners;
-      };
-      view = put ∙ ap (λ rows. rows ++ r ∷ []) (sym (none_gone rows r.directory r.name none));
-    }
-
-    -- a row came, and the one that had its name went
-    pub done_over : (gs : List Row) (ks vs : List ((ℕ × ℕ) × Unit {0})) (x : Row) → entry rows r.directory r.name ≡ Some x
-        → gs ≡ without_record cookie fs x.cookie
-        → ((q : ℕ × ℕ) → lookup (is_at (pair_cmp q)) ks ≡ cond (is_at (pair_cmp (r.directory, x.cookie)) q) None (lookup (is_at (pair_cmp q)) ms))
-        → ((q : ℕ × ℕ) → lookup (is_at (pair_cmp q)) vs ≡ cond (is_at (pair_cmp (x.object, x.cookie)) q) None (lookup (is_at (pair_cmp q)) us))
-        → Done gs n.entries ks vs (without_entry r.directory r.name rows ++ r ∷ [])
-    done_over gs ks vs x found gone unlisted unowned =
-        let rising = rise_put rows fs r rise put in
-        let is = find_in (is_entry r.directory r.name) rows x found in
-        let there : In x fs = rw put (push_in rows r x is.0) in
-        let view : gs ≡ without_entry r.directory r.name rows ++ r ∷ [] =
-        gone ∙ ap (λ rows. without_record cookie rows x.cookie) put ∙ gone_before rows (cookie_at bytes m.entries) r x are.named rise found in
-        record {
-          is = record {
-            named = rw view (named_over rows (cookie_at bytes m.entries) (cookie_at bytes n.entries) r are.named rise short few named_at);
-            listed = pairs_less (λ (r : Row). r.directory) (r.cookie + 1) r.directory fs gs ms ks x gone rising there (entry_parts r.directory r.name x is.1).0 pairs unlisted;
-            owned = pairs_less (λ (r : Row). r.object) (r.cookie + 1) x.object fs gs us vs x gone rising there refl owners unowned;
-          };
-          view = view;
-        }
-
-  -- a row went
-  pub done_gone : (rows gs : List Row) (m n : BTreeMap K ℕ) (ls ks os vs : List ((ℕ × ℕ) × Unit {0})) (d : ℕ) (name : List ℕ) (x : Row) → AreMapped bytes rows m.entries ls os → d < 2 ^ 64
-      → entry rows d name ≡ Some x → gs ≡ without_record cookie rows x.cookie
-      → UpdatesBy (λ x y. slice_cmp nat_cmp (bytes x) (bytes y)) (λ k. slice_cmp nat_cmp (key_of d name) (bytes k)) m n None
-      → ((q : ℕ × ℕ) → lookup (is_at (pair_cmp q)) ks ≡ cond (is_at (pair_cmp (d, x.cookie)) q) None (lookup (is_at (pair_cmp q)) ls))
-      → ((q : ℕ × ℕ) → lookup (is_at (pair_cmp q)) vs ≡ cond (is_at (pair_cmp (x.object, x.cookie)) q) None (lookup (is_at (pair_cmp q)) os))
-      → Done gs n.entries ks vs (without_entry d name rows)
-  done_gone rows gs m n ls ks os vs d name x are few found gone updates unlisted unowned =
-      let is = find_in (is_entry d name) rows x found in
-      let view : gs ≡ without_entry d name rows = gone ∙ gone_same rows (cookie_at bytes m.entries) are.named d name x found in
+  -- a row came, and the one that had its name went
+  pub done_over : (gs : List Row) (ks vs : List ((ℕ × ℕ) × Unit {0})) (x : Row) → entry rows r.directory r.name ≡ Some x
+      → gs ≡ without_record cookie fs x.cookie
+      → ((q : ℕ × ℕ) → lookup (is_at (pair_cmp q)) ks ≡ cond (is_at (pair_cmp (r.directory, x.cookie)) q) None (lookup (is_at (pair_cmp q)) ms))
+      → ((q : ℕ × ℕ) → lookup (is_at (pair_cmp q)) vs ≡ cond (is_at (pair_cmp (x.object, x.cookie)) q) None (lookup (is_at (pair_cmp q)) us))
+      → Done gs bt ks vs (without_entry r.directory r.name rows ++ r ∷ [])
+  done_over gs ks vs x found gone unlisted unowned =
+      let rising = rise_put rows fs r rise put in
+      let is = find_in (is_entry r.directory r.name) rows x found in
+      let there : In x fs = rw put (push_in rows r x is.0) in
+      let view : gs ≡ without_entry r.directory r.name rows ++ r ∷ [] =
+      gone ∙ ap (λ rows. without_record cookie rows x.cookie) put ∙ gone_before rows at r x are.named rise found in
       record {
         is = record {
-          named = rw view (named_gone rows (cookie_at bytes m.entries) are.named (cookie_at bytes n.entries) d name few (names_after bytes m n (key_of d name) None updates));
-          listed = pairs_less (λ (r : Row). r.directory) are.named.high d rows gs ls ks x gone are.named.rising is.0 (entry_parts d name x is.1).0 are.listed unlisted;
-          owned = pairs_less (λ (r : Row). r.object) are.named.high x.object rows gs os vs x gone are.named.rising is.0 refl are.owned unowned;
+          named = rw view (named_over rows at bt r are.named rise short few anew);
+          listed = pairs_less (λ (r : Row). r.directory) (r.cookie + 1) r.directory fs gs ms ks x gone rising there (entry_parts r.directory r.name x is.1).0 pairs unlisted;
+          owned = pairs_less (λ (r : Row). r.object) (r.cookie + 1) x.object fs gs us vs x gone rising there refl owners unowned;
         };
         view = view;
       }
 
--- the same entries, and the same pairs of objects
-pub same_maps : {K : Type 0} (bytes : K → List ℕ) (rows fs : List Row) (ns ms : List (K × ℕ)) (ls ks os vs : List ((ℕ × ℕ) × Unit {0})) → AreMapped bytes rows ns ls os
-    → fs ≡ rows → ms ≡ ns → ks ≡ ls → ((q : ℕ × ℕ) → lookup (is_at (pair_cmp q)) vs ≡ lookup (is_at (pair_cmp q)) os) → AreMapped bytes fs ms ks vs
-same_maps bytes rows fs ns ms ls ks os vs are e f g h =
-    subst (λ rows. AreMapped bytes rows ms ks vs) (sym e) (subst (λ ns. AreMapped bytes rows ns ks vs) (sym f) (subst (λ ls. AreMapped bytes rows ns ls vs) (sym g) (record {
+-- a row went
+pub done_gone : (rows gs : List Row) (at bt : ℕ → List ℕ → Option ℕ) (ls ks os vs : List ((ℕ × ℕ) × Unit {0})) (d : ℕ) (name : List ℕ) (x : Row) → AreMapped rows at ls os
+    → entry rows d name ≡ Some x → gs ≡ without_record cookie rows x.cookie
+    → NamesAnew at bt d name None
+    → ((q : ℕ × ℕ) → lookup (is_at (pair_cmp q)) ks ≡ cond (is_at (pair_cmp (d, x.cookie)) q) None (lookup (is_at (pair_cmp q)) ls))
+    → ((q : ℕ × ℕ) → lookup (is_at (pair_cmp q)) vs ≡ cond (is_at (pair_cmp (x.object, x.cookie)) q) None (lookup (is_at (pair_cmp q)) os))
+    → Done gs bt ks vs (without_entry d name rows)
+done_gone rows gs at bt ls ks os vs d name x are found gone anew unlisted unowned =
+    let is = find_in (is_entry d name) rows x found in
+    let view : gs ≡ without_entry d name rows = gone ∙ gone_same rows at are.named d name x found in
+    record {
+      is = record {
+        named = rw view (named_gone rows at are.named bt d name anew);
+        listed = pairs_less (λ (r : Row). r.directory) are.named.high d rows gs ls ks x gone are.named.rising is.0 (entry_parts d name x is.1).0 are.listed unlisted;
+        owned = pairs_less (λ (r : Row). r.object) are.named.high x.object rows gs os vs x gone are.named.rising is.0 refl are.owned unowned;
+      };
+      view = view;
+    }
+
+-- the same names and directories, and the same pairs of objects
+pub same_maps : (rows fs : List Row) (at bt : ℕ → List ℕ → Option ℕ) (ls ks os vs : List ((ℕ × ℕ) × Unit {0})) → AreMapped rows at ls os
+    → fs ≡ rows → bt ≡ at → ks ≡ ls → ((q : ℕ × ℕ) → lookup (is_at (pair_cmp q)) vs ≡ lookup (is_at (pair_cmp q)) os) → AreMapped fs bt ks vs
+same_maps rows fs at bt ls ks os vs are e f g h =
+    subst (λ rows. AreMapped rows bt ks vs) (sym e) (subst (λ at. AreMapped rows at ks vs) (sym f) (subst (λ ls. AreMapped rows at ls vs) (sym g) (record {
       named = are.named;
       listed = are.listed;
       owned = λ q. ap is_some (h q) ∙ are.owned q;
     })))
 
 -- no rows
-pub mapped_none : {K : Type 0} (bytes : K → List ℕ) (rows : List Row) (ns : List (K × ℕ)) (ls os : List ((ℕ × ℕ) × Unit {0})) → rows ≡ [] → ns ≡ [] → ls ≡ [] → os ≡ []
-    → AreMapped bytes rows ns ls os
-mapped_none bytes rows ns ls os e f g h = subst (λ rows. AreMapped bytes rows ns ls os) (sym e) (subst (λ ns. AreMapped bytes [] ns ls os) (sym f) (subst (λ ls. AreMapped bytes [] [] ls os) (sym g) (subst (AreMapped bytes [] [] []) (sym h) (record {
+pub mapped_none : (rows : List Row) (at : ℕ → List ℕ → Option ℕ) (ls os : List ((ℕ × ℕ) × Unit {0})) → rows ≡ [] → ((d : ℕ) (name : List ℕ) → at d name ≡ None)
+    → ls ≡ [] → os ≡ [] → AreMapped rows at ls os
+mapped_none rows at ls os e none g h = subst (λ rows. AreMapped rows at ls os) (sym e) (subst (λ ls. AreMapped [] at ls os) (sym g) (subst (AreMapped [] at []) (sym h) (record {
   named = record {
     high = 3;
     rising = omega arith;
     short = λ r there. absurd there;
     few = λ r there. absurd there;
     found = λ r there. absurd there;
-    names = λ d name lt. refl;
+    names = λ d name lt is. none d name;
   };
   listed = λ q. refl;
   owned = λ q. refl;
-}))))
+})))
 
 -- a name that a row can have is short
 pub short_of : (name : List ℕ) → is_name name ≡ true → length name ≤ most_name

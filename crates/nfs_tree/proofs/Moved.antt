@@ -11,10 +11,11 @@ use Rattle.nfs_xdr.proofs.Checks.{all_passed}
 use Rattle.nfs_xdr.specs.declared.time.Time.{Time}
 use Rattle.nfs_tree.specs.declared.row.Row.{Row}
 use Rattle.nfs_tree.specs.Object.{no_sets, modified}
-use Rattle.nfs_tree.specs.Files.{Files, root, last_count, is_name, is_there, is_directory_at, can_change, CanChange, is_entry, entry, has_name}
-use Rattle.nfs_tree.specs.Files.{named, has_entries, with_entries_changed, with_links_changed, without_entry, IsReached}
+use Rattle.nfs_tree.specs.Files.{Files, root, last_count, is_name, is_there, is_directory_at, can_change, is_entry, entry, has_name}
+use Rattle.nfs_tree.specs.Calls.{CanChange, IsReached, rename_fault}
+use Rattle.nfs_tree.specs.Files.{named, has_entries, with_entries_changed, with_links_changed, without_entry}
 use Rattle.nfs_tree.specs.Names.{is_at_or_below, Move, moved_object, replaced_object, moves, is_below_itself, is_unlike, is_in_the_way, can_move}
-use Rattle.nfs_tree.specs.Names.{rename_checks, rename_fault, with_both_changed, with_moved}
+use Rattle.nfs_tree.specs.Names.{rename_checks, with_both_changed, with_moved}
 use Rattle.nfs_tree.specs.Kept.{Grounded, AreRows, IsTree}
 use Rattle.nfs_tree.proofs.RowsKept.{entry_parts, reached, grounded_without, no_entries}
 use Rattle.nfs_tree.proofs.Objects.{stored_within, can_change_all, can_change_none}

@@ -13,7 +13,8 @@ use Rattle.nfs_xdr.proofs.Tables.{all_one, at_above, in_bounds, none_below}
 use Rattle.nfs_tree.specs.declared.sets.Sets.{Sets}
 use Rattle.nfs_tree.specs.declared.stored.Stored.{Stored}
 use Rattle.nfs_tree.specs.Object.{is_directory, changed}
-use Rattle.nfs_tree.specs.Files.{last_count, CanChange, stored_in, is_directory_in, change_at, with_changed}
+use Rattle.nfs_tree.specs.Files.{last_count, stored_in, is_directory_in, change_at, with_changed}
+use Rattle.nfs_tree.specs.Calls.{CanChange}
 use Rattle.nfs_tree.specs.Kept.{IsSized}
 
 -- a change of objects that keeps numbers, types and sizes

@@ -16,10 +16,11 @@ use Rattle.nfs_tree.specs.declared.stored.Stored.{Stored}
 use Rattle.nfs_tree.specs.Object.{is_directory, no_sets, modified}
 use Rattle.nfs_tree.specs.Files.{Files, root, last_count, most_objects, most_links, most_bytes, most_text, is_name, stored_in, is_there, is_directory_in}
 use Rattle.nfs_tree.specs.Files.{is_directory_at, can_change, entry, links_in, change_at, with_entries_changed}
-use Rattle.nfs_tree.specs.Files.{with_links_changed, IsReached}
-use Rattle.nfs_tree.specs.Create.{New, File, Directory, Link, size_of, data_of, kind_of, new_object, is_bad_text, is_too_big, create_checks, create_fault}
+use Rattle.nfs_tree.specs.Files.{with_links_changed}
+use Rattle.nfs_tree.specs.Calls.{IsReached, create_fault, link_fault}
+use Rattle.nfs_tree.specs.Create.{New, File, Directory, Link, size_of, data_of, kind_of, new_object, is_bad_text, is_too_big, create_checks}
 use Rattle.nfs_tree.specs.Create.{with_new}
-use Rattle.nfs_tree.specs.Names.{link_checks, link_fault, with_link}
+use Rattle.nfs_tree.specs.Names.{link_checks, with_link}
 use Rattle.nfs_tree.specs.Kept.{IsSized, IsTree, most_of}
 use Rattle.nfs_tree.proofs.RowsKept.{rows_same, rows_put, CanPut, reached}
 use Rattle.nfs_tree.proofs.Objects.{keeps_changed, there_map, directory_map, stored_within, stored_push, new_there}

@@ -6,7 +6,7 @@ use Rattle.nfs_xdr.specs.Checks.{first_fault, judged}
 use Rattle.nfs_tree.specs.declared.fault.TreeFault.{TreeFault}
 use Rattle.nfs_tree.specs.declared.fault.TreeFault.TheVariants.{NoEnt, Exist, NotDir, IsDir, NotEmpty, Inval, Fbig, NoSpc, Mlink, Counter, Memory}
 use Rattle.nfs_tree.specs.Files.{Files}
-use Rattle.nfs_tree.specs.Did.{Did, does_unless, DoesOrWants}
+use Rattle.nfs_tree.specs.Calls.{Did, does_unless, DoesOrWants}
 
 abbrev pub is_memory : TreeFault → Bool
 is_memory NoEnt = false

@@ -5,8 +5,8 @@ use Rattle.nfs_xdr.specs.declared.time.Time.{Time}
 use Rattle.nfs_tree.specs.declared.done.Renamed.{Renamed}
 use Rattle.nfs_tree.specs.declared.fault.TreeFault.{TreeFault}
 use Rattle.nfs_tree.specs.Files.{Files}
-use Rattle.nfs_tree.specs.Did.{DoesOrWants}
-use Rattle.nfs_tree.specs.Names.{Move, moves, rename_fault, rename_checks, rename_unless, moved, unmoved, rename}
+use Rattle.nfs_tree.specs.Calls.{DoesOrWants, rename_fault, rename_unless, moved, unmoved, rename}
+use Rattle.nfs_tree.specs.Names.{Move, moves, rename_checks}
 use Rattle.nfs_tree.proofs.Refusals.{by_fault, fault_of}
 
 pub rename_refused : (t : Files) (m : Move) (now : Time) (r : Result Renamed TreeFault) (f : TreeFault)

@@ -1,32 +1,21 @@
 -- A new tree, and a new object in a directory (RFC 8881 sections 18.4 and 18.16).
 use Rattle.std.specs.Prelude.{ℕ, ◌+◌, nat_lt, nat_le, Bool, false, not, ◌&&◌, List, [], ◌∷◌, ◌++◌, length, Option, Some, None, unwrap_or, replicate}
-use Rattle.nfs_xdr.specs.Checks.{first_fault}
 use Rattle.nfs_xdr.specs.declared.time.Time.{Time}
 use Rattle.nfs_tree.specs.declared.object.FileType.{FileType}
 use Rattle.nfs_tree.specs.declared.object.FileType.TheVariants as kind
 use Rattle.nfs_tree.specs.declared.object.Object.{Object}
 use Rattle.nfs_tree.specs.declared.sets.Sets.{Sets}
-use Rattle.nfs_tree.specs.declared.create.New.{New as Code}
-use Rattle.nfs_tree.specs.declared.create.New.TheVariants as code
-use Rattle.nfs_tree.specs.declared.done.Created.{Created}
 use Rattle.nfs_tree.specs.declared.fault.TreeFault.{TreeFault}
 use Rattle.nfs_tree.specs.declared.fault.TreeFault.TheVariants.{NoEnt, Exist, NotDir, Inval, Fbig, NoSpc, Counter}
 use Rattle.nfs_tree.specs.Object.{no_sets}
 use Rattle.nfs_tree.specs.Files.{Files, root, last_count, most_objects, most_bytes, most_text, is_name, is_there, is_directory_at, has_name, can_change}
 use Rattle.nfs_tree.specs.Files.{with_entries_changed}
-use Rattle.nfs_tree.specs.Did.{Did, does_unless, raised}
 
 -- What is made: a file of so many zeros, with the verifier of an exclusive create; a directory; a symbolic link with its text.
 pub data New : Type 0 where
   File : ℕ → Option (List ℕ) → New
   Directory : New
   Link : List ℕ → New
-
--- what the code's value says, wherever its bytes lie
-abbrev pub new_of : Code → New
-new_of (code.File size verifier) = File size verifier
-new_of code.Directory = Directory
-new_of (code.Link text) = Link text.now
 
 abbrev pub kind_of : New → FileType
 kind_of (File size verifier) = kind.Regular
@@ -101,9 +90,6 @@ create_checks t d name new =
     ∷ (is_too_big new, Fbig)
     ∷ room_checks t d
 
-abbrev pub create_fault : Files → ℕ → List ℕ → New → Option TreeFault
-create_fault t d name new = first_fault (create_checks t d name new)
-
 -- the directory changes, and the new object and its row get the next number and cookie
 abbrev pub with_new : Files → ℕ → List ℕ → New → Sets → Time → Files
 with_new t d name new sets now = record {
@@ -112,7 +98,3 @@ with_new t d name new sets now = record {
   last_object = t.last_object + 1;
   last_cookie = t.last_cookie + 1;
 }
-
-abbrev pub create : Files → ℕ → List ℕ → New → Sets → Time → Did Created
-create t d name new sets now =
-    does_unless t (create_fault t d name new) (record { number = t.last_object + 1; directory = raised t d }) (with_new t d name new sets now)

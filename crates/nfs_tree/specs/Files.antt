@@ -1,6 +1,6 @@
 -- The tree as two tables: objects by their numbers, and rows, each of which names an object in a directory (RFC 8881 sections 4.2 and 5.8).
-use Rattle.std.specs.Prelude.{◌≡◌, ◌||◌, All, ℕ, ◌==◌, ◌<◌, nat_lt, nat_le, Bool, true, false, not, ◌&&◌, if◌then◌else◌, List, [], length, Option}
-use Rattle.std.specs.Prelude.{filter, map, find, is_some, option_map, unwrap_or, bytes_eq}
+use Rattle.std.specs.Prelude.{ℕ, ◌==◌, nat_lt, nat_le, Bool, false, not, ◌&&◌, if◌then◌else◌, List, [], length, Option, filter, map, find, is_some, option_map}
+use Rattle.std.specs.Prelude.{unwrap_or, bytes_eq, ◌+◌}
 use Rattle.std.specs.List.{list_any}
 use Rattle.std.specs.Option.{option_map_or}
 use Rattle.nfs_xdr.specs.declared.time.Time.{Time}
@@ -8,7 +8,8 @@ use Rattle.nfs_tree.specs.declared.object.Object.{Object}
 use Rattle.nfs_tree.specs.declared.row.Row.{Row}
 use Rattle.nfs_tree.specs.declared.sets.Sets.{Sets}
 use Rattle.nfs_tree.specs.declared.stored.Stored.{Stored}
-use Rattle.nfs_tree.specs.Object.{is_directory, is_regular, changed, modified, no_sets}
+use Rattle.nfs_tree.specs.Object.{is_directory, changed, modified, no_sets}
+use Rattle.nfs_tree.specs.declared.done.Change.{Change}
 
 -- Objects in rising order of their numbers, rows in rising order of their cookies, and the last number of each kind that was given.
 pub record Files : Type 0 where
@@ -64,9 +65,6 @@ is_directory_in objects n = option_map_or (λ s. is_directory s.object.kind) (st
 abbrev pub is_directory_at : Files → ℕ → Bool
 is_directory_at t n = is_directory_in t.objects n
 
-abbrev pub is_regular_at : Files → ℕ → Bool
-is_regular_at t n = option_map_or (λ s. is_regular s.object.kind) (stored_in t.objects n) false
-
 -- the value of `change`, or 0 where there is no object
 abbrev pub change_of : Files → ℕ → ℕ
 change_of t n = option_map_or (λ s. s.object.change) (stored_in t.objects n) 0
@@ -74,10 +72,6 @@ change_of t n = option_map_or (λ s. s.object.change) (stored_in t.objects n) 0
 -- the object can change once more
 abbrev pub can_change : Files → ℕ → Bool
 can_change t n = option_map_or (λ s. nat_lt s.object.change last_count) (stored_in t.objects n) false
-
--- no object of the number has the last value
-abbrev pub CanChange : List Stored → ℕ → Type 0
-CanChange objects n = All (λ s. s.number ≡ n → s.object.change < last_count) objects
 
 -- the row of a name in a directory, and the object that it names
 abbrev pub is_entry : ℕ → List ℕ → Row → Bool
@@ -142,6 +136,9 @@ with_links_changed n now objects = with_changed n now no_sets objects
 abbrev pub without_entry : ℕ → List ℕ → List Row → List Row
 without_entry d name rows = filter (λ r. not (is_entry d name r)) rows
 
--- the condition of a call that puts a row into a directory: it is the root, or some row names it
-abbrev pub IsReached : Files → ℕ → Type 0
-IsReached t d = is_directory_at t d ≡ true → (d == root) || has_row t.rows d ≡ true
+-- a directory's `change` round a call that changes its entries, and round one that does not
+abbrev pub raised : Files → ℕ → Change
+raised t d = record { before = change_of t d; after = change_of t d + 1 }
+
+abbrev pub stays : Files → ℕ → Change
+stays t d = record { before = change_of t d; after = change_of t d }

@@ -5,8 +5,9 @@ use Rattle.nfs_tree.specs.declared.done.Created.{Created}
 use Rattle.nfs_tree.specs.declared.done.Removed.{Removed}
 use Rattle.nfs_tree.specs.declared.sets.Sets.{Sets}
 use Rattle.nfs_tree.specs.Files.{Files, root, is_directory_at, lookup, links_in, has_row, has_entries}
-use Rattle.nfs_tree.specs.Create.{New, create}
-use Rattle.nfs_tree.specs.Names.{remove, is_at_or_below}
+use Rattle.nfs_tree.specs.Create.{New}
+use Rattle.nfs_tree.specs.Calls.{create, remove}
+use Rattle.nfs_tree.specs.Names.{is_at_or_below}
 use Rattle.nfs_tree.specs.Walks.{IsWellFormed, walk}
 use Rattle.nfs_tree.specs.Kept.{IsTree}
 

@@ -1,23 +1,14 @@
 -- How the cookies of rows lie in ordered maps: by name, by directory and by object.
-use Rattle.std.specs.Prelude.{◌≡◌, ℕ, ◌<◌, ◌≤◌, ◌^◌, ◌==◌, nat_lt, Bool, ◌&&◌, List, ◌++◌, length, Option, Some, filter, option_map, is_some}
-use Rattle.std.specs.Int.{to_be_bytes, w64}
+use Rattle.std.specs.Prelude.{◌≡◌, ℕ, ◌<◌, ◌≤◌, ◌^◌, ◌==◌, nat_lt, Bool, ◌&&◌, List, length, Option, Some, filter, option_map, is_some}
 use Rattle.std.specs.List.{list_any}
 use Rattle.std.specs.Ordering.{nat_cmp, ordering_then}
 use Rattle.std.specs.declared.cmp.Ordering.{Ordering}
-use Rattle.std.specs.Cmp.Lexicographic.{slice_cmp}
 use Rattle.std.specs.BTreeMap.{is_at}
 use Rattle.std.specs.Map.{lookup}
+use Rattle.nfs_xdr.specs.Codec.{IsBytes}
 use Rattle.nfs_xdr.specs.Tables.{IsRising, In}
 use Rattle.nfs_tree.specs.declared.row.Row.{Row}
 use Rattle.nfs_tree.specs.Files.{most_name, entry}
-
--- a directory's number and a name, in one
-abbrev pub key_of : ℕ → List ℕ → List ℕ
-key_of d name = to_be_bytes w64 d ++ name
-
--- what stands at a key of these bytes
-abbrev pub cookie_at : {K : Type 0} → (K → List ℕ) → List (K × ℕ) → List ℕ → Option ℕ
-cookie_at bytes names q = lookup (is_at (λ k. slice_cmp nat_cmp q (bytes k))) names
 
 abbrev pub pair_cmp : ℕ × ℕ → ℕ × ℕ → Ordering
 pair_cmp x y = ordering_then (nat_cmp x.0 y.0) (nat_cmp x.1 y.1)
@@ -38,16 +29,16 @@ abbrev pub links_behind : List Row → ℕ → ℕ → ℕ
 links_behind rows n k = length (filter (λ r. (r.object == n) && nat_lt k r.cookie) rows)
 
 -- rows in rising order of their cookies, each the one found under its name, and the cookies found by name
-pub record AreNamed (rows : List Row) (at : List ℕ → Option ℕ) : Type 0 where
+pub record AreNamed (rows : List Row) (at : ℕ → List ℕ → Option ℕ) : Type 0 where
   pub high : ℕ
   pub rising : IsRising (λ (r : Row). r.cookie) 3 rows high
   pub short : (r : Row) → In r rows → length r.name ≤ most_name
   pub few : (r : Row) → In r rows → (r.directory < 2 ^ 64) × (r.cookie < 2 ^ 64)
   pub found : (r : Row) → In r rows → entry rows r.directory r.name ≡ Some r
-  pub names : (d : ℕ) (name : List ℕ) → d < 2 ^ 64 → at (key_of d name) ≡ option_map (λ r. r.cookie) (entry rows d name)
+  pub names : (d : ℕ) (name : List ℕ) → d < 2 ^ 64 → IsBytes name → at d name ≡ option_map (λ r. r.cookie) (entry rows d name)
 
--- the rows, the map of names, and those of directories and of objects
-pub record AreMapped {K : Type 0} (bytes : K → List ℕ) (rows : List Row) (ns : List (K × ℕ)) (ls os : List ((ℕ × ℕ) × Unit {0})) : Type 0 where
-  pub named : AreNamed rows (cookie_at bytes ns)
+-- the rows, the cookies found by name, and the maps of directories and of objects
+pub record AreMapped (rows : List Row) (at : ℕ → List ℕ → Option ℕ) (ls os : List ((ℕ × ℕ) × Unit {0})) : Type 0 where
+  pub named : AreNamed rows at
   pub listed : ArePairs (λ (r : Row). r.directory) rows (has_pair ls)
   pub owned : ArePairs (λ (r : Row). r.object) rows (has_pair os)

@@ -1,20 +1,13 @@
 -- Rows put, dropped and moved; objects dropped (RFC 8881 sections 18.9, 18.25 and 18.26).
 use Rattle.std.specs.Option.{option_map_or}
-use Rattle.std.specs.Prelude.{ℕ, zero, suc, ◌+◌, ◌==◌, nat_lt, nat_le, Bool, false, not, ◌&&◌, ◌||◌, if◌then◌else◌, List, [], ◌∷◌, ◌++◌, length, Option}
-use Rattle.std.specs.Prelude.{Some, None, Ok, Err, filter}
-use Rattle.nfs_xdr.specs.Checks.{first_fault}
+use Rattle.std.specs.Prelude.{ℕ, zero, suc, ◌+◌, ◌==◌, nat_lt, nat_le, Bool, false, not, ◌&&◌, ◌||◌, if◌then◌else◌, List, [], ◌∷◌, ◌++◌, length, filter}
 use Rattle.nfs_xdr.specs.declared.time.Time.{Time}
-use Rattle.nfs_tree.specs.declared.rename.Place.{Place}
 use Rattle.nfs_tree.specs.declared.row.Row.{Row}
 use Rattle.nfs_tree.specs.declared.stored.Stored.{Stored}
-use Rattle.nfs_tree.specs.declared.done.Change.{Change}
-use Rattle.nfs_tree.specs.declared.done.Removed.{Removed}
-use Rattle.nfs_tree.specs.declared.done.Renamed.{Renamed}
 use Rattle.nfs_tree.specs.declared.fault.TreeFault.{TreeFault}
 use Rattle.nfs_tree.specs.declared.fault.TreeFault.TheVariants.{NoEnt, Exist, NotDir, IsDir, NotEmpty, Inval, Mlink, Counter}
-use Rattle.nfs_tree.specs.Files.{Files, last_count, most_links, is_name, is_there, is_directory_at, has_name, lookup, named, parent_in, links_in, has_row}
-use Rattle.nfs_tree.specs.Files.{has_entries, can_change, with_entries_changed, with_links_changed, without_entry}
-use Rattle.nfs_tree.specs.Did.{Did, does_unless, raised, stays}
+use Rattle.nfs_tree.specs.Files.{Files, last_count, most_links, is_name, is_there, is_directory_at, has_name, named, parent_in, links_in, has_row, has_entries}
+use Rattle.nfs_tree.specs.Files.{can_change, with_entries_changed, with_links_changed, without_entry}
 
 -- a row more
 abbrev pub with_row : List Row → ℕ → List ℕ → ℕ → ℕ → List Row
@@ -33,18 +26,12 @@ link_checks t n d name =
     ∷ (not (can_change t d && (can_change t n && nat_lt t.last_cookie last_count)), Counter)
     ∷ []
 
-abbrev pub link_fault : Files → ℕ → ℕ → List ℕ → Option TreeFault
-link_fault t n d name = first_fault (link_checks t n d name)
-
 abbrev pub with_link : Files → ℕ → ℕ → List ℕ → Time → Files
 with_link t n d name now = record t {
   objects = with_links_changed n now (with_entries_changed d now t.objects);
   rows = with_row t.rows d name n (t.last_cookie + 1);
   last_cookie = t.last_cookie + 1;
 }
-
-abbrev pub link : Files → ℕ → ℕ → List ℕ → Time → Did Change
-link t n d name now = does_unless t (link_fault t n d name) (raised t d) (with_link t n d name now)
 
 -- REMOVE: an entry goes; the object stays until it is forgotten.
 abbrev pub remove_checks : Files → ℕ → List ℕ → List (Bool × TreeFault)
@@ -56,17 +43,11 @@ remove_checks t d name =
     ∷ (not (can_change t d && can_change t (named t d name)), Counter)
     ∷ []
 
-abbrev pub remove_fault : Files → ℕ → List ℕ → Option TreeFault
-remove_fault t d name = first_fault (remove_checks t d name)
-
 abbrev pub without_name : Files → ℕ → List ℕ → Time → Files
 without_name t d name now = record t {
   objects = with_links_changed (named t d name) now (with_entries_changed d now t.objects);
   rows = without_entry d name t.rows;
 }
-
-abbrev pub remove : Files → ℕ → List ℕ → Time → Did Removed
-remove t d name now = does_unless t (remove_fault t d name) (record { number = named t d name; directory = raised t d }) (without_name t d name now)
 
 -- an object goes
 abbrev pub forget : Files → ℕ → Files
@@ -86,10 +67,6 @@ pub record Move : Type 0 where
 
 abbrev pub move : ℕ → List ℕ → ℕ → List ℕ → Move
 move source old target name = record { source = source; old = old; target = target; name = name }
-
--- what the code's value says, wherever its names lie
-abbrev pub move_of : Place → Move
-move_of m = record { source = m.source; old = m.old.now; target = m.target; name = m.name.now }
 
 abbrev pub moved_object : Files → Move → ℕ
 moved_object t m = named t m.source m.old
@@ -131,9 +108,6 @@ rename_checks t m =
     ∷ (moves t m && not (can_move t m), Counter)
     ∷ []
 
-abbrev pub rename_fault : Files → Move → Option TreeFault
-rename_fault t m = first_fault (rename_checks t m)
-
 -- the entries of two directories changed, or of one
 abbrev pub with_both_changed : ℕ → ℕ → Time → List Stored → List Stored
 with_both_changed a b now objects = if a == b then with_entries_changed a now objects else with_entries_changed b now (with_entries_changed a now objects)
@@ -145,20 +119,3 @@ with_moved t m now = record t {
   rows = with_row (without_entry m.source m.old (without_entry m.target m.name t.rows)) m.target m.name (moved_object t m) (t.last_cookie + 1);
   last_cookie = t.last_cookie + 1;
 }
-
--- what is answered and left where an entry moves, and where nothing does
-abbrev pub moved : Files → Move → Time → Did Renamed
-moved t m now = record {
-  answer = Ok (record { source = raised t m.source; target = raised t m.target; replaced = lookup t m.target m.name });
-  after = with_moved t m now;
-}
-
-abbrev pub unmoved : Files → Move → Did Renamed
-unmoved t m = record { answer = Ok (record { source = stays t m.source; target = stays t m.target; replaced = None }); after = t }
-
-abbrev pub rename_unless : Files → Option TreeFault → Did Renamed → Did Renamed
-rename_unless t None did = did
-rename_unless t (Some fault) did = record { answer = Err fault; after = t }
-
-abbrev pub rename : Files → Move → Time → Did Renamed
-rename t m now = rename_unless t (rename_fault t m) (if moves t m then moved t m now else unmoved t m)

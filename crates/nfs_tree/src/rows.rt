@@ -1,18 +1,17 @@
 //! The rows of all directories, found by name, in each directory by cookie, and by the object that they name.
 
 ghost use Rattle.std.specs.Prelude.{◌≡◌, ℕ, ◌+◌, ◌≤◌, ◌++◌, [], ◌∷◌, length, OnOk, OnErr, IfSome, IfNone, IsSome, None, Some, cond, option_copied, option_map};
-ghost use Rattle.std.specs.Ordering.{nat_cmp};
-ghost use Rattle.std.specs.Cmp.Lexicographic.{slice_cmp};
-ghost use Rattle.std.specs.BTreeMap.{insert_entry, get, is_at, Updates, UpdatesBy};
+ghost use Rattle.std.specs.BTreeMap.{insert_entry, get, is_at};
 ghost use Rattle.nfs_xdr.specs.Tables.{IsRising, without_record};
 ghost use Rattle.nfs_tree.specs.Files.{entry, parent_in, links_in, has_row, has_entries, listing, listed, without_entry, most_name};
-ghost use Rattle.nfs_tree.specs.Maps.{key_of, pair_cmp, links_behind};
+ghost use Rattle.nfs_tree.specs.ByName.{cookies, NamesAnew};
+ghost use Rattle.nfs_tree.specs.Maps.{pair_cmp, links_behind};
 ghost use Rattle.nfs_tree.specs.Names.{with_row};
 
 use crate::by_cookie::ByCookie;
+use crate::by_name::ByName;
 use crate::name::Name;
 use crate::row::Row;
-use crate::spelled::Spelled;
 use crate::tree::Tree;
 use std::alloc::{AllocError, Global};
 use std::collections::BTreeMap;
@@ -24,8 +23,8 @@ use std::marker::Model;
 pub(crate) struct Rows {
     /// Each under its cookie.
     rows: ByCookie,
-    /// The cookie of each, under its directory and its name, as `Spelled` spells them.
-    names: BTreeMap<Vec<u8>, u64, Global>,
+    /// The cookie of each, under its directory and its name.
+    names: ByName,
     /// The directory and the cookie of each.
     listed: BTreeMap<(u64, u64), (), Global>,
     /// The object and the cookie of each.
@@ -35,13 +34,14 @@ pub(crate) struct Rows {
 impl Model for Rows {
     ghost use Rattle.std.specs.Prelude.{List};
     ghost use Rattle.nfs_tree.specs.declared.row.Row.{Row};
+    ghost use Rattle.nfs_tree.specs.ByName.{cookies};
     ghost use Rattle.nfs_tree.specs.Maps.{AreMapped};
 
     ghost Value = { List Row };
 
     ghost view = { λ t. t.rows };
 
-    ghost invariant = { λ t. AreMapped (λ k. k.items) t.rows t.names.entries t.listed.entries t.owned.entries };
+    ghost invariant = { λ t. AreMapped t.rows (cookies t.names) t.listed.entries t.owned.entries };
 }
 
 impl Rows {
@@ -51,7 +51,7 @@ impl Rows {
     {
         Rows {
             rows: ByCookie::new(alloc),
-            names: BTreeMap::new(alloc),
+            names: ByName::new(alloc),
             listed: BTreeMap::new(alloc),
             owned: BTreeMap::new(alloc),
         }
@@ -71,10 +71,9 @@ impl Rows {
         if name.len() > Tree::MAX_NAME {
             return None;
         }
-        let spelled = Spelled::new(directory, name);
-        match names.get(spelled.as_slice()) {
+        match names.get(directory, name) {
             None => None,
-            Some(cookie) => self.rows.row(*cookie),
+            Some(cookie) => self.rows.row(cookie),
         }
     }
 
@@ -187,12 +186,10 @@ impl Rows {
         ensures err { OnErr result (self.new ≡ self.old) }
     {
         let replaced = self.place_of(directory, name);
-        let spelled = Spelled::new(directory, name);
-        let key = Vec::from_slice(alloc, spelled.as_slice())?;
-        let name = Name::of(alloc, name)?;
+        let kept = Name::of(alloc, name)?;
         let row = Row {
             directory,
-            name,
+            name: kept,
             object,
             cookie,
         };
@@ -201,7 +198,8 @@ impl Rows {
             &mut self.names,
             &mut self.listed,
             &mut self.owned,
-            key,
+            alloc,
+            name,
             row,
         )?;
         if let Some((owner, old)) = replaced {
@@ -234,7 +232,7 @@ impl Rows {
         ensures { self.new ≡ without_entry directory name.now self.old }
     {
         if let Some((owner, gone)) = self.place_of(directory, name) {
-            take_name(&mut self.names, directory, name);
+            self.names.remove(directory, name);
             take(&mut self.rows, &mut self.listed, directory, gone);
             take_pair(&mut self.owned, owner, gone);
         }
@@ -258,21 +256,24 @@ fn first_from(pairs: &BTreeMap<(u64, u64), (), Global>, number: u64, from: u64) 
 /// Puts a row behind the others, and its cookie under its name, or neither.
 fn put_named(
     rows: &mut ByCookie,
-    names: &mut BTreeMap<Vec<u8>, u64, Global>,
-    key: Vec<u8>,
+    names: &mut ByName,
+    alloc: Global,
+    name: &[u8],
     row: Row,
 ) -> Result<(), AllocError>
-    requires { IsRising (λ r. r.cookie) 3 rows.old row.cookie }
+    requires rising { IsRising (λ r. r.cookie) 3 rows.old row.cookie }
+    requires short { length name.now ≤ most_name }
     ensures rows { OnOk result (rows.new ≡ rows.old ++ row ∷ []) }
-    ensures names { OnOk result (Updates (λ x y. slice_cmp nat_cmp x.items y.items) names.old names.new key (Some row.cookie)) }
+    ensures names { OnOk result (NamesAnew (cookies names.old) (cookies names.new) row.directory name.now (Some row.cookie)) }
     ensures err_rows { OnErr result (rows.new ≡ rows.old) }
-    ensures err_names { OnErr result (names.new.entries ≡ names.old.entries) }
+    ensures err_names { OnErr result (cookies names.new ≡ cookies names.old) }
 {
+    let directory = row.directory;
     let cookie = row.cookie;
     rows.push(row)?;
-    if names.insert(key, cookie).is_err() {
+    if let Err(fault) = names.insert(alloc, directory, name, cookie) {
         rows.drop_row(cookie);
-        return Err(AllocError);
+        return Err(fault);
     }
     Ok(())
 }
@@ -280,24 +281,26 @@ fn put_named(
 /// Puts a row into the maps, or into none.
 fn add(
     rows: &mut ByCookie,
-    names: &mut BTreeMap<Vec<u8>, u64, Global>,
+    names: &mut ByName,
     listed: &mut BTreeMap<(u64, u64), (), Global>,
-    key: Vec<u8>,
+    alloc: Global,
+    name: &[u8],
     row: Row,
 ) -> Result<(), AllocError>
     requires rising { IsRising (λ r. r.cookie) 3 rows.old row.cookie }
+    requires short { length name.now ≤ most_name }
     requires new_pair { get pair_cmp listed.old (row.directory, row.cookie) ≡ None }
     ensures rows { OnOk result (rows.new ≡ rows.old ++ row ∷ []) }
-    ensures names { OnOk result (Updates (λ x y. slice_cmp nat_cmp x.items y.items) names.old names.new key (Some row.cookie)) }
+    ensures names { OnOk result (NamesAnew (cookies names.old) (cookies names.new) row.directory name.now (Some row.cookie)) }
     ensures listed { OnOk result (listed.new.entries ≡ insert_entry pair_cmp listed.old.entries (row.directory, row.cookie) tt) }
     ensures err_rows { OnErr result (rows.new ≡ rows.old) }
-    ensures err_names { OnErr result (names.new.entries ≡ names.old.entries) }
+    ensures err_names { OnErr result (cookies names.new ≡ cookies names.old) }
     ensures err_listed { OnErr result (listed.new.entries ≡ listed.old.entries) }
 {
     let Entry::Vacant(place) = listed.entry((row.directory, row.cookie))? else {
         return Ok(());
     };
-    put_named(rows, names, key, row)?;
+    put_named(rows, names, alloc, name, row)?;
     place.insert(());
     Ok(())
 }
@@ -305,28 +308,30 @@ fn add(
 /// Puts a row into the maps, that of objects among them, or into none.
 fn add_owned(
     rows: &mut ByCookie,
-    names: &mut BTreeMap<Vec<u8>, u64, Global>,
+    names: &mut ByName,
     listed: &mut BTreeMap<(u64, u64), (), Global>,
     owned: &mut BTreeMap<(u64, u64), (), Global>,
-    key: Vec<u8>,
+    alloc: Global,
+    name: &[u8],
     row: Row,
 ) -> Result<(), AllocError>
     requires rising { IsRising (λ r. r.cookie) 3 rows.old row.cookie }
+    requires short { length name.now ≤ most_name }
     requires new_pair { get pair_cmp listed.old (row.directory, row.cookie) ≡ None }
     requires new_owner { get pair_cmp owned.old (row.object, row.cookie) ≡ None }
     ensures rows { OnOk result (rows.new ≡ rows.old ++ row ∷ []) }
-    ensures names { OnOk result (Updates (λ x y. slice_cmp nat_cmp x.items y.items) names.old names.new key (Some row.cookie)) }
+    ensures names { OnOk result (NamesAnew (cookies names.old) (cookies names.new) row.directory name.now (Some row.cookie)) }
     ensures listed { OnOk result (listed.new.entries ≡ insert_entry pair_cmp listed.old.entries (row.directory, row.cookie) tt) }
     ensures owned { OnOk result (owned.new.entries ≡ insert_entry pair_cmp owned.old.entries (row.object, row.cookie) tt) }
     ensures err_rows { OnErr result (rows.new ≡ rows.old) }
-    ensures err_names { OnErr result (names.new.entries ≡ names.old.entries) }
+    ensures err_names { OnErr result (cookies names.new ≡ cookies names.old) }
     ensures err_listed { OnErr result (listed.new.entries ≡ listed.old.entries) }
     ensures err_owned { OnErr result ((q : ℕ × ℕ) → get pair_cmp owned.new q ≡ get pair_cmp owned.old q) }
 {
     let owner = row.object;
     let cookie = row.cookie;
     owned.insert((owner, cookie), ())?;
-    if let Err(fault) = add(rows, names, listed, key, row) {
+    if let Err(fault) = add(rows, names, listed, alloc, name, row) {
         take_pair(owned, owner, cookie);
         return Err(fault);
     }
@@ -337,14 +342,6 @@ fn take_pair(pairs: &mut BTreeMap<(u64, u64), (), Global>, number: u64, cookie: 
     ensures { (q : ℕ × ℕ) → get pair_cmp pairs.new q ≡ cond (is_at (pair_cmp (number, cookie)) q) None (get pair_cmp pairs.old q) }
 {
     pairs.remove(&(number, cookie));
-}
-
-fn take_name(names: &mut BTreeMap<Vec<u8>, u64, Global>, directory: u64, name: &[u8])
-    requires { length name.now ≤ most_name }
-    ensures { UpdatesBy (λ x y. slice_cmp nat_cmp x.items y.items) (λ k. slice_cmp nat_cmp (key_of directory name.now) k.items) names.old names.new None }
-{
-    let spelled = Spelled::new(directory, name);
-    names.remove(spelled.as_slice());
 }
 
 fn take(

@@ -1,8 +1,8 @@
-//! Keys of entries: a directory's number and a name, spelled in one without taking memory.
+//! Keys of long names: a directory's number and a name, spelled in one without taking memory.
 
 ghost use Rattle.std.specs.Prelude.{◌≡◌, ◌+◌, ◌≤◌, ◌++◌, length, take, drop};
 ghost use Rattle.nfs_tree.specs.Files.{most_name};
-ghost use Rattle.nfs_tree.specs.Maps.{key_of};
+ghost use Rattle.nfs_tree.specs.ByName.{key_of};
 
 use std::marker::Model;
 

@@ -130,6 +130,49 @@ fn names_are_put_dropped_and_moved(rt: HostRuntime) -> Result<(), Fail> {
     Ok(())
 }
 
+/// Names of which each is another with bytes or zeros behind it, of 22 to 24 bytes among them.
+const ALIKE: [&[u8]; 8] = [
+    b"a",
+    b"a\x00",
+    b"a\x00\x00",
+    b"\x00",
+    b"abcdefghijklmnopqrstuv",
+    b"abcdefghijklmnopqrstuvw",
+    b"abcdefghijklmnopqrstuvwx",
+    b"abcdefghijklmnopqrstuv\x00",
+];
+
+#[test]
+fn names_are_told_apart_by_all_their_bytes(rt: HostRuntime) -> Result<(), Fail> {
+    let alloc = rt.alloc();
+    let mut tree = Tree::new(alloc, 0o755, START)?;
+    assert!(rt; run(&mut tree, alloc, Step::Directory(1, b"d")) == Ok(2));
+    // objects 3 to 10 in the root, and 11 to 18 in the other directory
+    let mut number = 2u64;
+    for directory in [1, 2] {
+        for name in ALIKE {
+            number = number.wrapping_add(1);
+            assert!(rt; run(&mut tree, alloc, Step::File(directory, name)) == Ok(number));
+        }
+    }
+    // those of the root take the places of the others, and go
+    number = 2;
+    for name in ALIKE {
+        number = number.wrapping_add(1);
+        let other = number.wrapping_add(8);
+        assert!(rt; tree.lookup(1, name) == Some(number) && tree.lookup(2, name) == Some(other));
+        assert!(rt; run(&mut tree, alloc, Step::Rename(1, name, 2, name)) == Ok(other));
+        assert!(rt; tree.lookup(1, name).is_none() && tree.lookup(2, name) == Some(number));
+    }
+    number = 2;
+    for name in ALIKE {
+        number = number.wrapping_add(1);
+        assert!(rt; run(&mut tree, alloc, Step::Remove(2, name)) == Ok(number));
+        assert!(rt; tree.lookup(2, name).is_none());
+    }
+    Ok(())
+}
+
 /// Makes a directory under a name, takes the name away again and drops the directory. That this may be done, and what
 /// has the name on the way, the laws say.
 fn make_and_drop(

@@ -13,9 +13,12 @@ use Rattle.std.proofs.lemmas.Nat.{be_bytes_4, be_bytes_8, from_be_bytes-to_be_by
 use Rattle.nfs_xdr.proofs.Bytes.{IsBytes-drop}
 use Rattle.nfs_xdr.specs.Spelling as spelling
 use Rattle.nfs_xdr.specs.Spelling.{padding}
-use Rattle.nfs_xdr.specs.Reading.{◌>>=◌, number_at, flag_at, all_zero, fixed_at, opaque_at, pieces_at, ReadsBy}
-use Rattle.nfs_xdr.specs.Codec.{Codec, IsCodec, IsBytes, ReadsAs, number, hyper, flag, fixed, opaque, unbounded, nothing, ◌then◌, as_type, only, many_at, array}
-use Rattle.nfs_xdr.specs.Codec.{few, spell_optional, optional, IsPrefixFree, in_arm, led_by, choose, union, arm, bare, IsSized, pieces}
+use Rattle.nfs_xdr.specs.Reading.{◌>>=◌, number_at, flag_at, all_zero, fixed_at, opaque_at, pieces_at}
+use Rattle.nfs_xdr.specs.Readers.{ReadsBy, ReadsAs}
+use Rattle.nfs_xdr.specs.Codec.{Codec, IsBytes, number, hyper, flag, opaque, unbounded, ◌then◌, as_type, only, many_at, array}
+use Rattle.nfs_xdr.specs.Lawful.{IsCodec, IsPrefixFree, IsSized}
+use Rattle.nfs_xdr.specs.Combinators.{fixed, nothing, few, spell_optional, optional, in_arm}
+use Rattle.nfs_xdr.specs.Codec.{led_by, choose, union, arm, bare, pieces}
 
 -- steps
 

@@ -1,5 +1,5 @@
 -- Whatever is put together from items is read exactly where it is spelled.
-use Rattle.nfs_xdr.specs.Codec.{IsCodec, IsPrefixFree}
+use Rattle.nfs_xdr.specs.Lawful.{IsCodec, IsPrefixFree}
 use Rattle.nfs_xdr.specs.Format.{Format, Number, Hyper, Flag, Fixed, Opaque, Then, Optional, Array, AtMost, LedBy, codec, IsFormat}
 use Rattle.nfs_xdr.proofs.CodecLaws.{is_number, is_hyper, is_flag, is_fixed, is_opaque, is_then, is_optional, is_array, is_few, is_led_by, is_prefix_free}
 

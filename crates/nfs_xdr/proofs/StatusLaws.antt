@@ -8,8 +8,9 @@ use Rattle.nfs_xdr.specs.declared.status.Status.TheVariants.{BadStateId, NotSame
 use Rattle.nfs_xdr.specs.declared.status.Status.TheVariants.{BadName, OpIllegal, BadSession, BadSlot, CompleteAlready, SeqMisordered, SequencePos, ReqTooBig}
 use Rattle.nfs_xdr.specs.declared.status.Status.TheVariants.{RepTooBig, TooManyOps, OpNotInSession, ClientIdBusy, SeqFalseRetry, BadHighSlot, NotOnlyOp}
 use Rattle.nfs_xdr.specs.declared.status.Status.TheVariants.{WrongType}
-use Rattle.nfs_xdr.specs.Status.{status_number, status_of, statuses, status}
-use Rattle.nfs_xdr.specs.Codec.{IsListing, IsCodec}
+use Rattle.nfs_xdr.specs.Status.{status_number}
+use Rattle.nfs_xdr.specs.StatusCodec.{status_of, statuses, status}
+use Rattle.nfs_xdr.specs.Lawful.{IsListing, IsCodec}
 use Rattle.nfs_xdr.proofs.WordLaws.{is_listed}
 
 status_found : (s : Status) → status_of (status_number s) ≡ Some s

@@ -1,6 +1,7 @@
 -- Formats: everything that is put together from the items of RFC 4506, and the codec that each stands for.
 use Rattle.std.specs.Prelude.{ℕ, ◌<◌, ◌^◌, Bool, List, Option}
-use Rattle.nfs_xdr.specs.Codec.{Codec, number, hyper, flag, fixed, opaque, ◌then◌, optional, array, few, led_by}
+use Rattle.nfs_xdr.specs.Codec.{Codec, number, hyper, flag, opaque, ◌then◌, array, led_by}
+use Rattle.nfs_xdr.specs.Combinators.{fixed, optional, few}
 
 pub data Format : Type 0 where
   Number : Format

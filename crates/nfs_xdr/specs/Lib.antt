@@ -10,3 +10,8 @@ pub mod Checks
 pub mod Status
 pub mod Caller
 pub mod Limits
+pub mod AuthSys
+pub mod Combinators
+pub mod Lawful
+pub mod Readers
+pub mod StatusCodec

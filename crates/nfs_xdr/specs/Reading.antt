@@ -1,5 +1,5 @@
 -- What stands at the front of bytes, of the items of RFC 4506: a value and the bytes behind it, or nothing that is spelled so.
-use Rattle.std.specs.Prelude.{◌≡◌, ℕ, ◌+◌, ◌*◌, ◌==◌, List, length, take, drop, Bool, true, false, Option, Some, None, Result, Ok, Err, nat_lt, if◌then◌else◌}
+use Rattle.std.specs.Prelude.{ℕ, ◌+◌, ◌*◌, ◌==◌, List, length, take, drop, Bool, true, false, Option, Some, None, nat_lt, if◌then◌else◌}
 use Rattle.std.specs.Int.{w32, w64, from_be_bytes}
 use Rattle.std.specs.List.{list_all}
 use Rattle.std.specs.Simd.{first_chunks}
@@ -9,11 +9,6 @@ infixl 10 ◌>>=◌
 abbrev pub ◌>>=◌ : {A B : Type 0} → Option A → (A → Option B) → Option B
 None >>= f = None
 (Some x) >>= f = f x
-
--- What a reader returned, seen by view, is what reading the old bytes gives. Where it refuses, nothing has moved.
-abbrev pub ReadsBy : {X Y E : Type 0} → (X → Y) → Result X E → Option (Y × List ℕ) → List ℕ → List ℕ → Type 0
-ReadsBy view (Ok x) read old new = read ≡ Some (view x, new)
-ReadsBy view (Err e) read old new = (read ≡ None) × (new ≡ old)
 
 abbrev pub number_at : List ℕ → Option (ℕ × List ℕ)
 number_at bytes = if nat_lt (length bytes) 4 then None else Some (from_be_bytes w32 (take 4 bytes), drop 4 bytes)
@@ -45,8 +40,3 @@ unfoldable pub pieces_at : ℕ → List ℕ → Option (List (List ℕ) × List 
 pieces_at n bytes = do
   count ← number_at bytes
   if nat_lt (length count.1) (count.0 * n) then None else Some (first_chunks n count.0 count.1, drop (count.0 * n) count.1)
-
--- The same of the reader of a part: where it refuses, the bytes are left anywhere.
-abbrev pub ReadsPartBy : {X Y E : Type 0} → (X → Y) → Result X E → Option (Y × List ℕ) → List ℕ → Type 0
-ReadsPartBy view (Ok x) read new = read ≡ Some (view x, new)
-ReadsPartBy view (Err e) read new = read ≡ None

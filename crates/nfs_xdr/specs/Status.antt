@@ -1,6 +1,5 @@
 -- The number of each status (RFC 8881 section 15.1).
-use Rattle.std.specs.Prelude.{ℕ, List, [], ◌∷◌, Option}
-use Rattle.nfs_xdr.specs.Codec.{Codec, listed_at, listed}
+use Rattle.std.specs.Prelude.{ℕ}
 use Rattle.nfs_xdr.specs.declared.status.Status.{Status}
 use Rattle.nfs_xdr.specs.declared.status.Status.TheVariants.{Nfs4Ok, Perm, NoEnt, Access, Exist, NotDir, IsDir, Inval, FBig, NoSpc, MLink, NameTooLong}
 use Rattle.nfs_xdr.specs.declared.status.Status.TheVariants.{NotEmpty, Stale, BadHandle, BadCookie, NotSupp, TooSmall, ServerFault, BadType, Delay, Same}
@@ -67,19 +66,3 @@ status_number SeqFalseRetry = 10076
 status_number BadHighSlot = 10077
 status_number NotOnlyOp = 10081
 status_number WrongType = 10083
-
--- every status
-abbrev pub statuses : List Status
-statuses =
-    Nfs4Ok ∷ Perm ∷ NoEnt ∷ Access ∷ Exist ∷ NotDir ∷ IsDir ∷ Inval ∷ FBig ∷ NoSpc ∷ MLink ∷ NameTooLong ∷ NotEmpty ∷ Stale ∷ BadHandle ∷
-    BadCookie ∷ NotSupp ∷ TooSmall ∷ ServerFault ∷ BadType ∷ Delay ∷ Same ∷ Denied ∷ Locked ∷ ShareDenied ∷ ClidInUse ∷ NoFileHandle ∷
-    MinorVersMismatch ∷ StaleClientId ∷ OldStateId ∷ BadStateId ∷ NotSame ∷ Symlink ∷ AttrNotSupp ∷ NoGrace ∷ BadXdr ∷ LocksHeld ∷
-    OpenMode ∷ BadOwner ∷ BadChar ∷ BadName ∷ OpIllegal ∷ BadSession ∷ BadSlot ∷ CompleteAlready ∷ SeqMisordered ∷ SequencePos ∷ ReqTooBig ∷
-    RepTooBig ∷ TooManyOps ∷ OpNotInSession ∷ ClientIdBusy ∷ SeqFalseRetry ∷ BadHighSlot ∷ NotOnlyOp ∷ WrongType ∷ []
-
--- the status that has the number
-abbrev pub status_of : ℕ → Option Status
-status_of n = listed_at status_number statuses n
-
-abbrev pub status : Codec Status
-status = listed status_number statuses

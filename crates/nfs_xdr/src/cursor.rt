@@ -2,9 +2,11 @@
 
 ghost use Rattle.std.specs.Prelude.{◌≡◌, ◌<◌, ◌^◌, ◌%◌, ℕ, length, ◌+◌, MatchResult, IfOk, Some, None, drop};
 ghost use Rattle.nfs_xdr.specs.Spelling.{padding};
-ghost use Rattle.nfs_xdr.specs.Reading.{ReadsBy, ReadsPartBy, number_at, hyper_at, flag_at, fixed_at, opaque_at, pieces_at, all_zero};
-ghost use Rattle.nfs_xdr.specs.Codec.{ReadsAs, IsBytes};
+ghost use Rattle.nfs_xdr.specs.Reading.{number_at, hyper_at, flag_at, fixed_at, opaque_at, pieces_at, all_zero};
+ghost use Rattle.nfs_xdr.specs.Readers.{ReadsBy, ReadsPartBy, ReadsAs};
+ghost use Rattle.nfs_xdr.specs.Codec.{IsBytes};
 ghost use Rattle.nfs_xdr.specs.Codec as codec;
+ghost use Rattle.nfs_xdr.specs.Combinators as combinators;
 ghost use Rattle.nfs_xdr.specs.Time.{time};
 
 use crate::time::Time;
@@ -169,7 +171,7 @@ impl<'a> Cursor<'a> {
     pub fn fixed<const N: usize>(&mut self) -> Result<[u8; N], Unreadable>
         requires { N < 2 ^ 32 }
         ensures exact { ReadsBy (λ x. x) result (fixed_at N self.old) self.old self.new }
-        ensures spelled { ReadsAs (codec.fixed N) (λ x. x) result self.old self.new }
+        ensures spelled { ReadsAs (combinators.fixed N) (λ x. x) result self.old self.new }
     {
         self.take_fixed::<N>()
     }
@@ -182,7 +184,7 @@ impl<'a> Cursor<'a> {
         requires size { (0 < N) × (N < 2 ^ 16) }
         requires words { N % 4 ≡ 0 }
         ensures exact { ReadsBy (λ x. x.now) result (pieces_at N self.old) self.old self.new }
-        ensures spelled { ReadsAs (codec.array (codec.fixed N)) (λ x. x.now) result self.old self.new }
+        ensures spelled { ReadsAs (codec.array (combinators.fixed N)) (λ x. x.now) result self.old self.new }
     {
         self.take_pieces::<N>()
     }

@@ -1,9 +1,12 @@
 //! Laws of the spellings and of what is put together from them.
 
 ghost use Rattle.std.specs.Prelude.{◌≡◌, Some, ℕ, ◌<◌, ◌^◌};
-ghost use Rattle.nfs_xdr.specs.Codec.{IsCodec, IsPrefixFree, number, hyper, flag, fixed, opaque};
+ghost use Rattle.nfs_xdr.specs.Codec.{number, hyper, flag, opaque};
+ghost use Rattle.nfs_xdr.specs.Lawful.{IsCodec, IsPrefixFree};
+ghost use Rattle.nfs_xdr.specs.Combinators.{fixed};
 ghost use Rattle.nfs_xdr.specs.declared.status.Status.{Status};
-ghost use Rattle.nfs_xdr.specs.Status.{status, status_of, status_number};
+ghost use Rattle.nfs_xdr.specs.Status.{status_number};
+ghost use Rattle.nfs_xdr.specs.StatusCodec.{status, status_of};
 ghost use Rattle.nfs_xdr.specs.Time.{time};
 ghost use Rattle.nfs_xdr.specs.Format.{Format, IsFormat, codec};
 

@@ -1,7 +1,7 @@
 //! XDR (RFC 4506) on both sides: what a cursor reads is what stands spelled at its place, and a sheet is the list of
 //! the bytes put.
 //!
-//! The spelling of each item is defined in `specs/Spelling.antt`; `specs/Codec.antt` puts items together into the
+//! The spelling of each item is defined in `specs/Spelling.antt`; `specs/Codec.antt` and `specs/Combinators.antt` put items together into the
 //! formats of the protocol, each described once for reading and writing. The small definitions that every other
 //! crate cites stand here too: tables in rising order, checks in the order written, status numbers, the caller, the limits.
 //!

@@ -1,7 +1,8 @@
 //! Statuses (nfsstat4, RFC 8881 section 15.1).
 
 ghost use Rattle.std.specs.Prelude.{◌≡◌};
-ghost use Rattle.nfs_xdr.specs.Status.{status_number, status_of};
+ghost use Rattle.nfs_xdr.specs.Status.{status_number};
+ghost use Rattle.nfs_xdr.specs.StatusCodec.{status_of};
 
 /// How an operation or a compound ended: the statuses that this server answers, under RFC 8881's names (section 15.1).
 #[derive(Clone, Copy, Debug, PartialEq, Eq)]

@@ -1,6 +1,6 @@
 use Rattle.std.proofs.Common.{rules}
 use Rattle.nfs_xdr.proofs.WordLaws.{many_refused, many_passed, many_over}
-use Rattle.nfs_compound.specs.Callback.{sec_parms}
+use Rattle.nfs_compound.specs.ArgCodecs.{sec_parms}
 use Rattle.nfs_compound.proofs.callback.pass_all.Goals as goal
 
 pub returns-in_err-pass : goal.returns-in_err-pass

@@ -1,6 +1,7 @@
 use Rattle.std.proofs.Common.{◌≡◌, ◌-◌}
-use Rattle.nfs_xdr.specs.Codec.{passed, array, many_at}
-use Rattle.nfs_compound.specs.Callback.{sec_parms}
+use Rattle.nfs_xdr.specs.Codec.{array, many_at}
+use Rattle.nfs_xdr.specs.Combinators.{passed}
+use Rattle.nfs_compound.specs.ArgCodecs.{sec_parms}
 use Rattle.nfs_compound.proofs.callback.pass_all.Given as goal
 
 abbrev pub invariant-loop : goal.invariant-loop

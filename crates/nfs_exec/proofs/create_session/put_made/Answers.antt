@@ -1,8 +1,8 @@
 use Rattle.std.proofs.Common.{ℕ, ◌-◌, ◌≤◌, List, length, take, drop, ap, sym, subst, ◌∙◌}
-use Rattle.nfs_compound.specs.SessionArgs.{view_create_session}
+use Rattle.nfs_compound.specs.ArgCodecs.{view_create_session}
 use Rattle.nfs_results.specs.Result.{ResCreateSession}
 use Rattle.nfs_results.specs.declared.res.CreateSessionOk.{CreateSessionOk}
-use Rattle.nfs_results.specs.Results.{parts}
+use Rattle.nfs_results.specs.Parts.{parts}
 use Rattle.nfs_exec.proofs.Creating.{made_fits, put_whole, behind_head, longer, body_within}
 use Rattle.nfs_exec.proofs.create_session.put_made.Goals as goal
 

@@ -1,10 +1,11 @@
 use Rattle.std.proofs.Common.{◌≡◌, ◌⊎◌, ◌+◌, true, sym, ap, subst, ◌∙◌}
 use Rattle.std.specs.Prelude.{Err}
 use Rattle.std.proofs.lemmas.Result.{err_from_is_err_and}
-use Rattle.nfs_compound.specs.OpenArgs.{view_open}
-use Rattle.nfs_tree.specs.Create as tree_create
-use Rattle.nfs_tree.specs.Create.{create_fault, with_new}
-use Rattle.nfs_tree.specs.Did.{does_unless, DoesOrWants, raised}
+use Rattle.nfs_compound.specs.OpenCodecs.{view_open}
+use Rattle.nfs_tree.specs.Calls as tree_create
+use Rattle.nfs_tree.specs.Create.{with_new}
+use Rattle.nfs_tree.specs.Calls.{create_fault, does_unless, DoesOrWants}
+use Rattle.nfs_tree.specs.Files.{raised}
 use Rattle.nfs_files.specs.declared.opening.Found.{Found}
 use Rattle.nfs_files.specs.declared.opening.Found.TheVariants.{Absent}
 use Rattle.nfs_files.specs.Open.{file_of, tree_of, name_of}

@@ -1,7 +1,7 @@
 use Rattle.std.proofs.Common.{◌≡◌, sym, ap, ◌∙◌}
 use Rattle.nfs_xdr.specs.Checks.{judged}
-use Rattle.nfs_compound.specs.OpenArgs.{view_open}
-use Rattle.nfs_opens.specs.Opening.{open_fault}
+use Rattle.nfs_compound.specs.OpenCodecs.{view_open}
+use Rattle.nfs_opens.specs.Calls.{open_fault}
 use Rattle.nfs_names.specs.State.{state_of}
 use Rattle.nfs_files.specs.Open.{asking}
 use Rattle.nfs_files.specs.OpenParts.{number_of}

@@ -1,6 +1,6 @@
 use Rattle.std.proofs.Common.{◌≡◌, None, sym, ap, ◌∙◌}
 use Rattle.std.specs.Prelude.{Ok}
-use Rattle.nfs_compound.specs.OpenArgs.{view_open}
+use Rattle.nfs_compound.specs.OpenCodecs.{view_open}
 use Rattle.nfs_names.specs.State.{state_of}
 use Rattle.nfs_xdr.specs.Checks.{first_fault}
 use Rattle.nfs_names.specs.Outcome.{passed, checked}

@@ -1,10 +1,10 @@
 use Rattle.std.proofs.Common.{◌≡◌, true, Some, None, inl, inr, refl, sym, ap, ◌∙◌}
-use Rattle.nfs_compound.specs.OpenArgs.{view_open}
+use Rattle.nfs_compound.specs.OpenCodecs.{view_open}
 use Rattle.nfs_tree.specs.declared.fault.TreeFault.TheVariants.{Memory}
 use Rattle.nfs_tree.specs.Files.{Files}
 use Rattle.nfs_opens.specs.Table.{Kept, table}
-use Rattle.nfs_opens.specs.Opening as of_opens
-use Rattle.nfs_opens.specs.Opening.{open_fault}
+use Rattle.nfs_opens.specs.Calls as of_opens
+use Rattle.nfs_opens.specs.Calls.{open_fault}
 use Rattle.nfs_names.specs.State.{State, state_of}
 use Rattle.nfs_names.proofs.Found.{checked_ok}
 use Rattle.nfs_names.proofs.Faulted.{done_by_tree, refused_tree}

@@ -3,7 +3,8 @@ use Rattle.std.specs.Prelude.{◌&&◌}
 use Rattle.nfs_compound.specs.declared.op_num.OpNum.TheVariants as Op
 use Rattle.nfs_results.specs.Result.{Res, Refused}
 use Rattle.nfs_results.specs.Results.{status_of_result}
-use Rattle.nfs_opens.specs.Locking.{unlock, is_whole}
+use Rattle.nfs_opens.specs.Locking.{unlock}
+use Rattle.nfs_opens.specs.Calls.{is_whole}
 use Rattle.nfs_names.specs.State.{state_of}
 use Rattle.nfs_names.specs.Outcome.{or_delay, is_delay}
 use Rattle.nfs_files.specs.LockU.{unlocked, unlocks}

@@ -1,6 +1,6 @@
 use Rattle.std.proofs.Common.{◌∙◌, ap}
 use Rattle.std.specs.Prelude.{Err}
-use Rattle.nfs_compound.specs.LockArgs.{view_locker}
+use Rattle.nfs_compound.specs.ArgCodecs.{view_locker}
 use Rattle.nfs_opens.specs.Table.{table}
 use Rattle.nfs_names.specs.State.{state_of}
 use Rattle.nfs_files.specs.Lock.{locks_as}

@@ -2,7 +2,7 @@ use Rattle.std.proofs.Common.{◌≡◌, false, not, Some, refl, sym, ap, ◌∙
 use Rattle.std.specs.Prelude.{Ok, Err}
 use Rattle.std.proofs.lemmas.Result.{err_from_is_err_and}
 use Rattle.nfs_xdr.specs.Checks.{first_fault, judged}
-use Rattle.nfs_compound.specs.OpenArgs.{view_open}
+use Rattle.nfs_compound.specs.OpenCodecs.{view_open}
 use Rattle.nfs_attrs.specs.Permissions.{write}
 use Rattle.nfs_attrs.specs.Setting.{make_checks}
 use Rattle.nfs_names.specs.Checks.{permits}

@@ -12,7 +12,7 @@ use Rattle.nfs_files.proofs.opening.judge_place.Goals as goal
 pub returns-in_err-judge_name : goal.returns-in_err-judge_name
 returns-in_err-judge_name c =
     let x = c.args.context.now in
-    let d = c.args.held in
+    let d = c.args.node in
     let name = c.args.name.now in
     let f = c.in_err-judge_name.field-0.0 in
     let r = err_from_is_err_and c.from_residual.result c.from_residual.ensures.1 in

@@ -1,14 +1,15 @@
 use Rattle.std.proofs.Common.{◌≡◌, ◌≤◌, ◌+◌, length, refl, sym, ap, subst, ◌∙◌}
 use Rattle.nfs_xdr.specs.declared.time.Time.{Time}
 use Rattle.nfs_xdr.specs.declared.status.Status.{Status}
-use Rattle.nfs_compound.specs.LockArgs.{view_lock, view_lock_t}
+use Rattle.nfs_compound.specs.ArgCodecs.{view_lock, view_lock_t}
 use Rattle.nfs_compound.specs.Stateid.{view_stateids}
 use Rattle.nfs_compound.specs.Operation.{Item, Operation, OpLock, OpLockT, OpRead, OpTestStateid}
 use Rattle.nfs_compound.specs.View.{item}
 use Rattle.nfs_results.specs.Largest.{largest}
 use Rattle.nfs_results.specs.Results.{status_of_result}
 use Rattle.nfs_results.specs.View as view
-use Rattle.nfs_names.specs.State.{state_of, moment, IsStore}
+use Rattle.nfs_names.specs.State.{state_of, moment}
+use Rattle.nfs_names.specs.Kept.{IsStore}
 use Rattle.nfs_names.specs.Comes.{Comes}
 use Rattle.nfs_names.specs.Outcome.{Outcome, is_delay}
 use Rattle.nfs_names.specs.View.{outcome_of}

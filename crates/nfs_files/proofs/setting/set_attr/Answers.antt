@@ -1,7 +1,7 @@
 use Rattle.std.proofs.Common.{◌≡◌, ℕ, List, refl, sym, ap, ◌∙◌}
 use Rattle.std.specs.Prelude.{Ok, is_some}
 use Rattle.nfs_compound.specs.declared.op_num.OpNum.TheVariants as Op
-use Rattle.nfs_compound.specs.FileArgs.{view_set_attr}
+use Rattle.nfs_compound.specs.ArgCodecs.{view_set_attr}
 use Rattle.nfs_results.specs.Result.{Res, ResSetAttr}
 use Rattle.nfs_results.specs.Results.{refusal}
 use Rattle.nfs_xdr.specs.declared.status.Status.TheVariants.{Nfs4Ok}
@@ -24,8 +24,8 @@ returns-in-Ok-change c =
     let told : List ℕ → Res = ResSetAttr Nfs4Ok in
     ap (λ set. record { result = told set; state = with_tree s c.change.new.tree; context = x }) (c.attr_set.ensures ∙ ap trimmed_words c.new-given.ensures)
     ∙ told_done (gives_size (wanted_of a.obj_attributes)) (is_some m.wanted.size) s x Op.SetAttr (set_attr s x c.args.now a)
-    (λ u. told (trimmed_words (mask_of a.obj_attributes.attrmask))) (λ u. x) (tree_fault s.tree m.held.number m.wanted m.wanted.size)
-    tt c.in-Ok-change.field-0 (with_set s.tree m.held.number c.args.now m.wanted m.wanted.size) c.change.new.tree
+    (λ u. told (trimmed_words (mask_of a.obj_attributes.attrmask))) (λ u. x) (tree_fault s.tree m.node.number m.wanted m.wanted.size)
+    tt c.in-Ok-change.field-0 (with_set s.tree m.node.number c.args.now m.wanted m.wanted.size) c.change.new.tree
     (set_goes s x c.args.now a m (sym c.judge.ensures ∙ c.in-Ok.is)) c.in-Ok-change.ensures
 
 pub returns-in-Err-change : goal.returns-in-Err-change
@@ -37,7 +37,7 @@ returns-in-Err-change c =
     let f = c.in-Err-change.fault in
     let v : asked_for s x a ≡ Ok m = sym c.judge.ensures ∙ c.in-Ok.is in
     told_fault (gives_size (wanted_of a.obj_attributes)) (is_some m.wanted.size) s x Op.SetAttr (set_attr s x c.args.now a) (was_set s x c.args.now a m) _
-    (tree_fault s.tree m.held.number m.wanted m.wanted.size) tt (with_set s.tree m.held.number c.args.now m.wanted m.wanted.size) c.change.new.tree f
+    (tree_fault s.tree m.node.number m.wanted m.wanted.size) tt (with_set s.tree m.node.number c.args.now m.wanted m.wanted.size) c.change.new.tree f
     (ap gives_size (asked_wanted s x a m v)) (c.refuse.ensures ∙ ap (refusal 34) c.status_of.ensures)
     (set_goes s x c.args.now a m v) (set_stops s x c.args.now a m f v) refl c.in-Err-change.ensures
 

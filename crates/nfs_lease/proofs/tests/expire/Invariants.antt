@@ -1,4 +1,4 @@
-use Rattle.nfs_lease.specs.Renewals.{standing}
+use Rattle.nfs_lease.specs.Queue.{standing}
 use Rattle.nfs_lease.proofs.tests.expire.Given as goal
 
 abbrev pub decreases-loop-client : goal.decreases-loop-client

@@ -8,8 +8,8 @@ use Rattle.nfs_names.proofs.attributes.about.Goals as goal
 
 pub returns : goal.returns
 returns c =
-    let told = about (state_of c.args.store.now) c.args.held.now in
-    let object = c.args.held.now.object in
+    let told = about (state_of c.args.store.now) c.args.node.now in
+    let object = c.args.node.now.object in
     elim c.if-has.branch [
       | then-has w ↦ ap (λ (n : ℕ). values c.args.asked (record told { links = n }) object) (w.links-is ∙ w.links_of-links.ensures)
       | else-has w ↦ values_without_links c.args.asked told object c.if-has.links (sym c.has.ensures ∙ w.if-has.false)

@@ -25,7 +25,7 @@ pub write_attrs-requires : goal.write_attrs-requires
 write_attrs-requires c =
     let a = c.about.result in
     let asked = c.args.asked in
-    let o = c.args.held.now.object in
+    let o = c.args.node.now.object in
     let few = attributes_within asked a o in
     let within : 8 + length (spell_attrs asked a o) ≤ 640 =
     subst (λ (text : List ℕ). 8 + length text ≤ 640) (sym (attributes_spelled asked a o))
@@ -39,7 +39,7 @@ pub returns : goal.returns
 returns c =
     let s = state_of c.args.store.now in
     let asked = c.args.asked in
-    let d = c.args.held.now in
+    let d = c.args.node.now in
     let same : spell_attrs asked c.about.result d.object ≡ fattr.spell (attributes_of s asked d) =
     ap (λ (text : List ℕ). spell_mask (common asked table.readable) ++ opaque text) c.about.ensures ∙ attributes_spelled asked (about s d) d.object in
     subst (λ (text : List ℕ). Puts c.args.out.now c.write_attrs.new.sheet (head (op_number Op.GetAttr) Nfs4Ok ++ text)) same

@@ -15,9 +15,9 @@ unfolding same_at
 returns c =
     let asked = c.new-asked.result in
     let bytes = c.args.given.now.attr_vals.now in
-    let held = c.args.held.now in
+    let node = c.args.node.now in
     c.same.ensures
     ∙ ap (λ (text : List ℕ). if not (within asked supported) then Err AttrNotSupp
     else if has asked 11 || asks_set_only asked then Err Inval
     else Ok (bytes_eq bytes text)) c.about.ensures
-    ∙ ap (λ (m : Mask). same m bytes (about (state_of c.args.store.now) held) held.object) c.new-asked.ensures
+    ∙ ap (λ (m : Mask). same m bytes (about (state_of c.args.store.now) node) node.object) c.new-asked.ensures

@@ -1,5 +1,5 @@
 use Rattle.std.proofs.Common.{◌-◌, sym, subst, refl, arith, inl}
-use Rattle.nfs_compound.specs.NameArgs.{view_read_dir}
+use Rattle.nfs_compound.specs.ArgCodecs.{view_read_dir}
 use Rattle.nfs_tree.specs.Listing.{listed_of}
 use Rattle.nfs_xdr.specs.Tables.{In}
 use Rattle.nfs_names.specs.State.{state_of}

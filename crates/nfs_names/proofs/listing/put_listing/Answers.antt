@@ -3,7 +3,7 @@ use Rattle.std.specs.List.{flat_map}
 use Rattle.std.proofs.lemmas.List.{length-append}
 use Rattle.nfs_xdr.specs.SheetState.{SheetState, Puts}
 use Rattle.nfs_xdr.specs.declared.status.Status.TheVariants.{TooSmall}
-use Rattle.nfs_compound.specs.NameArgs.{view_read_dir}
+use Rattle.nfs_compound.specs.ArgCodecs.{view_read_dir}
 use Rattle.nfs_results.specs.Results.{spell_result, refusal}
 use Rattle.nfs_results.specs.Straight.{entry_text, read_dir_head}
 use Rattle.nfs_names.specs.State.{state_of}

@@ -1,5 +1,5 @@
 use Rattle.std.proofs.Common.{sym, ◌∙◌}
-use Rattle.nfs_compound.specs.NameArgs.{view_read_dir}
+use Rattle.nfs_compound.specs.ArgCodecs.{view_read_dir}
 use Rattle.nfs_names.specs.State.{state_of}
 use Rattle.nfs_names.proofs.Listed.{listing_comes}
 use Rattle.nfs_names.proofs.listing.read_dir.Goals as goal

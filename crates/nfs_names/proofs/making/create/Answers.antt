@@ -1,11 +1,12 @@
 use Rattle.std.proofs.Common.{◌≡◌, ◌+◌, true, refl, sym, ap, subst, ◌∙◌}
 use Rattle.std.specs.Prelude.{Result, Ok, Err}
 use Rattle.nfs_compound.specs.declared.op_num.OpNum.TheVariants as Op
-use Rattle.nfs_compound.specs.NameArgs.{view_create}
+use Rattle.nfs_compound.specs.ArgCodecs.{view_create}
 use Rattle.nfs_results.specs.Result.{CreateOk, ResCreate, Refused}
-use Rattle.nfs_tree.specs.Did.{raised, DoesOrWants}
-use Rattle.nfs_tree.specs.Create.{New, with_new, create_fault}
-use Rattle.nfs_tree.specs.Create as tree_create
+use Rattle.nfs_tree.specs.Files.{raised}
+use Rattle.nfs_tree.specs.Calls.{DoesOrWants, create_fault}
+use Rattle.nfs_tree.specs.Create.{New, with_new}
+use Rattle.nfs_tree.specs.Calls as tree_create
 use Rattle.nfs_tree.specs.declared.sets.Sets.{Sets}
 use Rattle.nfs_tree.specs.declared.fault.TreeFault.{TreeFault}
 use Rattle.nfs_tree.specs.declared.done.Created.{Created}

@@ -3,7 +3,7 @@ use Rattle.std.specs.Prelude.{Ok, Err, is_some}
 use Rattle.std.proofs.lemmas.Result.{err_from_is_err_and}
 use Rattle.nfs_xdr.specs.Checks.{first_fault, judged}
 use Rattle.nfs_xdr.specs.declared.status.Status.TheVariants.{Inval}
-use Rattle.nfs_compound.specs.NameArgs.{view_create}
+use Rattle.nfs_compound.specs.ArgCodecs.{view_create}
 use Rattle.nfs_attrs.specs.Setting.{make_checks}
 use Rattle.nfs_attrs.specs.Reading.{fault_status}
 use Rattle.nfs_attrs.specs.declared.wanted.Wanted.{Wanted}

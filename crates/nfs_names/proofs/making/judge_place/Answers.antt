@@ -2,7 +2,7 @@ use Rattle.std.proofs.Common.{◌≡◌, ℕ, false, not, Some, sym, ap, ◌∙�
 use Rattle.std.specs.Prelude.{Err, nat_lt, ◌==◌}
 use Rattle.std.proofs.lemmas.Result.{err_from_is_err_and}
 use Rattle.nfs_xdr.specs.Checks.{first_fault}
-use Rattle.nfs_compound.specs.NameArgs.{view_create}
+use Rattle.nfs_compound.specs.ArgCodecs.{view_create}
 use Rattle.nfs_tree.specs.Object.{is_directory}
 use Rattle.nfs_tree.specs.Files.{most_text}
 use Rattle.nfs_attrs.specs.Permissions.{change}

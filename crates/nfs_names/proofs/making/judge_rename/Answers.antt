@@ -2,7 +2,7 @@ use Rattle.std.proofs.Common.{◌≡◌, false, not, Some, None, sym, ap, ◌∙
 use Rattle.std.specs.Prelude.{Err}
 use Rattle.std.proofs.lemmas.Result.{err_from_is_err_and}
 use Rattle.nfs_xdr.specs.Checks.{first_fault}
-use Rattle.nfs_compound.specs.NameArgs.{view_rename}
+use Rattle.nfs_compound.specs.ArgCodecs.{view_rename}
 use Rattle.nfs_tree.specs.Object.{is_directory}
 use Rattle.nfs_attrs.specs.Permissions.{change}
 use Rattle.nfs_names.specs.State.{state_of}

@@ -2,8 +2,9 @@ use Rattle.std.proofs.Common.{◌≡◌, true, refl, sym, ap, ◌∙◌}
 use Rattle.std.specs.Prelude.{Ok}
 use Rattle.nfs_compound.specs.declared.op_num.OpNum.TheVariants as Op
 use Rattle.nfs_results.specs.Result.{ResLink, Refused}
-use Rattle.nfs_tree.specs.Did.{raised}
-use Rattle.nfs_tree.specs.Names.{link_fault, with_link}
+use Rattle.nfs_tree.specs.Files.{raised}
+use Rattle.nfs_tree.specs.Names.{with_link}
+use Rattle.nfs_tree.specs.Calls.{link_fault}
 use Rattle.nfs_names.specs.State.{state_of, with_tree}
 use Rattle.nfs_names.specs.Outcome.{checked}
 use Rattle.nfs_names.specs.Checks.{both}

@@ -5,9 +5,9 @@ use Rattle.nfs_results.specs.declared.res.ChangeInfo.{ChangeInfo}
 use Rattle.nfs_results.specs.Result.{Res, ResRemove, Refused}
 use Rattle.nfs_tree.specs.declared.row.Row.{Row}
 use Rattle.nfs_tree.specs.declared.done.Removed.{Removed}
-use Rattle.nfs_tree.specs.Files.{Files, is_entry, named, has_entries}
-use Rattle.nfs_tree.specs.Did.{raised}
-use Rattle.nfs_tree.specs.Names.{remove_fault, without_name}
+use Rattle.nfs_tree.specs.Files.{Files, is_entry, named, has_entries, raised}
+use Rattle.nfs_tree.specs.Names.{without_name}
+use Rattle.nfs_tree.specs.Calls.{remove_fault}
 use Rattle.nfs_tree.proofs.Trees.{remove_granted}
 use Rattle.nfs_names.specs.State.{State, state_of, with_tree, without_unused}
 use Rattle.nfs_names.specs.Outcome.{Outcome, checked}

@@ -1,14 +1,13 @@
 use Rattle.std.proofs.Common.{◌≡◌, false, None, refl, sym, ap, ◌∙◌, inl, inr}
 use Rattle.std.specs.Prelude.{Ok, ◌&&◌, if◌then◌else◌}
 use Rattle.std.proofs.lemmas.Bool.{cases_Bool, and_right}
-use Rattle.nfs_compound.specs.NameArgs.{view_rename}
+use Rattle.nfs_compound.specs.ArgCodecs.{view_rename}
 use Rattle.nfs_compound.specs.declared.op_num.OpNum.TheVariants as Op
 use Rattle.nfs_results.specs.declared.res.RenameOk.{RenameOk}
 use Rattle.nfs_results.specs.Result.{ResRename, Refused}
-use Rattle.nfs_tree.specs.Files.{lookup}
-use Rattle.nfs_tree.specs.Did.{raised, stays}
+use Rattle.nfs_tree.specs.Files.{lookup, raised, stays}
 use Rattle.nfs_tree.specs.declared.done.Renamed.{Renamed}
-use Rattle.nfs_tree.specs.Names as tree
+use Rattle.nfs_tree.specs.Calls as tree
 use Rattle.nfs_tree.specs.Names.{moves, with_moved}
 use Rattle.nfs_names.specs.State.{State, state_of, with_tree}
 use Rattle.nfs_names.specs.Outcome.{Outcome, checked}

@@ -1,14 +1,14 @@
 use Rattle.std.proofs.Common.{◌≡◌, ◌≤◌, ◌+◌, length, refl, sym, ap, subst, ◌∙◌}
 use Rattle.nfs_xdr.specs.declared.time.Time.{Time}
 use Rattle.nfs_xdr.specs.declared.status.Status.{Status}
-use Rattle.nfs_compound.specs.Attributes.{view_bitmap}
-use Rattle.nfs_compound.specs.NameArgs.{view_read_dir}
+use Rattle.nfs_compound.specs.ArgCodecs.{view_bitmap, view_read_dir}
 use Rattle.nfs_compound.specs.Operation.{Item, Operation, OpGetAttr, OpGetFh, OpReadDir, OpReadLink}
 use Rattle.nfs_compound.specs.View.{item}
 use Rattle.nfs_results.specs.Largest.{largest}
 use Rattle.nfs_results.specs.Results.{status_of_result}
 use Rattle.nfs_results.specs.View as view
-use Rattle.nfs_names.specs.State.{state_of, moment, IsStore}
+use Rattle.nfs_names.specs.State.{state_of, moment}
+use Rattle.nfs_names.specs.Kept.{IsStore}
 use Rattle.nfs_names.specs.Comes.{Comes}
 use Rattle.nfs_names.specs.Outcome.{Outcome, is_delay}
 use Rattle.nfs_names.specs.Operation.{comes_to}

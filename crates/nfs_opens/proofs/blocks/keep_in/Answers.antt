@@ -1,7 +1,7 @@
 use Rattle.std.proofs.Common.{not, sym, ap, ◌∙◌}
 use Rattle.std.specs.Prelude.{filter}
 use Rattle.nfs_opens.specs.Blocks.{goes}
-use Rattle.nfs_opens.proofs.BlockLemmas.{kept_in}
+use Rattle.nfs_opens.proofs.FlatLemmas.{kept_in}
 use Rattle.nfs_opens.proofs.blocks.keep_in.Goals as goal
 
 pub returns-clause-items : goal.returns-clause-items

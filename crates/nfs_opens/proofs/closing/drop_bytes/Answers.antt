@@ -3,7 +3,7 @@ use Rattle.std.proofs.lemmas.Grind.{common_steps}
 use Rattle.nfs_ranges.specs.Holders.{dropped}
 use Rattle.nfs_opens.specs.declared.records.LockState.{LockState}
 use Rattle.nfs_opens.specs.Holding.{FileHolders, held_by, on_file}
-use Rattle.nfs_opens.specs.Closing.{held_without, leaves}
+use Rattle.nfs_opens.specs.Calls.{held_without, leaves}
 use Rattle.nfs_opens.proofs.closing.drop_bytes.Goals as goal
 use Rattle.nfs_opens.proofs.closing.drop_bytes.Goals.{then-takes, else-takes}
 

@@ -1,6 +1,6 @@
 use Rattle.std.proofs.Common.{◌≡◌, drop}
 use Rattle.nfs_opens.specs.Holding.{held_by}
-use Rattle.nfs_opens.specs.Closing.{held_without}
+use Rattle.nfs_opens.specs.Calls.{held_without}
 use Rattle.nfs_opens.proofs.closing.drop_bytes.Given as goal
 
 abbrev pub invariant-loop-lock : goal.invariant-loop-lock

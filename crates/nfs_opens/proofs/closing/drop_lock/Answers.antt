@@ -1,7 +1,7 @@
 use Rattle.std.proofs.Common.{◌≡◌, Some, None, sym, ◌∙◌, ap, subst}
 use Rattle.std.specs.Prelude.{◌==◌, position}
 use Rattle.nfs_opens.specs.declared.records.LockState.{LockState}
-use Rattle.nfs_opens.specs.Table.{Rises}
+use Rattle.nfs_opens.specs.Kept.{Rises}
 use Rattle.nfs_xdr.proofs.Lists.{position_nowhere}
 use Rattle.nfs_xdr.proofs.Tables.{removed, without_none}
 use Rattle.nfs_opens.proofs.closing.drop_lock.Goals as goal

@@ -7,19 +7,19 @@ use Rattle.nfs_opens.proofs.closing.drop_pair.Goals as goal
 
 pub take-requires : goal.take-requires
 take-requires c =
-    let found : find (λ (o : OpenState). o.number == c.args.number) c.args.opens.now ≡ Some c.in-Some.open.now =
-    sym c.open_in.ensures ∙ ap option_copied c.in-Some.is in
-    pair_in (λ (o : OpenState). o.file) (λ o. o.number) c.args.number c.args.opens.now c.in-Some.open.now c.args.by_file.now.items c.requires.index found
+    let found : find (λ (o : OpenState). o.number == c.args.number) c.args.opens.now.items ≡ Some c.in-Some.open.now =
+    sym c.get.ensures ∙ ap option_copied c.in-Some.is in
+    pair_in (λ (o : OpenState). o.file) (λ o. o.number) c.args.number c.args.opens.now.items c.in-Some.open.now c.args.by_file.now.items c.requires.index found
 
 pub returns-in-Some-clause-index : goal.returns-in-Some-clause-index
 returns-in-Some-clause-index c =
-    let found : find (λ (o : OpenState). o.number == c.args.number) c.args.opens.now ≡ Some c.in-Some.open.now =
-    sym c.open_in.ensures ∙ ap option_copied c.in-Some.is in
-    index_taken (λ (o : OpenState). o.file) (λ o. o.number) 1 c.requires.rises.0 c.args.number c.args.opens.now c.in-Some.open.now c.args.by_file.now.items
+    let found : find (λ (o : OpenState). o.number == c.args.number) c.args.opens.now.items ≡ Some c.in-Some.open.now =
+    sym c.get.ensures ∙ ap option_copied c.in-Some.is in
+    index_taken (λ (o : OpenState). o.file) (λ o. o.number) 1 c.requires.rises.0 c.args.number c.args.opens.now.items c.in-Some.open.now c.args.by_file.now.items
     c.take.new.self.items c.requires.rises.1 c.requires.index found c.take.ensures.taken
 
 pub returns-in_default-clause-index : goal.returns-in_default-clause-index
 returns-in_default-clause-index c =
-    let gone : find (λ (o : OpenState). o.number == c.args.number) c.args.opens.now ≡ None =
-    sym c.open_in.ensures ∙ ap option_copied c.in_default.is in
-    index_left (λ (o : OpenState). o.file) (λ o. o.number) c.args.number c.args.opens.now c.args.by_file.now.items c.requires.index gone
+    let gone : find (λ (o : OpenState). o.number == c.args.number) c.args.opens.now.items ≡ None =
+    sym c.get.ensures ∙ ap option_copied c.in_default.is in
+    index_left (λ (o : OpenState). o.file) (λ o. o.number) c.args.number c.args.opens.now.items c.args.by_file.now.items c.requires.index gone

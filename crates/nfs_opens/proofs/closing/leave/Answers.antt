@@ -3,7 +3,7 @@ use Rattle.std.specs.Prelude.{filter}
 use Rattle.nfs_xdr.proofs.Lists.{filter_all, none_any}
 use Rattle.nfs_opens.specs.declared.records.LockState.{LockState}
 use Rattle.nfs_opens.specs.declared.index.Pair.{Pair}
-use Rattle.nfs_opens.specs.Closing.{leaves}
+use Rattle.nfs_opens.specs.Calls.{leaves}
 use Rattle.nfs_opens.specs.Holding.{held_by}
 use Rattle.nfs_opens.specs.Index.{IsIndex, marked}
 use Rattle.nfs_opens.proofs.IndexLemmas.{index_unmarked}

@@ -1,8 +1,9 @@
 use Rattle.std.proofs.Common.{◌≡◌, Some, None, sym, ◌∙◌, ap, subst}
 use Rattle.std.specs.Prelude.{◌==◌, position}
 use Rattle.nfs_opens.specs.declared.records.OpenState.{OpenState}
-use Rattle.nfs_opens.specs.Opening.{asked, joins}
-use Rattle.nfs_opens.specs.Table.{Rises}
+use Rattle.nfs_opens.specs.Opening.{joins}
+use Rattle.nfs_opens.specs.Calls.{asked}
+use Rattle.nfs_opens.specs.Kept.{Rises}
 use Rattle.nfs_xdr.proofs.Tables.{written_as, unwritten}
 use Rattle.nfs_opens.proofs.records.join_open.Goals as goal
 

@@ -2,7 +2,7 @@ use Rattle.std.proofs.Common.{◌≡◌, Some, None, sym, ◌∙◌, ap, subst}
 use Rattle.std.specs.Prelude.{◌==◌, position}
 use Rattle.nfs_opens.specs.declared.records.OpenState.{OpenState}
 use Rattle.nfs_opens.specs.Opening.{narrows}
-use Rattle.nfs_opens.specs.Table.{Rises}
+use Rattle.nfs_opens.specs.Kept.{Rises}
 use Rattle.nfs_xdr.proofs.Tables.{written_as, unwritten}
 use Rattle.nfs_opens.proofs.records.narrow_open.Goals as goal
 

@@ -2,7 +2,7 @@ use Rattle.std.proofs.Common.{◌≡◌, Some, None, sym, ◌∙◌, ap, subst}
 use Rattle.std.specs.Prelude.{◌==◌, position}
 use Rattle.nfs_opens.specs.declared.records.LockState.{LockState}
 use Rattle.nfs_opens.specs.Locking.{raised}
-use Rattle.nfs_opens.specs.Table.{Rises}
+use Rattle.nfs_opens.specs.Kept.{Rises}
 use Rattle.nfs_xdr.proofs.Tables.{written_as, unwritten}
 use Rattle.nfs_opens.proofs.records.raise_lock.Goals as goal
 

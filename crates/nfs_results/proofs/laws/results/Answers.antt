@@ -1,5 +1,5 @@
 use Rattle.nfs_xdr.proofs.CodecLaws.{is_prefix_free}
-use Rattle.nfs_results.specs.Results.{result}
+use Rattle.nfs_results.specs.ResultCodec.{result}
 use Rattle.nfs_results.specs.CompoundResult.{compound_result}
 use Rattle.nfs_results.proofs.ResultLaws.{is_result}
 use Rattle.nfs_results.proofs.CompoundLaws.{is_compound}

@@ -1,6 +1,6 @@
 use Rattle.std.proofs.Common.{◌≡◌, ◌-◌}
 use Rattle.nfs_xdr.specs.Codec.{many_at}
-use Rattle.nfs_results.specs.Results as table
+use Rattle.nfs_results.specs.ResultCodec as table
 use Rattle.nfs_results.specs.ReadReply.{is_whole}
 use Rattle.nfs_results.proofs.reply.are_whole.Given as goal
 

@@ -1,6 +1,6 @@
 -- The talk so far is a run of pieces, the stream is not too long, and neither end has failed.
 use Rattle.std.proofs.Common.{◌≡◌, false, length}
-use Rattle.nfs_rpc.specs.Feeding.{is_too_long}
+use Rattle.nfs_rpc.specs.RecordMarking.{is_too_long}
 use Rattle.nfs_serve.specs.Server.{state_of}
 use Rattle.nfs_serve.proofs.Speaking.{Speaking}
 use Rattle.nfs_serve.proofs.talking.converse.Given as goal

@@ -1,7 +1,6 @@
 use Rattle.std.proofs.Common.{ap}
 use Rattle.nfs_lease.proofs.Latest.{latest_none}
-use Rattle.nfs_exec.specs.Machine.{Machine}
-use Rattle.nfs_exec.specs.View.{machine_of}
+use Rattle.nfs_exec.specs.Machine.{Machine, machine_of}
 use Rattle.nfs_tests.proofs.compounds.answer.Goals as goal
 
 pub compound-requires-clause-latest : goal.compound-requires-clause-latest

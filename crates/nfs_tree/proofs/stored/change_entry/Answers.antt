@@ -1,5 +1,5 @@
 use Rattle.std.proofs.Common.{sym, subst}
-use Rattle.nfs_tree.specs.Files.{CanChange}
+use Rattle.nfs_tree.specs.Calls.{CanChange}
 use Rattle.nfs_tree.proofs.Objects.{can_change_after}
 use Rattle.nfs_tree.proofs.stored.change_entry.Goals as goal
 

@@ -7,8 +7,8 @@ use Rattle.nfs_tree.specs.declared.sets.Sets.{Sets}
 use Rattle.nfs_tree.specs.declared.done.Created.{Created}
 use Rattle.nfs_tree.specs.declared.done.Removed.{Removed}
 use Rattle.nfs_tree.specs.Files.{Files, lookup}
-use Rattle.nfs_tree.specs.Create.{Directory, create}
-use Rattle.nfs_tree.specs.Names.{remove}
+use Rattle.nfs_tree.specs.Create.{Directory}
+use Rattle.nfs_tree.specs.Calls.{create, remove}
 use Rattle.nfs_tree.specs.Kept.{IsTree}
 use Rattle.nfs_tree.specs.Laws.{NewIsUnused, IsUnused}
 use Rattle.nfs_tree.proofs.tests.make_and_drop.Goals as goal

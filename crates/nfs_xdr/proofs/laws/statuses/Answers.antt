@@ -1,4 +1,5 @@
-use Rattle.nfs_xdr.specs.Status.{status_number, statuses}
+use Rattle.nfs_xdr.specs.Status.{status_number}
+use Rattle.nfs_xdr.specs.StatusCodec.{statuses}
 use Rattle.nfs_xdr.proofs.WordLaws.{is_time, listed_number}
 use Rattle.nfs_xdr.proofs.StatusLaws.{is_status, is_status_listing}
 use Rattle.nfs_xdr.proofs.laws.statuses.Goals as goal

@@ -1,16 +1,16 @@
 use Rattle.std.proofs.Common.{refl, ap, sym, subst, ◌∙◌}
 use Rattle.nfs_xdr.specs.Caller.{caller}
 use Rattle.nfs_xdr.specs.declared.status.Status.TheVariants.{NotSupp}
-use Rattle.nfs_compound.specs.Arguments.{item_number}
-use Rattle.nfs_compound.specs.SessionArgs.{view_exchange_id}
+use Rattle.nfs_compound.specs.Request.{item_number}
+use Rattle.nfs_compound.specs.ArgCodecs.{view_exchange_id}
 use Rattle.nfs_compound.specs.View.{item}
 use Rattle.nfs_results.specs.declared.res.Res.{Res}
-use Rattle.nfs_results.specs.Results.{IsBounded, refusal, status_of_result}
+use Rattle.nfs_results.specs.Results.{refusal, status_of_result}
+use Rattle.nfs_results.specs.ResultCodec.{IsBounded}
 use Rattle.nfs_results.specs.View as view
 use Rattle.nfs_compound.specs.declared.arg.Arg.TheVariants as Args
-use Rattle.nfs_exec.specs.Machine.{Machine, comes_to, is_delay}
-use Rattle.nfs_exec.specs.Place.{IsSmall}
-use Rattle.nfs_exec.specs.View.{machine_of}
+use Rattle.nfs_exec.specs.Machine.{Machine, comes_to, is_delay, machine_of}
+use Rattle.nfs_exec.specs.View.{IsSmall}
 use Rattle.nfs_exec.proofs.Bearing.{place_small, rest_small, exchanged_small}
 use Rattle.nfs_exec.proofs.Standing.{small_fits, put_does, misplaced, branch_done, not_carried}
 use Rattle.nfs_exec.proofs.tables.Tables.alone.Goals as goal

@@ -1,5 +1,6 @@
 use Rattle.std.proofs.Common.{sym, subst}
-use Rattle.nfs_lease.specs.Renewals.{IsLatest, leases_of}
+use Rattle.nfs_lease.specs.Renewals.{leases_of}
+use Rattle.nfs_lease.specs.Queue.{IsLatest}
 use Rattle.nfs_exec.specs.Machine.{Machine}
 use Rattle.nfs_exec.proofs.Latest.{latest_left}
 use Rattle.nfs_exec.proofs.tables.Tables.confirm.Goals as goal

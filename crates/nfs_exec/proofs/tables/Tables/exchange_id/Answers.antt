@@ -1,13 +1,13 @@
 use Rattle.std.proofs.Common.{◌≡◌, refl, sym, ◌∙◌, ap, subst}
 use Rattle.nfs_xdr.specs.Caller.{caller}
-use Rattle.nfs_compound.specs.SessionArgs.{view_exchange_id}
+use Rattle.nfs_compound.specs.ArgCodecs.{view_exchange_id}
 use Rattle.nfs_clients.specs.ExchangeId.{case_of}
 use Rattle.nfs_lease.specs.Renewals.{Book, leases_of, without_lease}
 use Rattle.nfs_results.specs.Result.{Res, ResExchangeId, ExchangeIdOk}
 use Rattle.nfs_results.specs.Results.{status_of_result}
-use Rattle.nfs_exec.specs.Machine.{comes_to, is_delay, or_delay}
+use Rattle.nfs_exec.specs.Machine.{comes_to, is_delay, or_delay, machine_of}
 use Rattle.nfs_exec.specs.ExchangeId.{exchange_id, exchange_id_number, ask_of}
-use Rattle.nfs_exec.specs.View.{machine_of, settled}
+use Rattle.nfs_exec.specs.View.{settled}
 use Rattle.nfs_exec.proofs.Exchanging.{answered_ok, refused_first, refused_last}
 use Rattle.nfs_exec.proofs.tables.Tables.exchange_id.Goals as goal
 

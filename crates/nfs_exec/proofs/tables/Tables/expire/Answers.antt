@@ -1,7 +1,8 @@
 use Rattle.std.proofs.Common.{sym, ap, ◌∙◌}
-use Rattle.nfs_lease.specs.Renewals.{leases_of, standing}
+use Rattle.nfs_lease.specs.Renewals.{leases_of}
+use Rattle.nfs_lease.specs.Queue.{standing}
 use Rattle.nfs_exec.specs.Expiry.{expired}
-use Rattle.nfs_exec.specs.View.{machine_of}
+use Rattle.nfs_exec.specs.Machine.{machine_of}
 use Rattle.nfs_exec.proofs.Expiring.{expired_without, expired_none, fewer}
 use Rattle.nfs_exec.proofs.tables.Tables.expire.Goals as goal
 

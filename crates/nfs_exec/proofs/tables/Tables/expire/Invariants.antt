@@ -1,5 +1,5 @@
-use Rattle.nfs_lease.specs.Renewals.{standing}
-use Rattle.nfs_exec.specs.View.{machine_of}
+use Rattle.nfs_lease.specs.Queue.{standing}
+use Rattle.nfs_exec.specs.Machine.{machine_of}
 use Rattle.nfs_exec.proofs.Expiring.{Expires}
 use Rattle.nfs_exec.proofs.tables.Tables.expire.Given as goal
 

@@ -2,9 +2,8 @@ use Rattle.std.proofs.Common.{sym, ◌∙◌}
 use Rattle.nfs_compound.specs.View.{item}
 use Rattle.nfs_names.specs.State.{state_of, moment}
 use Rattle.nfs_files.specs.Operation as files
-use Rattle.nfs_exec.specs.Machine.{is_delay}
+use Rattle.nfs_exec.specs.Machine.{is_delay, machine_of}
 use Rattle.nfs_exec.specs.Behind.{moves_opens}
-use Rattle.nfs_exec.specs.View.{machine_of}
 use Rattle.nfs_exec.proofs.Behind.{file_marked, file_unmarked}
 use Rattle.nfs_exec.proofs.tables.Tables.file_step.Goals as goal
 

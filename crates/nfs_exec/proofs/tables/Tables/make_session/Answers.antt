@@ -1,11 +1,12 @@
 use Rattle.std.proofs.Common.{◌≡◌, ℕ, Option, Ok, Err, ap, sym, subst, ◌∙◌}
 use Rattle.nfs_xdr.specs.declared.status.Status.{Status}
-use Rattle.nfs_compound.specs.SessionArgs.{view_create_session}
+use Rattle.nfs_compound.specs.ArgCodecs.{view_create_session}
 use Rattle.nfs_sessions.specs.declared.channel.Wish.{Wish}
-use Rattle.nfs_sessions.specs.Sessions.{create, CreatesOrWants}
-use Rattle.nfs_exec.specs.Machine.{is_delay, or_delay, refuses}
+use Rattle.nfs_sessions.specs.Sessions.{create}
+use Rattle.nfs_sessions.specs.Kept.{CreatesOrWants}
+use Rattle.nfs_exec.specs.Machine.{is_delay, or_delay, refuses, machine_of}
 use Rattle.nfs_exec.specs.CreateSession.{create_session_number, wish_of, channel_of, creates}
-use Rattle.nfs_exec.specs.View.{machine_of, Does}
+use Rattle.nfs_exec.specs.View.{Does}
 use Rattle.nfs_exec.proofs.Creating.{made, refused_session}
 use Rattle.nfs_exec.proofs.tables.Tables.make_session.Goals as goal
 

@@ -1,13 +1,13 @@
 use Rattle.std.proofs.Common.{◌≡◌, ◌∙◌, false, ap, sym, subst, refl, length, ◌≤◌}
-use Rattle.nfs_compound.specs.Arguments.{item_number}
+use Rattle.nfs_compound.specs.Request.{item_number}
 use Rattle.nfs_compound.specs.View.{item}
 use Rattle.nfs_results.specs.Result.{Res}
-use Rattle.nfs_results.specs.Results.{spell_result, refusal, IsBounded}
+use Rattle.nfs_results.specs.Results.{spell_result, refusal}
+use Rattle.nfs_results.specs.ResultCodec.{IsBounded}
 use Rattle.nfs_results.specs.View as view
-use Rattle.nfs_exec.specs.Machine.{comes_to}
+use Rattle.nfs_exec.specs.Machine.{comes_to, machine_of}
 use Rattle.nfs_exec.specs.Place.{status_behind}
 use Rattle.nfs_exec.specs.Behind.{Step}
-use Rattle.nfs_exec.specs.View.{machine_of}
 use Rattle.nfs_exec.proofs.Bearing.{behind_bears, refusal_bounded, refusal_short}
 use Rattle.nfs_exec.proofs.Behind.{other_stays}
 use Rattle.nfs_exec.proofs.tables.Tables.otherwise.Goals as goal

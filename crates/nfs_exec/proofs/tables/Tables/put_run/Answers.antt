@@ -1,11 +1,10 @@
 use Rattle.std.proofs.Common.{◌≡◌, ◌+◌, ◌-◌, ◌≤◌, length, ap, sym, subst, arith}
 use Rattle.nfs_results.specs.Result.{ResSequence}
 use Rattle.nfs_results.specs.declared.res.SequenceOk.{SequenceOk}
-use Rattle.nfs_results.specs.Results.{spell_result}
+use Rattle.nfs_results.specs.Results.{spell_result, spell_compound_head}
 use Rattle.std.proofs.Common.{ℕ, List, Option, ◌∙◌}
 use Rattle.nfs_xdr.specs.SheetState.{Puts}
 use Rattle.nfs_xdr.specs.declared.status.Status.TheVariants.{Nfs4Ok}
-use Rattle.nfs_results.specs.CompoundResult.{spell_compound_head}
 use Rattle.nfs_results.specs.OpenHead.{HeadsAt}
 use Rattle.nfs_xdr.specs.Caller.{caller}
 use Rattle.nfs_names.specs.declared.context.Context.{Context}
@@ -15,7 +14,8 @@ use Rattle.nfs_names.specs.Context.{begins}
 use Rattle.nfs_exec.specs.Sequence as Sequence
 use Rattle.nfs_exec.specs.Run.{run, behind_here}
 use Rattle.nfs_exec.specs.Compound.{begun, run_in}
-use Rattle.nfs_exec.specs.View.{machine_of, RunsTo}
+use Rattle.nfs_exec.specs.View.{RunsTo}
+use Rattle.nfs_exec.specs.Machine.{machine_of}
 use Rattle.nfs_exec.proofs.Running.{later, later_behind}
 use Rattle.nfs_exec.proofs.Keeping.{accepted_long, head_fits, second_fits, run_fits, has_head, within_64, begun_is, put_closed, last_fits}
 use Rattle.nfs_exec.proofs.tables.Tables.put_run.Goals as goal

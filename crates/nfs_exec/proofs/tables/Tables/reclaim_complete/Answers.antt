@@ -1,8 +1,9 @@
 use Rattle.std.proofs.Common.{◌∙◌, sym, subst, length, ◌≤◌}
 use Rattle.nfs_results.specs.Result.{Res}
-use Rattle.nfs_results.specs.Results.{spell_result, IsBounded}
+use Rattle.nfs_results.specs.Results.{spell_result}
+use Rattle.nfs_results.specs.ResultCodec.{IsBounded}
 use Rattle.nfs_xdr.specs.declared.status.Status.TheVariants.{CompleteAlready}
-use Rattle.nfs_exec.specs.View.{machine_of}
+use Rattle.nfs_exec.specs.Machine.{machine_of}
 use Rattle.nfs_exec.proofs.Bearing.{refusal_bounded, refusal_short}
 use Rattle.nfs_exec.proofs.Behind.{current_bears, reclaimed_short}
 use Rattle.nfs_exec.proofs.tables.Tables.reclaim_complete.Goals as goal

@@ -5,9 +5,9 @@ use Rattle.nfs_compound.specs.View.{item}
 use Rattle.nfs_names.specs.declared.context.Context.{Context}
 use Rattle.nfs_xdr.specs.SheetState.{SheetState}
 use Rattle.nfs_exec.specs.declared.tables.Tables.{Tables}
-use Rattle.nfs_exec.specs.Machine.{is_delay}
+use Rattle.nfs_exec.specs.Machine.{is_delay, machine_of}
 use Rattle.nfs_exec.specs.Run.{in_room}
-use Rattle.nfs_exec.specs.View.{machine_of, Steps}
+use Rattle.nfs_exec.specs.View.{Steps}
 use Rattle.nfs_exec.proofs.Running.{Stand, Going, Stepped, so_far, begins, goes_on, ends, ends_with, ends_within, not_ok, counted}
 use Rattle.nfs_exec.proofs.tables.Tables.run.Goals as goal
 use Rattle.nfs_exec.proofs.tables.Tables.run.Goals.{After-in_room-status}

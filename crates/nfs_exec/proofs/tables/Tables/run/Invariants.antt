@@ -1,5 +1,5 @@
 use Rattle.std.proofs.Common.{length}
-use Rattle.nfs_exec.specs.View.{machine_of}
+use Rattle.nfs_exec.specs.Machine.{machine_of}
 use Rattle.nfs_exec.proofs.Running.{Loop}
 use Rattle.nfs_exec.proofs.tables.Tables.run.Given as goal
 

@@ -2,12 +2,12 @@ use Rattle.std.proofs.Common.{ℕ, ◌≡◌, ◌-◌, ◌≤◌, List, length, 
 use Rattle.nfs_xdr.specs.Caller.{caller}
 use Rattle.nfs_compound.specs.Request.{Request}
 use Rattle.nfs_lease.specs.Renewals.{leases_of}
-use Rattle.nfs_exec.specs.Machine.{Machine}
+use Rattle.nfs_exec.specs.Machine.{Machine, machine_of}
 use Rattle.nfs_names.specs.Context.{begins}
 use Rattle.nfs_sessions.specs.Id.{id_of}
 use Rattle.nfs_exec.specs.Run.{behind_here}
-use Rattle.nfs_exec.specs.Compound.{answers, begun, renewed, runs_behind, Answers}
-use Rattle.nfs_exec.specs.View.{machine_of}
+use Rattle.nfs_exec.specs.Compound.{answers, begun, renewed, runs_behind}
+use Rattle.nfs_exec.specs.View.{Answers}
 use Rattle.nfs_exec.proofs.Behind.{run_sessions}
 use Rattle.nfs_exec.proofs.Keeping.{starts_within, text_of, renewed_machine, kept_machine, may_keep}
 use Rattle.nfs_exec.proofs.tables.Tables.run_new.Goals as goal

@@ -1,8 +1,7 @@
 use Rattle.std.proofs.Common.{sym, ◌∙◌}
 use Rattle.nfs_compound.specs.View.{item}
 use Rattle.nfs_results.specs.View as view
-use Rattle.nfs_exec.specs.Machine.{is_delay}
-use Rattle.nfs_exec.specs.View.{machine_of}
+use Rattle.nfs_exec.specs.Machine.{is_delay, machine_of}
 use Rattle.nfs_exec.proofs.Behind.{other_steps}
 use Rattle.nfs_exec.proofs.tables.Tables.step.Goals as goal
 

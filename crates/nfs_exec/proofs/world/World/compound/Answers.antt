@@ -1,9 +1,8 @@
 use Rattle.std.proofs.Common.{sym, subst}
 use Rattle.nfs_xdr.specs.Caller.{caller}
-use Rattle.nfs_lease.specs.Renewals.{IsLatest}
-use Rattle.nfs_exec.specs.Machine.{Machine, IsMachine}
+use Rattle.nfs_lease.specs.Queue.{IsLatest}
+use Rattle.nfs_exec.specs.Machine.{Machine, IsMachine, machine_of}
 use Rattle.nfs_exec.specs.declared.tables.Tables.{Tables}
-use Rattle.nfs_exec.specs.View.{machine_of}
 use Rattle.nfs_exec.proofs.Invariant.{of_compound}
 use Rattle.nfs_exec.proofs.Latest.{latest_compound}
 use Rattle.nfs_exec.proofs.world.World.compound.Goals as goal

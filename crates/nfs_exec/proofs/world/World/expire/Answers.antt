@@ -1,6 +1,5 @@
 use Rattle.std.proofs.Common.{sym, subst}
-use Rattle.nfs_exec.specs.Machine.{IsMachine}
-use Rattle.nfs_exec.specs.View.{machine_of}
+use Rattle.nfs_exec.specs.Machine.{IsMachine, machine_of}
 use Rattle.nfs_exec.proofs.Invariant.{of_expired}
 use Rattle.nfs_exec.proofs.world.World.expire.Goals as goal
 

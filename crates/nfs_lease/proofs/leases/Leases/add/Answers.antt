@@ -1,6 +1,7 @@
 use Rattle.std.proofs.Common.{◌∙◌, ap, sym, subst, arith}
 use Rattle.std.specs.Prelude.{length, ◌<◌}
-use Rattle.nfs_lease.specs.Renewals.{leases_of, with_lease, IsLatest}
+use Rattle.nfs_lease.specs.Renewals.{leases_of, with_lease}
+use Rattle.nfs_lease.specs.Queue.{IsLatest}
 use Rattle.nfs_lease.proofs.Queue.{put_front, queue_front, maps_front}
 use Rattle.nfs_lease.proofs.leases.Leases.add.Goals as goal
 

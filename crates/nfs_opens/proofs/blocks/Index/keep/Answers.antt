@@ -1,8 +1,9 @@
 use Rattle.std.proofs.Common.{not, length, sym, subst}
 use Rattle.nfs_opens.specs.Index.{IsAscending}
-use Rattle.nfs_opens.specs.Blocks.{flat, goes}
+use Rattle.nfs_opens.specs.Flat.{flat}
+use Rattle.nfs_opens.specs.Blocks.{goes}
 use Rattle.nfs_opens.proofs.IndexLemmas.{ascending_left}
-use Rattle.nfs_opens.proofs.BlockLemmas.{room_kept}
+use Rattle.nfs_opens.proofs.FlatLemmas.{room_kept}
 use Rattle.nfs_opens.proofs.blocks.Index.keep.Goals as goal
 
 pub invariant_of-self : goal.invariant_of-self

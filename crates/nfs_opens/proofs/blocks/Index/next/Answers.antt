@@ -4,7 +4,8 @@ use Rattle.std.specs.Option.{option_copied}
 use Rattle.nfs_opens.specs.declared.index.Pair.{Pair}
 use Rattle.nfs_opens.specs.Index.{IsNext}
 use Rattle.nfs_opens.specs.Blocks.{Listed}
-use Rattle.nfs_opens.proofs.BlockLemmas.{BlocksAt, got_block, no_block, block_order, next_there, next_nowhere}
+use Rattle.nfs_opens.proofs.FlatLemmas.{got_block, no_block}
+use Rattle.nfs_opens.proofs.BlockLemmas.{BlocksAt, block_order, next_there, next_nowhere}
 use Rattle.nfs_opens.proofs.blocks.Index.next.Goals as goal
 use Rattle.nfs_opens.proofs.blocks.Index.next.Goals.{In-Some}
 

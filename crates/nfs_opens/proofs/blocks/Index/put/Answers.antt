@@ -5,7 +5,8 @@ use Rattle.std.proofs.lemmas.List.{length-set}
 use Rattle.nfs_xdr.specs.Tables.{In}
 use Rattle.nfs_opens.specs.declared.index.Pair.{Pair}
 use Rattle.nfs_opens.specs.Index.{HasPut}
-use Rattle.nfs_opens.specs.Blocks.{Listed, IsPlace, pairs_in, flat}
+use Rattle.nfs_opens.specs.Flat.{flat}
+use Rattle.nfs_opens.specs.Blocks.{Listed, IsPlace, pairs_in}
 use Rattle.nfs_opens.proofs.BlockLemmas.{put_plain, put_split, block_order, block_pairs}
 use Rattle.nfs_opens.proofs.blocks.Index.put.Goals as goal
 

@@ -3,8 +3,10 @@ use Rattle.std.proofs.lemmas.List.{length-set}
 use Rattle.nfs_xdr.specs.Tables.{In}
 use Rattle.nfs_opens.specs.declared.index.Pair.{Pair}
 use Rattle.nfs_opens.specs.Index.{HasTaken}
-use Rattle.nfs_opens.specs.Blocks.{Listed, flat}
-use Rattle.nfs_opens.proofs.BlockLemmas.{take_plain, take_empty, block_order, room_kept}
+use Rattle.nfs_opens.specs.Flat.{flat}
+use Rattle.nfs_opens.specs.Blocks.{Listed}
+use Rattle.nfs_opens.proofs.FlatLemmas.{room_kept}
+use Rattle.nfs_opens.proofs.BlockLemmas.{take_plain, take_empty, block_order}
 use Rattle.nfs_opens.proofs.blocks.Index.take.Goals as goal
 
 pub place_with-place-requires-clause-ordered : goal.place_with-place-requires-clause-ordered

@@ -1,6 +1,6 @@
 use Rattle.std.proofs.Common.{ap, subst, sym, ◌∙◌}
 use Rattle.nfs_opens.specs.Holding.{held_by}
-use Rattle.nfs_opens.specs.Table.{AreHolders}
+use Rattle.nfs_opens.specs.Kept.{AreHolders}
 use Rattle.nfs_opens.proofs.LockedLemmas.{kept_listed}
 use Rattle.nfs_opens.proofs.locked_files.LockedFiles.keep_locked.Goals as goal
 

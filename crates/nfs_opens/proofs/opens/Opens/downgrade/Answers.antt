@@ -1,5 +1,5 @@
 use Rattle.std.proofs.Common.{◌≡◌, Option, Some, None, ℕ, sym, subst, ap, ◌∙◌, refl, false, true}
-use Rattle.std.specs.Prelude.{◌==◌, Ok, Err, find, if◌then◌else◌}
+use Rattle.std.specs.Prelude.{Ok, Err}
 use Rattle.std.specs.Option.{option_copied}
 use Rattle.nfs_xdr.specs.declared.status.Status.{Status}
 use Rattle.nfs_xdr.specs.declared.status.Status.TheVariants.{Inval}
@@ -8,24 +8,21 @@ use Rattle.nfs_opens.specs.declared.stateid.StateId.{StateId}
 use Rattle.nfs_opens.specs.declared.records.OpenState.{OpenState}
 use Rattle.nfs_opens.specs.Holding.{held_by}
 use Rattle.nfs_opens.specs.StateId.{next_seqid}
-use Rattle.nfs_opens.specs.Table.{Kept, Did, with_open, Rises, IsTable, table, open_at}
+use Rattle.nfs_opens.specs.Table.{Kept, Did, with_open, table, open_at}
+use Rattle.nfs_opens.specs.Kept.{IsTable}
 use Rattle.nfs_opens.specs.Opening.{downgrade, downgrade_by, narrow_open, narrows}
-use Rattle.nfs_opens.proofs.LockLemmas.{same_table, as_many}
+use Rattle.nfs_opens.proofs.LockLemmas.{same_table}
 use Rattle.nfs_opens.proofs.StepLemmas.{narrow_done, narrow_refused, table_narrow}
 use Rattle.nfs_opens.proofs.IndexedLemmas.{opens_changed}
 use Rattle.nfs_opens.proofs.opens.Opens.downgrade.Goals as goal
-use Rattle.nfs_opens.proofs.opens.Opens.downgrade.Goals.{After-open_in, After-is_narrower, After-narrow_open}
-
-pub open_in-requires : goal.open_in-requires
-open_in-requires c = subst (Rises (λ (o : OpenState). o.number) 1) (sym c.deref.ensures.value)
-    (_, c.self.invariant.table.opens)
+use Rattle.nfs_opens.proofs.opens.Opens.downgrade.Goals.{After-get, After-is_narrower, After-narrow}
 
 -- what is found under the number
-found : (c : After-open_in) (o : Option OpenState) → option_copied c.open_in.result ≡ o → open_at (table (the_view c.self.inside)) c.args.id.number ≡ o
-found c o is = ap (find (λ (o : OpenState). o.number == c.args.id.number)) (sym c.deref.ensures.value) ∙ (sym c.open_in.ensures ∙ is)
+found : (c : After-get) (o : Option OpenState) → option_copied c.get.result ≡ o → open_at (table (the_view c.self.inside)) c.args.id.number ≡ o
+found c o is = sym c.get.ensures ∙ is
 
 -- a downgrade by a stateid that was judged well narrows what is found
-narrowed : (c : After-open_in) (o : Option OpenState) → option_copied c.open_in.result ≡ o
+narrowed : (c : After-get) (o : Option OpenState) → option_copied c.get.result ≡ o
     → downgrade (table c.args.self.now) c.args.id c.args.client c.args.file c.args.access c.args.deny
     ≡ narrow_open (table (the_view c.self.inside)) c.args.id.number c.args.access c.args.deny o
 narrowed c o is =
@@ -40,53 +37,49 @@ refused : (c : After-is_narrower) → c.is_narrower.result ≡ false
 refused c is = narrow_refused (table (the_view c.self.inside)) c.args.id.number c.args.access c.args.deny c.in-Some.open.now (sym c.is_narrower.ensures ∙ is)
 
 -- the opens alone have changed
-changed : (c : After-narrow_open)
-    → table (record (the_view c.self.inside) { opens = c.narrow_open.new.opens.items })
+changed : (c : After-narrow)
+    → table (record (the_view c.self.inside) { opens = c.narrow.new.self.items })
     ≡ with_open (table (the_view c.self.inside)) c.args.id.number (narrows c.args.access c.args.deny)
-changed c = same_table c.narrow_open.new.opens.items _ c.self.inside.locks.items _
-    (held_by c.self.inside.files) _ c.self.inside.last c.self.inside.instance c.narrow_open.ensures.items refl refl
+changed c = same_table c.narrow.new.self.items _ c.self.inside.locks.items _
+    (held_by c.self.inside.files) _ c.self.inside.last c.self.inside.instance c.narrow.ensures.items refl refl
 
 pub returns-in-None-clause-after : goal.returns-in-None-clause-after
 returns-in-None-clause-after c =
-    let is = narrowed (goal.at.returns-in-None-clause-after c).After-open_in None (ap option_copied c.in-None.is) in
+    let is = narrowed (goal.at.returns-in-None-clause-after c).After-get None (ap option_copied c.in-None.is) in
     ap table (sym c.self.view_is) ∙ sym (ap (λ (d : Did StateId Status). d.after) is)
 
 pub returns-in-Some-clause-answer : goal.returns-in-Some-clause-answer
 returns-in-Some-clause-answer c =
     let at = goal.at.returns-in-Some-clause-answer c in
-    let is = narrowed at.After-open_in (Some c.in-Some.open.now) (ap option_copied c.in-Some.is) in
+    let is = narrowed at.After-get (Some c.in-Some.open.now) (ap option_copied c.in-Some.is) in
     sym (ap (λ (d : Did StateId Status). d.answer) (is ∙ refused at.After-is_narrower c.if-not-is_narrower.true))
 
 pub returns-in-Some-clause-after : goal.returns-in-Some-clause-after
 returns-in-Some-clause-after c =
     let at = goal.at.returns-in-Some-clause-after c in
-    let is = narrowed at.After-open_in (Some c.in-Some.open.now) (ap option_copied c.in-Some.is) in
+    let is = narrowed at.After-get (Some c.in-Some.open.now) (ap option_copied c.in-Some.is) in
     ap table (sym c.self.view_is) ∙ sym (ap (λ (d : Did StateId Status). d.after) (is ∙ refused at.After-is_narrower c.if-not-is_narrower.true))
-
-pub narrow_open-requires : goal.narrow_open-requires
-narrow_open-requires c = (_, c.self.invariant.table.opens)
 
 pub invariant_of-self : goal.invariant_of-self
 invariant_of-self c =
     let at = goal.at.invariant_of-self c in
-    let one = found at.After-open_in (Some c.in-Some.open.now) (ap option_copied c.in-Some.is) in
+    let one = found at.After-get (Some c.in-Some.open.now) (ap option_copied c.in-Some.is) in
     record {
-      table = subst IsTable (sym (changed at.After-narrow_open))
+      table = subst IsTable (sym (changed at.After-narrow))
           (table_narrow (table (the_view c.self.inside)) c.args.id.number c.args.access c.args.deny c.in-Some.open.now c.self.invariant.table one
           (sym c.is_narrower.ensures ∙ c.if-not-is_narrower.false));
-      room = λ yes. as_many (λ (o : OpenState). if o.number == c.args.id.number then narrows c.args.access c.args.deny o else o) c.self.inside.opens.items
-          c.narrow_open.new.opens.items _ _ c.narrow_open.ensures.items c.narrow_open.ensures.room (c.self.invariant.room yes);
-      by_file = opens_changed (λ o. o.file) (narrows c.args.access c.args.deny) c.args.id.number c.self.inside.opens.items c.narrow_open.new.opens.items
-          c.self.inside.by_file.items c.narrow_open.ensures.items (λ o. refl) (λ o. refl) c.self.invariant.by_file;
+      room = λ yes. c.narrow.ensures.ready ∙ c.self.invariant.room yes;
+      by_file = opens_changed (λ o. o.file) (narrows c.args.access c.args.deny) c.args.id.number c.self.inside.opens.items c.narrow.new.self.items
+          c.self.inside.by_file.items c.narrow.ensures.items (λ o. refl) (λ o. refl) c.self.invariant.by_file;
       place = c.self.invariant.place;
-      by_client = opens_changed (λ o. o.client) (narrows c.args.access c.args.deny) c.args.id.number c.self.inside.opens.items c.narrow_open.new.opens.items
-          c.self.inside.by_client.items c.narrow_open.ensures.items (λ o. refl) (λ o. refl) c.self.invariant.by_client;
+      by_client = opens_changed (λ o. o.client) (narrows c.args.access c.args.deny) c.args.id.number c.self.inside.opens.items c.narrow.new.self.items
+          c.self.inside.by_client.items c.narrow.ensures.items (λ o. refl) (λ o. refl) c.self.invariant.by_client;
       seat = c.self.invariant.seat;
       locks = c.self.invariant.locks;
     }
 
 -- what a downgrade of an open that is narrowed answers and leaves
-granted : (c : After-narrow_open) → downgrade (table c.args.self.now) c.args.id c.args.client c.args.file c.args.access c.args.deny
+granted : (c : After-narrow) → downgrade (table c.args.self.now) c.args.id c.args.client c.args.file c.args.access c.args.deny
     ≡ narrow_open (table (the_view c.self.inside)) c.args.id.number c.args.access c.args.deny (Some c.in-Some.open.now)
     → c.is_narrower.result ≡ true → downgrade (table c.args.self.now) c.args.id c.args.client c.args.file c.args.access c.args.deny ≡ record {
       answer = Ok (record { seqid = next_seqid c.in-Some.open.now.seqid; instance = c.self.inside.instance; number = c.args.id.number });
@@ -98,12 +91,12 @@ granted c is narrower = is ∙ narrow_done (table (the_view c.self.inside)) c.ar
 pub returns-clause-answer : goal.returns-clause-answer
 returns-clause-answer c =
     let at = goal.at.returns-clause-answer c in
-    let is = narrowed at.After-open_in (Some c.in-Some.open.now) (ap option_copied c.in-Some.is) in
+    let is = narrowed at.After-get (Some c.in-Some.open.now) (ap option_copied c.in-Some.is) in
     ap (λ (s : ℕ). Ok (record { seqid = s; instance = c.self.inside.instance; number = c.args.id.number })) c.next_seqid-seqid.ensures
-    ∙ sym (ap (λ (d : Did StateId Status). d.answer) (granted at.After-narrow_open is c.if-not-is_narrower.false))
+    ∙ sym (ap (λ (d : Did StateId Status). d.answer) (granted at.After-narrow is c.if-not-is_narrower.false))
 
 pub returns-clause-after : goal.returns-clause-after
 returns-clause-after c =
     let at = goal.at.returns-clause-after c in
-    let is = narrowed at.After-open_in (Some c.in-Some.open.now) (ap option_copied c.in-Some.is) in
-    changed at.After-narrow_open ∙ sym (ap (λ (d : Did StateId Status). d.after) (granted at.After-narrow_open is c.if-not-is_narrower.false))
+    let is = narrowed at.After-get (Some c.in-Some.open.now) (ap option_copied c.in-Some.is) in
+    changed at.After-narrow ∙ sym (ap (λ (d : Did StateId Status). d.after) (granted at.After-narrow is c.if-not-is_narrower.false))

@@ -6,11 +6,12 @@ use Rattle.nfs_opens.specs.declared.records.OpenState.{OpenState}
 use Rattle.nfs_opens.specs.declared.records.LockState.{LockState}
 use Rattle.nfs_opens.specs.declared.closing.Leaving.TheVariants.{Of}
 use Rattle.nfs_opens.specs.Holding.{held_by}
-use Rattle.nfs_opens.specs.Table.{Kept, Rises, IsTable, table}
-use Rattle.nfs_opens.specs.Closing.{without_client}
+use Rattle.nfs_opens.specs.Table.{Kept, table}
+use Rattle.nfs_opens.specs.Kept.{Rises, IsTable}
+use Rattle.nfs_opens.specs.Calls.{without_client}
 use Rattle.nfs_opens.specs.Index.{IsIndex, marked}
 use Rattle.nfs_opens.proofs.TableLemmas.{table_ended}
-use Rattle.nfs_opens.proofs.LockLemmas.{left_holders, left_held, same_table, fewer_opens}
+use Rattle.nfs_opens.proofs.LockLemmas.{left_holders, left_held, same_table}
 use Rattle.nfs_opens.proofs.IndexLemmas.{index_part, index_unmarked}
 use Rattle.nfs_opens.proofs.opens.Opens.end_client.Goals as goal
 
@@ -20,44 +21,38 @@ leave-requires-clause-rises c = (_, c.self.invariant.table.locks)
 pub leave-requires-clause-index : goal.leave-requires-clause-index
 leave-requires-clause-index c = c.self.invariant.locks
 
-pub drop_pairs-requires : goal.drop_pairs-requires
-drop_pairs-requires c = subst (Rises (λ (o : OpenState). o.number) 1) (sym c.deref.ensures.value) (_, c.self.invariant.table.opens)
-
 pub keep_locked-requires-clause-rises : goal.keep_locked-requires-clause-rises
-keep_locked-requires-clause-rises c = subst (Rises (λ (l : LockState). l.number) 1) (sym (c.deref-2.ensures.value ∙ c.leave.ensures.locks))
+keep_locked-requires-clause-rises c = subst (Rises (λ (l : LockState). l.number) 1) (sym (c.deref.ensures.value ∙ c.leave.ensures.locks))
     (_, (table_ended (table (the_view c.self.inside)) c.args.client c.self.invariant.table).locks)
 
 pub keep_locked-requires-clause-index : goal.keep_locked-requires-clause-index
 keep_locked-requires-clause-index c =
-    subst (λ (ls : List LockState). IsIndex (λ (l : LockState). l.file) (λ l. l.number) ls c.leave.new.by_file.items) (sym (c.deref-2.ensures.value ∙ c.leave.ensures.locks)) c.leave.ensures.index
+    subst (λ (ls : List LockState). IsIndex (λ (l : LockState). l.file) (λ l. l.number) ls c.leave.new.by_file.items) (sym (c.deref.ensures.value ∙ c.leave.ensures.locks)) c.leave.ensures.index
 
 pub keep_locked-requires-clause-holders : goal.keep_locked-requires-clause-holders
 keep_locked-requires-clause-holders c =
-    left_holders (table (the_view c.self.inside)) (Of c.args.client) c.deref-2.result.now (held_by c.leave.new.files) c.self.invariant.table (c.deref-2.ensures.value ∙ c.leave.ensures.locks) c.leave.ensures.held
+    left_holders (table (the_view c.self.inside)) (Of c.args.client) c.deref.result.now (held_by c.leave.new.files) c.self.invariant.table (c.deref.ensures.value ∙ c.leave.ensures.locks) c.leave.ensures.held
 
 pub invariant_of-self : goal.invariant_of-self
 invariant_of-self c =
     let t = table (the_view c.self.inside) in
     let held = c.keep_locked.ensures ∙ left_held t (Of c.args.client) (held_by c.leave.new.files) c.self.invariant.table c.leave.ensures.held in
-    let same = same_table c.drop_opens.new.opens.items _ c.leave.new.locks.items _
-    (held_by c.keep_locked.new.self) _ c.self.inside.last c.self.inside.instance c.drop_opens.ensures.items c.leave.ensures.locks held in
+    let same = same_table c.drop_client.new.self.items _ c.leave.new.locks.items _
+    (held_by c.keep_locked.new.self) _ c.self.inside.last c.self.inside.instance c.drop_client.ensures.items c.leave.ensures.locks held in
     let stays : OpenState → Bool = λ o. not (o.client == c.args.client) in
     let pairs : c.drop_pairs.new.by_file.items
     ≡ filter (λ (p : Pair). not (marked (λ (o : OpenState). o.number) (λ o. o.client == c.args.client) c.self.inside.opens.items p.number)) c.self.inside.by_file.items =
-    c.drop_pairs.ensures.items
-    ∙ ap (λ (os : List OpenState). filter (λ (p : Pair). not (marked (λ (o : OpenState). o.number) (λ o. o.client == c.args.client) os p.number)) c.self.inside.by_file.items)
-    c.deref.ensures.value in
+    c.drop_pairs.ensures.items in
     record {
       table = subst IsTable (sym same) (table_ended t c.args.client c.self.invariant.table);
-      room = λ yes. fewer_opens stays c.self.inside.opens.items c.drop_opens.new.opens.items _ _
-          c.drop_opens.ensures.items c.drop_opens.ensures.room (c.self.invariant.room yes);
+      room = λ yes. c.drop_client.ensures.ready ∙ c.self.invariant.room yes;
       by_file = subst (λ (os : List OpenState). IsIndex (λ (o : OpenState). o.file) (λ o. o.number) os c.drop_pairs.new.by_file.items)
-          (sym c.drop_opens.ensures.items)
+          (sym c.drop_client.ensures.items)
           (index_unmarked (λ (o : OpenState). o.file) (λ o. o.number) (λ o. o.client == c.args.client) 1 _ c.self.inside.opens.items
           c.self.inside.by_file.items c.drop_pairs.new.by_file.items c.self.invariant.table.opens c.self.invariant.by_file pairs);
       place = λ yes. c.drop_pairs.ensures.room ∙ c.self.invariant.place yes;
       by_client = subst (λ (os : List OpenState). IsIndex (λ (o : OpenState). o.client) (λ o. o.number) os c.drop_own_pairs.new.by_client.items)
-          (sym c.drop_opens.ensures.items)
+          (sym c.drop_client.ensures.items)
           (subst (λ (ps : List Pair). IsIndex (λ (o : OpenState). o.client) (λ o. o.number) (filter stays c.self.inside.opens.items) ps)
           (sym c.drop_own_pairs.ensures.items)
           (index_part (λ (o : OpenState). o.client) (λ o. o.number) stays (λ p. not (p.of == c.args.client)) c.self.inside.opens.items
@@ -71,6 +66,6 @@ pub returns-clause-after : goal.returns-clause-after
 returns-clause-after c =
     let t = table (the_view c.self.inside) in
     let held = c.keep_locked.ensures ∙ left_held t (Of c.args.client) (held_by c.leave.new.files) c.self.invariant.table c.leave.ensures.held in
-    let same = same_table c.drop_opens.new.opens.items _ c.leave.new.locks.items _
-    (held_by c.keep_locked.new.self) _ c.self.inside.last c.self.inside.instance c.drop_opens.ensures.items c.leave.ensures.locks held in
+    let same = same_table c.drop_client.new.self.items _ c.leave.new.locks.items _
+    (held_by c.keep_locked.new.self) _ c.self.inside.last c.self.inside.instance c.drop_client.ensures.items c.leave.ensures.locks held in
     same ∙ ap (λ (k : Kept). without_client (table k) c.args.client) c.self.view_is

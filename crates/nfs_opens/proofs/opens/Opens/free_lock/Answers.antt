@@ -5,7 +5,8 @@ use Rattle.nfs_opens.specs.contracts.opens.Opens.{the_view}
 use Rattle.nfs_opens.specs.declared.records.LockState.{LockState}
 use Rattle.nfs_opens.specs.Index.{IsIndex}
 use Rattle.nfs_opens.specs.Holding.{held_by}
-use Rattle.nfs_opens.specs.Table.{AreHolders, Rises, IsTable, table, lock_at}
+use Rattle.nfs_opens.specs.Table.{table, lock_at}
+use Rattle.nfs_opens.specs.Kept.{AreHolders, Rises, IsTable}
 use Rattle.nfs_opens.proofs.LockLemmas.{same_table}
 use Rattle.nfs_opens.proofs.StepLemmas.{free_keeps}
 use Rattle.nfs_opens.proofs.opens.Opens.free_lock.Goals as goal

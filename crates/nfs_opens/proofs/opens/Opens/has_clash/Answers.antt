@@ -1,7 +1,7 @@
 use Rattle.std.proofs.Common.{sym, ◌∙◌, ap}
 use Rattle.std.specs.Option.{option_copied}
 use Rattle.nfs_opens.specs.Table.{table, clashes_with}
-use Rattle.nfs_opens.specs.Opening.{asked}
+use Rattle.nfs_opens.specs.Calls.{asked}
 use Rattle.nfs_opens.proofs.IndexedLemmas.{clash_file, walk_bounds, any_begins, any_hits, any_misses, any_ends}
 use Rattle.nfs_opens.proofs.opens.Opens.has_clash.Goals as goal
 

@@ -1,7 +1,7 @@
 use Rattle.std.proofs.Common.{◌≡◌, suc, ◌-◌}
 use Rattle.std.specs.List.{list_any}
 use Rattle.nfs_opens.specs.Table.{table, clashes_with}
-use Rattle.nfs_opens.specs.Opening.{asked}
+use Rattle.nfs_opens.specs.Calls.{asked}
 use Rattle.nfs_opens.proofs.IndexedLemmas.{Coming}
 use Rattle.nfs_opens.proofs.opens.Opens.has_clash.Given as goal
 

@@ -6,7 +6,8 @@ use Rattle.nfs_opens.specs.declared.stateid.StateId.{StateId}
 use Rattle.nfs_opens.specs.declared.locking.OpenFault.{OpenFault}
 use Rattle.nfs_opens.specs.declared.records.LockState.{LockState}
 use Rattle.nfs_opens.specs.Holding.{held_by}
-use Rattle.nfs_opens.specs.Table.{Kept, Did, Rises, IsTable, table, lock_at}
+use Rattle.nfs_opens.specs.Table.{Kept, Did, table, lock_at}
+use Rattle.nfs_opens.specs.Kept.{Rises, IsTable}
 use Rattle.nfs_opens.specs.Locking.{lock_judged, lock_as}
 use Rattle.nfs_opens.proofs.LockLemmas.{same_table}
 use Rattle.nfs_opens.proofs.LockedLemmas.{locks_raised}

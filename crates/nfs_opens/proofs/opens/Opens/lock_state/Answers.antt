@@ -1,6 +1,6 @@
 use Rattle.std.proofs.Common.{sym, subst}
 use Rattle.nfs_opens.specs.declared.records.LockState.{LockState}
-use Rattle.nfs_opens.specs.Table.{Rises}
+use Rattle.nfs_opens.specs.Kept.{Rises}
 use Rattle.nfs_opens.proofs.opens.Opens.lock_state.Goals as goal
 
 pub lock_in-requires : goal.lock_in-requires

@@ -10,14 +10,14 @@ use Rattle.nfs_opens.proofs.opens.Opens.new.Goals as goal
 
 pub invariant_of-result : goal.invariant_of-result
 invariant_of-result c = record {
-  table = rw (c.new.ensures.items, c.new-4.ensures.items, c.new-6.ensures) (table_new c.args.instance);
+  table = rw (c.new.ensures, c.new-4.ensures.items, c.new-6.ensures) (table_new c.args.instance);
   room = λ yes. absurd (false≢true yes);
   by_file = subst (λ (ps : List Pair). IsIndex (λ (o : OpenState). o.file) (λ o. o.number) c.new.result.items ps) (sym c.new-2.ensures)
-      (subst (λ (os : List OpenState). IsIndex (λ (o : OpenState). o.file) (λ o. o.number) os []) (sym c.new.ensures.items)
+      (subst (λ (os : List OpenState). IsIndex (λ (o : OpenState). o.file) (λ o. o.number) os []) (sym c.new.ensures)
       (index_none (λ (o : OpenState). o.file) (λ o. o.number)));
   place = λ yes. absurd (false≢true yes);
   by_client = subst (λ (ps : List Pair). IsIndex (λ (o : OpenState). o.client) (λ o. o.number) c.new.result.items ps) (sym c.new-3.ensures)
-      (subst (λ (os : List OpenState). IsIndex (λ (o : OpenState). o.client) (λ o. o.number) os []) (sym c.new.ensures.items)
+      (subst (λ (os : List OpenState). IsIndex (λ (o : OpenState). o.client) (λ o. o.number) os []) (sym c.new.ensures)
       (index_none (λ (o : OpenState). o.client) (λ o. o.number)));
   seat = λ yes. absurd (false≢true yes);
   locks = subst (λ (ps : List Pair). IsIndex (λ (l : LockState). l.file) (λ l. l.number) c.new-4.result.items ps) (sym c.new-5.ensures)

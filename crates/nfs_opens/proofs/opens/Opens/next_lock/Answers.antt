@@ -2,7 +2,8 @@ use Rattle.std.proofs.Common.{List, sym, subst, ap, ◌∙◌}
 use Rattle.std.specs.Prelude.{◌==◌, ◌&&◌, nat_lt, find}
 use Rattle.nfs_opens.specs.declared.records.LockState.{LockState}
 use Rattle.nfs_opens.specs.Index.{IsIndex}
-use Rattle.nfs_opens.specs.Table.{Kept, Rises}
+use Rattle.nfs_opens.specs.Table.{Kept}
+use Rattle.nfs_opens.specs.Kept.{Rises}
 use Rattle.nfs_opens.proofs.opens.Opens.next_lock.Goals as goal
 
 pub next_lock_in-requires-clause-rises : goal.next_lock_in-requires-clause-rises

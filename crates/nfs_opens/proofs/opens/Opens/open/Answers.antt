@@ -1,15 +1,17 @@
 use Rattle.std.proofs.Common.{◌≡◌, Some, suc, ◌+◌, ◌++◌, ◌∷◌, [], List, sym, subst, ap, ◌∙◌, arith, refl, false}
-use Rattle.std.specs.Prelude.{◌==◌, if◌then◌else◌}
 use Rattle.std.specs.List.{list_any}
 use Rattle.std.specs.Option.{option_copied}
 use Rattle.std.proofs.lemmas.Grind.{common_steps}
 use Rattle.std.proofs.lemmas.Bool.{false≢true}
+use Rattle.nfs_xdr.proofs.Tables.{in_bounds}
 use Rattle.nfs_opens.specs.contracts.opens.Opens.{the_view}
 use Rattle.nfs_opens.specs.declared.records.OpenState.{OpenState}
 use Rattle.nfs_opens.specs.Holding.{held_by}
-use Rattle.nfs_opens.specs.Table.{Kept, IsTable, table, clashes_with}
-use Rattle.nfs_opens.specs.Opening.{asked, own_open, new_open, joins}
-use Rattle.nfs_opens.proofs.LockLemmas.{same_table, as_many}
+use Rattle.nfs_opens.specs.Table.{Kept, table, clashes_with}
+use Rattle.nfs_opens.specs.Kept.{IsTable}
+use Rattle.nfs_opens.specs.Opening.{own_open, new_open, joins}
+use Rattle.nfs_opens.specs.Calls.{asked}
+use Rattle.nfs_opens.proofs.LockLemmas.{same_table}
 use Rattle.nfs_opens.proofs.TableLemmas.{table_opened}
 use Rattle.nfs_opens.proofs.StepLemmas.{table_join}
 use Rattle.nfs_opens.proofs.StepLemmas.{no_clash_asked}
@@ -18,26 +20,22 @@ use Rattle.nfs_opens.proofs.IndexLemmas.{index_put, index_new}
 use Rattle.nfs_opens.proofs.IndexedLemmas.{opens_changed}
 use Rattle.nfs_opens.proofs.opens.Opens.open.Goals as goal
 
-pub join_open-requires : goal.join_open-requires
-join_open-requires c = (_, c.self.invariant.table.opens)
-
 pub invariant_of-self : goal.invariant_of-self
 invariant_of-self c =
     let own : own_open (table (the_view c.self.inside)) (asked c.args.ask.now) ≡ Some c.in-Some.open.now =
     ap (λ (k : Kept). own_open (table k) (asked c.args.ask.now)) c.self.view_is ∙ (sym c.own_open.ensures ∙ ap option_copied c.in-Some.is) in
     let free : list_any (clashes_with (asked c.args.ask.now)) c.self.inside.opens.items ≡ false =
     ap (λ (k : Kept). list_any (clashes_with (asked c.args.ask.now)) k.opens) c.self.view_is ∙ no_clash_asked _ _ c.requires.judged in
-    let same = same_table c.join_open.new.opens.items _ c.self.inside.locks.items _ (held_by c.self.inside.files) _ c.self.inside.last c.self.inside.instance
-    c.join_open.ensures.items refl refl in
+    let same = same_table c.join.new.self.items _ c.self.inside.locks.items _ (held_by c.self.inside.files) _ c.self.inside.last c.self.inside.instance
+    c.join.ensures.items refl refl in
     record {
       table = subst IsTable (sym same) (table_join (table (the_view c.self.inside)) (asked c.args.ask.now) c.in-Some.open.now c.self.invariant.table own free);
-      room = λ yes. as_many (λ (o : OpenState). if o.number == c.in-Some.open.now.number then joins (asked c.args.ask.now) o else o)
-          c.self.inside.opens.items c.join_open.new.opens.items _ _ c.join_open.ensures.items c.join_open.ensures.room (c.self.invariant.room yes);
-      by_file = opens_changed (λ o. o.file) (joins (asked c.args.ask.now)) c.in-Some.open.now.number c.self.inside.opens.items c.join_open.new.opens.items
-          c.self.inside.by_file.items c.join_open.ensures.items (λ o. refl) (λ o. refl) c.self.invariant.by_file;
+      room = λ yes. c.join.ensures.ready ∙ c.self.invariant.room yes;
+      by_file = opens_changed (λ o. o.file) (joins (asked c.args.ask.now)) c.in-Some.open.now.number c.self.inside.opens.items c.join.new.self.items
+          c.self.inside.by_file.items c.join.ensures.items (λ o. refl) (λ o. refl) c.self.invariant.by_file;
       place = c.self.invariant.place;
-      by_client = opens_changed (λ o. o.client) (joins (asked c.args.ask.now)) c.in-Some.open.now.number c.self.inside.opens.items c.join_open.new.opens.items
-          c.self.inside.by_client.items c.join_open.ensures.items (λ o. refl) (λ o. refl) c.self.invariant.by_client;
+      by_client = opens_changed (λ o. o.client) (joins (asked c.args.ask.now)) c.in-Some.open.now.number c.self.inside.opens.items c.join.new.self.items
+          c.self.inside.by_client.items c.join.ensures.items (λ o. refl) (λ o. refl) c.self.invariant.by_client;
       seat = c.self.invariant.seat;
       locks = c.self.invariant.locks;
     }
@@ -78,3 +76,10 @@ pub put-requires-in-None-clause-other : goal.put-requires-in-None-clause-other
 put-requires-in-None-clause-other c = index_new (λ (o : OpenState). o.client) (λ o. o.number) 1 (suc c.self.inside.last) c.self.inside.opens.items
     c.self.inside.by_client.items (record { of = c.args.ask.now.client; number = c.self.inside.last + 1 }) c.self.invariant.table.opens c.self.invariant.by_client
     (omega arith)
+
+pub push-requires-clause-ready : goal.push-requires-clause-ready
+push-requires-clause-ready c = c.self.invariant.room (ap (λ (k : Kept). k.ready) c.self.view_is ∙ c.requires.room)
+
+pub push-requires-clause-behind : goal.push-requires-clause-behind
+push-requires-clause-behind c = λ o there.
+    let up = (in_bounds (λ (o : OpenState). o.number) 1 (suc c.self.inside.last) c.self.inside.opens.items o c.self.invariant.table.opens there).1 in omega arith

@@ -1,7 +1,7 @@
 use Rattle.std.proofs.Common.{sym, ◌∙◌, ap}
 use Rattle.std.specs.Option.{option_copied}
 use Rattle.nfs_opens.specs.Table.{table, is_own}
-use Rattle.nfs_opens.specs.Opening.{asked}
+use Rattle.nfs_opens.specs.Calls.{asked}
 use Rattle.nfs_opens.proofs.IndexedLemmas.{own_file, walk_begins, walk_bounds, walk_hits, walk_misses, walk_ends}
 use Rattle.nfs_opens.proofs.opens.Opens.own_open.Goals as goal
 

@@ -1,7 +1,7 @@
 use Rattle.std.proofs.Common.{◌≡◌, suc, ◌-◌}
 use Rattle.std.specs.Prelude.{find}
 use Rattle.nfs_opens.specs.Table.{table, is_own}
-use Rattle.nfs_opens.specs.Opening.{asked}
+use Rattle.nfs_opens.specs.Calls.{asked}
 use Rattle.nfs_opens.proofs.IndexedLemmas.{Coming}
 use Rattle.nfs_opens.proofs.opens.Opens.own_open.Given as goal
 

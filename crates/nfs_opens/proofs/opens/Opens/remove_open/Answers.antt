@@ -6,11 +6,12 @@ use Rattle.nfs_opens.specs.declared.records.OpenState.{OpenState}
 use Rattle.nfs_opens.specs.declared.records.LockState.{LockState}
 use Rattle.nfs_opens.specs.declared.closing.Leaving.TheVariants.{Under}
 use Rattle.nfs_opens.specs.Holding.{held_by}
-use Rattle.nfs_opens.specs.Table.{Kept, Rises, IsTable, table}
+use Rattle.nfs_opens.specs.Table.{Kept, table}
+use Rattle.nfs_opens.specs.Kept.{Rises, IsTable}
 use Rattle.nfs_opens.specs.Closing.{without_open}
 use Rattle.nfs_opens.specs.Index.{IsIndex}
 use Rattle.nfs_opens.proofs.TableLemmas.{table_closed}
-use Rattle.nfs_opens.proofs.LockLemmas.{left_holders, left_held, same_table, fewer_opens}
+use Rattle.nfs_opens.proofs.LockLemmas.{left_holders, left_held, same_table}
 use Rattle.nfs_opens.proofs.opens.Opens.remove_open.Goals as goal
 
 pub leave-requires-clause-rises : goal.leave-requires-clause-rises
@@ -24,35 +25,31 @@ leave-requires-clause-any c none = ap (λ (k : Kept). list_any (λ (l : LockStat
     ∙ (sym c.has_lock_under-any.ensures ∙ none)
 
 pub forget_unlocked-requires-clause-rises : goal.forget_unlocked-requires-clause-rises
-forget_unlocked-requires-clause-rises c = subst (Rises (λ (l : LockState). l.number) 1) (sym (c.deref-3.ensures.value ∙ c.leave.ensures.locks))
+forget_unlocked-requires-clause-rises c = subst (Rises (λ (l : LockState). l.number) 1) (sym (c.deref.ensures.value ∙ c.leave.ensures.locks))
     (_, (table_closed (table (the_view c.self.inside)) c.args.number c.self.invariant.table).locks)
 
 pub forget_unlocked-requires-clause-index : goal.forget_unlocked-requires-clause-index
 forget_unlocked-requires-clause-index c =
-    subst (λ (ls : List LockState). IsIndex (λ (l : LockState). l.file) (λ l. l.number) ls c.leave.new.by_file.items) (sym (c.deref-3.ensures.value ∙ c.leave.ensures.locks)) c.leave.ensures.index
+    subst (λ (ls : List LockState). IsIndex (λ (l : LockState). l.file) (λ l. l.number) ls c.leave.new.by_file.items) (sym (c.deref.ensures.value ∙ c.leave.ensures.locks)) c.leave.ensures.index
 
 pub forget_unlocked-requires-clause-holders : goal.forget_unlocked-requires-clause-holders
 forget_unlocked-requires-clause-holders c =
-    left_holders (table (the_view c.self.inside)) (Under c.args.number) c.deref-3.result.now (held_by c.leave.new.files) c.self.invariant.table (c.deref-3.ensures.value ∙ c.leave.ensures.locks) c.leave.ensures.held
+    left_holders (table (the_view c.self.inside)) (Under c.args.number) c.deref.result.now (held_by c.leave.new.files) c.self.invariant.table (c.deref.ensures.value ∙ c.leave.ensures.locks) c.leave.ensures.held
 
 pub invariant_of-self : goal.invariant_of-self
 invariant_of-self c =
     let t = table (the_view c.self.inside) in
     let held = c.forget_unlocked.ensures ∙ left_held t (Under c.args.number) (held_by c.leave.new.files) c.self.invariant.table c.leave.ensures.held in
-    let same = same_table c.drop_open.new.opens.items _ c.leave.new.locks.items _
-    (held_by c.forget_unlocked.new.files) _ c.self.inside.last c.self.inside.instance c.drop_open.ensures.items c.leave.ensures.locks held in
+    let same = same_table c.remove.new.self.items _ c.leave.new.locks.items _
+    (held_by c.forget_unlocked.new.files) _ c.self.inside.last c.self.inside.instance c.remove.ensures.items c.leave.ensures.locks held in
     record {
       table = subst IsTable (sym same) (table_closed t c.args.number c.self.invariant.table);
-      room = λ yes. fewer_opens (λ (o : OpenState). not (o.number == c.args.number)) c.self.inside.opens.items c.drop_open.new.opens.items _ _
-          c.drop_open.ensures.items c.drop_open.ensures.room (c.self.invariant.room yes);
-      by_file = subst (λ (os : List OpenState). IsIndex (λ (o : OpenState). o.file) (λ o. o.number) os c.drop_pair.new.by_file.items) (sym c.drop_open.ensures.items)
-          (subst (λ (os : List OpenState). IsIndex (λ (o : OpenState). o.file) (λ o. o.number) (filter (λ o. not (o.number == c.args.number)) os)
-          c.drop_pair.new.by_file.items) c.deref.ensures.value c.drop_pair.ensures.index);
+      room = λ yes. c.remove.ensures.ready ∙ c.self.invariant.room yes;
+      by_file = subst (λ (os : List OpenState). IsIndex (λ (o : OpenState). o.file) (λ o. o.number) os c.drop_pair.new.by_file.items) (sym c.remove.ensures.items)
+          c.drop_pair.ensures.index;
       place = λ yes. c.drop_pair.ensures.room ∙ c.self.invariant.place yes;
       by_client = subst (λ (os : List OpenState). IsIndex (λ (o : OpenState). o.client) (λ o. o.number) os c.drop_own_pair.new.by_client.items)
-          (sym c.drop_open.ensures.items)
-          (subst (λ (os : List OpenState). IsIndex (λ (o : OpenState). o.client) (λ o. o.number) (filter (λ o. not (o.number == c.args.number)) os)
-          c.drop_own_pair.new.by_client.items) c.deref-2.ensures.value c.drop_own_pair.ensures.index);
+          (sym c.remove.ensures.items) c.drop_own_pair.ensures.index;
       seat = λ yes. c.drop_own_pair.ensures.room ∙ c.self.invariant.seat yes;
       locks = subst (λ (ls : List LockState). IsIndex (λ (l : LockState). l.file) (λ l. l.number) ls c.leave.new.by_file.items) (sym c.leave.ensures.locks)
           c.leave.ensures.index;
@@ -62,23 +59,12 @@ pub returns-clause-after : goal.returns-clause-after
 returns-clause-after c =
     let t = table (the_view c.self.inside) in
     let held = c.forget_unlocked.ensures ∙ left_held t (Under c.args.number) (held_by c.leave.new.files) c.self.invariant.table c.leave.ensures.held in
-    let same = same_table c.drop_open.new.opens.items _ c.leave.new.locks.items _
-    (held_by c.forget_unlocked.new.files) _ c.self.inside.last c.self.inside.instance c.drop_open.ensures.items c.leave.ensures.locks held in
+    let same = same_table c.remove.new.self.items _ c.leave.new.locks.items _
+    (held_by c.forget_unlocked.new.files) _ c.self.inside.last c.self.inside.instance c.remove.ensures.items c.leave.ensures.locks held in
     same ∙ ap (λ (k : Kept). without_open (table k) c.args.number) c.self.view_is
 
-pub drop_open-requires : goal.drop_open-requires
-drop_open-requires c = (_, c.self.invariant.table.opens)
-
 pub drop_pair-requires-clause-rises : goal.drop_pair-requires-clause-rises
-drop_pair-requires-clause-rises c = subst (Rises (λ (o : OpenState). o.number) 1) (sym c.deref.ensures.value) (_, c.self.invariant.table.opens)
-
-pub drop_pair-requires-clause-index : goal.drop_pair-requires-clause-index
-drop_pair-requires-clause-index c = subst (λ (os : List OpenState). IsIndex (λ (o : OpenState). o.file) (λ o. o.number) os c.self.inside.by_file.items)
-    (sym c.deref.ensures.value) c.self.invariant.by_file
+drop_pair-requires-clause-rises c = (_, c.self.invariant.table.opens)
 
 pub drop_own_pair-requires-clause-rises : goal.drop_own_pair-requires-clause-rises
-drop_own_pair-requires-clause-rises c = subst (Rises (λ (o : OpenState). o.number) 1) (sym c.deref-2.ensures.value) (_, c.self.invariant.table.opens)
-
-pub drop_own_pair-requires-clause-index : goal.drop_own_pair-requires-clause-index
-drop_own_pair-requires-clause-index c = subst (λ (os : List OpenState). IsIndex (λ (o : OpenState). o.client) (λ o. o.number) os c.self.inside.by_client.items)
-    (sym c.deref-2.ensures.value) c.self.invariant.by_client
+drop_own_pair-requires-clause-rises c = (_, c.self.invariant.table.opens)

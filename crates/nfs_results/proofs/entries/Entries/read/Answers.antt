@@ -1,5 +1,5 @@
 use Rattle.std.proofs.Common.{◌≡◌, ℕ, ◌-◌, ◌∙◌, sym, ap, subst, length, take, List, Some, arith}
-use Rattle.nfs_xdr.specs.Codec.{passed}
+use Rattle.nfs_xdr.specs.Combinators.{passed}
 use Rattle.nfs_xdr.specs.Chain.{chain}
 use Rattle.nfs_results.specs.Items.{entry}
 use Rattle.nfs_results.specs.Entries.{entries_in, AreEntries}

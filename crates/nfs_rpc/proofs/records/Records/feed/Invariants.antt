@@ -1,7 +1,7 @@
 use Rattle.std.proofs.Common.{◌≡◌, ◌-◌, ◌≤◌, ◌++◌, List, ℕ, length, take}
 use Rattle.nfs_xdr.specs.Codec.{IsBytes}
 use Rattle.nfs_rpc.specs.declared.records.State.TheVariants as States
-use Rattle.nfs_rpc.specs.RecordMarking.{Holds}
+use Rattle.nfs_rpc.specs.Feeding.{Holds}
 use Rattle.nfs_rpc.specs.Share.{state_of}
 use Rattle.nfs_rpc.proofs.records.Records.feed.Given as goal
 

@@ -1,6 +1,6 @@
 use Rattle.std.proofs.Common.{◌≡◌, arith, sym, ap, ◌∙◌, ◌++◌, append-nil, take_all, length, le_refl, [], false}
 use Rattle.nfs_xdr.specs.Codec.{IsBytes}
-use Rattle.nfs_rpc.specs.Feeding.{is_too_long}
+use Rattle.nfs_rpc.specs.RecordMarking.{is_too_long}
 use Rattle.nfs_serve.specs.declared.form.Form.TheVariants.{Plain}
 use Rattle.nfs_serve.proofs.Framing.{lent}
 use Rattle.nfs_serve.proofs.Owing.{takes_none, takes_record, takes_long, front_bytes}

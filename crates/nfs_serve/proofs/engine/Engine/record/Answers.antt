@@ -5,7 +5,7 @@ use Rattle.nfs_rpc.specs.View as view
 use Rattle.nfs_xdr.specs.SheetState.{SheetState}
 use Rattle.nfs_rpc.specs.Reply.{spell_refusal}
 use Rattle.nfs_exec.specs.Expiry.{expired}
-use Rattle.nfs_exec.specs.View.{machine_of}
+use Rattle.nfs_exec.specs.Machine.{machine_of}
 use Rattle.nfs_serve.specs.Server.{state_of}
 use Rattle.nfs_serve.specs.Step.{reply_to, step}
 use Rattle.nfs_serve.proofs.Stepping.{step_of, lies_behind, refusal_lies, latest_expired, arguments_within}

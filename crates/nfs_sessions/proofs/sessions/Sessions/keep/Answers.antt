@@ -1,8 +1,9 @@
 use Rattle.std.proofs.Common.{ap, sym, ◌∙◌, subst, refl}
 use Rattle.std.proofs.lemmas.Option.{same_Some, none-some}
-use Rattle.nfs_sessions.specs.SessionSlots.{GrantedSlots, MayKeep}
+use Rattle.nfs_sessions.specs.SessionSlots.{GrantedSlots}
+use Rattle.nfs_sessions.specs.Kept.{MayKeep, IsSessions}
 use Rattle.nfs_sessions.specs.SessionSlots as slots
-use Rattle.nfs_sessions.specs.Sessions.{Session, SessionTable, IsSessions, session_at}
+use Rattle.nfs_sessions.specs.Sessions.{Session, SessionTable, session_at}
 use Rattle.nfs_xdr.proofs.Lists.{some_there}
 use Rattle.nfs_sessions.proofs.TableLemmas.{slots_changed, table_written}
 use Rattle.nfs_sessions.proofs.Places.{place_in, session_there, no_session}

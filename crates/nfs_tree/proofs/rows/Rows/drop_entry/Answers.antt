@@ -1,29 +1,29 @@
-use Rattle.std.proofs.Common.{◌≡◌, ◌<◌, ◌^◌, cond, Some, None, sym, ◌∙◌, ap, arith}
+use Rattle.std.proofs.Common.{◌≡◌, cond, Some, None, sym, ◌∙◌, ap}
 use Rattle.std.specs.BTreeMap.{is_at, get}
 use Rattle.nfs_xdr.specs.Tables.{without_record}
 use Rattle.nfs_tree.specs.Files.{entry, without_entry}
+use Rattle.nfs_tree.specs.ByName.{cookies}
 use Rattle.nfs_tree.specs.Maps.{pair_cmp}
 use Rattle.nfs_tree.proofs.MapLemmas.{cookie, some_place, none_place, none_gone, short_name}
 use Rattle.nfs_tree.proofs.Mapped.{Done, done_gone}
 use Rattle.nfs_tree.proofs.rows.Rows.drop_entry.Goals as goal
 
-pub take_name-requires : goal.take_name-requires
-take_name-requires c =
+pub remove-requires : goal.remove-requires
+remove-requires c =
     let x = some_place (entry c.args.self.now c.args.directory c.args.name.now) c.in-Some.owner c.in-Some.gone (sym c.in-Some.ensures) in
     let found : entry c.self.inside.rows c.args.directory c.args.name.now ≡ Some x.0 =
     ap (λ rows. entry rows c.args.directory c.args.name.now) c.self.view_is ∙ x.1 in
     short_name _ _ c.self.invariant.named c.args.directory c.args.name.now x.0 found
 
-done : (c : goal.After-take_pair) → Done (λ k. k.items) c.take.new.rows c.take_name.new.names.entries c.take.new.listed.entries c.take_pair.new.pairs.entries
+done : (c : goal.After-take_pair) → Done c.take.new.rows (cookies c.remove.new.self) c.take.new.listed.entries c.take_pair.new.pairs.entries
     (without_entry c.args.directory c.args.name.now c.self.inside.rows)
 done c =
-    let few : c.args.directory < 2 ^ 64 = omega arith in
     let x = some_place (entry c.args.self.now c.args.directory c.args.name.now) c.in-Some.owner c.in-Some.gone (sym c.in-Some.ensures) in
     let found : entry c.self.inside.rows c.args.directory c.args.name.now ≡ Some x.0 =
     ap (λ rows. entry rows c.args.directory c.args.name.now) c.self.view_is ∙ x.1 in
-    done_gone (λ k. k.items) c.self.inside.rows c.take.new.rows c.self.inside.names c.take_name.new.names c.self.inside.listed.entries c.take.new.listed.entries c.self.inside.owned.entries c.take_pair.new.pairs.entries
-    c.args.directory c.args.name.now x.0 c.self.invariant few found
-    (c.take.ensures.rows ∙ ap (λ k. without_record cookie c.self.inside.rows k) (sym x.3)) c.take_name.ensures
+    done_gone c.self.inside.rows c.take.new.rows (cookies c.self.inside.names) (cookies c.remove.new.self) c.self.inside.listed.entries c.take.new.listed.entries c.self.inside.owned.entries c.take_pair.new.pairs.entries
+    c.args.directory c.args.name.now x.0 c.self.invariant found
+    (c.take.ensures.rows ∙ ap (λ k. without_record cookie c.self.inside.rows k) (sym x.3)) c.remove.ensures
     (λ q. c.take.ensures.listed q ∙ ap (λ k. cond (is_at (pair_cmp (c.args.directory, k)) q) None (get pair_cmp c.self.inside.listed q)) (sym x.3))
     (λ q. c.take_pair.ensures q ∙ ap (λ n. cond (is_at (pair_cmp (n, c.in-Some.gone)) q) None (get pair_cmp c.self.inside.owned q)) (sym x.2)
     ∙ ap (λ k. cond (is_at (pair_cmp (x.0.object, k)) q) None (get pair_cmp c.self.inside.owned q)) (sym x.3))

@@ -2,8 +2,9 @@ use Rattle.std.proofs.Common.{◌≡◌, None, true, refl, sym, ◌∙◌, ◌+�
 use Rattle.std.specs.Prelude.{Ok, Err}
 use Rattle.std.proofs.lemmas.Result.{err_from_is_err_and}
 use Rattle.nfs_tree.specs.declared.done.Created.{Created}
-use Rattle.nfs_tree.specs.Did.{does_unless, raised}
-use Rattle.nfs_tree.specs.Create.{new_of, create_checks, create_fault, with_new}
+use Rattle.nfs_tree.specs.Calls.{does_unless, new_of, create_fault}
+use Rattle.nfs_tree.specs.Files.{raised}
+use Rattle.nfs_tree.specs.Create.{create_checks, with_new}
 use Rattle.nfs_tree.proofs.Refusals.{refused, judged_err, judged_ok}
 use Rattle.nfs_tree.proofs.tree.Tree.create.Goals as goal
 

@@ -1,7 +1,8 @@
 use Rattle.std.proofs.Common.{◌≡◌, ◌+◌, ◌<◌, ap, sym, arith, subst}
 use Rattle.std.proofs.lemmas.Grind.{common_steps}
-use Rattle.nfs_tree.specs.Files.{Files, root, CanChange}
-use Rattle.nfs_tree.specs.Create.{new_of, with_new}
+use Rattle.nfs_tree.specs.Files.{Files, root}
+use Rattle.nfs_tree.specs.Calls.{CanChange, new_of}
+use Rattle.nfs_tree.specs.Create.{with_new}
 use Rattle.nfs_tree.specs.Kept.{IsTree}
 use Rattle.nfs_tree.proofs.Objects.{can_change_all, stored_within}
 use Rattle.nfs_tree.proofs.Trees.{tree_of}

@@ -1,7 +1,8 @@
 use Rattle.std.proofs.Common.{◌≡◌, ◌≢◌, ◌+◌, ◌<◌, ap, sym, arith, subst}
 use Rattle.std.proofs.lemmas.Grind.{common_steps}
-use Rattle.nfs_tree.specs.Files.{Files, root, last_count, CanChange}
-use Rattle.nfs_tree.specs.Names.{move_of, replaced_object, with_moved}
+use Rattle.nfs_tree.specs.Files.{Files, root, last_count}
+use Rattle.nfs_tree.specs.Calls.{CanChange, move_of}
+use Rattle.nfs_tree.specs.Names.{replaced_object, with_moved}
 use Rattle.nfs_tree.specs.Kept.{IsTree}
 use Rattle.nfs_tree.proofs.Objects.{can_change_all}
 use Rattle.nfs_tree.proofs.Trees.{tree_of}

@@ -3,7 +3,8 @@ use Rattle.std.specs.Prelude.{◌==◌, if◌then◌else◌, OnOk, OnErr}
 use Rattle.std.proofs.lemmas.Grind.{common_steps}
 use Rattle.nfs_tree.specs.declared.stored.Stored.{Stored}
 use Rattle.nfs_tree.specs.Object.{no_sets}
-use Rattle.nfs_tree.specs.Files.{Files, root, CanChange}
+use Rattle.nfs_tree.specs.Files.{Files, root}
+use Rattle.nfs_tree.specs.Calls.{CanChange}
 use Rattle.nfs_tree.specs.Bytes.{with_bytes, written, with_written}
 use Rattle.nfs_tree.specs.Kept.{IsTree}
 use Rattle.nfs_tree.proofs.Objects.{can_change_all}

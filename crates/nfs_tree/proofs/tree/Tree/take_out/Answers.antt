@@ -1,6 +1,7 @@
 use Rattle.std.proofs.Common.{◌≡◌, ◌≢◌, ◌+◌, ap, sym, arith, subst}
 use Rattle.std.proofs.lemmas.Grind.{common_steps}
-use Rattle.nfs_tree.specs.Files.{Files, root, CanChange, named}
+use Rattle.nfs_tree.specs.Files.{Files, root, named}
+use Rattle.nfs_tree.specs.Calls.{CanChange}
 use Rattle.nfs_tree.specs.Names.{without_name}
 use Rattle.nfs_tree.specs.Kept.{IsTree}
 use Rattle.nfs_tree.proofs.Objects.{can_change_all}

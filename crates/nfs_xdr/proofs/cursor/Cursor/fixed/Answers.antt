@@ -1,4 +1,4 @@
-use Rattle.nfs_xdr.specs.Codec as codec
+use Rattle.nfs_xdr.specs.Combinators as codec
 use Rattle.nfs_xdr.proofs.CodecLaws.{is_fixed, reads_from_gives}
 use Rattle.nfs_xdr.proofs.cursor.Cursor.fixed.Goals as goal
 

@@ -15,7 +15,7 @@ use Rattle.nfs_names.specs.State.{state_of}
 use Rattle.nfs_names.proofs.Masks.{room_then}
 use Rattle.nfs_files.specs.Read.{bytes_of, was_read}
 use Rattle.nfs_files.proofs.ReadBytes.{eof_is, read_fits}
-use Rattle.nfs_files.proofs.bytes.put_bytes.Goals as goal
+use Rattle.nfs_files.proofs.bytes.put_read.Goals as goal
 
 pub write_done_head-requires : goal.write_done_head-requires
 write_done_head-requires c = record { room = omega (arith, length_head (op_number Op.Read) Nfs4Ok) }
@@ -24,7 +24,7 @@ pub put_flag-requires : goal.put_flag-requires
 put_flag-requires c =
     let s = state_of c.args.store.now in
     let r = c.args.asked.now in
-    let d = c.args.held.now in
+    let d = c.args.node.now in
     let eof = c.reaches_end.result in
     let fits = read_fits s r d eof (eof_is s r d c.given-count.result eof c.kept.ensures c.requires.there c.given-count.ensures.value c.reaches_end.ensures) in
     record {
@@ -36,7 +36,7 @@ pub read-requires : goal.read-requires
 read-requires c =
     let s = state_of c.args.store.now in
     let r = c.args.asked.now in
-    let d = c.args.held.now in
+    let d = c.args.node.now in
     let eof = c.reaches_end.result in
     let front = head (op_number Op.Read) Nfs4Ok in
     let fits = read_fits s r d eof (eof_is s r d c.given-count.result eof c.kept.ensures c.requires.there c.given-count.ensures.value c.reaches_end.ensures) in
@@ -53,7 +53,7 @@ unfolding read_ok
 returns c =
     let s = state_of c.args.store.now in
     let r = c.args.asked.now in
-    let d = c.args.held.now in
+    let d = c.args.node.now in
     let eof = c.reaches_end.result in
     let front = head (op_number Op.Read) Nfs4Ok in
     let ends : eof ≡ (was_read s r d).eof =

@@ -1,10 +1,10 @@
 use Rattle.std.proofs.Common.{◌≡◌, Some, None, sym, ◌∙◌, ap, subst}
 use Rattle.std.specs.Prelude.{◌==◌, position}
 use Rattle.nfs_opens.specs.declared.records.OpenState.{OpenState}
-use Rattle.nfs_opens.specs.Table.{Rises}
+use Rattle.nfs_opens.specs.Kept.{Rises}
 use Rattle.nfs_xdr.proofs.Lists.{position_nowhere}
 use Rattle.nfs_xdr.proofs.Tables.{removed, without_none}
-use Rattle.nfs_opens.proofs.closing.drop_open.Goals as goal
+use Rattle.nfs_opens.proofs.by_number.drop_open.Goals as goal
 
 pub place_of_open-requires : goal.place_of_open-requires
 place_of_open-requires c = subst (Rises (λ (o : OpenState). o.number) 1) (sym c.deref.ensures.value) c.requires

@@ -1,0 +1,335 @@
+-- How the arguments of operations are spelled and read, and what the code's values of them say (RFC 5662).
+use Rattle.std.specs.Prelude.{ℕ, List, map, [], ◌∷◌, ◌++◌, Option, ◌≢◌, ◌<◌, ◌^◌, ◌==◌, ◌||◌, Some, None}
+use Rattle.std.specs.Int.{w32, from_be_bytes}
+use Rattle.nfs_xdr.specs.Codec.{Codec, number, unbounded, ◌then◌, as_type, pieces, array, union, arm, bare, hyper, flag, opaque, only, led_by}
+use Rattle.nfs_xdr.specs.AuthSys.{auth_sys}
+use Rattle.nfs_xdr.specs.Spelling as spelling
+use Rattle.nfs_xdr.specs.Combinators.{raw, listed, fixed, union_or, optional}
+use Rattle.nfs_xdr.specs.Time.{time}
+use Rattle.nfs_xdr.specs.Limits.{opaque_limit}
+use Rattle.nfs_compound.specs.Attributes.{Attributes}
+use Rattle.nfs_compound.specs.declared.attributes.Bitmap as rust_bitmap
+use Rattle.nfs_compound.specs.declared.attributes.Attributes as rust_attributes
+use Rattle.nfs_compound.specs.Callback.{GssHandles, SecParms, AuthNone, Sys, RpcsecGss}
+use Rattle.nfs_compound.specs.FileArgs.{stable_how_number, Write, SetAttr}
+use Rattle.nfs_compound.specs.declared.file_args.Commit.{Commit}
+use Rattle.nfs_compound.specs.declared.file_args.Read.{Read}
+use Rattle.nfs_compound.specs.declared.file_args.StableHow.{StableHow}
+use Rattle.nfs_compound.specs.declared.file_args.StableHow.TheVariants as StableHows
+use Rattle.nfs_compound.specs.declared.file_args.Write as rust_write
+use Rattle.nfs_compound.specs.declared.file_args.SetAttr as rust_set_attr
+use Rattle.nfs_compound.specs.Stateid.{stateid}
+use Rattle.nfs_compound.specs.NameArgs.{CreateType, Block, Character, Symlink, Other, Create, ReadDir, Rename, secinfo_style_number}
+use Rattle.nfs_compound.specs.declared.name_args.SpecData.{SpecData}
+use Rattle.nfs_compound.specs.declared.name_args.CreateType as rust_create_type
+use Rattle.nfs_compound.specs.declared.name_args.CreateType.TheVariants as CreateTypes
+use Rattle.nfs_compound.specs.declared.name_args.Create as rust_create
+use Rattle.nfs_compound.specs.declared.name_args.ReadDir as rust_read_dir
+use Rattle.nfs_compound.specs.declared.name_args.Rename as rust_rename
+use Rattle.nfs_compound.specs.declared.name_args.SecinfoStyle.{SecinfoStyle}
+use Rattle.nfs_compound.specs.declared.name_args.SecinfoStyle.TheVariants as SecinfoStyles
+use Rattle.nfs_compound.specs.LockArgs.{lock_type_number, OpenToLockOwner, Locker, OpenOwner, LockOwner, Lock, LockT}
+use Rattle.nfs_compound.specs.declared.lock_args.LockType.{LockType}
+use Rattle.nfs_compound.specs.declared.lock_args.LockType.TheVariants as LockTypes
+use Rattle.nfs_compound.specs.declared.lock_args.ExistLockOwner.{ExistLockOwner}
+use Rattle.nfs_compound.specs.StateOwner.{state_owner}
+use Rattle.nfs_compound.specs.declared.lock_args.OpenToLockOwner as rust_open_to_lock_owner
+use Rattle.nfs_compound.specs.declared.lock_args.Locker as rust_locker
+use Rattle.nfs_compound.specs.declared.lock_args.Locker.TheVariants as Lockers
+use Rattle.nfs_compound.specs.declared.lock_args.Lock as rust_lock
+use Rattle.nfs_compound.specs.declared.lock_args.LockT as rust_lock_t
+use Rattle.nfs_compound.specs.declared.lock_args.LockU.{LockU}
+use Rattle.nfs_compound.specs.StateOwner as StateOwner
+use Rattle.nfs_compound.specs.SessionArgs.{ImplId, ExchangeId, CreateSession}
+use Rattle.nfs_compound.specs.declared.session_args.Sequence.{Sequence}
+use Rattle.nfs_compound.specs.ChannelAttrs.{channel_attrs}
+use Rattle.nfs_compound.specs.declared.session_args.ImplId as rust_impl_id
+use Rattle.nfs_compound.specs.declared.session_args.ExchangeId as rust_exchange_id
+use Rattle.nfs_compound.specs.declared.session_args.CreateSession as rust_create_session
+
+-- the words of a mask; bit i of word w is attribute 32 w + i
+unfoldable pub bitmap : Codec (List ℕ)
+bitmap = pieces 4 (from_be_bytes w32) number
+
+unfoldable pub attributes : Codec Attributes
+attributes = as_type (λ (attrmask, attr_vals). record { attrmask = attrmask; attr_vals = attr_vals }) (λ a. (a.attrmask, a.attr_vals)) (bitmap then unbounded)
+
+abbrev pub view_bitmap : rust_bitmap.Bitmap → List ℕ
+view_bitmap b = map (from_be_bytes w32) b.words.now
+
+abbrev pub view_attributes : rust_attributes.Attributes → Attributes
+view_attributes a = record { attrmask = view_bitmap a.attrmask; attr_vals = a.attr_vals.now }
+
+unfoldable pub gss_handles : Codec GssHandles
+gss_handles = as_type
+    (λ (service, (handle_from_server, handle_from_client)). record {
+      service = service;
+      handle_from_server = handle_from_server;
+      handle_from_client = handle_from_client;
+    })
+    (λ g. (g.service, (g.handle_from_server, g.handle_from_client)))
+    (number then unbounded then unbounded)
+
+abbrev pub spell_sec_parms : SecParms → List ℕ
+spell_sec_parms AuthNone = spelling.number 0
+spell_sec_parms (Sys a) = spelling.number 1 ++ auth_sys.spell a
+spell_sec_parms (RpcsecGss g) = spelling.number 6 ++ gss_handles.spell g
+
+abbrev pub FitsSecParms : SecParms → Type 0
+FitsSecParms AuthNone = Unit {0}
+FitsSecParms (Sys a) = auth_sys.Fits a
+FitsSecParms (RpcsecGss g) = gss_handles.Fits g
+
+abbrev pub sec_parms_arms : List (ℕ × (List ℕ → Option (SecParms × List ℕ)))
+sec_parms_arms =
+    (0, bare AuthNone)
+    ∷ (1, arm Sys auth_sys)
+    ∷ (6, arm RpcsecGss gss_handles)
+    ∷ []
+
+unfoldable pub sec_parms : Codec SecParms
+sec_parms = union spell_sec_parms FitsSecParms sec_parms_arms
+
+-- an array of them, as its bytes
+abbrev pub all_sec_parms : Codec (List ℕ)
+all_sec_parms = raw (array sec_parms)
+
+unfoldable pub commit_args : Codec Commit
+commit_args = as_type (λ (offset, count). record { offset = offset; count = count }) (λ c. (c.offset, c.count)) (hyper then number)
+
+unfoldable pub read_args : Codec Read
+read_args = as_type (λ (held, (offset, count)). record { stateid = held; offset = offset; count = count })
+    (λ r. (r.stateid, (r.offset, r.count))) (stateid then hyper then number)
+
+abbrev pub stable_hows : List StableHow
+stable_hows = StableHows.Unstable ∷ StableHows.DataSync ∷ StableHows.FileSync ∷ []
+
+unfoldable pub stable_how : Codec StableHow
+stable_how = listed stable_how_number stable_hows
+
+unfoldable pub write_args : Codec Write
+write_args = as_type
+    (λ (held, (offset, (stable, bytes))). record { stateid = held; offset = offset; stable = stable; bytes = bytes })
+    (λ w. (w.stateid, (w.offset, (w.stable, w.bytes))))
+    (stateid then hyper then stable_how then unbounded)
+
+unfoldable pub set_attr_args : Codec SetAttr
+set_attr_args = as_type (λ (held, obj_attributes). record { stateid = held; obj_attributes = obj_attributes })
+    (λ s. (s.stateid, s.obj_attributes)) (stateid then attributes)
+
+abbrev pub view_write : rust_write.Write → Write
+view_write w = record { stateid = w.stateid; offset = w.offset; stable = w.stable; bytes = w.bytes.now }
+
+abbrev pub view_set_attr : rust_set_attr.SetAttr → SetAttr
+view_set_attr s = record { stateid = s.stateid; obj_attributes = view_attributes s.obj_attributes }
+
+unfoldable pub spec_data : Codec SpecData
+spec_data = as_type (λ (specdata1, specdata2). record { specdata1 = specdata1; specdata2 = specdata2 }) (λ d. (d.specdata1, d.specdata2)) (number then number)
+
+abbrev pub spell_create_type : CreateType → List ℕ
+spell_create_type (Block d) = spelling.number 3 ++ spec_data.spell d
+spell_create_type (Character d) = spelling.number 4 ++ spec_data.spell d
+spell_create_type (Symlink linkdata) = spelling.number 5 ++ unbounded.spell linkdata
+spell_create_type (Other objtype) = spelling.number objtype
+
+abbrev pub FitsCreateType : CreateType → Type 0
+FitsCreateType (Block d) = spec_data.Fits d
+FitsCreateType (Character d) = spec_data.Fits d
+FitsCreateType (Symlink linkdata) = unbounded.Fits linkdata
+FitsCreateType (Other objtype) = (objtype < 2 ^ 32) × (objtype ≢ 3) × (objtype ≢ 4) × (objtype ≢ 5)
+
+abbrev pub create_type_arms : List (ℕ × (List ℕ → Option (CreateType × List ℕ)))
+create_type_arms =
+    (3, arm Block spec_data)
+    ∷ (4, arm Character spec_data)
+    ∷ (5, arm Symlink unbounded)
+    ∷ []
+
+unfoldable pub create_type : Codec CreateType
+create_type = union_or spell_create_type FitsCreateType create_type_arms Other
+
+unfoldable pub create_args : Codec Create
+create_args = as_type
+    (λ (objtype, (objname, createattrs)). record { objtype = objtype; objname = objname; createattrs = createattrs })
+    (λ c. (c.objtype, (c.objname, c.createattrs)))
+    (create_type then unbounded then attributes)
+
+unfoldable pub read_dir_args : Codec ReadDir
+read_dir_args = as_type
+    (λ (cookie, (cookieverf, (dircount, (maxcount, attr_request)))). record {
+      cookie = cookie;
+      cookieverf = cookieverf;
+      dircount = dircount;
+      maxcount = maxcount;
+      attr_request = attr_request;
+    })
+    (λ r. (r.cookie, (r.cookieverf, (r.dircount, (r.maxcount, r.attr_request)))))
+    (hyper then fixed 8 then number then number then bitmap)
+
+unfoldable pub rename_args : Codec Rename
+rename_args = as_type (λ (oldname, newname). record { oldname = oldname; newname = newname }) (λ r. (r.oldname, r.newname)) (unbounded then unbounded)
+
+abbrev pub secinfo_styles : List SecinfoStyle
+secinfo_styles = SecinfoStyles.CurrentFh ∷ SecinfoStyles.Parent ∷ []
+
+unfoldable pub secinfo_style : Codec SecinfoStyle
+secinfo_style = listed secinfo_style_number secinfo_styles
+
+abbrev pub view_create_type : rust_create_type.CreateType → CreateType
+view_create_type (CreateTypes.Block d) = Block d
+view_create_type (CreateTypes.Character d) = Character d
+view_create_type (CreateTypes.Symlink linkdata) = Symlink linkdata.now
+view_create_type (CreateTypes.Other objtype) = Other objtype
+
+abbrev pub view_create : rust_create.Create → Create
+view_create c = record { objtype = view_create_type c.objtype; objname = c.objname.now; createattrs = view_attributes c.createattrs }
+
+abbrev pub view_read_dir : rust_read_dir.ReadDir → ReadDir
+view_read_dir r = record {
+  cookie = r.cookie;
+  cookieverf = r.cookieverf;
+  dircount = r.dircount;
+  maxcount = r.maxcount;
+  attr_request = view_bitmap r.attr_request;
+}
+
+abbrev pub view_rename : rust_rename.Rename → Rename
+view_rename r = record { oldname = r.oldname.now; newname = r.newname.now }
+
+abbrev pub lock_types : List LockType
+lock_types = LockTypes.Read ∷ LockTypes.Write ∷ LockTypes.ReadW ∷ LockTypes.WriteW ∷ []
+
+unfoldable pub lock_type : Codec LockType
+lock_type = listed lock_type_number lock_types
+
+unfoldable pub open_to_lock_owner : Codec OpenToLockOwner
+open_to_lock_owner = as_type
+    (λ (open_seqid, (open_stateid, (lock_seqid, lock_owner))). record {
+      open_seqid = open_seqid;
+      open_stateid = open_stateid;
+      lock_seqid = lock_seqid;
+      lock_owner = lock_owner;
+    })
+    (λ o. (o.open_seqid, (o.open_stateid, (o.lock_seqid, o.lock_owner))))
+    (number then stateid then number then state_owner)
+
+unfoldable pub exist_lock_owner : Codec ExistLockOwner
+exist_lock_owner = as_type (λ (lock_stateid, lock_seqid). record { lock_stateid = lock_stateid; lock_seqid = lock_seqid })
+    (λ o. (o.lock_stateid, o.lock_seqid)) (stateid then number)
+
+abbrev pub spell_locker : Locker → List ℕ
+spell_locker (OpenOwner o) = spelling.number 1 ++ open_to_lock_owner.spell o
+spell_locker (LockOwner o) = spelling.number 0 ++ exist_lock_owner.spell o
+
+abbrev pub FitsLocker : Locker → Type 0
+FitsLocker (OpenOwner o) = open_to_lock_owner.Fits o
+FitsLocker (LockOwner o) = exist_lock_owner.Fits o
+
+abbrev pub locker_arms : List (ℕ × (List ℕ → Option (Locker × List ℕ)))
+locker_arms = (1, arm OpenOwner open_to_lock_owner) ∷ (0, arm LockOwner exist_lock_owner) ∷ []
+
+unfoldable pub locker : Codec Locker
+locker = union spell_locker FitsLocker locker_arms
+
+unfoldable pub lock_args : Codec Lock
+lock_args = as_type
+    (λ (locktype, (reclaim, (offset, (size, who)))). record { locktype = locktype; reclaim = reclaim; offset = offset; length = size; locker = who })
+    (λ l. (l.locktype, (l.reclaim, (l.offset, (l.length, l.locker)))))
+    (lock_type then flag then hyper then hyper then locker)
+
+unfoldable pub lock_t_args : Codec LockT
+lock_t_args = as_type
+    (λ (locktype, (offset, (size, owner))). record { locktype = locktype; offset = offset; length = size; owner = owner })
+    (λ l. (l.locktype, (l.offset, (l.length, l.owner))))
+    (lock_type then hyper then hyper then state_owner)
+
+unfoldable pub lock_u_args : Codec LockU
+lock_u_args = as_type
+    (λ (locktype, (seqid, (lock_stateid, (offset, size)))). record {
+      locktype = locktype;
+      seqid = seqid;
+      lock_stateid = lock_stateid;
+      offset = offset;
+      length = size;
+    })
+    (λ l. (l.locktype, (l.seqid, (l.lock_stateid, (l.offset, l.length)))))
+    (lock_type then number then stateid then hyper then hyper)
+
+abbrev pub view_open_to_lock_owner : rust_open_to_lock_owner.OpenToLockOwner → OpenToLockOwner
+view_open_to_lock_owner o = record {
+  open_seqid = o.open_seqid;
+  open_stateid = o.open_stateid;
+  lock_seqid = o.lock_seqid;
+  lock_owner = StateOwner.view o.lock_owner;
+}
+
+abbrev pub view_locker : rust_locker.Locker → Locker
+view_locker (Lockers.OpenOwner o) = OpenOwner (view_open_to_lock_owner o)
+view_locker (Lockers.LockOwner o) = LockOwner o
+
+abbrev pub view_lock : rust_lock.Lock → Lock
+view_lock l = record { locktype = l.locktype; reclaim = l.reclaim; offset = l.offset; length = l.length; locker = view_locker l.locker }
+
+abbrev pub view_lock_t : rust_lock_t.LockT → LockT
+view_lock_t l = record { locktype = l.locktype; offset = l.offset; length = l.length; owner = StateOwner.view l.owner }
+
+unfoldable pub impl_id : Codec ImplId
+impl_id = as_type (λ (domain, (name, date)). record { domain = domain; name = name; date = date })
+    (λ i. (i.domain, (i.name, i.date))) (unbounded then unbounded then time)
+
+unfoldable pub exchange_id_args : Codec ExchangeId
+exchange_id_args = as_type
+    (λ (verifier, (ownerid, (flags, made))). record { verifier = verifier; ownerid = ownerid; flags = flags; impl_id = made })
+    (λ e. (e.verifier, (e.ownerid, (e.flags, e.impl_id))))
+    (fixed 8 then opaque opaque_limit then number then led_by 0 (optional impl_id))
+
+-- an EXCHANGE_ID up to its state protection, where that is one of the two that are not served
+unfoldable pub protected : Codec (List ℕ × (List ℕ × (ℕ × ℕ)))
+protected = fixed 8 then opaque opaque_limit then number then only (λ n. n == 1 || n == 2) number
+
+unfoldable pub create_session_args : Codec CreateSession
+create_session_args = as_type
+    (λ (clientid, (sequence, (flags, (fore_chan_attrs, (back_chan_attrs, (cb_program, sec_parms)))))). record {
+      clientid = clientid;
+      sequence = sequence;
+      flags = flags;
+      fore_chan_attrs = fore_chan_attrs;
+      back_chan_attrs = back_chan_attrs;
+      cb_program = cb_program;
+      sec_parms = sec_parms;
+    })
+    (λ a. (a.clientid, (a.sequence, (a.flags, (a.fore_chan_attrs, (a.back_chan_attrs, (a.cb_program, a.sec_parms)))))))
+    (hyper then number then number then channel_attrs then channel_attrs then number then all_sec_parms)
+
+unfoldable pub sequence_args : Codec Sequence
+sequence_args = as_type
+    (λ (sessionid, (sequenceid, (slotid, (highest_slotid, cachethis)))). record {
+      sessionid = sessionid;
+      sequenceid = sequenceid;
+      slotid = slotid;
+      highest_slotid = highest_slotid;
+      cachethis = cachethis;
+    })
+    (λ s. (s.sessionid, (s.sequenceid, (s.slotid, (s.highest_slotid, s.cachethis)))))
+    (fixed 16 then number then number then number then flag)
+
+abbrev pub view_impl_id : rust_impl_id.ImplId → ImplId
+view_impl_id i = record { domain = i.domain.now; name = i.name.now; date = i.date }
+
+abbrev pub view_optional_impl_id : Option rust_impl_id.ImplId → Option ImplId
+view_optional_impl_id None = None
+view_optional_impl_id (Some i) = Some (view_impl_id i)
+
+abbrev pub view_exchange_id : rust_exchange_id.ExchangeId → ExchangeId
+view_exchange_id e = record { verifier = e.verifier; ownerid = e.ownerid.now; flags = e.flags; impl_id = view_optional_impl_id e.impl_id }
+
+abbrev pub view_create_session : rust_create_session.CreateSession → CreateSession
+view_create_session a = record {
+  clientid = a.clientid;
+  sequence = a.sequence;
+  flags = a.flags;
+  fore_chan_attrs = a.fore_chan_attrs;
+  back_chan_attrs = a.back_chan_attrs;
+  cb_program = a.cb_program;
+  sec_parms = a.sec_parms.now;
+}

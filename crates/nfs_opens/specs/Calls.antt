@@ -1,0 +1,86 @@
+-- What calls of `Opens` take, answer and leave beside what their operations come to: faults, want of memory, and a client's end, one open at a time.
+use Rattle.std.specs.Prelude.{◌==◌, Bool, ◌&&◌, List, [], ◌∷◌, Option, is_none, ◌≡◌, ℕ, not, Some, Result, Err, IsOk, IsTrue, None, filter, find, if◌then◌else◌}
+use Rattle.std.specs.List.{list_any}
+use Rattle.nfs_xdr.specs.Checks.{first_fault}
+use Rattle.nfs_xdr.specs.declared.status.Status.{Status}
+use Rattle.nfs_xdr.specs.declared.status.Status.TheVariants.{ShareDenied, ServerFault}
+use Rattle.nfs_ranges.specs.Holders.{dropped}
+use Rattle.nfs_opens.specs.Opening.{own_open}
+use Rattle.nfs_opens.specs.declared.opening.Ask.{Ask}
+use Rattle.nfs_opens.specs.StateId.{last_number}
+use Rattle.nfs_opens.specs.Table.{Table, Asked, clashes_with, Did}
+use Rattle.nfs_opens.specs.Locking.{lock_under, lock_known}
+use Rattle.nfs_opens.specs.declared.stateid.StateId.{StateId}
+use Rattle.nfs_opens.specs.declared.judging.Sort.TheVariants.{OpenOnly, LockOnly}
+use Rattle.nfs_opens.specs.declared.locking.Wish.{Wish}
+use Rattle.nfs_opens.specs.declared.locking.Locker.{Locker}
+use Rattle.nfs_opens.specs.declared.locking.Locker.TheVariants.{New, Known}
+use Rattle.nfs_opens.specs.declared.locking.OpenFault.{OpenFault}
+use Rattle.nfs_opens.specs.declared.locking.OpenFault.TheVariants.{Memory}
+use Rattle.nfs_opens.specs.Judging.{judge}
+use Rattle.nfs_opens.specs.Closing.{held_within, without_open}
+use Rattle.nfs_opens.specs.declared.records.OpenState.{OpenState}
+use Rattle.nfs_opens.specs.declared.records.LockState.{LockState}
+use Rattle.nfs_opens.specs.declared.closing.Leaving.{Leaving}
+use Rattle.nfs_opens.specs.declared.closing.Leaving.TheVariants.{Under, Of}
+use Rattle.nfs_opens.specs.Holding.{FileHolders, on_file}
+
+abbrev pub asked : Ask → Asked
+asked a = record { client = a.client; owner = a.owner.now; file = a.file; access = a.access; deny = a.deny }
+
+-- a share clash; and no number is left for a new open
+abbrev pub open_checks : Table → Asked → List (Bool × Status)
+open_checks t a =
+    (list_any (clashes_with a) t.opens, ShareDenied)
+    ∷ (is_none (own_open t a) && (t.last == last_number), ServerFault)
+    ∷ []
+
+abbrev pub open_fault : Table → Asked → Option Status
+open_fault t a = first_fault (open_checks t a)
+
+abbrev pub lock : Table → Locker → Wish → Did StateId OpenFault
+lock t (New under owner) w = lock_under t w under.number owner.now (judge t under w.client (Some w.file) OpenOnly)
+lock t (Known state) w = lock_known t w state.number (judge t state w.client (Some w.file) LockOnly)
+
+-- the call does what is said; or it wants memory where it would have been granted, and changes nothing
+abbrev pub LocksOrWants : Table → Did StateId OpenFault → Result StateId OpenFault → Table → Type 0
+LocksOrWants old did (Err Memory) new = IsOk did.answer × (new ≡ old)
+LocksOrWants old did answer new = (answer ≡ did.answer) × (new ≡ did.after)
+
+-- the bytes of a whole file, which are given up without memory
+abbrev pub is_whole : ℕ → ℕ → Bool
+is_whole first last = (first == 0) && (last == 0xffff_ffff_ffff_ffff)
+
+abbrev pub UnlocksOrWants : Table → Bool → Did StateId OpenFault → Result StateId OpenFault → Table → Type 0
+UnlocksOrWants old whole did (Err Memory) new = IsTrue (not whole) × IsOk did.answer × (new ≡ old)
+UnlocksOrWants old whole did answer new = (answer ≡ did.answer) × (new ≡ did.after)
+
+-- which lock states leave: those under an open, or a client's
+abbrev pub leaves : Leaving → LockState → Bool
+leaves (Under n) l = l.opened == n
+leaves (Of client) l = l.client == client
+
+-- one lock state after the other, of those that leave, gives up its bytes
+abbrev pub held_without : Leaving → List LockState → FileHolders → FileHolders
+held_without w [] held = held
+held_without w (l ∷ locks) held = held_without w locks (if leaves w l then on_file held l.file (λ h. dropped h l.number) else held)
+
+-- a client ends: its opens go, with its lock states and their bytes
+abbrev pub without_client : Table → ℕ → Table
+without_client t client = record t {
+  opens = filter (λ o. not (o.client == client)) t.opens;
+  locks = filter (λ l. not (l.client == client)) t.locks;
+  held = held_within (filter (λ l. not (l.client == client)) t.locks) t.held;
+}
+
+-- one open of a client goes: its file, and the table after it
+pub record Dropped : Type 0 where
+  pub file : Option ℕ
+  pub after : Table
+
+abbrev pub drop_open : Table → Option OpenState → Dropped
+drop_open t None = record { file = None; after = t }
+drop_open t (Some o) = record { file = Some o.file; after = without_open t o.number }
+
+abbrev pub drop_client : Table → ℕ → Dropped
+drop_client t client = drop_open t (find (λ o. o.client == client) t.opens)

@@ -1,0 +1,51 @@
+-- What holds of every table.
+use Rattle.std.specs.Prelude.{◌≡◌, ℕ, ◌≤◌, ◌^◌, None, ◌≢◌, suc, false, List}
+use Rattle.nfs_xdr.specs.Tables.{IsRising, In}
+use Rattle.nfs_ranges.specs.Holders.{Holders}
+use Rattle.nfs_ranges.specs.Facts.{IsBelow}
+use Rattle.nfs_opens.specs.Table.{Table, clashes_with, as_asked}
+use Rattle.nfs_opens.specs.declared.records.OpenState.{OpenState}
+use Rattle.nfs_opens.specs.declared.records.LockState.{LockState}
+use Rattle.nfs_opens.specs.Holding.{FileHolders, HasNoClash}
+
+-- no byte from 2^64 on is held
+abbrev pub HasNoByteBehind : Holders → Type 0
+HasNoByteBehind h = (s b : ℕ) → 2 ^ 64 ≤ b → h s b ≡ None
+
+-- the numbers rise, from low on
+abbrev pub Rises : {X : Type 0} → (X → ℕ) → ℕ → List X → Type 0
+Rises number low xs = (high : ℕ) × IsRising number low xs high
+
+-- a lock state's open stands, and is of the same client and file
+pub record IsUnder (opens : List OpenState) (l : LockState) (o : OpenState) : Type 0 where
+  pub stands : In o opens
+  pub number : o.number ≡ l.opened
+  pub client : o.client ≡ l.client
+  pub file : o.file ≡ l.file
+
+-- a holder of bytes of a file is a lock state that stands on that file
+pub record IsHolder (locks : List LockState) (f s : ℕ) (l : LockState) : Type 0 where
+  pub stands : In l locks
+  pub number : l.number ≡ s
+  pub file : l.file ≡ f
+
+abbrev pub AreHolders : List LockState → FileHolders → Type 0
+AreHolders locks held = (f s b : ℕ) → held f s b ≢ None → (l : LockState) × IsHolder locks f s l
+
+-- What holds of every table.
+pub record IsTable (t : Table) : Type 0 where
+  -- numbers rise, and were all given
+  pub opens : IsRising (λ o. o.number) 1 t.opens (suc t.last)
+  pub locks : IsRising (λ l. l.number) 1 t.locks (suc t.last)
+  -- no two opens of different owners clash
+  pub shares : (a b : OpenState) → In a t.opens → In b t.opens → clashes_with (as_asked a) b ≡ false
+  -- each lock state has its open
+  pub under : (l : LockState) → In l t.locks → (o : OpenState) × IsUnder t.opens l o
+  -- each holder of a byte is a lock state on that file
+  pub holders : AreHolders t.locks t.held
+  -- no byte has a writer beside another holder
+  pub bytes : (f : ℕ) → HasNoClash (t.held f)
+  -- a file has no byte from 2^64 on
+  pub within : (f : ℕ) → HasNoByteBehind (t.held f)
+  -- no number behind the last holds a byte
+  pub below : (f : ℕ) → IsBelow (t.held f) (suc t.last)
