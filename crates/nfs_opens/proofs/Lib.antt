@@ -7,6 +7,7 @@ pub mod IndexedLemmas
 pub mod ShareLemmas
 pub mod TableLemmas
 pub mod NumberLemmas
+pub mod LeaveLemmas
 pub mod LockLemmas
 pub mod StepLemmas
 pub mod LockedLemmas

@@ -1,5 +1,5 @@
 -- What a lock, a judged stateid and a closed open come to.
-use Rattle.std.proofs.Common.{◌≡◌, ◌≢◌, ◌⊎◌, inl, inr, ℕ, suc, ◌<◌, ◌≤◌, Bool, true, false, cond, not, List, [], ◌∷◌, map, length, Option, Some}
+use Rattle.std.proofs.Common.{◌≡◌, ◌≢◌, ◌⊎◌, inl, inr, ℕ, suc, ◌<◌, ◌≤◌, Bool, true, false, cond, not, List, [], ◌∷◌, Option, Some}
 use Rattle.std.proofs.Common.{None, refl, sym, ◌∙◌, ap, subst, arith}
 use Rattle.std.proofs.Math.Path.{fun_ext}
 use Rattle.std.specs.Prelude.{◌==◌, ◌^◌, ◌&&◌, filter, Result, Ok, Err, IsSome, nat_lt, if◌then◌else◌}
@@ -23,17 +23,15 @@ use Rattle.nfs_opens.specs.declared.records.OpenState.{OpenState}
 use Rattle.nfs_opens.specs.declared.records.LockState.{LockState}
 use Rattle.nfs_opens.specs.Holding.{FileHolders, on_file}
 use Rattle.nfs_xdr.specs.Tables.{In}
-use Rattle.nfs_xdr.proofs.Lists.{any_in, in_filter, stays_in, none_any, in_any, length_filter}
+use Rattle.nfs_xdr.proofs.Lists.{any_in, in_filter, stays_in, none_any, in_any}
 use Rattle.nfs_xdr.proofs.Tables.{in_once}
 use Rattle.nfs_opens.specs.Table.{Table, open_at, lock_at}
 use Rattle.nfs_opens.specs.Kept.{IsTable, IsHolder, AreHolders}
-use Rattle.nfs_opens.specs.declared.closing.Leaving.{Leaving}
 use Rattle.nfs_opens.specs.Closing.{stands, held_within}
-use Rattle.nfs_opens.specs.Calls.{held_without, leaves}
+use Rattle.nfs_opens.specs.Calls.{held_without}
 use Rattle.nfs_opens.proofs.FileLemmas.{file_here, file_other, on_file_same}
 use Rattle.nfs_opens.proofs.HolderLemmas.{set_keeps}
 use Rattle.nfs_opens.proofs.TableLemmas.{KeepsBytes, holders_left}
-use Rattle.std.proofs.lemmas.List.{length-map}
 
 -- who holds a byte behind a lock: the lock state that locks, in the range, or whoever held it
 held_then : (h : Holders) (n : ℕ) (kind : Kind) (first last s b : ℕ) → ((n ≡ s) × (first ≤ b) × (b ≤ last)) ⊎ (holding h n kind first last s b ≡ h s b)
@@ -67,18 +65,18 @@ sets_bytes t locks n file first last next kind l is more holder below_next le fi
 }
 
 -- a lock state among those that leave
-abbrev goes : Leaving → ℕ → ℕ → LockState → Type 0
-goes w f s l = (leaves w l ≡ true) × (l.file ≡ f) × (l.number ≡ s)
+abbrev goes : (LockState → Bool) → ℕ → ℕ → LockState → Type 0
+goes w f s l = (w l ≡ true) × (l.file ≡ f) × (l.number ≡ s)
 
-abbrev drops : Leaving → LockState → FileHolders → FileHolders
-drops w l held = if leaves w l then on_file held l.file (λ h. dropped h l.number) else held
+abbrev drops : (LockState → Bool) → LockState → FileHolders → FileHolders
+drops w l held = if w l then on_file held l.file (λ h. dropped h l.number) else held
 
 -- one of them gives up its bytes, or nothing changes
-drop_one : (w : Leaving) (l : LockState) (held : FileHolders) (f s b : ℕ)
+drop_one : (w : LockState → Bool) (l : LockState) (held : FileHolders) (f s b : ℕ)
     → (goes w f s l × (drops w l held f s b ≡ None)) ⊎ ((goes w f s l → ⊥) × (drops w l held f s b ≡ held f s b))
 drop_one w l held f s b =
     let after : FileHolders = on_file held l.file (λ h. dropped h l.number) in
-    elim (cases_Bool (leaves w l)) [
+    elim (cases_Bool (w l)) [
       | inr other ↦ inr (λ g. absurd (false≢true (sym other ∙ g.0)), ap (λ (v : Bool). (cond v after held) f s b) other)
       | inl under ↦ (let first : drops w l held f s b ≡ after f s b = ap (λ (v : Bool). (cond v after held) f s b) under in
           elim (cases_eq f l.file) [
@@ -96,19 +94,19 @@ drop_one w l held f s b =
           ])
     ]
 
-without_none : (w : Leaving) (locks : List LockState) (held : FileHolders) (f s b : ℕ) → held f s b ≡ None → held_without w locks held f s b ≡ None
+without_none : (w : LockState → Bool) (locks : List LockState) (held : FileHolders) (f s b : ℕ) → held f s b ≡ None → held_without w locks held f s b ≡ None
 without_none w [] held f s b e = e
 without_none w (l ∷ locks) held f s b e =
     without_none w locks (drops w l held) f s b (elim (drop_one w l held f s b) [ inl gone ↦ gone.1 | inr same ↦ same.1 ∙ e ])
 
-without_gone : (w : Leaving) (locks : List LockState) (held : FileHolders) (f s b : ℕ) (k : LockState) → In k locks → goes w f s k
+without_gone : (w : LockState → Bool) (locks : List LockState) (held : FileHolders) (f s b : ℕ) (k : LockState) → In k locks → goes w f s k
     → held_without w locks held f s b ≡ None
 without_gone w [] held f s b k there g = absurd there
 without_gone w (l ∷ locks) held f s b k (inl is) g =
     without_none w locks (drops w l held) f s b (elim (drop_one w l held f s b) [ inl gone ↦ gone.1 | inr same ↦ absurd (same.0 (subst (goes w f s) is g)) ])
 without_gone w (l ∷ locks) held f s b k (inr more) g = without_gone w locks (drops w l held) f s b k more g
 
-without_kept : (w : Leaving) (locks : List LockState) (held : FileHolders) (f s b : ℕ) → ((k : LockState) → In k locks → goes w f s k → ⊥)
+without_kept : (w : LockState → Bool) (locks : List LockState) (held : FileHolders) (f s b : ℕ) → ((k : LockState) → In k locks → goes w f s k → ⊥)
     → held_without w locks held f s b ≡ held f s b
 without_kept w [] held f s b none = refl
 without_kept w (l ∷ locks) held f s b none =
@@ -116,27 +114,28 @@ without_kept w (l ∷ locks) held f s b none =
     ∙ elim (drop_one w l held f s b) [ inl gone ↦ absurd (none l (inl refl) gone.0) | inr same ↦ same.1 ]
 
 -- where none leaves, nothing changes
-pub without_any : (w : Leaving) (locks : List LockState) (held : FileHolders) → list_any (leaves w) locks ≡ false → held_without w locks held ≡ held
-without_any w locks held none = fun_ext (λ f. fun_ext (λ s. fun_ext (λ b.
-    without_kept w locks held f s b (λ k there g. absurd (false≢true (sym (none_any (leaves w) locks k none there) ∙ g.0))))))
+pub without_none_leaves : (w : LockState → Bool) (locks : List LockState) (held : FileHolders) → ((k : LockState) → In k locks → w k ≡ false)
+    → held_without w locks held ≡ held
+without_none_leaves w locks held none = fun_ext (λ f. fun_ext (λ s. fun_ext (λ b.
+    without_kept w locks held f s b (λ k there g. absurd (false≢true (sym (none k there) ∙ g.0))))))
 
 pub some_or_none : (o : Option Kind) → (o ≢ None) ⊎ (o ≡ None)
 some_or_none None = inr refl
 some_or_none (Some k) = inl (λ e. absurd cc)
 
 -- of the bytes of a table, those go whose lock state goes
-pub without_is_within : (t : Table) (w : Leaving) → IsTable t → held_without w t.locks t.held ≡ held_within (filter (λ l. not (leaves w l)) t.locks) t.held
+pub without_is_within : (t : Table) (w : LockState → Bool) → IsTable t → held_without w t.locks t.held ≡ held_within (filter (λ l. not (w l)) t.locks) t.held
 without_is_within t w is = fun_ext (λ f. fun_ext (λ s. fun_ext (λ b. elim (some_or_none (t.held f s b)) [
   | inr none ↦ without_none w t.locks t.held f s b none ∙ sym (within _ _ none)
-  | inl some ↦ (let (l, holder) = is.holders f s b some in elim (cases_Bool (leaves w l)) [
+  | inl some ↦ (let (l, holder) = is.holders f s b some in elim (cases_Bool (w l)) [
     | inl under ↦ without_gone w t.locks t.held f s b l holder.stands (under, holder.file, holder.number)
         ∙ sym (ap (λ (v : Bool). cond v (t.held f s b) None) (left_out f s l holder under))
     | inr other ↦ without_kept w t.locks t.held f s b
         (λ k there g. absurd (false≢true (sym other
-        ∙ (ap (leaves w) (sym (same k l there holder.stands (g.2 ∙ sym holder.number))) ∙ g.0))))
+        ∙ (ap w (sym (same k l there holder.stands (g.2 ∙ sym holder.number))) ∙ g.0))))
         ∙ sym (ap (λ (v : Bool). cond v (t.held f s b) None)
-        (any_in (λ (l : LockState). l.number == s) (filter (λ l. not (leaves w l)) t.locks) l
-        (stays_in (λ (l : LockState). not (leaves w l)) t.locks l holder.stands (ap not other)) (eq-eqb l.number s holder.number)))
+        (any_in (λ (l : LockState). l.number == s) (filter (λ l. not (w l)) t.locks) l
+        (stays_in (λ (l : LockState). not (w l)) t.locks l holder.stands (ap not other)) (eq-eqb l.number s holder.number)))
   ])
 ])))
   where
@@ -147,14 +146,14 @@ without_is_within t w is = fun_ext (λ f. fun_ext (λ s. fun_ext (λ b. elim (so
     same : (k l : LockState) → In k t.locks → In l t.locks → k.number ≡ l.number → k ≡ l
     same k l a b e = in_once (λ (l : LockState). l.number) 1 (suc t.last) t.locks k l is.locks a b e
 
-    left_out : (f s : ℕ) (l : LockState) → IsHolder t.locks f s l → leaves w l ≡ true → stands (filter (λ l. not (leaves w l)) t.locks) s ≡ false
-    left_out f s l holder under = elim (cases_Bool (stands (filter (λ l. not (leaves w l)) t.locks) s)) [
+    left_out : (f s : ℕ) (l : LockState) → IsHolder t.locks f s l → w l ≡ true → stands (filter (λ l. not (w l)) t.locks) s ≡ false
+    left_out f s l holder under = elim (cases_Bool (stands (filter (λ l. not (w l)) t.locks) s)) [
       | inr never ↦ never
       | inl stood ↦
-          (let (k, in_k, k_is) = in_any (λ (l : LockState). l.number == s) (filter (λ l. not (leaves w l)) t.locks) stood in
-          let was = in_filter (λ (l : LockState). not (leaves w l)) t.locks k in_k in
+          (let (k, in_k, k_is) = in_any (λ (l : LockState). l.number == s) (filter (λ l. not (w l)) t.locks) stood in
+          let was = in_filter (λ (l : LockState). not (w l)) t.locks k in_k in
           let is_l : k ≡ l = same k l was.0 holder.stands (eqb-true _ _ k_is ∙ sym holder.number) in
-          absurd (false≢true (sym (ap not (ap (leaves w) is_l ∙ under)) ∙ was.1)))
+          absurd (false≢true (sym (ap not (ap w is_l ∙ under)) ∙ was.1)))
     ]
 
 -- a file on which no lock state stands has no holders
@@ -261,12 +260,12 @@ same_table opens opens' locks locks' held held' last instance o l h =
     ap A o ∙ (ap B l ∙ ap C h)
 
 -- what is left when lock states leave
-pub left_held : (t : Table) (w : Leaving) (held : FileHolders) → IsTable t → held ≡ held_without w t.locks t.held
-    → held ≡ held_within (filter (λ l. not (leaves w l)) t.locks) t.held
+pub left_held : (t : Table) (w : LockState → Bool) (held : FileHolders) → IsTable t → held ≡ held_without w t.locks t.held
+    → held ≡ held_within (filter (λ l. not (w l)) t.locks) t.held
 left_held t w held is h = h ∙ without_is_within t w is
 
-pub left_holders : (t : Table) (w : Leaving) (after : List LockState) (held : FileHolders) → IsTable t
-    → after ≡ filter (λ l. not (leaves w l)) t.locks → held ≡ held_without w t.locks t.held → AreHolders after held
+pub left_holders : (t : Table) (w : LockState → Bool) (after : List LockState) (held : FileHolders) → IsTable t
+    → after ≡ filter (λ l. not (w l)) t.locks → held ≡ held_without w t.locks t.held → AreHolders after held
 left_holders t w after held is a h =
     subst (λ (ls : List LockState). AreHolders ls held) (sym a)
-    (subst (λ (k : FileHolders). AreHolders (filter (λ l. not (leaves w l)) t.locks) k) (sym (left_held t w held is h)) (holders_left t (λ l. not (leaves w l)) is))
+    (subst (λ (k : FileHolders). AreHolders (filter (λ l. not (w l)) t.locks) k) (sym (left_held t w held is h)) (holders_left t (λ l. not (w l)) is))

@@ -1,11 +1,12 @@
 -- The lock states by their files: a walk over those of one file, and which files stay listed.
 use Rattle.std.proofs.Common.{◌≡◌, ℕ, suc, ◌-◌, ◌<◌, Bool, true, false, cond, List, [], ◌∷◌, map, Some, None, refl, sym, ◌∙◌, ap, subst, arith, inl, inr}
-use Rattle.std.specs.Prelude.{◌==◌, ◌&&◌, nat_lt, find, filter, if◌then◌else◌}
+use Rattle.std.specs.Prelude.{◌==◌, ◌&&◌, nat_lt, find, filter, IfSome, if◌then◌else◌}
 use Rattle.std.specs.List.{list_any}
 use Rattle.std.proofs.Math.Path.{fun_ext}
 use Rattle.std.proofs.lemmas.Bool.{cases_Bool, cases_eq, and_parts, eqb-true, eq-eqb, ne_eqb, false≢true}
-use Rattle.nfs_xdr.proofs.Lists.{find_in, any_in, in_any, none_in, none_any}
-use Rattle.nfs_xdr.proofs.Tables.{in_once}
+use Rattle.nfs_xdr.specs.Tables.{In}
+use Rattle.nfs_xdr.proofs.Lists.{find_in, none_any}
+use Rattle.nfs_xdr.proofs.Tables.{at_of_in}
 use Rattle.nfs_ranges.specs.Holders.{LockedBytes, nobody}
 use Rattle.nfs_opens.specs.declared.records.OpenState.{OpenState}
 use Rattle.nfs_opens.specs.declared.records.LockState.{LockState}
@@ -13,10 +14,11 @@ use Rattle.nfs_opens.specs.Holding.{held_by}
 use Rattle.nfs_opens.specs.Locking.{is_locker, raised}
 use Rattle.nfs_opens.specs.Table.{Table, open_at}
 use Rattle.nfs_opens.specs.Kept.{IsTable, AreHolders}
-use Rattle.nfs_opens.proofs.IndexLemmas.{find_begun, any_begun, find_done, any_done, find_hit, find_missed, any_missed, come_bounds, index_changed}
+use Rattle.nfs_opens.proofs.IndexLemmas.{find_begun, find_done, find_hit, find_missed, come_bounds, index_changed}
 use Rattle.nfs_opens.specs.declared.index.Pair.{Pair}
 use Rattle.nfs_opens.specs.Index.{IsIndex}
 use Rattle.nfs_opens.proofs.LockLemmas.{some_or_none}
+use Rattle.nfs_opens.proofs.StepLemmas.{if_some, all_some}
 
 abbrev file_of : LockState → ℕ
 file_of l = l.file
@@ -30,20 +32,11 @@ BehindLock file after l = (l.file == file) && nat_lt after l.number
 abbrev pub ComingLock : ℕ → (LockState → Bool) → LockState → Bool
 ComingLock after q l = nat_lt after l.number && q l
 
-abbrev pub under_here : ℕ → ℕ → LockState → Bool
-under_here file opened l = (l.file == file) && (l.opened == opened)
-
 pub locker_file : (client : ℕ) (owner : List ℕ) (file : ℕ) (l : LockState) → is_locker client owner file l ≡ true → l.file ≡ file
 locker_file client owner file l e = eqb-true l.file file (and_parts (l.file == file) _ e).0
 
-pub under_file : (file opened : ℕ) (l : LockState) → under_here file opened l ≡ true → l.file ≡ file
-under_file file opened l e = eqb-true l.file file (and_parts (l.file == file) _ e).0
-
 pub lock_begins : (t : Table) (q : LockState → Bool) → IsTable t → find (ComingLock 0 q) t.locks ≡ find q t.locks
 lock_begins t q is = find_begun file_of number_of q (suc t.last) t.locks is.locks
-
-pub any_lock_begins : (t : Table) (q : LockState → Bool) → IsTable t → list_any (ComingLock 0 q) t.locks ≡ list_any q t.locks
-any_lock_begins t q is = any_begun file_of number_of q (suc t.last) t.locks is.locks
 
 -- each step goes on, and ends
 pub lock_bounds : (t : Table) (file after : ℕ) (l : LockState) → IsTable t → find (BehindLock file after) t.locks ≡ Some l
@@ -64,52 +57,19 @@ module _ (t : Table) (q : LockState → Bool) (file : ℕ) (only : (l : LockStat
   pub lock_ends : (after : ℕ) → find (BehindLock file after) t.locks ≡ None → find (ComingLock after q) t.locks ≡ None
   lock_ends after = find_done file_of number_of q file only 1 (suc t.last) t.locks is.locks after
 
-  pub any_lock_hits : (after : ℕ) (l : LockState) → find (BehindLock file after) t.locks ≡ Some l → q l ≡ true → list_any q t.locks ≡ true
-  any_lock_hits after l found passes = any_in q t.locks l (find_in (BehindLock file after) t.locks l found).0 passes
-
-  pub any_lock_misses : (after : ℕ) (l : LockState) → find (BehindLock file after) t.locks ≡ Some l → q l ≡ false
-      → list_any (ComingLock l.number q) t.locks ≡ list_any (ComingLock after q) t.locks
-  any_lock_misses after l = any_missed file_of number_of q file only 1 (suc t.last) t.locks is.locks after l
-
-  pub any_lock_ends : (after : ℕ) → find (BehindLock file after) t.locks ≡ None → list_any (ComingLock after q) t.locks ≡ false
-  any_lock_ends after = any_done file_of number_of q file only 1 (suc t.last) t.locks is.locks after
-
--- whether an open of a file has the lock state that is looked at
-pub under_seen : (t : Table) (file opened after : ℕ) (l : LockState) (b : Bool) → find (BehindLock file after) t.locks ≡ Some l → (l.opened == opened) ≡ b
-    → under_here file opened l ≡ b
-under_seen t file opened after l b found is =
-    let here : (l.file == file) ≡ true = (and_parts (l.file == file) (nat_lt after l.number) (find_in (BehindLock file after) t.locks l found).1).0 in rw here is
-
 -- a lock state under an open is on the open's file
-pub under_some : (t : Table) (n : ℕ) (o : OpenState) → IsTable t → open_at t n ≡ Some o
-    → list_any (under_here o.file n) t.locks ≡ list_any (λ l. l.opened == n) t.locks
-under_some t n o is found =
-    elim (cases_Bool (list_any (λ (l : LockState). l.opened == n) t.locks)) [
-      | inl some ↦
-          (let (l, there, under) = in_any (λ (l : LockState). l.opened == n) t.locks some in
-          let (x, is_x) = is.under l there in
-          let at = find_in (λ (o : OpenState). o.number == n) t.opens o found in
-          let one : x ≡ o = in_once (λ (o : OpenState). o.number) 1 (suc t.last) t.opens x o is.opens is_x.stands at.0
-          (is_x.number ∙ (eqb-true l.opened n under ∙ sym (eqb-true o.number n at.1))) in
-          let file : (l.file == o.file) ≡ true = eq-eqb l.file o.file (sym is_x.file ∙ ap (λ (o : OpenState). o.file) one) in
-          any_in (under_here o.file n) t.locks l there (rw file under) ∙ sym some)
-      | inr none ↦ elim (cases_Bool (list_any (under_here o.file n) t.locks)) [
-        | inr also ↦ also ∙ sym none
-        | inl some ↦ (let (l, there, under) = in_any (under_here o.file n) t.locks some in
-            absurd (false≢true (sym (none_any (λ (l : LockState). l.opened == n) t.locks l none there) ∙ (and_parts (l.file == o.file) _ under).1)))
-      ]
-    ]
+pub under_file : (t : Table) (n file : ℕ) → IsTable t → IfSome (open_at t n) (λ o. o.file ≡ file) → (l : LockState) → In l t.locks → (l.opened == n) ≡ true
+    → l.file ≡ file
+under_file t n file is of l there under =
+    let (o, is_under) = is.under l there in
+    let number : o.number ≡ n = is_under.number ∙ eqb-true l.opened n under in
+    let found : open_at t n ≡ Some o = ap (open_at t) (sym number) ∙ at_of_in (λ (o : OpenState). o.number) 1 (suc t.last) t.opens o is.opens is_under.stands in
+    sym is_under.file ∙ if_some (open_at t n) o (λ o. o.file ≡ file) found of
 
-pub under_none : (t : Table) (n : ℕ) → IsTable t → open_at t n ≡ None → list_any (λ l. l.opened == n) t.locks ≡ false
-under_none t n is gone =
-    elim (cases_Bool (list_any (λ (l : LockState). l.opened == n) t.locks)) [
-      | inr none ↦ none
-      | inl some ↦
-          (let (l, there, under) = in_any (λ (l : LockState). l.opened == n) t.locks some in
-          let (x, is_x) = is.under l there in
-          absurd (false≢true (sym (none_in (λ (o : OpenState). o.number == n) t.opens x gone is_x.stands)
-          ∙ eq-eqb x.number n (is_x.number ∙ eqb-true l.opened n under))))
-    ]
+-- an open that is found is the one of its number
+pub its_file : (t : Table) (p : OpenState → Bool) (o : OpenState) → IsTable t → find p t.opens ≡ Some o → IfSome (open_at t o.number) (λ x. x.file ≡ o.file)
+its_file t p o is found = all_some (open_at t o.number) o (λ x. x.file ≡ o.file)
+    (at_of_in (λ (o : OpenState). o.number) 1 (suc t.last) t.opens o is.opens (find_in p t.opens o found).0) refl
 
 -- the files that pass a test of their numbers stay listed
 listed : (p : ℕ → Bool) (es : List (ℕ × LockedBytes)) (f : ℕ) → held_by (filter (λ e. p e.0) es) f ≡ cond (p f) (held_by es f) nobody

@@ -1,5 +1,5 @@
 -- How opens lie: in blocks, by rising numbers, each with opens that stand next to each other (RFC 8881 section 9.7).
-use Rattle.std.specs.Prelude.{◌≡◌, ◌≢◌, ℕ, ◌<◌, nat_lt, Bool, true, length, List, [], ◌∷◌, Option, Some, None, IfSome}
+use Rattle.std.specs.Prelude.{◌≡◌, ◌≢◌, ℕ, ◌<◌, nat_lt, Bool, true, length, List, [], ◌∷◌, Option, IfSome}
 use Rattle.nfs_xdr.specs.Tables.{In}
 use Rattle.nfs_opens.specs.declared.records.OpenState.{OpenState}
 use Rattle.nfs_opens.specs.Flat.{flat, last_of}

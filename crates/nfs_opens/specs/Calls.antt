@@ -21,8 +21,6 @@ use Rattle.nfs_opens.specs.Judging.{judge}
 use Rattle.nfs_opens.specs.Closing.{held_within, without_open}
 use Rattle.nfs_opens.specs.declared.records.OpenState.{OpenState}
 use Rattle.nfs_opens.specs.declared.records.LockState.{LockState}
-use Rattle.nfs_opens.specs.declared.closing.Leaving.{Leaving}
-use Rattle.nfs_opens.specs.declared.closing.Leaving.TheVariants.{Under, Of}
 use Rattle.nfs_opens.specs.Holding.{FileHolders, on_file}
 
 abbrev pub asked : Ask → Asked
@@ -55,15 +53,10 @@ abbrev pub UnlocksOrWants : Table → Bool → Did StateId OpenFault → Result 
 UnlocksOrWants old whole did (Err Memory) new = IsTrue (not whole) × IsOk did.answer × (new ≡ old)
 UnlocksOrWants old whole did answer new = (answer ≡ did.answer) × (new ≡ did.after)
 
--- which lock states leave: those under an open, or a client's
-abbrev pub leaves : Leaving → LockState → Bool
-leaves (Under n) l = l.opened == n
-leaves (Of client) l = l.client == client
-
 -- one lock state after the other, of those that leave, gives up its bytes
-abbrev pub held_without : Leaving → List LockState → FileHolders → FileHolders
-held_without w [] held = held
-held_without w (l ∷ locks) held = held_without w locks (if leaves w l then on_file held l.file (λ h. dropped h l.number) else held)
+abbrev pub held_without : (LockState → Bool) → List LockState → FileHolders → FileHolders
+held_without leaves [] held = held
+held_without leaves (l ∷ locks) held = held_without leaves locks (if leaves l then on_file held l.file (λ h. dropped h l.number) else held)
 
 -- a client ends: its opens go, with its lock states and their bytes
 abbrev pub without_client : Table → ℕ → Table

@@ -1,6 +1,6 @@
 //! The opens by their numbers, in blocks, so that one that goes moves those of its block alone.
 
-ghost use Rattle.std.specs.Prelude.{◌≡◌, ◌≢◌, ◌==◌, ◌+◌, ◌<◌, ◌≤◌, ◌++◌, ◌∷◌, [], true, false, not, length, filter, find, map, vec_capacity, List, slice_get, slice_index_or, if◌then◌else◌, None, IfSome, IfOk, OnOk};
+ghost use Rattle.std.specs.Prelude.{◌≡◌, ◌≢◌, ◌==◌, ◌+◌, ◌<◌, ◌≤◌, ◌++◌, ◌∷◌, [], true, false, not, length, filter, find, map, vec_capacity, List, slice_get, slice_index_or, if◌then◌else◌, None, IfSome, IfNone, IfOk, OnOk, ℕ, nat_lt};
 ghost use Rattle.std.specs.Option.{option_copied};
 ghost use Rattle.std.specs.List.Sorted.{IsPartitionPoint};
 ghost use Rattle.nfs_xdr.specs.Tables.{In};
@@ -57,7 +57,7 @@ impl OpenBlock {
     }
 
     fn has_room(&self) -> bool
-        ensures { result ≡ true → length self.now < 64 }
+        ensures { result ≡ nat_lt (length self.now) 64 }
     {
         self.opens.len() < MOST
     }
@@ -167,7 +167,8 @@ fn block_at(blocks: &[OpenBlock], place: usize) -> Option<&OpenBlock>
 
 /// The place of the last block, where it has room for one more open.
 fn place_with_room(blocks: &[OpenBlock]) -> Option<usize>
-    ensures { IfSome result (λ i. (length blocks.now ≡ i + 1) × ((d : List OpenState) → length (slice_index_or blocks.now i d) < 64)) }
+    ensures some { IfSome result (λ i. (length blocks.now ≡ i + 1) × ((d : List OpenState) → length (slice_index_or blocks.now i d) < 64)) }
+    ensures none { IfNone result ((i : ℕ) (d : List OpenState) → length blocks.now ≡ i + 1 → 64 ≤ length (slice_index_or blocks.now i d)) }
 {
     if blocks.is_empty() {
         return None;

@@ -1,14 +1,15 @@
 //! CLOSE, the end of a client, and FREE_STATEID (RFC 8881 sections 18.2, 8.4.2 and 18.38).
 
-ghost use Rattle.std.specs.Prelude.{◌≡◌, ◌≤◌, ◌==◌, ◌&&◌, false, not, filter, find, length, vec_capacity};
-ghost use Rattle.std.specs.List.{list_any};
-ghost use Rattle.nfs_opens.specs.Holding.{held_by};
-ghost use Rattle.nfs_opens.specs.Table.{table, lock_at};
-ghost use Rattle.nfs_opens.specs.Kept.{AreHolders, IsTable, Rises};
+ghost use Rattle.std.specs.Prelude.{◌≡◌, ◌==◌, true, not, filter, IfSome};
+ghost use Rattle.nfs_ranges.specs.Holders.{dropped};
+ghost use Rattle.nfs_xdr.specs.Tables.{In};
+ghost use Rattle.nfs_opens.specs.Holding.{held_by, on_file};
+ghost use Rattle.nfs_opens.specs.Table.{table, open_at, lock_at};
+ghost use Rattle.nfs_opens.specs.Kept.{AreHolders, Rises};
 ghost use Rattle.nfs_opens.specs.Blocks.{goes, IsSearched};
 ghost use Rattle.nfs_opens.specs.Index.{IsIndex, marked};
 ghost use Rattle.nfs_opens.specs.Closing.{without_open, close, free_lock, free};
-ghost use Rattle.nfs_opens.specs.Calls.{leaves, without_client, drop_client, held_without};
+ghost use Rattle.nfs_opens.specs.Calls.{without_client, drop_client, held_without};
 
 use crate::blocks::Index;
 use crate::by_number::ByNumber;
@@ -16,35 +17,15 @@ use crate::index::Pair;
 use crate::judging::{Seat, Sort};
 use crate::locked_files::LockedFiles;
 use crate::opens::Opens;
-use crate::records::{LockState, is_locked, lock_in, place_of_lock};
+use crate::records::{LockState, is_locked, lock_in, next_lock_in, place_of_lock};
 use crate::stateid::StateId;
 use nfs_xdr::Status;
-
-/// Which lock states leave.
-#[derive(Clone, Copy)]
-pub(crate) enum Leaving {
-    /// Those under an open.
-    Under(u64),
-    /// A client's.
-    Of(u64),
-}
-
-impl Leaving {
-    fn takes(self, lock: &LockState) -> bool
-        ensures { result ≡ leaves self lock.now }
-    {
-        match self {
-            Leaving::Under(opened) => lock.opened == opened,
-            Leaving::Of(client) => lock.client == client,
-        }
-    }
-}
 
 /// Which pairs of an index go.
 #[derive(Clone, Copy)]
 pub(crate) enum Going<'a> {
-    /// Those of lock states that leave.
-    Locks(&'a [LockState], Leaving),
+    /// Those of a client's lock states.
+    Locks(&'a [LockState], u64),
     /// Those of a client's opens.
     Opens(&'a ByNumber, u64),
     /// Those that belong to a client.
@@ -57,7 +38,7 @@ impl Going<'_> {
         ensures { result ≡ goes self.entry pair }
     {
         match self {
-            Going::Locks(locks, leaving) => is_leaving(locks, pair.number, leaving),
+            Going::Locks(locks, client) => is_clients_lock(locks, pair.number, client),
             Going::Opens(opens, client) => is_clients(opens, pair.number, client),
             Going::Owned(client) => pair.of == client,
         }
@@ -117,12 +98,12 @@ fn drop_lock(locks: &mut Vec<LockState>, number: u64)
     }
 }
 
-fn is_leaving(locks: &[LockState], number: u64, leaving: Leaving) -> bool
+fn is_clients_lock(locks: &[LockState], number: u64, client: u64) -> bool
     requires { Rises (λ l. l.number) 1 locks.now }
-    ensures { result ≡ marked (λ l. l.number) (leaves leaving) locks.now number }
+    ensures { result ≡ marked (λ l. l.number) (λ l. l.client == client) locks.now number }
 {
     match lock_in(locks, number) {
-        Some(lock) => leaving.takes(lock),
+        Some(lock) => lock.client == client,
         None => false,
     }
 }
@@ -136,51 +117,89 @@ fn is_clients(opens: &ByNumber, number: u64, client: u64) -> bool
     }
 }
 
-/// The lock states that leave hold no bytes from now on.
-fn drop_bytes(files: &mut LockedFiles, locks: &[LockState], leaving: Leaving)
-    ensures { held_by files.new ≡ held_without leaving locks.now (held_by files.old) }
+/// A client's lock states hold no bytes from now on.
+fn drop_bytes(files: &mut LockedFiles, locks: &[LockState], client: u64)
+    ensures { held_by files.new ≡ held_without (λ l. l.client == client) locks.now (held_by files.old) }
 {
     for lock in locks {
-        if leaving.takes(lock) {
+        if lock.client == client {
             files.drop_state(lock.file, lock.number);
         }
     }
 }
 
-fn drop_lock_pairs(by_file: &mut Index, locks: &[LockState], leaving: Leaving)
+fn drop_lock_pairs(by_file: &mut Index, locks: &[LockState], client: u64)
     requires { Rises (λ l. l.number) 1 locks.now }
-    ensures { by_file.new.items ≡ filter (λ p. not (marked (λ l. l.number) (leaves leaving) locks.now p.number)) by_file.old.items }
+    ensures { by_file.new.items ≡ filter (λ p. not (marked (λ l. l.number) (λ l. l.client == client) locks.now p.number)) by_file.old.items }
 {
-    by_file.keep(Going::Locks(locks, leaving));
+    by_file.keep(Going::Locks(locks, client));
 }
 
-fn drop_locks(locks: &mut Vec<LockState>, leaving: Leaving)
-    ensures { locks.new.items ≡ filter (λ l. not (leaves leaving l)) locks.old.items }
+fn drop_locks(locks: &mut Vec<LockState>, client: u64)
+    ensures { locks.new.items ≡ filter (λ l. not (l.client == client)) locks.old.items }
 {
-    locks.retain(|l| !leaving.takes(l));
+    locks.retain(|l| l.client != client);
 }
 
-/// The lock states that leave go, with the bytes that they hold. `any`: whether one may leave.
-fn leave(
+/// A client's lock states go, with the bytes that they hold.
+fn leave_client(
     files: &mut LockedFiles,
     locks: &mut Vec<LockState>,
     by_file: &mut Index,
-    leaving: Leaving,
-    any: bool,
+    client: u64,
 )
     requires rises { Rises (λ l. l.number) 1 locks.old.items }
     requires index { IsIndex (λ l. l.file) (λ l. l.number) locks.old.items by_file.old.items }
-    requires any { any ≡ false → list_any (leaves leaving) locks.old.items ≡ false }
-    ensures held { held_by files.new ≡ held_without leaving locks.old.items (held_by files.old) }
-    ensures locks { locks.new.items ≡ filter (λ l. not (leaves leaving l)) locks.old.items }
-    ensures index { IsIndex (λ l. l.file) (λ l. l.number) (filter (λ l. not (leaves leaving l)) locks.old.items) by_file.new.items }
+    ensures held { held_by files.new ≡ held_without (λ l. l.client == client) locks.old.items (held_by files.old) }
+    ensures locks { locks.new.items ≡ filter (λ l. not (l.client == client)) locks.old.items }
+    ensures index { IsIndex (λ l. l.file) (λ l. l.number) (filter (λ l. not (l.client == client)) locks.old.items) by_file.new.items }
 {
-    if !any {
-        return;
+    drop_bytes(files, locks, client);
+    drop_lock_pairs(by_file, locks, client);
+    drop_locks(locks, client);
+}
+
+/// A lock state of a file goes, with the bytes that it holds.
+fn leave_one(
+    files: &mut LockedFiles,
+    locks: &mut Vec<LockState>,
+    by_file: &mut Index,
+    file: u64,
+    number: u64,
+)
+    requires rises { Rises (λ l. l.number) 1 locks.old.items }
+    requires index { IsIndex (λ l. l.file) (λ l. l.number) locks.old.items by_file.old.items }
+    ensures held { held_by files.new ≡ on_file (held_by files.old) file (λ h. dropped h number) }
+    ensures locks { locks.new.items ≡ filter (λ l. not (l.number == number)) locks.old.items }
+    ensures index { IsIndex (λ l. l.file) (λ l. l.number) (filter (λ l. not (l.number == number)) locks.old.items) by_file.new.items }
+{
+    files.drop_state(file, number);
+    drop_lock_pair(by_file, locks, number);
+    drop_lock(locks, number);
+}
+
+/// The lock states under an open of a file go, with the bytes that they hold.
+fn leave_open(
+    files: &mut LockedFiles,
+    locks: &mut Vec<LockState>,
+    by_file: &mut Index,
+    file: u64,
+    opened: u64,
+)
+    requires rises { Rises (λ l. l.number) 1 locks.old.items }
+    requires index { IsIndex (λ l. l.file) (λ l. l.number) locks.old.items by_file.old.items }
+    requires file { (l : LockState) → In l locks.old.items → (l.opened == opened) ≡ true → l.file ≡ file }
+    ensures held { held_by files.new ≡ held_without (λ l. l.opened == opened) locks.old.items (held_by files.old) }
+    ensures locks { locks.new.items ≡ filter (λ l. not (l.opened == opened)) locks.old.items }
+    ensures index { IsIndex (λ l. l.file) (λ l. l.number) (filter (λ l. not (l.opened == opened)) locks.old.items) by_file.new.items }
+{
+    let mut after = 0;
+    while let Some(lock) = next_lock_in(locks, by_file, file, after) {
+        after = lock.number;
+        if lock.is_under(opened) {
+            leave_one(files, locks, by_file, file, after);
+        }
     }
-    drop_bytes(files, locks, leaving);
-    drop_lock_pairs(by_file, locks, leaving);
-    drop_locks(locks, leaving);
 }
 
 /// A file on which no lock state stands is no longer listed.
@@ -247,12 +266,11 @@ impl Opens {
         ensures after { table self.new ≡ without_client (table self.old) client }
         ensures room { self.new.ready ≡ self.old.ready }
     {
-        leave(
+        leave_client(
             &mut self.files,
             &mut self.locks,
             &mut self.locks_by_file,
-            Leaving::Of(client),
-            true,
+            client,
         );
         drop_pairs(&mut self.by_file, &self.opens, client);
         drop_own_pairs(&mut self.by_client, client);
@@ -262,47 +280,21 @@ impl Opens {
 
     /// `file`: the open's.
     fn remove_open(&mut self, number: u64, file: u64)
+        requires { IfSome (open_at (table self.old) number) (λ o. o.file ≡ file) }
         ensures after { table self.new ≡ without_open (table self.old) number }
         ensures room { self.new.ready ≡ self.old.ready }
     {
-        let any = self.has_lock_under(number);
-        leave(
+        leave_open(
             &mut self.files,
             &mut self.locks,
             &mut self.locks_by_file,
-            Leaving::Under(number),
-            any,
+            file,
+            number,
         );
         drop_pair(&mut self.by_file, &self.opens, number);
         drop_own_pair(&mut self.by_client, &self.opens, number);
         self.opens.remove(number);
         forget_unlocked(&mut self.files, &self.locks, &self.locks_by_file, file);
-    }
-
-    /// Whether a lock state stands under an open.
-    fn has_lock_under(&self, number: u64) -> bool
-        ensures { result ≡ list_any (λ l. l.opened == number) (table self.now).locks }
-    {
-        match self.opens.get(number) {
-            Some(open) => self.has_lock(open.file, number),
-            None => false,
-        }
-    }
-
-    /// Whether one of the lock states on a file stands under an open.
-    fn has_lock(&self, file: u64, number: u64) -> bool
-        ensures found { result ≡ list_any (λ l. (l.file == file) && (l.opened == number)) (table self.now).locks }
-        ensures kept { IsTable (table self.now) }
-    {
-        self.kept();
-        let mut after = 0;
-        while let Some(lock) = self.next_lock(file, after) {
-            if lock.is_under(number) {
-                return true;
-            }
-            after = lock.number;
-        }
-        false
     }
 
     /// FREE_STATEID: a lock state that holds no byte goes.

@@ -381,6 +381,51 @@ fn a_client_ends_in_one_pass(rt: HostRuntime) -> Result<(), Fail> {
     Ok(())
 }
 
+/// Who holds which byte: A's lock states 3 and 5 under open 1 hold bytes 0 and 2, and B's 4 and 6 under open 2 hold 1 and 3.
+fn four_lockers(alloc: Global) -> Opens {
+    let mut opens = two_opens(alloc);
+    for (client, under, owner, byte) in [
+        (A, 1, b"first", 0),
+        (B, 2, b"other", 1),
+        (A, 1, b"third", 2),
+        (B, 2, b"last.", 3),
+    ] {
+        let locker = Locker::New {
+            under: id(1, under),
+            owner,
+        };
+        let _ = lock_bytes(
+            &mut opens,
+            alloc,
+            &locker,
+            &wish(client, Kind::Write, byte, byte),
+        );
+    }
+    opens
+}
+
+/// Whose lock state a wish to write a byte meets.
+fn holder(opens: &Opens, byte: u64) -> Option<u64> {
+    clash_of(opens, b"c", &wish(B, Kind::Write, byte, byte)).map(|held| held.owner)
+}
+
+#[test]
+fn a_close_takes_the_lock_states_under_its_open_alone(rt: HostRuntime) -> Result<(), Fail> {
+    let mut opens = four_lockers(rt.alloc());
+    for (byte, want) in [(0, 3), (1, 4), (2, 5), (3, 6)] {
+        assert_eq!(rt; holder(&opens, byte), Some(want), "byte {byte}");
+    }
+    assert_eq!(rt; opens.close(id(1, 1), A, FILE), Ok(()));
+    for (byte, want) in [(0, None), (1, Some(4)), (2, None), (3, Some(6))] {
+        assert_eq!(rt; holder(&opens, byte), want, "then byte {byte}");
+    }
+    for (number, want) in [(3, false), (4, true), (5, false), (6, true)] {
+        let stands = opens.lock_state(number).is_some();
+        assert_eq!(rt; stands, want, "lock state {number}");
+    }
+    Ok(())
+}
+
 /// A and then B open the files 9, 2, 7 and 5 (A by 1, 3, 5 and 7), and A's lock states 9 to 12 hold their first bytes.
 fn four_files(alloc: Global) -> Opens {
     let mut opens = Opens::new(alloc, 7);

@@ -1,10 +1,10 @@
-use Rattle.std.proofs.Common.{◌≡◌, ◌<◌, ◌≤◌, ◌++◌, ◌∷◌, [], suc, List, length, subst, sym, ap, ◌∙◌, arith}
+use Rattle.std.proofs.Common.{◌≡◌, ◌<◌, ◌++◌, ◌∷◌, [], suc, length, subst, sym, ap, ◌∙◌, arith}
 use Rattle.std.proofs.lemmas.Grind.{common_steps}
 use Rattle.std.proofs.lemmas.List.{length-set}
 use Rattle.nfs_xdr.specs.Tables.{In}
 use Rattle.nfs_opens.specs.declared.records.OpenState.{OpenState}
 use Rattle.nfs_opens.specs.ByNumber.{Numbered}
-use Rattle.nfs_opens.proofs.NumberLemmas.{Holds, pushed_last, pushed_new}
+use Rattle.nfs_opens.proofs.NumberLemmas.{pushed_last, pushed_new}
 use Rattle.nfs_opens.proofs.by_number.ByNumber.push.Goals as goal
 
 pub invariant_of-self : goal.invariant_of-self

@@ -4,7 +4,6 @@ use Rattle.nfs_opens.specs.contracts.opens.Opens.{the_view}
 use Rattle.nfs_opens.specs.declared.index.Pair.{Pair}
 use Rattle.nfs_opens.specs.declared.records.OpenState.{OpenState}
 use Rattle.nfs_opens.specs.declared.records.LockState.{LockState}
-use Rattle.nfs_opens.specs.declared.closing.Leaving.TheVariants.{Of}
 use Rattle.nfs_opens.specs.Holding.{held_by}
 use Rattle.nfs_opens.specs.Table.{Kept, table}
 use Rattle.nfs_opens.specs.Kept.{Rises, IsTable}
@@ -15,30 +14,30 @@ use Rattle.nfs_opens.proofs.LockLemmas.{left_holders, left_held, same_table}
 use Rattle.nfs_opens.proofs.IndexLemmas.{index_part, index_unmarked}
 use Rattle.nfs_opens.proofs.opens.Opens.end_client.Goals as goal
 
-pub leave-requires-clause-rises : goal.leave-requires-clause-rises
-leave-requires-clause-rises c = (_, c.self.invariant.table.locks)
+pub leave_client-requires-clause-rises : goal.leave_client-requires-clause-rises
+leave_client-requires-clause-rises c = (_, c.self.invariant.table.locks)
 
-pub leave-requires-clause-index : goal.leave-requires-clause-index
-leave-requires-clause-index c = c.self.invariant.locks
+pub leave_client-requires-clause-index : goal.leave_client-requires-clause-index
+leave_client-requires-clause-index c = c.self.invariant.locks
 
 pub keep_locked-requires-clause-rises : goal.keep_locked-requires-clause-rises
-keep_locked-requires-clause-rises c = subst (Rises (λ (l : LockState). l.number) 1) (sym (c.deref.ensures.value ∙ c.leave.ensures.locks))
+keep_locked-requires-clause-rises c = subst (Rises (λ (l : LockState). l.number) 1) (sym (c.deref.ensures.value ∙ c.leave_client.ensures.locks))
     (_, (table_ended (table (the_view c.self.inside)) c.args.client c.self.invariant.table).locks)
 
 pub keep_locked-requires-clause-index : goal.keep_locked-requires-clause-index
 keep_locked-requires-clause-index c =
-    subst (λ (ls : List LockState). IsIndex (λ (l : LockState). l.file) (λ l. l.number) ls c.leave.new.by_file.items) (sym (c.deref.ensures.value ∙ c.leave.ensures.locks)) c.leave.ensures.index
+    subst (λ (ls : List LockState). IsIndex (λ (l : LockState). l.file) (λ l. l.number) ls c.leave_client.new.by_file.items) (sym (c.deref.ensures.value ∙ c.leave_client.ensures.locks)) c.leave_client.ensures.index
 
 pub keep_locked-requires-clause-holders : goal.keep_locked-requires-clause-holders
 keep_locked-requires-clause-holders c =
-    left_holders (table (the_view c.self.inside)) (Of c.args.client) c.deref.result.now (held_by c.leave.new.files) c.self.invariant.table (c.deref.ensures.value ∙ c.leave.ensures.locks) c.leave.ensures.held
+    left_holders (table (the_view c.self.inside)) (λ l. l.client == c.args.client) c.deref.result.now (held_by c.leave_client.new.files) c.self.invariant.table (c.deref.ensures.value ∙ c.leave_client.ensures.locks) c.leave_client.ensures.held
 
 pub invariant_of-self : goal.invariant_of-self
 invariant_of-self c =
     let t = table (the_view c.self.inside) in
-    let held = c.keep_locked.ensures ∙ left_held t (Of c.args.client) (held_by c.leave.new.files) c.self.invariant.table c.leave.ensures.held in
-    let same = same_table c.drop_client.new.self.items _ c.leave.new.locks.items _
-    (held_by c.keep_locked.new.self) _ c.self.inside.last c.self.inside.instance c.drop_client.ensures.items c.leave.ensures.locks held in
+    let held = c.keep_locked.ensures ∙ left_held t (λ l. l.client == c.args.client) (held_by c.leave_client.new.files) c.self.invariant.table c.leave_client.ensures.held in
+    let same = same_table c.drop_client.new.self.items _ c.leave_client.new.locks.items _
+    (held_by c.keep_locked.new.self) _ c.self.inside.last c.self.inside.instance c.drop_client.ensures.items c.leave_client.ensures.locks held in
     let stays : OpenState → Bool = λ o. not (o.client == c.args.client) in
     let pairs : c.drop_pairs.new.by_file.items
     ≡ filter (λ (p : Pair). not (marked (λ (o : OpenState). o.number) (λ o. o.client == c.args.client) c.self.inside.opens.items p.number)) c.self.inside.by_file.items =
@@ -58,14 +57,14 @@ invariant_of-self c =
           (index_part (λ (o : OpenState). o.client) (λ o. o.number) stays (λ p. not (p.of == c.args.client)) c.self.inside.opens.items
           c.self.inside.by_client.items c.self.invariant.by_client (λ o there. refl)));
       seat = λ yes. c.drop_own_pairs.ensures.room ∙ c.self.invariant.seat yes;
-      locks = subst (λ (ls : List LockState). IsIndex (λ (l : LockState). l.file) (λ l. l.number) ls c.leave.new.by_file.items) (sym c.leave.ensures.locks)
-          c.leave.ensures.index;
+      locks = subst (λ (ls : List LockState). IsIndex (λ (l : LockState). l.file) (λ l. l.number) ls c.leave_client.new.by_file.items) (sym c.leave_client.ensures.locks)
+          c.leave_client.ensures.index;
     }
 
 pub returns-clause-after : goal.returns-clause-after
 returns-clause-after c =
     let t = table (the_view c.self.inside) in
-    let held = c.keep_locked.ensures ∙ left_held t (Of c.args.client) (held_by c.leave.new.files) c.self.invariant.table c.leave.ensures.held in
-    let same = same_table c.drop_client.new.self.items _ c.leave.new.locks.items _
-    (held_by c.keep_locked.new.self) _ c.self.inside.last c.self.inside.instance c.drop_client.ensures.items c.leave.ensures.locks held in
+    let held = c.keep_locked.ensures ∙ left_held t (λ l. l.client == c.args.client) (held_by c.leave_client.new.files) c.self.invariant.table c.leave_client.ensures.held in
+    let same = same_table c.drop_client.new.self.items _ c.leave_client.new.locks.items _
+    (held_by c.keep_locked.new.self) _ c.self.inside.last c.self.inside.instance c.drop_client.ensures.items c.leave_client.ensures.locks held in
     same ∙ ap (λ (k : Kept). without_client (table k) c.args.client) c.self.view_is
