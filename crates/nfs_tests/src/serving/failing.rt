@@ -12,7 +12,7 @@ fn fault(number: Stop, entry: u32) -> ReplayFault {
 }
 
 /// NULL and EXCHANGE_ID on connection 0, in two entries of 60 and 124 bytes.
-pub fn script(alloc: Global) -> Result<Vec<u8>, AllocError> {
+pub(super) fn script(alloc: Global) -> Result<Vec<u8>, AllocError> {
     bytes_of(
         alloc,
         &[
@@ -25,7 +25,7 @@ pub fn script(alloc: Global) -> Result<Vec<u8>, AllocError> {
 }
 
 /// What is put out for it: 32 bytes and 108.
-pub fn output(alloc: Global) -> Result<Vec<u8>, AllocError> {
+pub(super) fn output(alloc: Global) -> Result<Vec<u8>, AllocError> {
     bytes_of(
         alloc,
         &[

@@ -8,7 +8,7 @@ use std::io::{ErrorKind, Read, Write};
 
 /// Gives these bytes, at most `most` in a call, and fails at call `fails`, counted from 1.
 #[derive(Drop)]
-pub struct Drip<'a> {
+pub(super) struct Drip<'a> {
     pub bytes: &'a [u8],
     pub most: usize,
     pub fails: usize,
@@ -31,7 +31,7 @@ impl Read for Drip<'_> {
 
 /// Gives a zero byte at each call, without end.
 #[derive(Drop)]
-pub struct Trickle;
+pub(super) struct Trickle;
 
 impl Read for Trickle {
     fn read(&mut self, buf: &mut [u8]) -> io::Result<usize> {
@@ -45,7 +45,7 @@ impl Read for Trickle {
 
 /// A clock that counts how often it was asked, and answers that in seconds.
 #[derive(Drop)]
-pub struct Counting {
+pub(super) struct Counting {
     pub asked: usize,
 }
 
@@ -60,7 +60,7 @@ impl Clock for Counting {
 
 /// Takes at most `most` bytes in a call, and fails at call `fails`, counted from 1.
 #[derive(Drop)]
-pub struct Tray {
+pub(super) struct Tray {
     pub bytes: Vec<u8>,
     pub most: usize,
     pub fails: usize,
