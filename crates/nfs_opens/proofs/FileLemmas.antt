@@ -1,7 +1,8 @@
 -- What the locked bytes of files say of who holds which byte, after a change of one file.
 use Rattle.std.proofs.Common.{◌≡◌, ◌≢◌, inl, inr, ℕ, zero, suc, Bool, true, false, cond, not, List, [], ◌∷◌, Option, Some, None, refl, sym, ◌∙◌, ap, subst, arith}
 use Rattle.std.proofs.Math.Path.{fun_ext}
-use Rattle.std.specs.Prelude.{◌==◌, is_some, IsSome, ◌&&◌, ◌^◌}
+use Rattle.std.specs.Prelude.{◌==◌, is_some, IsSome, ◌&&◌, ◌||◌, ◌^◌}
+use Rattle.std.specs.List.{list_any}
 use Rattle.std.specs.Ordering.{nat_cmp}
 use Rattle.std.specs.BTreeMap.{BTreeMap, is_at, get, Updates, WritesThrough}
 use Rattle.std.specs.Map.{lookup, set_value}
@@ -35,6 +36,19 @@ held_found f (e ∷ es) = rw (at_file f e.0) (go (e.0 == f) (held_found f es))
         → cond b (at e.1) (held_by es f) ≡ holders_of (cond b (Some e.1) (lookup (is_at (nat_cmp f)) es))
     go true rest = refl
     go false rest = rest
+
+-- a file under which nothing is found is not listed
+pub not_listed : (f : ℕ) (m n : BTreeMap ℕ LockedBytes) → Updates nat_cmp m n f None → list_any (λ e. e.0 == f) n.entries ≡ false
+not_listed f m n updates = none_found n.entries (updates.0 f ∙ ap (λ (b : Bool). cond b None (lookup (is_at (nat_cmp f)) m.entries)) (at_file f f ∙ eq-eqb f f refl))
+  where
+    none_found : (es : List (ℕ × LockedBytes)) → lookup (is_at (nat_cmp f)) es ≡ None → list_any (λ e. e.0 == f) es ≡ false
+    none_found [] none = refl
+    none_found (e ∷ es) none = go (e.0 == f) (none_found es) (ap (λ (b : Bool). cond b (Some e.1) (lookup (is_at (nat_cmp f)) es)) (sym (at_file f e.0)) ∙ none)
+      where
+        go : (b : Bool) → (lookup (is_at (nat_cmp f)) es ≡ None → list_any (λ e. e.0 == f) es ≡ false)
+            → cond b (Some e.1) (lookup (is_at (nat_cmp f)) es) ≡ None → (b || list_any (λ e. e.0 == f) es) ≡ false
+        go true rest found = absurd cc
+        go false rest found = rest found
 
 -- a change of what is found under a file changes its holders alone
 pub held_updated : (f : ℕ) (g : Holders → Holders) (m n : BTreeMap ℕ LockedBytes) (w : Option LockedBytes) → Updates nat_cmp m n f w

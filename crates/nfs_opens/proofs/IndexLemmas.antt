@@ -387,13 +387,16 @@ module _ {X : Type 0} (of number : X → ℕ) where
   }
 
   -- a number above all is new
+  -- one with a number above all has no pair yet
+  pub index_apart : (xs : List X) (ps : List Pair) (new : Pair) → IsIndex of number xs ps → ((x : X) → In x xs → number x < new.number) → (p : Pair) → In p ps → p ≢ new
+  index_apart xs ps new is above p there e =
+      let (y, in_y, here, same) = is.only p there in
+      let upper = above y in_y in
+      let n : p.number ≡ new.number = ap (λ (q : Pair). q.number) e in absurd (omega arith)
+
   pub index_new : (low high : ℕ) (xs : List X) (ps : List Pair) (new : Pair) → IsRising number low xs high → IsIndex of number xs ps → high ≤ new.number
       → (p : Pair) → In p ps → p ≢ new
-  index_new low high xs ps new rises is above p there e =
-      let (y, in_y, here, same) = is.only p there in
-      let bounds = in_bounds number low high xs y rises in_y in
-      let upper = bounds.1 in
-      let n : p.number ≡ new.number = ap (λ (q : Pair). q.number) e in absurd (omega arith)
+  index_new low high xs ps new rises is above = index_apart xs ps new is (λ y in_y. let upper = (in_bounds number low high xs y rises in_y).1 in omega arith)
 
   pub index_taken : (low high n : ℕ) (xs : List X) (x : X) (ps qs : List Pair) → IsRising number low xs high → IsIndex of number xs ps
       → find (λ x. number x == n) xs ≡ Some x → HasTaken ps (record { of = of x; number = n }) qs

@@ -1,5 +1,5 @@
 -- A walk over the lock states of a file, of which those go that leave, one after the other.
-use Rattle.std.proofs.Common.{◌≡◌, inl, inr, ℕ, suc, ◌<◌, ◌≤◌, Bool, true, false, not, List, [], ◌∷◌, length, Some, None, refl, sym, ◌∙◌, ap, subst, arith}
+use Rattle.std.proofs.Common.{◌≡◌, ◌≢◌, inl, inr, ℕ, suc, ◌<◌, ◌≤◌, Bool, true, false, not, List, [], ◌∷◌, length, Some, None, refl, sym, ◌∙◌, ap, subst, arith}
 use Rattle.std.specs.Prelude.{◌==◌, ◌&&◌, nat_lt, find, filter}
 use Rattle.std.proofs.lemmas.Bool.{cases_Bool, cases_eq, cases_lt, and_parts, eq-eqb, ne_eqb, lt-ltb, le-ltb, ltb-true, false≢true}
 use Rattle.nfs_xdr.specs.Tables.{IsRising, In}
@@ -7,9 +7,7 @@ use Rattle.nfs_xdr.proofs.Lists.{find_in, none_in, in_filter, stays_in, filter_a
 use Rattle.nfs_xdr.proofs.Tables.{in_bounds, in_once, IsRising-filter}
 use Rattle.nfs_ranges.specs.Holders.{dropped}
 use Rattle.nfs_opens.specs.declared.records.LockState.{LockState}
-use Rattle.nfs_opens.specs.declared.index.Pair.{Pair}
 use Rattle.nfs_opens.specs.Holding.{FileHolders, on_file}
-use Rattle.nfs_opens.specs.Index.{IsIndex}
 use Rattle.nfs_opens.specs.Kept.{Rises}
 use Rattle.nfs_opens.specs.Calls.{held_without}
 use Rattle.nfs_opens.proofs.LockLemmas.{without_none_leaves}
@@ -83,10 +81,8 @@ not_itself : (n : ℕ) → nat_lt n n ≡ false
 not_itself n = le-ltb n n (omega arith)
 
 -- what a walk has come to: those behind `after` are still to be looked at
-pub record IsLeft (p : LockState → Bool) (file after : ℕ) (old : List LockState) (before : FileHolders) (locks : List LockState) (held : FileHolders)
-    (pairs : List Pair) : Type 0 where
+pub record IsLeft (p : LockState → Bool) (file after : ℕ) (old : List LockState) (before : FileHolders) (locks : List LockState) (held : FileHolders) : Type 0 where
   pub rises : Rises (λ l. l.number) 1 locks
-  pub index : IsIndex (λ l. l.file) (λ l. l.number) locks pairs
   pub of : (l : LockState) → In l locks → p l ≡ true → l.file ≡ file
   pub past : (l : LockState) → In l locks → l.number ≤ after → p l ≡ false
   pub stay : filter (λ l. not (p l)) locks ≡ filter (λ l. not (p l)) old
@@ -97,11 +93,11 @@ pub none_before : (p : LockState → Bool) (high : ℕ) (locks : List LockState)
     → p l ≡ false
 none_before p high locks r l there le = let up = (in_bounds number_of 1 high locks l r there).0 in absurd (omega arith)
 
-module _ (p : LockState → Bool) (file after : ℕ) (old : List LockState) (before : FileHolders) (locks : List LockState) (held : FileHolders) (pairs : List Pair)
-    (is : IsLeft p file after old before locks held pairs) where
-  -- of those up to the next one none leaves
-  up_to : (l k : LockState) → find (BehindLock file after) locks ≡ Some l → In k locks → k.number < l.number → p k ≡ false
-  up_to l k found there less =
+module _ (p : LockState → Bool) (file after : ℕ) (old : List LockState) (before : FileHolders) (locks : List LockState) (held : FileHolders)
+    (is : IsLeft p file after old before locks held) where
+  -- one that the walk does not come to stays
+  not_met : (k : LockState) → In k locks → BehindLock file after k ≢ true → p k ≡ false
+  not_met k there never =
       elim (cases_lt after k.number) [
         | inr not_behind ↦ is.past k there (omega arith)
         | inl later ↦ elim (cases_Bool (p k)) [
@@ -109,16 +105,19 @@ module _ (p : LockState → Bool) (file after : ℕ) (old : List LockState) (bef
           | inl leaves ↦
               (let at : (k.file == file) ≡ true = eq-eqb k.file file (is.of k there leaves) in
               let late : nat_lt after k.number ≡ true = lt-ltb after k.number later in
-              let least = least_found (BehindLock file after) 1 is.rises.0 locks l k is.rises.1 found there (rw at late) in
-              absurd (omega arith))
+              absurd (never (rw at late)))
         ]
       ]
 
+  -- of those up to the next one none leaves
+  up_to : (l k : LockState) → find (BehindLock file after) locks ≡ Some l → In k locks → k.number < l.number → p k ≡ false
+  up_to l k found there less =
+      not_met k there (λ met. let least = least_found (BehindLock file after) 1 is.rises.0 locks l k is.rises.1 found there met in absurd (omega arith))
+
   -- the next one stays
-  pub left_there : (l : LockState) → find (BehindLock file after) locks ≡ Some l → p l ≡ false → IsLeft p file l.number old before locks held pairs
+  pub left_there : (l : LockState) → find (BehindLock file after) locks ≡ Some l → p l ≡ false → IsLeft p file l.number old before locks held
   left_there l found stays = record {
     rises = is.rises;
-    index = is.index;
     of = is.of;
     past = λ k there le. elim (cases_eq k.number l.number) [
       | inl same ↦ ap p (in_once number_of 1 is.rises.0 locks k l is.rises.1 there (find_in (BehindLock file after) locks l found).0 same) ∙ stays
@@ -129,10 +128,10 @@ module _ (p : LockState → Bool) (file after : ℕ) (old : List LockState) (bef
   }
 
   -- the next one goes
-  pub left_gone : (l : LockState) (locks' : List LockState) (held' : FileHolders) (pairs' : List Pair) → find (BehindLock file after) locks ≡ Some l → p l ≡ true
+  pub left_gone : (l : LockState) (locks' : List LockState) (held' : FileHolders) → find (BehindLock file after) locks ≡ Some l → p l ≡ true
       → locks' ≡ filter (but l.number) locks → held' ≡ on_file held file (λ h. dropped h l.number)
-      → IsIndex file_of number_of (filter (but l.number) locks) pairs' → IsLeft p file l.number old before locks' held' pairs'
-  left_gone l locks' held' pairs' found leaves made put index =
+      → IsLeft p file l.number old before locks' held'
+  left_gone l locks' held' found leaves made put =
       let there = (find_in (BehindLock file after) locks l found).0 in
       let on : l.file ≡ file = is.of l there leaves in
       let fewer_held : held_without p locks' held' ≡ held_without p locks held =
@@ -141,7 +140,6 @@ module _ (p : LockState → Bool) (file after : ℕ) (old : List LockState) (bef
       ∙ first_leaves p 1 is.rises.0 locks l held is.rises.1 there leaves (λ k in_k less. up_to l k found in_k less)) in
       record {
         rises = subst (Rises (λ (l : LockState). l.number) 1) (sym made) (is.rises.0, IsRising-filter number_of (but l.number) 1 is.rises.0 locks is.rises.1);
-        index = subst (λ (ls : List LockState). IsIndex file_of number_of ls pairs') (sym made) index;
         of = λ k in_k. is.of k (was k in_k).0;
         past = λ k in_k le. elim (cases_eq k.number l.number) [
           | inl same ↦ absurd (false≢true (sym (ap not (eq-eqb k.number l.number same)) ∙ (was k in_k).1))
@@ -160,26 +158,13 @@ module _ (p : LockState → Bool) (file after : ℕ) (old : List LockState) (bef
 
   -- there is no next one: none leaves any more
   all_left : find (BehindLock file after) locks ≡ None → (k : LockState) → In k locks → p k ≡ false
-  all_left none k there =
-      elim (cases_lt after k.number) [
-        | inr not_behind ↦ is.past k there (omega arith)
-        | inl later ↦ elim (cases_Bool (p k)) [
-          | inr stays ↦ stays
-          | inl leaves ↦
-              (let at : (k.file == file) ≡ true = eq-eqb k.file file (is.of k there leaves) in
-              let late : nat_lt after k.number ≡ true = lt-ltb after k.number later in
-              absurd (false≢true (sym (none_in (BehindLock file after) locks k none there) ∙ (rw at late))))
-        ]
-      ]
+  all_left none k there = not_met k there (λ met. absurd (false≢true (sym (none_in (BehindLock file after) locks k none there) ∙ met)))
 
   pub left_locks : find (BehindLock file after) locks ≡ None → locks ≡ filter (λ l. not (p l)) old
   left_locks none = sym (filter_all (λ (l : LockState). not (p l)) locks (λ k there. ap not (all_left none k there))) ∙ is.stay
 
   pub left_bytes : find (BehindLock file after) locks ≡ None → held ≡ held_without p old before
   left_bytes none = sym (without_none_leaves p locks held (all_left none)) ∙ is.bytes
-
-  pub left_index : find (BehindLock file after) locks ≡ None → IsIndex (λ l. l.file) (λ l. l.number) (filter (λ l. not (p l)) old) pairs
-  left_index none = subst (λ (ls : List LockState). IsIndex file_of number_of ls pairs) (left_locks none) is.index
 
   pub fewer_there : (l : LockState) → find (BehindLock file after) locks ≡ Some l → length (filter (behind l.number) locks) < length (filter (behind after) locks)
   fewer_there l found =

@@ -6,7 +6,6 @@ use Rattle.nfs_opens.specs.declared.closing.Going.{Going}
 use Rattle.nfs_opens.specs.declared.closing.Going.TheVariants.{Locks, Opens, Owned}
 use Rattle.nfs_opens.specs.Index.{Precedes, IsAscending, is_before, marked}
 use Rattle.nfs_opens.specs.Flat.{flat, last_of, front_of, rest_of}
-use Rattle.nfs_opens.specs.Kept.{Rises}
 
 -- the pairs, and whether there is room for one more
 pub record Listed : Type 0 where
@@ -37,12 +36,6 @@ pub record AreBlocks (bs : List (List Pair)) (capacity : ℕ) (spare : Option (L
 
 -- which pairs go: those of a client's lock states, those of its opens, and those that belong to it
 abbrev pub goes : Going → Pair → Bool
-goes (Locks locks client) p = marked (λ l. l.number) (λ l. l.client == client) locks.now p.number
+goes (Locks locks client) p = marked (λ l. l.number) (λ l. l.client == client) locks.now.items p.number
 goes (Opens opens client) p = marked (λ o. o.number) (λ o. o.client == client) opens.now.items p.number
 goes (Owned client) p = p.of == client
-
--- the lock states among which a pair's is looked for rise
-abbrev pub IsSearched : Going → Type 0
-IsSearched (Locks locks client) = Rises (λ l. l.number) 1 locks.now
-IsSearched (Opens opens client) = Unit {0}
-IsSearched (Owned client) = Unit {0}

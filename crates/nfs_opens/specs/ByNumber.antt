@@ -1,13 +1,12 @@
--- How opens lie: in blocks, by rising numbers, each with opens that stand next to each other (RFC 8881 section 9.7).
+-- How opens (RFC 8881 section 9.7) and lock states (section 9.1) lie: in blocks, by rising numbers, each with states that stand next to each other.
 use Rattle.std.specs.Prelude.{◌≡◌, ◌≢◌, ℕ, ◌<◌, nat_lt, Bool, true, length, List, [], ◌∷◌, Option, IfSome}
 use Rattle.nfs_xdr.specs.Tables.{In}
-use Rattle.nfs_opens.specs.declared.records.OpenState.{OpenState}
 use Rattle.nfs_opens.specs.Flat.{flat, last_of}
 use Rattle.nfs_opens.specs.Kept.{Rises}
 
--- the opens, and whether there is room for one more
-pub record Numbered : Type 0 where
-  pub items : List OpenState
+-- the states, and whether there is room for one more
+pub record Numbered (X : Type 0) : Type 0 where
+  pub items : List X
   pub ready : Bool
 
 module _ {X : Type 0} (number : X → ℕ) where

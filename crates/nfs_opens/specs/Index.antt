@@ -46,13 +46,12 @@ pub record IsIndex {X : Type 0} (of number : X → ℕ) (states : List X) (ps : 
 abbrev pub marked : {X : Type 0} → (X → ℕ) → (X → Bool) → List X → ℕ → Bool
 marked number test states n = option_map_or test (find (λ x. number x == n) states) false
 
--- What holds of all that is kept, and of the pairs that index the opens by their files and by their clients, and the lock states by their files; three
--- say whether there is room for one more open, and for one more pair of an open each.
-pub record IsKept (k : Kept) (has_room : Bool) (pairs : List Pair) (has_place : Bool) (owned : List Pair) (has_seat : Bool) (locked : List Pair) : Type 0 where
+-- What holds of all that is kept, and of the pairs that index the opens by their files and by their clients; three say whether there is room for one
+-- more open, and for one more pair of an open each.
+pub record IsKept (k : Kept) (has_room : Bool) (pairs : List Pair) (has_place : Bool) (owned : List Pair) (has_seat : Bool) : Type 0 where
   pub table : IsTable (table k)
   pub room : k.ready ≡ true → has_room ≡ true
   pub by_file : IsIndex (λ o. o.file) (λ o. o.number) k.opens pairs
   pub place : k.ready ≡ true → has_place ≡ true
   pub by_client : IsIndex (λ o. o.client) (λ o. o.number) k.opens owned
   pub seat : k.ready ≡ true → has_seat ≡ true
-  pub locks : IsIndex (λ l. l.file) (λ l. l.number) k.locks locked

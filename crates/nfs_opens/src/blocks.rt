@@ -5,7 +5,7 @@ ghost use Rattle.std.specs.List.Sorted.{IsPartitionPoint};
 ghost use Rattle.nfs_xdr.specs.Tables.{In};
 ghost use Rattle.nfs_opens.specs.Index.{IsAscending, IsNext, HasPut, HasTaken};
 ghost use Rattle.nfs_opens.specs.Flat.{flat};
-ghost use Rattle.nfs_opens.specs.Blocks.{ends_before, AreOrdered, IsPlace, pairs_in, goes, IsSearched};
+ghost use Rattle.nfs_opens.specs.Blocks.{ends_before, AreOrdered, IsPlace, pairs_in, goes};
 
 use crate::closing::Going;
 use crate::index::{Pair, next_in, put, take};
@@ -127,7 +127,6 @@ impl Block {
 
     /// Pairs go. Whether one stays.
     fn keep(&mut self, going: Going) -> bool
-        requires { IsSearched going }
         ensures items { self.new ≡ filter (λ p. not (goes going.entry p)) self.old }
         ensures some { result ≡ true → self.new ≢ [] }
         ensures none { result ≡ false → self.new ≡ [] }
@@ -199,14 +198,12 @@ fn place_with(blocks: &[Block], old: Pair) -> usize
 
 /// Pairs go, and blocks that have none left.
 fn keep_in(blocks: &mut Vec<Block>, going: Going)
-    requires { IsSearched going }
     ensures items { flat blocks.new.items ≡ filter (λ p. not (goes going.entry p)) (flat blocks.old.items) }
     ensures some { (b : List Pair) → In b blocks.new.items → b ≢ [] }
     ensures fewer { length blocks.new.items ≤ length blocks.old.items }
     ensures room { vec_capacity blocks.new ≡ vec_capacity blocks.old }
 {
     let keep = |b: &mut Block| -> bool
-        requires { IsSearched going }
         ensures { (b.exit.now ≡ filter (λ p. not (goes going.entry p)) b.entry.now) × (result ≡ true → b.exit.now ≢ []) × (result ≡ false → b.exit.now ≡ []) }
     { b.keep(going) };
     blocks.retain_mut(keep);
@@ -279,7 +276,6 @@ impl Index {
 
     /// Pairs go.
     pub(crate) fn keep(&mut self, going: Going)
-        requires { IsSearched going }
         ensures items { self.new.items ≡ filter (λ p. not (goes going.entry p)) self.old.items }
         ensures ready { self.new.ready ≡ self.old.ready }
     {

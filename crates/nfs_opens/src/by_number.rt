@@ -1,174 +1,232 @@
-//! The opens by their numbers, in blocks, so that one that goes moves those of its block alone.
+//! States by their numbers, in blocks, so that one that goes moves those of its block alone.
 
-ghost use Rattle.std.specs.Prelude.{◌≡◌, ◌≢◌, ◌==◌, ◌+◌, ◌<◌, ◌≤◌, ◌++◌, ◌∷◌, [], true, false, not, length, filter, find, map, vec_capacity, List, slice_get, slice_index_or, if◌then◌else◌, None, IfSome, IfNone, IfOk, OnOk, ℕ, nat_lt};
+ghost use Rattle.std.specs.Prelude.{◌≡◌, ◌≢◌, ◌==◌, ◌+◌, ◌<◌, ◌≤◌, ◌++◌, ◌∷◌, [], true, false, not, length, filter, find, map, position, vec_capacity, List, slice_get, slice_index_or, if◌then◌else◌, None, IfSome, IfNone, IfOk, OnOk, ℕ, nat_lt};
 ghost use Rattle.std.specs.Option.{option_copied};
 ghost use Rattle.std.specs.List.Sorted.{IsPartitionPoint};
 ghost use Rattle.nfs_xdr.specs.Tables.{In};
 ghost use Rattle.nfs_opens.specs.Flat.{flat};
 ghost use Rattle.nfs_opens.specs.ByNumber.{ends_below, AreRising};
 ghost use Rattle.nfs_opens.specs.Opening.{joins, narrows};
-ghost use Rattle.nfs_opens.specs.Calls.{asked};
+ghost use Rattle.nfs_opens.specs.Locking.{raised};
+ghost use Rattle.nfs_opens.specs.Calls.{asked, held_without};
+ghost use Rattle.nfs_opens.specs.Holding.{held_by};
 ghost use Rattle.nfs_opens.specs.Kept.{Rises};
 
+use crate::locked_files::LockedFiles;
 use crate::opening::Ask;
-use crate::records::{OpenState, join_open, narrow_open, open_in, place_of_open};
+use crate::records::{LockState, OpenState, State};
 use crate::share::Share;
 use std::alloc::{AllocError, Global};
 use std::marker::Model;
 
-/// A block has at most so many opens, and room for them.
+/// A block has at most so many states, and room for them.
 const MOST: usize = 64;
 
-/// Opens that stand next to each other.
+/// States that stand next to each other.
 #[derive(Drop)]
-pub(crate) struct OpenBlock {
-    opens: Vec<OpenState>,
+pub(crate) struct StateBlock<T: State> {
+    states: Vec<T>,
 }
 
-impl Model for OpenBlock {
+impl<T: State> Model for StateBlock<T> {
     ghost use Rattle.std.specs.Prelude.{List, ◌≤◌, length, vec_capacity};
-    ghost use Rattle.nfs_opens.specs.declared.records.OpenState.{OpenState};
 
-    ghost Value = { List OpenState };
+    ghost Value = { List T };
 
-    ghost view = { λ b. b.opens.items };
+    ghost view = { λ b. b.states.items };
 
-    ghost invariant = { λ b. (length b.opens.items ≤ 64) × (64 ≤ vec_capacity b.opens) };
+    ghost invariant = { λ b. (length b.states.items ≤ 64) × (64 ≤ vec_capacity b.states) };
 }
 
-fn drop_open(opens: &mut Vec<OpenState>, number: u64)
-    requires { Rises (λ o. o.number) 1 opens.old.items }
-    ensures items { opens.new.items ≡ filter (λ o. not (o.number == number)) opens.old.items }
-    ensures room { vec_capacity opens.new ≡ vec_capacity opens.old }
-    ensures fewer { length opens.new.items ≤ length opens.old.items }
+/// The place of the state of a number.
+fn place_of<T: State>(states: &[T], number: u64) -> Option<usize>
+    requires { Rises T.number 1 states.now }
+    ensures { result ≡ position (λ x. T.number x == number) states.now }
 {
-    if let Some(place) = place_of_open(opens, number) {
-        let _ = opens.remove(place);
+    states.binary_search_by_key(&number, |x| x.number()).ok()
+}
+
+/// The state of a number.
+fn state_in<T: State>(states: &[T], number: u64) -> Option<&T>
+    requires { Rises T.number 1 states.now }
+    ensures { option_copied result ≡ find (λ x. T.number x == number) states.now }
+{
+    match place_of(states, number) {
+        Some(place) => Some(&states[place]),
+        None => None,
     }
 }
 
-impl OpenBlock {
-    /// No opens.
-    fn new(alloc: Global) -> Result<OpenBlock, AllocError>
+fn drop_state<T: State>(states: &mut Vec<T>, number: u64)
+    requires { Rises T.number 1 states.old.items }
+    ensures items { states.new.items ≡ filter (λ x. not (T.number x == number)) states.old.items }
+    ensures room { vec_capacity states.new ≡ vec_capacity states.old }
+    ensures fewer { length states.new.items ≤ length states.old.items }
+{
+    if let Some(place) = place_of(states, number) {
+        let _ = states.remove(place);
+    }
+}
+
+impl<T: State> StateBlock<T> {
+    /// No states.
+    fn new(alloc: Global) -> Result<StateBlock<T>, AllocError>
         ensures { IfOk result (λ b. b ≡ []) }
     {
-        let opens = Vec::with_capacity(alloc, MOST)?;
-        Ok(OpenBlock { opens })
+        let states = Vec::with_capacity(alloc, MOST)?;
+        Ok(StateBlock { states })
     }
 
     fn has_room(&self) -> bool
         ensures { result ≡ nat_lt (length self.now) 64 }
     {
-        self.opens.len() < MOST
+        self.states.len() < MOST
     }
 
     /// Whether all have lower numbers.
     fn ends_below(&self, number: u64) -> bool
-        ensures { result ≡ ends_below (λ o. o.number) number self.now }
+        ensures { result ≡ ends_below T.number number self.now }
     {
-        match self.opens.last() {
-            Some(open) => open.number < number,
+        match self.states.last() {
+            Some(state) => state.number() < number,
             None => true,
         }
     }
 
-    fn get(&self, number: u64) -> Option<&OpenState>
-        requires { Rises (λ o. o.number) 1 self.now }
-        ensures { option_copied result ≡ find (λ o. o.number == number) self.now }
+    fn get(&self, number: u64) -> Option<&T>
+        requires { Rises T.number 1 self.now }
+        ensures { option_copied result ≡ find (λ x. T.number x == number) self.now }
     {
-        open_in(&self.opens, number)
+        state_in(&self.states, number)
     }
 
-    /// The first open comes in.
-    fn put_first(&mut self, new: OpenState)
+    /// The first state comes in.
+    fn put_first(&mut self, new: T)
         requires { self.old ≡ [] }
         ensures { self.new ≡ new ∷ [] }
     {
-        self.opens.push(new).unwrap();
+        self.states.push(new).unwrap();
     }
 
-    fn push(&mut self, new: OpenState)
+    fn push(&mut self, new: T)
         requires { length self.old < 64 }
         ensures { self.new ≡ self.old ++ new ∷ [] }
     {
-        self.opens.push(new).unwrap();
+        self.states.push(new).unwrap();
     }
 
+    /// A state goes. Whether one stays.
+    fn remove(&mut self, number: u64) -> bool
+        requires { Rises T.number 1 self.old }
+        ensures items { self.new ≡ filter (λ x. not (T.number x == number)) self.old }
+        ensures some { result ≡ true → self.new ≢ [] }
+        ensures none { result ≡ false → self.new ≡ [] }
+    {
+        drop_state(&mut self.states, number);
+        !self.states.is_empty()
+    }
+
+    /// The states of a client go. Whether one stays.
+    fn drop_client(&mut self, client: u64) -> bool
+        ensures items { self.new ≡ filter (λ x. not (T.client x == client)) self.old }
+        ensures some { result ≡ true → self.new ≢ [] }
+        ensures none { result ≡ false → self.new ≡ [] }
+    {
+        self.states.retain(|x| x.client() != client);
+        !self.states.is_empty()
+    }
+}
+
+impl StateBlock<OpenState> {
     fn join(&mut self, number: u64, ask: &Ask)
         requires { Rises (λ o. o.number) 1 self.old }
         ensures { self.new ≡ map (λ o. if o.number == number then joins (asked ask.now) o else o) self.old }
     {
-        join_open(&mut self.opens, number, ask);
+        if let Some(place) = place_of(&self.states, number) {
+            self.states[place].join(ask);
+        }
     }
 
     fn narrow(&mut self, number: u64, access: Share, deny: Share)
         requires { Rises (λ o. o.number) 1 self.old }
         ensures { self.new ≡ map (λ o. if o.number == number then narrows access deny o else o) self.old }
     {
-        narrow_open(&mut self.opens, number, access, deny);
-    }
-
-    /// An open goes. Whether one stays.
-    fn remove(&mut self, number: u64) -> bool
-        requires { Rises (λ o. o.number) 1 self.old }
-        ensures items { self.new ≡ filter (λ o. not (o.number == number)) self.old }
-        ensures some { result ≡ true → self.new ≢ [] }
-        ensures none { result ≡ false → self.new ≡ [] }
-    {
-        drop_open(&mut self.opens, number);
-        !self.opens.is_empty()
-    }
-
-    /// The opens of a client go. Whether one stays.
-    fn drop_client(&mut self, client: u64) -> bool
-        ensures items { self.new ≡ filter (λ o. not (o.client == client)) self.old }
-        ensures some { result ≡ true → self.new ≢ [] }
-        ensures none { result ≡ false → self.new ≡ [] }
-    {
-        self.opens.retain(|o| o.client != client);
-        !self.opens.is_empty()
+        if let Some(place) = place_of(&self.states, number) {
+            self.states[place].narrow(access, deny);
+        }
     }
 }
 
-/// All opens in rising order of their numbers. One more may come while a block is spare.
+impl StateBlock<LockState> {
+    fn raise(&mut self, number: u64)
+        requires { Rises (λ l. l.number) 1 self.old }
+        ensures { self.new ≡ map (λ l. if l.number == number then raised l else l) self.old }
+    {
+        if let Some(place) = place_of(&self.states, number) {
+            self.states[place].raise();
+        }
+    }
+}
+
+/// The lock states of a client that stand here hold no bytes from now on.
+fn drop_bytes(files: &mut LockedFiles, locks: &[LockState], client: u64)
+    ensures { held_by files.new ≡ held_without (λ l. l.client == client) locks.now (held_by files.old) }
+{
+    for lock in locks {
+        if lock.client == client {
+            files.drop_state(lock.file, lock.number);
+        }
+    }
+}
+
+/// The lock states of a client in these blocks hold no bytes from now on.
+fn drop_bytes_in(files: &mut LockedFiles, blocks: &[StateBlock<LockState>], client: u64)
+    ensures { held_by files.new ≡ held_without (λ l. l.client == client) (flat blocks.now) (held_by files.old) }
+{
+    for block in blocks {
+        drop_bytes(files, &block.states, client);
+    }
+}
+
+/// All opens or all lock states in rising order of their numbers. One more may come while a block is spare.
 #[derive(Drop)]
-pub(crate) struct ByNumber {
-    blocks: Vec<OpenBlock>,
-    spare: Option<OpenBlock>,
+pub(crate) struct ByNumber<T: State> {
+    blocks: Vec<StateBlock<T>>,
+    spare: Option<StateBlock<T>>,
 }
 
-impl Model for ByNumber {
+impl<T: State> Model for ByNumber<T> {
     ghost use Rattle.std.specs.Prelude.{vec_capacity, is_some};
     ghost use Rattle.nfs_opens.specs.Flat.{flat};
     ghost use Rattle.nfs_opens.specs.ByNumber.{Numbered, AreNumbered};
 
-    ghost Value = { Numbered };
+    ghost Value = { Numbered T };
 
     ghost view = { λ t. record { items = flat t.blocks.items; ready = is_some t.spare } };
 
-    ghost invariant = { λ t. AreNumbered (λ o. o.number) t.blocks.items (vec_capacity t.blocks) t.spare };
+    ghost invariant = { λ t. AreNumbered T.number t.blocks.items (vec_capacity t.blocks) t.spare };
 }
 
-/// The first block with an open of a number or behind it.
-fn block_of(blocks: &[OpenBlock], number: u64) -> usize
-    requires { AreRising (λ o. o.number) blocks.now }
+/// The first block with a state of a number or behind it.
+fn block_of<T: State>(blocks: &[StateBlock<T>], number: u64) -> usize
+    requires { AreRising T.number blocks.now }
     ensures bound { result ≤ length blocks.now }
-    ensures split { IsPartitionPoint (λ b. ends_below (λ o. o.number) number b ≡ true) (λ b. ends_below (λ o. o.number) number b ≡ false) blocks.now result }
+    ensures split { IsPartitionPoint (λ b. ends_below T.number number b ≡ true) (λ b. ends_below T.number number b ≡ false) blocks.now result }
 {
     blocks.partition_point(|b| b.ends_below(number))
 }
 
 /// The block at a place.
-fn block_at(blocks: &[OpenBlock], place: usize) -> Option<&OpenBlock>
+fn block_at<T: State>(blocks: &[StateBlock<T>], place: usize) -> Option<&StateBlock<T>>
     ensures { option_copied result ≡ slice_get blocks.now place }
 {
     blocks.get(place)
 }
 
-/// The place of the last block, where it has room for one more open.
-fn place_with_room(blocks: &[OpenBlock]) -> Option<usize>
-    ensures some { IfSome result (λ i. (length blocks.now ≡ i + 1) × ((d : List OpenState) → length (slice_index_or blocks.now i d) < 64)) }
-    ensures none { IfNone result ((i : ℕ) (d : List OpenState) → length blocks.now ≡ i + 1 → 64 ≤ length (slice_index_or blocks.now i d)) }
+/// The place of the last block, where it has room for one more state.
+fn place_with_room<T: State>(blocks: &[StateBlock<T>]) -> Option<usize>
+    ensures some { IfSome result (λ i. (length blocks.now ≡ i + 1) × ((d : List T) → length (slice_index_or blocks.now i d) < 64)) }
+    ensures none { IfNone result ((i : ℕ) (d : List T) → length blocks.now ≡ i + 1 → 64 ≤ length (slice_index_or blocks.now i d)) }
 {
     if blocks.is_empty() {
         return None;
@@ -180,21 +238,21 @@ fn place_with_room(blocks: &[OpenBlock]) -> Option<usize>
     Some(last)
 }
 
-/// The opens of a client go, and blocks that have none left.
-fn drop_in(blocks: &mut Vec<OpenBlock>, client: u64)
-    ensures items { flat blocks.new.items ≡ filter (λ o. not (o.client == client)) (flat blocks.old.items) }
-    ensures some { (b : List OpenState) → In b blocks.new.items → b ≢ [] }
+/// The states of a client go, and blocks that have none left.
+fn drop_in<T: State>(blocks: &mut Vec<StateBlock<T>>, client: u64)
+    ensures items { flat blocks.new.items ≡ filter (λ x. not (T.client x == client)) (flat blocks.old.items) }
+    ensures some { (b : List T) → In b blocks.new.items → b ≢ [] }
     ensures fewer { length blocks.new.items ≤ length blocks.old.items }
     ensures room { vec_capacity blocks.new ≡ vec_capacity blocks.old }
 {
-    let keep = |b: &mut OpenBlock| -> bool
-        ensures { (b.exit.now ≡ filter (λ o. not (o.client == client)) b.entry.now) × (result ≡ true → b.exit.now ≢ []) × (result ≡ false → b.exit.now ≡ []) }
+    let keep = |b: &mut StateBlock<T>| -> bool
+        ensures { (b.exit.now ≡ filter (λ x. not (T.client x == client)) b.entry.now) × (result ≡ true → b.exit.now ≢ []) × (result ≡ false → b.exit.now ≡ []) }
     { b.drop_client(client) };
     blocks.retain_mut(keep);
 }
 
-impl ByNumber {
-    /// No opens.
+impl<T: State> ByNumber<T> {
+    /// No states.
     pub(crate) fn new(alloc: Global) -> Self
         ensures { result.items ≡ [] }
     {
@@ -204,9 +262,16 @@ impl ByNumber {
         }
     }
 
-    /// The open of a number.
-    pub(crate) fn get(&self, number: u64) -> Option<&OpenState>
-        ensures { option_copied result ≡ find (λ o. o.number == number) self.now.items }
+    /// What always holds; moves nothing.
+    pub(crate) fn kept(&self)
+        ensures { Rises T.number 1 self.now.items }
+    {
+        let _ = &self.spare;
+    }
+
+    /// The state of a number.
+    pub(crate) fn get(&self, number: u64) -> Option<&T>
+        ensures { option_copied result ≡ find (λ x. T.number x == number) self.now.items }
     {
         match block_at(&self.blocks, block_of(&self.blocks, number)) {
             Some(block) => block.get(number),
@@ -214,7 +279,7 @@ impl ByNumber {
         }
     }
 
-    /// Room for one more open.
+    /// Room for one more state.
     pub(crate) fn reserve(&mut self, alloc: Global) -> Result<(), AllocError>
         ensures items { self.new.items ≡ self.old.items }
         ensures ok { OnOk result (self.new.ready ≡ true) }
@@ -222,16 +287,16 @@ impl ByNumber {
     {
         if self.spare.is_none() {
             self.blocks.reserve(1)?;
-            self.spare = Some(OpenBlock::new(alloc)?);
+            self.spare = Some(StateBlock::new(alloc)?);
         }
         Ok(())
     }
 
-    /// An open comes behind all others. It takes no memory.
-    pub(crate) fn push(&mut self, new: OpenState)
+    /// A state comes behind all others. It takes no memory.
+    pub(crate) fn push(&mut self, new: T)
         requires ready { self.old.ready ≡ true }
-        requires behind { (o : OpenState) → In o self.old.items → o.number < new.number }
-        requires first { 0 < new.number }
+        requires behind { (x : T) → In x self.old.items → T.number x < T.number new }
+        requires first { 0 < T.number new }
         ensures { self.new.items ≡ self.old.items ++ new ∷ [] }
     {
         if let Some(last) = place_with_room(&self.blocks) {
@@ -243,6 +308,31 @@ impl ByNumber {
         self.blocks.push(block).unwrap();
     }
 
+    /// The state of a number goes.
+    pub(crate) fn remove(&mut self, number: u64)
+        ensures items { self.new.items ≡ filter (λ x. not (T.number x == number)) self.old.items }
+        ensures ready { self.new.ready ≡ self.old.ready }
+    {
+        let place = block_of(&self.blocks, number);
+        if place == self.blocks.len() {
+            return;
+        }
+        let stays = self.blocks[place].remove(number);
+        if !stays {
+            let _ = self.blocks.remove(place);
+        }
+    }
+
+    /// The states of a client go.
+    pub(crate) fn drop_client(&mut self, client: u64)
+        ensures items { self.new.items ≡ filter (λ x. not (T.client x == client)) self.old.items }
+        ensures ready { self.new.ready ≡ self.old.ready }
+    {
+        drop_in(&mut self.blocks, client);
+    }
+}
+
+impl ByNumber<OpenState> {
     /// What is asked joins the open of a number.
     pub(crate) fn join(&mut self, number: u64, ask: &Ask)
         ensures items { self.new.items ≡ map (λ o. if o.number == number then joins (asked ask.now) o else o) self.old.items }
@@ -264,27 +354,23 @@ impl ByNumber {
             self.blocks[place].narrow(number, access, deny);
         }
     }
+}
 
-    /// The open of a number goes.
-    pub(crate) fn remove(&mut self, number: u64)
-        ensures items { self.new.items ≡ filter (λ o. not (o.number == number)) self.old.items }
+impl ByNumber<LockState> {
+    /// The seqid of the lock state of a number rises.
+    pub(crate) fn raise(&mut self, number: u64)
+        ensures items { self.new.items ≡ map (λ l. if l.number == number then raised l else l) self.old.items }
         ensures ready { self.new.ready ≡ self.old.ready }
     {
         let place = block_of(&self.blocks, number);
-        if place == self.blocks.len() {
-            return;
-        }
-        let stays = self.blocks[place].remove(number);
-        if !stays {
-            let _ = self.blocks.remove(place);
+        if place < self.blocks.len() {
+            self.blocks[place].raise(number);
         }
     }
-
-    /// The opens of a client go.
-    pub(crate) fn drop_client(&mut self, client: u64)
-        ensures items { self.new.items ≡ filter (λ o. not (o.client == client)) self.old.items }
-        ensures ready { self.new.ready ≡ self.old.ready }
+    /// A client's lock states hold no bytes from now on.
+    pub(crate) fn drop_bytes(&self, files: &mut LockedFiles, client: u64)
+        ensures { held_by files.new ≡ held_without (λ l. l.client == client) self.now.items (held_by files.old) }
     {
-        drop_in(&mut self.blocks, client);
+        drop_bytes_in(files, &self.blocks, client);
     }
 }

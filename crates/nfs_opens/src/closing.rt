@@ -1,12 +1,13 @@
 //! CLOSE, the end of a client, and FREE_STATEID (RFC 8881 sections 18.2, 8.4.2 and 18.38).
 
-ghost use Rattle.std.specs.Prelude.{◌≡◌, ◌==◌, true, not, filter, IfSome};
+ghost use Rattle.std.specs.Prelude.{◌≡◌, ◌≢◌, ◌==◌, ℕ, true, false, not, filter, IfSome};
+ghost use Rattle.std.specs.List.{list_any};
 ghost use Rattle.nfs_ranges.specs.Holders.{dropped};
 ghost use Rattle.nfs_xdr.specs.Tables.{In};
 ghost use Rattle.nfs_opens.specs.Holding.{held_by, on_file};
 ghost use Rattle.nfs_opens.specs.Table.{table, open_at, lock_at};
 ghost use Rattle.nfs_opens.specs.Kept.{AreHolders, Rises};
-ghost use Rattle.nfs_opens.specs.Blocks.{goes, IsSearched};
+ghost use Rattle.nfs_opens.specs.Blocks.{goes};
 ghost use Rattle.nfs_opens.specs.Index.{IsIndex, marked};
 ghost use Rattle.nfs_opens.specs.Closing.{without_open, close, free_lock, free};
 ghost use Rattle.nfs_opens.specs.Calls.{without_client, drop_client, held_without};
@@ -15,9 +16,10 @@ use crate::blocks::Index;
 use crate::by_number::ByNumber;
 use crate::index::Pair;
 use crate::judging::{Seat, Sort};
+use crate::lock_states::LockStates;
 use crate::locked_files::LockedFiles;
 use crate::opens::Opens;
-use crate::records::{LockState, is_locked, lock_in, next_lock_in, place_of_lock};
+use crate::records::{LockState, OpenState, State};
 use crate::stateid::StateId;
 use nfs_xdr::Status;
 
@@ -25,20 +27,19 @@ use nfs_xdr::Status;
 #[derive(Clone, Copy)]
 pub(crate) enum Going<'a> {
     /// Those of a client's lock states.
-    Locks(&'a [LockState], u64),
+    Locks(&'a ByNumber<LockState>, u64),
     /// Those of a client's opens.
-    Opens(&'a ByNumber, u64),
+    Opens(&'a ByNumber<OpenState>, u64),
     /// Those that belong to a client.
     Owned(u64),
 }
 
 impl Going<'_> {
     pub(crate) fn takes(self, pair: Pair) -> bool
-        requires { IsSearched self }
         ensures { result ≡ goes self.entry pair }
     {
         match self {
-            Going::Locks(locks, client) => is_clients_lock(locks, pair.number, client),
+            Going::Locks(locks, client) => is_clients(locks, pair.number, client),
             Going::Opens(opens, client) => is_clients(opens, pair.number, client),
             Going::Owned(client) => pair.of == client,
         }
@@ -46,7 +47,7 @@ impl Going<'_> {
 }
 
 /// An open no longer stands among those of its file.
-fn drop_pair(by_file: &mut Index, opens: &ByNumber, number: u64)
+fn drop_pair(by_file: &mut Index, opens: &ByNumber<OpenState>, number: u64)
     requires rises { Rises (λ o. o.number) 1 opens.now.items }
     requires index { IsIndex (λ o. o.file) (λ o. o.number) opens.now.items by_file.old.items }
     ensures index { IsIndex (λ o. o.file) (λ o. o.number) (filter (λ o. not (o.number == number)) opens.now.items) by_file.new.items }
@@ -61,7 +62,7 @@ fn drop_pair(by_file: &mut Index, opens: &ByNumber, number: u64)
 }
 
 /// An open no longer stands among those of its client.
-fn drop_own_pair(by_client: &mut Index, opens: &ByNumber, number: u64)
+fn drop_own_pair(by_client: &mut Index, opens: &ByNumber<OpenState>, number: u64)
     requires rises { Rises (λ o. o.number) 1 opens.now.items }
     requires index { IsIndex (λ o. o.client) (λ o. o.number) opens.now.items by_client.old.items }
     ensures index { IsIndex (λ o. o.client) (λ o. o.number) (filter (λ o. not (o.number == number)) opens.now.items) by_client.new.items }
@@ -75,147 +76,63 @@ fn drop_own_pair(by_client: &mut Index, opens: &ByNumber, number: u64)
     }
 }
 
-/// A lock state no longer stands among those of its file.
-fn drop_lock_pair(by_file: &mut Index, locks: &[LockState], number: u64)
-    requires rises { Rises (λ l. l.number) 1 locks.now }
-    requires index { IsIndex (λ l. l.file) (λ l. l.number) locks.now by_file.old.items }
-    ensures { IsIndex (λ l. l.file) (λ l. l.number) (filter (λ l. not (l.number == number)) locks.now) by_file.new.items }
+/// Whether the state of a number is a client's.
+fn is_clients<T: State>(states: &ByNumber<T>, number: u64, client: u64) -> bool
+    ensures { result ≡ marked T.number (λ x. T.client x == client) states.now.items number }
 {
-    if let Some(lock) = lock_in(locks, number) {
-        by_file.take(Pair {
-            of: lock.file,
-            number,
-        });
-    }
-}
-
-fn drop_lock(locks: &mut Vec<LockState>, number: u64)
-    requires { Rises (λ l. l.number) 1 locks.old.items }
-    ensures { locks.new.items ≡ filter (λ l. not (l.number == number)) locks.old.items }
-{
-    if let Some(place) = place_of_lock(locks, number) {
-        let _ = locks.remove(place);
-    }
-}
-
-fn is_clients_lock(locks: &[LockState], number: u64, client: u64) -> bool
-    requires { Rises (λ l. l.number) 1 locks.now }
-    ensures { result ≡ marked (λ l. l.number) (λ l. l.client == client) locks.now number }
-{
-    match lock_in(locks, number) {
-        Some(lock) => lock.client == client,
+    match states.get(number) {
+        Some(state) => state.client() == client,
         None => false,
     }
-}
-
-fn is_clients(opens: &ByNumber, number: u64, client: u64) -> bool
-    ensures { result ≡ marked (λ o. o.number) (λ o. o.client == client) opens.now.items number }
-{
-    match opens.get(number) {
-        Some(open) => open.client == client,
-        None => false,
-    }
-}
-
-/// A client's lock states hold no bytes from now on.
-fn drop_bytes(files: &mut LockedFiles, locks: &[LockState], client: u64)
-    ensures { held_by files.new ≡ held_without (λ l. l.client == client) locks.now (held_by files.old) }
-{
-    for lock in locks {
-        if lock.client == client {
-            files.drop_state(lock.file, lock.number);
-        }
-    }
-}
-
-fn drop_lock_pairs(by_file: &mut Index, locks: &[LockState], client: u64)
-    requires { Rises (λ l. l.number) 1 locks.now }
-    ensures { by_file.new.items ≡ filter (λ p. not (marked (λ l. l.number) (λ l. l.client == client) locks.now p.number)) by_file.old.items }
-{
-    by_file.keep(Going::Locks(locks, client));
-}
-
-fn drop_locks(locks: &mut Vec<LockState>, client: u64)
-    ensures { locks.new.items ≡ filter (λ l. not (l.client == client)) locks.old.items }
-{
-    locks.retain(|l| l.client != client);
 }
 
 /// A client's lock states go, with the bytes that they hold.
-fn leave_client(
-    files: &mut LockedFiles,
-    locks: &mut Vec<LockState>,
-    by_file: &mut Index,
-    client: u64,
-)
-    requires rises { Rises (λ l. l.number) 1 locks.old.items }
-    requires index { IsIndex (λ l. l.file) (λ l. l.number) locks.old.items by_file.old.items }
+fn leave_client(files: &mut LockedFiles, locks: &mut LockStates, client: u64)
     ensures held { held_by files.new ≡ held_without (λ l. l.client == client) locks.old.items (held_by files.old) }
     ensures locks { locks.new.items ≡ filter (λ l. not (l.client == client)) locks.old.items }
-    ensures index { IsIndex (λ l. l.file) (λ l. l.number) (filter (λ l. not (l.client == client)) locks.old.items) by_file.new.items }
 {
-    drop_bytes(files, locks, client);
-    drop_lock_pairs(by_file, locks, client);
-    drop_locks(locks, client);
+    locks.drop_bytes(files, client);
+    locks.drop_client(client);
 }
 
 /// A lock state of a file goes, with the bytes that it holds.
-fn leave_one(
-    files: &mut LockedFiles,
-    locks: &mut Vec<LockState>,
-    by_file: &mut Index,
-    file: u64,
-    number: u64,
-)
-    requires rises { Rises (λ l. l.number) 1 locks.old.items }
-    requires index { IsIndex (λ l. l.file) (λ l. l.number) locks.old.items by_file.old.items }
+fn leave_one(files: &mut LockedFiles, locks: &mut LockStates, file: u64, number: u64)
     ensures held { held_by files.new ≡ on_file (held_by files.old) file (λ h. dropped h number) }
     ensures locks { locks.new.items ≡ filter (λ l. not (l.number == number)) locks.old.items }
-    ensures index { IsIndex (λ l. l.file) (λ l. l.number) (filter (λ l. not (l.number == number)) locks.old.items) by_file.new.items }
 {
     files.drop_state(file, number);
-    drop_lock_pair(by_file, locks, number);
-    drop_lock(locks, number);
+    locks.remove(number);
 }
 
 /// The lock states under an open of a file go, with the bytes that they hold.
-fn leave_open(
-    files: &mut LockedFiles,
-    locks: &mut Vec<LockState>,
-    by_file: &mut Index,
-    file: u64,
-    opened: u64,
-)
+fn leave_open(files: &mut LockedFiles, locks: &mut LockStates, file: u64, opened: u64)
     requires rises { Rises (λ l. l.number) 1 locks.old.items }
-    requires index { IsIndex (λ l. l.file) (λ l. l.number) locks.old.items by_file.old.items }
     requires file { (l : LockState) → In l locks.old.items → (l.opened == opened) ≡ true → l.file ≡ file }
     ensures held { held_by files.new ≡ held_without (λ l. l.opened == opened) locks.old.items (held_by files.old) }
     ensures locks { locks.new.items ≡ filter (λ l. not (l.opened == opened)) locks.old.items }
-    ensures index { IsIndex (λ l. l.file) (λ l. l.number) (filter (λ l. not (l.opened == opened)) locks.old.items) by_file.new.items }
 {
     let mut after = 0;
-    while let Some(lock) = next_lock_in(locks, by_file, file, after) {
+    while let Some(lock) = locks.next_on(file, after) {
         after = lock.number;
         if lock.is_under(opened) {
-            leave_one(files, locks, by_file, file, after);
+            leave_one(files, locks, file, after);
         }
     }
 }
 
 /// A file on which no lock state stands is no longer listed.
-fn forget_unlocked(files: &mut LockedFiles, locks: &[LockState], by_file: &Index, file: u64)
-    requires rises { Rises (λ l. l.number) 1 locks.now }
-    requires index { IsIndex (λ l. l.file) (λ l. l.number) locks.now by_file.now.items }
-    requires holders { AreHolders locks.now (held_by files.old) }
-    ensures { held_by files.new ≡ held_by files.old }
+fn forget_unlocked(files: &mut LockedFiles, locks: &LockStates, file: u64)
+    requires { AreHolders locks.now.items (held_by files.old) }
+    ensures held { held_by files.new ≡ held_by files.old }
+    ensures gone { list_any (λ l. l.file == file) locks.now.items ≡ false → list_any (λ e. e.0 == file) files.new ≡ false }
 {
-    if !is_locked(locks, by_file, file) {
+    if !locks.is_on(file) {
         files.forget(file);
     }
 }
 
 /// The pairs of a client's opens go.
-fn drop_pairs(by_file: &mut Index, opens: &ByNumber, client: u64)
+fn drop_pairs(by_file: &mut Index, opens: &ByNumber<OpenState>, client: u64)
     ensures items { by_file.new.items ≡ filter (λ p. not (marked (λ o. o.number) (λ o. o.client == client) opens.now.items p.number)) by_file.old.items }
     ensures room { by_file.new.ready ≡ by_file.old.ready }
 {
@@ -266,16 +183,11 @@ impl Opens {
         ensures after { table self.new ≡ without_client (table self.old) client }
         ensures room { self.new.ready ≡ self.old.ready }
     {
-        leave_client(
-            &mut self.files,
-            &mut self.locks,
-            &mut self.locks_by_file,
-            client,
-        );
+        leave_client(&mut self.files, &mut self.locks, client);
         drop_pairs(&mut self.by_file, &self.opens, client);
         drop_own_pairs(&mut self.by_client, client);
         self.opens.drop_client(client);
-        self.files.keep_locked(&self.locks, &self.locks_by_file);
+        self.files.keep_locked(&self.locks);
     }
 
     /// `file`: the open's.
@@ -284,17 +196,11 @@ impl Opens {
         ensures after { table self.new ≡ without_open (table self.old) number }
         ensures room { self.new.ready ≡ self.old.ready }
     {
-        leave_open(
-            &mut self.files,
-            &mut self.locks,
-            &mut self.locks_by_file,
-            file,
-            number,
-        );
+        leave_open(&mut self.files, &mut self.locks, file, number);
         drop_pair(&mut self.by_file, &self.opens, number);
         drop_own_pair(&mut self.by_client, &self.opens, number);
         self.opens.remove(number);
-        forget_unlocked(&mut self.files, &self.locks, &self.locks_by_file, file);
+        forget_unlocked(&mut self.files, &self.locks, file);
     }
 
     /// FREE_STATEID: a lock state that holds no byte goes.
@@ -318,16 +224,15 @@ impl Opens {
         ensures after { table self.new ≡ (free_lock (table self.old) number (lock_at (table self.old) number)).after }
         ensures room { self.new.ready ≡ self.old.ready }
     {
-        let file = match lock_in(&self.locks, number) {
+        let file = match self.locks.get(number) {
             Some(lock) => lock.file,
             None => return Err(Status::BadStateId),
         };
         if self.files.any(file, number) {
             return Err(Status::LocksHeld);
         }
-        drop_lock_pair(&mut self.locks_by_file, &self.locks, number);
-        drop_lock(&mut self.locks, number);
-        forget_unlocked(&mut self.files, &self.locks, &self.locks_by_file, file);
+        self.locks.remove(number);
+        forget_unlocked(&mut self.files, &self.locks, file);
         Ok(())
     }
 }

@@ -5,7 +5,7 @@ ghost use Rattle.nfs_opens.specs.Table.{table, open_at};
 ghost use Rattle.nfs_opens.specs.Judging.{named, judge, judge_named, special, is_sort, is_file, lock_named, open_named, access_of};
 
 use crate::opens::Opens;
-use crate::records::{LockState, OpenState, lock_in};
+use crate::records::{LockState, OpenState};
 use crate::share::Share;
 use crate::stateid::StateId;
 use nfs_xdr::Status;
@@ -152,7 +152,7 @@ impl Opens {
         if let Some(open) = self.opens.get(id.number) {
             return Some(open_named(open));
         }
-        match lock_in(&self.locks, id.number) {
+        match self.locks.get(id.number) {
             Some(lock) => Some(self.lock_named(lock)),
             None => None,
         }

@@ -19,6 +19,7 @@ mod closing;
 mod index;
 mod judging;
 pub mod laws;
+mod lock_states;
 mod locked_files;
 mod locking;
 mod opening;

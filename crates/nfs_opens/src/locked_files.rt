@@ -1,15 +1,14 @@
 //! The locked bytes of all files.
 
-ghost use Rattle.std.specs.Prelude.{◌≡◌, ◌≤◌, ◌==◌, OnOk, OnErr, IfOk, filter, []};
-ghost use Rattle.nfs_ranges.specs.Holders.{at, holding, cleared, dropped, holds_any, nobody};
+ghost use Rattle.std.specs.Prelude.{◌≡◌, ◌≤◌, ◌==◌, ℕ, true, false, OnOk, OnErr, IfOk, filter, []};
+ghost use Rattle.nfs_xdr.specs.Tables.{In};
+ghost use Rattle.nfs_ranges.specs.Holders.{LockedBytes, at, holding, cleared, dropped, holds_any, nobody};
 ghost use Rattle.nfs_ranges.specs.Facts.{Tells};
 ghost use Rattle.std.specs.List.{list_any};
 ghost use Rattle.nfs_opens.specs.Holding.{held_by, on_file};
-ghost use Rattle.nfs_opens.specs.Index.{IsIndex};
-ghost use Rattle.nfs_opens.specs.Kept.{AreHolders, Rises};
+ghost use Rattle.nfs_opens.specs.Kept.{AreHolders};
 
-use crate::blocks::Index;
-use crate::records::{LockState, is_locked};
+use crate::lock_states::LockStates;
 use nfs_ranges::{Held, Kind, Ranges};
 use std::alloc::{AllocError, Global};
 use std::collections::BTreeMap;
@@ -30,13 +29,11 @@ impl Model for LockedFiles {
     ghost view = { λ l. l.files.entries };
 }
 
-/// The files go on which no lock state stands; `pairs`: the lock states by their files.
-fn drop_unlocked(files: &mut BTreeMap<u64, Ranges, Global>, locks: &[LockState], pairs: &Index)
-    requires rises { Rises (λ l. l.number) 1 locks.now }
-    requires index { IsIndex (λ l. l.file) (λ l. l.number) locks.now pairs.now.items }
-    ensures { files.new.entries ≡ filter (λ e. list_any (λ l. l.file == e.0) locks.now) files.old.entries }
+/// The files go on which no lock state stands.
+fn drop_unlocked(files: &mut BTreeMap<u64, Ranges, Global>, locks: &LockStates)
+    ensures { files.new.entries ≡ filter (λ e. list_any (λ l. l.file == e.0) locks.now.items) files.old.entries }
 {
-    files.retain(|file, _| is_locked(locks, pairs, *file));
+    files.retain(|file, _| locks.is_on(*file));
 }
 
 /// The bytes of a new file, of which a lock state holds some.
@@ -144,19 +141,19 @@ impl LockedFiles {
         }
     }
 
-    /// Files on which no lock state stands are no longer listed; `pairs`: the lock states by their files.
-    pub(crate) fn keep_locked(&mut self, locks: &[LockState], pairs: &Index)
-        requires rises { Rises (λ l. l.number) 1 locks.now }
-        requires index { IsIndex (λ l. l.file) (λ l. l.number) locks.now pairs.now.items }
-        requires holders { AreHolders locks.now (held_by self.old) }
-        ensures { held_by self.new ≡ held_by self.old }
+    /// Files on which no lock state stands are no longer listed.
+    pub(crate) fn keep_locked(&mut self, locks: &LockStates)
+        requires { AreHolders locks.now.items (held_by self.old) }
+        ensures held { held_by self.new ≡ held_by self.old }
+        ensures listed { (e : ℕ × LockedBytes) → In e self.new → list_any (λ l. l.file == e.0) locks.now.items ≡ true }
     {
-        drop_unlocked(&mut self.files, locks, pairs);
+        drop_unlocked(&mut self.files, locks);
     }
 
     /// Nobody holds a byte of a file.
     pub(crate) fn forget(&mut self, file: u64)
-        ensures { held_by self.new ≡ on_file (held_by self.old) file (λ h. nobody) }
+        ensures held { held_by self.new ≡ on_file (held_by self.old) file (λ h. nobody) }
+        ensures gone { list_any (λ e. e.0 == file) self.new ≡ false }
     {
         let _ = self.files.remove(&file);
     }

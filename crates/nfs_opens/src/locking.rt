@@ -10,12 +10,11 @@ ghost use Rattle.nfs_opens.specs.Table.{table, open_at, lock_at};
 ghost use Rattle.nfs_opens.specs.Locking.{lock_as, lock_first, lock_judged, unlock, test_lock, clash, permits, access_in, state_of};
 ghost use Rattle.nfs_opens.specs.Calls.{LocksOrWants, UnlocksOrWants, lock, is_whole};
 
-use crate::index::Pair;
 use crate::judging::{Seat, Sort};
 use crate::locked_files::LockedFiles;
 use crate::opens::Opens;
 use crate::owner::Owner;
-use crate::records::{LockState, lock_in, raise_lock};
+use crate::records::LockState;
 use crate::share::Share;
 use crate::stateid::{StateId, next_seqid};
 use nfs_ranges::{Held, Kind};
@@ -220,13 +219,13 @@ impl Opens {
         ensures room { self.new.ready ≡ self.old.ready }
     {
         self.judge_lock(state, access, wish)?;
-        let seqid = match lock_in(&self.locks, state) {
+        let seqid = match self.locks.get(state) {
             Some(lock) => next_seqid(lock.seqid),
             None => return Err(OpenFault::Refused(Status::BadStateId)),
         };
         self.files
             .set(alloc, wish.file, state, wish.kind, wish.first, wish.last)?;
-        raise_lock(&mut self.locks, state);
+        self.locks.raise(state);
         Ok(StateId {
             seqid,
             instance: self.instance,
@@ -254,25 +253,18 @@ impl Opens {
         }
         let number = self.last + 1;
         let owner = Owner::of(alloc, owner)?;
-        self.locks.reserve(1)?;
-        self.locks_by_file.reserve(alloc)?;
+        self.locks.reserve(alloc)?;
         self.files
             .set(alloc, wish.file, number, wish.kind, wish.first, wish.last)?;
         self.last = number;
-        self.locks_by_file.put(Pair {
-            of: wish.file,
+        self.locks.push(LockState {
             number,
+            client: wish.client,
+            owner,
+            file: wish.file,
+            opened,
+            seqid: 1,
         });
-        self.locks
-            .push(LockState {
-                number,
-                client: wish.client,
-                owner,
-                file: wish.file,
-                opened,
-                seqid: 1,
-            })
-            .unwrap();
         Ok(StateId {
             seqid: 1,
             instance: self.instance,
@@ -298,12 +290,12 @@ impl Opens {
         ensures room { self.new.ready ≡ self.old.ready }
     {
         self.judge(id, client, Some(file), Sort::LockOnly)?;
-        let seqid = match lock_in(&self.locks, id.number) {
+        let seqid = match self.locks.get(id.number) {
             Some(lock) => next_seqid(lock.seqid),
             None => return Err(OpenFault::Refused(Status::BadStateId)),
         };
         clear_bytes(&mut self.files, alloc, file, id.number, first, last)?;
-        raise_lock(&mut self.locks, id.number);
+        self.locks.raise(id.number);
         Ok(StateId {
             seqid,
             instance: self.instance,

@@ -8,8 +8,9 @@ ghost use Rattle.nfs_opens.specs.Kept.{IsTable};
 
 use crate::blocks::Index;
 use crate::by_number::ByNumber;
+use crate::lock_states::LockStates;
 use crate::locked_files::LockedFiles;
-use crate::records::{LockState, OpenState, lock_in, next_lock_in};
+use crate::records::{LockState, OpenState};
 use crate::share::Share;
 use std::alloc::Global;
 use std::marker::Model;
@@ -17,14 +18,12 @@ use std::marker::Model;
 /// All opens and lock states in rising order of their numbers, and the locked bytes of all files.
 #[derive(Drop)]
 pub struct Opens {
-    pub(crate) opens: ByNumber,
+    pub(crate) opens: ByNumber<OpenState>,
     /// The opens by their files.
     pub(crate) by_file: Index,
     /// The opens by their clients.
     pub(crate) by_client: Index,
-    pub(crate) locks: Vec<LockState>,
-    /// The lock states by their files.
-    pub(crate) locks_by_file: Index,
+    pub(crate) locks: LockStates,
     pub(crate) files: LockedFiles,
     /// The last number that was given, to an open or a lock state; 0 before the first.
     pub(crate) last: u64,
@@ -41,7 +40,7 @@ impl Model for Opens {
 
     ghost view = { λ t. record { opens = t.opens.items; locks = t.locks.items; files = t.files; last = t.last; instance = t.instance; ready = t.ready } };
 
-    ghost invariant = { λ t. IsKept (record { opens = t.opens.items; locks = t.locks.items; files = t.files; last = t.last; instance = t.instance; ready = t.ready }) t.opens.ready t.by_file.items t.by_file.ready t.by_client.items t.by_client.ready t.locks_by_file.items };
+    ghost invariant = { λ t. IsKept (record { opens = t.opens.items; locks = t.locks.items; files = t.files; last = t.last; instance = t.instance; ready = t.ready }) t.opens.ready t.by_file.items t.by_file.ready t.by_client.items t.by_client.ready };
 }
 
 impl Opens {
@@ -54,8 +53,7 @@ impl Opens {
             opens: ByNumber::new(alloc),
             by_file: Index::new(alloc),
             by_client: Index::new(alloc),
-            locks: Vec::new(alloc),
-            locks_by_file: Index::new(alloc),
+            locks: LockStates::new(alloc),
             files: LockedFiles::new(alloc),
             last: 0,
             instance,
@@ -75,7 +73,7 @@ impl Opens {
         ensures found { option_copied result ≡ lock_at (table self.now) number }
         ensures kept { IsTable (table self.now) }
     {
-        lock_in(&self.locks, number)
+        self.locks.get(number)
     }
 
     /// The open of a file with the lowest number behind `after`.
@@ -113,7 +111,7 @@ impl Opens {
         ensures found { option_copied result ≡ find (λ l. (l.file == file) && nat_lt after l.number) (table self.now).locks }
         ensures kept { IsTable (table self.now) }
     {
-        next_lock_in(&self.locks, &self.locks_by_file, file, after)
+        self.locks.next_on(file, after)
     }
 
     /// Whether a file has an open.

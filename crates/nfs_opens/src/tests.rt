@@ -518,6 +518,53 @@ fn opens_close_at_both_ends_and_in_the_middle(rt: HostRuntime) -> Result<(), Fai
     Ok(())
 }
 
+/// 200 lock owners of A lock a byte each under its open 1, by the lock states 2 to 201.
+fn many_lockers(alloc: Global) -> Opens {
+    let mut opens = Opens::new(alloc, 7);
+    let _ = open_file(&mut opens, alloc, &ask(A, 3, 0));
+    for owner in 1..=200_u8 {
+        let new = Locker::New {
+            under: id(1, 1),
+            owner: &[0, owner],
+        };
+        let byte = owner as u64;
+        let _ = lock_bytes(&mut opens, alloc, &new, &wish(A, Kind::Write, byte, byte));
+    }
+    opens
+}
+
+#[test]
+fn lock_states_go_at_both_ends_and_in_the_middle(rt: HostRuntime) -> Result<(), Fail> {
+    let mut opens = many_lockers(rt.alloc());
+    for turn in 0..50 {
+        for number in [2 + turn, 102 + turn, 201 - turn] {
+            let unlocked = opens.unlock(rt.alloc(), id(1, number), A, FILE, 0, LAST);
+            assert_eq!(rt; unlocked, Ok(id(2, number)), "LOCKU by {number}");
+            assert_eq!(rt;
+                opens.free(id(2, number), A),
+                Ok(()),
+                "FREE_STATEID of {number}"
+            );
+        }
+    }
+    for number in 2..=201 {
+        let stands = opens.lock_state(number).is_some();
+        assert_eq!(rt; stands, matches!(number, 52..=101), "lock state {number}");
+    }
+    let again = lock_bytes(
+        &mut opens,
+        rt.alloc(),
+        &LOCKER_A,
+        &wish(A, Kind::Read, 0, 0),
+    );
+    assert_eq!(rt; again, Ok(id(1, 202)));
+    assert_eq!(rt; opens.close(id(1, 1), A, FILE), Ok(()));
+    for number in [52, 101, 202] {
+        assert!(rt; opens.lock_state(number).is_none(), "lock state {number}");
+    }
+    Ok(())
+}
+
 #[test]
 fn a_seqid_after_the_last_is_one(rt: HostRuntime) -> Result<(), Fail> {
     for (seqid, next) in [(1, 2), (u32::MAX - 1, u32::MAX), (u32::MAX, 1)] {

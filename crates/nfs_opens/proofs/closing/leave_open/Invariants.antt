@@ -5,7 +5,7 @@ use Rattle.nfs_opens.proofs.closing.leave_open.Given as goal
 
 abbrev pub invariant-loop-lock : goal.invariant-loop-lock
 invariant-loop-lock l =
-    IsLeft (λ k. k.opened == l.opened) l.file l.after l.initial.locks.items (held_by l.initial.files) l.locks.items (held_by l.files) l.by_file.items
+    IsLeft (λ k. k.opened == l.opened) l.file l.after l.initial.locks.items (held_by l.initial.files) l.locks.items (held_by l.files)
 
 abbrev pub decreases-loop-lock : goal.decreases-loop-lock
 decreases-loop-lock l = length (filter (behind l.after) l.locks.items)

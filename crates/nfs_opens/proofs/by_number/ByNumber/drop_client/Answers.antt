@@ -1,6 +1,5 @@
 use Rattle.std.proofs.Common.{not, length, sym, subst}
 use Rattle.std.specs.Prelude.{◌==◌}
-use Rattle.nfs_opens.specs.declared.records.OpenState.{OpenState}
 use Rattle.nfs_opens.specs.Flat.{flat}
 use Rattle.nfs_opens.specs.Kept.{Rises}
 use Rattle.nfs_xdr.proofs.Tables.{IsRising-filter}
@@ -8,10 +7,10 @@ use Rattle.nfs_opens.proofs.FlatLemmas.{room_kept}
 use Rattle.nfs_opens.proofs.by_number.ByNumber.drop_client.Goals as goal
 
 pub invariant_of-self : goal.invariant_of-self
-invariant_of-self c = record {
+invariant_of-self g c = record {
   rising = (
-    subst (Rises (λ (o : OpenState). o.number) 1) (sym c.drop_in.ensures.items)
-        (_, IsRising-filter (λ (o : OpenState). o.number) (λ o. not (o.client == c.args.client)) 1 _ (flat c.self.inside.blocks.items) c.self.invariant.rising.0.1),
+    subst (Rises g.T.State.number 1) (sym c.drop_in.ensures.items)
+        (_, IsRising-filter g.T.State.number (λ o. not (g.T.State.client o == c.args.client)) 1 _ (flat c.self.inside.blocks.items) c.self.invariant.rising.0.1),
     c.drop_in.ensures.some,
   );
   room = room_kept c.self.inside.spare (length c.self.inside.blocks.items) (length c.drop_in.new.blocks.items) _ _ c.self.invariant.room c.drop_in.ensures.fewer

@@ -75,7 +75,6 @@ invariant_of-self c =
       by_client = opens_changed (λ o. o.client) (narrows c.args.access c.args.deny) c.args.id.number c.self.inside.opens.items c.narrow.new.self.items
           c.self.inside.by_client.items c.narrow.ensures.items (λ o. refl) (λ o. refl) c.self.invariant.by_client;
       seat = c.self.invariant.seat;
-      locks = c.self.invariant.locks;
     }
 
 -- what a downgrade of an open that is narrowed answers and leaves

@@ -3,10 +3,9 @@ use Rattle.std.specs.Prelude.{◌==◌, not, filter}
 use Rattle.nfs_opens.specs.contracts.opens.Opens.{the_view}
 use Rattle.nfs_opens.specs.declared.index.Pair.{Pair}
 use Rattle.nfs_opens.specs.declared.records.OpenState.{OpenState}
-use Rattle.nfs_opens.specs.declared.records.LockState.{LockState}
 use Rattle.nfs_opens.specs.Holding.{held_by}
 use Rattle.nfs_opens.specs.Table.{Kept, table}
-use Rattle.nfs_opens.specs.Kept.{Rises, IsTable}
+use Rattle.nfs_opens.specs.Kept.{IsTable}
 use Rattle.nfs_opens.specs.Calls.{without_client}
 use Rattle.nfs_opens.specs.Index.{IsIndex, marked}
 use Rattle.nfs_opens.proofs.TableLemmas.{table_ended}
@@ -14,28 +13,14 @@ use Rattle.nfs_opens.proofs.LockLemmas.{left_holders, left_held, same_table}
 use Rattle.nfs_opens.proofs.IndexLemmas.{index_part, index_unmarked}
 use Rattle.nfs_opens.proofs.opens.Opens.end_client.Goals as goal
 
-pub leave_client-requires-clause-rises : goal.leave_client-requires-clause-rises
-leave_client-requires-clause-rises c = (_, c.self.invariant.table.locks)
-
-pub leave_client-requires-clause-index : goal.leave_client-requires-clause-index
-leave_client-requires-clause-index c = c.self.invariant.locks
-
-pub keep_locked-requires-clause-rises : goal.keep_locked-requires-clause-rises
-keep_locked-requires-clause-rises c = subst (Rises (λ (l : LockState). l.number) 1) (sym (c.deref.ensures.value ∙ c.leave_client.ensures.locks))
-    (_, (table_ended (table (the_view c.self.inside)) c.args.client c.self.invariant.table).locks)
-
-pub keep_locked-requires-clause-index : goal.keep_locked-requires-clause-index
-keep_locked-requires-clause-index c =
-    subst (λ (ls : List LockState). IsIndex (λ (l : LockState). l.file) (λ l. l.number) ls c.leave_client.new.by_file.items) (sym (c.deref.ensures.value ∙ c.leave_client.ensures.locks)) c.leave_client.ensures.index
-
-pub keep_locked-requires-clause-holders : goal.keep_locked-requires-clause-holders
-keep_locked-requires-clause-holders c =
-    left_holders (table (the_view c.self.inside)) (λ l. l.client == c.args.client) c.deref.result.now (held_by c.leave_client.new.files) c.self.invariant.table (c.deref.ensures.value ∙ c.leave_client.ensures.locks) c.leave_client.ensures.held
+pub keep_locked-requires : goal.keep_locked-requires
+keep_locked-requires c =
+    left_holders (table (the_view c.self.inside)) (λ l. l.client == c.args.client) c.leave_client.new.locks.items (held_by c.leave_client.new.files) c.self.invariant.table c.leave_client.ensures.locks c.leave_client.ensures.held
 
 pub invariant_of-self : goal.invariant_of-self
 invariant_of-self c =
     let t = table (the_view c.self.inside) in
-    let held = c.keep_locked.ensures ∙ left_held t (λ l. l.client == c.args.client) (held_by c.leave_client.new.files) c.self.invariant.table c.leave_client.ensures.held in
+    let held = c.keep_locked.ensures.held ∙ left_held t (λ l. l.client == c.args.client) (held_by c.leave_client.new.files) c.self.invariant.table c.leave_client.ensures.held in
     let same = same_table c.drop_client.new.self.items _ c.leave_client.new.locks.items _
     (held_by c.keep_locked.new.self) _ c.self.inside.last c.self.inside.instance c.drop_client.ensures.items c.leave_client.ensures.locks held in
     let stays : OpenState → Bool = λ o. not (o.client == c.args.client) in
@@ -57,14 +42,12 @@ invariant_of-self c =
           (index_part (λ (o : OpenState). o.client) (λ o. o.number) stays (λ p. not (p.of == c.args.client)) c.self.inside.opens.items
           c.self.inside.by_client.items c.self.invariant.by_client (λ o there. refl)));
       seat = λ yes. c.drop_own_pairs.ensures.room ∙ c.self.invariant.seat yes;
-      locks = subst (λ (ls : List LockState). IsIndex (λ (l : LockState). l.file) (λ l. l.number) ls c.leave_client.new.by_file.items) (sym c.leave_client.ensures.locks)
-          c.leave_client.ensures.index;
     }
 
 pub returns-clause-after : goal.returns-clause-after
 returns-clause-after c =
     let t = table (the_view c.self.inside) in
-    let held = c.keep_locked.ensures ∙ left_held t (λ l. l.client == c.args.client) (held_by c.leave_client.new.files) c.self.invariant.table c.leave_client.ensures.held in
+    let held = c.keep_locked.ensures.held ∙ left_held t (λ l. l.client == c.args.client) (held_by c.leave_client.new.files) c.self.invariant.table c.leave_client.ensures.held in
     let same = same_table c.drop_client.new.self.items _ c.leave_client.new.locks.items _
     (held_by c.keep_locked.new.self) _ c.self.inside.last c.self.inside.instance c.drop_client.ensures.items c.leave_client.ensures.locks held in
     same ∙ ap (λ (k : Kept). without_client (table k) c.args.client) c.self.view_is

@@ -1,5 +1,5 @@
 use Rattle.std.proofs.Common.{◌≡◌, Some, ℕ, sym, subst, ap, ◌∙◌, arith, refl}
-use Rattle.std.specs.Prelude.{◌==◌, Ok, find}
+use Rattle.std.specs.Prelude.{Ok}
 use Rattle.std.specs.Option.{option_copied}
 use Rattle.nfs_opens.specs.contracts.opens.Opens.{the_view}
 use Rattle.nfs_opens.specs.declared.stateid.StateId.{StateId}
@@ -7,31 +7,23 @@ use Rattle.nfs_opens.specs.declared.locking.OpenFault.{OpenFault}
 use Rattle.nfs_opens.specs.declared.records.LockState.{LockState}
 use Rattle.nfs_opens.specs.Holding.{held_by}
 use Rattle.nfs_opens.specs.Table.{Kept, Did, table, lock_at}
-use Rattle.nfs_opens.specs.Kept.{Rises, IsTable}
+use Rattle.nfs_opens.specs.Kept.{IsTable}
 use Rattle.nfs_opens.specs.Locking.{lock_judged, lock_as}
 use Rattle.nfs_opens.proofs.LockLemmas.{same_table}
-use Rattle.nfs_opens.proofs.LockedLemmas.{locks_raised}
 use Rattle.nfs_opens.proofs.StepLemmas.{if_some, lock_as_is, table_locked}
 use Rattle.nfs_opens.proofs.opens.Opens.lock_as.Goals as goal
-
-pub lock_in-requires : goal.lock_in-requires
-lock_in-requires c = subst (Rises (λ (l : LockState). l.number) 1) (sym c.deref.ensures.value)
-    (_, c.self.invariant.table.locks)
-
-pub raise_lock-requires : goal.raise_lock-requires
-raise_lock-requires c = (_, c.self.invariant.table.locks)
 
 pub invariant_of-self-2 : goal.invariant_of-self-2
 invariant_of-self-2 c =
     let found : lock_at (table (the_view c.self.inside)) c.args.state ≡ Some c.in-Some.lock.now =
-    ap (find (λ (l : LockState). l.number == c.args.state)) (sym c.deref.ensures.value) ∙ (sym c.lock_in.ensures ∙ ap option_copied c.in-Some.is) in
+    sym c.get.ensures ∙ ap option_copied c.in-Some.is in
     let judged : lock_judged (table (the_view c.self.inside)) c.args.state c.args.access c.args.wish.now ≡ Ok tt =
     ap (λ (k : Kept). lock_judged (table k) c.args.state c.args.access c.args.wish.now) c.self.view_is ∙ (sym c.judge_lock.ensures ∙ c.in_ok-judge_lock.was) in
     let of_file : c.in-Some.lock.now.file ≡ c.args.wish.now.file =
     if_some _ c.in-Some.lock.now (λ (l : LockState). l.file ≡ c.args.wish.now.file) (ap (λ (k : Kept). lock_at (table k) c.args.state) (sym c.self.view_is)
     ∙ found) c.requires.file in
-    let same = same_table c.self.inside.opens.items _ c.raise_lock.new.locks.items _ (held_by c.set.new.self) _ c.self.inside.last c.self.inside.instance
-    refl c.raise_lock.ensures c.in_ok-set.ensures.ok in
+    let same = same_table c.self.inside.opens.items _ c.raise.new.self.items _ (held_by c.set.new.self) _ c.self.inside.last c.self.inside.instance
+    refl c.raise.ensures c.in_ok-set.ensures.ok in
     record {
       table = subst IsTable (sym same)
           (table_locked (table (the_view c.self.inside)) c.args.wish.now c.args.state c.args.access c.in-Some.lock.now c.self.invariant.table
@@ -41,23 +33,22 @@ invariant_of-self-2 c =
       place = c.self.invariant.place;
       by_client = c.self.invariant.by_client;
       seat = c.self.invariant.seat;
-      locks = locks_raised c.args.state c.self.inside.locks.items c.raise_lock.new.locks.items c.self.inside.locks_by_file.items c.raise_lock.ensures c.self.invariant.locks;
     }
 
 pub returns-clause-locks : goal.returns-clause-locks
 returns-clause-locks c =
     let found : lock_at (table (the_view c.self.inside)) c.args.state ≡ Some c.in-Some.lock.now =
-    ap (find (λ (l : LockState). l.number == c.args.state)) (sym c.deref.ensures.value) ∙ (sym c.lock_in.ensures ∙ ap option_copied c.in-Some.is) in
+    sym c.get.ensures ∙ ap option_copied c.in-Some.is in
     let judged : lock_judged (table (the_view c.self.inside)) c.args.state c.args.access c.args.wish.now ≡ Ok tt =
     ap (λ (k : Kept). lock_judged (table k) c.args.state c.args.access c.args.wish.now) c.self.view_is ∙ (sym c.judge_lock.ensures ∙ c.in_ok-judge_lock.was) in
     let is = lock_as_is (table (the_view c.self.inside)) c.args.wish.now c.args.state c.args.access c.in-Some.lock.now judged found in
-    let same = same_table c.self.inside.opens.items _ c.raise_lock.new.locks.items _ (held_by c.set.new.self) _ c.self.inside.last c.self.inside.instance
-    refl c.raise_lock.ensures c.in_ok-set.ensures.ok in
+    let same = same_table c.self.inside.opens.items _ c.raise.new.self.items _ (held_by c.set.new.self) _ c.self.inside.last c.self.inside.instance
+    refl c.raise.ensures c.in_ok-set.ensures.ok in
     subst (λ (k : Kept). (Ok (record { seqid = c.next_seqid-seqid.result; instance = c.self.inside.instance; number = c.args.state }) ≡
     (lock_as (table k) c.args.wish.now c.args.state c.args.access).answer)
     × (record {
       opens = c.self.inside.opens.items;
-      locks = c.raise_lock.new.locks.items;
+      locks = c.raise.new.self.items;
       held = held_by c.set.new.self;
       last = c.self.inside.last;
       instance =

@@ -1,4 +1,4 @@
-use Rattle.std.proofs.Common.{◌≡◌, ◌≢◌, ◌+◌, ◌++◌, ◌∷◌, [], List, suc, sym, subst, ap, ◌∙◌, arith, refl}
+use Rattle.std.proofs.Common.{◌≡◌, ◌<◌, ◌+◌, ◌++◌, ◌∷◌, [], List, suc, sym, subst, ap, ◌∙◌, arith, refl}
 use Rattle.std.specs.Prelude.{Ok}
 use Rattle.std.proofs.lemmas.Grind.{common_steps}
 use Rattle.std.proofs.lemmas.Bool.{ne_eqb}
@@ -14,17 +14,12 @@ use Rattle.nfs_opens.proofs.StepLemmas.{judged_tells, first_state, table_first, 
 use Rattle.nfs_opens.proofs.opens.Opens.lock_first.Goals as goal
 use Rattle.nfs_xdr.proofs.Lists.{some_there}
 use Rattle.nfs_opens.specs.declared.records.LockState.{LockState}
-use Rattle.nfs_opens.specs.declared.index.Pair.{Pair}
-use Rattle.nfs_opens.specs.Index.{IsIndex, HasPut}
 use Rattle.nfs_xdr.specs.Tables.{In}
-use Rattle.nfs_opens.proofs.IndexLemmas.{index_put, index_new}
+use Rattle.nfs_xdr.proofs.Tables.{in_bounds}
 
-pub put-requires-clause-other : goal.put-requires-clause-other
-put-requires-clause-other c =
-    let new : Pair = record { of = c.args.wish.now.file; number = c.self.inside.last + 1 } in
-    subst (λ (ps : List Pair). (p : Pair) → In p ps → p ≢ new) (sym c.reserve-2.ensures.items)
-    (index_new (λ (l : LockState). l.file) (λ l. l.number) 1 (suc c.self.inside.last) c.self.inside.locks.items c.self.inside.locks_by_file.items new
-    c.self.invariant.table.locks c.self.invariant.locks (omega arith))
+pub push-requires-clause-behind : goal.push-requires-clause-behind
+push-requires-clause-behind c = subst (λ (ls : List LockState). (l : LockState) → In l ls → l.number < c.self.inside.last + 1) (sym c.reserve.ensures.items)
+    (λ l there. let up = (in_bounds (λ (l : LockState). l.number) 1 (suc c.self.inside.last) c.self.inside.locks.items l c.self.invariant.table.locks there).1 in omega arith)
 
 pub invariant_of-self-2 : goal.invariant_of-self-2
 invariant_of-self-2 c =
@@ -45,12 +40,6 @@ invariant_of-self-2 c =
       place = c.self.invariant.place;
       by_client = c.self.invariant.by_client;
       seat = c.self.invariant.seat;
-      locks = subst (λ (ls : List LockState). IsIndex (λ (l : LockState). l.file) (λ l. l.number) ls c.put.new.self.items) (sym items)
-          (index_put (λ (l : LockState). l.file) (λ l. l.number) c.self.inside.locks.items
-          (first_state (table (the_view c.self.inside)) c.args.wish.now c.args.owner.now c.args.opened)
-          c.self.inside.locks_by_file.items c.put.new.self.items c.self.invariant.locks
-          (subst (λ (ps : List Pair). HasPut ps (record { of = c.args.wish.now.file; number = c.self.inside.last + 1 }) c.put.new.self.items)
-          c.reserve-2.ensures.items c.put.ensures));
     }
 
 pub returns-clause-locks : goal.returns-clause-locks

@@ -2,7 +2,6 @@ use Rattle.std.proofs.Common.{List, [], sym, subst}
 use Rattle.std.proofs.lemmas.Bool.{false≢true}
 use Rattle.nfs_opens.specs.declared.index.Pair.{Pair}
 use Rattle.nfs_opens.specs.declared.records.OpenState.{OpenState}
-use Rattle.nfs_opens.specs.declared.records.LockState.{LockState}
 use Rattle.nfs_opens.specs.Index.{IsIndex}
 use Rattle.nfs_opens.proofs.IndexLemmas.{index_none}
 use Rattle.nfs_opens.proofs.TableLemmas.{table_new}
@@ -10,7 +9,7 @@ use Rattle.nfs_opens.proofs.opens.Opens.new.Goals as goal
 
 pub invariant_of-result : goal.invariant_of-result
 invariant_of-result c = record {
-  table = rw (c.new.ensures, c.new-4.ensures.items, c.new-6.ensures) (table_new c.args.instance);
+  table = rw (c.new.ensures, c.new-4.ensures, c.new-5.ensures) (table_new c.args.instance);
   room = λ yes. absurd (false≢true yes);
   by_file = subst (λ (ps : List Pair). IsIndex (λ (o : OpenState). o.file) (λ o. o.number) c.new.result.items ps) (sym c.new-2.ensures)
       (subst (λ (os : List OpenState). IsIndex (λ (o : OpenState). o.file) (λ o. o.number) os []) (sym c.new.ensures)
@@ -20,7 +19,4 @@ invariant_of-result c = record {
       (subst (λ (os : List OpenState). IsIndex (λ (o : OpenState). o.client) (λ o. o.number) os []) (sym c.new.ensures)
       (index_none (λ (o : OpenState). o.client) (λ o. o.number)));
   seat = λ yes. absurd (false≢true yes);
-  locks = subst (λ (ps : List Pair). IsIndex (λ (l : LockState). l.file) (λ l. l.number) c.new-4.result.items ps) (sym c.new-5.ensures)
-      (subst (λ (ls : List LockState). IsIndex (λ (l : LockState). l.file) (λ l. l.number) ls []) (sym c.new-4.ensures.items)
-      (index_none (λ (l : LockState). l.file) (λ l. l.number)));
 }

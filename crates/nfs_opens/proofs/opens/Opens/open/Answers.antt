@@ -37,7 +37,6 @@ invariant_of-self c =
       by_client = opens_changed (λ o. o.client) (joins (asked c.args.ask.now)) c.in-Some.open.now.number c.self.inside.opens.items c.join.new.self.items
           c.self.inside.by_client.items c.join.ensures.items (λ o. refl) (λ o. refl) c.self.invariant.by_client;
       seat = c.self.invariant.seat;
-      locks = c.self.invariant.locks;
     }
 
 pub invariant_of-self-in-None : goal.invariant_of-self-in-None
@@ -58,7 +57,6 @@ invariant_of-self-in-None c =
           (index_put (λ (o : OpenState). o.client) (λ o. o.number) c.self.inside.opens.items (new_open (table (the_view c.self.inside)) (asked c.args.ask.now))
           c.self.inside.by_client.items c.put-in-None.new.self.items c.self.invariant.by_client c.put-in-None.ensures);
       seat = λ yes. absurd (false≢true yes);
-      locks = c.self.invariant.locks;
     }
 
 pub put-requires-clause-ready : goal.put-requires-clause-ready

@@ -2,10 +2,9 @@ use Rattle.std.proofs.Common.{◌≡◌, List, sym, subst, ap, ◌∙◌}
 use Rattle.std.specs.Prelude.{◌==◌, IfSome}
 use Rattle.nfs_opens.specs.contracts.opens.Opens.{the_view}
 use Rattle.nfs_opens.specs.declared.records.OpenState.{OpenState}
-use Rattle.nfs_opens.specs.declared.records.LockState.{LockState}
 use Rattle.nfs_opens.specs.Holding.{held_by}
 use Rattle.nfs_opens.specs.Table.{Kept, table, open_at}
-use Rattle.nfs_opens.specs.Kept.{Rises, IsTable}
+use Rattle.nfs_opens.specs.Kept.{IsTable}
 use Rattle.nfs_opens.specs.Closing.{without_open}
 use Rattle.nfs_opens.specs.Index.{IsIndex}
 use Rattle.nfs_opens.proofs.TableLemmas.{table_closed}
@@ -16,29 +15,18 @@ use Rattle.nfs_opens.proofs.opens.Opens.remove_open.Goals as goal
 pub leave_open-requires-clause-rises : goal.leave_open-requires-clause-rises
 leave_open-requires-clause-rises c = (_, c.self.invariant.table.locks)
 
-pub leave_open-requires-clause-index : goal.leave_open-requires-clause-index
-leave_open-requires-clause-index c = c.self.invariant.locks
-
 pub leave_open-requires-clause-file : goal.leave_open-requires-clause-file
 leave_open-requires-clause-file c = under_file (table (the_view c.self.inside)) c.args.number c.args.file c.self.invariant.table
     (subst (λ (k : Kept). IfSome (open_at (table k) c.args.number) (λ o. o.file ≡ c.args.file)) (sym c.self.view_is) c.requires)
 
-pub forget_unlocked-requires-clause-rises : goal.forget_unlocked-requires-clause-rises
-forget_unlocked-requires-clause-rises c = subst (Rises (λ (l : LockState). l.number) 1) (sym (c.deref.ensures.value ∙ c.leave_open.ensures.locks))
-    (_, (table_closed (table (the_view c.self.inside)) c.args.number c.self.invariant.table).locks)
-
-pub forget_unlocked-requires-clause-index : goal.forget_unlocked-requires-clause-index
-forget_unlocked-requires-clause-index c =
-    subst (λ (ls : List LockState). IsIndex (λ (l : LockState). l.file) (λ l. l.number) ls c.leave_open.new.by_file.items) (sym (c.deref.ensures.value ∙ c.leave_open.ensures.locks)) c.leave_open.ensures.index
-
-pub forget_unlocked-requires-clause-holders : goal.forget_unlocked-requires-clause-holders
-forget_unlocked-requires-clause-holders c =
-    left_holders (table (the_view c.self.inside)) (λ l. l.opened == c.args.number) c.deref.result.now (held_by c.leave_open.new.files) c.self.invariant.table (c.deref.ensures.value ∙ c.leave_open.ensures.locks) c.leave_open.ensures.held
+pub forget_unlocked-requires : goal.forget_unlocked-requires
+forget_unlocked-requires c =
+    left_holders (table (the_view c.self.inside)) (λ l. l.opened == c.args.number) c.leave_open.new.locks.items (held_by c.leave_open.new.files) c.self.invariant.table c.leave_open.ensures.locks c.leave_open.ensures.held
 
 pub invariant_of-self : goal.invariant_of-self
 invariant_of-self c =
     let t = table (the_view c.self.inside) in
-    let held = c.forget_unlocked.ensures ∙ left_held t (λ l. l.opened == c.args.number) (held_by c.leave_open.new.files) c.self.invariant.table c.leave_open.ensures.held in
+    let held = c.forget_unlocked.ensures.held ∙ left_held t (λ l. l.opened == c.args.number) (held_by c.leave_open.new.files) c.self.invariant.table c.leave_open.ensures.held in
     let same = same_table c.remove.new.self.items _ c.leave_open.new.locks.items _
     (held_by c.forget_unlocked.new.files) _ c.self.inside.last c.self.inside.instance c.remove.ensures.items c.leave_open.ensures.locks held in
     record {
@@ -50,14 +38,12 @@ invariant_of-self c =
       by_client = subst (λ (os : List OpenState). IsIndex (λ (o : OpenState). o.client) (λ o. o.number) os c.drop_own_pair.new.by_client.items)
           (sym c.remove.ensures.items) c.drop_own_pair.ensures.index;
       seat = λ yes. c.drop_own_pair.ensures.room ∙ c.self.invariant.seat yes;
-      locks = subst (λ (ls : List LockState). IsIndex (λ (l : LockState). l.file) (λ l. l.number) ls c.leave_open.new.by_file.items) (sym c.leave_open.ensures.locks)
-          c.leave_open.ensures.index;
     }
 
 pub returns-clause-after : goal.returns-clause-after
 returns-clause-after c =
     let t = table (the_view c.self.inside) in
-    let held = c.forget_unlocked.ensures ∙ left_held t (λ l. l.opened == c.args.number) (held_by c.leave_open.new.files) c.self.invariant.table c.leave_open.ensures.held in
+    let held = c.forget_unlocked.ensures.held ∙ left_held t (λ l. l.opened == c.args.number) (held_by c.leave_open.new.files) c.self.invariant.table c.leave_open.ensures.held in
     let same = same_table c.remove.new.self.items _ c.leave_open.new.locks.items _
     (held_by c.forget_unlocked.new.files) _ c.self.inside.last c.self.inside.instance c.remove.ensures.items c.leave_open.ensures.locks held in
     same ∙ ap (λ (k : Kept). without_open (table k) c.args.number) c.self.view_is

@@ -1,26 +1,20 @@
 use Rattle.std.proofs.Common.{◌≡◌, Some, None, ℕ, sym, subst, ap, ◌∙◌, refl}
-use Rattle.std.specs.Prelude.{◌==◌, Ok, Err, find}
+use Rattle.std.specs.Prelude.{Ok, Err}
 use Rattle.std.specs.Option.{option_copied}
 use Rattle.nfs_opens.specs.contracts.opens.Opens.{the_view}
 use Rattle.nfs_opens.specs.declared.stateid.StateId.{StateId}
 use Rattle.nfs_opens.specs.declared.locking.OpenFault.{OpenFault}
 use Rattle.nfs_opens.specs.declared.locking.OpenFault.TheVariants.{Refused}
 use Rattle.nfs_xdr.specs.declared.status.Status.TheVariants.{BadStateId}
-use Rattle.nfs_opens.specs.declared.records.LockState.{LockState}
 use Rattle.nfs_opens.specs.Holding.{held_by}
 use Rattle.nfs_opens.specs.Table.{Kept, Did, table, lock_at}
-use Rattle.nfs_opens.specs.Kept.{Rises, IsTable}
+use Rattle.nfs_opens.specs.Kept.{IsTable}
 use Rattle.nfs_opens.specs.Judging.{judge}
 use Rattle.nfs_opens.specs.declared.judging.Sort.TheVariants.{LockOnly}
 use Rattle.nfs_opens.specs.Locking.{unlock, unlock_by, clear_lock}
 use Rattle.nfs_opens.proofs.LockLemmas.{same_table}
-use Rattle.nfs_opens.proofs.LockedLemmas.{locks_raised}
 use Rattle.nfs_opens.proofs.StepLemmas.{table_unlocked}
 use Rattle.nfs_opens.proofs.opens.Opens.unlock.Goals as goal
-
-pub lock_in-requires : goal.lock_in-requires
-lock_in-requires c = subst (Rises (λ (l : LockState). l.number) 1) (sym c.deref.ensures.value)
-    (_, c.self.invariant.table.locks)
 
 pub clear_bytes-requires-clause-within : goal.clear_bytes-requires-clause-within
 clear_bytes-requires-clause-within c = c.self.invariant.table.within c.args.file
@@ -30,7 +24,7 @@ returns-in-None-clause-unlocks c =
     let judged : judge (table (the_view c.self.inside)) c.args.id c.args.client (Some c.args.file) LockOnly ≡ Ok c.in_ok-judge.field-0 =
     ap (λ (k : Kept). judge (table k) c.args.id c.args.client (Some c.args.file) LockOnly) c.self.view_is ∙ (sym c.judge.ensures ∙ c.in_ok-judge.was) in
     let found : lock_at (table (the_view c.self.inside)) c.args.id.number ≡ None =
-    ap (find (λ (l : LockState). l.number == c.args.id.number)) (sym c.deref.ensures.value) ∙ (sym c.lock_in.ensures ∙ ap option_copied c.in-None.is) in
+    sym c.get.ensures ∙ ap option_copied c.in-None.is in
     let is : unlock (table (the_view c.self.inside)) c.args.id c.args.client c.args.file c.args.first c.args.last ≡ clear_lock
     (table (the_view c.self.inside)) c.args.id.number c.args.file c.args.first c.args.last None =
     ap (unlock_by (table (the_view c.self.inside)) c.args.id.number c.args.file c.args.first c.args.last) judged
@@ -40,13 +34,10 @@ returns-in-None-clause-unlocks c =
     c.self.view_is
     (sym (ap (λ (d : Did StateId OpenFault). d.answer) is), sym (ap (λ (d : Did StateId OpenFault). d.after) is))
 
-pub raise_lock-requires : goal.raise_lock-requires
-raise_lock-requires c = (_, c.self.invariant.table.locks)
-
 pub invariant_of-self-2 : goal.invariant_of-self-2
 invariant_of-self-2 c =
-    let same = same_table c.self.inside.opens.items _ c.raise_lock.new.locks.items _
-    (held_by c.clear_bytes.new.files) _ c.self.inside.last c.self.inside.instance refl c.raise_lock.ensures c.in_ok-clear_bytes.ensures.ok in
+    let same = same_table c.self.inside.opens.items _ c.raise.new.self.items _
+    (held_by c.clear_bytes.new.files) _ c.self.inside.last c.self.inside.instance refl c.raise.ensures c.in_ok-clear_bytes.ensures.ok in
     record {
       table = subst IsTable (sym same)
           (table_unlocked (table (the_view c.self.inside)) c.args.id.number c.args.file c.args.first c.args.last c.self.invariant.table);
@@ -55,26 +46,25 @@ invariant_of-self-2 c =
       place = c.self.invariant.place;
       by_client = c.self.invariant.by_client;
       seat = c.self.invariant.seat;
-      locks = locks_raised c.args.id.number c.self.inside.locks.items c.raise_lock.new.locks.items c.self.inside.locks_by_file.items c.raise_lock.ensures c.self.invariant.locks;
     }
 
 pub returns-clause-unlocks : goal.returns-clause-unlocks
 returns-clause-unlocks c =
     let found : lock_at (table (the_view c.self.inside)) c.args.id.number ≡ Some c.in-Some.lock.now =
-    ap (find (λ (l : LockState). l.number == c.args.id.number)) (sym c.deref.ensures.value) ∙ (sym c.lock_in.ensures ∙ ap option_copied c.in-Some.is) in
+    sym c.get.ensures ∙ ap option_copied c.in-Some.is in
     let judged : judge (table (the_view c.self.inside)) c.args.id c.args.client (Some c.args.file) LockOnly ≡ Ok c.in_ok-judge.field-0 =
     ap (λ (k : Kept). judge (table k) c.args.id c.args.client (Some c.args.file) LockOnly) c.self.view_is ∙ (sym c.judge.ensures ∙ c.in_ok-judge.was) in
     let is : unlock (table (the_view c.self.inside)) c.args.id c.args.client c.args.file c.args.first c.args.last ≡ clear_lock
     (table (the_view c.self.inside)) c.args.id.number c.args.file c.args.first c.args.last (Some c.in-Some.lock.now) =
     ap (unlock_by (table (the_view c.self.inside)) c.args.id.number c.args.file c.args.first c.args.last) judged
     ∙ ap (clear_lock (table (the_view c.self.inside)) c.args.id.number c.args.file c.args.first c.args.last) found in
-    let same = same_table c.self.inside.opens.items _ c.raise_lock.new.locks.items _
-    (held_by c.clear_bytes.new.files) _ c.self.inside.last c.self.inside.instance refl c.raise_lock.ensures c.in_ok-clear_bytes.ensures.ok in
+    let same = same_table c.self.inside.opens.items _ c.raise.new.self.items _
+    (held_by c.clear_bytes.new.files) _ c.self.inside.last c.self.inside.instance refl c.raise.ensures c.in_ok-clear_bytes.ensures.ok in
     subst (λ (k : Kept). (Ok (record { seqid = c.next_seqid-seqid.result; instance = c.self.inside.instance; number = c.args.id.number }) ≡
     (unlock (table k) c.args.id c.args.client c.args.file c.args.first c.args.last).answer)
     × (record {
       opens = c.self.inside.opens.items;
-      locks = c.raise_lock.new.locks.items;
+      locks = c.raise.new.self.items;
       held = held_by c.clear_bytes.new.files;
       last = c.self.inside.last;
       instance = c.self.inside.instance;

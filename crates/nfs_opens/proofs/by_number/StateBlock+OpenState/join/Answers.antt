@@ -1,0 +1,26 @@
+use Rattle.std.proofs.Common.{◌≡◌, Some, None, sym, ◌∙◌, ap, subst}
+use Rattle.std.specs.Prelude.{◌==◌, position}
+use Rattle.nfs_opens.specs.declared.records.OpenState.{OpenState}
+use Rattle.nfs_opens.specs.Opening.{joins}
+use Rattle.nfs_opens.specs.Calls.{asked}
+use Rattle.nfs_opens.specs.Kept.{Rises}
+use Rattle.nfs_xdr.proofs.Tables.{written_as, unwritten}
+use Rattle.nfs_opens.proofs.by_number.StateBlock+OpenState.join.Goals as goal
+
+pub place_of-requires : goal.place_of-requires
+place_of-requires c = subst (Rises (λ (o : OpenState). o.number) 1) (sym (c.deref.ensures.value ∙ c.self.view_is)) c.requires
+
+pub returns-in-Some : goal.returns-in-Some
+returns-in-Some c =
+    let rises = subst (Rises (λ (o : OpenState). o.number) 1) (sym c.self.view_is) c.requires in
+    let place : position (λ (o : OpenState). o.number == c.args.number) c.self.inside.states.items ≡ Some c.in-Some.place =
+    ap (position (λ (o : OpenState). o.number == c.args.number)) (sym c.deref.ensures.value) ∙ (sym c.place_of.ensures ∙ c.in-Some.is) in
+    rw (← c.self.view_is) (written_as (λ (o : OpenState). o.number) 1 rises.0 c.args.number (joins (asked c.args.ask.now)) c.self.inside.states.items c.in-Some.place
+    c.index_mut.result.now c.join.new.self rises.1
+    place c.index_mut.ensures.value (c.join.ensures ∙ ap (joins (asked c.args.ask.now)) c.index_mut.ensures.value))
+
+pub returns-in_default : goal.returns-in_default
+returns-in_default c =
+    let gone : position (λ (o : OpenState). o.number == c.args.number) c.self.inside.states.items ≡ None =
+    ap (position (λ (o : OpenState). o.number == c.args.number)) (sym c.deref.ensures.value) ∙ (sym c.place_of.ensures ∙ c.in_default.is) in
+    rw (← c.self.view_is) (sym (unwritten (λ (o : OpenState). o.number) c.args.number (joins (asked c.args.ask.now)) c.self.inside.states.items gone))

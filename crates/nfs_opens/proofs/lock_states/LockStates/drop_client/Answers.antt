@@ -1,0 +1,11 @@
+use Rattle.std.proofs.Common.{List, sym, subst}
+use Rattle.std.specs.Prelude.{◌==◌}
+use Rattle.nfs_opens.specs.declared.records.LockState.{LockState}
+use Rattle.nfs_opens.specs.Index.{IsIndex}
+use Rattle.nfs_opens.proofs.IndexLemmas.{index_unmarked}
+use Rattle.nfs_opens.proofs.lock_states.LockStates.drop_client.Goals as goal
+
+pub invariant_of-self : goal.invariant_of-self
+invariant_of-self c = subst (λ (ls : List LockState). IsIndex (λ (l : LockState). l.file) (λ l. l.number) ls c.keep.new.self.items) (sym c.drop_client.ensures.items)
+    (index_unmarked (λ (l : LockState). l.file) (λ l. l.number) (λ l. l.client == c.args.client) 1 c.kept.ensures.0 c.self.inside.states.items
+    c.self.inside.by_file.items c.keep.new.self.items c.kept.ensures.1 c.self.invariant c.keep.ensures.items)

@@ -1,0 +1,12 @@
+use Rattle.std.proofs.Common.{List, [], sym, subst}
+use Rattle.nfs_opens.specs.declared.index.Pair.{Pair}
+use Rattle.nfs_opens.specs.declared.records.LockState.{LockState}
+use Rattle.nfs_opens.specs.Index.{IsIndex}
+use Rattle.nfs_opens.proofs.IndexLemmas.{index_none}
+use Rattle.nfs_opens.proofs.lock_states.LockStates.new.Goals as goal
+
+pub invariant_of-result : goal.invariant_of-result
+invariant_of-result c =
+    subst (λ (ps : List Pair). IsIndex (λ (l : LockState). l.file) (λ l. l.number) c.new.result.items ps) (sym c.new-2.ensures)
+    (subst (λ (ls : List LockState). IsIndex (λ (l : LockState). l.file) (λ l. l.number) ls []) (sym c.new.ensures)
+    (index_none (λ (l : LockState). l.file) (λ l. l.number)))

@@ -1,0 +1,19 @@
+use Rattle.std.proofs.Common.{◌<◌, List, sym, subst}
+use Rattle.nfs_xdr.specs.Tables.{In}
+use Rattle.nfs_opens.specs.declared.records.LockState.{LockState}
+use Rattle.nfs_opens.specs.ByNumber.{Numbered}
+use Rattle.nfs_opens.specs.Index.{IsIndex}
+use Rattle.nfs_opens.proofs.IndexLemmas.{index_put, index_apart}
+use Rattle.nfs_opens.proofs.lock_states.LockStates.push.Goals as goal
+
+pub put-requires-clause-other : goal.put-requires-clause-other
+put-requires-clause-other c = index_apart (λ (l : LockState). l.file) (λ l. l.number) c.self.inside.states.items c.self.inside.by_file.items _
+    c.self.invariant (subst (λ (x : Numbered LockState). (l : LockState) → In l x.items → l.number < c.args.new.number) (sym c.self.view_is) c.requires.behind)
+
+pub push-requires-clause-behind : goal.push-requires-clause-behind
+push-requires-clause-behind c = subst (λ (x : Numbered LockState). (l : LockState) → In l x.items → l.number < c.args.new.number) (sym c.self.view_is) c.requires.behind
+
+pub invariant_of-self : goal.invariant_of-self
+invariant_of-self c = subst (λ (ls : List LockState). IsIndex (λ (l : LockState). l.file) (λ l. l.number) ls c.put.new.self.items) (sym c.push.ensures)
+    (index_put (λ (l : LockState). l.file) (λ l. l.number) c.self.inside.states.items c.args.new c.self.inside.by_file.items c.put.new.self.items
+    c.self.invariant c.put.ensures)

@@ -1,0 +1,146 @@
+//! All lock states.
+
+ghost use Rattle.std.specs.Prelude.{◌≡◌, ◌==◌, ◌&&◌, ◌<◌, ◌++◌, ◌∷◌, [], true, not, find, filter, map, nat_lt, if◌then◌else◌, OnOk};
+ghost use Rattle.std.specs.Option.{option_copied};
+ghost use Rattle.std.specs.List.{list_any};
+ghost use Rattle.nfs_xdr.specs.Tables.{In};
+ghost use Rattle.nfs_opens.specs.Index.{IsIndex};
+ghost use Rattle.nfs_opens.specs.Locking.{raised};
+ghost use Rattle.nfs_opens.specs.Holding.{held_by};
+ghost use Rattle.nfs_opens.specs.Calls.{held_without};
+
+use crate::blocks::Index;
+use crate::by_number::ByNumber;
+use crate::closing::Going;
+use crate::index::Pair;
+use crate::locked_files::LockedFiles;
+use crate::records::LockState;
+use std::alloc::{AllocError, Global};
+use std::marker::Model;
+
+/// All lock states in rising order of their numbers. One more may come while there is room.
+#[derive(Drop)]
+pub(crate) struct LockStates {
+    states: ByNumber<LockState>,
+    /// The lock states by their files.
+    by_file: Index,
+}
+
+impl Model for LockStates {
+    ghost use Rattle.std.specs.Prelude.{◌&&◌};
+    ghost use Rattle.nfs_opens.specs.ByNumber.{Numbered};
+    ghost use Rattle.nfs_opens.specs.Index.{IsIndex};
+    ghost use Rattle.nfs_opens.specs.declared.records.LockState.{LockState};
+
+    ghost Value = { Numbered LockState };
+
+    ghost view = { λ s. record { items = s.states.items; ready = s.states.ready && s.by_file.ready } };
+
+    ghost invariant = { λ s. IsIndex (λ l. l.file) (λ l. l.number) s.states.items s.by_file.items };
+}
+
+/// A lock state no longer stands among those of its file.
+fn drop_pair(by_file: &mut Index, states: &ByNumber<LockState>, number: u64)
+    requires { IsIndex (λ l. l.file) (λ l. l.number) states.now.items by_file.old.items }
+    ensures { IsIndex (λ l. l.file) (λ l. l.number) (filter (λ l. not (l.number == number)) states.now.items) by_file.new.items }
+{
+    states.kept();
+    if let Some(lock) = states.get(number) {
+        by_file.take(Pair {
+            of: lock.file,
+            number,
+        });
+    }
+}
+
+impl LockStates {
+    /// No lock states. What comes later grows by `alloc`.
+    pub(crate) fn new(alloc: Global) -> Self
+        ensures { result.items ≡ [] }
+    {
+        LockStates {
+            states: ByNumber::new(alloc),
+            by_file: Index::new(alloc),
+        }
+    }
+
+    /// The lock state of a number.
+    pub(crate) fn get(&self, number: u64) -> Option<&LockState>
+        ensures { option_copied result ≡ find (λ l. l.number == number) self.now.items }
+    {
+        self.states.get(number)
+    }
+
+    /// The lock state on a file with the lowest number behind `after`.
+    pub(crate) fn next_on(&self, file: u64, after: u64) -> Option<&LockState>
+        ensures { option_copied result ≡ find (λ l. (l.file == file) && nat_lt after l.number) self.now.items }
+    {
+        self.states.kept();
+        match self.by_file.next(file, after) {
+            Some(number) => self.states.get(number),
+            None => None,
+        }
+    }
+
+    /// Whether a lock state stands on a file.
+    pub(crate) fn is_on(&self, file: u64) -> bool
+        ensures { result ≡ list_any (λ l. l.file == file) self.now.items }
+    {
+        self.states.kept();
+        self.next_on(file, 0).is_some()
+    }
+
+    /// Room for one more lock state.
+    pub(crate) fn reserve(&mut self, alloc: Global) -> Result<(), AllocError>
+        ensures items { self.new.items ≡ self.old.items }
+        ensures ok { OnOk result (self.new.ready ≡ true) }
+    {
+        self.states.reserve(alloc)?;
+        self.by_file.reserve(alloc)
+    }
+
+    /// A lock state comes behind all others. It takes no memory.
+    pub(crate) fn push(&mut self, new: LockState)
+        requires ready { self.old.ready ≡ true }
+        requires behind { (l : LockState) → In l self.old.items → l.number < new.number }
+        requires first { 0 < new.number }
+        ensures { self.new.items ≡ self.old.items ++ new ∷ [] }
+    {
+        self.by_file.put(Pair {
+            of: new.file,
+            number: new.number,
+        });
+        self.states.push(new);
+    }
+
+    /// The seqid of the lock state of a number rises.
+    pub(crate) fn raise(&mut self, number: u64)
+        ensures { self.new.items ≡ map (λ l. if l.number == number then raised l else l) self.old.items }
+    {
+        self.states.raise(number);
+    }
+
+    /// The lock state of a number goes.
+    pub(crate) fn remove(&mut self, number: u64)
+        ensures { self.new.items ≡ filter (λ l. not (l.number == number)) self.old.items }
+    {
+        drop_pair(&mut self.by_file, &self.states, number);
+        self.states.remove(number);
+    }
+
+    /// A client's lock states hold no bytes from now on.
+    pub(crate) fn drop_bytes(&self, files: &mut LockedFiles, client: u64)
+        ensures { held_by files.new ≡ held_without (λ l. l.client == client) self.now.items (held_by files.old) }
+    {
+        self.states.drop_bytes(files, client);
+    }
+
+    /// The lock states of a client go.
+    pub(crate) fn drop_client(&mut self, client: u64)
+        ensures { self.new.items ≡ filter (λ l. not (l.client == client)) self.old.items }
+    {
+        self.states.kept();
+        self.by_file.keep(Going::Locks(&self.states, client));
+        self.states.drop_client(client);
+    }
+}
