@@ -327,17 +327,6 @@ put_split bs cs i b c t x is less at place put some tail made =
       );
     }
 
-pub put_alone : (bs cs : List (List Pair)) (b : List Pair) (x : Pair) → bs ≡ [] → b ≡ x ∷ [] → cs ≡ bs ++ b ∷ [] → PutIn bs cs x
-put_alone bs cs b x none one made =
-    let is : cs ≡ (x ∷ []) ∷ [] = made ∙ (ap (λ (ds : List (List Pair)). ds ++ b ∷ []) none ∙ ap (λ (d : List Pair). d ∷ []) one) in
-    subst (λ (ds : List (List Pair)). PutIn ds cs x) (sym none) (subst (λ (ds : List (List Pair)). PutIn [] ds x) (sym is) (record {
-      has = record { order = ((λ q there. absurd there), tt); put = inl refl; kept = λ p there. absurd there; only = λ p there. there };
-      ordered = (((λ q there. absurd there), tt), (λ d there. elim there [ inl same ↦ (λ empty. full (sym same ∙ empty)) | inr more ↦ absurd more ]));
-    }))
-  where
-    full : x ∷ [] ≢ []
-    full e = absurd cc
-
 pub record TakenIn (bs cs : List (List Pair)) (x : Pair) : Type 0 where
   pub has : HasTaken (flat bs) x (flat cs)
   pub ordered : AreOrdered cs

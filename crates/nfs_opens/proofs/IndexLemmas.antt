@@ -46,9 +46,6 @@ carried p q r (inl a) (inr b) = let o = b.0 in inl (omega arith)
 carried p q r (inr a) (inl b) = let o = a.0 in inl (omega arith)
 carried p q r (inr a) (inr b) = let m = a.1 in let n = b.1 in inr (a.0 ∙ b.0, omega arith)
 
-never_both : (p q : Pair) → Precedes p q → Precedes q p → ⊥
-never_both p q a b = never_itself p p (carried p q p a b) refl
-
 -- What the test says.
 
 neither_way : (too : Bool) → (too && false) ≡ false
@@ -393,10 +390,6 @@ module _ {X : Type 0} (of number : X → ℕ) where
       let (y, in_y, here, same) = is.only p there in
       let upper = above y in_y in
       let n : p.number ≡ new.number = ap (λ (q : Pair). q.number) e in absurd (omega arith)
-
-  pub index_new : (low high : ℕ) (xs : List X) (ps : List Pair) (new : Pair) → IsRising number low xs high → IsIndex of number xs ps → high ≤ new.number
-      → (p : Pair) → In p ps → p ≢ new
-  index_new low high xs ps new rises is above = index_apart xs ps new is (λ y in_y. let upper = (in_bounds number low high xs y rises in_y).1 in omega arith)
 
   pub index_taken : (low high n : ℕ) (xs : List X) (x : X) (ps qs : List Pair) → IsRising number low xs high → IsIndex of number xs ps
       → find (λ x. number x == n) xs ≡ Some x → HasTaken ps (record { of = of x; number = n }) qs

@@ -4,7 +4,6 @@ use Rattle.std.specs.Prelude.{◌==◌, ◌&&◌, nat_lt, find, filter, IfSome, 
 use Rattle.std.specs.List.{list_any}
 use Rattle.std.proofs.Math.Path.{fun_ext}
 use Rattle.std.proofs.lemmas.Bool.{cases_Bool, cases_eq, and_parts, eqb-true, eq-eqb, ne_eqb, false≢true}
-use Rattle.nfs_xdr.specs.Tables.{In}
 use Rattle.nfs_xdr.proofs.Lists.{find_in, none_any}
 use Rattle.nfs_xdr.proofs.Tables.{at_of_in}
 use Rattle.nfs_ranges.specs.Holders.{LockedBytes, nobody}
@@ -18,7 +17,7 @@ use Rattle.nfs_opens.proofs.IndexLemmas.{find_begun, find_done, find_hit, find_m
 use Rattle.nfs_opens.specs.declared.index.Pair.{Pair}
 use Rattle.nfs_opens.specs.Index.{IsIndex}
 use Rattle.nfs_opens.proofs.LockLemmas.{some_or_none}
-use Rattle.nfs_opens.proofs.StepLemmas.{if_some, all_some}
+use Rattle.nfs_opens.proofs.StepLemmas.{all_some}
 
 abbrev file_of : LockState → ℕ
 file_of l = l.file
@@ -57,15 +56,6 @@ module _ (t : Table) (q : LockState → Bool) (file : ℕ) (only : (l : LockStat
   pub lock_ends : (after : ℕ) → find (BehindLock file after) t.locks ≡ None → find (ComingLock after q) t.locks ≡ None
   lock_ends after = find_done file_of number_of q file only 1 (suc t.last) t.locks is.locks after
 
--- a lock state under an open is on the open's file
-pub under_file : (t : Table) (n file : ℕ) → IsTable t → IfSome (open_at t n) (λ o. o.file ≡ file) → (l : LockState) → In l t.locks → (l.opened == n) ≡ true
-    → l.file ≡ file
-under_file t n file is of l there under =
-    let (o, is_under) = is.under l there in
-    let number : o.number ≡ n = is_under.number ∙ eqb-true l.opened n under in
-    let found : open_at t n ≡ Some o = ap (open_at t) (sym number) ∙ at_of_in (λ (o : OpenState). o.number) 1 (suc t.last) t.opens o is.opens is_under.stands in
-    sym is_under.file ∙ if_some (open_at t n) o (λ o. o.file ≡ file) found of
-
 -- an open that is found is the one of its number
 pub its_file : (t : Table) (p : OpenState → Bool) (o : OpenState) → IsTable t → find p t.opens ≡ Some o → IfSome (open_at t o.number) (λ x. x.file ≡ o.file)
 its_file t p o is found = all_some (open_at t o.number) o (λ x. x.file ≡ o.file)
@@ -99,11 +89,11 @@ kept_listed locks es holders = fun_ext (λ f. listed (λ f. list_any (λ l. l.fi
 ])
 
 -- a lock state whose seqid rises stays where it is
-pub locks_raised : (n : ℕ) (xs ys : List LockState) (ps : List Pair) → ys ≡ map (λ l. if l.number == n then raised l else l) xs
-    → IsIndex (λ l. l.file) (λ l. l.number) xs ps → IsIndex (λ l. l.file) (λ l. l.number) ys ps
-locks_raised n xs ys ps made is =
-    subst (λ (ls : List LockState). IsIndex (λ l. l.file) (λ l. l.number) ls ps) (sym made)
-    (index_changed (λ (l : LockState). l.file) (λ l. l.number) (λ l. if l.number == n then raised l else l) xs ps
-    (λ l. elim (cases_Bool (l.number == n)) [ inl here ↦ rw here refl | inr other ↦ rw other refl ])
+pub locks_raised : (of : LockState → ℕ) → ((l : LockState) → of (raised l) ≡ of l) → (n : ℕ) (xs ys : List LockState) (ps : List Pair)
+    → ys ≡ map (λ l. if l.number == n then raised l else l) xs → IsIndex of (λ l. l.number) xs ps → IsIndex of (λ l. l.number) ys ps
+locks_raised of same n xs ys ps made is =
+    subst (λ (ls : List LockState). IsIndex of (λ l. l.number) ls ps) (sym made)
+    (index_changed of (λ l. l.number) (λ l. if l.number == n then raised l else l) xs ps
+    (λ l. elim (cases_Bool (l.number == n)) [ inl here ↦ rw here (same l) | inr other ↦ rw other refl ])
     (λ l. elim (cases_Bool (l.number == n)) [ inl here ↦ rw here refl | inr other ↦ rw other refl ])
     is)

@@ -1,10 +1,8 @@
 -- Which states belong to what: each stands in an index as a pair of what it belongs to, a file (RFC 8881 section 9.7) or a client (section 8.3), and its number.
-use Rattle.std.specs.Prelude.{◌≡◌, ◌≢◌, ◌⊎◌, ℕ, ◌<◌, ◌≤◌, ◌==◌, nat_lt, ◌&&◌, ◌||◌, Bool, true, false, List, [], ◌∷◌, Option, Some, None, find}
+use Rattle.std.specs.Prelude.{◌≡◌, ◌≢◌, ◌⊎◌, ℕ, ◌<◌, ◌≤◌, ◌==◌, nat_lt, ◌&&◌, ◌||◌, Bool, false, List, [], ◌∷◌, Option, Some, None, find}
 use Rattle.std.specs.Option.{option_map_or}
 use Rattle.nfs_xdr.specs.Tables.{In}
 use Rattle.nfs_opens.specs.declared.index.Pair.{Pair}
-use Rattle.nfs_opens.specs.Table.{Kept, table}
-use Rattle.nfs_opens.specs.Kept.{IsTable}
 
 -- pairs stand in the order of what the states belong to, and of one file or client in the order of the numbers
 abbrev pub Precedes : Pair → Pair → Type 0
@@ -45,13 +43,3 @@ pub record IsIndex {X : Type 0} (of number : X → ℕ) (states : List X) (ps : 
 -- the state of a number is one of those that a test marks
 abbrev pub marked : {X : Type 0} → (X → ℕ) → (X → Bool) → List X → ℕ → Bool
 marked number test states n = option_map_or test (find (λ x. number x == n) states) false
-
--- What holds of all that is kept, and of the pairs that index the opens by their files and by their clients; three say whether there is room for one
--- more open, and for one more pair of an open each.
-pub record IsKept (k : Kept) (has_room : Bool) (pairs : List Pair) (has_place : Bool) (owned : List Pair) (has_seat : Bool) : Type 0 where
-  pub table : IsTable (table k)
-  pub room : k.ready ≡ true → has_room ≡ true
-  pub by_file : IsIndex (λ o. o.file) (λ o. o.number) k.opens pairs
-  pub place : k.ready ≡ true → has_place ≡ true
-  pub by_client : IsIndex (λ o. o.client) (λ o. o.number) k.opens owned
-  pub seat : k.ready ≡ true → has_seat ≡ true

@@ -1,9 +1,9 @@
 -- What holds of every table.
-use Rattle.std.specs.Prelude.{◌≡◌, ℕ, ◌≤◌, ◌^◌, None, ◌≢◌, suc, false, List}
+use Rattle.std.specs.Prelude.{◌≡◌, ℕ, ◌≤◌, ◌^◌, None, ◌≢◌, suc, Bool, true, false, List}
 use Rattle.nfs_xdr.specs.Tables.{IsRising, In}
 use Rattle.nfs_ranges.specs.Holders.{Holders}
 use Rattle.nfs_ranges.specs.Facts.{IsBelow}
-use Rattle.nfs_opens.specs.Table.{Table, clashes_with, as_asked}
+use Rattle.nfs_opens.specs.Table.{Kept, Table, table, clashes_with, as_asked}
 use Rattle.nfs_opens.specs.declared.records.OpenState.{OpenState}
 use Rattle.nfs_opens.specs.declared.records.LockState.{LockState}
 use Rattle.nfs_opens.specs.Holding.{FileHolders, HasNoClash}
@@ -49,3 +49,8 @@ pub record IsTable (t : Table) : Type 0 where
   pub within : (f : ℕ) → HasNoByteBehind (t.held f)
   -- no number behind the last holds a byte
   pub below : (f : ℕ) → IsBelow (t.held f) (suc t.last)
+
+-- What holds of all that is kept; `has_room` says whether there is room for one more open.
+pub record IsKept (k : Kept) (has_room : Bool) : Type 0 where
+  pub table : IsTable (table k)
+  pub room : k.ready ≡ true → has_room ≡ true

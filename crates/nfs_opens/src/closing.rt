@@ -8,11 +8,10 @@ ghost use Rattle.nfs_opens.specs.Holding.{held_by, on_file};
 ghost use Rattle.nfs_opens.specs.Table.{table, open_at, lock_at};
 ghost use Rattle.nfs_opens.specs.Kept.{AreHolders, Rises};
 ghost use Rattle.nfs_opens.specs.Blocks.{goes};
-ghost use Rattle.nfs_opens.specs.Index.{IsIndex, marked};
+ghost use Rattle.nfs_opens.specs.Index.{marked};
 ghost use Rattle.nfs_opens.specs.Closing.{without_open, close, free_lock, free};
 ghost use Rattle.nfs_opens.specs.Calls.{without_client, drop_client, held_without};
 
-use crate::blocks::Index;
 use crate::by_number::ByNumber;
 use crate::index::Pair;
 use crate::judging::{Seat, Sort};
@@ -46,36 +45,6 @@ impl Going<'_> {
     }
 }
 
-/// An open no longer stands among those of its file.
-fn drop_pair(by_file: &mut Index, opens: &ByNumber<OpenState>, number: u64)
-    requires rises { Rises (λ o. o.number) 1 opens.now.items }
-    requires index { IsIndex (λ o. o.file) (λ o. o.number) opens.now.items by_file.old.items }
-    ensures index { IsIndex (λ o. o.file) (λ o. o.number) (filter (λ o. not (o.number == number)) opens.now.items) by_file.new.items }
-    ensures room { by_file.new.ready ≡ by_file.old.ready }
-{
-    if let Some(open) = opens.get(number) {
-        by_file.take(Pair {
-            of: open.file,
-            number,
-        });
-    }
-}
-
-/// An open no longer stands among those of its client.
-fn drop_own_pair(by_client: &mut Index, opens: &ByNumber<OpenState>, number: u64)
-    requires rises { Rises (λ o. o.number) 1 opens.now.items }
-    requires index { IsIndex (λ o. o.client) (λ o. o.number) opens.now.items by_client.old.items }
-    ensures index { IsIndex (λ o. o.client) (λ o. o.number) (filter (λ o. not (o.number == number)) opens.now.items) by_client.new.items }
-    ensures room { by_client.new.ready ≡ by_client.old.ready }
-{
-    if let Some(open) = opens.get(number) {
-        by_client.take(Pair {
-            of: open.client,
-            number,
-        });
-    }
-}
-
 /// Whether the state of a number is a client's.
 fn is_clients<T: State>(states: &ByNumber<T>, number: u64, client: u64) -> bool
     ensures { result ≡ marked T.number (λ x. T.client x == client) states.now.items number }
@@ -104,19 +73,14 @@ fn leave_one(files: &mut LockedFiles, locks: &mut LockStates, file: u64, number:
     locks.remove(number);
 }
 
-/// The lock states under an open of a file go, with the bytes that they hold.
-fn leave_open(files: &mut LockedFiles, locks: &mut LockStates, file: u64, opened: u64)
-    requires rises { Rises (λ l. l.number) 1 locks.old.items }
-    requires file { (l : LockState) → In l locks.old.items → (l.opened == opened) ≡ true → l.file ≡ file }
+/// The lock states under an open go, with the bytes that they hold.
+fn leave_open(files: &mut LockedFiles, locks: &mut LockStates, opened: u64)
     ensures held { held_by files.new ≡ held_without (λ l. l.opened == opened) locks.old.items (held_by files.old) }
     ensures locks { locks.new.items ≡ filter (λ l. not (l.opened == opened)) locks.old.items }
 {
-    let mut after = 0;
-    while let Some(lock) = locks.next_on(file, after) {
-        after = lock.number;
-        if lock.is_under(opened) {
-            leave_one(files, locks, file, after);
-        }
+    while let Some(lock) = locks.first_under(opened) {
+        let (file, number) = (lock.file, lock.number);
+        leave_one(files, locks, file, number);
     }
 }
 
@@ -129,22 +93,6 @@ fn forget_unlocked(files: &mut LockedFiles, locks: &LockStates, file: u64)
     if !locks.is_on(file) {
         files.forget(file);
     }
-}
-
-/// The pairs of a client's opens go.
-fn drop_pairs(by_file: &mut Index, opens: &ByNumber<OpenState>, client: u64)
-    ensures items { by_file.new.items ≡ filter (λ p. not (marked (λ o. o.number) (λ o. o.client == client) opens.now.items p.number)) by_file.old.items }
-    ensures room { by_file.new.ready ≡ by_file.old.ready }
-{
-    by_file.keep(Going::Opens(opens, client));
-}
-
-/// The pairs of a client go.
-fn drop_own_pairs(by_client: &mut Index, client: u64)
-    ensures items { by_client.new.items ≡ filter (λ p. not (p.of == client)) by_client.old.items }
-    ensures room { by_client.new.ready ≡ by_client.old.ready }
-{
-    by_client.keep(Going::Owned(client));
 }
 
 impl Opens {
@@ -184,8 +132,6 @@ impl Opens {
         ensures room { self.new.ready ≡ self.old.ready }
     {
         leave_client(&mut self.files, &mut self.locks, client);
-        drop_pairs(&mut self.by_file, &self.opens, client);
-        drop_own_pairs(&mut self.by_client, client);
         self.opens.drop_client(client);
         self.files.keep_locked(&self.locks);
     }
@@ -196,9 +142,7 @@ impl Opens {
         ensures after { table self.new ≡ without_open (table self.old) number }
         ensures room { self.new.ready ≡ self.old.ready }
     {
-        leave_open(&mut self.files, &mut self.locks, file, number);
-        drop_pair(&mut self.by_file, &self.opens, number);
-        drop_own_pair(&mut self.by_client, &self.opens, number);
+        leave_open(&mut self.files, &mut self.locks, number);
         self.opens.remove(number);
         forget_unlocked(&mut self.files, &self.locks, file);
     }

@@ -22,6 +22,7 @@ pub mod laws;
 mod lock_states;
 mod locked_files;
 mod locking;
+mod open_states;
 mod opening;
 mod opens;
 mod owner;

@@ -4,7 +4,8 @@ ghost use Rattle.std.specs.Prelude.{◌≡◌, ◌==◌, ◌&&◌, ◌<◌, ◌+
 ghost use Rattle.std.specs.Option.{option_copied};
 ghost use Rattle.std.specs.List.{list_any};
 ghost use Rattle.nfs_xdr.specs.Tables.{In};
-ghost use Rattle.nfs_opens.specs.Index.{IsIndex};
+ghost use Rattle.nfs_opens.specs.Index.{IsIndex, marked};
+ghost use Rattle.nfs_opens.specs.Kept.{Rises};
 ghost use Rattle.nfs_opens.specs.Locking.{raised};
 ghost use Rattle.nfs_opens.specs.Holding.{held_by};
 ghost use Rattle.nfs_opens.specs.Calls.{held_without};
@@ -24,6 +25,8 @@ pub(crate) struct LockStates {
     states: ByNumber<LockState>,
     /// The lock states by their files.
     by_file: Index,
+    /// The lock states by the opens under which they were made.
+    by_open: Index,
 }
 
 impl Model for LockStates {
@@ -34,9 +37,9 @@ impl Model for LockStates {
 
     ghost Value = { Numbered LockState };
 
-    ghost view = { λ s. record { items = s.states.items; ready = s.states.ready && s.by_file.ready } };
+    ghost view = { λ s. record { items = s.states.items; ready = s.states.ready && (s.by_file.ready && s.by_open.ready) } };
 
-    ghost invariant = { λ s. IsIndex (λ l. l.file) (λ l. l.number) s.states.items s.by_file.items };
+    ghost invariant = { λ s. IsIndex (λ l. l.file) (λ l. l.number) s.states.items s.by_file.items × IsIndex (λ l. l.opened) (λ l. l.number) s.states.items s.by_open.items };
 }
 
 /// A lock state no longer stands among those of its file.
@@ -53,6 +56,27 @@ fn drop_pair(by_file: &mut Index, states: &ByNumber<LockState>, number: u64)
     }
 }
 
+/// A lock state no longer stands among those of its open.
+fn drop_open_pair(by_open: &mut Index, states: &ByNumber<LockState>, number: u64)
+    requires { IsIndex (λ l. l.opened) (λ l. l.number) states.now.items by_open.old.items }
+    ensures { IsIndex (λ l. l.opened) (λ l. l.number) (filter (λ l. not (l.number == number)) states.now.items) by_open.new.items }
+{
+    states.kept();
+    if let Some(lock) = states.get(number) {
+        by_open.take(Pair {
+            of: lock.opened,
+            number,
+        });
+    }
+}
+
+/// The pairs of a client's lock states go.
+fn drop_pairs(pairs: &mut Index, states: &ByNumber<LockState>, client: u64)
+    ensures { pairs.new.items ≡ filter (λ p. not (marked (λ l. l.number) (λ l. l.client == client) states.now.items p.number)) pairs.old.items }
+{
+    pairs.keep(Going::Locks(states, client));
+}
+
 impl LockStates {
     /// No lock states. What comes later grows by `alloc`.
     pub(crate) fn new(alloc: Global) -> Self
@@ -61,6 +85,7 @@ impl LockStates {
         LockStates {
             states: ByNumber::new(alloc),
             by_file: Index::new(alloc),
+            by_open: Index::new(alloc),
         }
     }
 
@@ -82,6 +107,18 @@ impl LockStates {
         }
     }
 
+    /// The first lock state under an open.
+    pub(crate) fn first_under(&self, opened: u64) -> Option<&LockState>
+        ensures found { option_copied result ≡ find (λ l. l.opened == opened) self.now.items }
+        ensures rises { Rises (λ l. l.number) 1 self.now.items }
+    {
+        self.states.kept();
+        match self.by_open.next(opened, 0) {
+            Some(number) => self.states.get(number),
+            None => None,
+        }
+    }
+
     /// Whether a lock state stands on a file.
     pub(crate) fn is_on(&self, file: u64) -> bool
         ensures { result ≡ list_any (λ l. l.file == file) self.now.items }
@@ -96,7 +133,8 @@ impl LockStates {
         ensures ok { OnOk result (self.new.ready ≡ true) }
     {
         self.states.reserve(alloc)?;
-        self.by_file.reserve(alloc)
+        self.by_file.reserve(alloc)?;
+        self.by_open.reserve(alloc)
     }
 
     /// A lock state comes behind all others. It takes no memory.
@@ -108,6 +146,10 @@ impl LockStates {
     {
         self.by_file.put(Pair {
             of: new.file,
+            number: new.number,
+        });
+        self.by_open.put(Pair {
+            of: new.opened,
             number: new.number,
         });
         self.states.push(new);
@@ -125,6 +167,7 @@ impl LockStates {
         ensures { self.new.items ≡ filter (λ l. not (l.number == number)) self.old.items }
     {
         drop_pair(&mut self.by_file, &self.states, number);
+        drop_open_pair(&mut self.by_open, &self.states, number);
         self.states.remove(number);
     }
 
@@ -140,7 +183,8 @@ impl LockStates {
         ensures { self.new.items ≡ filter (λ l. not (l.client == client)) self.old.items }
     {
         self.states.kept();
-        self.by_file.keep(Going::Locks(&self.states, client));
+        drop_pairs(&mut self.by_file, &self.states, client);
+        drop_pairs(&mut self.by_open, &self.states, client);
         self.states.drop_client(client);
     }
 }

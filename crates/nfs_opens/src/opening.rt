@@ -9,7 +9,6 @@ ghost use Rattle.nfs_opens.specs.Kept.{IsTable};
 ghost use Rattle.nfs_opens.specs.Opening.{opens, own_open, downgrade};
 ghost use Rattle.nfs_opens.specs.Calls.{asked, open_fault};
 
-use crate::index::Pair;
 use crate::judging::Sort;
 use crate::opens::Opens;
 use crate::owner::Owner;
@@ -105,8 +104,6 @@ impl Opens {
     {
         let owner = Owner::of(alloc, owner)?;
         self.opens.reserve(alloc)?;
-        self.by_file.reserve(alloc)?;
-        self.by_client.reserve(alloc)?;
         self.ready = true;
         Ok(Ready { owner })
     }
@@ -135,14 +132,6 @@ impl Opens {
                 let number = self.last + 1;
                 self.ready = false;
                 self.last = number;
-                self.by_file.put(Pair {
-                    of: ask.file,
-                    number,
-                });
-                self.by_client.put(Pair {
-                    of: ask.client,
-                    number,
-                });
                 self.opens.push(OpenState {
                     number,
                     client: ask.client,

@@ -6,10 +6,9 @@ ghost use Rattle.std.specs.List.{list_any};
 ghost use Rattle.nfs_opens.specs.Table.{table, no_opens, open_at, lock_at};
 ghost use Rattle.nfs_opens.specs.Kept.{IsTable};
 
-use crate::blocks::Index;
-use crate::by_number::ByNumber;
 use crate::lock_states::LockStates;
 use crate::locked_files::LockedFiles;
+use crate::open_states::OpenStates;
 use crate::records::{LockState, OpenState};
 use crate::share::Share;
 use std::alloc::Global;
@@ -18,11 +17,7 @@ use std::marker::Model;
 /// All opens and lock states in rising order of their numbers, and the locked bytes of all files.
 #[derive(Drop)]
 pub struct Opens {
-    pub(crate) opens: ByNumber<OpenState>,
-    /// The opens by their files.
-    pub(crate) by_file: Index,
-    /// The opens by their clients.
-    pub(crate) by_client: Index,
+    pub(crate) opens: OpenStates,
     pub(crate) locks: LockStates,
     pub(crate) files: LockedFiles,
     /// The last number that was given, to an open or a lock state; 0 before the first.
@@ -33,14 +28,14 @@ pub struct Opens {
 }
 
 impl Model for Opens {
-    ghost use Rattle.nfs_opens.specs.Index.{IsKept};
+    ghost use Rattle.nfs_opens.specs.Kept.{IsKept};
     ghost use Rattle.nfs_opens.specs.Table.{Kept};
 
     ghost Value = { Kept };
 
     ghost view = { λ t. record { opens = t.opens.items; locks = t.locks.items; files = t.files; last = t.last; instance = t.instance; ready = t.ready } };
 
-    ghost invariant = { λ t. IsKept (record { opens = t.opens.items; locks = t.locks.items; files = t.files; last = t.last; instance = t.instance; ready = t.ready }) t.opens.ready t.by_file.items t.by_file.ready t.by_client.items t.by_client.ready };
+    ghost invariant = { λ t. IsKept (record { opens = t.opens.items; locks = t.locks.items; files = t.files; last = t.last; instance = t.instance; ready = t.ready }) t.opens.ready };
 }
 
 impl Opens {
@@ -50,9 +45,7 @@ impl Opens {
         ensures { table result ≡ no_opens instance }
     {
         Opens {
-            opens: ByNumber::new(alloc),
-            by_file: Index::new(alloc),
-            by_client: Index::new(alloc),
+            opens: OpenStates::new(alloc),
             locks: LockStates::new(alloc),
             files: LockedFiles::new(alloc),
             last: 0,
@@ -81,10 +74,7 @@ impl Opens {
         ensures found { option_copied result ≡ find (λ o. (o.file == file) && nat_lt after o.number) (table self.now).opens }
         ensures kept { IsTable (table self.now) }
     {
-        match self.by_file.next(file, after) {
-            Some(number) => self.opens.get(number),
-            None => None,
-        }
+        self.opens.next_on(file, after)
     }
 
     /// The open of a client with the lowest number behind `after`.
@@ -92,10 +82,7 @@ impl Opens {
         ensures found { option_copied result ≡ find (λ o. (o.client == client) && nat_lt after o.number) (table self.now).opens }
         ensures kept { IsTable (table self.now) }
     {
-        match self.by_client.next(client, after) {
-            Some(number) => self.opens.get(number),
-            None => None,
-        }
+        self.opens.next_of(client, after)
     }
 
     /// The first open of a client.

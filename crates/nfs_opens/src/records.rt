@@ -166,13 +166,6 @@ impl LockState {
         self.file == file && self.client == client && self.owner.is(owner)
     }
 
-    /// Whether it was made under the open of a number.
-    pub(crate) fn is_under(&self, opened: u64) -> bool
-        ensures { result ≡ (self.now.opened == opened) }
-    {
-        self.opened == opened
-    }
-
     pub(crate) fn raise(&mut self)
         ensures { self.new ≡ raised self.old }
     {

@@ -6,6 +6,11 @@ use Rattle.nfs_opens.proofs.IndexLemmas.{index_unmarked}
 use Rattle.nfs_opens.proofs.lock_states.LockStates.drop_client.Goals as goal
 
 pub invariant_of-self : goal.invariant_of-self
-invariant_of-self c = subst (λ (ls : List LockState). IsIndex (λ (l : LockState). l.file) (λ l. l.number) ls c.keep.new.self.items) (sym c.drop_client.ensures.items)
-    (index_unmarked (λ (l : LockState). l.file) (λ l. l.number) (λ l. l.client == c.args.client) 1 c.kept.ensures.0 c.self.inside.states.items
-    c.self.inside.by_file.items c.keep.new.self.items c.kept.ensures.1 c.self.invariant c.keep.ensures.items)
+invariant_of-self c = (
+  subst (λ (ls : List LockState). IsIndex (λ (l : LockState). l.file) (λ l. l.number) ls c.drop_pairs.new.pairs.items) (sym c.drop_client.ensures.items)
+      (index_unmarked (λ (l : LockState). l.file) (λ l. l.number) (λ l. l.client == c.args.client) 1 c.kept.ensures.0 c.self.inside.states.items
+      c.self.inside.by_file.items c.drop_pairs.new.pairs.items c.kept.ensures.1 c.self.invariant.0 c.drop_pairs.ensures),
+  subst (λ (ls : List LockState). IsIndex (λ (l : LockState). l.opened) (λ l. l.number) ls c.drop_pairs-2.new.pairs.items) (sym c.drop_client.ensures.items)
+      (index_unmarked (λ (l : LockState). l.opened) (λ l. l.number) (λ l. l.client == c.args.client) 1 c.kept.ensures.0 c.self.inside.states.items
+      c.self.inside.by_open.items c.drop_pairs-2.new.pairs.items c.kept.ensures.1 c.self.invariant.1 c.drop_pairs-2.ensures),
+)

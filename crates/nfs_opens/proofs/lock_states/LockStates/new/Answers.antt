@@ -1,4 +1,4 @@
-use Rattle.std.proofs.Common.{List, [], sym, subst}
+use Rattle.std.proofs.Common.{List, [], ℕ, sym, subst}
 use Rattle.nfs_opens.specs.declared.index.Pair.{Pair}
 use Rattle.nfs_opens.specs.declared.records.LockState.{LockState}
 use Rattle.nfs_opens.specs.Index.{IsIndex}
@@ -7,6 +7,7 @@ use Rattle.nfs_opens.proofs.lock_states.LockStates.new.Goals as goal
 
 pub invariant_of-result : goal.invariant_of-result
 invariant_of-result c =
-    subst (λ (ps : List Pair). IsIndex (λ (l : LockState). l.file) (λ l. l.number) c.new.result.items ps) (sym c.new-2.ensures)
-    (subst (λ (ls : List LockState). IsIndex (λ (l : LockState). l.file) (λ l. l.number) ls []) (sym c.new.ensures)
-    (index_none (λ (l : LockState). l.file) (λ l. l.number)))
+    let none = λ (of : LockState → ℕ). subst (λ (ls : List LockState). IsIndex of (λ l. l.number) ls []) (sym c.new.ensures) (index_none of (λ l. l.number)) in (
+      subst (λ (ps : List Pair). IsIndex (λ (l : LockState). l.file) (λ l. l.number) c.new.result.items ps) (sym c.new-2.ensures) (none (λ l. l.file)),
+      subst (λ (ps : List Pair). IsIndex (λ (l : LockState). l.opened) (λ l. l.number) c.new.result.items ps) (sym c.new-3.ensures) (none (λ l. l.opened)),
+    )

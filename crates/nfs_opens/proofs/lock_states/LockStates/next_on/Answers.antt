@@ -11,11 +11,11 @@ returns-in-Some c =
     let next : IsNext c.self.inside.by_file.items c.args.file c.args.after (Some c.in-Some.number) =
     subst (IsNext c.self.inside.by_file.items c.args.file c.args.after) c.in-Some.is c.next.ensures in
     c.get.ensures ∙ (next_state (λ (l : LockState). l.file) (λ l. l.number) 1 c.kept.ensures.0 c.args.file c.args.after c.in-Some.number
-    c.self.inside.states.items c.self.inside.by_file.items c.kept.ensures.1 c.self.invariant next
+    c.self.inside.states.items c.self.inside.by_file.items c.kept.ensures.1 c.self.invariant.0 next
     ∙ ap (λ (x : Numbered LockState). find (λ (l : LockState). (l.file == c.args.file) && nat_lt c.args.after l.number) x.items) c.self.view_is)
 
 pub returns-in-None : goal.returns-in-None
 returns-in-None c =
     let next : IsNext c.self.inside.by_file.items c.args.file c.args.after None = subst (IsNext c.self.inside.by_file.items c.args.file c.args.after) c.in-None.is c.next.ensures in
-    sym (no_state (λ (l : LockState). l.file) (λ l. l.number) c.args.file c.args.after c.self.inside.states.items c.self.inside.by_file.items c.self.invariant next)
+    sym (no_state (λ (l : LockState). l.file) (λ l. l.number) c.args.file c.args.after c.self.inside.states.items c.self.inside.by_file.items c.self.invariant.0 next)
     ∙ ap (λ (x : Numbered LockState). find (λ (l : LockState). (l.file == c.args.file) && nat_lt c.args.after l.number) x.items) c.self.view_is

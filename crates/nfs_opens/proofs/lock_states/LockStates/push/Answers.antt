@@ -8,12 +8,21 @@ use Rattle.nfs_opens.proofs.lock_states.LockStates.push.Goals as goal
 
 pub put-requires-clause-other : goal.put-requires-clause-other
 put-requires-clause-other c = index_apart (λ (l : LockState). l.file) (λ l. l.number) c.self.inside.states.items c.self.inside.by_file.items _
-    c.self.invariant (subst (λ (x : Numbered LockState). (l : LockState) → In l x.items → l.number < c.args.new.number) (sym c.self.view_is) c.requires.behind)
+    c.self.invariant.0 (subst (λ (x : Numbered LockState). (l : LockState) → In l x.items → l.number < c.args.new.number) (sym c.self.view_is) c.requires.behind)
+
+pub put-requires-2-clause-other : goal.put-requires-2-clause-other
+put-requires-2-clause-other c = index_apart (λ (l : LockState). l.opened) (λ l. l.number) c.self.inside.states.items c.self.inside.by_open.items _
+    c.self.invariant.1 (subst (λ (x : Numbered LockState). (l : LockState) → In l x.items → l.number < c.args.new.number) (sym c.self.view_is) c.requires.behind)
 
 pub push-requires-clause-behind : goal.push-requires-clause-behind
 push-requires-clause-behind c = subst (λ (x : Numbered LockState). (l : LockState) → In l x.items → l.number < c.args.new.number) (sym c.self.view_is) c.requires.behind
 
 pub invariant_of-self : goal.invariant_of-self
-invariant_of-self c = subst (λ (ls : List LockState). IsIndex (λ (l : LockState). l.file) (λ l. l.number) ls c.put.new.self.items) (sym c.push.ensures)
-    (index_put (λ (l : LockState). l.file) (λ l. l.number) c.self.inside.states.items c.args.new c.self.inside.by_file.items c.put.new.self.items
-    c.self.invariant c.put.ensures)
+invariant_of-self c = (
+  subst (λ (ls : List LockState). IsIndex (λ (l : LockState). l.file) (λ l. l.number) ls c.put.new.self.items) (sym c.push.ensures)
+      (index_put (λ (l : LockState). l.file) (λ l. l.number) c.self.inside.states.items c.args.new c.self.inside.by_file.items c.put.new.self.items
+      c.self.invariant.0 c.put.ensures),
+  subst (λ (ls : List LockState). IsIndex (λ (l : LockState). l.opened) (λ l. l.number) ls c.put-2.new.self.items) (sym c.push.ensures)
+      (index_put (λ (l : LockState). l.opened) (λ l. l.number) c.self.inside.states.items c.args.new c.self.inside.by_open.items c.put-2.new.self.items
+      c.self.invariant.1 c.put-2.ensures),
+)

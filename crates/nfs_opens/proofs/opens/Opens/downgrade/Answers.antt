@@ -13,7 +13,6 @@ use Rattle.nfs_opens.specs.Kept.{IsTable}
 use Rattle.nfs_opens.specs.Opening.{downgrade, downgrade_by, narrow_open, narrows}
 use Rattle.nfs_opens.proofs.LockLemmas.{same_table}
 use Rattle.nfs_opens.proofs.StepLemmas.{narrow_done, narrow_refused, table_narrow}
-use Rattle.nfs_opens.proofs.IndexedLemmas.{opens_changed}
 use Rattle.nfs_opens.proofs.opens.Opens.downgrade.Goals as goal
 use Rattle.nfs_opens.proofs.opens.Opens.downgrade.Goals.{After-get, After-is_narrower, After-narrow}
 
@@ -69,12 +68,6 @@ invariant_of-self c =
           (table_narrow (table (the_view c.self.inside)) c.args.id.number c.args.access c.args.deny c.in-Some.open.now c.self.invariant.table one
           (sym c.is_narrower.ensures ∙ c.if-not-is_narrower.false));
       room = λ yes. c.narrow.ensures.ready ∙ c.self.invariant.room yes;
-      by_file = opens_changed (λ o. o.file) (narrows c.args.access c.args.deny) c.args.id.number c.self.inside.opens.items c.narrow.new.self.items
-          c.self.inside.by_file.items c.narrow.ensures.items (λ o. refl) (λ o. refl) c.self.invariant.by_file;
-      place = c.self.invariant.place;
-      by_client = opens_changed (λ o. o.client) (narrows c.args.access c.args.deny) c.args.id.number c.self.inside.opens.items c.narrow.new.self.items
-          c.self.inside.by_client.items c.narrow.ensures.items (λ o. refl) (λ o. refl) c.self.invariant.by_client;
-      seat = c.self.invariant.seat;
     }
 
 -- what a downgrade of an open that is narrowed answers and leaves

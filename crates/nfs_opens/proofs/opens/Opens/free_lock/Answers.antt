@@ -25,8 +25,4 @@ invariant_of-self c =
     record {
       table = subst IsTable (sym same) (free_keeps t c.args.number c.in-Some.lock.now c.self.invariant.table found (sym c.any.ensures ∙ c.if-any.false));
       room = c.self.invariant.room;
-      by_file = c.self.invariant.by_file;
-      place = c.self.invariant.place;
-      by_client = c.self.invariant.by_client;
-      seat = c.self.invariant.seat;
     }

@@ -29,10 +29,6 @@ invariant_of-self-2 c =
           (table_locked (table (the_view c.self.inside)) c.args.wish.now c.args.state c.args.access c.in-Some.lock.now c.self.invariant.table
           c.requires.range (omega arith) judged found of_file);
       room = c.self.invariant.room;
-      by_file = c.self.invariant.by_file;
-      place = c.self.invariant.place;
-      by_client = c.self.invariant.by_client;
-      seat = c.self.invariant.seat;
     }
 
 pub returns-clause-locks : goal.returns-clause-locks

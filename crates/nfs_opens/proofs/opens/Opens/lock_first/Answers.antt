@@ -36,10 +36,6 @@ invariant_of-self-2 c =
           (judged_tells (table (the_view c.self.inside)) 0 c.args.access c.args.wish.now c.self.invariant.table c.requires.range (omega arith) judged)
           (ap (λ (k : Kept). open_at (table k) c.args.opened) c.self.view_is ∙ found) under.0 under.1);
       room = c.self.invariant.room;
-      by_file = c.self.invariant.by_file;
-      place = c.self.invariant.place;
-      by_client = c.self.invariant.by_client;
-      seat = c.self.invariant.seat;
     }
 
 pub returns-clause-locks : goal.returns-clause-locks

@@ -9,15 +9,12 @@ use Rattle.nfs_opens.specs.declared.records.OpenState.{OpenState}
 use Rattle.nfs_opens.specs.Holding.{held_by}
 use Rattle.nfs_opens.specs.Table.{Kept, table, clashes_with}
 use Rattle.nfs_opens.specs.Kept.{IsTable}
-use Rattle.nfs_opens.specs.Opening.{own_open, new_open, joins}
+use Rattle.nfs_opens.specs.Opening.{own_open, new_open}
 use Rattle.nfs_opens.specs.Calls.{asked}
 use Rattle.nfs_opens.proofs.LockLemmas.{same_table}
 use Rattle.nfs_opens.proofs.TableLemmas.{table_opened}
 use Rattle.nfs_opens.proofs.StepLemmas.{table_join}
 use Rattle.nfs_opens.proofs.StepLemmas.{no_clash_asked}
-use Rattle.nfs_opens.specs.Index.{IsIndex}
-use Rattle.nfs_opens.proofs.IndexLemmas.{index_put, index_new}
-use Rattle.nfs_opens.proofs.IndexedLemmas.{opens_changed}
 use Rattle.nfs_opens.proofs.opens.Opens.open.Goals as goal
 
 pub invariant_of-self : goal.invariant_of-self
@@ -31,12 +28,6 @@ invariant_of-self c =
     record {
       table = subst IsTable (sym same) (table_join (table (the_view c.self.inside)) (asked c.args.ask.now) c.in-Some.open.now c.self.invariant.table own free);
       room = λ yes. c.join.ensures.ready ∙ c.self.invariant.room yes;
-      by_file = opens_changed (λ o. o.file) (joins (asked c.args.ask.now)) c.in-Some.open.now.number c.self.inside.opens.items c.join.new.self.items
-          c.self.inside.by_file.items c.join.ensures.items (λ o. refl) (λ o. refl) c.self.invariant.by_file;
-      place = c.self.invariant.place;
-      by_client = opens_changed (λ o. o.client) (joins (asked c.args.ask.now)) c.in-Some.open.now.number c.self.inside.opens.items c.join.new.self.items
-          c.self.inside.by_client.items c.join.ensures.items (λ o. refl) (λ o. refl) c.self.invariant.by_client;
-      seat = c.self.invariant.seat;
     }
 
 pub invariant_of-self-in-None : goal.invariant_of-self-in-None
@@ -49,31 +40,7 @@ invariant_of-self-in-None c =
     record {
       table = subst IsTable (sym same) (table_opened (table (the_view c.self.inside)) (asked c.args.ask.now) c.self.invariant.table free);
       room = λ yes. absurd (false≢true yes);
-      by_file = subst (λ (os : List OpenState). IsIndex (λ (o : OpenState). o.file) (λ o. o.number) os c.put.new.self.items) (sym items)
-          (index_put (λ (o : OpenState). o.file) (λ o. o.number) c.self.inside.opens.items (new_open (table (the_view c.self.inside)) (asked c.args.ask.now))
-          c.self.inside.by_file.items c.put.new.self.items c.self.invariant.by_file c.put.ensures);
-      place = λ yes. absurd (false≢true yes);
-      by_client = subst (λ (os : List OpenState). IsIndex (λ (o : OpenState). o.client) (λ o. o.number) os c.put-in-None.new.self.items) (sym items)
-          (index_put (λ (o : OpenState). o.client) (λ o. o.number) c.self.inside.opens.items (new_open (table (the_view c.self.inside)) (asked c.args.ask.now))
-          c.self.inside.by_client.items c.put-in-None.new.self.items c.self.invariant.by_client c.put-in-None.ensures);
-      seat = λ yes. absurd (false≢true yes);
     }
-
-pub put-requires-clause-ready : goal.put-requires-clause-ready
-put-requires-clause-ready c = c.self.invariant.place (ap (λ (k : Kept). k.ready) c.self.view_is ∙ c.requires.room)
-
-pub put-requires-clause-other : goal.put-requires-clause-other
-put-requires-clause-other c = index_new (λ (o : OpenState). o.file) (λ o. o.number) 1 (suc c.self.inside.last) c.self.inside.opens.items
-    c.self.inside.by_file.items (record { of = c.args.ask.now.file; number = c.self.inside.last + 1 }) c.self.invariant.table.opens c.self.invariant.by_file
-    (omega arith)
-
-pub put-requires-in-None-clause-ready : goal.put-requires-in-None-clause-ready
-put-requires-in-None-clause-ready c = c.self.invariant.seat (ap (λ (k : Kept). k.ready) c.self.view_is ∙ c.requires.room)
-
-pub put-requires-in-None-clause-other : goal.put-requires-in-None-clause-other
-put-requires-in-None-clause-other c = index_new (λ (o : OpenState). o.client) (λ o. o.number) 1 (suc c.self.inside.last) c.self.inside.opens.items
-    c.self.inside.by_client.items (record { of = c.args.ask.now.client; number = c.self.inside.last + 1 }) c.self.invariant.table.opens c.self.invariant.by_client
-    (omega arith)
 
 pub push-requires-clause-ready : goal.push-requires-clause-ready
 push-requires-clause-ready c = c.self.invariant.room (ap (λ (k : Kept). k.ready) c.self.view_is ∙ c.requires.room)

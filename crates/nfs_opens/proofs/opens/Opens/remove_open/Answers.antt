@@ -1,23 +1,13 @@
-use Rattle.std.proofs.Common.{◌≡◌, List, sym, subst, ap, ◌∙◌}
-use Rattle.std.specs.Prelude.{◌==◌, IfSome}
+use Rattle.std.proofs.Common.{sym, subst, ap, ◌∙◌}
+use Rattle.std.specs.Prelude.{◌==◌}
 use Rattle.nfs_opens.specs.contracts.opens.Opens.{the_view}
-use Rattle.nfs_opens.specs.declared.records.OpenState.{OpenState}
 use Rattle.nfs_opens.specs.Holding.{held_by}
-use Rattle.nfs_opens.specs.Table.{Kept, table, open_at}
+use Rattle.nfs_opens.specs.Table.{Kept, table}
 use Rattle.nfs_opens.specs.Kept.{IsTable}
 use Rattle.nfs_opens.specs.Closing.{without_open}
-use Rattle.nfs_opens.specs.Index.{IsIndex}
 use Rattle.nfs_opens.proofs.TableLemmas.{table_closed}
-use Rattle.nfs_opens.proofs.LockedLemmas.{under_file}
 use Rattle.nfs_opens.proofs.LockLemmas.{left_holders, left_held, same_table}
 use Rattle.nfs_opens.proofs.opens.Opens.remove_open.Goals as goal
-
-pub leave_open-requires-clause-rises : goal.leave_open-requires-clause-rises
-leave_open-requires-clause-rises c = (_, c.self.invariant.table.locks)
-
-pub leave_open-requires-clause-file : goal.leave_open-requires-clause-file
-leave_open-requires-clause-file c = under_file (table (the_view c.self.inside)) c.args.number c.args.file c.self.invariant.table
-    (subst (λ (k : Kept). IfSome (open_at (table k) c.args.number) (λ o. o.file ≡ c.args.file)) (sym c.self.view_is) c.requires)
 
 pub forget_unlocked-requires : goal.forget_unlocked-requires
 forget_unlocked-requires c =
@@ -32,12 +22,6 @@ invariant_of-self c =
     record {
       table = subst IsTable (sym same) (table_closed t c.args.number c.self.invariant.table);
       room = λ yes. c.remove.ensures.ready ∙ c.self.invariant.room yes;
-      by_file = subst (λ (os : List OpenState). IsIndex (λ (o : OpenState). o.file) (λ o. o.number) os c.drop_pair.new.by_file.items) (sym c.remove.ensures.items)
-          c.drop_pair.ensures.index;
-      place = λ yes. c.drop_pair.ensures.room ∙ c.self.invariant.place yes;
-      by_client = subst (λ (os : List OpenState). IsIndex (λ (o : OpenState). o.client) (λ o. o.number) os c.drop_own_pair.new.by_client.items)
-          (sym c.remove.ensures.items) c.drop_own_pair.ensures.index;
-      seat = λ yes. c.drop_own_pair.ensures.room ∙ c.self.invariant.seat yes;
     }
 
 pub returns-clause-after : goal.returns-clause-after
@@ -47,9 +31,3 @@ returns-clause-after c =
     let same = same_table c.remove.new.self.items _ c.leave_open.new.locks.items _
     (held_by c.forget_unlocked.new.files) _ c.self.inside.last c.self.inside.instance c.remove.ensures.items c.leave_open.ensures.locks held in
     same ∙ ap (λ (k : Kept). without_open (table k) c.args.number) c.self.view_is
-
-pub drop_pair-requires-clause-rises : goal.drop_pair-requires-clause-rises
-drop_pair-requires-clause-rises c = (_, c.self.invariant.table.opens)
-
-pub drop_own_pair-requires-clause-rises : goal.drop_own_pair-requires-clause-rises
-drop_own_pair-requires-clause-rises c = (_, c.self.invariant.table.opens)

@@ -42,10 +42,6 @@ invariant_of-self-2 c =
       table = subst IsTable (sym same)
           (table_unlocked (table (the_view c.self.inside)) c.args.id.number c.args.file c.args.first c.args.last c.self.invariant.table);
       room = c.self.invariant.room;
-      by_file = c.self.invariant.by_file;
-      place = c.self.invariant.place;
-      by_client = c.self.invariant.by_client;
-      seat = c.self.invariant.seat;
     }
 
 pub returns-clause-unlocks : goal.returns-clause-unlocks

@@ -1,0 +1,179 @@
+//! All opens.
+
+ghost use Rattle.std.specs.Prelude.{◌≡◌, ◌==◌, ◌&&◌, ◌<◌, ◌++◌, ◌∷◌, [], true, not, find, filter, map, nat_lt, if◌then◌else◌, OnOk};
+ghost use Rattle.std.specs.Option.{option_copied};
+ghost use Rattle.nfs_xdr.specs.Tables.{In};
+ghost use Rattle.nfs_opens.specs.Index.{IsIndex};
+ghost use Rattle.nfs_opens.specs.Opening.{joins, narrows};
+ghost use Rattle.nfs_opens.specs.Calls.{asked};
+
+use crate::blocks::Index;
+use crate::by_number::ByNumber;
+use crate::closing::Going;
+use crate::index::Pair;
+use crate::opening::Ask;
+use crate::records::OpenState;
+use crate::share::Share;
+use std::alloc::{AllocError, Global};
+use std::marker::Model;
+
+/// All opens in rising order of their numbers. One more may come while there is room.
+#[derive(Drop)]
+pub(crate) struct OpenStates {
+    states: ByNumber<OpenState>,
+    /// The opens by their files.
+    by_file: Index,
+    /// The opens by their clients.
+    by_client: Index,
+}
+
+impl Model for OpenStates {
+    ghost use Rattle.std.specs.Prelude.{◌&&◌};
+    ghost use Rattle.nfs_opens.specs.ByNumber.{Numbered};
+    ghost use Rattle.nfs_opens.specs.Index.{IsIndex};
+    ghost use Rattle.nfs_opens.specs.declared.records.OpenState.{OpenState};
+
+    ghost Value = { Numbered OpenState };
+
+    ghost view = { λ s. record { items = s.states.items; ready = s.states.ready && (s.by_file.ready && s.by_client.ready) } };
+
+    ghost invariant = { λ s. IsIndex (λ o. o.file) (λ o. o.number) s.states.items s.by_file.items × IsIndex (λ o. o.client) (λ o. o.number) s.states.items s.by_client.items };
+}
+
+/// An open no longer stands among those of its file.
+fn drop_pair(by_file: &mut Index, states: &ByNumber<OpenState>, number: u64)
+    requires { IsIndex (λ o. o.file) (λ o. o.number) states.now.items by_file.old.items }
+    ensures index { IsIndex (λ o. o.file) (λ o. o.number) (filter (λ o. not (o.number == number)) states.now.items) by_file.new.items }
+    ensures room { by_file.new.ready ≡ by_file.old.ready }
+{
+    states.kept();
+    if let Some(open) = states.get(number) {
+        by_file.take(Pair {
+            of: open.file,
+            number,
+        });
+    }
+}
+
+/// An open no longer stands among those of its client.
+fn drop_own_pair(by_client: &mut Index, states: &ByNumber<OpenState>, number: u64)
+    requires { IsIndex (λ o. o.client) (λ o. o.number) states.now.items by_client.old.items }
+    ensures index { IsIndex (λ o. o.client) (λ o. o.number) (filter (λ o. not (o.number == number)) states.now.items) by_client.new.items }
+    ensures room { by_client.new.ready ≡ by_client.old.ready }
+{
+    states.kept();
+    if let Some(open) = states.get(number) {
+        by_client.take(Pair {
+            of: open.client,
+            number,
+        });
+    }
+}
+
+impl OpenStates {
+    /// No opens. What comes later grows by `alloc`.
+    pub(crate) fn new(alloc: Global) -> Self
+        ensures { result.items ≡ [] }
+    {
+        OpenStates {
+            states: ByNumber::new(alloc),
+            by_file: Index::new(alloc),
+            by_client: Index::new(alloc),
+        }
+    }
+
+    /// The open of a number.
+    pub(crate) fn get(&self, number: u64) -> Option<&OpenState>
+        ensures { option_copied result ≡ find (λ o. o.number == number) self.now.items }
+    {
+        self.states.get(number)
+    }
+
+    /// The open of a file with the lowest number behind `after`.
+    pub(crate) fn next_on(&self, file: u64, after: u64) -> Option<&OpenState>
+        ensures { option_copied result ≡ find (λ o. (o.file == file) && nat_lt after o.number) self.now.items }
+    {
+        self.states.kept();
+        match self.by_file.next(file, after) {
+            Some(number) => self.states.get(number),
+            None => None,
+        }
+    }
+
+    /// The open of a client with the lowest number behind `after`.
+    pub(crate) fn next_of(&self, client: u64, after: u64) -> Option<&OpenState>
+        ensures { option_copied result ≡ find (λ o. (o.client == client) && nat_lt after o.number) self.now.items }
+    {
+        self.states.kept();
+        match self.by_client.next(client, after) {
+            Some(number) => self.states.get(number),
+            None => None,
+        }
+    }
+
+    /// Room for one more open.
+    pub(crate) fn reserve(&mut self, alloc: Global) -> Result<(), AllocError>
+        ensures items { self.new.items ≡ self.old.items }
+        ensures ok { OnOk result (self.new.ready ≡ true) }
+        ensures kept { self.old.ready ≡ true → self.new.ready ≡ true }
+    {
+        self.states.reserve(alloc)?;
+        self.by_file.reserve(alloc)?;
+        self.by_client.reserve(alloc)
+    }
+
+    /// An open comes behind all others. It takes no memory.
+    pub(crate) fn push(&mut self, new: OpenState)
+        requires ready { self.old.ready ≡ true }
+        requires behind { (o : OpenState) → In o self.old.items → o.number < new.number }
+        requires first { 0 < new.number }
+        ensures { self.new.items ≡ self.old.items ++ new ∷ [] }
+    {
+        self.by_file.put(Pair {
+            of: new.file,
+            number: new.number,
+        });
+        self.by_client.put(Pair {
+            of: new.client,
+            number: new.number,
+        });
+        self.states.push(new);
+    }
+
+    /// What is asked joins the open of a number.
+    pub(crate) fn join(&mut self, number: u64, ask: &Ask)
+        ensures items { self.new.items ≡ map (λ o. if o.number == number then joins (asked ask.now) o else o) self.old.items }
+        ensures ready { self.new.ready ≡ self.old.ready }
+    {
+        self.states.join(number, ask);
+    }
+
+    /// The open of a number has this access and denies this from now on.
+    pub(crate) fn narrow(&mut self, number: u64, access: Share, deny: Share)
+        ensures items { self.new.items ≡ map (λ o. if o.number == number then narrows access deny o else o) self.old.items }
+        ensures ready { self.new.ready ≡ self.old.ready }
+    {
+        self.states.narrow(number, access, deny);
+    }
+
+    /// The open of a number goes.
+    pub(crate) fn remove(&mut self, number: u64)
+        ensures items { self.new.items ≡ filter (λ o. not (o.number == number)) self.old.items }
+        ensures ready { self.new.ready ≡ self.old.ready }
+    {
+        drop_pair(&mut self.by_file, &self.states, number);
+        drop_own_pair(&mut self.by_client, &self.states, number);
+        self.states.remove(number);
+    }
+
+    /// The opens of a client go.
+    pub(crate) fn drop_client(&mut self, client: u64)
+        ensures items { self.new.items ≡ filter (λ o. not (o.client == client)) self.old.items }
+        ensures ready { self.new.ready ≡ self.old.ready }
+    {
+        self.states.kept();
+        self.by_file.keep(Going::Opens(&self.states, client));
+        self.by_client.keep(Going::Owned(client));
+        self.states.drop_client(client);
+    }
+}
