@@ -4,6 +4,7 @@ ghost use Rattle.std.specs.Prelude.{◌≡◌, ◌++◌, ◌∷◌, [], length, 
 ghost use Rattle.slab.specs.Slab.{Updates};
 ghost use Rattle.nfs_xdr.specs.Tables.{IsRising, record_at, without_record};
 
+use crate::key::short_key;
 use crate::row::Row;
 use slab::Slab;
 use std::alloc::{AllocError, Global};
@@ -14,7 +15,7 @@ use std::marker::Model;
 #[derive(Drop)]
 pub(crate) struct ByCookie {
     slab: Slab<Row>,
-    keys: BTreeMap<u64, usize, Global>,
+    keys: BTreeMap<u64, u32, Global>,
 }
 
 impl Model for ByCookie {
@@ -53,7 +54,7 @@ impl ByCookie {
     {
         match self.keys.get(&cookie) {
             None => None,
-            Some(key) => self.slab.get(*key),
+            Some(key) => self.slab.get(*key as usize),
         }
     }
 
@@ -64,7 +65,7 @@ impl ByCookie {
         ensures err { OnErr result (self.new ≡ self.old) }
     {
         self.slab.reserve(1)?;
-        let key = self.slab.vacant_key();
+        let key = short_key(self.slab.vacant_key())?;
         self.keys.insert(row.cookie, key)?;
         self.slab.insert_reserved(row);
         Ok(())
@@ -75,7 +76,7 @@ impl ByCookie {
         ensures { self.new ≡ without_record (λ r. r.cookie) self.old cookie }
     {
         if let Some(key) = self.keys.remove(&cookie) {
-            drop_at(&mut self.slab, key);
+            drop_at(&mut self.slab, key as usize);
         }
     }
 }

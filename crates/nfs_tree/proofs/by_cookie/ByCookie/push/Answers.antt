@@ -11,6 +11,10 @@ use Rattle.nfs_tree.proofs.by_cookie.ByCookie.push.Goals as goal
 pub invariant_of-self : goal.invariant_of-self
 invariant_of-self c = shelved_same c.self.inside.slab c.reserve.new.self _ _ (ap (λ (s : Slab Row). s.slots) c.in_err-reserve.ensures.rest_kept) refl c.self.invariant
 
+pub invariant_of-self-in_err-key : goal.invariant_of-self-in_err-key
+invariant_of-self-in_err-key c =
+    shelved_same c.self.inside.slab c.reserve.new.self _ _ (ap (λ (s : Slab Row). s.slots) c.in_ok-reserve.ensures.rest_kept) refl c.self.invariant
+
 pub invariant_of-self-in_err-insert : goal.invariant_of-self-in_err-insert
 invariant_of-self-in_err-insert c =
     shelved_same c.self.inside.slab c.reserve.new.self _ _ (ap (λ (s : Slab Row). s.slots) c.in_ok-reserve.ensures.rest_kept) c.in_err-insert.ensures.err c.self.invariant
@@ -22,7 +26,7 @@ made c =
     let is : AreShelved (get c.reserve.new.self) es = shelved_same c.self.inside.slab c.reserve.new.self _ _ slots refl c.self.invariant in
     let seen : stored (get c.reserve.new.self) es ≡ c.args.self.now = view_same c.self.inside.slab c.reserve.new.self es slots ∙ c.self.view_is in
     let up = subst (λ xs. IsRising (λ (r : Row). r.cookie) 3 xs c.args.row.cookie) (sym seen) c.requires in
-    let key : c.vacant_key-key.result ≡ c.insert_reserved.result = c.vacant_key-key.ensures.value ∙ sym c.insert_reserved.ensures.key in
+    let key : c.in_ok-key.key ≡ c.insert_reserved.result = c.in_ok-key.ensures ∙ c.vacant_key.ensures.value ∙ sym c.insert_reserved.ensures.key in
     let entries : c.insert.new.self.entries ≡ insert_entry nat_cmp es c.args.row.cookie c.insert_reserved.result =
     c.in_ok-insert.ensures.entries ∙ ap (insert_entry nat_cmp es c.args.row.cookie) key in
     shelved_new c.reserve.new.self c.insert_reserved.new.self es c.insert.new.self.entries c.insert_reserved.result c.args.row is up

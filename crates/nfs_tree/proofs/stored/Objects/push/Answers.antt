@@ -12,6 +12,10 @@ use Rattle.nfs_tree.proofs.stored.Objects.push.Goals as goal
 pub invariant_of-self : goal.invariant_of-self
 invariant_of-self c = objects_same c.self.inside.slab c.reserve.new.self _ _ (ap (λ (s : Slab Stored). s.slots) c.in_err-reserve.ensures.rest_kept) refl c.self.invariant
 
+pub invariant_of-self-in_err-key : goal.invariant_of-self-in_err-key
+invariant_of-self-in_err-key c =
+    objects_same c.self.inside.slab c.reserve.new.self _ _ (ap (λ (s : Slab Stored). s.slots) c.in_ok-reserve.ensures.rest_kept) refl c.self.invariant
+
 pub invariant_of-self-in_err-insert : goal.invariant_of-self-in_err-insert
 invariant_of-self-in_err-insert c =
     objects_same c.self.inside.slab c.reserve.new.self _ _ (ap (λ (s : Slab Stored). s.slots) c.in_ok-reserve.ensures.rest_kept) c.in_err-insert.ensures.err c.self.invariant
@@ -23,7 +27,7 @@ made c =
     let is : AreObjects (get c.reserve.new.self) es = objects_same c.self.inside.slab c.reserve.new.self _ _ slots refl c.self.invariant in
     let seen : stored (get c.reserve.new.self) es ≡ c.args.self.now = view_same c.self.inside.slab c.reserve.new.self es slots ∙ c.self.view_is in
     let up = subst (λ xs. IsRising (λ (s : Stored). s.number) root xs c.args.stored.number) (sym seen) c.requires in
-    let key : c.vacant_key-key.result ≡ c.insert_reserved.result = c.vacant_key-key.ensures.value ∙ sym c.insert_reserved.ensures.key in
+    let key : c.in_ok-key.key ≡ c.insert_reserved.result = c.in_ok-key.ensures ∙ c.vacant_key.ensures.value ∙ sym c.insert_reserved.ensures.key in
     let entries : c.insert.new.self.entries ≡ insert_entry nat_cmp es c.args.stored.number c.insert_reserved.result =
     c.in_ok-insert.ensures.entries ∙ ap (insert_entry nat_cmp es c.args.stored.number) key in
     objects_new c.reserve.new.self c.insert_reserved.new.self es c.insert.new.self.entries c.insert_reserved.result c.args.stored is up
