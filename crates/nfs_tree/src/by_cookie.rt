@@ -22,11 +22,11 @@ impl Model for ByCookie {
     ghost use Rattle.std.specs.Prelude.{List};
     ghost use Rattle.slab.specs.Slab.{get};
     ghost use Rattle.nfs_tree.specs.declared.row.Row.{Row};
-    ghost use Rattle.nfs_tree.specs.Indexed.{stored, AreShelved};
+    ghost use Rattle.nfs_tree.specs.Indexed.{stored, as_it_is, AreShelved};
 
     ghost Value = { List Row };
 
-    ghost view = { λ t. stored (get t.slab) t.keys.entries };
+    ghost view = { λ t. stored as_it_is (get t.slab) t.keys.entries };
 
     ghost invariant = { λ t. AreShelved (get t.slab) t.keys.entries };
 }

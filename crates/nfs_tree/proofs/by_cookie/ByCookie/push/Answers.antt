@@ -4,7 +4,7 @@ use Rattle.std.specs.BTreeMap.{insert_entry}
 use Rattle.slab.specs.Slab.{Slab, get}
 use Rattle.nfs_xdr.specs.Tables.{IsRising}
 use Rattle.nfs_tree.specs.declared.row.Row.{Row}
-use Rattle.nfs_tree.specs.Indexed.{stored, AreShelved}
+use Rattle.nfs_tree.specs.Indexed.{stored, as_it_is, AreShelved}
 use Rattle.nfs_tree.proofs.Shelved.{shelved_same, shelved_new, view_same, Made}
 use Rattle.nfs_tree.proofs.by_cookie.ByCookie.push.Goals as goal
 
@@ -24,7 +24,7 @@ made c =
     let slots = ap (λ (s : Slab Row). s.slots) c.in_ok-reserve.ensures.rest_kept in
     let es = c.self.inside.keys.entries in
     let is : AreShelved (get c.reserve.new.self) es = shelved_same c.self.inside.slab c.reserve.new.self _ _ slots refl c.self.invariant in
-    let seen : stored (get c.reserve.new.self) es ≡ c.args.self.now = view_same c.self.inside.slab c.reserve.new.self es slots ∙ c.self.view_is in
+    let seen : stored as_it_is (get c.reserve.new.self) es ≡ c.args.self.now = view_same c.self.inside.slab c.reserve.new.self es slots ∙ c.self.view_is in
     let up = subst (λ xs. IsRising (λ (r : Row). r.cookie) 3 xs c.args.row.cookie) (sym seen) c.requires in
     let key : c.in_ok-key.key ≡ c.insert_reserved.result = c.in_ok-key.ensures ∙ c.vacant_key.ensures.value ∙ sym c.insert_reserved.ensures.key in
     let entries : c.insert.new.self.entries ≡ insert_entry nat_cmp es c.args.row.cookie c.insert_reserved.result =
