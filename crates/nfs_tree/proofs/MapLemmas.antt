@@ -1,6 +1,6 @@
 -- What changes of the maps make of the list of rows.
 use Rattle.std.proofs.Common.{◌≡◌, ℕ, ◌<◌, ◌≤◌, ◌+◌, ◌^◌, suc, Bool, true, false, cond, not, List, [], ◌∷◌, ◌++◌, map, length, Option, Some, None, refl, sym, ◌∙◌, ap, arith, inl, inr}
-use Rattle.std.specs.Prelude.{◌==◌, ◌&&◌, filter, find, option_map, bytes_eq, nat_lt}
+use Rattle.std.specs.Prelude.{◌==◌, ◌&&◌, filter, find, option_map, is_some, bytes_eq, nat_lt}
 use Rattle.std.proofs.lemmas.Bool.{cases_Bool, eq-eqb, ne_eqb, eqb-true, and_parts, false≢true}
 use Rattle.std.proofs.lemmas.Bool.Decides.{nat_tests}
 use Rattle.std.proofs.lemmas.Slice.Eq.{bytes_eq-Decides}
@@ -321,3 +321,12 @@ some_place None n c e = absurd cc
 pub none_place : (o : Option Row) → option_map place o ≡ None → o ≡ None
 none_place (Some x) e = absurd cc
 none_place None e = refl
+
+-- what a look-up says of the place of an entry
+pub place_object : (o : Option Row) → option_map (λ (p : ℕ × ℕ). p.0) (option_map place o) ≡ option_map (λ (r : Row). r.object) o
+place_object None = refl
+place_object (Some x) = refl
+
+pub place_there : (o : Option Row) → is_some (option_map place o) ≡ is_some o
+place_there None = refl
+place_there (Some x) = refl

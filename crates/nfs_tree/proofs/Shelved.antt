@@ -1,6 +1,6 @@
 -- What each change of the slab and of the map makes of the list of rows.
 use Rattle.std.proofs.Common.{◌≡◌, ℕ, ◌+◌, List, [], ◌∷◌, ◌++◌, Some, None, refl, sym, ◌∙◌, ap, arith, subst}
-use Rattle.std.specs.Prelude.{length}
+use Rattle.std.specs.Prelude.{length, option_map}
 use Rattle.std.specs.Option.{option_and_then}
 use Rattle.std.specs.Ordering.{nat_cmp}
 use Rattle.std.specs.BTreeMap.{is_at, insert_entry}
@@ -8,61 +8,63 @@ use Rattle.std.specs.Map.{lookup, remove_entry}
 use Rattle.slab.specs.Slab.{Slab, get, Updates}
 use Rattle.nfs_xdr.specs.Tables.{IsRising, record_at, without_record}
 use Rattle.nfs_xdr.proofs.Tables.{IsRising-push}
+use Rattle.nfs_tree.specs.declared.row.Naming.{Naming}
 use Rattle.nfs_tree.specs.declared.row.Row.{Row}
-use Rattle.nfs_tree.specs.Indexed.{stored, AreShelved}
-use Rattle.nfs_tree.proofs.StoredLemmas.{insert_last, stored_push, stored_apart, stored_remove, AreStored-push, stored_find, filter_none, rising_keys, length-stored}
+use Rattle.nfs_tree.specs.Indexed.{stored, placed, AreShelved}
+use Rattle.nfs_tree.proofs.StoredLemmas.{insert_last, free_vacant, stored_push, stored_apart, stored_remove, AreStored-push, stored_find, filter_none, rising_keys, length-stored}
 
 abbrev pub cookie : Row → ℕ
 cookie r = r.cookie
 
-pub shelved_same : (s t : Slab Row) (es fs : List (ℕ × ℕ)) → t.slots ≡ s.slots → fs ≡ es → AreShelved (get s) es → AreShelved (get t) fs
+pub shelved_same : (s t : Slab Naming) (es fs : List (ℕ × ℕ)) → t.slots ≡ s.slots → fs ≡ es → AreShelved (get s) es → AreShelved (get t) fs
 shelved_same s t es fs slots entries is = subst (λ fs. AreShelved (get t) fs) (sym entries) (subst (λ slots. AreShelved (get (record s { slots = slots })) es) (sym slots) is)
 
-pub view_same : (s t : Slab Row) (es : List (ℕ × ℕ)) → t.slots ≡ s.slots → stored (get t) es ≡ stored (get s) es
-view_same s t es slots = ap (λ slots. stored (get (record s { slots = slots })) es) slots
+pub view_same : (s t : Slab Naming) (es : List (ℕ × ℕ)) → t.slots ≡ s.slots → stored placed (get t) es ≡ stored placed (get s) es
+view_same s t es slots = ap (λ slots. stored placed (get (record s { slots = slots })) es) slots
 
-pub record Made (s t : Slab Row) (es fs : List (ℕ × ℕ)) (r : Row) : Type 0 where
+pub record Made (s t : Slab Naming) (es fs : List (ℕ × ℕ)) (r : Row) : Type 0 where
   pub is : AreShelved (get t) fs
-  pub view : stored (get t) fs ≡ stored (get s) es ++ r ∷ []
+  pub view : stored placed (get t) fs ≡ stored placed (get s) es ++ r ∷ []
 
-pub shelved_new : (s t : Slab Row) (es fs : List (ℕ × ℕ)) (key : ℕ) (r : Row) → AreShelved (get s) es → IsRising (λ (r : Row). r.cookie) 3 (stored (get s) es) r.cookie
-    → get s key ≡ None → Updates s t key (Some r) → fs ≡ insert_entry nat_cmp es r.cookie key → Made s t es fs r
-shelved_new s t es fs key r is up vacant updates entries =
-    let rising = rising_keys cookie (get s) 3 r.cookie es is.stored up in
-    let last : fs ≡ es ++ (r.cookie, key) ∷ [] = entries ∙ insert_last es 3 r.cookie key rising in
-    let kept = stored_apart cookie (get s) (get t) key vacant updates.others es is.stored in
+pub shelved_new : (s t : Slab Naming) (es fs : List (ℕ × ℕ)) (n key : ℕ) (p : Naming) → AreShelved (get s) es → IsRising (λ (r : Row). r.cookie) 3 (stored placed (get s) es) n
+    → get s key ≡ None → Updates s t key (Some p) → fs ≡ insert_entry nat_cmp es n key → Made s t es fs (placed n p)
+shelved_new s t es fs n key p is up vacant updates entries =
+    let rising = rising_keys placed cookie (get s) 3 n es is.stored up in
+    let last : fs ≡ es ++ (n, key) ∷ [] = entries ∙ insert_last es 3 n key rising in
+    let free = free_vacant placed cookie (get s) key vacant es is.stored in
+    let kept = stored_apart placed cookie (get s) (get t) key updates.others es free is.stored in
     rw last (record {
       is = record {
-        high = r.cookie + 1;
-        rising = IsRising-push (λ (e : ℕ × ℕ). e.0) 3 r.cookie (r.cookie + 1) es (r.cookie, key) refl refl rising;
-        stored = AreStored-push cookie (get t) r.cookie key es (rw updates.changed refl) kept.1;
+        high = n + 1;
+        rising = IsRising-push (λ (e : ℕ × ℕ). e.0) 3 n (n + 1) es (n, key) refl refl rising;
+        stored = AreStored-push placed cookie (get t) n key es (rw updates.changed refl) free kept.1;
       };
-      view = stored_push cookie (get t) r.cookie key r es updates.changed ∙ ap (λ xs. xs ++ r ∷ []) kept.0;
+      view = stored_push placed cookie (get t) n key p es updates.changed ∙ ap (λ xs. xs ++ placed n p ∷ []) kept.0;
     })
 
-pub record Lost (s t : Slab Row) (es fs : List (ℕ × ℕ)) (n : ℕ) : Type 0 where
+pub record Lost (s t : Slab Naming) (es fs : List (ℕ × ℕ)) (n : ℕ) : Type 0 where
   pub is : AreShelved (get t) fs
-  pub view : stored (get t) fs ≡ without_record (λ (r : Row). r.cookie) (stored (get s) es) n
+  pub view : stored placed (get t) fs ≡ without_record (λ (r : Row). r.cookie) (stored placed (get s) es) n
 
-pub shelved_without : (s t : Slab Row) (es fs : List (ℕ × ℕ)) (n key : ℕ) → AreShelved (get s) es → lookup (is_at (nat_cmp n)) es ≡ Some key → Updates s t key None → fs ≡ remove_entry (is_at (nat_cmp n)) es → Lost s t es fs n
+pub shelved_without : (s t : Slab Naming) (es fs : List (ℕ × ℕ)) (n key : ℕ) → AreShelved (get s) es → lookup (is_at (nat_cmp n)) es ≡ Some key → Updates s t key None → fs ≡ remove_entry (is_at (nat_cmp n)) es → Lost s t es fs n
 shelved_without s t es fs n key is found updates entries =
-    let gone = stored_remove cookie (get s) (get t) n key 3 is.high updates.others es is.rising is.stored found in
+    let gone = stored_remove placed cookie (get s) (get t) n key 3 is.high updates.others es is.rising is.stored found in
     rw entries (record {
       is = record { high = is.high; rising = gone.2; stored = gone.1 };
       view = gone.0;
     })
 
-pub find_same : (s : Slab Row) (es : List (ℕ × ℕ)) (n : ℕ) → AreShelved (get s) es
-    → record_at (λ (r : Row). r.cookie) (stored (get s) es) n ≡ option_and_then (get s) (lookup (is_at (nat_cmp n)) es)
-find_same s es n is = stored_find cookie (get s) n es is.stored
+pub find_same : (s : Slab Naming) (es : List (ℕ × ℕ)) (n : ℕ) → AreShelved (get s) es
+    → record_at (λ (r : Row). r.cookie) (stored placed (get s) es) n ≡ option_map (placed n) (option_and_then (get s) (lookup (is_at (nat_cmp n)) es))
+find_same s es n is = stored_find placed cookie (get s) n es is.stored
 
-pub without_none : (s : Slab Row) (es : List (ℕ × ℕ)) (n : ℕ) → AreShelved (get s) es → lookup (is_at (nat_cmp n)) es ≡ None
-    → without_record (λ (r : Row). r.cookie) (stored (get s) es) n ≡ stored (get s) es
-without_none s es n is none = filter_none cookie n (stored (get s) es) (find_same s es n is ∙ ap (option_and_then (get s)) none)
+pub without_none : (s : Slab Naming) (es : List (ℕ × ℕ)) (n : ℕ) → AreShelved (get s) es → lookup (is_at (nat_cmp n)) es ≡ None
+    → without_record (λ (r : Row). r.cookie) (stored placed (get s) es) n ≡ stored placed (get s) es
+without_none s es n is none = filter_none placed cookie n (stored placed (get s) es) (find_same s es n is ∙ ap (λ k. option_map (placed n) (option_and_then (get s) k)) none)
 
 -- no rows
-pub shelved_none : (s : Slab Row) (es : List (ℕ × ℕ)) → es ≡ [] → AreShelved (get s) es
+pub shelved_none : (s : Slab Naming) (es : List (ℕ × ℕ)) → es ≡ [] → AreShelved (get s) es
 shelved_none s es none = subst (AreShelved (get s)) (sym none) (record { high = 3; rising = omega arith; stored = tt })
 
-pub shelved_length : (s : Slab Row) (es : List (ℕ × ℕ)) → AreShelved (get s) es → length (stored (get s) es) ≡ length es
-shelved_length s es is = length-stored cookie (get s) es is.stored
+pub shelved_length : (s : Slab Naming) (es : List (ℕ × ℕ)) → AreShelved (get s) es → length (stored placed (get s) es) ≡ length es
+shelved_length s es is = length-stored placed cookie (get s) es is.stored

@@ -5,8 +5,8 @@ use Rattle.nfs_tree.specs.declared.name.Kept.TheVariants.{Short, Long}
 
 abbrev pub name_of : Kept → List ℕ
 name_of (Short len bytes) = take len bytes
-name_of (Long bytes) = bytes.items
+name_of (Long bytes) = bytes.value.items
 
 abbrev pub IsShort : Kept → Type 0
-IsShort (Short len bytes) = len ≤ 23
+IsShort (Short len bytes) = len ≤ 22
 IsShort (Long bytes) = ⊤

@@ -1,10 +1,12 @@
 //! Rows as they are stored, in rising order of their cookies.
 
-ghost use Rattle.std.specs.Prelude.{◌≡◌, ◌++◌, ◌∷◌, [], length, option_copied, OnOk, OnErr};
+ghost use Rattle.std.specs.Prelude.{◌≡◌, ◌++◌, ◌∷◌, [], length, option_copied, option_map, OnOk, OnErr};
 ghost use Rattle.slab.specs.Slab.{Updates};
 ghost use Rattle.nfs_xdr.specs.Tables.{IsRising, record_at, without_record};
+ghost use Rattle.nfs_tree.specs.Indexed.{placed};
 
-use crate::row::Row;
+use crate::key::short_key;
+use crate::row::{Naming, Row};
 use slab::Slab;
 use std::alloc::{AllocError, Global};
 use std::collections::BTreeMap;
@@ -13,19 +15,19 @@ use std::marker::Model;
 /// Rows by their cookies. Contracts see the list of them, in rising order of their cookies.
 #[derive(Drop)]
 pub(crate) struct ByCookie {
-    slab: Slab<Row>,
-    keys: BTreeMap<u64, usize, Global>,
+    slab: Slab<Naming>,
+    keys: BTreeMap<u64, u32, Global>,
 }
 
 impl Model for ByCookie {
     ghost use Rattle.std.specs.Prelude.{List};
     ghost use Rattle.slab.specs.Slab.{get};
     ghost use Rattle.nfs_tree.specs.declared.row.Row.{Row};
-    ghost use Rattle.nfs_tree.specs.Indexed.{stored, AreShelved};
+    ghost use Rattle.nfs_tree.specs.Indexed.{stored, placed, AreShelved};
 
     ghost Value = { List Row };
 
-    ghost view = { λ t. stored (get t.slab) t.keys.entries };
+    ghost view = { λ t. stored placed (get t.slab) t.keys.entries };
 
     ghost invariant = { λ t. AreShelved (get t.slab) t.keys.entries };
 }
@@ -47,13 +49,13 @@ impl ByCookie {
         self.keys.len()
     }
 
-    /// The row of a cookie.
-    pub(crate) fn row(&self, cookie: u64) -> Option<&Row>
-        ensures { option_copied result ≡ record_at (λ r. r.cookie) self.now cookie }
+    /// What is kept of the row of a cookie.
+    pub(crate) fn row(&self, cookie: u64) -> Option<&Naming>
+        ensures { option_map (placed cookie) (option_copied result) ≡ record_at (λ r. r.cookie) self.now cookie }
     {
         match self.keys.get(&cookie) {
             None => None,
-            Some(key) => self.slab.get(*key),
+            Some(key) => self.slab.get(*key as usize),
         }
     }
 
@@ -63,10 +65,20 @@ impl ByCookie {
         ensures ok { OnOk result (self.new ≡ self.old ++ row ∷ []) }
         ensures err { OnErr result (self.new ≡ self.old) }
     {
+        let Row {
+            directory,
+            name,
+            object,
+            cookie,
+        } = row;
         self.slab.reserve(1)?;
-        let key = self.slab.vacant_key();
-        self.keys.insert(row.cookie, key)?;
-        self.slab.insert_reserved(row);
+        let key = short_key(self.slab.vacant_key())?;
+        self.keys.insert(cookie, key)?;
+        self.slab.insert_reserved(Naming {
+            directory,
+            name,
+            object,
+        });
         Ok(())
     }
 
@@ -75,13 +87,13 @@ impl ByCookie {
         ensures { self.new ≡ without_record (λ r. r.cookie) self.old cookie }
     {
         if let Some(key) = self.keys.remove(&cookie) {
-            drop_at(&mut self.slab, key);
+            drop_at(&mut self.slab, key as usize);
         }
     }
 }
 
 /// Drops what stands at a key.
-fn drop_at(slab: &mut Slab<Row>, key: usize)
+fn drop_at(slab: &mut Slab<Naming>, key: usize)
     ensures { Updates slab.old slab.new key None }
 {
     slab.try_remove(key);

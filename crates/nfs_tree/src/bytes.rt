@@ -1,12 +1,13 @@
 //! Bytes that are kept, the contents of files and the texts of links: in pages of 4,096. What no page holds is zeros, so
 //! a gap takes no memory.
 
-ghost use Rattle.std.specs.Prelude.{◌≡◌, ℕ, ◌+◌, ◌/◌, ◌^◌, ◌<◌, ◌≤◌, ◌++◌, [], length, take, drop, map, replicate, slice_index_or, IfOk, OnOk, OnErr};
+ghost use Rattle.std.specs.Prelude.{◌≡◌, ℕ, ◌+◌, ◌/◌, ◌^◌, ◌<◌, ◌≤◌, ◌++◌, [], length, take, drop, map, max, replicate, slice_index_or, IfOk, OnOk, OnErr};
 ghost use Rattle.std.specs.List.{range_with_len};
 ghost use Rattle.nfs_xdr.specs.SheetState.{HasRoom, Puts};
 ghost use Rattle.nfs_xdr.specs.Spelling.{number, opaque, padding};
 ghost use Rattle.nfs_tree.specs.Files.{most_bytes};
 ghost use Rattle.nfs_tree.specs.Bytes.{written, resized};
+ghost use Rattle.nfs_tree.specs.Contents.{pages_of, size_of};
 ghost use Rattle.nfs_tree.specs.Pages.{page_size, byte_of, chosen, cut_at};
 
 use crate::page::{PAGE, Page, put_zeros};
@@ -17,29 +18,35 @@ use std::marker::Model;
 /// Bytes that an object owns. Contracts see the list of them.
 #[derive(Drop)]
 pub(crate) struct Bytes {
-    pub(crate) pages: Vec<Page>,
-    size: usize,
+    pub(crate) contents: Contents,
+}
+
+/// Zeros, or pages, which take a block of their own. Beside the size of either the tag takes no room.
+#[derive(Drop)]
+pub(crate) enum Contents {
+    Zeros(u32),
+    Paged(u32, Box<Vec<Page>>),
 }
 
 impl Model for Bytes {
     ghost use Rattle.std.specs.Prelude.{ℕ, List};
     ghost use Rattle.nfs_tree.specs.Pages.{bytes, AreClean};
+    ghost use Rattle.nfs_tree.specs.Contents.{pages_of, size_of};
 
     ghost Value = { List ℕ };
 
-    ghost view = { λ b. bytes b.pages.items b.size };
+    ghost view = { λ b. bytes (pages_of b.contents) (size_of b.contents) };
 
-    ghost invariant = { λ b. AreClean b.pages.items b.size };
+    ghost invariant = { λ b. AreClean (pages_of b.contents) (size_of b.contents) };
 }
 
 impl Bytes {
-    /// So many zeros, which take no memory. What comes later grows by `alloc`.
-    pub(crate) fn zeros(alloc: Global, size: usize) -> Bytes
+    /// So many zeros, which take no memory.
+    pub(crate) fn zeros(size: u32) -> Bytes
         ensures { result ≡ replicate size 0 }
     {
         Bytes {
-            pages: Vec::new(alloc),
-            size,
+            contents: Contents::Zeros(size),
         }
     }
 
@@ -50,16 +57,16 @@ impl Bytes {
     {
         let mut pages = Vec::new(alloc);
         pages.push(Page::of(alloc, bytes)?)?;
+        let pages = Box::new(alloc, pages)?;
         Ok(Bytes {
-            pages,
-            size: bytes.len(),
+            contents: Contents::Paged(bytes.len() as u32, pages),
         })
     }
 
-    pub(crate) fn len(&self) -> usize
+    pub(crate) fn len(&self) -> u32
         ensures { result ≡ length self.now }
     {
-        self.size
+        self.contents.size()
     }
 
     /// Puts at most `count` bytes from `offset` on, as an opaque.
@@ -67,9 +74,11 @@ impl Bytes {
         requires { HasRoom out.old (opaque (take count (drop offset self.now))) }
         ensures { Puts out.old out.new (opaque (take count (drop offset self.now))) }
     {
-        let start = offset.min(self.size as u64) as usize;
-        let count = (count as usize).min(self.size - start);
-        put_part(&self.pages, start, count, out);
+        let size = self.contents.size();
+        let start = offset.min(size as u64) as u32;
+        let count = count.min(size - start);
+        let pages = self.contents.pages();
+        put_part(pages, start as usize, count as usize, out);
     }
 
     /// Writes over the bytes from `offset` on. A gap is zeros. All growth is before the first change.
@@ -83,22 +92,91 @@ impl Bytes {
         ensures ok { OnOk result (self.new ≡ written self.old offset text.now) }
         ensures err { OnErr result (self.new ≡ self.old) }
     {
-        let end = offset + text.len();
-        let count = (end + (PAGE - 1)) / PAGE;
-        reach(&mut self.pages, alloc, count)?;
-        make_all(&mut self.pages, (offset / PAGE).min(count), count)?;
-        put_all(&mut self.pages, offset, text);
-        self.size = self.size.max(end);
-        Ok(())
+        self.contents.write(alloc, offset, text)
     }
 
     /// Cuts the bytes, or puts zeros behind them. Neither takes memory.
-    pub(crate) fn resize(&mut self, size: usize)
+    pub(crate) fn resize(&mut self, size: u32)
         ensures { self.new ≡ resized self.old size }
     {
-        cut_all(&mut self.pages, size);
-        self.size = size;
+        self.contents.resize(size);
     }
+}
+
+impl Contents {
+    fn size(&self) -> u32
+        ensures { result ≡ size_of self.now }
+    {
+        match self {
+            Contents::Zeros(size) => *size,
+            Contents::Paged(size, _) => *size,
+        }
+    }
+
+    pub(crate) fn pages(&self) -> &[Page]
+        ensures { result.now ≡ pages_of self.now }
+    {
+        match self {
+            Contents::Zeros(_) => &[],
+            Contents::Paged(_, pages) => pages.as_slice(),
+        }
+    }
+
+    fn write(&mut self, alloc: Global, offset: usize, text: &[u8]) -> Result<(), AllocError>
+        requires { offset + length text.now ≤ most_bytes }
+        ensures bytes { OnOk result ((p : ℕ) → byte_of (pages_of self.new) p ≡ chosen offset text.now (byte_of (pages_of self.old)) p) }
+        ensures size { OnOk result (size_of self.new ≡ max (size_of self.old) (offset + length text.now)) }
+        ensures same { OnErr result ((p : ℕ) → byte_of (pages_of self.new) p ≡ byte_of (pages_of self.old) p) }
+        ensures err_size { OnErr result (size_of self.new ≡ size_of self.old) }
+    {
+        let end = (offset + text.len()) as u32;
+        match self {
+            Contents::Zeros(size) => {
+                let size = end.max(*size);
+                let mut pages = Vec::new(alloc);
+                write_pages(&mut pages, alloc, offset, text)?;
+                let pages = Box::new(alloc, pages)?;
+                *self = Contents::Paged(size, pages);
+            }
+            Contents::Paged(size, pages) => {
+                write_pages(pages, alloc, offset, text)?;
+                *size = end.max(*size);
+            }
+        }
+        Ok(())
+    }
+
+    fn resize(&mut self, size: u32)
+        ensures bytes { (p : ℕ) → byte_of (pages_of self.new) p ≡ cut_at size (byte_of (pages_of self.old)) p }
+        ensures size { size_of self.new ≡ size }
+    {
+        match self {
+            Contents::Zeros(old) => *old = size,
+            Contents::Paged(old, pages) => {
+                cut_all(pages, size as usize);
+                *old = size;
+            }
+        }
+    }
+}
+
+/// Writes over the bytes from `offset` on, or over none.
+fn write_pages(
+    pages: &mut Vec<Page>,
+    alloc: Global,
+    offset: usize,
+    text: &[u8],
+) -> Result<(), AllocError>
+    requires { offset + length text.now ≤ most_bytes }
+    ensures bytes { OnOk result ((p : ℕ) → byte_of pages.new.items p ≡ chosen offset text.now (byte_of pages.old.items) p) }
+    ensures same { OnErr result ((p : ℕ) → byte_of pages.new.items p ≡ byte_of pages.old.items p) }
+{
+    let end = offset + text.len();
+    let count = (end + (PAGE - 1)) / PAGE;
+    reach(pages, alloc, count)?;
+    make_all(pages, (offset / PAGE).min(count), count)?;
+    put_all(pages, offset, text);
+    Ok(())
 }
 
 /// Puts empty pages behind the others, up to a count.

@@ -45,10 +45,10 @@ impl<'a> Iterator for Listing<'a> {
     ghost remaining = { item_count (λ rest. rest) };
 
     fn next(&mut self) -> Option<Entry<'a>> {
-        let row = self.rows.after(self.directory, self.cookie)?;
-        self.cookie = row.cookie;
+        let (next, row) = self.rows.after(self.directory, self.cookie)?;
+        self.cookie = next;
         Some(Entry {
-            cookie: row.cookie,
+            cookie: next,
             name: row.name.as_slice(),
             number: row.object,
         })

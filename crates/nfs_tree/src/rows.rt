@@ -7,11 +7,12 @@ ghost use Rattle.nfs_tree.specs.Files.{entry, parent_in, links_in, has_row, has_
 ghost use Rattle.nfs_tree.specs.ByName.{cookies, NamesAnew};
 ghost use Rattle.nfs_tree.specs.Maps.{pair_cmp, links_behind};
 ghost use Rattle.nfs_tree.specs.Names.{with_row};
+ghost use Rattle.nfs_tree.specs.Indexed.{placed};
 
 use crate::by_cookie::ByCookie;
 use crate::by_name::ByName;
 use crate::name::Name;
-use crate::row::Row;
+use crate::row::{Naming, Row};
 use crate::tree::Tree;
 use std::alloc::{AllocError, Global};
 use std::collections::BTreeMap;
@@ -63,9 +64,9 @@ impl Rows {
         self.rows.len()
     }
 
-    /// The row of a name in a directory.
-    pub(crate) fn entry(&self, directory: u64, name: &[u8]) -> Option<&Row>
-        ensures { option_copied result ≡ entry self.now directory name.now }
+    /// The object and the cookie of an entry.
+    pub(crate) fn place_of(&self, directory: u64, name: &[u8]) -> Option<(u64, u64)>
+        ensures { result ≡ option_map (λ r. (r.object, r.cookie)) (entry self.now directory name.now) }
     {
         let names = &self.names;
         if name.len() > Tree::MAX_NAME {
@@ -73,14 +74,17 @@ impl Rows {
         }
         match names.get(directory, name) {
             None => None,
-            Some(cookie) => self.rows.row(cookie),
+            Some(cookie) => match self.rows.row(cookie) {
+                None => None,
+                Some(row) => Some((row.object, cookie)),
+            },
         }
     }
 
-    /// The first row of a directory behind a cookie.
-    pub(crate) fn after(&self, directory: u64, cookie: u64) -> Option<&Row>
+    /// The first row of a directory behind a cookie, with its own.
+    pub(crate) fn after(&self, directory: u64, cookie: u64) -> Option<(u64, &Naming)>
         ensures none { IfNone result (listing self.now directory cookie ≡ []) }
-        ensures some { IfSome result (λ r. listing self.now directory cookie ≡ listed r.now ∷ listing self.now directory r.now.cookie) }
+        ensures some { IfSome result (λ r. listing self.now directory cookie ≡ listed (placed r.0 r.1.now) ∷ listing self.now directory r.0) }
     {
         let listed = &self.listed;
         if cookie == u64::MAX {
@@ -90,7 +94,7 @@ impl Rows {
             None => None,
             Some(next) => match self.rows.row(next) {
                 None => None,
-                Some(row) => Some(row),
+                Some(row) => Some((next, row)),
             },
         }
     }
@@ -158,16 +162,6 @@ impl Rows {
         match first_from(owned, object, cookie + 1) {
             None => None,
             Some(next) => Some(next),
-        }
-    }
-
-    /// The object and the cookie of an entry.
-    fn place_of(&self, directory: u64, name: &[u8]) -> Option<(u64, u64)>
-        ensures { result ≡ option_map (λ r. (r.object, r.cookie)) (entry self.now directory name.now) }
-    {
-        match self.entry(directory, name) {
-            None => None,
-            Some(row) => Some((row.object, row.cookie)),
         }
     }
 

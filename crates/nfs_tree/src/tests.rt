@@ -240,7 +240,7 @@ fn bytes_are_written_cut_and_read(rt: HostRuntime) -> Result<(), Fail> {
 fn pages_made(tree: &Tree, number: u64) -> usize {
     match tree.objects.stored_in(number) {
         Some(stored) => {
-            let pages = stored.bytes.pages.iter();
+            let pages = stored.bytes.contents.pages().iter();
             pages.filter(|page| !page.bytes.is_empty()).count()
         }
         None => 0,

@@ -3,29 +3,35 @@ use Rattle.std.specs.Ordering.{nat_cmp}
 use Rattle.std.specs.BTreeMap.{insert_entry}
 use Rattle.slab.specs.Slab.{Slab, get}
 use Rattle.nfs_xdr.specs.Tables.{IsRising}
+use Rattle.nfs_tree.specs.declared.row.Naming.{Naming}
 use Rattle.nfs_tree.specs.declared.row.Row.{Row}
-use Rattle.nfs_tree.specs.Indexed.{stored, AreShelved}
+use Rattle.nfs_tree.specs.Indexed.{stored, placed, AreShelved}
 use Rattle.nfs_tree.proofs.Shelved.{shelved_same, shelved_new, view_same, Made}
 use Rattle.nfs_tree.proofs.by_cookie.ByCookie.push.Goals as goal
 
 pub invariant_of-self : goal.invariant_of-self
-invariant_of-self c = shelved_same c.self.inside.slab c.reserve.new.self _ _ (ap (λ (s : Slab Row). s.slots) c.in_err-reserve.ensures.rest_kept) refl c.self.invariant
+invariant_of-self c = shelved_same c.self.inside.slab c.reserve.new.self _ _ (ap (λ (s : Slab Naming). s.slots) c.in_err-reserve.ensures.rest_kept) refl c.self.invariant
+
+pub invariant_of-self-in_err-key : goal.invariant_of-self-in_err-key
+invariant_of-self-in_err-key c =
+    shelved_same c.self.inside.slab c.reserve.new.self _ _ (ap (λ (s : Slab Naming). s.slots) c.in_ok-reserve.ensures.rest_kept) refl c.self.invariant
 
 pub invariant_of-self-in_err-insert : goal.invariant_of-self-in_err-insert
 invariant_of-self-in_err-insert c =
-    shelved_same c.self.inside.slab c.reserve.new.self _ _ (ap (λ (s : Slab Row). s.slots) c.in_ok-reserve.ensures.rest_kept) c.in_err-insert.ensures.err c.self.invariant
+    shelved_same c.self.inside.slab c.reserve.new.self _ _ (ap (λ (s : Slab Naming). s.slots) c.in_ok-reserve.ensures.rest_kept) c.in_err-insert.ensures.err c.self.invariant
 
 made : (c : goal.After-insert_reserved) → Made c.reserve.new.self c.insert_reserved.new.self c.self.inside.keys.entries c.insert.new.self.entries c.args.row
 made c =
-    let slots = ap (λ (s : Slab Row). s.slots) c.in_ok-reserve.ensures.rest_kept in
+    let slots = ap (λ (s : Slab Naming). s.slots) c.in_ok-reserve.ensures.rest_kept in
     let es = c.self.inside.keys.entries in
     let is : AreShelved (get c.reserve.new.self) es = shelved_same c.self.inside.slab c.reserve.new.self _ _ slots refl c.self.invariant in
-    let seen : stored (get c.reserve.new.self) es ≡ c.args.self.now = view_same c.self.inside.slab c.reserve.new.self es slots ∙ c.self.view_is in
+    let seen : stored placed (get c.reserve.new.self) es ≡ c.args.self.now = view_same c.self.inside.slab c.reserve.new.self es slots ∙ c.self.view_is in
     let up = subst (λ xs. IsRising (λ (r : Row). r.cookie) 3 xs c.args.row.cookie) (sym seen) c.requires in
-    let key : c.vacant_key-key.result ≡ c.insert_reserved.result = c.vacant_key-key.ensures.value ∙ sym c.insert_reserved.ensures.key in
+    let key : c.in_ok-key.key ≡ c.insert_reserved.result = c.in_ok-key.ensures ∙ c.vacant_key.ensures.value ∙ sym c.insert_reserved.ensures.key in
     let entries : c.insert.new.self.entries ≡ insert_entry nat_cmp es c.args.row.cookie c.insert_reserved.result =
     c.in_ok-insert.ensures.entries ∙ ap (insert_entry nat_cmp es c.args.row.cookie) key in
-    shelved_new c.reserve.new.self c.insert_reserved.new.self es c.insert.new.self.entries c.insert_reserved.result c.args.row is up
+    shelved_new c.reserve.new.self c.insert_reserved.new.self es c.insert.new.self.entries c.args.row.cookie c.insert_reserved.result
+    (record { directory = c.args.row.directory; name = c.args.row.name; object = c.args.row.object }) is up
     c.insert_reserved.ensures.was_vacant c.insert_reserved.ensures.updates entries
 
 pub invariant_of-self-2 : goal.invariant_of-self-2
@@ -35,4 +41,4 @@ pub returns-clause-ok : goal.returns-clause-ok
 returns-clause-ok c =
     (made c).view
     ∙ ap (λ (xs : List Row). xs ++ c.args.row ∷ [])
-    (view_same c.self.inside.slab c.reserve.new.self c.self.inside.keys.entries (ap (λ (s : Slab Row). s.slots) c.in_ok-reserve.ensures.rest_kept) ∙ c.self.view_is)
+    (view_same c.self.inside.slab c.reserve.new.self c.self.inside.keys.entries (ap (λ (s : Slab Naming). s.slots) c.in_ok-reserve.ensures.rest_kept) ∙ c.self.view_is)

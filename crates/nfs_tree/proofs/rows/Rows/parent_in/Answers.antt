@@ -3,6 +3,7 @@ use Rattle.std.specs.Prelude.{option_map}
 use Rattle.nfs_xdr.specs.Tables.{record_at}
 use Rattle.nfs_xdr.proofs.Tables.{at_of_in}
 use Rattle.nfs_tree.specs.declared.row.Row.{Row}
+use Rattle.nfs_tree.specs.Indexed.{placed}
 use Rattle.nfs_tree.specs.Maps.{has_pair}
 use Rattle.nfs_tree.proofs.PairLemmas.{pair_row, is_there, there_is, not_there}
 use Rattle.nfs_tree.proofs.MapLemmas.{cookie, find_first, find_nowhere}
@@ -24,8 +25,8 @@ returns-in-Some-row c =
     let rows = c.self.inside.rows in
     let r = pair_row (λ (r : Row). r.object) rows _ c.args.object c.in-Some.first c.self.invariant.owned (is_there _ c.in-Some.ensures.there) in
     let found = at_of_in cookie 3 c.self.invariant.named.high rows r.0 c.self.invariant.named.rising r.1 in
-    let both : Some c.in-Some-row.row.now ≡ Some r.0 = c.in-Some-row.ensures ∙ ap (record_at cookie rows) (sym r.3) ∙ found in
-    let is : c.in-Some-row.row.now ≡ r.0 = cc in
+    let both : Some (placed c.in-Some.first c.in-Some-row.row.now) ≡ Some r.0 = c.in-Some-row.ensures ∙ ap (record_at cookie rows) (sym r.3) ∙ found in
+    let is : placed c.in-Some.first c.in-Some-row.row.now ≡ r.0 = cc in
     let at : c.in-Some.first ≡ r.0.cookie = sym r.3 in
     let least : (k : ℕ) → 0 ≤ k → has_pair c.self.inside.owned.entries (c.args.object, k) ≡ true → r.0.cookie ≤ k =
     λ k up there. rw (← at) (c.in-Some.ensures.least k up (there_is _ there)) in

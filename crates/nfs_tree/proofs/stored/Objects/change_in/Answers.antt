@@ -1,25 +1,26 @@
 use Rattle.std.proofs.Common.{◌≡◌, ◌∙◌, Some, ap, sym, refl}
-use Rattle.std.specs.Option.{option_and_then}
-use Rattle.slab.specs.Slab.{get, with_value}
+use Rattle.slab.specs.Slab.{with_value}
 use Rattle.nfs_tree.specs.declared.stored.Stored.{Stored}
 use Rattle.nfs_tree.specs.Object.{changed}
 use Rattle.nfs_tree.specs.Files.{stored_in}
-use Rattle.nfs_tree.proofs.IndexedLemmas.{find_same, objects_put, put_none, never_vacant, can_of, Put}
+use Rattle.nfs_tree.specs.Indexed.{numbered}
+use Rattle.nfs_tree.proofs.IndexedLemmas.{found_body, objects_put, put_none, never_vacant, can_of, Put}
 use Rattle.nfs_tree.proofs.stored.Objects.change_in.Goals as goal
 
 pub note-requires : goal.note-requires
 note-requires c =
-    let found : stored_in c.args.self.now c.args.number ≡ Some c.in-Some-get_mut.stored.now =
+    let o = c.in-Some-get_mut.stored.now in
+    let found : stored_in c.args.self.now c.args.number ≡ Some (numbered c.args.number o) =
     ap (λ xs. stored_in xs c.args.number) (sym c.self.view_is)
-    ∙ find_same c.self.inside.slab c.self.inside.keys.entries c.args.number c.self.invariant
-    ∙ ap (option_and_then (get c.self.inside.slab)) (sym c.in-Some.ensures.value) ∙ sym c.in-Some-get_mut.ensures.value in
-    can_of c.args.self.now c.args.number c.in-Some-get_mut.stored.now found c.requires
+    ∙ found_body c.self.inside.slab c.self.inside.keys.entries c.args.number c.in-Some.key.now o c.self.invariant
+    (sym c.in-Some.ensures.value) (sym c.in-Some-get_mut.ensures.value) in
+    can_of c.args.self.now c.args.number (numbered c.args.number o) found c.requires
 
 put : (c : goal.After-self-in-Some-get_mut-1) → Put (λ (s : Stored). record s { object = changed c.args.now c.args.sets.now s.object }) c.self.inside.slab
     (with_value c.self.inside.slab c.in-Some.key.now (record c.in-Some-get_mut.stored.now { object = c.note.new.self })) c.self.inside.keys.entries c.args.number
 put c = objects_put (λ (s : Stored). record s { object = changed c.args.now c.args.sets.now s.object }) (λ _. refl) c.self.inside.slab c.self.inside.keys.entries
     c.args.number c.in-Some.key.now c.in-Some-get_mut.stored.now (record c.in-Some-get_mut.stored.now { object = c.note.new.self }) c.self.invariant
-    (sym c.in-Some.ensures.value) (sym c.in-Some-get_mut.ensures.value) (ap (λ o. record c.in-Some-get_mut.stored.now { object = o }) c.note.ensures)
+    (sym c.in-Some.ensures.value) (sym c.in-Some-get_mut.ensures.value) (ap (λ o. numbered c.args.number (record c.in-Some-get_mut.stored.now { object = o })) c.note.ensures)
 
 pub invariant_of-self : goal.invariant_of-self
 invariant_of-self c = (put c).is
