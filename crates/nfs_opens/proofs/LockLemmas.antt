@@ -239,6 +239,12 @@ lock_judged_as t client file seqid seat true None (Some x) e =
     (x, refl, eqb-true _ _ (not_not _ p.0), eqb-true _ _ (not_not _ p.1))
 lock_judged_as t client file seqid seat true None None e = absurd cc
 
+-- an open's stateid that was judged well names an open of that client and file
+pub judged_open : (t : Table) (id : StateId) (client file : ℕ) (seat : Seat) → judge t id client (Some file) OpenOnly ≡ Ok seat
+    → (x : OpenState) × (open_at t id.number ≡ Some x) × (x.client ≡ client) × (x.file ≡ file)
+judged_open t id client file seat e = open_judged t client file id.seqid seat (id.instance == t.instance) (open_at t id.number) (lock_at t id.number)
+    (no_special (is_anonymous id) (is_bypass id) _ seat e)
+
 -- a lock state's likewise
 pub judged_lock : (t : Table) (id : StateId) (client file : ℕ) (seat : Seat) → judge t id client (Some file) LockOnly ≡ Ok seat
     → (x : LockState) × (lock_at t id.number ≡ Some x) × (x.client ≡ client) × (x.file ≡ file)
