@@ -44,7 +44,7 @@ same_entry rows dirs are q r a b e =
     ap (λ x. entry rows x r.name) (sym parts.0) ∙ ap (λ x. entry rows q.directory x) (sym parts.1) ∙ are.found q a in
     let equal : Some q ≡ Some r = sym found ∙ are.found r b in cc
 
-depth_one : (rows : List Row) (dirs : ℕ → Bool) → AreUnique rows dirs → (n k d : ℕ) → dirs d ≡ true → Grounded rows n d → Grounded rows k d → n ≡ k
+pub depth_one : (rows : List Row) (dirs : ℕ → Bool) → AreUnique rows dirs → (n k d : ℕ) → dirs d ≡ true → Grounded rows n d → Grounded rows k d → n ≡ k
 depth_one rows dirs are zero zero d dir g h = refl
 depth_one rows dirs are zero (suc k) d dir g h = absurd (are.free h.0 h.1 (h.2 ∙ g))
 depth_one rows dirs are (suc n) zero d dir g h = absurd (are.free g.0 g.1 (g.2 ∙ h))

@@ -81,7 +81,7 @@ any_none p [] gone = refl
 any_none p (r ∷ rows) gone = rw (gone r (inl refl)) (any_none p rows (λ r there. gone r (inr there)))
 
 -- no object has the number 0
-above_zero : (t : Files) (n : ℕ) → IsTree t → is_directory_at t n ≡ true → n ≢ 0
+pub above_zero : (t : Files) (n : ℕ) → IsTree t → is_directory_at t n ≡ true → n ≢ 0
 above_zero t n is dir e = let within = stored_within root (t.last_object + 1) t.objects n is.objects (directory_there t n dir) in absurd (omega arith)
 
 pub replaced_empty : (t : Files) (m : Move) → IsTree t → MoveGranted t m → has_entries t.rows (replaced_object t m) ≡ false
