@@ -1,17 +1,19 @@
 -- What each change of the slab and of the map makes of the list of rows.
-use Rattle.std.proofs.Common.{◌≡◌, ℕ, ◌+◌, List, [], ◌∷◌, ◌++◌, Some, None, refl, sym, ◌∙◌, ap, arith, subst}
+use Rattle.std.proofs.Common.{◌≡◌, ℕ, ◌+◌, List, [], ◌∷◌, ◌++◌, Some, None, refl, sym, ◌∙◌, ap, arith, subst, inl, inr}
 use Rattle.std.specs.Prelude.{length, option_map}
 use Rattle.std.specs.Option.{option_and_then}
 use Rattle.std.specs.Ordering.{nat_cmp}
 use Rattle.std.specs.BTreeMap.{is_at, insert_entry}
 use Rattle.std.specs.Map.{lookup, remove_entry}
 use Rattle.slab.specs.Slab.{Slab, get, Updates}
+use Rattle.std.proofs.lemmas.Bool.{cases_eq}
 use Rattle.nfs_xdr.specs.Tables.{IsRising, record_at, without_record}
+use Rattle.nfs_xdr.proofs.Lists.{push_in, last_in}
 use Rattle.nfs_xdr.proofs.Tables.{IsRising-push}
 use Rattle.nfs_tree.specs.declared.row.Naming.{Naming}
 use Rattle.nfs_tree.specs.declared.row.Row.{Row}
-use Rattle.nfs_tree.specs.Indexed.{stored, placed, AreShelved}
-use Rattle.nfs_tree.proofs.StoredLemmas.{insert_last, free_vacant, stored_push, stored_apart, stored_remove, AreStored-push, stored_find, filter_none, rising_keys, length-stored}
+use Rattle.nfs_tree.specs.Indexed.{stored, placed, IsShelved, AreShelved}
+use Rattle.nfs_tree.proofs.StoredLemmas.{insert_last, free_vacant, stored_push, stored_apart, stored_remove, in_removed, in_stored, AreStored-push, stored_find, filter_none, rising_keys, length-stored}
 
 abbrev pub cookie : Row → ℕ
 cookie r = r.cookie
@@ -38,6 +40,10 @@ shelved_new s t es fs n key p is up vacant updates entries =
         high = n + 1;
         rising = IsRising-push (λ (e : ℕ × ℕ). e.0) 3 n (n + 1) es (n, key) refl refl rising;
         stored = AreStored-push placed cookie (get t) n key es (rw updates.changed refl) free kept.1;
+        led = λ k x here. elim (cases_eq k key) [
+          | inl same ↦ (n, rw same (last_in es (n, key)))
+          | inr other ↦ (let old = is.led k x (sym (updates.others k other) ∙ here) in (old.0, push_in es (n, key) (old.0, k) old.1))
+        ];
       };
       view = stored_push placed cookie (get t) n key p es updates.changed ∙ ap (λ xs. xs ++ placed n p ∷ []) kept.0;
     })
@@ -50,7 +56,15 @@ pub shelved_without : (s t : Slab Naming) (es fs : List (ℕ × ℕ)) (n key : �
 shelved_without s t es fs n key is found updates entries =
     let gone = stored_remove placed cookie (get s) (get t) n key 3 is.high updates.others es is.rising is.stored found in
     rw entries (record {
-      is = record { high = is.high; rising = gone.2; stored = gone.1 };
+      is = record {
+        high = is.high;
+        rising = gone.2;
+        stored = gone.1;
+        led = λ k x here. elim (cases_eq k key) [
+          | inl same ↦ absurd (let bad : Some x ≡ None = sym here ∙ ap (get t) same ∙ updates.changed in cc)
+          | inr other ↦ (let old = is.led k x (sym (updates.others k other) ∙ here) in (old.0, in_removed n old.0 k key es found other old.1))
+        ];
+      };
       view = gone.0;
     })
 
@@ -63,8 +77,17 @@ pub without_none : (s : Slab Naming) (es : List (ℕ × ℕ)) (n : ℕ) → AreS
 without_none s es n is none = filter_none placed cookie n (stored placed (get s) es) (find_same s es n is ∙ ap (λ k. option_map (placed n) (option_and_then (get s) k)) none)
 
 -- no rows
-pub shelved_none : (s : Slab Naming) (es : List (ℕ × ℕ)) → es ≡ [] → AreShelved (get s) es
-shelved_none s es none = subst (AreShelved (get s)) (sym none) (record { high = 3; rising = omega arith; stored = tt })
+pub shelved_none : (s : Slab Naming) (es : List (ℕ × ℕ)) → s.slots ≡ [] → es ≡ [] → AreShelved (get s) es
+shelved_none s es empty none = subst (AreShelved (get s)) (sym none) (record {
+  high = 3;
+  rising = omega arith;
+  stored = tt;
+  led = λ k x here. absurd (let bad : None ≡ Some x = rw empty at here in cc);
+})
 
 pub shelved_length : (s : Slab Naming) (es : List (ℕ × ℕ)) → AreShelved (get s) es → length (stored placed (get s) es) ≡ length es
 shelved_length s es is = length-stored placed cookie (get s) es is.stored
+
+-- what stands at a key is a row
+pub is_shelved : (s : Slab Naming) (es : List (ℕ × ℕ)) (k : ℕ) (p : Naming) → AreShelved (get s) es → get s k ≡ Some p → IsShelved p (stored placed (get s) es)
+is_shelved s es k p is here = let to = is.led k p here in (to.0, in_stored placed (get s) to.0 k p es here to.1)

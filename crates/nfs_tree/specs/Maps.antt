@@ -28,6 +28,10 @@ ArePairs of rows has = (q : ℕ × ℕ) → has q ≡ list_any (is_pair of q) ro
 abbrev pub links_behind : List Row → ℕ → ℕ → ℕ
 links_behind rows n k = length (filter (λ r. (r.object == n) && nat_lt k r.cookie) rows)
 
+-- no two rows name the object
+abbrev pub HasOneRow : List Row → ℕ → Type 0
+HasOneRow rows n = (q r : Row) → In q rows → In r rows → q.object ≡ n → r.object ≡ n → q ≡ r
+
 -- rows in rising order of their cookies, each the one found under its name, and the cookies found by name
 pub record AreNamed (rows : List Row) (at : ℕ → List ℕ → Option ℕ) : Type 0 where
   pub high : ℕ

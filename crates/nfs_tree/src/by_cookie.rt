@@ -1,14 +1,15 @@
 //! Rows as they are stored, in rising order of their cookies.
 
-ghost use Rattle.std.specs.Prelude.{◌≡◌, ◌++◌, ◌∷◌, [], length, option_copied, option_map, OnOk, OnErr};
+ghost use Rattle.std.specs.Prelude.{◌≡◌, ◌++◌, ◌∷◌, [], length, option_copied, option_map, OnOk, OnErr, IfSome};
 ghost use Rattle.slab.specs.Slab.{Updates};
 ghost use Rattle.nfs_xdr.specs.Tables.{IsRising, record_at, without_record};
-ghost use Rattle.nfs_tree.specs.Indexed.{placed};
+ghost use Rattle.nfs_tree.specs.Indexed.{placed, IsShelved};
 
 use crate::key::short_key;
 use crate::row::{Naming, Row};
 use slab::Slab;
 use std::alloc::{AllocError, Global};
+use std::cell::Cell;
 use std::collections::BTreeMap;
 use std::marker::Model;
 
@@ -59,6 +60,30 @@ impl ByCookie {
         }
     }
 
+    /// The row of a cookie, with the key at which it stands.
+    pub(crate) fn row_at(&self, cookie: u64) -> Option<(u32, &Naming)>
+        ensures { option_map (λ r. placed cookie r.1.now) result ≡ record_at (λ r. r.cookie) self.now cookie }
+    {
+        match self.keys.get(&cookie) {
+            None => None,
+            Some(key) => match self.slab.get(*key as usize) {
+                None => None,
+                Some(row) => Some((*key, row)),
+            },
+        }
+    }
+
+    /// A row that names the directory of this one, if it still stands where one was last seen.
+    pub(crate) fn seen_above(&self, row: &Naming) -> Option<&Naming>
+        ensures row { IfSome result (λ above. IsShelved above.now self.now) }
+        ensures object { IfSome result (λ above. above.now.object ≡ row.now.directory) }
+    {
+        match self.slab.get(row.above.get() as usize) {
+            Some(above) if above.object == row.directory => Some(above),
+            _ => None,
+        }
+    }
+
     /// Puts a row behind the others.
     pub(crate) fn push(&mut self, row: Row) -> Result<(), AllocError>
         requires { IsRising (λ r. r.cookie) 3 self.old row.cookie }
@@ -78,6 +103,7 @@ impl ByCookie {
             directory,
             name,
             object,
+            above: Cell::new(u32::MAX),
         });
         Ok(())
     }

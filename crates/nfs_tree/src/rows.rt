@@ -5,7 +5,7 @@ ghost use Rattle.std.specs.BTreeMap.{insert_entry, get, is_at};
 ghost use Rattle.nfs_xdr.specs.Tables.{IsRising, without_record};
 ghost use Rattle.nfs_tree.specs.Files.{entry, parent_in, links_in, has_row, has_entries, listing, listed, without_entry, most_name};
 ghost use Rattle.nfs_tree.specs.ByName.{cookies, NamesAnew};
-ghost use Rattle.nfs_tree.specs.Maps.{pair_cmp, links_behind};
+ghost use Rattle.nfs_tree.specs.Maps.{pair_cmp, links_behind, HasOneRow};
 ghost use Rattle.nfs_tree.specs.Names.{with_row};
 ghost use Rattle.nfs_tree.specs.Indexed.{placed};
 
@@ -109,16 +109,40 @@ impl Rows {
         }
     }
 
+    /// The first row that names the object, with the key at which it stands.
+    pub(crate) fn first_of(&self, object: u64) -> Option<(u32, &Naming)>
+        ensures { option_map (λ r. r.1.now.directory) result ≡ parent_in self.now object }
+    {
+        match first_from(&self.owned, object, 0) {
+            None => None,
+            Some(first) => self.rows.row_at(first),
+        }
+    }
+
     /// The directory of the first row that names the object.
     pub(crate) fn parent_in(&self, object: u64) -> Option<u64>
         ensures { result ≡ parent_in self.now object }
     {
-        match first_from(&self.owned, object, 0) {
+        match self.first_of(object) {
             None => None,
-            Some(first) => match self.rows.row(first) {
-                None => None,
-                Some(row) => Some(row.directory),
-            },
+            Some((_, row)) => Some(row.directory),
+        }
+    }
+
+    /// The row of the directory in which a row stands: one look where the row has seen it before.
+    pub(crate) fn above(&self, row: &Naming) -> Option<&Naming>
+        requires { HasOneRow self.now row.now.directory }
+        ensures { option_map (λ r. r.directory) (option_copied result) ≡ parent_in self.now row.now.directory }
+    {
+        if let Some(above) = self.rows.seen_above(row) {
+            return Some(above);
+        }
+        match self.first_of(row.directory) {
+            None => None,
+            Some((key, above)) => {
+                row.above.set(key);
+                Some(above)
+            }
         }
     }
 

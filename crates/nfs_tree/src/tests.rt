@@ -130,6 +130,43 @@ fn names_are_put_dropped_and_moved(rt: HostRuntime) -> Result<(), Fail> {
     Ok(())
 }
 
+#[test]
+fn a_directory_is_moved_at_depth(rt: HostRuntime) -> Result<(), Fail> {
+    let alloc = rt.alloc();
+    let mut tree = Tree::new(alloc, 0o755, START)?;
+    let steps = [
+        (Step::Directory(1, b"a"), Ok(2)),
+        (Step::Directory(2, b"b"), Ok(3)),
+        (Step::Directory(3, b"c"), Ok(4)),
+        (Step::Directory(4, b"d"), Ok(5)),
+        (Step::Directory(1, b"e"), Ok(6)),
+        (Step::Rename(1, b"a", 5, b"x"), Err(TreeFault::Inval)),
+        (Step::Rename(2, b"b", 5, b"x"), Err(TreeFault::Inval)),
+        // one on the way up gets another row
+        (Step::Rename(3, b"c", 3, b"g"), Ok(0)),
+        (Step::Rename(1, b"a", 5, b"x"), Err(TreeFault::Inval)),
+        // one stands elsewhere, and another row where its own stood
+        (Step::Rename(2, b"b", 6, b"h"), Ok(0)),
+        (Step::Directory(2, b"i"), Ok(7)),
+        (Step::Rename(1, b"e", 5, b"x"), Err(TreeFault::Inval)),
+        (Step::Rename(1, b"a", 5, b"x"), Ok(0)),
+        // e/h/g/d/x/i, and then g/d/x/i beside e/h
+        (Step::Rename(1, b"e", 7, b"y"), Err(TreeFault::Inval)),
+        (Step::Rename(3, b"g", 1, b"g"), Ok(0)),
+        (Step::Rename(1, b"e", 7, b"y"), Ok(0)),
+    ];
+    for (step, answer) in steps {
+        assert!(rt; run(&mut tree, alloc, step) == answer);
+    }
+    assert!(rt;
+        tree.parent(6) == Some(7)
+            && tree.parent(7) == Some(2)
+            && tree.parent(2) == Some(5)
+            && tree.parent(4) == Some(1)
+    );
+    Ok(())
+}
+
 /// Names of which each is another with bytes or zeros behind it, of 22 to 24 bytes among them.
 const ALIKE: [&[u8]; 8] = [
     b"a",

@@ -31,7 +31,7 @@ made c =
     let entries : c.insert.new.self.entries ≡ insert_entry nat_cmp es c.args.row.cookie c.insert_reserved.result =
     c.in_ok-insert.ensures.entries ∙ ap (insert_entry nat_cmp es c.args.row.cookie) key in
     shelved_new c.reserve.new.self c.insert_reserved.new.self es c.insert.new.self.entries c.args.row.cookie c.insert_reserved.result
-    (record { directory = c.args.row.directory; name = c.args.row.name; object = c.args.row.object }) is up
+    (record { directory = c.args.row.directory; name = c.args.row.name; object = c.args.row.object; above = c.new.result }) is up
     c.insert_reserved.ensures.was_vacant c.insert_reserved.ensures.updates entries
 
 pub invariant_of-self-2 : goal.invariant_of-self-2
