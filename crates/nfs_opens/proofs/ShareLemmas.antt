@@ -26,7 +26,7 @@ join true false c d h = let parts = h refl refl in rw (parts.0, parts.1) refl
 join true true c d h = refl
 join false b c d h = refl
 
-owner_bytes : (xs ys : List ℕ) → bytes_eq xs ys ≡ true → xs ≡ ys
+pub owner_bytes : (xs ys : List ℕ) → bytes_eq xs ys ≡ true → xs ≡ ys
 owner_bytes xs ys e = (bytes_eq-Decides xs ys).0 e
 
 same_bytes : (xs : List ℕ) → bytes_eq xs xs ≡ true

@@ -4,6 +4,7 @@ pub mod Closing
 pub mod Flat
 pub mod Holding
 pub mod Index
+pub mod Keys
 pub mod Judging
 pub mod Laws
 pub mod Locking

@@ -18,6 +18,7 @@ mod by_number;
 mod closing;
 mod index;
 mod judging;
+mod key;
 pub mod laws;
 mod lock_states;
 mod locked_files;

@@ -5,6 +5,7 @@ ghost use Rattle.std.specs.Option.{option_copied};
 ghost use Rattle.std.specs.List.{list_any};
 ghost use Rattle.nfs_xdr.specs.Tables.{In};
 ghost use Rattle.nfs_opens.specs.Index.{IsIndex, marked};
+ghost use Rattle.nfs_opens.specs.Keys.{lock_key};
 ghost use Rattle.nfs_opens.specs.Kept.{Rises};
 ghost use Rattle.nfs_opens.specs.Locking.{raised};
 ghost use Rattle.nfs_opens.specs.Holding.{held_by};
@@ -27,19 +28,22 @@ pub(crate) struct LockStates {
     by_file: Index,
     /// The lock states by the opens under which they were made.
     by_open: Index,
+    /// The lock states by the keys of their owners on their files.
+    by_owner: Index,
 }
 
 impl Model for LockStates {
     ghost use Rattle.std.specs.Prelude.{◌&&◌};
     ghost use Rattle.nfs_opens.specs.ByNumber.{Numbered};
     ghost use Rattle.nfs_opens.specs.Index.{IsIndex};
+    ghost use Rattle.nfs_opens.specs.Keys.{lock_key};
     ghost use Rattle.nfs_opens.specs.declared.records.LockState.{LockState};
 
     ghost Value = { Numbered LockState };
 
-    ghost view = { λ s. record { items = s.states.items; ready = s.states.ready && (s.by_file.ready && s.by_open.ready) } };
+    ghost view = { λ s. record { items = s.states.items; ready = s.states.ready && (s.by_file.ready && (s.by_open.ready && s.by_owner.ready)) } };
 
-    ghost invariant = { λ s. IsIndex (λ l. l.file) (λ l. l.number) s.states.items s.by_file.items × IsIndex (λ l. l.opened) (λ l. l.number) s.states.items s.by_open.items };
+    ghost invariant = { λ s. IsIndex (λ l. l.file) (λ l. l.number) s.states.items s.by_file.items × IsIndex (λ l. l.opened) (λ l. l.number) s.states.items s.by_open.items × IsIndex lock_key (λ l. l.number) s.states.items s.by_owner.items };
 }
 
 /// A lock state no longer stands among those of its file.
@@ -70,6 +74,20 @@ fn drop_open_pair(by_open: &mut Index, states: &ByNumber<LockState>, number: u64
     }
 }
 
+/// A lock state no longer stands among those of its owner.
+fn drop_owner_pair(by_owner: &mut Index, states: &ByNumber<LockState>, number: u64)
+    requires { IsIndex lock_key (λ l. l.number) states.now.items by_owner.old.items }
+    ensures { IsIndex lock_key (λ l. l.number) (filter (λ l. not (l.number == number)) states.now.items) by_owner.new.items }
+{
+    states.kept();
+    if let Some(lock) = states.get(number) {
+        by_owner.take(Pair {
+            of: lock.key(),
+            number,
+        });
+    }
+}
+
 /// The pairs of a client's lock states go.
 fn drop_pairs(pairs: &mut Index, states: &ByNumber<LockState>, client: u64)
     ensures { pairs.new.items ≡ filter (λ p. not (marked (λ l. l.number) (λ l. l.client == client) states.now.items p.number)) pairs.old.items }
@@ -86,6 +104,7 @@ impl LockStates {
             states: ByNumber::new(alloc),
             by_file: Index::new(alloc),
             by_open: Index::new(alloc),
+            by_owner: Index::new(alloc),
         }
     }
 
@@ -102,6 +121,17 @@ impl LockStates {
     {
         self.states.kept();
         match self.by_file.next(file, after) {
+            Some(number) => self.states.get(number),
+            None => None,
+        }
+    }
+
+    /// The lock state of this key with the lowest number behind `after`.
+    pub(crate) fn next_keyed(&self, key: u64, after: u64) -> Option<&LockState>
+        ensures { option_copied result ≡ find (λ l. (lock_key l == key) && nat_lt after l.number) self.now.items }
+    {
+        self.states.kept();
+        match self.by_owner.next(key, after) {
             Some(number) => self.states.get(number),
             None => None,
         }
@@ -134,7 +164,8 @@ impl LockStates {
     {
         self.states.reserve(alloc)?;
         self.by_file.reserve(alloc)?;
-        self.by_open.reserve(alloc)
+        self.by_open.reserve(alloc)?;
+        self.by_owner.reserve(alloc)
     }
 
     /// A lock state comes behind all others. It takes no memory.
@@ -150,6 +181,10 @@ impl LockStates {
         });
         self.by_open.put(Pair {
             of: new.opened,
+            number: new.number,
+        });
+        self.by_owner.put(Pair {
+            of: new.key(),
             number: new.number,
         });
         self.states.push(new);
@@ -168,6 +203,7 @@ impl LockStates {
     {
         drop_pair(&mut self.by_file, &self.states, number);
         drop_open_pair(&mut self.by_open, &self.states, number);
+        drop_owner_pair(&mut self.by_owner, &self.states, number);
         self.states.remove(number);
     }
 
@@ -185,6 +221,7 @@ impl LockStates {
         self.states.kept();
         drop_pairs(&mut self.by_file, &self.states, client);
         drop_pairs(&mut self.by_open, &self.states, client);
+        drop_pairs(&mut self.by_owner, &self.states, client);
         self.states.drop_client(client);
     }
 }

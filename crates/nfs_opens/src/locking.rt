@@ -11,6 +11,7 @@ ghost use Rattle.nfs_opens.specs.Locking.{lock_as, lock_first, lock_judged, unlo
 ghost use Rattle.nfs_opens.specs.Calls.{LocksOrWants, UnlocksOrWants, lock, is_whole};
 
 use crate::judging::{Seat, Sort};
+use crate::key::owner_key;
 use crate::locked_files::LockedFiles;
 use crate::opens::Opens;
 use crate::owner::Owner;
@@ -139,8 +140,9 @@ impl Opens {
         ensures kept { IsTable (table self.now) }
     {
         self.kept();
+        let key = owner_key(file, client, owner);
         let mut after = 0;
-        while let Some(lock) = self.next_lock(file, after) {
+        while let Some(lock) = self.next_lock(key, after) {
             if lock.is_lockers(client, owner, file) {
                 return Some(lock);
             }

@@ -3,7 +3,8 @@
 ghost use Rattle.std.specs.Prelude.{◌≡◌, ◌==◌, ◌&&◌, ◌<◌, ◌++◌, ◌∷◌, [], true, not, find, filter, map, nat_lt, if◌then◌else◌, OnOk};
 ghost use Rattle.std.specs.Option.{option_copied};
 ghost use Rattle.nfs_xdr.specs.Tables.{In};
-ghost use Rattle.nfs_opens.specs.Index.{IsIndex};
+ghost use Rattle.nfs_opens.specs.Index.{IsIndex, marked};
+ghost use Rattle.nfs_opens.specs.Keys.{open_key};
 ghost use Rattle.nfs_opens.specs.Opening.{joins, narrows};
 ghost use Rattle.nfs_opens.specs.Calls.{asked};
 
@@ -25,19 +26,22 @@ pub(crate) struct OpenStates {
     by_file: Index,
     /// The opens by their clients.
     by_client: Index,
+    /// The opens by the keys of their owners on their files.
+    by_owner: Index,
 }
 
 impl Model for OpenStates {
     ghost use Rattle.std.specs.Prelude.{◌&&◌};
     ghost use Rattle.nfs_opens.specs.ByNumber.{Numbered};
     ghost use Rattle.nfs_opens.specs.Index.{IsIndex};
+    ghost use Rattle.nfs_opens.specs.Keys.{open_key};
     ghost use Rattle.nfs_opens.specs.declared.records.OpenState.{OpenState};
 
     ghost Value = { Numbered OpenState };
 
-    ghost view = { λ s. record { items = s.states.items; ready = s.states.ready && (s.by_file.ready && s.by_client.ready) } };
+    ghost view = { λ s. record { items = s.states.items; ready = s.states.ready && (s.by_file.ready && (s.by_client.ready && s.by_owner.ready)) } };
 
-    ghost invariant = { λ s. IsIndex (λ o. o.file) (λ o. o.number) s.states.items s.by_file.items × IsIndex (λ o. o.client) (λ o. o.number) s.states.items s.by_client.items };
+    ghost invariant = { λ s. IsIndex (λ o. o.file) (λ o. o.number) s.states.items s.by_file.items × IsIndex (λ o. o.client) (λ o. o.number) s.states.items s.by_client.items × IsIndex open_key (λ o. o.number) s.states.items s.by_owner.items };
 }
 
 /// An open no longer stands among those of its file.
@@ -70,6 +74,29 @@ fn drop_own_pair(by_client: &mut Index, states: &ByNumber<OpenState>, number: u6
     }
 }
 
+/// An open no longer stands among those of its owner.
+fn drop_owner_pair(by_owner: &mut Index, states: &ByNumber<OpenState>, number: u64)
+    requires { IsIndex open_key (λ o. o.number) states.now.items by_owner.old.items }
+    ensures index { IsIndex open_key (λ o. o.number) (filter (λ o. not (o.number == number)) states.now.items) by_owner.new.items }
+    ensures room { by_owner.new.ready ≡ by_owner.old.ready }
+{
+    states.kept();
+    if let Some(open) = states.get(number) {
+        by_owner.take(Pair {
+            of: open.key(),
+            number,
+        });
+    }
+}
+
+/// The pairs of a client's opens go.
+fn drop_pairs(pairs: &mut Index, states: &ByNumber<OpenState>, client: u64)
+    ensures items { pairs.new.items ≡ filter (λ p. not (marked (λ o. o.number) (λ o. o.client == client) states.now.items p.number)) pairs.old.items }
+    ensures room { pairs.new.ready ≡ pairs.old.ready }
+{
+    pairs.keep(Going::Opens(states, client));
+}
+
 impl OpenStates {
     /// No opens. What comes later grows by `alloc`.
     pub(crate) fn new(alloc: Global) -> Self
@@ -79,6 +106,7 @@ impl OpenStates {
             states: ByNumber::new(alloc),
             by_file: Index::new(alloc),
             by_client: Index::new(alloc),
+            by_owner: Index::new(alloc),
         }
     }
 
@@ -111,6 +139,17 @@ impl OpenStates {
         }
     }
 
+    /// The open of this key with the lowest number behind `after`.
+    pub(crate) fn next_keyed(&self, key: u64, after: u64) -> Option<&OpenState>
+        ensures { option_copied result ≡ find (λ o. (open_key o == key) && nat_lt after o.number) self.now.items }
+    {
+        self.states.kept();
+        match self.by_owner.next(key, after) {
+            Some(number) => self.states.get(number),
+            None => None,
+        }
+    }
+
     /// Room for one more open.
     pub(crate) fn reserve(&mut self, alloc: Global) -> Result<(), AllocError>
         ensures items { self.new.items ≡ self.old.items }
@@ -119,7 +158,8 @@ impl OpenStates {
     {
         self.states.reserve(alloc)?;
         self.by_file.reserve(alloc)?;
-        self.by_client.reserve(alloc)
+        self.by_client.reserve(alloc)?;
+        self.by_owner.reserve(alloc)
     }
 
     /// An open comes behind all others. It takes no memory.
@@ -135,6 +175,10 @@ impl OpenStates {
         });
         self.by_client.put(Pair {
             of: new.client,
+            number: new.number,
+        });
+        self.by_owner.put(Pair {
+            of: new.key(),
             number: new.number,
         });
         self.states.push(new);
@@ -163,6 +207,7 @@ impl OpenStates {
     {
         drop_pair(&mut self.by_file, &self.states, number);
         drop_own_pair(&mut self.by_client, &self.states, number);
+        drop_owner_pair(&mut self.by_owner, &self.states, number);
         self.states.remove(number);
     }
 
@@ -172,8 +217,9 @@ impl OpenStates {
         ensures ready { self.new.ready ≡ self.old.ready }
     {
         self.states.kept();
-        self.by_file.keep(Going::Opens(&self.states, client));
+        drop_pairs(&mut self.by_file, &self.states, client);
         self.by_client.keep(Going::Owned(client));
+        drop_pairs(&mut self.by_owner, &self.states, client);
         self.states.drop_client(client);
     }
 }

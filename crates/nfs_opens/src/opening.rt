@@ -10,6 +10,7 @@ ghost use Rattle.nfs_opens.specs.Opening.{opens, own_open, downgrade};
 ghost use Rattle.nfs_opens.specs.Calls.{asked, open_fault};
 
 use crate::judging::Sort;
+use crate::key::owner_key;
 use crate::opens::Opens;
 use crate::owner::Owner;
 use crate::records::OpenState;
@@ -54,8 +55,9 @@ impl Opens {
         ensures { option_copied result ≡ own_open (table self.now) (asked ask.now) }
     {
         self.kept();
+        let key = owner_key(ask.file, ask.client, ask.owner);
         let mut after = 0;
-        while let Some(open) = self.next_open(ask.file, after) {
+        while let Some(open) = self.next_keyed(key, after) {
             if open.is_own(ask) {
                 return Some(open);
             }

@@ -5,6 +5,7 @@ ghost use Rattle.std.specs.Option.{option_copied};
 ghost use Rattle.std.specs.List.{list_any};
 ghost use Rattle.nfs_opens.specs.Table.{table, no_opens, open_at, lock_at};
 ghost use Rattle.nfs_opens.specs.Kept.{IsTable};
+ghost use Rattle.nfs_opens.specs.Keys.{open_key, lock_key};
 
 use crate::lock_states::LockStates;
 use crate::locked_files::LockedFiles;
@@ -77,6 +78,14 @@ impl Opens {
         self.opens.next_on(file, after)
     }
 
+    /// The open of this key with the lowest number behind `after`.
+    pub(crate) fn next_keyed(&self, key: u64, after: u64) -> Option<&OpenState>
+        ensures found { option_copied result ≡ find (λ o. (open_key o == key) && nat_lt after o.number) (table self.now).opens }
+        ensures kept { IsTable (table self.now) }
+    {
+        self.opens.next_keyed(key, after)
+    }
+
     /// The open of a client with the lowest number behind `after`.
     pub fn next_of(&self, client: u64, after: u64) -> Option<&OpenState>
         ensures found { option_copied result ≡ find (λ o. (o.client == client) && nat_lt after o.number) (table self.now).opens }
@@ -93,12 +102,12 @@ impl Opens {
         self.next_of(client, 0)
     }
 
-    /// The lock state on a file with the lowest number behind `after`.
-    pub(crate) fn next_lock(&self, file: u64, after: u64) -> Option<&LockState>
-        ensures found { option_copied result ≡ find (λ l. (l.file == file) && nat_lt after l.number) (table self.now).locks }
+    /// The lock state of this key with the lowest number behind `after`.
+    pub(crate) fn next_lock(&self, key: u64, after: u64) -> Option<&LockState>
+        ensures found { option_copied result ≡ find (λ l. (lock_key l == key) && nat_lt after l.number) (table self.now).locks }
         ensures kept { IsTable (table self.now) }
     {
-        self.locks.next_on(file, after)
+        self.locks.next_keyed(key, after)
     }
 
     /// Whether a file has an open.

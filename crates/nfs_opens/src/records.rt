@@ -5,7 +5,9 @@ ghost use Rattle.nfs_opens.specs.Table.{is_owners, is_own, clashes_with};
 ghost use Rattle.nfs_opens.specs.Opening.{joins, narrows, is_narrower};
 ghost use Rattle.nfs_opens.specs.Calls.{asked};
 ghost use Rattle.nfs_opens.specs.Locking.{is_locker, raised};
+ghost use Rattle.nfs_opens.specs.Keys.{open_key, lock_key};
 
+use crate::key::owner_key;
 use crate::opening::Ask;
 use crate::owner::Owner;
 use crate::share::Share;
@@ -93,6 +95,13 @@ impl State for LockState {
 }
 
 impl OpenState {
+    /// The key of its owner on its file.
+    pub(crate) fn key(&self) -> u64
+        ensures { result ≡ open_key self.now }
+    {
+        owner_key(self.file, self.client, self.owner.bytes())
+    }
+
     fn is_owners(&self, ask: &Ask) -> bool
         ensures { result ≡ is_owners (asked ask.now) self.now }
     {
@@ -159,6 +168,13 @@ impl OpenState {
 }
 
 impl LockState {
+    /// The key of its owner on its file.
+    pub(crate) fn key(&self) -> u64
+        ensures { result ≡ lock_key self.now }
+    {
+        owner_key(self.file, self.client, self.owner.bytes())
+    }
+
     /// Whether this is the lock owner's on the file.
     pub(crate) fn is_lockers(&self, client: u64, owner: &[u8], file: u64) -> bool
         ensures { result ≡ is_locker client owner.now file self.now }

@@ -303,6 +303,40 @@ fn locks(rt: HostRuntime) -> Result<(), Fail> {
     Ok(())
 }
 
+/// Two clients have owners of the same bytes, and one of them has a second owner.
+#[test]
+fn owners_are_told_apart_by_clients_and_bytes(rt: HostRuntime) -> Result<(), Fail> {
+    let mut opens = Opens::new(rt.alloc(), 7);
+    for (client, owner, want) in [
+        (A, b"o", id(1, 1)),
+        (A, b"p", id(1, 2)),
+        (B, b"o", id(1, 3)),
+        (A, b"p", id(2, 2)),
+    ] {
+        let ask = Ask {
+            owner,
+            ..ask(client, 3, 0)
+        };
+        let got = open_file(&mut opens, rt.alloc(), &ask);
+        assert_eq!(rt; got, Ok(want), "{client} opens");
+    }
+    for (client, under, want) in [
+        (A, 1, id(1, 4)),
+        (B, 3, id(1, 5)),
+        (B, 3, id(2, 5)),
+        (A, 2, id(2, 4)),
+    ] {
+        let locker = Locker::New {
+            under: id(0, under),
+            owner: b"o",
+        };
+        let wish = wish(client, Kind::Read, 0, 9);
+        let got = lock_bytes(&mut opens, rt.alloc(), &locker, &wish);
+        assert_eq!(rt; got, Ok(want), "{client} locks under {under}");
+    }
+    Ok(())
+}
+
 #[test]
 fn a_wish_is_told_the_run_that_it_meets(rt: HostRuntime) -> Result<(), Fail> {
     let mut opens = locked(rt.alloc());

@@ -1,6 +1,7 @@
 use Rattle.std.proofs.Common.{refl}
 use Rattle.nfs_opens.specs.Opening.{joins}
 use Rattle.nfs_opens.specs.Calls.{asked}
+use Rattle.nfs_opens.specs.Keys.{open_key}
 use Rattle.nfs_opens.proofs.IndexedLemmas.{opens_changed}
 use Rattle.nfs_opens.proofs.open_states.OpenStates.join.Goals as goal
 
@@ -10,4 +11,6 @@ invariant_of-self c = (
       (λ o. refl) (λ o. refl) c.self.invariant.0,
   opens_changed (λ o. o.client) (joins (asked c.args.ask.now)) c.args.number c.self.inside.states.items c.join.new.self.items c.self.inside.by_client.items c.join.ensures.items
       (λ o. refl) (λ o. refl) c.self.invariant.1,
+  opens_changed open_key (joins (asked c.args.ask.now)) c.args.number c.self.inside.states.items c.join.new.self.items c.self.inside.by_owner.items c.join.ensures.items
+      (λ o. refl) (λ o. refl) c.self.invariant.2,
 )

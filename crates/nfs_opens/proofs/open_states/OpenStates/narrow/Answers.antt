@@ -1,5 +1,6 @@
 use Rattle.std.proofs.Common.{refl}
 use Rattle.nfs_opens.specs.Opening.{narrows}
+use Rattle.nfs_opens.specs.Keys.{open_key}
 use Rattle.nfs_opens.proofs.IndexedLemmas.{opens_changed}
 use Rattle.nfs_opens.proofs.open_states.OpenStates.narrow.Goals as goal
 
@@ -9,4 +10,6 @@ invariant_of-self c = (
       (λ o. refl) (λ o. refl) c.self.invariant.0,
   opens_changed (λ o. o.client) (narrows c.args.access c.args.deny) c.args.number c.self.inside.states.items c.narrow.new.self.items c.self.inside.by_client.items c.narrow.ensures.items
       (λ o. refl) (λ o. refl) c.self.invariant.1,
+  opens_changed open_key (narrows c.args.access c.args.deny) c.args.number c.self.inside.states.items c.narrow.new.self.items c.self.inside.by_owner.items c.narrow.ensures.items
+      (λ o. refl) (λ o. refl) c.self.invariant.2,
 )

@@ -1,6 +1,7 @@
 use Rattle.std.proofs.Common.{List, sym, subst}
 use Rattle.nfs_opens.specs.declared.records.OpenState.{OpenState}
 use Rattle.nfs_opens.specs.Index.{IsIndex}
+use Rattle.nfs_opens.specs.Keys.{open_key}
 use Rattle.nfs_opens.proofs.open_states.OpenStates.remove.Goals as goal
 
 pub invariant_of-self : goal.invariant_of-self
@@ -9,4 +10,6 @@ invariant_of-self c = (
       c.drop_pair.ensures.index,
   subst (λ (ls : List OpenState). IsIndex (λ (o : OpenState). o.client) (λ o. o.number) ls c.drop_own_pair.new.by_client.items) (sym c.remove.ensures.items)
       c.drop_own_pair.ensures.index,
+  subst (λ (ls : List OpenState). IsIndex open_key (λ o. o.number) ls c.drop_owner_pair.new.by_owner.items) (sym c.remove.ensures.items)
+      c.drop_owner_pair.ensures.index,
 )

@@ -1,0 +1,30 @@
+use Rattle.std.proofs.Common.{◌≡◌, ℕ, Some, None, sym, subst, ◌∙◌, ap}
+use Rattle.std.specs.Prelude.{◌==◌, find}
+use Rattle.std.specs.Option.{option_copied}
+use Rattle.nfs_xdr.specs.Tables.{In}
+use Rattle.nfs_opens.specs.declared.records.OpenState.{OpenState}
+use Rattle.nfs_opens.specs.Index.{HasTaken}
+use Rattle.nfs_opens.specs.Keys.{open_key}
+use Rattle.nfs_opens.proofs.IndexLemmas.{pair_of, pair_in, index_taken, index_left}
+use Rattle.nfs_opens.proofs.open_states.drop_owner_pair.Goals as goal
+
+pub take-requires : goal.take-requires
+take-requires c =
+    let found : find (λ (o : OpenState). o.number == c.args.number) c.args.states.now.items ≡ Some c.in-Some.open.now =
+    sym c.get.ensures ∙ ap option_copied c.in-Some.is in
+    subst (λ (k : ℕ). In (pair_of k c.args.number) c.args.by_owner.now.items) (sym c.key.ensures)
+    (pair_in open_key (λ o. o.number) c.args.number c.args.states.now.items c.in-Some.open.now c.args.by_owner.now.items c.requires found)
+
+pub returns-in-Some-clause-index : goal.returns-in-Some-clause-index
+returns-in-Some-clause-index c =
+    let found : find (λ (o : OpenState). o.number == c.args.number) c.args.states.now.items ≡ Some c.in-Some.open.now =
+    sym c.get.ensures ∙ ap option_copied c.in-Some.is in
+    index_taken open_key (λ o. o.number) 1 c.kept.ensures.0 c.args.number c.args.states.now.items c.in-Some.open.now c.args.by_owner.now.items
+    c.take.new.self.items c.kept.ensures.1 c.requires found
+    (subst (λ (k : ℕ). HasTaken c.args.by_owner.now.items (pair_of k c.args.number) c.take.new.self.items) c.key.ensures c.take.ensures.taken)
+
+pub returns-in_default-clause-index : goal.returns-in_default-clause-index
+returns-in_default-clause-index c =
+    let gone : find (λ (o : OpenState). o.number == c.args.number) c.args.states.now.items ≡ None =
+    sym c.get.ensures ∙ ap option_copied c.in_default.is in
+    index_left open_key (λ o. o.number) c.args.number c.args.states.now.items c.args.by_owner.now.items c.requires gone
