@@ -6,12 +6,12 @@ use Rattle.std.proofs.lemmas.Bool.Decides.{nat_tests}
 use Rattle.std.proofs.lemmas.Slice.Eq.{bytes_eq-Decides}
 use Rattle.nfs_xdr.specs.Codec.{IsBytes}
 use Rattle.nfs_xdr.specs.Tables.{IsRising, In, record_at, without_record}
-use Rattle.nfs_xdr.proofs.Lists.{in_filter, in_push, find_in, none_in, find_none, find_kept, find_past, find_out, find_push, find_push_other, filter_in, filter_all, length_filter, some_or_none}
+use Rattle.nfs_xdr.proofs.Lists.{in_filter, in_push, find_in, none_in, find_none, find_kept, find_past, find_out, find_push, find_push_other, filter_in, filter_all, some_or_none}
 use Rattle.nfs_xdr.proofs.Tables.{IsRising-push, IsRising-filter, in_bounds, in_once, at_of_in}
 use Rattle.nfs_tree.specs.declared.row.Row.{Row}
-use Rattle.nfs_tree.specs.Files.{most_name, is_entry, entry, without_entry, listed, listing, links_in}
+use Rattle.nfs_tree.specs.Files.{most_name, is_entry, entry, without_entry, listed, listing}
 use Rattle.nfs_tree.specs.ByName.{NamesAnew}
-use Rattle.nfs_tree.specs.Maps.{links_behind, AreNamed, ArePairs}
+use Rattle.nfs_tree.specs.Maps.{AreNamed, ArePairs}
 use Rattle.nfs_tree.proofs.PairLemmas.{row_pair}
 use Rattle.nfs_tree.proofs.RowsKept.{entry_parts, found_put, either}
 
@@ -286,29 +286,6 @@ listing_end rows at d k are top = ap (map listed) (behind_end (λ (r : Row). r.d
 pub listing_next : (rows : List Row) (at : ℕ → List ℕ → Option ℕ) (has : ℕ × ℕ → Bool) (d k : ℕ) (x : Row) → AreNamed rows at → ArePairs (λ (r : Row). r.directory) rows has
     → In x rows → x.directory ≡ d → k + 1 ≤ x.cookie → ((c : ℕ) → k + 1 ≤ c → has (d, c) ≡ true → x.cookie ≤ c) → listing rows d k ≡ listed x ∷ listing rows d x.cookie
 listing_next rows at has d k x named are there stands up least = ap (map listed) (behind_next (λ (r : Row). r.directory) rows at has d k x named are there stands up least)
-
--- ---- links
-pub links_none : (rows : List Row) (has : ℕ × ℕ → Bool) (n k : ℕ) → ArePairs (λ (r : Row). r.object) rows has → ((c : ℕ) → k + 1 ≤ c → has (n, c) ≡ false) → links_behind rows n k ≡ 0
-links_none rows has n k are none = ap length (behind_none (λ (r : Row). r.object) rows has n k are none)
-
-pub links_end : (rows : List Row) (at : ℕ → List ℕ → Option ℕ) (n k : ℕ) → AreNamed rows at → k + 1 ≡ 2 ^ 64 → links_behind rows n k ≡ 0
-links_end rows at n k are top = ap length (behind_end (λ (r : Row). r.object) rows at n k are top)
-
-pub links_next : (rows : List Row) (at : ℕ → List ℕ → Option ℕ) (has : ℕ × ℕ → Bool) (n k : ℕ) (x : Row) → AreNamed rows at → ArePairs (λ (r : Row). r.object) rows has
-    → In x rows → x.object ≡ n → k + 1 ≤ x.cookie → ((c : ℕ) → k + 1 ≤ c → has (n, c) ≡ true → x.cookie ≤ c) → links_behind rows n k ≡ links_behind rows n x.cookie + 1
-links_next rows at has n k x named are there stands up least =
-    let one : links_behind rows n k ≡ suc (links_behind rows n x.cookie) = ap length (behind_next (λ (r : Row). r.object) rows at has n k x named are there stands up least) in
-    omega arith
-
--- every cookie is above 0
-pub links_all : (rows : List Row) (at : ℕ → List ℕ → Option ℕ) (n : ℕ) → AreNamed rows at → links_behind rows n 0 ≡ links_in rows n
-links_all rows at n are = ap length (filter_in (is_behind (λ (r : Row). r.object) n 0) (λ r. r.object == n) rows (λ x there. all x (in_bounds cookie 3 are.high rows x are.rising there).0))
-  where
-    all : (x : Row) → 3 ≤ x.cookie → ((x.object == n) && nat_lt 0 x.cookie) ≡ (x.object == n)
-    all x up = rw (above_nat 0 x.cookie (omega arith)) (elim (cases_Bool (x.object == n)) [ inl here ↦ rw here refl | inr other ↦ rw other refl ])
-
-pub links_few : (rows : List Row) (n : ℕ) → links_in rows n ≤ length rows
-links_few rows n = length_filter (λ (r : Row). r.object == n) rows
 
 -- ---- the place of an entry
 abbrev pub place : Row → ℕ × ℕ

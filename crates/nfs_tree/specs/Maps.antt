@@ -1,5 +1,5 @@
 -- How the cookies of rows lie in ordered maps: by name, by directory and by object.
-use Rattle.std.specs.Prelude.{◌≡◌, ℕ, ◌<◌, ◌≤◌, ◌^◌, ◌==◌, nat_lt, Bool, ◌&&◌, List, length, Option, Some, filter, option_map, is_some}
+use Rattle.std.specs.Prelude.{◌≡◌, ℕ, ◌<◌, ◌≤◌, ◌^◌, ◌==◌, Bool, ◌&&◌, List, length, Option, Some, option_map, is_some}
 use Rattle.std.specs.List.{list_any}
 use Rattle.std.specs.Ordering.{nat_cmp, ordering_then}
 use Rattle.std.specs.declared.cmp.Ordering.{Ordering}
@@ -23,10 +23,6 @@ is_pair of q r = (of r == q.0) && (r.cookie == q.1)
 -- there is a pair for each row, and no other
 abbrev pub ArePairs : (Row → ℕ) → List Row → (ℕ × ℕ → Bool) → Type 0
 ArePairs of rows has = (q : ℕ × ℕ) → has q ≡ list_any (is_pair of q) rows
-
--- how many rows behind a cookie name the object
-abbrev pub links_behind : List Row → ℕ → ℕ → ℕ
-links_behind rows n k = length (filter (λ r. (r.object == n) && nat_lt k r.cookie) rows)
 
 -- no two rows name the object
 abbrev pub HasOneRow : List Row → ℕ → Type 0

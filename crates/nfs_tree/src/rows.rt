@@ -5,7 +5,7 @@ ghost use Rattle.std.specs.BTreeMap.{insert_entry, get, is_at};
 ghost use Rattle.nfs_xdr.specs.Tables.{IsRising, without_record};
 ghost use Rattle.nfs_tree.specs.Files.{entry, parent_in, links_in, has_row, has_entries, listing, listed, without_entry, most_name};
 ghost use Rattle.nfs_tree.specs.ByName.{cookies, NamesAnew};
-ghost use Rattle.nfs_tree.specs.Maps.{pair_cmp, links_behind, HasOneRow};
+ghost use Rattle.nfs_tree.specs.Maps.{pair_cmp, HasOneRow};
 ghost use Rattle.nfs_tree.specs.Names.{with_row};
 ghost use Rattle.nfs_tree.specs.Indexed.{placed};
 
@@ -18,6 +18,7 @@ use std::alloc::{AllocError, Global};
 use std::collections::BTreeMap;
 use std::collections::btree_map::Entry;
 use std::marker::Model;
+use std::ops::Bound;
 
 /// The rows of all directories. Contracts see the list of them, in rising order of their cookies.
 #[derive(Drop)]
@@ -150,18 +151,11 @@ impl Rows {
     pub(crate) fn links_in(&self, object: u64) -> usize
         ensures { result ≡ links_in self.now object }
     {
-        let mut count = 0;
-        let mut last = 0;
-        for _row in 0..self.rows.len() {
-            match self.owned_after(object, last) {
-                None => return count,
-                Some(cookie) => {
-                    count += 1;
-                    last = cookie;
-                }
-            }
-        }
-        count
+        let own = (
+            Bound::Included((object, 0)),
+            Bound::Included((object, u64::MAX)),
+        );
+        self.owned.range(own).count()
     }
 
     /// Whether a row names the object.
@@ -171,21 +165,6 @@ impl Rows {
         match first_from(&self.owned, object, 0) {
             None => false,
             Some(_) => true,
-        }
-    }
-
-    /// The cookie of the first row behind a cookie that names the object.
-    fn owned_after(&self, object: u64, cookie: u64) -> Option<u64>
-        ensures none { IfNone result (links_behind self.now object cookie ≡ 0) }
-        ensures some { IfSome result (λ c. links_behind self.now object cookie ≡ links_behind self.now object c + 1) }
-    {
-        let owned = &self.owned;
-        if cookie == u64::MAX {
-            return None;
-        }
-        match first_from(owned, object, cookie + 1) {
-            None => None,
-            Some(next) => Some(next),
         }
     }
 
