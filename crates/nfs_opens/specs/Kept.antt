@@ -32,6 +32,14 @@ pub record IsHolder (locks : List LockState) (f s : ℕ) (l : LockState) : Type 
 abbrev pub AreHolders : List LockState → FileHolders → Type 0
 AreHolders locks held = (f s b : ℕ) → held f s b ≢ None → (l : LockState) × IsHolder locks f s l
 
+-- which file an open is of, and of which owner
+abbrev pub whose : OpenState → ℕ × ℕ × List ℕ
+whose o = (o.file, o.client, o.owner)
+
+-- no owner has two opens of one file
+abbrev pub HasOneEach : List OpenState → Type 0
+HasOneEach opens = (a b : OpenState) → In a opens → In b opens → whose a ≡ whose b → a ≡ b
+
 -- What holds of every table.
 pub record IsTable (t : Table) : Type 0 where
   -- numbers rise, and were all given

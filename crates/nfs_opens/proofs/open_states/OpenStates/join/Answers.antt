@@ -3,6 +3,7 @@ use Rattle.nfs_opens.specs.Opening.{joins}
 use Rattle.nfs_opens.specs.Calls.{asked}
 use Rattle.nfs_opens.specs.Keys.{open_key}
 use Rattle.nfs_opens.proofs.IndexedLemmas.{opens_changed}
+use Rattle.nfs_opens.proofs.SingleLemmas.{each_changed}
 use Rattle.nfs_opens.proofs.open_states.OpenStates.join.Goals as goal
 
 pub invariant_of-self : goal.invariant_of-self
@@ -13,4 +14,5 @@ invariant_of-self c = (
       (λ o. refl) (λ o. refl) c.self.invariant.1,
   opens_changed open_key (joins (asked c.args.ask.now)) c.args.number c.self.inside.states.items c.join.new.self.items c.self.inside.by_owner.items c.join.ensures.items
       (λ o. refl) (λ o. refl) c.self.invariant.2,
+  each_changed (joins (asked c.args.ask.now)) c.args.number c.self.inside.states.items c.join.new.self.items c.join.ensures.items (λ o. refl) c.self.invariant.3,
 )
