@@ -34,16 +34,14 @@ pub(crate) struct OpenStates {
 impl Model for OpenStates {
     ghost use Rattle.std.specs.Prelude.{◌&&◌};
     ghost use Rattle.nfs_opens.specs.ByNumber.{Numbered};
-    ghost use Rattle.nfs_opens.specs.Index.{IsIndex};
-    ghost use Rattle.nfs_opens.specs.Keys.{open_key};
-    ghost use Rattle.nfs_opens.specs.Kept.{HasOneEach};
+    ghost use Rattle.nfs_opens.specs.Kept.{AreOpens};
     ghost use Rattle.nfs_opens.specs.declared.records.OpenState.{OpenState};
 
     ghost Value = { Numbered OpenState };
 
     ghost view = { λ s. record { items = s.states.items; ready = s.states.ready && (s.by_file.ready && (s.by_client.ready && s.by_owner.ready)) } };
 
-    ghost invariant = { λ s. IsIndex (λ o. o.file) (λ o. o.number) s.states.items s.by_file.items × IsIndex (λ o. o.client) (λ o. o.number) s.states.items s.by_client.items × IsIndex open_key (λ o. o.number) s.states.items s.by_owner.items × HasOneEach s.states.items };
+    ghost invariant = { λ s. AreOpens s.states.items s.by_file.items s.by_client.items s.by_owner.items };
 }
 
 /// An open no longer stands among those of its file.
