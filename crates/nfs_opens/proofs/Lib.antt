@@ -5,6 +5,7 @@ pub mod HolderLemmas
 pub mod IndexLemmas
 pub mod IndexedLemmas
 pub mod ShareLemmas
+pub mod SingleLemmas
 pub mod TableLemmas
 pub mod NumberLemmas
 pub mod LeaveLemmas

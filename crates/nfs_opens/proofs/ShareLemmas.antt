@@ -94,7 +94,7 @@ joined_meets a b c e f =
     let two = neither_of _ _ f in
     both_false _ _ (bit_joined a.reads b.reads c.reads one.0 two.0) (bit_joined a.writes b.writes c.writes one.1 two.1)
 
-part_meets : (a b c : Share) → is_part a b ≡ true → meets b c ≡ false → meets a c ≡ false
+pub part_meets : (a b c : Share) → is_part a b ≡ true → meets b c ≡ false → meets a c ≡ false
 part_meets a b c e f =
     let parts = and_parts _ _ e in
     let met = neither_of _ _ f in

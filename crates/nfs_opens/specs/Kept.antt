@@ -6,6 +6,9 @@ use Rattle.nfs_ranges.specs.Facts.{IsBelow}
 use Rattle.nfs_opens.specs.Table.{Kept, Table, table, clashes_with, as_asked}
 use Rattle.nfs_opens.specs.declared.records.OpenState.{OpenState}
 use Rattle.nfs_opens.specs.declared.records.LockState.{LockState}
+use Rattle.nfs_opens.specs.declared.index.Pair.{Pair}
+use Rattle.nfs_opens.specs.Index.{IsIndex}
+use Rattle.nfs_opens.specs.Keys.{open_key, lock_key}
 use Rattle.nfs_opens.specs.Holding.{FileHolders, HasNoClash}
 
 -- no byte from 2^64 on is held
@@ -31,6 +34,29 @@ pub record IsHolder (locks : List LockState) (f s : ℕ) (l : LockState) : Type 
 
 abbrev pub AreHolders : List LockState → FileHolders → Type 0
 AreHolders locks held = (f s b : ℕ) → held f s b ≢ None → (l : LockState) × IsHolder locks f s l
+
+-- which file an open is of, and of which owner
+abbrev pub whose : OpenState → ℕ × ℕ × List ℕ
+whose o = (o.file, o.client, o.owner)
+
+-- no owner has two opens of one file
+abbrev pub HasOneEach : List OpenState → Type 0
+HasOneEach opens = (a b : OpenState) → In a opens → In b opens → whose a ≡ whose b → a ≡ b
+
+-- all opens, and their indexes by file, by client and by the key of the owner
+abbrev pub AreOpens : List OpenState → List Pair → List Pair → List Pair → Type 0
+AreOpens opens by_file by_client by_owner =
+    IsIndex (λ o. o.file) (λ o. o.number) opens by_file
+    × IsIndex (λ o. o.client) (λ o. o.number) opens by_client
+    × IsIndex open_key (λ o. o.number) opens by_owner
+    × HasOneEach opens
+
+-- all lock states, and their indexes by file, by open and by the key of the owner
+abbrev pub AreLocks : List LockState → List Pair → List Pair → List Pair → Type 0
+AreLocks locks by_file by_open by_owner =
+    IsIndex (λ l. l.file) (λ l. l.number) locks by_file
+    × IsIndex (λ l. l.opened) (λ l. l.number) locks by_open
+    × IsIndex lock_key (λ l. l.number) locks by_owner
 
 -- What holds of every table.
 pub record IsTable (t : Table) : Type 0 where

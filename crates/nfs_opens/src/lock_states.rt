@@ -35,15 +35,14 @@ pub(crate) struct LockStates {
 impl Model for LockStates {
     ghost use Rattle.std.specs.Prelude.{◌&&◌};
     ghost use Rattle.nfs_opens.specs.ByNumber.{Numbered};
-    ghost use Rattle.nfs_opens.specs.Index.{IsIndex};
-    ghost use Rattle.nfs_opens.specs.Keys.{lock_key};
+    ghost use Rattle.nfs_opens.specs.Kept.{AreLocks};
     ghost use Rattle.nfs_opens.specs.declared.records.LockState.{LockState};
 
     ghost Value = { Numbered LockState };
 
     ghost view = { λ s. record { items = s.states.items; ready = s.states.ready && (s.by_file.ready && (s.by_open.ready && s.by_owner.ready)) } };
 
-    ghost invariant = { λ s. IsIndex (λ l. l.file) (λ l. l.number) s.states.items s.by_file.items × IsIndex (λ l. l.opened) (λ l. l.number) s.states.items s.by_open.items × IsIndex lock_key (λ l. l.number) s.states.items s.by_owner.items };
+    ghost invariant = { λ s. AreLocks s.states.items s.by_file.items s.by_open.items s.by_owner.items };
 }
 
 /// A lock state no longer stands among those of its file.

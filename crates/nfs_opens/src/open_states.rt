@@ -1,9 +1,10 @@
 //! All opens.
 
-ghost use Rattle.std.specs.Prelude.{◌≡◌, ◌==◌, ◌&&◌, ◌<◌, ◌++◌, ◌∷◌, [], true, not, find, filter, map, nat_lt, if◌then◌else◌, OnOk};
+ghost use Rattle.std.specs.Prelude.{◌≡◌, ◌≢◌, ◌==◌, ◌&&◌, ◌<◌, ◌++◌, ◌∷◌, [], true, not, find, filter, map, nat_lt, if◌then◌else◌, OnOk};
 ghost use Rattle.std.specs.Option.{option_copied};
 ghost use Rattle.nfs_xdr.specs.Tables.{In};
 ghost use Rattle.nfs_opens.specs.Index.{IsIndex, marked};
+ghost use Rattle.nfs_opens.specs.Kept.{HasOneEach, whose};
 ghost use Rattle.nfs_opens.specs.Keys.{open_key};
 ghost use Rattle.nfs_opens.specs.Opening.{joins, narrows};
 ghost use Rattle.nfs_opens.specs.Calls.{asked};
@@ -18,7 +19,7 @@ use crate::share::Share;
 use std::alloc::{AllocError, Global};
 use std::marker::Model;
 
-/// All opens in rising order of their numbers. One more may come while there is room.
+/// All opens in rising order of their numbers; no owner has two of one file. One more may come while there is room.
 #[derive(Drop)]
 pub(crate) struct OpenStates {
     states: ByNumber<OpenState>,
@@ -33,15 +34,14 @@ pub(crate) struct OpenStates {
 impl Model for OpenStates {
     ghost use Rattle.std.specs.Prelude.{◌&&◌};
     ghost use Rattle.nfs_opens.specs.ByNumber.{Numbered};
-    ghost use Rattle.nfs_opens.specs.Index.{IsIndex};
-    ghost use Rattle.nfs_opens.specs.Keys.{open_key};
+    ghost use Rattle.nfs_opens.specs.Kept.{AreOpens};
     ghost use Rattle.nfs_opens.specs.declared.records.OpenState.{OpenState};
 
     ghost Value = { Numbered OpenState };
 
     ghost view = { λ s. record { items = s.states.items; ready = s.states.ready && (s.by_file.ready && (s.by_client.ready && s.by_owner.ready)) } };
 
-    ghost invariant = { λ s. IsIndex (λ o. o.file) (λ o. o.number) s.states.items s.by_file.items × IsIndex (λ o. o.client) (λ o. o.number) s.states.items s.by_client.items × IsIndex open_key (λ o. o.number) s.states.items s.by_owner.items };
+    ghost invariant = { λ s. AreOpens s.states.items s.by_file.items s.by_client.items s.by_owner.items };
 }
 
 /// An open no longer stands among those of its file.
@@ -110,6 +110,13 @@ impl OpenStates {
         }
     }
 
+    /// No owner has two opens of one file; moves nothing.
+    pub(crate) fn single(&self)
+        ensures { HasOneEach self.now.items }
+    {
+        let _ = &self.by_owner;
+    }
+
     /// The open of a number.
     pub(crate) fn get(&self, number: u64) -> Option<&OpenState>
         ensures { option_copied result ≡ find (λ o. o.number == number) self.now.items }
@@ -162,11 +169,12 @@ impl OpenStates {
         self.by_owner.reserve(alloc)
     }
 
-    /// An open comes behind all others. It takes no memory.
+    /// An open comes behind all others: its owner has none of the file. It takes no memory.
     pub(crate) fn push(&mut self, new: OpenState)
         requires ready { self.old.ready ≡ true }
         requires behind { (o : OpenState) → In o self.old.items → o.number < new.number }
         requires first { 0 < new.number }
+        requires owner { (o : OpenState) → In o self.old.items → whose o ≢ whose new }
         ensures { self.new.items ≡ self.old.items ++ new ∷ [] }
     {
         self.by_file.put(Pair {

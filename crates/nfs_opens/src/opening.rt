@@ -67,14 +67,20 @@ impl Opens {
     }
 
     /// Whether an open of another owner stands against what is asked.
+    ///
+    /// No two opens clash. So where one covers what is asked, and does not stand against it, none does.
     fn has_clash(&self, ask: &Ask) -> bool
         ensures { result ≡ list_any (clashes_with (asked ask.now)) (table self.now).opens }
     {
+        self.opens.single();
         self.kept();
         let mut after = 0;
         while let Some(open) = self.next_open(ask.file, after) {
             if open.clashes_with(ask) {
                 return true;
+            }
+            if open.covers(ask) {
+                return false;
             }
             after = open.number;
         }

@@ -1,6 +1,7 @@
 //! The records of opens and of lock states.
 
-ghost use Rattle.std.specs.Prelude.{◌≡◌, ◌==◌, not};
+ghost use Rattle.std.specs.Prelude.{◌≡◌, ◌==◌, ◌&&◌, not};
+ghost use Rattle.nfs_opens.specs.Share.{is_part};
 ghost use Rattle.nfs_opens.specs.Table.{is_owners, is_own, clashes_with};
 ghost use Rattle.nfs_opens.specs.Opening.{joins, narrows, is_narrower};
 ghost use Rattle.nfs_opens.specs.Calls.{asked};
@@ -122,6 +123,13 @@ impl OpenState {
         self.file == ask.file
             && !self.is_owners(ask)
             && (ask.access.meets(self.deny) || ask.deny.meets(self.access))
+    }
+
+    /// Whether it may do all that is asked for, and denies all that is to be denied.
+    pub(crate) fn covers(&self, ask: &Ask) -> bool
+        ensures { result ≡ (is_part ask.now.access self.now.access && is_part ask.now.deny self.now.deny) }
+    {
+        ask.access.is_part(self.access) && ask.deny.is_part(self.deny)
     }
 
     /// Whether it is not this client's.

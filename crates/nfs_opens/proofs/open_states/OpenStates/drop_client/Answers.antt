@@ -5,6 +5,7 @@ use Rattle.nfs_opens.specs.declared.records.OpenState.{OpenState}
 use Rattle.nfs_opens.specs.Index.{IsIndex}
 use Rattle.nfs_opens.specs.Keys.{open_key}
 use Rattle.nfs_opens.proofs.IndexLemmas.{index_part, index_unmarked}
+use Rattle.nfs_opens.proofs.SingleLemmas.{each_left}
 use Rattle.nfs_opens.proofs.open_states.OpenStates.drop_client.Goals as goal
 
 pub invariant_of-self : goal.invariant_of-self
@@ -20,4 +21,5 @@ invariant_of-self c = (
   subst (λ (os : List OpenState). IsIndex open_key (λ o. o.number) os c.drop_pairs-2.new.pairs.items) (sym c.drop_client.ensures.items)
       (index_unmarked open_key (λ o. o.number) (λ o. o.client == c.args.client) 1 c.kept.ensures.0 c.self.inside.states.items
       c.self.inside.by_owner.items c.drop_pairs-2.new.pairs.items c.kept.ensures.1 c.self.invariant.2 c.drop_pairs-2.ensures.items),
+  each_left (λ o. not (o.client == c.args.client)) c.self.inside.states.items c.drop_client.new.self.items c.drop_client.ensures.items c.self.invariant.3,
 )

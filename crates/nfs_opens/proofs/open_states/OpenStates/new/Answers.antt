@@ -3,7 +3,9 @@ use Rattle.nfs_opens.specs.declared.index.Pair.{Pair}
 use Rattle.nfs_opens.specs.declared.records.OpenState.{OpenState}
 use Rattle.nfs_opens.specs.Index.{IsIndex}
 use Rattle.nfs_opens.specs.Keys.{open_key}
+use Rattle.nfs_opens.specs.Kept.{HasOneEach}
 use Rattle.nfs_opens.proofs.IndexLemmas.{index_none}
+use Rattle.nfs_opens.proofs.SingleLemmas.{each_none}
 use Rattle.nfs_opens.proofs.open_states.OpenStates.new.Goals as goal
 
 pub invariant_of-result : goal.invariant_of-result
@@ -12,4 +14,5 @@ invariant_of-result c =
       subst (λ (ps : List Pair). IsIndex (λ (o : OpenState). o.file) (λ o. o.number) c.new.result.items ps) (sym c.new-2.ensures) (none (λ o. o.file)),
       subst (λ (ps : List Pair). IsIndex (λ (o : OpenState). o.client) (λ o. o.number) c.new.result.items ps) (sym c.new-3.ensures) (none (λ o. o.client)),
       subst (λ (ps : List Pair). IsIndex open_key (λ o. o.number) c.new.result.items ps) (sym c.new-4.ensures) (none open_key),
+      subst HasOneEach (sym c.new.ensures) each_none,
     )

@@ -17,6 +17,7 @@ returns-in-Some c =
 
 pub returns-in-None : goal.returns-in-None
 returns-in-None c =
-    let next : IsNext c.self.inside.by_owner.items c.args.key c.args.after None = subst (IsNext c.self.inside.by_owner.items c.args.key c.args.after) c.in-None.is c.next.ensures in
+    let next : IsNext c.self.inside.by_owner.items c.args.key c.args.after None = subst (IsNext c.self.inside.by_owner.items c.args.key c.args.after)
+    c.in-None.is c.next.ensures in
     sym (no_state open_key (λ o. o.number) c.args.key c.args.after c.self.inside.states.items c.self.inside.by_owner.items c.self.invariant.2 next)
     ∙ ap (λ (x : Numbered OpenState). find (λ (o : OpenState). (open_key o == c.args.key) && nat_lt c.args.after o.number) x.items) c.self.view_is

@@ -1,9 +1,11 @@
-use Rattle.std.proofs.Common.{ℕ, ◌<◌, List, sym, subst}
+use Rattle.std.proofs.Common.{ℕ, ◌≢◌, ◌<◌, List, sym, subst}
 use Rattle.nfs_xdr.specs.Tables.{In}
 use Rattle.nfs_opens.specs.declared.records.OpenState.{OpenState}
 use Rattle.nfs_opens.specs.ByNumber.{Numbered}
 use Rattle.nfs_opens.specs.Index.{IsIndex, HasPut}
 use Rattle.nfs_opens.specs.Keys.{open_key}
+use Rattle.nfs_opens.specs.Kept.{whose}
+use Rattle.nfs_opens.proofs.SingleLemmas.{each_pushed}
 use Rattle.nfs_opens.proofs.IndexLemmas.{pair_of, index_put, index_apart}
 use Rattle.nfs_opens.proofs.open_states.OpenStates.push.Goals as goal
 
@@ -33,4 +35,6 @@ invariant_of-self c = (
   subst (λ (ls : List OpenState). IsIndex open_key (λ o. o.number) ls c.put-3.new.self.items) (sym c.push.ensures)
       (index_put open_key (λ o. o.number) c.self.inside.states.items c.args.new c.self.inside.by_owner.items c.put-3.new.self.items c.self.invariant.2
       (subst (λ (k : ℕ). HasPut c.self.inside.by_owner.items (pair_of k c.args.new.number) c.put-3.new.self.items) c.key.ensures c.put-3.ensures)),
+  each_pushed c.self.inside.states.items c.push.new.self.items c.args.new c.push.ensures
+      (subst (λ (x : Numbered OpenState). (o : OpenState) → In o x.items → whose o ≢ whose c.args.new) (sym c.self.view_is) c.requires.owner) c.self.invariant.3,
 )

@@ -13,13 +13,20 @@ loop-open-smaller c = walk_bounds (table c.args.self.now) file_of c.args.file c.
     (sym c.next_open.ensures.found ∙ ap option_copied c.in-Some.is)
 
 pub loop-open-preserved : goal.loop-open-preserved
-loop-open-preserved c = any_misses (table c.args.self.now) file_of (λ o. (o.file == c.args.file) && o.deny.reads) c.args.file (reads_file c.args.file) c.next_open.ensures.kept c.loop-open.after c.in-Some.open.now
-    (sym c.next_open.ensures.found ∙ ap option_copied c.in-Some.is) (denied (table c.args.self.now) c.args.file c.loop-open.after c.in-Some.open.now c.in-Some.open.now.deny.reads false (sym c.next_open.ensures.found ∙ ap option_copied c.in-Some.is) (sym c.denies_reads.ensures ∙ c.if-denies_reads.false)) ∙ c.loop-open.invariant
+loop-open-preserved c = any_misses (table c.args.self.now) file_of (λ o. (o.file == c.args.file) && o.deny.reads) c.args.file (reads_file c.args.file)
+    c.next_open.ensures.kept c.loop-open.after c.in-Some.open.now
+    (sym c.next_open.ensures.found ∙ ap option_copied c.in-Some.is) (denied (table c.args.self.now) c.args.file c.loop-open.after c.in-Some.open.now
+    c.in-Some.open.now.deny.reads false (sym c.next_open.ensures.found ∙ ap option_copied c.in-Some.is) (sym c.denies_reads.ensures ∙
+    c.if-denies_reads.false)) ∙ c.loop-open.invariant
 
 pub returns-then-denies_reads : goal.returns-then-denies_reads
-returns-then-denies_reads c = sym (any_hits (table c.args.self.now) file_of (λ o. (o.file == c.args.file) && o.deny.reads) c.args.file (reads_file c.args.file) c.next_open.ensures.kept c.loop-open.after c.in-Some.open.now
-    (sym c.next_open.ensures.found ∙ ap option_copied c.in-Some.is) (denied (table c.args.self.now) c.args.file c.loop-open.after c.in-Some.open.now c.in-Some.open.now.deny.reads true (sym c.next_open.ensures.found ∙ ap option_copied c.in-Some.is) (sym c.denies_reads.ensures ∙ c.if-denies_reads.true)))
+returns-then-denies_reads c = sym (any_hits (table c.args.self.now) file_of (λ o. (o.file == c.args.file) && o.deny.reads) c.args.file
+    (reads_file c.args.file) c.next_open.ensures.kept c.loop-open.after c.in-Some.open.now
+    (sym c.next_open.ensures.found ∙ ap option_copied c.in-Some.is) (denied (table c.args.self.now) c.args.file c.loop-open.after c.in-Some.open.now
+    c.in-Some.open.now.deny.reads true (sym c.next_open.ensures.found ∙ ap option_copied c.in-Some.is) (sym c.denies_reads.ensures ∙
+    c.if-denies_reads.true)))
 
 pub returns : goal.returns
-returns c = sym (any_ends (table c.args.self.now) file_of (λ o. (o.file == c.args.file) && o.deny.reads) c.args.file (reads_file c.args.file) c.next_open.ensures.kept c.loop-open.after
+returns c = sym (any_ends (table c.args.self.now) file_of (λ o. (o.file == c.args.file) && o.deny.reads) c.args.file (reads_file c.args.file)
+    c.next_open.ensures.kept c.loop-open.after
     (sym c.next_open.ensures.found ∙ ap option_copied c.in_default.is)) ∙ c.loop-open.invariant

@@ -13,13 +13,20 @@ loop-open-smaller c = walk_bounds (table c.args.self.now) file_of c.args.file c.
     (sym c.next_open.ensures.found ∙ ap option_copied c.in-Some.is)
 
 pub loop-open-preserved : goal.loop-open-preserved
-loop-open-preserved c = any_misses (table c.args.self.now) file_of (λ o. (o.file == c.args.file) && o.deny.writes) c.args.file (writes_file c.args.file) c.next_open.ensures.kept c.loop-open.after c.in-Some.open.now
-    (sym c.next_open.ensures.found ∙ ap option_copied c.in-Some.is) (denied (table c.args.self.now) c.args.file c.loop-open.after c.in-Some.open.now c.in-Some.open.now.deny.writes false (sym c.next_open.ensures.found ∙ ap option_copied c.in-Some.is) (sym c.denies_writes.ensures ∙ c.if-denies_writes.false)) ∙ c.loop-open.invariant
+loop-open-preserved c = any_misses (table c.args.self.now) file_of (λ o. (o.file == c.args.file) && o.deny.writes) c.args.file
+    (writes_file c.args.file) c.next_open.ensures.kept c.loop-open.after c.in-Some.open.now
+    (sym c.next_open.ensures.found ∙ ap option_copied c.in-Some.is) (denied (table c.args.self.now) c.args.file c.loop-open.after c.in-Some.open.now
+    c.in-Some.open.now.deny.writes false (sym c.next_open.ensures.found ∙ ap option_copied c.in-Some.is) (sym c.denies_writes.ensures ∙
+    c.if-denies_writes.false)) ∙ c.loop-open.invariant
 
 pub returns-then-denies_writes : goal.returns-then-denies_writes
-returns-then-denies_writes c = sym (any_hits (table c.args.self.now) file_of (λ o. (o.file == c.args.file) && o.deny.writes) c.args.file (writes_file c.args.file) c.next_open.ensures.kept c.loop-open.after c.in-Some.open.now
-    (sym c.next_open.ensures.found ∙ ap option_copied c.in-Some.is) (denied (table c.args.self.now) c.args.file c.loop-open.after c.in-Some.open.now c.in-Some.open.now.deny.writes true (sym c.next_open.ensures.found ∙ ap option_copied c.in-Some.is) (sym c.denies_writes.ensures ∙ c.if-denies_writes.true)))
+returns-then-denies_writes c = sym (any_hits (table c.args.self.now) file_of (λ o. (o.file == c.args.file) && o.deny.writes) c.args.file
+    (writes_file c.args.file) c.next_open.ensures.kept c.loop-open.after c.in-Some.open.now
+    (sym c.next_open.ensures.found ∙ ap option_copied c.in-Some.is) (denied (table c.args.self.now) c.args.file c.loop-open.after c.in-Some.open.now
+    c.in-Some.open.now.deny.writes true (sym c.next_open.ensures.found ∙ ap option_copied c.in-Some.is) (sym c.denies_writes.ensures ∙
+    c.if-denies_writes.true)))
 
 pub returns : goal.returns
-returns c = sym (any_ends (table c.args.self.now) file_of (λ o. (o.file == c.args.file) && o.deny.writes) c.args.file (writes_file c.args.file) c.next_open.ensures.kept c.loop-open.after
+returns c = sym (any_ends (table c.args.self.now) file_of (λ o. (o.file == c.args.file) && o.deny.writes) c.args.file (writes_file c.args.file)
+    c.next_open.ensures.kept c.loop-open.after
     (sym c.next_open.ensures.found ∙ ap option_copied c.in_default.is)) ∙ c.loop-open.invariant

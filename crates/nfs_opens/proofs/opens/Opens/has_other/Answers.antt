@@ -13,13 +13,20 @@ loop-open-smaller c = walk_bounds (table c.args.self.now) file_of c.args.file c.
     (sym c.next_open.ensures.found ∙ ap option_copied c.in-Some.is)
 
 pub loop-open-preserved : goal.loop-open-preserved
-loop-open-preserved c = any_misses (table c.args.self.now) file_of (λ o. (o.file == c.args.file) && not (o.client == c.args.client)) c.args.file (others_file c.args.file c.args.client) c.next_open.ensures.kept c.loop-open.after c.in-Some.open.now
-    (sym c.next_open.ensures.found ∙ ap option_copied c.in-Some.is) (denied (table c.args.self.now) c.args.file c.loop-open.after c.in-Some.open.now (not (c.in-Some.open.now.client == c.args.client)) false (sym c.next_open.ensures.found ∙ ap option_copied c.in-Some.is) (sym c.is_others.ensures ∙ c.if-is_others.false)) ∙ c.loop-open.invariant
+loop-open-preserved c = any_misses (table c.args.self.now) file_of (λ o. (o.file == c.args.file) && not (o.client == c.args.client)) c.args.file
+    (others_file c.args.file c.args.client) c.next_open.ensures.kept c.loop-open.after c.in-Some.open.now
+    (sym c.next_open.ensures.found ∙ ap option_copied c.in-Some.is) (denied (table c.args.self.now) c.args.file c.loop-open.after c.in-Some.open.now
+    (not (c.in-Some.open.now.client == c.args.client)) false (sym c.next_open.ensures.found ∙ ap option_copied c.in-Some.is)
+    (sym c.is_others.ensures ∙ c.if-is_others.false)) ∙ c.loop-open.invariant
 
 pub returns-then-is_others : goal.returns-then-is_others
-returns-then-is_others c = sym (any_hits (table c.args.self.now) file_of (λ o. (o.file == c.args.file) && not (o.client == c.args.client)) c.args.file (others_file c.args.file c.args.client) c.next_open.ensures.kept c.loop-open.after c.in-Some.open.now
-    (sym c.next_open.ensures.found ∙ ap option_copied c.in-Some.is) (denied (table c.args.self.now) c.args.file c.loop-open.after c.in-Some.open.now (not (c.in-Some.open.now.client == c.args.client)) true (sym c.next_open.ensures.found ∙ ap option_copied c.in-Some.is) (sym c.is_others.ensures ∙ c.if-is_others.true)))
+returns-then-is_others c = sym (any_hits (table c.args.self.now) file_of (λ o. (o.file == c.args.file) && not (o.client == c.args.client)) c.args.file
+    (others_file c.args.file c.args.client) c.next_open.ensures.kept c.loop-open.after c.in-Some.open.now
+    (sym c.next_open.ensures.found ∙ ap option_copied c.in-Some.is) (denied (table c.args.self.now) c.args.file c.loop-open.after c.in-Some.open.now
+    (not (c.in-Some.open.now.client == c.args.client)) true (sym c.next_open.ensures.found ∙ ap option_copied c.in-Some.is) (sym c.is_others.ensures ∙
+    c.if-is_others.true)))
 
 pub returns : goal.returns
-returns c = sym (any_ends (table c.args.self.now) file_of (λ o. (o.file == c.args.file) && not (o.client == c.args.client)) c.args.file (others_file c.args.file c.args.client) c.next_open.ensures.kept c.loop-open.after
+returns c = sym (any_ends (table c.args.self.now) file_of (λ o. (o.file == c.args.file) && not (o.client == c.args.client)) c.args.file
+    (others_file c.args.file c.args.client) c.next_open.ensures.kept c.loop-open.after
     (sym c.next_open.ensures.found ∙ ap option_copied c.in_default.is)) ∙ c.loop-open.invariant

@@ -14,12 +14,15 @@ loop-lock-smaller c = lock_bounds (table c.args.self.now) c.owner_key-key.result
 
 pub loop-lock-preserved : goal.loop-lock-preserved
 loop-lock-preserved c = lock_misses (table c.args.self.now) (is_locker c.args.client c.args.owner.now c.args.file) c.owner_key-key.result
-    (locker_key c.args.client c.args.owner.now c.args.file c.owner_key-key.result c.owner_key-key.ensures) c.next_lock.ensures.kept c.loop-lock.after c.in-Some.lock.now
+    (locker_key c.args.client c.args.owner.now c.args.file c.owner_key-key.result c.owner_key-key.ensures) c.next_lock.ensures.kept c.loop-lock.after
+    c.in-Some.lock.now
     (sym c.next_lock.ensures.found ∙ ap option_copied c.in-Some.is) (sym c.is_lockers.ensures ∙ c.if-is_lockers.false) ∙ c.loop-lock.invariant
 
 pub returns-then-is_lockers-clause-found : goal.returns-then-is_lockers-clause-found
-returns-then-is_lockers-clause-found c = sym (lock_hits (table c.args.self.now) (is_locker c.args.client c.args.owner.now c.args.file) c.owner_key-key.result
-    (locker_key c.args.client c.args.owner.now c.args.file c.owner_key-key.result c.owner_key-key.ensures) c.next_lock.ensures.kept c.loop-lock.after c.in-Some.lock.now
+returns-then-is_lockers-clause-found c = sym (lock_hits (table c.args.self.now) (is_locker c.args.client c.args.owner.now c.args.file)
+    c.owner_key-key.result
+    (locker_key c.args.client c.args.owner.now c.args.file c.owner_key-key.result c.owner_key-key.ensures) c.next_lock.ensures.kept c.loop-lock.after
+    c.in-Some.lock.now
     (sym c.next_lock.ensures.found ∙ ap option_copied c.in-Some.is) (sym c.is_lockers.ensures ∙ c.if-is_lockers.true)) ∙ c.loop-lock.invariant
 
 pub returns-clause-found : goal.returns-clause-found

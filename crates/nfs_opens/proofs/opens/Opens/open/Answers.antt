@@ -1,4 +1,4 @@
-use Rattle.std.proofs.Common.{◌≡◌, Some, suc, ◌+◌, ◌++◌, ◌∷◌, [], List, sym, subst, ap, ◌∙◌, arith, refl, false}
+use Rattle.std.proofs.Common.{◌≡◌, ℕ, Some, None, suc, ◌+◌, ◌++◌, ◌∷◌, [], List, sym, subst, ap, ◌∙◌, arith, refl, false}
 use Rattle.std.specs.List.{list_any}
 use Rattle.std.specs.Option.{option_copied}
 use Rattle.std.proofs.lemmas.Grind.{common_steps}
@@ -15,6 +15,7 @@ use Rattle.nfs_opens.proofs.LockLemmas.{same_table}
 use Rattle.nfs_opens.proofs.TableLemmas.{table_opened}
 use Rattle.nfs_opens.proofs.StepLemmas.{table_join}
 use Rattle.nfs_opens.proofs.StepLemmas.{no_clash_asked}
+use Rattle.nfs_opens.proofs.SingleLemmas.{none_owned}
 use Rattle.nfs_opens.proofs.opens.Opens.open.Goals as goal
 
 pub invariant_of-self : goal.invariant_of-self
@@ -48,3 +49,10 @@ push-requires-clause-ready c = c.self.invariant.room (ap (λ (k : Kept). k.ready
 pub push-requires-clause-behind : goal.push-requires-clause-behind
 push-requires-clause-behind c = λ o there.
     let up = (in_bounds (λ (o : OpenState). o.number) 1 (suc c.self.inside.last) c.self.inside.opens.items o c.self.invariant.table.opens there).1 in omega arith
+
+pub push-requires-clause-owner : goal.push-requires-clause-owner
+push-requires-clause-owner c =
+    let none : own_open (table (the_view c.self.inside)) (asked c.args.ask.now) ≡ None =
+    ap (λ (k : Kept). own_open (table k) (asked c.args.ask.now)) c.self.view_is ∙ (sym c.own_open.ensures ∙ ap option_copied c.in-None.is) in
+    none_owned (asked c.args.ask.now) c.self.inside.opens.items _
+    (ap (λ (xs : List ℕ). (c.args.ask.now.file, c.args.ask.now.client, xs)) (c.ready.view_is ∙ c.requires.owner)) none
