@@ -139,6 +139,18 @@ impl OpenState {
         self.client != client
     }
 
+    pub(crate) fn may_read(&self) -> bool
+        ensures { result ≡ self.now.access.reads }
+    {
+        self.access.reads
+    }
+
+    pub(crate) fn may_write(&self) -> bool
+        ensures { result ≡ self.now.access.writes }
+    {
+        self.access.writes
+    }
+
     pub(crate) fn denies_reads(&self) -> bool
         ensures { result ≡ self.now.deny.reads }
     {
