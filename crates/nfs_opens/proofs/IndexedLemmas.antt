@@ -9,7 +9,7 @@ use Rattle.nfs_opens.specs.declared.index.Pair.{Pair}
 use Rattle.nfs_opens.specs.declared.records.OpenState.{OpenState}
 use Rattle.nfs_opens.specs.Index.{IsIndex}
 use Rattle.nfs_opens.specs.Keys.{owner_key, open_key}
-use Rattle.nfs_opens.specs.Table.{Table, Asked, is_own, clashes_with}
+use Rattle.nfs_opens.specs.Table.{Table, Asked, is_own}
 use Rattle.nfs_opens.specs.Kept.{IsTable}
 use Rattle.nfs_opens.proofs.ShareLemmas.{own_is}
 use Rattle.nfs_opens.proofs.IndexLemmas.{index_changed, find_begun, any_begun, find_done, any_done, find_hit, find_missed, any_missed, come_bounds}
@@ -43,15 +43,6 @@ own_key a k is o e =
     let (file, client, owner) = own_is a o e in
     ap (λ (n : ℕ). owner_key n o.client o.owner) file
     ∙ (ap (λ (n : ℕ). owner_key a.file n o.owner) client ∙ (ap (λ (xs : List ℕ). owner_key a.file a.client xs) owner ∙ sym is))
-
-pub clash_file : (a : Asked) → Belongs file_of a.file (clashes_with a)
-clash_file a o e = eqb-true o.file a.file (and_parts (o.file == a.file) _ e).0
-
-pub reads_file : (file : ℕ) → Belongs file_of file (λ o. (o.file == file) && o.deny.reads)
-reads_file file o e = eqb-true o.file file (and_parts (o.file == file) o.deny.reads e).0
-
-pub writes_file : (file : ℕ) → Belongs file_of file (λ o. (o.file == file) && o.deny.writes)
-writes_file file o e = eqb-true o.file file (and_parts (o.file == file) o.deny.writes e).0
 
 pub others_file : (file client : ℕ) → Belongs file_of file (λ o. (o.file == file) && not (o.client == client))
 others_file file client o e = eqb-true o.file file (and_parts (o.file == file) (not (o.client == client)) e).0
@@ -98,8 +89,8 @@ pub copied_some : {X : Type 0} (o : Option (Bor X)) → is_some o ≡ is_some (o
 copied_some None = refl
 copied_some (Some x) = refl
 
--- what a file's open denies
-pub denied : (t : Table) (file after : ℕ) (o : OpenState) (denies b : Bool) → find (Behind file_of file after) t.opens ≡ Some o → denies ≡ b
-    → ((o.file == file) && denies) ≡ b
-denied t file after o denies b found is =
+-- what is said of an open of a file
+pub said_of : (t : Table) (file after : ℕ) (o : OpenState) (says b : Bool) → find (Behind file_of file after) t.opens ≡ Some o → says ≡ b
+    → ((o.file == file) && says) ≡ b
+said_of t file after o says b found is =
     let here : (o.file == file) ≡ true = (and_parts (o.file == file) (nat_lt after o.number) (find_in (Behind file_of file after) t.opens o found).1).0 in rw here is

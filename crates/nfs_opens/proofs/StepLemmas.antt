@@ -15,7 +15,7 @@ use Rattle.nfs_opens.specs.declared.records.LockState.{LockState}
 use Rattle.nfs_opens.specs.declared.locking.Wish.{Wish}
 use Rattle.nfs_opens.specs.declared.locking.OpenFault.{OpenFault}
 use Rattle.nfs_opens.specs.declared.locking.OpenFault.TheVariants.{Refused}
-use Rattle.nfs_xdr.specs.declared.status.Status.TheVariants.{OpenMode, ShareDenied, Inval}
+use Rattle.nfs_xdr.specs.declared.status.Status.TheVariants.{OpenMode, ShareDenied, ServerFault, Inval}
 use Rattle.nfs_xdr.specs.declared.status.Status.{Status}
 use Rattle.nfs_xdr.proofs.Lists.{find_in, in_push, push_in, last_in}
 use Rattle.nfs_xdr.proofs.Tables.{IsRising-push, in_once, IsRising-upto, in_bounds}
@@ -202,6 +202,12 @@ whole_on_file held file n first last within from to = fun_ext (λ f. elim (cases
 pub no_clash_asked : (v : Bool) (rest : Option Status) → cond v (Some ShareDenied) rest ≡ None → v ≡ false
 no_clash_asked true rest e = absurd cc
 no_clash_asked false rest e = refl
+
+pub number_left : (v none last : Bool) → cond v (Some ShareDenied) (cond (none && last) (Some ServerFault) None) ≡ None → none ≡ true → last ≡ false
+number_left true none last e f = absurd cc
+number_left false true true e f = absurd cc
+number_left false true false e f = refl
+number_left false false last e f = absurd cc
 
 pub narrow_done : (t : Table) (n : ℕ) (access deny : Share) (o : OpenState) → is_narrower access deny o ≡ true
     → narrow_open t n access deny

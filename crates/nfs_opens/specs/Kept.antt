@@ -7,6 +7,8 @@ use Rattle.nfs_opens.specs.Table.{Kept, Table, table, clashes_with, as_asked}
 use Rattle.nfs_opens.specs.declared.records.OpenState.{OpenState}
 use Rattle.nfs_opens.specs.declared.records.LockState.{LockState}
 use Rattle.nfs_opens.specs.declared.index.Pair.{Pair}
+use Rattle.nfs_opens.specs.declared.counts.Counts.{Counts}
+use Rattle.nfs_opens.specs.Counts.{AreCounted}
 use Rattle.nfs_opens.specs.Index.{IsIndex}
 use Rattle.nfs_opens.specs.Keys.{open_key, lock_key}
 use Rattle.nfs_opens.specs.Holding.{FileHolders, HasNoClash}
@@ -43,13 +45,14 @@ whose o = (o.file, o.client, o.owner)
 abbrev pub HasOneEach : List OpenState → Type 0
 HasOneEach opens = (a b : OpenState) → In a opens → In b opens → whose a ≡ whose b → a ≡ b
 
--- all opens, and their indexes by file, by client and by the key of the owner
-abbrev pub AreOpens : List OpenState → List Pair → List Pair → List Pair → Type 0
-AreOpens opens by_file by_client by_owner =
+-- all opens, their indexes by file, by client and by the key of the owner, and the counts of those of each file
+abbrev pub AreOpens : List OpenState → List Pair → List Pair → List Pair → Counts → Type 0
+AreOpens opens by_file by_client by_owner counts =
     IsIndex (λ o. o.file) (λ o. o.number) opens by_file
     × IsIndex (λ o. o.client) (λ o. o.number) opens by_client
     × IsIndex open_key (λ o. o.number) opens by_owner
     × HasOneEach opens
+    × AreCounted opens counts
 
 -- all lock states, and their indexes by file, by open and by the key of the owner
 abbrev pub AreLocks : List LockState → List Pair → List Pair → List Pair → Type 0

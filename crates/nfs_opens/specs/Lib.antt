@@ -1,6 +1,7 @@
 pub mod Blocks
 pub mod ByNumber
 pub mod Closing
+pub mod Counts
 pub mod Flat
 pub mod Holding
 pub mod Index

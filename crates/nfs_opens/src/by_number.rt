@@ -11,7 +11,9 @@ ghost use Rattle.nfs_opens.specs.Locking.{raised};
 ghost use Rattle.nfs_opens.specs.Calls.{asked, held_without};
 ghost use Rattle.nfs_opens.specs.Holding.{held_by};
 ghost use Rattle.nfs_opens.specs.Kept.{Rises};
+ghost use Rattle.nfs_opens.specs.Counts.{count_at, has_room, uncounted};
 
+use crate::counts::Counts;
 use crate::locked_files::LockedFiles;
 use crate::opening::Ask;
 use crate::records::{LockState, OpenState, State};
@@ -188,6 +190,28 @@ fn drop_bytes_in(files: &mut LockedFiles, blocks: &[StateBlock<LockState>], clie
     }
 }
 
+/// The opens of a client that stand here are counted no longer.
+fn uncount(counts: &mut Counts, opens: &[OpenState], client: u64)
+    ensures counts { (f : ℕ) → count_at counts.new f ≡ uncounted (λ o. o.client == client) f opens.now (count_at counts.old f) }
+    ensures room { has_room counts.old ≡ true → has_room counts.new ≡ true }
+{
+    for open in opens {
+        if open.client == client {
+            counts.take(open.file, open.reserved());
+        }
+    }
+}
+
+/// The opens of a client in these blocks are counted no longer.
+fn uncount_in(counts: &mut Counts, blocks: &[StateBlock<OpenState>], client: u64)
+    ensures counts { (f : ℕ) → count_at counts.new f ≡ uncounted (λ o. o.client == client) f (flat blocks.now) (count_at counts.old f) }
+    ensures room { has_room counts.old ≡ true → has_room counts.new ≡ true }
+{
+    for block in blocks {
+        uncount(counts, &block.states, client);
+    }
+}
+
 /// All opens or all lock states in rising order of their numbers. One more may come while a block is spare.
 #[derive(Drop)]
 pub(crate) struct ByNumber<T: State> {
@@ -353,6 +377,14 @@ impl ByNumber<OpenState> {
         if place < self.blocks.len() {
             self.blocks[place].narrow(number, access, deny);
         }
+    }
+
+    /// A client's opens are counted no longer.
+    pub(crate) fn uncount(&self, counts: &mut Counts, client: u64)
+        ensures counts { (f : ℕ) → count_at counts.new f ≡ uncounted (λ o. o.client == client) f self.now.items (count_at counts.old f) }
+        ensures room { has_room counts.old ≡ true → has_room counts.new ≡ true }
+    {
+        uncount_in(counts, &self.blocks, client);
     }
 }
 

@@ -16,6 +16,7 @@
 mod blocks;
 mod by_number;
 mod closing;
+mod counts;
 mod index;
 mod judging;
 mod key;

@@ -1,6 +1,6 @@
 //! All opens.
 
-ghost use Rattle.std.specs.Prelude.{◌≡◌, ◌≢◌, ◌==◌, ◌&&◌, ◌<◌, ◌++◌, ◌∷◌, [], true, not, find, filter, map, nat_lt, if◌then◌else◌, OnOk};
+ghost use Rattle.std.specs.Prelude.{◌≡◌, ◌≢◌, ◌==◌, ◌&&◌, ◌<◌, ◌≤◌, ◌++◌, ◌∷◌, [], true, not, length, find, filter, map, nat_lt, if◌then◌else◌, OnOk};
 ghost use Rattle.std.specs.Option.{option_copied};
 ghost use Rattle.nfs_xdr.specs.Tables.{In};
 ghost use Rattle.nfs_opens.specs.Index.{IsIndex, marked};
@@ -8,10 +8,13 @@ ghost use Rattle.nfs_opens.specs.Kept.{HasOneEach, whose};
 ghost use Rattle.nfs_opens.specs.Keys.{open_key};
 ghost use Rattle.nfs_opens.specs.Opening.{joins, narrows};
 ghost use Rattle.nfs_opens.specs.Calls.{asked};
+ghost use Rattle.nfs_opens.specs.Counts.{AreCounted, count_of, has_room};
+ghost use Rattle.nfs_opens.specs.StateId.{last_number};
 
 use crate::blocks::Index;
 use crate::by_number::ByNumber;
 use crate::closing::Going;
+use crate::counts::{Count, Counts, Reservation};
 use crate::index::Pair;
 use crate::opening::Ask;
 use crate::records::OpenState;
@@ -29,19 +32,22 @@ pub(crate) struct OpenStates {
     by_client: Index,
     /// The opens by the keys of their owners on their files.
     by_owner: Index,
+    /// What the opens of each file have and deny.
+    counts: Counts,
 }
 
 impl Model for OpenStates {
     ghost use Rattle.std.specs.Prelude.{◌&&◌};
     ghost use Rattle.nfs_opens.specs.ByNumber.{Numbered};
     ghost use Rattle.nfs_opens.specs.Kept.{AreOpens};
+    ghost use Rattle.nfs_opens.specs.Counts.{has_room};
     ghost use Rattle.nfs_opens.specs.declared.records.OpenState.{OpenState};
 
     ghost Value = { Numbered OpenState };
 
-    ghost view = { λ s. record { items = s.states.items; ready = s.states.ready && (s.by_file.ready && (s.by_client.ready && s.by_owner.ready)) } };
+    ghost view = { λ s. record { items = s.states.items; ready = s.states.ready && (s.by_file.ready && (s.by_client.ready && (s.by_owner.ready && has_room s.counts))) } };
 
-    ghost invariant = { λ s. AreOpens s.states.items s.by_file.items s.by_client.items s.by_owner.items };
+    ghost invariant = { λ s. AreOpens s.states.items s.by_file.items s.by_client.items s.by_owner.items s.counts };
 }
 
 /// An open no longer stands among those of its file.
@@ -89,6 +95,53 @@ fn drop_owner_pair(by_owner: &mut Index, states: &ByNumber<OpenState>, number: u
     }
 }
 
+/// An open that goes is counted no longer.
+fn uncount(counts: &mut Counts, states: &ByNumber<OpenState>, number: u64)
+    requires { AreCounted states.now.items counts.old }
+    ensures counted { AreCounted (filter (λ o. not (o.number == number)) states.now.items) counts.new }
+    ensures room { has_room counts.old ≡ true → has_room counts.new ≡ true }
+{
+    states.kept();
+    if let Some(open) = states.get(number) {
+        counts.take(open.file, open.reserved());
+    }
+}
+
+/// An open that is joined by what is asked is counted with that.
+fn count_joined(counts: &mut Counts, states: &ByNumber<OpenState>, number: u64, ask: &Ask)
+    requires counted { AreCounted states.now.items counts.old }
+    requires few { length states.now.items ≤ last_number }
+    ensures counted { AreCounted (map (λ o. if o.number == number then joins (asked ask.now) o else o) states.now.items) counts.new }
+    ensures room { has_room counts.new ≡ has_room counts.old }
+{
+    states.kept();
+    if let Some(open) = states.get(number) {
+        let joined = Reservation {
+            access: open.access.joined(ask.access),
+            deny: open.deny.joined(ask.deny),
+        };
+        counts.change(open.file, open.reserved(), joined);
+    }
+}
+
+/// An open that is narrowed is counted with what it still has and denies.
+fn count_narrowed(
+    counts: &mut Counts,
+    states: &ByNumber<OpenState>,
+    number: u64,
+    narrower: Reservation,
+)
+    requires counted { AreCounted states.now.items counts.old }
+    requires few { length states.now.items ≤ last_number }
+    ensures counted { AreCounted (map (λ o. if o.number == number then narrows narrower.access narrower.deny o else o) states.now.items) counts.new }
+    ensures room { has_room counts.new ≡ has_room counts.old }
+{
+    states.kept();
+    if let Some(open) = states.get(number) {
+        counts.change(open.file, open.reserved(), narrower);
+    }
+}
+
 /// The pairs of a client's opens go.
 fn drop_pairs(pairs: &mut Index, states: &ByNumber<OpenState>, client: u64)
     ensures items { pairs.new.items ≡ filter (λ p. not (marked (λ o. o.number) (λ o. o.client == client) states.now.items p.number)) pairs.old.items }
@@ -107,6 +160,7 @@ impl OpenStates {
             by_file: Index::new(alloc),
             by_client: Index::new(alloc),
             by_owner: Index::new(alloc),
+            counts: Counts::new(alloc),
         }
     }
 
@@ -157,6 +211,13 @@ impl OpenStates {
         }
     }
 
+    /// What the opens of a file have and deny.
+    pub(crate) fn count_on(&self, file: u64) -> Count
+        ensures { result ≡ count_of (λ o. o.file == file) self.now.items }
+    {
+        self.counts.of(file)
+    }
+
     /// Room for one more open.
     pub(crate) fn reserve(&mut self, alloc: Global) -> Result<(), AllocError>
         ensures items { self.new.items ≡ self.old.items }
@@ -166,7 +227,8 @@ impl OpenStates {
         self.states.reserve(alloc)?;
         self.by_file.reserve(alloc)?;
         self.by_client.reserve(alloc)?;
-        self.by_owner.reserve(alloc)
+        self.by_owner.reserve(alloc)?;
+        self.counts.reserve()
     }
 
     /// An open comes behind all others: its owner has none of the file. It takes no memory.
@@ -175,6 +237,7 @@ impl OpenStates {
         requires behind { (o : OpenState) → In o self.old.items → o.number < new.number }
         requires first { 0 < new.number }
         requires owner { (o : OpenState) → In o self.old.items → whose o ≢ whose new }
+        requires few { length self.old.items < last_number }
         ensures { self.new.items ≡ self.old.items ++ new ∷ [] }
     {
         self.by_file.put(Pair {
@@ -189,45 +252,53 @@ impl OpenStates {
             of: new.key(),
             number: new.number,
         });
+        self.counts.add(new.file, new.reserved());
         self.states.push(new);
     }
 
     /// What is asked joins the open of a number.
     pub(crate) fn join(&mut self, number: u64, ask: &Ask)
+        requires few { length self.old.items ≤ last_number }
         ensures items { self.new.items ≡ map (λ o. if o.number == number then joins (asked ask.now) o else o) self.old.items }
         ensures ready { self.new.ready ≡ self.old.ready }
     {
+        count_joined(&mut self.counts, &self.states, number, ask);
         self.states.join(number, ask);
     }
 
     /// The open of a number has this access and denies this from now on.
     pub(crate) fn narrow(&mut self, number: u64, access: Share, deny: Share)
+        requires few { length self.old.items ≤ last_number }
         ensures items { self.new.items ≡ map (λ o. if o.number == number then narrows access deny o else o) self.old.items }
         ensures ready { self.new.ready ≡ self.old.ready }
     {
+        let narrower = Reservation { access, deny };
+        count_narrowed(&mut self.counts, &self.states, number, narrower);
         self.states.narrow(number, access, deny);
     }
 
     /// The open of a number goes.
     pub(crate) fn remove(&mut self, number: u64)
         ensures items { self.new.items ≡ filter (λ o. not (o.number == number)) self.old.items }
-        ensures ready { self.new.ready ≡ self.old.ready }
+        ensures ready { self.old.ready ≡ true → self.new.ready ≡ true }
     {
         drop_pair(&mut self.by_file, &self.states, number);
         drop_own_pair(&mut self.by_client, &self.states, number);
         drop_owner_pair(&mut self.by_owner, &self.states, number);
+        uncount(&mut self.counts, &self.states, number);
         self.states.remove(number);
     }
 
     /// The opens of a client go.
     pub(crate) fn drop_client(&mut self, client: u64)
         ensures items { self.new.items ≡ filter (λ o. not (o.client == client)) self.old.items }
-        ensures ready { self.new.ready ≡ self.old.ready }
+        ensures ready { self.old.ready ≡ true → self.new.ready ≡ true }
     {
         self.states.kept();
         drop_pairs(&mut self.by_file, &self.states, client);
         self.by_client.keep(Going::Owned(client));
         drop_pairs(&mut self.by_owner, &self.states, client);
+        self.states.uncount(&mut self.counts, client);
         self.states.drop_client(client);
     }
 }

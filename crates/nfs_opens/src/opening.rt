@@ -1,14 +1,16 @@
 //! OPEN and OPEN_DOWNGRADE as far as they concern opens (RFC 8881 sections 18.16 and 18.18).
 
-ghost use Rattle.std.specs.Prelude.{◌≡◌, ◌==◌, ◌+◌, ◌<◌, true, None, IfOk, OnOk, OnErr, map, find, is_some};
+ghost use Rattle.std.specs.Prelude.{◌≡◌, ◌==◌, ◌&&◌, ◌+◌, ◌<◌, not, true, None, IfOk, OnOk, OnErr, map, find, is_some};
 ghost use Rattle.std.specs.Option.{option_copied};
 ghost use Rattle.std.specs.List.{list_any};
 ghost use Rattle.nfs_xdr.specs.Checks.{judged};
-ghost use Rattle.nfs_opens.specs.Table.{table, clashes_with};
+ghost use Rattle.nfs_opens.specs.Table.{table, is_owners, clashes_with};
+ghost use Rattle.nfs_opens.specs.Counts.{count_of};
 ghost use Rattle.nfs_opens.specs.Kept.{IsTable};
 ghost use Rattle.nfs_opens.specs.Opening.{opens, own_open, downgrade};
 ghost use Rattle.nfs_opens.specs.Calls.{asked, open_fault};
 
+use crate::counts::Count;
 use crate::judging::Sort;
 use crate::key::owner_key;
 use crate::opens::Opens;
@@ -66,25 +68,27 @@ impl Opens {
         None
     }
 
-    /// Whether an open of another owner stands against what is asked.
-    ///
-    /// No two opens clash. So where one covers what is asked, and does not stand against it, none does.
-    fn has_clash(&self, ask: &Ask) -> bool
-        ensures { result ≡ list_any (clashes_with (asked ask.now)) (table self.now).opens }
+    /// What other owners have and deny of the file.
+    fn others_on(&self, ask: &Ask) -> Count
+        ensures { result ≡ count_of (λ o. (o.file == ask.now.file) && not (is_owners (asked ask.now) o)) (table self.now).opens }
     {
         self.opens.single();
         self.kept();
-        let mut after = 0;
-        while let Some(open) = self.next_open(ask.file, after) {
-            if open.clashes_with(ask) {
-                return true;
-            }
-            if open.covers(ask) {
-                return false;
-            }
-            after = open.number;
+        let all = self.opens.count_on(ask.file);
+        match self.own_open(ask) {
+            Some(own) => all.without(own.reserved()),
+            None => all,
         }
-        false
+    }
+
+    /// Whether an open of another owner stands against what is asked.
+    fn has_clash(&self, ask: &Ask) -> bool
+        ensures { result ≡ list_any (clashes_with (asked ask.now)) (table self.now).opens }
+    {
+        let others = self.others_on(ask);
+        let is_denied = ask.access.meets(others.denied());
+        let denies = ask.deny.meets(others.had());
+        is_denied || denies
     }
 
     /// Whether `open` may be called; changes nothing.
@@ -98,7 +102,7 @@ impl Opens {
         if self.has_clash(ask) {
             return Err(Status::ShareDenied);
         }
-        if self.own_open(ask).is_none() && self.last == u64::MAX {
+        if self.last == u64::MAX && self.own_open(ask).is_none() {
             return Err(Status::ServerFault);
         }
         Ok(())

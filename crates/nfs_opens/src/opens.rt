@@ -140,51 +140,12 @@ impl Opens {
         false
     }
 
-    /// What the opens of a file deny, joined. Beside an open that may read, no other denies it: they would clash.
+    /// What the opens of a file deny, joined.
     pub fn denies(&self, file: u64) -> Share
         ensures reads { result.reads ≡ list_any (λ o. (o.file == file) && o.deny.reads) (table self.now).opens }
         ensures writes { result.writes ≡ list_any (λ o. (o.file == file) && o.deny.writes) (table self.now).opens }
     {
-        Share {
-            reads: self.denies_reads(file),
-            writes: self.denies_writes(file),
-        }
-    }
-
-    fn denies_reads(&self, file: u64) -> bool
-        ensures { result ≡ list_any (λ o. (o.file == file) && o.deny.reads) (table self.now).opens }
-    {
-        self.opens.single();
-        self.kept();
-        let mut after = 0;
-        while let Some(open) = self.next_open(file, after) {
-            if open.denies_reads() {
-                return true;
-            }
-            if open.may_read() {
-                return false;
-            }
-            after = open.number;
-        }
-        false
-    }
-
-    fn denies_writes(&self, file: u64) -> bool
-        ensures { result ≡ list_any (λ o. (o.file == file) && o.deny.writes) (table self.now).opens }
-    {
-        self.opens.single();
-        self.kept();
-        let mut after = 0;
-        while let Some(open) = self.next_open(file, after) {
-            if open.denies_writes() {
-                return true;
-            }
-            if open.may_write() {
-                return false;
-            }
-            after = open.number;
-        }
-        false
+        self.opens.count_on(file).denied()
     }
 
     /// Whether a client has an open.

@@ -7,7 +7,9 @@ ghost use Rattle.nfs_opens.specs.Opening.{joins, narrows, is_narrower};
 ghost use Rattle.nfs_opens.specs.Calls.{asked};
 ghost use Rattle.nfs_opens.specs.Locking.{is_locker, raised};
 ghost use Rattle.nfs_opens.specs.Keys.{open_key, lock_key};
+ghost use Rattle.nfs_opens.specs.Counts.{reserved};
 
+use crate::counts::Reservation;
 use crate::key::owner_key;
 use crate::opening::Ask;
 use crate::owner::Owner;
@@ -103,6 +105,16 @@ impl OpenState {
         owner_key(self.file, self.client, self.owner.bytes())
     }
 
+    /// What it has and denies.
+    pub(crate) fn reserved(&self) -> Reservation
+        ensures { result ≡ reserved self.now }
+    {
+        Reservation {
+            access: self.access,
+            deny: self.deny,
+        }
+    }
+
     fn is_owners(&self, ask: &Ask) -> bool
         ensures { result ≡ is_owners (asked ask.now) self.now }
     {
@@ -116,51 +128,11 @@ impl OpenState {
         self.file == ask.file && self.is_owners(ask)
     }
 
-    /// Whether this open of another owner stands against what is asked.
-    pub(crate) fn clashes_with(&self, ask: &Ask) -> bool
-        ensures { result ≡ clashes_with (asked ask.now) self.now }
-    {
-        self.file == ask.file
-            && !self.is_owners(ask)
-            && (ask.access.meets(self.deny) || ask.deny.meets(self.access))
-    }
-
-    /// Whether it may do all that is asked for, and denies all that is to be denied.
-    pub(crate) fn covers(&self, ask: &Ask) -> bool
-        ensures { result ≡ (is_part ask.now.access self.now.access && is_part ask.now.deny self.now.deny) }
-    {
-        ask.access.is_part(self.access) && ask.deny.is_part(self.deny)
-    }
-
     /// Whether it is not this client's.
     pub(crate) fn is_others(&self, client: u64) -> bool
         ensures { result ≡ not (self.now.client == client) }
     {
         self.client != client
-    }
-
-    pub(crate) fn may_read(&self) -> bool
-        ensures { result ≡ self.now.access.reads }
-    {
-        self.access.reads
-    }
-
-    pub(crate) fn may_write(&self) -> bool
-        ensures { result ≡ self.now.access.writes }
-    {
-        self.access.writes
-    }
-
-    pub(crate) fn denies_reads(&self) -> bool
-        ensures { result ≡ self.now.deny.reads }
-    {
-        self.deny.reads
-    }
-
-    pub(crate) fn denies_writes(&self) -> bool
-        ensures { result ≡ self.now.deny.writes }
-    {
-        self.deny.writes
     }
 
     pub(crate) fn join(&mut self, ask: &Ask)

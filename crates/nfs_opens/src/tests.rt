@@ -119,6 +119,26 @@ fn a_downgrade_narrows(rt: HostRuntime) -> Result<(), Fail> {
 }
 
 #[test]
+fn a_share_stands_until_it_is_given_up(rt: HostRuntime) -> Result<(), Fail> {
+    let mut opens = Opens::new(rt.alloc(), 7);
+    let denied = Err(OpenFault::Refused(Status::ShareDenied));
+    for (client, access, deny, want) in [(A, 1, 2, Ok(id(1, 1))), (B, 2, 0, denied)] {
+        let got = open_file(&mut opens, rt.alloc(), &ask(client, access, deny));
+        assert_eq!(rt; got, want, "{client} opens while writing is denied");
+    }
+    let narrower = opens.downgrade(id(0, 1), A, FILE, share(1), share(0));
+    assert_eq!(rt; narrower, Ok(id(2, 1)));
+    for (client, access, deny, want) in [(B, 2, 0, Ok(id(1, 2))), (A, 1, 2, denied)] {
+        let got = open_file(&mut opens, rt.alloc(), &ask(client, access, deny));
+        assert_eq!(rt; got, want, "{client} opens while it is not");
+    }
+    assert_eq!(rt; opens.close(id(1, 2), B, FILE), Ok(()));
+    let again = open_file(&mut opens, rt.alloc(), &ask(A, 1, 2));
+    assert_eq!(rt; (again, opens.denies(FILE)), (Ok(id(3, 1)), share(2)));
+    Ok(())
+}
+
+#[test]
 fn stateids(rt: HostRuntime) -> Result<(), Fail> {
     let mut opens = Opens::new(rt.alloc(), 7);
     let _ = open_file(&mut opens, rt.alloc(), &ask(A, 1, 0));

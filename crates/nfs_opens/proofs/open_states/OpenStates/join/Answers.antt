@@ -1,4 +1,6 @@
-use Rattle.std.proofs.Common.{refl}
+use Rattle.std.proofs.Common.{refl, List, sym, subst}
+use Rattle.nfs_opens.specs.declared.records.OpenState.{OpenState}
+use Rattle.nfs_opens.specs.Counts.{AreCounted}
 use Rattle.nfs_opens.specs.Opening.{joins}
 use Rattle.nfs_opens.specs.Calls.{asked}
 use Rattle.nfs_opens.specs.Keys.{open_key}
@@ -19,4 +21,5 @@ invariant_of-self c = (
       (λ o. refl) (λ o. refl) c.self.invariant.2,
   each_changed (joins (asked c.args.ask.now)) c.args.number c.self.inside.states.items c.join.new.self.items c.join.ensures.items (λ o. refl)
       c.self.invariant.3,
+  subst (λ (os : List OpenState). AreCounted os c.count_joined.new.counts) (sym c.join.ensures.items) c.count_joined.ensures.counted,
 )

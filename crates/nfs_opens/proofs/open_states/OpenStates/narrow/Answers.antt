@@ -1,4 +1,6 @@
-use Rattle.std.proofs.Common.{refl}
+use Rattle.std.proofs.Common.{refl, List, sym, subst}
+use Rattle.nfs_opens.specs.declared.records.OpenState.{OpenState}
+use Rattle.nfs_opens.specs.Counts.{AreCounted}
 use Rattle.nfs_opens.specs.Opening.{narrows}
 use Rattle.nfs_opens.specs.Keys.{open_key}
 use Rattle.nfs_opens.proofs.IndexedLemmas.{opens_changed}
@@ -18,4 +20,5 @@ invariant_of-self c = (
       (λ o. refl) (λ o. refl) c.self.invariant.2,
   each_changed (narrows c.args.access c.args.deny) c.args.number c.self.inside.states.items c.narrow.new.self.items c.narrow.ensures.items (λ o. refl)
       c.self.invariant.3,
+  subst (λ (os : List OpenState). AreCounted os c.count_narrowed.new.counts) (sym c.narrow.ensures.items) c.count_narrowed.ensures.counted,
 )

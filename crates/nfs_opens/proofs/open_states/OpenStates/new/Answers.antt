@@ -4,6 +4,7 @@ use Rattle.nfs_opens.specs.declared.records.OpenState.{OpenState}
 use Rattle.nfs_opens.specs.Index.{IsIndex}
 use Rattle.nfs_opens.specs.Keys.{open_key}
 use Rattle.nfs_opens.specs.Kept.{HasOneEach}
+use Rattle.nfs_opens.specs.Counts.{AreCounted}
 use Rattle.nfs_opens.proofs.IndexLemmas.{index_none}
 use Rattle.nfs_opens.proofs.SingleLemmas.{each_none}
 use Rattle.nfs_opens.proofs.open_states.OpenStates.new.Goals as goal
@@ -15,4 +16,5 @@ invariant_of-result c =
       subst (λ (ps : List Pair). IsIndex (λ (o : OpenState). o.client) (λ o. o.number) c.new.result.items ps) (sym c.new-3.ensures) (none (λ o. o.client)),
       subst (λ (ps : List Pair). IsIndex open_key (λ o. o.number) c.new.result.items ps) (sym c.new-4.ensures) (none open_key),
       subst HasOneEach (sym c.new.ensures) each_none,
+      subst (λ (os : List OpenState). AreCounted os c.new-5.result) (sym c.new.ensures) c.new-5.ensures,
     )

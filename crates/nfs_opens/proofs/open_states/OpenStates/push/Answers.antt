@@ -1,10 +1,14 @@
-use Rattle.std.proofs.Common.{ℕ, ◌≢◌, ◌<◌, List, sym, subst}
+use Rattle.std.proofs.Common.{ℕ, ◌≢◌, ◌<◌, List, length, sym, subst}
 use Rattle.nfs_xdr.specs.Tables.{In}
 use Rattle.nfs_opens.specs.declared.records.OpenState.{OpenState}
 use Rattle.nfs_opens.specs.ByNumber.{Numbered}
 use Rattle.nfs_opens.specs.Index.{IsIndex, HasPut}
 use Rattle.nfs_opens.specs.Keys.{open_key}
 use Rattle.nfs_opens.specs.Kept.{whose}
+use Rattle.nfs_opens.specs.Counts.{AreCounted, CountsAnew, count_at, with_one}
+use Rattle.nfs_opens.specs.StateId.{last_number}
+use Rattle.nfs_opens.specs.declared.counts.Reservation.{Reservation}
+use Rattle.nfs_opens.proofs.CountedLemmas.{counted_pushed}
 use Rattle.nfs_opens.proofs.SingleLemmas.{each_pushed}
 use Rattle.nfs_opens.proofs.IndexLemmas.{pair_of, index_put, index_apart}
 use Rattle.nfs_opens.proofs.open_states.OpenStates.push.Goals as goal
@@ -37,4 +41,9 @@ invariant_of-self c = (
       (subst (λ (k : ℕ). HasPut c.self.inside.by_owner.items (pair_of k c.args.new.number) c.put-3.new.self.items) c.key.ensures c.put-3.ensures)),
   each_pushed c.self.inside.states.items c.push.new.self.items c.args.new c.push.ensures
       (subst (λ (x : Numbered OpenState). (o : OpenState) → In o x.items → whose o ≢ whose c.args.new) (sym c.self.view_is) c.requires.owner) c.self.invariant.3,
+  subst (λ (os : List OpenState). AreCounted os c.add.new.self) (sym c.push.ensures)
+      (counted_pushed c.self.inside.states.items c.self.inside.counts c.add.new.self c.args.new
+      (subst (λ (x : Numbered OpenState). length x.items < last_number) (sym c.self.view_is) c.requires.few) c.self.invariant.4
+      (subst (λ (r : Reservation). CountsAnew c.self.inside.counts c.add.new.self c.args.new.file (with_one r (count_at c.self.inside.counts c.args.new.file)))
+      c.reserved.ensures c.add.ensures)),
 )

@@ -1,4 +1,4 @@
-use Rattle.std.proofs.Common.{◌≡◌, Option, Some, None, ℕ, sym, subst, ap, ◌∙◌, refl, false, true}
+use Rattle.std.proofs.Common.{◌≡◌, Option, Some, None, ℕ, suc, sym, subst, ap, ◌∙◌, refl, false, true, arith}
 use Rattle.std.specs.Prelude.{Ok, Err}
 use Rattle.std.specs.Option.{option_copied}
 use Rattle.nfs_xdr.specs.declared.status.Status.{Status}
@@ -11,6 +11,7 @@ use Rattle.nfs_opens.specs.StateId.{next_seqid}
 use Rattle.nfs_opens.specs.Table.{Kept, Did, with_open, table, open_at}
 use Rattle.nfs_opens.specs.Kept.{IsTable}
 use Rattle.nfs_opens.specs.Opening.{downgrade, downgrade_by, narrow_open, narrows}
+use Rattle.nfs_opens.proofs.CountLemmas.{rising_few}
 use Rattle.nfs_opens.proofs.LockLemmas.{same_table}
 use Rattle.nfs_opens.proofs.StepLemmas.{narrow_done, narrow_refused, table_narrow}
 use Rattle.nfs_opens.proofs.opens.Opens.downgrade.Goals as goal
@@ -92,3 +93,8 @@ returns-clause-after c =
     let at = goal.at.returns-clause-after c in
     let is = narrowed at.After-get (Some c.in-Some.open.now) (ap option_copied c.in-Some.is) in
     changed at.After-narrow ∙ sym (ap (λ (d : Did StateId Status). d.after) (granted at.After-narrow is c.if-not-is_narrower.false))
+
+pub narrow-requires : goal.narrow-requires
+narrow-requires c =
+    let few = rising_few (λ (o : OpenState). o.number) 1 (suc c.self.inside.last) c.self.inside.opens.items c.self.invariant.table.opens in
+    record { few = omega arith }

@@ -21,7 +21,7 @@ invariant_of-self c =
     (held_by c.keep_locked.new.self) _ c.self.inside.last c.self.inside.instance c.drop_client.ensures.items c.leave_client.ensures.locks held in
     record {
       table = subst IsTable (sym same) (table_ended t c.args.client c.self.invariant.table);
-      room = λ yes. c.drop_client.ensures.ready ∙ c.self.invariant.room yes;
+      room = λ yes. c.drop_client.ensures.ready (c.self.invariant.room yes);
     }
 
 pub returns-clause-after : goal.returns-clause-after

@@ -1,37 +1,28 @@
-use Rattle.std.proofs.Common.{subst, sym, ◌∙◌, ap}
-use Rattle.std.specs.Option.{option_copied}
-use Rattle.nfs_opens.specs.Kept.{HasOneEach}
-use Rattle.nfs_opens.specs.Table.{Kept, table, clashes_with}
+use Rattle.std.proofs.Common.{◌≡◌, Bool, sym, ap, ◌∙◌}
+use Rattle.std.specs.Prelude.{◌||◌}
+use Rattle.std.specs.List.{list_any}
+use Rattle.nfs_opens.specs.Counts.{count_of, denied, had}
+use Rattle.nfs_opens.specs.Share.{meets}
+use Rattle.nfs_opens.specs.Table.{table, clashes_with}
 use Rattle.nfs_opens.specs.Calls.{asked}
-use Rattle.nfs_opens.proofs.IndexedLemmas.{file_of, clash_file, walk_bounds, any_begins, any_hits, any_misses, any_ends}
-use Rattle.nfs_opens.proofs.SingleLemmas.{covered}
+use Rattle.nfs_opens.proofs.ClashLemmas.{clash_counted, is_others}
 use Rattle.nfs_opens.proofs.opens.Opens.has_clash.Goals as goal
+use Rattle.nfs_opens.proofs.opens.Opens.has_clash.Goals.{After-meets-denies}
 
-pub loop-open-init : goal.loop-open-init
-loop-open-init c = any_begins (table c.args.self.now) (clashes_with (asked c.args.ask.now)) c.kept.ensures
+-- what both comparisons come to
+told : (c : After-meets-denies) → (c.meets-is_denied.result || c.meets-denies.result) ≡ list_any (clashes_with (asked c.args.ask.now)) (table c.args.self.now).opens
+told c =
+    let a = asked c.args.ask.now in
+    let first = c.meets-is_denied.ensures ∙ ap (meets a.access) (c.denied.ensures ∙ ap denied c.others_on-others.ensures) in
+    let second = c.meets-denies.ensures ∙ ap (meets a.deny) (c.had.ensures ∙ ap had c.others_on-others.ensures) in
+    ap (λ (b : Bool). b || c.meets-denies.result) first ∙ (ap (λ (b : Bool). meets a.access (denied (count_of (is_others a) (table c.args.self.now).opens)) || b) second ∙ clash_counted a (table c.args.self.now).opens)
 
-pub loop-open-smaller : goal.loop-open-smaller
-loop-open-smaller c = walk_bounds (table c.args.self.now) file_of c.args.ask.now.file c.loop-open.after c.in-Some.open.now c.next_open.ensures.kept
-    (sym c.next_open.ensures.found ∙ ap option_copied c.in-Some.is)
+pub returns-then-is_denied : goal.returns-then-is_denied
+returns-then-is_denied c =
+    let at = goal.at.returns-then-is_denied c in
+    c.if-is_denied.true ∙ (ap (λ (b : Bool). b || c.meets-denies.result) (sym c.if-is_denied.true) ∙ told at.After-meets-denies)
 
-pub loop-open-preserved : goal.loop-open-preserved
-loop-open-preserved c = any_misses (table c.args.self.now) file_of (clashes_with (asked c.args.ask.now)) c.args.ask.now.file
-    (clash_file (asked c.args.ask.now)) c.next_open.ensures.kept c.loop-open.after c.in-Some.open.now
-    (sym c.next_open.ensures.found ∙ ap option_copied c.in-Some.is) (sym c.clashes_with.ensures ∙ c.if-clashes_with.false) ∙ c.loop-open.invariant
-
-pub returns-then-clashes_with : goal.returns-then-clashes_with
-returns-then-clashes_with c = sym (any_hits (table c.args.self.now) file_of (clashes_with (asked c.args.ask.now)) c.args.ask.now.file
-    (clash_file (asked c.args.ask.now)) c.next_open.ensures.kept c.loop-open.after c.in-Some.open.now
-    (sym c.next_open.ensures.found ∙ ap option_copied c.in-Some.is) (sym c.clashes_with.ensures ∙ c.if-clashes_with.true))
-
-pub returns-then-covers : goal.returns-then-covers
-returns-then-covers c =
-    let one : HasOneEach (table c.args.self.now).opens = subst (λ (k : Kept). HasOneEach k.opens) c.self.view_is c.single.ensures in
-    sym (covered (asked c.args.ask.now) (table c.args.self.now) c.loop-open.after c.in-Some.open.now c.next_open.ensures.kept one
-    (sym c.next_open.ensures.found ∙ ap option_copied c.in-Some.is) (sym c.clashes_with.ensures ∙ c.if-clashes_with.false)
-    (sym c.covers.ensures ∙ c.if-covers.true))
-
-pub returns : goal.returns
-returns c = sym (any_ends (table c.args.self.now) file_of (clashes_with (asked c.args.ask.now)) c.args.ask.now.file
-    (clash_file (asked c.args.ask.now)) c.next_open.ensures.kept c.loop-open.after
-    (sym c.next_open.ensures.found ∙ ap option_copied c.in_default.is)) ∙ c.loop-open.invariant
+pub returns-else-is_denied : goal.returns-else-is_denied
+returns-else-is_denied c =
+    let at = goal.at.returns-else-is_denied c in
+    ap (λ (b : Bool). b || c.meets-denies.result) (sym c.if-is_denied.false) ∙ told at.After-meets-denies

@@ -2,7 +2,9 @@ use Rattle.std.proofs.Common.{◌≡◌, ℕ, Some, None, suc, ◌+◌, ◌++◌
 use Rattle.std.specs.List.{list_any}
 use Rattle.std.specs.Option.{option_copied}
 use Rattle.std.proofs.lemmas.Grind.{common_steps}
-use Rattle.std.proofs.lemmas.Bool.{false≢true}
+use Rattle.std.specs.Prelude.{◌==◌, ◌≢◌, is_none}
+use Rattle.std.proofs.lemmas.Bool.{false≢true, eq-eqb}
+use Rattle.nfs_opens.specs.StateId.{last_number}
 use Rattle.nfs_xdr.proofs.Tables.{in_bounds}
 use Rattle.nfs_opens.specs.contracts.opens.Opens.{the_view}
 use Rattle.nfs_opens.specs.declared.records.OpenState.{OpenState}
@@ -10,11 +12,12 @@ use Rattle.nfs_opens.specs.Holding.{held_by}
 use Rattle.nfs_opens.specs.Table.{Kept, table, clashes_with}
 use Rattle.nfs_opens.specs.Kept.{IsTable}
 use Rattle.nfs_opens.specs.Opening.{own_open, new_open}
-use Rattle.nfs_opens.specs.Calls.{asked}
+use Rattle.nfs_opens.specs.Calls.{asked, open_fault}
+use Rattle.nfs_opens.proofs.CountLemmas.{rising_few}
 use Rattle.nfs_opens.proofs.LockLemmas.{same_table}
 use Rattle.nfs_opens.proofs.TableLemmas.{table_opened}
 use Rattle.nfs_opens.proofs.StepLemmas.{table_join}
-use Rattle.nfs_opens.proofs.StepLemmas.{no_clash_asked}
+use Rattle.nfs_opens.proofs.StepLemmas.{no_clash_asked, number_left}
 use Rattle.nfs_opens.proofs.SingleLemmas.{none_owned}
 use Rattle.nfs_opens.proofs.opens.Opens.open.Goals as goal
 
@@ -56,3 +59,19 @@ push-requires-clause-owner c =
     ap (λ (k : Kept). own_open (table k) (asked c.args.ask.now)) c.self.view_is ∙ (sym c.own_open.ensures ∙ ap option_copied c.in-None.is) in
     none_owned (asked c.args.ask.now) c.self.inside.opens.items _
     (ap (λ (xs : List ℕ). (c.args.ask.now.file, c.args.ask.now.client, xs)) (c.ready.view_is ∙ c.requires.owner)) none
+
+pub join-requires : goal.join-requires
+join-requires c =
+    let few = rising_few (λ (o : OpenState). o.number) 1 (suc c.self.inside.last) c.self.inside.opens.items c.self.invariant.table.opens in
+    record { few = omega arith }
+
+pub push-requires-clause-few : goal.push-requires-clause-few
+push-requires-clause-few c =
+    let t = table (the_view c.self.inside) in
+    let few = rising_few (λ (o : OpenState). o.number) 1 (suc c.self.inside.last) c.self.inside.opens.items c.self.invariant.table.opens in
+    let none : own_open t (asked c.args.ask.now) ≡ None =
+    ap (λ (k : Kept). own_open (table k) (asked c.args.ask.now)) c.self.view_is ∙ (sym c.own_open.ensures ∙ ap option_copied c.in-None.is) in
+    let granted : open_fault t (asked c.args.ask.now) ≡ None = ap (λ (k : Kept). open_fault (table k) (asked c.args.ask.now)) c.self.view_is ∙ c.requires.judged in
+    let free : (c.self.inside.last == last_number) ≡ false = number_left _ _ _ granted (ap is_none none) in
+    let left : c.self.inside.last ≢ last_number = λ e. false≢true (sym free ∙ eq-eqb c.self.inside.last last_number e) in
+    omega arith

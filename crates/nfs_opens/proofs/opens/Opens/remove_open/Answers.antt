@@ -21,7 +21,7 @@ invariant_of-self c =
     (held_by c.forget_unlocked.new.files) _ c.self.inside.last c.self.inside.instance c.remove.ensures.items c.leave_open.ensures.locks held in
     record {
       table = subst IsTable (sym same) (table_closed t c.args.number c.self.invariant.table);
-      room = λ yes. c.remove.ensures.ready ∙ c.self.invariant.room yes;
+      room = λ yes. c.remove.ensures.ready (c.self.invariant.room yes);
     }
 
 pub returns-clause-after : goal.returns-clause-after
