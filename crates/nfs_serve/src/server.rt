@@ -65,10 +65,12 @@ impl Server {
     pub fn new(alloc: Global, settings: Settings, instance: u32) -> Result<Server, AllocError>
         ensures { IfOk result (λ s. IsNew settings.root_mode instance settings.lease s) }
     {
+        let piece = vec![in alloc; 0; MAX_PIECE as usize]?;
+        let connections = connections(alloc)?;
         Ok(Server {
             engine: Engine::new(alloc, instance, settings.lease, settings.root_mode)?,
-            connections: connections(alloc)?,
-            piece: vec![in alloc; 0; MAX_PIECE as usize]?,
+            connections,
+            piece,
         })
     }
 
