@@ -7,9 +7,12 @@ import re
 # what the prover says where a proof names a step that the edit took away, which tells nothing of the contract
 GONE = re.compile(r"has no field|is not in scope|has no `|was not admitted")
 # an open goal, and whether the prover knows values at which it is false; a function, and what comes of it; an error in a written proof
-GOAL = re.compile(r"note: src/\S+: it is not proved that .*\(`[^`]+`\)(.*)")
+GOAL = re.compile(r"note: src/\S+: it is not proved that .*\(`([^`]+)`\)(.*)")
 VERDICT = re.compile(r"fn \w+::(\S+): (.*)")
 ERROR = re.compile(r"(?:\./)?proofs/(\S+)/\w+\.antt:\d+:\d+: error: (?:`([^`]+)`: )?(.*)")
+UNPROVED = re.compile(r"did not prove (.*)")
+# goals that any body owes, whatever its contract: that sums fit, divisors are not 0, indices are within, loops and recursion end
+SAFETY = re.compile(r"overflow_|nonzero_|(?:offset_|slice_)?bounds\b|index\b|decreases")
 
 FUNCTION = re.compile(r"^(?:    )?(pub(?:\([^)]*\))? )?(?:const |unsafe )*fn (\w+)", re.MULTILINE)
 BLOCK = re.compile(r"^impl(?:<(?P<own>.*?)>)? (?:(?P<trait>[^{]+?) for )?(?P<type>[^{]+?) \{$", re.MULTILINE)
@@ -34,27 +37,37 @@ class Said:
         goals = []
         for line in output.splitlines():
             if goal := GOAL.match(line):
-                goals.append("allow values" in goal[1])
+                goals.append((goal[1], "allow values" in goal[2]))
             elif verdict := VERDICT.match(line):
                 self.came[verdict[1]], self.goals[verdict[1]], goals = verdict[2], goals, []
             elif error := ERROR.match(line):
                 self.errors.append((error[1], error[2], bool(GONE.search(error[3]))))
 
     def refuses(self, function):
-        """Returns whether a goal of the function itself is open. Where a written proof of it names what is gone, only an answer that names
-        nothing of the kind and does not fit, or a goal that is false at values which the prover knows, tells that."""
+        """Returns whether a goal of the function itself is open that a contract or an invariant owes: goals of safety alone tell nothing of
+        a contract. Where a written proof of it names what is gone, only an answer that names nothing of the kind and does not fit, or a goal
+        that is false at values which the prover knows, tells that."""
         mine = [(name, is_gone) for folder, name, is_gone in self.errors if folder == function.replace("::", "/")]
         gone = {name for name, is_gone in mine if is_gone}
-        if any(name and name not in gone for name, _ in mine):
+        if any(name and name not in gone and not SAFETY.match(name) for name, _ in mine):
             return True
-        came, goals = self.came.get(function, ""), self.goals.get(function, [])
+        open_goals = [(name, is_false) for name, is_false in self.goals.get(function, []) if not SAFETY.match(name)]
         if gone:
-            return any(goals)
-        return bool(goals) or came.startswith("no proof: ") and not came.startswith("no proof: it calls")
+            return any(is_false for _, is_false in open_goals)
+        return bool(open_goals) or self.is_unproved(function)
+
+    def is_unproved(self, function):
+        """Returns whether the verdict on a function says that it has no proof for a reason of its own beside goals of safety."""
+        came = self.came.get(function, "")
+        if not came.startswith("no proof: ") or came.startswith("no proof: it calls"):
+            return False
+        named = [name for it in UNPROVED.findall(came) for name in re.findall(r"`([^`]+)`", it)]
+        named += [name for name, _ in self.goals.get(function, [])]
+        return not named or any(not SAFETY.match(it) for it in named)
 
     def others(self, functions):
-        """Returns which functions beside these are refused."""
-        return [it for it in self.came if it not in functions and self.refuses(it)]
+        """Returns which functions beside these are refused, for whatever reason."""
+        return [it for it in self.came if it not in functions and (self.refuses(it) or self.goals[it])]
 
     def proves_beside(self, functions):
         """Returns whether a function beside these is proved."""
@@ -86,7 +99,8 @@ def bodies(text):
     heads = [*FUNCTION.finditer(text)]
     for head, behind in zip(heads, [*(it.start() for it in heads[1:]), len(text)]):
         indent = "    " if head[0].startswith(" ") else ""
-        same_line = re.compile(r"[^\n;]*\{\n").match(text, head.end())
+        # (a signature of several lines ends where the line of its closing bracket does)
+        same_line = re.compile(rf"(?:[^\n;]*\(\n(?:{indent}    [^\n]*\n)+{indent}\))?[^\n;]*\{{\n").match(text, head.end())
         opens = text.find(f"\n{indent}{{\n", head.end(), behind)
         opens = same_line.end() if same_line else opens + len(indent) + 3 if opens >= 0 else -1
         closes = text.find(f"\n{indent}}}\n", opens - 1)
@@ -152,26 +166,91 @@ def changed(rt, edit, folder):
     return sorted(paths), None
 
 
-def public(folder):
-    """Returns the paths of a library's public functions that have something to turn: those that give something back or change something."""
-    lib, found = text_of(f"{folder}/src/lib.rt"), []
-    shown = {name: names for name, names in re.findall(r"^pub use (?:crate::)?(\w+)::\{?([^;}]*)\}?;", lib, re.MULTILINE)}
+def heads(folder):
+    """Yields each function with a body of a library, but those of its tests: its file's text, its path, its head's match and its signature with
+    its clauses."""
     for above, _, names in os.walk(f"{folder}/src"):
-        for name in (it for it in names if it.endswith(".rt")):
+        for name in sorted(it for it in names if it.endswith(".rt")):
             file = os.path.relpath(f"{above}/{name}", folder)
-            text, module = text_of(f"{folder}/{file}"), module_of(file)
-            if module[:1] == ["tests"]:
+            if module_of(file)[:1] == ["tests"]:
                 continue
-            is_whole = not module or re.search(rf"^pub mod {module[0]};", lib, re.MULTILINE)
+            text = text_of(f"{folder}/{file}")
             for head, opens, _ in bodies(text):
-                path = path_of(head, text, file, folder)
-                signature = re.split(r"\n *(?:requires|ensures|\{)", text[head.end() : opens])[0]
-                is_law = "->" not in signature and "&mut" not in signature
-                if head[1] != "pub " or not path or is_law:
-                    continue
-                words = path.split("::")
-                first = words[len(module_of(file))] if head[0].startswith(" ") else words[-1]
-                home = words[0]
-                if is_whole or re.search(rf"\b{re.escape(words[-2] if head[0].startswith(' ') else first)}\b", shown.get(home, "")):
-                    found.append(path)
+                if path := path_of(head, text, file, folder):
+                    yield file, path, head, text[head.end() : opens]
+
+
+def public(folder):
+    """Returns the public functions of a library that have something to turn, each path with its signature and clauses: those that give something
+    back or change something."""
+    lib, found, shown = text_of(f"{folder}/src/lib.rt"), {}, {}
+    for home, names in re.findall(r"^pub use (?:crate::)?(\w+)::\{?([^;}]*)\}?;", lib, re.MULTILINE):
+        shown[home] = f"{shown.get(home, '')} {names}"
+    for file, path, head, signature in heads(folder):
+        module, words = module_of(file), path.split("::")
+        told = re.split(r"\n *(?:requires|ensures|\{)", signature)[0]
+        if head[1] != "pub " or not re.search(r"->|&mut|Cell<", told):
+            continue
+        is_whole = not module or re.search(rf"^pub mod {module[0]};", lib, re.MULTILINE)
+        name = words[-2] if head[0].startswith(" ") else words[-1]
+        if is_whole or re.search(rf"\b{re.escape(name)}\b", shown.get(words[0], "")):
+            found[path] = signature
     return found
+
+
+# forms by which a public function could be overlooked
+HIDDEN = {
+    r"^pub use [^;]*\*": "a glob shows what no list names",
+    r"^ *(?:pub(?:\([^)]*\))? )?mod \w+ \{": "a module within a file has functions whose paths are not read",
+}
+
+
+def unread(folder):
+    """Returns what the sources of a crate have that these readings could overlook."""
+    faults = []
+    for above, _, names in os.walk(f"{folder}/src"):
+        for name in sorted(it for it in names if it.endswith(".rt")):
+            file = os.path.relpath(f"{above}/{name}", folder)
+            text = text_of(f"{folder}/{file}")
+            faults += [f"{file}: {why}" for form, why in HIDDEN.items() if re.search(form, text, re.MULTILINE)]
+            read = {head.start() for head, _, _ in bodies(text)}
+            traits = [(it.start(), text.find("\n}\n", it.start())) for it in re.finditer(r"^(?:pub(?:\([^)]*\))? )?trait ", text, re.MULTILINE)]
+            for head in FUNCTION.finditer(text):
+                in_trait = any(begins < head.start() < ends for begins, ends in traits)
+                is_empty = re.compile(r"[^{]*(?:\{[^\n]*\}[^{]*)*\n? *\{\}$", re.MULTILINE).match(text, head.end())
+                if in_trait and head.start() in read:
+                    faults.append(f"{file}: the trait's default {head[2]} is no function of a type")
+                elif head[1] == "pub " and not in_trait and head.start() not in read and not is_empty:
+                    faults.append(f"{file}: where the body of {head[2]} begins and ends is not read")
+    return faults
+
+
+# relations that leave one result and one new state for each argument; functions under one of them are of one kind
+RELATIONS = {"ReadsPartBy"}
+CLAUSE = re.compile(r"^ *ensures\*?(?: \w+)? \{(.*)\}$", re.MULTILINE)
+EQUATION = re.compile(r"(result(?:\.now)?|(\w+)\.new) ≡ (.*)")
+
+
+def kind_of(signature):
+    """Returns what kind of contract a function has where that leaves one value for whatever it gives and changes: "equations", if each is equal to
+    what its arguments determine, or the relation that says so; else None. Any body that gives another value is refused at such a clause by logic
+    alone, so that one edit of a kind shows what there is to show."""
+    told = re.split(r"\n *(?:requires|ensures|\{)", signature)[0]
+    clauses = [it.strip() for it in CLAUSE.findall(signature)]
+    relations = {it.split(" ")[0] for it in clauses} & RELATIONS
+    if relations and len(clauses) == 1:
+        return relations.pop()
+    pinned = {it[1] for it in map(EQUATION.fullmatch, clauses) if it and not re.search(r"\bresult\b|\.new\b|[→⊎⊥]", it[3])}
+    due = {f"{name}.new" for name in re.findall(r"(\w+): &(?:'\w+ )?mut ", told)} | ({"self.new"} if "&mut self" in told else set())
+    is_given = "result" in pinned or "result.now" in pinned
+    return "equations" if clauses and (is_given or "->" not in told) and due <= pinned else None
+
+
+def says(signature):
+    """Returns whether a clause of the contract speaks of what the function gives or leaves, other than that it is equal to itself."""
+    ensured = re.findall(r"^ *ensures\*?(?: \w+)? (\{.*?)(?=^ *(?:ensures|requires|ghost)|\Z)", signature, re.MULTILINE | re.DOTALL)
+    for clause in ensured:
+        one, is_equation, other = clause.strip().strip("{}").partition(" ≡ ")
+        if re.search(r"\bresult\b|\.new\b", clause) and not (is_equation and one.strip() == other.strip()):
+            return True
+    return False
