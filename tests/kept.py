@@ -23,9 +23,10 @@ class Tries:
     """Has the script try a crate's edits in rounds, one task a crate, and keep what was refused. What plain `rt ci` keeps stands elsewhere, so
     that no run takes what the other passed."""
 
-    def __init__(self, rt, rounds, proved):
-        """`proved` gives the folder of what is kept of a library's proof, for a crate whose proof an earlier run kept."""
-        self.rt, self.rounds, self.proved = rt, rounds, proved
+    def __init__(self, rt, rounds, proved, store):
+        """`proved` gives the folder of what is kept of a library's proof, for a crate whose proof an earlier run kept; `store` gets the script's
+        own store under "kept"."""
+        self.rt, self.rounds, self.proved, self.store = rt, rounds, proved, store
         rt.STORE, rt.add_edits = f"{rt.STORE}-in-rounds", self.add
         of_edit, own = rt.Kept.of_edit, rule()
         rt.Kept.of_edit = lambda kept, edit, sum: hashlib.sha256(f"{of_edit(kept, edit, sum)} {own} {listed(edit)}".encode()).hexdigest()
@@ -33,6 +34,7 @@ class Tries:
     def add(self, tasks, crate, edits, first, waits, is_well, kept, start=None, in_ci=True):
         """Adds the task that tries a crate's edits, and returns what gives their results, in the edits' order, and what gives those of earlier
         runs, by their numbers."""
+        self.store["kept"] = kept
         earlier, found = {}, {}
 
         def names():

@@ -1,32 +1,38 @@
 """Has the toolchain's script do no work twice in a run, and judges must-fail edits as tests/run_ci says.
 
-- Edits of a crate are tried in rounds: one check of the crate with several edits, no two of which change the same function. The first
-  reads the whole crate, a later one only the functions that its edits change and what those call. An edit that is not seen to be refused
-  there is tried again alone, as `rt ci` would.
+- Edits of a crate are tried in rounds: one check of the crate with several edits, no two of which change the same function. It reads only
+  the functions that its edits change and what those call. An edit that is not seen to be refused there is tried again alone, as `rt ci` would.
 - What is proved of a library is proved once. It is built from nothing, as always, and holds all that its check wrote, where that of `rt ci`
-  holds its statements; the check of its tests and the rounds of its edits are made from that. (A program's tests are proved from
-  nothing, in a folder that is empty when their check begins, and its rounds stand on that or, where it has none, on one check more.)
+  holds its statements; the rounds of its edits are made from that.
+- Tests are run under the toolchain's run-time checks (`rt try --test`), which takes minutes where their proofs take an hour. Plain `rt ci` proves
+  them too: what that adds is that the tests' own code is safe and returns.
 - Where a kit's script keeps what passed for later runs on this machine, tests/kept.py has it keep what these rounds came to.
 
-The lines before the last tell how many minutes of one core the proofs, the tests' proofs and the edits took, and which took most."""
+The closing lines tell how many minutes of processors the proofs, the tests and the edits of each crate took."""
 
 import contextlib
+import hashlib
 import os
 import re
 import shutil
 import subprocess
+import sys
 import tempfile
 import threading
 import time
+from collections import defaultdict
+from concurrent.futures import Future
 
 import kept as for_later
 from edits import Said, changed, listed, text_of
 
 KINDS = {"proof": "proofs", "tests": "tests", "edits": "edits"}
 
-# what a program's proof, and a function that an edit turns, count for among the tasks of a run, whose order is by the lines behind each
-LINES_OF_A_PROGRAM = 20_000
+# what a function that an edit turns counts for among the tasks of a run, whose order is by the lines behind each
 LINES_OF_A_TURN = 150
+
+# the memory that tests under run-time checks take at most, in bytes
+MEMORY_OF_TESTS = 2_000_000_000
 
 
 class Rounds:
@@ -116,17 +122,14 @@ class Rounds:
         one["functions"].update(functions)
         return True
 
-    def round_of(self, crate, edits, texts, flags, kept, is_first):
+    def round_of(self, crate, edits, texts, flags, kept):
         """Tries the edits of a round together, and again alone those that are not seen to be refused there."""
-        if len(edits) == 1 and is_first:
-            return [self.alone_over(crate, edits[0], flags, kept)]
         of_each = {it: changed(self.rt, it, crate.folder)[0] for it in edits}
         with_it = {function for some in of_each.values() for function in some}
         with copied(kept) as copy:
-            ran = self.checked(crate, texts, flags, copy, () if is_first else with_it)
+            ran = self.checked(crate, texts, flags, copy, with_it)
         lines = ran.stdout.rstrip("\n").split("\n")
-        is_ended = lines[-1].startswith("logic=not-proved" if is_first else "only=")
-        is_read = ran.returncode == 1 and is_ended and not self.rt.rtlib.STALE.search(ran.stdout)
+        is_read = ran.returncode == 1 and lines[-1].startswith("only=") and not self.rt.rtlib.STALE.search(ran.stdout)
         is_read = is_read and not any(self.rt.unread(it, texts) for it in lines)
         tried, said = [], Said(ran.stdout)
         for edit in edits:
@@ -153,8 +156,8 @@ class Rounds:
             able = [it for it in edits if not changed(self.rt, it, crate.folder)[1]]
             # (where nothing was kept, this check fills the folder)
             if able and (is_shown_later or self.is_proved(crate, flags, kept)):
-                for at, (some, texts) in enumerate(self.rounds_of(crate, able)):
-                    tried.update(zip(some, self.round_of(crate, some, texts, flags, kept, at == 0)))
+                for some, texts in self.rounds_of(crate, able):
+                    tried.update(zip(some, self.round_of(crate, some, texts, flags, kept)))
                 if is_shown_later and not self.unchanged.get(crate.name) and not self.is_proved(crate, flags, kept):
                     tried = {}
             shutil.rmtree(kept, ignore_errors=True)
@@ -172,47 +175,22 @@ def copied(kept):
         yield shutil.copytree(kept, f"{room}/kept", copy_function=os.link)
 
 
-class Fresh:
-    """The shape of a verdict line, which for tests may have the word of a folder for kept work: theirs is this run's own."""
-
-    def __init__(self, verdict):
-        self.verdict = verdict
-
-    def search(self, text):
-        return self.verdict.search(re.sub(r"^(logic=proved tests=.*) incremental=trusted\n\Z", r"\1\n", text, flags=re.MULTILINE))
-
-
-class Now(threading.local):
-    """What the check that this thread runs is of."""
-
-    is_of_tests = False
-
-
 def keep_all(rt, room):
-    """Has each check of a run keep what it proved, in new folders of the room; returns those folders by the crates' names."""
-    kept, ci, now = {}, rt.Crate.ci, Now()
-    help_of = rt.rtlib.help_of
-    # contracts that no call can meet are looked for in a library's own check, and not once more in that of its tests
-    rt.rtlib.help_of = lambda verb: help_of(verb).replace("--empty-contracts", "" if now.is_of_tests else "--empty-contracts")
+    """Has each proof of a library in a run keep all that it wrote, in new folders of the room; returns those folders by the crates' names."""
+    kept, ci = {}, rt.Crate.ci
 
     def ci_and_keep(crate, flags, tests):
-        now.is_of_tests = not crate.is_program and tests
-        if crate.is_program and not tests:
+        if crate.is_program:
             return ci(crate, flags, tests)
         path = f"{room}/{crate.name}"
-        if crate.is_program or not tests:
-            shutil.rmtree(path, ignore_errors=True)
-            os.mkdir(path)
-        elif not os.path.isdir(path):
-            # (an earlier run proved the library)
-            unpacked(rt, crate, path)
-        status = ci(crate, [*flags, "--incremental", path], tests) if tests else prove_once(rt, crate, flags, path)
-        if not status and os.listdir(path) and (crate.is_program or not tests):
-            # the check of a library's tests writes into the folder while edits are tried beside it
-            kept[crate.name] = path if crate.is_program else shutil.copytree(path, f"{path}-edits", copy_function=os.link)
+        shutil.rmtree(path, ignore_errors=True)
+        os.mkdir(path)
+        status = prove_once(rt, crate, flags, path)
+        if not status and os.listdir(path):
+            kept[crate.name] = path
         return status
 
-    rt.Crate.ci, rt.rtlib.VERDICT = ci_and_keep, Fresh(rt.rtlib.VERDICT)
+    rt.Crate.ci = ci_and_keep
     return kept
 
 
@@ -244,31 +222,46 @@ def unpacked(rt, crate, path):
     return path
 
 
-def in_order(rt, tasks):
-    """Returns the tasks of a run so that the tests of a library and its edits wait for its proof, and not the edits for the tests, and so that
-    what takes minutes however short the crate is does not come last, when there is nothing left to do beside it: a program, and edits that
-    turn many functions."""
-    crates = rt.rtlib.crates_below(os.getcwd())
-    libraries = {it.name for it in crates if not it.is_program}
-    turns = {it.name: sum(text_of(edit).count("\nold: ") for edit in rt.edits_of(it)[0]) for it in crates}
+def in_order(rt, tasks, store):
+    """Returns the tasks of a run so that tests are run under run-time checks, and edits wait for the proof of their crate and not for its tests."""
+    crates = {it.name: it for it in rt.rtlib.crates_below(os.getcwd())}
+    turns = {it.name: sum(text_of(edit).count("\nold: ") for edit in rt.edits_of(it)[0]) for it in crates.values()}
     ordered = {}
     for key, (waits, lines, needs, call) in tasks.items():
         name, kind = key
-        if name not in libraries and kind == "proof":
-            lines += LINES_OF_A_PROGRAM
         if kind == "edits":
-            lines = LINES_OF_A_TURN * turns[name]
-        if name in libraries and kind == "tests":
-            waits = [*waits, (name, "proof")]
-        if name in libraries and kind == "edits" and (name, "proof") in tasks:
-            waits, call = [(name, "proof")], beside_tests(name, call)
+            waits, lines, call = [(name, "proof")], LINES_OF_A_TURN * turns[name], beside_tests(name, call)
+        if kind == "tests":
+            waits, lines, needs, call = [], lines // 4, MEMORY_OF_TESTS, tests_of(rt, crates[name], store)
         ordered[key] = (waits, lines, needs, call)
     return ordered
 
 
 def beside_tests(name, call):
-    """Returns the call that tries a library's edits, which are tried whether or not its tests pass: where they do not, the run fails for that."""
+    """Returns the call that tries a crate's edits, which are tried whether or not its tests pass: where they do not, the run fails for that."""
     return lambda given, jobs: call({**given, (name, "tests"): True}, jobs)
+
+
+def tests_of(rt, crate, store):
+    """Returns the call that runs a crate's tests under run-time checks, unless an earlier run on this machine saw the same ones pass."""
+    def passed(given, jobs):
+        if not crate.has_tests():
+            return True
+        kept = store()
+        name = hashlib.sha256(f"tests of {crate.name} under run-time checks: {rt.stamp_of(crate, {})}".encode()).hexdigest()
+        if kept and kept.tried(name):
+            rt.say(f"{crate.name}: its tests passed in an earlier run on this machine, and nothing that they read has changed")
+            return True
+        how = {"cwd": crate.folder, "stdin": subprocess.DEVNULL, "stdout": subprocess.PIPE, "stderr": subprocess.STDOUT, "errors": "replace"}
+        ran = subprocess.run([f"{rt.KIT}/bin/rt", "try", "--test"], **how)
+        ended = re.search(r"^test result: ok\. ([1-9]\d*) passed; 0 failed", ran.stdout, re.MULTILINE)
+        is_well = ran.returncode == 0 and ended is not None
+        print(f"== {crate.name}: its tests under run-time checks\n" + (ended[0] if is_well else ran.stdout[-4000:]), flush=True)
+        if is_well and kept:
+            kept.keep_tried(name, rt.REFUSED, ended[0])
+        return is_well
+
+    return passed
 
 
 def keep_own(rt, room, names):
@@ -281,30 +274,116 @@ def keep_own(rt, room, names):
     return kept
 
 
-def run(rt, words):
-    """Runs the toolchain's command with these words, and returns its status."""
-    seconds, longest = dict.fromkeys(KINDS, 0.0), []
+class InPlace:
+    """Runs what is submitted at once, in the thread that submits it, so that what a command takes counts for whoever waits for it."""
 
-    def timed(key, call):
+    def __init__(self, _number):
+        pass
+
+    def __enter__(self):
+        return self
+
+    def __exit__(self, *_):
+        pass
+
+    def submit(self, call, *given):
+        ended = Future()
+        ended.set_result(call(*given))
+        return ended
+
+
+SPENT = threading.local()
+
+
+def spent():
+    """Returns the seconds of processors that the commands which this thread waited for have taken, with those that they waited for."""
+    return getattr(SPENT, "seconds", 0.0)
+
+
+def count_processors(rt):
+    """Has each thread know what its commands take."""
+    rt.rtlib.ThreadPoolExecutor = InPlace
+
+    def waited(pid, options):
+        pid, status, used = os.wait4(pid, options)
+        if pid:
+            SPENT.seconds = spent() + used.ru_utime + used.ru_stime
+        return pid, status
+
+    os.waitpid = waited
+
+
+class Minutes:
+    """What the tasks of a run take."""
+
+    def __init__(self):
+        self.began, self.seconds, self.running, self.ended = time.monotonic(), defaultdict(dict), {}, 0
+
+    def timed(self, key, call):
+        """Returns the call of a task, which notes what it takes of processors."""
         def run(given, jobs):
-            began = time.monotonic()
+            before, self.running[key] = spent(), time.monotonic()
             try:
                 return call(given, jobs)
             finally:
-                took = (time.monotonic() - began) * jobs
-                seconds[key[1]] += took
-                longest.append((took, f"{KINDS[key[1]]} of {key[0]} {took / 60:.1f}"))
+                self.seconds[key[0]][key[1]] = spent() - before
+                del self.running[key]
+                self.ended += key[1] == "proof"
+
         return run
 
-    in_lanes = rt.in_lanes
-    rt.in_lanes = lambda tasks: in_lanes({key: (*task[:3], timed(key, task[3])) for key, task in in_order(rt, tasks).items()})
+    def table(self):
+        """Returns a line for each crate, dearest first, and one for all: minutes of proofs, tests and edits."""
+        of = {name: [took.get(kind, 0.0) / 60 for kind in KINDS] for name, took in self.seconds.items()}
+        lines = [(name, took) for name, took in sorted(of.items(), key=lambda it: -sum(it[1])) if sum(took) > 0.05]
+        lines.append(("in all", [sum(took[at] for took in of.values()) for at in range(len(KINDS))]))
+        return ["minutes of processors: proofs, tests, edits", *("  ".join([f"{name:14}", *(f"{it:6.1f}" for it in took)]) for name, took in lines)]
+
+
+def tell(minutes, of):
+    """Says on standard error, each quarter of a minute and as long as the program runs, how far the proofs are."""
+    def ever():
+        while True:
+            time.sleep(15)
+            now = time.monotonic()
+            running = ", ".join(f"{name} ({(now - began) / 60:.0f} min)" for (name, _), began in sorted(minutes.running.items(), key=lambda it: it[1]))
+            print(f"nfs41d: {minutes.ended} of {of} crates proved, {(now - minutes.began) / 60:.0f} min; now {running}", file=sys.stderr, flush=True)
+
+    threading.Thread(target=ever, daemon=True).start()
+
+
+class Ended(Exception):
+    """The proofs of a program ended, all of them proved or not."""
+
+
+def program_alone(rt, in_lanes, minutes):
+    """Returns what runs of a run's tasks the proofs of the programs, and of what they stand on, and then ends the run."""
+    def run(tasks):
+        crates = rt.rtlib.crates_below(os.getcwd())
+        wanted = {below.name for it in crates if it.is_program for below in [it, *it.below()]}
+        tell(minutes, len(wanted))
+        raise Ended(all(in_lanes({key: it for key, it in tasks.items() if key[1] == "proof" and key[0] in wanted}).values()))
+
+    return run
+
+
+def run(rt, words):
+    """Runs the toolchain's command with these words, and returns its status. The word `program` in the place of `ci` has the program proved and
+    built, and nothing beside it."""
+    count_processors(rt)
+    is_program = words[0] == "program"
+    minutes, in_lanes, store = Minutes(), rt.in_lanes, {}
+    in_lanes = program_alone(rt, in_lanes, minutes) if is_program else in_lanes
+    tasks_of = lambda tasks: in_order(rt, tasks, lambda: store.get("kept"))
+    rt.in_lanes = lambda tasks: in_lanes({key: (*task[:3], minutes.timed(key, task[3])) for key, task in tasks_of(tasks).items()})
     with tempfile.TemporaryDirectory(prefix="rt-kept-") as room:
         is_ci = words[0] != "must-fail"
         rounds = Rounds(rt, keep_all(rt, room) if is_ci else keep_own(rt, room, words[1:]), is_ci)
         if for_later.keeps(rt):
-            for_later.Tries(rt, rounds, lambda crate: unpacked(rt, crate, f"{room}/{crate.name}-edits"))
-        status = rt.main(words)
-    if longest:
-        print("longest, in minutes: " + ", ".join(text for _, text in sorted(longest, reverse=True)[:8]))
-        print("minutes of one core: " + ", ".join(f"{name} {seconds[kind] / 60:.1f}" for kind, name in KINDS.items()))
+            for_later.Tries(rt, rounds, lambda crate: unpacked(rt, crate, f"{room}/{crate.name}"), store)
+        try:
+            status = rt.main(["ci", *words[1:]] if is_program else words)
+        except Ended as ended:
+            status = 0 if ended.args[0] else 1
+    print("\n".join(minutes.table()))
     return status
