@@ -23,10 +23,10 @@ class Tries:
     """Has the script try a crate's edits in rounds, one task a crate, and keep what was refused. What plain `rt ci` keeps stands elsewhere, so
     that no run takes what the other passed."""
 
-    def __init__(self, rt, rounds, proved, store):
+    def __init__(self, rt, rounds, proved, store=None):
         """`proved` gives the folder of what is kept of a library's proof, for a crate whose proof an earlier run kept; `store` gets the script's
         own store under "kept"."""
-        self.rt, self.rounds, self.proved, self.store = rt, rounds, proved, store
+        self.rt, self.rounds, self.proved, self.store = rt, rounds, proved, {} if store is None else store
         rt.STORE, rt.add_edits = f"{rt.STORE}-in-rounds", self.add
         of_edit, own = rt.Kept.of_edit, rule()
         rt.Kept.of_edit = lambda kept, edit, sum: hashlib.sha256(f"{of_edit(kept, edit, sum)} {own} {listed(edit)}".encode()).hexdigest()
