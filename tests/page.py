@@ -161,12 +161,13 @@ class Page:
     def ghosts(self):
         found = {}
         for path in sorted(self.all.clauses):
+            crate, _, *place = self.all.place(path).parts
             for it in self.all.clauses[path][0]:
                 if it.kind == "ghost":
                     count = len([line for line in it.text.splitlines() if line.strip()])
-                    place = self.all.place(path).parts
-                    found.setdefault(place[0], []).append(f"`{it}` in `{'/'.join(place[2:])}`" + (f" {count}" if count != 1 else ""))
-        lines = [wrapped(f"- `{crate}`: " + ", ".join(found[crate]), "  ") for crate in found]
+                    said = it.name if count == 1 else f"{it.name} {count}"
+                    found.setdefault(crate, {}).setdefault(f"`{it.owner}` in `src/{'/'.join(place)}`", []).append(said)
+        lines = [wrapped(f"- `{crate}`: " + "; ".join(f"{it} ({', '.join(some)})" for it, some in found[crate].items()), "  ") for crate in found]
         return GHOSTS + "\n" + "\n".join(lines) + "\n" if lines else ""
 
 

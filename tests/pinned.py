@@ -1,10 +1,11 @@
-"""What is pinned, so that it cannot vanish unseen: the names of the must-fail edits, and how many tests and asserts each crate has at least.
-`tests/believed` stands on it."""
+"""What is pinned, so that it cannot vanish unseen: the names of the must-fail edits, how many tests and asserts each crate has at least, and
+the checks that ./test runs. `tests/believed` stands on it."""
 
 import re
 
 TEST = re.compile(r"^ *#\[test\]", re.M)
 ASSERT = re.compile(r"\bassert\w*!")
+ADDED = re.compile(r"^ *add(?:_where_it_can)? (.+)$", re.M)
 COMMENT = re.compile(r"//.*$", re.M)
 
 
@@ -40,7 +41,16 @@ def faults(top, rows):
             found.append(f"tests/least.tsv: it says nothing of the {name}")
         elif counted.get(name, 0) < int(least[name]):
             found.append(f"{name}: {counted.get(name, 0)}, and tests/least.tsv asks for {least[name]}")
-    return found
+    return found + of_checks(top, least)
+
+
+def of_checks(top, least):
+    """Where ./test and tests/least.tsv do not name the same checks."""
+    path = top / "test"
+    added = ADDED.findall(path.read_text(encoding="utf-8")) if path.is_file() else []
+    told = [it for it in least if " of " not in it]
+    found = [f"tests/least.tsv: it says nothing of {it}, which ./test runs" for it in added if it not in told]
+    return found + [f"./test does not run {it}, of which tests/least.tsv tells" for it in told if it not in added]
 
 
 def write(top):
