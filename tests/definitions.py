@@ -36,6 +36,13 @@ def braced(text, at):
     return at - 1
 
 
+def declaration(text, head):
+    """The text of a Rust type that begins there, without comments."""
+    first = re.compile(r"[{;]").search(text, head.end())
+    end = braced(text, first.end()) if first and first[0] == "{" else first.start() if first else len(text)
+    return " ".join(re.sub(r"//.*$", "", text[head.start() : end], flags=re.M).split())
+
+
 class Definition:
     """A definition: its lines of meaning, how many sections with parameters it stands in, and which kind it is of by its first word."""
 
@@ -71,7 +78,7 @@ class Definitions:
     def __init__(self, top):
         self.top, self.faults = top, []
         self.files, self.names, self.imports, self.std = {}, {}, {}, {}
-        self.clauses = {}  # (of each source that was read)
+        self.clauses, self.declared = {}, {}  # (of each source that was read; the text of each Rust type that is named)
         for path in sorted(top.glob("crates/*/specs/**/*.antt")):
             crate, _, *inside = path.relative_to(top / "crates").with_suffix("").parts
             if path.name == "Lib.antt":
@@ -177,8 +184,11 @@ class Definitions:
             source = self.top / "crates" / crate / "src" / ("/".join(path[:length] or ["lib"]) + ".rt")
             if source.is_file():
                 said = rf"^\s*(?:pub(?:\([^)]*\))? )?(?:struct|enum|union) {re.escape(path[length])}\b"
-                if re.search(said, source.read_text(encoding="utf-8"), re.M):
-                    return crate, (".".join(path[: length + 1]),)
+                text = source.read_text(encoding="utf-8")
+                if head := re.search(said, text, re.M):
+                    found = crate, (".".join(path[: length + 1]),)
+                    self.declared[found] = declaration(text, head)
+                    return found
         self.faults.append(f"{place}: there is no Rust type for {crate} specs.declared.{'.'.join(path)}")
         return None
 

@@ -6,7 +6,7 @@ import textwrap
 from promises import CALLS
 
 RFC = re.compile(r"RFC (\d+)(?: (?:sections?|appendix) [A-Z\d][\d.]*(?:(?:, (?:and )?| and | to )\d[\d.]*)*(?<![.,]))?")
-ROW = re.compile(r"^\| (.*?) \| ([\d,]+) \| ([\d,]+) \| ([\d,]+) \| ([\d,]+) \|$", re.M)
+ROW = re.compile(r"^\| (.*?) \| ([\d,]+) \| ([\d,]+) \| ([\d,]+) \| ([\d,]+) \| `(\w+)` \|$", re.M)
 
 HEAD = """# What is to be believed
 
@@ -26,6 +26,10 @@ A definition is listed once, under the first promise that leans on it. *New*
 lines are those that no promise above leans on. The files of a crate are in the
 order in which they use each other, and each has the RFC sections that its first
 lines name.
+
+The sum is of all that a promise says: of its contracts, of what they lean on,
+and of the Rust types. If it is the one of the day on which you read a promise,
+nothing of it has changed since.
 """
 PINS = """## Definitions that a law pins
 
@@ -72,8 +76,11 @@ class Page:
         self.believed = {it.file for it in seen}
 
     def totals(self):
-        """What the table at the top says of each promise: its title, lines, new lines, lines of its files, and types."""
-        return [(it.title, it.lines, sum(len(one.lines) for one in new), sum(self.whole[file] for file in it.files), len(it.types)) for it, new in self.rows]
+        """What the table at the top says of each promise: its title, lines, new lines, lines of its files, types, and sum."""
+        return [
+            (it.title, it.lines, sum(len(one.lines) for one in new), sum(self.whole[file] for file in it.files), len(it.types), it.sum(self.all))
+            for it, new in self.rows
+        ]
 
     def text(self):
         parts = [HEAD, self.table()]
@@ -89,15 +96,12 @@ class Page:
         return f"- `{pin}` by `laws::{pin.law}`"
 
     def table(self):
-        lines = ["| Promise | Lines of meaning | New | Lines of their files | Rust types |", "|---|---|---|---|---|"]
-        return "\n".join([*lines, *(f"| {title} | {' | '.join(map(number, told))} |" for title, *told in self.totals())]) + "\n"
+        lines = ["| Promise | Lines of meaning | New | Lines of their files | Rust types | Sum |", "|---|---|---|---|---|---|"]
+        return "\n".join([*lines, *(f"| {title} | {' | '.join(map(number, told))} | `{sum_of}` |" for title, *told, sum_of in self.totals())]) + "\n"
 
     def section(self, promise, new):
         head = f"## {promise.title}\n\n"
-        by = {crate: [name for at, name in promise.stated if at == crate] for crate, _ in promise.stated}
-        sign = "" if promise.title == CALLS else "laws::"
-        said = "; ".join(f"`{crate}`: {', '.join(f'`{sign}{it}`' for it in by[crate])}" for crate in by)
-        lines = [wrapped(f"Stated by {said}.") if said else "Every law is named by a promise.", ""]
+        lines = [*(self.calls(promise) if promise.title == CALLS else self.laws(promise)), ""]
         files = {file: [it for it in self.definitions_of(file) if it in new] for file in self.in_order({it.file for it in new})}
         for crate in dict.fromkeys(file[0] for file in files):
             lines += [f"### {promise.title}: {crate}", ""]
@@ -108,6 +112,19 @@ class Page:
             crates = {crate: [path[0] for at, path in types if at == crate] for crate in dict.fromkeys(at for at, _ in types)}
             lines += [wrapped("Rust types: " + "; ".join(f"`{crate}` {', '.join(f'`{it}`' for it in crates[crate])}" for crate in crates) + "."), ""]
         return head + "\n".join(lines).rstrip("\n") + "\n"
+
+    def calls(self, promise):
+        by = {crate: [name for at, name in promise.stated if at == crate] for crate, _ in promise.stated}
+        said = "; ".join(f"`{crate}`: {', '.join(f'`{it}`' for it in by[crate])}" for crate in by)
+        return [wrapped(f"Stated by the contracts of {said}.")]
+
+    def laws(self, promise):
+        """What each law of a promise says."""
+        lines = ["Stated by" if promise.stated else "There are none."] + [""] * bool(promise.stated)
+        for crate, name in promise.stated:
+            said = [" ".join(it.text.split()) for it in self.all.read_source(self.promises.laws[crate, name])[0] if it.name == name and it.kind == "ensures"]
+            lines.append(wrapped(f"- `{crate}`: `laws::{name}`: {', and '.join(f'`{it}`' for it in said)}", "  "))
+        return lines
 
     def definitions_of(self, file):
         return list(dict.fromkeys(self.all.names[file].values()))
@@ -172,5 +189,5 @@ class Page:
 
 
 def told_before(text):
-    """The numbers that a page told of each promise."""
-    return {title: [int(it.replace(",", "")) for it in rest] for title, *rest in ROW.findall(text)}
+    """The numbers that a page told of each promise, and the sum."""
+    return {title: [*(int(it.replace(",", "")) for it in rest), sum_of] for title, *rest, sum_of in ROW.findall(text)}

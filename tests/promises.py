@@ -4,6 +4,7 @@ The first promise is of the calls that the program makes: the contracts of all t
 the laws that a section of docs/PROMISES.md names in code, as `laws::exactly_once`. A law is that of the crate in code that is named last
 before it in its section, if that has it; else there has to be one crate that has it. Laws that no section names come last."""
 
+import hashlib
 import re
 
 from definitions import FUNCTION, RUST_IMPORT
@@ -23,6 +24,7 @@ class Promise:
 
     def __init__(self, title):
         self.title, self.stated, self.cited, self.needed, self.types = title, [], set(), set(), set()
+        self.texts = []  # (of the clauses that state it)
 
     @property
     def lines(self):
@@ -31,6 +33,12 @@ class Promise:
     @property
     def files(self):
         return {it.file for it in self.needed}
+
+    def sum(self, definitions):
+        """A sum of all that the promise says: of its clauses, of what they lean on, and of the Rust types that these name."""
+        lines = sorted(f"{it}: {line.rstrip()}" for it in self.needed for line in it.lines)
+        types = sorted(f"{it}: {definitions.declared.get(it, '')}" for it in self.types)
+        return hashlib.sha256("\n".join([*sorted(self.texts), *lines, *types]).encode()).hexdigest()[:12]
 
 
 class Pin:
@@ -102,7 +110,7 @@ class Promises:
         for crate in [it for it in self.order if it in crates]:
             for path, names in self.shown(crate):
                 clauses = [it for it in self.all.read_source(path)[0] if it.is_public and (not names or (it.owner or it.name) in names)]
-                made.cited |= {one for it in clauses for one in self.all.cited_in(path, it)}
+                self.take(made, crate, path, clauses)
                 made.stated += [(crate, it) for it in dict.fromkeys(str(it) for it in clauses if it.kind != "ghost")]
                 for it in clauses:
                     self.must_state(path, [it] * (it.kind == "ensures"), f"{crate} {it}")
@@ -146,19 +154,23 @@ class Promises:
         if len(some) != 1:
             self.faults.append(f"docs/PROMISES.md: laws::{name} is a law of {len(some)} crates: name the one in front of it")
         elif (some[0], name) not in made.stated:
-            made.stated.append((some[0], name))
-            made.cited |= self.cited_by_law(some[0], name)
+            self.take_law(made, some[0], name)
 
-    def cited_by_law(self, crate, name):
+    def take_law(self, made, crate, name):
         path = self.laws[crate, name]
-        return {one for it in self.all.read_source(path)[0] if it.name == name and it.is_public for one in self.all.cited_in(path, it)}
+        made.stated.append((crate, name))
+        self.take(made, crate, path, [it for it in self.all.read_source(path)[0] if it.name == name and it.is_public])
+
+    def take(self, made, crate, path, clauses):
+        """Has these clauses state the promise."""
+        made.cited |= {one for it in clauses for one in self.all.cited_in(path, it)}
+        made.texts += [f"{crate} {it} {it.kind}: {' '.join(it.text.split())}" for it in clauses]
 
     def of_others(self):
         made, told = Promise(OTHERS), {it for promise in self.promises for it in promise.stated}
         for crate, name in self.laws:
             if (crate, name) not in told:
-                made.stated.append((crate, name))
-                made.cited |= self.cited_by_law(crate, name)
+                self.take_law(made, crate, name)
         return made
 
     # What is leaned on.
