@@ -1,8 +1,9 @@
 """What each promise of docs/PROMISES.md leans on. `tests/believed` stands on it.
 
 The first promise is of the calls that the program makes: the contracts of all that the crates which it stands on show. Each further one is of
-the laws that a section of docs/PROMISES.md names in code, as `laws::exactly_once`. A law is that of the crate in code that is named last
-before it in its section, if that has it; else there has to be one crate that has it. Laws that no section names come last."""
+the laws that a section of docs/PROMISES.md names in code, as `laws::exactly_once`. A law is that of the crate that is named with it, as
+`nfs_serve::laws::exactly_once`, or in code last before it in its section, as "`nfs_serve`: `laws::exactly_once`", if that has it; else there
+has to be one crate that has it. Laws that no section names come last."""
 
 import hashlib
 import re
@@ -15,7 +16,7 @@ OTHERS = "Laws that no promise names"
 
 HEADING = re.compile(r"^#{2,4} +(.*?)\s*$", re.M)
 CODE = re.compile(r"`([^`\n]+)`")
-LAW = re.compile(r"laws::(\w+|\{[\w, ]+\})$")
+LAW = re.compile(r"(?:(\w+)::)?laws::(\w+|\{[\w, ]+\})$")
 SHOWN = re.compile(r"^pub use ([^;]*);|^pub mod (\w+);", re.M)
 
 
@@ -145,8 +146,8 @@ class Promises:
                 if (self.top / "crates" / word).is_dir():
                     crate = word
                 elif law := LAW.match(word):
-                    for name in re.findall(r"\w+", law[1]):
-                        self.state_by(made, crate, name)
+                    for name in re.findall(r"\w+", law[2]):
+                        self.state_by(made, law[1] or crate, name)
         return [it for it in seen.values() if it.stated]
 
     def state_by(self, made, crate, name):
