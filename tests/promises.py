@@ -109,8 +109,13 @@ class Promises:
         programs = [it for it in self.order if (self.top / "crates" / it / "src/main.rt").is_file()]
         crates = [it for program in programs for it in self.order[program]] or [*self.order]
         for crate in [it for it in self.order if it in crates]:
-            for path, names in self.shown(crate):
-                clauses = [it for it in self.all.read_source(path)[0] if it.is_public and (not names or (it.owner or it.name) in names)]
+            shown = self.shown(crate)
+            types = set().union(*shown.values())
+            for path in sorted((self.top / "crates" / crate / "src").glob("**/*.rt")):
+                names = shown.get(path)
+                # (a type's block may stand in any source)
+                is_shown = lambda it: it.owner in types or names is not None and (not names or (it.owner or it.name) in names)
+                clauses = [it for it in self.all.read_source(path)[0] if it.is_public and is_shown(it)]
                 self.take(made, crate, path, clauses)
                 made.stated += [(crate, it) for it in dict.fromkeys(str(it) for it in clauses if it.kind != "ghost")]
                 for it in clauses:
@@ -135,7 +140,7 @@ class Promises:
         for path in found:
             said = re.findall(r"^pub type .*", path.read_text(encoding="utf-8"), re.M)
             self.faults += [f"{crate}: it cannot be seen what this shows: {it}" for it in said]
-        return [*found.items(), *([(lib, set())] if lib.is_file() else [])]
+        return {**found, lib: set()}
 
     def of_sections(self, text):
         """The promises of the sections that name laws."""

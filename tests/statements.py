@@ -84,8 +84,7 @@ def equations(one):
     """The equations of a definition, each as its patterns and its text; none where it has no such."""
     found = []
     for line in one.lines:
-        begins = re.match(rf"{re.escape(one.name)}(?=\s)[^:]*? = ", line) or re.match(rf"{re.escape(one.name)} =$", line)
-        if begins:
+        if re.match(rf"{re.escape(one.name)}(?=\s)(?!\s*:).*? =(?=\s|$)", line):
             found.append([line])
         elif found and line.startswith((" ", "\t", ")", "}")):
             found[-1].append(line)
@@ -100,6 +99,13 @@ def parts_of_record(one):
     names = [name for it in groups(tokens_of(head)) if is_binder(it) for name in bound(it)]
     fields = re.split(r"(?:^|\s)pub (\S+) :(?=\s)", rest)[1:]
     return names, {name: tokens_of(said) for name, said in zip(fields[::2], fields[1::2])}
+
+
+def constructors(one):
+    """The types of a data type's constructors."""
+    rest = " ".join(one.lines).partition(" where")[2]
+    found = re.split(r"(?:^|\s)\|?\s*([^\s(){}:]+) :(?=\s)", re.sub(r"\([^()]*:[^()]*\)", lambda it: it[0].replace(" : ", " ∶ "), rest))
+    return [tokens_of(it.replace(" ∶ ", " : ")) for it in found[2::2]]
 
 
 class Statements:
@@ -137,9 +143,13 @@ class Statements:
         if tokens[:1] == ["λ"]:
             ends = next((at for at, it in enumerate(tokens) if it.endswith(".") or it == "."), 0)
             return self.says(tokens[ends + 1 :], scope, seen, known)
+        if tokens[:1] == ["let"] and "in" in tokens:
+            return self.says(tokens[tokens.index("in") + 1 :], scope, seen, known)
+        if tokens[:1] == ["if"] and len(some := split([";" if it in ("then", "else") else it for it in tokens], ";")) == 3:
+            return any(self.says(it, scope, seen, known) for it in some[1:])
         _, premises, last = premises_of(tokens)
         if premises or len(split(tokens, "→")) > 1:
-            is_met = not any(it == ["⊥"] or self.is_closed(it, scope) for it in premises)
+            is_met = not any(it == ["⊥"] or any(sign in it for sign in RELATIONS) and self.is_closed(it, scope) for it in premises)
             return is_met and self.says(last, scope, seen, (*known, *premises))
         if tokens in known or not tokens:
             return False
@@ -154,9 +164,9 @@ class Statements:
         return self.applies(groups(tokens), scope, seen, known)
 
     def is_closed(self, tokens, scope):
-        """Whether a text is of a relation in which only std has a word: it is proved, or refuted, whatever the project says."""
+        """Whether only std has a word in a text: it is proved, or refuted, whatever the project says."""
         words = [it for it in tokens if re.match(r"[^\W\d]|‹|«", it) and it.split(".")[0] not in scope[1]]
-        return any(it in tokens for it in RELATIONS) and not any(it not in VALUES or scope[0](it) for it in words)
+        return not any(it not in VALUES or scope[0](it) for it in words)
 
     def applies(self, found, scope, seen, known):
         """The same of a name with its arguments."""
@@ -164,7 +174,7 @@ class Statements:
         one = scope[0](head[0]) if len(head) == 1 else None
         if one:
             return self.unfolds(one, arguments, seen)
-        if head[0] in VALUES:
+        if head[0] in VALUES or head != ["⊥"] and self.is_closed([it for some in found for it in some], scope):
             return False
         under = [it[1:-1] for it in arguments if it[:2] == ["(", "λ"]]
         return any(self.says(it, scope, seen, known) for it in under) if under else True
@@ -179,10 +189,17 @@ class Statements:
             names, fields = parts_of_record(one)
             return any(self.says(put(it, dict(zip(names, given))), scope, seen, ()) for it in fields.values())
         if one.is_data:
-            head = " ".join(one.lines).partition(" where")[0]
-            return "(" in head or "→" in head
+            names = bound([it for some in groups(tokens_of(" ".join(one.lines).partition(" where")[0])) if is_binder(some) for it in some])
+            return all(self.asks(put(it, dict(zip(names, given))), scope, seen) for it in constructors(one))
         some = [*equations(one)]
-        return not some or any(self.says(put(right, named_by(left, given)), scope, seen, ()) for left, right in some)
+        return any(self.says(put(right, named_by(left, given)), scope, seen, ()) for left, right in some)
+
+    def asks(self, tokens, scope, seen):
+        """Whether a constructor can only be of some values: it has a premise that states something, or is of special arguments."""
+        names, premises, last = premises_of(tokens)
+        arguments = [it for it in groups(last)[1:] if it[0] != "{"]
+        free = [it[0] for it in arguments if len(it) == 1 and (it[0] in names or it[0].startswith("‹"))]
+        return len(set(free)) < len(arguments) or any(self.says(it, scope, seen, ()) for it in premises)
 
     # Whether a law pins a definition.
 
