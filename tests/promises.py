@@ -1,0 +1,242 @@
+"""What each promise of docs/PROMISES.md leans on. `tests/believed` stands on it.
+
+The first promise is of the calls that the program makes: the contracts of all that the crates which it stands on show. Each further one is of
+the laws that a section of docs/PROMISES.md names in code, as `laws::exactly_once`. A law is that of the crate that is named with it, as
+`nfs_serve::laws::exactly_once`, or in code last before it in its section, as "`nfs_serve`: `laws::exactly_once`", if that has it; else there
+has to be one crate that has it. Laws that no section names come last."""
+
+import hashlib
+import re
+
+from definitions import FUNCTION, RUST_IMPORT
+from statements import Statements, parts_of_record
+
+CALLS = "The calls that the program makes"
+OTHERS = "Laws that no promise names"
+
+HEADING = re.compile(r"^#{2,4} +(.*?)\s*$", re.M)
+CODE = re.compile(r"`([^`\n]+)`")
+LAW = re.compile(r"(?:(\w+)::)?laws::(\w+|\{[\w, ]+\})$")
+SHOWN = re.compile(r"^pub use ([^;]*);|^pub mod (\w+);", re.M)
+
+
+class Promise:
+    """A promise: its title, the laws or calls that state it, as (crate, name), and what their contracts name."""
+
+    def __init__(self, title):
+        self.title, self.stated, self.cited, self.needed, self.types = title, [], set(), set(), set()
+        self.texts = []  # (of the clauses that state it)
+
+    @property
+    def lines(self):
+        return sum(len(it.lines) for it in self.needed)
+
+    @property
+    def files(self):
+        return {it.file for it in self.needed}
+
+    def sum(self, definitions):
+        """A sum of all that the promise says: of its clauses, of what they lean on, and of the Rust types that these name."""
+        lines = sorted(f"{it}: {line.rstrip()}" for it in self.needed for line in it.lines)
+        types = sorted(f"{it}: {definitions.declared.get(it, '')}" for it in self.types)
+        return hashlib.sha256("\n".join([*sorted(self.texts), *lines, *types]).encode()).hexdigest()[:12]
+
+
+class Pin:
+    """A law that pins a definition: what it pins, and what counts in the definition's place."""
+
+    def __init__(self, row):
+        crate, name, law = row
+        self.crate, self.law = crate, law.removeprefix("laws::")
+        self.file, _, self.name = name.rpartition(".")
+        self.fields, self.cited = set(), set()
+
+    def __str__(self):
+        return f"{self.crate} {self.file}.{self.name}"
+
+
+def listed(top):
+    """The crates of crates.txt with what each stands on, in its order."""
+    lines = [it for it in (top / "crates.txt").read_text(encoding="utf-8").splitlines() if ":" in it and not it.startswith("#")]
+    return {name.strip(): rest.split() for name, _, rest in (it.partition(":") for it in lines)}
+
+
+class Promises:
+    """The promises of a repository, in the order of docs/PROMISES.md, and what each leans on."""
+
+    def __init__(self, definitions, text, pins):
+        self.all, self.statements, self.faults, self.top = definitions, Statements(definitions), [], definitions.top
+        self.laws, self.sources, self.pinned = {}, {}, {}  # (sources of each crate's laws by their names; pins by their definitions)
+        self.order, self.judged = listed(self.top), 0  # (how many clauses were judged)
+        for crate in sorted({it.parent.name for it in self.top.glob("crates/*/src")}):
+            self.find_laws(crate)
+        pins = [Pin(it) for it in pins]
+        for it in pins:
+            self.pin(it)
+        self.promises = [self.of_calls(), *self.of_sections(text)]
+        self.promises.append(self.of_others())
+        for it in self.promises:
+            it.needed, _, it.types = self.behind(it.cited)
+        self.judge_pins(pins)
+
+    # Laws, and whether they state anything.
+
+    def find_laws(self, crate):
+        src = self.top / "crates" / crate / "src"
+        for path in [src / "laws.rt", *sorted((src / "laws").glob("**/*.rt"))]:
+            if not path.is_file():
+                continue
+            clauses = self.all.read_source(path)[0]
+            for head in FUNCTION.finditer(path.read_text(encoding="utf-8")):
+                if head[1] == "pub ":
+                    self.laws[crate, head[2]] = path
+                    some = [it for it in clauses if it.name == head[2] and it.kind == "ensures" and it.is_public]
+                    self.faults += [f"{crate} laws::{head[2]}: it ensures nothing"] * (not some)
+                    self.must_state(path, some, f"{crate} laws::{head[2]}")
+
+    def must_state(self, path, clauses, what):
+        imports, std = self.all.imports_of(path, RUST_IMPORT)
+        self.judged += len(clauses)
+        for it in clauses:
+            if not self.statements.states(it.text, imports, std):
+                self.faults.append(f"{what}: this states nothing: {' '.join(it.text.split())[:80]}")
+
+    # What states a promise.
+
+    def of_calls(self):
+        """The promise of the calls of the program: all that the crates show on which it stands or, without one, all crates."""
+        made = Promise(CALLS)
+        programs = [it for it in self.order if (self.top / "crates" / it / "src/main.rt").is_file()]
+        crates = [it for program in programs for it in self.order[program]] or [*self.order]
+        for crate in [it for it in self.order if it in crates]:
+            shown = self.shown(crate)
+            types = set().union(*shown.values())
+            for path in sorted((self.top / "crates" / crate / "src").glob("**/*.rt")):
+                names = shown.get(path)
+                # (a type's block may stand in any source)
+                is_shown = lambda it: it.owner in types or names is not None and (not names or (it.owner or it.name) in names)
+                clauses = [it for it in self.all.read_source(path)[0] if it.is_public and is_shown(it)]
+                self.take(made, crate, path, clauses)
+                made.stated += [(crate, it) for it in dict.fromkeys(str(it) for it in clauses if it.kind != "ghost")]
+                for it in clauses:
+                    self.must_state(path, [it] * (it.kind == "ensures"), f"{crate} {it}")
+        return made
+
+    def shown(self, crate):
+        """The sources from which a crate shows something, but its laws, and the names that it shows of each; all of them where it shows the
+        module itself."""
+        src, found = self.top / "crates" / crate / "src", {}
+        lib = src / "lib.rt"
+        for use, module in SHOWN.findall(lib.read_text(encoding="utf-8")) if lib.is_file() else ():
+            path = re.sub(r"^(?:crate|self)::", "", use)
+            name, _, rest = path.partition("::")
+            if use and (not (src / f"{name}.rt").is_file() or not re.fullmatch(r"[\w ]+|\{[\w ,\s]*\}", rest)):
+                self.faults.append(f"{crate}: it cannot be seen what this shows: pub use {use}")
+            elif use:
+                names = [it.partition(" as ")[0].strip() for it in rest.strip("{}").split(",")]
+                found.setdefault(src / f"{name}.rt", set()).update(filter(None, names))
+            elif module != "laws":
+                found.update({it: set() for it in [src / f"{module}.rt", *sorted((src / module).glob("**/*.rt"))]})
+        for path in found:
+            said = re.findall(r"^pub type .*", path.read_text(encoding="utf-8"), re.M)
+            self.faults += [f"{crate}: it cannot be seen what this shows: {it}" for it in said]
+        return {**found, lib: set()}
+
+    def of_sections(self, text):
+        """The promises of the sections that name laws."""
+        parts, seen = HEADING.split(text), {}
+        for title, body in zip(parts[1::2], parts[2::2]):
+            made, crate = seen.setdefault(title, Promise(title)), ""
+            for word in CODE.findall(body):
+                if (self.top / "crates" / word).is_dir():
+                    crate = word
+                elif law := LAW.match(word):
+                    for name in re.findall(r"\w+", law[2]):
+                        self.state_by(made, law[1] or crate, name)
+        return [it for it in seen.values() if it.stated]
+
+    def state_by(self, made, crate, name):
+        some = [crate] if (crate, name) in self.laws else [it for it, law in self.laws if law == name]
+        if len(some) != 1:
+            self.faults.append(f"docs/PROMISES.md: laws::{name} is a law of {len(some)} crates: name the one in front of it")
+        elif (some[0], name) not in made.stated:
+            self.take_law(made, some[0], name)
+
+    def take_law(self, made, crate, name):
+        path = self.laws[crate, name]
+        made.stated.append((crate, name))
+        self.take(made, crate, path, [it for it in self.all.read_source(path)[0] if it.name == name and it.is_public])
+
+    def take(self, made, crate, path, clauses):
+        """Has these clauses state the promise."""
+        made.cited |= {one for it in clauses for one in self.all.cited_in(path, it)}
+        made.texts += [f"{crate} {it} {it.kind}: {' '.join(it.text.split())}" for it in clauses]
+
+    def of_others(self):
+        made, told = Promise(OTHERS), {it for promise in self.promises for it in promise.stated}
+        for crate, name in self.laws:
+            if (crate, name) not in told:
+                self.take_law(made, crate, name)
+        return made
+
+    # What is leaned on.
+
+    def behind(self, cited):
+        """These definitions and what they name in turn, with what a law names in place of those that it pins; the pinned ones; and the types."""
+        due, seen, passed, types = set(cited), set(), set(), set()
+        while due:
+            file, _ = cited = due.pop()
+            types |= {file} if file not in self.all.names else set()
+            one = self.all.at(cited)
+            if one in self.pinned and one not in passed:
+                passed.add(one)
+                due |= self.pinned[one].cited
+            elif one and one not in seen and one not in self.pinned:
+                seen.add(one)
+                due |= self.all.cited_by(cited)
+        return seen, passed, types
+
+    def pin(self, pin):
+        """Takes the words that a law has in a definition's place, if it pins it."""
+        one, path = self.all.at(((pin.crate, pin.file), pin.name)), self.laws.get((pin.crate, pin.law))
+        if not one or not path:
+            self.faults.append(f"{pin}: there is no such definition, or no public laws::{pin.law}")
+            return
+        imports, std = self.all.imports_of(path, RUST_IMPORT)
+        fields, beside, leant = set(), set(), set()
+        for clause in self.all.read_source(path)[0]:
+            if clause.name != pin.law or not clause.is_public or clause.kind != "ensures":
+                continue
+            field, words = self.statements.pinned_by(one, clause.text, imports, std)
+            for text, home in words if field is not None else ():
+                is_name = home and text == home.name
+                beside |= {(home.file, home.name)} if is_name else set()
+                leant |= self.all.named_in(home, text) if home and not is_name else self.all.cited(text, imports, None, self.all.place(path)) if not home else set()
+                fields.add(field)
+        if not fields:
+            self.faults.append(f"{pin}: laws::{pin.law} is no equation or equivalence of it with other words, for every argument")
+        elif one in {self.all.at(it) for it in leant} | self.behind(leant)[0]:
+            self.faults.append(f"{pin}: the words that laws::{pin.law} has in its place lean on it")
+        else:
+            pin.fields, pin.cited = fields, leant | beside
+            self.pinned[one] = pin
+
+    def judge_pins(self, pins):
+        passed = set().union(*(self.behind(it.cited)[1] for it in self.promises))
+        needed = set().union(*(it.needed for it in self.promises))
+        for one, pin in self.pinned.items():
+            self.faults += [f"{pin}: a law pins it, and no promise leans on it"] * (one not in passed)
+            others = {self.all.at(it) for it in pin.cited if self.all.at(it) in self.pinned} | self.behind(pin.cited)[1]
+            self.faults += [f"{pin}: its law leans on {it}, which is pinned too" for it in others - {one}]
+            if "" not in pin.fields:
+                self.judge_fields(one, pin, needed)
+
+    def judge_fields(self, one, pin, needed):
+        """No field of a definition that its law leaves open may be asked for by what a promise leans on."""
+        kind = one.lines[0].split()[-1]
+        record = next((it for it in self.all.names[one.file].values() if it.name == kind and it.is_record), None)
+        open_fields = set(parts_of_record(record)[1]) - pin.fields if record else {"any"}
+        for field in sorted(open_fields):
+            asked = [it for it in needed if re.search(rf"\.{re.escape(field)}\b", " ".join(it.lines))]
+            if asked or not record:
+                self.faults.append(f"{pin}: laws::{pin.law} says nothing of its {field}, which {asked[0] if asked else 'a promise'} may ask for")
