@@ -248,6 +248,7 @@ def kind_of(signature):
 
 def says(signature):
     """Returns whether a clause of the contract speaks of what the function gives or leaves, other than that it is equal to itself."""
+    signature = re.sub(r"\s*\{\s*\Z", "\n", signature)
     ensured = re.findall(r"^ *ensures\*?(?: \w+)? (\{.*?)(?=^ *(?:ensures|requires|ghost)|\Z)", signature, re.MULTILINE | re.DOTALL)
     for clause in ensured:
         one, is_equation, other = clause.strip().strip("{}").partition(" ≡ ")

@@ -230,7 +230,7 @@ def in_order(rt, tasks, store):
     for key, (waits, lines, needs, call) in tasks.items():
         name, kind = key
         if kind == "edits":
-            waits, lines, call = [(name, "proof")], LINES_OF_A_TURN * turns[name], beside_tests(name, call)
+            waits, lines, call = [it for it in [(name, "proof")] if it in tasks], LINES_OF_A_TURN * turns[name], beside_tests(name, call)
         if kind == "tests":
             waits, lines, needs, call = [], lines // 4, MEMORY_OF_TESTS, tests_of(rt, crates[name], store)
         ordered[key] = (waits, lines, needs, call)
