@@ -182,7 +182,7 @@ class Fresh:
         self.verdict = verdict
 
     def search(self, text):
-        return self.verdict.search(re.sub(r"^(logic=proved main=.*) incremental=trusted\n\Z", r"\1\n", text, flags=re.MULTILINE))
+        return self.verdict.search(re.sub(r"^(logic=proved .*\btarget=.*) incremental=trusted\n\Z", r"\1\n", text, flags=re.MULTILINE))
 
 
 def keep_all(rt, room):
