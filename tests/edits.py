@@ -181,9 +181,10 @@ def heads(folder):
 
 
 def public(folder):
-    """Returns the public functions of a library that have something to turn, each path with its signature and clauses: those that give something
-    back or change something."""
-    lib, found, shown = text_of(f"{folder}/src/lib.rt"), {}, {}
+    """Returns the public functions of a crate that have something to turn, each path with its signature and clauses: those that give something
+    back or change something. A program shows its modules to itself."""
+    is_program = not os.path.isfile(f"{folder}/src/lib.rt")
+    lib, found, shown = "" if is_program else text_of(f"{folder}/src/lib.rt"), {}, {}
     for home, names in re.findall(r"^pub use (?:crate::)?(\w+)::\{?([^;}]*)\}?;", lib, re.MULTILINE):
         shown[home] = f"{shown.get(home, '')} {names}"
     for file, path, head, signature in heads(folder):
@@ -191,7 +192,7 @@ def public(folder):
         told = re.split(r"\n *(?:requires|ensures|\{)", signature)[0]
         if head[1] != "pub " or not re.search(r"->|&mut|Cell<", told):
             continue
-        is_whole = not module or re.search(rf"^pub mod {module[0]};", lib, re.MULTILINE)
+        is_whole = is_program or not module or re.search(rf"^pub mod {module[0]};", lib, re.MULTILINE)
         name = words[-2] if head[0].startswith(" ") else words[-1]
         if is_whole or re.search(rf"\b{re.escape(name)}\b", shown.get(words[0], "")):
             found[path] = signature

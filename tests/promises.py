@@ -104,10 +104,10 @@ class Promises:
     # What states a promise.
 
     def of_calls(self):
-        """The promise of the calls of the program: all that the crates show on which it stands or, without one, all crates."""
+        """The promise of the calls of the program: all that its own modules show and the crates on which it stands or, without one, all crates."""
         made = Promise(CALLS)
-        programs = [it for it in self.order if (self.top / "crates" / it / "src/main.rt").is_file()]
-        crates = [it for program in programs for it in self.order[program]] or [*self.order]
+        programs = [it for it in self.order if self.is_program(it)]
+        crates = [it for program in programs for it in [*self.order[program], program]] or [*self.order]
         for crate in [it for it in self.order if it in crates]:
             shown = self.shown(crate)
             types = set().union(*shown.values())
@@ -122,11 +122,16 @@ class Promises:
                     self.must_state(path, [it] * (it.kind == "ensures"), f"{crate} {it}")
         return made
 
+    def is_program(self, crate):
+        return (self.top / "crates" / crate / "src/main.rt").is_file()
+
     def shown(self, crate):
         """The sources from which a crate shows something, but its laws, and the names that it shows of each; all of them where it shows the
-        module itself."""
+        module itself, as a program does to itself."""
         src, found = self.top / "crates" / crate / "src", {}
         lib = src / "lib.rt"
+        if self.is_program(crate):
+            return {it: set() for it in sorted(src.glob("**/*.rt")) if it.stem not in ("main", "tests")}
         for use, module in SHOWN.findall(lib.read_text(encoding="utf-8")) if lib.is_file() else ():
             path = re.sub(r"^(?:crate|self)::", "", use)
             name, _, rest = path.partition("::")

@@ -175,22 +175,35 @@ def copied(kept):
         yield shutil.copytree(kept, f"{room}/kept", copy_function=os.link)
 
 
+class Fresh:
+    """The shape of a verdict line, which for a program may have the word of a folder for kept work: that is new when its check begins."""
+
+    def __init__(self, verdict):
+        self.verdict = verdict
+
+    def search(self, text):
+        return self.verdict.search(re.sub(r"^(logic=proved .*\btarget=.*) incremental=trusted\n\Z", r"\1\n", text, flags=re.MULTILINE))
+
+
 def keep_all(rt, room):
-    """Has each proof of a library in a run keep all that it wrote, in new folders of the room; returns those folders by the crates' names."""
+    """Has each proof of a crate in a run keep all that it wrote, in new folders of the room; returns those folders by the crates' names."""
     kept, ci = {}, rt.Crate.ci
 
     def ci_and_keep(crate, flags, tests):
-        if crate.is_program:
-            return ci(crate, flags, tests)
         path = f"{room}/{crate.name}"
         shutil.rmtree(path, ignore_errors=True)
         os.mkdir(path)
-        status = prove_once(rt, crate, flags, path)
+        if crate.is_program:
+            prove = crate.prove
+            crate.prove = lambda check: prove([*check, "--incremental", path])
+            status = ci(crate, flags, tests)
+        else:
+            status = prove_once(rt, crate, flags, path)
         if not status and os.listdir(path):
             kept[crate.name] = path
         return status
 
-    rt.Crate.ci = ci_and_keep
+    rt.Crate.ci, rt.rtlib.VERDICT = ci_and_keep, Fresh(rt.rtlib.VERDICT)
     return kept
 
 

@@ -1,7 +1,7 @@
 //! TCP connections over one server, one after the other or many at once.
 
 ghost use Rattle.std.specs.Prelude.{MatchResult};
-ghost use Rattle.nfs_daemon.specs.ExitStatus.{IsOfConnections};
+ghost use Rattle.nfs41d.specs.ExitStatus.{IsOfConnections};
 
 use crate::clock::SystemClock;
 use crate::fault::Fault;

@@ -2,7 +2,7 @@
 use Rattle.std.proofs.Common.{◌≡◌, Bool, true, ◌&&◌, List, [], ◌∷◌, map, String, Global, string_bytes, refl, ap}
 use Rattle.toml.specs.declared.value.Value.{Value}
 use Rattle.toml.specs.View.{members_view}
-use Rattle.nfs_daemon.specs.SettingsFile.{is_known, all_known}
+use Rattle.nfs41d.specs.SettingsFile.{is_known, all_known}
 
 abbrev pub known_keys : List (String Global) → Bool
 known_keys [] = true

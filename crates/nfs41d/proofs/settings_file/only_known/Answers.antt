@@ -1,6 +1,6 @@
 use Rattle.std.proofs.Common.{◌≡◌, rules, map, ap, ◌∙◌}
-use Rattle.nfs_daemon.proofs.Keys.{known_keys, all_known-keys}
-use Rattle.nfs_daemon.proofs.settings_file.only_known.Goals as goal
+use Rattle.nfs41d.proofs.Keys.{known_keys, all_known-keys}
+use Rattle.nfs41d.proofs.settings_file.only_known.Goals as goal
 
 pub loop-key-init : goal.loop-key-init
 loop-key-init c =

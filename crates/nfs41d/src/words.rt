@@ -1,8 +1,8 @@
 //! What the command line asks for.
 
 ghost use Rattle.std.specs.Prelude.{◌≤◌, IfSome, MatchResult};
-ghost use Rattle.nfs_daemon.specs.CommandLine.{MayBeAsked};
-ghost use Rattle.nfs_daemon.specs.ExitStatus.{IsOfCommandLine};
+ghost use Rattle.nfs41d.specs.CommandLine.{MayBeAsked};
+ghost use Rattle.nfs41d.specs.ExitStatus.{IsOfCommandLine};
 
 use crate::asked::Order;
 use crate::fault::Fault;

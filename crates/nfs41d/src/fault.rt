@@ -3,8 +3,8 @@
 ghost use Rattle.std.specs.Prelude.{◌≡◌, is_err};
 ghost use Rattle.std.specs.IoError.{error_kind};
 ghost use Rattle.std.specs.Process.{exit_status};
-ghost use Rattle.nfs_daemon.specs.ExitStatus as ends;
-ghost use Rattle.nfs_daemon.specs.declared.fault.Fault.TheVariants.{Replay};
+ghost use Rattle.nfs41d.specs.ExitStatus as ends;
+ghost use Rattle.nfs41d.specs.declared.fault.Fault.TheVariants.{Replay};
 
 use crate::settings_file::Bad;
 use nfs_serve::{ReplayFault, Stop};
@@ -57,7 +57,7 @@ impl From<Bad> for Fault {
 
 /// Writes the fault's line, whose own failure is passed over, and answers the exit status: 1 where the program has not begun,
 /// 2 for a fault of the script, 3 for a fault of input, output or connections.
-fn told<W: Write>(fault: &Fault, w: &mut W) -> u8
+pub fn told<W: Write>(fault: &Fault, w: &mut W) -> u8
     ensures { result ≡ ends.fault_status fault.now }
 {
     let _ = writeln!(w, "nfs41d: {fault}");

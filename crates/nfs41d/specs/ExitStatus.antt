@@ -5,9 +5,9 @@ use Rattle.std.specs.declared.io.ErrorKind.TheVariants.{OutOfMemory}
 use Rattle.nfs_serve.specs.declared.fault.Stop.{Stop}
 use Rattle.nfs_serve.specs.declared.fault.Stop.TheVariants.{ReadFailed, WriteFailed}
 use Rattle.nfs_serve.specs.declared.fault.ReplayFault.{ReplayFault}
-use Rattle.nfs_daemon.specs.declared.fault.Fault.{Fault}
-use Rattle.nfs_daemon.specs.declared.settings_file.Bad.{Bad}
-use Rattle.nfs_daemon.specs.declared.settings_file.Bad.TheVariants.{Text, Memory}
+use Rattle.nfs41d.specs.declared.fault.Fault.{Fault}
+use Rattle.nfs41d.specs.declared.settings_file.Bad.{Bad}
+use Rattle.nfs41d.specs.declared.settings_file.Bad.TheVariants.{Text, Memory}
 
 abbrev pub stop_status : Stop → ℕ
 stop_status ReadFailed = 3

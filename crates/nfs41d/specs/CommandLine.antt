@@ -1,7 +1,7 @@
 -- What may be asked for on the command line (this server's profile).
 use Rattle.std.specs.Prelude.{◌≤◌}
-use Rattle.nfs_daemon.specs.declared.asked.Order.{Order}
-use Rattle.nfs_daemon.specs.declared.asked.Order.TheVariants.{Replay, Serve}
+use Rattle.nfs41d.specs.declared.asked.Order.{Order}
+use Rattle.nfs41d.specs.declared.asked.Order.TheVariants.{Replay, Serve}
 
 -- 1 to 1,000,000 connections, 1 to 16 at once
 abbrev pub MayBeAsked : Order → Type 0

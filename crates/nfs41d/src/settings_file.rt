@@ -4,7 +4,7 @@ ghost use Rattle.std.specs.Prelude.{◌≡◌, IfOk, Some, None, Err};
 ghost use Rattle.toml.specs.Data.{get};
 ghost use Rattle.toml.specs.Errors.{IsBlank};
 ghost use Rattle.toml.specs.View.{view, table_view};
-ghost use Rattle.nfs_daemon.specs.SettingsFile.{settings_in, number_of, all_known, is_known};
+ghost use Rattle.nfs41d.specs.SettingsFile.{settings_in, number_of, all_known, is_known};
 
 use nfs_serve::Settings;
 use std::alloc::Global;

@@ -1,0 +1,196 @@
+//! The rows of the command line, of the settings and of the lines that faults are told by (docs/PROTOCOL.md, docs/OPERATING.md).
+
+use crate::asked::Order;
+use crate::fault::{Fault, told};
+use crate::settings_file::{Bad, settings};
+use crate::words::order;
+use nfs_serve::{ReplayFault, Stop};
+use std::test::Fail;
+
+/// An order to serve in the words given, as the numbers that it has.
+fn numbers(rt: &HostRuntime, words: &[&str]) -> Option<(u32, u32)> {
+    match order(rt.alloc(), words) {
+        Ok(
+            Order::Serve {
+                connections,
+                at_once,
+                ..
+            },
+        ) => Some((connections, at_once)),
+        _ => None,
+    }
+}
+
+#[test]
+fn an_order_to_serve_has_its_address_its_numbers_and_its_settings(
+    rt: HostRuntime,
+) -> Result<(), Fail> {
+    let words = [
+        "nfs41d",
+        "serve",
+        "--settings",
+        "there.toml",
+        "--at-once",
+        "16",
+        "--connections",
+        "1000000",
+        "--listen",
+        "127.0.0.1:2049",
+    ];
+    let is_so = matches!(
+        order(rt.alloc(), words.as_slice()),
+        Ok(Order::Serve {
+            listen: "127.0.0.1:2049",
+            connections: 1_000_000,
+            at_once: 16,
+            settings: Some("there.toml")
+        })
+    );
+    assert!(rt; is_so);
+    Ok(())
+}
+
+#[test]
+fn connections_are_served_one_after_the_other_unless_more_are_asked_for(
+    rt: HostRuntime,
+) -> Result<(), Fail> {
+    let words = [
+        "nfs41d",
+        "serve",
+        "--listen",
+        "127.0.0.1:0",
+        "--connections",
+        "3",
+    ];
+    assert!(rt; numbers(&rt, words.as_slice()) == Some((3, 1)));
+    Ok(())
+}
+
+#[test]
+fn numbers_out_of_their_range_are_bad_arguments(rt: HostRuntime) -> Result<(), Fail> {
+    for (connections, at_once) in [
+        ("0", "1"),
+        ("1000001", "1"),
+        ("1", "0"),
+        ("1", "17"),
+        ("-1", "1"),
+        ("1", "x"),
+    ] {
+        let words = [
+            "nfs41d",
+            "serve",
+            "--listen",
+            "127.0.0.1:0",
+            "--connections",
+            connections,
+            "--at-once",
+            at_once,
+        ];
+        assert!(rt; matches!(order(rt.alloc(), words.as_slice()), Err(Fault::Arguments)));
+    }
+    Ok(())
+}
+
+#[test]
+fn a_replay_may_have_settings(rt: HostRuntime) -> Result<(), Fail> {
+    let plain = ["nfs41d", "replay"];
+    assert!(rt;
+        matches!(
+            order(rt.alloc(), plain.as_slice()),
+            Ok(Order::Replay { settings: None })
+        )
+    );
+    let with_file = ["nfs41d", "replay", "--settings", "a.toml"];
+    let is_so = matches!(
+        order(rt.alloc(), with_file.as_slice()),
+        Ok(Order::Replay {
+            settings: Some("a.toml")
+        })
+    );
+    assert!(rt; is_so);
+    Ok(())
+}
+
+#[test]
+fn other_words_are_bad_arguments(rt: HostRuntime) -> Result<(), Fail> {
+    for word in ["--help", "--version", "help", "stop", "serve", "", "Replay"] {
+        let words = ["nfs41d", word];
+        assert!(rt; matches!(order(rt.alloc(), words.as_slice()), Err(Fault::Arguments)));
+    }
+    let twice = ["nfs41d", "replay", "replay"];
+    assert!(rt; matches!(order(rt.alloc(), twice.as_slice()), Err(Fault::Arguments)));
+    Ok(())
+}
+
+/// Whether a fault is told by this line and this status.
+fn is_told(rt: &HostRuntime, fault: &Fault, line: &str, status: u8) -> bool {
+    let mut written = Vec::new(rt.alloc());
+    let given = told(fault, &mut written);
+    given == status && written.as_slice() == line.as_bytes()
+}
+
+#[test]
+fn each_fault_is_told_by_a_line_and_a_status(rt: HostRuntime) -> Result<(), Fail> {
+    assert!(rt; is_told(&rt, &Fault::Arguments, "nfs41d: bad arguments\n", 1));
+    assert!(rt; is_told(&rt, &Fault::Settings, "nfs41d: bad settings\n", 1));
+    assert!(rt; is_told(&rt, &Fault::Start, "nfs41d: cannot start\n", 1));
+    assert!(rt; is_told(&rt, &Fault::Accept, "nfs41d: accept failed\n", 3));
+    assert!(rt; is_told(&rt, &Fault::Flush, "nfs41d: output failed\n", 3));
+    Ok(())
+}
+
+#[test]
+fn the_fault_of_a_run_is_told_with_its_entry(rt: HostRuntime) -> Result<(), Fail> {
+    for (number, line, status) in [
+        (Stop::Cut, "nfs41d: script fault 1 at entry 12\n", 2),
+        (Stop::Connection, "nfs41d: script fault 2 at entry 12\n", 2),
+        (Stop::Long, "nfs41d: script fault 3 at entry 12\n", 2),
+        (Stop::Late, "nfs41d: script fault 4 at entry 12\n", 2),
+        (Stop::Many, "nfs41d: script fault 5 at entry 12\n", 2),
+        (Stop::ReadFailed, "nfs41d: input failed\n", 3),
+        (Stop::WriteFailed, "nfs41d: output failed\n", 3),
+    ] {
+        let fault = Fault::Replay(ReplayFault { number, entry: 12 });
+        assert!(rt; is_told(&rt, &fault, line, status));
+    }
+    Ok(())
+}
+
+#[test]
+fn settings_are_what_the_text_says(rt: HostRuntime) -> Result<(), Fail> {
+    for (text, lease, root_mode, instance) in [
+        ("", 90, 0o777, 5),
+        ("lease = 30", 30, 0o777, 5),
+        ("root_mode = 0o750\ninstance = 9", 90, 0o750, 9),
+        (
+            "instance = 4294967294\nlease = 86400\nroot_mode = 0",
+            86_400,
+            0,
+            4_294_967_294,
+        ),
+    ] {
+        let found = settings(rt.alloc(), text, 5);
+        assert!(rt;
+            matches!(found, Ok((it, number)) if it.lease == lease && it.root_mode == root_mode && number == instance)
+        );
+    }
+    Ok(())
+}
+
+#[test]
+fn texts_that_are_no_settings_are_refused(rt: HostRuntime) -> Result<(), Fail> {
+    for text in [
+        "lease = 0",
+        "lease = 86401",
+        "lease = \"90\"",
+        "size = 1",
+        "root_mode = 0o10000",
+        "instance = 0",
+        "instance = 4294967295",
+        "lease = 1\nlease = 1",
+        "lease",
+    ] {
+        assert!(rt; matches!(settings(rt.alloc(), text, 5), Err(Bad::Text)));
+    }
+    Ok(())
+}
