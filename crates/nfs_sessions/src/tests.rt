@@ -2,7 +2,6 @@
 
 use super::*;
 use nfs_slots::Verdict;
-use nfs_testing::{MAX_BLOCKS, starve};
 use nfs_xdr::Status;
 use std::test::Fail;
 
@@ -212,24 +211,5 @@ fn a_reply_as_long_as_the_channel_lets_pass_is_kept(rt: HostRuntime) -> Result<(
         assert_eq!(rt; said, Some(want));
     }
     assert_eq!(rt; kept(&sessions, &id), Some(reply.as_slice()));
-    Ok(())
-}
-
-#[test]
-fn a_session_without_memory_leaves_all_as_it_was(rt: HostRuntime) -> Result<(), Fail> {
-    let mut sessions = Sessions::new(rt.alloc());
-    let large = wish(66_560, 66_560, 64, 16);
-    let first = sessions.create(rt.alloc(), A, &large)?;
-    serve(&mut sessions, &first, 1, b"args", b"reply");
-    let mut held = Vec::with_capacity(rt.alloc(), MAX_BLOCKS)?;
-    starve(rt.alloc(), &mut held);
-    let refused = sessions.create(rt.alloc(), B, &large);
-    drop(held);
-    let after = (refused, sessions.has_client(B));
-    assert_eq!(rt; after, (Err(SessionFault::Memory), false));
-    let said = serve(&mut sessions, &first, 1, b"args", b"other");
-    assert_eq!(rt; said, Some(Verdict::Again));
-    assert_eq!(rt; kept(&sessions, &first), Some(b"reply".as_slice()));
-    assert_eq!(rt; sessions.create(rt.alloc(), B, &large)?.counter, 2);
     Ok(())
 }
