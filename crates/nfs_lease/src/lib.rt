@@ -15,7 +15,5 @@
 #![tactic(auto)]
 
 mod leases;
-#[cfg(test)]
-mod tests;
 
 pub use leases::Leases;

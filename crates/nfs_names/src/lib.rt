@@ -22,8 +22,6 @@ mod making;
 mod node;
 mod operation;
 mod store;
-#[cfg(test)]
-mod tests;
 mod walking;
 
 pub use checks::{current, is_link, judge_name, node_at, permits, put_refusal, refuse};

@@ -1,5 +1,5 @@
 -- One share of a piece more.
-use Rattle.std.proofs.Common.{◌≡◌, ℕ, ◌+◌, ◌-◌, ◌%◌, ◌^◌, ◌<◌, ◌≤◌, List, [], ◌++◌, length, take, drop, true, false, refl, sym, ap, subst, ◌∙◌, append_assoc}
+use Rattle.std.proofs.Common.{◌≡◌, ℕ, ◌+◌, ◌-◌, ◌%◌, ◌^◌, ◌<◌, ◌≤◌, List, [], ◌++◌, length, take, drop, true, sym, ap, subst, ◌∙◌, append_assoc}
 use Rattle.std.proofs.Common.{inl, inr, arith}
 use Rattle.std.specs.Int.{w32, from_be_bytes}
 use Rattle.std.proofs.lemmas.List.{take-append-drop, take-take, drop-take, take_all, take_at, drop_at, length-take, length-drop, length-append}
@@ -8,9 +8,9 @@ use Rattle.nfs_xdr.specs.Spelling.{number}
 use Rattle.nfs_xdr.specs.Codec.{IsBytes}
 use Rattle.nfs_xdr.proofs.Putting.{length_number}
 use Rattle.nfs_xdr.proofs.CodecLaws.{IsBytes-take}
-use Rattle.nfs_rpc.specs.RecordMarking.{Gathered, Begun, Complete, Failed, IsPart, IsRecord, start, spell_mark, fragments}
+use Rattle.nfs_rpc.specs.RecordMarking.{Gathered, Begun, IsPart, IsRecord, start, spell_mark, fragments}
 use Rattle.nfs_xdr.specs.Limits.{most_record}
-use Rattle.nfs_rpc.specs.Feeding.{waits, done_with, BeginsWith, IsWhole, Holds}
+use Rattle.nfs_rpc.specs.Feeding.{BeginsWith, IsWhole, Holds}
 use Rattle.nfs_rpc.proofs.Fragments.{IsBytes-append}
 
 take_front : (piece : List ℕ) (i k : ℕ) → take i piece ++ take k (drop i piece) ≡ take (i + k) piece
@@ -87,9 +87,3 @@ front_is_long piece record_data b = omega (
   length-append (number (2147483648 + length record_data)) (record_data ++ b.behind),
   length_number (2147483648 + length record_data),
 )
-
--- no record waits once one is done with
-pub done_waits : (held : Gathered) → waits (done_with held) ≡ false
-done_waits (Begun p) = refl
-done_waits (Complete record_data) = refl
-done_waits Failed = refl

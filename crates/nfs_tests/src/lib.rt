@@ -1,15 +1,11 @@
-//! Tests that cost less in a crate of their own: the words of each spelling in RFC 5662, by [`nfs_compound`] and [`nfs_results`]; compounds over
-//! a new [`nfs_exec::World`]; and records, pieces, scripts and talks of a [`nfs_serve::Server`], with ends that fail.
+//! Tests that cost less in a crate of their own: the words of each spelling in RFC 5662, by [`nfs_compound`] and [`nfs_results`]; and a
+//! [`nfs_serve::Server`] over ends that fail.
 //!
 //! A crate's tests are proved together with all of its code, and read all that it stands on before the first of them. Here that is read once.
 #![tactic(auto)]
 
 #[cfg(test)]
 mod arguments;
-#[cfg(test)]
-mod compounds;
-#[cfg(test)]
-mod cuts;
 #[cfg(test)]
 mod names;
 #[cfg(test)]

@@ -1,10 +1,8 @@
-//! Records, pieces, scripts and talks, and ends that fail.
+//! A server over ends that fail, and the calls of it that the program does not make.
 
+mod calls;
 mod failing;
 mod fakes;
-mod pieces;
-mod scripts;
-mod starting;
 mod talks;
 
 use nfs_serve::Settings;

@@ -12,7 +12,7 @@ fn fault(number: Stop, entry: u32) -> ReplayFault {
 }
 
 /// NULL and EXCHANGE_ID on connection 0, in two entries of 60 and 124 bytes.
-pub(super) fn script(alloc: Global) -> Result<Vec<u8>, AllocError> {
+fn script(alloc: Global) -> Result<Vec<u8>, AllocError> {
     bytes_of(
         alloc,
         &[
@@ -25,7 +25,7 @@ pub(super) fn script(alloc: Global) -> Result<Vec<u8>, AllocError> {
 }
 
 /// What is put out for it: 32 bytes and 108.
-pub(super) fn output(alloc: Global) -> Result<Vec<u8>, AllocError> {
+fn output(alloc: Global) -> Result<Vec<u8>, AllocError> {
     bytes_of(
         alloc,
         &[
@@ -37,21 +37,61 @@ pub(super) fn output(alloc: Global) -> Result<Vec<u8>, AllocError> {
     )
 }
 
+/// How a run ended, what was written, and whether the reader and the writer have failed.
+#[derive(Drop)]
+struct Ran {
+    done: Result<(), ReplayFault>,
+    written: Vec<u8>,
+    failed: (bool, bool),
+}
+
+/// Runs a script over ends that move a byte at each call. The reader fails at one of its calls, the writer at one of
+/// its own; they are counted from 1, and at 0 there is none.
+fn run(
+    server: &mut Server,
+    alloc: Global,
+    script: &[u8],
+    read_fails: usize,
+    write_fails: usize,
+) -> Ran {
+    let mut r = Host::new(Drip {
+        bytes: script,
+        most: 1,
+        fails: read_fails,
+        calls: 0,
+    });
+    let mut w = Host::new(Tray {
+        bytes: Vec::new(alloc),
+        most: 1,
+        fails: write_fails,
+        calls: 0,
+    });
+    let done = server.replay(alloc, &mut r, &mut w);
+    Ran {
+        done,
+        failed: (r.failed, w.failed),
+        written: w.inner.bytes,
+    }
+}
+
+/// The same over a new server.
+fn run_anew(
+    alloc: Global,
+    script: &[u8],
+    read_fails: usize,
+    write_fails: usize,
+) -> Result<Ran, Fail> {
+    let mut server = Server::new(alloc, SETTINGS, 7)?;
+    Ok(run(&mut server, alloc, script, read_fails, write_fails))
+}
+
 #[test]
 fn reads_fail_in_turn(rt: HostRuntime) -> Result<(), Fail> {
     let script = script(rt.alloc())?;
     let output = output(rt.alloc())?;
     // The script is 184 reads of one byte, and call 185 meets its end.
     for fails in 1..=186 {
-        let mut server = Server::new(rt.alloc(), SETTINGS, 7)?;
-        let mut r = Host::new(Drip {
-            bytes: script.as_slice(),
-            most: 1,
-            fails,
-            calls: 0,
-        });
-        let mut w = Host::new(Vec::new(rt.alloc()));
-        let done = server.replay(rt.alloc(), &mut r, &mut w);
+        let ran = run_anew(rt.alloc(), script.as_slice(), fails, 0)?;
         let (wanted, written) = match fails {
             1..=60 => (Err(fault(Stop::ReadFailed, 1)), 0),
             61..=184 => (Err(fault(Stop::ReadFailed, 2)), 32),
@@ -59,8 +99,8 @@ fn reads_fail_in_turn(rt: HostRuntime) -> Result<(), Fail> {
             _ => (Ok(()), 140),
         };
         assert_eq!(rt;
-            (done, Some(w.inner.as_slice()), r.failed),
-            (wanted, output.get(..written), wanted.is_err()),
+            (ran.done, Some(ran.written.as_slice()), ran.failed),
+            (wanted, output.get(..written), (wanted.is_err(), false)),
             "at call {fails}"
         );
     }
@@ -72,23 +112,15 @@ fn writes_fail_in_turn(rt: HostRuntime) -> Result<(), Fail> {
     let script = script(rt.alloc())?;
     let output = output(rt.alloc())?;
     for fails in 1..=141 {
-        let mut server = Server::new(rt.alloc(), SETTINGS, 7)?;
-        let mut r = Host::new(script.as_slice());
-        let mut w = Host::new(Tray {
-            bytes: Vec::new(rt.alloc()),
-            most: 1,
-            fails,
-            calls: 0,
-        });
-        let done = server.replay(rt.alloc(), &mut r, &mut w);
+        let ran = run_anew(rt.alloc(), script.as_slice(), 0, fails)?;
         let wanted = match fails {
             1..=32 => Err(fault(Stop::WriteFailed, 1)),
             33..=140 => Err(fault(Stop::WriteFailed, 2)),
             _ => Ok(()),
         };
         assert_eq!(rt;
-            (done, Some(w.inner.bytes.as_slice()), w.failed),
-            (wanted, output.get(..fails - 1), wanted.is_err()),
+            (ran.done, Some(ran.written.as_slice()), ran.failed),
+            (wanted, output.get(..fails - 1), (false, wanted.is_err())),
             "at call {fails}"
         );
     }

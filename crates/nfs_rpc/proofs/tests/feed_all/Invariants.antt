@@ -1,9 +1,0 @@
-use Rattle.std.proofs.Common.{◌≡◌, false, length}
-use Rattle.nfs_rpc.specs.Feeding.{waits}
-use Rattle.nfs_rpc.proofs.tests.feed_all.Given as goal
-
-abbrev pub invariant-loop-left : goal.invariant-loop-left
-invariant-loop-left l = waits l.records ≡ false
-
-abbrev pub decreases-loop-left : goal.decreases-loop-left
-decreases-loop-left l = length l.left
