@@ -130,7 +130,8 @@ class Promises:
         for use, module in SHOWN.findall(lib.read_text(encoding="utf-8")) if lib.is_file() else ():
             path = re.sub(r"^(?:crate|self)::", "", use)
             name, _, rest = path.partition("::")
-            if use and (not (src / f"{name}.rt").is_file() or not re.fullmatch(r"[\w ]+|\{[\w ,\s]*\}", rest)):
+            is_seen = (src / f"{name}.rt").is_file() and re.fullmatch(r"[\w ]+|\{[\w ,\s]*\}", rest)
+            if use and not is_seen:
                 self.faults.append(f"{crate}: it cannot be seen what this shows: pub use {use}")
             elif use:
                 names = [it.partition(" as ")[0].strip() for it in rest.strip("{}").split(",")]
@@ -202,17 +203,17 @@ class Promises:
         if not one or not path:
             self.faults.append(f"{pin}: there is no such definition, or no public laws::{pin.law}")
             return
-        imports, std = self.all.imports_of(path, RUST_IMPORT)
+        imports, _ = self.all.imports_of(path, RUST_IMPORT)
         fields, beside, leant = set(), set(), set()
         for clause in self.all.read_source(path)[0]:
             if clause.name != pin.law or not clause.is_public or clause.kind != "ensures":
                 continue
-            field, words = self.statements.pinned_by(one, clause.text, imports, std)
-            for text, home in words if field is not None else ():
-                is_name = home and text == home.name
-                beside |= {(home.file, home.name)} if is_name else set()
-                leant |= self.all.named_in(home, text) if home and not is_name else self.all.cited(text, imports, None, self.all.place(path)) if not home else set()
-                fields.add(field)
+            pinned = self.statements.pinned_by(one, clause.text, imports)
+            if pinned:
+                fields.add(pinned.field)
+                beside |= {(it.file, it.name) for it in pinned.statements}
+                for text in pinned.words:
+                    leant |= self.all.named_in(pinned.home, text) if pinned.home else self.all.cited(text, imports, None, self.all.place(path))
         if not fields:
             self.faults.append(f"{pin}: laws::{pin.law} is no equation or equivalence of it with other words, for every argument")
         elif one in {self.all.at(it) for it in leant} | self.behind(leant)[0]:
@@ -239,4 +240,5 @@ class Promises:
         for field in sorted(open_fields):
             asked = [it for it in needed if re.search(rf"\.{re.escape(field)}\b", " ".join(it.lines))]
             if asked or not record:
-                self.faults.append(f"{pin}: laws::{pin.law} says nothing of its {field}, which {asked[0] if asked else 'a promise'} may ask for")
+                who = asked[0] if asked else "a promise"
+                self.faults.append(f"{pin}: laws::{pin.law} says nothing of its {field}, which {who} may ask for")
