@@ -73,10 +73,11 @@ class Page:
 
     def totals(self):
         """What the table at the top says of each promise: its title, lines, new lines, lines of its files, types, and sum."""
-        return [
-            (it.title, it.lines, sum(len(one.lines) for one in new), sum(self.whole[file] for file in it.files), len(it.types), it.sum(self.all))
-            for it, new in self.rows
-        ]
+        return [self.told_of(it, new) for it, new in [*self.rows, (self.promises.whole(), set())]]
+
+    def told_of(self, it, new):
+        files = sum(self.whole[file] for file in it.files)
+        return it.title, it.lines, sum(len(one.lines) for one in new), files, len(it.types), it.sum(self.all)
 
     def text(self):
         parts = [HEAD, self.table()]

@@ -8,11 +8,12 @@ has to be one crate that has it. Laws that no section names come last."""
 import hashlib
 import re
 
-from definitions import FUNCTION, RUST_IMPORT
+from definitions import FUNCTION, RUST_IMPORT, Definitions
 from statements import Statements, parts_of_record
 
 CALLS = "The calls that the program makes"
 OTHERS = "Laws that no promise names"
+ALL = "All of these"
 
 HEADING = re.compile(r"^#{2,4} +(.*?)\s*$", re.M)
 CODE = re.compile(r"`([^`\n]+)`")
@@ -59,6 +60,26 @@ def listed(top):
     """The crates of crates.txt with what each stands on, in its order."""
     lines = [it for it in (top / "crates.txt").read_text(encoding="utf-8").splitlines() if ":" in it and not it.startswith("#")]
     return {name.strip(): rest.split() for name, _, rest in (it.partition(":") for it in lines)}
+
+
+def rows_of(path):
+    """The rows of a table of tabs, without comments."""
+    text = path.read_text(encoding="utf-8") if path.is_file() else ""
+    return [line.split("\t") for line in text.splitlines() if line.strip() and not line.startswith("#")]
+
+
+def read(top):
+    """The promises of a repository."""
+    text = (top / "docs/PROMISES.md").read_text(encoding="utf-8")
+    return Promises(Definitions(top), text, [it for it in rows_of(top / "tests/pins.tsv") if len(it) == 3])
+
+
+def lines_by_crate(top):
+    """How many lines of meaning of each crate a repository's promises lean on."""
+    found = {}
+    for one in set().union(*(it.needed for it in read(top).promises)):
+        found[one.file[0]] = found.get(one.file[0], 0) + len(one.lines)
+    return found
 
 
 class Promises:
@@ -153,11 +174,13 @@ class Promises:
                     crate = word
                 elif law := LAW.match(word):
                     for name in re.findall(r"\w+", law[2]):
-                        self.state_by(made, law[1] or crate, name)
+                        self.state_by(made, law[1], crate, name)
         return [it for it in seen.values() if it.stated]
 
-    def state_by(self, made, crate, name):
-        some = [crate] if (crate, name) in self.laws else [it for it, law in self.laws if law == name]
+    def state_by(self, made, own, last, name):
+        """Has the law of this name state the promise: that of its own crate, where one is named with it, or of the one named last."""
+        some = [it for it, law in self.laws if law == name and own in (None, it)]
+        some = [last] if last in some else some
         if len(some) != 1:
             self.faults.append(f"docs/PROMISES.md: laws::{name} is a law of {len(some)} crates: name the one in front of it")
         elif (some[0], name) not in made.stated:
@@ -172,6 +195,21 @@ class Promises:
         """Has these clauses state the promise."""
         made.cited |= {one for it in clauses for one in self.all.cited_in(path, it)}
         made.texts += [f"{crate} {it} {it.kind}: {' '.join(it.text.split())}" for it in clauses]
+
+    def whole(self):
+        """All that the promises say, as one."""
+        made = Promise(ALL)
+        for it in self.promises:
+            made.texts += it.texts
+            made.needed |= it.needed
+            made.types |= it.types
+        return made
+
+    def unnamed(self, text):
+        """The laws that a text names and no promise does."""
+        told = {name for it in self.promises if it.title != OTHERS for _, name in it.stated}
+        found = [name for word in CODE.findall(text) if (law := LAW.match(word)) for name in re.findall(r"\w+", law[2])]
+        return [it for it in dict.fromkeys(found) if it not in told]
 
     def of_others(self):
         made, told = Promise(OTHERS), {it for promise in self.promises for it in promise.stated}
