@@ -73,7 +73,8 @@ class Page:
 
     def totals(self):
         """What the table at the top says of each promise: its title, lines, new lines, lines of its files, types, and sum."""
-        return [self.told_of(it, new) for it, new in [*self.rows, (self.promises.whole(), set())]]
+        whole = self.promises.whole()
+        return [self.told_of(it, new) for it, new in [*self.rows, (whole, whole.needed)]]
 
     def told_of(self, it, new):
         files = sum(self.whole[file] for file in it.files)

@@ -271,12 +271,14 @@ class Promises:
                 self.judge_fields(one, pin, needed)
 
     def judge_fields(self, one, pin, needed):
-        """No field of a definition that its law leaves open may be asked for by what a promise leans on."""
+        """No field of a definition that its law leaves open may be asked for by what a promise leans on: by what names the definition, or the
+        record that it gives."""
         kind = one.lines[0].split()[-1]
         record = next((it for it in self.all.names[one.file].values() if it.name == kind and it.is_record), None)
         open_fields = set(parts_of_record(record)[1]) - pin.fields if record else {"any"}
+        ask = [it for it in needed if {one, record} & {self.all.at(cited) for cited in self.all.cited_by((it.file, it.name))}]
         for field in sorted(open_fields):
-            asked = [it for it in needed if re.search(rf"\.{re.escape(field)}\b", " ".join(it.lines))]
+            asked = [it for it in ask if re.search(rf"\.{re.escape(field)}\b", " ".join(it.lines))]
             if asked or not record:
                 who = asked[0] if asked else "a promise"
                 self.faults.append(f"{pin}: laws::{pin.law} says nothing of its {field}, which {who} may ask for")
