@@ -196,7 +196,7 @@ class Plants:
         self.is_stale("a definition that says something else in as many lines", {HALF: self.definition.replace("number / 2", "number / 3")})
         self.is_stale("a definition more, on which nothing leans", {HALF: self.definition + "\nabbrev pub third : ℕ\nthird = 3\n"})
         self.is_stale("a promise that is not told", {PROMISES: self.page.replace("`laws::halves`", "a law")})
-        self.is_red("a promise by a law that is not there", {PROMISES: self.page.replace("halves", "thirds")}, "laws::thirds is a law of 0 crates")
+        self.is_red("a promise by a law that is not there", {PROMISES: self.page.replace("halves", "thirds")}, "laws::thirds: no crate has such a law")
         self.is_red("a law that the README names alone", {README: "It keeps `laws::quotients`.\n"}, "README.md: it names laws::quotients")
         self.is_right("a law that both name", {README: "It keeps `laws::halves`.\n"})
         self.is_right("a number of lines that the page has", {README: "Read 4 lines of meaning.\n"})

@@ -182,7 +182,8 @@ class Promises:
         some = [it for it, law in self.laws if law == name and own in (None, it)]
         some = [last] if last in some else some
         if len(some) != 1:
-            self.faults.append(f"docs/PROMISES.md: laws::{name} is a law of {len(some)} crates: name the one in front of it")
+            why = f"{', '.join(some)} have such a law: name the crate in front of it" if some else "no crate has such a law"
+            self.faults.append(f"docs/PROMISES.md: laws::{name}: {why}")
         elif (some[0], name) not in made.stated:
             self.take_law(made, some[0], name)
 
