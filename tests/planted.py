@@ -185,6 +185,8 @@ class Plants:
             "a public call of which nothing is said": self.in_lib("result ≡ number", "result ≡ result"),
         }.items():
             self.is_red(what, changes, STATED)
+        for what, new in (("asks", "quotients()\n    requires { half 1 ≡ 1 }"), ("takes", "quotients(never: Never)"), ("answers", "quotients() -> u32")):
+            self.is_red(f"a law that {what}", in_laws("quotients()", new), "a law takes and answers nothing")
         self.is_red("a law without a contract", in_laws(f"    ensures {{ {HALVES} }}\n", ""), "laws::halves: it ensures nothing")
 
     def pages(self):
@@ -233,6 +235,9 @@ class Plants:
             ("all names of a module shown", self.in_lib(shown, f"{shown}pub use more::*;\n"), "passed on unseen"),
             ("names that a second module passes on", {MORE: "pub use crate::laws::halves;\n"}, "names that are passed on"),
             ("a module written into a source", {MORE: "pub mod inner {\n}\n"}, "a module written into a source"),
+            ("text of another file", {MORE: "#[path = \"../hidden.rt\"]\nmod hidden;\n"}, "text that stands elsewhere"),
+            ("a macro that writes contracts", {MORE: "macro_rules! law {\n}\n"}, "text that stands elsewhere"),
+            ("another name for Unit", in_words("{◌≡◌,", "{Unit as Whole, ◌≡◌,"), "another name for a type that everything has"),
             ("another name of a type shown", {MORE: "pub type Pair = Inner;\n", **self.in_lib(shown, f"{shown}pub use more::Pair;\n")}, "pub type"),
         ):
             self.is_red(what, changes, why)

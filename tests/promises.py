@@ -107,13 +107,19 @@ class Promises:
         for path in [src / "laws.rt", *sorted((src / "laws").glob("**/*.rt"))]:
             if not path.is_file():
                 continue
-            clauses = self.all.read_source(path)[0]
-            for head in FUNCTION.finditer(path.read_text(encoding="utf-8")):
+            text = path.read_text(encoding="utf-8")
+            for head in FUNCTION.finditer(text):
                 if head[1] == "pub ":
                     self.laws[crate, head[2]] = path
-                    some = [it for it in clauses if it.name == head[2] and it.kind == "ensures" and it.is_public]
-                    self.faults += [f"{crate} laws::{head[2]}: it ensures nothing"] * (not some)
-                    self.must_state(path, some, f"{crate} laws::{head[2]}")
+                    self.judge_law(path, head[2], text[head.end() :].partition("\n")[0], f"{crate} laws::{head[2]}")
+
+    def judge_law(self, path, name, takes, what):
+        """A law takes nothing, asks for nothing and answers nothing, and each of its clauses states something."""
+        clauses = [it for it in self.all.read_source(path)[0] if it.name == name and it.is_public]
+        some = [it for it in clauses if it.kind == "ensures"]
+        self.faults += [f"{what}: it ensures nothing"] * (not some)
+        self.faults += [f"{what}: a law takes and answers nothing, and asks for nothing"] * (takes.strip() != "()" or len(some) < len(clauses))
+        self.must_state(path, some, what)
 
     def must_state(self, path, clauses, what):
         imports, std = self.all.imports_of(path, RUST_IMPORT)
