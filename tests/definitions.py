@@ -2,8 +2,8 @@
 (`crates/*/src/**/*.rt`). `tests/believed` stands on it.
 
 What cannot be followed by the text is refused, as a fault: an import that resolves to nothing, or whose path does not begin with
-`Rattle.`; one that passes names on (`pub use`) or brings all of a module (`M.*`); a module with a name in a file of definitions; a module
-that is written into a source, or a `pub use` of one that is not the crate's root."""
+`Rattle.`; one that passes names on (`pub use`), brings all of a module (`M.*`) or has another name for `Unit`; a module with a name in a file
+of definitions; in a source a module that is written into it, a macro, text of another file, or a `pub use` where it is not the crate's root."""
 
 import re
 
@@ -19,7 +19,7 @@ FUNCTION = re.compile(r"^ *(pub(?:\([^)]*\))? )?(?:const |unsafe )*fn (\w+)", re
 CLAUSE = re.compile(r"\b(requires|ensures)\*?(?: \w+)?\s*\{|\bghost (\w+)(?: = |: (?:\w+ )?)\{")
 BLOCK = re.compile(r"^(?:pub )?(?:impl\b.* for |trait )", re.M)
 OWNER = re.compile(r"^(?:pub(?:\([^)]*\))? )?(?:impl\b(?:<.*?>)? (?:.* for )?|trait |struct )(\w+)[^;\n]*$", re.M)
-INLINE = re.compile(r"^ *(?:pub(?:\([^)]*\))? )?mod \w+ *\{.*", re.M)
+INLINE = re.compile(r"^ *(?:(?:pub(?:\([^)]*\))? )?mod \w+ *\{|#\[path\b|include!|(?:pub )?macro_rules!).*", re.M)
 SHOWN = re.compile(r"^ *pub(?:\([^)]*\))? use .*", re.M)
 
 
@@ -152,6 +152,7 @@ class Definitions:
                 self.faults.append(f"{place}: it cannot be seen what this brings: use {whole}")
                 continue
             if not (self.top / "crates" / path_of.split(".")[1]).is_dir():
+                self.faults += [f"{place}: another name for a type that everything has: {it}" for it in listed if re.match(r"(Unit|⊤|ℕ) as ", it)]
                 std |= {it.rpartition(" as ")[2] for it in listed} | {part for it in listed for part in it.split("◌") if part}
                 continue
             home, rest = self.home_of(path_of.strip("."), place)
@@ -233,7 +234,7 @@ class Definitions:
         """The clauses of a source and what it imports."""
         if path not in self.clauses:
             text, place = path.read_text(encoding="utf-8"), self.place(path)
-            self.faults += [f"{place}: a module written into a source: {it.strip()}" for it in INLINE.findall(text)]
+            self.faults += [f"{place}: text that stands elsewhere, or a module written into a source: {it.strip()}" for it in INLINE.findall(text)]
             if path.name != "lib.rt":
                 self.faults += [f"{place}: names that are passed on: {it.strip()}" for it in SHOWN.findall(text)]
             self.clauses[path] = [*clauses_of(text)], self.imports_of(path, RUST_IMPORT)[0]

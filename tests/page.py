@@ -58,10 +58,6 @@ def wrapped(text, indent=""):
     return textwrap.fill(text, 80, subsequent_indent=indent, break_long_words=False, break_on_hyphens=False)
 
 
-def plural(count, word):
-    return f"{number(count)} {word}{'' if count == 1 else 's'}"
-
-
 class Page:
     """The page of a repository's promises."""
 
@@ -77,10 +73,12 @@ class Page:
 
     def totals(self):
         """What the table at the top says of each promise: its title, lines, new lines, lines of its files, types, and sum."""
-        return [
-            (it.title, it.lines, sum(len(one.lines) for one in new), sum(self.whole[file] for file in it.files), len(it.types), it.sum(self.all))
-            for it, new in self.rows
-        ]
+        whole = self.promises.whole()
+        return [self.told_of(it, new) for it, new in [*self.rows, (whole, whole.needed)]]
+
+    def told_of(self, it, new):
+        files = sum(self.whole[file] for file in it.files)
+        return it.title, it.lines, sum(len(one.lines) for one in new), files, len(it.types), it.sum(self.all)
 
     def text(self):
         parts = [HEAD, self.table()]
@@ -109,8 +107,8 @@ class Page:
             lines.append("")
         types = sorted(promise.types)
         if types:
-            crates = {crate: [path[0] for at, path in types if at == crate] for crate in dict.fromkeys(at for at, _ in types)}
-            lines += [wrapped("Rust types: " + "; ".join(f"`{crate}` {', '.join(f'`{it}`' for it in crates[crate])}" for crate in crates) + "."), ""]
+            crates = {crate: [f"`{path[0]}`" for at, path in types if at == crate] for crate in dict.fromkeys(at for at, _ in types)}
+            lines += [wrapped("Rust types: " + "; ".join(f"`{crate}` {', '.join(crates[crate])}" for crate in crates) + "."), ""]
         return head + "\n".join(lines).rstrip("\n") + "\n"
 
     def calls(self, promise):
@@ -122,7 +120,8 @@ class Page:
         """What each law of a promise says."""
         lines = ["Stated by" if promise.stated else "There are none."] + [""] * bool(promise.stated)
         for crate, name in promise.stated:
-            said = [" ".join(it.text.split()) for it in self.all.read_source(self.promises.laws[crate, name])[0] if it.name == name and it.kind == "ensures"]
+            clauses = self.all.read_source(self.promises.laws[crate, name])[0]
+            said = [" ".join(it.text.split()) for it in clauses if it.name == name and it.kind == "ensures"]
             lines.append(wrapped(f"- `{crate}`: `laws::{name}`: {', and '.join(f'`{it}`' for it in said)}", "  "))
         return lines
 
@@ -172,7 +171,9 @@ class Page:
 
     def rest(self):
         files = self.in_order(set(self.all.files) - self.believed)
-        lines = [wrapped(f"- `{crate}`: " + ", ".join(f"`{it[1]}` {self.whole[it]}" for it in files if it[0] == crate), "  ") for crate in dict.fromkeys(it[0] for it in files)]
+        lines = []
+        for crate in dict.fromkeys(it[0] for it in files):
+            lines.append(wrapped(f"- `{crate}`: " + ", ".join(f"`{it[1]}` {self.whole[it]}" for it in files if it[0] == crate), "  "))
         return REST + "\n" + "\n".join(lines) + "\n" if files else ""
 
     def ghosts(self):

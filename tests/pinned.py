@@ -31,14 +31,14 @@ def faults(top, rows):
     told = path.read_text(encoding="utf-8").split() if path.is_file() else []
     there = wrong_bodies(top)
     found = [f"must-fail edit {it}: tests/wrong_bodies.txt names it, and it is not there" for it in told if it not in there]
-    found += [f"must-fail edit {it}: tests/wrong_bodies.txt does not name it" for it in there if it not in told]
+    found += [f"must-fail edit {it}: tests/wrong_bodies.txt does not name it (tests/believed --pin)" for it in there if it not in told]
     found += ["tests/wrong_bodies.txt: its lines are not in order, or one stands there twice"] * (told != sorted(set(told)))
     least = {it[0]: it[1] for it in rows if len(it) == 2 and it[1].isdigit()}
     found += [f"tests/least.tsv: no line of a name and a number: {' '.join(it)}" for it in rows if it[0] not in least]
     counted = counts(top)
     for name in sorted({it for it in least if " of " in it} | set(counted)):
         if name not in least:
-            found.append(f"tests/least.tsv: it says nothing of the {name}")
+            found.append(f"tests/least.tsv: it says nothing of the {name} (tests/believed --pin)")
         elif counted.get(name, 0) < int(least[name]):
             found.append(f"{name}: {counted.get(name, 0)}, and tests/least.tsv asks for {least[name]}")
     return found + of_checks(top, least)

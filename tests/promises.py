@@ -8,11 +8,12 @@ has to be one crate that has it. Laws that no section names come last."""
 import hashlib
 import re
 
-from definitions import FUNCTION, RUST_IMPORT
+from definitions import FUNCTION, RUST_IMPORT, Definitions
 from statements import Statements, parts_of_record
 
 CALLS = "The calls that the program makes"
 OTHERS = "Laws that no promise names"
+ALL = "All of these"
 
 HEADING = re.compile(r"^#{2,4} +(.*?)\s*$", re.M)
 CODE = re.compile(r"`([^`\n]+)`")
@@ -61,6 +62,26 @@ def listed(top):
     return {name.strip(): rest.split() for name, _, rest in (it.partition(":") for it in lines)}
 
 
+def rows_of(path):
+    """The rows of a table of tabs, without comments."""
+    text = path.read_text(encoding="utf-8") if path.is_file() else ""
+    return [line.split("\t") for line in text.splitlines() if line.strip() and not line.startswith("#")]
+
+
+def read(top):
+    """The promises of a repository."""
+    text = (top / "docs/PROMISES.md").read_text(encoding="utf-8")
+    return Promises(Definitions(top), text, [it for it in rows_of(top / "tests/pins.tsv") if len(it) == 3])
+
+
+def lines_by_crate(top):
+    """How many lines of meaning of each crate a repository's promises lean on."""
+    found = {}
+    for one in set().union(*(it.needed for it in read(top).promises)):
+        found[one.file[0]] = found.get(one.file[0], 0) + len(one.lines)
+    return found
+
+
 class Promises:
     """The promises of a repository, in the order of docs/PROMISES.md, and what each leans on."""
 
@@ -86,13 +107,19 @@ class Promises:
         for path in [src / "laws.rt", *sorted((src / "laws").glob("**/*.rt"))]:
             if not path.is_file():
                 continue
-            clauses = self.all.read_source(path)[0]
-            for head in FUNCTION.finditer(path.read_text(encoding="utf-8")):
+            text = path.read_text(encoding="utf-8")
+            for head in FUNCTION.finditer(text):
                 if head[1] == "pub ":
                     self.laws[crate, head[2]] = path
-                    some = [it for it in clauses if it.name == head[2] and it.kind == "ensures" and it.is_public]
-                    self.faults += [f"{crate} laws::{head[2]}: it ensures nothing"] * (not some)
-                    self.must_state(path, some, f"{crate} laws::{head[2]}")
+                    self.judge_law(path, head[2], text[head.end() :].partition("\n")[0], f"{crate} laws::{head[2]}")
+
+    def judge_law(self, path, name, takes, what):
+        """A law takes nothing, asks for nothing and answers nothing, and each of its clauses states something."""
+        clauses = [it for it in self.all.read_source(path)[0] if it.name == name and it.is_public]
+        some = [it for it in clauses if it.kind == "ensures"]
+        self.faults += [f"{what}: it ensures nothing"] * (not some)
+        self.faults += [f"{what}: a law takes and answers nothing, and asks for nothing"] * (takes.strip() != "()" or len(some) < len(clauses))
+        self.must_state(path, some, what)
 
     def must_state(self, path, clauses, what):
         imports, std = self.all.imports_of(path, RUST_IMPORT)
@@ -135,7 +162,8 @@ class Promises:
         for use, module in SHOWN.findall(lib.read_text(encoding="utf-8")) if lib.is_file() else ():
             path = re.sub(r"^(?:crate|self)::", "", use)
             name, _, rest = path.partition("::")
-            if use and (not (src / f"{name}.rt").is_file() or not re.fullmatch(r"[\w ]+|\{[\w ,\s]*\}", rest)):
+            is_seen = (src / f"{name}.rt").is_file() and re.fullmatch(r"[\w ]+|\{[\w ,\s]*\}", rest)
+            if use and not is_seen:
                 self.faults.append(f"{crate}: it cannot be seen what this shows: pub use {use}")
             elif use:
                 names = [it.partition(" as ")[0].strip() for it in rest.strip("{}").split(",")]
@@ -157,13 +185,16 @@ class Promises:
                     crate = word
                 elif law := LAW.match(word):
                     for name in re.findall(r"\w+", law[2]):
-                        self.state_by(made, law[1] or crate, name)
+                        self.state_by(made, law[1], crate, name)
         return [it for it in seen.values() if it.stated]
 
-    def state_by(self, made, crate, name):
-        some = [crate] if (crate, name) in self.laws else [it for it, law in self.laws if law == name]
+    def state_by(self, made, own, last, name):
+        """Has the law of this name state the promise: that of its own crate, where one is named with it, or of the one named last."""
+        some = [it for it, law in self.laws if law == name and own in (None, it)]
+        some = [last] if last in some else some
         if len(some) != 1:
-            self.faults.append(f"docs/PROMISES.md: laws::{name} is a law of {len(some)} crates: name the one in front of it")
+            why = f"{', '.join(some)} have such a law: name the crate in front of it" if some else "no crate has such a law"
+            self.faults.append(f"docs/PROMISES.md: laws::{name}: {why}")
         elif (some[0], name) not in made.stated:
             self.take_law(made, some[0], name)
 
@@ -176,6 +207,21 @@ class Promises:
         """Has these clauses state the promise."""
         made.cited |= {one for it in clauses for one in self.all.cited_in(path, it)}
         made.texts += [f"{crate} {it} {it.kind}: {' '.join(it.text.split())}" for it in clauses]
+
+    def whole(self):
+        """All that the promises say, as one."""
+        made = Promise(ALL)
+        for it in self.promises:
+            made.texts += it.texts
+            made.needed |= it.needed
+            made.types |= it.types
+        return made
+
+    def unnamed(self, text):
+        """The laws that a text names and no promise does."""
+        told = {name for it in self.promises if it.title != OTHERS for _, name in it.stated}
+        found = [name for word in CODE.findall(text) if (law := LAW.match(word)) for name in re.findall(r"\w+", law[2])]
+        return [it for it in dict.fromkeys(found) if it not in told]
 
     def of_others(self):
         made, told = Promise(OTHERS), {it for promise in self.promises for it in promise.stated}
@@ -207,17 +253,17 @@ class Promises:
         if not one or not path:
             self.faults.append(f"{pin}: there is no such definition, or no public laws::{pin.law}")
             return
-        imports, std = self.all.imports_of(path, RUST_IMPORT)
+        imports, _ = self.all.imports_of(path, RUST_IMPORT)
         fields, beside, leant = set(), set(), set()
         for clause in self.all.read_source(path)[0]:
             if clause.name != pin.law or not clause.is_public or clause.kind != "ensures":
                 continue
-            field, words = self.statements.pinned_by(one, clause.text, imports, std)
-            for text, home in words if field is not None else ():
-                is_name = home and text == home.name
-                beside |= {(home.file, home.name)} if is_name else set()
-                leant |= self.all.named_in(home, text) if home and not is_name else self.all.cited(text, imports, None, self.all.place(path)) if not home else set()
-                fields.add(field)
+            pinned = self.statements.pinned_by(one, clause.text, imports)
+            if pinned:
+                fields.add(pinned.field)
+                beside |= {(it.file, it.name) for it in pinned.statements}
+                for text in pinned.words:
+                    leant |= self.all.named_in(pinned.home, text) if pinned.home else self.all.cited(text, imports, None, self.all.place(path))
         if not fields:
             self.faults.append(f"{pin}: laws::{pin.law} is no equation or equivalence of it with other words, for every argument")
         elif one in {self.all.at(it) for it in leant} | self.behind(leant)[0]:
@@ -237,11 +283,14 @@ class Promises:
                 self.judge_fields(one, pin, needed)
 
     def judge_fields(self, one, pin, needed):
-        """No field of a definition that its law leaves open may be asked for by what a promise leans on."""
+        """No field of a definition that its law leaves open may be asked for by what a promise leans on: by what names the definition, or the
+        record that it gives."""
         kind = one.lines[0].split()[-1]
         record = next((it for it in self.all.names[one.file].values() if it.name == kind and it.is_record), None)
         open_fields = set(parts_of_record(record)[1]) - pin.fields if record else {"any"}
+        ask = [it for it in needed if {one, record} & {self.all.at(cited) for cited in self.all.cited_by((it.file, it.name))}]
         for field in sorted(open_fields):
-            asked = [it for it in needed if re.search(rf"\.{re.escape(field)}\b", " ".join(it.lines))]
+            asked = [it for it in ask if re.search(rf"\.{re.escape(field)}\b", " ".join(it.lines))]
             if asked or not record:
-                self.faults.append(f"{pin}: laws::{pin.law} says nothing of its {field}, which {asked[0] if asked else 'a promise'} may ask for")
+                who = asked[0] if asked else "a promise"
+                self.faults.append(f"{pin}: laws::{pin.law} says nothing of its {field}, which {who} may ask for")

@@ -108,6 +108,18 @@ def constructors(one):
     return [tokens_of(it.replace(" ∶ ", " : ")) for it in found[2::2]]
 
 
+class Pinned:
+    """What a clause pins: the name of a field, or "" for the whole; the words in its place; and the definitions that state it, by their names, of
+    which the last has the words in its file: in the law's own source where there is none."""
+
+    def __init__(self):
+        self.field, self.words, self.statements = None, [], []
+
+    @property
+    def home(self):
+        return self.statements[-1] if self.statements else None
+
+
 class Statements:
     """What statements over a repository's definitions come to."""
 
@@ -203,36 +215,29 @@ class Statements:
 
     # Whether a law pins a definition.
 
-    def pinned_by(self, one, text, imports, std):
-        """What a clause of a law pins of a definition: "" for the whole of it, the name of a field, or None for nothing; and the texts of the
-        words in its place, each with the definition in whose file it stands, or None for the law's own source."""
-        tokens, (named, _), words = tokens_of(text), (lambda word: self.found(imports, None, word), std), []
-        home = None
-        while len(alone := groups(bare(tokens))) == 1 and len(alone[0]) == 1 and (next_one := named(alone[0][0])) and next_one != one:
-            some = [*equations(next_one)]
-            if len(some) != 1 or some[0][0] or next_one.is_record or next_one.is_data:
-                return None, []
-            words.append((next_one.name, next_one))
-            home, tokens, named = next_one, some[0][1], self.scope(next_one.file)[0]
-        if any("{" in it for it in one.lines[:1]) or one.depth:
-            return None, []
+    def pinned_by(self, one, text, imports):
+        """What a clause of a law pins of a definition, or none."""
+        made = Pinned()
+        tokens, named = tokens_of(text), lambda word: self.found(imports, None, word)
+        while len(alone := groups(bare(tokens))) == 1 and len(alone[0]) == 1 and (said := named(alone[0][0])) and said != one:
+            some = [*equations(said)]
+            if len(some) != 1 or some[0][0] or said.is_record or said.is_data or said in made.statements:
+                return None
+            made.statements.append(said)
+            tokens, named = some[0][1], self.scope(said.file)[0]
         names, premises, last = premises_of(tokens)
-        if not all(self.is_domain(it, named, names) for it in premises):
-            return None, []
-        for sign in ("↔", "≡"):
-            if len(sides := split(last, sign)) == 2:
-                return self.of_sides(one, sides, sign, named, names, home, words, tokens)
-        return None, []
-
-    def of_sides(self, one, sides, sign, named, names, home, words, tokens):
-        for subject, other in (sides, sides[::-1]):
-            field = self.is_at_all(one, bare(subject), named, names)
-            if field is None and sign == "↔":
-                field = self.is_equation_of(one, bare(subject), named, names)
-            if field is not None:
-                types = " ".join(word for part in split(bare(tokens), "→")[:-1] for word in part)
-                return field, [*words, (" ".join(other), home), (types, home)]
-        return None, []
+        # (a law may be of fewer arguments than a definition that has more in front of these)
+        is_whole = "{" not in one.lines[0] and not one.depth and all(self.is_domain(it, named, names) for it in premises)
+        sign = next((it for it in ("↔", "≡") if len(split(last, it)) == 2), None) if is_whole else None
+        sides = split(last, sign) if sign else []
+        for subject, other in (sides, sides[::-1]) if sign else ():
+            made.field = self.is_at_all(one, bare(subject), named, names)
+            if made.field is None and sign == "↔":
+                made.field = self.is_equation_of(one, bare(subject), named, names)
+            if made.field is not None:
+                made.words = [" ".join(other), " ".join(word for part in split(bare(tokens), "→")[:-1] for word in part)]
+                return made
+        return None
 
     def is_domain(self, premise, named, names):
         head, *rest = groups(premise)

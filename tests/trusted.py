@@ -1,4 +1,5 @@
-"""Which libraries of the kit are trusted: what crates.txt and the sources say, and whether the documents say so. `tests/believed` stands on it."""
+"""Which libraries of the kit are trusted: what crates.txt and the sources say, and whether the documents say so. `tests/believed` stands on
+it."""
 
 import re
 
@@ -34,7 +35,8 @@ def faults(top, order):
     found, crates = [], {it.parent.name for it in top.glob("crates/*/src")}
     found += [f"crates.txt: it has no line for {it}" for it in sorted(crates - set(order))]
     used = {crate: named(top, crate) for crate in sorted(crates & set(order))}
-    found += [f"crates.txt: the sources of {crate} name {it}, and its line does not" for crate in used for it in sorted(used[crate] - set(order[crate]))]
+    for crate in used:
+        found += [f"crates.txt: the sources of {crate} name {it}, and its line does not" for it in sorted(used[crate] - set(order[crate]))]
     libraries = {it for below in (*order.values(), *used.values()) for it in below} - crates
     found += [f"crates.txt: no source names {it}" for it in sorted(libraries - set().union(*used.values()))]
     for name in ("README.md", "docs/PROMISES.md") if libraries else ():
