@@ -2,6 +2,7 @@ pub mod OpNumLaws
 pub mod ItemLaws
 pub mod ArgLaws
 pub mod OpLaws
+pub mod OpOfLaws
 pub mod WireLaws
 pub mod Walk
 pub mod GrammarLaws

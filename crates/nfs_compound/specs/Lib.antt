@@ -10,6 +10,7 @@ pub mod LockArgs
 pub mod FileArgs
 pub mod NameArgs
 pub mod Operation
+pub mod OpOf
 pub mod Arguments
 pub mod Wire
 pub mod View

@@ -5,6 +5,8 @@ ghost use Rattle.nfs_xdr.specs.Lawful.{IsCodec};
 ghost use Rattle.nfs_compound.specs.declared.op_num.OpNum.{OpNum};
 ghost use Rattle.nfs_compound.specs.OpNum.{op_num, op_number};
 ghost use Rattle.nfs_compound.specs.Operation.{Op};
+ghost use Rattle.nfs_compound.specs.Arguments.{arguments};
+ghost use Rattle.nfs_compound.specs.OpOf.{op_of};
 ghost use Rattle.nfs_compound.specs.OpCodec.{op_codec};
 ghost use Rattle.nfs_compound.specs.Request.{spell_op, FitsOp};
 ghost use Rattle.nfs_compound.specs.Wire.{nfs_argop4};
@@ -20,8 +22,10 @@ pub fn arguments()
     ensures none_else { (n : ℕ) (op : OpNum) → op_num n ≡ Some op → n ≡ op_number op }
 {}
 
-/// Each operation is spelled as its structs and unions of RFC 5662 have it, and what has a spelling is just what fits there.
+/// Each operation is spelled as its structs and unions of RFC 5662 have it, and what has a spelling is just what fits there. Its number is
+/// that of RFC 8881 section 18.
 pub fn wire()
+    ensures number { (op : Op) → (arguments op).op ≡ op_of op }
     ensures spelled { (op : Op) → spell_op op ≡ (nfs_argop4 op).bytes }
     ensures fits { (op : Op) → FitsOp op ↔ (nfs_argop4 op).Fits }
 {}
