@@ -1,5 +1,5 @@
 -- What the locked bytes of files say of who holds which byte, after a change of one file.
-use Rattle.std.proofs.Common.{◌≡◌, ◌≢◌, inl, inr, ℕ, zero, suc, Bool, true, false, cond, not, List, [], ◌∷◌, Option, Some, None, refl, sym, ◌∙◌, ap, subst, arith}
+use Rattle.std.proofs.Common.{◌≡◌, ◌≢◌, ◌⊎◌, inl, inr, ℕ, zero, suc, Bool, true, false, cond, not, List, [], ◌∷◌, Option, Some, None, refl, sym, ◌∙◌, ap, subst, arith}
 use Rattle.std.proofs.Math.Path.{fun_ext}
 use Rattle.std.specs.Prelude.{◌==◌, is_some, IsSome, ◌&&◌, ◌||◌, ◌^◌}
 use Rattle.std.specs.List.{list_any}
@@ -7,12 +7,12 @@ use Rattle.std.specs.Ordering.{nat_cmp}
 use Rattle.std.specs.BTreeMap.{BTreeMap, is_at, get, Updates, WritesThrough}
 use Rattle.std.specs.Map.{lookup, set_value}
 use Rattle.std.proofs.lemmas.Map.Steps.{set_value_same}
-use Rattle.std.proofs.lemmas.Bool.{cases_eq, ne_eqb, eq-eqb}
+use Rattle.std.proofs.lemmas.Bool.{cases_eq, ne_eqb, eq-eqb, false≢true}
 use Rattle.std.proofs.lemmas.Bool.Decides.{nat_tests}
 use Rattle.nfs_ranges.specs.declared.Kind.{Kind}
 use Rattle.nfs_ranges.specs.Holders.{Holders, LockedBytes, at, nobody, cleared, dropped, holds_any, least}
 use Rattle.nfs_ranges.specs.Facts.{Tells}
-use Rattle.nfs_opens.specs.Holding.{FileHolders, held_by, on_file}
+use Rattle.nfs_opens.specs.Holding.{FileHolders, held_by, on_file, is_listed, ListsNoMore}
 
 abbrev pub holders_of : Option LockedBytes → Holders
 holders_of None = nobody
@@ -49,6 +49,42 @@ not_listed f m n updates = none_found n.entries (updates.0 f ∙ ap (λ (b : Boo
             → cond b (Some e.1) (lookup (is_at (nat_cmp f)) es) ≡ None → (b || list_any (λ e. e.0 == f) es) ≡ false
         go true rest found = absurd cc
         go false rest found = rest found
+
+-- a file is listed where something is found under it
+listed_found : (f : ℕ) (es : List (ℕ × LockedBytes)) → is_listed f es ≡ is_some (lookup (is_at (nat_cmp f)) es)
+listed_found f [] = refl
+listed_found f (e ∷ es) = rw (at_file f e.0) (go (e.0 == f) (listed_found f es))
+  where
+    go : (b : Bool) → is_listed f es ≡ is_some (lookup (is_at (nat_cmp f)) es)
+        → (b || is_listed f es) ≡ is_some (cond b (Some e.1) (lookup (is_at (nat_cmp f)) es))
+    go true rest = refl
+    go false rest = rest
+
+-- a change of what is found under one file lists and drops no other
+pub listed_other : (f : ℕ) (m n : BTreeMap ℕ LockedBytes) (w : Option LockedBytes) → Updates nat_cmp m n f w → (k : ℕ) → k ≢ f → is_listed k n.entries ≡ is_listed k m.entries
+listed_other f m n w updates k other = listed_found k n.entries
+    ∙ (ap is_some (updates.0 k ∙ ap (λ (b : Bool). cond b w (lookup (is_at (nat_cmp k)) m.entries)) (at_file f k ∙ ne_eqb k f other))
+    ∙ sym (listed_found k m.entries))
+
+-- .. so none is listed but that one
+pub lists_one : (f : ℕ) (m n : BTreeMap ℕ LockedBytes) (w : Option LockedBytes) → Updates nat_cmp m n f w → (k : ℕ) → is_listed k n.entries ≡ true
+    → (k ≡ f) ⊎ (is_listed k m.entries ≡ true)
+lists_one f m n w updates k some = elim (cases_eq k f) [ inl here ↦ inl here | inr other ↦ inr (sym (listed_other f m n w updates k other) ∙ some) ]
+
+-- a file that goes
+pub lists_less : (f : ℕ) (m n : BTreeMap ℕ LockedBytes) → Updates nat_cmp m n f None → ListsNoMore m.entries n.entries
+lists_less f m n updates k some = elim (cases_eq k f) [
+  | inl here ↦ absurd (false≢true (sym (not_listed f m n updates) ∙ (ap (λ (j : ℕ). is_listed j n.entries) (sym here) ∙ some)))
+  | inr other ↦ sym (listed_other f m n None updates k other) ∙ some
+]
+
+-- a write over the bytes of a file that is listed
+pub lists_same : (f : ℕ) (m n : BTreeMap ℕ LockedBytes) (old new : LockedBytes) → get nat_cmp m f ≡ Some old → WritesThrough nat_cmp (nat_cmp f) m new n
+    → ListsNoMore m.entries n.entries
+lists_same f m n old new found writes k some = elim (cases_eq k f) [
+  | inl here ↦ ap (λ (j : ℕ). is_listed j m.entries) here ∙ (listed_found f m.entries ∙ ap is_some found)
+  | inr other ↦ sym (listed_other f m n (Some new) (writes.3 (subst (λ (o : Option LockedBytes). IsSome o) (sym found) refl)) k other) ∙ some
+]
 
 -- a change of what is found under a file changes its holders alone
 pub held_updated : (f : ℕ) (g : Holders → Holders) (m n : BTreeMap ℕ LockedBytes) (w : Option LockedBytes) → Updates nat_cmp m n f w

@@ -1,25 +1,26 @@
 -- The lock states in their indexes: a walk over those of one key, and behind a seqid that rises; and which files stay listed.
-use Rattle.std.proofs.Common.{◌≡◌, ℕ, suc, ◌-◌, ◌<◌, Bool, true, false, cond, List, [], ◌∷◌, map, Some, None, refl, sym, ◌∙◌, ap, subst, arith, inl, inr}
+use Rattle.std.proofs.Common.{◌≡◌, ℕ, suc, ◌-◌, ◌<◌, ◌⊎◌, Bool, true, false, cond, not, List, [], ◌∷◌, ◌++◌, map, Some, None, refl, sym, ◌∙◌, ap, subst, arith, inl, inr}
 use Rattle.std.specs.Prelude.{◌==◌, ◌&&◌, nat_lt, find, filter, bytes_eq, IfSome, if◌then◌else◌}
 use Rattle.std.specs.List.{list_any}
 use Rattle.std.proofs.Math.Path.{fun_ext}
 use Rattle.std.proofs.lemmas.Bool.{cases_Bool, cases_eq, and_parts, eqb-true, eq-eqb, ne_eqb, false≢true}
-use Rattle.nfs_xdr.proofs.Lists.{find_in, none_any}
-use Rattle.nfs_xdr.proofs.Tables.{at_of_in}
+use Rattle.nfs_xdr.proofs.Lists.{find_in, none_any, any_in, in_any, any_filter, any_map, push_in, last_in}
+use Rattle.nfs_xdr.proofs.Tables.{at_of_in, in_once}
+use Rattle.nfs_xdr.specs.Tables.{In}
 use Rattle.nfs_ranges.specs.Holders.{LockedBytes, nobody}
 use Rattle.nfs_opens.specs.declared.records.OpenState.{OpenState}
 use Rattle.nfs_opens.specs.declared.records.LockState.{LockState}
-use Rattle.nfs_opens.specs.Holding.{held_by}
+use Rattle.nfs_opens.specs.Holding.{held_by, is_listed, ListsNoMore}
 use Rattle.nfs_opens.specs.Locking.{is_locker, raised}
-use Rattle.nfs_opens.specs.Table.{Table, open_at}
-use Rattle.nfs_opens.specs.Kept.{IsTable, AreHolders}
+use Rattle.nfs_opens.specs.Table.{Table, open_at, lock_at}
+use Rattle.nfs_opens.specs.Kept.{IsTable, AreHolders, AreListed}
 use Rattle.nfs_opens.proofs.IndexLemmas.{find_begun, find_done, find_hit, find_missed, come_bounds, index_changed}
 use Rattle.nfs_opens.specs.declared.index.Pair.{Pair}
 use Rattle.nfs_opens.specs.Index.{IsIndex}
 use Rattle.nfs_opens.specs.Keys.{owner_key, lock_key}
 use Rattle.nfs_opens.proofs.ShareLemmas.{owner_bytes}
 use Rattle.nfs_opens.proofs.LockLemmas.{some_or_none}
-use Rattle.nfs_opens.proofs.StepLemmas.{all_some}
+use Rattle.nfs_opens.proofs.StepLemmas.{all_some, if_some}
 
 abbrev number_of : LockState → ℕ
 number_of l = l.number
@@ -104,3 +105,70 @@ locks_raised of same n xs ys ps made is =
     (λ l. elim (cases_Bool (l.number == n)) [ inl here ↦ rw here (same l) | inr other ↦ rw other refl ])
     (λ l. elim (cases_Bool (l.number == n)) [ inl here ↦ rw here refl | inr other ↦ rw other refl ])
     is)
+
+-- lock states leave, all of one file, which is listed no longer where none is left
+pub listed_left : (leaves : LockState → Bool) (file : ℕ) (locks locks' : List LockState) (files files' : List (ℕ × LockedBytes)) → AreListed locks files
+    → ((l : LockState) → In l locks → leaves l ≡ true → l.file ≡ file) → locks' ≡ filter (λ l. not (leaves l)) locks → ListsNoMore files files'
+    → (list_any (λ l. l.file == file) locks' ≡ false → is_listed file files' ≡ false) → AreListed locks' files'
+listed_left leaves file locks locks' files files' listed of_file made lists gone f some =
+    elim (cases_eq f file) [
+      | inl here ↦ elim (cases_Bool (list_any (λ (l : LockState). l.file == f) locks')) [
+        | inl stands ↦ stands
+        | inr none ↦ absurd (false≢true
+            (sym (gone (ap (λ (k : ℕ). list_any (λ (l : LockState). l.file == k) locks') (sym here) ∙ none)) ∙ (ap (λ (k : ℕ). is_listed k files') (sym here) ∙ some)))
+      ]
+      | inr other ↦ ap (list_any (λ (l : LockState). l.file == f)) made
+          ∙ (any_filter (λ (l : LockState). l.file == f) (λ l. not (leaves l)) locks
+          (λ l there on. elim (cases_Bool (leaves l)) [
+            | inl goes ↦ absurd (other (sym (eqb-true l.file f on) ∙ of_file l there goes))
+            | inr stays ↦ ap not stays
+          ])
+          ∙ listed f (lists f some))
+    ]
+
+-- a lock state's file is listed, if it was not
+pub listed_set : (locks : List LockState) (file : ℕ) (l : LockState) (files files' : List (ℕ × LockedBytes)) → AreListed locks files
+    → ((f : ℕ) → is_listed f files' ≡ true → (f ≡ file) ⊎ (is_listed f files ≡ true)) → In l locks → l.file ≡ file → AreListed locks files'
+listed_set locks file l files files' listed lists there of_file f some = elim (lists f some) [
+  | inl here ↦ any_in (λ (k : LockState). k.file == f) locks l there (eq-eqb l.file f (of_file ∙ sym here))
+  | inr before ↦ listed f before
+]
+
+-- a seqid rises
+pub listed_raised : (n : ℕ) (locks locks' : List LockState) (files : List (ℕ × LockedBytes)) → AreListed locks files
+    → locks' ≡ map (λ l. if l.number == n then raised l else l) locks → AreListed locks' files
+listed_raised n locks locks' files listed made f some =
+    ap (list_any (λ (l : LockState). l.file == f)) made
+    ∙ (any_map (λ (l : LockState). l.file == f) (λ l. if l.number == n then raised l else l)
+    (λ l. elim (cases_Bool (l.number == n)) [ inl here ↦ rw here refl | inr other ↦ rw other refl ]) locks
+    ∙ listed f some)
+
+-- a lock state comes, and its file is listed
+pub listed_pushed : (locks locks' : List LockState) (l : LockState) (files files' : List (ℕ × LockedBytes)) → AreListed locks files → locks' ≡ locks ++ l ∷ []
+    → ((f : ℕ) → is_listed f files' ≡ true → (f ≡ l.file) ⊎ (is_listed f files ≡ true)) → AreListed locks' files'
+listed_pushed locks locks' l files files' listed made lists =
+    subst (λ (ls : List LockState). AreListed ls files') (sym made)
+    (listed_set (locks ++ l ∷ []) l.file l files files'
+    (λ f some. (let (k, there, on) = in_any (λ (k : LockState). k.file == f) locks (listed f some) in
+    any_in (λ (k : LockState). k.file == f) (locks ++ l ∷ []) k (push_in locks l k there) on))
+    lists (last_in locks l) refl)
+
+-- a lock state stands on each file that stays listed
+pub listed_kept : (locks : List LockState) (files : List (ℕ × LockedBytes)) → ((e : ℕ × LockedBytes) → In e files → list_any (λ (l : LockState). l.file == e.0) locks ≡ true)
+    → AreListed locks files
+listed_kept locks files stands f some =
+    let (e, there, on) = in_any (λ (e : ℕ × LockedBytes). e.0 == f) files some in
+    ap (λ (k : ℕ). list_any (λ (l : LockState). l.file == k) locks) (sym (eqb-true e.0 f on)) ∙ stands e there
+
+-- the lock states under an open are of its file, and so is the one of a number
+pub under_file : (t : Table) (n file : ℕ) → IsTable t → IfSome (open_at t n) (λ o. o.file ≡ file) → (l : LockState) → In l t.locks → (l.opened == n) ≡ true → l.file ≡ file
+under_file t n file is of_file l there on =
+    let (o, under) = is.under l there in
+    let found : open_at t n ≡ Some o = ap (open_at t) (sym (eqb-true l.opened n on) ∙ sym under.number)
+    ∙ at_of_in (λ (o : OpenState). o.number) 1 (suc t.last) t.opens o is.opens under.stands in
+    sym under.file ∙ if_some (open_at t n) o (λ (o : OpenState). o.file ≡ file) found of_file
+
+pub one_file : (t : Table) (n : ℕ) (lock : LockState) → IsTable t → lock_at t n ≡ Some lock → (l : LockState) → In l t.locks → (l.number == n) ≡ true → l.file ≡ lock.file
+one_file t n lock is found l there on =
+    let of = find_in (λ (l : LockState). l.number == n) t.locks lock found in
+    ap (λ (l : LockState). l.file) (in_once number_of 1 (suc t.last) t.locks l lock is.locks there of.0 (eqb-true l.number n on ∙ sym (eqb-true lock.number n of.1)))

@@ -1,5 +1,6 @@
 -- The locked bytes of all files: of each file who holds which byte, and how (RFC 8881 section 9.1).
-use Rattle.std.specs.Prelude.{◌≡◌, ◌≢◌, ℕ, ◌==◌, List, [], ◌∷◌, Some, None, if◌then◌else◌}
+use Rattle.std.specs.List.{list_any}
+use Rattle.std.specs.Prelude.{◌≡◌, ◌≢◌, ℕ, ◌==◌, Bool, true, List, [], ◌∷◌, Some, None, if◌then◌else◌}
 use Rattle.nfs_ranges.specs.declared.Kind.TheVariants.{Write}
 use Rattle.nfs_ranges.specs.Holders.{Holders, LockedBytes, at, nobody}
 
@@ -14,6 +15,14 @@ unlocked f = nobody
 abbrev pub held_by : List (ℕ × LockedBytes) → FileHolders
 held_by [] f = nobody
 held_by (e ∷ es) f = if e.0 == f then at e.1 else held_by es f
+
+-- bytes of the file are listed
+abbrev pub is_listed : ℕ → List (ℕ × LockedBytes) → Bool
+is_listed f files = list_any (λ e. e.0 == f) files
+
+-- no file is listed that was not
+abbrev pub ListsNoMore : List (ℕ × LockedBytes) → List (ℕ × LockedBytes) → Type 0
+ListsNoMore old new = (f : ℕ) → is_listed f new ≡ true → is_listed f old ≡ true
 
 -- one file's holders change, all others stay
 abbrev pub on_file : FileHolders → ℕ → (Holders → Holders) → FileHolders

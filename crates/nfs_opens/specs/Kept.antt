@@ -1,7 +1,8 @@
 -- What holds of every table.
-use Rattle.std.specs.Prelude.{◌≡◌, ℕ, ◌≤◌, ◌^◌, None, ◌≢◌, suc, Bool, true, false, List}
+use Rattle.std.specs.Prelude.{◌≡◌, ℕ, ◌≤◌, ◌^◌, None, ◌≢◌, ◌==◌, suc, Bool, true, false, List}
+use Rattle.std.specs.List.{list_any}
 use Rattle.nfs_xdr.specs.Tables.{IsRising, In}
-use Rattle.nfs_ranges.specs.Holders.{Holders}
+use Rattle.nfs_ranges.specs.Holders.{Holders, LockedBytes}
 use Rattle.nfs_ranges.specs.Facts.{IsBelow}
 use Rattle.nfs_opens.specs.Table.{Kept, Table, table, clashes_with, as_asked}
 use Rattle.nfs_opens.specs.declared.records.OpenState.{OpenState}
@@ -11,7 +12,7 @@ use Rattle.nfs_opens.specs.declared.counts.Counts.{Counts}
 use Rattle.nfs_opens.specs.Counts.{AreCounted}
 use Rattle.nfs_opens.specs.Index.{IsIndex}
 use Rattle.nfs_opens.specs.Keys.{open_key, lock_key}
-use Rattle.nfs_opens.specs.Holding.{FileHolders, HasNoClash}
+use Rattle.nfs_opens.specs.Holding.{FileHolders, HasNoClash, is_listed}
 
 -- no byte from 2^64 on is held
 abbrev pub HasNoByteBehind : Holders → Type 0
@@ -79,7 +80,12 @@ pub record IsTable (t : Table) : Type 0 where
   -- no number behind the last holds a byte
   pub below : (f : ℕ) → IsBelow (t.held f) (suc t.last)
 
+-- a lock state stands on each file whose bytes are listed, so that a file leaves nothing behind
+abbrev pub AreListed : List LockState → List (ℕ × LockedBytes) → Type 0
+AreListed locks files = (f : ℕ) → is_listed f files ≡ true → list_any (λ l. l.file == f) locks ≡ true
+
 -- What holds of all that is kept; `has_room` says whether there is room for one more open.
 pub record IsKept (k : Kept) (has_room : Bool) : Type 0 where
   pub table : IsTable (table k)
+  pub listed : AreListed k.locks k.files
   pub room : k.ready ≡ true → has_room ≡ true

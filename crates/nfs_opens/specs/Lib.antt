@@ -6,6 +6,7 @@ pub mod Flat
 pub mod Holding
 pub mod Index
 pub mod Keys
+pub mod Lean
 pub mod Judging
 pub mod Laws
 pub mod Locking

@@ -4,7 +4,7 @@ ghost use Rattle.std.specs.Prelude.{◌≡◌, ◌≢◌, ◌==◌, ℕ, true, f
 ghost use Rattle.std.specs.List.{list_any};
 ghost use Rattle.nfs_ranges.specs.Holders.{dropped};
 ghost use Rattle.nfs_xdr.specs.Tables.{In};
-ghost use Rattle.nfs_opens.specs.Holding.{held_by, on_file};
+ghost use Rattle.nfs_opens.specs.Holding.{held_by, on_file, is_listed, ListsNoMore};
 ghost use Rattle.nfs_opens.specs.Table.{table, open_at, lock_at};
 ghost use Rattle.nfs_opens.specs.Kept.{AreHolders, Rises};
 ghost use Rattle.nfs_opens.specs.Blocks.{goes};
@@ -67,6 +67,7 @@ fn leave_client(files: &mut LockedFiles, locks: &mut LockStates, client: u64)
 /// A lock state of a file goes, with the bytes that it holds.
 fn leave_one(files: &mut LockedFiles, locks: &mut LockStates, file: u64, number: u64)
     ensures held { held_by files.new ≡ on_file (held_by files.old) file (λ h. dropped h number) }
+    ensures listed { ListsNoMore files.old files.new }
     ensures locks { locks.new.items ≡ filter (λ l. not (l.number == number)) locks.old.items }
 {
     files.drop_state(file, number);
@@ -76,6 +77,7 @@ fn leave_one(files: &mut LockedFiles, locks: &mut LockStates, file: u64, number:
 /// The lock states under an open go, with the bytes that they hold.
 fn leave_open(files: &mut LockedFiles, locks: &mut LockStates, opened: u64)
     ensures held { held_by files.new ≡ held_without (λ l. l.opened == opened) locks.old.items (held_by files.old) }
+    ensures listed { ListsNoMore files.old files.new }
     ensures locks { locks.new.items ≡ filter (λ l. not (l.opened == opened)) locks.old.items }
 {
     while let Some(lock) = locks.first_under(opened) {
@@ -88,7 +90,8 @@ fn leave_open(files: &mut LockedFiles, locks: &mut LockStates, opened: u64)
 fn forget_unlocked(files: &mut LockedFiles, locks: &LockStates, file: u64)
     requires { AreHolders locks.now.items (held_by files.old) }
     ensures held { held_by files.new ≡ held_by files.old }
-    ensures gone { list_any (λ l. l.file == file) locks.now.items ≡ false → list_any (λ e. e.0 == file) files.new ≡ false }
+    ensures gone { list_any (λ l. l.file == file) locks.now.items ≡ false → is_listed file files.new ≡ false }
+    ensures listed { ListsNoMore files.old files.new }
 {
     if !locks.is_on(file) {
         files.forget(file);

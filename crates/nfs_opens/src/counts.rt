@@ -1,7 +1,8 @@
 //! How many opens each file has, and what they have and deny.
 
-ghost use Rattle.std.specs.Prelude.{◌≡◌, ◌<◌, ℕ, true, OnOk};
-ghost use Rattle.nfs_opens.specs.Counts.{no_count, had, denied, more, less, with_one, without_one, count_at, has_room, CountsAnew};
+ghost use Rattle.std.specs.Prelude.{◌≡◌, ◌<◌, ℕ, true, nat_eq, OnOk};
+ghost use Rattle.std.specs.HashMap.{get};
+ghost use Rattle.nfs_opens.specs.Lean.{IsLean};
 
 use crate::share::Share;
 use std::alloc::{AllocError, Global};
@@ -24,19 +25,21 @@ pub(crate) struct Count {
     write_deniers: u64,
 }
 
-fn more(count: u64, one: bool) -> u64
-    ensures { result ≡ more count one }
-{
-    if one { count.saturating_add(1) } else { count }
-}
-
-fn less(count: u64, one: bool) -> u64
-    ensures { result ≡ less count one }
-{
-    if one { count.saturating_sub(1) } else { count }
-}
-
 impl Count {
+    ghost use Rattle.nfs_opens.specs.Counts.{no_count, had, denied, more, less, with_one, without_one};
+
+    fn more(count: u64, one: bool) -> u64
+        ensures { result ≡ more count one }
+    {
+        if one { count.saturating_add(1) } else { count }
+    }
+
+    fn less(count: u64, one: bool) -> u64
+        ensures { result ≡ less count one }
+    {
+        if one { count.saturating_sub(1) } else { count }
+    }
+
     /// No opens.
     fn none() -> Count
         ensures { result ≡ no_count }
@@ -55,11 +58,11 @@ impl Count {
         ensures { result ≡ with_one reserved self }
     {
         Count {
-            opens: more(self.opens, true),
-            readers: more(self.readers, reserved.access.reads),
-            writers: more(self.writers, reserved.access.writes),
-            read_deniers: more(self.read_deniers, reserved.deny.reads),
-            write_deniers: more(self.write_deniers, reserved.deny.writes),
+            opens: Count::more(self.opens, true),
+            readers: Count::more(self.readers, reserved.access.reads),
+            writers: Count::more(self.writers, reserved.access.writes),
+            read_deniers: Count::more(self.read_deniers, reserved.deny.reads),
+            write_deniers: Count::more(self.write_deniers, reserved.deny.writes),
         }
     }
 
@@ -68,11 +71,11 @@ impl Count {
         ensures { result ≡ without_one reserved self }
     {
         Count {
-            opens: less(self.opens, true),
-            readers: less(self.readers, reserved.access.reads),
-            writers: less(self.writers, reserved.access.writes),
-            read_deniers: less(self.read_deniers, reserved.deny.reads),
-            write_deniers: less(self.write_deniers, reserved.deny.writes),
+            opens: Count::less(self.opens, true),
+            readers: Count::less(self.readers, reserved.access.reads),
+            writers: Count::less(self.writers, reserved.access.writes),
+            read_deniers: Count::less(self.read_deniers, reserved.deny.reads),
+            write_deniers: Count::less(self.write_deniers, reserved.deny.writes),
         }
     }
 
@@ -97,13 +100,16 @@ impl Count {
     }
 }
 
-/// The count of each file that is open.
+/// The count of each file that is open. A file that nobody has open leaves nothing behind.
 #[derive(Drop)]
 pub(crate) struct Counts {
     files: HashMap<u64, Count>,
+    ghost lean: { IsLean (get nat_eq files) },
 }
 
 impl Counts {
+    ghost use Rattle.nfs_opens.specs.Counts.{no_count, with_one, without_one, count_at, has_room, CountsAnew};
+
     /// No file is open. What comes later grows by `alloc`.
     pub(crate) fn new(alloc: Global) -> Counts
         ensures { (f : ℕ) → count_at result f ≡ no_count }

@@ -1,11 +1,11 @@
 //! The locked bytes of all files.
 
-ghost use Rattle.std.specs.Prelude.{◌≡◌, ◌≤◌, ◌==◌, ℕ, true, false, OnOk, OnErr, IfOk, filter, []};
+ghost use Rattle.std.specs.Prelude.{◌≡◌, ◌≤◌, ◌==◌, ◌⊎◌, ℕ, true, false, OnOk, OnErr, IfOk, filter, []};
 ghost use Rattle.nfs_xdr.specs.Tables.{In};
 ghost use Rattle.nfs_ranges.specs.Holders.{LockedBytes, at, holding, cleared, dropped, holds_any, nobody};
 ghost use Rattle.nfs_ranges.specs.Facts.{Tells};
 ghost use Rattle.std.specs.List.{list_any};
-ghost use Rattle.nfs_opens.specs.Holding.{held_by, on_file};
+ghost use Rattle.nfs_opens.specs.Holding.{held_by, on_file, is_listed, ListsNoMore};
 ghost use Rattle.nfs_opens.specs.Kept.{AreHolders};
 
 use crate::lock_states::LockStates;
@@ -103,6 +103,7 @@ impl LockedFiles {
         requires { first ≤ last }
         ensures ok { OnOk result (held_by self.new ≡ on_file (held_by self.old) file (λ h. holding h state kind first last)) }
         ensures err { OnErr result (self.new ≡ self.old) }
+        ensures listed { (f : ℕ) → is_listed f self.new ≡ true → (f ≡ file) ⊎ (is_listed f self.old ≡ true) }
     {
         if let Some(ranges) = self.files.get_mut(&file) {
             return ranges.set(alloc, state, kind, first, last);
@@ -124,6 +125,7 @@ impl LockedFiles {
         requires { first ≤ last }
         ensures ok { OnOk result (held_by self.new ≡ on_file (held_by self.old) file (λ h. cleared h state first last)) }
         ensures err { OnErr result (self.new ≡ self.old) }
+        ensures listed { ListsNoMore self.old self.new }
     {
         if let Some(ranges) = self.files.get_mut(&file) {
             return ranges.clear(alloc, state, first, last);
@@ -133,7 +135,8 @@ impl LockedFiles {
 
     /// A lock state holds no byte of a file.
     pub(crate) fn drop_state(&mut self, file: u64, state: u64)
-        ensures { held_by self.new ≡ on_file (held_by self.old) file (λ h. dropped h state) }
+        ensures held { held_by self.new ≡ on_file (held_by self.old) file (λ h. dropped h state) }
+        ensures listed { ListsNoMore self.old self.new }
     {
         if let Some(ranges) = self.files.get_mut(&file) {
             ranges.drop_owner(state);
@@ -153,7 +156,8 @@ impl LockedFiles {
     /// Nobody holds a byte of a file.
     pub(crate) fn forget(&mut self, file: u64)
         ensures held { held_by self.new ≡ on_file (held_by self.old) file (λ h. nobody) }
-        ensures gone { list_any (λ e. e.0 == file) self.new ≡ false }
+        ensures gone { is_listed file self.new ≡ false }
+        ensures listed { ListsNoMore self.old self.new }
     {
         let _ = self.files.remove(&file);
     }

@@ -4,7 +4,7 @@ ghost use Rattle.std.specs.Prelude.{◌≡◌, ◌≤◌, IfSome, IsSomeAnd, IsT
 ghost use Rattle.std.specs.Option.{option_copied};
 ghost use Rattle.nfs_opens.specs.declared.locking.OpenFault.TheVariants.{Refused, Memory};
 ghost use Rattle.nfs_ranges.specs.Holders.{cleared};
-ghost use Rattle.nfs_opens.specs.Holding.{held_by, on_file};
+ghost use Rattle.nfs_opens.specs.Holding.{held_by, on_file, ListsNoMore};
 ghost use Rattle.nfs_opens.specs.Kept.{HasNoByteBehind, IsTable};
 ghost use Rattle.nfs_opens.specs.Table.{table, open_at, lock_at};
 ghost use Rattle.nfs_opens.specs.Locking.{lock_as, lock_first, lock_judged, unlock, test_lock, clash, permits, access_in, state_of};
@@ -109,6 +109,7 @@ fn clear_bytes(
     requires within { HasNoByteBehind (held_by files.old file) }
     ensures ok { OnOk result (held_by files.new ≡ on_file (held_by files.old) file (λ h. cleared h state first last)) }
     ensures err { OnErr result (files.new ≡ files.old) }
+    ensures listed { ListsNoMore files.old files.new }
     ensures whole { OnErr result (IsTrue (not (is_whole first last))) }
 {
     if first == 0 && last == u64::MAX {

@@ -1,13 +1,14 @@
 -- Acts one after the other, and what each call of a port comes to.
-use Rattle.std.proofs.Common.{◌≡◌, ℕ, ◌+◌, ◌<◌, ◌≤◌, List, [], ◌∷◌, ◌++◌, length, flat_map, Option, Some, None, refl, sym, ap, subst, ◌∙◌}
+use Rattle.std.proofs.Common.{◌≡◌, ℕ, ◌+◌, ◌<◌, ◌≤◌, List, [], ◌∷◌, ◌++◌, length, filter, arith, flat_map, Option, Some, None, refl, sym, ap, subst, ◌∙◌}
 use Rattle.std.proofs.Common.{append_assoc, append-nil, inl, inr, true, false}
 use Rattle.std.proofs.lemmas.List.Concat.{flat_map-append}
+use Rattle.std.proofs.lemmas.List.Elements.{filter-append}
 use Rattle.std.specs.Io.KnownBytes.{Appends}
 use Rattle.std.proofs.KnownBytes.{Appends-nil, Appends-trans}
 use Rattle.nfs_serve.specs.Script.{most_piece}
 use Rattle.nfs_serve.specs.Talk.{max_reads}
 use Rattle.nfs_serve.specs.Step.{State}
-use Rattle.nfs_serve.specs.Desk.{Desk, closed, leaving, Act, WriteBlocked, Closed, Failed, Stepped, StepsPart, Came, ReadBlocked, Ended, IsHungry, Does, Goes, IsStuck, Reads}
+use Rattle.nfs_serve.specs.Desk.{Desk, closed, leaving, Act, WriteBlocked, Closed, Failed, Stepped, StepsPart, Came, ReadBlocked, Ended, IsHungry, Does, Goes, IsStuck, Reads, ReadsOnce, is_of_read}
 use Rattle.nfs_serve.specs.Deeds.{Deed, Logs, shown, asked}
 use Rattle.nfs_serve.specs.declared.lane.Lane.{Lane}
 use Rattle.nfs_serve.specs.Lane.{desk_of, Advances, Quiet, Working}
@@ -27,6 +28,23 @@ Goes-append port s u t d c e [] ys p q = rw (sym p.0) (rw (sym p.1) q)
 Goes-append port s u t d c e (x ∷ xs) ys p q =
     let (v, b, does, rest) = p in
     (v, b, does, Goes-append port v u t b c e xs ys rest q)
+
+-- acts that read nothing, one after the other
+pub none_read : (xs ys : List Act) → filter is_of_read xs ≡ [] → filter is_of_read ys ≡ [] → filter is_of_read (xs ++ ys) ≡ []
+none_read xs ys p q = filter-append is_of_read xs ys ∙ ap (λ l. l ++ filter is_of_read ys) p ∙ q
+
+-- no read, or those of a few acts behind acts that read nothing, and before others
+pub reads_none : (xs : List Act) → filter is_of_read xs ≡ [] → ReadsOnce xs
+reads_none xs none = subst (λ l. length l ≤ 1) (sym none) (omega arith)
+
+pub reads_last : (xs mid : List Act) → filter is_of_read xs ≡ [] → ReadsOnce mid → ReadsOnce (xs ++ mid)
+reads_last xs mid none few = subst (λ l. length l ≤ 1) (sym (filter-append is_of_read xs mid ∙ ap (λ l. l ++ filter is_of_read mid) none)) few
+
+pub reads_between : (xs mid ys : List Act) → filter is_of_read xs ≡ [] → filter is_of_read ys ≡ [] → ReadsOnce mid → ReadsOnce ((xs ++ mid) ++ ys)
+reads_between xs mid ys none later few =
+    subst (λ l. length l ≤ 1)
+    (sym (filter-append is_of_read (xs ++ mid) ys ∙ ap (λ l. filter is_of_read (xs ++ mid) ++ l) later ∙ append-nil (filter is_of_read (xs ++ mid))))
+    (reads_last xs mid none few)
 
 pub stays : (port : ℕ) (s : State) (d : Desk) (l : Option (List Deed)) (c : Option (List ℕ)) → Advances port [] s d s d l l c c
 stays port s d l c = record { goes = (refl, refl); logs = Logs-nil l; clock = Appends-nil c }
@@ -53,15 +71,16 @@ one_shown port a s d e l0 l1 c is none does logs = record {
 }
 
 pub quiet_start : (port : ℕ) (d : Desk) (l : Option (List Deed)) → Quiet port [] d d l l
-quiet_start port d l = record { goes = λ s. (refl, refl); logs = Logs-nil l; unasked = refl }
+quiet_start port d l = record { goes = λ s. (refl, refl); logs = Logs-nil l; unasked = refl; no_reads = refl }
 
 pub quiet_act : (port : ℕ) (a : Act) (d e : Desk) (l0 l1 : Option (List Deed))
-    → shown port a ≡ record { port = port; act = a } ∷ [] → asked a ≡ [] → ((s : State) → Does port s d a s e)
+    → shown port a ≡ record { port = port; act = a } ∷ [] → asked a ≡ [] → filter is_of_read (a ∷ []) ≡ [] → ((s : State) → Does port s d a s e)
     → Logs l0 l1 (record { port = port; act = a } ∷ []) → Quiet port (a ∷ []) d e l0 l1
-quiet_act port a d e l0 l1 is none does logs = record {
+quiet_act port a d e l0 l1 is none unread does logs = record {
   goes = λ s. (s, e, does s, (refl, refl));
   logs = subst (Logs l0 l1) (sym (ap (λ l. l ++ []) is)) logs;
   unasked = ap (λ l. l ++ []) none;
+  no_reads = unread;
 }
 
 pub quiet_on : (port : ℕ) (xs ys : List Act) (d c e : Desk) (l0 l1 l2 : Option (List Deed))
@@ -70,6 +89,7 @@ quiet_on port xs ys d c e l0 l1 l2 p q = record {
   goes = λ s. Goes-append port s s s d c e xs ys (p.goes s) (q.goes s);
   logs = subst (Logs l0 l2) (sym (flat_map-append (shown port) xs ys)) (Logs-trans l0 l1 l2 _ _ p.logs q.logs);
   unasked = flat_map-append asked xs ys ∙ ap (λ l. l ++ flat_map asked ys) p.unasked ∙ q.unasked;
+  no_reads = none_read xs ys p.no_reads q.no_reads;
 }
 
 -- quiet acts as acts
@@ -83,7 +103,7 @@ quiet_advances port acts s d e l0 l1 c q = record {
 
 -- a connection that has failed or ended, and is closed
 pub quiet_closes : (port : ℕ) (l0 l1 : Option (List Deed)) → Logs l0 l1 (record { port = port; act = Closed } ∷ []) → Quiet port (Closed ∷ []) leaving closed l0 l1
-quiet_closes port l0 l1 logs = quiet_act port Closed leaving closed l0 l1 refl refl (λ s. (refl, inl refl, refl)) logs
+quiet_closes port l0 l1 logs = quiet_act port Closed leaving closed l0 l1 refl refl refl (λ s. (refl, inl refl, refl)) logs
 
 -- a part that was stepped
 pub stepped : (port moment : ℕ) (part out : List ℕ) (s t : State) (a b : Lane) (c0 c1 : Option (List ℕ))
@@ -106,6 +126,7 @@ stepped port moment part out s t a b c0 c1 steps owed live reads told = record {
     (refl, refl),
   );
   unshown = refl;
+  no_reads = refl;
   clock = told;
 }
 
@@ -114,6 +135,7 @@ pub working_on : (port : ℕ) (xs ys : List Act) (s u t : State) (d c e : Desk) 
 working_on port xs ys s u t d c e c0 c1 c2 p q = record {
   goes = Goes-append port s u t d c e xs ys p.goes q.goes;
   unshown = flat_map-append (shown port) xs ys ∙ ap (λ l. l ++ flat_map (shown port) ys) p.unshown ∙ q.unshown;
+  no_reads = none_read xs ys p.no_reads q.no_reads;
   clock = subst (Appends c0 c2) (sym (flat_map-append asked xs ys)) (Appends-trans c0 c1 c2 _ _ p.clock q.clock);
 }
 
@@ -146,16 +168,16 @@ read_came port s d u l0 l1 c hungry some few logs = one_shown port (Came u) s d 
 pub read_ended : (port : ℕ) (s : State) (d : Desk) (l0 l1 l2 : Option (List Deed)) (c : Option (List ℕ)) → IsHungry d
     → Logs l0 l1 (record { port = port; act = Ended } ∷ []) → Logs l1 l2 (record { port = port; act = Closed } ∷ [])
     → Advances port (Ended ∷ Closed ∷ []) s d s closed l0 l2 c c
-read_ended port s d l0 l1 l2 c hungry first later = quiet_advances port (Ended ∷ Closed ∷ []) s d closed l0 l2 c
-    (quiet_on port (Ended ∷ []) (Closed ∷ []) d leaving closed l0 l1 l2
-    (quiet_act port Ended d leaving l0 l1 refl refl (λ s. (refl, hungry, refl)) first) (quiet_closes port l1 l2 later))
+read_ended port s d l0 l1 l2 c hungry first later =
+    goes_on (one_shown port Ended s d leaving l0 l1 c refl refl (refl, hungry, refl) first) (Closed ∷ []) s closed l2 c
+    (quiet_advances port (Closed ∷ []) s leaving closed l1 l2 c (quiet_closes port l1 l2 later))
 
 pub read_failed : (port : ℕ) (s : State) (d : Desk) (l0 l1 l2 : Option (List Deed)) (c : Option (List ℕ)) → IsHungry d
     → Logs l0 l1 (record { port = port; act = Failed } ∷ []) → Logs l1 l2 (record { port = port; act = Closed } ∷ [])
     → Advances port (Failed ∷ Closed ∷ []) s d s closed l0 l2 c c
 read_failed port s d l0 l1 l2 c hungry first later = quiet_advances port (Failed ∷ Closed ∷ []) s d closed l0 l2 c
     (quiet_on port (Failed ∷ []) (Closed ∷ []) d leaving closed l0 l1 l2
-    (quiet_act port Failed d leaving l0 l1 refl refl (λ s. (refl, hungry.live, refl)) first) (quiet_closes port l1 l2 later))
+    (quiet_act port Failed d leaving l0 l1 refl refl refl (λ s. (refl, hungry.live, refl)) first) (quiet_closes port l1 l2 later))
 
 pub reads_came : (xs ys : List Act) (u : List ℕ) → Reads ((xs ++ Came u ∷ []) ++ ys)
 reads_came xs ys u = (xs, Came u, ys, append_assoc xs (Came u ∷ []) ys, tt)
@@ -164,6 +186,6 @@ pub reads_blocked : (xs : List Act) → Reads (xs ++ ReadBlocked ∷ [])
 reads_blocked xs = (xs, ReadBlocked, [], refl, tt)
 
 -- a connection that was read often enough
-pub closes_long : (port : ℕ) (s : State) (d : Desk) (l0 l1 : Option (List Deed)) (c : Option (List ℕ)) → d.live ≡ true → d.owed ≡ [] → max_reads ≤ d.reads
+pub closes_long : (port : ℕ) (s : State) (d : Desk) (l0 l1 : Option (List Deed)) (c : Option (List ℕ)) → d.live ≡ true → d.owed ≡ [] → d.unread ≡ [] → max_reads ≤ d.reads
     → Logs l0 l1 (record { port = port; act = Closed } ∷ []) → Advances port (Closed ∷ []) s d s closed l0 l1 c c
-closes_long port s d l0 l1 c live owed many logs = one_shown port Closed s d closed l0 l1 c refl refl (refl, inr (live, owed, inr many), refl) logs
+closes_long port s d l0 l1 c live owed unread many logs = one_shown port Closed s d closed l0 l1 c refl refl (refl, inr (live, owed, inr (unread, many)), refl) logs

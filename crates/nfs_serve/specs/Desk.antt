@@ -1,6 +1,6 @@
 -- One of many connections over one server: what came on it and was not stepped, what is owed to its peer, and what may be done with
 -- it (RFC 5531 section 11). This server's profile.
-use Rattle.std.specs.Prelude.{◌≡◌, ◌⊎◌, ℕ, ◌+◌, ◌<◌, ◌≤◌, List, [], ◌∷◌, ◌++◌, length, Bool, true, false}
+use Rattle.std.specs.Prelude.{◌≡◌, ◌⊎◌, ℕ, ◌+◌, ◌<◌, ◌≤◌, List, [], ◌∷◌, ◌++◌, length, filter, Bool, true, false}
 use Rattle.nfs_rpc.specs.RecordMarking.{Gathered, is_too_long}
 use Rattle.nfs_rpc.specs.Stream.{End}
 use Rattle.nfs_serve.specs.declared.form.Form.TheVariants.{Plain}
@@ -67,9 +67,10 @@ pub record IsHungry (d : Desk) : Type 0 where
   pub owed : d.owed ≡ []
   pub few : d.reads < max_reads
 
--- a connection is closed where it has ended or failed, and else where nothing is owed and its stream is too long, or so many pieces were read
+-- a connection is closed where it has ended or failed, and else where nothing is owed and its stream is too long, or so many pieces were
+-- read and all of them stepped
 abbrev pub MayClose : Desk → Type 0
-MayClose d = (d.gone ≡ true) ⊎ ((d.live ≡ true) × (d.owed ≡ []) × ((is_too_long d.stream ≡ true) ⊎ (max_reads ≤ d.reads)))
+MayClose d = (d.gone ≡ true) ⊎ ((d.live ≡ true) × (d.owed ≡ []) × ((is_too_long d.stream ≡ true) ⊎ ((d.unread ≡ []) × (max_reads ≤ d.reads))))
 
 -- A front of what waits is stepped, where few enough bytes are owed: this part of it, to this stream and output.
 pub record StepsPart (port : ℕ) (s : State) (d : Desk) (moment : ℕ) (part : List ℕ) (t : State) (is : Gathered) (rest out : List ℕ) : Type 0 where
@@ -113,7 +114,18 @@ IsRead act = ⊥
 abbrev pub Reads : List Act → Type 0
 Reads acts = (front : List Act) × (read : Act) × (back : List Act) × (acts ≡ front ++ read ∷ back) × IsRead read
 
+-- what a read that did not fail came to; one that failed ends its connection
+abbrev pub is_of_read : Act → Bool
+is_of_read (Came bytes) = true
+is_of_read ReadBlocked = true
+is_of_read Ended = true
+is_of_read act = false
+
+-- a peer that sends without an end has no more than one read in a turn
+abbrev pub ReadsOnce : List Act → Type 0
+ReadsOnce acts = length (filter is_of_read acts) ≤ 1
+
 -- A turn ends only where there is no connection, where the peer takes no more of what is owed, or where a read was asked for and all
 -- that came is answered.
 abbrev pub EndsTurn : List Act → Desk → Type 0
-EndsTurn acts d = (d.live ≡ false) ⊎ IsStuck acts d ⊎ ((d.unread ≡ []) × (d.owed ≡ []) × Reads acts)
+EndsTurn acts d = ReadsOnce acts × ((d.live ≡ false) ⊎ IsStuck acts d ⊎ ((d.unread ≡ []) × (d.owed ≡ []) × Reads acts))

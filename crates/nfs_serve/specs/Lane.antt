@@ -1,9 +1,9 @@
 -- What a port's fields stand for, and how far its functions bring it; private contracts alone speak of it.
-use Rattle.std.specs.Prelude.{◌≡◌, ℕ, ◌<◌, List, [], ◌∷◌, ◌++◌, length, map, flat_map, true, false, Option}
+use Rattle.std.specs.Prelude.{◌≡◌, ℕ, ◌<◌, List, [], ◌∷◌, ◌++◌, length, map, filter, flat_map, true, false, Option}
 use Rattle.std.specs.Io.KnownBytes.{Appends}
 use Rattle.nfs_rpc.specs.RecordMarking.{is_too_long}
 use Rattle.nfs_serve.specs.Step.{State}
-use Rattle.nfs_serve.specs.Desk.{Desk, closed, Act, StepsPart, Goes, IsStuck}
+use Rattle.nfs_serve.specs.Desk.{Desk, closed, Act, StepsPart, Goes, IsStuck, is_of_read}
 use Rattle.nfs_serve.specs.Deeds.{Deed, Logs, shown, asked}
 use Rattle.nfs_serve.specs.declared.lane.Lane.{Lane}
 use Rattle.nfs_serve.specs.declared.lane.Rest.{Rest}
@@ -27,11 +27,12 @@ FlushesTo Clear acts d e = e ≡ record d { owed = [] }
 FlushesTo Stuck acts d e = IsStuck acts e
 FlushesTo Gone acts d e = e ≡ closed
 
--- acts that need no clock and leave the state as it is
+-- acts that need no clock, leave the state as it is and read nothing
 pub record Quiet (port : ℕ) (acts : List Act) (d e : Desk) (l0 l1 : Option (List Deed)) : Type 0 where
   pub goes : (s : State) → Goes port s d acts s e
   pub logs : Logs l0 l1 (flat_map (shown port) acts)
   pub unasked : flat_map asked acts ≡ []
+  pub no_reads : filter is_of_read acts ≡ []
 
 abbrev pub Flushes : Rest → ℕ → Desk → Desk → Option (List Deed) → Option (List Deed) → Type 0
 Flushes rest port d e l0 l1 = (acts : List Act) × Quiet port acts d e l0 l1 × FlushesTo rest acts d e
@@ -46,6 +47,7 @@ Settles Gone acts e = e ≡ closed
 pub record Working (port : ℕ) (acts : List Act) (s : State) (d : Desk) (t : State) (e : Desk) (c0 c1 : Option (List ℕ)) : Type 0 where
   pub goes : Goes port s d acts t e
   pub unshown : flat_map (shown port) acts ≡ []
+  pub no_reads : filter is_of_read acts ≡ []
   pub clock : Appends c0 c1 (flat_map asked acts)
 
 -- one part was stepped

@@ -1,10 +1,10 @@
 //! One connection of many: what came, what is owed, and its turn.
 
-ghost use Rattle.std.specs.Prelude.{◌≡◌, ◌≤◌, ◌<◌, ℕ, List, length, true, false, IfOk};
+ghost use Rattle.std.specs.Prelude.{◌≡◌, ◌≤◌, ◌<◌, ℕ, List, [], length, filter, true, false, IfOk};
 ghost use Rattle.nfs_rpc.specs.RecordMarking.{is_too_long};
 ghost use Rattle.nfs_serve.specs.Server.{state_of};
 ghost use Rattle.nfs_serve.specs.Script.{last_connection};
-ghost use Rattle.nfs_serve.specs.Desk.{Act, closed, opened, most_owed, EndsTurn};
+ghost use Rattle.nfs_serve.specs.Desk.{Act, closed, opened, most_owed, EndsTurn, is_of_read};
 ghost use Rattle.nfs_serve.specs.Lane.{desk_of, Advances, Flushes, Settles, StepsOne, StepsSome};
 ghost use Rattle.nfs_serve.specs.Boxes as boxes;
 
@@ -145,7 +145,7 @@ impl Lane {
     ) -> Rest
         requires port { port ≤ last_connection }
         requires live { self.old.live ≡ true }
-        ensures { (acts : List Act) × Advances port acts (state_of engine.old.kept) (desk_of self.old) (state_of engine.new.kept) (desk_of self.new) (P.log ports.old) (P.log ports.new) (C.told clock.old) (C.told clock.new) × Settles result acts (desk_of self.new) }
+        ensures { (acts : List Act) × Advances port acts (state_of engine.old.kept) (desk_of self.old) (state_of engine.new.kept) (desk_of self.new) (P.log ports.old) (P.log ports.new) (C.told clock.old) (C.told clock.new) × Settles result acts (desk_of self.new) × (filter is_of_read acts ≡ []) }
     {
         loop {
             match self.flush(port, ports) {

@@ -18,7 +18,7 @@ use Rattle.nfs_tree.specs.declared.sets.Sets.{Sets}
 use Rattle.nfs_tree.specs.Files.{root, last_count, change_at, with_changed, stored_in}
 use Rattle.nfs_tree.specs.Calls.{CanChange}
 use Rattle.nfs_tree.specs.Indexed.{stored, numbered, AreObjects}
-use Rattle.nfs_tree.proofs.StoredLemmas.{insert_last, free_vacant, stored_push, stored_apart, stored_remove, AreStored-push, stored_find, stored_write, filter_none, map_none, found_keeps, rising_keys}
+use Rattle.nfs_tree.proofs.StoredLemmas.{insert_last, free_vacant, stored_push, stored_apart, stored_remove, AreStored-push, stored_find, stored_write, filter_none, map_none, found_keeps, rising_keys, led_new, led_without, led_write}
 
 abbrev number : Stored → ℕ
 number s = s.number
@@ -45,6 +45,7 @@ objects_new s t es fs n key b is up vacant updates entries =
         high = n + 1;
         rising = IsRising-push (λ (e : ℕ × ℕ). e.0) root n (n + 1) es (n, key) refl refl rising;
         stored = AreStored-push numbered number (get t) n key es (rw updates.changed refl) free kept.1;
+        led = led_new (get s) (get t) n key es updates.others is.led;
       };
       view = stored_push numbered number (get t) n key b es updates.changed ∙ ap (λ xs. xs ++ numbered n b ∷ []) kept.0;
     })
@@ -57,7 +58,12 @@ pub objects_without : (s t : Slab Body) (es fs : List (ℕ × ℕ)) (n key : ℕ
 objects_without s t es fs n key is found updates entries =
     let gone = stored_remove numbered number (get s) (get t) n key root is.high updates.others es is.rising is.stored found in
     rw entries (record {
-      is = record { high = is.high; rising = gone.2; stored = gone.1 };
+      is = record {
+        high = is.high;
+        rising = gone.2;
+        stored = gone.1;
+        led = led_without (get s) (get t) n key es updates.others updates.changed found is.led;
+      };
       view = gone.0;
     })
 
@@ -95,9 +101,10 @@ pub objects_put : (f : Stored → Stored) → ((s : Stored) → (f s).number ≡
 objects_put f same s es n key o p is found was now =
     let t : Slab Body = with_value s key p in
     let put : get t key ≡ Some p = get_or-set_same s.slots key (Some p) None (within s.slots key o was) in
-    let wrote = stored_write numbered number f same (get s) (get t) n key root is.high o p was put now (λ k apart. get_or-set_other s.slots key k (Some p) None apart) es is.rising is.stored found in
+    let others : (k : ℕ) → k ≢ key → get t k ≡ get s k = λ k apart. get_or-set_other s.slots key k (Some p) None apart in
+    let wrote = stored_write numbered number f same (get s) (get t) n key root is.high o p was put now others es is.rising is.stored found in
     record {
-      is = record { high = is.high; rising = is.rising; stored = wrote.1 };
+      is = record { high = is.high; rising = is.rising; stored = wrote.1; led = led_write (get s) (get t) key o es others was is.led };
       view = wrote.0;
     }
 
@@ -134,5 +141,10 @@ pub objects_at : (s : Slab Body) (es : List (ℕ × ℕ)) (n key : ℕ) (o p : B
 objects_at s es n key o p is found was = (objects_put (λ x. numbered x.number p) (λ _. refl) s es n key o p is found was refl).is
 
 -- no objects
-pub objects_none : (s : Slab Body) (es : List (ℕ × ℕ)) → es ≡ [] → AreObjects (get s) es
-objects_none s es none = subst (AreObjects (get s)) (sym none) (record { high = root; rising = omega arith; stored = tt })
+pub objects_none : (s : Slab Body) (es : List (ℕ × ℕ)) → s.slots ≡ [] → es ≡ [] → AreObjects (get s) es
+objects_none s es empty none = subst (AreObjects (get s)) (sym none) (record {
+  high = root;
+  rising = omega arith;
+  stored = tt;
+  led = λ k x here. absurd (let bad : None ≡ Some x = rw empty at here in cc);
+})

@@ -1,19 +1,17 @@
 -- What each change of the slab and of the map makes of the list of rows.
-use Rattle.std.proofs.Common.{◌≡◌, ℕ, ◌+◌, List, [], ◌∷◌, ◌++◌, Some, None, refl, sym, ◌∙◌, ap, arith, subst, inl, inr}
+use Rattle.std.proofs.Common.{◌≡◌, ℕ, ◌+◌, List, [], ◌∷◌, ◌++◌, Some, None, refl, sym, ◌∙◌, ap, arith, subst}
 use Rattle.std.specs.Prelude.{length, option_map}
 use Rattle.std.specs.Option.{option_and_then}
 use Rattle.std.specs.Ordering.{nat_cmp}
 use Rattle.std.specs.BTreeMap.{is_at, insert_entry}
 use Rattle.std.specs.Map.{lookup, remove_entry}
 use Rattle.slab.specs.Slab.{Slab, get, Updates}
-use Rattle.std.proofs.lemmas.Bool.{cases_eq}
 use Rattle.nfs_xdr.specs.Tables.{IsRising, record_at, without_record}
-use Rattle.nfs_xdr.proofs.Lists.{push_in, last_in}
 use Rattle.nfs_xdr.proofs.Tables.{IsRising-push}
 use Rattle.nfs_tree.specs.declared.row.Naming.{Naming}
 use Rattle.nfs_tree.specs.declared.row.Row.{Row}
 use Rattle.nfs_tree.specs.Indexed.{stored, placed, IsShelved, AreShelved}
-use Rattle.nfs_tree.proofs.StoredLemmas.{insert_last, free_vacant, stored_push, stored_apart, stored_remove, in_removed, in_stored, AreStored-push, stored_find, filter_none, rising_keys, length-stored}
+use Rattle.nfs_tree.proofs.StoredLemmas.{insert_last, free_vacant, stored_push, stored_apart, stored_remove, led_new, led_without, in_stored, AreStored-push, stored_find, filter_none, rising_keys, length-stored}
 
 abbrev pub cookie : Row → ℕ
 cookie r = r.cookie
@@ -40,10 +38,7 @@ shelved_new s t es fs n key p is up vacant updates entries =
         high = n + 1;
         rising = IsRising-push (λ (e : ℕ × ℕ). e.0) 3 n (n + 1) es (n, key) refl refl rising;
         stored = AreStored-push placed cookie (get t) n key es (rw updates.changed refl) free kept.1;
-        led = λ k x here. elim (cases_eq k key) [
-          | inl same ↦ (n, rw same (last_in es (n, key)))
-          | inr other ↦ (let old = is.led k x (sym (updates.others k other) ∙ here) in (old.0, push_in es (n, key) (old.0, k) old.1))
-        ];
+        led = led_new (get s) (get t) n key es updates.others is.led;
       };
       view = stored_push placed cookie (get t) n key p es updates.changed ∙ ap (λ xs. xs ++ placed n p ∷ []) kept.0;
     })
@@ -60,10 +55,7 @@ shelved_without s t es fs n key is found updates entries =
         high = is.high;
         rising = gone.2;
         stored = gone.1;
-        led = λ k x here. elim (cases_eq k key) [
-          | inl same ↦ absurd (let bad : Some x ≡ None = sym here ∙ ap (get t) same ∙ updates.changed in cc)
-          | inr other ↦ (let old = is.led k x (sym (updates.others k other) ∙ here) in (old.0, in_removed n old.0 k key es found other old.1))
-        ];
+        led = led_without (get s) (get t) n key es updates.others updates.changed found is.led;
       };
       view = gone.0;
     })

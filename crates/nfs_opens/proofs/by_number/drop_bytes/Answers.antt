@@ -17,7 +17,7 @@ loop-lock-preserved c =
     let first : drop c.loop-lock.lock-index c.args.locks.now ≡ l ∷ drop (c.loop-lock.lock-index + 1) c.args.locks.now = grind (arith, common_steps) in
     let step : held_by c.if-lock-client.files ≡ cond (l.client == c.args.client) after before =
     elim c.if-lock-client.branch [
-      | then-lock-client w ↦ ap held_by w.files-is ∙ (w.drop_state.ensures ∙ sym (ap (λ (v : Bool). cond v after before) (eq-eqb l.client c.args.client w.if-lock-client.true)))
+      | then-lock-client w ↦ ap held_by w.files-is ∙ (w.drop_state.ensures.held ∙ sym (ap (λ (v : Bool). cond v after before) (eq-eqb l.client c.args.client w.if-lock-client.true)))
       | else-lock-client w ↦ ap held_by w.files-is ∙ sym (ap (λ (v : Bool). cond v after before) (ne_eqb l.client c.args.client w.if-lock-client.false))
     ] in
     ap (held_without (λ k. k.client == c.args.client) (drop (c.loop-lock.lock-index + 1) c.args.locks.now)) step

@@ -68,6 +68,7 @@ invariant_of-self c =
       table = subst IsTable (sym (changed at.After-narrow))
           (table_narrow (table (the_view c.self.inside)) c.args.id.number c.args.access c.args.deny c.in-Some.open.now c.self.invariant.table one
           (sym c.is_narrower.ensures ∙ c.if-not-is_narrower.false));
+      listed = c.self.invariant.listed;
       room = λ yes. c.narrow.ensures.ready ∙ c.self.invariant.room yes;
     }
 

@@ -7,6 +7,7 @@ use Rattle.nfs_opens.specs.Kept.{IsTable}
 use Rattle.nfs_opens.specs.Calls.{without_client}
 use Rattle.nfs_opens.proofs.TableLemmas.{table_ended}
 use Rattle.nfs_opens.proofs.LockLemmas.{left_holders, left_held, same_table}
+use Rattle.nfs_opens.proofs.LockedLemmas.{listed_kept}
 use Rattle.nfs_opens.proofs.opens.Opens.end_client.Goals as goal
 
 pub keep_locked-requires : goal.keep_locked-requires
@@ -21,6 +22,7 @@ invariant_of-self c =
     (held_by c.keep_locked.new.self) _ c.self.inside.last c.self.inside.instance c.drop_client.ensures.items c.leave_client.ensures.locks held in
     record {
       table = subst IsTable (sym same) (table_ended t c.args.client c.self.invariant.table);
+      listed = listed_kept c.leave_client.new.locks.items c.keep_locked.new.self c.keep_locked.ensures.listed;
       room = λ yes. c.drop_client.ensures.ready (c.self.invariant.room yes);
     }
 

@@ -1,5 +1,6 @@
 use Rattle.std.proofs.Common.{◌≡◌, Some, ℕ, sym, subst, ap, ◌∙◌, arith, refl}
-use Rattle.std.specs.Prelude.{Ok}
+use Rattle.nfs_xdr.proofs.Lists.{find_in}
+use Rattle.std.specs.Prelude.{Ok, ◌==◌}
 use Rattle.std.specs.Option.{option_copied}
 use Rattle.nfs_opens.specs.contracts.opens.Opens.{the_view}
 use Rattle.nfs_opens.specs.declared.stateid.StateId.{StateId}
@@ -11,6 +12,7 @@ use Rattle.nfs_opens.specs.Kept.{IsTable}
 use Rattle.nfs_opens.specs.Locking.{lock_judged, lock_as}
 use Rattle.nfs_opens.proofs.LockLemmas.{same_table}
 use Rattle.nfs_opens.proofs.StepLemmas.{if_some, lock_as_is, table_locked}
+use Rattle.nfs_opens.proofs.LockedLemmas.{listed_set, listed_raised}
 use Rattle.nfs_opens.proofs.opens.Opens.lock_as.Goals as goal
 
 pub invariant_of-self-2 : goal.invariant_of-self-2
@@ -28,6 +30,9 @@ invariant_of-self-2 c =
       table = subst IsTable (sym same)
           (table_locked (table (the_view c.self.inside)) c.args.wish.now c.args.state c.args.access c.in-Some.lock.now c.self.invariant.table
           c.requires.range (omega arith) judged found of_file);
+      listed = listed_raised c.args.state c.self.inside.locks.items c.raise.new.self.items c.set.new.self
+          (listed_set c.self.inside.locks.items c.args.wish.now.file c.in-Some.lock.now c.self.inside.files c.set.new.self c.self.invariant.listed c.set.ensures.listed
+          (find_in (λ (l : LockState). l.number == c.args.state) c.self.inside.locks.items c.in-Some.lock.now found).0 of_file) c.raise.ensures;
       room = c.self.invariant.room;
     }
 

@@ -11,6 +11,7 @@ use Rattle.nfs_opens.specs.Kept.{IsTable}
 use Rattle.nfs_opens.specs.Locking.{lock_judged, lock_first}
 use Rattle.nfs_opens.proofs.LockLemmas.{same_table}
 use Rattle.nfs_opens.proofs.StepLemmas.{judged_tells, first_state, table_first, lock_first_is}
+use Rattle.nfs_opens.proofs.LockedLemmas.{listed_pushed}
 use Rattle.nfs_opens.proofs.opens.Opens.lock_first.Goals as goal
 use Rattle.nfs_xdr.proofs.Lists.{some_there}
 use Rattle.nfs_opens.specs.declared.records.LockState.{LockState}
@@ -35,6 +36,8 @@ invariant_of-self-2 c =
           (table_first (table (the_view c.self.inside)) c.args.wish.now c.args.owner.now c.args.opened o c.self.invariant.table c.requires.range (omega arith)
           (judged_tells (table (the_view c.self.inside)) 0 c.args.access c.args.wish.now c.self.invariant.table c.requires.range (omega arith) judged)
           (ap (λ (k : Kept). open_at (table k) c.args.opened) c.self.view_is ∙ found) under.0 under.1);
+      listed = listed_pushed c.self.inside.locks.items c.push.new.self.items (first_state (table (the_view c.self.inside)) c.args.wish.now c.args.owner.now c.args.opened)
+          c.self.inside.files c.set.new.self c.self.invariant.listed items c.set.ensures.listed;
       room = c.self.invariant.room;
     }
 

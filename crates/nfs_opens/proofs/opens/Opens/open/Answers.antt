@@ -31,6 +31,7 @@ invariant_of-self c =
     c.join.ensures.items refl refl in
     record {
       table = subst IsTable (sym same) (table_join (table (the_view c.self.inside)) (asked c.args.ask.now) c.in-Some.open.now c.self.invariant.table own free);
+      listed = c.self.invariant.listed;
       room = λ yes. c.join.ensures.ready ∙ c.self.invariant.room yes;
     }
 
@@ -43,6 +44,7 @@ invariant_of-self-in-None c =
     let same = ap (λ (xs : List OpenState). record (table (the_view c.self.inside)) { opens = xs; last = c.self.inside.last + 1 }) items in
     record {
       table = subst IsTable (sym same) (table_opened (table (the_view c.self.inside)) (asked c.args.ask.now) c.self.invariant.table free);
+      listed = c.self.invariant.listed;
       room = λ yes. absurd (false≢true yes);
     }
 

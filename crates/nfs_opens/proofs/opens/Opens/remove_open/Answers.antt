@@ -1,12 +1,13 @@
-use Rattle.std.proofs.Common.{sym, subst, ap, ◌∙◌}
-use Rattle.std.specs.Prelude.{◌==◌}
+use Rattle.std.proofs.Common.{◌≡◌, sym, subst, ap, ◌∙◌}
+use Rattle.std.specs.Prelude.{◌==◌, IfSome}
 use Rattle.nfs_opens.specs.contracts.opens.Opens.{the_view}
 use Rattle.nfs_opens.specs.Holding.{held_by}
-use Rattle.nfs_opens.specs.Table.{Kept, table}
+use Rattle.nfs_opens.specs.Table.{Kept, table, open_at}
 use Rattle.nfs_opens.specs.Kept.{IsTable}
 use Rattle.nfs_opens.specs.Closing.{without_open}
 use Rattle.nfs_opens.proofs.TableLemmas.{table_closed}
 use Rattle.nfs_opens.proofs.LockLemmas.{left_holders, left_held, same_table}
+use Rattle.nfs_opens.proofs.LockedLemmas.{listed_left, under_file}
 use Rattle.nfs_opens.proofs.opens.Opens.remove_open.Goals as goal
 
 pub forget_unlocked-requires : goal.forget_unlocked-requires
@@ -21,6 +22,11 @@ invariant_of-self c =
     (held_by c.forget_unlocked.new.files) _ c.self.inside.last c.self.inside.instance c.remove.ensures.items c.leave_open.ensures.locks held in
     record {
       table = subst IsTable (sym same) (table_closed t c.args.number c.self.invariant.table);
+      listed = listed_left (λ l. l.opened == c.args.number) c.args.file c.self.inside.locks.items c.leave_open.new.locks.items c.self.inside.files c.forget_unlocked.new.files
+          c.self.invariant.listed
+          (under_file t c.args.number c.args.file c.self.invariant.table
+          (subst (λ (k : Kept). IfSome (open_at (table k) c.args.number) (λ o. o.file ≡ c.args.file)) (sym c.self.view_is) c.requires))
+          c.leave_open.ensures.locks (λ f some. c.leave_open.ensures.listed f (c.forget_unlocked.ensures.listed f some)) c.forget_unlocked.ensures.gone;
       room = λ yes. c.remove.ensures.ready (c.self.invariant.room yes);
     }
 

@@ -14,6 +14,7 @@ use Rattle.nfs_opens.specs.declared.judging.Sort.TheVariants.{LockOnly}
 use Rattle.nfs_opens.specs.Locking.{unlock, unlock_by, clear_lock}
 use Rattle.nfs_opens.proofs.LockLemmas.{same_table}
 use Rattle.nfs_opens.proofs.StepLemmas.{table_unlocked}
+use Rattle.nfs_opens.proofs.LockedLemmas.{listed_raised}
 use Rattle.nfs_opens.proofs.opens.Opens.unlock.Goals as goal
 
 pub clear_bytes-requires-clause-within : goal.clear_bytes-requires-clause-within
@@ -41,6 +42,8 @@ invariant_of-self-2 c =
     record {
       table = subst IsTable (sym same)
           (table_unlocked (table (the_view c.self.inside)) c.args.id.number c.args.file c.args.first c.args.last c.self.invariant.table);
+      listed = listed_raised c.args.id.number c.self.inside.locks.items c.raise.new.self.items c.clear_bytes.new.files
+          (λ f some. c.self.invariant.listed f (c.clear_bytes.ensures.listed f some)) c.raise.ensures;
       room = c.self.invariant.room;
     }
 

@@ -14,7 +14,7 @@ loop-ports-preserved g c =
       (
         acts ++ Took (take n c.rest-in-loop-ports.result.now) ∷ [],
         quiet_on _ acts (Took (take n c.rest-in-loop-ports.result.now) ∷ []) _ _ _ _ _ _ so_far
-            (quiet_act _ (Took (take n c.rest-in-loop-ports.result.now)) _ _ _ _ refl refl
+            (quiet_act _ (Took (take n c.rest-in-loop-ports.result.now)) _ _ _ _ refl refl refl
             (λ s. (refl, live, some, c.consume.new.self.bytes, split, refl)) c.in-Bytes.ensures.logs),
       ),
       live,
@@ -29,7 +29,7 @@ returns-in-Blocked g c =
     let owed : 0 < length c.loop-ports.self.owed.bytes = search rules in (
       acts ++ WriteBlocked ∷ [],
       quiet_on _ acts (WriteBlocked ∷ []) _ _ _ _ _ _ so_far
-          (quiet_act _ WriteBlocked _ _ _ _ refl refl (λ s. (refl, live, owed, refl)) c.in-Blocked.ensures.logs),
+          (quiet_act _ WriteBlocked _ _ _ _ refl refl refl (λ s. (refl, live, owed, refl)) c.in-Blocked.ensures.logs),
       (acts, refl, owed),
     )
 
@@ -39,7 +39,7 @@ returns-in-Failed g c =
       acts ++ (Failed ∷ [] ++ Closed ∷ []),
       quiet_on _ acts (Failed ∷ [] ++ Closed ∷ []) _ _ _ _ _ _ so_far
           (quiet_on _ (Failed ∷ []) (Closed ∷ []) _ leaving _ _ _ _
-          (quiet_act _ Failed _ _ _ _ refl refl (λ s. (refl, live, refl)) c.in-Failed.ensures.logs)
+          (quiet_act _ Failed _ _ _ _ refl refl refl (λ s. (refl, live, refl)) c.in-Failed.ensures.logs)
           (rw c.reset.ensures (quiet_closes _ _ _ c.close.ensures.logs))),
       c.reset.ensures,
     )

@@ -1,88 +1,94 @@
-use Rattle.std.proofs.Common.{rules, ap, [], ◌∷◌, ◌++◌, inl, inr}
+use Rattle.std.proofs.Common.{rules, arith, ap, [], ◌∷◌, ◌++◌, inl, inr}
 use Rattle.nfs_serve.specs.Desk.{Closed, Came, ReadBlocked, Ended, Failed, IsHungry}
 use Rattle.nfs_serve.specs.Lane.{desk_of}
-use Rattle.nfs_serve.proofs.Advancing.{goes_on, stuck_behind, read_blocked, read_came, read_ended, read_failed, reads_came, reads_blocked, closes_long}
+use Rattle.nfs_serve.proofs.Advancing.{goes_on, stuck_behind, read_blocked, read_came, read_ended, read_failed, reads_came, reads_blocked, closes_long, reads_none, reads_last, reads_between}
 use Rattle.nfs_serve.proofs.lane.Lane.turn.Given as given
 use Rattle.nfs_serve.proofs.lane.Lane.turn.Goals as goal
 use Rattle.nfs_serve.proofs.lane.Lane.turn.Goals.{After-receive}
 
 hungry : (g : given.Over) (c : After-receive g) → IsHungry (desk_of c.settle.new.self)
 hungry g c =
-    let (xs, first, (live, gone, stream, unread, owed)) = c.in-Clear.ensures in
+    let (xs, first, (live, gone, stream, unread, owed), none) = c.in-Clear.ensures in
     record { live = live; short = stream; unread = unread; owed = owed; few = search rules }
+
+pub returns-in-Stuck : goal.returns-in-Stuck
+returns-in-Stuck g c = let (xs, first, stuck, none) = c.in-Stuck.ensures in (xs, first, (reads_none xs none, inr (inl stuck)))
+
+pub returns-in-Gone : goal.returns-in-Gone
+returns-in-Gone g c = let (xs, first, gone, none) = c.in-Gone.ensures in (xs, first, (reads_none xs none, inl (ap (λ d. d.live) gone)))
 
 pub returns-then-self-ge-MAX_READS : goal.returns-then-self-ge-MAX_READS
 returns-then-self-ge-MAX_READS g c =
-    let (xs, first, (live, gone, stream, unread, owed)) = c.in-Clear.ensures in (
+    let (xs, first, (live, gone, stream, unread, owed), none) = c.in-Clear.ensures in (
       xs ++ Closed ∷ [],
-      goes_on first (Closed ∷ []) _ _ _ _ (rw c.reset.ensures (closes_long _ _ (desk_of c.settle.new.self) _ _ _ live owed (search rules) c.close.ensures.logs)),
-      inl (ap (λ d. d.live) c.reset.ensures),
+      goes_on first (Closed ∷ []) _ _ _ _ (rw c.reset.ensures (closes_long _ _ (desk_of c.settle.new.self) _ _ _ live owed unread (search rules) c.close.ensures.logs)),
+      (reads_last xs (Closed ∷ []) none (omega arith), inl (ap (λ d. d.live) c.reset.ensures)),
     )
 
 pub returns-in-Clear-settle : goal.returns-in-Clear-settle
 returns-in-Clear-settle g c =
     let at = (goal.at.returns-in-Clear-settle g c).After-receive in
-    let (xs, first, _) = c.in-Clear.ensures in
+    let (xs, first, _, none) = c.in-Clear.ensures in
     let (some, few, logs) = c.in-Bytes.ensures.received in
-    let (ys, later, (live, gone, stream, unread, owed)) = c.in-Clear-settle.ensures in
+    let (ys, later, (live, gone, stream, unread, owed), none_later) = c.in-Clear-settle.ensures in
     let u = c.receive.new.self in (
       (xs ++ Came u ∷ []) ++ ys,
       goes_on (goes_on first (Came u ∷ []) _ _ _ _ (read_came _ _ (desk_of c.settle.new.self) u _ _ _ (hungry g at) some few logs)) ys _ _ _ _ later,
-      inr (inr (unread, owed, reads_came xs ys u)),
+      (reads_between xs (Came u ∷ []) ys none none_later (omega arith), inr (inr (unread, owed, reads_came xs ys u))),
     )
 
 pub returns-in-Stuck-settle : goal.returns-in-Stuck-settle
 returns-in-Stuck-settle g c =
     let at = (goal.at.returns-in-Stuck-settle g c).After-receive in
-    let (xs, first, _) = c.in-Clear.ensures in
+    let (xs, first, _, none) = c.in-Clear.ensures in
     let (some, few, logs) = c.in-Bytes.ensures.received in
-    let (ys, later, stuck) = c.in-Stuck-settle.ensures in
+    let (ys, later, stuck, none_later) = c.in-Stuck-settle.ensures in
     let u = c.receive.new.self in (
       (xs ++ Came u ∷ []) ++ ys,
       goes_on (goes_on first (Came u ∷ []) _ _ _ _ (read_came _ _ (desk_of c.settle.new.self) u _ _ _ (hungry g at) some few logs)) ys _ _ _ _ later,
-      inr (inl (stuck_behind (xs ++ Came u ∷ []) ys (desk_of c.settle-in-Bytes.new.self) stuck)),
+      (reads_between xs (Came u ∷ []) ys none none_later (omega arith), inr (inl (stuck_behind (xs ++ Came u ∷ []) ys (desk_of c.settle-in-Bytes.new.self) stuck))),
     )
 
 pub returns-in-Gone-settle : goal.returns-in-Gone-settle
 returns-in-Gone-settle g c =
     let at = (goal.at.returns-in-Gone-settle g c).After-receive in
-    let (xs, first, _) = c.in-Clear.ensures in
+    let (xs, first, _, none) = c.in-Clear.ensures in
     let (some, few, logs) = c.in-Bytes.ensures.received in
-    let (ys, later, gone) = c.in-Gone-settle.ensures in
+    let (ys, later, gone, none_later) = c.in-Gone-settle.ensures in
     let u = c.receive.new.self in (
       (xs ++ Came u ∷ []) ++ ys,
       goes_on (goes_on first (Came u ∷ []) _ _ _ _ (read_came _ _ (desk_of c.settle.new.self) u _ _ _ (hungry g at) some few logs)) ys _ _ _ _ later,
-      inl (ap (λ d. d.live) gone),
+      (reads_between xs (Came u ∷ []) ys none none_later (omega arith), inl (ap (λ d. d.live) gone)),
     )
 
 pub returns-in-Blocked : goal.returns-in-Blocked
 returns-in-Blocked g c =
     let at = (goal.at.returns-in-Blocked g c).After-receive in
-    let (xs, first, (live, gone, stream, unread, owed)) = c.in-Clear.ensures in
-    let (none, logs) = c.in-Blocked.ensures.received in (
+    let (xs, first, (live, gone, stream, unread, owed), none) = c.in-Clear.ensures in
+    let (empty, logs) = c.in-Blocked.ensures.received in (
       xs ++ ReadBlocked ∷ [],
-      goes_on first (ReadBlocked ∷ []) _ _ _ _ (read_blocked _ _ (desk_of c.settle.new.self) c.receive.new.self _ _ _ (hungry g at) none logs),
-      inr (inr (none, owed, reads_blocked xs)),
+      goes_on first (ReadBlocked ∷ []) _ _ _ _ (read_blocked _ _ (desk_of c.settle.new.self) c.receive.new.self _ _ _ (hungry g at) empty logs),
+      (reads_last xs (ReadBlocked ∷ []) none (omega arith), inr (inr (empty, owed, reads_blocked xs))),
     )
 
 pub returns-in-Ended : goal.returns-in-Ended
 returns-in-Ended g c =
     let at = (goal.at.returns-in-Ended g c).After-receive in
-    let (xs, first, _) = c.in-Clear.ensures in
-    let (none, logs) = c.in-Ended.ensures.received in (
+    let (xs, first, _, none) = c.in-Clear.ensures in
+    let (empty, logs) = c.in-Ended.ensures.received in (
       xs ++ (Ended ∷ Closed ∷ []),
       goes_on first (Ended ∷ Closed ∷ []) _ _ _ _ (rw c.reset-in-Ended.ensures
           (read_ended _ _ (desk_of c.settle.new.self) _ _ _ _ (hungry g at) logs c.close-in-Ended.ensures.logs)),
-      inl (ap (λ d. d.live) c.reset-in-Ended.ensures),
+      (reads_last xs (Ended ∷ Closed ∷ []) none (omega arith), inl (ap (λ d. d.live) c.reset-in-Ended.ensures)),
     )
 
 pub returns-in-Failed : goal.returns-in-Failed
 returns-in-Failed g c =
     let at = (goal.at.returns-in-Failed g c).After-receive in
-    let (xs, first, _) = c.in-Clear.ensures in
-    let (none, logs) = c.in-Failed.ensures.received in (
+    let (xs, first, _, none) = c.in-Clear.ensures in
+    let (empty, logs) = c.in-Failed.ensures.received in (
       xs ++ (Failed ∷ Closed ∷ []),
       goes_on first (Failed ∷ Closed ∷ []) _ _ _ _ (rw c.reset-in-Failed.ensures
           (read_failed _ _ (desk_of c.settle.new.self) _ _ _ _ (hungry g at) logs c.close-in-Failed.ensures.logs)),
-      inl (ap (λ d. d.live) c.reset-in-Failed.ensures),
+      (reads_last xs (Failed ∷ Closed ∷ []) none (omega arith), inl (ap (λ d. d.live) c.reset-in-Failed.ensures)),
     )
