@@ -24,7 +24,7 @@ class Tries:
     that no run takes what the other passed."""
 
     def __init__(self, rt, rounds, proved, store=None):
-        """`proved` gives the folder of what is kept of a library's proof, for a crate whose proof an earlier run kept; `store` gets the script's
+        """`proved` gives the folder of what is kept of a crate's proof, for one whose proof an earlier run kept; `store` gets the script's
         own store under "kept"."""
         self.rt, self.rounds, self.proved, self.store = rt, rounds, proved, {} if store is None else store
         rt.STORE, rt.add_edits = f"{rt.STORE}-in-rounds", self.add
@@ -58,6 +58,6 @@ class Tries:
     def all_of(self, crate, edits, jobs):
         if not edits:
             return []
-        if self.rounds.is_this_run and not crate.is_program and crate.name not in self.rounds.kept:
+        if self.rounds.is_this_run and crate.name not in self.rounds.kept:
             self.rounds.kept[crate.name] = self.proved(crate)
         return self.rounds.all_of(crate, edits, ["--jobs", str(jobs)])

@@ -175,35 +175,22 @@ def copied(kept):
         yield shutil.copytree(kept, f"{room}/kept", copy_function=os.link)
 
 
-class Fresh:
-    """The shape of a verdict line, which for a program may have the word of a folder for kept work: that is new when its check begins."""
-
-    def __init__(self, verdict):
-        self.verdict = verdict
-
-    def search(self, text):
-        return self.verdict.search(re.sub(r"^(logic=proved .*\btarget=.*) incremental=trusted\n\Z", r"\1\n", text, flags=re.MULTILINE))
-
-
 def keep_all(rt, room):
-    """Has each proof of a crate in a run keep all that it wrote, in new folders of the room; returns those folders by the crates' names."""
+    """Has each proof of a library in a run keep all that it wrote, in new folders of the room; returns those folders by the crates' names. That of a
+    program stays empty, since no check both keeps its work and makes what two compilers build: a round of its edits reads all anew, and is
+    mostly the only one."""
     kept, ci = {}, rt.Crate.ci
 
     def ci_and_keep(crate, flags, tests):
         path = f"{room}/{crate.name}"
         shutil.rmtree(path, ignore_errors=True)
         os.mkdir(path)
-        if crate.is_program:
-            prove = crate.prove
-            crate.prove = lambda check: prove([*check, "--incremental", path])
-            status = ci(crate, flags, tests)
-        else:
-            status = prove_once(rt, crate, flags, path)
-        if not status and os.listdir(path):
+        status = ci(crate, flags, tests) if crate.is_program else prove_once(rt, crate, flags, path)
+        if not status and (crate.is_program or os.listdir(path)):
             kept[crate.name] = path
         return status
 
-    rt.Crate.ci, rt.rtlib.VERDICT = ci_and_keep, Fresh(rt.rtlib.VERDICT)
+    rt.Crate.ci = ci_and_keep
     return kept
 
 
@@ -219,9 +206,11 @@ def prove_once(rt, crate, flags, path):
 
 def unpacked(rt, crate, path):
     """Unpacks what the check of a library that was built wrote into a folder for kept work, as the prover would have it there, and returns the
-    folder. A later check looks at each module whether it is that of the text as it stands; where a kit packs them otherwise, it finds none and
-    proves them again."""
+    folder; that of a program stays empty. A later check looks at each module whether it is that of the text as it stands; where a kit packs them
+    otherwise, it finds none and proves them again."""
     os.makedirs(path, exist_ok=True)
+    if crate.is_program:
+        return path
     archive = f"{crate.rlib}/toolchain/checked.a"
     pack = [f"{rt.KIT}/toolchain/bin/llvm-ar"]
     listed = subprocess.run([*pack, "t", archive], stdin=subprocess.DEVNULL, stdout=subprocess.PIPE, text=True, errors="replace")
