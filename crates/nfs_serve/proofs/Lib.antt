@@ -24,6 +24,8 @@ pub mod NetworkLists
 pub mod NetworkLines
 pub mod NetworkEvents
 pub mod AloneRuns
+pub mod PerfectWire
+pub mod RealTime
 pub mod Settled
 pub mod Ticking
 pub mod SlotsLeft

@@ -227,7 +227,7 @@ last_in : (c : Compound) (cs : List Compound) → IsLast c cs → In c cs
 last_in c cs last = subst (In c) (sym last.1) (In-last last.0 c)
 
 -- each event
-event_keeps : (s : Server) (laws : KeepsSlots s) (callers : Callers) (net : Network s) (e : Event) → IsNetwork s laws callers net → May callers net e → IsNetwork s laws callers (after callers net e)
+pub event_keeps : (s : Server) (laws : KeepsSlots s) (callers : Callers) (net : Network s) (e : Event) → IsNetwork s laws callers net → May callers net e → IsNetwork s laws callers (after callers net e)
 event_keeps s laws callers net (Sends q) is may =
     let l = net.lines q.heading.place in
     with_packet_keeps s laws callers net q (sending l q.heading) may.bytes may.reads may.place (In-last l.sent q.heading.compound) (λ c i. In-front c l.sent (q.heading.compound ∷ []) i) refl may.xid
@@ -247,17 +247,17 @@ event_keeps s laws callers net (Asks caller a) is lone =
 event_keeps s laws callers net (Intrudes a) is foreign = moves s laws callers net a.bytes a.now a.choice is (λ p i h reads executes at. foreign h reads (subst (λ (x : Place). In x callers.places) (sym at) i))
 event_keeps s laws callers net (Accepts p c a) is may = accepting_keeps s laws callers net p c a is may
 
-schedule_keeps : (s : Server) (laws : KeepsSlots s) (callers : Callers) (net : Network s) (events : List Event) → IsNetwork s laws callers net → Schedule callers net events → IsNetwork s laws callers (ended callers net events)
+pub schedule_keeps : (s : Server) (laws : KeepsSlots s) (callers : Callers) (net : Network s) (events : List Event) → IsNetwork s laws callers net → Schedule callers net events → IsNetwork s laws callers (ended callers net events)
 schedule_keeps s laws callers net [] is may = is
 schedule_keeps s laws callers net (e ∷ more) is may = schedule_keeps s laws callers (after callers net e) more (event_keeps s laws callers net e is may.0) may.1
 
 -- the beginning, and the end
 
-sound_ran : (s : Server) (laws : KeepsSlots s) (m : s.State) (arrivals : List Arrival) → laws.Sound m → laws.Sound (ran s m arrivals)
+pub sound_ran : (s : Server) (laws : KeepsSlots s) (m : s.State) (arrivals : List Arrival) → laws.Sound m → laws.Sound (ran s m arrivals)
 sound_ran s laws m [] sound = sound
 sound_ran s laws m (a ∷ more) sound = sound_ran s laws (stepped s m a).state more (laws.step_sound m a.bytes a.now a.choice sound)
 
-begins_is : (s : Server) (laws : KeepsSlots s) (callers : Callers) (m : s.State) → laws.Sound m → ((p : Place) → In p callers.places → IsUnused s m p) → IsNetwork s laws callers (begins s m)
+pub begins_is : (s : Server) (laws : KeepsSlots s) (callers : Callers) (m : s.State) → laws.Sound m → ((p : Place) → In p callers.places → IsUnused s m p) → IsNetwork s laws callers (begins s m)
 begins_is s laws callers m sound unused = record {
   sound = sound;
   given = λ p i. laws.stands m p (unused p i).0 sound (unused p i).1;

@@ -58,7 +58,10 @@ pub record KeepsTime (s : Server) : Type 1 where
   pub step_moment : (m : s.State) (bytes : List ℕ) (now : ℕ) (choice : Option ℕ) → s.moment (s.step m bytes now choice).state ≡ max (s.moment m) now
   pub takes_later : (m : s.State) (bytes : List ℕ) (now : ℕ) (choice : Option ℕ) → s.step m bytes now choice ≡ s.step m bytes (max (s.moment m) now) choice
   pub ticks_first : (m : s.State) (bytes : List ℕ) (early late : ℕ) (choice : Option ℕ) → s.step (s.tick m early) bytes late choice ≡ s.step m bytes (max early late) choice
-  -- and where it does not execute, it does nothing more
+  -- what executes at a moment does so at the later of the two, whether or not it was taken before
+  pub executes_later : (m : s.State) (bytes : List ℕ) (now : ℕ) → s.executes m bytes now ≡ s.executes m bytes (max (s.moment m) now)
+  pub executes_ticked : (m : s.State) (bytes : List ℕ) (early late : ℕ) → s.executes (s.tick m early) bytes late ≡ s.executes m bytes (max early late)
+  -- and where a record does not execute, it does nothing more
   pub only_ticks : (m : s.State) (bytes : List ℕ) (now : ℕ) (choice : Option ℕ) → s.executes m bytes now ≡ false → (s.step m bytes now choice).state ≡ s.tick m now
   -- what holds of each state that a run of a new server leaves: nothing is left to run out
   pub Sound : s.State → Type 0

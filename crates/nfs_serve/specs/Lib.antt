@@ -21,6 +21,8 @@ pub mod Whole
 pub mod Endpoint
 pub mod Network
 pub mod Alone
+pub mod PerfectWire
+pub mod RealTime
 pub mod Seen
 pub mod LostReply
 pub mod Points

@@ -7,9 +7,11 @@ ghost use Rattle.nfs_serve.specs.Exchanges.{RunsTo, null_script, null_output, ex
 ghost use Rattle.nfs_serve.specs.Laws.{HasOneReading, CutsAnywhere, BringsOnce, ConnectionsAreStreams};
 ghost use Rattle.nfs_serve.specs.HeldLock.{IsHeldTo};
 ghost use Rattle.nfs_serve.specs.Kept.{LockKept};
-ghost use Rattle.nfs_serve.specs.LostReply.{IsAccepted};
+ghost use Rattle.nfs_serve.specs.LostReply.{IsAccepted, IsOverAWire};
 ghost use Rattle.nfs_serve.specs.Network.{ExactlyOnce, AnswersExecuted};
 ghost use Rattle.nfs_serve.specs.Points.{NoClash};
+ghost use Rattle.nfs_serve.specs.PerfectWire.{AsOverAWire};
+ghost use Rattle.nfs_serve.specs.RealTime.{Atomic};
 ghost use Rattle.nfs_serve.specs.Seen.{server};
 ghost use Rattle.nfs_serve.specs.Whole.{HubRunsScript, NothingIsLostInARun, NothingIsLostInATurn};
 
@@ -86,6 +88,23 @@ pub fn executing_alone()
 /// Behind each record of a run nothing is left to run out: to take its moment anew changes nothing.
 pub fn stays_settled()
     ensures { (mode : ℕ) (instance : ℕ) (lease : ℕ) → StaysSettled (server mode instance lease) }
+{}
+
+/// Over a network that loses, repeats, delays and reorders the server ends as one that received each executed compound once, in order, over a
+/// perfect wire, and nothing that does not execute; what callers accept are the results that it answers there.
+pub fn as_over_a_wire()
+    ensures { (mode : ℕ) (instance : ℕ) (lease : ℕ) → AsOverAWire (server mode instance lease) }
+{}
+
+/// Atomic, and in real time: over such a network what runs is one list of records, one after the other; each accepted result is its compound's in
+/// that list; and a compound that is sent after a result was accepted, by whatever caller, runs after the compound of that result.
+pub fn atomic_in_real_time()
+    ensures { (mode : ℕ) (instance : ℕ) (lease : ℕ) → Atomic (server mode instance lease) }
+{}
+
+/// The exchange of `exchange_over_a_network` is as over a perfect wire, on which the second compound comes once; and it runs after the first one.
+pub fn exchange_over_a_wire()
+    ensures { IsOverAWire }
 {}
 
 /// In every run no byte has a writer beside another holder and no two opens clash: behind each record, and before each operation of one.
