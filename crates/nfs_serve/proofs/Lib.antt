@@ -35,5 +35,6 @@ pub mod KeptSlots
 pub mod Good
 pub mod LostReply
 pub mod Points
+pub mod Forms
 pub mod Kept
 pub mod HeldLock

@@ -26,6 +26,7 @@ pub mod RealTime
 pub mod Seen
 pub mod LostReply
 pub mod Points
+pub mod Forms
 pub mod Kept
 pub mod HeldLock
 pub mod Shows

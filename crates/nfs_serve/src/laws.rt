@@ -5,6 +5,7 @@ ghost use Rattle.nfs_serve.specs.Account.{NothingIsLost};
 ghost use Rattle.nfs_serve.specs.Alone.{ExecutingAlone, StaysSettled};
 ghost use Rattle.nfs_serve.specs.Exchanges.{RunsTo, null_script, null_output, exchange_script, exchange_output};
 ghost use Rattle.nfs_serve.specs.Laws.{HasOneReading, CutsAnywhere, BringsOnce, ConnectionsAreStreams};
+ghost use Rattle.nfs_serve.specs.Forms.{EachFormRunsRecords};
 ghost use Rattle.nfs_serve.specs.HeldLock.{IsHeldTo};
 ghost use Rattle.nfs_serve.specs.Kept.{LockKept};
 ghost use Rattle.nfs_serve.specs.LostReply.{IsAccepted, IsOverAWire};
@@ -49,6 +50,12 @@ pub fn a_hub_runs_a_script()
 pub fn nothing_is_lost_in_a_run()
     ensures ends { NothingIsLostInARun }
     ensures within { NothingIsLostInATurn }
+{}
+
+/// What `Server::replay`, `Server::talk` and `Server::serve_ports` do is a run of the records that arrive, in their order: the state that each
+/// leaves is that which the list of its records leaves. So each law of any list of records is one of the program in each of its forms.
+pub fn each_form_runs_records()
+    ensures { EachFormRunsRecords }
 {}
 
 /// The definitions compute: a call of NULL is answered by the head of a reply.
