@@ -18,7 +18,7 @@ use Rattle.nfs_serve.specs.Replay.{Replayed, ReplaysFault, Replays}
 use Rattle.nfs_serve.specs.Talk.{SpeaksUntil, Talks}
 use Rattle.nfs_serve.specs.Hub.{at}
 use Rattle.nfs_serve.specs.Whole.{script}
-use Rattle.nfs_serve.specs.Endpoint.{Arrival, ran}
+use Rattle.nfs_serve.specs.Endpoint.{Server, Arrival, stepped, ran}
 use Rattle.nfs_serve.specs.Seen.{server}
 use Rattle.nfs_serve.specs.Points.{Came, all_next}
 use Rattle.nfs_serve.specs.Forms.{record_of, records_of, RunsRecords, AllRun, FrontRuns, RunUpTo, EachFormRunsRecords}
@@ -37,6 +37,10 @@ by_event mode instance lease s moves (Overflows conn) choice rest = rest s
 after_is : (mode instance lease : ℕ) (s : State) (moves : List Move) → after s moves ≡ ran (server mode instance lease) s (records_of moves)
 after_is mode instance lease s [] = refl
 after_is mode instance lease s (m ∷ moves) = by_event mode instance lease s moves m.event m.choice (λ t. after_is mode instance lease t moves)
+
+runs_on : (s : Server) (m : s.State) (before records : List Arrival) → ran s (ran s m before) records ≡ ran s m (before ++ records)
+runs_on s m [] records = refl
+runs_on s m (a ∷ more) records = runs_on s (stepped s m a).state more records
 
 points_are : (mode instance lease : ℕ) (s : State) (records : List Arrival)
     → ran (server mode instance lease) s records ≡ all_next s (map (λ a. record { call = a.bytes; now = a.now; choice = a.choice }) records)
@@ -174,17 +178,15 @@ each_form = record {
   talk = λ ending old new l0 l1 h0 h1 c0 c1 h.
       let (pieces, written, consumed, appended, told, all, speaks) = h in
       (pieces, written, consumed, appended, told, spoke ending old new pieces written speaks);
-  serve = λ old new desks l0 l1 c0 c1 h.
-      let served = h.2 in
+  serve = λ old new desks count l0 l1 c0 c1 served.
       let runs = runs_script old new served.rounds (at desks) served.turning in (
-        served.rounds,
         runs.moves,
-        served.turning,
         record {
           streams = runs.streams;
           brought = runs.reads;
           state = λ mode instance lease. runs.state ∙ after_is mode instance lease old runs.moves;
         },
       );
+  goes_on = λ mode instance lease before records. runs_on (server mode instance lease) (server mode instance lease).new before records;
   points = points_are;
 }

@@ -13,7 +13,7 @@ use Rattle.nfs_serve.specs.Run.{Streams, all_closed, TakesAll, Event, Arrives, O
 use Rattle.nfs_serve.specs.Replay.{Replays}
 use Rattle.nfs_serve.specs.Talk.{Talks}
 use Rattle.nfs_serve.specs.Desk.{Desk}
-use Rattle.nfs_serve.specs.Hub.{none_live, Round, at, Turning, Serves}
+use Rattle.nfs_serve.specs.Hub.{ServesRounds}
 use Rattle.nfs_serve.specs.Deeds.{Deed}
 use Rattle.nfs_serve.specs.Whole.{script}
 use Rattle.nfs_serve.specs.Endpoint.{Arrival, ran}
@@ -66,9 +66,13 @@ pub record EachFormRunsRecords : Type 0 where
   pub talk : (ending : Talk) (old new : State) (l0 l1 h0 h1 c0 c1 : Option (List ℕ)) → Talks ending old new l0 l1 h0 h1 c0 c1
       → (pieces : List Entry) × (written : List ℕ) × Consumes l0 l1 (flat_map (λ e. e.piece) pieces) × Appends h0 h1 written
       × Appends c0 c1 (map (λ e. e.moment) pieces) × RunUpTo Plain old new pieces written
-  -- `serve_ports`: the parts that were stepped, on whatever ports, and the closes. What each port's peer is written `NothingIsLostInARun` says.
-  pub serve : (old new : State) (desks : List Desk) (l0 l1 : Option (List Deed)) (c0 c1 : Option (List ℕ)) → Serves old new desks l0 l1 c0 c1
-      → (rounds : List Round) × (moves : List Move) × Turning old none_live rounds new (at desks) × RunsRecords old new (script rounds) moves
+  -- `serve_ports`: of the rounds that the connections and the clock showed, the parts that were stepped, on whatever ports, and the closes. What
+  -- each port's peer is written `NothingIsLostInARun` says.
+  pub serve : (old new : State) (desks : List Desk) (count : ℕ) (l0 l1 : Option (List Deed)) (c0 c1 : Option (List ℕ))
+      → (served : ServesRounds old new desks count l0 l1 c0 c1) → (moves : List Move) × RunsRecords old new (script served.rounds) moves
+  -- A run behind a run is one: so what any of these leaves, one after the other, is what a list of records leaves of a new server.
+  pub goes_on : (mode instance lease : ℕ) (before records : List Arrival) → (let s = server mode instance lease in
+      ran s (ran s s.new before) records ≡ ran s s.new (before ++ records))
   -- and the points of such a run are those of its list of records
   pub points : (mode instance lease : ℕ) (s : State) (records : List Arrival)
       → ran (server mode instance lease) s records ≡ all_next s (map (λ a. record { call = a.bytes; now = a.now; choice = a.choice }) records)
