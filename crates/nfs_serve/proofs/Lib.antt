@@ -23,9 +23,11 @@ pub mod ServerLaws
 pub mod NetworkLists
 pub mod NetworkLines
 pub mod NetworkEvents
+pub mod ByXid
 pub mod AloneRuns
 pub mod PerfectWire
 pub mod RealTime
+pub mod WrongServers
 pub mod Settled
 pub mod Ticking
 pub mod SlotsLeft
@@ -34,6 +36,7 @@ pub mod Mute
 pub mod KeptSlots
 pub mod Good
 pub mod LostReply
+pub mod SeenWrite
 pub mod Points
 pub mod Forms
 pub mod Kept

@@ -24,13 +24,14 @@ use Rattle.nfs_serve.specs.LostReply.{before, here, place, callers, compound, pa
 use Rattle.nfs_serve.proofs.KeptSlots.{keeps_slots}
 use Rattle.nfs_serve.proofs.Ticking.{keeps_time}
 use Rattle.nfs_serve.proofs.RealTime.{atomic}
+use Rattle.nfs_serve.proofs.ByXid.{happens}
 
 -- each number is a byte
 abbrev small : List ℕ → Bool
 small [] = true
 small (b ∷ bytes) = nat_lt b 256 && small bytes
 
-is_bytes : (bytes : List ℕ) → small bytes ≡ true → IsBytes bytes
+pub is_bytes : (bytes : List ℕ) → small bytes ≡ true → IsBytes bytes
 is_bytes bytes e = record { each = each bytes e }
   where
     each : (bytes : List ℕ) → small bytes ≡ true → (i : ℕ) → get_or bytes i 0 < 256
@@ -111,7 +112,8 @@ unused p (inl same) = subst (IsUnused here start.machine) (sym same) is_accepted
 unused p (inr none) = absurd none
 
 is_atomic : IsAtomic here start.machine callers (first ++ second)
-is_atomic = atomic here (keeps_slots 511 7 90) (keeps_time 511 7 90) before callers (first ++ second) unused is_accepted.schedule
+is_atomic = atomic here (keeps_slots 511 7 90) (keeps_time 511 7 90) before callers (first ++ second)
+    (happens here (keeps_slots 511 7 90) before callers (first ++ second) unused is_accepted.schedule)
 
 pub is_over_a_wire : IsOverAWire
 is_over_a_wire = record {

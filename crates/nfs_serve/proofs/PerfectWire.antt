@@ -1,16 +1,17 @@
--- A schedule's records, and those of them that execute.
+-- The records that reach a server over a network, and those of them that execute.
 use Rattle.std.proofs.Common.{◌≡◌, ℕ, Bool, true, false, List, [], ◌∷◌, ◌++◌, map, Option, Some, None, refl, sym, ◌∙◌, ap, subst, inl, inr}
 use Rattle.std.specs.Prelude.{if◌then◌else◌}
 use Rattle.std.proofs.lemmas.Bool.{cases_Bool}
 use Rattle.nfs_xdr.specs.Tables.{In}
 use Rattle.nfs_serve.specs.Endpoint.{Place, Heading, Answer, Compound, Server, Arrival, Stepped, stepped, ran}
-use Rattle.nfs_serve.specs.Network.{Callers, Packet, Done, Line, Network, Event, Sends, Resends, Arrives, Asks, Intrudes, Accepts, same_place, with_line, sending, resending, accepting, executing, result_of, arriving, after, IsForeign, Schedule, ended, begins}
+use Rattle.nfs_serve.specs.Network.{Callers, Packet, Done, Line, Network, Event, Sends, Resends, Arrives, Asks, Intrudes, Accepts, same_place, with_line, sending, resending, accepting, executing, result_of, arriving, after, IsForeign, ended, begins}
+use Rattle.nfs_serve.specs.Numbered.{Happens}
 use Rattle.nfs_serve.specs.Alone.{taken, alone, answers, executing_answers, LeavesAlike}
 use Rattle.nfs_serve.specs.PerfectWire.{all_reaching, wire, done_by, done_on, AsOverAWire}
 use Rattle.nfs_serve.proofs.ServerLaws.{KeepsSlots, KeepsTime}
 use Rattle.nfs_serve.proofs.NetworkLists.{append_none}
 use Rattle.nfs_serve.proofs.NetworkLines.{same_place_is, updated}
-use Rattle.nfs_serve.proofs.NetworkEvents.{IsNetwork, event_keeps, begins_is, sound_ran, exactly_once}
+use Rattle.nfs_serve.proofs.NetworkEvents.{IsNetwork, event_keeps, begins_is, exactly_once_by_number}
 use Rattle.nfs_serve.proofs.AloneRuns.{executing_alone, executing_again}
 
 append_one : {X : Type 0} (xs : List X) (x : X) (ys : List X) → (xs ++ x ∷ []) ++ ys ≡ xs ++ x ∷ ys
@@ -105,36 +106,36 @@ arrived s callers net q now choice more p reads = go (s.executes net.machine q.b
     go true = here (same_place q.heading.place p) refl ∙ ap (λ (o : Option Heading). (net.lines p).executed ++ (done_by p o step.answer ++ rest)) (sym reads)
     go false = refl
 
-executed_is : (s : Server) (laws : KeepsSlots s) (callers : Callers) (net : Network s) (events : List Event) → IsNetwork s laws callers net → Schedule callers net events
+executed_is : (s : Server) (laws : KeepsSlots s) (callers : Callers) (start : s.State) (net : Network s) (events : List Event) → IsNetwork s laws callers start net → Happens callers start net events
     → (p : Place) → In p callers.places → ((ended callers net events).lines p).executed ≡ (net.lines p).executed ++ further s p net.machine (all_reaching events)
 unfolding done_with
-executed_is s laws callers net [] is may p i = sym (append_none (net.lines p).executed)
-executed_is s laws callers net (Sends q ∷ more) is may p i =
-    executed_is s laws callers (after callers net (Sends q)) more (event_keeps s laws callers net (Sends q) is may.0) may.1 p i
+executed_is s laws callers start net [] is can p i = sym (append_none (net.lines p).executed)
+executed_is s laws callers start net (Sends q ∷ more) is can p i =
+    executed_is s laws callers start (after callers net (Sends q)) more (event_keeps s laws callers start net (Sends q) is can.0) can.1 p i
     ∙ ap (λ (ds : List Done). ds ++ further s p net.machine (all_reaching more)) (same_executed net.lines q.heading.place (sending (net.lines q.heading.place) q.heading) p refl)
-executed_is s laws callers net (Resends q ∷ more) is may p i =
-    executed_is s laws callers (after callers net (Resends q)) more (event_keeps s laws callers net (Resends q) is may.0) may.1 p i
+executed_is s laws callers start net (Resends q ∷ more) is can p i =
+    executed_is s laws callers start (after callers net (Resends q)) more (event_keeps s laws callers start net (Resends q) is can.0) can.1 p i
     ∙ ap (λ (ds : List Done). ds ++ further s p net.machine (all_reaching more)) (same_executed net.lines q.heading.place (resending (net.lines q.heading.place) q.heading) p refl)
-executed_is s laws callers net (Arrives q now choice ∷ more) is may p i =
-    executed_is s laws callers (after callers net (Arrives q now choice)) more (event_keeps s laws callers net (Arrives q now choice) is may.0) may.1 p i
-    ∙ arrived s callers net q now choice (all_reaching more) p (is.packets q may.0).reads
-executed_is s laws callers net (Asks caller a ∷ more) is may p i =
-    executed_is s laws callers (after callers net (Asks caller a)) more (event_keeps s laws callers net (Asks caller a) is may.0) may.1 p i
-    ∙ skipped s p (net.lines p).executed net.machine a (all_reaching more) (ap (λ (o : Option Heading). done_by p o (stepped s net.machine a).answer) may.0.1)
-executed_is s laws callers net (Intrudes a ∷ more) is may p i =
-    executed_is s laws callers (after callers net (Intrudes a)) more (event_keeps s laws callers net (Intrudes a) is may.0) may.1 p i
-    ∙ skipped s p (net.lines p).executed net.machine a (all_reaching more) (foreign_slot s callers a.bytes p (stepped s net.machine a).answer i may.0)
-executed_is s laws callers net (Accepts k c a ∷ more) is may p i =
-    executed_is s laws callers (after callers net (Accepts k c a)) more (event_keeps s laws callers net (Accepts k c a) is may.0) may.1 p i
+executed_is s laws callers start net (Arrives q now choice ∷ more) is can p i =
+    executed_is s laws callers start (after callers net (Arrives q now choice)) more (event_keeps s laws callers start net (Arrives q now choice) is can.0) can.1 p i
+    ∙ arrived s callers net q now choice (all_reaching more) p (is.packets q can.0).reads
+executed_is s laws callers start net (Asks caller a ∷ more) is can p i =
+    executed_is s laws callers start (after callers net (Asks caller a)) more (event_keeps s laws callers start net (Asks caller a) is can.0) can.1 p i
+    ∙ skipped s p (net.lines p).executed net.machine a (all_reaching more) (ap (λ (o : Option Heading). done_by p o (stepped s net.machine a).answer) can.0.1)
+executed_is s laws callers start net (Intrudes a ∷ more) is can p i =
+    executed_is s laws callers start (after callers net (Intrudes a)) more (event_keeps s laws callers start net (Intrudes a) is can.0) can.1 p i
+    ∙ skipped s p (net.lines p).executed net.machine a (all_reaching more) (foreign_slot s callers a.bytes p (stepped s net.machine a).answer i can.0)
+executed_is s laws callers start net (Accepts k c a ∷ more) is can p i =
+    executed_is s laws callers start (after callers net (Accepts k c a)) more (event_keeps s laws callers start net (Accepts k c a) is can.0) can.1 p i
     ∙ ap (λ (ds : List Done). ds ++ further s p net.machine (all_reaching more))
     (same_executed net.lines k (accepting (net.lines k) (record { compound = c; result = a.result })) p refl)
 
 pub as_over_a_wire : (s : Server) → KeepsSlots s → KeepsTime s → AsOverAWire s
-as_over_a_wire s slots time before callers events unused may = record {
+as_over_a_wire s slots time before callers events can = record {
   state = reached ∙ (lone.state ∙ ap (λ (x : s.State). s.tick (ran s m (wire s m events)) (s.moment x)) (sym reached));
   executes = executing_again s time m (all_reaching events);
   lines = λ p i.
-      let exact = exactly_once s slots before callers events unused may p i in
+      let exact = exactly_once_by_number s slots before callers events can p i in
       let same = executed p i in
       record {
         executed = same;
@@ -154,5 +155,5 @@ as_over_a_wire s slots time before callers events unused may = record {
 
     executed : (p : Place) → In p callers.places → ((ended callers (begins s m) events).lines p).executed ≡ done_on s p m (wire s m events)
     executed p i =
-        executed_is s slots callers (begins s m) events (begins_is s slots callers m (sound_ran s slots s.new before slots.new_sound) unused) may p i
+        executed_is s slots callers m (begins s m) events (begins_is s slots callers before) can p i
         ∙ (ap (done_with s p (wire s m events)) lone.answered ∙ sym (done_is s p m (wire s m events)))

@@ -1,16 +1,17 @@
--- A schedule that is cut in two: what its first part runs is a front of what the whole runs.
+-- Events that are cut in two: what the first part runs is a front of what the whole runs.
 use Rattle.std.proofs.Common.{◌≡◌, ◌⊎◌, inl, inr, ℕ, ◌+◌, ◌<◌, ◌≤◌, Bool, true, false, List, [], ◌∷◌, ◌++◌, map, length, Option, Some, None, refl, sym, ◌∙◌, ap, subst, arith, append_assoc}
 use Rattle.std.specs.Prelude.{if◌then◌else◌}
 use Rattle.nfs_xdr.specs.Tables.{In}
 use Rattle.nfs_serve.specs.Endpoint.{Place, Compound, Answer, Server, Arrival, stepped, ran}
-use Rattle.nfs_serve.specs.Network.{Callers, Packet, Done, Line, Network, Event, Sends, Resends, Arrives, Asks, Intrudes, Accepts, with_line, sending, resending, accepting, executing, arriving, after, MaySend, Schedule, ended, begins, IsUnused}
+use Rattle.nfs_serve.specs.Network.{Callers, Packet, Done, Line, Network, Event, Sends, Resends, Arrives, Asks, Intrudes, Accepts, with_line, sending, resending, accepting, executing, arriving, after, ended, begins}
+use Rattle.nfs_serve.specs.Numbered.{Happens}
 use Rattle.nfs_serve.specs.Alone.{taken, alone}
 use Rattle.nfs_serve.specs.PerfectWire.{reaching, all_reaching, wire, done_by, done_on, IsAsDone, IsAsOverAWire}
 use Rattle.nfs_serve.specs.RealTime.{RunsBehind, KeepsOrder, Atomic}
 use Rattle.nfs_serve.proofs.ServerLaws.{KeepsSlots, KeepsTime}
 use Rattle.nfs_serve.proofs.NetworkLists.{In-front, In-last, In-map, length_push, CountUp, CountUp-bounds}
 use Rattle.nfs_serve.proofs.NetworkLines.{updated, compounds}
-use Rattle.nfs_serve.proofs.NetworkEvents.{IsNetwork, schedule_keeps, begins_is, sound_ran}
+use Rattle.nfs_serve.proofs.NetworkEvents.{IsNetwork, begun_sent, events_keep, begins_is}
 use Rattle.nfs_serve.proofs.PerfectWire.{machine_is, as_over_a_wire}
 
 In-either : {X : Type 0} (x : X) (xs ys : List X) → In x (xs ++ ys) → In x xs ⊎ In x ys
@@ -24,13 +25,13 @@ ended_append : (s : Server) (callers : Callers) (net : Network s) (first later :
 ended_append s callers net [] later = refl
 ended_append s callers net (e ∷ more) later = ended_append s callers (after callers net e) more later
 
-schedule_front : (s : Server) (callers : Callers) (net : Network s) (first later : List Event) → Schedule callers net (first ++ later) → Schedule callers net first
-schedule_front s callers net [] later may = tt
-schedule_front s callers net (e ∷ more) later may = (may.0, schedule_front s callers (after callers net e) more later may.1)
+happens_first : (s : Server) (callers : Callers) (start : s.State) (net : Network s) (first later : List Event) → Happens callers start net (first ++ later) → Happens callers start net first
+happens_first s callers start net [] later can = tt
+happens_first s callers start net (e ∷ more) later can = (can.0, happens_first s callers start (after callers net e) more later can.1)
 
-schedule_back : (s : Server) (callers : Callers) (net : Network s) (first later : List Event) → Schedule callers net (first ++ later) → Schedule callers (ended callers net first) later
-schedule_back s callers net [] later may = may
-schedule_back s callers net (e ∷ more) later may = schedule_back s callers (after callers net e) more later may.1
+happens_later : (s : Server) (callers : Callers) (start : s.State) (net : Network s) (first later : List Event) → Happens callers start net (first ++ later) → Happens callers start (ended callers net first) later
+happens_later s callers start net [] later can = can
+happens_later s callers start net (e ∷ more) later can = happens_later s callers start (after callers net e) more later can.1
 
 reaching_append : (first later : List Event) → all_reaching (first ++ later) ≡ all_reaching first ++ all_reaching later
 reaching_append [] later = refl
@@ -84,10 +85,10 @@ grows s callers net [] q = omega arith
 grows s callers net (e ∷ more) q = omega (arith, event_grows s callers net e q, grows s callers (after callers net e) more q)
 
 -- so what is sent later has a higher number than all that was sent
-later_number : (s : Server) (callers : Callers) (net : Network s) (middle back : List Event) (sent : Packet) → Schedule callers net (middle ++ Sends sent ∷ back)
+later_number : (s : Server) (callers : Callers) (start : s.State) (net : Network s) (middle back : List Event) (sent : Packet) → Happens callers start net (middle ++ Sends sent ∷ back)
     → (In sent.heading.place callers.places) × (length (net.lines sent.heading.place).sent < sent.heading.compound.number)
-later_number s callers net middle back sent may =
-    let then' = (schedule_back s callers net middle (Sends sent ∷ back) may).0 in
+later_number s callers start net middle back sent can =
+    let then' = (happens_later s callers start net middle (Sends sent ∷ back) can).0 in
     (then'.place, omega (arith, grows s callers net middle sent.heading.place, then'.number))
 
 -- a result that is accepted is the last one of its slot
@@ -102,9 +103,8 @@ accepted_here s callers net front p c a =
     at = ended callers net front
 
 pub keeps_order : (s : Server) → KeepsSlots s → KeepsTime s → (before : List Arrival) (callers : Callers) (events : List Event)
-    → ((p : Place) → In p callers.places → IsUnused s (ran s s.new before) p) → Schedule callers (begins s (ran s s.new before)) events
-    → KeepsOrder s (ran s s.new before) events
-keeps_order s slots time before callers events unused may front middle back p c a sent split = record {
+    → Happens callers (ran s s.new before) (begins s (ran s s.new before)) events → KeepsOrder s (ran s s.new before) events
+keeps_order s slots time before callers events can front middle back p c a sent split = record {
   front = early;
   back = late;
   order = order;
@@ -143,39 +143,39 @@ keeps_order s slots time before callers events unused may front middle back p c 
     whole : events ≡ first ++ later
     whole = split ∙ sym (append_assoc front (Accepts p c a ∷ []) later)
 
-    may_whole : Schedule callers (begins s m) (first ++ later)
-    may_whole = subst (Schedule callers (begins s m)) whole may
+    all_happen : Happens callers m (begins s m) (first ++ later)
+    all_happen = subst (Happens callers m (begins s m)) whole can
 
-    may_first : Schedule callers (begins s m) first
-    may_first = schedule_front s callers (begins s m) first later may_whole
+    first_happens : Happens callers m (begins s m) first
+    first_happens = happens_first s callers m (begins s m) first later all_happen
 
     order : wire s m events ≡ early ++ late
     order =
         ap (wire s m) whole ∙ (ap (alone s m) (reaching_append first later) ∙ alone_append s m (all_reaching first) (all_reaching later))
 
     over : IsAsOverAWire s m callers first
-    over = as_over_a_wire s slots time before callers first unused may_first
+    over = as_over_a_wire s slots time before callers first first_happens
 
     line : IsAsDone (net.lines p) (done_on s p m early)
-    line = over.lines p (schedule_back s callers (begins s m) front (Accepts p c a ∷ []) may_first).0.place
+    line = over.lines p (happens_later s callers m (begins s m) front (Accepts p c a ∷ []) first_happens).0.place
 
     -- the later compound has a higher number than all that were sent by then
     next : (In q callers.places) × (length (net.lines q).sent < sent.heading.compound.number)
-    next = later_number s callers net middle back sent (schedule_back s callers (begins s m) first later may_whole)
+    next = later_number s callers m net middle back sent (happens_later s callers m (begins s m) first later all_happen)
 
-    sound : IsNetwork s slots callers net
-    sound = schedule_keeps s slots callers (begins s m) first (begins_is s slots callers m (sound_ran s slots s.new before slots.new_sound) unused) may_first
+    sound : IsNetwork s slots callers m net
+    sound = events_keep s slots callers m (begins s m) first (begins_is s slots callers before) first_happens
 
     not_yet : (d : Done) → In d (done_on s q m early) → d.compound ≡ sent.heading.compound → ⊥
     not_yet d i same =
         let there = over.lines q next.0 in
         let was_sent : In d.compound (net.lines q).sent = subst (In d.compound) (sym there.sent.1)
         (In-front d.compound (compounds (done_on s q m early)) there.sent.0 (In-map (λ (d : Done). d.compound) d (done_on s q m early) i)) in
-        let bound = CountUp-bounds 1 (net.lines q).sent d.compound (sound.lines q next.0).counts was_sent in
+        let bound = CountUp-bounds 1 (net.lines q).sent d.compound (begun_sent s slots net.machine net.packets (net.lines q) q d.compound was_sent (sound.stage q next.0)).line.counts was_sent in
         omega (arith, bound.1, next.1, ap (λ (c : Compound). c.number) same)
 
 pub atomic : (s : Server) → KeepsSlots s → KeepsTime s → Atomic s
-atomic s slots time before callers events unused may = record {
-  one_list = as_over_a_wire s slots time before callers events unused may;
-  in_time = keeps_order s slots time before callers events unused may;
+atomic s slots time before callers events can = record {
+  one_list = as_over_a_wire s slots time before callers events can;
+  in_time = keeps_order s slots time before callers events can;
 }

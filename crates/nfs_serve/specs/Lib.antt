@@ -20,11 +20,14 @@ pub mod Account
 pub mod Whole
 pub mod Endpoint
 pub mod Network
+pub mod Numbered
 pub mod Alone
 pub mod PerfectWire
 pub mod RealTime
+pub mod WrongServers
 pub mod Seen
 pub mod LostReply
+pub mod SeenWrite
 pub mod Points
 pub mod Forms
 pub mod Kept

@@ -3,7 +3,8 @@
 use Rattle.std.specs.Prelude.{◌≡◌, List, [], ◌∷◌, ◌++◌, map, flat_map, Option, Some, None, if◌then◌else◌}
 use Rattle.nfs_xdr.specs.Tables.{In}
 use Rattle.nfs_serve.specs.Endpoint.{Place, Heading, Answer, Compound, Server, Arrival, stepped, ran}
-use Rattle.nfs_serve.specs.Network.{Callers, Done, Line, Event, Arrives, Asks, Intrudes, same_place, result_of, begins, Schedule, ended, IsUnused}
+use Rattle.nfs_serve.specs.Network.{Callers, Done, Line, Event, Arrives, Asks, Intrudes, same_place, result_of, begins, ended}
+use Rattle.nfs_serve.specs.Numbered.{Happens}
 use Rattle.nfs_serve.specs.Alone.{alone}
 
 -- the record that an event brings to the server, if it brings one
@@ -47,10 +48,9 @@ pub record IsAsOverAWire (s : Server) (m : s.State) (callers : Callers) (events 
   pub executes : alone s m (wire s m events) ≡ wire s m events
   pub lines : (p : Place) → In p callers.places → IsAsDone ((ended callers (begins s m) events).lines p) (done_on s p m (wire s m events))
 
--- Behind any records to a new server, for any callers whose slots stand unused then, and any schedule.
+-- After any records to a new server, for any callers, and any events of such a network.
 abbrev pub AsOverAWire : Server → Type 0
 AsOverAWire s =
     (before : List Arrival) (callers : Callers) (events : List Event)
-    → ((p : Place) → In p callers.places → IsUnused s (ran s s.new before) p)
-    → Schedule callers (begins s (ran s s.new before)) events
+    → Happens callers (ran s s.new before) (begins s (ran s s.new before)) events
     → IsAsOverAWire s (ran s s.new before) callers events

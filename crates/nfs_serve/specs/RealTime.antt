@@ -3,7 +3,8 @@
 use Rattle.std.specs.Prelude.{◌≡◌, List, ◌∷◌, ◌++◌}
 use Rattle.nfs_xdr.specs.Tables.{In}
 use Rattle.nfs_serve.specs.Endpoint.{Place, Compound, Answer, Server, Arrival, ran}
-use Rattle.nfs_serve.specs.Network.{Callers, Packet, Done, Event, Sends, Accepts, begins, Schedule, IsUnused}
+use Rattle.nfs_serve.specs.Network.{Callers, Packet, Done, Event, Sends, Accepts, begins}
+use Rattle.nfs_serve.specs.Numbered.{Happens}
 use Rattle.nfs_serve.specs.PerfectWire.{wire, done_on, IsAsOverAWire}
 
 -- In a list of records that run one after the other from state m on: a compound on slot p, whose result was told, and a later one on slot q.
@@ -24,15 +25,14 @@ KeepsOrder s m events =
     → events ≡ front ++ Accepts p c a ∷ (middle ++ Sends sent ∷ back)
     → RunsBehind s m (wire s m events) p (record { compound = c; result = a.result }) sent.heading.place sent.heading.compound
 
--- Behind any records to a new server, for any callers whose slots stand unused then, and any schedule: what runs is the list that the wire
--- brings, each accepted result is its compound's there, and that list keeps to real time.
+-- What runs is the list that the wire brings, each accepted result is its compound's there, and that list keeps to real time.
 pub record IsAtomic (s : Server) (m : s.State) (callers : Callers) (events : List Event) : Type 0 where
   pub one_list : IsAsOverAWire s m callers events
   pub in_time : KeepsOrder s m events
 
+-- After any records to a new server, for any callers, and any events of such a network.
 abbrev pub Atomic : Server → Type 0
 Atomic s =
     (before : List Arrival) (callers : Callers) (events : List Event)
-    → ((p : Place) → In p callers.places → IsUnused s (ran s s.new before) p)
-    → Schedule callers (begins s (ran s s.new before)) events
+    → Happens callers (ran s s.new before) (begins s (ran s s.new before)) events
     → IsAtomic s (ran s s.new before) callers events

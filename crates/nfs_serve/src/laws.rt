@@ -10,10 +10,13 @@ ghost use Rattle.nfs_serve.specs.HeldLock.{IsHeldTo};
 ghost use Rattle.nfs_serve.specs.Kept.{LockKept};
 ghost use Rattle.nfs_serve.specs.LostReply.{IsAccepted, IsOverAWire};
 ghost use Rattle.nfs_serve.specs.Network.{ExactlyOnce, AnswersExecuted};
+ghost use Rattle.nfs_serve.specs.Numbered.{AnswersNumbered, ExactlyOnceByNumber, XidsSuffice};
 ghost use Rattle.nfs_serve.specs.Points.{NoClash};
 ghost use Rattle.nfs_serve.specs.PerfectWire.{AsOverAWire};
 ghost use Rattle.nfs_serve.specs.RealTime.{Atomic};
 ghost use Rattle.nfs_serve.specs.Seen.{server};
+ghost use Rattle.nfs_serve.specs.SeenWrite.{IsSeen};
+ghost use Rattle.nfs_serve.specs.WrongServers.{LawsRefuse};
 ghost use Rattle.nfs_serve.specs.Whole.{HubRunsScript, NothingIsLostInARun, NothingIsLostInATurn};
 
 /// Which fault a script has, if any, and its whole entries before it are decided by its bytes.
@@ -97,6 +100,22 @@ pub fn stays_settled()
     ensures { (mode : ℕ) (instance : ℕ) (lease : ℕ) → StaysSettled (server mode instance lease) }
 {}
 
+/// The same where a caller goes by the session, the slot and the number in SEQUENCE's result, as RFC 8881 clients check, and by no xid; and where
+/// callers and their slots come on the way.
+pub fn exactly_once_by_number()
+    ensures { (mode : ℕ) (instance : ℕ) (lease : ℕ) → ExactlyOnceByNumber (server mode instance lease) }
+{}
+
+/// What executes on a slot is answered with a result that bears the slot and the number, so its caller may accept it.
+pub fn answers_with_the_number()
+    ensures { (mode : ℕ) (instance : ℕ) (lease : ℕ) → AnswersNumbered (server mode instance lease) }
+{}
+
+/// Callers that go by xids, and use none for two compounds, are such callers: so what is promised to these is promised to them.
+pub fn xids_suffice()
+    ensures { (mode : ℕ) (instance : ℕ) (lease : ℕ) → XidsSuffice (server mode instance lease) }
+{}
+
 /// Over a network that loses, repeats, delays and reorders the server ends as one that received each executed compound once, in order, over a
 /// perfect wire, and nothing that does not execute; what callers accept are the results that it answers there.
 pub fn as_over_a_wire()
@@ -109,9 +128,22 @@ pub fn atomic_in_real_time()
     ensures { (mode : ℕ) (instance : ℕ) (lease : ℕ) → Atomic (server mode instance lease) }
 {}
 
+/// The definitions compute: a client writes to a file, and accepts the result though the first reply was lost; then another client comes and reads
+/// the file, and is answered what was written. Each call has the same xid. That run meets the premises of `as_over_a_wire` and
+/// `atomic_in_real_time`.
+pub fn a_write_is_seen()
+    ensures { IsSeen }
+{}
+
 /// The exchange of `exchange_over_a_network` is as over a perfect wire, on which the second compound comes once; and it runs after the first one.
 pub fn exchange_over_a_wire()
     ensures { IsOverAWire }
+{}
+
+/// The definitions compute: a small server that runs a repeat again meets `exactly_once_by_number`, and `as_over_a_wire` is false of it; and of one
+/// whose results bear another slot `exactly_once_by_number` is false.
+pub fn wrong_servers_fail()
+    ensures { LawsRefuse }
 {}
 
 /// In every run no byte has a writer beside another holder and no two opens clash: behind each record, and before each operation of one.
