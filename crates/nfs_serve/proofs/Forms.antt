@@ -13,15 +13,14 @@ use Rattle.nfs_serve.specs.declared.talking.Talk.{Talk}
 use Rattle.nfs_serve.specs.declared.talking.Talk.TheVariants as talks
 use Rattle.nfs_serve.specs.Script.{Entry, spell_entry}
 use Rattle.nfs_serve.specs.Step.{State, step}
-use Rattle.nfs_serve.specs.Run.{Streams, with_stream, all_closed, Brings, TakesPiece, Takes, TakesAll, Event, Arrives, Overflows, events_of, Move, events, after, after_event, output, output_of, Runs, RunsInto}
-use Rattle.nfs_serve.specs.Replay.{Replayed, ReplaysFault, Replays}
-use Rattle.nfs_serve.specs.Talk.{SpeaksUntil, Talks}
+use Rattle.nfs_serve.specs.Run.{Streams, with_stream, all_closed, Brings, TakesPiece, TakesAll, Event, Arrives, Overflows, events_of, Move, events, after, after_event, output, Runs, RunsInto}
+use Rattle.nfs_serve.specs.Replay.{Replayed, ReplaysFault}
+use Rattle.nfs_serve.specs.Talk.{SpeaksUntil}
 use Rattle.nfs_serve.specs.Hub.{at}
-use Rattle.nfs_serve.specs.Whole.{script}
 use Rattle.nfs_serve.specs.Endpoint.{Server, Arrival, stepped, ran}
 use Rattle.nfs_serve.specs.Seen.{server}
-use Rattle.nfs_serve.specs.Points.{Came, all_next}
-use Rattle.nfs_serve.specs.Forms.{record_of, records_of, RunsRecords, AllRun, FrontRuns, RunUpTo, EachFormRunsRecords}
+use Rattle.nfs_serve.specs.Points.{all_next}
+use Rattle.nfs_serve.specs.Forms.{record_of, records_of, AllRun, FrontRuns, RunUpTo, EachFormRunsRecords}
 use Rattle.nfs_serve.proofs.Moves.{events-append, after-append, output-last, TakesAll-more}
 use Rattle.nfs_serve.proofs.Pieces.{start_holds}
 use Rattle.nfs_serve.proofs.Runs.{takes_piece}

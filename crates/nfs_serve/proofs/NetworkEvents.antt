@@ -1,7 +1,6 @@
 -- All packets and replies against all slots, through each event.
 use Rattle.std.proofs.Common.{◌≡◌, ◌⊎◌, inl, inr, ℕ, Bool, true, false, List, [], ◌∷◌, Option, Some, None, refl, sym, ◌∙◌, ap, subst, arith}
 use Rattle.std.proofs.lemmas.Bool.{true≢false}
-use Rattle.nfs_slots.specs.Slot.{SlotState}
 use Rattle.nfs_xdr.specs.Codec.{IsBytes}
 use Rattle.nfs_xdr.specs.Tables.{In}
 use Rattle.nfs_serve.specs.Endpoint.{Place, Compound, Heading, Answer, SlotNumber, Stepped, Server, Arrival, stepped, ran}

@@ -3,7 +3,7 @@ use Rattle.std.proofs.Common.{◌≡◌, ℕ, Bool, true, false, List, [], ◌�
 use Rattle.std.specs.Prelude.{if◌then◌else◌}
 use Rattle.std.proofs.lemmas.Bool.{cases_Bool}
 use Rattle.nfs_xdr.specs.Tables.{In}
-use Rattle.nfs_serve.specs.Endpoint.{Place, Heading, Answer, Compound, Server, Arrival, Stepped, stepped, ran}
+use Rattle.nfs_serve.specs.Endpoint.{Place, Heading, Answer, Server, Arrival, Stepped, stepped, ran}
 use Rattle.nfs_serve.specs.Network.{Callers, Packet, Done, Line, Network, Event, Sends, Resends, Arrives, Asks, Intrudes, Accepts, same_place, with_line, sending, resending, accepting, executing, result_of, arriving, after, IsForeign, ended, begins}
 use Rattle.nfs_serve.specs.Numbered.{Happens}
 use Rattle.nfs_serve.specs.Alone.{taken, alone, answers, executing_answers, LeavesAlike}

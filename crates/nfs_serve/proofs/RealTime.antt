@@ -1,5 +1,5 @@
 -- Events that are cut in two: what the first part runs is a front of what the whole runs.
-use Rattle.std.proofs.Common.{◌≡◌, ◌⊎◌, inl, inr, ℕ, ◌+◌, ◌<◌, ◌≤◌, Bool, true, false, List, [], ◌∷◌, ◌++◌, map, length, Option, Some, None, refl, sym, ◌∙◌, ap, subst, arith, append_assoc}
+use Rattle.std.proofs.Common.{◌≡◌, ◌⊎◌, inl, inr, ◌+◌, ◌<◌, ◌≤◌, Bool, true, false, List, [], ◌∷◌, ◌++◌, length, refl, sym, ◌∙◌, ap, subst, arith, append_assoc}
 use Rattle.std.specs.Prelude.{if◌then◌else◌}
 use Rattle.nfs_xdr.specs.Tables.{In}
 use Rattle.nfs_serve.specs.Endpoint.{Place, Compound, Answer, Server, Arrival, stepped, ran}
@@ -7,12 +7,12 @@ use Rattle.nfs_serve.specs.Network.{Callers, Packet, Done, Line, Network, Event,
 use Rattle.nfs_serve.specs.Numbered.{Happens}
 use Rattle.nfs_serve.specs.Alone.{taken, alone}
 use Rattle.nfs_serve.specs.PerfectWire.{reaching, all_reaching, wire, done_by, done_on, IsAsDone, IsAsOverAWire}
-use Rattle.nfs_serve.specs.RealTime.{RunsBehind, KeepsOrder, Atomic}
+use Rattle.nfs_serve.specs.RealTime.{KeepsOrder, Atomic}
 use Rattle.nfs_serve.proofs.ServerLaws.{KeepsSlots, KeepsTime}
-use Rattle.nfs_serve.proofs.NetworkLists.{In-front, In-last, In-map, length_push, CountUp, CountUp-bounds}
+use Rattle.nfs_serve.proofs.NetworkLists.{In-front, In-last, In-map, length_push, CountUp-bounds}
 use Rattle.nfs_serve.proofs.NetworkLines.{updated, compounds}
 use Rattle.nfs_serve.proofs.NetworkEvents.{IsNetwork, begun_sent, events_keep, begins_is}
-use Rattle.nfs_serve.proofs.PerfectWire.{machine_is, as_over_a_wire}
+use Rattle.nfs_serve.proofs.PerfectWire.{as_over_a_wire}
 
 In-either : {X : Type 0} (x : X) (xs ys : List X) → In x (xs ++ ys) → In x xs ⊎ In x ys
 In-either x [] ys i = inr i

@@ -1,5 +1,5 @@
 -- The run in which a write is seen, computed.
-use Rattle.std.proofs.Common.{◌≡◌, inl, inr, ℕ, List, [], ◌∷◌, ◌++◌, map, take, None, refl, subst, arith}
+use Rattle.std.proofs.Common.{◌≡◌, inl, inr, List, [], ◌∷◌, ◌++◌, map, take, None, refl, subst, arith}
 use Rattle.nfs_xdr.specs.Spelling.{number, hyper}
 use Rattle.nfs_xdr.specs.Reading.{opaque_at, fixed_at, flag_at, pieces_at}
 use Rattle.nfs_rpc.specs.CallHead.{call_of, header, opaque_auth, behind_header, caller_of}
@@ -26,10 +26,10 @@ use Rattle.nfs_files.specs.Read as file_read
 use Rattle.nfs_files.specs.Write as file_write
 use Rattle.nfs_slots.specs.Slot.{unused_slot}
 use Rattle.nfs_serve.specs.Step.{step}
-use Rattle.nfs_serve.specs.Endpoint.{Place, Answer, Arrival}
+use Rattle.nfs_serve.specs.Endpoint.{Arrival}
 use Rattle.nfs_serve.specs.Network.{Event, Arrives, Asks, ended}
 use Rattle.nfs_serve.specs.Numbered.{Happens}
-use Rattle.nfs_serve.specs.PerfectWire.{wire, done_on, IsAsOverAWire}
+use Rattle.nfs_serve.specs.PerfectWire.{wire, done_on}
 use Rattle.nfs_serve.specs.RealTime.{IsAtomic, RunsBehind}
 use Rattle.nfs_serve.specs.SeenWrite.{before, here, slot_of, callers, write, read, packet, written, seen, accepts, first, joins, second, start, brought, IsSeen}
 use Rattle.nfs_serve.proofs.LostReply.{is_bytes}

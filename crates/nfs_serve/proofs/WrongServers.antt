@@ -1,16 +1,14 @@
 -- The runs in which the laws fail of the wrong servers, computed.
-use Rattle.std.proofs.Common.{◌≡◌, ◌⊎◌, inl, inr, ℕ, ◌<◌, zero, suc, Bool, true, false, List, [], ◌∷◌, ◌++◌, length, get_or, Option, Some, None, refl, sym, ◌∙◌, ap, subst, arith}
-use Rattle.std.specs.Prelude.{if◌then◌else◌}
+use Rattle.std.proofs.Common.{◌≡◌, inl, inr, ℕ, ◌<◌, zero, suc, true, false, List, [], ◌∷◌, ◌++◌, length, get_or, Option, Some, None, refl, sym, ap, subst, arith}
 use Rattle.std.proofs.lemmas.Bool.{cases_Bool, true≢false}
 use Rattle.nfs_xdr.specs.Codec.{IsBytes}
-use Rattle.nfs_slots.specs.Slot.{SlotState, judge_slot}
 use Rattle.nfs_slots.specs.declared.slot.Verdict.{Verdict}
 use Rattle.nfs_slots.specs.declared.slot.Verdict.TheVariants.{Fresh, Again, FalseRetry, Misordered, NoSlot}
 use Rattle.nfs_serve.specs.Endpoint.{Place, Heading, Compound, Answer, Stepped}
 use Rattle.nfs_serve.specs.Network.{Callers, Packet, Done, Event, Sends, Arrives, Accepts, begins, same_place}
 use Rattle.nfs_serve.specs.Numbered.{Happens}
-use Rattle.nfs_serve.specs.WrongServers.{Small, place, heading, slot_number, spell, judged, kept, run, is_fresh, by_verdict, taken, executes, runs_repeats, says_one, LawsRefuse}
-use Rattle.nfs_serve.proofs.ServerLaws.{KeepsSlots, Runs, Repeats, IsElsewhere}
+use Rattle.nfs_serve.specs.WrongServers.{Small, place, heading, spell, judged, kept, is_fresh, by_verdict, taken, executes, runs_repeats, says_one, LawsRefuse}
+use Rattle.nfs_serve.proofs.ServerLaws.{KeepsSlots, Runs, Repeats}
 use Rattle.nfs_serve.proofs.NetworkLines.{same_place_is, same_place_self}
 use Rattle.nfs_serve.proofs.NetworkEvents.{exactly_once_by_number}
 

@@ -18,7 +18,7 @@ use Rattle.nfs_serve.specs.Deeds.{Deed}
 use Rattle.nfs_serve.specs.Whole.{script}
 use Rattle.nfs_serve.specs.Endpoint.{Arrival, ran}
 use Rattle.nfs_serve.specs.Seen.{server}
-use Rattle.nfs_serve.specs.Points.{Came, all_next}
+use Rattle.nfs_serve.specs.Points.{all_next}
 
 -- the record that a move steps, if it is one that arrives
 abbrev pub record_of : Event → Option ℕ → List Arrival

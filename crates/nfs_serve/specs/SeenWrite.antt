@@ -4,7 +4,7 @@
 -- write reaches the server once more before the read does. B is answered the four bytes. Both go by SEQUENCE's result, and each call has one xid.
 use Rattle.std.specs.Prelude.{◌≡◌, ℕ, ◌+◌, ◌*◌, ◌^◌, List, [], ◌∷◌, ◌++◌, map, None}
 use Rattle.nfs_serve.specs.Exchanges.{words}
-use Rattle.nfs_serve.specs.Endpoint.{Place, Compound, Answer, Arrival, Server, ran}
+use Rattle.nfs_serve.specs.Endpoint.{Place, Compound, Arrival, Server, ran}
 use Rattle.nfs_serve.specs.Network.{Callers, Packet, Done, Event, Sends, Resends, Arrives, Asks, Accepts, Network, begins, ended}
 use Rattle.nfs_serve.specs.Numbered.{Happens}
 use Rattle.nfs_serve.specs.Seen.{server}
