@@ -8,19 +8,22 @@ use Rattle.nfs_serve.specs.declared.fault.Stop.{Stop}
 use Rattle.nfs_serve.specs.declared.fault.Stop.TheVariants as stops
 use Rattle.nfs_serve.specs.declared.fault.ReplayFault.{ReplayFault}
 use Rattle.nfs_serve.specs.declared.form.Form.{Form}
+use Rattle.nfs_serve.specs.declared.form.Flow.{Flow}
+use Rattle.nfs_serve.specs.declared.moving.WriteFailed.{WriteFailed}
 use Rattle.nfs_serve.specs.declared.form.Form.TheVariants.{Tagged, Plain}
 use Rattle.nfs_serve.specs.declared.talking.Talk.{Talk}
 use Rattle.nfs_serve.specs.declared.talking.Talk.TheVariants as talks
 use Rattle.nfs_serve.specs.Script.{Entry, spell_entry}
 use Rattle.nfs_serve.specs.Step.{State, step}
 use Rattle.nfs_serve.specs.Run.{Streams, with_stream, all_closed, Brings, TakesPiece, TakesAll, Event, Arrives, Overflows, events_of, Move, events, after, after_event, output, Runs, RunsInto}
+use Rattle.nfs_serve.specs.Server.{Stands, FeedsOr}
 use Rattle.nfs_serve.specs.Replay.{Replayed, ReplaysFault}
 use Rattle.nfs_serve.specs.Talk.{SpeaksUntil}
 use Rattle.nfs_serve.specs.Hub.{at}
 use Rattle.nfs_serve.specs.Endpoint.{Server, Arrival, stepped, ran}
 use Rattle.nfs_serve.specs.Seen.{server}
 use Rattle.nfs_serve.specs.Points.{all_next}
-use Rattle.nfs_serve.specs.Forms.{record_of, records_of, AllRun, FrontRuns, RunUpTo, EachFormRunsRecords}
+use Rattle.nfs_serve.specs.Forms.{record_of, records_of, LeavesOf, AllRun, FrontRuns, RunUpTo, EachFormRunsRecords}
 use Rattle.nfs_serve.proofs.Moves.{events-append, after-append, output-last, TakesAll-more}
 use Rattle.nfs_serve.proofs.Pieces.{start_holds}
 use Rattle.nfs_serve.proofs.Runs.{takes_piece}
@@ -141,6 +144,28 @@ front_ran form old new entries before last streams written order r = record {
         (rest_all all_closed streams before (events r.earlier) r.reads (λ c. rest_open) last.conn)
         (subst (λ (p : List ℕ). Brings last.conn last.moment (streams last.conn) p (events own) r.end) none r.brings))
 
+-- a piece
+fed : (result : Result Flow WriteFailed) (old new : State) (was is : Gathered) (conn moment : ℕ) (piece : List ℕ) (form : Form) (h0 h1 : Option (List ℕ)) (failed : Bool)
+    → FeedsOr result old new was is conn moment piece form h0 h1 failed
+    → (moves : List Move) × (taken : List ℕ) × (dropped : List ℕ) × (piece ≡ taken ++ dropped) × LeavesOf old new (records_of moves)
+    × ((before : End) → Stands before was → (end : End) × Brings conn moment before taken (events moves) end)
+fed (Ok flow) old new was is conn moment piece form h0 h1 failed (f, open_or_shut, well) = (
+  f.moves,
+  piece,
+  [],
+  sym (append-nil piece),
+  λ mode instance lease. f.state ∙ after_is mode instance lease old f.moves,
+  λ before stands. let (end, brings, stands_still) = f.stream before stands in (end, brings),
+)
+fed (Err e) old new was is conn moment piece form h0 h1 failed (f, broken) = (
+  f.moves ++ f.last ∷ [],
+  f.taken,
+  f.dropped,
+  f.split,
+  λ mode instance lease. f.breaks.state ∙ (sym (after-append old f.moves (f.last ∷ [])) ∙ after_is mode instance lease old (f.moves ++ f.last ∷ [])),
+  f.stream,
+)
+
 -- a script
 abbrev Read : State → State → List ℕ → List ℕ → Type 0
 Read old new read written = (entries : List Entry) × (rest : List ℕ) × (read ≡ flat_map spell_entry entries ++ rest) × RunUpTo Tagged old new entries written
@@ -170,6 +195,8 @@ spoke talks.WriteFailed old new pieces written (few, before, last, order, stream
 
 pub each_form : EachFormRunsRecords
 each_form = record {
+  one = λ outcome old new call now steps. (steps.choice, λ mode instance lease. steps.state);
+  feed = fed;
   replay = λ answer old new held l0 l1 h0 h1 h.
       let (read, written, consumed, appended, ran_so) = h in
       let (entries, rest, is, runs) = replayed answer old new held read written ran_so in

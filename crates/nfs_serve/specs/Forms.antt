@@ -1,15 +1,21 @@
--- A script, a talk over one connection and many connections at once are runs of the records that arrive, in their order (RFC 5531 section 11).
+-- A record, a piece, a script, a talk over one connection and many connections at once: each is a run of the records that arrive, in their order
+-- (RFC 5531 section 11).
 -- So what holds of every list of records holds of the program in each of its forms.
-use Rattle.std.specs.Prelude.{◌≡◌, ◌⊎◌, ℕ, ◌<◌, List, [], ◌∷◌, ◌++◌, length, map, flat_map, Option, Result}
+use Rattle.std.specs.Prelude.{◌≡◌, ◌⊎◌, ℕ, ◌<◌, Bool, List, [], ◌∷◌, ◌++◌, length, map, flat_map, Option, Result}
 use Rattle.std.specs.Io.KnownBytes.{Consumes, Appends}
 use Rattle.nfs_rpc.specs.RecordMarking.{Gathered}
+use Rattle.nfs_rpc.specs.Stream.{End}
 use Rattle.nfs_serve.specs.declared.fault.ReplayFault.{ReplayFault}
 use Rattle.nfs_serve.specs.declared.form.Form.{Form}
+use Rattle.nfs_serve.specs.declared.form.Flow.{Flow}
+use Rattle.nfs_serve.specs.declared.form.Outcome.{Outcome}
+use Rattle.nfs_serve.specs.declared.moving.WriteFailed.{WriteFailed}
 use Rattle.nfs_serve.specs.declared.form.Form.TheVariants.{Tagged, Plain}
 use Rattle.nfs_serve.specs.declared.talking.Talk.{Talk}
 use Rattle.nfs_serve.specs.Script.{Entry, spell_entry}
 use Rattle.nfs_serve.specs.Step.{State}
-use Rattle.nfs_serve.specs.Run.{Streams, all_closed, TakesAll, Event, Arrives, Overflows, Move, events, output}
+use Rattle.nfs_serve.specs.Run.{Streams, all_closed, Brings, TakesAll, Event, Arrives, Overflows, Move, events, output}
+use Rattle.nfs_serve.specs.Server.{ServerModel, state_of, Stands, Steps, FeedsOr}
 use Rattle.nfs_serve.specs.Replay.{Replays}
 use Rattle.nfs_serve.specs.Talk.{Talks}
 use Rattle.nfs_serve.specs.Desk.{Desk}
@@ -28,12 +34,16 @@ record_of (Overflows conn) choice = []
 abbrev pub records_of : List Move → List Arrival
 records_of moves = flat_map (λ m. record_of m.event m.choice) moves
 
+-- a run of these records, whatever the server was started with
+abbrev pub LeavesOf : State → State → List Arrival → Type 0
+LeavesOf old new records = (mode instance lease : ℕ) → new ≡ ran (server mode instance lease) old records
+
 -- These entries came on connections that were closed. They bring these moves, and the state that is left is that which the list of the moves'
 -- records leaves.
 pub record RunsRecords (old new : State) (entries : List Entry) (moves : List Move) : Type 0 where
   pub streams : Streams
   pub brought : TakesAll all_closed entries (events moves) streams
-  pub state : (mode instance lease : ℕ) → new ≡ ran (server mode instance lease) old (records_of moves)
+  pub state : LeavesOf old new (records_of moves)
 
 -- All of the entries ran, and every reply was written, in the order of the records; or they ran up to a record of the last one, in whose reply
 -- the writer failed, and the rest of that entry's piece was dropped.
@@ -57,6 +67,14 @@ abbrev pub RunUpTo : Form → State → State → List Entry → List ℕ → Ty
 RunUpTo form old new entries written = AllRun form old new entries written ⊎ FrontRuns form old new entries written
 
 pub record EachFormRunsRecords : Type 0 where
+  -- `record`: that record
+  pub one : (outcome : Outcome) (old new : ServerModel) (call : List ℕ) (now : ℕ) → Steps outcome old new call now
+      → (choice : Option ℕ) × LeavesOf (state_of old.kept) (state_of new.kept) (record { bytes = call; now = now; choice = choice } ∷ [])
+  -- `feed`: the records that the piece brings on its connection, or a front of it up to the record in whose reply the writer failed
+  pub feed : (result : Result Flow WriteFailed) (old new : State) (was is : Gathered) (conn moment : ℕ) (piece : List ℕ) (form : Form)
+      (h0 h1 : Option (List ℕ)) (failed : Bool) → FeedsOr result old new was is conn moment piece form h0 h1 failed
+      → (moves : List Move) × (taken : List ℕ) × (dropped : List ℕ) × (piece ≡ taken ++ dropped) × LeavesOf old new (records_of moves)
+      × ((before : End) → Stands before was → (end : End) × Brings conn moment before taken (events moves) end)
   -- `replay`: the entries that the bytes read begin with
   pub replay : (answer : Result (Unit {0}) ReplayFault) (old new : State) (held : List Gathered) (l0 l1 h0 h1 : Option (List ℕ))
       → Replays answer old new held l0 l1 h0 h1

@@ -55,8 +55,9 @@ pub fn nothing_is_lost_in_a_run()
     ensures within { NothingIsLostInATurn }
 {}
 
-/// What `Server::replay`, `Server::talk` and `Server::serve_ports` do is a run of the records that arrive, in their order: the state that each
-/// leaves is that which the list of its records leaves. So each law of any list of records is one of the program in each of its forms.
+/// What `Server::record`, `Server::feed`, `Server::replay`, `Server::talk` and `Server::serve_ports` do is a run of the records that arrive, in
+/// their order: the state that each leaves is that which the list of its records leaves. So each law of any list of records is one of the
+/// program in each of its forms.
 pub fn each_form_runs_records()
     ensures { EachFormRunsRecords }
 {}
