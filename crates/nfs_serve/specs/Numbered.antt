@@ -1,6 +1,6 @@
 -- The same network for callers that go by SEQUENCE's result alone (RFC 8881 section 18.46): a caller accepts a reply that bears the session, the
 -- slot and the number of the compound that waits there, whatever its xid and whomever it was sent to. So xids are as callers like, and a slot
--- may come on the way: it is unused at the beginning, or where its caller sends its first compound.
+-- may come on the way: it is unused at the beginning, or when its caller sends its first compound.
 use Rattle.std.specs.Prelude.{◌≡◌, ◌⊎◌, ◌+◌, ◌<◌, ◌^◌, ℕ, true, List, [], ◌∷◌, length, Option, Some, None, ⊤}
 use Rattle.nfs_xdr.specs.Codec.{IsBytes}
 use Rattle.nfs_xdr.specs.Tables.{In}

@@ -17,8 +17,8 @@ reaching event = []
 abbrev pub all_reaching : List Event → List Arrival
 all_reaching events = flat_map reaching events
 
--- What the wire brings, where a server in state m stands at its end: of the records that reach the server by these events those that
--- execute, in their order and at the moments at which they were taken.
+-- What the wire brings to a server in state m: of the records that reach the server by these events, callers' and strangers', those that execute, in
+-- their order and at the moments at which they were taken.
 abbrev pub wire : (s : Server) → s.State → List Event → List Arrival
 wire s m events = alone s m (all_reaching events)
 

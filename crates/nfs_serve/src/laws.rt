@@ -101,8 +101,8 @@ pub fn stays_settled()
     ensures { (mode : ℕ) (instance : ℕ) (lease : ℕ) → StaysSettled (server mode instance lease) }
 {}
 
-/// The same where a caller goes by the session, the slot and the number in SEQUENCE's result, as RFC 8881 clients check, and by no xid; and where
-/// callers and their slots come on the way.
+/// What `exactly_once` says holds too of callers that go by the session, the slot and the number in SEQUENCE's result, as RFC 8881 clients check, and
+/// by no xid. Callers and their slots may come on the way.
 pub fn exactly_once_by_number()
     ensures { (mode : ℕ) (instance : ℕ) (lease : ℕ) → ExactlyOnceByNumber (server mode instance lease) }
 {}
@@ -112,7 +112,7 @@ pub fn answers_with_the_number()
     ensures { (mode : ℕ) (instance : ℕ) (lease : ℕ) → AnswersNumbered (server mode instance lease) }
 {}
 
-/// Callers that go by xids, and use none for two compounds, are such callers: so what is promised to these is promised to them.
+/// Callers that go by xids, and use none for two compounds, do what callers by number may do: so each law of these is one of those.
 pub fn xids_suffice()
     ensures { (mode : ℕ) (instance : ℕ) (lease : ℕ) → XidsSuffice (server mode instance lease) }
 {}
