@@ -44,17 +44,17 @@ use Rattle.nfs_exec.specs.Sequence.{Sequenced, Refuses, Repeats, Runs as RunsIn,
 use Rattle.nfs_exec.specs.Compound.{in_session, by_first, compound}
 use Rattle.nfs_exec.specs.Laws.{if_runs, first_runs}
 use Rattle.nfs_exec.proofs.Numbering.{IsHeld}
-use Rattle.nfs_serve.specs.Endpoint.{Place, Heading, Answer}
+use Rattle.nfs_serve.specs.Endpoint.{Place, Heading, Answer, SlotNumber}
 use Rattle.nfs_serve.proofs.ServerLaws.{Runs, Repeats as RepeatsOn, IsElsewhere, KeepsSlots}
 use Rattle.nfs_exec.specs.Executing.{first_sequence, sequence_of, is_alone, executes}
 use Rattle.nfs_serve.specs.Step.{State, Stepped, refused, answered, with_arguments, by_procedure, reply_to, step}
-use Rattle.nfs_serve.specs.Seen.{slot_in, answer_in, sequenced, ticked, executes_by, asked_by, heading_of, heading_by, heading, seen, server}
+use Rattle.nfs_serve.specs.Seen.{slot_in, answer_in, sequenced, slot_number, ticked, executes_by, asked_by, heading_of, heading_by, heading, seen, server}
 use Rattle.nfs_serve.proofs.Ticking.{step_is}
 use Rattle.nfs_exec.proofs.Quiet.{ran_in, quiet_compound, told_compound}
 use Rattle.nfs_serve.proofs.SlotsLeft.{slot_at, IsGiven, IsLeft, Stays, stands_given, held_sessions, held_given, held_slot, kept_slot, fewer_leaves, keep_there}
 use Rattle.nfs_serve.proofs.Spelled.{IsBad, answer_spelled, refusal_spelled, front_spelled}
 use Rattle.nfs_serve.proofs.Mute.{mute_compound}
-use Rattle.nfs_serve.proofs.Good.{good_compound}
+use Rattle.nfs_serve.proofs.Good.{numbered_compound, well_numbered, sequence_fits}
 
 -- A call and its request.
 
@@ -278,7 +278,8 @@ runs_for mode instance lease s bytes now choice call r q fits is called asked be
     let size = length bytes in
     let id = id_of q.sessionid in
     let known = taken bytes call fits called in
-    let whole = (request_is call r known asked).whole in
+    let request = request_is call r known asked in
+    let whole = request.whole in
     let ran = runs_here t.machine r call.who size q begins (sym (executes_is t size bytes call r called asked) ∙ does) in
     let told = told_compound t.machine r call.who size t.moment choice q ran in
     let a = compound t.machine r call.who size t.moment choice in
@@ -292,6 +293,7 @@ runs_for mode instance lease s bytes now choice call r q fits is called asked be
       fresh = ap (judge_slot at.0 q.sequenceid call.who.uid) (sym whole) ∙ at.2;
       result = a.text;
       answer = ap (λ (y : Stepped). (seen y).answer) did ∙ answer_spelled call.xid a.text known.small;
+      numbered = numbered_compound t.machine r call.who size t.moment choice q request.head.tag_fits (sequence_fits call.args r q request begins) ran;
       keeps =
           ap (λ (y : Stepped). slot_at y.state.machine.sessions id q.slotid) did
           ∙ (ap (λ (k : SessionTable). slot_at k id q.slotid) told.kept
@@ -503,16 +505,18 @@ keeps_slots mode instance lease = record {
   stays_given = stays_given;
   same_xid = same_xid;
   no_sequence = no_sequence;
+  well_numbered = well_numbered;
   runs = runs mode instance lease;
   repeats = repeats mode instance lease;
   leaves = leaves mode instance lease;
 }
 
--- What runs is answered with a good SEQUENCE.
-pub answers_well : (s : State) (bytes : List ℕ) (now : ℕ) (choice : Option ℕ) (h : Heading) → IsBytes bytes → heading bytes ≡ Some h
+-- What runs is answered with a good SEQUENCE, which bears its slot and number.
+pub answers_numbered : (s : State) (bytes : List ℕ) (now : ℕ) (choice : Option ℕ) (h : Heading) → IsBytes bytes → heading bytes ≡ Some h
     → executes_by (ticked s now) (length bytes) (call_of bytes) ≡ true
-    → (result : List ℕ) × ((seen (step s bytes now choice)).answer ≡ Some (record { xid = h.xid; result = result })) × (sequenced result ≡ true)
-answers_well s bytes now choice h fits e does =
+    → (result : List ℕ) × ((seen (step s bytes now choice)).answer ≡ Some (record { xid = h.xid; result = result }))
+    × (slot_number result ≡ Some (record { place = h.place; number = h.compound.number }))
+answers_numbered s bytes now choice h fits e does =
     let from = heads bytes h e in
     let t = ticked s now in
     let size = length bytes in
@@ -524,5 +528,13 @@ answers_well s bytes now choice h fits e does =
       a.text,
       ap (λ (y : Stepped). (seen y).answer) (stepped_is s bytes now choice from.call r from.called from.asked)
           ∙ (answer_spelled from.call.xid a.text known.small ∙ ap (λ (y : Heading). let z : Option Answer = Some (record { xid = y.xid; result = a.text }) in z) from.is),
-      good_compound t.machine r from.call.who size t.moment choice from.first request.head.tag_fits ran,
+      numbered_compound t.machine r from.call.who size t.moment choice from.first request.head.tag_fits (sequence_fits from.call.args r from.first request from.begins) ran
+          ∙ ap (λ (y : Heading). let z : Option SlotNumber = Some (record { place = y.place; number = y.compound.number }) in z) from.is,
     )
+
+pub answers_well : (s : State) (bytes : List ℕ) (now : ℕ) (choice : Option ℕ) (h : Heading) → IsBytes bytes → heading bytes ≡ Some h
+    → executes_by (ticked s now) (length bytes) (call_of bytes) ≡ true
+    → (result : List ℕ) × ((seen (step s bytes now choice)).answer ≡ Some (record { xid = h.xid; result = result })) × (sequenced result ≡ true)
+answers_well s bytes now choice h fits e does =
+    let told = answers_numbered s bytes now choice h fits e does in
+    (told.0, told.1, well_numbered told.0 _ told.2)

@@ -23,7 +23,11 @@ pub mod ServerLaws
 pub mod NetworkLists
 pub mod NetworkLines
 pub mod NetworkEvents
+pub mod ByXid
 pub mod AloneRuns
+pub mod PerfectWire
+pub mod RealTime
+pub mod WrongServers
 pub mod Settled
 pub mod Ticking
 pub mod SlotsLeft
@@ -32,6 +36,8 @@ pub mod Mute
 pub mod KeptSlots
 pub mod Good
 pub mod LostReply
+pub mod SeenWrite
 pub mod Points
+pub mod Forms
 pub mod Kept
 pub mod HeldLock

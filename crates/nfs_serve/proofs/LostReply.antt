@@ -1,5 +1,6 @@
 -- The exchange in which a reply is lost, computed.
-use Rattle.std.proofs.Common.{◌≡◌, inl, inr, ℕ, zero, suc, Bool, true, List, [], ◌∷◌, get_or, refl, sym, ◌∙◌, ap, arith, ltb-true}
+use Rattle.std.proofs.Common.{◌≡◌, inl, inr, ℕ, zero, suc, Bool, true, List, [], ◌∷◌, ◌++◌, get_or, take, None, refl, sym, ◌∙◌, ap, subst, arith, ltb-true}
+use Rattle.nfs_xdr.specs.Tables.{In}
 use Rattle.std.specs.Prelude.{◌&&◌, nat_lt, ◌<◌}
 use Rattle.std.proofs.lemmas.Bool.{and_parts}
 use Rattle.nfs_xdr.specs.Codec.{IsBytes}
@@ -15,16 +16,22 @@ use Rattle.nfs_compound.specs.ArgCodecs.{sec_parms, exchange_id_args, create_ses
 use Rattle.nfs_results.specs.Items as results
 use Rattle.nfs_slots.specs.Slot.{unused_slot}
 use Rattle.nfs_serve.specs.Step.{step}
-use Rattle.nfs_serve.specs.Endpoint.{Heading}
-use Rattle.nfs_serve.specs.Network.{Packet}
-use Rattle.nfs_serve.specs.LostReply.{compound, packet, IsAccepted}
+use Rattle.nfs_serve.specs.Endpoint.{Place, Heading, Arrival}
+use Rattle.nfs_serve.specs.Network.{Packet, Event, Resends, Arrives, Accepts, IsUnused}
+use Rattle.nfs_serve.specs.PerfectWire.{wire, done_on}
+use Rattle.nfs_serve.specs.RealTime.{RunsBehind, IsAtomic}
+use Rattle.nfs_serve.specs.LostReply.{before, here, place, callers, compound, packet, answer, first, second, start, done, brought, IsAccepted, IsOverAWire}
+use Rattle.nfs_serve.proofs.KeptSlots.{keeps_slots}
+use Rattle.nfs_serve.proofs.Ticking.{keeps_time}
+use Rattle.nfs_serve.proofs.RealTime.{atomic}
+use Rattle.nfs_serve.proofs.ByXid.{happens}
 
 -- each number is a byte
 abbrev small : List ℕ → Bool
 small [] = true
 small (b ∷ bytes) = nat_lt b 256 && small bytes
 
-is_bytes : (bytes : List ℕ) → small bytes ≡ true → IsBytes bytes
+pub is_bytes : (bytes : List ℕ) → small bytes ≡ true → IsBytes bytes
 is_bytes bytes e = record { each = each bytes e }
   where
     each : (bytes : List ℕ) → small bytes ≡ true → (i : ℕ) → get_or bytes i 0 < 256
@@ -93,3 +100,29 @@ is_accepted = record {
   );
   line = refl;
 }
+
+computed : (wire here start.machine (first ++ second) ≡ brought) × (done_on here place start.machine brought ≡ done 1 ∷ done 2 ∷ [])
+unfolding number hyper step call_of header opaque_auth opaque_at fixed_at behind_header caller_of auth_sys spell_head
+    request_at items_at item_at op_at fault_at exchange_id_args create_session_args sequence_args channel_attrs sec_parms protected impl_id pieces_at flag_at
+    results.exchange_id results.create_session results.sequence
+computed = (refl, refl)
+
+unused : (p : Place) → In p callers.places → IsUnused here start.machine p
+unused p (inl same) = subst (IsUnused here start.machine) (sym same) is_accepted.unused
+unused p (inr none) = absurd none
+
+is_atomic : IsAtomic here start.machine callers (first ++ second)
+is_atomic = atomic here (keeps_slots 511 7 90) (keeps_time 511 7 90) before callers (first ++ second)
+    (happens here (keeps_slots 511 7 90) before callers (first ++ second) unused is_accepted.schedule)
+
+pub is_over_a_wire : IsOverAWire
+is_over_a_wire = record {
+  brings = computed.0;
+  answers = computed.1;
+  alike = is_atomic.one_list;
+  order = subst (λ (records : List Arrival). RunsBehind here start.machine records place (done 1) place (compound 2)) computed.0
+      (is_atomic.in_time (take 2 first) [] back place (compound 1) (answer 3 1) (packet 4 2) refl);
+}
+  where
+    back : List Event
+    back = Arrives (packet 4 2) 103 None ∷ Resends (packet 5 2) ∷ Arrives (packet 5 2) 104 None ∷ Accepts place (compound 2) (answer 5 2) ∷ []

@@ -69,6 +69,20 @@ CountUp-bounds n [] c counts i = absurd i
 CountUp-bounds n (x ∷ xs) c counts (inl e) = let same : c.number ≡ n = ap (λ (y : Compound). y.number) e ∙ counts.0 in (omega (arith, same), omega (arith, same))
 CountUp-bounds n (x ∷ xs) c counts (inr i) = let b = CountUp-bounds (n + 1) xs c counts.1 i in (omega (arith, b.0), omega (arith, b.1))
 
+-- so a number is of one compound
+pub CountUp-one : (n : ℕ) (cs : List Compound) (c d : Compound) → CountUp n cs → In c cs → In d cs → c.number ≡ d.number → c ≡ d
+CountUp-one n [] c d counts i j e = absurd i
+CountUp-one n (x ∷ xs) c d counts (inl p) (inl q) e = p ∙ sym q
+CountUp-one n (x ∷ xs) c d counts (inl p) (inr j) e =
+    let b = CountUp-bounds (n + 1) xs d counts.1 j in
+    let same : c.number ≡ n = ap (λ (y : Compound). y.number) p ∙ counts.0 in
+    absurd (omega (arith, b.0, same, e))
+CountUp-one n (x ∷ xs) c d counts (inr i) (inl q) e =
+    let b = CountUp-bounds (n + 1) xs c counts.1 i in
+    let same : d.number ≡ n = ap (λ (y : Compound). y.number) q ∙ counts.0 in
+    absurd (omega (arith, b.0, same, e))
+CountUp-one n (x ∷ xs) c d counts (inr i) (inr j) e = CountUp-one (n + 1) xs c d counts.1 i j e
+
 -- a list has one last element
 none_or : {X : Type 0} (x y : X) (ys : List X) → x ∷ [] ≡ y ∷ ys → ys ≡ []
 none_or x y ys e = cc

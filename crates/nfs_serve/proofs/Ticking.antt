@@ -131,6 +131,8 @@ keeps_time mode instance lease = record {
       ap (λ (r : Stepped). r.state.moment) (step_is s bytes now choice) ∙ reply_moment (ticked s now) (length bytes) choice (call_of bytes);
   takes_later = λ s bytes now choice. ap seen (stepped_from s s bytes now (max s.moment now) choice (later s now));
   ticks_first = λ s bytes early late choice. ap seen (stepped_from (ticked s early) s bytes late (max early late) choice (twice s early late));
+  executes_later = λ s bytes now. ap (λ (t : State). executes_by t (length bytes) (call_of bytes)) (later s now);
+  executes_ticked = λ s bytes early late. ap (λ (t : State). executes_by t (length bytes) (call_of bytes)) (twice s early late);
   only_ticks = λ s bytes now choice e.
       ap (λ (r : Stepped). r.state) (step_is s bytes now choice) ∙ reply_idle (ticked s now) (length bytes) choice (call_of bytes) e;
   Sound = IsSettled;

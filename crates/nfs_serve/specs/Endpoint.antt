@@ -27,6 +27,11 @@ pub record Answer : Type 0 where
   pub xid : ℕ
   pub result : List ℕ
 
+-- what the result of a SEQUENCE bears: the slot that it was on, and its number there
+pub record SlotNumber : Type 0 where
+  pub place : Place
+  pub number : ℕ
+
 -- what a server does with a record
 pub record Stepped (State : Type 0) : Type 0 where
   -- None where it sends no reply, or one whose head does not say success
@@ -45,6 +50,8 @@ pub record Server : Type 1 where
   pub executes : State → List ℕ → ℕ → Bool
   -- a result begins with SEQUENCE's, and that is NFS4_OK
   pub sequenced : List ℕ → Bool
+  -- what it bears then
+  pub slot_number : List ℕ → Option SlotNumber
   -- what a slot holds; None where the session or the slot is not there
   pub slot_at : State → Place → Option SlotState
   -- the moment that was taken last

@@ -20,10 +20,16 @@ pub mod Account
 pub mod Whole
 pub mod Endpoint
 pub mod Network
+pub mod Numbered
 pub mod Alone
+pub mod PerfectWire
+pub mod RealTime
+pub mod WrongServers
 pub mod Seen
 pub mod LostReply
+pub mod SeenWrite
 pub mod Points
+pub mod Forms
 pub mod Kept
 pub mod HeldLock
 pub mod Shows

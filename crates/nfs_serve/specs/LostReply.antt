@@ -6,6 +6,8 @@ use Rattle.nfs_serve.specs.Exchanges.{words}
 use Rattle.nfs_serve.specs.Endpoint.{Place, Compound, Answer, Arrival, Server, ran}
 use Rattle.nfs_serve.specs.Network.{Callers, Packet, Done, Event, Sends, Resends, Arrives, Accepts, Schedule, IsUnused, Network, begins, ended}
 use Rattle.nfs_serve.specs.Seen.{server}
+use Rattle.nfs_serve.specs.PerfectWire.{wire, done_on, IsAsOverAWire}
+use Rattle.nfs_serve.specs.RealTime.{RunsBehind}
 
 -- a call of COMPOUND under AUTH_SYS: stamp 3, a machine with no name, uid 5, gid 6, no other group
 abbrev pub call : ℕ → List ℕ → List ℕ
@@ -61,3 +63,15 @@ pub record IsAccepted : Type 0 where
   pub schedule : Schedule callers start (first ++ second)
   pub line : (ended callers start (first ++ second)).lines place
       ≡ record { sent = compound 1 ∷ compound 2 ∷ []; executed = done 1 ∷ done 2 ∷ []; accepted = done 1 ∷ done 2 ∷ []; xids = [] }
+
+-- what a perfect wire brings for these events: each compound once, at the moment at which it was taken
+abbrev pub brought : List Arrival
+brought = record { bytes = (packet 3 1).bytes; now = 102; choice = None } ∷ record { bytes = (packet 4 2).bytes; now = 103; choice = None } ∷ []
+
+-- These events meet the premises of `as_over_a_wire` and `atomic_in_real_time`: the wire brings the second compound once, which was sent twice,
+-- and that runs after the first one, whose result was accepted before.
+pub record IsOverAWire : Type 0 where
+  pub brings : wire here start.machine (first ++ second) ≡ brought
+  pub answers : done_on here place start.machine brought ≡ done 1 ∷ done 2 ∷ []
+  pub alike : IsAsOverAWire here start.machine callers (first ++ second)
+  pub order : RunsBehind here start.machine brought place (done 1) place (compound 2)

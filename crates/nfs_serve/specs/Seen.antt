@@ -5,6 +5,7 @@ use Rattle.std.specs.Option.{option_map_or}
 use Rattle.nfs_xdr.specs.Reading.{◌>>=◌}
 use Rattle.nfs_xdr.specs.Limits.{opaque_limit}
 use Rattle.nfs_xdr.specs.Codec.{Codec, ◌then◌, number, opaque}
+use Rattle.nfs_xdr.specs.Combinators.{fixed}
 use Rattle.nfs_rpc.specs.declared.call.Procedure.{Procedure}
 use Rattle.nfs_rpc.specs.CallHead.{Call, Called, Accepted, Refused, call_of}
 use Rattle.nfs_compound.specs.Request.{Request}
@@ -17,7 +18,7 @@ use Rattle.nfs_sessions.specs.Id.{id_of}
 use Rattle.nfs_sessions.specs.Sessions.{Session, session_at}
 use Rattle.nfs_exec.specs.Executing as requests
 use Rattle.nfs_exec.specs.Expiry.{expired}
-use Rattle.nfs_serve.specs.Endpoint.{Heading, Answer, Stepped as Seen, Server}
+use Rattle.nfs_serve.specs.Endpoint.{Heading, Answer, SlotNumber, Stepped as Seen, Server}
 use Rattle.nfs_serve.specs.Step.{State, Stepped, new_state, step}
 
 -- the head of a reply that says success, as six numbers: xid, REPLY 1, MSG_ACCEPTED 0, a verifier AUTH_NONE 0 of no bytes, SUCCESS 0
@@ -45,6 +46,22 @@ by_front (Some x) = (x.0.1.1.1.0 == op_number Op.Sequence) && (x.0.1.1.1.1 == 0)
 -- the first operation that answered is SEQUENCE, with NFS4_OK
 abbrev pub sequenced : List ℕ → Bool
 sequenced result = by_front (front.read result)
+
+-- the first items of SEQUENCE's result: the session, the number and the slot (RFC 8881 section 18.46.2)
+abbrev pub sequence_front : Codec (List ℕ × (ℕ × ℕ))
+sequence_front = fixed 16 then number then number
+
+abbrev pub by_sequence_front : Option ((List ℕ × (ℕ × ℕ)) × List ℕ) → Option SlotNumber
+by_sequence_front None = None
+by_sequence_front (Some x) = Some (record { place = record { session = id_of x.0.0; slot = x.0.1.1 }; number = x.0.1.0 })
+
+-- what they say, where that SEQUENCE is there
+abbrev pub numbered_by : Option ((ℕ × (List ℕ × (ℕ × (ℕ × ℕ)))) × List ℕ) → Option SlotNumber
+numbered_by None = None
+numbered_by (Some x) = if by_front (Some x) then by_sequence_front (sequence_front.read x.1) else None
+
+abbrev pub slot_number : List ℕ → Option SlotNumber
+slot_number result = numbered_by (front.read result)
 
 -- the request of a call, where it is of COMPOUND and its arguments can be read
 abbrev pub asked_by : Call → Procedure → Option Request
@@ -93,6 +110,7 @@ server mode instance lease = record {
   step = λ s bytes now choice. seen (step s bytes now choice);
   executes = λ s bytes now. executes_by (ticked s now) (length bytes) (call_of bytes);
   sequenced = sequenced;
+  slot_number = slot_number;
   slot_at = λ s p. slot_in p.slot (session_at s.machine.sessions p.session);
   moment = λ s. s.moment;
   tick = ticked;

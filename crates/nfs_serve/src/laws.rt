@@ -5,12 +5,18 @@ ghost use Rattle.nfs_serve.specs.Account.{NothingIsLost};
 ghost use Rattle.nfs_serve.specs.Alone.{ExecutingAlone, StaysSettled};
 ghost use Rattle.nfs_serve.specs.Exchanges.{RunsTo, null_script, null_output, exchange_script, exchange_output};
 ghost use Rattle.nfs_serve.specs.Laws.{HasOneReading, CutsAnywhere, BringsOnce, ConnectionsAreStreams};
+ghost use Rattle.nfs_serve.specs.Forms.{EachFormRunsRecords};
 ghost use Rattle.nfs_serve.specs.HeldLock.{IsHeldTo};
 ghost use Rattle.nfs_serve.specs.Kept.{LockKept};
-ghost use Rattle.nfs_serve.specs.LostReply.{IsAccepted};
+ghost use Rattle.nfs_serve.specs.LostReply.{IsAccepted, IsOverAWire};
 ghost use Rattle.nfs_serve.specs.Network.{ExactlyOnce, AnswersExecuted};
+ghost use Rattle.nfs_serve.specs.Numbered.{AnswersNumbered, ExactlyOnceByNumber, XidsSuffice};
 ghost use Rattle.nfs_serve.specs.Points.{NoClash};
+ghost use Rattle.nfs_serve.specs.PerfectWire.{AsOverAWire};
+ghost use Rattle.nfs_serve.specs.RealTime.{Atomic};
 ghost use Rattle.nfs_serve.specs.Seen.{server};
+ghost use Rattle.nfs_serve.specs.SeenWrite.{IsSeen};
+ghost use Rattle.nfs_serve.specs.WrongServers.{LawsRefuse};
 ghost use Rattle.nfs_serve.specs.Whole.{HubRunsScript, NothingIsLostInARun, NothingIsLostInATurn};
 
 /// Which fault a script has, if any, and its whole entries before it are decided by its bytes.
@@ -47,6 +53,13 @@ pub fn a_hub_runs_a_script()
 pub fn nothing_is_lost_in_a_run()
     ensures ends { NothingIsLostInARun }
     ensures within { NothingIsLostInATurn }
+{}
+
+/// What `Server::record`, `Server::feed`, `Server::replay`, `Server::talk` and `Server::serve_ports` do is a run of the records that arrive, in
+/// their order: the state that each leaves is that which the list of its records leaves. So each law of any list of records is one of the
+/// program in each of its forms.
+pub fn each_form_runs_records()
+    ensures { EachFormRunsRecords }
 {}
 
 /// The definitions compute: a call of NULL is answered by the head of a reply.
@@ -86,6 +99,52 @@ pub fn executing_alone()
 /// Behind each record of a run nothing is left to run out: to take its moment anew changes nothing.
 pub fn stays_settled()
     ensures { (mode : ℕ) (instance : ℕ) (lease : ℕ) → StaysSettled (server mode instance lease) }
+{}
+
+/// What `exactly_once` says holds too of callers that go by the session, the slot and the number in SEQUENCE's result, as RFC 8881 clients check, and
+/// by no xid. Callers and their slots may come on the way.
+pub fn exactly_once_by_number()
+    ensures { (mode : ℕ) (instance : ℕ) (lease : ℕ) → ExactlyOnceByNumber (server mode instance lease) }
+{}
+
+/// What executes on a slot is answered with a result that bears the slot and the number, so its caller may accept it.
+pub fn answers_with_the_number()
+    ensures { (mode : ℕ) (instance : ℕ) (lease : ℕ) → AnswersNumbered (server mode instance lease) }
+{}
+
+/// Callers that go by xids, and use none for two compounds, do what callers by number may do: so each law of these is one of those.
+pub fn xids_suffice()
+    ensures { (mode : ℕ) (instance : ℕ) (lease : ℕ) → XidsSuffice (server mode instance lease) }
+{}
+
+/// Over a network that loses, repeats, delays and reorders the server ends as one that received each executed compound once, in order, over a
+/// perfect wire, and nothing that does not execute; what callers accept are the results that it answers there.
+pub fn as_over_a_wire()
+    ensures { (mode : ℕ) (instance : ℕ) (lease : ℕ) → AsOverAWire (server mode instance lease) }
+{}
+
+/// Atomic, and in real time: over such a network what runs is one list of records, one after the other; each accepted result is its compound's in
+/// that list; and a compound that is sent after a result was accepted, by whatever caller, runs after the compound of that result.
+pub fn atomic_in_real_time()
+    ensures { (mode : ℕ) (instance : ℕ) (lease : ℕ) → Atomic (server mode instance lease) }
+{}
+
+/// The definitions compute: a client writes to a file, and accepts the result though the first reply was lost; then another client comes and reads
+/// the file, and is answered what was written. Each call has the same xid. That run meets the premises of `as_over_a_wire` and
+/// `atomic_in_real_time`.
+pub fn a_write_is_seen()
+    ensures { IsSeen }
+{}
+
+/// The exchange of `exchange_over_a_network` is as over a perfect wire, on which the second compound comes once; and it runs after the first one.
+pub fn exchange_over_a_wire()
+    ensures { IsOverAWire }
+{}
+
+/// The definitions compute: a small server that runs a repeat again meets `exactly_once_by_number`, and `as_over_a_wire` is false of it; and of one
+/// whose results bear another slot `exactly_once_by_number` is false.
+pub fn wrong_servers_fail()
+    ensures { LawsRefuse }
 {}
 
 /// In every run no byte has a writer beside another holder and no two opens clash: behind each record, and before each operation of one.

@@ -1,4 +1,4 @@
-use Rattle.nfs_serve.proofs.NetworkEvents.{exactly_once}
+use Rattle.nfs_serve.proofs.ByXid.{exactly_once}
 use Rattle.nfs_serve.specs.Seen.{server}
 use Rattle.nfs_serve.proofs.KeptSlots.{keeps_slots}
 use Rattle.nfs_serve.proofs.laws.exactly_once.Goals as goal

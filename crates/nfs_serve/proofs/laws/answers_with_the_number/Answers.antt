@@ -1,0 +1,5 @@
+use Rattle.nfs_serve.proofs.KeptSlots.{answers_numbered}
+use Rattle.nfs_serve.proofs.laws.answers_with_the_number.Goals as goal
+
+pub returns : goal.returns
+returns c = λ mode instance lease s bytes now choice h fits reads executes. answers_numbered s bytes now choice h fits reads executes

@@ -1,0 +1,8 @@
+use Rattle.nfs_serve.proofs.PerfectWire.{as_over_a_wire}
+use Rattle.nfs_serve.specs.Seen.{server}
+use Rattle.nfs_serve.proofs.KeptSlots.{keeps_slots}
+use Rattle.nfs_serve.proofs.Ticking.{keeps_time}
+use Rattle.nfs_serve.proofs.laws.as_over_a_wire.Goals as goal
+
+pub returns : goal.returns
+returns c = λ mode instance lease. as_over_a_wire (server mode instance lease) (keeps_slots mode instance lease) (keeps_time mode instance lease)

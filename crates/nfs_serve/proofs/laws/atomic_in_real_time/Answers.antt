@@ -1,0 +1,8 @@
+use Rattle.nfs_serve.proofs.RealTime.{atomic}
+use Rattle.nfs_serve.specs.Seen.{server}
+use Rattle.nfs_serve.proofs.KeptSlots.{keeps_slots}
+use Rattle.nfs_serve.proofs.Ticking.{keeps_time}
+use Rattle.nfs_serve.proofs.laws.atomic_in_real_time.Goals as goal
+
+pub returns : goal.returns
+returns c = λ mode instance lease. atomic (server mode instance lease) (keeps_slots mode instance lease) (keeps_time mode instance lease)

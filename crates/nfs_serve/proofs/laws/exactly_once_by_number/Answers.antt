@@ -1,0 +1,7 @@
+use Rattle.nfs_serve.proofs.NetworkEvents.{exactly_once_by_number}
+use Rattle.nfs_serve.specs.Seen.{server}
+use Rattle.nfs_serve.proofs.KeptSlots.{keeps_slots}
+use Rattle.nfs_serve.proofs.laws.exactly_once_by_number.Goals as goal
+
+pub returns : goal.returns
+returns c = λ mode instance lease. exactly_once_by_number (server mode instance lease) (keeps_slots mode instance lease)

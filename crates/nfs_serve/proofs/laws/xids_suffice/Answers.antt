@@ -1,0 +1,7 @@
+use Rattle.nfs_serve.proofs.ByXid.{happens}
+use Rattle.nfs_serve.specs.Seen.{server}
+use Rattle.nfs_serve.proofs.KeptSlots.{keeps_slots}
+use Rattle.nfs_serve.proofs.laws.xids_suffice.Goals as goal
+
+pub returns : goal.returns
+returns c = λ mode instance lease. happens (server mode instance lease) (keeps_slots mode instance lease)
