@@ -59,8 +59,8 @@ use Rattle.nfs_files.specs.Read.{read}
 use Rattle.nfs_files.specs.SetAttr.{was_set, set_attr}
 use Rattle.nfs_files.specs.TestStateid.{test_stateid}
 use Rattle.nfs_files.specs.Write.{was_written, write}
-use Rattle.nfs_files.specs.Kept.{Told, IsBeside, IsAlike, Locks, Unlocks, Closes, Spares, Stands, Clashes}
-use Rattle.nfs_files.specs.Laws.{SparedLocksStay, ClashesAreRefused}
+use Rattle.nfs_files.specs.Kept.{Told, IsBeside, IsAlike, Stands, Clashes}
+use Rattle.nfs_files.proofs.Inside.{Locks, Unlocks, Closes, Spares, SparedLocksStay, ClashesAreNotGranted}
 use Rattle.nfs_files.proofs.KeptLocks.{stands_by, stands_closed, stands_freed, stands_raised, stands_locked, lock_grants, outside, cleared_other, refused}
 
 -- a refusal leaves the state, an answer what follows from what was found
@@ -280,7 +280,7 @@ wish_parts x how offset size d (Err status) w is e = absurd cc
 wish_parts x how offset size d (Ok last) w is e = let same : wish x how offset last d.number ≡ w = cc in
     (sym (ap (λ (w : Wish). w.first) same), is ∙ ap (λ (w : Wish). Ok w.last) same)
 
-id_parts : {A : Type 0} (m : A) (wish : A → Wish) (make : StateId → A) (w : Wish) → ((id : StateId) → wish (make id) ≡ w) → (v : Result StateId Status)
+pub id_parts : {A : Type 0} (m : A) (wish : A → Wish) (make : StateId → A) (w : Wish) → ((id : StateId) → wish (make id) ≡ w) → (v : Result StateId Status)
     → mapped make v ≡ Ok m → w ≡ wish m
 id_parts m wish make w each (Err status) e = absurd cc
 id_parts m wish make w each (Ok id) e = let same : make id ≡ m = cc in sym (each id) ∙ ap wish same
@@ -290,7 +290,7 @@ flag_parts : (x : Context) (given : Stateid) (w : Wish) (b : Bool) (m : _)
 flag_parts x given w true m e = absurd cc
 flag_parts x given w false m e = id_parts m (λ k. k.wish) _ w (λ id. refl) (meant x Any given) e
 
-reclaim_parts : (x : Context) (a : args.Lock) (v : Result Wish Status) (given : Stateid) (m : _)
+pub reclaim_parts : (x : Context) (a : args.Lock) (v : Result Wish Status) (given : Stateid) (m : _)
     → wished_by x given (checked v (of_lock.reclaim_checks a)) ≡ Ok m → v ≡ Ok m.wish
 reclaim_parts x a (Err status) given m e = absurd cc
 reclaim_parts x a (Ok w) given m e = ap Ok (flag_parts x given w a.reclaim m e)
@@ -301,7 +301,7 @@ lock_range s x a m e =
     let d = came (the_file s x) _ m.wish (reclaim_parts x a (wished s x a.locktype a.offset a.length) (of_lock.stateid_in a.locker) m e) in
     wish_parts x a.locktype a.offset a.length d.found (range a.offset a.length) m.wish refl d.then
 
-pub clashing : ClashesAreRefused
+pub clashing : ClashesAreNotGranted
 clashing k s x op n w table some is lock clash =
     let parts = lock_range s x lock.asked (record { wish = w; id = lock.id }) lock.judged in
     let first = parts.0 in

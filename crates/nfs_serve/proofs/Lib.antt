@@ -34,4 +34,6 @@ pub mod Good
 pub mod LostReply
 pub mod Points
 pub mod Kept
+pub mod Outlived
 pub mod HeldLock
+pub mod WrongLocks

@@ -2,16 +2,16 @@
 -- whose leases last 90 seconds, comes a client `A`, which makes the file `f` and locks its first byte. It renews its lease with SEQUENCEs
 -- alone, each 90 seconds behind the last. A client `B` comes meanwhile, opens `f`, and asks for the byte 90 seconds behind the last renewal:
 -- it is denied. Then A unlocks.
-use Rattle.std.specs.Prelude.{◌≡◌, ℕ, ◌+◌, ◌*◌, ◌^◌, ◌≤◌, List, [], ◌∷◌, ◌++◌, map, Some, None, if◌then◌else◌}
+use Rattle.std.specs.Prelude.{◌≡◌, ℕ, ◌+◌, ◌*◌, ◌^◌, List, [], ◌∷◌, ◌++◌, map, Some, None}
 use Rattle.nfs_xdr.specs.declared.status.Status.{Status}
 use Rattle.nfs_xdr.specs.declared.status.Status.TheVariants.{Nfs4Ok, Denied}
 use Rattle.nfs_ranges.specs.declared.Kind.TheVariants.{Write}
 use Rattle.nfs_files.specs.Kept.{Told}
 use Rattle.nfs_exec.specs.Ops.{Done}
-use Rattle.nfs_exec.specs.Held.{AreSpared, IsToldBy, IsAlone}
-use Rattle.nfs_serve.specs.Step.{State, new_state}
-use Rattle.nfs_serve.specs.Points.{Came, next, all_next, taken, before, ops_of}
-use Rattle.nfs_serve.specs.Kept.{renews_by}
+use Rattle.nfs_exec.specs.Held.{Tells}
+use Rattle.nfs_serve.specs.Step.{State}
+use Rattle.nfs_serve.specs.Points.{Came, next, all_next, reached, ops_of}
+use Rattle.nfs_serve.specs.Kept.{AreInTime}
 use Rattle.nfs_serve.specs.Exchanges.{words}
 use Rattle.nfs_serve.specs.LostReply.{call, exchange_id, create_session}
 
@@ -51,7 +51,7 @@ abbrev pub gives_up : Came
 gives_up = came 372 9 (in_session 1 4 3 unlocks)
 
 abbrev pub start : State
-start = all_next (new_state 511 7 90) earlier
+start = reached 511 7 90 earlier
 
 abbrev pub locked : State
 locked = next start locks
@@ -63,15 +63,6 @@ asked = all_next locked waits
 abbrev pub told : Told
 told = record { state = 2; client = 7 * 2 ^ 32 + 1; opened = 1; file = 2; kind = Write; first = 0; last = 0 }
 
--- The records come in time, and spare the lock and its client: the premises of `StaysHeld`, for all of them.
-abbrev pub AreInTime : Told → (last : ℕ) → State → List Came → Type 0
-AreInTime k last s [] = Unit {0}
-AreInTime k last s (c ∷ more) =
-    (taken s c ≤ last + s.machine.leases.lease)
-    × AreSpared k (ops_of s c)
-    × IsAlone k.client (before s c) (next s c).machine
-    × AreInTime k (if renews_by k.client s c then taken s c else last) (next s c) more
-
 abbrev pub statuses : List Done → List Status
 statuses ds = map (λ d. d.status) ds
 
@@ -81,10 +72,9 @@ pub record IsHeldTo : Type 0 where
   pub front : List Done
   pub lock : Done
   pub ops : ops_of start locks ≡ front ++ lock ∷ []
-  pub tells : IsToldBy told lock
-  -- that compound renewed the lease of its client, and what follows comes in time and spares the lock
-  pub renewed : locked.machine.leases.renewed told.client ≡ Some 102
-  pub kept : AreInTime told 102 locked (waits ++ clashes ∷ [])
+  pub tells : Tells told lock
+  -- what follows comes in time, from that compound on, and spares the lock
+  pub kept : AreInTime told 90 102 locked (waits ++ clashes ∷ []) (λ last t. Unit {0})
   -- so the byte is held when B asks for it, and it is denied
   pub held : asked.machine.store.opens.held 2 2 0 ≡ Some Write
   pub denied : statuses (ops_of asked clashes) ≡ Nfs4Ok ∷ Nfs4Ok ∷ Denied ∷ []

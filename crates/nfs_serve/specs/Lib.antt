@@ -25,5 +25,7 @@ pub mod Seen
 pub mod LostReply
 pub mod Points
 pub mod Kept
+pub mod Outlived
 pub mod HeldLock
+pub mod WrongLocks
 pub mod Shows
