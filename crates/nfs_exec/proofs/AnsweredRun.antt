@@ -5,14 +5,13 @@ use Rattle.std.specs.Option.{option_map_or}
 use Rattle.std.proofs.lemmas.Bool.{cases_Bool, eq-eqb, eqb-true}
 use Rattle.nfs_xdr.specs.Tables.{In}
 use Rattle.nfs_xdr.specs.Caller.{Caller}
-use Rattle.nfs_xdr.specs.declared.status.Status.{Status}
 use Rattle.nfs_xdr.specs.declared.status.Status.TheVariants.{RepTooBig}
 use Rattle.nfs_xdr.proofs.Lists.{find_in}
 use Rattle.nfs_compound.specs.LockArgs as args
 use Rattle.nfs_compound.specs.declared.lock_args.LockU.{LockU}
 use Rattle.nfs_compound.specs.declared.open_args.Close.{Close}
 use Rattle.nfs_compound.specs.declared.op_num.OpNum.TheVariants as Num
-use Rattle.nfs_compound.specs.Operation.{Op, Item, Operation, Fault, OpLock, OpLockU, OpClose, OpSequence, OpReclaimComplete}
+use Rattle.nfs_compound.specs.Operation.{Op, Item, Operation, OpLock, OpLockU, OpClose, OpSequence, OpReclaimComplete}
 use Rattle.nfs_compound.specs.Request.{Request, item_number}
 use Rattle.nfs_compound.specs.declared.session_args.Sequence.{Sequence}
 use Rattle.nfs_results.specs.Largest.{largest}
@@ -27,10 +26,10 @@ use Rattle.nfs_names.specs.Operation as names
 use Rattle.nfs_names.proofs.Untouched.{leaves_item}
 use Rattle.nfs_files.specs.Operation as files
 use Rattle.nfs_files.specs.Ranges.{wished}
-use Rattle.nfs_files.specs.Kept.{Names, Told, Stands, Clashes}
+use Rattle.nfs_files.specs.Kept.{Names, Told}
 use Rattle.nfs_files.proofs.Inside.{Locks, Unlocks, Closes}
 use Rattle.nfs_files.proofs.OwnOpens.{spares_others}
-use Rattle.nfs_files.proofs.ToldGrants.{IsTold, IsToldClosed, lock_tells, unlock_tells, close_tells, lock_grants_told, lock_refused, told_is_ok, told_client, wished_client}
+use Rattle.nfs_files.proofs.ToldGrants.{IsTold, IsToldClosed, lock_tells, unlock_tells, close_tells, lock_grants_told, lock_refused, told_is_ok, told_client}
 use Rattle.nfs_exec.specs.Machine.{Machine, is_ok}
 use Rattle.nfs_exec.specs.Behind.{Step, step, stays, on_store, moves_opens, marked_if, otherwise}
 use Rattle.nfs_exec.specs.Run.{in_room, reserve, is_here, behind_here}
@@ -39,7 +38,7 @@ use Rattle.nfs_exec.specs.Sequence.{Sequenced, sequenced}
 use Rattle.nfs_exec.specs.Compound.{renewed, begun}
 use Rattle.nfs_exec.specs.Laws.{Event, Expires, Asks, stepped, if_runs, first_runs}
 use Rattle.nfs_exec.specs.Ops.{Done, done, ops, ops_in, ops_of, ops_by}
-use Rattle.nfs_exec.specs.Held.{LocksFor, UnlocksFor, ClosesOf, Spares, AreSpared, StandsBefore, StandsWhile, Tells, IsAlone, is_of, renews}
+use Rattle.nfs_exec.specs.Held.{LocksFor, UnlocksFor, ClosesOf, Spares, AreSpared, StandsBefore, StandsWhile, Tells, is_of, renews}
 use Rattle.nfs_exec.proofs.Bearing.{refused_status}
 use Rattle.nfs_exec.proofs.Inside as inside
 use Rattle.nfs_exec.proofs.Inside.{SparesClient}
@@ -48,11 +47,11 @@ use Rattle.nfs_exec.proofs.HeldRun.{Keeps, event_while, event_behind}
 use Rattle.nfs_exec.proofs.ToldRun.{told_event}
 
 -- an operation is refused for want of room, or is what it is
-in_room_is : (P : Step → Type 0) (limit sofar now : ℕ) (refused : Bool) (m : Machine) (x : Context) (i : Item) → P (stays m x i RepTooBig)
+pub in_room_is : (P : Step → Type 0) (limit sofar now : ℕ) (refused : Bool) (m : Machine) (x : Context) (i : Item) → P (stays m x i RepTooBig)
     → P (step m x now refused i) → P (in_room limit sofar now refused m x i)
 in_room_is P limit sofar now refused m x i big fits = elim (cases_Bool (ltb limit (sofar + largest i + reserve))) [ inl is ↦ rw is big | inr is ↦ rw is fits ]
 
-too_big : (m : Machine) (x : Context) (i : Item) → is_ok (stays m x i RepTooBig).outcome.status ≡ true → ⊥
+pub too_big : (m : Machine) (x : Context) (i : Item) → is_ok (stays m x i RepTooBig).outcome.status ≡ true → ⊥
 too_big m x i ok = let bad : is_ok RepTooBig ≡ true = sym (ap is_ok (refused_status (item_number i) RepTooBig)) ∙ ok in absurd cc
 
 -- One LOCK, LOCKU or CLOSE.
@@ -108,10 +107,10 @@ pub record IsRun (d : Done) : Type 0 where
   pub whole : Is d.before
   pub is : d ≡ done d.before d.context d.item (in_room limit sofar now refused d.before d.context d.item)
 
-abbrev ran_as : (d : Done) → IsRun d → Item → Step
+abbrev pub ran_as : (d : Done) → IsRun d → Item → Step
 ran_as d r i = in_room r.limit r.sofar r.now r.refused d.before d.context i
 
-as_step : (d : Done) (r : IsRun d) (i : Item) → d.item ≡ i → d ≡ done d.before d.context i (ran_as d r i)
+pub as_step : (d : Done) (r : IsRun d) (i : Item) → d.item ≡ i → d ≡ done d.before d.context i (ran_as d r i)
 as_step d r i same = r.is ∙ ap (λ i. done d.before d.context i (ran_as d r i)) same
 
 told_lock : (d : Done) → IsRun d → (op : Op) (n : ℕ) (w : Wish) → d.item ≡ Operation op → is_ok d.status ≡ true → Locks d.before.store d.context op n w → LocksFor d n w
@@ -282,7 +281,7 @@ first_run m r who size now choice [] is d there = absurd there
 first_run m r who size now choice (Operation (OpSequence s) ∷ more) is d there = session_run m r who now choice s more (sequenced m r who size s) is d there
 first_run m r who size now choice (item ∷ more) is d there = absurd there
 
-event_run : (m : Machine) (e : Event) → Is m → (d : Done) → In d (ops_by m e) → IsRun d × (renews d.context.client m e ≡ true)
+pub event_run : (m : Machine) (e : Event) → Is m → (d : Done) → In d (ops_by m e) → IsRun d × (renews d.context.client m e ≡ true)
 event_run m (Expires now) is d there = absurd there
 event_run m (Asks r who size now choice) is d there = go (eqb r.minor 1) there
   where

@@ -13,8 +13,7 @@ use Rattle.nfs_xdr.specs.declared.status.Status.{Status}
 use Rattle.nfs_xdr.specs.declared.status.Status.TheVariants.{Nfs4Ok, MinorVersMismatch, Delay, NotOnlyOp, OpNotInSession}
 use Rattle.nfs_xdr.proofs.Tables.{at_of_in}
 use Rattle.nfs_compound.specs.Arguments.{arguments}
-use Rattle.nfs_compound.specs.Operation.{Op, Item, Operation, Fault, OpSequence, OpExchangeId, OpCreateSession, OpCreate, OpLink, OpRename, OpOpen, OpSetAttr}
-use Rattle.nfs_compound.specs.Operation.{OpWrite, OpLock, OpLockU}
+use Rattle.nfs_compound.specs.Operation.{Op, Item, Operation, Fault, OpSequence, OpExchangeId, OpCreateSession}
 use Rattle.nfs_compound.specs.Request.{Request, item_number}
 use Rattle.nfs_compound.specs.SessionArgs.{CreateSession}
 use Rattle.nfs_compound.specs.declared.op_num.OpNum.{OpNum}

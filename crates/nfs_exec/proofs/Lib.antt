@@ -25,5 +25,6 @@ pub mod ToldRun
 pub mod AnsweredRun
 pub mod Renewing
 pub mod Outlasting
+pub mod Lasting
 pub mod Delayed
 pub mod DelayedOpen

@@ -15,7 +15,7 @@ use Rattle.nfs_exec.specs.Behind.{Step}
 use Rattle.nfs_exec.specs.Run.{Ran, run, in_room, follow, is_here, behind_here}
 use Rattle.nfs_exec.specs.Sequence as sequence
 use Rattle.nfs_exec.specs.Sequence.{Sequenced, sequenced, accepted}
-use Rattle.nfs_exec.specs.Compound.{bare, begun, renewed, run_in, in_session, by_first, compound}
+use Rattle.nfs_exec.specs.Compound.{bare, begun, renewed, run_in, in_session, by_first}
 use Rattle.nfs_exec.specs.Laws.{if_runs, first_runs}
 use Rattle.nfs_names.specs.Context.{begins}
 use Rattle.nfs_sessions.specs.Id.{id_of}
