@@ -151,7 +151,7 @@ are_in_time k owner lease last s (c ∷ more) e =
     )
 
 -- what stands behind the list is of no account
-pub nothing : Done
+nothing : Done
 nothing = record {
   before = start.machine;
   context = begins 0 (record { uid = 0; gid = 0; gids = [] });
@@ -161,7 +161,7 @@ nothing = record {
   behind = start.machine;
 }
 
-abbrev pub last_of : Done → List Done → Done
+abbrev last_of : Done → List Done → Done
 last_of d [] = d
 last_of d (e ∷ ds) = last_of e ds
 

@@ -2,7 +2,12 @@
 use Rattle.std.proofs.Common.{◌≡◌, ℕ, ◌+◌, ◌≤◌, Bool, true, false, cond, List, [], ◌∷◌, ◌++◌, length, Option, Some, None, refl, sym, ◌∙◌, ap, subst, arith, inl, inr}
 use Rattle.std.specs.Option.{option_map_or}
 use Rattle.std.proofs.lemmas.Bool.{false≢true}
-use Rattle.nfs_exec.specs.Machine.{Machine}
+use Rattle.nfs_xdr.specs.Spelling.{number}
+use Rattle.nfs_xdr.specs.Tables.{In}
+use Rattle.nfs_compound.specs.Operation.{Operation, OpGetAttr}
+use Rattle.nfs_results.specs.Result.{ResGetAttr}
+use Rattle.nfs_results.specs.Results.{spell_result}
+use Rattle.nfs_exec.specs.Machine.{Machine, is_ok}
 use Rattle.nfs_exec.specs.Laws.{Event, Expires, Asks}
 use Rattle.nfs_exec.specs.Ops.{Done, ops_by}
 use Rattle.nfs_files.specs.Kept.{Told}
@@ -10,11 +15,12 @@ use Rattle.nfs_exec.specs.Held.{LocksFor, AreSpared, StandsBefore, StandsWhile, 
 use Rattle.nfs_exec.proofs.HeldRun.{Keeps, event_behind}
 use Rattle.nfs_exec.proofs.ToldRun.{none_at_end}
 use Rattle.nfs_exec.proofs.AnsweredRun.{event_stands, event_leaves, told_kept}
+use Rattle.nfs_exec.proofs.Lasting.{Lasts, ten, compound_lasts, event_told}
 use Rattle.nfs_exec.proofs.WholeRun.{Is}
 use Rattle.nfs_exec.proofs.Renewing.{AtLeast, in_time, least_expired, least_behind, compound_lease}
 use Rattle.nfs_serve.specs.Step.{State, new_state}
 use Rattle.nfs_serve.specs.Points.{Came, next, all_next, reached, taken, before, asked_by, ops_of}
-use Rattle.nfs_serve.specs.Kept.{renews_by, StaysHeld, AreInTime, LockKept, OnlyOneIsTold}
+use Rattle.nfs_serve.specs.Kept.{renews_by, StaysHeld, AreInTime, LockKept, OnlyOneIsTold, LeaseIsTold}
 use Rattle.nfs_serve.proofs.Points.{left, for_asked, next_is, IsSound, taken_later, whole_before, sound_next, sound_all, sound_new}
 
 -- How long a lease lasts does not change.
@@ -28,6 +34,29 @@ lease_next s c =
 pub lease_all : (s : State) (records : List Came) → (all_next s records).machine.leases.lease ≡ s.machine.leases.lease
 lease_all s [] = refl
 lease_all s (c ∷ more) = lease_all (next s c) more ∙ lease_next s c
+
+-- And it is what attribute 10 says.
+
+lasts_next : (s : State) (c : Came) (lease : ℕ) → Lasts lease s.machine → Lasts lease (next s c).machine
+lasts_next s c lease is =
+    subst (λ (s : State). Lasts lease s.machine) (sym (next_is s c))
+    (for_asked (λ o. Lasts lease (left (before s c) o)) s c is (λ r who. compound_lasts (before s c) r who (length c.call) (taken s c) c.choice lease is))
+
+lasts_all : (s : State) (records : List Came) (lease : ℕ) → Lasts lease s.machine → Lasts lease (all_next s records).machine
+lasts_all s [] lease is = is
+lasts_all s (c ∷ more) lease is = lasts_all (next s c) more lease (lasts_next s c lease is)
+
+asked_told : (m : Machine) (o : Option Event) (lease : ℕ) → Is m → Lasts lease m → (d : Done) → In d (option_map_or (ops_by m) o [])
+    → d.item ≡ Operation (OpGetAttr ten) → is_ok d.status ≡ true → d.result ≡ spell_result (ResGetAttr (record { attrmask = ten; attr_vals = number lease }))
+asked_told m None lease is lasts d there = absurd there
+asked_told m (Some e) lease is lasts d there = event_told m e lease is lasts d there
+
+pub lease_is_told : LeaseIsTold
+lease_is_told mode instance lease records c d there =
+    let first = new_state mode instance lease in
+    let s = reached mode instance lease records in
+    let sound : IsSound s = sound_all first records (sound_new mode instance lease) in
+    asked_told (before s c) (asked_by s c) lease (whole_before s c sound.whole) (lasts_all first records lease refl) d there
 
 -- what holds of the state in which the lock stands, where its client renewed last
 pub record Lives (k : Told) (lease last : ℕ) (s : State) : Type 0 where

@@ -66,7 +66,8 @@ up_compound s c client last r who sound up = go (renews_or_begins client (before
     go : (b : Bool) → renews_or_begins client (before s c) (Asks r who (length c.call) (taken s c) c.choice) ≡ b
         → IsUpTo client (cond b (Some (taken s c)) last) (left (before s c) (Some (Asks r who (length c.call) (taken s c) c.choice))).leases
     go true e = λ q at. (taken s c, refl, latest.each client q at)
-    go false e = up_still client last (before s c).leases _ (compound_still (before s c) r who (length c.call) (taken s c) client c.choice e) up
+    go false e = up_still client last (before s c).leases (left (before s c) (Some (Asks r who (length c.call) (taken s c) c.choice))).leases
+        (compound_still (before s c) r who (length c.call) (taken s c) client c.choice e) up
 
 up_next : (s : State) (c : Came) (client : ℕ) (last : Option ℕ) → IsSound s → IsUpTo client last s.machine.leases
     → IsUpTo client (cond (renewed_by client s c) (Some (taken s c)) last) (next s c).machine.leases

@@ -1,18 +1,14 @@
 -- Wrong steps that the promises of locks refuse, computed.
-use Rattle.std.proofs.Common.{◌≡◌, ℕ, ◌+◌, ◌≤◌, List, [], ◌∷◌, ◌++◌, take, Some, None, refl, sym, ◌∙◌, ap, subst, arith}
+use Rattle.std.proofs.Common.{◌≡◌, ℕ, ◌+◌, ◌≤◌, List, [], ◌∷◌, ◌++◌, Some, None, refl, sym, ◌∙◌, ap, subst, arith, inl, inr}
 use Rattle.std.specs.Prelude.{◌*◌, ◌^◌, Result, Ok}
 use Rattle.nfs_xdr.specs.Spelling.{number, hyper}
 use Rattle.nfs_xdr.specs.Reading.{opaque_at, fixed_at, flag_at, pieces_at}
-use Rattle.nfs_xdr.specs.declared.status.Status.TheVariants.{Nfs4Ok}
 use Rattle.nfs_rpc.specs.CallHead.{call_of, header, opaque_auth, behind_header, caller_of}
 use Rattle.nfs_xdr.specs.AuthSys.{auth_sys}
 use Rattle.nfs_rpc.specs.Reply.{spell_head}
 use Rattle.nfs_compound.specs.ReadRequest.{request_at, items_at, item_at}
 use Rattle.nfs_compound.specs.OpCodec.{op_at, fault_at}
-use Rattle.nfs_compound.specs.declared.op_num.OpNum.{OpNum}
-use Rattle.nfs_compound.specs.declared.op_num.OpNum.TheVariants as Num
-use Rattle.nfs_results.specs.Results.{done_head}
-use Rattle.nfs_compound.specs.Operation.{Item, Operation, OpLock, OpLockU, OpClose, OpPutRootFh}
+use Rattle.nfs_compound.specs.Operation.{Operation, OpLock, OpLockU, OpClose}
 use Rattle.nfs_compound.specs.ChannelAttrs.{channel_attrs}
 use Rattle.nfs_compound.specs.ArgCodecs.{sec_parms, exchange_id_args, create_session_args, sequence_args, protected, impl_id, lock_type, open_to_lock_owner}
 use Rattle.nfs_compound.specs.ArgCodecs.{exist_lock_owner, locker, lock_args, lock_u_args}
@@ -20,8 +16,7 @@ use Rattle.nfs_compound.specs.Stateid.{stateid}
 use Rattle.nfs_compound.specs.StateOwner.{state_owner}
 use Rattle.nfs_compound.specs.ArgCodecs as compound_attributes
 use Rattle.nfs_compound.specs.OpenCodecs.{create_how, open_how, delegation_type, open_claim, open_args}
-use Rattle.nfs_compound.specs.LockArgs.{Lock, OpenOwner}
-use Rattle.nfs_compound.specs.declared.lock_args.LockType.TheVariants as LockTypes
+use Rattle.nfs_compound.specs.LockArgs.{Lock}
 use Rattle.nfs_results.specs.Items as results
 use Rattle.nfs_ranges.specs.Told.{told}
 use Rattle.nfs_ranges.specs.declared.Kind.TheVariants.{Write}
@@ -53,11 +48,13 @@ use Rattle.nfs_exec.specs.Ops.{Done}
 use Rattle.nfs_exec.specs.Held.{Spares, AreSpared, IsAlone}
 use Rattle.nfs_serve.specs.Exchanges.{words}
 use Rattle.nfs_serve.specs.Kept.{StaysHeld}
-use Rattle.nfs_serve.specs.Step.{State, step}
+use Rattle.nfs_opens.specs.declared.records.LockState.{LockState}
+use Rattle.nfs_serve.specs.Outlived.{last_renewal}
+use Rattle.nfs_serve.specs.Step.{State, new_state, step}
 use Rattle.nfs_serve.specs.Points.{next, taken, before, ops_of}
 use Rattle.nfs_serve.specs.HeldLock as worked
-use Rattle.nfs_serve.specs.WrongLocks.{AreRefused, renewal, short_leases, set_back, told_anyway, closes_another}
-use Rattle.nfs_serve.proofs.HeldLock.{nothing, last_of, asked}
+use Rattle.nfs_serve.specs.WrongLocks.{AreRefused, renewal, short_leases, set_back, closes_another, last_of}
+use Rattle.nfs_serve.proofs.HeldLock.{asked}
 
 -- what B's LOCK asked for
 abbrev wish : Wish
@@ -115,6 +112,13 @@ gone s low none empty free stays =
     unheld (next s renewal).machine.store.opens free
     ((stays.1 low).1 (none_spared (ops_of s renewal) none) (none_alone (before s renewal) (next s renewal).machine empty))
 
+-- A's lock state
+abbrev state : LockState
+state = record { number = 2; client = worked.told.client; owner = 0x6c ∷ []; file = 2; opened = 1; seqid = 1 }
+
+its : (l : LockState) (locks : List LockState) → locks ≡ state ∷ [] → In l locks → l.client ≡ worked.told.client
+its l locks one there = elim (subst (In l) one there) [ inl same ↦ ap (λ (l : LockState). l.client) same | inr none ↦ absurd none ]
+
 pub are_refused : AreRefused
 unfolding number hyper step call_of header opaque_auth opaque_at fixed_at behind_header caller_of auth_sys spell_head
     request_at items_at item_at op_at fault_at exchange_id_args create_session_args sequence_args channel_attrs sec_parms protected impl_id pieces_at flag_at
@@ -123,10 +127,7 @@ unfolding number hyper step call_of header opaque_auth opaque_at fixed_at behind
     results.exchange_id results.create_session results.sequence results.open_ok results.change_info results.attr_set results.denied
     told attributes settings_of handle wanted_of current permits put_fh put_root_fh asked_for open_file the_file target range wished denied lock lock_u
 are_refused = record {
-  front = take 2 (ops_of worked.asked worked.clashes);
-  lock = last_of nothing (ops_of worked.asked worked.clashes);
-  ops = refl;
-  denied = λ is. is.refused 4 wish (record {
+  denied = λ d is. is.refused 4 wish (record {
     asked = asked;
     is = refl;
     wish = refl;
@@ -137,12 +138,14 @@ are_refused = record {
       number = refl;
     };
   }) (record { other = λ same. absurd (omega arith); file = refl; before = omega arith; behind = omega arith; kinds = refl });
-  closed = λ is.
-      unheld (closes_another (last_of nothing (ops_of worked.asked worked.clashes))).behind.store.opens refl
-      (is.1 (spared (last_of nothing (ops_of worked.asked worked.clashes)))).0;
+  closed = λ d is.
+      unheld (closes_another (last_of d (ops_of worked.asked worked.clashes))).behind.store.opens refl
+      (is.1 (spared (last_of d (ops_of worked.asked worked.clashes)))).0;
   short = gone short_leases (omega arith) refl refl refl;
   back = gone set_back (omega arith) refl refl refl;
   last = refl;
   held = refl;
-  late = λ is. late_by is.last is.renewed is.within;
+  late = λ is. late_by is.last
+      (subst (λ client. last_renewal client None (new_state 511 7 90) (worked.earlier ++ worked.locks ∷ []) ≡ Some is.last)
+      (its is.lock worked.locked.machine.store.opens.locks refl is.there) is.renewed) is.within;
 }

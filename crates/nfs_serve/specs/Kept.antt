@@ -1,7 +1,13 @@
 -- A lock told is a lock kept: what becomes, over any list of records, of a byte range that a LOCK told as held (RFC 8881
 -- sections 8.3, 9.1 to 9.5 and 18.10).
-use Rattle.std.specs.Prelude.{◌≡◌, ℕ, ◌+◌, ◌≤◌, Bool, false, List, [], ◌∷◌, ◌++◌, if◌then◌else◌}
+use Rattle.std.specs.Prelude.{◌≡◌, ℕ, ◌+◌, ◌≤◌, Bool, true, false, List, [], ◌∷◌, ◌++◌, if◌then◌else◌}
 use Rattle.std.specs.Option.{option_map_or}
+use Rattle.nfs_xdr.specs.Spelling.{number}
+use Rattle.nfs_xdr.specs.Tables.{In}
+use Rattle.nfs_compound.specs.Operation.{Operation, OpGetAttr}
+use Rattle.nfs_results.specs.Result.{ResGetAttr}
+use Rattle.nfs_results.specs.Results.{spell_result}
+use Rattle.nfs_exec.specs.Machine.{is_ok}
 use Rattle.nfs_exec.specs.Ops.{Done}
 use Rattle.nfs_opens.specs.declared.locking.Wish.{Wish}
 use Rattle.nfs_files.specs.Kept.{Told, Stands, Clashes}
@@ -56,3 +62,9 @@ OnlyOneIsTold = (mode instance lease : ℕ) (earlier : List Came) (c : Came) (k 
     → AreInTime k lease (taken s c) (next s c) between
     (λ last t. (ops_of t d ≡ until ++ second ∷ behind) × (taken t d ≤ last + lease) × AreSpared k until)
     → LocksFor second n w → Clashes k n w → ⊥)
+
+-- The lease is told: a GETATTR of attribute 10, lease_time, that answers NFS4_OK gives the very number of seconds that leases last.
+abbrev pub LeaseIsTold : Type 0
+LeaseIsTold = (mode instance lease : ℕ) (records : List Came) (c : Came) (d : Done) → In d (ops_of (reached mode instance lease records) c)
+    → d.item ≡ Operation (OpGetAttr (0x400 ∷ [])) → is_ok d.status ≡ true
+    → d.result ≡ spell_result (ResGetAttr (record { attrmask = 0x400 ∷ []; attr_vals = number lease }))

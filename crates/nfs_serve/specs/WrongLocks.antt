@@ -1,6 +1,6 @@
 -- Wrong steps that the promises of locks refuse, worked by hand over the run of `HeldLock` (RFC 8881 sections 8.3, 9.1, 18.2 and 18.10). Each is a step that this server
 -- does not take: what a server that took it did is no lock kept.
-use Rattle.std.specs.Prelude.{◌≡◌, ℕ, ◌*◌, ◌+◌, ◌^◌, List, [], ◌∷◌, ◌++◌, None, Some}
+use Rattle.std.specs.Prelude.{◌≡◌, List, [], ◌∷◌, ◌++◌, None, Some}
 use Rattle.nfs_compound.specs.declared.op_num.OpNum.TheVariants as Op
 use Rattle.nfs_compound.specs.Operation.{Operation, OpClose}
 use Rattle.nfs_lease.specs.Renewals.{with_renewal}
@@ -8,7 +8,6 @@ use Rattle.nfs_results.specs.Results.{done_head}
 use Rattle.nfs_ranges.specs.declared.Kind.TheVariants.{Write}
 use Rattle.nfs_opens.specs.Closing.{without_open}
 use Rattle.nfs_names.specs.Ending.{with_opens}
-use Rattle.nfs_exec.specs.Machine.{Machine}
 use Rattle.nfs_exec.specs.Ops.{Done}
 use Rattle.nfs_exec.specs.Held.{StandsBefore, StandsWhile}
 use Rattle.nfs_serve.specs.Step.{State, new_state}
@@ -42,13 +41,15 @@ closes_another d = record d {
   behind = record d.before { store = with_opens d.before.store (without_open d.before.store.opens 1) };
 }
 
+-- the last of these operations; what stands in front of them is of no account
+abbrev pub last_of : Done → List Done → Done
+last_of d [] = d
+last_of d (e ∷ ds) = last_of e ds
+
 pub record AreRefused : Type 0 where
-  -- B's LOCK, which is denied
-  pub front : List Done
-  pub lock : Done
-  pub ops : ops_of asked clashes ≡ front ++ lock ∷ []
-  pub denied : StandsBefore told (told_anyway lock) → ⊥
-  pub closed : StandsWhile told (closes_another lock ∷ []) → ⊥
+  -- in the place of B's LOCK, which is denied
+  pub denied : (d : Done) → StandsBefore told (told_anyway (last_of d (ops_of asked clashes))) → ⊥
+  pub closed : (d : Done) → StandsWhile told (closes_another (last_of d (ops_of asked clashes)) ∷ []) → ⊥
   -- the lock is gone behind a renewal in time
   pub short : StaysHeld told 90 102 short_leases (renewal ∷ []) → ⊥
   pub back : StaysHeld told 90 102 set_back (renewal ∷ []) → ⊥
