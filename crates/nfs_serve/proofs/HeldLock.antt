@@ -1,5 +1,5 @@
 -- The run of a lock that is kept, computed.
-use Rattle.std.proofs.Common.{◌≡◌, ℕ, ◌+◌, Bool, true, false, cond, List, [], ◌∷◌, ◌++◌, take, drop, refl, sym, ◌∙◌, ap, subst, arith, inl, inr}
+use Rattle.std.proofs.Common.{◌≡◌, ℕ, ◌+◌, ◌≤◌, Bool, true, false, cond, List, [], ◌∷◌, ◌++◌, length, take, drop, refl, sym, ◌∙◌, ap, subst, arith, inl, inr}
 use Rattle.std.specs.Prelude.{◌==◌, ◌&&◌, not, nat_le, bytes_eq, if◌then◌else◌}
 use Rattle.std.proofs.lemmas.Bool.{and_parts, eqb-true, eq-eqb, leb-true, true≢false}
 use Rattle.std.proofs.lemmas.Slice.Eq.{bytes_eq-Decides}
@@ -47,10 +47,10 @@ use Rattle.nfs_exec.specs.Machine.{Machine}
 use Rattle.nfs_exec.specs.Ops.{Done}
 use Rattle.nfs_exec.specs.Held.{Spares, AreSpared, IsAlone}
 use Rattle.nfs_serve.specs.Step.{State, step}
-use Rattle.nfs_serve.specs.Points.{Came, next, taken, before, ops_of}
+use Rattle.nfs_serve.specs.Points.{Came, next, all_next, taken, before, ops_of}
 use Rattle.nfs_serve.specs.Kept.{renews_by, AreInTime}
 use Rattle.nfs_serve.specs.HeldLock as worked
-use Rattle.nfs_serve.specs.HeldLock.{start, locks, IsHeldTo}
+use Rattle.nfs_serve.specs.HeldLock.{start, locks, IsHeldTo, AreBothTold}
 
 -- An operation that was refused, or that is none of the three that end locks, spares each lock.
 
@@ -150,6 +150,28 @@ are_in_time k owner lease last s (c ∷ more) e =
       are_in_time k owner lease (if renews_by k.client s c then taken s c else last) (next s c) more t.1,
     )
 
+abbrev last_of : Done → List Done → Done
+last_of d [] = d
+last_of d (e ∷ ds) = last_of e ds
+
+-- and up to what holds behind them
+abbrev last_of_all : ℕ → ℕ → State → List Came → ℕ
+last_of_all client last s [] = last
+last_of_all client last s (c ∷ more) = last_of_all client (if renews_by client s c then taken s c else last) (next s c) more
+
+up_to : (k : Told) (lease last : ℕ) (s : State) (cs : List Came) (Then : ℕ → State → Type 0) → AreInTime k lease last s cs (λ last t. Unit {0})
+    → Then (last_of_all k.client last s cs) (all_next s cs) → AreInTime k lease last s cs Then
+up_to k lease last s [] Then all holds = holds
+up_to k lease last s (c ∷ more) Then all holds =
+    (all.0, all.1, all.2, up_to k lease (if renews_by k.client s c then taken s c else last) (next s c) more Then all.3 holds)
+
+three : (x : Done) (ds : List Done) → length ds ≡ 3 → ds ≡ take 2 ds ++ last_of x ds ∷ []
+three x [] e = absurd (omega arith)
+three x (a ∷ []) e = absurd (omega arith)
+three x (a ∷ b ∷ []) e = absurd (omega arith)
+three x (a ∷ b ∷ c ∷ []) e = refl
+three x (a ∷ b ∷ c ∷ d ∷ more) e = absurd (omega arith)
+
 -- what stands behind the list is of no account
 nothing : Done
 nothing = record {
@@ -160,10 +182,6 @@ nothing = record {
   result = [];
   behind = start.machine;
 }
-
-abbrev last_of : Done → List Done → Done
-last_of d [] = d
-last_of d (e ∷ ds) = last_of e ds
 
 abbrev pub asked : Lock
 asked = record {
@@ -214,4 +232,43 @@ is_held_to = record {
   denied = refl;
   still = refl;
   unlocked = refl;
+}
+
+-- what B asks for beside it
+abbrev beside : Lock
+beside = record asked { offset = 1 }
+
+pub are_both_told : AreBothTold
+unfolding number hyper step call_of header opaque_auth opaque_at fixed_at behind_header caller_of auth_sys spell_head
+    request_at items_at item_at op_at fault_at exchange_id_args create_session_args sequence_args channel_attrs sec_parms protected impl_id pieces_at flag_at
+    stateid state_owner compound_attributes.bitmap compound_attributes.attributes create_how open_how delegation_type open_claim open_args
+    lock_type open_to_lock_owner exist_lock_owner locker lock_args lock_u_args
+    results.exchange_id results.create_session results.sequence results.open_ok results.change_info results.attr_set results.denied
+    told attributes settings_of handle wanted_of current permits put_fh put_root_fh asked_for open_file the_file target range wished denied lock lock_u
+are_both_told = record {
+  renewed = refl;
+  moment = refl;
+  held = refl;
+  until = take 2 (ops_of worked.asked worked.goes_beside);
+  second = last_of nothing (ops_of worked.asked worked.goes_beside);
+  locks = record {
+    asked = beside;
+    is = refl;
+    wish = refl;
+    names = record {
+      id = 0 ∷ 0 ∷ 0 ∷ 1 ∷ 0 ∷ 0 ∷ 0 ∷ 7 ∷ 0 ∷ 0 ∷ 0 ∷ 0 ∷ 0 ∷ 0 ∷ 0 ∷ 4 ∷ [];
+      answers = refl;
+      long = refl;
+      number = refl;
+    };
+  };
+  between = up_to worked.told 90 102 worked.locked worked.waits
+      (λ last t. (ops_of t worked.goes_beside
+      ≡ take 2 (ops_of worked.asked worked.goes_beside) ++ last_of nothing (ops_of worked.asked worked.goes_beside) ∷ [])
+      × (taken t worked.goes_beside ≤ last + 90)
+      × AreSpared worked.told (take 2 (ops_of worked.asked worked.goes_beside))) (are_in_time worked.told (0x41 ∷ []) 90 102 worked.locked worked.waits refl) (
+        three nothing (ops_of worked.asked worked.goes_beside) refl,
+        omega arith,
+        all_spared worked.told (take 2 (ops_of worked.asked worked.goes_beside)) refl,
+      );
 }

@@ -34,6 +34,7 @@ pub mod Good
 pub mod LostReply
 pub mod Points
 pub mod Kept
+pub mod KeptInside
 pub mod Outlived
 pub mod HeldLock
 pub mod WrongLocks

@@ -5,7 +5,7 @@ ghost use Rattle.nfs_serve.specs.Account.{NothingIsLost};
 ghost use Rattle.nfs_serve.specs.Alone.{ExecutingAlone, StaysSettled};
 ghost use Rattle.nfs_serve.specs.Exchanges.{RunsTo, null_script, null_output, exchange_script, exchange_output};
 ghost use Rattle.nfs_serve.specs.Laws.{HasOneReading, CutsAnywhere, BringsOnce, ConnectionsAreStreams};
-ghost use Rattle.nfs_serve.specs.HeldLock.{IsHeldTo};
+ghost use Rattle.nfs_serve.specs.HeldLock.{IsHeldTo, AreBothTold};
 ghost use Rattle.nfs_serve.specs.Kept.{LockKept, OnlyOneIsTold, LeaseIsTold};
 ghost use Rattle.nfs_serve.specs.LostReply.{IsAccepted};
 ghost use Rattle.nfs_serve.specs.Network.{ExactlyOnce, AnswersExecuted};
@@ -120,6 +120,12 @@ pub fn no_lock_outlives_its_client()
 /// that, and the byte is free once it is unlocked. That run meets the premises of `lock_kept`.
 pub fn lock_kept_by_renewals()
     ensures { IsHeldTo }
+{}
+
+/// The definitions compute: that run meets the premises of `no_lock_outlives_its_client`; and where the other client asks for the byte beside it, those
+/// of `only_one_writer_is_told` but for the clash.
+pub fn locks_beside_are_told()
+    ensures { AreBothTold }
 {}
 
 /// The definitions compute: over that run `lock_kept` refuses a denied LOCK that answers NFS4_OK, a CLOSE of another open that drops the lock, leases shorter
