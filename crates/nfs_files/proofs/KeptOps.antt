@@ -1,11 +1,11 @@
 -- The same of each operation on open files.
-use Rattle.std.proofs.Common.{◌≡◌, ◌≢◌, ◌⊎◌, ℕ, suc, ◌+◌, ◌-◌, ◌<◌, ◌≤◌, Bool, true, false, cond, eqb, ltb, not, List, [], ◌∷◌, Option, Some, None, refl, sym, ◌∙◌, ap, subst, arith, inl, inr}
+use Rattle.std.proofs.Common.{◌≡◌, ◌≢◌, ℕ, ◌+◌, ◌-◌, ◌<◌, ◌≤◌, Bool, true, false, cond, not, [], ◌∷◌, Option, Some, None, refl, sym, ◌∙◌, ap, subst, arith, inl, inr}
 use Rattle.std.specs.Prelude.{◌==◌, ◌&&◌, ◌^◌, nat_lt, Result, Ok, Err}
 use Rattle.std.proofs.lemmas.Bool.{cases_Bool, cases_lt, cases_eq, eqb-false, ltb-false}
 use Rattle.nfs_xdr.specs.Checks.{first_fault}
 use Rattle.nfs_xdr.specs.declared.time.Time.{Time}
 use Rattle.nfs_xdr.specs.declared.status.Status.{Status}
-use Rattle.nfs_xdr.specs.declared.status.Status.TheVariants.{Delay, Inval, NoGrace}
+use Rattle.nfs_xdr.specs.declared.status.Status.TheVariants.{Inval, NoGrace}
 use Rattle.nfs_compound.specs.LockArgs as args
 use Rattle.nfs_compound.specs.Arguments.{arguments}
 use Rattle.nfs_compound.specs.OpenArgs.{Open}
@@ -17,7 +17,7 @@ use Rattle.nfs_compound.specs.declared.lock_args.LockType.{LockType}
 use Rattle.nfs_compound.specs.declared.open_args.Close.{Close}
 use Rattle.nfs_compound.specs.declared.open_args.OpenDowngrade.{OpenDowngrade}
 use Rattle.nfs_compound.specs.Operation.{Op, OpClose, OpCommit, OpFreeStateid, OpLock, OpLockT, OpLockU, OpOpen, OpOpenDowngrade, OpRead, OpSetAttr, OpTestStateid, OpWrite}
-use Rattle.nfs_ranges.specs.Holders.{Holders, cleared, holds_any, is_within}
+use Rattle.nfs_ranges.specs.Holders.{cleared, holds_any, is_within}
 use Rattle.nfs_ranges.specs.declared.Held.{Held}
 use Rattle.nfs_opens.specs.declared.share.Share.{Share}
 use Rattle.nfs_opens.specs.declared.stateid.StateId.{StateId}
@@ -30,7 +30,7 @@ use Rattle.nfs_opens.specs.declared.judging.Sort.TheVariants.{OpenOnly, LockOnly
 use Rattle.nfs_opens.specs.declared.locking.Wish.{Wish}
 use Rattle.nfs_opens.specs.declared.locking.OpenFault.{OpenFault}
 use Rattle.nfs_opens.specs.declared.locking.OpenFault.TheVariants as F
-use Rattle.nfs_opens.specs.Table.{Table, Did, Asked, open_at, lock_at, with_open}
+use Rattle.nfs_opens.specs.Table.{Table, Asked, open_at, lock_at, with_open}
 use Rattle.nfs_opens.specs.Kept.{IsTable}
 use Rattle.nfs_opens.specs.Judging.{judge}
 use Rattle.nfs_opens.specs.Closing as closing
@@ -41,12 +41,12 @@ use Rattle.nfs_names.specs.declared.node.Node.{Node}
 use Rattle.nfs_names.specs.State.{State}
 use Rattle.nfs_names.specs.Ending.{with_opens}
 use Rattle.nfs_names.proofs.Found.{came}
-use Rattle.nfs_names.specs.Outcome.{Outcome, answers, refuses, checked, passed, mapped, is_ok, or_delay}
-use Rattle.nfs_names.proofs.Untouched.{unused_opens, by_answers}
+use Rattle.nfs_names.specs.Outcome.{Outcome, answers, checked, passed, mapped, is_ok, or_delay}
+use Rattle.nfs_names.proofs.Untouched.{unused_opens}
 use Rattle.nfs_files.specs.StateIds.{meant}
 use Rattle.nfs_files.specs.Target.{target, the_file}
-use Rattle.nfs_files.specs.Ranges.{all_ones, last_of, range, wish, wished, wished_by}
-use Rattle.nfs_files.specs.Operation.{one, grows, one_or_delay}
+use Rattle.nfs_files.specs.Ranges.{all_ones, range, wish, wished, wished_by}
+use Rattle.nfs_files.specs.Operation.{one, grows}
 use Rattle.nfs_files.specs.Close.{closed, closes, close}
 use Rattle.nfs_files.specs.Commit.{commit}
 use Rattle.nfs_files.specs.FreeStateid.{frees, free_stateid}
@@ -59,7 +59,7 @@ use Rattle.nfs_files.specs.Read.{read}
 use Rattle.nfs_files.specs.SetAttr.{was_set, set_attr}
 use Rattle.nfs_files.specs.TestStateid.{test_stateid}
 use Rattle.nfs_files.specs.Write.{was_written, write}
-use Rattle.nfs_files.specs.Kept.{Told, IsBeside, IsAlike, Stands, Clashes}
+use Rattle.nfs_files.specs.Kept.{Told, IsBeside, IsAlike, Stands}
 use Rattle.nfs_files.proofs.Inside.{Locks, Unlocks, Closes, Spares, SparedLocksStay, ClashesAreNotGranted}
 use Rattle.nfs_files.proofs.KeptLocks.{stands_by, stands_closed, stands_freed, stands_raised, stands_locked, lock_grants, outside, cleared_other, refused}
 

@@ -1,6 +1,6 @@
 -- What no operation changes: how long a lease lasts. And numbers of opens and lock states stay below 2^64, since none is given behind the last.
-use Rattle.std.proofs.Common.{◌≡◌, ℕ, ◌+◌, ◌≤◌, Bool, true, false, cond, eqb, List, [], ◌∷◌, Option, Some, None, refl, sym, ◌∙◌, ap, subst, arith, inl, inr}
-use Rattle.std.specs.Prelude.{◌==◌, ◌&&◌, Result, Ok, Err, is_none}
+use Rattle.std.proofs.Common.{◌≡◌, ℕ, ◌≤◌, Bool, true, false, cond, eqb, List, Option, Some, None, refl, sym, ap, subst, arith, inl, inr}
+use Rattle.std.specs.Prelude.{◌&&◌, Result, Ok, Err, is_none}
 use Rattle.std.specs.List.{list_any}
 use Rattle.std.proofs.lemmas.Bool.{cases_Bool, eqb-false}
 use Rattle.nfs_xdr.specs.declared.time.Time.{Time}
@@ -33,7 +33,7 @@ use Rattle.nfs_opens.specs.declared.locking.Wish.{Wish}
 use Rattle.nfs_opens.specs.declared.locking.OpenFault.{OpenFault}
 use Rattle.nfs_opens.specs.declared.locking.OpenFault.TheVariants as F
 use Rattle.nfs_opens.specs.StateId.{last_number}
-use Rattle.nfs_opens.specs.Table.{Table, Did, Asked, open_at, lock_at, with_open, clashes_with}
+use Rattle.nfs_opens.specs.Table.{Table, Asked, open_at, lock_at, clashes_with}
 use Rattle.nfs_opens.specs.Judging.{judge}
 use Rattle.nfs_opens.specs.Closing as closing
 use Rattle.nfs_opens.specs.Opening as opening
@@ -44,7 +44,7 @@ use Rattle.nfs_opens.proofs.StepLemmas.{number_left}
 use Rattle.nfs_names.specs.declared.context.Context.{Context}
 use Rattle.nfs_names.specs.State.{State, is_used, without_unused, with_tree}
 use Rattle.nfs_names.specs.Ending.{with_opens}
-use Rattle.nfs_names.specs.Outcome.{Outcome, answers, checked, or_delay}
+use Rattle.nfs_names.specs.Outcome.{answers, checked}
 use Rattle.nfs_names.specs.Operation as names
 use Rattle.nfs_names.specs.Access.{access}
 use Rattle.nfs_names.specs.Create.{created, create}

@@ -1,7 +1,7 @@
 -- A LOCK, LOCKU or CLOSE is granted where it answers NFS4_OK and a stateid, and answers so where it is granted; the stateid of LOCK and of LOCKU
 -- names the lock state.
-use Rattle.std.proofs.Common.{◌≡◌, ◌⊎◌, ℕ, suc, ◌+◌, ◌<◌, ◌≤◌, Bool, true, false, cond, eqb, List, [], ◌∷◌, ◌++◌, length, drop, get_or, Option, Some, None, refl, sym, ◌∙◌, ap, subst, arith, inl, inr}
-use Rattle.std.specs.Prelude.{◌==◌, ◌&&◌, ◌^◌, Result, Ok, Err}
+use Rattle.std.proofs.Common.{◌≡◌, ◌⊎◌, ℕ, suc, ◌+◌, ◌≤◌, Bool, true, false, cond, eqb, List, ◌++◌, length, drop, get_or, Option, Some, None, refl, sym, ◌∙◌, ap, subst, arith, inl, inr}
+use Rattle.std.specs.Prelude.{◌==◌, ◌&&◌, Result, Ok, Err}
 use Rattle.std.specs.Int.{w64, from_be_bytes}
 use Rattle.std.proofs.lemmas.Bool.{cases_Bool, eqb-true, eqb-false, and_parts}
 use Rattle.std.proofs.lemmas.List.{drop_at, length-append}
@@ -21,7 +21,7 @@ use Rattle.nfs_compound.specs.declared.open_args.Close.{Close}
 use Rattle.nfs_compound.specs.declared.op_num.OpNum.{OpNum}
 use Rattle.nfs_compound.specs.declared.op_num.OpNum.TheVariants as Num
 use Rattle.nfs_compound.specs.OpNum.{op_number}
-use Rattle.nfs_compound.specs.Operation.{Op, OpLock, OpLockU, OpClose}
+use Rattle.nfs_compound.specs.Operation.{OpLock, OpLockU, OpClose}
 use Rattle.nfs_results.specs.Result as result
 use Rattle.nfs_results.specs.Result.{Res, Refused, ResLock, ResLockDenied, ResLockU, ResClose}
 use Rattle.nfs_results.specs.Results.{spell_result, refusal, done_head}
@@ -54,9 +54,9 @@ use Rattle.nfs_files.specs.StateIds.{wire_id, meant}
 use Rattle.nfs_files.specs.Target.{target, the_file}
 use Rattle.nfs_files.specs.Ranges.{range, wish, wished, wished_by}
 use Rattle.nfs_files.specs.Operation.{one, grows, one_or_delay}
-use Rattle.nfs_files.specs.Close.{spent, closed, closes, close}
+use Rattle.nfs_files.specs.Close.{spent, closes, close}
 use Rattle.nfs_files.specs.Lock as of_lock
-use Rattle.nfs_files.specs.LockU.{unlocking, unlocked, unlocks, lock_u}
+use Rattle.nfs_files.specs.LockU.{unlocking, unlocks, lock_u}
 use Rattle.nfs_files.specs.Kept.{Names, Told}
 use Rattle.nfs_files.proofs.Inside.{Locks, Unlocks, Closes}
 use Rattle.nfs_files.specs.Laws.{ClashesAreRefused, ToldLocksAreHeld}

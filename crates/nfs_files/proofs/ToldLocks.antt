@@ -1,12 +1,12 @@
 -- A LOCK that is granted leaves the lock that it tells.
-use Rattle.std.proofs.Common.{◌≡◌, ℕ, ◌+◌, ◌≤◌, Bool, true, false, eqb, Option, Some, refl, sym, ◌∙◌, ap, subst, arith, inl, inr}
-use Rattle.std.specs.Prelude.{◌==◌, ◌&&◌, Result, Ok, Err}
+use Rattle.std.proofs.Common.{◌≡◌, ℕ, ◌+◌, ◌≤◌, Bool, true, false, Some, refl, sym, ◌∙◌, ap, subst, arith, inl, inr}
+use Rattle.std.specs.Prelude.{◌==◌, ◌&&◌, Ok}
 use Rattle.std.proofs.lemmas.Bool.{eq-eqb, eqb-true}
 use Rattle.nfs_xdr.specs.declared.time.Time.{Time}
 use Rattle.nfs_xdr.proofs.Lists.{find_in}
 use Rattle.nfs_compound.specs.LockArgs as args
 use Rattle.nfs_compound.specs.Arguments.{arguments}
-use Rattle.nfs_compound.specs.Operation.{Op, OpLock}
+use Rattle.nfs_compound.specs.Operation.{OpLock}
 use Rattle.nfs_ranges.specs.declared.Kind.{Kind}
 use Rattle.nfs_ranges.specs.Holders.{holding, is_within}
 use Rattle.nfs_ranges.proofs.CanonicalLemmas.{within_is}
@@ -21,8 +21,8 @@ use Rattle.nfs_names.specs.State.{State}
 use Rattle.nfs_names.specs.Outcome.{is_ok, or_delay}
 use Rattle.nfs_files.specs.Operation.{one, grows, one_or_delay}
 use Rattle.nfs_files.specs.Lock as of_lock
-use Rattle.nfs_files.specs.Kept.{Told, IsHeld, Stands}
-use Rattle.nfs_files.proofs.Inside.{Tells, ToldLocksStand}
+use Rattle.nfs_files.specs.Kept.{Told, IsHeld}
+use Rattle.nfs_files.proofs.Inside.{ToldLocksStand}
 use Rattle.nfs_files.proofs.KeptLocks.{IsGranted, lock_grants}
 use Rattle.nfs_files.proofs.KeptOps.{lock_ok}
 
