@@ -1,18 +1,19 @@
 -- Memory refused at a place makes no difference, or cuts the compound there.
 use Rattle.std.proofs.Common.{◌≡◌, ◌⊎◌, ℕ, zero, suc, ◌+◌, ◌≤◌, Bool, true, false, cond, eqb, ltb, List, [], ◌∷◌, ◌++◌, length, take, Option, Some, None}
 use Rattle.std.proofs.Common.{refl, sym, ◌∙◌, ap, arith, inl, inr}
-use Rattle.std.specs.Prelude.{◌&&◌, slice_get}
+use Rattle.std.specs.Prelude.{◌&&◌, ◌||◌, not, nat_lt, slice_get}
 use Rattle.std.specs.Option.{option_map_or}
-use Rattle.std.proofs.lemmas.Bool.{cases_Bool, eqb-true, eq-eqb, le-ltb, false≢true}
+use Rattle.std.proofs.lemmas.Bool.{cases_Bool, eqb-true, eq-eqb, le-ltb, ltb-false, false≢true}
 use Rattle.std.proofs.lemmas.List.{append_assoc}
 use Rattle.nfs_xdr.specs.Caller.{Caller}
+use Rattle.nfs_xdr.specs.Checks.{first_fault}
+use Rattle.nfs_xdr.specs.Spelling.{number, opaque}
 use Rattle.nfs_xdr.specs.Tables.{In, with_record}
 use Rattle.nfs_xdr.specs.declared.status.Status.{Status}
-use Rattle.nfs_xdr.specs.declared.status.Status.TheVariants.{Nfs4Ok, MinorVersMismatch, Delay}
+use Rattle.nfs_xdr.specs.declared.status.Status.TheVariants.{Nfs4Ok, MinorVersMismatch, Delay, NotOnlyOp, OpNotInSession}
 use Rattle.nfs_xdr.proofs.Tables.{at_of_in}
 use Rattle.nfs_compound.specs.Arguments.{arguments}
-use Rattle.nfs_compound.specs.Operation.{Op, Item, Operation, Fault, OpSequence, OpExchangeId, OpCreateSession, OpCreate, OpLink, OpRename, OpOpen, OpSetAttr}
-use Rattle.nfs_compound.specs.Operation.{OpWrite, OpLock, OpLockU}
+use Rattle.nfs_compound.specs.Operation.{Op, Item, Operation, Fault, OpSequence, OpExchangeId, OpCreateSession}
 use Rattle.nfs_compound.specs.Request.{Request, item_number}
 use Rattle.nfs_compound.specs.SessionArgs.{CreateSession}
 use Rattle.nfs_compound.specs.declared.op_num.OpNum.{OpNum}
@@ -41,7 +42,7 @@ use Rattle.nfs_names.specs.Operation as names
 use Rattle.nfs_names.proofs.Faulted.{status_of_refusal}
 use Rattle.nfs_files.specs.Operation as files
 use Rattle.nfs_exec.specs.Machine.{Machine, IsMachine, Outcome, is_ok, or_delay, refuses, comes_to, with_mark, is_confirmed}
-use Rattle.nfs_exec.specs.Place.{item_fault}
+use Rattle.nfs_exec.specs.Place.{item_fault, place_fault, stands_alone, is_sequence}
 use Rattle.nfs_exec.specs.ExchangeId.{exchange_id, exchange_id_number}
 use Rattle.nfs_exec.specs.CreateSession.{create_session_number, by_verdict, creates, wish_of}
 use Rattle.nfs_exec.specs.Sequence as sequence
@@ -51,7 +52,7 @@ use Rattle.nfs_exec.specs.Run.{Ran, run, in_room, reserve, follow, only}
 use Rattle.nfs_exec.specs.Compound.{Answered, answers, carried_out, by_fault, first_item, renewed, begun, runs_behind, keeps, in_session, by_first}
 use Rattle.nfs_exec.specs.Compound.{bare}
 use Rattle.nfs_exec.specs.Laws.{if_runs, first_runs}
-use Rattle.nfs_exec.specs.Delayed.{grows, kept_by, DelayIsACut}
+use Rattle.nfs_exec.specs.Delayed.{grows, kept_by, with_ok, DelayIsACut}
 use Rattle.nfs_exec.proofs.Invariant.{of_renewed, of_room, runs_for, Stands}
 use Rattle.nfs_exec.proofs.Keeping.{runs_means}
 
@@ -84,28 +85,45 @@ marked_already m client is =
 
 -- One operation: memory refused makes no difference, or it is refused and nothing changes.
 
+-- it is refused, where it may want memory and would have answered NFS4_OK
+record IsRefused (i : Item) (m : Machine) (x : Context) (refused plenty : Step) : Type 0 where
+  is : refused ≡ stays m x i Delay
+  wants : grows m.store x i ≡ true
+  ok : is_ok plenty.outcome.status ≡ true
+
 abbrev Delays : Item → Machine → Context → (refused plenty : Step) → Type 0
-Delays i m x refused plenty = (refused ≡ plenty) ⊎ ((refused ≡ stays m x i Delay) × (grows i ≡ true))
+Delays i m x refused plenty = (refused ≡ plenty) ⊎ IsRefused i m x refused plenty
+
+record IsWant (g : Bool) (s : State) (x : Context) (n : OpNum) (o : OfStore) : Type 0 where
+  is : of_store.or_delay (g && true) s x n o ≡ of_store.refuses s x n Delay
+  wants : g ≡ true
+  ok : of_store.is_ok (of_store.or_delay (g && false) s x n o).result ≡ true
 
 delay_or_not : (g : Bool) (s : State) (x : Context) (n : OpNum) (o : OfStore)
-    → (of_store.or_delay (g && true) s x n o ≡ of_store.or_delay (g && false) s x n o)
-    ⊎ ((of_store.or_delay (g && true) s x n o ≡ of_store.refuses s x n Delay) × (g ≡ true))
-delay_or_not true s x n o = elim (cases_Bool (of_store.is_ok o.result)) [ inl ok ↦ inr (rw ok refl, refl) | inr bad ↦ inl (rw bad refl) ]
+    → (of_store.or_delay (g && true) s x n o ≡ of_store.or_delay (g && false) s x n o) ⊎ IsWant g s x n o
+delay_or_not true s x n o = elim (cases_Bool (of_store.is_ok o.result)) [
+  | inl ok ↦ inr (record { is = rw ok refl; wants = refl; ok = ok })
+  | inr bad ↦ inl (rw bad refl)
+]
 delay_or_not false s x n o = inl refl
 
-names_grow : (s : State) (x : Context) (op : Op) → names.grows s x op ≡ true → grows (Operation op) ≡ true
-names_grow s x (OpCreate c) e = refl
-names_grow s x (OpLink name) e = refl
-names_grow s x (OpRename a) e = refl
-names_grow s x op e = absurd (false≢true e)
+or_left : (a b : Bool) → a ≡ true → a || b ≡ true
+or_left true b e = refl
+or_left false b e = absurd (false≢true e)
 
-files_grow : (s : State) (x : Context) (op : Op) → files.grows s x op ≡ true → grows (Operation op) ≡ true
-files_grow s x (OpLock a) e = refl
-files_grow s x (OpLockU a) e = refl
-files_grow s x (OpOpen a) e = refl
-files_grow s x (OpSetAttr a) e = refl
-files_grow s x (OpWrite a) e = refl
-files_grow s x op e = absurd (false≢true e)
+or_right : (a b : Bool) → b ≡ true → a || b ≡ true
+or_right true b e = refl
+or_right false b e = e
+
+names_grow : (s : State) (x : Context) (op : Op) → names.grows s x op ≡ true → grows s x (Operation op) ≡ true
+names_grow s x (OpExchangeId a) e = refl
+names_grow s x (OpCreateSession a) e = refl
+names_grow s x op e = or_left (names.grows s x op) (files.grows s x op) e
+
+files_grow : (s : State) (x : Context) (op : Op) → files.grows s x op ≡ true → grows s x (Operation op) ≡ true
+files_grow s x (OpExchangeId a) e = refl
+files_grow s x (OpCreateSession a) e = refl
+files_grow s x op e = or_right (names.grows s x op) (files.grows s x op) e
 
 names_delay : (m : Machine) (x : Context) (now : ℕ) (i : Item)
     → Delays i m x (on_store m (names.comes_to true m.store x (moment now) i)) (on_store m (names.comes_to false m.store x (moment now) i))
@@ -113,12 +131,17 @@ names_delay m x now (Fault n status) = inl refl
 names_delay m x now (Operation op) =
     elim (delay_or_not (names.grows m.store x op) m.store x (arguments op).op (names.one m.store x (moment now) op)) [
       | inl same ↦ inl (ap (on_store m) same)
-      | inr delayed ↦ inr (ap (on_store m) delayed.0, names_grow m.store x op delayed.1)
+      | inr want ↦ inr (record { is = ap (on_store m) want.is; wants = names_grow m.store x op want.wants; ok = want.ok })
     ]
 
 unmoved : (moves : Bool) (m : Machine) (x : Context) (i : Item) → IsMachine m → marked_if moves x.client (stays m x i Delay) ≡ stays m x i Delay
 unmoved true m x i is = ap (λ (k : Machine). stays k x i Delay) (marked_already m x.client is)
 unmoved false m x i is = refl
+
+marked_ok : (moves : Bool) (m : Machine) (x : Context) (o : OfStore) → of_store.is_ok o.result ≡ true
+    → is_ok (marked_if moves x.client (on_store m o)).outcome.status ≡ true
+marked_ok true m x o ok = ok
+marked_ok false m x o ok = ok
 
 files_delay : (m : Machine) (x : Context) (now : ℕ) (i : Item) → IsMachine m
     → Delays i m x (marked_if (moves_opens i) x.client (on_store m (files.comes_to true m.store x (moment now) i)))
@@ -128,7 +151,11 @@ files_delay m x now (Operation op) is =
     let marking : OfStore → Step = λ o. marked_if (moves_opens (Operation op)) x.client (on_store m o) in
     elim (delay_or_not (files.grows m.store x op) m.store x (arguments op).op (files.one m.store x (moment now) op)) [
       | inl same ↦ inl (ap marking same)
-      | inr delayed ↦ inr (ap marking delayed.0 ∙ unmoved (moves_opens (Operation op)) m x (Operation op) is, files_grow m.store x op delayed.1)
+      | inr want ↦ inr (record {
+        is = ap marking want.is ∙ unmoved (moves_opens (Operation op)) m x (Operation op) is;
+        wants = files_grow m.store x op want.wants;
+        ok = marked_ok (moves_opens (Operation op)) m x (files.comes_to false m.store x (moment now) (Operation op)) want.ok;
+      })
     ]
 
 step_delays : (m : Machine) (x : Context) (now : ℕ) (i : Item) → IsMachine m → Delays i m x (step m x now true i) (step m x now false i)
@@ -149,13 +176,18 @@ room_delays limit sofar now m x i is = elim (cases_Bool (ltb limit (sofar + larg
 record IsCutRun (limit sofar now place : ℕ) (m : Machine) (x : Context) (items : List Item) : Type 0 where
   item : Item
   stands : slice_get items place ≡ Some item
-  wants : grows item ≡ true
   left : Ran
+  context : Context
+  wants : grows left.machine.store context item ≡ true
   cut : run limit sofar now None m x (take place items) ≡ left
   ok : left.status ≡ Nfs4Ok
   count : left.count ≡ place
   delayed : run limit sofar now (Some place) m x items
       ≡ record { status = Delay; count = suc place; results = left.results ++ spell_result (refusal (item_number item) Delay); machine = left.machine }
+  more : List ℕ
+  behind : Machine
+  would : run limit sofar now None m x (take (suc place) items)
+      ≡ record { status = Nfs4Ok; count = suc place; results = left.results ++ more; machine = behind }
 
 -- a refusal ends the run
 refused_ends : (m : Machine) (n : ℕ) (rest : Ran)
@@ -174,12 +206,16 @@ run_delays limit sofar now zero m x (i ∷ more) is known =
       | inr delayed ↦ inr (record {
         item = i;
         stands = refl;
-        wants = delayed.1;
         left = record { status = Nfs4Ok; count = 0; results = []; machine = m };
+        context = x;
+        wants = delayed.wants;
         cut = refl;
         ok = refl;
         count = refl;
-        delayed = ap goes delayed.0 ∙ refused_ends m (item_number i) _;
+        delayed = ap goes delayed.is ∙ refused_ends m (item_number i) _;
+        more = (in_room limit sofar now false m x i).outcome.result ++ [];
+        behind = (in_room limit sofar now false m x i).outcome.machine;
+        would = rw delayed.ok refl;
       })
     ]
 run_delays limit sofar now (suc place) m x (i ∷ more) is known =
@@ -194,8 +230,9 @@ run_delays limit sofar now (suc place) m x (i ∷ more) is known =
         | inr later ↦ inr (record {
           item = later.item;
           stands = later.stands;
-          wants = later.wants;
           left = ran later.left;
+          context = later.context;
+          wants = later.wants;
           cut = ap (follow s.outcome) later.cut ∙ rw ok refl;
           ok = later.ok;
           count = ap suc later.count;
@@ -205,6 +242,14 @@ run_delays limit sofar now (suc place) m x (i ∷ more) is known =
             results = text;
             machine = later.left.machine;
           }) (sym (append_assoc s.outcome.result later.left.results (spell_result (refusal (item_number later.item) Delay)))));
+          more = later.more;
+          behind = later.behind;
+          would = ap (follow s.outcome) later.would ∙ rw ok (ap (λ (text : List ℕ). record {
+            status = Nfs4Ok;
+            count = suc (suc place);
+            results = text;
+            machine = later.behind;
+          }) (sym (append_assoc s.outcome.result later.left.results later.more)));
         })
       ]
     ]
@@ -246,18 +291,21 @@ delayed_at r m place results item = record {
   machine = m;
 }
 
-abbrev cut_at : Request → Machine → (place : ℕ) → List ℕ → Answered
-cut_at r m place results = record { text = spell_compound_head Nfs4Ok r.tag place ++ results; machine = m }
-
 record IsDelayedBy (m : Machine) (r : Request) (who : Caller) (size now place : ℕ) (items : List Item) : Type 0 where
   item : Item
   stands : slice_get items place ≡ Some item
-  wants : grows item ≡ true
   results : List ℕ
   left : Machine
+  context : Context
+  wants : grows left.store context item ≡ true
   answer : by_first m r who size now (Some place) items ≡ kept_by r who (first_runs m r who size items) (delayed_at r left place results item)
   cut : (c : Request) (shorter : ℕ) → c.tag ≡ r.tag → c.declared ≤ r.declared → shorter ≤ size
-      → by_first m c who shorter now None (take place items) ≡ kept_by c who (first_runs m r who size items) (cut_at r left place results)
+      → by_first m c who shorter now None (take place items) ≡ kept_by c who (first_runs m r who size items) (with_ok r place results left)
+  more : List ℕ
+  behind : Machine
+  would : (c : Request) (shorter : ℕ) → c.tag ≡ r.tag → c.declared ≤ r.declared → shorter ≤ size
+      → by_first m c who shorter now None (take (suc place) items)
+      ≡ kept_by c who (first_runs m r who size items) (with_ok r (suc place) (results ++ more) behind)
   alone : first_runs m r who size items ≡ None → left ≡ m
 
 abbrev IsEither : Machine → Request → Caller → (size now place : ℕ) → List Item → Type 0
@@ -276,7 +324,7 @@ cut_in_run : (m : Machine) (r c : Request) (who : Caller) (shorter now place : �
     → run channel.response (begun r s channel) now None (renewed m now s) (begins (id_of s.sessionid).client who) (take place more) ≡ left
     → left.status ≡ Nfs4Ok → left.count ≡ place
     → by_first m c who shorter now None (Operation (OpSequence s) ∷ take place more)
-    ≡ keeps c who s (cut_at r left.machine (suc place) (front s channel ++ left.results))
+    ≡ keeps c who s (with_ok r (suc place) (front s channel ++ left.results) left.machine)
 cut_in_run m r c who shorter now place s more channel left runs tag is ok count =
     let k = renewed m now s in
     let tagged : List ℕ → Request = λ t. record c { tag = t } in
@@ -303,9 +351,10 @@ in_run m r who size now place s more channel is runs =
       | inr d ↦ (let results = front s channel ++ d.left.results in inr (record {
         item = d.item;
         stands = d.stands;
-        wants = d.wants;
         results = results;
         left = d.left.machine;
+        context = d.context;
+        wants = d.wants;
         answer = refused ∙ ap (behind_it k r who s channel) d.delayed
             ∙ ap (λ (text : List ℕ). keeps r who s (record { text = spell_compound_head Delay r.tag (suc (suc place)) ++ text; machine = d.left.machine }))
             (sym (append_assoc (front s channel) d.left.results (spell_result (refusal (item_number d.item) Delay))))
@@ -313,7 +362,15 @@ in_run m r who size now place s more channel is runs =
         cut = λ c shorter tag few short.
             cut_in_run m r c who shorter now place s more channel d.left
             (cut_runs r c who size shorter s (session_at m.sessions (id_of s.sessionid)) channel runs few short) tag d.cut d.ok d.count
-            ∙ sym (ap (λ (v : Sequenced). kept_by c who (if_runs s v) (cut_at r d.left.machine (suc place) results)) runs);
+            ∙ sym (ap (λ (v : Sequenced). kept_by c who (if_runs s v) (with_ok r (suc place) results d.left.machine)) runs);
+        more = d.more;
+        behind = d.behind;
+        would = λ c shorter tag few short.
+            cut_in_run m r c who shorter now (suc place) s more channel
+            (record { status = Nfs4Ok; count = suc place; results = d.left.results ++ d.more; machine = d.behind })
+            (cut_runs r c who size shorter s (session_at m.sessions (id_of s.sessionid)) channel runs few short) tag d.would refl refl
+            ∙ ap (λ (text : List ℕ). keeps c who s (with_ok r (suc (suc place)) text d.behind)) (sym (append_assoc (front s channel) d.left.results d.more))
+            ∙ sym (ap (λ (v : Sequenced). kept_by c who (if_runs s v) (with_ok r (suc (suc place)) (results ++ d.more) d.behind)) runs);
         alone = λ none. absurd (let bad : Some s ≡ None = sym (ap (if_runs s) runs) ∙ none in cc);
       }))
     ]
@@ -331,62 +388,94 @@ in_session_either m r who size now (suc place) s more (sequence.Runs channel) is
 
 -- Outside a session.
 
-abbrev IsLone : Machine → Item → (refused plenty : Outcome) → Type 0
-IsLone m i refused plenty = (refused ≡ plenty) ⊎ ((refused ≡ refuses m (item_number i) Delay) × (grows i ≡ true))
+record IsLoneRefused (m : Machine) (i : Item) (refused plenty : Outcome) : Type 0 where
+  is : refused ≡ refuses m (item_number i) Delay
+  wants : (x : Context) → grows m.store x i ≡ true
+  ok : is_ok plenty.status ≡ true
 
-lone : (m : Machine) (n : ℕ) (o : Outcome) → (or_delay true m n o ≡ o) ⊎ (or_delay true m n o ≡ refuses m n Delay)
-lone m n o = elim (cases_Bool (is_ok o.status)) [ inl ok ↦ inr (rw ok refl) | inr bad ↦ inl (rw bad refl) ]
+abbrev IsLone : Machine → Item → (refused plenty : Outcome) → Type 0
+IsLone m i refused plenty = (refused ≡ plenty) ⊎ IsLoneRefused m i refused plenty
+
+lone : (m : Machine) (n : ℕ) (o : Outcome) → (or_delay true m n o ≡ o) ⊎ ((or_delay true m n o ≡ refuses m n Delay) × (is_ok o.status ≡ true))
+lone m n o = elim (cases_Bool (is_ok o.status)) [ inl ok ↦ inr (rw ok refl, ok) | inr bad ↦ inl (rw bad refl) ]
 
 created_delays : (m : Machine) (now : ℕ) (c : CreateSession) (v : clients.Verdict)
     → IsLone m (Operation (OpCreateSession c)) (by_verdict m now true c v) (by_verdict m now false c v)
 created_delays m now c clients.Runs = elim (lone m create_session_number (creates m now c (create m.sessions c.clientid (wish_of m c)))) [
   | inl same ↦ inl same
-  | inr delayed ↦ inr (delayed, refl)
+  | inr delayed ↦ inr (record { is = delayed.0; wants = λ x. refl; ok = delayed.1 })
 ]
 created_delays m now c v = inl refl
 
 carried_delays : (m : Machine) (who : Caller) (now : ℕ) (i : Item) → IsLone m i (carried_out m who now true i) (carried_out m who now false i)
 carried_delays m who now (Operation (OpExchangeId e)) = elim (lone m exchange_id_number (exchange_id m who now e)) [
   | inl same ↦ inl same
-  | inr delayed ↦ inr (delayed, refl)
+  | inr delayed ↦ inr (record { is = delayed.0; wants = λ x. refl; ok = delayed.1 })
 ]
 carried_delays m who now (Operation (OpCreateSession c)) = created_delays m now c (clients.create_verdict m.clients c.clientid c.sequence who.uid)
 carried_delays m who now i = inl refl
 
-first_delays : (m : Machine) (declared : ℕ) (who : Caller) (now : ℕ) (i : Item)
-    → IsLone m i (first_item m declared who now true i) (first_item m declared who now false i)
-first_delays m declared who now i = go (item_fault declared i)
+-- an operation that may stand where so many are declared may stand where fewer are
+place_fewer : (op : Op) (declared few : ℕ) → few ≤ declared → place_fault declared op ≡ None → place_fault few op ≡ None
+place_fewer op declared few low = go (stands_alone op) (is_sequence op)
   where
-    go : (f : Option Status)
-        → IsLone m i (by_fault m (item_number i) f (carried_out m who now true i)) (by_fault m (item_number i) f (carried_out m who now false i))
-    go None = carried_delays m who now i
-    go (Some status) = inl refl
+    go : (alone sequence : Bool) → first_fault ((alone && nat_lt 1 declared, NotOnlyOp) ∷ (not (alone || sequence), OpNotInSession) ∷ []) ≡ None
+        → first_fault ((alone && nat_lt 1 few, NotOnlyOp) ∷ (not (alone || sequence), OpNotInSession) ∷ []) ≡ None
+    go false sequence e = e
+    go true sequence e = elim (cases_Bool (nat_lt 1 declared)) [
+      | inl many ↦ absurd (let bad = (rw many at e) in cc)
+      | inr one ↦ (let most = ltb-false 1 declared one in rw (le-ltb 1 few (omega arith)) refl)
+    ]
 
-alone_delays : (m : Machine) (r : Request) (who : Caller) (now : ℕ) (i : Item)
-    → (answers r (only (first_item m r.declared who now true i)) ≡ answers r (only (first_item m r.declared who now false i)))
-    ⊎ ((answers r (only (first_item m r.declared who now true i)) ≡ delayed_at r m 0 [] i) × (grows i ≡ true))
-alone_delays m r who now i = elim (first_delays m r.declared who now i) [
-  | inl same ↦ inl (ap (λ (o : Outcome). answers r (only o)) same)
-  | inr delayed ↦ inr (
-    ap (λ (o : Outcome). answers r (only o)) delayed.0
-        ∙ ap (λ (status : Status). answers r (record (only (refuses m (item_number i) Delay)) { status = status })) (status_of_refusal (item_number i) Delay),
-    delayed.1,
-  )
-]
+item_fewer : (i : Item) (declared few : ℕ) → few ≤ declared → item_fault declared i ≡ None → item_fault few i ≡ None
+item_fewer (Operation op) declared few low e = place_fewer op declared few low e
+item_fewer (Fault n status) declared few low e = e
+
+record IsFirstRefused (m : Machine) (declared : ℕ) (who : Caller) (now : ℕ) (i : Item) : Type 0 where
+  is : first_item m declared who now true i ≡ refuses m (item_number i) Delay
+  wants : (x : Context) → grows m.store x i ≡ true
+  ok : is_ok (carried_out m who now false i).status ≡ true
+  would : (few : ℕ) → few ≤ declared → first_item m few who now false i ≡ carried_out m who now false i
+
+first_delays : (m : Machine) (declared : ℕ) (who : Caller) (now : ℕ) (i : Item)
+    → (first_item m declared who now true i ≡ first_item m declared who now false i) ⊎ IsFirstRefused m declared who now i
+first_delays m declared who now i = go (item_fault declared i) refl
+  where
+    go : (f : Option Status) → item_fault declared i ≡ f
+        → (first_item m declared who now true i ≡ first_item m declared who now false i) ⊎ IsFirstRefused m declared who now i
+    go (Some status) e = inl (ap (λ f. by_fault m (item_number i) f (carried_out m who now true i)) e
+        ∙ sym (ap (λ f. by_fault m (item_number i) f (carried_out m who now false i)) e))
+    go None e = elim (carried_delays m who now i) [
+      | inl same ↦ inl (ap (λ o. by_fault m (item_number i) (item_fault declared i) o) same)
+      | inr delayed ↦ inr (record {
+        is = ap (λ f. by_fault m (item_number i) f (carried_out m who now true i)) e ∙ delayed.is;
+        wants = delayed.wants;
+        ok = delayed.ok;
+        would = λ few low. ap (λ f. by_fault m (item_number i) f (carried_out m who now false i)) (item_fewer i declared few low e);
+      })
+    ]
 
 items_either : (m : Machine) (r : Request) (who : Caller) (size now place : ℕ) (items : List Item) → IsMachine m → IsEither m r who size now place items
 items_either m r who size now place [] is = inl refl
 items_either m r who size now place (Operation (OpSequence s) ∷ more) is = in_session_either m r who size now place s more (sequenced m r who size s) is refl
-items_either m r who size now zero (item ∷ more) is = elim (alone_delays m r who now item) [
-  | inl same ↦ inl same
+items_either m r who size now zero (item ∷ more) is = elim (first_delays m r.declared who now item) [
+  | inl same ↦ inl (ap (λ (o : Outcome). answers r (only o)) same)
   | inr delayed ↦ inr (record {
     item = item;
     stands = refl;
-    wants = delayed.1;
     results = [];
     left = m;
-    answer = delayed.0;
+    context = begins 0 who;
+    wants = delayed.wants (begins 0 who);
+    answer = ap (λ (o : Outcome). answers r (only o)) delayed.is
+        ∙ ap (λ (status : Status). answers r (record (only (refuses m (item_number item) Delay)) { status = status })) (status_of_refusal (item_number item) Delay);
     cut = λ c shorter tag few short. ap (λ (t : List ℕ). record { text = spell_compound_head Nfs4Ok t 0 ++ []; machine = m }) tag;
+    more = (carried_out m who now false item).result;
+    behind = (carried_out m who now false item).machine;
+    would = λ c shorter tag few short. (let o = carried_out m who now false item in
+        ap (λ (o : Outcome). answers c (only o)) (delayed.would c.declared few)
+        ∙ ap (λ n. record { text = (number n ++ (opaque c.tag ++ number 1)) ++ o.result; machine = o.machine }) (eqb-true _ _ delayed.ok)
+        ∙ ap (λ (t : List ℕ). record { text = spell_compound_head Nfs4Ok t 1 ++ o.result; machine = o.machine }) tag);
     alone = λ none. refl;
   })
 ]
@@ -399,15 +488,23 @@ is_a_cut = λ m r who size now place is. elim (cases_Bool (eqb r.minor 1)) [
     | inr d ↦ inr (record {
       item = d.item;
       stands = d.stands;
-      wants = d.wants;
       results = d.results;
       left = d.left;
+      context = d.context;
+      wants = d.wants;
       answer = rw one d.answer;
       cut = λ c shorter cut short.
           ap (λ (n : ℕ). cond (eqb n 1) (by_first m c who shorter now None c.left) (bare c MinorVersMismatch m)) cut.minor
           ∙ ap (λ (b : Bool). cond b (by_first m c who shorter now None c.left) (bare c MinorVersMismatch m)) one
           ∙ ap (by_first m c who shorter now None) cut.left
           ∙ d.cut c shorter cut.tag cut.declared short;
+      more = d.more;
+      behind = d.behind;
+      would = λ c shorter cut short.
+          ap (λ (n : ℕ). cond (eqb n 1) (by_first m c who shorter now None c.left) (bare c MinorVersMismatch m)) cut.minor
+          ∙ ap (λ (b : Bool). cond b (by_first m c who shorter now None c.left) (bare c MinorVersMismatch m)) one
+          ∙ ap (by_first m c who shorter now None) cut.left
+          ∙ d.would c shorter cut.tag cut.declared short;
       alone = d.alone;
     })
   ]

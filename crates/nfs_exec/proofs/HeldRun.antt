@@ -47,10 +47,11 @@ use Rattle.nfs_exec.specs.Sequence as sequence
 use Rattle.nfs_exec.specs.Sequence.{Sequenced, sequenced}
 use Rattle.nfs_exec.specs.Compound.{carried_out, by_fault, first_item, renewed, begun, bare, in_session, by_first, compound}
 use Rattle.nfs_exec.specs.Laws.{Event, Expires, Asks, stepped, all_stepped}
-use Rattle.nfs_files.specs.Kept.{Told, Spares, Stands}
+use Rattle.nfs_files.specs.Kept.{Told, Stands}
+use Rattle.nfs_files.proofs.Inside.{Spares}
 use Rattle.nfs_exec.specs.Ops.{Done, done, ops, ops_in, ops_of, ops_by, left_by}
-use Rattle.nfs_exec.specs.Held.{AreSpared, StandsBefore, StandsWhile, IsAlone}
-use Rattle.nfs_exec.specs.Runs.{SparesClient, IsKeptBy, AreSparing, LocksAreKept}
+use Rattle.nfs_exec.specs.Held.{IsAlone}
+use Rattle.nfs_exec.proofs.Inside.{AreSpared, StandsBefore, StandsWhile, SparesClient, IsKeptBy, AreSparing, LocksAreKept}
 use Rattle.nfs_files.proofs.KeptOps.{spared, clashing}
 use Rattle.nfs_exec.proofs.OpsRun.{are_run}
 use Rattle.nfs_exec.proofs.WholeRun.{Is, whole_room, whole_event, whole_events, start_whole, otherwise_store}

@@ -19,8 +19,12 @@ pub mod Quiet
 pub mod Rounds
 pub mod OpsRun
 pub mod WholeRun
+pub mod Inside
 pub mod HeldRun
 pub mod ToldRun
+pub mod AnsweredRun
 pub mod Renewing
+pub mod Outlasting
+pub mod Lasting
 pub mod Delayed
 pub mod DelayedOpen

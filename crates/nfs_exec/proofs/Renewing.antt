@@ -97,3 +97,9 @@ least_behind m r who size now client last choice low least = go (renews client m
     go : (b : Bool) → renews client m (Asks r who size now choice) ≡ b → AtLeast (cond b now last) client (compound m r who size now choice).machine.leases
     go true of = compound_least m r who size now client choice of
     go false other = compound_held (AtLeast last client) now (least_held last now client low) m r who size choice least
+
+-- how long a lease lasts does not change
+pub compound_lease : (m : Machine) (r : Request) (who : Caller) (size now : ℕ) (choice : Option ℕ)
+    → (compound m r who size now choice).machine.leases.lease ≡ m.leases.lease
+compound_lease m r who size now choice =
+    compound_held (λ b. b.lease ≡ m.leases.lease) now (record { lease = λ b c is. is; renewal = λ b c is. is; end = λ b c is. is }) m r who size choice refl

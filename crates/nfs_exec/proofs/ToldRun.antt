@@ -13,7 +13,8 @@ use Rattle.nfs_sessions.specs.Id.{id_of}
 use Rattle.nfs_names.specs.declared.context.Context.{Context}
 use Rattle.nfs_names.specs.Context.{begins}
 use Rattle.nfs_names.specs.State.{moment}
-use Rattle.nfs_files.specs.Kept.{Told, Tells}
+use Rattle.nfs_files.specs.Kept.{Told}
+use Rattle.nfs_files.proofs.Inside.{Tells}
 use Rattle.nfs_files.proofs.ToldLocks.{told_stands}
 use Rattle.nfs_exec.specs.Machine.{Machine, is_ok, starts}
 use Rattle.nfs_exec.specs.Behind.{step}
@@ -23,8 +24,7 @@ use Rattle.nfs_exec.specs.Sequence.{Sequenced, sequenced}
 use Rattle.nfs_exec.specs.Compound.{bare, renewed, begun, in_session, by_first, compound}
 use Rattle.nfs_exec.specs.Laws.{Event, Expires, Asks, stepped, all_stepped}
 use Rattle.nfs_exec.specs.Ops.{Done, done, ops, ops_in, ops_of, ops_by, left_by}
-use Rattle.nfs_exec.specs.Held.{AreSpared, StandsWhile, IsToldBy}
-use Rattle.nfs_exec.specs.Runs.{IsKeptFrom, ToldLocksAreKept}
+use Rattle.nfs_exec.proofs.Inside.{AreSpared, StandsWhile, IsToldBy, IsKeptFrom, ToldLocksAreKept}
 use Rattle.nfs_exec.proofs.Bearing.{refused_status}
 use Rattle.nfs_exec.proofs.OpsRun.{are_run}
 use Rattle.nfs_exec.proofs.WholeRun.{Is, whole_room, whole_events, start_whole}

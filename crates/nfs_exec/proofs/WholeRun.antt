@@ -1,5 +1,5 @@
 -- What a state keeps, through whole runs.
-use Rattle.std.proofs.Common.{◌≡◌, ℕ, ◌+◌, Bool, true, false, cond, eqb, ltb, List, [], ◌∷◌, length, Option, Some, None, refl, sym, subst, inl, inr}
+use Rattle.std.proofs.Common.{◌≡◌, ℕ, ◌+◌, Bool, true, false, cond, eqb, ltb, List, [], ◌∷◌, length, Option, Some, None, refl, sym, subst, arith, inl, inr}
 use Rattle.std.specs.Prelude.{Result, Ok, Err, is_some, not, ◌&&◌}
 use Rattle.std.proofs.lemmas.Bool.{cases_Bool}
 use Rattle.nfs_xdr.specs.Caller.{Caller}
@@ -55,6 +55,7 @@ use Rattle.nfs_exec.specs.Runs.{NoneInRuns}
 use Rattle.nfs_files.proofs.TreeSteps.{tree_names}
 use Rattle.nfs_files.proofs.TreeFiles.{IsWhole, tree_files, tree_ended, tree_new}
 use Rattle.nfs_files.proofs.TableSteps.{table_item, table_staying_is}
+use Rattle.nfs_files.proofs.Steady.{steady_names, steady_files}
 
 abbrev pub Is : Machine → Type 0
 Is m = IsWhole m.store
@@ -67,6 +68,7 @@ whole_ended stays s is = record {
   tree = tree_ended stays s is;
   store = store_staying stays s is.store;
   table = table_staying_is stays s.opens is.table;
+  few = is.few;
 }
 
 store_files : (refused : Bool) (s : State) (x : Context) (now : ℕ) (i : Item) → IsWhole s → IsStore (files.comes_to refused s x (moment now) i).state
@@ -98,12 +100,14 @@ whole_step m x now refused i is = elim (cases_Bool (names.on_names i)) [
     tree = tree_names refused m.store x (moment now) i is.tree is.store;
     store = (of_names.keeps refused m.store x (moment now) i on is.tree is.store).store;
     table = subst IsTable (sym (leaves_item refused m.store x (moment now) i).opens) is.table;
+    few = (steady_names refused m.store x (moment now) i).few is.few;
   })
   | inr off ↦ rw off (elim (cases_Bool (files.on_files i)) [
     | inl on ↦ rw on (subst IsWhole (sym (marked_store (moves_opens i) x.client (on_store m (files.comes_to refused m.store x (moment now) i)))) (record {
       tree = tree_files refused m.store x (moment now) i is;
       store = store_files refused m.store x now i is;
       table = table_item refused m.store x (moment now) i is.tree is.store is.table;
+      few = (steady_files refused m.store x (moment now) i).few is.few;
     }))
     | inr other ↦ rw other (subst IsWhole (sym (otherwise_store m x i)) is)
   ])
@@ -245,6 +249,7 @@ start_whole mode instance lease = record {
   tree = tree_new mode (moment 0);
   store = store_at_first mode (moment 0) instance lease;
   table = table_new instance;
+  few = omega arith;
 }
 
 pub none_in_runs : NoneInRuns

@@ -1,30 +1,26 @@
 -- Memory refused at a place of a compound (RFC 8881 sections 2.3, 2.10.6 and 15.1.1.3): it makes no difference, or the operation there
 -- answers NFS4ERR_DELAY, and what is left is as if the compound ended in front of it.
-use Rattle.std.specs.Prelude.{◌≡◌, ◌⊎◌, ℕ, suc, ◌≤◌, Bool, true, false, List, ◌++◌, take, slice_get, Option, Some, None}
+use Rattle.std.specs.Prelude.{◌≡◌, ◌⊎◌, ℕ, suc, ◌≤◌, ◌||◌, Bool, true, false, List, ◌++◌, take, slice_get, Option, Some, None}
 use Rattle.nfs_xdr.specs.declared.status.Status.TheVariants.{Nfs4Ok, Delay}
 use Rattle.nfs_xdr.specs.Caller.{Caller}
-use Rattle.nfs_compound.specs.Operation.{Item, Operation, OpCreate, OpLink, OpRename, OpOpen, OpSetAttr, OpWrite, OpLock, OpLockU, OpExchangeId}
-use Rattle.nfs_compound.specs.Operation.{OpCreateSession}
+use Rattle.nfs_compound.specs.Operation.{Item, Operation, Fault, OpExchangeId, OpCreateSession}
 use Rattle.nfs_compound.specs.Request.{Request, item_number}
 use Rattle.nfs_compound.specs.declared.session_args.Sequence.{Sequence}
 use Rattle.nfs_results.specs.Results.{refusal, spell_result, spell_compound_head}
+use Rattle.nfs_names.specs.declared.context.Context.{Context}
+use Rattle.nfs_names.specs.State.{State}
+use Rattle.nfs_names.specs.Operation as names
+use Rattle.nfs_files.specs.Operation as files
 use Rattle.nfs_exec.specs.Machine.{Machine, IsMachine}
 use Rattle.nfs_exec.specs.Compound.{Answered, keeps, compound}
 use Rattle.nfs_exec.specs.Laws.{first_runs}
 
--- the ten operations that grow a table
-abbrev pub grows : Item → Bool
-grows (Operation (OpCreate c)) = true
-grows (Operation (OpLink name)) = true
-grows (Operation (OpRename a)) = true
-grows (Operation (OpOpen a)) = true
-grows (Operation (OpSetAttr a)) = true
-grows (Operation (OpWrite a)) = true
-grows (Operation (OpLock a)) = true
-grows (Operation (OpLockU a)) = true
-grows (Operation (OpExchangeId e)) = true
-grows (Operation (OpCreateSession c)) = true
-grows item = false
+-- What may want memory: the operations on the tree and on open files that are said to, and the two that make clients and sessions.
+abbrev pub grows : State → Context → Item → Bool
+grows s x (Operation (OpExchangeId e)) = true
+grows s x (Operation (OpCreateSession c)) = true
+grows s x (Operation op) = names.grows s x op || files.grows s x op
+grows s x (Fault number status) = false
 
 -- The same request with its operations from a place on left out: it declares no more of them, and its bytes are its own.
 pub record IsCut (place : ℕ) (r cut : Request) : Type 0 where
@@ -38,22 +34,33 @@ abbrev pub kept_by : Request → Caller → Option Sequence → Answered → Ans
 kept_by r who None a = a
 kept_by r who (Some s) a = keeps r who s a
 
+-- what a compound answers with NFS4_OK of its first operations, so many of them
+abbrev pub with_ok : Request → (count : ℕ) → List ℕ → Machine → Answered
+with_ok r count results left = record { text = spell_compound_head Nfs4Ok r.tag count ++ results; machine = left }
+
 -- The operation at the place answers NFS4ERR_DELAY. Those before it were run, with these results, and left this machine: the compound answers
 -- with their results and that refusal; the request that is cut there, in a record that is no longer and with memory, answers with their
--- results alone; and either leaves that machine, in which its slot keeps its own request and answer.
+-- results alone; and either leaves that machine, in which its slot keeps its own request and answer. With memory the operation itself answers
+-- NFS4_OK: the request that is cut behind it does.
 pub record IsDelayed (m : Machine) (r : Request) (who : Caller) (size now place : ℕ) : Type 0 where
   pub item : Item
   pub stands : slice_get r.left place ≡ Some item
-  pub wants : grows item ≡ true
   pub results : List ℕ
   pub left : Machine
+  pub context : Context
+  pub wants : grows left.store context item ≡ true
   pub answer : compound m r who size now (Some place) ≡ kept_by r who (first_runs m r who size r.left) (record {
     text = spell_compound_head Delay r.tag (suc place) ++ (results ++ spell_result (refusal (item_number item) Delay));
     machine = left;
   })
   pub cut : (c : Request) (shorter : ℕ) → IsCut place r c → shorter ≤ size
       → compound m c who shorter now None
-      ≡ kept_by c who (first_runs m r who size r.left) (record { text = spell_compound_head Nfs4Ok r.tag place ++ results; machine = left })
+      ≡ kept_by c who (first_runs m r who size r.left) (with_ok r place results left)
+  pub more : List ℕ
+  pub behind : Machine
+  pub would : (c : Request) (shorter : ℕ) → IsCut (suc place) r c → shorter ≤ size
+      → compound m c who shorter now None
+      ≡ kept_by c who (first_runs m r who size r.left) (with_ok r (suc place) (results ++ more) behind)
   -- outside a session the machine is as it was
   pub alone : first_runs m r who size r.left ≡ None → left ≡ m
 

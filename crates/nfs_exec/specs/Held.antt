@@ -1,45 +1,79 @@
--- What ends a lock that was told, and what does not (RFC 8881 sections 8.3 and 9.1): an operation that answers NFS4_OK and unlocks a byte
--- of it, locks one in another way or closes its open; and the end of its client.
-use Rattle.std.specs.Prelude.{◌≡◌, ℕ, ◌==◌, Bool, true, false, List, [], ◌∷◌}
+-- A lock that was told, and what ends it: what a client asked and was answered (RFC 8881 sections 8.3, 9.1, 18.2, 18.10 and 18.12). That is an operation
+-- that answers NFS4_OK and unlocks a byte of it, locks one in another way or closes its open; and the end of its client.
+use Rattle.std.specs.Prelude.{◌≡◌, ℕ, ◌≤◌, ◌==◌, Bool, true, false, List, [], ◌∷◌, Some, Ok, option_map}
 use Rattle.std.specs.Option.{option_map_or}
 use Rattle.nfs_xdr.specs.Tables.{In}
-use Rattle.nfs_compound.specs.Operation.{Op, Operation}
+use Rattle.nfs_compound.specs.LockArgs as args
+use Rattle.nfs_compound.specs.declared.lock_args.LockU.{LockU}
+use Rattle.nfs_compound.specs.declared.open_args.Close.{Close}
+use Rattle.nfs_compound.specs.declared.op_num.OpNum.TheVariants as Op
+use Rattle.nfs_compound.specs.Operation.{Operation, OpLock, OpLockU, OpClose}
 use Rattle.nfs_compound.specs.declared.session_args.Sequence.{Sequence}
 use Rattle.nfs_sessions.specs.Id.{id_of}
 use Rattle.nfs_clients.specs.Roster.{ClientRecord}
 use Rattle.nfs_opens.specs.declared.locking.Wish.{Wish}
-use Rattle.nfs_exec.specs.Machine.{Machine, is_ok}
+use Rattle.nfs_opens.specs.declared.records.LockState.{LockState}
+use Rattle.nfs_opens.specs.declared.stateid.CurrentSeqid.TheVariants.{Own}
+use Rattle.nfs_opens.specs.declared.stateid.StateId.{StateId}
+use Rattle.nfs_opens.specs.Table.{lock_at}
+use Rattle.nfs_files.specs.StateIds.{meant}
+use Rattle.nfs_files.specs.Ranges.{wished}
+use Rattle.nfs_files.specs.Kept.{Names, Told, Stands, IsAlike, IsBeside, Clashes}
+use Rattle.nfs_exec.specs.Machine.{Machine}
 use Rattle.nfs_exec.specs.Laws.{Event, ran}
-use Rattle.nfs_files.specs.Kept.{Told, Stands, Locks, Spares, Tells, Clashes}
 use Rattle.nfs_exec.specs.Ops.{Done}
 
--- Where it answered NFS4_OK it is no LOCK of another kind and no LOCKU for the lock state on a byte of it, and no CLOSE of its open.
-abbrev pub SparedBy : Told → Done → Type 0
-SparedBy k d = (op : Op) → d.item ≡ Operation op → is_ok d.status ≡ true → Spares k d.before.store d.context op
+-- a LOCK for the bytes of a wish that answered NFS4_OK and the stateid of lock state n
+pub record LocksFor (d : Done) (n : ℕ) (w : Wish) : Type 0 where
+  pub asked : args.Lock
+  pub is : d.item ≡ Operation (OpLock asked)
+  pub wish : wished d.before.store d.context asked.locktype asked.offset asked.length ≡ Ok w
+  pub names : Names Op.Lock d.result n
+
+-- a LOCKU that did
+pub record UnlocksFor (d : Done) (n : ℕ) (w : Wish) : Type 0 where
+  pub asked : LockU
+  pub is : d.item ≡ Operation (OpLockU asked)
+  pub wish : wished d.before.store d.context asked.locktype asked.offset asked.length ≡ Ok w
+  pub names : Names Op.LockU d.result n
+
+-- a CLOSE of open n, whose stateid may be the current one, that answered NFS4_OK and a stateid that names nothing
+pub record ClosesOf (d : Done) (n : ℕ) : Type 0 where
+  pub asked : Close
+  pub id : StateId
+  pub is : d.item ≡ Operation (OpClose asked)
+  pub means : meant d.context Own asked.open_stateid ≡ Ok id
+  pub opened : id.number ≡ n
+  pub names : Names Op.Close d.result 0
+
+-- It is no LOCK of another kind and no LOCKU for the lock state on a byte of it, and no CLOSE of its open.
+pub record Spares (k : Told) (d : Done) : Type 0 where
+  pub locks : (w : Wish) → LocksFor d k.state w → IsAlike w k
+  pub unlocks : (w : Wish) → UnlocksFor d k.state w → IsBeside w k
+  pub closes : ClosesOf d k.opened → ⊥
 
 abbrev pub AreSpared : Told → List Done → Type 0
-AreSpared k ds = (d : Done) → In d ds → SparedBy k d
+AreSpared k ds = (d : Done) → In d ds → Spares k d
 
--- no LOCK of another lock state that clashes with it was granted
-abbrev pub NoneClashes : Told → Done → Type 0
-NoneClashes k d = (op : Op) (n : ℕ) (w : Wish) → d.item ≡ Operation op → Locks d.before.store d.context op n w → Clashes k n w → ⊥
-
--- it stands before the operation, and who clashes is refused
+-- it stands before the operation, which is no LOCK that clashes with it and answered NFS4_OK
 pub record StandsBefore (k : Told) (d : Done) : Type 0 where
   pub stands : Stands k d.before.store.opens
-  pub refused : NoneClashes k d
+  pub refused : (n : ℕ) (w : Wish) → LocksFor d n w → Clashes k n w → ⊥
 
 -- before each operation, as long as all before it spared it
 abbrev pub StandsWhile : Told → List Done → Type 0
 StandsWhile k [] = Unit {0}
-StandsWhile k (d ∷ more) = StandsBefore k d × (SparedBy k d → Stands k d.behind.store.opens × StandsWhile k more)
+StandsWhile k (d ∷ more) = StandsBefore k d × (Spares k d → Stands k d.behind.store.opens × StandsWhile k more)
 
--- It answered NFS4_OK, and is a LOCK that tells the lock.
-pub record IsToldBy (k : Told) (d : Done) : Type 0 where
-  pub op : Op
-  pub is : d.item ≡ Operation op
-  pub ok : is_ok d.status ≡ true
-  pub tells : Tells k d.before.store d.context op d.behind.store.opens
+-- A LOCK told the lock: its range, or a part of it, in its way; and the open that its lock state then has.
+pub record Tells (k : Told) (d : Done) : Type 0 where
+  pub wish : Wish
+  pub locks : LocksFor d k.state wish
+  pub range : (wish.first ≤ k.first) × (k.first ≤ k.last) × (k.last ≤ wish.last)
+  pub kind : k.kind ≡ wish.kind
+  pub file : k.file ≡ wish.file
+  pub client : k.client ≡ d.context.client
+  pub opened : option_map (λ (l : LockState). l.opened) (lock_at d.behind.store.opens k.state) ≡ Some k.opened
 
 -- Behind it no other id is confirmed for the owner that the client had before it.
 abbrev pub IsAlone : ℕ → (before behind : Machine) → Type 0

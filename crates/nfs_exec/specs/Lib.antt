@@ -16,4 +16,5 @@ pub mod Delayed
 pub mod DelayedOpen
 pub mod Ops
 pub mod Held
+pub mod Renewing
 pub mod Runs

@@ -3,8 +3,8 @@
 ghost use Rattle.nfs_exec.specs.Laws.{RepeatsChangeNothing, RefusalsChangeNothing, NeverRunsAgain, ExpiresOnce, ExpiryFindsNothing};
 ghost use Rattle.nfs_exec.specs.Delayed.{DelayIsACut};
 ghost use Rattle.nfs_exec.specs.DelayedOpen.{IsWorked};
-ghost use Rattle.nfs_exec.specs.Ops.{OpsAreRun, OpsAreRunIn};
-ghost use Rattle.nfs_exec.specs.Runs.{NoneInRuns, LocksAreKept, ToldLocksAreKept};
+ghost use Rattle.nfs_exec.specs.Ops.{OpsAreRun, OpsAreRunIn, AnswersAreTheirs};
+ghost use Rattle.nfs_exec.specs.Runs.{NoneInRuns};
 
 /// A request that is repeated is answered with the reply that was kept, byte for byte, and changes nothing.
 pub fn repeats_change_nothing()
@@ -42,7 +42,8 @@ pub fn a_delayed_open()
     ensures { IsWorked }
 {}
 
-/// The operations of a compound, one by one, are those that it runs: as many, each from where the one before it ended, and the last leaves its machine.
+/// The operations of a compound, one by one, are those that it runs: the first of its items, each from where the one before it ended, to the first that is refused.
+/// Their results, one after the other, are its results, and the last gives its status and leaves its machine.
 pub fn ops_are_run()
     ensures { OpsAreRun }
 {}
@@ -52,17 +53,12 @@ pub fn ops_are_run_in()
     ensures { OpsAreRunIn }
 {}
 
+/// A request that runs is answered with NFS4_OK of its SEQUENCE and the results of its operations, one after the other.
+pub fn answers_are_theirs()
+    ensures { AnswersAreTheirs }
+{}
+
 /// In every run no byte has a writer beside another holder and no two opens clash, before and behind each operation too.
 pub fn none_in_runs()
     ensures { NoneInRuns }
-{}
-
-/// In every run a lock that stands stays while nothing ends it and its client stays, and who clashes with it is refused.
-pub fn locks_are_kept()
-    ensures { LocksAreKept }
-{}
-
-/// In every run the lock that a LOCK tells stands from then on, through the rest of its compound, while nothing ends it.
-pub fn told_locks_are_kept()
-    ensures { ToldLocksAreKept }
 {}

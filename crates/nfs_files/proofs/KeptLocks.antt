@@ -1,14 +1,12 @@
 -- A lock that was told stays through each operation that spares it, and whoever clashes with it is refused.
 use Rattle.std.proofs.Common.{◌≡◌, ◌≢◌, ◌⊎◌, ℕ, suc, ◌+◌, ◌<◌, ◌≤◌, Bool, true, false, cond, eqb, not, List, [], ◌∷◌, ◌++◌, Option, Some, None, refl, sym, ◌∙◌, ap, subst, arith, inl, inr}
-use Rattle.std.specs.Prelude.{◌==◌, ◌&&◌, ◌^◌, nat_le, Result, Ok, Err, if◌then◌else◌, filter, map}
-use Rattle.std.specs.List.{list_any}
+use Rattle.std.specs.Prelude.{◌==◌, ◌^◌, Result, Ok, Err, if◌then◌else◌, filter}
 use Rattle.std.proofs.lemmas.Bool.{cases_Bool, cases_eq, cases_lt, eq-eqb, ne_eqb, eqb-true, leb-true, and_parts}
 use Rattle.nfs_xdr.specs.Tables.{In}
 use Rattle.nfs_xdr.specs.declared.status.Status.{Status}
-use Rattle.nfs_xdr.proofs.Lists.{in_filter, stays_in, push_in, map_in, any_in, find_in}
+use Rattle.nfs_xdr.proofs.Lists.{stays_in, push_in, map_in, any_in, find_in}
 use Rattle.nfs_xdr.proofs.Tables.{in_once, in_bounds}
 use Rattle.nfs_compound.specs.LockArgs as args
-use Rattle.nfs_compound.specs.declared.op_num.OpNum.{OpNum}
 use Rattle.nfs_ranges.specs.declared.Kind.{Kind}
 use Rattle.nfs_ranges.specs.Holders.{Holders, holding, cleared, holds_any, is_within}
 use Rattle.nfs_ranges.specs.Told.{meets}
@@ -16,7 +14,6 @@ use Rattle.nfs_ranges.specs.Facts.{Tells}
 use Rattle.nfs_ranges.proofs.CanonicalLemmas.{within_is}
 use Rattle.nfs_opens.specs.declared.share.Share.{Share}
 use Rattle.nfs_opens.specs.declared.records.LockState.{LockState}
-use Rattle.nfs_opens.specs.declared.records.OpenState.{OpenState}
 use Rattle.nfs_opens.specs.declared.stateid.StateId.{StateId}
 use Rattle.nfs_opens.specs.declared.locking.Wish.{Wish}
 use Rattle.nfs_opens.specs.declared.locking.OpenFault.{OpenFault}
@@ -25,17 +22,16 @@ use Rattle.nfs_opens.specs.declared.judging.Sort.TheVariants.{OpenOnly, LockOnly
 use Rattle.nfs_opens.specs.Holding.{FileHolders, on_file}
 use Rattle.nfs_opens.specs.StateId.{last_number, next_seqid}
 use Rattle.nfs_opens.specs.Table.{Table, Did, lock_at, with_lock}
-use Rattle.nfs_opens.specs.Kept.{IsTable, IsHolder}
+use Rattle.nfs_opens.specs.Kept.{IsTable}
 use Rattle.nfs_opens.specs.Judging.{judge}
-use Rattle.nfs_opens.specs.Closing.{stands, held_within, not_under, without_open, without_lock}
+use Rattle.nfs_opens.specs.Closing.{stands, not_under, without_open, without_lock}
 use Rattle.nfs_opens.specs.Locking as locking
 use Rattle.nfs_opens.specs.Locking.{raised, lock_judged}
-use Rattle.nfs_opens.proofs.FileLemmas.{file_here, file_other}
 use Rattle.nfs_opens.proofs.HolderLemmas.{unmet}
 use Rattle.nfs_opens.proofs.LockLemmas.{holds_none}
 use Rattle.nfs_opens.proofs.StepLemmas.{judged_tells, first_state}
 use Rattle.nfs_files.specs.Lock.{locks_as}
-use Rattle.nfs_files.specs.Kept.{Told, IsHeld, IsBeside, IsAlike, Stands, Clashes}
+use Rattle.nfs_files.specs.Kept.{Told, IsBeside, IsAlike, Stands, Clashes}
 
 -- bytes
 

@@ -1,11 +1,11 @@
 -- The same of each operation on open files.
-use Rattle.std.proofs.Common.{◌≡◌, ◌≢◌, ◌⊎◌, ℕ, suc, ◌+◌, ◌-◌, ◌<◌, ◌≤◌, Bool, true, false, cond, eqb, ltb, not, List, [], ◌∷◌, Option, Some, None, refl, sym, ◌∙◌, ap, subst, arith, inl, inr}
+use Rattle.std.proofs.Common.{◌≡◌, ◌≢◌, ℕ, ◌+◌, ◌-◌, ◌<◌, ◌≤◌, Bool, true, false, cond, not, [], ◌∷◌, Option, Some, None, refl, sym, ◌∙◌, ap, subst, arith, inl, inr}
 use Rattle.std.specs.Prelude.{◌==◌, ◌&&◌, ◌^◌, nat_lt, Result, Ok, Err}
 use Rattle.std.proofs.lemmas.Bool.{cases_Bool, cases_lt, cases_eq, eqb-false, ltb-false}
 use Rattle.nfs_xdr.specs.Checks.{first_fault}
 use Rattle.nfs_xdr.specs.declared.time.Time.{Time}
 use Rattle.nfs_xdr.specs.declared.status.Status.{Status}
-use Rattle.nfs_xdr.specs.declared.status.Status.TheVariants.{Delay, Inval, NoGrace}
+use Rattle.nfs_xdr.specs.declared.status.Status.TheVariants.{Inval, NoGrace}
 use Rattle.nfs_compound.specs.LockArgs as args
 use Rattle.nfs_compound.specs.Arguments.{arguments}
 use Rattle.nfs_compound.specs.OpenArgs.{Open}
@@ -17,7 +17,7 @@ use Rattle.nfs_compound.specs.declared.lock_args.LockType.{LockType}
 use Rattle.nfs_compound.specs.declared.open_args.Close.{Close}
 use Rattle.nfs_compound.specs.declared.open_args.OpenDowngrade.{OpenDowngrade}
 use Rattle.nfs_compound.specs.Operation.{Op, OpClose, OpCommit, OpFreeStateid, OpLock, OpLockT, OpLockU, OpOpen, OpOpenDowngrade, OpRead, OpSetAttr, OpTestStateid, OpWrite}
-use Rattle.nfs_ranges.specs.Holders.{Holders, cleared, holds_any, is_within}
+use Rattle.nfs_ranges.specs.Holders.{cleared, holds_any, is_within}
 use Rattle.nfs_ranges.specs.declared.Held.{Held}
 use Rattle.nfs_opens.specs.declared.share.Share.{Share}
 use Rattle.nfs_opens.specs.declared.stateid.StateId.{StateId}
@@ -30,7 +30,7 @@ use Rattle.nfs_opens.specs.declared.judging.Sort.TheVariants.{OpenOnly, LockOnly
 use Rattle.nfs_opens.specs.declared.locking.Wish.{Wish}
 use Rattle.nfs_opens.specs.declared.locking.OpenFault.{OpenFault}
 use Rattle.nfs_opens.specs.declared.locking.OpenFault.TheVariants as F
-use Rattle.nfs_opens.specs.Table.{Table, Did, Asked, open_at, lock_at, with_open}
+use Rattle.nfs_opens.specs.Table.{Table, Asked, open_at, lock_at, with_open}
 use Rattle.nfs_opens.specs.Kept.{IsTable}
 use Rattle.nfs_opens.specs.Judging.{judge}
 use Rattle.nfs_opens.specs.Closing as closing
@@ -41,12 +41,12 @@ use Rattle.nfs_names.specs.declared.node.Node.{Node}
 use Rattle.nfs_names.specs.State.{State}
 use Rattle.nfs_names.specs.Ending.{with_opens}
 use Rattle.nfs_names.proofs.Found.{came}
-use Rattle.nfs_names.specs.Outcome.{Outcome, answers, refuses, checked, passed, mapped, is_ok, or_delay}
-use Rattle.nfs_names.proofs.Untouched.{unused_opens, by_answers}
+use Rattle.nfs_names.specs.Outcome.{Outcome, answers, checked, passed, mapped, is_ok, or_delay}
+use Rattle.nfs_names.proofs.Untouched.{unused_opens}
 use Rattle.nfs_files.specs.StateIds.{meant}
 use Rattle.nfs_files.specs.Target.{target, the_file}
-use Rattle.nfs_files.specs.Ranges.{all_ones, last_of, range, wish, wished, wished_by}
-use Rattle.nfs_files.specs.Operation.{one, grows, one_or_delay}
+use Rattle.nfs_files.specs.Ranges.{all_ones, range, wish, wished, wished_by}
+use Rattle.nfs_files.specs.Operation.{one, grows}
 use Rattle.nfs_files.specs.Close.{closed, closes, close}
 use Rattle.nfs_files.specs.Commit.{commit}
 use Rattle.nfs_files.specs.FreeStateid.{frees, free_stateid}
@@ -59,8 +59,8 @@ use Rattle.nfs_files.specs.Read.{read}
 use Rattle.nfs_files.specs.SetAttr.{was_set, set_attr}
 use Rattle.nfs_files.specs.TestStateid.{test_stateid}
 use Rattle.nfs_files.specs.Write.{was_written, write}
-use Rattle.nfs_files.specs.Kept.{Told, IsBeside, IsAlike, Locks, Unlocks, Closes, Spares, Stands, Clashes}
-use Rattle.nfs_files.specs.Laws.{SparedLocksStay, ClashesAreRefused}
+use Rattle.nfs_files.specs.Kept.{Told, IsBeside, IsAlike, Stands}
+use Rattle.nfs_files.proofs.Inside.{Locks, Unlocks, Closes, Spares, SparedLocksStay, ClashesAreNotGranted}
 use Rattle.nfs_files.proofs.KeptLocks.{stands_by, stands_closed, stands_freed, stands_raised, stands_locked, lock_grants, outside, cleared_other, refused}
 
 -- a refusal leaves the state, an answer what follows from what was found
@@ -280,7 +280,7 @@ wish_parts x how offset size d (Err status) w is e = absurd cc
 wish_parts x how offset size d (Ok last) w is e = let same : wish x how offset last d.number ≡ w = cc in
     (sym (ap (λ (w : Wish). w.first) same), is ∙ ap (λ (w : Wish). Ok w.last) same)
 
-id_parts : {A : Type 0} (m : A) (wish : A → Wish) (make : StateId → A) (w : Wish) → ((id : StateId) → wish (make id) ≡ w) → (v : Result StateId Status)
+pub id_parts : {A : Type 0} (m : A) (wish : A → Wish) (make : StateId → A) (w : Wish) → ((id : StateId) → wish (make id) ≡ w) → (v : Result StateId Status)
     → mapped make v ≡ Ok m → w ≡ wish m
 id_parts m wish make w each (Err status) e = absurd cc
 id_parts m wish make w each (Ok id) e = let same : make id ≡ m = cc in sym (each id) ∙ ap wish same
@@ -290,7 +290,7 @@ flag_parts : (x : Context) (given : Stateid) (w : Wish) (b : Bool) (m : _)
 flag_parts x given w true m e = absurd cc
 flag_parts x given w false m e = id_parts m (λ k. k.wish) _ w (λ id. refl) (meant x Any given) e
 
-reclaim_parts : (x : Context) (a : args.Lock) (v : Result Wish Status) (given : Stateid) (m : _)
+pub reclaim_parts : (x : Context) (a : args.Lock) (v : Result Wish Status) (given : Stateid) (m : _)
     → wished_by x given (checked v (of_lock.reclaim_checks a)) ≡ Ok m → v ≡ Ok m.wish
 reclaim_parts x a (Err status) given m e = absurd cc
 reclaim_parts x a (Ok w) given m e = ap Ok (flag_parts x given w a.reclaim m e)
@@ -301,7 +301,7 @@ lock_range s x a m e =
     let d = came (the_file s x) _ m.wish (reclaim_parts x a (wished s x a.locktype a.offset a.length) (of_lock.stateid_in a.locker) m e) in
     wish_parts x a.locktype a.offset a.length d.found (range a.offset a.length) m.wish refl d.then
 
-pub clashing : ClashesAreRefused
+pub clashing : ClashesAreNotGranted
 clashing k s x op n w table some is lock clash =
     let parts = lock_range s x lock.asked (record { wish = w; id = lock.id }) lock.judged in
     let first = parts.0 in

@@ -24,9 +24,12 @@ pub mod OwnOpens
 pub mod Arms
 pub mod Whole
 pub mod OpenTree
+pub mod Inside
 pub mod KeptLocks
 pub mod KeptOps
 pub mod ToldLocks
+pub mod Steady
+pub mod ToldGrants
 pub mod TableSteps
 pub mod TreeSteps
 pub mod TreeFiles

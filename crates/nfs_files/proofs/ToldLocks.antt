@@ -1,12 +1,12 @@
 -- A LOCK that is granted leaves the lock that it tells.
-use Rattle.std.proofs.Common.{◌≡◌, ℕ, ◌+◌, ◌≤◌, Bool, true, false, eqb, Option, Some, refl, sym, ◌∙◌, ap, subst, arith, inl, inr}
-use Rattle.std.specs.Prelude.{◌==◌, ◌&&◌, Result, Ok, Err}
+use Rattle.std.proofs.Common.{◌≡◌, ℕ, ◌+◌, ◌≤◌, Bool, true, false, Some, refl, sym, ◌∙◌, ap, subst, arith, inl, inr}
+use Rattle.std.specs.Prelude.{◌==◌, ◌&&◌, Ok}
 use Rattle.std.proofs.lemmas.Bool.{eq-eqb, eqb-true}
 use Rattle.nfs_xdr.specs.declared.time.Time.{Time}
 use Rattle.nfs_xdr.proofs.Lists.{find_in}
 use Rattle.nfs_compound.specs.LockArgs as args
 use Rattle.nfs_compound.specs.Arguments.{arguments}
-use Rattle.nfs_compound.specs.Operation.{Op, OpLock}
+use Rattle.nfs_compound.specs.Operation.{OpLock}
 use Rattle.nfs_ranges.specs.declared.Kind.{Kind}
 use Rattle.nfs_ranges.specs.Holders.{holding, is_within}
 use Rattle.nfs_ranges.proofs.CanonicalLemmas.{within_is}
@@ -21,8 +21,8 @@ use Rattle.nfs_names.specs.State.{State}
 use Rattle.nfs_names.specs.Outcome.{is_ok, or_delay}
 use Rattle.nfs_files.specs.Operation.{one, grows, one_or_delay}
 use Rattle.nfs_files.specs.Lock as of_lock
-use Rattle.nfs_files.specs.Kept.{Told, IsHeld, Tells, Stands}
-use Rattle.nfs_files.specs.Laws.{ToldLocksStand}
+use Rattle.nfs_files.specs.Kept.{Told, IsHeld}
+use Rattle.nfs_files.proofs.Inside.{ToldLocksStand}
 use Rattle.nfs_files.proofs.KeptLocks.{IsGranted, lock_grants}
 use Rattle.nfs_files.proofs.KeptOps.{lock_ok}
 
@@ -31,7 +31,7 @@ held_now : (held : FileHolders) (file n : ℕ) (kind : Kind) (first last f s b :
     → on_file held file (λ h. holding h n kind first last) f s b ≡ Some kind
 held_now held file n kind first last f s b on number within = rw (eq-eqb f file on, eq-eqb n s number, within) refl
 
-granted_held : (k : Told) (t : Table) (w : Wish) (did : Did StateId OpenFault) (id : StateId) → IsGranted t w did id → id.number ≡ k.state
+pub granted_held : (k : Told) (t : Table) (w : Wish) (did : Did StateId OpenFault) (id : StateId) → IsGranted t w did id → id.number ≡ k.state
     → k.file ≡ w.file → k.kind ≡ w.kind → w.first ≤ k.first → k.last ≤ w.last → IsHeld k did.after
 granted_held k t w did id (inl more) number file kind from to b lo hi =
     ap (λ (u : Table). u.held k.file k.state b) more.left
@@ -50,7 +50,7 @@ unfolding of_lock.lock
 lock_left s x now a m id judged granted = rw (judged, granted) refl
 
 -- a LOCK that is granted and not delayed leaves what it does to the opens
-left_by : (s : State) (x : Context) (now : Time) (refused : Bool) (a : args.Lock) (m : _) (id : StateId) → of_lock.locking s x a ≡ Ok m
+pub left_by : (s : State) (x : Context) (now : Time) (refused : Bool) (a : args.Lock) (m : _) (id : StateId) → of_lock.locking s x a ≡ Ok m
     → (of_lock.locks_as s.opens a.locker m.id m.wish).answer ≡ Ok id → is_ok (one_or_delay refused s x now (OpLock a)).result ≡ true
     → (one_or_delay refused s x now (OpLock a)).state.opens ≡ (of_lock.locks_as s.opens a.locker m.id m.wish).after
 left_by s x now refused a m id judged granted ok = go (grows s x (OpLock a) && refused) ok

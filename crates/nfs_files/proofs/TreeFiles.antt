@@ -75,6 +75,7 @@ use Rattle.nfs_files.proofs.WriteRows.{write_goes, write_stops}
 use Rattle.nfs_files.proofs.SetRows.{set_goes, set_stops}
 use Rattle.nfs_files.proofs.OpenTree.{opens_leave_trees}
 use Rattle.nfs_files.proofs.KeptOps.{found}
+use Rattle.nfs_files.proofs.Steady.{Few}
 use Rattle.nfs_files.proofs.TreeSteps.{Is, tree_unused, tree_names}
 
 abbrev In_ : Outcome → Type 0
@@ -85,6 +86,7 @@ pub record IsWhole (s : State) : Type 0 where
   pub tree : IsTree s.tree
   pub store : IsStore s
   pub table : IsTable s.opens
+  pub few : Few s.opens
 
 -- WRITE
 write_refused : (s : State) (x : Context) (now : Time) (w : Write) (status : Status) → writable s x w.stateid (current s x) ≡ Err status → Is s → In_ (write s x now w)

@@ -1,5 +1,5 @@
 -- The run of a lock that is kept, computed.
-use Rattle.std.proofs.Common.{◌≡◌, ℕ, ◌+◌, Bool, true, false, cond, List, [], ◌∷◌, ◌++◌, take, refl, sym, ◌∙◌, ap, subst, arith, inl, inr}
+use Rattle.std.proofs.Common.{◌≡◌, ℕ, ◌+◌, ◌≤◌, Bool, true, false, cond, List, [], ◌∷◌, ◌++◌, length, take, drop, refl, sym, ◌∙◌, ap, subst, arith, inl, inr}
 use Rattle.std.specs.Prelude.{◌==◌, ◌&&◌, not, nat_le, bytes_eq, if◌then◌else◌}
 use Rattle.std.proofs.lemmas.Bool.{and_parts, eqb-true, eq-eqb, leb-true, true≢false}
 use Rattle.std.proofs.lemmas.Slice.Eq.{bytes_eq-Decides}
@@ -12,6 +12,9 @@ use Rattle.nfs_xdr.specs.AuthSys.{auth_sys}
 use Rattle.nfs_rpc.specs.Reply.{spell_head}
 use Rattle.nfs_compound.specs.ReadRequest.{request_at, items_at, item_at}
 use Rattle.nfs_compound.specs.OpCodec.{op_at, fault_at}
+use Rattle.nfs_compound.specs.declared.op_num.OpNum.{OpNum}
+use Rattle.nfs_compound.specs.declared.op_num.OpNum.TheVariants as Num
+use Rattle.nfs_results.specs.Results.{done_head}
 use Rattle.nfs_compound.specs.Operation.{Item, Operation, OpLock, OpLockU, OpClose, OpPutRootFh}
 use Rattle.nfs_compound.specs.ChannelAttrs.{channel_attrs}
 use Rattle.nfs_compound.specs.ArgCodecs.{sec_parms, exchange_id_args, create_session_args, sequence_args, protected, impl_id, lock_type, open_to_lock_owner}
@@ -39,15 +42,15 @@ use Rattle.nfs_files.specs.Ranges.{range, wished}
 use Rattle.nfs_files.specs.Denied.{denied}
 use Rattle.nfs_files.specs.Lock.{lock}
 use Rattle.nfs_files.specs.LockU.{lock_u}
-use Rattle.nfs_files.specs.Kept.{Told}
-use Rattle.nfs_exec.specs.Machine.{Machine, is_ok}
+use Rattle.nfs_files.specs.Kept.{Told, Names}
+use Rattle.nfs_exec.specs.Machine.{Machine}
 use Rattle.nfs_exec.specs.Ops.{Done}
-use Rattle.nfs_exec.specs.Held.{SparedBy, AreSpared, IsAlone}
+use Rattle.nfs_exec.specs.Held.{Spares, AreSpared, IsAlone}
 use Rattle.nfs_serve.specs.Step.{State, step}
-use Rattle.nfs_serve.specs.Points.{Came, next, taken, before, ops_of}
-use Rattle.nfs_serve.specs.Kept.{renews_by}
+use Rattle.nfs_serve.specs.Points.{Came, next, all_next, taken, before, ops_of}
+use Rattle.nfs_serve.specs.Kept.{renews_by, AreInTime}
 use Rattle.nfs_serve.specs.HeldLock as worked
-use Rattle.nfs_serve.specs.HeldLock.{start, locks, AreInTime, IsHeldTo}
+use Rattle.nfs_serve.specs.HeldLock.{start, locks, IsHeldTo, AreBothTold}
 
 -- An operation that was refused, or that is none of the three that end locks, spares each lock.
 
@@ -57,32 +60,40 @@ ends (Operation (OpLockU a)) = true
 ends (Operation (OpClose a)) = true
 ends i = false
 
+-- the status in the bytes of a result is NFS4_OK
+abbrev says_ok : List ℕ → Bool
+says_ok result = bytes_eq (take 4 (drop 4 result)) (0 ∷ 0 ∷ 0 ∷ 0 ∷ [])
+
 abbrev spares : Done → Bool
-spares d = not (is_ok d.status && ends d.item)
+spares d = not (says_ok d.result && ends d.item)
 
 abbrev all_spare : List Done → Bool
 all_spare [] = true
 all_spare (d ∷ ds) = spares d && all_spare ds
 
-no_end : (ok end : Bool) → not (ok && end) ≡ true → ok ≡ true → end ≡ false
-no_end true true e is = absurd (true≢false (sym e))
-no_end true false e is = refl
-no_end false end e is = absurd (true≢false (sym is))
+named_ok : (op : OpNum) (id : List ℕ) → says_ok (done_head op ++ id) ≡ true
+unfolding number
+named_ok op id = refl
 
-spared : (k : Told) (d : Done) → spares d ≡ true → SparedBy k d
-spared k d e op is ok = record {
-  locks = λ n w l same. absurd (true≢false (sym (ap (λ op. ends (Operation op)) l.is) ∙ none));
-  unlocks = λ n w l same. absurd (true≢false (sym (ap (λ op. ends (Operation op)) l.is) ∙ none));
-  closes = λ n l same. true≢false (sym (ap (λ op. ends (Operation op)) l.is) ∙ none);
-}
+ended : (d : Done) (op : OpNum) (n : ℕ) → spares d ≡ true → ends d.item ≡ true → Names op d.result n → ⊥
+ended d op n spared end names = go (says_ok d.result) (ends d.item) spared (ap says_ok names.answers ∙ named_ok op names.id) end
   where
-    none : ends (Operation op) ≡ false
-    none = ap ends (sym is) ∙ no_end (is_ok d.status) (ends d.item) e ok
+    go : (ok end : Bool) → not (ok && end) ≡ true → ok ≡ true → end ≡ true → ⊥
+    go true true e ok end = true≢false (sym e)
+    go true false e ok end = true≢false (sym end)
+    go false end e ok is = true≢false (sym ok)
+
+spared : (k : Told) (d : Done) → spares d ≡ true → Spares k d
+spared k d e = record {
+  locks = λ w l. absurd (ended d Num.Lock k.state e (ap ends l.is) l.names);
+  unlocks = λ w l. absurd (ended d Num.LockU k.state e (ap ends l.is) l.names);
+  closes = λ l. ended d Num.Close 0 e (ap ends l.is) l.names;
+}
 
 all_spared : (k : Told) (ds : List Done) → all_spare ds ≡ true → AreSpared k ds
 all_spared k [] e d there = absurd there
 all_spared k (x ∷ ds) e d there = (let p = and_parts _ _ e in elim there [
-  | inl here ↦ subst (SparedBy k) (sym here) (spared k x p.0)
+  | inl here ↦ subst (Spares k) (sym here) (spared k x p.0)
   | inr later ↦ all_spared k ds p.1 d later
 ])
 
@@ -116,18 +127,19 @@ alone client owner first left e f a b in_a is in_b same confirmed =
 
 -- So the premises can be tested.
 
-abbrev in_time : Told → List ℕ → (last : ℕ) → State → List Came → Bool
-in_time k owner last s [] = true
-in_time k owner last s (c ∷ more) =
-    nat_le (taken s c) (last + s.machine.leases.lease)
+abbrev in_time : Told → List ℕ → (lease last : ℕ) → State → List Came → Bool
+in_time k owner lease last s [] = true
+in_time k owner lease last s (c ∷ more) =
+    nat_le (taken s c) (last + lease)
     && (all_spare (ops_of s c)
     && (all_own k.client owner (before s c).clients.records
     && (all_own k.client owner (next s c).machine.clients.records
-    && in_time k owner (if renews_by k.client s c then taken s c else last) (next s c) more)))
+    && in_time k owner lease (if renews_by k.client s c then taken s c else last) (next s c) more)))
 
-are_in_time : (k : Told) (owner : List ℕ) (last : ℕ) (s : State) (cs : List Came) → in_time k owner last s cs ≡ true → AreInTime k last s cs
-are_in_time k owner last s [] e = tt
-are_in_time k owner last s (c ∷ more) e =
+are_in_time : (k : Told) (owner : List ℕ) (lease last : ℕ) (s : State) (cs : List Came) → in_time k owner lease last s cs ≡ true
+    → AreInTime k lease last s cs (λ last t. Unit {0})
+are_in_time k owner lease last s [] e = tt
+are_in_time k owner lease last s (c ∷ more) e =
     let p = and_parts _ _ e in
     let q = and_parts _ _ p.1 in
     let r = and_parts _ _ q.1 in
@@ -135,8 +147,30 @@ are_in_time k owner last s (c ∷ more) e =
       leb-true _ _ p.0,
       all_spared k (ops_of s c) q.0,
       alone k.client owner (before s c) (next s c).machine r.0 t.0,
-      are_in_time k owner (if renews_by k.client s c then taken s c else last) (next s c) more t.1,
+      are_in_time k owner lease (if renews_by k.client s c then taken s c else last) (next s c) more t.1,
     )
+
+abbrev last_of : Done → List Done → Done
+last_of d [] = d
+last_of d (e ∷ ds) = last_of e ds
+
+-- and up to what holds behind them
+abbrev last_of_all : ℕ → ℕ → State → List Came → ℕ
+last_of_all client last s [] = last
+last_of_all client last s (c ∷ more) = last_of_all client (if renews_by client s c then taken s c else last) (next s c) more
+
+up_to : (k : Told) (lease last : ℕ) (s : State) (cs : List Came) (Then : ℕ → State → Type 0) → AreInTime k lease last s cs (λ last t. Unit {0})
+    → Then (last_of_all k.client last s cs) (all_next s cs) → AreInTime k lease last s cs Then
+up_to k lease last s [] Then all holds = holds
+up_to k lease last s (c ∷ more) Then all holds =
+    (all.0, all.1, all.2, up_to k lease (if renews_by k.client s c then taken s c else last) (next s c) more Then all.3 holds)
+
+three : (x : Done) (ds : List Done) → length ds ≡ 3 → ds ≡ take 2 ds ++ last_of x ds ∷ []
+three x [] e = absurd (omega arith)
+three x (a ∷ []) e = absurd (omega arith)
+three x (a ∷ b ∷ []) e = absurd (omega arith)
+three x (a ∷ b ∷ c ∷ []) e = refl
+three x (a ∷ b ∷ c ∷ d ∷ more) e = absurd (omega arith)
 
 -- what stands behind the list is of no account
 nothing : Done
@@ -145,14 +179,11 @@ nothing = record {
   context = begins 0 (record { uid = 0; gid = 0; gids = [] });
   item = Operation OpPutRootFh;
   status = Nfs4Ok;
+  result = [];
   behind = start.machine;
 }
 
-abbrev last_of : Done → List Done → Done
-last_of d [] = d
-last_of d (e ∷ ds) = last_of e ds
-
-abbrev asked : Lock
+abbrev pub asked : Lock
 asked = record {
   locktype = LockTypes.Write;
   reclaim = false;
@@ -178,33 +209,66 @@ is_held_to = record {
   lock = last_of nothing (ops_of start locks);
   ops = refl;
   tells = record {
-    op = OpLock asked;
-    is = refl;
-    ok = refl;
-    tells = record {
-      wish = record { client = worked.told.client; file = 2; kind = Write; first = 0; last = 0 };
-      lock = record { number = 2; client = worked.told.client; owner = 0x6c ∷ []; file = 2; opened = 1; seqid = 1 };
-      locks = record {
-        asked = asked;
-        id = record { seqid = 0; instance = 7; number = 1 };
-        answer = record { seqid = 1; instance = 7; number = 2 };
-        is = refl;
-        judged = refl;
-        granted = refl;
-        state = refl;
+    wish = record { client = worked.told.client; file = 2; kind = Write; first = 0; last = 0 };
+    locks = record {
+      asked = asked;
+      is = refl;
+      wish = refl;
+      names = record {
+        id = 0 ∷ 0 ∷ 0 ∷ 1 ∷ 0 ∷ 0 ∷ 0 ∷ 7 ∷ 0 ∷ 0 ∷ 0 ∷ 0 ∷ 0 ∷ 0 ∷ 0 ∷ 2 ∷ [];
+        answers = refl;
+        long = refl;
+        number = refl;
       };
-      range = (omega arith, omega arith, omega arith);
-      kind = refl;
-      file = refl;
-      stands = refl;
-      client = refl;
-      opened = refl;
     };
+    range = (omega arith, omega arith, omega arith);
+    kind = refl;
+    file = refl;
+    client = refl;
+    opened = refl;
   };
-  renewed = refl;
-  kept = are_in_time worked.told (0x41 ∷ []) 102 worked.locked (worked.waits ++ worked.clashes ∷ []) refl;
+  kept = are_in_time worked.told (0x41 ∷ []) 90 102 worked.locked (worked.waits ++ worked.clashes ∷ []) refl;
   held = refl;
   denied = refl;
   still = refl;
   unlocked = refl;
+}
+
+-- what B asks for beside it
+abbrev beside : Lock
+beside = record asked { offset = 1 }
+
+pub are_both_told : AreBothTold
+unfolding number hyper step call_of header opaque_auth opaque_at fixed_at behind_header caller_of auth_sys spell_head
+    request_at items_at item_at op_at fault_at exchange_id_args create_session_args sequence_args channel_attrs sec_parms protected impl_id pieces_at flag_at
+    stateid state_owner compound_attributes.bitmap compound_attributes.attributes create_how open_how delegation_type open_claim open_args
+    lock_type open_to_lock_owner exist_lock_owner locker lock_args lock_u_args
+    results.exchange_id results.create_session results.sequence results.open_ok results.change_info results.attr_set results.denied
+    told attributes settings_of handle wanted_of current permits put_fh put_root_fh asked_for open_file the_file target range wished denied lock lock_u
+are_both_told = record {
+  renewed = refl;
+  moment = refl;
+  held = refl;
+  until = take 2 (ops_of worked.asked worked.goes_beside);
+  second = last_of nothing (ops_of worked.asked worked.goes_beside);
+  locks = record {
+    asked = beside;
+    is = refl;
+    wish = refl;
+    names = record {
+      id = 0 ∷ 0 ∷ 0 ∷ 1 ∷ 0 ∷ 0 ∷ 0 ∷ 7 ∷ 0 ∷ 0 ∷ 0 ∷ 0 ∷ 0 ∷ 0 ∷ 0 ∷ 4 ∷ [];
+      answers = refl;
+      long = refl;
+      number = refl;
+    };
+  };
+  between = up_to worked.told 90 102 worked.locked worked.waits
+      (λ last t. (ops_of t worked.goes_beside
+      ≡ take 2 (ops_of worked.asked worked.goes_beside) ++ last_of nothing (ops_of worked.asked worked.goes_beside) ∷ [])
+      × (taken t worked.goes_beside ≤ last + 90)
+      × AreSpared worked.told (take 2 (ops_of worked.asked worked.goes_beside))) (are_in_time worked.told (0x41 ∷ []) 90 102 worked.locked worked.waits refl) (
+        three nothing (ops_of worked.asked worked.goes_beside) refl,
+        omega arith,
+        all_spared worked.told (take 2 (ops_of worked.asked worked.goes_beside)) refl,
+      );
 }

@@ -40,4 +40,7 @@ pub mod SeenWrite
 pub mod Points
 pub mod Forms
 pub mod Kept
+pub mod KeptInside
+pub mod Outlived
 pub mod HeldLock
+pub mod WrongLocks

@@ -2,16 +2,17 @@
 -- whose leases last 90 seconds, comes a client `A`, which makes the file `f` and locks its first byte. It renews its lease with SEQUENCEs
 -- alone, each 90 seconds behind the last. A client `B` comes meanwhile, opens `f`, and asks for the byte 90 seconds behind the last renewal:
 -- it is denied. Then A unlocks.
-use Rattle.std.specs.Prelude.{◌≡◌, ℕ, ◌+◌, ◌*◌, ◌^◌, ◌≤◌, List, [], ◌∷◌, ◌++◌, map, Some, None, if◌then◌else◌}
+use Rattle.std.specs.Prelude.{◌≡◌, ℕ, ◌+◌, ◌*◌, ◌^◌, ◌≤◌, List, [], ◌∷◌, ◌++◌, map, Some, None}
 use Rattle.nfs_xdr.specs.declared.status.Status.{Status}
 use Rattle.nfs_xdr.specs.declared.status.Status.TheVariants.{Nfs4Ok, Denied}
 use Rattle.nfs_ranges.specs.declared.Kind.TheVariants.{Write}
 use Rattle.nfs_files.specs.Kept.{Told}
 use Rattle.nfs_exec.specs.Ops.{Done}
-use Rattle.nfs_exec.specs.Held.{AreSpared, IsToldBy, IsAlone}
+use Rattle.nfs_exec.specs.Held.{LocksFor, AreSpared, Tells}
 use Rattle.nfs_serve.specs.Step.{State, new_state}
-use Rattle.nfs_serve.specs.Points.{Came, next, all_next, taken, before, ops_of}
-use Rattle.nfs_serve.specs.Kept.{renews_by}
+use Rattle.nfs_serve.specs.Points.{Came, next, all_next, reached, taken, before, ops_of}
+use Rattle.nfs_serve.specs.Kept.{AreInTime}
+use Rattle.nfs_serve.specs.Outlived.{last_renewal}
 use Rattle.nfs_serve.specs.Exchanges.{words}
 use Rattle.nfs_serve.specs.LostReply.{call, exchange_id, create_session}
 
@@ -24,10 +25,10 @@ abbrev pub in_session : (client number operations : ℕ) → List ℕ → List �
 in_session client number operations behind = words (0 ∷ 1 ∷ operations ∷ 53 ∷ 7 ∷ client ∷ 0 ∷ client ∷ number ∷ 0 ∷ 0 ∷ 0 ∷ []) ++ behind
 
 -- PUTROOTFH; OPEN by the open owner `o` for reading and writing, which denies nothing, of `f`, which is made where it is not there, without
--- attributes; and LOCK of one byte from 0 on as WRITE_LT, by the lock owner `l`, new under the current stateid, which is the open's
-abbrev pub opens_and_locks : List ℕ
-opens_and_locks = words (24 ∷ 18 ∷ 0 ∷ 3 ∷ 0 ∷ 0 ∷ 0 ∷ 1 ∷ 0x6f00_0000 ∷ 1 ∷ 0 ∷ 0 ∷ 0 ∷ 0 ∷ 1 ∷ 0x6600_0000
-    ∷ 12 ∷ 2 ∷ 0 ∷ 0 ∷ 0 ∷ 0 ∷ 1 ∷ 1 ∷ 0 ∷ 1 ∷ 0 ∷ 0 ∷ 0 ∷ 0 ∷ 0 ∷ 0 ∷ 1 ∷ 0x6c00_0000 ∷ [])
+-- attributes; and LOCK of one byte from an offset on as WRITE_LT, by the lock owner `l`, new under the current stateid, which is the open's
+abbrev pub opens_and_locks : (offset : ℕ) → List ℕ
+opens_and_locks offset = words (24 ∷ 18 ∷ 0 ∷ 3 ∷ 0 ∷ 0 ∷ 0 ∷ 1 ∷ 0x6f00_0000 ∷ 1 ∷ 0 ∷ 0 ∷ 0 ∷ 0 ∷ 1 ∷ 0x6600_0000
+    ∷ 12 ∷ 2 ∷ 0 ∷ 0 ∷ offset ∷ 0 ∷ 1 ∷ 1 ∷ 0 ∷ 1 ∷ 0 ∷ 0 ∷ 0 ∷ 0 ∷ 0 ∷ 0 ∷ 1 ∷ 0x6c00_0000 ∷ [])
 
 -- PUTFH of object 2, and LOCKU of one byte from 0 on by lock state 2, whose seqid is 1
 abbrev pub unlocks : List ℕ
@@ -37,7 +38,7 @@ abbrev pub earlier : List Came
 earlier = came 100 1 (exchange_id 0x4100_0000) ∷ came 101 2 (create_session 1) ∷ []
 
 abbrev pub locks : Came
-locks = came 102 3 (in_session 1 1 4 opens_and_locks)
+locks = came 102 3 (in_session 1 1 4 (opens_and_locks 0))
 
 -- the first renewal of A is at the last second, and so is the second
 abbrev pub waits : List Came
@@ -45,13 +46,17 @@ waits = came 192 4 (in_session 1 2 1 []) ∷ came 200 5 (exchange_id 0x4200_0000
 
 -- B asks at the last second of A's lease
 abbrev pub clashes : Came
-clashes = came 372 8 (in_session 2 1 4 opens_and_locks)
+clashes = came 372 8 (in_session 2 1 4 (opens_and_locks 0))
+
+-- or B asks for the byte behind it
+abbrev pub goes_beside : Came
+goes_beside = came 372 8 (in_session 2 1 4 (opens_and_locks 1))
 
 abbrev pub gives_up : Came
 gives_up = came 372 9 (in_session 1 4 3 unlocks)
 
 abbrev pub start : State
-start = all_next (new_state 511 7 90) earlier
+start = reached 511 7 90 earlier
 
 abbrev pub locked : State
 locked = next start locks
@@ -63,15 +68,6 @@ asked = all_next locked waits
 abbrev pub told : Told
 told = record { state = 2; client = 7 * 2 ^ 32 + 1; opened = 1; file = 2; kind = Write; first = 0; last = 0 }
 
--- The records come in time, and spare the lock and its client: the premises of `StaysHeld`, for all of them.
-abbrev pub AreInTime : Told → (last : ℕ) → State → List Came → Type 0
-AreInTime k last s [] = Unit {0}
-AreInTime k last s (c ∷ more) =
-    (taken s c ≤ last + s.machine.leases.lease)
-    × AreSpared k (ops_of s c)
-    × IsAlone k.client (before s c) (next s c).machine
-    × AreInTime k (if renews_by k.client s c then taken s c else last) (next s c) more
-
 abbrev pub statuses : List Done → List Status
 statuses ds = map (λ d. d.status) ds
 
@@ -81,13 +77,24 @@ pub record IsHeldTo : Type 0 where
   pub front : List Done
   pub lock : Done
   pub ops : ops_of start locks ≡ front ++ lock ∷ []
-  pub tells : IsToldBy told lock
-  -- that compound renewed the lease of its client, and what follows comes in time and spares the lock
-  pub renewed : locked.machine.leases.renewed told.client ≡ Some 102
-  pub kept : AreInTime told 102 locked (waits ++ clashes ∷ [])
+  pub tells : Tells told lock
+  -- what follows comes in time, from that compound on, and spares the lock
+  pub kept : AreInTime told 90 102 locked (waits ++ clashes ∷ []) (λ last t. Unit {0})
   -- so the byte is held when B asks for it, and it is denied
   pub held : asked.machine.store.opens.held 2 2 0 ≡ Some Write
   pub denied : statuses (ops_of asked clashes) ≡ Nfs4Ok ∷ Nfs4Ok ∷ Denied ∷ []
   -- it is held until A unlocks, and then by nobody
   pub still : (next asked clashes).machine.store.opens.held 2 2 0 ≡ Some Write
   pub unlocked : (next (next asked clashes) gives_up).machine.store.opens.held 2 2 0 ≡ None
+
+-- The premises of the other promises are met in that run: the byte is still held when B asks, 90 seconds behind the last renewal of A; and where B asks for the
+-- byte beside it, both are told.
+pub record AreBothTold : Type 0 where
+  pub renewed : last_renewal told.client None (new_state 511 7 90) (earlier ++ locks ∷ waits) ≡ Some 282
+  pub moment : taken asked clashes ≡ 372
+  pub held : (before asked clashes).store.opens.held 2 2 0 ≡ Some Write
+  pub until : List Done
+  pub second : Done
+  pub locks : LocksFor second 4 (record { client = 7 * 2 ^ 32 + 2; file = 2; kind = Write; first = 1; last = 1 })
+  pub between : AreInTime told 90 102 locked waits
+      (λ last t. (ops_of t goes_beside ≡ until ++ second ∷ []) × (taken t goes_beside ≤ last + 90) × AreSpared told until)

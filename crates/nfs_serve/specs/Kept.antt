@@ -1,12 +1,19 @@
 -- A lock told is a lock kept: what becomes, over any list of records, of a byte range that a LOCK told as held (RFC 8881
 -- sections 8.3, 9.1 to 9.5 and 18.10).
-use Rattle.std.specs.Prelude.{◌≡◌, ℕ, ◌+◌, ◌≤◌, Bool, false, List, [], ◌∷◌, ◌++◌, Some, if◌then◌else◌}
+use Rattle.std.specs.Prelude.{◌≡◌, ℕ, ◌+◌, ◌≤◌, Bool, true, false, List, [], ◌∷◌, ◌++◌, if◌then◌else◌}
 use Rattle.std.specs.Option.{option_map_or}
+use Rattle.nfs_xdr.specs.Spelling.{number}
+use Rattle.nfs_xdr.specs.Tables.{In}
+use Rattle.nfs_compound.specs.Operation.{Operation, OpGetAttr}
+use Rattle.nfs_results.specs.Result.{ResGetAttr}
+use Rattle.nfs_results.specs.Results.{spell_result}
+use Rattle.nfs_exec.specs.Machine.{is_ok}
 use Rattle.nfs_exec.specs.Ops.{Done}
-use Rattle.nfs_files.specs.Kept.{Told, Stands}
-use Rattle.nfs_exec.specs.Held.{AreSpared, StandsWhile, IsToldBy, IsAlone, renews}
-use Rattle.nfs_serve.specs.Step.{State, new_state}
-use Rattle.nfs_serve.specs.Points.{Came, next, all_next, taken, before, asked_by, ops_of}
+use Rattle.nfs_opens.specs.declared.locking.Wish.{Wish}
+use Rattle.nfs_files.specs.Kept.{Told, Stands, Clashes}
+use Rattle.nfs_exec.specs.Held.{LocksFor, AreSpared, StandsWhile, Tells, IsAlone, renews}
+use Rattle.nfs_serve.specs.Step.{State}
+use Rattle.nfs_serve.specs.Points.{Came, next, reached, taken, before, asked_by, ops_of}
 
 -- a request of it runs in a session of the client, and so renews the client's lease
 abbrev pub renews_by : ℕ → State → Came → Bool
@@ -14,26 +21,50 @@ renews_by client s c = option_map_or (renews client (before s c)) (asked_by s c)
 
 -- The lock stands here, and stays through these records, where `last` is the moment of its client's last renewal: if the next
 -- one is taken at most one lease behind that, the lock stands before each operation of it as long as all before it spared it,
--- and whoever clashes there is refused; and if they all spare it, and no other id is confirmed for the client's owner, the
--- same holds of the records behind it. (That each record is at most one lease behind the renewal before it is the same as that
--- neighbours among the renewals and the last record are: a record between two renewals is not later than the second.)
-abbrev pub StaysHeld : Told → (last : ℕ) → State → List Came → Type 0
-StaysHeld k last s [] = Stands k s.machine.store.opens
-StaysHeld k last s (c ∷ more) =
+-- and no LOCK there that clashes is answered NFS4_OK; and if they all spare it, and no other id is confirmed for the client's
+-- owner, the same holds of the records behind it. (That each record is at most one lease behind the renewal before it is the
+-- same as that neighbours among the renewals and the last record are: a record between two renewals is not later than the second.)
+abbrev pub StaysHeld : Told → (lease last : ℕ) → State → List Came → Type 0
+StaysHeld k lease last s [] = Stands k s.machine.store.opens
+StaysHeld k lease last s (c ∷ more) =
     Stands k s.machine.store.opens
-    × (taken s c ≤ last + s.machine.leases.lease →
+    × (taken s c ≤ last + lease →
     StandsWhile k (ops_of s c)
     × (AreSpared k (ops_of s c) → IsAlone k.client (before s c) (next s c).machine →
-    StaysHeld k (if renews_by k.client s c then taken s c else last) (next s c) more))
+    StaysHeld k lease (if renews_by k.client s c then taken s c else last) (next s c) more))
 
--- A LOCK in the record's compound told the lock, and these operations are behind it there. It stands before each of them while
--- they spare it; and if they all do, it stays through whatever records come, from the renewal on that stands last then.
-pub record IsKept (k : Told) (s : State) (c : Came) (back : List Done) : Type 0 where
-  pub within : StandsWhile k back
-  pub behind : AreSpared k back → (last : ℕ) → (next s c).machine.leases.renewed k.client ≡ Some last → (more : List Came) → StaysHeld k last (next s c) more
+-- The records come in time, and spare the lock and its client, up to a state and a moment of the client's last renewal of which this holds.
+abbrev pub AreInTime : Told → (lease last : ℕ) → State → List Came → (ℕ → State → Type 0) → Type 0
+AreInTime k lease last s [] Then = Then last s
+AreInTime k lease last s (c ∷ more) Then =
+    (taken s c ≤ last + lease)
+    × AreSpared k (ops_of s c)
+    × IsAlone k.client (before s c) (next s c).machine
+    × AreInTime k lease (if renews_by k.client s c then taken s c else last) (next s c) more Then
 
--- In every run of a server from its start on.
+-- In every run of a server whose leases last so many seconds, from its start on: a LOCK in the record's compound told the lock, and
+-- these operations are behind it there. The lock stands before each of them while they spare it; and if they all do, it stays through
+-- whatever records come, from the moment of this record on, which renewed its client's lease.
 abbrev pub LockKept : Type 0
 LockKept = (mode instance lease : ℕ) (earlier : List Came) (c : Came) (k : Told) (front : List Done) (lock : Done) (back : List Done)
-    → ops_of (all_next (new_state mode instance lease) earlier) c ≡ front ++ lock ∷ back → IsToldBy k lock
-    → IsKept k (all_next (new_state mode instance lease) earlier) c back
+    → (let s = reached mode instance lease earlier in
+    ops_of s c ≡ front ++ lock ∷ back → Tells k lock
+    → StandsWhile k back × (AreSpared k back → (more : List Came) → StaysHeld k lease (taken s c) (next s c) more))
+
+-- Only one writer is told: of two LOCKs that clash on a byte, each answered NFS4_OK and the stateid of a lock state of its own, the second comes
+-- behind an end of the first. Between them an operation unlocks a byte of the first or locks one in another way or closes its open, or another id is
+-- confirmed for its client's owner, or its client's lease runs out: else there are no two such LOCKs.
+abbrev pub OnlyOneIsTold : Type 0
+OnlyOneIsTold = (mode instance lease : ℕ) (earlier : List Came) (c : Came) (k : Told) (front : List Done) (first : Done) (back : List Done)
+    (between : List Came) (d : Came) (until : List Done) (second : Done) (behind : List Done) (n : ℕ) (w : Wish)
+    → (let s = reached mode instance lease earlier in
+    ops_of s c ≡ front ++ first ∷ back → Tells k first → AreSpared k back
+    → AreInTime k lease (taken s c) (next s c) between
+    (λ last t. (ops_of t d ≡ until ++ second ∷ behind) × (taken t d ≤ last + lease) × AreSpared k until)
+    → LocksFor second n w → Clashes k n w → ⊥)
+
+-- The lease is told: a GETATTR of attribute 10, lease_time, that answers NFS4_OK gives the very number of seconds that leases last.
+abbrev pub LeaseIsTold : Type 0
+LeaseIsTold = (mode instance lease : ℕ) (records : List Came) (c : Came) (d : Done) → In d (ops_of (reached mode instance lease records) c)
+    → d.item ≡ Operation (OpGetAttr (0x400 ∷ [])) → is_ok d.status ≡ true
+    → d.result ≡ spell_result (ResGetAttr (record { attrmask = 0x400 ∷ []; attr_vals = number lease }))

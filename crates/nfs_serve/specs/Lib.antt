@@ -31,5 +31,7 @@ pub mod SeenWrite
 pub mod Points
 pub mod Forms
 pub mod Kept
+pub mod Outlived
 pub mod HeldLock
+pub mod WrongLocks
 pub mod Shows

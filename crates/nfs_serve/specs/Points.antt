@@ -27,6 +27,10 @@ abbrev pub all_next : State → List Came → State
 all_next s [] = s
 all_next s (c ∷ more) = all_next (next s c) more
 
+-- the state that records reach from the start of a server on, whose leases last so many seconds
+abbrev pub reached : (mode instance lease : ℕ) → List Came → State
+reached mode instance lease records = all_next (new_state mode instance lease) records
+
 -- the moment that it is taken at
 abbrev pub taken : State → Came → ℕ
 taken s c = max s.moment c.now
@@ -60,4 +64,4 @@ pub record HasNoClash (s : State) (c : Came) : Type 0 where
 
 -- No clash at any point of any run.
 abbrev pub NoClash : Type 0
-NoClash = (mode instance lease : ℕ) (records : List Came) (c : Came) → HasNoClash (all_next (new_state mode instance lease) records) c
+NoClash = (mode instance lease : ℕ) (records : List Came) (c : Came) → HasNoClash (reached mode instance lease records) c

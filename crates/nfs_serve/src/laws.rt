@@ -6,16 +6,18 @@ ghost use Rattle.nfs_serve.specs.Alone.{ExecutingAlone, StaysSettled};
 ghost use Rattle.nfs_serve.specs.Exchanges.{RunsTo, null_script, null_output, exchange_script, exchange_output};
 ghost use Rattle.nfs_serve.specs.Laws.{HasOneReading, CutsAnywhere, BringsOnce, ConnectionsAreStreams};
 ghost use Rattle.nfs_serve.specs.Forms.{EachFormRunsRecords};
-ghost use Rattle.nfs_serve.specs.HeldLock.{IsHeldTo};
-ghost use Rattle.nfs_serve.specs.Kept.{LockKept};
+ghost use Rattle.nfs_serve.specs.HeldLock.{IsHeldTo, AreBothTold};
+ghost use Rattle.nfs_serve.specs.Kept.{LockKept, OnlyOneIsTold, LeaseIsTold};
 ghost use Rattle.nfs_serve.specs.LostReply.{IsAccepted, IsOverAWire};
 ghost use Rattle.nfs_serve.specs.Network.{ExactlyOnce, AnswersExecuted};
 ghost use Rattle.nfs_serve.specs.Numbered.{AnswersNumbered, ExactlyOnceByNumber, XidsSuffice};
+ghost use Rattle.nfs_serve.specs.Outlived.{NoneOutlives};
 ghost use Rattle.nfs_serve.specs.Points.{NoClash};
 ghost use Rattle.nfs_serve.specs.PerfectWire.{AsOverAWire};
 ghost use Rattle.nfs_serve.specs.RealTime.{Atomic};
 ghost use Rattle.nfs_serve.specs.Seen.{server};
 ghost use Rattle.nfs_serve.specs.SeenWrite.{IsSeen};
+ghost use Rattle.nfs_serve.specs.WrongLocks.{AreRefused};
 ghost use Rattle.nfs_serve.specs.WrongServers.{LawsRefuse};
 ghost use Rattle.nfs_serve.specs.Whole.{HubRunsScript, NothingIsLostInARun, NothingIsLostInATurn};
 
@@ -152,13 +154,41 @@ pub fn no_clash()
     ensures { NoClash }
 {}
 
-/// In every run the lock that a LOCK tells is held from then on, while its client renews in time and nothing ends it; and whoever clashes with it is refused.
+/// In every run the lock that a LOCK told, by NFS4_OK and a stateid, is held from then on, while its client renews in time and nothing ends it; and no LOCK
+/// that clashes with it is answered NFS4_OK.
 pub fn lock_kept()
     ensures { LockKept }
+{}
+
+/// In every run a GETATTR of attribute 10 that answers NFS4_OK gives the number of seconds that leases last.
+pub fn lease_is_told()
+    ensures { LeaseIsTold }
+{}
+
+/// Of two LOCKs that clash on a byte, each answered NFS4_OK and a stateid of its own, the second comes behind an end of the first.
+pub fn only_one_writer_is_told()
+    ensures { OnlyOneIsTold }
+{}
+
+/// In every run a byte is held only by a lock state of a client that renewed its lease, by the records, at most a lease before.
+pub fn no_lock_outlives_its_client()
+    ensures { NoneOutlives }
 {}
 
 /// The definitions compute: a client locks a byte and renews its lease at the last second, twice; another client's LOCK is denied a lease behind
 /// that, and the byte is free once it is unlocked. That run meets the premises of `lock_kept`.
 pub fn lock_kept_by_renewals()
     ensures { IsHeldTo }
+{}
+
+/// The definitions compute: that run meets the premises of `no_lock_outlives_its_client`; and where the other client asks for the byte beside it, those
+/// of `only_one_writer_is_told` but for the clash.
+pub fn locks_beside_are_told()
+    ensures { AreBothTold }
+{}
+
+/// The definitions compute: over that run `lock_kept` refuses a denied LOCK that answers NFS4_OK, a CLOSE of another open that drops the lock, leases shorter
+/// than the client was told and a lease that is set back; and `no_lock_outlives_its_client` refuses a lease that never runs out.
+pub fn wrong_locks_are_refused()
+    ensures { AreRefused }
 {}

@@ -1,0 +1,324 @@
+-- What clients asked and were answered, against the inside of the operations that were run.
+use Rattle.std.proofs.Common.{◌≡◌, ℕ, ◌+◌, ◌≤◌, Bool, true, false, cond, eqb, ltb, List, [], ◌∷◌, ◌++◌, length, Option, Some, None, refl, sym, ◌∙◌, ap, subst, inl, inr}
+use Rattle.std.specs.Prelude.{◌==◌, option_map, Ok}
+use Rattle.std.specs.Option.{option_map_or}
+use Rattle.std.proofs.lemmas.Bool.{cases_Bool, eq-eqb, eqb-true}
+use Rattle.nfs_xdr.specs.Tables.{In}
+use Rattle.nfs_xdr.specs.Caller.{Caller}
+use Rattle.nfs_xdr.specs.declared.status.Status.TheVariants.{RepTooBig}
+use Rattle.nfs_xdr.proofs.Lists.{find_in}
+use Rattle.nfs_compound.specs.LockArgs as args
+use Rattle.nfs_compound.specs.declared.lock_args.LockU.{LockU}
+use Rattle.nfs_compound.specs.declared.open_args.Close.{Close}
+use Rattle.nfs_compound.specs.declared.op_num.OpNum.TheVariants as Num
+use Rattle.nfs_compound.specs.Operation.{Op, Item, Operation, OpLock, OpLockU, OpClose, OpSequence, OpReclaimComplete}
+use Rattle.nfs_compound.specs.Request.{Request, item_number}
+use Rattle.nfs_compound.specs.declared.session_args.Sequence.{Sequence}
+use Rattle.nfs_results.specs.Largest.{largest}
+use Rattle.nfs_sessions.specs.Id.{id_of}
+use Rattle.nfs_opens.specs.declared.locking.Wish.{Wish}
+use Rattle.nfs_opens.specs.declared.records.LockState.{LockState}
+use Rattle.nfs_opens.specs.Table.{Table, lock_at}
+use Rattle.nfs_names.specs.declared.context.Context.{Context}
+use Rattle.nfs_names.specs.Context.{begins}
+use Rattle.nfs_names.specs.State.{moment}
+use Rattle.nfs_names.specs.Operation as names
+use Rattle.nfs_names.proofs.Untouched.{leaves_item}
+use Rattle.nfs_files.specs.Operation as files
+use Rattle.nfs_files.specs.Ranges.{wished}
+use Rattle.nfs_files.specs.Kept.{Names, Told}
+use Rattle.nfs_files.proofs.Inside.{Locks, Unlocks, Closes}
+use Rattle.nfs_files.proofs.OwnOpens.{spares_others}
+use Rattle.nfs_files.proofs.ToldGrants.{IsTold, IsToldClosed, lock_tells, unlock_tells, close_tells, lock_grants_told, lock_refused, told_is_ok, told_client}
+use Rattle.nfs_exec.specs.Machine.{Machine, is_ok}
+use Rattle.nfs_exec.specs.Behind.{Step, step, stays, on_store, moves_opens, marked_if, otherwise}
+use Rattle.nfs_exec.specs.Run.{in_room, reserve, is_here, behind_here}
+use Rattle.nfs_exec.specs.Sequence as sequence
+use Rattle.nfs_exec.specs.Sequence.{Sequenced, sequenced}
+use Rattle.nfs_exec.specs.Compound.{renewed, begun}
+use Rattle.nfs_exec.specs.Laws.{Event, Expires, Asks, stepped, if_runs, first_runs}
+use Rattle.nfs_exec.specs.Ops.{Done, done, ops, ops_in, ops_of, ops_by}
+use Rattle.nfs_exec.specs.Held.{LocksFor, UnlocksFor, ClosesOf, Spares, AreSpared, StandsBefore, StandsWhile, Tells, is_of, renews}
+use Rattle.nfs_exec.proofs.Bearing.{refused_status}
+use Rattle.nfs_exec.proofs.Inside as inside
+use Rattle.nfs_exec.proofs.Inside.{SparesClient}
+use Rattle.nfs_exec.proofs.WholeRun.{Is, whole_room, in_more}
+use Rattle.nfs_exec.proofs.HeldRun.{Keeps, event_while, event_behind}
+use Rattle.nfs_exec.proofs.ToldRun.{told_event}
+
+-- an operation is refused for want of room, or is what it is
+pub in_room_is : (P : Step → Type 0) (limit sofar now : ℕ) (refused : Bool) (m : Machine) (x : Context) (i : Item) → P (stays m x i RepTooBig)
+    → P (step m x now refused i) → P (in_room limit sofar now refused m x i)
+in_room_is P limit sofar now refused m x i big fits = elim (cases_Bool (ltb limit (sofar + largest i + reserve))) [ inl is ↦ rw is big | inr is ↦ rw is fits ]
+
+pub too_big : (m : Machine) (x : Context) (i : Item) → is_ok (stays m x i RepTooBig).outcome.status ≡ true → ⊥
+too_big m x i ok = let bad : is_ok RepTooBig ≡ true = sym (ap is_ok (refused_status (item_number i) RepTooBig)) ∙ ok in absurd cc
+
+-- One LOCK, LOCKU or CLOSE.
+
+lock_told : (limit sofar now : ℕ) (refused : Bool) (m : Machine) (x : Context) (a : args.Lock) (n : ℕ) (w : Wish) → Is m → Locks m.store x (OpLock a) n w
+    → (let o = (in_room limit sofar now refused m x (Operation (OpLock a))).outcome in
+    is_ok o.status ≡ true → IsTold Num.Lock m.store x a.locktype a.offset a.length o.result n w)
+lock_told limit sofar now refused m x a n w is locks =
+    in_room_is (λ s. is_ok s.outcome.status ≡ true → IsTold Num.Lock m.store x a.locktype a.offset a.length s.outcome.result n w)
+    limit sofar now refused m x (Operation (OpLock a)) (λ ok. absurd (too_big m x (Operation (OpLock a)) ok))
+    (λ ok. lock_tells m.store x (moment now) refused a n w is.table is.few locks ok)
+
+unlock_told : (limit sofar now : ℕ) (refused : Bool) (m : Machine) (x : Context) (a : LockU) (n : ℕ) (w : Wish) → Is m → Unlocks m.store x (OpLockU a) n w
+    → (let o = (in_room limit sofar now refused m x (Operation (OpLockU a))).outcome in
+    is_ok o.status ≡ true → IsTold Num.LockU m.store x a.locktype a.offset a.length o.result n w)
+unlock_told limit sofar now refused m x a n w is unlocks =
+    in_room_is (λ s. is_ok s.outcome.status ≡ true → IsTold Num.LockU m.store x a.locktype a.offset a.length s.outcome.result n w)
+    limit sofar now refused m x (Operation (OpLockU a)) (λ ok. absurd (too_big m x (Operation (OpLockU a)) ok))
+    (λ ok. unlock_tells m.store x (moment now) refused a n w is.table is.few unlocks ok)
+
+close_told : (limit sofar now : ℕ) (refused : Bool) (m : Machine) (x : Context) (a : Close) (n : ℕ) → Closes m.store x (OpClose a) n
+    → (let o = (in_room limit sofar now refused m x (Operation (OpClose a))).outcome in is_ok o.status ≡ true → IsToldClosed x a o.result n)
+close_told limit sofar now refused m x a n closes =
+    in_room_is (λ s. is_ok s.outcome.status ≡ true → IsToldClosed x a s.outcome.result n)
+    limit sofar now refused m x (Operation (OpClose a)) (λ ok. absurd (too_big m x (Operation (OpClose a)) ok))
+    (λ ok. close_tells m.store x (moment now) refused a n closes ok)
+
+-- what a LOCK did that was told
+record DidLock (s : Step) (m : Machine) (x : Context) (a : args.Lock) (n : ℕ) (w : Wish) : Type 0 where
+  locks : Locks m.store x (OpLock a) n w
+  ok : is_ok s.outcome.status ≡ true
+  client : (l : LockState) → In l s.outcome.machine.store.opens.locks → l.number ≡ n → l.client ≡ x.client
+
+lock_did : (limit sofar now : ℕ) (refused : Bool) (m : Machine) (x : Context) (a : args.Lock) (n : ℕ) (w : Wish) → Is m
+    → wished m.store x a.locktype a.offset a.length ≡ Ok w
+    → (let s = in_room limit sofar now refused m x (Operation (OpLock a)) in Names Num.Lock s.outcome.result n → DidLock s m x a n w)
+lock_did limit sofar now refused m x a n w is wish =
+    in_room_is (λ s. Names Num.Lock s.outcome.result n → DidLock s m x a n w)
+    limit sofar now refused m x (Operation (OpLock a)) (λ told. absurd (lock_refused RepTooBig n told)) (λ told. record {
+      locks = lock_grants_told m.store x (moment now) refused a n w is.table is.few wish told;
+      ok = told_is_ok m.store x (moment now) refused a n w is.table is.few wish told;
+      client = told_client m.store x (moment now) refused a n w is.table is.few wish told;
+    })
+
+-- The operations of a run.
+
+-- it was run
+pub record IsRun (d : Done) : Type 0 where
+  pub limit : ℕ
+  pub sofar : ℕ
+  pub now : ℕ
+  pub refused : Bool
+  pub whole : Is d.before
+  pub is : d ≡ done d.before d.context d.item (in_room limit sofar now refused d.before d.context d.item)
+
+abbrev pub ran_as : (d : Done) → IsRun d → Item → Step
+ran_as d r i = in_room r.limit r.sofar r.now r.refused d.before d.context i
+
+pub as_step : (d : Done) (r : IsRun d) (i : Item) → d.item ≡ i → d ≡ done d.before d.context i (ran_as d r i)
+as_step d r i same = r.is ∙ ap (λ i. done d.before d.context i (ran_as d r i)) same
+
+told_lock : (d : Done) → IsRun d → (op : Op) (n : ℕ) (w : Wish) → d.item ≡ Operation op → is_ok d.status ≡ true → Locks d.before.store d.context op n w → LocksFor d n w
+told_lock d r op n w item ok locks =
+    let a = locks.asked in
+    let is : d.item ≡ Operation (OpLock a) = item ∙ ap Operation locks.is in
+    let same = as_step d r (Operation (OpLock a)) is in
+    let told = lock_told r.limit r.sofar r.now r.refused d.before d.context a n w r.whole
+    (subst (λ op. Locks d.before.store d.context op n w) locks.is locks) (ap (λ (d : Done). is_ok d.status) (sym same) ∙ ok) in
+    record { asked = a; is = is; wish = told.wish; names = subst (λ (d : Done). Names Num.Lock d.result n) (sym same) told.names }
+
+told_unlock : (d : Done) → IsRun d → (op : Op) (n : ℕ) (w : Wish) → d.item ≡ Operation op → is_ok d.status ≡ true → Unlocks d.before.store d.context op n w
+    → UnlocksFor d n w
+told_unlock d r op n w item ok unlocks =
+    let a = unlocks.asked in
+    let is : d.item ≡ Operation (OpLockU a) = item ∙ ap Operation unlocks.is in
+    let same = as_step d r (Operation (OpLockU a)) is in
+    let told = unlock_told r.limit r.sofar r.now r.refused d.before d.context a n w r.whole
+    (subst (λ op. Unlocks d.before.store d.context op n w) unlocks.is unlocks) (ap (λ (d : Done). is_ok d.status) (sym same) ∙ ok) in
+    record { asked = a; is = is; wish = told.wish; names = subst (λ (d : Done). Names Num.LockU d.result n) (sym same) told.names }
+
+told_close : (d : Done) → IsRun d → (op : Op) (n : ℕ) → d.item ≡ Operation op → is_ok d.status ≡ true → Closes d.before.store d.context op n → ClosesOf d n
+told_close d r op n item ok closes =
+    let a = closes.asked in
+    let is : d.item ≡ Operation (OpClose a) = item ∙ ap Operation closes.is in
+    let same = as_step d r (Operation (OpClose a)) is in
+    let told = close_told r.limit r.sofar r.now r.refused d.before d.context a n
+    (subst (λ op. Closes d.before.store d.context op n) closes.is closes) (ap (λ (d : Done). is_ok d.status) (sym same) ∙ ok) in
+    record {
+      asked = a;
+      id = told.id;
+      is = is;
+      means = told.meant;
+      opened = told.opened;
+      names = subst (λ (d : Done). Names Num.Close d.result 0) (sym same) told.names;
+    }
+
+did_lock : (d : Done) (r : IsRun d) (n : ℕ) (w : Wish) (l : LocksFor d n w) → DidLock (ran_as d r (Operation (OpLock l.asked))) d.before d.context l.asked n w
+did_lock d r n w l =
+    lock_did r.limit r.sofar r.now r.refused d.before d.context l.asked n w r.whole l.wish
+    (subst (λ (d : Done). Names Num.Lock d.result n) (as_step d r (Operation (OpLock l.asked)) l.is) l.names)
+
+-- what spares a lock by what was answered spares it from the inside
+pub spared_inside : (k : Told) (d : Done) → IsRun d → Spares k d → inside.SparedBy k d
+spared_inside k d r spares op item ok = record {
+  locks = λ n w locks same. spares.locks w (subst (λ n. LocksFor d n w) same (told_lock d r op n w item ok locks));
+  unlocks = λ n w unlocks same. spares.unlocks w (subst (λ n. UnlocksFor d n w) same (told_unlock d r op n w item ok unlocks));
+  closes = λ n closes same. spares.closes (subst (ClosesOf d) same (told_close d r op n item ok closes));
+}
+
+pub all_inside : (k : Told) (ds : List Done) → ((d : Done) → In d ds → IsRun d) → AreSpared k ds → inside.AreSpared k ds
+all_inside k ds runs all d there = spared_inside k d (runs d there) (all d there)
+
+-- and who clashes is not told
+before_told : (k : Told) (d : Done) → IsRun d → inside.StandsBefore k d → StandsBefore k d
+before_told k d r is = record {
+  stands = is.stands;
+  refused = λ n w l clash. is.refused (OpLock l.asked) n w l.is (did_lock d r n w l).locks clash;
+}
+
+pub while_told : (k : Told) (ds : List Done) → ((d : Done) → In d ds → IsRun d) → inside.StandsWhile k ds → StandsWhile k ds
+while_told k [] runs is = tt
+while_told k (d ∷ more) runs is = (
+  before_told k d (runs d (inl refl)) is.0,
+  λ spares.
+      (let behind = is.1 (spared_inside k d (runs d (inl refl)) spares) in (behind.0, while_told k more (λ e there. runs e (inr there)) behind.1)),
+)
+
+mapped_some : (o : Option LockState) (n : ℕ) → option_map (λ (l : LockState). l.opened) o ≡ Some n → (l : LockState) × (o ≡ Some l) × (n ≡ l.opened)
+mapped_some None n e = (let bad : None ≡ Some n = e in absurd cc)
+mapped_some (Some l) n e = (let same : Some l.opened ≡ Some n = e in (l, refl, cc))
+
+told_inside : (k : Told) (d : Done) → IsRun d → Tells k d → inside.IsToldBy k d
+told_inside k d r tells =
+    let l = tells.locks in
+    let s = ran_as d r (Operation (OpLock l.asked)) in
+    let same : d ≡ done d.before d.context (Operation (OpLock l.asked)) s = as_step d r (Operation (OpLock l.asked)) l.is in
+    let did = did_lock d r k.state tells.wish l in
+    let t : Table = d.behind.store.opens in
+    let left : t ≡ s.outcome.machine.store.opens = ap (λ (d : Done). d.behind.store.opens) same in
+    let (lock, stands, opened) = mapped_some (lock_at t k.state) k.opened tells.opened in
+    let found = find_in (λ (l : LockState). l.number == k.state) t.locks lock stands in
+    record {
+      op = OpLock l.asked;
+      is = l.is;
+      ok = ap (λ (d : Done). is_ok d.status) same ∙ did.ok;
+      tells = record {
+        wish = tells.wish;
+        lock = lock;
+        locks = did.locks;
+        range = tells.range;
+        kind = tells.kind;
+        file = tells.file;
+        stands = stands;
+        client = tells.client ∙ sym (did.client lock (subst (λ (t : Table). In lock t.locks) left found.0) (eqb-true _ _ found.1));
+        opened = opened;
+      };
+    }
+
+-- What an event runs.
+
+pub ops_run : (limit sofar now : ℕ) (choice : Option ℕ) (m : Machine) (x : Context) (items : List Item) → Is m
+    → (d : Done) → In d (ops limit sofar now choice m x items) → IsRun d
+ops_run limit sofar now choice m x [] is d there = absurd there
+ops_run limit sofar now choice m x (i ∷ more) is d there =
+    let s = in_room limit sofar now (is_here choice) m x i in
+    let next = sofar + length s.outcome.result in
+    elim there [
+      | inl here ↦ subst IsRun (sym here) (record { limit = limit; sofar = sofar; now = now; refused = is_here choice; whole = is; is = refl })
+      | inr later ↦ ops_run limit next now (behind_here choice) s.outcome.machine s.context more (whole_room limit sofar now (is_here choice) m x i is) d
+          (in_more (is_ok s.outcome.status) d (ops limit next now (behind_here choice) s.outcome.machine s.context more) later)
+    ]
+
+-- they run for one client
+
+step_client : (m : Machine) (x : Context) (now : ℕ) (refused : Bool) (i : Item) → Is m → (step m x now refused i).context.client ≡ x.client
+step_client m x now refused i is = elim (cases_Bool (names.on_names i)) [
+  | inl on ↦ rw on ((leaves_item refused m.store x (moment now) i).client)
+  | inr off ↦ rw off (elim (cases_Bool (files.on_files i)) [ inl on ↦ rw on (by_mark (moves_opens i)) | inr other ↦ rw other (by_item i) ])
+]
+  where
+    by_mark : (moves : Bool) → (marked_if moves x.client (on_store m (files.comes_to refused m.store x (moment now) i))).context.client ≡ x.client
+    by_mark true = (spares_others refused m.store x (moment now) i is.table.opens).client
+    by_mark false = (spares_others refused m.store x (moment now) i is.table.opens).client
+
+    by_item : (i : Item) → (otherwise m x i).context.client ≡ x.client
+    by_item (Operation (OpReclaimComplete one)) = refl
+    by_item i = refl
+
+room_client : (limit sofar now : ℕ) (refused : Bool) (m : Machine) (x : Context) (i : Item) → Is m
+    → (in_room limit sofar now refused m x i).context.client ≡ x.client
+room_client limit sofar now refused m x i is =
+    in_room_is (λ s. s.context.client ≡ x.client) limit sofar now refused m x i refl (step_client m x now refused i is)
+
+ops_client : (limit sofar now : ℕ) (choice : Option ℕ) (m : Machine) (x : Context) (items : List Item) → Is m
+    → (d : Done) → In d (ops limit sofar now choice m x items) → d.context.client ≡ x.client
+ops_client limit sofar now choice m x [] is d there = absurd there
+ops_client limit sofar now choice m x (i ∷ more) is d there =
+    let s = in_room limit sofar now (is_here choice) m x i in
+    let next = sofar + length s.outcome.result in
+    elim there [
+      | inl here ↦ ap (λ (d : Done). d.context.client) here
+      | inr later ↦ ops_client limit next now (behind_here choice) s.outcome.machine s.context more (whole_room limit sofar now (is_here choice) m x i is) d
+          (in_more (is_ok s.outcome.status) d (ops limit next now (behind_here choice) s.outcome.machine s.context more) later)
+          ∙ room_client limit sofar now (is_here choice) m x i is
+    ]
+
+-- that an event ran an operation: it was run, for the client of the session whose SEQUENCE the event runs behind
+pub record IsRunBy (d : Done) (s : Option Sequence) : Type 0 where
+  pub run : IsRun d
+  pub of : option_map_or (is_of d.context.client) s false ≡ true
+
+session_run : (m : Machine) (r : Request) (who : Caller) (now : ℕ) (choice : Option ℕ) (s : Sequence) (more : List Item) (v : Sequenced) → Is m
+    → (d : Done) → In d (ops_in m r who now choice s more v) → IsRunBy d (if_runs s v)
+session_run m r who now choice s more (sequence.Refuses status) is d there = absurd there
+session_run m r who now choice s more (sequence.Repeats reply) is d there = absurd there
+session_run m r who now choice s more (sequence.Runs c) is d there =
+    let x = begins (id_of s.sessionid).client who in
+    let client = ops_client c.response (begun r s c) now (behind_here choice) (renewed m now s) x more is d there in
+    record {
+      run = ops_run c.response (begun r s c) now (behind_here choice) (renewed m now s) x more is d there;
+      of = eq-eqb (id_of s.sessionid).client d.context.client (sym client);
+    }
+
+first_run : (m : Machine) (r : Request) (who : Caller) (size now : ℕ) (choice : Option ℕ) (items : List Item) → Is m
+    → (d : Done) → In d (ops_of m r who size now choice items) → IsRunBy d (first_runs m r who size items)
+first_run m r who size now choice [] is d there = absurd there
+first_run m r who size now choice (Operation (OpSequence s) ∷ more) is d there = session_run m r who now choice s more (sequenced m r who size s) is d there
+first_run m r who size now choice (item ∷ more) is d there = absurd there
+
+pub event_run : (m : Machine) (e : Event) → Is m → (d : Done) → In d (ops_by m e) → IsRun d × (renews d.context.client m e ≡ true)
+event_run m (Expires now) is d there = absurd there
+event_run m (Asks r who size now choice) is d there = go (eqb r.minor 1) there
+  where
+    go : (b : Bool) → In d (cond b (ops_of m r who size now choice r.left) [])
+        → IsRun d × (option_map_or (is_of d.context.client) (cond b (first_runs m r who size r.left) None) false ≡ true)
+    go true there = (let it = first_run m r who size now choice r.left is d there in (it.run, it.of))
+    go false there = absurd there
+
+in_back : (d : Done) (front back : List Done) → In d back → In d (front ++ back)
+in_back d [] back there = there
+in_back d (f ∷ front) back there = inr (in_back d front back there)
+
+-- A lock that stands when an event begins, through it.
+
+pub event_stands : (k : Told) (m : Machine) (e : Event) → Is m → k.first ≤ k.last → Keeps k m → StandsWhile k (ops_by m e)
+event_stands k m e is some keeps = while_told k (ops_by m e) (λ d there. (event_run m e is d there).0) (event_while k m e is some keeps)
+
+pub event_leaves : (k : Told) (m : Machine) (e : Event) → Is m → k.first ≤ k.last → Keeps k m → AreSpared k (ops_by m e) → SparesClient k.client m e
+    → Keeps k (stepped m e)
+event_leaves k m e is some keeps all client =
+    event_behind k m e is some keeps (all_inside k (ops_by m e) (λ d there. (event_run m e is d there).0) all) client
+
+-- From the LOCK on that told it; and the event renews its client.
+pub record IsKeptFrom (k : Told) (m : Machine) (e : Event) (back : List Done) : Type 0 where
+  pub within : StandsWhile k back
+  pub behind : AreSpared k back → Keeps k (stepped m e)
+  pub renewed : renews k.client m e ≡ true
+
+pub told_kept : (k : Told) (m : Machine) (e : Event) (front : List Done) (lock : Done) (back : List Done) → Is m → ops_by m e ≡ front ++ lock ∷ back
+    → Tells k lock → IsKeptFrom k m e back
+told_kept k m e front lock back is same tells =
+    let run : (d : Done) → In d (lock ∷ back) → In d (ops_by m e) = λ d there. subst (In d) (sym same) (in_back d front (lock ∷ back) there) in
+    let here = event_run m e is lock (run lock (inl refl)) in
+    let each : (d : Done) → In d back → IsRun d = λ d there. (event_run m e is d (run d (inr there))).0 in
+    let kept = told_event k m e front lock back is same (told_inside k lock here.0 tells) in
+    record {
+      within = while_told k back each kept.within;
+      behind = λ all. kept.behind (all_inside k back each all);
+      renewed = subst (λ client. renews client m e ≡ true) (sym tells.client) here.1;
+    }

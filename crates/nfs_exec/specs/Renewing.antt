@@ -1,0 +1,36 @@
+-- Which events renew a client's lease or begin it (RFC 8881 sections 8.3, 18.35 and 18.36).
+use Rattle.std.specs.Prelude.{ℕ, ◌==◌, ◌&&◌, ◌||◌, Bool, false, List, [], ◌∷◌, Option, Result, Ok, Err}
+use Rattle.nfs_xdr.specs.Caller.{Caller}
+use Rattle.nfs_compound.specs.Operation.{Item, Operation, OpExchangeId, OpCreateSession}
+use Rattle.nfs_compound.specs.Request.{Request}
+use Rattle.nfs_clients.specs.declared.exchange_id.Exchanged.{Exchanged}
+use Rattle.nfs_clients.specs.declared.exchange_id.ClientFault.{ClientFault}
+use Rattle.nfs_clients.specs.ExchangeId.{exchange}
+use Rattle.nfs_exec.specs.Machine.{Machine, is_ok}
+use Rattle.nfs_exec.specs.ExchangeId.{ask_of}
+use Rattle.nfs_exec.specs.Run.{is_here}
+use Rattle.nfs_exec.specs.Compound.{first_item}
+use Rattle.nfs_exec.specs.Laws.{Event, Expires, Asks}
+use Rattle.nfs_exec.specs.Held.{renews}
+
+-- the client's record was added
+abbrev pub adds : ℕ → Result Exchanged ClientFault → Bool
+adds client (Ok x) = x.added && (x.id == client)
+adds client (Err fault) = false
+
+-- a CREATE_SESSION of the client, or an EXCHANGE_ID that adds its record
+abbrev pub is_for : ℕ → Machine → Caller → Item → Bool
+is_for client m who (Operation (OpExchangeId e)) = adds client (exchange m.clients (ask_of who e)).answer
+is_for client m who (Operation (OpCreateSession c)) = c.clientid == client
+is_for client m who item = false
+
+-- outside a session, where it answers NFS4_OK
+abbrev pub renews_alone : ℕ → Machine → Request → Caller → ℕ → Option ℕ → List Item → Bool
+renews_alone client m r who now choice [] = false
+renews_alone client m r who now choice (item ∷ more) = is_ok (first_item m r.declared who now (is_here choice) item).status && is_for client m who item
+
+-- or a request that runs in a session of the client
+abbrev pub renews_or_begins : ℕ → Machine → Event → Bool
+renews_or_begins client m (Expires now) = false
+renews_or_begins client m (Asks r who size now choice) =
+    renews client m (Asks r who size now choice) || (r.minor == 1 && renews_alone client m r who now choice r.left)

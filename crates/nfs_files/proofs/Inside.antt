@@ -1,0 +1,88 @@
+-- LOCK, LOCKU and CLOSE by their own checks, and what they leave of a lock that was told.
+use Rattle.std.specs.Prelude.{◌≡◌, ◌≢◌, ℕ, ◌≤◌, Bool, true, Some, Ok}
+use Rattle.nfs_xdr.specs.declared.time.Time.{Time}
+use Rattle.nfs_compound.specs.LockArgs as args
+use Rattle.nfs_compound.specs.declared.lock_args.LockU.{LockU}
+use Rattle.nfs_compound.specs.declared.open_args.Close.{Close}
+use Rattle.nfs_compound.specs.Operation.{Op, OpLock, OpLockU, OpClose}
+use Rattle.nfs_opens.specs.declared.records.LockState.{LockState}
+use Rattle.nfs_opens.specs.declared.stateid.StateId.{StateId}
+use Rattle.nfs_opens.specs.declared.stateid.CurrentSeqid.TheVariants.{Own}
+use Rattle.nfs_opens.specs.declared.locking.Wish.{Wish}
+use Rattle.nfs_opens.specs.Kept.{IsTable}
+use Rattle.nfs_opens.specs.Table.{Table, lock_at}
+use Rattle.nfs_opens.specs.Locking.{unlock}
+use Rattle.nfs_opens.specs.Closing as opens
+use Rattle.nfs_names.specs.declared.context.Context.{Context}
+use Rattle.nfs_names.specs.State.{State}
+use Rattle.nfs_names.specs.Outcome.{is_ok}
+use Rattle.nfs_files.specs.Target.{target}
+use Rattle.nfs_files.specs.Lock.{locking, locks_as}
+use Rattle.nfs_files.specs.LockU.{unlocking}
+use Rattle.nfs_files.specs.Operation.{one_or_delay}
+use Rattle.nfs_files.specs.Kept.{Told, IsBeside, IsAlike, Stands, Clashes}
+
+-- a LOCK that is granted: lock state n holds the bytes of the wish from now on
+pub record Locks (s : State) (x : Context) (op : Op) (n : ℕ) (w : Wish) : Type 0 where
+  pub asked : args.Lock
+  pub id : StateId
+  pub answer : StateId
+  pub is : op ≡ OpLock asked
+  pub judged : locking s x asked ≡ Ok (record { wish = w; id = id })
+  pub granted : (locks_as s.opens asked.locker id w).answer ≡ Ok answer
+  pub state : answer.number ≡ n
+
+-- a LOCKU that is granted: lock state n holds none of the bytes of the wish from now on
+pub record Unlocks (s : State) (x : Context) (op : Op) (n : ℕ) (w : Wish) : Type 0 where
+  pub asked : LockU
+  pub id : StateId
+  pub answer : StateId
+  pub is : op ≡ OpLockU asked
+  pub judged : unlocking s x asked ≡ Ok (record { wish = w; id = id })
+  pub granted : (unlock s.opens id w.client w.file w.first w.last).answer ≡ Ok answer
+  pub state : id.number ≡ n
+
+-- a CLOSE that is granted: open n goes
+pub record Closes (s : State) (x : Context) (op : Op) (n : ℕ) : Type 0 where
+  pub asked : Close
+  pub file : ℕ
+  pub id : StateId
+  pub is : op ≡ OpClose asked
+  pub judged : target s x Own asked.open_stateid ≡ Ok (record { file = file; id = id })
+  pub granted : (opens.close s.opens id x.client file).answer ≡ Ok tt
+  pub opened : id.number ≡ n
+
+-- No LOCK of another kind and no LOCKU for the lock state on a byte of it, and no CLOSE of its open.
+pub record Spares (k : Told) (s : State) (x : Context) (op : Op) : Type 0 where
+  pub locks : (n : ℕ) (w : Wish) → Locks s x op n w → n ≡ k.state → IsAlike w k
+  pub unlocks : (n : ℕ) (w : Wish) → Unlocks s x op n w → n ≡ k.state → IsBeside w k
+  pub closes : (n : ℕ) → Closes s x op n → n ≢ k.opened
+
+-- A LOCK that was granted tells this lock: its lock state as it stands behind the LOCK, and bytes of its range in its way.
+pub record Tells (k : Told) (s : State) (x : Context) (op : Op) (left : Table) : Type 0 where
+  pub wish : Wish
+  pub lock : LockState
+  pub locks : Locks s x op k.state wish
+  pub range : (wish.first ≤ k.first) × (k.first ≤ k.last) × (k.last ≤ wish.last)
+  pub kind : k.kind ≡ wish.kind
+  pub file : k.file ≡ wish.file
+  pub stands : lock_at left k.state ≡ Some lock
+  pub client : k.client ≡ lock.client
+  pub opened : k.opened ≡ lock.opened
+
+-- An operation that spares a lock, or does not answer NFS4_OK, leaves it.
+abbrev pub SparedLocksStay : Type 0
+SparedLocksStay = (k : Told) (s : State) (x : Context) (now : Time) (refused : Bool) (op : Op) → IsTable s.opens → k.first ≤ k.last
+    → (is_ok (one_or_delay refused s x now op).result ≡ true → Spares k s x op) → Stands k s.opens
+    → Stands k (one_or_delay refused s x now op).state.opens
+
+-- A LOCK that clashes with a lock that stands is not granted.
+abbrev pub ClashesAreNotGranted : Type 0
+ClashesAreNotGranted = (k : Told) (s : State) (x : Context) (op : Op) (n : ℕ) (w : Wish) → IsTable s.opens → k.first ≤ k.last
+    → Stands k s.opens → Locks s x op n w → Clashes k n w → ⊥
+
+-- Behind a LOCK that answered NFS4_OK the lock that it tells stands.
+abbrev pub ToldLocksStand : Type 0
+ToldLocksStand = (k : Told) (s : State) (x : Context) (now : Time) (refused : Bool) (op : Op)
+    → is_ok (one_or_delay refused s x now op).result ≡ true → Tells k s x op (one_or_delay refused s x now op).state.opens
+    → Stands k (one_or_delay refused s x now op).state.opens

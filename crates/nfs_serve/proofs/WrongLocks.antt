@@ -1,0 +1,151 @@
+-- Wrong steps that the promises of locks refuse, computed.
+use Rattle.std.proofs.Common.{◌≡◌, ℕ, ◌+◌, ◌≤◌, List, [], ◌∷◌, ◌++◌, Some, None, refl, sym, ◌∙◌, ap, subst, arith, inl, inr}
+use Rattle.std.specs.Prelude.{◌*◌, ◌^◌, Result, Ok}
+use Rattle.nfs_xdr.specs.Spelling.{number, hyper}
+use Rattle.nfs_xdr.specs.Reading.{opaque_at, fixed_at, flag_at, pieces_at}
+use Rattle.nfs_rpc.specs.CallHead.{call_of, header, opaque_auth, behind_header, caller_of}
+use Rattle.nfs_xdr.specs.AuthSys.{auth_sys}
+use Rattle.nfs_rpc.specs.Reply.{spell_head}
+use Rattle.nfs_compound.specs.ReadRequest.{request_at, items_at, item_at}
+use Rattle.nfs_compound.specs.OpCodec.{op_at, fault_at}
+use Rattle.nfs_compound.specs.Operation.{Operation, OpLock, OpLockU, OpClose}
+use Rattle.nfs_compound.specs.ChannelAttrs.{channel_attrs}
+use Rattle.nfs_compound.specs.ArgCodecs.{sec_parms, exchange_id_args, create_session_args, sequence_args, protected, impl_id, lock_type, open_to_lock_owner}
+use Rattle.nfs_compound.specs.ArgCodecs.{exist_lock_owner, locker, lock_args, lock_u_args}
+use Rattle.nfs_compound.specs.Stateid.{stateid}
+use Rattle.nfs_compound.specs.StateOwner.{state_owner}
+use Rattle.nfs_compound.specs.ArgCodecs as compound_attributes
+use Rattle.nfs_compound.specs.OpenCodecs.{create_how, open_how, delegation_type, open_claim, open_args}
+use Rattle.nfs_compound.specs.LockArgs.{Lock}
+use Rattle.nfs_results.specs.Items as results
+use Rattle.nfs_ranges.specs.Told.{told}
+use Rattle.nfs_ranges.specs.declared.Kind.TheVariants.{Write}
+use Rattle.nfs_attrs.specs.Attributes.{attributes, settings_of}
+use Rattle.nfs_attrs.specs.Handle.{handle}
+use Rattle.nfs_names.specs.Create.{wanted_of}
+use Rattle.nfs_names.specs.Checks.{current, permits}
+use Rattle.nfs_names.specs.PutFh.{put_fh}
+use Rattle.nfs_names.specs.PutRootFh.{put_root_fh}
+use Rattle.nfs_files.specs.Open.{asked_for, open_file}
+use Rattle.nfs_files.specs.Target.{the_file, target}
+use Rattle.nfs_files.specs.Ranges.{range, wished}
+use Rattle.nfs_files.specs.Denied.{denied}
+use Rattle.nfs_files.specs.Lock.{lock}
+use Rattle.nfs_files.specs.LockU.{lock_u}
+use Rattle.nfs_opens.specs.declared.locking.Wish.{Wish}
+use Rattle.nfs_opens.specs.Table.{Table}
+use Rattle.nfs_opens.specs.declared.stateid.StateId.{StateId}
+use Rattle.nfs_opens.specs.declared.stateid.CurrentSeqid.TheVariants.{Own}
+use Rattle.nfs_compound.specs.declared.open_args.Close.{Close}
+use Rattle.nfs_compound.specs.declared.lock_args.LockU.{LockU}
+use Rattle.nfs_xdr.specs.declared.status.Status.{Status}
+use Rattle.nfs_xdr.specs.Tables.{In}
+use Rattle.nfs_names.specs.declared.context.Context.{Context}
+use Rattle.nfs_files.specs.StateIds.{meant}
+use Rattle.nfs_files.specs.Kept.{Stands}
+use Rattle.nfs_exec.specs.Machine.{Machine}
+use Rattle.nfs_exec.specs.Ops.{Done}
+use Rattle.nfs_exec.specs.Held.{Spares, AreSpared, IsAlone}
+use Rattle.nfs_serve.specs.Exchanges.{words}
+use Rattle.nfs_serve.specs.Kept.{StaysHeld}
+use Rattle.nfs_opens.specs.declared.records.LockState.{LockState}
+use Rattle.nfs_serve.specs.Outlived.{last_renewal}
+use Rattle.nfs_serve.specs.Step.{State, new_state, step}
+use Rattle.nfs_serve.specs.Points.{next, taken, before, ops_of}
+use Rattle.nfs_serve.specs.HeldLock as worked
+use Rattle.nfs_serve.specs.WrongLocks.{AreRefused, renewal, short_leases, set_back, closes_another, last_of}
+use Rattle.nfs_serve.proofs.HeldLock.{asked}
+
+-- what B's LOCK asked for
+abbrev wish : Wish
+wish = record { client = 7 * 2 ^ 32 + 2; file = 2; kind = Write; first = 0; last = 0 }
+
+late_by : (last : ℕ) → ◌≡◌ {A = _} (Some 102) (Some last) → 193 ≤ last + 90 → ⊥
+late_by last e within = let same : 102 ≡ last = cc in absurd (omega arith)
+
+-- a CLOSE of open 3 is none of open 1
+
+other_open : (id : StateId) → ◌≡◌ {A = Result StateId Status} (Ok (record { seqid = 1; instance = 7; number = 3 })) (Ok id) → id.number ≡ 1 → ⊥
+other_open id e one =
+    let same : record { seqid = 1; instance = 7; number = 3 } ≡ id = cc in
+    let three : 3 ≡ id.number = ap (λ (i : StateId). i.number) same in
+    absurd (omega arith)
+
+abbrev close : Close
+close = record { seqid = 0; open_stateid = record { seqid = 1; other = words (7 ∷ 0 ∷ 3 ∷ []) } }
+
+closes_other : (x : Context) (a : Close) (id : StateId) → Operation (OpClose close) ≡ Operation (OpClose a) → meant x Own a.open_stateid ≡ Ok id → id.number ≡ 1 → ⊥
+unfolding number hyper
+closes_other x a id is means one =
+    let same : close ≡ a = cc in
+    other_open id (subst (λ (a : Close). meant x Own a.open_stateid ≡ Ok id) (sym same) means) one
+
+no_lock : (a : Lock) → Operation (OpClose close) ≡ Operation (OpLock a) → ⊥
+no_lock a e = cc
+
+no_unlock : (a : LockU) → Operation (OpClose close) ≡ Operation (OpLockU a) → ⊥
+no_unlock a e = cc
+
+spared : (d : Done) → Spares worked.told (closes_another d)
+spared d = record {
+  locks = λ w l. absurd (no_lock l.asked l.is);
+  unlocks = λ w l. absurd (no_unlock l.asked l.is);
+  closes = λ l. closes_other d.context l.asked l.id l.is l.means l.opened;
+}
+
+-- what does not hold the byte is no lock kept
+
+unheld : (t : Table) → t.held 2 2 0 ≡ None → Stands worked.told t → ⊥
+unheld t none is =
+    let some : t.held 2 2 0 ≡ Some Write = is.held 0 (omega arith) (omega arith) in
+    let bad : None ≡ Some Write = sym none ∙ some in cc
+
+none_spared : (ds : List Done) → ds ≡ [] → AreSpared worked.told ds
+none_spared ds none d there = absurd (subst (In d) none there)
+
+none_alone : (m n : Machine) → m.clients.records ≡ [] → IsAlone worked.told.client m n
+none_alone m n none a b here = absurd (subst (In a) none here)
+
+gone : (s : State) → (taken s renewal ≤ 102 + 90) → ops_of s renewal ≡ [] → (before s renewal).clients.records ≡ []
+    → (next s renewal).machine.store.opens.held 2 2 0 ≡ None → StaysHeld worked.told 90 102 s (renewal ∷ []) → ⊥
+gone s low none empty free stays =
+    unheld (next s renewal).machine.store.opens free
+    ((stays.1 low).1 (none_spared (ops_of s renewal) none) (none_alone (before s renewal) (next s renewal).machine empty))
+
+-- A's lock state
+abbrev state : LockState
+state = record { number = 2; client = worked.told.client; owner = 0x6c ∷ []; file = 2; opened = 1; seqid = 1 }
+
+its : (l : LockState) (locks : List LockState) → locks ≡ state ∷ [] → In l locks → l.client ≡ worked.told.client
+its l locks one there = elim (subst (In l) one there) [ inl same ↦ ap (λ (l : LockState). l.client) same | inr none ↦ absurd none ]
+
+pub are_refused : AreRefused
+unfolding number hyper step call_of header opaque_auth opaque_at fixed_at behind_header caller_of auth_sys spell_head
+    request_at items_at item_at op_at fault_at exchange_id_args create_session_args sequence_args channel_attrs sec_parms protected impl_id pieces_at flag_at
+    stateid state_owner compound_attributes.bitmap compound_attributes.attributes create_how open_how delegation_type open_claim open_args
+    lock_type open_to_lock_owner exist_lock_owner locker lock_args lock_u_args
+    results.exchange_id results.create_session results.sequence results.open_ok results.change_info results.attr_set results.denied
+    told attributes settings_of handle wanted_of current permits put_fh put_root_fh asked_for open_file the_file target range wished denied lock lock_u
+are_refused = record {
+  denied = λ d is. is.refused 4 wish (record {
+    asked = asked;
+    is = refl;
+    wish = refl;
+    names = record {
+      id = 0 ∷ 0 ∷ 0 ∷ 1 ∷ 0 ∷ 0 ∷ 0 ∷ 7 ∷ 0 ∷ 0 ∷ 0 ∷ 0 ∷ 0 ∷ 0 ∷ 0 ∷ 4 ∷ [];
+      answers = refl;
+      long = refl;
+      number = refl;
+    };
+  }) (record { other = λ same. absurd (omega arith); file = refl; before = omega arith; behind = omega arith; kinds = refl });
+  closed = λ d is.
+      unheld (closes_another (last_of d (ops_of worked.asked worked.clashes))).behind.store.opens refl
+      (is.1 (spared (last_of d (ops_of worked.asked worked.clashes)))).0;
+  short = gone short_leases (omega arith) refl refl refl;
+  back = gone set_back (omega arith) refl refl refl;
+  last = refl;
+  held = refl;
+  late = λ is. late_by is.last
+      (subst (λ client. last_renewal client None (new_state 511 7 90) (worked.earlier ++ worked.locks ∷ []) ≡ Some is.last)
+      (its is.lock worked.locked.machine.store.opens.locks refl is.there) is.renewed) is.within;
+}
