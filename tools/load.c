@@ -32,7 +32,7 @@
 #include <time.h>
 #include <unistd.h>
 
-enum { SLOTS = 16, MOST = 16, PATIENCE = 30, BUFFER = 1 << 21, HEAD = 36, SEQUENCED = 44, FINE = 32, BUCKETS = 64 * FINE };
+enum { SLOTS = 16, MOST = 16, PATIENCE = 30, BUFFER = 1 << 21, PIECE = 1 << 17, HEAD = 36, SEQUENCED = 44, FINE = 32, BUCKETS = 64 * FINE };
 
 typedef uint8_t byte;
 struct bytes { const byte *at; uint32_t size; };
@@ -246,7 +246,8 @@ static void judge(struct line *l, const byte *reply, uint32_t size, uint64_t mom
 
 /* Receives what is there, or waits for it; how many replies that were. */
 static int receive(struct line *l, int flags) {
-    ssize_t came = recv(l->socket, l->in + l->read, BUFFER - l->read, flags);
+    size_t room = BUFFER - l->read;
+    ssize_t came = recv(l->socket, l->in + l->read, room < PIECE ? room : PIECE, flags);
     if (came < 0 && errno == EAGAIN && flags) return 0;
     if (came < 0) wrong(errno == EAGAIN ? "no reply for %d seconds" : "recv failed", PATIENCE);
     if (!came) wrong("the server closed a connection");
