@@ -550,6 +550,14 @@ def op(operation, /, **fields):
     return write_operation(operation, fields.items())
 
 
+def sequence_of(session, number, slot, highest, keeps=0):
+    """What op("SEQUENCE", ..) gives for these numbers, for scripts of very many calls."""
+    return SEQUENCE_ARGUMENTS.pack(53, session, number, slot, highest, keeps)
+
+
+SEQUENCE_ARGUMENTS = struct.Struct(">I16s4I")
+
+
 def write_result(name, status, fields=()):
     """The bytes of a result: its status is a number, and its fields are those that the operation has under it."""
     if name == "SETATTR":
@@ -598,6 +606,11 @@ def call_head(xid, uid=0, gid=0, gids=(), procedure=1, machine=b"", stamp=0):
     return u32(xid, 0, 2, 100_003, 4, procedure, 1) + opaque(body) + bytes(8)
 
 
+def null_call(xid):
+    """A call of the procedure NULL with AUTH_NONE, without its record mark."""
+    return u32(xid, 0, 2, 100_003, 4, 0, 0, 0, 0, 0)
+
+
 def compound(xid, operations, uid=0, gid=0, gids=(), tag=b"", minor=1, machine=b"", stamp=0):
     """A call of COMPOUND with these operations' bytes, without its record mark."""
     return call_head(xid, uid, gid, gids, 1, machine, stamp) + opaque(tag) + u32(minor, len(operations)) + b"".join(operations)
@@ -608,9 +621,9 @@ def reply_head(xid):
     return u32(xid, 1, 0, 0, 0, 0)
 
 
-def compound_reply(xid, results):
-    """The reply to a compound without a tag that has these results' bytes; its status is that of the last."""
-    return reply_head(xid) + (results[-1][4:8] if results else u32(0)) + u32(0, len(results)) + b"".join(results)
+def compound_results(results):
+    """The result of a compound without a tag, of these results' bytes; its status is that of the last."""
+    return (results[-1][4:8] if results else u32(0)) + u32(0, len(results)) + b"".join(results)
 
 
 class Call:
