@@ -8,7 +8,7 @@
  *     run CONNECTIONS DEPTH SECONDS        over the first so many connections, with so many calls outstanding on each
  *     ceiling CONNECTIONS DEPTH SECONDS    the same against a child process that answers each call at once with the wanted reply
  *
- * A line answers each: the calls, the nanoseconds, those of the 50th, 90th, 99th and 99.9th of a hundred calls in the order of their
+ * and at the end of its input it says the last number used on slot 0 of each session. A line answers each order: the calls, the nanoseconds, those of the 50th, 90th, 99th and 99.9th of a hundred calls in the order of their
  * times and of the slowest, and the processor microseconds of this process and of the child. What is not as it should be is a line
  * `wrong: WHY`, and the status is 1. The file is numbers of four bytes, the highest first, and bytes with their length before them:
  *
@@ -440,5 +440,6 @@ int main(int count, char **words) {
         }
         fflush(stdout);
     }
+    for (uint32_t i = 0; i < session_count; i++) printf("%u\n", sessions[i].numbers[0]);
     return 0;
 }
