@@ -334,21 +334,31 @@ static size_t answer(byte *to, const byte *call) {
     return to - from;
 }
 
-/* Reads what is there and answers the calls in it. */
+/* Whether a whole call is there. */
+static int has_call(const struct line *l) {
+    return l->read >= 4 && l->read - 4 >= (number_at(l->in) & 0x7fffffff);
+}
+
+/* Answers the calls that are there, a piece of replies at a time, as far as they can be sent; without one it reads first. 0 if the other side
+ * has closed. */
 static int serve(struct line *l, int flags) {
-    ssize_t came = l->written ? 1 : recv(l->socket, l->in + l->read, BUFFER - l->read, flags);
-    if (came == 0 || (came < 0 && errno != EAGAIN)) return 0;
-    if (!l->written && came > 0) l->read += came;
-    size_t done = 0;
-    while (l->read - done >= 4) {
-        uint32_t size = number_at(l->in + done) & 0x7fffffff;
-        if (l->read - done - 4 < size || l->written > BUFFER / 2) break;
-        l->written += answer(l->out + l->written, l->in + done + 4);
-        done += 4 + size;
+    if (!has_call(l)) {
+        ssize_t came = recv(l->socket, l->in + l->read, BUFFER - l->read, flags);
+        if (came == 0 || (came < 0 && errno != EAGAIN)) return 0;
+        if (came > 0) l->read += came;
     }
-    memmove(l->in, l->in + done, l->read - done);
-    l->read -= done;
-    flush(l);
+    while (has_call(l) && !l->written) {
+        size_t done = 0;
+        while (l->read - done >= 4 && l->written < PIECE) {
+            uint32_t size = number_at(l->in + done) & 0x7fffffff;
+            if (l->read - done - 4 < size) break;
+            l->written += answer(l->out + l->written, l->in + done + 4);
+            done += 4 + size;
+        }
+        memmove(l->in, l->in + done, l->read - done);
+        l->read -= done;
+        flush(l);
+    }
     return 1;
 }
 
@@ -359,24 +369,20 @@ static void echo(int listener, int connections) {
         if (lines[i].socket < 0) _exit(1);
         setsockopt(lines[i].socket, IPPROTO_TCP, TCP_NODELAY, &one, sizeof one);
     }
-    if (connections == 1)
-        while (serve(&lines[0], lines[0].written ? MSG_DONTWAIT : 0))
-            while (lines[0].written) {
-                struct pollfd one = {.fd = lines[0].socket, .events = POLLOUT};
-                poll(&one, 1, -1);
-                flush(&lines[0]);
-            }
-    while (connections > 1) {
+    for (;;) {
         struct pollfd polled[MOST];
+        if (connections == 1 && !lines[0].written) {
+            if (!serve(&lines[0], 0)) _exit(0);
+            continue;
+        }
         for (int i = 0; i < connections; i++)
             polled[i] = (struct pollfd){.fd = lines[i].socket, .events = lines[i].written ? POLLOUT : POLLIN};
         poll(polled, connections, -1);
         for (int i = 0; i < connections; i++) {
-            if (polled[i].revents & POLLOUT) flush(&lines[i]);
-            if (polled[i].revents & (POLLIN | POLLHUP | POLLERR) && !serve(&lines[i], MSG_DONTWAIT)) _exit(0);
+            if (polled[i].revents && lines[i].written) flush(&lines[i]);
+            if (polled[i].revents && !lines[i].written && !serve(&lines[i], MSG_DONTWAIT)) _exit(0);
         }
     }
-    _exit(0);
 }
 
 static void ceiling(int connections, int depth, double seconds) {

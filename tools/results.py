@@ -34,11 +34,11 @@ class Run:
     """A run that measures, from its start on."""
 
     def __init__(self):
-        self.begun, self.load = time.gmtime(), os.getloadavg()[0]
+        self.begun, self.load, self.commit = time.gmtime(), os.getloadavg()[0], commit()
 
     def facts(self):
         """What is to be known of the run: when, of which commit, on which machine, and beside how much other work."""
-        return {"date": time.strftime("%Y-%m-%d %H:%M UTC", self.begun), "commit": commit(), "machine": machine(),
+        return {"date": time.strftime("%Y-%m-%d %H:%M UTC", self.begun), "commit": self.commit, "machine": machine(),
                 "load": f"{self.load:.1f} at the start, {os.getloadavg()[0]:.1f} at the end"}
 
     def write(self, path, columns, rows, **more):

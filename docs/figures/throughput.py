@@ -33,8 +33,8 @@ def panel(picture, left, top, kinds, servers, found, shape, title):
             if best > LEAST:
                 picture.rect(left, y + 11 * j, at(best) - left, 10, (OURS, OTHER)[j % 2])
                 middle = y + 11 * j + 5
-                picture.line(at(max(least, LEAST)), middle, at(best), middle, "#ffffff", 2)
-                picture.text(at(best) + 12, y + 11 * j + 9, short(float(f"{best:.2g}")), 9, fill=FAINT)
+                picture.line(max(at(max(least, LEAST)), left + 36), middle, at(best), middle, "#ffffff", 2)
+                picture.text(left + 5, y + 11 * j + 8.6, short(float(f"{best:.2g}")), 9, fill="#ffffff", weight="bold")
         ceiling = found.get((kind, shape, "ceiling"))
         if ceiling:
             picture.line(at(ceiling[0]), y - 2, at(ceiling[0]), y + 24, CEILING, 2.4)
