@@ -41,8 +41,8 @@ TREE = {
         ROOT, SAVEFH, rename(name(spread(n, count)), b"new"), rename(b"new", name(spread(n, count)))]),
     # a page of about 100 entries, the last of the directory
     "READDIR, a page at the end": Row(1, 5_000, in_root, lambda n, count: [ROOT, readdir(2 + count - 100, 8_192)]),
-    "RENAME to the bottom, and back": Row(1, 100, below_another, lambda n, count: to_the_bottom(b"empty", count)),
-    "the same, with an entry": Row(1, 100, below_another, lambda n, count: to_the_bottom(b"full", count)),
+    "RENAME to the bottom and back": Row(1, 100, below_another, lambda n, count: to_the_bottom(b"empty", count)),
+    "RENAME to the bottom and back, with an entry": Row(1, 100, below_another, lambda n, count: to_the_bottom(b"full", count)),
     "RENAME at the bottom, of one with an entry": Row(2, 1_000, below_another, lambda n, count: [
         putfh(1 + count), SAVEFH, rename(b"inner", b"other"), rename(b"other", b"inner")]),
 }

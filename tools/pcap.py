@@ -6,7 +6,7 @@ import subprocess
 
 PCAPNG = b"\n\r\r\n"
 FIN, SYN, RST, PUSH, ACK = 1, 2, 4, 8, 16
-# What stands before the IP packet, by the kind of link: Ethernet, none, Linux's two cooked ones, and the BSD loopback.
+# How many bytes are before the IP packet, by the kind of link: Ethernet, none, Linux's two cooked ones, and the BSD loopback.
 BEFORE = {1: 14, 101: 0, 228: 0, 113: 16, 276: 20, 0: 4}
 
 
@@ -106,7 +106,7 @@ class Side:
         return b"".join(out)
 
     def taken(self, place, data):
-        """What of a segment at or before the place that is next was not there yet; the place moves on behind it."""
+        """What of a segment at or before the place that is next was not there yet; the place moves to its end."""
         fresh = data[self.place - place:]
         self.place += len(fresh)
         self.next = (self.next + len(fresh)) & 0xffffffff
