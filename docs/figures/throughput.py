@@ -43,7 +43,7 @@ def panel(picture, left, top, kinds, servers, found, shape, title):
 
 def draw():
     facts, kinds, servers, found = rates()
-    height = 130 + 2 * (30 * len(kinds) + 70)
+    height = 140 + 2 * (30 * len(kinds) + 70)
     picture = Drawing(930, height, "Calls a second, beside another server",
                       "Bars on a logarithmic scale for each kind of calls and server; a grey mark shows what the generator reaches against a server that does nothing.")
     picture.text(20, 30, "Calls a second (logarithmic)", 16, weight="bold")
@@ -58,4 +58,5 @@ def draw():
         top = bottom + 55
     picture.text(20, top - 8, f"Best of the rounds; a white line goes from the least round to it. {facts['how'].capitalize()}.", 11, fill=FAINT)
     picture.text(20, top + 9, common.told(facts), 11, fill=FAINT)
+    picture.text(20, top + 26, facts.get("servers", ""), 11, fill=FAINT)
     return picture.svg()
