@@ -17,9 +17,10 @@ def believed():
     module = importlib.util.module_from_spec(importlib.util.spec_from_loader("believed", loader))
     loader.exec_module(module)
     tree = module.Tree(common.TOP)
-    text = (common.TOP / "docs/PROMISES.md").read_text(encoding="utf-8")
-    for pinned in module.PINNED.findall(text):
-        tree.pin(*pinned)
+    for page in ("PROMISES.md", "BELIEVED.md"):
+        path = common.TOP / "docs" / page
+        for pinned in module.PINNED.findall(path.read_text(encoding="utf-8") if path.exists() else ""):
+            tree.pin(*pinned)
     found = {}
     for one in tree.leaned_on(module.ROOTS):
         found[one.file[0]] = found.get(one.file[0], 0) + len(one.lines)
