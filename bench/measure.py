@@ -26,6 +26,16 @@ def options(text, *more):
     return chosen, results.Run()
 
 
+def run(main):
+    """Runs a measurement; a pipe that nobody reads any more ends it with a line."""
+    try:
+        main()
+        sys.stdout.flush()
+    except BrokenPipeError:
+        os.dup2(os.open(os.devnull, os.O_WRONLY), sys.stdout.fileno())
+        sys.exit(f"{os.path.basename(sys.argv[0])}: what it writes is not read to its end")
+
+
 def word(parser):
     parser.add_argument("word", nargs="?", default="", metavar="WORD", help="the rows that have it")
 

@@ -1,6 +1,7 @@
 """What the tools share: XDR (RFC 4506), records and heads of RPC (RFC 5531), the operations of NFS version 4 minor version 1
 (RFC 8881 section 18, RFC 5662), scripts of `nfs41d replay` and what it puts out. Fields have the words of tshark's dissector,
 where it has them. An operation is described once, by a function that is called with a reader or with a writer."""
+import functools
 import re
 import struct
 import sys
@@ -602,8 +603,14 @@ class Records:
 
 def call_head(xid, uid=0, gid=0, gids=(), procedure=1, machine=b"", stamp=0):
     """A call up to its arguments, with AUTH_SYS (RFC 5531 section 9 and appendix A)."""
+    return u32(xid) + after_xid(uid, gid, tuple(gids), procedure, machine, stamp)
+
+
+@functools.lru_cache(maxsize=64)
+def after_xid(uid, gid, gids, procedure, machine, stamp):
+    """The same without the xid, which scripts of very many calls have the same each time."""
     body = u32(stamp) + opaque(machine) + u32(uid, gid, len(gids), *gids)
-    return u32(xid, 0, 2, 100_003, 4, procedure, 1) + opaque(body) + bytes(8)
+    return u32(0, 2, 100_003, 4, procedure, 1) + opaque(body) + bytes(8)
 
 
 def null_call(xid):
