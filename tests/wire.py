@@ -1,34 +1,47 @@
-"""What the tests that make their own calls share: calls and replies as bytes (RFC 4506, RFC 5531, RFC 5662), the entries of a
-script, and a run of the built program over one."""
-import struct
-import subprocess
+"""What the tests that make their own calls share: calls and replies of this program as bytes, by tools/nfs4.py; how a test counts what it
+judges; and by tools/program.py the built program."""
+import sys
 from pathlib import Path
 
-TOP = Path(__file__).resolve().parent.parent
-PROGRAM = TOP / "crates/nfs41d/out/nfs41d"
+sys.dont_write_bytecode = True
+sys.path.insert(0, str(Path(__file__).resolve().parent.parent / "tools"))
+
+import nfs4  # noqa: E402
+from nfs4 import NUMBERS, entry, op, opaque, u32, u64  # noqa: E402, F401 (the tests take them from here)
+from nfs4 import record as marked, reply_head, write_result  # noqa: E402, F401
+from program import HERE, LISTENING, PROGRAM, SECONDS, TOP, Served, begin, replayed  # noqa: E402, F401
+
+ROWS = TOP / "tests/rows"
 INSTANCE = 7
 LEASE = 90
-SECONDS = 60
 ALL_ONES = 2**64 - 1
 
-CLOSE, CREATE, GETATTR, LINK, LOCK, LOCKT, LOCKU, LOOKUP = 4, 6, 9, 11, 12, 13, 14, 15
-OPEN, OPEN_DOWNGRADE, PUTFH, PUTROOTFH, READ, READDIR, REMOVE, RENAME = 18, 21, 22, 24, 25, 26, 28, 29
-SAVEFH, SETATTR, WRITE, EXCHANGE_ID, CREATE_SESSION, DESTROY_SESSION = 32, 34, 38, 42, 43, 44
-FREE_STATEID, SEQUENCE, TEST_STATEID, DESTROY_CLIENTID = 45, 53, 55, 57
+CLOSE, CREATE, GETATTR, LINK, LOCK, LOCKT, LOCKU, LOOKUP = map(NUMBERS.get, "CLOSE CREATE GETATTR LINK LOCK LOCKT LOCKU LOOKUP".split())
+OPEN, OPEN_DOWNGRADE, PUTFH, PUTROOTFH, READ, READDIR = map(NUMBERS.get, "OPEN OPEN_DOWNGRADE PUTFH PUTROOTFH READ READDIR".split())
+REMOVE, RENAME, SAVEFH, SETATTR, WRITE, EXCHANGE_ID = map(NUMBERS.get, "REMOVE RENAME SAVEFH SETATTR WRITE EXCHANGE_ID".split())
+CREATE_SESSION, DESTROY_SESSION, FREE_STATEID = map(NUMBERS.get, "CREATE_SESSION DESTROY_SESSION FREE_STATEID".split())
+SEQUENCE, TEST_STATEID, DESTROY_CLIENTID = map(NUMBERS.get, "SEQUENCE TEST_STATEID DESTROY_CLIENTID".split())
 
 ANONYMOUS = bytes(16)
 
 
-def u32(*numbers):
-    return struct.pack(f">{len(numbers)}I", *numbers)
+class Judged:
+    """What a test has judged: how much held, and the names of what did not."""
 
+    def __init__(self):
+        self.passed, self.failed = 0, []
 
-def u64(*numbers):
-    return struct.pack(f">{len(numbers)}Q", *numbers)
+    def __call__(self, name, holds, shown=""):
+        if holds:
+            self.passed += 1
+        else:
+            self.failed.append(name)
+            print(f"{name}: {shown}" if shown else name)
 
-
-def opaque(data):
-    return u32(len(data)) + data + bytes(-len(data) % 4)
+    def last_line(self):
+        """Prints the last line of a test, and returns the exit status."""
+        print(f"{self.passed} passed, {len(self.failed)} failed")
+        return 1 if self.failed else 0
 
 
 def client_id(counter):
@@ -47,88 +60,92 @@ def filehandle(number):
     return u32(INSTANCE, 0) + u64(number)
 
 
-def compound(operations, count=None, uid=0):
-    """A COMPOUND call of minor version 1 without a tag, from its RPC version on: what stands behind the xid and the message type."""
-    auth_sys = u32(1, 20, 0, 0, uid, 0, 0)
-    head = u32(2, 100_003, 4, 1) + auth_sys + u32(0, 0)
-    return head + u32(0, 1, len(operations) if count is None else count) + b"".join(operations)
+def number_of(client):
+    """A client id as a number."""
+    return INSTANCE << 32 | client
+
+
+def compound(operations, uid=0):
+    """A COMPOUND call of minor version 1 without a tag, from its RPC version on: what is after the xid and the message type."""
+    return nfs4.compound(0, operations, uid)[8:]
 
 
 def call(xid, body):
     return u32(xid, 0) + body
 
 
-def marked(record):
-    """The record as one fragment behind its mark."""
-    return u32(0x8000_0000 | len(record)) + record
-
-
-def entry(moment, conn, piece):
-    return struct.pack(">QII", moment, conn, len(piece)) + piece
-
-
 def channel(request=66_560, response=66_560, cached=66_560, operations=64, slots=16):
-    return u32(0, request, response, cached, operations, slots, 0)
+    """The attributes of a channel, in their order."""
+    return request, response, cached, operations, slots
+
+
+def sizes(side, attributes):
+    """The same as fields of CREATE_SESSION."""
+    names = ("max_req_size", "max_resp_size", "max_resp_size_cached", "max_ops", "max_reqs")
+    return {f"{side}_{name}": value for name, value in zip(names, attributes, strict=True)}
 
 
 def exchange_id(owner, verifier=1):
-    return u32(EXCHANGE_ID) + u64(verifier) + opaque(owner) + u32(0, 0, 0)
+    return op("EXCHANGE_ID", verifier=u64(verifier), owner=owner)
 
 
 def create_session(client, number, fore=channel(), back=channel()):
-    return u32(CREATE_SESSION) + client_id(client) + u32(number, 0) + fore + back + u32(0, 0)
+    return op("CREATE_SESSION", clientid=number_of(client), seqid=number, **sizes("fore", fore), **sizes("back", back))
 
 
 def sequence(session, number, slot=0):
-    return u32(SEQUENCE) + session + u32(number, slot, slot, 0)
+    return nfs4.sequence_of(session, number, slot, slot)
 
 
 def putfh(number):
-    return u32(PUTFH) + opaque(filehandle(number))
+    return op("PUTFH", FileHandle=filehandle(number))
 
 
 def create(name):
     """CREATE of a directory, without attributes."""
-    return u32(CREATE, 2) + opaque(name) + u32(0, 0)
+    return op("CREATE", type=2, name=name)
 
 
 def remove(name):
-    return u32(REMOVE) + opaque(name)
+    return op("REMOVE", name=name)
 
 
-def open_file(owner, access, name, make=False):
-    """OPEN by name, which denies nothing; where the file is to be made, UNCHECKED and without attributes."""
-    how = u32(1, 0, 0, 0) if make else u32(0)
-    return u32(OPEN, 0, access, 0) + u64(0) + opaque(owner) + how + u32(0) + opaque(name)
+def open_file(owner, access, name, make=False, deny=0):
+    """OPEN by name; a file that is to be made is made UNCHECKED and without attributes."""
+    return op("OPEN", share_access=access, share_deny=deny, owner=owner, open_type=int(make), name=name)
 
 
 def result(operation, status, body=b""):
+    """A result of an operation by its number, with the bytes of what comes under that status."""
     return u32(operation, status) + body
 
 
 def results(*parts):
     """A COMPOUND's result without a tag, of the results of its operations; its status is that of the last."""
-    return parts[-1][4:8] + u32(0, len(parts)) + b"".join(parts)
+    return nfs4.compound_results(parts)
 
 
 def reply(xid, body):
-    """An accepted reply that succeeded, and what is behind its head."""
-    return u32(xid, 1, 0, 0, 0, 0) + body
+    """An accepted reply that succeeded, and what is after its head."""
+    return reply_head(xid) + body
 
 
 def exchanged(client, number, confirmed=False):
     """A good EXCHANGE_ID: the client id, the number expected of CREATE_SESSION, and whether the record is confirmed."""
     flags = 0x0001_0000 | (0x8000_0000 if confirmed else 0)
-    return result(EXCHANGE_ID, 0, client_id(client) + u32(number, flags, 0) + u64(0) + opaque(b"nfs41d") * 2 + u32(0))
+    return write_result("EXCHANGE_ID", 0, {"clientid": number_of(client), "seqid": number, "eir_flags": flags, "major_id": b"nfs41d",
+                                           "scope": b"nfs41d"}.items())
 
 
 def session_created(session, number, fore=channel(), back=channel()):
-    return result(CREATE_SESSION, 0, session + u32(number, 0) + fore + back)
+    fields = {"sessionid": session, "seqid": number} | sizes("fore", fore) | sizes("back", back)
+    return write_result("CREATE_SESSION", 0, fields.items())
 
 
 def sequenced(session, number, slot, last=15):
     """A good SEQUENCE, of a session whose highest slot is `last`."""
-    return result(SEQUENCE, 0, session + u32(number, slot, last, last, 0))
+    fields = {"sessionid": session, "seqid": number, "slot_id": slot, "high_slot_id": last, "target_high_slot_id": last}
+    return write_result("SEQUENCE", 0, fields.items())
 
 
 def changed(before, after):
@@ -136,18 +153,45 @@ def changed(before, after):
     return u32(1) + u64(before, after)
 
 
-def replayed(script, environment=None, words=()):
-    """A run of the program over a script."""
-    return subprocess.run([PROGRAM, "replay", *words], input=script, capture_output=True, timeout=SECONDS, check=False,
-                          env=environment)
-
-
 def replies(output):
     """The replies of an output, each with its connection."""
-    found, at = [], 0
-    while at < len(output):
-        conn, mark = struct.unpack_from(">II", output, at)
-        size = mark & 0x7fff_ffff
-        found.append((conn, output[at + 8:at + 8 + size]))
-        at += 8 + size
-    return found
+    return [(connection, told or b"") for connection, told in nfs4.replies(output)]
+
+
+# Streams of the tests over TCP.
+
+def received(client, size):
+    """So many bytes, or those that came until the other side closed."""
+    got = bytearray()
+    while len(got) < size:
+        more = client.recv(min(65_536, size - len(got)))
+        if not more:
+            break
+        got += more
+    return bytes(got)
+
+
+def until_closed(client):
+    """What comes until the other side has closed; a reset ends it too."""
+    got = bytearray()
+    try:
+        while more := client.recv(65_536):
+            got += more
+    except ConnectionResetError:
+        pass
+    return bytes(got)
+
+
+def one_reply(client):
+    """The next reply, without its mark."""
+    mark = int.from_bytes(received(client, 4), "big")
+    return received(client, mark & 0x7fff_ffff)
+
+
+def null(xid):
+    """A NULL call with AUTH_NONE, as a record."""
+    return marked(nfs4.null_call(xid))
+
+
+def null_reply(xid):
+    return marked(reply_head(xid))

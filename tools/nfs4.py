@@ -1,8 +1,10 @@
 """What the tools share: XDR (RFC 4506), records and heads of RPC (RFC 5531), the operations of NFS version 4 minor version 1
 (RFC 8881 section 18, RFC 5662), scripts of `nfs41d replay` and what it puts out. Fields have the words of tshark's dissector,
 where it has them. An operation is described once, by a function that is called with a reader or with a writer."""
+import functools
 import re
 import struct
+import sys
 from urllib.parse import quote, unquote_to_bytes
 
 OPERATIONS = dict(enumerate(
@@ -53,6 +55,7 @@ WORDS = OTHERS | {number: name for number, (name, _) in ATTRIBUTES.items()}
 ATTRIBUTE_NUMBERS = {name: number for number, name in WORDS.items()}
 
 LAST = 0x80000000
+MOST_MOMENT = 2**62
 MOST_CONNECTIONS = 16
 MOST_PIECE = 65_536
 
@@ -73,7 +76,21 @@ def shown(data, most=None):
 
 
 def meant(word):
+    """The bytes that a word means; bytes are themselves."""
+    if isinstance(word, bytes):
+        return word
     return bytes.fromhex(word[2:]) if word.startswith("0x") else unquote_to_bytes(word)
+
+
+def number_of(name, word, bits=32):
+    """The number that a word means, which must fit so many bits; a number is itself."""
+    try:
+        value = int(word, 0) if isinstance(word, str) else int(word)
+    except ValueError as fault:
+        raise Unreadable(f"{name}={word} is no number") from fault
+    if not 0 <= value < 1 << bits:
+        raise Unreadable(f"{name}={word} is not from 0 to {(1 << bits) - 1}")
+    return value
 
 
 def numbers_of(mask):
@@ -85,6 +102,8 @@ def shown_mask(mask):
 
 
 def meant_mask(word):
+    if isinstance(word, int):
+        return word
     return 0 if word == "-" else sum(1 << (ATTRIBUTE_NUMBERS[w] if w in ATTRIBUTE_NUMBERS else int(w, 0)) for w in word.split(","))
 
 
@@ -187,8 +206,24 @@ class Reader:
             one(self)
 
 
+def u32(*numbers):
+    """Numbers of four bytes each (XDR's unsigned int)."""
+    return struct.pack(f">{len(numbers)}I", *numbers)
+
+
+def u64(*numbers):
+    """Numbers of eight bytes each (XDR's unsigned hyper)."""
+    return struct.pack(f">{len(numbers)}Q", *numbers)
+
+
+def opaque(data):
+    """Bytes with their length before them and padded to a multiple of four (XDR's variable-length opaque)."""
+    return struct.pack(">I", len(data)) + data + bytes(-len(data) % 4)
+
+
 class Writer:
-    """The same calls put the items that stand in `given`, in that order by name; what is not given is 0 or empty."""
+    """The same calls put the items of `given`, which are pairs of a name and a word, a number or bytes, in that order by name.
+    What is not given is 0 or empty."""
 
     def __init__(self, given):
         self.given, self.data = given, b""
@@ -205,30 +240,32 @@ class Writer:
         self.data += struct.pack(f">{count + 1}I", count, *(value >> 32 * i & 0xffffffff for i in range(count)))
 
     def put_bytes(self, data):
-        self.data += struct.pack(">I", len(data)) + data + bytes(-len(data) % 4)
+        self.data += opaque(data)
 
     def u32(self, name, default=0, style=None):
-        value = int(self.next(name, str(default)), 0)
-        self.data += struct.pack(">I", value)
+        value = number_of(name, self.next(name, default))
+        self.data += u32(value)
         return value
 
     def u64(self, name, default=0, style=None):
-        value = int(self.next(name, str(default)), 0)
-        self.data += struct.pack(">Q", value)
+        value = number_of(name, self.next(name, default), 64)
+        self.data += u64(value)
         return value
 
     def fixed(self, name, size):
-        data = meant(self.next(name, "0x" + bytes(size).hex()))
+        data = meant(self.next(name, bytes(size)))
         if len(data) != size:
             raise Unreadable(f"{name} is not {size} bytes")
         self.data += data
 
     def bytes_(self, name):
-        self.put_bytes(meant(self.next(name, "0x")))
+        self.put_bytes(meant(self.next(name, b"")))
 
     def mask(self, name):
-        word, _, count = self.next(name, "-").partition(":")
-        self.put_mask(meant_mask(word), int(count) if count else None)
+        word, count = self.next(name, "-"), ""
+        if isinstance(word, str):
+            word, _, count = word.partition(":")
+        self.put_mask(meant_mask(word), number_of(name, count, 16) if count else None)
 
     def attributes(self, name):
         word = self.next(name, "{}")
@@ -238,29 +275,37 @@ class Writer:
             self.put_bytes(meant(values))
             return
         inner, mask = Writer([]), 0
-        pairs = [pair.split(":", 1) for pair in word.strip("{}").split(";") if pair]
+        pairs = [pair.partition(":")[::2] for pair in word.strip("{}").split(";") if pair]
+        for attribute, _ in pairs:
+            if ATTRIBUTE_NUMBERS.get(attribute) not in ATTRIBUTES:
+                raise Unreadable(f"{attribute} is no attribute whose value has words (raw:MASK:COUNT:0xHEX gives the bytes of any)")
         for number, text in sorted((ATTRIBUTE_NUMBERS[attribute], text) for attribute, text in pairs):
             mask |= 1 << number
-            inner.value(ATTRIBUTES[number][1], text)
+            inner.value(WORDS[number], ATTRIBUTES[number][1], text)
         self.put_mask(mask)
         self.put_bytes(inner.data)
 
-    def value(self, kind, text):
+    def value(self, name, kind, text):
+        """The value of an attribute, by the letter of its kind."""
         if kind in "nb":
-            self.data += struct.pack(">I", int(text, 8 if text.startswith("0") and text.isdigit() else 0))
+            is_octal = text.startswith("0") and text.isdigit()
+            self.data += u32(number_of(name, f"0o{text}" if is_octal else text))
         elif kind == "N":
-            self.data += struct.pack(">Q", int(text, 0))
+            self.data += u64(number_of(name, text, 64))
         elif kind == "o":
             self.put_bytes(meant(text))
         elif kind == "M":
             self.put_mask(meant_mask(text))
         elif text == "now":
-            self.data += struct.pack(">I", 0)
+            self.data += u32(0)
         else:
             if kind == "s":
-                self.data += struct.pack(">I", 1)
-            long, short = re.split(r"[.+]", text)
-            self.data += struct.pack(">QQ" if kind == "f" else ">QI", int(long), int(short))
+                self.data += u32(1)
+            pair = re.fullmatch(r"([0-9]+)[.+]([0-9]+)", text)
+            if not pair:
+                raise Unreadable(f"{name}:{text} is not two numbers with a point or a plus between them")
+            long, short = number_of(name, int(pair[1]), 64), number_of(name, int(pair[2]), 64 if kind == "f" else 32)
+            self.data += u64(long) + (u64(short) if kind == "f" else u32(short))
 
     def many(self, name, one):
         for _ in range(self.u32(name)):
@@ -485,21 +530,51 @@ def read_result(c):
     return name, STATUSES.get(status, str(status)), c.fields
 
 
+def written(name, items, fields):
+    """The bytes that a description puts of fields by name."""
+    c = Writer(list(fields))
+    items(c)
+    if c.given:
+        raise Unreadable(f"{name} has no {c.given[0][0]}, or not there")
+    return c.data
+
+
 def write_operation(name, fields):
     """The bytes of an operation from its fields by name."""
     if name not in ARGUMENTS:
         raise Unreadable(f"{name} is no operation of this profile")
-    c = Writer(list(fields))
-    ARGUMENTS[name](c)
-    if c.given:
-        raise Unreadable(f"{name} has no {c.given[0][0]}, or not there")
-    return struct.pack(">I", NUMBERS[name]) + c.data
+    return u32(NUMBERS[name]) + written(name, ARGUMENTS[name], fields)
+
+
+def op(operation, /, **fields):
+    """The same from fields by name in any order, each once: words, numbers or bytes."""
+    return write_operation(operation, fields.items())
+
+
+def sequence_of(session, number, slot, highest, keeps=0):
+    """What op("SEQUENCE", ..) gives for these numbers, for scripts of very many calls."""
+    return SEQUENCE_ARGUMENTS.pack(53, session, number, slot, highest, keeps)
+
+
+SEQUENCE_ARGUMENTS = struct.Struct(">I16s4I")
+
+
+def write_result(name, status, fields=()):
+    """The bytes of a result: its status is a number, and its fields are those that the operation has under it."""
+    if name == "SETATTR":
+        items = in_turn("attr_mask:M")
+    elif status == 10_010 and name in ("LOCK", "LOCKT"):
+        items = LOCK_DENIED
+    else:
+        items = RESULTS.get(name, in_turn()) if status == 0 else in_turn()
+    return u32(NUMBERS[name], status) + written(name, items, fields)
 
 
 # RPC: records, calls and replies.
 
 def record(data):
-    return struct.pack(">I", LAST | len(data)) + data
+    """The bytes as a record of one fragment, with its mark (RFC 5531 section 11)."""
+    return u32(LAST | len(data)) + data
 
 
 class Records:
@@ -527,15 +602,35 @@ class Records:
 
 
 def call_head(xid, uid=0, gid=0, gids=(), procedure=1, machine=b"", stamp=0):
-    body = struct.pack(">2I", stamp, len(machine)) + machine + bytes(-len(machine) % 4)
-    body += struct.pack(f">{3 + len(gids)}I", uid, gid, len(gids), *gids)
-    return struct.pack(">8I", xid, 0, 2, 100_003, 4, procedure, 1, len(body)) + body + bytes(8)
+    """A call up to its arguments, with AUTH_SYS (RFC 5531 section 9 and appendix A)."""
+    return u32(xid) + after_xid(uid, gid, tuple(gids), procedure, machine, stamp)
+
+
+@functools.lru_cache(maxsize=64)
+def after_xid(uid, gid, gids, procedure, machine, stamp):
+    """The same without the xid, which scripts of very many calls have the same each time."""
+    body = u32(stamp) + opaque(machine) + u32(uid, gid, len(gids), *gids)
+    return u32(0, 2, 100_003, 4, procedure, 1) + opaque(body) + bytes(8)
+
+
+def null_call(xid):
+    """A call of the procedure NULL with AUTH_NONE, without its record mark."""
+    return u32(xid, 0, 2, 100_003, 4, 0, 0, 0, 0, 0)
 
 
 def compound(xid, operations, uid=0, gid=0, gids=(), tag=b"", minor=1, machine=b"", stamp=0):
     """A call of COMPOUND with these operations' bytes, without its record mark."""
-    tagged = struct.pack(">I", len(tag)) + tag + bytes(-len(tag) % 4)
-    return call_head(xid, uid, gid, gids, 1, machine, stamp) + tagged + struct.pack(">2I", minor, len(operations)) + b"".join(operations)
+    return call_head(xid, uid, gid, gids, 1, machine, stamp) + opaque(tag) + u32(minor, len(operations)) + b"".join(operations)
+
+
+def reply_head(xid):
+    """An accepted reply that succeeded, up to its results."""
+    return u32(xid, 1, 0, 0, 0, 0)
+
+
+def compound_results(results):
+    """The result of a compound without a tag, of these results' bytes; its status is that of the last."""
+    return (results[-1][4:8] if results else u32(0)) + u32(0, len(results)) + b"".join(results)
 
 
 class Call:
@@ -609,20 +704,39 @@ class Reply:
 
 # Scripts of `nfs41d replay` and what it puts out (docs/PROTOCOL.md).
 
+def bytes_of(path):
+    """The bytes of a file; - is standard input."""
+    return sys.stdin.buffer.read() if str(path) == "-" else path.read_bytes()
+
+
+def fault_of(moment, connection, size):
+    """Why `nfs41d replay` refuses the head of an entry, with the number of that fault, or none."""
+    if connection >= MOST_CONNECTIONS:
+        return f"connection {connection} is above {MOST_CONNECTIONS - 1} (fault 2)"
+    if size > MOST_PIECE:
+        return f"a piece of {size} bytes, above {MOST_PIECE} (fault 3)"
+    return f"moment {moment} is above 2^62 (fault 4)" if moment > MOST_MOMENT else None
+
+
 def entries(script):
     """Moment, connection and piece of each entry; an empty piece closes the connection."""
-    at = 0
+    at, number = 0, 0
     while at < len(script):
+        number += 1
         if at + 16 > len(script):
-            raise Unreadable("the script ends inside an entry")
+            raise Unreadable(f"entry {number}: the script ends inside it (fault 1)")
         moment, connection, size = struct.unpack_from(">QII", script, at)
+        why = fault_of(moment, connection, size)
+        if why:
+            raise Unreadable(f"entry {number}: {why}" if at else f"this is no script of `nfs41d replay`: in entry 1 {why}")
         if at + 16 + size > len(script):
-            raise Unreadable("the script ends inside an entry")
+            raise Unreadable(f"entry {number}: the script ends inside it (fault 1)")
         yield moment, connection, script[at + 16:at + 16 + size]
         at += 16 + size
 
 
 def entry(moment, connection, piece):
+    """The bytes of an entry, of numbers that `nfs41d replay` takes or not."""
     return struct.pack(">QII", moment, connection, len(piece)) + piece
 
 

@@ -1,11 +1,12 @@
-"""Captures of TCP, read and written as files of the kind pcap (of pcapng, where tshark turns them into it)."""
+"""Captures of TCP, read and written as files of the kind pcap (of pcapng, if tshark is here to turn them into it)."""
+import heapq
 import socket
 import struct
 import subprocess
 
 PCAPNG = b"\n\r\r\n"
 FIN, SYN, RST, PUSH, ACK = 1, 2, 4, 8, 16
-# What stands before the IP packet, by the kind of link: Ethernet, none, Linux's two cooked ones, and the BSD loopback.
+# How many bytes are before the IP packet, by the kind of link: Ethernet, none, Linux's two cooked ones, and the BSD loopback.
 BEFORE = {1: 14, 101: 0, 228: 0, 113: 16, 276: 20, 0: 4}
 
 
@@ -13,17 +14,25 @@ class NoCapture(Exception):
     """The file is no capture that can be read."""
 
 
-def packets(path):
-    """The second, microsecond and bytes of each IP packet."""
+def bytes_of(path):
+    """The bytes of a capture as pcap."""
     data = path.read_bytes()
-    if data.startswith(PCAPNG):
-        try:
-            data = subprocess.run(["tshark", "-r", str(path), "-F", "pcap", "-w", "-"], capture_output=True, check=True).stdout
-        except (OSError, subprocess.CalledProcessError) as fault:
-            raise NoCapture(f"{path} is pcapng, which tshark would turn into pcap: {fault}") from fault
+    if not data.startswith(PCAPNG):
+        return data
+    try:
+        return subprocess.run(["tshark", "-r", str(path), "-F", "pcap", "-w", "-"], capture_output=True, check=True).stdout
+    except (OSError, subprocess.CalledProcessError) as fault:
+        raise NoCapture(f"{path} is pcapng, which tshark would turn into pcap: {fault}") from fault
+
+
+def packets(path):
+    """The second, microsecond and bytes of each IP packet. A file may end inside a packet, as one does that is still written."""
+    data = bytes_of(path)
     order = {b"\xd4\xc3\xb2\xa1": "<", b"\x4d\x3c\xb2\xa1": "<", b"\xa1\xb2\xc3\xd4": ">", b"\xa1\xb2\x3c\x4d": ">"}.get(data[:4])
     if order is None:
-        raise NoCapture(f"{path} is no pcap")
+        raise NoCapture(f"{path} is no capture of the kind pcap or pcapng")
+    if len(data) < 24:
+        raise NoCapture(f"{path} is cut: a pcap has a head of 24 bytes, and this one {len(data)}")
     nano = 1000 if data[:4] in (b"\x4d\x3c\xb2\xa1", b"\xa1\xb2\x3c\x4d") else 1
     link = struct.unpack_from(order + "I", data, 20)[0] & 0xffff
     if link not in BEFORE:
@@ -42,7 +51,9 @@ def over_tcp(path):
     for second, part, packet in packets(path):
         if len(packet) >= 20 and packet[0] >> 4 == 4 and packet[9] == socket.IPPROTO_TCP:
             packet = packet[:struct.unpack_from(">H", packet, 2)[0]]
-            yield second, part, packet, packet[4 * (packet[0] & 15):]
+            tcp = packet[4 * (packet[0] & 15):]
+            if len(tcp) >= 20:
+                yield second, part, packet, tcp
 
 
 def ports(path):
@@ -61,31 +72,45 @@ def segments(path, port):
             yield (second, part), (packet[12:16], source), False, tcp[13], number, data
 
 
+def ahead(number, base):
+    """How far a sequence number is ahead of another, from -2^31 to 2^31 - 1 (they wrap round at 2^32)."""
+    return (number - base + 2**31 & 0xffffffff) - 2**31
+
+
 class Side:
-    """What one side of a connection sent, put into order: segments come twice, and one before the other."""
+    """What one side of a connection sent, put into order: segments come twice, and one before the other. Places are counted from the first
+    segment and do not wrap round; `early` is a heap of the places and bytes of the segments that came before one that is lacking."""
 
     def __init__(self):
-        self.next, self.early = None, {}
+        self.next, self.place, self.early = None, 0, []
+
+    def lacks(self):
+        """Whether bytes are lacking before some that came."""
+        return bool(self.early)
 
     def feed(self, number, flags, data):
+        """The bytes that are now in order, of a segment with this sequence number."""
         if flags & SYN:
-            self.next, self.early = (number + 1) & 0xffffffff, {}
+            self.next, self.place, self.early = (number + 1) & 0xffffffff, 0, []
         elif self.next is None:
             self.next = number
-        if data:
-            self.early.setdefault(number, data)
-        out = b""
-        while True:
-            for number, data in sorted(self.early.items(), key=lambda item: (item[0] - self.next + 2**31) & 0xffffffff):
-                behind = (self.next - number) & 0xffffffff
-                if behind < 2**31:
-                    del self.early[number]
-                    if behind < len(data):
-                        out += data[behind:]
-                        self.next = (number + len(data)) & 0xffffffff
-                    break
-            else:
-                return out
+        if not data:
+            return b""
+        place = self.place + ahead(number, self.next)
+        if place > self.place:
+            heapq.heappush(self.early, (place, data))
+            return b""
+        out = [self.taken(place, data)]
+        while self.early and self.early[0][0] <= self.place:
+            out.append(self.taken(*heapq.heappop(self.early)))
+        return b"".join(out)
+
+    def taken(self, place, data):
+        """What of a segment at or before the place that is next was not there yet; the place moves to its end."""
+        fresh = data[self.place - place:]
+        self.place += len(fresh)
+        self.next = (self.next + len(fresh)) & 0xffffffff
+        return fresh
 
 
 def checksum(data):

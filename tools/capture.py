@@ -1,0 +1,88 @@
+"""Scripts of `nfs41d replay` and captures: what a capture has of the connections to a server, and a capture of a script and its output."""
+import io
+
+import nfs4
+import pcap
+
+
+class Connections:
+    """What a capture has of the connections of clients to a server: the script of what came, and what the server answered."""
+
+    def __init__(self):
+        self.script, self.replied, self.instance = [], [], None
+        self.numbers, self.sides, self.records = {}, {}, {}
+        self.gaps = 0
+
+    def close(self, moment, client):
+        """Ends a connection; a side of it that lacks bytes is counted."""
+        if client in self.numbers:
+            self.script.append(nfs4.entry(moment, self.numbers.pop(client), b""))
+        for key in (client, False), (client, True):
+            side = self.sides.pop(key, None)
+            self.gaps += bool(side and side.lacks())
+        self.records.pop(client, None)
+
+    def number(self, client):
+        """The number of a client's connection: the least that is free when its first bytes come."""
+        if client not in self.numbers:
+            free = set(range(nfs4.MOST_CONNECTIONS)) - set(self.numbers.values())
+            if not free:
+                raise nfs4.Unreadable(f"more than {nfs4.MOST_CONNECTIONS} connections at once")
+            self.numbers[client] = min(free)
+        return self.numbers[client]
+
+    def take(self, moment, client, from_server, flags, number, data):
+        """A segment."""
+        if flags & pcap.SYN and not from_server:
+            self.close(moment, client)
+        came = self.sides.setdefault((client, from_server), pcap.Side()).feed(number, flags, data)
+        if came and not from_server:
+            for at in range(0, len(came), nfs4.MOST_PIECE):
+                self.script.append(nfs4.entry(moment, self.number(client), came[at:at + nfs4.MOST_PIECE]))
+        elif came and client in self.numbers:
+            for reply in self.records.setdefault(client, nfs4.Records()).feed(came):
+                self.replied.append(nfs4.u32(self.numbers[client]) + nfs4.record(reply))
+                self.instance = self.instance or instance_of(reply)
+        if flags & (pcap.FIN | pcap.RST) and not from_server or flags & pcap.RST:
+            self.close(moment, client)
+
+    def lacking(self):
+        """How many streams lack bytes, of all connections."""
+        return self.gaps + sum(side.lacks() for side in self.sides.values())
+
+
+def instance_of(reply):
+    """The first half of the client id that a reply to EXCHANGE_ID gives."""
+    try:
+        for name, status, fields in nfs4.Reply(reply).results:
+            if name == "EXCHANGE_ID" and status == "NFS4_OK":
+                return int(dict(fields)["clientid"], 0) >> 32
+    except nfs4.Unreadable:
+        pass
+    return None
+
+
+def to_capture(script, output, port):
+    """A capture of each piece as it comes, and of each reply after the piece that made its call whole."""
+    out = io.BytesIO()
+    made = pcap.Written(out, port)
+    answers, at = list(nfs4.replies(output)), 0
+    clients, streams = {}, {}
+    for moment, connection, piece in nfs4.entries(script):
+        if not piece:
+            if connection in clients:
+                made.close(moment, clients.pop(connection))
+                streams.pop(connection)
+            continue
+        if connection not in clients:
+            clients[connection], streams[connection] = made.open(moment), nfs4.Records()
+        made.sent(moment, clients[connection], True, piece)
+        for call in streams[connection].feed(piece):
+            if at < len(answers) and answers[at][0] == connection and answers[at][1] and answers[at][1][:4] == call[:4]:
+                made.sent(moment, clients[connection], False, nfs4.record(answers[at][1]))
+                at += 1
+        while at < len(answers) and answers[at][1] is None:
+            at += 1
+    if at < len(answers):
+        raise nfs4.Unreadable(f"{len(answers) - at} replies of the output answer no call of the script")
+    return out.getvalue()

@@ -1,0 +1,50 @@
+"""The generator of tools/load: its program in C, which is compiled where it is first used, and the file of calls that it reads."""
+import hashlib
+import os
+import shutil
+import subprocess
+from pathlib import Path
+
+import nfs4
+from nfs4 import opaque, u32
+
+SLOTS = 16
+SOURCE = Path(__file__).resolve().parent / "load.c"
+FLAGS = ["-O3", "-Wall"]
+
+
+class Wrong(Exception):
+    """A reply that is not what it should be, or a server that is not there."""
+
+
+def compiled():
+    """The program of tools/load.c, which is compiled if the cache has none of this source."""
+    cache = Path(os.environ.get("XDG_CACHE_HOME") or "~/.cache").expanduser() / "gondzalif"
+    program = cache / f"load-{hashlib.sha256(SOURCE.read_bytes() + repr(FLAGS).encode()).hexdigest()[:16]}"
+    if program.exists():
+        return program
+    compiler = next(filter(shutil.which, filter(None, (os.environ.get("CC"), "cc", "gcc", "clang"))), None)
+    if compiler is None:
+        raise Wrong("there is no C compiler (CC, cc, gcc and clang were looked for)")
+    cache.mkdir(parents=True, exist_ok=True)
+    made = cache / f"load-{os.getpid()}"
+    ran = subprocess.run([compiler, *FLAGS, "-o", made, SOURCE], capture_output=True, text=True, check=False)
+    if ran.returncode:
+        raise Wrong(f"{compiler} does not compile {SOURCE}: {ran.stderr.strip()[:300]}")
+    made.rename(program)
+    return program
+
+
+def file_of(sessions, calls, is_random):
+    """The file that tools/load.c reads: of each session its id, and the last number used on each of its 16 slots; and its calls, each as the
+    number of its operations, their bytes, those of the results, and a mask with 0 for bytes that are not compared."""
+    parts = [unpadded(nfs4.call_head(0)[4:] + opaque(b"") + u32(1)), u32(is_random, len(sessions))]
+    for (session, numbers), own in zip(sessions, calls, strict=True):
+        parts.append(session + u32(*numbers, len(own)))
+        for count, asked, wanted, mask in own:
+            parts += [u32(count), unpadded(asked), unpadded(wanted), mask]
+    return b"".join(parts)
+
+
+def unpadded(data):
+    return u32(len(data)) + data

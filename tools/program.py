@@ -1,0 +1,94 @@
+"""The built program: where it is, how a script begins that needs it, a run of it over a script, and a server of it on the loopback."""
+import argparse
+import os
+import re
+import socket
+import subprocess
+import sys
+import tempfile
+import time
+from pathlib import Path
+
+TOP = Path(__file__).resolve().parent.parent
+PROGRAM = TOP / "crates/nfs41d/out/nfs41d"
+HERE = "127.0.0.1"
+SECONDS = 60
+LISTENING = re.compile(rb"nfs41d: listening on 127\.0\.0\.1:(\d+)\n")
+
+
+def needed(program=PROGRAM):
+    """Ends the script with a line and status 2 unless the program is there."""
+    if not os.access(program, os.X_OK) or os.path.isdir(program):
+        print(f"{os.path.basename(sys.argv[0])}: the program is not built: there is no {program}; ./nfs41d builds it", file=sys.stderr)
+        sys.exit(2)
+
+
+def begin(text):
+    """Answers --help with a script's own text, takes no other words, and ends the script unless the program is there."""
+    argparse.ArgumentParser(description=text, formatter_class=argparse.RawDescriptionHelpFormatter).parse_args()
+    needed()
+
+
+def replayed(script, environment=None, words=()):
+    """A run of the program over a script."""
+    return subprocess.run([PROGRAM, "replay", *words], input=script, capture_output=True, timeout=SECONDS, check=False, env=environment)
+
+
+class Served:
+    """The program, serving so many connections on a port of the loopback that it took itself, with the options given; `files` limits how many
+    files it may have open."""
+
+    def __init__(self, connections, *options, files=None, program=PROGRAM):
+        self.told = tempfile.TemporaryFile()
+        limited = ["sh", "-c", f'ulimit -n {files} && exec "$@"', "sh"] if files else []
+        self.program = subprocess.Popen(
+            [*limited, program, "serve", "--listen", f"{HERE}:0", "--connections", str(connections), *options],
+            stdin=subprocess.DEVNULL, stdout=subprocess.PIPE, stderr=self.told)
+        try:
+            self.port = self.listening()
+        except RuntimeError:
+            self.stop()
+            raise
+
+    def listening(self):
+        """The port that it says it listens on."""
+        until = time.monotonic() + SECONDS
+        while time.monotonic() < until and self.program.poll() is None:
+            self.told.seek(0)
+            if found := LISTENING.match(self.told.read()):
+                return int(found[1])
+            time.sleep(0.01)
+        raise RuntimeError("the program does not listen")
+
+    def connect(self):
+        client = socket.create_connection((HERE, self.port), timeout=SECONDS)
+        client.setsockopt(socket.IPPROTO_TCP, socket.TCP_NODELAY, 1)
+        return client
+
+    def ended(self):
+        """The exit status, standard output, and the lines of standard error."""
+        try:
+            written, _ = self.program.communicate(timeout=SECONDS)
+        except subprocess.TimeoutExpired:
+            return None, b"", []
+        self.told.seek(0)
+        return self.program.returncode, written, self.told.read().splitlines()
+
+    def seconds(self):
+        """The processor time that the program has used."""
+        with open(f"/proc/{self.program.pid}/stat", encoding="ascii") as stat:
+            words = stat.read().rpartition(")")[2].split()
+        return (int(words[11]) + int(words[12])) / 100
+
+    def stop(self):
+        if self.program.poll() is None:
+            self.program.kill()
+            self.program.wait()
+        self.program.stdout.close()
+        self.told.close()
+
+    def __enter__(self):
+        return self
+
+    def __exit__(self, *fault):
+        self.stop()
