@@ -1,30 +1,15 @@
 """What is to be read and what the checker reads: lines to believe, other definitions, code, tests and proof, counted in the tree."""
-import importlib.machinery
-import importlib.util
+import sys
 
 import common
 from svg import FAINT, INK, SERIES, Drawing, wide
 
+sys.path.append(str(common.TOP / "tests"))
+from promises import lines_by_crate  # noqa: E402
+
 ONLY_TEST = {"nfs_testing", "nfs_tests"}
 AREAS = [("to believe", "definitions that the promises rest on", "#d1495b"), ("other definitions", "between crates; laws; comments", "#e9a6ae"),
          ("code", "Rust with contracts", SERIES[0]), ("proof", "read by the checker alone", "#b9cfd6")]
-
-
-def believed():
-    """The lines to believe of each crate, as tests/believed counts them."""
-    path = common.TOP / "tests/believed"
-    loader = importlib.machinery.SourceFileLoader("believed", str(path))
-    module = importlib.util.module_from_spec(importlib.util.spec_from_loader("believed", loader))
-    loader.exec_module(module)
-    tree = module.Tree(common.TOP)
-    for page in ("PROMISES.md", "BELIEVED.md"):
-        path = common.TOP / "docs" / page
-        for pinned in module.PINNED.findall(path.read_text(encoding="utf-8") if path.exists() else ""):
-            tree.pin(*pinned)
-    found = {}
-    for one in tree.leaned_on(module.ROOTS):
-        found[one.file[0]] = found.get(one.file[0], 0) + len(one.lines)
-    return found
 
 
 def lines(paths):
@@ -33,7 +18,7 @@ def lines(paths):
 
 def counted():
     """Of each crate its four numbers of lines, and the lines of tests of all."""
-    few, crates, tests = believed(), {}, 0
+    few, crates, tests = lines_by_crate(common.TOP), {}, 0
     for folder in sorted((common.TOP / "crates").iterdir()):
         sources = sorted(folder.glob("src/**/*.rt"))
         trying = [path for path in sources if folder.name in ONLY_TEST or "#[test]" in path.read_text(encoding="utf-8")]
