@@ -1,3 +1,4 @@
 pub mod CommandLine
 pub mod ExitStatus
 pub mod SettingsFile
+pub mod Seconds
