@@ -19,6 +19,7 @@ ALONE = {"EXCHANGE_ID", "CREATE_SESSION", "DESTROY_SESSION", "DESTROY_CLIENTID"}
 NEEDED = ALONE | {"SEQUENCE"}
 LONGEST = 60_000   # a record that the reference takes
 SLACK = 0.06       # seconds by which a server's clock may be coarse
+PIECES = 4         # a wait, so that the tool's own clients can renew their leases
 TIMES_PARTED = 3   # so often the two may part at one operation and status, before that is steered round
 
 
@@ -157,9 +158,12 @@ class Play:
         self.judged(sent, (low, self.now()))
 
     def wait(self, share):
-        """So many leases pass on both sides."""
-        time.sleep(share * self.server.lease + (1.2 if share > 1 else 0))
-        self.moment += int(share * LEASE)
+        """So many leases pass on both sides; the tool's own clients renew theirs."""
+        for _ in range(PIECES):
+            time.sleep((share * self.server.lease + (1.2 if share > 1 else 0)) / PIECES)
+            self.moment += int(share * LEASE) // PIECES
+            self.server.control().in_session([])
+            self.reference.renew(self.moment)
 
     def now(self):
         return time.time()
@@ -493,7 +497,7 @@ class Play:
         """Brings the two together again behind different statuses of operation `at`."""
         step = sent.step
         sequence = step.sequence
-        if sequence and at == 0 and (step.again or sequence.get("seqid") == Turn(0)):
+        if sequence and at == 0 and (step.again or sequence.get("seqid") == Turn(0)) or step.again and sent.reference.results[0][1] == "OK":
             return  # a kept reply, given or not
         if a == "OK" and at == 0:
             self.undo(sent)
@@ -538,7 +542,7 @@ class Play:
         return self.circumstance_of_files(step, sent, op, a, b, cursor)
 
     def source_waited(self):
-        return self.moment - T0 > LEASE / 2
+        return self.moment - T0 > LEASE
 
     def circumstance_of_files(self, step, sent, op, a, b, cursor):
         if a == "OK" and b in ("STALE", "NOENT") or op.name == "LINK" and a == "NOENT":

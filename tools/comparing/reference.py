@@ -30,8 +30,8 @@ class Reference:
         self.settings.flush()
         words = shlex.split(command) if command else [str(PROGRAM), "replay"]
         self.command = [*words, "--settings", self.settings.name]
-        self.runs, self.history = 0, []
-        self.control = Client(lambda conn, record: self.call(record, T0 - 1))
+        self.runs, self.history, self.now = 0, [], T0 - 1
+        self.control = Client(lambda conn, record: self.call(record, self.now))
         self.control.open()
         self.base = self.control.base("base")
         self.spare = {"dir": self.control.base("spare"), "file": self.made_file(), "link": self.made_link()}
@@ -50,6 +50,12 @@ class Reference:
         """All calls of a script are forgotten."""
         self.history = list(self.begun[0])
         self.control.number, self.control.xid = self.begun[1:]
+        self.now = T0 - 1
+
+    def renew(self, moment):
+        """The tool's own client renews its lease."""
+        self.now = moment
+        self.control.in_session([])
 
     def call(self, record, moment):
         """The reply to a call behind all others, which it joins; None where there is none."""

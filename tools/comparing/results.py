@@ -40,7 +40,8 @@ class Results:
             special(op, r, s, mine, theirs)
         if "changeid_before" in r:
             self.change_info(self.cursor.here, r, s, "atomic", "changeid_before", "changeid_after")
-        self.move(op, r)
+        if status == "OK":
+            self.move(op, r)
 
     def same(self, op, r, s, *names):
         for name in names:
@@ -174,8 +175,11 @@ class Results:
     def create_session_(self, op, r, s, *_):
         first = self.twin.bases.get(op.get("clientid"), (1, 1))
         self.counted(int(r["seqid"]) - first[0], int(s["seqid"]) - first[1])
-        for word in CHANNEL:
-            asked, granted = int(op.get(f"fore_{word}", "0"), 0), int(s[f"fore_{word}"])
+        asks = {word: int(op.get(f"fore_{word}", "0"), 0) for word in CHANNEL}
+        if any(int(r[f"fore_{word}"]) > asks[word] for word in CHANNEL):
+            asks = {word: int(r[f"fore_{word}"]) for word in CHANNEL}  # a result that was kept
+        for word, asked in asks.items():
+            granted = int(s[f"fore_{word}"])
             if granted > asked:
                 self.differ(f"more than was asked of {word}", asked, granted)
             elif granted < asked:
@@ -311,7 +315,7 @@ class Results:
 
     def time(self, what, mine, theirs):
         """The server's time has to lie in the interval of the call that set it, where the reference's names one."""
-        at, seconds = moment_of(theirs), int(mine.split(".")[0])
+        at, seconds = moment_of(theirs), int(moment_of(mine))
         window = self.play.windows.get(seconds) if mine.endswith(".000000000") else None
         if window:
             if at > window[1]:

@@ -28,6 +28,7 @@ class Thing:
     sym: Sym
     kind: str             # dir, file, link
     children: dict = field(default_factory=dict)  # name -> Sym or None
+    gone: bool = False    # its last known name was removed
 
 
 @dataclass
@@ -53,8 +54,9 @@ class View:
         self.cookies = []     # (directory, cookie's Sym)
         self.values = []      # (object, attribute, Sym) that a GETATTR told
 
-    def of(self, kind):
-        return [thing for thing in self.things.values() if thing.kind == kind]
+    def of(self, kind, gone=False):
+        """The objects of a kind that have a name, or all."""
+        return [thing for thing in self.things.values() if thing.kind == kind and (gone or not thing.gone)]
 
     def files(self):
         return self.of("file")
@@ -67,12 +69,20 @@ class View:
             session.used.setdefault(int(step.sequence.get("slot_id", "0")), []).append(step.id)
         for op, (name, status, fields) in zip(operations, results):
             if status != "OK":
+                self.learn_refusal(op, status, session)
                 return
             learn = getattr(self, f"learn_{op.name.lower()}", None)
             if learn:
                 learn(op, dict(fields), lambda name, op=op: place(op, name), session)
 
     # clients
+
+    def learn_refusal(self, op, status, session):
+        """Who is not there any more."""
+        if op.name == "CREATE_SESSION" and status == "STALE_CLIENTID":
+            self.learn_destroy_clientid(op)
+        elif op.name == "SEQUENCE" and status == "BADSESSION" and session:
+            self.sessions.remove(session)
 
     def learn_exchange_id(self, op, told, place, _):
         sym = place("clientid")
@@ -105,7 +115,8 @@ class View:
         self.locks = [lock for lock in self.locks if lock.client is not client]
 
     def learn_reclaim_complete(self, op, told, place, session):
-        session.client.ready |= op.get("one_fs", "0") == "0"
+        if session:
+            session.client.ready |= op.get("one_fs", "0") == "0"
 
     # where a compound is
 
@@ -133,7 +144,7 @@ class View:
         self.here = sym
         if self.coming:
             kind, parent, name = self.coming
-            self.things.setdefault(sym, Thing(sym, kind))
+            self.things.setdefault(sym, Thing(sym, kind)).gone = False
             if parent in self.things:
                 self.things[parent].children[name] = sym
             if self.last_open:
@@ -157,8 +168,9 @@ class View:
 
     def learn_remove(self, op, *_):
         parent = self.things.get(self.here)
-        if parent:
-            parent.children.pop(op.get("name"), None)
+        thing = self.things.get(parent.children.pop(op.get("name"), None)) if parent else None
+        if thing:
+            thing.gone = True
 
     def learn_rename(self, op, *_):
         source = self.things.get(self.saved)
