@@ -9,8 +9,8 @@ import nfs4
 from . import repairs, rules
 from .reference import LEASE, T0
 from .results import CHANNEL, Cursor, Results
-from .server import Answer, Gone, Silence
-from .symbols import BASE, State, Sym, Turn, given, is_special, lowered, symbols_of, written
+from .server import Answer, Silence
+from .symbols import BASE, State, Sym, Turn, lowered, written
 from .twin import Twin
 
 READ_ONLY = set("ACCESS COMMIT GETATTR GETFH LOCKT LOOKUP LOOKUPP NVERIFY VERIFY PUTFH PUTROOTFH PUTPUBFH READ READDIR READLINK SAVEFH RESTOREFH "
@@ -295,7 +295,7 @@ class Play:
                 fields = adopted(fields, grant)
             made.append(written(op.name, fields))
         step = sent.step
-        return nfs4.compound(sent.xid, made, step.uid, step.gid, step.gids, nfs4.meant(step.tag))
+        return nfs4.compound(sent.xid, made, step.uid, step.gid, step.gids, nfs4.meant(step.tag), step.minor)
 
     # steering
 
@@ -393,6 +393,8 @@ class Play:
             self.found(Difference("COMPOUND", "tag (kept)" if kept else "tag", step.tag, theirs.tag, step.id))
         if theirs.results and theirs.status != theirs.results[-1][1]:
             self.found(Difference("COMPOUND", "status", "the last result's", "another", step.id))
+        if mine.status != theirs.status and not (mine.results and theirs.results):
+            self.found(Difference("COMPOUND", "status without results", mine.status, theirs.status, step.id))
         self.count_slot(sent)
         self.in_turn(sent)
 

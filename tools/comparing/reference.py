@@ -1,5 +1,7 @@
-"""The reference: `nfs41d replay`, run anew over all calls so far for each answer. Nothing of it is kept between runs, so a call is taken
-back by leaving it out, and one is tried by a run that is not remembered."""
+"""The reference: `nfs41d replay` over all calls so far. A call is taken back by leaving it out, and one is tried by a run that is not
+remembered; each of these is a run anew, over all calls. In between one run goes on, and gets a call at a time."""
+import os
+import select
 import shlex
 import struct
 import subprocess
@@ -13,7 +15,9 @@ from .server import Answer, Client
 T0 = 1_000_000_000  # the moment of step k is T0 + k, so a time that is read tells the step that set it
 LEASE = 86_400
 PROGRAM = Path(__file__).resolve().parents[2] / "crates/nfs41d/out/nfs41d"
-ALL = [("attrs", "{Mode:511}")]
+FILLING = 15        # the connection of the calls that fill the program's buffer
+FILLERS = 64        # so many replies of more than 1,024 bytes are more than it holds
+FILLER = 0xf0000000  # their xid; that of the first of each batch is counted from here
 
 
 class NoReference(Exception):
@@ -30,6 +34,7 @@ class Reference:
         self.settings.flush()
         words = shlex.split(command) if command else [str(PROGRAM), "replay"]
         self.command = [*words, "--settings", self.settings.name]
+        self.going = None
         self.runs, self.history, self.now = 0, [], T0 - 1
         self.control = Client(lambda conn, record: self.call(record, self.now))
         self.control.open()
@@ -59,8 +64,13 @@ class Reference:
 
     def call(self, record, moment):
         """The reply to a call behind all others, which it joins; None where there is none."""
+        if self.going is None or self.going.fed != self.history:
+            if self.going:
+                self.going.end()
+            self.going = Going(self.command)
         self.history.append(entry(record, moment))
-        return self.run(self.history, record[:4])
+        self.runs += 1
+        return self.going.ask(self.history, record[:4], moment)
 
     def ask(self, record, moment, without_last=False):
         """The same of a call that does not join them."""
@@ -79,19 +89,85 @@ class Reference:
 
     def run(self, entries, xid):
         self.runs += 1
-        try:
-            ran = subprocess.run(self.command, input=b"".join(entries), capture_output=True, check=False)
-        except OSError as fault:
-            raise NoReference(f"{self.command[0]}: {fault.strerror}") from fault
+        ran = started(self.command)
+        output, error = ran.communicate(b"".join(entries))
         if ran.returncode:
-            raise NoReference(f"{self.command[0]} ended with status {ran.returncode}: {ran.stderr.decode(errors='replace').strip()}")
-        last = last_reply(ran.stdout)
+            raise NoReference(f"{self.command[0]} ended with status {ran.returncode}: {error.decode(errors='replace').strip()}")
+        last = last_reply(output)
         return last if last[:4] == xid else None
 
 
+def started(command):
+    try:
+        return subprocess.Popen(command, stdin=subprocess.PIPE, stdout=subprocess.PIPE, stderr=subprocess.PIPE, bufsize=0)
+    except OSError as fault:
+        raise NoReference(f"{command[0]}: {fault.strerror}") from fault
+
+
+class Going:
+    """A run that goes on. The program keeps replies in a buffer until that is full. So each call is followed by others, on a connection of their
+    own, which change nothing (their minor version is one that nobody has) and whose replies fill the buffer."""
+
+    rest = nfs4.record(nfs4.compound(FILLER, [], tag=b"f" * 1024, minor=0xffffffff)) * FILLERS
+
+    def __init__(self, command):
+        self.process, self.fed, self.left, self.batch = started(command), [], b"", FILLER
+        self.at = 0
+        self.taker, self.giver = self.process.stdin.fileno(), self.process.stdout.fileno()
+        os.set_blocking(self.taker, False)
+
+    def end(self):
+        for pipe in (self.process.stdin, self.process.stdout, self.process.stderr):
+            pipe.close()
+        self.process.wait()
+
+    def ask(self, entries, xid, moment):
+        """The reply to the last entry, whose call has this xid; None where there is none."""
+        new, self.fed, self.batch = entries[len(self.fed):], list(entries), self.batch + 1
+        filler = nfs4.record(nfs4.compound(self.batch, [], minor=0xffffffff)) + self.rest
+        self.write(b"".join(new) + entry_of(filler, moment, FILLING))
+        found, mark = None, self.batch.to_bytes(4, "big")
+        while (told := self.next())[:4] != mark:
+            if told[:4] == xid:
+                found = told
+        return found
+
+    def write(self, data):
+        """Puts the bytes, and takes what comes meanwhile, so that neither side waits for the other."""
+        data = memoryview(data)
+        try:
+            while data:
+                readable, writable, _ = select.select([self.giver], [self.taker], [])
+                if readable:
+                    self.read()
+                if writable:
+                    data = data[os.write(self.taker, data):]
+        except OSError as fault:
+            raise NoReference(f"the reference takes no more calls: {fault.strerror}") from fault
+
+    def read(self):
+        piece = os.read(self.giver, 1 << 20)
+        if not piece:
+            raise NoReference(f"the reference ended: {self.process.stderr.read().decode(errors='replace').strip()}")
+        self.left, self.at = self.left[self.at:] + piece, 0
+
+    def next(self):
+        """The next reply."""
+        while True:
+            begin, size = self.at + 8, int.from_bytes(self.left[self.at + 4:self.at + 8], "big") & ~nfs4.LAST
+            if len(self.left) >= begin and len(self.left) >= begin + size:
+                self.at = begin + size
+                return self.left[begin:self.at]
+            self.read()
+
+
 def entry(record, moment):
-    marked = nfs4.record(record)
-    return b"".join(nfs4.entry(moment, 0, marked[at:at + nfs4.MOST_PIECE]) for at in range(0, len(marked), nfs4.MOST_PIECE))
+    """The entries of a script that bring a call."""
+    return entry_of(nfs4.record(record), moment, 0)
+
+
+def entry_of(marked, moment, conn):
+    return b"".join(nfs4.entry(moment, conn, marked[at:at + nfs4.MOST_PIECE]) for at in range(0, len(marked), nfs4.MOST_PIECE))
 
 
 def last_reply(output):

@@ -3,7 +3,7 @@ cookies) is compared by what it stands for, and all else by its word."""
 import nfs4
 
 from .reference import T0
-from .symbols import Sym, State, entries_of, given, is_special
+from .symbols import State, entries_of, given, is_special
 from .twin import moment_of, values_of
 
 SHOWN = {"Type", "Mode", "NumLinks", "Named_Attr", "RDAttr_Error", "Size", "Owner", "Owner_Group"}

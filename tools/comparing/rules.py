@@ -169,7 +169,6 @@ OURS = [Row(*words) for words in (
     ("CREATE", "status", "BADTYPE", ".*", "18.4.3", "devices, sockets and fifos, which the profile leaves out"),
     ("EXCHANGE_ID|CREATE_SESSION|DESTROY_SESSION|DESTROY_CLIENTID", "status .in a session.", "NOTSUPP", ".*", "18.37.3",
      "the RFC lets them be sent behind SEQUENCE, the profile does not"),
-    ("COMPOUND", "status of no operations", ".*", ".*", "16.2.3", "the profile answers NFS4_OK"),
     ("EXCHANGE_ID", "status .state protection.", "INVAL", ".*", "18.35.3", "the profile has no state protection"),
     ("READDIR", "dircount", ".*", ".*", "18.23.3", "the profile does not look at dircount"),
 )]

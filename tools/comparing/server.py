@@ -7,7 +7,7 @@ import time
 
 import nfs4
 
-from .symbols import ANONYMOUS
+from .symbols import ANONYMOUS, entries_of
 
 CONTROL, PROBE = 99, 98  # connections that no script has
 CHANNEL = {"max_req_size": "40000", "max_resp_size": "40000", "max_resp_size_cached": "8192", "max_ops": "32", "max_reqs": "1"}
@@ -195,7 +195,7 @@ class Client:
 
     def sweep(self, handle, name=None):
         """What is below a directory is removed as far as that can be, and then itself."""
-        from .symbols import entries_of
+
         for _ in range(50):
             answer = self.in_session([("PUTFH", [("FileHandle", handle)]),
                                       ("READDIR", [("dircount", "8000"), ("maxcount", "8000"), ("attr_mask", "Type,Filehandle")])])

@@ -79,6 +79,7 @@ class Step:
     again: int = 0
     flight: int = 0
     wait: float = 0
+    minor: int = 1
     id: int = field(default_factory=lambda: next(numbers))
 
     def with_(self, **changes):
@@ -170,17 +171,6 @@ def lowered(fields, look, turn):
             word = nfs4.word_of([(attribute, look(value) if isinstance(value, Sym) else value) for attribute, value in word])
         out.append((key, word))
     return out
-
-
-def symbols_of(op):
-    """The symbols that an operation names."""
-    for _, word in op.fields:
-        if isinstance(word, State):
-            yield word.other
-        elif isinstance(word, Sym):
-            yield word
-        elif isinstance(word, Values):
-            yield from (value for _, value in word if isinstance(value, Sym))
 
 
 def written(name, fields):

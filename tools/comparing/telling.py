@@ -6,19 +6,20 @@ import nfs4
 import pcap
 
 from . import rules
-from .symbols import Sym
+from .symbols import Sym, Turn
 
 ORDER = ("deviation", "unclear", "ours", "allowed")
 QUIET = {("CREATE_SESSION", "back"), ("CREATE_SESSION", "cb"), ("CREATE_SESSION", "flavor"), ("CREATE_SESSION", "machine")}
 
 
-def word(value):
-    text = str(value)
+def word(name, value):
+    """A field's value as text, cut where it is long."""
+    text = f"first{value.ahead:+}" if isinstance(value, Turn) and name == "CREATE_SESSION" else str(value)
     return text if len(text) <= 60 else f"{text[:24]}..({len(text)})"
 
 
 def fields_of(name, fields):
-    return "".join(f" {key}={word(value)}" for key, value in fields
+    return "".join(f" {key}={word(name, value)}" for key, value in fields
                    if (name, key.split("_")[0]) not in QUIET and not (isinstance(value, str) and value in ("0", "{}", "-", "0x") and key != "seqid"))
 
 
