@@ -10,7 +10,7 @@ from . import repairs, rules
 from .reference import LEASE, T0
 from .results import CHANNEL, Cursor, Results
 from .server import Answer, Silence
-from .symbols import BASE, State, Sym, Turn, lowered, written
+from .symbols import BASE, State, Sym, Turn, Values, lowered, written
 from .twin import Twin
 
 READ_ONLY = set("ACCESS COMMIT GETATTR GETFH LOCKT LOOKUP LOOKUPP NVERIFY VERIFY PUTFH PUTROOTFH PUTPUBFH READ READDIR READLINK SAVEFH RESTOREFH "
@@ -535,6 +535,8 @@ class Play:
             return " (kept)"
         if b == "GRACE" and self.caller(step) not in self.twin.ready:
             return " (before RECLAIM_COMPLETE)"
+        if op.name in ("VERIFY", "NVERIFY") and isinstance(op.get("attrs"), Values) and any(name.startswith("Time_") for name, _ in op.get("attrs")):
+            return " (a time)"
         if op.name in ALONE and step.sequence:
             return " (in a session)"
         if op.name in ("READ", "WRITE", "COMMIT", "LOCK", "LOCKT", "LOCKU") and ends_beyond(op):

@@ -10,8 +10,10 @@ SHOWN = {"Type", "Mode", "NumLinks", "Named_Attr", "RDAttr_Error", "Size", "Owne
 ACCESS_BITS = {1: "READ", 2: "LOOKUP", 4: "MODIFY", 8: "EXTEND", 16: "DELETE", 32: "EXECUTE"}
 CHANNEL = ("hdr_pad_size", "max_req_size", "max_resp_size", "max_resp_size_cached", "max_ops", "max_reqs")
 QUIET_FLAGS = 0x203  # SEQUENCE: the callback path is down, for this session or all, or the back channel is at fault
+IDENTITIES = {"Filehandle": "fh", "FileId": "FileId", "Mounted_on_FileId": "FileId", "FSID": "FSID"}
 TIMES = {"Time_Access", "Time_Metadata", "Time_Modify"}
-SET_TIMES = {"Time_Access", "Time_Modify", "Time_Access_Set", "Time_Modify_Set"}
+SET_IDENTITIES = {"Filehandle": "fh", "FileId": "FileId", "Mounted_on_FileId": "FileId", "FSID": "FSID"}
+TIMES = {"Time_Access", "Time_Modify", "Time_Access_Set", "Time_Modify_Set"}
 
 
 class Cursor:
@@ -175,11 +177,10 @@ class Results:
     def create_session_(self, op, r, s, *_):
         first = self.twin.bases.get(op.get("clientid"), (1, 1))
         self.counted(int(r["seqid"]) - first[0], int(s["seqid"]) - first[1])
-        asks = {word: int(op.get(f"fore_{word}", "0"), 0) for word in CHANNEL}
-        if any(int(r[f"fore_{word}"]) > asks[word] for word in CHANNEL):
-            asks = {word: int(r[f"fore_{word}"]) for word in CHANNEL}  # a result that was kept
-        for word, asked in asks.items():
-            granted = int(s[f"fore_{word}"])
+        number = op.get("clientid"), op.get("seqid")
+        kept, self.twin.created = number in self.twin.created, self.twin.created | {number}
+        for word in CHANNEL:
+            asked, granted = int((r if kept else dict(op.fields)).get(f"fore_{word}", "0"), 0), int(s[f"fore_{word}"])
             if granted > asked:
                 self.differ(f"more than was asked of {word}", asked, granted)
             elif granted < asked:
@@ -290,8 +291,8 @@ class Results:
         elif name in TIMES:
             mark = " (exclusive)" if self.twin.marks.get(handle) == "exclusive" and name != "Time_Metadata" else ""
             self.time(f"attr {name}{mark}", mine, theirs)
-        elif name in ("Filehandle", "FileId", "FSID"):
-            fault = self.twin.meet({"Filehandle": "fh"}.get(name, name), mine, theirs)
+        elif name in IDENTITIES:
+            fault = self.twin.meet(IDENTITIES[name], mine, theirs)
             if fault:
                 self.differ(f"identity by {name}", *fault)
         elif mine != theirs and not self.same_owner(name, mine, theirs):

@@ -138,7 +138,7 @@ ALLOWED = [Row(*words) for words in (
     (".*", "attr .* missing", "(?!Supported_Attrs|Type|FH_Expire_Type|Change|Size|Link_Support|Symlink_Support|Named_Attr|FSID|Unique_Handles|Lease_Time|"
      "RDAttr_Error|Filehandle|Suppattr_ExclCreat).*", ".*", "5.2", "an attribute that is not required need not be supported"),
     (".*", "attr (Supported_Attrs|FH_Expire_Type|Link_Support|Symlink_Support|Named_Attr|Unique_Handles|Lease_Time|MaxFileSize|MaxLink|MaxName|MaxRead|"
-     "MaxWrite|Suppattr_ExclCreat|Space_Used|Mounted_on_FileId)", ".*", ".*", "5.8", "a property of the server"),
+     "MaxWrite|Suppattr_ExclCreat|Space_Used)", ".*", ".*", "5.8", "a property of the server"),
     (".*", "attr (Size|NumLinks|Space_Used) of a directory", ".*", ".*", "5.8", "no meaning is given for directories"),
     (".*", "attr Time_Access", ".*", "later", "5.8.2.37", "reading may move it"),
     ("READDIR", "fewer entries|more entries|order", ".*", ".*", "18.23.3", "how many entries a reply holds, and their order"),
@@ -149,9 +149,12 @@ ALLOWED = [Row(*words) for words in (
     ("READ", "fewer bytes", ".*", ".*", "18.22.3", "fewer bytes may be given"),
     ("SETATTR|OPEN|CREATE|VERIFY|NVERIFY", "status", "ATTRNOTSUPP", ".*", "5.5", "the server knows more attributes"),
     ("VERIFY|NVERIFY", "status", "INVAL", "ATTRNOTSUPP|NOT_SAME|OK|SAME", "18.31.3", "an attribute that cannot be compared"),
+    ("VERIFY", "status .a time.", "NOT_SAME", "OK", "5.8.2", "a server's clock may be so coarse that two calls have one time"),
+    ("NVERIFY", "status .a time.", "OK", "SAME", "5.8.2", "a server's clock may be so coarse that two calls have one time"),
     ("SECINFO_NO_NAME", "flavors", ".*", ".*", "18.45.4", "which flavors a server takes"),
     ("GETATTR|READDIR", "status", "INVAL", "OK", "5.5", "an attribute that is only set: INVAL, or left out"),
     (".*", "identity by FileId", "new", "one given before", "5.8.2.14", "the number of a removed object may be given again"),
+    (".*", "identity by Mounted_on_FileId", ".*", ".*", "5.8.2.19", "an object that is mounted on has two numbers"),
     (".*", "identity by FSID", ".*", ".*", "5.8.1.9", "what a file system begins with is the server's matter"),
     (".*", "change info is atomic", ".*", ".*", "18.25.4", "atomic change info is the server's choice"),
     ("RPC", "kind of reply", "compound BADXDR", "accepted 4", "15.1.1.1", "a compound may be read whole before any of it runs"),

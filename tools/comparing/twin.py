@@ -20,6 +20,7 @@ class Twin:
     kinds: dict = field(default_factory=dict)      # the reference's handle -> type
     marks: dict = field(default_factory=dict)      # the reference's handle -> how it was made: 'default', 'group', 'exclusive'
     ready: set = field(default_factory=set)        # clients (halves of session ids) that said RECLAIM_COMPLETE
+    created: set = field(default_factory=set)      # (client's Sym, number) of sessions that were made
     written: list = field(default_factory=list)    # the server's verifier of writes
 
     def copy(self):

@@ -50,6 +50,7 @@ class View:
 
     def __init__(self):
         self.clients, self.sessions, self.opens, self.locks = [], [], [], []
+        self.ended, self.closed = [], []  # sessions and states that are not there any more
         self.things = {BASE: Thing(BASE, "dir")}
         self.cookies = []     # (directory, cookie's Sym)
         self.values = []      # (object, attribute, Sym) that a GETATTR told
@@ -101,6 +102,7 @@ class View:
         self.sessions.append(Session(sym, client, int(told["fore_max_reqs"])))
 
     def learn_destroy_session(self, op, *_):
+        self.ended += [s for s in self.sessions if s.sym == op.get("sessionid")]
         self.sessions = [s for s in self.sessions if s.sym != op.get("sessionid")]
 
     def learn_destroy_clientid(self, op, *_):
@@ -110,6 +112,8 @@ class View:
     def forget(self, client):
         """A client goes with all that is its own."""
         self.clients.remove(client)
+        self.ended += [s for s in self.sessions if s.client is client]
+        self.closed += [held for held in self.opens + self.locks if held.client is client]
         self.sessions = [s for s in self.sessions if s.client is not client]
         self.opens = [o for o in self.opens if o.client is not client]
         self.locks = [lock for lock in self.locks if lock.client is not client]
@@ -210,6 +214,7 @@ class View:
     def learn_close(self, op, *_):
         if held := self.state(op, self.opens):
             self.opens.remove(held)
+            self.closed.append(held)
             self.locks = [lock for lock in self.locks if lock.under is not held]
 
     def learn_lock(self, op, told, place, session):
