@@ -12,8 +12,7 @@ CHANNEL = ("hdr_pad_size", "max_req_size", "max_resp_size", "max_resp_size_cache
 QUIET_FLAGS = 0x203  # SEQUENCE: the callback path is down, for this session or all, or the back channel is at fault
 IDENTITIES = {"Filehandle": "fh", "FileId": "FileId", "Mounted_on_FileId": "FileId", "FSID": "FSID"}
 TIMES = {"Time_Access", "Time_Metadata", "Time_Modify"}
-SET_IDENTITIES = {"Filehandle": "fh", "FileId": "FileId", "Mounted_on_FileId": "FileId", "FSID": "FSID"}
-TIMES = {"Time_Access", "Time_Modify", "Time_Access_Set", "Time_Modify_Set"}
+SET_TIMES = {"Time_Access", "Time_Modify", "Time_Access_Set", "Time_Modify_Set"}
 
 
 class Cursor:
