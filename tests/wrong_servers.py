@@ -463,7 +463,7 @@ class Proxy:
             call = nfs4.Call(record)
         except nfs4.Unreadable:
             call = None
-        if call is None or call.procedure != 1 or call.fault or call.flavor != 1:
+        if call is None or call.procedure != 1 or call.flavor != 1:
             behind.sendall(nfs4.record(record))
             return received(behind)
         with self.lock:
@@ -472,10 +472,13 @@ class Proxy:
     def changed(self, call, behind):
         if (answer := self.way.answer(call)) is not None:
             return answer
-        asked = nfs4.Call(call.data)
-        self.way.call(asked)
-        made = [nfs4.write_operation(name, fields) for name, fields in asked.operations]
-        behind.sendall(nfs4.record(nfs4.compound(call.xid, made, asked.uid, asked.gid, asked.gids, asked.tag, call.minor)))
+        record = call.data
+        if not call.fault:
+            asked = nfs4.Call(call.data)
+            self.way.call(asked)
+            made = [nfs4.write_operation(name, fields) for name, fields in asked.operations]
+            record = nfs4.compound(call.xid, made, asked.uid, asked.gid, asked.gids, asked.tag, call.minor)
+        behind.sendall(nfs4.record(record))
         reply = received(behind)
         told = reply and nfs4.Reply(reply)
         if not told or told.fault or not hasattr(told, "tag"):

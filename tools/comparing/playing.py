@@ -19,6 +19,7 @@ ALONE = {"EXCHANGE_ID", "CREATE_SESSION", "DESTROY_SESSION", "DESTROY_CLIENTID"}
 NEEDED = ALONE | {"SEQUENCE"}
 LONGEST = 60_000   # a record that the reference takes
 SLACK = 0.06       # seconds by which a server's clock may be coarse
+WEIGHTS = {"deviation": 100, "unclear": 10}  # of differences, when an order of calls in flight is chosen
 PIECES = 4         # a wait, so that the tool's own clients can renew their leases
 TIMES_PARTED = 3   # so often the two may part at one operation and status, before that is steered round
 
@@ -341,7 +342,7 @@ class Play:
                 if not self.outcome.stopped:
                     sent.mine = b""
                     self.judged_dry(sent, window)
-            weight = sum(d.verdict in ("deviation", "unclear") for d in self.outcome.differences[len(begun[1]):])
+            weight = sum(WEIGHTS.get(d.verdict, 1) for d in self.outcome.differences[len(begun[1]):])
             if best is None or weight < best[0]:
                 best = weight, self.state()
             if weight == 0:
@@ -390,7 +391,7 @@ class Play:
             return
         kept = step.again or (step.sequence and step.sequence.get("seqid") == Turn(0))
         if theirs.tag != step.tag and (not kept or step.again):
-            self.found(Difference("COMPOUND", "tag (kept)" if kept else "tag", step.tag, theirs.tag, step.id))
+            self.found(Difference("COMPOUND", "tag (kept)" if kept else "tag", "that of the call", "none" if theirs.tag == "0x" else "another", step.id))
         if theirs.results and theirs.status != theirs.results[-1][1]:
             self.found(Difference("COMPOUND", "status", "the last result's", "another", step.id))
         if mine.status != theirs.status and not (mine.results and theirs.results):
@@ -533,6 +534,8 @@ class Play:
             return " (not to be kept)"
         if b == "SEQ_FALSE_RETRY" and a == "OK" and step.again:
             return " (kept)"
+        if op.name == "SEQUENCE" and op.get("seqid") == Turn(0) and not self.twin.slots.get((op.get("sessionid"), op.get("slot_id", "0"))):
+            return " (0 on a slot that was not used)"
         if b == "GRACE" and self.caller(step) not in self.twin.ready:
             return " (before RECLAIM_COMPLETE)"
         if op.name in ("VERIFY", "NVERIFY") and isinstance(op.get("attrs"), Values) and any(name.startswith("Time_") for name, _ in op.get("attrs")):
@@ -559,7 +562,11 @@ class Play:
                 return " (another user)"
         if a == "ACCESS" and b == "OK" and self.owned(sent, cursor.here) == str(step.uid):
             return " (owner of the file)"
-        if op.name == "OPEN" and b == "SHARE_DENIED" and a == "OK" and self.own_deny(step, op):
+        if b == "ACCESS" and self.made_without_mode(sent, op, cursor):
+            return " (mode not given)"
+        if op.name == "OPEN" and int(op.get("share_access", "1"), 0) & ~3:
+            return " (bits of no meaning)"
+        if op.name == "OPEN" and b == "SHARE_DENIED" and self.own_deny(step, op):
             return " (own deny)"
         if op.name == "OPEN" and op.get("open_type") == "1" and int(op.get("create_mode", "0"), 0) >= 2:
             if b in ("INVAL", "ATTRNOTSUPP") and op.get("attrs", "{}") not in ("{}", "{Mode:420}"):
@@ -567,6 +574,14 @@ class Play:
             if "EXIST" in (a, b):
                 return " (exclusive again)"
         return ""
+
+    def made_without_mode(self, sent, op, cursor):
+        """Was the object of an operation made by a call that gave no mode? Then servers may give it different ones."""
+        handle = cursor.here
+        if op.name == "OPEN" and op.get("claim_type", "0") == "0" and handle:
+            told = self.reference.look([("PUTFH", [("FileHandle", handle)]), ("LOOKUP", [("name", op.get("name"))]), ("GETFH", [])], sent.moment, True)
+            handle = dict(told[-1][2]).get("FileHandle") if told else None
+        return "default" in self.twin.marks.get(handle, "")
 
     def own_deny(self, step, op):
         """Does an open of the same owner clash with this one?"""
@@ -577,7 +592,7 @@ class Play:
     # looks into the reference
 
     def told(self, sent, handle, mask):
-        told = self.reference.look([("PUTFH", [("FileHandle", handle)]), ("GETATTR", [("attr_mask", mask)])], sent.moment)
+        told = self.reference.look([("PUTFH", [("FileHandle", handle)]), ("GETATTR", [("attr_mask", mask)])], sent.moment, without_last=True)
         return dict(nfs4.values_of(dict(told[-1][2])["attrs"]) or ()).get(mask) if told and told[-1][1] == "OK" else None
 
     def links(self, sent, handle):

@@ -17,7 +17,7 @@ ARGUMENTS = {"INVAL", "NAMETOOLONG", "BADCHAR", "BADNAME", "BADOWNER", "ATTRNOTS
 
 
 class Repair(NamedTuple):
-    """The fields that get good values, and the statuses that cannot be believed then."""
+    """The fields that get good values (None: they go), and the statuses that cannot be believed then."""
     values: dict
     looks_at: set
 
@@ -32,7 +32,9 @@ REPAIRS = {
     "cookie": Repair({"cookie": "0", "cookie_verf": "0x0000000000000000"}, set()),
     "count": Repair({"maxcount": "8000", "dircount": "8000"}, set()),
     "text": Repair({"linkdata": "text"}, set()),
-    "reclaim": Repair({"reclaim": "0", "locktype": "1"}, {"DENIED", "OPENMODE"}),
+    "reclaim": Repair({"reclaim": "0"}, set()),
+    "kind": Repair({"locktype": "1"}, {"DENIED", "OPENMODE"}),
+    "create": Repair({"create_mode": "0", "verifier": None}, set()),
 }
 WITH_SAVED = ("LINK", "RENAME")
 
@@ -54,7 +56,7 @@ def repaired(asked, parts, spare):
         if part == "user":
             user = (0, 0, ())
         elif part in REPAIRS:
-            fields = [(key, REPAIRS[part].values.get(key, word)) for key, word in fields]
+            fields = [(key, REPAIRS[part].values.get(key, word)) for key, word in fields if REPAIRS[part].values.get(key, word) is not None]
             hidden |= REPAIRS[part].looks_at
     operations[asked.at] = name, fields
     for part in parts:
@@ -78,18 +80,29 @@ def parts_of(asked, spare):
 
 def also_fails(reference, asked, status):
     """Whether the reference would answer this status for the call too, had its other faults been mended."""
+    if status == "DENIED" and asked.operations[asked.at][0] == "LOCK":
+        return is_denied(reference, asked)
     parts = parts_of(asked, reference.spare)
     for size in (1, 2, 3):
         for chosen in combinations(parts, size):
             if sum(part in reference.spare for part in chosen) > 1:
                 continue
             user, operations, hidden = repaired(asked, chosen, reference.spare)
-            if status not in hidden and status == answered(reference, asked, user, operations, chosen):
+            if status not in hidden and status == answered(reference, asked, user, operations):
                 return True
     return False
 
 
-def answered(reference, asked, user, operations, chosen):
+def is_denied(reference, asked):
+    """Whether LOCKT of the same bytes is denied: what is wrong with the stateid of a LOCK cannot be mended."""
+    operations = list(asked.operations)
+    words = dict(operations[asked.at][1])
+    operations[asked.at] = "LOCKT", [("locktype", words["locktype"]), ("offset", words["offset"]), ("length", words["length"]),
+                                     ("clientid", "0"), ("owner", words.get("owner", "a-stranger"))]
+    return answered(reference, asked, asked.user, operations) == "DENIED"
+
+
+def answered(reference, asked, user, operations):
     """The status of the repaired operation, or None."""
     try:
         made = [nfs4.write_operation(name, fields) for name, fields in operations]

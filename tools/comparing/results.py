@@ -6,7 +6,7 @@ from .reference import T0
 from .symbols import State, entries_of, given, is_special
 from .twin import moment_of, values_of
 
-SHOWN = {"Type", "Mode", "NumLinks", "Named_Attr", "RDAttr_Error", "Size", "Owner", "Owner_Group"}
+SHOWN = {"Type", "Named_Attr"}
 ACCESS_BITS = {1: "READ", 2: "LOOKUP", 4: "MODIFY", 8: "EXTEND", 16: "DELETE", 32: "EXECUTE"}
 CHANNEL = ("hdr_pad_size", "max_req_size", "max_resp_size", "max_resp_size_cached", "max_ops", "max_reqs")
 QUIET_FLAGS = 0x203  # SEQUENCE: the callback path is down, for this session or all, or the back channel is at fault
@@ -88,7 +88,8 @@ class Results:
         mine, theirs = [[int(side[name]) for name in ("supported", "access_rights")] for side in (r, s)]
         for bit, word in ACCESS_BITS.items():
             if (mine[1] ^ theirs[1]) & mine[0] & theirs[0] & bit:
-                self.differ(f"bit {word}", bool(mine[1] & bit), bool(theirs[1] & bit))
+                mark = " (mode not given)" if "default" in self.twin.marks.get(self.cursor.here, "") else ""
+                self.differ(f"bit {word}{mark}", bool(mine[1] & bit), bool(theirs[1] & bit))
         if theirs[0] & ~asked or theirs[1] & ~theirs[0]:
             self.differ("bits not asked for", 0, theirs[0] & ~asked | theirs[1] & ~theirs[0])
         if mine[0] & ~theirs[0] & 0x3f:
@@ -103,7 +104,9 @@ class Results:
             self.differ("eof" if int(op.get("count", "0"), 0) else "eof of no bytes", r["eof"], s["eof"])
 
     def write_(self, op, r, s, *_):
-        self.same(op, r, s, "count")
+        if r["count"] != s["count"]:
+            more = int(s["count"]) > int(r["count"])
+            self.differ("more bytes" if more else "fewer bytes", "those given", "more" if more else "fewer")
         if int(s["committed"]) < int(op.get("stable", "0"), 0):
             self.differ("committed", f"at least {op.get('stable')}", s["committed"])
         self.verifier(s)
@@ -262,9 +265,9 @@ class Results:
         """How the object was made that the next GETFH names."""
         if op.name == "OPEN" and op.get("open_type", "0") != "1" or op.name == "SETATTR":
             return None
-        if op.name == "OPEN" and int(op.get("create_mode", "0"), 0) >= 2 and theirs & SET_TIMES:
-            return "exclusive"
-        return ("default" if "Mode" not in mine else "") + ("group" if "Owner_Group" not in mine else "") or None
+        exclusive = op.name == "OPEN" and int(op.get("create_mode", "0"), 0) >= 2 and theirs & SET_TIMES
+        marks = {"exclusive": exclusive, "default": "Mode" not in mine, "group": "Owner_Group" not in mine}
+        return " ".join(mark for mark, holds in marks.items() if holds)
 
     def attributes(self, mine, theirs, asked, handle):
         r, s = values_of(mine), values_of(theirs)
@@ -275,6 +278,9 @@ class Results:
         handle = r.get("Filehandle", handle)
         if "Type" in r and handle:
             self.twin.kinds[handle] = r["Type"]
+        if s.get("RDAttr_Error", "0") != r.get("RDAttr_Error", "0"):
+            self.differ("attr RDAttr_Error", "none", "an error")
+            return
         for name in [*r, *(name for name in s if name not in r)]:
             if name not in s:
                 self.differ(f"attr {name} missing", name, "none")
@@ -288,7 +294,7 @@ class Results:
             if handle:
                 self.changed(handle, mine, theirs, "attr Change")
         elif name in TIMES:
-            mark = " (exclusive)" if self.twin.marks.get(handle) == "exclusive" and name != "Time_Metadata" else ""
+            mark = " (exclusive)" if "exclusive" in self.twin.marks.get(handle, "") and name != "Time_Metadata" else ""
             self.time(f"attr {name}{mark}", mine, theirs)
         elif name in IDENTITIES:
             fault = self.twin.meet(IDENTITIES[name], mine, theirs)
@@ -307,8 +313,8 @@ class Results:
         made = self.twin.marks.get(handle) or ""
         if name in ("Size", "NumLinks", "Space_Used") and self.twin.is_directory(handle):
             return f"attr {name} of a directory"
-        if name == "Mode" and self.twin.kinds.get(handle) == "5":
-            return "attr Mode of a link"
+        if name in ("Mode", "Size") and self.twin.kinds.get(handle) == "5":
+            return f"attr {name} of a link"
         if name == "Mode" and "default" in made or name == "Owner_Group" and "group" in made:
             return f"attr {name} (not given)"
         return f"attr {name}"

@@ -89,7 +89,7 @@ ALLOWED = [Row(*words) for words in (
     (".*", "status .not to be kept.", ".*", "RETRY_UNCACHED_REP", "2.10.6.1.3", "the caller did not ask that the reply be kept"),
     (".*", "status", "REP_TOO_BIG", "OK", "2.10.6.4", "how large a reply will be is the server's estimate"),
     (".*", "status", ".*", "REP_TOO_BIG_TO_CACHE", "2.10.6.4", "the reply would not fit what the channel keeps"),
-    ("SEQUENCE", "status", "TOO_MANY_OPS|REQ_TOO_BIG|SEQ_MISORDERED|BAD_HIGH_SLOT|BADSLOT", "TOO_MANY_OPS|REQ_TOO_BIG|SEQ_MISORDERED|BADSLOT|BAD_HIGH_SLOT", "15.1",
+    ("SEQUENCE", "status", "TOO_MANY_OPS|REQ_TOO_BIG|SEQ_MISORDERED|BAD_HIGH_SLOT", "TOO_MANY_OPS|REQ_TOO_BIG|SEQ_MISORDERED|BAD_HIGH_SLOT", "15.1",
      "the order of the checks"),
     ("SEQUENCE", "status", "TOO_MANY_OPS", "OK", "15.2", "the error is listed for each operation, so one behind may bear it"),
     ("COMPOUND", "tag .kept.", ".*", ".*", "2.10.6.1.3", "a kept reply has the tag of its own call"),
@@ -98,7 +98,6 @@ ALLOWED = [Row(*words) for words in (
     ("CREATE_SESSION", "status", "OK", "TOOSMALL", "18.36.3", "what is too small a channel is the server's matter"),
     ("CREATE_SESSION", "status", "TOOSMALL", "OK", "18.36.3", "what is too small a channel is the server's matter"),
     ("EXCHANGE_ID", "status", "PERM|NOT_SAME|NOENT", "NOT_SAME|PERM|NOENT", "18.35.4", "the order of the checks of an update"),
-    ("EXCHANGE_ID", "flag .*", ".*", ".*", "18.35.3", "which of the uses of pNFS a server offers is its matter"),
     ("SEQUENCE|DESTROY_SESSION|CREATE_SESSION|.*", "status .lease over.", "BADSESSION|STALE_CLIENTID|BAD_STATEID|OK", ".*", "8.4.2.4",
      "a server may let a client be whose lease has run out"),
     # opens and state
@@ -158,12 +157,14 @@ ALLOWED = [Row(*words) for words in (
     (".*", "identity by FSID", ".*", ".*", "5.8.1.9", "what a file system begins with is the server's matter"),
     (".*", "change info is atomic", ".*", ".*", "18.25.4", "atomic change info is the server's choice"),
     ("RPC", "kind of reply", "compound BADXDR", "accepted 4", "15.1.1.1", "a compound may be read whole before any of it runs"),
-    ("WRITE", "count", ".*", ".*", "18.32.4", "fewer bytes may be written"),
+    ("WRITE", "fewer bytes", ".*", ".*", "18.32.4", "fewer bytes may be written"),
+    (".*", "(status|bit .*) .mode not given.", ".*", ".*", "18.16.3", "no mode was given, so the object may have another"),
 )]
 
 # Where this project's profile departs from RFC 8881, and the reference is not to be believed (docs/PROTOCOL.md, docs/DECISIONS.md).
 OURS = [Row(*words) for words in (
-    ("OPEN", "status .own deny.", "OK", "SHARE_DENIED", "9.7", "the RFC excepts no open of the same owner, the profile does"),
+    ("OPEN", "status .bits of no meaning.", ".*", "INVAL", "18.16.3", "the profile looks at the two low bits of the access alone"),
+    ("OPEN", "status .own deny.", ".*", "SHARE_DENIED", "9.7", "the RFC excepts no open of the same owner, the profile does"),
     ("OPEN_DOWNGRADE", "status", "OK", "INVAL", "18.18.3", "the RFC asks for what some of the owner's OPENs gave, the profile for a part of the bits"),
     ("OPEN|LOCK", "status .before RECLAIM_COMPLETE.", ".*", "GRACE", "18.51.3", "the RFC wants RECLAIM_COMPLETE first, the profile does not"),
     ("LOCK", "identity of state|seqid of the stateid", ".*", ".*", "8.2.1", "the RFC has a lock state for each open, the profile one for each owner and file"),
@@ -183,6 +184,10 @@ UNCLEAR = [Row(*words) for words in (
      "whether EXCHANGE_ID by another user ends the old record at once"),
     ("OPEN", "attribute set .*", "no", "yes", "18.16.3", "attributes of a file that was there are told as set"),
     ("READLINK", "status", "WRONG_TYPE", "INVAL", "18.24.4", "which of the errors"),
+    ("OPEN", "status", "NOTDIR", "SYMLINK", "18.16.3", "what a link in the place of the directory is"),
+    ("SEQUENCE", "status .0 on a slot that was not used.", ".*", ".*", "18.46.3", "whether the number 0 repeats something on a slot that was not used"),
+    ("attributes", "attr Size of a link", ".*", ".*", "5.8.1.5", "whether the size of a link is that of its text"),
+    ("attributes", "attr RDAttr_Error", "none", "an error", "5.8.1.12", "whether the attributes of an entry want the right to search the directory"),
     ("SEQUENCE", "status", "BAD_HIGH_SLOT", "OK", "18.46.3", "whether the highest slot must be judged"),
     ("SETATTR|OPEN|CREATE", "status", "INVAL", "OK", "5.8.2", "bits above 4,095 in a mode"),
     ("LOCKT|LOCK", "status .no bytes held.", "OK", "DENIED", "18.10.4", "a lock that the reference does not know"),
@@ -197,6 +202,10 @@ def verdict(difference):
             difference.verdict, difference.section, difference.why = word, row.section, row.why
             difference.looked_up = row.looked_up
             return
+    if difference.what.startswith("status") and difference.reference not in ("OK", "none") and difference.reference not in LISTED.get(difference.operation, difference.reference):
+        difference.verdict, difference.section, difference.looked_up = "ours", "15.2", False
+        difference.why = f"the reference answers an error that is not listed for {difference.operation}"
+        return
     difference.verdict, difference.section = "deviation", SECTION.get(difference.operation, "")
     if difference.what.startswith("status") and difference.server not in ("OK", "none") and difference.server not in LISTED.get(difference.operation, ()):
         difference.section += ", 15.2"
