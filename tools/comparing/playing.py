@@ -129,8 +129,8 @@ class Play:
         """The script's clients and files go from the server."""
         try:
             control = self.server.control()
-            for owner, uid in self.owners.items():
-                control.end(owner, uid)
+            for owner, users in self.owners.items():
+                any(control.end(owner, uid) for uid in sorted(users))
             control.sweep(handle, name)
         except (Silence, KeyError, IndexError, TypeError):
             self.server.client = None
@@ -200,7 +200,7 @@ class Play:
             self.outcome.skipped += 1
             return None
         if operations[0].name == "EXCHANGE_ID":
-            self.owners[dict(self.lowered(operations[0], 1))["owner"]] = step.uid
+            self.owners.setdefault(dict(self.lowered(operations[0], 1))["owner"], set()).add(step.uid)
         return sent
 
     def prepared_again(self, step):

@@ -211,12 +211,13 @@ class Client:
             self.in_session([*self.home, ("REMOVE", [("name", name)])])
 
     def end(self, owner, uid):
-        """A client that a script made goes, with all its state."""
+        """A client that a script made goes, with all its state; answers whether it did."""
         session, client = self.mounted(owner, uid)
         if session:
             self.ask([("DESTROY_SESSION", [("sessionid", session)])], uid)
         if client:
             self.ask([("DESTROY_CLIENTID", [("clientid", client)])], uid)
+        return session is not None
 
 
 class Server:
