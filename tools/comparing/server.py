@@ -1,4 +1,5 @@
 """The server under test: its connections, and the tool's own client of it, which makes a directory for each script."""
+import contextlib
 import os
 import random
 import socket
@@ -110,7 +111,8 @@ class Tcp:
 
     def closed(self, conn, fault):
         if conn in self.sockets:
-            self.sockets.pop(conn).close()
+            with contextlib.suppress(OSError):
+                self.sockets.pop(conn).close()
         return Silence(str(fault) or "closed")
 
     def exactly(self, conn, size):
