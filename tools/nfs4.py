@@ -33,6 +33,8 @@ STATUSES = {0: "NFS4_OK"} | {number: "NFS4ERR_" + name for name, number in re.fi
     "SEQ_FALSE_RETRY 10076 BAD_HIGH_SLOT 10077 DEADSESSION 10078 ENCR_ALG_UNSUPP 10079 PNFS_NO_LAYOUT 10080 NOT_ONLY_OP 10081 "
     "WRONG_CRED 10082 WRONG_TYPE 10083 DIRDELEG_UNAVAIL 10084 REJECT_DELEG 10085 RETURNCONFLICT 10086 DELEG_REVOKED 10087") for number in [int(number)]}
 
+STATUS_NUMBERS = {word: number for number, word in STATUSES.items()}
+
 # Attributes: the number, tshark's word, and how the value is spelled: b bool, n number, N long number, o bytes, M mask, f fsid, t time,
 # s time that is set.
 ATTRIBUTES = {int(number): (name, kind) for number, name, kind in re.findall(
@@ -41,6 +43,12 @@ ATTRIBUTES = {int(number): (name, kind) for number, name, kind in re.findall(
     "9 Unique_Handles b 10 Lease_Time n 11 RDAttr_Error n 19 Filehandle o 20 FileId N 27 MaxFileSize N 28 MaxLink n 29 MaxName n "
     "30 MaxRead N 31 MaxWrite N 33 Mode n 35 NumLinks n 36 Owner o 37 Owner_Group o 45 Space_Used N 47 Time_Access t 48 Time_Access_Set s "
     "52 Time_Metadata t 53 Time_Modify t 54 Time_Modify_Set s 55 Mounted_on_FileId N 75 Suppattr_ExclCreat M")}
+# Those that other servers have beside them, where their values can be spelled: d two numbers, A an array of numbers.
+ATTRIBUTES |= {int(number): (name, kind) for number, name, kind in re.findall(
+    r"(\d+) (\w+) (\w)",
+    "13 ACLSupport n 14 Archive b 15 CanSetTime b 16 Case_Insensitive b 17 Case_Preserving b 18 Chown_Restricted b 21 Files_Avail N "
+    "22 Files_Free N 23 Files_Total N 26 Homogeneous b 34 No_Trunc b 41 RawDev d 42 Space_Avail N 43 Space_Free N 44 Space_Total N "
+    "50 Time_Create t 51 Time_Delta t 62 FS_Layout_Type A 65 Layout_blksize n")}
 # tshark's words of the others, which stand in masks; their values are shown as they came.
 OTHERS = {int(number): name for number, name in re.findall(
     r"(\d+) (\w+)",
@@ -194,6 +202,10 @@ class Reader:
             if count != (value.bit_length() + 31) // 32:
                 raise Unreadable("mask")
             return shown_mask(value)
+        if kind == "d":
+            return f"{self.number()}.{self.number()}"
+        if kind == "A":
+            return "+".join(str(self.number()) for _ in range(min(self.number(), len(self.data)))) or "-"
         if kind == "s" and (how := self.number()) != 1:
             if how:
                 raise Unreadable("time")
@@ -296,6 +308,11 @@ class Writer:
             self.put_bytes(meant(text))
         elif kind == "M":
             self.put_mask(meant_mask(text))
+        elif kind == "d":
+            self.data += struct.pack(">II", *(int(part) for part in text.split(".")))
+        elif kind == "A":
+            parts = [int(part) for part in text.split("+")] if text != "-" else []
+            self.data += struct.pack(f">{1 + len(parts)}I", len(parts), *parts)
         elif text == "now":
             self.data += u32(0)
         else:
@@ -466,8 +483,22 @@ ARGUMENTS = {
 
 
 def opened(c):
-    for item in ("StateID:16", *CHANGE, "result_flags:n", "attr_mask:M", "delegation_type:n"):
-        in_turn(item)(c)
+    in_turn("StateID:16", *CHANGE, "result_flags:n", "attr_mask:M", delegation)(c)
+
+
+def delegation(c):
+    """What OPEN gives beside the open (open_delegation4): this profile's server gives none."""
+    kind = c.u32("delegation_type")
+    if kind > 3:
+        raise Unreadable("delegation")
+    if kind in (1, 2):
+        in_turn("delegation_stateid:16", "delegation_recall:n")(c)
+    if kind == 2:
+        in_turn(*(["limit_size:N"] if c.u32("limit_by", 1) == 1 else ["limit_blocks:n", "limit_block_size:n"]))(c)
+    if kind in (1, 2):
+        in_turn("ace_type:n", "ace_flags:n", "ace_mask:n", "ace_who:o")(c)
+    elif kind == 3 and c.u32("why_none") in (1, 2):
+        c.u32("will_tell")
 
 
 def listed(c):
@@ -491,6 +522,12 @@ def exchanged(c):
     c.many("eir_server_impl_id", implementation)
 
 
+def flavor(c):
+    """One way to prove who calls (secinfo4); behind RPCSEC_GSS its mechanism stands."""
+    if c.u32("flavor") == 6:
+        in_turn("oid:o", "qop:n", "service:n")(c)
+
+
 RESULTS = {
     "ACCESS": in_turn("supported:n", "access_rights:n"), "CLOSE": in_turn("StateID:16"), "COMMIT": in_turn("verifier:8"),
     "CREATE": in_turn(*CHANGE, "attr_mask:M"), "GETATTR": in_turn("attrs:F"), "GETFH": in_turn("FileHandle:o"), "LINK": in_turn(*CHANGE),
@@ -499,7 +536,7 @@ RESULTS = {
     "RENAME": in_turn("source_atomic:n", "source_before:N", "source_after:N", "target_atomic:n", "target_before:N", "target_after:N"),
     "WRITE": in_turn("count:n", "committed:n", "verifier:8"), "EXCHANGE_ID": exchanged,
     "CREATE_SESSION": lambda c: (c.fixed("sessionid", 16), c.u32("seqid"), c.u32("csr_flags", style="0x{:x}"), channel("fore")(c), channel("back")(c)),
-    "SECINFO_NO_NAME": lambda c: c.many("flavors", lambda c: c.u32("flavor")),
+    "SECINFO_NO_NAME": lambda c: c.many("flavors", flavor),
     "SEQUENCE": in_turn("sessionid:16", "seqid:n", "slot_id:n", "high_slot_id:n", "target_high_slot_id:n", "status_flags:n"),
     "TEST_STATEID": lambda c: c.many("num_results", lambda c: c.u32("StateID_status")),
 }
@@ -568,6 +605,40 @@ def write_result(name, status, fields=()):
     else:
         items = RESULTS.get(name, in_turn()) if status == 0 else in_turn()
     return u32(NUMBERS[name], status) + written(name, items, fields)
+
+
+def write_result(name, status, fields):
+    """The bytes of a result from its status's word and its fields by name; what belongs to it is as `read_result` reads it."""
+    c = Writer(list(fields))
+    number = STATUS_NUMBERS[status] if status in STATUS_NUMBERS else int(status)
+    if name == "SETATTR":
+        c.mask("attr_mask")
+    elif number == 0 and name in RESULTS:
+        RESULTS[name](c)
+    elif number == 10_010 and name in ("LOCK", "LOCKT"):
+        LOCK_DENIED(c)
+    if c.given:
+        raise Unreadable(f"a result of {name} has no {c.given[0][0]}, or not there")
+    return struct.pack(">2I", NUMBERS[name], number) + c.data
+
+
+def write_reply(xid, status, tag, results):
+    """A reply of COMPOUND, without its record mark, from its status's word and the bytes of its results."""
+    tagged = struct.pack(">I", len(tag)) + tag + bytes(-len(tag) % 4)
+    number = STATUS_NUMBERS[status] if status in STATUS_NUMBERS else int(status)
+    return struct.pack(">7I", xid, 1, 0, 0, 0, 0, number) + tagged + struct.pack(">I", len(results)) + b"".join(results)
+
+
+def values_of(word):
+    """The attributes that a word of `attributes` gives, as (name, word) in their order; None where it is raw."""
+    if word.startswith("raw:"):
+        return None
+    return [tuple(pair.split(":", 1)) for pair in word.strip("{}").split(";") if pair]
+
+
+def word_of(values):
+    """The word of attributes (name, word)."""
+    return "{" + ";".join(f"{name}:{word}" for name, word in values) + "}"
 
 
 # RPC: records, calls and replies.

@@ -1,0 +1,225 @@
+"""Scripts of recordings: captures of a client and a server (pcap), and scripts of `nfs41d replay`. Their identifiers become symbols."""
+import subprocess
+
+import nfs4
+import pcap
+
+from .playing import Given, Play
+from .server import Answer, Silence
+from .symbols import BASE, Op, Script, Step, Sym, Turn, given, lifted
+
+ROOT = ("PUTROOTFH", "PUTPUBFH")
+
+
+class Lift:
+    """Calls and their replies, one behind the other, as a script. What no reply gave stays as it is."""
+
+    def __init__(self):
+        self.known, self.binds, self.steps = {}, {}, []
+        self.slots, self.bases, self.bodies, self.left_out = {}, {}, {}, {}
+
+    def symbol(self, kind, word):
+        return self.known.get((kind, word), word)
+
+    def new(self, kind, word):
+        return self.known.setdefault((kind, word), Sym(kind, len(self.known) + 1))
+
+    def call(self, conn, record, reply):
+        """One call; answers its step, or None where it is none that the reference knows."""
+        try:
+            call = nfs4.Call(record)
+        except nfs4.Unreadable as fault:
+            return self.dropped(str(fault))
+        answer = Answer(reply)
+        why = self.unfit(call, answer)
+        if why:
+            self.count(call, answer)
+            return self.dropped(why)
+        again = self.bodies.get(record[4:], 0) if call.operations[0][0] == "SEQUENCE" else 0
+        ops = [self.operation(name, fields) for name, fields in call.operations]
+        self.count(call, answer)
+        step = Step(ops, conn, call.uid, call.gid, tuple(call.gids), nfs4.shown(call.tag), again)
+        self.steps.append(step)
+        if not again:
+            self.bodies[record[4:]] = step.id
+            self.learn(ops, answer)
+        return step
+
+    def dropped(self, why):
+        self.left_out[why] = self.left_out.get(why, 0) + 1
+
+    @staticmethod
+    def unfit(call, answer):
+        if call.procedure != 1:
+            return "NULL"
+        if call.flavor != 1 or call.minor != 1 or not call.operations:
+            return "another flavor or minor version, or no operations"
+        if call.fault:
+            return f"unknown to the reference: {call.fault}"
+        return "a reply that cannot be read" if answer.kind != "compound" else None
+
+    def operation(self, name, fields):
+        if name in ROOT:
+            return Op("PUTFH", [("FileHandle", BASE)])
+        out = dict(fields)
+        made = lifted(name, fields, self.symbol)
+        if name == "SEQUENCE":
+            last = self.slots.get((out["sessionid"], out["slot_id"]), 0)
+            made = [(key, Turn(signed(int(word) - last)) if key == "seqid" else word) for key, word in made]
+        elif name == "CREATE_SESSION":
+            made = [(key, Turn(signed(int(word) - self.bases.get(out["clientid"], 1))) if key == "seqid" else word) for key, word in made]
+        return Op(name, made)
+
+    def count(self, call, answer):
+        """What the slot had, also where the call is left out."""
+        if call.operations and call.operations[0][0] == "SEQUENCE" and answer.results[:1] and answer.results[0][1] == "OK":
+            fields = dict(call.operations[0][1])
+            self.slots[fields["sessionid"], fields["slot_id"]] = int(fields["seqid"])
+
+    def learn(self, ops, answer):
+        before = None
+        for op, (name, status, fields) in zip(ops, answer.results):
+            for place, kind, word in given(op.name, fields):
+                if kind == "fh" and before is not None and before.name == "PUTFH" and before.get("FileHandle") == BASE:
+                    self.known.setdefault((kind, word), BASE)
+                self.binds[op.id, place] = self.new(kind, word)
+            if name == "EXCHANGE_ID" and status == "OK":
+                self.bases.setdefault(dict(fields)["clientid"], int(dict(fields)["seqid"]))
+            before = op
+
+    def script(self):
+        return Script(self.steps, self.binds)
+
+
+def signed(number):
+    number &= 0xffffffff
+    return number - 2**32 if number >= 2**31 else number
+
+
+class Stream:
+    """The records of one side of a connection, however long."""
+
+    def __init__(self):
+        self.side, self.left, self.whole = pcap.Side(), b"", b""
+
+    def feed(self, number, flags, data):
+        self.left += self.side.feed(number, flags, data)
+        while len(self.left) >= 4:
+            mark = int.from_bytes(self.left[:4], "big")
+            size = mark & ~nfs4.LAST
+            if len(self.left) < 4 + size:
+                return
+            self.whole += self.left[4:4 + size]
+            self.left = self.left[4 + size:]
+            if mark & nfs4.LAST:
+                yield self.whole
+                self.whole = b""
+
+
+def recorded(path, port):
+    """Each call of a capture that was answered: (its second, its reply's, connection, call, reply), in the order of the calls."""
+    streams, waiting, out, connections = {}, {}, [], {}
+    for (second, part), client, from_server, flags, number, data in pcap.segments(path, port):
+        if flags & pcap.SYN:
+            streams.pop((client, from_server), None)
+        stream = streams.setdefault((client, from_server), Stream())
+        conn = connections.setdefault(client, len(connections))
+        moment = second + part / 1e6
+        for record in stream.feed(number, flags, data):
+            if not from_server:
+                waiting[client, record[:4]] = [moment, None, conn, record, None]
+                out.append(waiting[client, record[:4]])
+            elif (client, record[:4]) in waiting:
+                call = waiting.pop((client, record[:4]))
+                call[1], call[4] = moment, record
+    return [call for call in out if call[4] is not None]
+
+
+def of_script(script, reference):
+    """The same of a script of replay, whose replies are the reference's."""
+    output = subprocess.run(reference.command[:-2], input=script, capture_output=True, check=False).stdout
+    answers = {reply[:4]: reply for _, reply in nfs4.replies(output) if reply}
+    found = []
+    for moment, conn, call in nfs4.whole_calls(script):
+        if call is not None and call[:4] in answers:
+            found.append([float(moment), float(moment), conn, call, answers[call[:4]]])
+    return found
+
+
+def lifted_calls(calls):
+    """The script of recorded calls, and those calls that have a step in it."""
+    lift, kept = Lift(), []
+    for call in calls:
+        if lift.call(call[2], call[3], call[4]) is not None:
+            kept.append(call)
+    return lift, kept
+
+
+class Recording:
+    """A capture's server as a transport: it gives the recorded replies in their turn."""
+
+    def __init__(self, calls):
+        self.calls, self.at = calls, -1
+
+    def call(self, conn, record):
+        if self.calls[self.at][4] is None:
+            raise Silence("no reply in the capture")
+        return self.calls[self.at][4]
+
+    def alive(self):
+        return True
+
+
+class Recorded:
+    """A recording in the place of a server under test."""
+
+    def __init__(self, calls):
+        self.transport, self.avoid, self.nonce, self.serial, self.lease = Recording(calls), {}, "", 0, 90
+
+    def revive(self):
+        return False
+
+
+class Judged(Play):
+    """A recording judged: the server's side is what was recorded."""
+
+    def __init__(self, calls, script, reference, make=()):
+        super().__init__(Recorded(calls), reference, Given(script), steer=False)
+        self.calls, self.make = calls, make
+
+    def begin(self):
+        self.reference.begin()
+        for path in self.make:
+            parts = [part for part in path.split("/") if part]
+            for at in range(len(parts)):
+                control = self.reference.control
+                control.in_session([("PUTFH", [("FileHandle", self.reference.base)]), *(("LOOKUP", [("name", part)]) for part in parts[:at]),
+                                    ("CREATE", [("type", "2"), ("name", parts[at]), ("attrs", "{Mode:511}")])])
+        self.bind_base(self.reference.base, self.first_handle())
+        return "", ""
+
+    def first_handle(self):
+        """The handle that the recording's server gave for its root."""
+        for step, call in zip(self.source.steps, self.calls):
+            results = Answer(call[4]).results
+            for before, op, (name, status, fields) in zip([None, *step.ops], step.ops, results):
+                if name == "GETFH" and status == "OK" and before is not None and before.name == "PUTFH" and before.get("FileHandle") == BASE:
+                    return dict(fields)["FileHandle"]
+        return "0x3f"
+
+    def end(self, name, handle):
+        """Nothing is to be cleaned up."""
+
+    def single(self, step):
+        self.server.transport.at += 1
+        super().single(step)
+        if self.outcome.stopped:
+            self.outcome.partings = getattr(self.outcome, "partings", 0) + 1
+            self.outcome.stopped = ""
+
+    def now(self):
+        return self.calls[self.server.transport.at][0]
+
+    def window(self, low, high):
+        call = self.calls[self.server.transport.at]
+        return call[0] - 1, call[1] + 1

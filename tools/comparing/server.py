@@ -1,0 +1,260 @@
+"""The server under test: its connections, and the tool's own client of it, which makes a directory for each script."""
+import contextlib
+import os
+import random
+import socket
+import subprocess
+import time
+
+import nfs4
+
+from .symbols import ANONYMOUS, entries_of
+
+CONTROL, PROBE = 99, 98  # connections that no script has
+CHANNEL = {"max_req_size": "40000", "max_resp_size": "40000", "max_resp_size_cached": "8192", "max_ops": "32", "max_reqs": "1"}
+
+
+class Silence(Exception):
+    """No reply: the connection was closed, or nothing came."""
+
+
+class Gone(Exception):
+    """The server is gone, and nothing starts it anew."""
+
+
+class Strict(nfs4.Reader):
+    """A reader that goes on behind padding that is not zero, and remembers it."""
+    dirty = False
+
+    def opaque(self):
+        part = self.take(self.number())
+        self.dirty |= any(self.take(-len(part) % 4))
+        return part
+
+
+class Answer:
+    """A reply as it is compared: `kind` is 'compound' or how the call was refused; `fault` says what cannot be read."""
+
+    def __init__(self, data):
+        c = Strict(data)
+        self.data, self.results, self.status, self.tag, self.fault, self.dirty = data, [], None, None, None, False
+        try:
+            self.kind = self.head(c)
+            if self.kind == "compound":
+                self.status, self.tag = word_of_status(c.number()), nfs4.shown(c.opaque())
+                for _ in range(c.number()):
+                    self.results.append(self.result(c))
+            if c.at != len(data):
+                self.fault = "bytes behind the last result"
+        except (nfs4.Unreadable, ValueError) as fault:
+            self.kind, self.fault = getattr(self, "kind", "unreadable"), str(fault)
+        self.dirty = c.dirty
+
+    @staticmethod
+    def head(c):
+        c.number()
+        if c.number() != 1:
+            raise nfs4.Unreadable("no reply")
+        if c.number():
+            return f"denied {c.number()} {c.number()}"
+        c.number()
+        c.opaque()
+        accepted = c.number()
+        if accepted == 2:
+            c.number(), c.number()
+        return f"accepted {accepted}" if accepted or c.at == len(c.data) else "compound"
+
+    @staticmethod
+    def result(c):
+        name, status, fields = nfs4.read_result(c)
+        return name, plain(status), list(fields)
+
+
+def plain(status):
+    """A status's word without its prefix."""
+    return "OK" if status == "NFS4_OK" else status.removeprefix("NFS4ERR_")
+
+
+def word_of_status(number):
+    return plain(nfs4.STATUSES.get(number, str(number)))
+
+
+class Tcp:
+    """Calls over TCP, a connection of its own for each number."""
+
+    def __init__(self, host, port, patience=20):
+        self.where, self.patience, self.sockets = (host, port), patience, {}
+
+    def send(self, conn, record):
+        try:
+            if conn not in self.sockets:
+                self.sockets[conn] = socket.create_connection(self.where, self.patience)
+                self.sockets[conn].setsockopt(socket.IPPROTO_TCP, socket.TCP_NODELAY, 1)
+            self.sockets[conn].sendall(nfs4.record(record))
+        except OSError as fault:
+            raise self.closed(conn, fault) from fault
+
+    def receive(self, conn):
+        data, last = b"", 0
+        try:
+            while not last:
+                mark = int.from_bytes(self.exactly(conn, 4), "big")
+                last = mark >> 31
+                data += self.exactly(conn, mark & ~nfs4.LAST)
+        except (OSError, KeyError) as fault:
+            raise self.closed(conn, fault) from fault
+        return data
+
+    def call(self, conn, record):
+        self.send(conn, record)
+        return self.receive(conn)
+
+    def closed(self, conn, fault):
+        if conn in self.sockets:
+            with contextlib.suppress(OSError):
+                self.sockets.pop(conn).close()
+        return Silence(str(fault) or "closed")
+
+    def exactly(self, conn, size):
+        out = bytearray()
+        while len(out) < size:
+            piece = self.sockets[conn].recv(size - len(out))
+            if not piece:
+                raise OSError("the connection was closed")
+            out += piece
+        return bytes(out)
+
+    def alive(self):
+        """Does it answer NULL, twice with a pause between? (A process that dies may still accept.)"""
+        null = nfs4.call_head(1, procedure=0)
+        try:
+            for _ in range(2):
+                time.sleep(0.3)
+                self.closed(PROBE, "")
+                self.call(PROBE, null)
+            return True
+        except Silence:
+            return False
+
+    def forget(self):
+        for conn in list(self.sockets):
+            self.closed(conn, "")
+
+
+class Client:
+    """The tool's own client of a server, over `call(conn, record)`."""
+
+    def __init__(self, call, path=(), nonce=""):
+        self.call, self.path, self.nonce = call, path, nonce
+        self.xid, self.session, self.number = 0, None, 0
+
+    def ask(self, operations, uid=0):
+        self.xid += 1
+        made = [nfs4.write_operation(name, fields) for name, fields in operations]
+        return Answer(self.call(CONTROL, nfs4.compound(0x43000000 + self.xid, made, uid)))
+
+    def asked(self, operations, uid=0):
+        """The last result's fields where all went well, else None."""
+        answer = self.ask(operations, uid)
+        return dict(answer.results[-1][2]) if answer.status == "OK" and answer.results else None
+
+    def in_session(self, operations):
+        """The same behind the SEQUENCE of a session of its own."""
+        if self.session is None:
+            self.open()
+        self.number += 1
+        return self.ask([("SEQUENCE", [("sessionid", self.session), ("seqid", str(self.number))]), *operations])
+
+    def mounted(self, owner, uid=0):
+        """A new session's id and its client's, or None."""
+        told = self.asked([("EXCHANGE_ID", [("verifier", "0x" + os.urandom(8).hex()), ("owner", owner)])], uid)
+        if told is None:
+            return None, None
+        channel = [(f"{side}_{word}", value) for side in ("fore", "back") for word, value in CHANNEL.items()]
+        made = self.asked([("CREATE_SESSION", [("clientid", told["clientid"]), ("seqid", told["seqid"]), *channel,
+                                               ("cb_program", "0x40000000"), ("cb_sec", "1"), ("flavor", "0")])], uid)
+        return made and made["sessionid"], told["clientid"]
+
+    def open(self):
+        self.session, _ = self.mounted(f"compare-{self.nonce}")
+        if self.session is None:
+            raise Gone("the server refuses EXCHANGE_ID or CREATE_SESSION")
+        self.number = 0
+        self.in_session([("RECLAIM_COMPLETE", [])])
+
+    @property
+    def home(self):
+        return [("PUTROOTFH", [])] + [("LOOKUP", [("name", name)]) for name in self.path]
+
+    def base(self, name):
+        """A new directory that all may change: its filehandle."""
+        mode = [("attrs", "{Mode:511}")]
+        answer = self.in_session([*self.home, ("CREATE", [("type", "2"), ("name", name), *mode]),
+                                  ("SETATTR", [("StateID", ANONYMOUS), *mode]), ("GETFH", [])])
+        if answer.status != "OK":
+            raise Gone(f"no directory can be made where PATH is: {answer.status}; see docs/COMPARE.md on what the server has to export")
+        return dict(answer.results[-1][2])["FileHandle"]
+
+    def sweep(self, handle, name=None):
+        """What is below a directory is removed as far as that can be, and then itself."""
+
+        for _ in range(50):
+            answer = self.in_session([("PUTFH", [("FileHandle", handle)]),
+                                      ("READDIR", [("dircount", "8000"), ("maxcount", "8000"), ("attr_mask", "Type,Filehandle")])])
+            found = entries_of(answer.results[-1][2]) if answer.status == "OK" else []
+            for entry, _, attrs in found:
+                values = dict(nfs4.values_of(attrs) or ())
+                if values.get("Type") == "2":
+                    self.sweep(values["Filehandle"])
+                self.in_session([("PUTFH", [("FileHandle", handle)]), ("REMOVE", [("name", entry)])])
+            if not found:
+                break
+        if name:
+            self.in_session([*self.home, ("REMOVE", [("name", name)])])
+
+    def end(self, owner, uid):
+        """A client that a script made goes, with all its state; answers whether it did."""
+        session, client = self.mounted(owner, uid)
+        if session:
+            self.ask([("DESTROY_SESSION", [("sessionid", session)])], uid)
+        if client:
+            self.ask([("DESTROY_CLIENTID", [("clientid", client)])], uid)
+        return session is not None
+
+
+class Server:
+    """The server under test. Between scripts it keeps what was learnt of it: its clock, its lease, and where it parts from the reference."""
+
+    def __init__(self, transport, path=(), restart=None):
+        self.transport, self.path, self.restart = transport, path, restart
+        self.nonce, self.serial, self.gone = os.urandom(4).hex(), 0, 0
+        self.avoid, self.dice, self.lease = {}, random.Random(1), None
+        self.client = None
+
+    def control(self):
+        """The tool's own client, with its session."""
+        if self.client is None:
+            self.client = Client(self.transport.call, self.path, f"{self.nonce}-{self.gone}")
+            self.client.open()
+            told = self.client.in_session([("PUTROOTFH", []), ("GETATTR", [("attr_mask", "Lease_Time")])])
+            values = dict(nfs4.values_of(dict(told.results[-1][2])["attrs"]) or ()) if told.status == "OK" else {}
+            self.lease = int(values.get("Lease_Time", 90))
+        return self.client
+
+    def base(self):
+        """A new directory for one script: its name and filehandle."""
+        self.serial += 1
+        name = f"cmp-{self.nonce}-{self.serial}"
+        return name, self.control().base(name)
+
+    def revive(self):
+        """Where the server is gone and a command starts it anew: that, and True."""
+        if self.transport.alive():
+            return False
+        if self.restart is None:
+            raise Gone("the server is gone, and no --restart says how it is started")
+        self.transport.forget()
+        self.client = None
+        self.gone += 1
+        subprocess.run(self.restart, shell=True, stdout=subprocess.DEVNULL, stdin=subprocess.DEVNULL, check=False)
+        return True
