@@ -596,37 +596,26 @@ def sequence_of(session, number, slot, highest, keeps=0):
 SEQUENCE_ARGUMENTS = struct.Struct(">I16s4I")
 
 
+def status_number(status):
+    """The number of a status that is given by its word or as a number."""
+    return STATUS_NUMBERS[status] if status in STATUS_NUMBERS else int(status)
+
+
 def write_result(name, status, fields=()):
-    """The bytes of a result: its status is a number, and its fields are those that the operation has under it."""
+    """The bytes of a result: its status is a word or a number, and its fields are those that the operation has under it."""
+    number = status_number(status)
     if name == "SETATTR":
         items = in_turn("attr_mask:M")
-    elif status == 10_010 and name in ("LOCK", "LOCKT"):
+    elif number == 10_010 and name in ("LOCK", "LOCKT"):
         items = LOCK_DENIED
     else:
-        items = RESULTS.get(name, in_turn()) if status == 0 else in_turn()
-    return u32(NUMBERS[name], status) + written(name, items, fields)
-
-
-def write_result(name, status, fields):
-    """The bytes of a result from its status's word and its fields by name; what belongs to it is as `read_result` reads it."""
-    c = Writer(list(fields))
-    number = STATUS_NUMBERS[status] if status in STATUS_NUMBERS else int(status)
-    if name == "SETATTR":
-        c.mask("attr_mask")
-    elif number == 0 and name in RESULTS:
-        RESULTS[name](c)
-    elif number == 10_010 and name in ("LOCK", "LOCKT"):
-        LOCK_DENIED(c)
-    if c.given:
-        raise Unreadable(f"a result of {name} has no {c.given[0][0]}, or not there")
-    return struct.pack(">2I", NUMBERS[name], number) + c.data
+        items = RESULTS.get(name, in_turn()) if number == 0 else in_turn()
+    return u32(NUMBERS[name], number) + written(f"a result of {name}", items, fields)
 
 
 def write_reply(xid, status, tag, results):
     """A reply of COMPOUND, without its record mark, from its status's word and the bytes of its results."""
-    tagged = struct.pack(">I", len(tag)) + tag + bytes(-len(tag) % 4)
-    number = STATUS_NUMBERS[status] if status in STATUS_NUMBERS else int(status)
-    return struct.pack(">7I", xid, 1, 0, 0, 0, 0, number) + tagged + struct.pack(">I", len(results)) + b"".join(results)
+    return u32(xid, 1, 0, 0, 0, 0, status_number(status)) + opaque(tag) + u32(len(results)) + b"".join(results)
 
 
 def values_of(word):
