@@ -1,7 +1,6 @@
 -- A lock that was told stays through all records that spare it and come in time.
 use Rattle.std.proofs.Common.{◌≡◌, ℕ, ◌+◌, ◌≤◌, Bool, true, false, cond, List, [], ◌∷◌, ◌++◌, length, Option, Some, None, refl, sym, ◌∙◌, ap, subst, arith, inl, inr}
 use Rattle.std.specs.Option.{option_map_or}
-use Rattle.std.proofs.lemmas.Bool.{false≢true}
 use Rattle.nfs_xdr.specs.Spelling.{number}
 use Rattle.nfs_xdr.specs.Tables.{In}
 use Rattle.nfs_compound.specs.Operation.{Operation, OpGetAttr}
@@ -11,7 +10,7 @@ use Rattle.nfs_exec.specs.Machine.{Machine, is_ok}
 use Rattle.nfs_exec.specs.Laws.{Event, Expires, Asks}
 use Rattle.nfs_exec.specs.Ops.{Done, ops_by}
 use Rattle.nfs_files.specs.Kept.{Told}
-use Rattle.nfs_exec.specs.Held.{LocksFor, AreSpared, StandsBefore, StandsWhile, Tells, IsAlone, renews}
+use Rattle.nfs_exec.specs.Held.{AreSpared, StandsBefore, StandsWhile, Tells, IsAlone, renews}
 use Rattle.nfs_exec.proofs.HeldRun.{Keeps, event_behind}
 use Rattle.nfs_exec.proofs.ToldRun.{none_at_end}
 use Rattle.nfs_exec.proofs.AnsweredRun.{event_stands, event_leaves, told_kept}
