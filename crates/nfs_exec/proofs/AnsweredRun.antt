@@ -1,6 +1,6 @@
 -- What clients asked and were answered, against the inside of the operations that were run.
-use Rattle.std.proofs.Common.{◌≡◌, ℕ, ◌+◌, ◌≤◌, Bool, true, false, cond, eqb, ltb, List, [], ◌∷◌, ◌++◌, length, Option, Some, None, refl, sym, ◌∙◌, ap, subst, inl, inr}
-use Rattle.std.specs.Prelude.{◌==◌, option_map, Ok}
+use Rattle.std.proofs.Common.{◌≡◌, ℕ, ◌+◌, ◌≤◌, Bool, true, false, cond, eqb, ltb, List, [], ◌∷◌, ◌++◌, length, Option, Some, None, refl, sym, ◌∙◌, ap, subst, inl, inr, arith}
+use Rattle.std.specs.Prelude.{◌==◌, option_map, Ok, find}
 use Rattle.std.specs.Option.{option_map_or}
 use Rattle.std.proofs.lemmas.Bool.{cases_Bool, eq-eqb, eqb-true}
 use Rattle.nfs_xdr.specs.Tables.{In}
@@ -29,7 +29,7 @@ use Rattle.nfs_files.specs.Ranges.{wished}
 use Rattle.nfs_files.specs.Kept.{Names, Told}
 use Rattle.nfs_files.proofs.Inside.{Locks, Unlocks, Closes}
 use Rattle.nfs_files.proofs.OwnOpens.{spares_others}
-use Rattle.nfs_files.proofs.ToldGrants.{IsTold, IsToldClosed, lock_tells, unlock_tells, close_tells, lock_grants_told, lock_refused, told_is_ok, told_client}
+use Rattle.nfs_files.proofs.ToldGrants.{IsTold, IsToldClosed, lock_tells, unlock_tells, close_tells, lock_grants_told, lock_refused, told_held, told_is_ok, told_client}
 use Rattle.nfs_exec.specs.Machine.{Machine, is_ok}
 use Rattle.nfs_exec.specs.Behind.{Step, step, stays, on_store, moves_opens, marked_if, otherwise}
 use Rattle.nfs_exec.specs.Run.{in_room, reserve, is_here, behind_here}
@@ -42,7 +42,7 @@ use Rattle.nfs_exec.specs.Held.{LocksFor, UnlocksFor, ClosesOf, Spares, AreSpare
 use Rattle.nfs_exec.proofs.Bearing.{refused_status}
 use Rattle.nfs_exec.proofs.Inside as inside
 use Rattle.nfs_exec.proofs.Inside.{SparesClient}
-use Rattle.nfs_exec.proofs.WholeRun.{Is, whole_room, in_more}
+use Rattle.nfs_exec.proofs.WholeRun.{Is, whole_room, in_more, event_ops}
 use Rattle.nfs_exec.proofs.HeldRun.{Keeps, event_while, event_behind}
 use Rattle.nfs_exec.proofs.ToldRun.{told_event}
 
@@ -322,3 +322,41 @@ told_kept k m e front lock back is same tells =
       behind = λ all. kept.behind (all_inside k back each all);
       renewed = subst (λ client. renews client m e ≡ true) (sym tells.client) here.1;
     }
+
+-- A LOCK that was told leaves a lock state, under some open.
+
+lock_holds : (limit sofar now : ℕ) (refused : Bool) (m : Machine) (x : Context) (a : args.Lock) (n b : ℕ) (w : Wish) → Is m
+    → wished m.store x a.locktype a.offset a.length ≡ Ok w → w.first ≤ b → b ≤ w.last
+    → (let s = in_room limit sofar now refused m x (Operation (OpLock a)) in
+    Names Num.Lock s.outcome.result n → s.outcome.machine.store.opens.held w.file n b ≡ Some w.kind)
+lock_holds limit sofar now refused m x a n b w is wish lo hi =
+    in_room_is (λ s. Names Num.Lock s.outcome.result n → s.outcome.machine.store.opens.held w.file n b ≡ Some w.kind)
+    limit sofar now refused m x (Operation (OpLock a)) (λ told. absurd (lock_refused RepTooBig n told))
+    (λ told. told_held m.store x (moment now) refused a n w is.table is.few wish told b lo hi)
+
+found_open : (n : ℕ) (locks : List LockState) (l : LockState) → In l locks → l.number ≡ n
+    → (opened : ℕ) × (option_map (λ (l : LockState). l.opened) (find (λ (l : LockState). l.number == n) locks) ≡ Some opened)
+found_open n [] l there number = absurd there
+found_open n (k ∷ more) l there number = elim (cases_Bool (k.number == n)) [
+  | inl here ↦ (k.opened, rw here refl)
+  | inr other ↦ elim there [
+    | inl same ↦ absurd (let bad : true ≡ false = sym (eq-eqb k.number n (sym (ap (λ (l : LockState). l.number) same) ∙ number)) ∙ other in cc)
+    | inr later ↦ (let rest = found_open n more l later number in (rest.0, rw other rest.1))
+  ]
+]
+
+pub told_state : (d : Done) → IsRun d → Is d.behind → (n : ℕ) (w : Wish) → LocksFor d n w → w.first ≤ w.last
+    → (opened : ℕ) × (option_map (λ (l : LockState). l.opened) (lock_at d.behind.store.opens n) ≡ Some opened)
+told_state d r behind n w l some =
+    let same = as_step d r (Operation (OpLock l.asked)) l.is in
+    let t : Table = d.behind.store.opens in
+    let now : t.held w.file n w.first ≡ Some w.kind =
+    ap (λ (d : Done). d.behind.store.opens.held w.file n w.first) same
+    ∙ lock_holds r.limit r.sofar r.now r.refused d.before d.context l.asked n w.first w r.whole l.wish (omega arith) some
+    (subst (λ (d : Done). Names Num.Lock d.result n) same l.names) in
+    let (k, holder) = behind.table.holders w.file n w.first (λ none. let bad : Some w.kind ≡ None = sym now ∙ none in cc) in
+    found_open n t.locks k holder.stands holder.number
+
+pub event_state : (m : Machine) (e : Event) → Is m → (d : Done) → In d (ops_by m e) → (n : ℕ) (w : Wish) → LocksFor d n w → w.first ≤ w.last
+    → (opened : ℕ) × (option_map (λ (l : LockState). l.opened) (lock_at d.behind.store.opens n) ≡ Some opened)
+event_state m e is d there = told_state d (event_run m e is d there).0 (event_ops m e is d there).1

@@ -1,5 +1,5 @@
 -- A compound that neither renews a client's lease nor begins it leaves it as it was, or ends it.
-use Rattle.std.proofs.Common.{◌≡◌, ◌⊎◌, ℕ, Bool, true, false, cond, eqb, List, [], ◌∷◌, Option, Some, None, Result, Ok, Err, refl, sym, ◌∙◌, ap, subst, inl, inr}
+use Rattle.std.proofs.Common.{◌≡◌, ◌⊎◌, ℕ, Bool, true, false, cond, eqb, List, [], ◌∷◌, Option, Some, None, Result, Ok, Err, refl, sym, ◌∙◌, subst, inl, inr}
 use Rattle.std.specs.Prelude.{◌&&◌, ◌||◌, ◌==◌, is_some}
 use Rattle.std.specs.Option.{option_map_or}
 use Rattle.std.proofs.lemmas.Bool.{cases_Bool, eqb-false, ne_eqb, false≢true}
@@ -41,10 +41,10 @@ use Rattle.nfs_exec.proofs.Behind.{run_leases}
 abbrev pub IsStill : ℕ → Book → Book → Type 0
 IsStill client b left = (left.renewed client ≡ None) ⊎ (left.renewed client ≡ b.renewed client)
 
-then : (client : ℕ) (a b c : Book) → IsStill client a b → IsStill client b c → IsStill client a c
-then client a b c first (inl none) = inl none
-then client a b c (inl none) (inr same) = inl (same ∙ none)
-then client a b c (inr was) (inr same) = inr (same ∙ was)
+after_both : (client : ℕ) (a b c : Book) → IsStill client a b → IsStill client b c → IsStill client a c
+after_both client a b c first (inl none) = inl none
+after_both client a b c (inl none) (inr same) = inl (same ∙ none)
+after_both client a b c (inr was) (inr same) = inr (same ∙ was)
 
 other : (a b : ℕ) → eqb a b ≡ false → eqb b a ≡ false
 other a b e = ne_eqb b a (λ same. eqb-false a b e (sym same))
@@ -72,7 +72,7 @@ exchanged_still m now client (Ok x) e = by_added x.added refl e
     by_added : (added : Bool) → x.added ≡ added → added && (x.id == client) ≡ false
         → IsStill client m.leases (cond added (without_any_lease (with_lease m.leases x.id now) x.replaced) m.leases)
     by_added true is e =
-        then client m.leases (with_lease m.leases x.id now) (without_any_lease (with_lease m.leases x.id now) x.replaced)
+        after_both client m.leases (with_lease m.leases x.id now) (without_any_lease (with_lease m.leases x.id now) x.replaced)
         (still_lease m.leases client x.id now e) (still_any (with_lease m.leases x.id now) client x.replaced)
     by_added false is e = inr refl
 
@@ -88,7 +88,7 @@ made_still : (m : Machine) (now client : ℕ) (c : CreateSession) (t : SessionTa
     → is_ok (by_created m now c t v).status && (c.clientid == client) ≡ false → IsStill client m.leases (by_created m now c t v).machine.leases
 made_still m now client c t (Ok id) e =
     let gone = without_any_lease m.leases (clients.leaving m.clients c.clientid) in
-    then client m.leases gone (with_renewal gone c.clientid now) (still_any m.leases client (clients.leaving m.clients c.clientid))
+    after_both client m.leases gone (with_renewal gone c.clientid now) (still_any m.leases client (clients.leaving m.clients c.clientid))
     (still_renewal gone client c.clientid now e)
 made_still m now client c t (Err fault) e = inr refl
 

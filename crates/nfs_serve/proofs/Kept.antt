@@ -1,7 +1,6 @@
 -- A lock that was told stays through all records that spare it and come in time.
 use Rattle.std.proofs.Common.{◌≡◌, ℕ, ◌+◌, ◌≤◌, Bool, true, false, cond, List, [], ◌∷◌, ◌++◌, length, Option, Some, None, refl, sym, ◌∙◌, ap, subst, arith, inl, inr}
 use Rattle.std.specs.Option.{option_map_or}
-use Rattle.std.proofs.lemmas.Bool.{false≢true}
 use Rattle.nfs_xdr.specs.Spelling.{number}
 use Rattle.nfs_xdr.specs.Tables.{In}
 use Rattle.nfs_compound.specs.Operation.{Operation, OpGetAttr}
@@ -10,17 +9,18 @@ use Rattle.nfs_results.specs.Results.{spell_result}
 use Rattle.nfs_exec.specs.Machine.{Machine, is_ok}
 use Rattle.nfs_exec.specs.Laws.{Event, Expires, Asks}
 use Rattle.nfs_exec.specs.Ops.{Done, ops_by}
+use Rattle.nfs_opens.specs.declared.locking.Wish.{Wish}
 use Rattle.nfs_files.specs.Kept.{Told}
 use Rattle.nfs_exec.specs.Held.{LocksFor, AreSpared, StandsBefore, StandsWhile, Tells, IsAlone, renews}
 use Rattle.nfs_exec.proofs.HeldRun.{Keeps, event_behind}
 use Rattle.nfs_exec.proofs.ToldRun.{none_at_end}
-use Rattle.nfs_exec.proofs.AnsweredRun.{event_stands, event_leaves, told_kept}
+use Rattle.nfs_exec.proofs.AnsweredRun.{event_stands, event_leaves, event_state, told_kept}
 use Rattle.nfs_exec.proofs.Lasting.{Lasts, ten, compound_lasts, event_told}
 use Rattle.nfs_exec.proofs.WholeRun.{Is}
 use Rattle.nfs_exec.proofs.Renewing.{AtLeast, in_time, least_expired, least_behind, compound_lease}
 use Rattle.nfs_serve.specs.Step.{State, new_state}
 use Rattle.nfs_serve.specs.Points.{Came, next, all_next, reached, taken, before, asked_by, ops_of}
-use Rattle.nfs_serve.specs.Kept.{renews_by, StaysHeld, AreInTime, LockKept, OnlyOneIsTold, LeaseIsTold}
+use Rattle.nfs_serve.specs.Kept.{renews_by, StaysHeld, AreInTime, LockKept, OnlyOneIsTold, LeaseIsTold, EachIsTold}
 use Rattle.nfs_serve.proofs.Points.{left, for_asked, next_is, IsSound, taken_later, whole_before, sound_next, sound_all, sound_new}
 
 -- How long a lease lasts does not change.
@@ -196,3 +196,29 @@ only_one mode instance lease earlier c k front first back between d until second
     let (last, t, there, then) = through k lease (taken s c) (next s c) between
     (λ last t. (ops_of t d ≡ until ++ second ∷ behind) × (taken t d ≤ last + lease) × AreSpared k until) some lives all in
     (before_second k (ops_of t d) until second behind then.0 (does k lease last t d some there then.1).through then.2).refused n w locks clash
+
+-- Whatever LOCK was told told a lock.
+
+told_by : (m : Machine) (o : Option Event) → Is m → (d : Done) (n : ℕ) (w : Wish) → In d (option_map_or (ops_by m) o []) → LocksFor d n w → w.first ≤ w.last
+    → (opened : ℕ)
+    × Tells (record { state = n; client = d.context.client; opened = opened; file = w.file; kind = w.kind; first = w.first; last = w.last }) d
+told_by m None is d n w there locks some = absurd there
+told_by m (Some e) is d n w there locks some =
+    let state = event_state m e is d there n w locks some in (
+      state.0,
+      record {
+        wish = w;
+        locks = locks;
+        range = (omega arith, some, omega arith);
+        kind = refl;
+        file = refl;
+        client = refl;
+        opened = state.1;
+      },
+    )
+
+pub each_is_told : EachIsTold
+each_is_told mode instance lease records c d n w there locks some =
+    let s = reached mode instance lease records in
+    let sound : IsSound s = sound_all (new_state mode instance lease) records (sound_new mode instance lease) in
+    told_by (before s c) (asked_by s c) (whole_before s c sound.whole) d n w there locks some

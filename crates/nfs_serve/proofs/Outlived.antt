@@ -1,9 +1,8 @@
 -- A byte is held only where its client renewed at most a lease before.
-use Rattle.std.proofs.Common.{◌≡◌, ℕ, ◌+◌, ◌-◌, ◌<◌, ◌≤◌, Bool, true, false, cond, eqb, List, [], ◌∷◌, length, Option, Some, None, refl, sym, ◌∙◌, ap, subst, arith, inl, inr}
-use Rattle.std.specs.Prelude.{◌==◌, ◌^◌, is_some}
+use Rattle.std.proofs.Common.{◌≡◌, ℕ, ◌+◌, ◌-◌, ◌≤◌, Bool, true, false, cond, List, [], ◌∷◌, length, Option, Some, None, refl, sym, ◌∙◌, ap, subst, arith, inl, inr}
+use Rattle.std.specs.Prelude.{◌==◌, is_some}
 use Rattle.std.specs.Option.{option_map_or}
 use Rattle.std.proofs.lemmas.Bool.{cases_Bool, eq-eqb, ltb-false, false≢true}
-use Rattle.nfs_xdr.specs.Tables.{In}
 use Rattle.nfs_xdr.specs.Caller.{Caller}
 use Rattle.nfs_xdr.proofs.Lists.{any_in}
 use Rattle.nfs_compound.specs.Request.{Request}
@@ -12,15 +11,15 @@ use Rattle.nfs_lease.specs.Queue.{IsLatest}
 use Rattle.nfs_clients.specs.Roster.{Roster, ClientRecord, client_at}
 use Rattle.nfs_opens.specs.declared.records.OpenState.{OpenState}
 use Rattle.nfs_names.specs.Ending.{has_open}
-use Rattle.nfs_exec.specs.Machine.{Machine, IsMachine, starts, is_client, is_confirmed}
-use Rattle.nfs_exec.specs.Expiry.{expired, leases_kept}
-use Rattle.nfs_exec.specs.Laws.{Event, Asks}
+use Rattle.nfs_exec.specs.Machine.{IsMachine, is_client, is_confirmed}
+use Rattle.nfs_exec.specs.Expiry.{leases_kept}
+use Rattle.nfs_exec.specs.Laws.{Asks}
 use Rattle.nfs_exec.specs.Renewing.{renews_or_begins}
 use Rattle.nfs_exec.proofs.Invariant.{of_start, of_expired, of_compound}
 use Rattle.nfs_exec.proofs.Latest.{expired_all, latest_compound}
 use Rattle.nfs_exec.proofs.Outlasting.{IsStill, compound_still}
 use Rattle.nfs_serve.specs.Step.{State, new_state}
-use Rattle.nfs_serve.specs.Points.{Came, next, all_next, reached, taken, before, asked_by}
+use Rattle.nfs_serve.specs.Points.{Came, next, all_next, reached, taken, before}
 use Rattle.nfs_serve.specs.Outlived.{renewed_by, last_renewal, NoneOutlives}
 use Rattle.nfs_serve.proofs.Points.{left, for_asked, next_is, IsSound, whole_before, latest_before, sound_next, sound_all, sound_new}
 use Rattle.nfs_serve.proofs.Kept.{lease_all}

@@ -1,6 +1,7 @@
 -- Wrong steps that the promises of locks refuse, computed.
-use Rattle.std.proofs.Common.{◌≡◌, ℕ, ◌+◌, ◌≤◌, List, [], ◌∷◌, ◌++◌, Some, None, refl, sym, ◌∙◌, ap, subst, arith, inl, inr}
-use Rattle.std.specs.Prelude.{◌*◌, ◌^◌, Result, Ok}
+use Rattle.std.proofs.lemmas.Bool.{and_parts, eqb-true, false≢true}
+use Rattle.std.proofs.Common.{◌≡◌, ℕ, Bool, true, false, ◌+◌, ◌≤◌, List, [], ◌∷◌, ◌++◌, length, take, get_or, Option, Some, None, refl, sym, ◌∙◌, ap, subst, arith, inl, inr}
+use Rattle.std.specs.Prelude.{◌==◌, ◌&&◌, ◌*◌, ◌^◌, Result, Ok}
 use Rattle.nfs_xdr.specs.Spelling.{number, hyper}
 use Rattle.nfs_xdr.specs.Reading.{opaque_at, fixed_at, flag_at, pieces_at}
 use Rattle.nfs_rpc.specs.CallHead.{call_of, header, opaque_auth, behind_header, caller_of}
@@ -8,7 +9,7 @@ use Rattle.nfs_xdr.specs.AuthSys.{auth_sys}
 use Rattle.nfs_rpc.specs.Reply.{spell_head}
 use Rattle.nfs_compound.specs.ReadRequest.{request_at, items_at, item_at}
 use Rattle.nfs_compound.specs.OpCodec.{op_at, fault_at}
-use Rattle.nfs_compound.specs.Operation.{Operation, OpLock, OpLockU, OpClose}
+use Rattle.nfs_compound.specs.Operation.{Item, Operation, OpLock, OpLockU, OpClose}
 use Rattle.nfs_compound.specs.ChannelAttrs.{channel_attrs}
 use Rattle.nfs_compound.specs.ArgCodecs.{sec_parms, exchange_id_args, create_session_args, sequence_args, protected, impl_id, lock_type, open_to_lock_owner}
 use Rattle.nfs_compound.specs.ArgCodecs.{exist_lock_owner, locker, lock_args, lock_u_args}
@@ -44,6 +45,12 @@ use Rattle.nfs_names.specs.declared.context.Context.{Context}
 use Rattle.nfs_files.specs.StateIds.{meant}
 use Rattle.nfs_files.specs.Kept.{Stands}
 use Rattle.nfs_exec.specs.Machine.{Machine}
+use Rattle.nfs_xdr.specs.Caller.{Caller}
+use Rattle.nfs_compound.specs.Request.{Request}
+use Rattle.nfs_compound.specs.declared.session_args.Sequence.{Sequence}
+use Rattle.nfs_exec.specs.Compound.{Answered, compound}
+use Rattle.nfs_exec.specs.Laws.{Event, Expires, Asks, first_runs}
+use Rattle.nfs_exec.specs.Delayed.{IsDelayed, kept_by, with_ok}
 use Rattle.nfs_exec.specs.Ops.{Done}
 use Rattle.nfs_exec.specs.Held.{Spares, AreSpared, IsAlone}
 use Rattle.nfs_serve.specs.Exchanges.{words}
@@ -51,9 +58,9 @@ use Rattle.nfs_serve.specs.Kept.{StaysHeld}
 use Rattle.nfs_opens.specs.declared.records.LockState.{LockState}
 use Rattle.nfs_serve.specs.Outlived.{last_renewal}
 use Rattle.nfs_serve.specs.Step.{State, new_state, step}
-use Rattle.nfs_serve.specs.Points.{next, taken, before, ops_of}
+use Rattle.nfs_serve.specs.Points.{next, taken, before, ops_of, asked_by}
 use Rattle.nfs_serve.specs.HeldLock as worked
-use Rattle.nfs_serve.specs.WrongLocks.{AreRefused, renewal, short_leases, set_back, closes_another, last_of}
+use Rattle.nfs_serve.specs.WrongLocks.{AreRefused, NoneDelayed, renewal, short_leases, set_back, closes_another, last_of}
 use Rattle.nfs_serve.proofs.HeldLock.{asked}
 
 -- what B's LOCK asked for
@@ -112,6 +119,45 @@ gone s low none empty free stays =
     unheld (next s renewal).machine.store.opens free
     ((stays.1 low).1 (none_spared (ops_of s renewal) none) (none_alone (before s renewal) (next s renewal).machine empty))
 
+-- where the whole request answers another status than NFS4_OK, its last operation is not delayed
+
+kept_text : (r : Request) (who : Caller) (o : Option Sequence) (a : Answered) → (kept_by r who o a).text ≡ a.text
+kept_text r who None a = refl
+kept_text r who (Some s) a = refl
+
+ok_byte : (r : Request) (count : ℕ) (results : List ℕ) (left : Machine) → get_or (with_ok r count results left).text 2 0 ≡ 0
+unfolding number
+ok_byte r count results left = refl
+
+whole : (items : List Item) → length items ≡ 4 → items ≡ take 4 items
+whole [] e = refl
+whole (a ∷ []) e = refl
+whole (a ∷ b ∷ []) e = refl
+whole (a ∷ b ∷ c ∷ []) e = refl
+whole (a ∷ b ∷ c ∷ d ∷ []) e = refl
+whole (a ∷ b ∷ c ∷ d ∷ f ∷ more) e = absurd (omega arith)
+
+not_delayed : (m : Machine) (r : Request) (who : Caller) (size now : ℕ) → length r.left ≡ 4 → get_or (compound m r who size now None).text 2 0 ≡ 39
+    → IsDelayed m r who size now 3 → ⊥
+not_delayed m r who size now four status d =
+    let same = d.would r size (record { tag = refl; minor = refl; declared = omega arith; left = whole r.left four }) (omega arith) in
+    let ok = with_ok r 4 (d.results ++ d.more) d.behind in
+    let bad : ◌≡◌ {A = ℕ} 39 0 = sym status
+    ∙ (ap (λ (a : Answered). get_or a.text 2 0) same
+    ∙ (ap (λ (text : List ℕ). get_or text 2 0) (kept_text r who (first_runs m r who size r.left) ok) ∙ ok_byte r 4 (d.results ++ d.more) d.behind)) in
+    absurd (omega arith)
+
+-- four operations, and the third byte of the status of NFS4ERR_DENIED
+abbrev denies : Machine → Option Event → Bool
+denies m (Some (Asks r who size now choice)) = (length r.left == 4) && (get_or (compound m r who size now None).text 2 0 == 39)
+denies m o = false
+
+none_delayed : (m : Machine) (o : Option Event) → denies m o ≡ true → NoneDelayed m 3 o
+none_delayed m (Some (Asks r who size now choice)) e =
+    let tests = and_parts _ _ e in not_delayed m r who size now (eqb-true _ _ tests.0) (eqb-true _ _ tests.1)
+none_delayed m (Some (Expires now)) e = absurd (false≢true e)
+none_delayed m None e = absurd (false≢true e)
+
 -- A's lock state
 abbrev state : LockState
 state = record { number = 2; client = worked.told.client; owner = 0x6c ∷ []; file = 2; opened = 1; seqid = 1 }
@@ -127,6 +173,7 @@ unfolding number hyper step call_of header opaque_auth opaque_at fixed_at behind
     results.exchange_id results.create_session results.sequence results.open_ok results.change_info results.attr_set results.denied
     told attributes settings_of handle wanted_of current permits put_fh put_root_fh asked_for open_file the_file target range wished denied lock lock_u
 are_refused = record {
+  delayed = none_delayed (before worked.asked worked.clashes) (asked_by worked.asked worked.clashes) refl;
   denied = λ d is. is.refused 4 wish (record {
     asked = asked;
     is = refl;

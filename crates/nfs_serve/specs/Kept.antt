@@ -51,6 +51,13 @@ LockKept = (mode instance lease : ℕ) (earlier : List Came) (c : Came) (k : Tol
     ops_of s c ≡ front ++ lock ∷ back → Tells k lock
     → StandsWhile k back × (AreSpared k back → (more : List Came) → StaysHeld k lease (taken s c) (next s c) more))
 
+-- Whatever LOCK was told told a lock: all that it asked for, where that is a byte at least, as each range on the wire is.
+abbrev pub EachIsTold : Type 0
+EachIsTold = (mode instance lease : ℕ) (records : List Came) (c : Came) (d : Done) (n : ℕ) (w : Wish)
+    → In d (ops_of (reached mode instance lease records) c) → LocksFor d n w → w.first ≤ w.last
+    → (opened : ℕ)
+    × Tells (record { state = n; client = d.context.client; opened = opened; file = w.file; kind = w.kind; first = w.first; last = w.last }) d
+
 -- Only one writer is told: of two LOCKs that clash on a byte, each answered NFS4_OK and the stateid of a lock state of its own, the second comes
 -- behind an end of the first. Between them an operation unlocks a byte of the first or locks one in another way or closes its open, or another id is
 -- confirmed for its client's owner, or its client's lease runs out: else there are no two such LOCKs.

@@ -1,6 +1,6 @@
 -- Wrong steps that the promises of locks refuse, worked by hand over the run of `HeldLock` (RFC 8881 sections 8.3, 9.1, 18.2 and 18.10). Each is a step that this server
 -- does not take: what a server that took it did is no lock kept.
-use Rattle.std.specs.Prelude.{◌≡◌, List, [], ◌∷◌, ◌++◌, None, Some}
+use Rattle.std.specs.Prelude.{◌≡◌, ℕ, List, [], ◌∷◌, ◌++◌, Option, None, Some}
 use Rattle.nfs_compound.specs.declared.op_num.OpNum.TheVariants as Op
 use Rattle.nfs_compound.specs.Operation.{Operation, OpClose}
 use Rattle.nfs_lease.specs.Renewals.{with_renewal}
@@ -8,10 +8,13 @@ use Rattle.nfs_results.specs.Results.{done_head}
 use Rattle.nfs_ranges.specs.declared.Kind.TheVariants.{Write}
 use Rattle.nfs_opens.specs.Closing.{without_open}
 use Rattle.nfs_names.specs.Ending.{with_opens}
+use Rattle.nfs_exec.specs.Machine.{Machine}
+use Rattle.nfs_exec.specs.Laws.{Event, Asks}
+use Rattle.nfs_exec.specs.Delayed.{IsDelayed}
 use Rattle.nfs_exec.specs.Ops.{Done}
 use Rattle.nfs_exec.specs.Held.{StandsBefore, StandsWhile}
 use Rattle.nfs_serve.specs.Step.{State, new_state}
-use Rattle.nfs_serve.specs.Points.{Came, next, reached, ops_of}
+use Rattle.nfs_serve.specs.Points.{Came, next, reached, before, asked_by, ops_of}
 use Rattle.nfs_serve.specs.Kept.{StaysHeld}
 use Rattle.nfs_serve.specs.Outlived.{last_renewal, IsInTime}
 use Rattle.nfs_serve.specs.Exchanges.{words}
@@ -46,7 +49,14 @@ abbrev pub last_of : Done → List Done → Done
 last_of d [] = d
 last_of d (e ∷ ds) = last_of e ds
 
+-- The answer to what a record asks for is none where the operation at a place of it is delayed.
+abbrev pub NoneDelayed : Machine → (place : ℕ) → Option Event → Type 0
+NoneDelayed m place (Some (Asks r who size now choice)) = IsDelayed m r who size now place → ⊥
+NoneDelayed m place o = ⊥
+
 pub record AreRefused : Type 0 where
+  -- NFS4ERR_DELAY in the place of NFS4ERR_DENIED
+  pub delayed : NoneDelayed (before asked clashes) 3 (asked_by asked clashes)
   -- in the place of B's LOCK, which is denied
   pub denied : (d : Done) → StandsBefore told (told_anyway (last_of d (ops_of asked clashes))) → ⊥
   pub closed : (d : Done) → StandsWhile told (closes_another (last_of d (ops_of asked clashes)) ∷ []) → ⊥

@@ -7,7 +7,7 @@ ghost use Rattle.nfs_serve.specs.Exchanges.{RunsTo, null_script, null_output, ex
 ghost use Rattle.nfs_serve.specs.Laws.{HasOneReading, CutsAnywhere, BringsOnce, ConnectionsAreStreams};
 ghost use Rattle.nfs_serve.specs.Forms.{EachFormRunsRecords};
 ghost use Rattle.nfs_serve.specs.HeldLock.{IsHeldTo, AreBothTold};
-ghost use Rattle.nfs_serve.specs.Kept.{LockKept, OnlyOneIsTold, LeaseIsTold};
+ghost use Rattle.nfs_serve.specs.Kept.{LockKept, EachIsTold, OnlyOneIsTold, LeaseIsTold};
 ghost use Rattle.nfs_serve.specs.LostReply.{IsAccepted, IsOverAWire};
 ghost use Rattle.nfs_serve.specs.Network.{ExactlyOnce, AnswersExecuted};
 ghost use Rattle.nfs_serve.specs.Numbered.{AnswersNumbered, ExactlyOnceByNumber, XidsSuffice};
@@ -158,6 +158,11 @@ pub fn no_clash()
 /// that clashes with it is answered NFS4_OK.
 pub fn lock_kept()
     ensures { LockKept }
+{}
+
+/// Whatever LOCK is answered NFS4_OK and a stateid, it told a lock of which `lock_kept` speaks: all the bytes that it asked for.
+pub fn each_lock_is_told()
+    ensures { EachIsTold }
 {}
 
 /// In every run a GETATTR of attribute 10 that answers NFS4_OK gives the number of seconds that leases last.
