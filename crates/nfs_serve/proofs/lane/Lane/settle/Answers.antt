@@ -47,9 +47,11 @@ loop-self-preserved g c =
     let (ys, quiet, clear) = c.in-Clear.ensures in
     let still : c.flush.new.self.live ≡ true = ap (λ d. d.live) clear ∙ live in
     let (zs, working, same, shorter) = c.step_some.ensures in
-    let flushed = goes_on so_far ys _ _ _ _ (quiet_advances _ ys _ _ _ _ _ _ quiet) in
-    ((
-      (acts ++ ys) ++ zs,
-      goes_on flushed zs _ _ _ _ (working_advances _ zs _ _ _ _ _ _ _ working),
-      none_read (acts ++ ys) zs (none_read acts ys none_yet quiet.no_reads) working.no_reads,
-    ), same ∙ still)
+    let flushed = goes_on so_far ys _ _ _ _ (quiet_advances _ ys _ _ _ _ _ _ quiet) in (
+      (
+        (acts ++ ys) ++ zs,
+        goes_on flushed zs _ _ _ _ (working_advances _ zs _ _ _ _ _ _ _ working),
+        none_read (acts ++ ys) zs (none_read acts ys none_yet quiet.no_reads) working.no_reads,
+      ),
+      same ∙ still,
+    )
