@@ -283,6 +283,10 @@ class Play:
     def reference_word(self, op, name):
         return dict(self.lowered(op, 0)).get(name)
 
+    def sequence_id(self, mine):
+        """The number that a SEQUENCE of the server has to answer, where the reference answers this one."""
+        return mine
+
     def caller(self, step):
         """Half of the session's id in the reference, which tells clients apart."""
         session = step.sequence and step.sequence.get("sessionid")

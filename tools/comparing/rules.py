@@ -119,7 +119,7 @@ ALLOWED = [Row(*words) for words in (
     ("OPEN|CREATE|SETATTR", "status", "BADOWNER", ".*", "5.9", "which texts name an owner is the server's matter"),
     ("OPEN|CREATE|SETATTR", "status", ".*", "BADOWNER", "5.9", "which texts name an owner is the server's matter"),
     ("OPEN", "status .attributes of an exclusive create.", ".*", "INVAL|ATTRNOTSUPP", "18.16.3", "an attribute that an exclusive create does not take"),
-    ("OPEN", "status .exclusive again.", ".*", "EXIST|OK", "18.16.3", "the verifier may be lost once the file was used"),
+    ("OPEN", "status .exclusive again.", ".*", "EXIST", "18.16.3", "the verifier may be lost once the file was used"),
     (".*", "status", "BAD_STATEID", "OLD_STATEID", "8.2.2", "a seqid far ahead is one from before a wrap"),
     ("READ", "eof of no bytes", ".*", ".*", "18.22.3", "whether a READ of no bytes tells the end"),
     ("OPEN|CREATE|LOOKUP|REMOVE|RENAME|LINK", "status", "BADCHAR|BADNAME", "OK|NOENT|INVAL|EXIST|BADNAME|BADCHAR|NOTEMPTY|ISDIR", "14.5",
@@ -202,12 +202,13 @@ def verdict(difference):
             difference.verdict, difference.section, difference.why = word, row.section, row.why
             difference.looked_up = row.looked_up
             return
-    if difference.what.startswith("status") and difference.reference not in ("OK", "none") and difference.reference not in LISTED.get(difference.operation, difference.reference):
+    of_operation = difference.what == "status" or difference.what.startswith("status (")
+    if of_operation and difference.operation != "COMPOUND" and difference.reference not in ("OK", "none") and difference.reference not in LISTED.get(difference.operation, difference.reference):
         difference.verdict, difference.section, difference.looked_up = "ours", "15.2", False
         difference.why = f"the reference answers an error that is not listed for {difference.operation}"
         return
     difference.verdict, difference.section = "deviation", SECTION.get(difference.operation, "")
-    if difference.what.startswith("status") and difference.server not in ("OK", "none") and difference.server not in LISTED.get(difference.operation, ()):
+    if of_operation and difference.operation != "COMPOUND" and difference.server not in ("OK", "none") and difference.server not in LISTED.get(difference.operation, ()):
         difference.section += ", 15.2"
         difference.why = f"{difference.server} is not listed for {difference.operation}"
 
