@@ -4,21 +4,26 @@ import subprocess
 import nfs4
 import pcap
 
-from .playing import Given, Play
+from .playing import READ_ONLY, Given, Play
+from .reference import LEASE
 from .server import Answer, Silence
 from .symbols import BASE, Op, Script, Step, Sym, Turn, given, lifted
 
 ROOT = ("PUTROOTFH", "PUTPUBFH")
+NOTHING_CHANGED = READ_ONLY | {"SEQUENCE", "BIND_CONN_TO_SESSION", "SECINFO", "OP?"}
 
 
 class Lift:
-    """Calls and their replies, one behind the other, as a script. What no reply gave stays as it is."""
+    """Calls and their replies, one behind the other, as a script. A call that names what no reply gave is left out: the reference cannot
+    know it."""
 
     def __init__(self):
         self.known, self.binds, self.steps = {}, {}, []
         self.slots, self.bases, self.bodies, self.left_out = {}, {}, {}, {}
+        self.unknown, self.lost = False, None  # lost: after how many steps a call was left out that changed something
 
     def symbol(self, kind, word):
+        self.unknown |= kind in ("fh", "session", "state") and (kind, word) not in self.known
         return self.known.get((kind, word), word)
 
     def new(self, kind, word):
@@ -34,10 +39,13 @@ class Lift:
         why = self.unfit(call, answer)
         if why:
             self.count(call, answer)
-            return self.dropped(why)
+            return self.dropped(why, answer)
         again = self.bodies.get(record[4:], 0) if call.operations[0][0] == "SEQUENCE" else 0
+        self.unknown = False
         ops = [self.operation(name, fields) for name, fields in call.operations]
         self.count(call, answer)
+        if self.unknown:
+            return self.dropped("an identifier that no reply of the capture gave", answer)
         step = Step(ops, conn, call.uid, call.gid, tuple(call.gids), nfs4.shown(call.tag), again)
         self.steps.append(step)
         if not again:
@@ -45,8 +53,10 @@ class Lift:
             self.learn(ops, answer)
         return step
 
-    def dropped(self, why):
+    def dropped(self, why, answer=None):
         self.left_out[why] = self.left_out.get(why, 0) + 1
+        if self.lost is None and answer and any(status == "OK" and name not in NOTHING_CHANGED for name, status, _ in answer.results):
+            self.lost = len(self.steps)
 
     @staticmethod
     def unfit(call, answer):
@@ -183,9 +193,10 @@ class Recorded:
 class Judged(Play):
     """A recording judged: the server's side is what was recorded."""
 
-    def __init__(self, calls, script, reference, make=()):
+    def __init__(self, calls, script, reference, make=(), lost=None):
         super().__init__(Recorded(calls), reference, Given(script), steer=False)
-        self.calls, self.make = calls, make
+        self.calls, self.make, self.lost = calls, make, lost
+        self.parted_at = None  # the call at which the two first parted, and the differences up to it
 
     def begin(self):
         self.reference.begin()
@@ -211,11 +222,21 @@ class Judged(Play):
         """Nothing is to be cleaned up."""
 
     def single(self, step):
+        """One recorded call. As much of a lease passes in the reference as passed in the recording."""
+        before = self.calls[max(self.server.transport.at, 0)][0]
         self.server.transport.at += 1
+        if self.server.transport.at == self.lost:
+            self.parted_at = self.parted_at or (self.lost + 1, len(self.outcome.differences))
+        self.moment += int(max(self.now() - before, 0) * LEASE / self.server.lease)
         super().single(step)
         if self.outcome.stopped:
-            self.outcome.partings = getattr(self.outcome, "partings", 0) + 1
+            self.parted_at = self.parted_at or (self.server.transport.at + 1, len(self.outcome.differences))
             self.outcome.stopped = ""
+
+    def sequence_id(self, mine):
+        """The number that the client sent: calls of the slot may have been left out."""
+        fields = nfs4.Call(self.calls[self.server.transport.at][3]).operations[0][1]
+        return dict(fields)["seqid"]
 
     def now(self):
         return self.calls[self.server.transport.at][0]

@@ -283,6 +283,10 @@ class Play:
     def reference_word(self, op, name):
         return dict(self.lowered(op, 0)).get(name)
 
+    def sequence_id(self, mine):
+        """The number that a SEQUENCE of the server has to answer, where the reference answers this one."""
+        return mine
+
     def caller(self, step):
         """Half of the session's id in the reference, which tells clients apart."""
         session = step.sequence and step.sequence.get("sessionid")
@@ -552,15 +556,17 @@ class Play:
         return self.moment - T0 > LEASE
 
     def circumstance_of_files(self, step, sent, op, a, b, cursor):
-        if a == "OK" and b in ("STALE", "NOENT") or op.name == "LINK" and a == "NOENT":
+        if b == "STALE" or a == "OK" and b == "NOENT" or op.name == "LINK" and a == "NOENT":
             handle = self.reference_word(op, "FileHandle") if op.name == "PUTFH" else cursor.saved if op.name == "LINK" else cursor.here
-            if handle and self.links(sent, handle) == "0":
+            if handle and "0" in (self.told(sent, handle, "NumLinks"), self.told(sent, handle, "NumLinks", False)):
                 return " (removed, open)"
+        if op.name in ("VERIFY", "NVERIFY") and "Size:" in str(op.get("attrs")) and self.told(sent, cursor.here, "Type") != "1":
+            return " (size of no file)"
         if a == "OK" and b in ("ACCESS", "PERM", "WRONG_CRED") and isinstance(op.get("StateID"), State):
             held = self.twin.opens.get(self.twin.values[op.get("StateID").other][0])
             if held is None or held[4] != step.uid:
                 return " (another user)"
-        if a == "ACCESS" and b == "OK" and self.owned(sent, cursor.here) == str(step.uid):
+        if a == "ACCESS" and b == "OK" and self.told(sent, cursor.here, "Owner") == str(step.uid):
             return " (owner of the file)"
         if b == "ACCESS" and self.made_without_mode(sent, op, cursor):
             return " (mode not given)"
@@ -591,15 +597,12 @@ class Play:
 
     # looks into the reference
 
-    def told(self, sent, handle, mask):
-        told = self.reference.look([("PUTFH", [("FileHandle", handle)]), ("GETATTR", [("attr_mask", mask)])], sent.moment, without_last=True)
+    def told(self, sent, handle, mask, before=True):
+        """An attribute of an object, before this call or behind it."""
+        if not handle:
+            return None
+        told = self.reference.look([("PUTFH", [("FileHandle", handle)]), ("GETATTR", [("attr_mask", mask)])], sent.moment, before)
         return dict(nfs4.values_of(dict(told[-1][2])["attrs"]) or ()).get(mask) if told and told[-1][1] == "OK" else None
-
-    def links(self, sent, handle):
-        return self.told(sent, handle, "NumLinks")
-
-    def owned(self, sent, handle):
-        return self.told(sent, handle, "Owner") if handle else None
 
     def is_held(self, handle, op, told):
         """Is what a DENIED tells a run of bytes that its owner holds so, and in the way of what was asked?"""

@@ -44,11 +44,6 @@ class Results:
         if status == "OK":
             self.move(op, r)
 
-    def same(self, op, r, s, *names):
-        for name in names:
-            if r.get(name) != s.get(name):
-                self.differ(name, r.get(name), s.get(name))
-
     # identifiers
 
     def identifiers(self, op, mine, theirs):
@@ -194,7 +189,10 @@ class Results:
         pair = self.twin.values.get(op.get("sessionid"))
         if pair and pair[1] != s["sessionid"]:
             self.differ("session", "that of the call", "another")
-        self.same(op, r, s, "seqid", "slot_id")
+        if s["seqid"] != self.play.sequence_id(r["seqid"]):
+            self.differ("seqid", "that of the call", "another")
+        if s["slot_id"] != r["slot_id"]:
+            self.differ("slot_id", "that of the call", "another")
         if int(s["status_flags"]) & ~QUIET_FLAGS:
             self.differ("status flags", "none", hex(int(s["status_flags"])))
 

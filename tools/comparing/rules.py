@@ -107,7 +107,7 @@ ALLOWED = [Row(*words) for words in (
     ("TEST_STATEID|FREE_STATEID", "status.*", "OLD_STATEID|BAD_STATEID", "OLD_STATEID|BAD_STATEID|EXPIRED", "18.48.3", "which of the errors"),
     ("LOCK|LOCKT", "denied (offset|length|locktype|owner|clientid) .held.", ".*", ".*", "18.10.4", "any lock that clashes may be told"),
     ("PUTFH", "status", "STALE|BADHANDLE", "STALE|BADHANDLE", "18.19.3", "a handle that no server gave, or of an object that is gone"),
-    (".*", "status .removed, open.", "OK", "STALE|NOENT", "18.25.4", "a removed file need not live on while it is open"),
+    (".*", "status .removed, open.", ".*", "STALE|NOENT", "18.25.4", "a removed file need not live on while it is open"),
     ("LINK", "status .removed, open.", "NOENT", "OK|STALE", "18.9.4", "an open file without a name may get one"),
     (".*", "status", "STALE", "OK", "4.2.1", "a handle of a removed object may stay good for a while"),
     ("CLOSE", "status", "OK", "LOCKS_HELD", "18.2.3", "a server may refuse to close while locks are held"),
@@ -119,7 +119,7 @@ ALLOWED = [Row(*words) for words in (
     ("OPEN|CREATE|SETATTR", "status", "BADOWNER", ".*", "5.9", "which texts name an owner is the server's matter"),
     ("OPEN|CREATE|SETATTR", "status", ".*", "BADOWNER", "5.9", "which texts name an owner is the server's matter"),
     ("OPEN", "status .attributes of an exclusive create.", ".*", "INVAL|ATTRNOTSUPP", "18.16.3", "an attribute that an exclusive create does not take"),
-    ("OPEN", "status .exclusive again.", ".*", "EXIST|OK", "18.16.3", "the verifier may be lost once the file was used"),
+    ("OPEN", "status .exclusive again.", ".*", "EXIST", "18.16.3", "the verifier may be lost once the file was used"),
     (".*", "status", "BAD_STATEID", "OLD_STATEID", "8.2.2", "a seqid far ahead is one from before a wrap"),
     ("READ", "eof of no bytes", ".*", ".*", "18.22.3", "whether a READ of no bytes tells the end"),
     ("OPEN|CREATE|LOOKUP|REMOVE|RENAME|LINK", "status", "BADCHAR|BADNAME", "OK|NOENT|INVAL|EXIST|BADNAME|BADCHAR|NOTEMPTY|ISDIR", "14.5",
@@ -186,6 +186,7 @@ UNCLEAR = [Row(*words) for words in (
     ("READLINK", "status", "WRONG_TYPE", "INVAL", "18.24.4", "which of the errors"),
     ("OPEN", "status", "NOTDIR", "SYMLINK", "18.16.3", "what a link in the place of the directory is"),
     ("SEQUENCE", "status .0 on a slot that was not used.", ".*", ".*", "18.46.3", "whether the number 0 repeats something on a slot that was not used"),
+    ("VERIFY|NVERIFY", "status .size of no file.", ".*", ".*", "5.8.1.5", "what the size of a link or of a directory is"),
     ("attributes", "attr Size of a link", ".*", ".*", "5.8.1.5", "whether the size of a link is that of its text"),
     ("attributes", "attr RDAttr_Error", "none", "an error", "5.8.1.12", "whether the attributes of an entry want the right to search the directory"),
     ("SEQUENCE", "status", "BAD_HIGH_SLOT", "OK", "18.46.3", "whether the highest slot must be judged"),
@@ -202,12 +203,13 @@ def verdict(difference):
             difference.verdict, difference.section, difference.why = word, row.section, row.why
             difference.looked_up = row.looked_up
             return
-    if difference.what.startswith("status") and difference.reference not in ("OK", "none") and difference.reference not in LISTED.get(difference.operation, difference.reference):
+    of_operation = difference.what == "status" or difference.what.startswith("status (")
+    if of_operation and difference.operation != "COMPOUND" and difference.reference not in ("OK", "none") and difference.reference not in LISTED.get(difference.operation, difference.reference):
         difference.verdict, difference.section, difference.looked_up = "ours", "15.2", False
         difference.why = f"the reference answers an error that is not listed for {difference.operation}"
         return
     difference.verdict, difference.section = "deviation", SECTION.get(difference.operation, "")
-    if difference.what.startswith("status") and difference.server not in ("OK", "none") and difference.server not in LISTED.get(difference.operation, ()):
+    if of_operation and difference.operation != "COMPOUND" and difference.server not in ("OK", "none") and difference.server not in LISTED.get(difference.operation, ()):
         difference.section += ", 15.2"
         difference.why = f"{difference.server} is not listed for {difference.operation}"
 

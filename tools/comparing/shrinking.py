@@ -109,5 +109,5 @@ def plainer(op):
         elif key == "attrs" and str(word).count(";") and isinstance(word, str):
             for name, value in nfs4.values_of(word) or ():
                 yield op.with_(attrs=nfs4.word_of([(name, value)]))
-        if key in PLAINER and word != PLAINER[key] and (key != "create_mode" or word == "1"):
+        if key in PLAINER and word != PLAINER[key] and (key != "create_mode" or word == "1") and (op.name, key) != ("SETATTR", "attrs"):
             yield op.with_(**{key: PLAINER[key]})
