@@ -4,7 +4,7 @@ import subprocess
 import nfs4
 import pcap
 
-from .playing import READ_ONLY, Given, Play
+from .playing import LONGEST, READ_ONLY, Given, Play
 from .reference import LEASE
 from .server import Answer, Silence
 from .symbols import BASE, Op, Script, Step, Sym, Turn, given, lifted
@@ -36,7 +36,7 @@ class Lift:
         except nfs4.Unreadable as fault:
             return self.dropped(str(fault))
         answer = Answer(reply)
-        why = self.unfit(call, answer)
+        why = self.unfit(call, answer) or ("longer than the reference takes" if len(record) > LONGEST else None)
         if why:
             self.count(call, answer)
             return self.dropped(why, answer)

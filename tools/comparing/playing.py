@@ -17,7 +17,7 @@ READ_ONLY = set("ACCESS COMMIT GETATTR GETFH LOCKT LOOKUP LOOKUPP NVERIFY VERIFY
                 "TEST_STATEID SECINFO_NO_NAME".split())
 ALONE = {"EXCHANGE_ID", "CREATE_SESSION", "DESTROY_SESSION", "DESTROY_CLIENTID"}
 NEEDED = ALONE | {"SEQUENCE"}
-LONGEST = 60_000   # a record that the reference takes
+LONGEST = 66_560   # a record that the reference takes, in bytes
 SLACK = 0.06       # seconds by which a server's clock may be coarse
 WEIGHTS = {"deviation": 100, "unclear": 10}  # of differences, when an order of calls in flight is chosen
 PIECES = 4         # a wait, so that the tool's own clients can renew their leases
