@@ -2,6 +2,7 @@
 
 - Edits of a crate are tried in rounds: one check of the crate with several edits, no two of which change the same function. It reads only
   the functions that its edits change and what those call. An edit that is not seen to be refused there is tried again alone, as `rt ci` would.
+  Rounds run side by side, and what each came to is kept as soon as it ends.
 - What is proved of a library is proved once. It is built from nothing, as always, and holds all that its check wrote, where that of `rt ci`
   holds its statements; the rounds of its edits are made from that.
 - Tests are run under the toolchain's run-time checks (`rt try --test`), which takes minutes where their proofs take an hour. Plain `rt ci` proves
@@ -28,9 +29,6 @@ from edits import Said, changed, listed, text_of
 
 KINDS = {"proof": "proofs", "tests": "tests", "edits": "edits"}
 
-# what a function that an edit turns counts for among the tasks of a run, whose order is by the lines behind each
-LINES_OF_A_TURN = 150
-
 # the memory that tests under run-time checks take at most, in bytes
 MEMORY_OF_TESTS = 2_000_000_000
 
@@ -38,10 +36,12 @@ MEMORY_OF_TESTS = 2_000_000_000
 class Rounds:
     """Tries the edits of a crate."""
 
-    def __init__(self, rt, kept, is_this_run):
-        self.rt, self.must_fail, self.kept, self.is_this_run = rt, rt.must_fail, kept, is_this_run
-        # of each crate what its last check said, and whether a function that no edit of the check changes was seen to be proved in it
-        self.outputs, self.unchanged = {}, {}
+    def __init__(self, rt, kept, is_this_run, unpacked=None):
+        """`kept` has the folders of what was kept of crates, by their names; `unpacked` makes that of a crate whose proof an earlier run kept."""
+        self.rt, self.must_fail, self.kept, self.is_this_run, self.unpacked = rt, rt.must_fail, kept, is_this_run, unpacked
+        # what the last check of this thread said; of each crate, whether a function that no edit of a check changes was seen to be proved in
+        # it, what its rounds begin with, and who makes that
+        self.last, self.unchanged, self.starts, self.alone_in = threading.local(), {}, {}, defaultdict(threading.Lock)
         rt.checked, rt.must_fail_all = self.checked, self.all_of
 
     def by_toolchain(self, crate, edit, flags, kept):
@@ -67,7 +67,7 @@ class Rounds:
             how = {"cwd": room, "stdin": subprocess.DEVNULL, "stdout": subprocess.PIPE, "stderr": subprocess.STDOUT, "errors": "replace"}
             ran = subprocess.run([*rtlib.guarded(), *words], **how)
         ran.stdout = re.sub(r"^rattle build: nothing was built, .*\n\Z", "", ran.stdout, flags=re.MULTILINE)
-        self.outputs[crate.name] = ran.stdout
+        self.last.output = ran.stdout
         return ran
 
     def alone(self, crate, edit, flags, kept=None):
@@ -76,7 +76,7 @@ class Rounds:
         functions, why = changed(self.rt, edit, crate.folder)
         is_well, text = (False, f"{label}: BAD EDIT: {why}") if why else self.by_toolchain(crate, edit, flags, kept)
         if is_well:
-            is_well, text = self.judged(crate, edit, functions, functions, Said(self.outputs[crate.name]))
+            is_well, text = self.judged(crate, edit, functions, functions, Said(self.last.output))
         print("tried", text[:200], flush=True)
         return is_well, text
 
@@ -145,24 +145,44 @@ class Rounds:
         with copied(kept) as copy:
             return self.alone(crate, edit, flags, copy)
 
+    def planned(self, crate, edits):
+        """Returns the edits of a crate in rounds, by their numbers, with how many turns each has. Those that cannot be applied are with the
+        first."""
+        unfit = [at for at, it in enumerate(edits) if changed(self.rt, it, crate.folder)[1]]
+        rounds = self.rounds_of(crate, [it for at, it in enumerate(edits) if at not in unfit])
+        first, *others = [[edits.index(it) for it in some] for some, _ in rounds] or [[]]
+        turns = lambda some: sum(text_of(edits[at]).count("\nold: ") for at in some)
+        return [(it, turns(it)) for it in [[*first, *unfit], *others] if it]
+
     def all_of(self, crate, edits, flags):
-        """Tries all edits of a crate in rounds, each over a copy of what was kept, where the crate itself is proved over that: a check without
+        """Tries edits of a crate in rounds, each over a copy of what was kept, where the crate itself is proved over that: a check without
         any edit shows it or, over what this run kept, the functions that an edit's check proves beside those that it refuses. What was not
         refused so is tried again from nothing, as is every edit where the crate is not proved so."""
-        tried = {}
-        with tempfile.TemporaryDirectory(prefix="rt-edits-") as room:
-            kept = self.kept.get(crate.name, room)
-            is_shown_later = self.is_this_run and kept != room
-            able = [it for it in edits if not changed(self.rt, it, crate.folder)[1]]
-            # (where nothing was kept, this check fills the folder)
-            if able and (is_shown_later or self.is_proved(crate, flags, kept)):
-                for some, texts in self.rounds_of(crate, able):
-                    tried.update(zip(some, self.round_of(crate, some, texts, flags, kept)))
-                if is_shown_later and not self.unchanged.get(crate.name) and not self.is_proved(crate, flags, kept):
-                    tried = {}
-            shutil.rmtree(kept, ignore_errors=True)
-            os.makedirs(room, exist_ok=True)
+        tried, able = {}, [it for it in edits if not changed(self.rt, it, crate.folder)[1]]
+        kept, is_shown_later, is_shown = self.start_of(crate, flags) if able else ("", False, False)
+        if is_shown_later or is_shown:
+            for some, texts in self.rounds_of(crate, able):
+                tried.update(zip(some, self.round_of(crate, some, texts, flags, kept)))
+            if is_shown_later and not self.unchanged.get(crate.name) and not self.is_proved(crate, flags, kept):
+                tried = {}
         return [tried[it] if it in tried and tried[it][0] else self.alone(crate, it, flags) for it in edits]
+
+    def start_of(self, crate, flags):
+        """Returns the folder that a crate's rounds begin with, whether they show themselves that the crate is proved over that, and whether a
+        check without any edit showed it."""
+        with self.alone_in[crate.name]:
+            if self.is_this_run and crate.name not in self.kept:
+                self.kept[crate.name] = self.unpacked(crate)
+            if crate.name not in self.starts:
+                # (where nothing was kept, the check without any edit fills the folder)
+                kept = self.kept.get(crate.name) or tempfile.mkdtemp(prefix="rt-edits-")
+                self.starts[crate.name] = (kept, True, False) if self.is_this_run else (kept, False, self.is_proved(crate, flags, kept))
+            return self.starts[crate.name]
+
+    def forget(self, crate):
+        """Drops what a crate's rounds began with: there are no more."""
+        shutil.rmtree(self.starts.pop(crate.name, ("",))[0], ignore_errors=True)
+        self.kept.pop(crate.name, None)
 
     def is_proved(self, crate, flags, kept):
         return not self.checked(crate, {}, flags, kept).returncode
@@ -227,12 +247,11 @@ def unpacked(rt, crate, path):
 def in_order(rt, tasks, store):
     """Returns the tasks of a run so that tests are run under run-time checks, and edits wait for the proof of their crate and not for its tests."""
     crates = {it.name: it for it in rt.rtlib.crates_below(os.getcwd())}
-    turns = {it.name: sum(text_of(edit).count("\nold: ") for edit in rt.edits_of(it)[0]) for it in crates.values()}
     ordered = {}
     for key, (waits, lines, needs, call) in tasks.items():
-        name, kind = key
+        name, kind = key[:2]
         if kind == "edits":
-            waits, lines, call = [it for it in [(name, "proof")] if it in tasks], LINES_OF_A_TURN * turns[name], beside_tests(name, call)
+            waits, call = [it for it in [(name, "proof")] if it in tasks], beside_tests(name, call)
         if kind == "tests":
             waits, lines, needs, call = [], lines // 4, MEMORY_OF_TESTS, tests_of(rt, crates[name], store)
         ordered[key] = (waits, lines, needs, call)
@@ -319,7 +338,7 @@ class Minutes:
     """What the tasks of a run take."""
 
     def __init__(self):
-        self.began, self.seconds, self.running, self.ended = time.monotonic(), defaultdict(dict), {}, 0
+        self.began, self.seconds, self.running, self.ended = time.monotonic(), defaultdict(lambda: defaultdict(float)), {}, 0
 
     def timed(self, key, call):
         """Returns the call of a task, which notes what it takes of processors."""
@@ -328,7 +347,7 @@ class Minutes:
             try:
                 return call(given, jobs)
             finally:
-                self.seconds[key[0]][key[1]] = spent() - before
+                self.seconds[key[0]][key[1]] += spent() - before
                 del self.running[key]
                 self.ended += key[1] == "proof"
 
@@ -348,7 +367,7 @@ def tell(minutes, of):
         while True:
             time.sleep(15)
             now = time.monotonic()
-            running = ", ".join(f"{name} ({(now - began) / 60:.0f} min)" for (name, _), began in sorted(minutes.running.items(), key=lambda it: it[1]))
+            running = ", ".join(f"{name} ({(now - began) / 60:.0f} min)" for (name, *_), began in sorted(minutes.running.items(), key=lambda it: it[1]))
             print(f"nfs41d: {minutes.ended} of {of} crates proved, {(now - minutes.began) / 60:.0f} min; now {running}", file=sys.stderr, flush=True)
 
     threading.Thread(target=ever, daemon=True).start()
@@ -380,9 +399,10 @@ def run(rt, words):
     rt.in_lanes = lambda tasks: in_lanes({key: (*task[:3], minutes.timed(key, task[3])) for key, task in tasks_of(tasks).items()})
     with tempfile.TemporaryDirectory(prefix="rt-kept-") as room:
         is_ci = words[0] != "must-fail"
-        rounds = Rounds(rt, keep_all(rt, room) if is_ci else keep_own(rt, room, words[1:]), is_ci)
+        kept = keep_all(rt, room) if is_ci else keep_own(rt, room, words[1:])
+        rounds = Rounds(rt, kept, is_ci, lambda crate: unpacked(rt, crate, f"{room}/{crate.name}"))
         if for_later.keeps(rt):
-            for_later.Tries(rt, rounds, lambda crate: unpacked(rt, crate, f"{room}/{crate.name}"), store)
+            for_later.Tries(rt, rounds, store)
         try:
             status = rt.main(["ci", *words[1:]] if is_program else words)
         except Ended as ended:
