@@ -12,7 +12,7 @@ use Rattle.nfs_opens.specs.Share.{meets}
 use Rattle.nfs_opens.specs.Table.{Table, Asked, is_owners, is_own, clashes_with}
 use Rattle.nfs_opens.specs.Kept.{IsTable, HasOneEach}
 use Rattle.nfs_opens.proofs.CountLemmas.{many_any, many_same}
-use Rattle.nfs_opens.proofs.CountedLemmas.{same_count, and_true, count_without}
+use Rattle.nfs_opens.proofs.CountedLemmas.{same_count, count_without}
 use Rattle.nfs_opens.proofs.ShareLemmas.{own_is}
 use Rattle.nfs_opens.proofs.SingleLemmas.{whose_is}
 
@@ -39,6 +39,10 @@ not_owned false o e = refl
 pub others_all : (a : Asked) (xs : List OpenState) → find (is_own a) xs ≡ None → count_of (λ o. o.file == a.file) xs ≡ count_of (is_others a) xs
 others_all a xs none = same_counted (λ o. o.file == a.file) (is_others a) xs
     (λ o there. sym (not_owned (o.file == a.file) (is_owners a o) (none_in (is_own a) xs o none there)))
+
+and_true : (b : Bool) → (b && true) ≡ b
+and_true true = refl
+and_true false = refl
 
 and_last : (p : OpenState → Bool) (xs : List OpenState) → how_many p xs ≡ how_many (λ o. p o && true) xs
 and_last p xs = many_same p (λ o. p o && true) xs (λ o there. sym (and_true (p o)))

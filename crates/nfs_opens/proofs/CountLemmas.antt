@@ -1,6 +1,6 @@
 -- How many opens pass a test, behind one that comes, goes or changes.
-use Rattle.std.proofs.Common.{◌≡◌, inl, inr, ℕ, suc, ◌+◌, ◌<◌, ◌≤◌, Bool, true, false, not, List, [], ◌∷◌, ◌++◌, length, Some, refl, sym, ◌∙◌, ap, arith}
-use Rattle.std.specs.Prelude.{◌==◌, ◌&&◌, filter, nat_lt, if◌then◌else◌}
+use Rattle.std.proofs.Common.{◌≡◌, inl, inr, ℕ, suc, ◌+◌, ◌<◌, ◌≤◌, Bool, true, false, List, [], ◌∷◌, ◌++◌, length, Some, refl, sym, ◌∙◌, ap, arith}
+use Rattle.std.specs.Prelude.{◌==◌, nat_lt, if◌then◌else◌}
 use Rattle.std.specs.List.{list_any}
 use Rattle.std.proofs.lemmas.Bool.{cases_Bool, eqb-true, lt-ltb}
 use Rattle.nfs_xdr.specs.Tables.{IsRising, In, record_at, without_record, with_record}
@@ -114,18 +114,3 @@ module _ {X : Type 0} where
 
   pub many_same : (p q : X → Bool) (xs : List X) → ((x : X) → In x xs → p x ≡ q x) → how_many p xs ≡ how_many q xs
   many_same p q xs same = ap length (filter_in p q xs same)
-
-  -- those that leave, and those that do not
-  pub many_left : (p leaves : X → Bool) (xs : List X) → how_many p (filter (λ x. not (leaves x)) xs) + how_many (λ x. leaves x && p x) xs ≡ how_many p xs
-  many_left p leaves [] = refl
-  many_left p leaves (x ∷ xs) =
-      let rest = many_left p leaves xs in
-      let first = many_first p x xs in
-      let left = many_first p x (filter (λ y. not (leaves y)) xs) in
-      elim (cases_Bool (leaves x)) [
-        | inl goes ↦ elim (cases_Bool (p x)) [
-          | inl passes ↦ (let one : bit (p x) ≡ 1 = rw passes refl in rw (goes, passes) (omega arith))
-          | inr fails ↦ (let none : bit (p x) ≡ 0 = rw fails refl in rw (goes, fails) (omega arith))
-        ]
-        | inr stays ↦ rw stays (omega arith)
-      ]

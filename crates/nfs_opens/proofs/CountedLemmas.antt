@@ -1,6 +1,6 @@
 -- The count of each file's opens, behind an open that comes, goes or changes; and what it tells of clashes (RFC 8881 section 9.7).
-use Rattle.std.proofs.Common.{◌≡◌, inl, inr, ℕ, ◌-◌, ◌<◌, ◌≤◌, Bool, true, false, cond, not, List, [], ◌∷◌, ◌++◌, length, Some, None, refl, sym, ◌∙◌, ap, arith}
-use Rattle.std.specs.Prelude.{◌==◌, ◌&&◌, filter}
+use Rattle.std.proofs.Common.{◌≡◌, inl, inr, ℕ, ◌-◌, ◌<◌, ◌≤◌, Bool, true, false, cond, List, [], ◌∷◌, ◌++◌, length, Some, None, refl, sym, ◌∙◌, ap, arith}
+use Rattle.std.specs.Prelude.{◌==◌, ◌&&◌}
 use Rattle.std.proofs.lemmas.Bool.{cases_Bool, eq-eqb, ne_eqb, eqb-true, false≢true}
 use Rattle.nfs_xdr.specs.Tables.{IsRising, record_at, without_record, with_record}
 use Rattle.nfs_xdr.proofs.Lists.{find_in}
@@ -9,10 +9,9 @@ use Rattle.nfs_opens.specs.StateId.{last_number}
 use Rattle.nfs_opens.specs.declared.records.OpenState.{OpenState}
 use Rattle.nfs_opens.specs.declared.counts.Count.{Count}
 use Rattle.nfs_opens.specs.declared.counts.Counts.{Counts}
-use Rattle.nfs_opens.specs.declared.counts.Reservation.{Reservation}
-use Rattle.nfs_opens.specs.Counts.{how_many, count_of, count_at, more, less, with_one, without_one, reserved, CountsAnew, AreCounted, uncounted}
+use Rattle.nfs_opens.specs.Counts.{how_many, count_of, count_at, more, less, with_one, without_one, reserved, CountsAnew, AreCounted}
 use Rattle.nfs_opens.specs.Kept.{Rises}
-use Rattle.nfs_opens.proofs.CountLemmas.{less_without, more_pushed, other_with, many_there, many_same, many_left}
+use Rattle.nfs_opens.proofs.CountLemmas.{less_without, more_pushed, other_with, many_there}
 
 pub same_count : (a b : Count) → a.opens ≡ b.opens → a.readers ≡ b.readers → a.writers ≡ b.writers → a.read_deniers ≡ b.read_deniers
     → a.write_deniers ≡ b.write_deniers → a ≡ b
@@ -129,76 +128,3 @@ counted_there xs t n o counted found =
     let some = many_there (λ x. x.file == o.file) xs o (find_in (λ x. x.number == n) xs o found).0 (eq-eqb o.file o.file refl) in
     let is : (count_at t o.file).opens ≡ how_many (λ x. x.file == o.file) xs = ap (λ (c : Count). c.opens) (counted o.file) in
     omega arith
-
---- ALL OPENS OF A CLIENT LESS
-
-pub uncount_step : (t u : Counts) (o : OpenState) (r : Reservation) → r ≡ reserved o → CountsAnew t u o.file (without_one r (count_at t o.file)) → (f : ℕ)
-    → count_at u f ≡ cond (f == o.file) (without_one (reserved o) (count_at t f)) (count_at t f)
-uncount_step t u o r is anew f =
-    elim (cases_Bool (f == o.file)) [
-      | inl here ↦ (let now : count_at u f ≡ without_one r (count_at t o.file) = anew f ∙ rw here refl in
-          rw here (now ∙ (ap (λ (q : Reservation). without_one q (count_at t o.file)) is
-          ∙ ap (λ (g : ℕ). without_one (reserved o) (count_at t g)) (sym (eqb-true f o.file here)))))
-      | inr other ↦ (let now : count_at u f ≡ count_at t f = anew f ∙ rw other refl in rw other now)
-    ]
-
-pub uncounted_append : (leaves : OpenState → Bool) (f : ℕ) (xs ys : List OpenState) (c : Count)
-    → uncounted leaves f (xs ++ ys) c ≡ uncounted leaves f ys (uncounted leaves f xs c)
-uncounted_append leaves f [] ys c = refl
-uncounted_append leaves f (x ∷ xs) ys c = uncounted_append leaves f xs ys (cond (leaves x && (f == x.file)) (without_one (reserved x) c) c)
-
--- one number of the count
-uncounted_field : (get : Count → ℕ) (one : OpenState → Bool) → ((o : OpenState) (c : Count) → get (without_one (reserved o) c) ≡ less (get c) (one o))
-    → (leaves : OpenState → Bool) (f : ℕ) (xs : List OpenState) (c : Count)
-    → get (uncounted leaves f xs c) ≡ get c - how_many (λ o. (leaves o && (f == o.file)) && one o) xs
-uncounted_field get one law leaves f [] c = omega arith
-uncounted_field get one law leaves f (o ∷ xs) c =
-    elim (cases_Bool (leaves o && (f == o.file))) [
-      | inl goes ↦
-          (let rest = uncounted_field get one law leaves f xs (without_one (reserved o) c) in
-          let step = law o c in
-          elim (cases_Bool (one o)) [
-            | inl counts ↦ (let less_one : get (without_one (reserved o) c) ≡ get c - 1 = step ∙ rw counts refl in rw (goes, counts) (omega arith))
-            | inr other ↦ (let same : get (without_one (reserved o) c) ≡ get c = step ∙ rw other refl in rw (goes, other) (omega arith))
-          ])
-      | inr stays ↦ rw stays (uncounted_field get one law leaves f xs c)
-    ]
-
-apart : (l a b c : Bool) → a ≡ b → (l && (a && c)) ≡ ((l && b) && c)
-apart true a b c e = ap (λ (x : Bool). x && c) e
-apart false a b c e = refl
-
--- what is left of one number
-left_field : (leaves : OpenState → Bool) (f : ℕ) (one : OpenState → Bool) (xs : List OpenState)
-    → how_many (λ o. (o.file == f) && one o) xs - how_many (λ o. (leaves o && (f == o.file)) && one o) xs
-    ≡ how_many (λ o. (o.file == f) && one o) (filter (λ o. not (leaves o)) xs)
-left_field leaves f one xs =
-    let both = many_left (λ o. (o.file == f) && one o) leaves xs in
-    let same = many_same (λ o. leaves o && ((o.file == f) && one o)) (λ o. (leaves o && (f == o.file)) && one o) xs
-    (λ o there. apart (leaves o) (o.file == f) (f == o.file) (one o) (eqb_either o.file f)) in
-    omega arith
-
-pub and_true : (b : Bool) → (b && true) ≡ b
-and_true true = refl
-and_true false = refl
-
-uncounted_left : (leaves : OpenState → Bool) (f : ℕ) (xs : List OpenState)
-    → uncounted leaves f xs (count_of (λ o. o.file == f) xs) ≡ count_of (λ o. o.file == f) (filter (λ o. not (leaves o)) xs)
-uncounted_left leaves f xs =
-    let c : Count = count_of (λ o. o.file == f) xs in
-    let all : OpenState → Bool = λ _. true in
-    let whole : (ys : List OpenState) → how_many (λ o. (o.file == f) && all o) ys ≡ how_many (λ o. o.file == f) ys =
-    λ ys. many_same (λ o. (o.file == f) && true) (λ o. o.file == f) ys (λ o there. and_true (o.file == f)) in
-    let opens = uncounted_field (λ k. k.opens) all (λ o k. refl) leaves f xs c in
-    let opens_left = left_field leaves f all xs in
-    let before = whole xs in
-    let after = whole (filter (λ o. not (leaves o)) xs) in
-    same_count _ _ (omega arith)
-    (uncounted_field (λ k. k.readers) (λ o. o.access.reads) (λ o k. refl) leaves f xs c ∙ left_field leaves f (λ o. o.access.reads) xs)
-    (uncounted_field (λ k. k.writers) (λ o. o.access.writes) (λ o k. refl) leaves f xs c ∙ left_field leaves f (λ o. o.access.writes) xs)
-    (uncounted_field (λ k. k.read_deniers) (λ o. o.deny.reads) (λ o k. refl) leaves f xs c ∙ left_field leaves f (λ o. o.deny.reads) xs)
-    (uncounted_field (λ k. k.write_deniers) (λ o. o.deny.writes) (λ o k. refl) leaves f xs c ∙ left_field leaves f (λ o. o.deny.writes) xs)
-
-pub counted_left : (leaves : OpenState → Bool) (xs : List OpenState) (t u : Counts) → AreCounted xs t
-    → ((f : ℕ) → count_at u f ≡ uncounted leaves f xs (count_at t f)) → AreCounted (filter (λ o. not (leaves o)) xs) u
-counted_left leaves xs t u counted made f = made f ∙ (ap (uncounted leaves f xs) (counted f) ∙ uncounted_left leaves f xs)

@@ -1,12 +1,9 @@
 -- Lists that lie in blocks: what stands in one block, and round it.
-use Rattle.std.proofs.Common.{◌≡◌, ◌≢◌, ◌⊎◌, inl, inr, ℕ, zero, suc, ◌<◌, ◌≤◌, Bool, true, false, cond, List, [], ◌∷◌, ◌++◌, set, length, get_or}
+use Rattle.std.proofs.Common.{◌≡◌, ◌⊎◌, inl, inr, ℕ, zero, suc, ◌<◌, ◌≤◌, List, [], ◌∷◌, ◌++◌, set, length, get_or}
 use Rattle.std.proofs.Common.{Option, Some, None, refl, sym, ◌∙◌, ap, subst, arith}
-use Rattle.std.specs.Prelude.{filter, slice_get, IfSome}
+use Rattle.std.specs.Prelude.{slice_get, IfSome}
 use Rattle.std.specs.List.{insert, remove}
-use Rattle.std.specs.List.Retain.{RetainsInTurn}
-use Rattle.std.proofs.lemmas.Bool.{cases_Bool}
 use Rattle.std.proofs.lemmas.List.{append_assoc, append-nil}
-use Rattle.std.proofs.lemmas.List.Elements.{filter-append}
 use Rattle.nfs_xdr.specs.Tables.{In}
 use Rattle.nfs_opens.specs.Flat.{flat, last_of, front_of, rest_of}
 
@@ -130,23 +127,3 @@ module _ {X : Type 0} where
   pub room_kept : (o : Option (List X)) (n m room more : ℕ) → IfSome o (λ s. (s ≡ []) × (n < room)) → m ≤ n → more ≡ room → IfSome o (λ s. (s ≡ []) × (m < more))
   room_kept None n m room more is le same = tt
   room_kept (Some s) n m room more is le same = let less = is.1 in (is.0, omega arith)
-
-  -- blocks from which items went, without those that are empty now
-  module _ {S : Type 0} (R : S → List X → Bool → S → List X → Type 0) (f : S) (keep : X → Bool)
-      (step : (b : List X) (stays : Bool) (t : S) (c : List X) → R f b stays t c
-      → (c ≡ filter keep b) × (stays ≡ true → c ≢ []) × (stays ≡ false → c ≡ []) × (t ≡ f)) where
-    pub kept_in : (bs cs : List (List X)) → RetainsInTurn R f bs cs → (flat cs ≡ filter keep (flat bs)) × ((c : List X) → In c cs → c ≢ [])
-    kept_in [] cs told = subst (λ (ds : List (List X)). (flat ds ≡ []) × ((c : List X) → In c ds → c ≢ [])) (sym told) (refl, (λ c there. absurd there))
-    kept_in (x ∷ xs) cs (stays, t, y, called, zs, rest, left) =
-        let made = step x stays t y called in
-        let more = kept_in xs zs (subst (λ (u : S). RetainsInTurn R u xs zs) made.3 rest) in
-        let all : y ++ flat zs ≡ filter keep (x ++ flat xs) = ap (λ (ps : List X). ps ++ flat zs) made.0
-        ∙ (ap (λ (ps : List X). filter keep x ++ ps) more.0 ∙ sym (filter-append keep x (flat xs))) in
-        elim (cases_Bool stays) [
-          | inl stayed ↦ (let is : cs ≡ y ∷ zs = left ∙ ap (λ (v : Bool). cond v (y ∷ zs) zs) stayed in
-              subst (λ (ds : List (List X)). (flat ds ≡ filter keep (x ++ flat xs)) × ((c : List X) → In c ds → c ≢ [])) (sym is)
-              (all, (λ c there. elim there [ inl e ↦ (λ none. made.1 stayed (sym e ∙ none)) | inr later ↦ more.1 c later ])))
-          | inr went ↦ (let is : cs ≡ zs = left ∙ ap (λ (v : Bool). cond v (y ∷ zs) zs) went in
-              subst (λ (ds : List (List X)). (flat ds ≡ filter keep (x ++ flat xs)) × ((c : List X) → In c ds → c ≢ [])) (sym is)
-              (ap (λ (ps : List X). ps ++ flat zs) (sym (made.2 went)) ∙ all, more.1))
-        ]

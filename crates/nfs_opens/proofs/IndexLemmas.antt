@@ -3,14 +3,13 @@ use Rattle.std.proofs.Common.{◌≡◌, ◌≢◌, ◌⊎◌, inl, inr, ℕ, ze
 use Rattle.std.proofs.Common.{Option, Some, None, refl, sym, ◌∙◌, ap, subst, arith}
 use Rattle.std.specs.Prelude.{◌==◌, ◌&&◌, ◌||◌, nat_lt, is_some, find, filter, slice_get}
 use Rattle.std.specs.List.{insert, remove, list_any}
-use Rattle.std.specs.Option.{option_map_or}
 use Rattle.std.specs.List.Sorted.{IsPartitionPoint, IsPartitionedBy}
 use Rattle.std.proofs.lemmas.Bool.{cases_Bool, cases_lt, eq-eqb, ne_eqb, eqb-true, lt-ltb, le-ltb, ltb-true, and_parts, false≢true}
 use Rattle.nfs_xdr.specs.Tables.{IsRising, In}
 use Rattle.nfs_xdr.proofs.Lists.{in_at, in_filter, stays_in, in_map, map_in, in_push, push_in, last_in, find_in, find_none, none_in, in_any}
-use Rattle.nfs_xdr.proofs.Tables.{in_bounds, in_once, at_of_in, without_none}
+use Rattle.nfs_xdr.proofs.Tables.{in_bounds, in_once, without_none}
 use Rattle.nfs_opens.specs.declared.index.Pair.{Pair}
-use Rattle.nfs_opens.specs.Index.{Precedes, IsAscending, is_before, IsNext, HasPut, HasTaken, IsIndex, marked}
+use Rattle.nfs_opens.specs.Index.{Precedes, IsAscending, is_before, IsNext, HasPut, HasTaken, IsIndex}
 
 -- Of two pairs one precedes the other, or they are the same.
 
@@ -350,16 +349,6 @@ pub any_found : {X : Type 0} (p : X → Bool) (xs : List X) → is_some (find p 
 any_found p [] = refl
 any_found p (x ∷ xs) = elim (cases_Bool (p x)) [ inl here ↦ rw here refl | inr gone ↦ rw gone (any_found p xs) ]
 
--- pairs that go
-pub ascending_left : (keep : Pair → Bool) (ps : List Pair) → IsAscending ps → IsAscending (filter keep ps)
-ascending_left keep [] order = tt
-ascending_left keep (p ∷ ps) order =
-    let rest = ascending_left keep ps order.1 in
-    elim (cases_Bool (keep p)) [
-      | inl stays ↦ rw stays ((λ q there. order.0 q (in_filter keep ps q there).0), rest)
-      | inr goes ↦ rw goes rest
-    ]
-
 -- An index of states, behind what changes the states.
 
 module _ {X : Type 0} (of number : X → ℕ) where
@@ -427,25 +416,6 @@ module _ {X : Type 0} (of number : X → ℕ) where
   pub index_left : (n : ℕ) (xs : List X) (ps : List Pair) → IsIndex of number xs ps → find (λ x. number x == n) xs ≡ None
       → IsIndex of number (filter (λ x. not (number x == n)) xs) ps
   index_left n xs ps is gone = subst (λ (ys : List X). IsIndex of number ys ps) (sym (without_none number n xs gone)) is
-
-  -- states that go with their pairs
-  pub index_part : (keep : X → Bool) (stays : Pair → Bool) (xs : List X) (ps : List Pair) → IsIndex of number xs ps
-      → ((x : X) → In x xs → stays (pair x) ≡ keep x) → IsIndex of number (filter keep xs) (filter stays ps)
-  index_part keep stays xs ps is same = record {
-    order = ascending_left stays ps is.order;
-    each = λ y there. let was = in_filter keep xs y there in stays_in stays ps (pair y) (is.each y was.0) (same y was.0 ∙ was.1);
-    only = λ p there.
-        let was = in_filter stays ps p there in
-        let (y, in_y, here, equal) = is.only p was.0 in
-        (y, stays_in keep xs y in_y (sym (same y in_y) ∙ (ap stays (same_pair (pair y) p here equal) ∙ was.1)), here, equal);
-  }
-
-  pub index_unmarked : (goes : X → Bool) (low high : ℕ) (xs : List X) (ps qs : List Pair) → IsRising number low xs high → IsIndex of number xs ps
-      → qs ≡ filter (λ p. not (marked number goes xs p.number)) ps → IsIndex of number (filter (λ x. not (goes x)) xs) qs
-  index_unmarked goes low high xs ps qs rises is left =
-      subst (λ (rs : List Pair). IsIndex of number (filter (λ x. not (goes x)) xs) rs) (sym left)
-      (index_part (λ x. not (goes x)) (λ p. not (marked number goes xs p.number)) xs ps is
-      (λ x there. ap (λ (o : Option X). not (option_map_or goes o false)) (at_of_in number low high xs x rises there)))
 
   -- a change that keeps what the state belongs to and its number
   pub index_changed : (f : X → X) (xs : List X) (ps : List Pair) → ((x : X) → of (f x) ≡ of x) → ((x : X) → number (f x) ≡ number x)

@@ -15,3 +15,4 @@ pub mod LeaveLemmas
 pub mod LockLemmas
 pub mod StepLemmas
 pub mod LockedLemmas
+pub mod EndLemmas

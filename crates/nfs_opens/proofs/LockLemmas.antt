@@ -1,5 +1,5 @@
 -- What a lock, a judged stateid and a closed open come to.
-use Rattle.std.proofs.Common.{◌≡◌, ◌≢◌, ◌⊎◌, inl, inr, ℕ, suc, ◌<◌, ◌≤◌, Bool, true, false, cond, not, List, [], ◌∷◌, ◌++◌, Option, Some}
+use Rattle.std.proofs.Common.{◌≡◌, ◌≢◌, ◌⊎◌, inl, inr, ℕ, suc, ◌<◌, ◌≤◌, Bool, true, false, cond, not, List, [], ◌∷◌, Option, Some}
 use Rattle.std.proofs.Common.{None, refl, sym, ◌∙◌, ap, subst, arith}
 use Rattle.std.proofs.Math.Path.{fun_ext}
 use Rattle.std.specs.Prelude.{◌==◌, ◌^◌, ◌&&◌, filter, Result, Ok, Err, IsSome, nat_lt, if◌then◌else◌}
@@ -112,10 +112,6 @@ without_kept w [] held f s b none = refl
 without_kept w (l ∷ locks) held f s b none =
     without_kept w locks (drops w l held) f s b (λ k more. none k (inr more))
     ∙ elim (drop_one w l held f s b) [ inl gone ↦ absurd (none l (inl refl) gone.0) | inr same ↦ same.1 ]
-
-pub held_append : (p : LockState → Bool) (xs ys : List LockState) (held : FileHolders) → held_without p (xs ++ ys) held ≡ held_without p ys (held_without p xs held)
-held_append p [] ys held = refl
-held_append p (x ∷ xs) ys held = held_append p xs ys _
 
 -- where none leaves, nothing changes
 pub without_none_leaves : (w : LockState → Bool) (locks : List LockState) (held : FileHolders) → ((k : LockState) → In k locks → w k ≡ false)

@@ -1,25 +1,23 @@
 -- The lock states in their indexes: a walk over those of one key, and behind a seqid that rises; and which files stay listed.
-use Rattle.std.proofs.Common.{◌≡◌, ℕ, suc, ◌-◌, ◌<◌, ◌⊎◌, Bool, true, false, cond, not, List, [], ◌∷◌, ◌++◌, map, Some, None, refl, sym, ◌∙◌, ap, subst, arith, inl, inr}
+use Rattle.std.proofs.Common.{◌≡◌, ℕ, suc, ◌-◌, ◌<◌, ◌⊎◌, Bool, true, false, not, List, [], ◌∷◌, ◌++◌, map, Some, None, refl, sym, ◌∙◌, ap, subst, arith, inl, inr}
 use Rattle.std.specs.Prelude.{◌==◌, ◌&&◌, nat_lt, find, filter, bytes_eq, IfSome, if◌then◌else◌}
 use Rattle.std.specs.List.{list_any}
-use Rattle.std.proofs.Math.Path.{fun_ext}
-use Rattle.std.proofs.lemmas.Bool.{cases_Bool, cases_eq, and_parts, eqb-true, eq-eqb, ne_eqb, false≢true}
-use Rattle.nfs_xdr.proofs.Lists.{find_in, none_any, any_in, in_any, any_filter, any_map, push_in, last_in}
+use Rattle.std.proofs.lemmas.Bool.{cases_Bool, cases_eq, and_parts, eqb-true, eq-eqb, false≢true}
+use Rattle.nfs_xdr.proofs.Lists.{find_in, any_in, in_any, any_filter, any_map, push_in, last_in}
 use Rattle.nfs_xdr.proofs.Tables.{at_of_in, in_once}
 use Rattle.nfs_xdr.specs.Tables.{In}
-use Rattle.nfs_ranges.specs.Holders.{LockedBytes, nobody}
+use Rattle.nfs_ranges.specs.Holders.{LockedBytes}
 use Rattle.nfs_opens.specs.declared.records.OpenState.{OpenState}
 use Rattle.nfs_opens.specs.declared.records.LockState.{LockState}
-use Rattle.nfs_opens.specs.Holding.{held_by, is_listed, ListsNoMore}
+use Rattle.nfs_opens.specs.Holding.{is_listed, ListsNoMore}
 use Rattle.nfs_opens.specs.Locking.{is_locker, raised}
 use Rattle.nfs_opens.specs.Table.{Table, open_at, lock_at}
-use Rattle.nfs_opens.specs.Kept.{IsTable, AreHolders, AreListed}
+use Rattle.nfs_opens.specs.Kept.{IsTable, AreListed}
 use Rattle.nfs_opens.proofs.IndexLemmas.{find_begun, find_done, find_hit, find_missed, come_bounds, index_changed}
 use Rattle.nfs_opens.specs.declared.index.Pair.{Pair}
 use Rattle.nfs_opens.specs.Index.{IsIndex}
 use Rattle.nfs_opens.specs.Keys.{owner_key, lock_key}
 use Rattle.nfs_opens.proofs.ShareLemmas.{owner_bytes}
-use Rattle.nfs_opens.proofs.LockLemmas.{some_or_none}
 use Rattle.nfs_opens.proofs.StepLemmas.{all_some, if_some}
 
 abbrev number_of : LockState → ℕ
@@ -68,33 +66,6 @@ module _ (t : Table) (q : LockState → Bool) (key : ℕ) (only : (l : LockState
 pub its_file : (t : Table) (p : OpenState → Bool) (o : OpenState) → IsTable t → find p t.opens ≡ Some o → IfSome (open_at t o.number) (λ x. x.file ≡ o.file)
 its_file t p o is found = all_some (open_at t o.number) o (λ x. x.file ≡ o.file)
     (at_of_in (λ (o : OpenState). o.number) 1 (suc t.last) t.opens o is.opens (find_in p t.opens o found).0) refl
-
--- the files that pass a test of their numbers stay listed
-listed : (p : ℕ → Bool) (es : List (ℕ × LockedBytes)) (f : ℕ) → held_by (filter (λ e. p e.0) es) f ≡ cond (p f) (held_by es f) nobody
-listed p [] f = elim (p f) as (λ (b : Bool). nobody ≡ cond b nobody nobody) [ true ↦ refl | false ↦ refl ]
-listed p (e ∷ es) f =
-    elim (cases_Bool (p e.0)) [
-      | inl stays ↦ rw stays (elim (cases_eq e.0 f) [
-        | inl here ↦ (let passes : p f ≡ true = ap p (sym here) ∙ stays in rw (eq-eqb e.0 f here, passes) refl)
-        | inr other ↦ rw (ne_eqb e.0 f other) (listed p es f)
-      ])
-      | inr goes ↦ rw goes (elim (cases_eq e.0 f) [
-        | inl here ↦ (let fails : p f ≡ false = ap p (sym here) ∙ goes in listed p es f ∙ rw fails refl)
-        | inr other ↦ rw (ne_eqb e.0 f other) (listed p es f)
-      ])
-    ]
-
--- files on which no lock state stands have no holders
-pub kept_listed : (locks : List LockState) (es : List (ℕ × LockedBytes)) → AreHolders locks (held_by es)
-    → held_by (filter (λ e. list_any (λ l. l.file == e.0) locks) es) ≡ held_by es
-kept_listed locks es holders = fun_ext (λ f. listed (λ f. list_any (λ l. l.file == f) locks) es f ∙ elim (cases_Bool (list_any (λ (l : LockState). l.file == f) locks)) [
-  | inl stands ↦ rw stands refl
-  | inr none ↦ rw none (fun_ext (λ s. fun_ext (λ b. sym (elim (some_or_none (held_by es f s b)) [
-    | inr e ↦ e
-    | inl some ↦ (let (l, holder) = holders f s b some in absurd
-        (false≢true (sym (none_any (λ (l : LockState). l.file == f) locks l none holder.stands) ∙ eq-eqb l.file f holder.file)))
-  ]))))
-])
 
 -- a lock state whose seqid rises stays where it is
 pub locks_raised : (of : LockState → ℕ) → ((l : LockState) → of (raised l) ≡ of l) → (n : ℕ) (xs ys : List LockState) (ps : List Pair)
@@ -152,13 +123,6 @@ listed_pushed locks locks' l files files' listed made lists =
     (λ f some. (let (k, there, on) = in_any (λ (k : LockState). k.file == f) locks (listed f some) in
     any_in (λ (k : LockState). k.file == f) (locks ++ l ∷ []) k (push_in locks l k there) on))
     lists (last_in locks l) refl)
-
--- a lock state stands on each file that stays listed
-pub listed_kept : (locks : List LockState) (files : List (ℕ × LockedBytes)) → ((e : ℕ × LockedBytes) → In e files → list_any (λ (l : LockState). l.file == e.0) locks ≡ true)
-    → AreListed locks files
-listed_kept locks files stands f some =
-    let (e, there, on) = in_any (λ (e : ℕ × LockedBytes). e.0 == f) files some in
-    ap (λ (k : ℕ). list_any (λ (l : LockState). l.file == k) locks) (sym (eqb-true e.0 f on)) ∙ stands e there
 
 -- the lock states under an open are of its file, and so is the one of a number
 pub under_file : (t : Table) (n file : ℕ) → IsTable t → IfSome (open_at t n) (λ o. o.file ≡ file) → (l : LockState) → In l t.locks → (l.opened == n) ≡ true → l.file ≡ file

@@ -18,7 +18,6 @@ use Rattle.nfs_opens.specs.Table.{Table, Asked, clashes_with, as_asked, with_ope
 use Rattle.nfs_opens.specs.Kept.{IsTable, IsHolder, AreHolders}
 use Rattle.nfs_opens.specs.Opening.{new_open, joins, narrows, is_narrower}
 use Rattle.nfs_opens.specs.Closing.{stands, held_within, not_under, without_open, without_lock}
-use Rattle.nfs_opens.specs.Calls.{without_client}
 use Rattle.nfs_opens.specs.Locking.{raised}
 use Rattle.nfs_opens.proofs.FileLemmas.{file_here, file_other}
 use Rattle.nfs_opens.proofs.HolderLemmas.{IsFewer, fewer_keeps}
@@ -197,33 +196,6 @@ table_closed t n is = record {
   within = λ f s b past. within_none _ _ (is.within f s b past);
   below = λ f s b past. within_none _ _ (is.below f s b past);
 }
-
--- a client ends
-pub table_ended : (t : Table) (client : ℕ) → IsTable t → IsTable (without_client t client)
-table_ended t client is = record {
-  opens = IsRising-filter (λ (o : OpenState). o.number) (λ o. not (o.client == client)) 1 (suc t.last) t.opens is.opens;
-  locks = IsRising-filter (λ (l : LockState). l.number) stays 1 (suc t.last) t.locks is.locks;
-  shares = λ a b in_a in_b. is.shares a b (in_filter (λ (o : OpenState). not (o.client == client)) t.opens a in_a).0
-      (in_filter (λ (o : OpenState). not (o.client == client)) t.opens b in_b).0;
-  under = λ l there.
-      let was = in_filter stays t.locks l there in
-      let (o, under) = is.under l was.0 in (
-        o,
-        record {
-          stands = stays_in (λ (o : OpenState). not (o.client == client)) t.opens o under.stands (ap (λ k. not (eqb k client)) under.client ∙ was.1);
-          number = under.number;
-          client = under.client;
-          file = under.file;
-        },
-      );
-  holders = holders_left t stays is;
-  bytes = λ f. fewer_keeps (t.held f) (held_within (filter stays t.locks) t.held f) (fewer_within (filter stays t.locks) t.held f) (is.bytes f);
-  within = λ f s b past. within_none _ _ (is.within f s b past);
-  below = λ f s b past. within_none _ _ (is.below f s b past);
-}
-  where
-    stays : LockState → Bool
-    stays l = not (l.client == client)
 
 -- a lock state that holds no byte goes
 pub table_freed : (t : Table) (n : ℕ) → IsTable t → ((f b : ℕ) → t.held f n b ≡ None) → IsTable (without_lock t n)

@@ -1,10 +1,8 @@
 -- How an index lies: in blocks, each with pairs that stand next to each other (RFC 8881 sections 8.3 and 9.7: states of one client and of one file).
-use Rattle.std.specs.Prelude.{◌≡◌, ◌≢◌, ℕ, ◌<◌, ◌==◌, Bool, true, length, List, [], ◌∷◌, Option, Some, None, IfSome}
+use Rattle.std.specs.Prelude.{◌≡◌, ◌≢◌, ℕ, ◌<◌, Bool, true, length, List, [], ◌∷◌, Option, Some, None, IfSome}
 use Rattle.nfs_xdr.specs.Tables.{In}
 use Rattle.nfs_opens.specs.declared.index.Pair.{Pair}
-use Rattle.nfs_opens.specs.declared.closing.Going.{Going}
-use Rattle.nfs_opens.specs.declared.closing.Going.TheVariants.{Locks, Opens, Owned}
-use Rattle.nfs_opens.specs.Index.{Precedes, IsAscending, is_before, marked}
+use Rattle.nfs_opens.specs.Index.{Precedes, IsAscending, is_before}
 use Rattle.nfs_opens.specs.Flat.{flat, last_of, front_of, rest_of}
 
 -- the pairs, and whether there is room for one more
@@ -33,9 +31,3 @@ pub record IsPlace (bs : List (List Pair)) (x : Pair) (i : ℕ) : Type 0 where
 pub record AreBlocks (bs : List (List Pair)) (capacity : ℕ) (spare : Option (List Pair)) : Type 0 where
   pub ordered : AreOrdered bs
   pub room : IfSome spare (λ s. (s ≡ []) × (length bs < capacity))
-
--- which pairs go: those of a client's lock states, those of its opens, and those that belong to it
-abbrev pub goes : Going → Pair → Bool
-goes (Locks locks client) p = marked (λ l. l.number) (λ l. l.client == client) locks.now.items p.number
-goes (Opens opens client) p = marked (λ o. o.number) (λ o. o.client == client) opens.now.items p.number
-goes (Owned client) p = p.of == client

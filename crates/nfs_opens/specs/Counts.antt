@@ -1,5 +1,5 @@
 -- How many opens a file has, and how many of them have each kind of access and deny each (RFC 8881 section 9.7).
-use Rattle.std.specs.Prelude.{◌≡◌, ℕ, ◌+◌, ◌-◌, ◌==◌, Bool, true, ◌&&◌, List, [], ◌∷◌, length, filter, min, nat_eq, nat_lt, if◌then◌else◌}
+use Rattle.std.specs.Prelude.{◌≡◌, ℕ, ◌+◌, ◌-◌, ◌==◌, Bool, true, ◌&&◌, List, length, filter, min, nat_eq, nat_lt, if◌then◌else◌}
 use Rattle.std.specs.HashMap.{get, spare}
 use Rattle.std.specs.Option.{unwrap_or}
 use Rattle.nfs_opens.specs.declared.share.Share.{Share}
@@ -66,11 +66,6 @@ without_one r c = record {
 -- what is counted of a file
 abbrev pub count_at : Counts → ℕ → Count
 count_at t file = unwrap_or (get nat_eq t.files file) no_count
-
--- the opens of a file that leave are counted no longer, one after the other
-abbrev pub uncounted : (OpenState → Bool) → ℕ → List OpenState → Count → Count
-uncounted leaves file [] count = count
-uncounted leaves file (o ∷ opens) count = uncounted leaves file opens (if leaves o && (file == o.file) then without_one (reserved o) count else count)
 
 -- there is room for one more file
 abbrev pub has_room : Counts → Bool

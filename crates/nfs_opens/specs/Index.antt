@@ -1,6 +1,5 @@
 -- Which states belong to what: each stands in an index as a pair of what it belongs to, a file (RFC 8881 section 9.7) or a client (section 8.3), and its number.
-use Rattle.std.specs.Prelude.{◌≡◌, ◌≢◌, ◌⊎◌, ℕ, ◌<◌, ◌≤◌, ◌==◌, nat_lt, ◌&&◌, ◌||◌, Bool, false, List, [], ◌∷◌, Option, Some, None, find}
-use Rattle.std.specs.Option.{option_map_or}
+use Rattle.std.specs.Prelude.{◌≡◌, ◌≢◌, ◌⊎◌, ℕ, ◌<◌, ◌≤◌, ◌==◌, nat_lt, ◌&&◌, ◌||◌, Bool, List, [], ◌∷◌, Option, Some, None}
 use Rattle.nfs_xdr.specs.Tables.{In}
 use Rattle.nfs_opens.specs.declared.index.Pair.{Pair}
 
@@ -39,7 +38,3 @@ pub record IsIndex {X : Type 0} (of number : X → ℕ) (states : List X) (ps : 
   pub order : IsAscending ps
   pub each : (x : X) → In x states → In (record { of = of x; number = number x }) ps
   pub only : (p : Pair) → In p ps → (x : X) × In x states × (of x ≡ p.of) × (number x ≡ p.number)
-
--- the state of a number is one of those that a test marks
-abbrev pub marked : {X : Type 0} → (X → ℕ) → (X → Bool) → List X → ℕ → Bool
-marked number test states n = option_map_or test (find (λ x. number x == n) states) false

@@ -1,13 +1,12 @@
 //! An index in blocks of pairs, so that a pair that comes or goes moves those of its block alone.
 
-ghost use Rattle.std.specs.Prelude.{◌≡◌, ◌≢◌, ◌+◌, ◌<◌, ◌≤◌, ◌++◌, ◌∷◌, [], true, false, not, length, filter, vec_capacity, List, slice_get, slice_index_or, option_copied, Some, None, IfSome, IfOk, OnOk, OnErr};
+ghost use Rattle.std.specs.Prelude.{◌≡◌, ◌≢◌, ◌+◌, ◌<◌, ◌≤◌, ◌++◌, ◌∷◌, [], true, false, length, vec_capacity, List, slice_get, slice_index_or, option_copied, Some, None, IfSome, IfOk, OnOk};
 ghost use Rattle.std.specs.List.Sorted.{IsPartitionPoint};
 ghost use Rattle.nfs_xdr.specs.Tables.{In};
 ghost use Rattle.nfs_opens.specs.Index.{IsAscending, IsNext, HasPut, HasTaken};
 ghost use Rattle.nfs_opens.specs.Flat.{flat};
-ghost use Rattle.nfs_opens.specs.Blocks.{ends_before, AreOrdered, IsPlace, pairs_in, goes};
+ghost use Rattle.nfs_opens.specs.Blocks.{ends_before, AreOrdered, IsPlace, pairs_in};
 
-use crate::closing::Going;
 use crate::index::{Pair, next_in, put, take};
 use std::alloc::{AllocError, Global};
 use std::marker::Model;
@@ -124,16 +123,6 @@ impl Block {
         take(&mut self.pairs, old);
         !self.pairs.is_empty()
     }
-
-    /// Pairs go. Whether one stays.
-    fn keep(&mut self, going: Going) -> bool
-        ensures items { self.new ≡ filter (λ p. not (goes going.entry p)) self.old }
-        ensures some { result ≡ true → self.new ≢ [] }
-        ensures none { result ≡ false → self.new ≡ [] }
-    {
-        self.pairs.retain(|p| !going.takes(*p));
-        !self.pairs.is_empty()
-    }
 }
 
 /// The pairs of states, in their order. One more may come in while a block is spare.
@@ -194,19 +183,6 @@ fn place_with(blocks: &[Block], old: Pair) -> usize
     ensures there { (d : List Pair) → In old (slice_index_or blocks.now result d) }
 {
     block_of(blocks, old.of, old.number, false)
-}
-
-/// Pairs go, and blocks that have none left.
-fn keep_in(blocks: &mut Vec<Block>, going: Going)
-    ensures items { flat blocks.new.items ≡ filter (λ p. not (goes going.entry p)) (flat blocks.old.items) }
-    ensures some { (b : List Pair) → In b blocks.new.items → b ≢ [] }
-    ensures fewer { length blocks.new.items ≤ length blocks.old.items }
-    ensures room { vec_capacity blocks.new ≡ vec_capacity blocks.old }
-{
-    let keep = |b: &mut Block| -> bool
-        ensures { (b.exit.now ≡ filter (λ p. not (goes going.entry p)) b.entry.now) × (result ≡ true → b.exit.now ≢ []) × (result ≡ false → b.exit.now ≡ []) }
-    { b.keep(going) };
-    blocks.retain_mut(keep);
 }
 
 impl Index {
@@ -272,13 +248,5 @@ impl Index {
         if !stays {
             let _ = self.blocks.remove(place);
         }
-    }
-
-    /// Pairs go.
-    pub(crate) fn keep(&mut self, going: Going)
-        ensures items { self.new.items ≡ filter (λ p. not (goes going.entry p)) self.old.items }
-        ensures ready { self.new.ready ≡ self.old.ready }
-    {
-        keep_in(&mut self.blocks, going);
     }
 }

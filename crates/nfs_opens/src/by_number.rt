@@ -8,13 +8,9 @@ ghost use Rattle.nfs_opens.specs.Flat.{flat};
 ghost use Rattle.nfs_opens.specs.ByNumber.{ends_below, AreRising};
 ghost use Rattle.nfs_opens.specs.Opening.{joins, narrows};
 ghost use Rattle.nfs_opens.specs.Locking.{raised};
-ghost use Rattle.nfs_opens.specs.Calls.{asked, held_without};
-ghost use Rattle.nfs_opens.specs.Holding.{held_by};
+ghost use Rattle.nfs_opens.specs.Calls.{asked};
 ghost use Rattle.nfs_opens.specs.Kept.{Rises};
-ghost use Rattle.nfs_opens.specs.Counts.{count_at, has_room, uncounted};
 
-use crate::counts::Counts;
-use crate::locked_files::LockedFiles;
 use crate::opening::Ask;
 use crate::records::{LockState, OpenState, State};
 use crate::share::Share;
@@ -127,16 +123,6 @@ impl<T: State> StateBlock<T> {
         drop_state(&mut self.states, number);
         !self.states.is_empty()
     }
-
-    /// The states of a client go. Whether one stays.
-    fn drop_client(&mut self, client: u64) -> bool
-        ensures items { self.new ≡ filter (λ x. not (T.client x == client)) self.old }
-        ensures some { result ≡ true → self.new ≢ [] }
-        ensures none { result ≡ false → self.new ≡ [] }
-    {
-        self.states.retain(|x| x.client() != client);
-        !self.states.is_empty()
-    }
 }
 
 impl StateBlock<OpenState> {
@@ -167,48 +153,6 @@ impl StateBlock<LockState> {
         if let Some(place) = place_of(&self.states, number) {
             self.states[place].raise();
         }
-    }
-}
-
-/// The lock states of a client that stand here hold no bytes from now on.
-fn drop_bytes(files: &mut LockedFiles, locks: &[LockState], client: u64)
-    ensures { held_by files.new ≡ held_without (λ l. l.client == client) locks.now (held_by files.old) }
-{
-    for lock in locks {
-        if lock.client == client {
-            files.drop_state(lock.file, lock.number);
-        }
-    }
-}
-
-/// The lock states of a client in these blocks hold no bytes from now on.
-fn drop_bytes_in(files: &mut LockedFiles, blocks: &[StateBlock<LockState>], client: u64)
-    ensures { held_by files.new ≡ held_without (λ l. l.client == client) (flat blocks.now) (held_by files.old) }
-{
-    for block in blocks {
-        drop_bytes(files, &block.states, client);
-    }
-}
-
-/// The opens of a client that stand here are counted no longer.
-fn uncount(counts: &mut Counts, opens: &[OpenState], client: u64)
-    ensures counts { (f : ℕ) → count_at counts.new f ≡ uncounted (λ o. o.client == client) f opens.now (count_at counts.old f) }
-    ensures room { has_room counts.old ≡ true → has_room counts.new ≡ true }
-{
-    for open in opens {
-        if open.client == client {
-            counts.take(open.file, open.reserved());
-        }
-    }
-}
-
-/// The opens of a client in these blocks are counted no longer.
-fn uncount_in(counts: &mut Counts, blocks: &[StateBlock<OpenState>], client: u64)
-    ensures counts { (f : ℕ) → count_at counts.new f ≡ uncounted (λ o. o.client == client) f (flat blocks.now) (count_at counts.old f) }
-    ensures room { has_room counts.old ≡ true → has_room counts.new ≡ true }
-{
-    for block in blocks {
-        uncount(counts, &block.states, client);
     }
 }
 
@@ -260,19 +204,6 @@ fn place_with_room<T: State>(blocks: &[StateBlock<T>]) -> Option<usize>
         return None;
     }
     Some(last)
-}
-
-/// The states of a client go, and blocks that have none left.
-fn drop_in<T: State>(blocks: &mut Vec<StateBlock<T>>, client: u64)
-    ensures items { flat blocks.new.items ≡ filter (λ x. not (T.client x == client)) (flat blocks.old.items) }
-    ensures some { (b : List T) → In b blocks.new.items → b ≢ [] }
-    ensures fewer { length blocks.new.items ≤ length blocks.old.items }
-    ensures room { vec_capacity blocks.new ≡ vec_capacity blocks.old }
-{
-    let keep = |b: &mut StateBlock<T>| -> bool
-        ensures { (b.exit.now ≡ filter (λ x. not (T.client x == client)) b.entry.now) × (result ≡ true → b.exit.now ≢ []) × (result ≡ false → b.exit.now ≡ []) }
-    { b.drop_client(client) };
-    blocks.retain_mut(keep);
 }
 
 impl<T: State> ByNumber<T> {
@@ -346,14 +277,6 @@ impl<T: State> ByNumber<T> {
             let _ = self.blocks.remove(place);
         }
     }
-
-    /// The states of a client go.
-    pub(crate) fn drop_client(&mut self, client: u64)
-        ensures items { self.new.items ≡ filter (λ x. not (T.client x == client)) self.old.items }
-        ensures ready { self.new.ready ≡ self.old.ready }
-    {
-        drop_in(&mut self.blocks, client);
-    }
 }
 
 impl ByNumber<OpenState> {
@@ -378,14 +301,6 @@ impl ByNumber<OpenState> {
             self.blocks[place].narrow(number, access, deny);
         }
     }
-
-    /// A client's opens are counted no longer.
-    pub(crate) fn uncount(&self, counts: &mut Counts, client: u64)
-        ensures counts { (f : ℕ) → count_at counts.new f ≡ uncounted (λ o. o.client == client) f self.now.items (count_at counts.old f) }
-        ensures room { has_room counts.old ≡ true → has_room counts.new ≡ true }
-    {
-        uncount_in(counts, &self.blocks, client);
-    }
 }
 
 impl ByNumber<LockState> {
@@ -398,11 +313,5 @@ impl ByNumber<LockState> {
         if place < self.blocks.len() {
             self.blocks[place].raise(number);
         }
-    }
-    /// A client's lock states hold no bytes from now on.
-    pub(crate) fn drop_bytes(&self, files: &mut LockedFiles, client: u64)
-        ensures { held_by files.new ≡ held_without (λ l. l.client == client) self.now.items (held_by files.old) }
-    {
-        drop_bytes_in(files, &self.blocks, client);
     }
 }

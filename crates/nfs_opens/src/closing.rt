@@ -1,68 +1,20 @@
 //! CLOSE, the end of a client, and FREE_STATEID (RFC 8881 sections 18.2, 8.4.2 and 18.38).
 
-ghost use Rattle.std.specs.Prelude.{◌≡◌, ◌≢◌, ◌==◌, ℕ, true, false, not, filter, IfSome};
+ghost use Rattle.std.specs.Prelude.{◌≡◌, ◌==◌, false, not, filter, IfSome};
 ghost use Rattle.std.specs.List.{list_any};
 ghost use Rattle.nfs_ranges.specs.Holders.{dropped};
-ghost use Rattle.nfs_xdr.specs.Tables.{In};
 ghost use Rattle.nfs_opens.specs.Holding.{held_by, on_file, is_listed, ListsNoMore};
 ghost use Rattle.nfs_opens.specs.Table.{table, open_at, lock_at};
-ghost use Rattle.nfs_opens.specs.Kept.{AreHolders, Rises};
-ghost use Rattle.nfs_opens.specs.Blocks.{goes};
-ghost use Rattle.nfs_opens.specs.Index.{marked};
+ghost use Rattle.nfs_opens.specs.Kept.{AreHolders};
 ghost use Rattle.nfs_opens.specs.Closing.{without_open, close, free_lock, free};
 ghost use Rattle.nfs_opens.specs.Calls.{without_client, drop_client, held_without};
 
-use crate::by_number::ByNumber;
-use crate::index::Pair;
 use crate::judging::{Seat, Sort};
 use crate::lock_states::LockStates;
 use crate::locked_files::LockedFiles;
 use crate::opens::Opens;
-use crate::records::{LockState, OpenState, State};
 use crate::stateid::StateId;
 use nfs_xdr::Status;
-
-/// Which pairs of an index go.
-#[derive(Clone, Copy)]
-pub(crate) enum Going<'a> {
-    /// Those of a client's lock states.
-    Locks(&'a ByNumber<LockState>, u64),
-    /// Those of a client's opens.
-    Opens(&'a ByNumber<OpenState>, u64),
-    /// Those that belong to a client.
-    Owned(u64),
-}
-
-impl Going<'_> {
-    pub(crate) fn takes(self, pair: Pair) -> bool
-        ensures { result ≡ goes self.entry pair }
-    {
-        match self {
-            Going::Locks(locks, client) => is_clients(locks, pair.number, client),
-            Going::Opens(opens, client) => is_clients(opens, pair.number, client),
-            Going::Owned(client) => pair.of == client,
-        }
-    }
-}
-
-/// Whether the state of a number is a client's.
-fn is_clients<T: State>(states: &ByNumber<T>, number: u64, client: u64) -> bool
-    ensures { result ≡ marked T.number (λ x. T.client x == client) states.now.items number }
-{
-    match states.get(number) {
-        Some(state) => state.client() == client,
-        None => false,
-    }
-}
-
-/// A client's lock states go, with the bytes that they hold.
-fn leave_client(files: &mut LockedFiles, locks: &mut LockStates, client: u64)
-    ensures held { held_by files.new ≡ held_without (λ l. l.client == client) locks.old.items (held_by files.old) }
-    ensures locks { locks.new.items ≡ filter (λ l. not (l.client == client)) locks.old.items }
-{
-    locks.drop_bytes(files, client);
-    locks.drop_client(client);
-}
 
 /// A lock state of a file goes, with the bytes that it holds.
 fn leave_one(files: &mut LockedFiles, locks: &mut LockStates, file: u64, number: u64)
@@ -129,14 +81,16 @@ impl Opens {
         }
     }
 
-    /// What a client leaves goes in one pass: its opens, with its lock states and the bytes that they hold.
+    /// What a client leaves goes: its opens, with its lock states and the bytes that they hold. Each is found by a search:
+    /// states of other clients are not walked over.
     pub fn end_client(&mut self, client: u64)
         ensures after { table self.new ≡ without_client (table self.old) client }
         ensures room { self.new.ready ≡ self.old.ready }
     {
-        leave_client(&mut self.files, &mut self.locks, client);
-        self.opens.drop_client(client);
-        self.files.keep_locked(&self.locks);
+        while let Some(open) = self.first_of(client) {
+            let (opened, file) = (open.number, open.file);
+            self.remove_open(opened, file);
+        }
     }
 
     /// `file`: the open's.

@@ -4,18 +4,14 @@ ghost use Rattle.std.specs.Prelude.{◌≡◌, ◌==◌, ◌&&◌, ◌<◌, ◌+
 ghost use Rattle.std.specs.Option.{option_copied};
 ghost use Rattle.std.specs.List.{list_any};
 ghost use Rattle.nfs_xdr.specs.Tables.{In};
-ghost use Rattle.nfs_opens.specs.Index.{IsIndex, marked};
+ghost use Rattle.nfs_opens.specs.Index.{IsIndex};
 ghost use Rattle.nfs_opens.specs.Keys.{lock_key};
 ghost use Rattle.nfs_opens.specs.Kept.{Rises};
 ghost use Rattle.nfs_opens.specs.Locking.{raised};
-ghost use Rattle.nfs_opens.specs.Holding.{held_by};
-ghost use Rattle.nfs_opens.specs.Calls.{held_without};
 
 use crate::blocks::Index;
 use crate::by_number::ByNumber;
-use crate::closing::Going;
 use crate::index::Pair;
-use crate::locked_files::LockedFiles;
 use crate::records::LockState;
 use std::alloc::{AllocError, Global};
 use std::marker::Model;
@@ -85,13 +81,6 @@ fn drop_owner_pair(by_owner: &mut Index, states: &ByNumber<LockState>, number: u
             number,
         });
     }
-}
-
-/// The pairs of a client's lock states go.
-fn drop_pairs(pairs: &mut Index, states: &ByNumber<LockState>, client: u64)
-    ensures { pairs.new.items ≡ filter (λ p. not (marked (λ l. l.number) (λ l. l.client == client) states.now.items p.number)) pairs.old.items }
-{
-    pairs.keep(Going::Locks(states, client));
 }
 
 impl LockStates {
@@ -204,23 +193,5 @@ impl LockStates {
         drop_open_pair(&mut self.by_open, &self.states, number);
         drop_owner_pair(&mut self.by_owner, &self.states, number);
         self.states.remove(number);
-    }
-
-    /// A client's lock states hold no bytes from now on.
-    pub(crate) fn drop_bytes(&self, files: &mut LockedFiles, client: u64)
-        ensures { held_by files.new ≡ held_without (λ l. l.client == client) self.now.items (held_by files.old) }
-    {
-        self.states.drop_bytes(files, client);
-    }
-
-    /// The lock states of a client go.
-    pub(crate) fn drop_client(&mut self, client: u64)
-        ensures { self.new.items ≡ filter (λ l. not (l.client == client)) self.old.items }
-    {
-        self.states.kept();
-        drop_pairs(&mut self.by_file, &self.states, client);
-        drop_pairs(&mut self.by_open, &self.states, client);
-        drop_pairs(&mut self.by_owner, &self.states, client);
-        self.states.drop_client(client);
     }
 }

@@ -1,14 +1,10 @@
 //! The locked bytes of all files.
 
-ghost use Rattle.std.specs.Prelude.{◌≡◌, ◌≤◌, ◌==◌, ◌⊎◌, ℕ, true, false, OnOk, OnErr, IfOk, filter, []};
-ghost use Rattle.nfs_xdr.specs.Tables.{In};
+ghost use Rattle.std.specs.Prelude.{◌≡◌, ◌≤◌, ◌⊎◌, ℕ, true, false, OnOk, OnErr, IfOk, []};
 ghost use Rattle.nfs_ranges.specs.Holders.{LockedBytes, at, holding, cleared, dropped, holds_any, nobody};
 ghost use Rattle.nfs_ranges.specs.Facts.{Tells};
-ghost use Rattle.std.specs.List.{list_any};
 ghost use Rattle.nfs_opens.specs.Holding.{held_by, on_file, is_listed, ListsNoMore};
-ghost use Rattle.nfs_opens.specs.Kept.{AreHolders};
 
-use crate::lock_states::LockStates;
 use nfs_ranges::{Held, Kind, Ranges};
 use std::alloc::{AllocError, Global};
 use std::collections::BTreeMap;
@@ -27,13 +23,6 @@ impl Model for LockedFiles {
     ghost Value = { List (ℕ × LockedBytes) };
 
     ghost view = { λ l. l.files.entries };
-}
-
-/// The files go on which no lock state stands.
-fn drop_unlocked(files: &mut BTreeMap<u64, Ranges, Global>, locks: &LockStates)
-    ensures { files.new.entries ≡ filter (λ e. list_any (λ l. l.file == e.0) locks.now.items) files.old.entries }
-{
-    files.retain(|file, _| locks.is_on(*file));
 }
 
 /// The bytes of a new file, of which a lock state holds some.
@@ -142,15 +131,6 @@ impl LockedFiles {
             ranges.drop_owner(state);
             return;
         }
-    }
-
-    /// Files on which no lock state stands are no longer listed.
-    pub(crate) fn keep_locked(&mut self, locks: &LockStates)
-        requires { AreHolders locks.now.items (held_by self.old) }
-        ensures held { held_by self.new ≡ held_by self.old }
-        ensures listed { (e : ℕ × LockedBytes) → In e self.new → list_any (λ l. l.file == e.0) locks.now.items ≡ true }
-    {
-        drop_unlocked(&mut self.files, locks);
     }
 
     /// Nobody holds a byte of a file.

@@ -3,7 +3,7 @@
 ghost use Rattle.std.specs.Prelude.{◌≡◌, ◌≢◌, ◌==◌, ◌&&◌, ◌<◌, ◌≤◌, ◌++◌, ◌∷◌, [], true, not, length, find, filter, map, nat_lt, if◌then◌else◌, OnOk};
 ghost use Rattle.std.specs.Option.{option_copied};
 ghost use Rattle.nfs_xdr.specs.Tables.{In};
-ghost use Rattle.nfs_opens.specs.Index.{IsIndex, marked};
+ghost use Rattle.nfs_opens.specs.Index.{IsIndex};
 ghost use Rattle.nfs_opens.specs.Kept.{HasOneEach, whose};
 ghost use Rattle.nfs_opens.specs.Keys.{open_key};
 ghost use Rattle.nfs_opens.specs.Opening.{joins, narrows};
@@ -13,7 +13,6 @@ ghost use Rattle.nfs_opens.specs.StateId.{last_number};
 
 use crate::blocks::Index;
 use crate::by_number::ByNumber;
-use crate::closing::Going;
 use crate::counts::{Count, Counts, Reservation};
 use crate::index::Pair;
 use crate::opening::Ask;
@@ -140,14 +139,6 @@ fn count_narrowed(
     if let Some(open) = states.get(number) {
         counts.change(open.file, open.reserved(), narrower);
     }
-}
-
-/// The pairs of a client's opens go.
-fn drop_pairs(pairs: &mut Index, states: &ByNumber<OpenState>, client: u64)
-    ensures items { pairs.new.items ≡ filter (λ p. not (marked (λ o. o.number) (λ o. o.client == client) states.now.items p.number)) pairs.old.items }
-    ensures room { pairs.new.ready ≡ pairs.old.ready }
-{
-    pairs.keep(Going::Opens(states, client));
 }
 
 impl OpenStates {
@@ -287,18 +278,5 @@ impl OpenStates {
         drop_owner_pair(&mut self.by_owner, &self.states, number);
         uncount(&mut self.counts, &self.states, number);
         self.states.remove(number);
-    }
-
-    /// The opens of a client go.
-    pub(crate) fn drop_client(&mut self, client: u64)
-        ensures items { self.new.items ≡ filter (λ o. not (o.client == client)) self.old.items }
-        ensures ready { self.old.ready ≡ true → self.new.ready ≡ true }
-    {
-        self.states.kept();
-        drop_pairs(&mut self.by_file, &self.states, client);
-        self.by_client.keep(Going::Owned(client));
-        drop_pairs(&mut self.by_owner, &self.states, client);
-        self.states.uncount(&mut self.counts, client);
-        self.states.drop_client(client);
     }
 }

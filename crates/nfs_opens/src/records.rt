@@ -58,42 +58,24 @@ pub(crate) trait State: Drop {
 
     ghost number: { Self → ℕ };
 
-    ghost client: { Self → ℕ };
-
     /// The number in its stateid.
     fn number(&self) -> u64
         ensures { result ≡ number self.now };
-
-    /// The client id of the session that made it.
-    fn client(&self) -> u64
-        ensures { result ≡ client self.now };
 }
 
 impl State for OpenState {
     ghost number = { λ o. o.number };
 
-    ghost client = { λ o. o.client };
-
     fn number(&self) -> u64 {
         self.number
-    }
-
-    fn client(&self) -> u64 {
-        self.client
     }
 }
 
 impl State for LockState {
     ghost number = { λ l. l.number };
 
-    ghost client = { λ l. l.client };
-
     fn number(&self) -> u64 {
         self.number
-    }
-
-    fn client(&self) -> u64 {
-        self.client
     }
 }
 

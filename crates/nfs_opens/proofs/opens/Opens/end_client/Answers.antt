@@ -1,35 +1,29 @@
-use Rattle.std.proofs.Common.{sym, subst, ap, ◌∙◌}
+use Rattle.std.proofs.Common.{sym, ap, ◌∙◌, refl}
 use Rattle.std.specs.Prelude.{◌==◌}
-use Rattle.nfs_opens.specs.contracts.opens.Opens.{the_view}
-use Rattle.nfs_opens.specs.Holding.{held_by}
-use Rattle.nfs_opens.specs.Table.{Kept, table}
-use Rattle.nfs_opens.specs.Kept.{IsTable}
+use Rattle.std.specs.Option.{option_copied}
+use Rattle.nfs_opens.specs.Table.{Table, table}
 use Rattle.nfs_opens.specs.Calls.{without_client}
-use Rattle.nfs_opens.proofs.TableLemmas.{table_ended}
-use Rattle.nfs_opens.proofs.LockLemmas.{left_holders, left_held, same_table}
-use Rattle.nfs_opens.proofs.LockedLemmas.{listed_kept}
+use Rattle.nfs_opens.proofs.LockedLemmas.{its_file}
+use Rattle.nfs_opens.proofs.EndLemmas.{ended_none, ended_step, fewer_opens}
 use Rattle.nfs_opens.proofs.opens.Opens.end_client.Goals as goal
 
-pub keep_locked-requires : goal.keep_locked-requires
-keep_locked-requires c =
-    left_holders (table (the_view c.self.inside)) (λ l. l.client == c.args.client) c.leave_client.new.locks.items (held_by c.leave_client.new.files) c.self.invariant.table c.leave_client.ensures.locks c.leave_client.ensures.held
+pub remove_open-requires : goal.remove_open-requires
+remove_open-requires c = its_file (table c.loop-open.self) (λ o. o.client == c.args.client) c.in-Some.open.now c.first_of.ensures.kept
+    (sym c.first_of.ensures.found ∙ ap option_copied c.in-Some.is)
 
-pub invariant_of-self : goal.invariant_of-self
-invariant_of-self c =
-    let t = table (the_view c.self.inside) in
-    let held = c.keep_locked.ensures.held ∙ left_held t (λ l. l.client == c.args.client) (held_by c.leave_client.new.files) c.self.invariant.table c.leave_client.ensures.held in
-    let same = same_table c.drop_client.new.self.items _ c.leave_client.new.locks.items _
-    (held_by c.keep_locked.new.self) _ c.self.inside.last c.self.inside.instance c.drop_client.ensures.items c.leave_client.ensures.locks held in
-    record {
-      table = subst IsTable (sym same) (table_ended t c.args.client c.self.invariant.table);
-      listed = listed_kept c.leave_client.new.locks.items c.keep_locked.new.self c.keep_locked.ensures.listed;
-      room = λ yes. c.drop_client.ensures.ready (c.self.invariant.room yes);
-    }
+pub loop-open-smaller : goal.loop-open-smaller
+loop-open-smaller c = fewer_opens (table c.loop-open.self) (table c.remove_open.new.self) c.args.client c.in-Some.open.now
+    (sym c.first_of.ensures.found ∙ ap option_copied c.in-Some.is) c.remove_open.ensures.after
+
+pub loop-open-preserved : goal.loop-open-preserved
+loop-open-preserved c = (
+  ap (λ (t : Table). without_client t c.args.client) c.remove_open.ensures.after
+      ∙ (ended_step (table c.loop-open.self) c.args.client c.in-Some.open.now c.first_of.ensures.kept
+      (sym c.first_of.ensures.found ∙ ap option_copied c.in-Some.is)
+      ∙ c.loop-open.invariant.0),
+  c.remove_open.ensures.room ∙ c.loop-open.invariant.1,
+)
 
 pub returns-clause-after : goal.returns-clause-after
-returns-clause-after c =
-    let t = table (the_view c.self.inside) in
-    let held = c.keep_locked.ensures.held ∙ left_held t (λ l. l.client == c.args.client) (held_by c.leave_client.new.files) c.self.invariant.table c.leave_client.ensures.held in
-    let same = same_table c.drop_client.new.self.items _ c.leave_client.new.locks.items _
-    (held_by c.keep_locked.new.self) _ c.self.inside.last c.self.inside.instance c.drop_client.ensures.items c.leave_client.ensures.locks held in
-    same ∙ ap (λ (k : Kept). without_client (table k) c.args.client) c.self.view_is
+returns-clause-after c = ended_none (table c.loop-open.self) c.args.client c.first_of.ensures.kept
+    (sym c.first_of.ensures.found ∙ ap option_copied c.in_default.is) ∙ c.loop-open.invariant.0
