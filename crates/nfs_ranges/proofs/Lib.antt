@@ -2,6 +2,7 @@ pub mod AnswerLemmas
 pub mod CanonicalLemmas
 pub mod ClashLemmas
 pub mod EditLemmas
+pub mod HolderLemmas
 pub mod KindLemmas
 pub mod LayLemmas
 pub mod OwnerLemmas

@@ -1,8 +1,8 @@
 -- Laws of what is told and of what is held: facts on one side, functions that can be run on the other.
-use Rattle.std.specs.Prelude.{◌≡◌, ℕ, ◌↔◌, ◌<◌, ◌≤◌, ◌^◌, Option, IsTrue}
+use Rattle.std.specs.Prelude.{◌≡◌, ℕ, ◌↔◌, ◌<◌, ◌≤◌, ◌^◌, Option, None, IsTrue}
 use Rattle.nfs_ranges.specs.declared.Kind.{Kind}
 use Rattle.nfs_ranges.specs.declared.Held.{Held}
-use Rattle.nfs_ranges.specs.Holders.{Holders, LockedBytes, at, holds_any}
+use Rattle.nfs_ranges.specs.Holders.{Holders, LockedBytes, HasNoClash, at, holding, holds_any}
 use Rattle.nfs_ranges.specs.Facts.{HoldsAny, Tells, IsBelow}
 use Rattle.nfs_ranges.specs.Owners.{AreCanonical}
 use Rattle.nfs_ranges.specs.Told.{told}
@@ -19,3 +19,7 @@ AnyIsDecided = (f : Holders) (s : ℕ) → HoldsAny f s ↔ IsTrue (holds_any f 
 -- lists in canonical form that say the same of each lock state and byte are equal
 abbrev pub Canonical : Type 0
 Canonical = (os ps : LockedBytes) → AreCanonical os → AreCanonical ps → ((s b : ℕ) → b < 2 ^ 64 → at os s b ≡ at ps s b) → os ≡ ps
+
+-- a lock that meets no clash brings none
+abbrev pub SetKeeps : Type 0
+SetKeeps = (f : Holders) (s : ℕ) (kind : Kind) (first last : ℕ) → Tells f s kind first last None → HasNoClash f → HasNoClash (holding f s kind first last)
