@@ -1,15 +1,17 @@
 -- What keeps a table of sessions in order.
-use Rattle.std.proofs.Common.{◌≡◌, ℕ, ◌+◌, suc, Bool, true, false, List, set, Some, refl, sym, ◌∙◌, ap, arith, get_or}
-use Rattle.std.specs.Prelude.{◌==◌, if◌then◌else◌, filter, position, slice_get}
-use Rattle.std.proofs.lemmas.Bool.{eqb-true, and_parts}
+use Rattle.std.proofs.Common.{◌≡◌, ℕ, ◌+◌, suc, Bool, true, false, List, [], ◌∷◌, set, Some, refl, sym, ◌∙◌, ap, arith, get_or, inl, inr}
+use Rattle.std.specs.Prelude.{◌==◌, if◌then◌else◌, filter, map, position, slice_get}
+use Rattle.std.proofs.lemmas.Bool.{cases_Bool, eqb-true, and_parts}
 use Rattle.std.proofs.lemmas.Option.{slice_get-get_or}
 use Rattle.std.proofs.lemmas.List.Quantifiers.{position-Some}
-use Rattle.nfs_xdr.proofs.Tables.{IsRising-push, IsRising-map, IsRising-filter, one_changed}
+use Rattle.nfs_xdr.specs.Tables.{In}
+use Rattle.nfs_xdr.proofs.Lists.{find_in}
+use Rattle.nfs_xdr.proofs.Tables.{IsRising-push, IsRising-map, IsRising-filter, in_once, one_changed}
 use Rattle.nfs_sessions.specs.declared.channel.Wish.{Wish}
 use Rattle.nfs_sessions.specs.declared.id.SessionId.{SessionId}
 use Rattle.nfs_sessions.specs.Channel.{granted}
 use Rattle.nfs_sessions.specs.SessionSlots.{GrantedSlots, unused}
-use Rattle.nfs_sessions.specs.Sessions.{Session, SessionTable, is_session, with_session, with_slots}
+use Rattle.nfs_sessions.specs.Sessions.{Session, SessionTable, is_session, session_at, with_session, with_slots}
 use Rattle.nfs_sessions.specs.Kept.{IsSessions}
 
 pub sessions_filtered : (t : SessionTable) (p : Session → Bool) → IsSessions t → IsSessions (record t { sessions = filter p t.sessions })
@@ -66,3 +68,20 @@ table_written t id xs last place s new change is same at read changed =
     let P : List Session → SessionTable = λ ys. record { sessions = ys; last = last } in
     let Q : ℕ → SessionTable = λ l. record { sessions = (with_slots t id change).sessions; last = l } in
     ap P sessions ∙ ap Q same_last
+
+same_map : {X Y : Type 0} (f g : X → Y) (xs : List X) → ((x : X) → In x xs → f x ≡ g x) → map f xs ≡ map g xs
+same_map f g [] same = refl
+same_map f g (x ∷ xs) same = ap (λ y. y ∷ map f xs) (same x (inl refl)) ∙ ap (λ ys. g x ∷ ys) (same_map f g xs (λ y there. same y (inr there)))
+
+-- of a change at an id no more is seen than what it makes of the slots that stand there
+pub changed_there : (t : SessionTable) (id : SessionId) (s : Session) (change other : GrantedSlots → GrantedSlots) → IsSessions t
+    → session_at t id ≡ Some s → change s.slots ≡ other s.slots → with_slots t id change ≡ with_slots t id other
+changed_there t id s change other is at same =
+    let found = find_in (is_session id) t.sessions s at in
+    ap (λ (xs : List Session). record t { sessions = xs }) (same_map _ _ t.sessions (λ x there. elim (cases_Bool (is_session id x)) [
+      | inl here ↦
+          (let one : s ≡ x = in_once (λ (s : Session). s.counter) 1 (suc t.last) t.sessions s x is.rising found.0 there
+          (is_counter id s found.1 ∙ sym (is_counter id x here)) in
+          rw here (ap (λ (g : GrantedSlots). record x { slots = g }) (ap (λ (s : Session). change s.slots) (sym one) ∙ same ∙ ap (λ (s : Session). other s.slots) one)))
+      | inr gone ↦ rw gone refl
+    ]))

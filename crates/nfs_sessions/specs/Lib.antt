@@ -4,3 +4,4 @@ pub mod SessionSlots
 pub mod Sessions
 pub mod Laws
 pub mod Kept
+pub mod Lends

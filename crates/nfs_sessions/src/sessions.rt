@@ -1,14 +1,14 @@
 //! The table of sessions (RFC 8881 sections 2.10, 18.36 and 18.37).
 
 ghost use Rattle.std.specs.Prelude.{◌≡◌, ◌≤◌, ◌+◌, ◌==◌, None, IfOk, OnOk, OnErr, IsSomeAnd, is_some, option_map, count_by, find, filter, not, position};
-ghost use Rattle.std.specs.Option.{option_copied};
+ghost use Rattle.std.specs.Borrow.{sem};
+ghost use Rattle.std.specs.Option.{option_copied, option_copied_mut};
 ghost use Rattle.std.specs.List.{list_any};
 ghost use Rattle.nfs_xdr.specs.Checks.{judged};
 ghost use Rattle.nfs_sessions.specs.declared.sessions.SessionFault.TheVariants.{Memory};
 ghost use Rattle.nfs_sessions.specs.Sessions.{no_sessions, is_session, session_at, stays, create, create_fault, with_session, destroyed, without_client, keep};
 ghost use Rattle.nfs_sessions.specs.Sessions.{fault_status};
 ghost use Rattle.nfs_sessions.specs.Kept.{IsSessions, CreatesOrWants, MayKeep};
-ghost use Rattle.nfs_sessions.specs.SessionSlots as slots;
 
 use crate::channel::Wish;
 use crate::id::SessionId;
@@ -87,6 +87,8 @@ impl Model for Sessions {
 }
 
 impl Session {
+    ghost use Rattle.nfs_sessions.specs.Lends.{LendsOwnSlots};
+
     fn counter(&self) -> u64
         ensures { result ≡ self.now.counter }
     {
@@ -99,11 +101,11 @@ impl Session {
         self.counter == id.counter && self.client == id.client
     }
 
-    fn keep(&mut self, slot: u32, number: u32, uid: u32, args: &[u8], reply: &[u8])
-        requires { MayKeep self.old.slots slot number uid args.now reply.now }
-        ensures { self.new ≡ record self.old { slots = slots.keep self.old.slots slot number uid args.now reply.now } }
+    fn slots_mut(&mut self) -> &mut SessionSlots
+        ensures* lends { sem 𝓛 (LendsOwnSlots self.entry result) }
+        ensures own { result.now ≡ self.old.slots }
     {
-        self.slots.keep(slot, number, uid, args, reply);
+        &mut self.slots
     }
 
     fn stays(&self, leaving: Option<u64>) -> bool
@@ -123,6 +125,8 @@ fn drop_sessions_of(sessions: &mut Vec<Session>, client: u64)
 }
 
 impl Sessions {
+    ghost use Rattle.nfs_sessions.specs.Lends.{LendsSlots};
+
     /// The most sessions that stand at once (this server's profile).
     pub const MAX: usize = 64;
 
@@ -198,12 +202,25 @@ impl Sessions {
         ensures found { option_copied result ≡ option_map (λ s. s.slots) (session_at self.now id.now) }
         ensures rising { IsSessions self.now }
     {
-        let place = self.place(id)?;
+        let place = self.find(id)?;
         Some(&self.sessions[place].slots)
     }
 
-    /// The place of the session with this id, by halves.
-    fn place(&self, id: &SessionId) -> Option<usize>
+    /// The same slots, lent for changes. Whatever they are left as, they are that session's afterwards, and nothing else
+    /// of the table changes.
+    pub fn slots_mut(&mut self, id: &SessionId) -> Option<&mut SessionSlots>
+        ensures* lends { sem 𝓛 (LendsSlots self.entry id.now result) }
+        ensures found { option_copied_mut result ≡ option_map (λ s. s.slots) (session_at self.old id.now) }
+        ensures rising { IsSessions self.old }
+    {
+        let place = self.find(id)?;
+        let session = &mut self.sessions[place];
+        Some(session.slots_mut())
+    }
+
+    /// Where the session with this id stands among those that stand, in the order in which they were made: 0 is the oldest.
+    /// It is found by halves. None where no session has this id.
+    pub fn find(&self, id: &SessionId) -> Option<usize>
         ensures at { result ≡ position (is_session id.now) self.now.sessions }
         ensures rising { IsSessions self.now }
     {
@@ -238,9 +255,8 @@ impl Sessions {
         requires { IsSomeAnd (session_at self.old id.now) (λ s. MayKeep s.slots slot number uid args.now reply.now) }
         ensures { self.new ≡ keep self.old id.now slot number uid args.now reply.now }
     {
-        if let Some(place) = self.place(id) {
-            let session = &mut self.sessions[place];
-            session.keep(slot, number, uid, args, reply);
+        if let Some(slots) = self.slots_mut(id) {
+            slots.keep(slot, number, uid, args, reply);
         }
     }
 
@@ -249,7 +265,7 @@ impl Sessions {
         ensures stood { result ≡ is_some (session_at self.old id.now) }
         ensures gone { self.new ≡ destroyed self.old id.now }
     {
-        match self.place(id) {
+        match self.find(id) {
             Some(place) => {
                 self.sessions.remove(place);
                 true

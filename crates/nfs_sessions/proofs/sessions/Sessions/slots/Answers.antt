@@ -16,7 +16,7 @@ returns-clause-found c =
     ∙ ap (option_map (λ (s : Session). s.slots)) (session_there _ _ c.args.id.now _ _ c.self.view_is c.in_ok-place.ensures.at c.index.ensures)
 
 pub returns-in_err-place-clause-rising : goal.returns-in_err-place-clause-rising
-returns-in_err-place-clause-rising c = c.place.ensures.rising
+returns-in_err-place-clause-rising c = c.find.ensures.rising
 
 pub returns-clause-rising : goal.returns-clause-rising
-returns-clause-rising c = c.place.ensures.rising
+returns-clause-rising c = c.find.ensures.rising
