@@ -29,7 +29,7 @@ const USE_NON_PNFS: u32 = 0x0001_0000;
 impl Tables {
     /// Has the table of clients decide at the moment `now`, in seconds. The lease of the record that would be added is made
     /// first and taken back where none is, so that where memory is refused the answer is `Delay` and nothing has changed.
-    pub fn exchange_id(
+    pub(crate) fn exchange_id(
         &mut self,
         alloc: Global,
         asked: &ExchangeId<'_>,
@@ -48,7 +48,7 @@ impl Tables {
             return refused(fault);
         }
         let next = self.clients.next_id();
-        let Ok(()) = self.leases.add(next, now) else {
+        let Ok(()) = self.leases.add(alloc, next, now) else {
             return refused(ClientFault::Memory);
         };
         match self

@@ -39,9 +39,10 @@ impl Leases {
         Ok(Leases { renewals, lease })
     }
 
-    /// Begins the client's lease at the moment `now`, or begins it anew. Where memory is refused
-    /// nothing changes.
-    pub fn add(&mut self, client: u64, now: u64) -> Result<(), AllocError>
+    /// Begins the client's lease at the moment `now`, or begins it anew. The queue grows by the
+    /// allocator that `new` was given. `AllocError` where memory is refused, and then nothing
+    /// changes.
+    pub fn add(&mut self, _alloc: Global, client: u64, now: u64) -> Result<(), AllocError>
         requires { IsLatest (leases_of self.old) now }
         ensures ok { OnOk result (leases_of self.new ≡ with_lease (leases_of self.old) client now) }
         ensures err { OnErr result (self.new ≡ self.old) }
@@ -84,3 +85,6 @@ impl Leases {
         }
     }
 }
+
+#[cfg(test)]
+mod tests;

@@ -6,7 +6,7 @@
 //! loop that ends leases is seen to end.
 //!
 //! ```text
-//! leases.add(client, now)?;                                 // EXCHANGE_ID adds a record
+//! leases.add(alloc, client, now)?;                          // EXCHANGE_ID adds a record
 //! leases.renew(client, now);                                // a fresh SEQUENCE
 //! while let Some(client) = leases.next_out(now) { leases.remove(client); }
 //! ```
