@@ -20,13 +20,11 @@ use Rattle.nfs_tree.specs.Object.{is_directory, is_regular}
 use Rattle.nfs_tree.specs.Files.{Files, most_bytes, stored_in, is_there, is_directory_at, can_change}
 use Rattle.nfs_tree.specs.Calls.{is_regular_at}
 use Rattle.nfs_attrs.specs.declared.wanted.Wanted.{Wanted}
-use Rattle.nfs_attrs.specs.declared.wanted.AttrFault.{AttrFault}
 use Rattle.nfs_names.specs.declared.context.Context.{Context}
 use Rattle.nfs_names.specs.declared.node.Node.{Node}
 use Rattle.nfs_names.specs.State.{State}
 use Rattle.nfs_names.specs.Faults.{status_of}
-use Rattle.nfs_names.specs.Outcome.{with_status, refuses, checked}
-use Rattle.nfs_attrs.specs.Reading.{fault_status}
+use Rattle.nfs_names.specs.Outcome.{refuses, checked}
 use Rattle.nfs_names.specs.Checks.{current}
 use Rattle.nfs_names.specs.Create.{wanted_of, attributes_in}
 use Rattle.nfs_names.specs.Lookup.{is_link}
@@ -139,14 +137,3 @@ unfolding set_attr
 set_stops s x now a m f v some =
     by_refusal s x Op.SetAttr (asked_for s x a) (last_checks s) (was_set s x now a) m
     (status_of f) v (sym (set_found s x a m v) ∙ ap (option_map status_of) some)
-
--- the size that is given is the one that may want memory
-pub asked_wanted : (s : State) (x : Context) (a : SetAttr) (m : Setting) → asked_for s x a ≡ Ok m → wanted_of a.obj_attributes ≡ Ok m.wanted
-unfolding asked_for
-asked_wanted s x a m v =
-    let passed = if_passed_ok (setting s x a) (sized s x a.stateid) m v in
-    by_status (wanted_of a.obj_attributes) (setting_is s x a m passed.0).read
-  where
-    by_status : (r : Result Wanted AttrFault) → with_status fault_status r ≡ Ok m.wanted → r ≡ Ok m.wanted
-    by_status (Err f) e = absurd cc
-    by_status (Ok w) e = ap Ok (ok_is refl e)

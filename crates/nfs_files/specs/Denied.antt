@@ -37,3 +37,7 @@ abbrev pub status_of : OpenFault → Status
 status_of (Refused status) = status
 status_of (Denied h) = S.Denied
 status_of Memory = S.Delay
+
+-- the bytes of the largest result of LOCK and of LOCKT
+abbrev pub most_denied : ℕ
+most_denied = 1064

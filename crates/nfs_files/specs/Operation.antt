@@ -10,7 +10,6 @@ use Rattle.nfs_tree.specs.Bytes.{has_bytes}
 use Rattle.nfs_names.specs.declared.context.Context.{Context}
 use Rattle.nfs_names.specs.State.{State}
 use Rattle.nfs_names.specs.Outcome.{Outcome, refuses, or_delay}
-use Rattle.nfs_names.specs.Create.{wanted_of}
 use Rattle.nfs_files.specs.Close.{close}
 use Rattle.nfs_files.specs.Commit.{commit}
 use Rattle.nfs_files.specs.FreeStateid.{free_stateid}
@@ -20,7 +19,7 @@ use Rattle.nfs_files.specs.LockU.{lock_u, wants_memory}
 use Rattle.nfs_files.specs.Open.{open_file}
 use Rattle.nfs_files.specs.OpenDowngrade.{open_downgrade}
 use Rattle.nfs_files.specs.Read.{read}
-use Rattle.nfs_files.specs.SetAttr.{set_attr, gives_size}
+use Rattle.nfs_files.specs.SetAttr.{set_attr}
 use Rattle.nfs_files.specs.TestStateid.{test_stateid}
 use Rattle.nfs_files.specs.Write.{write}
 
@@ -61,7 +60,6 @@ abbrev pub grows : State → Context → Op → Bool
 grows s x (OpLock a) = true
 grows s x (OpLockU a) = wants_memory a
 grows s x (OpOpen a) = true
-grows s x (OpSetAttr a) = gives_size (wanted_of a.obj_attributes)
 grows s x (OpWrite a) = has_bytes a.bytes
 grows s x op = false
 

@@ -11,7 +11,6 @@ use Rattle.nfs_tree.specs.declared.sets.Sets.{Sets}
 use Rattle.nfs_tree.specs.Files.{Files, most_bytes, can_change, with_changed}
 use Rattle.nfs_tree.specs.Bytes.{with_resized}
 use Rattle.nfs_attrs.specs.declared.wanted.Wanted.{Wanted}
-use Rattle.nfs_attrs.specs.declared.wanted.AttrFault.{AttrFault}
 use Rattle.nfs_attrs.specs.Mask.{mask_of, trimmed_words}
 use Rattle.nfs_attrs.specs.Setting.{set_checks}
 use Rattle.nfs_names.specs.declared.context.Context.{Context}
@@ -81,8 +80,3 @@ was_set s x now a m = record {
 
 unfoldable pub set_attr : State → Context → Time → SetAttr → Outcome
 set_attr s x now a = answers s x Op.SetAttr (checked (asked_for s x a) (last_checks s)) (was_set s x now a)
-
--- only a size can want memory
-abbrev pub gives_size : Result Wanted AttrFault → Bool
-gives_size (Err fault) = false
-gives_size (Ok wanted) = is_some wanted.size

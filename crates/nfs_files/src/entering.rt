@@ -206,7 +206,7 @@ fn enter(
     match found {
         Found::There { file, cut, .. } => {
             if *cut {
-                tree.resize(alloc, file.number, 0, &Sets::none(), now)?;
+                tree.resize(file.number, 0, &Sets::none(), now)?;
             }
             Ok(file.number)
         }

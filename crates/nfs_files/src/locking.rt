@@ -106,7 +106,7 @@ fn status_of(fault: OpenFault) -> Status
 
 /// Puts the lock that is in the way of a LOCK, as it answers it.
 fn put_denied(opens: &Opens, held: &Held, out: &mut Sheet) -> Status
-    requires { length out.old.bytes + 1064 ≤ out.old.room }
+    requires { length out.old.bytes + of_denied.most_denied ≤ out.old.room }
     ensures put { Puts out.old out.new (spell_result (ResLockDenied (of_denied.denied (table opens.now) held.now))) }
     ensures status { result ≡ S.Denied }
 {
@@ -116,7 +116,7 @@ fn put_denied(opens: &Opens, held: &Held, out: &mut Sheet) -> Status
 
 /// Puts the lock that is in the way of a LOCKT, as it answers it.
 fn put_denied_test(opens: &Opens, held: &Held, out: &mut Sheet) -> Status
-    requires { length out.old.bytes + 1064 ≤ out.old.room }
+    requires { length out.old.bytes + of_denied.most_denied ≤ out.old.room }
     ensures put { Puts out.old out.new (spell_result (ResLockTDenied (of_denied.denied (table opens.now) held.now))) }
     ensures status { result ≡ S.Denied }
 {
@@ -126,7 +126,7 @@ fn put_denied_test(opens: &Opens, held: &Held, out: &mut Sheet) -> Status
 
 /// Puts the stateid of a lock that was set, as LOCK answers it.
 fn put_locked(id: Stateid, out: &mut Sheet) -> Status
-    requires { length out.old.bytes + 1064 ≤ out.old.room }
+    requires { length out.old.bytes + of_denied.most_denied ≤ out.old.room }
     ensures put { Puts out.old out.new (spell_result (ResLock id)) }
     ensures status { result ≡ S.Nfs4Ok }
 {
@@ -136,7 +136,7 @@ fn put_locked(id: Stateid, out: &mut Sheet) -> Status
 
 /// Puts that no lock is in the way, as LOCKT answers it.
 fn put_free(out: &mut Sheet) -> Status
-    requires { length out.old.bytes + 1064 ≤ out.old.room }
+    requires { length out.old.bytes + of_denied.most_denied ≤ out.old.room }
     ensures put { Puts out.old out.new (spell_result ResLockT) }
     ensures status { result ≡ S.Nfs4Ok }
 {
@@ -152,7 +152,7 @@ pub(crate) fn lock_t(
     asked: &LockT<'_>,
     out: &mut Sheet,
 ) -> Status
-    requires { length out.old.bytes + 1064 ≤ out.old.room }
+    requires { length out.old.bytes + of_denied.most_denied ≤ out.old.room }
     ensures { Comes (of_lock_t.lock_t (state_of store.now) context.now (view_lock_t asked.now)) out.old out.new result (state_of store.now) context.now }
 {
     match wish_for(store, context, asked.locktype, asked.offset, asked.length) {
@@ -221,7 +221,7 @@ fn set_lock(
     out: &mut Sheet,
 ) -> Status
     requires order { wished.now.wish.first ≤ wished.now.wish.last }
-    requires room { length out.old.bytes + 1064 ≤ out.old.room }
+    requires room { length out.old.bytes + of_denied.most_denied ≤ out.old.room }
     ensures { Comes (or_delay (is_delay result) (state_of store.old) context.old Op.Lock (of_lock.locks (state_of store.old) context.old (view_locker locker.now) wished.now)) out.old out.new result (state_of store.new) context.new }
 {
     match lock_bytes(alloc, &mut store.opens, locker, wished) {
@@ -245,7 +245,7 @@ pub(crate) fn lock(
     asked: &Lock<'_>,
     out: &mut Sheet,
 ) -> Status
-    requires { length out.old.bytes + 1064 ≤ out.old.room }
+    requires { length out.old.bytes + of_denied.most_denied ≤ out.old.room }
     ensures { Comes (or_delay (is_delay result) (state_of store.old) context.old Op.Lock (of_lock.lock (state_of store.old) context.old (view_lock asked.now))) out.old out.new result (state_of store.new) context.new }
 {
     match judge_lock(store, context, asked) {

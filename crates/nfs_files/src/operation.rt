@@ -64,7 +64,7 @@ fn plain_op(
         Arg::LockU(asked) => lock_u(alloc, store, context, asked),
         Arg::Open(asked) => open_file(alloc, store, context, asked, now),
         Arg::OpenDowngrade(asked) => open_downgrade(store, context, asked),
-        Arg::SetAttr(asked) => set_attr(alloc, store, context, asked, now),
+        Arg::SetAttr(asked) => set_attr(store, context, asked, now),
         Arg::Write(asked) => write_bytes(alloc, store, context, asked, now),
         _ => Res::refusal(arg.number(), Status::NotSupp),
     }
@@ -73,8 +73,8 @@ fn plain_op(
 /// Runs one operation on open files at a moment, in seconds: puts its result behind what stands on the sheet, and
 /// answers its status.
 ///
-/// LOCK, LOCKU of a part of a file, OPEN, SETATTR of size and WRITE of bytes may want memory: where it is refused, they
-/// answer NFS4ERR_DELAY as their last check and change nothing. No other operation does.
+/// LOCK, LOCKU of a part of a file, OPEN and WRITE of bytes may want memory: where it is refused, they answer
+/// NFS4ERR_DELAY as their last check and change nothing. No other operation does.
 pub fn file_op(
     alloc: Global,
     store: &mut Store,

@@ -1,17 +1,11 @@
 //! SETATTR (RFC 8881 section 18.30).
 
-ghost use Rattle.std.specs.Prelude.{◌≡◌, is_some};
+ghost use Rattle.std.specs.Prelude.{◌≡◌};
 ghost use Rattle.nfs_compound.specs.ArgCodecs.{view_set_attr};
-ghost use Rattle.nfs_compound.specs.Operation.{OpSetAttr};
-ghost use Rattle.nfs_tree.specs.Calls.{DoesOrWants};
-ghost use Rattle.nfs_results.specs.View as view;
-ghost use Rattle.nfs_results.specs.Results.{status_of_result};
 ghost use Rattle.nfs_names.specs.State.{state_of};
-ghost use Rattle.nfs_names.specs.Outcome.{is_delay};
 ghost use Rattle.nfs_names.specs.View.{outcome_of};
 ghost use Rattle.nfs_files.specs.SetAttr as of_set_attr;
 ghost use Rattle.nfs_files.specs.SetAttrParts as part;
-ghost use Rattle.nfs_files.specs.Operation.{one_or_delay};
 
 use crate::access::writable;
 use nfs_attrs::{Mask, Wanted, may_set};
@@ -20,7 +14,6 @@ use nfs_names::{Context, Node, Store, attr_set, current, refuse, status_of, time
 use nfs_results::Res;
 use nfs_tree::{Sets, Tree, TreeFault};
 use nfs_xdr::{Status, Time};
-use std::alloc::Global;
 
 /// An object, and what is to be set of it.
 #[derive(Clone, Copy, Debug, PartialEq, Eq)]
@@ -95,12 +88,13 @@ fn gives_some(wanted: &Wanted) -> bool
 }
 
 /// Sets what is wanted of an object. The tree's own faults are the last checks.
-fn change(alloc: Global, tree: &mut Tree, setting: &Setting, now: Time) -> Result<(), TreeFault>
-    ensures { DoesOrWants tree.old (is_some setting.now.wanted.size) (part.changed tree.old now setting.now) result tree.new }
+fn change(tree: &mut Tree, setting: &Setting, now: Time) -> Result<(), TreeFault>
+    ensures answer { result ≡ (part.changed tree.old now setting.now).answer }
+    ensures after { tree.new ≡ (part.changed tree.old now setting.now).after }
 {
     let sets = sets_of(now, &setting.wanted);
     match setting.wanted.size {
-        Some(size) => tree.resize(alloc, setting.node.number, size, &sets, now),
+        Some(size) => tree.resize(setting.node.number, size, &sets, now),
         None => {
             if !gives_some(&setting.wanted) {
                 return Ok(());
@@ -110,18 +104,17 @@ fn change(alloc: Global, tree: &mut Tree, setting: &Setting, now: Time) -> Resul
     }
 }
 
-/// SETATTR.
+/// SETATTR. It takes no memory: pages that nothing was written to take none.
 pub(crate) fn set_attr(
-    alloc: Global,
     store: &mut Store,
     context: &Context<'_>,
     asked: &SetAttr<'_>,
     now: Time,
 ) -> Res<'static>
-    ensures { outcome_of result (state_of store.new) context.now ≡ one_or_delay (is_delay (status_of_result (view.res result))) (state_of store.old) context.now now (OpSetAttr (view_set_attr asked.now)) }
+    ensures { outcome_of result (state_of store.new) context.now ≡ of_set_attr.set_attr (state_of store.old) context.now now (view_set_attr asked.now) }
 {
     match judge(store, context, asked) {
-        Ok(setting) => match change(alloc, &mut store.tree, &setting, now) {
+        Ok(setting) => match change(&mut store.tree, &setting, now) {
             Ok(()) => {
                 let given = Mask::new(asked.obj_attributes.attrmask.words);
                 Res::SetAttr {

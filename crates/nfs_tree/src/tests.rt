@@ -30,7 +30,7 @@ fn pages_behind(
     bytes: &[u8],
 ) -> Result<usize, TreeFault> {
     if bytes.is_empty() {
-        tree.resize(alloc, number, offset, &Sets::none(), NOW)?;
+        tree.resize(number, offset, &Sets::none(), NOW)?;
     } else {
         tree.write(alloc, number, offset, bytes, NOW)?;
     }
