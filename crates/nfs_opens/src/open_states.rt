@@ -3,7 +3,6 @@
 ghost use Rattle.std.specs.Prelude.{◌≡◌, ◌≢◌, ◌==◌, ◌&&◌, ◌<◌, ◌≤◌, ◌++◌, ◌∷◌, [], true, not, length, find, filter, map, nat_lt, if◌then◌else◌, OnOk};
 ghost use Rattle.std.specs.Option.{option_copied};
 ghost use Rattle.nfs_xdr.specs.Tables.{In};
-ghost use Rattle.nfs_opens.specs.Index.{IsIndex};
 ghost use Rattle.nfs_opens.specs.Kept.{HasOneEach, whose};
 ghost use Rattle.nfs_opens.specs.Keys.{open_key};
 ghost use Rattle.nfs_opens.specs.Opening.{joins, narrows};
@@ -47,63 +46,6 @@ impl Model for OpenStates {
     ghost view = { λ s. record { items = s.states.items; ready = s.states.ready && (s.by_file.ready && (s.by_client.ready && (s.by_owner.ready && has_room s.counts))) } };
 
     ghost invariant = { λ s. AreOpens s.states.items s.by_file.items s.by_client.items s.by_owner.items s.counts };
-}
-
-/// An open no longer stands among those of its file.
-fn drop_pair(by_file: &mut Index, states: &ByNumber<OpenState>, number: u64)
-    requires { IsIndex (λ o. o.file) (λ o. o.number) states.now.items by_file.old.items }
-    ensures index { IsIndex (λ o. o.file) (λ o. o.number) (filter (λ o. not (o.number == number)) states.now.items) by_file.new.items }
-    ensures room { by_file.new.ready ≡ by_file.old.ready }
-{
-    states.kept();
-    if let Some(open) = states.get(number) {
-        by_file.take(Pair {
-            of: open.file,
-            number,
-        });
-    }
-}
-
-/// An open no longer stands among those of its client.
-fn drop_own_pair(by_client: &mut Index, states: &ByNumber<OpenState>, number: u64)
-    requires { IsIndex (λ o. o.client) (λ o. o.number) states.now.items by_client.old.items }
-    ensures index { IsIndex (λ o. o.client) (λ o. o.number) (filter (λ o. not (o.number == number)) states.now.items) by_client.new.items }
-    ensures room { by_client.new.ready ≡ by_client.old.ready }
-{
-    states.kept();
-    if let Some(open) = states.get(number) {
-        by_client.take(Pair {
-            of: open.client,
-            number,
-        });
-    }
-}
-
-/// An open no longer stands among those of its owner.
-fn drop_owner_pair(by_owner: &mut Index, states: &ByNumber<OpenState>, number: u64)
-    requires { IsIndex open_key (λ o. o.number) states.now.items by_owner.old.items }
-    ensures index { IsIndex open_key (λ o. o.number) (filter (λ o. not (o.number == number)) states.now.items) by_owner.new.items }
-    ensures room { by_owner.new.ready ≡ by_owner.old.ready }
-{
-    states.kept();
-    if let Some(open) = states.get(number) {
-        by_owner.take(Pair {
-            of: open.key(),
-            number,
-        });
-    }
-}
-
-/// An open that goes is counted no longer.
-fn uncount(counts: &mut Counts, states: &ByNumber<OpenState>, number: u64)
-    requires { AreCounted states.now.items counts.old }
-    ensures counted { AreCounted (filter (λ o. not (o.number == number)) states.now.items) counts.new }
-    ensures room { has_room counts.old ≡ true → has_room counts.new ≡ true }
-{
-    states.kept();
-    if let Some(open) = states.get(number) {
-        counts.take(open.file, open.reserved());
-    }
 }
 
 /// An open that is joined by what is asked is counted with that.
@@ -273,10 +215,22 @@ impl OpenStates {
         ensures items { self.new.items ≡ filter (λ o. not (o.number == number)) self.old.items }
         ensures ready { self.old.ready ≡ true → self.new.ready ≡ true }
     {
-        drop_pair(&mut self.by_file, &self.states, number);
-        drop_own_pair(&mut self.by_client, &self.states, number);
-        drop_owner_pair(&mut self.by_owner, &self.states, number);
-        uncount(&mut self.counts, &self.states, number);
+        self.states.kept();
+        if let Some(open) = self.states.get(number) {
+            self.by_file.take(Pair {
+                of: open.file,
+                number,
+            });
+            self.by_client.take(Pair {
+                of: open.client,
+                number,
+            });
+            self.by_owner.take(Pair {
+                of: open.key(),
+                number,
+            });
+            self.counts.take(open.file, open.reserved());
+        }
         self.states.remove(number);
     }
 }
