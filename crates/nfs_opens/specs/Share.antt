@@ -1,5 +1,5 @@
 -- Share access and share deny: READ, WRITE, both or neither (RFC 8881 sections 9.7 and 18.16.1).
-use Rattle.std.specs.Prelude.{ℕ, ◌==◌, Bool, true, false, not, ◌&&◌, ◌||◌, Option, Some, None, if◌then◌else◌}
+use Rattle.std.specs.Prelude.{ℕ, ◌+◌, ◌==◌, Bool, true, false, not, ◌&&◌, ◌||◌, Option, Some, None, if◌then◌else◌}
 use Rattle.nfs_opens.specs.declared.share.Share.{Share}
 
 abbrev pub neither : Share
@@ -13,6 +13,10 @@ share_of bits =
     else if bits == 2 then Some (record { reads = false; writes = true })
     else if bits == 3 then Some (record { reads = true; writes = true })
     else None
+
+-- .. and the number that says it
+abbrev pub bits_of : Share → ℕ
+bits_of a = (if a.reads then 1 else 0) + (if a.writes then 2 else 0)
 
 -- both have a bit
 abbrev pub meets : Share → Share → Bool

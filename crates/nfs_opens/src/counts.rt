@@ -79,6 +79,13 @@ impl Count {
         }
     }
 
+    /// How many opens there are.
+    pub(crate) fn opens(self) -> u64
+        ensures { result ≡ self.opens }
+    {
+        self.opens
+    }
+
     /// What any of the opens may do.
     pub(crate) fn had(self) -> Share
         ensures { result ≡ had self }

@@ -1,11 +1,12 @@
 //! The table of all opens, lock states and locked bytes.
 
-ghost use Rattle.std.specs.Prelude.{◌≡◌, ◌==◌, ◌&&◌, not, find, nat_lt};
+ghost use Rattle.std.specs.Prelude.{◌≡◌, ◌==◌, ◌&&◌, not, length, filter, find, nat_lt};
 ghost use Rattle.std.specs.Option.{option_copied};
 ghost use Rattle.std.specs.List.{list_any};
 ghost use Rattle.nfs_opens.specs.Table.{table, no_opens, open_at, lock_at};
 ghost use Rattle.nfs_opens.specs.Kept.{IsTable};
 ghost use Rattle.nfs_opens.specs.Keys.{open_key, lock_key};
+ghost use Rattle.nfs_opens.specs.Share.{bits_of};
 
 use crate::lock_states::LockStates;
 use crate::locked_files::LockedFiles;
@@ -140,12 +141,26 @@ impl Opens {
         false
     }
 
+    /// How many opens a file has.
+    pub fn opens_of(&self, file: u64) -> usize
+        ensures { result ≡ length (filter (λ o. o.file == file) (table self.now).opens) }
+    {
+        self.opens.count_on(file).opens() as usize
+    }
+
     /// What the opens of a file deny, joined.
     pub fn denies(&self, file: u64) -> Share
         ensures reads { result.reads ≡ list_any (λ o. (o.file == file) && o.deny.reads) (table self.now).opens }
         ensures writes { result.writes ≡ list_any (λ o. (o.file == file) && o.deny.writes) (table self.now).opens }
     {
         self.opens.count_on(file).denied()
+    }
+
+    /// The same as the number on the wire: 0 is neither, 1 READ, 2 WRITE, 3 both.
+    pub fn deny_bits(&self, file: u64) -> u32
+        ensures { result ≡ bits_of (record { reads = list_any (λ o. (o.file == file) && o.deny.reads) (table self.now).opens; writes = list_any (λ o. (o.file == file) && o.deny.writes) (table self.now).opens }) }
+    {
+        self.denies(file).bits()
     }
 
     /// Whether a client has an open.

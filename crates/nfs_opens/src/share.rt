@@ -1,7 +1,7 @@
 //! Share access and share deny (RFC 8881 sections 9.7 and 18.16.1).
 
-ghost use Rattle.std.specs.Prelude.{◌≡◌};
-ghost use Rattle.nfs_opens.specs.Share.{neither, share_of, meets, joined, is_part, is_neither};
+ghost use Rattle.std.specs.Prelude.{◌≡◌, Some};
+ghost use Rattle.nfs_opens.specs.Share.{neither, share_of, bits_of, meets, joined, is_part, is_neither};
 
 /// What an open may do or denies to others: OPEN4_SHARE_ACCESS_READ and _WRITE, or OPEN4_SHARE_DENY_READ and _WRITE.
 #[derive(Clone, Copy, Debug, PartialEq, Eq)]
@@ -33,6 +33,19 @@ impl Share {
                 writes: bits >= 2,
             }),
             _ => None,
+        }
+    }
+
+    /// The number on the wire: 0 is neither, 1 READ, 2 WRITE, 3 both.
+    pub fn bits(self) -> u32
+        ensures bits { result ≡ bits_of self }
+        ensures back { share_of result ≡ Some self }
+    {
+        match (self.reads, self.writes) {
+            (false, false) => 0,
+            (true, false) => 1,
+            (false, true) => 2,
+            (true, true) => 3,
         }
     }
 
