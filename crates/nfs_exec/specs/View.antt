@@ -47,6 +47,10 @@ pub record IsOpened (r : Request) : Type 0 where
 abbrev pub HasReplyRoom : SheetState → Type 0
 HasReplyRoom sheet = length sheet.bytes + 69976 ≤ sheet.room
 
+-- room for the largest result outside a session, CREATE_SESSION's
+abbrev pub HasLoneRoom : SheetState → Type 0
+HasLoneRoom sheet = length sheet.bytes + 92 ≤ sheet.room
+
 -- The answer was put on the sheet, and its machine was left.
 pub record Answers (answered : Answered) (old new : SheetState) (left : Machine) : Type 0 where
   pub put : Puts old new answered.text

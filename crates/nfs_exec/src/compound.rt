@@ -1,6 +1,6 @@
 //! A compound over the tables (RFC 8881 sections 2.10.6.4 and 16.2).
 
-ghost use Rattle.std.specs.Prelude.{◌≡◌, ◌≤◌, ◌<◌, ◌^◌, ◌+◌, ℕ, Option, length};
+ghost use Rattle.std.specs.Prelude.{◌≡◌, ◌≤◌, ◌<◌, ◌^◌, ℕ, Option, length};
 ghost use Rattle.nfs_xdr.specs.Caller.{caller};
 ghost use Rattle.nfs_xdr.specs.Tables.{In};
 ghost use Rattle.nfs_xdr.specs.Limits.{opaque_limit};
@@ -12,7 +12,7 @@ ghost use Rattle.nfs_names.specs.Kept.{IsStore};
 ghost use Rattle.nfs_exec.specs.Machine.{IsMachine, is_delay, machine_of};
 ghost use Rattle.nfs_exec.specs.Sequence.{Runs, sequenced};
 ghost use Rattle.nfs_exec.specs.Compound.{compound, first_item, in_session};
-ghost use Rattle.nfs_exec.specs.View.{Does, IsKept, MayRun, RanIn, CanBear, IsOpened, HasReplyRoom, Answers};
+ghost use Rattle.nfs_exec.specs.View.{Does, IsKept, MayRun, RanIn, CanBear, IsOpened, HasReplyRoom, HasLoneRoom, Answers};
 
 use crate::place::fault_in_first_place;
 use crate::sequence::{Sequenced, accepted, judge};
@@ -26,7 +26,7 @@ use std::alloc::Global;
 
 impl Tables {
     /// Runs a compound that was just opened, and puts its result.
-    pub fn compound(
+    pub(crate) fn compound(
         &mut self,
         alloc: Global,
         args: &mut Compound<'_>,
@@ -78,7 +78,7 @@ impl Tables {
         requires machine { IsMachine (machine_of self.old) }
         requires store { IsStore (machine_of self.old).store }
         requires latest { IsLatest (machine_of self.old).leases now }
-        requires room { length out.old.bytes + 92 ≤ out.old.room }
+        requires room { HasLoneRoom out.old }
         ensures { Does (first_item (machine_of self.old) declared (caller who.now) now (is_delay result) (item arg.now)) result (machine_of self.new) out.old out.new }
     {
         let res = match fault_in_first_place(arg, declared) {

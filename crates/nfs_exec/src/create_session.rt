@@ -1,6 +1,6 @@
 //! CREATE_SESSION (RFC 8881 section 18.36).
 
-ghost use Rattle.std.specs.Prelude.{◌≡◌, ◌≤◌, ◌+◌, ◌++◌, length, Option};
+ghost use Rattle.std.specs.Prelude.{◌≡◌, ◌++◌, Option};
 ghost use Rattle.nfs_xdr.specs.Caller.{caller};
 ghost use Rattle.nfs_xdr.specs.SheetState.{Puts};
 ghost use Rattle.nfs_compound.specs.ArgCodecs.{view_create_session};
@@ -12,7 +12,7 @@ ghost use Rattle.nfs_sessions.specs.Sessions.{create};
 ghost use Rattle.nfs_exec.specs.Machine.{Machine, is_delay, or_delay, refuses, machine_of};
 ghost use Rattle.nfs_names.specs.Kept.{IsStore};
 ghost use Rattle.nfs_exec.specs.CreateSession.{create_session, create_session_number, wish_of, session_made, made_body, channel_of, attrs_of, creates, kept_again, confirmed};
-ghost use Rattle.nfs_exec.specs.View.{without_left, Does};
+ghost use Rattle.nfs_exec.specs.View.{without_left, Does, HasLoneRoom};
 
 use crate::tables::Tables;
 use nfs_clients::{CreateResult, CreateVerdict, Resok};
@@ -30,7 +30,7 @@ impl Tables {
     ///
     /// Where memory is refused the answer is `Delay`, as the last check, and nothing has changed; the result of the number
     /// before, which is answered again, wants none.
-    pub fn create_session(
+    pub(crate) fn create_session(
         &mut self,
         alloc: Global,
         asked: &CreateSession<'_>,
@@ -40,7 +40,7 @@ impl Tables {
     ) -> Status
         requires latest { IsLatest (machine_of self.old).leases now }
         requires store { IsStore (machine_of self.old).store }
-        requires room { length out.old.bytes + 92 ≤ out.old.room }
+        requires room { HasLoneRoom out.old }
         ensures { Does (create_session (machine_of self.old) (caller who.now) now (is_delay result) (view_create_session asked.now)) result (machine_of self.new) out.old out.new }
     {
         let status = match self
@@ -66,7 +66,7 @@ impl Tables {
     ) -> Status
         requires latest { IsLatest (machine_of self.old).leases now }
         requires store { IsStore (machine_of self.old).store }
-        requires room { length out.old.bytes + 92 ≤ out.old.room }
+        requires room { HasLoneRoom out.old }
         ensures { Does (or_delay (is_delay result) (machine_of self.old) create_session_number
             (creates (machine_of self.old) now (view_create_session asked.now) (create self.old.sessions asked.now.clientid (wish_of (machine_of self.old) (view_create_session asked.now)))))
             result (machine_of self.new) out.old out.new }
@@ -166,7 +166,7 @@ fn session_made(asked: &CreateSession<'_>, id: SessionId) -> CreateSessionOk
 
 /// Puts the result of a session that was made, and returns its body.
 fn put_made(asked: &CreateSession<'_>, id: SessionId, out: &mut Sheet) -> Resok
-    requires room { length out.old.bytes + 92 ≤ out.old.room }
+    requires room { HasLoneRoom out.old }
     ensures body { result ≡ made_body (view_create_session asked.now) id }
     ensures put { Puts out.old out.new (done_head Op.CreateSession ++ made_body (view_create_session asked.now) id) }
 {
@@ -179,7 +179,7 @@ fn put_made(asked: &CreateSession<'_>, id: SessionId, out: &mut Sheet) -> Resok
 /// Puts a result that was kept.
 #[tactic(auto, using(nfs_xdr::proofs::Putting::putting))]
 fn put_kept(kept: &CreateResult, out: &mut Sheet) -> Status
-    requires room { length out.old.bytes + 92 ≤ out.old.room }
+    requires room { HasLoneRoom out.old }
     ensures { (m : Machine) → Does (kept_again m kept.now) result m out.old out.new }
 {
     match kept {
@@ -195,7 +195,7 @@ fn put_kept(kept: &CreateResult, out: &mut Sheet) -> Status
 /// Puts a refusal.
 #[tactic(auto, using(nfs_xdr::proofs::Putting::putting))]
 fn put_refusal(status: Status, out: &mut Sheet) -> Status
-    requires room { length out.old.bytes + 92 ≤ out.old.room }
+    requires room { HasLoneRoom out.old }
     ensures { (m : Machine) → Does (refuses m create_session_number status) result m out.old out.new }
 {
     out.put_u32(OpNum::CreateSession.number());

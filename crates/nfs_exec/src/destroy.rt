@@ -14,7 +14,7 @@ use nfs_xdr::Status;
 
 impl Tables {
     /// Ends a session, with its slots.
-    pub fn destroy_session(&mut self, sessionid: &[u8; 16]) -> Res<'static>
+    pub(crate) fn destroy_session(&mut self, sessionid: &[u8; 16]) -> Res<'static>
         ensures outcome { comes_to (machine_of self.new) (view.res result) ≡ destroy_session (machine_of self.old) sessionid.now }
         ensures size { IsSmall (view.res result) }
     {
@@ -25,7 +25,7 @@ impl Tables {
     }
 
     /// Ends a client that has neither a session nor an open, with its lease.
-    pub fn destroy_client(&mut self, client: u64) -> Res<'static>
+    pub(crate) fn destroy_client(&mut self, client: u64) -> Res<'static>
         ensures outcome { comes_to (machine_of self.new) (view.res result) ≡ destroy_client (machine_of self.old) client }
         ensures size { IsSmall (view.res result) }
     {

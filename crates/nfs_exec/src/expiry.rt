@@ -12,7 +12,7 @@ use crate::tables::Tables;
 
 impl Tables {
     /// Drops each client whose lease has run out at the moment `now`, in seconds.
-    pub fn expire(&mut self, now: u64)
+    pub(crate) fn expire(&mut self, now: u64)
         requires { IsStore (machine_of self.old).store }
         ensures machine { machine_of self.new ≡ expired now (machine_of self.old) }
         ensures store { IsStore (machine_of self.new).store }

@@ -10,7 +10,7 @@ use nfs_xdr::Status;
 
 /// Why the item cannot stand in the first place, of so many declared: a fault answers its own status; four operations
 /// stand alone outside a session, and SEQUENCE begins a compound in one.
-pub fn fault_in_first_place(arg: &Arg<'_>, declared: u32) -> Option<Status>
+pub(crate) fn fault_in_first_place(arg: &Arg<'_>, declared: u32) -> Option<Status>
     ensures { result ≡ item_fault declared (item arg.now) }
 {
     match arg {

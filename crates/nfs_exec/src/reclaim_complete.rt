@@ -19,7 +19,7 @@ use nfs_xdr::Status;
 impl Tables {
     /// Notes that a client has nothing more to reclaim, once; of the current filehandle's file system alone (`one`), nothing
     /// is noted.
-    pub fn reclaim_complete(&mut self, context: &Context<'_>, one: bool) -> Res<'static>
+    pub(crate) fn reclaim_complete(&mut self, context: &Context<'_>, one: bool) -> Res<'static>
         ensures outcome { comes_to (machine_of self.new) (view.res result) ≡ reclaim_complete (machine_of self.old) context.now one }
         ensures bounds { IsBounded (view.res result) }
         ensures short { length (spell_result (view.res result)) ≤ reserve }

@@ -33,7 +33,7 @@ const RESERVE: u64 = 12;
 
 /// What came of the operations that were run.
 #[derive(Clone, Copy)]
-pub struct Ran {
+pub(crate) struct Ran {
     /// The status of the last, and NFS4_OK where there was none.
     pub status: Status,
     pub count: u32,
@@ -42,7 +42,7 @@ pub struct Ran {
 impl Tables {
     /// Runs what is left of a compound, up to the first operation whose status is not NFS4_OK, and puts the results. The result
     /// of the compound begins at `start` on the sheet, and its reply may have `limit` bytes, its RPC head among them.
-    pub fn run(
+    pub(crate) fn run(
         &mut self,
         alloc: Global,
         args: &mut Compound<'_>,

@@ -19,7 +19,7 @@ use nfs_xdr::{Status, Who};
 
 /// What a SEQUENCE comes to, before anything is run.
 #[derive(Clone, Copy)]
-pub enum Sequenced<'a> {
+pub(crate) enum Sequenced<'a> {
     /// It is refused, and nothing changes.
     Refuses(Status),
     /// The request is a repeat, and this reply was kept: at most 66,536 bytes.
@@ -32,7 +32,7 @@ pub enum Sequenced<'a> {
 /// NFS4ERR_BADSLOT, NFS4ERR_BAD_HIGH_SLOT, NFS4ERR_SEQ_MISORDERED; where the slot's last number comes again,
 /// NFS4ERR_SEQ_FALSE_RETRY for another caller or other arguments; and where the number is new, NFS4ERR_REQ_TOO_BIG for a
 /// record that is longer than the session's requests, and NFS4ERR_TOO_MANY_OPS.
-pub fn judge<'a>(
+pub(crate) fn judge<'a>(
     sessions: &'a Sessions,
     asked: &Sequence,
     args: &Compound<'_>,
@@ -90,7 +90,7 @@ fn fresh_fault(args: &Compound<'_>, size: usize, channel: &Channel) -> Option<St
 }
 
 /// SEQUENCE's result where the request runs: the session's last slot, twice, and no flag.
-pub fn accepted(asked: &Sequence, channel: &Channel) -> SequenceOk
+pub(crate) fn accepted(asked: &Sequence, channel: &Channel) -> SequenceOk
     ensures { result ≡ accepted asked.now channel.now }
 {
     let last = channel.slots.saturating_sub(1);

@@ -30,7 +30,7 @@ const FIRST: Time = Time {
 impl Tables {
     /// The tables of a new server, whose leases last `lease` seconds and whose root has the mode `root_mode` and the first
     /// moment as its times. `AllocError` where there is no memory for the root and the ends of the queue of leases.
-    pub fn new(
+    pub(crate) fn new(
         alloc: Global,
         instance: u32,
         lease: u32,

@@ -10,6 +10,7 @@ ghost use Rattle.nfs_exec.specs.Expiry.{expired};
 
 use crate::tables::Tables;
 use nfs_compound::Compound;
+use nfs_sessions::Sessions;
 use nfs_xdr::{Sheet, Who};
 use std::alloc::{AllocError, Global};
 use std::marker::Model;
@@ -47,13 +48,14 @@ impl World {
     }
 
     /// Runs a compound of this caller at the moment `now`, in seconds, and puts its COMPOUND4res (RFC 8881 section 16.2.2) on
-    /// the sheet, behind the head of the reply. The compound was just opened, out of a record of `size` bytes; no lease was
-    /// renewed later than `now`; and the sheet has room for 69,976 bytes more: those of a reply of 70,000 bytes that are not
-    /// of its head.
+    /// the sheet, behind the head of the reply. The compound was just opened, out of a record of `size` bytes, and its
+    /// arguments are no longer; `now` is below 2^63, and no lease was renewed later; and the sheet has room for 69,976 bytes
+    /// more: those of a reply of 70,000 bytes that are not of its head. A new request whose record is longer than its
+    /// session's requests is refused here, by NFS4ERR_REQ_TOO_BIG.
     ///
-    /// Each refusal is an answer on the sheet. Where memory is refused, the ten operations that grow a table answer
-    /// NFS4ERR_DELAY as their last check and change nothing: EXCHANGE_ID, CREATE_SESSION, CREATE, LINK, RENAME, OPEN, SETATTR of
-    /// size, WRITE of bytes, LOCK and LOCKU. No other answer wants memory.
+    /// Each refusal is an answer on the sheet. Where memory is refused, the nine operations that grow a table answer
+    /// NFS4ERR_DELAY as their last check and change nothing: EXCHANGE_ID, CREATE_SESSION, CREATE, LINK, RENAME, OPEN, WRITE of
+    /// bytes, LOCK and LOCKU. No other answer wants memory.
     pub fn compound(
         &mut self,
         alloc: Global,
@@ -73,6 +75,13 @@ impl World {
         ensures latest { IsLatest (machine_of self.new).leases now }
     {
         self.tables.compound(alloc, args, who, size, now, out);
+    }
+
+    /// The sessions that stand, to be looked at.
+    pub fn sessions(&self) -> &Sessions
+        ensures { result.now ≡ (machine_of self.now).sessions }
+    {
+        &self.tables.sessions
     }
 
     /// No byte of a file has a writer beside another holder, and no two owners' opens clash, in every world; this does nothing

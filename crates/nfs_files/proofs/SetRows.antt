@@ -1,6 +1,6 @@
 -- SETATTR: the tree's own checks are its last ones.
 use Rattle.std.proofs.Common.{◌≡◌, ℕ, inl, inr, Bool, true, false, not, List, [], ◌∷◌, Option, Some, None, refl, sym, ◌∙◌, ap, subst}
-use Rattle.std.specs.Prelude.{Result, Ok, Err, option_map, nat_lt, ◌&&◌}
+use Rattle.std.specs.Prelude.{Result, Ok, option_map, nat_lt, ◌&&◌}
 use Rattle.std.specs.Option.{option_map_or}
 use Rattle.std.proofs.lemmas.Bool.{cases_Bool, false≢true}
 use Rattle.nfs_xdr.specs.Checks.{first_fault}

@@ -1,5 +1,5 @@
 -- SETATTR (RFC 8881 section 18.30): attributes of an object are set, all that are given or none.
-use Rattle.std.specs.Prelude.{ℕ, ◌||◌, ◌&&◌, Bool, false, not, List, [], ◌∷◌, nat_lt, Option, Some, None, Result, Ok, Err, is_some, option_map, if◌then◌else◌}
+use Rattle.std.specs.Prelude.{ℕ, ◌||◌, ◌&&◌, Bool, false, not, List, [], ◌∷◌, nat_lt, Option, Some, None, Result, Ok, is_some, option_map, if◌then◌else◌}
 use Rattle.nfs_xdr.specs.declared.time.Time.{Time}
 use Rattle.nfs_xdr.specs.declared.status.Status.{Status}
 use Rattle.nfs_xdr.specs.declared.status.Status.TheVariants.{Nfs4Ok, FBig, ServerFault}
