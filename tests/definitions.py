@@ -172,7 +172,8 @@ class Definitions:
     def home_of(self, path, place):
         """The file of specs/ that a path in full leads to, and the name behind it, if any; or a Rust type, as (crate, (path,))."""
         _, crate, part, *rest = path.split(".")
-        if part == "specs" and rest[:1] == ["declared"]:
+        # what a clause on a loan says of a type's row it says of the type
+        if part == "specs" and rest[:1] in (["declared"], ["contracts"]):
             return self.type_of(crate, rest[1:], place), None
         for length in range(len(rest), 0, -1) if part == "specs" else []:
             if (crate, ".".join(rest[:length])) in self.files:
@@ -190,7 +191,7 @@ class Definitions:
                     found = crate, (".".join(path[: length + 1]),)
                     self.declared[found] = declaration(text, head)
                     return found
-        self.faults.append(f"{place}: there is no Rust type for {crate} specs.declared.{'.'.join(path)}")
+        self.faults.append(f"{place}: there is no Rust type for {crate} specs: {'.'.join(path)}")
         return None
 
     def at(self, cited):

@@ -212,6 +212,7 @@ class Plants:
             ("an import that resolves to nothing", "Third.{half}", "there is no file for"),
             ("a name that is not there", "Half.{third}", "defines no third"),
             ("a type that is not there", "declared.Half.{Half}", "there is no Rust type"),
+            ("a row of a type that is not there", "contracts.Half.{the_row}", "there is no Rust type"),
         ):
             self.is_red(what, self.in_lib("Half.{half}", name), why)
         for what, line, why in (
