@@ -1,9 +1,11 @@
 //! A server over ends that fail, and the calls of it that the program does not make.
 
+mod callers;
 mod calls;
 mod failing;
 mod fakes;
 mod talks;
+mod weak;
 
 use nfs_serve::Settings;
 
