@@ -8,7 +8,7 @@ use Rattle.nfs_xdr.specs.Tables.{IsRising, In}
 use Rattle.nfs_results.specs.Result.{Res}
 use Rattle.nfs_results.specs.Results.{status_of_result, spell_result, refusal}
 use Rattle.nfs_opens.specs.declared.records.OpenState.{OpenState}
-use Rattle.nfs_opens.specs.Holding.{HasNoClash}
+use Rattle.nfs_ranges.specs.Holders.{HasNoClash}
 use Rattle.nfs_opens.specs.Table.{clashes_with, as_asked}
 use Rattle.nfs_names.specs.Ending.{has_open}
 use Rattle.nfs_names.specs.State.{State, new_store, moment, state_of}

@@ -27,7 +27,7 @@ use Rattle.nfs_opens.specs.Judging.{judge}
 use Rattle.nfs_opens.specs.Closing.{stands, not_under, without_open, without_lock}
 use Rattle.nfs_opens.specs.Locking as locking
 use Rattle.nfs_opens.specs.Locking.{raised, lock_judged}
-use Rattle.nfs_opens.proofs.HolderLemmas.{unmet}
+use Rattle.nfs_ranges.proofs.HolderLemmas.{unmet}
 use Rattle.nfs_opens.proofs.LockLemmas.{holds_none}
 use Rattle.nfs_opens.proofs.StepLemmas.{judged_tells, first_state}
 use Rattle.nfs_files.specs.Lock.{locks_as}

@@ -30,7 +30,7 @@ use Rattle.nfs_opens.specs.Kept.{IsTable, IsHolder, AreHolders}
 use Rattle.nfs_opens.specs.Closing.{stands, held_within}
 use Rattle.nfs_opens.specs.Calls.{held_without}
 use Rattle.nfs_opens.proofs.FileLemmas.{file_here, file_other, on_file_same}
-use Rattle.nfs_opens.proofs.HolderLemmas.{set_keeps}
+use Rattle.nfs_ranges.proofs.HolderLemmas.{set_keeps}
 use Rattle.nfs_opens.proofs.TableLemmas.{KeepsBytes, holders_left}
 
 -- who holds a byte behind a lock: the lock state that locks, in the range, or whoever held it

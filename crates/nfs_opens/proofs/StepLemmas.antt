@@ -5,7 +5,7 @@ use Rattle.std.proofs.Math.Path.{fun_ext}
 use Rattle.std.specs.Prelude.{◌==◌, ◌^◌, Result, Ok, Err, IfSome, nat_le, ◌&&◌}
 use Rattle.std.proofs.lemmas.Bool.{eqb-true, cases_eq, cases_lt, eq-eqb, ne_eqb, le-leb}
 use Rattle.nfs_ranges.specs.declared.Held.{Held}
-use Rattle.nfs_ranges.specs.Holders.{Holders, holding, cleared, dropped, holds_any}
+use Rattle.nfs_ranges.specs.Holders.{Holders, holding, cleared, dropped, holds_any, HasNoClash}
 use Rattle.nfs_ranges.specs.declared.Kind.{Kind}
 use Rattle.nfs_ranges.specs.Told.{meets}
 use Rattle.nfs_ranges.specs.Facts.{Tells, IsBelow}
@@ -19,7 +19,7 @@ use Rattle.nfs_xdr.specs.declared.status.Status.TheVariants.{OpenMode, ShareDeni
 use Rattle.nfs_xdr.specs.declared.status.Status.{Status}
 use Rattle.nfs_xdr.proofs.Lists.{find_in, in_push, push_in, last_in}
 use Rattle.nfs_xdr.proofs.Tables.{IsRising-push, in_once, IsRising-upto, in_bounds}
-use Rattle.nfs_opens.specs.Holding.{FileHolders, on_file, HasNoClash}
+use Rattle.nfs_opens.specs.Holding.{FileHolders, on_file}
 use Rattle.nfs_opens.specs.Kept.{HasNoByteBehind, IsTable, IsHolder}
 use Rattle.nfs_opens.specs.StateId.{next_seqid, last_number}
 use Rattle.nfs_opens.specs.Table.{Table, open_at, lock_at, with_open, with_lock, Asked, is_own, clashes_with}

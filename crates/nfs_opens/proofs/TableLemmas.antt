@@ -8,12 +8,12 @@ use Rattle.nfs_xdr.specs.Tables.{In}
 use Rattle.nfs_xdr.proofs.Lists.{in_filter, stays_in, in_push, push_in, in_map, map_in, none_any, in_any}
 use Rattle.nfs_xdr.proofs.Tables.{IsRising-push, IsRising-map, IsRising-filter, in_once, IsRising-upto}
 use Rattle.nfs_ranges.specs.declared.Kind.{Kind}
-use Rattle.nfs_ranges.specs.Holders.{Holders, cleared}
+use Rattle.nfs_ranges.specs.Holders.{Holders, cleared, HasNoClash}
 use Rattle.nfs_ranges.specs.Facts.{IsBelow}
 use Rattle.nfs_opens.specs.declared.share.Share.{Share}
 use Rattle.nfs_opens.specs.declared.records.OpenState.{OpenState}
 use Rattle.nfs_opens.specs.declared.records.LockState.{LockState}
-use Rattle.nfs_opens.specs.Holding.{FileHolders, HasNoClash, on_file}
+use Rattle.nfs_opens.specs.Holding.{FileHolders, on_file}
 use Rattle.nfs_opens.specs.Table.{Table, Asked, clashes_with, as_asked, with_open, with_lock, no_opens}
 use Rattle.nfs_opens.specs.Kept.{IsTable, IsHolder, AreHolders}
 use Rattle.nfs_opens.specs.Opening.{new_open, joins, narrows, is_narrower}

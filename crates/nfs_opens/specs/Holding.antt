@@ -1,7 +1,6 @@
 -- The locked bytes of all files: of each file who holds which byte, and how (RFC 8881 section 9.1).
 use Rattle.std.specs.List.{list_any}
-use Rattle.std.specs.Prelude.{◌≡◌, ◌≢◌, ℕ, ◌==◌, Bool, true, List, [], ◌∷◌, Some, None, if◌then◌else◌}
-use Rattle.nfs_ranges.specs.declared.Kind.TheVariants.{Write}
+use Rattle.std.specs.Prelude.{◌≡◌, ℕ, ◌==◌, Bool, true, List, [], ◌∷◌, if◌then◌else◌}
 use Rattle.nfs_ranges.specs.Holders.{Holders, LockedBytes, at, nobody}
 
 -- for each file, each lock state by its number and each byte: how it holds the byte, if it does
@@ -27,7 +26,3 @@ ListsNoMore old new = (f : ℕ) → is_listed f new ≡ true → is_listed f old
 -- one file's holders change, all others stay
 abbrev pub on_file : FileHolders → ℕ → (Holders → Holders) → FileHolders
 on_file held file change f = if f == file then change (held f) else held f
-
--- no byte has a writer beside another holder
-abbrev pub HasNoClash : Holders → Type 0
-HasNoClash h = (s t b : ℕ) → s ≢ t → h s b ≡ Some Write → h t b ≡ None

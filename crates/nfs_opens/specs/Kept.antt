@@ -2,7 +2,7 @@
 use Rattle.std.specs.Prelude.{◌≡◌, ℕ, ◌≤◌, ◌^◌, None, ◌≢◌, ◌==◌, suc, Bool, true, false, List}
 use Rattle.std.specs.List.{list_any}
 use Rattle.nfs_xdr.specs.Tables.{IsRising, In}
-use Rattle.nfs_ranges.specs.Holders.{Holders, LockedBytes}
+use Rattle.nfs_ranges.specs.Holders.{Holders, LockedBytes, HasNoClash}
 use Rattle.nfs_ranges.specs.Facts.{IsBelow}
 use Rattle.nfs_opens.specs.Table.{Kept, Table, table, clashes_with, as_asked}
 use Rattle.nfs_opens.specs.declared.records.OpenState.{OpenState}
@@ -12,7 +12,7 @@ use Rattle.nfs_opens.specs.declared.counts.Counts.{Counts}
 use Rattle.nfs_opens.specs.Counts.{AreCounted}
 use Rattle.nfs_opens.specs.Index.{IsIndex}
 use Rattle.nfs_opens.specs.Keys.{open_key, lock_key}
-use Rattle.nfs_opens.specs.Holding.{FileHolders, HasNoClash, is_listed}
+use Rattle.nfs_opens.specs.Holding.{FileHolders, is_listed}
 
 -- no byte from 2^64 on is held
 abbrev pub HasNoByteBehind : Holders → Type 0

@@ -8,7 +8,6 @@ pub mod Index
 pub mod Keys
 pub mod Lean
 pub mod Judging
-pub mod Laws
 pub mod Locking
 pub mod Opening
 pub mod Share

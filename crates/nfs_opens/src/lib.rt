@@ -20,7 +20,6 @@ mod counts;
 mod index;
 mod judging;
 mod key;
-pub mod laws;
 mod lock_states;
 mod locked_files;
 mod locking;
