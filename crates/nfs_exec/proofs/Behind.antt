@@ -131,7 +131,7 @@ run_sessions limit sofar now choice m x items = kept_run (λ k. k.sessions ≡ m
 
 -- An operation that is not on the store was run.
 
-other_context : (m : Machine) (x : Context) (i : Item) → x ≡ (otherwise m x i).context
+pub other_context : (m : Machine) (x : Context) (i : Item) → x ≡ (otherwise m x i).context
 other_context m x (Operation (OpReclaimComplete one)) = refl
 other_context m x i = refl
 

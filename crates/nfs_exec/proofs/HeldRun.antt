@@ -53,6 +53,7 @@ use Rattle.nfs_exec.specs.Ops.{Done, done, ops, ops_in, ops_of, ops_by, left_by}
 use Rattle.nfs_exec.specs.Held.{IsAlone}
 use Rattle.nfs_exec.proofs.Inside.{AreSpared, StandsBefore, StandsWhile, SparesClient, IsKeptBy, AreSparing, LocksAreKept}
 use Rattle.nfs_files.proofs.KeptOps.{spared, clashing}
+use Rattle.nfs_exec.proofs.Lone.{holds_alone}
 use Rattle.nfs_exec.proofs.OpsRun.{are_run}
 use Rattle.nfs_exec.proofs.WholeRun.{Is, whole_room, whole_event, whole_events, start_whole, otherwise_store}
 
@@ -141,53 +142,6 @@ stands_staying k t stays here is =
       held = λ b lo hi. rw still (is.held b lo hi);
     }
 
--- Outside a session.
-
-confirms_owner : (n : ℕ) (c : ClientRecord) → (change_at n confirms c).owner ≡ c.owner
-confirms_owner n c = elim (c.id == n) as (λ v. (cond v (confirms c) c).owner ≡ c.owner) [ true ↦ refl | false ↦ refl ]
-
-confirms_id : (n : ℕ) (c : ClientRecord) → (change_at n confirms c).id ≡ c.id
-confirms_id n c = elim (c.id == n) as (λ v. (cond v (confirms c) c).id ≡ c.id) [ true ↦ refl | false ↦ refl ]
-
-confirms_mark : (n : ℕ) (c : ClientRecord) → c.id ≡ n → (change_at n confirms c).confirmed ≡ true
-confirms_mark n c is = rw (eq-eqb c.id n is) refl
-
--- the record that is confirmed stands behind it, where another one goes
-confirmed_in : (t : Roster) (id client : ℕ) (result : CreateResult) (c : ClientRecord) → In c t.records → c.id ≡ id → id ≢ client → leaving t id ≡ Some client
-    → In (change_at id (keeps result) (change_at id confirms c)) (with_kept (with_confirmed t id) id result).records
-confirmed_in t id client result c there is other leaves =
-    let left : In c (without t client).records =
-    stays_in (λ (x : ClientRecord). not (x.id == client)) t.records c there (ap not (ne_eqb c.id client (λ same. other (sym is ∙ same)))) in
-    let stays : In c (without_any t (leaving t id)).records = subst (λ o. In c (without_any t o).records) (sym leaves) left in
-    map_in (change_at id (keeps result)) (with_confirmed t id).records (change_at id confirms c) (map_in (change_at id confirms) (without_any t (leaving t id)).records c stays)
-
--- a confirmation behind which a client's owner is confirmed under no other id removes no record of the client's
-none_replaced : (m : Machine) (now id client : ℕ) (body : List ℕ) (t : SessionTable) → IsAlone client m (confirmed (record m { sessions = t }) now id body)
-    → leaving m.clients id ≢ Some client
-none_replaced m now id client body t alone leaves = by_record (client_at m.clients id) refl
-  where
-    by_found : (c : ClientRecord) → client_at m.clients id ≡ Some c → (o : Option ClientRecord) → find (is_other_confirmed_of c) m.clients.records ≡ o → ⊥
-    by_found c at None none =
-        let bad : None ≡ Some client = sym (ap (leaving_by m.clients) at ∙ ap (option_map (λ (d : ClientRecord). d.id)) none) ∙ leaves in absurd cc
-    by_found c at (Some d) found =
-        let gone : Some d.id ≡ Some client = sym (ap (leaving_by m.clients) at ∙ ap (option_map (λ (d : ClientRecord). d.id)) found) ∙ leaves in
-        let same : d.id ≡ client = cc in
-        let here = find_in (λ (c : ClientRecord). c.id == id) m.clients.records c at in
-        let named : c.id ≡ id = eqb-true _ _ here.1 in
-        let there = find_in (is_other_confirmed_of c) m.clients.records d found in
-        let tests = and_parts _ _ there.1 in
-        let owner : d.owner ≡ c.owner = (bytes_eq-Decides d.owner c.owner).0 (and_parts _ _ tests.0).0 in
-        let other : id ≢ client = λ e. false≢true (sym (ap not (eq-eqb d.id c.id (same ∙ sym e ∙ sym named))) ∙ tests.1) in
-        let one = change_at id confirms c in
-        let mild = mild_at (keeps (results.Done body)) id (mild_keeps (results.Done body)) in
-        other (sym named ∙ sym (confirms_id id c) ∙ sym (mild.id one)
-        ∙ alone d (change_at id (keeps (results.Done body)) one) there.0 same (confirmed_in m.clients id client (results.Done body) c here.0 named other leaves)
-        (mild.owner one ∙ confirms_owner id c ∙ sym owner) (mild.mark one ∙ confirms_mark id c named))
-
-    by_record : (o : Option ClientRecord) → client_at m.clients id ≡ o → ⊥
-    by_record None none = let bad : None ≡ Some client = sym (ap (leaving_by m.clients) none) ∙ leaves in absurd cc
-    by_record (Some c) at = by_found c at (find (is_other_confirmed_of c) m.clients.records) refl
-
 without_stands : (k : Told) (s : State) (o : Option ℕ) → o ≢ Some k.client → Stands k s.opens → Stands k (without_any_opens s o).opens
 without_stands k s None other is = is
 without_stands k s (Some gone) other is =
@@ -197,53 +151,9 @@ without_stands k s (Some gone) other is =
 abbrev KeepsIfAlone : Told → Machine → Machine → Type 0
 KeepsIfAlone k before behind = IsAlone k.client before behind → Keeps k behind
 
-made_stands : (k : Told) (m : Machine) (now : ℕ) (c : CreateSession) (t : SessionTable) (v : Result SessionId SessionFault)
-    → Keeps k m → KeepsIfAlone k m (by_created m now c t v).machine
-made_stands k m now c t (Ok id) is alone =
-    without_stands k m.store (leaving m.clients c.clientid) (none_replaced m now c.clientid k.client (made_body c id) t alone) is
-made_stands k m now c t (Err fault) is alone = is
-
-delayed : (k : Told) (m : Machine) (o : Outcome) (refused : Bool) (n : ℕ) → Keeps k m → KeepsIfAlone k m o.machine → KeepsIfAlone k m (or_delay refused m n o).machine
-delayed k m o refused n before after = go (refused && is_ok o.status)
-  where
-    go : (b : Bool) → KeepsIfAlone k m (cond b (refuses m n Delay) o).machine
-    go true alone = before
-    go false alone = after alone
-
-created_stands : (k : Told) (m : Machine) (now : ℕ) (refused : Bool) (c : CreateSession) (v : clients.Verdict)
-    → Keeps k m → KeepsIfAlone k m (by_verdict m now refused c v).machine
-created_stands k m now refused c clients.Stale is alone = is
-created_stands k m now refused c (clients.Again (results.Done body)) is alone = is
-created_stands k m now refused c (clients.Again (results.Refused status)) is alone = is
-created_stands k m now refused c clients.Misordered is alone = is
-created_stands k m now refused c clients.InUse is alone = is
-created_stands k m now refused c clients.Runs is alone =
-    let did = create m.sessions c.clientid (wish_of m c) in
-    delayed k m (creates m now c did) refused create_session_number is (made_stands k m now c did.after did.answer is) alone
-
-destroyed_stands : (k : Told) (m : Machine) (client : ℕ) (o : Option DestroyFault) → Keeps k m → Keeps k (destroyed_unless m client o).machine
-destroyed_stands k m client None is = is
-destroyed_stands k m client (Some fault) is = is
-
-session_stands : (k : Told) (m : Machine) (sessionid : List ℕ) → Keeps k m → Keeps k (destroy_session m sessionid).machine
-session_stands k m sessionid is = elim (cases_Bool (is_some (session_at m.sessions (id_of sessionid)))) [ inl stood ↦ rw stood is | inr gone ↦ rw gone is ]
-
-carried_stands : (k : Told) (m : Machine) (who : Caller) (now : ℕ) (refused : Bool) (i : Item) → Keeps k m → KeepsIfAlone k m (carried_out m who now refused i).machine
-carried_stands k m who now refused (Operation (OpExchangeId e)) is alone = delayed k m (exchange_id m who now e) refused exchange_id_number is (λ alone. is) alone
-carried_stands k m who now refused (Operation (OpCreateSession c)) is alone =
-    created_stands k m now refused c (clients.create_verdict m.clients c.clientid c.sequence who.uid) is alone
-carried_stands k m who now refused (Operation (OpDestroySession sessionid)) is alone = session_stands k m sessionid is
-carried_stands k m who now refused (Operation (OpDestroyClientId client)) is alone =
-    destroyed_stands k m client (destroy_fault m.clients client (has_session m.sessions client)) is
-carried_stands k m who now refused i is alone = is
-
 first_stands : (k : Told) (m : Machine) (declared : ℕ) (who : Caller) (now : ℕ) (refused : Bool) (i : Item) → Keeps k m
     → KeepsIfAlone k m (first_item m declared who now refused i).machine
-first_stands k m declared who now refused i is = go (item_fault declared i)
-  where
-    go : (f : Option Status) → KeepsIfAlone k m (by_fault m (item_number i) f (carried_out m who now refused i)).machine
-    go None alone = carried_stands k m who now refused i is alone
-    go (Some status) alone = is
+first_stands k = holds_alone k.client (λ s. Stands k s.opens) (without_stands k)
 
 -- The whole compound.
 

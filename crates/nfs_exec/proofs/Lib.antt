@@ -20,11 +20,15 @@ pub mod Rounds
 pub mod OpsRun
 pub mod WholeRun
 pub mod Inside
+pub mod Lone
 pub mod HeldRun
 pub mod ToldRun
 pub mod AnsweredRun
 pub mod Renewing
 pub mod Outlasting
 pub mod Lasting
+pub mod OthersOps
+pub mod OthersRun
+pub mod Strangers
 pub mod Delayed
 pub mod DelayedOpen

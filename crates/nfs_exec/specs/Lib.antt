@@ -16,5 +16,6 @@ pub mod Delayed
 pub mod DelayedOpen
 pub mod Ops
 pub mod Held
+pub mod Own
 pub mod Renewing
 pub mod Runs

@@ -33,3 +33,5 @@ pub mod ToldGrants
 pub mod TableSteps
 pub mod TreeSteps
 pub mod TreeFiles
+pub mod OthersTables
+pub mod OthersOps

@@ -19,4 +19,5 @@ pub mod FreeStateid
 pub mod TestStateid
 pub mod Operation
 pub mod Kept
+pub mod Own
 pub mod Laws

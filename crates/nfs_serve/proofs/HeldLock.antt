@@ -99,10 +99,10 @@ all_spared k (x ∷ ds) e d there = (let p = and_parts _ _ e in elim there [
 
 -- A client's record has its owner, and no other record has.
 
-abbrev is_own : ℕ → List ℕ → ClientRecord → Bool
+abbrev pub is_own : ℕ → List ℕ → ClientRecord → Bool
 is_own client owner c = if c.id == client then bytes_eq c.owner owner else not (bytes_eq c.owner owner)
 
-abbrev all_own : ℕ → List ℕ → List ClientRecord → Bool
+abbrev pub all_own : ℕ → List ℕ → List ClientRecord → Bool
 all_own client owner [] = true
 all_own client owner (c ∷ cs) = is_own client owner c && all_own client owner cs
 
@@ -119,7 +119,7 @@ own_in client owner (x ∷ cs) e c there = (let p = and_parts _ _ e in elim ther
   | inr later ↦ own_in client owner cs p.1 c later
 ])
 
-alone : (client : ℕ) (owner : List ℕ) (first left : Machine) → all_own client owner first.clients.records ≡ true
+pub alone : (client : ℕ) (owner : List ℕ) (first left : Machine) → all_own client owner first.clients.records ≡ true
     → all_own client owner left.clients.records ≡ true → IsAlone client first left
 alone client owner first left e f a b in_a is in_b same confirmed =
     let named : a.owner ≡ owner = (bytes_eq-Decides a.owner owner).0 (sym (own_in client owner first.clients.records e a in_a) ∙ eq-eqb a.id client is) in

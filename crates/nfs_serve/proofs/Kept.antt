@@ -140,7 +140,7 @@ told_left k m None front lock back is e tells = absurd (none_at_end front lock b
 told_left k m (Some event) front lock back is e tells =
     let kept = told_kept k m event front lock back is e tells in record { within = kept.within; behind = kept.behind; renewed = kept.renewed }
 
-least_now : (s : State) (c : Came) (client : ℕ)
+pub least_now : (s : State) (c : Came) (client : ℕ)
     → AtLeast (cond (option_map_or (renews client (before s c)) (asked_by s c) false) (taken s c) 0) client (left (before s c) (asked_by s c)).leases
 least_now s c client =
     for_asked (λ o. AtLeast (cond (option_map_or (renews client (before s c)) o false) (taken s c) 0) client (left (before s c) o).leases) s c

@@ -44,3 +44,5 @@ pub mod KeptInside
 pub mod Outlived
 pub mod HeldLock
 pub mod WrongLocks
+pub mod Others
+pub mod OthersWorked

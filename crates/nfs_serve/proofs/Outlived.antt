@@ -26,16 +26,16 @@ use Rattle.nfs_serve.proofs.Kept.{lease_all}
 
 -- What holds of every machine.
 
-machine_before : (s : State) (c : Came) → IsMachine s.machine → IsMachine (before s c)
+pub machine_before : (s : State) (c : Came) → IsMachine s.machine → IsMachine (before s c)
 machine_before s c is = of_expired s.machine (taken s c) is
 
-machine_next : (s : State) (c : Came) → IsMachine s.machine → IsMachine (next s c).machine
+pub machine_next : (s : State) (c : Came) → IsMachine s.machine → IsMachine (next s c).machine
 machine_next s c is =
     let m = machine_before s c is in
     subst (λ (s : State). IsMachine s.machine) (sym (next_is s c))
     (for_asked (λ o. IsMachine (left (before s c) o)) s c m (λ r who. of_compound (before s c) r who (length c.call) (taken s c) c.choice m))
 
-machine_all : (s : State) (records : List Came) → IsMachine s.machine → IsMachine (all_next s records).machine
+pub machine_all : (s : State) (records : List Came) → IsMachine s.machine → IsMachine (all_next s records).machine
 machine_all s [] is = is
 machine_all s (c ∷ more) is = machine_all (next s c) more (machine_next s c is)
 
@@ -84,7 +84,7 @@ up_all s (c ∷ more) client last sound up =
 
 -- Who holds a byte.
 
-confirmed_is : (t : Roster) (client : ℕ) → is_confirmed t client ≡ true → is_client t client ≡ true
+pub confirmed_is : (t : Roster) (client : ℕ) → is_confirmed t client ≡ true → is_client t client ≡ true
 confirmed_is t client = go (client_at t client)
   where
     go : (o : Option ClientRecord) → option_map_or (λ (c : ClientRecord). c.confirmed) o false ≡ true → is_some o ≡ true

@@ -34,4 +34,5 @@ pub mod Kept
 pub mod Outlived
 pub mod HeldLock
 pub mod WrongLocks
+pub mod Others
 pub mod Shows

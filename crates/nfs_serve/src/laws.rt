@@ -11,6 +11,7 @@ ghost use Rattle.nfs_serve.specs.Kept.{LockKept, EachIsTold, OnlyOneIsTold, Leas
 ghost use Rattle.nfs_serve.specs.LostReply.{IsAccepted, IsOverAWire};
 ghost use Rattle.nfs_serve.specs.Network.{ExactlyOnce, AnswersExecuted};
 ghost use Rattle.nfs_serve.specs.Numbered.{AnswersNumbered, ExactlyOnceByNumber, XidsSuffice};
+ghost use Rattle.nfs_serve.specs.Others.{OthersLeaveAll, StrangersChangeNothing, ComeInTime};
 ghost use Rattle.nfs_serve.specs.Outlived.{NoneOutlives};
 ghost use Rattle.nfs_serve.specs.Points.{NoClash};
 ghost use Rattle.nfs_serve.specs.PerfectWire.{AsOverAWire};
@@ -196,4 +197,22 @@ pub fn locks_beside_are_told()
 /// than the client was told and a lease that is set back; and `no_lock_outlives_its_client` refuses a lease that never runs out.
 pub fn wrong_locks_are_refused()
     ensures { AreRefused }
+{}
+
+/// Nobody else touches what is a client's: behind a record that ran in a session of it, while its lease lasts and nobody confirms another id for its
+/// owner, records of others leave its opens, its lock states, their stateids and the bytes that they hold as they were.
+pub fn others_leave_all()
+    ensures { OthersLeaveAll }
+{}
+
+/// What does not name a client, by a session, an id or its owner, leaves it all while its lease lasts: its record, its sessions with the replies that they
+/// keep, its lease, its opens, its lock states and the bytes that they hold.
+pub fn strangers_change_nothing()
+    ensures { StrangersChangeNothing }
+{}
+
+/// The definitions compute: behind a client's LOCK another client comes, opens the same file and asks for the byte. That run meets the premises of
+/// `others_leave_all` and `strangers_change_nothing`, which refuse one that drops the lock state or closes the open meanwhile.
+pub fn others_come_in_time()
+    ensures { ComeInTime }
 {}

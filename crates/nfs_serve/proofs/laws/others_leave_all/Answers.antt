@@ -1,0 +1,5 @@
+use Rattle.nfs_serve.proofs.Others.{others_leave_all}
+use Rattle.nfs_serve.proofs.laws.others_leave_all.Goals as goal
+
+pub returns : goal.returns
+returns c = others_leave_all
