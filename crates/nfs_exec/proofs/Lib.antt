@@ -30,5 +30,6 @@ pub mod Lasting
 pub mod OthersOps
 pub mod OthersRun
 pub mod Strangers
+pub mod PromptRun
 pub mod Delayed
 pub mod DelayedOpen

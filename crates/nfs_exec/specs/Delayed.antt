@@ -1,9 +1,11 @@
 -- Memory refused at a place of a compound (RFC 8881 sections 2.3, 2.10.6 and 15.1.1.3): it makes no difference, or the operation there
 -- answers NFS4ERR_DELAY, and what is left is as if the compound ended in front of it.
 use Rattle.std.specs.Prelude.{◌≡◌, ◌⊎◌, ℕ, suc, ◌≤◌, ◌||◌, Bool, true, false, List, ◌++◌, take, slice_get, Option, Some, None}
+use Rattle.nfs_xdr.specs.declared.status.Status.{Status}
 use Rattle.nfs_xdr.specs.declared.status.Status.TheVariants.{Nfs4Ok, Delay}
+use Rattle.nfs_xdr.specs.Tables.{In}
 use Rattle.nfs_xdr.specs.Caller.{Caller}
-use Rattle.nfs_compound.specs.Operation.{Item, Operation, Fault, OpExchangeId, OpCreateSession}
+use Rattle.nfs_compound.specs.Operation.{Op, Item, Operation, Fault, OpExchangeId, OpCreateSession}
 use Rattle.nfs_compound.specs.Request.{Request, item_number}
 use Rattle.nfs_compound.specs.declared.session_args.Sequence.{Sequence}
 use Rattle.nfs_results.specs.Results.{refusal, spell_result, spell_compound_head}
@@ -11,9 +13,11 @@ use Rattle.nfs_names.specs.declared.context.Context.{Context}
 use Rattle.nfs_names.specs.State.{State}
 use Rattle.nfs_names.specs.Operation as names
 use Rattle.nfs_files.specs.Operation as files
-use Rattle.nfs_exec.specs.Machine.{Machine, IsMachine}
-use Rattle.nfs_exec.specs.Compound.{Answered, keeps, compound}
-use Rattle.nfs_exec.specs.Laws.{first_runs}
+use Rattle.nfs_exec.specs.Machine.{Machine, IsMachine, starts, is_delay}
+use Rattle.nfs_exec.specs.Sequence.{Refuses, sequenced}
+use Rattle.nfs_exec.specs.Compound.{Answered, first_item, keeps, compound}
+use Rattle.nfs_exec.specs.Laws.{Event, Asks, all_stepped, first_runs}
+use Rattle.nfs_exec.specs.Ops.{Done, ops_by}
 
 -- What may want memory: the operations on the tree and on open files that are said to, and the two that make clients and sessions.
 abbrev pub grows : State → Context → Item → Bool
@@ -68,3 +72,15 @@ pub record IsDelayed (m : Machine) (r : Request) (who : Caller) (size now place 
 abbrev pub DelayIsACut : Type 0
 DelayIsACut = (m : Machine) (r : Request) (who : Caller) (size now place : ℕ) → IsMachine m
     → (compound m r who size now (Some place) ≡ compound m r who size now None) ⊎ IsDelayed m r who size now place
+
+-- With memory no operation of a request answers NFS4ERR_DELAY, neither behind its SEQUENCE nor alone outside a session; and SEQUENCE does not. What cannot be
+-- read is no operation.
+pub record IsNotDelayed (m : Machine) (r : Request) (who : Caller) (size now : ℕ) : Type 0 where
+  pub behind : (d : Done) (op : Op) → In d (ops_by m (Asks r who size now None)) → d.item ≡ Operation op → is_delay d.status ≡ false
+  pub alone : (op : Op) → is_delay (first_item m r.declared who now false (Operation op)).status ≡ false
+  pub first : (s : Sequence) (status : Status) → sequenced m r who size s ≡ Refuses status → is_delay status ≡ false
+
+-- in every machine that events reach, though memory may have been refused before
+abbrev pub NothingDelays : Type 0
+NothingDelays = (mode instance lease : ℕ) (events : List Event) (r : Request) (who : Caller) (size now : ℕ)
+    → IsNotDelayed (all_stepped (starts mode instance lease) events) r who size now

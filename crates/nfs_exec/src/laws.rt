@@ -1,7 +1,7 @@
 //! Laws of compounds and of expiry, over their definitions.
 
 ghost use Rattle.nfs_exec.specs.Laws.{RepeatsChangeNothing, RefusalsChangeNothing, NeverRunsAgain, ExpiresOnce, ExpiryFindsNothing};
-ghost use Rattle.nfs_exec.specs.Delayed.{DelayIsACut};
+ghost use Rattle.nfs_exec.specs.Delayed.{DelayIsACut, NothingDelays};
 ghost use Rattle.nfs_exec.specs.DelayedOpen.{IsWorked};
 ghost use Rattle.nfs_exec.specs.Ops.{OpsAreRun, OpsAreRunIn, AnswersAreTheirs};
 ghost use Rattle.nfs_exec.specs.Runs.{NoneInRuns};
@@ -35,6 +35,11 @@ pub fn expiry_finds_nothing()
 /// those of the same compound cut in front of that operation, but for the last result and for what its slot keeps.
 pub fn delay_is_a_cut()
     ensures { DelayIsACut }
+{}
+
+/// Where memory is not refused no operation answers NFS4ERR_DELAY, in whatever state a server reaches.
+pub fn nothing_delays()
+    ensures { NothingDelays }
 {}
 
 /// An OPEN that gets no memory, its number again and the next one, computed to their worked answers.

@@ -35,3 +35,5 @@ pub mod TreeSteps
 pub mod TreeFiles
 pub mod OthersTables
 pub mod OthersOps
+pub mod Prompt
+pub mod PromptFiles

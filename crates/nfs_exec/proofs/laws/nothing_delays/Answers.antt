@@ -1,0 +1,5 @@
+use Rattle.nfs_exec.proofs.PromptRun.{nothing_delays}
+use Rattle.nfs_exec.proofs.laws.nothing_delays.Goals as goal
+
+pub returns : goal.returns
+returns c = nothing_delays
