@@ -1,5 +1,5 @@
 -- A compound that runs in no session of a client leaves it what it has.
-use Rattle.std.proofs.Common.{◌≡◌, ◌≢◌, ℕ, Bool, true, false, cond, eqb, not, List, [], ◌∷◌, Option, Some, None, sym, ap}
+use Rattle.std.proofs.Common.{◌≡◌, ℕ, Bool, true, false, cond, eqb, not, List, [], ◌∷◌, Option, Some, None, sym, ap}
 use Rattle.std.specs.Prelude.{◌==◌}
 use Rattle.std.specs.Option.{option_map_or}
 use Rattle.std.proofs.lemmas.Bool.{ne_eqb, eqb-false}
@@ -12,7 +12,6 @@ use Rattle.nfs_sessions.specs.Id.{id_of}
 use Rattle.nfs_lease.specs.Renewals.{has_run_out}
 use Rattle.nfs_opens.specs.Table.{Table}
 use Rattle.nfs_names.specs.Context.{begins}
-use Rattle.nfs_names.specs.State.{State}
 use Rattle.nfs_exec.specs.Machine.{Machine}
 use Rattle.nfs_exec.specs.CreateSession.{without_any_opens}
 use Rattle.nfs_exec.specs.Run.{is_here, behind_here}

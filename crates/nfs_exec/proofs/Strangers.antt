@@ -1,5 +1,5 @@
 -- A request that does not name a client leaves it all that it has.
-use Rattle.std.proofs.Common.{◌≡◌, ◌≢◌, ℕ, suc, ◌+◌, ◌≤◌, Bool, true, false, cond, eqb, not, List, [], ◌∷◌, Option, Some, None, Result, Ok, Err, refl, sym, ◌∙◌, ap, subst, arith, inl, inr}
+use Rattle.std.proofs.Common.{◌≡◌, ◌≢◌, ℕ, suc, ◌≤◌, Bool, true, false, cond, eqb, not, List, [], ◌∷◌, Option, Some, None, Result, Ok, Err, refl, sym, ◌∙◌, ap, arith, inl, inr}
 use Rattle.std.specs.Prelude.{◌==◌, ◌&&◌, ◌||◌, filter, find, bytes_eq, is_some, option_map}
 use Rattle.std.specs.Option.{option_map_or}
 use Rattle.std.proofs.lemmas.Bool.{cases_Bool, eqb-true, ne_eqb, eqb-false, and_parts, false≢true}
@@ -11,10 +11,10 @@ use Rattle.nfs_xdr.proofs.Lists.{find_in, find_kept, find_push_some, filter_past
 use Rattle.nfs_xdr.proofs.Tables.{at_without, in_bounds, in_once}
 use Rattle.nfs_compound.specs.Operation.{Item, Operation, OpExchangeId, OpCreateSession, OpDestroySession, OpDestroyClientId, OpSequence}
 use Rattle.nfs_compound.specs.Request.{Request, item_number}
-use Rattle.nfs_compound.specs.SessionArgs.{ExchangeId, CreateSession}
+use Rattle.nfs_compound.specs.SessionArgs.{CreateSession}
 use Rattle.nfs_compound.specs.declared.session_args.Sequence.{Sequence}
-use Rattle.nfs_clients.specs.Roster.{ClientRecord, Roster, IsRoster, id_of as client_id, next_id, client_at, without, is_unconfirmed_of, unconfirmed_of}
-use Rattle.nfs_clients.specs.ExchangeId.{Ask, Case, Refuses, Stays, Adds, case_of, does, new_client, with_new}
+use Rattle.nfs_clients.specs.Roster.{ClientRecord, Roster, IsRoster, id_of as client_id, next_id, client_at, is_unconfirmed_of, unconfirmed_of}
+use Rattle.nfs_clients.specs.ExchangeId.{Ask, Case, Refuses, Stays, Adds, case_of, does, new_client}
 use Rattle.nfs_clients.specs.CreateSession as clients
 use Rattle.nfs_clients.specs.CreateSession.{leaving, leaving_by, without_any, confirms, keeps, with_confirmed, is_other_confirmed_of}
 use Rattle.nfs_clients.specs.DestroyClientId.{destroy_fault}
@@ -26,7 +26,7 @@ use Rattle.nfs_sessions.specs.declared.channel.Wish.{Wish}
 use Rattle.nfs_sessions.specs.declared.id.SessionId.{SessionId}
 use Rattle.nfs_sessions.specs.declared.sessions.SessionFault.{SessionFault}
 use Rattle.nfs_sessions.specs.SessionSlots.{GrantedSlots}
-use Rattle.nfs_sessions.specs.Sessions.{Session, SessionTable, is_session, session_at, create, create_unless, create_fault, with_slots, keep}
+use Rattle.nfs_sessions.specs.Sessions.{Session, SessionTable, is_session, session_at, create, create_unless, create_fault, with_slots}
 use Rattle.nfs_lease.specs.Renewals.{Book, has_run_out, with_lease, with_renewal, without_lease}
 use Rattle.nfs_names.specs.Context.{begins}
 use Rattle.nfs_exec.specs.Machine.{Machine, IsMachine, Outcome, is_ok, or_delay, refuses}
@@ -39,7 +39,7 @@ use Rattle.nfs_exec.specs.Sequence as sequence
 use Rattle.nfs_exec.specs.Sequence.{Sequenced, sequenced}
 use Rattle.nfs_exec.specs.Compound.{carried_out, by_fault, first_item, bare, renewed, begun, in_session, by_first, compound}
 use Rattle.nfs_exec.specs.Expiry.{expired}
-use Rattle.nfs_exec.specs.Own.{sessions_of, IsAsBefore, has_owner, is_id_of, is_named_in}
+use Rattle.nfs_exec.specs.Own.{sessions_of, IsAsBefore, has_owner, is_named_in}
 use Rattle.nfs_exec.proofs.Behind.{run_leases, run_sessions}
 use Rattle.nfs_exec.proofs.WholeRun.{Is}
 use Rattle.nfs_files.proofs.OthersTables.{same, both, clients_gone, filter_changed, filter_pushed}
