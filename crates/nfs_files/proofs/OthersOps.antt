@@ -341,4 +341,3 @@ pub item_apart : (c : ℕ) (refused : Bool) (s : State) (x : Context) (now : Tim
 item_apart c refused s x now (Operation op) is other =
     by_delay (λ u y. Apart c s u) (grows s x op && refused) s x (arguments op).op (one s x now op) (same c s.opens) (one_apart c s x now op is other)
 item_apart c refused s x now (Fault n status) is other = same c s.opens
-

@@ -70,9 +70,9 @@ pub open_changed : (c client : ℕ) (t : Table) (n : ℕ) (f : OpenState → Ope
     → HasAsBefore c t (with_open t n f)
 open_changed c client t n f other mild mine = record {
   opens = filter_changed (λ (o : OpenState). o.client == c) (λ (o : OpenState). o.number == n) f t.opens (λ o there named. (
-        ne_eqb (f o).client c (not_it c client (f o).client other (mild o ∙ mine o there (eqb-true _ _ named))),
-        ne_eqb o.client c (not_it c client o.client other (mine o there (eqb-true _ _ named))),
-      ));
+    ne_eqb (f o).client c (not_it c client (f o).client other (mild o ∙ mine o there (eqb-true _ _ named))),
+    ne_eqb o.client c (not_it c client o.client other (mine o there (eqb-true _ _ named))),
+  ));
   locks = refl;
   bytes = λ l there own file b. refl;
   instance = refl;
@@ -83,9 +83,9 @@ pub lock_changed : (c client : ℕ) (t : Table) (n : ℕ) (f : LockState → Loc
 lock_changed c client t n f held other mild mine beside = record {
   opens = refl;
   locks = filter_changed (λ (l : LockState). l.client == c) (λ (l : LockState). l.number == n) f t.locks (λ l there named. (
-        ne_eqb (f l).client c (not_it c client (f l).client other (mild l ∙ mine l there (eqb-true _ _ named))),
-        ne_eqb l.client c (not_it c client l.client other (mine l there (eqb-true _ _ named))),
-      ));
+    ne_eqb (f l).client c (not_it c client (f l).client other (mild l ∙ mine l there (eqb-true _ _ named))),
+    ne_eqb l.client c (not_it c client l.client other (mine l there (eqb-true _ _ named))),
+  ));
   bytes = λ l there own file b. beside file l.number b (λ named. other (sym (mine l there named) ∙ own));
   instance = refl;
 }
