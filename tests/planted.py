@@ -9,6 +9,7 @@ import io
 from pathlib import Path
 
 LIB, LAWS_AT, MORE = "crates/tried/src/lib.rt", "crates/tried/src/laws.rt", "crates/tried/src/more.rt"
+PAIR_AT = "crates/tried/src/pair.rt"
 HALF, WORDS_AT = "crates/tried/specs/Half.antt", "crates/tried/specs/Words.antt"
 BELIEVED, PROMISES, README = "docs/BELIEVED.md", "docs/PROMISES.md", "README.md"
 
@@ -54,6 +55,16 @@ GHOST = """ghost use Rattle.tried.specs.Words.{quotient};
 
 impl Model for Pair {
     ghost view = { λ p. quotient 4 2 };
+}
+"""
+HOLDER = """use crate::more::Inner;
+
+pub struct Pair {
+    inner: Inner,
+}
+
+impl Model for Pair {
+    ghost view = { λ p. p.inner };
 }
 """
 TRAIT = """ghost use Rattle.tried.specs.Words.{quotient};
@@ -245,10 +256,12 @@ class Plants:
 
     def ghosts(self):
         self.is_stale("a ghost of an impl", {MORE: GHOST})
-        shown = {"crates/tried/src/pair.rt": "pub struct Pair {\n}\n", **self.in_lib("pub mod laws;", "pub mod laws;\npub use pair::Pair;")}
+        shown = {PAIR_AT: "pub struct Pair {\n}\n", **self.in_lib("pub mod laws;", "pub mod laws;\npub use pair::Pair;")}
         self.is_right("a type that is shown", shown, 2)
         self.is_right("and a ghost of it in another source", {**shown, MORE: GHOST}, 4)
         self.is_right("a ghost of a type that is not shown", {MORE: GHOST}, 2)
+        inner = "pub(crate) struct Inner {\n}\n\n" + GHOST.replace("Pair", "Inner")
+        self.is_right("a view of a type that a shown one holds", {**self.in_lib("pub mod laws;", "pub mod laws;\npub use pair::Pair;"), PAIR_AT: HOLDER, MORE: inner}, 4)
         shown = {MORE: TRAIT, **self.in_lib("pub mod laws;", "pub mod laws;\npub use more::Halver;")}
         self.is_right("what a trait that is shown gives a ghost", shown, 4)
 

@@ -8,7 +8,7 @@ has to be one crate that has it. Laws that no section names come last."""
 import hashlib
 import re
 
-from definitions import FUNCTION, RUST_IMPORT, Definitions
+from definitions import FUNCTION, RUST_IMPORT, Definitions, declaration
 from statements import Statements, parts_of_record
 
 CALLS = "The calls that the program makes"
@@ -147,7 +147,35 @@ class Promises:
                 made.stated += [(crate, it) for it in dict.fromkeys(str(it) for it in clauses if it.kind != "ghost")]
                 for it in clauses:
                     self.must_state(path, [it] * (it.kind == "ensures"), f"{crate} {it}")
+        self.take_held(made)
         return made
+
+    def take_held(self, made):
+        """Has the views of types that are shown nowhere state the promise too, where a type that is shown holds them: its own view goes by
+        theirs. What only has to hold of them is proved, and states nothing here."""
+        structs = {name: (path, words) for path, name, words in self.structs()}
+        shown, due = set(), [it.owner for _, it in self.ghosts() if it.owner in structs and self.is_taken(made, it)]
+        while due:
+            owner = due.pop()
+            if owner not in shown:
+                shown.add(owner)
+                due += [it for it in structs[owner][1] if it in structs]
+        for path, it in self.ghosts():
+            if it.owner in shown and it.name in ("Value", "view") and not self.is_taken(made, it):
+                self.take(made, self.all.place(path).parts[0], path, [it])
+
+    def structs(self):
+        """The types that the crates' sources declare, each with the names in its declaration."""
+        for path in sorted(self.top.glob("crates/*/src/**/*.rt")):
+            text = path.read_text(encoding="utf-8")
+            for head in re.finditer(r"^(?:pub(?:\([^)]*\))? )?(?:struct|enum) (\w+)", text, re.M):
+                yield path, head[1], set(re.findall(r"\w+", declaration(text, head)))
+
+    def ghosts(self):
+        return [(path, it) for path in sorted(self.top.glob("crates/*/src/**/*.rt")) for it in self.all.read_source(path)[0] if it.kind == "ghost"]
+
+    def is_taken(self, made, it):
+        return any(text.startswith(f"{crate} {it} ghost: ") for text in made.texts for crate in [text.partition(" ")[0]])
 
     def is_program(self, crate):
         return (self.top / "crates" / crate / "src/main.rt").is_file()
