@@ -48,8 +48,6 @@ pub struct Sockets<'a, R: rt::Clock> {
     at_once: usize,
     /// How long a connection is silent at least before a new one is given its port.
     idle: Duration,
-    /// The port whose turn is next.
-    turn: usize,
     /// How many connections are still to be accepted.
     left: u32,
     /// The moment of the last wait.
@@ -80,7 +78,6 @@ impl<'a, R: Net + AllocGlobal + rt::Clock> Sockets<'a, R> {
             slots: [const { None }; PORTS],
             at_once: PORTS.min(at_once as usize),
             idle: Duration::from_secs(u64::from(idle)),
-            turn: 0,
             left: connections,
             now: Instant::now(rt).ok(),
             failed: false,
@@ -174,10 +171,10 @@ impl<R: rt::Clock> Sockets<'_, R> {
         Ok(())
     }
 
-    /// Looks at which connections are ready, and waits for one or for the listener where none is.
-    fn wait(&mut self) -> io::Result<()> {
+    /// Looks at which connections are ready, and waits for one or for the listener where none is and it may wait.
+    fn wait(&mut self, may_wait: bool) -> io::Result<()> {
         let ready = self.slots.iter().flatten().any(|slot| slot.ready);
-        let timeout = if ready {
+        let timeout = if ready || !may_wait {
             Some(Duration::ZERO)
         } else if self.calling && self.left > 0 {
             Some(Duration::from_millis(TICK))
@@ -213,34 +210,29 @@ fn passes(e: &io::Error) -> bool {
 impl<R: rt::Clock> Ports for Sockets<'_, R> {
     ghost log = { λ _. None };
 
-    fn next(&mut self) -> Next {
-        for _ in 0..u64::MAX {
-            for port in self.turn..PORTS {
-                self.turn = port + 1;
-                if let Some(slot) = &self.slots[port] {
-                    if slot.ready {
-                        return Next::Turn(port as u32);
-                    }
-                }
-            }
-            match self.accept() {
-                Ok(Some(port)) => return Next::Opened(port),
-                Ok(None) => {}
-                Err(_) => {
-                    self.failed = true;
-                    return Next::Over;
-                }
-            }
-            if self.left == 0 && self.slots.iter().all(|slot| slot.is_none()) {
-                return Next::Over;
-            }
-            if self.wait().is_err() {
-                self.failed = true;
-                return Next::Over;
-            }
-            self.turn = 0;
+    fn next(&mut self, may_wait: bool) -> Next {
+        let Ok(opened) = self.accept() else {
+            self.failed = true;
+            return Next::Over;
+        };
+        if self.left == 0 && self.slots.iter().all(|slot| slot.is_none()) {
+            return Next::Over;
         }
-        Next::Over
+        if self.wait(may_wait).is_err() {
+            self.failed = true;
+            return Next::Over;
+        }
+        match opened {
+            Some(port) => Next::Opened(port),
+            None => Next::Nobody,
+        }
+    }
+
+    fn is_ready(&self, port: u32) -> bool {
+        match self.slots.get(port as usize) {
+            Some(Some(slot)) => slot.ready,
+            _ => false,
+        }
     }
 
     fn read(&mut self, port: u32, buf: &mut [u8]) -> Came {

@@ -1,7 +1,7 @@
 -- The account of a connection that is served all along.
 use Rattle.std.proofs.Common.{◌≡◌, ℕ, List, [], ◌∷◌, ◌++◌, Bool, true, false, refl, sym, ap, subst, ◌∙◌, append_assoc, append-nil}
 use Rattle.nfs_serve.specs.Step.{State}
-use Rattle.nfs_serve.specs.Desk.{Desk, Act, Opened, Turn, Over, Came, ReadBlocked, Ended, Took, WriteBlocked, Failed, Closed, Stepped, Goes}
+use Rattle.nfs_serve.specs.Desk.{Desk, Act, Opened, Over, Came, ReadBlocked, Ended, Took, WriteBlocked, Failed, Closed, Stepped, Goes}
 use Rattle.nfs_serve.specs.Account.{Account}
 
 both : {A : Type 0} (b : Bool) → b ≡ true → b ≡ false → A
@@ -14,7 +14,6 @@ both b h k = absurd (no (sym h ∙ k))
 dead : (port : ℕ) (s t : State) (d e : Desk) (acts : List Act) → Goes port s d acts t e → d.live ≡ false → e.live ≡ false
 dead port s t d e [] h off = ap (λ x. x.live) h.1 ∙ off
 dead port s t d e (Opened ∷ acts) h off = absurd h.2
-dead port s t d e (Turn ∷ acts) h off = absurd h.2
 dead port s t d e (Over ∷ acts) h off = absurd h.2
 dead port s t d e (Came bytes ∷ acts) h off = let (u, c, does, rest) = h in both d.live does.1.live off
 dead port s t d e (ReadBlocked ∷ acts) h off = let (u, c, does, rest) = h in both d.live does.1.live off
@@ -33,7 +32,6 @@ account port s t d e [] h on = record {
   out_order = rw append-nil (sym (ap (λ x. x.owed) h.1));
 }
 account port s t d e (Opened ∷ acts) h on = absurd h.2
-account port s t d e (Turn ∷ acts) h on = absurd h.2
 account port s t d e (Over ∷ acts) h on = absurd h.2
 account port s t d e (Came bytes ∷ acts) h on =
     let (u, c, does, rest) = h in

@@ -7,7 +7,9 @@ pub mod Speaking
 pub mod Framing
 pub mod Owing
 pub mod Advancing
+pub mod TurnEnds
 pub mod Rounds
+pub mod Sweeps
 pub mod Accounts
 pub mod Stepping
 pub mod Exchanges

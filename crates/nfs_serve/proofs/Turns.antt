@@ -9,7 +9,7 @@ use Rattle.nfs_serve.specs.Script.{Entry, Fits, most_piece, last_connection}
 use Rattle.nfs_serve.specs.Step.{State}
 use Rattle.nfs_serve.specs.Run.{Streams, with_stream, TakesAll, Event, Arrives, overflow, Brings, Move, events, after, after_event, output, output_of}
 use Rattle.nfs_serve.specs.Server.{Stands}
-use Rattle.nfs_serve.specs.Desk.{Desk, closed, leaving, Act, Opened, Turn, Over, Came, ReadBlocked, Ended, Took, WriteBlocked, Failed, Closed, Stepped, Goes}
+use Rattle.nfs_serve.specs.Desk.{Desk, closed, leaving, Act, Opened, Over, Came, ReadBlocked, Ended, Took, WriteBlocked, Failed, Closed, Stepped, Goes}
 use Rattle.nfs_serve.specs.Laws.{NoneCloses}
 use Rattle.nfs_serve.specs.Account.{came, taken, part_of}
 use Rattle.nfs_serve.specs.Whole.{close, entries_of, port_of, output_on}
@@ -129,7 +129,6 @@ ran port s t d e [] from le holds h = record {
   open_on = λ on. All-nil (λ q. q.conn ≡ port → q.piece ≢ []);
 }
 ran port s t d e (Opened ∷ acts) from le holds h = absurd h.2
-ran port s t d e (Turn ∷ acts) from le holds h = absurd h.2
 ran port s t d e (Over ∷ acts) from le holds h = absurd h.2
 ran port s t d e (Came bytes ∷ acts) from le holds h =
     let (u, c, does, rest) = h in

@@ -14,6 +14,10 @@ use Rattle.nfs_serve.specs.Talk.{max_reads}
 abbrev pub most_owed : ℕ
 most_owed = 65536
 
+-- and while fewer parts than this were stepped in a turn
+abbrev pub most_steps : ℕ
+most_steps = 16
+
 -- A port: whether a connection is served there, whether it has ended or failed and is to be closed, what is held of its stream, how
 -- many pieces were read, what came and was not stepped, and what is owed.
 pub record Desk : Type 0 where
@@ -39,7 +43,6 @@ leaving = idle false true
 -- What is done with a connection. `Stepped` alone is not shown to its peer.
 pub data Act : Type 0 where
   Opened : Act
-  Turn : Act
   Over : Act
   Came : (bytes : List ℕ) → Act
   ReadBlocked : Act
@@ -125,7 +128,22 @@ is_of_read act = false
 abbrev pub ReadsOnce : List Act → Type 0
 ReadsOnce acts = length (filter is_of_read acts) ≤ 1
 
--- A turn ends only where there is no connection, where the peer takes no more of what is owed, or where a read was asked for and all
--- that came is answered.
+abbrev pub is_step : Act → Bool
+is_step (Stepped moment part) = true
+is_step act = false
+
+-- how many parts are stepped, each of which ends no more than one record
+abbrev pub step_count : List Act → ℕ
+step_count acts = length (filter is_step acts)
+
+-- what came waits to be stepped, and nothing hinders it: no reply is owed
+pub record HasMore (d : Desk) : Type 0 where
+  pub live : d.live ≡ true
+  pub owed : d.owed ≡ []
+  pub unread : 0 < length d.unread
+
+-- A turn steps 16 parts at most. It ends only where there is no connection, where the peer takes no more of what is owed, where a read was
+-- asked for and all that came is answered, or where 16 were stepped and are answered, and more waits.
 abbrev pub EndsTurn : List Act → Desk → Type 0
-EndsTurn acts d = ReadsOnce acts × ((d.live ≡ false) ⊎ IsStuck acts d ⊎ ((d.unread ≡ []) × (d.owed ≡ []) × Reads acts))
+EndsTurn acts d = ReadsOnce acts × (step_count acts ≤ most_steps)
+    × ((d.live ≡ false) ⊎ IsStuck acts d ⊎ ((d.unread ≡ []) × (d.owed ≡ []) × Reads acts) ⊎ (HasMore d × (step_count acts ≡ most_steps)))

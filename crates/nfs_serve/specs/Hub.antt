@@ -1,9 +1,10 @@
--- Many connections over one server: whose turn it is comes from outside.
-use Rattle.std.specs.Prelude.{length, ◌≡◌, ◌≢◌, ◌≤◌, ◌⊎◌, ◌^◌, ◌-◌, ℕ, List, [], ◌∷◌, flat_map, get_or, Option}
+-- Many connections over one server: the ports have their turns in the order of their numbers, sweep after sweep. Who is ready, and who
+-- begins, comes from outside.
+use Rattle.std.specs.Prelude.{length, ◌≡◌, ◌≢◌, ◌<◌, ◌≤◌, ◌⊎◌, ◌^◌, ◌-◌, ℕ, suc, ◌+◌, List, [], ◌∷◌, flat_map, get_or, Option}
 use Rattle.std.specs.Io.KnownBytes.{Appends}
 use Rattle.nfs_serve.specs.Step.{State}
-use Rattle.nfs_serve.specs.Script.{last_connection}
-use Rattle.nfs_serve.specs.Desk.{Desk, closed, opened, Act, Opened, Turn, Goes, EndsTurn}
+use Rattle.nfs_serve.specs.Script.{last_connection, connection_count}
+use Rattle.nfs_serve.specs.Desk.{Desk, closed, opened, Act, Opened, Goes, EndsTurn, HasMore, step_count}
 use Rattle.nfs_serve.specs.Deeds.{Deed, Logs, over, shown, asked}
 
 abbrev pub Desks : Type 0
@@ -35,21 +36,57 @@ Turning s old (Turns port acts ∷ rounds) t new = (u : State) × (between : Des
 
 abbrev pub shown_in : Round → List Deed
 shown_in (Opens port) = record { port = port; act = Opened } ∷ []
-shown_in (Turns port acts) = record { port = port; act = Turn } ∷ flat_map (shown port) acts
+shown_in (Turns port acts) = flat_map (shown port) acts
 
 abbrev pub asked_in : Round → List ℕ
 asked_in (Opens port) = []
 asked_in (Turns port acts) = flat_map asked acts
 
--- From ports without a connection on: for some rounds, what the connections show, the clock's answers and the state left are theirs.
+-- how many parts are stepped
+abbrev pub steps_in : List Round → ℕ
+steps_in [] = 0
+steps_in (Opens port ∷ rounds) = steps_in rounds
+steps_in (Turns port acts ∷ rounds) = step_count acts + steps_in rounds
+
+-- The turns are in the order of the ports, from one port on and below another, so that each has one at most. A connection begins before the
+-- first turn alone.
+abbrev pub InOrder : ℕ → ℕ → List Round → Type 0
+InOrder from to [] = from ≤ to
+InOrder from to (Opens port ∷ rounds) = (from ≡ 0) × InOrder from to rounds
+InOrder from to (Turns port acts ∷ rounds) = (from ≤ port) × InOrder (suc port) to rounds
+
+-- a round is of a port: its turn, or a connection that begins there
+abbrev pub IsOf : ℕ → Round → Type 0
+IsOf port (Opens p) = p ≡ port
+IsOf port (Turns p acts) = p ≡ port
+
+abbrev pub IsServed : ℕ → List Round → Type 0
+IsServed port [] = ⊥
+IsServed port (r ∷ rounds) = IsOf port r ⊎ IsServed port rounds
+
+-- One sweep over the ports: no port on which something waits to be stepped is passed over, and none has two turns.
+pub record Sweeps (s : State) (old : Desks) (sweep : List Round) (t : State) (new : Desks) : Type 0 where
+  pub turning : Turning s old sweep t new
+  pub in_order : InOrder 0 connection_count sweep
+  pub none_passed : (port : ℕ) → port ≤ last_connection → HasMore (old port) → IsServed port sweep
+
+abbrev pub Sweeping : State → Desks → List (List Round) → State → Desks → Type 0
+Sweeping s old [] t new = (t ≡ s) × ((c : ℕ) → new c ≡ old c)
+Sweeping s old (sweep ∷ sweeps) t new = (u : State) × (between : Desks) × Sweeps s old sweep u between × Sweeping u between sweeps t new
+
+-- From ports without a connection on: for some sweeps, what the connections show, the clock's answers and the state left are those of their
+-- rounds.
 pub record ServesRounds (old new : State) (desks : List Desk) (count : ℕ) (l0 l1 : Option (List Deed)) (c0 c1 : Option (List ℕ)) : Type 0 where
+  pub sweeps : List (List Round)
   pub rounds : List Round
-  pub counted : length rounds ≡ count
+  pub are : rounds ≡ flat_map (λ sweep. sweep) sweeps
+  pub counted : length sweeps ≡ count
   pub turning : Turning old none_live rounds new (at desks)
+  pub sweeping : Sweeping old none_live sweeps new (at desks)
   pub logs : Logs l0 l1 (flat_map shown_in rounds)
   pub clock : Appends c0 c1 (flat_map asked_in rounds)
 
--- The same to the end: until no connection is left and none will come, or for 2^64 - 1 rounds.
+-- The same to the end: until no connection is left and none will come, or for 2^64 - 1 sweeps.
 abbrev pub Serves : State → State → List Desk → Option (List Deed) → Option (List Deed) → Option (List ℕ) → Option (List ℕ) → Type 0
 Serves old new desks l0 l1 c0 c1 = (count : ℕ) × (before : Option (List Deed)) × ServesRounds old new desks count l0 before c0 c1
     × (Logs before l1 over ⊎ ((count ≡ 2 ^ 64 - 1) × (before ≡ l1)))

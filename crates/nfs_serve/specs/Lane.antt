@@ -1,9 +1,9 @@
 -- What a port's fields stand for, and how far its functions bring it; private contracts alone speak of it.
-use Rattle.std.specs.Prelude.{◌≡◌, ℕ, ◌<◌, List, [], ◌∷◌, ◌++◌, length, map, filter, flat_map, true, false, Option}
+use Rattle.std.specs.Prelude.{◌≡◌, ◌⊎◌, ℕ, ◌+◌, ◌<◌, ◌≤◌, List, [], ◌∷◌, ◌++◌, length, map, filter, flat_map, Bool, true, false, Option}
 use Rattle.std.specs.Io.KnownBytes.{Appends}
 use Rattle.nfs_rpc.specs.RecordMarking.{is_too_long}
 use Rattle.nfs_serve.specs.Step.{State}
-use Rattle.nfs_serve.specs.Desk.{Desk, closed, Act, StepsPart, Goes, IsStuck, is_of_read}
+use Rattle.nfs_serve.specs.Desk.{Desk, closed, Act, StepsPart, Goes, IsStuck, is_of_read, step_count, HasMore, EndsTurn}
 use Rattle.nfs_serve.specs.Deeds.{Deed, Logs, shown, asked}
 use Rattle.nfs_serve.specs.declared.lane.Lane.{Lane}
 use Rattle.nfs_serve.specs.declared.lane.Rest.{Rest}
@@ -37,11 +37,15 @@ pub record Quiet (port : ℕ) (acts : List Act) (d e : Desk) (l0 l1 : Option (Li
 abbrev pub Flushes : Rest → ℕ → Desk → Desk → Option (List Deed) → Option (List Deed) → Type 0
 Flushes rest port d e l0 l1 = (acts : List Act) × Quiet port acts d e l0 l1 × FlushesTo rest acts d e
 
--- what came to rest
-abbrev pub Settles : Rest → List Act → Desk → Type 0
-Settles Clear acts e = (e.live ≡ true) × (e.gone ≡ false) × (is_too_long e.stream ≡ false) × (e.unread ≡ []) × (e.owed ≡ [])
-Settles Stuck acts e = IsStuck acts e
-Settles Gone acts e = e ≡ closed
+-- all that came was stepped, or as many parts as may be, and more waits
+abbrev pub HasHadEnough : ℕ → List ℕ → Type 0
+HasHadEnough left unread = (unread ≡ []) ⊎ ((0 < length unread) × (left ≡ 0))
+
+-- what came to rest, where so many parts may still be stepped in its turn
+abbrev pub Settles : Rest → List Act → Desk → ℕ → Type 0
+Settles Clear acts e left = (e.live ≡ true) × (e.gone ≡ false) × (is_too_long e.stream ≡ false) × HasHadEnough left e.unread × (e.owed ≡ [])
+Settles Stuck acts e left = IsStuck acts e
+Settles Gone acts e left = e ≡ closed
 
 -- acts that show nothing, from one state to another, with what they asked of the clock
 pub record Working (port : ℕ) (acts : List Act) (s : State) (d : Desk) (t : State) (e : Desk) (c0 c1 : Option (List ℕ)) : Type 0 where
@@ -56,6 +60,19 @@ StepsOne port s t a b c0 c1 = (moment : ℕ) × (part : List ℕ) × (out : List
     × StepsPart port s (desk_of a) moment part t b.connection b.unread out
     × (b.owed.bytes ≡ a.owed.bytes ++ out) × (b.live ≡ a.live) × (b.reads ≡ a.reads) × (length b.unread < length a.unread)
 
--- some parts were stepped
-abbrev pub StepsSome : ℕ → State → State → Lane → Lane → Option (List ℕ) → Option (List ℕ) → Type 0
-StepsSome port s t a b c0 c1 = (acts : List Act) × Working port acts s (desk_of a) t (desk_of b) c0 c1 × (b.live ≡ a.live) × (length b.unread < length a.unread)
+-- some parts were stepped, of `before` that might be, and so many still may be
+abbrev pub StepsSome : ℕ → State → State → Lane → Lane → Option (List ℕ) → Option (List ℕ) → ℕ → ℕ → Type 0
+StepsSome port s t a b c0 c1 before left = (acts : List Act) × Working port acts s (desk_of a) t (desk_of b) c0 c1 × (b.live ≡ a.live)
+    × (length b.unread < length a.unread) × (step_count acts + left ≡ before)
+
+-- a port is passed over only where nothing waits that might be stepped
+pub record Passes (s : State) (d : Desk) (t : State) (e : Desk) (l0 l1 : Option (List Deed)) (c0 c1 : Option (List ℕ)) : Type 0 where
+  pub none : HasMore d → ⊥
+  pub state : t ≡ s
+  pub desk : e ≡ d
+  pub logs : Logs l0 l1 []
+  pub clock : Appends c0 c1 []
+
+-- or it has its turn
+abbrev pub Visits : ℕ → State → Desk → State → Desk → Option (List Deed) → Option (List Deed) → Option (List ℕ) → Option (List ℕ) → Type 0
+Visits port s d t e l0 l1 c0 c1 = Passes s d t e l0 l1 c0 c1 ⊎ ((acts : List Act) × Advances port acts s d t e l0 l1 c0 c1 × EndsTurn acts e)

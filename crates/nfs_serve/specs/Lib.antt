@@ -16,6 +16,8 @@ pub mod Deeds
 pub mod Boxes
 pub mod Lane
 pub mod Hub
+pub mod Sweep
+pub mod Waiting
 pub mod Account
 pub mod Whole
 pub mod Endpoint

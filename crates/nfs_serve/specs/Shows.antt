@@ -2,7 +2,7 @@
 use Rattle.std.specs.Prelude.{ℕ, ◌<◌, ◌≤◌, List, [], ◌∷◌, length, take}
 use Rattle.nfs_serve.specs.Deeds.{Deed, over}
 use Rattle.nfs_serve.specs.Script.{last_connection}
-use Rattle.nfs_serve.specs.Desk.{Opened, Turn, ReadBlocked, WriteBlocked, Failed}
+use Rattle.nfs_serve.specs.Desk.{Opened, ReadBlocked, WriteBlocked, Failed}
 use Rattle.nfs_serve.specs.Desk as act
 use Rattle.nfs_serve.specs.declared.ports.Next.{Next}
 use Rattle.nfs_serve.specs.declared.ports.Next.TheVariants as next
@@ -13,12 +13,11 @@ use Rattle.nfs_serve.specs.declared.ports.Took.TheVariants as written
 
 abbrev pub NamesPort : Next → Type 0
 NamesPort (next.Opened port) = port ≤ last_connection
-NamesPort (next.Turn port) = port ≤ last_connection
-NamesPort next.Over = Unit {0}
+NamesPort next = Unit {0}
 
 abbrev pub named : Next → List Deed
 named (next.Opened port) = record { port = port; act = Opened } ∷ []
-named (next.Turn port) = record { port = port; act = Turn } ∷ []
+named next.Nobody = []
 named next.Over = over
 
 abbrev pub ComesWithin : Came → List ℕ → Type 0

@@ -1,11 +1,13 @@
 //! Up to 16 connections at once.
 
-ghost use Rattle.std.specs.Prelude.{◌≡◌, ℕ, length, replicate, IfOk};
+ghost use Rattle.std.specs.Prelude.{◌≡◌, ◌<◌, ℕ, length, replicate, true, false, IfOk};
 ghost use Rattle.nfs_serve.specs.Server.{state_of};
 ghost use Rattle.nfs_serve.specs.Script.{connection_count};
-ghost use Rattle.nfs_serve.specs.Desk.{closed};
+ghost use Rattle.nfs_serve.specs.Deeds.{Logs};
+ghost use Rattle.nfs_serve.specs.Desk.{closed, HasMore};
 ghost use Rattle.nfs_serve.specs.Hub.{Serves, at};
 ghost use Rattle.nfs_serve.specs.Lane.{desks_of};
+ghost use Rattle.nfs_serve.specs.Sweep.{Begins, SweepsBelow};
 
 use crate::Clock;
 use crate::engine::Engine;
@@ -90,10 +92,56 @@ fn serve_lanes<P: Ports, C: Clock>(
     ensures serves { Serves (state_of engine.old.kept) (state_of engine.new.kept) (desks_of lanes.new) (P.log ports.old) (P.log ports.new) (C.told clock.old) (C.told clock.new) }
 {
     for _ in 0..u64::MAX {
-        match ports.next() {
-            Next::Opened(port) => lanes[port as usize].begin(),
-            Next::Turn(port) => lanes[port as usize].turn(alloc, engine, port, ports, clock),
-            Next::Over => return,
+        let may_wait = !have_more(lanes);
+        if !begin(lanes, ports, may_wait) {
+            return;
         }
+        sweep(alloc, engine, lanes, ports, clock);
+    }
+}
+
+/// Whether on some port something waits to be stepped.
+fn have_more(lanes: &[Lane]) -> bool
+    ensures { result ≡ false → (port : ℕ) → port < length lanes.now → HasMore (at (desks_of lanes.now) port) → ⊥ }
+{
+    for port in 0..lanes.len() {
+        if lanes[port].has_more() {
+            return true;
+        }
+    }
+    false
+}
+
+/// Lets the connection begin that is to begin, if there is one. `false` where none is left and none will come.
+fn begin<P: Ports>(lanes: &mut [Lane], ports: &mut P, may_wait: bool) -> bool
+    requires ports { length lanes.old ≡ connection_count }
+    ensures length { length lanes.new ≡ connection_count }
+    ensures begins { Begins result (at (desks_of lanes.old)) (at (desks_of lanes.new)) (P.log ports.old) (P.log ports.new) }
+    ensures over { result ≡ false → lanes.new ≡ lanes.old }
+{
+    match ports.next(may_wait) {
+        Next::Opened(port) => {
+            lanes[port as usize].begin();
+            true
+        }
+        Next::Nobody => true,
+        Next::Over => false,
+    }
+}
+
+/// Visits each port once, in the order of their numbers.
+fn sweep<P: Ports, C: Clock>(
+    alloc: Global,
+    engine: &mut Engine,
+    lanes: &mut [Lane],
+    ports: &mut P,
+    clock: &mut C,
+)
+    requires ports { length lanes.old ≡ connection_count }
+    ensures length { length lanes.new ≡ connection_count }
+    ensures sweeps { SweepsBelow connection_count (state_of engine.old.kept) (at (desks_of lanes.old)) (state_of engine.new.kept) (at (desks_of lanes.new)) (P.log ports.old) (P.log ports.new) (C.told clock.old) (C.told clock.new) }
+{
+    for port in 0..PORTS {
+        lanes[port].visit(alloc, engine, port as u32, ports, clock);
     }
 }

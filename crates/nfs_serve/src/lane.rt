@@ -1,11 +1,11 @@
 //! One connection of many: what came, what is owed, and its turn.
 
-ghost use Rattle.std.specs.Prelude.{◌≡◌, ◌≤◌, ◌<◌, ℕ, List, [], length, filter, true, false, IfOk};
+ghost use Rattle.std.specs.Prelude.{◌≡◌, ◌≤◌, ◌<◌, ◌+◌, ℕ, List, [], length, filter, true, false, IfOk};
 ghost use Rattle.nfs_rpc.specs.RecordMarking.{is_too_long};
 ghost use Rattle.nfs_serve.specs.Server.{state_of};
 ghost use Rattle.nfs_serve.specs.Script.{last_connection};
-ghost use Rattle.nfs_serve.specs.Desk.{Act, closed, opened, most_owed, EndsTurn, is_of_read};
-ghost use Rattle.nfs_serve.specs.Lane.{desk_of, Advances, Flushes, Settles, StepsOne, StepsSome};
+ghost use Rattle.nfs_serve.specs.Desk.{Act, closed, opened, most_owed, EndsTurn, is_of_read, step_count, HasMore};
+ghost use Rattle.nfs_serve.specs.Lane.{desk_of, Advances, Flushes, Settles, StepsOne, StepsSome, Visits};
 ghost use Rattle.nfs_serve.specs.Boxes as boxes;
 
 use crate::Clock;
@@ -16,6 +16,9 @@ use crate::outbox::Outbox;
 use crate::ports::{Came, Ports, Took};
 use crate::talking::MAX_READS;
 use std::alloc::{AllocError, Global};
+
+/// How many times a turn steps at most, each time no more than one record, so that other ports have theirs.
+const MOST_STEPS: u32 = 16;
 
 /// A port, and the connection on it, if there is one.
 #[derive(Drop)]
@@ -119,22 +122,32 @@ impl Lane {
         self.unread.consume(used);
     }
 
-    /// Steps the records of what came, while the outbox has room: one at least.
-    fn step_some<C: Clock>(&mut self, alloc: Global, engine: &mut Engine, port: u32, clock: &mut C)
+    /// Steps the records of what came, while the outbox has room: one at least, and as many as may be at most.
+    fn step_some<C: Clock>(
+        &mut self,
+        alloc: Global,
+        engine: &mut Engine,
+        port: u32,
+        clock: &mut C,
+        left: &mut u32,
+    )
         requires live { self.old.live ≡ true }
         requires short { is_too_long self.old.connection ≡ false }
         requires some { 0 < length self.old.unread }
         requires empty { length self.old.owed.bytes ≡ 0 }
-        ensures { StepsSome port (state_of engine.old.kept) (state_of engine.new.kept) self.old self.new (C.told clock.old) (C.told clock.new) }
+        requires left { 0 < left.old }
+        ensures { StepsSome port (state_of engine.old.kept) (state_of engine.new.kept) self.old self.new (C.told clock.old) (C.told clock.new) left.old left.new }
     {
         self.owed.clear();
         self.step_one(alloc, engine, port, clock);
-        while self.may_step() {
+        *left -= 1;
+        while *left > 0 && self.may_step() {
             self.step_one(alloc, engine, port, clock);
+            *left -= 1;
         }
     }
 
-    /// Writes what is owed, and steps and answers what came, as far as the peer takes it.
+    /// Writes what is owed, and steps and answers what came, as far as the peer takes it and as may be in this turn.
     fn settle<P: Ports, C: Clock>(
         &mut self,
         alloc: Global,
@@ -142,10 +155,11 @@ impl Lane {
         port: u32,
         ports: &mut P,
         clock: &mut C,
+        left: &mut u32,
     ) -> Rest
         requires port { port ≤ last_connection }
         requires live { self.old.live ≡ true }
-        ensures { (acts : List Act) × Advances port acts (state_of engine.old.kept) (desk_of self.old) (state_of engine.new.kept) (desk_of self.new) (P.log ports.old) (P.log ports.new) (C.told clock.old) (C.told clock.new) × Settles result acts (desk_of self.new) × (filter is_of_read acts ≡ []) }
+        ensures { (acts : List Act) × Advances port acts (state_of engine.old.kept) (desk_of self.old) (state_of engine.new.kept) (desk_of self.new) (P.log ports.old) (P.log ports.new) (C.told clock.old) (C.told clock.new) × Settles result acts (desk_of self.new) left.new × (filter is_of_read acts ≡ []) × (step_count acts + left.new ≡ left.old) }
     {
         loop {
             match self.flush(port, ports) {
@@ -161,12 +175,42 @@ impl Lane {
             if self.unread.rest().is_empty() {
                 return Rest::Clear;
             }
-            self.step_some(alloc, engine, port, clock);
+            if *left == 0 {
+                return Rest::Clear;
+            }
+            self.step_some(alloc, engine, port, clock, left);
         }
     }
 
-    /// One turn: what waits is answered, then one read, then what came is answered. It ends where the peer takes no more.
-    pub fn turn<P: Ports, C: Clock>(
+    /// Whether something waits to be stepped, and nothing to be written.
+    pub fn has_more(&self) -> bool
+        ensures more { result ≡ true → HasMore (desk_of self.now) }
+        ensures none { HasMore (desk_of self.now) → result ≡ true }
+    {
+        self.live && self.owed.rest().is_empty() && !self.unread.rest().is_empty()
+    }
+
+    /// A turn, where the port is ready or has something to step.
+    pub fn visit<P: Ports, C: Clock>(
+        &mut self,
+        alloc: Global,
+        engine: &mut Engine,
+        port: u32,
+        ports: &mut P,
+        clock: &mut C,
+    )
+        requires port { port ≤ last_connection }
+        ensures { Visits port (state_of engine.old.kept) (desk_of self.old) (state_of engine.new.kept) (desk_of self.new) (P.log ports.old) (P.log ports.new) (C.told clock.old) (C.told clock.new) }
+    {
+        if !self.has_more() && !ports.is_ready(port) {
+            return;
+        }
+        self.turn(alloc, engine, port, ports, clock);
+    }
+
+    /// One turn: what waits is answered, then one read, then what came is answered. It ends where the peer takes no more, or where 16
+    /// records were stepped.
+    fn turn<P: Ports, C: Clock>(
         &mut self,
         alloc: Global,
         engine: &mut Engine,
@@ -180,10 +224,14 @@ impl Lane {
         if !self.live {
             return;
         }
-        match self.settle(alloc, engine, port, ports, clock) {
+        let mut left = MOST_STEPS;
+        match self.settle(alloc, engine, port, ports, clock, &mut left) {
             Rest::Clear => {}
             Rest::Stuck => return,
             Rest::Gone => return,
+        }
+        if !self.unread.rest().is_empty() {
+            return;
         }
         if self.reads >= MAX_READS {
             ports.close(port);
@@ -193,7 +241,7 @@ impl Lane {
         match self.unread.receive(ports, port) {
             Came::Bytes(_) => {
                 self.reads += 1;
-                match self.settle(alloc, engine, port, ports, clock) {
+                match self.settle(alloc, engine, port, ports, clock, &mut left) {
                     Rest::Clear => return,
                     Rest::Stuck => return,
                     Rest::Gone => return,

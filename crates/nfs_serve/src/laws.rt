@@ -2,6 +2,7 @@
 
 ghost use Rattle.std.specs.Prelude.{ℕ};
 ghost use Rattle.nfs_serve.specs.Account.{NothingIsLost};
+ghost use Rattle.nfs_serve.specs.Waiting.{WaitsForFew};
 ghost use Rattle.nfs_serve.specs.Alone.{ExecutingAlone, StaysSettled};
 ghost use Rattle.nfs_serve.specs.Exchanges.{RunsTo, null_script, null_output, exchange_script, exchange_output};
 ghost use Rattle.nfs_serve.specs.Laws.{HasOneReading, CutsAnywhere, BringsOnce, ConnectionsAreStreams};
@@ -56,6 +57,11 @@ pub fn a_hub_runs_a_script()
 pub fn nothing_is_lost_in_a_run()
     ensures ends { NothingIsLostInARun }
     ensures within { NothingIsLostInATurn }
+{}
+
+/// Between two turns of a connection on which something waits to be stepped no more than 240 records of others run: 16 for each other port.
+pub fn waits_for_few()
+    ensures { WaitsForFew }
 {}
 
 /// What `Server::record`, `Server::feed`, `Server::replay`, `Server::talk` and `Server::serve_ports` do is a run of the records that arrive, in

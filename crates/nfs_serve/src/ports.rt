@@ -6,13 +6,13 @@ ghost use Rattle.nfs_serve.specs.Deeds.{Deed, Logs};
 ghost use Rattle.nfs_serve.specs.Shows.{NamesPort, named, ComesWithin, came, TakesWithin, took};
 ghost use Rattle.nfs_serve.specs.Script.{last_connection};
 
-/// What comes next.
+/// Who begins.
 #[derive(Clone, Copy, Debug, PartialEq, Eq)]
 pub enum Next {
     /// A connection has begun on this port. One that was there is gone.
     Opened(u32),
-    /// It is this port's turn.
-    Turn(u32),
+    /// No connection begins now.
+    Nobody,
     /// No connection is left, and none will come.
     Over,
 }
@@ -46,10 +46,14 @@ pub trait Ports {
     // What was done so far, where it is known.
     ghost log: { Self → Option (List Deed) };
 
-    /// Waits for what comes next.
-    fn next(&mut self) -> Next
+    /// Looks at which ports are ready and who begins. Where it may wait and neither is so, it waits for either.
+    fn next(&mut self, may_wait: bool) -> Next
         ensures port { NamesPort result }
         ensures logs { Logs (log self.old) (log self.new) (named result) };
+
+    /// Whether a read or a write may do something on a port.
+    fn is_ready(&self, port: u32) -> bool
+        requires port { port ≤ last_connection };
 
     /// Reads what is there into the front of `buf`.
     fn read(&mut self, port: u32, buf: &mut [u8]) -> Came

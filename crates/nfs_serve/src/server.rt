@@ -248,7 +248,8 @@ impl Server {
     /// stream on, in pieces of at most 65,536 bytes, each record at the clock's answer for it, with the replies and their record
     /// marks alone. No connection of the server's own changes.
     ///
-    /// Nothing is read on a port while a reply is owed there or a piece waits, and a turn never waits for its peer. A connection
+    /// Nothing is read on a port while a reply is owed there or a piece waits, and a turn never waits for its peer. The ports have
+    /// their turns in their order, sweep after sweep: each that is ready or has a record to step has one, of 16 records at most. A connection
     /// is closed where its peer has ended or it has failed, and, once its replies are written, where its stream is too long or in
     /// place of its 1,000,001st read.
     pub fn serve_ports<P: Ports, C: Clock>(

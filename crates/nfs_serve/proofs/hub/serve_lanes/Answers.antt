@@ -1,7 +1,10 @@
-use Rattle.std.proofs.Common.{◌≤◌, ◌<◌, length, length-set, arith, ◌≡◌, ◌^◌, ◌-◌, inl, inr, refl}
+use Rattle.std.proofs.Common.{◌≤◌, ◌<◌, length, arith, ◌≡◌, ◌^◌, ◌-◌, Bool, true, false, inl, inr, refl, subst, rules}
 use Rattle.nfs_serve.specs.Server.{state_of}
-use Rattle.nfs_serve.proofs.Rounds.{start, opens, turns}
-use Rattle.nfs_serve.proofs.hub.serve_lanes.Goals.{in-Opened, in-Turn}
+use Rattle.nfs_serve.specs.Hub.{at}
+use Rattle.nfs_serve.specs.Lane.{desks_of}
+use Rattle.nfs_serve.specs.Sweep.{Begins}
+use Rattle.nfs_serve.proofs.Rounds.{start, more}
+use Rattle.nfs_serve.proofs.Sweeps.{swept}
 use Rattle.nfs_serve.proofs.hub.serve_lanes.Goals as goal
 
 pub loop-init : goal.loop-init
@@ -10,29 +13,21 @@ loop-init g c = (start (state_of c.args.engine.now.kept) c.args.lanes.now _ _ c.
 pub loop-preserved : goal.loop-preserved
 loop-preserved g c =
     let (before, len) = c.loop.invariant in
-    elim c.match-next.branch [
-      | in-Opened w ↦
-          let le : w.in-Opened.port ≤ 15 = w.in-Opened.ensures.port in
-          let within : w.in-Opened.port < length c.loop.lanes = omega (arith, le, len) in
-          rw w.engine-is (rw w.lanes-is (rw w.ports-is (rw w.clock-is (
-            opens _ _ c.loop.lanes w.in-Opened.port w.begin.new.self _ _ _ _ _ _ before le within w.begin.ensures w.in-Opened.ensures.logs,
-            rw length-set len,
-          ))))
-      | in-Turn w ↦
-          let le : w.in-Turn.port ≤ 15 = w.in-Turn.ensures.port in
-          let within : w.in-Turn.port < length c.loop.lanes = omega (arith, le, len) in
-          let (acts, advances, ends) = w.turn.ensures in
-          rw w.engine-is (rw w.lanes-is (rw w.ports-is (rw w.clock-is (
-            turns _ _ _ c.loop.lanes w.in-Turn.port w.index-lanes-port-in-Turn.result w.turn.new.self acts _ _ _ _ _ _ _ _ before le within
-                w.in-Turn.ensures.logs advances ends,
-            rw length-set len,
-          ))))
-    ]
+    let begun : c.begin.result ≡ true = search rules in
+    let w = swept _ _ (at (desks_of c.loop.lanes)) (at (desks_of c.begin.new.lanes)) _ _ _ _ _ _
+    (subst (λ b. Begins b (at (desks_of c.loop.lanes)) (at (desks_of c.begin.new.lanes)) (g.P.Ports.log c.loop.ports) (g.P.Ports.log c.begin.new.ports)) begun c.begin.ensures.begins)
+    c.sweep.ensures.sweeps in
+    (more _ _ _ (desks_of c.loop.lanes) (desks_of c.sweep.new.lanes) _ _ _ _ _ _ _ w.sweep before w.sweeps w.logs w.clock, c.sweep.ensures.length)
 
-pub returns-in-Over-clause-serves : goal.returns-in-Over-clause-serves
-returns-in-Over-clause-serves g c =
+pub returns-then-not-begin-clause-serves : goal.returns-then-not-begin-clause-serves
+returns-then-not-begin-clause-serves g c =
     let (before, len) = c.loop.invariant in
-    (c.loop.counter, _, before, inl c.in-Over.ensures.logs)
+    let none : c.begin.result ≡ false = search rules in (
+      c.loop.counter,
+      _,
+      rw (c.begin.ensures.over none) before,
+      inl (subst (λ b. Begins b (at (desks_of c.loop.lanes)) (at (desks_of c.begin.new.lanes)) (g.P.Ports.log c.loop.ports) (g.P.Ports.log c.begin.new.ports)) none c.begin.ensures.begins),
+    )
 
 pub returns-clause-serves : goal.returns-clause-serves
 returns-clause-serves g c =

@@ -1,4 +1,4 @@
--- What was done so far were rounds.
+-- What was done so far were sweeps.
 use Rattle.std.proofs.Common.{◌≡◌, length}
 use Rattle.nfs_serve.specs.Server.{state_of}
 use Rattle.nfs_serve.specs.Hub.{ServesRounds}

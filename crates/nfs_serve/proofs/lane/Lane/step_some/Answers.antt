@@ -1,13 +1,13 @@
-use Rattle.std.proofs.Common.{◌≡◌, ◌++◌, [], ◌∷◌, sym, ap, ◌∙◌, arith, subst, false}
+use Rattle.std.proofs.Common.{◌≡◌, ◌<◌, ◌++◌, [], ◌∷◌, sym, ap, ◌∙◌, arith, rules, subst, false}
 use Rattle.std.proofs.lemmas.List.{nil_from_length}
 use Rattle.nfs_serve.specs.Server.{state_of}
 use Rattle.nfs_serve.specs.Desk.{Stepped}
 use Rattle.nfs_serve.specs.Lane.{desk_of, Working}
-use Rattle.nfs_serve.proofs.Advancing.{stepped, working_on}
+use Rattle.nfs_serve.proofs.Advancing.{stepped, working_on, steps_append}
 use Rattle.nfs_serve.proofs.lane.Lane.step_some.Goals as goal
 
-pub loop-alloc-init : goal.loop-alloc-init
-loop-alloc-init g c =
+pub loop-left-init : goal.loop-left-init
+loop-left-init g c =
     let (moment, part, out, told, steps, owed, live, reads, shorter) = c.step_one.ensures in
     let none : c.args.self.now.owed.bytes ≡ [] = nil_from_length _ c.requires.empty in
     let empty = ap (λ b. b.bytes) c.clear.ensures ∙ sym none in
@@ -19,15 +19,18 @@ loop-alloc-init g c =
           empty (stepped _ moment part out _ _ (record lane { owed = c.clear.new.self }) c.step_one.new.self _ _ steps owed live reads told),
       live,
       shorter,
+      omega (arith, c.requires.left),
     )
 
-pub loop-alloc-preserved : goal.loop-alloc-preserved
-loop-alloc-preserved g c =
-    let (acts, so_far, alive, less) = c.loop-alloc.invariant in
-    let (moment, part, out, told, steps, owed, live, reads, shorter) = c.step_one-in-loop-alloc.ensures in (
+pub loop-left-preserved : goal.loop-left-preserved
+loop-left-preserved g c =
+    let (acts, so_far, alive, less, counted) = c.loop-left.invariant in
+    let some : 0 < c.loop-left.left = search rules in
+    let (moment, part, out, told, steps, owed, live, reads, shorter) = c.step_one-in-loop-left.ensures in (
       acts ++ Stepped moment part ∷ [],
       working_on _ acts (Stepped moment part ∷ []) _ _ _ _ _ _ _ _ _ so_far
-          (stepped _ moment part out _ _ c.loop-alloc.self c.step_one-in-loop-alloc.new.self _ _ steps owed live reads told),
+          (stepped _ moment part out _ _ c.loop-left.self c.step_one-in-loop-left.new.self _ _ steps owed live reads told),
       live ∙ alive,
       omega (arith, shorter, less),
+      omega (arith, steps_append acts (Stepped moment part ∷ []), counted, some),
     )

@@ -1,0 +1,262 @@
+-- A sweep, port after port; who begins before it; and how few others have their turn between two turns of a port.
+use Rattle.std.proofs.Common.{◌≡◌, ◌≢◌, ℕ, suc, ◌+◌, ◌*◌, ◌<◌, ◌≤◌, ◌⊎◌, List, [], ◌∷◌, ◌++◌, length, set, get_or, flat_map, Option, true, false, refl, sym, ap, subst, ◌∙◌, append-nil, arith, inl, inr, eqb}
+use Rattle.std.proofs.lemmas.Bool.Decides.{eqb_tells}
+use Rattle.std.proofs.lemmas.List.Concat.{flat_map-append}
+use Rattle.std.specs.Io.KnownBytes.{Appends}
+use Rattle.std.proofs.KnownBytes.{Appends-nil, Appends-trans}
+use Rattle.nfs_serve.specs.Step.{State}
+use Rattle.nfs_serve.specs.Script.{last_connection, connection_count}
+use Rattle.nfs_serve.specs.Desk.{Desk, opened, Act, Opened, HasMore, EndsTurn, most_steps, step_count}
+use Rattle.nfs_serve.specs.Deeds.{Deed, Logs}
+use Rattle.nfs_serve.specs.Lane.{desk_of, desks_of, Advances, Passes, Visits}
+use Rattle.nfs_serve.specs.declared.lane.Lane.{Lane}
+use Rattle.nfs_serve.specs.Hub.{Desks, at, Round, Opens, Turns, OthersStay, Turning, InOrder, IsOf, IsServed, Sweeps, shown_in, asked_in, steps_in}
+use Rattle.nfs_serve.specs.Sweep.{SweepsBelow, Begins}
+use Rattle.nfs_serve.specs.Waiting.{WaitsForFew}
+use Rattle.nfs_serve.proofs.Advancing.{Logs-nil, Logs-trans}
+use Rattle.nfs_serve.proofs.Rounds.{at_same, at_other, at_lane, turning_on}
+
+-- a further turn, behind those of lower ports
+in_order_last : (from port : ℕ) (acts : List Act) (rounds : List Round) → InOrder from port rounds → InOrder from (suc port) (rounds ++ Turns port acts ∷ [])
+in_order_last from port acts [] h = (h, omega arith)
+in_order_last from port acts (Opens p ∷ rounds) h = (h.0, in_order_last from port acts rounds h.1)
+in_order_last from port acts (Turns p done ∷ rounds) h = (h.0, in_order_last (suc p) port acts rounds h.1)
+
+in_order_wider : (from to : ℕ) (rounds : List Round) → InOrder from to rounds → InOrder from (suc to) rounds
+in_order_wider from to [] h = omega (arith, h)
+in_order_wider from to (Opens p ∷ rounds) h = (h.0, in_order_wider from to rounds h.1)
+in_order_wider from to (Turns p acts ∷ rounds) h = (h.0, in_order_wider (suc p) to rounds h.1)
+
+served_more : (port : ℕ) (rounds more : List Round) → IsServed port rounds → IsServed port (rounds ++ more)
+served_more port [] more none = absurd none
+served_more port (r ∷ rounds) more (inl own) = inl own
+served_more port (r ∷ rounds) more (inr later) = inr (served_more port rounds more later)
+
+served_last : (port : ℕ) (acts : List Act) (rounds : List Round) → IsServed port (rounds ++ Turns port acts ∷ [])
+served_last port acts [] = inl refl
+served_last port acts (r ∷ rounds) = inr (served_last port acts rounds)
+
+pub sweep_start : (s : State) (old : Desks) (l : Option (List Deed)) (c : Option (List ℕ)) → SweepsBelow 0 s old s old l l c c
+sweep_start s old l c = record {
+  sweep = [];
+  turning = (refl, λ p. refl);
+  in_order = omega arith;
+  none_passed = λ port less more. absurd (omega (arith, less));
+  others = λ port le. refl;
+  logs = Logs-nil l;
+  clock = Appends-nil c;
+}
+
+-- the next port is passed over
+passed : (s t u : State) (old : Desks) (lanes : List Lane) (port : ℕ) (d lane : Lane) (l0 l1 l2 : Option (List Deed)) (c0 c1 c2 : Option (List ℕ))
+    → SweepsBelow port s old t (at (desks_of lanes)) l0 l1 c0 c1 → port < length lanes
+    → Passes t (desk_of (get_or lanes port d)) u (desk_of lane) l1 l2 c1 c2
+    → SweepsBelow (suc port) s old u (at (desks_of (set lanes port lane))) l0 l2 c0 c2
+passed s t u old lanes port d lane l0 l1 l2 c0 c1 c2 before within p = record {
+  sweep = before.sweep;
+  turning = subst (λ l. Turning s old l u (at (desks_of (set lanes port lane)))) (append-nil before.sweep)
+      (turning_on s t u old (at (desks_of lanes)) (at (desks_of (set lanes port lane))) before.sweep [] before.turning (p.state, alike));
+  in_order = in_order_wider 0 port before.sweep before.in_order;
+  none_passed = λ q less more. cases q less more (eqb_tells q port);
+  others = λ q le. alike q ∙ before.others q (omega (arith, le));
+  logs = subst (Logs l0 l2) (append-nil (flat_map shown_in before.sweep)) (Logs-trans l0 l1 l2 (flat_map shown_in before.sweep) [] before.logs p.logs);
+  clock = subst (Appends c0 c2) (append-nil (flat_map asked_in before.sweep)) (Appends-trans c0 c1 c2 (flat_map asked_in before.sweep) [] before.clock p.clock);
+}
+  where
+    alike : (q : ℕ) → at (desks_of (set lanes port lane)) q ≡ at (desks_of lanes) q
+    alike q = by (eqb_tells q port)
+      where
+        by : ((eqb q port ≡ true) × (q ≡ port)) ⊎ ((eqb q port ≡ false) × (q ≢ port)) → at (desks_of (set lanes port lane)) q ≡ at (desks_of lanes) q
+        by (inl h) = rw h.1 (at_same lanes port lane within ∙ p.desk ∙ sym (at_lane lanes port d within))
+        by (inr h) = at_other lanes port lane q h.1
+
+    cases : (q : ℕ) → q < suc port → HasMore (old q) → ((eqb q port ≡ true) × (q ≡ port)) ⊎ ((eqb q port ≡ false) × (q ≢ port)) → IsServed q before.sweep
+    cases q less more (inl h) =
+        let is : old q ≡ desk_of (get_or lanes port d) = ap old h.1 ∙ sym (before.others port (omega arith)) ∙ at_lane lanes port d within in
+        absurd (p.none (subst HasMore is more))
+    cases q less more (inr h) = before.none_passed q (omega (arith, less, h.1)) more
+
+-- or has its turn
+turned : (s t u : State) (old : Desks) (lanes : List Lane) (port : ℕ) (d lane : Lane) (acts : List Act) (l0 l1 l2 : Option (List Deed)) (c0 c1 c2 : Option (List ℕ))
+    → SweepsBelow port s old t (at (desks_of lanes)) l0 l1 c0 c1 → port ≤ last_connection → port < length lanes
+    → Advances port acts t (desk_of (get_or lanes port d)) u (desk_of lane) l1 l2 c1 c2 → EndsTurn acts (desk_of lane)
+    → SweepsBelow (suc port) s old u (at (desks_of (set lanes port lane))) l0 l2 c0 c2
+turned s t u old lanes port d lane acts l0 l1 l2 c0 c1 c2 before le within advances ends = record {
+  sweep = before.sweep ++ Turns port acts ∷ [];
+  turning = turning_on s t u old (at (desks_of lanes)) (at (desks_of (set lanes port lane))) before.sweep (Turns port acts ∷ []) before.turning (
+    u,
+    at (desks_of (set lanes port lane)),
+    le,
+    rw (at_lane lanes port d within) (rw (at_same lanes port lane within) advances.goes),
+    rw (at_same lanes port lane within) ends,
+    at_other lanes port lane,
+    (refl, λ c. refl),
+  );
+  in_order = in_order_last 0 port acts before.sweep before.in_order;
+  none_passed = λ q less more. cases q less more (eqb_tells q port);
+  others = λ q above. at_other lanes port lane q (λ e. absurd (omega (arith, e, above))) ∙ before.others q (omega (arith, above));
+  logs = subst (Logs l0 l2) (sym (flat_map-append shown_in before.sweep (Turns port acts ∷ []) ∙ ap (λ l. flat_map shown_in before.sweep ++ l) (append-nil (shown_in (Turns port acts)))))
+      (Logs-trans l0 l1 l2 _ _ before.logs advances.logs);
+  clock = subst (Appends c0 c2) (sym (flat_map-append asked_in before.sweep (Turns port acts ∷ []) ∙ ap (λ l. flat_map asked_in before.sweep ++ l) (append-nil (asked_in (Turns port acts)))))
+      (Appends-trans c0 c1 c2 _ _ before.clock advances.clock);
+}
+  where
+    cases : (q : ℕ) → q < suc port → HasMore (old q) → ((eqb q port ≡ true) × (q ≡ port)) ⊎ ((eqb q port ≡ false) × (q ≢ port))
+        → IsServed q (before.sweep ++ Turns port acts ∷ [])
+    cases q less more (inl h) = rw h.1 (served_last port acts before.sweep)
+    cases q less more (inr h) = served_more q before.sweep (Turns port acts ∷ []) (before.none_passed q (omega (arith, less, h.1)) more)
+
+pub visited : (s t u : State) (old : Desks) (lanes : List Lane) (port : ℕ) (d lane : Lane) (l0 l1 l2 : Option (List Deed)) (c0 c1 c2 : Option (List ℕ))
+    → SweepsBelow port s old t (at (desks_of lanes)) l0 l1 c0 c1 → port ≤ last_connection → port < length lanes
+    → Visits port t (desk_of (get_or lanes port d)) u (desk_of lane) l1 l2 c1 c2
+    → SweepsBelow (port + 1) s old u (at (desks_of (set lanes port lane))) l0 l2 c0 c2
+visited s t u old lanes port d lane l0 l1 l2 c0 c1 c2 before le within (inl p) =
+    let is : suc port ≡ port + 1 = omega arith in
+    subst (λ n. SweepsBelow n s old u (at (desks_of (set lanes port lane))) l0 l2 c0 c2) is
+    (passed s t u old lanes port d lane l0 l1 l2 c0 c1 c2 before within p)
+visited s t u old lanes port d lane l0 l1 l2 c0 c1 c2 before le within (inr v) =
+    let (acts, advances, ends) = v in
+    let is : suc port ≡ port + 1 = omega arith in
+    subst (λ n. SweepsBelow n s old u (at (desks_of (set lanes port lane))) l0 l2 c0 c2) is
+    (turned s t u old lanes port d lane acts l0 l1 l2 c0 c1 c2 before le within advances ends)
+
+-- on no port so far something waits to be stepped, and on the next neither
+pub none_more : (lanes : List Lane) (port : ℕ) (d : Lane) → ((p : ℕ) → p < port → HasMore (at (desks_of lanes) p) → ⊥) → port < length lanes
+    → (HasMore (desk_of (get_or lanes port d)) → ⊥) → (p : ℕ) → p < port + 1 → HasMore (at (desks_of lanes) p) → ⊥
+none_more lanes port d before within none p less more = cases (eqb_tells p port)
+  where
+    cases : ((eqb p port ≡ true) × (p ≡ port)) ⊎ ((eqb p port ≡ false) × (p ≢ port)) → ⊥
+    cases (inl h) = none (subst HasMore (ap (at (desks_of lanes)) h.1 ∙ at_lane lanes port d within) more)
+    cases (inr h) = before p (omega (arith, less, h.1)) more
+
+-- Whoever begins, and then a whole sweep.
+
+pub record Swept (s : State) (old : Desks) (u : State) (new : Desks) (l0 l1 : Option (List Deed)) (c0 c1 : Option (List ℕ)) : Type 0 where
+  pub sweep : List Round
+  pub sweeps : Sweeps s old sweep u new
+  pub logs : Logs l0 l1 (flat_map shown_in sweep)
+  pub clock : Appends c0 c1 (flat_map asked_in sweep)
+
+from_alike : (s t : State) (old mid new : Desks) (rounds : List Round) → ((c : ℕ) → mid c ≡ old c) → Turning s mid rounds t new → Turning s old rounds t new
+from_alike s t old mid new rounds same h = turning_on s s t old mid new [] rounds (refl, same) h
+
+pub swept : (s u : State) (old mid new : Desks) (l0 l1 l2 : Option (List Deed)) (c0 c1 : Option (List ℕ))
+    → Begins true old mid l0 l1 → SweepsBelow connection_count s mid u new l1 l2 c0 c1 → Swept s old u new l0 l2 c0 c1
+swept s u old mid new l0 l1 l2 c0 c1 (inl nobody) w = record {
+  sweep = w.sweep;
+  sweeps = record {
+    turning = from_alike s u old mid new w.sweep nobody.0 w.turning;
+    in_order = w.in_order;
+    none_passed = λ port le more. w.none_passed port (omega (arith, le)) (subst HasMore (sym (nobody.0 port)) more);
+  };
+  logs = Logs-trans l0 l1 l2 [] (flat_map shown_in w.sweep) nobody.1 w.logs;
+  clock = w.clock;
+}
+swept s u old mid new l0 l1 l2 c0 c1 (inr begun) w =
+    let (port, le, is, others, logs) = begun in
+    record {
+      sweep = Opens port ∷ w.sweep;
+      sweeps = record {
+        turning = (mid, le, is, others, w.turning);
+        in_order = (refl, w.in_order);
+        none_passed = λ q within more. cases port is others q within more (eqb_tells q port);
+      };
+      logs = Logs-trans l0 l1 l2 (record { port = port; act = Opened } ∷ []) (flat_map shown_in w.sweep) logs w.logs;
+      clock = w.clock;
+    }
+  where
+    cases : (port : ℕ) → mid port ≡ opened → OthersStay old mid port → (q : ℕ) → q ≤ last_connection → HasMore (old q)
+        → ((eqb q port ≡ true) × (q ≡ port)) ⊎ ((eqb q port ≡ false) × (q ≢ port)) → IsServed q (Opens port ∷ w.sweep)
+    cases port is others q within more (inl h) = inl (sym h.1)
+    cases port is others q within more (inr h) = inr (w.none_passed q (omega (arith, within)) (subst HasMore (sym (others q h.1)) more))
+
+-- How many parts are stepped.
+
+Few : List Round → Type 0
+Few [] = Unit {0}
+Few (Opens port ∷ rounds) = Few rounds
+Few (Turns port acts ∷ rounds) = (step_count acts ≤ most_steps) × Few rounds
+
+few : (s t : State) (old new : Desks) (rounds : List Round) → Turning s old rounds t new → Few rounds
+unfolding Few
+few s t old new [] h = tt
+few s t old new (Opens port ∷ rounds) h =
+    let (between, le, is, others, later) = h in
+    few s t between new rounds later
+few s t old new (Turns port acts ∷ rounds) h =
+    let (u, between, le, goes, ends, others, later) = h in
+    (ends.1, few u t between new rounds later)
+
+few_behind : (xs ys : List Round) → Few (xs ++ ys) → Few ys
+unfolding Few
+few_behind [] ys h = h
+few_behind (Opens port ∷ xs) ys h = few_behind xs ys h
+few_behind (Turns port acts ∷ xs) ys h = few_behind xs ys h.1
+
+few_turn : (port : ℕ) (acts : List Act) (rounds : List Round) → Few (Turns port acts ∷ rounds) → Few rounds
+unfolding Few
+few_turn port acts rounds h = h.1
+
+few_before : (xs ys : List Round) → Few (xs ++ ys) → Few xs
+unfolding Few
+few_before [] ys h = tt
+few_before (Opens port ∷ xs) ys h = few_before xs ys h
+few_before (Turns port acts ∷ xs) ys h = (h.0, few_before xs ys h.1)
+
+-- as many as 16 a port
+bounded : (from to : ℕ) (rounds : List Round) → InOrder from to rounds → Few rounds → steps_in rounds + from * 16 ≤ to * 16
+unfolding Few
+bounded from to [] h f = omega (arith, h)
+bounded from to (Opens port ∷ rounds) h f = bounded from to rounds h.1 f
+bounded from to (Turns port acts ∷ rounds) h f =
+    let rest : steps_in rounds + suc port * 16 ≤ to * 16 = bounded (suc port) to rounds h.1 f.1 in
+    omega (arith, rest, h.0, f.0)
+
+-- what stands before a turn and behind it
+before_turn : (from to port : ℕ) (acts : List Act) (front back : List Round) → InOrder from to (front ++ Turns port acts ∷ back) → InOrder from port front
+before_turn from to port acts [] back h = h.0
+before_turn from to port acts (Opens p ∷ front) back h = (h.0, before_turn from to port acts front back h.1)
+before_turn from to port acts (Turns p done ∷ front) back h = (h.0, before_turn (suc p) to port acts front back h.1)
+
+behind_turn : (from to port : ℕ) (acts : List Act) (front back : List Round) → InOrder from to (front ++ Turns port acts ∷ back) → InOrder (suc port) to back
+behind_turn from to port acts [] back h = h.1
+behind_turn from to port acts (Opens p ∷ front) back h = behind_turn from to port acts front back h.1
+behind_turn from to port acts (Turns p done ∷ front) back h = behind_turn (suc p) to port acts front back h.1
+
+-- a connection begins before the first turn
+none_begins : (from to port : ℕ) (front back : List Round) → InOrder (suc from) to (front ++ Opens port ∷ back) → ⊥
+none_begins from to port [] back h = omega (arith, h.0)
+none_begins from to port (Opens p ∷ front) back h = none_begins from to port front back h.1
+none_begins from to port (Turns p acts ∷ front) back h = none_begins p to port front back h.1
+
+none_stepped : (from to port : ℕ) (front back : List Round) → InOrder from to (front ++ Opens port ∷ back) → steps_in front ≡ 0
+none_stepped from to port [] back h = refl
+none_stepped from to port (Opens p ∷ front) back h = none_stepped from to port front back h.1
+none_stepped from to port (Turns p acts ∷ front) back h = absurd (none_begins p to port front back h.1)
+
+served_at : (port : ℕ) (rounds : List Round) → IsServed port rounds
+    → (front : List Round) × (round : Round) × (back : List Round) × (rounds ≡ front ++ round ∷ back) × IsOf port round
+served_at port [] none = absurd none
+served_at port (r ∷ rounds) (inl own) = ([], r, rounds, refl, own)
+served_at port (r ∷ rounds) (inr later) =
+    let (front, round, back, is, own) = served_at port rounds later in
+    (r ∷ front, round, back, ap (λ l. r ∷ l) is, own)
+
+-- in front of a round of a port
+steps_before : (to port : ℕ) (round : Round) (front back : List Round) → IsOf port round → InOrder 0 to (front ++ round ∷ back) → Few (front ++ round ∷ back)
+    → steps_in front ≤ port * 16
+steps_before to port (Opens p) front back own h f = omega (arith, none_stepped 0 to p front back h)
+steps_before to port (Turns p acts) front back own h f =
+    let most : steps_in front + 0 * 16 ≤ p * 16 = bounded 0 p front (before_turn 0 to p acts front back h) (few_before front (Turns p acts ∷ back) f) in
+    omega (arith, most, own)
+
+pub waits_for_few : WaitsForFew
+waits_for_few s u t old mid new first second before behind port acts one two split le more =
+    let (front, round, back, is, own) = served_at port second (two.none_passed port le more) in
+    let first_few : Few (before ++ Turns port acts ∷ behind) = subst Few split (few s u old mid first one.turning) in
+    let later_few : Few behind = few_turn port acts behind (few_behind before (Turns port acts ∷ behind) first_few) in
+    let later : steps_in behind + suc port * 16 ≤ connection_count * 16 =
+    bounded (suc port) connection_count behind (behind_turn 0 connection_count port acts before behind (subst (InOrder 0 connection_count) split one.in_order)) later_few in
+    let sooner : steps_in front ≤ port * 16 =
+    steps_before connection_count port round front back own (subst (InOrder 0 connection_count) is two.in_order) (subst Few is (few u t mid new second two.turning)) in
+    (front, round, back, is, own, omega (arith, later, sooner))

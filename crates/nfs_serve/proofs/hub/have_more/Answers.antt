@@ -1,0 +1,14 @@
+use Rattle.std.proofs.Common.{◌≡◌, ◌<◌, true, false, sym, subst, ◌∙◌, length, rules}
+use Rattle.nfs_serve.specs.Desk.{HasMore}
+use Rattle.nfs_serve.specs.Lane.{desk_of}
+use Rattle.nfs_serve.proofs.Sweeps.{none_more}
+use Rattle.nfs_serve.proofs.hub.have_more.Goals as goal
+
+no : true ≡ false → ⊥
+no e = cc
+
+pub loop-port-preserved : goal.loop-port-preserved
+loop-port-preserved c =
+    let within : c.loop-port.port < length c.args.lanes.now = search rules in
+    none_more c.args.lanes.now c.loop-port.port c.index-lanes-port.result c.loop-port.invariant within
+    (λ more. no (sym (c.has_more.ensures.none (subst (λ x. HasMore (desk_of x)) (sym c.index-lanes-port.is) more)) ∙ c.if-has_more.false))
