@@ -1,9 +1,9 @@
-//! The system's clock, as the server reads it.
+//! The system's clock, as the server reads it: for connections one after the other, and for many at once.
 
-ghost use Rattle.std.specs.Prelude.{◌≡◌, ◌≤◌, ◌<◌, ◌%◌, ◌^◌, ℕ, List, Option, [], ◌∷◌, None};
+ghost use Rattle.std.specs.Prelude.{◌≡◌, ◌≤◌, ◌<◌, ◌%◌, ◌^◌, ℕ, List, Option, [], ◌∷◌, None, true};
 ghost use Rattle.std.specs.Io.KnownBytes.{Appends};
 ghost use Rattle.nfs_serve.specs.Script.{last_moment};
-ghost use Rattle.nfs41d.specs.Seconds.{Reads, Answers};
+ghost use Rattle.nfs41d.specs.Seconds.{Reads, Answers, Paces, Rises, pace, shown, made_up};
 
 use nfs_serve::{Clock, LAST_MOMENT};
 use std::rt;
@@ -66,6 +66,111 @@ impl<S: Seconds> Clock for SystemClock<S> {
         self.last = self.seconds.second().unwrap_or(self.last);
         self.last.min(LAST_MOMENT)
     }
+
+    /// It shows the system's second, and lags never.
+    fn begin_sweep(&mut self) -> bool
+        ensures never { Appends None None [] × (result ≡ true) }
+        ensures same { self.new ≡ self.old }
+    {
+        true
+    }
+}
+
+/// The system's clock for many connections. In a sweep over them it rises by a quarter of a lease at most, so that what waits in their sockets is
+/// heard before leases end for want of it. What it lags behind then it makes up slowly, a second in four, so that whoever was heard can renew in
+/// time. It never leads the system's clock.
+#[derive(Drop)]
+pub struct PacedClock<S: Seconds> {
+    seconds: S,
+    /// How many seconds it lags behind.
+    lag: u64,
+    /// The moment that was shown last.
+    last: u64,
+    /// The last moment that this sweep may show.
+    top: u64,
+    /// By how much a sweep rises at most.
+    step: u64,
+}
+
+impl<'a, R: rt::Clock> PacedClock<SystemSeconds<'a, R>> {
+    /// A clock that stands at this second until a sweep begins, for a lease of so many seconds.
+    pub fn new(rt: &'a R, lease: u32) -> PacedClock<SystemSeconds<'a, R>>
+        ensures lag { result.lag ≡ 0 }
+        ensures top { result.top ≡ result.last }
+        ensures step { result.step ≡ pace lease }
+    {
+        let mut seconds = SystemSeconds { rt };
+        let last = seconds.second().unwrap_or(0);
+        PacedClock {
+            seconds,
+            lag: 0,
+            last,
+            top: last,
+            step: u64::from(pace(lease)),
+        }
+    }
+}
+
+impl<S: Seconds> PacedClock<S> {
+    /// The second that is read, without the lag; the last moment where none can be.
+    fn shown(&mut self) -> u64
+        ensures reads { (read : Option ℕ) × Reads (S.reads self.old.seconds) (S.reads self.new.seconds) read × (result ≡ shown self.old.lag self.old.last read) }
+        ensures lag { self.new.lag ≡ self.old.lag }
+        ensures last { self.new.last ≡ self.old.last }
+        ensures top { self.new.top ≡ self.old.top }
+        ensures step { self.new.step ≡ self.old.step }
+    {
+        match self.seconds.second() {
+            Some(second) => second.saturating_sub(self.lag),
+            None => self.last,
+        }
+    }
+}
+
+impl<S: Seconds> Clock for PacedClock<S> {
+    ghost told = { λ _. None };
+
+    /// What its seconds show without the lag, and no more than this sweep may.
+    fn now(&mut self) -> u64
+        ensures bound { result ≤ last_moment }
+        ensures tells { Appends None None (result ∷ []) }
+        ensures paces { Paces (S.reads self.old.seconds) (S.reads self.new.seconds) self.old.lag self.old.last self.old.top self.new.last result }
+        ensures lag { self.new.lag ≡ self.old.lag }
+        ensures top { self.new.top ≡ self.old.top }
+        ensures step { self.new.step ≡ self.old.step }
+    {
+        let shown = self.shown();
+        self.last = shown.min(self.top);
+        self.last.min(LAST_MOMENT)
+    }
+
+    /// What this sweep may show at most is told by what its seconds show at its begin. What is above that is lag.
+    fn begin_sweep(&mut self) -> bool
+        ensures rises { Appends None None [] × Rises (S.reads self.old.seconds) (S.reads self.new.seconds) self.old.lag self.old.last self.old.top self.old.step self.new.lag self.new.last self.new.top }
+        ensures step { self.new.step ≡ self.old.step }
+        ensures waits { result ≡ true }
+    {
+        let shown = self.shown();
+        self.last = shown.min(self.top);
+        self.lag = self.lag.saturating_add(shown - self.last);
+        self.lag = self.lag.saturating_sub(made_up(self.last));
+        self.top = self.last.saturating_add(self.step);
+        true
+    }
+}
+
+/// How much of a lag is made up at a moment: a second in four.
+fn made_up(moment: u64) -> u64
+    ensures { result ≡ made_up moment }
+{
+    if moment % 4 == 0 { 1 } else { 0 }
+}
+
+/// By how many seconds a sweep rises at most: a quarter of a lease, and one at least.
+pub fn pace(lease: u32) -> u32
+    ensures { result ≡ pace lease }
+{
+    (lease / 4).max(1)
 }
 
 /// The instance of a server that starts at this second: the second modulo 2^32, and 1 in place of 0 and of 2^32 - 1.

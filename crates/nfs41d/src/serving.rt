@@ -3,7 +3,7 @@
 ghost use Rattle.std.specs.Prelude.{MatchResult};
 ghost use Rattle.nfs41d.specs.ExitStatus.{IsOfConnections};
 
-use crate::clock::SystemClock;
+use crate::clock::{PacedClock, SystemClock};
 use crate::fault::Fault;
 use crate::sockets::Sockets;
 use nfs_serve::{Host, Hub, Server};
@@ -44,7 +44,7 @@ where
 }
 
 /// Listens on an address, says on `told` which one it has taken, and serves so many connections, up to `at_once` of them at once and no
-/// more than 16. One that was silent for `idle` seconds gives way to a new one where all places are taken.
+/// more than 16. One that was silent for a lease (seconds) gives way to a new one where all places are taken.
 ///
 /// `Start` where the address cannot be listened on, or for want of memory; `Accept` where no connection can be taken any more.
 pub fn serve_many<R, W>(
@@ -53,7 +53,7 @@ pub fn serve_many<R, W>(
     addr: SocketAddrV4,
     connections: u32,
     at_once: u32,
-    idle: u32,
+    lease: u32,
     told: &mut W,
 ) -> Result<(), Fault>
 where
@@ -61,9 +61,9 @@ where
     W: Write,
     ensures { MatchResult result (λ _. Unit {0}) (λ fault. IsOfConnections fault) }
 {
-    let mut clock = SystemClock::new(rt);
+    let mut clock = PacedClock::new(rt, lease);
     let mut hub = Hub::new(rt.alloc()).map_err(|_| Fault::Start)?;
-    let mut sockets = Sockets::new(rt, SocketAddr::V4(addr), connections, at_once, idle).map_err(
+    let mut sockets = Sockets::new(rt, SocketAddr::V4(addr), connections, at_once, lease).map_err(
         |_| Fault::Start,
     )?;
     let addr = sockets.local_addr().map_err(|_| Fault::Start)?;

@@ -3,6 +3,7 @@
 ghost use Rattle.std.specs.Prelude.{◌≡◌, ◌≤◌, None, IfSome, IfOk};
 ghost use Rattle.nfs_serve.specs.Script.{last_connection};
 
+use crate::clock::pace;
 use mio::net::{TcpListener, TcpStream};
 use mio::{Events, Interest, Poll, Token};
 use nfs_serve::{Came, Next, Ports, Took};
@@ -48,6 +49,8 @@ pub struct Sockets<'a, R: rt::Clock> {
     at_once: usize,
     /// How long a connection is silent at least before a new one is given its port.
     idle: Duration,
+    /// How long it waits at most: half of what the clock of many connections rises by in a sweep, so that an idle server keeps up.
+    patience: Duration,
     /// How many connections are still to be accepted.
     left: u32,
     /// The moment of the last wait.
@@ -56,14 +59,14 @@ pub struct Sockets<'a, R: rt::Clock> {
 }
 
 impl<'a, R: Net + AllocGlobal + rt::Clock> Sockets<'a, R> {
-    /// Listens on an address for so many connections, so many of them at once, where a connection that was silent for `idle` seconds
-    /// gives way to a new one.
+    /// Listens on an address for so many connections, so many of them at once, where a connection that was
+    /// silent for a lease (seconds) gives way to a new one.
     pub fn new(
         rt: &'a R,
         addr: SocketAddr,
         connections: u32,
         at_once: u32,
-        idle: u32,
+        lease: u32,
     ) -> io::Result<Self> {
         let poll = Poll::new(rt)?;
         let mut listener = TcpListener::bind(rt, addr)?;
@@ -77,7 +80,8 @@ impl<'a, R: Net + AllocGlobal + rt::Clock> Sockets<'a, R> {
             calling: true,
             slots: [const { None }; PORTS],
             at_once: PORTS.min(at_once as usize),
-            idle: Duration::from_secs(u64::from(idle)),
+            idle: Duration::from_secs(u64::from(lease)),
+            patience: Duration::from_millis(u64::from(pace(lease)) * 500),
             left: connections,
             now: Instant::now(rt).ok(),
             failed: false,
@@ -175,13 +179,13 @@ impl<R: rt::Clock> Sockets<'_, R> {
     fn wait(&mut self, may_wait: bool) -> io::Result<()> {
         let ready = self.slots.iter().flatten().any(|slot| slot.ready);
         let timeout = if ready || !may_wait {
-            Some(Duration::ZERO)
+            Duration::ZERO
         } else if self.calling && self.left > 0 {
-            Some(Duration::from_millis(TICK))
+            Duration::from_millis(TICK)
         } else {
-            None
+            self.patience
         };
-        self.poll.poll(&mut self.events, timeout)?;
+        self.poll.poll(&mut self.events, Some(timeout))?;
         self.now = Instant::now(self.rt).ok();
         for event in &self.events {
             match self.slots.get_mut(event.token().0) {

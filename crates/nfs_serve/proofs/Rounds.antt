@@ -75,6 +75,21 @@ start s lanes l c all = record {
   clock = Appends-nil c;
 }
 
+-- a clock that gave no answer
+pub retold : (s t : State) (desks : List Desk) (n : ℕ) (l0 l1 : Option (List Deed)) (c0 c1 c2 : Option (List ℕ))
+    → ServesRounds s t desks n l0 l1 c0 c1 → Appends c1 c2 [] → ServesRounds s t desks n l0 l1 c0 c2
+retold s t desks n l0 l1 c0 c1 c2 before none = record {
+  sweeps = before.sweeps;
+  rounds = before.rounds;
+  are = before.are;
+  counted = before.counted;
+  turning = before.turning;
+  sweeping = before.sweeping;
+  logs = before.logs;
+  clock = subst (Appends c0 c2) (append-nil (flat_map asked_in before.rounds))
+      (Appends-trans c0 c1 c2 (flat_map asked_in before.rounds) [] before.clock none);
+}
+
 -- one sweep more
 pub more : (s t u : State) (old new : List Desk) (n : ℕ) (l0 l1 l2 : Option (List Deed)) (c0 c1 c2 : Option (List ℕ)) (sweep : List Round)
     → ServesRounds s t old n l0 l1 c0 c1 → Sweeps t (at old) sweep u (at new) → Logs l1 l2 (flat_map shown_in sweep) → Appends c1 c2 (flat_map asked_in sweep)

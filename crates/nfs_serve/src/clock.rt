@@ -1,4 +1,4 @@
-//! Where the moments of a talk come from.
+//! Where the moments of a talk, and of many, come from.
 
 ghost use Rattle.std.specs.Prelude.{◌≤◌, ℕ, List, [], ◌∷◌, Option};
 ghost use Rattle.std.specs.Io.KnownBytes.{Appends};
@@ -13,4 +13,8 @@ pub trait Clock {
     fn now(&mut self) -> u64
         ensures bound { result ≤ last_moment }
         ensures tells { Appends (told self.old) (told self.new) (result ∷ []) };
+
+    /// A sweep over many connections begins. `false` where the moments lag, so that sweeps are to follow each other without a wait.
+    fn begin_sweep(&mut self) -> bool
+        ensures { Appends (told self.old) (told self.new) [] };
 }

@@ -92,7 +92,8 @@ fn serve_lanes<P: Ports, C: Clock>(
     ensures serves { Serves (state_of engine.old.kept) (state_of engine.new.kept) (desks_of lanes.new) (P.log ports.old) (P.log ports.new) (C.told clock.old) (C.told clock.new) }
 {
     for _ in 0..u64::MAX {
-        let may_wait = !have_more(lanes);
+        let is_on_time = clock.begin_sweep();
+        let may_wait = is_on_time && !have_more(lanes);
         if !begin(lanes, ports, may_wait) {
             return;
         }

@@ -56,6 +56,10 @@ impl Clock for Counting {
         self.asked = self.asked.saturating_add(1);
         (self.asked as u64).min(1 << 62)
     }
+
+    fn begin_sweep(&mut self) -> bool {
+        true
+    }
 }
 
 /// Takes at most `most` bytes in a call, and fails at call `fails`, counted from 1.
