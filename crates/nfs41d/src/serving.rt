@@ -43,8 +43,8 @@ where
     Ok(())
 }
 
-/// Listens on an address, says on `told` which one it has taken, and serves so many connections, up to `at_once` of them at once and no
-/// more than 16. One that was silent for a lease (seconds) gives way to a new one where all places are taken.
+/// Listens on an address, says on `told` which one it has taken, and serves so many connections on which a request is answered, up to
+/// `at_once` of them at once and no more than 16. One that was silent for a lease (seconds) gives way to a new one where all places are taken.
 ///
 /// `Start` where the address cannot be listened on, or for want of memory; `Accept` where no connection can be taken any more.
 pub fn serve_many<R, W>(

@@ -21,6 +21,9 @@ const LISTENER: Token = Token(PORTS);
 /// How many milliseconds a wait lasts while somebody may wait for a port.
 const TICK: u64 = 200;
 
+/// How many seconds a connection is silent at most on which no request was answered, where somebody may wait for its port.
+const STRANGER: u64 = 10;
+
 /// The numbers of Linux for want of memory, of descriptors (the system's and the process's) and of buffers.
 const PASSING: [i32; 4] = [12, 23, 24, 105];
 
@@ -32,8 +35,27 @@ struct Slot {
     ready: bool,
     /// Whether the peer has ended its side or the connection has failed, so that a read says so once all bytes were read.
     ending: bool,
-    /// When it was last read or written.
+    /// When its peer last took the front of an answer, and at first when it began.
     used: Option<Instant>,
+    /// Whether something came behind the last answer.
+    asked: bool,
+    /// Whether a request was answered.
+    heard: bool,
+}
+
+impl Slot {
+    /// Notes that its peer took some bytes now, and answers whether they are the first of all. A read is asked for only where no reply is owed, so
+    /// what is written first behind one answers a whole record: that is a sign of life, and bytes that come are none.
+    fn note_taken(&mut self, now: Option<Instant>) -> bool {
+        if !self.asked {
+            return false;
+        }
+        self.asked = false;
+        self.used = now;
+        let is_first = !self.heard;
+        self.heard = true;
+        is_first
+    }
 }
 
 /// A listener and its connections.
@@ -47,11 +69,13 @@ pub struct Sockets<'a, R: rt::Clock> {
     calling: bool,
     slots: [Option<Slot>; PORTS],
     at_once: usize,
-    /// How long a connection is silent at least before a new one is given its port.
+    /// How long a connection is silent at least before a new one is given its port, where a request was answered.
     idle: Duration,
+    /// The same, where none was.
+    stranger: Duration,
     /// How long it waits at most: half of what the clock of many connections rises by in a sweep, so that an idle server keeps up.
     patience: Duration,
-    /// How many connections are still to be accepted.
+    /// On how many connections more a request is to be answered.
     left: u32,
     /// The moment of the last wait.
     now: Option<Instant>,
@@ -59,7 +83,7 @@ pub struct Sockets<'a, R: rt::Clock> {
 }
 
 impl<'a, R: Net + AllocGlobal + rt::Clock> Sockets<'a, R> {
-    /// Listens on an address for so many connections, so many of them at once, where a connection that was
+    /// Listens on an address for so many connections on which a request is answered, so many of them at once, where a connection that was
     /// silent for a lease (seconds) gives way to a new one.
     pub fn new(
         rt: &'a R,
@@ -81,6 +105,7 @@ impl<'a, R: Net + AllocGlobal + rt::Clock> Sockets<'a, R> {
             slots: [const { None }; PORTS],
             at_once: PORTS.min(at_once as usize),
             idle: Duration::from_secs(u64::from(lease)),
+            stranger: Duration::from_secs(u64::from(lease).min(STRANGER)),
             patience: Duration::from_millis(u64::from(pace(lease)) * 500),
             left: connections,
             now: Instant::now(rt).ok(),
@@ -108,18 +133,18 @@ impl<R: rt::Clock> Sockets<'_, R> {
         }
     }
 
-    /// A port that is free, or else that of the connection that has been silent the longest, and long enough.
+    /// A port that is free, or else that of the connection that has been silent the longest, and long enough: for a lease, or for ten
+    /// seconds where no request of it was answered.
     fn place(&self) -> Option<usize>
         ensures { IfSome result (λ port. port ≤ last_connection) }
     {
         let mut longest = None;
-        let mut silent = self.idle;
+        let mut silent = Duration::ZERO;
         for port in 0..self.at_once.min(PORTS) {
             let Some(slot) = &self.slots[port] else {
                 return Some(port);
             };
-            if let (Some(now), Some(used)) = (self.now, slot.used) {
-                let since = now.saturating_duration_since(used);
+            if let Some(since) = self.overdue(slot) {
                 if since >= silent {
                     silent = since;
                     longest = Some(port);
@@ -127,6 +152,18 @@ impl<R: rt::Clock> Sockets<'_, R> {
             }
         }
         longest
+    }
+
+    /// How long a connection has been silent, where that is long enough to give way.
+    fn overdue(&self, slot: &Slot) -> Option<Duration> {
+        let enough = if slot.heard { self.idle } else { self.stranger };
+        if let (Some(now), Some(used)) = (self.now, slot.used) {
+            let since = now.saturating_duration_since(used);
+            if since >= enough {
+                return Some(since);
+            }
+        }
+        None
     }
 
     /// Takes a connection that waits, if there is a port for it.
@@ -140,10 +177,7 @@ impl<R: rt::Clock> Sockets<'_, R> {
             return Ok(None);
         };
         match self.take_on(port) {
-            Ok(()) => {
-                self.left -= 1;
-                Ok(Some(port as u32))
-            }
+            Ok(()) => Ok(Some(port as u32)),
             Err(e) if e.kind() == ErrorKind::WouldBlock => {
                 self.calling = false;
                 Ok(None)
@@ -156,7 +190,6 @@ impl<R: rt::Clock> Sockets<'_, R> {
     /// Takes a connection that waits on a port. One that was there is closed.
     fn take_on(&mut self, port: usize) -> io::Result<()>
         requires { port ≤ last_connection }
-        ensures left { self.new.left ≡ self.old.left }
     {
         let (mut stream, _) = self.listener.accept()?;
         // A reply leaves at once, where the platform lets it.
@@ -171,6 +204,8 @@ impl<R: rt::Clock> Sockets<'_, R> {
             ready: true,
             ending: false,
             used: self.now,
+            asked: false,
+            heard: false,
         });
         Ok(())
     }
@@ -240,14 +275,13 @@ impl<R: rt::Clock> Ports for Sockets<'_, R> {
     }
 
     fn read(&mut self, port: u32, buf: &mut [u8]) -> Came {
-        let now = self.now;
         let Some(slot) = self.slot(port) else {
             return Came::Failed;
         };
         match slot.stream.read(buf) {
             Ok(0) => Came::Ended,
             Ok(n) => {
-                slot.used = now;
+                slot.asked = true;
                 // What comes behind a read that was short is told anew; an end that was told already is not.
                 slot.ready = n == buf.len() || slot.ending;
                 Came::Bytes(n)
@@ -269,7 +303,9 @@ impl<R: rt::Clock> Ports for Sockets<'_, R> {
         match slot.stream.write(bytes) {
             Ok(0) => Took::Failed,
             Ok(n) => {
-                slot.used = now;
+                if slot.note_taken(now) {
+                    self.left = self.left.saturating_sub(1);
+                }
                 Took::Bytes(n)
             }
             Err(e) if e.kind() == ErrorKind::WouldBlock => {
