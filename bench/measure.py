@@ -1,8 +1,15 @@
 """What the measurements share: where the encoder is, their options, and how they run the program."""
 import argparse
+import fcntl
 import os
+import re
+import shutil
+import struct
 import subprocess
 import sys
+import tempfile
+import termios
+import time
 from pathlib import Path
 
 sys.dont_write_bytecode = True
@@ -11,6 +18,13 @@ sys.path.insert(0, str(TOP / "tools"))
 
 import results  # noqa: E402
 from program import PROGRAM, needed  # noqa: E402
+
+COUNTED = re.compile(r"Collected : (\d+)")
+
+
+def name():
+    """The name of the measurement that runs."""
+    return os.path.basename(sys.argv[0])
 
 
 def options(text, *more):
@@ -33,7 +47,7 @@ def run(main):
         sys.stdout.flush()
     except BrokenPipeError:
         os.dup2(os.open(os.devnull, os.O_WRONLY), sys.stdout.fileno())
-        sys.exit(f"{os.path.basename(sys.argv[0])}: what it writes is not read to its end")
+        sys.exit(f"{name()}: what it writes is not read to its end")
 
 
 def word(parser):
@@ -49,6 +63,50 @@ def least(program, path, times=3):
             _, status, usage = os.wait4(process.pid, 0)
             process.returncode = status
         if status:
-            sys.exit(f"{os.path.basename(sys.argv[0])}: the program ended with status {status}")
+            sys.exit(f"{name()}: the program ended with status {status}")
         found.append(usage.ru_utime)
     return min(found)
+
+
+def wants_valgrind():
+    """Ends the script with a line unless valgrind is here."""
+    if not shutil.which("valgrind"):
+        sys.exit(f"{name()}: it wants valgrind, which is not here")
+
+
+def counted(program, script):
+    """How many instructions a run of the program over a script takes, which valgrind counts: the same number each time."""
+    with tempfile.NamedTemporaryFile() as given:
+        given.write(script)
+        given.flush()
+        with open(given.name, "rb") as calls:
+            words = ["valgrind", "--tool=callgrind", "--callgrind-out-file=/dev/null", program, "replay"]
+            ran = subprocess.run(words, stdin=calls, stdout=subprocess.DEVNULL, stderr=subprocess.PIPE, text=True, check=False)
+    found = COUNTED.search(ran.stderr)
+    if ran.returncode or not found:
+        sys.exit(f"{name()}: valgrind ended with status {ran.returncode}: {(ran.stderr.strip().splitlines() or ['no word'])[-1]}")
+    return int(found.group(1))
+
+
+def is_idle(process, pipe):
+    """Whether the program has read all that was written and waits for more."""
+    left = struct.unpack("i", fcntl.ioctl(pipe, termios.FIONREAD, bytes(4)))[0]
+    with open(f"/proc/{process.pid}/stat", encoding="ascii") as stat:
+        return not left and stat.read().rpartition(")")[2].split()[0] == "S"
+
+
+def resident(program, pieces, target):
+    """The most bytes that are resident in a run of the program over the pieces of a script, up to the last of them (those of the process before it
+    became the program do not count), and the run's status and user seconds. What it puts out goes to `target`."""
+    process = subprocess.Popen([program, "replay"], stdin=subprocess.PIPE, stdout=target)
+    for piece in pieces:
+        process.stdin.write(piece)
+    process.stdin.flush()
+    while process.poll() is None and not all(time.sleep(0.05) or is_idle(process, process.stdin) for _ in range(3)):
+        pass
+    with open(f"/proc/{process.pid}/status", encoding="ascii") as status:
+        most = int(re.search(r"VmHWM:\s*(\d+) kB", status.read())[1]) * 1_024
+    process.stdin.close()
+    _, status, usage = os.wait4(process.pid, 0)
+    process.returncode = status
+    return most, status, usage.ru_utime
