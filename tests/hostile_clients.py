@@ -26,7 +26,7 @@ class Served(wire.Served):
         super().__init__(connections, "--at-once", str(at_once), "--settings", self.settings.name)
 
     def used(self):
-        """The seconds of a processor that the program has used."""
+        """The seconds of a processor that the program has used, by the clock that the kernel has of each process."""
         return time.clock_gettime(~self.program.pid << 3 | 2)
 
     def stop(self):
