@@ -1,9 +1,11 @@
 """What the measurements share: where the encoder is, their options, and how they run the program."""
 import argparse
+import contextlib
 import fcntl
 import os
 import re
 import shutil
+import signal
 import struct
 import subprocess
 import sys
@@ -74,20 +76,6 @@ def wants_valgrind():
         sys.exit(f"{name()}: it wants valgrind, which is not here")
 
 
-def counted(program, script):
-    """How many instructions a run of the program over a script takes, which valgrind counts: the same number each time."""
-    with tempfile.NamedTemporaryFile() as given:
-        given.write(script)
-        given.flush()
-        with open(given.name, "rb") as calls:
-            words = ["valgrind", "--tool=callgrind", "--callgrind-out-file=/dev/null", program, "replay"]
-            ran = subprocess.run(words, stdin=calls, stdout=subprocess.DEVNULL, stderr=subprocess.PIPE, text=True, check=False)
-    found = COUNTED.search(ran.stderr)
-    if ran.returncode or not found:
-        sys.exit(f"{name()}: valgrind ended with status {ran.returncode}: {(ran.stderr.strip().splitlines() or ['no word'])[-1]}")
-    return int(found.group(1))
-
-
 def is_idle(process, pipe):
     """Whether the program has read all that was written and waits for more."""
     left = struct.unpack("i", fcntl.ioctl(pipe, termios.FIONREAD, bytes(4)))[0]
@@ -95,15 +83,38 @@ def is_idle(process, pipe):
         return not left and stat.read().rpartition(")")[2].split()[0] == "S"
 
 
-def resident(program, pieces, target):
-    """The most bytes that are resident in a run of the program over the pieces of a script, up to the last of them (those of the process before it
-    became the program do not count), and the run's status and user seconds. What it puts out goes to `target`."""
-    process = subprocess.Popen([program, "replay"], stdin=subprocess.PIPE, stdout=target)
+def gives(process, pieces):
+    """Gives the pieces of a script to the program, and waits until it has run them and waits for more."""
     for piece in pieces:
         process.stdin.write(piece)
     process.stdin.flush()
     while process.poll() is None and not all(time.sleep(0.05) or is_idle(process, process.stdin) for _ in range(3)):
         pass
+
+
+def counted(program, script):
+    """How many instructions a run of the program takes up to the end of a script, which valgrind counts: the same number each time. What it would
+    give back when it ends is not in it."""
+    words = ["valgrind", "--tool=callgrind", "--callgrind-out-file=/dev/null", program, "replay"]
+    with tempfile.TemporaryFile() as told:
+        process = subprocess.Popen(words, stdin=subprocess.PIPE, stdout=subprocess.DEVNULL, stderr=told)
+        with contextlib.suppress(BrokenPipeError):
+            gives(process, [script])
+        process.terminate()
+        status = process.wait()
+        told.seek(0)
+        said = told.read().decode(errors="replace")
+    found = COUNTED.search(said)
+    if status != -signal.SIGTERM or not found:
+        sys.exit(f"{name()}: valgrind ended with status {status}: {(said.strip().splitlines() or ['no word'])[-1]}")
+    return int(found.group(1))
+
+
+def resident(program, pieces, target):
+    """The most bytes that are resident in a run of the program over the pieces of a script, up to the last of them (those of the process before it
+    became the program do not count), and the run's status and user seconds. What it puts out goes to `target`."""
+    process = subprocess.Popen([program, "replay"], stdin=subprocess.PIPE, stdout=target)
+    gives(process, pieces)
     with open(f"/proc/{process.pid}/status", encoding="ascii") as status:
         most = int(re.search(r"VmHWM:\s*(\d+) kB", status.read())[1]) * 1_024
     process.stdin.close()
