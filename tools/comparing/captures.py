@@ -176,9 +176,6 @@ class Recording:
             raise Silence("no reply in the capture")
         return self.calls[self.at][4]
 
-    def alive(self):
-        return True
-
 
 class Recorded:
     """A recording in the place of a server under test."""
@@ -186,7 +183,7 @@ class Recorded:
     def __init__(self, calls):
         self.transport, self.avoid, self.nonce, self.serial, self.lease = Recording(calls), {}, "", 0, 90
 
-    def revive(self):
+    def is_gone(self):
         return False
 
 

@@ -127,6 +127,8 @@ class Play:
 
     def end(self, name, handle):
         """The script's clients and files go from the server."""
+        if self.server.over:
+            return
         try:
             control = self.server.control()
             for owner, users in self.owners.items():
@@ -134,8 +136,9 @@ class Play:
             control.sweep(handle, name)
         except (Silence, KeyError, IndexError, TypeError):
             self.server.client = None
-            if self.server.revive():
+            if self.server.is_gone():
                 self.found(Difference("RPC", "the server in the cleaning up", "alive", "gone"))
+                self.server.revive()
 
     def group(self, steps):
         if len(steps) == 1:
@@ -153,7 +156,7 @@ class Play:
         try:
             sent.got = self.server.transport.call(step.conn, sent.record)
         except Silence as fault:
-            self.silent(sent, fault)
+            self.silent([sent], fault)
             return
         sent.server = Answer(sent.got)
         self.judged(sent, (low, self.now()))
@@ -213,12 +216,17 @@ class Play:
         sent.record, sent.mine = xid + first.record[4:], xid + first.mine[4:]
         return sent
 
-    def silent(self, sent, fault):
+    def silent(self, calls, fault):
         """No reply came, or none that can be taken."""
-        gone = self.server.revive()
-        self.outcome.log.append(sent)
-        self.found(Difference("RPC", "the server" if gone else "reply", "alive" if gone else "a reply", "gone" if gone else f"none ({fault})", sent.step.id))
+        for sent in calls:
+            self.asked(sent)
+            self.outcome.log.append(sent)
+        gone = self.server.is_gone()
+        words = ("the server", "alive", "gone") if gone else ("reply", "a reply", f"none ({fault})")
+        self.found(Difference("RPC", *words, calls[-1].step.id))
         self.outcome.stopped = "no reply"
+        if gone:
+            self.server.revive()
 
     def judged(self, sent, window):
         """The reference answers the same call, and the two replies are compared."""
@@ -283,6 +291,11 @@ class Play:
     def reference_word(self, op, name):
         return dict(self.lowered(op, 0)).get(name)
 
+    def owner(self, op):
+        """The owner of the client whose session or id an operation names."""
+        pair = self.twin.values.get(op.get("sessionid") or op.get("clientid"))
+        return self.twin.owners.get(int(pair[0][:18], 0)) if pair else None
+
     def sequence_id(self, mine):
         """The number that a SEQUENCE of the server has to answer, where the reference answers this one."""
         return mine
@@ -333,7 +346,7 @@ class Play:
                 sent.server = Answer(sent.got)
         except (Silence, KeyError) as fault:
             if calls:
-                self.silent(calls[-1], fault if isinstance(fault, Silence) else "another call's reply")
+                self.silent(calls, fault if isinstance(fault, Silence) else "another call's reply")
             return
         self.ordered(calls, (low, self.now()))
 
@@ -546,6 +559,8 @@ class Play:
             return " (a time)"
         if op.name in ALONE and step.sequence:
             return " (in a session)"
+        if {a, b} & {"BADSESSION", "STALE_CLIENTID"} and len(self.twin.users.get(self.owner(op), ())) > 1:
+            return " (owner in doubt)"
         if op.name in ("READ", "WRITE", "COMMIT", "LOCK", "LOCKT", "LOCKU") and ends_beyond(op):
             return " (beyond 2^63)"
         if self.source_waited() and (a in ("BADSESSION", "STALE_CLIENTID", "BAD_STATEID") or b in ("BADSESSION", "STALE_CLIENTID", "EXPIRED")):
@@ -645,7 +660,7 @@ class Given:
 
 def granted(answer):
     """The fore channel that a CREATE_SESSION granted."""
-    for name, status, fields in answer.results:
+    for name, status, fields in answer.results if answer else ():
         if name == "CREATE_SESSION" and status == "OK":
             return {f"fore_{word}": int(dict(fields)[f"fore_{word}"]) for word in CHANNEL}
     return None

@@ -163,6 +163,8 @@ class Results:
             self.differ("flag CONFIRMED", mine >> 31, theirs >> 31)
         if not theirs & 0x70000:
             self.differ("flag of pNFS use", "one of three", "none")
+        self.twin.owners[int(r["clientid"], 0)] = op.get("owner")
+        self.twin.users.setdefault(op.get("owner"), set()).add(self.step.uid)
         sym = self.play.symbol_at(op, "clientid", "client", r["clientid"])
         first = self.twin.bases.setdefault(sym, (int(r["seqid"]), int(s["seqid"])))
         self.counted(int(r["seqid"]) - first[0], int(s["seqid"]) - first[1])

@@ -85,7 +85,7 @@ ALLOWED = [Row(*words) for words in (
     # sessions and clients
     ("SEQUENCE", "status", "SEQ_FALSE_RETRY", "OK", "2.10.6.1.3.1", "a server need not find out a false retry, and gives the kept reply"),
     ("SEQUENCE", "status", "SEQ_FALSE_RETRY", "SEQ_MISORDERED|RETRY_UNCACHED_REP", "2.10.6.1.3.1", "a server need not find out a false retry"),
-    ("SEQUENCE", "status .(kept|group).", "OK", "SEQ_FALSE_RETRY", "2.10.6.1.3.1", "which callers count as one under AUTH_SYS is open"),
+    ("SEQUENCE", "status .kept.", "OK", "SEQ_FALSE_RETRY", "2.10.6.1.3.1", "which callers count as one under AUTH_SYS is open"),
     (".*", "status .not to be kept.", ".*", "RETRY_UNCACHED_REP", "2.10.6.1.3", "the caller did not ask that the reply be kept"),
     (".*", "status", "REP_TOO_BIG", "OK", "2.10.6.4", "how large a reply will be is the server's estimate"),
     (".*", "status", ".*", "REP_TOO_BIG_TO_CACHE", "2.10.6.4", "the reply would not fit what the channel keeps"),
@@ -173,7 +173,6 @@ OURS = [Row(*words) for words in (
     ("CREATE", "status", "BADTYPE", ".*", "18.4.3", "devices, sockets and fifos, which the profile leaves out"),
     ("EXCHANGE_ID|CREATE_SESSION|DESTROY_SESSION|DESTROY_CLIENTID", "status .in a session.", "NOTSUPP", ".*", "18.37.3",
      "the RFC lets them be sent behind SEQUENCE, the profile does not"),
-    ("EXCHANGE_ID", "status .state protection.", "INVAL", ".*", "18.35.3", "the profile has no state protection"),
     ("READDIR", "dircount", ".*", ".*", "18.23.3", "the profile does not look at dircount"),
 )]
 
@@ -181,7 +180,7 @@ OURS = [Row(*words) for words in (
 UNCLEAR = [Row(*words) for words in (
     ("EXCHANGE_ID|CREATE_SESSION", "status", "CLID_INUSE|OK", "OK|CLID_INUSE", "18.35.4", "what another user meets who has the same owner"),
     ("SEQUENCE|DESTROY_SESSION|DESTROY_CLIENTID|CREATE_SESSION", "status .owner in doubt.", ".*", ".*", "18.35.4",
-     "whether EXCHANGE_ID by another user ends the old record at once"),
+     "whether EXCHANGE_ID by another user ends the old record at once, or CREATE_SESSION does"),
     ("OPEN", "attribute set .*", "no", "yes", "18.16.3", "attributes of a file that was there are told as set"),
     ("READLINK", "status", "WRONG_TYPE", "INVAL", "18.24.4", "which of the errors"),
     ("OPEN", "status", "NOTDIR", "SYMLINK", "18.16.3", "what a link in the place of the directory is"),
@@ -191,7 +190,6 @@ UNCLEAR = [Row(*words) for words in (
     ("attributes", "attr RDAttr_Error", "none", "an error", "5.8.1.12", "whether the attributes of an entry want the right to search the directory"),
     ("SEQUENCE", "status", "BAD_HIGH_SLOT", "OK", "18.46.3", "whether the highest slot must be judged"),
     ("SETATTR|OPEN|CREATE", "status", "INVAL", "OK", "5.8.2", "bits above 4,095 in a mode"),
-    ("LOCKT|LOCK", "status .no bytes held.", "OK", "DENIED", "18.10.4", "a lock that the reference does not know"),
 )]
 
 
@@ -210,7 +208,7 @@ def verdict(difference):
         return
     difference.verdict, difference.section = "deviation", SECTION.get(difference.operation, "")
     if of_operation and difference.operation != "COMPOUND" and difference.server not in ("OK", "none") and difference.server not in LISTED.get(difference.operation, ()):
-        difference.section += ", 15.2"
+        difference.section, difference.looked_up = difference.section + ", 15.2", False
         difference.why = f"{difference.server} is not listed for {difference.operation}"
 
 

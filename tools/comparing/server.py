@@ -11,6 +11,7 @@ import nfs4
 from .symbols import ANONYMOUS, entries_of
 
 CONTROL, PROBE = 99, 98  # connections that no script has
+RESTARTING = 60          # seconds that a server may take to start
 CHANNEL = {"max_req_size": "40000", "max_resp_size": "40000", "max_resp_size_cached": "8192", "max_ops": "32", "max_reqs": "1"}
 
 
@@ -113,7 +114,7 @@ class Tcp:
         if conn in self.sockets:
             with contextlib.suppress(OSError):
                 self.sockets.pop(conn).close()
-        return Silence(str(fault) or "closed")
+        return Silence(getattr(fault, "strerror", None) or str(fault) or "closed")
 
     def exactly(self, conn, size):
         out = bytearray()
@@ -147,6 +148,7 @@ class Client:
     def __init__(self, call, path=(), nonce=""):
         self.call, self.path, self.nonce = call, path, nonce
         self.xid, self.session, self.number = 0, None, 0
+        self.refused = ""  # the last call that `asked` got no success for, and its answer
 
     def ask(self, operations, uid=0):
         self.xid += 1
@@ -156,14 +158,24 @@ class Client:
     def asked(self, operations, uid=0):
         """The last result's fields where all went well, else None."""
         answer = self.ask(operations, uid)
-        return dict(answer.results[-1][2]) if answer.status == "OK" and answer.results else None
+        if answer.status == "OK" and answer.results:
+            return dict(answer.results[-1][2])
+        self.refused = f"{operations[-1][0]} is answered by {answer.status or answer.kind}"
+        return None
 
     def in_session(self, operations):
         """The same behind the SEQUENCE of a session of its own."""
         if self.session is None:
             self.open()
+        answer = self.ask([self.sequence(), *operations])
+        if answer.status in ("BADSESSION", "DEADSESSION"):  # its lease ran out
+            self.open()
+            answer = self.ask([self.sequence(), *operations])
+        return answer
+
+    def sequence(self):
         self.number += 1
-        return self.ask([("SEQUENCE", [("sessionid", self.session), ("seqid", str(self.number))]), *operations])
+        return "SEQUENCE", [("sessionid", self.session), ("seqid", str(self.number))]
 
     def mounted(self, owner, uid=0):
         """A new session's id and its client's, or None."""
@@ -178,7 +190,7 @@ class Client:
     def open(self):
         self.session, _ = self.mounted(f"compare-{self.nonce}")
         if self.session is None:
-            raise Gone("the server refuses EXCHANGE_ID or CREATE_SESSION")
+            raise Gone(f"no session can be made: {self.refused}")
         self.number = 0
         self.in_session([("RECLAIM_COMPLETE", [])])
 
@@ -192,7 +204,8 @@ class Client:
         answer = self.in_session([*self.home, ("CREATE", [("type", "2"), ("name", name), *mode]),
                                   ("SETATTR", [("StateID", ANONYMOUS), *mode]), ("GETFH", [])])
         if answer.status != "OK":
-            raise Gone(f"no directory can be made where PATH is: {answer.status}; see docs/COMPARE.md on what the server has to export")
+            raise Gone(f"no directory can be made where PATH is: {answer.results[-1][0] + ' is ' if answer.results else ''}{answer.status or answer.kind}; "
+                       "docs/COMPARE.md says what the server has to export")
         return dict(answer.results[-1][2])["FileHandle"]
 
     def sweep(self, handle, name=None):
@@ -229,13 +242,14 @@ class Server:
         self.transport, self.path, self.restart = transport, path, restart
         self.nonce, self.serial, self.gone = os.urandom(4).hex(), 0, 0
         self.avoid, self.dice, self.lease = {}, random.Random(1), None
-        self.client = None
+        self.client, self.over = None, False  # over: it is gone, and stays so
 
     def control(self):
         """The tool's own client, with its session."""
         if self.client is None:
-            self.client = Client(self.transport.call, self.path, f"{self.nonce}-{self.gone}")
-            self.client.open()
+            client = Client(self.transport.call, self.path, f"{self.nonce}-{self.gone}")
+            client.open()
+            self.client = client
             told = self.client.in_session([("PUTROOTFH", []), ("GETATTR", [("attr_mask", "Lease_Time")])])
             values = dict(nfs4.values_of(dict(told.results[-1][2])["attrs"]) or ()) if told.status == "OK" else {}
             self.lease = int(values.get("Lease_Time", 90))
@@ -247,14 +261,19 @@ class Server:
         name = f"cmp-{self.nonce}-{self.serial}"
         return name, self.control().base(name)
 
+    def is_gone(self):
+        return not self.transport.alive()
+
     def revive(self):
-        """Where the server is gone and a command starts it anew: that, and True."""
-        if self.transport.alive():
-            return False
+        """Starts a server anew that is gone, and waits until it answers."""
+        self.transport.forget()
+        self.client, self.over = None, True
+        self.gone += 1
         if self.restart is None:
             raise Gone("the server is gone, and no --restart says how it is started")
-        self.transport.forget()
-        self.client = None
-        self.gone += 1
-        subprocess.run(self.restart, shell=True, stdout=subprocess.DEVNULL, stdin=subprocess.DEVNULL, check=False)
-        return True
+        subprocess.run(self.restart, shell=True, stdout=subprocess.DEVNULL, stderr=subprocess.DEVNULL, stdin=subprocess.DEVNULL, check=False)
+        until = time.monotonic() + RESTARTING
+        while self.is_gone():
+            if time.monotonic() > until:
+                raise Gone(f"the server does not answer {RESTARTING} seconds behind --restart")
+        self.over = False

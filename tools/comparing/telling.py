@@ -69,7 +69,7 @@ def known_line(key):
 
 
 def read_known(path):
-    lines = (line.partition(" #")[0].strip() for line in path.read_text().splitlines())
+    lines = (line.partition(" #")[0].strip() for line in path.read_text(encoding="utf-8", errors="replace").splitlines())
     return {line for line in lines if line and not line.startswith("#")}
 
 

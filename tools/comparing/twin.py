@@ -21,6 +21,8 @@ class Twin:
     marks: dict = field(default_factory=dict)      # the reference's handle -> how it was made: 'default', 'group', 'exclusive'
     ready: set = field(default_factory=set)        # clients (halves of session ids) that said RECLAIM_COMPLETE
     created: set = field(default_factory=set)      # (client's Sym, number) of sessions that were made
+    owners: dict = field(default_factory=dict)     # a client's number in the reference -> its owner
+    users: dict = field(default_factory=dict)      # a client's owner -> the users that asked for it
     written: list = field(default_factory=list)    # the server's verifier of writes
 
     def copy(self):
