@@ -182,6 +182,7 @@ class Recorded:
 
     def __init__(self, calls):
         self.transport, self.avoid, self.nonce, self.serial, self.lease = Recording(calls), {}, "", 0, 90
+        self.over, self.alone = False, set()
 
     def is_gone(self):
         return False

@@ -1,7 +1,8 @@
 """Plays a script to the server and to the reference. The server goes first: the reference is asked for the channel that the server
 granted, and takes back what the server refused. Each reply is compared with the reference's; where the two part for good the script ends."""
+import contextlib
 import time
-from dataclasses import dataclass, field
+from dataclasses import dataclass, field, replace
 from itertools import permutations
 
 import nfs4
@@ -68,6 +69,7 @@ class Sent:
     reference: Answer = None
     moment: int = 0
     seconds: float = 0
+    window: tuple = ()
 
 
 @dataclass
@@ -89,7 +91,7 @@ class Play:
         self.binds, self.known = source.binds, {}
         self.windows, self.sent, self.edited, self.owners = {}, {}, set(), {}
         self.xid, self.moment, self.skew = 0x100, T0, 0.0
-        self.kept = {}
+        self.forks = []  # flights that another order explains as well: how many calls stood then, and what stands after each such order
 
     # the run
 
@@ -130,15 +132,18 @@ class Play:
         if self.server.over:
             return
         try:
-            control = self.server.control()
             for owner, users in self.owners.items():
-                any(control.end(owner, uid) for uid in sorted(users))
-            control.sweep(handle, name)
-        except (Silence, KeyError, IndexError, TypeError):
+                any(self.server.control().end(owner, uid) for uid in sorted(users))
+            self.server.control().sweep(handle, name)
+        except (Silence, KeyError, IndexError, TypeError) as fault:
             self.server.client = None
-            if self.server.is_gone():
-                self.found(Difference("RPC", "the server in the cleaning up", "alive", "gone"))
+            gone = self.server.is_gone()
+            told = "gone" if gone else "no reply" if isinstance(fault, Silence) else "a reply that lacks something"
+            self.found(Difference("RPC", "the server in the cleaning up", "alive", told))
+            if gone:
                 self.server.revive()
+            with contextlib.suppress(Silence, KeyError, IndexError, TypeError):
+                self.server.control().sweep(handle, name)
 
     def group(self, steps):
         if len(steps) == 1:
@@ -163,6 +168,7 @@ class Play:
 
     def wait(self, share):
         """So many leases pass on both sides; the tool's own clients renew theirs."""
+        self.forks = []
         for _ in range(PIECES):
             time.sleep((share * self.server.lease + (1.2 if share > 1 else 0)) / PIECES)
             self.moment += int(share * LEASE) // PIECES
@@ -230,12 +236,18 @@ class Play:
 
     def judged(self, sent, window):
         """The reference answers the same call, and the two replies are compared."""
-        sent.seconds = window[0]
-        self.windows[self.moment] = self.window(*window)
+        sent.window = window
+        before = len(self.outcome.differences)
+        self.answered(sent)
+        self.reconsidered(before)
+        self.learnt(self.sent[sent.step.id])
+
+    def answered(self, sent):
+        sent.seconds = sent.window[0]
+        self.windows[self.moment] = self.window(*sent.window)
         self.asked(sent)
         self.outcome.log.append(sent)
         self.compare(sent)
-        self.learnt(sent)
 
     def asked(self, sent):
         sent.mine = sent.mine or self.record(sent, 0, granted(sent.server))
@@ -351,42 +363,75 @@ class Play:
         self.ordered(calls, (low, self.now()))
 
     def ordered(self, calls, window):
-        """Keeps the order in which the reference's replies differ least."""
-        begun, best = self.state(), None
+        """Keeps the order in which the reference's replies differ least, and remembers others that are as good."""
+        begun, found = self.state(), []
+        for sent in calls:
+            sent.window = window
         for order in permutations(calls):
             self.restore(begun)
             for sent in order:
                 if not self.outcome.stopped:
-                    sent.mine = b""
-                    self.judged_dry(sent, window)
-            weight = sum(WEIGHTS.get(d.verdict, 1) for d in self.outcome.differences[len(begun[1]):])
-            if best is None or weight < best[0]:
-                best = weight, self.state()
-            if weight == 0:
+                    self.anew(sent)
+            found.append((self.weight(len(begun[1])), self.state()))
+            if found[-1][0] == 0 and sum(map(changes, calls)) < 2:
                 break
-        self.restore(best[1])
+        least = min(weight for weight, _ in found)
+        best, *others = [state for weight, state in found if weight == least]
+        self.restore(best)
+        self.between(len(begun[1]))
+        if others:
+            self.forks = [*self.forks[-1:], (len(begun[2]) + len(calls), others)]
         for sent in calls:
-            self.learnt(sent)
+            if sent.step.id in self.sent:
+                self.learnt(self.sent[sent.step.id])
 
-    def judged_dry(self, sent, window):
-        sent.seconds = window[0]
-        self.windows[self.moment] = self.window(*window)
+    def weight(self, since):
+        return sum(WEIGHTS.get(difference.verdict, 1) for difference in self.outcome.differences[since:])
+
+    def anew(self, sent):
+        """A call that was answered, judged where the reference is now."""
+        sent = replace(sent, mine=b"")
         if sent.step.again:
-            sent.mine = self.sent[sent.step.again].mine
-            sent.mine = sent.xid.to_bytes(4, "big") + sent.mine[4:]
-        self.asked(sent)
-        self.outcome.log.append(sent)
-        self.compare(sent)
+            sent.mine = sent.xid.to_bytes(4, "big") + self.sent[sent.step.again].mine[4:]
+        self.answered(sent)
+
+    def between(self, since):
+        """No order of whole calls explains a flight. A compound is no atom, so an order of their operations may."""
+        for at, difference in enumerate(self.outcome.differences[since:], since):
+            if difference.verdict == "deviation" and difference.key not in self.server.alone:
+                self.outcome.differences[at] = replace(difference, verdict="unclear", section="16.2.3", looked_up=False,
+                                                       why="of calls in flight: operations of other calls may come between those of one")
+
+    def reconsidered(self, before):
+        """Where a deviation is new, another order of an earlier flight may explain it."""
+        new = {difference.key for difference in self.outcome.differences[before:] if difference.verdict == "deviation"} - self.server.alone
+        if not self.forks:
+            self.server.alone |= new
+        elif new:
+            now, least = self.state(), self.weight(0)
+            for calls, others in self.forks:
+                later = now[2][calls:]
+                for state in others:
+                    self.restore(state)
+                    for sent in later:
+                        if not self.outcome.stopped:
+                            self.anew(sent)
+                    if self.weight(0) < least:
+                        self.forks = [fork for fork in self.forks if fork[0] < calls]
+                        return
+            self.restore(now)
+            self.server.alone |= new
 
     def state(self):
         o = self.outcome
         return (self.twin.copy(), list(o.differences), list(o.log), dict(o.counts), o.stopped, self.moment, set(self.edited), list(self.reference.history),
-                dict(self.server.avoid))
+                dict(self.server.avoid), dict(self.sent))
 
     def restore(self, state):
         o = self.outcome
-        twin, o.differences[:], o.log[:], counts, o.stopped, self.moment, edited, history, avoid = state
-        self.twin, o.counts, self.edited, self.reference.history, self.server.avoid = twin.copy(), dict(counts), set(edited), list(history), dict(avoid)
+        twin, o.differences[:], o.log[:], counts, o.stopped, self.moment, edited, history, avoid, sent = state
+        self.twin, o.counts, self.edited, self.reference.history = twin.copy(), dict(counts), set(edited), list(history)
+        self.server.avoid, self.sent = dict(avoid), dict(sent)
 
     # comparing
 
@@ -414,7 +459,13 @@ class Play:
         if mine.status != theirs.status and not (mine.results and theirs.results):
             self.found(Difference("COMPOUND", "status without results", mine.status, theirs.status, step.id))
         self.count_slot(sent)
-        self.in_turn(sent)
+        if not self.is_the_same(sent):
+            self.in_turn(sent)
+
+    def is_the_same(self, sent):
+        """Both repeats are, byte for byte, the replies that were compared the first time."""
+        first = self.sent.get(sent.step.again)
+        return bool(first and first.reference and first.got[4:] == sent.got[4:] and first.reference.data[4:] == sent.reference.data[4:])
 
     def form(self, sent):
         """What is wrong with the reply by itself, and with a kept one beside the first."""
@@ -559,6 +610,11 @@ class Play:
             return " (a time)"
         if op.name in ALONE and step.sequence:
             return " (in a session)"
+        if op.name == "CREATE_SESSION":
+            if {a, b} & {"TOOSMALL", "NOSPC"}:
+                self.twin.refused.add(op.get("clientid"))
+            elif "SEQ_MISORDERED" in (a, b) and op.get("clientid") in self.twin.refused:
+                return " (behind a refusal)"
         if {a, b} & {"BADSESSION", "STALE_CLIENTID"} and len(self.twin.users.get(self.owner(op), ())) > 1:
             return " (owner in doubt)"
         if op.name in ("READ", "WRITE", "COMMIT", "LOCK", "LOCKT", "LOCKU") and ends_beyond(op):
@@ -583,8 +639,18 @@ class Play:
                 return " (another user)"
         if a == "ACCESS" and b == "OK" and self.told(sent, cursor.here, "Owner") == str(step.uid):
             return " (owner of the file)"
-        if b == "ACCESS" and self.made_without_mode(sent, op, cursor):
+        if self.made_without_mode(sent, op, a, b, cursor):
             return " (mode not given)"
+        if a == "ACCESS" and b == "OK" and self.told(sent, cursor.here, "Type") == "5":
+            return " (a link)"
+        if a == "BADCHAR" and b not in ("NOENT", "INVAL", "BADNAME") and any(b"\0" in nfs4.meant(op.get(word, "0x")) for word in ("name", "newname")):
+            return " (a zero byte in a name)"
+        if a == "LOCKED" and b == "OK" and "0" in (op.get("count"), str(len(nfs4.meant(op.get("data", "0x61"))))):
+            return " (no bytes)"
+        if op.name == "SETATTR" and a == "OK" and b in ("PERM", "ACCESS") and self.is_there_already(sent, op, cursor):
+            return " (as it is)"
+        if op.name == "RENAME" and b == "ACCESS" and cursor.saved != cursor.here and self.told_of(sent, cursor.saved, op.get("name"), "Type") == "2":
+            return " (a directory gets another parent)"
         if op.name == "OPEN" and int(op.get("share_access", "1"), 0) & ~3:
             return " (bits of no meaning)"
         if op.name == "OPEN" and b == "SHARE_DENIED" and self.own_deny(step, op):
@@ -596,13 +662,22 @@ class Play:
                 return " (exclusive again)"
         return ""
 
-    def made_without_mode(self, sent, op, cursor):
-        """Was the object of an operation made by a call that gave no mode? Then servers may give it different ones."""
-        handle = cursor.here
-        if op.name == "OPEN" and op.get("claim_type", "0") == "0" and handle:
-            told = self.reference.look([("PUTFH", [("FileHandle", handle)]), ("LOOKUP", [("name", op.get("name"))]), ("GETFH", [])], sent.moment, True)
-            handle = dict(told[-1][2]).get("FileHandle") if told else None
-        return "default" in self.twin.marks.get(handle, "")
+    def made_without_mode(self, sent, op, a, b, cursor):
+        """Is this a matter of the mode of an object that was made without one? Then servers may give it different ones."""
+        marks = self.twin.marks.get(cursor.here, "")
+        if op.name in ("VERIFY", "NVERIFY"):
+            attrs = str(op.get("attrs"))
+            return "Mode:" in attrs and "default" in marks or "Owner_Group:" in attrs and "group" in marks
+        if "ACCESS" not in (a, b):
+            return False
+        handles = [cursor.here, cursor.saved] + ([self.handle_of(cursor.here, op.get("name"), sent)] if op.name == "OPEN" and op.get("name") else [])
+        return any("default" in self.twin.marks.get(handle, "") for handle in handles)
+
+    def is_there_already(self, sent, op, cursor):
+        """Are the owner and the group that are to be set those that the object has?"""
+        values = dict(nfs4.values_of(str(op.get("attrs"))) or ())
+        asked = {name: word for name, word in values.items() if name in ("Owner", "Owner_Group")}
+        return bool(asked) and all(self.told(sent, cursor.here, name) == word for name, word in asked.items())
 
     def own_deny(self, step, op):
         """Does an open of the same owner clash with this one?"""
@@ -618,6 +693,24 @@ class Play:
             return None
         told = self.reference.look([("PUTFH", [("FileHandle", handle)]), ("GETATTR", [("attr_mask", mask)])], sent.moment, before)
         return dict(nfs4.values_of(dict(told[-1][2])["attrs"]) or ()).get(mask) if told and told[-1][1] == "OK" else None
+
+    def told_of(self, sent, directory, name, mask):
+        """An attribute of an entry, before this call."""
+        return self.told(sent, self.handle_of(directory, name, sent), mask)
+
+    def handle_of(self, directory, name, before=None):
+        """The handle of an entry, now or before a call."""
+        if not directory or not name:
+            return None
+        moment = before.moment if before else self.moment
+        told = self.reference.look([("PUTFH", [("FileHandle", directory)]), ("LOOKUP", [("name", name)]), ("GETFH", [])], moment, before is not None)
+        return dict(told[-1][2]).get("FileHandle") if told and told[-1][1] == "OK" else None
+
+    @staticmethod
+    def next_name(step, op):
+        """The name of the operation behind one."""
+        at = step.ops.index(op) if op in step.ops else len(step.ops)
+        return step.ops[at + 1].name if at + 1 < len(step.ops) else ""
 
     def is_held(self, handle, op, told):
         """Is what a DENIED tells a run of bytes that its owner holds so, and in the way of what was asked?"""
@@ -656,6 +749,11 @@ class Given:
 
     def learn(self, *_):
         """A script that stands learns nothing."""
+
+
+def changes(sent):
+    """Does a call change what others may see?"""
+    return any(op.name not in READ_ONLY | {"SEQUENCE"} for op in sent.operations)
 
 
 def granted(answer):

@@ -19,7 +19,7 @@ class Cursor:
     """Where a compound is: the reference's current and saved filehandle, and how the object was made that GETFH will name."""
 
     def __init__(self):
-        self.here, self.saved, self.made = None, None, None
+        self.here, self.saved, self.made = None, None, None  # made: (marks, type) of what was just made
 
 
 class Results:
@@ -123,7 +123,11 @@ class Results:
 
     def getfh_(self, op, r, s, *_):
         if self.cursor.made:
-            self.twin.marks[r["FileHandle"]] = self.cursor.made
+            self.made(r["FileHandle"])
+
+    def made(self, handle):
+        """An object is new: how it was made, and its type."""
+        self.twin.marks[handle], self.twin.kinds[handle] = self.cursor.made
 
     def open_(self, op, r, s, *_):
         if s["delegation_type"] in ("1", "2"):
@@ -142,6 +146,9 @@ class Results:
             self.twin.opens.pop(self.twin.values[word.other][0], None)
 
     def rename_(self, op, r, s, *_):
+        if r["source_before"] != r["source_after"] and (moved := self.play.handle_of(self.cursor.here, op.get("newname"))):
+            self.twin.moved.setdefault(moved, []).append(self.play.moment - 1)
+            self.twin.stirred.add(moved)
         self.change_info(self.cursor.saved, r, s, "source_atomic", "source_before", "source_after")
         self.change_info(self.cursor.here, r, s, "target_atomic", "target_before", "target_after")
 
@@ -167,15 +174,15 @@ class Results:
         self.twin.users.setdefault(op.get("owner"), set()).add(self.step.uid)
         sym = self.play.symbol_at(op, "clientid", "client", r["clientid"])
         first = self.twin.bases.setdefault(sym, (int(r["seqid"]), int(s["seqid"])))
-        self.counted(int(r["seqid"]) - first[0], int(s["seqid"]) - first[1])
+        self.counted(sym, int(r["seqid"]) - first[0], int(s["seqid"]) - first[1])
 
-    def counted(self, mine, theirs):
+    def counted(self, client, mine, theirs):
         if mine != theirs:
-            self.differ("sequence id", f"{mine} behind the first", f"{theirs} behind the first")
+            self.differ("sequence id" + (" (behind a refusal)" if client in self.twin.refused else ""), f"{mine} behind the first", f"{theirs} behind the first")
 
     def create_session_(self, op, r, s, *_):
         first = self.twin.bases.get(op.get("clientid"), (1, 1))
-        self.counted(int(r["seqid"]) - first[0], int(s["seqid"]) - first[1])
+        self.counted(op.get("clientid"), int(r["seqid"]) - first[0], int(s["seqid"]) - first[1])
         number = op.get("clientid"), op.get("seqid")
         kept, self.twin.created = number in self.twin.created, self.twin.created | {number}
         for word in CHANNEL:
@@ -250,7 +257,7 @@ class Results:
     # attributes
 
     def attributes_set(self, op, r, s):
-        mine, theirs = ({word for word in side.get("attr_mask", "-").split(",") if word != "-"} for side in (r, s))
+        mine, theirs = ({word for word in side.get("attr_mask", "-").partition(":")[0].split(",") if word != "-"} for side in (r, s))
         extra = theirs - mine
         if op.name == "OPEN" and int(op.get("create_mode", "0"), 0) >= 2:
             extra -= SET_TIMES  # where a verifier may be kept
@@ -258,13 +265,17 @@ class Results:
             self.differ(f"attribute set {word}", "no", "yes")
         for word in sorted(mine - theirs):
             self.differ(f"attribute set {word}", "yes", "no")
-        self.cursor.made = self.how_made(op, mine, theirs)
+        if op.name == "SETATTR":
+            if self.twin.kinds.get(self.cursor.here) == "5" and "Mode" in mine:
+                self.twin.modes.add(self.cursor.here)
+        elif op.name == "CREATE" or r.get("changeid_before") != r.get("changeid_after"):
+            self.cursor.made = self.how_made(op, mine, theirs), op.get("type", "1")
+            if self.play.next_name(self.step, op) != "GETFH" and self.cursor.made[0] and (handle := self.play.handle_of(self.cursor.here, op.get("name"))):
+                self.made(handle)
 
     @staticmethod
     def how_made(op, mine, theirs):
-        """How the object was made that the next GETFH names."""
-        if op.name == "OPEN" and op.get("open_type", "0") != "1" or op.name == "SETATTR":
-            return None
+        """How an object was made: where a verifier may be kept, and what was not given."""
         exclusive = op.name == "OPEN" and int(op.get("create_mode", "0"), 0) >= 2 and theirs & SET_TIMES
         marks = {"exclusive": exclusive, "default": "Mode" not in mine, "group": "Owner_Group" not in mine}
         return " ".join(mark for mark, holds in marks.items() if holds)
@@ -295,7 +306,7 @@ class Results:
                 self.changed(handle, mine, theirs, "attr Change")
         elif name in TIMES:
             mark = " (exclusive)" if "exclusive" in self.twin.marks.get(handle, "") and name != "Time_Metadata" else ""
-            self.time(f"attr {name}{mark}", mine, theirs)
+            self.time(f"attr {name}{mark}", mine, theirs, handle)
         elif name in IDENTITIES:
             fault = self.twin.meet(IDENTITIES[name], mine, theirs)
             if fault:
@@ -319,15 +330,16 @@ class Results:
             return f"attr {name} (not given)"
         return f"attr {name}"
 
-    def time(self, what, mine, theirs):
+    def time(self, what, mine, theirs, handle):
         """The server's time has to lie in the interval of the call that set it, where the reference's names one."""
         at, seconds = moment_of(theirs), int(moment_of(mine))
         window = self.play.windows.get(seconds) if mine.endswith(".000000000") else None
         if window:
             if at > window[1]:
-                self.differ(what, "set by an earlier call", "later")
+                moved = any(low <= at <= high for low, high in map(self.play.windows.get, self.twin.moved.get(handle, ())))
+                self.differ(what + (" (moved)" if moved else ""), "set by an earlier call", "later")
             elif at < window[0]:
-                self.differ(what, "set by a later call", "earlier")
+                self.differ(what + (" (a link's mode)" if handle in self.twin.modes else ""), "set by a later call", "earlier")
         elif seconds == T0 - 1 or T0 <= seconds < T0 + 10**8:
             return
         elif mine != theirs:
@@ -351,10 +363,11 @@ class Results:
         known = self.twin.changes.setdefault(handle, {})
         if mine in known:
             if known[mine] != theirs:
-                self.differ(what, "as before", "another")
+                self.differ(what + (" (moved)" if handle in self.twin.stirred else ""), "as before", "another")
         elif theirs in known.values():
-            self.differ(what, "another", "as before")
+            self.differ(what + (" (a link's mode)" if handle in self.twin.modes else ""), "another", "as before")
         known[mine] = theirs
+        self.twin.stirred.discard(handle)
 
     # where the compound is
 

@@ -100,6 +100,7 @@ ALLOWED = [Row(*words) for words in (
     ("EXCHANGE_ID", "status", "PERM|NOT_SAME|NOENT", "NOT_SAME|PERM|NOENT", "18.35.4", "the order of the checks of an update"),
     ("SEQUENCE|DESTROY_SESSION|CREATE_SESSION|.*", "status .lease over.", "BADSESSION|STALE_CLIENTID|BAD_STATEID|OK", ".*", "8.4.2.4",
      "a server may let a client be whose lease has run out"),
+    ("CREATE_SESSION|EXCHANGE_ID", "(status|sequence id) .behind a refusal.", ".*", ".*", "18.36.4", "which refusals of CREATE_SESSION use a number up"),
     # opens and state
     ("OPEN", "delegation", ".*", ".*", "10.4", "a delegation is the server's choice"),
     ("OPEN", "result flags", ".*", ".*", "18.16.3", "they tell the server's ways"),
@@ -126,7 +127,8 @@ ALLOWED = [Row(*words) for words in (
      "which characters a name may have is the server's matter"),
     ("CREATE|OPEN", "status", "NAMETOOLONG", "OK", "5.8.2", "how long the text of a link may be"),
     (".*", "attr Time_(Access|Modify) .exclusive.", ".*", ".*", "18.16.3", "an exclusive create may keep its verifier there"),
-    (".*", "attr Mode of a link", ".*", ".*", "6.2.4", "a link's mode has no use"),
+    (".*", "attr Mode of a link|(attr|change) .* .a link's mode.|status .a link.", ".*", ".*", "6.2.4", "a link's mode has no use"),
+    (".*", "(attr|change) .* .moved.", ".*", ".*", "18.26.3", "whether RENAME is a change of the object that it moves"),
     (".*", "attr Mode .not given.", ".*", ".*", "18.16.3", "no mode was given"),
     (".*", "attr Owner_Group .not given.", ".*", ".*", "5.8.2.27", "no group was given, and the directory's may be taken"),
     ("LOCK|LOCKT|LOCKU", "status .beyond 2.63.", ".*", "BAD_RANGE|INVAL", "18.10.3", "a server may keep ranges of fewer bits"),
@@ -190,6 +192,12 @@ UNCLEAR = [Row(*words) for words in (
     ("attributes", "attr RDAttr_Error", "none", "an error", "5.8.1.12", "whether the attributes of an entry want the right to search the directory"),
     ("SEQUENCE", "status", "BAD_HIGH_SLOT", "OK", "18.46.3", "whether the highest slot must be judged"),
     ("SETATTR|OPEN|CREATE", "status", "INVAL", "OK", "5.8.2", "bits above 4,095 in a mode"),
+    (".*", "status .a zero byte in a name.", ".*", ".*", "14.5", "whether a name may have a zero byte; what ends a name there may take it for another"),
+    ("LOOKUPP", "status", "ACCESS", "OK", "18.14.3", "whether the way up wants the right to search"),
+    ("READ|WRITE", "status .no bytes.", ".*", ".*", "18.22.3", "whether an open that denies is in the way of no bytes"),
+    ("SETATTR", "status .as it is.", ".*", ".*", "18.30.3", "whether anybody may set the owner and the group that are there"),
+    ("RENAME", "status .a directory gets another parent.", ".*", ".*", "18.26.3", "whether that wants the right to write the directory itself"),
+    (".*", "status.*", "BAD_STATEID", "EXPIRED", "8.2.4", "what the state is that ended with its client"),
 )]
 
 

@@ -11,6 +11,7 @@ import nfs4
 from .symbols import ANONYMOUS, entries_of
 
 CONTROL, PROBE = 99, 98  # connections that no script has
+OLD = {"10018": "RESOURCE"}  # of minor version 0 alone
 RESTARTING = 60          # seconds that a server may take to start
 CHANNEL = {"max_req_size": "40000", "max_resp_size": "40000", "max_resp_size_cached": "8192", "max_ops": "32", "max_reqs": "1"}
 
@@ -73,7 +74,7 @@ class Answer:
 
 def plain(status):
     """A status's word without its prefix."""
-    return "OK" if status == "NFS4_OK" else status.removeprefix("NFS4ERR_")
+    return "OK" if status == "NFS4_OK" else OLD.get(status, status.removeprefix("NFS4ERR_"))
 
 
 def word_of_status(number):
@@ -243,6 +244,7 @@ class Server:
         self.nonce, self.serial, self.gone = os.urandom(4).hex(), 0, 0
         self.avoid, self.dice, self.lease = {}, random.Random(1), None
         self.client, self.over = None, False  # over: it is gone, and stays so
+        self.alone = set()  # keys of deviations that no order of calls in flight explains
 
     def control(self):
         """The tool's own client, with its session."""

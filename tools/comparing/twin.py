@@ -23,6 +23,10 @@ class Twin:
     created: set = field(default_factory=set)      # (client's Sym, number) of sessions that were made
     owners: dict = field(default_factory=dict)     # a client's number in the reference -> its owner
     users: dict = field(default_factory=dict)      # a client's owner -> the users that asked for it
+    moved: dict = field(default_factory=dict)      # the reference's handle -> the moments at which RENAME moved it
+    stirred: set = field(default_factory=set)      # handles that were moved since their change was last told
+    modes: set = field(default_factory=set)        # handles of links whose mode was set
+    refused: set = field(default_factory=set)      # clients' Syms of which a CREATE_SESSION was refused for its channel
     written: list = field(default_factory=list)    # the server's verifier of writes
 
     def copy(self):
