@@ -240,7 +240,7 @@ class Play:
         before = len(self.outcome.differences)
         self.answered(sent)
         self.reconsidered(before)
-        self.learnt(self.sent[sent.step.id])
+        self.learnt(self.sent.get(sent.step.id, sent))
 
     def answered(self, sent):
         sent.seconds = sent.window[0]
@@ -416,7 +416,7 @@ class Play:
                     for sent in later:
                         if not self.outcome.stopped:
                             self.anew(sent)
-                    if self.weight(0) < least:
+                    if self.weight(0) < least and len(self.outcome.log) == len(now[2]):
                         self.forks = [fork for fork in self.forks if fork[0] < calls]
                         return
             self.restore(now)
@@ -439,7 +439,7 @@ class Play:
         if difference.verdict == "deviation" and not difference.section:
             rules.verdict(difference)
         self.outcome.differences.append(difference)
-        if difference.key == self.want:
+        if self.want and difference.key == self.want.key and rules.is_as_strong(difference, self.want.verdict):
             self.outcome.stopped = self.outcome.stopped or "found"
 
     def compare(self, sent):
@@ -520,6 +520,8 @@ class Play:
             a, b = ("none" if result is None else result[1] for result in (mine, theirs))
             name = (mine or theirs)[0] if op.name == "bytes" else op.name
             self.outcome.counts[name, a] = self.outcome.counts.get((name, a), 0) + 1
+            if {a, b} & {"TOOSMALL", "NOSPC"}:
+                self.twin.refused.add(op.get("clientid"))
             if mine and theirs and mine[0] != theirs[0] and not (mine[0] == "PUTFH" and theirs[0] in ("PUTROOTFH", "PUTPUBFH")):
                 self.found(Difference(name, "operation of the result", mine[0], theirs[0], step.id, at))
                 self.outcome.stopped = "another operation"
@@ -550,7 +552,7 @@ class Play:
 
     def also_fails(self, sent, at, status):
         step = sent.step
-        plain = [(op.name, self.lowered_then(sent, op)) for op in sent.operations]
+        plain = [(op.name, self.lowered_then(sent, op)) for op in sent.operations[:at + 1]]
         if any(name == "bytes" for name, _ in plain):
             return False
         asked = repairs.Asked(sent.xid, (step.uid, step.gid, step.gids), plain, at, sent.moment)
@@ -610,11 +612,8 @@ class Play:
             return " (a time)"
         if op.name in ALONE and step.sequence:
             return " (in a session)"
-        if op.name == "CREATE_SESSION":
-            if {a, b} & {"TOOSMALL", "NOSPC"}:
-                self.twin.refused.add(op.get("clientid"))
-            elif "SEQ_MISORDERED" in (a, b) and op.get("clientid") in self.twin.refused:
-                return " (behind a refusal)"
+        if op.name == "CREATE_SESSION" and "SEQ_MISORDERED" in (a, b) and op.get("clientid") in self.twin.refused:
+            return " (behind a refusal)"
         if {a, b} & {"BADSESSION", "STALE_CLIENTID"} and len(self.twin.users.get(self.owner(op), ())) > 1:
             return " (owner in doubt)"
         if op.name in ("READ", "WRITE", "COMMIT", "LOCK", "LOCKT", "LOCKU") and ends_beyond(op):
@@ -631,6 +630,8 @@ class Play:
             handle = self.reference_word(op, "FileHandle") if op.name == "PUTFH" else cursor.saved if op.name == "LINK" else cursor.here
             if handle and "0" in (self.told(sent, handle, "NumLinks"), self.told(sent, handle, "NumLinks", False)):
                 return " (removed, open)"
+        if op.name in ("VERIFY", "NVERIFY") and cursor.here in self.twin.stirred and "Change:" in str(op.get("attrs")):
+            return " (moved)"
         if op.name in ("VERIFY", "NVERIFY") and "Size:" in str(op.get("attrs")) and self.told(sent, cursor.here, "Type") != "1":
             return " (size of no file)"
         if a == "OK" and b in ("ACCESS", "PERM", "WRONG_CRED") and isinstance(op.get("StateID"), State):
@@ -689,9 +690,13 @@ class Play:
 
     def told(self, sent, handle, mask, before=True):
         """An attribute of an object, before this call or behind it."""
+        return self.attribute_of(handle, mask, sent.moment, before)
+
+    def attribute_of(self, handle, mask, moment=None, before=False):
+        """An attribute of an object, or None."""
         if not handle:
             return None
-        told = self.reference.look([("PUTFH", [("FileHandle", handle)]), ("GETATTR", [("attr_mask", mask)])], sent.moment, before)
+        told = self.reference.look([("PUTFH", [("FileHandle", handle)]), ("GETATTR", [("attr_mask", mask)])], moment or self.moment, before)
         return dict(nfs4.values_of(dict(told[-1][2])["attrs"]) or ()).get(mask) if told and told[-1][1] == "OK" else None
 
     def told_of(self, sent, directory, name, mask):

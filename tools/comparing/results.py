@@ -12,6 +12,7 @@ CHANNEL = ("hdr_pad_size", "max_req_size", "max_resp_size", "max_resp_size_cache
 QUIET_FLAGS = 0x203  # SEQUENCE: the callback path is down, for this session or all, or the back channel is at fault
 IDENTITIES = {"Filehandle": "fh", "FileId": "FileId", "Mounted_on_FileId": "FileId", "FSID": "FSID"}
 TIMES = {"Time_Access", "Time_Metadata", "Time_Modify"}
+SETGID = 0o2000
 SET_TIMES = {"Time_Access", "Time_Modify", "Time_Access_Set", "Time_Modify_Set"}
 
 
@@ -19,7 +20,7 @@ class Cursor:
     """Where a compound is: the reference's current and saved filehandle, and how the object was made that GETFH will name."""
 
     def __init__(self):
-        self.here, self.saved, self.made = None, None, None  # made: (marks, type) of what was just made
+        self.here, self.saved, self.made = None, None, None  # made: marks, type and directory of what was just made
 
 
 class Results:
@@ -126,8 +127,8 @@ class Results:
             self.made(r["FileHandle"])
 
     def made(self, handle):
-        """An object is new: how it was made, and its type."""
-        self.twin.marks[handle], self.twin.kinds[handle] = self.cursor.made
+        """An object is new: how it was made, its type, and where."""
+        self.twin.marks[handle], self.twin.kinds[handle], self.twin.homes[handle] = self.cursor.made
 
     def open_(self, op, r, s, *_):
         if s["delegation_type"] in ("1", "2"):
@@ -266,10 +267,12 @@ class Results:
         for word in sorted(mine - theirs):
             self.differ(f"attribute set {word}", "yes", "no")
         if op.name == "SETATTR":
-            if self.twin.kinds.get(self.cursor.here) == "5" and "Mode" in mine:
+            if "Mode" in mine and (self.twin.kinds.get(self.cursor.here) or self.play.attribute_of(self.cursor.here, "Type")) == "5":
                 self.twin.modes.add(self.cursor.here)
+        elif op.name == "OPEN" and "Size" in extra:
+            self.play.outcome.stopped = "a file was cut on one side"
         elif op.name == "CREATE" or r.get("changeid_before") != r.get("changeid_after"):
-            self.cursor.made = self.how_made(op, mine, theirs), op.get("type", "1")
+            self.cursor.made = self.how_made(op, mine, theirs), op.get("type", "1"), self.cursor.here
             if self.play.next_name(self.step, op) != "GETFH" and self.cursor.made[0] and (handle := self.play.handle_of(self.cursor.here, op.get("name"))):
                 self.made(handle)
 
@@ -328,6 +331,8 @@ class Results:
             return f"attr {name} of a link"
         if name == "Mode" and "default" in made or name == "Owner_Group" and "group" in made:
             return f"attr {name} (not given)"
+        if name == "Mode" and int(self.play.attribute_of(self.twin.homes.get(handle), "Mode") or "0") & SETGID:
+            return "attr Mode (below setgid)"
         return f"attr {name}"
 
     def time(self, what, mine, theirs, handle):

@@ -128,7 +128,7 @@ ALLOWED = [Row(*words) for words in (
     ("CREATE|OPEN", "status", "NAMETOOLONG", "OK", "5.8.2", "how long the text of a link may be"),
     (".*", "attr Time_(Access|Modify) .exclusive.", ".*", ".*", "18.16.3", "an exclusive create may keep its verifier there"),
     (".*", "attr Mode of a link|(attr|change) .* .a link's mode.|status .a link.", ".*", ".*", "6.2.4", "a link's mode has no use"),
-    (".*", "(attr|change) .* .moved.", ".*", ".*", "18.26.3", "whether RENAME is a change of the object that it moves"),
+    (".*", "(attr|change|status).* .moved.", ".*", ".*", "18.26.3", "whether RENAME is a change of the object that it moves"),
     (".*", "attr Mode .not given.", ".*", ".*", "18.16.3", "no mode was given"),
     (".*", "attr Owner_Group .not given.", ".*", ".*", "5.8.2.27", "no group was given, and the directory's may be taken"),
     ("LOCK|LOCKT|LOCKU", "status .beyond 2.63.", ".*", "BAD_RANGE|INVAL", "18.10.3", "a server may keep ranges of fewer bits"),
@@ -194,11 +194,20 @@ UNCLEAR = [Row(*words) for words in (
     ("SETATTR|OPEN|CREATE", "status", "INVAL", "OK", "5.8.2", "bits above 4,095 in a mode"),
     (".*", "status .a zero byte in a name.", ".*", ".*", "14.5", "whether a name may have a zero byte; what ends a name there may take it for another"),
     ("LOOKUPP", "status", "ACCESS", "OK", "18.14.3", "whether the way up wants the right to search"),
+    (".*", "attr Mode .below setgid.", ".*", ".*", "6.2.4", "whether what is made in a directory whose mode has 02000 has it too"),
     ("READ|WRITE", "status .no bytes.", ".*", ".*", "18.22.3", "whether an open that denies is in the way of no bytes"),
     ("SETATTR", "status .as it is.", ".*", ".*", "18.30.3", "whether anybody may set the owner and the group that are there"),
     ("RENAME", "status .a directory gets another parent.", ".*", ".*", "18.26.3", "whether that wants the right to write the directory itself"),
     (".*", "status.*", "BAD_STATEID", "EXPIRED", "8.2.4", "what the state is that ended with its client"),
 )]
+
+
+ORDER = ("deviation", "unclear", "ours", "allowed")
+
+
+def is_as_strong(difference, word):
+    """Does a difference have this verdict or a stronger one?"""
+    return ORDER.index(difference.verdict) <= ORDER.index(word)
 
 
 def verdict(difference):

@@ -3,6 +3,7 @@ import time
 
 import nfs4
 
+from . import rules
 from .playing import Given, Play
 from .symbols import State, Sym, Turn
 
@@ -13,10 +14,10 @@ PLAINER = {"name": "a", "newname": "b", "offset": "0", "length": "10", "share_de
 
 
 class Shrinker:
-    """Delta debugging by plays. `key` is the difference that has to stay."""
+    """Delta debugging by plays. A difference like `want` has to stay: of its key, with its verdict or a stronger one."""
 
-    def __init__(self, server, reference, key, seconds):
-        self.server, self.reference, self.key = server, reference, key
+    def __init__(self, server, reference, want, seconds):
+        self.server, self.reference, self.want = server, reference, want
         self.until, self.tries = time.monotonic() + seconds, 0
 
     def shows(self, script):
@@ -24,10 +25,10 @@ class Shrinker:
             return False
         self.tries += 1
         try:
-            outcome = Play(self.server, self.reference, Given(script), self.key, steer=False).run()
+            outcome = Play(self.server, self.reference, Given(script), self.want, steer=False).run()
         except (nfs4.Unreadable, ValueError, KeyError):
             return False  # a call that cannot be written
-        return any(difference.key == self.key for difference in outcome.differences)
+        return any(difference.key == self.want.key and rules.is_as_strong(difference, self.want.verdict) for difference in outcome.differences)
 
     def shrink(self, script, last):
         """The smallest script that was found; `last` is the step at which the difference was seen."""

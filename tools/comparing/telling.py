@@ -8,7 +8,6 @@ import pcap
 from . import rules
 from .symbols import Sym, Turn
 
-ORDER = ("deviation", "unclear", "ours", "allowed")
 QUIET = {("CREATE_SESSION", "back"), ("CREATE_SESSION", "cb"), ("CREATE_SESSION", "flavor"), ("CREATE_SESSION", "machine")}
 
 

@@ -19,6 +19,7 @@ class Twin:
     opens: dict = field(default_factory=dict)      # the reference's stateid -> (client, owner, access, deny, user)
     kinds: dict = field(default_factory=dict)      # the reference's handle -> type
     marks: dict = field(default_factory=dict)      # the reference's handle -> how it was made: 'default', 'group', 'exclusive'
+    homes: dict = field(default_factory=dict)      # the reference's handle -> that of the directory in which it was made
     ready: set = field(default_factory=set)        # clients (halves of session ids) that said RECLAIM_COMPLETE
     created: set = field(default_factory=set)      # (client's Sym, number) of sessions that were made
     owners: dict = field(default_factory=dict)     # a client's number in the reference -> its owner
