@@ -4,7 +4,8 @@ import subprocess
 import nfs4
 import pcap
 
-from .playing import LONGEST, READ_ONLY, Given, Play
+from .flights import READ_ONLY
+from .playing import LONGEST, Given, Play
 from .reference import LEASE
 from .server import Answer, Silence
 from .symbols import BASE, Op, Script, Step, Sym, Turn, given, lifted

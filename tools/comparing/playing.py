@@ -2,25 +2,22 @@
 granted, and takes back what the server refused. Each reply is compared with the reference's; where the two part for good the script ends."""
 import contextlib
 import time
-from dataclasses import dataclass, field, replace
-from itertools import permutations
+from dataclasses import dataclass, field
 
 import nfs4
 
 from . import repairs, rules
+from .flights import READ_ONLY, Flights
 from .reference import LEASE, T0
 from .results import CHANNEL, Cursor, Results
 from .server import Answer, Silence
 from .symbols import BASE, State, Sym, Turn, Values, lowered, written
 from .twin import Twin
 
-READ_ONLY = set("ACCESS COMMIT GETATTR GETFH LOCKT LOOKUP LOOKUPP NVERIFY VERIFY PUTFH PUTROOTFH PUTPUBFH READ READDIR READLINK SAVEFH RESTOREFH "
-                "TEST_STATEID SECINFO_NO_NAME".split())
 ALONE = {"EXCHANGE_ID", "CREATE_SESSION", "DESTROY_SESSION", "DESTROY_CLIENTID"}
 NEEDED = ALONE | {"SEQUENCE"}
 LONGEST = 66_560   # a record that the reference takes, in bytes
 SLACK = 0.06       # seconds by which a server's clock may be coarse
-WEIGHTS = {"deviation": 100, "unclear": 10}  # of differences, when an order of calls in flight is chosen
 PIECES = 4         # a wait, so that the tool's own clients can renew their leases
 TIMES_PARTED = 3   # so often the two may part at one operation and status, before that is steered round
 
@@ -82,7 +79,7 @@ class Outcome:
     skipped: int = 0
 
 
-class Play:
+class Play(Flights):
     """One script on both sides. `source` gives the steps and learns what they had (`making.Maker`, or `Given`)."""
 
     def __init__(self, server, reference, source, want=None, steer=True):
@@ -91,7 +88,7 @@ class Play:
         self.binds, self.known = source.binds, {}
         self.windows, self.sent, self.edited, self.owners = {}, {}, set(), {}
         self.xid, self.moment, self.skew = 0x100, T0, 0.0
-        self.forks = []  # flights that another order explains as well: how many calls stood then, and what stands after each such order
+        self.forks = []  # the last flights that another order may explain as well
 
     # the run
 
@@ -339,99 +336,6 @@ class Play:
                 self.edited.add(step.id)
                 return operations[:at] if at > 1 else []
         return operations
-
-    # calls in flight
-
-    def flight(self, steps):
-        """Several calls are sent before any is answered. The server may run them in any order, so one order has to be right."""
-        calls = [sent for sent in map(self.prepared, steps) if sent]
-        low = self.now()
-        try:
-            for sent in calls:
-                self.server.transport.send(sent.step.conn, sent.record)
-            by_xid = {}
-            for sent in calls:
-                got = self.server.transport.receive(sent.step.conn)
-                by_xid[got[:4]] = got
-            for sent in calls:
-                sent.got = by_xid[sent.record[:4]]
-                sent.server = Answer(sent.got)
-        except (Silence, KeyError) as fault:
-            if calls:
-                self.silent(calls, fault if isinstance(fault, Silence) else "another call's reply")
-            return
-        self.ordered(calls, (low, self.now()))
-
-    def ordered(self, calls, window):
-        """Keeps the order in which the reference's replies differ least, and remembers others that are as good."""
-        begun, found = self.state(), []
-        for sent in calls:
-            sent.window = window
-        for order in permutations(calls):
-            self.restore(begun)
-            for sent in order:
-                if not self.outcome.stopped:
-                    self.anew(sent)
-            found.append((self.weight(len(begun[1])), self.state()))
-            if found[-1][0] == 0 and sum(map(changes, calls)) < 2:
-                break
-        least = min(weight for weight, _ in found)
-        best, *others = [state for weight, state in found if weight == least]
-        self.restore(best)
-        self.between(len(begun[1]))
-        if others:
-            self.forks = [*self.forks[-1:], (len(begun[2]) + len(calls), others)]
-        for sent in calls:
-            if sent.step.id in self.sent:
-                self.learnt(self.sent[sent.step.id])
-
-    def weight(self, since):
-        return sum(WEIGHTS.get(difference.verdict, 1) for difference in self.outcome.differences[since:])
-
-    def anew(self, sent):
-        """A call that was answered, judged where the reference is now."""
-        sent = replace(sent, mine=b"")
-        if sent.step.again:
-            sent.mine = sent.xid.to_bytes(4, "big") + self.sent[sent.step.again].mine[4:]
-        self.answered(sent)
-
-    def between(self, since):
-        """No order of whole calls explains a flight. A compound is no atom, so an order of their operations may."""
-        for at, difference in enumerate(self.outcome.differences[since:], since):
-            if difference.verdict == "deviation" and difference.key not in self.server.alone:
-                self.outcome.differences[at] = replace(difference, verdict="unclear", section="16.2.3", looked_up=False,
-                                                       why="of calls in flight: operations of other calls may come between those of one")
-
-    def reconsidered(self, before):
-        """Where a deviation is new, another order of an earlier flight may explain it."""
-        new = {difference.key for difference in self.outcome.differences[before:] if difference.verdict == "deviation"} - self.server.alone
-        if not self.forks:
-            self.server.alone |= new
-        elif new:
-            now, least = self.state(), self.weight(0)
-            for calls, others in self.forks:
-                later = now[2][calls:]
-                for state in others:
-                    self.restore(state)
-                    for sent in later:
-                        if not self.outcome.stopped:
-                            self.anew(sent)
-                    if self.weight(0) < least and len(self.outcome.log) == len(now[2]):
-                        self.forks = [fork for fork in self.forks if fork[0] < calls]
-                        return
-            self.restore(now)
-            self.server.alone |= new
-
-    def state(self):
-        o = self.outcome
-        return (self.twin.copy(), list(o.differences), list(o.log), dict(o.counts), o.stopped, self.moment, set(self.edited), list(self.reference.history),
-                dict(self.server.avoid), dict(self.sent))
-
-    def restore(self, state):
-        o = self.outcome
-        twin, o.differences[:], o.log[:], counts, o.stopped, self.moment, edited, history, avoid, sent = state
-        self.twin, o.counts, self.edited, self.reference.history = twin.copy(), dict(counts), set(edited), list(history)
-        self.server.avoid, self.sent = dict(avoid), dict(sent)
 
     # comparing
 
@@ -754,11 +658,6 @@ class Given:
 
     def learn(self, *_):
         """A script that stands learns nothing."""
-
-
-def changes(sent):
-    """Does a call change what others may see?"""
-    return any(op.name not in READ_ONLY | {"SEQUENCE"} for op in sent.operations)
 
 
 def granted(answer):
