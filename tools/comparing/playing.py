@@ -9,7 +9,7 @@ import nfs4
 from . import repairs, rules
 from .flights import READ_ONLY, Flights
 from .reference import LEASE, T0
-from .results import CHANNEL, Cursor, Results
+from .results import CHANNEL, CUT, Cursor, Results
 from .server import Answer, Silence
 from .symbols import BASE, State, Sym, Turn, Values, lowered, written
 from .twin import Twin
@@ -438,7 +438,7 @@ class Play(Flights):
                 self.found(Difference(name, what, left, right, step.id, at))
 
             Results(self, step, cursor, differ).compare(op, a, mine[2], theirs[2])
-            if a != "OK":
+            if a != "OK" or self.outcome.stopped == CUT:
                 return
 
     # statuses that differ

@@ -13,6 +13,7 @@ QUIET_FLAGS = 0x203  # SEQUENCE: the callback path is down, for this session or 
 IDENTITIES = {"Filehandle": "fh", "FileId": "FileId", "Mounted_on_FileId": "FileId", "FSID": "FSID"}
 TIMES = {"Time_Access", "Time_Metadata", "Time_Modify"}
 SETGID = 0o2000
+CUT = "a file was cut on one side"
 SET_TIMES = {"Time_Access", "Time_Modify", "Time_Access_Set", "Time_Modify_Set"}
 
 
@@ -270,7 +271,7 @@ class Results:
             if "Mode" in mine and (self.twin.kinds.get(self.cursor.here) or self.play.attribute_of(self.cursor.here, "Type")) == "5":
                 self.twin.modes.add(self.cursor.here)
         elif op.name == "OPEN" and "Size" in extra:
-            self.play.outcome.stopped = "a file was cut on one side"
+            self.play.outcome.stopped = CUT
         elif op.name == "CREATE" or r.get("changeid_before") != r.get("changeid_after"):
             self.cursor.made = self.how_made(op, mine, theirs), op.get("type", "1"), self.cursor.here
             if self.play.next_name(self.step, op) != "GETFH" and self.cursor.made[0] and (handle := self.play.handle_of(self.cursor.here, op.get("name"))):
@@ -331,9 +332,16 @@ class Results:
             return f"attr {name} of a link"
         if name == "Mode" and "default" in made or name == "Owner_Group" and "group" in made:
             return f"attr {name} (not given)"
-        if name == "Mode" and int(self.play.attribute_of(self.twin.homes.get(handle), "Mode") or "0") & SETGID:
+        if name == "Mode" and self.is_below_setgid(handle):
             return "attr Mode (below setgid)"
         return f"attr {name}"
+
+    def is_below_setgid(self, handle):
+        """Does a directory in which it was made, or that one in turn, have the bit that may be handed down?"""
+        while handle := self.twin.homes.get(handle):
+            if int(self.play.attribute_of(handle, "Mode") or "0") & SETGID:
+                return True
+        return False
 
     def time(self, what, mine, theirs, handle):
         """The server's time has to lie in the interval of the call that set it, where the reference's names one."""
