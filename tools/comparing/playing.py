@@ -93,7 +93,11 @@ class Play(Flights):
     # the run
 
     def run(self):
-        name, handle = self.begin()
+        try:
+            name, handle = self.begin()
+        except Silence:
+            self.lost("before a script")
+            return self.outcome
         try:
             while not self.outcome.stopped and (group := self.source.next()):
                 self.group(group)
@@ -133,14 +137,17 @@ class Play(Flights):
                 any(self.server.control().end(owner, uid) for uid in sorted(users))
             self.server.control().sweep(handle, name)
         except (Silence, KeyError, IndexError, TypeError) as fault:
-            self.server.client = None
-            gone = self.server.is_gone()
-            told = "gone" if gone else "no reply" if isinstance(fault, Silence) else "a reply that lacks something"
-            self.found(Difference("RPC", "the server in the cleaning up", "alive", told))
-            if gone:
-                self.server.revive()
+            self.lost("in the cleaning up", "no reply" if isinstance(fault, Silence) else "a reply that lacks something")
             with contextlib.suppress(Silence, KeyError, IndexError, TypeError):
                 self.server.control().sweep(handle, name)
+
+    def lost(self, when, told="no reply"):
+        """The tool's own client of the server got no reply that it can follow."""
+        self.server.client, gone = None, self.server.is_gone()
+        self.found(Difference("RPC", f"the server {when}", "alive", "gone" if gone else told))
+        self.outcome.stopped = self.outcome.stopped or "no reply"
+        if gone:
+            self.server.revive()
 
     def group(self, steps):
         if len(steps) == 1:

@@ -204,10 +204,10 @@ class Client:
         mode = [("attrs", "{Mode:511}")]
         answer = self.in_session([*self.home, ("CREATE", [("type", "2"), ("name", name), *mode]),
                                   ("SETATTR", [("StateID", ANONYMOUS), *mode]), ("GETFH", [])])
-        if answer.status != "OK":
-            raise Gone(f"no directory can be made where PATH is: {answer.results[-1][0] + ' is ' if answer.results else ''}{answer.status or answer.kind}; "
-                       "docs/COMPARE.md says what the server has to export")
-        return dict(answer.results[-1][2])["FileHandle"]
+        last, status, fields = answer.results[-1] if answer.results else ("the call", answer.status or answer.kind, [])
+        if answer.status != "OK" or "FileHandle" not in dict(fields):
+            raise Gone(f"no directory can be made where PATH is: {last} is answered by {status}; docs/COMPARE.md says what the server has to export")
+        return dict(fields)["FileHandle"]
 
     def sweep(self, handle, name=None):
         """What is below a directory is removed as far as that can be, and then itself."""
