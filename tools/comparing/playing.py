@@ -523,20 +523,20 @@ class Play(Flights):
             return " (a time)"
         if op.name in ALONE and step.sequence:
             return " (in a session)"
-        if op.name == "CREATE_SESSION" and "SEQ_MISORDERED" in (a, b) and op.get("clientid") in self.twin.refused:
+        if op.name == "CREATE_SESSION" and op.get("clientid") in self.twin.refused:
             return " (behind a refusal)"
         if {a, b} & {"BADSESSION", "STALE_CLIENTID"} and len(self.twin.users.get(self.owner(op), ())) > 1:
             return " (owner in doubt)"
-        if op.name in ("READ", "WRITE", "COMMIT", "LOCK", "LOCKT", "LOCKU") and ends_beyond(op):
+        if b in ("BAD_RANGE", "INVAL", "FBIG") and op.name in ("READ", "WRITE", "COMMIT", "LOCK", "LOCKT", "LOCKU") and ends_beyond(op):
             return " (beyond 2^63)"
         if self.source_waited() and (a in ("BADSESSION", "STALE_CLIENTID", "BAD_STATEID") or b in ("BADSESSION", "STALE_CLIENTID", "EXPIRED")):
             return " (lease over)"
-        return self.circumstance_of_files(step, sent, op, a, b, cursor)
+        return self.of_objects(sent, op, a, b, cursor) or self.of_rights(sent, op, a, b, cursor) or self.of_opens(step, op, a, b)
 
     def source_waited(self):
         return self.moment - T0 > LEASE
 
-    def circumstance_of_files(self, step, sent, op, a, b, cursor):
+    def of_objects(self, sent, op, a, b, cursor):
         if b == "STALE" or a == "OK" and b == "NOENT" or op.name == "LINK" and a == "NOENT":
             handle = self.reference_word(op, "FileHandle") if op.name == "PUTFH" else cursor.saved if op.name == "LINK" else cursor.here
             if handle and "0" in (self.told(sent, handle, "NumLinks"), self.told(sent, handle, "NumLinks", False)):
@@ -545,24 +545,33 @@ class Play(Flights):
             return " (moved)"
         if op.name in ("VERIFY", "NVERIFY") and "Size:" in str(op.get("attrs")) and self.told(sent, cursor.here, "Type") != "1":
             return " (size of no file)"
+        if a == "BADCHAR" and b not in ("NOENT", "INVAL", "BADNAME") and any(b"\0" in nfs4.meant(op.get(word, "0x")) for word in ("name", "newname")):
+            return " (a zero byte in a name)"
+        if a == "LOCKED" and b == "OK" and "0" in (op.get("count"), str(len(nfs4.meant(op.get("data", "0x61"))))):
+            return " (no bytes)"
+        return ""
+
+    def of_rights(self, sent, op, a, b, cursor):
         if a == "OK" and b in ("ACCESS", "PERM", "WRONG_CRED") and isinstance(op.get("StateID"), State):
             held = self.twin.opens.get(self.twin.values[op.get("StateID").other][0])
-            if held is None or held[4] != step.uid:
+            if held is None or held[4] != sent.step.uid:
                 return " (another user)"
-        if a == "ACCESS" and b == "OK" and self.told(sent, cursor.here, "Owner") == str(step.uid):
+        if a == "ACCESS" and b == "OK" and self.told(sent, cursor.here, "Owner") == str(sent.step.uid):
             return " (owner of the file)"
         if self.made_without_mode(sent, op, a, b, cursor):
             return " (mode not given)"
         if a == "ACCESS" and b == "OK" and self.told(sent, cursor.here, "Type") == "5":
             return " (a link)"
-        if a == "BADCHAR" and b not in ("NOENT", "INVAL", "BADNAME") and any(b"\0" in nfs4.meant(op.get(word, "0x")) for word in ("name", "newname")):
-            return " (a zero byte in a name)"
-        if a == "LOCKED" and b == "OK" and "0" in (op.get("count"), str(len(nfs4.meant(op.get("data", "0x61"))))):
-            return " (no bytes)"
         if op.name == "SETATTR" and a == "OK" and b in ("PERM", "ACCESS") and self.is_there_already(sent, op, cursor):
             return " (as it is)"
+        if op.name == "RENAME" and a == "ACCESS" and b == "OK":
+            old, new = self.handle_of(cursor.saved, op.get("name"), sent), self.handle_of(cursor.here, op.get("newname"), sent)
+            return " (nothing to do)" if old and old == new else ""
         if op.name == "RENAME" and b == "ACCESS" and cursor.saved != cursor.here and self.told_of(sent, cursor.saved, op.get("name"), "Type") == "2":
             return " (a directory gets another parent)"
+        return ""
+
+    def of_opens(self, step, op, a, b):
         if op.name == "OPEN" and int(op.get("share_access", "1"), 0) & ~3:
             return " (bits of no meaning)"
         if op.name == "OPEN" and b == "SHARE_DENIED" and self.own_deny(step, op):

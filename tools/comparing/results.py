@@ -85,12 +85,16 @@ class Results:
         mine, theirs = [[int(side[name]) for name in ("supported", "access_rights")] for side in (r, s)]
         for bit, word in ACCESS_BITS.items():
             if (mine[1] ^ theirs[1]) & mine[0] & theirs[0] & bit:
-                mark = " (mode not given)" if "default" in self.twin.marks.get(self.cursor.here, "") else ""
+                mark = " (mode not given)" if "default" in self.twin.marks.get(self.cursor.here, "") else " (a link)" if self.is_link() else ""
                 self.differ(f"bit {word}{mark}", bool(mine[1] & bit), bool(theirs[1] & bit))
         if theirs[0] & ~asked or theirs[1] & ~theirs[0]:
             self.differ("bits not asked for", 0, theirs[0] & ~asked | theirs[1] & ~theirs[0])
         if mine[0] & ~theirs[0] & 0x3f:
             self.differ("bits supported", mine[0], theirs[0])
+
+    def is_link(self):
+        """Is the current object a symbolic link?"""
+        return (self.twin.kinds.get(self.cursor.here) or self.play.attribute_of(self.cursor.here, "Type")) == "5"
 
     def read_(self, op, r, s, *_):
         mine, theirs = nfs4.meant(r["data"]), nfs4.meant(s["data"])
@@ -268,7 +272,7 @@ class Results:
         for word in sorted(mine - theirs):
             self.differ(f"attribute set {word}", "yes", "no")
         if op.name == "SETATTR":
-            if "Mode" in mine and (self.twin.kinds.get(self.cursor.here) or self.play.attribute_of(self.cursor.here, "Type")) == "5":
+            if "Mode" in mine and self.is_link():
                 self.twin.modes.add(self.cursor.here)
         elif op.name == "OPEN" and "Size" in extra:
             self.play.outcome.stopped = CUT

@@ -112,7 +112,7 @@ ALLOWED = [Row(*words) for words in (
     ("LINK", "status .removed, open.", "NOENT", "OK|STALE", "18.9.4", "an open file without a name may get one"),
     (".*", "status", "STALE", "OK", "4.2.1", "a handle of a removed object may stay good for a while"),
     ("CLOSE", "status", "OK", "LOCKS_HELD", "18.2.3", "a server may refuse to close while locks are held"),
-    ("READ", "status", "OPENMODE", "OK", "9.1.2", "a server may let an open for writing read"),
+    ("READ", "status", "OPENMODE", "OK|LOCKED", "9.1.2", "a server may let an open for writing read, where no other open denies it"),
     ("WRITE|SETATTR|READ", "status", "LOCKED|ACCESS", "ACCESS|LOCKED|OPENMODE", "9.1.2", "the order of the checks"),
     ("READ|WRITE|SETATTR|OPEN_DOWNGRADE|LOCK|LOCKU|CLOSE", "status .another user.", "OK", "ACCESS|PERM|WRONG_CRED", "18.22.4",
      "permission may be judged anew for the user of each request"),
@@ -127,7 +127,7 @@ ALLOWED = [Row(*words) for words in (
      "which characters a name may have is the server's matter"),
     ("CREATE|OPEN", "status", "NAMETOOLONG", "OK", "5.8.2", "how long the text of a link may be"),
     (".*", "attr Time_(Access|Modify) .exclusive.", ".*", ".*", "18.16.3", "an exclusive create may keep its verifier there"),
-    (".*", "attr Mode of a link|(attr|change) .* .a link's mode.|status .a link.", ".*", ".*", "6.2.4", "a link's mode has no use"),
+    (".*", "attr Mode of a link|(attr|change) .* .a link's mode.|(status|bit .*) .a link.", ".*", ".*", "6.2.4", "a link's mode has no use"),
     (".*", "(attr|change|status).* .moved.", ".*", ".*", "18.26.3", "whether RENAME is a change of the object that it moves"),
     (".*", "attr Mode .not given.", ".*", ".*", "18.16.3", "no mode was given"),
     (".*", "attr Owner_Group .not given.", ".*", ".*", "5.8.2.27", "no group was given, and the directory's may be taken"),
@@ -198,6 +198,7 @@ UNCLEAR = [Row(*words) for words in (
     ("READ|WRITE", "status .no bytes.", ".*", ".*", "18.22.3", "whether an open that denies is in the way of no bytes"),
     ("SETATTR", "status .as it is.", ".*", ".*", "18.30.3", "whether anybody may set the owner and the group that are there"),
     ("RENAME", "status .a directory gets another parent.", ".*", ".*", "18.26.3", "whether that wants the right to write the directory itself"),
+    ("RENAME", "status .nothing to do.", ".*", ".*", "18.26.3", "whether rights are asked for where both names are of one object"),
     (".*", "status.*", "BAD_STATEID", "EXPIRED", "8.2.4", "what the state is that ended with its client"),
 )]
 
