@@ -6,6 +6,10 @@ use nfs_testing::bytes_of;
 use std::alloc::{AllocError, Global};
 use std::test::Fail;
 
+const BADSESSION: u32 = 10_052;
+
+const SEQ_MISORDERED: u32 = 10_063;
+
 /// A slot of a client's session, and the name of the directory that its calls make and remove, as it is spelled.
 #[derive(Clone, Copy)]
 pub(super) struct Caller {
@@ -14,31 +18,33 @@ pub(super) struct Caller {
     pub(super) name: [u32; 2],
 }
 
-/// Two slots of client A and one of client B; their directories are `d0`, `d1` and `d2`.
-const CALLERS: [Caller; 3] = [
-    Caller {
-        client: 1,
-        slot: 0,
-        name: [2, 0x6430_0000],
-    },
-    Caller {
-        client: 1,
-        slot: 1,
-        name: [2, 0x6431_0000],
-    },
-    Caller {
-        client: 2,
-        slot: 0,
-        name: [2, 0x6432_0000],
-    },
-];
+/// Slot 0 of client A, slot 1 of it, and slot 0 of client B; their directories are `d0`, `d1` and `d2`.
+fn slot_of(number: u32) -> Caller {
+    match number {
+        0 => Caller {
+            client: 1,
+            slot: 0,
+            name: [2, 0x6430_0000],
+        },
+        1 => Caller {
+            client: 1,
+            slot: 1,
+            name: [2, 0x6431_0000],
+        },
+        _ => Caller {
+            client: 2,
+            slot: 0,
+            name: [2, 0x6432_0000],
+        },
+    }
+}
 
-/// EXCHANGE_ID of owner `B`.
-const EXCHANGE_ID_OF_B: [u32; 26] = {
+/// EXCHANGE_ID of an owner of one byte, as it is spelled.
+fn exchange_id(owner: u32) -> [u32; 26] {
     let mut words = EXCHANGE_ID;
-    words[22] = 0x4200_0000;
+    words[22] = owner;
     words
-};
+}
 
 /// CREATE_SESSION of a client: 66,560 bytes, 64 operations and 16 slots.
 pub(super) const fn create_session(client: u32) -> [u32; 39] {
@@ -97,35 +103,31 @@ fn refused(alloc: Global, xid: u32, status: u32) -> Result<Vec<u8>, AllocError> 
 
 /// What is delivered, under xids from 105 on: the moment; whose call it is, its number, and whether it makes the directory; the status that it
 /// is answered with, and under NFS4_OK what the root's change attribute was before. The lease is 90 seconds, and client B is silent from 100 on.
-const DELIVERIES: [(u32, Caller, u32, bool, u32, u32); 23] = [
-    (100, CALLERS[0], 1, true, 0, 1),
-    (100, CALLERS[1], 1, true, 0, 2),
-    (100, CALLERS[2], 1, true, 0, 3),
-    (100, CALLERS[2], 1, true, 0, 3),
-    (100, CALLERS[2], 2, false, 0, 4),
-    (100, CALLERS[1], 1, true, 0, 2),
-    (100, CALLERS[1], 2, false, 0, 5),
-    (100, CALLERS[0], 1, true, 0, 1),
-    (100, CALLERS[0], 2, false, 0, 6),
-    (100, CALLERS[0], 1, true, SEQ_MISORDERED, 0),
-    (100, CALLERS[0], 2, false, 0, 6),
-    (100, CALLERS[1], 1, true, SEQ_MISORDERED, 0),
-    (100, CALLERS[1], 2, false, 0, 5),
-    (100, CALLERS[2], 1, true, SEQ_MISORDERED, 0),
-    (100, CALLERS[2], 2, false, 0, 4),
-    (190, CALLERS[0], 3, true, 0, 7),
-    (190, CALLERS[1], 3, true, 0, 8),
-    (190, CALLERS[2], 2, false, 0, 4),
-    (191, CALLERS[2], 3, true, BADSESSION, 0),
-    (191, CALLERS[2], 2, false, BADSESSION, 0),
-    (191, CALLERS[0], 3, true, 0, 7),
-    (191, CALLERS[1], 3, true, 0, 8),
-    (191, CALLERS[0], 1, true, SEQ_MISORDERED, 0),
+const DELIVERIES: [(u32, u32, u32, bool, u32, u32); 23] = [
+    (100, 0, 1, true, 0, 1),
+    (100, 1, 1, true, 0, 2),
+    (100, 2, 1, true, 0, 3),
+    (100, 2, 1, true, 0, 3),
+    (100, 2, 2, false, 0, 4),
+    (100, 1, 1, true, 0, 2),
+    (100, 1, 2, false, 0, 5),
+    (100, 0, 1, true, 0, 1),
+    (100, 0, 2, false, 0, 6),
+    (100, 0, 1, true, SEQ_MISORDERED, 0),
+    (100, 0, 2, false, 0, 6),
+    (100, 1, 1, true, SEQ_MISORDERED, 0),
+    (100, 1, 2, false, 0, 5),
+    (100, 2, 1, true, SEQ_MISORDERED, 0),
+    (100, 2, 2, false, 0, 4),
+    (190, 0, 3, true, 0, 7),
+    (190, 1, 3, true, 0, 8),
+    (190, 2, 2, false, 0, 4),
+    (191, 2, 3, true, BADSESSION, 0),
+    (191, 2, 2, false, BADSESSION, 0),
+    (191, 0, 3, true, 0, 7),
+    (191, 1, 3, true, 0, 8),
+    (191, 0, 1, true, SEQ_MISORDERED, 0),
 ];
-
-const BADSESSION: u32 = 10_052;
-
-const SEQ_MISORDERED: u32 = 10_063;
 
 /// Records, each with its moment, and the replies to them.
 type Records = Vec<(u32, Vec<u8>)>;
@@ -147,15 +149,15 @@ pub(super) fn play(
 /// The two clients with a session each, and then all that is delivered.
 fn records(alloc: Global) -> Result<Records, Fail> {
     let mut records = Vec::new(alloc);
-    for words in [EXCHANGE_ID, EXCHANGE_ID_OF_B] {
-        records.push((100, bytes_of(alloc, &[&words])?))?;
+    for owner in [0x4100_0000, 0x4200_0000] {
+        records.push((100, bytes_of(alloc, &[&exchange_id(owner)])?))?;
     }
     for client in [1, 2] {
         records.push((100, bytes_of(alloc, &[&create_session(client)])?))?;
     }
     let mut xid: u32 = 105;
     for (now, by, number, makes, _, _) in &DELIVERIES {
-        records.push((*now, call(alloc, xid, by, *number, *makes)?))?;
+        records.push((*now, call(alloc, xid, &slot_of(*by), *number, *makes)?))?;
         xid = xid.wrapping_add(1);
     }
     Ok(records)
@@ -178,7 +180,7 @@ fn calls_of_three_callers_run_once(rt: HostRuntime) -> Result<(), Fail> {
         .zip(replies.iter().skip(4))
     {
         let wanted = if *status == 0 {
-            done(rt.alloc(), xid, by, *number, *makes, *before)?
+            done(rt.alloc(), xid, &slot_of(*by), *number, *makes, *before)?
         } else {
             refused(rt.alloc(), xid, *status)?
         };
