@@ -1,6 +1,6 @@
 //! The system's clock, as the server reads it: for connections one after the other, and for many at once.
 
-ghost use Rattle.std.specs.Prelude.{◌≡◌, ◌≤◌, ◌<◌, ◌%◌, ◌^◌, ℕ, List, Option, [], ◌∷◌, None, true};
+ghost use Rattle.std.specs.Prelude.{◌≡◌, ◌≤◌, ◌<◌, ◌%◌, ◌^◌, ℕ, List, Option, [], ◌∷◌, None};
 ghost use Rattle.std.specs.Io.KnownBytes.{Appends};
 ghost use Rattle.nfs_serve.specs.Script.{last_moment};
 ghost use Rattle.nfs41d.specs.Seconds.{Reads, Answers, Paces, Rises, pace, shown, made_up};
@@ -68,12 +68,9 @@ impl<S: Seconds> Clock for SystemClock<S> {
     }
 
     /// It shows the system's second, and lags never.
-    fn begin_sweep(&mut self) -> bool
-        ensures never { Appends None None [] × (result ≡ true) }
-        ensures same { self.new ≡ self.old }
-    {
-        true
-    }
+    fn begin_sweep(&mut self)
+        ensures same { Appends None None [] × (self.new ≡ self.old) }
+    {}
 }
 
 /// The system's clock for many connections. In a sweep over them it rises by a quarter of a lease at most, so that what waits in their sockets is
@@ -145,17 +142,15 @@ impl<S: Seconds> Clock for PacedClock<S> {
     }
 
     /// What this sweep may show at most is told by what its seconds show at its begin. What is above that is lag.
-    fn begin_sweep(&mut self) -> bool
+    fn begin_sweep(&mut self)
         ensures rises { Appends None None [] × Rises (S.reads self.old.seconds) (S.reads self.new.seconds) self.old.lag self.old.last self.old.top self.old.step self.new.lag self.new.last self.new.top }
         ensures step { self.new.step ≡ self.old.step }
-        ensures waits { result ≡ true }
     {
         let shown = self.shown();
         self.last = shown.min(self.top);
         self.lag = self.lag.saturating_add(shown - self.last);
         self.lag = self.lag.saturating_sub(made_up(self.last));
         self.top = self.last.saturating_add(self.step);
-        true
     }
 }
 

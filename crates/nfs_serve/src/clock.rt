@@ -14,7 +14,7 @@ pub trait Clock {
         ensures bound { result ≤ last_moment }
         ensures tells { Appends (told self.old) (told self.new) (result ∷ []) };
 
-    /// A sweep over many connections begins. `false` where the moments lag, so that sweeps are to follow each other without a wait.
-    fn begin_sweep(&mut self) -> bool
+    /// A sweep over many connections begins.
+    fn begin_sweep(&mut self)
         ensures { Appends (told self.old) (told self.new) [] };
 }

@@ -27,7 +27,7 @@ const MARK: usize = 4;
 
 /// What the first record of a piece comes to.
 #[derive(Clone, Copy, Debug, PartialEq, Eq)]
-pub enum First {
+pub(crate) enum First {
     /// All of the piece was taken, and no record ends in it.
     Nothing,
     /// The record that ends with the last of so many bytes was stepped, and answered so. A reply is lent by the engine.
@@ -38,7 +38,7 @@ pub enum First {
 
 /// What is held of a connection's stream. Between two calls no whole record waits.
 #[derive(Drop)]
-pub struct Connection {
+pub(crate) struct Connection {
     records: Records,
 }
 
@@ -56,7 +56,7 @@ impl Model for Connection {
 
 impl Connection {
     /// A connection on which nothing has come. Its buffer is made here.
-    pub fn new(alloc: Global) -> Result<Connection, AllocError>
+    pub(crate) fn new(alloc: Global) -> Result<Connection, AllocError>
         ensures { IfOk result (λ c. c ≡ fresh) }
     {
         Ok(Connection {
@@ -65,14 +65,14 @@ impl Connection {
     }
 
     /// Begins a new stream.
-    pub fn close(&mut self)
+    pub(crate) fn close(&mut self)
         ensures { self.new ≡ fresh }
     {
         self.records.reset();
     }
 
     /// Whether the stream is too long.
-    pub fn is_too_long(&self) -> bool
+    pub(crate) fn is_too_long(&self) -> bool
         ensures { result ≡ is_too_long self.now }
     {
         self.records.is_too_long()
@@ -80,7 +80,7 @@ impl Connection {
 
     /// Takes the bytes of a piece up to the end of the first record in them, or all of them, and steps that record. What it is
     /// answered, with its record mark, is put behind what is owed. Answers how many bytes were taken.
-    pub fn take_one(
+    pub(crate) fn take_one(
         &mut self,
         alloc: Global,
         engine: &mut Engine,
@@ -107,7 +107,7 @@ impl Connection {
     }
 
     /// Takes the piece of an entry: each record that it ends is stepped and its reply written.
-    pub fn feed<W: Sink>(
+    pub(crate) fn feed<W: Sink>(
         &mut self,
         alloc: Global,
         engine: &mut Engine,

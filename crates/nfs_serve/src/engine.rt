@@ -34,7 +34,7 @@ const ROOM: usize = 70_008;
 
 /// The server's tables, the moment that was taken last, and the reply that was made last.
 #[derive(Drop)]
-pub struct Engine {
+pub(crate) struct Engine {
     world: World,
     moment: u64,
     sheet: Sheet,
@@ -57,7 +57,7 @@ impl Model for Engine {
 impl Engine {
     /// The engine of a new server. The buffer of replies is made here.
     #[tactic(auto, using(nfs_xdr::proofs::Putting::putting))]
-    pub fn new(
+    pub(crate) fn new(
         alloc: Global,
         instance: u32,
         lease: u32,
@@ -75,7 +75,7 @@ impl Engine {
     }
 
     /// Steps a record at a moment. A reply is lent by `reply`.
-    pub fn record(&mut self, alloc: Global, call: &[u8], now: u64) -> Outcome
+    pub(crate) fn record(&mut self, alloc: Global, call: &[u8], now: u64) -> Outcome
         requires { now ≤ last_moment }
         ensures { (choice : Option ℕ) × IsAnswer result (step (state_of self.old.kept) call.now now choice).reply self.new.reply × ((state_of self.new.kept) ≡ (step (state_of self.old.kept) call.now now choice).state) }
     {
@@ -103,28 +103,28 @@ impl Engine {
     }
 
     /// No byte has a writer beside another holder, and no two owners' opens clash; this does nothing but say so.
-    pub fn no_clash(&self)
+    pub(crate) fn no_clash(&self)
         ensures { HasNoClashes (state_of self.now.kept).machine }
     {
         self.world.no_clash();
     }
 
     /// The tables of clients, sessions, leases and opens agree; this does nothing but say so.
-    pub fn tables_agree(&self)
+    pub(crate) fn tables_agree(&self)
         ensures { IsMachine (state_of self.now.kept).machine }
     {
         self.world.tables_agree();
     }
 
     /// The reply that was made last.
-    pub fn reply(&self) -> &[u8]
+    pub(crate) fn reply(&self) -> &[u8]
         ensures { result.now ≡ self.now.reply }
     {
         &self.sheet.bytes()[FRONT..]
     }
 
     /// Lends no reply from here on.
-    pub fn forget_reply(&mut self)
+    pub(crate) fn forget_reply(&mut self)
         ensures kept { self.new.kept ≡ self.old.kept }
         ensures reply { self.new.reply ≡ [] }
     {
@@ -132,7 +132,7 @@ impl Engine {
     }
 
     /// Writes what a record that came on a connection was answered.
-    pub fn write_answer<W: Sink>(
+    pub(crate) fn write_answer<W: Sink>(
         &mut self,
         outcome: Outcome,
         conn: u32,
@@ -151,7 +151,7 @@ impl Engine {
 
     /// Puts what a record was answered, with its record mark alone, behind what is owed. No answer is longer than the room that
     /// the outbox keeps for one.
-    pub fn owe_answer(&mut self, outcome: Outcome, conn: u32, out: &mut Outbox)
+    pub(crate) fn owe_answer(&mut self, outcome: Outcome, conn: u32, out: &mut Outbox)
         requires { out.old.laid ≤ most_owed }
         ensures owed { out.new.bytes ≡ out.old.bytes ++ spell_lent Plain conn outcome self.old.reply }
         ensures same { self.new ≡ self.old }

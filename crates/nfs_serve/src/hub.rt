@@ -55,7 +55,7 @@ impl Hub {
 }
 
 /// Closes every connection, then serves those that come until none is left and none will come.
-pub fn serve<P: Ports, C: Clock>(
+pub(crate) fn serve<P: Ports, C: Clock>(
     alloc: Global,
     engine: &mut Engine,
     hub: &mut Hub,
@@ -92,8 +92,8 @@ fn serve_lanes<P: Ports, C: Clock>(
     ensures serves { Serves (state_of engine.old.kept) (state_of engine.new.kept) (desks_of lanes.new) (P.log ports.old) (P.log ports.new) (C.told clock.old) (C.told clock.new) }
 {
     for _ in 0..u64::MAX {
-        let is_on_time = clock.begin_sweep();
-        let may_wait = is_on_time && !have_more(lanes);
+        clock.begin_sweep();
+        let may_wait = !have_more(lanes);
         if !begin(lanes, ports, may_wait) {
             return;
         }

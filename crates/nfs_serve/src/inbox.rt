@@ -13,7 +13,7 @@ use std::marker::Model;
 
 /// Bytes that came and were not stepped, in room that is made once.
 #[derive(Drop)]
-pub struct Inbox {
+pub(crate) struct Inbox {
     bytes: Vec<u8>,
     at: usize,
     end: usize,
@@ -32,7 +32,7 @@ impl Model for Inbox {
 
 impl Inbox {
     /// An empty one. Its buffer is made here.
-    pub fn new(alloc: Global) -> Result<Inbox, AllocError>
+    pub(crate) fn new(alloc: Global) -> Result<Inbox, AllocError>
         ensures { IfOk result (λ b. b ≡ []) }
     {
         Ok(Inbox {
@@ -43,14 +43,14 @@ impl Inbox {
     }
 
     /// The bytes.
-    pub fn rest(&self) -> &[u8]
+    pub(crate) fn rest(&self) -> &[u8]
         ensures { result.now ≡ self.now }
     {
         &self.bytes[self.at..self.end]
     }
 
     /// Lets go so many bytes in front.
-    pub fn consume(&mut self, n: usize)
+    pub(crate) fn consume(&mut self, n: usize)
         requires { n ≤ length self.old }
         ensures { self.new ≡ drop n self.old }
     {
@@ -58,7 +58,7 @@ impl Inbox {
     }
 
     /// Lets go all.
-    pub fn clear(&mut self)
+    pub(crate) fn clear(&mut self)
         ensures { self.new ≡ [] }
     {
         self.at = 0;
@@ -66,7 +66,7 @@ impl Inbox {
     }
 
     /// Takes what one read gives, into an empty one.
-    pub fn receive<P: Ports>(&mut self, ports: &mut P, port: u32) -> Came
+    pub(crate) fn receive<P: Ports>(&mut self, ports: &mut P, port: u32) -> Came
         requires port { port ≤ last_connection }
         requires empty { self.old ≡ [] }
         ensures received { Receives port result self.new (P.log ports.old) (P.log ports.new) }

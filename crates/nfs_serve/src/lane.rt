@@ -22,7 +22,7 @@ const MOST_STEPS: u32 = 16;
 
 /// A port, and the connection on it, if there is one.
 #[derive(Drop)]
-pub struct Lane {
+pub(crate) struct Lane {
     live: bool,
     reads: u32,
     connection: Connection,
@@ -32,7 +32,7 @@ pub struct Lane {
 
 /// How far a lane came.
 #[derive(Clone, Copy, Debug, PartialEq, Eq)]
-pub enum Rest {
+pub(crate) enum Rest {
     /// Nothing waits to be written.
     Clear,
     /// The peer takes no more for now.
@@ -43,7 +43,7 @@ pub enum Rest {
 
 impl Lane {
     /// A port with no connection. Its buffers are made here.
-    pub fn new(alloc: Global) -> Result<Lane, AllocError>
+    pub(crate) fn new(alloc: Global) -> Result<Lane, AllocError>
         ensures { IfOk result (λ lane. desk_of lane ≡ closed) }
     {
         Ok(Lane {
@@ -56,7 +56,7 @@ impl Lane {
     }
 
     /// A connection begins.
-    pub fn begin(&mut self)
+    pub(crate) fn begin(&mut self)
         ensures { desk_of self.new ≡ opened }
     {
         self.reset();
@@ -64,7 +64,7 @@ impl Lane {
     }
 
     /// The port has no connection.
-    pub fn reset(&mut self)
+    pub(crate) fn reset(&mut self)
         ensures { desk_of self.new ≡ closed }
     {
         self.live = false;
@@ -183,7 +183,7 @@ impl Lane {
     }
 
     /// Whether something waits to be stepped, and nothing to be written.
-    pub fn has_more(&self) -> bool
+    pub(crate) fn has_more(&self) -> bool
         ensures more { result ≡ true → HasMore (desk_of self.now) }
         ensures none { HasMore (desk_of self.now) → result ≡ true }
     {
@@ -191,7 +191,7 @@ impl Lane {
     }
 
     /// A turn, where the port is ready or has something to step.
-    pub fn visit<P: Ports, C: Clock>(
+    pub(crate) fn visit<P: Ports, C: Clock>(
         &mut self,
         alloc: Global,
         engine: &mut Engine,

@@ -5,7 +5,7 @@ ghost use Rattle.std.specs.Io.KnownBytes.{Consumes};
 use crate::{BufSource, Source};
 
 /// A way to take bytes of a reader without a copy.
-pub trait Lends<R: Source> {
+pub(crate) trait Lends<R: Source> {
     ghost lent: { R → List ℕ };
 
     /// The bytes that may be taken, which reads give first.
@@ -21,7 +21,7 @@ pub trait Lends<R: Source> {
 }
 
 /// Each byte is read: this works for every reader.
-pub struct ByReading;
+pub(crate) struct ByReading;
 
 impl<R: Source> Lends<R> for ByReading {
     ghost use Rattle.std.specs.Prelude.{[]};
@@ -36,7 +36,7 @@ impl<R: Source> Lends<R> for ByReading {
 }
 
 /// What stands in the reader's buffer is taken from there.
-pub struct FromBuffer;
+pub(crate) struct FromBuffer;
 
 impl<R: BufSource> Lends<R> for FromBuffer {
     ghost lent = { λ r. R.buffered r };

@@ -17,7 +17,7 @@ const ROOM: usize = MOST_OWED + 70_004;
 ///
 /// Contracts see the bytes, and how much of the room was laid out since it was last cleared.
 #[derive(Drop)]
-pub struct Outbox {
+pub(crate) struct Outbox {
     bytes: Vec<u8>,
     at: usize,
     end: usize,
@@ -36,7 +36,7 @@ impl Model for Outbox {
 
 impl Outbox {
     /// An empty one. Its buffer is made here.
-    pub fn new(alloc: Global) -> Result<Outbox, AllocError>
+    pub(crate) fn new(alloc: Global) -> Result<Outbox, AllocError>
         ensures { IfOk result (λ b. b.bytes ≡ []) }
     {
         Ok(Outbox {
@@ -47,21 +47,21 @@ impl Outbox {
     }
 
     /// The bytes.
-    pub fn rest(&self) -> &[u8]
+    pub(crate) fn rest(&self) -> &[u8]
         ensures { result.now ≡ self.now.bytes }
     {
         &self.bytes[self.at..self.end]
     }
 
     /// Whether one more record may be stepped.
-    pub fn has_room(&self) -> bool
+    pub(crate) fn has_room(&self) -> bool
         ensures { result ≡ true → (self.now.laid ≤ most_owed) × (length self.now.bytes ≤ most_owed) }
     {
         self.end <= MOST_OWED
     }
 
     /// Notes that so many bytes in front were taken.
-    pub fn consume(&mut self, n: usize)
+    pub(crate) fn consume(&mut self, n: usize)
         requires { n ≤ length self.old.bytes }
         ensures { self.new.bytes ≡ drop n self.old.bytes }
     {
@@ -69,7 +69,7 @@ impl Outbox {
     }
 
     /// Lets go all.
-    pub fn clear(&mut self)
+    pub(crate) fn clear(&mut self)
         ensures { self.new ≡ record { bytes = []; laid = 0 } }
     {
         self.at = 0;
@@ -77,7 +77,7 @@ impl Outbox {
     }
 
     /// Puts an answer behind those that are there.
-    pub fn put(&mut self, bytes: &[u8])
+    pub(crate) fn put(&mut self, bytes: &[u8])
         requires room { self.old.laid ≤ most_owed }
         requires size { length bytes.now ≤ largest_answer }
         ensures { self.new.bytes ≡ self.old.bytes ++ bytes.now }

@@ -24,7 +24,7 @@ const MAX_ENTRIES: u32 = 1_000_000;
 
 /// Runs the script that the reader gives, from closed connections, and writes what is put out. An entry that stands whole in what
 /// the reader lends is run where it stands.
-pub fn run<L: Lends<R>, R: Source, W: Sink>(
+pub(crate) fn run<L: Lends<R>, R: Source, W: Sink>(
     alloc: Global,
     engine: &mut Engine,
     connections: &mut [Connection],
@@ -71,7 +71,7 @@ pub fn run<L: Lends<R>, R: Source, W: Sink>(
 }
 
 /// Closes all connections.
-pub fn close_all(connections: &mut [Connection])
+pub(crate) fn close_all(connections: &mut [Connection])
     ensures length { length connections.new ≡ length connections.old }
     ensures closed { (conn : ℕ) → held_on connections.new conn ≡ fresh }
 {

@@ -11,20 +11,20 @@ use crate::fault::Stop;
 use crate::moving::fill;
 
 /// The last connection.
-pub const LAST_CONNECTION: u32 = 15;
+pub(crate) const LAST_CONNECTION: u32 = 15;
 
 /// The most bytes of a piece.
-pub const MAX_PIECE: u32 = 65_536;
+pub(crate) const MAX_PIECE: u32 = 65_536;
 
 /// The last moment that a server takes, in seconds.
 pub const LAST_MOMENT: u64 = 1 << 62;
 
 /// The bytes of an entry in front of its piece.
-pub const HEAD: usize = 16;
+pub(crate) const HEAD: usize = 16;
 
 /// What came on a connection, and when: an entry of a script. No bytes close the connection.
 #[derive(Clone, Copy, Debug)]
-pub struct Entry<'a> {
+pub(crate) struct Entry<'a> {
     /// The moment at which it came, in seconds.
     pub moment: u64,
     /// The connection.
@@ -34,7 +34,7 @@ pub struct Entry<'a> {
 }
 
 /// The entry that stands whole at the front of the bytes and is not refused, if there is one.
-pub fn whole_entry(bytes: &[u8]) -> Option<Entry<'_>>
+pub(crate) fn whole_entry(bytes: &[u8]) -> Option<Entry<'_>>
     ensures bytes { IfSome result (λ e. IsBytes e.piece.now) }
     ensures whole { IfSome result (λ e. BeginsWith bytes.now (entry e)) }
     ensures none { IfNone result ((e : script.Entry) → BeginsWith bytes.now e → ⊥) }
@@ -53,7 +53,10 @@ pub fn whole_entry(bytes: &[u8]) -> Option<Entry<'_>>
 }
 
 /// The entry that stands next, whose piece is put into the buffer, or `None` where the script ends.
-pub fn next_entry<'b, R: Source>(r: &mut R, buf: &'b mut [u8]) -> Result<Option<Entry<'b>>, Stop>
+pub(crate) fn next_entry<'b, R: Source>(
+    r: &mut R,
+    buf: &'b mut [u8],
+) -> Result<Option<Entry<'b>>, Stop>
     requires room { length buf.old ≡ most_piece }
     requires failed { R.has_failed r.old ≡ false }
     requires ended { R.has_ended r.old ≡ false }

@@ -13,7 +13,7 @@ use crate::{Clock, Sink, Source};
 use std::alloc::Global;
 
 /// The most reads of a connection.
-pub const MAX_READS: u32 = 1_000_000;
+pub(crate) const MAX_READS: u32 = 1_000_000;
 
 /// How a talk over one connection ended.
 #[derive(Clone, Copy, Debug, PartialEq, Eq)]
@@ -31,7 +31,7 @@ pub enum Talk {
 }
 
 /// Closes connection 0 and runs what the reader gives as its pieces, each at the clock's answer for it.
-pub fn converse<R: Source, W: Sink, C: Clock>(
+pub(crate) fn converse<R: Source, W: Sink, C: Clock>(
     alloc: Global,
     engine: &mut Engine,
     connection: &mut Connection,

@@ -57,9 +57,7 @@ impl Clock for Counting {
         (self.asked as u64).min(1 << 62)
     }
 
-    fn begin_sweep(&mut self) -> bool {
-        true
-    }
+    fn begin_sweep(&mut self) {}
 }
 
 /// Takes at most `most` bytes in a call, and fails at call `fails`, counted from 1.

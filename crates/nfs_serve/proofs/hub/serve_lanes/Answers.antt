@@ -13,7 +13,7 @@ loop-init g c = (start (state_of c.args.engine.now.kept) c.args.lanes.now _ _ c.
 pub loop-preserved : goal.loop-preserved
 loop-preserved g c =
     let (earlier, len) = c.loop.invariant in
-    let before = retold _ _ _ _ _ _ _ _ _ earlier c.begin_sweep-is_on_time.ensures in
+    let before = retold _ _ _ _ _ _ _ _ _ earlier c.begin_sweep.ensures in
     let begun : c.begin.result ≡ true = search rules in
     let w = swept _ _ (at (desks_of c.loop.lanes)) (at (desks_of c.begin.new.lanes)) _ _ _ _ _ _
     (subst (λ b. Begins b (at (desks_of c.loop.lanes)) (at (desks_of c.begin.new.lanes)) (g.P.Ports.log c.loop.ports) (g.P.Ports.log c.begin.new.ports)) begun c.begin.ensures.begins)
@@ -23,7 +23,7 @@ loop-preserved g c =
 pub returns-then-not-begin-clause-serves : goal.returns-then-not-begin-clause-serves
 returns-then-not-begin-clause-serves g c =
     let (earlier, len) = c.loop.invariant in
-    let before = retold _ _ _ _ _ _ _ _ _ earlier c.begin_sweep-is_on_time.ensures in
+    let before = retold _ _ _ _ _ _ _ _ _ earlier c.begin_sweep.ensures in
     let none : c.begin.result ≡ false = search rules in (
       c.loop.counter,
       _,
