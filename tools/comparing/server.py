@@ -148,7 +148,7 @@ class Client:
 
     def __init__(self, call, path=(), nonce=""):
         self.call, self.path, self.nonce = call, path, nonce
-        self.xid, self.session, self.number = 0, None, 0
+        self.xid, self.session, self.number, self.id = 0, None, 0, None
         self.refused = ""  # the last call that `asked` got no success for, and its answer
 
     def ask(self, operations, uid=0):
@@ -189,7 +189,7 @@ class Client:
         return made and made["sessionid"], told["clientid"]
 
     def open(self):
-        self.session, _ = self.mounted(f"compare-{self.nonce}")
+        self.session, self.id = self.mounted(f"compare-{self.nonce}")
         if self.session is None:
             raise Gone(f"no session can be made: {self.refused}")
         self.number = 0
@@ -225,6 +225,12 @@ class Client:
                 break
         if name:
             self.in_session([*self.home, ("REMOVE", [("name", name)])])
+
+    def leave(self):
+        """The tool's own client goes."""
+        if self.session:
+            self.ask([("DESTROY_SESSION", [("sessionid", self.session)])])
+            self.ask([("DESTROY_CLIENTID", [("clientid", self.id)])])
 
     def end(self, owner, uid):
         """A client that a script made goes, with all its state; answers whether it did."""
