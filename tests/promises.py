@@ -153,29 +153,30 @@ class Promises:
     def take_held(self, made):
         """Has the views of types that are shown nowhere state the promise too, where a type that is shown holds them: its own view goes by
         theirs. What only has to hold of them is proved, and states nothing here."""
-        structs = {name: (path, words) for path, name, words in self.structs()}
-        shown, due = set(), [it.owner for _, it in self.ghosts() if it.owner in structs and self.is_taken(made, it)]
+        held, ghosts, told = self.held(), self.ghosts(), {it.partition(" ghost: ")[0] for it in made.texts}
+        reached, due = set(), [it.owner for crate, _, it in ghosts if f"{crate} {it}" in told]
         while due:
             owner = due.pop()
-            if owner not in shown:
-                shown.add(owner)
-                due += [it for it in structs[owner][1] if it in structs]
-        for path, it in self.ghosts():
-            if it.owner in shown and it.name in ("Value", "view") and not self.is_taken(made, it):
-                self.take(made, self.all.place(path).parts[0], path, [it])
+            if owner not in reached:
+                reached.add(owner)
+                due += held.get(owner, set()) & held.keys()
+        for crate, path, it in ghosts:
+            if it.owner in reached and it.name in ("Value", "view") and f"{crate} {it}" not in told:
+                self.take(made, crate, path, [it])
 
-    def structs(self):
-        """The types that the crates' sources declare, each with the names in its declaration."""
+    def held(self):
+        """The names in the declarations of the types that the crates' sources declare, by the types' names; of all types of one name."""
+        found = {}
         for path in sorted(self.top.glob("crates/*/src/**/*.rt")):
             text = path.read_text(encoding="utf-8")
             for head in re.finditer(r"^(?:pub(?:\([^)]*\))? )?(?:struct|enum) (\w+)", text, re.M):
-                yield path, head[1], set(re.findall(r"\w+", declaration(text, head)))
+                found.setdefault(head[1], set()).update(re.findall(r"\w+", declaration(text, head)))
+        return found
 
     def ghosts(self):
-        return [(path, it) for path in sorted(self.top.glob("crates/*/src/**/*.rt")) for it in self.all.read_source(path)[0] if it.kind == "ghost"]
-
-    def is_taken(self, made, it):
-        return any(text.startswith(f"{crate} {it} ghost: ") for text in made.texts for crate in [text.partition(" ")[0]])
+        """The ghosts of all sources, each with its crate and its source."""
+        paths = sorted(self.top.glob("crates/*/src/**/*.rt"))
+        return [(self.all.place(path).parts[0], path, it) for path in paths for it in self.all.read_source(path)[0] if it.kind == "ghost"]
 
     def is_program(self, crate):
         return (self.top / "crates" / crate / "src/main.rt").is_file()
