@@ -11,7 +11,7 @@ ghost use Rattle.nfs_attrs.specs.Following.{Follows};
 use nfs_xdr::{Cursor, Time};
 
 /// Whether this number stands at the cursor, which is then behind it.
-pub fn number_follows(value: u32, cursor: &mut Cursor<'_>) -> bool
+pub(crate) fn number_follows(value: u32, cursor: &mut Cursor<'_>) -> bool
     ensures { Follows result (number value) cursor.old cursor.new }
 {
     let Ok(found) = cursor.u32() else {
@@ -21,7 +21,7 @@ pub fn number_follows(value: u32, cursor: &mut Cursor<'_>) -> bool
 }
 
 /// The same of a hyper.
-pub fn hyper_follows(value: u64, cursor: &mut Cursor<'_>) -> bool
+pub(crate) fn hyper_follows(value: u64, cursor: &mut Cursor<'_>) -> bool
     ensures { Follows result (hyper value) cursor.old cursor.new }
 {
     let Ok(found) = cursor.u64() else {
@@ -39,7 +39,7 @@ fn signed_follows(value: i64, cursor: &mut Cursor<'_>) -> bool
 
 /// The same of a time.
 #[tactic(auto, unfolding(nfs_xdr::specs::Time::time))]
-pub fn time_follows(value: Time, cursor: &mut Cursor<'_>) -> bool
+pub(crate) fn time_follows(value: Time, cursor: &mut Cursor<'_>) -> bool
     ensures { Follows result (time.spell value) cursor.old cursor.new }
 {
     let Time {
@@ -50,7 +50,7 @@ pub fn time_follows(value: Time, cursor: &mut Cursor<'_>) -> bool
 }
 
 /// The same of an opaque of these bytes.
-pub fn opaque_follows(value: &[u8], cursor: &mut Cursor<'_>) -> bool
+pub(crate) fn opaque_follows(value: &[u8], cursor: &mut Cursor<'_>) -> bool
     requires small { length value.now < 2 ^ 32 }
     requires bytes { IsBytes value.now }
     ensures { Follows result (opaque value.now) cursor.old cursor.new }
@@ -62,7 +62,7 @@ pub fn opaque_follows(value: &[u8], cursor: &mut Cursor<'_>) -> bool
 }
 
 /// The same of numbers one behind the other.
-pub fn numbers_follow(values: &[u32], cursor: &mut Cursor<'_>) -> bool
+pub(crate) fn numbers_follow(values: &[u32], cursor: &mut Cursor<'_>) -> bool
     ensures { Follows result (flat_map number values.now) cursor.old cursor.new }
 {
     for value in values {

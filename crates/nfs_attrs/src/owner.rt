@@ -7,7 +7,7 @@ use itoa::Buffer;
 
 /// The number that stands in `text` in decimal, without leading zeros or a sign; none where no number up to
 /// 4,294,967,295 does.
-pub fn owner_of(text: &[u8]) -> Option<u32>
+pub(crate) fn owner_of(text: &[u8]) -> Option<u32>
     ensures { result ≡ owner_of text.now }
 {
     let Ok(digits) = str::from_utf8(text) else {

@@ -17,7 +17,7 @@ use nfs_xdr::{Cursor, MAX_TRANSFER, Sheet, Time};
 
 /// The value of an attribute, by the kind of its spelling.
 #[derive(Clone, Copy, Debug, PartialEq, Eq)]
-pub enum Value {
+pub(crate) enum Value {
     Number(u32),
     Hyper(u64),
     Flag(bool),
@@ -32,7 +32,7 @@ pub enum Value {
 impl Value {
     /// Puts the value, which is whole words.
     #[tactic(auto, using(nfs_xdr::proofs::Putting::putting, crate::proofs::Lengths::measuring))]
-    pub fn put(self, sheet: &mut Sheet)
+    pub(crate) fn put(self, sheet: &mut Sheet)
         requires room { HasRoom sheet.old (spell_value self) }
         ensures put { Puts sheet.old sheet.new (spell_value self) }
         ensures words { length (spell_value self) % 4 ≡ 0 }
@@ -53,7 +53,7 @@ impl Value {
     }
 
     /// Whether the value stands at the cursor, which is then behind it.
-    pub fn follows(self, cursor: &mut Cursor<'_>) -> bool
+    pub(crate) fn follows(self, cursor: &mut Cursor<'_>) -> bool
         ensures { Follows result (spell_value self) cursor.old cursor.new }
     {
         match self {
@@ -71,7 +71,7 @@ impl Value {
 
     /// How many bytes the value has.
     #[tactic(auto, using(crate::proofs::Lengths::measuring))]
-    pub fn len(self) -> usize
+    pub(crate) fn len(self) -> usize
         ensures exact { result ≡ length (spell_value self) }
         ensures small { result ≤ 20 }
         ensures words { result % 4 ≡ 0 }
@@ -141,7 +141,7 @@ fn asked_follows(
 }
 
 /// How many bytes the values have that are asked for.
-pub fn values_len(asked: &Mask, object: &Object, about: &About) -> usize
+pub(crate) fn values_len(asked: &Mask, object: &Object, about: &About) -> usize
     ensures exact { result ≡ length (table.values asked.now about.now object.now) }
     ensures small { result ≤ 620 }
     ensures words { result % 4 ≡ 0 }
@@ -154,7 +154,7 @@ pub fn values_len(asked: &Mask, object: &Object, about: &About) -> usize
 }
 
 /// Puts the values that are asked for, one behind the other.
-pub fn put_values(asked: &Mask, object: &Object, about: &About, sheet: &mut Sheet)
+pub(crate) fn put_values(asked: &Mask, object: &Object, about: &About, sheet: &mut Sheet)
     requires room { HasRoom sheet.old (table.values asked.now about.now object.now) }
     ensures put { Puts sheet.old sheet.new (table.values asked.now about.now object.now) }
     ensures words { length (table.values asked.now about.now object.now) % 4 ≡ 0 }
@@ -165,7 +165,7 @@ pub fn put_values(asked: &Mask, object: &Object, about: &About, sheet: &mut Shee
 }
 
 /// Whether the values that are asked for stand at the cursor, which is then behind them.
-pub fn values_follow(asked: &Mask, object: &Object, about: &About, cursor: &mut Cursor<'_>) -> bool
+pub(crate) fn values_follow(asked: &Mask, object: &Object, about: &About, cursor: &mut Cursor<'_>) -> bool
     ensures { Follows result (table.values asked.now about.now object.now) cursor.old cursor.new }
 {
     for number in attribute::ALL {
@@ -189,7 +189,7 @@ fn type_number(kind: FileType) -> u32
 
 /// The value of the attribute of this number; none where it cannot be read.
 #[tactic(auto, unfolding(crate::specs::Attributes::attributes))]
-pub fn value_of(number: u32, object: &Object, about: &About) -> Option<Value>
+pub(crate) fn value_of(number: u32, object: &Object, about: &About) -> Option<Value>
     ensures { spell_found result ≡ table.value_at table.attributes number about.now object.now }
 {
     let handle = Handle {

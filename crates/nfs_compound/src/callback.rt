@@ -13,7 +13,7 @@ use nfs_xdr::{AUTH_NONE, AUTH_SYS, Cursor, MAX_GROUPS, MAX_MACHINE_NAME, Unreada
 const RPCSEC_GSS: u32 = 6;
 
 /// The bytes of an array of callback security parameters. Unreadable where one of them is.
-pub fn all_sec_parms<'a>(c: &mut Cursor<'a>) -> Result<&'a [u8], Unreadable>
+pub(crate) fn all_sec_parms<'a>(c: &mut Cursor<'a>) -> Result<&'a [u8], Unreadable>
     ensures { ReadsPartBy (λ x. x.now) result (all_sec_parms.read c.old) c.new }
 {
     let bytes = c.rest();

@@ -22,7 +22,7 @@ use nfs_xdr::{Cursor, FHSIZE, Status, Unreadable};
 /// What stands at the cursor, with the cursor behind it; behind a fault nothing is left. `None` where no operation
 /// number can be read.
 #[tactic(auto, unfolding(crate::specs::ReadRequest::item_at))]
-pub fn item<'a>(c: &mut Cursor<'a>) -> Option<Arg<'a>>
+pub(crate) fn item<'a>(c: &mut Cursor<'a>) -> Option<Arg<'a>>
     ensures { MatchOption result
         ((item_at c.old ≡ None) × (c.new ≡ c.old))
         (λ a. item_at c.old ≡ Some (view.item a, c.new)) }

@@ -35,8 +35,8 @@ const RESERVE: u64 = 12;
 #[derive(Clone, Copy)]
 pub(crate) struct Ran {
     /// The status of the last, and NFS4_OK where there was none.
-    pub status: Status,
-    pub count: u32,
+    pub(crate) status: Status,
+    pub(crate) count: u32,
 }
 
 impl Tables {

@@ -14,11 +14,11 @@ use std::alloc::{AllocError, Global};
 
 /// The tables on which compounds run. Contracts see them as a machine.
 #[derive(Drop)]
-pub struct Tables {
-    pub clients: Clients,
-    pub sessions: Sessions,
-    pub leases: Leases,
-    pub store: Store,
+pub(crate) struct Tables {
+    pub(crate) clients: Clients,
+    pub(crate) sessions: Sessions,
+    pub(crate) leases: Leases,
+    pub(crate) store: Store,
 }
 
 /// The first moment.

@@ -27,7 +27,7 @@ fn always(number: u32, c: &mut Cursor<'_>) -> Result<(), Unreadable>
 }
 
 #[tactic(auto, unfolding(crate::specs::Items::access))]
-pub fn access(c: &mut Cursor<'_>) -> Result<AccessOk, Unreadable>
+pub(crate) fn access(c: &mut Cursor<'_>) -> Result<AccessOk, Unreadable>
     ensures { ReadsPartBy (λ a. a) result (table.access.read c.old) c.new }
 {
     let supported = c.u32()?;
@@ -36,7 +36,7 @@ pub fn access(c: &mut Cursor<'_>) -> Result<AccessOk, Unreadable>
 }
 
 #[tactic(auto, unfolding(crate::specs::Items::change_info))]
-pub fn change_info(c: &mut Cursor<'_>) -> Result<ChangeInfo, Unreadable>
+pub(crate) fn change_info(c: &mut Cursor<'_>) -> Result<ChangeInfo, Unreadable>
     ensures { ReadsPartBy (λ i. i) result (table.change_info.read c.old) c.new }
 {
     let atomic = c.flag()?;
@@ -51,7 +51,7 @@ pub fn change_info(c: &mut Cursor<'_>) -> Result<ChangeInfo, Unreadable>
 
 /// A set of attributes below 96, with no word at its end that is zero.
 #[tactic(auto, unfolding(crate::specs::Items::attr_set))]
-pub fn attr_set(c: &mut Cursor<'_>) -> Result<AttrSet, Unreadable>
+pub(crate) fn attr_set(c: &mut Cursor<'_>) -> Result<AttrSet, Unreadable>
     ensures { ReadsPartBy view.attr_set result (table.attr_set.read c.old) c.new }
 {
     let words = match c.u32()? {
@@ -76,7 +76,7 @@ fn last_word(c: &mut Cursor<'_>) -> Result<u32, Unreadable>
 }
 
 #[tactic(auto, unfolding(crate::specs::Items::create))]
-pub fn create(c: &mut Cursor<'_>) -> Result<CreateOk, Unreadable>
+pub(crate) fn create(c: &mut Cursor<'_>) -> Result<CreateOk, Unreadable>
     ensures { ReadsPartBy view.create result (table.create.read c.old) c.new }
 {
     let cinfo = change_info(c)?;
@@ -85,7 +85,7 @@ pub fn create(c: &mut Cursor<'_>) -> Result<CreateOk, Unreadable>
 }
 
 #[tactic(auto, unfolding(crate::specs::Items::fattr))]
-pub fn fattr<'a>(c: &mut Cursor<'a>) -> Result<Fattr<'a>, Unreadable>
+pub(crate) fn fattr<'a>(c: &mut Cursor<'a>) -> Result<Fattr<'a>, Unreadable>
     ensures { ReadsPartBy view.fattr result (table.fattr.read c.old) c.new }
 {
     let attrmask = attr_set(c)?;
@@ -97,7 +97,7 @@ pub fn fattr<'a>(c: &mut Cursor<'a>) -> Result<Fattr<'a>, Unreadable>
 }
 
 #[tactic(auto, unfolding(crate::specs::Items::denied))]
-pub fn denied<'a>(c: &mut Cursor<'a>) -> Result<Denied<'a>, Unreadable>
+pub(crate) fn denied<'a>(c: &mut Cursor<'a>) -> Result<Denied<'a>, Unreadable>
     ensures { ReadsPartBy view.denied result (table.denied.read c.old) c.new }
 {
     let offset = c.u64()?;
@@ -113,7 +113,7 @@ pub fn denied<'a>(c: &mut Cursor<'a>) -> Result<Denied<'a>, Unreadable>
 }
 
 #[tactic(auto, unfolding(crate::specs::Items::open_ok))]
-pub fn open_ok(c: &mut Cursor<'_>) -> Result<OpenOk, Unreadable>
+pub(crate) fn open_ok(c: &mut Cursor<'_>) -> Result<OpenOk, Unreadable>
     ensures { ReadsPartBy view.open_ok result (table.open_ok.read c.old) c.new }
 {
     let stateid = Stateid::read(c)?;
@@ -129,7 +129,7 @@ pub fn open_ok(c: &mut Cursor<'_>) -> Result<OpenOk, Unreadable>
 }
 
 #[tactic(auto, unfolding(crate::specs::Items::read_ok))]
-pub fn read_ok<'a>(c: &mut Cursor<'a>) -> Result<ReadOk<'a>, Unreadable>
+pub(crate) fn read_ok<'a>(c: &mut Cursor<'a>) -> Result<ReadOk<'a>, Unreadable>
     ensures { ReadsPartBy view.read_ok result (table.read_ok.read c.old) c.new }
 {
     let eof = c.flag()?;
@@ -138,7 +138,7 @@ pub fn read_ok<'a>(c: &mut Cursor<'a>) -> Result<ReadOk<'a>, Unreadable>
 }
 
 #[tactic(auto, unfolding(crate::specs::Items::entry))]
-pub fn entry<'a>(c: &mut Cursor<'a>) -> Result<Entry<'a>, Unreadable>
+pub(crate) fn entry<'a>(c: &mut Cursor<'a>) -> Result<Entry<'a>, Unreadable>
     ensures { ReadsPartBy view.entry result (table.entry.read c.old) c.new }
 {
     let cookie = c.u64()?;
@@ -152,7 +152,7 @@ pub fn entry<'a>(c: &mut Cursor<'a>) -> Result<Entry<'a>, Unreadable>
 }
 
 #[tactic(auto, unfolding(crate::specs::Items::read_dir))]
-pub fn read_dir<'a>(c: &mut Cursor<'a>) -> Result<ReadDirOk<'a>, Unreadable>
+pub(crate) fn read_dir<'a>(c: &mut Cursor<'a>) -> Result<ReadDirOk<'a>, Unreadable>
     ensures { ReadsPartBy view.read_dir result (table.read_dir.read c.old) c.new }
 {
     let cookieverf = c.fixed::<8>()?;
@@ -166,7 +166,7 @@ pub fn read_dir<'a>(c: &mut Cursor<'a>) -> Result<ReadDirOk<'a>, Unreadable>
 }
 
 #[tactic(auto, unfolding(crate::specs::Items::rename))]
-pub fn rename(c: &mut Cursor<'_>) -> Result<RenameOk, Unreadable>
+pub(crate) fn rename(c: &mut Cursor<'_>) -> Result<RenameOk, Unreadable>
     ensures { ReadsPartBy (λ r. r) result (table.rename.read c.old) c.new }
 {
     let source_cinfo = change_info(c)?;
@@ -178,7 +178,7 @@ pub fn rename(c: &mut Cursor<'_>) -> Result<RenameOk, Unreadable>
 }
 
 #[tactic(auto, unfolding(crate::specs::Items::write_ok))]
-pub fn write_ok(c: &mut Cursor<'_>) -> Result<WriteOk, Unreadable>
+pub(crate) fn write_ok(c: &mut Cursor<'_>) -> Result<WriteOk, Unreadable>
     ensures { ReadsPartBy (λ w. w) result (table.write_ok.read c.old) c.new }
 {
     let count = c.u32()?;
@@ -192,7 +192,7 @@ pub fn write_ok(c: &mut Cursor<'_>) -> Result<WriteOk, Unreadable>
 }
 
 #[tactic(auto, unfolding(crate::specs::Items::exchange_id))]
-pub fn exchange_id<'a>(c: &mut Cursor<'a>) -> Result<ExchangeIdOk<'a>, Unreadable>
+pub(crate) fn exchange_id<'a>(c: &mut Cursor<'a>) -> Result<ExchangeIdOk<'a>, Unreadable>
     ensures { ReadsPartBy view.exchange_id result (table.exchange_id.read c.old) c.new }
 {
     let clientid = c.u64()?;
@@ -214,7 +214,7 @@ pub fn exchange_id<'a>(c: &mut Cursor<'a>) -> Result<ExchangeIdOk<'a>, Unreadabl
 }
 
 #[tactic(auto, unfolding(crate::specs::Items::create_session))]
-pub fn create_session(c: &mut Cursor<'_>) -> Result<CreateSessionOk, Unreadable>
+pub(crate) fn create_session(c: &mut Cursor<'_>) -> Result<CreateSessionOk, Unreadable>
     ensures { ReadsPartBy (λ s. s) result (table.create_session.read c.old) c.new }
 {
     let sessionid = c.fixed::<16>()?;
@@ -232,7 +232,7 @@ pub fn create_session(c: &mut Cursor<'_>) -> Result<CreateSessionOk, Unreadable>
 }
 
 #[tactic(auto, unfolding(crate::specs::Items::flavors))]
-pub fn flavors<'a>(c: &mut Cursor<'a>) -> Result<Flavors<'a>, Unreadable>
+pub(crate) fn flavors<'a>(c: &mut Cursor<'a>) -> Result<Flavors<'a>, Unreadable>
     ensures { ReadsPartBy view.flavors result (table.flavors.read c.old) c.new }
 {
     let spelled = c.pieces::<4>()?;
@@ -240,7 +240,7 @@ pub fn flavors<'a>(c: &mut Cursor<'a>) -> Result<Flavors<'a>, Unreadable>
 }
 
 #[tactic(auto, unfolding(crate::specs::Items::sequence))]
-pub fn sequence(c: &mut Cursor<'_>) -> Result<SequenceOk, Unreadable>
+pub(crate) fn sequence(c: &mut Cursor<'_>) -> Result<SequenceOk, Unreadable>
     ensures { ReadsPartBy (λ s. s) result (table.sequence.read c.old) c.new }
 {
     let sessionid = c.fixed::<16>()?;
@@ -260,7 +260,7 @@ pub fn sequence(c: &mut Cursor<'_>) -> Result<SequenceOk, Unreadable>
 }
 
 #[tactic(auto, unfolding(crate::specs::Items::status_codes))]
-pub fn status_codes<'a>(c: &mut Cursor<'a>) -> Result<StatusCodes<'a>, Unreadable>
+pub(crate) fn status_codes<'a>(c: &mut Cursor<'a>) -> Result<StatusCodes<'a>, Unreadable>
     ensures { ReadsPartBy view.status_codes result (table.status_codes.read c.old) c.new }
 {
     let spelled = c.pieces::<4>()?;
@@ -271,7 +271,7 @@ pub fn status_codes<'a>(c: &mut Cursor<'a>) -> Result<StatusCodes<'a>, Unreadabl
 }
 
 /// Whether each of the numbers, four bytes each, is that of a status that this server answers.
-pub fn are_statuses(spelled: &[[u8; 4]]) -> bool
+pub(crate) fn are_statuses(spelled: &[[u8; 4]]) -> bool
     ensures { result ≡ table.are_statuses (map (from_be_bytes w32) spelled.now) }
 {
     for number in spelled {

@@ -30,13 +30,13 @@ const LOCKTYPE_POSIX: u32 = 4;
 const PRESERVE_UNLINKED: u32 = 8;
 
 /// The flags of every open (RFC 8881 section 18.16.2; this server's profile).
-pub const RESULT_FLAGS: u32 = LOCKTYPE_POSIX | PRESERVE_UNLINKED;
+pub(crate) const RESULT_FLAGS: u32 = LOCKTYPE_POSIX | PRESERVE_UNLINKED;
 
 /// No delegation.
-pub const OPEN_DELEGATE_NONE: u32 = 0;
+pub(crate) const OPEN_DELEGATE_NONE: u32 = 0;
 
 #[tactic(auto, using(nfs_xdr::proofs::Putting::putting), unfolding(nfs_compound::specs::Stateid::stateid))]
-pub fn put_stateid(s: &Stateid, out: &mut Sheet)
+pub(crate) fn put_stateid(s: &Stateid, out: &mut Sheet)
     requires room { HasRoom out.old (stateid.spell s.now) }
     ensures { Puts out.old out.new (stateid.spell s.now) }
 {
@@ -55,7 +55,7 @@ fn put_state_owner(o: &StateOwner<'_>, out: &mut Sheet)
 }
 
 #[tactic(auto, using(nfs_xdr::proofs::Putting::putting), unfolding(crate::specs::Items::access))]
-pub fn put_access(a: &AccessOk, out: &mut Sheet)
+pub(crate) fn put_access(a: &AccessOk, out: &mut Sheet)
     requires room { HasRoom out.old (table.access.spell a.now) }
     ensures { Puts out.old out.new (table.access.spell a.now) }
 {
@@ -64,7 +64,7 @@ pub fn put_access(a: &AccessOk, out: &mut Sheet)
 }
 
 #[tactic(auto, using(nfs_xdr::proofs::Putting::putting), unfolding(crate::specs::Items::change_info))]
-pub fn put_change_info(c: &ChangeInfo, out: &mut Sheet)
+pub(crate) fn put_change_info(c: &ChangeInfo, out: &mut Sheet)
     requires room { HasRoom out.old (table.change_info.spell c.now) }
     ensures { Puts out.old out.new (table.change_info.spell c.now) }
 {
@@ -75,7 +75,7 @@ pub fn put_change_info(c: &ChangeInfo, out: &mut Sheet)
 
 /// Puts the words up to the last that is not zero.
 #[tactic(auto, using(nfs_xdr::proofs::Putting::putting), unfolding(crate::specs::Items::attr_set))]
-pub fn put_attr_set(set: &AttrSet, out: &mut Sheet)
+pub(crate) fn put_attr_set(set: &AttrSet, out: &mut Sheet)
     requires room { HasRoom out.old (table.attr_set.spell (view.attr_set set.now)) }
     ensures { Puts out.old out.new (table.attr_set.spell (view.attr_set set.now)) }
 {
@@ -100,7 +100,7 @@ pub fn put_attr_set(set: &AttrSet, out: &mut Sheet)
 }
 
 #[tactic(auto, using(nfs_xdr::proofs::Putting::putting), unfolding(crate::specs::Items::create))]
-pub fn put_create(c: &CreateOk, out: &mut Sheet)
+pub(crate) fn put_create(c: &CreateOk, out: &mut Sheet)
     requires room { HasRoom out.old (table.create.spell (view.create c.now)) }
     ensures { Puts out.old out.new (table.create.spell (view.create c.now)) }
 {
@@ -109,7 +109,7 @@ pub fn put_create(c: &CreateOk, out: &mut Sheet)
 }
 
 #[tactic(auto, using(nfs_xdr::proofs::Putting::putting), unfolding(crate::specs::Items::fattr))]
-pub fn put_fattr(f: &Fattr<'_>, out: &mut Sheet)
+pub(crate) fn put_fattr(f: &Fattr<'_>, out: &mut Sheet)
     requires size { length f.now.attr_vals.now < 2 ^ 32 }
     requires room { HasRoom out.old (table.fattr.spell (view.fattr f.now)) }
     ensures { Puts out.old out.new (table.fattr.spell (view.fattr f.now)) }
@@ -119,7 +119,7 @@ pub fn put_fattr(f: &Fattr<'_>, out: &mut Sheet)
 }
 
 #[tactic(auto, using(nfs_xdr::proofs::Putting::putting), unfolding(crate::specs::Items::denied, nfs_compound::specs::ArgCodecs::lock_type))]
-pub fn put_denied(d: &Denied<'_>, out: &mut Sheet)
+pub(crate) fn put_denied(d: &Denied<'_>, out: &mut Sheet)
     requires size { length d.now.owner.owner.now ≤ opaque_limit }
     requires room { HasRoom out.old (table.denied.spell (view.denied d.now)) }
     ensures { Puts out.old out.new (table.denied.spell (view.denied d.now)) }
@@ -131,7 +131,7 @@ pub fn put_denied(d: &Denied<'_>, out: &mut Sheet)
 }
 
 #[tactic(auto, using(nfs_xdr::proofs::Putting::putting), unfolding(crate::specs::Items::open_ok))]
-pub fn put_open(o: &OpenOk, out: &mut Sheet)
+pub(crate) fn put_open(o: &OpenOk, out: &mut Sheet)
     requires room { HasRoom out.old (table.open_ok.spell (view.open_ok o.now)) }
     ensures { Puts out.old out.new (table.open_ok.spell (view.open_ok o.now)) }
 {
@@ -143,7 +143,7 @@ pub fn put_open(o: &OpenOk, out: &mut Sheet)
 }
 
 #[tactic(auto, using(nfs_xdr::proofs::Putting::putting), unfolding(crate::specs::Items::read_ok))]
-pub fn put_read(r: &ReadOk<'_>, out: &mut Sheet)
+pub(crate) fn put_read(r: &ReadOk<'_>, out: &mut Sheet)
     requires size { length r.now.«data».now < 2 ^ 32 }
     requires room { HasRoom out.old (table.read_ok.spell (view.read_ok r.now)) }
     ensures { Puts out.old out.new (table.read_ok.spell (view.read_ok r.now)) }
@@ -153,7 +153,7 @@ pub fn put_read(r: &ReadOk<'_>, out: &mut Sheet)
 }
 
 #[tactic(auto, using(nfs_xdr::proofs::Putting::putting), unfolding(crate::specs::Items::read_dir))]
-pub fn put_read_dir(r: &ReadDirOk<'_>, out: &mut Sheet)
+pub(crate) fn put_read_dir(r: &ReadDirOk<'_>, out: &mut Sheet)
     requires room { HasRoom out.old (table.read_dir.spell (view.read_dir r.now)) }
     ensures { Puts out.old out.new (table.read_dir.spell (view.read_dir r.now)) }
 {
@@ -163,7 +163,7 @@ pub fn put_read_dir(r: &ReadDirOk<'_>, out: &mut Sheet)
 }
 
 #[tactic(auto, using(nfs_xdr::proofs::Putting::putting), unfolding(crate::specs::Items::rename))]
-pub fn put_rename(r: &RenameOk, out: &mut Sheet)
+pub(crate) fn put_rename(r: &RenameOk, out: &mut Sheet)
     requires room { HasRoom out.old (table.rename.spell r.now) }
     ensures { Puts out.old out.new (table.rename.spell r.now) }
 {
@@ -172,7 +172,7 @@ pub fn put_rename(r: &RenameOk, out: &mut Sheet)
 }
 
 #[tactic(auto, using(nfs_xdr::proofs::Putting::putting), unfolding(crate::specs::Items::write_ok, nfs_compound::specs::ArgCodecs::stable_how))]
-pub fn put_write(w: &WriteOk, out: &mut Sheet)
+pub(crate) fn put_write(w: &WriteOk, out: &mut Sheet)
     requires room { HasRoom out.old (table.write_ok.spell w.now) }
     ensures { Puts out.old out.new (table.write_ok.spell w.now) }
 {
@@ -192,7 +192,7 @@ fn stable_number(how: StableHow) -> u32
 }
 
 #[tactic(auto, using(nfs_xdr::proofs::Putting::putting), unfolding(crate::specs::Items::exchange_id))]
-pub fn put_exchange_id(r: &ExchangeIdOk<'_>, out: &mut Sheet)
+pub(crate) fn put_exchange_id(r: &ExchangeIdOk<'_>, out: &mut Sheet)
     requires major { length r.now.major_id.now ≤ opaque_limit }
     requires scope { length r.now.server_scope.now ≤ opaque_limit }
     requires room { HasRoom out.old (table.exchange_id.spell (view.exchange_id r.now)) }
@@ -229,7 +229,7 @@ fn put_scope(server_scope: &[u8], out: &mut Sheet)
 }
 
 #[tactic(auto, using(nfs_xdr::proofs::Putting::putting), unfolding(crate::specs::Items::create_session))]
-pub fn put_create_session(s: &CreateSessionOk, out: &mut Sheet)
+pub(crate) fn put_create_session(s: &CreateSessionOk, out: &mut Sheet)
     requires room { HasRoom out.old (table.create_session.spell s.now) }
     ensures { Puts out.old out.new (table.create_session.spell s.now) }
 {
@@ -269,7 +269,7 @@ fn put_rdma_ird(rdma_ird: Option<u32>, out: &mut Sheet)
 }
 
 #[tactic(auto, using(nfs_xdr::proofs::Putting::putting), unfolding(crate::specs::Items::sequence))]
-pub fn put_sequence(s: &SequenceOk, out: &mut Sheet)
+pub(crate) fn put_sequence(s: &SequenceOk, out: &mut Sheet)
     requires room { HasRoom out.old (table.sequence.spell s.now) }
     ensures { Puts out.old out.new (table.sequence.spell s.now) }
 {
@@ -283,7 +283,7 @@ pub fn put_sequence(s: &SequenceOk, out: &mut Sheet)
 
 /// Puts a count and that many numbers.
 #[tactic(auto, using(nfs_xdr::proofs::Putting::putting))]
-pub fn put_numbers(spelled: &[[u8; 4]], out: &mut Sheet)
+pub(crate) fn put_numbers(spelled: &[[u8; 4]], out: &mut Sheet)
     requires size { length spelled.now < 2 ^ 32 }
     requires room { HasRoom out.old ((array number).spell (map (from_be_bytes w32) spelled.now)) }
     ensures { Puts out.old out.new ((array number).spell (map (from_be_bytes w32) spelled.now)) }

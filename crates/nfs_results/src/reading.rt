@@ -13,12 +13,12 @@ use nfs_compound::{FIRST_OP, LAST_OP, OP_ILLEGAL, OpNum, Stateid};
 use nfs_xdr::{Cursor, FHSIZE, Status, Unreadable};
 
 /// A result, from its operation number on. A refusal leaves the cursor anywhere.
-pub fn res<'a>(c: &mut Cursor<'a>) -> Result<Res<'a>, Unreadable>
+pub(crate) fn res<'a>(c: &mut Cursor<'a>) -> Result<Res<'a>, Unreadable>
     ensures { ReadsPartBy view.res result (result_codec.result.read c.old) c.new }
 {
     let operation = c.u32()?;
     let status = status(c)?;
-    if status.number() != Status::Nfs4Ok.number() {
+    if status != Status::Nfs4Ok {
         return refused(operation, status, c);
     }
     let Some(op) = OpNum::of(operation) else {
@@ -28,7 +28,7 @@ pub fn res<'a>(c: &mut Cursor<'a>) -> Result<Res<'a>, Unreadable>
 }
 
 /// A status that this server answers.
-pub fn status(c: &mut Cursor<'_>) -> Result<Status, Unreadable>
+pub(crate) fn status(c: &mut Cursor<'_>) -> Result<Status, Unreadable>
     ensures { ReadsPartBy (λ s. s) result (status.read c.old) c.new }
 {
     let number = c.u32()?;
@@ -92,11 +92,11 @@ fn done<'a>(op: OpNum, c: &mut Cursor<'a>) -> Result<Res<'a>, Unreadable>
 fn refused<'a>(operation: u32, status: Status, c: &mut Cursor<'a>) -> Result<Res<'a>, Unreadable>
     ensures { ReadsPartBy view.res result (result_codec.refused_at operation status c.old) c.new }
 {
-    if operation == OpNum::SetAttr.number() && status.number() != Status::OpIllegal.number() {
+    if operation == OpNum::SetAttr.number() && status != Status::OpIllegal {
         let attrsset = item::attr_set(c)?;
         return Ok(Res::SetAttr { status, attrsset });
     }
-    let denied = status.number() == Status::Denied.number();
+    let denied = status == Status::Denied;
     if operation == OpNum::Lock.number() && denied {
         return Ok(Res::LockDenied(item::denied(c)?));
     }
@@ -132,7 +132,7 @@ fn bears(operation: u32, status: Status) -> bool
 fn tells(operation: u32, status: Status) -> bool
     ensures { result ≡ refusals.tells operation status }
 {
-    let denied = status.number() == Status::Denied.number();
+    let denied = status == Status::Denied;
     let locks = operation == OpNum::Lock.number() || operation == OpNum::LockT.number();
     operation == OpNum::SetAttr.number() || locks && denied
 }

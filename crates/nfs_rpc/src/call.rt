@@ -26,17 +26,17 @@ pub struct Call<'a> {
 
 /// A credential or a verifier (RFC 5531 section 8.2).
 #[derive(Clone, Copy)]
-pub struct OpaqueAuth<'a> {
-    pub flavor: u32,
-    pub body: &'a [u8],
+pub(crate) struct OpaqueAuth<'a> {
+    pub(crate) flavor: u32,
+    pub(crate) body: &'a [u8],
 }
 
 /// What stands behind the version of RPC in a call (RFC 5531 section 9).
 #[derive(Clone, Copy)]
-pub struct Header<'a> {
-    pub program: u32,
-    pub version: u32,
-    pub procedure: u32,
-    pub credential: OpaqueAuth<'a>,
-    pub verifier: OpaqueAuth<'a>,
+pub(crate) struct Header<'a> {
+    pub(crate) program: u32,
+    pub(crate) version: u32,
+    pub(crate) procedure: u32,
+    pub(crate) credential: OpaqueAuth<'a>,
+    pub(crate) verifier: OpaqueAuth<'a>,
 }

@@ -30,7 +30,7 @@ pub enum Fed {
 
 /// How far the record that is being put together has come.
 #[derive(Clone, Copy, Debug, PartialEq, Eq)]
-pub enum State {
+pub(crate) enum State {
     /// It has begun, or nothing of it has come.
     Begun,
     /// It is whole, and waits.

@@ -39,7 +39,7 @@ impl Verdict {
 
 /// One slot, with the room that was reserved for what it keeps.
 #[derive(Drop)]
-pub struct Slot {
+pub(crate) struct Slot {
     number: u32,
     used: bool,
     uid: u32,
@@ -49,7 +49,7 @@ pub struct Slot {
 
 impl Slot {
     /// A slot that took no request yet, with room for a reply of `size` bytes and arguments of `request` bytes.
-    pub fn new(alloc: Global, size: usize, request: usize) -> Result<Slot, AllocError>
+    pub(crate) fn new(alloc: Global, size: usize, request: usize) -> Result<Slot, AllocError>
         ensures unused { IfOk result (λ s. state_of s ≡ unused_slot) }
         ensures room { IfOk result (IsKept size request) }
     {
@@ -65,7 +65,7 @@ impl Slot {
     }
 
     /// What the slot says of a request with this number, caller and argument bytes.
-    pub fn judge(&self, number: u32, uid: u32, args: &[u8]) -> Verdict
+    pub(crate) fn judge(&self, number: u32, uid: u32, args: &[u8]) -> Verdict
         ensures { result ≡ judge_slot (state_of self.now) number uid args.now }
     {
         if number == self.number.wrapping_add(1) {
@@ -82,14 +82,14 @@ impl Slot {
     }
 
     /// The reply that is kept, and none where nothing is.
-    pub fn reply(&self) -> &[u8]
+    pub(crate) fn reply(&self) -> &[u8]
         ensures { result.now ≡ (state_of self.now).reply }
     {
         &self.reply
     }
 
     /// Keeps a request and its reply in the room that was reserved, in the place of the one before.
-    pub fn keep(&mut self, number: u32, uid: u32, args: &[u8], reply: &[u8])
+    pub(crate) fn keep(&mut self, number: u32, uid: u32, args: &[u8], reply: &[u8])
         requires args { length args.now ≤ vec_capacity self.old.args }
         requires reply { length reply.now ≤ vec_capacity self.old.reply }
         ensures state { state_of self.new ≡ record { number = number; used = true; uid = uid; args = args.now; reply = reply.now } }
