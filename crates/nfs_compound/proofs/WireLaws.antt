@@ -16,8 +16,8 @@ use Rattle.nfs_compound.specs.ArgCodecs.{sequence_args, lock_type, open_to_lock_
 use Rattle.nfs_compound.specs.ArgCodecs.{commit_args, read_args, stable_how, write_args, set_attr_args, spec_data, create_type, create_args, read_dir_args}
 use Rattle.nfs_compound.specs.ArgCodecs.{rename_args, secinfo_style}
 use Rattle.nfs_compound.specs.ArgCodecs as callback
-use Rattle.nfs_compound.specs.Callback.{GssHandles, SecParms, AuthNone, Sys, RpcsecGss}
-use Rattle.nfs_xdr.specs.AuthSys.{AuthSys, auth_sys}
+use Rattle.nfs_compound.specs.Callback.{SecParms, AuthNone, Sys, RpcsecGss}
+use Rattle.nfs_xdr.specs.AuthSys.{auth_sys}
 use Rattle.nfs_compound.specs.OpenArgs.{CreateHow, Unchecked, Guarded, Exclusive, Exclusive41, OpenHow, NoCreate, Create}
 use Rattle.nfs_compound.specs.OpenCodecs.{create_how, open_how, open_claim, delegation_type, open_args, open_downgrade_args, close_args}
 use Rattle.nfs_compound.specs.OpenArgs.{OpenClaim, Null, Previous, DelegateCur, DelegatePrev, Fh, DelegCurFh, DelegPrevFh}
