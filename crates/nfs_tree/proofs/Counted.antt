@@ -1,149 +1,116 @@
--- As many pairs of a number as there are rows of it.
-use Rattle.std.proofs.Common.{◌≡◌, ℕ, ◌<◌, ◌≤◌, ◌^◌, suc, Bool, true, List, [], ◌∷◌, length, Option, refl, sym, ◌∙◌, ap, subst, arith, inl, inr}
-use Rattle.std.specs.Prelude.{◌==◌, filter}
-use Rattle.std.specs.List.{AllByRecursion}
-use Rattle.std.specs.List.Sorted.{IsStrictlySortedBy}
-use Rattle.std.specs.Map.{keys_of}
-use Rattle.std.specs.BTreeMap.{is_at}
-use Rattle.std.specs.BTreeMap.Range.{range_contains}
-use Rattle.std.specs.declared.cmp.Ordering.TheVariants.{Less}
-use Rattle.std.specs.declared.ops.Bound.TheVariants.{Included}
-use Rattle.std.proofs.lemmas.Bool.{cases_Bool, eq-eqb, eqb-true, false≢true}
-use Rattle.std.proofs.lemmas.Bool.Decides.{nat_tests}
-use Rattle.nfs_xdr.specs.Tables.{IsRising, In}
-use Rattle.nfs_xdr.proofs.Lists.{in_filter, stays_in}
-use Rattle.nfs_xdr.proofs.Tables.{IsRising-filter, IsRising-from, in_bounds}
+-- How many rows name an object, and what is counted of them behind one that comes and one that goes.
+use Rattle.std.proofs.Common.{◌≡◌, ℕ, ◌+◌, ◌-◌, ◌<◌, ◌≤◌, ◌^◌, suc, Bool, true, false, List, [], ◌∷◌, ◌++◌, length, Option, refl, sym, ◌∙◌, ap, arith, inl, inr}
+use Rattle.std.specs.Prelude.{◌==◌, nat_lt, filter, if◌then◌else◌}
+use Rattle.std.proofs.lemmas.Bool.{cases_Bool, eq-eqb, eqb-true, ne_eqb, lt-ltb, ltb-true, ltb-false}
+use Rattle.nfs_xdr.specs.Tables.{IsRising, In, without_record}
+use Rattle.nfs_xdr.proofs.Lists.{count_push, length_filter}
+use Rattle.nfs_xdr.proofs.Tables.{at_below, in_bounds, without_none}
 use Rattle.nfs_tree.specs.declared.row.Row.{Row}
-use Rattle.nfs_tree.specs.Files.{links_in}
-use Rattle.nfs_tree.specs.Maps.{pair_cmp, has_pair, ArePairs, AreNamed}
-use Rattle.nfs_tree.proofs.PairLemmas.{pair_at, pair_is, pair_row, row_pair}
+use Rattle.nfs_tree.specs.Files.{links_in, has_row}
+use Rattle.nfs_tree.specs.Counts.{CountsAnew}
+use Rattle.nfs_tree.specs.Maps.{AreCounted, AreNamed}
+use Rattle.nfs_tree.proofs.MapLemmas.{cookie}
 
-abbrev Entry : Type 0
-Entry = (ℕ × ℕ) × Unit {0}
+abbrev bit : Bool → ℕ
+bit b = if b then 1 else 0
 
--- lists that rise and have the same numbers are equally long
-same_length : {X Y : Type 0} (f : X → ℕ) (g : Y → ℕ) (low f_high g_high : ℕ) (xs : List X) (ys : List Y) → IsRising f low xs f_high → IsRising g low ys g_high
-    → ((x : X) → In x xs → (y : Y) × In y ys × (g y ≡ f x)) → ((y : Y) → In y ys → (x : X) × In x xs × (f x ≡ g y)) → length xs ≡ length ys
-same_length f g low f_high g_high [] [] up up' there back = refl
-same_length f g low f_high g_high [] (y ∷ ys) up up' there back = absurd (back y (inl refl)).1
-same_length f g low f_high g_high (x ∷ xs) [] up up' there back = absurd (there x (inl refl)).1
-same_length {X} {Y} f g low f_high g_high (x ∷ xs) (y ∷ ys) up up' there back =
-    ap suc (same_length f g (suc (f x)) f_high g_high xs ys up.1 (subst (λ n. IsRising g (suc n) ys g_high) (sym same) up'.1) further returns)
-  where
-    least : (z : Y) → In z (y ∷ ys) → g y ≤ g z
-    least z (inl is) = let here : g z ≡ g y = ap g is in omega arith
-    least z (inr more) = let above = (in_bounds g (suc (g y)) g_high ys z up'.1 more).0 in omega arith
+links_first : (r : Row) (rows : List Row) (n : ℕ) → links_in (r ∷ rows) n ≡ bit (r.object == n) + links_in rows n
+links_first r rows n = elim (cases_Bool (r.object == n)) [ inl here ↦ rw here (omega arith) | inr other ↦ rw other (omega arith) ]
 
-    first : (z : X) → In z (x ∷ xs) → f x ≤ f z
-    first z (inl is) = let here : f z ≡ f x = ap f is in omega arith
-    first z (inr more) = let above = (in_bounds f (suc (f x)) f_high xs z up.1 more).0 in omega arith
+-- the row of a cookie goes
+links_gone : (low high : ℕ) (rows : List Row) (x : Row) (n : ℕ) → IsRising cookie low rows high → In x rows
+    → links_in (without_record cookie rows x.cookie) n + bit (x.object == n) ≡ links_in rows n
+links_gone low high [] x n rise there = absurd there
+links_gone low high (y ∷ ys) x n rise (inl is) =
+    let at : x.cookie ≡ y.cookie = ap cookie is in
+    let here : (y.cookie == x.cookie) ≡ true = eq-eqb y.cookie x.cookie (sym at) in
+    let rest : without_record cookie ys x.cookie ≡ ys = without_none cookie x.cookie ys (at_below cookie (suc y.cookie) high x.cookie ys rise.1 (omega arith)) in
+    let first = links_first y ys n in
+    let same : bit (x.object == n) ≡ bit (y.object == n) = ap (λ (z : Row). bit (z.object == n)) is in
+    rw (here, rest) (omega arith)
+links_gone low high (y ∷ ys) x n rise (inr more) =
+    let above = (in_bounds cookie (suc y.cookie) high ys x rise.1 more).0 in
+    let other : (y.cookie == x.cookie) ≡ false = ne_eqb y.cookie x.cookie (λ same. absurd (omega arith)) in
+    let below = links_gone (suc y.cookie) high ys x n rise.1 more in
+    let first = links_first y ys n in
+    let left = links_first y (without_record cookie ys x.cookie) n in
+    rw other (omega arith)
 
-    same : f x ≡ g y
-    same =
-        let a = there x (inl refl) in
-        let b = back y (inl refl) in
-        let low_y = least a.0 a.1 in
-        let low_x = first b.0 b.1 in
-        let at_a = a.2 in
-        let at_b = b.2 in
-        omega arith
-
-    further : (z : X) → In z xs → (w : Y) × In w ys × (g w ≡ f z)
-    further z more =
-        let w = there z (inr more) in
-        let above = (in_bounds f (suc (f x)) f_high xs z up.1 more).0 in
-        by_place w.0 w.1 w.2 above
-      where
-        by_place : (w : Y) → In w (y ∷ ys) → g w ≡ f z → suc (f x) ≤ f z → (w : Y) × In w ys × (g w ≡ f z)
-        by_place w (inl is) at above = (let here : g w ≡ g y = ap g is in let s = same in absurd (omega arith))
-        by_place w (inr rest) at above = (w, rest, at)
-
-    returns : (w : Y) → In w ys → (z : X) × In z xs × (f z ≡ g w)
-    returns w more =
-        let z = back w (inr more) in
-        let above = (in_bounds g (suc (g y)) g_high ys w up'.1 more).0 in
-        by_place z.0 z.1 z.2 above
-      where
-        by_place : (z : X) → In z (x ∷ xs) → f z ≡ g w → suc (g y) ≤ g w → (z : X) × In z xs × (f z ≡ g w)
-        by_place z (inl is) at above = (let here : f z ≡ f x = ap f is in let s = same in absurd (omega arith))
-        by_place z (inr rest) at above = (z, rest, at)
-
--- a pair of the number
-abbrev pub is_of : ℕ → Entry → Bool
-is_of n e = range_contains pair_cmp (Included (n, 0)) (Included (n, 18446744073709551615)) e.0
-
-of_is : (n : ℕ) (e : Entry) → is_of n e ≡ true → (e.0.0 ≡ n) × (e.0.1 < 2 ^ 64)
-of_is n e is = grind (arith, nat_tests)
-
-is_of_it : (n c : ℕ) → c < 2 ^ 64 → is_of n ((n, c), tt) ≡ true
-is_of_it n c few = grind (arith, nat_tests)
-
-above_of : (n : ℕ) (d e : Entry) → pair_cmp d.0 e.0 ≡ Less → d.0.0 ≡ n → e.0.0 ≡ n → suc d.0.1 ≤ e.0.1
-above_of n d e less at there = grind (arith, nat_tests)
-
-every : {X : Type 0} (P : X → Type 0) (es : List (X × Unit {0})) (e : X × Unit {0}) → AllByRecursion P (keys_of es) → In e es → P e.0
-every P [] e all there = absurd there
-every {X} P (d ∷ es) e all (inl is) = subst (λ (x : X × Unit {0}). P x.0) (sym is) all.0
-every P (d ∷ es) e all (inr more) = every P es e all.1 more
-
--- the pairs of a number rise by their cookies
-rises : (n low : ℕ) (es : List Entry) → low ≤ 2 ^ 64 → IsStrictlySortedBy pair_cmp (keys_of es) → ((e : Entry) → In e es → is_of n e ≡ true → low ≤ e.0.1)
-    → IsRising (λ (e : Entry). e.0.1) low (filter (is_of n) es) (2 ^ 64)
-unfolding IsStrictlySortedBy
-rises n low [] up sorted from = up
-rises n low (e ∷ es) up sorted from = elim (cases_Bool (is_of n e)) [
-  | inl here ↦ (let is = of_is n e here in
-      let few = is.1 in
-      rw here (
-        from e (inl refl) here,
-        rises n (suc e.0.1) es (omega arith) sorted.1
-            (λ x there of. above_of n e x (every (λ k. pair_cmp e.0 k ≡ Less) es x sorted.0 there) is.0 (of_is n x of).0),
-      ))
-  | inr off ↦ rw off (rises n low es up sorted.1 (λ x there. from x (inr there)))
+pub row_links : (rows : List Row) (n : ℕ) → nat_lt 0 (links_in rows n) ≡ has_row rows n
+row_links [] n = refl
+row_links (r ∷ rows) n = elim (cases_Bool (r.object == n)) [
+  | inl here ↦ rw here (lt-ltb 0 (suc (links_in rows n)) (omega arith))
+  | inr other ↦ rw other (row_links rows n)
 ]
 
--- a pair that stands is found, and one that is found stands
-stands : (es : List Entry) (e : Entry) → In e es → has_pair es e.0 ≡ true
-stands [] e there = absurd there
-stands (d ∷ es) e (inl is) =
-    let here : is_at (pair_cmp e.0) d.0 ≡ true = ap (λ (x : Entry). is_at (pair_cmp e.0) x.0) (sym is) ∙ pair_at e.0 e.0 ∙ rw (eq-eqb e.0.0 e.0.0 refl, eq-eqb e.0.1 e.0.1 refl) refl in
-    rw here refl
-stands (d ∷ es) e (inr more) =
-    let rest = stands es e more in
-    elim (cases_Bool (is_at (pair_cmp e.0) d.0)) [ inl here ↦ rw here refl | inr off ↦ rw off rest ]
+pub some_links : (rows : List Row) (n : ℕ) → has_row rows n ≡ true → 0 < links_in rows n
+some_links rows n named = ltb-true _ _ (row_links rows n ∙ named)
 
-found : (es : List Entry) (n c : ℕ) → has_pair es (n, c) ≡ true → In ((n, c), tt) es
-found [] n c there = absurd (false≢true there)
-found (d ∷ es) n c there = elim (cases_Bool (is_at (pair_cmp (n, c)) d.0)) [
-  | inl here ↦ (let is = pair_is (n, c) d.0 here in let a = is.0 in let b = is.1 in inl (same d a b))
-  | inr off ↦ inr (found es n c (rw off at there))
-]
-  where
-    same : (d : Entry) → n ≡ d.0.0 → c ≡ d.0.1 → ((n, c), tt) ≡ d
-    same d a b = rw (a, b) refl
+pub no_links : (rows : List Row) (n : ℕ) → has_row rows n ≡ false → links_in rows n ≡ 0
+no_links rows n unnamed = let none = ltb-false _ _ (row_links rows n ∙ unnamed) in omega arith
 
-pub counted : (rows : List Row) (at : ℕ → List ℕ → Option ℕ) (es : List Entry) (n : ℕ) → AreNamed rows at → ArePairs (λ (r : Row). r.object) rows (has_pair es)
-    → IsStrictlySortedBy pair_cmp (keys_of es) → length (filter (is_of n) es) ≡ links_in rows n
-counted rows at es n named owned sorted =
-    same_length (λ (e : Entry). e.0.1) (λ (r : Row). r.cookie) 0 (2 ^ 64) named.high (filter (is_of n) es) (filter (λ r. r.object == n) rows)
-    (rises n 0 es (omega arith) sorted (λ e there of. omega arith))
-    (low_rows (IsRising-filter (λ (r : Row). r.cookie) (λ r. r.object == n) 3 named.high rows named.rising))
-    of_pair of_row
-  where
-    low_rows : IsRising (λ (r : Row). r.cookie) 3 (filter (λ r. r.object == n) rows) named.high → IsRising (λ (r : Row). r.cookie) 0 (filter (λ r. r.object == n) rows) named.high
-    low_rows up = IsRising-from (λ (r : Row). r.cookie) 0 3 named.high (filter (λ r. r.object == n) rows) (omega arith) up
+-- fewer than cookies there are
+rows_few : (low high : ℕ) (rows : List Row) → low ≤ 2 ^ 64 → IsRising cookie low rows high → ((r : Row) → In r rows → r.cookie < 2 ^ 64) → length rows + low ≤ 2 ^ 64
+rows_few low high [] up rise few = omega arith
+rows_few low high (x ∷ xs) up rise few =
+    let here = few x (inl refl) in
+    let rest = rows_few (suc x.cookie) high xs (omega arith) rise.1 (λ y there. few y (inr there)) in
+    let from = rise.0 in
+    omega arith
 
-    of_pair : (e : Entry) → In e (filter (is_of n) es) → (r : Row) × In r (filter (λ r. r.object == n) rows) × (r.cookie ≡ e.0.1)
-    of_pair e there =
-        let parts = in_filter (is_of n) es e there in
-        let is = of_is n e parts.1 in
-        let has : has_pair es (n, e.0.1) ≡ true = ap (λ k. has_pair es (k, e.0.1)) (sym is.0) ∙ stands es e parts.0 in
-        let r = pair_row (λ (r : Row). r.object) rows (has_pair es) n e.0.1 owned has in
-        (r.0, stays_in (λ (r : Row). r.object == n) rows r.0 r.1 (eq-eqb r.0.object n r.2), r.3)
+pub links_few : (rows : List Row) (at : ℕ → List ℕ → Option ℕ) (n : ℕ) → AreNamed rows at → links_in rows n + 3 ≤ 2 ^ 64
+links_few rows at n named =
+    let few = rows_few 3 named.high rows (omega arith) named.rising (λ r is. (named.few r is).1) in
+    let le = length_filter (λ (r : Row). r.object == n) rows in
+    omega arith
 
-    of_row : (r : Row) → In r (filter (λ r. r.object == n) rows) → (e : Entry) × In e (filter (is_of n) es) × (e.0.1 ≡ r.cookie)
-    of_row r there =
-        let parts = in_filter (λ (r : Row). r.object == n) rows r there in
-        let is : r.object ≡ n = eqb-true r.object n parts.1 in
-        let has : has_pair es (n, r.cookie) ≡ true = ap (λ k. has_pair es (k, r.cookie)) (sym is) ∙ row_pair (λ (r : Row). r.object) rows (has_pair es) r owned parts.0 in
-        (((n, r.cookie), tt), stays_in (is_of n) es ((n, r.cookie), tt) (found es n r.cookie has) (is_of_it n r.cookie (named.few r parts.0).1), refl)
+-- beside the first of all that there are now
+one_up : (named : Bool) (k before now : ℕ) → nat_lt 0 before ≡ named → k ≡ before - 1 → now ≡ before + 1 → (if named then k + 1 else k) ≡ now - 1
+one_up true k before now has was is = let some : 0 < before = ltb-true 0 before has in omega arith
+one_up false k before now has was is = let none : before ≤ 0 = ltb-false 0 before has in omega arith
+
+-- a row came
+pub counted_put : (rows : List Row) (more new : ℕ → ℕ) (r : Row) (named : Bool) → AreCounted rows more → named ≡ has_row rows r.object
+    → CountsAnew more new r.object (if named then more r.object + 1 else more r.object) → AreCounted (rows ++ r ∷ []) new
+counted_put rows more new r named are has anew n = anew n ∙ (elim (cases_Bool (r.object == n)) [
+  | inl here ↦ (
+      let same : r.object ≡ n = eqb-true r.object n here in
+      let push : links_in (rows ++ r ∷ []) n ≡ links_in rows n + 1 = rw here at (count_push (λ (x : Row). x.object == n) rows r) in
+      rw here (one_up named (more r.object) (links_in rows n) (links_in (rows ++ r ∷ []) n)
+      (row_links rows n ∙ ap (has_row rows) (sym same) ∙ sym has) (ap more same ∙ are n) push))
+  | inr other ↦ (
+      let push : links_in (rows ++ r ∷ []) n ≡ links_in rows n + 0 = rw other at (count_push (λ (x : Row). x.object == n) rows r) in
+      let was = are n in
+      rw other (omega arith))
+])
+
+-- the row of a cookie went
+pub counted_gone : (high : ℕ) (rows : List Row) (more new : ℕ → ℕ) (x : Row) → IsRising cookie 3 rows high → In x rows → AreCounted rows more
+    → CountsAnew more new x.object (more x.object - 1) → AreCounted (without_record cookie rows x.cookie) new
+counted_gone high rows more new x rise there are anew n = anew n ∙ (elim (cases_Bool (x.object == n)) [
+  | inl here ↦ (
+      let same : x.object ≡ n = eqb-true x.object n here in
+      let gone : links_in (without_record cookie rows x.cookie) n + 1 ≡ links_in rows n = rw here at (links_gone 3 high rows x n rise there) in
+      let was : more x.object ≡ links_in rows n - 1 = ap more same ∙ are n in
+      rw here (omega arith))
+  | inr other ↦ (
+      let gone : links_in (without_record cookie rows x.cookie) n + 0 ≡ links_in rows n = rw other at (links_gone 3 high rows x n rise there) in
+      let was = are n in
+      rw other (omega arith))
+])
+
+back_one : (named : Bool) (k before : ℕ) → nat_lt 0 before ≡ named → k ≡ before - 1 → (if named then k + 1 else k) - 1 ≡ k
+back_one true k before has was = omega arith
+back_one false k before has was = let none : before ≤ 0 = ltb-false 0 before has in omega arith
+
+-- a row that came and went
+pub counted_back : (rows : List Row) (more mid new : ℕ → ℕ) (n : ℕ) (named : Bool) → AreCounted rows more → named ≡ has_row rows n
+    → CountsAnew more mid n (if named then more n + 1 else more n) → CountsAnew mid new n (mid n - 1) → (m : ℕ) → new m ≡ more m
+counted_back rows more mid new n named are has up down m = down m ∙ (elim (cases_Bool (n == m)) [
+  | inl here ↦ (
+      let same : n ≡ m = eqb-true n m here in
+      let at : mid n ≡ (if named then more n + 1 else more n) = rw (eq-eqb n n refl) at (up n) in
+      let back = back_one named (more n) (links_in rows n) (row_links rows n ∙ sym has) (are n) in
+      rw here (ap (λ k. k - 1) at ∙ back ∙ ap more same))
+  | inr other ↦ (let kept = up m in rw other (rw other at kept))
+])

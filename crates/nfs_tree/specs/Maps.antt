@@ -1,5 +1,5 @@
 -- How the cookies of rows lie in ordered maps: by name, by directory and by object.
-use Rattle.std.specs.Prelude.{◌≡◌, ℕ, ◌<◌, ◌≤◌, ◌^◌, ◌==◌, Bool, ◌&&◌, List, length, Option, Some, option_map, is_some}
+use Rattle.std.specs.Prelude.{◌≡◌, ℕ, ◌-◌, ◌<◌, ◌≤◌, ◌^◌, ◌==◌, Bool, ◌&&◌, List, length, Option, Some, option_map, is_some}
 use Rattle.std.specs.List.{list_any}
 use Rattle.std.specs.Ordering.{nat_cmp, ordering_then}
 use Rattle.std.specs.declared.cmp.Ordering.{Ordering}
@@ -8,7 +8,7 @@ use Rattle.std.specs.Map.{lookup}
 use Rattle.nfs_xdr.specs.Codec.{IsBytes}
 use Rattle.nfs_xdr.specs.Tables.{IsRising, In}
 use Rattle.nfs_tree.specs.declared.row.Row.{Row}
-use Rattle.nfs_tree.specs.Files.{most_name, entry}
+use Rattle.nfs_tree.specs.Files.{most_name, entry, links_in}
 
 abbrev pub pair_cmp : ℕ × ℕ → ℕ × ℕ → Ordering
 pair_cmp x y = ordering_then (nat_cmp x.0 y.0) (nat_cmp x.1 y.1)
@@ -28,6 +28,14 @@ ArePairs of rows has = (q : ℕ × ℕ) → has q ≡ list_any (is_pair of q) ro
 abbrev pub HasOneRow : List Row → ℕ → Type 0
 HasOneRow rows n = (q r : Row) → In q rows → In r rows → q.object ≡ n → r.object ≡ n → q ≡ r
 
+-- beside the first row that names an object, as many as are counted of it
+abbrev pub AreCounted : List Row → (ℕ → ℕ) → Type 0
+AreCounted rows more = (n : ℕ) → more n ≡ links_in rows n - 1
+
+-- an object of one row, or of none, leaves nothing behind
+abbrev pub IsLean : (ℕ → Option ℕ) → Type 0
+IsLean at = (n k : ℕ) → at n ≡ Some k → 0 < k
+
 -- rows in rising order of their cookies, each the one found under its name, and the cookies found by name
 pub record AreNamed (rows : List Row) (at : ℕ → List ℕ → Option ℕ) : Type 0 where
   pub high : ℕ
@@ -37,8 +45,9 @@ pub record AreNamed (rows : List Row) (at : ℕ → List ℕ → Option ℕ) : T
   pub found : (r : Row) → In r rows → entry rows r.directory r.name ≡ Some r
   pub names : (d : ℕ) (name : List ℕ) → d < 2 ^ 64 → IsBytes name → at d name ≡ option_map (λ r. r.cookie) (entry rows d name)
 
--- the rows, the cookies found by name, and the maps of directories and of objects
-pub record AreMapped (rows : List Row) (at : ℕ → List ℕ → Option ℕ) (ls os : List ((ℕ × ℕ) × Unit {0})) : Type 0 where
+-- the rows, the cookies found by name, the maps of directories and of objects, and how many rows name an object beside its first
+pub record AreMapped (rows : List Row) (at : ℕ → List ℕ → Option ℕ) (ls os : List ((ℕ × ℕ) × Unit {0})) (more : ℕ → ℕ) : Type 0 where
   pub named : AreNamed rows at
   pub listed : ArePairs (λ (r : Row). r.directory) rows (has_pair ls)
   pub owned : ArePairs (λ (r : Row). r.object) rows (has_pair os)
+  pub counted : AreCounted rows more

@@ -11,6 +11,7 @@ ghost use Rattle.nfs_tree.specs.Indexed.{placed};
 
 use crate::by_cookie::ByCookie;
 use crate::by_name::ByName;
+use crate::counts::Counts;
 use crate::name::Name;
 use crate::row::{Naming, Row};
 use crate::tree::Tree;
@@ -18,7 +19,6 @@ use std::alloc::{AllocError, Global};
 use std::collections::BTreeMap;
 use std::collections::btree_map::Entry;
 use std::marker::Model;
-use std::ops::Bound;
 
 /// The rows of all directories. Contracts see the list of them, in rising order of their cookies.
 #[derive(Drop)]
@@ -31,19 +31,22 @@ pub(crate) struct Rows {
     listed: BTreeMap<(u64, u64), (), Global>,
     /// The object and the cookie of each.
     owned: BTreeMap<(u64, u64), (), Global>,
+    /// How many name each object.
+    counts: Counts,
 }
 
 impl Model for Rows {
     ghost use Rattle.std.specs.Prelude.{List};
     ghost use Rattle.nfs_tree.specs.declared.row.Row.{Row};
     ghost use Rattle.nfs_tree.specs.ByName.{cookies};
+    ghost use Rattle.nfs_tree.specs.Counts.{further};
     ghost use Rattle.nfs_tree.specs.Maps.{AreMapped};
 
     ghost Value = { List Row };
 
     ghost view = { λ t. t.rows };
 
-    ghost invariant = { λ t. AreMapped t.rows (cookies t.names) t.listed.entries t.owned.entries };
+    ghost invariant = { λ t. AreMapped t.rows (cookies t.names) t.listed.entries t.owned.entries (further t.counts) };
 }
 
 impl Rows {
@@ -56,6 +59,7 @@ impl Rows {
             names: ByName::new(alloc),
             listed: BTreeMap::new(alloc),
             owned: BTreeMap::new(alloc),
+            counts: Counts::new(alloc),
         }
     }
 
@@ -148,14 +152,14 @@ impl Rows {
     }
 
     /// How many rows name the object.
-    pub(crate) fn links_in(&self, object: u64) -> usize
+    pub(crate) fn links_in(&self, object: u64) -> u64
         ensures { result ≡ links_in self.now object }
     {
-        let own = (
-            Bound::Included((object, 0)),
-            Bound::Included((object, u64::MAX)),
-        );
-        self.owned.range(own).count()
+        if self.has_row(object) {
+            self.counts.of(object) + 1
+        } else {
+            0
+        }
     }
 
     /// Whether a row names the object.
@@ -190,7 +194,9 @@ impl Rows {
             object,
             cookie,
         };
-        add_owned(
+        let named = self.has_row(object);
+        self.counts.add(object, named)?;
+        let added = add_owned(
             &mut self.rows,
             &mut self.names,
             &mut self.listed,
@@ -198,10 +204,15 @@ impl Rows {
             alloc,
             name,
             row,
-        )?;
-        if let Some((owner, old)) = replaced {
+        );
+        if let Err(fault) = added {
+            self.counts.take(object);
+            return Err(fault);
+        }
+        if let Some((loser, old)) = replaced {
             take(&mut self.rows, &mut self.listed, directory, old);
-            take_pair(&mut self.owned, owner, old);
+            take_pair(&mut self.owned, loser, old);
+            self.counts.take(loser);
         }
         Ok(())
     }
@@ -232,6 +243,7 @@ impl Rows {
             self.names.remove(directory, name);
             take(&mut self.rows, &mut self.listed, directory, gone);
             take_pair(&mut self.owned, owner, gone);
+            self.counts.take(owner);
         }
     }
 }
