@@ -7,9 +7,9 @@ ghost use Rattle.nfs_tree.specs.Indexed.{placed, IsShelved};
 
 use crate::key::short_key;
 use crate::row::{Naming, Row};
+use crate::seen::Seen;
 use slab::Slab;
 use std::alloc::{AllocError, Global};
-use std::cell::Cell;
 use std::collections::BTreeMap;
 use std::marker::Model;
 
@@ -18,6 +18,7 @@ use std::marker::Model;
 pub(crate) struct ByCookie {
     slab: Slab<Naming>,
     keys: BTreeMap<u64, u32, Global>,
+    seen: Seen,
 }
 
 impl Model for ByCookie {
@@ -41,6 +42,7 @@ impl ByCookie {
         ByCookie {
             slab: Slab::new(alloc),
             keys: BTreeMap::new(alloc),
+            seen: Seen::new(alloc),
         }
     }
 
@@ -73,15 +75,21 @@ impl ByCookie {
         }
     }
 
-    /// A row that names the directory of this one, if it still stands where one was last seen.
-    pub(crate) fn seen_above(&self, row: &Naming) -> Option<&Naming>
-        ensures row { IfSome result (λ above. IsShelved above.now self.now) }
-        ensures object { IfSome result (λ above. above.now.object ≡ row.now.directory) }
+    /// A row that names the directory of the one at a key, with its own key, if it still stands where one was last seen.
+    pub(crate) fn seen_above(&self, key: u32, row: &Naming) -> Option<(u32, &Naming)>
+        ensures row { IfSome result (λ r. IsShelved r.1.now self.now) }
+        ensures object { IfSome result (λ r. r.1.now.object ≡ row.now.directory) }
     {
-        match self.slab.get(row.above.get() as usize) {
-            Some(above) if above.object == row.directory => Some(above),
+        let at = self.seen.above(key);
+        match self.slab.get(at as usize) {
+            Some(above) if above.object == row.directory => Some((at, above)),
             _ => None,
         }
+    }
+
+    /// The row of the directory of the one at a key was seen.
+    pub(crate) fn note_above(&self, key: u32, above: u32) {
+        self.seen.note(key, above);
     }
 
     /// Puts a row behind the others.
@@ -98,12 +106,12 @@ impl ByCookie {
         } = row;
         self.slab.reserve(1)?;
         let key = short_key(self.slab.vacant_key())?;
+        self.seen.reach(key)?;
         self.keys.insert(cookie, key)?;
         self.slab.insert_reserved(Naming {
             directory,
             name,
             object,
-            above: Cell::new(u32::MAX),
         });
         Ok(())
     }

@@ -134,19 +134,19 @@ impl Rows {
         }
     }
 
-    /// The row of the directory in which a row stands: one look where the row has seen it before.
-    pub(crate) fn above(&self, row: &Naming) -> Option<&Naming>
+    /// The row of the directory in which the row at a key stands, with its own key: two looks where it was seen before.
+    pub(crate) fn above(&self, key: u32, row: &Naming) -> Option<(u32, &Naming)>
         requires { HasOneRow self.now row.now.directory }
-        ensures { option_map (λ r. r.directory) (option_copied result) ≡ parent_in self.now row.now.directory }
+        ensures { option_map (λ r. r.1.now.directory) result ≡ parent_in self.now row.now.directory }
     {
-        if let Some(above) = self.rows.seen_above(row) {
-            return Some(above);
+        if let Some((at, above)) = self.rows.seen_above(key, row) {
+            return Some((at, above));
         }
         match self.first_of(row.directory) {
             None => None,
-            Some((key, above)) => {
-                row.above.set(key);
-                Some(above)
+            Some((at, above)) => {
+                self.rows.note_above(key, at);
+                Some((at, above))
             }
         }
     }

@@ -16,6 +16,10 @@ pub invariant_of-self-in_err-key : goal.invariant_of-self-in_err-key
 invariant_of-self-in_err-key c =
     shelved_same c.self.inside.slab c.reserve.new.self _ _ (ap (λ (s : Slab Naming). s.slots) c.in_ok-reserve.ensures.rest_kept) refl c.self.invariant
 
+pub invariant_of-self-in_err-reach : goal.invariant_of-self-in_err-reach
+invariant_of-self-in_err-reach c =
+    shelved_same c.self.inside.slab c.reserve.new.self _ _ (ap (λ (s : Slab Naming). s.slots) c.in_ok-reserve.ensures.rest_kept) refl c.self.invariant
+
 pub invariant_of-self-in_err-insert : goal.invariant_of-self-in_err-insert
 invariant_of-self-in_err-insert c =
     shelved_same c.self.inside.slab c.reserve.new.self _ _ (ap (λ (s : Slab Naming). s.slots) c.in_ok-reserve.ensures.rest_kept) c.in_err-insert.ensures.err c.self.invariant
@@ -31,7 +35,7 @@ made c =
     let entries : c.insert.new.self.entries ≡ insert_entry nat_cmp es c.args.row.cookie c.insert_reserved.result =
     c.in_ok-insert.ensures.entries ∙ ap (insert_entry nat_cmp es c.args.row.cookie) key in
     shelved_new c.reserve.new.self c.insert_reserved.new.self es c.insert.new.self.entries c.args.row.cookie c.insert_reserved.result
-    (record { directory = c.args.row.directory; name = c.args.row.name; object = c.args.row.object; above = c.new.result }) is up
+    (record { directory = c.args.row.directory; name = c.args.row.name; object = c.args.row.object }) is up
     c.insert_reserved.ensures.was_vacant c.insert_reserved.ensures.updates entries
 
 pub invariant_of-self-2 : goal.invariant_of-self-2

@@ -1,0 +1,43 @@
+//! Where rows were last seen.
+
+use std::alloc::{AllocError, Global};
+use std::cell::Cell;
+
+/// For the key of each row the one at which the row of its directory was last seen: by now another row may stand there,
+/// or none. They stand close together and apart from the rows, so that going up waits for memory once for many rows.
+#[derive(Drop)]
+pub(crate) struct Seen {
+    above: Vec<Cell<u32>>,
+}
+
+impl Seen {
+    /// Nothing was seen. What comes later grows by `alloc`.
+    pub(crate) fn new(alloc: Global) -> Seen {
+        Seen {
+            above: Vec::new(alloc),
+        }
+    }
+
+    /// Where the row above the one at a key was last seen, or a key that no row has.
+    pub(crate) fn above(&self, key: u32) -> u32 {
+        match self.above.get(key as usize) {
+            Some(seen) => seen.get(),
+            None => u32::MAX,
+        }
+    }
+
+    /// The row above the one at a key was seen.
+    pub(crate) fn note(&self, key: u32, above: u32) {
+        if let Some(seen) = self.above.get(key as usize) {
+            seen.set(above);
+        }
+    }
+
+    /// Has room for the next key, once it has room for those before.
+    pub(crate) fn reach(&mut self, key: u32) -> Result<(), AllocError> {
+        if self.above.len() <= key as usize {
+            self.above.push(Cell::new(u32::MAX))?;
+        }
+        Ok(())
+    }
+}
