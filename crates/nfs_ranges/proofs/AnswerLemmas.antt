@@ -5,12 +5,13 @@ use Rattle.std.proofs.lemmas.Bool.{cases_Bool, ltb-true, ltb-false, ne_eqb}
 use Rattle.nfs_ranges.specs.declared.interval.Interval.{Interval}
 use Rattle.nfs_ranges.specs.Intervals.{AreFrom, IsCanonical}
 use Rattle.nfs_ranges.specs.Edits.{lead, head, ends_before}
-use Rattle.nfs_ranges.specs.Holders.{LockedBytes, bytes_of, at, holds_any, kind_at}
+use Rattle.nfs_ranges.specs.Holders.{Owned, LockedBytes, bytes_of, at, holds_any, kind_at}
 use Rattle.nfs_ranges.specs.Facts.{HoldsAny}
-use Rattle.nfs_ranges.specs.Owners.{AreCanonical, is_empty, with_owner}
+use Rattle.nfs_ranges.specs.Owners.{AreCanonical, AreKept, IsPut, is_empty}
 use Rattle.nfs_ranges.proofs.CanonicalLemmas.{within_is, within_above, none_below, at_first}
 use Rattle.nfs_ranges.proofs.PlaceLemmas.{Fails, fails, from_drop}
-use Rattle.nfs_ranges.proofs.OwnerLemmas.{with_owner-canonical, bytes-canonical}
+use Rattle.nfs_ranges.proofs.OwnerLemmas.{bytes-canonical}
+use Rattle.nfs_ranges.proofs.KeptLemmas.{kept_put}
 use Rattle.nfs_ranges.proofs.ToldLemmas.{holds_any_is}
 
 -- how a byte is held, by the first interval that does not end before it
@@ -66,11 +67,11 @@ any_of os s are false e = (λ is_so. any_bytes (bytes_of os s) (bytes-canonical 
 pub any_is : (os : LockedBytes) (s : ℕ) → AreCanonical os → not (is_empty (bytes_of os s)) ≡ holds_any (at os) s
 any_is os s are = sym (holds_any_is (at os) s (not (is_empty (bytes_of os s))) (any_of os s are (is_empty (bytes_of os s)) refl))
 
--- a call that may fail leaves a canonical list
-pub still_canonical : {E : Type 0} (r : Result (Unit {0}) E) (s : ℕ) (xs : List Interval) (old new : LockedBytes) → OnOk r (new ≡ with_owner s xs old) →
-    OnErr r (new ≡ old) → IsCanonical xs → AreCanonical old → AreCanonical new
-still_canonical (Ok u) s xs old new ok err is are = rw ok (with_owner-canonical s xs old is are)
-still_canonical (Err e) s xs old new ok err is are = rw err are
+-- a call that may fail leaves owners in order
+pub still_kept : {E : Type 0} (r : Result (Unit {0}) E) (s : ℕ) (xs : List Interval) (old new : List (ℕ × Owned)) → OnOk r (IsPut s xs old new) →
+    OnErr r (new ≡ old) → IsCanonical xs → AreKept old → AreKept new
+still_kept (Ok u) s xs old new ok err is are = kept_put s xs old new ok is are
+still_kept (Err e) s xs old new ok err is are = rw err are
 
 pub empty_length : (xs : List Interval) → (length xs == 0) ≡ is_empty xs
 empty_length [] = refl

@@ -1,6 +1,6 @@
 -- What is told is the first interval that clashes, of the owner that comes first.
 use Rattle.std.proofs.Common.{◌≡◌, ◌≢◌, ℕ, zero, suc, ◌<◌, ◌≤◌, ◌^◌, max, Bool, true, false, cond, eqb, leb, ◌&&◌, List, [], ◌∷◌, drop, length, get_or, Option}
-use Rattle.std.proofs.Common.{◌++◌, Some, None, refl, sym, ◌∙◌, ap, subst, arith, inl, inr}
+use Rattle.std.proofs.Common.{Some, None, refl, sym, ◌∙◌, ap, subst, arith, inl, inr}
 use Rattle.std.proofs.Math.Path.{fun_ext}
 use Rattle.std.specs.Prelude.{All, find, not, option_map}
 use Rattle.std.proofs.lemmas.Bool.{cases_lt, cases_Bool, and_parts, and_cases, and_left, and_right, leb-true, and_from, cases_eq, ltb-true, lt-ltb, le-ltb}
@@ -62,33 +62,26 @@ find_skips k first last (x ∷ xs) = elim (cases_Bool (ends_before first x)) [
 abbrev pub AreEach : LockedBytes → Type 0
 AreEach = All (λ o. IsCanonical o.intervals)
 
-pub each_canonical : (os : LockedBytes) (i : ℕ) (o : Owned) → AreEach os → i < length os → o ≡ get_or os i o → IsCanonical o.intervals
-each_canonical os i o are lt e = rw e (are i o lt)
-
-all_canonical : (low : ℕ) (os : LockedBytes) → AreOwners low os → AreEach os
+pub all_canonical : (low : ℕ) (os : LockedBytes) → AreOwners low os → AreEach os
 all_canonical low [] are k d lt = absurd (omega arith)
 all_canonical low (o ∷ os) are zero d lt = are.2
 all_canonical low (o ∷ os) are (suc k) d lt = all_canonical (suc o.number) os are.3 k d (omega arith)
 
-each_of_front : (os ps : LockedBytes) → AreEach (os ++ ps) → AreEach os
-each_of_front [] ps are k d lt = absurd (omega arith)
-each_of_front (o ∷ os) ps are zero d lt = are 0 d (omega arith)
-each_of_front (o ∷ os) ps are (suc k) d lt = each_of_front os ps (λ j e l. are (suc j) e (omega arith)) k d (omega arith)
+each_rest : (o : Owned) (os : LockedBytes) → AreEach (o ∷ os) → AreEach os
+each_rest o os are k d lt = are (suc k) d (omega arith)
 
-each_of_back : (os ps : LockedBytes) → AreEach (os ++ ps) → AreEach ps
-each_of_back [] ps are = are
-each_of_back (o ∷ os) ps are = each_of_back os ps (λ j e l. are (suc j) e (omega arith))
+pub sooner_none : (first : ℕ) (best : Option Held) → sooner first best None ≡ best
+sooner_none first None = refl
+sooner_none first (Some b) = refl
 
-pub front_canonical : (os ps qs : LockedBytes) → os ++ ps ≡ qs → AreCanonical qs → AreEach os
-front_canonical os ps qs e are = each_of_front os ps (rw e (all_canonical 0 qs are.from))
-
-pub back_canonical : (os ps qs : LockedBytes) → os ++ ps ≡ qs → AreCanonical qs → AreEach ps
-back_canonical os ps qs e are = each_of_back os ps (rw e (all_canonical 0 qs are.from))
-
-pub tell-append : (s : ℕ) (k : Kind) (first last : ℕ) (best : Option Held) (os ps : LockedBytes) → tell s k first last best (os ++ ps) ≡
-    tell s k first last (tell s k first last best os) ps
-tell-append s k first last best [] ps = refl
-tell-append s k first last best (o ∷ os) ps = tell-append s k first last (sooner first best (clash_of s k first last o)) os ps
+-- one owner is asked, and so many are left
+pub told_more : (s : ℕ) (k : Kind) (first last : ℕ) (best next : Option Held) (o : Owned) (os left : LockedBytes) (t : Option Held) →
+    AreEach left × (tell s k first last best left ≡ t) → left ≡ o ∷ os → next ≡ sooner first best (clash_of s k first last o) →
+    AreEach os × (tell s k first last next os ≡ t)
+told_more s k first last best next o os left t told is made = (
+  each_rest o os (subst AreEach is told.0),
+  ap (λ b. tell s k first last b os) made ∙ ap (tell s k first last best) (sym is) ∙ told.1,
+)
 
 -- the first interval of one list that clashes
 record IsHit (k : Kind) (first last : ℕ) (xs : List Interval) (x : Interval) : Type 0 where

@@ -3,6 +3,7 @@ pub mod CanonicalLemmas
 pub mod ClashLemmas
 pub mod EditLemmas
 pub mod HolderLemmas
+pub mod KeptLemmas
 pub mod KindLemmas
 pub mod LayLemmas
 pub mod OwnerLemmas

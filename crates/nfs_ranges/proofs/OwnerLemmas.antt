@@ -13,26 +13,9 @@ use Rattle.nfs_ranges.specs.Intervals.{IsCanonical, joins, kept_below, kept_abov
 use Rattle.nfs_ranges.specs.Edits.{lead, head}
 use Rattle.nfs_ranges.specs.Holders.{Owned, LockedBytes, bytes_of, at, holding, cleared, dropped, is_within, kind_at}
 use Rattle.nfs_ranges.specs.Laws.{Canonical}
-use Rattle.nfs_ranges.specs.Owners.{is_empty, AreOwners, AreCanonical, IsFound, IsAbsent, entry, with_owner, is_lower, is_number}
+use Rattle.nfs_ranges.specs.Owners.{is_empty, AreOwners, AreCanonical, entry, with_owner}
 use Rattle.nfs_ranges.proofs.CanonicalLemmas.{canonical_unique, at_first}
 use Rattle.nfs_ranges.proofs.EditLemmas.{at-with_range, at-without}
-
--- order
-number_from : (low : ℕ) (os : LockedBytes) (j : ℕ) (d : Owned) → AreOwners low os → j < length os → low ≤ (get_or os j d).number
-number_from low [] j d are lt = absurd (omega arith)
-number_from low (o ∷ os) zero d are lt = are.0
-number_from low (o ∷ os) (suc j) d are lt = let lo = are.0 in let rest = number_from (suc o.number) os j d are.3 (omega arith) in omega arith
-
-numbers_rise : (low : ℕ) (os : LockedBytes) (i j : ℕ) (d : Owned) → AreOwners low os → i ≤ j → j < length os → (get_or os i d).number ≤ (get_or os j d).number
-numbers_rise low [] i j d are le lt = absurd (omega arith)
-numbers_rise low (o ∷ os) zero zero d are le lt = omega arith
-numbers_rise low (o ∷ os) zero (suc j) d are le lt = let rest = number_from (suc o.number) os j d are.3 (omega arith) in omega arith
-numbers_rise low (o ∷ os) (suc i) zero d are le lt = absurd (omega arith)
-numbers_rise low (o ∷ os) (suc i) (suc j) d are le lt = numbers_rise (suc o.number) os i j d are.3 (omega arith) (omega arith)
-
-pub parted_lower : (s : ℕ) (os : LockedBytes) → AreCanonical os → IsPartitionedBy (is_lower s) os
-parted_lower s os are i j d le lt e = let rise = numbers_rise 0 os i j d are.from le lt in let there = ltb-true (get_or os j d).number s e in
-    lt-ltb (get_or os i d).number s (omega arith)
 
 owners_later : (low more : ℕ) (os : LockedBytes) → low ≤ more → AreOwners more os → AreOwners low os
 owners_later low more [] le are = tt
@@ -42,63 +25,6 @@ owners_later low more (o ∷ os) le are = (let lo = are.0 in omega arith, are.1,
 pub no_bytes : (low : ℕ) (os : LockedBytes) (s : ℕ) → AreOwners low os → s < low → bytes_of os s ≡ []
 no_bytes low [] s are lt = refl
 no_bytes low (o ∷ os) s are lt = let lo = are.0 in rw (ne_eqb o.number s (λ same. omega arith)) (no_bytes (suc o.number) os s are.3 (omega arith))
-
-pub found : (s : ℕ) (os : LockedBytes) → is_number s (head (drop (lead (is_lower s) os) os)) ≡ true → IsFound s os (lead (is_lower s) os)
-found s [] e = absurd cc
-found s (o ∷ os) e = elim (cases_lt o.number s) [
-  | inl lt ↦ (
-      let low = lt-ltb o.number s lt in
-      let other = ne_eqb o.number s (λ same. omega arith) in
-      let rest = found s os (rw low at e) in
-      let within = rest.within in
-      rw low (record {
-        within = omega arith;
-        number = λ d. rest.number d;
-        bytes = λ d. rw other (rest.bytes d);
-        put = λ xs. rw low (ap (λ ts. o ∷ ts) (rest.put xs));
-      })
-      )
-  | inr ge ↦ (
-      let not = le-ltb o.number s ge in
-      let same : eqb o.number s ≡ true = rw not at e in
-      rw not (record {
-        within = omega arith;
-        number = λ d. eqb-true o.number s same;
-        bytes = λ d. rw same refl;
-        put = λ xs. rw (not, same) refl;
-      })
-      )
-]
-
-pub absent : (low s : ℕ) (os : LockedBytes) → AreOwners low os → is_number s (head (drop (lead (is_lower s) os) os)) ≡ false →
-    IsAbsent s os (lead (is_lower s) os)
-absent low s [] are e = record { within = omega arith; bytes = refl; put = λ xs. nil_end (entry s xs) }
-  where
-    nil_end : (xs : LockedBytes) → xs ≡ xs ++ []
-    nil_end [] = refl
-    nil_end (x ∷ xs) = ap (λ ts. x ∷ ts) (nil_end xs)
-absent low s (o ∷ os) are e = elim (cases_lt o.number s) [
-  | inl lt ↦ (
-      let lower = lt-ltb o.number s lt in
-      let other = ne_eqb o.number s (λ same. omega arith) in
-      let rest = absent (suc o.number) s os are.3 (rw lower at e) in
-      let within = rest.within in
-      rw lower (record {
-        within = omega arith;
-        bytes = rw other rest.bytes;
-        put = λ xs. rw lower (ap (λ ts. o ∷ ts) (rest.put xs));
-      })
-      )
-  | inr ge ↦ (
-      let not = le-ltb o.number s ge in
-      let other : eqb o.number s ≡ false = rw not at e in
-      rw not (record {
-        within = omega arith;
-        bytes = rw other (no_bytes (suc o.number) os s are.3 (omega arith));
-        put = λ xs. rw (not, other) refl;
-      })
-      )
-]
 
 -- what one owner's new intervals make of the list
 entry-from : (low s : ℕ) (ys : List Interval) (ps : LockedBytes) → low ≤ s → IsCanonical ys → AreOwners (suc s) ps → AreOwners low (entry s ys ++ ps)
@@ -236,35 +162,6 @@ owners_unique low (o ∷ os) (p ∷ ps) are bre agree =
 pub canonical : Canonical
 canonical os ps are bre agree = owners_unique 0 os ps are.from bre.from agree
 
--- an edit at the owner's place
-pub found_bytes : (s : ℕ) (os : LockedBytes) (i : ℕ) (o : Owned) → IsFound s os i → o ≡ get_or os i o → o.intervals ≡ bytes_of os s
-found_bytes s os i o is e = ap (λ (t : Owned). t.intervals) e ∙ is.bytes o
-
-pub found_canonical : (s : ℕ) (os : LockedBytes) (i : ℕ) (o : Owned) → IsFound s os i → AreCanonical os → o ≡ get_or os i o → IsCanonical o.intervals
-found_canonical s os i o is are e = rw (found_bytes s os i o is e) (bytes-canonical 0 os s are.from)
-
-entry_is : (s : ℕ) (ys : List Interval) (o : Owned) → is_empty ys ≡ false → o.number ≡ s → entry s ys ≡ record o { intervals = ys } ∷ []
-entry_is s [] o e n = absurd cc
-entry_is s (y ∷ ys) o e n = rw n refl
-
-pub set_found : (s : ℕ) (os : LockedBytes) (i : ℕ) (o new : Owned) (ys : List Interval) → IsFound s os i → o ≡ get_or os i o → is_empty ys ≡ false → new ≡
-    record o { intervals = ys } → set os i new ≡ with_owner s ys os
-set_found s os i o new ys is e some made =
-    let number : o.number ≡ s = ap (λ (t : Owned). t.number) e ∙ is.number o in
-    set_split os i new is.within ∙ ap (λ ts. take i os ++ ts)
-    (ap (λ t. t ∷ drop (suc i) os) made ∙ ap (λ ts. ts ++ drop (suc i) os) (sym (entry_is s ys o some number))) ∙ sym (is.put ys)
-
-empty_is : (s : ℕ) (ys : List Interval) → is_empty ys ≡ true → entry s ys ≡ []
-empty_is s [] e = refl
-empty_is s (y ∷ ys) e = absurd cc
-
-pub remove_found : (s : ℕ) (os : LockedBytes) (i : ℕ) (new : Owned) (ys : List Interval) → IsFound s os i → is_empty ys ≡ true → remove (set os i new) i ≡
-    with_owner s ys os
-remove_found s os i new ys is none =
-    ap (λ ts. ts ++ drop (suc i) (set os i new)) (take-set os i new)
-    ∙ ap (λ ts. take i os ++ ts) (drop-set-lt (suc i) os i new (omega arith) ∙ ap (λ ts. ts ++ drop (suc i) os) (sym (empty_is s ys none)))
-    ∙ sym (is.put ys)
-
 -- what is held is not empty
 put_some : (m : Interval) (xs : List Interval) → is_empty (put m xs) ≡ false
 put_some m [] = refl
@@ -276,33 +173,3 @@ glue_some (x ∷ xs) ys e = put_some x (glue xs ys)
 
 pub held_some : (m : Interval) (xs : List Interval) → is_empty (with_range m xs) ≡ false
 held_some m xs = glue_some (kept_below m.first xs) (put m (kept_above m.last xs)) (put_some m (kept_above m.last xs))
-
--- in the form of the answers
-pub held_found : (s : ℕ) (m : Interval) (os : LockedBytes) (i : ℕ) (o new : Owned) → IsFound s os i → o ≡ get_or os i o → new ≡
-    record o { intervals = with_range m o.intervals } → set os i new ≡ with_owner s (with_range m (bytes_of os s)) os
-held_found s m os i o new is e made =
-    set_found s os i o new (with_range m o.intervals) is e (held_some m o.intervals) made ∙
-    ap (λ xs. with_owner s (with_range m xs) os) (found_bytes s os i o is e)
-
-pub cleared_found : (s first last : ℕ) (os : LockedBytes) (i : ℕ) (o new now : Owned) (r : Bool) → IsFound s os i → o ≡ get_or os i o → new ≡
-    record o { intervals = without first last o.intervals } → now ≡ get_or (set os i new) i now → r ≡ is_empty now.intervals → r ≡ false → set os i new ≡
-    with_owner s (without first last (bytes_of os s)) os
-cleared_found s first last os i o new now r is e made read tests not =
-    let same : now ≡ new = read ∙ get_or-set_same os i new now is.within in
-    let some : is_empty (without first last o.intervals) ≡ false = ap (λ (t : Owned). is_empty t.intervals) (sym made) ∙
-    ap (λ (t : Owned). is_empty t.intervals) (sym same) ∙ sym tests ∙ not in
-    set_found s os i o new (without first last o.intervals) is e some made ∙ ap (λ xs. with_owner s (without first last xs) os) (found_bytes s os i o is e)
-
-pub emptied_found : (s first last : ℕ) (os : LockedBytes) (i : ℕ) (o new now : Owned) (r : Bool) → IsFound s os i → o ≡ get_or os i o → new ≡
-    record o { intervals = without first last o.intervals } → now ≡ get_or (set os i new) i now → r ≡ is_empty now.intervals → r ≡ true →
-    remove (set os i new) i ≡ with_owner s (without first last (bytes_of os s)) os
-emptied_found s first last os i o new now r is e made read tests is_so =
-    let same : now ≡ new = read ∙ get_or-set_same os i new now is.within in
-    let none : is_empty (without first last o.intervals) ≡ true = ap (λ (t : Owned). is_empty t.intervals) (sym made) ∙
-    ap (λ (t : Owned). is_empty t.intervals) (sym same) ∙ sym tests ∙ is_so in
-    remove_found s os i new (without first last o.intervals) is none ∙ ap (λ xs. with_owner s (without first last xs) os) (found_bytes s os i o is e)
-
--- a value that is there
-pub took : {X : Type 0} (r : Option X) (P : Type 0) → IsSome r → OnSome r P → P
-took (Some x) P some is = is
-took None P some is = absurd cc

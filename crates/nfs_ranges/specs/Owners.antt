@@ -1,6 +1,6 @@
 -- The owners of a list, in rising order of their numbers.
 use Rattle.std.specs.Prelude.{◌≡◌, ℕ, suc, ◌<◌, ◌≤◌, ◌==◌, nat_lt, Bool, true, false, if◌then◌else◌, List, [], ◌∷◌, ◌++◌, take, drop, length}
-use Rattle.std.specs.Prelude.{slice_index_or, Option, Some, None}
+use Rattle.std.specs.Map.{values_of}
 use Rattle.nfs_ranges.specs.declared.interval.Interval.{Interval}
 use Rattle.nfs_ranges.specs.Intervals.{IsCanonical}
 use Rattle.nfs_ranges.specs.Holders.{Owned, LockedBytes, bytes_of}
@@ -28,25 +28,20 @@ with_owner s xs [] = entry s xs
 with_owner s xs (o ∷ os) =
     if nat_lt o.number s then o ∷ with_owner s xs os else (if o.number == s then entry s xs ++ os else entry s xs ++ o ∷ os)
 
-abbrev pub is_lower : ℕ → Owned → Bool
-is_lower s o = nat_lt o.number s
+-- each under its own number
+abbrev pub AreKeyed : List (ℕ × Owned) → Type 0
+AreKeyed [] = Unit {0}
+AreKeyed (e ∷ es) = (e.1.number ≡ e.0) × AreKeyed es
 
-abbrev pub is_number : ℕ → Option Owned → Bool
-is_number s None = false
-is_number s (Some o) = o.number == s
+-- the entries of a map by number
+pub record AreKept (es : List (ℕ × Owned)) : Type 0 where
+  pub keyed : AreKeyed es
+  pub canonical : AreCanonical (values_of es)
 
--- the owner at its place
-pub record IsFound (s : ℕ) (os : LockedBytes) (i : ℕ) : Type 0 where
-  pub within : i < length os
-  pub number : (d : Owned) → (slice_index_or os i d).number ≡ s
-  pub bytes : (d : Owned) → (slice_index_or os i d).intervals ≡ bytes_of os s
-  pub put : (xs : List Interval) → with_owner s xs os ≡ take i os ++ (entry s xs ++ drop (suc i) os)
-
--- no such owner, and where it would stand
-pub record IsAbsent (s : ℕ) (os : LockedBytes) (i : ℕ) : Type 0 where
-  pub within : i ≤ length os
-  pub bytes : bytes_of os s ≡ []
-  pub put : (xs : List Interval) → with_owner s xs os ≡ take i os ++ (entry s xs ++ drop i os)
+-- the owner holds these intervals, in place of what it held
+pub record IsPut (s : ℕ) (xs : List Interval) (old new : List (ℕ × Owned)) : Type 0 where
+  pub keyed : AreKeyed new
+  pub put : values_of new ≡ with_owner s xs (values_of old)
 
 -- no byte before the first is held, and none behind the last
 abbrev pub LieWithin : ℕ → ℕ → List Interval → Type 0

@@ -1,18 +1,20 @@
 //! The lock states of a file that hold a byte, in rising order of their numbers.
 
-ghost use Rattle.std.specs.Prelude.{◌≡◌, ◌<◌, ◌≤◌, All, OnOk, OnErr, find, None, MatchResult, [], drop};
+ghost use Rattle.std.specs.Prelude.{◌≡◌, ◌<◌, ◌≤◌, OnOk, OnErr, IfOk, find, None, [], ◌∷◌};
 ghost use Rattle.std.specs.Bool.{OnTrue};
+ghost use Rattle.std.specs.Ordering.{nat_cmp};
+ghost use Rattle.std.specs.Map.{values_of, remove_entry};
+ghost use Rattle.std.specs.BTreeMap.{is_at};
 ghost use Rattle.nfs_ranges.specs.Intervals.{IsCanonical, without, with_range};
 ghost use Rattle.nfs_ranges.specs.Clashes.{hits, clash_of, sooner, tell};
 ghost use Rattle.nfs_ranges.specs.declared.Kind.{Kind};
-ghost use Rattle.nfs_ranges.specs.Edits.{lead, head};
 ghost use Rattle.nfs_ranges.specs.Holders.{Owned, bytes_of};
-ghost use Rattle.nfs_ranges.specs.Owners.{AreCanonical, IsFound, IsAbsent, is_lower, is_number, is_empty, with_owner};
+ghost use Rattle.nfs_ranges.specs.Owners.{AreKept, IsPut, is_empty};
 
 use super::interval::Interval;
 use super::{Held, Kind, edits};
 use std::alloc::{AllocError, Global};
-use std::collections::VecDeque;
+use std::collections::BTreeMap;
 use std::marker::Model;
 
 /// The bytes that one lock state holds, all of them from `first` to `last`.
@@ -38,10 +40,24 @@ impl Model for Owner {
 }
 
 impl Owner {
-    fn is_below(&self, number: u64) -> bool
-        ensures { result ≡ is_lower number self.now }
+    /// It holds one range.
+    fn new(
+        alloc: Global,
+        number: u64,
+        kind: Kind,
+        first: u64,
+        last: u64,
+    ) -> Result<Owner, AllocError>
+        ensures { IfOk result (λ o. o ≡ record { number = number; intervals = record { kind = kind; first = first; last = last } ∷ [] }) }
     {
-        self.number < number
+        let mut intervals = Vec::new(alloc);
+        intervals.push(Interval { kind, first, last })?;
+        Ok(Owner {
+            number,
+            first,
+            last,
+            intervals: Box::new(alloc, intervals)?,
+        })
     }
 
     fn intervals(&self) -> &[Interval]
@@ -118,20 +134,19 @@ fn sooner(first: u64, best: Option<Held>, next: Option<Held>) -> Option<Held>
     }
 }
 
-/// What is told of a wish to lock the range, where `before` is told of the owners before these.
-fn clash_behind(
-    before: Option<Held>,
-    owners: &[Owner],
+/// What is told of a wish to lock the range.
+pub(super) fn first_clash(
+    owners: &BTreeMap<u64, Owner, Global>,
     number: u64,
     kind: Kind,
     first: u64,
     last: u64,
 ) -> Option<Held>
-    requires { All (λ o. IsCanonical o.intervals) owners.now }
-    ensures { result ≡ tell number kind first last before owners.now }
+    requires { AreKept owners.now.entries }
+    ensures { result ≡ tell number kind first last None (values_of owners.now.entries) }
 {
-    let mut best = before;
-    for o in owners {
+    let mut best = None;
+    for o in owners.values() {
         // most owners lie apart from the range: only what clashes is copied
         if let Some(c) = o.clash(number, kind, first, last) {
             best = sooner(first, best, Some(c));
@@ -140,58 +155,14 @@ fn clash_behind(
     best
 }
 
-/// What is told of a wish to lock the range.
-pub(super) fn first_clash(
-    owners: &VecDeque<Owner>,
-    number: u64,
-    kind: Kind,
-    first: u64,
-    last: u64,
-) -> Option<Held>
-    requires { AreCanonical owners.now.items }
-    ensures { result ≡ tell number kind first last None owners.now.items }
-{
-    let (front, back) = owners.as_slices();
-    let before = clash_behind(None, front, number, kind, first, last);
-    clash_behind(before, back, number, kind, first, last)
-}
-
-/// The place of the first owner whose number is not lower.
-fn place_of(owners: &VecDeque<Owner>, number: u64) -> usize
-    requires { AreCanonical owners.now.items }
-    ensures { result ≡ lead (is_lower number) owners.now.items }
-{
-    owners.partition_point(|o| o.is_below(number))
-}
-
-/// The owner stands at the place.
-fn is_at(owners: &VecDeque<Owner>, place: usize, number: u64) -> bool
-    ensures { result ≡ is_number number (head (drop place owners.now.items)) }
-{
-    owners.get(place).is_some_and(|o| o.number == number)
-}
-
-/// The place of the owner, or where it would stand.
-fn find(owners: &VecDeque<Owner>, number: u64) -> Result<usize, usize>
-    requires { AreCanonical owners.now.items }
-    ensures { MatchResult result (λ i. IsFound number owners.now.items i) (λ i. IsAbsent number owners.now.items i) }
-{
-    let place = place_of(owners, number);
-    if is_at(owners, place, number) {
-        Ok(place)
-    } else {
-        Err(place)
-    }
-}
-
 /// The intervals of an owner.
-pub(super) fn bytes_of(owners: &VecDeque<Owner>, number: u64) -> &[Interval]
-    requires { AreCanonical owners.now.items }
-    ensures { result.now ≡ bytes_of owners.now.items number }
+pub(super) fn bytes_of(owners: &BTreeMap<u64, Owner, Global>, number: u64) -> &[Interval]
+    requires { AreKept owners.now.entries }
+    ensures { result.now ≡ bytes_of (values_of owners.now.entries) number }
 {
-    match find(owners, number) {
-        Ok(place) => owners[place].intervals(),
-        Err(_) => &[],
+    match owners.get(&number) {
+        Some(owner) => owner.intervals(),
+        None => &[],
     }
 }
 
@@ -199,7 +170,7 @@ pub(super) fn bytes_of(owners: &VecDeque<Owner>, number: u64) -> &[Interval]
 ///
 /// `Err`: no memory, and nothing has changed.
 pub(super) fn set(
-    owners: &mut VecDeque<Owner>,
+    owners: &mut BTreeMap<u64, Owner, Global>,
     alloc: Global,
     number: u64,
     kind: Kind,
@@ -207,56 +178,53 @@ pub(super) fn set(
     last: u64,
 ) -> Result<(), AllocError>
     requires range { first ≤ last }
-    requires owners { AreCanonical owners.old.items }
-    ensures ok { OnOk result (owners.new.items ≡ with_owner number (with_range (record { kind = kind; first = first; last = last }) (bytes_of owners.old.items number)) owners.old.items) }
-    ensures err { OnErr result (owners.new.items ≡ owners.old.items) }
+    requires owners { AreKept owners.old.entries }
+    ensures ok { OnOk result (IsPut number (with_range (record { kind = kind; first = first; last = last }) (bytes_of (values_of owners.old.entries) number)) owners.old.entries owners.new.entries) }
+    ensures err { OnErr result (owners.new.entries ≡ owners.old.entries) }
 {
-    match find(owners, number) {
-        Ok(place) => owners[place].set(kind, first, last),
-        Err(place) => {
-            let mut intervals = Vec::new(alloc);
-            intervals.push(Interval { kind, first, last })?;
-            let owner = Owner {
-                number,
-                first,
-                last,
-                intervals: Box::new(alloc, intervals)?,
-            };
-            owners.insert(place, owner)?;
-            Ok(())
-        }
+    if let Some(owner) = owners.get_mut(&number) {
+        return owner.set(kind, first, last);
     }
+    let owner = Owner::new(alloc, number, kind, first, last)?;
+    owners.insert(number, owner)?;
+    Ok(())
+}
+
+/// The entry of an owner goes.
+fn take(owners: &mut BTreeMap<u64, Owner, Global>, number: u64)
+    ensures { owners.new.entries ≡ remove_entry (is_at (nat_cmp number)) owners.old.entries }
+{
+    let _ = owners.remove(&number);
 }
 
 /// The owner holds none of the bytes from `first` to `last` from now on; with its last byte its entry goes.
 ///
 /// `Err`: no memory, and nothing has changed.
 pub(super) fn clear(
-    owners: &mut VecDeque<Owner>,
+    owners: &mut BTreeMap<u64, Owner, Global>,
     number: u64,
     first: u64,
     last: u64,
 ) -> Result<(), AllocError>
     requires range { first ≤ last }
-    requires owners { AreCanonical owners.old.items }
-    ensures ok { OnOk result (owners.new.items ≡ with_owner number (without first last (bytes_of owners.old.items number)) owners.old.items) }
-    ensures err { OnErr result (owners.new.items ≡ owners.old.items) }
+    requires owners { AreKept owners.old.entries }
+    ensures ok { OnOk result (IsPut number (without first last (bytes_of (values_of owners.old.entries) number)) owners.old.entries owners.new.entries) }
+    ensures err { OnErr result (owners.new.entries ≡ owners.old.entries) }
 {
-    if let Ok(place) = find(owners, number) {
-        owners[place].clear(first, last)?;
-        if owners[place].is_empty() {
-            owners.remove(place);
-        }
+    let Some(owner) = owners.get_mut(&number) else {
+        return Ok(());
+    };
+    owner.clear(first, last)?;
+    if owner.is_empty() {
+        take(owners, number);
     }
     Ok(())
 }
 
 /// The owner holds nothing from now on.
-pub(super) fn drop_owner(owners: &mut VecDeque<Owner>, number: u64)
-    requires { AreCanonical owners.old.items }
-    ensures { owners.new.items ≡ with_owner number [] owners.old.items }
+pub(super) fn drop_owner(owners: &mut BTreeMap<u64, Owner, Global>, number: u64)
+    requires { AreKept owners.old.entries }
+    ensures { IsPut number [] owners.old.entries owners.new.entries }
 {
-    if let Ok(place) = find(owners, number) {
-        owners.remove(place);
-    }
+    take(owners, number);
 }

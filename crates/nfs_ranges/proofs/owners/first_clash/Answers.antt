@@ -1,19 +1,24 @@
-use Rattle.std.proofs.Common.{sym, ◌∙◌, ap, None}
-use Rattle.nfs_ranges.specs.Clashes.{tell}
-use Rattle.nfs_ranges.proofs.ClashLemmas.{front_canonical, back_canonical, tell-append}
+use Rattle.std.proofs.Common.{◌∙◌, ap, sym, subst, None}
+use Rattle.std.specs.Map.{values_of}
+use Rattle.nfs_ranges.specs.Clashes.{tell, sooner}
+use Rattle.nfs_ranges.proofs.ClashLemmas.{AreEach, all_canonical, sooner_none, told_more}
 use Rattle.nfs_ranges.proofs.owners.first_clash.Goals as goal
 
-pub clash_behind-before-requires : goal.clash_behind-before-requires
-clash_behind-before-requires c =
-    front_canonical c.as_slices.result.0.now c.as_slices.result.1.now c.args.owners.now.items c.as_slices.ensures.items c.requires
+pub loop-o-init : goal.loop-o-init
+loop-o-init c =
+    let all = c.into_iter-o-iterator.ensures.into_iter_gives ∙ c.values-o-items.ensures.rest in (
+      subst AreEach (sym all) (all_canonical 0 (values_of c.args.owners.now.entries) c.requires.canonical.from),
+      ap (tell c.args.number c.args.kind c.args.first c.args.last None) all,
+    )
 
-pub clash_behind-requires : goal.clash_behind-requires
-clash_behind-requires c =
-    back_canonical c.as_slices.result.0.now c.as_slices.result.1.now c.args.owners.now.items c.as_slices.ensures.items c.requires
+pub loop-o-preserved-in-Some-clash : goal.loop-o-preserved-in-Some-clash
+loop-o-preserved-in-Some-clash c =
+    told_more c.args.number c.args.kind c.args.first c.args.last c.loop-o.best c.sooner-best.result c.in-Some.o.now c.next.new.self c.loop-o.o-iterator
+    (tell c.args.number c.args.kind c.args.first c.args.last None (values_of c.args.owners.now.entries)) c.loop-o.invariant c.in-Some.ensures.steps
+    (c.sooner-best.ensures ∙ ap (sooner c.args.first c.loop-o.best) (sym c.in-Some-clash.is ∙ c.clash.ensures))
 
-pub returns : goal.returns
-returns c =
-    c.clash_behind.ensures ∙
-    ap (λ r. tell c.args.number c.args.kind c.args.first c.args.last r c.as_slices.result.1.now) c.clash_behind-before.ensures ∙
-    sym (tell-append c.args.number c.args.kind c.args.first c.args.last None c.as_slices.result.0.now c.as_slices.result.1.now) ∙
-    ap (tell c.args.number c.args.kind c.args.first c.args.last None) c.as_slices.ensures.items
+pub loop-o-preserved : goal.loop-o-preserved
+loop-o-preserved c =
+    told_more c.args.number c.args.kind c.args.first c.args.last c.loop-o.best c.loop-o.best c.in-Some.o.now c.next.new.self c.loop-o.o-iterator
+    (tell c.args.number c.args.kind c.args.first c.args.last None (values_of c.args.owners.now.entries)) c.loop-o.invariant c.in-Some.ensures.steps
+    (sym (sooner_none c.args.first c.loop-o.best) ∙ ap (sooner c.args.first c.loop-o.best) (sym c.in_default.is ∙ c.clash.ensures))

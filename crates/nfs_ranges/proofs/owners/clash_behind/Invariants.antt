@@ -1,6 +1,0 @@
-use Rattle.std.proofs.Common.{◌≡◌, drop}
-use Rattle.nfs_ranges.specs.Clashes.{tell}
-use Rattle.nfs_ranges.proofs.owners.clash_behind.Given as goal
-
-abbrev pub invariant-loop-o : goal.invariant-loop-o
-invariant-loop-o l = tell l.number l.kind l.first l.last l.best (drop l.o-index l.owners) ≡ tell l.number l.kind l.first l.last l.fn.before l.owners
