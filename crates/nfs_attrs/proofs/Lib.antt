@@ -4,6 +4,7 @@ pub mod Room
 pub mod Fronts
 pub mod Lengths
 pub mod Values
+pub mod Asking
 pub mod Unasked
 pub mod Whole
 pub mod Counted

@@ -4,6 +4,7 @@ pub mod Mask
 pub mod Owner
 pub mod SetTime
 pub mod Attributes
+pub mod Asked
 pub mod Value
 pub mod Following
 pub mod View

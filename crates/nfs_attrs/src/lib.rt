@@ -6,7 +6,8 @@
 //!
 //! ```text
 //! let asked = Mask::new(words);
-//! write_attrs(object, &about, asked, &mut sheet);       // GETATTR, READDIR
+//! write_attrs(object, &about, asked, &mut sheet);       // GETATTR
+//! write_asked(object, &about, &asked_once, &mut sheet); // READDIR
 //! let wanted = read_attrs(given, values)?;              // SETATTR, CREATE, OPEN
 //! may_set(object, &wanted, &who)?;
 //! ```
@@ -15,6 +16,7 @@
 #![tactic(auto)]
 
 mod about;
+mod asked;
 pub mod attribute;
 mod following;
 mod handle;
@@ -31,10 +33,11 @@ mod wanted;
 mod writing;
 
 pub use about::About;
+pub use asked::Asked;
 pub use handle::{BadHandle, Handle};
 pub use mask::{Mask, READABLE, SETTABLE, SUPPORTED};
 pub use permission::{Access, Want, in_group, judge_access, may};
 pub use set_time::SetTime;
 pub use setting::{may_make, may_set};
 pub use wanted::{AttrFault, Wanted, read_attrs};
-pub use writing::{attrs_len, same, write_attrs};
+pub use writing::{attrs_len, same, write_asked, write_attrs};

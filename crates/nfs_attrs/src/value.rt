@@ -2,11 +2,13 @@
 
 ghost use Rattle.std.specs.Prelude.{◌≡◌, ◌≤◌, ◌%◌, ◌++◌, ℕ, List, length};
 ghost use Rattle.nfs_xdr.specs.SheetState.{HasRoom, Puts};
+ghost use Rattle.nfs_attrs.specs.Asked.{values_of};
 ghost use Rattle.nfs_attrs.specs.Following.{Follows};
 ghost use Rattle.nfs_attrs.specs.Value.{spell_value, spell_found, asked_at};
 ghost use Rattle.nfs_attrs.specs.Attributes as table;
 
 use crate::about::About;
+use crate::asked::Asked;
 use crate::attribute;
 use crate::following::{hyper_follows, number_follows, opaque_follows, time_follows};
 use crate::handle::Handle;
@@ -107,21 +109,19 @@ fn asked_len(number: u32, asked: &Mask, object: &Object, about: &About) -> usize
     }
 }
 
-/// Puts the attribute of this number where it is asked for and can be read.
-fn put_asked(number: u32, asked: &Mask, object: &Object, about: &About, sheet: &mut Sheet)
-    requires room { HasRoom sheet.old (asked_at asked.now about.now object.now number) }
-    ensures put { Puts sheet.old sheet.new (asked_at asked.now about.now object.now number) }
-    ensures words { length (asked_at asked.now about.now object.now number) % 4 ≡ 0 }
+/// Puts the value of the attribute of this number, where it can be read.
+fn put_value(number: u32, object: &Object, about: &About, sheet: &mut Sheet)
+    requires room { HasRoom sheet.old (table.value_at table.attributes number about.now object.now) }
+    ensures put { Puts sheet.old sheet.new (table.value_at table.attributes number about.now object.now) }
+    ensures words { length (table.value_at table.attributes number about.now object.now) % 4 ≡ 0 }
 {
-    if !asked.has(number) {
-        return;
-    }
     if let Some(value) = value_of(number, object, about) {
         value.put(sheet);
     }
 }
 
-/// Whether what [`put_asked`] would put stands at the cursor, which is then behind it.
+/// Whether the attribute of this number stands at the cursor where it is asked for and can be read. The cursor is then
+/// behind it.
 fn asked_follows(
     number: u32,
     asked: &Mask,
@@ -153,15 +153,24 @@ pub(crate) fn values_len(asked: &Mask, object: &Object, about: &About) -> usize
     length
 }
 
+/// Puts the values of the attributes of these numbers, one behind the other.
+fn put_each(numbers: &[u32], object: &Object, about: &About, sheet: &mut Sheet)
+    requires room { HasRoom sheet.old (values_of numbers.now about.now object.now) }
+    ensures put { Puts sheet.old sheet.new (values_of numbers.now about.now object.now) }
+    ensures words { length (values_of numbers.now about.now object.now) % 4 ≡ 0 }
+{
+    for number in numbers {
+        put_value(*number, object, about, sheet);
+    }
+}
+
 /// Puts the values that are asked for, one behind the other.
-pub(crate) fn put_values(asked: &Mask, object: &Object, about: &About, sheet: &mut Sheet)
+pub(crate) fn put_values(asked: &Asked, object: &Object, about: &About, sheet: &mut Sheet)
     requires room { HasRoom sheet.old (table.values asked.now about.now object.now) }
     ensures put { Puts sheet.old sheet.new (table.values asked.now about.now object.now) }
     ensures words { length (table.values asked.now about.now object.now) % 4 ≡ 0 }
 {
-    for number in attribute::ALL {
-        put_asked(number, asked, object, about, sheet);
-    }
+    put_each(asked.numbers(), object, about, sheet);
 }
 
 /// Whether the values that are asked for stand at the cursor, which is then behind them.

@@ -7,6 +7,7 @@ ghost use Rattle.nfs_attrs.specs.Attributes as table;
 ghost use Rattle.nfs_attrs.specs.Comparing as comparing;
 
 use crate::about::About;
+use crate::asked::Asked;
 use crate::attribute;
 use crate::mask::{Mask, READABLE, SUPPORTED};
 use crate::value::{put_values, values_follow, values_len};
@@ -27,7 +28,7 @@ pub fn attrs_len(object: &Object, about: &About, asked: Mask) -> usize
 
 /// Puts the values that are asked for, as an opaque: behind the count of their bytes, which are whole words. The count
 /// is known when they are put, and is then written in its place.
-fn put_counted(asked: &Mask, object: &Object, about: &About, sheet: &mut Sheet)
+fn put_counted(asked: &Asked, object: &Object, about: &About, sheet: &mut Sheet)
     requires room { HasRoom sheet.old (opaque (table.values asked.now about.now object.now)) }
     ensures { Puts sheet.old sheet.new (opaque (table.values asked.now about.now object.now)) }
 {
@@ -42,14 +43,21 @@ fn put_counted(asked: &Mask, object: &Object, about: &About, sheet: &mut Sheet)
 /// their values in rising order of their numbers, behind the count of their bytes. They are [`attrs_len`] bytes.
 ///
 /// GETATTR and READDIR refuse a mask that [`Mask::asks_set_only`] before they write any.
-#[tactic(auto, using(nfs_xdr::proofs::Putting::putting))]
 pub fn write_attrs(object: &Object, about: &About, asked: Mask, sheet: &mut Sheet)
     requires room { HasRoom sheet.old (table.spell_attrs asked about.now object.now) }
     ensures { Puts sheet.old sheet.new (table.spell_attrs asked about.now object.now) }
 {
-    let readable = asked.common(&READABLE);
-    readable.put(sheet);
-    put_counted(&asked, object, about, sheet);
+    write_asked(object, about, &Asked::new(asked), sheet);
+}
+
+/// Puts what [`write_attrs`] puts, where the mask was decoded before.
+#[tactic(auto, using(nfs_xdr::proofs::Putting::putting))]
+pub fn write_asked(object: &Object, about: &About, asked: &Asked, sheet: &mut Sheet)
+    requires room { HasRoom sheet.old (table.spell_attrs asked.now about.now object.now) }
+    ensures { Puts sheet.old sheet.new (table.spell_attrs asked.now about.now object.now) }
+{
+    asked.shown().put(sheet);
+    put_counted(asked, object, about, sheet);
 }
 
 /// Whether the bytes are the values that are asked for, as the server itself writes them.
