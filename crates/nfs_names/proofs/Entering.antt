@@ -170,6 +170,11 @@ listed_there t d cookie is e there =
     some_object : (t : Files) (n : ℕ) → is_there t n ≡ true → is_some (object_at t n) ≡ true
     some_object t n e = some_by (stored_in t.objects n) e
 
+-- what is told of what is asked for, where it was asked for by an equal mask
+pub told_as_asked : (s : State) (got asked : Mask) (d : Node) (a : About) → got ≡ asked
+    → values got a d.object ≡ values got (about s d) d.object → values asked a d.object ≡ values asked (about s d) d.object
+told_as_asked s got asked d a same told = subst (λ (m : Mask). values m a d.object ≡ values m (about s d) d.object) same told
+
 -- what an entry's object is told as, where what is asked for of it is told
 pub entry_parts : (s : State) (asked : Mask) (e : Listed) (o : Object) (a : About)
     → Some o ≡ object_at s.tree e.number → values asked a o ≡ values asked (about s (record { number = e.number; object = o })) o

@@ -27,7 +27,7 @@ use crate::checks::{current, is_link, permits, put_refusal};
 use crate::context::Context;
 use crate::node::Node;
 use crate::store::Store;
-use nfs_attrs::{About, Mask, Want, attrs_len, write_attrs};
+use nfs_attrs::{About, Asked, Mask, Want, attrs_len, write_asked};
 use nfs_compound::{OpNum, ReadDir};
 use nfs_results::{given, write_done_head, write_entry, write_list_end, write_read_dir_head};
 use nfs_tree::{Entry, Tree};
@@ -105,18 +105,18 @@ fn entry_len(name: &[u8], node: &Node, about: &About, asked: Mask) -> usize
 const MOST_BESIDE_NAME: usize = 16 + 3 + 632;
 
 /// Whether an entry takes no more than `room` bytes. It is measured only where the largest might take more.
-fn fits(name: &[u8], node: &Node, about: &About, asked: Mask, room: usize) -> bool
-    ensures { result ≡ nat_le (length (entry_head 0 name.now) + length (spell_attrs asked about.now node.now.object)) room }
+fn fits(name: &[u8], node: &Node, about: &About, asked: &Asked, room: usize) -> bool
+    ensures { result ≡ nat_le (length (entry_head 0 name.now) + length (spell_attrs asked.now about.now node.now.object)) room }
 {
-    name.len() + MOST_BESIDE_NAME <= room || entry_len(name, node, about, asked) <= room
+    name.len() + MOST_BESIDE_NAME <= room || entry_len(name, node, about, asked.mask()) <= room
 }
 
 /// Puts an entry with its attributes, if it takes no more than `room` bytes.
-fn put_entry(store: &Store, entry: &Entry<'_>, asked: Mask, room: usize, out: &mut Sheet) -> bool
+fn put_entry(store: &Store, entry: &Entry<'_>, asked: &Asked, room: usize, out: &mut Sheet) -> bool
     requires there { is_some (object_at store.now.tree entry.now.number) ≡ true }
     requires few { room ≤ most_transfer }
     requires room { length out.old.bytes + room ≤ out.old.room }
-    ensures { PutsWithin result room out.old out.new (entry_text (of_read_dir.entry_of (state_of store.now) asked (listed_of entry.now))) }
+    ensures { PutsWithin result room out.old out.new (entry_text (of_read_dir.entry_of (state_of store.now) asked.now (listed_of entry.now))) }
 {
     let Some(object) = store.tree.object(entry.number) else {
         return false;
@@ -125,12 +125,12 @@ fn put_entry(store: &Store, entry: &Entry<'_>, asked: Mask, room: usize, out: &m
         number: entry.number,
         object: *object,
     };
-    let about = about(store, &node, asked);
+    let about = about(store, &node, asked.mask());
     if !fits(entry.name, &node, &about, asked, room) {
         return false;
     }
     write_entry(entry.cookie, entry.name, out);
-    write_attrs(&node.object, &about, asked, out);
+    write_asked(&node.object, &about, asked, out);
     true
 }
 
@@ -142,12 +142,12 @@ fn put_entries(store: &Store, place: &Node, asked: &ReadDir<'_>, out: &mut Sheet
     ensures all { result ≡ (length (of_read_dir.fitting (state_of store.now) (view_read_dir asked.now) place.now) == length (of_read_dir.left (state_of store.now) (view_read_dir asked.now) place.now)) }
 {
     store.tree.kept();
-    let mask = Mask::new(asked.attr_request.words);
+    let wanted = Asked::new(Mask::new(asked.attr_request.words));
     let mut room = given(asked.maxcount) as usize - 16;
     let mut listing = store.tree.list(place.number, asked.cookie);
     while let Some(entry) = listing.next() {
         let before = out.len();
-        if !put_entry(store, &entry, mask, room, out) {
+        if !put_entry(store, &entry, &wanted, room, out) {
             return false;
         }
         room -= out.len() - before;

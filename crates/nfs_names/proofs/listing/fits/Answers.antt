@@ -9,7 +9,7 @@ use Rattle.nfs_names.proofs.listing.fits.Goals as goal
 pub returns-then-name-room : goal.returns-then-name-room
 returns-then-name-room c =
     let name = c.args.name.now in
-    let asked = c.args.asked in
+    let asked = c.args.asked.now in
     let about = c.args.about.now in
     let object = c.args.node.now.object in
     let whole : length (entry_head 0 name) + length (spell_attrs asked about object) ≤ c.args.room =

@@ -7,13 +7,15 @@ use Rattle.nfs_tree.specs.Listing.{listed_of}
 use Rattle.nfs_attrs.specs.Attributes.{spell_attrs}
 use Rattle.nfs_names.specs.State.{state_of}
 use Rattle.nfs_names.proofs.Masks.{room_then}
-use Rattle.nfs_names.proofs.Entering.{length_entry_head, entry_parts, entry_length}
+use Rattle.nfs_names.proofs.Entering.{length_entry_head, entry_parts, entry_length, told_as_asked}
 use Rattle.nfs_names.proofs.listing.put_entry.Goals as goal
 
 pub returns-then-not-fits : goal.returns-then-not-fits
 returns-then-not-fits c =
     let e = listed_of c.args.entry.now in
-    let size = entry_length (state_of c.args.store.now) c.args.asked e c.in-Some.object.now c.about-about.result c.in-Some.ensures c.about-about.ensures in
+    let told = told_as_asked (state_of c.args.store.now) c.mask.result c.args.asked.now
+    (record { number = c.args.entry.now.number; object = c.in-Some.object.now }) c.about-about.result c.mask.ensures c.about-about.ensures in
+    let size = entry_length (state_of c.args.store.now) c.args.asked.now e c.in-Some.object.now c.about-about.result c.in-Some.ensures told in
     (omega (arith, size, leb-false _ _ (sym c.fits.ensures ∙ c.if-not-fits.true)), refl)
 
 pub write_entry-requires : goal.write_entry-requires
@@ -24,15 +26,15 @@ write_entry-requires c =
     let whole = leb-true _ _ (sym c.fits.ensures ∙ c.if-not-fits.false) in
     record { name = omega arith; room = omega arith }
 
-pub write_attrs-requires : goal.write_attrs-requires
-write_attrs-requires c =
+pub write_asked-requires : goal.write_asked-requires
+write_asked-requires c =
     let e = listed_of c.args.entry.now in
     let head = length_entry_head e.cookie e.name in
     let first = length_entry_head 0 e.name in
     let whole = leb-true _ _ (sym c.fits.ensures ∙ c.if-not-fits.false) in
     record {
       room = room_then c.args.out.now c.write_entry.new.out (entry_head e.cookie e.name)
-          (spell_attrs c.args.asked c.about-about.result c.in-Some.object.now) c.args.room c.write_entry.ensures (omega arith) c.requires.room;
+          (spell_attrs c.args.asked.now c.about-about.result c.in-Some.object.now) c.args.room c.write_entry.ensures (omega arith) c.requires.room;
     }
 
 pub returns : goal.returns
@@ -41,8 +43,10 @@ returns c =
     let e = listed_of c.args.entry.now in
     let o = c.in-Some.object.now in
     let a = c.about-about.result in
-    let size = entry_length s c.args.asked e o a c.in-Some.ensures c.about-about.ensures in (
+    let told = told_as_asked (state_of c.args.store.now) c.mask.result c.args.asked.now
+    (record { number = c.args.entry.now.number; object = c.in-Some.object.now }) c.about-about.result c.mask.ensures c.about-about.ensures in
+    let size = entry_length s c.args.asked.now e o a c.in-Some.ensures told in (
       omega (arith, size, leb-true _ _ (sym c.fits.ensures ∙ c.if-not-fits.false)),
-      subst (λ (text : List ℕ). Puts c.args.out.now c.write_attrs.new.sheet text)
-          (sym (entry_parts s c.args.asked e o a c.in-Some.ensures c.about-about.ensures)) (puts_then c.write_entry.ensures c.write_attrs.ensures),
+      subst (λ (text : List ℕ). Puts c.args.out.now c.write_asked.new.sheet text)
+          (sym (entry_parts s c.args.asked.now e o a c.in-Some.ensures told)) (puts_then c.write_entry.ensures c.write_asked.ensures),
     )
