@@ -3,15 +3,15 @@
 ghost use Rattle.std.specs.Prelude.{◌≡◌, ℕ, ◌+◌, ◌≤◌, ◌++◌, [], ◌∷◌, length, OnOk, OnErr, IfSome, IfNone, IsSome, None, Some, cond, option_copied, option_map};
 ghost use Rattle.std.specs.BTreeMap.{insert_entry, get, is_at};
 ghost use Rattle.nfs_xdr.specs.Tables.{IsRising, without_record};
-ghost use Rattle.nfs_tree.specs.Files.{entry, parent_in, links_in, has_row, has_entries, listing, listed, without_entry, most_name};
+ghost use Rattle.nfs_tree.specs.Files.{entry, parent_in, links_in, has_row, has_entries, listing, without_entry, most_name};
 ghost use Rattle.nfs_tree.specs.ByName.{cookies, NamesAnew};
 ghost use Rattle.nfs_tree.specs.Maps.{pair_cmp, HasOneRow};
 ghost use Rattle.nfs_tree.specs.Names.{with_row};
-ghost use Rattle.nfs_tree.specs.Indexed.{placed};
 
 use crate::by_cookie::ByCookie;
 use crate::by_name::ByName;
 use crate::counts::Counts;
+use crate::list::Listing;
 use crate::name::Name;
 use crate::row::{Naming, Row};
 use crate::tree::Tree;
@@ -86,22 +86,11 @@ impl Rows {
         }
     }
 
-    /// The first row of a directory behind a cookie, with its own.
-    pub(crate) fn after(&self, directory: u64, cookie: u64) -> Option<(u64, &Naming)>
-        ensures none { IfNone result (listing self.now directory cookie ≡ []) }
-        ensures some { IfSome result (λ r. listing self.now directory cookie ≡ listed (placed r.0 r.1.now) ∷ listing self.now directory r.0) }
+    /// The entries of a directory behind a cookie.
+    pub(crate) fn list(&self, directory: u64, cookie: u64) -> Listing<'_>
+        ensures { result ≡ listing self.now directory cookie }
     {
-        let listed = &self.listed;
-        if cookie == u64::MAX {
-            return None;
-        }
-        match first_from(listed, directory, cookie + 1) {
-            None => None,
-            Some(next) => match self.rows.row(next) {
-                None => None,
-                Some(row) => Some((next, row)),
-            },
-        }
+        Listing::new(&self.rows, &self.listed, directory, cookie)
     }
 
     /// Whether a row stands in the directory.
