@@ -72,7 +72,3 @@ pub still_kept : {E : Type 0} (r : Result (Unit {0}) E) (s : ℕ) (xs : List Int
     OnErr r (new ≡ old) → IsCanonical xs → AreKept old → AreKept new
 still_kept (Ok u) s xs old new ok err is are = kept_put s xs old new ok is are
 still_kept (Err e) s xs old new ok err is are = rw err are
-
-pub empty_length : (xs : List Interval) → (length xs == 0) ≡ is_empty xs
-empty_length [] = refl
-empty_length (x ∷ xs) = ne_eqb (length (x ∷ xs)) 0 (λ e. omega arith)

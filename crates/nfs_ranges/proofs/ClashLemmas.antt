@@ -1,7 +1,8 @@
 -- What is told is the first interval that clashes, of the owner that comes first.
-use Rattle.std.proofs.Common.{◌≡◌, ◌≢◌, ℕ, zero, suc, ◌<◌, ◌≤◌, ◌^◌, max, Bool, true, false, cond, eqb, leb, ◌&&◌, List, [], ◌∷◌, drop, length, get_or, Option}
+use Rattle.std.proofs.Common.{◌≡◌, ◌≢◌, ℕ, zero, suc, ◌<◌, ◌≤◌, ◌^◌, max, Bool, true, false, cond, eqb, leb, ◌&&◌, List, [], ◌∷◌, drop, length, get_or, Option, ◌+◌, ◌++◌}
 use Rattle.std.proofs.Common.{Some, None, refl, sym, ◌∙◌, ap, subst, arith, inl, inr}
 use Rattle.std.proofs.Math.Path.{fun_ext}
+use Rattle.std.proofs.lemmas.List.{drop_more}
 use Rattle.std.specs.Prelude.{All, find, not, option_map}
 use Rattle.std.proofs.lemmas.Bool.{cases_lt, cases_Bool, and_parts, and_cases, and_left, and_right, leb-true, and_from, cases_eq, ltb-true, lt-ltb, le-ltb}
 use Rattle.std.proofs.lemmas.Bool.{le-leb, lt-leb, eq-eqb, ne_eqb}
@@ -9,7 +10,8 @@ use Rattle.nfs_ranges.specs.declared.Kind.{Kind}
 use Rattle.nfs_ranges.specs.declared.interval.Interval.{Interval}
 use Rattle.nfs_ranges.specs.declared.Held.{Held}
 use Rattle.nfs_ranges.specs.Intervals.{AreFrom, IsCanonical}
-use Rattle.nfs_ranges.specs.Edits.{lead, ends_before}
+use Rattle.nfs_ranges.specs.Edits.{lead}
+use Rattle.nfs_ranges.specs.Blocks.{flat, last_from, last_end, AreSome, AreBlocks, ends_whole}
 use Rattle.nfs_ranges.specs.Holders.{Holders, Owned, LockedBytes, at, nobody, kind_at}
 use Rattle.nfs_ranges.specs.Owners.{AreOwners, AreCanonical}
 use Rattle.nfs_ranges.specs.Clashes.{hits, held_by, clash_of, sooner, tell}
@@ -17,11 +19,11 @@ use Rattle.nfs_ranges.specs.Told.{meets, clashes}
 use Rattle.nfs_ranges.specs.Facts.{IsTold, Tells}
 use Rattle.nfs_ranges.proofs.CanonicalLemmas.{none_below, ends_there, at_above, at_within}
 use Rattle.nfs_ranges.proofs.EditLemmas.{or_else}
-use Rattle.nfs_ranges.proofs.PlaceLemmas.{from_drop}
+use Rattle.nfs_ranges.proofs.BlockLemmas.{lows, lows_block}
 use Rattle.nfs_ranges.proofs.OwnerLemmas.{no_bytes}
 
 -- behind the range nothing clashes, and before it neither
-none_hit : (k : Kind) (first last low : ℕ) (xs : List Interval) → AreFrom low xs → last < low → find (hits k first last) xs ≡ None
+pub none_hit : (k : Kind) (first last low : ℕ) (xs : List Interval) → AreFrom low xs → last < low → find (hits k first last) xs ≡ None
 none_hit k first last low [] are lt = refl
 none_hit k first last low (x ∷ xs) are lt =
     let lo = are.0 in
@@ -39,24 +41,63 @@ none_further k first last i xs d are lt over = go i 0 xs are.from lt over
     go zero low (x ∷ xs) are lt over = none_hit k first last x.first (x ∷ xs) (omega arith, are.1, are.2, are.3, are.4) over
     go (suc i) low (x ∷ xs) are lt over = go i (suc x.last) xs are.4 (omega arith) over
 
-pub canonical_drop : (i : ℕ) (xs : List Interval) → IsCanonical xs → IsCanonical (drop i xs)
-canonical_drop i xs are = let from = from_drop i 0 xs are.from in record { from = later from.0 (drop i xs) from.1 }
-  where
-    later : (low : ℕ) (xs : List Interval) → AreFrom low xs → AreFrom 0 xs
-    later low [] are = tt
-    later low (x ∷ xs) are = (omega arith, are.1, are.2, are.3, are.4)
+-- of intervals behind each other
+pub find_front : (p : Interval → Bool) (xs ys : List Interval) (x : Interval) → Some x ≡ find p xs → Some x ≡ find p (xs ++ ys)
+find_front p [] ys x e = absurd cc
+find_front p (z ∷ zs) ys x e = elim (cases_Bool (p z)) [
+  | inl here ↦ (let found = rw here at e in rw here found)
+  | inr not ↦ (let found = rw not at e in rw not (find_front p zs ys x found))
+]
 
-pub find_skips : (k : Kind) (first last : ℕ) (xs : List Interval) → find (hits k first last) (drop (lead (ends_before first) xs) xs) ≡
-    find (hits k first last) xs
-find_skips k first last [] = refl
-find_skips k first last (x ∷ xs) = elim (cases_Bool (ends_before first x)) [
+pub find_behind : (p : Interval → Bool) (xs ys : List Interval) → None ≡ find p xs → find p (xs ++ ys) ≡ find p ys
+find_behind p [] ys e = refl
+find_behind p (z ∷ zs) ys e = elim (cases_Bool (p z)) [
+  | inl here ↦ (let found : None ≡ Some z = rw here at e in absurd cc)
+  | inr not ↦ (let found = rw not at e in rw not (find_behind p zs ys found))
+]
+
+skip_whole : (k : Kind) (first last low : ℕ) (x : Interval) (xs ys : List Interval) → AreFrom low ((x ∷ xs) ++ ys) → last_from x xs < first →
+    find (hits k first last) ((x ∷ xs) ++ ys) ≡ find (hits k first last) ys
+skip_whole k first last low x [] ys are lt =
+    let miss : hits k first last x ≡ false = and_right (meets k (Some x.kind)) _ (and_left (leb first x.last) (leb x.first last) (lt-leb first x.last lt)) in
+    rw miss refl
+skip_whole k first last low x (y ∷ xs) ys are lt =
+    let up = (lows low x (y ∷ xs) ys are).1 in
+    let miss : hits k first last x ≡ false = and_right (meets k (Some x.kind)) _ (and_left (leb first x.last) (leb x.first last) (lt-leb first x.last (omega arith))) in
+    rw miss (skip_whole k first last (suc x.last) y xs ys are.4 lt)
+
+pub skip_blocks : (k : Kind) (first last low : ℕ) (bs : List (List Interval)) → AreFrom low (flat bs) → AreSome bs →
+    find (hits k first last) (flat (drop (lead (ends_whole first) bs) bs)) ≡ find (hits k first last) (flat bs)
+skip_blocks k first last low [] are some = refl
+skip_blocks k first last low ([] ∷ bs) are some = absurd (let bad : true ≡ false = some.0 in cc)
+skip_blocks k first last low ((x ∷ xs) ∷ bs) are some = elim (cases_Bool (ends_whole first (x ∷ xs))) [
   | inl e ↦ (
-      let lt = ltb-true x.last first e in
-      let miss : hits k first last x ≡ false = and_right (meets k (Some x.kind)) _ (and_left (leb first x.last) (leb x.first last) (lt-leb first x.last lt)) in
-      rw (e, miss) (find_skips k first last xs)
+      let rest = lows low x xs (flat bs) are in
+      rw e (skip_blocks k first last (suc (last_from x xs)) bs rest.2 some.1 ∙
+      sym (skip_whole k first last low x xs (flat bs) are (ltb-true (last_from x xs) first e)))
       )
   | inr e ↦ rw e refl
 ]
+
+-- one block of them
+pub at_block : (bs : List (List Interval)) (i : ℕ) (b : List Interval) → i < length bs → b ≡ get_or bs i b → flat (drop i bs) ≡ b ++ flat (drop (i + 1) bs)
+at_block bs i b lt e = ap flat (drop_more bs i b lt) ∙ ap (λ c. c ++ flat (drop (i + 1) bs)) (sym e)
+
+behind_from : (low : ℕ) (bs : List (List Interval)) (i : ℕ) (b : List Interval) → AreFrom low (flat bs) → AreSome bs → i < length bs → b ≡ get_or bs i b →
+    AreFrom (suc (last_end b)) (flat (drop (suc i) bs))
+behind_from low [] i b are some lt e = absurd (omega arith)
+behind_from low (c ∷ bs) zero b are some lt e = subst (λ (d : List Interval). AreFrom (suc (last_end d)) (flat bs)) (sym e) (lows_block low c (flat bs) some.0 are).1
+behind_from low (c ∷ bs) (suc i) b are some lt e = behind_from (suc (last_end c)) bs i b (lows_block low c (flat bs) some.0 are).1 some.1 (omega arith) e
+
+-- no block behind one that ends behind the range
+pub none_later : (k : Kind) (first last : ℕ) (bs : List (List Interval)) (i : ℕ) (b : List Interval) → AreBlocks bs → i < length bs → b ≡ get_or bs i b →
+    last ≤ last_end b → None ≡ find (hits k first last) b → find (hits k first last) (flat (drop i bs)) ≡ None
+none_later k first last bs i b are lt e over none =
+    let next : i + 1 ≡ suc i = omega arith in
+    ap (find (hits k first last)) (at_block bs i b lt e)
+    ∙ find_behind (hits k first last) b (flat (drop (i + 1) bs)) none
+    ∙ ap (λ n. find (hits k first last) (flat (drop n bs))) next
+    ∙ none_hit k first last (suc (last_end b)) (flat (drop (suc i) bs)) (behind_from 0 bs i b are.canonical.from are.some lt e) (omega arith)
 
 -- a part of the owners, each canonical
 abbrev pub AreEach : LockedBytes → Type 0

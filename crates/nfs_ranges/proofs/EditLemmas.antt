@@ -20,7 +20,7 @@ abbrev pub AreWithin : ℕ → List Interval → ℕ → Type 0
 AreWithin low [] high = low ≤ high
 AreWithin low (x ∷ xs) high = (low ≤ x.first) × (x.first ≤ x.last) × (x.last < high) × AreWithin (suc x.last) xs high
 
-from_later : (low more : ℕ) (xs : List Interval) → low ≤ more → AreFrom more xs → AreFrom low xs
+pub from_later : (low more : ℕ) (xs : List Interval) → low ≤ more → AreFrom more xs → AreFrom low xs
 from_later low more [] le are = tt
 from_later low more (x ∷ xs) le are = (let lo = are.0 in omega arith, are.1, are.2, are.3, are.4)
 

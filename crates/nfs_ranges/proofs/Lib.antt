@@ -1,4 +1,5 @@
 pub mod AnswerLemmas
+pub mod BlockLemmas
 pub mod CanonicalLemmas
 pub mod ClashLemmas
 pub mod EditLemmas

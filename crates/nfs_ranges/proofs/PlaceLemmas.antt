@@ -1,6 +1,6 @@
 -- What an edit leaves, by the places at which it begins and ends.
 use Rattle.std.proofs.Common.{◌≡◌, ℕ, zero, suc, ◌+◌, ◌-◌, ◌<◌, ◌≤◌, ◌^◌, min, max, Bool, true, false, ltb, eqb, leb, ◌&&◌, List, [], ◌∷◌, ◌++◌, take, drop}
-use Rattle.std.proofs.Common.{length, get_or, Option, Some, None, refl, sym, ◌∙◌, ap, arith, inl, inr}
+use Rattle.std.proofs.Common.{length, get_or, Option, Some, None, refl, sym, ◌∙◌, ap, subst, arith, inl, inr}
 use Rattle.std.specs.Option.{option_to_list}
 use Rattle.std.specs.Prelude.{IfSome, is_some}
 use mir.Val.{bool_byte}
@@ -12,7 +12,10 @@ use Rattle.nfs_ranges.specs.declared.interval.Interval.{Interval}
 use Rattle.nfs_ranges.specs.declared.edits.Edit.{Edit}
 use Rattle.std.proofs.lemmas.List.{drop-drop, length-drop}
 use Rattle.nfs_ranges.specs.Intervals.{is_same, joins, touches, AreFrom, IsCanonical, kept_below, kept_above, put, glue, without, with_range}
-use Rattle.nfs_ranges.specs.Edits.{lead, ends_before, ends_by, apart_by, head, begin_at, end_at, left_before, left_behind, edited, FitsIn}
+use Rattle.nfs_ranges.specs.Edits.{lead, ends_before, ends_by, apart_by, head, begin_at, end_at, left_before, left_behind}
+use Rattle.nfs_ranges.specs.declared.blocks.Place.{Place}
+use Rattle.nfs_ranges.specs.Blocks.{flat, last_end, block_at, IsPlace, spliced, spot, ends_whole, ends_whole_by}
+use Rattle.nfs_ranges.proofs.BlockLemmas.{splice_is, spot-le, spot-length}
 use Rattle.nfs_ranges.proofs.CanonicalLemmas.{same_is}
 
 -- put before intervals that it does not touch
@@ -240,93 +243,95 @@ ends_behind b xs = by_head (drop (lead (ends_by b) xs) xs) (fails (ends_by b) xs
     by_head [] not = tt
     by_head (y ∷ ys) not = leb-false y.last b not
 
--- one interval is taken at most, and none without need
-record IsTaken (o : Option Interval) (taken : ℕ) (zs : List Interval) : Type 0 where
-  within : taken ≤ length zs
-  piece : length (option_to_list o) ≤ taken
-
-end_taken : (k : Kind) (last : ℕ) (zs : List Interval) → IsTaken (end_at k last (head zs)).piece (end_at k last (head zs)).taken zs
-end_taken k last [] = record { within = omega arith; piece = omega arith }
-end_taken k last (z ∷ zs) = elim (cases_Bool (is_same k z.kind && leb (z.first - 1) last)) [
-  | inl e ↦ rw e (record { within = omega arith; piece = omega arith })
-  | inr e ↦ elim (cases_Bool (leb z.first last)) [
-    | inl f ↦ rw (e, f) (record { within = omega arith; piece = omega arith })
-    | inr f ↦ rw (e, f) (record { within = omega arith; piece = omega arith })
-  ]
+-- one interval is taken at most, and none where there is none
+taken_few : (k : Kind) (last : ℕ) (o : Option Interval) → (end_at k last o).taken ≤ length (option_to_list o)
+taken_few k last None = omega arith
+taken_few k last (Some z) = elim (cases_Bool (is_same k z.kind && leb (z.first - 1) last)) [
+  | inl e ↦ rw e (omega arith)
+  | inr e ↦ elim (cases_Bool (leb z.first last)) [ inl f ↦ rw (e, f) (omega arith) | inr f ↦ rw (e, f) (omega arith) ]
 ]
 
-behind_within : (last : ℕ) (zs : List Interval) → length (option_to_list (left_behind last (head zs))) ≤ length zs
-behind_within last [] = omega arith
-behind_within last (z ∷ zs) = elim (cases_Bool (leb z.first last)) [ inl f ↦ rw f (omega arith) | inr f ↦ rw f (omega arith) ]
+behind_few : (last : ℕ) (o : Option Interval) → length (option_to_list (left_behind last o)) ≤ length (option_to_list o)
+behind_few last None = omega arith
+behind_few last (Some z) = elim (cases_Bool (leb z.first last)) [ inl f ↦ rw f (omega arith) | inr f ↦ rw f (omega arith) ]
 
--- the edits as functions of the list
-abbrev pub set_edit : Kind → ℕ → ℕ → List Interval → Edit
-set_edit k first last xs = record {
-  gap = record { at = lead (apart_by first) xs; end = lead (ends_by last) xs + (end_at k last (head (drop (lead (ends_by last) xs) xs))).taken };
-  left = (begin_at k first (head (drop (lead (apart_by first) xs) xs))).piece;
-  middle = Some (record {
-    kind = k;
-    first = (begin_at k first (head (drop (lead (apart_by first) xs) xs))).byte;
-    last =
-        (end_at k last (head (drop (lead (ends_by last) xs) xs))).byte;
-  });
-  right = (end_at k last (head (drop (lead (ends_by last) xs) xs))).piece;
+-- the edits, by what stands at their places
+abbrev pub set_edit : Kind → ℕ → ℕ → Place → Place → Option Interval → Option Interval → Edit
+set_edit k first last from to x z = record {
+  from = from;
+  to = to;
+  taken = (end_at k last z).taken;
+  left = (begin_at k first x).piece;
+  middle = Some (record { kind = k; first = (begin_at k first x).byte; last = (end_at k last z).byte });
+  right = (end_at k last z).piece;
 }
 
-abbrev pub clear_edit : ℕ → ℕ → List Interval → Edit
-clear_edit first last xs = record {
-  gap = record {
-    at = lead (ends_before first) xs;
-    end = lead (ends_by last) xs + length
-        (option_to_list (left_behind last (head (drop (lead (ends_by last) xs) xs))));
-  };
-  left = left_before first (head (drop (lead (ends_before first) xs) xs));
+abbrev pub clear_edit : ℕ → ℕ → Place → Place → Option Interval → Option Interval → Edit
+clear_edit first last from to x z = record {
+  from = from;
+  to = to;
+  taken = length (option_to_list (left_behind last z));
+  left = left_before first x;
   middle = None;
-  right = left_behind last (head (drop (lead (ends_by last) xs) xs));
+  right = left_behind last z;
 }
 
-one_at_most : (o : Option Interval) → length (option_to_list o) ≤ 1
-one_at_most None = omega arith
-one_at_most (Some x) = omega arith
+set_here : (k : Kind) (first last : ℕ) (bs : List (List Interval)) (from to : Place) → first ≤ last → last < 2 ^ 64 → IsCanonical (flat bs) →
+    IsPlace (apart_by first) bs from → IsPlace (ends_by last) bs to →
+    spliced (set_edit k first last from to (head (drop (lead (apart_by first) (flat bs)) (flat bs))) (head (drop (lead (ends_by last) (flat bs)) (flat bs)))) bs ≡
+    with_range (record { kind = k; first = first; last = last }) (flat bs)
+set_here k first last bs from to le small are pf pt =
+    let i = lead (apart_by first) (flat bs) in
+    let j = lead (ends_by last) (flat bs) in
+    let begin = begin_at k first (head (drop i (flat bs))) in
+    let end = end_at k last (head (drop j (flat bs))) in
+    splice_is (flat (take from.block bs)) (take from.at (block_at bs from.block)) (option_to_list begin.piece)
+    (record { kind = k; first = begin.byte; last = end.byte } ∷ []) (option_to_list end.piece) (drop end.taken (drop to.at (block_at bs to.block)))
+    (flat (drop (suc to.block) bs)) (take i (flat bs)) (drop end.taken (drop j (flat bs))) pf.front
+    (pt.behind end.taken (taken_few k last (head (drop j (flat bs)))))
+    ∙ sym (held_by_place (record { kind = k; first = first; last = last }) (flat bs) le small are)
 
-pub set_fits : (k : Kind) (first last : ℕ) (xs : List Interval) → first ≤ last → FitsIn (set_edit k first last xs) 2 xs
-set_fits k first last xs le =
-    let i = lead (apart_by first) xs in
-    let j = lead (ends_by last) xs in
-    let sooner : i ≤ j = lead-le (apart_by first) (ends_by last) xs (λ x e. let lt = ltb-true x.last (first - 1) e in le-leb x.last last (omega arith)) in
-    let within = lead-length (ends_by last) xs in
-    let taken = end_taken k last (drop j xs) in
-    let in_rest = taken.within in
-    let fewer = taken.piece in
-    let rest = length-drop j xs in
-    let one = one_at_most (begin_at k first (head (drop i xs))).piece in
-    let other = one_at_most (end_at k last (head (drop j xs))).piece in
-    record { order = (omega arith, omega arith); growth = omega arith }
+pub set_spliced : (k : Kind) (first last : ℕ) (bs : List (List Interval)) (from to : Place) (x z : Option Interval) → first ≤ last → last < 2 ^ 64 →
+    IsCanonical (flat bs) → IsPlace (apart_by first) bs from → IsPlace (ends_by last) bs to → x ≡ head (drop from.at (block_at bs from.block)) →
+    z ≡ head (drop to.at (block_at bs to.block)) →
+    spliced (set_edit k first last from to x z) bs ≡ with_range (record { kind = k; first = first; last = last }) (flat bs)
+set_spliced k first last bs from to x z le small are pf pt e f =
+    ap (λ o. spliced (set_edit k first last from to o z) bs) (e ∙ pf.next)
+    ∙ ap (λ o. spliced (set_edit k first last from to (head (drop (lead (apart_by first) (flat bs)) (flat bs))) o) bs) (f ∙ pt.next)
+    ∙ set_here k first last bs from to le small are pf pt
 
-pub set_edited : (k : Kind) (first last : ℕ) (xs : List Interval) → first ≤ last → last < 2 ^ 64 → IsCanonical xs → edited (set_edit k first last xs) xs ≡
-    with_range (record { kind = k; first = first; last = last }) xs
-set_edited k first last xs le small are =
-    let j = lead (ends_by last) xs in
-    let end = end_at k last (head (drop j xs)) in
-    rw (← drop-drop end.taken j xs) (sym (held_by_place (record { kind = k; first = first; last = last }) xs le small are))
+clear_here : (first last : ℕ) (bs : List (List Interval)) (from to : Place) → first ≤ last → last < 2 ^ 64 → IsCanonical (flat bs) →
+    IsPlace (ends_before first) bs from → IsPlace (ends_by last) bs to →
+    spliced (clear_edit first last from to (head (drop (lead (ends_before first) (flat bs)) (flat bs))) (head (drop (lead (ends_by last) (flat bs)) (flat bs)))) bs
+    ≡ without first last (flat bs)
+clear_here first last bs from to le small are pf pt =
+    let i = lead (ends_before first) (flat bs) in
+    let j = lead (ends_by last) (flat bs) in
+    let behind = left_behind last (head (drop j (flat bs))) in
+    splice_is (flat (take from.block bs)) (take from.at (block_at bs from.block)) (option_to_list (left_before first (head (drop i (flat bs)))))
+    [] (option_to_list behind) (drop (length (option_to_list behind)) (drop to.at (block_at bs to.block)))
+    (flat (drop (suc to.block) bs)) (take i (flat bs)) (drop (length (option_to_list behind)) (drop j (flat bs))) pf.front
+    (pt.behind (length (option_to_list behind)) (behind_few last (head (drop j (flat bs)))))
+    ∙ sym (cleared_by_place first last (flat bs) le small are)
 
-pub clear_fits : (first last : ℕ) (xs : List Interval) → first ≤ last → FitsIn (clear_edit first last xs) 1 xs
-clear_fits first last xs le =
-    let i = lead (ends_before first) xs in
-    let j = lead (ends_by last) xs in
-    let sooner : i ≤ j = lead-le (ends_before first) (ends_by last) xs (λ x e. let lt = ltb-true x.last first e in le-leb x.last last (omega arith)) in
-    let within = lead-length (ends_by last) xs in
-    let in_rest = behind_within last (drop j xs) in
-    let rest = length-drop j xs in
-    let one = one_at_most (left_before first (head (drop i xs))) in
-    record { order = (omega arith, omega arith); growth = omega arith }
+pub clear_spliced : (first last : ℕ) (bs : List (List Interval)) (from to : Place) (x z : Option Interval) → first ≤ last → last < 2 ^ 64 →
+    IsCanonical (flat bs) → IsPlace (ends_before first) bs from → IsPlace (ends_by last) bs to → x ≡ head (drop from.at (block_at bs from.block)) →
+    z ≡ head (drop to.at (block_at bs to.block)) → spliced (clear_edit first last from to x z) bs ≡ without first last (flat bs)
+clear_spliced first last bs from to x z le small are pf pt e f =
+    ap (λ o. spliced (clear_edit first last from to o z) bs) (e ∙ pf.next)
+    ∙ ap (λ o. spliced (clear_edit first last from to (head (drop (lead (ends_before first) (flat bs)) (flat bs))) o) bs) (f ∙ pt.next)
+    ∙ clear_here first last bs from to le small are pf pt
 
-pub clear_edited : (first last : ℕ) (xs : List Interval) → first ≤ last → last < 2 ^ 64 → IsCanonical xs → edited (clear_edit first last xs) xs ≡
-    without first last xs
-clear_edited first last xs le small are =
-    let j = lead (ends_by last) xs in
-    let behind = left_behind last (head (drop j xs)) in
-    rw (← drop-drop (length (option_to_list behind)) j xs) (sym (cleared_by_place first last xs le small are))
+pub places_order : (byte last i j : ℕ) (bs : List (List Interval)) → byte ≤ last → i ≡ spot (ends_whole byte) bs → j ≡ spot (ends_whole_by last) bs →
+    (i ≤ j) × (j ≤ length bs)
+places_order byte last i j bs le e f =
+    let sooner = spot-le (ends_whole byte) (ends_whole_by last) bs (λ b t. let lt = ltb-true (last_end b) byte t in le-leb (last_end b) last (omega arith)) in
+    let within = spot-length (ends_whole_by last) bs in
+    (omega arith, omega arith)
+
+pub behind_end : (last : ℕ) (bs : List (List Interval)) (to : Place) (z : Option Interval) → IsPlace (ends_by last) bs to →
+    z ≡ head (drop to.at (block_at bs to.block)) → IfSome z (λ y. last < y.last)
+behind_end last bs to z place e = subst (λ o. IfSome o (λ y. last < y.last)) (sym (e ∙ place.next)) (ends_behind last (flat bs))
 
 pub counted : (o : Option Interval) → bool_byte (is_some o) ≡ length (option_to_list o)
 counted None = refl

@@ -1,12 +1,14 @@
 -- The span of intervals, and wishes that lie outside it.
-use Rattle.std.proofs.Common.{◌≡◌, ℕ, zero, suc, ◌-◌, ◌<◌, ◌≤◌, false, leb, List, [], ◌∷◌, drop, length, Some, None, refl}
+use Rattle.std.proofs.Common.{◌≡◌, ℕ, zero, suc, ◌-◌, ◌<◌, ◌≤◌, true, false, leb, List, [], ◌∷◌, ◌++◌, drop, length, Some, None, refl}
 use Rattle.std.proofs.Common.{sym, ◌∙◌, ap, subst, arith}
-use Rattle.std.specs.Prelude.{find}
+use Rattle.std.specs.Prelude.{find, slice_get}
+use Rattle.std.proofs.lemmas.List.{append-nil}
 use Rattle.std.proofs.lemmas.Bool.{and_left, and_right, lt-leb}
 use Rattle.nfs_ranges.specs.declared.Kind.{Kind}
 use Rattle.nfs_ranges.specs.declared.interval.Interval.{Interval}
 use Rattle.nfs_ranges.specs.Intervals.{AreFrom, IsCanonical}
 use Rattle.nfs_ranges.specs.Edits.{head}
+use Rattle.nfs_ranges.specs.Blocks.{flat, last_from, last_end, block_at, AreSome, AreBlocks}
 use Rattle.nfs_ranges.specs.Owners.{LieWithin, IsSpan}
 use Rattle.nfs_ranges.specs.Clashes.{hits}
 use Rattle.nfs_ranges.specs.Told.{meets}
@@ -16,43 +18,55 @@ wider first low last [] le within = tt
 wider first low last (x ∷ xs) le within = (omega arith, within.1, wider first low last xs le within.2)
 
 -- from the first byte of the first interval to the last byte of the last
-ends : (low n : ℕ) (x : Interval) (xs : List Interval) (z : Interval) → AreFrom low (x ∷ xs) → n ≡ length xs → head (drop n (x ∷ xs)) ≡ Some z →
-    (x.last ≤ z.last) × LieWithin x.first z.last (x ∷ xs)
-ends low zero x [] z are n last = let same : x.last ≡ z.last = cc in (omega arith, (omega arith, omega arith, tt))
-ends low zero x (y ∷ ys) z are n last = absurd (omega arith)
-ends low (suc n) x [] z are count last = absurd (omega arith)
-ends low (suc n) x (y ∷ ys) z are count last =
+lie_from : (low : ℕ) (x : Interval) (xs : List Interval) → AreFrom low (x ∷ xs) → (x.last ≤ last_from x xs) × LieWithin x.first (last_from x xs) (x ∷ xs)
+lie_from low x [] are = let le = are.1 in (omega arith, (omega arith, omega arith, tt))
+lie_from low x (y ∷ ys) are =
     let here = are.1 in
     let next = are.4.0 in
     let there = are.4.1 in
-    let rest = ends (suc x.last) n y ys z are.4 (omega arith) last in
+    let rest = lie_from (suc x.last) y ys are.4 in
     let top = rest.0 in
-    (omega arith, (omega arith, omega arith, wider x.first y.first z.last (y ∷ ys) (omega arith) rest.1))
+    (omega arith, (omega arith, omega arith, wider x.first y.first (last_from y ys) (y ∷ ys) (omega arith) rest.1))
 
-pub span_is : (x z : Interval) (xs : List Interval) → IsCanonical xs → head (drop 0 xs) ≡ Some x → head (drop (length xs - 1) xs) ≡ Some z →
-    IsSpan x.first z.last xs
-span_is x z [] are first last = absurd cc
-span_is x z (y ∷ ys) are first last =
-    let same : y.first ≡ x.first = cc in
-    let count : suc (length ys) - 1 ≡ length ys = omega arith in
-    subst (λ a. IsSpan a z.last (y ∷ ys)) same (record {
-      each =
-          (ends 0 (length ys) y ys z are.from refl (ap (λ n. head (drop n (y ∷ ys))) (sym count) ∙ last)).1;
-    })
+last_behind : (x : Interval) (xs : List Interval) (y : Interval) (ys : List Interval) → last_from x (xs ++ y ∷ ys) ≡ last_from y ys
+last_behind x [] y ys = refl
+last_behind x (z ∷ zs) y ys = last_behind z zs y ys
 
-pub no_span : (first last : ℕ) (xs : List Interval) → head (drop 0 xs) ≡ None → IsSpan first last xs
-no_span first last [] none = record { each = tt }
-no_span first last (x ∷ xs) none = absurd cc
+end_behind : (xs : List Interval) (y : Interval) (ys : List Interval) → last_end (xs ++ y ∷ ys) ≡ last_from y ys
+end_behind [] y ys = refl
+end_behind (x ∷ xs) y ys = last_behind x xs y ys
 
-there : (x : Interval) (xs : List Interval) → head (drop (length xs) (x ∷ xs)) ≡ None → ⊥
-there x [] none = cc
-there x (y ∷ ys) none = there y ys none
+last_flat : (c : List Interval) (bs : List (List Interval)) (b : List Interval) → AreSome (c ∷ bs) → Some b ≡ slice_get (c ∷ bs) (length bs) →
+    last_end (flat (c ∷ bs)) ≡ last_end b
+last_flat c [] b some e = let same : c ≡ b = (let back : Some c ≡ Some b = sym e in cc) in ap last_end (append-nil c ∙ same)
+last_flat c ([] ∷ ds) b some e = absurd (let bad : true ≡ false = some.1.0 in cc)
+last_flat c ((y ∷ ys) ∷ ds) b some e = end_behind c y (ys ++ flat ds) ∙ last_flat (y ∷ ys) ds b some.1 e
 
-pub no_end : (first last : ℕ) (xs : List Interval) → head (drop (length xs - 1) xs) ≡ None → IsSpan first last xs
+pub span_is : (x : Interval) (b : List Interval) (bs : List (List Interval)) → AreBlocks bs → Some x ≡ head (drop 0 (block_at bs 0)) →
+    Some b ≡ slice_get bs (length bs - 1) → IsSpan x.first (last_end b) (flat bs)
+span_is x b [] are first last = absurd cc
+span_is x b ([] ∷ bs) are first last = absurd cc
+span_is x b ((y ∷ ys) ∷ bs) are first last =
+    let same : y ≡ x = (let back : Some y ≡ Some x = sym first in cc) in
+    let count : length ((y ∷ ys) ∷ bs) - 1 ≡ length bs = omega arith in
+    let top : last_from y (ys ++ flat bs) ≡ last_end b = last_flat (y ∷ ys) bs b are.some (last ∙ ap (slice_get ((y ∷ ys) ∷ bs)) count) in
+    record { each = subst (λ l. LieWithin x.first l (y ∷ (ys ++ flat bs))) top
+    (subst (λ (z : Interval). LieWithin z.first (last_from y (ys ++ flat bs)) (y ∷ (ys ++ flat bs))) same (lie_from 0 y (ys ++ flat bs) are.canonical.from).1) }
+
+pub no_span : (first last : ℕ) (bs : List (List Interval)) → AreSome bs → None ≡ head (drop 0 (block_at bs 0)) → IsSpan first last (flat bs)
+no_span first last [] some none = record { each = tt }
+no_span first last ([] ∷ bs) some none = absurd (let bad : true ≡ false = some.0 in cc)
+no_span first last ((y ∷ ys) ∷ bs) some none = absurd cc
+
+there : (b : List Interval) (bs : List (List Interval)) → None ≡ slice_get (b ∷ bs) (length bs) → ⊥
+there b [] none = cc
+there b (c ∷ bs) none = there c bs none
+
+pub no_end : (first last : ℕ) (bs : List (List Interval)) → None ≡ slice_get bs (length bs - 1) → IsSpan first last (flat bs)
 no_end first last [] none = record { each = tt }
-no_end first last (x ∷ xs) none =
-    let count : suc (length xs) - 1 ≡ length xs = omega arith in
-    absurd (there x xs (ap (λ n. head (drop n (x ∷ xs))) (sym count) ∙ none))
+no_end first last (b ∷ bs) none =
+    let count : length (b ∷ bs) - 1 ≡ length bs = omega arith in
+    absurd (there b bs (none ∙ ap (slice_get (b ∷ bs)) count))
 
 -- a wish that ends before the span or begins behind it
 pub none_before : (k : Kind) (low high first last : ℕ) (xs : List Interval) → LieWithin low high xs → last < low → find (hits k first last) xs ≡ None

@@ -4,8 +4,6 @@ use Rattle.std.specs.Prelude.{None}
 use Rattle.nfs_ranges.specs.declared.Kind.{Kind}
 use Rattle.nfs_ranges.specs.declared.interval.Interval.{Interval}
 use Rattle.nfs_ranges.specs.declared.interval.Edge.{Edge}
-use Rattle.nfs_ranges.specs.declared.edits.Edit.{Edit}
-use Rattle.std.specs.Option.{option_to_list}
 use Rattle.nfs_ranges.specs.Intervals.{is_same}
 
 -- how many pass before the first that does not
@@ -53,16 +51,3 @@ left_before first (Some x) = if nat_lt x.first first then Some (record x { last 
 abbrev pub left_behind : ℕ → Option Interval → Option Interval
 left_behind last None = None
 left_behind last (Some z) = if nat_le z.first last then Some (record z { first = suc last }) else None
-
--- what an edit leaves
-abbrev pub edited : Edit → List Interval → List Interval
-edited e xs = take e.gap.at xs ++ (option_to_list e.left ++ (option_to_list e.middle ++ (option_to_list e.right ++ drop e.gap.end xs)))
-
--- how many intervals it brings
-abbrev pub added : Edit → ℕ
-added e = length (option_to_list e.left) + (length (option_to_list e.middle) + length (option_to_list e.right))
-
--- it lies in the list, and the list grows by at most so many
-pub record FitsIn (e : Edit) (grows : ℕ) (xs : List Interval) : Type 0 where
-  pub order : (e.gap.at ≤ e.gap.end) × (e.gap.end ≤ length xs)
-  pub growth : added e ≤ grows + (e.gap.end - e.gap.at)

@@ -1,19 +1,21 @@
-//! Edits of a list of intervals in place, behind one reservation.
+//! Edits of intervals, each behind one reservation.
 
-ghost use Rattle.std.specs.Prelude.{◌≡◌, ◌+◌, ◌-◌, ◌<◌, ◌≤◌, ◌++◌, ◌∷◌, [], List, IfSome, OnOk, OnErr, take, drop, length, find, vec_len, vec_capacity, Some, None};
-ghost use Rattle.std.specs.Option.{option_to_list};
+ghost use Rattle.std.specs.Prelude.{◌≡◌, ◌+◌, ◌-◌, ◌<◌, ◌≤◌, ◌∷◌, [], length, IfOk, IfSome, OnOk, OnErr, drop, find, None, Some, false, suc, get_or};
 ghost use Rattle.nfs_ranges.specs.Intervals.{IsCanonical, without, with_range};
 ghost use Rattle.nfs_ranges.specs.Holders.{kind_at};
-ghost use Rattle.nfs_ranges.specs.Owners.{IsSpan};
+ghost use Rattle.nfs_ranges.specs.Owners.{IsSpan, is_empty};
 ghost use Rattle.nfs_ranges.specs.Clashes.{hits};
-ghost use Rattle.nfs_ranges.specs.Edits.{lead, ends_before, ends_by, head, begin_at, end_at, left_before, left_behind, edited, added, FitsIn};
+ghost use Rattle.nfs_ranges.specs.Edits.{lead, ends_before, ends_by, head, begin_at, end_at, left_before, left_behind};
+ghost use Rattle.nfs_ranges.specs.Blocks.{flat, AreSome, AreBlocks, spliced};
 
 use super::Kind;
+use super::blocks::{Block, Place, at_place, block_before, carry_out, place_before, place_by};
 use super::interval::{Edge, Interval};
 use std::alloc::{AllocError, Global};
+use std::marker::Model;
 
 /// How many intervals end before the byte.
-fn ended_before(intervals: &[Interval], byte: u64) -> usize
+pub(super) fn ended_before(intervals: &[Interval], byte: u64) -> usize
     requires { IsCanonical intervals.now }
     ensures place { result ≡ lead (ends_before byte) intervals.now }
     ensures bound { result ≤ length intervals.now }
@@ -22,7 +24,7 @@ fn ended_before(intervals: &[Interval], byte: u64) -> usize
 }
 
 /// How many intervals end by the byte.
-fn ended_by(intervals: &[Interval], byte: u64) -> usize
+pub(super) fn ended_by(intervals: &[Interval], byte: u64) -> usize
     requires { IsCanonical intervals.now }
     ensures { result ≡ lead (ends_by byte) intervals.now }
 {
@@ -30,35 +32,10 @@ fn ended_by(intervals: &[Interval], byte: u64) -> usize
 }
 
 /// The interval at the place, if there is one.
-fn at_place(intervals: &[Interval], place: usize) -> Option<Interval>
+pub(super) fn interval_at(intervals: &[Interval], place: usize) -> Option<Interval>
     ensures { result ≡ head (drop place intervals.now) }
 {
     intervals.get(place).copied()
-}
-
-/// How the byte is held.
-pub(super) fn kind_at(intervals: &[Interval], byte: u64) -> Option<Kind>
-    requires { IsCanonical intervals.now }
-    ensures { result ≡ kind_at intervals.now byte }
-{
-    match at_place(intervals, ended_before(intervals, byte)) {
-        Some(x) if x.first <= byte => Some(x.kind),
-        _ => None,
-    }
-}
-
-/// The first and the last byte of the intervals, where there are any.
-pub(super) fn span(intervals: &[Interval]) -> (u64, u64)
-    requires { IsCanonical intervals.now }
-    ensures { IsSpan result.0 result.1 intervals.now }
-{
-    let Some(x) = at_place(intervals, 0) else {
-        return (u64::MAX, 0);
-    };
-    let Some(z) = at_place(intervals, intervals.len().saturating_sub(1)) else {
-        return (u64::MAX, 0);
-    };
-    (x.first, z.last)
 }
 
 impl Interval {
@@ -86,18 +63,20 @@ fn first_of(intervals: &[Interval], kind: Kind, first: u64, last: u64) -> Option
     None
 }
 
-/// The first interval that stands against a wish to lock the range.
-pub(super) fn first_hit(
-    intervals: &[Interval],
-    kind: Kind,
-    first: u64,
-    last: u64,
-) -> Option<Interval>
-    requires { IsCanonical intervals.now }
-    ensures { result ≡ find (hits kind first last) intervals.now }
+/// The same of intervals in blocks.
+fn first_in(blocks: &[Block], kind: Kind, first: u64, last: u64) -> Option<Interval>
+    requires { AreBlocks blocks.now }
+    ensures { result ≡ find (hits kind first last) (flat blocks.now) }
 {
-    let place = ended_before(intervals, first);
-    first_of(&intervals[place..], kind, first, last)
+    for b in blocks {
+        if let Some(x) = first_of(b.intervals(), kind, first, last) {
+            return Some(x);
+        }
+        if last <= b.last_end() {
+            return None;
+        }
+    }
+    None
 }
 
 /// What the interval at the beginning of a range makes of the range, and the range of it.
@@ -185,100 +164,75 @@ fn left_behind(last: u64, at: Option<Interval>) -> Option<Interval>
     }
 }
 
-/// A part of a list that is being replaced: the new intervals end at `at`, and the old ones that
-/// are still to go end at `end`.
-#[derive(Clone, Copy)]
-struct Gap {
-    at: usize,
-    end: usize,
-}
-
-/// Lays one interval into the gap, over an old one where there is one.
-fn lay(intervals: &mut Vec<Interval>, gap: Gap, piece: Interval) -> Gap
-    requires order { (gap.at ≤ gap.end) × (gap.end ≤ vec_len intervals.old) }
-    requires room { vec_len intervals.old + 1 ≤ vec_capacity intervals.old + (gap.end - gap.at) }
-    ensures order { (result.at ≤ result.end) × (result.end ≤ vec_len intervals.new) }
-    ensures before { take result.at intervals.new.items ≡ take gap.at intervals.old.items ++ piece ∷ [] }
-    ensures behind { drop result.end intervals.new.items ≡ drop gap.end intervals.old.items }
-    ensures room { vec_capacity intervals.old + (gap.end - gap.at) + vec_len intervals.new ≤ vec_capacity intervals.new + (result.end - result.at) + (vec_len intervals.old + 1) }
+/// Whether there are none.
+fn is_none(blocks: &[Block]) -> bool
+    requires { AreSome blocks.now }
+    ensures { result ≡ is_empty (flat blocks.now) }
 {
-    if gap.at < gap.end {
-        intervals[gap.at] = piece;
-        return Gap {
-            at: gap.at + 1,
-            end: gap.end,
-        };
-    }
-    intervals.insert(gap.at, piece).unwrap();
-    Gap {
-        at: gap.at + 1,
-        end: gap.end + 1,
-    }
+    blocks.is_empty()
 }
 
-/// Lays the interval if there is one.
-fn lay_some(intervals: &mut Vec<Interval>, gap: Gap, piece: Option<Interval>) -> Gap
-    requires order { (gap.at ≤ gap.end) × (gap.end ≤ vec_len intervals.old) }
-    requires room { vec_len intervals.old + length (option_to_list piece) ≤ vec_capacity intervals.old + (gap.end - gap.at) }
-    ensures order { (result.at ≤ result.end) × (result.end ≤ vec_len intervals.new) }
-    ensures before { take result.at intervals.new.items ≡ take gap.at intervals.old.items ++ option_to_list piece }
-    ensures behind { drop result.end intervals.new.items ≡ drop gap.end intervals.old.items }
-    ensures room { vec_capacity intervals.old + (gap.end - gap.at) + vec_len intervals.new ≤ vec_capacity intervals.new + (result.end - result.at) + (vec_len intervals.old + length (option_to_list piece)) }
+/// How a byte is held.
+fn kind_in(blocks: &[Block], byte: u64) -> Option<Kind>
+    requires { AreBlocks blocks.now }
+    ensures { result ≡ kind_at (flat blocks.now) byte }
 {
-    match piece {
-        None => gap,
-        Some(piece) => lay(intervals, gap, piece),
+    match at_place(blocks, place_before(blocks, byte)) {
+        Some(x) if x.first <= byte => Some(x.kind),
+        _ => None,
     }
 }
 
-/// Takes out what is still to go.
-fn close(intervals: &mut Vec<Interval>, gap: Gap)
-    requires order { (gap.at ≤ gap.end) × (gap.end ≤ vec_len intervals.old) }
-    ensures { intervals.new.items ≡ take gap.at intervals.old.items ++ drop gap.end intervals.old.items }
+/// The first and the last byte of intervals, where there are any.
+fn span_of(blocks: &[Block]) -> (u64, u64)
+    requires { AreBlocks blocks.now }
+    ensures { IsSpan result.0 result.1 (flat blocks.now) }
 {
-    if gap.at < gap.end {
-        intervals.drain(gap.at..gap.end);
-    }
+    let Some(b) = blocks.last() else {
+        return (u64::MAX, 0);
+    };
+    let Some(x) = at_place(blocks, Place { block: 0, at: 0 }) else {
+        return (u64::MAX, 0);
+    };
+    (x.first, b.last_end())
 }
 
-/// An edit of a list: what stands between two places goes, and up to three intervals come.
+/// The first interval that stands against a wish to lock the range.
+fn hit_in(blocks: &[Block], kind: Kind, first: u64, last: u64) -> Option<Interval>
+    requires { AreBlocks blocks.now }
+    ensures { result ≡ find (hits kind first last) (flat blocks.now) }
+{
+    let from = block_before(blocks, first);
+    first_in(&blocks[from..], kind, first, last)
+}
+
+/// An edit of intervals: what stands between two places goes, and up to three intervals come.
 #[derive(Clone, Copy)]
 pub(super) struct Edit {
-    gap: Gap,
-    left: Option<Interval>,
-    middle: Option<Interval>,
-    right: Option<Interval>,
-}
-
-impl Edit {
-    /// By how many intervals the list grows.
-    fn growth(&self) -> usize
-        requires { self.now.gap.at ≤ self.now.gap.end }
-        ensures { result ≡ added self.now - (self.now.gap.end - self.now.gap.at) }
-    {
-        let added = usize::from(self.left.is_some())
-            + usize::from(self.middle.is_some())
-            + usize::from(self.right.is_some());
-        added.saturating_sub(self.gap.end - self.gap.at)
-    }
+    pub(super) from: Place,
+    pub(super) to: Place,
+    /// How many intervals behind `to` go too.
+    pub(super) taken: usize,
+    pub(super) left: Option<Interval>,
+    pub(super) middle: Option<Interval>,
+    pub(super) right: Option<Interval>,
 }
 
 /// The edit by which a range is held.
-fn edit_to_set(intervals: &[Interval], kind: Kind, first: u64, last: u64) -> Edit
+fn edit_to_set(blocks: &[Block], kind: Kind, first: u64, last: u64) -> Edit
     requires range { first ≤ last }
-    requires canonical { IsCanonical intervals.now }
-    ensures fits { FitsIn result 2 intervals.now }
-    ensures edited { edited result intervals.now ≡ with_range (record { kind = kind; first = first; last = last }) intervals.now }
+    requires blocks { AreBlocks blocks.now }
+    ensures order { (result.from.block ≤ result.to.block) × (result.to.block ≤ length blocks.now) }
+    ensures spliced { spliced result blocks.now ≡ with_range (record { kind = kind; first = first; last = last }) (flat blocks.now) }
 {
-    let at = ended_before(intervals, first.saturating_sub(1));
-    let end = ended_by(intervals, last);
-    let begin = begin_at(kind, first, at_place(intervals, at));
-    let finish = end_at(kind, last, at_place(intervals, end));
+    let from = place_before(blocks, first.saturating_sub(1));
+    let to = place_by(blocks, last);
+    let begin = begin_at(kind, first, at_place(blocks, from));
+    let finish = end_at(kind, last, at_place(blocks, to));
     Edit {
-        gap: Gap {
-            at,
-            end: end + finish.taken,
-        },
+        from,
+        to,
+        taken: finish.taken,
         left: begin.piece,
         middle: Some(Interval {
             kind,
@@ -290,70 +244,118 @@ fn edit_to_set(intervals: &[Interval], kind: Kind, first: u64, last: u64) -> Edi
 }
 
 /// The edit by which a range is given up.
-fn edit_to_clear(intervals: &[Interval], first: u64, last: u64) -> Edit
+fn edit_to_clear(blocks: &[Block], first: u64, last: u64) -> Edit
     requires range { first ≤ last }
-    requires canonical { IsCanonical intervals.now }
-    ensures fits { FitsIn result 1 intervals.now }
-    ensures edited { edited result intervals.now ≡ without first last intervals.now }
+    requires blocks { AreBlocks blocks.now }
+    ensures order { (result.from.block ≤ result.to.block) × (result.to.block ≤ length blocks.now) }
+    ensures spliced { spliced result blocks.now ≡ without first last (flat blocks.now) }
 {
-    let at = ended_before(intervals, first);
-    let end = ended_by(intervals, last);
-    let left = left_before(first, at_place(intervals, at));
-    let right = left_behind(last, at_place(intervals, end));
+    let from = place_before(blocks, first);
+    let to = place_by(blocks, last);
+    let left = left_before(first, at_place(blocks, from));
+    let right = left_behind(last, at_place(blocks, to));
     Edit {
-        gap: Gap {
-            at,
-            end: end + usize::from(right.is_some()),
-        },
+        from,
+        to,
+        taken: usize::from(right.is_some()),
         left,
         middle: None,
         right,
     }
 }
 
-/// Carries the edit out in place.
-fn carry_out(intervals: &mut Vec<Interval>, edit: Edit)
-    requires order { (edit.gap.at ≤ edit.gap.end) × (edit.gap.end ≤ vec_len intervals.old) }
-    requires room { vec_len intervals.old + added edit ≤ vec_capacity intervals.old + (edit.gap.end - edit.gap.at) }
-    ensures { intervals.new.items ≡ edited edit intervals.old.items }
-{
-    let gap = lay_some(intervals, edit.gap, edit.left);
-    let gap = lay_some(intervals, gap, edit.middle);
-    let gap = lay_some(intervals, gap, edit.right);
-    close(intervals, gap);
+/// What one owner holds of a file.
+#[derive(Drop)]
+pub(super) struct Intervals {
+    blocks: Vec<Block>,
 }
 
-/// The bytes from `first` to `last` are held with this kind from now on.
-///
-/// `Err`: no memory, and nothing has changed.
-pub(super) fn set(
-    intervals: &mut Vec<Interval>,
-    kind: Kind,
-    first: u64,
-    last: u64,
-) -> Result<(), AllocError>
-    requires range { first ≤ last }
-    requires canonical { IsCanonical intervals.old.items }
-    ensures ok { OnOk result (intervals.new.items ≡ with_range (record { kind = kind; first = first; last = last }) intervals.old.items) }
-    ensures err { OnErr result (intervals.new.items ≡ intervals.old.items) }
-{
-    let edit = edit_to_set(intervals, kind, first, last);
-    intervals.reserve(edit.growth())?;
-    carry_out(intervals, edit);
-    Ok(())
+impl Model for Intervals {
+    ghost use Rattle.std.specs.Prelude.{List};
+    ghost use Rattle.nfs_ranges.specs.declared.interval.Interval.{Interval};
+    ghost use Rattle.nfs_ranges.specs.Blocks.{flat, AreSome};
+
+    ghost Value = { List Interval };
+
+    ghost view = { λ v. flat v.blocks.items };
+
+    ghost invariant = { λ v. AreSome v.blocks.items };
 }
 
-/// None of the bytes from `first` to `last` is held from now on.
-///
-/// `Err`: no memory, and nothing has changed.
-pub(super) fn clear(intervals: &mut Vec<Interval>, first: u64, last: u64) -> Result<(), AllocError>
-    requires range { first ≤ last }
-    requires canonical { IsCanonical intervals.old.items }
-    ensures ok { OnOk result (intervals.new.items ≡ without first last intervals.old.items) }
-    ensures err { OnErr result (intervals.new.items ≡ intervals.old.items) }
-{
-    let edit = edit_to_clear(intervals, first, last);
-    intervals.reserve(edit.growth())?;
-    carry_out(intervals, edit);
-    Ok(())
+impl Intervals {
+    /// One interval alone.
+    pub(super) fn one(alloc: Global, interval: Interval) -> Result<Intervals, AllocError>
+        ensures { IfOk result (λ v. v ≡ interval ∷ []) }
+    {
+        let mut blocks = Vec::with_capacity(alloc, 1)?;
+        blocks.push(Block::one(alloc, interval)?)?;
+        Ok(Intervals { blocks })
+    }
+
+    pub(super) fn is_empty(&self) -> bool
+        ensures { result ≡ is_empty self.now }
+    {
+        is_none(&self.blocks)
+    }
+
+    /// How the byte is held.
+    pub(super) fn kind_at(&self, byte: u64) -> Option<Kind>
+        requires { IsCanonical self.now }
+        ensures { result ≡ kind_at self.now byte }
+    {
+        kind_in(&self.blocks, byte)
+    }
+
+    /// The first and the last byte of the intervals, where there are any.
+    pub(super) fn span(&self) -> (u64, u64)
+        requires { IsCanonical self.now }
+        ensures { IsSpan result.0 result.1 self.now }
+    {
+        span_of(&self.blocks)
+    }
+
+    /// The first interval that stands against a wish to lock the range.
+    pub(super) fn first_hit(&self, kind: Kind, first: u64, last: u64) -> Option<Interval>
+        requires { IsCanonical self.now }
+        ensures { result ≡ find (hits kind first last) self.now }
+    {
+        hit_in(&self.blocks, kind, first, last)
+    }
+
+    /// The bytes from `first` to `last` are held with this kind from now on.
+    ///
+    /// `Err`: no memory, and nothing has changed.
+    pub(super) fn set(
+        &mut self,
+        alloc: Global,
+        kind: Kind,
+        first: u64,
+        last: u64,
+    ) -> Result<(), AllocError>
+        requires range { first ≤ last }
+        requires canonical { IsCanonical self.old }
+        ensures ok { OnOk result (self.new ≡ with_range (record { kind = kind; first = first; last = last }) self.old) }
+        ensures err { OnErr result (self.new ≡ self.old) }
+    {
+        let edit = edit_to_set(&self.blocks, kind, first, last);
+        carry_out(&mut self.blocks, alloc, edit)
+    }
+
+    /// None of the bytes from `first` to `last` is held from now on.
+    ///
+    /// `Err`: no memory, and nothing has changed.
+    pub(super) fn clear(
+        &mut self,
+        alloc: Global,
+        first: u64,
+        last: u64,
+    ) -> Result<(), AllocError>
+        requires range { first ≤ last }
+        requires canonical { IsCanonical self.old }
+        ensures ok { OnOk result (self.new ≡ without first last self.old) }
+        ensures err { OnErr result (self.new ≡ self.old) }
+    {
+        let edit = edit_to_clear(&self.blocks, first, last);
+        carry_out(&mut self.blocks, alloc, edit)
+    }
 }

@@ -8,11 +8,12 @@ ghost use Rattle.std.specs.BTreeMap.{is_at};
 ghost use Rattle.nfs_ranges.specs.Intervals.{IsCanonical, without, with_range};
 ghost use Rattle.nfs_ranges.specs.Clashes.{hits, clash_of, sooner, tell};
 ghost use Rattle.nfs_ranges.specs.declared.Kind.{Kind};
-ghost use Rattle.nfs_ranges.specs.Holders.{Owned, bytes_of};
+ghost use Rattle.nfs_ranges.specs.Holders.{Owned, bytes_of, kind_at, at};
 ghost use Rattle.nfs_ranges.specs.Owners.{AreKept, IsPut, is_empty};
 
+use super::edits::Intervals;
 use super::interval::Interval;
-use super::{Held, Kind, edits};
+use super::{Held, Kind};
 use std::alloc::{AllocError, Global};
 use std::collections::BTreeMap;
 use std::marker::Model;
@@ -25,7 +26,7 @@ pub(super) struct Owner {
     number: u64,
     first: u64,
     last: u64,
-    intervals: Box<Vec<Interval>>,
+    intervals: Box<Intervals>,
 }
 
 impl Model for Owner {
@@ -34,9 +35,9 @@ impl Model for Owner {
 
     ghost Value = { Owned };
 
-    ghost view = { λ o. record { number = o.number; intervals = o.intervals.value.items } };
+    ghost view = { λ o. record { number = o.number; intervals = o.intervals.value } };
 
-    ghost invariant = { λ o. IsSpan o.first o.last o.intervals.value.items };
+    ghost invariant = { λ o. IsSpan o.first o.last o.intervals.value };
 }
 
 impl Owner {
@@ -50,8 +51,7 @@ impl Owner {
     ) -> Result<Owner, AllocError>
         ensures { IfOk result (λ o. o ≡ record { number = number; intervals = record { kind = kind; first = first; last = last } ∷ [] }) }
     {
-        let mut intervals = Vec::new(alloc);
-        intervals.push(Interval { kind, first, last })?;
+        let intervals = Intervals::one(alloc, Interval { kind, first, last })?;
         Ok(Owner {
             number,
             first,
@@ -60,10 +60,11 @@ impl Owner {
         })
     }
 
-    fn intervals(&self) -> &[Interval]
-        ensures { result.now ≡ self.now.intervals }
+    fn kind_at(&self, byte: u64) -> Option<Kind>
+        requires { IsCanonical self.now.intervals }
+        ensures { result ≡ kind_at self.now.intervals byte }
     {
-        &self.intervals
+        self.intervals.kind_at(byte)
     }
 
     fn is_empty(&self) -> bool
@@ -72,25 +73,25 @@ impl Owner {
         self.intervals.is_empty()
     }
 
-    fn set(&mut self, kind: Kind, first: u64, last: u64) -> Result<(), AllocError>
+    fn set(&mut self, alloc: Global, kind: Kind, first: u64, last: u64) -> Result<(), AllocError>
         requires range { first ≤ last }
         requires canonical { IsCanonical self.old.intervals }
         ensures ok { OnOk result (self.new ≡ record self.old { intervals = with_range (record { kind = kind; first = first; last = last }) self.old.intervals }) }
         ensures err { OnErr result (self.new ≡ self.old) }
     {
-        edits::set(&mut self.intervals, kind, first, last)?;
-        (self.first, self.last) = edits::span(&self.intervals);
+        self.intervals.set(alloc, kind, first, last)?;
+        (self.first, self.last) = self.intervals.span();
         Ok(())
     }
 
-    fn clear(&mut self, first: u64, last: u64) -> Result<(), AllocError>
+    fn clear(&mut self, alloc: Global, first: u64, last: u64) -> Result<(), AllocError>
         requires range { first ≤ last }
         requires canonical { IsCanonical self.old.intervals }
         ensures ok { OnOk result (self.new ≡ record self.old { intervals = without first last self.old.intervals }) }
         ensures err { OnErr result (self.new ≡ self.old) }
     {
-        edits::clear(&mut self.intervals, first, last)?;
-        (self.first, self.last) = edits::span(&self.intervals);
+        self.intervals.clear(alloc, first, last)?;
+        (self.first, self.last) = self.intervals.span();
         Ok(())
     }
 }
@@ -111,7 +112,7 @@ impl Owner {
         if self.lies_apart(first, last) || self.number == number {
             return None;
         }
-        let x = edits::first_hit(&self.intervals, kind, first, last)?;
+        let x = self.intervals.first_hit(kind, first, last)?;
         Some(Held {
             owner: self.number,
             kind: x.kind,
@@ -155,14 +156,29 @@ pub(super) fn first_clash(
     best
 }
 
-/// The intervals of an owner.
-pub(super) fn bytes_of(owners: &BTreeMap<u64, Owner, Global>, number: u64) -> &[Interval]
+/// How an owner holds a byte.
+pub(super) fn kind_of(
+    owners: &BTreeMap<u64, Owner, Global>,
+    number: u64,
+    byte: u64,
+) -> Option<Kind>
     requires { AreKept owners.now.entries }
-    ensures { result.now ≡ bytes_of (values_of owners.now.entries) number }
+    ensures { result ≡ at (values_of owners.now.entries) number byte }
 {
     match owners.get(&number) {
-        Some(owner) => owner.intervals(),
-        None => &[],
+        Some(owner) => owner.kind_at(byte),
+        None => None,
+    }
+}
+
+/// Whether an owner holds nothing.
+pub(super) fn holds_none(owners: &BTreeMap<u64, Owner, Global>, number: u64) -> bool
+    requires { AreKept owners.now.entries }
+    ensures { result ≡ is_empty (bytes_of (values_of owners.now.entries) number) }
+{
+    match owners.get(&number) {
+        Some(owner) => owner.is_empty(),
+        None => true,
     }
 }
 
@@ -183,7 +199,7 @@ pub(super) fn set(
     ensures err { OnErr result (owners.new.entries ≡ owners.old.entries) }
 {
     if let Some(owner) = owners.get_mut(&number) {
-        return owner.set(kind, first, last);
+        return owner.set(alloc, kind, first, last);
     }
     let owner = Owner::new(alloc, number, kind, first, last)?;
     owners.insert(number, owner)?;
@@ -202,6 +218,7 @@ fn take(owners: &mut BTreeMap<u64, Owner, Global>, number: u64)
 /// `Err`: no memory, and nothing has changed.
 pub(super) fn clear(
     owners: &mut BTreeMap<u64, Owner, Global>,
+    alloc: Global,
     number: u64,
     first: u64,
     last: u64,
@@ -214,7 +231,7 @@ pub(super) fn clear(
     let Some(owner) = owners.get_mut(&number) else {
         return Ok(());
     };
-    owner.clear(first, last)?;
+    owner.clear(alloc, first, last)?;
     if owner.is_empty() {
         take(owners, number);
     }

@@ -1,35 +1,18 @@
-use Rattle.nfs_ranges.proofs.PlaceLemmas.{ends_behind, clear_fits, clear_edited, counted}
+use Rattle.std.proofs.Common.{arith}
+use Rattle.nfs_ranges.proofs.PlaceLemmas.{clear_spliced, places_order, behind_end, counted}
 use Rattle.nfs_ranges.proofs.edits.edit_to_clear.Goals as goal
 
 pub left_behind-right-requires : goal.left_behind-right-requires
-left_behind-right-requires c = rw (c.at_place-2.ensures, c.ended_by-end.ensures) (ends_behind c.args.last c.args.intervals.now)
+left_behind-right-requires c = behind_end c.args.last c.args.blocks.now c.place_by-to.result c.at_place-2.result c.place_by-to.ensures.place c.at_place-2.ensures
 
-pub returns-clause-fits : goal.returns-clause-fits
-returns-clause-fits c =
-    rw (
-      c.from.ensures,
-      c.is_some.ensures,
-      counted c.left_behind-right.result,
-      c.left_behind-right.ensures,
-      c.left_before-left.ensures,
-      c.at_place-2.ensures,
-      c.at_place.ensures,
-      c.ended_by-end.ensures,
-      c.ended_before-at.ensures.place,
-    )
-    (clear_fits c.args.first c.args.last c.args.intervals.now c.requires.range)
+pub returns-clause-order : goal.returns-clause-order
+returns-clause-order c =
+    places_order c.args.first c.args.last c.place_before-from.result.block c.place_by-to.result.block c.args.blocks.now c.requires.range
+    c.place_before-from.ensures.block c.place_by-to.ensures.block
 
-pub returns-clause-edited : goal.returns-clause-edited
-returns-clause-edited c =
-    rw (
-      c.from.ensures,
-      c.is_some.ensures,
-      counted c.left_behind-right.result,
-      c.left_behind-right.ensures,
-      c.left_before-left.ensures,
-      c.at_place-2.ensures,
-      c.at_place.ensures,
-      c.ended_by-end.ensures,
-      c.ended_before-at.ensures.place,
-    )
-    (clear_edited c.args.first c.args.last c.args.intervals.now c.requires.range c.ranges.last.fits c.requires.canonical)
+pub returns-clause-spliced : goal.returns-clause-spliced
+returns-clause-spliced c =
+    rw (c.from.ensures, c.is_some.ensures, counted c.left_behind-right.result, c.left_behind-right.ensures, c.left_before-left.ensures)
+    (clear_spliced c.args.first c.args.last c.args.blocks.now c.place_before-from.result c.place_by-to.result c.at_place.result c.at_place-2.result
+    c.requires.range c.ranges.last.fits c.requires.blocks.canonical c.place_before-from.ensures.place c.place_by-to.ensures.place c.at_place.ensures
+    c.at_place-2.ensures)

@@ -7,6 +7,6 @@ use Rattle.nfs_ranges.proofs.owners.Owner.set.Goals as goal
 pub span-requires : goal.span-requires
 span-requires c =
     let m : Interval = record { kind = c.args.kind; first = c.args.first; last = c.args.last } in
-    let canonical : IsCanonical c.self.inside.intervals.value.items = subst (λ o. IsCanonical o.intervals) (sym c.self.view_is) c.requires.canonical in
-    rw (c.deref-2.ensures.value, c.deref.ensures, c.in_ok-set.ensures.ok, c.deref_mut.ensures.value)
-    (with_range-canonical m c.self.inside.intervals.value.items c.requires.range c.ranges.last.fits canonical)
+    let canonical : IsCanonical c.self.inside.intervals.value = subst (λ o. IsCanonical o.intervals) (sym c.self.view_is) c.requires.canonical in
+    rw (c.deref.ensures, c.in_ok-set.ensures.ok, c.deref_mut.ensures.value)
+    (with_range-canonical m c.self.inside.intervals.value c.requires.range c.ranges.last.fits canonical)

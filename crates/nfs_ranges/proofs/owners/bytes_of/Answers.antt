@@ -1,9 +1,0 @@
-use Rattle.std.proofs.Common.{ap, ◌∙◌}
-use Rattle.nfs_ranges.proofs.KeptLemmas.{bytes_in, bytes_found, found_bytes}
-use Rattle.nfs_ranges.proofs.owners.bytes_of.Goals as goal
-
-pub returns-in-Some : goal.returns-in-Some
-returns-in-Some c = c.intervals.ensures ∙ found_bytes c.args.number c.args.owners.now.entries c.in-Some.owner.now c.requires c.in-Some.ensures.value
-
-pub returns-in-None : goal.returns-in-None
-returns-in-None c = ap bytes_in c.in-None.ensures.value ∙ bytes_found c.args.number c.args.owners.now.entries c.requires.keyed

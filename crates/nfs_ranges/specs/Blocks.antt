@@ -1,0 +1,71 @@
+-- Intervals that lie in blocks, each with what stands next to each other.
+use Rattle.std.specs.Prelude.{◌≡◌, ℕ, zero, suc, ◌+◌, ◌≤◌, take, drop, length, ◌++◌, nat_le, nat_lt, Bool, false, if◌then◌else◌, List, [], ◌∷◌, Option, Some, None}
+use Rattle.std.specs.Option.{option_to_list}
+use Rattle.nfs_ranges.specs.declared.interval.Interval.{Interval}
+use Rattle.nfs_ranges.specs.declared.blocks.Place.{Place}
+use Rattle.nfs_ranges.specs.declared.blocks.Parts.{Parts}
+use Rattle.nfs_ranges.specs.declared.edits.Edit.{Edit}
+use Rattle.nfs_ranges.specs.Intervals.{IsCanonical}
+use Rattle.nfs_ranges.specs.Owners.{is_empty}
+use Rattle.nfs_ranges.specs.Edits.{lead, head}
+
+-- the intervals of one block behind those of the other
+abbrev pub flat : List (List Interval) → List Interval
+flat [] = []
+flat (b ∷ bs) = b ++ flat bs
+
+abbrev pub last_from : Interval → List Interval → ℕ
+last_from x [] = x.last
+last_from x (y ∷ ys) = last_from y ys
+
+-- the last byte of the last interval
+abbrev pub last_end : List Interval → ℕ
+last_end [] = 0
+last_end (x ∷ xs) = last_from x xs
+
+abbrev pub AreSome : List (List Interval) → Type 0
+AreSome [] = Unit {0}
+AreSome (b ∷ bs) = (is_empty b ≡ false) × AreSome bs
+
+-- in canonical form, and no block is empty
+pub record AreBlocks (bs : List (List Interval)) : Type 0 where
+  pub canonical : IsCanonical (flat bs)
+  pub some : AreSome bs
+
+abbrev pub ends_whole : ℕ → List Interval → Bool
+ends_whole byte b = nat_lt (last_end b) byte
+
+abbrev pub ends_whole_by : ℕ → List Interval → Bool
+ends_whole_by byte b = nat_le (last_end b) byte
+
+-- the first block that does not pass, or else the last one
+abbrev pub spot : (List Interval → Bool) → List (List Interval) → ℕ
+spot p [] = 0
+spot p (b ∷ []) = 0
+spot p (b ∷ c ∷ bs) = if p b then suc (spot p (c ∷ bs)) else 0
+
+abbrev pub block_at : List (List Interval) → ℕ → List Interval
+block_at [] i = []
+block_at (b ∷ bs) zero = b
+block_at (b ∷ bs) (suc i) = block_at bs i
+
+-- the place behind the intervals that pass
+pub record IsPlace (p : Interval → Bool) (bs : List (List Interval)) (place : Place) : Type 0 where
+  pub front : flat (take place.block bs) ++ take place.at (block_at bs place.block) ≡ take (lead p (flat bs)) (flat bs)
+  pub next : head (drop place.at (block_at bs place.block)) ≡ head (drop (lead p (flat bs)) (flat bs))
+  pub behind : (t : ℕ) → t ≤ length (option_to_list (head (drop (lead p (flat bs)) (flat bs))))
+      → drop t (drop place.at (block_at bs place.block)) ++ flat (drop (suc place.block) bs) ≡ drop t (drop (lead p (flat bs)) (flat bs))
+
+-- what an edit leaves
+abbrev pub spliced : Edit → List (List Interval) → List Interval
+spliced e bs = flat (take e.from.block bs) ++ (take e.from.at (block_at bs e.from.block) ++ (option_to_list e.left ++ (option_to_list e.middle ++ (option_to_list e.right ++ (drop e.taken (drop e.to.at (block_at bs e.to.block)) ++ flat (drop (suc e.to.block) bs))))))
+
+-- the intervals of a block that there may be, and that it has some
+abbrev pub IsSomeIn : Option (List Interval) → Type 0
+IsSomeIn None = Unit {0}
+IsSomeIn (Some b) = is_empty b ≡ false
+
+-- intervals lie in these blocks, none of which is empty
+pub record ArePartsOf (xs : List Interval) (p : Parts) : Type 0 where
+  pub whole : flat (option_to_list p.left ++ (option_to_list p.middle ++ option_to_list p.right)) ≡ xs
+  pub some : IsSomeIn p.left × IsSomeIn p.middle × IsSomeIn p.right
