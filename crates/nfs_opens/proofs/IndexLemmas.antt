@@ -496,9 +496,6 @@ module _ {X : Type 0} (of number : X → ℕ) where
       let low = (in_bounds number 1 high xs x rises there).0 in
       let up : nat_lt 0 (number x) ≡ true = lt-ltb 0 (number x) (omega arith) in rw up refl
 
-  pub find_begun : (q : X → Bool) (high : ℕ) (xs : List X) → IsRising number 1 xs high → find (ToCome 0 q) xs ≡ find q xs
-  find_begun q high xs rises = find_same (ToCome 0 q) q xs (begun q high xs rises)
-
   pub any_begun : (q : X → Bool) (high : ℕ) (xs : List X) → IsRising number 1 xs high → list_any (ToCome 0 q) xs ≡ list_any q xs
   any_begun q high xs rises = any_same (ToCome 0 q) q xs (begun q high xs rises)
 
@@ -516,9 +513,6 @@ module _ {X : Type 0} (of number : X → ℕ) where
           | inl comes ↦ absurd (false≢true (sym (none_in (Later after) xs x none there) ∙ come_later after x comes))
           | inr fails ↦ fails
         ]
-
-    pub find_done : (after : ℕ) → find (Later after) xs ≡ None → find (ToCome after q) xs ≡ None
-    find_done after none = find_none (ToCome after q) xs (none_come after none)
 
     pub any_done : (after : ℕ) → find (Later after) xs ≡ None → list_any (ToCome after q) xs ≡ false
     any_done after none =
@@ -543,16 +537,7 @@ module _ {X : Type 0} (of number : X → ℕ) where
           ]
         ]
 
-    -- the one that comes passes
-    pub find_hit : (after : ℕ) (x : X) → find (Later after) xs ≡ Some x → q x ≡ true → find (ToCome after q) xs ≡ Some x
-    find_hit after x e passes =
-        let is = find_in (Later after) xs x e in
-        let above = (later_parts file after x is.1).1 in
-        let comes : nat_lt after (number x) ≡ true = lt-ltb after (number x) above in
-        least_first (ToCome after q) low high xs x rises is.0 (rw (comes, passes) refl)
-        (λ y there passes_y. first_least after low xs x y rises e there (come_later after y passes_y))
-
-    -- it does not
+    -- the one that comes does not pass
     missed : (after : ℕ) (x : X) → find (Later after) xs ≡ Some x → q x ≡ false → (y : X) → In y xs → ToCome (number x) q y ≡ ToCome after q y
     missed after x e fails y there =
         let is = find_in (Later after) xs x e in
@@ -577,9 +562,6 @@ module _ {X : Type 0} (of number : X → ℕ) where
         same_false true false = refl
         same_false false true = refl
         same_false false false = refl
-
-    pub find_missed : (after : ℕ) (x : X) → find (Later after) xs ≡ Some x → q x ≡ false → find (ToCome (number x) q) xs ≡ find (ToCome after q) xs
-    find_missed after x e fails = find_same (ToCome (number x) q) (ToCome after q) xs (missed after x e fails)
 
     pub any_missed : (after : ℕ) (x : X) → find (Later after) xs ≡ Some x → q x ≡ false → list_any (ToCome (number x) q) xs ≡ list_any (ToCome after q) xs
     any_missed after x e fails = any_same (ToCome (number x) q) (ToCome after q) xs (missed after x e fails)

@@ -1,4 +1,4 @@
--- The opens in their indexes, behind what changes one of them, and walks over those that belong to one file or have one key.
+-- The opens in their indexes, behind what changes one of them, and walks over those that belong to one file.
 use Rattle.std.proofs.Common.{◌≡◌, ℕ, suc, ◌-◌, ◌<◌, Bool, true, false, List, Option, Some, None, map, sym, ◌∙◌, ap, subst, arith, refl, inl, inr, Bor}
 use Rattle.std.specs.Prelude.{◌==◌, ◌&&◌, not, nat_lt, is_some, find, if◌then◌else◌}
 use Rattle.std.specs.List.{list_any}
@@ -12,7 +12,7 @@ use Rattle.nfs_opens.specs.Keys.{owner_key, open_key}
 use Rattle.nfs_opens.specs.Table.{Table, Asked, is_own}
 use Rattle.nfs_opens.specs.Kept.{IsTable}
 use Rattle.nfs_opens.proofs.ShareLemmas.{own_is}
-use Rattle.nfs_opens.proofs.IndexLemmas.{index_changed, find_begun, any_begun, find_done, any_done, find_hit, find_missed, any_missed, come_bounds}
+use Rattle.nfs_opens.proofs.IndexLemmas.{index_changed, any_begun, any_done, any_missed, come_bounds}
 
 pub opens_changed : (of : OpenState → ℕ) (f : OpenState → OpenState) (n : ℕ) (xs ys : List OpenState) (ps : List Pair)
     → ys ≡ map (λ o. if o.number == n then f o else o) xs → ((o : OpenState) → of (f o) ≡ of o) → ((o : OpenState) → (f o).number ≡ o.number)
@@ -50,9 +50,6 @@ others_file file client o e = eqb-true o.file file (and_parts (o.file == file) (
 abbrev number_of : OpenState → ℕ
 number_of o = o.number
 
-pub walk_begins : (t : Table) (q : OpenState → Bool) → IsTable t → find (Coming 0 q) t.opens ≡ find q t.opens
-walk_begins t q is = find_begun number_of number_of q (suc t.last) t.opens is.opens
-
 pub any_begins : (t : Table) (q : OpenState → Bool) → IsTable t → list_any (Coming 0 q) t.opens ≡ list_any q t.opens
 any_begins t q is = any_begun number_of number_of q (suc t.last) t.opens is.opens
 
@@ -65,16 +62,6 @@ walk_bounds t of k after o is found =
     let above = bounds.0 in let below = bounds.1 in omega arith
 
 module _ (t : Table) (of : OpenState → ℕ) (q : OpenState → Bool) (k : ℕ) (only : Belongs of k q) (is : IsTable t) where
-  pub walk_hits : (after : ℕ) (o : OpenState) → find (Behind of k after) t.opens ≡ Some o → q o ≡ true → find (Coming after q) t.opens ≡ Some o
-  walk_hits after o = find_hit of number_of q k only 1 (suc t.last) t.opens is.opens after o
-
-  pub walk_misses : (after : ℕ) (o : OpenState) → find (Behind of k after) t.opens ≡ Some o → q o ≡ false
-      → find (Coming o.number q) t.opens ≡ find (Coming after q) t.opens
-  walk_misses after o = find_missed of number_of q k only 1 (suc t.last) t.opens is.opens after o
-
-  pub walk_ends : (after : ℕ) → find (Behind of k after) t.opens ≡ None → find (Coming after q) t.opens ≡ None
-  walk_ends after = find_done of number_of q k only 1 (suc t.last) t.opens is.opens after
-
   pub any_hits : (after : ℕ) (o : OpenState) → find (Behind of k after) t.opens ≡ Some o → q o ≡ true → list_any q t.opens ≡ true
   any_hits after o found passes = any_in q t.opens o (find_in (Behind of k after) t.opens o found).0 passes
 

@@ -7,6 +7,7 @@ pub mod FlatLemmas
 pub mod HolderLemmas
 pub mod IndexLemmas
 pub mod IndexedLemmas
+pub mod KeyLemmas
 pub mod ShareLemmas
 pub mod SingleLemmas
 pub mod TableLemmas

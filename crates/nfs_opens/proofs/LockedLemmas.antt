@@ -1,4 +1,4 @@
--- The lock states in their indexes: a walk over those of one key, and behind a seqid that rises; and which files stay listed.
+-- The lock states in their indexes: those of one key, and behind a seqid that rises; and which files stay listed.
 use Rattle.std.proofs.Common.{◌≡◌, ℕ, suc, ◌-◌, ◌<◌, ◌⊎◌, Bool, true, false, not, List, [], ◌∷◌, ◌++◌, map, Some, None, refl, sym, ◌∙◌, ap, subst, arith, inl, inr}
 use Rattle.std.specs.Prelude.{◌==◌, ◌&&◌, nat_lt, find, filter, bytes_eq, IfSome, if◌then◌else◌}
 use Rattle.std.specs.List.{list_any}
@@ -13,7 +13,7 @@ use Rattle.nfs_opens.specs.Holding.{is_listed, ListsNoMore}
 use Rattle.nfs_opens.specs.Locking.{is_locker, raised}
 use Rattle.nfs_opens.specs.Table.{Table, open_at, lock_at}
 use Rattle.nfs_opens.specs.Kept.{IsTable, AreListed}
-use Rattle.nfs_opens.proofs.IndexLemmas.{find_begun, find_done, find_hit, find_missed, come_bounds, index_changed}
+use Rattle.nfs_opens.proofs.IndexLemmas.{index_changed}
 use Rattle.nfs_opens.specs.declared.index.Pair.{Pair}
 use Rattle.nfs_opens.specs.Index.{IsIndex}
 use Rattle.nfs_opens.specs.Keys.{owner_key, lock_key}
@@ -22,12 +22,6 @@ use Rattle.nfs_opens.proofs.StepLemmas.{all_some, if_some}
 
 abbrev number_of : LockState → ℕ
 number_of l = l.number
-
-abbrev pub BehindLock : ℕ → ℕ → LockState → Bool
-BehindLock key after l = (lock_key l == key) && nat_lt after l.number
-
-abbrev pub ComingLock : ℕ → (LockState → Bool) → LockState → Bool
-ComingLock after q l = nat_lt after l.number && q l
 
 pub locker_file : (client : ℕ) (owner : List ℕ) (file : ℕ) (l : LockState) → is_locker client owner file l ≡ true → l.file ≡ file
 locker_file client owner file l e = eqb-true l.file file (and_parts (l.file == file) _ e).0
@@ -39,28 +33,6 @@ locker_key client owner file k is l e =
     ap (λ (n : ℕ). owner_key n l.client l.owner) (locker_file client owner file l e)
     ∙ (ap (λ (n : ℕ). owner_key file n l.owner) (eqb-true l.client client owns.0)
     ∙ (ap (λ (xs : List ℕ). owner_key file client xs) (owner_bytes l.owner owner owns.1) ∙ sym is))
-
-pub lock_begins : (t : Table) (q : LockState → Bool) → IsTable t → find (ComingLock 0 q) t.locks ≡ find q t.locks
-lock_begins t q is = find_begun lock_key number_of q (suc t.last) t.locks is.locks
-
--- each step goes on, and ends
-pub lock_bounds : (t : Table) (key after : ℕ) (l : LockState) → IsTable t → find (BehindLock key after) t.locks ≡ Some l
-    → suc t.last - l.number < suc t.last - after
-lock_bounds t key after l is found =
-    let bounds = come_bounds lock_key number_of (BehindLock key after) key (λ x e. eqb-true (lock_key x) key (and_parts (lock_key x == key) _ e).0)
-    1 (suc t.last) t.locks is.locks after l found in
-    let above = bounds.0 in let below = bounds.1 in omega arith
-
-module _ (t : Table) (q : LockState → Bool) (key : ℕ) (only : (l : LockState) → q l ≡ true → lock_key l ≡ key) (is : IsTable t) where
-  pub lock_hits : (after : ℕ) (l : LockState) → find (BehindLock key after) t.locks ≡ Some l → q l ≡ true → find (ComingLock after q) t.locks ≡ Some l
-  lock_hits after l = find_hit lock_key number_of q key only 1 (suc t.last) t.locks is.locks after l
-
-  pub lock_misses : (after : ℕ) (l : LockState) → find (BehindLock key after) t.locks ≡ Some l → q l ≡ false
-      → find (ComingLock l.number q) t.locks ≡ find (ComingLock after q) t.locks
-  lock_misses after l = find_missed lock_key number_of q key only 1 (suc t.last) t.locks is.locks after l
-
-  pub lock_ends : (after : ℕ) → find (BehindLock key after) t.locks ≡ None → find (ComingLock after q) t.locks ≡ None
-  lock_ends after = find_done lock_key number_of q key only 1 (suc t.last) t.locks is.locks after
 
 -- an open that is found is the one of its number
 pub its_file : (t : Table) (p : OpenState → Bool) (o : OpenState) → IsTable t → find p t.opens ≡ Some o → IfSome (open_at t o.number) (λ x. x.file ≡ o.file)

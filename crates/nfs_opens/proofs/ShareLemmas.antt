@@ -29,7 +29,7 @@ join false b c d h = refl
 pub owner_bytes : (xs ys : List ℕ) → bytes_eq xs ys ≡ true → xs ≡ ys
 owner_bytes xs ys e = (bytes_eq-Decides xs ys).0 e
 
-same_bytes : (xs : List ℕ) → bytes_eq xs xs ≡ true
+pub same_bytes : (xs : List ℕ) → bytes_eq xs xs ≡ true
 same_bytes xs = (bytes_eq-Decides xs xs).1 refl
 
 pub owners_are : (a : Asked) (o : OpenState) → is_owners a o ≡ true → (o.client ≡ a.client) × (o.owner ≡ a.owner)

@@ -15,6 +15,7 @@
 
 mod blocks;
 mod by_number;
+mod by_owner;
 mod closing;
 mod counts;
 mod index;
@@ -26,6 +27,7 @@ mod locking;
 mod open_states;
 mod opening;
 mod opens;
+mod owned;
 mod owner;
 mod records;
 mod share;

@@ -5,13 +5,17 @@ ghost use Rattle.std.specs.Option.{option_copied};
 ghost use Rattle.std.specs.List.{list_any};
 ghost use Rattle.nfs_xdr.specs.Tables.{In};
 ghost use Rattle.nfs_opens.specs.Index.{IsIndex};
-ghost use Rattle.nfs_opens.specs.Keys.{lock_key};
+ghost use Rattle.nfs_opens.specs.Keys.{lock_key, key_of};
 ghost use Rattle.nfs_opens.specs.Kept.{Rises};
 ghost use Rattle.nfs_opens.specs.Locking.{raised};
 
 use crate::blocks::Index;
 use crate::by_number::ByNumber;
+use crate::by_owner::ByOwner;
 use crate::index::Pair;
+use crate::key::Key;
+use crate::owned::Owned;
+use crate::owner::Owner;
 use crate::records::LockState;
 use std::alloc::{AllocError, Global};
 use std::marker::Model;
@@ -24,8 +28,8 @@ pub(crate) struct LockStates {
     by_file: Index,
     /// The lock states by the opens under which they were made.
     by_open: Index,
-    /// The lock states by the keys of their owners on their files.
-    by_owner: Index,
+    /// The lock states by their owners on their files.
+    by_owner: ByOwner,
 }
 
 impl Model for LockStates {
@@ -70,16 +74,13 @@ fn drop_open_pair(by_open: &mut Index, states: &ByNumber<LockState>, number: u64
 }
 
 /// A lock state no longer stands among those of its owner.
-fn drop_owner_pair(by_owner: &mut Index, states: &ByNumber<LockState>, number: u64)
+fn drop_owner_pair(by_owner: &mut ByOwner, states: &ByNumber<LockState>, number: u64)
     requires { IsIndex lock_key (λ l. l.number) states.now.items by_owner.old.items }
     ensures { IsIndex lock_key (λ l. l.number) (filter (λ l. not (l.number == number)) states.now.items) by_owner.new.items }
 {
     states.kept();
     if let Some(lock) = states.get(number) {
-        by_owner.take(Pair {
-            of: lock.key(),
-            number,
-        });
+        by_owner.take(&lock.key(), number);
     }
 }
 
@@ -92,7 +93,7 @@ impl LockStates {
             states: ByNumber::new(alloc),
             by_file: Index::new(alloc),
             by_open: Index::new(alloc),
-            by_owner: Index::new(alloc),
+            by_owner: ByOwner::new(alloc),
         }
     }
 
@@ -114,12 +115,12 @@ impl LockStates {
         }
     }
 
-    /// The lock state of this key with the lowest number behind `after`.
-    pub(crate) fn next_keyed(&self, key: u64, after: u64) -> Option<&LockState>
-        ensures { option_copied result ≡ find (λ l. (lock_key l == key) && nat_lt after l.number) self.now.items }
+    /// The lock state that an owner has on a file.
+    pub(crate) fn owned(&self, key: &Key<'_>) -> Option<&LockState>
+        ensures { option_copied result ≡ find (λ l. lock_key l == key_of key.now) self.now.items }
     {
         self.states.kept();
-        match self.by_owner.next(key, after) {
+        match self.by_owner.first(key) {
             Some(number) => self.states.get(number),
             None => None,
         }
@@ -156,8 +157,9 @@ impl LockStates {
         self.by_owner.reserve(alloc)
     }
 
-    /// A lock state comes behind all others. It takes no memory.
-    pub(crate) fn push(&mut self, new: LockState)
+    /// A lock state comes behind all others. It takes no memory, but `owner` once more.
+    pub(crate) fn push(&mut self, new: LockState, owner: Owner)
+        requires same { owner ≡ new.owner }
         requires ready { self.old.ready ≡ true }
         requires behind { (l : LockState) → In l self.old.items → l.number < new.number }
         requires first { 0 < new.number }
@@ -171,8 +173,10 @@ impl LockStates {
             of: new.opened,
             number: new.number,
         });
-        self.by_owner.put(Pair {
-            of: new.key(),
+        self.by_owner.put(Owned {
+            file: new.file,
+            client: new.client,
+            owner,
             number: new.number,
         });
         self.states.push(new);

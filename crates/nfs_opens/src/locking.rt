@@ -11,7 +11,7 @@ ghost use Rattle.nfs_opens.specs.Locking.{lock_as, lock_first, lock_judged, unlo
 ghost use Rattle.nfs_opens.specs.Calls.{LocksOrWants, UnlocksOrWants, lock, is_whole};
 
 use crate::judging::{Seat, Sort};
-use crate::key::owner_key;
+use crate::key::Key;
 use crate::locked_files::LockedFiles;
 use crate::opens::Opens;
 use crate::owner::Owner;
@@ -141,15 +141,15 @@ impl Opens {
         ensures kept { IsTable (table self.now) }
     {
         self.kept();
-        let key = owner_key(file, client, owner);
-        let mut after = 0;
-        while let Some(lock) = self.next_lock(key, after) {
-            if lock.is_lockers(client, owner, file) {
-                return Some(lock);
-            }
-            after = lock.number;
+        let key = Key {
+            file,
+            client,
+            owner,
+        };
+        match self.owned_lock(&key) {
+            Some(lock) if lock.is_lockers(&key) => Some(lock),
+            _ => None,
         }
-        None
     }
 
     fn clash(&self, state: u64, wish: &Wish) -> Option<Held>
@@ -255,19 +255,21 @@ impl Opens {
             return Err(OpenFault::Refused(Status::ServerFault));
         }
         let number = self.last + 1;
+        let again = Owner::of(alloc, owner)?;
         let owner = Owner::of(alloc, owner)?;
         self.locks.reserve(alloc)?;
         self.files
             .set(alloc, wish.file, number, wish.kind, wish.first, wish.last)?;
         self.last = number;
-        self.locks.push(LockState {
+        let new = LockState {
             number,
             client: wish.client,
             owner,
             file: wish.file,
             opened,
             seqid: 1,
-        });
+        };
+        self.locks.push(new, again);
         Ok(StateId {
             seqid: 1,
             instance: self.instance,

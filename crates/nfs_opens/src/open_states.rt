@@ -4,7 +4,7 @@ ghost use Rattle.std.specs.Prelude.{◌≡◌, ◌≢◌, ◌==◌, ◌&&◌, �
 ghost use Rattle.std.specs.Option.{option_copied};
 ghost use Rattle.nfs_xdr.specs.Tables.{In};
 ghost use Rattle.nfs_opens.specs.Kept.{HasOneEach, whose};
-ghost use Rattle.nfs_opens.specs.Keys.{open_key};
+ghost use Rattle.nfs_opens.specs.Keys.{open_key, key_of};
 ghost use Rattle.nfs_opens.specs.Opening.{joins, narrows};
 ghost use Rattle.nfs_opens.specs.Calls.{asked};
 ghost use Rattle.nfs_opens.specs.Counts.{AreCounted, count_of, has_room};
@@ -12,9 +12,13 @@ ghost use Rattle.nfs_opens.specs.StateId.{last_number};
 
 use crate::blocks::Index;
 use crate::by_number::ByNumber;
+use crate::by_owner::ByOwner;
 use crate::counts::{Count, Counts, Reservation};
 use crate::index::Pair;
+use crate::key::Key;
 use crate::opening::Ask;
+use crate::owned::Owned;
+use crate::owner::Owner;
 use crate::records::OpenState;
 use crate::share::Share;
 use std::alloc::{AllocError, Global};
@@ -28,8 +32,8 @@ pub(crate) struct OpenStates {
     by_file: Index,
     /// The opens by their clients.
     by_client: Index,
-    /// The opens by the keys of their owners on their files.
-    by_owner: Index,
+    /// The opens by their owners on their files.
+    by_owner: ByOwner,
     /// What the opens of each file have and deny.
     counts: Counts,
 }
@@ -92,7 +96,7 @@ impl OpenStates {
             states: ByNumber::new(alloc),
             by_file: Index::new(alloc),
             by_client: Index::new(alloc),
-            by_owner: Index::new(alloc),
+            by_owner: ByOwner::new(alloc),
             counts: Counts::new(alloc),
         }
     }
@@ -133,12 +137,12 @@ impl OpenStates {
         }
     }
 
-    /// The open of this key with the lowest number behind `after`.
-    pub(crate) fn next_keyed(&self, key: u64, after: u64) -> Option<&OpenState>
-        ensures { option_copied result ≡ find (λ o. (open_key o == key) && nat_lt after o.number) self.now.items }
+    /// The open that an owner has of a file.
+    pub(crate) fn owned(&self, key: &Key<'_>) -> Option<&OpenState>
+        ensures { option_copied result ≡ find (λ o. open_key o == key_of key.now) self.now.items }
     {
         self.states.kept();
-        match self.by_owner.next(key, after) {
+        match self.by_owner.first(key) {
             Some(number) => self.states.get(number),
             None => None,
         }
@@ -164,8 +168,9 @@ impl OpenStates {
         self.counts.reserve()
     }
 
-    /// An open comes behind all others: its owner has none of the file. It takes no memory.
-    pub(crate) fn push(&mut self, new: OpenState)
+    /// An open comes behind all others: its owner has none of the file. It takes no memory, but `owner` once more.
+    pub(crate) fn push(&mut self, new: OpenState, owner: Owner)
+        requires same { owner ≡ new.owner }
         requires ready { self.old.ready ≡ true }
         requires behind { (o : OpenState) → In o self.old.items → o.number < new.number }
         requires first { 0 < new.number }
@@ -181,8 +186,10 @@ impl OpenStates {
             of: new.client,
             number: new.number,
         });
-        self.by_owner.put(Pair {
-            of: new.key(),
+        self.by_owner.put(Owned {
+            file: new.file,
+            client: new.client,
+            owner,
             number: new.number,
         });
         self.counts.add(new.file, new.reserved());
@@ -225,10 +232,7 @@ impl OpenStates {
                 of: open.client,
                 number,
             });
-            self.by_owner.take(Pair {
-                of: open.key(),
-                number,
-            });
+            self.by_owner.take(&open.key(), number);
             self.counts.take(open.file, open.reserved());
         }
         self.states.remove(number);

@@ -9,10 +9,11 @@ ghost use Rattle.nfs_opens.specs.Counts.{count_of};
 ghost use Rattle.nfs_opens.specs.Kept.{IsTable};
 ghost use Rattle.nfs_opens.specs.Opening.{opens, own_open, downgrade};
 ghost use Rattle.nfs_opens.specs.Calls.{asked, open_fault};
+ghost use Rattle.nfs_opens.specs.Keys.{key_of, owner_key};
 
 use crate::counts::Count;
 use crate::judging::Sort;
-use crate::key::owner_key;
+use crate::key::Key;
 use crate::opens::Opens;
 use crate::owner::Owner;
 use crate::records::OpenState;
@@ -37,18 +38,38 @@ pub struct Ask<'a> {
     pub deny: Share,
 }
 
+impl<'a> Ask<'a> {
+    /// The asking owner on the file.
+    pub(crate) fn key(&self) -> Key<'a>
+        ensures key { key_of result ≡ owner_key self.now.file self.now.client self.now.owner.now }
+        ensures file { result.file ≡ self.now.file }
+        ensures client { result.client ≡ self.now.client }
+        ensures owner { result.owner.now ≡ self.now.owner.now }
+    {
+        Key {
+            file: self.file,
+            client: self.client,
+            owner: self.owner,
+        }
+    }
+}
+
 /// Room for one open of an owner: [`Opens::reserve`] alone makes it.
 #[derive(Drop)]
 pub struct Ready {
     owner: Owner,
+    /// The same, for the open's place among others.
+    again: Owner,
 }
 
 impl Model for Ready {
-    ghost use Rattle.std.specs.Prelude.{ℕ, List};
+    ghost use Rattle.std.specs.Prelude.{ℕ, List, ◌≡◌};
 
     ghost Value = { List ℕ };
 
     ghost view = { λ r. r.owner };
+
+    ghost invariant = { λ r. r.again ≡ r.owner };
 }
 
 impl Opens {
@@ -56,16 +77,10 @@ impl Opens {
     fn own_open(&self, ask: &Ask) -> Option<&OpenState>
         ensures { option_copied result ≡ own_open (table self.now) (asked ask.now) }
     {
-        self.kept();
-        let key = owner_key(ask.file, ask.client, ask.owner);
-        let mut after = 0;
-        while let Some(open) = self.next_keyed(key, after) {
-            if open.is_own(ask) {
-                return Some(open);
-            }
-            after = open.number;
+        match self.owned_open(&ask.key()) {
+            Some(open) if open.is_own(ask) => Some(open),
+            _ => None,
         }
-        None
     }
 
     /// What other owners have and deny of the file.
@@ -114,10 +129,11 @@ impl Opens {
         ensures ok { OnOk result (self.new ≡ record self.old { ready = true }) }
         ensures err { OnErr result (self.new ≡ self.old) }
     {
+        let again = Owner::of(alloc, owner)?;
         let owner = Owner::of(alloc, owner)?;
         self.opens.reserve(alloc)?;
         self.ready = true;
-        Ok(Ready { owner })
+        Ok(Ready { owner, again })
     }
 
     /// OPEN's effect: a new open with seqid 1; or, where the owner has an open of the file, what is asked joined to what
@@ -144,15 +160,17 @@ impl Opens {
                 let number = self.last + 1;
                 self.ready = false;
                 self.last = number;
-                self.opens.push(OpenState {
+                let Ready { owner, again } = ready;
+                let new = OpenState {
                     number,
                     client: ask.client,
-                    owner: ready.owner,
+                    owner,
                     file: ask.file,
                     seqid: 1,
                     access: ask.access,
                     deny: ask.deny,
-                });
+                };
+                self.opens.push(new, again);
                 StateId {
                     seqid: 1,
                     instance: self.instance,

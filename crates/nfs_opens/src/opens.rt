@@ -5,9 +5,10 @@ ghost use Rattle.std.specs.Option.{option_copied};
 ghost use Rattle.std.specs.List.{list_any};
 ghost use Rattle.nfs_opens.specs.Table.{table, no_opens, open_at, lock_at};
 ghost use Rattle.nfs_opens.specs.Kept.{IsTable};
-ghost use Rattle.nfs_opens.specs.Keys.{open_key, lock_key};
+ghost use Rattle.nfs_opens.specs.Keys.{open_key, lock_key, key_of};
 ghost use Rattle.nfs_opens.specs.Share.{bits_of};
 
+use crate::key::Key;
 use crate::lock_states::LockStates;
 use crate::locked_files::LockedFiles;
 use crate::open_states::OpenStates;
@@ -79,12 +80,11 @@ impl Opens {
         self.opens.next_on(file, after)
     }
 
-    /// The open of this key with the lowest number behind `after`.
-    pub(crate) fn next_keyed(&self, key: u64, after: u64) -> Option<&OpenState>
-        ensures found { option_copied result ≡ find (λ o. (open_key o == key) && nat_lt after o.number) (table self.now).opens }
-        ensures kept { IsTable (table self.now) }
+    /// The open that an owner has of a file.
+    pub(crate) fn owned_open(&self, key: &Key<'_>) -> Option<&OpenState>
+        ensures { option_copied result ≡ find (λ o. open_key o == key_of key.now) (table self.now).opens }
     {
-        self.opens.next_keyed(key, after)
+        self.opens.owned(key)
     }
 
     /// The open of a client with the lowest number behind `after`.
@@ -103,12 +103,11 @@ impl Opens {
         self.next_of(client, 0)
     }
 
-    /// The lock state of this key with the lowest number behind `after`.
-    pub(crate) fn next_lock(&self, key: u64, after: u64) -> Option<&LockState>
-        ensures found { option_copied result ≡ find (λ l. (lock_key l == key) && nat_lt after l.number) (table self.now).locks }
-        ensures kept { IsTable (table self.now) }
+    /// The lock state that an owner has on a file.
+    pub(crate) fn owned_lock(&self, key: &Key<'_>) -> Option<&LockState>
+        ensures { option_copied result ≡ find (λ l. lock_key l == key_of key.now) (table self.now).locks }
     {
-        self.locks.next_keyed(key, after)
+        self.locks.owned(key)
     }
 
     /// Whether a file has an open.

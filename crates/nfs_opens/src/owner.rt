@@ -1,6 +1,6 @@
 //! The strings of open owners and lock owners (RFC 8881 section 3.2, `open_owner4` and `lock_owner4`).
 
-ghost use Rattle.std.specs.Prelude.{◌≡◌, IfOk, bytes_eq};
+ghost use Rattle.std.specs.Prelude.{◌≡◌, IfOk};
 
 use std::alloc::{AllocError, Global};
 use std::marker::Model;
@@ -33,12 +33,5 @@ impl Owner {
         ensures { result.now ≡ self.now }
     {
         &self.bytes
-    }
-
-    /// Whether `bytes` are this owner's.
-    pub(crate) fn is(&self, bytes: &[u8]) -> bool
-        ensures { result ≡ bytes_eq self.now bytes.now }
-    {
-        self.bytes() == bytes
     }
 }

@@ -2,15 +2,15 @@
 
 ghost use Rattle.std.specs.Prelude.{◌≡◌, ◌==◌, ◌&&◌, not};
 ghost use Rattle.nfs_opens.specs.Share.{is_part};
-ghost use Rattle.nfs_opens.specs.Table.{is_owners, is_own, clashes_with};
+ghost use Rattle.nfs_opens.specs.Table.{is_own};
 ghost use Rattle.nfs_opens.specs.Opening.{joins, narrows, is_narrower};
 ghost use Rattle.nfs_opens.specs.Calls.{asked};
 ghost use Rattle.nfs_opens.specs.Locking.{is_locker, raised};
-ghost use Rattle.nfs_opens.specs.Keys.{open_key, lock_key};
+ghost use Rattle.nfs_opens.specs.Keys.{open_key, lock_key, owner_key, key_of};
 ghost use Rattle.nfs_opens.specs.Counts.{reserved};
 
 use crate::counts::Reservation;
-use crate::key::owner_key;
+use crate::key::Key;
 use crate::opening::Ask;
 use crate::owner::Owner;
 use crate::share::Share;
@@ -80,11 +80,18 @@ impl State for LockState {
 }
 
 impl OpenState {
-    /// The key of its owner on its file.
-    pub(crate) fn key(&self) -> u64
-        ensures { result ≡ open_key self.now }
+    /// Its owner on its file.
+    pub(crate) fn key(&self) -> Key<'_>
+        ensures key { key_of result ≡ open_key self.now }
+        ensures file { result.file ≡ self.now.file }
+        ensures client { result.client ≡ self.now.client }
+        ensures owner { result.owner.now ≡ self.now.owner }
     {
-        owner_key(self.file, self.client, self.owner.bytes())
+        Key {
+            file: self.file,
+            client: self.client,
+            owner: self.owner.bytes(),
+        }
     }
 
     /// What it has and denies.
@@ -97,17 +104,12 @@ impl OpenState {
         }
     }
 
-    fn is_owners(&self, ask: &Ask) -> bool
-        ensures { result ≡ is_owners (asked ask.now) self.now }
-    {
-        self.client == ask.client && self.owner.is(ask.owner)
-    }
-
     /// Whether the asking owner has this open of the file that it asks for.
-    pub(crate) fn is_own(&self, ask: &Ask) -> bool
-        ensures { result ≡ is_own (asked ask.now) self.now }
+    pub(crate) fn is_own(&self, ask: &Ask<'_>) -> bool
+        ensures own { result ≡ is_own (asked ask.now) self.now }
+        ensures key { result ≡ (open_key self.now == owner_key ask.now.file ask.now.client ask.now.owner.now) }
     {
-        self.file == ask.file && self.is_owners(ask)
+        self.key().is(&ask.key())
     }
 
     /// Whether it is not this client's.
@@ -142,18 +144,26 @@ impl OpenState {
 }
 
 impl LockState {
-    /// The key of its owner on its file.
-    pub(crate) fn key(&self) -> u64
-        ensures { result ≡ lock_key self.now }
+    /// Its owner on its file.
+    pub(crate) fn key(&self) -> Key<'_>
+        ensures key { key_of result ≡ lock_key self.now }
+        ensures file { result.file ≡ self.now.file }
+        ensures client { result.client ≡ self.now.client }
+        ensures owner { result.owner.now ≡ self.now.owner }
     {
-        owner_key(self.file, self.client, self.owner.bytes())
+        Key {
+            file: self.file,
+            client: self.client,
+            owner: self.owner.bytes(),
+        }
     }
 
     /// Whether this is the lock owner's on the file.
-    pub(crate) fn is_lockers(&self, client: u64, owner: &[u8], file: u64) -> bool
-        ensures { result ≡ is_locker client owner.now file self.now }
+    pub(crate) fn is_lockers(&self, key: &Key<'_>) -> bool
+        ensures own { result ≡ is_locker key.now.client key.now.owner.now key.now.file self.now }
+        ensures key { result ≡ (lock_key self.now == key_of key.now) }
     {
-        self.file == file && self.client == client && self.owner.is(owner)
+        self.key().is(key)
     }
 
     pub(crate) fn raise(&mut self)

@@ -3,7 +3,7 @@ use Rattle.nfs_xdr.specs.Tables.{In}
 use Rattle.nfs_opens.specs.declared.records.LockState.{LockState}
 use Rattle.nfs_opens.specs.ByNumber.{Numbered}
 use Rattle.nfs_opens.specs.Index.{IsIndex, HasPut}
-use Rattle.nfs_opens.specs.Keys.{lock_key}
+use Rattle.nfs_opens.specs.Keys.{lock_key, owner_key}
 use Rattle.nfs_opens.proofs.IndexLemmas.{pair_of, index_put, index_apart}
 use Rattle.nfs_opens.proofs.lock_states.LockStates.push.Goals as goal
 
@@ -32,5 +32,6 @@ invariant_of-self c = (
       c.self.invariant.1 c.put-2.ensures),
   subst (λ (ls : List LockState). IsIndex lock_key (λ l. l.number) ls c.put-3.new.self.items) (sym c.push.ensures)
       (index_put lock_key (λ l. l.number) c.self.inside.states.items c.args.new c.self.inside.by_owner.items c.put-3.new.self.items c.self.invariant.2
-      (subst (λ (k : ℕ). HasPut c.self.inside.by_owner.items (pair_of k c.args.new.number) c.put-3.new.self.items) c.key.ensures c.put-3.ensures)),
+      (subst (λ (xs : List ℕ). HasPut c.self.inside.by_owner.items (pair_of (owner_key c.args.new.file c.args.new.client xs) c.args.new.number) c.put-3.new.self.items)
+      c.requires.same c.put-3.ensures)),
 )

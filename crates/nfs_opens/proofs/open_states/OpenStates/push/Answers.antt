@@ -3,7 +3,7 @@ use Rattle.nfs_xdr.specs.Tables.{In}
 use Rattle.nfs_opens.specs.declared.records.OpenState.{OpenState}
 use Rattle.nfs_opens.specs.ByNumber.{Numbered}
 use Rattle.nfs_opens.specs.Index.{IsIndex, HasPut}
-use Rattle.nfs_opens.specs.Keys.{open_key}
+use Rattle.nfs_opens.specs.Keys.{open_key, owner_key}
 use Rattle.nfs_opens.specs.Kept.{whose}
 use Rattle.nfs_opens.specs.Counts.{AreCounted, CountsAnew, count_at, with_one}
 use Rattle.nfs_opens.specs.StateId.{last_number}
@@ -38,7 +38,8 @@ invariant_of-self c = (
       c.self.invariant.1 c.put-2.ensures),
   subst (λ (ls : List OpenState). IsIndex open_key (λ o. o.number) ls c.put-3.new.self.items) (sym c.push.ensures)
       (index_put open_key (λ o. o.number) c.self.inside.states.items c.args.new c.self.inside.by_owner.items c.put-3.new.self.items c.self.invariant.2
-      (subst (λ (k : ℕ). HasPut c.self.inside.by_owner.items (pair_of k c.args.new.number) c.put-3.new.self.items) c.key.ensures c.put-3.ensures)),
+      (subst (λ (xs : List ℕ). HasPut c.self.inside.by_owner.items (pair_of (owner_key c.args.new.file c.args.new.client xs) c.args.new.number) c.put-3.new.self.items)
+      c.requires.same c.put-3.ensures)),
   each_pushed c.self.inside.states.items c.push.new.self.items c.args.new c.push.ensures
       (subst (λ (x : Numbered OpenState). (o : OpenState) → In o x.items → whose o ≢ whose c.args.new) (sym c.self.view_is) c.requires.owner) c.self.invariant.3,
   subst (λ (os : List OpenState). AreCounted os c.add.new.self) (sym c.push.ensures)

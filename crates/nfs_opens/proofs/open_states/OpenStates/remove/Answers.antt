@@ -22,7 +22,7 @@ take-requires-in-Some c = pair_in (λ (o : OpenState). o.client) (λ o. o.number
     c.self.inside.by_client.items c.self.invariant.1 (sym c.get.ensures ∙ ap option_copied c.in-Some.is)
 
 pub take-requires-in-Some-2 : goal.take-requires-in-Some-2
-take-requires-in-Some-2 c = subst (λ (k : ℕ). In (pair_of k c.args.number) c.self.inside.by_owner.items) (sym c.key.ensures)
+take-requires-in-Some-2 c = subst (λ (k : ℕ). In (pair_of k c.args.number) c.self.inside.by_owner.items) (sym c.key.ensures.key)
     (pair_in open_key (λ o. o.number) c.args.number c.self.inside.states.items c.in-Some.open.now c.self.inside.by_owner.items c.self.invariant.2
     (sym c.get.ensures ∙ ap option_copied c.in-Some.is))
 
@@ -40,7 +40,7 @@ invariant_of-self c =
                 w.take-in-Some.new.self.items c.kept.ensures.1 c.self.invariant.1 found w.take-in-Some.ensures.taken,
             index_taken open_key (λ x. x.number) 1 c.kept.ensures.0 n opens o c.self.inside.by_owner.items w.take-in-Some-2.new.self.items
                 c.kept.ensures.1 c.self.invariant.2 found
-                (subst (λ (k : ℕ). HasTaken c.self.inside.by_owner.items (pair_of k n) w.take-in-Some-2.new.self.items) w.key.ensures
+                (subst (λ (k : ℕ). HasTaken c.self.inside.by_owner.items (pair_of k n) w.take-in-Some-2.new.self.items) w.key.ensures.key
                 w.take-in-Some-2.ensures.taken),
             each_left (λ x. not (x.number == n)) opens _ refl c.self.invariant.3,
             counted_without n opens c.self.inside.counts w.take-in-Some-3.new.self o c.kept.ensures found c.self.invariant.4

@@ -1,31 +1,31 @@
-use Rattle.std.proofs.Common.{sym, ◌∙◌, ap}
+use Rattle.std.proofs.Common.{◌≡◌, true, refl, sym, ◌∙◌, ap}
+use Rattle.std.specs.Prelude.{◌==◌}
 use Rattle.std.specs.Option.{option_copied}
+use Rattle.std.proofs.lemmas.Bool.{false≢true}
+use Rattle.nfs_xdr.proofs.Lists.{find_in}
 use Rattle.nfs_opens.specs.Table.{table}
 use Rattle.nfs_opens.specs.Locking.{is_locker}
-use Rattle.nfs_opens.proofs.LockedLemmas.{lock_begins, lock_bounds, lock_hits, lock_misses, lock_ends, locker_key}
+use Rattle.nfs_opens.specs.Keys.{lock_key, owner_key}
+use Rattle.nfs_opens.proofs.LockedLemmas.{locker_key}
+use Rattle.nfs_opens.proofs.KeyLemmas.{found_by, none_by}
 use Rattle.nfs_opens.proofs.opens.Opens.locker.Goals as goal
+use Rattle.nfs_opens.proofs.opens.Opens.locker.Goals.{in_default-via-in-Some+else-is_lockers, in_default-via-in_default}
 
-pub loop-lock-init : goal.loop-lock-init
-loop-lock-init c = lock_begins (table c.args.self.now) (is_locker c.args.client c.args.owner.now c.args.file) c.kept.ensures
+pub returns-in-Some-clause-found : goal.returns-in-Some-clause-found
+returns-in-Some-clause-found c =
+    let k = owner_key c.args.file c.args.client c.args.owner.now in
+    sym (found_by lock_key (is_locker c.args.client c.args.owner.now c.args.file) k
+    (locker_key c.args.client c.args.owner.now c.args.file k refl) (table c.args.self.now).locks c.in-Some.lock.now
+    (sym c.owned_lock.ensures ∙ ap option_copied c.in-Some.is) (sym c.is_lockers.ensures.own ∙ c.if-is_lockers.true))
 
-pub loop-lock-smaller : goal.loop-lock-smaller
-loop-lock-smaller c = lock_bounds (table c.args.self.now) c.owner_key-key.result c.loop-lock.after c.in-Some.lock.now c.next_lock.ensures.kept
-    (sym c.next_lock.ensures.found ∙ ap option_copied c.in-Some.is)
-
-pub loop-lock-preserved : goal.loop-lock-preserved
-loop-lock-preserved c = lock_misses (table c.args.self.now) (is_locker c.args.client c.args.owner.now c.args.file) c.owner_key-key.result
-    (locker_key c.args.client c.args.owner.now c.args.file c.owner_key-key.result c.owner_key-key.ensures) c.next_lock.ensures.kept c.loop-lock.after
-    c.in-Some.lock.now
-    (sym c.next_lock.ensures.found ∙ ap option_copied c.in-Some.is) (sym c.is_lockers.ensures ∙ c.if-is_lockers.false) ∙ c.loop-lock.invariant
-
-pub returns-then-is_lockers-clause-found : goal.returns-then-is_lockers-clause-found
-returns-then-is_lockers-clause-found c = sym (lock_hits (table c.args.self.now) (is_locker c.args.client c.args.owner.now c.args.file)
-    c.owner_key-key.result
-    (locker_key c.args.client c.args.owner.now c.args.file c.owner_key-key.result c.owner_key-key.ensures) c.next_lock.ensures.kept c.loop-lock.after
-    c.in-Some.lock.now
-    (sym c.next_lock.ensures.found ∙ ap option_copied c.in-Some.is) (sym c.is_lockers.ensures ∙ c.if-is_lockers.true)) ∙ c.loop-lock.invariant
-
-pub returns-clause-found : goal.returns-clause-found
-returns-clause-found c = sym (lock_ends (table c.args.self.now) (is_locker c.args.client c.args.owner.now c.args.file) c.owner_key-key.result
-    (locker_key c.args.client c.args.owner.now c.args.file c.owner_key-key.result c.owner_key-key.ensures) c.next_lock.ensures.kept c.loop-lock.after
-    (sym c.next_lock.ensures.found ∙ ap option_copied c.in_default.is)) ∙ c.loop-lock.invariant
+pub returns-in_default-clause-found : goal.returns-in_default-clause-found
+returns-in_default-clause-found c = elim c.in_default.branch [
+  | in_default-via-in-Some+else-is_lockers w ↦ (let k = owner_key c.args.file c.args.client c.args.owner.now in
+      let keyed : (lock_key w.in-Some.lock.now == k) ≡ true =
+      (find_in (λ l. lock_key l == k) (table c.args.self.now).locks w.in-Some.lock.now (sym c.owned_lock.ensures ∙ ap option_copied w.in-Some.is)).1 in
+      absurd (false≢true (sym w.if-is_lockers.false ∙ (w.is_lockers.ensures.key ∙ keyed))))
+  | in_default-via-in_default w ↦ (let k = owner_key c.args.file c.args.client c.args.owner.now in
+      sym (none_by lock_key (is_locker c.args.client c.args.owner.now c.args.file) k
+      (locker_key c.args.client c.args.owner.now c.args.file k refl) (table c.args.self.now).locks
+      (sym c.owned_lock.ensures ∙ ap option_copied w.in_default.is)))
+]

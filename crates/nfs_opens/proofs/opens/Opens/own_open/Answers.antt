@@ -1,33 +1,28 @@
-use Rattle.std.proofs.Common.{sym, ◌∙◌, ap}
+use Rattle.std.proofs.Common.{◌≡◌, ℕ, true, sym, ◌∙◌, ap}
+use Rattle.std.specs.Prelude.{◌==◌}
 use Rattle.std.specs.Option.{option_copied}
+use Rattle.std.proofs.lemmas.Bool.{false≢true}
+use Rattle.nfs_xdr.proofs.Lists.{find_in}
 use Rattle.nfs_opens.specs.Table.{table, is_own}
 use Rattle.nfs_opens.specs.Calls.{asked}
-use Rattle.nfs_opens.specs.Keys.{open_key}
-use Rattle.nfs_opens.proofs.IndexedLemmas.{own_key, walk_begins, walk_bounds, walk_hits, walk_misses, walk_ends}
+use Rattle.nfs_opens.specs.Keys.{open_key, key_of}
+use Rattle.nfs_opens.proofs.IndexedLemmas.{own_key}
+use Rattle.nfs_opens.proofs.KeyLemmas.{found_by, none_by}
 use Rattle.nfs_opens.proofs.opens.Opens.own_open.Goals as goal
+use Rattle.nfs_opens.proofs.opens.Opens.own_open.Goals.{in_default-via-in-Some+else-is_own, in_default-via-in_default}
 
-pub loop-open-init : goal.loop-open-init
-loop-open-init c = walk_begins (table c.args.self.now) (is_own (asked c.args.ask.now)) c.kept.ensures
+pub returns-in-Some : goal.returns-in-Some
+returns-in-Some c = sym (found_by open_key (is_own (asked c.args.ask.now)) (key_of c.key.result)
+    (own_key (asked c.args.ask.now) (key_of c.key.result) c.key.ensures.key) (table c.args.self.now).opens c.in-Some.open.now
+    (sym c.owned_open.ensures ∙ ap option_copied c.in-Some.is) (sym c.is_own.ensures.own ∙ c.if-is_own.true))
 
-pub loop-open-smaller : goal.loop-open-smaller
-loop-open-smaller c = walk_bounds (table c.args.self.now) open_key c.owner_key-key.result c.loop-open.after c.in-Some.open.now
-    c.next_keyed.ensures.kept
-    (sym c.next_keyed.ensures.found ∙ ap option_copied c.in-Some.is)
-
-pub loop-open-preserved : goal.loop-open-preserved
-loop-open-preserved c = walk_misses (table c.args.self.now) open_key (is_own (asked c.args.ask.now)) c.owner_key-key.result
-    (own_key (asked c.args.ask.now) c.owner_key-key.result c.owner_key-key.ensures) c.next_keyed.ensures.kept
-    c.loop-open.after c.in-Some.open.now
-    (sym c.next_keyed.ensures.found ∙ ap option_copied c.in-Some.is) (sym c.is_own.ensures ∙ c.if-is_own.false) ∙ c.loop-open.invariant
-
-pub returns-then-is_own : goal.returns-then-is_own
-returns-then-is_own c = sym (walk_hits (table c.args.self.now) open_key (is_own (asked c.args.ask.now)) c.owner_key-key.result
-    (own_key (asked c.args.ask.now) c.owner_key-key.result c.owner_key-key.ensures) c.next_keyed.ensures.kept
-    c.loop-open.after c.in-Some.open.now
-    (sym c.next_keyed.ensures.found ∙ ap option_copied c.in-Some.is) (sym c.is_own.ensures ∙ c.if-is_own.true)) ∙ c.loop-open.invariant
-
-pub returns : goal.returns
-returns c = sym (walk_ends (table c.args.self.now) open_key (is_own (asked c.args.ask.now)) c.owner_key-key.result
-    (own_key (asked c.args.ask.now) c.owner_key-key.result c.owner_key-key.ensures) c.next_keyed.ensures.kept
-    c.loop-open.after
-    (sym c.next_keyed.ensures.found ∙ ap option_copied c.in_default.is)) ∙ c.loop-open.invariant
+pub returns-in_default : goal.returns-in_default
+returns-in_default c = elim c.in_default.branch [
+  | in_default-via-in-Some+else-is_own w ↦ (let k = key_of c.key.result in
+      let keyed : (open_key w.in-Some.open.now == k) ≡ true =
+      (find_in (λ o. open_key o == k) (table c.args.self.now).opens w.in-Some.open.now (sym c.owned_open.ensures ∙ ap option_copied w.in-Some.is)).1 in
+      absurd (false≢true (sym w.if-is_own.false ∙ (w.is_own.ensures.key ∙ (ap (λ (n : ℕ). open_key w.in-Some.open.now == n) (sym c.key.ensures.key) ∙ keyed)))))
+  | in_default-via-in_default w ↦ sym (none_by open_key (is_own (asked c.args.ask.now)) (key_of c.key.result)
+      (own_key (asked c.args.ask.now) (key_of c.key.result) c.key.ensures.key) (table c.args.self.now).opens
+      (sym c.owned_open.ensures ∙ ap option_copied w.in_default.is))
+]
