@@ -1,4 +1,4 @@
-use Rattle.std.proofs.Common.{◌≡◌, ◌∷◌, [], ◌++◌, ℕ, List, ◌+◌, ◌-◌, ◌<◌, ◌≤◌, ◌^◌, cond, Some, None, sym, ◌∙◌, ap, arith, subst}
+use Rattle.std.proofs.Common.{◌≡◌, ◌∷◌, [], ◌++◌, ℕ, List, ◌-◌, ◌<◌, ◌^◌, cond, Some, None, sym, ◌∙◌, ap, arith, subst}
 use Rattle.std.specs.BTreeMap.{is_at, get}
 use Rattle.nfs_xdr.specs.Tables.{IsRising, without_record}
 use Rattle.nfs_tree.specs.declared.row.Row.{Row}
