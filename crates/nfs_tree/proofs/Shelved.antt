@@ -1,13 +1,14 @@
 -- What each change of the slab and of the map makes of the list of rows.
-use Rattle.std.proofs.Common.{◌≡◌, ℕ, ◌+◌, List, [], ◌∷◌, ◌++◌, Some, None, refl, sym, ◌∙◌, ap, arith, subst}
-use Rattle.std.specs.Prelude.{length, option_map}
+use Rattle.std.proofs.Common.{◌≡◌, ℕ, suc, ◌+◌, ◌≤◌, true, false, inl, inr, List, [], ◌∷◌, ◌++◌, Some, None, refl, sym, ◌∙◌, ap, arith, subst}
+use Rattle.std.specs.Prelude.{length, option_map, Option, IfSome}
 use Rattle.std.specs.Option.{option_and_then}
 use Rattle.std.specs.Ordering.{nat_cmp}
 use Rattle.std.specs.BTreeMap.{is_at, insert_entry}
+use Rattle.std.proofs.lemmas.Bool.Decides.{nat_tests}
 use Rattle.std.specs.Map.{lookup, remove_entry}
 use Rattle.slab.specs.Slab.{Slab, get, Updates}
-use Rattle.nfs_xdr.specs.Tables.{IsRising, record_at, without_record}
-use Rattle.nfs_xdr.proofs.Tables.{IsRising-push}
+use Rattle.nfs_xdr.specs.Tables.{IsRising, In, record_at, without_record}
+use Rattle.nfs_xdr.proofs.Tables.{IsRising-push, in_bounds}
 use Rattle.nfs_tree.specs.declared.row.Naming.{Naming}
 use Rattle.nfs_tree.specs.declared.row.Row.{Row}
 use Rattle.nfs_tree.specs.Indexed.{stored, placed, IsShelved, AreShelved}
@@ -83,3 +84,29 @@ shelved_length s es is = length-stored placed cookie (get s) es is.stored
 -- what stands at a key is a row
 pub is_shelved : (s : Slab Naming) (es : List (ℕ × ℕ)) (k : ℕ) (p : Naming) → AreShelved (get s) es → get s k ≡ Some p → IsShelved p (stored placed (get s) es)
 is_shelved s es k p is here = let to = is.led k p here in (to.0, in_stored placed (get s) to.0 k p es here to.1)
+
+-- a pair that stands is the one that is looked up
+at_self : (n : ℕ) → is_at (nat_cmp n) n ≡ true
+at_self n = grind (arith, nat_tests)
+
+apart : (n m : ℕ) → suc m ≤ n → is_at (nat_cmp n) m ≡ false
+apart n m up = grind (arith, nat_tests)
+
+lookup_in : (low high : ℕ) (es : List (ℕ × ℕ)) (n key : ℕ) → IsRising (λ (e : ℕ × ℕ). e.0) low es high → In (n, key) es → lookup (is_at (nat_cmp n)) es ≡ Some key
+lookup_in low high [] n key rise there = absurd there
+lookup_in low high (e ∷ es) n key rise (inl is) =
+    let here : is_at (nat_cmp n) e.0 ≡ true = ap (λ (x : ℕ × ℕ). is_at (nat_cmp n) x.0) (sym is) ∙ at_self n in
+    rw here (ap (λ (x : ℕ × ℕ). Some x.1) (sym is))
+lookup_in low high (e ∷ es) n key rise (inr more) =
+    let above = (in_bounds (λ (e : ℕ × ℕ). e.0) (suc e.0) high es (n, key) rise.1 more).0 in
+    let off : is_at (nat_cmp n) e.0 ≡ false = apart n e.0 above in
+    rw off (lookup_in (suc e.0) high es n key rise.1 more)
+
+pub row_of_pair : (s : Slab Naming) (es : List (ℕ × ℕ)) (n key : ℕ) → AreShelved (get s) es → In (n, key) es
+    → option_map (placed n) (get s key) ≡ record_at (λ (r : Row). r.cookie) (stored placed (get s) es) n
+row_of_pair s es n key are there =
+    sym (find_same s es n are ∙ ap (λ k. option_map (placed n) (option_and_then (get s) k)) (lookup_in 3 are.high es n key are.rising there))
+
+pub if_some_as : {X : Type 0} (o : Option X) (P Q : X → Type 0) → ((x : X) → P x → Q x) → IfSome o P → IfSome o Q
+if_some_as None P Q f h = tt
+if_some_as (Some x) P Q f h = f x h

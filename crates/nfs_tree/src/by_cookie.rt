@@ -6,12 +6,14 @@ ghost use Rattle.nfs_xdr.specs.Tables.{IsRising, record_at, without_record};
 ghost use Rattle.nfs_tree.specs.Indexed.{placed, IsShelved};
 
 use crate::key::short_key;
+use crate::rising::Rising;
 use crate::row::{Naming, Row};
 use crate::seen::Seen;
 use slab::Slab;
 use std::alloc::{AllocError, Global};
 use std::collections::BTreeMap;
 use std::marker::Model;
+use std::ops::Bound;
 
 /// Rows by their cookies. Contracts see the list of them, in rising order of their cookies.
 #[derive(Drop)]
@@ -59,6 +61,17 @@ impl ByCookie {
         match self.keys.get(&cookie) {
             None => None,
             Some(key) => self.slab.get(*key as usize),
+        }
+    }
+
+    /// The rows, to be looked up by rising cookies behind this one.
+    pub(crate) fn rising(&self, cookie: u64) -> Rising<'_>
+        ensures { result ≡ self.now }
+    {
+        Rising {
+            slab: &self.slab,
+            keys: &self.keys,
+            next: self.keys.range((Bound::Excluded(cookie), Bound::Unbounded)),
         }
     }
 

@@ -7,6 +7,7 @@ ghost use Rattle.nfs_tree.specs.Listing.{listed_of};
 ghost use Rattle.nfs_tree.specs.Left.{ArePaired};
 
 use crate::by_cookie::ByCookie;
+use crate::rising::Rising;
 use crate::tree::Tree;
 use std::alloc::Global;
 use std::collections::BTreeMap;
@@ -28,7 +29,7 @@ pub struct Entry<'a> {
 /// The entries of a directory by rising cookie. Contracts see the list of those that are left.
 #[derive(Drop)]
 pub struct Listing<'a> {
-    rows: &'a ByCookie,
+    rows: Rising<'a>,
     directory: u64,
     /// That of the entry before.
     cookie: u64,
@@ -43,9 +44,9 @@ impl<'a> Model for Listing<'a> {
 
     ghost Value = { List Listed };
 
-    ghost view = { λ l. listing l.rows.now l.directory l.cookie };
+    ghost view = { λ l. listing l.rows l.directory l.cookie };
 
-    ghost invariant = { λ l. AreLeft l.rows.now l.directory l.cookie l.left };
+    ghost invariant = { λ l. AreLeft l.rows l.directory l.cookie l.left };
 }
 
 impl<'a> Listing<'a> {
@@ -61,7 +62,7 @@ impl<'a> Listing<'a> {
     {
         let behind = (Bound::Excluded((directory, cookie)), Bound::Unbounded);
         Listing {
-            rows,
+            rows: rows.rising(cookie),
             directory,
             cookie,
             left: pairs.range(behind),
