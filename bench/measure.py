@@ -70,10 +70,11 @@ def least(program, path, times=3):
     return min(found)
 
 
-def wants_valgrind():
-    """Ends the script with a line unless valgrind is here."""
-    if not shutil.which("valgrind"):
-        sys.exit(f"{name()}: it wants valgrind, which is not here")
+def wants(*tools):
+    """Ends the script with a line unless these tools are here."""
+    for tool in tools:
+        if not shutil.which(tool):
+            sys.exit(f"{name()}: it wants {tool}, which is not here")
 
 
 def is_idle(process, pipe):

@@ -36,13 +36,13 @@ def replayed(script, environment=None, words=()):
 
 class Served:
     """The program, serving so many connections on a port of the loopback that it took itself, with the options given; `files` limits how many
-    files it may have open."""
+    files it may have open, and `under` is the words of a tool that runs it."""
 
-    def __init__(self, connections, *options, files=None, program=PROGRAM):
+    def __init__(self, connections, *options, files=None, program=PROGRAM, under=()):
         self.told = tempfile.TemporaryFile()
         limited = ["sh", "-c", f'ulimit -n {files} && exec "$@"', "sh"] if files else []
         self.program = subprocess.Popen(
-            [*limited, program, "serve", "--listen", f"{HERE}:0", "--connections", str(connections), *options],
+            [*limited, *under, program, "serve", "--listen", f"{HERE}:0", "--connections", str(connections), *options],
             stdin=subprocess.DEVNULL, stdout=subprocess.PIPE, stderr=self.told)
         try:
             self.port = self.listening()

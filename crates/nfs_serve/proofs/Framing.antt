@@ -1,5 +1,5 @@
 -- The connection's number and the record mark in front of a reply.
-use Rattle.std.proofs.Common.{◌≡◌, ℕ, Option, ◌+◌, ◌≤◌, List, ◌++◌, length, take, drop, refl, sym, ap, ◌∙◌, arith, [], length-append, length-drop, append_assoc}
+use Rattle.std.proofs.Common.{◌≡◌, ℕ, Option, ◌+◌, ◌≤◌, List, ◌++◌, length, take, drop, refl, sym, ap, ◌∙◌, arith, [], length-append, length-drop, append-nil, append_assoc}
 use Rattle.std.proofs.lemmas.List.{take_at, drop_at, drop-drop}
 use Rattle.nfs_xdr.specs.Spelling.{number, hyper}
 use Rattle.nfs_xdr.proofs.Putting.{length_number}
@@ -53,3 +53,15 @@ pub lent : (form : Form) (conn : ℕ) (outcome : Outcome) (answer : Option (List
     → IsAnswer outcome answer reply → spell_answer form conn answer ≡ spell_lent form conn outcome reply
 lent form conn Reply answer reply is = ap (spell_answer form conn) is
 lent form conn Silent answer reply is = ap (spell_answer form conn) is.0
+
+-- what is owed, with a record mark behind it that was written over another, and what that one stands before
+pub marked : (owed text : List ℕ) (n mark : ℕ) → n ≡ length owed
+    → take n ((owed ++ number mark) ++ text) ++ one_fragment (drop (n + 4) ((owed ++ number mark) ++ text)) ≡ owed ++ one_fragment text
+marked owed text n mark size =
+    let long : length (owed ++ number mark) ≡ n + 4 = omega (arith, length-append owed (number mark), length_number mark, size) in
+    ap (λ l. take n l ++ one_fragment (drop (n + 4) ((owed ++ number mark) ++ text))) (append_assoc owed (number mark) text)
+    ∙ ap (λ l. l ++ one_fragment (drop (n + 4) ((owed ++ number mark) ++ text))) (take_at owed (number mark ++ text) n (sym size))
+    ∙ ap (λ l. owed ++ one_fragment l) (drop_at (owed ++ number mark) text (n + 4) long)
+
+pub unmarked : (owed : List ℕ) (n mark : ℕ) → n ≡ length owed → take n ((owed ++ number mark) ++ []) ≡ owed
+unmarked owed n mark size = ap (take n) (append-nil (owed ++ number mark)) ∙ take_at owed (number mark) n (sym size)

@@ -15,7 +15,9 @@ use Rattle.nfs_exec.specs.Machine.{Machine}
 use Rattle.nfs_exec.specs.Expiry.{expired}
 use Rattle.nfs_serve.specs.Step.{State, Stepped, refused, reply_to, step}
 use Rattle.nfs_serve.specs.Server.{IsAnswer}
-use Rattle.nfs_serve.specs.Engine.{PutsReply, outcome_of}
+use Rattle.nfs_serve.specs.Engine.{PutsReply, PutsAnswer, outcome_of}
+use Rattle.nfs_serve.specs.declared.form.Outcome.{Outcome}
+use Rattle.nfs_serve.specs.declared.form.Outcome.TheVariants as Outcomes
 
 -- what a step is, once its call is known
 pub step_of : (s : State) (bytes : List ℕ) (now moment : ℕ) (choice : Option ℕ) (tables : Machine) (called : Called)
@@ -35,12 +37,28 @@ unfolding spell_refusal
 silence = refl
 
 -- what a refusal puts is its reply, where it is answered
-pub refusal_lies : (s : State) (refusal : Refusal) (old new : SheetState) → length old.bytes ≡ 8 → Puts old new (spell_refusal refusal)
-    → IsAnswer (outcome_of refusal) (refused s refusal).reply (drop 8 new.bytes) × ((refused s refusal).state ≡ s)
-refusal_lies s Silent old new front put = ((refl, ap (drop 8) put.bytes ∙ drop_at old.bytes (spell_refusal Silent) 8 front ∙ silence), refl)
-refusal_lies s (Mismatch xid) old new front put = (ap Some (sym (ap (drop 8) put.bytes ∙ drop_at old.bytes (spell_refusal (Mismatch xid)) 8 front)), refl)
-refusal_lies s (Auth xid stat) old new front put = (ap Some (sym (ap (drop 8) put.bytes ∙ drop_at old.bytes (spell_refusal (Auth xid stat)) 8 front)), refl)
-refusal_lies s (Accept xid stat) old new front put = (ap Some (sym (ap (drop 8) put.bytes ∙ drop_at old.bytes (spell_refusal (Accept xid stat)) 8 front)), refl)
+pub refusal_puts : (s : State) (refusal : Refusal) (old new : SheetState) → Puts old new (spell_refusal refusal)
+    → PutsAnswer (outcome_of refusal) (refused s refusal) old new s
+refusal_puts s Silent old new put = (refl, subst (Puts old new) silence put, refl)
+refusal_puts s (Mismatch xid) old new put = record { text = _; reply = refl; put = put; state = refl }
+refusal_puts s (Auth xid stat) old new put = record { text = _; reply = refl; put = put; state = refl }
+refusal_puts s (Accept xid stat) old new put = record { text = _; reply = refl; put = put; state = refl }
+
+-- what was put behind the front of the sheet is the answer
+pub answer_lies : (outcome : Outcome) (r : Stepped) (old new : SheetState) (left : State) → length old.bytes ≡ 8 → PutsAnswer outcome r old new left
+    → IsAnswer outcome r.reply (drop 8 new.bytes) × (left ≡ r.state)
+answer_lies Outcomes.Reply r old new left front h = (lies_behind front h, h.state)
+answer_lies Outcomes.Silent r old new left front h = ((h.0, ap (drop 8) h.1.bytes ∙ drop_at old.bytes [] 8 front), h.2)
+
+-- and nothing in front of it has changed
+pub answer_behind : (outcome : Outcome) (r : Stepped) (old new : SheetState) (left : State) → PutsAnswer outcome r old new left
+    → (length old.bytes ≤ length new.bytes) × (new.room ≡ old.room)
+answer_behind Outcomes.Reply r old new left h =
+    let long = ap length h.put.bytes ∙ length-append old.bytes h.text in
+    (omega (arith, long), h.put.room)
+answer_behind Outcomes.Silent r old new left h =
+    let long = ap length h.1.bytes ∙ length-append old.bytes [] in
+    (omega (arith, long), h.1.room)
 
 -- Leases.
 

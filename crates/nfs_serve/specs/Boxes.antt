@@ -7,10 +7,6 @@ use Rattle.nfs_serve.specs.Deeds.{Deed, Logs}
 use Rattle.nfs_serve.specs.declared.ports.Came.{Came}
 use Rattle.nfs_serve.specs.declared.ports.Came.TheVariants as read
 
--- the most bytes of a reply with its mark
-abbrev pub largest_answer : ℕ
-largest_answer = 70004
-
 -- the bytes, and how much of the room was laid out since it was last cleared
 pub record OutboxModel : Type 0 where
   pub bytes : List ℕ

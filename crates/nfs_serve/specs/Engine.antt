@@ -1,6 +1,6 @@
 -- What contracts see of the part of the server that steps records and keeps their replies on a sheet; private contracts
 -- alone speak of it.
-use Rattle.std.specs.Prelude.{◌≡◌, ℕ, List, [], drop, Some}
+use Rattle.std.specs.Prelude.{◌≡◌, ℕ, List, [], drop, Some, None}
 use Rattle.nfs_xdr.specs.SheetState.{SheetState, Puts}
 use Rattle.nfs_rpc.specs.declared.refusal.Refusal.{Refusal}
 use Rattle.nfs_rpc.specs.declared.refusal.Refusal.TheVariants as Refusals
@@ -30,6 +30,11 @@ pub record PutsReply (stepped : Stepped) (old new : SheetState) (left : State) :
   pub reply : stepped.reply ≡ Some text
   pub put : Puts old new text
   pub state : left ≡ stepped.state
+
+-- or there is none
+abbrev pub PutsAnswer : Outcome → Stepped → SheetState → SheetState → State → Type 0
+PutsAnswer Reply stepped old new left = PutsReply stepped old new left
+PutsAnswer Silent stepped old new left = (stepped.reply ≡ None) × Puts old new [] × (left ≡ stepped.state)
 
 -- a reply behind its connection's number, as the form has it
 abbrev pub in_form : Form → List ℕ → List ℕ

@@ -96,12 +96,18 @@ impl Connection {
         ensures used { (0 < result) × (result ≤ length piece.now) }
         ensures taken { (out : List ℕ) × TakesPart conn (state_of engine.old.kept) self.old now (take result piece.now) (state_of engine.new.kept) self.new out × (owed.new.bytes ≡ owed.old.bytes ++ out) }
     {
-        match take_first(&mut self.records, alloc, engine, piece, now) {
-            First::Nothing => piece.len(),
-            First::TooLong => piece.len(),
-            First::Record(used, outcome) => {
-                engine.owe_answer(outcome, conn, owed);
-                used
+        // A record that stands whole in the piece is stepped where it stands.
+        if let Some(call) = self.records.whole(piece) {
+            owed.answer(alloc, engine, call, now);
+            return MARK + call.len();
+        }
+        match self.records.feed(piece) {
+            Fed::More => piece.len(),
+            Fed::TooLong => piece.len(),
+            Fed::Whole(taken) => {
+                owed.answer(alloc, engine, self.records.record(), now);
+                self.records.take();
+                taken
             }
         }
     }

@@ -1,24 +1,23 @@
 //! The step of one record: from the bytes of a call to those of its reply (RFC 5531 section 9; RFC 8881 section 16).
 
-ghost use Rattle.std.specs.Prelude.{◌≡◌, ◌≤◌, ◌+◌, ◌++◌, ℕ, [], length, drop, Option, IfOk, false};
+ghost use Rattle.std.specs.Prelude.{◌≡◌, ◌≤◌, ◌+◌, ◌++◌, ℕ, [], length, drop, max, Option, IfOk, false};
 ghost use Rattle.nfs_xdr.specs.Spelling.{number};
 ghost use Rattle.nfs_rpc.specs.View as view;
 ghost use Rattle.nfs_compound.specs.ReadRequest.{request_at};
+ghost use Rattle.nfs_exec.specs.Expiry.{expired};
 ghost use Rattle.nfs_exec.specs.Machine.{IsMachine, HasNoClashes, machine_of};
-ghost use Rattle.nfs_serve.specs.Step.{State, step, new_state, by_procedure, with_arguments};
+ghost use Rattle.nfs_rpc.specs.CallHead.{call_of};
+ghost use Rattle.nfs_serve.specs.Step.{State, step, new_state, reply_to, by_procedure, with_arguments};
 ghost use Rattle.nfs_serve.specs.Run.{one_fragment, spell_reply};
 ghost use Rattle.nfs_serve.specs.Server.{IsAnswer, state_of};
 ghost use Rattle.nfs_lease.specs.Queue.{IsLatest};
-ghost use Rattle.nfs_serve.specs.Engine.{PutsReply, outcome_of, in_form, spell_lent};
+ghost use Rattle.nfs_serve.specs.Engine.{PutsReply, PutsAnswer, outcome_of, in_form, spell_lent};
 ghost use Rattle.nfs_serve.specs.Ends.{Writes};
 ghost use Rattle.nfs_serve.specs.Script.{last_moment};
-ghost use Rattle.nfs_serve.specs.Desk.{most_owed};
-ghost use Rattle.nfs_serve.specs.declared.form.Form.TheVariants.{Plain};
 
 use crate::Sink;
 use crate::form::{Form, Outcome};
 use crate::moving::{WriteFailed, put};
-use crate::outbox::Outbox;
 use nfs_compound::{Compound, Garbage};
 use nfs_exec::World;
 use nfs_rpc::{AcceptStat, Call, LAST_FRAGMENT, Procedure, Refusal, write_head, write_refusal};
@@ -79,27 +78,35 @@ impl Engine {
         requires { now ≤ last_moment }
         ensures { (choice : Option ℕ) × IsAnswer result (step (state_of self.old.kept) call.now now choice).reply self.new.reply × ((state_of self.new.kept) ≡ (step (state_of self.old.kept) call.now now choice).state) }
     {
+        self.pass(now);
+        self.sheet.cut(FRONT);
+        put_record(alloc, &mut self.world, call, self.moment, &mut self.sheet)
+    }
+
+    /// Steps a record at a moment, and puts its reply on a sheet that leaves.
+    pub(crate) fn record_onto(
+        &mut self,
+        alloc: Global,
+        call: &[u8],
+        now: u64,
+        out: &mut Sheet,
+    ) -> Outcome
+        requires now { now ≤ last_moment }
+        requires room { length out.old.bytes + 70000 ≤ out.old.room }
+        ensures { (choice : Option ℕ) × PutsAnswer result (step (state_of self.old.kept) call.now now choice) out.old out.new (state_of self.new.kept) }
+    {
+        self.pass(now);
+        put_record(alloc, &mut self.world, call, self.moment, out)
+    }
+
+    /// Takes a moment, unless a later one was taken, and what has run out by then goes.
+    fn pass(&mut self, now: u64)
+        requires { now ≤ last_moment }
+        ensures moment { self.new.kept.moment ≡ max self.old.kept.moment now }
+        ensures tables { machine_of self.new.kept.world ≡ expired self.new.kept.moment (machine_of self.old.kept.world) }
+    {
         self.moment = self.moment.max(now);
         self.world.expire(self.moment);
-        self.sheet.cut(FRONT);
-        let size = call.len();
-        match Call::read(call) {
-            Ok(call) => {
-                put_answer(
-                    alloc,
-                    &mut self.world,
-                    &call,
-                    size,
-                    self.moment,
-                    &mut self.sheet,
-                );
-                Outcome::Reply
-            }
-            Err(refusal) => {
-                write_refusal(&refusal, &mut self.sheet);
-                outcome_of(&refusal)
-            }
-        }
     }
 
     /// No byte has a writer beside another holder, and no two owners' opens clash; this does nothing but say so.
@@ -149,22 +156,6 @@ impl Engine {
         }
     }
 
-    /// Puts what a record was answered, with its record mark alone, behind what is owed. No answer is longer than the room that
-    /// the outbox keeps for one.
-    pub(crate) fn owe_answer(&mut self, outcome: Outcome, conn: u32, out: &mut Outbox)
-        requires { out.old.laid ≤ most_owed }
-        ensures owed { out.new.bytes ≡ out.old.bytes ++ spell_lent Plain conn outcome self.old.reply }
-        ensures same { self.new ≡ self.old }
-    {
-        match outcome {
-            Outcome::Reply => {
-                frame(&mut self.sheet, conn);
-                out.put(in_form(self.sheet.bytes(), Form::Plain));
-            }
-            Outcome::Silent => {}
-        }
-    }
-
     /// Writes the reply that was made last.
     fn put_reply<W: Sink>(&mut self, conn: u32, form: Form, out: &mut W) -> Result<(), WriteFailed>
         requires { W.has_failed out.old ≡ false }
@@ -173,6 +164,27 @@ impl Engine {
     {
         frame(&mut self.sheet, conn);
         put(out, in_form(self.sheet.bytes(), form))
+    }
+}
+
+/// Answers a record at a moment, and puts the reply, where there is one.
+fn put_record(alloc: Global, world: &mut World, bytes: &[u8], now: u64, out: &mut Sheet) -> Outcome
+    requires now { now ≤ last_moment }
+    requires latest { IsLatest (machine_of world.old).leases now }
+    requires room { length out.old.bytes + 70000 ≤ out.old.room }
+    ensures answer { let before : State = record { machine = machine_of world.old; moment = now } in
+        (choice : Option ℕ) × PutsAnswer result (reply_to before (length bytes.now) choice (call_of bytes.now)) out.old out.new (record { machine = machine_of world.new; moment = now }) }
+    ensures latest { IsLatest (machine_of world.new).leases now }
+{
+    match Call::read(bytes) {
+        Ok(call) => {
+            put_answer(alloc, world, &call, bytes.len(), now, out);
+            Outcome::Reply
+        }
+        Err(refusal) => {
+            write_refusal(&refusal, out);
+            outcome_of(&refusal)
+        }
     }
 }
 
