@@ -47,32 +47,6 @@ reads_between xs mid ys none later few =
     (sym (filter-append is_of_read (xs ++ mid) ys ∙ ap (λ l. filter is_of_read (xs ++ mid) ++ l) later ∙ append-nil (filter is_of_read (xs ++ mid))))
     (reads_last xs mid none few)
 
--- how many parts are stepped: as often as the moment was asked for
-steps_asked : (acts : List Act) → step_count acts ≡ length (flat_map asked acts)
-steps_asked [] = refl
-steps_asked (Opened ∷ acts) = steps_asked acts
-steps_asked (Over ∷ acts) = steps_asked acts
-steps_asked (Came bytes ∷ acts) = steps_asked acts
-steps_asked (ReadBlocked ∷ acts) = steps_asked acts
-steps_asked (Ended ∷ acts) = steps_asked acts
-steps_asked (Took bytes ∷ acts) = steps_asked acts
-steps_asked (WriteBlocked ∷ acts) = steps_asked acts
-steps_asked (Failed ∷ acts) = steps_asked acts
-steps_asked (Closed ∷ acts) = steps_asked acts
-steps_asked (Stepped moment part ∷ acts) = ap suc (steps_asked acts)
-
-pub steps_append : (xs ys : List Act) → step_count (xs ++ ys) ≡ step_count xs + step_count ys
-steps_append xs ys = ap length (filter-append is_step xs ys) ∙ length-append (filter is_step xs) (filter is_step ys)
-
--- of some that may be stepped, these were, and then some more, or none
-pub counts_more : (xs ys : List Act) (before mid left : ℕ) → step_count xs + mid ≡ before → step_count ys + left ≡ mid → step_count (xs ++ ys) + left ≡ before
-counts_more xs ys before mid left p q = omega (arith, steps_append xs ys, p, q)
-
-pub counts_none : (xs ys : List Act) (before left : ℕ) → step_count xs + left ≡ before → flat_map asked ys ≡ [] → step_count (xs ++ ys) + left ≡ before
-counts_none xs ys before left p none =
-    let zero : step_count ys ≡ 0 = steps_asked ys ∙ ap length none in
-    omega (arith, steps_append xs ys, p, zero)
-
 pub stays : (port : ℕ) (s : State) (d : Desk) (l : Option (List Deed)) (c : Option (List ℕ)) → Advances port [] s d s d l l c c
 stays port s d l c = record { goes = (refl, refl); logs = Logs-nil l; clock = Appends-nil c }
 

@@ -7,6 +7,7 @@ pub mod Speaking
 pub mod Framing
 pub mod Owing
 pub mod Advancing
+pub mod Spending
 pub mod TurnEnds
 pub mod Rounds
 pub mod Sweeps

@@ -18,6 +18,10 @@ most_owed = 65536
 abbrev pub most_steps : ℕ
 most_steps = 16
 
+-- and while the peer took fewer bytes than this in it
+abbrev pub most_taken : ℕ
+most_taken = 65536
+
 -- A port: whether a connection is served there, whether it has ended or failed and is to be closed, what is held of its stream, how
 -- many pieces were read, what came and was not stepped, and what is owed.
 pub record Desk : Type 0 where
@@ -136,14 +140,30 @@ is_step act = false
 abbrev pub step_count : List Act → ℕ
 step_count acts = length (filter is_step acts)
 
+abbrev pub taken_by : Act → ℕ
+taken_by (Took bytes) = length bytes
+taken_by act = 0
+
+-- how many bytes the peer takes
+abbrev pub taken_count : List Act → ℕ
+taken_count [] = 0
+taken_count (a ∷ acts) = taken_by a + taken_count acts
+
+-- each part is stepped before the peer took so many bytes
+abbrev pub StepsBefore : ℕ → List Act → Type 0
+StepsBefore most acts = (front : List Act) (moment : ℕ) (part : List ℕ) (back : List Act)
+    → acts ≡ front ++ Stepped moment part ∷ back → taken_count front < most
+
 -- what came waits to be stepped, and nothing hinders it: no reply is owed
 pub record HasMore (d : Desk) : Type 0 where
   pub live : d.live ≡ true
   pub owed : d.owed ≡ []
   pub unread : 0 < length d.unread
 
--- A turn steps 16 parts at most. It ends only where there is no connection, where the peer takes no more of what is owed, where a read was
--- asked for and all that came is answered, or where 16 were stepped and are answered, and more waits.
+-- A turn steps 16 parts at most, and each before its peer took 64 KiB in it. It ends only where there is no connection, where the peer takes no
+-- more of what is owed, where a read was asked for and all that came is answered, or where 16 were stepped or 64 KiB taken, nothing is owed, and
+-- more waits.
 abbrev pub EndsTurn : List Act → Desk → Type 0
-EndsTurn acts d = ReadsOnce acts × (step_count acts ≤ most_steps)
-    × ((d.live ≡ false) ⊎ IsStuck acts d ⊎ ((d.unread ≡ []) × (d.owed ≡ []) × Reads acts) ⊎ (HasMore d × (step_count acts ≡ most_steps)))
+EndsTurn acts d = ReadsOnce acts × (step_count acts ≤ most_steps) × StepsBefore most_taken acts
+    × ((d.live ≡ false) ⊎ IsStuck acts d ⊎ ((d.unread ≡ []) × (d.owed ≡ []) × Reads acts)
+    ⊎ (HasMore d × ((step_count acts ≡ most_steps) ⊎ (most_taken ≤ taken_count acts))))

@@ -1,10 +1,11 @@
 -- What a port's fields stand for, and how far its functions bring it; private contracts alone speak of it.
-use Rattle.std.specs.Prelude.{◌≡◌, ◌⊎◌, ℕ, ◌+◌, ◌<◌, ◌≤◌, List, [], ◌∷◌, ◌++◌, length, map, filter, flat_map, Bool, true, false, Option}
+use Rattle.std.specs.Prelude.{◌≡◌, ◌⊎◌, ℕ, ◌+◌, ◌-◌, ◌<◌, ◌≤◌, List, [], ◌∷◌, ◌++◌, length, map, filter, flat_map, Bool, true, false, Option}
 use Rattle.std.specs.Io.KnownBytes.{Appends}
 use Rattle.nfs_rpc.specs.RecordMarking.{is_too_long}
 use Rattle.nfs_serve.specs.Step.{State}
-use Rattle.nfs_serve.specs.Desk.{Desk, closed, Act, StepsPart, Goes, IsStuck, is_of_read, step_count, HasMore, EndsTurn}
+use Rattle.nfs_serve.specs.Desk.{Desk, closed, Act, StepsPart, Goes, IsStuck, is_of_read, is_step, step_count, taken_by, taken_count, HasMore, EndsTurn}
 use Rattle.nfs_serve.specs.Deeds.{Deed, Logs, shown, asked}
+use Rattle.nfs_serve.specs.declared.lane.Budget.{Budget}
 use Rattle.nfs_serve.specs.declared.lane.Lane.{Lane}
 use Rattle.nfs_serve.specs.declared.lane.Rest.{Rest}
 use Rattle.nfs_serve.specs.declared.lane.Rest.TheVariants.{Clear, Stuck, Gone}
@@ -34,15 +35,26 @@ pub record Quiet (port : ℕ) (acts : List Act) (d e : Desk) (l0 l1 : Option (Li
   pub unasked : flat_map asked acts ≡ []
   pub no_reads : filter is_of_read acts ≡ []
 
-abbrev pub Flushes : Rest → ℕ → Desk → Desk → Option (List Deed) → Option (List Deed) → Type 0
-Flushes rest port d e l0 l1 = (acts : List Act) × Quiet port acts d e l0 l1 × FlushesTo rest acts d e
+-- each part is stepped where the peer may still take some bytes, of so many
+abbrev pub StepsWithin : ℕ → List Act → Type 0
+StepsWithin left [] = Unit {0}
+StepsWithin left (a ∷ acts) = (is_step a ≡ true → 0 < left) × StepsWithin (left - taken_by a) acts
 
--- all that came was stepped, or as many parts as may be, and more waits
-abbrev pub HasHadEnough : ℕ → List ℕ → Type 0
-HasHadEnough left unread = (unread ≡ []) ⊎ ((0 < length unread) × (left ≡ 0))
+-- what acts use up of what may be done in a turn
+pub record Spends (acts : List Act) (old new : Budget) : Type 0 where
+  pub steps : step_count acts + new.steps ≡ old.steps
+  pub bytes : new.bytes ≡ old.bytes - taken_count acts
+  pub within : StepsWithin old.bytes acts
 
--- what came to rest, where so many parts may still be stepped in its turn
-abbrev pub Settles : Rest → List Act → Desk → ℕ → Type 0
+abbrev pub Flushes : Rest → ℕ → Desk → Desk → Option (List Deed) → Option (List Deed) → Budget → Budget → Type 0
+Flushes rest port d e l0 l1 old new = (acts : List Act) × Quiet port acts d e l0 l1 × FlushesTo rest acts d e × Spends acts old new
+
+-- all that came was stepped; or as many parts as may be, or as many bytes were taken, and more waits
+abbrev pub HasHadEnough : Budget → List ℕ → Type 0
+HasHadEnough left unread = (unread ≡ []) ⊎ ((0 < length unread) × ((left.steps ≡ 0) ⊎ (left.bytes ≡ 0)))
+
+-- what came to rest, where so much may still be done in its turn
+abbrev pub Settles : Rest → List Act → Desk → Budget → Type 0
 Settles Clear acts e left = (e.live ≡ true) × (e.gone ≡ false) × (is_too_long e.stream ≡ false) × HasHadEnough left e.unread × (e.owed ≡ [])
 Settles Stuck acts e left = IsStuck acts e
 Settles Gone acts e left = e ≡ closed
@@ -60,10 +72,10 @@ StepsOne port s t a b c0 c1 = (moment : ℕ) × (part : List ℕ) × (out : List
     × StepsPart port s (desk_of a) moment part t b.connection b.unread out
     × (b.owed.bytes ≡ a.owed.bytes ++ out) × (b.live ≡ a.live) × (b.reads ≡ a.reads) × (length b.unread < length a.unread)
 
--- some parts were stepped, of `before` that might be, and so many still may be
-abbrev pub StepsSome : ℕ → State → State → Lane → Lane → Option (List ℕ) → Option (List ℕ) → ℕ → ℕ → Type 0
+-- some parts were stepped, of what may be done
+abbrev pub StepsSome : ℕ → State → State → Lane → Lane → Option (List ℕ) → Option (List ℕ) → Budget → Budget → Type 0
 StepsSome port s t a b c0 c1 before left = (acts : List Act) × Working port acts s (desk_of a) t (desk_of b) c0 c1 × (b.live ≡ a.live)
-    × (length b.unread < length a.unread) × (step_count acts + left ≡ before)
+    × (length b.unread < length a.unread) × (left.bytes ≡ before.bytes) × Spends acts before left
 
 -- a port is passed over only where nothing waits that might be stepped
 pub record Passes (s : State) (d : Desk) (t : State) (e : Desk) (l0 l1 : Option (List Deed)) (c0 c1 : Option (List ℕ)) : Type 0 where

@@ -1,11 +1,11 @@
 //! One connection of many: what came, what is owed, and its turn.
 
-ghost use Rattle.std.specs.Prelude.{◌≡◌, ◌≤◌, ◌<◌, ◌+◌, ℕ, List, [], length, filter, true, false, IfOk};
+ghost use Rattle.std.specs.Prelude.{◌≡◌, ◌⊎◌, ◌≤◌, ◌<◌, ℕ, List, [], length, filter, true, false, IfOk};
 ghost use Rattle.nfs_rpc.specs.RecordMarking.{is_too_long};
 ghost use Rattle.nfs_serve.specs.Server.{state_of};
 ghost use Rattle.nfs_serve.specs.Script.{last_connection};
-ghost use Rattle.nfs_serve.specs.Desk.{Act, closed, opened, most_owed, EndsTurn, is_of_read, step_count, HasMore};
-ghost use Rattle.nfs_serve.specs.Lane.{desk_of, Advances, Flushes, Settles, StepsOne, StepsSome, Visits};
+ghost use Rattle.nfs_serve.specs.Desk.{Act, closed, opened, most_owed, EndsTurn, is_of_read, HasMore};
+ghost use Rattle.nfs_serve.specs.Lane.{desk_of, Advances, Flushes, Settles, Spends, StepsOne, StepsSome, Visits};
 ghost use Rattle.nfs_serve.specs.Boxes as boxes;
 
 use crate::Clock;
@@ -20,6 +20,9 @@ use std::alloc::{AllocError, Global};
 /// How many times a turn steps at most, each time no more than one record, so that other ports have theirs.
 const MOST_STEPS: u32 = 16;
 
+/// How many bytes its peer takes in a turn, before no further record is stepped in it.
+const MOST_TAKEN: usize = 65_536;
+
 /// A port, and the connection on it, if there is one.
 #[derive(Drop)]
 pub(crate) struct Lane {
@@ -28,6 +31,25 @@ pub(crate) struct Lane {
     connection: Connection,
     unread: Inbox,
     owed: Outbox,
+}
+
+/// What may still be done in a turn.
+#[derive(Drop)]
+pub(crate) struct Budget {
+    /// How many records may be stepped.
+    steps: u32,
+    /// How many bytes the peer may take, before no further record is stepped.
+    bytes: usize,
+}
+
+impl Budget {
+    /// Whether no further record may be stepped.
+    fn is_spent(&self) -> bool
+        ensures spent { result ≡ true → (self.now.steps ≡ 0) ⊎ (self.now.bytes ≡ 0) }
+        ensures left { result ≡ false → (0 < self.now.steps) × (0 < self.now.bytes) }
+    {
+        self.steps == 0 || self.bytes == 0
+    }
 }
 
 /// How far a lane came.
@@ -75,14 +97,17 @@ impl Lane {
     }
 
     /// Writes what is owed, as far as the peer takes it.
-    fn flush<P: Ports>(&mut self, port: u32, ports: &mut P) -> Rest
+    fn flush<P: Ports>(&mut self, port: u32, ports: &mut P, left: &mut Budget) -> Rest
         requires port { port ≤ last_connection }
         requires live { self.old.live ≡ true }
-        ensures { Flushes result port (desk_of self.old) (desk_of self.new) (P.log ports.old) (P.log ports.new) }
+        ensures { Flushes result port (desk_of self.old) (desk_of self.new) (P.log ports.old) (P.log ports.new) left.old left.new }
     {
         while !self.owed.rest().is_empty() {
             match ports.write(port, self.owed.rest()) {
-                Took::Bytes(n) => self.owed.consume(n),
+                Took::Bytes(n) => {
+                    self.owed.consume(n);
+                    left.bytes = left.bytes.saturating_sub(n);
+                }
                 Took::Blocked => return Rest::Stuck,
                 Took::Failed => {
                     ports.close(port);
@@ -129,21 +154,22 @@ impl Lane {
         engine: &mut Engine,
         port: u32,
         clock: &mut C,
-        left: &mut u32,
+        left: &mut Budget,
     )
         requires live { self.old.live ≡ true }
         requires short { is_too_long self.old.connection ≡ false }
         requires some { 0 < length self.old.unread }
         requires empty { length self.old.owed.bytes ≡ 0 }
-        requires left { 0 < left.old }
+        requires steps { 0 < left.old.steps }
+        requires bytes { 0 < left.old.bytes }
         ensures { StepsSome port (state_of engine.old.kept) (state_of engine.new.kept) self.old self.new (C.told clock.old) (C.told clock.new) left.old left.new }
     {
         self.owed.clear();
         self.step_one(alloc, engine, port, clock);
-        *left -= 1;
-        while *left > 0 && self.may_step() {
+        left.steps -= 1;
+        while left.steps > 0 && self.may_step() {
             self.step_one(alloc, engine, port, clock);
-            *left -= 1;
+            left.steps -= 1;
         }
     }
 
@@ -155,14 +181,14 @@ impl Lane {
         port: u32,
         ports: &mut P,
         clock: &mut C,
-        left: &mut u32,
+        left: &mut Budget,
     ) -> Rest
         requires port { port ≤ last_connection }
         requires live { self.old.live ≡ true }
-        ensures { (acts : List Act) × Advances port acts (state_of engine.old.kept) (desk_of self.old) (state_of engine.new.kept) (desk_of self.new) (P.log ports.old) (P.log ports.new) (C.told clock.old) (C.told clock.new) × Settles result acts (desk_of self.new) left.new × (filter is_of_read acts ≡ []) × (step_count acts + left.new ≡ left.old) }
+        ensures { (acts : List Act) × Advances port acts (state_of engine.old.kept) (desk_of self.old) (state_of engine.new.kept) (desk_of self.new) (P.log ports.old) (P.log ports.new) (C.told clock.old) (C.told clock.new) × Settles result acts (desk_of self.new) left.new × (filter is_of_read acts ≡ []) × Spends acts left.old left.new }
     {
         loop {
-            match self.flush(port, ports) {
+            match self.flush(port, ports, left) {
                 Rest::Clear => {}
                 Rest::Stuck => return Rest::Stuck,
                 Rest::Gone => return Rest::Gone,
@@ -175,7 +201,7 @@ impl Lane {
             if self.unread.rest().is_empty() {
                 return Rest::Clear;
             }
-            if *left == 0 {
+            if left.is_spent() {
                 return Rest::Clear;
             }
             self.step_some(alloc, engine, port, clock, left);
@@ -208,8 +234,8 @@ impl Lane {
         self.turn(alloc, engine, port, ports, clock);
     }
 
-    /// One turn: what waits is answered, then one read, then what came is answered. It ends where the peer takes no more, or where 16
-    /// records were stepped.
+    /// One turn: what waits is answered, then one read, then what came is answered. It ends where the peer takes no more, where 16 records
+    /// were stepped, or where the peer took 64 KiB.
     fn turn<P: Ports, C: Clock>(
         &mut self,
         alloc: Global,
@@ -224,7 +250,10 @@ impl Lane {
         if !self.live {
             return;
         }
-        let mut left = MOST_STEPS;
+        let mut left = Budget {
+            steps: MOST_STEPS,
+            bytes: MOST_TAKEN,
+        };
         match self.settle(alloc, engine, port, ports, clock, &mut left) {
             Rest::Clear => {}
             Rest::Stuck => return,

@@ -1,12 +1,12 @@
 -- What was taken so far were acts of this port; the rest is owed.
 use Rattle.std.proofs.Common.{◌≡◌, List, true, length}
 use Rattle.nfs_serve.specs.Desk.{Act}
-use Rattle.nfs_serve.specs.Lane.{desk_of, Quiet}
+use Rattle.nfs_serve.specs.Lane.{desk_of, Quiet, Spends}
 use Rattle.nfs_serve.proofs.lane.Lane.flush.Given as goal
 
 abbrev pub invariant-loop-ports : goal.invariant-loop-ports
 invariant-loop-ports g l =
-    ((acts : List Act) × Quiet l.port acts (desk_of l.fn.self) (desk_of l.self) (g.P.Ports.log l.fn.ports) (g.P.Ports.log l.ports))
+    ((acts : List Act) × Quiet l.port acts (desk_of l.fn.self) (desk_of l.self) (g.P.Ports.log l.fn.ports) (g.P.Ports.log l.ports) × Spends acts l.fn.left l.left)
     × (l.self.live ≡ true) × (l.self.connection ≡ l.fn.self.connection) × (l.self.reads ≡ l.fn.self.reads) × (l.self.unread ≡ l.fn.self.unread)
 
 abbrev pub decreases-loop-ports : goal.decreases-loop-ports

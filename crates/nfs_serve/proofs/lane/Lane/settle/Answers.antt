@@ -1,36 +1,37 @@
-use Rattle.std.proofs.Common.{◌≡◌, ◌<◌, rules, arith, refl, ap, ◌∙◌, [], ◌∷◌, ◌++◌, length, true, false, inl, inr, sym}
+use Rattle.std.proofs.Common.{◌≡◌, ◌⊎◌, ◌<◌, rules, arith, refl, ap, ◌∙◌, [], ◌∷◌, ◌++◌, length, true, false, inl, inr, sym}
 use Rattle.std.proofs.lemmas.List.{nil_from_length}
 use Rattle.nfs_serve.specs.Desk.{Closed}
 use Rattle.nfs_serve.specs.Lane.{desk_of}
-use Rattle.nfs_serve.proofs.Advancing.{goes_on, quiet_advances, quiet_on, quiet_act, working_advances, stuck_behind, none_read, counts_more, counts_none}
+use Rattle.nfs_serve.proofs.Advancing.{goes_on, quiet_advances, quiet_on, quiet_act, working_advances, stuck_behind, none_read}
+use Rattle.nfs_serve.proofs.Spending.{spends_on, spends_closed}
 use Rattle.nfs_serve.proofs.lane.Lane.settle.Goals as goal
 
 pub returns-in-Stuck : goal.returns-in-Stuck
 returns-in-Stuck g c =
-    let ((acts, so_far, none_yet, counted), live) = c.loop-self.invariant in
-    let (ys, quiet, stuck) = c.in-Stuck.ensures in (
+    let ((acts, so_far, none_yet, spent), live) = c.loop-self.invariant in
+    let (ys, quiet, stuck, flushed) = c.in-Stuck.ensures in (
       acts ++ ys,
       goes_on so_far ys _ _ _ _ (quiet_advances _ ys _ _ _ _ _ _ quiet),
       stuck_behind acts ys (desk_of c.flush.new.self) stuck,
       none_read acts ys none_yet quiet.no_reads,
-      counts_none acts ys _ _ counted quiet.unasked,
+      spends_on acts ys _ _ _ spent flushed,
     )
 
 pub returns-in-Gone : goal.returns-in-Gone
 returns-in-Gone g c =
-    let ((acts, so_far, none_yet, counted), live) = c.loop-self.invariant in
-    let (ys, quiet, gone) = c.in-Gone.ensures in (
+    let ((acts, so_far, none_yet, spent), live) = c.loop-self.invariant in
+    let (ys, quiet, gone, flushed) = c.in-Gone.ensures in (
       acts ++ ys,
       goes_on so_far ys _ _ _ _ (quiet_advances _ ys _ _ _ _ _ _ quiet),
       gone,
       none_read acts ys none_yet quiet.no_reads,
-      counts_none acts ys _ _ counted quiet.unasked,
+      spends_on acts ys _ _ _ spent flushed,
     )
 
 pub returns-then-is_too_long : goal.returns-then-is_too_long
 returns-then-is_too_long g c =
-    let ((acts, so_far, none_yet, counted), live) = c.loop-self.invariant in
-    let (ys, quiet, clear) = c.in-Clear.ensures in
+    let ((acts, so_far, none_yet, spent), live) = c.loop-self.invariant in
+    let (ys, quiet, clear, flushed) = c.in-Clear.ensures in
     let still : c.flush.new.self.live ≡ true = ap (λ d. d.live) clear ∙ live in
     let long = sym c.is_too_long.ensures ∙ c.if-is_too_long.true in
     let closing = quiet_on _ ys (Closed ∷ []) _ _ _ _ _ _ quiet
@@ -39,13 +40,13 @@ returns-then-is_too_long g c =
       goes_on so_far (ys ++ Closed ∷ []) _ _ _ _ (quiet_advances _ (ys ++ Closed ∷ []) _ _ _ _ _ _ closing),
       c.reset.ensures,
       none_read acts (ys ++ Closed ∷ []) none_yet closing.no_reads,
-      counts_none acts (ys ++ Closed ∷ []) _ _ counted closing.unasked,
+      spends_on acts (ys ++ Closed ∷ []) _ _ _ spent (spends_on ys (Closed ∷ []) _ _ _ flushed (spends_closed _)),
     )
 
 pub returns-then-is_empty : goal.returns-then-is_empty
 returns-then-is_empty g c =
-    let ((acts, so_far, none_yet, counted), live) = c.loop-self.invariant in
-    let (ys, quiet, clear) = c.in-Clear.ensures in
+    let ((acts, so_far, none_yet, spent), live) = c.loop-self.invariant in
+    let (ys, quiet, clear, flushed) = c.in-Clear.ensures in
     let still : c.flush.new.self.live ≡ true = ap (λ d. d.live) clear ∙ live in
     let none : length c.rest.result.now ≡ 0 = search rules in
     let unread : c.flush.new.self.unread ≡ [] = sym c.rest.ensures ∙ nil_from_length _ none in
@@ -54,36 +55,36 @@ returns-then-is_empty g c =
       goes_on so_far ys _ _ _ _ (quiet_advances _ ys _ _ _ _ _ _ quiet),
       (still, refl {a = false}, short, inl unread, ap (λ d. d.owed) clear),
       none_read acts ys none_yet quiet.no_reads,
-      counts_none acts ys _ _ counted quiet.unasked,
+      spends_on acts ys _ _ _ spent flushed,
     )
 
-pub returns-then-left-eq0 : goal.returns-then-left-eq0
-returns-then-left-eq0 g c =
-    let ((acts, so_far, none_yet, counted), live) = c.loop-self.invariant in
-    let (ys, quiet, clear) = c.in-Clear.ensures in
+pub returns-then-is_spent : goal.returns-then-is_spent
+returns-then-is_spent g c =
+    let ((acts, so_far, none_yet, spent), live) = c.loop-self.invariant in
+    let (ys, quiet, clear, flushed) = c.in-Clear.ensures in
     let still : c.flush.new.self.live ≡ true = ap (λ d. d.live) clear ∙ live in
     let some : 0 < length c.flush.new.self.unread = search rules in
-    let done : c.loop-self.left ≡ 0 = search rules in
+    let done : (c.flush.new.left.steps ≡ 0) ⊎ (c.flush.new.left.bytes ≡ 0) = c.is_spent.ensures.spent c.if-is_spent.true in
     let short = sym c.is_too_long.ensures ∙ c.if-is_too_long.false in (
       acts ++ ys,
       goes_on so_far ys _ _ _ _ (quiet_advances _ ys _ _ _ _ _ _ quiet),
       (still, refl {a = false}, short, inr (some, done), ap (λ d. d.owed) clear),
       none_read acts ys none_yet quiet.no_reads,
-      counts_none acts ys _ _ counted quiet.unasked,
+      spends_on acts ys _ _ _ spent flushed,
     )
 
 pub loop-self-preserved : goal.loop-self-preserved
 loop-self-preserved g c =
-    let ((acts, so_far, none_yet, counted), live) = c.loop-self.invariant in
-    let (ys, quiet, clear) = c.in-Clear.ensures in
+    let ((acts, so_far, none_yet, spent), live) = c.loop-self.invariant in
+    let (ys, quiet, clear, flushed) = c.in-Clear.ensures in
     let still : c.flush.new.self.live ≡ true = ap (λ d. d.live) clear ∙ live in
-    let (zs, working, same, shorter, some) = c.step_some.ensures in
-    let flushed = goes_on so_far ys _ _ _ _ (quiet_advances _ ys _ _ _ _ _ _ quiet) in (
+    let (zs, working, same, shorter, kept, stepped) = c.step_some.ensures in
+    let written = goes_on so_far ys _ _ _ _ (quiet_advances _ ys _ _ _ _ _ _ quiet) in (
       (
         (acts ++ ys) ++ zs,
-        goes_on flushed zs _ _ _ _ (working_advances _ zs _ _ _ _ _ _ _ working),
+        goes_on written zs _ _ _ _ (working_advances _ zs _ _ _ _ _ _ _ working),
         none_read (acts ++ ys) zs (none_read acts ys none_yet quiet.no_reads) working.no_reads,
-        counts_more (acts ++ ys) zs _ _ _ (counts_none acts ys _ _ counted quiet.unasked) some,
+        spends_on (acts ++ ys) zs _ _ _ (spends_on acts ys _ _ _ spent flushed) stepped,
       ),
       same ∙ still,
     )
