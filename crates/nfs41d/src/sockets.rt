@@ -1,6 +1,6 @@
 //! TCP connections as the ports of a hub, by readiness.
 
-ghost use Rattle.std.specs.Prelude.{◌≡◌, ◌≤◌, None, IfSome, IfOk};
+ghost use Rattle.std.specs.Prelude.{◌≡◌, ◌≤◌, ◌&&◌, not, true, false, None, IfSome, IfOk, if◌then◌else◌};
 ghost use Rattle.nfs_serve.specs.Script.{last_connection};
 
 use crate::clock::pace;
@@ -46,7 +46,10 @@ struct Slot {
 impl Slot {
     /// Notes that its peer took some bytes now, and answers whether they are the first of all. A read is asked for only where no reply is owed, so
     /// what is written first behind one answers a whole record: that is a sign of life, and bytes that come are none.
-    fn note_taken(&mut self, now: Option<Instant>) -> bool {
+    fn note_taken(&mut self, now: Option<Instant>) -> bool
+        ensures first { result ≡ (self.old.asked && not self.old.heard) }
+        ensures noted { self.new ≡ (if self.old.asked then record self.old { used = now; asked = false; heard = true } else self.old) }
+    {
         if !self.asked {
             return false;
         }
