@@ -1,9 +1,9 @@
 //! The system's clock, as the server reads it: for connections one after the other, and for many at once.
 
-ghost use Rattle.std.specs.Prelude.{◌≡◌, ◌≤◌, ◌<◌, ◌%◌, ◌^◌, ℕ, List, Option, [], ◌∷◌, None};
+ghost use Rattle.std.specs.Prelude.{◌≡◌, ◌≤◌, ◌<◌, ◌+◌, ◌%◌, ◌^◌, ℕ, max, List, Option, [], ◌∷◌, None, IfSome};
 ghost use Rattle.std.specs.Io.KnownBytes.{Appends};
 ghost use Rattle.nfs_serve.specs.Script.{last_moment};
-ghost use Rattle.nfs41d.specs.Seconds.{Reads, Answers, Paces, Rises, pace, shown, made_up};
+ghost use Rattle.nfs41d.specs.Seconds.{Reads, Answers, Paces, Rises, pace, risen, is_idle, begins, starts, fourths};
 
 use nfs_serve::{Clock, LAST_MOMENT};
 use std::rt;
@@ -73,53 +73,91 @@ impl<S: Seconds> Clock for SystemClock<S> {
     {}
 }
 
+/// How far a clock of many connections has come, in seconds.
+#[derive(Drop)]
+struct Paced {
+    /// By how much it rises in a sweep at most.
+    step: u64,
+    /// How long a lease lasts.
+    lease: u64,
+    /// How far it lags behind.
+    lag: u64,
+    /// The moment that it shows.
+    last: u64,
+    /// The moment at which this sweep began.
+    begun: u64,
+    /// The moment that was told last.
+    told: u64,
+}
+
+impl Paced {
+    /// The moment, where this second is read: it never falls, never leads what is read, and rises in a sweep by `step` at most.
+    fn risen(&self, read: Option<u64>) -> u64
+        ensures risen { result ≡ risen self.now read }
+        ensures stands { self.now.last ≤ result }
+        ensures follows { IfSome read (λ second. result ≤ max self.now.last second) }
+        ensures paced { result ≤ max self.now.last (self.now.begun + self.now.step) }
+    {
+        let shown = match read {
+            Some(second) => second.saturating_sub(self.lag),
+            None => self.last,
+        };
+        let top = self.begun.saturating_add(self.step);
+        self.last.max(shown.min(top))
+    }
+
+    /// Whether no lease can last to this moment: for longer than one nobody asked.
+    fn is_idle(&self, moment: u64) -> bool
+        ensures { result ≡ is_idle self.now moment }
+    {
+        self.told.saturating_add(self.lease) < moment
+    }
+
+    /// A sweep begins when this second is read. Where no lease can last, all of the lag is made up.
+    fn begin_sweep(&mut self, read: Option<u64>)
+        ensures { self.new ≡ begins self.old read }
+    {
+        let moment = self.risen(read);
+        if let Some(second) = read {
+            if self.is_idle(moment) {
+                self.lag = 0;
+                self.last = moment.max(second);
+            } else {
+                let made_up = fourths(self.begun, moment);
+                self.lag = second.saturating_sub(moment).saturating_sub(made_up);
+                self.last = moment;
+            }
+        }
+        self.begun = self.last;
+    }
+}
+
 /// The system's clock for many connections. In a sweep over them it rises by a quarter of a lease at most, so that what waits in their sockets is
 /// heard before leases end for want of it. What it lags behind then it makes up slowly, a second in four, so that whoever was heard can renew in
-/// time. It never leads the system's clock.
+/// time; and all at once where nobody asked for longer than a lease, as then none lasts. It never leads the system's clock, and never falls.
 #[derive(Drop)]
 pub struct PacedClock<S: Seconds> {
     seconds: S,
-    /// How many seconds it lags behind.
-    lag: u64,
-    /// The moment that was shown last.
-    last: u64,
-    /// The last moment that this sweep may show.
-    top: u64,
-    /// By how much a sweep rises at most.
-    step: u64,
+    at: Paced,
 }
 
 impl<'a, R: rt::Clock> PacedClock<SystemSeconds<'a, R>> {
     /// A clock that stands at this second until a sweep begins, for a lease of so many seconds.
     pub fn new(rt: &'a R, lease: u32) -> PacedClock<SystemSeconds<'a, R>>
-        ensures lag { result.lag ≡ 0 }
-        ensures top { result.top ≡ result.last }
-        ensures step { result.step ≡ pace lease }
+        ensures { (second : ℕ) × (result.at ≡ starts second lease) }
     {
         let mut seconds = SystemSeconds { rt };
-        let last = seconds.second().unwrap_or(0);
+        let second = seconds.second().unwrap_or(0);
         PacedClock {
             seconds,
-            lag: 0,
-            last,
-            top: last,
-            step: u64::from(pace(lease)),
-        }
-    }
-}
-
-impl<S: Seconds> PacedClock<S> {
-    /// The second that is read, without the lag; the last moment where none can be.
-    fn shown(&mut self) -> u64
-        ensures reads { (read : Option ℕ) × Reads (S.reads self.old.seconds) (S.reads self.new.seconds) read × (result ≡ shown self.old.lag self.old.last read) }
-        ensures lag { self.new.lag ≡ self.old.lag }
-        ensures last { self.new.last ≡ self.old.last }
-        ensures top { self.new.top ≡ self.old.top }
-        ensures step { self.new.step ≡ self.old.step }
-    {
-        match self.seconds.second() {
-            Some(second) => second.saturating_sub(self.lag),
-            None => self.last,
+            at: Paced {
+                step: u64::from(pace(lease)),
+                lease: u64::from(lease),
+                lag: 0,
+                last: second,
+                begun: second,
+                told: second,
+            },
         }
     }
 }
@@ -131,34 +169,29 @@ impl<S: Seconds> Clock for PacedClock<S> {
     fn now(&mut self) -> u64
         ensures bound { result ≤ last_moment }
         ensures tells { Appends None None (result ∷ []) }
-        ensures paces { Paces (S.reads self.old.seconds) (S.reads self.new.seconds) self.old.lag self.old.last self.old.top self.new.last result }
-        ensures lag { self.new.lag ≡ self.old.lag }
-        ensures top { self.new.top ≡ self.old.top }
-        ensures step { self.new.step ≡ self.old.step }
+        ensures paces { Paces (S.reads self.old.seconds) (S.reads self.new.seconds) self.old.at self.new.at result }
     {
-        let shown = self.shown();
-        self.last = shown.min(self.top);
-        self.last.min(LAST_MOMENT)
+        let read = self.seconds.second();
+        let moment = self.at.risen(read);
+        self.at.last = moment;
+        self.at.told = moment;
+        moment.min(LAST_MOMENT)
     }
 
     /// What this sweep may show at most is told by what its seconds show at its begin. What is above that is lag.
     fn begin_sweep(&mut self)
-        ensures rises { Appends None None [] × Rises (S.reads self.old.seconds) (S.reads self.new.seconds) self.old.lag self.old.last self.old.top self.old.step self.new.lag self.new.last self.new.top }
-        ensures step { self.new.step ≡ self.old.step }
+        ensures { Appends None None [] × Rises (S.reads self.old.seconds) (S.reads self.new.seconds) self.old.at self.new.at }
     {
-        let shown = self.shown();
-        self.last = shown.min(self.top);
-        self.lag = self.lag.saturating_add(shown - self.last);
-        self.lag = self.lag.saturating_sub(made_up(self.last));
-        self.top = self.last.saturating_add(self.step);
+        let read = self.seconds.second();
+        self.at.begin_sweep(read);
     }
 }
 
-/// How much of a lag is made up at a moment: a second in four.
-fn made_up(moment: u64) -> u64
-    ensures { result ≡ made_up moment }
+/// How many moments that 4 divides lie behind a moment, up to another.
+fn fourths(from: u64, to: u64) -> u64
+    ensures { result ≡ fourths from to }
 {
-    if moment % 4 == 0 { 1 } else { 0 }
+    (to / 4).saturating_sub(from / 4)
 }
 
 /// By how many seconds a sweep rises at most: a quarter of a lease, and one at least.
