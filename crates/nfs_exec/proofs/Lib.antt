@@ -31,5 +31,8 @@ pub mod OthersOps
 pub mod OthersRun
 pub mod Strangers
 pub mod PromptRun
+pub mod WrittenRun
+pub mod SessionNumbers
+pub mod OneSession
 pub mod Delayed
 pub mod DelayedOpen

@@ -35,7 +35,7 @@ kept m (Asks r who size now choice) t runs =
 
 -- One event, and all.
 
-counted_step : (m : Machine) (e : Event) → IsCounted m.sessions → IsCounted (stepped m e).sessions
+pub counted_step : (m : Machine) (e : Event) → IsCounted m.sessions → IsCounted (stepped m e).sessions
 counted_step m e is = go (ran m e) refl
   where
     go : (o : Option Sequence) → ran m e ≡ o → IsCounted (stepped m e).sessions

@@ -19,3 +19,5 @@ pub mod Held
 pub mod Own
 pub mod Renewing
 pub mod Runs
+pub mod WrittenRun
+pub mod OneSession

@@ -37,3 +37,6 @@ pub mod OthersTables
 pub mod OthersOps
 pub mod Prompt
 pub mod PromptFiles
+pub mod WrittenTrees
+pub mod WrittenOps
+pub mod WrittenTold

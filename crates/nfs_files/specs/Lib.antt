@@ -21,3 +21,4 @@ pub mod Operation
 pub mod Kept
 pub mod Own
 pub mod Laws
+pub mod Written

@@ -1,6 +1,7 @@
 //! Laws of the operations on open files, over their definitions. Each is the contract of a function that does nothing.
 
 ghost use Rattle.nfs_files.specs.Laws.{OpensLeaveTrees, ClashesAreRefused, ToldLocksAreHeld, OthersKeepTheirs};
+ghost use Rattle.nfs_files.specs.Written.{WritesLeaveBytes, SparedBytesLast, NamesLeaveBytes, ReadsGiveBytes};
 
 /// While a lock stands, no LOCK that clashes with it answers NFS4_OK and a stateid.
 pub fn clashes_are_refused()
@@ -20,4 +21,13 @@ pub fn opens_leave_trees()
 /// An operation of one client leaves another its opens, its lock states, their stateids and the bytes that they hold.
 pub fn others_keep_theirs()
     ensures { OthersKeepTheirs }
+{}
+
+/// A WRITE that answers NFS4_OK leaves its file the bytes that it brought, as many as it answered. An operation that is no WRITE over one of them, sets no
+/// size at or below it and opens the file with size 0, each answered NFS4_OK, leaves it; and a READ of it that answers NFS4_OK is given it.
+pub fn written_bytes_last()
+    ensures writes { WritesLeaveBytes }
+    ensures spared { SparedBytesLast }
+    ensures names { NamesLeaveBytes }
+    ensures reads { ReadsGiveBytes }
 {}

@@ -38,3 +38,6 @@ pub mod HeldLock
 pub mod WrongLocks
 pub mod Others
 pub mod Shows
+pub mod WrittenStays
+pub mod WrittenWorked
+pub mod SessionsOnce

@@ -1,0 +1,469 @@
+-- A CREATE_SESSION makes one session, and its repeat none.
+use Rattle.std.proofs.Common.{◌≡◌, ◌≢◌, ℕ, suc, ◌+◌, ◌-◌, ◌^◌, ◌<◌, ◌≤◌, Bool, true, false, cond, eqb, ltb, not, List, [], ◌∷◌, ◌++◌, length, take, drop, Option, Some, None, refl, sym, ◌∙◌, ap, subst, arith, inl, inr}
+use Rattle.std.specs.Prelude.{◌==◌, ◌⊎◌, ◌&&◌, find, filter, option_map, is_some, Result, Ok, Err}
+use Rattle.std.proofs.lemmas.Bool.{cases_Bool, cases_eq, eqb-true, eqb-false, eq-eqb, ne_eqb, and_parts, not-false, false≢true}
+use Rattle.std.proofs.lemmas.List.{length-append, take_at, drop_at}
+use Rattle.nfs_xdr.specs.Caller.{Caller}
+use Rattle.nfs_xdr.specs.Tables.{In}
+use Rattle.nfs_xdr.specs.Spelling.{opaque}
+use Rattle.nfs_xdr.specs.declared.status.Status.{Status}
+use Rattle.nfs_xdr.specs.declared.status.Status.TheVariants.{Nfs4Ok, Delay, StaleClientId, SeqMisordered, ClidInUse, MinorVersMismatch}
+use Rattle.nfs_xdr.proofs.Lists.{find_in, in_filter, in_push, find_push_none, find_past, any_in, find_none}
+use Rattle.nfs_compound.specs.declared.op_num.OpNum.TheVariants as Num
+use Rattle.nfs_compound.specs.OpNum.{op_number}
+use Rattle.nfs_compound.specs.Operation.{Item, Operation, OpSequence, OpExchangeId, OpCreateSession, OpDestroySession, OpDestroyClientId, OpReclaimComplete}
+use Rattle.nfs_compound.specs.Request.{Request, item_number}
+use Rattle.nfs_compound.specs.SessionArgs.{CreateSession}
+use Rattle.nfs_compound.specs.declared.session_args.Sequence.{Sequence}
+use Rattle.nfs_results.specs.Largest.{largest}
+use Rattle.nfs_results.specs.Result.{Refused, ResCreateSession}
+use Rattle.nfs_results.specs.Results.{spell_result, refusal, done_head, spell_compound_head}
+use Rattle.nfs_results.specs.Items as item
+use Rattle.nfs_results.proofs.Lengths.{length_head, length_spelled}
+use Rattle.nfs_results.proofs.Heads as heads
+use Rattle.nfs_clients.specs.Roster.{ClientRecord, Roster, IsRoster, client_at, without, is_confirmed_of}
+use Rattle.nfs_clients.specs.ExchangeId.{case_of}
+use Rattle.nfs_clients.specs.CreateSession as clients
+use Rattle.nfs_clients.specs.CreateSession.{following, create_verdict, leaving, leaving_by, is_other_confirmed_of, with_kept, with_confirmed}
+use Rattle.nfs_clients.specs.Marks.{has_reclaimed}
+use Rattle.nfs_clients.specs.DestroyClientId.{destroy_fault}
+use Rattle.nfs_clients.specs.declared.created.CreateResult.{CreateResult}
+use Rattle.nfs_clients.specs.declared.created.CreateResult.TheVariants as results
+use Rattle.nfs_clients.specs.declared.destroy.DestroyFault.{DestroyFault}
+use Rattle.nfs_sessions.specs.declared.id.SessionId.{SessionId}
+use Rattle.nfs_sessions.specs.declared.channel.Wish.{Wish}
+use Rattle.nfs_sessions.specs.declared.sessions.SessionFault.{SessionFault}
+use Rattle.nfs_sessions.specs.Id.{id_of, id_bytes}
+use Rattle.nfs_sessions.specs.Sessions.{Session, SessionTable, Created, is_session, session_at, create, create_unless, create_fault, fault_status, with_session}
+use Rattle.nfs_sessions.specs.SessionSlots.{unused}
+use Rattle.nfs_sessions.specs.Channel.{granted}
+use Rattle.nfs_lease.specs.Renewals.{has_run_out}
+use Rattle.nfs_names.specs.declared.context.Context.{Context}
+use Rattle.nfs_names.specs.declared.node.Node.{Node}
+use Rattle.nfs_names.specs.Context.{begins}
+use Rattle.nfs_names.specs.Checks.{current}
+use Rattle.nfs_names.specs.State.{moment}
+use Rattle.nfs_names.specs.Ending.{has_open}
+use Rattle.nfs_names.specs.Operation as names
+use Rattle.nfs_files.specs.Operation as files
+use Rattle.nfs_exec.specs.Machine.{Machine, Outcome, is_ok, or_delay, refuses}
+use Rattle.nfs_exec.specs.Behind.{Step, step, on_store, moves_opens, marked_if, otherwise}
+use Rattle.nfs_exec.specs.Run.{run, in_room, is_here, behind_here}
+use Rattle.nfs_exec.specs.Place.{item_fault}
+use Rattle.nfs_exec.specs.ReclaimComplete.{reclaim_complete, of_one, of_all}
+use Rattle.nfs_exec.specs.ExchangeId.{exchange_id, exchange_id_number, ask_of}
+use Rattle.nfs_exec.specs.CreateSession.{create_session_number, by_verdict, creates, by_created, confirmed, made_body, session_made, wish_of, without_any_sessions, create_session}
+use Rattle.nfs_exec.specs.Destroy.{destroy_session, destroyed_unless, has_session}
+use Rattle.nfs_exec.specs.Sequence as sequence
+use Rattle.nfs_exec.specs.Sequence.{Sequenced, sequenced}
+use Rattle.nfs_exec.specs.Compound.{carried_out, by_fault, first_item, renewed, begun, bare, in_session, by_first, compound}
+use Rattle.nfs_exec.specs.Laws.{Event, Expires, Asks, stepped}
+use Rattle.nfs_exec.specs.OneSession.{asks_of, asks_session, Gives, MakesOne}
+use Rattle.nfs_exec.proofs.Behind.{follow_kept}
+use Rattle.nfs_exec.proofs.Creating.{length_id}
+use Rattle.nfs_exec.proofs.AnsweredRun.{in_room_is}
+use Rattle.nfs_exec.proofs.Numbering.{IsCounted}
+use Rattle.nfs_exec.proofs.SessionNumbers.{After, IsAgain, IsNext, more, after_fewer, after_quiet, after_other, after_own, after_case, after_gone, after_confirmed}
+use Rattle.nfs_exec.proofs.SessionNumbers.{verdict_again, verdict_next, after_again, after_next, not_next, same_kept}
+
+-- The client records, through whatever comes.
+
+abbrev In_ : (n number most : ℕ) → List ℕ → Machine → Type 0
+In_ n number most body m = After n number body most m.clients
+
+marked_after : (n number most : ℕ) (body : List ℕ) (m : Machine) (x : Context) (now : ℕ) (refused : Bool) (i : Item) (moves : Bool) → In_ n number most body m
+    → In_ n number most body (marked_if moves x.client (on_store m (files.comes_to refused m.store x (moment now) i))).outcome.machine
+marked_after n number most body m x now refused i true a =
+    after_quiet n number most x.client body m.clients (λ c. record c { has_open = has_open (files.comes_to refused m.store x (moment now) i).state x.client })
+    (record { id = λ c. refl; number = λ c. refl; kept = λ c. refl }) a
+marked_after n number most body m x now refused i false a = a
+
+one_after : (n number most : ℕ) (body : List ℕ) (m : Machine) (v : Result Node Status) → In_ n number most body m → In_ n number most body (of_one m v).machine
+one_after n number most body m (Ok d) a = a
+one_after n number most body m (Err status) a = a
+
+all_after : (n number most : ℕ) (body : List ℕ) (m : Machine) (x : Context) → In_ n number most body m → In_ n number most body (of_all m x).machine
+all_after n number most body m x a = elim (cases_Bool (has_reclaimed m.clients x.client)) [
+  | inl again ↦ rw again a
+  | inr once ↦ rw once (after_quiet n number most x.client body m.clients (λ c. record c { reclaimed = true })
+      (record { id = λ c. refl; number = λ c. refl; kept = λ c. refl }) a)
+]
+
+reclaim_after : (n number most : ℕ) (body : List ℕ) (m : Machine) (x : Context) (one : Bool) → In_ n number most body m
+    → In_ n number most body (reclaim_complete m x one).machine
+reclaim_after n number most body m x true a = one_after n number most body m (current m.store x) a
+reclaim_after n number most body m x false a = all_after n number most body m x a
+
+otherwise_after : (n number most : ℕ) (body : List ℕ) (m : Machine) (x : Context) (i : Item) → In_ n number most body m
+    → In_ n number most body (otherwise m x i).outcome.machine
+otherwise_after n number most body m x (Operation (OpReclaimComplete one)) a = reclaim_after n number most body m x one a
+otherwise_after n number most body m x i a = a
+
+step_after : (n number most : ℕ) (body : List ℕ) (m : Machine) (x : Context) (now : ℕ) (refused : Bool) (i : Item) → In_ n number most body m
+    → In_ n number most body (step m x now refused i).outcome.machine
+step_after n number most body m x now refused i a = elim (cases_Bool (names.on_names i)) [
+  | inl on ↦ rw on a
+  | inr off ↦ rw off (elim (cases_Bool (files.on_files i)) [
+    | inl on ↦ rw on (marked_after n number most body m x now refused i (moves_opens i) a)
+    | inr other ↦ rw other (otherwise_after n number most body m x i a)
+  ])
+]
+
+run_after : (n number most : ℕ) (body : List ℕ) (limit sofar now : ℕ) (choice : Option ℕ) (m : Machine) (x : Context) (items : List Item) → In_ n number most body m
+    → In_ n number most body (run limit sofar now choice m x items).machine
+run_after n number most body limit sofar now choice m x [] a = a
+run_after n number most body limit sofar now choice m x (i ∷ rest) a =
+    let s = in_room limit sofar now (is_here choice) m x i in
+    let next = sofar + length s.outcome.result in
+    let one : In_ n number most body s.outcome.machine =
+    in_room_is (λ s. In_ n number most body s.outcome.machine) limit sofar now (is_here choice) m x i a (step_after n number most body m x now (is_here choice) i a) in
+    follow_kept (In_ n number most body) s.outcome (run limit next now (behind_here choice) s.outcome.machine s.context rest) one
+    (run_after n number most body limit next now (behind_here choice) s.outcome.machine s.context rest one)
+
+delayed_after : (P : Machine → Type 0) (m : Machine) (o : Outcome) (refused : Bool) (number : ℕ) → P m → P o.machine → P (or_delay refused m number o).machine
+delayed_after P m o refused number before after = elim (cases_Bool (refused && is_ok o.status)) [ inl here ↦ rw here before | inr other ↦ rw other after ]
+
+-- a CREATE_SESSION of another client
+made_other : (n number most : ℕ) (body : List ℕ) (m : Machine) (now : ℕ) (c : CreateSession) (t : SessionTable) (v : Result SessionId SessionFault)
+    → c.clientid ≢ n → In_ n number most body m → In_ n number most body (by_created m now c t v).machine
+made_other n number most body m now c t (Ok id) other a =
+    after_other n number most c.clientid body (with_confirmed m.clients c.clientid) (results.Done (made_body c id)) other
+    (after_confirmed n number most body m.clients c.clientid a)
+made_other n number most body m now c t (Err fault) other a =
+    after_other n number most c.clientid body m.clients (results.Refused (fault_status fault)) other a
+
+-- or of this one, which may use a number up
+made_own : (n number most : ℕ) (body : List ℕ) (m : Machine) (now : ℕ) (c : CreateSession) (t : SessionTable) (v : Result SessionId SessionFault)
+    → In_ n number most body m → In_ n number (most + 1) body (by_created m now c t v).machine
+made_own n number most body m now c t (Ok id) a =
+    after_own n number most body (with_confirmed m.clients c.clientid) c.clientid (results.Done (made_body c id)) (after_confirmed n number most body m.clients c.clientid a)
+made_own n number most body m now c t (Err fault) a = after_own n number most body m.clients c.clientid (results.Refused (fault_status fault)) a
+
+by_verdict_after : (P : Machine → Type 0) (m : Machine) (now : ℕ) (refused : Bool) (c : CreateSession) (v : clients.Verdict) → P m
+    → ((t : SessionTable) (r : Result SessionId SessionFault) → P (by_created m now c t r).machine) → P (by_verdict m now refused c v).machine
+by_verdict_after P m now refused c clients.Stale same made = same
+by_verdict_after P m now refused c (clients.Again (results.Done body)) same made = same
+by_verdict_after P m now refused c (clients.Again (results.Refused status)) same made = same
+by_verdict_after P m now refused c clients.Misordered same made = same
+by_verdict_after P m now refused c clients.InUse same made = same
+by_verdict_after P m now refused c clients.Runs same made =
+    let did = create m.sessions c.clientid (wish_of m c) in
+    delayed_after P m (creates m now c did) refused create_session_number same (made did.after did.answer)
+
+created_after : (n number most : ℕ) (body : List ℕ) (m : Machine) (who : Caller) (now : ℕ) (refused : Bool) (c : CreateSession) → In_ n number most body m
+    → In_ n number (most + cond (c.clientid == n) 1 0) body (create_session m who now refused c).machine
+created_after n number most body m who now refused c a = elim (cases_Bool (c.clientid == n)) [
+  | inl own ↦ rw own (by_verdict_after (In_ n number (most + 1) body) m now refused c (create_verdict m.clients c.clientid c.sequence who.uid)
+      (more n number (most + 1) most body m.clients (omega arith) a) (λ t r. made_own n number most body m now c t r a))
+  | inr other ↦ rw other (more n number (most + 0) most body _ (omega arith)
+      (by_verdict_after (In_ n number most body) m now refused c (create_verdict m.clients c.clientid c.sequence who.uid) a
+      (λ t r. made_other n number most body m now c t r (eqb-false c.clientid n other) a)))
+]
+
+destroyed_after : (n number most : ℕ) (body : List ℕ) (m : Machine) (client : ℕ) (o : Option DestroyFault) → In_ n number most body m
+    → In_ n number most body (destroyed_unless m client o).machine
+destroyed_after n number most body m client None a = after_fewer n number most body m.clients (λ c. not (c.id == client)) a
+destroyed_after n number most body m client (Some fault) a = a
+
+ended_after : (n number most : ℕ) (body : List ℕ) (m : Machine) (sessionid : List ℕ) → In_ n number most body m → In_ n number most body (destroy_session m sessionid).machine
+ended_after n number most body m sessionid a = elim (cases_Bool (is_some (session_at m.sessions (id_of sessionid)))) [ inl stood ↦ rw stood a | inr gone ↦ rw gone a ]
+
+abbrev Asked : (n number most : ℕ) → List ℕ → Item → Machine → Type 0
+Asked n number most body i m = In_ n number (most + cond (asks_of n (i ∷ [])) 1 0) body m
+
+as_asked : (n number most : ℕ) (body : List ℕ) (m : Machine) (v : Bool) → In_ n number most body m → In_ n number (most + cond v 1 0) body m
+as_asked n number most body m true a = more n number (most + 1) most body m.clients (omega arith) a
+as_asked n number most body m false a = more n number (most + 0) most body m.clients (omega arith) a
+
+carried_after : (n number most : ℕ) (body : List ℕ) (m : Machine) (who : Caller) (now : ℕ) (refused : Bool) (i : Item) → In_ n number most body m
+    → Asked n number most body i (carried_out m who now refused i).machine
+carried_after n number most body m who now refused (Operation (OpCreateSession c)) a = created_after n number most body m who now refused c a
+carried_after n number most body m who now refused (Operation (OpExchangeId e)) a =
+    as_asked n number most body _ false (delayed_after (In_ n number most body) m (exchange_id m who now e) refused exchange_id_number a
+    (after_case n number most body m.clients (ask_of who e) (case_of m.clients (ask_of who e)) a))
+carried_after n number most body m who now refused (Operation (OpDestroySession sessionid)) a =
+    as_asked n number most body _ false (ended_after n number most body m sessionid a)
+carried_after n number most body m who now refused (Operation (OpDestroyClientId client)) a =
+    as_asked n number most body _ false (destroyed_after n number most body m client (destroy_fault m.clients client (has_session m.sessions client)) a)
+carried_after n number most body m who now refused i a = as_asked n number most body m (asks_of n (i ∷ [])) a
+
+first_after : (n number most : ℕ) (body : List ℕ) (m : Machine) (declared : ℕ) (who : Caller) (now : ℕ) (refused : Bool) (i : Item) → In_ n number most body m
+    → Asked n number most body i (first_item m declared who now refused i).machine
+first_after n number most body m declared who now refused i a = go (item_fault declared i)
+  where
+    go : (f : Option Status) → Asked n number most body i (by_fault m (item_number i) f (carried_out m who now refused i)).machine
+    go None = carried_after n number most body m who now refused i a
+    go (Some status) = as_asked n number most body m (asks_of n (i ∷ [])) a
+
+session_after : (n number most : ℕ) (body : List ℕ) (m : Machine) (r : Request) (who : Caller) (now : ℕ) (choice : Option ℕ) (s : Sequence) (rest : List Item) (v : Sequenced)
+    → In_ n number most body m → In_ n number most body (in_session m r who now choice s rest v).machine
+session_after n number most body m r who now choice s rest (sequence.Refuses status) a = a
+session_after n number most body m r who now choice s rest (sequence.Repeats reply) a = a
+session_after n number most body m r who now choice s rest (sequence.Runs c) a =
+    run_after n number most body c.response (begun r s c) now (behind_here choice) (renewed m now s) (begins (id_of s.sessionid).client who) rest a
+
+asked_same : (n : ℕ) (i : Item) (rest : List Item) → asks_of n (i ∷ rest) ≡ asks_of n (i ∷ [])
+asked_same n (Operation (OpCreateSession c)) rest = refl
+asked_same n i rest = refl
+
+items_after : (n number most : ℕ) (body : List ℕ) (m : Machine) (r : Request) (who : Caller) (size now : ℕ) (choice : Option ℕ) (items : List Item)
+    → In_ n number most body m → In_ n number (most + cond (asks_of n items) 1 0) body (by_first m r who size now choice items).machine
+items_after n number most body m r who size now choice [] a = as_asked n number most body m false a
+items_after n number most body m r who size now choice (Operation (OpSequence s) ∷ rest) a =
+    as_asked n number most body _ false (session_after n number most body m r who now choice s rest (sequenced m r who size s) a)
+items_after n number most body m r who size now choice (i ∷ rest) a =
+    subst (λ v. In_ n number (most + cond v 1 0) body (first_item m r.declared who now (is_here choice) i).machine) (sym (asked_same n i rest))
+    (first_after n number most body m r.declared who now (is_here choice) i a)
+
+compound_after : (n number most : ℕ) (body : List ℕ) (m : Machine) (r : Request) (who : Caller) (size now : ℕ) (choice : Option ℕ) → In_ n number most body m
+    → In_ n number (most + cond (asks_of n r.left) 1 0) body (compound m r who size now choice).machine
+compound_after n number most body m r who size now choice a = go (eqb r.minor 1)
+  where
+    go : (v : Bool) → In_ n number (most + cond (asks_of n r.left) 1 0) body (cond v (by_first m r who size now choice r.left) (bare r MinorVersMismatch m)).machine
+    go true = items_after n number most body m r who size now choice r.left a
+    go false = as_asked n number most body m (asks_of n r.left) a
+
+pub event_after : (n number most : ℕ) (body : List ℕ) (m : Machine) (e : Event) → After n number body most m.clients
+    → After n number body (most + cond (asks_session n e) 1 0) (stepped m e).clients
+event_after n number most body m (Expires now) a =
+    as_asked n number most body (stepped m (Expires now)) false (after_fewer n number most body m.clients (λ c. not (has_run_out m.leases now c.id)) a)
+event_after n number most body m (Asks r who size now choice) a = compound_after n number most body m r who size now choice a
+
+-- What a CREATE_SESSION that answered NFS4_OK did.
+
+-- a refusal ends behind its status
+refused_short : (status : Status) (id behind : List ℕ) → length id ≡ 16
+    → spell_result (Refused (op_number Num.CreateSession) status) ≡ done_head Num.CreateSession ++ (id ++ behind) → ⊥
+refused_short status id behind long e =
+    let whole = ap length e in
+    let spelled = length_spelled (Refused (op_number Num.CreateSession) status) in
+    let head = length_head (op_number Num.CreateSession) Nfs4Ok in
+    let both = length-append (done_head Num.CreateSession) (id ++ behind) in
+    let rest = length-append id behind in absurd (omega arith)
+
+-- it repeated what was kept
+record IsRepeat (m : Machine) (n number : ℕ) (body : List ℕ) (left : Machine) : Type 0 where
+  pub again : IsAgain m.clients n number (results.Done body)
+  pub unchanged : left ≡ m
+
+-- or it ran
+record IsMade (m : Machine) (now : ℕ) (c : CreateSession) (body : List ℕ) (left : Machine) : Type 0 where
+  pub next : IsNext m.clients c.clientid c.sequence
+  pub id : SessionId
+  pub text : body ≡ made_body c id
+  pub did : (create m.sessions c.clientid (wish_of m c)).answer ≡ Ok id
+  pub changed : left ≡ confirmed (record m { sessions = (create m.sessions c.clientid (wish_of m c)).after }) now c.clientid body
+
+abbrev IsEither : Machine → ℕ → CreateSession → List ℕ → Machine → Type 0
+IsEither m now c body left = IsRepeat m c.clientid c.sequence body left ⊎ IsMade m now c body left
+
+-- what stands behind the head of its result
+abbrev Tells : List ℕ → Outcome → Type 0
+Tells text o = o.result ≡ done_head Num.CreateSession ++ text
+
+same_text : (a b : List ℕ) → done_head Num.CreateSession ++ a ≡ done_head Num.CreateSession ++ b → a ≡ b
+same_text a b e =
+    let head = length_head (op_number Num.CreateSession) Nfs4Ok in
+    sym (drop_at (done_head Num.CreateSession) a 8 head) ∙ (ap (drop 8) e ∙ drop_at (done_head Num.CreateSession) b 8 head)
+
+made_either : (m : Machine) (now : ℕ) (c : CreateSession) (id behind : List ℕ) (v : Result SessionId SessionFault) → length id ≡ 16 → IsNext m.clients c.clientid c.sequence
+    → (create m.sessions c.clientid (wish_of m c)).answer ≡ v
+    → (let o = by_created m now c (create m.sessions c.clientid (wish_of m c)).after v in Tells (id ++ behind) o → IsEither m now c (id ++ behind) o.machine)
+made_either m now c id behind (Err fault) long next did told = absurd (refused_short (fault_status fault) id behind long told)
+made_either m now c id behind (Ok session) long next did told =
+    (let same : made_body c session ≡ id ++ behind = same_text (made_body c session) (id ++ behind) told in
+    inr (record {
+      next = next;
+      id = session;
+      text = sym same;
+      did = did;
+      changed = ap (λ (text : List ℕ). confirmed (record m { sessions = (create m.sessions c.clientid (wish_of m c)).after }) now c.clientid text) same;
+    }))
+
+delay_either : (m : Machine) (now : ℕ) (c : CreateSession) (id behind : List ℕ) (refused : Bool) (o : Outcome) → length id ≡ 16
+    → (Tells (id ++ behind) o → IsEither m now c (id ++ behind) o.machine)
+    → (let d = or_delay refused m create_session_number o in Tells (id ++ behind) d → IsEither m now c (id ++ behind) d.machine)
+delay_either m now c id behind refused o long each = go (refused && is_ok o.status)
+  where
+    go : (v : Bool) → (let d = cond v (refuses m create_session_number Delay) o in Tells (id ++ behind) d → IsEither m now c (id ++ behind) d.machine)
+    go true = λ told. absurd (refused_short Delay id behind long told)
+    go false = each
+
+verdict_either : (m : Machine) (who : Caller) (now : ℕ) (refused : Bool) (c : CreateSession) (id behind : List ℕ) (v : clients.Verdict) → length id ≡ 16
+    → create_verdict m.clients c.clientid c.sequence who.uid ≡ v
+    → (let o = by_verdict m now refused c v in Tells (id ++ behind) o → IsEither m now c (id ++ behind) o.machine)
+verdict_either m who now refused c id behind clients.Stale long e = λ told. absurd (refused_short StaleClientId id behind long told)
+verdict_either m who now refused c id behind clients.Misordered long e = λ told. absurd (refused_short SeqMisordered id behind long told)
+verdict_either m who now refused c id behind clients.InUse long e = λ told. absurd (refused_short ClidInUse id behind long told)
+verdict_either m who now refused c id behind (clients.Again (results.Refused status)) long e = λ told. absurd (refused_short status id behind long told)
+verdict_either m who now refused c id behind (clients.Again (results.Done body)) long e = λ told.
+    (let same : body ≡ id ++ behind = same_text body (id ++ behind) told in
+    inl (record {
+      again = subst (λ (text : List ℕ). IsAgain m.clients c.clientid c.sequence (results.Done text)) same
+          (verdict_again m.clients c.clientid c.sequence who.uid (results.Done body) (client_at m.clients c.clientid) refl e);
+      unchanged = refl;
+    }))
+verdict_either m who now refused c id behind clients.Runs long e =
+    let did = create m.sessions c.clientid (wish_of m c) in
+    delay_either m now c id behind refused (creates m now c did) long
+    (made_either m now c id behind did.answer long (verdict_next m.clients c.clientid c.sequence who.uid (client_at m.clients c.clientid) refl e) refl)
+
+item_either : (m : Machine) (declared : ℕ) (who : Caller) (now : ℕ) (refused : Bool) (c : CreateSession) (id behind : List ℕ) → length id ≡ 16
+    → (let o = first_item m declared who now refused (Operation (OpCreateSession c)) in Tells (id ++ behind) o → IsEither m now c (id ++ behind) o.machine)
+item_either m declared who now refused c id behind long = go (item_fault declared (Operation (OpCreateSession c)))
+  where
+    go : (f : Option Status) → (let o = by_fault m (op_number Num.CreateSession) f (carried_out m who now refused (Operation (OpCreateSession c))) in
+        Tells (id ++ behind) o → IsEither m now c (id ++ behind) o.machine)
+    go None = verdict_either m who now refused c id behind (create_verdict m.clients c.clientid c.sequence who.uid) long refl
+    go (Some status) = λ told. absurd (refused_short status id behind long told)
+
+-- behind a compound's head
+behind_head : (a b : Status) (tag : List ℕ) (count : ℕ) (xs ys : List ℕ) → spell_compound_head a tag count ++ xs ≡ spell_compound_head b tag 1 ++ ys → xs ≡ ys
+behind_head a b tag count xs ys e =
+    let n = 8 + length (opaque tag) in
+    sym (drop_at (spell_compound_head a tag count) xs n (heads.length_head a tag count))
+    ∙ (ap (drop n) e ∙ drop_at (spell_compound_head b tag 1) ys n (heads.length_head b tag 1))
+
+none_told : (id behind : List ℕ) → length id ≡ 16 → [] ≡ done_head Num.CreateSession ++ (id ++ behind) → ⊥
+none_told id behind long e =
+    let whole = ap length e in
+    let head = length_head (op_number Num.CreateSession) Nfs4Ok in
+    let both = length-append (done_head Num.CreateSession) (id ++ behind) in absurd (omega arith)
+
+either : (client number : ℕ) (id : List ℕ) (m : Machine) (e : Event) (g : Gives client number id m e)
+    → IsEither m g.now g.asked (id ++ g.behind) (stepped m e)
+either client number id m e g =
+    subst (λ e. IsEither m g.now g.asked (id ++ g.behind) (stepped m e)) (sym g.is) (by_minor (eqb g.request.minor 1) g.answers)
+  where
+    by_items : (items : List Item) → items ≡ Operation (OpCreateSession g.asked) ∷ g.more
+        → (by_first m g.request g.who g.size g.now g.choice items).text ≡ spell_compound_head Nfs4Ok g.request.tag 1 ++ (done_head Num.CreateSession ++ (id ++ g.behind))
+        → IsEither m g.now g.asked (id ++ g.behind) (by_first m g.request g.who g.size g.now g.choice items).machine
+    by_items items same told =
+        let list : by_first m g.request g.who g.size g.now g.choice items ≡ by_first m g.request g.who g.size g.now g.choice (Operation (OpCreateSession g.asked) ∷ g.more) =
+        ap (by_first m g.request g.who g.size g.now g.choice) same in
+        let o = first_item m g.request.declared g.who g.now (is_here g.choice) (Operation (OpCreateSession g.asked)) in
+        subst (λ a. IsEither m g.now g.asked (id ++ g.behind) a.machine) (sym list)
+        (item_either m g.request.declared g.who g.now (is_here g.choice) g.asked id g.behind g.long
+        (behind_head o.status Nfs4Ok g.request.tag 1 o.result (done_head Num.CreateSession ++ (id ++ g.behind)) (ap (λ a. a.text) (sym list) ∙ told)))
+
+    by_minor : (v : Bool) → (let a = cond v (by_first m g.request g.who g.size g.now g.choice g.request.left) (bare g.request MinorVersMismatch m) in
+        a.text ≡ spell_compound_head Nfs4Ok g.request.tag 1 ++ (done_head Num.CreateSession ++ (id ++ g.behind))
+        → IsEither m g.now g.asked (id ++ g.behind) a.machine)
+    by_minor true = λ told. by_items g.request.left g.first told
+    by_minor false = λ told. absurd (none_told id g.behind g.long
+        (behind_head MinorVersMismatch Nfs4Ok g.request.tag 0 [] (done_head Num.CreateSession ++ (id ++ g.behind)) told))
+
+-- From the first answer on, and at the second.
+
+pub given_after : (client number : ℕ) (id : List ℕ) (m : Machine) (e : Event) → IsRoster m.clients → (g : Gives client number id m e)
+    → After client number (id ++ g.behind) 0 (stepped m e).clients
+given_after client number id m e is g = subst (λ n. After n number (id ++ g.behind) 0 (stepped m e).clients) g.for
+    (subst (λ k. After g.asked.clientid k (id ++ g.behind) 0 (stepped m e).clients) g.with (elim (either client number id m e g) [
+      | inl repeat ↦ subst (λ (m : Machine). After g.asked.clientid g.asked.sequence (id ++ g.behind) 0 m.clients) (sym repeat.unchanged)
+          (after_again m.clients g.asked.clientid g.asked.sequence (id ++ g.behind) is repeat.again)
+      | inr made ↦ subst (λ (m : Machine). After g.asked.clientid g.asked.sequence (id ++ g.behind) 0 m.clients) (sym made.changed)
+          (after_next m.clients g.asked.clientid g.asked.sequence (id ++ g.behind) is made.next)
+    ]))
+
+first_bytes : (a b x y : List ℕ) → length a ≡ 16 → length b ≡ 16 → a ++ x ≡ b ++ y → a ≡ b
+first_bytes a b x y long also e = sym (take_at a x 16 long) ∙ (ap (take 16) e ∙ take_at b y 16 also)
+
+pub given_again : (client number most : ℕ) (id behind other : List ℕ) (m : Machine) (e : Event) → length id ≡ 16 → After client number (id ++ behind) most m.clients
+    → most < 2 ^ 32 - 1 → Gives client number other m e → (other ≡ id) × (stepped m e ≡ m)
+given_again client number most id behind other m e long after few g =
+    let mine : After g.asked.clientid g.asked.sequence (id ++ behind) most m.clients =
+    subst (λ n. After n g.asked.sequence (id ++ behind) most m.clients) (sym g.for) (subst (λ k. After client k (id ++ behind) most m.clients) (sym g.with) after) in
+    elim (either client number other m e g) [
+      | inl repeat ↦ (let same : results.Done (other ++ g.behind) ≡ results.Done (id ++ behind) =
+          same_kept m.clients g.asked.clientid g.asked.sequence most (id ++ behind) (results.Done (other ++ g.behind)) mine few repeat.again in
+          let text : other ++ g.behind ≡ id ++ behind = cc in
+          (first_bytes other id g.behind behind g.long long text, repeat.unchanged))
+      | inr made ↦ absurd (not_next m.clients g.asked.clientid g.asked.sequence most (id ++ behind) mine few made.next)
+    ]
+
+-- What it makes.
+
+made_id : (c : CreateSession) (id : SessionId) → (behind : List ℕ) × (made_body c id ≡ id_bytes id ++ behind)
+unfolding item.create_session
+made_id c id = (_, refl)
+
+created_is : (t : SessionTable) (client : ℕ) (wish : Wish) (id : SessionId) (o : Option SessionFault) → (create_unless t client wish o).answer ≡ Ok id
+    → (id ≡ record { client = client; counter = t.last + 1 }) × ((create_unless t client wish o).after ≡ with_session t client wish)
+created_is t client wish id None e =
+    (let given : record { client = client; counter = t.last + 1 } ≡ id = cc in (sym given, refl))
+created_is t client wish id (Some fault) e = absurd cc
+
+-- the client's own record is not the one that leaves
+not_leaving : (t : Roster) (n : ℕ) (c : ClientRecord) (o : Option ClientRecord) → client_at t n ≡ Some c → find (is_other_confirmed_of c) t.records ≡ o
+    → option_map (λ (d : ClientRecord). d.id) o ≢ Some n
+not_leaving t n c None at found leaves = (let bad : None ≡ Some n = leaves in absurd cc)
+not_leaving t n c (Some d) at found leaves =
+    let gone : Some d.id ≡ Some n = leaves in
+    let same : d.id ≡ n = cc in
+    let here = find_in (λ (c : ClientRecord). c.id == n) t.records c at in
+    let there = find_in (is_other_confirmed_of c) t.records d found in
+    let parts = and_parts (is_confirmed_of c.owner d) (not (d.id == c.id)) there.1 in
+    absurd (false≢true (sym (ap not (eq-eqb d.id c.id (same ∙ sym (eqb-true c.id n here.1)))) ∙ parts.1))
+
+stays_own : (t : Roster) (n : ℕ) (c : ClientRecord) → client_at t n ≡ Some c → leaving t n ≢ Some n
+stays_own t n c at leaves = not_leaving t n c (find (is_other_confirmed_of c) t.records) at refl (sym (ap (leaving_by t) at) ∙ leaves)
+
+-- a session more, and those of another client gone
+left_in : (t : SessionTable) (o : Option ℕ) (s : Session) → In s (without_any_sessions t o).sessions → In s t.sessions
+left_in t None s there = there
+left_in t (Some gone) s there = (in_filter (λ (s : Session). not (s.client == gone)) t.sessions s there).0
+
+new_is : (last client : ℕ) → eqb (last + 1) (last + 1) && eqb client client ≡ true
+new_is last client = rw (eq-eqb (last + 1) (last + 1) refl, eq-eqb client client refl) refl
+
+found_new : (t : SessionTable) (client : ℕ) (wish : Wish) → session_at t (record { client = client; counter = t.last + 1 }) ≡ None
+    → session_at (with_session t client wish) (record { client = client; counter = t.last + 1 }) ≡ Some (record {
+      counter = t.last + 1;
+      client = client;
+      slots = unused (granted wish.fore);
+    })
+found_new t client wish none = find_push_none (is_session (record { client = client; counter = t.last + 1 })) t.sessions _ none (new_is t.last client)
+
+new_there : (t : SessionTable) (client : ℕ) (wish : Wish) (o : Option ℕ) → o ≢ Some client → session_at t (record { client = client; counter = t.last + 1 }) ≡ None
+    → is_some (session_at (without_any_sessions (with_session t client wish) o) (record { client = client; counter = t.last + 1 })) ≡ true
+new_there t client wish None other none = ap is_some (found_new t client wish none)
+new_there t client wish (Some gone) other none =
+    ap is_some (find_past (is_session (record { client = client; counter = t.last + 1 })) (λ (s : Session). not (s.client == gone)) (with_session t client wish).sessions
+    (λ s e. (let same = eqb-true s.client client (and_parts (s.counter == t.last + 1) (s.client == client) e).1 in
+    ap not (ne_eqb s.client gone (λ here. other (ap (λ n. Some n) (sym here ∙ same)))))) ∙ found_new t client wish none)
+
+absent_next : (t : SessionTable) (client : ℕ) → IsCounted t → session_at t (record { client = client; counter = t.last + 1 }) ≡ None
+absent_next t client counted = find_none (is_session (record { client = client; counter = t.last + 1 })) t.sessions (λ s there. elim (cases_Bool (s.counter == t.last + 1)) [
+  | inl same ↦ (let at = eqb-true s.counter (t.last + 1) same in let low = counted s there in absurd (omega arith))
+  | inr other ↦ rw other refl
+])
+
+made_one : (m : Machine) (now : ℕ) (c : CreateSession) (id behind : List ℕ) (left : Machine) → IsCounted m.sessions → length id ≡ 16 → IsMade m now c (id ++ behind) left
+    → MakesOne id m.sessions left.sessions
+made_one m now c id behind left counted long made =
+    let wish = wish_of m c in
+    let t = m.sessions in
+    let new : SessionId = record { client = c.clientid; counter = t.last + 1 } in
+    let is = created_is t c.clientid wish made.id (create_fault t wish) made.did in
+    let told = made_id c made.id in
+    let bytes : id ≡ id_bytes made.id = first_bytes id (id_bytes made.id) behind told.0 long (length_id made.id) (made.text ∙ told.1) in
+    let absent = absent_next t c.clientid counted in
+    let sessions : left.sessions ≡ without_any_sessions (with_session t c.clientid wish) (leaving m.clients c.clientid) =
+    ap (λ (m : Machine). m.sessions) made.changed ∙ ap (λ (u : SessionTable). without_any_sessions u (leaving m.clients c.clientid)) is.1 in
+    subst (λ (u : SessionTable). MakesOne id t u) (sym sessions) (record {
+      session = new;
+      spelled = bytes ∙ ap id_bytes is.0;
+      absent = absent;
+      there = new_there t c.clientid wish (leaving m.clients c.clientid) (stays_own m.clients c.clientid made.next.client made.next.found) absent;
+      alone = λ s there. elim (in_push t.sessions _ s (left_in (with_session t c.clientid wish) (leaving m.clients c.clientid) s there)) [
+        | inl here ↦ inr (subst (λ (s : Session). is_session new s ≡ true) (sym here) (new_is t.last c.clientid))
+        | inr old ↦ inl old
+      ];
+    })
+
+pub gives_one : (client number : ℕ) (id : List ℕ) (m : Machine) (e : Event) → IsCounted m.sessions → Gives client number id m e
+    → (stepped m e ≡ m) ⊎ MakesOne id m.sessions (stepped m e).sessions
+gives_one client number id m e counted g = elim (either client number id m e g) [
+  | inl repeat ↦ inl repeat.unchanged
+  | inr made ↦ inr (made_one m g.now g.asked id g.behind (stepped m e) counted g.long made)
+]

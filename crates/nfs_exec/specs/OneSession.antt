@@ -1,0 +1,50 @@
+-- One session a CREATE_SESSION (RFC 8881 section 18.36.4): what it asked for and was answered, and which sessions it leaves.
+use Rattle.std.specs.Prelude.{◌≡◌, ◌⊎◌, ℕ, ◌+◌, ◌==◌, Bool, true, false, List, [], ◌∷◌, ◌++◌, length, Option, None, is_some, if◌then◌else◌}
+use Rattle.nfs_xdr.specs.Caller.{Caller}
+use Rattle.nfs_xdr.specs.Tables.{In}
+use Rattle.nfs_xdr.specs.declared.status.Status.TheVariants.{Nfs4Ok}
+use Rattle.nfs_compound.specs.Operation.{OpCreateSession, Item, Operation}
+use Rattle.nfs_compound.specs.Request.{Request}
+use Rattle.nfs_compound.specs.SessionArgs.{CreateSession}
+use Rattle.nfs_compound.specs.declared.op_num.OpNum.TheVariants as Op
+use Rattle.nfs_results.specs.Results.{done_head, spell_compound_head}
+use Rattle.nfs_sessions.specs.declared.id.SessionId.{SessionId}
+use Rattle.nfs_sessions.specs.Id.{id_bytes}
+use Rattle.nfs_sessions.specs.Sessions.{Session, SessionTable, is_session, session_at}
+use Rattle.nfs_exec.specs.Machine.{Machine}
+use Rattle.nfs_exec.specs.Compound.{compound}
+use Rattle.nfs_exec.specs.Laws.{Event, Expires, Asks}
+
+-- it asks for a session of the client: CREATE_SESSION stands first
+abbrev pub asks_of : ℕ → List Item → Bool
+asks_of client (Operation (OpCreateSession c) ∷ more) = c.clientid == client
+asks_of client items = false
+
+abbrev pub asks_session : ℕ → Event → Bool
+asks_session client (Expires now) = false
+asks_session client (Asks r who size now choice) = asks_of client r.left
+
+-- A CREATE_SESSION of the client with this number answered NFS4_OK and this session id, which has 16 bytes.
+pub record Gives (client number : ℕ) (id : List ℕ) (m : Machine) (e : Event) : Type 0 where
+  pub request : Request
+  pub who : Caller
+  pub size : ℕ
+  pub now : ℕ
+  pub choice : Option ℕ
+  pub is : e ≡ Asks request who size now choice
+  pub asked : CreateSession
+  pub more : List Item
+  pub first : request.left ≡ Operation (OpCreateSession asked) ∷ more
+  pub for : asked.clientid ≡ client
+  pub with : asked.sequence ≡ number
+  pub behind : List ℕ
+  pub answers : (compound m request who size now choice).text ≡ spell_compound_head Nfs4Ok request.tag 1 ++ (done_head Op.CreateSession ++ (id ++ behind))
+  pub long : length id ≡ 16
+
+-- A session of the id stands behind it, which did not before, and no other is new.
+pub record MakesOne (id : List ℕ) (before left : SessionTable) : Type 0 where
+  pub session : SessionId
+  pub spelled : id ≡ id_bytes session
+  pub absent : session_at before session ≡ None
+  pub there : is_some (session_at left session) ≡ true
+  pub alone : (s : Session) → In s left.sessions → In s before.sessions ⊎ (is_session session s ≡ true)

@@ -1,0 +1,467 @@
+-- A byte that lasts, through each operation.
+use Rattle.std.proofs.Common.{◌≡◌, ℕ, ◌+◌, ◌≤◌, ◌<◌, ◌^◌, Bool, true, false, cond, ltb, List, [], ◌∷◌, ◌++◌, length, Option, Some, None, refl, sym, ◌∙◌, ap, subst, arith, inl, inr}
+use Rattle.std.specs.Prelude.{◌==◌, ◌&&◌, Result, Ok, Err}
+use Rattle.std.specs.Int.{w32, from_be_bytes}
+use Rattle.std.specs.Option.{option_map_or}
+use Rattle.std.proofs.lemmas.Bool.{cases_Bool, and_parts, eqb-true, ltb-true, ltb-false, false≢true}
+use Rattle.std.proofs.lemmas.Nat.{from_be_bytes-to_be_bytes_4}
+use Rattle.nfs_xdr.specs.Checks.{first_fault}
+use Rattle.nfs_xdr.specs.Spelling.{number}
+use Rattle.nfs_xdr.specs.declared.time.Time.{Time}
+use Rattle.nfs_xdr.specs.declared.status.Status.{Status}
+use Rattle.nfs_xdr.specs.declared.status.Status.TheVariants.{Delay, Inval}
+use Rattle.nfs_xdr.proofs.Checks.{all_passed}
+use Rattle.nfs_xdr.proofs.Putting.{length_number}
+use Rattle.nfs_compound.specs.NameArgs as args
+use Rattle.nfs_compound.specs.LockArgs as locks
+use Rattle.nfs_compound.specs.Arguments.{arguments}
+use Rattle.nfs_compound.specs.Attributes.{Attributes}
+use Rattle.nfs_compound.specs.FileArgs.{Write, SetAttr}
+use Rattle.nfs_compound.specs.OpenArgs.{Open, OpenHow, NoCreate, Create, Unchecked, Guarded, Exclusive, Exclusive41, OpenClaim, Null, Previous, DelegateCur, DelegatePrev, Fh, DelegCurFh, DelegPrevFh}
+use Rattle.nfs_compound.specs.declared.stateid.Stateid.{Stateid}
+use Rattle.nfs_compound.specs.declared.lock_args.LockU.{LockU}
+use Rattle.nfs_compound.specs.declared.open_args.Close.{Close}
+use Rattle.nfs_compound.specs.declared.open_args.OpenDowngrade.{OpenDowngrade}
+use Rattle.nfs_compound.specs.declared.op_num.OpNum.{OpNum}
+use Rattle.nfs_compound.specs.declared.op_num.OpNum.TheVariants as Num
+use Rattle.nfs_compound.specs.Operation.{Op, Item, Operation, Fault, OpAccess, OpCreate, OpGetAttr, OpGetFh, OpLink, OpLookup, OpLookupP, OpNVerify, OpPutFh}
+use Rattle.nfs_compound.specs.Operation.{OpPutPubFh, OpPutRootFh, OpReadDir, OpReadLink, OpRemove, OpRename, OpRestoreFh, OpSaveFh, OpSecinfoNoName, OpVerify}
+use Rattle.nfs_compound.specs.Operation.{OpClose, OpCommit, OpFreeStateid, OpLock, OpLockT, OpLockU, OpOpen, OpOpenDowngrade, OpRead, OpSetAttr, OpTestStateid, OpWrite}
+use Rattle.nfs_results.specs.Items as item
+use Rattle.nfs_results.specs.Result.{ResWrite}
+use Rattle.nfs_results.specs.declared.res.WriteOk.{WriteOk}
+use Rattle.nfs_results.specs.Results.{spell_result, done_head}
+use Rattle.nfs_ranges.specs.declared.Held.{Held}
+use Rattle.nfs_tree.specs.declared.object.Object.{Object}
+use Rattle.nfs_tree.specs.Object.{no_sets}
+use Rattle.nfs_tree.specs.Files.{Files, object_at, lookup as looked_up, named}
+use Rattle.nfs_tree.specs.Bytes.{has_bytes}
+use Rattle.nfs_tree.specs.Names.{moves, with_moved, without_name}
+use Rattle.nfs_attrs.specs.declared.wanted.Wanted.{Wanted}
+use Rattle.nfs_opens.specs.declared.stateid.StateId.{StateId}
+use Rattle.nfs_opens.specs.declared.stateid.CurrentSeqid.TheVariants.{Any, Own}
+use Rattle.nfs_opens.specs.declared.locking.OpenFault.{OpenFault}
+use Rattle.nfs_opens.specs.declared.locking.OpenFault.TheVariants as F
+use Rattle.nfs_opens.specs.Table.{Table}
+use Rattle.nfs_opens.specs.Closing as closing
+use Rattle.nfs_opens.specs.Locking as locking
+use Rattle.nfs_names.specs.declared.context.Context.{Context}
+use Rattle.nfs_names.specs.declared.node.Node.{Node}
+use Rattle.nfs_names.specs.declared.making.Making.{Making}
+use Rattle.nfs_names.specs.State.{State, with_tree, is_used, without_unused}
+use Rattle.nfs_names.specs.Ending.{with_opens, staying}
+use Rattle.nfs_names.specs.Outcome.{Outcome, ◌>>=◌, answers, checked, mapped, refuses, or_delay, is_ok}
+use Rattle.nfs_names.specs.Checks.{node_as, node_at, current}
+use Rattle.nfs_names.specs.Create.{attributes_in}
+use Rattle.nfs_names.specs.Create as of_create
+use Rattle.nfs_names.specs.Link as of_link
+use Rattle.nfs_names.specs.Remove as of_remove
+use Rattle.nfs_names.specs.Rename as of_rename
+use Rattle.nfs_names.specs.Rename.{move_of, without_replaced}
+use Rattle.nfs_names.specs.Operation as names
+use Rattle.nfs_names.specs.Access.{access}
+use Rattle.nfs_names.specs.GetAttr.{get_attr}
+use Rattle.nfs_names.specs.GetFh.{get_fh}
+use Rattle.nfs_names.specs.Lookup.{lookup}
+use Rattle.nfs_names.specs.LookupP.{lookup_p}
+use Rattle.nfs_names.specs.NVerify.{nverify}
+use Rattle.nfs_names.specs.PutFh.{put_fh}
+use Rattle.nfs_names.specs.PutPubFh.{put_pub_fh}
+use Rattle.nfs_names.specs.PutRootFh.{put_root_fh}
+use Rattle.nfs_names.specs.ReadDir.{read_dir}
+use Rattle.nfs_names.specs.ReadLink.{read_link}
+use Rattle.nfs_names.specs.RestoreFh.{restore_fh}
+use Rattle.nfs_names.specs.SaveFh.{save_fh}
+use Rattle.nfs_names.specs.SecinfoNoName.{secinfo_no_name}
+use Rattle.nfs_names.specs.Verify.{verify}
+use Rattle.nfs_names.proofs.Found.{came, ok_is, checked_ok}
+use Rattle.nfs_names.proofs.Untouched.{by_delay}
+use Rattle.nfs_files.specs.declared.opening.Found.{Found}
+use Rattle.nfs_files.specs.declared.opening.Found.TheVariants.{There, Absent}
+use Rattle.nfs_files.specs.declared.setting.Setting.{Setting}
+use Rattle.nfs_files.specs.StateIds.{meant}
+use Rattle.nfs_files.specs.Target.{target}
+use Rattle.nfs_files.specs.Bytes.{file_checks, writing, may_use, writable}
+use Rattle.nfs_files.specs.Operation.{one, grows, one_or_delay, comes_to}
+use Rattle.nfs_files.specs.Close.{closed, closes, close}
+use Rattle.nfs_files.specs.Commit.{commit}
+use Rattle.nfs_files.specs.FreeStateid.{frees, free_stateid}
+use Rattle.nfs_files.specs.Lock as of_lock
+use Rattle.nfs_files.specs.LockT.{tested, lock_t}
+use Rattle.nfs_files.specs.LockU.{unlocking, unlocked, unlocks, lock_u}
+use Rattle.nfs_files.specs.Open as of_open
+use Rattle.nfs_files.specs.Open.{makes, access_of, place_checks, there_checks, absent_checks, cuts, by_handle}
+use Rattle.nfs_files.specs.OpenDowngrade.{narrowing, narrows, open_downgrade}
+use Rattle.nfs_files.specs.Read.{read}
+use Rattle.nfs_files.specs.SetAttr as of_set
+use Rattle.nfs_files.specs.TestStateid.{test_stateid}
+use Rattle.nfs_files.specs.Write as of_write
+use Rattle.nfs_files.specs.Written.{Byte, Lasts, WritesOver, SetsSize, OpensEmpty, Spares, SparedBytesLast, NamesLeaveBytes}
+use Rattle.nfs_files.proofs.Passing.{if_passed_ok, mapped_came}
+use Rattle.nfs_files.proofs.KeptOps.{found}
+use Rattle.nfs_files.proofs.WrittenTrees.{lasts_new, lasts_link, lasts_without, lasts_moved, lasts_rest, lasts_forget, lasts_changed, lasts_written, lasts_resized}
+
+-- an object that goes for want of use
+lasts_unused : (b : Byte) (s : State) (n : ℕ) → Lasts b s.tree → Lasts b (without_unused s n).tree
+lasts_unused b s n is = elim (cases_Bool (is_used s n)) [ inl stays ↦ rw stays is | inr goes ↦ rw goes (lasts_forget b s.tree n is) ]
+
+-- the end of clients
+pub lasts_staying : (b : Byte) (stays : ℕ → Bool) (s : State) → Lasts b s.tree → Lasts b (staying stays s).tree
+lasts_staying b stays s is = lasts_rest b s.tree _ is
+
+-- Names.
+
+abbrev LastsIn : Byte → State → Type 0
+LastsIn b s = Lasts b s.tree
+
+lasts_replaced : (b : Byte) (s : State) (o : Option ℕ) → LastsIn b s → LastsIn b (without_replaced s o)
+lasts_replaced b s None is = is
+lasts_replaced b s (Some n) is = lasts_unused b s n is
+
+lasts_rename : (b : Byte) (s : State) (x : Context) (now : Time) (a : args.Rename) (p : _) (v : Bool) → LastsIn b s
+    → LastsIn b (cond v (of_rename.moved s x now a p) (of_rename.unmoved s x p)).state
+lasts_rename b s x now a p true is =
+    lasts_replaced b (with_tree s (with_moved s.tree (move_of a p) now)) (looked_up s.tree p.current.number a.newname) (lasts_moved b s.tree (move_of a p) now is)
+lasts_rename b s x now a p false is = is
+
+lasts_name : (b : Byte) (s : State) (x : Context) (now : Time) (op : Op) → LastsIn b s → LastsIn b (names.one s x now op).state
+unfolding access of_create.create get_attr get_fh of_link.link lookup lookup_p nverify put_fh put_pub_fh
+    put_root_fh read_dir read_link of_remove.remove of_rename.rename restore_fh save_fh secinfo_no_name verify
+lasts_name b s x now (OpAccess asked) is = found (LastsIn b) s x Num.Access _ _ is (λ d e. is)
+lasts_name b s x now (OpCreate c) is = found (LastsIn b) s x Num.Create _ (of_create.created s x now c) is 
+    (λ m e. lasts_new b s.tree m.place.number c.objname (of_create.new_of c.objtype) (of_create.sets_of x now (of_create.new_of c.objtype) m.wanted) now is)
+lasts_name b s x now (OpGetAttr mask) is = found (LastsIn b) s x Num.GetAttr _ _ is (λ d e. is)
+lasts_name b s x now OpGetFh is = found (LastsIn b) s x Num.GetFh _ _ is (λ d e. is)
+lasts_name b s x now (OpLink name) is = found (LastsIn b) s x Num.Link _ (of_link.linked s x now name) is (λ p e. lasts_link b s.tree p.saved.number p.current.number name now is)
+lasts_name b s x now (OpLookup name) is = found (LastsIn b) s x Num.Lookup _ _ is (λ d e. is)
+lasts_name b s x now OpLookupP is = found (LastsIn b) s x Num.LookupP _ _ is (λ d e. is)
+lasts_name b s x now (OpNVerify a) is = found (LastsIn b) s x Num.NVerify _ _ is (λ d e. is)
+lasts_name b s x now (OpPutFh object) is = found (LastsIn b) s x Num.PutFh _ _ is (λ d e. is)
+lasts_name b s x now OpPutPubFh is = is
+lasts_name b s x now OpPutRootFh is = is
+lasts_name b s x now (OpReadDir a) is = found (LastsIn b) s x Num.ReadDir _ _ is (λ d e. is)
+lasts_name b s x now OpReadLink is = found (LastsIn b) s x Num.ReadLink _ _ is (λ d e. is)
+lasts_name b s x now (OpRemove name) is = found (LastsIn b) s x Num.Remove _ (of_remove.removed s x now name) is
+    (λ d e. lasts_unused b (with_tree s (without_name s.tree d.number name now)) (named s.tree d.number name) (lasts_without b s.tree d.number name now is))
+lasts_name b s x now (OpRename a) is = found (LastsIn b) s x Num.Rename _ _ is (λ p e. lasts_rename b s x now a p (moves s.tree (move_of a p)) is)
+lasts_name b s x now OpRestoreFh is = found (LastsIn b) s x Num.RestoreFh _ _ is (λ d e. is)
+lasts_name b s x now OpSaveFh is = found (LastsIn b) s x Num.SaveFh _ _ is (λ d e. is)
+lasts_name b s x now (OpSecinfoNoName style) is = found (LastsIn b) s x Num.SecinfoNoName _ _ is (λ d e. is)
+lasts_name b s x now (OpVerify a) is = found (LastsIn b) s x Num.Verify _ _ is (λ d e. is)
+lasts_name b s x now op is = is
+
+pub names_leave_bytes : NamesLeaveBytes
+names_leave_bytes b refused s x now (Operation op) is =
+    by_delay (λ s x. LastsIn b s) (names.grows s x op && refused) s x (arguments op).op (names.one s x now op) is (lasts_name b s x now op is)
+names_leave_bytes b refused s x now (Fault n status) is = is
+
+-- Files: the object of the current filehandle.
+
+pub by_outcome : (P : Outcome → Type 0) (b : Bool) (s : State) (x : Context) (op : OpNum) (o : Outcome) → P (refuses s x op Delay) → P o → P (or_delay b s x op o)
+by_outcome P b s x op o delayed done =
+    elim (b && is_ok o.result) as (λ k. P (cond k (refuses s x op Delay) o)) [ true ↦ delayed | false ↦ done ]
+
+pub by_found : {A : Type 0} (P : Outcome → Type 0) (s : State) (x : Context) (op : OpNum) (v : Result A Status) (f : A → Outcome)
+    → ((status : Status) → P (refuses s x op status)) → ((a : A) → v ≡ Ok a → P (f a)) → P (answers s x op v f)
+by_found P s x op (Err status) f refused each = refused status
+by_found P s x op (Ok a) f refused each = each a refl
+
+number_by : (n : ℕ) (d : Node) (o : Option Object) → node_as n o ≡ Ok d → Some n ≡ Some d.number
+number_by n d None e = absurd cc
+number_by n d (Some o) e = let same : record { number = n; object = o } ≡ d = cc in ap (λ (h : Node). Some h.number) same
+
+node_number : (s : State) (d : Node) (o : Option ℕ) → node_at s o ≡ Ok d → o ≡ Some d.number
+node_number s d None e = absurd cc
+node_number s d (Some n) e = number_by n d (object_at s.tree n) e
+
+pub current_number : (s : State) (x : Context) (d : Node) → current s x ≡ Ok d → x.current ≡ Some d.number
+unfolding current
+current_number s x d e = node_number s d x.current e
+
+pub writable_at : (s : State) (x : Context) (given : Stateid) (d : Node) → writable s x given (current s x) ≡ Ok d → current s x ≡ Ok d
+unfolding writable
+writable_at s x given d e =
+    (checked_ok (current s x) file_checks d (if_passed_ok (checked (current s x) file_checks) (may_use s x writing given) d e).0).0
+
+-- WRITE
+pub number_back : (n : ℕ) → n < 2 ^ 32 → from_be_bytes w32 (number n) ≡ n
+unfolding number
+number_back n small = from_be_bytes-to_be_bytes_4 n small
+
+pub write_spelled : (k : WriteOk) → (more : List ℕ) × (spell_result (ResWrite k) ≡ done_head Num.Write ++ (number k.count ++ more))
+unfolding item.write_ok
+write_spelled k = (_, refl)
+
+guarded : (a b : Bool) → a && b ≡ false → a ≡ true → b ≡ false
+guarded true b e is = e
+guarded false b e is = absurd (false≢true is)
+
+pub few_written : (s : State) (w : Write) (d : Node) → first_fault (of_write.last_checks s w d) ≡ None → has_bytes w.bytes ≡ true → length w.bytes < 2 ^ 32
+few_written s w d none some =
+    let checks = all_passed (of_write.last_checks s w d) none in
+    let most = ltb-false _ _ (guarded (has_bytes w.bytes) (ltb 1048576 (w.offset + length w.bytes)) checks.0 some) in
+    omega arith
+
+abbrev LeftBy : Byte → State → Context → Item → Outcome → Type 0
+LeftBy b s x i o = Spares b s x i (spell_result o.result) → Lasts b o.state.tree
+
+written_left : (b : Byte) (s : State) (x : Context) (now : Time) (w : Write) (d : Node) → writable s x w.stateid (current s x) ≡ Ok d
+    → first_fault (of_write.last_checks s w d) ≡ None → LastsIn b s → LeftBy b s x (Operation (OpWrite w)) (of_write.was_written s x now w d)
+written_left b s x now w d e none is spares = elim (cases_Bool (has_bytes w.bytes)) [
+  | inl some ↦ rw some (lasts_written b s.tree d.number w.offset w.bytes now (λ at from below.
+      (let spelled = write_spelled (of_write.write_ok s w) in
+      spares.writes (record {
+        asked = w;
+        is = refl;
+        at = current_number s x d (writable_at s x w.stateid d e) ∙ ap (λ n. Some n) at;
+        count = number (length w.bytes);
+        more = spelled.0;
+        answers = spelled.1;
+        long = length_number (length w.bytes);
+        from = from;
+        below = subst (λ n. b.place < w.offset + n) (sym (number_back (length w.bytes) (few_written s w d none some))) below;
+      }))) is)
+  | inr empty ↦ rw empty is
+]
+
+lasts_write : (b : Byte) (s : State) (x : Context) (now : Time) (w : Write) → LastsIn b s → LeftBy b s x (Operation (OpWrite w)) (of_write.write s x now w)
+unfolding of_write.write
+lasts_write b s x now w is =
+    by_found (LeftBy b s x (Operation (OpWrite w))) s x Num.Write (checked (writable s x w.stateid (current s x)) (of_write.last_checks s w)) (of_write.was_written s x now w)
+    (λ status spares. is) (λ d granted.
+    (let p = checked_ok (writable s x w.stateid (current s x)) (of_write.last_checks s w) d granted in written_left b s x now w d p.0 p.1 is))
+
+-- SETATTR
+record IsSetting (s : State) (x : Context) (a : SetAttr) (m : Setting) : Type 0 where
+  pub at : x.current ≡ Some m.node.number
+  pub reads : attributes_in a.obj_attributes ≡ Ok m.wanted
+
+setting_is : (s : State) (x : Context) (a : SetAttr) (m : Setting) → of_set.asked_for s x a ≡ Ok m → IsSetting s x a m
+unfolding of_set.asked_for
+setting_is s x a m e =
+    let p = if_passed_ok (of_set.setting s x a) (of_set.sized s x a.stateid) m e in
+    let d = came (current s x) _ m p.0 in
+    let w = came (attributes_in a.obj_attributes) _ m d.then in
+    let k : Setting = record { node = d.found; wanted = w.found } in
+    let same : k ≡ m = ok_is refl (checked_ok (Ok k) (of_set.owner_checks x) m w.then).0 in
+    record {
+      at = current_number s x d.found d.is ∙ ap (λ (m : Setting). Some m.node.number) same;
+      reads = w.is ∙ ap (λ (m : Setting). Ok m.wanted) same;
+    }
+
+set_left : (b : Byte) (s : State) (x : Context) (now : Time) (a : SetAttr) (m : Setting) → IsSetting s x a m → LastsIn b s
+    → LeftBy b s x (Operation (OpSetAttr a)) (of_set.was_set s x now a m)
+set_left b s x now a m is lasts spares = by_size m.wanted.size refl
+  where
+    by_size : (o : Option ℕ) → m.wanted.size ≡ o → Lasts b (of_set.with_set s.tree m.node.number now m.wanted o)
+    by_size (Some size) e = lasts_resized b s.tree m.node.number size (of_set.sets_of now m.wanted) now (λ at. elim (cases_Bool (ltb b.place size)) [
+      | inl below ↦ ltb-true b.place size below
+      | inr behind ↦ absurd (spares.sizes (record {
+        asked = a;
+        is = refl;
+        at = is.at ∙ ap (λ n. Some n) at;
+        wanted = m.wanted;
+        reads = is.reads;
+        size = size;
+        sets = e;
+        cuts = ltb-false b.place size behind;
+        more = _;
+        answers = refl;
+      }))
+    ]) lasts
+    by_size None e = elim (cases_Bool (of_set.gives_some m.wanted)) [
+      | inl some ↦ rw some (lasts_changed b s.tree m.node.number now (of_set.sets_of now m.wanted) lasts)
+      | inr nothing ↦ rw nothing lasts
+    ]
+
+lasts_set : (b : Byte) (s : State) (x : Context) (now : Time) (a : SetAttr) → LastsIn b s → LeftBy b s x (Operation (OpSetAttr a)) (of_set.set_attr s x now a)
+unfolding of_set.set_attr
+lasts_set b s x now a is =
+    by_found (LeftBy b s x (Operation (OpSetAttr a))) s x Num.SetAttr (checked (of_set.asked_for s x a) (of_set.last_checks s)) (of_set.was_set s x now a)
+    (λ status spares. is) (λ m granted.
+    set_left b s x now a m (setting_is s x a m (checked_ok (of_set.asked_for s x a) (of_set.last_checks s) m granted).0) is)
+
+-- OPEN
+record IsCut (s : State) (x : Context) (o : Open) (f : Node) : Type 0 where
+  pub directory : ℕ
+  pub at : x.current ≡ Some directory
+  pub name : List ℕ
+  pub claim : o.claim ≡ Null name
+  pub names : looked_up s.tree directory name ≡ Some f.number
+  pub wanted : Wanted
+  pub reads : attributes_in (makes o.openhow).attributes ≡ Ok wanted
+  pub cuts : cuts o wanted ≡ true
+
+found_cut : (s : State) (x : Context) (o : Open) (m : Making) (n : Option ℕ) (place : ℕ) (f : Node)
+    → of_open.found_by s x o m n ≡ Ok (There place f true) → (n ≡ Some f.number) × (cuts o m.wanted ≡ true)
+found_cut s x o m None place f e =
+    let c = mapped_came Absent (checked (Ok m) (absent_checks x o)) (There place f true) e in
+    let bad : Absent c.found ≡ There place f true = c.same in
+    absurd cc
+found_cut s x o m (Some n) place f e =
+    let c = mapped_came (λ f. There m.place.number f (cuts o m.wanted)) (checked (node_at s (Some n)) (there_checks x o)) (There place f true) e in
+    let same : There m.place.number c.found (cuts o m.wanted) ≡ There place f true = c.same in
+    let node : c.found ≡ f = cc in
+    let cut : cuts o m.wanted ≡ true = cc in
+    (node_number s c.found (Some n) (checked_ok (node_at s (Some n)) (there_checks x o) c.found c.is).0 ∙ ap (λ (d : Node). Some d.number) node, cut)
+
+named_cut : (s : State) (x : Context) (o : Open) (name : List ℕ) (d : Node) (place : ℕ) (f : Node) → current s x ≡ Ok d → o.claim ≡ Null name
+    → of_open.by_name s x o name d ≡ Ok (There place f true) → IsCut s x o f
+named_cut s x o name d place f at is e =
+    let p = came (checked (Ok d) (place_checks x name)) _ (There place f true) e in
+    let w = came (attributes_in (makes o.openhow).attributes) _ (There place f true) p.then in
+    let same : d ≡ p.found = ok_is refl (checked_ok (Ok d) (place_checks x name) p.found p.is).0 in
+    let cut = found_cut s x o (record { place = p.found; wanted = w.found }) (looked_up s.tree p.found.number name) place f w.then in
+    record {
+      directory = p.found.number;
+      at = current_number s x d at ∙ ap (λ (d : Node). Some d.number) same;
+      name = name;
+      claim = is;
+      names = cut.0;
+      wanted = w.found;
+      reads = w.is;
+      cuts = cut.1;
+    }
+
+handle_cut : (s : State) (x : Context) (o : Open) (b : Bool) (d : Node) (place : ℕ) (f : Node) → cond b (Err Inval) (by_handle x o d) ≡ Ok (There place f true) → ⊥
+handle_cut s x o true d place f e = absurd cc
+handle_cut s x o false d place f e =
+    let c = mapped_came (λ f. There f.number f false) (checked (Ok d) (there_checks x o)) (There place f true) e in
+    let bad : There c.found.number c.found false ≡ There place f true = c.same in
+    absurd cc
+
+claimed_cut : (s : State) (x : Context) (o : Open) (claim : OpenClaim) (d : Node) (place : ℕ) (f : Node) → current s x ≡ Ok d → o.claim ≡ claim
+    → of_open.by_claim s x o claim d ≡ Ok (There place f true) → IsCut s x o f
+claimed_cut s x o (Null name) d place f at is e = named_cut s x o name d place f at is e
+claimed_cut s x o Fh d place f at is e = absurd (handle_cut s x o (makes o.openhow).creates d place f e)
+claimed_cut s x o (Previous type) d place f at is e = absurd cc
+claimed_cut s x o (DelegateCur id file) d place f at is e = absurd cc
+claimed_cut s x o (DelegatePrev file) d place f at is e = absurd cc
+claimed_cut s x o (DelegCurFh id) d place f at is e = absurd cc
+claimed_cut s x o DelegPrevFh d place f at is e = absurd cc
+
+asked_cut : (s : State) (x : Context) (o : Open) (place : ℕ) (f : Node) → of_open.asked_for s x o ≡ Ok (There place f true) → IsCut s x o f
+unfolding of_open.asked_for
+asked_cut s x o place f e =
+    let c = came (checked (current s x) (of_open.argument_checks o)) (of_open.by_claim s x o o.claim) (There place f true) e in
+    claimed_cut s x o o.claim c.found place f (checked_ok (current s x) (of_open.argument_checks o) c.found c.is).0 refl c.then
+
+-- how it asks for that
+record AsksEmpty (o : Open) (wanted : Wanted) : Type 0 where
+  pub given : Attributes
+  pub how : o.openhow ≡ Create (Unchecked given)
+  pub same : (makes o.openhow).attributes ≡ given
+  pub size : wanted.size ≡ Some 0
+  pub writes : (access_of o).writes ≡ true
+
+is_zero : (o : Option ℕ) → option_map_or (λ n. n == 0) o false ≡ true → o ≡ Some 0
+is_zero None e = absurd (false≢true e)
+is_zero (Some n) e = ap (λ n. Some n) (eqb-true n 0 e)
+
+asks_empty : (o : Open) (wanted : Wanted) (how : OpenHow) → o.openhow ≡ how → cuts o wanted ≡ true → AsksEmpty o wanted
+asks_empty o wanted (Create (Unchecked given)) is e =
+    let parts = and_parts _ _ e in
+    let more = and_parts _ _ parts.1 in
+    record { given = given; how = is; same = ap (λ how. (makes how).attributes) is; size = is_zero wanted.size more.0; writes = more.1 }
+asks_empty o wanted NoCreate is e = absurd (false≢true (sym (ap (λ how. (makes how).cuts) is) ∙ (and_parts _ _ e).0))
+asks_empty o wanted (Create (Guarded a)) is e = absurd (false≢true (sym (ap (λ how. (makes how).cuts) is) ∙ (and_parts _ _ e).0))
+asks_empty o wanted (Create (Exclusive v)) is e = absurd (false≢true (sym (ap (λ how. (makes how).cuts) is) ∙ (and_parts _ _ e).0))
+asks_empty o wanted (Create (Exclusive41 v a)) is e = absurd (false≢true (sym (ap (λ how. (makes how).cuts) is) ∙ (and_parts _ _ e).0))
+
+opened_left : (b : Byte) (s : State) (x : Context) (now : Time) (o : Open) (f : Found) → of_open.asked_for s x o ≡ Ok f → LastsIn b s
+    → LeftBy b s x (Operation (OpOpen o)) (of_open.opened s x now o f)
+opened_left b s x now o (Absent m) e is spares =
+    lasts_new b s.tree m.place.number (of_open.name_of o.claim) (of_open.new_of o m.wanted) (of_open.sets_of x now o m.wanted) now is
+opened_left b s x now o (There place f false) e is spares = is
+opened_left b s x now o (There place f true) e is spares =
+    lasts_resized b s.tree f.number 0 no_sets now (λ at.
+    (let cut = asked_cut s x o place f e in
+    let asks = asks_empty o cut.wanted o.openhow refl cut.cuts in
+    absurd (spares.opens (record {
+      asked = o;
+      is = refl;
+      directory = cut.directory;
+      at = cut.at;
+      name = cut.name;
+      claim = cut.claim;
+      names = cut.names ∙ ap (λ n. Some n) at;
+      given = asks.given;
+      how = asks.how;
+      wanted = cut.wanted;
+      reads = ap attributes_in (sym asks.same) ∙ cut.reads;
+      size = asks.size;
+      writes = asks.writes;
+      ok = _;
+      answers = refl;
+      sets = refl;
+    })))) is
+
+lasts_open : (b : Byte) (s : State) (x : Context) (now : Time) (o : Open) → LastsIn b s → LeftBy b s x (Operation (OpOpen o)) (of_open.open_file s x now o)
+unfolding of_open.open_file
+lasts_open b s x now o is =
+    by_found (LeftBy b s x (Operation (OpOpen o))) s x Num.Open (checked (of_open.asked_for s x o) (of_open.last_checks s x o)) (of_open.opened s x now o)
+    (λ status spares. is) (λ f granted. opened_left b s x now o f (checked_ok (of_open.asked_for s x o) (of_open.last_checks s x o) f granted).0 is)
+
+-- CLOSE
+lasts_close : (b : Byte) (s : State) (x : Context) (a : Close) → LastsIn b s → LastsIn b (close s x a).state
+unfolding close
+lasts_close b s x a is =
+    found (LastsIn b) s x Num.Close (target s x Own a.open_stateid) (closes s x) is (λ t judged.
+    (let did = closing.close s.opens t.id x.client t.file in
+    found (LastsIn b) s x Num.Close did.answer (λ u. closed s x t.file did.after) is (λ u granted. lasts_unused b (with_opens s did.after) t.file is)))
+
+-- those that leave the tree
+locked_left : (b : Byte) (s : State) (x : Context) (after : Table) (v : Result StateId OpenFault) → LastsIn b s → LastsIn b (of_lock.locked s x after v).state
+locked_left b s x after (Ok id) is = is
+locked_left b s x after (Err (F.Refused status)) is = is
+locked_left b s x after (Err (F.Denied h)) is = is
+locked_left b s x after (Err F.Memory) is = is
+
+lasts_lock : (b : Byte) (s : State) (x : Context) (a : locks.Lock) → LastsIn b s → LastsIn b (of_lock.lock s x a).state
+unfolding of_lock.lock
+lasts_lock b s x a is = found (LastsIn b) s x Num.Lock (of_lock.locking s x a) (of_lock.locks s x a.locker) is (λ m judged.
+    (let did = of_lock.locks_as s.opens a.locker m.id m.wish in locked_left b s x did.after did.answer is))
+
+unlocked_left : (b : Byte) (s : State) (x : Context) (after : Table) (v : Result StateId OpenFault) → LastsIn b s → LastsIn b (unlocked s x after v).state
+unlocked_left b s x after (Ok id) is = is
+unlocked_left b s x after (Err fault) is = is
+
+lasts_unlock : (b : Byte) (s : State) (x : Context) (a : LockU) → LastsIn b s → LastsIn b (lock_u s x a).state
+unfolding lock_u
+lasts_unlock b s x a is = found (LastsIn b) s x Num.LockU (unlocking s x a) (unlocks s x) is (λ m judged.
+    (let w = m.wish in let did = locking.unlock s.opens m.id w.client w.file w.first w.last in unlocked_left b s x did.after did.answer is))
+
+lasts_free : (b : Byte) (s : State) (x : Context) (given : Stateid) → LastsIn b s → LastsIn b (free_stateid s x given).state
+unfolding free_stateid
+lasts_free b s x given is = found (LastsIn b) s x Num.FreeStateid (meant x Any given) (frees s x) is (λ id judged.
+    found (LastsIn b) s x Num.FreeStateid (closing.free s.opens id x.client).answer _ is (λ u granted. is))
+
+lasts_downgrade : (b : Byte) (s : State) (x : Context) (a : OpenDowngrade) → LastsIn b s → LastsIn b (open_downgrade s x a).state
+unfolding open_downgrade
+lasts_downgrade b s x a is = found (LastsIn b) s x Num.OpenDowngrade (narrowing s x a) (narrows s x a) is (λ t judged.
+    found (LastsIn b) s x Num.OpenDowngrade _ _ is (λ id granted. is))
+
+tested_left : (b : Byte) (s : State) (x : Context) (o : Option Held) → LastsIn b s → LastsIn b (tested s x o).state
+tested_left b s x None is = is
+tested_left b s x (Some h) is = is
+
+lasts_one : (b : Byte) (s : State) (x : Context) (now : Time) (op : Op) → LastsIn b s → LeftBy b s x (Operation op) (one s x now op)
+unfolding commit lock_t read test_stateid
+lasts_one b s x now (OpClose a) is spares = lasts_close b s x a is
+lasts_one b s x now (OpCommit a) is spares = found (LastsIn b) s x Num.Commit _ _ is (λ d e. is)
+lasts_one b s x now (OpFreeStateid given) is spares = lasts_free b s x given is
+lasts_one b s x now (OpLock a) is spares = lasts_lock b s x a is
+lasts_one b s x now (OpLockT a) is spares = found (LastsIn b) s x Num.LockT _ _ is (λ w e. tested_left b s x (locking.test_lock s.opens a.owner.owner w) is)
+lasts_one b s x now (OpLockU a) is spares = lasts_unlock b s x a is
+lasts_one b s x now (OpOpen a) is spares = lasts_open b s x now a is spares
+lasts_one b s x now (OpOpenDowngrade a) is spares = lasts_downgrade b s x a is
+lasts_one b s x now (OpRead a) is spares = found (LastsIn b) s x Num.Read _ _ is (λ d e. is)
+lasts_one b s x now (OpSetAttr a) is spares = lasts_set b s x now a is spares
+lasts_one b s x now (OpTestStateid given) is spares = is
+lasts_one b s x now (OpWrite a) is spares = lasts_write b s x now a is spares
+lasts_one b s x now op is spares = is
+
+pub spared_bytes_last : SparedBytesLast
+spared_bytes_last b refused s x now (Operation op) is =
+    by_outcome (LeftBy b s x (Operation op)) (grows s x op && refused) s x (arguments op).op (one s x now op) (λ spares. is) (lasts_one b s x now op is)
+spared_bytes_last b refused s x now (Fault n status) is = λ spares. is
