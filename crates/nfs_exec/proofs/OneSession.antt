@@ -5,7 +5,7 @@ use Rattle.std.proofs.lemmas.Bool.{cases_Bool, cases_eq, eqb-true, eqb-false, eq
 use Rattle.std.proofs.lemmas.List.{length-append, take_at, drop_at}
 use Rattle.nfs_xdr.specs.Caller.{Caller}
 use Rattle.nfs_xdr.specs.Tables.{In}
-use Rattle.nfs_xdr.specs.Spelling.{opaque}
+use Rattle.nfs_xdr.specs.Spelling.{hyper, opaque}
 use Rattle.nfs_xdr.specs.declared.status.Status.{Status}
 use Rattle.nfs_xdr.specs.declared.status.Status.TheVariants.{Nfs4Ok, Delay, StaleClientId, SeqMisordered, ClidInUse, MinorVersMismatch}
 use Rattle.nfs_xdr.proofs.Lists.{find_in, in_filter, in_push, find_push_none, find_past, any_in, find_none}
@@ -46,7 +46,7 @@ use Rattle.nfs_names.specs.State.{moment}
 use Rattle.nfs_names.specs.Ending.{has_open}
 use Rattle.nfs_names.specs.Operation as names
 use Rattle.nfs_files.specs.Operation as files
-use Rattle.nfs_exec.specs.Machine.{Machine, Outcome, is_ok, or_delay, refuses}
+use Rattle.nfs_exec.specs.Machine.{Machine, Outcome, is_ok, or_delay, refuses, starts}
 use Rattle.nfs_exec.specs.Behind.{Step, step, on_store, moves_opens, marked_if, otherwise}
 use Rattle.nfs_exec.specs.Run.{run, in_room, is_here, behind_here}
 use Rattle.nfs_exec.specs.Place.{item_fault}
@@ -57,12 +57,13 @@ use Rattle.nfs_exec.specs.Destroy.{destroy_session, destroyed_unless, has_sessio
 use Rattle.nfs_exec.specs.Sequence as sequence
 use Rattle.nfs_exec.specs.Sequence.{Sequenced, sequenced}
 use Rattle.nfs_exec.specs.Compound.{carried_out, by_fault, first_item, renewed, begun, bare, in_session, by_first, compound}
-use Rattle.nfs_exec.specs.Laws.{Event, Expires, Asks, stepped}
-use Rattle.nfs_exec.specs.OneSession.{asks_of, asks_session, Gives, MakesOne}
+use Rattle.nfs_exec.specs.Laws.{Event, Expires, Asks, stepped, all_stepped}
+use Rattle.nfs_exec.specs.OneSession.{asks_of, asks_session, Gives, MakesOne, GivesOne}
 use Rattle.nfs_exec.proofs.Behind.{follow_kept}
 use Rattle.nfs_exec.proofs.Creating.{length_id}
 use Rattle.nfs_exec.proofs.AnsweredRun.{in_room_is}
 use Rattle.nfs_exec.proofs.Numbering.{IsCounted}
+use Rattle.nfs_exec.proofs.Rounds.{counted_all}
 use Rattle.nfs_exec.proofs.SessionNumbers.{After, IsAgain, IsNext, more, after_fewer, after_quiet, after_other, after_own, after_case, after_gone, after_confirmed}
 use Rattle.nfs_exec.proofs.SessionNumbers.{verdict_again, verdict_next, after_again, after_next, not_next, same_kept}
 
@@ -179,12 +180,12 @@ carried_after : (n number most : ℕ) (body : List ℕ) (m : Machine) (who : Cal
     → Asked n number most body i (carried_out m who now refused i).machine
 carried_after n number most body m who now refused (Operation (OpCreateSession c)) a = created_after n number most body m who now refused c a
 carried_after n number most body m who now refused (Operation (OpExchangeId e)) a =
-    as_asked n number most body _ false (delayed_after (In_ n number most body) m (exchange_id m who now e) refused exchange_id_number a
+    as_asked n number most body (or_delay refused m exchange_id_number (exchange_id m who now e)).machine false (delayed_after (In_ n number most body) m (exchange_id m who now e) refused exchange_id_number a
     (after_case n number most body m.clients (ask_of who e) (case_of m.clients (ask_of who e)) a))
 carried_after n number most body m who now refused (Operation (OpDestroySession sessionid)) a =
-    as_asked n number most body _ false (ended_after n number most body m sessionid a)
+    as_asked n number most body (destroy_session m sessionid).machine false (ended_after n number most body m sessionid a)
 carried_after n number most body m who now refused (Operation (OpDestroyClientId client)) a =
-    as_asked n number most body _ false (destroyed_after n number most body m client (destroy_fault m.clients client (has_session m.sessions client)) a)
+    as_asked n number most body (destroyed_unless m client (destroy_fault m.clients client (has_session m.sessions client))).machine false (destroyed_after n number most body m client (destroy_fault m.clients client (has_session m.sessions client)) a)
 carried_after n number most body m who now refused i a = as_asked n number most body m (asks_of n (i ∷ [])) a
 
 first_after : (n number most : ℕ) (body : List ℕ) (m : Machine) (declared : ℕ) (who : Caller) (now : ℕ) (refused : Bool) (i : Item) → In_ n number most body m
@@ -210,7 +211,7 @@ items_after : (n number most : ℕ) (body : List ℕ) (m : Machine) (r : Request
     → In_ n number most body m → In_ n number (most + cond (asks_of n items) 1 0) body (by_first m r who size now choice items).machine
 items_after n number most body m r who size now choice [] a = as_asked n number most body m false a
 items_after n number most body m r who size now choice (Operation (OpSequence s) ∷ rest) a =
-    as_asked n number most body _ false (session_after n number most body m r who now choice s rest (sequenced m r who size s) a)
+    as_asked n number most body (in_session m r who now choice s rest (sequenced m r who size s)).machine false (session_after n number most body m r who now choice s rest (sequenced m r who size s) a)
 items_after n number most body m r who size now choice (i ∷ rest) a =
     subst (λ v. In_ n number (most + cond v 1 0) body (first_item m r.declared who now (is_here choice) i).machine) (sym (asked_same n i rest))
     (first_after n number most body m r.declared who now (is_here choice) i a)
@@ -384,7 +385,7 @@ given_again client number most id behind other m e long after few g =
 -- What it makes.
 
 made_id : (c : CreateSession) (id : SessionId) → (behind : List ℕ) × (made_body c id ≡ id_bytes id ++ behind)
-unfolding item.create_session
+unfolding item.create_session hyper
 made_id c id = (_, refl)
 
 created_is : (t : SessionTable) (client : ℕ) (wish : Wish) (id : SessionId) (o : Option SessionFault) → (create_unless t client wish o).answer ≡ Ok id
@@ -467,3 +468,8 @@ gives_one client number id m e counted g = elim (either client number id m e g) 
   | inl repeat ↦ inl repeat.unchanged
   | inr made ↦ inr (made_one m g.now g.asked id g.behind (stepped m e) counted g.long made)
 ]
+
+pub gives_one_in_runs : GivesOne
+gives_one_in_runs mode instance lease events e client number id g =
+    gives_one client number id (all_stepped (starts mode instance lease) events) e
+    (counted_all (starts mode instance lease) events (λ s there. absurd there)) g

@@ -42,7 +42,7 @@ counted_step m e is = go (ran m e) refl
     go None none = quiet IsCounted held_counted m e none is
     go (Some s) runs = counted_kept m.sessions (stepped m e).sessions s (kept m e s runs) is
 
-counted_all : (m : Machine) (events : List Event) → IsCounted m.sessions → IsCounted (all_stepped m events).sessions
+pub counted_all : (m : Machine) (events : List Event) → IsCounted m.sessions → IsCounted (all_stepped m events).sessions
 counted_all m [] is = is
 counted_all m (e ∷ more) is = counted_all (stepped m e) more (counted_step m e is)
 

@@ -1,28 +1,36 @@
 -- A byte that was written lasts through compounds and expiry.
-use Rattle.std.proofs.Common.{◌≡◌, ℕ, suc, ◌+◌, ◌<◌, Bool, true, false, cond, eqb, List, [], ◌∷◌, ◌++◌, Option, Some, None, refl, sym, ◌∙◌, ap, subst, arith, inl, inr}
-use Rattle.std.specs.Prelude.{◌==◌, ◌||◌, is_some}
+use Rattle.std.proofs.Common.{◌≡◌, ℕ, suc, ◌+◌, ◌<◌, Bool, true, false, cond, eqb, not, List, [], ◌∷◌, ◌++◌, get_or, Option, Some, None, refl, sym, ◌∙◌, ap, subst, arith, inl, inr}
+use Rattle.std.specs.Prelude.{◌==◌, ◌||◌, is_some, option_map, Ok}
 use Rattle.std.specs.Option.{option_map_or}
-use Rattle.std.proofs.lemmas.Bool.{cases_Bool, cases_eq, eqb-true, false≢true}
+use Rattle.std.proofs.lemmas.Bool.{cases_Bool, cases_eq, eqb-true, eq-eqb, false≢true}
 use Rattle.nfs_xdr.specs.Caller.{Caller}
 use Rattle.nfs_xdr.specs.Tables.{In}
-use Rattle.nfs_xdr.specs.declared.status.Status.TheVariants.{RepTooBig, MinorVersMismatch}
+use Rattle.nfs_xdr.specs.declared.status.Status.TheVariants.{RepTooBig, Stale, MinorVersMismatch}
+use Rattle.nfs_xdr.specs.Spelling.{number}
 use Rattle.nfs_xdr.proofs.Lists.{in_any}
 use Rattle.nfs_compound.specs.FileArgs.{Write}
 use Rattle.nfs_compound.specs.declared.file_args.Read.{Read}
 use Rattle.nfs_compound.specs.declared.op_num.OpNum.TheVariants as Num
-use Rattle.nfs_compound.specs.Operation.{Item, Operation, OpRead, OpWrite, OpSequence}
+use Rattle.nfs_compound.specs.Operation.{Item, Operation, OpPutFh, OpRead, OpWrite, OpSequence}
 use Rattle.nfs_compound.specs.Request.{Request}
 use Rattle.nfs_compound.specs.declared.session_args.Sequence.{Sequence}
+use Rattle.nfs_results.specs.Result.{ResPutFh, Refused}
+use Rattle.nfs_results.specs.Results.{spell_result}
 use Rattle.nfs_clients.specs.Roster.{ClientRecord}
 use Rattle.nfs_sessions.specs.Id.{id_of}
 use Rattle.nfs_tree.specs.declared.object.FileType.{FileType}
 use Rattle.nfs_tree.specs.declared.row.Row.{Row}
 use Rattle.nfs_tree.specs.declared.stored.Stored.{Stored}
 use Rattle.nfs_tree.specs.Object.{is_directory, is_regular}
-use Rattle.nfs_tree.specs.Files.{Files, root, stored_in, is_there, has_row, data_at}
+use Rattle.nfs_tree.specs.Files.{Files, root, stored_in, object_at, is_there, has_row, data_at}
 use Rattle.nfs_tree.specs.Kept.{IsTree}
+use Rattle.nfs_attrs.specs.declared.handle.Handle.{Handle}
+use Rattle.nfs_attrs.specs.Handle.{handle_of}
 use Rattle.nfs_names.specs.declared.context.Context.{Context}
-use Rattle.nfs_names.specs.Context.{begins}
+use Rattle.nfs_names.specs.Context.{begins, at_object}
+use Rattle.nfs_names.specs.Outcome.{checked, answers}
+use Rattle.nfs_names.specs.Outcome as outcome
+use Rattle.nfs_names.specs.PutFh.{or_bad, handle_checks, put_fh}
 use Rattle.nfs_names.specs.State.{State, moment, is_open, is_used}
 use Rattle.nfs_names.specs.Operation as names
 use Rattle.nfs_files.specs.Operation as files
@@ -31,18 +39,18 @@ use Rattle.nfs_files.proofs.TreeFiles.{IsWhole}
 use Rattle.nfs_files.proofs.WrittenOps.{lasts_staying, spared_bytes_last, names_leave_bytes}
 use Rattle.nfs_files.proofs.WrittenTold.{short, writes_leave_bytes, reads_give_bytes}
 use Rattle.nfs_lease.specs.Renewals.{has_run_out}
-use Rattle.nfs_exec.specs.Machine.{Machine}
+use Rattle.nfs_exec.specs.Machine.{Machine, starts}
 use Rattle.nfs_exec.specs.Behind.{Step, step, on_store, moves_opens, marked_if}
 use Rattle.nfs_exec.specs.CreateSession.{without_any_opens}
 use Rattle.nfs_exec.specs.Run.{in_room, is_here, behind_here}
 use Rattle.nfs_exec.specs.Sequence as sequence
 use Rattle.nfs_exec.specs.Sequence.{Sequenced, sequenced}
 use Rattle.nfs_exec.specs.Compound.{first_item, renewed, begun, bare, in_session, by_first, compound}
-use Rattle.nfs_exec.specs.Laws.{Event, Expires, Asks, stepped}
+use Rattle.nfs_exec.specs.Laws.{Event, Expires, Asks, stepped, all_stepped}
 use Rattle.nfs_exec.specs.Ops.{Done, done, ops, ops_in, ops_of, ops_by, left_by, AreChained}
 use Rattle.nfs_exec.specs.Held.{IsAlone}
-use Rattle.nfs_exec.specs.WrittenRun.{WritesIt, SparesIt, AreSpared, StandsBefore, StandsWhile}
-use Rattle.nfs_exec.proofs.WholeRun.{Is, otherwise_store}
+use Rattle.nfs_exec.specs.WrittenRun.{WritesIt, SparesIt, AreSpared, StandsBefore, StandsWhile, StandsInRuns}
+use Rattle.nfs_exec.proofs.WholeRun.{Is, otherwise_store, whole_events, start_whole}
 use Rattle.nfs_exec.proofs.OpsRun.{are_run}
 use Rattle.nfs_exec.proofs.Lone.{HoldsForOthers, holds_alone}
 use Rattle.nfs_exec.proofs.AnsweredRun.{in_room_is, IsRun, ran_as, as_step, event_run}
@@ -141,9 +149,45 @@ used_there s n is used = elim (cases_eq n root) [
     ne_root : (n : ℕ) → (n ≡ root → ⊥) → (n == root) ≡ false
     ne_root n other = elim (cases_Bool (n == root)) [ inl same ↦ absurd (other (eqb-true n root same)) | inr differs ↦ differs ]
 
+-- so a PUTFH of it finds it
+some_object : (o : Option Stored) → is_some o ≡ true → is_some (option_map (λ (s : Stored). s.object) o) ≡ true
+some_object None e = absurd (false≢true e)
+some_object (Some s) e = refl
+
+not_stale : spell_result ResPutFh ≡ spell_result (Refused 22 Stale) → ⊥
+unfolding number
+not_stale e = let bad : ◌≡◌ {A = ℕ} 0 70 = ap (λ (text : List ℕ). get_or text 7 0) e in absurd (omega arith)
+
+big_not_stale : spell_result (Refused 22 RepTooBig) ≡ spell_result (Refused 22 Stale) → ⊥
+unfolding number
+big_not_stale e = let bad : ◌≡◌ {A = ℕ} 82 70 = ap (λ (text : List ℕ). get_or text 7 0) e in absurd (omega arith)
+
+put_found : (s : State) (x : Context) (h : List ℕ) (n : ℕ) → handle_of h ≡ Some (record { instance = s.instance; number = n }) → is_there s.tree n ≡ true
+    → spell_result (put_fh s x h).result ≡ spell_result (Refused 22 Stale) → ⊥
+unfolding put_fh
+put_found s x h n is there e =
+    let held : is_some (object_at s.tree n) ≡ true = some_object (stored_in s.tree.objects n) there in
+    let passes : checked (or_bad (handle_of h)) (handle_checks s) ≡ Ok (record { instance = s.instance; number = n }) =
+    rw (is, eq-eqb s.instance s.instance refl, held) refl in
+    not_stale (ap (λ v. spell_result (answers s x Num.PutFh v (λ (k : Handle). outcome.done s (at_object x k.number) ResPutFh)).result) (sym passes) ∙ e)
+
+put_room : (limit sofar now : ℕ) (refused : Bool) (m : Machine) (x : Context) (h : List ℕ) (n : ℕ)
+    → handle_of h ≡ Some (record { instance = m.store.instance; number = n }) → is_there m.store.tree n ≡ true
+    → (let s = in_room limit sofar now refused m x (Operation (OpPutFh h)) in s.outcome.result ≡ spell_result (Refused 22 Stale) → ⊥)
+put_room limit sofar now refused m x h n is there =
+    in_room_is (λ s. s.outcome.result ≡ spell_result (Refused 22 Stale) → ⊥) limit sofar now refused m x (Operation (OpPutFh h))
+    big_not_stale (put_found m.store x h n is there)
+
+put_run : (d : Done) (run : IsRun d) (n : ℕ) → is_there d.before.store.tree n ≡ true → (h : List ℕ) → d.item ≡ Operation (OpPutFh h)
+    → handle_of h ≡ Some (record { instance = d.before.store.instance; number = n }) → d.result ≡ spell_result (Refused 22 Stale) → ⊥
+put_run d run n there h item is told =
+    let same : d ≡ done d.before d.context (Operation (OpPutFh h)) (ran_as d run (Operation (OpPutFh h))) = as_step d run (Operation (OpPutFh h)) item in
+    put_room run.limit run.sofar run.now run.refused d.before d.context h n is there (ap (λ (d : Done). d.result) (sym same) ∙ told)
+
 before_run : (b : Byte) (d : Done) → IsRun d → LastsIn b d.before → StandsBefore b d
 before_run b d r is = record {
   stands = λ used. is.stands (used_there d.before.store b.file r.whole used);
+  found = λ used h item handle told. put_run d r b.file (used_there d.before.store b.file r.whole used) h item handle told;
   read = λ k. read_run b d r is k;
 }
 
@@ -182,7 +226,7 @@ chain_told b m (f ∷ front) write back chained runs writes = chain_told b f.beh
 -- An event.
 
 -- an operation that stands alone, whoever ends by it: no record has an id above all
-above : List ClientRecord → ℕ
+abbrev above : List ClientRecord → ℕ
 above [] = 0
 above (c ∷ cs) = suc c.id + above cs
 
@@ -249,7 +293,7 @@ through_first b m r who size now choice (item ∷ more) =
     through_none b m (first_item m r.declared who now (is_here choice) item).machine (alone_left b m r.declared who now (is_here choice) item)
 
 through : (b : Byte) (m : Machine) (e : Event) → Through b m (stepped m e) (ops_by m e)
-through b m (Expires now) = through_none b m (stepped m (Expires now)) (lasts_staying b (λ client. cond (has_run_out m.leases now client) false true) m.store)
+through b m (Expires now) = through_none b m (stepped m (Expires now)) (lasts_staying b (λ client. not (has_run_out m.leases now client)) m.store)
 through b m (Asks r who size now choice) = go (eqb r.minor 1)
   where
     go : (v : Bool) → Through b m (cond v (by_first m r who size now choice r.left) (bare r MinorVersMismatch m)).machine (cond v (ops_of m r who size now choice r.left) [])
@@ -273,3 +317,11 @@ event_told b m e front write back is same writes =
     let it = chain_told b t.start front write back (subst (AreChained t.start) same t.chained)
     (λ d there. (event_run m e is d (subst (In d) (sym same) there)).0) writes in
     (it.within, λ all. t.told front write back same (subst (λ ds. LastsIn b (left_by t.start ds)) (sym same) (it.behind all)))
+
+pub stands_in_runs : StandsInRuns
+stands_in_runs mode instance lease events e b =
+    let m = all_stepped (starts mode instance lease) events in
+    let is : Is m = whole_events (starts mode instance lease) events (start_whole mode instance lease) in (
+      λ lasts. (event_while b m e is lasts, event_left b m e is lasts),
+      λ front write back same writes. event_told b m e front write back is same writes,
+    )

@@ -11,9 +11,9 @@ use Rattle.nfs_results.specs.Results.{done_head, spell_compound_head}
 use Rattle.nfs_sessions.specs.declared.id.SessionId.{SessionId}
 use Rattle.nfs_sessions.specs.Id.{id_bytes}
 use Rattle.nfs_sessions.specs.Sessions.{Session, SessionTable, is_session, session_at}
-use Rattle.nfs_exec.specs.Machine.{Machine}
+use Rattle.nfs_exec.specs.Machine.{Machine, starts}
 use Rattle.nfs_exec.specs.Compound.{compound}
-use Rattle.nfs_exec.specs.Laws.{Event, Expires, Asks}
+use Rattle.nfs_exec.specs.Laws.{Event, Expires, Asks, stepped, all_stepped}
 
 -- it asks for a session of the client: CREATE_SESSION stands first
 abbrev pub asks_of : ℕ → List Item → Bool
@@ -48,3 +48,9 @@ pub record MakesOne (id : List ℕ) (before left : SessionTable) : Type 0 where
   pub absent : session_at before session ≡ None
   pub there : is_some (session_at left session) ≡ true
   pub alone : (s : Session) → In s left.sessions → In s before.sessions ⊎ (is_session session s ≡ true)
+
+-- In every run: what is answered so made one session, of the id that is answered, or changed nothing.
+abbrev pub GivesOne : Type 0
+GivesOne = (mode instance lease : ℕ) (events : List Event) (e : Event) (client number : ℕ) (id : List ℕ)
+    → (let m = all_stepped (starts mode instance lease) events in
+    Gives client number id m e → (stepped m e ≡ m) ⊎ MakesOne id m.sessions (stepped m e).sessions)

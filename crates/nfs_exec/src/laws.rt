@@ -5,6 +5,8 @@ ghost use Rattle.nfs_exec.specs.Delayed.{DelayIsACut, NothingDelays};
 ghost use Rattle.nfs_exec.specs.DelayedOpen.{IsWorked};
 ghost use Rattle.nfs_exec.specs.Ops.{OpsAreRun, OpsAreRunIn, AnswersAreTheirs};
 ghost use Rattle.nfs_exec.specs.Runs.{NoneInRuns};
+ghost use Rattle.nfs_exec.specs.OneSession.{GivesOne};
+ghost use Rattle.nfs_exec.specs.WrittenRun.{StandsInRuns};
 
 /// A request that is repeated is answered with the reply that was kept, byte for byte, and changes nothing.
 pub fn repeats_change_nothing()
@@ -66,4 +68,15 @@ pub fn answers_are_theirs()
 /// In every run no byte has a writer beside another holder and no two opens clash, before and behind each operation too.
 pub fn none_in_runs()
     ensures { NoneInRuns }
+{}
+
+/// In every run a byte that a WRITE told stands in its file, while that has a name or an open, before each operation behind it and behind the compound, as long as
+/// they spare it.
+pub fn written_bytes_stand()
+    ensures { StandsInRuns }
+{}
+
+/// A CREATE_SESSION that is answered NFS4_OK made one session, of the id that is answered, which did not stand before; or it changed nothing.
+pub fn one_session_is_made()
+    ensures { GivesOne }
 {}

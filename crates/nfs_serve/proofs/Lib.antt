@@ -49,3 +49,7 @@ pub mod HeldLock
 pub mod WrongLocks
 pub mod Others
 pub mod OthersWorked
+pub mod WrittenStays
+pub mod WrittenWorked
+pub mod SessionsOnce
+pub mod SessionsWorked

@@ -18,8 +18,11 @@ ghost use Rattle.nfs_serve.specs.Points.{NoClash};
 ghost use Rattle.nfs_serve.specs.PerfectWire.{AsOverAWire};
 ghost use Rattle.nfs_serve.specs.RealTime.{Atomic};
 ghost use Rattle.nfs_serve.specs.Seen.{server};
+ghost use Rattle.nfs_serve.specs.SessionsOnce.{EachMakesOne, RepeatsMakeNone, IsGivenOnce};
 ghost use Rattle.nfs_serve.specs.SeenWrite.{IsSeen};
 ghost use Rattle.nfs_serve.specs.WrongLocks.{AreRefused};
+ghost use Rattle.nfs_serve.specs.WrittenStays.{BytesStay};
+ghost use Rattle.nfs_serve.specs.WrittenWorked.{StaysTo, BytesRefused};
 ghost use Rattle.nfs_serve.specs.WrongServers.{LawsRefuse};
 ghost use Rattle.nfs_serve.specs.Whole.{HubRunsScript, NothingIsLostInARun, NothingIsLostInATurn};
 
@@ -221,4 +224,38 @@ pub fn strangers_change_nothing()
 /// `others_leave_all` and `strangers_change_nothing`, which refuse one that drops the lock state or closes the open meanwhile.
 pub fn others_come_in_time()
     ensures { ComeInTime }
+{}
+
+/// Bytes written stay until they are changed: a byte that a WRITE brought, which answered NFS4_OK and a count, is what every later READ of it is given, until an
+/// operation that is answered NFS4_OK changes it: a WRITE over it, a SETATTR of a size at or below it, or an OPEN that sets the size 0.
+pub fn written_bytes_stay()
+    ensures { BytesStay }
+{}
+
+/// The definitions compute: a client makes a file, writes it, writes more behind a gap, closes it and reads it. That run meets the premises of
+/// `written_bytes_stay`.
+pub fn a_write_stays()
+    ensures { StaysTo }
+{}
+
+/// The definitions compute: `written_bytes_stay` refuses a READ that is answered zeros, one that is answered no bytes, and a file that is gone at its last CLOSE
+/// while it has a name.
+pub fn wrong_bytes_are_refused()
+    ensures { BytesRefused }
+{}
+
+/// A CREATE_SESSION that is answered NFS4_OK makes one session, of the id that is answered, which did not stand before; or it changes nothing.
+pub fn each_makes_one_session()
+    ensures { EachMakesOne }
+{}
+
+/// A second CREATE_SESSION of the same client and number that is answered NFS4_OK is answered the same session id, and changes nothing.
+pub fn repeats_make_no_session()
+    ensures { RepeatsMakeNone }
+{}
+
+/// The definitions compute: CREATE_SESSION comes twice, and another client in between. That run meets the premises of `each_makes_one_session` and
+/// `repeats_make_no_session`, which refuse a second session and an id that stands.
+pub fn a_session_is_made_once()
+    ensures { IsGivenOnce }
 {}

@@ -1,0 +1,98 @@
+-- A CREATE_SESSION and its repeat, computed.
+use Rattle.std.proofs.Common.{◌≡◌, ℕ, ◌+◌, ◌*◌, ◌^◌, Bool, true, false, List, [], ◌∷◌, ◌++◌, length, drop, get_or, Option, Some, None, refl, sym, ◌∙◌, ap, arith}
+use Rattle.std.specs.Prelude.{◌==◌, ◌&&◌, bytes_eq, is_some}
+use Rattle.std.proofs.lemmas.Bool.{and_parts, eqb-true, false≢true}
+use Rattle.std.proofs.lemmas.Slice.Eq.{bytes_eq-Decides}
+use Rattle.nfs_xdr.specs.Spelling.{number, hyper}
+use Rattle.nfs_xdr.specs.Reading.{opaque_at, fixed_at, flag_at, pieces_at}
+use Rattle.nfs_xdr.specs.declared.status.Status.TheVariants.{Nfs4Ok}
+use Rattle.nfs_rpc.specs.CallHead.{call_of, header, opaque_auth, behind_header, caller_of}
+use Rattle.nfs_xdr.specs.AuthSys.{auth_sys}
+use Rattle.nfs_rpc.specs.Reply.{spell_head}
+use Rattle.nfs_compound.specs.ReadRequest.{request_at, items_at, item_at}
+use Rattle.nfs_compound.specs.OpCodec.{op_at, fault_at}
+use Rattle.nfs_compound.specs.ChannelAttrs.{channel_attrs}
+use Rattle.nfs_compound.specs.ArgCodecs.{sec_parms, exchange_id_args, create_session_args, protected, impl_id}
+use Rattle.nfs_compound.specs.Operation.{Item, Operation, OpCreateSession}
+use Rattle.nfs_compound.specs.Request.{Request}
+use Rattle.nfs_compound.specs.declared.op_num.OpNum.TheVariants as Op
+use Rattle.nfs_results.specs.Items as results
+use Rattle.nfs_results.specs.Results.{done_head, spell_compound_head}
+use Rattle.nfs_sessions.specs.declared.id.SessionId.{SessionId}
+use Rattle.nfs_sessions.specs.Id.{id_bytes}
+use Rattle.nfs_sessions.specs.Sessions.{Session, SessionTable, session_at}
+use Rattle.nfs_exec.specs.Machine.{Machine}
+use Rattle.nfs_exec.specs.Compound.{compound}
+use Rattle.nfs_exec.specs.Laws.{Event, Expires, Asks}
+use Rattle.nfs_exec.specs.OneSession.{MakesOne}
+use Rattle.nfs_serve.specs.Step.{State, step}
+use Rattle.nfs_serve.specs.Points.{Came, next, all_next, before, asked_by}
+use Rattle.nfs_serve.specs.Exchanges.{words}
+use Rattle.nfs_serve.specs.SessionsOnce.{GivesIn, start, creates, between, again, id, IsGivenOnce}
+
+-- So it can be tested: the answer is NFS4_OK and the session id. In front of what stands behind that are 36 bytes.
+
+abbrev answers_so : (client number : ℕ) → List ℕ → Request → List ℕ → List Item → Bool
+answers_so client number id r text (Operation (OpCreateSession c) ∷ more) =
+    (c.clientid == client)
+    && ((c.sequence == number)
+    && ((length id == 16) && bytes_eq text (spell_compound_head Nfs4Ok r.tag 1 ++ (done_head Op.CreateSession ++ (id ++ drop 36 text)))))
+answers_so client number id r text items = false
+
+abbrev gives_so : (client number : ℕ) → List ℕ → Machine → Option Event → Bool
+gives_so client number id m (Some (Asks r who size now choice)) = answers_so client number id r (compound m r who size now choice).text r.left
+gives_so client number id m o = false
+
+given : (client number : ℕ) (id : List ℕ) (s : State) (c : Came) (o : Option Event) → asked_by s c ≡ o → gives_so client number id (before s c) o ≡ true
+    → GivesIn client number id s c
+given client number id s c (Some (Asks r who size now choice)) e test = by_items r.left refl test
+  where
+    by_items : (items : List Item) → r.left ≡ items → answers_so client number id r (compound (before s c) r who size now choice).text items ≡ true
+        → GivesIn client number id s c
+    by_items (Operation (OpCreateSession a) ∷ more) is test =
+        let p = and_parts _ _ test in
+        let q = and_parts _ _ p.1 in
+        let t = and_parts _ _ q.1 in
+        let text = (compound (before s c) r who size now choice).text in
+        record {
+          event = Asks r who size now choice;
+          asks = e;
+          gives = record {
+            request = r;
+            who = who;
+            size = size;
+            now = now;
+            choice = choice;
+            is = refl;
+            asked = a;
+            more = more;
+            first = is;
+            for = eqb-true _ _ p.0;
+            with = eqb-true _ _ q.0;
+            behind = drop 36 text;
+            answers = (bytes_eq-Decides text (spell_compound_head Nfs4Ok r.tag 1 ++ (done_head Op.CreateSession ++ (id ++ drop 36 text)))).0 t.1;
+            long = eqb-true _ _ t.0;
+          };
+        }
+    by_items items is test = absurd (false≢true test)
+given client number id s c (Some (Expires now)) e test = absurd (false≢true test)
+given client number id s c None e test = absurd (false≢true test)
+
+-- a session stands under the words 7, 1, 0, 1 where the one that they spell does
+stood : (t : SessionTable) (made : MakesOne id t t) → session_at t made.session ≡ None → is_some (session_at t made.session) ≡ true → ⊥
+stood t made none some = absurd (false≢true (sym (ap is_some none) ∙ some))
+
+pub is_given_once : IsGivenOnce
+unfolding number hyper step call_of header opaque_auth opaque_at fixed_at behind_header caller_of auth_sys spell_head
+    request_at items_at item_at op_at fault_at exchange_id_args create_session_args channel_attrs sec_parms protected impl_id pieces_at flag_at
+    results.exchange_id results.create_session
+is_given_once = record {
+  first = given (7 * 2 ^ 32 + 1) 1 id start creates (asked_by start creates) refl refl;
+  few = refl;
+  second = given (7 * 2 ^ 32 + 1) 1 id (all_next (next start creates) between) again (asked_by (all_next (next start creates) between) again) refl refl;
+  other = λ same. differ (ap (λ (bytes : List ℕ). get_or bytes 15 0) same);
+  twice = λ made. stood (next start creates).machine.sessions made made.absent made.there;
+}
+  where
+    differ : ◌≡◌ {A = ℕ} 2 1 → ⊥
+    differ e = absurd (omega arith)
