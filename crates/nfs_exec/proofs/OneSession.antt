@@ -65,7 +65,7 @@ use Rattle.nfs_exec.proofs.AnsweredRun.{in_room_is}
 use Rattle.nfs_exec.proofs.Numbering.{IsCounted}
 use Rattle.nfs_exec.proofs.Rounds.{counted_all}
 use Rattle.nfs_exec.proofs.SessionNumbers.{After, IsAgain, IsNext, more, after_fewer, after_quiet, after_other, after_own, after_case, after_gone, after_confirmed}
-use Rattle.nfs_exec.proofs.SessionNumbers.{verdict_again, verdict_next, after_again, after_next, not_next, same_kept}
+use Rattle.nfs_exec.proofs.SessionNumbers.{verdict_again, verdict_next, after_again, after_next, not_next, same_kept, next_is_new}
 
 -- The client records, through whatever comes.
 
@@ -473,3 +473,13 @@ pub gives_one_in_runs : GivesOne
 gives_one_in_runs mode instance lease events e client number id g =
     gives_one client number id (all_stepped (starts mode instance lease) events) e
     (counted_all (starts mode instance lease) events (λ s there. absurd there)) g
+
+-- behind an answer the next number makes one
+pub given_next : (client number : ℕ) (body other : List ℕ) (m : Machine) (e : Event) → IsCounted m.sessions → After client number body 0 m.clients
+    → Gives client (following number) other m e → MakesOne other m.sessions (stepped m e).sessions
+given_next client number body other m e counted after g = elim (either client (following number) other m e g) [
+  | inl repeat ↦ absurd (next_is_new m.clients client number body (results.Done (other ++ g.behind)) after
+      (subst (λ n. IsAgain m.clients n (following number) (results.Done (other ++ g.behind))) g.for
+      (subst (λ k. IsAgain m.clients g.asked.clientid k (results.Done (other ++ g.behind))) g.with repeat.again)))
+  | inr made ↦ made_one m g.now g.asked other g.behind (stepped m e) counted g.long made
+]

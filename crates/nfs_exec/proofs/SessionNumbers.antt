@@ -323,3 +323,13 @@ same_kept t n number most body result a few again =
   where
     zero_of : (number k at : ℕ) → k < 2 ^ 32 - 1 → following number ≡ at → at ≡ (number + 1 + k) % 2 ^ 32 → k ≡ 0
     zero_of number k at lt same count = omega arith
+
+-- the next number is no repeat
+pub next_is_new : (t : Roster) (n number : ℕ) (body : List ℕ) (result : CreateResult) → After n number body 0 t → IsAgain t n (following number) result → ⊥
+next_is_new t n number body result a again =
+    let there = find_in (λ (c : ClientRecord). c.id == n) t.records again.client again.found in
+    let count = a.is.counts again.client there.0 (eqb-true again.client.id n there.1) in
+    apart number a.k again.client.number a.few again.before count
+  where
+    apart : (number k at : ℕ) → k ≤ 0 → following (following number) ≡ at → at ≡ (number + 1 + k) % 2 ^ 32 → ⊥
+    apart number k at none next count = absurd (omega arith)

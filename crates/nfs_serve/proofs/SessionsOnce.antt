@@ -1,7 +1,6 @@
 -- A CREATE_SESSION makes one session and its repeat none, in whole runs.
-use Rattle.std.proofs.Common.{◌≡◌, ◌⊎◌, ℕ, ◌+◌, ◌-◌, ◌^◌, ◌<◌, false, cond, List, [], ◌∷◌, ◌++◌, length, Option, Some, None, sym, ◌∙◌, ap, subst, arith, inl, inr}
+use Rattle.std.proofs.Common.{◌≡◌, ◌⊎◌, ℕ, ◌+◌, ◌-◌, ◌^◌, ◌<◌, false, cond, List, [], ◌∷◌, ◌++◌, length, Some, sym, ◌∙◌, ap, subst, arith}
 use Rattle.std.specs.Option.{option_map_or}
-use Rattle.nfs_clients.specs.Roster.{IsRoster}
 use Rattle.nfs_exec.specs.Machine.{Machine, IsMachine}
 use Rattle.nfs_exec.specs.Laws.{Event, Expires, Asks, stepped}
 use Rattle.nfs_exec.specs.OneSession.{asks_session, MakesOne}
@@ -9,10 +8,10 @@ use Rattle.nfs_exec.proofs.Invariant.{of_start}
 use Rattle.nfs_exec.proofs.Numbering.{IsCounted}
 use Rattle.nfs_exec.proofs.Rounds.{counted_step}
 use Rattle.nfs_exec.proofs.SessionNumbers.{After, more}
-use Rattle.nfs_exec.proofs.OneSession.{event_after, given_after, given_again, gives_one}
+use Rattle.nfs_exec.proofs.OneSession.{event_after, given_after, given_again, given_next, gives_one}
 use Rattle.nfs_serve.specs.Step.{State, new_state}
 use Rattle.nfs_serve.specs.Points.{Came, next, all_next, reached, taken, before, asked_by}
-use Rattle.nfs_serve.specs.SessionsOnce.{asks_by, asked, EachMakesOne, RepeatsMakeNone}
+use Rattle.nfs_serve.specs.SessionsOnce.{asks_by, asked, GivesIn, EachMakesOne, RepeatsMakeNone, NextMakesOne}
 use Rattle.nfs_serve.proofs.Points.{left, for_asked, next_is}
 use Rattle.nfs_serve.proofs.Outlived.{machine_before, machine_all}
 
@@ -65,8 +64,12 @@ each_makes_one mode instance lease records c client number id g =
     let same = next_machine s c g.event g.asks in
     subst (λ (m : Machine). (m ≡ before s c) ⊎ MakesOne id (before s c).sessions m.sessions) (sym same) (gives_one client number id (before s c) g.event here g.gives)
 
-pub repeats_make_none : RepeatsMakeNone
-repeats_make_none mode instance lease earlier c between d client number id other small first few second =
+-- From an answer on, before a later record: the client's number is at most as far behind as records between asked for.
+told_after : (mode instance lease : ℕ) (earlier : List Came) (c : Came) (between : List Came) (d : Came) (client number : ℕ) (id : List ℕ) → instance < 2 ^ 32
+    → (let s = reached mode instance lease earlier in
+    let t = all_next (next s c) between in
+    (first : GivesIn client number id s c) → After client number (id ++ first.gives.behind) (asked client (next s c) between) (before t d).clients)
+told_after mode instance lease earlier c between d client number id small first =
     let s = reached mode instance lease earlier in
     let t = all_next (next s c) between in
     let machine : IsMachine (before s c) = machine_before s c (machine_all (new_state mode instance lease) earlier (of_start mode instance lease small)) in
@@ -74,7 +77,23 @@ repeats_make_none mode instance lease earlier c between d client number id other
     let told : After client number body 0 (next s c).machine.clients =
     subst (λ (m : Machine). After client number body 0 m.clients) (sym (next_machine s c first.event first.asks))
     (given_after client number id (before s c) first.event machine.clients first.gives) in
-    let there : After client number body (0 + asked client (next s c) between) (before t d).clients =
-    before_after client number (0 + asked client (next s c) between) body t d (all_after client number 0 body (next s c) between told) in
-    let did = given_again client number (0 + asked client (next s c) between) id first.gives.behind other (before t d) second.event first.gives.long there (omega arith) second.gives in
+    more client number (asked client (next s c) between) (0 + asked client (next s c) between) body (before t d).clients (omega arith)
+    (before_after client number (0 + asked client (next s c) between) body t d (all_after client number 0 body (next s c) between told))
+
+pub repeats_make_none : RepeatsMakeNone
+repeats_make_none mode instance lease earlier c between d client number id other small first few second =
+    let s = reached mode instance lease earlier in
+    let t = all_next (next s c) between in
+    let did = given_again client number (asked client (next s c) between) id first.gives.behind other (before t d) second.event first.gives.long
+    (told_after mode instance lease earlier c between d client number id small first) few second.gives in
     (did.0, next_machine t d second.event second.asks ∙ did.1)
+
+pub next_makes_one : NextMakesOne
+next_makes_one mode instance lease earlier c between d client number id other small first none second =
+    let s = reached mode instance lease earlier in
+    let t = all_next (next s c) between in
+    let counted : IsCounted t.machine.sessions = counted_all (next s c) between (counted_next s c (counted_all (new_state mode instance lease) earlier (λ x there. absurd there))) in
+    let body = id ++ first.gives.behind in
+    subst (λ (m : Machine). MakesOne other (before t d).sessions m.sessions) (sym (next_machine t d second.event second.asks))
+    (given_next client number body other (before t d) second.event (counted_step t.machine (Expires (taken t d)) counted)
+    (subst (λ k. After client number body k (before t d).clients) none (told_after mode instance lease earlier c between d client number id small first)) second.gives)

@@ -18,17 +18,16 @@ use Rattle.nfs_compound.specs.Request.{Request}
 use Rattle.nfs_compound.specs.declared.op_num.OpNum.TheVariants as Op
 use Rattle.nfs_results.specs.Items as results
 use Rattle.nfs_results.specs.Results.{done_head, spell_compound_head}
-use Rattle.nfs_sessions.specs.declared.id.SessionId.{SessionId}
-use Rattle.nfs_sessions.specs.Id.{id_bytes}
-use Rattle.nfs_sessions.specs.Sessions.{Session, SessionTable, session_at}
+use Rattle.nfs_sessions.specs.Sessions.{SessionTable, session_at}
+use Rattle.nfs_clients.specs.CreateSession.{following}
 use Rattle.nfs_exec.specs.Machine.{Machine}
 use Rattle.nfs_exec.specs.Compound.{compound}
 use Rattle.nfs_exec.specs.Laws.{Event, Expires, Asks}
 use Rattle.nfs_exec.specs.OneSession.{MakesOne}
 use Rattle.nfs_serve.specs.Step.{State, step}
-use Rattle.nfs_serve.specs.Points.{Came, next, all_next, before, asked_by}
+use Rattle.nfs_serve.specs.Points.{Came, next, before, asked_by}
 use Rattle.nfs_serve.specs.Exchanges.{words}
-use Rattle.nfs_serve.specs.SessionsOnce.{GivesIn, start, creates, between, again, id, IsGivenOnce}
+use Rattle.nfs_serve.specs.SessionsOnce.{GivesIn, start, creates, again, goes_on, repeated, id, IsGivenOnce}
 
 -- So it can be tested: the answer is NFS4_OK and the session id. In front of what stands behind that are 36 bytes.
 
@@ -89,8 +88,9 @@ unfolding number hyper step call_of header opaque_auth opaque_at fixed_at behind
 is_given_once = record {
   first = given (7 * 2 ^ 32 + 1) 1 id start creates (asked_by start creates) refl refl;
   few = refl;
-  second = given (7 * 2 ^ 32 + 1) 1 id (all_next (next start creates) between) again (asked_by (all_next (next start creates) between) again) refl refl;
+  second = given (7 * 2 ^ 32 + 1) 1 id repeated again (asked_by repeated again) refl refl;
   other = λ same. differ (ap (λ (bytes : List ℕ). get_or bytes 15 0) same);
+  third = given (7 * 2 ^ 32 + 1) (following 1) (words (7 ∷ 1 ∷ 0 ∷ 2 ∷ [])) (next repeated again) goes_on (asked_by (next repeated again) goes_on) refl refl;
   twice = λ made. stood (next start creates).machine.sessions made made.absent made.there;
 }
   where

@@ -1,5 +1,5 @@
 -- A byte that was told stays through whatever records come.
-use Rattle.std.proofs.Common.{◌≡◌, ℕ, List, [], ◌∷◌, ◌++◌, length, Option, Some, None, sym, ap, subst}
+use Rattle.std.proofs.Common.{◌≡◌, List, [], ◌∷◌, ◌++◌, length, Option, Some, None, sym, ap, subst}
 use Rattle.std.specs.Option.{option_map_or}
 use Rattle.nfs_exec.specs.Machine.{Machine}
 use Rattle.nfs_exec.specs.Laws.{Event, Expires, Asks}
@@ -10,7 +10,7 @@ use Rattle.nfs_exec.proofs.ToldRun.{none_at_end}
 use Rattle.nfs_exec.proofs.WholeRun.{Is}
 use Rattle.nfs_exec.proofs.WrittenRun.{LastsIn, event_while, event_left, event_told}
 use Rattle.nfs_serve.specs.Step.{State, new_state}
-use Rattle.nfs_serve.specs.Points.{Came, next, reached, taken, before, asked_by, ops_of}
+use Rattle.nfs_serve.specs.Points.{Came, next, reached, taken, before, asked_by}
 use Rattle.nfs_serve.specs.WrittenStays.{StaysWritten, BytesStay}
 use Rattle.nfs_serve.proofs.Points.{left, for_asked, next_is, IsSound, whole_before, sound_next, sound_all, sound_new}
 

@@ -1,8 +1,7 @@
 -- The run of a byte that stays, computed.
-use Rattle.std.proofs.Common.{◌≡◌, ℕ, ◌+◌, ◌≤◌, ◌<◌, Bool, true, false, List, [], ◌∷◌, ◌++◌, length, take, drop, get_or, replicate, refl, sym, ◌∙◌, ap, subst, arith, inl, inr}
+use Rattle.std.proofs.Common.{◌≡◌, ℕ, ◌<◌, Bool, true, false, List, [], ◌∷◌, take, refl, sym, ◌∙◌, ap, subst, arith, inl, inr}
 use Rattle.std.specs.Prelude.{◌&&◌, not, nat_le}
 use Rattle.std.proofs.lemmas.Bool.{and_parts, not-true, leb-false, ltb-true, true≢false}
-use Rattle.nfs_xdr.specs.Tables.{In}
 use Rattle.nfs_xdr.specs.Spelling.{number, hyper}
 use Rattle.nfs_xdr.specs.Reading.{opaque_at, fixed_at, flag_at, pieces_at}
 use Rattle.nfs_xdr.specs.declared.status.Status.TheVariants.{Nfs4Ok}
@@ -45,7 +44,6 @@ use Rattle.nfs_serve.specs.Points.{ops_of}
 use Rattle.nfs_serve.specs.Exchanges.{words}
 use Rattle.nfs_serve.specs.HeldLock.{start}
 use Rattle.nfs_serve.specs.WrongLocks.{last_of}
-use Rattle.nfs_serve.specs.WrittenWorked as worked
 use Rattle.nfs_serve.specs.WrittenWorked.{StaysTo, BytesRefused, made, writes, written, goes_on, grown, closes, closed, reads, byte}
 
 -- A WRITE behind the place, and whatever is none of the three that change bytes, spares the byte.

@@ -1,6 +1,7 @@
 -- One session a CREATE_SESSION, in whole runs (RFC 8881 section 18.36.4).
 use Rattle.std.specs.Prelude.{◌≡◌, ◌⊎◌, ℕ, ◌+◌, ◌*◌, ◌-◌, ◌<◌, ◌^◌, Bool, false, List, [], ◌∷◌, Some, if◌then◌else◌}
 use Rattle.std.specs.Option.{option_map_or}
+use Rattle.nfs_clients.specs.CreateSession.{following}
 use Rattle.nfs_exec.specs.Laws.{Event}
 use Rattle.nfs_exec.specs.OneSession.{asks_session, Gives, MakesOne}
 use Rattle.nfs_serve.specs.Step.{State}
@@ -39,7 +40,16 @@ RepeatsMakeNone = (mode instance lease : ℕ) (earlier : List Came) (c : Came) (
     GivesIn client number id s c → asked client (next s c) between < 2 ^ 32 - 1 → GivesIn client number other t d
     → (other ≡ id) × ((next t d).machine ≡ before t d))
 
--- Worked by hand: to a new server of instance 7 comes EXCHANGE_ID of the owner `A`, and then CREATE_SESSION, twice; another client comes between.
+-- In every run: where none of the records between asks for a session of the client, the next number makes another session.
+abbrev pub NextMakesOne : Type 0
+NextMakesOne = (mode instance lease : ℕ) (earlier : List Came) (c : Came) (between : List Came) (d : Came) (client number : ℕ) (id other : List ℕ) → instance < 2 ^ 32
+    → (let s = reached mode instance lease earlier in
+    let t = all_next (next s c) between in
+    GivesIn client number id s c → asked client (next s c) between ≡ 0 → GivesIn client (following number) other t d
+    → MakesOne other (before t d).sessions (next t d).machine.sessions)
+
+-- Worked by hand: to a new server of instance 7 comes EXCHANGE_ID of the owner `A`, and then CREATE_SESSION, twice, and with the next number; another client
+-- comes between.
 abbrev pub start : State
 start = reached 511 7 90 (came 100 1 (exchange_id 0x4100_0000) ∷ [])
 
@@ -52,6 +62,13 @@ between = came 102 3 (exchange_id 0x4200_0000) ∷ []
 abbrev pub again : Came
 again = came 103 4 (create_session 1)
 
+-- the same, with number 2
+abbrev pub goes_on : Came
+goes_on = came 104 5 (words (0 ∷ 1 ∷ 1 ∷ 43 ∷ 7 ∷ 1 ∷ 2 ∷ 0 ∷ 0 ∷ 4096 ∷ 4100 ∷ 2052 ∷ 8 ∷ 4 ∷ 0 ∷ 0 ∷ 4104 ∷ 4108 ∷ 2056 ∷ 3 ∷ 2 ∷ 0 ∷ 0x4000_0000 ∷ 1 ∷ 0 ∷ []))
+
+abbrev pub repeated : State
+repeated = all_next (next start creates) between
+
 -- session 1, of client 1 of instance 7
 abbrev pub id : List ℕ
 id = words (7 ∷ 1 ∷ 0 ∷ 1 ∷ [])
@@ -60,6 +77,7 @@ id = words (7 ∷ 1 ∷ 0 ∷ 1 ∷ [])
 pub record IsGivenOnce : Type 0 where
   pub first : GivesIn (7 * 2 ^ 32 + 1) 1 id start creates
   pub few : asked (7 * 2 ^ 32 + 1) (next start creates) between ≡ 0
-  pub second : GivesIn (7 * 2 ^ 32 + 1) 1 id (all_next (next start creates) between) again
+  pub second : GivesIn (7 * 2 ^ 32 + 1) 1 id repeated again
   pub other : words (7 ∷ 1 ∷ 0 ∷ 2 ∷ []) ≡ id → ⊥
+  pub third : GivesIn (7 * 2 ^ 32 + 1) (following 1) (words (7 ∷ 1 ∷ 0 ∷ 2 ∷ [])) (next repeated again) goes_on
   pub twice : MakesOne id (next start creates).machine.sessions (next start creates).machine.sessions → ⊥

@@ -18,7 +18,7 @@ ghost use Rattle.nfs_serve.specs.Points.{NoClash};
 ghost use Rattle.nfs_serve.specs.PerfectWire.{AsOverAWire};
 ghost use Rattle.nfs_serve.specs.RealTime.{Atomic};
 ghost use Rattle.nfs_serve.specs.Seen.{server};
-ghost use Rattle.nfs_serve.specs.SessionsOnce.{EachMakesOne, RepeatsMakeNone, IsGivenOnce};
+ghost use Rattle.nfs_serve.specs.SessionsOnce.{EachMakesOne, RepeatsMakeNone, NextMakesOne, IsGivenOnce};
 ghost use Rattle.nfs_serve.specs.SeenWrite.{IsSeen};
 ghost use Rattle.nfs_serve.specs.WrongLocks.{AreRefused};
 ghost use Rattle.nfs_serve.specs.WrittenStays.{BytesStay};
@@ -254,8 +254,13 @@ pub fn repeats_make_no_session()
     ensures { RepeatsMakeNone }
 {}
 
-/// The definitions compute: CREATE_SESSION comes twice, and another client in between. That run meets the premises of `each_makes_one_session` and
-/// `repeats_make_no_session`, which refuse a second session and an id that stands.
+/// Where nothing between asks for a session of the client, the next number that is answered NFS4_OK makes another session.
+pub fn next_number_makes_a_session()
+    ensures { NextMakesOne }
+{}
+
+/// The definitions compute: CREATE_SESSION comes twice, another client in between, and then with the next number. That run meets the premises of
+/// `each_makes_one_session`, `repeats_make_no_session` and `next_number_makes_a_session`, which refuse a second session and an id that stands.
 pub fn a_session_is_made_once()
     ensures { IsGivenOnce }
 {}
