@@ -1,5 +1,5 @@
 -- The run of a byte that stays, computed.
-use Rattle.std.proofs.Common.{◌≡◌, ℕ, ◌<◌, Bool, true, false, List, [], ◌∷◌, take, refl, sym, ◌∙◌, ap, subst, arith, inl, inr}
+use Rattle.std.proofs.Common.{◌≡◌, ℕ, ◌++◌, length, ◌<◌, Bool, true, false, List, [], ◌∷◌, take, refl, sym, ◌∙◌, ap, subst, arith, inl, inr}
 use Rattle.std.specs.Prelude.{◌&&◌, not, nat_le}
 use Rattle.std.proofs.lemmas.Bool.{and_parts, not-true, leb-false, ltb-true, true≢false}
 use Rattle.nfs_xdr.specs.Spelling.{number, hyper}
@@ -36,9 +36,9 @@ use Rattle.nfs_files.specs.Open.{asked_for, open_file}
 use Rattle.nfs_files.specs.Target.{the_file, target}
 use Rattle.nfs_files.specs.Read as file_read
 use Rattle.nfs_files.specs.Write as file_write
-use Rattle.nfs_files.specs.Written.{Byte, WritesOver}
+use Rattle.nfs_files.specs.Written.{Byte, WritesOver, Reads, bytes_in}
 use Rattle.nfs_exec.specs.Ops.{Done}
-use Rattle.nfs_exec.specs.WrittenRun.{SparesIt, AreSpared}
+use Rattle.nfs_exec.specs.WrittenRun.{WritesIt, SparesIt, AreSpared}
 use Rattle.nfs_serve.specs.Step.{step}
 use Rattle.nfs_serve.specs.Points.{ops_of}
 use Rattle.nfs_serve.specs.Exchanges.{words}
@@ -94,7 +94,16 @@ wrote = record { stateid = anonymous; offset = 0; stable = Unstable; bytes = wor
 abbrev read : Read
 read = record { stateid = anonymous; offset = 0; count = 8 }
 
-pub stays_to : StaysTo
+three : (x : Done) (ds : List Done) → length ds ≡ 3 → ds ≡ take 2 ds ++ last_of x ds ∷ []
+three x [] e = absurd (omega arith)
+three x (a ∷ []) e = absurd (omega arith)
+three x (a ∷ b ∷ []) e = absurd (omega arith)
+three x (a ∷ b ∷ c ∷ []) e = refl
+three x (a ∷ b ∷ c ∷ d ∷ more) e = absurd (omega arith)
+
+-- The parts of the run, each computed by itself.
+
+write_ops : ops_of made writes ≡ take 2 (ops_of made writes) ++ last_of nothing (ops_of made writes) ∷ []
 unfolding number hyper step call_of header opaque_auth opaque_at fixed_at behind_header caller_of auth_sys spell_head
     request_at items_at item_at op_at fault_at exchange_id_args create_session_args sequence_args channel_attrs sec_parms protected impl_id pieces_at flag_at
     stateid state_owner compound_attributes.bitmap compound_attributes.attributes create_how open_how delegation_type open_claim open_args
@@ -102,42 +111,112 @@ unfolding number hyper step call_of header opaque_auth opaque_at fixed_at behind
     results.exchange_id results.create_session results.sequence results.open_ok results.change_info results.attr_set results.read_ok results.write_ok
     attributes settings_of handle wanted_of current permits put_fh put_root_fh lookup seat may_use readable writable asked_for open_file the_file target close
     file_read.read file_write.write
+write_ops = three nothing (ops_of made writes) refl
+
+read_ops : ops_of closed reads ≡ take 2 (ops_of closed reads) ++ last_of nothing (ops_of closed reads) ∷ []
+unfolding number hyper step call_of header opaque_auth opaque_at fixed_at behind_header caller_of auth_sys spell_head
+    request_at items_at item_at op_at fault_at exchange_id_args create_session_args sequence_args channel_attrs sec_parms protected impl_id pieces_at flag_at
+    stateid state_owner compound_attributes.bitmap compound_attributes.attributes create_how open_how delegation_type open_claim open_args
+    read_args write_args stable_how close_args
+    results.exchange_id results.create_session results.sequence results.open_ok results.change_info results.attr_set results.read_ok results.write_ok
+    attributes settings_of handle wanted_of current permits put_fh put_root_fh lookup seat may_use readable writable asked_for open_file the_file target close
+    file_read.read file_write.write
+read_ops = three nothing (ops_of closed reads) refl
+
+tells : WritesIt byte (last_of nothing (ops_of made writes))
+unfolding number hyper step call_of header opaque_auth opaque_at fixed_at behind_header caller_of auth_sys spell_head
+    request_at items_at item_at op_at fault_at exchange_id_args create_session_args sequence_args channel_attrs sec_parms protected impl_id pieces_at flag_at
+    stateid state_owner compound_attributes.bitmap compound_attributes.attributes create_how open_how delegation_type open_claim open_args
+    read_args write_args stable_how close_args
+    results.exchange_id results.create_session results.sequence results.open_ok results.change_info results.attr_set results.read_ok results.write_ok
+    attributes settings_of handle wanted_of current permits put_fh put_root_fh lookup seat may_use readable writable asked_for open_file the_file target close
+    file_read.read file_write.write
+tells = record {
+  over = record {
+    asked = wrote;
+    is = refl;
+    at = refl;
+    count = words (4 ∷ []);
+    more = words (2 ∷ 7 ∷ 0 ∷ []);
+    answers = refl;
+    long = refl;
+    from = omega arith;
+    below = ltb-true 1 _ refl;
+  };
+  value = refl;
+}
+
+beside : AreSpared byte (ops_of written goes_on)
+unfolding number hyper step call_of header opaque_auth opaque_at fixed_at behind_header caller_of auth_sys spell_head
+    request_at items_at item_at op_at fault_at exchange_id_args create_session_args sequence_args channel_attrs sec_parms protected impl_id pieces_at flag_at
+    stateid state_owner compound_attributes.bitmap compound_attributes.attributes create_how open_how delegation_type open_claim open_args
+    read_args write_args stable_how close_args
+    results.exchange_id results.create_session results.sequence results.open_ok results.change_info results.attr_set results.read_ok results.write_ok
+    attributes settings_of handle wanted_of current permits put_fh put_root_fh lookup seat may_use readable writable asked_for open_file the_file target close
+    file_read.read file_write.write
+beside = all_spared byte (ops_of written goes_on) refl
+
+shut : AreSpared byte (ops_of grown closes)
+unfolding number hyper step call_of header opaque_auth opaque_at fixed_at behind_header caller_of auth_sys spell_head
+    request_at items_at item_at op_at fault_at exchange_id_args create_session_args sequence_args channel_attrs sec_parms protected impl_id pieces_at flag_at
+    stateid state_owner compound_attributes.bitmap compound_attributes.attributes create_how open_how delegation_type open_claim open_args
+    read_args write_args stable_how close_args
+    results.exchange_id results.create_session results.sequence results.open_ok results.change_info results.attr_set results.read_ok results.write_ok
+    attributes settings_of handle wanted_of current permits put_fh put_root_fh lookup seat may_use readable writable asked_for open_file the_file target close
+    file_read.read file_write.write
+shut = all_spared byte (ops_of grown closes) refl
+
+until_read : AreSpared byte (take 2 (ops_of closed reads))
+unfolding number hyper step call_of header opaque_auth opaque_at fixed_at behind_header caller_of auth_sys spell_head
+    request_at items_at item_at op_at fault_at exchange_id_args create_session_args sequence_args channel_attrs sec_parms protected impl_id pieces_at flag_at
+    stateid state_owner compound_attributes.bitmap compound_attributes.attributes create_how open_how delegation_type open_claim open_args
+    read_args write_args stable_how close_args
+    results.exchange_id results.create_session results.sequence results.open_ok results.change_info results.attr_set results.read_ok results.write_ok
+    attributes settings_of handle wanted_of current permits put_fh put_root_fh lookup seat may_use readable writable asked_for open_file the_file target close
+    file_read.read file_write.write
+until_read = all_spared byte (take 2 (ops_of closed reads)) refl
+
+abbrev text : List ℕ
+text = words (8 ∷ 0x7365_656e ∷ 0x0000_6d6f ∷ [])
+
+given : (let d = last_of nothing (ops_of closed reads) in Reads byte.file byte.place d.context d.item d.result)
+unfolding number hyper step call_of header opaque_auth opaque_at fixed_at behind_header caller_of auth_sys spell_head
+    request_at items_at item_at op_at fault_at exchange_id_args create_session_args sequence_args channel_attrs sec_parms protected impl_id pieces_at flag_at
+    stateid state_owner compound_attributes.bitmap compound_attributes.attributes create_how open_how delegation_type open_claim open_args
+    read_args write_args stable_how close_args
+    results.exchange_id results.create_session results.sequence results.open_ok results.change_info results.attr_set results.read_ok results.write_ok
+    attributes settings_of handle wanted_of current permits put_fh put_root_fh lookup seat may_use readable writable asked_for open_file the_file target close
+    file_read.read file_write.write
+given = record {
+  asked = read;
+  is = refl;
+  at = refl;
+  eof = words (1 ∷ []);
+  long = refl;
+  text = text;
+  answers = refl;
+  from = omega arith;
+  below = inl (ltb-true 1 _ refl);
+}
+
+bytes : bytes_in given.text ≡ words (0x7365_656e ∷ 0x0000_6d6f ∷ [])
+unfolding given number
+bytes = refl
+
+pub stays_to : StaysTo
 stays_to = record {
   front = take 2 (ops_of made writes);
   write = last_of nothing (ops_of made writes);
-  ops = refl;
-  tells = record {
-    over = record {
-      asked = wrote;
-      is = refl;
-      at = refl;
-      count = words (4 ∷ []);
-      more = words (2 ∷ 7 ∷ 0 ∷ []);
-      answers = refl;
-      long = refl;
-      from = omega arith;
-      below = ltb-true 1 _ refl;
-    };
-    value = refl;
-  };
-  beside = all_spared byte (ops_of written goes_on) refl;
-  shut = all_spared byte (ops_of grown closes) refl;
+  ops = write_ops;
+  tells = tells;
+  beside = beside;
+  shut = shut;
   until = take 2 (ops_of closed reads);
   read = last_of nothing (ops_of closed reads);
-  last = refl;
-  spared = all_spared byte (take 2 (ops_of closed reads)) refl;
-  given = record {
-    asked = read;
-    is = refl;
-    at = refl;
-    eof = words (1 ∷ []);
-    long = refl;
-    text = words (8 ∷ 0x7365_656e ∷ 0x0000_6d6f ∷ []);
-    answers = refl;
-    from = omega arith;
-    below = inl (ltb-true 1 _ refl);
-  };
-  bytes = refl;
+  last = read_ops;
+  spared = until_read;
+  given = given;
+  bytes = bytes;
 }
 
 pub bytes_refused : BytesRefused

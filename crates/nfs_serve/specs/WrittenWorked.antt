@@ -3,8 +3,6 @@
 use Rattle.std.specs.Prelude.{◌≡◌, ℕ, List, [], ◌∷◌, ◌++◌}
 use Rattle.nfs_compound.specs.declared.op_num.OpNum.TheVariants as Op
 use Rattle.nfs_results.specs.Results.{done_head}
-use Rattle.nfs_tree.specs.Names.{forget}
-use Rattle.nfs_names.specs.State.{with_tree}
 use Rattle.nfs_files.specs.Written.{Byte, Reads, bytes_in}
 use Rattle.nfs_exec.specs.Ops.{Done}
 use Rattle.nfs_exec.specs.WrittenRun.{WritesIt, AreSpared, StandsBefore}
@@ -70,9 +68,9 @@ pub record StaysTo : Type 0 where
 abbrev pub answering : List ℕ → Done → Done
 answering text d = record d { result = done_head Op.Read ++ text }
 
--- the same in a state whose file `f` is gone, while its name is not
-abbrev pub without_file : Done → Done
-without_file d = record d { before = record d.before { store = with_tree d.before.store (forget d.before.store.tree 2) } }
+-- the same in a state whose objects are gone, while their names are not
+abbrev pub without_objects : Done → Done
+without_objects d = record d { before = record d.before { store = record d.before.store { tree = record d.before.store.tree { objects = [] } } } }
 
 -- The promise refuses these.
 pub record BytesRefused : Type 0 where
@@ -81,4 +79,4 @@ pub record BytesRefused : Type 0 where
   -- one that answers no byte, and that the file ends there
   pub none : (d : Done) → StandsBefore byte (answering (words (1 ∷ 0 ∷ [])) (last_of d (ops_of closed reads))) → ⊥
   -- one that has dropped the file at its last CLOSE
-  pub gone : (d : Done) → StandsBefore byte (without_file (last_of d (ops_of closed reads))) → ⊥
+  pub gone : (d : Done) → StandsBefore byte (without_objects (last_of d (ops_of closed reads))) → ⊥
