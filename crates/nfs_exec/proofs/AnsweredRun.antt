@@ -26,9 +26,11 @@ use Rattle.nfs_names.specs.Operation as names
 use Rattle.nfs_names.proofs.Untouched.{leaves_item}
 use Rattle.nfs_files.specs.Operation as files
 use Rattle.nfs_files.specs.Ranges.{wished}
-use Rattle.nfs_files.specs.Kept.{Names, Told}
+use Rattle.nfs_files.specs.Kept.{Names, Told, Stands}
+use Rattle.nfs_files.proofs.Inside as inside
 use Rattle.nfs_files.proofs.Inside.{Locks, Unlocks, Closes}
 use Rattle.nfs_files.proofs.OwnOpens.{spares_others}
+use Rattle.nfs_files.proofs.ToldLocks as told
 use Rattle.nfs_files.proofs.ToldGrants.{IsTold, IsToldClosed, lock_tells, unlock_tells, close_tells, lock_grants_told, lock_refused, told_held, told_is_ok, told_client}
 use Rattle.nfs_exec.specs.Machine.{Machine, is_ok}
 use Rattle.nfs_exec.specs.Behind.{Step, step, stays, on_store, moves_opens, marked_if, otherwise}
@@ -40,11 +42,7 @@ use Rattle.nfs_exec.specs.Laws.{Event, Expires, Asks, stepped, if_runs, first_ru
 use Rattle.nfs_exec.specs.Ops.{Done, done, ops, ops_in, ops_of, ops_by}
 use Rattle.nfs_exec.specs.Held.{LocksFor, UnlocksFor, ClosesOf, Spares, AreSpared, StandsBefore, StandsWhile, Tells, is_of, renews}
 use Rattle.nfs_exec.proofs.Bearing.{refused_status}
-use Rattle.nfs_exec.proofs.Inside as inside
-use Rattle.nfs_exec.proofs.Inside.{SparesClient}
 use Rattle.nfs_exec.proofs.WholeRun.{Is, whole_room, in_more, event_ops}
-use Rattle.nfs_exec.proofs.HeldRun.{Keeps, event_while, event_behind}
-use Rattle.nfs_exec.proofs.ToldRun.{told_event}
 
 -- an operation is refused for want of room, or is what it is
 pub in_room_is : (P : Step → Type 0) (limit sofar now : ℕ) (refused : Bool) (m : Machine) (x : Context) (i : Item) → P (stays m x i RepTooBig)
@@ -80,10 +78,10 @@ close_told limit sofar now refused m x a n closes =
     (λ ok. close_tells m.store x (moment now) refused a n closes ok)
 
 -- what a LOCK did that was told
-record DidLock (s : Step) (m : Machine) (x : Context) (a : args.Lock) (n : ℕ) (w : Wish) : Type 0 where
-  locks : Locks m.store x (OpLock a) n w
-  ok : is_ok s.outcome.status ≡ true
-  client : (l : LockState) → In l s.outcome.machine.store.opens.locks → l.number ≡ n → l.client ≡ x.client
+pub record DidLock (s : Step) (m : Machine) (x : Context) (a : args.Lock) (n : ℕ) (w : Wish) : Type 0 where
+  pub locks : Locks m.store x (OpLock a) n w
+  pub ok : is_ok s.outcome.status ≡ true
+  pub client : (l : LockState) → In l s.outcome.machine.store.opens.locks → l.number ≡ n → l.client ≡ x.client
 
 lock_did : (limit sofar now : ℕ) (refused : Bool) (m : Machine) (x : Context) (a : args.Lock) (n : ℕ) (w : Wish) → Is m
     → wished m.store x a.locktype a.offset a.length ≡ Ok w
@@ -132,7 +130,7 @@ told_unlock d r op n w item ok unlocks =
     (subst (λ op. Unlocks d.before.store d.context op n w) unlocks.is unlocks) (ap (λ (d : Done). is_ok d.status) (sym same) ∙ ok) in
     record { asked = a; is = is; wish = told.wish; names = subst (λ (d : Done). Names Num.LockU d.result n) (sym same) told.names }
 
-told_close : (d : Done) → IsRun d → (op : Op) (n : ℕ) → d.item ≡ Operation op → is_ok d.status ≡ true → Closes d.before.store d.context op n → ClosesOf d n
+pub told_close : (d : Done) → IsRun d → (op : Op) (n : ℕ) → d.item ≡ Operation op → is_ok d.status ≡ true → Closes d.before.store d.context op n → ClosesOf d n
 told_close d r op n item ok closes =
     let a = closes.asked in
     let is : d.item ≡ Operation (OpClose a) = item ∙ ap Operation closes.is in
@@ -148,67 +146,54 @@ told_close d r op n item ok closes =
       names = subst (λ (d : Done). Names Num.Close d.result 0) (sym same) told.names;
     }
 
-did_lock : (d : Done) (r : IsRun d) (n : ℕ) (w : Wish) (l : LocksFor d n w) → DidLock (ran_as d r (Operation (OpLock l.asked))) d.before d.context l.asked n w
+pub did_lock : (d : Done) (r : IsRun d) (n : ℕ) (w : Wish) (l : LocksFor d n w) → DidLock (ran_as d r (Operation (OpLock l.asked))) d.before d.context l.asked n w
 did_lock d r n w l =
     lock_did r.limit r.sofar r.now r.refused d.before d.context l.asked n w r.whole l.wish
     (subst (λ (d : Done). Names Num.Lock d.result n) (as_step d r (Operation (OpLock l.asked)) l.is) l.names)
 
 -- what spares a lock by what was answered spares it from the inside
-pub spared_inside : (k : Told) (d : Done) → IsRun d → Spares k d → inside.SparedBy k d
+pub spared_inside : (k : Told) (d : Done) → IsRun d → Spares k d → (op : Op) → d.item ≡ Operation op → is_ok d.status ≡ true
+    → inside.Spares k d.before.store d.context op
 spared_inside k d r spares op item ok = record {
   locks = λ n w locks same. spares.locks w (subst (λ n. LocksFor d n w) same (told_lock d r op n w item ok locks));
   unlocks = λ n w unlocks same. spares.unlocks w (subst (λ n. UnlocksFor d n w) same (told_unlock d r op n w item ok unlocks));
   closes = λ n closes same. spares.closes (subst (ClosesOf d) same (told_close d r op n item ok closes));
 }
 
-pub all_inside : (k : Told) (ds : List Done) → ((d : Done) → In d ds → IsRun d) → AreSpared k ds → inside.AreSpared k ds
-all_inside k ds runs all d there = spared_inside k d (runs d there) (all d there)
-
--- and who clashes is not told
-before_told : (k : Told) (d : Done) → IsRun d → inside.StandsBefore k d → StandsBefore k d
-before_told k d r is = record {
-  stands = is.stands;
-  refused = λ n w l clash. is.refused (OpLock l.asked) n w l.is (did_lock d r n w l).locks clash;
-}
-
-pub while_told : (k : Told) (ds : List Done) → ((d : Done) → In d ds → IsRun d) → inside.StandsWhile k ds → StandsWhile k ds
-while_told k [] runs is = tt
-while_told k (d ∷ more) runs is = (
-  before_told k d (runs d (inl refl)) is.0,
-  λ spares.
-      (let behind = is.1 (spared_inside k d (runs d (inl refl)) spares) in (behind.0, while_told k more (λ e there. runs e (inr there)) behind.1)),
-)
-
 mapped_some : (o : Option LockState) (n : ℕ) → option_map (λ (l : LockState). l.opened) o ≡ Some n → (l : LockState) × (o ≡ Some l) × (n ≡ l.opened)
 mapped_some None n e = (let bad : None ≡ Some n = e in absurd cc)
 mapped_some (Some l) n e = (let same : Some l.opened ≡ Some n = e in (l, refl, cc))
 
-told_inside : (k : Told) (d : Done) → IsRun d → Tells k d → inside.IsToldBy k d
-told_inside k d r tells =
+lock_stands : (k : Told) (limit sofar now : ℕ) (refused : Bool) (m : Machine) (x : Context) (a : args.Lock)
+    → (let s = in_room limit sofar now refused m x (Operation (OpLock a)) in
+    is_ok s.outcome.status ≡ true → inside.Tells k m.store x (OpLock a) s.outcome.machine.store.opens → Stands k s.outcome.machine.store.opens)
+lock_stands k limit sofar now refused m x a =
+    in_room_is (λ s. is_ok s.outcome.status ≡ true → inside.Tells k m.store x (OpLock a) s.outcome.machine.store.opens → Stands k s.outcome.machine.store.opens)
+    limit sofar now refused m x (Operation (OpLock a)) (λ ok tells. absurd (too_big m x (Operation (OpLock a)) ok))
+    (λ ok tells. told.told_stands k m.store x (moment now) refused (OpLock a) ok tells)
+
+-- what a LOCK told stands behind it
+pub told_stands : (k : Told) (d : Done) → IsRun d → Tells k d → Stands k d.behind.store.opens
+told_stands k d r tells =
     let l = tells.locks in
     let s = ran_as d r (Operation (OpLock l.asked)) in
     let same : d ≡ done d.before d.context (Operation (OpLock l.asked)) s = as_step d r (Operation (OpLock l.asked)) l.is in
     let did = did_lock d r k.state tells.wish l in
-    let t : Table = d.behind.store.opens in
-    let left : t ≡ s.outcome.machine.store.opens = ap (λ (d : Done). d.behind.store.opens) same in
-    let (lock, stands, opened) = mapped_some (lock_at t k.state) k.opened tells.opened in
+    let t : Table = s.outcome.machine.store.opens in
+    let left : d.behind.store.opens ≡ t = ap (λ (d : Done). d.behind.store.opens) same in
+    let (lock, stands, opened) = mapped_some (lock_at t k.state) k.opened (ap (λ (u : Table). option_map (λ (l : LockState). l.opened) (lock_at u k.state)) (sym left) ∙ tells.opened) in
     let found = find_in (λ (l : LockState). l.number == k.state) t.locks lock stands in
-    record {
-      op = OpLock l.asked;
-      is = l.is;
-      ok = ap (λ (d : Done). is_ok d.status) same ∙ did.ok;
-      tells = record {
-        wish = tells.wish;
-        lock = lock;
-        locks = did.locks;
-        range = tells.range;
-        kind = tells.kind;
-        file = tells.file;
-        stands = stands;
-        client = tells.client ∙ sym (did.client lock (subst (λ (t : Table). In lock t.locks) left found.0) (eqb-true _ _ found.1));
-        opened = opened;
-      };
-    }
+    subst (Stands k) (sym left) (lock_stands k r.limit r.sofar r.now r.refused d.before d.context l.asked did.ok (record {
+      wish = tells.wish;
+      lock = lock;
+      locks = did.locks;
+      range = tells.range;
+      kind = tells.kind;
+      file = tells.file;
+      stands = stands;
+      client = tells.client ∙ sym (did.client lock found.0 (eqb-true _ _ found.1));
+      opened = opened;
+    }))
 
 -- What an event runs.
 
@@ -289,39 +274,6 @@ event_run m (Asks r who size now choice) is d there = go (eqb r.minor 1) there
         → IsRun d × (option_map_or (is_of d.context.client) (cond b (first_runs m r who size r.left) None) false ≡ true)
     go true there = (let it = first_run m r who size now choice r.left is d there in (it.run, it.of))
     go false there = absurd there
-
-in_back : (d : Done) (front back : List Done) → In d back → In d (front ++ back)
-in_back d [] back there = there
-in_back d (f ∷ front) back there = inr (in_back d front back there)
-
--- A lock that stands when an event begins, through it.
-
-pub event_stands : (k : Told) (m : Machine) (e : Event) → Is m → k.first ≤ k.last → Keeps k m → StandsWhile k (ops_by m e)
-event_stands k m e is some keeps = while_told k (ops_by m e) (λ d there. (event_run m e is d there).0) (event_while k m e is some keeps)
-
-pub event_leaves : (k : Told) (m : Machine) (e : Event) → Is m → k.first ≤ k.last → Keeps k m → AreSpared k (ops_by m e) → SparesClient k.client m e
-    → Keeps k (stepped m e)
-event_leaves k m e is some keeps all client =
-    event_behind k m e is some keeps (all_inside k (ops_by m e) (λ d there. (event_run m e is d there).0) all) client
-
--- From the LOCK on that told it; and the event renews its client.
-pub record IsKeptFrom (k : Told) (m : Machine) (e : Event) (back : List Done) : Type 0 where
-  pub within : StandsWhile k back
-  pub behind : AreSpared k back → Keeps k (stepped m e)
-  pub renewed : renews k.client m e ≡ true
-
-pub told_kept : (k : Told) (m : Machine) (e : Event) (front : List Done) (lock : Done) (back : List Done) → Is m → ops_by m e ≡ front ++ lock ∷ back
-    → Tells k lock → IsKeptFrom k m e back
-told_kept k m e front lock back is same tells =
-    let run : (d : Done) → In d (lock ∷ back) → In d (ops_by m e) = λ d there. subst (In d) (sym same) (in_back d front (lock ∷ back) there) in
-    let here = event_run m e is lock (run lock (inl refl)) in
-    let each : (d : Done) → In d back → IsRun d = λ d there. (event_run m e is d (run d (inr there))).0 in
-    let kept = told_event k m e front lock back is same (told_inside k lock here.0 tells) in
-    record {
-      within = while_told k back each kept.within;
-      behind = λ all. kept.behind (all_inside k back each all);
-      renewed = subst (λ client. renews client m e ≡ true) (sym tells.client) here.1;
-    }
 
 -- A LOCK that was told leaves a lock state, under some open.
 

@@ -21,7 +21,6 @@ use Rattle.nfs_exec.specs.Compound.{bare, renewed, begun, in_session, by_first, 
 use Rattle.nfs_exec.specs.Laws.{Event, Expires, Asks, stepped, first_runs, if_runs}
 use Rattle.nfs_exec.specs.Held.{is_of, IsAlone, renews}
 use Rattle.nfs_files.specs.Own.{HasAsBefore}
-use Rattle.nfs_exec.proofs.Inside.{SparesClient}
 use Rattle.nfs_exec.proofs.Lone.{HoldsForOthers, holds_alone}
 use Rattle.nfs_files.proofs.OthersTables.{same, both, clients_gone}
 use Rattle.nfs_exec.proofs.OthersOps.{run_apart}
@@ -60,6 +59,11 @@ compound_apart c m r who size now choice is = go (eqb r.minor 1)
         → HasAsBefore c m.store.opens (cond b (by_first m r who size now choice r.left) (bare r MinorVersMismatch m)).machine.store.opens
     go true other alone = first_apart c m r who size now choice r.left is other alone
     go false other alone = same c m.store.opens
+
+-- An event leaves a client: its lease has not run out, and its owner is confirmed under no other id.
+abbrev pub SparesClient : ℕ → Machine → Event → Type 0
+SparesClient client m (Expires now) = has_run_out m.leases now client ≡ false
+SparesClient client m (Asks r who size now choice) = IsAlone client m (stepped m (Asks r who size now choice))
 
 -- what runs in no session of the client, and neither ends it nor confirms its owner anew
 pub event_apart : (c : ℕ) (m : Machine) (e : Event) → Is m → renews c m e ≡ false → SparesClient c m e → HasAsBefore c m.store.opens (stepped m e).store.opens

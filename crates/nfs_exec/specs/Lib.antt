@@ -16,6 +16,7 @@ pub mod Delayed
 pub mod DelayedOpen
 pub mod Ops
 pub mod Held
+pub mod OpenHeld
 pub mod Own
 pub mod Renewing
 pub mod Runs

@@ -225,7 +225,7 @@ unlock_ok : (s : State) (x : Context) (now : Time) (a : LockU) (m : _) (id : Sta
 unfolding lock_u
 unlock_ok s x now a m id judged granted = rw (judged, granted) refl
 
-close_ok : (s : State) (x : Context) (now : Time) (a : Close) (file : ℕ) (id : StateId) → target s x Own a.open_stateid ≡ Ok (record { file = file; id = id })
+pub close_ok : (s : State) (x : Context) (now : Time) (a : Close) (file : ℕ) (id : StateId) → target s x Own a.open_stateid ≡ Ok (record { file = file; id = id })
     → (closing.close s.opens id x.client file).answer ≡ Ok tt → is_ok (one s x now (OpClose a)).result ≡ true
 unfolding close
 close_ok s x now a file id judged granted = rw (judged, granted) refl

@@ -30,6 +30,7 @@ pub mod KeptOps
 pub mod ToldLocks
 pub mod Steady
 pub mod ToldGrants
+pub mod ToldOpens
 pub mod TableSteps
 pub mod TreeSteps
 pub mod TreeFiles

@@ -20,5 +20,7 @@ pub mod TestStateid
 pub mod Operation
 pub mod Kept
 pub mod Own
+pub mod OpenTold
 pub mod Laws
 pub mod Written
+pub mod OpenLaws

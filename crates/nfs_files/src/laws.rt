@@ -2,6 +2,7 @@
 
 ghost use Rattle.nfs_files.specs.Laws.{OpensLeaveTrees, ClashesAreRefused, ToldLocksAreHeld, OthersKeepTheirs};
 ghost use Rattle.nfs_files.specs.Written.{WritesLeaveBytes, SparedBytesLast, NamesLeaveBytes, ReadsGiveBytes};
+ghost use Rattle.nfs_files.specs.OpenLaws.{ToldOpensStand, ForbiddenOpensAreRefused};
 
 /// While a lock stands, no LOCK that clashes with it answers NFS4_OK and a stateid.
 pub fn clashes_are_refused()
@@ -11,6 +12,17 @@ pub fn clashes_are_refused()
 /// A LOCK that answers NFS4_OK and the stateid of a lock state leaves each byte that it asked for held by that lock state.
 pub fn told_locks_are_held()
     ensures { ToldLocksAreHeld }
+{}
+
+/// An OPEN that answers NFS4_OK and a stateid leaves the open that the stateid names: the client's and the owner's, of the file that the claim leads to,
+/// with the bits that were asked for, joined to what the owner had of the file.
+pub fn told_opens_stand()
+    ensures { ToldOpensStand }
+{}
+
+/// While an open stands, no OPEN of its file that its bits forbid answers NFS4_OK and a stateid.
+pub fn forbidden_opens_are_refused()
+    ensures { ForbiddenOpensAreRefused }
 {}
 
 /// OPEN leaves a tree that is one.

@@ -150,12 +150,12 @@ are_in_time k owner lease last s (c ∷ more) e =
       are_in_time k owner lease (if renews_by k.client s c then taken s c else last) (next s c) more t.1,
     )
 
-abbrev last_of : Done → List Done → Done
+abbrev pub last_of : Done → List Done → Done
 last_of d [] = d
 last_of d (e ∷ ds) = last_of e ds
 
 -- and up to what holds behind them
-abbrev last_of_all : ℕ → ℕ → State → List Came → ℕ
+abbrev pub last_of_all : ℕ → ℕ → State → List Came → ℕ
 last_of_all client last s [] = last
 last_of_all client last s (c ∷ more) = last_of_all client (if renews_by client s c then taken s c else last) (next s c) more
 
@@ -173,7 +173,7 @@ three x (a ∷ b ∷ c ∷ []) e = refl
 three x (a ∷ b ∷ c ∷ d ∷ more) e = absurd (omega arith)
 
 -- what stands behind the list is of no account
-nothing : Done
+pub nothing : Done
 nothing = record {
   before = start.machine;
   context = begins 0 (record { uid = 0; gid = 0; gids = [] });

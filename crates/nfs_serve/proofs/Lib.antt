@@ -43,7 +43,6 @@ pub mod SeenWrite
 pub mod Points
 pub mod Forms
 pub mod Kept
-pub mod KeptInside
 pub mod Outlived
 pub mod HeldLock
 pub mod WrongLocks
@@ -53,3 +52,7 @@ pub mod WrittenStays
 pub mod WrittenWorked
 pub mod SessionsOnce
 pub mod SessionsWorked
+pub mod Staying
+pub mod OpenKept
+pub mod HeldOpen
+pub mod WrongOpens

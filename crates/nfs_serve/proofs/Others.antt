@@ -30,88 +30,46 @@ use Rattle.nfs_exec.proofs.Invariant.{of_start}
 use Rattle.nfs_exec.proofs.Strangers.{as_it_was, then_as, expired_strange, compound_strange}
 use Rattle.nfs_files.proofs.OthersTables.{same, both}
 use Rattle.nfs_exec.proofs.OthersRun.{event_apart}
-use Rattle.nfs_exec.proofs.Renewing.{AtLeast, in_time, least_expired, least_behind}
+use Rattle.nfs_exec.proofs.Renewing.{AtLeast, in_time}
 use Rattle.nfs_serve.specs.Step.{State, new_state}
 use Rattle.nfs_serve.specs.Points.{Came, next, all_next, reached, taken, before, asked_by}
 use Rattle.nfs_serve.specs.Kept.{renews_by}
 use Rattle.nfs_serve.specs.Others.{AreOthers, OthersLeaveAll, is_named, AreStrangers, StrangersChangeNothing}
-use Rattle.nfs_serve.proofs.Points.{left, for_asked, next_is, IsSound, taken_later, whole_before, sound_next, sound_all, sound_new}
-use Rattle.nfs_serve.proofs.Kept.{lease_next, lease_all, least_now}
+use Rattle.nfs_serve.proofs.Points.{left, for_asked, next_is, IsSound, whole_before, sound_next, sound_all, sound_new}
+use Rattle.nfs_serve.proofs.Staying.{lease_next, lease_all, Stays, stays_before, stays_next, stays_from}
 use Rattle.nfs_serve.proofs.Outlived.{confirmed_is, machine_before, machine_next, machine_all}
 
--- what holds while others come: the client has what it had in this table, and its lease was renewed no earlier
-record Rests (client lease last : ℕ) (t : Table) (s : State) : Type 0 where
-  pub sound : IsSound s
-  pub own : HasAsBefore client t s.machine.store.opens
-  pub least : AtLeast last client s.machine.leases
-  pub low : last ≤ s.moment
-  pub lasts : s.machine.leases.lease ≡ lease
-
-later : (last moment now : ℕ) → last ≤ moment → moment ≤ now → last ≤ now
-later last moment now low up = omega arith
-
 -- what a record of another does, if it asks for anything
-record Does (client last : ℕ) (m : Machine) (o : Option Event) : Type 0 where
-  pub own : option_map_or (renews client m) o false ≡ false → IsAlone client m (left m o) → HasAsBefore client m.store.opens (left m o).store.opens
-  pub least : option_map_or (renews client m) o false ≡ false → AtLeast last client (left m o).leases
+apart : (client : ℕ) (s : State) (c : Came) → IsSound s → renews_by client s c ≡ false → IsAlone client (before s c) (left (before s c) (asked_by s c))
+    → HasAsBefore client (before s c).store.opens (left (before s c) (asked_by s c)).store.opens
+apart client s c sound =
+    for_asked (λ o. option_map_or (renews client (before s c)) o false ≡ false → IsAlone client (before s c) (left (before s c) o)
+    → HasAsBefore client (before s c).store.opens (left (before s c) o).store.opens) s c
+    (λ other alone. same client (before s c).store.opens)
+    (λ r who. event_apart client (before s c) (Asks r who (length c.call) (taken s c) c.choice) (whole_before s c sound.whole))
 
-does : (client lease last : ℕ) (t : Table) (s : State) (c : Came) → Rests client lease last t s → Does client last (before s c) (asked_by s c)
-does client lease last t s c rests =
-    let m = before s c in
-    let is = whole_before s c rests.sound.whole in
-    let low : last ≤ taken s c = later last s.moment (taken s c) rests.low (taken_later s c) in
-    let least : AtLeast last client m.leases = least_expired s.machine.leases last (taken s c) client rests.least in
-    for_asked (Does client last m) s c (record { own = λ other alone. same client m.store.opens; least = λ other. least }) (λ r who.
-    (let e = Asks r who (length c.call) (taken s c) c.choice in
-    record {
-      own = λ other alone. event_apart client m e is other alone;
-      least = λ other. subst (λ b. AtLeast (cond b (taken s c) last) client (left m (Some e)).leases) other
-          (least_behind m r who (length c.call) (taken s c) client last c.choice low least);
-    }))
-
-rests_next : (client lease last : ℕ) (t : Table) (s : State) (c : Came) → Rests client lease last t s → renews_by client s c ≡ false → taken s c ≤ last + lease
-    → IsAlone client (before s c) (next s c).machine → Rests client lease last t (next s c)
-rests_next client lease last t s c rests other within alone =
-    let did = does client lease last t s c rests in
-    let is = ap (λ (s : State). s.machine) (next_is s c) in
-    let low : last ≤ taken s c = later last s.moment (taken s c) rests.low (taken_later s c) in
-    let here : HasAsBefore client s.machine.store.opens (before s c).store.opens =
-    event_apart client s.machine (Expires (taken s c)) rests.sound.whole refl
-    (in_time s.machine.leases last (taken s c) client rests.least (subst (λ n. taken s c ≤ last + n) (sym rests.lasts) within)) in
-    let there : HasAsBefore client (before s c).store.opens (next s c).machine.store.opens =
-    subst (λ (m : Machine). HasAsBefore client (before s c).store.opens m.store.opens) (sym is) (did.own other (subst (IsAlone client (before s c)) is alone)) in
-    record {
-      sound = sound_next s c rests.sound;
-      own = both client t s.machine.store.opens (next s c).machine.store.opens rests.own
-          (both client s.machine.store.opens (before s c).store.opens (next s c).machine.store.opens here there);
-      least = subst (λ (m : Machine). AtLeast last client m.leases) (sym is) (did.least other);
-      low = subst (λ n. last ≤ n) (sym (ap (λ (s : State). s.moment) (next_is s c))) low;
-      lasts = lease_next s c ∙ rests.lasts;
-    }
-
-rests_all : (client lease last : ℕ) (t : Table) (s : State) (others : List Came) → Rests client lease last t s → AreOthers client lease last s others
-    → HasAsBefore client t (all_next s others).machine.store.opens
-rests_all client lease last t s [] rests all = rests.own
+-- while others come, the client has what it had in this table
+rests_all : (client lease last : ℕ) (t : Table) (s : State) (others : List Came) → Stays client lease last (HasAsBefore client t) s
+    → AreOthers client lease last s others → HasAsBefore client t (all_next s others).machine.store.opens
+rests_all client lease last t s [] rests all = rests.stands
 rests_all client lease last t s (c ∷ more) rests all =
-    rests_all client lease last t (next s c) more (rests_next client lease last t s c rests all.0 all.1 all.2) all.3
-
--- behind a record that ran in a session of the client
-least_behind_own : (s : State) (c : Came) (client : ℕ) → renews_by client s c ≡ true → AtLeast (taken s c) client (next s c).machine.leases
-least_behind_own s c client own =
-    subst (λ (m : Machine). AtLeast (taken s c) client m.leases) (sym (ap (λ (s : State). s.machine) (next_is s c)))
-    (subst (λ b. AtLeast (cond b (taken s c) 0) client (left (before s c) (asked_by s c)).leases) own (least_now s c client))
+    let here : HasAsBefore client t (before s c).store.opens =
+    stays_before client lease last (HasAsBefore client t) s c (λ u v step first. both client t u v first step) rests all.1 in
+    let alone = subst (IsAlone client (before s c)) (ap (λ (s : State). s.machine) (next_is s c)) all.2 in
+    let left_is = left (before s c) (asked_by s c) in
+    let there : HasAsBefore client t left_is.store.opens =
+    both client t (before s c).store.opens left_is.store.opens here (apart client s c rests.sound all.0 alone) in
+    rests_all client lease last t (next s c) more
+    (subst (λ b. Stays client lease (cond b (taken s c) last) (HasAsBefore client t) (next s c)) all.0
+    (stays_next client lease last (HasAsBefore client t) (HasAsBefore client t) s c rests there)) all.3
 
 pub others_leave_all : OthersLeaveAll
 others_leave_all mode instance lease earlier c client others own all =
     let s = reached mode instance lease earlier in
-    let sound : IsSound s = sound_all (new_state mode instance lease) earlier (sound_new mode instance lease) in
-    rests_all client lease (taken s c) (next s c).machine.store.opens (next s c) others (record {
-      sound = sound_next s c sound;
-      own = same client (next s c).machine.store.opens;
-      least = least_behind_own s c client own;
-      low = subst (λ n. taken s c ≤ n) (sym (ap (λ (s : State). s.moment) (next_is s c))) (omega arith);
-      lasts = lease_next s c ∙ lease_all (new_state mode instance lease) earlier;
-    }) all
+    let t = (next s c).machine.store.opens in
+    rests_all client lease (taken s c) t (next s c) others
+    (stays_from mode instance lease earlier c client (HasAsBefore client t) own
+    (subst (λ (m : Machine). HasAsBefore client t m.store.opens) (ap (λ (s : State). s.machine) (next_is s c)) (same client t))) all
 
 -- Whoever renews its lease is there.
 
@@ -220,6 +178,6 @@ strangers_change_nothing mode instance lease earlier c client strangers small ow
       known = k;
       at = at;
       all = as_it_was client (next s c).machine;
-      least = least_behind_own s c client own;
+      least = (stays_from mode instance lease earlier c client (λ t. Unit {0}) own tt).least;
       lasts = lease_next s c ∙ lease_all first earlier;
     }) all

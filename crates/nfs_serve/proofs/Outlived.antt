@@ -22,7 +22,7 @@ use Rattle.nfs_serve.specs.Step.{State, new_state}
 use Rattle.nfs_serve.specs.Points.{Came, next, all_next, reached, taken, before}
 use Rattle.nfs_serve.specs.Outlived.{renewed_by, last_renewal, NoneOutlives}
 use Rattle.nfs_serve.proofs.Points.{left, for_asked, next_is, IsSound, whole_before, latest_before, sound_next, sound_all, sound_new}
-use Rattle.nfs_serve.proofs.Kept.{lease_all}
+use Rattle.nfs_serve.proofs.Staying.{lease_all}
 
 -- What holds of every machine.
 

@@ -81,7 +81,7 @@ other_open id e one =
 abbrev close : Close
 close = record { seqid = 0; open_stateid = record { seqid = 1; other = words (7 ∷ 0 ∷ 3 ∷ []) } }
 
-closes_other : (x : Context) (a : Close) (id : StateId) → Operation (OpClose close) ≡ Operation (OpClose a) → meant x Own a.open_stateid ≡ Ok id → id.number ≡ 1 → ⊥
+pub closes_other : (x : Context) (a : Close) (id : StateId) → Operation (OpClose close) ≡ Operation (OpClose a) → meant x Own a.open_stateid ≡ Ok id → id.number ≡ 1 → ⊥
 unfolding number hyper
 closes_other x a id is means one =
     let same : close ≡ a = cc in

@@ -41,3 +41,6 @@ pub mod Shows
 pub mod WrittenStays
 pub mod WrittenWorked
 pub mod SessionsOnce
+pub mod OpenKept
+pub mod HeldOpen
+pub mod WrongOpens

@@ -8,10 +8,12 @@ ghost use Rattle.nfs_serve.specs.Exchanges.{RunsTo, null_script, null_output, ex
 ghost use Rattle.nfs_serve.specs.Laws.{HasOneReading, CutsAnywhere, BringsOnce, ConnectionsAreStreams};
 ghost use Rattle.nfs_serve.specs.Forms.{EachFormRunsRecords};
 ghost use Rattle.nfs_serve.specs.HeldLock.{IsHeldTo, AreBothTold};
+ghost use Rattle.nfs_serve.specs.HeldOpen.{IsOpenTo};
 ghost use Rattle.nfs_serve.specs.Kept.{LockKept, EachIsTold, OnlyOneIsTold, LeaseIsTold};
 ghost use Rattle.nfs_serve.specs.LostReply.{IsAccepted, IsOverAWire};
 ghost use Rattle.nfs_serve.specs.Network.{ExactlyOnce, AnswersExecuted};
 ghost use Rattle.nfs_serve.specs.Numbered.{AnswersNumbered, ExactlyOnceByNumber, XidsSuffice};
+ghost use Rattle.nfs_serve.specs.OpenKept.{OpenKept, EachOpenIsTold};
 ghost use Rattle.nfs_serve.specs.Others.{OthersLeaveAll, StrangersChangeNothing, ComeInTime};
 ghost use Rattle.nfs_serve.specs.Outlived.{NoneOutlives};
 ghost use Rattle.nfs_serve.specs.Points.{NoClash};
@@ -23,6 +25,7 @@ ghost use Rattle.nfs_serve.specs.SeenWrite.{IsSeen};
 ghost use Rattle.nfs_serve.specs.WrongLocks.{AreRefused};
 ghost use Rattle.nfs_serve.specs.WrittenStays.{BytesStay};
 ghost use Rattle.nfs_serve.specs.WrittenWorked.{StaysTo, BytesRefused};
+ghost use Rattle.nfs_serve.specs.WrongOpens.{OpensAreRefused};
 ghost use Rattle.nfs_serve.specs.WrongServers.{LawsRefuse};
 ghost use Rattle.nfs_serve.specs.Whole.{HubRunsScript, NothingIsLostInARun, NothingIsLostInATurn};
 
@@ -263,4 +266,27 @@ pub fn next_number_makes_a_session()
 /// `each_makes_one_session`, `repeats_make_no_session` and `next_number_makes_a_session`, which refuse a second session and an id that stands.
 pub fn a_session_is_made_once()
     ensures { IsGivenOnce }
+{}
+
+/// In every run the open that an OPEN told, by NFS4_OK and a stateid, stands from then on, while its client renews in time and no CLOSE of it is answered NFS4_OK.
+/// Its bits are those that its OPENs asked for, joined, or those of the last OPEN_DOWNGRADE; and no OPEN that they forbid is answered NFS4_OK.
+pub fn open_kept()
+    ensures { OpenKept }
+{}
+
+/// Whatever OPEN is answered NFS4_OK and a stateid, it told an open of which `open_kept` speaks: of the file that its claim leads to, with all that it asked for.
+pub fn each_open_is_told()
+    ensures { EachOpenIsTold }
+{}
+
+/// The definitions compute: a client opens a file and denies others to write; another client's OPEN for writing is denied while the first renews its lease, and
+/// also behind a second OPEN of the first owner; it is granted behind an OPEN_DOWNGRADE. That run meets the premises of `open_kept`.
+pub fn open_kept_to_a_downgrade()
+    ensures { IsOpenTo }
+{}
+
+/// The definitions compute: over that run `open_kept` refuses a second OPEN that puts its bits in the place of the first one's, an OPEN_DOWNGRADE that changes
+/// nothing, a CLOSE of another open that closes this one and an OPEN that is forbidden and answers NFS4_OK.
+pub fn wrong_opens_are_refused()
+    ensures { OpensAreRefused }
 {}

@@ -1,0 +1,699 @@
+-- What an operation leaves of an open that was told, and what an OPEN that answers its stateid did.
+use Rattle.std.proofs.Common.{◌≡◌, ◌≢◌, ℕ, suc, ◌+◌, ◌<◌, ◌≤◌, Bool, true, false, cond, eqb, not, List, [], ◌∷◌, ◌++◌, length, take, drop, map, Option, Some, None, refl, sym, ◌∙◌, ap, subst, arith, inl, inr}
+use Rattle.std.specs.Prelude.{◌==◌, ◌&&◌, ◌||◌, nat_le, filter, option_map, is_none, bytes_eq, Result, Ok, Err, if◌then◌else◌}
+use Rattle.std.specs.List.{list_any}
+use Rattle.std.specs.Int.{w64, from_be_bytes}
+use Rattle.std.proofs.lemmas.Bool.{cases_Bool, cases_eq, eq-eqb, ne_eqb, eqb-true, eqb-false, and_parts, le-leb, leb-true, true≢false, false≢true}
+use Rattle.std.proofs.lemmas.Slice.Eq.{bytes_eq-Decides}
+use Rattle.std.proofs.lemmas.List.{length-append}
+use Rattle.std.proofs.lemmas.Nat.{from_be_bytes-to_be_bytes_8}
+use Rattle.nfs_xdr.specs.Checks.{first_fault}
+use Rattle.nfs_xdr.specs.Spelling.{number, hyper}
+use Rattle.nfs_xdr.specs.Tables.{In}
+use Rattle.nfs_xdr.specs.declared.time.Time.{Time}
+use Rattle.nfs_xdr.specs.declared.status.Status.{Status}
+use Rattle.nfs_xdr.specs.declared.status.Status.TheVariants.{BadStateId, Inval, Delay}
+use Rattle.nfs_xdr.proofs.Checks.{all_passed}
+use Rattle.nfs_xdr.proofs.Lists.{find_in, none_any, none_in, map_in, push_in, last_in, stays_in, find_push_none}
+use Rattle.nfs_xdr.proofs.Tables.{in_bounds, in_once}
+use Rattle.nfs_compound.specs.Arguments.{arguments}
+use Rattle.nfs_compound.specs.LockArgs as args
+use Rattle.nfs_compound.specs.OpenArgs.{Open, OpenClaim, Null, Fh, Previous}
+use Rattle.nfs_compound.specs.Stateid.{stateid}
+use Rattle.nfs_compound.specs.declared.op_num.OpNum.{OpNum}
+use Rattle.nfs_compound.specs.declared.op_num.OpNum.TheVariants as Num
+use Rattle.nfs_compound.specs.OpNum.{op_number}
+use Rattle.nfs_compound.specs.declared.stateid.Stateid.{Stateid}
+use Rattle.nfs_compound.specs.declared.lock_args.LockU.{LockU}
+use Rattle.nfs_compound.specs.declared.open_args.Close.{Close}
+use Rattle.nfs_compound.specs.declared.open_args.OpenDowngrade.{OpenDowngrade}
+use Rattle.nfs_compound.specs.Operation.{Op, Item, Operation, Fault, OpClose, OpCommit, OpFreeStateid, OpLock, OpLockT, OpLockU, OpOpen, OpOpenDowngrade}
+use Rattle.nfs_compound.specs.Operation.{OpRead, OpSetAttr, OpTestStateid, OpWrite}
+use Rattle.nfs_results.specs.declared.res.ChangeInfo.{ChangeInfo}
+use Rattle.nfs_results.specs.Items.{open_ok}
+use Rattle.nfs_results.specs.Result.{Res, Refused, ResOpen, ResOpenDowngrade}
+use Rattle.nfs_results.specs.Results.{spell_result, refusal, done_head}
+use Rattle.nfs_results.proofs.Lengths.{length_spelled}
+use Rattle.nfs_ranges.specs.declared.Held.{Held}
+use Rattle.nfs_ranges.specs.Holders.{holds_any}
+use Rattle.nfs_tree.specs.declared.object.Object.{Object}
+use Rattle.nfs_tree.specs.declared.row.Row.{Row}
+use Rattle.nfs_tree.specs.declared.sets.Sets.{Sets}
+use Rattle.nfs_tree.specs.Create.{New, with_new}
+use Rattle.nfs_tree.specs.Files.{Files, object_at, is_entry, entry, lookup}
+use Rattle.nfs_tree.proofs.RowsKept.{entry_self}
+use Rattle.nfs_opens.specs.declared.share.Share.{Share}
+use Rattle.nfs_opens.specs.declared.stateid.StateId.{StateId}
+use Rattle.nfs_opens.specs.declared.stateid.CurrentSeqid.TheVariants.{Any, Own}
+use Rattle.nfs_opens.specs.declared.records.OpenState.{OpenState}
+use Rattle.nfs_opens.specs.declared.records.LockState.{LockState}
+use Rattle.nfs_opens.specs.declared.judging.Seat.{Seat}
+use Rattle.nfs_opens.specs.declared.judging.Seat.TheVariants as Seats
+use Rattle.nfs_opens.specs.declared.judging.Sort.TheVariants.{OpenOnly, LockOnly, Either}
+use Rattle.nfs_opens.specs.declared.locking.Wish.{Wish}
+use Rattle.nfs_opens.specs.declared.locking.OpenFault.{OpenFault}
+use Rattle.nfs_opens.specs.declared.locking.OpenFault.TheVariants as F
+use Rattle.nfs_opens.specs.Share.{meets, joined}
+use Rattle.nfs_opens.specs.StateId.{last_number, next_seqid}
+use Rattle.nfs_opens.specs.Table.{Table, Did, Asked, is_own, is_owners, clashes_with, open_at, lock_at, with_open}
+use Rattle.nfs_opens.specs.Calls.{open_fault, open_checks}
+use Rattle.nfs_opens.specs.Kept.{IsTable}
+use Rattle.nfs_opens.specs.Judging.{judge}
+use Rattle.nfs_opens.specs.Closing as closing
+use Rattle.nfs_opens.specs.Opening as opening
+use Rattle.nfs_opens.specs.Locking as locking
+use Rattle.nfs_names.specs.declared.context.Context.{Context}
+use Rattle.nfs_names.specs.declared.node.Node.{Node}
+use Rattle.nfs_names.specs.declared.making.Making.{Making}
+use Rattle.nfs_names.specs.State.{State}
+use Rattle.nfs_names.specs.Ending.{with_opens}
+use Rattle.nfs_names.specs.Checks.{node_as, node_at, current}
+use Rattle.nfs_names.specs.Create.{attributes_in}
+use Rattle.nfs_names.specs.Outcome.{Outcome, ◌>>=◌, answers, refuses, checked, mapped, or_delay, is_ok}
+use Rattle.nfs_names.proofs.Found.{came, checked_ok, ok_is}
+use Rattle.nfs_names.proofs.Untouched.{unused_opens, by_delay}
+use Rattle.nfs_files.specs.declared.target.Target.{Target}
+use Rattle.nfs_files.specs.declared.opening.Found.{Found}
+use Rattle.nfs_files.specs.declared.opening.Found.TheVariants.{There, Absent}
+use Rattle.nfs_files.specs.StateIds.{wire_id, meant}
+use Rattle.nfs_files.specs.Target.{target}
+use Rattle.nfs_files.specs.Operation.{one, grows, one_or_delay, comes_to}
+use Rattle.nfs_files.specs.Close.{closed, closes, close}
+use Rattle.nfs_files.specs.Commit.{commit}
+use Rattle.nfs_files.specs.FreeStateid.{frees, free_stateid}
+use Rattle.nfs_files.specs.Lock as of_lock
+use Rattle.nfs_files.specs.LockT.{tested, lock_t}
+use Rattle.nfs_files.specs.LockU.{unlocking, unlocked, unlocks, lock_u}
+use Rattle.nfs_files.specs.Open as of_open
+use Rattle.nfs_files.specs.Open.{access_of, deny_of}
+use Rattle.nfs_files.specs.OpenDowngrade.{bits, narrowing, narrowed, narrows, open_downgrade}
+use Rattle.nfs_files.specs.Read.{read}
+use Rattle.nfs_files.specs.SetAttr.{was_set, set_attr}
+use Rattle.nfs_files.specs.TestStateid.{test_stateid}
+use Rattle.nfs_files.specs.Write.{was_written, write}
+use Rattle.nfs_files.specs.OpenTold.{names_open, OpenTold, Bits, bits_with, bits_had, bits_behind, IsOpenWith, named_in, claimed, forbids}
+use Rattle.nfs_files.specs.OpenLaws.{IsToldOpen, ToldOpensStand, ForbiddenOpensAreRefused}
+use Rattle.nfs_files.proofs.Inside.{Closes}
+use Rattle.nfs_files.proofs.KeptLocks.{IsGranted, lock_grants}
+use Rattle.nfs_files.proofs.KeptOps.{found, close_ok}
+use Rattle.nfs_files.proofs.Opened.{shared_free}
+use Rattle.nfs_files.proofs.Steady.{Few}
+
+-- What moves no open.
+
+abbrev Alike : State → State → Type 0
+Alike s u = u.opens.opens ≡ s.opens.opens
+
+freed_alike : (t : Table) (n : ℕ) (l : Option LockState) → (closing.free_lock t n l).after.opens ≡ t.opens
+freed_alike t n None = refl
+freed_alike t n (Some l) = elim (cases_Bool (holds_any (t.held l.file) n)) [ inl held ↦ rw held refl | inr none ↦ rw none refl ]
+
+free_by_alike : (t : Table) (v : Result Seat Status) → (closing.free_by t v).after.opens ≡ t.opens
+free_by_alike t (Err status) = refl
+free_by_alike t (Ok Seats.Anonymous) = refl
+free_by_alike t (Ok Seats.ReadBypass) = refl
+free_by_alike t (Ok (Seats.Open number access)) = refl
+free_by_alike t (Ok (Seats.Lock number access)) = freed_alike t number (lock_at t number)
+
+free_alike : (s : State) (x : Context) (given : Stateid) → Alike s (free_stateid s x given).state
+unfolding free_stateid
+free_alike s x given =
+    found (Alike s) s x Num.FreeStateid (meant x Any given) (frees s x) refl (λ id judged.
+    found (Alike s) s x Num.FreeStateid (closing.free s.opens id x.client).answer _ refl (λ u granted.
+    free_by_alike s.opens (judge s.opens id x.client None Either)))
+
+granted_alike : (t : Table) (w : Wish) (did : Did StateId OpenFault) (id : StateId) → IsGranted t w did id → did.after.opens ≡ t.opens
+granted_alike t w did id (inl more) = ap (λ (u : Table). u.opens) more.left
+granted_alike t w did id (inr first) = ap (λ (u : Table). u.opens) first.left
+
+locked_alike : (s : State) (x : Context) (after : Table) (v : Result StateId OpenFault) → ((id : StateId) → v ≡ Ok id → after.opens ≡ s.opens.opens)
+    → Alike s (of_lock.locked s x after v).state
+locked_alike s x after (Ok id) each = each id refl
+locked_alike s x after (Err (F.Refused status)) each = refl
+locked_alike s x after (Err (F.Denied h)) each = refl
+locked_alike s x after (Err F.Memory) each = refl
+
+lock_alike : (s : State) (x : Context) (a : args.Lock) → Alike s (of_lock.lock s x a).state
+unfolding of_lock.lock
+lock_alike s x a =
+    found (Alike s) s x Num.Lock (of_lock.locking s x a) (of_lock.locks s x a.locker) refl (λ m judged.
+    (let did = of_lock.locks_as s.opens a.locker m.id m.wish in
+    locked_alike s x did.after did.answer (λ id granted. granted_alike s.opens m.wish did id (lock_grants s.opens a.locker m.id m.wish id granted))))
+
+cleared_alike : (t : Table) (n file first last : ℕ) (l : Option LockState) → (locking.clear_lock t n file first last l).after.opens ≡ t.opens
+cleared_alike t n file first last None = refl
+cleared_alike t n file first last (Some l) = refl
+
+unlock_alike : (t : Table) (n file first last : ℕ) (v : Result Seat Status) → (locking.unlock_by t n file first last v).after.opens ≡ t.opens
+unlock_alike t n file first last (Err status) = refl
+unlock_alike t n file first last (Ok seat) = cleared_alike t n file first last (lock_at t n)
+
+unlocked_alike : (s : State) (x : Context) (after : Table) (v : Result StateId OpenFault) → after.opens ≡ s.opens.opens → Alike s (unlocked s x after v).state
+unlocked_alike s x after (Ok id) same = same
+unlocked_alike s x after (Err fault) same = refl
+
+lock_u_alike : (s : State) (x : Context) (a : LockU) → Alike s (lock_u s x a).state
+unfolding lock_u
+lock_u_alike s x a =
+    found (Alike s) s x Num.LockU (unlocking s x a) (unlocks s x) refl (λ m judged.
+    (let w = m.wish in let did = locking.unlock s.opens m.id w.client w.file w.first w.last in
+    unlocked_alike s x did.after did.answer
+    (unlock_alike s.opens m.id.number w.file w.first w.last (judge s.opens m.id w.client (Some w.file) LockOnly))))
+
+tested_alike : (s : State) (x : Context) (o : Option Held) → Alike s (tested s x o).state
+tested_alike s x None = refl
+tested_alike s x (Some h) = refl
+
+abbrev moves_bits : Op → Bool
+moves_bits (OpClose a) = true
+moves_bits (OpOpen a) = true
+moves_bits (OpOpenDowngrade a) = true
+moves_bits op = false
+
+one_alike : (s : State) (x : Context) (now : Time) (op : Op) → moves_bits op ≡ false → Alike s (one s x now op).state
+unfolding commit lock_t read set_attr test_stateid write
+one_alike s x now (OpClose a) e = absurd (true≢false e)
+one_alike s x now (OpOpen a) e = absurd (true≢false e)
+one_alike s x now (OpOpenDowngrade a) e = absurd (true≢false e)
+one_alike s x now (OpCommit a) e = found (Alike s) s x Num.Commit _ _ refl (λ d e. refl)
+one_alike s x now (OpFreeStateid given) e = free_alike s x given
+one_alike s x now (OpLock a) e = lock_alike s x a
+one_alike s x now (OpLockT a) e = found (Alike s) s x Num.LockT _ _ refl (λ w e. tested_alike s x (locking.test_lock s.opens a.owner.owner w))
+one_alike s x now (OpLockU a) e = lock_u_alike s x a
+one_alike s x now (OpRead a) e = found (Alike s) s x Num.Read _ _ refl (λ d e. refl)
+one_alike s x now (OpSetAttr a) e = found (Alike s) s x Num.SetAttr _ (was_set s x now a) refl (λ m e. refl)
+one_alike s x now (OpTestStateid given) e = refl
+one_alike s x now (OpWrite a) e = found (Alike s) s x Num.Write _ (was_written s x now a) refl (λ d e. refl)
+one_alike s x now op e = refl
+
+other_bits : (n : ℕ) (op : Op) (text : List ℕ) (b : Bits) → moves_bits op ≡ false → bits_behind n (Operation op) text b ≡ b
+other_bits n (OpOpen a) text b e = absurd (true≢false e)
+other_bits n (OpOpenDowngrade a) text b e = absurd (true≢false e)
+other_bits n op text b e = refl
+
+pub same_opens : (k : OpenTold) (b : Bits) (t u : Table) → u.opens ≡ t.opens → IsOpenWith k b t → IsOpenWith k b u
+same_opens k b t u same is = record {
+  state = is.state;
+  there = subst (In is.state) (sym same) is.there;
+  number = is.number;
+  client = is.client;
+  owner = is.owner;
+  file = is.file;
+  access = is.access;
+  deny = is.deny;
+}
+
+-- The stateid in a result.
+
+pub short_names_none : (op : OpNum) (operation : ℕ) (status : Status) (n : ℕ) → names_open op (spell_result (Refused operation status)) n ≡ false
+short_names_none op operation status n = rw short refl
+  where
+    short : nat_le 24 (length (spell_result (Refused operation status))) ≡ false
+    short = (let long : length (spell_result (Refused operation status)) ≡ 8 = length_spelled (Refused operation status) in rw long refl)
+
+abbrev text_of : StateId → List ℕ → List ℕ
+text_of id rest = number id.seqid ++ (number id.instance ++ (hyper id.number ++ rest))
+
+eight : (n : ℕ) (rest : List ℕ) → take 8 (hyper n ++ rest) ≡ hyper n
+unfolding hyper
+eight n rest = refl
+
+open_head : (id : StateId) (rest : List ℕ) → bytes_eq (take 8 (done_head Num.Open ++ text_of id rest)) (done_head Num.Open) ≡ true
+unfolding number hyper
+open_head id rest = refl
+
+downgrade_head : (id : StateId) (rest : List ℕ) → bytes_eq (take 8 (done_head Num.OpenDowngrade ++ text_of id rest)) (done_head Num.OpenDowngrade) ≡ true
+unfolding number hyper
+downgrade_head id rest = refl
+
+number_behind : (op : OpNum) (id : StateId) (rest : List ℕ) → take 8 (drop 16 (done_head op ++ text_of id rest)) ≡ hyper id.number
+unfolding number hyper
+number_behind op id rest = refl
+
+long_enough : (op : OpNum) (id : StateId) (rest : List ℕ) → 24 ≤ length (done_head op ++ text_of id rest)
+unfolding number hyper
+long_enough op id rest = omega arith
+
+hyper_read : (n : ℕ) → n ≤ last_number → from_be_bytes w64 (hyper n) ≡ n
+unfolding hyper
+hyper_read n small = from_be_bytes-to_be_bytes_8 n (omega arith)
+
+names_text : (op : OpNum) (id : StateId) (rest : List ℕ) (n : ℕ) → bytes_eq (take 8 (done_head op ++ text_of id rest)) (done_head op) ≡ true → id.number ≤ last_number
+    → names_open op (done_head op ++ text_of id rest) n ≡ (id.number == n)
+names_text op id rest n head small =
+    let long : nat_le 24 (length (done_head op ++ text_of id rest)) ≡ true = le-leb _ _ (long_enough op id rest) in
+    let read : from_be_bytes w64 (take 8 (drop 16 (done_head op ++ text_of id rest))) ≡ id.number =
+    ap (from_be_bytes w64) (number_behind op id rest) ∙ hyper_read id.number small in
+    rw (long, head) (ap (λ (m : ℕ). m == n) read)
+
+open_spelled : (id : StateId) (cinfo : ChangeInfo) (attrset : List ℕ)
+    → (rest : List ℕ) × (spell_result (ResOpen (record { stateid = wire_id id; cinfo = cinfo; attrset = attrset })) ≡ done_head Num.Open ++ text_of id rest)
+unfolding number hyper stateid open_ok
+open_spelled id cinfo attrset = (_, refl)
+
+downgrade_spelled : (id : StateId) → spell_result (ResOpenDowngrade (wire_id id)) ≡ done_head Num.OpenDowngrade ++ text_of id []
+unfolding number hyper stateid
+downgrade_spelled id = refl
+
+names_of_open : (id : StateId) (cinfo : ChangeInfo) (attrset : List ℕ) (n : ℕ) → id.number ≤ last_number
+    → names_open Num.Open (spell_result (ResOpen (record { stateid = wire_id id; cinfo = cinfo; attrset = attrset }))) n ≡ (id.number == n)
+names_of_open id cinfo attrset n small =
+    let (rest, is) = open_spelled id cinfo attrset in
+    ap (λ (text : List ℕ). names_open Num.Open text n) is ∙ names_text Num.Open id rest n (open_head id rest) small
+
+names_of_downgrade : (id : StateId) (n : ℕ) → id.number ≤ last_number
+    → names_open Num.OpenDowngrade (spell_result (ResOpenDowngrade (wire_id id))) n ≡ (id.number == n)
+names_of_downgrade id n small =
+    ap (λ (text : List ℕ). names_open Num.OpenDowngrade text n) (downgrade_spelled id)
+    ∙ names_text Num.OpenDowngrade id [] n (downgrade_head id []) small
+
+-- The changes of a table.
+
+closed_left : (k : OpenTold) (b : Bits) (t : Table) (n : ℕ) → n ≢ k.number → IsOpenWith k b t → IsOpenWith k b (closing.without_open t n)
+closed_left k b t n other is = record {
+  state = is.state;
+  there = stays_in (λ (o : OpenState). not (o.number == n)) t.opens is.state is.there (ap not (ne_eqb is.state.number n (λ same. other (sym same ∙ is.number))));
+  number = is.number;
+  client = is.client;
+  owner = is.owner;
+  file = is.file;
+  access = is.access;
+  deny = is.deny;
+}
+
+-- a change of an open that is no other open
+record IsMild (f : OpenState → OpenState) : Type 0 where
+  pub number : (o : OpenState) → (f o).number ≡ o.number
+  pub client : (o : OpenState) → (f o).client ≡ o.client
+  pub owner : (o : OpenState) → (f o).owner ≡ o.owner
+  pub file : (o : OpenState) → (f o).file ≡ o.file
+
+changed_left : (k : OpenTold) (b c : Bits) (t : Table) (n : ℕ) (f : OpenState → OpenState) (its : Bool) → (n == k.number) ≡ its → IsMild f
+    → ((o : OpenState) → o.access ≡ b.access → o.deny ≡ b.deny → ((f o).access ≡ c.access) × ((f o).deny ≡ c.deny))
+    → IsOpenWith k b t → IsOpenWith k (cond its c b) (with_open t n f)
+changed_left k b c t n f true same mild moves is =
+    let named : n ≡ k.number = eqb-true _ _ same in
+    let change : OpenState → OpenState = λ o. if o.number == n then f o else o in
+    let here : change is.state ≡ f is.state = rw (eq-eqb is.state.number n (is.number ∙ sym named)) refl in
+    let bits = moves is.state is.access is.deny in
+    record {
+      state = f is.state;
+      there = subst (λ (o : OpenState). In o (map change t.opens)) here (map_in change t.opens is.state is.there);
+      number = mild.number is.state ∙ is.number;
+      client = mild.client is.state ∙ is.client;
+      owner = mild.owner is.state ∙ is.owner;
+      file = mild.file is.state ∙ is.file;
+      access = bits.0;
+      deny = bits.1;
+    }
+changed_left k b c t n f false other mild moves is =
+    let change : OpenState → OpenState = λ o. if o.number == n then f o else o in
+    let apart : n ≢ k.number = eqb-false _ _ other in
+    let here : change is.state ≡ is.state = rw (ne_eqb is.state.number n (λ same. apart (sym same ∙ is.number))) refl in
+    record {
+      state = is.state;
+      there = subst (λ (o : OpenState). In o (map change t.opens)) here (map_in change t.opens is.state is.there);
+      number = is.number;
+      client = is.client;
+      owner = is.owner;
+      file = is.file;
+      access = is.access;
+      deny = is.deny;
+    }
+
+pushed_left : (k : OpenTold) (b : Bits) (t : Table) (new : OpenState) (last : ℕ) → IsOpenWith k b t → IsOpenWith k b (record t { opens = t.opens ++ new ∷ []; last = last })
+pushed_left k b t new last is = record {
+  state = is.state;
+  there = push_in t.opens new is.state is.there;
+  number = is.number;
+  client = is.client;
+  owner = is.owner;
+  file = is.file;
+  access = is.access;
+  deny = is.deny;
+}
+
+-- CLOSE
+
+by_seat : (k : OpenTold) (b : Bits) (s : State) (x : Context) (file : ℕ) (id : StateId) (v : Result Seat Status) → IsOpenWith k b s.opens
+    → ((closing.close_by s.opens id.number v).answer ≡ Ok tt → id.number ≢ k.number)
+    → IsOpenWith k b (answers s x Num.Close (closing.close_by s.opens id.number v).answer
+    (λ u. closed s x file (closing.close_by s.opens id.number v).after)).state.opens
+by_seat k b s x file id (Err status) is other = is
+by_seat k b s x file id (Ok seat) is other =
+    subst (IsOpenWith k b) (sym (unused_opens (with_opens s (closing.without_open s.opens id.number)) file))
+    (closed_left k b s.opens id.number (other refl) is)
+
+close_left : (k : OpenTold) (b : Bits) (s : State) (x : Context) (a : Close) → ((n : ℕ) → Closes s x (OpClose a) n → n ≢ k.number)
+    → IsOpenWith k b s.opens → IsOpenWith k b (close s x a).state.opens
+unfolding close
+close_left k b s x a spares is =
+    found (λ (u : State). IsOpenWith k b u.opens) s x Num.Close (target s x Own a.open_stateid) (closes s x) is (λ t judged.
+    by_seat k b s x t.file t.id (judge s.opens t.id x.client (Some t.file) OpenOnly) is (λ granted.
+    spares t.id.number (record { asked = a; file = t.file; id = t.id; is = refl; judged = judged; granted = granted; opened = refl })))
+
+-- what an operation comes to, by what was found
+answered : {A : Type 0} (P : Outcome → Type 0) (s : State) (x : Context) (op : OpNum) (v : Result A Status) (f : A → Outcome)
+    → ((status : Status) → P (refuses s x op status)) → ((a : A) → v ≡ Ok a → P (f a)) → P (answers s x op v f)
+answered P s x op (Err status) f refused each = refused status
+answered P s x op (Ok a) f refused each = each a refl
+
+-- OPEN_DOWNGRADE
+
+abbrev LeftBy : OpenTold → Bits → Op → Outcome → Type 0
+LeftBy k b op o = IsOpenWith k (bits_behind k.number (Operation op) (spell_result o.result) b) o.state.opens
+
+downgrade_refused : (k : OpenTold) (b : Bits) (s : State) (x : Context) (a : OpenDowngrade) → IsOpenWith k b s.opens
+    → (status : Status) → LeftBy k b (OpOpenDowngrade a) (refuses s x Num.OpenDowngrade status)
+downgrade_refused k b s x a is status =
+    subst (λ v. IsOpenWith k (cond v (record { access = bits a.share_access; deny = bits a.share_deny }) b) s.opens)
+    (sym (short_names_none Num.OpenDowngrade (op_number Num.OpenDowngrade) status k.number)) is
+
+narrow_mild : (access deny : Share) → IsMild (opening.narrows access deny)
+narrow_mild access deny = record { number = λ o. refl; client = λ o. refl; owner = λ o. refl; file = λ o. refl }
+
+narrow_left : (k : OpenTold) (b : Bits) (s : State) (x : Context) (a : OpenDowngrade) (n : ℕ) (o : Option OpenState) → IsTable s.opens → Few s.opens
+    → open_at s.opens n ≡ o → IsOpenWith k b s.opens
+    → (let did = opening.narrow_open s.opens n (bits a.share_access) (bits a.share_deny) o in
+    LeftBy k b (OpOpenDowngrade a) (answers s x Num.OpenDowngrade did.answer (λ id. narrowed s x id did.after)))
+narrow_left k b s x a n None table few at is = downgrade_refused k b s x a is BadStateId
+narrow_left k b s x a n (Some o) table few at is = elim (cases_Bool (opening.is_narrower (bits a.share_access) (bits a.share_deny) o)) [
+  | inl part ↦ rw part granted
+  | inr more ↦ rw more (downgrade_refused k b s x a is Inval)
+]
+  where
+    id : StateId
+    id = record { seqid = next_seqid o.seqid; instance = s.opens.instance; number = n }
+
+    small : n ≤ last_number
+    small =
+        (let there = find_in (λ (o : OpenState). o.number == n) s.opens.opens o at in
+        let bounds = in_bounds (λ (o : OpenState). o.number) 1 (suc s.opens.last) s.opens.opens o table.opens there.0 in
+        let below = bounds.1 in let named = eqb-true _ _ there.1 in omega arith)
+
+    granted : LeftBy k b (OpOpenDowngrade a)
+        (narrowed s x (record { seqid = next_seqid o.seqid; instance = s.opens.instance; number = n })
+        (with_open s.opens n (opening.narrows (bits a.share_access) (bits a.share_deny))))
+    granted =
+        subst (λ v. IsOpenWith k (cond v (record { access = bits a.share_access; deny = bits a.share_deny }) b)
+        (with_open s.opens n (opening.narrows (bits a.share_access) (bits a.share_deny))))
+        (sym (names_of_downgrade (record { seqid = next_seqid o.seqid; instance = s.opens.instance; number = n }) k.number small))
+        (changed_left k b (record { access = bits a.share_access; deny = bits a.share_deny }) s.opens n (opening.narrows (bits a.share_access) (bits a.share_deny))
+        (n == k.number) refl (narrow_mild (bits a.share_access) (bits a.share_deny)) (λ o access deny. (refl, refl)) is)
+
+downgrade_by_left : (k : OpenTold) (b : Bits) (s : State) (x : Context) (a : OpenDowngrade) (n : ℕ) (v : Result Seat Status) → IsTable s.opens → Few s.opens
+    → IsOpenWith k b s.opens
+    → (let did = opening.downgrade_by s.opens n (bits a.share_access) (bits a.share_deny) v in
+    LeftBy k b (OpOpenDowngrade a) (answers s x Num.OpenDowngrade did.answer (λ id. narrowed s x id did.after)))
+downgrade_by_left k b s x a n (Err status) table few is = downgrade_refused k b s x a is status
+downgrade_by_left k b s x a n (Ok seat) table few is = narrow_left k b s x a n (open_at s.opens n) table few refl is
+
+downgrade_left : (k : OpenTold) (b : Bits) (s : State) (x : Context) (a : OpenDowngrade) → IsTable s.opens → Few s.opens → IsOpenWith k b s.opens
+    → LeftBy k b (OpOpenDowngrade a) (open_downgrade s x a)
+unfolding open_downgrade
+downgrade_left k b s x a table few is =
+    answered (LeftBy k b (OpOpenDowngrade a)) s x Num.OpenDowngrade (narrowing s x a) (narrows s x a) (downgrade_refused k b s x a is) (λ t judged.
+    downgrade_by_left k b s x a t.id.number (judge s.opens t.id x.client (Some t.file) OpenOnly) table few is)
+
+-- OPEN
+
+open_refused : (k : OpenTold) (b : Bits) (s : State) (x : Context) (a : Open) → IsOpenWith k b s.opens
+    → (status : Status) → LeftBy k b (OpOpen a) (refuses s x Num.Open status)
+open_refused k b s x a is status =
+    subst (λ v. IsOpenWith k (cond v (bits_with b a) b) s.opens) (sym (short_names_none Num.Open (op_number Num.Open) status k.number)) is
+
+joins_mild : (a : Asked) → IsMild (opening.joins a)
+joins_mild a = record { number = λ o. refl; client = λ o. refl; owner = λ o. refl; file = λ o. refl }
+
+-- a number is left for a new open, and no open of another owner clashes
+pub record IsFree (t : Table) (a : Asked) : Type 0 where
+  pub none : list_any (clashes_with a) t.opens ≡ false
+  pub left : (opening.own_open t a ≡ None) → (t.last == last_number) ≡ false
+
+free_of : (t : Table) (a : Asked) → open_fault t a ≡ None → IsFree t a
+free_of t a e =
+    let passed = all_passed (open_checks t a) e in
+    record { none = passed.0; left = λ own. ap (λ (o : Option OpenState). is_none o && (t.last == last_number)) (sym own) ∙ passed.1.0 }
+
+small_id : (t : Table) (a : Asked) (o : Option OpenState) → IsTable t → Few t → opening.own_open t a ≡ o → IsFree t a
+    → (opening.opens_by t a o).id.number ≤ last_number
+small_id t a (Some o) table few own free =
+    let there = find_in (is_own a) t.opens o own in
+    let bounds = in_bounds (λ (o : OpenState). o.number) 1 (suc t.last) t.opens o table.opens there.0 in
+    let below = bounds.1 in omega arith
+small_id t a None table few own free =
+    let other : t.last ≢ last_number = eqb-false _ _ (free.left own) in
+    elim (cases_eq t.last last_number) [ inl same ↦ absurd (other same) | inr apart ↦ omega arith ]
+
+opens_left : (k : OpenTold) (b : Bits) (t : Table) (a : Asked) (o : Option OpenState) → IsTable t → opening.own_open t a ≡ o → IsOpenWith k b t
+    → IsOpenWith k (cond ((opening.opens_by t a o).id.number == k.number) (record { access = joined b.access a.access; deny = joined b.deny a.deny }) b)
+    (opening.opens_by t a o).after
+opens_left k b t a (Some o) table own is =
+    changed_left k b (record { access = joined b.access a.access; deny = joined b.deny a.deny }) t o.number (opening.joins a) (o.number == k.number) refl (joins_mild a)
+    (λ o access deny. (ap (λ (s : Share). joined s a.access) access, ap (λ (s : Share). joined s a.deny) deny)) is
+opens_left k b t a None table own is =
+    let bounds = in_bounds (λ (o : OpenState). o.number) 1 (suc t.last) t.opens is.state table.opens is.there in
+    let below = bounds.1 in let named = is.number in
+    let other : t.last + 1 ≢ k.number = λ same. absurd (omega arith) in
+    subst (λ v. IsOpenWith k (cond v (record { access = joined b.access a.access; deny = joined b.deny a.deny }) b)
+    (record t { opens = t.opens ++ opening.new_open t a ∷ []; last = t.last + 1 })) (sym (ne_eqb (t.last + 1) k.number other))
+    (pushed_left k b t (opening.new_open t a) (t.last + 1) is)
+
+abbrev pub asking : State → Context → Open → Found → Asked
+asking s x a f = of_open.asking x a (of_open.file_of s.tree f)
+
+opened_left : (k : OpenTold) (b : Bits) (s : State) (x : Context) (now : Time) (a : Open) (f : Found) → IsTable s.opens → Few s.opens
+    → IsFree s.opens (asking s x a f) → IsOpenWith k b s.opens → LeftBy k b (OpOpen a) (of_open.opened s x now a f)
+opened_left k b s x now a f table few free is =
+    let asked = asking s x a f in
+    let did = opening.opens s.opens asked in
+    subst (λ v. IsOpenWith k (cond v (bits_with b a) b) did.after)
+    (sym (names_of_open did.id (of_open.info_of s.tree f) (of_open.set_of a f) k.number (small_id s.opens asked (opening.own_open s.opens asked) table few refl free)))
+    (opens_left k b s.opens asked (opening.own_open s.opens asked) table refl is)
+
+open_left : (k : OpenTold) (b : Bits) (s : State) (x : Context) (now : Time) (a : Open) → IsTable s.opens → Few s.opens → IsOpenWith k b s.opens
+    → LeftBy k b (OpOpen a) (of_open.open_file s x now a)
+unfolding of_open.open_file
+open_left k b s x now a table few is =
+    answered (LeftBy k b (OpOpen a)) s x Num.Open (checked (of_open.asked_for s x a) (of_open.last_checks s x a)) (of_open.opened s x now a)
+    (open_refused k b s x a is) (λ f granted.
+    (let p = checked_ok (of_open.asked_for s x a) (of_open.last_checks s x a) f granted in
+    opened_left k b s x now a f table few (free_of s.opens (asking s x a f) (shared_free s x a f p.1)) is))
+
+delayed_left : (k : OpenTold) (b : Bits) (v : Bool) (s : State) (x : Context) (a : Open) (o : Outcome) → IsOpenWith k b s.opens → LeftBy k b (OpOpen a) o
+    → LeftBy k b (OpOpen a) (or_delay v s x Num.Open o)
+delayed_left k b v s x a o is left = elim (cases_Bool (v && is_ok o.result)) [
+  | inl delayed ↦ rw delayed (open_refused k b s x a is Delay)
+  | inr other ↦ rw other left
+]
+
+-- By the operation: an open stands behind it, with the bits that it has then, unless it closed it.
+pub told_open_left : (k : OpenTold) (b : Bits) (refused : Bool) (s : State) (x : Context) (now : Time) (op : Op) → IsTable s.opens → Few s.opens
+    → (is_ok (one_or_delay refused s x now op).result ≡ true → (n : ℕ) → Closes s x op n → n ≢ k.number) → IsOpenWith k b s.opens
+    → LeftBy k b op (one_or_delay refused s x now op)
+told_open_left k b refused s x now (OpClose a) table few spares is = close_left k b s x a (λ n closes.
+    spares (subst (λ o. is_ok (one s x now o).result ≡ true) (sym closes.is)
+    (close_ok s x now closes.asked closes.file closes.id closes.judged closes.granted)) n closes) is
+told_open_left k b refused s x now (OpOpenDowngrade a) table few spares is = downgrade_left k b s x a table few is
+told_open_left k b refused s x now (OpOpen a) table few spares is =
+    delayed_left k b refused s x a (of_open.open_file s x now a) is (open_left k b s x now a table few is)
+told_open_left k b refused s x now op table few spares is = elim (cases_Bool (moves_bits op)) [
+  | inl moves ↦ absurd cc
+  | inr stays ↦
+      (let o = one_or_delay refused s x now op in
+      subst (λ c. IsOpenWith k c o.state.opens) (sym (other_bits k.number op (spell_result o.result) b stays))
+      (by_delay (λ u y. IsOpenWith k b u.opens) (grows s x op && refused) s x (arguments op).op (one s x now op) is
+      (same_opens k b s.opens (one s x now op).state.opens (one_alike s x now op stays) is)))
+]
+
+-- What an OPEN that answers a stateid did.
+
+pub record IsOpened (s : State) (x : Context) (now : Time) (a : Open) (n : ℕ) (o : Outcome) : Type 0 where
+  pub found : Found
+  pub judged : of_open.asked_for s x a ≡ Ok found
+  pub free : IsFree s.opens (asking s x a found)
+  pub number : (opening.opens s.opens (asking s x a found)).id.number ≡ n
+  pub state : o.state ≡ (of_open.opened s x now a found).state
+
+never_named : (op : OpNum) (operation : ℕ) (status : Status) (n : ℕ) → names_open op (spell_result (Refused operation status)) n ≡ true → ⊥
+never_named op operation status n e = true≢false (sym e ∙ short_names_none op operation status n)
+
+abbrev DidIf : State → Context → Time → Open → ℕ → Outcome → Type 0
+DidIf s x now a n o = names_open Num.Open (spell_result o.result) n ≡ true → IsOpened s x now a n o
+
+pub did_open : (refused : Bool) (s : State) (x : Context) (now : Time) (a : Open) (n : ℕ) → IsTable s.opens → Few s.opens
+    → names_open Num.Open (spell_result (one_or_delay refused s x now (OpOpen a)).result) n ≡ true → IsOpened s x now a n (one_or_delay refused s x now (OpOpen a))
+unfolding of_open.open_file
+did_open refused s x now a n table few = by_delayed (of_open.open_file s x now a) (answered (DidIf s x now a n) s x Num.Open
+    (checked (of_open.asked_for s x a) (of_open.last_checks s x a)) (of_open.opened s x now a)
+    (λ status named. absurd (never_named Num.Open (op_number Num.Open) status n named)) (λ f granted named.
+    (let p = checked_ok (of_open.asked_for s x a) (of_open.last_checks s x a) f granted in
+    let asked = asking s x a f in
+    let free = free_of s.opens asked (shared_free s x a f p.1) in
+    let did = opening.opens s.opens asked in
+    let small = small_id s.opens asked (opening.own_open s.opens asked) table few refl free in
+    record {
+      found = f;
+      judged = p.0;
+      free = free;
+      number = eqb-true _ _ (sym (names_of_open did.id (of_open.info_of s.tree f) (of_open.set_of a f) n small) ∙ named);
+      state = refl;
+    })))
+  where
+    by_delayed : (o : Outcome) → DidIf s x now a n o → DidIf s x now a n (or_delay refused s x Num.Open o)
+    by_delayed o did = elim (cases_Bool (refused && is_ok o.result)) [
+      | inl delayed ↦ rw delayed (λ named. absurd (never_named Num.Open (op_number Num.Open) Delay n named))
+      | inr other ↦ rw other did
+    ]
+
+-- The file that its claim leads to.
+
+node_of : (n : ℕ) (o : Option Object) (d : Node) → node_as n o ≡ Ok d → Some n ≡ Some d.number
+node_of n None d e = absurd cc
+node_of n (Some o) d e = let same : record { number = n; object = o } ≡ d = cc in ap (λ (d : Node). Some d.number) same
+
+node_number : (s : State) (o : Option ℕ) (d : Node) → node_at s o ≡ Ok d → o ≡ Some d.number
+node_number s None d e = absurd cc
+node_number s (Some n) d e = node_of n (object_at s.tree n) d e
+
+current_number : (s : State) (x : Context) (d : Node) → current s x ≡ Ok d → x.current ≡ Some d.number
+unfolding current
+current_number s x d e = node_number s x.current d e
+
+record IsMapped {A B : Type 0} (f : A → B) (v : Result A Status) (b : B) : Type 0 where
+  pub from : A
+  pub is : v ≡ Ok from
+  pub to : f from ≡ b
+
+mapped_ok : {A B : Type 0} (f : A → B) (v : Result A Status) (b : B) → mapped f v ≡ Ok b → IsMapped f v b
+mapped_ok f (Err status) b e = absurd cc
+mapped_ok f (Ok a) b e = record { from = a; is = refl; to = cc }
+
+no_row : (o : Option Row) → option_map (λ (r : Row). r.object) o ≡ None → o ≡ None
+no_row None e = refl
+no_row (Some r) e = absurd cc
+
+made_found : (t : Files) (d : ℕ) (name called : List ℕ) (new : New) (sets : Sets) (now : Time) → called ≡ name → lookup t d name ≡ None
+    → lookup (with_new t d called new sets now) d name ≡ Some (t.last_object + 1)
+made_found t d name called new sets now same none =
+    let to : Row = record { directory = d; name = name; object = t.last_object + 1; cookie = t.last_cookie + 1 } in
+    ap (λ (n : List ℕ). lookup (with_new t d n new sets now) d name) same
+    ∙ ap (λ (o : Option Row). option_map (λ (r : Row). r.object) o)
+    (find_push_none (is_entry d name) t.rows to (no_row (entry t.rows d name) none) (entry_self to))
+
+there_found : (t : Files) (x : Context) (now : Time) (a : Open) (d : ℕ) (name : List ℕ) (place : ℕ) (f : Node) (cut : Bool)
+    → lookup (of_open.tree_of t x now a (There place f cut)) d name ≡ lookup t d name
+there_found t x now a d name place f true = refl
+there_found t x now a d name place f false = refl
+
+abbrev Leads : State → Context → Time → Open → ℕ → List ℕ → Found → Type 0
+Leads s x now a d name f = lookup (of_open.tree_of s.tree x now a f) d name ≡ Some (of_open.file_of s.tree f)
+
+name_leads : (s : State) (x : Context) (now : Time) (a : Open) (name : List ℕ) (m : Making) (o : Option ℕ) (f : Found) → of_open.name_of a.claim ≡ name
+    → lookup s.tree m.place.number name ≡ o → of_open.found_by s x a m o ≡ Ok f → Leads s x now a m.place.number name f
+name_leads s x now a name m None f called none e =
+    let made = mapped_ok Absent (checked (Ok m) (of_open.absent_checks x a)) f e in
+    let one : m ≡ made.from = ok_is refl (checked_ok (Ok m) (of_open.absent_checks x a) made.from made.is).0 in
+    subst (Leads s x now a m.place.number name) (ap Absent one ∙ made.to)
+    (made_found s.tree m.place.number name (of_open.name_of a.claim) (of_open.new_of a m.wanted) (of_open.sets_of x now a m.wanted) now called none)
+name_leads s x now a name m (Some n) f called at e =
+    let is = mapped_ok (λ g. There m.place.number g (of_open.cuts a m.wanted)) (checked (node_at s (Some n)) (of_open.there_checks x a)) f e in
+    let node = (checked_ok (node_at s (Some n)) (of_open.there_checks x a) is.from is.is).0 in
+    subst (Leads s x now a m.place.number name) is.to
+    (there_found s.tree x now a m.place.number name m.place.number is.from (of_open.cuts a m.wanted) ∙ (at ∙ node_number s (Some n) is.from node))
+
+claim_leads : (s : State) (x : Context) (now : Time) (a : Open) (claim : OpenClaim) (d : Node) (f : Found) → a.claim ≡ claim → x.current ≡ Some d.number
+    → of_open.by_claim s x a claim d ≡ Ok f → claimed (of_open.tree_of s.tree x now a f) x claim ≡ Some (of_open.file_of s.tree f)
+claim_leads s x now a (Null name) d f same at e =
+    let place = came (checked (Ok d) (of_open.place_checks x name)) _ f e in
+    let wanted = came (attributes_in (of_open.makes a.openhow).attributes) _ f place.then in
+    let one : d ≡ place.found = ok_is refl (checked_ok (Ok d) (of_open.place_checks x name) place.found place.is).0 in
+    let leads = name_leads s x now a name (record { place = place.found; wanted = wanted.found }) (lookup s.tree place.found.number name) f
+    (ap of_open.name_of same) refl wanted.then in
+    ap (named_in (of_open.tree_of s.tree x now a f) name) (at ∙ ap (λ (d : Node). Some d.number) one) ∙ leads
+claim_leads s x now a Fh d f same at e = by_creates (of_open.makes a.openhow).creates e
+  where
+    by_creates : (b : Bool) → cond b (Err Inval) (of_open.by_handle x a d) ≡ Ok f → x.current ≡ Some (of_open.file_of s.tree f)
+    by_creates true e = absurd cc
+    by_creates false e =
+        (let is = mapped_ok (λ g. There g.number g false) (checked (Ok d) (of_open.there_checks x a)) f e in
+        let one : d ≡ is.from = ok_is refl (checked_ok (Ok d) (of_open.there_checks x a) is.from is.is).0 in
+        at ∙ (ap (λ (d : Node). Some d.number) one ∙ ap (λ (f : Found). Some (of_open.file_of s.tree f)) is.to))
+claim_leads s x now a claim d f same at e = absurd cc
+
+pub asked_leads : (s : State) (x : Context) (now : Time) (a : Open) (f : Found) → of_open.asked_for s x a ≡ Ok f
+    → claimed (of_open.tree_of s.tree x now a f) x a.claim ≡ Some (of_open.file_of s.tree f)
+unfolding of_open.asked_for
+asked_leads s x now a f e =
+    let d = came (checked (current s x) (of_open.argument_checks a)) _ f e in
+    let node = (checked_ok (current s x) (of_open.argument_checks a) d.found d.is).0 in
+    claim_leads s x now a a.claim d.found f refl (current_number s x d.found node) d.then
+
+-- So an OPEN that answers a stateid told an open, which stands behind it ..
+
+opened_stands : (t : Table) (a : Asked) (o : Option OpenState) → opening.own_open t a ≡ o
+    → IsOpenWith (record { number = (opening.opens_by t a o).id.number; client = a.client; owner = a.owner; file = a.file })
+    (record { access = joined (bits_had o).access a.access; deny = joined (bits_had o).deny a.deny }) (opening.opens_by t a o).after
+opened_stands t a (Some o) own =
+    let there = find_in (is_own a) t.opens o own in
+    let tests = and_parts _ _ there.1 in
+    let owns = and_parts _ _ tests.1 in
+    let change : OpenState → OpenState = λ p. if p.number == o.number then opening.joins a p else p in
+    let here : change o ≡ opening.joins a o = rw (eq-eqb o.number o.number refl) refl in
+    record {
+      state = opening.joins a o;
+      there = subst (λ (p : OpenState). In p (map change t.opens)) here (map_in change t.opens o there.0);
+      number = refl;
+      client = eqb-true _ _ owns.0;
+      owner = (bytes_eq-Decides o.owner a.owner).0 owns.1;
+      file = eqb-true _ _ tests.0;
+      access = refl;
+      deny = refl;
+    }
+opened_stands t a None own = record {
+  state = opening.new_open t a;
+  there = last_in t.opens (opening.new_open t a);
+  number = refl;
+  client = refl;
+  owner = refl;
+  file = refl;
+  access = refl;
+  deny = refl;
+}
+
+pub told_opens : ToldOpensStand
+told_opens refused s x now a n table few named =
+    let did = did_open refused s x now a n table few named in
+    let f = did.found in
+    let asked = asking s x a f in (
+      of_open.file_of s.tree f,
+      subst (λ (u : State). IsToldOpen s x a n u (of_open.file_of s.tree f)) (sym did.state) (record {
+        leads = asked_leads s x now a f did.judged;
+        stands = subst (λ m. IsOpenWith (record { number = m; client = x.client; owner = a.owner.owner; file = of_open.file_of s.tree f })
+            (bits_with (bits_had (opening.own_open s.opens asked)) a) (opening.opens s.opens asked).after) did.number
+            (opened_stands s.opens asked (opening.own_open s.opens asked) refl);
+      }),
+    )
+
+-- .. and no open that stands forbids it.
+
+clash_is : (k : OpenTold) (b : Bits) (x : Context) (a : Open) (o : OpenState) → o.client ≡ k.client → o.owner ≡ k.owner → o.file ≡ k.file
+    → o.access ≡ b.access → o.deny ≡ b.deny → forbids k b x a ≡ true → clashes_with (of_open.asking x a k.file) o ≡ true
+clash_is k b x a o client owner file access deny e =
+    let same : (o.file == k.file) ≡ true = eq-eqb o.file k.file file in
+    let owns : is_owners (of_open.asking x a k.file) o ≡ ((k.client == x.client) && bytes_eq k.owner a.owner.owner) =
+    ap (λ c. (c == x.client) && bytes_eq o.owner a.owner.owner) client ∙ ap (λ w. (k.client == x.client) && bytes_eq w a.owner.owner) owner in
+    let bits : (meets (access_of a) o.deny || meets (deny_of a) o.access) ≡ (meets (access_of a) b.deny || meets (deny_of a) b.access) =
+    ap (λ d. meets (access_of a) d || meets (deny_of a) o.access) deny ∙ ap (λ d. meets (access_of a) b.deny || meets (deny_of a) d) access in
+    rw (same, owns, bits) e
+
+pub opens_refused : ForbiddenOpensAreRefused
+opens_refused k b refused s x now a n table few is named leads e =
+    let did = did_open refused s x now a n table few named in
+    let f = did.found in
+    let there : Some k.file ≡ Some (of_open.file_of s.tree f) =
+    sym leads ∙ (ap (λ (u : State). claimed u.tree x a.claim) did.state ∙ asked_leads s x now a f did.judged) in
+    let file : k.file ≡ of_open.file_of s.tree f = cc in
+    let none = none_any (clashes_with (asking s x a f)) s.opens.opens is.state did.free.none is.there in
+    let clash = clash_is k b x a is.state is.client is.owner is.file is.access is.deny e in
+    true≢false (sym (ap (λ n. clashes_with (of_open.asking x a n) is.state) (sym file) ∙ clash) ∙ none)

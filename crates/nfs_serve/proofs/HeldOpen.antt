@@ -1,0 +1,122 @@
+-- The run of an open that is kept, computed.
+use Rattle.std.proofs.Common.{◌≡◌, ℕ, ◌+◌, ◌≤◌, Bool, true, false, List, [], ◌∷◌, ◌++◌, length, take, refl, sym, ◌∙◌, ap, arith, inl, inr, subst}
+use Rattle.std.specs.Prelude.{◌&&◌, not, nat_le, if◌then◌else◌}
+use Rattle.std.proofs.lemmas.Bool.{and_parts, leb-true, true≢false}
+use Rattle.nfs_xdr.specs.Spelling.{number, hyper}
+use Rattle.nfs_xdr.specs.Reading.{opaque_at, fixed_at, flag_at, pieces_at}
+use Rattle.nfs_rpc.specs.CallHead.{call_of, header, opaque_auth, behind_header, caller_of}
+use Rattle.nfs_xdr.specs.AuthSys.{auth_sys}
+use Rattle.nfs_rpc.specs.Reply.{spell_head}
+use Rattle.nfs_compound.specs.ReadRequest.{request_at, items_at, item_at}
+use Rattle.nfs_compound.specs.OpCodec.{op_at, fault_at}
+use Rattle.nfs_compound.specs.Operation.{Item, Operation, OpClose}
+use Rattle.nfs_compound.specs.ChannelAttrs.{channel_attrs}
+use Rattle.nfs_compound.specs.ArgCodecs.{sec_parms, exchange_id_args, create_session_args, sequence_args, protected, impl_id}
+use Rattle.nfs_compound.specs.Stateid.{stateid}
+use Rattle.nfs_compound.specs.StateOwner.{state_owner}
+use Rattle.nfs_compound.specs.ArgCodecs as compound_attributes
+use Rattle.nfs_compound.specs.OpenArgs.{Open}
+use Rattle.nfs_compound.specs.OpenCodecs.{create_how, open_how, delegation_type, open_claim, open_args, open_downgrade_args}
+use Rattle.nfs_results.specs.Items as results
+use Rattle.nfs_attrs.specs.Attributes.{attributes, settings_of}
+use Rattle.nfs_attrs.specs.Handle.{handle}
+use Rattle.nfs_names.specs.Create.{wanted_of}
+use Rattle.nfs_names.specs.Checks.{current, permits}
+use Rattle.nfs_names.specs.PutFh.{put_fh}
+use Rattle.nfs_names.specs.PutRootFh.{put_root_fh}
+use Rattle.nfs_files.specs.Open.{asked_for, open_file}
+use Rattle.nfs_files.specs.OpenDowngrade.{open_downgrade}
+use Rattle.nfs_files.specs.Target.{the_file, target}
+use Rattle.nfs_files.specs.OpenTold.{OpenTold, Bits}
+use Rattle.nfs_exec.specs.Ops.{Done}
+use Rattle.nfs_exec.specs.OpenHeld.{NoneCloses, bits_left}
+use Rattle.nfs_serve.specs.Step.{State, step}
+use Rattle.nfs_serve.specs.Points.{Came, next, all_next, taken, before, ops_of}
+use Rattle.nfs_serve.specs.Kept.{renews_by}
+use Rattle.nfs_serve.specs.OpenKept.{LeaveOpen}
+use Rattle.nfs_serve.specs.HeldLock as locks
+use Rattle.nfs_serve.specs.HeldOpen as worked
+use Rattle.nfs_serve.specs.HeldOpen.{IsOpenTo}
+use Rattle.nfs_serve.specs.WrongOpens.{reads_too}
+use Rattle.nfs_serve.proofs.HeldLock.{all_own, alone, last_of, last_of_all, nothing}
+
+-- No operation is a CLOSE.
+
+abbrev is_close : Item → Bool
+is_close (Operation (OpClose a)) = true
+is_close i = false
+
+abbrev none_is_close : List Done → Bool
+none_is_close [] = true
+none_is_close (d ∷ ds) = not (is_close d.item) && none_is_close ds
+
+no_close : (b : Bool) → not b ≡ true → b ≡ true → ⊥
+no_close true e is = true≢false (sym e)
+no_close false e is = true≢false (sym is)
+
+none_closes : (k : OpenTold) (ds : List Done) → none_is_close ds ≡ true → NoneCloses k ds
+none_closes k [] e d there closes = absurd there
+none_closes k (x ∷ ds) e d there closes = (let p = and_parts _ _ e in elim there [
+  | inl here ↦ no_close (is_close x.item) p.0 (ap (λ (c : Done). is_close c.item) (sym here) ∙ ap is_close closes.is)
+  | inr later ↦ none_closes k ds p.1 d later closes
+])
+
+-- So the premises can be tested.
+
+abbrev in_time : ℕ → List ℕ → (lease last : ℕ) → State → List Came → Bool
+in_time client owner lease last s [] = true
+in_time client owner lease last s (c ∷ more) =
+    nat_le (taken s c) (last + lease)
+    && (none_is_close (ops_of s c)
+    && (all_own client owner (before s c).clients.records
+    && (all_own client owner (next s c).machine.clients.records
+    && in_time client owner lease (if renews_by client s c then taken s c else last) (next s c) more)))
+
+abbrev bits_of_all : ℕ → Bits → State → List Came → Bits
+bits_of_all n b s [] = b
+bits_of_all n b s (c ∷ more) = bits_of_all n (bits_left n b (ops_of s c)) (next s c) more
+
+leave_open : (k : OpenTold) (owner : List ℕ) (b : Bits) (lease last : ℕ) (s : State) (cs : List Came) (Then : Bits → ℕ → State → Type 0)
+    → in_time k.client owner lease last s cs ≡ true → Then (bits_of_all k.number b s cs) (last_of_all k.client last s cs) (all_next s cs)
+    → LeaveOpen k b lease last s cs Then
+leave_open k owner b lease last s [] Then e holds = holds
+leave_open k owner b lease last s (c ∷ more) Then e holds =
+    let p = and_parts _ _ e in
+    let q = and_parts _ _ p.1 in
+    let r = and_parts _ _ q.1 in
+    let t = and_parts _ _ r.1 in (
+      leb-true _ _ p.0,
+      none_closes k (ops_of s c) q.0,
+      alone k.client owner (before s c) (next s c).machine r.0 t.0,
+      leave_open k owner (bits_left k.number b (ops_of s c)) lease (if renews_by k.client s c then taken s c else last) (next s c) more Then t.1 holds,
+    )
+
+two : (x : Done) (ds : List Done) → length ds ≡ 2 → ds ≡ take 1 ds ++ last_of x ds ∷ []
+two x [] e = absurd (omega arith)
+two x (a ∷ []) e = absurd (omega arith)
+two x (a ∷ b ∷ []) e = refl
+two x (a ∷ b ∷ c ∷ more) e = absurd (omega arith)
+
+-- what A asks for first
+abbrev wanted : Open
+wanted = record reads_too { share_access = 3; share_deny = 2 }
+
+pub is_open_to : IsOpenTo
+unfolding number hyper step call_of header opaque_auth opaque_at fixed_at behind_header caller_of auth_sys spell_head
+    request_at items_at item_at op_at fault_at exchange_id_args create_session_args sequence_args channel_attrs sec_parms protected impl_id pieces_at flag_at
+    stateid state_owner compound_attributes.bitmap compound_attributes.attributes create_how open_how delegation_type open_claim open_args open_downgrade_args
+    results.exchange_id results.create_session results.sequence results.open_ok results.change_info results.attr_set
+    attributes settings_of handle wanted_of current permits put_fh put_root_fh asked_for open_file open_downgrade the_file target
+is_open_to = record {
+  front = take 1 (ops_of locks.start worked.opens);
+  told = last_of nothing (ops_of locks.start worked.opens);
+  ops = two nothing (ops_of locks.start worked.opens) refl;
+  tells = record { opens = record { asked = wanted; is = refl; names = refl; leads = refl }; client = refl; owner = refl; bits = refl };
+  kept = leave_open worked.its_open (0x41 ∷ []) worked.first_bits 90 102 worked.opened
+      (locks.waits ++ worked.asks ∷ worked.opens_again ∷ worked.asks_again ∷ worked.downgrades ∷ []) (λ b last s. b ≡ worked.last_bits) refl refl;
+  denied = refl;
+  joined = refl;
+  again = refl;
+  narrowed = refl;
+  granted = refl;
+}

@@ -1,0 +1,5 @@
+use Rattle.nfs_serve.proofs.OpenKept.{open_kept}
+use Rattle.nfs_serve.proofs.laws.open_kept.Goals as goal
+
+pub returns : goal.returns
+returns c = open_kept
