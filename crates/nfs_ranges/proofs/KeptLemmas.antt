@@ -226,6 +226,12 @@ cleared_removed s first last es ms fs o new r kept found over made tests is gone
     rw (← found_bytes s es o kept found) (put_emptied s (without first last o.intervals) es ms fs new kept over
     (ap (λ (t : Owned). is_empty t.intervals) (sym made) ∙ sym tests ∙ is) gone)
 
+pub cleared_covered : (s first last : ℕ) (es ms fs : List (ℕ × Owned)) (o : Owned) → AreKept es → Some o ≡ lookup (is_at (nat_cmp s)) es
+    → ms ≡ set_value (is_at (nat_cmp s)) es o → without first last o.intervals ≡ [] → fs ≡ remove_entry (is_at (nat_cmp s)) ms
+    → IsPut s (without first last (bytes_of (values_of es) s)) es fs
+cleared_covered s first last es ms fs o kept found over none gone =
+    rw (← found_bytes s es o kept found) (put_emptied s (without first last o.intervals) es ms fs o kept over (ap is_empty none) gone)
+
 pub same_entries : (s : ℕ) (es fs : List (ℕ × Owned)) (o new : Owned) → Some o ≡ lookup (is_at (nat_cmp s)) es → fs ≡ set_value (is_at (nat_cmp s)) es new
     → new ≡ o → fs ≡ es
 same_entries s es fs o new found over same =

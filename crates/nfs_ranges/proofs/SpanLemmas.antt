@@ -3,10 +3,10 @@ use Rattle.std.proofs.Common.{◌≡◌, ℕ, zero, suc, ◌-◌, ◌<◌, ◌�
 use Rattle.std.proofs.Common.{sym, ◌∙◌, ap, subst, arith}
 use Rattle.std.specs.Prelude.{find, slice_get}
 use Rattle.std.proofs.lemmas.List.{append-nil}
-use Rattle.std.proofs.lemmas.Bool.{and_left, and_right, lt-leb}
+use Rattle.std.proofs.lemmas.Bool.{and_left, and_right, lt-leb, le-ltb}
 use Rattle.nfs_ranges.specs.declared.Kind.{Kind}
 use Rattle.nfs_ranges.specs.declared.interval.Interval.{Interval}
-use Rattle.nfs_ranges.specs.Intervals.{AreFrom, IsCanonical}
+use Rattle.nfs_ranges.specs.Intervals.{AreFrom, IsCanonical, kept_below, kept_above, glue, without}
 use Rattle.nfs_ranges.specs.Edits.{head}
 use Rattle.nfs_ranges.specs.Blocks.{flat, last_from, last_end, block_at, AreSome, AreBlocks}
 use Rattle.nfs_ranges.specs.Owners.{LieWithin, IsSpan}
@@ -84,3 +84,19 @@ none_behind k low high first last (x ∷ xs) within lt =
     let miss : hits k first last x ≡ false = and_right (meets k (Some x.kind)) _
     (and_left (leb first x.last) (leb x.first last) (lt-leb first x.last (omega arith))) in
     rw miss (none_behind k low high first last xs within.2 lt)
+
+-- a range round the span leaves nothing
+none_below : (low high first : ℕ) (xs : List Interval) → LieWithin low high xs → first ≤ low → kept_below first xs ≡ []
+none_below low high first [] within le = refl
+none_below low high first (x ∷ xs) within le =
+    let lo = within.0 in
+    rw (le-ltb x.first first (omega arith)) refl
+
+none_above : (low high last : ℕ) (xs : List Interval) → LieWithin low high xs → high ≤ last → kept_above last xs ≡ []
+none_above low high last [] within le = refl
+none_above low high last (x ∷ xs) within le =
+    let hi = within.1 in
+    rw (le-ltb last x.last (omega arith)) (none_above low high last xs within.2 le)
+
+pub none_left : (low high first last : ℕ) (xs : List Interval) → LieWithin low high xs → first ≤ low → high ≤ last → without first last xs ≡ []
+none_left low high first last xs within le up = rw (none_below low high first xs within le, none_above low high last xs within up) refl

@@ -104,6 +104,13 @@ impl Owner {
         last < self.first || self.last < first
     }
 
+    /// The range covers all that the owner holds.
+    fn lies_within(&self, first: u64, last: u64) -> bool
+        ensures { OnTrue result (without first last self.now.intervals ≡ []) }
+    {
+        first <= self.first && self.last <= last
+    }
+
     /// The owner's first interval that stands against a wish of another.
     fn clash(&self, number: u64, kind: Kind, first: u64, last: u64) -> Option<Held>
         requires { IsCanonical self.now.intervals }
@@ -215,6 +222,8 @@ fn take(owners: &mut BTreeMap<u64, Owner, Global>, number: u64)
 
 /// The owner holds none of the bytes from `first` to `last` from now on; with its last byte its entry goes.
 ///
+/// Where the range covers all that it holds, no memory is asked for.
+///
 /// `Err`: no memory, and nothing has changed.
 pub(super) fn clear(
     owners: &mut BTreeMap<u64, Owner, Global>,
@@ -231,6 +240,10 @@ pub(super) fn clear(
     let Some(owner) = owners.get_mut(&number) else {
         return Ok(());
     };
+    if owner.lies_within(first, last) {
+        take(owners, number);
+        return Ok(());
+    }
     owner.clear(alloc, first, last)?;
     if owner.is_empty() {
         take(owners, number);
