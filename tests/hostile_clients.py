@@ -5,7 +5,7 @@ import threading
 import time
 
 import wire
-from wire import (LOCK, LOCKT, LOCKU, OPEN, PUTFH, PUTROOTFH, READ, SECONDS, TEST_STATEID, WRITE, compound,
+from wire import (HERE, LOCK, LOCKT, LOCKU, OPEN, PUTFH, PUTROOTFH, READ, SECONDS, TEST_STATEID, WRITE, compound,
                   create_session, exchange_id, marked, nfs4, opaque, open_file, reply, result, results, sequence, sequenced, u32, u64)
 
 DENIED = 10_010
@@ -52,8 +52,8 @@ class Wrong(Exception):
 class Peer:
     """A client on a connection of its own. It counts its xids and, once it has a session, the numbers of its 16 slots."""
 
-    def __init__(self, server, owner=None):
-        self.server = server
+    def __init__(self, server, owner=None, source=HERE):
+        self.server, self.source = server, source
         self.xid, self.numbers = 0, [0] * SLOTS
         self.open()
         if owner is not None:
@@ -61,7 +61,7 @@ class Peer:
 
     def open(self):
         """Connects; an earlier connection is left."""
-        self.stream = self.server.connect()
+        self.stream = self.server.connect(self.source)
         self.replies = self.stream.makefile("rb", 65_536)
 
     def close(self):

@@ -60,8 +60,9 @@ class Served:
             time.sleep(0.01)
         raise RuntimeError("the program does not listen")
 
-    def connect(self):
-        client = socket.create_connection((HERE, self.port), timeout=SECONDS)
+    def connect(self, source=HERE):
+        """A connection from an address of the loopback."""
+        client = socket.create_connection((HERE, self.port), timeout=SECONDS, source_address=(source, 0))
         client.setsockopt(socket.IPPROTO_TCP, socket.TCP_NODELAY, 1)
         return client
 

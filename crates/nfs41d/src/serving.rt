@@ -44,7 +44,8 @@ where
 }
 
 /// Listens on an address, says on `told` which one it has taken, and serves so many connections on which a request is answered, up to
-/// `at_once` of them at once and no more than 16. One that was silent for a lease (seconds) gives way to a new one where all places are taken.
+/// `at_once` of them at once and no more than 16. Where all places are taken, one that was silent for a lease (seconds) gives way to a new one,
+/// and one of the IP address that has most places to one whose address has none.
 ///
 /// `Start` where the address cannot be listened on, or for want of memory; `Accept` where no connection can be taken any more.
 pub fn serve_many<R, W>(

@@ -8,7 +8,7 @@ use mio::net::{TcpListener, TcpStream};
 use mio::{Events, Interest, Poll, Token};
 use nfs_serve::{Came, Next, Ports, Took};
 use std::io::{ErrorKind, Read, Write};
-use std::net::{Net, SocketAddr};
+use std::net::{IpAddr, Net, SocketAddr};
 use std::time::{Duration, Instant};
 use std::{io, rt};
 
@@ -31,6 +31,8 @@ const PASSING: [i32; 4] = [12, 23, 24, 105];
 #[derive(Drop)]
 struct Slot {
     stream: TcpStream,
+    /// Where its peer is.
+    ip: IpAddr,
     /// Whether a read or a write may do something.
     ready: bool,
     /// Whether the peer has ended its side or the connection has failed, so that a read says so once all bytes were read.
@@ -61,6 +63,13 @@ impl Slot {
     }
 }
 
+/// A connection that was taken and waits for a port.
+#[derive(Drop)]
+struct Newcomer {
+    stream: TcpStream,
+    ip: IpAddr,
+}
+
 /// A listener and its connections.
 #[derive(Drop)]
 pub struct Sockets<'a, R: rt::Clock> {
@@ -71,6 +80,8 @@ pub struct Sockets<'a, R: rt::Clock> {
     /// Whether somebody may be waiting to be accepted.
     calling: bool,
     slots: [Option<Slot>; PORTS],
+    /// Who waits for a port, in the order in which they came.
+    newcomers: Vec<Newcomer>,
     at_once: usize,
     /// How long a connection is silent at least before a new one is given its port, where a request was answered.
     idle: Duration,
@@ -87,7 +98,7 @@ pub struct Sockets<'a, R: rt::Clock> {
 
 impl<'a, R: Net + AllocGlobal + rt::Clock> Sockets<'a, R> {
     /// Listens on an address for so many connections on which a request is answered, so many of them at once, where a connection that was
-    /// silent for a lease (seconds) gives way to a new one.
+    /// silent for a lease (seconds) gives way to a new one, and one of the IP address that has most to one whose address has none.
     pub fn new(
         rt: &'a R,
         addr: SocketAddr,
@@ -106,6 +117,7 @@ impl<'a, R: Net + AllocGlobal + rt::Clock> Sockets<'a, R> {
             listener,
             calling: true,
             slots: [const { None }; PORTS],
+            newcomers: Vec::with_capacity(rt.alloc(), PORTS)?,
             at_once: PORTS.min(at_once as usize),
             idle: Duration::from_secs(u64::from(lease)),
             stranger: Duration::from_secs(u64::from(lease).min(STRANGER)),
@@ -160,41 +172,114 @@ impl<R: rt::Clock> Sockets<'_, R> {
     /// How long a connection has been silent, where that is long enough to give way.
     fn overdue(&self, slot: &Slot) -> Option<Duration> {
         let enough = if slot.heard { self.idle } else { self.stranger };
-        if let (Some(now), Some(used)) = (self.now, slot.used) {
-            let since = now.saturating_duration_since(used);
-            if since >= enough {
-                return Some(since);
-            }
-        }
-        None
+        let since = self.silence(slot);
+        if since >= enough { Some(since) } else { None }
     }
 
-    /// Takes a connection that waits, if there is a port for it.
+    /// How long a connection has been silent.
+    fn silence(&self, slot: &Slot) -> Duration {
+        match (self.now, slot.used) {
+            (Some(now), Some(used)) => now.saturating_duration_since(used),
+            _ => Duration::ZERO,
+        }
+    }
+
+    /// How many ports an address has.
+    fn ports_of(&self, ip: IpAddr) -> usize {
+        let mut count: usize = 0;
+        for slot in self.slots.iter().flatten() {
+            if slot.ip == ip {
+                count = count.saturating_add(1);
+            }
+        }
+        count
+    }
+
+    /// Of the address that has most ports, and more than one, the port of the connection that has been silent the longest.
+    fn crowded(&self) -> Option<usize>
+        ensures { IfSome result (λ port. port ≤ last_connection) }
+    {
+        let mut longest = None;
+        let mut most = 2;
+        let mut silent = Duration::ZERO;
+        for port in 0..PORTS {
+            if let Some(slot) = &self.slots[port] {
+                let (count, since) = (self.ports_of(slot.ip), self.silence(slot));
+                if count > most || count == most && since >= silent {
+                    most = count;
+                    silent = since;
+                    longest = Some(port);
+                }
+            }
+        }
+        longest
+    }
+
+    /// A port for an address: one that may be taken; or, for one that has none, a port of the address that has most.
+    fn port_for(&self, ip: IpAddr) -> Option<usize>
+        ensures { IfSome result (λ port. port ≤ last_connection) }
+    {
+        match self.place() {
+            Some(port) => Some(port),
+            None if self.ports_of(ip) == 0 => self.crowded(),
+            None => None,
+        }
+    }
+
+    /// Gives a port to whoever waits for one, or calls, if there is one for it.
     fn accept(&mut self) -> io::Result<Option<u32>>
         ensures { IfOk result (λ taken. IfSome taken (λ port. port ≤ last_connection)) }
     {
-        if self.left == 0 || !self.calling {
+        if self.left == 0 {
             return Ok(None);
         }
-        let Some(port) = self.place() else {
-            return Ok(None);
-        };
-        match self.take_on(port) {
-            Ok(()) => Ok(Some(port as u32)),
-            Err(e) if e.kind() == ErrorKind::WouldBlock => {
-                self.calling = false;
-                Ok(None)
+        for at in 0..self.newcomers.len() {
+            if let Some(port) = self.port_for(self.newcomers[at].ip) {
+                let newcomer = self.newcomers.remove(at);
+                self.take_on(port, newcomer)?;
+                return Ok(Some(port as u32));
             }
-            Err(e) if passes(&e) => Ok(None),
-            Err(e) => Err(e),
         }
+        self.accept_new()
     }
 
-    /// Takes a connection that waits on a port. One that was there is closed.
-    fn take_on(&mut self, port: usize) -> io::Result<()>
+    /// Takes those that call, up to the first for which there is a port. Others wait, as far as there is room. Where there is none, and an address
+    /// has more than one port, they are closed, so that somebody behind them whose address has none is heard.
+    fn accept_new(&mut self) -> io::Result<Option<u32>>
+        ensures { IfOk result (λ taken. IfSome taken (λ port. port ≤ last_connection)) }
+    {
+        for _ in 0..PORTS {
+            let is_full = self.newcomers.len() >= PORTS;
+            if !self.calling || is_full && self.crowded().is_none() {
+                return Ok(None);
+            }
+            match self.listener.accept() {
+                Ok((stream, addr)) => {
+                    let newcomer = Newcomer {
+                        stream,
+                        ip: addr.ip(),
+                    };
+                    if let Some(port) = self.port_for(newcomer.ip) {
+                        self.take_on(port, newcomer)?;
+                        return Ok(Some(port as u32));
+                    }
+                    if !is_full {
+                        self.newcomers.push(newcomer)?;
+                    }
+                }
+                Err(e) if e.kind() == ErrorKind::WouldBlock => self.calling = false,
+                Err(e) if passes(&e) => return Ok(None),
+                Err(e) => return Err(e),
+            }
+        }
+        Ok(None)
+    }
+
+    /// Serves a connection on a port. One that was there is closed.
+    fn take_on(&mut self, port: usize, newcomer: Newcomer) -> io::Result<()>
         requires { port ≤ last_connection }
     {
-        let (mut stream, _) = self.listener.accept()?;
+        let mut stream = newcomer.stream;
         // A reply leaves at once, where the platform lets it.
         let _ = stream.set_nodelay(true);
         self.poll.registry().register(
@@ -204,6 +289,7 @@ impl<R: rt::Clock> Sockets<'_, R> {
         )?;
         self.slots[port] = Some(Slot {
             stream,
+            ip: newcomer.ip,
             ready: true,
             ending: false,
             used: self.now,
@@ -218,7 +304,7 @@ impl<R: rt::Clock> Sockets<'_, R> {
         let ready = self.slots.iter().flatten().any(|slot| slot.ready);
         let timeout = if ready || !may_wait {
             Duration::ZERO
-        } else if self.calling && self.left > 0 {
+        } else if (self.calling || !self.newcomers.is_empty()) && self.left > 0 {
             Duration::from_millis(TICK)
         } else {
             self.patience
