@@ -1,5 +1,5 @@
 -- Whatever others send, a client has what it had while its lease lasts.
-use Rattle.std.proofs.Common.{◌≡◌, ℕ, ◌+◌, ◌≤◌, Bool, true, false, cond, eqb, List, [], ◌∷◌, length, Option, Some, None, refl, sym, ◌∙◌, ap, subst, arith}
+use Rattle.std.proofs.Common.{◌≡◌, ℕ, ◌+◌, ◌≤◌, Bool, true, false, cond, eqb, List, [], ◌∷◌, length, Option, Some, None, refl, sym, ◌∙◌, ap, subst}
 use Rattle.std.specs.Prelude.{is_some, option_map}
 use Rattle.std.specs.Option.{option_map_or}
 use Rattle.std.proofs.lemmas.Bool.{and_parts, eqb-true, eq-eqb, false≢true}
@@ -22,7 +22,7 @@ use Rattle.nfs_exec.proofs.Keeping.{runs_means}
 use Rattle.nfs_opens.specs.Table.{Table}
 use Rattle.nfs_clients.specs.Roster.{ClientRecord, client_at}
 use Rattle.nfs_exec.specs.Machine.{Machine, IsMachine, is_client, is_confirmed}
-use Rattle.nfs_exec.specs.Laws.{Event, Expires, Asks, first_runs, if_runs}
+use Rattle.nfs_exec.specs.Laws.{Asks, first_runs, if_runs}
 use Rattle.nfs_exec.specs.Held.{IsAlone, is_of, renews}
 use Rattle.nfs_files.specs.Own.{HasAsBefore}
 use Rattle.nfs_exec.specs.Own.{IsAsBefore, is_named_by}

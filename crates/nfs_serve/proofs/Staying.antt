@@ -1,5 +1,5 @@
 -- What stands of a client's while records come in time, whatever it is that stands: the frame keeps it where its client asks for nothing.
-use Rattle.std.proofs.Common.{◌≡◌, ℕ, ◌+◌, ◌≤◌, Bool, true, false, cond, List, [], ◌∷◌, length, Option, refl, sym, ◌∙◌, ap, subst, arith}
+use Rattle.std.proofs.Common.{◌≡◌, ℕ, ◌+◌, ◌≤◌, Bool, true, false, cond, List, [], ◌∷◌, length, refl, sym, ◌∙◌, ap, subst, arith}
 use Rattle.std.specs.Option.{option_map_or}
 use Rattle.nfs_opens.specs.Table.{Table}
 use Rattle.nfs_files.specs.Own.{HasAsBefore}

@@ -1,6 +1,5 @@
 -- Wrong steps that the promise of opens refuses, computed.
-use Rattle.std.proofs.Common.{◌≡◌, ℕ, Bool, true, false, List, [], ◌∷◌, refl, sym, ◌∙◌, ap, subst, inl, inr}
-use Rattle.std.specs.Prelude.{◌+◌, ◌*◌, ◌^◌}
+use Rattle.std.proofs.Common.{◌≡◌, Bool, true, false, [], ◌∷◌, refl, sym, ◌∙◌, ap, subst, inl, inr}
 use Rattle.std.proofs.lemmas.Bool.{true≢false}
 use Rattle.nfs_xdr.specs.Spelling.{number, hyper}
 use Rattle.nfs_xdr.specs.Reading.{opaque_at, fixed_at, flag_at, pieces_at}
@@ -35,8 +34,6 @@ use Rattle.nfs_files.specs.Open.{asked_for, open_file}
 use Rattle.nfs_files.specs.OpenDowngrade.{open_downgrade}
 use Rattle.nfs_files.specs.Target.{the_file, target}
 use Rattle.nfs_files.specs.OpenTold.{Bits, IsOpenWith}
-use Rattle.nfs_exec.specs.Ops.{Done}
-use Rattle.nfs_exec.specs.Held.{ClosesOf}
 use Rattle.nfs_serve.specs.Step.{step}
 use Rattle.nfs_serve.specs.Points.{ops_of}
 use Rattle.nfs_serve.specs.WrongLocks.{last_of, closes_another}

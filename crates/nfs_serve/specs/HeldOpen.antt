@@ -5,14 +5,14 @@
 use Rattle.std.specs.Prelude.{◌≡◌, ℕ, ◌+◌, ◌*◌, ◌^◌, true, false, List, [], ◌∷◌, ◌++◌}
 use Rattle.nfs_xdr.specs.declared.status.Status.TheVariants.{Nfs4Ok, ShareDenied}
 use Rattle.nfs_opens.specs.Share.{neither}
-use Rattle.nfs_files.specs.OpenTold.{OpenTold, Bits, IsOpenWith}
+use Rattle.nfs_files.specs.OpenTold.{OpenTold, Bits}
 use Rattle.nfs_exec.specs.Ops.{Done}
-use Rattle.nfs_exec.specs.OpenHeld.{OpenWhile, TellsOpen}
+use Rattle.nfs_exec.specs.OpenHeld.{TellsOpen}
 use Rattle.nfs_serve.specs.Step.{State}
 use Rattle.nfs_serve.specs.Points.{Came, next, all_next, ops_of}
 use Rattle.nfs_serve.specs.OpenKept.{LeaveOpen}
 use Rattle.nfs_serve.specs.Exchanges.{words}
-use Rattle.nfs_serve.specs.HeldLock.{came, in_session, earlier, waits, start, statuses}
+use Rattle.nfs_serve.specs.HeldLock.{came, in_session, waits, start, statuses}
 
 -- PUTROOTFH; and OPEN by the open owner `o` of `f`, which is made where it is not there, without attributes
 abbrev pub opening : (access deny : ℕ) → List ℕ

@@ -6,7 +6,6 @@ use Rattle.nfs_compound.specs.OpenArgs.{Open, Create, Unchecked, Null}
 use Rattle.nfs_compound.specs.Operation.{Operation, OpOpen, OpOpenDowngrade}
 use Rattle.nfs_results.specs.Results.{done_head}
 use Rattle.nfs_opens.specs.declared.share.Share.{Share}
-use Rattle.nfs_opens.specs.declared.records.OpenState.{OpenState}
 use Rattle.nfs_opens.specs.Share.{neither}
 use Rattle.nfs_opens.specs.Table.{with_open}
 use Rattle.nfs_names.specs.Ending.{with_opens}
@@ -16,7 +15,7 @@ use Rattle.nfs_exec.specs.OpenHeld.{IsOpenBefore, OpenWhile}
 use Rattle.nfs_serve.specs.Points.{ops_of}
 use Rattle.nfs_serve.specs.Exchanges.{words}
 use Rattle.nfs_serve.specs.WrongLocks.{last_of, closes_another}
-use Rattle.nfs_serve.specs.HeldOpen.{asks, opens_again, its_open, first_bits, asked}
+use Rattle.nfs_serve.specs.HeldOpen.{asks, its_open, first_bits, asked}
 
 -- what A asks for as it opens the file once more: to read
 abbrev pub reads_too : Open
