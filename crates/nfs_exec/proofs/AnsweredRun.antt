@@ -1,5 +1,5 @@
 -- What clients asked and were answered, against the inside of the operations that were run.
-use Rattle.std.proofs.Common.{◌≡◌, ℕ, ◌+◌, ◌≤◌, Bool, true, false, cond, eqb, ltb, List, [], ◌∷◌, ◌++◌, length, Option, Some, None, refl, sym, ◌∙◌, ap, subst, inl, inr, arith}
+use Rattle.std.proofs.Common.{◌≡◌, ℕ, ◌+◌, ◌≤◌, Bool, true, false, cond, eqb, ltb, List, [], ◌∷◌, length, Option, Some, None, refl, sym, ◌∙◌, ap, subst, inl, inr, arith}
 use Rattle.std.specs.Prelude.{◌==◌, option_map, Ok, find}
 use Rattle.std.specs.Option.{option_map_or}
 use Rattle.std.proofs.lemmas.Bool.{cases_Bool, eq-eqb, eqb-true}
@@ -38,9 +38,9 @@ use Rattle.nfs_exec.specs.Run.{in_room, reserve, is_here, behind_here}
 use Rattle.nfs_exec.specs.Sequence as sequence
 use Rattle.nfs_exec.specs.Sequence.{Sequenced, sequenced}
 use Rattle.nfs_exec.specs.Compound.{renewed, begun}
-use Rattle.nfs_exec.specs.Laws.{Event, Expires, Asks, stepped, if_runs, first_runs}
+use Rattle.nfs_exec.specs.Laws.{Event, Expires, Asks, if_runs, first_runs}
 use Rattle.nfs_exec.specs.Ops.{Done, done, ops, ops_in, ops_of, ops_by}
-use Rattle.nfs_exec.specs.Held.{LocksFor, UnlocksFor, ClosesOf, Spares, AreSpared, StandsBefore, StandsWhile, Tells, is_of, renews}
+use Rattle.nfs_exec.specs.Held.{LocksFor, UnlocksFor, ClosesOf, Spares, Tells, is_of, renews}
 use Rattle.nfs_exec.proofs.Bearing.{refused_status}
 use Rattle.nfs_exec.proofs.WholeRun.{Is, whole_room, in_more, event_ops}
 

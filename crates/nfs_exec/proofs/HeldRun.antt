@@ -1,25 +1,23 @@
 -- A lock that was told, through the operations of an event.
-use Rattle.std.proofs.Common.{◌≡◌, ℕ, ◌+◌, ◌≤◌, Bool, true, false, List, [], ◌∷◌, ◌++◌, Option, refl, sym, ◌∙◌, ap, subst, inl, inr}
+use Rattle.std.proofs.Common.{◌≡◌, ℕ, ◌≤◌, Bool, true, false, List, ◌∷◌, ◌++◌, refl, sym, ◌∙◌, ap, subst, inl, inr}
 use Rattle.std.specs.Prelude.{◌==◌, filter}
 use Rattle.std.proofs.lemmas.Bool.{cases_Bool, eq-eqb}
 use Rattle.nfs_xdr.specs.Tables.{In}
 use Rattle.nfs_xdr.proofs.Lists.{in_filter, stays_in}
 use Rattle.nfs_compound.specs.Operation.{Op, Item, Operation, Fault, OpLock}
 use Rattle.nfs_opens.specs.declared.records.LockState.{LockState}
-use Rattle.nfs_opens.specs.declared.locking.Wish.{Wish}
 use Rattle.nfs_opens.specs.Table.{Table}
 use Rattle.nfs_names.specs.declared.context.Context.{Context}
 use Rattle.nfs_names.specs.State.{State, moment}
 use Rattle.nfs_names.specs.Operation as names
 use Rattle.nfs_names.proofs.Untouched.{leaves_item}
 use Rattle.nfs_files.specs.Operation as files
-use Rattle.nfs_files.specs.Kept.{Told, Stands, Clashes}
+use Rattle.nfs_files.specs.Kept.{Told, Stands}
 use Rattle.nfs_files.specs.Own.{HasAsBefore}
 use Rattle.nfs_files.proofs.Inside as inside
 use Rattle.nfs_files.proofs.KeptOps.{spared, clashing}
 use Rattle.nfs_exec.specs.Machine.{Machine, is_ok}
 use Rattle.nfs_exec.specs.Behind.{step, on_store, moves_opens, marked_if}
-use Rattle.nfs_exec.specs.Run.{in_room}
 use Rattle.nfs_exec.specs.Laws.{Event, stepped}
 use Rattle.nfs_exec.specs.Ops.{Done, ops_by}
 use Rattle.nfs_exec.specs.Held.{Spares, AreSpared, StandsBefore, StandsWhile, Tells, renews}

@@ -15,10 +15,10 @@ use Rattle.nfs_exec.specs.Machine.{Machine}
 use Rattle.nfs_exec.specs.Run.{behind_here}
 use Rattle.nfs_exec.specs.Sequence as sequence
 use Rattle.nfs_exec.specs.Sequence.{Sequenced, sequenced}
-use Rattle.nfs_exec.specs.Compound.{bare, renewed, begun, in_session, by_first, compound}
+use Rattle.nfs_exec.specs.Compound.{bare, renewed, begun, in_session, by_first}
 use Rattle.nfs_exec.specs.Laws.{Event, Expires, Asks, stepped, ran, first_runs, if_runs}
 use Rattle.nfs_exec.specs.Ops.{Done, ops_in, ops_of, ops_by, left_by, AreChained}
-use Rattle.nfs_exec.specs.Held.{is_of, renews}
+use Rattle.nfs_exec.specs.Held.{is_of}
 use Rattle.nfs_exec.proofs.OpsRun.{are_run}
 use Rattle.nfs_exec.proofs.WholeRun.{Is}
 use Rattle.nfs_exec.proofs.AnsweredRun.{IsRun, event_run}
@@ -79,63 +79,63 @@ in_back d (f ∷ front) back there = inr (in_back d front back there)
 module _ {B : Type 0} (client : ℕ) (Stands : B → Table → Type 0) (Before : B → Done → Type 0) (Spares : Done → Type 0) (behind : B → Done → B)
     (While : B → List Done → Type 0) (Left : B → List Done → Table → Type 0)
   where
-  pub record IsWalked : Type 0 where
-    pub frame : (b : B) (t u : Table) → HasAsBefore client t u → Stands b t → Stands b u
-    pub step : (b : B) (d : Done) → IsRun d → Stands b d.before.store.opens → Before b d × (Spares d → Stands (behind b d) d.behind.store.opens)
-    pub none : (b : B) → While b []
-    pub some : (b : B) (d : Done) (more : List Done) → Before b d × (Spares d → Stands (behind b d) d.behind.store.opens × While (behind b d) more) → While b (d ∷ more)
-    pub end : (b : B) (t : Table) → Stands b t → Left b [] t
-    pub on : (b : B) (d : Done) (more : List Done) (t : Table) → Left (behind b d) more t → Left b (d ∷ more) t
+    pub record IsWalked : Type 0 where
+      pub frame : (b : B) (t u : Table) → HasAsBefore client t u → Stands b t → Stands b u
+      pub step : (b : B) (d : Done) → IsRun d → Stands b d.before.store.opens → Before b d × (Spares d → Stands (behind b d) d.behind.store.opens)
+      pub none : (b : B) → While b []
+      pub some : (b : B) (d : Done) (more : List Done) → Before b d × (Spares d → Stands (behind b d) d.behind.store.opens × While (behind b d) more) → While b (d ∷ more)
+      pub end : (b : B) (t : Table) → Stands b t → Left b [] t
+      pub on : (b : B) (d : Done) (more : List Done) (t : Table) → Left (behind b d) more t → Left b (d ∷ more) t
 
-  walks : IsWalked → (m : Machine) (ds : List Done) → AreChained m ds → ((d : Done) → In d ds → IsRun d) → (b : B) → Stands b m.store.opens → While b ds
-  walks w m [] chained runs b stands = w.none b
-  walks w m (d ∷ more) chained runs b stands =
-      let one = w.step b d (runs d (inl refl)) (subst (λ (m : Machine). Stands b m.store.opens) (sym chained.0) stands) in
-      w.some b d more (
-        one.0,
-        λ spares. (one.1 spares, walks w d.behind more chained.1 (λ e there. runs e (inr there)) (behind b d) (one.1 spares)),
+    walks : IsWalked → (m : Machine) (ds : List Done) → AreChained m ds → ((d : Done) → In d ds → IsRun d) → (b : B) → Stands b m.store.opens → While b ds
+    walks w m [] chained runs b stands = w.none b
+    walks w m (d ∷ more) chained runs b stands =
+        let one = w.step b d (runs d (inl refl)) (subst (λ (m : Machine). Stands b m.store.opens) (sym chained.0) stands) in
+        w.some b d more (
+          one.0,
+          λ spares. (one.1 spares, walks w d.behind more chained.1 (λ e there. runs e (inr there)) (behind b d) (one.1 spares)),
+        )
+
+    ends : IsWalked → (m : Machine) (ds : List Done) → AreChained m ds → ((d : Done) → In d ds → IsRun d) → ((d : Done) → In d ds → Spares d)
+        → (b : B) → Stands b m.store.opens → Left b ds (left_by m ds).store.opens
+    ends w m [] chained runs spared b stands = w.end b m.store.opens stands
+    ends w m (d ∷ more) chained runs spared b stands =
+        let one = w.step b d (runs d (inl refl)) (subst (λ (m : Machine). Stands b m.store.opens) (sym chained.0) stands) in
+        w.on b d more (left_by d.behind more).store.opens
+        (ends w d.behind more chained.1 (λ e there. runs e (inr there)) (λ e there. spared e (inr there)) (behind b d) (one.1 (spared d (inl refl))))
+
+    -- through an event
+    pub event_walked : IsWalked → (m : Machine) (e : Event) → Is m → (b : B) → Stands b m.store.opens
+        → While b (ops_by m e)
+        × (((d : Done) → In d (ops_by m e) → Spares d) → SparesClient client m e → Left b (ops_by m e) (stepped m e).store.opens)
+    event_walked w m e is b stands = elim (event_kind m e) [
+      | inl runs ↦
+          (let each : (d : Done) → In d (ops_by m e) → IsRun d = λ d there. (event_run m e is d there).0 in
+          let here : Stands b runs.from.store.opens = subst (λ s. Stands b s.opens) (sym runs.same) stands in (
+            walks w runs.from (ops_by m e) runs.chained each b here,
+            λ spared alone. subst (λ s. Left b (ops_by m e) s.opens) (sym runs.left) (ends w runs.from (ops_by m e) runs.chained each spared b here),
+          ))
+      | inr idle ↦ (
+        subst (While b) (sym idle.0) (w.none b),
+        λ spared alone. subst (λ ds. Left b ds (stepped m e).store.opens) (sym idle.0) (w.end b (stepped m e).store.opens
+            (w.frame b m.store.opens (stepped m e).store.opens
+            (event_apart client m e is (ap (λ o. option_map_or (is_of client) o false) idle.1) alone) stands)),
       )
+    ]
 
-  ends : IsWalked → (m : Machine) (ds : List Done) → AreChained m ds → ((d : Done) → In d ds → IsRun d) → ((d : Done) → In d ds → Spares d)
-      → (b : B) → Stands b m.store.opens → Left b ds (left_by m ds).store.opens
-  ends w m [] chained runs spared b stands = w.end b m.store.opens stands
-  ends w m (d ∷ more) chained runs spared b stands =
-      let one = w.step b d (runs d (inl refl)) (subst (λ (m : Machine). Stands b m.store.opens) (sym chained.0) stands) in
-      w.on b d more (left_by d.behind more).store.opens
-      (ends w d.behind more chained.1 (λ e there. runs e (inr there)) (λ e there. spared e (inr there)) (behind b d) (one.1 (spared d (inl refl))))
-
-  -- through an event
-  pub event_walked : IsWalked → (m : Machine) (e : Event) → Is m → (b : B) → Stands b m.store.opens
-      → While b (ops_by m e)
-      × (((d : Done) → In d (ops_by m e) → Spares d) → SparesClient client m e → Left b (ops_by m e) (stepped m e).store.opens)
-  event_walked w m e is b stands = elim (event_kind m e) [
-    | inl runs ↦
-        (let each : (d : Done) → In d (ops_by m e) → IsRun d = λ d there. (event_run m e is d there).0 in
-        let here : Stands b runs.from.store.opens = subst (λ s. Stands b s.opens) (sym runs.same) stands in (
-          walks w runs.from (ops_by m e) runs.chained each b here,
-          λ spared alone. subst (λ s. Left b (ops_by m e) s.opens) (sym runs.left) (ends w runs.from (ops_by m e) runs.chained each spared b here),
-        ))
-    | inr idle ↦ (
-      subst (While b) (sym idle.0) (w.none b),
-      λ spared alone. subst (λ ds. Left b ds (stepped m e).store.opens) (sym idle.0) (w.end b (stepped m e).store.opens
-          (w.frame b m.store.opens (stepped m e).store.opens
-          (event_apart client m e is (ap (λ o. option_map_or (is_of client) o false) idle.1) alone) stands)),
-    )
-  ]
-
-  -- and through what is behind an operation of it
-  pub back_walked : IsWalked → (m : Machine) (e : Event) (front : List Done) (d : Done) (back : List Done) → Is m → ops_by m e ≡ front ++ d ∷ back
-      → (b : B) → Stands b d.behind.store.opens
-      → While b back × (((d : Done) → In d back → Spares d) → Left b back (stepped m e).store.opens)
-  back_walked w m e front d back is same b stands = elim (event_kind m e) [
-    | inl runs ↦
-        (let chained = chained_back runs.from front d back (subst (AreChained runs.from) same runs.chained) in
-        let each : (c : Done) → In c back → IsRun c =
-        λ c there. (event_run m e is c (subst (In c) (sym same) (in_back c front (d ∷ back) (inr there)))).0 in (
-          walks w d.behind back chained each b stands,
-          λ spared. subst (λ s. Left b back s.opens)
-              (sym (runs.left ∙ ap (λ (n : Machine). n.store) (ap (left_by runs.from) same ∙ left_back runs.from front d back)))
-              (ends w d.behind back chained each spared b stands),
-        ))
-    | inr idle ↦ absurd (none_at front d back (sym idle.0 ∙ same))
-  ]
+    -- and through what is behind an operation of it
+    pub back_walked : IsWalked → (m : Machine) (e : Event) (front : List Done) (d : Done) (back : List Done) → Is m → ops_by m e ≡ front ++ d ∷ back
+        → (b : B) → Stands b d.behind.store.opens
+        → While b back × (((d : Done) → In d back → Spares d) → Left b back (stepped m e).store.opens)
+    back_walked w m e front d back is same b stands = elim (event_kind m e) [
+      | inl runs ↦
+          (let chained = chained_back runs.from front d back (subst (AreChained runs.from) same runs.chained) in
+          let each : (c : Done) → In c back → IsRun c =
+          λ c there. (event_run m e is c (subst (In c) (sym same) (in_back c front (d ∷ back) (inr there)))).0 in (
+            walks w d.behind back chained each b stands,
+            λ spared. subst (λ s. Left b back s.opens)
+                (sym (runs.left ∙ ap (λ (n : Machine). n.store) (ap (left_by runs.from) same ∙ left_back runs.from front d back)))
+                (ends w d.behind back chained each spared b stands),
+          ))
+      | inr idle ↦ absurd (none_at front d back (sym idle.0 ∙ same))
+    ]

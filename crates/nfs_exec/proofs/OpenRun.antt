@@ -1,7 +1,6 @@
 -- An open that was told, through the operations of an event.
-use Rattle.std.proofs.Common.{◌≡◌, ℕ, ◌+◌, Bool, true, false, cond, List, [], ◌∷◌, ◌++◌, Option, Some, None, refl, sym, ◌∙◌, ap, subst, inl, inr}
-use Rattle.std.specs.Prelude.{◌==◌, filter, Ok}
-use Rattle.std.specs.Option.{option_map_or}
+use Rattle.std.proofs.Common.{◌≡◌, ℕ, Bool, true, false, cond, List, ◌∷◌, ◌++◌, Some, refl, sym, ◌∙◌, ap, subst, inl, inr}
+use Rattle.std.specs.Prelude.{◌==◌, filter}
 use Rattle.std.proofs.lemmas.Bool.{cases_Bool, eq-eqb, true≢false, false≢true}
 use Rattle.nfs_xdr.specs.Tables.{In}
 use Rattle.nfs_xdr.specs.declared.status.Status.{Status}
@@ -29,14 +28,14 @@ use Rattle.nfs_files.specs.OpenLaws.{IsToldOpen}
 use Rattle.nfs_files.proofs.Inside.{Closes}
 use Rattle.nfs_files.proofs.ToldOpens.{same_opens, short_names_none, told_open_left, told_opens, opens_refused}
 use Rattle.nfs_exec.specs.Machine.{Machine, is_ok}
-use Rattle.nfs_exec.specs.Behind.{Step, step, stays, on_store, moves_opens, marked_if, otherwise}
+use Rattle.nfs_exec.specs.Behind.{Step, step, on_store, moves_opens, marked_if, otherwise}
 use Rattle.nfs_exec.specs.Run.{in_room}
 use Rattle.nfs_exec.specs.Laws.{Event, stepped}
-use Rattle.nfs_exec.specs.Ops.{Done, done, ops_by}
+use Rattle.nfs_exec.specs.Ops.{Done, ops_by}
 use Rattle.nfs_exec.specs.Held.{ClosesOf, renews}
-use Rattle.nfs_exec.specs.OpenHeld.{OpensAs, IsOpenBefore, OpenWhile, NoneCloses, bits_left, TellsOpen}
+use Rattle.nfs_exec.specs.OpenHeld.{IsOpenBefore, OpenWhile, NoneCloses, bits_left, TellsOpen}
 use Rattle.nfs_exec.proofs.WholeRun.{Is, otherwise_store}
-use Rattle.nfs_exec.proofs.AnsweredRun.{in_room_is, IsRun, ran_as, as_step, told_close, event_run}
+use Rattle.nfs_exec.proofs.AnsweredRun.{in_room_is, IsRun, as_step, told_close, event_run}
 use Rattle.nfs_exec.proofs.OthersRun.{SparesClient}
 use Rattle.nfs_exec.proofs.OneWalk.{IsWalked, event_walked, back_walked, in_back}
 
