@@ -1,7 +1,7 @@
 -- What is asked of a list of owners.
 use Rattle.std.proofs.Common.{◌≡◌, ℕ, ◌<◌, ◌≤◌, ◌^◌, Bool, true, false, List, [], ◌∷◌, drop, Some, None, Result, Ok, Err, refl, sym, ◌∙◌, ap, arith, inl, inr}
-use Rattle.std.specs.Prelude.{IsTrue, IsSome, is_some, ◌↔◌, OnOk, OnErr, not, length, ◌==◌}
-use Rattle.std.proofs.lemmas.Bool.{cases_Bool, ltb-true, ltb-false, ne_eqb}
+use Rattle.std.specs.Prelude.{IsTrue, IsSome, is_some, ◌↔◌, OnOk, OnErr, not}
+use Rattle.std.proofs.lemmas.Bool.{cases_Bool, ltb-true, ltb-false}
 use Rattle.nfs_ranges.specs.declared.interval.Interval.{Interval}
 use Rattle.nfs_ranges.specs.Intervals.{AreFrom, IsCanonical}
 use Rattle.nfs_ranges.specs.Edits.{lead, head, ends_before}

@@ -1,17 +1,16 @@
 -- Intervals in blocks: which block and which place in it, and what an edit leaves of them.
-use Rattle.std.proofs.Common.{◌≡◌, ℕ, zero, suc, ◌+◌, ◌-◌, ◌<◌, ◌≤◌, ◌^◌, min, Bool, true, false, nat_lt, nat_le, ◌==◌, List, [], ◌∷◌, ◌++◌, take, drop, length, get_or}
+use Rattle.std.proofs.Common.{◌≡◌, ℕ, zero, suc, ◌-◌, ◌<◌, ◌≤◌, min, Bool, true, false, nat_lt, nat_le, ◌==◌, List, [], ◌∷◌, ◌++◌, take, drop, length, get_or}
 use Rattle.std.proofs.Common.{Option, Some, None, refl, sym, ◌∙◌, ap, subst, arith, inl, inr, append_assoc}
 use Rattle.std.specs.Option.{option_to_list}
-use Rattle.std.specs.Prelude.{find, slice_get, if◌then◌else◌}
+use Rattle.std.specs.Prelude.{slice_get, if◌then◌else◌}
 use Rattle.std.specs.List.Sorted.{IsPartitionedBy}
 use Rattle.std.proofs.lemmas.Bool.{cases_Bool, ltb-true, lt-ltb, leb-true, le-leb, ne_eqb}
 use Rattle.std.proofs.lemmas.List.{append-nil, drop_all, drop_min, take-append-drop}
-use Rattle.nfs_ranges.specs.declared.Kind.{Kind}
 use Rattle.nfs_ranges.specs.declared.interval.Interval.{Interval}
 use Rattle.nfs_ranges.specs.declared.blocks.Place.{Place}
 use Rattle.nfs_ranges.specs.declared.blocks.Parts.{Parts}
 use Rattle.nfs_ranges.specs.declared.edits.Edit.{Edit}
-use Rattle.nfs_ranges.specs.Intervals.{touches, AreFrom, IsCanonical}
+use Rattle.nfs_ranges.specs.Intervals.{AreFrom, IsCanonical}
 use Rattle.nfs_ranges.specs.Owners.{is_empty}
 use Rattle.nfs_ranges.specs.Edits.{lead, head, ends_before, ends_by}
 use Rattle.nfs_ranges.specs.Blocks.{flat, last_from, last_end, AreSome, AreBlocks, spot, block_at, IsPlace, spliced, IsSomeIn, ArePartsOf, ends_whole, ends_whole_by}
@@ -294,11 +293,11 @@ carried e bs new p v end edges parts made till =
     ap flat (made ∙ ap (λ t. take e.from.block bs ++ (l ++ (m ++ (r ++ t)))) last)
     ∙ flat-append (take e.from.block bs) (l ++ (m ++ (r ++ rest)))
     ∙ ap (λ t. flat (take e.from.block bs) ++ t) (
-      ap flat (ap (λ t. l ++ t) (sym (append_assoc m r rest)) ∙ sym (append_assoc l (m ++ r) rest))
-      ∙ flat-append (l ++ (m ++ r)) rest
-      ∙ ap (λ t. t ++ flat rest) (parts.whole ∙ edges)
-      ∙ regroup (take e.from.at (block_at bs e.from.block)) (option_to_list e.left) (option_to_list e.middle) (option_to_list e.right)
-      (drop e.taken (drop e.to.at (block_at bs e.to.block))) (flat rest)
+    ap flat (ap (λ t. l ++ t) (sym (append_assoc m r rest)) ∙ sym (append_assoc l (m ++ r) rest))
+    ∙ flat-append (l ++ (m ++ r)) rest
+    ∙ ap (λ t. t ++ flat rest) (parts.whole ∙ edges)
+    ∙ regroup (take e.from.at (block_at bs e.from.block)) (option_to_list e.left) (option_to_list e.middle) (option_to_list e.right)
+    (drop e.taken (drop e.to.at (block_at bs e.to.block))) (flat rest)
     )
 
 pub carried_some : (bs new : List (List Interval)) (p : Parts) (v : List Interval) (at end : ℕ) → AreSome bs → ArePartsOf v p →

@@ -1,17 +1,17 @@
 -- Owners in a map by their numbers: one found, one put, one taken out.
-use Rattle.std.proofs.Common.{◌≡◌, ℕ, suc, ◌<◌, ◌≤◌, Bool, true, false, cond, eqb, List, [], ◌∷◌, ◌++◌, Option, Some, None, Result, Ok, Err, refl, sym, ◌∙◌, ap, arith, inl, inr}
+use Rattle.std.proofs.Common.{◌≡◌, ℕ, suc, ◌<◌, Bool, true, false, eqb, List, [], ◌∷◌, ◌++◌, Option, Some, None, Result, Ok, Err, refl, sym, ◌∙◌, ap, arith, inl, inr}
 use Rattle.std.specs.Prelude.{OnErr}
 use Rattle.std.specs.Ordering.{nat_cmp}
 use Rattle.std.specs.declared.cmp.Ordering.TheVariants.{Less, Greater}
 use Rattle.std.specs.Map.{values_of, lookup, set_value, remove_entry}
 use Rattle.std.specs.BTreeMap.{BTreeMap, is_at, insert_entry}
 use Rattle.std.proofs.lemmas.Map.Steps.{set_value_same}
-use Rattle.std.proofs.lemmas.Bool.{cases_Bool, cases_order, lt-ltb, le-ltb, eqb-true, eq-eqb, ne_eqb}
+use Rattle.std.proofs.lemmas.Bool.{cases_Bool, cases_order, lt-ltb, le-ltb, eq-eqb, ne_eqb}
 use Rattle.std.proofs.lemmas.Bool.Decides.{nat_tests}
 use Rattle.nfs_ranges.specs.declared.interval.Interval.{Interval}
 use Rattle.nfs_ranges.specs.Intervals.{IsCanonical, without, with_range}
-use Rattle.nfs_ranges.specs.Holders.{Owned, LockedBytes, bytes_of}
-use Rattle.nfs_ranges.specs.Owners.{is_empty, AreOwners, AreCanonical, AreKeyed, AreKept, IsPut, entry, with_owner}
+use Rattle.nfs_ranges.specs.Holders.{Owned, bytes_of}
+use Rattle.nfs_ranges.specs.Owners.{is_empty, AreOwners, AreKeyed, AreKept, IsPut, entry, with_owner}
 use Rattle.nfs_ranges.proofs.OwnerLemmas.{with_owner-canonical, bytes-canonical, held_some}
 
 at_number : (s k : ℕ) → is_at (nat_cmp s) k ≡ eqb k s

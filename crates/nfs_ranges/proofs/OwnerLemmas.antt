@@ -1,16 +1,11 @@
 -- Owners in rising order: one found, one put, one taken out.
-use Rattle.std.proofs.Common.{◌≡◌, ◌≢◌, ℕ, zero, suc, ◌<◌, ◌≤◌, ◌^◌, Bool, true, false, cond, eqb, ◌&&◌, List, [], ◌∷◌, ◌++◌, take, drop, length, get_or, set}
+use Rattle.std.proofs.Common.{◌≡◌, ◌≢◌, ℕ, suc, ◌<◌, ◌≤◌, ◌^◌, Bool, false, cond, eqb, ◌&&◌, List, [], ◌∷◌, ◌++◌}
 use Rattle.std.proofs.Common.{Option, Some, None, refl, sym, ◌∙◌, ap, arith, inl, inr}
 use Rattle.std.proofs.Math.Path.{fun_ext}
-use Rattle.std.specs.Prelude.{IsSome, OnSome}
-use Rattle.std.specs.List.Sorted.{IsPartitionedBy}
-use Rattle.std.specs.List.{remove}
-use Rattle.std.proofs.lemmas.List.{set_split, take-set, drop-set-lt, get_or-set_same}
-use Rattle.std.proofs.lemmas.Bool.{cases_lt, cases_Bool, cases_order, ltb-true, lt-ltb, le-ltb, eqb-true, eq-eqb, ne_eqb}
+use Rattle.std.proofs.lemmas.Bool.{cases_lt, cases_Bool, cases_order, lt-ltb, le-ltb, eqb-true, eq-eqb, ne_eqb}
 use Rattle.nfs_ranges.specs.declared.Kind.{Kind}
 use Rattle.nfs_ranges.specs.declared.interval.Interval.{Interval}
 use Rattle.nfs_ranges.specs.Intervals.{IsCanonical, joins, kept_below, kept_above, put, glue, without, with_range}
-use Rattle.nfs_ranges.specs.Edits.{lead, head}
 use Rattle.nfs_ranges.specs.Holders.{Owned, LockedBytes, bytes_of, at, holding, cleared, dropped, is_within, kind_at}
 use Rattle.nfs_ranges.specs.Laws.{Canonical}
 use Rattle.nfs_ranges.specs.Owners.{is_empty, AreOwners, AreCanonical, entry, with_owner}

@@ -1,5 +1,5 @@
 -- What an edit leaves, by the places at which it begins and ends.
-use Rattle.std.proofs.Common.{◌≡◌, ℕ, zero, suc, ◌+◌, ◌-◌, ◌<◌, ◌≤◌, ◌^◌, min, max, Bool, true, false, ltb, eqb, leb, ◌&&◌, List, [], ◌∷◌, ◌++◌, take, drop}
+use Rattle.std.proofs.Common.{◌≡◌, ℕ, zero, suc, ◌-◌, ◌<◌, ◌≤◌, ◌^◌, min, max, Bool, true, false, ltb, eqb, leb, ◌&&◌, List, [], ◌∷◌, ◌++◌, take, drop}
 use Rattle.std.proofs.Common.{length, get_or, Option, Some, None, refl, sym, ◌∙◌, ap, subst, arith, inl, inr}
 use Rattle.std.specs.Option.{option_to_list}
 use Rattle.std.specs.Prelude.{IfSome, is_some}
@@ -10,7 +10,6 @@ use Rattle.std.proofs.lemmas.Bool.{lt-leb, eq-eqb, ne_eqb}
 use Rattle.nfs_ranges.specs.declared.Kind.{Kind}
 use Rattle.nfs_ranges.specs.declared.interval.Interval.{Interval}
 use Rattle.nfs_ranges.specs.declared.edits.Edit.{Edit}
-use Rattle.std.proofs.lemmas.List.{drop-drop, length-drop}
 use Rattle.nfs_ranges.specs.Intervals.{is_same, joins, touches, AreFrom, IsCanonical, kept_below, kept_above, put, glue, without, with_range}
 use Rattle.nfs_ranges.specs.Edits.{lead, ends_before, ends_by, apart_by, head, begin_at, end_at, left_before, left_behind}
 use Rattle.nfs_ranges.specs.declared.blocks.Place.{Place}

@@ -1,12 +1,12 @@
 -- The span of intervals, and wishes that lie outside it.
-use Rattle.std.proofs.Common.{◌≡◌, ℕ, zero, suc, ◌-◌, ◌<◌, ◌≤◌, true, false, leb, List, [], ◌∷◌, ◌++◌, drop, length, Some, None, refl}
+use Rattle.std.proofs.Common.{◌≡◌, ℕ, suc, ◌-◌, ◌<◌, ◌≤◌, true, false, leb, List, [], ◌∷◌, ◌++◌, drop, length, Some, None, refl}
 use Rattle.std.proofs.Common.{sym, ◌∙◌, ap, subst, arith}
 use Rattle.std.specs.Prelude.{find, slice_get}
 use Rattle.std.proofs.lemmas.List.{append-nil}
 use Rattle.std.proofs.lemmas.Bool.{and_left, and_right, lt-leb, le-ltb}
 use Rattle.nfs_ranges.specs.declared.Kind.{Kind}
 use Rattle.nfs_ranges.specs.declared.interval.Interval.{Interval}
-use Rattle.nfs_ranges.specs.Intervals.{AreFrom, IsCanonical, kept_below, kept_above, glue, without}
+use Rattle.nfs_ranges.specs.Intervals.{AreFrom, kept_below, kept_above, without}
 use Rattle.nfs_ranges.specs.Edits.{head}
 use Rattle.nfs_ranges.specs.Blocks.{flat, last_from, last_end, block_at, AreSome, AreBlocks}
 use Rattle.nfs_ranges.specs.Owners.{LieWithin, IsSpan}
@@ -50,8 +50,10 @@ span_is x b ((y ∷ ys) ∷ bs) are first last =
     let same : y ≡ x = (let back : Some y ≡ Some x = sym first in cc) in
     let count : length ((y ∷ ys) ∷ bs) - 1 ≡ length bs = omega arith in
     let top : last_from y (ys ++ flat bs) ≡ last_end b = last_flat (y ∷ ys) bs b are.some (last ∙ ap (slice_get ((y ∷ ys) ∷ bs)) count) in
-    record { each = subst (λ l. LieWithin x.first l (y ∷ (ys ++ flat bs))) top
-    (subst (λ (z : Interval). LieWithin z.first (last_from y (ys ++ flat bs)) (y ∷ (ys ++ flat bs))) same (lie_from 0 y (ys ++ flat bs) are.canonical.from).1) }
+    record {
+      each = subst (λ l. LieWithin x.first l (y ∷ (ys ++ flat bs))) top
+          (subst (λ (z : Interval). LieWithin z.first (last_from y (ys ++ flat bs)) (y ∷ (ys ++ flat bs))) same (lie_from 0 y (ys ++ flat bs) are.canonical.from).1);
+    }
 
 pub no_span : (first last : ℕ) (bs : List (List Interval)) → AreSome bs → None ≡ head (drop 0 (block_at bs 0)) → IsSpan first last (flat bs)
 no_span first last [] some none = record { each = tt }

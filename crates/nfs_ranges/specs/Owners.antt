@@ -1,9 +1,9 @@
 -- The owners of a list, in rising order of their numbers.
-use Rattle.std.specs.Prelude.{◌≡◌, ℕ, suc, ◌<◌, ◌≤◌, ◌==◌, nat_lt, Bool, true, false, if◌then◌else◌, List, [], ◌∷◌, ◌++◌, take, drop, length}
+use Rattle.std.specs.Prelude.{◌≡◌, ℕ, suc, ◌≤◌, ◌==◌, nat_lt, Bool, true, false, if◌then◌else◌, List, [], ◌∷◌, ◌++◌}
 use Rattle.std.specs.Map.{values_of}
 use Rattle.nfs_ranges.specs.declared.interval.Interval.{Interval}
 use Rattle.nfs_ranges.specs.Intervals.{IsCanonical}
-use Rattle.nfs_ranges.specs.Holders.{Owned, LockedBytes, bytes_of}
+use Rattle.nfs_ranges.specs.Holders.{Owned, LockedBytes}
 
 abbrev pub is_empty : List Interval → Bool
 is_empty [] = true

@@ -344,12 +344,7 @@ impl Intervals {
     /// None of the bytes from `first` to `last` is held from now on.
     ///
     /// `Err`: no memory, and nothing has changed.
-    pub(super) fn clear(
-        &mut self,
-        alloc: Global,
-        first: u64,
-        last: u64,
-    ) -> Result<(), AllocError>
+    pub(super) fn clear(&mut self, alloc: Global, first: u64, last: u64) -> Result<(), AllocError>
         requires range { first ≤ last }
         requires canonical { IsCanonical self.old }
         ensures ok { OnOk result (self.new ≡ without first last self.old) }

@@ -164,11 +164,7 @@ pub(super) fn first_clash(
 }
 
 /// How an owner holds a byte.
-pub(super) fn kind_of(
-    owners: &BTreeMap<u64, Owner, Global>,
-    number: u64,
-    byte: u64,
-) -> Option<Kind>
+pub(super) fn kind_of(owners: &BTreeMap<u64, Owner, Global>, number: u64, byte: u64) -> Option<Kind>
     requires { AreKept owners.now.entries }
     ensures { result ≡ at (values_of owners.now.entries) number byte }
 {

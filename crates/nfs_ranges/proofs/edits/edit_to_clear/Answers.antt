@@ -1,4 +1,3 @@
-use Rattle.std.proofs.Common.{arith}
 use Rattle.nfs_ranges.proofs.PlaceLemmas.{clear_spliced, places_order, behind_end, counted}
 use Rattle.nfs_ranges.proofs.edits.edit_to_clear.Goals as goal
 

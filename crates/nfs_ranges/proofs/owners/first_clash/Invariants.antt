@@ -1,8 +1,6 @@
 use Rattle.std.proofs.Common.{◌≡◌, None}
 use Rattle.std.specs.Map.{values_of}
 use Rattle.nfs_ranges.specs.Clashes.{tell}
-use Rattle.nfs_ranges.specs.declared.Kind.{Kind}
-use Rattle.nfs_ranges.specs.Holders.{LockedBytes}
 use Rattle.nfs_ranges.proofs.ClashLemmas.{AreEach}
 use Rattle.nfs_ranges.proofs.owners.first_clash.Given as goal
 

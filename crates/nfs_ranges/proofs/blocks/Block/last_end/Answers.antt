@@ -1,4 +1,4 @@
-use Rattle.std.proofs.Common.{ℕ, ◌-◌, List, length, ap, ◌∙◌}
+use Rattle.std.proofs.Common.{◌-◌, List, length, ap, ◌∙◌}
 use Rattle.std.specs.Prelude.{slice_get}
 use Rattle.nfs_ranges.specs.declared.interval.Interval.{Interval}
 use Rattle.nfs_ranges.proofs.BlockLemmas.{last_is}

@@ -1,5 +1,4 @@
 use Rattle.nfs_ranges.proofs.BlockLemmas.{blocks_are}
-use Rattle.nfs_ranges.specs.Blocks.{flat}
 use Rattle.nfs_ranges.proofs.edits.Intervals.first_hit.Goals as goal
 
 pub hit_in-requires : goal.hit_in-requires

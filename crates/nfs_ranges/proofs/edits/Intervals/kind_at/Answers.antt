@@ -1,5 +1,4 @@
 use Rattle.nfs_ranges.proofs.BlockLemmas.{blocks_are}
-use Rattle.nfs_ranges.specs.Blocks.{flat}
 use Rattle.nfs_ranges.proofs.edits.Intervals.kind_at.Goals as goal
 
 pub kind_in-requires : goal.kind_in-requires

@@ -1,5 +1,4 @@
 use Rattle.nfs_ranges.proofs.BlockLemmas.{blocks_are}
-use Rattle.nfs_ranges.specs.Blocks.{flat}
 use Rattle.nfs_ranges.proofs.edits.Intervals.span.Goals as goal
 
 pub span_of-requires : goal.span_of-requires
