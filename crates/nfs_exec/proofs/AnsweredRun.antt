@@ -26,7 +26,7 @@ use Rattle.nfs_names.specs.Operation as names
 use Rattle.nfs_names.proofs.Untouched.{leaves_item}
 use Rattle.nfs_files.specs.Operation as files
 use Rattle.nfs_files.specs.Ranges.{wished}
-use Rattle.nfs_files.specs.Kept.{Names, Told, Stands}
+use Rattle.nfs_files.specs.LockTold.{Names, LockTold, Stands}
 use Rattle.nfs_files.proofs.Inside as inside
 use Rattle.nfs_files.proofs.Inside.{Locks, Unlocks, Closes}
 use Rattle.nfs_files.proofs.OwnOpens.{spares_others}
@@ -38,9 +38,9 @@ use Rattle.nfs_exec.specs.Run.{in_room, reserve, is_here, behind_here}
 use Rattle.nfs_exec.specs.Sequence as sequence
 use Rattle.nfs_exec.specs.Sequence.{Sequenced, sequenced}
 use Rattle.nfs_exec.specs.Compound.{renewed, begun}
-use Rattle.nfs_exec.specs.Laws.{Event, Expires, Asks, if_runs, first_runs}
-use Rattle.nfs_exec.specs.Ops.{Done, done, ops, ops_in, ops_of, ops_by}
-use Rattle.nfs_exec.specs.Held.{LocksFor, UnlocksFor, ClosesOf, Spares, Tells, is_of, renews}
+use Rattle.nfs_exec.specs.Laws.{MachineEvent, Expires, Asks, if_runs, first_runs}
+use Rattle.nfs_exec.specs.Ops.{RanOp, done, ops, ops_in, ops_of, ops_by}
+use Rattle.nfs_exec.specs.LockHeld.{LocksFor, UnlocksFor, ClosesOf, Spares, Tells, is_of, renews}
 use Rattle.nfs_exec.proofs.Bearing.{refused_status}
 use Rattle.nfs_exec.proofs.WholeRun.{Is, whole_room, in_more, event_ops}
 
@@ -97,7 +97,7 @@ lock_did limit sofar now refused m x a n w is wish =
 -- The operations of a run.
 
 -- it was run
-pub record IsRun (d : Done) : Type 0 where
+pub record IsRun (d : RanOp) : Type 0 where
   pub limit : ℕ
   pub sofar : ℕ
   pub now : ℕ
@@ -105,54 +105,54 @@ pub record IsRun (d : Done) : Type 0 where
   pub whole : Is d.before
   pub is : d ≡ done d.before d.context d.item (in_room limit sofar now refused d.before d.context d.item)
 
-abbrev pub ran_as : (d : Done) → IsRun d → Item → Step
+abbrev pub ran_as : (d : RanOp) → IsRun d → Item → Step
 ran_as d r i = in_room r.limit r.sofar r.now r.refused d.before d.context i
 
-pub as_step : (d : Done) (r : IsRun d) (i : Item) → d.item ≡ i → d ≡ done d.before d.context i (ran_as d r i)
+pub as_step : (d : RanOp) (r : IsRun d) (i : Item) → d.item ≡ i → d ≡ done d.before d.context i (ran_as d r i)
 as_step d r i same = r.is ∙ ap (λ i. done d.before d.context i (ran_as d r i)) same
 
-told_lock : (d : Done) → IsRun d → (op : Op) (n : ℕ) (w : Wish) → d.item ≡ Operation op → is_ok d.status ≡ true → Locks d.before.store d.context op n w → LocksFor d n w
+told_lock : (d : RanOp) → IsRun d → (op : Op) (n : ℕ) (w : Wish) → d.item ≡ Operation op → is_ok d.status ≡ true → Locks d.before.store d.context op n w → LocksFor d n w
 told_lock d r op n w item ok locks =
     let a = locks.asked in
     let is : d.item ≡ Operation (OpLock a) = item ∙ ap Operation locks.is in
     let same = as_step d r (Operation (OpLock a)) is in
     let told = lock_told r.limit r.sofar r.now r.refused d.before d.context a n w r.whole
-    (subst (λ op. Locks d.before.store d.context op n w) locks.is locks) (ap (λ (d : Done). is_ok d.status) (sym same) ∙ ok) in
-    record { asked = a; is = is; wish = told.wish; names = subst (λ (d : Done). Names Num.Lock d.result n) (sym same) told.names }
+    (subst (λ op. Locks d.before.store d.context op n w) locks.is locks) (ap (λ (d : RanOp). is_ok d.status) (sym same) ∙ ok) in
+    record { asked = a; is = is; wish = told.wish; names = subst (λ (d : RanOp). Names Num.Lock d.result n) (sym same) told.names }
 
-told_unlock : (d : Done) → IsRun d → (op : Op) (n : ℕ) (w : Wish) → d.item ≡ Operation op → is_ok d.status ≡ true → Unlocks d.before.store d.context op n w
+told_unlock : (d : RanOp) → IsRun d → (op : Op) (n : ℕ) (w : Wish) → d.item ≡ Operation op → is_ok d.status ≡ true → Unlocks d.before.store d.context op n w
     → UnlocksFor d n w
 told_unlock d r op n w item ok unlocks =
     let a = unlocks.asked in
     let is : d.item ≡ Operation (OpLockU a) = item ∙ ap Operation unlocks.is in
     let same = as_step d r (Operation (OpLockU a)) is in
     let told = unlock_told r.limit r.sofar r.now r.refused d.before d.context a n w r.whole
-    (subst (λ op. Unlocks d.before.store d.context op n w) unlocks.is unlocks) (ap (λ (d : Done). is_ok d.status) (sym same) ∙ ok) in
-    record { asked = a; is = is; wish = told.wish; names = subst (λ (d : Done). Names Num.LockU d.result n) (sym same) told.names }
+    (subst (λ op. Unlocks d.before.store d.context op n w) unlocks.is unlocks) (ap (λ (d : RanOp). is_ok d.status) (sym same) ∙ ok) in
+    record { asked = a; is = is; wish = told.wish; names = subst (λ (d : RanOp). Names Num.LockU d.result n) (sym same) told.names }
 
-pub told_close : (d : Done) → IsRun d → (op : Op) (n : ℕ) → d.item ≡ Operation op → is_ok d.status ≡ true → Closes d.before.store d.context op n → ClosesOf d n
+pub told_close : (d : RanOp) → IsRun d → (op : Op) (n : ℕ) → d.item ≡ Operation op → is_ok d.status ≡ true → Closes d.before.store d.context op n → ClosesOf d n
 told_close d r op n item ok closes =
     let a = closes.asked in
     let is : d.item ≡ Operation (OpClose a) = item ∙ ap Operation closes.is in
     let same = as_step d r (Operation (OpClose a)) is in
     let told = close_told r.limit r.sofar r.now r.refused d.before d.context a n
-    (subst (λ op. Closes d.before.store d.context op n) closes.is closes) (ap (λ (d : Done). is_ok d.status) (sym same) ∙ ok) in
+    (subst (λ op. Closes d.before.store d.context op n) closes.is closes) (ap (λ (d : RanOp). is_ok d.status) (sym same) ∙ ok) in
     record {
       asked = a;
       id = told.id;
       is = is;
       means = told.meant;
       opened = told.opened;
-      names = subst (λ (d : Done). Names Num.Close d.result 0) (sym same) told.names;
+      names = subst (λ (d : RanOp). Names Num.Close d.result 0) (sym same) told.names;
     }
 
-pub did_lock : (d : Done) (r : IsRun d) (n : ℕ) (w : Wish) (l : LocksFor d n w) → DidLock (ran_as d r (Operation (OpLock l.asked))) d.before d.context l.asked n w
+pub did_lock : (d : RanOp) (r : IsRun d) (n : ℕ) (w : Wish) (l : LocksFor d n w) → DidLock (ran_as d r (Operation (OpLock l.asked))) d.before d.context l.asked n w
 did_lock d r n w l =
     lock_did r.limit r.sofar r.now r.refused d.before d.context l.asked n w r.whole l.wish
-    (subst (λ (d : Done). Names Num.Lock d.result n) (as_step d r (Operation (OpLock l.asked)) l.is) l.names)
+    (subst (λ (d : RanOp). Names Num.Lock d.result n) (as_step d r (Operation (OpLock l.asked)) l.is) l.names)
 
 -- what spares a lock by what was answered spares it from the inside
-pub spared_inside : (k : Told) (d : Done) → IsRun d → Spares k d → (op : Op) → d.item ≡ Operation op → is_ok d.status ≡ true
+pub spared_inside : (k : LockTold) (d : RanOp) → IsRun d → Spares k d → (op : Op) → d.item ≡ Operation op → is_ok d.status ≡ true
     → inside.Spares k d.before.store d.context op
 spared_inside k d r spares op item ok = record {
   locks = λ n w locks same. spares.locks w (subst (λ n. LocksFor d n w) same (told_lock d r op n w item ok locks));
@@ -164,7 +164,7 @@ mapped_some : (o : Option LockState) (n : ℕ) → option_map (λ (l : LockState
 mapped_some None n e = (let bad : None ≡ Some n = e in absurd cc)
 mapped_some (Some l) n e = (let same : Some l.opened ≡ Some n = e in (l, refl, cc))
 
-lock_stands : (k : Told) (limit sofar now : ℕ) (refused : Bool) (m : Machine) (x : Context) (a : args.Lock)
+lock_stands : (k : LockTold) (limit sofar now : ℕ) (refused : Bool) (m : Machine) (x : Context) (a : args.Lock)
     → (let s = in_room limit sofar now refused m x (Operation (OpLock a)) in
     is_ok s.outcome.status ≡ true → inside.Tells k m.store x (OpLock a) s.outcome.machine.store.opens → Stands k s.outcome.machine.store.opens)
 lock_stands k limit sofar now refused m x a =
@@ -173,14 +173,14 @@ lock_stands k limit sofar now refused m x a =
     (λ ok tells. told.told_stands k m.store x (moment now) refused (OpLock a) ok tells)
 
 -- what a LOCK told stands behind it
-pub told_stands : (k : Told) (d : Done) → IsRun d → Tells k d → Stands k d.behind.store.opens
+pub told_stands : (k : LockTold) (d : RanOp) → IsRun d → Tells k d → Stands k d.behind.store.opens
 told_stands k d r tells =
     let l = tells.locks in
     let s = ran_as d r (Operation (OpLock l.asked)) in
     let same : d ≡ done d.before d.context (Operation (OpLock l.asked)) s = as_step d r (Operation (OpLock l.asked)) l.is in
     let did = did_lock d r k.state tells.wish l in
     let t : Table = s.outcome.machine.store.opens in
-    let left : d.behind.store.opens ≡ t = ap (λ (d : Done). d.behind.store.opens) same in
+    let left : d.behind.store.opens ≡ t = ap (λ (d : RanOp). d.behind.store.opens) same in
     let (lock, stands, opened) = mapped_some (lock_at t k.state) k.opened (ap (λ (u : Table). option_map (λ (l : LockState). l.opened) (lock_at u k.state)) (sym left) ∙ tells.opened) in
     let found = find_in (λ (l : LockState). l.number == k.state) t.locks lock stands in
     subst (Stands k) (sym left) (lock_stands k r.limit r.sofar r.now r.refused d.before d.context l.asked did.ok (record {
@@ -198,7 +198,7 @@ told_stands k d r tells =
 -- What an event runs.
 
 pub ops_run : (limit sofar now : ℕ) (choice : Option ℕ) (m : Machine) (x : Context) (items : List Item) → Is m
-    → (d : Done) → In d (ops limit sofar now choice m x items) → IsRun d
+    → (d : RanOp) → In d (ops limit sofar now choice m x items) → IsRun d
 ops_run limit sofar now choice m x [] is d there = absurd there
 ops_run limit sofar now choice m x (i ∷ more) is d there =
     let s = in_room limit sofar now (is_here choice) m x i in
@@ -231,25 +231,25 @@ room_client limit sofar now refused m x i is =
     in_room_is (λ s. s.context.client ≡ x.client) limit sofar now refused m x i refl (step_client m x now refused i is)
 
 ops_client : (limit sofar now : ℕ) (choice : Option ℕ) (m : Machine) (x : Context) (items : List Item) → Is m
-    → (d : Done) → In d (ops limit sofar now choice m x items) → d.context.client ≡ x.client
+    → (d : RanOp) → In d (ops limit sofar now choice m x items) → d.context.client ≡ x.client
 ops_client limit sofar now choice m x [] is d there = absurd there
 ops_client limit sofar now choice m x (i ∷ more) is d there =
     let s = in_room limit sofar now (is_here choice) m x i in
     let next = sofar + length s.outcome.result in
     elim there [
-      | inl here ↦ ap (λ (d : Done). d.context.client) here
+      | inl here ↦ ap (λ (d : RanOp). d.context.client) here
       | inr later ↦ ops_client limit next now (behind_here choice) s.outcome.machine s.context more (whole_room limit sofar now (is_here choice) m x i is) d
           (in_more (is_ok s.outcome.status) d (ops limit next now (behind_here choice) s.outcome.machine s.context more) later)
           ∙ room_client limit sofar now (is_here choice) m x i is
     ]
 
 -- that an event ran an operation: it was run, for the client of the session whose SEQUENCE the event runs behind
-pub record IsRunBy (d : Done) (s : Option Sequence) : Type 0 where
+pub record IsRunBy (d : RanOp) (s : Option Sequence) : Type 0 where
   pub run : IsRun d
   pub of : option_map_or (is_of d.context.client) s false ≡ true
 
 session_run : (m : Machine) (r : Request) (who : Caller) (now : ℕ) (choice : Option ℕ) (s : Sequence) (more : List Item) (v : Sequenced) → Is m
-    → (d : Done) → In d (ops_in m r who now choice s more v) → IsRunBy d (if_runs s v)
+    → (d : RanOp) → In d (ops_in m r who now choice s more v) → IsRunBy d (if_runs s v)
 session_run m r who now choice s more (sequence.Refuses status) is d there = absurd there
 session_run m r who now choice s more (sequence.Repeats reply) is d there = absurd there
 session_run m r who now choice s more (sequence.Runs c) is d there =
@@ -261,12 +261,12 @@ session_run m r who now choice s more (sequence.Runs c) is d there =
     }
 
 first_run : (m : Machine) (r : Request) (who : Caller) (size now : ℕ) (choice : Option ℕ) (items : List Item) → Is m
-    → (d : Done) → In d (ops_of m r who size now choice items) → IsRunBy d (first_runs m r who size items)
+    → (d : RanOp) → In d (ops_of m r who size now choice items) → IsRunBy d (first_runs m r who size items)
 first_run m r who size now choice [] is d there = absurd there
 first_run m r who size now choice (Operation (OpSequence s) ∷ more) is d there = session_run m r who now choice s more (sequenced m r who size s) is d there
 first_run m r who size now choice (item ∷ more) is d there = absurd there
 
-pub event_run : (m : Machine) (e : Event) → Is m → (d : Done) → In d (ops_by m e) → IsRun d × (renews d.context.client m e ≡ true)
+pub event_run : (m : Machine) (e : MachineEvent) → Is m → (d : RanOp) → In d (ops_by m e) → IsRun d × (renews d.context.client m e ≡ true)
 event_run m (Expires now) is d there = absurd there
 event_run m (Asks r who size now choice) is d there = go (eqb r.minor 1) there
   where
@@ -297,18 +297,18 @@ found_open n (k ∷ more) l there number = elim (cases_Bool (k.number == n)) [
   ]
 ]
 
-pub told_state : (d : Done) → IsRun d → Is d.behind → (n : ℕ) (w : Wish) → LocksFor d n w → w.first ≤ w.last
+pub told_state : (d : RanOp) → IsRun d → Is d.behind → (n : ℕ) (w : Wish) → LocksFor d n w → w.first ≤ w.last
     → (opened : ℕ) × (option_map (λ (l : LockState). l.opened) (lock_at d.behind.store.opens n) ≡ Some opened)
 told_state d r behind n w l some =
     let same = as_step d r (Operation (OpLock l.asked)) l.is in
     let t : Table = d.behind.store.opens in
     let now : t.held w.file n w.first ≡ Some w.kind =
-    ap (λ (d : Done). d.behind.store.opens.held w.file n w.first) same
+    ap (λ (d : RanOp). d.behind.store.opens.held w.file n w.first) same
     ∙ lock_holds r.limit r.sofar r.now r.refused d.before d.context l.asked n w.first w r.whole l.wish (omega arith) some
-    (subst (λ (d : Done). Names Num.Lock d.result n) same l.names) in
+    (subst (λ (d : RanOp). Names Num.Lock d.result n) same l.names) in
     let (k, holder) = behind.table.holders w.file n w.first (λ none. let bad : Some w.kind ≡ None = sym now ∙ none in cc) in
     found_open n t.locks k holder.stands holder.number
 
-pub event_state : (m : Machine) (e : Event) → Is m → (d : Done) → In d (ops_by m e) → (n : ℕ) (w : Wish) → LocksFor d n w → w.first ≤ w.last
+pub event_state : (m : Machine) (e : MachineEvent) → Is m → (d : RanOp) → In d (ops_by m e) → (n : ℕ) (w : Wish) → LocksFor d n w → w.first ≤ w.last
     → (opened : ℕ) × (option_map (λ (l : LockState). l.opened) (lock_at d.behind.store.opens n) ≡ Some opened)
 event_state m e is d there = told_state d (event_run m e is d there).0 (event_ops m e is d there).1

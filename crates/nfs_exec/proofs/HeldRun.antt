@@ -12,22 +12,22 @@ use Rattle.nfs_names.specs.State.{State, moment}
 use Rattle.nfs_names.specs.Operation as names
 use Rattle.nfs_names.proofs.Untouched.{leaves_item}
 use Rattle.nfs_files.specs.Operation as files
-use Rattle.nfs_files.specs.Kept.{Told, Stands}
+use Rattle.nfs_files.specs.LockTold.{LockTold, Stands}
 use Rattle.nfs_files.specs.Own.{HasAsBefore}
 use Rattle.nfs_files.proofs.Inside as inside
 use Rattle.nfs_files.proofs.KeptOps.{spared, clashing}
 use Rattle.nfs_exec.specs.Machine.{Machine, is_ok}
 use Rattle.nfs_exec.specs.Behind.{step, on_store, moves_opens, marked_if}
-use Rattle.nfs_exec.specs.Laws.{Event, stepped}
-use Rattle.nfs_exec.specs.Ops.{Done, ops_by}
-use Rattle.nfs_exec.specs.Held.{Spares, AreSpared, StandsBefore, StandsWhile, Tells, renews}
+use Rattle.nfs_exec.specs.Laws.{MachineEvent, stepped}
+use Rattle.nfs_exec.specs.Ops.{RanOp, ops_by}
+use Rattle.nfs_exec.specs.LockHeld.{Spares, AreSpared, StandsBefore, StandsWhile, Tells, renews}
 use Rattle.nfs_exec.proofs.WholeRun.{Is, otherwise_store}
 use Rattle.nfs_exec.proofs.AnsweredRun.{in_room_is, IsRun, did_lock, spared_inside, told_stands, event_run}
 use Rattle.nfs_exec.proofs.OthersRun.{SparesClient}
 use Rattle.nfs_exec.proofs.OneWalk.{IsWalked, event_walked, back_walked, in_back}
 
 -- what others leave
-pub lock_frame : (k : Told) (t u : Table) → HasAsBefore k.client t u → Stands k t → Stands k u
+pub lock_frame : (k : LockTold) (t u : Table) → HasAsBefore k.client t u → Stands k t → Stands k u
 lock_frame k t u own is =
     let p : LockState → Bool = λ l. l.client == k.client in
     let mine : In is.lock (filter p t.locks) = stays_in p t.locks is.lock is.there (eq-eqb is.lock.client k.client is.client) in
@@ -43,10 +43,10 @@ lock_frame k t u own is =
 
 -- One operation.
 
-abbrev Spared : Told → Machine → Context → Item → (ok : Bool) → Type 0
+abbrev Spared : LockTold → Machine → Context → Item → (ok : Bool) → Type 0
 Spared k m x i ok = (op : Op) → i ≡ Operation op → ok ≡ true → inside.Spares k m.store x op
 
-spared_step : (k : Told) (m : Machine) (x : Context) (now : ℕ) (refused : Bool) (i : Item) → Is m → k.first ≤ k.last → Stands k m.store.opens
+spared_step : (k : LockTold) (m : Machine) (x : Context) (now : ℕ) (refused : Bool) (i : Item) → Is m → k.first ≤ k.last → Stands k m.store.opens
     → Spared k m x i (is_ok (step m x now refused i).outcome.status) → Stands k (step m x now refused i).outcome.machine.store.opens
 spared_step k m x now refused i is some stands = elim (cases_Bool (names.on_names i)) [
   | inl on ↦ rw on (λ spares. subst (Stands k) (sym (leaves_item refused m.store x (moment now) i).opens) stands)
@@ -67,20 +67,20 @@ spared_step k m x now refused i is some stands = elim (cases_Bool (names.on_name
     by_files true (Fault n status) spares = stands
     by_files false (Fault n status) spares = stands
 
-lock_behind : (k : Told) → k.first ≤ k.last → (d : Done) → IsRun d → Stands k d.before.store.opens → Spares k d → Stands k d.behind.store.opens
+lock_behind : (k : LockTold) → k.first ≤ k.last → (d : RanOp) → IsRun d → Stands k d.before.store.opens → Spares k d → Stands k d.behind.store.opens
 lock_behind k some d r stands spares =
     let left = in_room_is (λ s. Spared k d.before d.context d.item (is_ok s.outcome.status) → Stands k s.outcome.machine.store.opens)
     r.limit r.sofar r.now r.refused d.before d.context d.item (λ spares. stands) (spared_step k d.before d.context r.now r.refused d.item r.whole some stands) in
-    subst (λ (m : Machine). Stands k m.store.opens) (sym (ap (λ (c : Done). c.behind) r.is))
-    (left (λ op item ok. spared_inside k d r spares op item (ap (λ (c : Done). is_ok c.status) r.is ∙ ok)))
+    subst (λ (m : Machine). Stands k m.store.opens) (sym (ap (λ (c : RanOp). c.behind) r.is))
+    (left (λ op item ok. spared_inside k d r spares op item (ap (λ (c : RanOp). is_ok c.status) r.is ∙ ok)))
 
-before_lock : (k : Told) → k.first ≤ k.last → (d : Done) → IsRun d → Stands k d.before.store.opens → StandsBefore k d
+before_lock : (k : LockTold) → k.first ≤ k.last → (d : RanOp) → IsRun d → Stands k d.before.store.opens → StandsBefore k d
 before_lock k some d r stands = record {
   stands = stands;
   refused = λ n w l clash. clashing k d.before.store d.context (OpLock l.asked) n w r.whole.table some stands (did_lock d r n w l).locks clash;
 }
 
-walked : (k : Told) → k.first ≤ k.last
+walked : (k : LockTold) → k.first ≤ k.last
     → IsWalked k.client (λ (u : Unit {0}) t. Stands k t) (λ u d. StandsBefore k d) (Spares k) (λ u d. u) (λ u ds. StandsWhile k ds) (λ u ds t. Stands k t)
 walked k some = record {
   frame = λ u. lock_frame k;
@@ -93,18 +93,18 @@ walked k some = record {
 
 -- In an event, and from the LOCK on that told it.
 
-pub lock_through : (k : Told) (m : Machine) (e : Event) → Is m → k.first ≤ k.last → Stands k m.store.opens
+pub lock_through : (k : LockTold) (m : Machine) (e : MachineEvent) → Is m → k.first ≤ k.last → Stands k m.store.opens
     → StandsWhile k (ops_by m e) × (AreSpared k (ops_by m e) → SparesClient k.client m e → Stands k (stepped m e).store.opens)
 lock_through k m e is some stands =
     event_walked k.client (λ (u : Unit {0}) t. Stands k t) (λ u d. StandsBefore k d) (Spares k) (λ u d. u) (λ u ds. StandsWhile k ds) (λ u ds t. Stands k t)
     (walked k some) m e is tt stands
 
-pub record IsKeptFrom (k : Told) (m : Machine) (e : Event) (back : List Done) : Type 0 where
+pub record IsKeptFrom (k : LockTold) (m : Machine) (e : MachineEvent) (back : List RanOp) : Type 0 where
   pub within : StandsWhile k back
   pub behind : AreSpared k back → Stands k (stepped m e).store.opens
   pub renewed : renews k.client m e ≡ true
 
-pub told_kept : (k : Told) (m : Machine) (e : Event) (front : List Done) (lock : Done) (back : List Done) → Is m → ops_by m e ≡ front ++ lock ∷ back
+pub told_kept : (k : LockTold) (m : Machine) (e : MachineEvent) (front : List RanOp) (lock : RanOp) (back : List RanOp) → Is m → ops_by m e ≡ front ++ lock ∷ back
     → Tells k lock → IsKeptFrom k m e back
 told_kept k m e front lock back is same tells =
     let run = event_run m e is lock (subst (In lock) (sym same) (in_back lock front (lock ∷ back) (inl refl))) in

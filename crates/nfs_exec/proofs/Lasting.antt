@@ -48,8 +48,8 @@ use Rattle.nfs_exec.specs.Destroy.{destroy_session, destroyed_unless, has_sessio
 use Rattle.nfs_exec.specs.Sequence as sequence
 use Rattle.nfs_exec.specs.Sequence.{Sequenced, sequenced}
 use Rattle.nfs_exec.specs.Compound.{carried_out, by_fault, first_item, renewed, begun, bare, in_session, by_first, compound}
-use Rattle.nfs_exec.specs.Laws.{Event, Expires, Asks}
-use Rattle.nfs_exec.specs.Ops.{Done, ops, ops_in, ops_of, ops_by}
+use Rattle.nfs_exec.specs.Laws.{MachineEvent, Expires, Asks}
+use Rattle.nfs_exec.specs.Ops.{RanOp, ops, ops_in, ops_of, ops_by}
 use Rattle.nfs_exec.proofs.Behind.{follow_kept}
 use Rattle.nfs_exec.proofs.WholeRun.{Is, marked_store, otherwise_store, in_more}
 use Rattle.nfs_exec.proofs.AnsweredRun.{in_room_is, too_big, as_step, IsRun, event_run}
@@ -85,13 +85,13 @@ run_lasts limit sofar now choice m x (i ∷ more) lease is =
     (run_lasts limit next now (behind_here choice) s.outcome.machine s.context more lease one)
 
 ops_last : (limit sofar now : ℕ) (choice : Option ℕ) (m : Machine) (x : Context) (items : List Item) (lease : ℕ) → Lasts lease m
-    → (d : Done) → In d (ops limit sofar now choice m x items) → Lasts lease d.before
+    → (d : RanOp) → In d (ops limit sofar now choice m x items) → Lasts lease d.before
 ops_last limit sofar now choice m x [] lease is d there = absurd there
 ops_last limit sofar now choice m x (i ∷ more) lease is d there =
     let s = in_room limit sofar now (is_here choice) m x i in
     let next = sofar + length s.outcome.result in
     elim there [
-      | inl here ↦ subst (λ (d : Done). Lasts lease d.before) (sym here) is
+      | inl here ↦ subst (λ (d : RanOp). Lasts lease d.before) (sym here) is
       | inr later ↦ ops_last limit next now (behind_here choice) s.outcome.machine s.context more lease (room_lasts limit sofar now (is_here choice) m x i lease is) d
           (in_more (is_ok s.outcome.status) d (ops limit next now (behind_here choice) s.outcome.machine s.context more) later)
     ]
@@ -169,20 +169,20 @@ compound_lasts m r who size now choice lease is = go (eqb r.minor 1)
     go false = is
 
 session_ops : (m : Machine) (r : Request) (who : Caller) (now : ℕ) (choice : Option ℕ) (s : Sequence) (more : List Item) (v : Sequenced) (lease : ℕ)
-    → Lasts lease m → (d : Done) → In d (ops_in m r who now choice s more v) → Lasts lease d.before
+    → Lasts lease m → (d : RanOp) → In d (ops_in m r who now choice s more v) → Lasts lease d.before
 session_ops m r who now choice s more (sequence.Refuses status) lease is d there = absurd there
 session_ops m r who now choice s more (sequence.Repeats reply) lease is d there = absurd there
 session_ops m r who now choice s more (sequence.Runs c) lease is d there =
     ops_last c.response (begun r s c) now (behind_here choice) (renewed m now s) (begins (id_of s.sessionid).client who) more lease is d there
 
 first_ops : (m : Machine) (r : Request) (who : Caller) (size now : ℕ) (choice : Option ℕ) (items : List Item) (lease : ℕ) → Lasts lease m
-    → (d : Done) → In d (ops_of m r who size now choice items) → Lasts lease d.before
+    → (d : RanOp) → In d (ops_of m r who size now choice items) → Lasts lease d.before
 first_ops m r who size now choice [] lease is d there = absurd there
 first_ops m r who size now choice (Operation (OpSequence s) ∷ more) lease is d there =
     session_ops m r who now choice s more (sequenced m r who size s) lease is d there
 first_ops m r who size now choice (item ∷ more) lease is d there = absurd there
 
-event_ops_last : (m : Machine) (e : Event) (lease : ℕ) → Lasts lease m → (d : Done) → In d (ops_by m e) → Lasts lease d.before
+event_ops_last : (m : Machine) (e : MachineEvent) (lease : ℕ) → Lasts lease m → (d : RanOp) → In d (ops_by m e) → Lasts lease d.before
 event_ops_last m (Expires now) lease is d there = absurd there
 event_ops_last m (Asks r who size now choice) lease is d there =
     first_ops m r who size now choice r.left lease is d (in_more (eqb r.minor 1) d (ops_of m r who size now choice r.left) there)
@@ -218,18 +218,18 @@ unfolding get_attr
 lease_result s x = by_current s x (current s x) (not_current s x)
 
 -- a GETATTR of attribute 10 that answered NFS4_OK
-pub lease_told : (d : Done) → IsRun d → (lease : ℕ) → Lasts lease d.before → d.item ≡ Operation (OpGetAttr ten) → is_ok d.status ≡ true
+pub lease_told : (d : RanOp) → IsRun d → (lease : ℕ) → Lasts lease d.before → d.item ≡ Operation (OpGetAttr ten) → is_ok d.status ≡ true
     → d.result ≡ spell_result (ResGetAttr (record { attrmask = ten; attr_vals = number lease }))
 lease_told d r lease lasts item ok =
     let same = as_step d r (Operation (OpGetAttr ten)) item in
     let text : List ℕ = spell_result (ResGetAttr (record { attrmask = ten; attr_vals = number lease })) in
-    ap (λ (d : Done). d.result) same
+    ap (λ (d : RanOp). d.result) same
     ∙ in_room_is (λ s. is_ok s.outcome.status ≡ true → s.outcome.result ≡ text) r.limit r.sofar r.now r.refused d.before d.context (Operation (OpGetAttr ten))
     (λ ok. absurd (too_big d.before d.context (Operation (OpGetAttr ten)) ok))
     (λ ok. ap spell_result (lease_result d.before.store d.context ok)
     ∙ ap (λ (n : ℕ). spell_result (ResGetAttr (record { attrmask = ten; attr_vals = number n }))) lasts)
-    (ap (λ (d : Done). is_ok d.status) (sym same) ∙ ok)
+    (ap (λ (d : RanOp). is_ok d.status) (sym same) ∙ ok)
 
-pub event_told : (m : Machine) (e : Event) (lease : ℕ) → Is m → Lasts lease m → (d : Done) → In d (ops_by m e) → d.item ≡ Operation (OpGetAttr ten)
+pub event_told : (m : Machine) (e : MachineEvent) (lease : ℕ) → Is m → Lasts lease m → (d : RanOp) → In d (ops_by m e) → d.item ≡ Operation (OpGetAttr ten)
     → is_ok d.status ≡ true → d.result ≡ spell_result (ResGetAttr (record { attrmask = ten; attr_vals = number lease }))
 event_told m e lease is lasts d there = lease_told d (event_run m e is d there).0 lease (event_ops_last m e lease lasts d there)

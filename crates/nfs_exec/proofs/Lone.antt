@@ -31,7 +31,7 @@ use Rattle.nfs_exec.specs.ExchangeId.{exchange_id, exchange_id_number}
 use Rattle.nfs_exec.specs.CreateSession.{create_session_number, by_verdict, creates, by_created, confirmed, made_body, wish_of, without_any_opens}
 use Rattle.nfs_exec.specs.Destroy.{destroy_session, destroyed_unless, has_session}
 use Rattle.nfs_exec.specs.Compound.{carried_out, by_fault, first_item}
-use Rattle.nfs_exec.specs.Held.{IsAlone}
+use Rattle.nfs_exec.specs.LockHeld.{IsAlone}
 
 confirms_owner : (n : ℕ) (c : ClientRecord) → (change_at n confirms c).owner ≡ c.owner
 confirms_owner n c = elim (c.id == n) as (λ v. (cond v (confirms c) c).owner ≡ c.owner) [ true ↦ refl | false ↦ refl ]

@@ -57,7 +57,7 @@ use Rattle.nfs_exec.specs.Destroy.{destroy_session, destroyed_unless, has_sessio
 use Rattle.nfs_exec.specs.Sequence as sequence
 use Rattle.nfs_exec.specs.Sequence.{Sequenced, sequenced}
 use Rattle.nfs_exec.specs.Compound.{carried_out, by_fault, first_item, renewed, begun, bare, in_session, by_first, compound}
-use Rattle.nfs_exec.specs.Laws.{Event, Expires, Asks, stepped, all_stepped}
+use Rattle.nfs_exec.specs.Laws.{MachineEvent, Expires, Asks, stepped, all_stepped}
 use Rattle.nfs_exec.specs.OneSession.{asks_of, asks_session, Gives, MakesOne, GivesOne}
 use Rattle.nfs_exec.proofs.Behind.{follow_kept}
 use Rattle.nfs_exec.proofs.Creating.{length_id}
@@ -224,7 +224,7 @@ compound_after n number most body m r who size now choice a = go (eqb r.minor 1)
     go true = items_after n number most body m r who size now choice r.left a
     go false = as_asked n number most body m (asks_of n r.left) a
 
-pub event_after : (n number most : ℕ) (body : List ℕ) (m : Machine) (e : Event) → After n number body most m.clients
+pub event_after : (n number most : ℕ) (body : List ℕ) (m : Machine) (e : MachineEvent) → After n number body most m.clients
     → After n number body (most + cond (asks_session n e) 1 0) (stepped m e).clients
 event_after n number most body m (Expires now) a =
     as_asked n number most body (stepped m (Expires now)) false (after_fewer n number most body m.clients (λ c. not (has_run_out m.leases now c.id)) a)
@@ -331,7 +331,7 @@ none_told id behind long e =
     let head = length_head (op_number Num.CreateSession) Nfs4Ok in
     let both = length-append (done_head Num.CreateSession) (id ++ behind) in absurd (omega arith)
 
-either : (client number : ℕ) (id : List ℕ) (m : Machine) (e : Event) (g : Gives client number id m e)
+either : (client number : ℕ) (id : List ℕ) (m : Machine) (e : MachineEvent) (g : Gives client number id m e)
     → IsEither m g.now g.asked (id ++ g.behind) (stepped m e)
 either client number id m e g =
     subst (λ e. IsEither m g.now g.asked (id ++ g.behind) (stepped m e)) (sym g.is) (by_minor (eqb g.request.minor 1) g.answers)
@@ -356,7 +356,7 @@ either client number id m e g =
 
 -- From the first answer on, and at the second.
 
-pub given_after : (client number : ℕ) (id : List ℕ) (m : Machine) (e : Event) → IsRoster m.clients → (g : Gives client number id m e)
+pub given_after : (client number : ℕ) (id : List ℕ) (m : Machine) (e : MachineEvent) → IsRoster m.clients → (g : Gives client number id m e)
     → After client number (id ++ g.behind) 0 (stepped m e).clients
 given_after client number id m e is g = subst (λ n. After n number (id ++ g.behind) 0 (stepped m e).clients) g.for
     (subst (λ k. After g.asked.clientid k (id ++ g.behind) 0 (stepped m e).clients) g.with (elim (either client number id m e g) [
@@ -369,7 +369,7 @@ given_after client number id m e is g = subst (λ n. After n number (id ++ g.beh
 first_bytes : (a b x y : List ℕ) → length a ≡ 16 → length b ≡ 16 → a ++ x ≡ b ++ y → a ≡ b
 first_bytes a b x y long also e = sym (take_at a x 16 long) ∙ (ap (take 16) e ∙ take_at b y 16 also)
 
-pub given_again : (client number most : ℕ) (id behind other : List ℕ) (m : Machine) (e : Event) → length id ≡ 16 → After client number (id ++ behind) most m.clients
+pub given_again : (client number most : ℕ) (id behind other : List ℕ) (m : Machine) (e : MachineEvent) → length id ≡ 16 → After client number (id ++ behind) most m.clients
     → most < 2 ^ 32 - 1 → Gives client number other m e → (other ≡ id) × (stepped m e ≡ m)
 given_again client number most id behind other m e long after few g =
     let mine : After g.asked.clientid g.asked.sequence (id ++ behind) most m.clients =
@@ -462,7 +462,7 @@ made_one m now c id behind left counted long made =
       ];
     })
 
-pub gives_one : (client number : ℕ) (id : List ℕ) (m : Machine) (e : Event) → IsCounted m.sessions → Gives client number id m e
+pub gives_one : (client number : ℕ) (id : List ℕ) (m : Machine) (e : MachineEvent) → IsCounted m.sessions → Gives client number id m e
     → (stepped m e ≡ m) ⊎ MakesOne id m.sessions (stepped m e).sessions
 gives_one client number id m e counted g = elim (either client number id m e g) [
   | inl repeat ↦ inl repeat.unchanged
@@ -475,7 +475,7 @@ gives_one_in_runs mode instance lease events e client number id g =
     (counted_all (starts mode instance lease) events (λ s there. absurd there)) g
 
 -- behind an answer the next number makes one
-pub given_next : (client number : ℕ) (body other : List ℕ) (m : Machine) (e : Event) → IsCounted m.sessions → After client number body 0 m.clients
+pub given_next : (client number : ℕ) (body other : List ℕ) (m : Machine) (e : MachineEvent) → IsCounted m.sessions → After client number body 0 m.clients
     → Gives client (following number) other m e → MakesOne other m.sessions (stepped m e).sessions
 given_next client number body other m e counted after g = elim (either client (following number) other m e g) [
   | inl repeat ↦ absurd (next_is_new m.clients client number body (results.Done (other ++ g.behind)) after

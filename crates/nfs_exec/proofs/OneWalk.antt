@@ -16,9 +16,9 @@ use Rattle.nfs_exec.specs.Run.{behind_here}
 use Rattle.nfs_exec.specs.Sequence as sequence
 use Rattle.nfs_exec.specs.Sequence.{Sequenced, sequenced}
 use Rattle.nfs_exec.specs.Compound.{bare, renewed, begun, in_session, by_first}
-use Rattle.nfs_exec.specs.Laws.{Event, Expires, Asks, stepped, ran, first_runs, if_runs}
-use Rattle.nfs_exec.specs.Ops.{Done, ops_in, ops_of, ops_by, left_by, AreChained}
-use Rattle.nfs_exec.specs.Held.{is_of}
+use Rattle.nfs_exec.specs.Laws.{MachineEvent, Expires, Asks, stepped, ran, first_runs, if_runs}
+use Rattle.nfs_exec.specs.Ops.{RanOp, ops_in, ops_of, ops_by, left_by, AreChained}
+use Rattle.nfs_exec.specs.LockHeld.{is_of}
 use Rattle.nfs_exec.proofs.OpsRun.{are_run}
 use Rattle.nfs_exec.proofs.WholeRun.{Is}
 use Rattle.nfs_exec.proofs.AnsweredRun.{IsRun, event_run}
@@ -26,13 +26,13 @@ use Rattle.nfs_exec.proofs.OthersRun.{SparesClient, event_apart}
 
 -- An event runs a chain of operations, from its store to the one behind it; or it runs none.
 
-pub record RunsOps (m : Machine) (ds : List Done) (behind : Machine) : Type 0 where
+pub record RunsOps (m : Machine) (ds : List RanOp) (behind : Machine) : Type 0 where
   pub from : Machine
   pub same : from.store ≡ m.store
   pub chained : AreChained from ds
   pub left : behind.store ≡ (left_by from ds).store
 
-abbrev Kind : Machine → List Done → Machine → Option Sequence → Type 0
+abbrev Kind : Machine → List RanOp → Machine → Option Sequence → Type 0
 Kind m ds left run = RunsOps m ds left ⊎ ((ds ≡ []) × (run ≡ None))
 
 session_kind : (m : Machine) (r : Request) (who : Caller) (now : ℕ) (choice : Option ℕ) (s : Sequence) (more : List Item) (v : Sequenced)
@@ -49,7 +49,7 @@ first_kind m r who size now choice [] = inr (refl, refl)
 first_kind m r who size now choice (Operation (OpSequence s) ∷ more) = session_kind m r who now choice s more (sequenced m r who size s)
 first_kind m r who size now choice (item ∷ more) = inr (refl, refl)
 
-event_kind : (m : Machine) (e : Event) → Kind m (ops_by m e) (stepped m e) (ran m e)
+event_kind : (m : Machine) (e : MachineEvent) → Kind m (ops_by m e) (stepped m e) (ran m e)
 event_kind m (Expires now) = inr (refl, refl)
 event_kind m (Asks r who size now choice) = go (eqb r.minor 1)
   where
@@ -58,36 +58,36 @@ event_kind m (Asks r who size now choice) = go (eqb r.minor 1)
     go true = first_kind m r who size now choice r.left
     go false = inr (refl, refl)
 
-pub none_at : (front : List Done) (d : Done) (back : List Done) → [] ≡ front ++ d ∷ back → ⊥
+pub none_at : (front : List RanOp) (d : RanOp) (back : List RanOp) → [] ≡ front ++ d ∷ back → ⊥
 none_at [] d back e = (let bad : [] ≡ d ∷ back = e in absurd cc)
 none_at (f ∷ front) d back e = (let bad : [] ≡ f ∷ (front ++ d ∷ back) = e in absurd cc)
 
-chained_back : (m : Machine) (front : List Done) (d : Done) (back : List Done) → AreChained m (front ++ d ∷ back) → AreChained d.behind back
+chained_back : (m : Machine) (front : List RanOp) (d : RanOp) (back : List RanOp) → AreChained m (front ++ d ∷ back) → AreChained d.behind back
 chained_back m [] d back chained = chained.1
 chained_back m (f ∷ front) d back chained = chained_back f.behind front d back chained.1
 
-left_back : (m : Machine) (front : List Done) (d : Done) (back : List Done) → left_by m (front ++ d ∷ back) ≡ left_by d.behind back
+left_back : (m : Machine) (front : List RanOp) (d : RanOp) (back : List RanOp) → left_by m (front ++ d ∷ back) ≡ left_by d.behind back
 left_back m [] d back = refl
 left_back m (f ∷ front) d back = left_back f.behind front d back
 
-pub in_back : (d : Done) (front back : List Done) → In d back → In d (front ++ back)
+pub in_back : (d : RanOp) (front back : List RanOp) → In d back → In d (front ++ back)
 in_back d [] back there = there
 in_back d (f ∷ front) back there = inr (in_back d front back there)
 
 -- What stands, in a way that operations change: `Before` holds before an operation, and it stands behind one that spares it, in its new way. `While` is
 -- what a list of operations says so, and `Left` what stands behind the list.
-module _ {B : Type 0} (client : ℕ) (Stands : B → Table → Type 0) (Before : B → Done → Type 0) (Spares : Done → Type 0) (behind : B → Done → B)
-    (While : B → List Done → Type 0) (Left : B → List Done → Table → Type 0)
+module _ {B : Type 0} (client : ℕ) (Stands : B → Table → Type 0) (Before : B → RanOp → Type 0) (Spares : RanOp → Type 0) (behind : B → RanOp → B)
+    (While : B → List RanOp → Type 0) (Left : B → List RanOp → Table → Type 0)
   where
     pub record IsWalked : Type 0 where
       pub frame : (b : B) (t u : Table) → HasAsBefore client t u → Stands b t → Stands b u
-      pub step : (b : B) (d : Done) → IsRun d → Stands b d.before.store.opens → Before b d × (Spares d → Stands (behind b d) d.behind.store.opens)
+      pub step : (b : B) (d : RanOp) → IsRun d → Stands b d.before.store.opens → Before b d × (Spares d → Stands (behind b d) d.behind.store.opens)
       pub none : (b : B) → While b []
-      pub some : (b : B) (d : Done) (more : List Done) → Before b d × (Spares d → Stands (behind b d) d.behind.store.opens × While (behind b d) more) → While b (d ∷ more)
+      pub some : (b : B) (d : RanOp) (more : List RanOp) → Before b d × (Spares d → Stands (behind b d) d.behind.store.opens × While (behind b d) more) → While b (d ∷ more)
       pub end : (b : B) (t : Table) → Stands b t → Left b [] t
-      pub on : (b : B) (d : Done) (more : List Done) (t : Table) → Left (behind b d) more t → Left b (d ∷ more) t
+      pub on : (b : B) (d : RanOp) (more : List RanOp) (t : Table) → Left (behind b d) more t → Left b (d ∷ more) t
 
-    walks : IsWalked → (m : Machine) (ds : List Done) → AreChained m ds → ((d : Done) → In d ds → IsRun d) → (b : B) → Stands b m.store.opens → While b ds
+    walks : IsWalked → (m : Machine) (ds : List RanOp) → AreChained m ds → ((d : RanOp) → In d ds → IsRun d) → (b : B) → Stands b m.store.opens → While b ds
     walks w m [] chained runs b stands = w.none b
     walks w m (d ∷ more) chained runs b stands =
         let one = w.step b d (runs d (inl refl)) (subst (λ (m : Machine). Stands b m.store.opens) (sym chained.0) stands) in
@@ -96,7 +96,7 @@ module _ {B : Type 0} (client : ℕ) (Stands : B → Table → Type 0) (Before :
           λ spares. (one.1 spares, walks w d.behind more chained.1 (λ e there. runs e (inr there)) (behind b d) (one.1 spares)),
         )
 
-    ends : IsWalked → (m : Machine) (ds : List Done) → AreChained m ds → ((d : Done) → In d ds → IsRun d) → ((d : Done) → In d ds → Spares d)
+    ends : IsWalked → (m : Machine) (ds : List RanOp) → AreChained m ds → ((d : RanOp) → In d ds → IsRun d) → ((d : RanOp) → In d ds → Spares d)
         → (b : B) → Stands b m.store.opens → Left b ds (left_by m ds).store.opens
     ends w m [] chained runs spared b stands = w.end b m.store.opens stands
     ends w m (d ∷ more) chained runs spared b stands =
@@ -105,12 +105,12 @@ module _ {B : Type 0} (client : ℕ) (Stands : B → Table → Type 0) (Before :
         (ends w d.behind more chained.1 (λ e there. runs e (inr there)) (λ e there. spared e (inr there)) (behind b d) (one.1 (spared d (inl refl))))
 
     -- through an event
-    pub event_walked : IsWalked → (m : Machine) (e : Event) → Is m → (b : B) → Stands b m.store.opens
+    pub event_walked : IsWalked → (m : Machine) (e : MachineEvent) → Is m → (b : B) → Stands b m.store.opens
         → While b (ops_by m e)
-        × (((d : Done) → In d (ops_by m e) → Spares d) → SparesClient client m e → Left b (ops_by m e) (stepped m e).store.opens)
+        × (((d : RanOp) → In d (ops_by m e) → Spares d) → SparesClient client m e → Left b (ops_by m e) (stepped m e).store.opens)
     event_walked w m e is b stands = elim (event_kind m e) [
       | inl runs ↦
-          (let each : (d : Done) → In d (ops_by m e) → IsRun d = λ d there. (event_run m e is d there).0 in
+          (let each : (d : RanOp) → In d (ops_by m e) → IsRun d = λ d there. (event_run m e is d there).0 in
           let here : Stands b runs.from.store.opens = subst (λ s. Stands b s.opens) (sym runs.same) stands in (
             walks w runs.from (ops_by m e) runs.chained each b here,
             λ spared alone. subst (λ s. Left b (ops_by m e) s.opens) (sym runs.left) (ends w runs.from (ops_by m e) runs.chained each spared b here),
@@ -124,13 +124,13 @@ module _ {B : Type 0} (client : ℕ) (Stands : B → Table → Type 0) (Before :
     ]
 
     -- and through what is behind an operation of it
-    pub back_walked : IsWalked → (m : Machine) (e : Event) (front : List Done) (d : Done) (back : List Done) → Is m → ops_by m e ≡ front ++ d ∷ back
+    pub back_walked : IsWalked → (m : Machine) (e : MachineEvent) (front : List RanOp) (d : RanOp) (back : List RanOp) → Is m → ops_by m e ≡ front ++ d ∷ back
         → (b : B) → Stands b d.behind.store.opens
-        → While b back × (((d : Done) → In d back → Spares d) → Left b back (stepped m e).store.opens)
+        → While b back × (((d : RanOp) → In d back → Spares d) → Left b back (stepped m e).store.opens)
     back_walked w m e front d back is same b stands = elim (event_kind m e) [
       | inl runs ↦
           (let chained = chained_back runs.from front d back (subst (AreChained runs.from) same runs.chained) in
-          let each : (c : Done) → In c back → IsRun c =
+          let each : (c : RanOp) → In c back → IsRun c =
           λ c there. (event_run m e is c (subst (In c) (sym same) (in_back c front (d ∷ back) (inr there)))).0 in (
             walks w d.behind back chained each b stands,
             λ spared. subst (λ s. Left b back s.opens)

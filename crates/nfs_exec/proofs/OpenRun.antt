@@ -30,9 +30,9 @@ use Rattle.nfs_files.proofs.ToldOpens.{same_opens, short_names_none, told_open_l
 use Rattle.nfs_exec.specs.Machine.{Machine, is_ok}
 use Rattle.nfs_exec.specs.Behind.{Step, step, on_store, moves_opens, marked_if, otherwise}
 use Rattle.nfs_exec.specs.Run.{in_room}
-use Rattle.nfs_exec.specs.Laws.{Event, stepped}
-use Rattle.nfs_exec.specs.Ops.{Done, ops_by}
-use Rattle.nfs_exec.specs.Held.{ClosesOf, renews}
+use Rattle.nfs_exec.specs.Laws.{MachineEvent, stepped}
+use Rattle.nfs_exec.specs.Ops.{RanOp, ops_by}
+use Rattle.nfs_exec.specs.LockHeld.{ClosesOf, renews}
 use Rattle.nfs_exec.specs.OpenHeld.{IsOpenBefore, OpenWhile, NoneCloses, bits_left, TellsOpen}
 use Rattle.nfs_exec.proofs.WholeRun.{Is, otherwise_store}
 use Rattle.nfs_exec.proofs.AnsweredRun.{in_room_is, IsRun, as_step, told_close, event_run}
@@ -126,24 +126,24 @@ open_refused k b limit sofar now refused m x a n is stands =
     (λ named leads e. true≢false (sym named ∙ short_names_none Num.Open (op_number Num.Open) RepTooBig n))
     (λ named leads e. opens_refused k b refused m.store x (moment now) a n is.table is.few stands named leads e)
 
-before_open : (k : OpenTold) (b : Bits) (d : Done) → IsRun d → IsOpenWith k b d.before.store.opens → IsOpenBefore k b d
+before_open : (k : OpenTold) (b : Bits) (d : RanOp) → IsRun d → IsOpenWith k b d.before.store.opens → IsOpenBefore k b d
 before_open k b d r stands = record {
   stands = stands;
   refused = λ n o e.
       (let same = as_step d r (Operation (OpOpen o.asked)) o.is in
       open_refused k b r.limit r.sofar r.now r.refused d.before d.context o.asked n r.whole stands
-      (subst (λ (c : Done). names_open Num.Open c.result n ≡ true) same o.names)
-      (subst (λ (c : Done). claimed c.behind.store.tree d.context o.asked.claim ≡ Some k.file) same o.leads) e);
+      (subst (λ (c : RanOp). names_open Num.Open c.result n ≡ true) same o.names)
+      (subst (λ (c : RanOp). claimed c.behind.store.tree d.context o.asked.claim ≡ Some k.file) same o.leads) e);
 }
 
-open_behind : (k : OpenTold) (b : Bits) (d : Done) → IsRun d → IsOpenWith k b d.before.store.opens → (ClosesOf d k.number → ⊥)
+open_behind : (k : OpenTold) (b : Bits) (d : RanOp) → IsRun d → IsOpenWith k b d.before.store.opens → (ClosesOf d k.number → ⊥)
     → IsOpenWith k (bits_behind k.number d.item d.result b) d.behind.store.opens
 open_behind k b d r stands spares =
     let s = in_room r.limit r.sofar r.now r.refused d.before d.context d.item in
     let left : StandsBehind k b d.item s = room_left k b r.limit r.sofar r.now r.refused d.before d.context d.item r.whole stands (λ op item ok n closes mine.
-    spares (subst (ClosesOf d) mine (told_close d r op n item (ap (λ (c : Done). is_ok c.status) r.is ∙ ok) closes))) in
-    subst (λ text. IsOpenWith k (bits_behind k.number d.item text b) d.behind.store.opens) (sym (ap (λ (c : Done). c.result) r.is))
-    (subst (λ (m : Machine). IsOpenWith k (bits_behind k.number d.item s.outcome.result b) m.store.opens) (sym (ap (λ (c : Done). c.behind) r.is)) left)
+    spares (subst (ClosesOf d) mine (told_close d r op n item (ap (λ (c : RanOp). is_ok c.status) r.is ∙ ok) closes))) in
+    subst (λ text. IsOpenWith k (bits_behind k.number d.item text b) d.behind.store.opens) (sym (ap (λ (c : RanOp). c.result) r.is))
+    (subst (λ (m : Machine). IsOpenWith k (bits_behind k.number d.item s.outcome.result b) m.store.opens) (sym (ap (λ (c : RanOp). c.behind) r.is)) left)
 
 walked : (k : OpenTold)
     → IsWalked k.client (IsOpenWith k) (IsOpenBefore k) (λ d. ClosesOf d k.number → ⊥) (λ b d. bits_behind k.number d.item d.result b) (OpenWhile k)
@@ -159,7 +159,7 @@ walked k = record {
 
 -- In an event.
 
-pub open_through : (k : OpenTold) (b : Bits) (m : Machine) (e : Event) → Is m → IsOpenWith k b m.store.opens
+pub open_through : (k : OpenTold) (b : Bits) (m : Machine) (e : MachineEvent) → Is m → IsOpenWith k b m.store.opens
     → OpenWhile k b (ops_by m e)
     × (NoneCloses k (ops_by m e) → SparesClient k.client m e → IsOpenWith k (bits_left k.number b (ops_by m e)) (stepped m e).store.opens)
 open_through k b m e is stands =
@@ -180,15 +180,15 @@ opens_told limit sofar now refused m x a n is =
     (λ named. absurd (true≢false (sym named ∙ short_names_none Num.Open (op_number Num.Open) RepTooBig n)))
     (λ named. told_opens refused m.store x (moment now) a n is.table is.few named)
 
-run_told : (d : Done) → IsRun d → (a : Open) (n : ℕ) → d.item ≡ Operation (OpOpen a) → names_open Num.Open d.result n ≡ true
+run_told : (d : RanOp) → IsRun d → (a : Open) (n : ℕ) → d.item ≡ Operation (OpOpen a) → names_open Num.Open d.result n ≡ true
     → (file : ℕ) × IsToldOpen d.before.store d.context a n d.behind.store file
 run_told d r a n item named =
     let same = as_step d r (Operation (OpOpen a)) item in
     let (file, told) = opens_told r.limit r.sofar r.now r.refused d.before d.context a n r.whole
-    (subst (λ (c : Done). names_open Num.Open c.result n ≡ true) same named) in
-    (file, subst (λ (c : Done). IsToldOpen d.before.store d.context a n c.behind.store file) (sym same) told)
+    (subst (λ (c : RanOp). names_open Num.Open c.result n ≡ true) same named) in
+    (file, subst (λ (c : RanOp). IsToldOpen d.before.store d.context a n c.behind.store file) (sym same) told)
 
-told_stands : (k : OpenTold) (b : Bits) (d : Done) → IsRun d → TellsOpen k b d → IsOpenWith k b d.behind.store.opens
+told_stands : (k : OpenTold) (b : Bits) (d : RanOp) → IsRun d → TellsOpen k b d → IsOpenWith k b d.behind.store.opens
 told_stands k b d r tells =
     let o = tells.opens in
     let (file, told) = run_told d r o.asked k.number o.is o.names in
@@ -208,12 +208,12 @@ told_stands k b d r tells =
       deny = is.deny ∙ ap (λ (c : Bits). c.deny) bits;
     }
 
-pub record IsOpenFrom (k : OpenTold) (b : Bits) (m : Machine) (e : Event) (back : List Done) : Type 0 where
+pub record IsOpenFrom (k : OpenTold) (b : Bits) (m : Machine) (e : MachineEvent) (back : List RanOp) : Type 0 where
   pub within : OpenWhile k b back
   pub behind : NoneCloses k back → IsOpenWith k (bits_left k.number b back) (stepped m e).store.opens
   pub renewed : renews k.client m e ≡ true
 
-pub told_open : (k : OpenTold) (b : Bits) (m : Machine) (e : Event) (front : List Done) (told : Done) (back : List Done) → Is m
+pub told_open : (k : OpenTold) (b : Bits) (m : Machine) (e : MachineEvent) (front : List RanOp) (told : RanOp) (back : List RanOp) → Is m
     → ops_by m e ≡ front ++ told ∷ back → TellsOpen k b told → IsOpenFrom k b m e back
 told_open k b m e front told back is same tells =
     let run = event_run m e is told (subst (In told) (sym same) (in_back told front (told ∷ back) (inl refl))) in
@@ -221,7 +221,7 @@ told_open k b m e front told back is same tells =
     (λ b ds t. IsOpenWith k (bits_left k.number b ds) t) (walked k) m e front told back is same b (told_stands k b told run.0 tells) in
     record { within = kept.0; behind = kept.1; renewed = subst (λ client. renews client m e ≡ true) (sym tells.client) run.1 }
 
-pub each_tells : (m : Machine) (e : Event) (d : Done) (a : Open) (n : ℕ) → Is m → In d (ops_by m e) → d.item ≡ Operation (OpOpen a)
+pub each_tells : (m : Machine) (e : MachineEvent) (d : RanOp) (a : Open) (n : ℕ) → Is m → In d (ops_by m e) → d.item ≡ Operation (OpOpen a)
     → names_open Num.Open d.result n ≡ true
     → (k : OpenTold) × (b : Bits) × (k.number ≡ n) × TellsOpen k b d
 each_tells m e d a n is there item named =

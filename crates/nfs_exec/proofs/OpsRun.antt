@@ -19,9 +19,9 @@ use Rattle.nfs_exec.specs.Compound.{bare, begun, renewed, run_in, in_session, by
 use Rattle.nfs_exec.specs.Laws.{if_runs, first_runs}
 use Rattle.nfs_names.specs.Context.{begins}
 use Rattle.nfs_sessions.specs.Id.{id_of}
-use Rattle.nfs_exec.specs.Ops.{Done, done, ops, ops_in, ops_of, last_status, results_of, IsRunOf, OpsAreRun, OpsAreRunIn, AnswersAreTheirs}
+use Rattle.nfs_exec.specs.Ops.{RanOp, done, ops, ops_in, ops_of, last_status, results_of, IsRunOf, OpsAreRun, OpsAreRunIn, AnswersAreTheirs}
 
-followed : (m : Machine) (x : Context) (item : Item) (items : List Item) (s : Step) (rest : Ran) (more : List Done) → IsRunOf s.outcome.machine items rest more
+followed : (m : Machine) (x : Context) (item : Item) (items : List Item) (s : Step) (rest : Ran) (more : List RanOp) → IsRunOf s.outcome.machine items rest more
     → (b : Bool) → is_ok s.outcome.status ≡ b → IsRunOf m (item ∷ items) (follow s.outcome rest) (done m x item s ∷ cond b more [])
 followed m x item items s rest more is true ok = rw ok (record {
   machine = is.machine;
@@ -55,7 +55,7 @@ are_run_in m r who now choice s c more =
 
 -- The answer is theirs.
 
-abbrev IsTheirs : Request → Sequence → Channel → List Done → List ℕ → Type 0
+abbrev IsTheirs : Request → Sequence → Channel → List RanOp → List ℕ → Type 0
 IsTheirs r s c ds text =
     text ≡ spell_compound_head (last_status ds) r.tag (suc (length ds)) ++ (spell_result (ResSequence (accepted s c)) ++ results_of ds)
 

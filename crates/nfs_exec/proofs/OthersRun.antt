@@ -18,8 +18,8 @@ use Rattle.nfs_exec.specs.Run.{is_here, behind_here}
 use Rattle.nfs_exec.specs.Sequence as sequence
 use Rattle.nfs_exec.specs.Sequence.{Sequenced, sequenced}
 use Rattle.nfs_exec.specs.Compound.{bare, renewed, begun, in_session, by_first, compound}
-use Rattle.nfs_exec.specs.Laws.{Event, Expires, Asks, stepped, first_runs, if_runs}
-use Rattle.nfs_exec.specs.Held.{is_of, IsAlone, renews}
+use Rattle.nfs_exec.specs.Laws.{MachineEvent, Expires, Asks, stepped, first_runs, if_runs}
+use Rattle.nfs_exec.specs.LockHeld.{is_of, IsAlone, renews}
 use Rattle.nfs_files.specs.Own.{HasAsBefore}
 use Rattle.nfs_exec.proofs.Lone.{HoldsForOthers, holds_alone}
 use Rattle.nfs_files.proofs.OthersTables.{same, both, clients_gone}
@@ -61,11 +61,11 @@ compound_apart c m r who size now choice is = go (eqb r.minor 1)
     go false other alone = same c m.store.opens
 
 -- An event leaves a client: its lease has not run out, and its owner is confirmed under no other id.
-abbrev pub SparesClient : ℕ → Machine → Event → Type 0
+abbrev pub SparesClient : ℕ → Machine → MachineEvent → Type 0
 SparesClient client m (Expires now) = has_run_out m.leases now client ≡ false
 SparesClient client m (Asks r who size now choice) = IsAlone client m (stepped m (Asks r who size now choice))
 
 -- what runs in no session of the client, and neither ends it nor confirms its owner anew
-pub event_apart : (c : ℕ) (m : Machine) (e : Event) → Is m → renews c m e ≡ false → SparesClient c m e → HasAsBefore c m.store.opens (stepped m e).store.opens
+pub event_apart : (c : ℕ) (m : Machine) (e : MachineEvent) → Is m → renews c m e ≡ false → SparesClient c m e → HasAsBefore c m.store.opens (stepped m e).store.opens
 event_apart c m (Expires now) is other client = clients_gone c m.store.opens (λ n. not (has_run_out m.leases now n)) (ap not client)
 event_apart c m (Asks r who size now choice) is other client = compound_apart c m r who size now choice is other client

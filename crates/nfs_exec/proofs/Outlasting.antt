@@ -34,7 +34,7 @@ use Rattle.nfs_exec.specs.Sequence.{Sequenced, sequenced}
 use Rattle.nfs_exec.specs.Run.{is_here, behind_here}
 use Rattle.nfs_exec.specs.Compound.{carried_out, by_fault, first_item, renewed, begun, bare, in_session, by_first, compound}
 use Rattle.nfs_exec.specs.Laws.{Asks, first_runs, if_runs}
-use Rattle.nfs_exec.specs.Held.{is_of}
+use Rattle.nfs_exec.specs.LockHeld.{is_of}
 use Rattle.nfs_exec.specs.Renewing.{adds, is_for, renews_alone, renews_or_begins}
 use Rattle.nfs_exec.proofs.Behind.{run_leases}
 

@@ -59,8 +59,8 @@ use Rattle.nfs_exec.specs.Sequence as sequence
 use Rattle.nfs_exec.specs.Sequence.{Sequenced, sequenced}
 use Rattle.nfs_exec.specs.Compound.{carried_out, by_fault, first_item, bare, renewed, begun, in_session, by_first}
 use Rattle.nfs_exec.specs.Delayed.{NothingDelays}
-use Rattle.nfs_exec.specs.Laws.{Event, Expires, Asks, stepped, all_stepped}
-use Rattle.nfs_exec.specs.Ops.{Done, ops, ops_in, ops_of}
+use Rattle.nfs_exec.specs.Laws.{MachineEvent, Expires, Asks, stepped, all_stepped}
+use Rattle.nfs_exec.specs.Ops.{RanOp, ops, ops_in, ops_of}
 use Rattle.nfs_exec.proofs.Behind.{IsKept, kept_run}
 use Rattle.nfs_exec.proofs.WholeRun.{in_more}
 use Rattle.nfs_files.proofs.Prompt.{IsPrompt, all_pass, first_passes, not_true, first_prompt, current_prompt, names_prompt}
@@ -122,26 +122,26 @@ item_prompt : (limit sofar now : ℕ) (m : Machine) (x : Context) (i : Item) (op
 item_prompt limit sofar now m x i op is =
     subst (λ (j : Item). is_delay (in_room limit sofar now false m x j).outcome.status ≡ false) (sym is) (room_prompt limit sofar now m x op)
 
-ops_prompt : (limit sofar now : ℕ) (m : Machine) (x : Context) (items : List Item) (d : Done) (op : Op) → In d (ops limit sofar now None m x items)
+ops_prompt : (limit sofar now : ℕ) (m : Machine) (x : Context) (items : List Item) (d : RanOp) (op : Op) → In d (ops limit sofar now None m x items)
     → d.item ≡ Operation op → is_delay d.status ≡ false
 ops_prompt limit sofar now m x [] d op there is = absurd there
 ops_prompt limit sofar now m x (i ∷ more) d op there is =
     let s = in_room limit sofar now false m x i in
     let next = sofar + length s.outcome.result in
     elim there [
-      | inl here ↦ ap (λ (d : Done). is_delay d.status) here ∙ item_prompt limit sofar now m x i op (sym (ap (λ (d : Done). d.item) here) ∙ is)
+      | inl here ↦ ap (λ (d : RanOp). is_delay d.status) here ∙ item_prompt limit sofar now m x i op (sym (ap (λ (d : RanOp). d.item) here) ∙ is)
       | inr later ↦ ops_prompt limit next now s.outcome.machine s.context more d op
           (in_more (is_ok s.outcome.status) d (ops limit next now None s.outcome.machine s.context more) later) is
     ]
 
-session_prompt : (m : Machine) (r : Request) (who : Caller) (now : ℕ) (s : Sequence) (more : List Item) (v : Sequenced) (d : Done) (op : Op)
+session_prompt : (m : Machine) (r : Request) (who : Caller) (now : ℕ) (s : Sequence) (more : List Item) (v : Sequenced) (d : RanOp) (op : Op)
     → In d (ops_in m r who now None s more v) → d.item ≡ Operation op → is_delay d.status ≡ false
 session_prompt m r who now s more (sequence.Refuses status) d op there is = absurd there
 session_prompt m r who now s more (sequence.Repeats reply) d op there is = absurd there
 session_prompt m r who now s more (sequence.Runs c) d op there is =
     ops_prompt c.response (begun r s c) now (renewed m now s) (begins (id_of s.sessionid).client who) more d op there is
 
-first_ops_prompt : (m : Machine) (r : Request) (who : Caller) (size now : ℕ) (items : List Item) (d : Done) (op : Op)
+first_ops_prompt : (m : Machine) (r : Request) (who : Caller) (size now : ℕ) (items : List Item) (d : RanOp) (op : Op)
     → In d (ops_of m r who size now None items) → d.item ≡ Operation op → is_delay d.status ≡ false
 first_ops_prompt m r who size now [] d op there is = absurd there
 first_ops_prompt m r who size now (Operation (OpSequence s) ∷ more) d op there is = session_prompt m r who now s more (sequenced m r who size s) d op there is
@@ -399,7 +399,7 @@ calm_items m r who size now choice [] calm = calm
 calm_items m r who size now choice (Operation (OpSequence s) ∷ more) calm = calm_session_run m r who now choice s more (sequenced m r who size s) calm
 calm_items m r who size now choice (item ∷ more) calm = calm_first m r.declared who now (is_here choice) item calm
 
-calm_event : (m : Machine) (e : Event) → AreCalm m.clients → AreCalm (stepped m e).clients
+calm_event : (m : Machine) (e : MachineEvent) → AreCalm m.clients → AreCalm (stepped m e).clients
 calm_event m (Expires now) calm = calm_filtered m.clients (λ c. not (has_run_out m.leases now c.id)) calm
 calm_event m (Asks r who size now choice) calm = go (eqb r.minor 1)
   where
@@ -407,7 +407,7 @@ calm_event m (Asks r who size now choice) calm = go (eqb r.minor 1)
     go true = calm_items m r who size now choice r.left calm
     go false = calm
 
-calm_events : (m : Machine) (events : List Event) → AreCalm m.clients → AreCalm (all_stepped m events).clients
+calm_events : (m : Machine) (events : List MachineEvent) → AreCalm m.clients → AreCalm (all_stepped m events).clients
 calm_events m [] calm = calm
 calm_events m (e ∷ more) calm = calm_events (stepped m e) more (calm_event m e calm)
 

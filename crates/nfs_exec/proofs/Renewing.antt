@@ -18,7 +18,7 @@ use Rattle.nfs_exec.specs.Sequence as sequence
 use Rattle.nfs_exec.specs.Sequence.{Sequenced, sequenced}
 use Rattle.nfs_exec.specs.Compound.{bare, renewed, begun, in_session, by_first, compound}
 use Rattle.nfs_exec.specs.Laws.{Asks, first_runs, if_runs}
-use Rattle.nfs_exec.specs.Held.{is_of, renews}
+use Rattle.nfs_exec.specs.LockHeld.{is_of, renews}
 use Rattle.nfs_exec.proofs.Behind.{run_leases}
 use Rattle.nfs_exec.proofs.Latest.{IsHeld, compound_held}
 

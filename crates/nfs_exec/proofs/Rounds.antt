@@ -9,17 +9,17 @@ use Rattle.nfs_sessions.specs.Sessions.{SessionTable}
 use Rattle.nfs_lease.specs.Renewals.{has_run_out}
 use Rattle.nfs_exec.specs.Machine.{Machine, starts}
 use Rattle.nfs_exec.specs.Compound.{compound}
-use Rattle.nfs_exec.specs.Laws.{Event, Expires, Asks, stepped, all_stepped, ran, is_on, runs_on, NeverRunsAgain}
+use Rattle.nfs_exec.specs.Laws.{MachineEvent, Expires, Asks, stepped, all_stepped, ran, is_on, runs_on, NeverRunsAgain}
 use Rattle.nfs_exec.proofs.Numbering.{IsHeld, IsKept, IsCounted, IsLast, held_counted, held_last, counted_kept, last_first, last_kept, runs_again}
 use Rattle.nfs_exec.proofs.Quiet.{quiet_compound, told_compound}
 
 -- What an event did: behind no request sessions are made and end; behind one that ran its number was fresh, and is kept.
 
-quiet : (P : SessionTable → Type 0) → IsHeld P → (m : Machine) (e : Event) → ran m e ≡ None → P m.sessions → P (stepped m e).sessions
+quiet : (P : SessionTable → Type 0) → IsHeld P → (m : Machine) (e : MachineEvent) → ran m e ≡ None → P m.sessions → P (stepped m e).sessions
 quiet P held m (Expires now) none is = held.fewer m.sessions (λ s. not (has_run_out m.leases now s.client)) is
 quiet P held m (Asks r who size now choice) none is = quiet_compound P held m r who size now choice none is
 
-kept : (m : Machine) (e : Event) (t : Sequence) → ran m e ≡ Some t → IsKept m.sessions (stepped m e).sessions t
+kept : (m : Machine) (e : MachineEvent) (t : Sequence) → ran m e ≡ Some t → IsKept m.sessions (stepped m e).sessions t
 kept m (Expires now) t runs = absurd cc
 kept m (Asks r who size now choice) t runs =
     let told = told_compound m r who size now choice t runs in
@@ -35,18 +35,18 @@ kept m (Asks r who size now choice) t runs =
 
 -- One event, and all.
 
-pub counted_step : (m : Machine) (e : Event) → IsCounted m.sessions → IsCounted (stepped m e).sessions
+pub counted_step : (m : Machine) (e : MachineEvent) → IsCounted m.sessions → IsCounted (stepped m e).sessions
 counted_step m e is = go (ran m e) refl
   where
     go : (o : Option Sequence) → ran m e ≡ o → IsCounted (stepped m e).sessions
     go None none = quiet IsCounted held_counted m e none is
     go (Some s) runs = counted_kept m.sessions (stepped m e).sessions s (kept m e s runs) is
 
-pub counted_all : (m : Machine) (events : List Event) → IsCounted m.sessions → IsCounted (all_stepped m events).sessions
+pub counted_all : (m : Machine) (events : List MachineEvent) → IsCounted m.sessions → IsCounted (all_stepped m events).sessions
 counted_all m [] is = is
 counted_all m (e ∷ more) is = counted_all (stepped m e) more (counted_step m e is)
 
-last_step : (id : SessionId) (slot n : ℕ) (m : Machine) (e : Event) → IsLast id slot n m.sessions
+last_step : (id : SessionId) (slot n : ℕ) (m : Machine) (e : MachineEvent) → IsLast id slot n m.sessions
     → IsLast id slot (n + cond (option_map_or (is_on id slot) (ran m e) false) 1 0) (stepped m e).sessions
 last_step id slot n m e is = go (ran m e) refl
   where
@@ -54,7 +54,7 @@ last_step id slot n m e is = go (ran m e) refl
     go None none = subst (λ k. IsLast id slot k (stepped m e).sessions) (omega arith) (quiet (IsLast id slot n) (held_last id slot n) m e none is)
     go (Some s) runs = last_kept id slot n m.sessions (stepped m e).sessions s (kept m e s runs) is
 
-last_all : (id : SessionId) (slot n : ℕ) (m : Machine) (events : List Event) → IsLast id slot n m.sessions
+last_all : (id : SessionId) (slot n : ℕ) (m : Machine) (events : List MachineEvent) → IsLast id slot n m.sessions
     → IsLast id slot (n + runs_on id slot m events) (all_stepped m events).sessions
 last_all id slot n m [] is = subst (λ k. IsLast id slot k m.sessions) (omega arith) is
 last_all id slot n m (e ∷ more) is =
@@ -77,5 +77,5 @@ never_runs_again m first between again s t reached runs runs_too same =
     let there : IsLast (id_of t.sessionid) t.slotid q last.sessions = subst (λ i. IsLast i t.slotid q last.sessions) same.session slots in
     runs_again last.sessions (stepped last again).sessions t s.sequenceid count (kept last again t runs_too) there (sym same.number)
   where
-    from_start : (mode instance lease : ℕ) (events : List Event) → IsCounted (all_stepped (starts mode instance lease) events).sessions
+    from_start : (mode instance lease : ℕ) (events : List MachineEvent) → IsCounted (all_stepped (starts mode instance lease) events).sessions
     from_start mode instance lease events = counted_all (starts mode instance lease) events (λ s there. absurd there)

@@ -48,9 +48,9 @@ use Rattle.nfs_exec.specs.Destroy.{destroy_session, destroyed_unless, has_sessio
 use Rattle.nfs_exec.specs.Sequence as sequence
 use Rattle.nfs_exec.specs.Sequence.{Sequenced, sequenced}
 use Rattle.nfs_exec.specs.Compound.{carried_out, by_fault, first_item, renewed, begun, in_session, by_first, compound}
-use Rattle.nfs_exec.specs.Laws.{Event, Expires, Asks, stepped, all_stepped}
+use Rattle.nfs_exec.specs.Laws.{MachineEvent, Expires, Asks, stepped, all_stepped}
 use Rattle.nfs_exec.proofs.Behind.{follow_kept}
-use Rattle.nfs_exec.specs.Ops.{Done, ops, ops_in, ops_of, ops_by}
+use Rattle.nfs_exec.specs.Ops.{RanOp, ops, ops_in, ops_of, ops_by}
 use Rattle.nfs_exec.specs.Runs.{NoneInRuns}
 use Rattle.nfs_files.proofs.TreeSteps.{tree_names}
 use Rattle.nfs_files.proofs.TreeFiles.{IsWhole, tree_files, tree_ended, tree_new}
@@ -128,15 +128,15 @@ whole_run limit sofar now choice m x (i ∷ more) is =
     follow_kept Is s.outcome (run limit (sofar + length s.outcome.result) now (behind_here choice) s.outcome.machine s.context more) one
     (whole_run limit (sofar + length s.outcome.result) now (behind_here choice) s.outcome.machine s.context more one)
 
-abbrev Around : Done → Type 0
+abbrev Around : RanOp → Type 0
 Around d = Is d.before × Is d.behind
 
-pub in_more : (b : Bool) (d : Done) (xs : List Done) → In d (cond b xs []) → In d xs
+pub in_more : (b : Bool) (d : RanOp) (xs : List RanOp) → In d (cond b xs []) → In d xs
 in_more true d xs there = there
 in_more false d xs there = absurd there
 
 pub whole_ops : (limit sofar now : ℕ) (choice : Option ℕ) (m : Machine) (x : Context) (items : List Item) → Is m
-    → (d : Done) → In d (ops limit sofar now choice m x items) → Around d
+    → (d : RanOp) → In d (ops limit sofar now choice m x items) → Around d
 whole_ops limit sofar now choice m x [] is d there = absurd there
 whole_ops limit sofar now choice m x (i ∷ more) is d there =
     let s = in_room limit sofar now (is_here choice) m x i in
@@ -217,29 +217,29 @@ whole_compound m r who size now choice is = elim (cases_Bool (eqb r.minor 1)) [
 ]
 
 session_ops : (m : Machine) (r : Request) (who : Caller) (now : ℕ) (choice : Option ℕ) (s : Sequence) (more : List Item) (v : Sequenced) → Is m
-    → (d : Done) → In d (ops_in m r who now choice s more v) → Around d
+    → (d : RanOp) → In d (ops_in m r who now choice s more v) → Around d
 session_ops m r who now choice s more (sequence.Refuses status) is d there = absurd there
 session_ops m r who now choice s more (sequence.Repeats reply) is d there = absurd there
 session_ops m r who now choice s more (sequence.Runs c) is d there =
     whole_ops c.response (begun r s c) now (behind_here choice) (renewed m now s) (begins (id_of s.sessionid).client who) more is d there
 
 first_ops : (m : Machine) (r : Request) (who : Caller) (size now : ℕ) (choice : Option ℕ) (items : List Item) → Is m
-    → (d : Done) → In d (ops_of m r who size now choice items) → Around d
+    → (d : RanOp) → In d (ops_of m r who size now choice items) → Around d
 first_ops m r who size now choice [] is d there = absurd there
 first_ops m r who size now choice (Operation (OpSequence s) ∷ more) is d there =
     session_ops m r who now choice s more (sequenced m r who size s) is d there
 first_ops m r who size now choice (item ∷ more) is d there = absurd there
 
-pub event_ops : (m : Machine) (e : Event) → Is m → (d : Done) → In d (ops_by m e) → Around d
+pub event_ops : (m : Machine) (e : MachineEvent) → Is m → (d : RanOp) → In d (ops_by m e) → Around d
 event_ops m (Expires now) is d there = absurd there
 event_ops m (Asks r who size now choice) is d there =
     first_ops m r who size now choice r.left is d (in_more (eqb r.minor 1) d (ops_of m r who size now choice r.left) there)
 
-pub whole_event : (m : Machine) (e : Event) → Is m → Is (stepped m e)
+pub whole_event : (m : Machine) (e : MachineEvent) → Is m → Is (stepped m e)
 whole_event m (Expires now) is = whole_ended (λ client. not (has_run_out m.leases now client)) m.store is
 whole_event m (Asks r who size now choice) is = whole_compound m r who size now choice is
 
-pub whole_events : (m : Machine) (events : List Event) → Is m → Is (all_stepped m events)
+pub whole_events : (m : Machine) (events : List MachineEvent) → Is m → Is (all_stepped m events)
 whole_events m [] is = is
 whole_events m (e ∷ more) is = whole_events (stepped m e) more (whole_event m e is)
 

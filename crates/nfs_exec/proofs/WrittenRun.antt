@@ -46,9 +46,9 @@ use Rattle.nfs_exec.specs.Run.{in_room, is_here, behind_here}
 use Rattle.nfs_exec.specs.Sequence as sequence
 use Rattle.nfs_exec.specs.Sequence.{Sequenced, sequenced}
 use Rattle.nfs_exec.specs.Compound.{first_item, renewed, begun, bare, in_session, by_first, compound}
-use Rattle.nfs_exec.specs.Laws.{Event, Expires, Asks, stepped, all_stepped}
-use Rattle.nfs_exec.specs.Ops.{Done, done, ops, ops_in, ops_of, ops_by, left_by, AreChained}
-use Rattle.nfs_exec.specs.Held.{IsAlone}
+use Rattle.nfs_exec.specs.Laws.{MachineEvent, Expires, Asks, stepped, all_stepped}
+use Rattle.nfs_exec.specs.Ops.{RanOp, done, ops, ops_in, ops_of, ops_by, left_by, AreChained}
+use Rattle.nfs_exec.specs.LockHeld.{IsAlone}
 use Rattle.nfs_exec.specs.WrittenRun.{WritesIt, SparesIt, AreSpared, StandsBefore, StandsWhile, StandsInRuns}
 use Rattle.nfs_exec.proofs.WholeRun.{Is, otherwise_store, whole_events, start_whole}
 use Rattle.nfs_exec.proofs.OpsRun.{are_run}
@@ -78,9 +78,9 @@ step_left b m x now refused i is = elim (cases_Bool (names.on_names i)) [
 ]
 
 -- what spares it leaves it
-left_run : (b : Byte) (d : Done) → IsRun d → LastsIn b d.before → SparesIt b d → LastsIn b d.behind
+left_run : (b : Byte) (d : RanOp) → IsRun d → LastsIn b d.before → SparesIt b d → LastsIn b d.behind
 left_run b d r is =
-    subst (λ (d : Done). SparesIt b d → LastsIn b d.behind) (sym r.is)
+    subst (λ (d : RanOp). SparesIt b d → LastsIn b d.behind) (sym r.is)
     (in_room_is (LeftBy b d.before d.context d.item) r.limit r.sofar r.now r.refused d.before d.context d.item (λ spares. is)
     (step_left b d.before d.context r.now r.refused d.item is))
 
@@ -92,11 +92,11 @@ written_room b limit sofar now refused m x a is =
     (λ writes. absurd (short Num.Write RepTooBig writes.over.count writes.over.more writes.over.long writes.over.answers))
     (λ writes. writes_leave_bytes b refused m.store x (moment now) (Operation (OpWrite a)) is.tree writes)
 
-told_run : (b : Byte) (d : Done) → IsRun d → WritesIt b d → LastsIn b d.behind
+told_run : (b : Byte) (d : RanOp) → IsRun d → WritesIt b d → LastsIn b d.behind
 told_run b d r writes =
     let i = Operation (OpWrite writes.over.asked) in
     let same : d ≡ done d.before d.context i (ran_as d r i) = as_step d r i writes.over.is in
-    subst (λ (d : Done). LastsIn b d.behind) (sym same)
+    subst (λ (d : RanOp). LastsIn b d.behind) (sym same)
     (written_room b r.limit r.sofar r.now r.refused d.before d.context writes.over.asked r.whole (subst (WritesIt b) same writes))
 
 -- a READ is given it
@@ -109,7 +109,7 @@ read_room b limit sofar now refused m x a is =
     (λ r. absurd (short Num.Read RepTooBig r.eof r.text r.long r.answers))
     (λ r. reads_give_bytes b refused m.store x (moment now) (Operation (OpRead a)) is r)
 
-read_run : (b : Byte) (d : Done) → IsRun d → LastsIn b d.before → (r : Reads b.file b.place d.context d.item d.result) → GivesIt b d.context d.item d.result r
+read_run : (b : Byte) (d : RanOp) → IsRun d → LastsIn b d.before → (r : Reads b.file b.place d.context d.item d.result) → GivesIt b d.context d.item d.result r
 read_run b d run is r =
     let i = Operation (OpRead r.asked) in
     let same : d ≡ done d.before d.context i (ran_as d run i) = as_step d run i r.is in
@@ -120,7 +120,7 @@ read_run b d run is r =
       eof = r.eof;
       long = r.long;
       text = r.text;
-      answers = ap (λ (d : Done). d.result) (sym same) ∙ r.answers;
+      answers = ap (λ (d : RanOp). d.result) (sym same) ∙ r.answers;
       from = r.from;
       below = r.below;
     })
@@ -178,13 +178,13 @@ put_room limit sofar now refused m x h n is there =
     in_room_is (λ s. s.outcome.result ≡ spell_result (Refused 22 Stale) → ⊥) limit sofar now refused m x (Operation (OpPutFh h))
     big_not_stale (put_found m.store x h n is there)
 
-put_run : (d : Done) (run : IsRun d) (n : ℕ) → is_there d.before.store.tree n ≡ true → (h : List ℕ) → d.item ≡ Operation (OpPutFh h)
+put_run : (d : RanOp) (run : IsRun d) (n : ℕ) → is_there d.before.store.tree n ≡ true → (h : List ℕ) → d.item ≡ Operation (OpPutFh h)
     → handle_of h ≡ Some (record { instance = d.before.store.instance; number = n }) → d.result ≡ spell_result (Refused 22 Stale) → ⊥
 put_run d run n there h item is told =
     let same : d ≡ done d.before d.context (Operation (OpPutFh h)) (ran_as d run (Operation (OpPutFh h))) = as_step d run (Operation (OpPutFh h)) item in
-    put_room run.limit run.sofar run.now run.refused d.before d.context h n is there (ap (λ (d : Done). d.result) (sym same) ∙ told)
+    put_room run.limit run.sofar run.now run.refused d.before d.context h n is there (ap (λ (d : RanOp). d.result) (sym same) ∙ told)
 
-before_run : (b : Byte) (d : Done) → IsRun d → LastsIn b d.before → StandsBefore b d
+before_run : (b : Byte) (d : RanOp) → IsRun d → LastsIn b d.before → StandsBefore b d
 before_run b d r is = record {
   stands = λ used. is.stands (used_there d.before.store b.file r.whole used);
   found = λ used h item handle told. put_run d r b.file (used_there d.before.store b.file r.whole used) h item handle told;
@@ -193,7 +193,7 @@ before_run b d r is = record {
 
 -- Operations that are chained.
 
-pub chain_while : (b : Byte) (m : Machine) (ds : List Done) → AreChained m ds → ((d : Done) → In d ds → IsRun d) → LastsIn b m → StandsWhile b ds
+pub chain_while : (b : Byte) (m : Machine) (ds : List RanOp) → AreChained m ds → ((d : RanOp) → In d ds → IsRun d) → LastsIn b m → StandsWhile b ds
 chain_while b m [] chained runs is = tt
 chain_while b m (d ∷ more) chained runs is =
     let here : LastsIn b d.before = subst (LastsIn b) (sym chained.0) is in
@@ -202,19 +202,19 @@ chain_while b m (d ∷ more) chained runs is =
       λ spares. chain_while b d.behind more chained.1 (λ e there. runs e (inr there)) (left_run b d run here spares),
     )
 
-pub chain_left : (b : Byte) (m : Machine) (ds : List Done) → AreChained m ds → ((d : Done) → In d ds → IsRun d) → LastsIn b m → AreSpared b ds → LastsIn b (left_by m ds)
+pub chain_left : (b : Byte) (m : Machine) (ds : List RanOp) → AreChained m ds → ((d : RanOp) → In d ds → IsRun d) → LastsIn b m → AreSpared b ds → LastsIn b (left_by m ds)
 chain_left b m [] chained runs is all = is
 chain_left b m (d ∷ more) chained runs is all =
     let here : LastsIn b d.before = subst (LastsIn b) (sym chained.0) is in
     chain_left b d.behind more chained.1 (λ e there. runs e (inr there)) (left_run b d (runs d (inl refl)) here (all d (inl refl))) (λ e there. all e (inr there))
 
 -- from the WRITE on that told it
-record IsWrittenIn (b : Byte) (left : Machine) (back : List Done) : Type 0 where
+record IsWrittenIn (b : Byte) (left : Machine) (back : List RanOp) : Type 0 where
   pub within : StandsWhile b back
   pub behind : AreSpared b back → LastsIn b left
 
-chain_told : (b : Byte) (m : Machine) (front : List Done) (write : Done) (back : List Done) → AreChained m (front ++ write ∷ back)
-    → ((d : Done) → In d (front ++ write ∷ back) → IsRun d) → WritesIt b write → IsWrittenIn b (left_by m (front ++ write ∷ back)) back
+chain_told : (b : Byte) (m : Machine) (front : List RanOp) (write : RanOp) (back : List RanOp) → AreChained m (front ++ write ∷ back)
+    → ((d : RanOp) → In d (front ++ write ∷ back) → IsRun d) → WritesIt b write → IsWrittenIn b (left_by m (front ++ write ∷ back)) back
 chain_told b m [] write back chained runs writes =
     let is : LastsIn b write.behind = told_run b write (runs write (inl refl)) writes in
     record {
@@ -249,15 +249,15 @@ alone_left b m declared who now refused i is =
     (λ a c in_a same in_c owner confirmed. absurd (let lt = below_all m.clients.records a in_a in omega arith))
 
 -- it begins with this machine, and leaves what its operations leave
-record Through (b : Byte) (m left : Machine) (ds : List Done) : Type 0 where
+record Through (b : Byte) (m left : Machine) (ds : List RanOp) : Type 0 where
   pub start : Machine
   pub first : LastsIn b m → LastsIn b start
   pub chained : AreChained start ds
   pub last : LastsIn b m → LastsIn b (left_by start ds) → LastsIn b left
   -- where there are any
-  pub told : (front : List Done) (d : Done) (back : List Done) → ds ≡ front ++ d ∷ back → LastsIn b (left_by start ds) → LastsIn b left
+  pub told : (front : List RanOp) (d : RanOp) (back : List RanOp) → ds ≡ front ++ d ∷ back → LastsIn b (left_by start ds) → LastsIn b left
 
-none_here : (front : List Done) (d : Done) (back : List Done) → [] ≡ front ++ d ∷ back → ⊥
+none_here : (front : List RanOp) (d : RanOp) (back : List RanOp) → [] ≡ front ++ d ∷ back → ⊥
 none_here [] d back e = absurd cc
 none_here (f ∷ front) d back e = absurd cc
 
@@ -292,7 +292,7 @@ through_first b m r who size now choice (Operation (OpSequence s) ∷ more) = th
 through_first b m r who size now choice (item ∷ more) =
     through_none b m (first_item m r.declared who now (is_here choice) item).machine (alone_left b m r.declared who now (is_here choice) item)
 
-through : (b : Byte) (m : Machine) (e : Event) → Through b m (stepped m e) (ops_by m e)
+through : (b : Byte) (m : Machine) (e : MachineEvent) → Through b m (stepped m e) (ops_by m e)
 through b m (Expires now) = through_none b m (stepped m (Expires now)) (lasts_staying b (λ client. not (has_run_out m.leases now client)) m.store)
 through b m (Asks r who size now choice) = go (eqb r.minor 1)
   where
@@ -300,17 +300,17 @@ through b m (Asks r who size now choice) = go (eqb r.minor 1)
     go true = through_first b m r who size now choice r.left
     go false = through_none b m m (λ is. is)
 
-pub event_while : (b : Byte) (m : Machine) (e : Event) → Is m → LastsIn b m → StandsWhile b (ops_by m e)
+pub event_while : (b : Byte) (m : Machine) (e : MachineEvent) → Is m → LastsIn b m → StandsWhile b (ops_by m e)
 event_while b m e is lasts =
     let t = through b m e in
     chain_while b t.start (ops_by m e) t.chained (λ d there. (event_run m e is d there).0) (t.first lasts)
 
-pub event_left : (b : Byte) (m : Machine) (e : Event) → Is m → LastsIn b m → AreSpared b (ops_by m e) → LastsIn b (stepped m e)
+pub event_left : (b : Byte) (m : Machine) (e : MachineEvent) → Is m → LastsIn b m → AreSpared b (ops_by m e) → LastsIn b (stepped m e)
 event_left b m e is lasts all =
     let t = through b m e in
     t.last lasts (chain_left b t.start (ops_by m e) t.chained (λ d there. (event_run m e is d there).0) (t.first lasts) all)
 
-pub event_told : (b : Byte) (m : Machine) (e : Event) (front : List Done) (write : Done) (back : List Done) → Is m → ops_by m e ≡ front ++ write ∷ back → WritesIt b write
+pub event_told : (b : Byte) (m : Machine) (e : MachineEvent) (front : List RanOp) (write : RanOp) (back : List RanOp) → Is m → ops_by m e ≡ front ++ write ∷ back → WritesIt b write
     → StandsWhile b back × (AreSpared b back → LastsIn b (stepped m e))
 event_told b m e front write back is same writes =
     let t = through b m e in

@@ -16,8 +16,8 @@ use Rattle.nfs_files.specs.Operation as files
 use Rattle.nfs_exec.specs.Machine.{Machine, IsMachine, starts, is_delay}
 use Rattle.nfs_exec.specs.Sequence.{Refuses, sequenced}
 use Rattle.nfs_exec.specs.Compound.{Answered, first_item, keeps, compound}
-use Rattle.nfs_exec.specs.Laws.{Event, Asks, all_stepped, first_runs}
-use Rattle.nfs_exec.specs.Ops.{Done, ops_by}
+use Rattle.nfs_exec.specs.Laws.{MachineEvent, Asks, all_stepped, first_runs}
+use Rattle.nfs_exec.specs.Ops.{RanOp, ops_by}
 
 -- What may want memory: the operations on the tree and on open files that are said to, and the two that make clients and sessions.
 abbrev pub grows : State → Context → Item → Bool
@@ -76,11 +76,11 @@ DelayIsACut = (m : Machine) (r : Request) (who : Caller) (size now place : ℕ) 
 -- With memory no operation of a request answers NFS4ERR_DELAY, neither behind its SEQUENCE nor alone outside a session; and SEQUENCE does not. What cannot be
 -- read is no operation.
 pub record IsNotDelayed (m : Machine) (r : Request) (who : Caller) (size now : ℕ) : Type 0 where
-  pub behind : (d : Done) (op : Op) → In d (ops_by m (Asks r who size now None)) → d.item ≡ Operation op → is_delay d.status ≡ false
+  pub behind : (d : RanOp) (op : Op) → In d (ops_by m (Asks r who size now None)) → d.item ≡ Operation op → is_delay d.status ≡ false
   pub alone : (op : Op) → is_delay (first_item m r.declared who now false (Operation op)).status ≡ false
   pub first : (s : Sequence) (status : Status) → sequenced m r who size s ≡ Refuses status → is_delay status ≡ false
 
 -- in every machine that events reach, though memory may have been refused before
 abbrev pub NothingDelays : Type 0
-NothingDelays = (mode instance lease : ℕ) (events : List Event) (r : Request) (who : Caller) (size now : ℕ)
+NothingDelays = (mode instance lease : ℕ) (events : List MachineEvent) (r : Request) (who : Caller) (size now : ℕ)
     → IsNotDelayed (all_stepped (starts mode instance lease) events) r who size now

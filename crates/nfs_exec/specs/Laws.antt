@@ -46,15 +46,15 @@ ExpiryFindsNothing = (m : Machine) (r : Request) (who : Caller) (size now : ℕ)
 
 -- What comes to a server: a moment at which leases run out; or a request of a caller, in a record of so many bytes, at a moment,
 -- with the place, if any, at which memory was refused.
-pub data Event : Type 0 where
-  Expires : (now : ℕ) → Event
-  Asks : (r : Request) (who : Caller) (size now : ℕ) (choice : Option ℕ) → Event
+pub data MachineEvent : Type 0 where
+  Expires : (now : ℕ) → MachineEvent
+  Asks : (r : Request) (who : Caller) (size now : ℕ) (choice : Option ℕ) → MachineEvent
 
-abbrev pub stepped : Machine → Event → Machine
+abbrev pub stepped : Machine → MachineEvent → Machine
 stepped m (Expires now) = expired now m
 stepped m (Asks r who size now choice) = (compound m r who size now choice).machine
 
-abbrev pub all_stepped : Machine → List Event → Machine
+abbrev pub all_stepped : Machine → List MachineEvent → Machine
 all_stepped m [] = m
 all_stepped m (e ∷ more) = all_stepped (stepped m e) more
 
@@ -69,7 +69,7 @@ first_runs m r who size items = None
 
 -- The SEQUENCE behind which an event runs operations: those of a request that is new on its slot. A repeat, what is refused
 -- and what stands outside a session run behind none.
-abbrev pub ran : Machine → Event → Option Sequence
+abbrev pub ran : Machine → MachineEvent → Option Sequence
 ran m (Expires now) = None
 ran m (Asks r who size now choice) = if r.minor == 1 then first_runs m r who size r.left else None
 
@@ -77,7 +77,7 @@ abbrev pub is_on : SessionId → ℕ → Sequence → Bool
 is_on id slot s = is_id id (id_of s.sessionid) && (s.slotid == slot)
 
 -- how many of the events run on a slot of a session
-abbrev pub runs_on : SessionId → ℕ → Machine → List Event → ℕ
+abbrev pub runs_on : SessionId → ℕ → Machine → List MachineEvent → ℕ
 runs_on id slot m [] = 0
 runs_on id slot m (e ∷ more) = (if option_map_or (is_on id slot) (ran m e) false then 1 else 0) + runs_on id slot (stepped m e) more
 
@@ -92,13 +92,13 @@ pub record IsReached (m : Machine) : Type 0 where
   pub mode : ℕ
   pub instance : ℕ
   pub lease : ℕ
-  pub events : List Event
+  pub events : List MachineEvent
   pub machine : m ≡ all_stepped (starts mode instance lease) events
 
 -- Where a request ran, one of the same session, slot and number runs again only behind 2^32 - 1 others that ran on that slot,
 -- whatever else comes between, the end of the session too.
 abbrev pub NeverRunsAgain : Type 0
 NeverRunsAgain =
-    (m : Machine) (first : Event) (between : List Event) (again : Event) (s t : Sequence)
+    (m : Machine) (first : MachineEvent) (between : List MachineEvent) (again : MachineEvent) (s t : Sequence)
     → IsReached m → ran m first ≡ Some s → ran (all_stepped (stepped m first) between) again ≡ Some t → IsSame s t
     → 2 ^ 32 - 1 ≤ runs_on (id_of s.sessionid) s.slotid (stepped m first) between

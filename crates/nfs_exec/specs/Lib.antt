@@ -15,7 +15,7 @@ pub mod Executing
 pub mod Delayed
 pub mod DelayedOpen
 pub mod Ops
-pub mod Held
+pub mod LockHeld
 pub mod OpenHeld
 pub mod Own
 pub mod Renewing

@@ -13,19 +13,19 @@ use Rattle.nfs_sessions.specs.Id.{id_bytes}
 use Rattle.nfs_sessions.specs.Sessions.{Session, SessionTable, is_session, session_at}
 use Rattle.nfs_exec.specs.Machine.{Machine, starts}
 use Rattle.nfs_exec.specs.Compound.{compound}
-use Rattle.nfs_exec.specs.Laws.{Event, Expires, Asks, stepped, all_stepped}
+use Rattle.nfs_exec.specs.Laws.{MachineEvent, Expires, Asks, stepped, all_stepped}
 
 -- it asks for a session of the client: CREATE_SESSION stands first
 abbrev pub asks_of : ℕ → List Item → Bool
 asks_of client (Operation (OpCreateSession c) ∷ more) = c.clientid == client
 asks_of client items = false
 
-abbrev pub asks_session : ℕ → Event → Bool
+abbrev pub asks_session : ℕ → MachineEvent → Bool
 asks_session client (Expires now) = false
 asks_session client (Asks r who size now choice) = asks_of client r.left
 
 -- A CREATE_SESSION of the client with this number answered NFS4_OK and this session id, which has 16 bytes.
-pub record Gives (client number : ℕ) (id : List ℕ) (m : Machine) (e : Event) : Type 0 where
+pub record Gives (client number : ℕ) (id : List ℕ) (m : Machine) (e : MachineEvent) : Type 0 where
   pub request : Request
   pub who : Caller
   pub size : ℕ
@@ -51,6 +51,6 @@ pub record MakesOne (id : List ℕ) (before left : SessionTable) : Type 0 where
 
 -- In every run: what is answered so made one session, of the id that is answered, or changed nothing.
 abbrev pub GivesOne : Type 0
-GivesOne = (mode instance lease : ℕ) (events : List Event) (e : Event) (client number : ℕ) (id : List ℕ)
+GivesOne = (mode instance lease : ℕ) (events : List MachineEvent) (e : MachineEvent) (client number : ℕ) (id : List ℕ)
     → (let m = all_stepped (starts mode instance lease) events in
     Gives client number id m e → (stepped m e ≡ m) ⊎ MakesOne id m.sessions (stepped m e).sessions)

@@ -8,37 +8,37 @@ use Rattle.nfs_compound.specs.Operation.{Operation, OpOpen}
 use Rattle.nfs_opens.specs.Opening.{own_open}
 use Rattle.nfs_files.specs.Open.{asking}
 use Rattle.nfs_files.specs.OpenTold.{names_open, OpenTold, Bits, bits_with, bits_had, bits_behind, IsOpenWith, claimed, forbids}
-use Rattle.nfs_exec.specs.Ops.{Done}
-use Rattle.nfs_exec.specs.Held.{ClosesOf}
+use Rattle.nfs_exec.specs.Ops.{RanOp}
+use Rattle.nfs_exec.specs.LockHeld.{ClosesOf}
 
 -- an OPEN of a file that answered NFS4_OK and the stateid of open n; behind it the claim leads to the file
-pub record OpensAs (d : Done) (n file : ℕ) : Type 0 where
+pub record OpensAs (d : RanOp) (n file : ℕ) : Type 0 where
   pub asked : Open
   pub is : d.item ≡ Operation (OpOpen asked)
   pub names : names_open Op.Open d.result n ≡ true
   pub leads : claimed d.behind.store.tree d.context asked.claim ≡ Some file
 
 -- it stands before the operation, which is no OPEN of its file that it forbids and that answered NFS4_OK
-pub record IsOpenBefore (k : OpenTold) (b : Bits) (d : Done) : Type 0 where
+pub record IsOpenBefore (k : OpenTold) (b : Bits) (d : RanOp) : Type 0 where
   pub stands : IsOpenWith k b d.before.store.opens
   pub refused : (n : ℕ) (o : OpensAs d n k.file) → forbids k b d.context o.asked ≡ true → ⊥
 
 -- before each operation, as long as none before it closed it, with the bits that it has by then
-abbrev pub OpenWhile : OpenTold → Bits → List Done → Type 0
+abbrev pub OpenWhile : OpenTold → Bits → List RanOp → Type 0
 OpenWhile k b [] = Unit {0}
 OpenWhile k b (d ∷ more) =
     IsOpenBefore k b d
     × ((ClosesOf d k.number → ⊥) → (let c = bits_behind k.number d.item d.result b in IsOpenWith k c d.behind.store.opens × OpenWhile k c more))
 
-abbrev pub NoneCloses : OpenTold → List Done → Type 0
-NoneCloses k ds = (d : Done) → In d ds → ClosesOf d k.number → ⊥
+abbrev pub NoneCloses : OpenTold → List RanOp → Type 0
+NoneCloses k ds = (d : RanOp) → In d ds → ClosesOf d k.number → ⊥
 
-abbrev pub bits_left : ℕ → Bits → List Done → Bits
+abbrev pub bits_left : ℕ → Bits → List RanOp → Bits
 bits_left n b [] = b
 bits_left n b (d ∷ more) = bits_left n (bits_behind n d.item d.result b) more
 
 -- An OPEN told the open: it answered its stateid, and the bits are those that it asked for, joined to what its owner had of the file before it.
-pub record TellsOpen (k : OpenTold) (b : Bits) (d : Done) : Type 0 where
+pub record TellsOpen (k : OpenTold) (b : Bits) (d : RanOp) : Type 0 where
   pub opens : OpensAs d k.number k.file
   pub client : k.client ≡ d.context.client
   pub owner : k.owner ≡ opens.asked.owner.owner

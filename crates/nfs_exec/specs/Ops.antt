@@ -17,10 +17,10 @@ use Rattle.nfs_exec.specs.Sequence.{Sequenced, Runs, sequenced, accepted}
 use Rattle.nfs_exec.specs.Behind.{Step}
 use Rattle.nfs_exec.specs.Run.{Ran, run, in_room, is_here, behind_here}
 use Rattle.nfs_exec.specs.Compound.{begun, renewed, run_in, compound}
-use Rattle.nfs_exec.specs.Laws.{Event, Expires, Asks, ran}
+use Rattle.nfs_exec.specs.Laws.{MachineEvent, Expires, Asks, ran}
 
 -- an operation that was run: the machine and the context before it, its status and the bytes of its result, and the machine behind it
-pub record Done : Type 0 where
+pub record RanOp : Type 0 where
   pub before : Machine
   pub context : Context
   pub item : Item
@@ -28,7 +28,7 @@ pub record Done : Type 0 where
   pub result : List ℕ
   pub behind : Machine
 
-abbrev pub done : Machine → Context → Item → Step → Done
+abbrev pub done : Machine → Context → Item → Step → RanOp
 done m x item s = record {
   before = m;
   context = x;
@@ -39,7 +39,7 @@ done m x item s = record {
 }
 
 -- they stop at the first that answers another status than NFS4_OK
-abbrev pub ops : (limit sofar now : ℕ) → Option ℕ → Machine → Context → List Item → List Done
+abbrev pub ops : (limit sofar now : ℕ) → Option ℕ → Machine → Context → List Item → List RanOp
 ops limit sofar now choice m x [] = []
 ops limit sofar now choice m x (item ∷ more) =
     let s = in_room limit sofar now (is_here choice) m x item in
@@ -48,32 +48,32 @@ ops limit sofar now choice m x (item ∷ more) =
     then ops limit (sofar + length s.outcome.result) now (behind_here choice) s.outcome.machine s.context more else [])
 
 -- the machine that they leave
-abbrev pub left_by : Machine → List Done → Machine
+abbrev pub left_by : Machine → List RanOp → Machine
 left_by m [] = m
 left_by m (d ∷ more) = left_by d.behind more
 
 -- each begins where the one before it ended
-abbrev pub AreChained : Machine → List Done → Type 0
+abbrev pub AreChained : Machine → List RanOp → Type 0
 AreChained m [] = Unit {0}
 AreChained m (d ∷ more) = (d.before ≡ m) × AreChained d.behind more
 
 -- They are the first of the items: all of them, or those up to the first that answered another status than NFS4_OK.
-abbrev pub AreOf : List Item → List Done → Type 0
+abbrev pub AreOf : List Item → List RanOp → Type 0
 AreOf [] ds = ds ≡ []
 AreOf (item ∷ more) [] = ⊥
 AreOf (item ∷ more) (d ∷ ds) = (d.item ≡ item) × (is_ok d.status ≡ true → AreOf more ds) × (is_ok d.status ≡ false → ds ≡ [])
 
 -- that status, or NFS4_OK
-abbrev pub last_status : List Done → Status
+abbrev pub last_status : List RanOp → Status
 last_status [] = Nfs4Ok
 last_status (d ∷ more) = if is_ok d.status then last_status more else d.status
 
 -- their results, one after the other
-abbrev pub results_of : List Done → List ℕ
+abbrev pub results_of : List RanOp → List ℕ
 results_of ds = flat_map (λ d. d.result) ds
 
 -- what a run comes to is what its operations come to
-pub record IsRunOf (m : Machine) (items : List Item) (r : Ran) (ds : List Done) : Type 0 where
+pub record IsRunOf (m : Machine) (items : List Item) (r : Ran) (ds : List RanOp) : Type 0 where
   pub machine : r.machine ≡ left_by m ds
   pub count : r.count ≡ length ds
   pub chained : AreChained m ds
@@ -86,12 +86,12 @@ OpsAreRun = (limit sofar now : ℕ) (choice : Option ℕ) (m : Machine) (x : Con
     → IsRunOf m items (run limit sofar now choice m x items) (ops limit sofar now choice m x items)
 
 -- a repeat and a refusal run none
-abbrev pub ops_in : Machine → Request → Caller → ℕ → Option ℕ → Sequence → List Item → Sequenced → List Done
+abbrev pub ops_in : Machine → Request → Caller → ℕ → Option ℕ → Sequence → List Item → Sequenced → List RanOp
 ops_in m r who now choice s more (Runs c) =
     ops c.response (begun r s c) now (behind_here choice) (renewed m now s) (begins (id_of s.sessionid).client who) more
 ops_in m r who now choice s more verdict = []
 
-abbrev pub ops_of : Machine → Request → Caller → (size now : ℕ) → Option ℕ → List Item → List Done
+abbrev pub ops_of : Machine → Request → Caller → (size now : ℕ) → Option ℕ → List Item → List RanOp
 ops_of m r who size now choice (Operation (OpSequence s) ∷ more) = ops_in m r who now choice s more (sequenced m r who size s)
 ops_of m r who size now choice items = []
 
@@ -101,7 +101,7 @@ OpsAreRunIn = (m : Machine) (r : Request) (who : Caller) (now : ℕ) (choice : O
     → IsRunOf (renewed m now s) more (run_in (renewed m now s) r who now (behind_here choice) s c more) (ops_in m r who now choice s more (Runs c))
 
 -- those that an event runs
-abbrev pub ops_by : Machine → Event → List Done
+abbrev pub ops_by : Machine → MachineEvent → List RanOp
 ops_by m (Expires now) = []
 ops_by m (Asks r who size now choice) = if r.minor == 1 then ops_of m r who size now choice r.left else []
 

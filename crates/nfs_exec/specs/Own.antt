@@ -8,7 +8,7 @@ use Rattle.nfs_sessions.specs.Id.{id_of}
 use Rattle.nfs_sessions.specs.Sessions.{Session, SessionTable}
 use Rattle.nfs_files.specs.Own.{HasAsBefore}
 use Rattle.nfs_exec.specs.Machine.{Machine}
-use Rattle.nfs_exec.specs.Laws.{Event, Expires, Asks}
+use Rattle.nfs_exec.specs.Laws.{MachineEvent, Expires, Asks}
 
 abbrev pub sessions_of : ℕ → SessionTable → List Session
 sessions_of client t = filter (λ s. s.client == client) t.sessions
@@ -37,6 +37,6 @@ is_named_in client t (Operation (OpDestroySession sessionid) ∷ more) = (id_of 
 is_named_in client t (Operation (OpDestroyClientId id) ∷ more) = id == client
 is_named_in client t items = false
 
-abbrev pub is_named_by : ℕ → Machine → Event → Bool
+abbrev pub is_named_by : ℕ → Machine → MachineEvent → Bool
 is_named_by client m (Expires now) = false
 is_named_by client m (Asks r who size now choice) = is_named_in client m.clients r.left

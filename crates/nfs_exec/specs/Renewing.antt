@@ -10,8 +10,8 @@ use Rattle.nfs_exec.specs.Machine.{Machine, is_ok}
 use Rattle.nfs_exec.specs.ExchangeId.{ask_of}
 use Rattle.nfs_exec.specs.Run.{is_here}
 use Rattle.nfs_exec.specs.Compound.{first_item}
-use Rattle.nfs_exec.specs.Laws.{Event, Expires, Asks}
-use Rattle.nfs_exec.specs.Held.{renews}
+use Rattle.nfs_exec.specs.Laws.{MachineEvent, Expires, Asks}
+use Rattle.nfs_exec.specs.LockHeld.{renews}
 
 -- the client's record was added
 abbrev pub adds : ℕ → Result Exchanged ClientFault → Bool
@@ -30,7 +30,7 @@ renews_alone client m r who now choice [] = false
 renews_alone client m r who now choice (item ∷ more) = is_ok (first_item m r.declared who now (is_here choice) item).status && is_for client m who item
 
 -- or a request that runs in a session of the client
-abbrev pub renews_or_begins : ℕ → Machine → Event → Bool
+abbrev pub renews_or_begins : ℕ → Machine → MachineEvent → Bool
 renews_or_begins client m (Expires now) = false
 renews_or_begins client m (Asks r who size now choice) =
     renews client m (Asks r who size now choice) || (r.minor == 1 && renews_alone client m r who now choice r.left)

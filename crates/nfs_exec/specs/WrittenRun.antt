@@ -11,37 +11,37 @@ use Rattle.nfs_attrs.specs.Handle.{handle_of}
 use Rattle.nfs_names.specs.State.{is_used}
 use Rattle.nfs_files.specs.Written.{Byte, StandsIn, Lasts, Writes, Spares, Reads, GivesIt}
 use Rattle.nfs_exec.specs.Machine.{starts}
-use Rattle.nfs_exec.specs.Laws.{Event, stepped, all_stepped}
-use Rattle.nfs_exec.specs.Ops.{Done, ops_by}
+use Rattle.nfs_exec.specs.Laws.{MachineEvent, stepped, all_stepped}
+use Rattle.nfs_exec.specs.Ops.{RanOp, ops_by}
 
 -- a WRITE told it
-abbrev pub WritesIt : Byte → Done → Type 0
+abbrev pub WritesIt : Byte → RanOp → Type 0
 WritesIt b d = Writes b d.context d.item d.result
 
 -- nothing that may change it answered NFS4_OK
-abbrev pub SparesIt : Byte → Done → Type 0
+abbrev pub SparesIt : Byte → RanOp → Type 0
 SparesIt b d = Spares b d.before.store d.context d.item d.result
 
-abbrev pub AreSpared : Byte → List Done → Type 0
-AreSpared b ds = (d : Done) → In d ds → SparesIt b d
+abbrev pub AreSpared : Byte → List RanOp → Type 0
+AreSpared b ds = (d : RanOp) → In d ds → SparesIt b d
 
 -- While its file has a name or an open, it stands there, and no PUTFH of the file's filehandle answers NFS4ERR_STALE; and a READ of it that answers NFS4_OK is
 -- given it.
-pub record StandsBefore (b : Byte) (d : Done) : Type 0 where
+pub record StandsBefore (b : Byte) (d : RanOp) : Type 0 where
   pub stands : is_used d.before.store b.file ≡ true → StandsIn b (data_at d.before.store.tree b.file)
   pub found : is_used d.before.store b.file ≡ true → (h : List ℕ) → d.item ≡ Operation (OpPutFh h)
       → handle_of h ≡ Some (record { instance = d.before.store.instance; number = b.file }) → d.result ≡ spell_result (refusal (op_number Op.PutFh) Stale) → ⊥
   pub read : (r : Reads b.file b.place d.context d.item d.result) → GivesIt b d.context d.item d.result r
 
 -- before each operation, as long as all before it spared it
-abbrev pub StandsWhile : Byte → List Done → Type 0
+abbrev pub StandsWhile : Byte → List RanOp → Type 0
 StandsWhile b [] = Unit {0}
 StandsWhile b (d ∷ more) = StandsBefore b d × (SparesIt b d → StandsWhile b more)
 
 -- In every run: where it stands in its file or that is gone for good, it does so behind what spares it, and stands in between; and so from a WRITE on that told it.
 abbrev pub StandsInRuns : Type 0
-StandsInRuns = (mode instance lease : ℕ) (events : List Event) (e : Event) (b : Byte)
+StandsInRuns = (mode instance lease : ℕ) (events : List MachineEvent) (e : MachineEvent) (b : Byte)
     → (let m = all_stepped (starts mode instance lease) events in
     (Lasts b m.store.tree → StandsWhile b (ops_by m e) × (AreSpared b (ops_by m e) → Lasts b (stepped m e).store.tree))
-    × ((front : List Done) (write : Done) (back : List Done) → ops_by m e ≡ front ++ write ∷ back → WritesIt b write
+    × ((front : List RanOp) (write : RanOp) (back : List RanOp) → ops_by m e ≡ front ++ write ∷ back → WritesIt b write
     → StandsWhile b back × (AreSpared b back → Lasts b (stepped m e).store.tree)))

@@ -20,7 +20,7 @@ use Rattle.nfs_files.specs.Target.{target}
 use Rattle.nfs_files.specs.Lock.{locking, locks_as}
 use Rattle.nfs_files.specs.LockU.{unlocking}
 use Rattle.nfs_files.specs.Operation.{one_or_delay}
-use Rattle.nfs_files.specs.Kept.{Told, IsBeside, IsAlike, Stands, Clashes}
+use Rattle.nfs_files.specs.LockTold.{LockTold, IsBeside, IsAlike, Stands, Clashes}
 
 -- a LOCK that is granted: lock state n holds the bytes of the wish from now on
 pub record Locks (s : State) (x : Context) (op : Op) (n : ℕ) (w : Wish) : Type 0 where
@@ -53,13 +53,13 @@ pub record Closes (s : State) (x : Context) (op : Op) (n : ℕ) : Type 0 where
   pub opened : id.number ≡ n
 
 -- No LOCK of another kind and no LOCKU for the lock state on a byte of it, and no CLOSE of its open.
-pub record Spares (k : Told) (s : State) (x : Context) (op : Op) : Type 0 where
+pub record Spares (k : LockTold) (s : State) (x : Context) (op : Op) : Type 0 where
   pub locks : (n : ℕ) (w : Wish) → Locks s x op n w → n ≡ k.state → IsAlike w k
   pub unlocks : (n : ℕ) (w : Wish) → Unlocks s x op n w → n ≡ k.state → IsBeside w k
   pub closes : (n : ℕ) → Closes s x op n → n ≢ k.opened
 
 -- A LOCK that was granted tells this lock: its lock state as it stands behind the LOCK, and bytes of its range in its way.
-pub record Tells (k : Told) (s : State) (x : Context) (op : Op) (left : Table) : Type 0 where
+pub record Tells (k : LockTold) (s : State) (x : Context) (op : Op) (left : Table) : Type 0 where
   pub wish : Wish
   pub lock : LockState
   pub locks : Locks s x op k.state wish
@@ -72,17 +72,17 @@ pub record Tells (k : Told) (s : State) (x : Context) (op : Op) (left : Table) :
 
 -- An operation that spares a lock, or does not answer NFS4_OK, leaves it.
 abbrev pub SparedLocksStay : Type 0
-SparedLocksStay = (k : Told) (s : State) (x : Context) (now : Time) (refused : Bool) (op : Op) → IsTable s.opens → k.first ≤ k.last
+SparedLocksStay = (k : LockTold) (s : State) (x : Context) (now : Time) (refused : Bool) (op : Op) → IsTable s.opens → k.first ≤ k.last
     → (is_ok (one_or_delay refused s x now op).result ≡ true → Spares k s x op) → Stands k s.opens
     → Stands k (one_or_delay refused s x now op).state.opens
 
 -- A LOCK that clashes with a lock that stands is not granted.
 abbrev pub ClashesAreNotGranted : Type 0
-ClashesAreNotGranted = (k : Told) (s : State) (x : Context) (op : Op) (n : ℕ) (w : Wish) → IsTable s.opens → k.first ≤ k.last
+ClashesAreNotGranted = (k : LockTold) (s : State) (x : Context) (op : Op) (n : ℕ) (w : Wish) → IsTable s.opens → k.first ≤ k.last
     → Stands k s.opens → Locks s x op n w → Clashes k n w → ⊥
 
 -- Behind a LOCK that answered NFS4_OK the lock that it tells stands.
 abbrev pub ToldLocksStand : Type 0
-ToldLocksStand = (k : Told) (s : State) (x : Context) (now : Time) (refused : Bool) (op : Op)
+ToldLocksStand = (k : LockTold) (s : State) (x : Context) (now : Time) (refused : Bool) (op : Op)
     → is_ok (one_or_delay refused s x now op).result ≡ true → Tells k s x op (one_or_delay refused s x now op).state.opens
     → Stands k (one_or_delay refused s x now op).state.opens

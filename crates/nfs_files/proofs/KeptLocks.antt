@@ -31,7 +31,7 @@ use Rattle.nfs_ranges.proofs.HolderLemmas.{unmet}
 use Rattle.nfs_opens.proofs.LockLemmas.{holds_none}
 use Rattle.nfs_opens.proofs.StepLemmas.{judged_tells, first_state}
 use Rattle.nfs_files.specs.Lock.{locks_as}
-use Rattle.nfs_files.specs.Kept.{Told, IsBeside, IsAlike, Stands, Clashes}
+use Rattle.nfs_files.specs.LockTold.{LockTold, IsBeside, IsAlike, Stands, Clashes}
 
 -- bytes
 
@@ -42,7 +42,7 @@ within_not first last b out = elim (cases_Bool (is_within first last b)) [
 ]
 
 -- a byte of the lock lies in no wish beside it
-pub outside : (k : Told) (w : Wish) (b : ℕ) → IsBeside w k → k.first ≤ b → b ≤ k.last → is_within w.first w.last b ≡ false
+pub outside : (k : LockTold) (w : Wish) (b : ℕ) → IsBeside w k → k.first ≤ b → b ≤ k.last → is_within w.first w.last b ≡ false
 outside k w b beside lo hi = within_not w.first w.last b (λ a z. elim beside [ inl below ↦ absurd (omega arith) | inr above ↦ absurd (omega arith) ])
 
 pub held_other : (h : Holders) (n : ℕ) (kind : Kind) (first last s b : ℕ) → (n ≡ s → is_within first last b ≡ false) → holding h n kind first last s b ≡ h s b
@@ -61,7 +61,7 @@ on_file_keeps : (held : FileHolders) (file : ℕ) (g : Holders → Holders) (f s
 on_file_keeps held file g f s b o keeps is = elim (cases_Bool (eqb f file)) [ inl here ↦ rw here (keeps (held f) is) | inr there ↦ rw there is ]
 
 -- a lock state that takes bytes beside the lock, or in the lock's kind, holds it as before
-held_alike : (k : Told) (w : Wish) (h : Holders) (n b : ℕ) → (n ≡ k.state → IsAlike w k) → k.first ≤ b → b ≤ k.last
+held_alike : (k : LockTold) (w : Wish) (h : Holders) (n b : ℕ) → (n ≡ k.state → IsAlike w k) → k.first ≤ b → b ≤ k.last
     → h k.state b ≡ Some k.kind → holding h n w.kind w.first w.last k.state b ≡ Some k.kind
 held_alike k w h n b spares lo hi is = elim (cases_eq n k.state) [
   | inl same ↦ by_wish same (spares same)
@@ -78,7 +78,7 @@ held_alike k w h n b spares lo hi is = elim (cases_eq n k.state) [
 -- the table's changes
 
 -- neither lock states nor bytes move
-pub stands_by : (k : Told) (t u : Table) → u.locks ≡ t.locks → u.held ≡ t.held → Stands k t → Stands k u
+pub stands_by : (k : LockTold) (t u : Table) → u.locks ≡ t.locks → u.held ≡ t.held → Stands k t → Stands k u
 stands_by k t u locks held is = record {
   lock = is.lock;
   there = subst (In is.lock) (sym locks) is.there;
@@ -89,7 +89,7 @@ stands_by k t u locks held is = record {
 }
 
 -- another open is closed
-pub stands_closed : (k : Told) (t : Table) (n : ℕ) → n ≢ k.opened → Stands k t → Stands k (without_open t n)
+pub stands_closed : (k : LockTold) (t : Table) (n : ℕ) → n ≢ k.opened → Stands k t → Stands k (without_open t n)
 stands_closed k t n other is =
     let passes : not_under n is.lock ≡ true = ap not (ne_eqb is.lock.opened n (λ same. other (sym same ∙ is.opened))) in
     let left : In is.lock (filter (not_under n) t.locks) = stays_in (not_under n) t.locks is.lock is.there passes in
@@ -105,7 +105,7 @@ stands_closed k t n other is =
     }
 
 -- a lock state that holds nothing is freed
-pub stands_freed : (k : Told) (t : Table) (n : ℕ) (l : LockState) → IsTable t → k.first ≤ k.last → lock_at t n ≡ Some l
+pub stands_freed : (k : LockTold) (t : Table) (n : ℕ) (l : LockState) → IsTable t → k.first ≤ k.last → lock_at t n ≡ Some l
     → holds_any (t.held l.file) n ≡ false → Stands k t → Stands k (without_lock t n)
 stands_freed k t n l table some found none is =
     let at = find_in (λ (l : LockState). l.number == n) t.locks l found in
@@ -131,7 +131,7 @@ change : ℕ → LockState → LockState
 change n l = if l.number == n then raised l else l
 
 -- a seqid rises, and bytes of a file move, but these are held as before
-pub stands_raised : (k : Told) (t : Table) (n file : ℕ) (g : Holders → Holders)
+pub stands_raised : (k : LockTold) (t : Table) (n file : ℕ) (g : Holders → Holders)
     → ((h : Holders) (b : ℕ) → k.first ≤ b → b ≤ k.last → h k.state b ≡ Some k.kind → g h k.state b ≡ Some k.kind)
     → Stands k t → Stands k (record (with_lock t n raised) { held = on_file t.held file g })
 unfolding change
@@ -145,7 +145,7 @@ stands_raised k t n file g keeps is = record {
 }
 
 -- a new lock state takes other bytes, or the same ones beside it
-pub stands_first : (k : Told) (t : Table) (w : Wish) (new : LockState) → IsTable t → Stands k t
+pub stands_first : (k : LockTold) (t : Table) (w : Wish) (new : LockState) → IsTable t → Stands k t
     → Stands k (record t {
       locks = t.locks ++ new ∷ [];
       held = on_file t.held w.file (λ h. holding h (t.last + 1) w.kind w.first w.last);
@@ -234,7 +234,7 @@ lock_grants t (args.OpenOwner o) id w = under_grants t w id.number o.lock_owner.
 lock_grants t (args.LockOwner o) id w = known_grants t w id.number (judge t id w.client (Some w.file) LockOnly)
 
 -- a LOCK that is granted leaves the lock where it spares it
-pub stands_locked : (k : Told) (t : Table) (w : Wish) (did : Did StateId OpenFault) (id : StateId) → IsTable t → IsGranted t w did id
+pub stands_locked : (k : LockTold) (t : Table) (w : Wish) (did : Did StateId OpenFault) (id : StateId) → IsTable t → IsGranted t w did id
     → (id.number ≡ k.state → IsAlike w k) → Stands k t → Stands k did.after
 stands_locked k t w did id table (inl more) spares is =
     subst (Stands k) (sym more.left) (stands_raised k t id.number w.file (λ h. holding h id.number w.kind w.first w.last)
@@ -249,7 +249,7 @@ no_zero t file b kind table holds =
     let zero = holder.number in absurd (omega arith)
 
 -- and whoever clashes with it is not granted
-no_byte : (k : Told) (t : Table) (w : Wish) (n b : ℕ) → Tells (t.held w.file) n w.kind w.first w.last None → n ≢ k.state → Stands k t
+no_byte : (k : LockTold) (t : Table) (w : Wish) (n b : ℕ) → Tells (t.held w.file) n w.kind w.first w.last None → n ≢ k.state → Stands k t
     → w.file ≡ k.file → meets w.kind (Some k.kind) ≡ true → k.first ≤ b → b ≤ k.last → w.first ≤ b → b ≤ w.last → ⊥
 no_byte k t w n b tells other is file kinds lo hi a z =
     let free : meets w.kind (t.held w.file k.state b) ≡ false =
@@ -257,7 +257,7 @@ no_byte k t w n b tells other is file kinds lo hi a z =
     let there : t.held w.file k.state b ≡ Some k.kind = ap (λ f. t.held f k.state b) file ∙ is.held b lo hi in
     let bad : true ≡ false = sym kinds ∙ ap (meets w.kind) (sym there) ∙ free in cc
 
-clash_byte : (k : Told) (t : Table) (w : Wish) (m n : ℕ) → Tells (t.held w.file) n w.kind w.first w.last None → n ≢ k.state → Stands k t
+clash_byte : (k : LockTold) (t : Table) (w : Wish) (m n : ℕ) → Tells (t.held w.file) n w.kind w.first w.last None → n ≢ k.state → Stands k t
     → k.first ≤ k.last → w.first ≤ w.last → Clashes k m w → ⊥
 clash_byte k t w m n tells other is some range clash =
     let before = clash.before in let behind = clash.behind in
@@ -266,7 +266,7 @@ clash_byte k t w m n tells other is some range clash =
       | inr above ↦ no_byte k t w n w.first tells other is clash.file clash.kinds above before (omega arith) range
     ]
 
-pub refused : (k : Told) (t : Table) (w : Wish) (did : Did StateId OpenFault) (id : StateId) → IsTable t → IsGranted t w did id
+pub refused : (k : LockTold) (t : Table) (w : Wish) (did : Did StateId OpenFault) (id : StateId) → IsTable t → IsGranted t w did id
     → k.first ≤ k.last → w.first ≤ w.last → w.last < 2 ^ 64 → Stands k t → Clashes k id.number w → ⊥
 refused k t w did id table (inl more) some range fits is clash =
     clash_byte k t w id.number id.number (judged_tells t id.number more.access w table range fits more.judged) clash.other is some range clash

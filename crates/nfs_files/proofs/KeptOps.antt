@@ -59,7 +59,7 @@ use Rattle.nfs_files.specs.Read.{read}
 use Rattle.nfs_files.specs.SetAttr.{was_set, set_attr}
 use Rattle.nfs_files.specs.TestStateid.{test_stateid}
 use Rattle.nfs_files.specs.Write.{was_written, write}
-use Rattle.nfs_files.specs.Kept.{Told, IsBeside, IsAlike, Stands}
+use Rattle.nfs_files.specs.LockTold.{LockTold, IsBeside, IsAlike, Stands}
 use Rattle.nfs_files.proofs.Inside.{Locks, Unlocks, Closes, Spares, SparedLocksStay, ClashesAreNotGranted}
 use Rattle.nfs_files.proofs.KeptLocks.{stands_by, stands_closed, stands_freed, stands_raised, stands_locked, lock_grants, outside, cleared_other, refused}
 
@@ -69,18 +69,18 @@ pub found : {A : Type 0} (P : State → Type 0) (s : State) (x : Context) (op : 
 found P s x op (Err status) f same each = same
 found P s x op (Ok a) f same each = each a refl
 
-abbrev Keeps : Told → State → Type 0
+abbrev Keeps : LockTold → State → Type 0
 Keeps k s = Stands k s.opens
 
 -- LOCK
-locked_stands : (k : Told) (s : State) (x : Context) (after : Table) (v : Result StateId OpenFault)
+locked_stands : (k : LockTold) (s : State) (x : Context) (after : Table) (v : Result StateId OpenFault)
     → Stands k s.opens → ((id : StateId) → v ≡ Ok id → Stands k after) → Keeps k (of_lock.locked s x after v).state
 locked_stands k s x after (Ok id) same each = each id refl
 locked_stands k s x after (Err (F.Refused status)) same each = same
 locked_stands k s x after (Err (F.Denied h)) same each = same
 locked_stands k s x after (Err F.Memory) same each = same
 
-keeps_lock : (k : Told) (s : State) (x : Context) (a : args.Lock) → IsTable s.opens → ((n : ℕ) (w : Wish) → Locks s x (OpLock a) n w → n ≡ k.state → IsAlike w k)
+keeps_lock : (k : LockTold) (s : State) (x : Context) (a : args.Lock) → IsTable s.opens → ((n : ℕ) (w : Wish) → Locks s x (OpLock a) n w → n ≡ k.state → IsAlike w k)
     → Stands k s.opens → Keeps k (of_lock.lock s x a).state
 unfolding of_lock.lock
 keeps_lock k s x a table spares is =
@@ -91,7 +91,7 @@ keeps_lock k s x a table spares is =
     (λ mine. spares id.number m.wish (record { asked = a; id = m.id; answer = id; is = refl; judged = judged; granted = granted; state = refl }) mine) is)))
 
 -- LOCKU
-cleared_stands : (k : Told) (t : Table) (n file first last : ℕ) (w : Wish) (l : Option LockState) (id : StateId)
+cleared_stands : (k : LockTold) (t : Table) (n file first last : ℕ) (w : Wish) (l : Option LockState) (id : StateId)
     → first ≡ w.first → last ≡ w.last
     → (locking.clear_lock t n file first last l).answer ≡ Ok id → (n ≡ k.state → IsBeside w k) → Stands k t
     → Stands k (locking.clear_lock t n file first last l).after
@@ -101,18 +101,18 @@ cleared_stands k t n file first last w (Some l) id from to granted spares is =
     (λ h b lo hi held. cleared_other h n first last k.state b
     (λ same. ap (λ f. is_within f last b) from ∙ ap (λ z. is_within w.first z b) to ∙ outside k w b (spares same) lo hi) ∙ held) is
 
-unlock_stands : (k : Told) (t : Table) (n : ℕ) (w : Wish) (v : Result Seat Status) (id : StateId)
+unlock_stands : (k : LockTold) (t : Table) (n : ℕ) (w : Wish) (v : Result Seat Status) (id : StateId)
     → (locking.unlock_by t n w.file w.first w.last v).answer ≡ Ok id → (n ≡ k.state → IsBeside w k) → Stands k t
     → Stands k (locking.unlock_by t n w.file w.first w.last v).after
 unlock_stands k t n w (Err status) id granted spares is = absurd cc
 unlock_stands k t n w (Ok seat) id granted spares is = cleared_stands k t n w.file w.first w.last w (lock_at t n) id refl refl granted spares is
 
-unlocked_stands : (k : Told) (s : State) (x : Context) (after : Table) (v : Result StateId OpenFault)
+unlocked_stands : (k : LockTold) (s : State) (x : Context) (after : Table) (v : Result StateId OpenFault)
     → Stands k s.opens → ((id : StateId) → v ≡ Ok id → Stands k after) → Keeps k (unlocked s x after v).state
 unlocked_stands k s x after (Ok id) same each = each id refl
 unlocked_stands k s x after (Err fault) same each = same
 
-keeps_unlock : (k : Told) (s : State) (x : Context) (a : LockU) → ((n : ℕ) (w : Wish) → Unlocks s x (OpLockU a) n w → n ≡ k.state → IsBeside w k)
+keeps_unlock : (k : LockTold) (s : State) (x : Context) (a : LockU) → ((n : ℕ) (w : Wish) → Unlocks s x (OpLockU a) n w → n ≡ k.state → IsBeside w k)
     → Stands k s.opens → Keeps k (lock_u s x a).state
 unfolding lock_u
 keeps_unlock k s x a spares is =
@@ -123,7 +123,7 @@ keeps_unlock k s x a spares is =
     (λ mine. spares m.id.number w (record { asked = a; id = m.id; answer = id; is = refl; judged = judged; granted = granted; state = refl }) mine) is)))
 
 -- CLOSE
-by_seat : (k : Told) (s : State) (x : Context) (file : ℕ) (id : StateId) (v : Result Seat Status) → Stands k s.opens
+by_seat : (k : LockTold) (s : State) (x : Context) (file : ℕ) (id : StateId) (v : Result Seat Status) → Stands k s.opens
     → ((closing.close_by s.opens id.number v).answer ≡ Ok tt → id.number ≢ k.opened)
     → Keeps k (answers s x Num.Close (closing.close_by s.opens id.number v).answer
     (λ u. closed s x file (closing.close_by s.opens id.number v).after)).state
@@ -132,7 +132,7 @@ by_seat k s x file id (Ok seat) is other =
     subst (Stands k) (sym (unused_opens (with_opens s (closing.without_open s.opens id.number)) file))
     (stands_closed k s.opens id.number (other refl) is)
 
-keeps_close : (k : Told) (s : State) (x : Context) (a : Close) → ((n : ℕ) → Closes s x (OpClose a) n → n ≢ k.opened)
+keeps_close : (k : LockTold) (s : State) (x : Context) (a : Close) → ((n : ℕ) → Closes s x (OpClose a) n → n ≢ k.opened)
     → Stands k s.opens → Keeps k (close s x a).state
 unfolding close
 keeps_close k s x a spares is =
@@ -141,7 +141,7 @@ keeps_close k s x a spares is =
     spares t.id.number (record { asked = a; file = t.file; id = t.id; is = refl; judged = judged; granted = granted; opened = refl })))
 
 -- FREE_STATEID
-freed_stands : (k : Told) (t : Table) (n : ℕ) (l : Option LockState) → IsTable t → k.first ≤ k.last → lock_at t n ≡ l → Stands k t
+freed_stands : (k : LockTold) (t : Table) (n : ℕ) (l : Option LockState) → IsTable t → k.first ≤ k.last → lock_at t n ≡ l → Stands k t
     → Stands k (closing.free_lock t n l).after
 freed_stands k t n None table some at is = is
 freed_stands k t n (Some l) table some at is = elim (cases_Bool (holds_any (t.held l.file) n)) [
@@ -149,14 +149,14 @@ freed_stands k t n (Some l) table some at is = elim (cases_Bool (holds_any (t.he
   | inr none ↦ rw none (stands_freed k t n l table some at none is)
 ]
 
-free_stands : (k : Told) (t : Table) (v : Result Seat Status) → IsTable t → k.first ≤ k.last → Stands k t → Stands k (closing.free_by t v).after
+free_stands : (k : LockTold) (t : Table) (v : Result Seat Status) → IsTable t → k.first ≤ k.last → Stands k t → Stands k (closing.free_by t v).after
 free_stands k t (Err status) table some is = is
 free_stands k t (Ok Seats.Anonymous) table some is = is
 free_stands k t (Ok Seats.ReadBypass) table some is = is
 free_stands k t (Ok (Seats.Open number access)) table some is = is
 free_stands k t (Ok (Seats.Lock number access)) table some is = freed_stands k t number (lock_at t number) table some refl is
 
-keeps_free : (k : Told) (s : State) (x : Context) (given : Stateid) → IsTable s.opens → k.first ≤ k.last → Stands k s.opens → Keeps k (free_stateid s x given).state
+keeps_free : (k : LockTold) (s : State) (x : Context) (given : Stateid) → IsTable s.opens → k.first ≤ k.last → Stands k s.opens → Keeps k (free_stateid s x given).state
 unfolding free_stateid
 keeps_free k s x given table some is =
     found (Keeps k) s x Num.FreeStateid (meant x Any given) (frees s x) is (λ id judged.
@@ -164,28 +164,28 @@ keeps_free k s x given table some is =
     free_stands k s.opens (judge s.opens id x.client None Either) table some is))
 
 -- OPEN and OPEN_DOWNGRADE move no lock state
-opened_stands : (k : Told) (t : Table) (a : Asked) (o : Option OpenState) → Stands k t → Stands k (opening.opens_by t a o).after
+opened_stands : (k : LockTold) (t : Table) (a : Asked) (o : Option OpenState) → Stands k t → Stands k (opening.opens_by t a o).after
 opened_stands k t a (Some o) is = stands_by k t (opening.opens_by t a (Some o)).after refl refl is
 opened_stands k t a None is = stands_by k t (opening.opens_by t a None).after refl refl is
 
-keeps_open : (k : Told) (s : State) (x : Context) (now : Time) (a : Open) → Stands k s.opens → Keeps k (of_open.open_file s x now a).state
+keeps_open : (k : LockTold) (s : State) (x : Context) (now : Time) (a : Open) → Stands k s.opens → Keeps k (of_open.open_file s x now a).state
 unfolding of_open.open_file
 keeps_open k s x now a is =
     found (Keeps k) s x Num.Open (checked (of_open.asked_for s x a) (of_open.last_checks s x a)) (of_open.opened s x now a) is (λ f granted.
     (let asked = of_open.asking x a (of_open.file_of s.tree f) in opened_stands k s.opens asked (opening.own_open s.opens asked) is))
 
-narrowed_stands : (k : Told) (t : Table) (n : ℕ) (access deny : Share) (o : Option OpenState) → Stands k t → Stands k (opening.narrow_open t n access deny o).after
+narrowed_stands : (k : LockTold) (t : Table) (n : ℕ) (access deny : Share) (o : Option OpenState) → Stands k t → Stands k (opening.narrow_open t n access deny o).after
 narrowed_stands k t n access deny None is = is
 narrowed_stands k t n access deny (Some o) is = elim (cases_Bool (opening.is_narrower access deny o)) [
   | inl part ↦ rw part (stands_by k t (with_open t n (opening.narrows access deny)) refl refl is)
   | inr more ↦ rw more is
 ]
 
-downgrade_stands : (k : Told) (t : Table) (n : ℕ) (access deny : Share) (v : Result Seat Status) → Stands k t → Stands k (opening.downgrade_by t n access deny v).after
+downgrade_stands : (k : LockTold) (t : Table) (n : ℕ) (access deny : Share) (v : Result Seat Status) → Stands k t → Stands k (opening.downgrade_by t n access deny v).after
 downgrade_stands k t n access deny (Err status) is = is
 downgrade_stands k t n access deny (Ok seat) is = narrowed_stands k t n access deny (open_at t n) is
 
-keeps_downgrade : (k : Told) (s : State) (x : Context) (a : OpenDowngrade) → Stands k s.opens → Keeps k (open_downgrade s x a).state
+keeps_downgrade : (k : LockTold) (s : State) (x : Context) (a : OpenDowngrade) → Stands k s.opens → Keeps k (open_downgrade s x a).state
 unfolding open_downgrade
 keeps_downgrade k s x a is =
     found (Keeps k) s x Num.OpenDowngrade (narrowing s x a) (narrows s x a) is (λ t judged.
@@ -194,11 +194,11 @@ keeps_downgrade k s x a is =
     downgrade_stands k s.opens t.id.number access deny (judge s.opens t.id x.client (Some t.file) OpenOnly) is)))
 
 -- LOCKT
-tested_stands : (k : Told) (s : State) (x : Context) (o : Option Held) → Stands k s.opens → Keeps k (tested s x o).state
+tested_stands : (k : LockTold) (s : State) (x : Context) (o : Option Held) → Stands k s.opens → Keeps k (tested s x o).state
 tested_stands k s x None is = is
 tested_stands k s x (Some h) is = is
 
-keeps_one : (k : Told) (s : State) (x : Context) (now : Time) (op : Op) → IsTable s.opens → k.first ≤ k.last → Spares k s x op → Stands k s.opens → Keeps k (one s x now op).state
+keeps_one : (k : LockTold) (s : State) (x : Context) (now : Time) (op : Op) → IsTable s.opens → k.first ≤ k.last → Spares k s x op → Stands k s.opens → Keeps k (one s x now op).state
 unfolding commit lock_t read set_attr test_stateid write
 keeps_one k s x now (OpClose a) table some spares is = keeps_close k s x a spares.closes is
 keeps_one k s x now (OpCommit a) table some spares is = found (Keeps k) s x Num.Commit _ _ is (λ d e. is)
@@ -231,7 +231,7 @@ unfolding close
 close_ok s x now a file id judged granted = rw (judged, granted) refl
 
 -- what answers NFS4_OK spares it, so what is granted does
-spares_granted : (k : Told) (s : State) (x : Context) (now : Time) (op : Op) → (is_ok (one s x now op).result ≡ true → Spares k s x op) → Spares k s x op
+spares_granted : (k : LockTold) (s : State) (x : Context) (now : Time) (op : Op) → (is_ok (one s x now op).result ≡ true → Spares k s x op) → Spares k s x op
 spares_granted k s x now op spares = record {
   locks = λ n w is mine. (spares (subst (λ o. is_ok (one s x now o).result ≡ true) (sym is.is)
       (lock_ok s x now is.asked (record { wish = w; id = is.id }) is.answer is.judged is.granted))).locks n w is mine;

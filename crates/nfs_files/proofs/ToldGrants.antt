@@ -57,7 +57,7 @@ use Rattle.nfs_files.specs.Operation.{one, grows, one_or_delay}
 use Rattle.nfs_files.specs.Close.{spent, closes, close}
 use Rattle.nfs_files.specs.Lock as of_lock
 use Rattle.nfs_files.specs.LockU.{unlocking, unlocks, lock_u}
-use Rattle.nfs_files.specs.Kept.{Names, Told}
+use Rattle.nfs_files.specs.LockTold.{Names, LockTold}
 use Rattle.nfs_files.proofs.Inside.{Locks, Unlocks, Closes}
 use Rattle.nfs_files.specs.Laws.{ClashesAreRefused, ToldLocksAreHeld}
 use Rattle.nfs_files.proofs.KeptOps.{reclaim_parts, id_parts, lock_ok, clashing}
@@ -447,7 +447,7 @@ told_client s x now refused a n w table few wish names l there number =
 pub told_held : ToldLocksAreHeld
 told_held s x now refused a n w table few wish names b lo hi =
     let did = told_done s x now refused a n w table few wish names in
-    let k : Told = record { state = n; client = w.client; opened = 0; file = w.file; kind = w.kind; first = b; last = b } in
+    let k : LockTold = record { state = n; client = w.client; opened = 0; file = w.file; kind = w.kind; first = b; last = b } in
     ap (λ (t : Table). t.held w.file n b) did.left
     ∙ granted_held k s.opens w (of_lock.locks_as s.opens a.locker did.id w) did.answer (lock_grants s.opens a.locker did.id w did.answer did.granted) did.number
     refl refl lo hi b (omega arith) (omega arith)

@@ -21,7 +21,7 @@ use Rattle.nfs_names.specs.State.{State}
 use Rattle.nfs_names.specs.Outcome.{is_ok, or_delay}
 use Rattle.nfs_files.specs.Operation.{one, grows, one_or_delay}
 use Rattle.nfs_files.specs.Lock as of_lock
-use Rattle.nfs_files.specs.Kept.{Told, IsHeld}
+use Rattle.nfs_files.specs.LockTold.{LockTold, IsHeld}
 use Rattle.nfs_files.proofs.Inside.{ToldLocksStand}
 use Rattle.nfs_files.proofs.KeptLocks.{IsGranted, lock_grants}
 use Rattle.nfs_files.proofs.KeptOps.{lock_ok}
@@ -31,7 +31,7 @@ held_now : (held : FileHolders) (file n : ℕ) (kind : Kind) (first last f s b :
     → on_file held file (λ h. holding h n kind first last) f s b ≡ Some kind
 held_now held file n kind first last f s b on number within = rw (eq-eqb f file on, eq-eqb n s number, within) refl
 
-pub granted_held : (k : Told) (t : Table) (w : Wish) (did : Did StateId OpenFault) (id : StateId) → IsGranted t w did id → id.number ≡ k.state
+pub granted_held : (k : LockTold) (t : Table) (w : Wish) (did : Did StateId OpenFault) (id : StateId) → IsGranted t w did id → id.number ≡ k.state
     → k.file ≡ w.file → k.kind ≡ w.kind → w.first ≤ k.first → k.last ≤ w.last → IsHeld k did.after
 granted_held k t w did id (inl more) number file kind from to b lo hi =
     ap (λ (u : Table). u.held k.file k.state b) more.left

@@ -17,7 +17,7 @@ use Rattle.nfs_files.specs.Open.{open_file}
 use Rattle.nfs_files.specs.Operation.{one_or_delay, comes_to}
 use Rattle.nfs_files.specs.Ranges.{wished}
 use Rattle.nfs_files.specs.Own.{HasAsBefore}
-use Rattle.nfs_files.specs.Kept.{Names, Told, Stands, Clashes}
+use Rattle.nfs_files.specs.LockTold.{Names, LockTold, Stands, Clashes}
 
 -- OPEN leaves a tree that is one.
 abbrev pub OpensLeaveTrees : Type 0
@@ -25,7 +25,7 @@ OpensLeaveTrees = (s : State) (x : Context) (now : Time) (a : Open) → IsTree s
 
 -- While a lock stands, no LOCK that clashes with it answers NFS4_OK and a stateid.
 abbrev pub ClashesAreRefused : Type 0
-ClashesAreRefused = (k : Told) (s : State) (x : Context) (now : Time) (refused : Bool) (a : args.Lock) (n : ℕ) (w : Wish)
+ClashesAreRefused = (k : LockTold) (s : State) (x : Context) (now : Time) (refused : Bool) (a : args.Lock) (n : ℕ) (w : Wish)
     → IsTable s.opens → s.opens.last ≤ last_number → k.first ≤ k.last → Stands k s.opens → wished s x a.locktype a.offset a.length ≡ Ok w
     → Names Op.Lock (spell_result (one_or_delay refused s x now (OpLock a)).result) n → Clashes k n w → ⊥
 

@@ -18,7 +18,7 @@ pub mod LockU
 pub mod FreeStateid
 pub mod TestStateid
 pub mod Operation
-pub mod Kept
+pub mod LockTold
 pub mod Own
 pub mod OpenTold
 pub mod Laws

@@ -2,7 +2,7 @@
 use Rattle.std.proofs.Common.{◌≡◌, inl, inr, List, [], ◌∷◌, Some, sym, ◌∙◌, ap, subst}
 use Rattle.nfs_xdr.specs.Tables.{In}
 use Rattle.nfs_serve.specs.Endpoint.{Place, Compound, Answer, Server, Arrival, ran}
-use Rattle.nfs_serve.specs.Network.{Callers, Packet, Line, Network, Event, Sends, Resends, Arrives, Asks, Intrudes, Accepts, after, IsOfOneCompound, MayAccept, May, Schedule, IsUnused, begins, ExactlyOnce}
+use Rattle.nfs_serve.specs.Network.{Callers, Packet, Line, Network, NetworkEvent, Sends, Resends, Arrives, Asks, Intrudes, Accepts, after, IsOfOneCompound, MayAccept, May, Schedule, IsUnused, begins, ExactlyOnce}
 use Rattle.nfs_serve.specs.Numbered.{CanAccept, Can, Happens}
 use Rattle.nfs_serve.proofs.ServerLaws.{KeepsSlots}
 use Rattle.nfs_serve.proofs.NetworkLists.{last_one}
@@ -55,7 +55,7 @@ accepts s laws callers start net p c a is apart may = record {
         (subst (λ (k : Place). s.slot_number a.result ≡ Some (record { place = k; number = by.packet.heading.compound.number })) place
         (is.tells by.packet.heading.place (is.packets by.packet by.sent).place (record { compound = by.packet.heading.compound; result = a.result }) by.executed))
 
-event_can : (s : Server) (laws : KeepsSlots s) (callers : Callers) (start : s.State) (net : Network s) (e : Event) → ((p : Place) → In p callers.places → IsUnused s start p)
+event_can : (s : Server) (laws : KeepsSlots s) (callers : Callers) (start : s.State) (net : Network s) (e : NetworkEvent) → ((p : Place) → In p callers.places → IsUnused s start p)
     → IsNetwork s laws callers start net → Apart callers net.packets → May callers net e → Can callers start net e × Apart callers (after callers net e).packets
 event_can s laws callers start net (Sends q) unused is apart may = (
   record { bytes = may.bytes; reads = may.reads; place = may.place; ready = λ none. inl (unused q.heading.place may.place); idle = may.idle; number = may.number; small = may.small },
@@ -70,14 +70,14 @@ event_can s laws callers start net (Asks caller a) unused is apart may = (may, a
 event_can s laws callers start net (Intrudes a) unused is apart may = (may, apart)
 event_can s laws callers start net (Accepts p c a) unused is apart may = (accepts s laws callers start net p c a is apart may, apart)
 
-events_can : (s : Server) (laws : KeepsSlots s) (callers : Callers) (start : s.State) (net : Network s) (events : List Event) → ((p : Place) → In p callers.places → IsUnused s start p)
+events_can : (s : Server) (laws : KeepsSlots s) (callers : Callers) (start : s.State) (net : Network s) (events : List NetworkEvent) → ((p : Place) → In p callers.places → IsUnused s start p)
     → IsNetwork s laws callers start net → Apart callers net.packets → Schedule callers net events → Happens callers start net events
 events_can s laws callers start net [] unused is apart may = tt
 events_can s laws callers start net (e ∷ more) unused is apart may =
     let now = event_can s laws callers start net e unused is apart may.0 in
     (now.0, events_can s laws callers start (after callers net e) more unused (event_keeps s laws callers start net e is now.0) now.1 may.1)
 
-pub happens : (s : Server) → KeepsSlots s → (before : List Arrival) (callers : Callers) (events : List Event) → ((p : Place) → In p callers.places → IsUnused s (ran s s.new before) p)
+pub happens : (s : Server) → KeepsSlots s → (before : List Arrival) (callers : Callers) (events : List NetworkEvent) → ((p : Place) → In p callers.places → IsUnused s (ran s s.new before) p)
     → Schedule callers (begins s (ran s s.new before)) events → Happens callers (ran s s.new before) (begins s (ran s s.new before)) events
 happens s laws before callers events unused may =
     let m : s.State = ran s s.new before in

@@ -8,21 +8,21 @@ use Rattle.nfs_rpc.specs.RecordMarking.{start}
 use Rattle.nfs_rpc.specs.Stream.{End, Open, TooLong, IsReading, IsUnfinished}
 use Rattle.nfs_rpc.proofs.Readings.{reading_then, part_unfinished}
 use Rattle.nfs_serve.specs.Script.{Entry}
-use Rattle.nfs_serve.specs.Run.{Streams, with_stream, all_closed, Brings, TakesPiece, TakesAll, Event, Arrives, overflow, events_of}
+use Rattle.nfs_serve.specs.Run.{Streams, with_stream, all_closed, Brings, TakesPiece, TakesAll, StreamEvent, Arrives, overflow, events_of}
 use Rattle.nfs_serve.specs.Laws.{stream_on, call_on, overflow_on, IsClosedBehind, NoneCloses, ConnectionsAreStreams}
 use Rattle.nfs_serve.proofs.Pieces.{start_holds}
 use Rattle.nfs_serve.proofs.Cutting.{still_long}
 
 -- entries one after the other
-record ReadsParts (old : Streams) (xs ys : List Entry) (brought : List Event) (new : Streams) : Type 0 where
-  first : List Event
-  later : List Event
+record ReadsParts (old : Streams) (xs ys : List Entry) (brought : List StreamEvent) (new : Streams) : Type 0 where
+  first : List StreamEvent
+  later : List StreamEvent
   between : Streams
   order : brought ≡ first ++ later
   front : TakesAll old xs first between
   back : TakesAll between ys later new
 
-parts : (old : Streams) (xs ys : List Entry) (brought : List Event) (new : Streams) → TakesAll old (xs ++ ys) brought new → ReadsParts old xs ys brought new
+parts : (old : Streams) (xs ys : List Entry) (brought : List StreamEvent) (new : Streams) → TakesAll old (xs ++ ys) brought new → ReadsParts old xs ys brought new
 parts old [] ys brought new h = record { first = []; later = brought; between = old; order = refl; front = (refl, refl); back = h }
 parts old (e ∷ xs) ys brought new (here, more, middle, is, takes, rest) =
     let p = parts middle xs ys more new rest in record {
@@ -58,7 +58,7 @@ overflow_own : (conn : ℕ) (end : End)
 overflow_own conn (Open rest) = (refl, refl)
 overflow_own conn TooLong = rw (eq-eqb conn conn refl) (refl, refl)
 
-abbrev Sees : ℕ → List Event → List (List ℕ) → List Event → Type 0
+abbrev Sees : ℕ → List StreamEvent → List (List ℕ) → List StreamEvent → Type 0
 Sees conn brought calls told = (flat_map (call_on conn) brought ≡ calls) × (flat_map (overflow_on conn) brought ≡ told)
 
 sees_nothing : (c conn moment : ℕ) (calls : List (List ℕ)) (end : End) → nat_eq c conn ≡ false → Sees conn (events_of c moment calls end) [] []
@@ -80,7 +80,7 @@ sees_own conn moment calls end =
           ∙ ap (λ l. l ++ flat_map (overflow_on conn) (overflow conn end)) (no_overflow conn conn moment calls) ∙ o.1,
     )
 
-sees_both : (conn : ℕ) (a b : List Event) (calls more : List (List ℕ)) (told again : List Event)
+sees_both : (conn : ℕ) (a b : List StreamEvent) (calls more : List (List ℕ)) (told again : List StreamEvent)
     → Sees conn a calls told → Sees conn b more again → Sees conn (a ++ b) (calls ++ more) (told ++ again)
 sees_both conn a b calls more told again h g = (
   flat_map-append (call_on conn) a b ∙ ap (λ l. l ++ flat_map (call_on conn) b) h.0 ∙ ap (λ l. calls ++ l) g.0,
@@ -88,7 +88,7 @@ sees_both conn a b calls more told again h g = (
 )
 
 -- an entry of another connection
-brings_other : (c conn moment : ℕ) (before : End) (piece : List ℕ) (brought : List Event) (end : End)
+brings_other : (c conn moment : ℕ) (before : End) (piece : List ℕ) (brought : List StreamEvent) (end : End)
     → nat_eq c conn ≡ false → Brings c moment before piece brought end → Sees conn brought [] []
 brings_other c conn moment (Open rest) piece brought end other (calls, reading, is) =
     subst (λ b. Sees conn b [] []) (sym is) (sees_nothing c conn moment calls end other)
@@ -97,7 +97,7 @@ brings_other c conn moment TooLong piece brought end other h = subst (λ b. Sees
 with_other : (old : Streams) (c conn : ℕ) (stream : End) → conn ≢ c → with_stream old c stream conn ≡ old conn
 with_other old c conn stream other = rw (ne_eqb conn c other) refl
 
-takes_other : (old : Streams) (moment c conn : ℕ) (piece : List ℕ) (brought : List Event) (new : Streams)
+takes_other : (old : Streams) (moment c conn : ℕ) (piece : List ℕ) (brought : List StreamEvent) (new : Streams)
     → c ≢ conn → TakesPiece old moment c piece brought new → (new conn ≡ old conn) × Sees conn brought [] []
 takes_other old moment c conn [] brought new other h =
     (ap (λ s. s conn) h.1 ∙ with_other old c conn (Open []) (λ e. other (sym e)), subst (λ b. Sees conn b [] []) (sym h.0) (refl, refl))
@@ -107,21 +107,21 @@ takes_other old moment c conn (b ∷ bytes) brought new other (end, brings, is) 
 )
 
 -- an entry of its own
-takes_own : (old : Streams) (moment conn : ℕ) (piece : List ℕ) (brought : List Event) (new : Streams) → piece ≢ []
+takes_own : (old : Streams) (moment conn : ℕ) (piece : List ℕ) (brought : List StreamEvent) (new : Streams) → piece ≢ []
     → TakesPiece old moment conn piece brought new → Brings conn moment (old conn) piece brought (new conn)
 takes_own old moment conn [] brought new some h = absurd (some refl)
 takes_own old moment conn (b ∷ bytes) brought new some (end, brings, is) =
     let here : new conn ≡ end = ap (λ s. s conn) is ∙ rw (eq-eqb conn conn refl) refl in
     subst (λ e. Brings conn moment (old conn) (b ∷ bytes) brought e) (sym here) brings
 
-untouched : (conn : ℕ) (entries : List Entry) (old : Streams) (brought : List Event) (new : Streams)
+untouched : (conn : ℕ) (entries : List Entry) (old : Streams) (brought : List StreamEvent) (new : Streams)
     → All (λ e. e.conn ≢ conn) entries → TakesAll old entries brought new → new conn ≡ old conn
 untouched conn [] old brought new all h = ap (λ s. s conn) h.1
 untouched conn (e ∷ entries) old brought new all (first, later, between, is, takes, rest) =
     untouched conn entries between later new (All-tail (λ d. d.conn ≢ conn) e entries all) rest
     ∙ (takes_other old e.moment e.conn conn e.piece first between (All-head (λ d. d.conn ≢ conn) e entries all) takes).0
 
-closes : (old : Streams) (moment conn : ℕ) (piece : List ℕ) (brought : List Event) (new : Streams)
+closes : (old : Streams) (moment conn : ℕ) (piece : List ℕ) (brought : List StreamEvent) (new : Streams)
     → piece ≡ [] → TakesPiece old moment conn piece brought new → new conn ≡ Open []
 closes old moment conn [] brought new none h = ap (λ s. s conn) h.1 ∙ rw (eq-eqb conn conn refl) refl
 closes old moment conn (b ∷ bytes) brought new none h = absurd (cons_nil none)
@@ -129,7 +129,7 @@ closes old moment conn (b ∷ bytes) brought new none h = absurd (cons_nil none)
     cons_nil : b ∷ bytes ≡ [] → ⊥
     cons_nil e = cc
 
-closed : (conn : ℕ) (front : List Entry) (brought : List Event) (new : Streams)
+closed : (conn : ℕ) (front : List Entry) (brought : List StreamEvent) (new : Streams)
     → IsClosedBehind conn front → TakesAll all_closed front brought new → new conn ≡ Open []
 closed conn front brought new (inl all) reads = untouched conn front all_closed brought new all reads
 closed conn front brought new (inr (before, close, others, is, of, none, all)) reads =
@@ -139,10 +139,10 @@ closed conn front brought new (inr (before, close, others, is, of, none, all)) r
     ∙ closes p.between close.moment conn close.piece first between none (subst (λ c. TakesPiece p.between close.moment c close.piece first between) of takes)
 
 -- a stream that is too long is ignored
-abbrev IgnoredFrom : ℕ → Streams → List Event → Streams → Type 0
+abbrev IgnoredFrom : ℕ → Streams → List StreamEvent → Streams → Type 0
 IgnoredFrom conn old brought new = old conn ≡ TooLong → (new conn ≡ TooLong) × Sees conn brought [] []
 
-ignored : (conn : ℕ) (entries : List Entry) (old : Streams) (brought : List Event) (new : Streams) → NoneCloses conn entries
+ignored : (conn : ℕ) (entries : List Entry) (old : Streams) (brought : List StreamEvent) (new : Streams) → NoneCloses conn entries
     → old conn ≡ TooLong → TakesAll old entries brought new → (new conn ≡ TooLong) × Sees conn brought [] []
 ignored conn [] old brought new none long h = (ap (λ s. s conn) h.1 ∙ long, subst (λ b. Sees conn b [] []) (sym h.0) (refl, refl))
 ignored conn (e ∷ entries) old brought new none long (first, later, between, is, takes, rest) =
@@ -166,21 +166,21 @@ ignored conn (e ∷ entries) old brought new none long (first, later, between, i
         differ : true ≡ false → ⊥
         differ x = cc
 
-abbrev AsOne : ℕ → List ℕ → List Event → End → Type 0
+abbrev AsOne : ℕ → List ℕ → List StreamEvent → End → Type 0
 AsOne conn stream brought end = IsReading stream (flat_map (call_on conn) brought) end × (flat_map (overflow_on conn) brought ≡ overflow conn end)
 
-as_one : (conn : ℕ) (stream : List ℕ) (brought : List Event) (end : End) (calls : List (List ℕ)) (told : List Event)
+as_one : (conn : ℕ) (stream : List ℕ) (brought : List StreamEvent) (end : End) (calls : List (List ℕ)) (told : List StreamEvent)
     → Sees conn brought calls told → IsReading stream calls end → told ≡ overflow conn end → AsOne conn stream brought end
 as_one conn stream brought end calls told seen reads is = (subst (λ c. IsReading stream c end) (sym seen.0) reads, seen.1 ∙ is)
 
-sees : (conn : ℕ) (brought : List Event) → Sees conn brought (flat_map (call_on conn) brought) (flat_map (overflow_on conn) brought)
+sees : (conn : ℕ) (brought : List StreamEvent) → Sees conn brought (flat_map (call_on conn) brought) (flat_map (overflow_on conn) brought)
 sees conn brought = (refl, refl)
 
-abbrev GoesOnAsOne : ℕ → List Entry → Streams → List Event → Streams → Type 0
+abbrev GoesOnAsOne : ℕ → List Entry → Streams → List StreamEvent → Streams → Type 0
 GoesOnAsOne conn entries old brought new = (mid : List ℕ) → old conn ≡ Open mid
     → IsUnfinished mid → AsOne conn (mid ++ stream_on conn entries) brought (new conn)
 
-pub stretch : (conn : ℕ) (entries : List Entry) (old : Streams) (brought : List Event) (new : Streams) (rest : List ℕ)
+pub stretch : (conn : ℕ) (entries : List Entry) (old : Streams) (brought : List StreamEvent) (new : Streams) (rest : List ℕ)
     → NoneCloses conn entries → old conn ≡ Open rest → IsUnfinished rest → TakesAll old entries brought new
     → AsOne conn (rest ++ stream_on conn entries) brought (new conn)
 stretch conn [] old brought new rest none begun unfinished h =

@@ -16,7 +16,7 @@ use Rattle.nfs_results.specs.Items as results
 use Rattle.nfs_serve.specs.declared.form.Form.TheVariants.{Tagged}
 use Rattle.nfs_serve.specs.Script.{Entry, head, Fits, IsWhole}
 use Rattle.nfs_serve.specs.Step.{new_state, step}
-use Rattle.nfs_serve.specs.Run.{Streams, all_closed, with_stream, TakesAll, Event, Arrives, Move, events, output}
+use Rattle.nfs_serve.specs.Run.{Streams, all_closed, with_stream, TakesAll, StreamEvent, Arrives, Move, events, output}
 use Rattle.nfs_serve.specs.Exchanges.{RunsTo, words, null_call, null_script, null_output, exchange_call, exchange_script, exchange_output}
 use Rattle.nfs_serve.proofs.Pieces.{start_holds}
 
@@ -101,7 +101,7 @@ once = with_stream all_closed 0 (Open [])
 exchange_reads : TakesAll all_closed (exchange_one ∷ exchange_one ∷ []) (events (exchange_move ∷ exchange_move ∷ [])) (with_stream once 0 (Open []))
 unfolding exchange_one exchange_move exchange_piece once number
 exchange_reads =
-    let e : Event = Arrives 0 100 exchange_call in (
+    let e : StreamEvent = Arrives 0 100 exchange_call in (
       e ∷ [],
       e ∷ [],
       once,

@@ -15,7 +15,7 @@ use Rattle.nfs_serve.specs.declared.talking.Talk.{Talk}
 use Rattle.nfs_serve.specs.declared.talking.Talk.TheVariants as talks
 use Rattle.nfs_serve.specs.Script.{Entry, spell_entry}
 use Rattle.nfs_serve.specs.Step.{State, step}
-use Rattle.nfs_serve.specs.Run.{Streams, with_stream, all_closed, Brings, TakesPiece, TakesAll, Event, Arrives, Overflows, events_of, Move, events, after, after_event, output, Runs, RunsInto}
+use Rattle.nfs_serve.specs.Run.{Streams, with_stream, all_closed, Brings, TakesPiece, TakesAll, StreamEvent, Arrives, Overflows, events_of, Move, events, after, after_event, output, Runs, RunsInto}
 use Rattle.nfs_serve.specs.Server.{Stands, FeedsOr}
 use Rattle.nfs_serve.specs.Replay.{Replayed, ReplaysFault}
 use Rattle.nfs_serve.specs.Talk.{SpeaksUntil}
@@ -30,7 +30,7 @@ use Rattle.nfs_serve.proofs.Runs.{takes_piece}
 use Rattle.nfs_serve.proofs.Whole.{runs_script}
 
 -- the state behind moves is that of their records
-by_event : (mode instance lease : ℕ) (s : State) (moves : List Move) (e : Event) (choice : Option ℕ)
+by_event : (mode instance lease : ℕ) (s : State) (moves : List Move) (e : StreamEvent) (choice : Option ℕ)
     → ((t : State) → after t moves ≡ ran (server mode instance lease) t (records_of moves))
     → after (after_event s e choice) moves ≡ ran (server mode instance lease) s (record_of e choice ++ records_of moves)
 by_event mode instance lease s moves (Arrives conn moment call) choice rest = rest (step s call moment choice).state
@@ -45,7 +45,7 @@ runs_on s m [] records = refl
 runs_on s m (a ∷ more) records = runs_on s (stepped s m a).state more records
 
 points_are : (mode instance lease : ℕ) (s : State) (records : List Arrival)
-    → ran (server mode instance lease) s records ≡ all_next s (map (λ a. record { call = a.bytes; now = a.now; choice = a.choice }) records)
+    → ran (server mode instance lease) s records ≡ all_next s records
 points_are mode instance lease s [] = refl
 points_are mode instance lease s (a ∷ more) = points_are mode instance lease (step s a.bytes a.now a.choice).state more
 
@@ -63,7 +63,7 @@ rest_ends : (behind : List ℕ) (end : End) → EndsAs behind end → IsRest end
 rest_ends behind (Open rest) e = e.1
 rest_ends behind TooLong e = tt
 
-rest_brought : (conn moment : ℕ) (before : End) (piece : List ℕ) (brought : List Event) (end : End) → Brings conn moment before piece brought end → IsRest end
+rest_brought : (conn moment : ℕ) (before : End) (piece : List ℕ) (brought : List StreamEvent) (end : End) → Brings conn moment before piece brought end → IsRest end
 rest_brought conn moment (Open rest) piece brought end b = rest_ends b.1.behind end b.1.ends
 rest_brought conn moment TooLong piece brought end b = subst IsRest (sym b.1) tt
 
@@ -77,19 +77,19 @@ rest_with streams conn end here all c = by (nat_eq c conn)
 rest_open : IsRest (Open [])
 rest_open = part_unfinished [] start start_holds
 
-rest_piece : (old new : Streams) (moment conn : ℕ) (piece : List ℕ) (brought : List Event) → TakesPiece old moment conn piece brought new → ((c : ℕ) → IsRest (old c)) → (c : ℕ) → IsRest (new c)
+rest_piece : (old new : Streams) (moment conn : ℕ) (piece : List ℕ) (brought : List StreamEvent) → TakesPiece old moment conn piece brought new → ((c : ℕ) → IsRest (old c)) → (c : ℕ) → IsRest (new c)
 rest_piece old new moment conn [] brought t all = subst (λ (s : Streams). (c : ℕ) → IsRest (s c)) (sym t.1) (rest_with old conn (Open []) rest_open all)
 rest_piece old new moment conn (b ∷ bytes) brought t all =
     subst (λ (s : Streams). (c : ℕ) → IsRest (s c)) (sym t.2) (rest_with old conn t.0 (rest_brought conn moment (old conn) (b ∷ bytes) brought t.0 t.1) all)
 
-rest_all : (old new : Streams) (entries : List Entry) (brought : List Event) → TakesAll old entries brought new → ((c : ℕ) → IsRest (old c)) → (c : ℕ) → IsRest (new c)
+rest_all : (old new : Streams) (entries : List Entry) (brought : List StreamEvent) → TakesAll old entries brought new → ((c : ℕ) → IsRest (old c)) → (c : ℕ) → IsRest (new c)
 rest_all old new [] brought t all = subst (λ (s : Streams). (c : ℕ) → IsRest (s c)) (sym t.1) all
 rest_all old new (e ∷ entries) brought t all =
     let (first, later, between, is, takes, more) = t in
     rest_all between new entries later more (rest_piece old between e.moment e.conn e.piece first takes all)
 
 -- so no bytes bring nothing
-nothing_brought : (conn moment : ℕ) (before : End) (brought : List Event) (end : End) → IsRest before → Brings conn moment before [] brought end → brought ≡ []
+nothing_brought : (conn moment : ℕ) (before : End) (brought : List StreamEvent) (end : End) → IsRest before → Brings conn moment before [] brought end → brought ≡ []
 nothing_brought conn moment (Open rest) brought end unfinished b =
     let (calls, reads, is) = b in
     let none : IsReading (rest ++ []) [] (Open rest) = record { behind = rest ++ []; stands = refl; ends = (append-nil rest, unfinished) } in
@@ -111,7 +111,7 @@ front_ran form old new entries before last streams written order r = record {
   split = r.split;
   runs = record {
     streams = with_stream streams last.conn r.end;
-    brought = subst (λ (es : List Event). TakesAll all_closed (before ++ cut ∷ []) es (with_stream streams last.conn r.end)) (sym brought)
+    brought = subst (λ (es : List StreamEvent). TakesAll all_closed (before ++ cut ∷ []) es (with_stream streams last.conn r.end)) (sym brought)
         (TakesAll-more all_closed before (events r.earlier) streams cut (events own) (with_stream streams last.conn r.end) r.reads
         (takes_piece streams last.moment last.conn r.taken (events own) r.end some r.brings));
     state = λ mode instance lease. r.breaks.state ∙ (sym (after-append old (r.earlier ++ r.own) (r.breaking ∷ [])) ∙ after_is mode instance lease old moves);
@@ -134,7 +134,7 @@ front_ran form old new entries before last streams written order r = record {
     brought : events moves ≡ events r.earlier ++ events own
     brought = ap events (append_assoc r.earlier r.own (r.breaking ∷ [])) ∙ events-append r.earlier own
 
-    last_event : (xs : List Event) (x : Event) → xs ++ x ∷ [] ≡ [] → ⊥
+    last_event : (xs : List StreamEvent) (x : StreamEvent) → xs ++ x ∷ [] ≡ [] → ⊥
     last_event [] x e = cc
     last_event (y ∷ xs) x e = cc
 

@@ -42,13 +42,14 @@ use Rattle.nfs_files.specs.Ranges.{range, wished}
 use Rattle.nfs_files.specs.Denied.{denied}
 use Rattle.nfs_files.specs.Lock.{lock}
 use Rattle.nfs_files.specs.LockU.{lock_u}
-use Rattle.nfs_files.specs.Kept.{Told, Names}
+use Rattle.nfs_files.specs.LockTold.{LockTold, Names}
 use Rattle.nfs_exec.specs.Machine.{Machine}
-use Rattle.nfs_exec.specs.Ops.{Done}
-use Rattle.nfs_exec.specs.Held.{Spares, AreSpared, IsAlone}
+use Rattle.nfs_exec.specs.Ops.{RanOp}
+use Rattle.nfs_exec.specs.LockHeld.{Spares, AreSpared, IsAlone}
 use Rattle.nfs_serve.specs.Step.{State, step}
-use Rattle.nfs_serve.specs.Points.{Came, next, all_next, taken, before, ops_of}
-use Rattle.nfs_serve.specs.Kept.{renews_by, AreInTime}
+use Rattle.nfs_serve.specs.Endpoint.{Arrival}
+use Rattle.nfs_serve.specs.Points.{next, all_next, taken, before, ops_of}
+use Rattle.nfs_serve.specs.LockKept.{renews_by, AreInTime}
 use Rattle.nfs_serve.specs.HeldLock as worked
 use Rattle.nfs_serve.specs.HeldLock.{start, locks, IsHeldTo, AreBothTold}
 
@@ -64,10 +65,10 @@ ends i = false
 abbrev says_ok : List ℕ → Bool
 says_ok result = bytes_eq (take 4 (drop 4 result)) (0 ∷ 0 ∷ 0 ∷ 0 ∷ [])
 
-abbrev spares : Done → Bool
+abbrev spares : RanOp → Bool
 spares d = not (says_ok d.result && ends d.item)
 
-abbrev all_spare : List Done → Bool
+abbrev all_spare : List RanOp → Bool
 all_spare [] = true
 all_spare (d ∷ ds) = spares d && all_spare ds
 
@@ -75,7 +76,7 @@ named_ok : (op : OpNum) (id : List ℕ) → says_ok (done_head op ++ id) ≡ tru
 unfolding number
 named_ok op id = refl
 
-ended : (d : Done) (op : OpNum) (n : ℕ) → spares d ≡ true → ends d.item ≡ true → Names op d.result n → ⊥
+ended : (d : RanOp) (op : OpNum) (n : ℕ) → spares d ≡ true → ends d.item ≡ true → Names op d.result n → ⊥
 ended d op n spared end names = go (says_ok d.result) (ends d.item) spared (ap says_ok names.answers ∙ named_ok op names.id) end
   where
     go : (ok end : Bool) → not (ok && end) ≡ true → ok ≡ true → end ≡ true → ⊥
@@ -83,14 +84,14 @@ ended d op n spared end names = go (says_ok d.result) (ends d.item) spared (ap s
     go true false e ok end = true≢false (sym end)
     go false end e ok is = true≢false (sym ok)
 
-spared : (k : Told) (d : Done) → spares d ≡ true → Spares k d
+spared : (k : LockTold) (d : RanOp) → spares d ≡ true → Spares k d
 spared k d e = record {
   locks = λ w l. absurd (ended d Num.Lock k.state e (ap ends l.is) l.names);
   unlocks = λ w l. absurd (ended d Num.LockU k.state e (ap ends l.is) l.names);
   closes = λ l. ended d Num.Close 0 e (ap ends l.is) l.names;
 }
 
-all_spared : (k : Told) (ds : List Done) → all_spare ds ≡ true → AreSpared k ds
+all_spared : (k : LockTold) (ds : List RanOp) → all_spare ds ≡ true → AreSpared k ds
 all_spared k [] e d there = absurd there
 all_spared k (x ∷ ds) e d there = (let p = and_parts _ _ e in elim there [
   | inl here ↦ subst (Spares k) (sym here) (spared k x p.0)
@@ -127,7 +128,7 @@ alone client owner first left e f a b in_a is in_b same confirmed =
 
 -- So the premises can be tested.
 
-abbrev in_time : Told → List ℕ → (lease last : ℕ) → State → List Came → Bool
+abbrev in_time : LockTold → List ℕ → (lease last : ℕ) → State → List Arrival → Bool
 in_time k owner lease last s [] = true
 in_time k owner lease last s (c ∷ more) =
     nat_le (taken s c) (last + lease)
@@ -136,7 +137,7 @@ in_time k owner lease last s (c ∷ more) =
     && (all_own k.client owner (next s c).machine.clients.records
     && in_time k owner lease (if renews_by k.client s c then taken s c else last) (next s c) more)))
 
-are_in_time : (k : Told) (owner : List ℕ) (lease last : ℕ) (s : State) (cs : List Came) → in_time k owner lease last s cs ≡ true
+are_in_time : (k : LockTold) (owner : List ℕ) (lease last : ℕ) (s : State) (cs : List Arrival) → in_time k owner lease last s cs ≡ true
     → AreInTime k lease last s cs (λ last t. Unit {0})
 are_in_time k owner lease last s [] e = tt
 are_in_time k owner lease last s (c ∷ more) e =
@@ -150,22 +151,22 @@ are_in_time k owner lease last s (c ∷ more) e =
       are_in_time k owner lease (if renews_by k.client s c then taken s c else last) (next s c) more t.1,
     )
 
-abbrev pub last_of : Done → List Done → Done
+abbrev pub last_of : RanOp → List RanOp → RanOp
 last_of d [] = d
 last_of d (e ∷ ds) = last_of e ds
 
 -- and up to what holds behind them
-abbrev pub last_of_all : ℕ → ℕ → State → List Came → ℕ
+abbrev pub last_of_all : ℕ → ℕ → State → List Arrival → ℕ
 last_of_all client last s [] = last
 last_of_all client last s (c ∷ more) = last_of_all client (if renews_by client s c then taken s c else last) (next s c) more
 
-up_to : (k : Told) (lease last : ℕ) (s : State) (cs : List Came) (Then : ℕ → State → Type 0) → AreInTime k lease last s cs (λ last t. Unit {0})
+up_to : (k : LockTold) (lease last : ℕ) (s : State) (cs : List Arrival) (Then : ℕ → State → Type 0) → AreInTime k lease last s cs (λ last t. Unit {0})
     → Then (last_of_all k.client last s cs) (all_next s cs) → AreInTime k lease last s cs Then
 up_to k lease last s [] Then all holds = holds
 up_to k lease last s (c ∷ more) Then all holds =
     (all.0, all.1, all.2, up_to k lease (if renews_by k.client s c then taken s c else last) (next s c) more Then all.3 holds)
 
-three : (x : Done) (ds : List Done) → length ds ≡ 3 → ds ≡ take 2 ds ++ last_of x ds ∷ []
+three : (x : RanOp) (ds : List RanOp) → length ds ≡ 3 → ds ≡ take 2 ds ++ last_of x ds ∷ []
 three x [] e = absurd (omega arith)
 three x (a ∷ []) e = absurd (omega arith)
 three x (a ∷ b ∷ []) e = absurd (omega arith)
@@ -173,7 +174,7 @@ three x (a ∷ b ∷ c ∷ []) e = refl
 three x (a ∷ b ∷ c ∷ d ∷ more) e = absurd (omega arith)
 
 -- what stands behind the list is of no account
-pub nothing : Done
+pub nothing : RanOp
 nothing = record {
   before = start.machine;
   context = begins 0 (record { uid = 0; gid = 0; gids = [] });

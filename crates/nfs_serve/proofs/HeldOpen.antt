@@ -28,11 +28,12 @@ use Rattle.nfs_files.specs.Open.{asked_for, open_file}
 use Rattle.nfs_files.specs.OpenDowngrade.{open_downgrade}
 use Rattle.nfs_files.specs.Target.{the_file, target}
 use Rattle.nfs_files.specs.OpenTold.{OpenTold, Bits}
-use Rattle.nfs_exec.specs.Ops.{Done}
+use Rattle.nfs_exec.specs.Ops.{RanOp}
 use Rattle.nfs_exec.specs.OpenHeld.{NoneCloses, bits_left}
 use Rattle.nfs_serve.specs.Step.{State, step}
-use Rattle.nfs_serve.specs.Points.{Came, next, all_next, taken, before, ops_of}
-use Rattle.nfs_serve.specs.Kept.{renews_by}
+use Rattle.nfs_serve.specs.Endpoint.{Arrival}
+use Rattle.nfs_serve.specs.Points.{next, all_next, taken, before, ops_of}
+use Rattle.nfs_serve.specs.LockKept.{renews_by}
 use Rattle.nfs_serve.specs.OpenKept.{LeaveOpen}
 use Rattle.nfs_serve.specs.HeldLock as locks
 use Rattle.nfs_serve.specs.HeldOpen as worked
@@ -46,7 +47,7 @@ abbrev is_close : Item → Bool
 is_close (Operation (OpClose a)) = true
 is_close i = false
 
-abbrev none_is_close : List Done → Bool
+abbrev none_is_close : List RanOp → Bool
 none_is_close [] = true
 none_is_close (d ∷ ds) = not (is_close d.item) && none_is_close ds
 
@@ -54,16 +55,16 @@ no_close : (b : Bool) → not b ≡ true → b ≡ true → ⊥
 no_close true e is = true≢false (sym e)
 no_close false e is = true≢false (sym is)
 
-none_closes : (k : OpenTold) (ds : List Done) → none_is_close ds ≡ true → NoneCloses k ds
+none_closes : (k : OpenTold) (ds : List RanOp) → none_is_close ds ≡ true → NoneCloses k ds
 none_closes k [] e d there closes = absurd there
 none_closes k (x ∷ ds) e d there closes = (let p = and_parts _ _ e in elim there [
-  | inl here ↦ no_close (is_close x.item) p.0 (ap (λ (c : Done). is_close c.item) (sym here) ∙ ap is_close closes.is)
+  | inl here ↦ no_close (is_close x.item) p.0 (ap (λ (c : RanOp). is_close c.item) (sym here) ∙ ap is_close closes.is)
   | inr later ↦ none_closes k ds p.1 d later closes
 ])
 
 -- So the premises can be tested.
 
-abbrev in_time : ℕ → List ℕ → (lease last : ℕ) → State → List Came → Bool
+abbrev in_time : ℕ → List ℕ → (lease last : ℕ) → State → List Arrival → Bool
 in_time client owner lease last s [] = true
 in_time client owner lease last s (c ∷ more) =
     nat_le (taken s c) (last + lease)
@@ -72,11 +73,11 @@ in_time client owner lease last s (c ∷ more) =
     && (all_own client owner (next s c).machine.clients.records
     && in_time client owner lease (if renews_by client s c then taken s c else last) (next s c) more)))
 
-abbrev bits_of_all : ℕ → Bits → State → List Came → Bits
+abbrev bits_of_all : ℕ → Bits → State → List Arrival → Bits
 bits_of_all n b s [] = b
 bits_of_all n b s (c ∷ more) = bits_of_all n (bits_left n b (ops_of s c)) (next s c) more
 
-leave_open : (k : OpenTold) (owner : List ℕ) (b : Bits) (lease last : ℕ) (s : State) (cs : List Came) (Then : Bits → ℕ → State → Type 0)
+leave_open : (k : OpenTold) (owner : List ℕ) (b : Bits) (lease last : ℕ) (s : State) (cs : List Arrival) (Then : Bits → ℕ → State → Type 0)
     → in_time k.client owner lease last s cs ≡ true → Then (bits_of_all k.number b s cs) (last_of_all k.client last s cs) (all_next s cs)
     → LeaveOpen k b lease last s cs Then
 leave_open k owner b lease last s [] Then e holds = holds
@@ -91,7 +92,7 @@ leave_open k owner b lease last s (c ∷ more) Then e holds =
       leave_open k owner (bits_left k.number b (ops_of s c)) lease (if renews_by k.client s c then taken s c else last) (next s c) more Then t.1 holds,
     )
 
-two : (x : Done) (ds : List Done) → length ds ≡ 2 → ds ≡ take 1 ds ++ last_of x ds ∷ []
+two : (x : RanOp) (ds : List RanOp) → length ds ≡ 2 → ds ≡ take 1 ds ++ last_of x ds ∷ []
 two x [] e = absurd (omega arith)
 two x (a ∷ []) e = absurd (omega arith)
 two x (a ∷ b ∷ []) e = refl

@@ -47,8 +47,8 @@ use Rattle.nfs_exec.proofs.Numbering.{IsHeld}
 use Rattle.nfs_serve.specs.Endpoint.{Place, Heading, Answer, SlotNumber}
 use Rattle.nfs_serve.proofs.ServerLaws.{Runs, Repeats as RepeatsOn, IsElsewhere, KeepsSlots}
 use Rattle.nfs_exec.specs.Executing.{first_sequence, sequence_of, is_alone, executes}
-use Rattle.nfs_serve.specs.Step.{State, Stepped, refused, answered, with_arguments, by_procedure, reply_to, step}
-use Rattle.nfs_serve.specs.Seen.{slot_in, answer_in, sequenced, slot_number, ticked, executes_by, asked_by, heading_of, heading_by, heading, seen, server}
+use Rattle.nfs_serve.specs.Step.{asked_of, State, Stepped, refused, answered, with_arguments, by_procedure, reply_to, step}
+use Rattle.nfs_serve.specs.Seen.{slot_in, answer_in, sequenced, slot_number, ticked, executes_by, heading_of, heading_by, heading, seen, server}
 use Rattle.nfs_serve.proofs.Ticking.{step_is}
 use Rattle.nfs_exec.proofs.Quiet.{ran_in, quiet_compound, told_compound}
 use Rattle.nfs_serve.proofs.SlotsLeft.{slot_at, IsGiven, IsLeft, Stays, stands_given, held_sessions, held_given, held_slot, kept_slot, fewer_leaves, keep_there}
@@ -76,11 +76,11 @@ taken bytes call fits e =
       args = bytes_behind (header.spell t.0) call.args (bytes_behind (number.spell 2) _ (bytes_behind (number.spell 0) _ (bytes_behind (number.spell call.xid) _ whole)));
     }
 
-asked_is : (call : Call) (p : Procedure) (r : Request) → asked_by call p ≡ Some r → request_at call.args ≡ Some r
+asked_is : (call : Call) (p : Procedure) (r : Request) → asked_of call p ≡ Some r → request_at call.args ≡ Some r
 asked_is call Procedures.Null r e = absurd cc
 asked_is call Procedures.Compound r e = e
 
-request_is : (call : Call) (r : Request) → IsCall call → asked_by call call.procedure ≡ Some r → IsRequest call.args r
+request_is : (call : Call) (r : Request) → IsCall call → asked_of call call.procedure ≡ Some r → IsRequest call.args r
 request_is call r is e = request_takes call.args r is.args (asked_is call call.procedure r e)
 
 -- what a heading is read from
@@ -88,7 +88,7 @@ record Heads (bytes : List ℕ) (h : Heading) : Type 0 where
   call : Call
   called : call_of bytes ≡ Accepted call
   request : Request
-  asked : asked_by call call.procedure ≡ Some request
+  asked : asked_of call call.procedure ≡ Some request
   first : Sequence
   begins : sequence_of request ≡ Some first
   is : heading_of call first ≡ h
@@ -99,32 +99,32 @@ heads bytes h e = by (call_of bytes) refl e
     by : (c : Called) → call_of bytes ≡ c → heading_by c ≡ Some h → Heads bytes h
     by (Refused refusal) is e = absurd cc
     by (Accepted call) is e =
-        let r = bind_some (asked_by call call.procedure) (λ r. sequence_of r >>= λ s. Some (heading_of call s)) h e in
+        let r = bind_some (asked_of call call.procedure) (λ r. sequence_of r >>= λ s. Some (heading_of call s)) h e in
         let s = bind_some (sequence_of r.0) (λ s. Some (heading_of call s)) h r.2 in
         record { call = call; called = is; request = r.0; asked = r.1; first = s.0; begins = s.1; is = same_Some (heading_of call s.0) h s.2 }
 
 -- and back
-heading_from : (bytes : List ℕ) (call : Call) (r : Request) (s : Sequence) → call_of bytes ≡ Accepted call → asked_by call call.procedure ≡ Some r
+heading_from : (bytes : List ℕ) (call : Call) (r : Request) (s : Sequence) → call_of bytes ≡ Accepted call → asked_of call call.procedure ≡ Some r
     → sequence_of r ≡ Some s → heading bytes ≡ Some (heading_of call s)
 heading_from bytes call r s called asked begins =
     ap heading_by called
     ∙ (ap (λ (o : Option Request). o >>= λ r. sequence_of r >>= λ s. Some (heading_of call s)) asked
     ∙ ap (λ (o : Option Sequence). o >>= λ s. Some (heading_of call s)) begins)
 
-executes_is : (t : State) (size : ℕ) (bytes : List ℕ) (call : Call) (r : Request) → call_of bytes ≡ Accepted call → asked_by call call.procedure ≡ Some r
+executes_is : (t : State) (size : ℕ) (bytes : List ℕ) (call : Call) (r : Request) → call_of bytes ≡ Accepted call → asked_of call call.procedure ≡ Some r
     → executes_by t size (call_of bytes) ≡ executes t.machine r call.who size
 executes_is t size bytes call r called asked =
     ap (executes_by t size) called ∙ ap (λ (o : Option Request). option_map_or (λ r. executes t.machine r call.who size) o false) asked
 
 -- A step.
 
-answered_is : (t : State) (call : Call) (size : ℕ) (choice : Option ℕ) (r : Request) (p : Procedure) → asked_by call p ≡ Some r
+answered_is : (t : State) (call : Call) (size : ℕ) (choice : Option ℕ) (r : Request) (p : Procedure) → asked_of call p ≡ Some r
     → by_procedure t call size choice p ≡ answered t call.xid (compound t.machine r call.who size t.moment choice)
 answered_is t call size choice r Procedures.Null e = absurd cc
 answered_is t call size choice r Procedures.Compound e = ap (with_arguments t call size choice) e
 
 stepped_is : (s : State) (bytes : List ℕ) (now : ℕ) (choice : Option ℕ) (call : Call) (r : Request) → call_of bytes ≡ Accepted call
-    → asked_by call call.procedure ≡ Some r
+    → asked_of call call.procedure ≡ Some r
     → step s bytes now choice ≡ answered (ticked s now) call.xid (compound (ticked s now).machine r call.who (length bytes) (ticked s now).moment choice)
 stepped_is s bytes now choice call r called asked =
     step_is s bytes now choice
@@ -132,7 +132,7 @@ stepped_is s bytes now choice call r called asked =
 
 -- what holds of the sessions behind expiry, and behind each compound, holds behind the step
 reply_holds : (P : SessionTable → Type 0) (t : State) (size : ℕ) (choice : Option ℕ) (called : Called) → P t.machine.sessions
-    → ((call : Call) (r : Request) → called ≡ Accepted call → asked_by call call.procedure ≡ Some r → P (compound t.machine r call.who size t.moment choice).machine.sessions)
+    → ((call : Call) (r : Request) → called ≡ Accepted call → asked_of call call.procedure ≡ Some r → P (compound t.machine r call.who size t.moment choice).machine.sessions)
     → P (reply_to t size choice called).state.machine.sessions
 reply_holds P t size choice (Refused Silent) is does = is
 reply_holds P t size choice (Refused (Mismatch xid)) is does = is
@@ -145,13 +145,13 @@ reply_holds P t size choice (Accepted call) is does = by_call call.procedure (λ
     by_request None f = is
     by_request (Some r) f = f r refl
 
-    by_call : (p : Procedure) → ((r : Request) → asked_by call p ≡ Some r → P (compound t.machine r call.who size t.moment choice).machine.sessions)
+    by_call : (p : Procedure) → ((r : Request) → asked_of call p ≡ Some r → P (compound t.machine r call.who size t.moment choice).machine.sessions)
         → P (by_procedure t call size choice p).state.machine.sessions
     by_call Procedures.Null f = is
     by_call Procedures.Compound f = by_request (request_at call.args) f
 
 step_holds : (P : SessionTable → Type 0) (s : State) (bytes : List ℕ) (now : ℕ) (choice : Option ℕ) → P (ticked s now).machine.sessions
-    → ((call : Call) (r : Request) → call_of bytes ≡ Accepted call → asked_by call call.procedure ≡ Some r
+    → ((call : Call) (r : Request) → call_of bytes ≡ Accepted call → asked_of call call.procedure ≡ Some r
     → P (compound (ticked s now).machine r call.who (length bytes) (ticked s now).moment choice).machine.sessions)
     → P (step s bytes now choice).state.machine.sessions
 step_holds P s bytes now choice is does =
@@ -241,7 +241,7 @@ leaves mode instance lease s bytes now choice p is given elsewhere =
     (apart call r q called asked ran) ticked_is)
     ticked_is)).left
   where
-    apart : (call : Call) (r : Request) (q : Sequence) → call_of bytes ≡ Accepted call → asked_by call call.procedure ≡ Some r
+    apart : (call : Call) (r : Request) (q : Sequence) → call_of bytes ≡ Accepted call → asked_of call call.procedure ≡ Some r
         → ran_in (ticked s now).machine r call.who (length bytes) ≡ Some q → (p.session ≡ id_of q.sessionid) × (p.slot ≡ q.slotid) → ⊥
     apart call r q called asked ran same =
         let did = ran_executes (ticked s now).machine r call.who (length bytes) q ran in
@@ -270,7 +270,7 @@ stood s now p x is e =
     ]
 
 runs_for : (mode instance lease : ℕ) (s : State) (bytes : List ℕ) (now : ℕ) (choice : Option ℕ) (call : Call) (r : Request) (q : Sequence)
-    → IsBytes bytes → IsSessions s.machine.sessions → call_of bytes ≡ Accepted call → asked_by call call.procedure ≡ Some r → sequence_of r ≡ Some q
+    → IsBytes bytes → IsSessions s.machine.sessions → call_of bytes ≡ Accepted call → asked_of call call.procedure ≡ Some r → sequence_of r ≡ Some q
     → executes_by (ticked s now) (length bytes) (call_of bytes) ≡ true
     → Runs (server mode instance lease) s (heading_of call q) (seen (step s bytes now choice))
 runs_for mode instance lease s bytes now choice call r q fits is called asked begins does =
@@ -400,7 +400,7 @@ compound_again m r who size now choice q fits begins e good = elim (cases_Bool (
 
 -- what is answered to a call of a request
 told_answer : (s : State) (bytes : List ℕ) (now : ℕ) (choice : Option ℕ) (call : Call) (r : Request) (a : Answer) → IsBytes bytes
-    → call_of bytes ≡ Accepted call → asked_by call call.procedure ≡ Some r → (seen (step s bytes now choice)).answer ≡ Some a
+    → call_of bytes ≡ Accepted call → asked_of call call.procedure ≡ Some r → (seen (step s bytes now choice)).answer ≡ Some a
     → (a.xid ≡ call.xid) × (a.result ≡ (compound (ticked s now).machine r call.who (length bytes) (ticked s now).moment choice).text)
 told_answer s bytes now choice call r a fits called asked e =
     let text = (compound (ticked s now).machine r call.who (length bytes) (ticked s now).moment choice).text in
@@ -412,7 +412,7 @@ told_answer s bytes now choice call r a fits called asked e =
     (ap (λ (a : Answer). a.xid) (sym same), ap (λ (a : Answer). a.result) (sym same))
 
 repeats_for : (mode instance lease : ℕ) (s : State) (bytes : List ℕ) (now : ℕ) (choice : Option ℕ) (call : Call) (r : Request) (q : Sequence) (a : Answer)
-    → IsBytes bytes → IsSessions s.machine.sessions → call_of bytes ≡ Accepted call → asked_by call call.procedure ≡ Some r → sequence_of r ≡ Some q
+    → IsBytes bytes → IsSessions s.machine.sessions → call_of bytes ≡ Accepted call → asked_of call call.procedure ≡ Some r → sequence_of r ≡ Some q
     → executes_by (ticked s now) (length bytes) (call_of bytes) ≡ false → (seen (step s bytes now choice)).answer ≡ Some a → sequenced a.result ≡ true
     → RepeatsOn (server mode instance lease) s (heading_of call q) a.result
 repeats_for mode instance lease s bytes now choice call r q a fits is called asked begins idle e good =
@@ -466,7 +466,7 @@ no_answer : (o : Option Answer) (a : Answer) → o ≡ None → o ≡ Some a →
 no_answer o a none some = let e : None ≡ Some a = sym none ∙ some in absurd cc
 
 call_mute : (t : State) (size : ℕ) (choice : Option ℕ) (call : Call) (a : Answer) (p : Procedure) → IsCall call
-    → (asked_by call p >>= λ r. sequence_of r >>= λ s. Some (heading_of call s)) ≡ None
+    → (asked_of call p >>= λ r. sequence_of r >>= λ s. Some (heading_of call s)) ≡ None
     → (seen (by_procedure t call size choice p)).answer ≡ Some a → sequenced a.result ≡ false
 call_mute t size choice call a Procedures.Null known none e =
     let is : Some (record { xid = call.xid; result = [] }) ≡ Some a =

@@ -17,7 +17,7 @@ use Rattle.nfs_results.specs.Items as results
 use Rattle.nfs_slots.specs.Slot.{unused_slot}
 use Rattle.nfs_serve.specs.Step.{step}
 use Rattle.nfs_serve.specs.Endpoint.{Place, Heading, Arrival}
-use Rattle.nfs_serve.specs.Network.{Packet, Event, Resends, Arrives, Accepts, IsUnused}
+use Rattle.nfs_serve.specs.Network.{Packet, NetworkEvent, Resends, Arrives, Accepts, IsUnused}
 use Rattle.nfs_serve.specs.PerfectWire.{wire, done_on}
 use Rattle.nfs_serve.specs.RealTime.{RunsBehind, IsAtomic}
 use Rattle.nfs_serve.specs.LostReply.{before, here, place, callers, compound, packet, answer, first, second, start, done, brought, IsAccepted, IsOverAWire}
@@ -124,5 +124,5 @@ is_over_a_wire = record {
       (is_atomic.in_time (take 2 first) [] back place (compound 1) (answer 3 1) (packet 4 2) refl);
 }
   where
-    back : List Event
+    back : List NetworkEvent
     back = Arrives (packet 4 2) 103 None ∷ Resends (packet 5 2) ∷ Arrives (packet 5 2) 104 None ∷ Accepts place (compound 2) (answer 5 2) ∷ []

@@ -6,7 +6,7 @@ use Rattle.nfs_rpc.specs.Stream.{End}
 use Rattle.nfs_serve.specs.declared.form.Form.{Form}
 use Rattle.nfs_serve.specs.Script.{Entry}
 use Rattle.nfs_serve.specs.Step.{State}
-use Rattle.nfs_serve.specs.Run.{Streams, with_stream, Event, Takes, TakesAll, Move, events, after, after_event, output, output_of, all_closed, Brings, Runs, Breaks, RunsInto}
+use Rattle.nfs_serve.specs.Run.{Streams, with_stream, StreamEvent, Takes, TakesAll, Move, events, after, after_event, output, output_of, all_closed, Brings, Runs, Breaks, RunsInto}
 use Rattle.nfs_serve.specs.Server.{held_on, IsWith, Stands}
 use Rattle.nfs_serve.specs.Replay.{AllStand}
 
@@ -30,7 +30,7 @@ pub events-append : (xs ys : List Move) → events (xs ++ ys) ≡ events xs ++ e
 events-append xs ys = map-append (λ m. m.event) xs ys
 
 -- one more entry
-pub TakesAll-more : (old : Streams) (es : List Entry) (first : List Event) (between : Streams) (e : Entry) (later : List Event) (new : Streams)
+pub TakesAll-more : (old : Streams) (es : List Entry) (first : List StreamEvent) (between : Streams) (e : Entry) (later : List StreamEvent) (new : Streams)
     → TakesAll old es first between → Takes between e later new → TakesAll old (es ++ e ∷ []) (first ++ later) new
 TakesAll-more old [] first between e later new h t =
     (later, [], new, rw h.0 (sym (append-nil later)), rw h.1 at t, (refl, refl))

@@ -4,7 +4,7 @@ use Rattle.std.proofs.lemmas.Bool.{true≢false}
 use Rattle.nfs_xdr.specs.Codec.{IsBytes}
 use Rattle.nfs_xdr.specs.Tables.{In}
 use Rattle.nfs_serve.specs.Endpoint.{Place, Compound, Heading, Answer, SlotNumber, Stepped, Server, Arrival, stepped, ran}
-use Rattle.nfs_serve.specs.Network.{Callers, Packet, Reply, Done, Line, Network, Event, Sends, Resends, Arrives, Asks, Intrudes, Accepts, IsLast, with_line, sending, resending, accepting, executing, result_of, with_reply, with_packet, arriving, after, ended, IsUnused, no_line, begins, IsExact}
+use Rattle.nfs_serve.specs.Network.{Callers, Packet, Reply, RanCompound, Line, Network, NetworkEvent, Sends, Resends, Arrives, Asks, Intrudes, Accepts, IsLast, with_line, sending, resending, accepting, executing, result_of, with_reply, with_packet, arriving, after, ended, IsUnused, no_line, begins, IsExact}
 use Rattle.nfs_serve.specs.Numbered.{CanSend, CanAccept, Can, Happens, ExactlyOnceByNumber}
 use Rattle.nfs_serve.proofs.ServerLaws.{KeepsSlots, Runs, IsElsewhere}
 use Rattle.nfs_serve.proofs.NetworkLists.{In-front, In-last, In-push, In-map, CountUp, CountUp-front, CountUp-one, counted_once}
@@ -39,7 +39,7 @@ Stage s laws m packets l p = Begun s laws m packets l p ⊎ (l ≡ no_line)
 
 -- what was executed bears the slot and its compound's number
 abbrev pub Tells : (s : Server) → Line → Place → Type 0
-Tells s l p = (d : Done) → In d l.executed → s.slot_number d.result ≡ Some (record { place = p; number = d.compound.number })
+Tells s l p = (d : RanCompound) → In d l.executed → s.slot_number d.result ≡ Some (record { place = p; number = d.compound.number })
 
 pub record IsNetwork (s : Server) (laws : KeepsSlots s) (callers : Callers) (start : s.State) (net : Network s) : Type 0 where
   pub sound : laws.Sound net.machine
@@ -106,7 +106,7 @@ packet_grows s callers lines k l q grows is = record {
 }
 
 reply_grows : (s : Server) (callers : Callers) (lines : Place → Line) (k : Place) (l : Line) (packets more : List Packet) (r : Reply)
-    → ((d : Done) → In d (lines k).executed → In d l.executed) → ((q : Packet) → In q packets → In q more)
+    → ((d : RanCompound) → In d (lines k).executed → In d l.executed) → ((q : Packet) → In q packets → In q more)
     → IsReply s callers lines packets r → IsReply s callers (with_line lines k l) more r
 reply_grows s callers lines k l packets more r grows wider is good =
     let by = is good in
@@ -259,7 +259,7 @@ executes_on s laws callers start net q now choice is i executes = record {
     tells_here : (p : Place) → k ≡ p → Tells s new p
     tells_here p e = subst (Tells s new) e (λ d n. elim (In-push d l.executed (record { compound = q.heading.compound; result = result_of step.answer }) n) [
       | inl old ↦ is.tells k packet.place d old
-      | inr same ↦ subst (λ (d : Done). s.slot_number d.result ≡ Some (record { place = k; number = d.compound.number })) (sym same) bears
+      | inr same ↦ subst (λ (d : RanCompound). s.slot_number d.result ≡ Some (record { place = k; number = d.compound.number })) (sym same) bears
     ])
 
 arriving_keeps : (s : Server) (laws : KeepsSlots s) (callers : Callers) (start : s.State) (net : Network s) (q : Packet) (now : ℕ) (choice : Option ℕ) → IsNetwork s laws callers start net → In q net.packets
@@ -346,7 +346,7 @@ accepted_here s laws callers start net p c a is can =
     was_sent : In d l.sent
     was_sent =
         let first = executed_first l begun.line.course in
-        subst (In d) (sym first.1) (In-front d (compounds l.executed) first.0 (In-map (λ (x : Done). x.compound) (record { compound = d; result = a.result }) l.executed there))
+        subst (In d) (sym first.1) (In-front d (compounds l.executed) first.0 (In-map (λ (x : RanCompound). x.compound) (record { compound = d; result = a.result }) l.executed there))
 
 accepting_keeps : (s : Server) (laws : KeepsSlots s) (callers : Callers) (start : s.State) (net : Network s) (p : Place) (c : Compound) (a : Answer) → IsNetwork s laws callers start net → CanAccept s callers net p c a
     → IsNetwork s laws callers start (record net { lines = with_line net.lines p (accepting (net.lines p) (record { compound = c; result = a.result })) })
@@ -362,7 +362,7 @@ accepting_keeps s laws callers start net p c a is can = record {
     l : Line
     l = net.lines p
 
-    done : Done
+    done : RanCompound
     done = record { compound = c; result = a.result }
 
     new : Line
@@ -378,7 +378,7 @@ accepting_keeps s laws callers start net p c a is can = record {
     })
 
 -- each event
-pub event_keeps : (s : Server) (laws : KeepsSlots s) (callers : Callers) (start : s.State) (net : Network s) (e : Event) → IsNetwork s laws callers start net → Can callers start net e → IsNetwork s laws callers start (after callers net e)
+pub event_keeps : (s : Server) (laws : KeepsSlots s) (callers : Callers) (start : s.State) (net : Network s) (e : NetworkEvent) → IsNetwork s laws callers start net → Can callers start net e → IsNetwork s laws callers start (after callers net e)
 event_keeps s laws callers start net (Sends q) is can =
     let l = net.lines q.heading.place in
     let begun = begun_ready s laws callers start net q is can in
@@ -400,7 +400,7 @@ event_keeps s laws callers start net (Asks caller a) is lone =
 event_keeps s laws callers start net (Intrudes a) is foreign = moves s laws callers start net a.bytes a.now a.choice is (λ p i h reads executes at. foreign h reads (subst (λ (x : Place). In x callers.places) (sym at) i))
 event_keeps s laws callers start net (Accepts p c a) is can = accepting_keeps s laws callers start net p c a is can
 
-pub events_keep : (s : Server) (laws : KeepsSlots s) (callers : Callers) (start : s.State) (net : Network s) (events : List Event) → IsNetwork s laws callers start net → Happens callers start net events → IsNetwork s laws callers start (ended callers net events)
+pub events_keep : (s : Server) (laws : KeepsSlots s) (callers : Callers) (start : s.State) (net : Network s) (events : List NetworkEvent) → IsNetwork s laws callers start net → Happens callers start net events → IsNetwork s laws callers start (ended callers net events)
 events_keep s laws callers start net [] is can = is
 events_keep s laws callers start net (e ∷ more) is can = events_keep s laws callers start (after callers net e) more (event_keeps s laws callers start net e is can.0) can.1
 

@@ -10,7 +10,7 @@ use Rattle.nfs_slots.proofs.TableLemmas.{fresh_number}
 use Rattle.nfs_sessions.specs.declared.id.SessionId.{SessionId}
 use Rattle.nfs_sessions.specs.Laws.{is_id}
 use Rattle.nfs_serve.specs.Endpoint.{Place, Compound, Heading, Answer, Stepped, Server}
-use Rattle.nfs_serve.specs.Network.{Packet, Done, Line, IsLast, same_place, with_line, sending, resending, accepting, executing, result_of}
+use Rattle.nfs_serve.specs.Network.{Packet, RanCompound, Line, IsLast, same_place, with_line, sending, resending, accepting, executing, result_of}
 use Rattle.nfs_serve.proofs.ServerLaws.{Runs, Repeats}
 use Rattle.nfs_serve.proofs.NetworkLists.{In-last, In-push, In-map, append_none, length_append, length_push, map_push, map_length, last_one, CountUp, CountUp-push, CountUp-front, CountUp-last, CountUp-bounds}
 
@@ -80,8 +80,8 @@ updated P lines k l p here elsewhere =
     (λ e. elsewhere (λ same. false≢true (sym e ∙ (ap (λ (x : Place). same_place x p) same ∙ same_place_self p))))
 
 -- the compounds that were executed
-abbrev pub compounds : List Done → List Compound
-compounds ds = map (λ (d : Done). d.compound) ds
+abbrev pub compounds : List RanCompound → List Compound
+compounds ds = map (λ (d : RanCompound). d.compound) ds
 
 -- a slot that stands has the number of the last execution, and keeps that one
 pub record IsSlot (l : Line) (x : SlotState) : Type 0 where
@@ -96,7 +96,7 @@ pub data IsAt (l : Line) (found : Option SlotState) : Type 0 where
 pub data Course (l : Line) : Type 0 where
   Idle : l.xids ≡ [] → l.accepted ≡ l.executed → l.sent ≡ compounds l.executed → Course l
   Waits : (l.xids ≡ [] → ⊥) → l.accepted ≡ l.executed → (c : Compound) → l.sent ≡ compounds l.executed ++ c ∷ [] → Course l
-  Ran : (l.xids ≡ [] → ⊥) → (d : Done) → l.executed ≡ l.accepted ++ d ∷ [] → l.sent ≡ compounds l.executed → Course l
+  Ran : (l.xids ≡ [] → ⊥) → (d : RanCompound) → l.executed ≡ l.accepted ++ d ∷ [] → l.sent ≡ compounds l.executed → Course l
 
 -- each xid of the outstanding compound was sent with it
 abbrev pub IsSent : List Packet → Line → Place → Type 0
@@ -110,7 +110,7 @@ pub record IsLine (found : Option SlotState) (packets : List Packet) (l : Line) 
   pub sent : IsSent packets l p
 
 executed_length : (l : Line) (rest : List Compound) → l.sent ≡ compounds l.executed ++ rest → length l.sent ≡ length l.executed + length rest
-executed_length l rest e = ap length e ∙ joined (compounds l.executed) rest (map_length (λ (d : Done). d.compound) l.executed)
+executed_length l rest e = ap length e ∙ joined (compounds l.executed) rest (map_length (λ (d : RanCompound). d.compound) l.executed)
   where
     joined : (xs ys : List Compound) → length xs ≡ length l.executed → length (xs ++ ys) ≡ length l.executed + length ys
     joined xs ys e = length_append xs ys ∙ ap (λ (n : ℕ). n + length ys) e
@@ -122,7 +122,7 @@ executed_first l (Waits some same c all) = (c ∷ [], all)
 executed_first l (Ran some d same all) = ([], all ∙ sym (append_none (compounds l.executed)))
 
 -- the accepted results are the first ones executed
-pub accepted_first : (l : Line) → Course l → (rest : List Done) × (l.executed ≡ l.accepted ++ rest)
+pub accepted_first : (l : Line) → Course l → (rest : List RanCompound) × (l.executed ≡ l.accepted ++ rest)
 accepted_first l (Idle none same all) = ([], sym same ∙ sym (append_none l.accepted))
 accepted_first l (Waits some same c all) = ([], sym same ∙ sym (append_none l.accepted))
 accepted_first l (Ran some d same all) = (d ∷ [], same)
@@ -144,7 +144,7 @@ slot_alike : (l m : Line) (found : Option SlotState) → l.executed ≡ m.execut
 slot_alike l m found same (Gone gone) = Gone gone
 slot_alike l m found same (Stands x e is) = Stands x e (record {
   number = is.number ∙ ap length same;
-  kept = λ used. subst (λ (ds : List Done). In (record { compound = compound_of x; result = x.reply }) ds) same (is.kept used);
+  kept = λ used. subst (λ (ds : List RanCompound). In (record { compound = compound_of x; result = x.reply }) ds) same (is.kept used);
 })
 
 -- a caller sends its next compound
@@ -188,13 +188,13 @@ executing_course l c answer counts i next (Idle none same all) =
     let bound = CountUp-bounds 1 l.sent c counts i in
     absurd (omega (arith, next, bound.1, executed_length l [] (all ∙ sym (append_none (compounds l.executed)))))
 executing_course l c answer counts i next (Waits some same d all) =
-    let done : Done = record { compound = c; result = result_of answer } in
+    let done : RanCompound = record { compound = c; result = result_of answer } in
     elim (In-push c (compounds l.executed) d (subst (In c) all i)) [
       | inl old ↦ (
           let bound = CountUp-bounds 1 (compounds l.executed) c (CountUp-front 1 (compounds l.executed) (d ∷ []) (subst (CountUp 1) all counts)) old in
-          absurd (omega (arith, next, bound.1, map_length (λ (d : Done). d.compound) l.executed)))
-      | inr last ↦ Ran some done (ap (λ (ds : List Done). ds ++ done ∷ []) (sym same))
-          (all ∙ (ap (λ (x : Compound). compounds l.executed ++ x ∷ []) (sym last) ∙ sym (map_push (λ (d : Done). d.compound) l.executed done)))
+          absurd (omega (arith, next, bound.1, map_length (λ (d : RanCompound). d.compound) l.executed)))
+      | inr last ↦ Ran some done (ap (λ (ds : List RanCompound). ds ++ done ∷ []) (sym same))
+          (all ∙ (ap (λ (x : Compound). compounds l.executed ++ x ∷ []) (sym last) ∙ sym (map_push (λ (d : RanCompound). d.compound) l.executed done)))
     ]
 executing_course l c answer counts i next (Ran some d same all) =
     let bound = CountUp-bounds 1 l.sent c counts i in
@@ -219,7 +219,7 @@ line_runs s m step packets l h i runs is =
     let bound = CountUp-bounds 1 l.sent c is.counts i in
     let first = executed_first l is.course in
     let next : c.number ≡ length l.executed + 1 = next_is (length l.executed) c.number (length l.sent) is.small (omega (arith, executed_length l first.0 first.1)) bound.0 (omega (arith, bound.1)) fresh in
-    let done : Done = record { compound = c; result = result_of step.answer } in
+    let done : RanCompound = record { compound = c; result = result_of step.answer } in
     let told : result_of step.answer ≡ runs.result = ap result_of runs.answer in
     record {
       small = is.small;
@@ -233,29 +233,29 @@ line_runs s m step packets l h i runs is =
     }
 
 -- the caller accepts the result of an execution of the outstanding compound
-accepting_course : (l : Line) (done : Done) → CountUp 1 l.sent → (l.xids ≡ [] → ⊥) → IsLast done.compound l.sent → In done l.executed → Course l → Course (accepting l done)
+accepting_course : (l : Line) (done : RanCompound) → CountUp 1 l.sent → (l.xids ≡ [] → ⊥) → IsLast done.compound l.sent → In done l.executed → Course l → Course (accepting l done)
 accepting_course l done counts some last i (Idle none same all) = absurd (some none)
 accepting_course l done counts some last i (Waits _ same c all) =
-    let here : In done.compound (compounds l.executed) = In-map (λ (d : Done). d.compound) done l.executed i in
+    let here : In done.compound (compounds l.executed) = In-map (λ (d : RanCompound). d.compound) done l.executed i in
     let before = subst (CountUp 1) all counts in
     let bound = CountUp-bounds 1 (compounds l.executed) done.compound (CountUp-front 1 (compounds l.executed) (c ∷ []) before) here in
     let one : c ≡ done.compound = last_one (compounds l.executed) last.0 c done.compound (sym all ∙ last.1) in
     let number : done.compound.number ≡ 1 + length (compounds l.executed) = ap (λ (x : Compound). x.number) (sym one) ∙ CountUp-last 1 (compounds l.executed) c before in
     absurd (omega (arith, bound.1, number))
 accepting_course l done counts some last i (Ran _ d same all) =
-    let front : l.sent ≡ compounds l.accepted ++ d.compound ∷ [] = all ∙ (ap compounds same ∙ map_push (λ (d : Done). d.compound) l.accepted d) in
+    let front : l.sent ≡ compounds l.accepted ++ d.compound ∷ [] = all ∙ (ap compounds same ∙ map_push (λ (d : RanCompound). d.compound) l.accepted d) in
     let before = subst (CountUp 1) front counts in
     elim (In-push done l.accepted d (subst (In done) same i)) [
       | inl old ↦ (
-          let here : In done.compound (compounds l.accepted) = In-map (λ (d : Done). d.compound) done l.accepted old in
+          let here : In done.compound (compounds l.accepted) = In-map (λ (d : RanCompound). d.compound) done l.accepted old in
           let bound = CountUp-bounds 1 (compounds l.accepted) done.compound (CountUp-front 1 (compounds l.accepted) (d.compound ∷ []) before) here in
           let one : d.compound ≡ done.compound = last_one (compounds l.accepted) last.0 d.compound done.compound (sym front ∙ last.1) in
           let number : done.compound.number ≡ 1 + length (compounds l.accepted) = ap (λ (x : Compound). x.number) (sym one) ∙ CountUp-last 1 (compounds l.accepted) d.compound before in
           absurd (omega (arith, bound.1, number)))
-      | inr e ↦ Idle refl (ap (λ (x : Done). l.accepted ++ x ∷ []) e ∙ sym same) all
+      | inr e ↦ Idle refl (ap (λ (x : RanCompound). l.accepted ++ x ∷ []) e ∙ sym same) all
     ]
 
-pub line_accepts : (found : Option SlotState) (packets : List Packet) (l : Line) (p : Place) (done : Done) → (l.xids ≡ [] → ⊥) → IsLast done.compound l.sent → In done l.executed
+pub line_accepts : (found : Option SlotState) (packets : List Packet) (l : Line) (p : Place) (done : RanCompound) → (l.xids ≡ [] → ⊥) → IsLast done.compound l.sent → In done l.executed
     → IsLine found packets l p → IsLine found packets (accepting l done) p
 line_accepts found packets l p done some last i is = record {
   small = is.small;

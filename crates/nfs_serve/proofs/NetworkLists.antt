@@ -5,7 +5,7 @@ use Rattle.std.proofs.lemmas.Bool.{cases_eq, ne_eqb, eq-eqb}
 use Rattle.std.proofs.lemmas.List.Sums.{sum_by-cons}
 use Rattle.nfs_xdr.specs.Tables.{In}
 use Rattle.nfs_serve.specs.Endpoint.{Compound}
-use Rattle.nfs_serve.specs.Network.{Done, is_number}
+use Rattle.nfs_serve.specs.Network.{RanCompound, is_number}
 
 pub In-front : {X : Type 0} (x : X) (xs ys : List X) → In x xs → In x (xs ++ ys)
 In-front x [] ys i = absurd i
@@ -104,21 +104,21 @@ last_one (a ∷ rs) (b ∷ bs) x y e = last_one rs bs x y (rest a b (rs ++ x ∷
     rest : {X : Type 0} (a b : X) (xs ys : List X) → a ∷ xs ≡ b ∷ ys → xs ≡ ys
     rest a b xs ys e = cc
 
-count_yes : (number : ℕ) (x : Done) (xs : List Done) → x.compound.number ≡ number → count_by (is_number number) (x ∷ xs) ≡ 1 + count_by (is_number number) xs
+count_yes : (number : ℕ) (x : RanCompound) (xs : List RanCompound) → x.compound.number ≡ number → count_by (is_number number) (x ∷ xs) ≡ 1 + count_by (is_number number) xs
 count_yes number x xs same =
-    sum_by-cons (λ (d : Done). cond (is_number number d) 1 0) x xs
+    sum_by-cons (λ (d : RanCompound). cond (is_number number d) 1 0) x xs
     ∙ ap (λ (b : Bool). cond b 1 0 + count_by (is_number number) xs) (eq-eqb x.compound.number number same)
 
-count_no : (number : ℕ) (x : Done) (xs : List Done) → (x.compound.number ≡ number → ⊥) → count_by (is_number number) (x ∷ xs) ≡ 0 + count_by (is_number number) xs
+count_no : (number : ℕ) (x : RanCompound) (xs : List RanCompound) → (x.compound.number ≡ number → ⊥) → count_by (is_number number) (x ∷ xs) ≡ 0 + count_by (is_number number) xs
 count_no number x xs other =
-    sum_by-cons (λ (d : Done). cond (is_number number d) 1 0) x xs
+    sum_by-cons (λ (d : RanCompound). cond (is_number number d) 1 0) x xs
     ∙ ap (λ (b : Bool). cond b 1 0 + count_by (is_number number) xs) (ne_eqb x.compound.number number other)
 
-none_below : (n number : ℕ) (ds : List Done) → CountUp n (map (λ d. d.compound) ds) → number < n → count_by (is_number number) ds ≡ 0
+none_below : (n number : ℕ) (ds : List RanCompound) → CountUp n (map (λ d. d.compound) ds) → number < n → count_by (is_number number) ds ≡ 0
 none_below n number [] c low = refl
 none_below n number (x ∷ xs) c low = omega (arith, count_no number x xs (λ e. omega (arith, e, c.0, low)), none_below (n + 1) number xs c.1 (omega (arith, low)))
 
-pub counted_once : (n number : ℕ) (ds : List Done) → CountUp n (map (λ d. d.compound) ds) → count_by (is_number number) ds ≤ 1
+pub counted_once : (n number : ℕ) (ds : List RanCompound) → CountUp n (map (λ d. d.compound) ds) → count_by (is_number number) ds ≤ 1
 counted_once n number [] c = omega arith
 counted_once n number (x ∷ xs) c = elim (cases_eq x.compound.number number) [
   | inl same ↦ omega (arith, count_yes number x xs same, none_below (n + 1) number xs c.1 (omega (arith, same, c.0)))

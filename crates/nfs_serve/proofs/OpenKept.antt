@@ -7,33 +7,34 @@ use Rattle.nfs_compound.specs.declared.op_num.OpNum.TheVariants as Op
 use Rattle.nfs_compound.specs.Operation.{Operation, OpOpen}
 use Rattle.nfs_files.specs.OpenTold.{names_open, OpenTold, Bits, IsOpenWith}
 use Rattle.nfs_exec.specs.Machine.{Machine}
-use Rattle.nfs_exec.specs.Laws.{Event, Asks}
-use Rattle.nfs_exec.specs.Ops.{Done, ops_by}
-use Rattle.nfs_exec.specs.Held.{IsAlone, renews}
+use Rattle.nfs_exec.specs.Laws.{MachineEvent, Asks}
+use Rattle.nfs_exec.specs.Ops.{RanOp, ops_by}
+use Rattle.nfs_exec.specs.LockHeld.{IsAlone, renews}
 use Rattle.nfs_exec.specs.OpenHeld.{OpenWhile, NoneCloses, bits_left, TellsOpen}
 use Rattle.nfs_exec.proofs.WholeRun.{Is}
 use Rattle.nfs_exec.proofs.OneWalk.{none_at}
 use Rattle.nfs_exec.proofs.OpenRun.{open_frame, open_through, told_open, each_tells}
 use Rattle.nfs_serve.specs.Step.{State, new_state}
-use Rattle.nfs_serve.specs.Points.{Came, next, reached, taken, before, asked_by, ops_of}
-use Rattle.nfs_serve.specs.Kept.{renews_by}
+use Rattle.nfs_serve.specs.Endpoint.{Arrival}
+use Rattle.nfs_serve.specs.Points.{next, reached, taken, before, asked_by, ops_of}
+use Rattle.nfs_serve.specs.LockKept.{renews_by}
 use Rattle.nfs_serve.specs.OpenKept.{StaysOpen, OpenKept, EachOpenIsTold}
 use Rattle.nfs_serve.proofs.Points.{left, for_asked, next_is, IsSound, whole_before, sound_all, sound_new}
 use Rattle.nfs_serve.proofs.Staying.{Stays, stays_before, stays_next, stays_from}
 
 -- what a record's compound, if it has one, does to it
-abbrev Through : OpenTold → Bits → Machine → Option Event → Type 0
+abbrev Through : OpenTold → Bits → Machine → Option MachineEvent → Type 0
 Through k b m o =
     OpenWhile k b (option_map_or (ops_by m) o [])
     × (NoneCloses k (option_map_or (ops_by m) o []) → IsAlone k.client m (left m o)
     → IsOpenWith k (bits_left k.number b (option_map_or (ops_by m) o [])) (left m o).store.opens)
 
-through : (k : OpenTold) (b : Bits) (s : State) (c : Came) → IsSound s → IsOpenWith k b (before s c).store.opens → Through k b (before s c) (asked_by s c)
+through : (k : OpenTold) (b : Bits) (s : State) (c : Arrival) → IsSound s → IsOpenWith k b (before s c).store.opens → Through k b (before s c) (asked_by s c)
 through k b s c sound stands =
     for_asked (Through k b (before s c)) s c (tt, λ spared alone. stands)
-    (λ r who. open_through k b (before s c) (Asks r who (length c.call) (taken s c) c.choice) (whole_before s c sound.whole) stands)
+    (λ r who. open_through k b (before s c) (Asks r who (length c.bytes) (taken s c) c.choice) (whole_before s c sound.whole) stands)
 
-stays : (k : OpenTold) (b : Bits) (lease last : ℕ) (s : State) (records : List Came) → Stays k.client lease last (IsOpenWith k b) s → StaysOpen k b lease last s records
+stays : (k : OpenTold) (b : Bits) (lease last : ℕ) (s : State) (records : List Arrival) → Stays k.client lease last (IsOpenWith k b) s → StaysOpen k b lease last s records
 stays k b lease last s [] is = is.stands
 stays k b lease last s (c ∷ more) is = (
   is.stands,
@@ -50,12 +51,12 @@ stays k b lease last s (c ∷ more) is = (
 
 -- The record that told it.
 
-record IsOpenLeft (k : OpenTold) (b : Bits) (m : Machine) (o : Option Event) (back : List Done) : Type 0 where
+record IsOpenLeft (k : OpenTold) (b : Bits) (m : Machine) (o : Option MachineEvent) (back : List RanOp) : Type 0 where
   pub within : OpenWhile k b back
   pub behind : NoneCloses k back → IsOpenWith k (bits_left k.number b back) (left m o).store.opens
   pub renewed : option_map_or (renews k.client m) o false ≡ true
 
-told_left : (k : OpenTold) (b : Bits) (m : Machine) (o : Option Event) (front : List Done) (told : Done) (back : List Done) → Is m
+told_left : (k : OpenTold) (b : Bits) (m : Machine) (o : Option MachineEvent) (front : List RanOp) (told : RanOp) (back : List RanOp) → Is m
     → option_map_or (ops_by m) o [] ≡ front ++ told ∷ back → TellsOpen k b told → IsOpenLeft k b m o back
 told_left k b m None front told back is e tells = absurd (none_at front told back e)
 told_left k b m (Some event) front told back is e tells =
@@ -72,7 +73,7 @@ open_kept mode instance lease earlier c k b front told back e tells =
           (stays_from mode instance lease earlier c k.client (IsOpenWith k c_bits) kept.renewed (kept.behind spared)),
     )
 
-tells_by : (m : Machine) (o : Option Event) (d : Done) (a : Open) (n : ℕ) → Is m → In d (option_map_or (ops_by m) o []) → d.item ≡ Operation (OpOpen a)
+tells_by : (m : Machine) (o : Option MachineEvent) (d : RanOp) (a : Open) (n : ℕ) → Is m → In d (option_map_or (ops_by m) o []) → d.item ≡ Operation (OpOpen a)
     → names_open Op.Open d.result n ≡ true → (k : OpenTold) × (b : Bits) × (k.number ≡ n) × TellsOpen k b d
 tells_by m None d a n is there item named = absurd there
 tells_by m (Some e) d a n is there item named = each_tells m e d a n is there item named

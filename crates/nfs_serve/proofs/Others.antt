@@ -23,7 +23,7 @@ use Rattle.nfs_opens.specs.Table.{Table}
 use Rattle.nfs_clients.specs.Roster.{ClientRecord, client_at}
 use Rattle.nfs_exec.specs.Machine.{Machine, IsMachine, is_client, is_confirmed}
 use Rattle.nfs_exec.specs.Laws.{Asks, first_runs, if_runs}
-use Rattle.nfs_exec.specs.Held.{IsAlone, is_of, renews}
+use Rattle.nfs_exec.specs.LockHeld.{IsAlone, is_of, renews}
 use Rattle.nfs_files.specs.Own.{HasAsBefore}
 use Rattle.nfs_exec.specs.Own.{IsAsBefore, is_named_by}
 use Rattle.nfs_exec.proofs.Invariant.{of_start}
@@ -32,24 +32,25 @@ use Rattle.nfs_files.proofs.OthersTables.{same, both}
 use Rattle.nfs_exec.proofs.OthersRun.{event_apart}
 use Rattle.nfs_exec.proofs.Renewing.{AtLeast, in_time}
 use Rattle.nfs_serve.specs.Step.{State, new_state}
-use Rattle.nfs_serve.specs.Points.{Came, next, all_next, reached, taken, before, asked_by}
-use Rattle.nfs_serve.specs.Kept.{renews_by}
+use Rattle.nfs_serve.specs.Endpoint.{Arrival}
+use Rattle.nfs_serve.specs.Points.{next, all_next, reached, taken, before, asked_by}
+use Rattle.nfs_serve.specs.LockKept.{renews_by}
 use Rattle.nfs_serve.specs.Others.{AreOthers, OthersLeaveAll, is_named, AreStrangers, StrangersChangeNothing}
 use Rattle.nfs_serve.proofs.Points.{left, for_asked, next_is, IsSound, whole_before, sound_next, sound_all, sound_new}
 use Rattle.nfs_serve.proofs.Staying.{lease_next, lease_all, Stays, stays_before, stays_next, stays_from}
 use Rattle.nfs_serve.proofs.Outlived.{confirmed_is, machine_before, machine_next, machine_all}
 
 -- what a record of another does, if it asks for anything
-apart : (client : ℕ) (s : State) (c : Came) → IsSound s → renews_by client s c ≡ false → IsAlone client (before s c) (left (before s c) (asked_by s c))
+apart : (client : ℕ) (s : State) (c : Arrival) → IsSound s → renews_by client s c ≡ false → IsAlone client (before s c) (left (before s c) (asked_by s c))
     → HasAsBefore client (before s c).store.opens (left (before s c) (asked_by s c)).store.opens
 apart client s c sound =
     for_asked (λ o. option_map_or (renews client (before s c)) o false ≡ false → IsAlone client (before s c) (left (before s c) o)
     → HasAsBefore client (before s c).store.opens (left (before s c) o).store.opens) s c
     (λ other alone. same client (before s c).store.opens)
-    (λ r who. event_apart client (before s c) (Asks r who (length c.call) (taken s c) c.choice) (whole_before s c sound.whole))
+    (λ r who. event_apart client (before s c) (Asks r who (length c.bytes) (taken s c) c.choice) (whole_before s c sound.whole))
 
 -- while others come, the client has what it had in this table
-rests_all : (client lease last : ℕ) (t : Table) (s : State) (others : List Came) → Stays client lease last (HasAsBefore client t) s
+rests_all : (client lease last : ℕ) (t : Table) (s : State) (others : List Arrival) → Stays client lease last (HasAsBefore client t) s
     → AreOthers client lease last s others → HasAsBefore client t (all_next s others).machine.store.opens
 rests_all client lease last t s [] rests all = rests.stands
 rests_all client lease last t s (c ∷ more) rests all =
@@ -109,12 +110,12 @@ compound_there m r who size now client choice is = go (eqb r.minor 1)
     go true of = items_there m r who size now client choice r.left is of
     go false of = absurd (false≢true of)
 
-there_behind : (s : State) (c : Came) (client : ℕ) → IsMachine s.machine → renews_by client s c ≡ true → is_client (next s c).machine.clients client ≡ true
+there_behind : (s : State) (c : Arrival) (client : ℕ) → IsMachine s.machine → renews_by client s c ≡ true → is_client (next s c).machine.clients client ≡ true
 there_behind s c client is own =
     let left_some : is_some ((left (before s c) (asked_by s c)).leases.renewed client) ≡ true =
     for_asked (λ o. option_map_or (renews client (before s c)) o false ≡ true → is_some ((left (before s c) o).leases.renewed client) ≡ true) s c
     (λ of. absurd (false≢true of))
-    (λ r who of. compound_there (before s c) r who (length c.call) (taken s c) client c.choice (machine_before s c is) of) own in
+    (λ r who of. compound_there (before s c) r who (length c.bytes) (taken s c) client c.choice (machine_before s c is) of) own in
     sym ((machine_next s c is).leased client)
     ∙ ap (λ (m : State). is_some (m.machine.leases.renewed client)) (next_is s c) ∙ left_some
 
@@ -129,14 +130,14 @@ record Rest (client lease last : ℕ) (m : Machine) (s : State) : Type 0 where
   pub least : AtLeast last client m.leases
   pub lasts : s.machine.leases.lease ≡ lease
 
-strange : (client : ℕ) (k : ClientRecord) (s : State) (c : Came) → IsSound s → IsMachine (before s c) → client_at (before s c).clients client ≡ Some k
+strange : (client : ℕ) (k : ClientRecord) (s : State) (c : Arrival) → IsSound s → IsMachine (before s c) → client_at (before s c).clients client ≡ Some k
     → option_map_or (is_named_by client (before s c)) (asked_by s c) false ≡ false → IsAsBefore client (before s c) (left (before s c) (asked_by s c))
 strange client k s c sound machine at =
     for_asked (λ o. option_map_or (is_named_by client (before s c)) o false ≡ false → IsAsBefore client (before s c) (left (before s c) o)) s c
     (λ none. as_it_was client (before s c))
-    (λ r who none. compound_strange client (before s c) k r who (length c.call) (taken s c) c.choice (whole_before s c sound.whole) machine at none)
+    (λ r who none. compound_strange client (before s c) k r who (length c.bytes) (taken s c) c.choice (whole_before s c sound.whole) machine at none)
 
-rest_next : (client lease last : ℕ) (m : Machine) (s : State) (c : Came) → Rest client lease last m s → is_named client s c ≡ false → taken s c ≤ last + lease
+rest_next : (client lease last : ℕ) (m : Machine) (s : State) (c : Arrival) → Rest client lease last m s → is_named client s c ≡ false → taken s c ≤ last + lease
     → Rest client lease last m (next s c)
 rest_next client lease last m s c rest none within =
     let is = ap (λ (s : State). s.machine) (next_is s c) in
@@ -156,7 +157,7 @@ rest_next client lease last m s c rest none within =
       lasts = lease_next s c ∙ rest.lasts;
     }
 
-rest_all : (client lease last : ℕ) (m : Machine) (s : State) (strangers : List Came) → Rest client lease last m s → AreStrangers client lease last s strangers
+rest_all : (client lease last : ℕ) (m : Machine) (s : State) (strangers : List Arrival) → Rest client lease last m s → AreStrangers client lease last s strangers
     → IsAsBefore client m (all_next s strangers).machine
 rest_all client lease last m s [] rest all = rest.all
 rest_all client lease last m s (c ∷ more) rest all = rest_all client lease last m (next s c) more (rest_next client lease last m s c rest all.0 all.1) all.2

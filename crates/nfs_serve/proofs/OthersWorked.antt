@@ -33,14 +33,15 @@ use Rattle.nfs_files.specs.LockU.{lock_u}
 use Rattle.nfs_opens.specs.Closing.{without_lock, without_open}
 use Rattle.nfs_files.specs.Own.{opens_of, locks_of}
 use Rattle.nfs_serve.specs.Step.{State, step}
-use Rattle.nfs_serve.specs.Points.{Came, next, taken, before}
-use Rattle.nfs_serve.specs.Kept.{renews_by}
+use Rattle.nfs_serve.specs.Endpoint.{Arrival}
+use Rattle.nfs_serve.specs.Points.{next, taken, before}
+use Rattle.nfs_serve.specs.LockKept.{renews_by}
 use Rattle.nfs_serve.specs.HeldLock as worked
 use Rattle.nfs_serve.specs.Others.{AreOthers, is_named, AreStrangers, strangers, ComeInTime}
 use Rattle.nfs_serve.proofs.HeldLock.{all_own, alone}
 
 -- the premises can be tested
-abbrev in_time : ℕ → List ℕ → (lease last : ℕ) → State → List Came → Bool
+abbrev in_time : ℕ → List ℕ → (lease last : ℕ) → State → List Arrival → Bool
 in_time client owner lease last s [] = true
 in_time client owner lease last s (c ∷ more) =
     not (renews_by client s c)
@@ -53,7 +54,7 @@ not_so : (b : Bool) → not b ≡ true → b ≡ false
 not_so true e = absurd (false≢true e)
 not_so false e = refl
 
-are_others : (client : ℕ) (owner : List ℕ) (lease last : ℕ) (s : State) (cs : List Came) → in_time client owner lease last s cs ≡ true
+are_others : (client : ℕ) (owner : List ℕ) (lease last : ℕ) (s : State) (cs : List Arrival) → in_time client owner lease last s cs ≡ true
     → AreOthers client lease last s cs
 are_others client owner lease last s [] e = tt
 are_others client owner lease last s (c ∷ more) e =
@@ -68,12 +69,12 @@ are_others client owner lease last s (c ∷ more) e =
     )
 
 -- and so can these
-abbrev strange_in_time : ℕ → (lease last : ℕ) → State → List Came → Bool
+abbrev strange_in_time : ℕ → (lease last : ℕ) → State → List Arrival → Bool
 strange_in_time client lease last s [] = true
 strange_in_time client lease last s (c ∷ more) =
     not (is_named client s c) && (nat_le (taken s c) (last + lease) && strange_in_time client lease last (next s c) more)
 
-are_strangers : (client lease last : ℕ) (s : State) (cs : List Came) → strange_in_time client lease last s cs ≡ true → AreStrangers client lease last s cs
+are_strangers : (client lease last : ℕ) (s : State) (cs : List Arrival) → strange_in_time client lease last s cs ≡ true → AreStrangers client lease last s cs
 are_strangers client lease last s [] e = tt
 are_strangers client lease last s (c ∷ more) e =
     let p = and_parts _ _ e in

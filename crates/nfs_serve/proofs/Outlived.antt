@@ -19,23 +19,24 @@ use Rattle.nfs_exec.proofs.Invariant.{of_start, of_expired, of_compound}
 use Rattle.nfs_exec.proofs.Latest.{expired_all, latest_compound}
 use Rattle.nfs_exec.proofs.Outlasting.{IsStill, compound_still}
 use Rattle.nfs_serve.specs.Step.{State, new_state}
-use Rattle.nfs_serve.specs.Points.{Came, next, all_next, reached, taken, before}
+use Rattle.nfs_serve.specs.Endpoint.{Arrival}
+use Rattle.nfs_serve.specs.Points.{next, all_next, reached, taken, before}
 use Rattle.nfs_serve.specs.Outlived.{renewed_by, last_renewal, NoneOutlives}
 use Rattle.nfs_serve.proofs.Points.{left, for_asked, next_is, IsSound, whole_before, latest_before, sound_next, sound_all, sound_new}
 use Rattle.nfs_serve.proofs.Staying.{lease_all}
 
 -- What holds of every machine.
 
-pub machine_before : (s : State) (c : Came) → IsMachine s.machine → IsMachine (before s c)
+pub machine_before : (s : State) (c : Arrival) → IsMachine s.machine → IsMachine (before s c)
 machine_before s c is = of_expired s.machine (taken s c) is
 
-pub machine_next : (s : State) (c : Came) → IsMachine s.machine → IsMachine (next s c).machine
+pub machine_next : (s : State) (c : Arrival) → IsMachine s.machine → IsMachine (next s c).machine
 machine_next s c is =
     let m = machine_before s c is in
     subst (λ (s : State). IsMachine s.machine) (sym (next_is s c))
-    (for_asked (λ o. IsMachine (left (before s c) o)) s c m (λ r who. of_compound (before s c) r who (length c.call) (taken s c) c.choice m))
+    (for_asked (λ o. IsMachine (left (before s c) o)) s c m (λ r who. of_compound (before s c) r who (length c.bytes) (taken s c) c.choice m))
 
-pub machine_all : (s : State) (records : List Came) → IsMachine s.machine → IsMachine (all_next s records).machine
+pub machine_all : (s : State) (records : List Arrival) → IsMachine s.machine → IsMachine (all_next s records).machine
 machine_all s [] is = is
 machine_all s (c ∷ more) is = machine_all (next s c) more (machine_next s c is)
 
@@ -54,21 +55,21 @@ up_still : (client : ℕ) (last : Option ℕ) (b left : Book) → IsStill client
 up_still client last b left (inl none) up r e = absurd (let bad : None ≡ Some r = sym none ∙ e in cc)
 up_still client last b left (inr same) up r e = up r (sym same ∙ e)
 
-up_compound : (s : State) (c : Came) (client : ℕ) (last : Option ℕ) (r : Request) (who : Caller) → IsSound s → IsUpTo client last (before s c).leases
-    → (let e = Asks r who (length c.call) (taken s c) c.choice in
+up_compound : (s : State) (c : Arrival) (client : ℕ) (last : Option ℕ) (r : Request) (who : Caller) → IsSound s → IsUpTo client last (before s c).leases
+    → (let e = Asks r who (length c.bytes) (taken s c) c.choice in
     IsUpTo client (cond (renews_or_begins client (before s c) e) (Some (taken s c)) last) (left (before s c) (Some e)).leases)
-up_compound s c client last r who sound up = go (renews_or_begins client (before s c) (Asks r who (length c.call) (taken s c) c.choice)) refl
+up_compound s c client last r who sound up = go (renews_or_begins client (before s c) (Asks r who (length c.bytes) (taken s c) c.choice)) refl
   where
-    latest : IsLatest (left (before s c) (Some (Asks r who (length c.call) (taken s c) c.choice))).leases (taken s c)
-    latest = latest_compound (before s c) r who (length c.call) (taken s c) c.choice (latest_before s c sound.latest)
+    latest : IsLatest (left (before s c) (Some (Asks r who (length c.bytes) (taken s c) c.choice))).leases (taken s c)
+    latest = latest_compound (before s c) r who (length c.bytes) (taken s c) c.choice (latest_before s c sound.latest)
 
-    go : (b : Bool) → renews_or_begins client (before s c) (Asks r who (length c.call) (taken s c) c.choice) ≡ b
-        → IsUpTo client (cond b (Some (taken s c)) last) (left (before s c) (Some (Asks r who (length c.call) (taken s c) c.choice))).leases
+    go : (b : Bool) → renews_or_begins client (before s c) (Asks r who (length c.bytes) (taken s c) c.choice) ≡ b
+        → IsUpTo client (cond b (Some (taken s c)) last) (left (before s c) (Some (Asks r who (length c.bytes) (taken s c) c.choice))).leases
     go true e = λ q at. (taken s c, refl, latest.each client q at)
-    go false e = up_still client last (before s c).leases (left (before s c) (Some (Asks r who (length c.call) (taken s c) c.choice))).leases
-        (compound_still (before s c) r who (length c.call) (taken s c) client c.choice e) up
+    go false e = up_still client last (before s c).leases (left (before s c) (Some (Asks r who (length c.bytes) (taken s c) c.choice))).leases
+        (compound_still (before s c) r who (length c.bytes) (taken s c) client c.choice e) up
 
-up_next : (s : State) (c : Came) (client : ℕ) (last : Option ℕ) → IsSound s → IsUpTo client last s.machine.leases
+up_next : (s : State) (c : Arrival) (client : ℕ) (last : Option ℕ) → IsSound s → IsUpTo client last s.machine.leases
     → IsUpTo client (cond (renewed_by client s c) (Some (taken s c)) last) (next s c).machine.leases
 up_next s c client last sound up =
     let here : IsUpTo client last (before s c).leases = up_expired client (taken s c) last s.machine.leases up in
@@ -76,7 +77,7 @@ up_next s c client last sound up =
     (for_asked (λ o. IsUpTo client (cond (option_map_or (renews_or_begins client (before s c)) o false) (Some (taken s c)) last) (left (before s c) o).leases) s c here
     (λ r who. up_compound s c client last r who sound here))
 
-up_all : (s : State) (records : List Came) (client : ℕ) (last : Option ℕ) → IsSound s → IsUpTo client last s.machine.leases
+up_all : (s : State) (records : List Arrival) (client : ℕ) (last : Option ℕ) → IsSound s → IsUpTo client last s.machine.leases
     → IsUpTo client (last_renewal client last s records) (all_next s records).machine.leases
 up_all s [] client last sound up = up
 up_all s (c ∷ more) client last sound up =

@@ -4,7 +4,7 @@ use Rattle.std.specs.Prelude.{if◌then◌else◌}
 use Rattle.std.proofs.lemmas.Bool.{cases_Bool}
 use Rattle.nfs_xdr.specs.Tables.{In}
 use Rattle.nfs_serve.specs.Endpoint.{Place, Heading, Answer, Server, Arrival, Stepped, stepped, ran}
-use Rattle.nfs_serve.specs.Network.{Callers, Packet, Done, Line, Network, Event, Sends, Resends, Arrives, Asks, Intrudes, Accepts, same_place, with_line, sending, resending, accepting, executing, result_of, arriving, after, IsForeign, ended, begins}
+use Rattle.nfs_serve.specs.Network.{Callers, Packet, RanCompound, Line, Network, NetworkEvent, Sends, Resends, Arrives, Asks, Intrudes, Accepts, same_place, with_line, sending, resending, accepting, executing, result_of, arriving, after, IsForeign, ended, begins}
 use Rattle.nfs_serve.specs.Numbered.{Happens}
 use Rattle.nfs_serve.specs.Alone.{taken, alone, answers, executing_answers, LeavesAlike}
 use Rattle.nfs_serve.specs.PerfectWire.{all_reaching, wire, done_by, done_on, AsOverAWire}
@@ -19,7 +19,7 @@ append_one [] x ys = refl
 append_one (z ∷ zs) x ys = ap (λ (us : List _). z ∷ us) (append_one zs x ys)
 
 -- the machine is that of the records that reach it
-pub machine_is : (s : Server) (callers : Callers) (net : Network s) (events : List Event)
+pub machine_is : (s : Server) (callers : Callers) (net : Network s) (events : List NetworkEvent)
     → (ended callers net events).machine ≡ ran s net.machine (all_reaching events)
 machine_is s callers net [] = refl
 machine_is s callers net (Sends q ∷ more) = machine_is s callers (after callers net (Sends q)) more
@@ -30,7 +30,7 @@ machine_is s callers net (Intrudes a ∷ more) = machine_is s callers (after cal
 machine_is s callers net (Accepts p c a ∷ more) = machine_is s callers (after callers net (Accepts p c a)) more
 
 -- records and the answers to them, in step
-done_with : (s : Server) → Place → List Arrival → List (Option Answer) → List Done
+done_with : (s : Server) → Place → List Arrival → List (Option Answer) → List RanCompound
 done_with s p [] told = []
 done_with s p (a ∷ more) [] = []
 done_with s p (a ∷ more) (x ∷ told) = done_by p (s.heading a.bytes) x ++ done_with s p more told
@@ -38,17 +38,17 @@ done_with s p (a ∷ more) (x ∷ told) = done_by p (s.heading a.bytes) x ++ don
 done_is : (s : Server) (p : Place) (m : s.State) (records : List Arrival) → done_on s p m records ≡ done_with s p records (answers s m records)
 unfolding done_with
 done_is s p m [] = refl
-done_is s p m (a ∷ more) = ap (λ (ds : List Done). done_by p (s.heading a.bytes) (stepped s m a).answer ++ ds) (done_is s p (stepped s m a).state more)
+done_is s p m (a ∷ more) = ap (λ (ds : List RanCompound). done_by p (s.heading a.bytes) (stepped s m a).answer ++ ds) (done_is s p (stepped s m a).state more)
 
 -- what is executed on a slot by further records
-abbrev further : (s : Server) → Place → s.State → List Arrival → List Done
+abbrev further : (s : Server) → Place → s.State → List Arrival → List RanCompound
 further s p m records = done_with s p (alone s m records) (executing_answers s m records)
 
 -- one record more, on no slot of the caller
-skipped : (s : Server) (p : Place) (ds : List Done) (m : s.State) (a : Arrival) (more : List Arrival) → done_by p (s.heading a.bytes) (stepped s m a).answer ≡ []
+skipped : (s : Server) (p : Place) (ds : List RanCompound) (m : s.State) (a : Arrival) (more : List Arrival) → done_by p (s.heading a.bytes) (stepped s m a).answer ≡ []
     → ds ++ further s p (stepped s m a).state more ≡ ds ++ further s p m (a ∷ more)
 unfolding done_with
-skipped s p ds m a more none = ap (λ (es : List Done). ds ++ es) (go (s.executes m a.bytes a.now))
+skipped s p ds m a more none = ap (λ (es : List RanCompound). ds ++ es) (go (s.executes m a.bytes a.now))
   where
     after : s.State
     after = (stepped s m a).state
@@ -57,7 +57,7 @@ skipped s p ds m a more none = ap (λ (es : List Done). ds ++ es) (go (s.execute
         ≡ done_with s p
         (if b then taken s m a ∷ alone s after more else alone s after more)
         (if b then (stepped s m a).answer ∷ executing_answers s after more else executing_answers s after more)
-    go true = ap (λ (es : List Done). es ++ further s p after more) (sym none)
+    go true = ap (λ (es : List RanCompound). es ++ further s p after more) (sym none)
     go false = refl
 
 -- an event that executes nothing on a line leaves what was executed there
@@ -85,10 +85,10 @@ arrived s callers net q now choice more p reads = go (s.executes net.machine q.b
     step : Stepped s.State
     step = s.step net.machine q.bytes now choice
 
-    rest : List Done
+    rest : List RanCompound
     rest = further s p step.state more
 
-    done : Done
+    done : RanCompound
     done = record { compound = q.heading.compound; result = result_of step.answer }
 
     new : Line
@@ -106,16 +106,16 @@ arrived s callers net q now choice more p reads = go (s.executes net.machine q.b
     go true = here (same_place q.heading.place p) refl ∙ ap (λ (o : Option Heading). (net.lines p).executed ++ (done_by p o step.answer ++ rest)) (sym reads)
     go false = refl
 
-executed_is : (s : Server) (laws : KeepsSlots s) (callers : Callers) (start : s.State) (net : Network s) (events : List Event) → IsNetwork s laws callers start net → Happens callers start net events
+executed_is : (s : Server) (laws : KeepsSlots s) (callers : Callers) (start : s.State) (net : Network s) (events : List NetworkEvent) → IsNetwork s laws callers start net → Happens callers start net events
     → (p : Place) → In p callers.places → ((ended callers net events).lines p).executed ≡ (net.lines p).executed ++ further s p net.machine (all_reaching events)
 unfolding done_with
 executed_is s laws callers start net [] is can p i = sym (append_none (net.lines p).executed)
 executed_is s laws callers start net (Sends q ∷ more) is can p i =
     executed_is s laws callers start (after callers net (Sends q)) more (event_keeps s laws callers start net (Sends q) is can.0) can.1 p i
-    ∙ ap (λ (ds : List Done). ds ++ further s p net.machine (all_reaching more)) (same_executed net.lines q.heading.place (sending (net.lines q.heading.place) q.heading) p refl)
+    ∙ ap (λ (ds : List RanCompound). ds ++ further s p net.machine (all_reaching more)) (same_executed net.lines q.heading.place (sending (net.lines q.heading.place) q.heading) p refl)
 executed_is s laws callers start net (Resends q ∷ more) is can p i =
     executed_is s laws callers start (after callers net (Resends q)) more (event_keeps s laws callers start net (Resends q) is can.0) can.1 p i
-    ∙ ap (λ (ds : List Done). ds ++ further s p net.machine (all_reaching more)) (same_executed net.lines q.heading.place (resending (net.lines q.heading.place) q.heading) p refl)
+    ∙ ap (λ (ds : List RanCompound). ds ++ further s p net.machine (all_reaching more)) (same_executed net.lines q.heading.place (resending (net.lines q.heading.place) q.heading) p refl)
 executed_is s laws callers start net (Arrives q now choice ∷ more) is can p i =
     executed_is s laws callers start (after callers net (Arrives q now choice)) more (event_keeps s laws callers start net (Arrives q now choice) is can.0) can.1 p i
     ∙ arrived s callers net q now choice (all_reaching more) p (is.packets q can.0).reads
@@ -127,7 +127,7 @@ executed_is s laws callers start net (Intrudes a ∷ more) is can p i =
     ∙ skipped s p (net.lines p).executed net.machine a (all_reaching more) (foreign_slot s callers a.bytes p (stepped s net.machine a).answer i can.0)
 executed_is s laws callers start net (Accepts k c a ∷ more) is can p i =
     executed_is s laws callers start (after callers net (Accepts k c a)) more (event_keeps s laws callers start net (Accepts k c a) is can.0) can.1 p i
-    ∙ ap (λ (ds : List Done). ds ++ further s p net.machine (all_reaching more))
+    ∙ ap (λ (ds : List RanCompound). ds ++ further s p net.machine (all_reaching more))
     (same_executed net.lines k (accepting (net.lines k) (record { compound = c; result = a.result })) p refl)
 
 pub as_over_a_wire : (s : Server) → KeepsSlots s → KeepsTime s → AsOverAWire s
@@ -139,7 +139,7 @@ as_over_a_wire s slots time before callers events can = record {
       let same = executed p i in
       record {
         executed = same;
-        sent = (exact.in_order.0, exact.in_order.1 ∙ ap (λ (ds : List Done). map (λ (d : Done). d.compound) ds ++ exact.in_order.0) same);
+        sent = (exact.in_order.0, exact.in_order.1 ∙ ap (λ (ds : List RanCompound). map (λ (d : RanCompound). d.compound) ds ++ exact.in_order.0) same);
         accepted = (exact.told.0, sym same ∙ exact.told.1);
       };
 }

@@ -3,7 +3,7 @@ use Rattle.std.proofs.Common.{◌≡◌, ◌⊎◌, inl, inr, ◌+◌, ◌<◌, 
 use Rattle.std.specs.Prelude.{if◌then◌else◌}
 use Rattle.nfs_xdr.specs.Tables.{In}
 use Rattle.nfs_serve.specs.Endpoint.{Place, Compound, Answer, Server, Arrival, stepped, ran}
-use Rattle.nfs_serve.specs.Network.{Callers, Packet, Done, Line, Network, Event, Sends, Resends, Arrives, Asks, Intrudes, Accepts, with_line, sending, resending, accepting, executing, arriving, after, ended, begins}
+use Rattle.nfs_serve.specs.Network.{Callers, Packet, RanCompound, Line, Network, NetworkEvent, Sends, Resends, Arrives, Asks, Intrudes, Accepts, with_line, sending, resending, accepting, executing, arriving, after, ended, begins}
 use Rattle.nfs_serve.specs.Numbered.{Happens}
 use Rattle.nfs_serve.specs.Alone.{taken, alone}
 use Rattle.nfs_serve.specs.PerfectWire.{reaching, all_reaching, wire, done_by, done_on, IsAsDone, IsAsOverAWire}
@@ -21,19 +21,19 @@ In-either x (z ∷ zs) ys (inr i) = elim (In-either x zs ys i) [ inl h ↦ inl (
 
 -- events and records one list behind the other
 
-ended_append : (s : Server) (callers : Callers) (net : Network s) (first later : List Event) → ended callers net (first ++ later) ≡ ended callers (ended callers net first) later
+ended_append : (s : Server) (callers : Callers) (net : Network s) (first later : List NetworkEvent) → ended callers net (first ++ later) ≡ ended callers (ended callers net first) later
 ended_append s callers net [] later = refl
 ended_append s callers net (e ∷ more) later = ended_append s callers (after callers net e) more later
 
-happens_first : (s : Server) (callers : Callers) (start : s.State) (net : Network s) (first later : List Event) → Happens callers start net (first ++ later) → Happens callers start net first
+happens_first : (s : Server) (callers : Callers) (start : s.State) (net : Network s) (first later : List NetworkEvent) → Happens callers start net (first ++ later) → Happens callers start net first
 happens_first s callers start net [] later can = tt
 happens_first s callers start net (e ∷ more) later can = (can.0, happens_first s callers start (after callers net e) more later can.1)
 
-happens_later : (s : Server) (callers : Callers) (start : s.State) (net : Network s) (first later : List Event) → Happens callers start net (first ++ later) → Happens callers start (ended callers net first) later
+happens_later : (s : Server) (callers : Callers) (start : s.State) (net : Network s) (first later : List NetworkEvent) → Happens callers start net (first ++ later) → Happens callers start (ended callers net first) later
 happens_later s callers start net [] later can = can
 happens_later s callers start net (e ∷ more) later can = happens_later s callers start (after callers net e) more later can.1
 
-reaching_append : (first later : List Event) → all_reaching (first ++ later) ≡ all_reaching first ++ all_reaching later
+reaching_append : (first later : List NetworkEvent) → all_reaching (first ++ later) ≡ all_reaching first ++ all_reaching later
 reaching_append [] later = refl
 reaching_append (e ∷ more) later = ap (λ (rs : List Arrival). reaching e ++ rs) (reaching_append more later) ∙ sym (append_assoc (reaching e) (all_reaching more) (all_reaching later))
 
@@ -57,7 +57,7 @@ alone_append s m (a ∷ more) later = go (s.executes m a.bytes a.now) (alone_app
 done_append : (s : Server) (p : Place) (m : s.State) (first later : List Arrival) → done_on s p m (first ++ later) ≡ done_on s p m first ++ done_on s p (ran s m first) later
 done_append s p m [] later = refl
 done_append s p m (a ∷ more) later =
-    ap (λ (ds : List Done). done_by p (s.heading a.bytes) (stepped s m a).answer ++ ds) (done_append s p (stepped s m a).state more later)
+    ap (λ (ds : List RanCompound). done_by p (s.heading a.bytes) (stepped s m a).answer ++ ds) (done_append s p (stepped s m a).state more later)
     ∙ sym (append_assoc (done_by p (s.heading a.bytes) (stepped s m a).answer) (done_on s p (stepped s m a).state more) (done_on s p (ran s (stepped s m a).state more) later))
 
 -- a caller's list of what it sent only grows
@@ -66,7 +66,7 @@ line_grows : (lines : Place → Line) (k : Place) (l : Line) (q : Place) → len
 line_grows lines k l q grows = updated (λ (x : Line). length (lines q).sent ≤ length x.sent) lines k l q
     (λ e. subst (λ (p : Place). length (lines p).sent ≤ length l.sent) e grows) (λ other. omega arith)
 
-event_grows : (s : Server) (callers : Callers) (net : Network s) (e : Event) (q : Place) → length (net.lines q).sent ≤ length ((after callers net e).lines q).sent
+event_grows : (s : Server) (callers : Callers) (net : Network s) (e : NetworkEvent) (q : Place) → length (net.lines q).sent ≤ length ((after callers net e).lines q).sent
 event_grows s callers net (Sends p) q =
     let l = net.lines p.heading.place in
     line_grows net.lines p.heading.place (sending l p.heading) q (omega (arith, length_push l.sent p.heading.compound))
@@ -80,19 +80,19 @@ event_grows s callers net (Asks caller a) q = omega arith
 event_grows s callers net (Intrudes a) q = omega arith
 event_grows s callers net (Accepts p c a) q = line_grows net.lines p (accepting (net.lines p) (record { compound = c; result = a.result })) q (omega arith)
 
-grows : (s : Server) (callers : Callers) (net : Network s) (events : List Event) (q : Place) → length (net.lines q).sent ≤ length ((ended callers net events).lines q).sent
+grows : (s : Server) (callers : Callers) (net : Network s) (events : List NetworkEvent) (q : Place) → length (net.lines q).sent ≤ length ((ended callers net events).lines q).sent
 grows s callers net [] q = omega arith
 grows s callers net (e ∷ more) q = omega (arith, event_grows s callers net e q, grows s callers (after callers net e) more q)
 
 -- so what is sent later has a higher number than all that was sent
-later_number : (s : Server) (callers : Callers) (start : s.State) (net : Network s) (middle back : List Event) (sent : Packet) → Happens callers start net (middle ++ Sends sent ∷ back)
+later_number : (s : Server) (callers : Callers) (start : s.State) (net : Network s) (middle back : List NetworkEvent) (sent : Packet) → Happens callers start net (middle ++ Sends sent ∷ back)
     → (In sent.heading.place callers.places) × (length (net.lines sent.heading.place).sent < sent.heading.compound.number)
 later_number s callers start net middle back sent can =
     let then' = (happens_later s callers start net middle (Sends sent ∷ back) can).0 in
     (then'.place, omega (arith, grows s callers net middle sent.heading.place, then'.number))
 
 -- a result that is accepted is the last one of its slot
-accepted_here : (s : Server) (callers : Callers) (net : Network s) (front : List Event) (p : Place) (c : Compound) (a : Answer)
+accepted_here : (s : Server) (callers : Callers) (net : Network s) (front : List NetworkEvent) (p : Place) (c : Compound) (a : Answer)
     → In (record { compound = c; result = a.result }) ((ended callers net (front ++ Accepts p c a ∷ [])).lines p).accepted
 accepted_here s callers net front p c a =
     subst (λ (n : Network s). In (record { compound = c; result = a.result }) (n.lines p).accepted) (sym (ended_append s callers net front (Accepts p c a ∷ [])))
@@ -102,7 +102,7 @@ accepted_here s callers net front p c a =
     at : Network s
     at = ended callers net front
 
-pub keeps_order : (s : Server) → KeepsSlots s → KeepsTime s → (before : List Arrival) (callers : Callers) (events : List Event)
+pub keeps_order : (s : Server) → KeepsSlots s → KeepsTime s → (before : List Arrival) (callers : Callers) (events : List NetworkEvent)
     → Happens callers (ran s s.new before) (begins s (ran s s.new before)) events → KeepsOrder s (ran s s.new before) events
 keeps_order s slots time before callers events can front middle back p c a sent split = record {
   front = early;
@@ -122,13 +122,13 @@ keeps_order s slots time before callers events can front middle back p c a sent 
     q : Place
     q = sent.heading.place
 
-    told : Done
+    told : RanCompound
     told = record { compound = c; result = a.result }
 
-    first : List Event
+    first : List NetworkEvent
     first = front ++ Accepts p c a ∷ []
 
-    later : List Event
+    later : List NetworkEvent
     later = middle ++ Sends sent ∷ back
 
     net : Network s
@@ -166,11 +166,11 @@ keeps_order s slots time before callers events can front middle back p c a sent 
     sound : IsNetwork s slots callers m net
     sound = events_keep s slots callers m (begins s m) first (begins_is s slots callers before) first_happens
 
-    not_yet : (d : Done) → In d (done_on s q m early) → d.compound ≡ sent.heading.compound → ⊥
+    not_yet : (d : RanCompound) → In d (done_on s q m early) → d.compound ≡ sent.heading.compound → ⊥
     not_yet d i same =
         let there = over.lines q next.0 in
         let was_sent : In d.compound (net.lines q).sent = subst (In d.compound) (sym there.sent.1)
-        (In-front d.compound (compounds (done_on s q m early)) there.sent.0 (In-map (λ (d : Done). d.compound) d (done_on s q m early) i)) in
+        (In-front d.compound (compounds (done_on s q m early)) there.sent.0 (In-map (λ (d : RanCompound). d.compound) d (done_on s q m early) i)) in
         let bound = CountUp-bounds 1 (net.lines q).sent d.compound (begun_sent s slots net.machine net.packets (net.lines q) q d.compound was_sent (sound.stage q next.0)).line.counts was_sent in
         omega (arith, bound.1, next.1, ap (λ (c : Compound). c.number) same)
 

@@ -18,7 +18,7 @@ use Rattle.nfs_serve.specs.declared.form.Form.TheVariants.{Tagged}
 use Rattle.nfs_serve.specs.Script.{Entry, spell_entry, Fits, max_entries, StopsAt, IsStopped}
 use Rattle.nfs_serve.specs.Ends.{IsReported}
 use Rattle.nfs_serve.specs.Step.{State}
-use Rattle.nfs_serve.specs.Run.{Streams, with_stream, all_closed, Brings, TakesPiece, Event, events, output, Runs}
+use Rattle.nfs_serve.specs.Run.{Streams, with_stream, all_closed, Brings, TakesPiece, StreamEvent, events, output, Runs}
 use Rattle.nfs_serve.specs.Server.{fresh, held_on, IsWith, Feeds, FeedsInto}
 use Rattle.nfs_serve.specs.Replay.{AllStand, RunsOn, ReplaysFault, Replays, Reports}
 use Rattle.nfs_serve.specs.Running.{RunsEntry, RunsEntryOr, EndsBehind}
@@ -33,7 +33,7 @@ set_is_with held conn now within = λ c. cases c (nat_eq c conn) refl
     cases c false e = get_or-set_other held conn c now fresh (eqb-false c conn e)
 
 -- a piece of some bytes
-pub takes_piece : (streams : Streams) (moment conn : ℕ) (piece : List ℕ) (brought : List Event) (end : End)
+pub takes_piece : (streams : Streams) (moment conn : ℕ) (piece : List ℕ) (brought : List StreamEvent) (end : End)
     → piece ≢ [] → Brings conn moment (streams conn) piece brought end
     → TakesPiece streams moment conn piece brought (with_stream streams conn end)
 takes_piece streams moment conn [] brought end some brings = absurd (some refl)

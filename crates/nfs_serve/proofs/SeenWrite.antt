@@ -27,7 +27,7 @@ use Rattle.nfs_files.specs.Write as file_write
 use Rattle.nfs_slots.specs.Slot.{unused_slot}
 use Rattle.nfs_serve.specs.Step.{step}
 use Rattle.nfs_serve.specs.Endpoint.{Arrival}
-use Rattle.nfs_serve.specs.Network.{Event, Arrives, Asks, ended}
+use Rattle.nfs_serve.specs.Network.{NetworkEvent, Arrives, Asks, ended}
 use Rattle.nfs_serve.specs.Numbered.{Happens}
 use Rattle.nfs_serve.specs.PerfectWire.{wire, done_on}
 use Rattle.nfs_serve.specs.RealTime.{IsAtomic, RunsBehind}
@@ -115,11 +115,11 @@ is_seen = record {
       (is_atomic.in_time front middle back (slot_of 1) write (record { xid = 16; result = written.result }) (packet 2 read) refl);
 }
   where
-    front : List Event
+    front : List NetworkEvent
     front = take 4 first
 
-    middle : List Event
+    middle : List NetworkEvent
     middle = map (Asks 8) joins
 
-    back : List Event
+    back : List NetworkEvent
     back = Arrives (packet 1 write) 109 None ∷ Arrives (packet 2 read) 110 None ∷ accepts 2 seen ∷ []

@@ -2,7 +2,7 @@
 use Rattle.std.proofs.Common.{◌≡◌, ◌⊎◌, ℕ, ◌+◌, ◌-◌, ◌^◌, ◌<◌, false, cond, List, [], ◌∷◌, ◌++◌, length, Some, sym, ◌∙◌, ap, subst, arith}
 use Rattle.std.specs.Option.{option_map_or}
 use Rattle.nfs_exec.specs.Machine.{Machine, IsMachine}
-use Rattle.nfs_exec.specs.Laws.{Event, Expires, Asks, stepped}
+use Rattle.nfs_exec.specs.Laws.{MachineEvent, Expires, Asks, stepped}
 use Rattle.nfs_exec.specs.OneSession.{asks_session, MakesOne}
 use Rattle.nfs_exec.proofs.Invariant.{of_start}
 use Rattle.nfs_exec.proofs.Numbering.{IsCounted}
@@ -10,18 +10,19 @@ use Rattle.nfs_exec.proofs.Rounds.{counted_step}
 use Rattle.nfs_exec.proofs.SessionNumbers.{After, more}
 use Rattle.nfs_exec.proofs.OneSession.{event_after, given_after, given_again, given_next, gives_one}
 use Rattle.nfs_serve.specs.Step.{State, new_state}
-use Rattle.nfs_serve.specs.Points.{Came, next, all_next, reached, taken, before, asked_by}
+use Rattle.nfs_serve.specs.Endpoint.{Arrival}
+use Rattle.nfs_serve.specs.Points.{next, all_next, reached, taken, before, asked_by}
 use Rattle.nfs_serve.specs.SessionsOnce.{asks_by, asked, GivesIn, EachMakesOne, RepeatsMakeNone, NextMakesOne}
 use Rattle.nfs_serve.proofs.Points.{left, for_asked, next_is}
 use Rattle.nfs_serve.proofs.Outlived.{machine_before, machine_all}
 
 -- The client's number, from one record to the next.
 
-before_after : (n number most : ℕ) (body : List ℕ) (s : State) (c : Came) → After n number body most s.machine.clients → After n number body most (before s c).clients
+before_after : (n number most : ℕ) (body : List ℕ) (s : State) (c : Arrival) → After n number body most s.machine.clients → After n number body most (before s c).clients
 before_after n number most body s c a =
     more n number most (most + 0) body (before s c).clients (omega arith) (event_after n number most body s.machine (Expires (taken s c)) a)
 
-next_after : (n number most : ℕ) (body : List ℕ) (s : State) (c : Came) → After n number body most s.machine.clients
+next_after : (n number most : ℕ) (body : List ℕ) (s : State) (c : Arrival) → After n number body most s.machine.clients
     → After n number body (most + cond (asks_by n s c) 1 0) (next s c).machine.clients
 next_after n number most body s c a =
     let m = before s c in
@@ -29,9 +30,9 @@ next_after n number most body s c a =
     subst (λ (t : State). After n number body (most + cond (asks_by n s c) 1 0) t.machine.clients) (sym (next_is s c))
     (for_asked (λ o. After n number body (most + cond (option_map_or (asks_session n) o false) 1 0) (left m o).clients) s c
     (more n number (most + 0) most body m.clients (omega arith) here)
-    (λ r who. event_after n number most body m (Asks r who (length c.call) (taken s c) c.choice) here))
+    (λ r who. event_after n number most body m (Asks r who (length c.bytes) (taken s c) c.choice) here))
 
-all_after : (n number most : ℕ) (body : List ℕ) (s : State) (records : List Came) → After n number body most s.machine.clients
+all_after : (n number most : ℕ) (body : List ℕ) (s : State) (records : List Arrival) → After n number body most s.machine.clients
     → After n number body (most + asked n s records) (all_next s records).machine.clients
 all_after n number most body s [] a = more n number (most + 0) most body s.machine.clients (omega arith) a
 all_after n number most body s (c ∷ rest) a =
@@ -41,19 +42,19 @@ all_after n number most body s (c ∷ rest) a =
 
 -- No session's counter is above the last that was given.
 
-counted_next : (s : State) (c : Came) → IsCounted s.machine.sessions → IsCounted (next s c).machine.sessions
+counted_next : (s : State) (c : Arrival) → IsCounted s.machine.sessions → IsCounted (next s c).machine.sessions
 counted_next s c is =
     let m = before s c in
     let here : IsCounted m.sessions = counted_step s.machine (Expires (taken s c)) is in
     subst (λ (t : State). IsCounted t.machine.sessions) (sym (next_is s c))
-    (for_asked (λ o. IsCounted (left m o).sessions) s c here (λ r who. counted_step m (Asks r who (length c.call) (taken s c) c.choice) here))
+    (for_asked (λ o. IsCounted (left m o).sessions) s c here (λ r who. counted_step m (Asks r who (length c.bytes) (taken s c) c.choice) here))
 
-counted_all : (s : State) (records : List Came) → IsCounted s.machine.sessions → IsCounted (all_next s records).machine.sessions
+counted_all : (s : State) (records : List Arrival) → IsCounted s.machine.sessions → IsCounted (all_next s records).machine.sessions
 counted_all s [] is = is
 counted_all s (c ∷ rest) is = counted_all (next s c) rest (counted_next s c is)
 
 -- the machine behind a record that asks for something
-next_machine : (s : State) (c : Came) (e : Event) → asked_by s c ≡ Some e → (next s c).machine ≡ stepped (before s c) e
+next_machine : (s : State) (c : Arrival) (e : MachineEvent) → asked_by s c ≡ Some e → (next s c).machine ≡ stepped (before s c) e
 next_machine s c e asks = ap (λ (t : State). t.machine) (next_is s c) ∙ ap (left (before s c)) asks
 
 pub each_makes_one : EachMakesOne
@@ -65,7 +66,7 @@ each_makes_one mode instance lease records c client number id g =
     subst (λ (m : Machine). (m ≡ before s c) ⊎ MakesOne id (before s c).sessions m.sessions) (sym same) (gives_one client number id (before s c) g.event here g.gives)
 
 -- From an answer on, before a later record: the client's number is at most as far behind as records between asked for.
-told_after : (mode instance lease : ℕ) (earlier : List Came) (c : Came) (between : List Came) (d : Came) (client number : ℕ) (id : List ℕ) → instance < 2 ^ 32
+told_after : (mode instance lease : ℕ) (earlier : List Arrival) (c : Arrival) (between : List Arrival) (d : Arrival) (client number : ℕ) (id : List ℕ) → instance < 2 ^ 32
     → (let s = reached mode instance lease earlier in
     let t = all_next (next s c) between in
     (first : GivesIn client number id s c) → After client number (id ++ first.gives.behind) (asked client (next s c) between) (before t d).clients)

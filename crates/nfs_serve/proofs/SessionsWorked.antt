@@ -22,10 +22,11 @@ use Rattle.nfs_sessions.specs.Sessions.{SessionTable, session_at}
 use Rattle.nfs_clients.specs.CreateSession.{following}
 use Rattle.nfs_exec.specs.Machine.{Machine}
 use Rattle.nfs_exec.specs.Compound.{compound}
-use Rattle.nfs_exec.specs.Laws.{Event, Expires, Asks}
+use Rattle.nfs_exec.specs.Laws.{MachineEvent, Expires, Asks}
 use Rattle.nfs_exec.specs.OneSession.{MakesOne}
 use Rattle.nfs_serve.specs.Step.{State, step}
-use Rattle.nfs_serve.specs.Points.{Came, next, before, asked_by}
+use Rattle.nfs_serve.specs.Endpoint.{Arrival}
+use Rattle.nfs_serve.specs.Points.{next, before, asked_by}
 use Rattle.nfs_serve.specs.Exchanges.{words}
 use Rattle.nfs_serve.specs.SessionsOnce.{GivesIn, start, creates, again, goes_on, repeated, id, IsGivenOnce}
 
@@ -38,11 +39,11 @@ answers_so client number id r text (Operation (OpCreateSession c) ∷ more) =
     && ((length id == 16) && bytes_eq text (spell_compound_head Nfs4Ok r.tag 1 ++ (done_head Op.CreateSession ++ (id ++ drop 36 text)))))
 answers_so client number id r text items = false
 
-abbrev gives_so : (client number : ℕ) → List ℕ → Machine → Option Event → Bool
+abbrev gives_so : (client number : ℕ) → List ℕ → Machine → Option MachineEvent → Bool
 gives_so client number id m (Some (Asks r who size now choice)) = answers_so client number id r (compound m r who size now choice).text r.left
 gives_so client number id m o = false
 
-given : (client number : ℕ) (id : List ℕ) (s : State) (c : Came) (o : Option Event) → asked_by s c ≡ o → gives_so client number id (before s c) o ≡ true
+given : (client number : ℕ) (id : List ℕ) (s : State) (c : Arrival) (o : Option MachineEvent) → asked_by s c ≡ o → gives_so client number id (before s c) o ≡ true
     → GivesIn client number id s c
 given client number id s c (Some (Asks r who size now choice)) e test = by_items r.left refl test
   where

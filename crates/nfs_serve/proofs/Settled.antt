@@ -7,7 +7,8 @@ use Rattle.nfs_exec.proofs.Expiring.{expired_none}
 use Rattle.nfs_exec.proofs.Latest.{expired_all, finds_nothing}
 use Rattle.nfs_exec.proofs.WholeRun.{Is, start_whole}
 use Rattle.nfs_serve.specs.Step.{State, new_state, step}
-use Rattle.nfs_serve.specs.Points.{Came, next, taken, before, asked_by}
+use Rattle.nfs_serve.specs.Endpoint.{Arrival}
+use Rattle.nfs_serve.specs.Points.{next, taken, before, asked_by}
 use Rattle.nfs_serve.specs.Seen.{ticked}
 use Rattle.nfs_serve.proofs.Points.{left, for_asked, next_is, whole_before, whole_left}
 
@@ -16,19 +17,19 @@ pub record IsSettled (s : State) : Type 0 where
   pub whole : Is s.machine
   pub none : (client : ℕ) → has_run_out s.machine.leases s.moment client ≡ false
 
-none_left : (s : State) (c : Came) (client : ℕ) → has_run_out (left (before s c) (asked_by s c)).leases (taken s c) client ≡ false
+none_left : (s : State) (c : Arrival) (client : ℕ) → has_run_out (left (before s c) (asked_by s c)).leases (taken s c) client ≡ false
 none_left s c client =
     for_asked (λ o. has_run_out (left (before s c) o).leases (taken s c) client ≡ false) s c (expired_all s.machine.leases (taken s c) client)
-    (λ r who. finds_nothing s.machine r who (length c.call) (taken s c) c.choice client)
+    (λ r who. finds_nothing s.machine r who (length c.bytes) (taken s c) c.choice client)
 
-settled_next : (s : State) (c : Came) → IsSettled s → IsSettled (next s c)
+settled_next : (s : State) (c : Arrival) → IsSettled s → IsSettled (next s c)
 settled_next s c is = subst IsSettled (sym (next_is s c)) (record {
   whole = whole_left (before s c) (asked_by s c) (whole_before s c is.whole);
   none = none_left s c;
 })
 
 pub settled_step : (s : State) (bytes : List ℕ) (now : ℕ) (choice : Option ℕ) → IsSettled s → IsSettled (step s bytes now choice).state
-settled_step s bytes now choice is = settled_next s (record { call = bytes; now = now; choice = choice }) is
+settled_step s bytes now choice is = settled_next s (record { bytes = bytes; now = now; choice = choice }) is
 
 pub settled_new : (mode instance lease : ℕ) → IsSettled (new_state mode instance lease)
 settled_new mode instance lease = record { whole = start_whole mode instance lease; none = λ client. refl }

@@ -5,23 +5,24 @@ use Rattle.nfs_opens.specs.Table.{Table}
 use Rattle.nfs_files.specs.Own.{HasAsBefore}
 use Rattle.nfs_exec.specs.Machine.{Machine}
 use Rattle.nfs_exec.specs.Laws.{Expires}
-use Rattle.nfs_exec.specs.Held.{renews}
+use Rattle.nfs_exec.specs.LockHeld.{renews}
 use Rattle.nfs_exec.proofs.OthersRun.{event_apart}
 use Rattle.nfs_exec.proofs.Renewing.{AtLeast, in_time, least_expired, least_behind, compound_lease}
 use Rattle.nfs_serve.specs.Step.{State, new_state}
-use Rattle.nfs_serve.specs.Points.{Came, next, all_next, reached, taken, before, asked_by}
-use Rattle.nfs_serve.specs.Kept.{renews_by}
+use Rattle.nfs_serve.specs.Endpoint.{Arrival}
+use Rattle.nfs_serve.specs.Points.{next, all_next, reached, taken, before, asked_by}
+use Rattle.nfs_serve.specs.LockKept.{renews_by}
 use Rattle.nfs_serve.proofs.Points.{left, for_asked, next_is, IsSound, taken_later, sound_next, sound_all, sound_new}
 
 -- How long a lease lasts does not change.
 
-pub lease_next : (s : State) (c : Came) → (next s c).machine.leases.lease ≡ s.machine.leases.lease
+pub lease_next : (s : State) (c : Arrival) → (next s c).machine.leases.lease ≡ s.machine.leases.lease
 lease_next s c =
     ap (λ (s : State). s.machine.leases.lease) (next_is s c)
     ∙ for_asked (λ o. (left (before s c) o).leases.lease ≡ s.machine.leases.lease) s c refl
-    (λ r who. compound_lease (before s c) r who (length c.call) (taken s c) c.choice)
+    (λ r who. compound_lease (before s c) r who (length c.bytes) (taken s c) c.choice)
 
-pub lease_all : (s : State) (records : List Came) → (all_next s records).machine.leases.lease ≡ s.machine.leases.lease
+pub lease_all : (s : State) (records : List Arrival) → (all_next s records).machine.leases.lease ≡ s.machine.leases.lease
 lease_all s [] = refl
 lease_all s (c ∷ more) = lease_all (next s c) more ∙ lease_next s c
 
@@ -40,7 +41,7 @@ no_later : (last moment now : ℕ) → last ≤ moment → moment ≤ now → la
 no_later last moment now low later = omega arith
 
 -- in a record that is in time it stands when its compound begins
-pub stays_before : (client lease last : ℕ) (P : Table → Type 0) (s : State) (c : Came) → IsFramed client P → Stays client lease last P s
+pub stays_before : (client lease last : ℕ) (P : Table → Type 0) (s : State) (c : Arrival) → IsFramed client P → Stays client lease last P s
     → taken s c ≤ last + lease → P (before s c).store.opens
 stays_before client lease last P s c framed stays within =
     framed s.machine.store.opens (before s c).store.opens
@@ -48,18 +49,18 @@ stays_before client lease last P s c framed stays within =
     (in_time s.machine.leases last (taken s c) client stays.least (subst (λ n. taken s c ≤ last + n) (sym stays.lasts) within)))
     stays.stands
 
-least_left : (s : State) (c : Came) (client last : ℕ) → last ≤ taken s c → AtLeast last client (before s c).leases
+least_left : (s : State) (c : Arrival) (client last : ℕ) → last ≤ taken s c → AtLeast last client (before s c).leases
     → AtLeast (cond (renews_by client s c) (taken s c) last) client (left (before s c) (asked_by s c)).leases
 least_left s c client last low least =
     for_asked (λ o. AtLeast (cond (option_map_or (renews client (before s c)) o false) (taken s c) last) client (left (before s c) o).leases) s c least
-    (λ r who. least_behind (before s c) r who (length c.call) (taken s c) client last c.choice low least)
+    (λ r who. least_behind (before s c) r who (length c.bytes) (taken s c) client last c.choice low least)
 
 renewal_low : (b : Bool) (now last : ℕ) → last ≤ now → cond b now last ≤ now
 renewal_low true now last low = omega arith
 renewal_low false now last low = low
 
 -- and behind the record what its compound leaves
-pub stays_next : (client lease last : ℕ) (P Q : Table → Type 0) (s : State) (c : Came) → Stays client lease last P s
+pub stays_next : (client lease last : ℕ) (P Q : Table → Type 0) (s : State) (c : Arrival) → Stays client lease last P s
     → Q (left (before s c) (asked_by s c)).store.opens → Stays client lease (cond (renews_by client s c) (taken s c) last) Q (next s c)
 stays_next client lease last P Q s c stays leaves =
     let is = ap (λ (s : State). s.machine) (next_is s c) in
@@ -75,7 +76,7 @@ stays_next client lease last P Q s c stays leaves =
     }
 
 -- behind a record that ran in a session of the client
-pub stays_from : (mode instance lease : ℕ) (earlier : List Came) (c : Came) (client : ℕ) (P : Table → Type 0)
+pub stays_from : (mode instance lease : ℕ) (earlier : List Arrival) (c : Arrival) (client : ℕ) (P : Table → Type 0)
     → (let s = reached mode instance lease earlier in
     renews_by client s c ≡ true → P (left (before s c) (asked_by s c)).store.opens → Stays client lease (taken s c) P (next s c))
 stays_from mode instance lease earlier c client P own leaves =

@@ -24,8 +24,8 @@ use Rattle.nfs_exec.proofs.Repeating.{expires}
 use Rattle.nfs_serve.proofs.ServerLaws.{KeepsTime}
 use Rattle.nfs_serve.proofs.Settled.{IsSettled, settled_new, settled_step, ticks_nothing}
 use Rattle.nfs_exec.specs.Executing.{is_alone, executes}
-use Rattle.nfs_serve.specs.Step.{State, Stepped, with_arguments, by_procedure, reply_to, step}
-use Rattle.nfs_serve.specs.Seen.{ticked, executes_by, asked_by, seen, server}
+use Rattle.nfs_serve.specs.Step.{asked_of, State, Stepped, with_arguments, by_procedure, reply_to, step}
+use Rattle.nfs_serve.specs.Seen.{ticked, executes_by, seen, server}
 use Rattle.std.specs.Prelude.{is_some}
 use Rattle.std.specs.Option.{option_map_or}
 
@@ -97,7 +97,7 @@ reply_idle s size choice (Accepted call) e = by_call call.procedure e
     by_request (Some r) e =
         ap (λ (m : Machine). let y : State = record { machine = m; moment = s.moment } in y) (compound_idle s.machine r call.who size s.moment choice e)
 
-    by_call : (p : Procedure) → option_map_or (λ r. executes s.machine r call.who size) (asked_by call p) false ≡ false → (by_procedure s call size choice p).state ≡ s
+    by_call : (p : Procedure) → option_map_or (λ r. executes s.machine r call.who size) (asked_of call p) false ≡ false → (by_procedure s call size choice p).state ≡ s
     by_call Procedures.Null e = refl
     by_call Procedures.Compound e = by_request (request_at call.args) e
 

@@ -7,7 +7,7 @@ use Rattle.nfs_rpc.specs.Stream.{End, Open, TooLong}
 use Rattle.nfs_serve.specs.declared.form.Form.TheVariants.{Plain}
 use Rattle.nfs_serve.specs.Script.{Entry, Fits, most_piece, last_connection}
 use Rattle.nfs_serve.specs.Step.{State}
-use Rattle.nfs_serve.specs.Run.{Streams, with_stream, TakesAll, Event, Arrives, overflow, Brings, Move, events, after, after_event, output, output_of}
+use Rattle.nfs_serve.specs.Run.{Streams, with_stream, TakesAll, StreamEvent, Arrives, overflow, Brings, Move, events, after, after_event, output, output_of}
 use Rattle.nfs_serve.specs.Server.{Stands}
 use Rattle.nfs_serve.specs.Desk.{Desk, closed, leaving, Act, Opened, Over, Came, ReadBlocked, Ended, Took, WriteBlocked, Failed, Closed, Stepped, Goes}
 use Rattle.nfs_serve.specs.Laws.{NoneCloses}
@@ -23,11 +23,11 @@ not_served e = absurd (no e)
     no e = cc
 
 -- all events are of one connection
-abbrev pub Own : ℕ → List Event → Type 0
+abbrev pub Own : ℕ → List StreamEvent → Type 0
 Own conn [] = Unit {0}
 Own conn (e ∷ es) = (port_of e ≡ conn) × Own conn es
 
-Own-append : (conn : ℕ) (xs ys : List Event) → Own conn xs → Own conn ys → Own conn (xs ++ ys)
+Own-append : (conn : ℕ) (xs ys : List StreamEvent) → Own conn xs → Own conn ys → Own conn (xs ++ ys)
 Own-append conn [] ys h k = k
 Own-append conn (x ∷ xs) ys h k = (h.0, Own-append conn xs ys h.1 k)
 
@@ -36,7 +36,7 @@ own_calls conn moment [] (Open rest) = tt
 own_calls conn moment [] TooLong = (refl, tt)
 own_calls conn moment (call ∷ calls) end = (refl, own_calls conn moment calls end)
 
-own_brought : (conn moment : ℕ) (before : End) (piece : List ℕ) (brought : List Event) (end : End) → Brings conn moment before piece brought end → Own conn brought
+own_brought : (conn moment : ℕ) (before : End) (piece : List ℕ) (brought : List StreamEvent) (end : End) → Brings conn moment before piece brought end → Own conn brought
 own_brought conn moment (Open rest) piece brought end h =
     let (calls, reads, is) = h in
     rw is (own_calls conn moment calls end)

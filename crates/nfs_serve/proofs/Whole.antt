@@ -11,7 +11,7 @@ use Rattle.nfs_rpc.proofs.Readings.{part_unfinished}
 use Rattle.nfs_serve.specs.declared.form.Form.TheVariants.{Plain}
 use Rattle.nfs_serve.specs.Script.{Entry, Fits, last_connection}
 use Rattle.nfs_serve.specs.Step.{State}
-use Rattle.nfs_serve.specs.Run.{Streams, with_stream, all_closed, TakesAll, Event, Move, events, after, after_event, output_of}
+use Rattle.nfs_serve.specs.Run.{Streams, with_stream, all_closed, TakesAll, StreamEvent, Move, events, after, after_event, output_of}
 use Rattle.nfs_serve.specs.Desk.{opened, Act, Goes}
 use Rattle.nfs_serve.specs.Hub.{Desks, none_live, Round, Opens, Turns, OthersStay, Turning}
 use Rattle.nfs_serve.specs.Laws.{call_on, NoneCloses}
@@ -24,7 +24,7 @@ use Rattle.nfs_serve.proofs.Scripts.{others_open, stream_script}
 use Rattle.nfs_serve.proofs.Turns.{not_served, output_own, output_other, stream_same, stream_other, Holds, flows_on, Flow, Ran, ran}
 
 -- entries one after the other
-TakesAll-append : (old : Streams) (es fs : List Entry) (first later : List Event) (between new : Streams)
+TakesAll-append : (old : Streams) (es fs : List Entry) (first later : List StreamEvent) (between new : Streams)
     → TakesAll old es first between → TakesAll between fs later new → TakesAll old (es ++ fs) (first ++ later) new
 TakesAll-append old [] fs first later between new h k = rw h.0 (subst (λ x. TakesAll x fs later new) h.1 k)
 TakesAll-append old (e ∷ es) fs first later between new h k =

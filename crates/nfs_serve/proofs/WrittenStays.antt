@@ -2,15 +2,16 @@
 use Rattle.std.proofs.Common.{◌≡◌, List, [], ◌∷◌, ◌++◌, length, Option, Some, None, sym, ap, subst}
 use Rattle.std.specs.Option.{option_map_or}
 use Rattle.nfs_exec.specs.Machine.{Machine}
-use Rattle.nfs_exec.specs.Laws.{Event, Expires, Asks}
-use Rattle.nfs_exec.specs.Ops.{Done, ops_by}
+use Rattle.nfs_exec.specs.Laws.{MachineEvent, Expires, Asks}
+use Rattle.nfs_exec.specs.Ops.{RanOp, ops_by}
 use Rattle.nfs_files.specs.Written.{Byte}
 use Rattle.nfs_exec.specs.WrittenRun.{WritesIt, AreSpared, StandsWhile}
 use Rattle.nfs_exec.proofs.ToldRun.{none_at_end}
 use Rattle.nfs_exec.proofs.WholeRun.{Is}
 use Rattle.nfs_exec.proofs.WrittenRun.{LastsIn, event_while, event_left, event_told}
 use Rattle.nfs_serve.specs.Step.{State, new_state}
-use Rattle.nfs_serve.specs.Points.{Came, next, reached, taken, before, asked_by}
+use Rattle.nfs_serve.specs.Endpoint.{Arrival}
+use Rattle.nfs_serve.specs.Points.{next, reached, taken, before, asked_by}
 use Rattle.nfs_serve.specs.WrittenStays.{StaysWritten, BytesStay}
 use Rattle.nfs_serve.proofs.Points.{left, for_asked, next_is, IsSound, whole_before, sound_next, sound_all, sound_new}
 
@@ -20,20 +21,20 @@ record Lives (b : Byte) (s : State) : Type 0 where
   pub lasts : LastsIn b s.machine
 
 -- what a record's compound does to it, if it has one
-record Does (b : Byte) (m : Machine) (o : Option Event) : Type 0 where
+record Does (b : Byte) (m : Machine) (o : Option MachineEvent) : Type 0 where
   pub within : StandsWhile b (option_map_or (ops_by m) o [])
   pub behind : AreSpared b (option_map_or (ops_by m) o []) → LastsIn b (left m o)
 
-does : (b : Byte) (s : State) (c : Came) → Lives b s → Does b (before s c) (asked_by s c)
+does : (b : Byte) (s : State) (c : Arrival) → Lives b s → Does b (before s c) (asked_by s c)
 does b s c lives =
     let m = before s c in
     let is : Is m = whole_before s c lives.sound.whole in
     let lasts : LastsIn b m = event_left b s.machine (Expires (taken s c)) lives.sound.whole lives.lasts (λ d there. absurd there) in
     for_asked (Does b m) s c (record { within = tt; behind = λ all. lasts }) (λ r who.
-    (let e = Asks r who (length c.call) (taken s c) c.choice in
+    (let e = Asks r who (length c.bytes) (taken s c) c.choice in
     record { within = event_while b m e is lasts; behind = event_left b m e is lasts }))
 
-stays : (b : Byte) (s : State) (records : List Came) → Lives b s → StaysWritten b s records
+stays : (b : Byte) (s : State) (records : List Arrival) → Lives b s → StaysWritten b s records
 stays b s [] lives = tt
 stays b s (c ∷ more) lives =
     let did = does b s c lives in (
@@ -44,7 +45,7 @@ stays b s (c ∷ more) lives =
       }),
     )
 
-told_left : (b : Byte) (m : Machine) (o : Option Event) (front : List Done) (write : Done) (back : List Done) → Is m
+told_left : (b : Byte) (m : Machine) (o : Option MachineEvent) (front : List RanOp) (write : RanOp) (back : List RanOp) → Is m
     → option_map_or (ops_by m) o [] ≡ front ++ write ∷ back → WritesIt b write → StandsWhile b back × (AreSpared b back → LastsIn b (left m o))
 told_left b m None front write back is e writes = absurd (none_at_end front write back e)
 told_left b m (Some event) front write back is e writes = event_told b m event front write back is e writes

@@ -37,7 +37,7 @@ use Rattle.nfs_files.specs.Target.{the_file, target}
 use Rattle.nfs_files.specs.Read as file_read
 use Rattle.nfs_files.specs.Write as file_write
 use Rattle.nfs_files.specs.Written.{Byte, WritesOver, Reads, bytes_in}
-use Rattle.nfs_exec.specs.Ops.{Done}
+use Rattle.nfs_exec.specs.Ops.{RanOp}
 use Rattle.nfs_exec.specs.WrittenRun.{WritesIt, SparesIt, AreSpared}
 use Rattle.nfs_serve.specs.Step.{step}
 use Rattle.nfs_serve.specs.Points.{ops_of}
@@ -59,18 +59,18 @@ write_behind b x i result e over =
     let low : b.place < over.asked.offset = leb-false _ _ (sym (ap (changes b) over.is) ∙ e) in
     let from = over.from in absurd (omega arith)
 
-spared_by : (b : Byte) (d : Done) → changes b d.item ≡ false → SparesIt b d
+spared_by : (b : Byte) (d : RanOp) → changes b d.item ≡ false → SparesIt b d
 spared_by b d e = record {
   writes = λ over. write_behind b d.context d.item d.result e over;
   sizes = λ sets. true≢false (sym (ap (changes b) sets.is) ∙ e);
   opens = λ opens. true≢false (sym (ap (changes b) opens.is) ∙ e);
 }
 
-abbrev all_spare : Byte → List Done → Bool
+abbrev all_spare : Byte → List RanOp → Bool
 all_spare b [] = true
 all_spare b (d ∷ ds) = not (changes b d.item) && all_spare b ds
 
-all_spared : (b : Byte) (ds : List Done) → all_spare b ds ≡ true → AreSpared b ds
+all_spared : (b : Byte) (ds : List RanOp) → all_spare b ds ≡ true → AreSpared b ds
 all_spared b [] e d there = absurd there
 all_spared b (x ∷ ds) e d there = (let p = and_parts _ _ e in elim there [
   | inl here ↦ subst (SparesIt b) (sym here) (spared_by b x (not-true _ p.0))
@@ -78,7 +78,7 @@ all_spared b (x ∷ ds) e d there = (let p = and_parts _ _ e in elim there [
 ])
 
 -- what stands behind a list is of no account
-nothing : Done
+nothing : RanOp
 nothing = record {
   before = start.machine;
   context = begins 0 (record { uid = 0; gid = 0; gids = [] });
@@ -94,7 +94,7 @@ wrote = record { stateid = anonymous; offset = 0; stable = Unstable; bytes = wor
 abbrev read : Read
 read = record { stateid = anonymous; offset = 0; count = 8 }
 
-three : (x : Done) (ds : List Done) → length ds ≡ 3 → ds ≡ take 2 ds ++ last_of x ds ∷ []
+three : (x : RanOp) (ds : List RanOp) → length ds ≡ 3 → ds ≡ take 2 ds ++ last_of x ds ∷ []
 three x [] e = absurd (omega arith)
 three x (a ∷ []) e = absurd (omega arith)
 three x (a ∷ b ∷ []) e = absurd (omega arith)

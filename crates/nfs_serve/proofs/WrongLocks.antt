@@ -43,18 +43,18 @@ use Rattle.nfs_xdr.specs.declared.status.Status.{Status}
 use Rattle.nfs_xdr.specs.Tables.{In}
 use Rattle.nfs_names.specs.declared.context.Context.{Context}
 use Rattle.nfs_files.specs.StateIds.{meant}
-use Rattle.nfs_files.specs.Kept.{Stands}
+use Rattle.nfs_files.specs.LockTold.{Stands}
 use Rattle.nfs_exec.specs.Machine.{Machine}
 use Rattle.nfs_xdr.specs.Caller.{Caller}
 use Rattle.nfs_compound.specs.Request.{Request}
 use Rattle.nfs_compound.specs.declared.session_args.Sequence.{Sequence}
 use Rattle.nfs_exec.specs.Compound.{Answered, compound}
-use Rattle.nfs_exec.specs.Laws.{Event, Expires, Asks, first_runs}
+use Rattle.nfs_exec.specs.Laws.{MachineEvent, Expires, Asks, first_runs}
 use Rattle.nfs_exec.specs.Delayed.{IsDelayed, kept_by, with_ok}
-use Rattle.nfs_exec.specs.Ops.{Done}
-use Rattle.nfs_exec.specs.Held.{Spares, AreSpared, IsAlone}
+use Rattle.nfs_exec.specs.Ops.{RanOp}
+use Rattle.nfs_exec.specs.LockHeld.{Spares, AreSpared, IsAlone}
 use Rattle.nfs_serve.specs.Exchanges.{words}
-use Rattle.nfs_serve.specs.Kept.{StaysHeld}
+use Rattle.nfs_serve.specs.LockKept.{StaysHeld}
 use Rattle.nfs_opens.specs.declared.records.LockState.{LockState}
 use Rattle.nfs_serve.specs.Outlived.{last_renewal}
 use Rattle.nfs_serve.specs.Step.{State, new_state, step}
@@ -93,7 +93,7 @@ no_lock a e = cc
 no_unlock : (a : LockU) → Operation (OpClose close) ≡ Operation (OpLockU a) → ⊥
 no_unlock a e = cc
 
-spared : (d : Done) → Spares worked.told (closes_another d)
+spared : (d : RanOp) → Spares worked.told (closes_another d)
 spared d = record {
   locks = λ w l. absurd (no_lock l.asked l.is);
   unlocks = λ w l. absurd (no_unlock l.asked l.is);
@@ -107,7 +107,7 @@ unheld t none is =
     let some : t.held 2 2 0 ≡ Some Write = is.held 0 (omega arith) (omega arith) in
     let bad : None ≡ Some Write = sym none ∙ some in cc
 
-none_spared : (ds : List Done) → ds ≡ [] → AreSpared worked.told ds
+none_spared : (ds : List RanOp) → ds ≡ [] → AreSpared worked.told ds
 none_spared ds none d there = absurd (subst (In d) none there)
 
 none_alone : (m n : Machine) → m.clients.records ≡ [] → IsAlone worked.told.client m n
@@ -148,11 +148,11 @@ not_delayed m r who size now four status d =
     absurd (omega arith)
 
 -- four operations, and the third byte of the status of NFS4ERR_DENIED
-abbrev denies : Machine → Option Event → Bool
+abbrev denies : Machine → Option MachineEvent → Bool
 denies m (Some (Asks r who size now choice)) = (length r.left == 4) && (get_or (compound m r who size now None).text 2 0 == 39)
 denies m o = false
 
-none_delayed : (m : Machine) (o : Option Event) → denies m o ≡ true → NoneDelayed m 3 o
+none_delayed : (m : Machine) (o : Option MachineEvent) → denies m o ≡ true → NoneDelayed m 3 o
 none_delayed m (Some (Asks r who size now choice)) e =
     let tests = and_parts _ _ e in not_delayed m r who size now (eqb-true _ _ tests.0) (eqb-true _ _ tests.1)
 none_delayed m (Some (Expires now)) e = absurd (false≢true e)

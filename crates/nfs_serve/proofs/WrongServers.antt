@@ -5,7 +5,7 @@ use Rattle.nfs_xdr.specs.Codec.{IsBytes}
 use Rattle.nfs_slots.specs.declared.slot.Verdict.{Verdict}
 use Rattle.nfs_slots.specs.declared.slot.Verdict.TheVariants.{Fresh, Again, FalseRetry, Misordered, NoSlot}
 use Rattle.nfs_serve.specs.Endpoint.{Place, Heading, Compound, Answer, Stepped}
-use Rattle.nfs_serve.specs.Network.{Callers, Packet, Done, Event, Sends, Arrives, Accepts, begins, same_place}
+use Rattle.nfs_serve.specs.Network.{Callers, Packet, RanCompound, NetworkEvent, Sends, Arrives, Accepts, begins, same_place}
 use Rattle.nfs_serve.specs.Numbered.{Happens}
 use Rattle.nfs_serve.specs.WrongServers.{Small, place, heading, spell, judged, kept, is_fresh, by_verdict, taken, executes, runs_repeats, says_one, LawsRefuse}
 use Rattle.nfs_serve.proofs.ServerLaws.{KeepsSlots, Runs, Repeats}
@@ -113,7 +113,7 @@ abbrev packet : (xid slot : ℕ) → Packet
 packet xid slot = record { bytes = xid ∷ slot ∷ 1 ∷ []; heading = record { xid = xid; place = place slot; compound = compound slot } }
 
 -- a compound is sent, and its packet comes twice
-abbrev twice : List Event
+abbrev twice : List NetworkEvent
 twice = Sends (packet 8 1) ∷ Arrives (packet 8 1) 0 None ∷ Arrives (packet 8 1) 0 None ∷ []
 
 twice_happens : Happens callers runs_repeats.new (begins runs_repeats runs_repeats.new) twice
@@ -131,7 +131,7 @@ twice_happens = (
 )
 
 -- a compound is sent on each slot; the one on slot 2 runs, and its result is accepted for the one on slot 1
-abbrev crossed : List Event
+abbrev crossed : List NetworkEvent
 crossed = Sends (packet 8 1) ∷ Sends (packet 9 2) ∷ Arrives (packet 9 2) 0 None ∷ Accepts (place 1) (compound 1) (record { xid = 9; result = spell (place 1) 1 }) ∷ []
 
 crossed_happens : Happens callers says_one.new (begins says_one says_one.new) crossed
@@ -162,7 +162,7 @@ crossed_happens = (
   ),
 )
 
-none_longer : (d : Done) (rest : List Done) → [] ≡ d ∷ rest → ⊥
+none_longer : (d : RanCompound) (rest : List RanCompound) → [] ≡ d ∷ rest → ⊥
 none_longer d rest e = cc
 
 pub laws_refuse : LawsRefuse

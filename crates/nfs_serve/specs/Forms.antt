@@ -14,7 +14,7 @@ use Rattle.nfs_serve.specs.declared.form.Form.TheVariants.{Tagged, Plain}
 use Rattle.nfs_serve.specs.declared.talking.Talk.{Talk}
 use Rattle.nfs_serve.specs.Script.{Entry, spell_entry}
 use Rattle.nfs_serve.specs.Step.{State}
-use Rattle.nfs_serve.specs.Run.{Streams, all_closed, Brings, TakesAll, Event, Arrives, Overflows, Move, events, output}
+use Rattle.nfs_serve.specs.Run.{Streams, all_closed, Brings, TakesAll, StreamEvent, Arrives, Overflows, Move, events, output}
 use Rattle.nfs_serve.specs.Server.{ServerModel, state_of, Stands, Steps, FeedsOr}
 use Rattle.nfs_serve.specs.Replay.{Replays}
 use Rattle.nfs_serve.specs.Talk.{Talks}
@@ -27,7 +27,7 @@ use Rattle.nfs_serve.specs.Seen.{server}
 use Rattle.nfs_serve.specs.Points.{all_next}
 
 -- the record that a move steps, if it is one that arrives
-abbrev pub record_of : Event → Option ℕ → List Arrival
+abbrev pub record_of : StreamEvent → Option ℕ → List Arrival
 record_of (Arrives conn moment call) choice = record { bytes = call; now = moment; choice = choice } ∷ []
 record_of (Overflows conn) choice = []
 
@@ -93,4 +93,4 @@ pub record EachFormRunsRecords : Type 0 where
       ran s (ran s s.new before) records ≡ ran s s.new (before ++ records))
   -- and the points of such a run are those of its list of records
   pub points : (mode instance lease : ℕ) (s : State) (records : List Arrival)
-      → ran (server mode instance lease) s records ≡ all_next s (map (λ a. record { call = a.bytes; now = a.now; choice = a.choice }) records)
+      → ran (server mode instance lease) s records ≡ all_next s records

@@ -6,18 +6,19 @@ use Rattle.std.specs.Prelude.{◌≡◌, ℕ, ◌+◌, ◌*◌, ◌^◌, ◌≤�
 use Rattle.nfs_xdr.specs.declared.status.Status.{Status}
 use Rattle.nfs_xdr.specs.declared.status.Status.TheVariants.{Nfs4Ok, Denied}
 use Rattle.nfs_ranges.specs.declared.Kind.TheVariants.{Write}
-use Rattle.nfs_files.specs.Kept.{Told}
-use Rattle.nfs_exec.specs.Ops.{Done}
-use Rattle.nfs_exec.specs.Held.{LocksFor, AreSpared, Tells}
+use Rattle.nfs_files.specs.LockTold.{LockTold}
+use Rattle.nfs_exec.specs.Ops.{RanOp}
+use Rattle.nfs_exec.specs.LockHeld.{LocksFor, AreSpared, Tells}
 use Rattle.nfs_serve.specs.Step.{State, new_state}
-use Rattle.nfs_serve.specs.Points.{Came, next, all_next, reached, taken, before, ops_of}
-use Rattle.nfs_serve.specs.Kept.{AreInTime}
+use Rattle.nfs_serve.specs.Endpoint.{Arrival}
+use Rattle.nfs_serve.specs.Points.{next, all_next, reached, taken, before, ops_of}
+use Rattle.nfs_serve.specs.LockKept.{AreInTime}
 use Rattle.nfs_serve.specs.Outlived.{last_renewal}
 use Rattle.nfs_serve.specs.Exchanges.{words}
 use Rattle.nfs_serve.specs.LostReply.{call, exchange_id, create_session}
 
-abbrev pub came : (now xid : ℕ) → List ℕ → Came
-came now xid args = record { call = call xid args; now = now; choice = None }
+abbrev pub came : (now xid : ℕ) → List ℕ → Arrival
+came now xid args = record { bytes = call xid args; now = now; choice = None }
 
 -- No tag, minor version 1, so many operations; the first is SEQUENCE of the session of a client, with a number, on slot 0, which is the
 -- highest in use, and nothing need be kept. Client 1 has session 1, and client 2 session 2.
@@ -34,25 +35,25 @@ opens_and_locks offset = words (24 ∷ 18 ∷ 0 ∷ 3 ∷ 0 ∷ 0 ∷ 0 ∷ 1 �
 abbrev pub unlocks : List ℕ
 unlocks = words (22 ∷ 16 ∷ 7 ∷ 0 ∷ 0 ∷ 2 ∷ 14 ∷ 2 ∷ 0 ∷ 1 ∷ 7 ∷ 0 ∷ 2 ∷ 0 ∷ 0 ∷ 0 ∷ 1 ∷ [])
 
-abbrev pub earlier : List Came
+abbrev pub earlier : List Arrival
 earlier = came 100 1 (exchange_id 0x4100_0000) ∷ came 101 2 (create_session 1) ∷ []
 
-abbrev pub locks : Came
+abbrev pub locks : Arrival
 locks = came 102 3 (in_session 1 1 4 (opens_and_locks 0))
 
 -- the first renewal of A is at the last second, and so is the second
-abbrev pub waits : List Came
+abbrev pub waits : List Arrival
 waits = came 192 4 (in_session 1 2 1 []) ∷ came 200 5 (exchange_id 0x4200_0000) ∷ came 282 6 (in_session 1 3 1 []) ∷ came 283 7 (create_session 2) ∷ []
 
 -- B asks at the last second of A's lease
-abbrev pub clashes : Came
+abbrev pub clashes : Arrival
 clashes = came 372 8 (in_session 2 1 4 (opens_and_locks 0))
 
 -- or B asks for the byte behind it
-abbrev pub goes_beside : Came
+abbrev pub goes_beside : Arrival
 goes_beside = came 372 8 (in_session 2 1 4 (opens_and_locks 1))
 
-abbrev pub gives_up : Came
+abbrev pub gives_up : Arrival
 gives_up = came 372 9 (in_session 1 4 3 unlocks)
 
 abbrev pub start : State
@@ -65,17 +66,17 @@ abbrev pub asked : State
 asked = all_next locked waits
 
 -- Lock state 2 of client 1, under open 1: byte 0 of object 2, as Write.
-abbrev pub told : Told
+abbrev pub told : LockTold
 told = record { state = 2; client = 7 * 2 ^ 32 + 1; opened = 1; file = 2; kind = Write; first = 0; last = 0 }
 
-abbrev pub statuses : List Done → List Status
+abbrev pub statuses : List RanOp → List Status
 statuses ds = map (λ d. d.status) ds
 
 -- The run meets the premises of the promise, and computes to what it says.
 pub record IsHeldTo : Type 0 where
   -- LOCK is the last operation of its compound, and tells the lock
-  pub front : List Done
-  pub lock : Done
+  pub front : List RanOp
+  pub lock : RanOp
   pub ops : ops_of start locks ≡ front ++ lock ∷ []
   pub tells : Tells told lock
   -- what follows comes in time, from that compound on, and spares the lock
@@ -93,8 +94,8 @@ pub record AreBothTold : Type 0 where
   pub renewed : last_renewal told.client None (new_state 511 7 90) (earlier ++ locks ∷ waits) ≡ Some 282
   pub moment : taken asked clashes ≡ 372
   pub held : (before asked clashes).store.opens.held 2 2 0 ≡ Some Write
-  pub until : List Done
-  pub second : Done
+  pub until : List RanOp
+  pub second : RanOp
   pub locks : LocksFor second 4 (record { client = 7 * 2 ^ 32 + 2; file = 2; kind = Write; first = 1; last = 1 })
   pub between : AreInTime told 90 102 locked waits
       (λ last t. (ops_of t goes_beside ≡ until ++ second ∷ []) × (taken t goes_beside ≤ last + 90) × AreSpared told until)

@@ -6,10 +6,11 @@ use Rattle.std.specs.Prelude.{◌≡◌, ℕ, ◌+◌, ◌*◌, ◌^◌, true, f
 use Rattle.nfs_xdr.specs.declared.status.Status.TheVariants.{Nfs4Ok, ShareDenied}
 use Rattle.nfs_opens.specs.Share.{neither}
 use Rattle.nfs_files.specs.OpenTold.{OpenTold, Bits}
-use Rattle.nfs_exec.specs.Ops.{Done}
+use Rattle.nfs_exec.specs.Ops.{RanOp}
 use Rattle.nfs_exec.specs.OpenHeld.{TellsOpen}
 use Rattle.nfs_serve.specs.Step.{State}
-use Rattle.nfs_serve.specs.Points.{Came, next, all_next, ops_of}
+use Rattle.nfs_serve.specs.Endpoint.{Arrival}
+use Rattle.nfs_serve.specs.Points.{next, all_next, ops_of}
 use Rattle.nfs_serve.specs.OpenKept.{LeaveOpen}
 use Rattle.nfs_serve.specs.Exchanges.{words}
 use Rattle.nfs_serve.specs.HeldLock.{came, in_session, waits, start, statuses}
@@ -23,23 +24,23 @@ abbrev pub downgrading : List ℕ
 downgrading = words (22 ∷ 16 ∷ 7 ∷ 0 ∷ 0 ∷ 2 ∷ 21 ∷ 2 ∷ 7 ∷ 0 ∷ 1 ∷ 0 ∷ 1 ∷ 0 ∷ [])
 
 -- for reading and writing, and nobody else may write
-abbrev pub opens : Came
+abbrev pub opens : Arrival
 opens = came 102 3 (in_session 1 1 3 (opening 3 2))
 
 -- B asks to write, at the last second of A's lease, and again
-abbrev pub asks : Came
+abbrev pub asks : Arrival
 asks = came 372 8 (in_session 2 1 3 (opening 2 0))
 
-abbrev pub opens_again : Came
+abbrev pub opens_again : Arrival
 opens_again = came 372 9 (in_session 1 4 3 (opening 1 0))
 
-abbrev pub asks_again : Came
+abbrev pub asks_again : Arrival
 asks_again = came 372 10 (in_session 2 2 3 (opening 2 0))
 
-abbrev pub downgrades : Came
+abbrev pub downgrades : Arrival
 downgrades = came 372 11 (in_session 1 5 3 downgrading)
 
-abbrev pub asks_last : Came
+abbrev pub asks_last : Arrival
 asks_last = came 372 12 (in_session 2 3 3 (opening 2 0))
 
 -- open 1 of client 1, whose owner is `o`, of object 2
@@ -67,8 +68,8 @@ downgraded = next (next asked_again asks_again) downgrades
 -- The run meets the premises of the promise, and computes to what it says.
 pub record IsOpenTo : Type 0 where
   -- OPEN is the last operation of its compound, and tells the open
-  pub front : List Done
-  pub told : Done
+  pub front : List RanOp
+  pub told : RanOp
   pub ops : ops_of start opens ≡ front ++ told ∷ []
   pub tells : TellsOpen its_open first_bits told
   -- what follows comes in time, from that compound on, and does not close the open; and these are the bits that it has behind it

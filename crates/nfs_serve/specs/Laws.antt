@@ -3,7 +3,7 @@ use Rattle.std.specs.Prelude.{◌≡◌, ◌≢◌, ◌⊎◌, ℕ, nat_eq, List
 use Rattle.nfs_rpc.specs.Stream.{End, IsReading}
 use Rattle.nfs_serve.specs.declared.fault.Stop.{Stop}
 use Rattle.nfs_serve.specs.Script.{Entry, IsRead}
-use Rattle.nfs_serve.specs.Run.{Streams, all_closed, Brings, TakesAll, Event, Arrives, Overflows, overflow}
+use Rattle.nfs_serve.specs.Run.{Streams, all_closed, Brings, TakesAll, StreamEvent, Arrives, Overflows, overflow}
 
 -- Which fault a script has, if any, and its whole entries before it are decided by its bytes.
 abbrev pub HasOneReading : Type 0
@@ -13,24 +13,24 @@ HasOneReading = (script : List ℕ) (a b : Option Stop) (es fs : List Entry) (r 
 -- Where a piece is cut makes no difference: two pieces that come one after the other at one moment bring what one piece
 -- of their bytes brings.
 abbrev pub CutsAnywhere : Type 0
-CutsAnywhere = (conn moment : ℕ) (before between end : End) (front back : List ℕ) (first later : List Event)
+CutsAnywhere = (conn moment : ℕ) (before between end : End) (front back : List ℕ) (first later : List StreamEvent)
     → Brings conn moment before front first between → Brings conn moment between back later end
     → Brings conn moment before (front ++ back) (first ++ later) end
 
 -- And a piece brings only that.
 abbrev pub BringsOnce : Type 0
-BringsOnce = (conn moment : ℕ) (before : End) (piece : List ℕ) (first other : List Event) (end last : End)
+BringsOnce = (conn moment : ℕ) (before : End) (piece : List ℕ) (first other : List StreamEvent) (end last : End)
     → Brings conn moment before piece first end → Brings conn moment before piece other last → (first ≡ other) × (end ≡ last)
 
 -- the bytes that come on a connection by these entries, one piece behind the other
 abbrev pub stream_on : ℕ → List Entry → List ℕ
 stream_on conn entries = flat_map (λ e. if nat_eq e.conn conn then e.piece else []) entries
 
-abbrev pub call_on : ℕ → Event → List (List ℕ)
+abbrev pub call_on : ℕ → StreamEvent → List (List ℕ)
 call_on conn (Arrives c moment call) = if nat_eq c conn then call ∷ [] else []
 call_on conn (Overflows c) = []
 
-abbrev pub overflow_on : ℕ → Event → List Event
+abbrev pub overflow_on : ℕ → StreamEvent → List StreamEvent
 overflow_on conn (Arrives c moment call) = []
 overflow_on conn (Overflows c) = if nat_eq c conn then Overflows c ∷ [] else []
 
@@ -45,10 +45,10 @@ NoneCloses conn entries = All (λ e. e.conn ≡ conn → e.piece ≢ []) entries
 
 -- What a script brings by a stretch of its entries: the records that arrive on the connection are those of the stream of
 -- its pieces there, and where that stream becomes too long this is reported once.
-pub record BringsStream (conn : ℕ) (front stretch back : List Entry) (brought : List Event) (end : Streams) : Type 0 where
-  pub before : List Event
-  pub here : List Event
-  pub later : List Event
+pub record BringsStream (conn : ℕ) (front stretch back : List Entry) (brought : List StreamEvent) (end : Streams) : Type 0 where
+  pub before : List StreamEvent
+  pub here : List StreamEvent
+  pub later : List StreamEvent
   pub from : Streams
   pub to : Streams
   pub order : brought ≡ before ++ (here ++ later)
@@ -60,6 +60,6 @@ pub record BringsStream (conn : ℕ) (front stretch back : List Entry) (brought 
 
 -- Entries of many connections in any order: on each connection the pieces since its last close form one stream.
 abbrev pub ConnectionsAreStreams : Type 0
-ConnectionsAreStreams = (conn : ℕ) (front stretch back : List Entry) (brought : List Event) (end : Streams)
+ConnectionsAreStreams = (conn : ℕ) (front stretch back : List Entry) (brought : List StreamEvent) (end : Streams)
     → TakesAll all_closed (front ++ (stretch ++ back)) brought end → IsClosedBehind conn front → NoneCloses conn stretch
     → BringsStream conn front stretch back brought end

@@ -32,7 +32,7 @@ pub mod LostReply
 pub mod SeenWrite
 pub mod Points
 pub mod Forms
-pub mod Kept
+pub mod LockKept
 pub mod Outlived
 pub mod HeldLock
 pub mod WrongLocks

@@ -4,7 +4,7 @@
 use Rattle.std.specs.Prelude.{◌≡◌, ℕ, ◌+◌, ◌*◌, ◌^◌, List, [], ◌∷◌, ◌++◌, None}
 use Rattle.nfs_serve.specs.Exchanges.{words}
 use Rattle.nfs_serve.specs.Endpoint.{Place, Compound, Answer, Arrival, Server, ran}
-use Rattle.nfs_serve.specs.Network.{Callers, Packet, Done, Event, Sends, Resends, Arrives, Accepts, Schedule, IsUnused, Network, begins, ended}
+use Rattle.nfs_serve.specs.Network.{Callers, Packet, RanCompound, NetworkEvent, Sends, Resends, Arrives, Accepts, Schedule, IsUnused, Network, begins, ended}
 use Rattle.nfs_serve.specs.Seen.{server}
 use Rattle.nfs_serve.specs.PerfectWire.{wire, done_on, IsAsOverAWire}
 use Rattle.nfs_serve.specs.RealTime.{RunsBehind}
@@ -45,16 +45,16 @@ packet xid number = record { bytes = call xid (compound number).args; heading = 
 abbrev pub answer : (xid number : ℕ) → Answer
 answer xid number = record { xid = xid; result = words (0 ∷ 0 ∷ 1 ∷ 53 ∷ 0 ∷ 7 ∷ 1 ∷ 0 ∷ 1 ∷ number ∷ 1 ∷ 3 ∷ 3 ∷ 0 ∷ []) }
 
-abbrev pub first : List Event
+abbrev pub first : List NetworkEvent
 first = Sends (packet 3 1) ∷ Arrives (packet 3 1) 102 None ∷ Accepts place (compound 1) (answer 3 1) ∷ []
 
-abbrev pub second : List Event
+abbrev pub second : List NetworkEvent
 second = Sends (packet 4 2) ∷ Arrives (packet 4 2) 103 None ∷ Resends (packet 5 2) ∷ Arrives (packet 5 2) 104 None ∷ Accepts place (compound 2) (answer 5 2) ∷ []
 
 abbrev pub start : Network here
 start = begins here (ran here here.new before)
 
-abbrev pub done : ℕ → Done
+abbrev pub done : ℕ → RanCompound
 done number = record { compound = compound number; result = (answer 0 number).result }
 
 -- These events may happen; and then each compound was executed once, and its result accepted.

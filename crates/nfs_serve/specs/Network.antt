@@ -23,7 +23,7 @@ pub record Reply : Type 0 where
   pub answer : Answer
 
 -- a compound and a result of it
-pub record Done : Type 0 where
+pub record RanCompound : Type 0 where
   pub compound : Compound
   pub result : List ℕ
 
@@ -32,9 +32,9 @@ pub record Line : Type 0 where
   -- those that its caller sent
   pub sent : List Compound
   -- those that the server executed, with what it answered to each execution
-  pub executed : List Done
+  pub executed : List RanCompound
   -- those of which the caller accepted a result
-  pub accepted : List Done
+  pub accepted : List RanCompound
   -- the xids under which the last one was sent, while it waits for a reply; else none
   pub xids : List ℕ
 
@@ -46,18 +46,18 @@ pub record Network (s : Server) : Type 0 where
   pub replies : List Reply
 
 -- What does not happen needs no event: a packet or a reply that is lost, a reply that its caller does not accept.
-pub data Event : Type 0 where
+pub data NetworkEvent : Type 0 where
   -- a caller sends the next compound of a slot, or again the one that waits there
-  Sends : Packet → Event
-  Resends : Packet → Event
+  Sends : Packet → NetworkEvent
+  Resends : Packet → NetworkEvent
   -- a packet that was sent reaches the server: for the first time or again, at any moment, and wherever memory is refused
-  Arrives : Packet → ℕ → Option ℕ → Event
+  Arrives : Packet → ℕ → Option ℕ → NetworkEvent
   -- a record of a caller reaches it that is no compound on a slot, as an operation alone is
-  Asks : (caller : ℕ) → Arrival → Event
+  Asks : (caller : ℕ) → Arrival → NetworkEvent
   -- a stranger's record reaches it
-  Intrudes : Arrival → Event
+  Intrudes : Arrival → NetworkEvent
   -- a reply reaches its caller, who accepts it for the compound that waits on a slot
-  Accepts : Place → Compound → Answer → Event
+  Accepts : Place → Compound → Answer → NetworkEvent
 
 -- What each event does.
 
@@ -73,7 +73,7 @@ sending l h = record l { sent = l.sent ++ h.compound ∷ []; xids = h.xid ∷ []
 abbrev pub resending : Line → Heading → Line
 resending l h = record l { xids = h.xid ∷ l.xids }
 
-abbrev pub accepting : Line → Done → Line
+abbrev pub accepting : Line → RanCompound → Line
 accepting l done = record l { accepted = l.accepted ++ done ∷ []; xids = [] }
 
 abbrev pub result_of : Option Answer → List ℕ
@@ -97,7 +97,7 @@ arriving callers net h executes step = record net {
   replies = with_reply (callers.who h.place) step.answer net.replies;
 }
 
-abbrev pub after : {s : Server} → Callers → Network s → Event → Network s
+abbrev pub after : {s : Server} → Callers → Network s → NetworkEvent → Network s
 after callers net (Sends p) = with_packet net p (sending (net.lines p.heading.place) p.heading)
 after callers net (Resends p) = with_packet net p (resending (net.lines p.heading.place) p.heading)
 after {s} callers net (Arrives p now choice) = arriving callers net p.heading (s.executes net.machine p.bytes now) (s.step net.machine p.bytes now choice)
@@ -148,7 +148,7 @@ pub record MayAccept (s : Server) (callers : Callers) (net : Network s) (p : Pla
   pub xid : In a.xid (net.lines p).xids
   pub sequenced : s.sequenced a.result ≡ true
 
-abbrev pub May : {s : Server} → Callers → Network s → Event → Type 0
+abbrev pub May : {s : Server} → Callers → Network s → NetworkEvent → Type 0
 May {s} callers net (Sends p) = MaySend s callers net p
 May {s} callers net (Resends p) = MayResend s callers net p
 May callers net (Arrives p now choice) = In p net.packets
@@ -157,11 +157,11 @@ May {s} callers net (Intrudes a) = IsForeign s callers a.bytes
 May {s} callers net (Accepts p compound a) = MayAccept s callers net p compound a
 
 -- the events are such ones, each in the network that those before it leave
-abbrev pub Schedule : {s : Server} → Callers → Network s → List Event → Type 0
+abbrev pub Schedule : {s : Server} → Callers → Network s → List NetworkEvent → Type 0
 Schedule callers net [] = ⊤
 Schedule callers net (e ∷ more) = May callers net e × Schedule callers (after callers net e) more
 
-abbrev pub ended : {s : Server} → Callers → Network s → List Event → Network s
+abbrev pub ended : {s : Server} → Callers → Network s → List NetworkEvent → Network s
 ended callers net [] = net
 ended callers net (e ∷ more) = ended callers (after callers net e) more
 
@@ -178,7 +178,7 @@ begins s m = record { machine = m; lines = λ p. no_line; packets = []; replies 
 
 -- The promise.
 
-abbrev pub is_number : ℕ → Done → Bool
+abbrev pub is_number : ℕ → RanCompound → Bool
 is_number number d = d.compound.number == number
 
 pub record IsExact (l : Line) : Type 0 where
@@ -187,12 +187,12 @@ pub record IsExact (l : Line) : Type 0 where
   -- those that were executed are the first of those that were sent, in their order
   pub in_order : (rest : List Compound) × (l.sent ≡ map (λ d. d.compound) l.executed ++ rest)
   -- what was accepted are the results of the first executions, in their order, each for its own compound
-  pub told : (rest : List Done) × (l.executed ≡ l.accepted ++ rest)
+  pub told : (rest : List RanCompound) × (l.executed ≡ l.accepted ++ rest)
 
 -- Behind any records to a new server, for any callers whose slots stand unused then, and any schedule: on each slot of a caller.
 abbrev pub ExactlyOnce : Server → Type 0
 ExactlyOnce s =
-    (before : List Arrival) (callers : Callers) (events : List Event)
+    (before : List Arrival) (callers : Callers) (events : List NetworkEvent)
     → ((p : Place) → In p callers.places → IsUnused s (ran s s.new before) p)
     → Schedule callers (begins s (ran s s.new before)) events
     → (p : Place) → In p callers.places → IsExact ((ended callers (begins s (ran s s.new before)) events).lines p)

@@ -5,7 +5,7 @@ use Rattle.std.specs.Prelude.{◌≡◌, ◌⊎◌, ◌+◌, ◌<◌, ◌^◌, �
 use Rattle.nfs_xdr.specs.Codec.{IsBytes}
 use Rattle.nfs_xdr.specs.Tables.{In}
 use Rattle.nfs_serve.specs.Endpoint.{Place, Heading, Compound, Answer, Server, Arrival, ran}
-use Rattle.nfs_serve.specs.Network.{Callers, Packet, Network, Event, Sends, Resends, Arrives, Asks, Intrudes, Accepts, after, IsLast, IsForeign, Schedule, IsUnused, begins, ended, IsExact}
+use Rattle.nfs_serve.specs.Network.{Callers, Packet, Network, NetworkEvent, Sends, Resends, Arrives, Asks, Intrudes, Accepts, after, IsLast, IsForeign, Schedule, IsUnused, begins, ended, IsExact}
 
 -- The slot took no request yet, at the beginning or by now.
 abbrev pub IsReady : (s : Server) → s.State → Network s → Place → Type 0
@@ -39,7 +39,7 @@ pub record CanAccept (s : Server) (callers : Callers) (net : Network s) (p : Pla
   pub last : IsLast compound (net.lines p).sent
   pub numbered : s.slot_number a.result ≡ Some (record { place = p; number = compound.number })
 
-abbrev pub Can : {s : Server} → Callers → s.State → Network s → Event → Type 0
+abbrev pub Can : {s : Server} → Callers → s.State → Network s → NetworkEvent → Type 0
 Can {s} callers start net (Sends p) = CanSend s callers start net p
 Can {s} callers start net (Resends p) = CanResend s callers net p
 Can callers start net (Arrives p now choice) = In p net.packets
@@ -48,14 +48,14 @@ Can {s} callers start net (Intrudes a) = IsForeign s callers a.bytes
 Can {s} callers start net (Accepts p compound a) = CanAccept s callers net p compound a
 
 -- the events are such ones, each in the network that those before it leave
-abbrev pub Happens : {s : Server} → Callers → s.State → Network s → List Event → Type 0
+abbrev pub Happens : {s : Server} → Callers → s.State → Network s → List NetworkEvent → Type 0
 Happens callers start net [] = ⊤
 Happens callers start net (e ∷ more) = Can callers start net e × Happens callers start (after callers net e) more
 
 -- After any records to a new server, for any callers, and any such events: on each slot of a caller.
 abbrev pub ExactlyOnceByNumber : Server → Type 0
 ExactlyOnceByNumber s =
-    (before : List Arrival) (callers : Callers) (events : List Event)
+    (before : List Arrival) (callers : Callers) (events : List NetworkEvent)
     → Happens callers (ran s s.new before) (begins s (ran s s.new before)) events
     → (p : Place) → In p callers.places → IsExact ((ended callers (begins s (ran s s.new before)) events).lines p)
 
@@ -71,7 +71,7 @@ AnswersNumbered s =
 -- such list of events holds of theirs.
 abbrev pub XidsSuffice : Server → Type 0
 XidsSuffice s =
-    (before : List Arrival) (callers : Callers) (events : List Event)
+    (before : List Arrival) (callers : Callers) (events : List NetworkEvent)
     → ((p : Place) → In p callers.places → IsUnused s (ran s s.new before) p)
     → Schedule callers (begins s (ran s s.new before)) events
     → Happens callers (ran s s.new before) (begins s (ran s s.new before)) events

@@ -6,17 +6,18 @@ use Rattle.nfs_compound.specs.OpenArgs.{Open}
 use Rattle.nfs_compound.specs.declared.op_num.OpNum.TheVariants as Op
 use Rattle.nfs_compound.specs.Operation.{Operation, OpOpen}
 use Rattle.nfs_files.specs.OpenTold.{names_open, OpenTold, Bits, IsOpenWith}
-use Rattle.nfs_exec.specs.Ops.{Done}
-use Rattle.nfs_exec.specs.Held.{IsAlone}
+use Rattle.nfs_exec.specs.Ops.{RanOp}
+use Rattle.nfs_exec.specs.LockHeld.{IsAlone}
 use Rattle.nfs_exec.specs.OpenHeld.{OpenWhile, NoneCloses, bits_left, TellsOpen}
 use Rattle.nfs_serve.specs.Step.{State}
-use Rattle.nfs_serve.specs.Points.{Came, next, reached, taken, before, ops_of}
-use Rattle.nfs_serve.specs.Kept.{renews_by}
+use Rattle.nfs_serve.specs.Endpoint.{Arrival}
+use Rattle.nfs_serve.specs.Points.{next, reached, taken, before, ops_of}
+use Rattle.nfs_serve.specs.LockKept.{renews_by}
 
 -- The open stands here with these bits, and stays through these records, where `last` is the moment of its client's last renewal: if the next one is taken at
 -- most one lease behind that, the open stands before each operation of it, and no OPEN there that it forbids is answered NFS4_OK; and if none of them closes it,
 -- and no other id is confirmed for the client's owner, the same holds of the records behind it, with the bits that it has then.
-abbrev pub StaysOpen : OpenTold → Bits → (lease last : ℕ) → State → List Came → Type 0
+abbrev pub StaysOpen : OpenTold → Bits → (lease last : ℕ) → State → List Arrival → Type 0
 StaysOpen k b lease last s [] = IsOpenWith k b s.machine.store.opens
 StaysOpen k b lease last s (c ∷ more) =
     IsOpenWith k b s.machine.store.opens
@@ -29,20 +30,20 @@ StaysOpen k b lease last s (c ∷ more) =
 -- behind it there. The open stands before each of them while none closes it; and if none does, it stays through whatever records come, from the moment of
 -- this record on, which renewed its client's lease.
 abbrev pub OpenKept : Type 0
-OpenKept = (mode instance lease : ℕ) (earlier : List Came) (c : Came) (k : OpenTold) (b : Bits) (front : List Done) (told : Done) (back : List Done)
+OpenKept = (mode instance lease : ℕ) (earlier : List Arrival) (c : Arrival) (k : OpenTold) (b : Bits) (front : List RanOp) (told : RanOp) (back : List RanOp)
     → (let s = reached mode instance lease earlier in
     ops_of s c ≡ front ++ told ∷ back → TellsOpen k b told
     → OpenWhile k b back
-    × (NoneCloses k back → (more : List Came) → StaysOpen k (bits_left k.number b back) lease (taken s c) (next s c) more))
+    × (NoneCloses k back → (more : List Arrival) → StaysOpen k (bits_left k.number b back) lease (taken s c) (next s c) more))
 
 -- Whatever OPEN is answered NFS4_OK and a stateid told an open.
 abbrev pub EachOpenIsTold : Type 0
-EachOpenIsTold = (mode instance lease : ℕ) (records : List Came) (c : Came) (d : Done) (a : Open) (n : ℕ)
+EachOpenIsTold = (mode instance lease : ℕ) (records : List Arrival) (c : Arrival) (d : RanOp) (a : Open) (n : ℕ)
     → In d (ops_of (reached mode instance lease records) c) → d.item ≡ Operation (OpOpen a) → names_open Op.Open d.result n ≡ true
     → (k : OpenTold) × (b : Bits) × (k.number ≡ n) × TellsOpen k b d
 
 -- The records come in time and close it nowhere, and leave its client: up to a state and a moment of the client's last renewal, and to bits, of which this holds.
-abbrev pub LeaveOpen : OpenTold → Bits → (lease last : ℕ) → State → List Came → (Bits → ℕ → State → Type 0) → Type 0
+abbrev pub LeaveOpen : OpenTold → Bits → (lease last : ℕ) → State → List Arrival → (Bits → ℕ → State → Type 0) → Type 0
 LeaveOpen k b lease last s [] Then = Then b last s
 LeaveOpen k b lease last s (c ∷ more) Then =
     (taken s c ≤ last + lease)

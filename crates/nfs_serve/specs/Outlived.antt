@@ -7,14 +7,15 @@ use Rattle.nfs_opens.specs.declared.records.LockState.{LockState}
 use Rattle.nfs_opens.specs.Table.{Table}
 use Rattle.nfs_exec.specs.Renewing.{renews_or_begins}
 use Rattle.nfs_serve.specs.Step.{State, new_state}
-use Rattle.nfs_serve.specs.Points.{Came, next, reached, taken, before, asked_by}
+use Rattle.nfs_serve.specs.Endpoint.{Arrival}
+use Rattle.nfs_serve.specs.Points.{next, reached, taken, before, asked_by}
 
 -- a record renews a client's lease, or begins it
-abbrev pub renewed_by : ℕ → State → Came → Bool
+abbrev pub renewed_by : ℕ → State → Arrival → Bool
 renewed_by client s c = option_map_or (renews_or_begins client (before s c)) (asked_by s c) false
 
 -- the moment of the last of these records that did
-abbrev pub last_renewal : ℕ → Option ℕ → State → List Came → Option ℕ
+abbrev pub last_renewal : ℕ → Option ℕ → State → List Arrival → Option ℕ
 last_renewal client last s [] = last
 last_renewal client last s (c ∷ more) = last_renewal client (if renewed_by client s c then Some (taken s c) else last) (next s c) more
 
@@ -29,7 +30,7 @@ pub record IsInTime (t : Table) (n lease now : ℕ) (renewal : ℕ → Option �
 
 -- In every run, when a record's compound begins: whoever holds a byte of a file.
 abbrev pub NoneOutlives : Type 0
-NoneOutlives = (mode instance lease : ℕ) (records : List Came) (c : Came) (file n byte : ℕ) (kind : Kind) → instance < 2 ^ 32
+NoneOutlives = (mode instance lease : ℕ) (records : List Arrival) (c : Arrival) (file n byte : ℕ) (kind : Kind) → instance < 2 ^ 32
     → (let s = reached mode instance lease records in
     (before s c).store.opens.held file n byte ≡ Some kind
     → IsInTime (before s c).store.opens n lease (taken s c) (λ client. last_renewal client None (new_state mode instance lease) records))

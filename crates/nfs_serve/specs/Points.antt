@@ -4,64 +4,50 @@
 use Rattle.std.specs.Prelude.{ℕ, max, List, [], ◌∷◌, length, Option, None, option_map}
 use Rattle.std.specs.Option.{option_map_or}
 use Rattle.nfs_xdr.specs.Tables.{In}
-use Rattle.nfs_rpc.specs.CallHead.{Call, Called, Accepted, Refused, call_of}
-use Rattle.nfs_rpc.specs.declared.call.Procedure.{Procedure}
-use Rattle.nfs_compound.specs.Request.{Request}
-use Rattle.nfs_compound.specs.ReadRequest.{request_at}
+use Rattle.nfs_rpc.specs.CallHead.{Called, Accepted, Refused, call_of}
 use Rattle.nfs_exec.specs.Machine.{Machine, HasNoClashes}
 use Rattle.nfs_exec.specs.Expiry.{expired}
-use Rattle.nfs_exec.specs.Laws.{Event, Asks}
-use Rattle.nfs_exec.specs.Ops.{Done, ops_by}
-use Rattle.nfs_serve.specs.Step.{State, new_state, step}
+use Rattle.nfs_exec.specs.Laws.{MachineEvent, Asks}
+use Rattle.nfs_exec.specs.Ops.{RanOp, ops_by}
+use Rattle.nfs_serve.specs.Endpoint.{Arrival}
+use Rattle.nfs_serve.specs.Step.{State, new_state, step, asked_of}
 
--- a record that comes, its moment, and the place, if any, at which memory is refused
-pub record Came : Type 0 where
-  pub call : List ℕ
-  pub now : ℕ
-  pub choice : Option ℕ
+-- the state behind a record, and behind a list of them: `ran` of Endpoint, for this server (`EachFormRunsRecords`)
+abbrev pub next : State → Arrival → State
+next s c = (step s c.bytes c.now c.choice).state
 
-abbrev pub next : State → Came → State
-next s c = (step s c.call c.now c.choice).state
-
-abbrev pub all_next : State → List Came → State
+abbrev pub all_next : State → List Arrival → State
 all_next s [] = s
 all_next s (c ∷ more) = all_next (next s c) more
 
 -- the state that records reach from the start of a server on, whose leases last so many seconds
-abbrev pub reached : (mode instance lease : ℕ) → List Came → State
+abbrev pub reached : (mode instance lease : ℕ) → List Arrival → State
 reached mode instance lease records = all_next (new_state mode instance lease) records
 
 -- the moment that it is taken at
-abbrev pub taken : State → Came → ℕ
+abbrev pub taken : State → Arrival → ℕ
 taken s c = max s.moment c.now
 
 -- the machine in which it is run: what has run out is gone
-abbrev pub before : State → Came → Machine
+abbrev pub before : State → Arrival → Machine
 before s c = expired (taken s c) s.machine
 
 -- what it asks for, if it is a compound
-abbrev pub asks_for : ℕ → ℕ → Option ℕ → Call → Option Request → Option Event
-asks_for size now choice call request = option_map (λ r. Asks r call.who size now choice) request
-
-abbrev pub asks_call : ℕ → ℕ → Option ℕ → Call → Procedure → Option Event
-asks_call size now choice call Procedure.Null = None
-asks_call size now choice call Procedure.Compound = asks_for size now choice call (request_at call.args)
-
-abbrev pub asks : ℕ → ℕ → Option ℕ → Called → Option Event
+abbrev pub asks : ℕ → ℕ → Option ℕ → Called → Option MachineEvent
 asks size now choice (Refused refusal) = None
-asks size now choice (Accepted call) = asks_call size now choice call call.procedure
+asks size now choice (Accepted call) = option_map (λ r. Asks r call.who size now choice) (asked_of call call.procedure)
 
-abbrev pub asked_by : State → Came → Option Event
-asked_by s c = asks (length c.call) (taken s c) c.choice (call_of c.call)
+abbrev pub asked_by : State → Arrival → Option MachineEvent
+asked_by s c = asks (length c.bytes) (taken s c) c.choice (call_of c.bytes)
 
 -- the operations that it runs behind its SEQUENCE
-abbrev pub ops_of : State → Came → List Done
+abbrev pub ops_of : State → Arrival → List RanOp
 ops_of s c = option_map_or (ops_by (before s c)) (asked_by s c) []
 
-pub record HasNoClash (s : State) (c : Came) : Type 0 where
+pub record IsWithoutClash (s : State) (c : Arrival) : Type 0 where
   pub here : HasNoClashes s.machine
-  pub within : (d : Done) → In d (ops_of s c) → HasNoClashes d.before
+  pub within : (d : RanOp) → In d (ops_of s c) → HasNoClashes d.before
 
 -- No clash at any point of any run.
 abbrev pub NoClash : Type 0
-NoClash = (mode instance lease : ℕ) (records : List Came) (c : Came) → HasNoClash (reached mode instance lease records) c
+NoClash = (mode instance lease : ℕ) (records : List Arrival) (c : Arrival) → IsWithoutClash (reached mode instance lease records) c

@@ -21,45 +21,45 @@ abbrev pub all_closed : Streams
 all_closed = λ c. Open []
 
 -- what comes on a connection: a whole record, at the moment of its last byte, or that the stream becomes too long
-pub data Event : Type 0 where
-  Arrives : (conn moment : ℕ) → (call : List ℕ) → Event
-  Overflows : (conn : ℕ) → Event
+pub data StreamEvent : Type 0 where
+  Arrives : (conn moment : ℕ) → (call : List ℕ) → StreamEvent
+  Overflows : (conn : ℕ) → StreamEvent
 
-abbrev pub overflow : ℕ → End → List Event
+abbrev pub overflow : ℕ → End → List StreamEvent
 overflow conn (Open rest) = []
 overflow conn TooLong = Overflows conn ∷ []
 
-abbrev pub events_of : ℕ → ℕ → List (List ℕ) → End → List Event
+abbrev pub events_of : ℕ → ℕ → List (List ℕ) → End → List StreamEvent
 events_of conn moment calls end = map (λ call. Arrives conn moment call) calls ++ overflow conn end
 
 -- what a piece brings on a connection, and the stream that it leaves
-abbrev pub Brings : ℕ → ℕ → End → List ℕ → List Event → End → Type 0
+abbrev pub Brings : ℕ → ℕ → End → List ℕ → List StreamEvent → End → Type 0
 Brings conn moment (Open rest) piece events end = (calls : List (List ℕ)) × IsReading (rest ++ piece) calls end × (events ≡ events_of conn moment calls end)
 Brings conn moment TooLong piece events end = (events ≡ []) × (end ≡ TooLong)
 
 -- an entry of no bytes closes its connection
-abbrev pub TakesPiece : Streams → ℕ → ℕ → List ℕ → List Event → Streams → Type 0
+abbrev pub TakesPiece : Streams → ℕ → ℕ → List ℕ → List StreamEvent → Streams → Type 0
 TakesPiece old moment conn [] events new = (events ≡ []) × (new ≡ with_stream old conn (Open []))
 TakesPiece old moment conn (b ∷ bytes) events new = (end : End) × Brings conn moment (old conn) (b ∷ bytes) events end × (new ≡ with_stream old conn end)
 
-abbrev pub Takes : Streams → Entry → List Event → Streams → Type 0
+abbrev pub Takes : Streams → Entry → List StreamEvent → Streams → Type 0
 Takes old e events new = TakesPiece old e.moment e.conn e.piece events new
 
 -- the entries bring these events, in this order
-abbrev pub TakesAll : Streams → List Entry → List Event → Streams → Type 0
+abbrev pub TakesAll : Streams → List Entry → List StreamEvent → Streams → Type 0
 TakesAll old [] events new = (events ≡ []) × (new ≡ old)
-TakesAll old (e ∷ entries) events new = (first : List Event) × (later : List Event) × (between : Streams)
+TakesAll old (e ∷ entries) events new = (first : List StreamEvent) × (later : List StreamEvent) × (between : Streams)
     × (events ≡ first ++ later) × Takes old e first between × TakesAll between entries later new
 
 -- an event, and the choice of its record: the place at which memory is refused, or none
 pub record Move : Type 0 where
-  pub event : Event
+  pub event : StreamEvent
   pub choice : Option ℕ
 
-abbrev pub events : List Move → List Event
+abbrev pub events : List Move → List StreamEvent
 events moves = map (λ m. m.event) moves
 
-abbrev pub after_event : State → Event → Option ℕ → State
+abbrev pub after_event : State → StreamEvent → Option ℕ → State
 after_event s (Arrives conn moment call) choice = (step s call moment choice).state
 after_event s (Overflows conn) choice = s
 
@@ -85,7 +85,7 @@ abbrev pub spell_answer : Form → ℕ → Option (List ℕ) → List ℕ
 spell_answer form conn None = []
 spell_answer form conn (Some reply) = spell_reply form conn reply
 
-abbrev pub output_of : Form → State → Event → Option ℕ → List ℕ
+abbrev pub output_of : Form → State → StreamEvent → Option ℕ → List ℕ
 output_of form s (Arrives conn moment call) choice = spell_answer form conn (step s call moment choice).reply
 output_of form s (Overflows conn) choice = spell_overflow form conn
 

@@ -6,10 +6,8 @@ use Rattle.nfs_xdr.specs.Reading.{◌>>=◌}
 use Rattle.nfs_xdr.specs.Limits.{opaque_limit}
 use Rattle.nfs_xdr.specs.Codec.{Codec, ◌then◌, number, opaque}
 use Rattle.nfs_xdr.specs.Combinators.{fixed}
-use Rattle.nfs_rpc.specs.declared.call.Procedure.{Procedure}
 use Rattle.nfs_rpc.specs.CallHead.{Call, Called, Accepted, Refused, call_of}
 use Rattle.nfs_compound.specs.Request.{Request}
-use Rattle.nfs_compound.specs.ReadRequest.{request_at}
 use Rattle.nfs_compound.specs.declared.session_args.Sequence.{Sequence}
 use Rattle.nfs_compound.specs.declared.op_num.OpNum.TheVariants as Op
 use Rattle.nfs_compound.specs.OpNum.{op_number}
@@ -19,7 +17,7 @@ use Rattle.nfs_sessions.specs.Sessions.{Session, session_at}
 use Rattle.nfs_exec.specs.Executing as requests
 use Rattle.nfs_exec.specs.Expiry.{expired}
 use Rattle.nfs_serve.specs.Endpoint.{Heading, Answer, SlotNumber, Stepped as Seen, Server}
-use Rattle.nfs_serve.specs.Step.{State, Stepped, new_state, step}
+use Rattle.nfs_serve.specs.Step.{State, Stepped, new_state, step, asked_of}
 
 -- the head of a reply that says success, as six numbers: xid, REPLY 1, MSG_ACCEPTED 0, a verifier AUTH_NONE 0 of no bytes, SUCCESS 0
 abbrev pub head : Codec (ℕ × (ℕ × (ℕ × (ℕ × (ℕ × ℕ)))))
@@ -63,11 +61,6 @@ numbered_by (Some x) = if by_front (Some x) then by_sequence_front (sequence_fro
 abbrev pub slot_number : List ℕ → Option SlotNumber
 slot_number result = numbered_by (front.read result)
 
--- the request of a call, where it is of COMPOUND and its arguments can be read
-abbrev pub asked_by : Call → Procedure → Option Request
-asked_by call Procedure.Null = None
-asked_by call Procedure.Compound = request_at call.args
-
 abbrev pub heading_of : Call → Sequence → Heading
 heading_of call s = record {
   xid = call.xid;
@@ -77,7 +70,7 @@ heading_of call s = record {
 
 abbrev pub heading_by : Called → Option Heading
 heading_by (Refused refusal) = None
-heading_by (Accepted call) = asked_by call call.procedure >>= λ r. requests.sequence_of r >>= λ s. Some (heading_of call s)
+heading_by (Accepted call) = asked_of call call.procedure >>= λ r. requests.sequence_of r >>= λ s. Some (heading_of call s)
 
 -- what a record says that is a compound on a slot
 abbrev pub heading : List ℕ → Option Heading
@@ -90,7 +83,7 @@ ticked s now = let moment = max s.moment now in record { machine = expired momen
 -- a call executes, in a record of so many bytes, once its moment is taken
 abbrev pub executes_by : State → ℕ → Called → Bool
 executes_by s size (Refused refusal) = false
-executes_by s size (Accepted call) = option_map_or (λ r. requests.executes s.machine r call.who size) (asked_by call call.procedure) false
+executes_by s size (Accepted call) = option_map_or (λ r. requests.executes s.machine r call.who size) (asked_of call call.procedure) false
 
 -- a slot of a session
 abbrev pub slot_in : ℕ → Option Session → Option SlotState

@@ -5,7 +5,7 @@
 use Rattle.std.specs.Prelude.{◌≡◌, ℕ, ◌+◌, ◌*◌, ◌^◌, List, [], ◌∷◌, ◌++◌, map, None}
 use Rattle.nfs_serve.specs.Exchanges.{words}
 use Rattle.nfs_serve.specs.Endpoint.{Place, Compound, Arrival, Server, ran}
-use Rattle.nfs_serve.specs.Network.{Callers, Packet, Done, Event, Sends, Resends, Arrives, Asks, Accepts, Network, begins, ended}
+use Rattle.nfs_serve.specs.Network.{Callers, Packet, RanCompound, NetworkEvent, Sends, Resends, Arrives, Asks, Accepts, Network, begins, ended}
 use Rattle.nfs_serve.specs.Numbered.{Happens}
 use Rattle.nfs_serve.specs.Seen.{server}
 use Rattle.nfs_serve.specs.LostReply.{call, exchange_id, create_session}
@@ -61,23 +61,23 @@ abbrev pub result : (client : ℕ) → List ℕ → List ℕ
 result client last = words (0 ∷ 0 ∷ 4 ∷ 53 ∷ 0 ∷ 7 ∷ client ∷ 0 ∷ client ∷ 1 ∷ 1 ∷ 3 ∷ 3 ∷ 0 ∷ 24 ∷ 0 ∷ 15 ∷ 0 ∷ []) ++ words last
 
 -- WRITE, NFS4_OK, 4 bytes, FILE_SYNC4, and the verifier of instance 7
-abbrev pub written : Done
+abbrev pub written : RanCompound
 written = record { compound = write; result = result 1 (38 ∷ 0 ∷ 4 ∷ 2 ∷ 7 ∷ 0 ∷ []) }
 
 -- READ, NFS4_OK, to the end of the file, the four bytes `seen`
-abbrev pub seen : Done
+abbrev pub seen : RanCompound
 seen = record { compound = read; result = result 2 (25 ∷ 0 ∷ 1 ∷ 4 ∷ 0x7365_656e ∷ []) }
 
-abbrev pub accepts : (client : ℕ) → Done → Event
+abbrev pub accepts : (client : ℕ) → RanCompound → NetworkEvent
 accepts client d = Accepts (slot_of client) d.compound (record { xid = 16; result = d.result })
 
-abbrev pub first : List Event
+abbrev pub first : List NetworkEvent
 first = Sends (packet 1 write) ∷ Arrives (packet 1 write) 105 None ∷ Resends (packet 1 write) ∷ Arrives (packet 1 write) 106 None ∷ accepts 1 written ∷ []
 
 abbrev pub joins : List Arrival
 joins = arrival 107 (call 16 (exchange_id 0x4200_0000)) ∷ arrival 108 (call 16 (create_session 2)) ∷ []
 
-abbrev pub second : List Event
+abbrev pub second : List NetworkEvent
 second =
     map (Asks 8) joins
     ++ (Sends (packet 2 read) ∷ Arrives (packet 1 write) 109 None ∷ Arrives (packet 2 read) 110 None ∷ accepts 2 seen ∷ [])

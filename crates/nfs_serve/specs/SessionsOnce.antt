@@ -2,39 +2,40 @@
 use Rattle.std.specs.Prelude.{◌≡◌, ◌⊎◌, ℕ, ◌+◌, ◌*◌, ◌-◌, ◌<◌, ◌^◌, Bool, false, List, [], ◌∷◌, Some, if◌then◌else◌}
 use Rattle.std.specs.Option.{option_map_or}
 use Rattle.nfs_clients.specs.CreateSession.{following}
-use Rattle.nfs_exec.specs.Laws.{Event}
+use Rattle.nfs_exec.specs.Laws.{MachineEvent}
 use Rattle.nfs_exec.specs.OneSession.{asks_session, Gives, MakesOne}
 use Rattle.nfs_serve.specs.Step.{State}
-use Rattle.nfs_serve.specs.Points.{Came, next, all_next, reached, before, asked_by}
+use Rattle.nfs_serve.specs.Endpoint.{Arrival}
+use Rattle.nfs_serve.specs.Points.{next, all_next, reached, before, asked_by}
 use Rattle.nfs_serve.specs.Exchanges.{words}
 use Rattle.nfs_serve.specs.LostReply.{exchange_id, create_session}
 use Rattle.nfs_serve.specs.HeldLock.{came}
 
 -- the record asks for a session of the client
-abbrev pub asks_by : ℕ → State → Came → Bool
+abbrev pub asks_by : ℕ → State → Arrival → Bool
 asks_by client s c = option_map_or (asks_session client) (asked_by s c) false
 
 -- how many of these records do
-abbrev pub asked : ℕ → State → List Came → ℕ
+abbrev pub asked : ℕ → State → List Arrival → ℕ
 asked client s [] = 0
 asked client s (c ∷ more) = (if asks_by client s c then 1 else 0) + asked client (next s c) more
 
 -- it is a CREATE_SESSION of the client with this number, and is answered NFS4_OK and this session id
-pub record GivesIn (client number : ℕ) (id : List ℕ) (s : State) (c : Came) : Type 0 where
-  pub event : Event
+pub record GivesIn (client number : ℕ) (id : List ℕ) (s : State) (c : Arrival) : Type 0 where
+  pub event : MachineEvent
   pub asks : asked_by s c ≡ Some event
   pub gives : Gives client number id (before s c) event
 
 -- In every run: a CREATE_SESSION that is answered NFS4_OK makes one session, of the id that is answered, which did not stand before; or it changes nothing.
 abbrev pub EachMakesOne : Type 0
-EachMakesOne = (mode instance lease : ℕ) (records : List Came) (c : Came) (client number : ℕ) (id : List ℕ)
+EachMakesOne = (mode instance lease : ℕ) (records : List Arrival) (c : Arrival) (client number : ℕ) (id : List ℕ)
     → (let s = reached mode instance lease records in
     GivesIn client number id s c → ((next s c).machine ≡ before s c) ⊎ MakesOne id (before s c).sessions (next s c).machine.sessions)
 
 -- In every run: a second one of the same client and number is answered the same session id and changes nothing, whatever came between, if fewer than 2^32 - 1
 -- of it ask for a session of that client.
 abbrev pub RepeatsMakeNone : Type 0
-RepeatsMakeNone = (mode instance lease : ℕ) (earlier : List Came) (c : Came) (between : List Came) (d : Came) (client number : ℕ) (id other : List ℕ) → instance < 2 ^ 32
+RepeatsMakeNone = (mode instance lease : ℕ) (earlier : List Arrival) (c : Arrival) (between : List Arrival) (d : Arrival) (client number : ℕ) (id other : List ℕ) → instance < 2 ^ 32
     → (let s = reached mode instance lease earlier in
     let t = all_next (next s c) between in
     GivesIn client number id s c → asked client (next s c) between < 2 ^ 32 - 1 → GivesIn client number other t d
@@ -42,7 +43,7 @@ RepeatsMakeNone = (mode instance lease : ℕ) (earlier : List Came) (c : Came) (
 
 -- In every run: where none of the records between asks for a session of the client, the next number makes another session.
 abbrev pub NextMakesOne : Type 0
-NextMakesOne = (mode instance lease : ℕ) (earlier : List Came) (c : Came) (between : List Came) (d : Came) (client number : ℕ) (id other : List ℕ) → instance < 2 ^ 32
+NextMakesOne = (mode instance lease : ℕ) (earlier : List Arrival) (c : Arrival) (between : List Arrival) (d : Arrival) (client number : ℕ) (id other : List ℕ) → instance < 2 ^ 32
     → (let s = reached mode instance lease earlier in
     let t = all_next (next s c) between in
     GivesIn client number id s c → asked client (next s c) between ≡ 0 → GivesIn client (following number) other t d
@@ -53,17 +54,17 @@ NextMakesOne = (mode instance lease : ℕ) (earlier : List Came) (c : Came) (bet
 abbrev pub start : State
 start = reached 511 7 90 (came 100 1 (exchange_id 0x4100_0000) ∷ [])
 
-abbrev pub creates : Came
+abbrev pub creates : Arrival
 creates = came 101 2 (create_session 1)
 
-abbrev pub between : List Came
+abbrev pub between : List Arrival
 between = came 102 3 (exchange_id 0x4200_0000) ∷ []
 
-abbrev pub again : Came
+abbrev pub again : Arrival
 again = came 103 4 (create_session 1)
 
 -- the same, with number 2
-abbrev pub goes_on : Came
+abbrev pub goes_on : Arrival
 goes_on = came 104 5 (words (0 ∷ 1 ∷ 1 ∷ 43 ∷ 7 ∷ 1 ∷ 2 ∷ 0 ∷ 0 ∷ 4096 ∷ 4100 ∷ 2052 ∷ 8 ∷ 4 ∷ 0 ∷ 0 ∷ 4104 ∷ 4108 ∷ 2056 ∷ 3 ∷ 2 ∷ 0 ∷ 0x4000_0000 ∷ 1 ∷ 0 ∷ []))
 
 abbrev pub repeated : State

@@ -35,6 +35,11 @@ refused s refusal = record { reply = Some (spell_refusal refusal); state = s }
 abbrev pub answered : State → ℕ → Answered → Stepped
 answered s xid a = record { reply = Some (spell_head xid ++ a.text); state = record { machine = a.machine; moment = s.moment } }
 
+-- the request of a call, where it is of COMPOUND and its arguments can be read
+abbrev pub asked_of : Call → Procedure → Option Request
+asked_of call Procedure.Null = None
+asked_of call Procedure.Compound = request_at call.args
+
 -- arguments that are no request are garbage, and nothing is run
 abbrev pub with_arguments : State → Call → ℕ → Option ℕ → Option Request → Stepped
 with_arguments s call size choice None = refused s (Accept call.xid GarbageArgs)

@@ -5,7 +5,7 @@ use Rattle.nfs_rpc.specs.Stream.{IsReading}
 use Rattle.nfs_serve.specs.declared.form.Form.TheVariants.{Plain}
 use Rattle.nfs_serve.specs.Script.{Entry, last_connection, Fits}
 use Rattle.nfs_serve.specs.Step.{State}
-use Rattle.nfs_serve.specs.Run.{Streams, all_closed, TakesAll, Event, Arrives, Overflows, Move, events, after, after_event, output_of}
+use Rattle.nfs_serve.specs.Run.{Streams, all_closed, TakesAll, StreamEvent, Arrives, Overflows, Move, events, after, after_event, output_of}
 use Rattle.nfs_serve.specs.Server.{Stands}
 use Rattle.nfs_serve.specs.Desk.{Act, Closed, Stepped, Goes}
 use Rattle.nfs_serve.specs.Hub.{Desks, none_live, Round, Opens, Turns, OthersStay, Turning}
@@ -52,7 +52,7 @@ acts_in port (Turns other acts) = if nat_eq other port then acts else []
 abbrev pub acts_on : ℕ → List Round → List Act
 acts_on port rounds = flat_map (acts_in port) rounds
 
-abbrev pub port_of : Event → ℕ
+abbrev pub port_of : StreamEvent → ℕ
 port_of (Arrives conn moment call) = conn
 port_of (Overflows conn) = conn
 

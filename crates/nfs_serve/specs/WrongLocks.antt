@@ -9,19 +9,20 @@ use Rattle.nfs_ranges.specs.declared.Kind.TheVariants.{Write}
 use Rattle.nfs_opens.specs.Closing.{without_open}
 use Rattle.nfs_names.specs.Ending.{with_opens}
 use Rattle.nfs_exec.specs.Machine.{Machine}
-use Rattle.nfs_exec.specs.Laws.{Event, Asks}
+use Rattle.nfs_exec.specs.Laws.{MachineEvent, Asks}
 use Rattle.nfs_exec.specs.Delayed.{IsDelayed}
-use Rattle.nfs_exec.specs.Ops.{Done}
-use Rattle.nfs_exec.specs.Held.{StandsBefore, StandsWhile}
+use Rattle.nfs_exec.specs.Ops.{RanOp}
+use Rattle.nfs_exec.specs.LockHeld.{StandsBefore, StandsWhile}
 use Rattle.nfs_serve.specs.Step.{State, new_state}
-use Rattle.nfs_serve.specs.Points.{Came, next, reached, before, asked_by, ops_of}
-use Rattle.nfs_serve.specs.Kept.{StaysHeld}
+use Rattle.nfs_serve.specs.Endpoint.{Arrival}
+use Rattle.nfs_serve.specs.Points.{next, reached, before, asked_by, ops_of}
+use Rattle.nfs_serve.specs.LockKept.{StaysHeld}
 use Rattle.nfs_serve.specs.Outlived.{last_renewal, IsInTime}
 use Rattle.nfs_serve.specs.Exchanges.{words}
 use Rattle.nfs_serve.specs.HeldLock.{came, in_session, earlier, locks, clashes, locked, asked, told}
 
 -- the first renewal of A, at the last second of its lease
-abbrev pub renewal : Came
+abbrev pub renewal : Arrival
 renewal = came 192 4 (in_session 1 2 1 [])
 
 -- a server whose leases last one second, whatever the client was told
@@ -33,11 +34,11 @@ abbrev pub set_back : State
 set_back = record locked { machine = record locked.machine { leases = with_renewal locked.machine.leases told.client 0 } }
 
 -- a LOCK that answers NFS4_OK and a stateid, of lock state 4, and does nothing
-abbrev pub told_anyway : Done → Done
+abbrev pub told_anyway : RanOp → RanOp
 told_anyway lock = record lock { result = done_head Op.Lock ++ words (1 ∷ 7 ∷ 0 ∷ 4 ∷ []) }
 
 -- a CLOSE of open 3, which is B's, that closes A's, and answers as it ought to
-abbrev pub closes_another : Done → Done
+abbrev pub closes_another : RanOp → RanOp
 closes_another d = record d {
   item = Operation (OpClose (record { seqid = 0; open_stateid = record { seqid = 1; other = words (7 ∷ 0 ∷ 3 ∷ []) } }));
   result = done_head Op.Close ++ words (0xffff_ffff ∷ 0 ∷ 0 ∷ 0 ∷ []);
@@ -45,12 +46,12 @@ closes_another d = record d {
 }
 
 -- the last of these operations; what stands in front of them is of no account
-abbrev pub last_of : Done → List Done → Done
+abbrev pub last_of : RanOp → List RanOp → RanOp
 last_of d [] = d
 last_of d (e ∷ ds) = last_of e ds
 
 -- The answer to what a record asks for is none where the operation at a place of it is delayed.
-abbrev pub NoneDelayed : Machine → (place : ℕ) → Option Event → Type 0
+abbrev pub NoneDelayed : Machine → (place : ℕ) → Option MachineEvent → Type 0
 NoneDelayed m place (Some (Asks r who size now choice)) = IsDelayed m r who size now place → ⊥
 NoneDelayed m place o = ⊥
 
@@ -58,8 +59,8 @@ pub record AreRefused : Type 0 where
   -- NFS4ERR_DELAY in the place of NFS4ERR_DENIED
   pub delayed : NoneDelayed (before asked clashes) 3 (asked_by asked clashes)
   -- in the place of B's LOCK, which is denied
-  pub denied : (d : Done) → StandsBefore told (told_anyway (last_of d (ops_of asked clashes))) → ⊥
-  pub closed : (d : Done) → StandsWhile told (closes_another (last_of d (ops_of asked clashes)) ∷ []) → ⊥
+  pub denied : (d : RanOp) → StandsBefore told (told_anyway (last_of d (ops_of asked clashes))) → ⊥
+  pub closed : (d : RanOp) → StandsWhile told (closes_another (last_of d (ops_of asked clashes)) ∷ []) → ⊥
   -- the lock is gone behind a renewal in time
   pub short : StaysHeld told 90 102 short_leases (renewal ∷ []) → ⊥
   pub back : StaysHeld told 90 102 set_back (renewal ∷ []) → ⊥

@@ -10,7 +10,7 @@ use Rattle.nfs_opens.specs.Share.{neither}
 use Rattle.nfs_opens.specs.Table.{with_open}
 use Rattle.nfs_names.specs.Ending.{with_opens}
 use Rattle.nfs_files.specs.Open.{no_attributes}
-use Rattle.nfs_exec.specs.Ops.{Done}
+use Rattle.nfs_exec.specs.Ops.{RanOp}
 use Rattle.nfs_exec.specs.OpenHeld.{IsOpenBefore, OpenWhile}
 use Rattle.nfs_serve.specs.Points.{ops_of}
 use Rattle.nfs_serve.specs.Exchanges.{words}
@@ -36,7 +36,7 @@ abbrev pub stateid_of_open : (number : ℕ) → List ℕ
 stateid_of_open number = words (2 ∷ 7 ∷ 0 ∷ number ∷ [])
 
 -- an OPEN of the owner that puts its bits in the place of those of the open, which so denies nothing any more
-abbrev pub puts_in_place : Done → Done
+abbrev pub puts_in_place : RanOp → RanOp
 puts_in_place d = record d {
   item = Operation (OpOpen reads_too);
   result = done_head Op.Open ++ stateid_of_open 1;
@@ -44,7 +44,7 @@ puts_in_place d = record d {
 }
 
 -- an OPEN_DOWNGRADE that answers as it ought to, and changes nothing
-abbrev pub keeps_bits : Done → Done
+abbrev pub keeps_bits : RanOp → RanOp
 keeps_bits d = record d {
   item = Operation (OpOpenDowngrade (record { open_stateid = record { seqid = 1; other = words (7 ∷ 0 ∷ 1 ∷ []) }; seqid = 0; share_access = 1; share_deny = 0 }));
   result = done_head Op.OpenDowngrade ++ stateid_of_open 1;
@@ -52,12 +52,12 @@ keeps_bits d = record d {
 }
 
 -- B's OPEN, which the open forbids, answered NFS4_OK and the stateid of an open 3
-abbrev pub granted_anyway : Done → Done
+abbrev pub granted_anyway : RanOp → RanOp
 granted_anyway d = record d { result = done_head Op.Open ++ stateid_of_open 3 }
 
 pub record OpensAreRefused : Type 0 where
-  pub replaced : (d : Done) → OpenWhile its_open first_bits (puts_in_place (last_of d (ops_of asked asks)) ∷ []) → ⊥
-  pub wide : (d : Done) → OpenWhile its_open first_bits (keeps_bits (last_of d (ops_of asked asks)) ∷ []) → ⊥
+  pub replaced : (d : RanOp) → OpenWhile its_open first_bits (puts_in_place (last_of d (ops_of asked asks)) ∷ []) → ⊥
+  pub wide : (d : RanOp) → OpenWhile its_open first_bits (keeps_bits (last_of d (ops_of asked asks)) ∷ []) → ⊥
   -- a CLOSE of open 3 that closes open 1
-  pub closed : (d : Done) → OpenWhile its_open first_bits (closes_another (last_of d (ops_of asked asks)) ∷ []) → ⊥
-  pub granted : (d : Done) → IsOpenBefore its_open first_bits (granted_anyway (last_of d (ops_of asked asks))) → ⊥
+  pub closed : (d : RanOp) → OpenWhile its_open first_bits (closes_another (last_of d (ops_of asked asks)) ∷ []) → ⊥
+  pub granted : (d : RanOp) → IsOpenBefore its_open first_bits (granted_anyway (last_of d (ops_of asked asks))) → ⊥

@@ -9,7 +9,7 @@ ghost use Rattle.nfs_serve.specs.Laws.{HasOneReading, CutsAnywhere, BringsOnce, 
 ghost use Rattle.nfs_serve.specs.Forms.{EachFormRunsRecords};
 ghost use Rattle.nfs_serve.specs.HeldLock.{IsHeldTo, AreBothTold};
 ghost use Rattle.nfs_serve.specs.HeldOpen.{IsOpenTo};
-ghost use Rattle.nfs_serve.specs.Kept.{LockKept, EachIsTold, OnlyOneIsTold, LeaseIsTold};
+ghost use Rattle.nfs_serve.specs.LockKept.{LockKept, EachIsTold, OnlyOneIsTold, LeaseIsTold};
 ghost use Rattle.nfs_serve.specs.LostReply.{IsAccepted, IsOverAWire};
 ghost use Rattle.nfs_serve.specs.Network.{ExactlyOnce, AnswersExecuted};
 ghost use Rattle.nfs_serve.specs.Numbered.{AnswersNumbered, ExactlyOnceByNumber, XidsSuffice};

@@ -18,27 +18,27 @@ use Rattle.nfs_opens.specs.declared.stateid.StateId.{StateId}
 use Rattle.nfs_opens.specs.Table.{lock_at}
 use Rattle.nfs_files.specs.StateIds.{meant}
 use Rattle.nfs_files.specs.Ranges.{wished}
-use Rattle.nfs_files.specs.Kept.{Names, Told, Stands, IsAlike, IsBeside, Clashes}
+use Rattle.nfs_files.specs.LockTold.{Names, LockTold, Stands, IsAlike, IsBeside, Clashes}
 use Rattle.nfs_exec.specs.Machine.{Machine}
-use Rattle.nfs_exec.specs.Laws.{Event, ran}
-use Rattle.nfs_exec.specs.Ops.{Done}
+use Rattle.nfs_exec.specs.Laws.{MachineEvent, ran}
+use Rattle.nfs_exec.specs.Ops.{RanOp}
 
 -- a LOCK for the bytes of a wish that answered NFS4_OK and the stateid of lock state n
-pub record LocksFor (d : Done) (n : ℕ) (w : Wish) : Type 0 where
+pub record LocksFor (d : RanOp) (n : ℕ) (w : Wish) : Type 0 where
   pub asked : args.Lock
   pub is : d.item ≡ Operation (OpLock asked)
   pub wish : wished d.before.store d.context asked.locktype asked.offset asked.length ≡ Ok w
   pub names : Names Op.Lock d.result n
 
 -- a LOCKU that did
-pub record UnlocksFor (d : Done) (n : ℕ) (w : Wish) : Type 0 where
+pub record UnlocksFor (d : RanOp) (n : ℕ) (w : Wish) : Type 0 where
   pub asked : LockU
   pub is : d.item ≡ Operation (OpLockU asked)
   pub wish : wished d.before.store d.context asked.locktype asked.offset asked.length ≡ Ok w
   pub names : Names Op.LockU d.result n
 
 -- a CLOSE of open n, whose stateid may be the current one, that answered NFS4_OK and a stateid that names nothing
-pub record ClosesOf (d : Done) (n : ℕ) : Type 0 where
+pub record ClosesOf (d : RanOp) (n : ℕ) : Type 0 where
   pub asked : Close
   pub id : StateId
   pub is : d.item ≡ Operation (OpClose asked)
@@ -47,26 +47,26 @@ pub record ClosesOf (d : Done) (n : ℕ) : Type 0 where
   pub names : Names Op.Close d.result 0
 
 -- It is no LOCK of another kind and no LOCKU for the lock state on a byte of it, and no CLOSE of its open.
-pub record Spares (k : Told) (d : Done) : Type 0 where
+pub record Spares (k : LockTold) (d : RanOp) : Type 0 where
   pub locks : (w : Wish) → LocksFor d k.state w → IsAlike w k
   pub unlocks : (w : Wish) → UnlocksFor d k.state w → IsBeside w k
   pub closes : ClosesOf d k.opened → ⊥
 
-abbrev pub AreSpared : Told → List Done → Type 0
-AreSpared k ds = (d : Done) → In d ds → Spares k d
+abbrev pub AreSpared : LockTold → List RanOp → Type 0
+AreSpared k ds = (d : RanOp) → In d ds → Spares k d
 
 -- it stands before the operation, which is no LOCK that clashes with it and answered NFS4_OK
-pub record StandsBefore (k : Told) (d : Done) : Type 0 where
+pub record StandsBefore (k : LockTold) (d : RanOp) : Type 0 where
   pub stands : Stands k d.before.store.opens
   pub refused : (n : ℕ) (w : Wish) → LocksFor d n w → Clashes k n w → ⊥
 
 -- before each operation, as long as all before it spared it
-abbrev pub StandsWhile : Told → List Done → Type 0
+abbrev pub StandsWhile : LockTold → List RanOp → Type 0
 StandsWhile k [] = Unit {0}
 StandsWhile k (d ∷ more) = StandsBefore k d × (Spares k d → Stands k d.behind.store.opens × StandsWhile k more)
 
 -- A LOCK told the lock: its range, or a part of it, in its way; and the open that its lock state then has.
-pub record Tells (k : Told) (d : Done) : Type 0 where
+pub record Tells (k : LockTold) (d : RanOp) : Type 0 where
   pub wish : Wish
   pub locks : LocksFor d k.state wish
   pub range : (wish.first ≤ k.first) × (k.first ≤ k.last) × (k.last ≤ wish.last)
@@ -84,5 +84,5 @@ IsAlone client before behind =
 abbrev pub is_of : ℕ → Sequence → Bool
 is_of client s = (id_of s.sessionid).client == client
 
-abbrev pub renews : ℕ → Machine → Event → Bool
+abbrev pub renews : ℕ → Machine → MachineEvent → Bool
 renews client m e = option_map_or (is_of client) (ran m e) false

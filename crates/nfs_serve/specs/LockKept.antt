@@ -8,15 +8,16 @@ use Rattle.nfs_compound.specs.Operation.{Operation, OpGetAttr}
 use Rattle.nfs_results.specs.Result.{ResGetAttr}
 use Rattle.nfs_results.specs.Results.{spell_result}
 use Rattle.nfs_exec.specs.Machine.{is_ok}
-use Rattle.nfs_exec.specs.Ops.{Done}
+use Rattle.nfs_exec.specs.Ops.{RanOp}
 use Rattle.nfs_opens.specs.declared.locking.Wish.{Wish}
-use Rattle.nfs_files.specs.Kept.{Told, Stands, Clashes}
-use Rattle.nfs_exec.specs.Held.{LocksFor, AreSpared, StandsWhile, Tells, IsAlone, renews}
+use Rattle.nfs_files.specs.LockTold.{LockTold, Stands, Clashes}
+use Rattle.nfs_exec.specs.LockHeld.{LocksFor, AreSpared, StandsWhile, Tells, IsAlone, renews}
 use Rattle.nfs_serve.specs.Step.{State}
-use Rattle.nfs_serve.specs.Points.{Came, next, reached, taken, before, asked_by, ops_of}
+use Rattle.nfs_serve.specs.Endpoint.{Arrival}
+use Rattle.nfs_serve.specs.Points.{next, reached, taken, before, asked_by, ops_of}
 
 -- a request of it runs in a session of the client, and so renews the client's lease
-abbrev pub renews_by : ℕ → State → Came → Bool
+abbrev pub renews_by : ℕ → State → Arrival → Bool
 renews_by client s c = option_map_or (renews client (before s c)) (asked_by s c) false
 
 -- The lock stands here, and stays through these records, where `last` is the moment of its client's last renewal: if the next
@@ -24,7 +25,7 @@ renews_by client s c = option_map_or (renews client (before s c)) (asked_by s c)
 -- and no LOCK there that clashes is answered NFS4_OK; and if they all spare it, and no other id is confirmed for the client's
 -- owner, the same holds of the records behind it. (That each record is at most one lease behind the renewal before it is the
 -- same as that neighbours among the renewals and the last record are: a record between two renewals is not later than the second.)
-abbrev pub StaysHeld : Told → (lease last : ℕ) → State → List Came → Type 0
+abbrev pub StaysHeld : LockTold → (lease last : ℕ) → State → List Arrival → Type 0
 StaysHeld k lease last s [] = Stands k s.machine.store.opens
 StaysHeld k lease last s (c ∷ more) =
     Stands k s.machine.store.opens
@@ -34,7 +35,7 @@ StaysHeld k lease last s (c ∷ more) =
     StaysHeld k lease (if renews_by k.client s c then taken s c else last) (next s c) more))
 
 -- The records come in time, and spare the lock and its client, up to a state and a moment of the client's last renewal of which this holds.
-abbrev pub AreInTime : Told → (lease last : ℕ) → State → List Came → (ℕ → State → Type 0) → Type 0
+abbrev pub AreInTime : LockTold → (lease last : ℕ) → State → List Arrival → (ℕ → State → Type 0) → Type 0
 AreInTime k lease last s [] Then = Then last s
 AreInTime k lease last s (c ∷ more) Then =
     (taken s c ≤ last + lease)
@@ -46,14 +47,14 @@ AreInTime k lease last s (c ∷ more) Then =
 -- these operations are behind it there. The lock stands before each of them while they spare it; and if they all do, it stays through
 -- whatever records come, from the moment of this record on, which renewed its client's lease.
 abbrev pub LockKept : Type 0
-LockKept = (mode instance lease : ℕ) (earlier : List Came) (c : Came) (k : Told) (front : List Done) (lock : Done) (back : List Done)
+LockKept = (mode instance lease : ℕ) (earlier : List Arrival) (c : Arrival) (k : LockTold) (front : List RanOp) (lock : RanOp) (back : List RanOp)
     → (let s = reached mode instance lease earlier in
     ops_of s c ≡ front ++ lock ∷ back → Tells k lock
-    → StandsWhile k back × (AreSpared k back → (more : List Came) → StaysHeld k lease (taken s c) (next s c) more))
+    → StandsWhile k back × (AreSpared k back → (more : List Arrival) → StaysHeld k lease (taken s c) (next s c) more))
 
 -- Whatever LOCK was told told a lock: all that it asked for, where that is a byte at least, as each range on the wire is.
 abbrev pub EachIsTold : Type 0
-EachIsTold = (mode instance lease : ℕ) (records : List Came) (c : Came) (d : Done) (n : ℕ) (w : Wish)
+EachIsTold = (mode instance lease : ℕ) (records : List Arrival) (c : Arrival) (d : RanOp) (n : ℕ) (w : Wish)
     → In d (ops_of (reached mode instance lease records) c) → LocksFor d n w → w.first ≤ w.last
     → (opened : ℕ)
     × Tells (record { state = n; client = d.context.client; opened = opened; file = w.file; kind = w.kind; first = w.first; last = w.last }) d
@@ -62,8 +63,8 @@ EachIsTold = (mode instance lease : ℕ) (records : List Came) (c : Came) (d : D
 -- behind an end of the first. Between them an operation unlocks a byte of the first or locks one in another way or closes its open, or another id is
 -- confirmed for its client's owner, or its client's lease runs out: else there are no two such LOCKs.
 abbrev pub OnlyOneIsTold : Type 0
-OnlyOneIsTold = (mode instance lease : ℕ) (earlier : List Came) (c : Came) (k : Told) (front : List Done) (first : Done) (back : List Done)
-    (between : List Came) (d : Came) (until : List Done) (second : Done) (behind : List Done) (n : ℕ) (w : Wish)
+OnlyOneIsTold = (mode instance lease : ℕ) (earlier : List Arrival) (c : Arrival) (k : LockTold) (front : List RanOp) (first : RanOp) (back : List RanOp)
+    (between : List Arrival) (d : Arrival) (until : List RanOp) (second : RanOp) (behind : List RanOp) (n : ℕ) (w : Wish)
     → (let s = reached mode instance lease earlier in
     ops_of s c ≡ front ++ first ∷ back → Tells k first → AreSpared k back
     → AreInTime k lease (taken s c) (next s c) between
@@ -72,6 +73,6 @@ OnlyOneIsTold = (mode instance lease : ℕ) (earlier : List Came) (c : Came) (k 
 
 -- The lease is told: a GETATTR of attribute 10, lease_time, that answers NFS4_OK gives the very number of seconds that leases last.
 abbrev pub LeaseIsTold : Type 0
-LeaseIsTold = (mode instance lease : ℕ) (records : List Came) (c : Came) (d : Done) → In d (ops_of (reached mode instance lease records) c)
+LeaseIsTold = (mode instance lease : ℕ) (records : List Arrival) (c : Arrival) (d : RanOp) → In d (ops_of (reached mode instance lease records) c)
     → d.item ≡ Operation (OpGetAttr (0x400 ∷ [])) → is_ok d.status ≡ true
     → d.result ≡ spell_result (ResGetAttr (record { attrmask = 0x400 ∷ []; attr_vals = number lease }))

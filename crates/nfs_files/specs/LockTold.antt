@@ -18,7 +18,7 @@ pub record Names (op : OpNum) (result : List ℕ) (n : ℕ) : Type 0 where
   pub number : from_be_bytes w64 (drop 8 id) ≡ n
 
 -- a lock: by which lock state it is held, of which client and under which open, and how it holds which bytes of which file
-pub record Told : Type 0 where
+pub record LockTold : Type 0 where
   pub state : ℕ
   pub client : ℕ
   pub opened : ℕ
@@ -28,19 +28,19 @@ pub record Told : Type 0 where
   pub last : ℕ
 
 -- each byte is held
-abbrev pub IsHeld : Told → Table → Type 0
+abbrev pub IsHeld : LockTold → Table → Type 0
 IsHeld k t = (b : ℕ) → k.first ≤ b → b ≤ k.last → t.held k.file k.state b ≡ Some k.kind
 
 -- the ranges share no byte
-abbrev pub IsBeside : Wish → Told → Type 0
+abbrev pub IsBeside : Wish → LockTold → Type 0
 IsBeside w k = (w.last < k.first) ⊎ (k.last < w.first)
 
 -- the wish holds no byte of it in another way
-abbrev pub IsAlike : Wish → Told → Type 0
+abbrev pub IsAlike : Wish → LockTold → Type 0
 IsAlike w k = IsBeside w k ⊎ (w.kind ≡ k.kind)
 
 -- the lock state stands, with its client and its open, and holds the bytes
-pub record Stands (k : Told) (t : Table) : Type 0 where
+pub record Stands (k : LockTold) (t : Table) : Type 0 where
   pub lock : LockState
   pub there : In lock t.locks
   pub number : lock.number ≡ k.state
@@ -49,7 +49,7 @@ pub record Stands (k : Told) (t : Table) : Type 0 where
   pub held : IsHeld k t
 
 -- a wish of another lock state on a byte of it, where one of the two is Write
-pub record Clashes (k : Told) (n : ℕ) (w : Wish) : Type 0 where
+pub record Clashes (k : LockTold) (n : ℕ) (w : Wish) : Type 0 where
   pub other : n ≢ k.state
   pub file : w.file ≡ k.file
   pub before : w.first ≤ k.last
