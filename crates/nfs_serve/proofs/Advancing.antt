@@ -1,6 +1,6 @@
 -- Acts one after the other, and what each call of a port comes to.
 use Rattle.std.proofs.Common.{◌≡◌, ℕ, ◌+◌, ◌<◌, ◌≤◌, List, [], ◌∷◌, ◌++◌, length, filter, arith, flat_map, Option, Some, None, refl, sym, ap, subst, ◌∙◌}
-use Rattle.std.proofs.Common.{append_assoc, append-nil, inl, inr, true, false, suc, length-append}
+use Rattle.std.proofs.Common.{append_assoc, append-nil, inl, inr, true, false}
 use Rattle.std.proofs.lemmas.List.Concat.{flat_map-append}
 use Rattle.std.proofs.lemmas.List.Elements.{filter-append}
 use Rattle.std.specs.Io.KnownBytes.{Appends}
@@ -8,8 +8,7 @@ use Rattle.std.proofs.KnownBytes.{Appends-nil, Appends-trans}
 use Rattle.nfs_serve.specs.Script.{most_piece}
 use Rattle.nfs_serve.specs.Talk.{max_reads}
 use Rattle.nfs_serve.specs.Step.{State}
-use Rattle.nfs_serve.specs.Desk.{Desk, closed, leaving, Act, WriteBlocked, Closed, Failed, Stepped, StepsPart, Came, ReadBlocked, Ended, IsHungry, Does, Goes, IsStuck, Reads, ReadsOnce, is_of_read, is_step, step_count}
-use Rattle.nfs_serve.specs.Desk.{Opened, Over, Took}
+use Rattle.nfs_serve.specs.Desk.{Desk, closed, leaving, Act, WriteBlocked, Closed, Failed, Stepped, StepsPart, Came, ReadBlocked, Ended, IsHungry, Does, Goes, IsStuck, Reads, ReadsOnce, is_of_read}
 use Rattle.nfs_serve.specs.Deeds.{Deed, Logs, shown, asked}
 use Rattle.nfs_serve.specs.declared.lane.Lane.{Lane}
 use Rattle.nfs_serve.specs.Lane.{desk_of, Advances, Quiet, Working}

@@ -1,5 +1,5 @@
 -- What acts use up of what may be done in a turn.
-use Rattle.std.proofs.Common.{◌≡◌, ℕ, ◌+◌, ◌-◌, ◌<◌, List, [], ◌∷◌, ◌++◌, length, filter, arith, Bool, true, false, refl, sym, ap, subst, ◌∙◌, length-append}
+use Rattle.std.proofs.Common.{◌≡◌, ℕ, ◌+◌, ◌-◌, ◌<◌, List, [], ◌∷◌, ◌++◌, length, filter, arith, true, false, ap, subst, ◌∙◌, length-append}
 use Rattle.std.proofs.lemmas.List.Elements.{filter-append}
 use Rattle.nfs_serve.specs.Desk.{Act, Came, ReadBlocked, Ended, Took, WriteBlocked, Failed, Closed, Stepped, is_step, step_count, taken_by, taken_count}
 use Rattle.nfs_serve.specs.declared.lane.Budget.{Budget}
