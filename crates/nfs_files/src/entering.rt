@@ -108,7 +108,7 @@ fn judge_last(
     match store.opens.judge_open(&ask) {
         Ok(()) => room,
         Err(status) => {
-            if status == Status::ShareDenied {
+            if status.number() == Status::ShareDenied.number() {
                 return Err(status);
             }
             match room {
