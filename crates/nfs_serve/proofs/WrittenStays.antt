@@ -6,7 +6,7 @@ use Rattle.nfs_exec.specs.Laws.{MachineEvent, Expires, Asks}
 use Rattle.nfs_exec.specs.Ops.{RanOp, ops_by}
 use Rattle.nfs_files.specs.Written.{Byte}
 use Rattle.nfs_exec.specs.WrittenRun.{WritesIt, AreSpared, StandsWhile}
-use Rattle.nfs_exec.proofs.ToldRun.{none_at_end}
+use Rattle.nfs_exec.proofs.OneWalk.{none_at}
 use Rattle.nfs_exec.proofs.WholeRun.{Is}
 use Rattle.nfs_exec.proofs.WrittenRun.{LastsIn, event_while, event_left, event_told}
 use Rattle.nfs_serve.specs.Step.{State, new_state}
@@ -47,7 +47,7 @@ stays b s (c ∷ more) lives =
 
 told_left : (b : Byte) (m : Machine) (o : Option MachineEvent) (front : List RanOp) (write : RanOp) (back : List RanOp) → Is m
     → option_map_or (ops_by m) o [] ≡ front ++ write ∷ back → WritesIt b write → StandsWhile b back × (AreSpared b back → LastsIn b (left m o))
-told_left b m None front write back is e writes = absurd (none_at_end front write back e)
+told_left b m None front write back is e writes = absurd (none_at front write back e)
 told_left b m (Some event) front write back is e writes = event_told b m event front write back is e writes
 
 pub bytes_stay : BytesStay
