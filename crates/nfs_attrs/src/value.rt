@@ -174,7 +174,12 @@ pub(crate) fn put_values(asked: &Asked, object: &Object, about: &About, sheet: &
 }
 
 /// Whether the values that are asked for stand at the cursor, which is then behind them.
-pub(crate) fn values_follow(asked: &Mask, object: &Object, about: &About, cursor: &mut Cursor<'_>) -> bool
+pub(crate) fn values_follow(
+    asked: &Mask,
+    object: &Object,
+    about: &About,
+    cursor: &mut Cursor<'_>,
+) -> bool
     ensures { Follows result (table.values asked.now about.now object.now) cursor.old cursor.new }
 {
     for number in attribute::ALL {

@@ -128,7 +128,7 @@ lasts_name : (b : Byte) (s : State) (x : Context) (now : Time) (op : Op) → Las
 unfolding access of_create.create get_attr get_fh of_link.link lookup lookup_p nverify put_fh put_pub_fh
     put_root_fh read_dir read_link of_remove.remove of_rename.rename restore_fh save_fh secinfo_no_name verify
 lasts_name b s x now (OpAccess asked) is = found (LastsIn b) s x Num.Access _ _ is (λ d e. is)
-lasts_name b s x now (OpCreate c) is = found (LastsIn b) s x Num.Create _ (of_create.created s x now c) is 
+lasts_name b s x now (OpCreate c) is = found (LastsIn b) s x Num.Create _ (of_create.created s x now c) is
     (λ m e. lasts_new b s.tree m.place.number c.objname (of_create.new_of c.objtype) (of_create.sets_of x now (of_create.new_of c.objtype) m.wanted) now is)
 lasts_name b s x now (OpGetAttr mask) is = found (LastsIn b) s x Num.GetAttr _ _ is (λ d e. is)
 lasts_name b s x now OpGetFh is = found (LastsIn b) s x Num.GetFh _ _ is (λ d e. is)

@@ -174,8 +174,7 @@ part_gives b r count all stands from below =
     let taken = length-take count (drop r.offset all) in
     let left = length-drop r.offset all in
     let within = stands.0 in
-    let here : r.offset + (b.place - r.offset) ≡ b.place = omega arith in
-    (
+    let here : r.offset + (b.place - r.offset) ≡ b.place = omega arith in (
       grind arith,
       get_or-take count (drop r.offset all) (b.place - r.offset) 0 (omega arith)
           ∙ (get_or-drop r.offset all (b.place - r.offset) 0 ∙ (ap (λ n. get_or all n 0) here ∙ stands.1)),
