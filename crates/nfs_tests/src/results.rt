@@ -141,7 +141,7 @@ fn is_small(res: &Res<'_>) -> bool
         Res::ExchangeId(granted) => are_short(granted),
         Res::CreateSession(made) => made.fore_chan_attrs.rdma_ird.is_none(),
         Res::SecinfoNoName(flavors) => flavors.spelled.len() <= 1,
-        Res::SetAttr { status, .. } => status != Status::OpIllegal,
+        Res::SetAttr { status, .. } => *status != Status::OpIllegal,
         Res::Refused { operation, status } => can_refuse(*operation, *status),
         _ => true,
     }
