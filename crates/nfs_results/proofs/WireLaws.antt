@@ -22,8 +22,10 @@ use Rattle.nfs_compound.specs.Stateid.{stateid}
 use Rattle.nfs_compound.specs.StateOwner.{state_owner}
 use Rattle.nfs_compound.specs.ArgCodecs.{lock_type, stable_how}
 use Rattle.nfs_compound.specs.FileArgs.{stable_how_number}
-use Rattle.nfs_compound.specs.Wire.{Text, ◌then◌, void, uint32, bool, enum, fixed, opaque, array, most, channel_attrs4}
-use Rattle.nfs_compound.proofs.WireLaws.{Spells, all_fit, arrays, numbers, owners, ids, channels}
+use Rattle.nfs_xdr.specs.Text.{Text, ◌then◌, void, uint32, bool, enum, fixed, opaque, array, most}
+use Rattle.nfs_xdr.proofs.TextLaws.{Spells, all_fit, arrays, numbers}
+use Rattle.nfs_compound.specs.Wire.{channel_attrs4}
+use Rattle.nfs_compound.proofs.WireLaws.{owners, ids, channels}
 use Rattle.nfs_results.specs.Items as item
 use Rattle.nfs_results.specs.Items.{is_trimmed, are_statuses}
 use Rattle.nfs_results.specs.Result.{Entry, Res, ResAccess, ResClose, ResCommit, ResCreate, ResGetAttr, ResGetFh, ResLink, ResLock, ResLockDenied, ResLockT}

@@ -7,8 +7,8 @@ use Rattle.nfs_xdr.specs.declared.status.Status.TheVariants.{Nfs4Ok, Denied, OpI
 use Rattle.nfs_xdr.specs.Status.{status_number}
 use Rattle.nfs_compound.specs.LockArgs.{lock_type_number}
 use Rattle.nfs_compound.specs.FileArgs.{stable_how_number}
-use Rattle.nfs_compound.specs.Wire.{Text, ◌then◌, void, uint32, uint64, bool, enum, fixed, opaque, array, optional, most, component4, state_owner4}
-use Rattle.nfs_compound.specs.Wire.{stateid4, nfs_impl_id4, channel_attrs4}
+use Rattle.nfs_xdr.specs.Text.{Text, ◌then◌, void, uint32, uint64, bool, enum, fixed, opaque, array, optional, most}
+use Rattle.nfs_compound.specs.Wire.{component4, state_owner4, stateid4, nfs_impl_id4, channel_attrs4}
 use Rattle.nfs_results.specs.declared.res.ChangeInfo.{ChangeInfo}
 use Rattle.nfs_results.specs.Result as result
 use Rattle.nfs_results.specs.Result.{Fattr, Entry, Res, ResAccess, ResClose, ResCommit, ResCreate, ResGetAttr, ResGetFh, ResLink, ResLock, ResLockDenied, ResLockT}

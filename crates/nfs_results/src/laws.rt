@@ -7,7 +7,7 @@ ghost use Rattle.std.specs.Prelude.{◌≡◌, ◌↔◌, ◌+◌, ◌++◌, ℕ
 ghost use Rattle.std.specs.List.{flat_map};
 ghost use Rattle.nfs_xdr.specs.Spelling.{number, padding};
 ghost use Rattle.nfs_xdr.specs.declared.status.Status.{Status};
-ghost use Rattle.nfs_compound.specs.Wire.{◌then◌, bool};
+ghost use Rattle.nfs_xdr.specs.Text.{◌then◌, bool};
 ghost use Rattle.nfs_compound.specs.declared.op_num.OpNum.TheVariants as Op;
 ghost use Rattle.nfs_results.specs.Items as item;
 ghost use Rattle.nfs_results.specs.Result.{Entry, Fattr, ReadOk, ReadDirOk, Res, ResGetAttr, ResRead, ResReadDir, ResTestStateid};

@@ -6,6 +6,7 @@ pub mod ChainLaws
 pub mod WordLaws
 pub mod StatusLaws
 pub mod Formats
+pub mod TextLaws
 pub mod Lists
 pub mod Tables
 pub mod Checks

@@ -2,6 +2,7 @@ pub mod Spelling
 pub mod Reading
 pub mod SheetState
 pub mod Codec
+pub mod Text
 pub mod Chain
 pub mod Time
 pub mod Format
@@ -11,6 +12,7 @@ pub mod Status
 pub mod Caller
 pub mod Limits
 pub mod AuthSys
+pub mod Wire
 pub mod Combinators
 pub mod Lawful
 pub mod Readers
