@@ -20,7 +20,8 @@ use Rattle.nfs_rpc.specs.declared.refusal.Refusal.TheVariants.{Silent, Mismatch,
 use Rattle.nfs_rpc.specs.declared.refusal.AcceptStat.TheVariants.{GarbageArgs}
 use Rattle.nfs_rpc.specs.declared.call.Procedure.{Procedure}
 use Rattle.nfs_rpc.specs.declared.call.Procedure.TheVariants as Procedures
-use Rattle.nfs_rpc.specs.CallHead.{header, Call, Called, Accepted, Refused, call_of}
+use Rattle.nfs_rpc.specs.HeadCodec.{header}
+use Rattle.nfs_rpc.specs.CallHead.{Call, Called, Accepted, Refused, call_of}
 use Rattle.nfs_rpc.specs.Reply.{spell_head}
 use Rattle.nfs_rpc.proofs.HeadLaws.{call_taken}
 use Rattle.nfs_compound.specs.Operation.{Item, Operation, OpSequence}
