@@ -5,8 +5,8 @@ pub mod CodecLaws
 pub mod ChainLaws
 pub mod WordLaws
 pub mod StatusLaws
-pub mod Formats
 pub mod TextLaws
+pub mod Formats
 pub mod Lists
 pub mod Tables
 pub mod Checks

@@ -7,10 +7,11 @@ use Rattle.nfs_xdr.specs.Codec as codec
 use Rattle.nfs_xdr.specs.Combinators as combinators
 use Rattle.nfs_xdr.specs.Codec.{Codec, IsBytes}
 use Rattle.nfs_xdr.specs.Lawful.{IsCodec}
+use Rattle.nfs_xdr.proofs.CodecLaws.{is_prefix_free}
 use Rattle.nfs_xdr.specs.AuthSys.{auth_sys}
 use Rattle.nfs_xdr.specs.Time.{time}
 use Rattle.nfs_xdr.specs.Wire.{authsys_parms, nfstime4}
-use Rattle.nfs_xdr.specs.Text.{Text, uint32, array, optional, Leads}
+use Rattle.nfs_xdr.specs.Text.{Text, uint32, uint64, bool, fixed, opaque, array, optional, Leads, IsReadable, BeginsNoOther}
 
 -- a codec that spells what the text says, of the same values
 pub record Spells {A : Type 0} (c : Codec A) (text : A → Text) : Type 0 where
@@ -50,8 +51,27 @@ optionals c text is = record { same = same; to = to; from = from }
     from None fits = tt
     from (Some x) fits = is.from x fits.1
 
+pub fews : {A : Type 0} (limit : ℕ) (c : Codec A) (text : A → Text) → Spells c text → Spells (combinators.few limit c) (array limit text)
+fews limit c text is = record {
+  same = λ xs. rw (all_same c.spell (λ x. (text x).bytes) is.same xs) refl;
+  to = λ xs fits. (fits.0, all_fit c.Fits (λ x. (text x).Fits) is.to xs fits.1);
+  from = λ xs fits. (fits.0, all_fit (λ x. (text x).Fits) c.Fits is.from xs fits.1);
+}
+
 pub numbers : Spells codec.number uint32
 numbers = record { same = λ x. refl; to = λ x fits. fits; from = λ x fits. fits }
+
+pub hypers : Spells codec.hyper uint64
+hypers = record { same = λ x. refl; to = λ x fits. fits; from = λ x fits. fits }
+
+pub flags : Spells codec.flag bool
+flags = record { same = λ x. refl; to = λ x fits. fits; from = λ x fits. fits }
+
+pub fixeds : (n : ℕ) → Spells (combinators.fixed n) (fixed n)
+fixeds n = record { same = λ x. refl; to = λ x fits. fits; from = λ x fits. fits }
+
+pub opaques : (limit : ℕ) → Spells (codec.opaque limit) (opaque limit)
+opaques limit = record { same = λ x. refl; to = λ x fits. fits; from = λ x fits. fits }
 
 pub times : Spells time nfstime4
 unfolding time
@@ -98,3 +118,10 @@ pub leads_again : {A : Type 0} (c : Codec A) (text : A → Text) → Spells c te
     → Leads text bytes x → c.read bytes ≡ Some x
 leads_again c text one is bytes x (stands, fits) =
     ap c.read (stands ∙ ap (λ (w : List ℕ). w ++ x.1) (sym (one.same x.0))) ∙ is.again x.0 x.1 (one.from x.0 fits)
+
+pub readable : {A : Type 0} (c : Codec A) (text : A → Text) → Spells c text → IsCodec c → IsReadable text
+readable c text one is = (c.read, λ bytes x fits. (leads_from c text one is bytes x fits, leads_again c text one is bytes x))
+
+pub begins_no_other : {A : Type 0} (c : Codec A) (text : A → Text) → Spells c text → IsCodec c → BeginsNoOther text
+begins_no_other c text one is x y rest f g e =
+    is_prefix_free c is x y rest (one.from x f) (one.from y g) (one.same x ∙ e ∙ ap (λ (w : List ℕ). w ++ rest) (sym (one.same y)))

@@ -6,6 +6,7 @@ pub mod Text
 pub mod Chain
 pub mod Time
 pub mod Format
+pub mod FormatCodec
 pub mod Tables
 pub mod Checks
 pub mod Status

@@ -1,5 +1,5 @@
 -- The language of RFC 4506: each of its types as the text of its values.
-use Rattle.std.specs.Prelude.{◌≡◌, ℕ, ℤ, ◌<◌, ◌≤◌, ◌^◌, Bool, List, [], ◌++◌, length, Option, Some, None}
+use Rattle.std.specs.Prelude.{◌≡◌, ◌↔◌, ℕ, ℤ, ◌<◌, ◌≤◌, ◌^◌, Bool, List, [], ◌++◌, length, Option, Some, None}
 use Rattle.std.specs.Int.{w64, cast_unsigned}
 use Rattle.std.specs.Int.RustNames.{FitsSigned}
 use Rattle.std.specs.List.{flat_map, AllByRecursion}
@@ -74,3 +74,11 @@ Lacks text bytes = Begins text bytes → ⊥
 -- The text of this value stands at the front of these bytes, and the rest behind it.
 abbrev pub Leads : {A : Type 0} → (A → Text) → List ℕ → A × List ℕ → Type 0
 Leads text bytes x = (bytes ≡ (text x.0).bytes ++ x.1) × (text x.0).Fits
+
+-- there is a reader that gives what stands at the front of bytes as such a text, and nothing where none stands there
+abbrev pub IsReadable : {A : Type 0} → (A → Text) → Type 0
+IsReadable {A} text = (read : List ℕ → Option (A × List ℕ)) × ((bytes : List ℕ) (x : A × List ℕ) → IsBytes bytes → read bytes ≡ Some x ↔ Leads text bytes x)
+
+-- no text of these begins another
+abbrev pub BeginsNoOther : {A : Type 0} → (A → Text) → Type 0
+BeginsNoOther text = (x y : _) (rest : List ℕ) → (text x).Fits → (text y).Fits → (text x).bytes ≡ (text y).bytes ++ rest → (x ≡ y) × (rest ≡ [])
