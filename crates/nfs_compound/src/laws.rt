@@ -1,9 +1,8 @@
 //! Laws of the grammar of compounds.
 
 ghost use Rattle.std.specs.Prelude.{◌≡◌, ◌↔◌, ℕ, List, Some};
-ghost use Rattle.nfs_xdr.specs.Codec.{IsBytes};
 ghost use Rattle.nfs_xdr.specs.Lawful.{IsCodec};
-ghost use Rattle.nfs_xdr.specs.Text.{Leads};
+ghost use Rattle.nfs_xdr.specs.Text.{IsBytes, Leads};
 ghost use Rattle.nfs_compound.specs.declared.op_num.OpNum.{OpNum};
 ghost use Rattle.nfs_compound.specs.OpNum.{op_num, op_number};
 ghost use Rattle.nfs_compound.specs.Operation.{Op};

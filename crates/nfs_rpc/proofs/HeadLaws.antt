@@ -6,7 +6,7 @@ use Rattle.std.specs.Int.{w32, from_be_bytes}
 use Rattle.std.proofs.lemmas.Bool.{eqb-true}
 use Rattle.std.proofs.lemmas.List.{append-nil}
 use Rattle.std.proofs.lemmas.Option.{same_Some}
-use Rattle.nfs_xdr.specs.Codec.{IsBytes, number}
+use Rattle.nfs_xdr.specs.Codec.{number}
 use Rattle.nfs_xdr.specs.Lawful.{IsCodec, IsSized}
 use Rattle.nfs_xdr.specs.Checks.{first_fault, judged}
 use Rattle.nfs_xdr.proofs.CodecLaws.{test_some, is_number, is_opaque, is_then, is_as_type, is_only, is_led_by, is_pieces}
@@ -15,7 +15,7 @@ use Rattle.nfs_rpc.specs.declared.refusal.Refusal.TheVariants.{Silent}
 use Rattle.nfs_rpc.specs.declared.call.Procedure.{Procedure}
 use Rattle.nfs_xdr.specs.Caller.{Caller}
 use Rattle.nfs_xdr.specs.AuthSys.{AuthSys, auth_sys}
-use Rattle.nfs_xdr.specs.Text.{Leads}
+use Rattle.nfs_xdr.specs.Text.{IsBytes, Leads}
 use Rattle.nfs_xdr.specs.Wire.{authsys_parms}
 use Rattle.nfs_xdr.proofs.TextLaws.{Spells, credentials, leads_from, leads_again}
 use Rattle.nfs_rpc.specs.Wire as wire

@@ -1,7 +1,6 @@
 //! Laws of the streams, and of a call's head.
 
 ghost use Rattle.std.specs.Prelude.{◌≡◌, ◌↔◌, ◌≤◌, ◌++◌, ◌∷◌, List, [], ℕ, Some, length, take, drop};
-ghost use Rattle.nfs_xdr.specs.Codec.{IsBytes};
 ghost use Rattle.nfs_xdr.specs.Lawful.{IsCodec};
 ghost use Rattle.nfs_rpc.specs.RecordMarking.{IsRecord, IsTooLong, Part, IsPart, start};
 ghost use Rattle.nfs_rpc.specs.Stream.{IsUnfinished, End, Open, TooLong, IsReading};
@@ -12,7 +11,7 @@ ghost use Rattle.nfs_rpc.specs.CallHead.{named_by, caller_of, Call, Accepted, be
 ghost use Rattle.nfs_rpc.specs.HeadCodec.{header, message, spell_call, message_at, header_at, auth_sys_at};
 ghost use Rattle.nfs_rpc.specs.Wire.{Header, call_body, rpc_msg, call};
 ghost use Rattle.nfs_xdr.specs.AuthSys.{AuthSys, auth_sys};
-ghost use Rattle.nfs_xdr.specs.Text.{Leads};
+ghost use Rattle.nfs_xdr.specs.Text.{IsBytes, Leads};
 ghost use Rattle.nfs_xdr.specs.Wire.{authsys_parms};
 
 /// One stream is read into records in one way, however it is cut into pieces.

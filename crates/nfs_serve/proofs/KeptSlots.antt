@@ -7,7 +7,8 @@ use Rattle.std.proofs.lemmas.Option.{same_Some}
 use Rattle.std.proofs.lemmas.List.{append-nil}
 use Rattle.nfs_xdr.specs.Limits.{opaque_limit}
 use Rattle.nfs_xdr.specs.Reading.{◌>>=◌}
-use Rattle.nfs_xdr.specs.Codec.{IsBytes, number, opaque}
+use Rattle.nfs_xdr.specs.Codec.{number, opaque}
+use Rattle.nfs_xdr.specs.Text.{IsBytes}
 use Rattle.nfs_xdr.specs.Caller.{Caller}
 use Rattle.nfs_xdr.specs.Checks.{first_fault}
 use Rattle.nfs_xdr.specs.declared.status.Status.{Status}

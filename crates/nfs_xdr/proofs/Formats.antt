@@ -1,5 +1,5 @@
 -- Whatever is put together from items is read exactly where it is spelled, and is spelled as its text.
-use Rattle.std.proofs.Common.{◌≡◌, ◌<◌, ◌^◌, ℕ, List, ◌++◌, refl, ap, ◌∙◌}
+use Rattle.std.proofs.Common.{ℕ, List, ◌++◌, ap, ◌∙◌}
 use Rattle.nfs_xdr.specs.Codec.{Codec, ◌then◌, led_by}
 use Rattle.nfs_xdr.specs.Lawful.{IsCodec}
 use Rattle.nfs_xdr.specs.Spelling as spelling

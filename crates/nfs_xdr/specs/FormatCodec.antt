@@ -1,5 +1,4 @@
 -- The codec of each format.
-use Rattle.std.specs.Prelude.{ℕ}
 use Rattle.nfs_xdr.specs.Codec.{Codec, number, hyper, flag, opaque, ◌then◌, array, led_by}
 use Rattle.nfs_xdr.specs.Combinators.{fixed, optional, few}
 use Rattle.nfs_xdr.specs.Format.{Format, Number, Hyper, Flag, Fixed, Opaque, Then, Optional, Array, AtMost, LedBy, Meaning}

@@ -1,10 +1,13 @@
 -- The language of RFC 4506: each of its types as the text of its values.
-use Rattle.std.specs.Prelude.{◌≡◌, ◌↔◌, ℕ, ℤ, ◌<◌, ◌≤◌, ◌^◌, Bool, List, [], ◌++◌, length, Option, Some, None}
+use Rattle.std.specs.Prelude.{◌≡◌, ◌↔◌, ℕ, ℤ, ◌<◌, ◌≤◌, ◌^◌, Bool, List, [], ◌++◌, length, get_or, Option, Some, None}
 use Rattle.std.specs.Int.{w64, cast_unsigned}
 use Rattle.std.specs.Int.RustNames.{FitsSigned}
 use Rattle.std.specs.List.{flat_map, AllByRecursion}
 use Rattle.nfs_xdr.specs.Spelling as spelling
-use Rattle.nfs_xdr.specs.Codec.{IsBytes}
+
+-- each number is a byte
+pub record IsBytes (bytes : List ℕ) : Type 0 where
+  pub each : (i : ℕ) → get_or bytes i 0 < 256
 
 -- The bytes of a value, and what holds of the values that have bytes.
 pub record Text : Type 1 where
