@@ -1,14 +1,13 @@
 //! Laws of the grammar of compounds.
 
 ghost use Rattle.std.specs.Prelude.{◌≡◌, ◌↔◌, ℕ, List, Some};
-ghost use Rattle.nfs_xdr.specs.Lawful.{IsCodec};
 ghost use Rattle.nfs_xdr.specs.Text.{IsBytes, Leads};
 ghost use Rattle.nfs_compound.specs.declared.op_num.OpNum.{OpNum};
 ghost use Rattle.nfs_compound.specs.OpNum.{op_num, op_number};
 ghost use Rattle.nfs_compound.specs.Operation.{Op};
 ghost use Rattle.nfs_compound.specs.Arguments.{arguments};
 ghost use Rattle.nfs_compound.specs.OpOf.{op_of};
-ghost use Rattle.nfs_compound.specs.OpCodec.{op_codec, operation_at, protected_at};
+ghost use Rattle.nfs_compound.specs.OpCodec.{operation_at, protected_at};
 ghost use Rattle.nfs_compound.specs.ArgCodecs.{protected};
 ghost use Rattle.nfs_compound.specs.Request.{spell_op, FitsOp};
 ghost use Rattle.nfs_compound.specs.Wire.{protected4, nfs_argop4};
@@ -42,12 +41,4 @@ pub fn one_reading()
 pub fn reading()
     ensures requests { ReadsRequests }
     ensures garbage { RefusesGarbage }
-{}
-
-/// The codecs of the arguments spell what the wire's text has, of the same values, and read what they spell.
-pub fn codecs()
-    ensures protected { (x : List ℕ × (List ℕ × (ℕ × ℕ))) → protected.spell x ≡ (protected4 x).bytes }
-    ensures protected_fit { (x : List ℕ × (List ℕ × (ℕ × ℕ))) → protected.Fits x ↔ (protected4 x).Fits }
-    ensures table { IsCodec op_codec }
-    ensures protections { IsCodec protected }
 {}

@@ -1,10 +1,7 @@
 //! Laws of the table of results (RFC 5662).
 
-ghost use Rattle.nfs_xdr.specs.Lawful.{IsCodec};
-ghost use Rattle.nfs_results.specs.ResultCodec as table;
-ghost use Rattle.nfs_results.specs.Items.{fattr};
-ghost use Rattle.nfs_results.specs.CompoundResult.{CompoundResult, compound_result, result_at, compound_result_at};
-ghost use Rattle.std.specs.Prelude.{◌≡◌, ◌↔◌, ◌+◌, ◌++◌, ℕ, List, [], Some, length, true};
+ghost use Rattle.nfs_results.specs.CompoundResult.{CompoundResult, result_at, compound_result_at};
+ghost use Rattle.std.specs.Prelude.{◌≡◌, ◌↔◌, ◌+◌, ◌++◌, ℕ, List, Some, length, true};
 ghost use Rattle.std.specs.List.{flat_map};
 ghost use Rattle.nfs_xdr.specs.Spelling.{number, padding};
 ghost use Rattle.nfs_xdr.specs.declared.status.Status.{Status};
@@ -51,15 +48,4 @@ pub fn parts()
 pub fn lengths()
     ensures compound { (status : Status) (tag : List ℕ) (count : ℕ) → length (spell_compound_head status tag count) ≡ 12 + length tag + padding (length tag) }
     ensures result { (r : Res) → length (spell_result r) ≡ 8 + length (parts r).behind }
-{}
-
-/// The codecs of the results spell what the wire's text has, of the same values, and read what they spell.
-pub fn codecs()
-    ensures results { (r : Res) → table.result.spell r ≡ (result4 r).bytes }
-    ensures results_fit { (r : Res) → table.result.Fits r ↔ (result4 r).Fits }
-    ensures compounds { (c : CompoundResult) → compound_result.spell c ≡ (compound4res c).bytes }
-    ensures compounds_fit { (c : CompoundResult) → compound_result.Fits c ↔ (compound4res c).Fits }
-    ensures attributes { (f : Fattr) → fattr.spell f ≡ (fattr4 f).bytes }
-    ensures result { IsCodec table.result }
-    ensures compound { IsCodec compound_result }
 {}

@@ -1,16 +1,15 @@
 //! Laws of the streams, and of a call's head.
 
 ghost use Rattle.std.specs.Prelude.{◌≡◌, ◌↔◌, ◌≤◌, ◌++◌, ◌∷◌, List, [], ℕ, Some, length, take, drop};
-ghost use Rattle.nfs_xdr.specs.Lawful.{IsCodec};
 ghost use Rattle.nfs_rpc.specs.RecordMarking.{IsRecord, IsTooLong, Part, IsPart, start};
 ghost use Rattle.nfs_rpc.specs.Stream.{IsUnfinished, End, Open, TooLong, IsReading};
 ghost use Rattle.nfs_rpc.specs.declared.refusal.Refusal.{Refusal};
 ghost use Rattle.nfs_rpc.specs.Reply.{spell_head, spell_refusal};
 ghost use Rattle.nfs_xdr.specs.Caller.{Caller};
 ghost use Rattle.nfs_rpc.specs.CallHead.{named_by, caller_of, Call, Accepted, behind_header, call_of};
-ghost use Rattle.nfs_rpc.specs.HeadCodec.{header, message, spell_call, message_at, header_at, auth_sys_at};
+ghost use Rattle.nfs_rpc.specs.HeadCodec.{message_at, header_at, auth_sys_at};
 ghost use Rattle.nfs_rpc.specs.Wire.{Header, call_body, rpc_msg, call};
-ghost use Rattle.nfs_xdr.specs.AuthSys.{AuthSys, auth_sys};
+ghost use Rattle.nfs_xdr.specs.AuthSys.{AuthSys};
 ghost use Rattle.nfs_xdr.specs.Text.{IsBytes, Leads};
 ghost use Rattle.nfs_xdr.specs.Wire.{authsys_parms};
 
@@ -55,17 +54,4 @@ pub fn auth_sys_bodies()
     ensures read { (bytes : List ℕ) (x : AuthSys × List ℕ) → IsBytes bytes → auth_sys_at bytes ≡ Some x ↔ Leads authsys_parms bytes x }
     ensures named { (s : AuthSys) → (authsys_parms s).Fits → caller_of (authsys_parms s).bytes ≡ Some (named_by s) }
     ensures taken { (body : List ℕ) (who : Caller) → IsBytes body → caller_of body ≡ Some who → (s : AuthSys) × (authsys_parms s).Fits × (body ≡ (authsys_parms s).bytes) × (who ≡ named_by s) }
-{}
-
-/// The codecs of a call's head spell what the wire's text has, of the same values, and read what they spell.
-pub fn head_codecs()
-    ensures messages { (m : ℕ × ℕ) → message.spell m ≡ (rpc_msg m).bytes }
-    ensures headers { (h : Header) → header.spell h ≡ (call_body h).bytes }
-    ensures credentials { (s : AuthSys) → auth_sys.spell s ≡ (authsys_parms s).bytes }
-    ensures messages_fit { (m : ℕ × ℕ) → message.Fits m ↔ (rpc_msg m).Fits }
-    ensures headers_fit { (h : Header) → header.Fits h ↔ (call_body h).Fits }
-    ensures credentials_fit { (s : AuthSys) → auth_sys.Fits s ↔ (authsys_parms s).Fits }
-    ensures calls { (xid : ℕ) (h : Header) (args : List ℕ) → spell_call xid h args ≡ (call xid h).bytes ++ args }
-    ensures header { IsCodec header }
-    ensures auth_sys { IsCodec auth_sys }
 {}

@@ -1,16 +1,12 @@
 //! Laws of the wire's language and of what is put together in it.
 
-ghost use Rattle.std.specs.Prelude.{◌≡◌, ◌↔◌, Some, ℕ, ◌<◌, ◌^◌};
+ghost use Rattle.std.specs.Prelude.{◌≡◌, Some, ℕ, ◌<◌, ◌^◌};
 ghost use Rattle.nfs_xdr.specs.Text.{uint32, uint64, bool, enum, fixed, opaque, IsReadable, BeginsNoOther};
 ghost use Rattle.nfs_xdr.specs.declared.status.Status.{Status};
 ghost use Rattle.nfs_xdr.specs.Status.{status_number};
-ghost use Rattle.nfs_xdr.specs.StatusCodec.{status, status_of};
+ghost use Rattle.nfs_xdr.specs.StatusCodec.{status_of};
 ghost use Rattle.nfs_xdr.specs.Wire.{nfstime4};
-ghost use Rattle.nfs_xdr.specs.Format.{Format, Meaning, IsFormat, text};
-ghost use Rattle.nfs_xdr.specs.FormatCodec.{codec};
-ghost use Rattle.nfs_xdr.specs.Lawful.{IsCodec};
-ghost use Rattle.nfs_xdr.specs.Time.{time};
-ghost use Rattle.nfs_xdr.specs.declared.time.Time.{Time};
+ghost use Rattle.nfs_xdr.specs.Format.{Format, IsFormat, text};
 
 /// Each type of RFC 4506 can be read: what is given is just what has its text at the front of the bytes.
 pub fn items()
@@ -34,16 +30,4 @@ pub fn statuses()
 pub fn formats()
     ensures read { (f : Format) → IsFormat f → IsReadable (text f) }
     ensures prefix { (f : Format) → IsFormat f → BeginsNoOther (text f) }
-{}
-
-/// The codecs spell what the wire's text has, of the same values, and read what they spell.
-pub fn codecs()
-    ensures spelled { (f : Format) (x : Meaning f) → (codec f).spell x ≡ (text f x).bytes }
-    ensures fit { (f : Format) (x : Meaning f) → (codec f).Fits x ↔ (text f x).Fits }
-    ensures statuses { (s : Status) → status.spell s ≡ (enum (status_number s)).bytes }
-    ensures times { (t : Time) → time.spell t ≡ (nfstime4 t).bytes }
-    ensures times_fit { (t : Time) → time.Fits t ↔ (nfstime4 t).Fits }
-    ensures formats { (f : Format) → IsFormat f → IsCodec (codec f) }
-    ensures status { IsCodec status }
-    ensures time { IsCodec time }
 {}
