@@ -17,7 +17,7 @@ VALUES = {"Unit", "⊤", "ℕ", "ℤ", "List", "Bool", "Option", "Char", "String
 REFLEXIVE = ("↔", "≡", "≤", "≥", "∼")
 RELATIONS = (*REFLEXIVE, "≢", "<", ">")
 # the premise under which a law still speaks of every argument: there are no other lists on the wire
-DOMAINS = {("nfs_xdr", "Codec", "IsBytes")}
+DOMAINS = {("nfs_xdr", "Text", "IsBytes")}
 
 
 def tokens_of(text):

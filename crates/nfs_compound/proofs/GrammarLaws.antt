@@ -5,7 +5,6 @@ use Rattle.std.proofs.lemmas.Bool.{cases_Bool, and_parts, and_right, eqb-true, n
 use Rattle.std.proofs.lemmas.Option.{same_Some}
 use Rattle.std.proofs.lemmas.List.{nil_from_length}
 use Rattle.nfs_xdr.specs.Reading.{◌>>=◌, number_at, fixed_at}
-use Rattle.nfs_xdr.specs.Codec.{IsBytes}
 use Rattle.nfs_xdr.specs.Lawful.{IsCodec}
 use Rattle.nfs_xdr.proofs.CodecLaws.{bind_some, test_some, is_number}
 use Rattle.nfs_xdr.proofs.WordLaws.{listed_number}
@@ -16,11 +15,13 @@ use Rattle.nfs_compound.specs.OpNum.{op_number, op_nums, op_num}
 use Rattle.nfs_compound.specs.Operation.{Op, Item, Operation, Fault}
 use Rattle.nfs_compound.specs.ArgCodecs.{protected}
 use Rattle.nfs_compound.specs.OpCodec.{op_codec, op_at, flaw, fault_of, fault_at}
-use Rattle.nfs_compound.specs.Wire.{Text, uint32, protected4, nfs_argop4}
-use Rattle.nfs_compound.specs.Request.{Lacks, Answers, Unserved, Unreadable, Unsupported, Illegal, IsFault, Lists, Spoils}
+use Rattle.nfs_xdr.specs.Text.{IsBytes, Text, uint32, Lacks}
+use Rattle.nfs_xdr.proofs.TextLaws.{read_as}
+use Rattle.nfs_compound.specs.Wire.{protected4, nfs_argop4}
+use Rattle.nfs_compound.specs.Request.{Answers, Unserved, Unreadable, Unsupported, Illegal, IsFault, Lists, Spoils}
 use Rattle.nfs_compound.specs.ReadRequest.{op_or_fault, in_front, item_at, items_at}
 use Rattle.nfs_compound.proofs.OpNumLaws.{is_op_listing}
-use Rattle.nfs_compound.proofs.WireLaws.{read_as, is_protected_text, is_op_text}
+use Rattle.nfs_compound.proofs.WireLaws.{is_protected_text, is_op_text}
 
 pub none≢some : {A : Type 0} (x : A) → None ≡ Some x → ⊥
 none≢some x e = cc

@@ -6,13 +6,13 @@ use Rattle.std.proofs.lemmas.Bool.{ne_eqb}
 use Rattle.std.proofs.lemmas.Option.{same_Some}
 use Rattle.nfs_xdr.specs.Spelling as spelling
 use Rattle.nfs_xdr.specs.Reading.{◌>>=◌, number_at, opaque_at}
-use Rattle.nfs_xdr.specs.Codec.{IsBytes, opaque}
+use Rattle.nfs_xdr.specs.Codec.{opaque}
 use Rattle.nfs_xdr.specs.Lawful.{IsCodec}
 use Rattle.nfs_xdr.proofs.CodecLaws.{bind_some, is_number, is_opaque}
 use Rattle.nfs_compound.specs.declared.compound.Garbage.{Garbage}
 use Rattle.nfs_compound.specs.Operation.{Item}
-use Rattle.nfs_compound.specs.Wire as text
-use Rattle.nfs_compound.specs.Wire.{uint32}
+use Rattle.nfs_xdr.specs.Text as text
+use Rattle.nfs_xdr.specs.Text.{IsBytes, uint32}
 use Rattle.nfs_compound.specs.Request.{Request, IsHead, HasBody, IsRequest, IsGarbage, LacksTag, LacksMinor, LacksCount, SpoilsBody}
 use Rattle.nfs_compound.specs.ReadRequest.{items_at, request_at}
 use Rattle.nfs_compound.proofs.Walk.{request_from}

@@ -1,13 +1,13 @@
 -- Each operation is spelled as its text, and fits exactly where the text lets it.
-use Rattle.std.proofs.Common.{◌≡◌, ℕ, ◌<◌, ◌^◌, List, [], ◌∷◌, ◌++◌, length, Option, Some, None, refl, sym, ap, ◌∙◌, arith, ◌⊎◌, inl, inr, eqb}
+use Rattle.std.proofs.Common.{◌≡◌, ℕ, ◌<◌, ◌^◌, List, refl, sym, ◌∙◌, arith, ◌⊎◌, inl, inr, eqb}
 use Rattle.std.specs.Prelude.{IsTrue, ◌==◌, ◌||◌}
-use Rattle.std.specs.List.{flat_map, AllByRecursion}
-use Rattle.std.proofs.lemmas.Bool.{cases_Bool, eqb-true, le-leb, leb-true}
+use Rattle.std.proofs.lemmas.Bool.{cases_Bool, eqb-true}
 use Rattle.nfs_xdr.specs.Codec as codec
 use Rattle.nfs_xdr.specs.Combinators as combinators
-use Rattle.nfs_xdr.specs.Codec.{Codec, IsBytes}
+use Rattle.nfs_xdr.specs.Text.{array, optional, uint32}
 use Rattle.nfs_xdr.specs.Lawful.{IsCodec}
 use Rattle.nfs_xdr.specs.Time.{time}
+use Rattle.nfs_xdr.proofs.TextLaws.{Spells, arrays, optionals, numbers, credentials, read_as, is_read}
 use Rattle.nfs_compound.specs.Stateid.{stateid, stateids}
 use Rattle.nfs_compound.specs.StateOwner.{state_owner}
 use Rattle.nfs_compound.specs.ChannelAttrs.{channel_attrs}
@@ -17,7 +17,6 @@ use Rattle.nfs_compound.specs.ArgCodecs.{commit_args, read_args, stable_how, wri
 use Rattle.nfs_compound.specs.ArgCodecs.{rename_args, secinfo_style}
 use Rattle.nfs_compound.specs.ArgCodecs as callback
 use Rattle.nfs_compound.specs.Callback.{SecParms, AuthNone, Sys, RpcsecGss}
-use Rattle.nfs_xdr.specs.AuthSys.{auth_sys}
 use Rattle.nfs_compound.specs.OpenArgs.{CreateHow, Unchecked, Guarded, Exclusive, Exclusive41, OpenHow, NoCreate, Create}
 use Rattle.nfs_compound.specs.OpenCodecs.{create_how, open_how, open_claim, delegation_type, open_args, open_downgrade_args, close_args}
 use Rattle.nfs_compound.specs.OpenArgs.{OpenClaim, Null, Previous, DelegateCur, DelegatePrev, Fh, DelegCurFh, DelegPrevFh}
@@ -29,51 +28,10 @@ use Rattle.nfs_compound.specs.Operation.{OpRename, OpRestoreFh, OpSaveFh, OpSetA
 use Rattle.nfs_compound.specs.Operation.{OpFreeStateid, OpSecinfoNoName, OpSequence, OpTestStateid, OpDestroyClientId, OpReclaimComplete}
 use Rattle.nfs_compound.specs.Request.{spell_op, FitsOp}
 use Rattle.nfs_compound.specs.OpCodec.{op_codec}
-use Rattle.nfs_compound.specs.Wire.{Text, uint32, array, optional, bitmap4, fattr4, state_owner4, stateid4, createtype4, locker4, createhow4, openflag4}
-use Rattle.nfs_compound.specs.Wire.{open_claim4, nfs_impl_id4, channel_attrs4, authsys_parms, gss_cb_handles4, callback_sec_parms4, sec_parms, protected4, nfs_argop4}
+use Rattle.nfs_compound.specs.Wire.{bitmap4, fattr4, state_owner4, stateid4, createtype4, locker4, createhow4, openflag4}
+use Rattle.nfs_compound.specs.Wire.{open_claim4, nfs_impl_id4, channel_attrs4, gss_cb_handles4, callback_sec_parms4, sec_parms, protected4, nfs_argop4}
 use Rattle.nfs_compound.proofs.ArgLaws.{is_protected}
 use Rattle.nfs_compound.proofs.OpLaws.{is_op}
-
--- a codec that spells what the text says, of the same values
-pub record Spells {A : Type 0} (c : Codec A) (text : A → Text) : Type 0 where
-  pub same : (x : A) → c.spell x ≡ (text x).bytes
-  pub to : (x : A) → c.Fits x → (text x).Fits
-  pub from : (x : A) → (text x).Fits → c.Fits x
-
--- Arrays.
-
-pub all_same : {A : Type 0} (f g : A → List ℕ) → ((x : A) → f x ≡ g x) → (xs : List A) → flat_map f xs ≡ flat_map g xs
-all_same f g each [] = refl
-all_same f g each (x ∷ xs) = rw (each x, all_same f g each xs) refl
-
-pub all_fit : {A : Type 0} (P Q : A → Type 0) → ((x : A) → P x → Q x) → (xs : List A) → AllByRecursion P xs → AllByRecursion Q xs
-all_fit P Q each [] all = tt
-all_fit P Q each (x ∷ xs) all = (each x all.0, all_fit P Q each xs all.1)
-
-pub arrays : {A : Type 0} (c : Codec A) (text : A → Text) → Spells c text → Spells (codec.array c) (array 4294967295 text)
-arrays c text is = record {
-  same = λ xs. rw (all_same c.spell (λ x. (text x).bytes) is.same xs) refl;
-  to = λ xs fits. (omega (arith, fits.0), all_fit c.Fits (λ x. (text x).Fits) is.to xs fits.1);
-  from = λ xs fits. (omega (arith, fits.0), all_fit (λ x. (text x).Fits) c.Fits is.from xs fits.1);
-}
-
-optionals : {A : Type 0} (c : Codec A) (text : A → Text) → Spells c text → Spells (combinators.optional c) (optional text)
-optionals c text is = record { same = same; to = to; from = from }
-  where
-    same : (x : Option _) → (combinators.optional c).spell x ≡ (optional text x).bytes
-    same None = refl
-    same (Some x) = rw (is.same x) refl
-
-    to : (x : Option _) → (combinators.optional c).Fits x → (optional text x).Fits
-    to None fits = tt
-    to (Some x) fits = (tt, is.to x fits)
-
-    from : (x : Option _) → (optional text x).Fits → (combinators.optional c).Fits x
-    from None fits = tt
-    from (Some x) fits = is.from x fits.1
-
-pub numbers : Spells codec.number uint32
-numbers = record { same = λ x. refl; to = λ x fits. fits; from = λ x fits. fits }
 
 -- Structs and unions.
 
@@ -232,22 +190,6 @@ channels = record {
   from = λ a (f, (g, (h, (i, (j, (k, ird)))))). (refl, (f, (g, (h, (i, (j, (k, irds.from a.rdma_ird ird)))))));
 }
 
-few : (groups : List ℕ) → (codec.at_most 16 bitmap).Fits groups → (array 16 uint32 groups).Fits
-unfolding bitmap
-few groups (at_most, (count, all)) = (leb-true (length groups) 16 at_most, all)
-
-few_from : (groups : List ℕ) → (array 16 uint32 groups).Fits → (codec.at_most 16 bitmap).Fits groups
-unfolding bitmap
-few_from groups (count, all) = (le-leb (length groups) 16 count, (omega (arith, count), all))
-
-sys : Spells auth_sys authsys_parms
-unfolding auth_sys bitmap
-sys = record {
-  same = λ a. refl;
-  to = λ a (e, (stamp, (name, (uid, (gid, gids))))). (stamp, (name, (uid, (gid, few a.gids gids))));
-  from = λ a (stamp, (name, (uid, (gid, gids)))). (refl, (stamp, (name, (uid, (gid, few_from a.gids gids)))));
-}
-
 handles : Spells gss_handles gss_cb_handles4
 unfolding gss_handles
 handles = record { same = λ g. refl; to = λ g (e, fits). fits; from = λ g fits. (refl, fits) }
@@ -258,17 +200,17 @@ parms = record { same = same; to = to; from = from }
   where
     same : (x : SecParms) → callback.sec_parms.spell x ≡ (callback_sec_parms4 x).bytes
     same AuthNone = refl
-    same (Sys a) = rw (sys.same a) refl
+    same (Sys a) = rw (credentials.same a) refl
     same (RpcsecGss g) = rw (handles.same g) refl
 
     to : (x : SecParms) → callback.sec_parms.Fits x → (callback_sec_parms4 x).Fits
     to AuthNone fits = tt
-    to (Sys a) fits = (tt, sys.to a fits)
+    to (Sys a) fits = (tt, credentials.to a fits)
     to (RpcsecGss g) fits = (tt, handles.to g fits)
 
     from : (x : SecParms) → (callback_sec_parms4 x).Fits → callback.sec_parms.Fits x
     from AuthNone fits = tt
-    from (Sys a) (u, fits) = sys.from a fits
+    from (Sys a) (u, fits) = credentials.from a fits
     from (RpcsecGss g) (u, fits) = handles.from g fits
 
 parm_lists : Spells (codec.array callback.sec_parms) (array 4294967295 callback_sec_parms4)
@@ -414,18 +356,7 @@ op_from (OpReclaimComplete a) fits = tt
 pub ops : Spells op_codec nfs_argop4
 ops = record { same = op_same; to = op_to; from = op_from }
 
--- the values of a text, by a reader
-abbrev pub read_as : {A : Type 0} → (A → Text) → (List ℕ → Option (A × List ℕ)) → Codec A
-read_as text read = record { spell = λ x. (text x).bytes; Fits = λ x. (text x).Fits; read = read }
-
--- what reads the one reads the other
-pub is_read : {A : Type 0} (c : Codec A) (text : A → Text) → Spells c text → IsCodec c → IsCodec (read_as text c.read)
-is_read c text one is = record {
-  takes = λ bytes x rest fits e. let t = is.takes bytes x rest fits e in (t.0 ∙ ap (λ (w : List ℕ). w ++ rest) (one.same x), t.1, one.to x t.2);
-  again = λ x rest fits. ap (λ (w : List ℕ). c.read (w ++ rest)) (sym (one.same x)) ∙ is.again x rest (one.from x fits);
-}
-
-protections : Spells protected protected4
+pub protections : Spells protected protected4
 unfolding protected
 protections = record { same = λ x. refl; to = to; from = from }
   where

@@ -62,6 +62,14 @@ op_at Ops.ReclaimComplete bytes = arm OpReclaimComplete flag bytes
 abbrev pub op_codec : Codec Op
 op_codec = union_by op_number op_nums spell_op FitsOp op_at
 
+-- What stands at the front of bytes, and what is behind it: an operation ..
+abbrev pub operation_at : List ℕ → Option (Op × List ℕ)
+operation_at bytes = op_codec.read bytes
+
+-- .. and the front of an EXCHANGE_ID that wants a state protection that is not served.
+abbrev pub protected_at : List ℕ → Option ((List ℕ × (List ℕ × (ℕ × ℕ))) × List ℕ)
+protected_at bytes = protected.read bytes
+
 -- Why arguments are refused: EXCHANGE_ID may want a state protection that is not served.
 abbrev pub flaw : OpNum → List ℕ → Status
 flaw Ops.ExchangeId bytes = if is_some (protected.read bytes) then Inval else BadXdr

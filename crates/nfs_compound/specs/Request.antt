@@ -7,7 +7,8 @@ use Rattle.nfs_compound.specs.declared.op_num.OpNum.{OpNum}
 use Rattle.nfs_compound.specs.declared.op_num.OpNum.TheVariants.{ExchangeId}
 use Rattle.nfs_compound.specs.OpNum.{op_number, first_op, last_op, op_illegal}
 use Rattle.nfs_compound.specs.Operation.{Op, Item, Operation, Fault}
-use Rattle.nfs_compound.specs.Wire.{Text, uint32, opaque, protected4, nfs_argop4}
+use Rattle.nfs_xdr.specs.Text.{uint32, opaque, Begins, Lacks}
+use Rattle.nfs_compound.specs.Wire.{protected4, nfs_argop4}
 use Rattle.nfs_compound.specs.Arguments.{arguments}
 
 -- A request: the bytes that it is spelled by, its tag, minor version and declared count, and what is left of its list.
@@ -17,17 +18,6 @@ pub record Request : Type 0 where
   pub minor : ℕ
   pub declared : ℕ
   pub left : List Item
-
--- The text of a value stands at the front of these bytes, with others behind it.
-pub record Begins {A : Type 0} (text : A → Text) (bytes : List ℕ) : Type 0 where
-  pub value : A
-  pub rest : List ℕ
-  pub stands : bytes ≡ (text value).bytes ++ rest
-  pub fits : (text value).Fits
-
--- no such text does
-abbrev pub Lacks : {A : Type 0} → (A → Text) → List ℕ → Type 0
-Lacks text bytes = Begins text bytes → ⊥
 
 -- The tag of at most 1,024 bytes, the minor version and the count stand in front of the body.
 pub record IsHead (bytes tag : List ℕ) (minor declared : ℕ) (body : List ℕ) : Type 0 where

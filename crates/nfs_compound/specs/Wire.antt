@@ -1,12 +1,9 @@
 -- The arguments of the operations on the wire (RFC 8881 sections 3 and 18, RFC 5662): its structs and unions in the order of RFC 8881, each field
 -- under its type, and nfs_argop4 with the fields of each operation on its line.
-use Rattle.std.specs.Prelude.{◌≡◌, ◌≢◌, ℕ, ℤ, ◌<◌, ◌≤◌, ◌^◌, ◌⊎◌, Bool, List, [], ◌++◌, length, Option, Some, None}
-use Rattle.std.specs.Int.{w64, cast_unsigned}
-use Rattle.std.specs.Int.RustNames.{FitsSigned}
-use Rattle.std.specs.List.{flat_map, AllByRecursion}
+use Rattle.std.specs.Prelude.{◌≡◌, ◌≢◌, ℕ, ◌<◌, ◌^◌, ◌⊎◌, List}
 use Rattle.nfs_xdr.specs.Spelling as spelling
-use Rattle.nfs_xdr.specs.Codec.{IsBytes}
-use Rattle.nfs_xdr.specs.Limits.{fhsize, opaque_limit, most_groups, most_machine_name}
+use Rattle.nfs_xdr.specs.Text.{Text, ◌then◌, void, uint32, uint64, bool, enum, fixed, opaque, array, optional, most}
+use Rattle.nfs_xdr.specs.Limits.{fhsize, opaque_limit}
 use Rattle.nfs_compound.specs.declared.stateid.Stateid.{Stateid}
 use Rattle.nfs_compound.specs.declared.channel_attrs.ChannelAttrs.{ChannelAttrs}
 use Rattle.nfs_compound.specs.StateOwner.{StateOwner}
@@ -18,65 +15,11 @@ use Rattle.nfs_compound.specs.OpenArgs.{OpenClaim, Null, Previous, DelegateCur, 
 use Rattle.nfs_compound.specs.FileArgs.{stable_how_number}
 use Rattle.nfs_compound.specs.SessionArgs.{ImplId}
 use Rattle.nfs_compound.specs.Callback.{GssHandles, SecParms, AuthNone, Sys, RpcsecGss}
-use Rattle.nfs_xdr.specs.AuthSys.{AuthSys}
+use Rattle.nfs_xdr.specs.Wire.{authsys_parms, nfstime4}
 use Rattle.nfs_compound.specs.Operation.{Op, OpAccess, OpClose, OpCommit, OpCreate, OpGetAttr, OpGetFh, OpLink, OpLock, OpLockT, OpLockU, OpLookup, OpLookupP}
 use Rattle.nfs_compound.specs.Operation.{OpNVerify, OpOpen, OpOpenDowngrade, OpPutFh, OpPutPubFh, OpPutRootFh, OpRead, OpReadDir, OpReadLink, OpRemove}
 use Rattle.nfs_compound.specs.Operation.{OpRename, OpRestoreFh, OpSaveFh, OpSetAttr, OpVerify, OpWrite, OpExchangeId, OpCreateSession, OpDestroySession}
 use Rattle.nfs_compound.specs.Operation.{OpFreeStateid, OpSecinfoNoName, OpSequence, OpTestStateid, OpDestroyClientId, OpReclaimComplete}
-
--- The bytes of a value, and what holds of the values that have bytes.
-pub record Text : Type 1 where
-  pub bytes : List ℕ
-  pub Fits : Type 0
-
--- The types of RFC 4506.
-
-infixr 6 ◌then◌
-abbrev pub ◌then◌ : Text → Text → Text
-a then b = record { bytes = a.bytes ++ b.bytes; Fits = a.Fits × b.Fits }
-
-abbrev pub void : Text
-void = record { bytes = []; Fits = Unit {0} }
-
-abbrev pub uint32 : ℕ → Text
-uint32 n = record { bytes = spelling.number n; Fits = n < 2 ^ 32 }
-
-abbrev pub uint64 : ℕ → Text
-uint64 n = record { bytes = spelling.hyper n; Fits = n < 2 ^ 64 }
-
-abbrev pub int64 : ℤ → Text
-int64 z = record { bytes = spelling.hyper (cast_unsigned w64 z); Fits = FitsSigned w64 z }
-
-abbrev pub bool : Bool → Text
-bool b = record { bytes = spelling.flag b; Fits = Unit {0} }
-
--- a value of an enum, or the case of a union
-abbrev pub enum : ℕ → Text
-enum k = record { bytes = spelling.number k; Fits = Unit {0} }
-
--- opaque x[size]
-abbrev pub fixed : ℕ → List ℕ → Text
-fixed size x = record { bytes = spelling.fixed x; Fits = (length x ≡ size) × IsBytes x }
-
--- opaque x<limit>
-abbrev pub opaque : ℕ → List ℕ → Text
-opaque limit x = record { bytes = spelling.opaque x; Fits = (length x ≤ limit) × IsBytes x }
-
--- T xs<limit>, where T is the text of each
-abbrev pub array : {A : Type 0} → ℕ → (A → Text) → List A → Text
-array limit text xs = record {
-  bytes = spelling.number (length xs) ++ flat_map (λ x. (text x).bytes) xs;
-  Fits = (length xs ≤ limit) × AllByRecursion (λ x. (text x).Fits) xs;
-}
-
--- T x<1>
-abbrev pub optional : {A : Type 0} → (A → Text) → Option A → Text
-optional text None = enum 0
-optional text (Some x) = enum 1 then text x
-
--- the limit where none is written
-abbrev pub most : ℕ
-most = 4294967295
 
 -- RFC 8881 section 3.
 
@@ -133,7 +76,7 @@ open_claim4 DelegPrevFh = enum 6
 -- RFC 8881 section 18.35. A state protection is SP4_NONE, which is 0.
 
 abbrev pub nfs_impl_id4 : ImplId → Text
-nfs_impl_id4 i = component4 i.domain then component4 i.name then int64 i.date.seconds then uint32 i.date.nanoseconds
+nfs_impl_id4 i = component4 i.domain then component4 i.name then nfstime4 i.date
 
 -- the verifier, owner and flags of an EXCHANGE_ID that wants SP4_MACH_CRED or SP4_SSV, and which of them, with nothing of what it says of that
 abbrev pub protected4 : List ℕ × (List ℕ × (ℕ × ℕ)) → Text
@@ -145,9 +88,6 @@ protected4 (verifier, (ownerid, (flags, how))) = fixed 8 verifier then opaque op
 abbrev pub channel_attrs4 : ChannelAttrs → Text
 channel_attrs4 a = uint32 a.headerpadsize then uint32 a.maxrequestsize then uint32 a.maxresponsesize then uint32 a.maxresponsesize_cached
     then uint32 a.maxoperations then uint32 a.maxrequests then optional uint32 a.rdma_ird
-
-abbrev pub authsys_parms : AuthSys → Text
-authsys_parms a = uint32 a.stamp then opaque most_machine_name a.machinename then uint32 a.uid then uint32 a.gid then array most_groups uint32 a.gids
 
 abbrev pub gss_cb_handles4 : GssHandles → Text
 gss_cb_handles4 g = uint32 g.service then opaque most g.handle_from_server then opaque most g.handle_from_client

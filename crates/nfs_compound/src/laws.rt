@@ -1,23 +1,23 @@
 //! Laws of the grammar of compounds.
 
-ghost use Rattle.std.specs.Prelude.{◌≡◌, ◌↔◌, ℕ, Some};
-ghost use Rattle.nfs_xdr.specs.Lawful.{IsCodec};
+ghost use Rattle.std.specs.Prelude.{◌≡◌, ◌↔◌, ℕ, List, Some};
+ghost use Rattle.nfs_xdr.specs.Text.{IsBytes, Leads};
 ghost use Rattle.nfs_compound.specs.declared.op_num.OpNum.{OpNum};
 ghost use Rattle.nfs_compound.specs.OpNum.{op_num, op_number};
 ghost use Rattle.nfs_compound.specs.Operation.{Op};
 ghost use Rattle.nfs_compound.specs.Arguments.{arguments};
 ghost use Rattle.nfs_compound.specs.OpOf.{op_of};
-ghost use Rattle.nfs_compound.specs.OpCodec.{op_codec};
-ghost use Rattle.nfs_compound.specs.Request.{spell_op, FitsOp};
-ghost use Rattle.nfs_compound.specs.Wire.{nfs_argop4};
+ghost use Rattle.nfs_compound.specs.OpCodec.{operation_at, protected_at};
 ghost use Rattle.nfs_compound.specs.ArgCodecs.{protected};
+ghost use Rattle.nfs_compound.specs.Request.{spell_op, FitsOp};
+ghost use Rattle.nfs_compound.specs.Wire.{protected4, nfs_argop4};
 ghost use Rattle.nfs_compound.specs.Laws.{HasOneReading, HasNoOther, IsOneRequest, ReadsRequests, RefusesGarbage};
 
-/// Each operation is read exactly where it is spelled, and so is an EXCHANGE_ID that wants a state protection that is
+/// Each operation is read exactly where its text of RFC 5662 stands, and so is an EXCHANGE_ID that wants a state protection that is
 /// not served. Each number is its own operation's and no other's.
 pub fn arguments()
-    ensures table { IsCodec op_codec }
-    ensures protected { IsCodec protected }
+    ensures table { (bytes : List ℕ) (x : Op × List ℕ) → IsBytes bytes → operation_at bytes ≡ Some x ↔ Leads nfs_argop4 bytes x }
+    ensures protected { (bytes : List ℕ) (x : (List ℕ × (List ℕ × (ℕ × ℕ))) × List ℕ) → IsBytes bytes → protected_at bytes ≡ Some x ↔ Leads protected4 bytes x }
     ensures own { (op : OpNum) → op_num (op_number op) ≡ Some op }
     ensures none_else { (n : ℕ) (op : OpNum) → op_num n ≡ Some op → n ≡ op_number op }
 {}

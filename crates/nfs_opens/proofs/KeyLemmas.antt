@@ -7,7 +7,7 @@ use Rattle.std.specs.declared.cmp.Ordering.{Ordering}
 use Rattle.std.specs.declared.cmp.Ordering.TheVariants.{Less, Equal, Greater}
 use Rattle.std.specs.Cmp.Lexicographic.{slice_cmp}
 use Rattle.std.proofs.lemmas.Bool.{cases_Bool, cases_lt, eq-eqb, ne_eqb, eqb-true, lt-ltb, le-ltb, and_parts, false≢true}
-use Rattle.nfs_xdr.specs.Codec.{IsBytes}
+use Rattle.nfs_xdr.specs.Text.{IsBytes}
 use Rattle.nfs_xdr.proofs.Lists.{find_none, none_in}
 use Rattle.nfs_opens.proofs.ShareLemmas.{owner_bytes, same_bytes}
 use Rattle.nfs_opens.specs.Keys.{digit, spelled, on_file_of, owner_key}

@@ -2,7 +2,7 @@
 
 ghost use Rattle.std.specs.Prelude.{◌≡◌, ◌==◌, ◌&&◌, bytes_eq};
 ghost use Rattle.std.specs.Ordering.{nat_cmp};
-ghost use Rattle.nfs_xdr.specs.Codec.{IsBytes};
+ghost use Rattle.nfs_xdr.specs.Text.{IsBytes};
 ghost use Rattle.nfs_opens.specs.Keys.{spelled, key_of, on_file_of, owner_key};
 
 use std::cmp::Ordering;

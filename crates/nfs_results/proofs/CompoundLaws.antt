@@ -14,7 +14,7 @@ use Rattle.nfs_results.proofs.ResultLaws.{is_result}
 is_parts : IsCodec parts
 is_parts = is_as_type _ _ _ (λ _. refl) (is_then _ _ is_status (is_then _ _ (is_opaque 1024 (omega arith)) (is_array result is_result)))
 
-same_spelling : (c : CompoundResult) → parts.spell c ≡ spell_compound c
+pub same_spelling : (c : CompoundResult) → parts.spell c ≡ spell_compound c
 same_spelling c =
     let results : List ℕ = flat_map spell_result c.results in
     sym (append_assoc (spelling.number (status_number c.status)) (spelling.opaque c.tag ++ spelling.number (length c.results)) results

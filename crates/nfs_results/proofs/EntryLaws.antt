@@ -6,7 +6,7 @@ use Rattle.std.proofs.lemmas.List.{take_at, length-append}
 use Rattle.std.proofs.lemmas.Option.{same_Some}
 use Rattle.std.proofs.lemmas.Bool.{false≢true}
 use Rattle.nfs_xdr.specs.Reading.{flag_at}
-use Rattle.nfs_xdr.specs.Codec.{IsBytes}
+use Rattle.nfs_xdr.specs.Text.{IsBytes}
 use Rattle.nfs_xdr.specs.Combinators.{passed}
 use Rattle.nfs_xdr.specs.Chain.{spell_chain, chain}
 use Rattle.nfs_xdr.proofs.CodecLaws.{bind_some, is_flag}

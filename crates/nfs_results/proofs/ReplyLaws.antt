@@ -7,7 +7,8 @@ use Rattle.nfs_xdr.proofs.CodecLaws.{test_some}
 use Rattle.std.proofs.lemmas.List.{nil_from_length}
 use Rattle.nfs_xdr.specs.declared.cursor.Unreadable.{Unreadable}
 use Rattle.nfs_xdr.specs.Reading.{◌>>=◌, number_at, opaque_at}
-use Rattle.nfs_xdr.specs.Codec.{IsBytes, many_at}
+use Rattle.nfs_xdr.specs.Codec.{many_at}
+use Rattle.nfs_xdr.specs.Text.{IsBytes}
 use Rattle.nfs_results.specs.Result.{Res}
 use Rattle.nfs_xdr.specs.declared.status.Status.{Status}
 use Rattle.nfs_xdr.specs.StatusCodec.{status}

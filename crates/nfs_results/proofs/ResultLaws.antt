@@ -9,7 +9,8 @@ use Rattle.nfs_xdr.specs.declared.status.Status.{Status}
 use Rattle.nfs_xdr.specs.declared.status.Status.TheVariants.{Nfs4Ok, Denied}
 use Rattle.nfs_xdr.specs.Status.{status_number}
 use Rattle.nfs_xdr.specs.StatusCodec.{status_of, status}
-use Rattle.nfs_xdr.specs.Codec.{Codec, IsBytes, opaque, unbounded, arm}
+use Rattle.nfs_xdr.specs.Codec.{Codec, opaque, unbounded, arm}
+use Rattle.nfs_xdr.specs.Text.{IsBytes}
 use Rattle.nfs_xdr.specs.Lawful.{IsCodec}
 use Rattle.nfs_xdr.specs.Combinators.{fixed}
 use Rattle.nfs_xdr.proofs.CodecLaws.{bind_some, test_some, chosen, taken_at, arm_takes, is_number, is_fixed, is_opaque, is_unbounded}

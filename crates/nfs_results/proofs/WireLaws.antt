@@ -22,11 +22,13 @@ use Rattle.nfs_compound.specs.Stateid.{stateid}
 use Rattle.nfs_compound.specs.StateOwner.{state_owner}
 use Rattle.nfs_compound.specs.ArgCodecs.{lock_type, stable_how}
 use Rattle.nfs_compound.specs.FileArgs.{stable_how_number}
-use Rattle.nfs_compound.specs.Wire.{Text, ◌then◌, void, uint32, bool, enum, fixed, opaque, array, most, channel_attrs4}
-use Rattle.nfs_compound.proofs.WireLaws.{Spells, all_fit, arrays, numbers, owners, ids, channels}
+use Rattle.nfs_xdr.specs.Text.{Text, ◌then◌, void, uint32, bool, enum, fixed, opaque, array, most}
+use Rattle.nfs_xdr.proofs.TextLaws.{Spells, all_fit, arrays, numbers}
+use Rattle.nfs_compound.specs.Wire.{channel_attrs4}
+use Rattle.nfs_compound.proofs.WireLaws.{owners, ids, channels}
 use Rattle.nfs_results.specs.Items as item
 use Rattle.nfs_results.specs.Items.{is_trimmed, are_statuses}
-use Rattle.nfs_results.specs.Result.{Entry, Res, ResAccess, ResClose, ResCommit, ResCreate, ResGetAttr, ResGetFh, ResLink, ResLock, ResLockDenied, ResLockT}
+use Rattle.nfs_results.specs.Result.{Entry, Fattr, Res, ResAccess, ResClose, ResCommit, ResCreate, ResGetAttr, ResGetFh, ResLink, ResLock, ResLockDenied, ResLockT}
 use Rattle.nfs_results.specs.Result.{ResLockTDenied, ResLockU, ResLookup, ResLookupP, ResNVerify, ResOpen, ResOpenDowngrade, ResPutFh, ResPutPubFh}
 use Rattle.nfs_results.specs.Result.{ResPutRootFh, ResRead, ResReadDir, ResReadLink, ResRemove, ResRename, ResRestoreFh, ResSaveFh, ResSetAttr, ResVerify}
 use Rattle.nfs_results.specs.Result.{ResWrite, ResExchangeId, ResCreateSession, ResDestroySession, ResFreeStateid, ResSecinfoNoName, ResSequence}
@@ -34,7 +36,11 @@ use Rattle.nfs_results.specs.Result.{ResTestStateid, ResDestroyClientId, ResRecl
 use Rattle.nfs_results.specs.Parts.{is_legal, parts}
 use Rattle.nfs_results.specs.Straight.{entry_text}
 use Rattle.nfs_results.proofs.ResultLaws.{same_status}
-use Rattle.nfs_results.specs.Wire.{nfsstat4, bitmap4, fattr4, change_info4, lock4denied, open4resok, entry4, entries4, exchange_id4resok, Resop, ends, nfs_resop4}
+use Rattle.nfs_results.proofs.CompoundLaws.{same_spelling}
+use Rattle.nfs_results.specs.Results.{spell_result}
+use Rattle.nfs_results.specs.ResultCodec.{result}
+use Rattle.nfs_results.specs.CompoundResult.{compound_result}
+use Rattle.nfs_results.specs.Wire.{nfsstat4, bitmap4, fattr4, change_info4, lock4denied, open4resok, entry4, entries4, exchange_id4resok, Resop, ends, nfs_resop4, result4, compound4res}
 
 -- The items.
 
@@ -284,3 +290,28 @@ entry_is e =
     let attributes : List ℕ = (fattr4 e.attrs).bytes in
     append_assoc (flag true) (hyper e.cookie ++ spelling.opaque e.name) attributes
     ∙ ap (λ (w : List ℕ). flag true ++ w) (append_assoc (hyper e.cookie) (spelling.opaque e.name) attributes)
+
+-- a result, and a compound's result
+pub results : Spells result result4
+results = record { same = same; to = λ r fits. (tt, (tt, (says r).to fits)); from = λ r (u, (v, fits)). (says r).from fits }
+  where
+    same : (r : Res) → spell_result r ≡ (result4 r).bytes
+    same r =
+        let s = says r in
+        append_assoc (spelling.number (parts r).operation) (spelling.number (status_number (parts r).status)) (parts r).behind
+        ∙ ap (λ (n : ℕ). spelling.number n ++ (spelling.number (status_number (parts r).status) ++ (parts r).behind)) s.operation_is
+        ∙ ap (λ (x : Status). spelling.number (nfs_resop4 r).operation ++ (spelling.number (status_number x) ++ (parts r).behind)) s.status_is
+        ∙ ap (λ (w : List ℕ). spelling.number (nfs_resop4 r).operation ++ (spelling.number (status_number (nfs_resop4 r).status) ++ w)) s.behind_is
+
+result_lists : Spells (codec.array result) (array most result4)
+result_lists = arrays result result4 results
+
+pub compounds : Spells compound_result compound4res
+compounds = record {
+  same = λ c. sym (same_spelling c) ∙ ap (λ (w : List ℕ). spelling.number (status_number c.status) ++ (spelling.opaque c.tag ++ w)) (result_lists.same c.results);
+  to = λ c (e, (u, (tag, all))). (tt, (tag, result_lists.to c.results all));
+  from = λ c (u, (tag, all)). (refl, (tt, (tag, result_lists.from c.results all)));
+}
+
+pub attributes_told : (f : Fattr) → item.fattr.spell f ≡ (fattr4 f).bytes
+attributes_told = attrs.same

@@ -1,5 +1,5 @@
 -- The result of a compound (RFC 8881 section 16.2.2): its status, the tag of its call and the results of the operations that were run.
-use Rattle.std.specs.Prelude.{◌≡◌, ℕ, List, ◌++◌, length}
+use Rattle.std.specs.Prelude.{◌≡◌, ℕ, List, ◌++◌, length, Option}
 use Rattle.std.specs.List.{flat_map}
 use Rattle.nfs_xdr.specs.Limits.{opaque_limit}
 use Rattle.nfs_xdr.specs.Codec as codec
@@ -25,6 +25,13 @@ parts = as_type (λ (status, (tag, results)). record { status = status; tag = ta
 
 abbrev pub compound_result : Codec CompoundResult
 compound_result = record { spell = spell_compound; Fits = parts.Fits; read = parts.read }
+
+-- What stands at the front of bytes, and what is behind it: the result of a compound, and one of its results.
+abbrev pub compound_result_at : List ℕ → Option (CompoundResult × List ℕ)
+compound_result_at bytes = compound_result.read bytes
+
+abbrev pub result_at : List ℕ → Option (Res × List ℕ)
+result_at bytes = result.read bytes
 
 -- The bytes are the spelling of a compound's result and nothing else.
 abbrev pub IsReply : List ℕ → CompoundResult → Type 0

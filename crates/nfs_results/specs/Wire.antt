@@ -7,8 +7,8 @@ use Rattle.nfs_xdr.specs.declared.status.Status.TheVariants.{Nfs4Ok, Denied, OpI
 use Rattle.nfs_xdr.specs.Status.{status_number}
 use Rattle.nfs_compound.specs.LockArgs.{lock_type_number}
 use Rattle.nfs_compound.specs.FileArgs.{stable_how_number}
-use Rattle.nfs_compound.specs.Wire.{Text, ◌then◌, void, uint32, uint64, bool, enum, fixed, opaque, array, optional, most, component4, state_owner4}
-use Rattle.nfs_compound.specs.Wire.{stateid4, nfs_impl_id4, channel_attrs4}
+use Rattle.nfs_xdr.specs.Text.{Text, ◌then◌, void, uint32, uint64, bool, enum, fixed, opaque, array, optional, most}
+use Rattle.nfs_compound.specs.Wire.{component4, state_owner4, stateid4, nfs_impl_id4, channel_attrs4}
 use Rattle.nfs_results.specs.declared.res.ChangeInfo.{ChangeInfo}
 use Rattle.nfs_results.specs.Result as result
 use Rattle.nfs_results.specs.Result.{Fattr, Entry, Res, ResAccess, ResClose, ResCommit, ResCreate, ResGetAttr, ResGetFh, ResLink, ResLock, ResLockDenied, ResLockT}
@@ -17,6 +17,7 @@ use Rattle.nfs_results.specs.Result.{ResPutRootFh, ResRead, ResReadDir, ResReadL
 use Rattle.nfs_results.specs.Result.{ResWrite, ResExchangeId, ResCreateSession, ResDestroySession, ResFreeStateid, ResSecinfoNoName, ResSequence}
 use Rattle.nfs_results.specs.Result.{ResTestStateid, ResDestroyClientId, ResReclaimComplete, Refused}
 use Rattle.nfs_results.specs.Refusals.{can_refuse}
+use Rattle.nfs_results.specs.CompoundResult.{CompoundResult}
 
 -- the text of those values alone of which this holds too
 infixl 5 ◌provided◌
@@ -71,6 +72,9 @@ pub record Resop : Type 1 where
   pub status : Status
   pub behind : Text
 
+abbrev pub text_of : Resop → Text
+text_of r = enum r.operation then enum (status_number r.status) then r.behind
+
 abbrev pub ends : ℕ → Status → Text → Resop
 ends operation status text = record { operation = operation; status = status; behind = text }
 
@@ -120,3 +124,11 @@ nfs_resop4 (ResTestStateid codes) = ends 55 Nfs4Ok (array most nfsstat4 codes)
 nfs_resop4 ResDestroyClientId = ends 57 Nfs4Ok void
 nfs_resop4 ResReclaimComplete = ends 58 Nfs4Ok void
 nfs_resop4 (Refused operation status) = ends operation status (void provided IsTrue (can_refuse operation status))
+
+-- A result, and the result of a compound (RFC 8881 section 16.2.2): its status, the tag of its call and the results of the operations that were run.
+
+abbrev pub result4 : Res → Text
+result4 r = text_of (nfs_resop4 r)
+
+abbrev pub compound4res : CompoundResult → Text
+compound4res c = enum (status_number c.status) then opaque opaque_limit c.tag then array most result4 c.results

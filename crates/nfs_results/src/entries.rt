@@ -3,7 +3,7 @@
 ghost use Rattle.std.specs.Prelude.{◌≡◌, [], ◌∷◌, Some, None, MatchOption, length};
 ghost use Rattle.nfs_xdr.specs.SheetState.{HasRoom, Puts};
 ghost use Rattle.nfs_xdr.specs.Chain.{chain};
-ghost use Rattle.nfs_xdr.specs.Codec.{IsBytes};
+ghost use Rattle.nfs_xdr.specs.Text.{IsBytes};
 ghost use Rattle.nfs_xdr.specs.Combinators.{passed};
 ghost use Rattle.nfs_xdr.specs.Readers.{ReadsPartBy};
 ghost use Rattle.nfs_results.specs.Items as table;

@@ -1,20 +1,17 @@
 //! Laws of the table of results (RFC 5662).
 
-ghost use Rattle.nfs_xdr.specs.Lawful.{IsCodec, IsPrefixFree};
-ghost use Rattle.nfs_results.specs.ResultCodec as table;
-ghost use Rattle.nfs_results.specs.CompoundResult as whole;
-ghost use Rattle.std.specs.Prelude.{◌≡◌, ◌↔◌, ◌+◌, ◌++◌, ℕ, List, length, true};
+ghost use Rattle.nfs_results.specs.CompoundResult.{CompoundResult, result_at, compound_result_at};
+ghost use Rattle.std.specs.Prelude.{◌≡◌, ◌↔◌, ◌+◌, ◌++◌, ℕ, List, Some, length, true};
 ghost use Rattle.std.specs.List.{flat_map};
 ghost use Rattle.nfs_xdr.specs.Spelling.{number, padding};
 ghost use Rattle.nfs_xdr.specs.declared.status.Status.{Status};
-ghost use Rattle.nfs_compound.specs.Wire.{◌then◌, bool};
+ghost use Rattle.nfs_xdr.specs.Text.{IsBytes, ◌then◌, bool, Leads, BeginsNoOther};
 ghost use Rattle.nfs_compound.specs.declared.op_num.OpNum.TheVariants as Op;
-ghost use Rattle.nfs_results.specs.Items as item;
 ghost use Rattle.nfs_results.specs.Result.{Entry, Fattr, ReadOk, ReadDirOk, Res, ResGetAttr, ResRead, ResReadDir, ResTestStateid};
 ghost use Rattle.nfs_results.specs.Results.{spell_result, spell_compound_head, done_head};
 ghost use Rattle.nfs_results.specs.Parts.{parts};
 ghost use Rattle.nfs_results.specs.Straight.{read_head, read_end, read_dir_head, entry_text, list_end, test_stateid_head};
-ghost use Rattle.nfs_results.specs.Wire.{entry4, nfs_resop4};
+ghost use Rattle.nfs_results.specs.Wire.{fattr4, entry4, nfs_resop4, result4, compound4res};
 
 /// Each result has the operation's number, the status and the bytes behind them that its structs and unions of RFC 5662 have, and what has a
 /// spelling is just what fits there.
@@ -30,19 +27,19 @@ pub fn entries()
     ensures { (e : Entry) → entry_text e ≡ (bool true then entry4 e).bytes }
 {}
 
-/// Each result, and each compound's result, is read exactly where it is spelled, and none begins another.
+/// Each result, and each compound's result, is read exactly where its text stands, and none begins another.
 pub fn results()
-    ensures results { IsCodec table.result }
-    ensures compounds { IsCodec whole.compound_result }
-    ensures result_ends { IsPrefixFree table.result }
-    ensures compound_ends { IsPrefixFree whole.compound_result }
+    ensures results { (bytes : List ℕ) (x : Res × List ℕ) → IsBytes bytes → result_at bytes ≡ Some x ↔ Leads result4 bytes x }
+    ensures compounds { (bytes : List ℕ) (x : CompoundResult × List ℕ) → IsBytes bytes → compound_result_at bytes ≡ Some x ↔ Leads compound4res bytes x }
+    ensures result_ends { BeginsNoOther result4 }
+    ensures compound_ends { BeginsNoOther compound4res }
 {}
 
 /// The parts that are put straight from where bytes are kept make up their results.
 pub fn parts()
     ensures read { (r : ReadOk) → spell_result (ResRead r) ≡ read_head r.eof (length r.bytes) ++ (r.bytes ++ read_end (length r.bytes)) }
     ensures listed { (r : ReadDirOk) → spell_result (ResReadDir r) ≡ read_dir_head r.cookieverf ++ (flat_map entry_text r.entries ++ list_end r.eof) }
-    ensures attributes { (f : Fattr) → spell_result (ResGetAttr f) ≡ done_head Op.GetAttr ++ item.fattr.spell f }
+    ensures attributes { (f : Fattr) → spell_result (ResGetAttr f) ≡ done_head Op.GetAttr ++ (fattr4 f).bytes }
     ensures codes { (codes : List ℕ) → spell_result (ResTestStateid codes) ≡ test_stateid_head (length codes) ++ flat_map number codes }
 {}
 

@@ -1,7 +1,7 @@
 -- Each stream of bytes has a reading.
 use Rattle.std.proofs.Common.{◌≡◌, ℕ, List, [], ◌∷◌, ◌++◌, length, refl, sym, subst, append_assoc, inl, inr, arith}
 use Rattle.std.proofs.lemmas.List.{append-nil, take_at}
-use Rattle.nfs_xdr.specs.Codec.{IsBytes}
+use Rattle.nfs_xdr.specs.Text.{IsBytes}
 use Rattle.nfs_xdr.proofs.CodecLaws.{IsBytes-take}
 use Rattle.nfs_rpc.specs.RecordMarking.{Part, IsPart, Gathered, Begun, Complete, Failed, start}
 use Rattle.nfs_rpc.specs.Feeding.{Holds}

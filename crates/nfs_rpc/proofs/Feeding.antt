@@ -5,7 +5,7 @@ use Rattle.std.specs.Int.{w32, from_be_bytes}
 use Rattle.std.proofs.lemmas.List.{take-append-drop, take-take, drop-take, take_all, take_at, drop_at, length-take, length-drop, length-append}
 use Rattle.std.proofs.lemmas.Nat.{be_bytes_4, from_be_bytes-to_be_bytes_4}
 use Rattle.nfs_xdr.specs.Spelling.{number}
-use Rattle.nfs_xdr.specs.Codec.{IsBytes}
+use Rattle.nfs_xdr.specs.Text.{IsBytes}
 use Rattle.nfs_xdr.proofs.Putting.{length_number}
 use Rattle.nfs_xdr.proofs.CodecLaws.{IsBytes-take}
 use Rattle.nfs_rpc.specs.RecordMarking.{Gathered, Begun, IsPart, IsRecord, start, spell_mark, fragments}

@@ -1,12 +1,12 @@
 -- The codecs of a call's head read what they spell, and what is accepted is spelled so.
 use Rattle.std.proofs.Common.{◌≡◌, ℕ, ◌<◌, ◌^◌, Bool, true, false, not, List, [], ◌∷◌, ◌++◌, length, Option, Some, None, Result, Ok, Err, refl, sym}
 use Rattle.std.proofs.Common.{ap, ◌∙◌, append_assoc, arith}
-use Rattle.std.specs.Prelude.{nat_le, option_and_then, ok_or, ◌==◌, if◌then◌else◌}
+use Rattle.std.specs.Prelude.{◌↔◌, nat_le, option_and_then, ok_or, ◌==◌, if◌then◌else◌}
 use Rattle.std.specs.Int.{w32, from_be_bytes}
 use Rattle.std.proofs.lemmas.Bool.{eqb-true}
 use Rattle.std.proofs.lemmas.List.{append-nil}
 use Rattle.std.proofs.lemmas.Option.{same_Some}
-use Rattle.nfs_xdr.specs.Codec.{IsBytes, number}
+use Rattle.nfs_xdr.specs.Codec.{number}
 use Rattle.nfs_xdr.specs.Lawful.{IsCodec, IsSized}
 use Rattle.nfs_xdr.specs.Checks.{first_fault, judged}
 use Rattle.nfs_xdr.proofs.CodecLaws.{test_some, is_number, is_opaque, is_then, is_as_type, is_only, is_led_by, is_pieces}
@@ -14,9 +14,14 @@ use Rattle.nfs_rpc.specs.declared.refusal.Refusal.{Refusal}
 use Rattle.nfs_rpc.specs.declared.refusal.Refusal.TheVariants.{Silent}
 use Rattle.nfs_rpc.specs.declared.call.Procedure.{Procedure}
 use Rattle.nfs_xdr.specs.Caller.{Caller}
-use Rattle.nfs_rpc.specs.CallHead.{opaque_auth, Header, header, named_by, caller_of, caller_by, Call, Called, Accepted, Refused}
 use Rattle.nfs_xdr.specs.AuthSys.{AuthSys, auth_sys}
-use Rattle.nfs_rpc.specs.CallHead.{◌>>=◌, message, checks, behind_header, call_of, spell_call}
+use Rattle.nfs_xdr.specs.Text.{IsBytes, Leads}
+use Rattle.nfs_xdr.specs.Wire.{authsys_parms}
+use Rattle.nfs_xdr.proofs.TextLaws.{Spells, credentials, leads_from, leads_again}
+use Rattle.nfs_rpc.specs.Wire as wire
+use Rattle.nfs_rpc.specs.Wire.{Header, call_body, rpc_msg}
+use Rattle.nfs_rpc.specs.HeadCodec.{opaque_auth, header, message, spell_call, message_at, header_at, auth_sys_at}
+use Rattle.nfs_rpc.specs.CallHead.{named_by, caller_of, caller_by, Call, Called, Accepted, Refused, ◌>>=◌, checks, behind_header, call_of}
 
 pub is_opaque_auth : IsCodec opaque_auth
 unfolding opaque_auth
@@ -119,3 +124,54 @@ body_taken body who fits e =
     let s = named_some (auth_sys.read body) who e in
     let t = is_auth_sys.takes body s.0 [] fits s.1 in
     (s.0, t.2, t.0 ∙ append-nil (auth_sys.spell s.0), sym s.2)
+
+-- The same by the wire's text.
+
+auths : Spells opaque_auth wire.opaque_auth
+unfolding opaque_auth
+auths = record { same = λ a. refl; to = λ a (e, fits). fits; from = λ a fits. (refl, fits) }
+
+pub messages : Spells message rpc_msg
+messages = record { same = λ m. refl; to = λ m (xid, vers). (xid, (tt, vers)); from = λ m (xid, (u, vers)). (xid, vers) }
+
+pub headers : Spells header call_body
+unfolding header opaque_auth
+headers = record {
+  same = λ h. refl;
+  to = λ h (e, (prog, (vers, (proc, (cred, verf))))). (prog, (vers, (proc, (auths.to h.credential cred, auths.to h.verifier verf))));
+  from = λ h (prog, (vers, (proc, (cred, verf)))). (refl, (prog, (vers, (proc, (auths.from h.credential cred, auths.from h.verifier verf)))));
+}
+
+pub message_leads : (bytes : List ℕ) (x : (ℕ × ℕ) × List ℕ) → IsBytes bytes → message_at bytes ≡ Some x ↔ Leads rpc_msg bytes x
+message_leads bytes x fits = (leads_from message rpc_msg messages is_message bytes x fits, leads_again message rpc_msg messages is_message bytes x)
+
+pub header_leads : (bytes : List ℕ) (x : Header × List ℕ) → IsBytes bytes → header_at bytes ≡ Some x ↔ Leads call_body bytes x
+header_leads bytes x fits = (leads_from header call_body headers is_header bytes x fits, leads_again header call_body headers is_header bytes x)
+
+pub auth_sys_leads : (bytes : List ℕ) (x : AuthSys × List ℕ) → IsBytes bytes → auth_sys_at bytes ≡ Some x ↔ Leads authsys_parms bytes x
+auth_sys_leads bytes x fits =
+    (leads_from auth_sys authsys_parms credentials is_auth_sys bytes x fits, leads_again auth_sys authsys_parms credentials is_auth_sys bytes x)
+
+pub call_text : (xid : ℕ) (h : Header) (args : List ℕ) → spell_call xid h args ≡ (wire.call xid h).bytes ++ args
+call_text xid h args =
+    sym (append_assoc (message.spell (xid, 2)) (call_body h).bytes args
+    ∙ ap (λ (w : List ℕ). message.spell (xid, 2) ++ (w ++ args)) (sym (headers.same h))
+    ∙ spelled_call xid h args)
+
+pub text_judged : (xid : ℕ) (h : Header) (args : List ℕ) → (wire.call xid h).Fits → call_of ((wire.call xid h).bytes ++ args) ≡ behind_header xid h args
+text_judged xid h args ((small, two), fits) = ap call_of (sym (call_text xid h args)) ∙ call_judged xid h args small (headers.from h fits)
+
+pub text_taken : (bytes : List ℕ) (c : Call) → IsBytes bytes → call_of bytes ≡ Accepted c
+    → (h : Header) × Leads (wire.call c.xid) bytes (h, c.args) × (behind_header c.xid h c.args ≡ Accepted c)
+text_taken bytes c fits e =
+    let t = call_taken bytes c fits e in
+    (t.0, (t.3 ∙ call_text c.xid t.0 c.args, ((t.1, (tt, omega arith)), headers.to t.0 t.2)), t.4)
+
+pub text_named : (s : AuthSys) → (authsys_parms s).Fits → caller_of (authsys_parms s).bytes ≡ Some (named_by s)
+text_named s fits = ap caller_of (sym (credentials.same s)) ∙ body_named s (credentials.from s fits)
+
+pub text_body : (body : List ℕ) (who : Caller) → IsBytes body → caller_of body ≡ Some who
+    → (s : AuthSys) × (authsys_parms s).Fits × (body ≡ (authsys_parms s).bytes) × (who ≡ named_by s)
+text_body body who fits e =
+    let t = body_taken body who fits e in
+    (t.0, credentials.to t.0 t.1, t.2 ∙ credentials.same t.0, t.3)

@@ -6,7 +6,7 @@ use Rattle.std.proofs.lemmas.Bool.{cases_eq, ltb-true, ltb-false, eqb-true, eqb-
 use Rattle.std.proofs.lemmas.List.{append-nil, length-append}
 use Rattle.std.proofs.lemmas.Nat.{be_bytes_4}
 use Rattle.nfs_xdr.specs.Spelling.{number}
-use Rattle.nfs_xdr.specs.Codec.{IsBytes}
+use Rattle.nfs_xdr.specs.Text.{IsBytes}
 use Rattle.nfs_rpc.specs.RecordMarking.{spell_mark, fragments, joined, Part, IsBetween, IsInside, IsPart, Begun, Complete, Failed}
 use Rattle.nfs_rpc.specs.Feeding.{Holds}
 use Rattle.nfs_xdr.specs.Limits.{most_record}

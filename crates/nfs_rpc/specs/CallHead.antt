@@ -1,39 +1,18 @@
 -- The head of a call (RFC 5531 sections 8.2 and 9, appendix A): from the bytes of a record to the call, or to the first refusal
 -- by this server's order of checks.
-use Rattle.std.specs.Prelude.{ℕ, ◌==◌, ◌&&◌, List, [], ◌∷◌, ◌++◌, length, Bool, Option, Some, None, Result, Ok, Err, nat_lt, if◌then◌else◌, not}
+use Rattle.std.specs.Prelude.{ℕ, ◌==◌, ◌&&◌, List, [], ◌∷◌, length, Bool, Option, Some, None, Result, Ok, Err, nat_lt, if◌then◌else◌, not}
 use Rattle.std.specs.Prelude.{option_and_then, ok_or}
 use Rattle.nfs_xdr.specs.Caller.{Caller}
-use Rattle.nfs_xdr.specs.Codec.{Codec, number, opaque, ◌then◌, as_type, led_by}
 use Rattle.nfs_xdr.specs.Checks.{first_fault, judged}
-use Rattle.nfs_xdr.specs.AuthSys.{AuthSys, auth_sys}
+use Rattle.nfs_xdr.specs.AuthSys.{AuthSys}
+use Rattle.nfs_rpc.specs.Wire.{OpaqueAuth, Header}
+use Rattle.nfs_rpc.specs.HeadCodec.{message_at, header_at, auth_sys_at}
 use Rattle.nfs_rpc.specs.declared.refusal.Refusal.{Refusal}
 use Rattle.nfs_rpc.specs.declared.refusal.Refusal.TheVariants.{Silent, Mismatch, Auth, Accept}
 use Rattle.nfs_rpc.specs.declared.refusal.AuthStat.TheVariants.{BadCred, RejectedCred, TooWeak}
 use Rattle.nfs_rpc.specs.declared.refusal.AcceptStat.TheVariants.{ProgUnavail, ProgMismatch, ProcUnavail, GarbageArgs}
 use Rattle.nfs_rpc.specs.declared.call.Procedure.{Procedure}
 use Rattle.nfs_rpc.specs.declared.call.Procedure.TheVariants as Procedures
-
--- a credential or a verifier: how it is to be understood, and its bytes (RFC 5531 section 8.2)
-pub record OpaqueAuth : Type 0 where
-  pub flavor : ℕ
-  pub body : List ℕ
-
-unfoldable pub opaque_auth : Codec OpaqueAuth
-opaque_auth = as_type (λ (flavor, body). record { flavor = flavor; body = body }) (λ a. (a.flavor, a.body)) (number then opaque 400)
-
--- what stands behind the version of RPC (RFC 5531 section 9)
-pub record Header : Type 0 where
-  pub program : ℕ
-  pub version : ℕ
-  pub procedure : ℕ
-  pub credential : OpaqueAuth
-  pub verifier : OpaqueAuth
-
-unfoldable pub header : Codec Header
-header = as_type
-    (λ (prog, (vers, (proc, (cred, verf)))). record { program = prog; version = vers; procedure = proc; credential = cred; verifier = verf })
-    (λ h. (h.program, (h.version, (h.procedure, (h.credential, h.verifier)))))
-    (number then number then number then opaque_auth then opaque_auth)
 
 -- under AUTH_NONE
 abbrev pub nobody : Caller
@@ -45,7 +24,7 @@ named_by s = record { uid = s.uid; gid = s.gid; gids = s.gids }
 
 -- under AUTH_SYS, where the body is spelled so and nothing stands behind it
 unfoldable pub caller_of : List ℕ → Option Caller
-caller_of body = option_and_then (λ (s, rest). if length rest == 0 then Some (named_by s) else None) (auth_sys.read body)
+caller_of body = option_and_then (λ (s, rest). if length rest == 0 then Some (named_by s) else None) (auth_sys_at body)
 
 -- Who calls by a credential: AUTH_NONE 0, whose body is not looked at, or AUTH_SYS 1. No other flavor is known.
 abbrev pub caller_by : ℕ → OpaqueAuth → Result Caller Refusal
@@ -87,18 +66,10 @@ behind_header xid h args = do
   _ ← judged (first_fault (checks xid h args))
   Accepted (record { xid = xid; procedure = if h.procedure == 0 then Procedures.Null else Procedures.Compound; who = who; args = args })
 
--- the xid of a message whose type is CALL 0, and its version of RPC
-abbrev pub message : Codec (ℕ × ℕ)
-message = number then led_by 0 number
-
 -- The call, or the first refusal.
 unfoldable pub call_of : List ℕ → Called
 call_of bytes = do
-  ((xid, rpcvers), behind) ← ok_or (message.read bytes) Silent
+  ((xid, rpcvers), behind) ← ok_or (message_at bytes) Silent
   _ ← judged (first_fault ((not (rpcvers == 2), Mismatch xid) ∷ []))
-  (h, args) ← ok_or (header.read behind) Silent
+  (h, args) ← ok_or (header_at behind) Silent
   behind_header xid h args
-
--- the bytes of a call of RPC version 2, whose message type is CALL 0
-abbrev pub spell_call : ℕ → Header → List ℕ → List ℕ
-spell_call xid h args = number.spell xid ++ (number.spell 0 ++ (number.spell 2 ++ (header.spell h ++ args)))

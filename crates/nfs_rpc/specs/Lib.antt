@@ -2,6 +2,8 @@ pub mod RecordMarking
 pub mod Stream
 pub mod Feeding
 pub mod Share
+pub mod Wire
+pub mod HeadCodec
 pub mod CallHead
 pub mod View
 pub mod Reply

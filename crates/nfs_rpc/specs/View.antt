@@ -5,13 +5,14 @@ use Rattle.nfs_rpc.specs.declared.call.Call as rust_call
 use Rattle.nfs_rpc.specs.declared.call.OpaqueAuth as rust_opaque_auth
 use Rattle.nfs_rpc.specs.declared.call.Header as rust_header
 use Rattle.nfs_rpc.specs.declared.refusal.Refusal.{Refusal}
+use Rattle.nfs_rpc.specs.Wire as wire
 use Rattle.nfs_rpc.specs.CallHead as head
 use Rattle.nfs_rpc.specs.CallHead.{Called, Accepted, Refused}
 
-abbrev pub opaque_auth : rust_opaque_auth.OpaqueAuth → head.OpaqueAuth
+abbrev pub opaque_auth : rust_opaque_auth.OpaqueAuth → wire.OpaqueAuth
 opaque_auth a = record { flavor = a.flavor; body = a.body.now }
 
-abbrev pub header : rust_header.Header → head.Header
+abbrev pub header : rust_header.Header → wire.Header
 header h = record {
   program = h.program;
   version = h.version;

@@ -1,15 +1,17 @@
-//! Laws of the streams, and of the codecs of a call's head.
+//! Laws of the streams, and of a call's head.
 
-ghost use Rattle.std.specs.Prelude.{◌≡◌, ◌<◌, ◌≤◌, ◌^◌, ◌++◌, ◌∷◌, List, [], ℕ, Some, length, take, drop};
-ghost use Rattle.nfs_xdr.specs.Codec.{IsBytes};
-ghost use Rattle.nfs_xdr.specs.Lawful.{IsCodec};
+ghost use Rattle.std.specs.Prelude.{◌≡◌, ◌↔◌, ◌≤◌, ◌++◌, ◌∷◌, List, [], ℕ, Some, length, take, drop};
 ghost use Rattle.nfs_rpc.specs.RecordMarking.{IsRecord, IsTooLong, Part, IsPart, start};
 ghost use Rattle.nfs_rpc.specs.Stream.{IsUnfinished, End, Open, TooLong, IsReading};
 ghost use Rattle.nfs_rpc.specs.declared.refusal.Refusal.{Refusal};
 ghost use Rattle.nfs_rpc.specs.Reply.{spell_head, spell_refusal};
 ghost use Rattle.nfs_xdr.specs.Caller.{Caller};
-ghost use Rattle.nfs_rpc.specs.CallHead.{Header, header, named_by, caller_of, Call, Accepted, behind_header, call_of, spell_call};
-ghost use Rattle.nfs_xdr.specs.AuthSys.{AuthSys, auth_sys};
+ghost use Rattle.nfs_rpc.specs.CallHead.{named_by, caller_of, Call, Accepted, behind_header, call_of};
+ghost use Rattle.nfs_rpc.specs.HeadCodec.{message_at, header_at, auth_sys_at};
+ghost use Rattle.nfs_rpc.specs.Wire.{Header, call_body, rpc_msg, call};
+ghost use Rattle.nfs_xdr.specs.AuthSys.{AuthSys};
+ghost use Rattle.nfs_xdr.specs.Text.{IsBytes, Leads};
+ghost use Rattle.nfs_xdr.specs.Wire.{authsys_parms};
 
 /// One stream is read into records in one way, however it is cut into pieces.
 pub fn one_reading()
@@ -39,16 +41,17 @@ pub fn lengths()
     ensures refusal { (refusal : Refusal) → length (spell_refusal refusal) ≤ 32 }
 {}
 
-/// The head of a call is judged exactly where it is spelled, and a call that is accepted is spelled so.
+/// The readers give what stands at the front as the wire's text has it. A head that stands there is judged, and a call that is accepted has one.
 pub fn heads()
-    ensures header { IsCodec header }
-    ensures judged { (xid : ℕ) (h : Header) (args : List ℕ) → xid < 2 ^ 32 → header.Fits h → call_of (spell_call xid h args) ≡ behind_header xid h args }
-    ensures accepted { (bytes : List ℕ) (c : Call) → IsBytes bytes → call_of bytes ≡ Accepted c → (h : Header) × (c.xid < 2 ^ 32) × header.Fits h × (bytes ≡ spell_call c.xid h c.args) × (behind_header c.xid h c.args ≡ Accepted c) }
+    ensures message { (bytes : List ℕ) (x : (ℕ × ℕ) × List ℕ) → IsBytes bytes → message_at bytes ≡ Some x ↔ Leads rpc_msg bytes x }
+    ensures header { (bytes : List ℕ) (x : Header × List ℕ) → IsBytes bytes → header_at bytes ≡ Some x ↔ Leads call_body bytes x }
+    ensures judged { (xid : ℕ) (h : Header) (args : List ℕ) → (call xid h).Fits → call_of ((call xid h).bytes ++ args) ≡ behind_header xid h args }
+    ensures accepted { (bytes : List ℕ) (c : Call) → IsBytes bytes → call_of bytes ≡ Accepted c → (h : Header) × Leads (call c.xid) bytes (h, c.args) × (behind_header c.xid h c.args ≡ Accepted c) }
 {}
 
-/// The body of AUTH_SYS names a caller exactly where it is spelled.
+/// The parameters of AUTH_SYS are read as the wire's text has them, and a body names a caller exactly where it is that text.
 pub fn auth_sys_bodies()
-    ensures auth_sys { IsCodec auth_sys }
-    ensures named { (s : AuthSys) → auth_sys.Fits s → caller_of (auth_sys.spell s) ≡ Some (named_by s) }
-    ensures taken { (body : List ℕ) (who : Caller) → IsBytes body → caller_of body ≡ Some who → (s : AuthSys) × auth_sys.Fits s × (body ≡ auth_sys.spell s) × (who ≡ named_by s) }
+    ensures read { (bytes : List ℕ) (x : AuthSys × List ℕ) → IsBytes bytes → auth_sys_at bytes ≡ Some x ↔ Leads authsys_parms bytes x }
+    ensures named { (s : AuthSys) → (authsys_parms s).Fits → caller_of (authsys_parms s).bytes ≡ Some (named_by s) }
+    ensures taken { (body : List ℕ) (who : Caller) → IsBytes body → caller_of body ≡ Some who → (s : AuthSys) × (authsys_parms s).Fits × (body ≡ (authsys_parms s).bytes) × (who ≡ named_by s) }
 {}

@@ -4,7 +4,7 @@ ghost use Rattle.std.specs.Prelude.{◌≡◌, ◌≤◌, length, IfOk, MatchRes
 ghost use Rattle.nfs_xdr.specs.Readers.{ReadsPartBy};
 ghost use Rattle.nfs_xdr.specs.Checks.{first_fault};
 ghost use Rattle.nfs_xdr.specs.Caller as calling;
-ghost use Rattle.nfs_rpc.specs.CallHead as head;
+ghost use Rattle.nfs_rpc.specs.HeadCodec as codec;
 ghost use Rattle.nfs_rpc.specs.CallHead.{call_of, behind_header, caller_of, caller_by, checks, Refused};
 ghost use Rattle.nfs_rpc.specs.View as view;
 ghost use Rattle.nfs_rpc.specs.View.{IsCalled};
@@ -62,9 +62,9 @@ fn head<'a>(c: &mut Cursor<'a>) -> Result<(u32, Header<'a>), Refusal>
     Ok((xid, header))
 }
 
-#[tactic(auto, unfolding(crate::specs::CallHead::header))]
+#[tactic(auto, unfolding(crate::specs::HeadCodec::header))]
 fn header<'a>(c: &mut Cursor<'a>) -> Result<Header<'a>, Unreadable>
-    ensures { ReadsPartBy view.header result (head.header.read c.old) c.new }
+    ensures { ReadsPartBy view.header result (codec.header.read c.old) c.new }
 {
     let program = c.u32()?;
     let version = c.u32()?;
@@ -80,9 +80,9 @@ fn header<'a>(c: &mut Cursor<'a>) -> Result<Header<'a>, Unreadable>
     })
 }
 
-#[tactic(auto, unfolding(crate::specs::CallHead::opaque_auth))]
+#[tactic(auto, unfolding(crate::specs::HeadCodec::opaque_auth))]
 fn opaque_auth<'a>(c: &mut Cursor<'a>) -> Result<OpaqueAuth<'a>, Unreadable>
-    ensures { ReadsPartBy view.opaque_auth result (head.opaque_auth.read c.old) c.new }
+    ensures { ReadsPartBy view.opaque_auth result (codec.opaque_auth.read c.old) c.new }
 {
     let flavor = c.u32()?;
     let body = c.opaque(MAX_AUTH)?;

@@ -1,7 +1,7 @@
 //! Records from the pieces of a stream (RFC 5531 section 11).
 
 ghost use Rattle.std.specs.Prelude.{◌≡◌, ◌≤◌, ◌<◌, List, ℕ, IfOk, IfSome, IfNone, ◌+◌, ◌++◌, [], length, take, true, false};
-ghost use Rattle.nfs_xdr.specs.Codec.{IsBytes};
+ghost use Rattle.nfs_xdr.specs.Text.{IsBytes};
 ghost use Rattle.nfs_rpc.specs.declared.records.State.TheVariants as States;
 ghost use Rattle.nfs_rpc.specs.declared.records.Fed.TheVariants as Feds;
 ghost use Rattle.nfs_rpc.specs.RecordMarking.{Part, Gathered, start, is_too_long};

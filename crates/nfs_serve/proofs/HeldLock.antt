@@ -7,7 +7,8 @@ use Rattle.nfs_xdr.specs.Tables.{In}
 use Rattle.nfs_xdr.specs.Spelling.{number, hyper}
 use Rattle.nfs_xdr.specs.Reading.{opaque_at, fixed_at, flag_at, pieces_at}
 use Rattle.nfs_xdr.specs.declared.status.Status.TheVariants.{Nfs4Ok}
-use Rattle.nfs_rpc.specs.CallHead.{call_of, header, opaque_auth, behind_header, caller_of}
+use Rattle.nfs_rpc.specs.HeadCodec.{header, opaque_auth}
+use Rattle.nfs_rpc.specs.CallHead.{call_of, behind_header, caller_of}
 use Rattle.nfs_xdr.specs.AuthSys.{auth_sys}
 use Rattle.nfs_rpc.specs.Reply.{spell_head}
 use Rattle.nfs_compound.specs.ReadRequest.{request_at, items_at, item_at}

@@ -7,7 +7,8 @@ use Rattle.std.proofs.lemmas.Option.{same_Some}
 use Rattle.std.proofs.lemmas.List.{append-nil}
 use Rattle.nfs_xdr.specs.Limits.{opaque_limit}
 use Rattle.nfs_xdr.specs.Reading.{◌>>=◌}
-use Rattle.nfs_xdr.specs.Codec.{IsBytes, number, opaque}
+use Rattle.nfs_xdr.specs.Codec.{number, opaque}
+use Rattle.nfs_xdr.specs.Text.{IsBytes}
 use Rattle.nfs_xdr.specs.Caller.{Caller}
 use Rattle.nfs_xdr.specs.Checks.{first_fault}
 use Rattle.nfs_xdr.specs.declared.status.Status.{Status}
@@ -20,7 +21,8 @@ use Rattle.nfs_rpc.specs.declared.refusal.Refusal.TheVariants.{Silent, Mismatch,
 use Rattle.nfs_rpc.specs.declared.refusal.AcceptStat.TheVariants.{GarbageArgs}
 use Rattle.nfs_rpc.specs.declared.call.Procedure.{Procedure}
 use Rattle.nfs_rpc.specs.declared.call.Procedure.TheVariants as Procedures
-use Rattle.nfs_rpc.specs.CallHead.{header, Call, Called, Accepted, Refused, call_of}
+use Rattle.nfs_rpc.specs.HeadCodec.{header}
+use Rattle.nfs_rpc.specs.CallHead.{Call, Called, Accepted, Refused, call_of}
 use Rattle.nfs_rpc.specs.Reply.{spell_head}
 use Rattle.nfs_rpc.proofs.HeadLaws.{call_taken}
 use Rattle.nfs_compound.specs.Operation.{Item, Operation, OpSequence}

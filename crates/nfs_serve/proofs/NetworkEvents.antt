@@ -1,7 +1,7 @@
 -- All packets and replies against all slots, through each event.
 use Rattle.std.proofs.Common.{◌≡◌, ◌⊎◌, inl, inr, ℕ, Bool, true, false, List, [], ◌∷◌, Option, Some, None, refl, sym, ◌∙◌, ap, subst, arith}
 use Rattle.std.proofs.lemmas.Bool.{true≢false}
-use Rattle.nfs_xdr.specs.Codec.{IsBytes}
+use Rattle.nfs_xdr.specs.Text.{IsBytes}
 use Rattle.nfs_xdr.specs.Tables.{In}
 use Rattle.nfs_serve.specs.Endpoint.{Place, Compound, Heading, Answer, SlotNumber, Stepped, Server, Arrival, stepped, ran}
 use Rattle.nfs_serve.specs.Network.{Callers, Packet, Reply, RanCompound, Line, Network, NetworkEvent, Sends, Resends, Arrives, Asks, Intrudes, Accepts, IsLast, with_line, sending, resending, accepting, executing, result_of, with_reply, with_packet, arriving, after, ended, IsUnused, no_line, begins, IsExact}

@@ -4,7 +4,7 @@ use Rattle.std.proofs.Common.{take-append-drop, inl, arith}
 use Rattle.std.proofs.lemmas.List.{map-append}
 use Rattle.std.specs.Io.KnownBytes.{Appends}
 use Rattle.std.proofs.KnownBytes.{Appends-nil, Appends-trans}
-use Rattle.nfs_xdr.specs.Codec.{IsBytes}
+use Rattle.nfs_xdr.specs.Text.{IsBytes}
 use Rattle.nfs_rpc.specs.RecordMarking.{Gathered, Begun, Complete, Failed, IsRecord, start, is_too_long}
 use Rattle.nfs_rpc.specs.Stream.{End, Open, TooLong, AreRecords, IsReading, IsUnfinished}
 use Rattle.nfs_rpc.specs.Feeding.{waits, Holds}

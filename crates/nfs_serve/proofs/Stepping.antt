@@ -2,12 +2,14 @@
 use Rattle.std.proofs.Common.{◌≡◌, ℕ, ◌≤◌, max, List, [], ◌++◌, length, drop, Option, Some, None, refl, sym, ap, subst, arith, inl, inr, ◌∙◌}
 use Rattle.std.proofs.lemmas.Bool.{cases_Bool}
 use Rattle.std.proofs.lemmas.List.{drop_at, length-append}
-use Rattle.nfs_xdr.specs.Codec.{IsBytes, number}
+use Rattle.nfs_xdr.specs.Codec.{number}
+use Rattle.nfs_xdr.specs.Text.{IsBytes}
 use Rattle.nfs_xdr.specs.SheetState.{SheetState, Puts}
 use Rattle.nfs_rpc.specs.declared.refusal.Refusal.{Refusal}
 use Rattle.nfs_rpc.specs.declared.refusal.Refusal.TheVariants.{Silent, Mismatch, Auth, Accept}
 use Rattle.nfs_rpc.specs.Reply.{spell_refusal}
-use Rattle.nfs_rpc.specs.CallHead.{Call, Called, Accepted, header, call_of}
+use Rattle.nfs_rpc.specs.HeadCodec.{header}
+use Rattle.nfs_rpc.specs.CallHead.{Call, Called, Accepted, call_of}
 use Rattle.nfs_rpc.proofs.HeadLaws.{call_taken}
 use Rattle.nfs_lease.specs.Renewals.{has_run_out}
 use Rattle.nfs_lease.specs.Queue.{IsLatest}

@@ -1,6 +1,6 @@
 -- What the first record of a piece comes to; private contracts alone speak of it.
 use Rattle.std.specs.Prelude.{◌≡◌, ℕ, ◌<◌, ◌≤◌, List, ◌++◌, length, take, false, Option}
-use Rattle.nfs_xdr.specs.Codec.{IsBytes}
+use Rattle.nfs_xdr.specs.Text.{IsBytes}
 use Rattle.nfs_rpc.specs.RecordMarking.{Gathered, Complete, Failed, is_too_long}
 use Rattle.nfs_rpc.specs.Feeding.{waits, Holds}
 use Rattle.nfs_serve.specs.declared.connection.First.{First}

@@ -1,7 +1,7 @@
 //! The run of a script.
 ghost use Rattle.std.specs.Prelude.{◌≡◌, ◌≤◌, ℕ, List, false, length};
 ghost use Rattle.std.specs.Io.KnownBytes.{Consumes};
-ghost use Rattle.nfs_xdr.specs.Codec.{IsBytes};
+ghost use Rattle.nfs_xdr.specs.Text.{IsBytes};
 ghost use Rattle.nfs_serve.specs.Run.{all_closed};
 ghost use Rattle.nfs_serve.specs.Reading as reading;
 ghost use Rattle.nfs_serve.specs.Server.{fresh, held_on, state_of};

@@ -1,6 +1,6 @@
 //! Reading a script, entry by entry.
 ghost use Rattle.std.specs.Prelude.{◌≡◌, length, false, ◌<◌, ◌^◌, IfOk, IfSome, IfNone};
-ghost use Rattle.nfs_xdr.specs.Codec.{IsBytes};
+ghost use Rattle.nfs_xdr.specs.Text.{IsBytes};
 ghost use Rattle.nfs_xdr.specs.Spelling.{number, hyper};
 ghost use Rattle.nfs_serve.specs.Script as script;
 ghost use Rattle.nfs_serve.specs.Script.{IsHead, refusal, most_piece};

@@ -13,7 +13,7 @@ use Rattle.std.proofs.lemmas.Map.Text.{is_eq-slice_cmp}
 use Rattle.std.proofs.lemmas.Nat.{from_be_bytes-to_be_bytes_8}
 use Rattle.std.proofs.lemmas.Slice.Eq.{bytes_eq-Decides}
 use Rattle.std.proofs.lemmas.List.{take_at, drop_at}
-use Rattle.nfs_xdr.specs.Codec.{IsBytes}
+use Rattle.nfs_xdr.specs.Text.{IsBytes}
 use Rattle.nfs_tree.specs.declared.by_name.ShortKey.{ShortKey}
 use Rattle.nfs_tree.specs.ByName.{key_of, spelled_at, short_key, short_cmp, cookie_at, NamesAnew}
 use Rattle.nfs_tree.proofs.ShortKeys.{short_same}

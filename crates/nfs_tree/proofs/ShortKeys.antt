@@ -8,7 +8,7 @@ use Rattle.std.proofs.lemmas.Bool.Decides.{nat_tests}
 use Rattle.std.proofs.lemmas.Nat.{be_bytes_8}
 use Rattle.std.proofs.lemmas.Slice.Eq.{bytes_eq-Decides}
 use Rattle.std.proofs.lemmas.List.{take-append-drop, take_at, length-append, length-replicate, length-take, length-drop, drop-drop, drop-replicate, get_or_append_left, get_or-append_right, get_or-replicate, get_or-set_same, get_or-set_other, length-set, same_lists, get_or_past}
-use Rattle.nfs_xdr.specs.Codec.{IsBytes}
+use Rattle.nfs_xdr.specs.Text.{IsBytes}
 use Rattle.nfs_xdr.proofs.Bytes.{IsBytes-drop}
 use Rattle.nfs_xdr.proofs.CodecLaws.{IsBytes-take}
 use Rattle.nfs_tree.specs.declared.by_name.ShortKey.{ShortKey}

@@ -1,7 +1,7 @@
 -- Bytes behind others.
 use Rattle.std.proofs.Common.{◌≡◌, ℕ, ◌+◌, List, drop}
 use Rattle.std.proofs.lemmas.List.{get_or-drop}
-use Rattle.nfs_xdr.specs.Codec.{IsBytes}
+use Rattle.nfs_xdr.specs.Text.{IsBytes}
 
 pub IsBytes-drop : (n : ℕ) (bytes : List ℕ) → IsBytes bytes → IsBytes (drop n bytes)
 IsBytes-drop n bytes h = record { each = λ i. rw get_or-drop (h.each (n + i)) }

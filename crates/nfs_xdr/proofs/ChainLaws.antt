@@ -6,7 +6,8 @@ use Rattle.std.proofs.lemmas.Option.{same_Some}
 use Rattle.std.proofs.lemmas.List.{length-append}
 use Rattle.nfs_xdr.specs.Spelling as spelling
 use Rattle.nfs_xdr.specs.Reading.{◌>>=◌, flag_at}
-use Rattle.nfs_xdr.specs.Codec.{Codec, IsBytes}
+use Rattle.nfs_xdr.specs.Codec.{Codec}
+use Rattle.nfs_xdr.specs.Text.{IsBytes}
 use Rattle.nfs_xdr.specs.Lawful.{IsCodec}
 use Rattle.nfs_xdr.specs.Combinators.{passed}
 use Rattle.nfs_xdr.specs.Chain.{spell_chain, chain_at, chain}

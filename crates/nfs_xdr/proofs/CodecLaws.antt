@@ -15,7 +15,8 @@ use Rattle.nfs_xdr.specs.Spelling as spelling
 use Rattle.nfs_xdr.specs.Spelling.{padding}
 use Rattle.nfs_xdr.specs.Reading.{◌>>=◌, number_at, flag_at, all_zero, fixed_at, opaque_at, pieces_at}
 use Rattle.nfs_xdr.specs.Readers.{ReadsBy, ReadsAs}
-use Rattle.nfs_xdr.specs.Codec.{Codec, IsBytes, number, hyper, flag, opaque, unbounded, ◌then◌, as_type, only, many_at, array}
+use Rattle.nfs_xdr.specs.Codec.{Codec, number, hyper, flag, opaque, unbounded, ◌then◌, as_type, only, many_at, array}
+use Rattle.nfs_xdr.specs.Text.{IsBytes}
 use Rattle.nfs_xdr.specs.Lawful.{IsCodec, IsPrefixFree, IsSized}
 use Rattle.nfs_xdr.specs.Combinators.{fixed, nothing, few, spell_optional, optional, in_arm}
 use Rattle.nfs_xdr.specs.Codec.{led_by, choose, union, arm, bare, pieces}

@@ -5,6 +5,7 @@ pub mod CodecLaws
 pub mod ChainLaws
 pub mod WordLaws
 pub mod StatusLaws
+pub mod TextLaws
 pub mod Formats
 pub mod Lists
 pub mod Tables

@@ -11,7 +11,8 @@ use Rattle.std.proofs.Math.Facts.{sfits_to_z, Fits-of_z}
 use Rattle.std.proofs.lemmas.List.{take_at, length-append}
 use Rattle.nfs_xdr.specs.Spelling as spelling
 use Rattle.nfs_xdr.specs.Reading.{◌>>=◌, number_at, hyper_at}
-use Rattle.nfs_xdr.specs.Codec.{Codec, IsBytes, signed, at_most, many_at}
+use Rattle.nfs_xdr.specs.Codec.{Codec, signed, at_most, many_at}
+use Rattle.nfs_xdr.specs.Text.{IsBytes}
 use Rattle.nfs_xdr.specs.Lawful.{IsCodec, IsListing}
 use Rattle.nfs_xdr.specs.Combinators.{listed_at, listed, raw, passed, choose_or, union_or, union_by}
 use Rattle.nfs_xdr.proofs.CodecLaws.{bind_some, taken_at, chosen, IsArm, is_number, is_hyper, is_only, is_then, is_as_type}

@@ -1,7 +1,6 @@
--- Formats: everything that is put together from the items of RFC 4506, and the codec that each stands for.
+-- Formats: everything that is put together from the types of RFC 4506, and the text that each stands for.
 use Rattle.std.specs.Prelude.{ℕ, ◌<◌, ◌^◌, Bool, List, Option}
-use Rattle.nfs_xdr.specs.Codec.{Codec, number, hyper, flag, opaque, ◌then◌, array, led_by}
-use Rattle.nfs_xdr.specs.Combinators.{fixed, optional, few}
+use Rattle.nfs_xdr.specs.Text.{Text, ◌then◌, uint32, uint64, bool, enum, fixed, opaque, array, optional, most}
 
 pub data Format : Type 0 where
   Number : Format
@@ -28,17 +27,17 @@ Meaning (Array f) = List (Meaning f)
 Meaning (AtMost limit f) = List (Meaning f)
 Meaning (LedBy k f) = Meaning f
 
-abbrev pub codec : (f : Format) → Codec (Meaning f)
-codec Number = number
-codec Hyper = hyper
-codec Flag = flag
-codec (Fixed n) = fixed n
-codec (Opaque limit) = opaque limit
-codec (Then a b) = codec a then codec b
-codec (Optional f) = optional (codec f)
-codec (Array f) = array (codec f)
-codec (AtMost limit f) = few limit (codec f)
-codec (LedBy k f) = led_by k (codec f)
+abbrev pub text : (f : Format) → Meaning f → Text
+text Number n = uint32 n
+text Hyper n = uint64 n
+text Flag b = bool b
+text (Fixed n) x = fixed n x
+text (Opaque limit) x = opaque limit x
+text (Then a b) x = text a x.0 then text b x.1
+text (Optional f) x = optional (text f) x
+text (Array f) xs = array most (text f) xs
+text (AtMost limit f) xs = array limit (text f) xs
+text (LedBy k f) x = enum k then text f x
 
 -- each bound and each leading number is itself a number of four bytes
 abbrev pub IsFormat : Format → Type 0

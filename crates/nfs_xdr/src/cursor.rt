@@ -4,7 +4,7 @@ ghost use Rattle.std.specs.Prelude.{◌≡◌, ◌<◌, ◌^◌, ◌%◌, ℕ, l
 ghost use Rattle.nfs_xdr.specs.Spelling.{padding};
 ghost use Rattle.nfs_xdr.specs.Reading.{number_at, hyper_at, flag_at, fixed_at, opaque_at, pieces_at, all_zero};
 ghost use Rattle.nfs_xdr.specs.Readers.{ReadsBy, ReadsPartBy, ReadsAs};
-ghost use Rattle.nfs_xdr.specs.Codec.{IsBytes};
+ghost use Rattle.nfs_xdr.specs.Text.{IsBytes};
 ghost use Rattle.nfs_xdr.specs.Codec as codec;
 ghost use Rattle.nfs_xdr.specs.Combinators as combinators;
 ghost use Rattle.nfs_xdr.specs.Time.{time};
@@ -32,7 +32,7 @@ impl<'a> Model for Cursor<'a> {
 
     ghost view = { λ a. a.bytes.now };
 
-    ghost use Rattle.nfs_xdr.specs.Codec.{IsBytes};
+    ghost use Rattle.nfs_xdr.specs.Text.{IsBytes};
 
     ghost invariant = { λ a. IsBytes a.bytes.now };
 }

@@ -1,15 +1,21 @@
 use Rattle.nfs_xdr.proofs.WordLaws.{listed_number}
+use Rattle.nfs_xdr.proofs.TextLaws.{leads_from, leads_again}
+use Rattle.nfs_compound.specs.ArgCodecs.{protected}
+use Rattle.nfs_compound.specs.OpCodec.{op_codec}
+use Rattle.nfs_compound.specs.Wire.{protected4, nfs_argop4}
 use Rattle.nfs_compound.specs.OpNum.{op_number, op_nums}
 use Rattle.nfs_compound.proofs.OpNumLaws.{is_op_listing}
 use Rattle.nfs_compound.proofs.ArgLaws.{is_protected}
 use Rattle.nfs_compound.proofs.OpLaws.{is_op}
+use Rattle.nfs_compound.proofs.WireLaws.{ops, protections}
 use Rattle.nfs_compound.proofs.laws.arguments.Goals as goal
 
 pub returns-clause-table : goal.returns-clause-table
-returns-clause-table c = is_op
+returns-clause-table c = λ bytes x fits. (leads_from op_codec nfs_argop4 ops is_op bytes x fits, leads_again op_codec nfs_argop4 ops is_op bytes x)
 
 pub returns-clause-protected : goal.returns-clause-protected
-returns-clause-protected c = is_protected
+returns-clause-protected c = λ bytes x fits.
+    (leads_from protected protected4 protections is_protected bytes x fits, leads_again protected protected4 protections is_protected bytes x)
 
 pub returns-clause-own : goal.returns-clause-own
 returns-clause-own c = is_op_listing.found

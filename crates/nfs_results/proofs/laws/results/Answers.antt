@@ -1,18 +1,21 @@
-use Rattle.nfs_xdr.proofs.CodecLaws.{is_prefix_free}
+use Rattle.nfs_xdr.proofs.TextLaws.{leads_from, leads_again, begins_no_other}
 use Rattle.nfs_results.specs.ResultCodec.{result}
 use Rattle.nfs_results.specs.CompoundResult.{compound_result}
+use Rattle.nfs_results.specs.Wire.{result4, compound4res}
 use Rattle.nfs_results.proofs.ResultLaws.{is_result}
 use Rattle.nfs_results.proofs.CompoundLaws.{is_compound}
+use Rattle.nfs_results.proofs.WireLaws.{results, compounds}
 use Rattle.nfs_results.proofs.laws.results.Goals as goal
 
 pub returns-clause-results : goal.returns-clause-results
-returns-clause-results c = is_result
+returns-clause-results c = λ bytes x fits. (leads_from result result4 results is_result bytes x fits, leads_again result result4 results is_result bytes x)
 
 pub returns-clause-compounds : goal.returns-clause-compounds
-returns-clause-compounds c = is_compound
+returns-clause-compounds c = λ bytes x fits.
+    (leads_from compound_result compound4res compounds is_compound bytes x fits, leads_again compound_result compound4res compounds is_compound bytes x)
 
 pub returns-clause-result_ends : goal.returns-clause-result_ends
-returns-clause-result_ends c = is_prefix_free result is_result
+returns-clause-result_ends c = begins_no_other result result4 results is_result
 
 pub returns-clause-compound_ends : goal.returns-clause-compound_ends
-returns-clause-compound_ends c = is_prefix_free compound_result is_compound
+returns-clause-compound_ends c = begins_no_other compound_result compound4res compounds is_compound

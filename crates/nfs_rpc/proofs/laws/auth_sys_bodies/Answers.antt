@@ -1,11 +1,11 @@
-use Rattle.nfs_rpc.proofs.HeadLaws.{is_auth_sys, body_named, body_taken}
+use Rattle.nfs_rpc.proofs.HeadLaws.{auth_sys_leads, text_named, text_body}
 use Rattle.nfs_rpc.proofs.laws.auth_sys_bodies.Goals as goal
 
-pub returns-clause-auth_sys : goal.returns-clause-auth_sys
-returns-clause-auth_sys c = is_auth_sys
+pub returns-clause-read : goal.returns-clause-read
+returns-clause-read c = auth_sys_leads
 
 pub returns-clause-named : goal.returns-clause-named
-returns-clause-named c = body_named
+returns-clause-named c = text_named
 
 pub returns-clause-taken : goal.returns-clause-taken
-returns-clause-taken c = body_taken
+returns-clause-taken c = text_body

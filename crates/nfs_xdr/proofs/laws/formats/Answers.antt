@@ -1,8 +1,8 @@
-use Rattle.nfs_xdr.proofs.Formats.{is_codec, prefix_free}
+use Rattle.nfs_xdr.proofs.Formats.{is_readable, no_other}
 use Rattle.nfs_xdr.proofs.laws.formats.Goals as goal
 
 pub returns-clause-read : goal.returns-clause-read
-returns-clause-read c = is_codec
+returns-clause-read c = is_readable
 
 pub returns-clause-prefix : goal.returns-clause-prefix
-returns-clause-prefix c = prefix_free
+returns-clause-prefix c = no_other

@@ -1,11 +1,17 @@
+use Rattle.std.proofs.Common.{refl}
+use Rattle.nfs_xdr.specs.declared.status.Status.{Status}
 use Rattle.nfs_xdr.specs.Status.{status_number}
-use Rattle.nfs_xdr.specs.StatusCodec.{statuses}
+use Rattle.nfs_xdr.specs.StatusCodec.{statuses, status}
+use Rattle.nfs_xdr.specs.Time.{time}
+use Rattle.nfs_xdr.specs.Text.{enum}
+use Rattle.nfs_xdr.specs.Wire.{nfstime4}
+use Rattle.nfs_xdr.proofs.TextLaws.{times, readable}
 use Rattle.nfs_xdr.proofs.WordLaws.{is_time, listed_number}
 use Rattle.nfs_xdr.proofs.StatusLaws.{is_status, is_status_listing}
 use Rattle.nfs_xdr.proofs.laws.statuses.Goals as goal
 
 pub returns-clause-status : goal.returns-clause-status
-returns-clause-status c = is_status
+returns-clause-status c = readable status (λ (s : Status). enum (status_number s)) (record { same = λ s. refl; to = λ s fits. fits; from = λ s fits. fits }) is_status
 
 pub returns-clause-own : goal.returns-clause-own
 returns-clause-own c = is_status_listing.found
@@ -14,4 +20,4 @@ pub returns-clause-none_else : goal.returns-clause-none_else
 returns-clause-none_else c = λ n s. listed_number status_number statuses n s
 
 pub returns-clause-times : goal.returns-clause-times
-returns-clause-times c = is_time
+returns-clause-times c = readable time nfstime4 times is_time

@@ -1,5 +1,5 @@
 use Rattle.std.proofs.Common.{◌≡◌, ◌-◌, ◌≤◌, ◌++◌, List, ℕ, length, take}
-use Rattle.nfs_xdr.specs.Codec.{IsBytes}
+use Rattle.nfs_xdr.specs.Text.{IsBytes}
 use Rattle.nfs_rpc.specs.declared.records.State.TheVariants as States
 use Rattle.nfs_rpc.specs.Feeding.{Holds}
 use Rattle.nfs_rpc.specs.Share.{state_of}

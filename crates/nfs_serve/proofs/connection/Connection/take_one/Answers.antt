@@ -1,5 +1,5 @@
 use Rattle.std.proofs.Common.{◌≡◌, ◌+◌, arith, sym, ap, subst, ◌∙◌, ◌++◌, append-nil, take, take_all, length, le_refl, [], false, refl}
-use Rattle.nfs_xdr.specs.Codec.{IsBytes}
+use Rattle.nfs_xdr.specs.Text.{IsBytes}
 use Rattle.nfs_rpc.specs.RecordMarking.{Complete, is_too_long}
 use Rattle.nfs_rpc.specs.Feeding.{waits, waiting, done_with, Holds}
 use Rattle.nfs_serve.specs.Server.{fresh}
