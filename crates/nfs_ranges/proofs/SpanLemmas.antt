@@ -3,15 +3,15 @@ use Rattle.std.proofs.Common.{◌≡◌, ℕ, suc, ◌-◌, ◌<◌, ◌≤◌, 
 use Rattle.std.proofs.Common.{sym, ◌∙◌, ap, subst, arith}
 use Rattle.std.specs.Prelude.{find, slice_get}
 use Rattle.std.proofs.lemmas.List.{append-nil}
-use Rattle.std.proofs.lemmas.Bool.{and_left, and_right, lt-leb, le-ltb}
+use Rattle.std.proofs.lemmas.Bool.{and_left, and_right, or_parts, lt-leb, le-ltb}
 use Rattle.nfs_ranges.specs.declared.Kind.{Kind}
 use Rattle.nfs_ranges.specs.declared.interval.Interval.{Interval}
 use Rattle.nfs_ranges.specs.Intervals.{AreFrom, kept_below, kept_above, without}
 use Rattle.nfs_ranges.specs.Edits.{head}
 use Rattle.nfs_ranges.specs.Blocks.{flat, last_from, last_end, block_at, AreSome, AreBlocks}
 use Rattle.nfs_ranges.specs.Owners.{LieWithin, IsSpan}
-use Rattle.nfs_ranges.specs.Clashes.{hits}
-use Rattle.nfs_ranges.specs.Told.{meets}
+use Rattle.nfs_ranges.specs.Clashes.{hits, has_write}
+use Rattle.nfs_ranges.specs.Told.{is_write, meets}
 
 wider : (first low last : ℕ) (xs : List Interval) → first ≤ low → LieWithin low last xs → LieWithin first last xs
 wider first low last [] le within = tt
@@ -102,3 +102,11 @@ none_above low high last (x ∷ xs) within le =
 
 pub none_left : (low high first last : ℕ) (xs : List Interval) → LieWithin low high xs → first ≤ low → high ≤ last → without first last xs ≡ []
 none_left low high first last xs within le up = rw (none_below low high first xs within le, none_above low high last xs within up) refl
+
+-- a wish to read, where nothing is held for writing
+pub no_writer : (k : Kind) (first last : ℕ) (xs : List Interval) → is_write k ≡ false → has_write xs ≡ false → find (hits k first last) xs ≡ None
+no_writer k first last [] read none = refl
+no_writer k first last (x ∷ xs) read none =
+    let parts = or_parts (is_write x.kind) (has_write xs) none in
+    let miss : hits k first last x ≡ false = rw (read, parts.0) refl in
+    rw miss (no_writer k first last xs read parts.1)

@@ -63,13 +63,24 @@ fn first_of(intervals: &[Interval], kind: Kind, first: u64, last: u64) -> Option
     None
 }
 
+/// The same of a block, which a wish to read passes over if nothing there is held for writing.
+fn first_of_block(block: &Block, kind: Kind, first: u64, last: u64) -> Option<Interval>
+    requires { IsCanonical block.now }
+    ensures { result ≡ find (hits kind first last) block.now }
+{
+    if !kind.is_write() && !block.writes() {
+        return None;
+    }
+    first_of(block.intervals(), kind, first, last)
+}
+
 /// The same of intervals in blocks.
 fn first_in(blocks: &[Block], kind: Kind, first: u64, last: u64) -> Option<Interval>
     requires { AreBlocks blocks.now }
     ensures { result ≡ find (hits kind first last) (flat blocks.now) }
 {
     for b in blocks {
-        if let Some(x) = first_of(b.intervals(), kind, first, last) {
+        if let Some(x) = first_of_block(b, kind, first, last) {
             return Some(x);
         }
         if last <= b.last_end() {
