@@ -2,7 +2,9 @@
 use Rattle.std.specs.Prelude.{◌≡◌, ℕ, suc, ◌≤◌, ◌==◌, nat_lt, Bool, true, false, if◌then◌else◌, List, [], ◌∷◌, ◌++◌}
 use Rattle.std.specs.Map.{values_of}
 use Rattle.nfs_ranges.specs.declared.interval.Interval.{Interval}
+use Rattle.nfs_ranges.specs.declared.span.Span.{Span}
 use Rattle.nfs_ranges.specs.Intervals.{IsCanonical}
+use Rattle.nfs_ranges.specs.Clashes.{has_write}
 use Rattle.nfs_ranges.specs.Holders.{Owned, LockedBytes}
 
 abbrev pub is_empty : List Interval → Bool
@@ -50,3 +52,8 @@ LieWithin first last (x ∷ xs) = (first ≤ x.first) × (x.last ≤ last) × Li
 
 pub record IsSpan (first last : ℕ) (xs : List Interval) : Type 0 where
   pub each : LieWithin first last xs
+
+-- what the span says of the intervals is so
+pub record IsSpanOf (s : Span) (xs : List Interval) : Type 0 where
+  pub span : IsSpan s.first s.last xs
+  pub read : s.writes ≡ false → has_write xs ≡ false

@@ -1,43 +1,42 @@
 //! The lock states of a file that hold a byte, in rising order of their numbers.
 
-ghost use Rattle.std.specs.Prelude.{◌≡◌, ◌<◌, ◌≤◌, OnOk, OnErr, IfOk, find, None, [], ◌∷◌};
+ghost use Rattle.std.specs.Prelude.{◌≡◌, ◌<◌, ◌≤◌, OnOk, OnErr, IfOk, None, [], ◌∷◌};
 ghost use Rattle.std.specs.Bool.{OnTrue};
 ghost use Rattle.std.specs.Ordering.{nat_cmp};
 ghost use Rattle.std.specs.Map.{values_of, remove_entry};
 ghost use Rattle.std.specs.BTreeMap.{is_at};
 ghost use Rattle.nfs_ranges.specs.Intervals.{IsCanonical, without, with_range};
-ghost use Rattle.nfs_ranges.specs.Clashes.{hits, clash_of, sooner, tell};
-ghost use Rattle.nfs_ranges.specs.declared.Kind.{Kind};
+ghost use Rattle.nfs_ranges.specs.Clashes.{clash_of, sooner, tell};
 ghost use Rattle.nfs_ranges.specs.Holders.{Owned, bytes_of, kind_at, at};
 ghost use Rattle.nfs_ranges.specs.Owners.{AreKept, IsPut, is_empty};
 
 use super::edits::Intervals;
 use super::interval::Interval;
+use super::span::Span;
 use super::{Held, Kind};
 use std::alloc::{AllocError, Global};
 use std::collections::BTreeMap;
 use std::marker::Model;
 
-/// The bytes that one lock state holds, all of them from `first` to `last`.
+/// The bytes that one lock state holds.
 ///
 /// Entries are walked over and moved, so each is kept short: its intervals stand in a box.
 #[derive(Drop)]
 pub(super) struct Owner {
     number: u64,
-    first: u64,
-    last: u64,
+    span: Span,
     intervals: Box<Intervals>,
 }
 
 impl Model for Owner {
     ghost use Rattle.nfs_ranges.specs.Holders.{Owned};
-    ghost use Rattle.nfs_ranges.specs.Owners.{IsSpan};
+    ghost use Rattle.nfs_ranges.specs.Owners.{IsSpanOf};
 
     ghost Value = { Owned };
 
     ghost view = { λ o. record { number = o.number; intervals = o.intervals.value } };
 
-    ghost invariant = { λ o. IsSpan o.first o.last o.intervals.value };
+    ghost invariant = { λ o. IsSpanOf o.span o.intervals.value };
 }
 
 impl Owner {
@@ -52,10 +51,14 @@ impl Owner {
         ensures { IfOk result (λ o. o ≡ record { number = number; intervals = record { kind = kind; first = first; last = last } ∷ [] }) }
     {
         let intervals = Intervals::one(alloc, Interval { kind, first, last })?;
+        let writes = kind.is_write();
         Ok(Owner {
             number,
-            first,
-            last,
+            span: Span {
+                first,
+                last,
+                writes,
+            },
             intervals: Box::new(alloc, intervals)?,
         })
     }
@@ -80,7 +83,7 @@ impl Owner {
         ensures err { OnErr result (self.new ≡ self.old) }
     {
         self.intervals.set(alloc, kind, first, last)?;
-        (self.first, self.last) = self.intervals.span();
+        self.span = self.intervals.span();
         Ok(())
     }
 
@@ -91,24 +94,17 @@ impl Owner {
         ensures err { OnErr result (self.new ≡ self.old) }
     {
         self.intervals.clear(alloc, first, last)?;
-        (self.first, self.last) = self.intervals.span();
+        self.span = self.intervals.span();
         Ok(())
     }
 }
 
 impl Owner {
-    /// The owner holds no byte of the range.
-    fn lies_apart(&self, first: u64, last: u64) -> bool
-        ensures { OnTrue result ((kind : Kind) → find (hits kind first last) self.now.intervals ≡ None) }
-    {
-        last < self.first || self.last < first
-    }
-
     /// The range covers all that the owner holds.
     fn lies_within(&self, first: u64, last: u64) -> bool
         ensures { OnTrue result (without first last self.now.intervals ≡ []) }
     {
-        first <= self.first && self.last <= last
+        first <= self.span.first && self.span.last <= last
     }
 
     /// The owner's first interval that stands against a wish of another.
@@ -116,7 +112,7 @@ impl Owner {
         requires { IsCanonical self.now.intervals }
         ensures { result ≡ clash_of number kind first last self.now }
     {
-        if self.lies_apart(first, last) || self.number == number {
+        if self.number == number || self.span.lets_pass(kind, first, last) {
             return None;
         }
         let x = self.intervals.first_hit(kind, first, last)?;
