@@ -5,13 +5,14 @@ use Rattle.std.proofs.lemmas.Bool.{cases_Bool, ltb-true, ltb-false}
 use Rattle.nfs_ranges.specs.declared.interval.Interval.{Interval}
 use Rattle.nfs_ranges.specs.Intervals.{AreFrom, IsCanonical}
 use Rattle.nfs_ranges.specs.Edits.{lead, head, ends_before}
-use Rattle.nfs_ranges.specs.Holders.{Owned, LockedBytes, bytes_of, at, holds_any, kind_at}
+use Rattle.nfs_ranges.specs.Holders.{LockedBytes, bytes_of, at, holds_any, kind_at}
 use Rattle.nfs_ranges.specs.Facts.{HoldsAny}
-use Rattle.nfs_ranges.specs.Owners.{AreCanonical, AreKept, IsPut, is_empty}
+use Rattle.nfs_ranges.specs.Owners.{AreCanonical, is_empty}
+use Rattle.nfs_ranges.specs.Groups.{AreKept, AreSame, IsPut}
 use Rattle.nfs_ranges.proofs.CanonicalLemmas.{within_is, within_above, none_below, at_first}
 use Rattle.nfs_ranges.proofs.PlaceLemmas.{Fails, fails, from_drop}
 use Rattle.nfs_ranges.proofs.OwnerLemmas.{bytes-canonical}
-use Rattle.nfs_ranges.proofs.KeptLemmas.{kept_put}
+use Rattle.nfs_ranges.proofs.GroupLemmas.{kept_put, kept_same}
 use Rattle.nfs_ranges.proofs.ToldLemmas.{holds_any_is}
 
 -- how a byte is held, by the first interval that does not end before it
@@ -68,7 +69,7 @@ pub any_is : (os : LockedBytes) (s : ℕ) → AreCanonical os → not (is_empty 
 any_is os s are = sym (holds_any_is (at os) s (not (is_empty (bytes_of os s))) (any_of os s are (is_empty (bytes_of os s)) refl))
 
 -- a call that may fail leaves owners in order
-pub still_kept : {E : Type 0} (r : Result (Unit {0}) E) (s : ℕ) (xs : List Interval) (old new : List (ℕ × Owned)) → OnOk r (IsPut s xs old new) →
-    OnErr r (new ≡ old) → IsCanonical xs → AreKept old → AreKept new
+pub still_kept : {E : Type 0} (r : Result (Unit {0}) E) (s : ℕ) (xs : List Interval) (old new : List LockedBytes) → OnOk r (IsPut s xs old new) →
+    OnErr r (AreSame old new) → IsCanonical xs → AreKept old → AreKept new
 still_kept (Ok u) s xs old new ok err is are = kept_put s xs old new ok is are
-still_kept (Err e) s xs old new ok err is are = rw err are
+still_kept (Err e) s xs old new ok err is are = kept_same old new err are

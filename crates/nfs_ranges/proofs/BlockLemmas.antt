@@ -17,20 +17,20 @@ use Rattle.nfs_ranges.specs.Blocks.{flat, last_from, last_end, AreSome, AreBlock
 use Rattle.nfs_ranges.proofs.EditLemmas.{from_later}
 
 -- lists of blocks
-pub flat-append : (bs cs : List (List Interval)) → flat (bs ++ cs) ≡ flat bs ++ flat cs
+pub flat-append : {X : Type 0} (bs cs : List (List X)) → flat (bs ++ cs) ≡ flat bs ++ flat cs
 flat-append [] cs = refl
 flat-append (b ∷ bs) cs = ap (λ t. b ++ t) (flat-append bs cs) ∙ sym (append_assoc b (flat bs) (flat cs))
 
-some-append : (bs cs : List (List Interval)) → AreSome bs → AreSome cs → AreSome (bs ++ cs)
+pub some-append : {X : Type 0} (bs cs : List (List X)) → AreSome bs → AreSome cs → AreSome (bs ++ cs)
 some-append [] cs some more = more
 some-append (b ∷ bs) cs some more = (some.0, some-append bs cs some.1 more)
 
-some-take : (n : ℕ) (bs : List (List Interval)) → AreSome bs → AreSome (take n bs)
+pub some-take : {X : Type 0} (n : ℕ) (bs : List (List X)) → AreSome bs → AreSome (take n bs)
 some-take zero bs some = tt
 some-take (suc n) [] some = tt
 some-take (suc n) (b ∷ bs) some = (some.0, some-take n bs some.1)
 
-some-drop : (n : ℕ) (bs : List (List Interval)) → AreSome bs → AreSome (drop n bs)
+pub some-drop : {X : Type 0} (n : ℕ) (bs : List (List X)) → AreSome bs → AreSome (drop n bs)
 some-drop zero bs some = some
 some-drop (suc n) [] some = tt
 some-drop (suc n) (b ∷ bs) some = some-drop n bs some.1
@@ -57,7 +57,7 @@ block_from low (b ∷ bs) (suc i) are = let rest = rear_from low b (flat bs) are
 pub block_canonical : (bs : List (List Interval)) (i : ℕ) → AreBlocks bs → IsCanonical (block_at bs i)
 block_canonical bs i are = let from = block_from 0 bs i are.canonical.from in record { from = from_later 0 from.0 (block_at bs i) (omega arith) from.1 }
 
-pub block_got : (bs : List (List Interval)) (i : ℕ) (b : List Interval) → i < length bs → b ≡ get_or bs i b → block_at bs i ≡ b
+pub block_got : {X : Type 0} (bs : List (List X)) (i : ℕ) (b : List X) → i < length bs → b ≡ get_or bs i b → block_at bs i ≡ b
 block_got [] i b lt e = absurd (omega arith)
 block_got (c ∷ bs) zero b lt e = sym e
 block_got (c ∷ bs) (suc i) b lt e = block_got bs i b (omega arith) e
@@ -69,7 +69,7 @@ got_canonical bs i b are lt e = subst IsCanonical (block_got bs i b lt e) (block
 pub blocks_are : (bs : List (List Interval)) (xs : List Interval) → AreSome bs → flat bs ≡ xs → IsCanonical xs → AreBlocks bs
 blocks_are bs xs some e is = record { canonical = rw e is; some = some }
 
-pub block_none : (bs : List (List Interval)) (i : ℕ) → length bs ≤ i → block_at bs i ≡ []
+pub block_none : {X : Type 0} (bs : List (List X)) (i : ℕ) → length bs ≤ i → block_at bs i ≡ []
 block_none [] i le = refl
 block_none (b ∷ bs) zero le = absurd (omega arith)
 block_none (b ∷ bs) (suc i) le = block_none bs i (omega arith)
@@ -232,7 +232,7 @@ placed q lower low (b ∷ c ∷ bs) are some =
     by_test true e rest = further q lower low b (c ∷ bs) (spot (λ b. q (last_end b)) (c ∷ bs)) some.0 are e rest
     by_test false e rest = in_first q b (c ∷ bs) some.0 e
 
-pub spot_is : (p : List Interval → Bool) (bs : List (List Interval)) → min (lead p bs) (length bs - 1) ≡ spot p bs
+pub spot_is : {X : Type 0} (p : List X → Bool) (bs : List (List X)) → min (lead p bs) (length bs - 1) ≡ spot p bs
 spot_is p [] = omega arith
 spot_is p (b ∷ []) = omega arith
 spot_is p (b ∷ c ∷ bs) = elim (cases_Bool (p b)) [
@@ -240,7 +240,7 @@ spot_is p (b ∷ c ∷ bs) = elim (cases_Bool (p b)) [
   | inr e ↦ rw e (omega arith)
 ]
 
-pub spot-le : (p r : List Interval → Bool) (bs : List (List Interval)) → ((b : List Interval) → p b ≡ true → r b ≡ true) → spot p bs ≤ spot r bs
+pub spot-le : {X : Type 0} (p r : List X → Bool) (bs : List (List X)) → ((b : List X) → p b ≡ true → r b ≡ true) → spot p bs ≤ spot r bs
 spot-le p r [] h = omega arith
 spot-le p r (b ∷ []) h = omega arith
 spot-le p r (b ∷ c ∷ bs) h = elim (cases_Bool (p b)) [
@@ -248,7 +248,7 @@ spot-le p r (b ∷ c ∷ bs) h = elim (cases_Bool (p b)) [
   | inr e ↦ rw e (omega arith)
 ]
 
-pub spot-length : (p : List Interval → Bool) (bs : List (List Interval)) → spot p bs ≤ length bs
+pub spot-length : {X : Type 0} (p : List X → Bool) (bs : List (List X)) → spot p bs ≤ length bs
 spot-length p [] = omega arith
 spot-length p (b ∷ []) = omega arith
 spot-length p (b ∷ c ∷ bs) = elim (cases_Bool (p b)) [
@@ -344,3 +344,11 @@ pub no_flat : (bs : List (List Interval)) → AreSome bs → (length bs == 0) �
 no_flat [] some = refl
 no_flat ([] ∷ bs) some = absurd (let bad : true ≡ false = some.0 in cc)
 no_flat ((x ∷ xs) ∷ bs) some = ne_eqb (suc (length bs)) 0 (λ e. omega arith)
+
+pub spot_within : {X : Type 0} (p : List X → Bool) (bs : List (List X)) → 0 < length bs → spot p bs < length bs
+spot_within p [] some = absurd (omega arith)
+spot_within p (b ∷ []) some = omega arith
+spot_within p (b ∷ c ∷ bs) some = elim (cases_Bool (p b)) [
+  | inl e ↦ (let rest = spot_within p (c ∷ bs) (omega arith) in rw e (omega arith))
+  | inr e ↦ rw e (omega arith)
+]

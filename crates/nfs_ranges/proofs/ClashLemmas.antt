@@ -80,7 +80,7 @@ skip_blocks k first last low ((x ∷ xs) ∷ bs) are some = elim (cases_Bool (en
 ]
 
 -- one block of them
-pub at_block : (bs : List (List Interval)) (i : ℕ) (b : List Interval) → i < length bs → b ≡ get_or bs i b → flat (drop i bs) ≡ b ++ flat (drop (i + 1) bs)
+pub at_block : {X : Type 0} (bs : List (List X)) (i : ℕ) (b : List X) → i < length bs → b ≡ get_or bs i b → flat (drop i bs) ≡ b ++ flat (drop (i + 1) bs)
 at_block bs i b lt e = ap flat (drop_more bs i b lt) ∙ ap (λ c. c ++ flat (drop (i + 1) bs)) (sym e)
 
 behind_from : (low : ℕ) (bs : List (List Interval)) (i : ℕ) (b : List Interval) → AreFrom low (flat bs) → AreSome bs → i < length bs → b ≡ get_or bs i b →
@@ -108,21 +108,57 @@ all_canonical low [] are k d lt = absurd (omega arith)
 all_canonical low (o ∷ os) are zero d lt = are.2
 all_canonical low (o ∷ os) are (suc k) d lt = all_canonical (suc o.number) os are.3 k d (omega arith)
 
-each_rest : (o : Owned) (os : LockedBytes) → AreEach (o ∷ os) → AreEach os
-each_rest o os are k d lt = are (suc k) d (omega arith)
-
 pub sooner_none : (first : ℕ) (best : Option Held) → sooner first best None ≡ best
 sooner_none first None = refl
 sooner_none first (Some b) = refl
 
--- one owner is asked, and so many are left
-pub told_more : (s : ℕ) (k : Kind) (first last : ℕ) (best next : Option Held) (o : Owned) (os left : LockedBytes) (t : Option Held) →
-    AreEach left × (tell s k first last best left ≡ t) → left ≡ o ∷ os → next ≡ sooner first best (clash_of s k first last o) →
-    AreEach os × (tell s k first last next os ≡ t)
-told_more s k first last best next o os left t told is made = (
-  each_rest o os (subst AreEach is told.0),
-  ap (λ b. tell s k first last b os) made ∙ ap (tell s k first last best) (sym is) ∙ told.1,
-)
+-- one owner is asked, and those behind it are left
+pub told_next : (s : ℕ) (k : Kind) (first last i : ℕ) (told next : Option Held) (os : LockedBytes) (o : Owned) (t : Option Held) → i < length os →
+    o ≡ get_or os i o → tell s k first last told (drop i os) ≡ t → next ≡ sooner first told (clash_of s k first last o) →
+    tell s k first last next (drop (i + 1) os) ≡ t
+told_next s k first last i told next os o t lt e is made =
+    ap (λ b. tell s k first last b (drop (i + 1) os)) made
+    ∙ ap (λ p. tell s k first last (sooner first told (clash_of s k first last p)) (drop (i + 1) os)) e
+    ∙ sym (ap (tell s k first last told) (drop_more os i o lt))
+    ∙ is
+
+pub one_canonical : (os : LockedBytes) (i : ℕ) (o : Owned) → AreCanonical os → i < length os → o ≡ get_or os i o → IsCanonical o.intervals
+one_canonical os i o are lt e = subst (λ (p : Owned). IsCanonical p.intervals) (sym e) (all_canonical 0 os are.from i o lt)
+
+-- what clashes on the first byte of the range stays told
+pub stays : (s : ℕ) (k : Kind) (first last : ℕ) (b : Held) (os : LockedBytes) → b.first ≤ first → tell s k first last (Some b) os ≡ Some b
+stays s k first last b [] le = refl
+stays s k first last b (o ∷ os) le = ap (λ c. tell s k first last c os) (not_sooner (clash_of s k first last o)) ∙ stays s k first last b os le
+  where
+    not_sooner : (c : Option Held) → sooner first (Some b) c ≡ Some b
+    not_sooner None = refl
+    not_sooner (Some c) = rw (le-ltb (max c.first first) (max b.first first) (omega arith)) refl
+
+-- groups behind each other
+tell-append : (s : ℕ) (k : Kind) (first last : ℕ) (best : Option Held) (os ps : LockedBytes) →
+    tell s k first last best (os ++ ps) ≡ tell s k first last (tell s k first last best os) ps
+tell-append s k first last best [] ps = refl
+tell-append s k first last best (o ∷ os) ps = tell-append s k first last (sooner first best (clash_of s k first last o)) os ps
+
+pub told_group : (s : ℕ) (k : Kind) (first last i : ℕ) (told next : Option Held) (gs : List LockedBytes) (g : LockedBytes) (t : Option Held) → i < length gs →
+    g ≡ get_or gs i g → tell s k first last told (flat (drop i gs)) ≡ t → next ≡ tell s k first last told g →
+    tell s k first last next (flat (drop (i + 1) gs)) ≡ t
+told_group s k first last i told next gs g t lt e is made =
+    ap (λ b. tell s k first last b (flat (drop (i + 1) gs))) made
+    ∙ sym (tell-append s k first last told g (flat (drop (i + 1) gs)))
+    ∙ ap (tell s k first last told) (sym (at_block gs i g lt e))
+    ∙ is
+
+-- owners of whom none clashes
+unclashed : (s : ℕ) (k : Kind) (first last : ℕ) (o : Owned) → find (hits k first last) o.intervals ≡ None → clash_of s k first last o ≡ None
+unclashed s k first last o none = elim (cases_Bool (eqb o.number s)) [ inl e ↦ rw e refl | inr e ↦ rw (e, none) refl ]
+
+pub passed : (s : ℕ) (k : Kind) (first last : ℕ) (best : Option Held) (os : LockedBytes) → All (λ o. find (hits k first last) o.intervals ≡ None) os →
+    best ≡ tell s k first last best os
+passed s k first last best [] none = refl
+passed s k first last best (o ∷ os) none =
+    passed s k first last best os (λ i d lt. none (suc i) d (omega arith))
+    ∙ ap (λ b. tell s k first last b os) (sym (sooner_none first best) ∙ ap (sooner first best) (sym (unclashed s k first last o (none zero o (omega arith)))))
 
 -- the first interval of one list that clashes
 record IsHit (k : Kind) (first last : ℕ) (xs : List Interval) (x : Interval) : Type 0 where

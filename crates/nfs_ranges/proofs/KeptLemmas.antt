@@ -1,245 +1,216 @@
--- Owners in a map by their numbers: one found, one put, one taken out.
-use Rattle.std.proofs.Common.{◌≡◌, ℕ, suc, ◌<◌, Bool, true, false, eqb, List, [], ◌∷◌, ◌++◌, Option, Some, None, Result, Ok, Err, refl, sym, ◌∙◌, ap, arith, inl, inr}
-use Rattle.std.specs.Prelude.{OnErr}
-use Rattle.std.specs.Ordering.{nat_cmp}
-use Rattle.std.specs.declared.cmp.Ordering.TheVariants.{Less, Greater}
-use Rattle.std.specs.Map.{values_of, lookup, set_value, remove_entry}
-use Rattle.std.specs.BTreeMap.{BTreeMap, is_at, insert_entry}
-use Rattle.std.proofs.lemmas.Map.Steps.{set_value_same}
-use Rattle.std.proofs.lemmas.Bool.{cases_Bool, cases_order, lt-ltb, le-ltb, eq-eqb, ne_eqb}
-use Rattle.std.proofs.lemmas.Bool.Decides.{nat_tests}
+-- Owners in a list by their numbers: one found, one put, one taken out.
+use Rattle.std.proofs.Common.{◌≡◌, ℕ, zero, suc, ◌<◌, ◌≤◌, Bool, true, false, eqb, List, [], ◌∷◌, ◌++◌, drop, set, length, get_or, refl, sym, ◌∙◌, ap, arith}
+use Rattle.std.proofs.Common.{inl, inr}
+use Rattle.std.specs.Prelude.{not}
+use Rattle.std.specs.List.{insert, remove}
+use Rattle.std.specs.List.Sorted.{IsPartitionedBy}
+use Rattle.std.proofs.lemmas.Bool.{cases_Bool, cases_lt, ltb-true, lt-ltb, le-ltb, eqb-true, ne_eqb}
 use Rattle.nfs_ranges.specs.declared.interval.Interval.{Interval}
 use Rattle.nfs_ranges.specs.Intervals.{IsCanonical, without, with_range}
-use Rattle.nfs_ranges.specs.Holders.{Owned, bytes_of}
-use Rattle.nfs_ranges.specs.Owners.{is_empty, AreOwners, AreKeyed, AreKept, IsPut, entry, with_owner}
-use Rattle.nfs_ranges.proofs.OwnerLemmas.{with_owner-canonical, bytes-canonical, held_some}
+use Rattle.nfs_ranges.specs.Holders.{Owned, LockedBytes, bytes_of}
+use Rattle.nfs_ranges.specs.Edits.{lead, head}
+use Rattle.nfs_ranges.specs.Owners.{is_empty, AreOwners, AreCanonical, entry, with_owner}
+use Rattle.nfs_ranges.specs.Groups.{is_below, is_own}
+use Rattle.nfs_ranges.proofs.OwnerLemmas.{bytes-canonical, held_some, no_bytes}
 
-at_number : (s k : ℕ) → is_at (nat_cmp s) k ≡ eqb k s
-at_number s k = grind (arith, nat_tests)
+-- numbers rise
+numbers_from : (low : ℕ) (os : LockedBytes) (j : ℕ) (d : Owned) → AreOwners low os → j < length os → low ≤ (get_or os j d).number
+numbers_from low [] j d are lt = absurd (omega arith)
+numbers_from low (o ∷ os) zero d are lt = are.0
+numbers_from low (o ∷ os) (suc j) d are lt =
+    let lo = are.0 in
+    let rest = numbers_from (suc o.number) os j d are.3 (omega arith) in
+    omega arith
 
--- the intervals of what a search finds
-abbrev pub bytes_in : Option Owned → List Interval
-bytes_in None = []
-bytes_in (Some o) = o.intervals
+numbers_rise : (low : ℕ) (os : LockedBytes) (i j : ℕ) (d : Owned) → AreOwners low os → i ≤ j → j < length os → (get_or os i d).number ≤ (get_or os j d).number
+numbers_rise low [] i j d are le lt = absurd (omega arith)
+numbers_rise low (o ∷ os) zero zero d are le lt = omega arith
+numbers_rise low (o ∷ os) zero (suc j) d are le lt = let rest = numbers_from (suc o.number) os j d are.3 (omega arith) in omega arith
+numbers_rise low (o ∷ os) (suc i) zero d are le lt = absurd (omega arith)
+numbers_rise low (o ∷ os) (suc i) (suc j) d are le lt = numbers_rise (suc o.number) os i j d are.3 (omega arith) (omega arith)
 
-pub bytes_found : (s : ℕ) (es : List (ℕ × Owned)) → AreKeyed es → bytes_in (lookup (is_at (nat_cmp s)) es) ≡ bytes_of (values_of es) s
-bytes_found s [] keyed = refl
-bytes_found s (e ∷ es) keyed = rw (at_number s e.0, keyed.0) (elim (cases_Bool (eqb e.0 s)) [
-  | inl is ↦ rw is refl
-  | inr is ↦ rw is (bytes_found s es keyed.1)
-])
-
--- what is put is in order again
-pub kept_put : (s : ℕ) (xs : List Interval) (old new : List (ℕ × Owned)) → IsPut s xs old new → IsCanonical xs → AreKept old → AreKept new
-kept_put s xs old new made is are = record {
-  keyed = made.keyed;
-  canonical = rw made.put (with_owner-canonical s xs (values_of old) is are.canonical);
-}
+pub owners_parted : (s : ℕ) (os : LockedBytes) → AreCanonical os → IsPartitionedBy (is_below s) os
+owners_parted s os are i j d le lt e =
+    let rise = numbers_rise 0 os i j d are.from le lt in
+    let less = ltb-true (get_or os j d).number s e in
+    lt-ltb (get_or os i d).number s (omega arith)
 
 entry_is : (s : ℕ) (ys : List Interval) (o : Owned) → is_empty ys ≡ false → o.number ≡ s → entry s ys ≡ record o { intervals = ys } ∷ []
 entry_is s [] o e n = absurd cc
 entry_is s (y ∷ ys) o e n = rw n refl
 
-empty_is : (s : ℕ) (ys : List Interval) → is_empty ys ≡ true → entry s ys ≡ []
-empty_is s [] e = refl
-empty_is s (y ∷ ys) e = absurd cc
+-- the place of an owner, and whether it stands there
+abbrev pub place : ℕ → LockedBytes → ℕ
+place s os = lead (is_below s) os
 
--- no owner below the first
-none_below : (low s : ℕ) (es : List (ℕ × Owned)) → AreKeyed es → AreOwners low (values_of es) → s < low → lookup (is_at (nat_cmp s)) es ≡ None
-none_below low s [] keyed are lt = refl
-none_below low s (e ∷ es) keyed are lt =
-    let lo = are.0 in
-    let key = keyed.0 in
-    let not : is_at (nat_cmp s) e.0 ≡ false = at_number s e.0 ∙ ne_eqb e.0 s (λ same. omega arith) in
-    rw not (none_below (suc e.1.number) s es keyed.1 are.3 (omega arith))
+abbrev pub stands : ℕ → LockedBytes → Bool
+stands s os = is_own s (head (drop (place s os) os))
 
-same_found : (o p : Owned) → Some o ≡ Some p → o ≡ p
-same_found o p e = cc
+bytes_there : (low s : ℕ) (os : LockedBytes) (o : Owned) → AreOwners low os → stands s os ≡ true → o ≡ get_or os (place s os) o → o.intervals ≡ bytes_of os s
+bytes_there low s [] o are own e = absurd cc
+bytes_there low s (p ∷ os) o are own e = elim (cases_lt p.number s) [
+  | inl lt ↦ (
+      let own' : stands s os ≡ true = rw (lt-ltb p.number s lt) at own in
+      let e' : o ≡ get_or os (place s os) o = rw (lt-ltb p.number s lt) at e in
+      rw (ne_eqb p.number s (λ same. omega arith)) (bytes_there (suc p.number) s os o are.3 own' e')
+      )
+  | inr ge ↦ (
+      let own' : eqb p.number s ≡ true = rw (le-ltb p.number s ge) at own in
+      let same : o ≡ p = rw (le-ltb p.number s ge) at e in
+      rw own' (ap (λ (t : Owned). t.intervals) same)
+      )
+]
 
 -- an owner that is there holds other intervals
-written : (low s : ℕ) (ys : List Interval) (es : List (ℕ × Owned)) (o : Owned) → AreKeyed es → AreOwners low (values_of es)
-    → lookup (is_at (nat_cmp s)) es ≡ Some o → is_empty ys ≡ false
-    → values_of (set_value (is_at (nat_cmp s)) es (record o { intervals = ys })) ≡ with_owner s ys (values_of es)
-written low s ys [] o keyed are found some = absurd cc
-written low s ys (e ∷ es) o keyed are found some = elim (cases_order e.0 s) [
-  | inl same ↦ (
-      let at : is_at (nat_cmp s) e.0 ≡ true = at_number s e.0 ∙ eq-eqb e.0 s same in
-      let is : e.1 ≡ o = same_found e.1 o (rw at at found) in
-      let number : o.number ≡ s = ap (λ (t : Owned). t.number) (sym is) ∙ keyed.0 ∙ same in
-      let own : e.1.number ≡ s = keyed.0 ∙ same in
-      rw (at, le-ltb e.1.number s (omega arith), eq-eqb e.1.number s own) (ap (λ ts. ts ++ values_of es) (sym (entry_is s ys o some number)))
+written : (low s : ℕ) (ys : List Interval) (os : LockedBytes) (o : Owned) → AreOwners low os → stands s os ≡ true → o ≡ get_or os (place s os) o →
+    is_empty ys ≡ false → set os (place s os) (record o { intervals = ys }) ≡ with_owner s ys os
+written low s ys [] o are own e some = absurd cc
+written low s ys (p ∷ os) o are own e some = elim (cases_lt p.number s) [
+  | inl lt ↦ (
+      let own' : stands s os ≡ true = rw (lt-ltb p.number s lt) at own in
+      let e' : o ≡ get_or os (place s os) o = rw (lt-ltb p.number s lt) at e in
+      rw (lt-ltb p.number s lt) (ap (λ ts. p ∷ ts) (written (suc p.number) s ys os o are.3 own' e' some))
       )
-  | inr other ↦ elim other [
-    | inl lt ↦ (
-        let not : is_at (nat_cmp s) e.0 ≡ false = at_number s e.0 ∙ ne_eqb e.0 s (λ same. omega arith) in
-        let key = keyed.0 in
-        rw (not, lt-ltb e.1.number s (omega arith)) (ap (λ ts. e.1 ∷ ts) (written (suc e.1.number) s ys es o keyed.1 are.3 (rw not at found) some))
-        )
-    | inr gt ↦ (
-        let key = keyed.0 in
-        let not : is_at (nat_cmp s) e.0 ≡ false = at_number s e.0 ∙ ne_eqb e.0 s (λ same. omega arith) in
-        let none = none_below (suc e.1.number) s es keyed.1 are.3 (omega arith) in
-        absurd (let bad : None ≡ Some o = sym none ∙ rw not at found in cc)
-        )
-  ]
-]
-
-written_keyed : (s : ℕ) (es : List (ℕ × Owned)) (o new : Owned) → AreKeyed es → lookup (is_at (nat_cmp s)) es ≡ Some o → new.number ≡ o.number →
-    AreKeyed (set_value (is_at (nat_cmp s)) es new)
-written_keyed s [] o new keyed found same = absurd cc
-written_keyed s (e ∷ es) o new keyed found same = elim (cases_Bool (is_at (nat_cmp s) e.0)) [
-  | inl at ↦ (let is : e.1 ≡ o = same_found e.1 o (rw at at found) in
-      rw at (same ∙ ap (λ (t : Owned). t.number) (sym is) ∙ keyed.0, keyed.1))
-  | inr not ↦ rw not (keyed.0, written_keyed s es o new keyed.1 (rw not at found) same)
-]
-
-pub put_written : (s : ℕ) (ys : List Interval) (es : List (ℕ × Owned)) (o : Owned) → AreKept es → lookup (is_at (nat_cmp s)) es ≡ Some o → is_empty ys ≡ false →
-    IsPut s ys es (set_value (is_at (nat_cmp s)) es (record o { intervals = ys }))
-put_written s ys es o kept found some = record {
-  keyed = written_keyed s es o (record o { intervals = ys }) kept.keyed found refl;
-  put = written 0 s ys es o kept.keyed kept.canonical.from found some;
-}
-
--- a new owner
-inserted : (low s : ℕ) (new : Owned) (es : List (ℕ × Owned)) → AreKeyed es → lookup (is_at (nat_cmp s)) es ≡ None → new.number ≡ s →
-    is_empty new.intervals ≡ false → AreKeyed (insert_entry nat_cmp es s new) × (values_of (insert_entry nat_cmp es s new) ≡ with_owner s new.intervals (values_of es))
-inserted low s new [] keyed none number some = ((number, tt), sym (entry_is s new.intervals new some number))
-inserted low s new (e ∷ es) keyed none number some = elim (cases_order e.0 s) [
-  | inl same ↦ absurd (
-      let at : is_at (nat_cmp s) e.0 ≡ true = at_number s e.0 ∙ eq-eqb e.0 s same in
-      let bad : Some e.1 ≡ None = rw at at none in
-      cc
+  | inr ge ↦ (
+      let own' : eqb p.number s ≡ true = rw (le-ltb p.number s ge) at own in
+      let same : o ≡ p = rw (le-ltb p.number s ge) at e in
+      let number : o.number ≡ s = ap (λ (t : Owned). t.number) same ∙ eqb-true p.number s own' in
+      rw (le-ltb p.number s ge, own') (ap (λ ts. ts ++ os) (sym (entry_is s ys o some number)))
       )
-  | inr other ↦ elim other [
-    | inl lt ↦ (
-        let not : is_at (nat_cmp s) e.0 ≡ false = at_number s e.0 ∙ ne_eqb e.0 s (λ same. omega arith) in
-        let rest = inserted low s new es keyed.1 (rw not at none) number some in
-        let order : nat_cmp s e.0 ≡ Greater = grind (arith, nat_tests) in
-        let key = keyed.0 in
-        rw (order, lt-ltb e.1.number s (omega arith)) ((keyed.0, rest.0), ap (λ ts. e.1 ∷ ts) rest.1)
-        )
-    | inr gt ↦ (
-        let order : nat_cmp s e.0 ≡ Less = grind (arith, nat_tests) in
-        let key = keyed.0 in
-        rw (order, le-ltb e.1.number s (omega arith), ne_eqb e.1.number s (λ same. omega arith))
-        ((number, (keyed.0, keyed.1)), ap (λ ts. ts ++ e.1 ∷ values_of es) (sym (entry_is s new.intervals new some number)))
-        )
-  ]
-]
-
-pub put_inserted : (s : ℕ) (new : Owned) (es fs : List (ℕ × Owned)) → AreKept es → None ≡ lookup (is_at (nat_cmp s)) es → new.number ≡ s →
-    is_empty new.intervals ≡ false → fs ≡ insert_entry nat_cmp es s new → IsPut s new.intervals es fs
-put_inserted s new es fs kept none number some made =
-    let both = inserted 0 s new es kept.keyed (sym none) number some in
-    rw made (record { keyed = both.0; put = both.1 })
-
-stays : (s : ℕ) (es : List (ℕ × Owned)) → lookup (is_at (nat_cmp s)) es ≡ None → remove_entry (is_at (nat_cmp s)) es ≡ es
-stays s [] none = refl
-stays s (e ∷ es) none = elim (cases_Bool (is_at (nat_cmp s) e.0)) [
-  | inl at ↦ absurd (let bad : Some e.1 ≡ None = rw at at none in cc)
-  | inr not ↦ rw not (ap (λ ts. e ∷ ts) (stays s es (rw not at none)))
 ]
 
 -- an owner that goes
-removed : (low s : ℕ) (es : List (ℕ × Owned)) → AreKeyed es → AreOwners low (values_of es) →
-    AreKeyed (remove_entry (is_at (nat_cmp s)) es) × (values_of (remove_entry (is_at (nat_cmp s)) es) ≡ with_owner s [] (values_of es))
-removed low s [] keyed are = (tt, refl)
-removed low s (e ∷ es) keyed are = elim (cases_order e.0 s) [
-  | inl same ↦ (
-      let at : is_at (nat_cmp s) e.0 ≡ true = at_number s e.0 ∙ eq-eqb e.0 s same in
-      let own : e.1.number ≡ s = keyed.0 ∙ same in
-      rw (at, le-ltb e.1.number s (omega arith), eq-eqb e.1.number s own) (keyed.1, refl)
+removed : (s : ℕ) (os : LockedBytes) → stands s os ≡ true → remove os (place s os) ≡ with_owner s [] os
+removed s [] own = absurd cc
+removed s (p ∷ os) own = elim (cases_lt p.number s) [
+  | inl lt ↦ (
+      let own' : stands s os ≡ true = rw (lt-ltb p.number s lt) at own in
+      rw (lt-ltb p.number s lt) (ap (λ ts. p ∷ ts) (removed s os own'))
       )
-  | inr other ↦ elim other [
-    | inl lt ↦ (
-        let not : is_at (nat_cmp s) e.0 ≡ false = at_number s e.0 ∙ ne_eqb e.0 s (λ same. omega arith) in
-        let rest = removed (suc e.1.number) s es keyed.1 are.3 in
-        let key = keyed.0 in
-        rw (not, lt-ltb e.1.number s (omega arith)) ((keyed.0, rest.0), ap (λ ts. e.1 ∷ ts) rest.1)
-        )
-    | inr gt ↦ (
-        let key = keyed.0 in
-        let not : is_at (nat_cmp s) e.0 ≡ false = at_number s e.0 ∙ ne_eqb e.0 s (λ same. omega arith) in
-        let none = none_below (suc e.1.number) s es keyed.1 are.3 (omega arith) in
-        rw (not, le-ltb e.1.number s (omega arith), ne_eqb e.1.number s (λ same. omega arith), stays s es none) ((key, keyed.1), refl)
-        )
-  ]
+  | inr ge ↦ (let own' : eqb p.number s ≡ true = rw (le-ltb p.number s ge) at own in rw (le-ltb p.number s ge, own') refl)
 ]
 
-pub put_removed : (s : ℕ) (es fs : List (ℕ × Owned)) → AreKept es → fs ≡ remove_entry (is_at (nat_cmp s)) es → IsPut s [] es fs
-put_removed s es fs kept made =
-    let both = removed 0 s es kept.keyed kept.canonical.from in
-    rw made (record { keyed = both.0; put = both.1 })
+-- one that is not there
+pub not_there : (s : ℕ) (os : LockedBytes) → stands s os ≡ false → os ≡ with_owner s [] os
+not_there s [] own = refl
+not_there s (p ∷ os) own = elim (cases_lt p.number s) [
+  | inl lt ↦ (
+      let own' : stands s os ≡ false = rw (lt-ltb p.number s lt) at own in
+      rw (lt-ltb p.number s lt) (ap (λ ts. p ∷ ts) (not_there s os own'))
+      )
+  | inr ge ↦ (let own' : eqb p.number s ≡ false = rw (le-ltb p.number s ge) at own in rw (le-ltb p.number s ge, own') refl)
+]
+
+bytes_absent : (low s : ℕ) (os : LockedBytes) → AreOwners low os → stands s os ≡ false → bytes_of os s ≡ []
+bytes_absent low s [] are own = refl
+bytes_absent low s (p ∷ os) are own = elim (cases_lt p.number s) [
+  | inl lt ↦ (
+      let own' : stands s os ≡ false = rw (lt-ltb p.number s lt) at own in
+      rw (ne_eqb p.number s (λ same. omega arith)) (bytes_absent (suc p.number) s os are.3 own')
+      )
+  | inr ge ↦ (
+      let own' : eqb p.number s ≡ false = rw (le-ltb p.number s ge) at own in
+      rw own' (no_bytes (suc p.number) os s are.3 (omega arith))
+      )
+]
+
+inserted : (s : ℕ) (new : Owned) (os : LockedBytes) → stands s os ≡ false → new.number ≡ s → is_empty new.intervals ≡ false →
+    insert os (place s os) new ≡ with_owner s new.intervals os
+inserted s new [] own number some = sym (entry_is s new.intervals new some number)
+inserted s new (p ∷ os) own number some = elim (cases_lt p.number s) [
+  | inl lt ↦ (
+      let own' : stands s os ≡ false = rw (lt-ltb p.number s lt) at own in
+      rw (lt-ltb p.number s lt) (ap (λ ts. p ∷ ts) (inserted s new os own' number some))
+      )
+  | inr ge ↦ (
+      let own' : eqb p.number s ≡ false = rw (le-ltb p.number s ge) at own in
+      rw (le-ltb p.number s ge, own') (ap (λ ts. ts ++ p ∷ os) (sym (entry_is s new.intervals new some number)))
+      )
+]
+
+pub absent_is : (s : ℕ) (os : LockedBytes) → AreCanonical os → not (stands s os) ≡ is_empty (bytes_of os s)
+absent_is s os are = go 0 os are.from
+  where
+    go : (low : ℕ) (os : LockedBytes) → AreOwners low os → not (stands s os) ≡ is_empty (bytes_of os s)
+    go low [] are = refl
+    go low (p ∷ os) are = elim (cases_lt p.number s) [
+      | inl lt ↦ rw (lt-ltb p.number s lt, ne_eqb p.number s (λ same. omega arith)) (go (suc p.number) os are.3)
+      | inr ge ↦ rw (le-ltb p.number s ge) (elim (cases_Bool (eqb p.number s)) [
+        | inl e ↦ rw e (sym are.1)
+        | inr e ↦ rw (e, no_bytes (suc p.number) os s are.3 (omega arith)) refl
+      ])
+    ]
 
 -- .. though it was written over before
-remove_written : (s : ℕ) (es : List (ℕ × Owned)) (new : Owned) → remove_entry (is_at (nat_cmp s)) (set_value (is_at (nat_cmp s)) es new) ≡
-    remove_entry (is_at (nat_cmp s)) es
-remove_written s [] new = refl
-remove_written s (e ∷ es) new = elim (cases_Bool (is_at (nat_cmp s) e.0)) [
-  | inl at ↦ rw (at, at) refl
-  | inr not ↦ rw (not, not) (ap (λ ts. e ∷ ts) (remove_written s es new))
-]
-
-pub put_emptied : (s : ℕ) (ys : List Interval) (es ms fs : List (ℕ × Owned)) (new : Owned) → AreKept es → ms ≡ set_value (is_at (nat_cmp s)) es new →
-    is_empty ys ≡ true → fs ≡ remove_entry (is_at (nat_cmp s)) ms → IsPut s ys es fs
-put_emptied s [] es ms fs new kept over none made = put_removed s es fs kept (made ∙ ap (remove_entry (is_at (nat_cmp s))) over ∙ remove_written s es new)
-put_emptied s (y ∷ ys) es ms fs new kept over none made = absurd cc
+remove_set : (xs : LockedBytes) (n : ℕ) (y : Owned) → remove (set xs n y) n ≡ remove xs n
+remove_set [] n y = refl
+remove_set (x ∷ xs) zero y = refl
+remove_set (x ∷ xs) (suc n) y = ap (λ ts. x ∷ ts) (remove_set xs n y)
 
 -- in the form of the answers
-pub found_bytes : (s : ℕ) (es : List (ℕ × Owned)) (o : Owned) → AreKept es → Some o ≡ lookup (is_at (nat_cmp s)) es → o.intervals ≡ bytes_of (values_of es) s
-found_bytes s es o kept e = ap bytes_in e ∙ bytes_found s es kept.keyed
+pub own_bytes : (s n : ℕ) (os : LockedBytes) (o : Owned) (r : Bool) → AreCanonical os → n ≡ place s os → r ≡ is_own s (head (drop n os)) → r ≡ true →
+    o ≡ get_or os n o → o.intervals ≡ bytes_of os s
+own_bytes s n os o r are at own is e =
+    bytes_there 0 s os o are.from (ap (λ m. is_own s (head (drop m os))) (sym at) ∙ sym own ∙ is) (e ∙ ap (λ m. get_or os m o) at)
 
-pub found_canonical : (s : ℕ) (es : List (ℕ × Owned)) (o : Owned) → AreKept es → Some o ≡ lookup (is_at (nat_cmp s)) es → IsCanonical o.intervals
-found_canonical s es o kept e = rw (found_bytes s es o kept e) (bytes-canonical 0 (values_of es) s kept.canonical.from)
+pub own_canonical : (s n : ℕ) (os : LockedBytes) (o : Owned) (r : Bool) → AreCanonical os → n ≡ place s os → r ≡ is_own s (head (drop n os)) → r ≡ true →
+    o ≡ get_or os n o → IsCanonical o.intervals
+own_canonical s n os o r are at own is e = rw (own_bytes s n os o r are at own is e) (bytes-canonical 0 os s are.from)
 
-no_bytes_found : (s : ℕ) (es : List (ℕ × Owned)) → AreKept es → None ≡ lookup (is_at (nat_cmp s)) es → bytes_of (values_of es) s ≡ []
-no_bytes_found s es kept e = sym (ap bytes_in e ∙ bytes_found s es kept.keyed)
+pub no_own_bytes : (s n : ℕ) (os : LockedBytes) (r : Bool) → AreCanonical os → n ≡ place s os → r ≡ is_own s (head (drop n os)) → r ≡ false → bytes_of os s ≡ []
+no_own_bytes s n os r are at own not = bytes_absent 0 s os are.from (ap (λ m. is_own s (head (drop m os))) (sym at) ∙ sym own ∙ not)
 
-pub held_written : (s : ℕ) (m : Interval) (es fs : List (ℕ × Owned)) (o new : Owned) → AreKept es → Some o ≡ lookup (is_at (nat_cmp s)) es
-    → fs ≡ set_value (is_at (nat_cmp s)) es new → new ≡ record o { intervals = with_range m o.intervals }
-    → IsPut s (with_range m (bytes_of (values_of es) s)) es fs
-held_written s m es fs o new kept found over made =
-    rw (over, made, ← found_bytes s es o kept found) (put_written s (with_range m o.intervals) es o kept (sym found) (held_some m o.intervals))
+pub own_set : (s n : ℕ) (ys : List Interval) (os : LockedBytes) (o new : Owned) (r : Bool) → AreCanonical os → n ≡ place s os → r ≡ is_own s (head (drop n os))
+    → r ≡ true → o ≡ get_or os n o → new ≡ record o { intervals = ys } → is_empty ys ≡ false → set os n new ≡ with_owner s ys os
+own_set s n ys os o new r are at own is e made some =
+    rw (made, at) (written 0 s ys os o are.from (ap (λ m. is_own s (head (drop m os))) (sym at) ∙ sym own ∙ is) (e ∙ ap (λ m. get_or os m o) at) some)
 
-pub held_inserted : (s : ℕ) (m : Interval) (es fs : List (ℕ × Owned)) (new : Owned) → AreKept es → None ≡ lookup (is_at (nat_cmp s)) es
-    → new ≡ record { number = s; intervals = m ∷ [] } → fs ≡ insert_entry nat_cmp es s new → IsPut s (with_range m (bytes_of (values_of es) s)) es fs
-held_inserted s m es fs new kept none is made =
-    rw (no_bytes_found s es kept none)
-    (put_inserted s (record { number = s; intervals = m ∷ [] }) es fs kept none refl refl (made ∙ ap (insert_entry nat_cmp es s) is))
+pub own_held : (s n : ℕ) (m : Interval) (os : LockedBytes) (o new : Owned) (r : Bool) → AreCanonical os → n ≡ place s os → r ≡ is_own s (head (drop n os))
+    → r ≡ true → o ≡ get_or os n o → new ≡ record o { intervals = with_range m o.intervals } → set os n new ≡ with_owner s (with_range m (bytes_of os s)) os
+own_held s n m os o new r are at own is e made =
+    own_set s n (with_range m o.intervals) os o new r are at own is e made (held_some m o.intervals)
+    ∙ ap (λ xs. with_owner s (with_range m xs) os) (own_bytes s n os o r are at own is e)
 
-pub cleared_absent : (s first last : ℕ) (es fs : List (ℕ × Owned)) → AreKept es → None ≡ lookup (is_at (nat_cmp s)) es → fs ≡ es
-    → IsPut s (without first last (bytes_of (values_of es) s)) es fs
-cleared_absent s first last es fs kept none same =
-    rw (no_bytes_found s es kept none) (put_removed s es fs kept (same ∙ sym (stays s es (sym none))))
+pub new_held : (s n : ℕ) (m : Interval) (os : LockedBytes) (new : Owned) (r : Bool) → AreCanonical os → n ≡ place s os → r ≡ is_own s (head (drop n os))
+    → r ≡ false → new ≡ record { number = s; intervals = m ∷ [] } → insert os n new ≡ with_owner s (with_range m (bytes_of os s)) os
+new_held s n m os new r are at own not made =
+    rw (made, at, no_own_bytes s n os r are at own not)
+    (inserted s (record { number = s; intervals = m ∷ [] }) os (ap (λ k. is_own s (head (drop k os))) (sym at) ∙ sym own ∙ not) refl refl)
 
-pub cleared_written : (s first last : ℕ) (es fs : List (ℕ × Owned)) (o new : Owned) (r : Bool) → AreKept es → Some o ≡ lookup (is_at (nat_cmp s)) es
-    → fs ≡ set_value (is_at (nat_cmp s)) es new → new ≡ record o { intervals = without first last o.intervals } → r ≡ is_empty new.intervals → r ≡ false
-    → IsPut s (without first last (bytes_of (values_of es) s)) es fs
-cleared_written s first last es fs o new r kept found over made tests not =
-    rw (over, made, ← found_bytes s es o kept found) (put_written s (without first last o.intervals) es o kept (sym found)
-    (ap (λ (t : Owned). is_empty t.intervals) (sym made) ∙ sym tests ∙ not))
+pub own_removed : (s n : ℕ) (os : LockedBytes) (r : Bool) → n ≡ place s os → r ≡ is_own s (head (drop n os)) → r ≡ true → remove os n ≡ with_owner s [] os
+own_removed s n os r at own is = rw at (removed s os (ap (λ m. is_own s (head (drop m os))) (sym at) ∙ sym own ∙ is))
 
-pub cleared_removed : (s first last : ℕ) (es ms fs : List (ℕ × Owned)) (o new : Owned) (r : Bool) → AreKept es → Some o ≡ lookup (is_at (nat_cmp s)) es
-    → ms ≡ set_value (is_at (nat_cmp s)) es new → new ≡ record o { intervals = without first last o.intervals } → r ≡ is_empty new.intervals → r ≡ true
-    → fs ≡ remove_entry (is_at (nat_cmp s)) ms → IsPut s (without first last (bytes_of (values_of es) s)) es fs
-cleared_removed s first last es ms fs o new r kept found over made tests is gone =
-    rw (← found_bytes s es o kept found) (put_emptied s (without first last o.intervals) es ms fs new kept over
-    (ap (λ (t : Owned). is_empty t.intervals) (sym made) ∙ sym tests ∙ is) gone)
+pub own_covered : (s n first last : ℕ) (os : LockedBytes) (o : Owned) (r : Bool) → AreCanonical os → n ≡ place s os → r ≡ is_own s (head (drop n os)) → r ≡ true
+    → o ≡ get_or os n o → without first last o.intervals ≡ [] → remove os n ≡ with_owner s (without first last (bytes_of os s)) os
+own_covered s n first last os o r are at own is e none =
+    own_removed s n os r at own is
+    ∙ ap (λ xs. with_owner s xs os) (sym none ∙ ap (without first last) (own_bytes s n os o r are at own is e))
 
-pub cleared_covered : (s first last : ℕ) (es ms fs : List (ℕ × Owned)) (o : Owned) → AreKept es → Some o ≡ lookup (is_at (nat_cmp s)) es
-    → ms ≡ set_value (is_at (nat_cmp s)) es o → without first last o.intervals ≡ [] → fs ≡ remove_entry (is_at (nat_cmp s)) ms
-    → IsPut s (without first last (bytes_of (values_of es) s)) es fs
-cleared_covered s first last es ms fs o kept found over none gone =
-    rw (← found_bytes s es o kept found) (put_emptied s (without first last o.intervals) es ms fs o kept over (ap is_empty none) gone)
+pub none_cleared : (s n first last : ℕ) (os : LockedBytes) (r : Bool) → AreCanonical os → n ≡ place s os → r ≡ is_own s (head (drop n os)) → r ≡ false
+    → os ≡ with_owner s (without first last (bytes_of os s)) os
+none_cleared s n first last os r are at own not =
+    rw (no_own_bytes s n os r are at own not) (not_there s os (ap (λ m. is_own s (head (drop m os))) (sym at) ∙ sym own ∙ not))
 
-pub same_entries : (s : ℕ) (es fs : List (ℕ × Owned)) (o new : Owned) → Some o ≡ lookup (is_at (nat_cmp s)) es → fs ≡ set_value (is_at (nat_cmp s)) es new
-    → new ≡ o → fs ≡ es
-same_entries s es fs o new found over same =
-    over ∙ (ap (set_value (is_at (nat_cmp s)) es) same ∙ set_value_same (is_at (nat_cmp s)) es o (sym found))
+pub own_cleared : (s n first last : ℕ) (os : LockedBytes) (o new : Owned) (r : Bool) → AreCanonical os → n ≡ place s os → r ≡ is_own s (head (drop n os))
+    → r ≡ true → o ≡ get_or os n o → new ≡ record o { intervals = without first last o.intervals } → is_empty new.intervals ≡ false
+    → set os n new ≡ with_owner s (without first last (bytes_of os s)) os
+own_cleared s n first last os o new r are at own is e made some =
+    own_set s n (without first last o.intervals) os o new r are at own is e made (ap (λ (t : Owned). is_empty t.intervals) (sym made) ∙ some)
+    ∙ ap (λ xs. with_owner s (without first last xs) os) (own_bytes s n os o r are at own is e)
 
-pub err_kept : {X E : Type 0} (r : Result X E) (P : Type 0) → P → OnErr r P
-err_kept (Ok x) P is = tt
-err_kept (Err e) P is = is
+no_intervals : (xs : List Interval) → is_empty xs ≡ true → xs ≡ []
+no_intervals [] e = refl
+no_intervals (x ∷ xs) e = absurd cc
 
-abbrev pub entries_of : BTreeMap ℕ Owned → List (ℕ × Owned)
-entries_of m = m.entries
+pub own_emptied : (s n first last : ℕ) (os : LockedBytes) (o new : Owned) (r : Bool) → AreCanonical os → n ≡ place s os → r ≡ is_own s (head (drop n os))
+    → r ≡ true → o ≡ get_or os n o → new ≡ record o { intervals = without first last o.intervals } → is_empty new.intervals ≡ true
+    → remove (set os n new) n ≡ with_owner s (without first last (bytes_of os s)) os
+own_emptied s n first last os o new r are at own is e made empty =
+    remove_set os n new
+    ∙ own_covered s n first last os o r are at own is e (no_intervals _ (ap (λ (t : Owned). is_empty t.intervals) (sym made) ∙ empty))
+
+pub own_dropped : (s n : ℕ) (os : LockedBytes) (r : Bool) → n ≡ place s os → r ≡ is_own s (head (drop n os)) → r ≡ false → os ≡ with_owner s [] os
+own_dropped s n os r at own not = not_there s os (ap (λ m. is_own s (head (drop m os))) (sym at) ∙ sym own ∙ not)
+
+pub is_absent : (s n : ℕ) (os : LockedBytes) (r : Bool) → AreCanonical os → n ≡ place s os → r ≡ is_own s (head (drop n os)) → not r ≡ is_empty (bytes_of os s)
+is_absent s n os r are at own = ap not (own ∙ ap (λ m. is_own s (head (drop m os))) at) ∙ absent_is s os are

@@ -3,6 +3,7 @@ pub mod BlockLemmas
 pub mod CanonicalLemmas
 pub mod ClashLemmas
 pub mod EditLemmas
+pub mod GroupLemmas
 pub mod HolderLemmas
 pub mod KeptLemmas
 pub mod KindLemmas

@@ -12,7 +12,7 @@ use Rattle.nfs_ranges.specs.Owners.{is_empty, AreOwners, AreCanonical, entry, wi
 use Rattle.nfs_ranges.proofs.CanonicalLemmas.{canonical_unique, at_first}
 use Rattle.nfs_ranges.proofs.EditLemmas.{at-with_range, at-without}
 
-owners_later : (low more : ℕ) (os : LockedBytes) → low ≤ more → AreOwners more os → AreOwners low os
+pub owners_later : (low more : ℕ) (os : LockedBytes) → low ≤ more → AreOwners more os → AreOwners low os
 owners_later low more [] le are = tt
 owners_later low more (o ∷ os) le are = (let lo = are.0 in omega arith, are.1, are.2, are.3)
 

@@ -1,17 +1,18 @@
 -- The span of intervals, and wishes that lie outside it.
 use Rattle.std.proofs.Common.{◌≡◌, ℕ, suc, ◌-◌, ◌<◌, ◌≤◌, true, false, leb, List, [], ◌∷◌, ◌++◌, drop, length, Some, None, refl}
-use Rattle.std.proofs.Common.{sym, ◌∙◌, ap, subst, arith}
+use Rattle.std.proofs.Common.{sym, ◌∙◌, ap, subst, arith, inl, inr}
 use Rattle.std.specs.Prelude.{find, slice_get}
 use Rattle.std.proofs.lemmas.List.{append-nil}
-use Rattle.std.proofs.lemmas.Bool.{and_left, and_right, lt-leb, le-ltb}
+use Rattle.std.proofs.lemmas.Bool.{cases_Bool, and_left, and_right, or_parts, lt-leb, le-ltb}
 use Rattle.nfs_ranges.specs.declared.Kind.{Kind}
 use Rattle.nfs_ranges.specs.declared.interval.Interval.{Interval}
+use Rattle.nfs_ranges.specs.declared.span.Span.{Span}
 use Rattle.nfs_ranges.specs.Intervals.{AreFrom, kept_below, kept_above, without}
 use Rattle.nfs_ranges.specs.Edits.{head}
 use Rattle.nfs_ranges.specs.Blocks.{flat, last_from, last_end, block_at, AreSome, AreBlocks}
-use Rattle.nfs_ranges.specs.Owners.{LieWithin, IsSpan}
-use Rattle.nfs_ranges.specs.Clashes.{hits}
-use Rattle.nfs_ranges.specs.Told.{meets}
+use Rattle.nfs_ranges.specs.Owners.{LieWithin, IsSpan, IsSpanOf}
+use Rattle.nfs_ranges.specs.Clashes.{hits, has_write}
+use Rattle.nfs_ranges.specs.Told.{is_write, meets}
 
 wider : (first low last : ℕ) (xs : List Interval) → first ≤ low → LieWithin low last xs → LieWithin first last xs
 wider first low last [] le within = tt
@@ -102,3 +103,54 @@ none_above low high last (x ∷ xs) within le =
 
 pub none_left : (low high first last : ℕ) (xs : List Interval) → LieWithin low high xs → first ≤ low → high ≤ last → without first last xs ≡ []
 none_left low high first last xs within le up = rw (none_below low high first xs within le, none_above low high last xs within up) refl
+
+-- a wish to read, where nothing is held for writing
+pub no_writer : (k : Kind) (first last : ℕ) (xs : List Interval) → is_write k ≡ false → has_write xs ≡ false → find (hits k first last) xs ≡ None
+no_writer k first last [] read none = refl
+no_writer k first last (x ∷ xs) read none =
+    let parts = or_parts (is_write x.kind) (has_write xs) none in
+    let miss : hits k first last x ≡ false = rw (read, parts.0) refl in
+    rw miss (no_writer k first last xs read parts.1)
+
+-- a span that reaches further
+lie_in : (low high first last : ℕ) (xs : List Interval) → first ≤ low → high ≤ last → LieWithin low high xs → LieWithin first last xs
+lie_in low high first last [] le up within = tt
+lie_in low high first last (x ∷ xs) le up within =
+    let lo = within.0 in
+    let hi = within.1 in
+    (omega arith, omega arith, lie_in low high first last xs le up within.2)
+
+pub span_in : (s t : Span) (xs : List Interval) → t.first ≤ s.first → s.last ≤ t.last → (t.writes ≡ false → s.writes ≡ false) → IsSpanOf s xs → IsSpanOf t xs
+span_in s t xs le up read is = record {
+  span = record { each = lie_in s.first s.last t.first t.last xs le up is.span.each };
+  read = λ e. is.read (read e);
+}
+
+-- what a wish may pass over
+pub passes_before : (k : Kind) (first last : ℕ) (s : Span) (xs : List Interval) → last < s.first → IsSpanOf s xs → find (hits k first last) xs ≡ None
+passes_before k first last s xs lt is = none_before k s.first s.last first last xs is.span.each lt
+
+pub passes_behind : (k : Kind) (first last : ℕ) (s : Span) (xs : List Interval) → s.last < first → IsSpanOf s xs → find (hits k first last) xs ≡ None
+passes_behind k first last s xs lt is = none_behind k s.first s.last first last xs is.span.each lt
+
+pub passes_read : (k : Kind) (first last : ℕ) (s : Span) (xs : List Interval) → s.writes ≡ false → is_write k ≡ false → IsSpanOf s xs →
+    find (hits k first last) xs ≡ None
+passes_read k first last s xs none read is = no_writer k first last xs read (is.read none)
+
+pub spans_one : (s : Span) (m : Interval) → s.first ≡ m.first → s.last ≡ m.last → s.writes ≡ is_write m.kind → IsSpanOf s (m ∷ [])
+spans_one s m first last writes = record {
+  span = record { each = (omega arith, omega arith, tt) };
+  read = λ e. rw (sym writes ∙ e) refl;
+}
+
+-- whether something is held for writing, of intervals behind each other
+pub writes_front : (xs ys : List Interval) → has_write xs ≡ true → has_write (xs ++ ys) ≡ true
+writes_front [] ys e = absurd cc
+writes_front (x ∷ xs) ys e = elim (cases_Bool (is_write x.kind)) [
+  | inl is ↦ rw is refl
+  | inr not ↦ (let rest : has_write xs ≡ true = rw not at e in rw not (writes_front xs ys rest))
+]
+
+pub writes_behind : (xs ys : List Interval) → has_write xs ≡ false → has_write (xs ++ ys) ≡ has_write ys
+writes_behind [] ys e = refl
+writes_behind (x ∷ xs) ys e = let parts = or_parts (is_write x.kind) (has_write xs) e in rw parts.0 (writes_behind xs ys parts.1)

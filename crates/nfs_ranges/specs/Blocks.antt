@@ -1,4 +1,4 @@
--- Intervals that lie in blocks, each with what stands next to each other.
+-- A list that lies in blocks, each with what stands next to each other; and the intervals of one that does.
 use Rattle.std.specs.Prelude.{◌≡◌, ℕ, zero, suc, ◌≤◌, take, drop, length, ◌++◌, nat_le, nat_lt, Bool, false, if◌then◌else◌, List, [], ◌∷◌, Option, Some, None}
 use Rattle.std.specs.Option.{option_to_list}
 use Rattle.nfs_ranges.specs.declared.interval.Interval.{Interval}
@@ -9,8 +9,8 @@ use Rattle.nfs_ranges.specs.Intervals.{IsCanonical}
 use Rattle.nfs_ranges.specs.Owners.{is_empty}
 use Rattle.nfs_ranges.specs.Edits.{lead, head}
 
--- the intervals of one block behind those of the other
-abbrev pub flat : List (List Interval) → List Interval
+-- what stands in one block behind what stands in the other
+abbrev pub flat : {X : Type 0} → List (List X) → List X
 flat [] = []
 flat (b ∷ bs) = b ++ flat bs
 
@@ -23,7 +23,7 @@ abbrev pub last_end : List Interval → ℕ
 last_end [] = 0
 last_end (x ∷ xs) = last_from x xs
 
-abbrev pub AreSome : List (List Interval) → Type 0
+abbrev pub AreSome : {X : Type 0} → List (List X) → Type 0
 AreSome [] = Unit {0}
 AreSome (b ∷ bs) = (is_empty b ≡ false) × AreSome bs
 
@@ -39,12 +39,12 @@ abbrev pub ends_whole_by : ℕ → List Interval → Bool
 ends_whole_by byte b = nat_le (last_end b) byte
 
 -- the first block that does not pass, or else the last one
-abbrev pub spot : (List Interval → Bool) → List (List Interval) → ℕ
+abbrev pub spot : {X : Type 0} → (List X → Bool) → List (List X) → ℕ
 spot p [] = 0
 spot p (b ∷ []) = 0
 spot p (b ∷ c ∷ bs) = if p b then suc (spot p (c ∷ bs)) else 0
 
-abbrev pub block_at : List (List Interval) → ℕ → List Interval
+abbrev pub block_at : {X : Type 0} → List (List X) → ℕ → List X
 block_at [] i = []
 block_at (b ∷ bs) zero = b
 block_at (b ∷ bs) (suc i) = block_at bs i

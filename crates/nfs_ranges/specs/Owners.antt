@@ -1,11 +1,12 @@
 -- The owners of a list, in rising order of their numbers.
 use Rattle.std.specs.Prelude.{◌≡◌, ℕ, suc, ◌≤◌, ◌==◌, nat_lt, Bool, true, false, if◌then◌else◌, List, [], ◌∷◌, ◌++◌}
-use Rattle.std.specs.Map.{values_of}
 use Rattle.nfs_ranges.specs.declared.interval.Interval.{Interval}
+use Rattle.nfs_ranges.specs.declared.span.Span.{Span}
 use Rattle.nfs_ranges.specs.Intervals.{IsCanonical}
-use Rattle.nfs_ranges.specs.Holders.{Owned, LockedBytes}
+use Rattle.nfs_ranges.specs.Clashes.{has_write}
+use Rattle.nfs_ranges.specs.Holders.{LockedBytes}
 
-abbrev pub is_empty : List Interval → Bool
+abbrev pub is_empty : {X : Type 0} → List X → Bool
 is_empty [] = true
 is_empty (x ∷ xs) = false
 
@@ -28,21 +29,6 @@ with_owner s xs [] = entry s xs
 with_owner s xs (o ∷ os) =
     if nat_lt o.number s then o ∷ with_owner s xs os else (if o.number == s then entry s xs ++ os else entry s xs ++ o ∷ os)
 
--- each under its own number
-abbrev pub AreKeyed : List (ℕ × Owned) → Type 0
-AreKeyed [] = Unit {0}
-AreKeyed (e ∷ es) = (e.1.number ≡ e.0) × AreKeyed es
-
--- the entries of a map by number
-pub record AreKept (es : List (ℕ × Owned)) : Type 0 where
-  pub keyed : AreKeyed es
-  pub canonical : AreCanonical (values_of es)
-
--- the owner holds these intervals, in place of what it held
-pub record IsPut (s : ℕ) (xs : List Interval) (old new : List (ℕ × Owned)) : Type 0 where
-  pub keyed : AreKeyed new
-  pub put : values_of new ≡ with_owner s xs (values_of old)
-
 -- no byte before the first is held, and none behind the last
 abbrev pub LieWithin : ℕ → ℕ → List Interval → Type 0
 LieWithin first last [] = Unit {0}
@@ -50,3 +36,8 @@ LieWithin first last (x ∷ xs) = (first ≤ x.first) × (x.last ≤ last) × Li
 
 pub record IsSpan (first last : ℕ) (xs : List Interval) : Type 0 where
   pub each : LieWithin first last xs
+
+-- what the span says of the intervals is so
+pub record IsSpanOf (s : Span) (xs : List Interval) : Type 0 where
+  pub span : IsSpan s.first s.last xs
+  pub read : s.writes ≡ false → has_write xs ≡ false

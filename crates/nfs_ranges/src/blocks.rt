@@ -3,6 +3,7 @@
 ghost use Rattle.std.specs.Prelude.{◌≡◌, ◌+◌, ◌-◌, ◌*◌, ◌<◌, ◌≤◌, ◌++◌, ◌∷◌, [], IfOk, OnOk, OnErr, take, drop, length, vec_len, vec_capacity, false};
 ghost use Rattle.std.specs.Option.{option_to_list};
 ghost use Rattle.nfs_ranges.specs.Owners.{is_empty};
+ghost use Rattle.nfs_ranges.specs.Clashes.{has_write};
 ghost use Rattle.nfs_ranges.specs.Edits.{lead, ends_before, ends_by, head};
 ghost use Rattle.nfs_ranges.specs.Blocks.{flat, last_end, block_at, AreSome, AreBlocks, IsPlace, ends_whole, ends_whole_by, spot, spliced, ArePartsOf};
 
@@ -18,15 +19,32 @@ const MOST: usize = 128;
 #[derive(Drop)]
 pub(super) struct Block {
     intervals: Vec<Interval>,
+    /// Whether one of them is held for writing.
+    writes: bool,
 }
 
 impl Model for Block {
-    ghost use Rattle.std.specs.Prelude.{List};
+    ghost use Rattle.std.specs.Prelude.{List, ◌≡◌};
     ghost use Rattle.nfs_ranges.specs.declared.interval.Interval.{Interval};
+    ghost use Rattle.nfs_ranges.specs.Clashes.{has_write};
 
     ghost Value = { List Interval };
 
     ghost view = { λ b. b.intervals.items };
+
+    ghost invariant = { λ b. b.writes ≡ has_write b.intervals.items };
+}
+
+/// Whether one of the intervals is held for writing.
+fn any_write(intervals: &[Interval]) -> bool
+    ensures { result ≡ has_write intervals.now }
+{
+    for x in intervals {
+        if x.kind.is_write() {
+            return true;
+        }
+    }
+    false
 }
 
 impl Block {
@@ -36,7 +54,22 @@ impl Block {
     {
         let mut intervals = Vec::with_capacity(alloc, 1)?;
         intervals.push(interval)?;
-        Ok(Block { intervals })
+        Ok(Block::of(intervals))
+    }
+
+    /// All of the intervals. Each block is made here, so that each has its flag.
+    fn of(intervals: Vec<Interval>) -> Block
+        ensures { result ≡ intervals.items }
+    {
+        let writes = any_write(&intervals);
+        Block { intervals, writes }
+    }
+
+    /// Whether one of the intervals is held for writing.
+    pub(super) fn writes(&self) -> bool
+        ensures { result ≡ has_write self.now }
+    {
+        self.writes
     }
 
     pub(super) fn intervals(&self) -> &[Interval]
@@ -175,7 +208,7 @@ fn cut(alloc: Global, intervals: &mut Vec<Interval>, at: usize) -> Result<Block,
     let mut new = Vec::with_capacity(alloc, tail.len())?;
     new.extend_from_slice(tail)?;
     intervals.truncate(at);
-    Ok(Block { intervals: new })
+    Ok(Block::of(new))
 }
 
 /// The blocks that come in the place of others.
@@ -201,14 +234,14 @@ fn parts_of(alloc: Global, mut intervals: Vec<Interval>) -> Result<Parts, AllocE
     if count <= MOST {
         return Ok(Parts {
             left: None,
-            middle: Some(Block { intervals }),
+            middle: Some(Block::of(intervals)),
             right: None,
         });
     }
     let right = cut(alloc, &mut intervals, count / 3 * 2)?;
     let middle = cut(alloc, &mut intervals, count / 3)?;
     Ok(Parts {
-        left: Some(Block { intervals }),
+        left: Some(Block::of(intervals)),
         middle: Some(middle),
         right: Some(right),
     })

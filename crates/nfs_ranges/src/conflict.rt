@@ -2,7 +2,7 @@
 
 ghost use Rattle.std.specs.Prelude.{◌≡◌, Some};
 ghost use Rattle.nfs_ranges.specs.Intervals.{is_same};
-ghost use Rattle.nfs_ranges.specs.Told.{meets};
+ghost use Rattle.nfs_ranges.specs.Told.{is_write, meets};
 
 use super::Kind;
 
@@ -15,6 +15,12 @@ impl Kind {
             (self, other),
             (Kind::Read, Kind::Read) | (Kind::Write, Kind::Write)
         )
+    }
+
+    pub(super) fn is_write(self) -> bool
+        ensures { result ≡ is_write self }
+    {
+        matches!(self, Kind::Write)
     }
 
     /// Wanted in this way, the byte clashes with one that another lock state holds.

@@ -3,14 +3,15 @@
 ghost use Rattle.std.specs.Prelude.{◌≡◌, ◌+◌, ◌-◌, ◌<◌, ◌≤◌, ◌∷◌, [], length, IfOk, IfSome, OnOk, OnErr, drop, find, None, Some, false, suc, get_or};
 ghost use Rattle.nfs_ranges.specs.Intervals.{IsCanonical, without, with_range};
 ghost use Rattle.nfs_ranges.specs.Holders.{kind_at};
-ghost use Rattle.nfs_ranges.specs.Owners.{IsSpan, is_empty};
-ghost use Rattle.nfs_ranges.specs.Clashes.{hits};
+ghost use Rattle.nfs_ranges.specs.Owners.{IsSpan, IsSpanOf, is_empty};
+ghost use Rattle.nfs_ranges.specs.Clashes.{has_write, hits};
 ghost use Rattle.nfs_ranges.specs.Edits.{lead, ends_before, ends_by, head, begin_at, end_at, left_before, left_behind};
 ghost use Rattle.nfs_ranges.specs.Blocks.{flat, AreSome, AreBlocks, spliced};
 
 use super::Kind;
 use super::blocks::{Block, Place, at_place, block_before, carry_out, place_before, place_by};
 use super::interval::{Edge, Interval};
+use super::span::Span;
 use std::alloc::{AllocError, Global};
 use std::marker::Model;
 
@@ -63,13 +64,24 @@ fn first_of(intervals: &[Interval], kind: Kind, first: u64, last: u64) -> Option
     None
 }
 
+/// The same of a block, which a wish to read passes over if nothing there is held for writing.
+fn first_of_block(block: &Block, kind: Kind, first: u64, last: u64) -> Option<Interval>
+    requires { IsCanonical block.now }
+    ensures { result ≡ find (hits kind first last) block.now }
+{
+    if !kind.is_write() && !block.writes() {
+        return None;
+    }
+    first_of(block.intervals(), kind, first, last)
+}
+
 /// The same of intervals in blocks.
 fn first_in(blocks: &[Block], kind: Kind, first: u64, last: u64) -> Option<Interval>
     requires { AreBlocks blocks.now }
     ensures { result ≡ find (hits kind first last) (flat blocks.now) }
 {
     for b in blocks {
-        if let Some(x) = first_of(b.intervals(), kind, first, last) {
+        if let Some(x) = first_of_block(b, kind, first, last) {
             return Some(x);
         }
         if last <= b.last_end() {
@@ -197,6 +209,18 @@ fn span_of(blocks: &[Block]) -> (u64, u64)
     (x.first, b.last_end())
 }
 
+/// Whether one of the intervals is held for writing.
+fn any_writes(blocks: &[Block]) -> bool
+    ensures { result ≡ has_write (flat blocks.now) }
+{
+    for b in blocks {
+        if b.writes() {
+            return true;
+        }
+    }
+    false
+}
+
 /// The first interval that stands against a wish to lock the range.
 fn hit_in(blocks: &[Block], kind: Kind, first: u64, last: u64) -> Option<Interval>
     requires { AreBlocks blocks.now }
@@ -306,12 +330,18 @@ impl Intervals {
         kind_in(&self.blocks, byte)
     }
 
-    /// The first and the last byte of the intervals, where there are any.
-    pub(super) fn span(&self) -> (u64, u64)
+    /// What is known of the intervals at once.
+    pub(super) fn span(&self) -> Span
         requires { IsCanonical self.now }
-        ensures { IsSpan result.0 result.1 self.now }
+        ensures { IsSpanOf result self.now }
     {
-        span_of(&self.blocks)
+        let (first, last) = span_of(&self.blocks);
+        let writes = any_writes(&self.blocks);
+        Span {
+            first,
+            last,
+            writes,
+        }
     }
 
     /// The first interval that stands against a wish to lock the range.

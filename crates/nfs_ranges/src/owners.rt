@@ -1,48 +1,45 @@
 //! The lock states of a file that hold a byte, in rising order of their numbers.
 
-ghost use Rattle.std.specs.Prelude.{◌≡◌, ◌<◌, ◌≤◌, OnOk, OnErr, IfOk, find, None, [], ◌∷◌};
+ghost use Rattle.std.specs.Prelude.{◌≡◌, ◌<◌, ◌≤◌, OnOk, OnErr, IfOk, [], ◌∷◌, length, drop};
 ghost use Rattle.std.specs.Bool.{OnTrue};
-ghost use Rattle.std.specs.Ordering.{nat_cmp};
-ghost use Rattle.std.specs.Map.{values_of, remove_entry};
-ghost use Rattle.std.specs.BTreeMap.{is_at};
 ghost use Rattle.nfs_ranges.specs.Intervals.{IsCanonical, without, with_range};
-ghost use Rattle.nfs_ranges.specs.Clashes.{hits, clash_of, sooner, tell};
-ghost use Rattle.nfs_ranges.specs.declared.Kind.{Kind};
-ghost use Rattle.nfs_ranges.specs.Holders.{Owned, bytes_of, kind_at, at};
-ghost use Rattle.nfs_ranges.specs.Owners.{AreKept, IsPut, is_empty};
+ghost use Rattle.nfs_ranges.specs.Edits.{lead, head};
+ghost use Rattle.nfs_ranges.specs.Clashes.{clash_of};
+ghost use Rattle.nfs_ranges.specs.Holders.{bytes_of, kind_at, at};
+ghost use Rattle.nfs_ranges.specs.Owners.{AreCanonical, IsSpanOf, is_empty, with_owner};
+ghost use Rattle.nfs_ranges.specs.Groups.{is_below, is_own};
 
 use super::edits::Intervals;
 use super::interval::Interval;
+use super::span::Span;
 use super::{Held, Kind};
 use std::alloc::{AllocError, Global};
-use std::collections::BTreeMap;
 use std::marker::Model;
 
-/// The bytes that one lock state holds, all of them from `first` to `last`.
+/// The bytes that one lock state holds.
 ///
-/// Entries are walked over and moved, so each is kept short: its intervals stand in a box.
+/// Owners are walked over and moved, so each is kept short: its intervals stand in a box.
 #[derive(Drop)]
 pub(super) struct Owner {
     number: u64,
-    first: u64,
-    last: u64,
+    span: Span,
     intervals: Box<Intervals>,
 }
 
 impl Model for Owner {
     ghost use Rattle.nfs_ranges.specs.Holders.{Owned};
-    ghost use Rattle.nfs_ranges.specs.Owners.{IsSpan};
+    ghost use Rattle.nfs_ranges.specs.Owners.{IsSpanOf};
 
     ghost Value = { Owned };
 
     ghost view = { λ o. record { number = o.number; intervals = o.intervals.value } };
 
-    ghost invariant = { λ o. IsSpan o.first o.last o.intervals.value };
+    ghost invariant = { λ o. IsSpanOf o.span o.intervals.value };
 }
 
 impl Owner {
     /// It holds one range.
-    fn new(
+    pub(super) fn new(
         alloc: Global,
         number: u64,
         kind: Kind,
@@ -52,12 +49,28 @@ impl Owner {
         ensures { IfOk result (λ o. o ≡ record { number = number; intervals = record { kind = kind; first = first; last = last } ∷ [] }) }
     {
         let intervals = Intervals::one(alloc, Interval { kind, first, last })?;
+        let writes = kind.is_write();
         Ok(Owner {
             number,
-            first,
-            last,
+            span: Span {
+                first,
+                last,
+                writes,
+            },
             intervals: Box::new(alloc, intervals)?,
         })
+    }
+
+    pub(super) fn number(&self) -> u64
+        ensures { result ≡ self.now.number }
+    {
+        self.number
+    }
+
+    pub(super) fn span(&self) -> Span
+        ensures { IsSpanOf result self.now.intervals }
+    {
+        self.span
     }
 
     fn kind_at(&self, byte: u64) -> Option<Kind>
@@ -80,7 +93,7 @@ impl Owner {
         ensures err { OnErr result (self.new ≡ self.old) }
     {
         self.intervals.set(alloc, kind, first, last)?;
-        (self.first, self.last) = self.intervals.span();
+        self.span = self.intervals.span();
         Ok(())
     }
 
@@ -91,32 +104,25 @@ impl Owner {
         ensures err { OnErr result (self.new ≡ self.old) }
     {
         self.intervals.clear(alloc, first, last)?;
-        (self.first, self.last) = self.intervals.span();
+        self.span = self.intervals.span();
         Ok(())
     }
 }
 
 impl Owner {
-    /// The owner holds no byte of the range.
-    fn lies_apart(&self, first: u64, last: u64) -> bool
-        ensures { OnTrue result ((kind : Kind) → find (hits kind first last) self.now.intervals ≡ None) }
-    {
-        last < self.first || self.last < first
-    }
-
     /// The range covers all that the owner holds.
     fn lies_within(&self, first: u64, last: u64) -> bool
         ensures { OnTrue result (without first last self.now.intervals ≡ []) }
     {
-        first <= self.first && self.last <= last
+        first <= self.span.first && self.span.last <= last
     }
 
     /// The owner's first interval that stands against a wish of another.
-    fn clash(&self, number: u64, kind: Kind, first: u64, last: u64) -> Option<Held>
+    pub(super) fn clash(&self, number: u64, kind: Kind, first: u64, last: u64) -> Option<Held>
         requires { IsCanonical self.now.intervals }
         ensures { result ≡ clash_of number kind first last self.now }
     {
-        if self.lies_apart(first, last) || self.number == number {
+        if self.number == number || self.span.lets_pass(kind, first, last) {
             return None;
         }
         let x = self.intervals.first_hit(kind, first, last)?;
@@ -129,67 +135,52 @@ impl Owner {
     }
 }
 
-/// Of two that clash, the one that does so on the lower byte from `first` on, and else the first.
-fn sooner(first: u64, best: Option<Held>, next: Option<Held>) -> Option<Held>
-    ensures { result ≡ sooner first best next }
+/// How many owners have a lower number.
+fn place_of(owners: &[Owner], number: u64) -> usize
+    requires { AreCanonical owners.now }
+    ensures place { result ≡ lead (is_below number) owners.now }
+    ensures bound { result ≤ length owners.now }
 {
-    let Some(b) = best else {
-        return next;
-    };
-    match next {
-        Some(c) if c.first.max(first) < b.first.max(first) => next,
-        _ => best,
-    }
+    owners.partition_point(|o| o.number() < number)
 }
 
-/// What is told of a wish to lock the range.
-pub(super) fn first_clash(
-    owners: &BTreeMap<u64, Owner, Global>,
-    number: u64,
-    kind: Kind,
-    first: u64,
-    last: u64,
-) -> Option<Held>
-    requires { AreKept owners.now.entries }
-    ensures { result ≡ tell number kind first last None (values_of owners.now.entries) }
+/// Whether the owner stands at the place.
+fn stands_at(owners: &[Owner], place: usize, number: u64) -> bool
+    ensures own { result ≡ is_own number (head (drop place owners.now)) }
+    ensures bound { OnTrue result (place < length owners.now) }
 {
-    let mut best = None;
-    for o in owners.values() {
-        // most owners lie apart from the range: only what clashes is copied
-        if let Some(c) = o.clash(number, kind, first, last) {
-            best = sooner(first, best, Some(c));
-        }
+    match owners.get(place) {
+        Some(o) => o.number() == number,
+        None => false,
     }
-    best
 }
 
 /// How an owner holds a byte.
-pub(super) fn kind_of(owners: &BTreeMap<u64, Owner, Global>, number: u64, byte: u64) -> Option<Kind>
-    requires { AreKept owners.now.entries }
-    ensures { result ≡ at (values_of owners.now.entries) number byte }
+pub(super) fn kind_among(owners: &[Owner], number: u64, byte: u64) -> Option<Kind>
+    requires { AreCanonical owners.now }
+    ensures { result ≡ at owners.now number byte }
 {
-    match owners.get(&number) {
-        Some(owner) => owner.kind_at(byte),
-        None => None,
+    let place = place_of(owners, number);
+    if stands_at(owners, place, number) {
+        return owners[place].kind_at(byte);
     }
+    None
 }
 
-/// Whether an owner holds nothing.
-pub(super) fn holds_none(owners: &BTreeMap<u64, Owner, Global>, number: u64) -> bool
-    requires { AreKept owners.now.entries }
-    ensures { result ≡ is_empty (bytes_of (values_of owners.now.entries) number) }
+/// Whether an owner is none of these. Each of them holds something.
+pub(super) fn is_absent(owners: &[Owner], number: u64) -> bool
+    requires { AreCanonical owners.now }
+    ensures { result ≡ is_empty (bytes_of owners.now number) }
 {
-    match owners.get(&number) {
-        Some(owner) => owner.is_empty(),
-        None => true,
-    }
+    let place = place_of(owners, number);
+    !stands_at(owners, place, number)
 }
 
 /// The owner holds the bytes from `first` to `last` with this kind from now on.
 ///
 /// `Err`: no memory, and nothing has changed.
-pub(super) fn set(
-    owners: &mut BTreeMap<u64, Owner, Global>,
+pub(super) fn set_among(
+    owners: &mut Vec<Owner>,
     alloc: Global,
     number: u64,
     kind: Kind,
@@ -197,60 +188,59 @@ pub(super) fn set(
     last: u64,
 ) -> Result<(), AllocError>
     requires range { first ≤ last }
-    requires owners { AreKept owners.old.entries }
-    ensures ok { OnOk result (IsPut number (with_range (record { kind = kind; first = first; last = last }) (bytes_of (values_of owners.old.entries) number)) owners.old.entries owners.new.entries) }
-    ensures err { OnErr result (owners.new.entries ≡ owners.old.entries) }
+    requires owners { AreCanonical owners.old.items }
+    ensures ok { OnOk result (owners.new.items ≡ with_owner number (with_range (record { kind = kind; first = first; last = last }) (bytes_of owners.old.items number)) owners.old.items) }
+    ensures err { OnErr result (owners.new.items ≡ owners.old.items) }
 {
-    if let Some(owner) = owners.get_mut(&number) {
-        return owner.set(alloc, kind, first, last);
+    let place = place_of(owners, number);
+    if stands_at(owners, place, number) {
+        return owners[place].set(alloc, kind, first, last);
     }
     let owner = Owner::new(alloc, number, kind, first, last)?;
-    owners.insert(number, owner)?;
+    owners.insert(place, owner)?;
     Ok(())
 }
 
-/// The entry of an owner goes.
-fn take(owners: &mut BTreeMap<u64, Owner, Global>, number: u64)
-    ensures { owners.new.entries ≡ remove_entry (is_at (nat_cmp number)) owners.old.entries }
-{
-    let _ = owners.remove(&number);
-}
-
-/// The owner holds none of the bytes from `first` to `last` from now on; with its last byte its entry goes.
+/// The owner holds none of the bytes from `first` to `last` from now on; with its last byte it goes.
 ///
 /// Where the range covers all that it holds, no memory is asked for.
 ///
 /// `Err`: no memory, and nothing has changed.
-pub(super) fn clear(
-    owners: &mut BTreeMap<u64, Owner, Global>,
+pub(super) fn clear_among(
+    owners: &mut Vec<Owner>,
     alloc: Global,
     number: u64,
     first: u64,
     last: u64,
 ) -> Result<(), AllocError>
     requires range { first ≤ last }
-    requires owners { AreKept owners.old.entries }
-    ensures ok { OnOk result (IsPut number (without first last (bytes_of (values_of owners.old.entries) number)) owners.old.entries owners.new.entries) }
-    ensures err { OnErr result (owners.new.entries ≡ owners.old.entries) }
+    requires owners { AreCanonical owners.old.items }
+    ensures ok { OnOk result (owners.new.items ≡ with_owner number (without first last (bytes_of owners.old.items number)) owners.old.items) }
+    ensures err { OnErr result (owners.new.items ≡ owners.old.items) }
 {
-    let Some(owner) = owners.get_mut(&number) else {
-        return Ok(());
-    };
-    if owner.lies_within(first, last) {
-        take(owners, number);
+    let place = place_of(owners, number);
+    if !stands_at(owners, place, number) {
         return Ok(());
     }
+    if owners[place].lies_within(first, last) {
+        let _ = owners.remove(place);
+        return Ok(());
+    }
+    let owner = &mut owners[place];
     owner.clear(alloc, first, last)?;
     if owner.is_empty() {
-        take(owners, number);
+        let _ = owners.remove(place);
     }
     Ok(())
 }
 
 /// The owner holds nothing from now on.
-pub(super) fn drop_owner(owners: &mut BTreeMap<u64, Owner, Global>, number: u64)
-    requires { AreKept owners.old.entries }
-    ensures { IsPut number [] owners.old.entries owners.new.entries }
+pub(super) fn drop_among(owners: &mut Vec<Owner>, number: u64)
+    requires { AreCanonical owners.old.items }
+    ensures { owners.new.items ≡ with_owner number [] owners.old.items }
 {
-    take(owners, number);
+    let place = place_of(owners, number);
+    if stands_at(owners, place, number) {
+        let _ = owners.remove(place);
+    }
 }

@@ -1,5 +1,16 @@
+use Rattle.std.proofs.Common.{◌∙◌, sym, ap, subst}
+use Rattle.nfs_ranges.specs.Clashes.{has_write}
+use Rattle.nfs_ranges.specs.Owners.{IsSpan, IsSpanOf}
+use Rattle.nfs_ranges.specs.Blocks.{flat}
 use Rattle.nfs_ranges.proofs.BlockLemmas.{blocks_are}
 use Rattle.nfs_ranges.proofs.edits.Intervals.span.Goals as goal
 
-pub span_of-requires : goal.span_of-requires
-span_of-requires c = rw c.deref.ensures.value (blocks_are c.self.inside.blocks.items c.args.self.now c.self.invariant c.self.view_is c.requires)
+pub span_of-first-requires : goal.span_of-first-requires
+span_of-first-requires c = rw c.deref.ensures.value (blocks_are c.self.inside.blocks.items c.args.self.now c.self.invariant c.self.view_is c.requires)
+
+pub returns : goal.returns
+returns c =
+    subst (IsSpanOf (record { first = c.span_of-first.result.0; last = c.span_of-first.result.1; writes = c.any_writes-writes.result })) c.self.view_is (record {
+      span = subst (λ bs. IsSpan c.span_of-first.result.0 c.span_of-first.result.1 (flat bs)) c.deref.ensures.value c.span_of-first.ensures;
+      read = λ e. ap (λ bs. has_write (flat bs)) (sym c.deref-2.ensures.value) ∙ sym c.any_writes-writes.ensures ∙ e;
+    })

@@ -1,0 +1,21 @@
+use Rattle.std.proofs.Common.{◌+◌, None, drop, sym, ◌∙◌}
+use Rattle.std.proofs.lemmas.Bool.{OnTrue_at}
+use Rattle.nfs_ranges.specs.Clashes.{tell}
+use Rattle.nfs_ranges.specs.Blocks.{flat}
+use Rattle.nfs_ranges.proofs.ClashLemmas.{told_group}
+use Rattle.nfs_ranges.proofs.GroupLemmas.{got_group}
+use Rattle.nfs_ranges.proofs.groups.first_clash.Goals as goal
+
+pub clash-best-requires : goal.clash-best-requires
+clash-best-requires c = got_group c.args.groups.now c.loop-g.g-index c.g-item.result c.requires c.loop-g-test.true c.g-item.is
+
+pub returns-then-stays_told : goal.returns-then-stays_told
+returns-then-stays_told c =
+    sym (OnTrue_at c.if-stays_told.true c.stays_told.ensures c.args.number c.args.kind c.args.last (flat (drop (c.loop-g.g-index + 1) c.args.groups.now)))
+    ∙ told_group c.args.number c.args.kind c.args.first c.args.last c.loop-g.g-index c.loop-g.best c.clash-best.result c.args.groups.now c.g-item.result
+    (tell c.args.number c.args.kind c.args.first c.args.last None (flat c.args.groups.now)) c.loop-g-test.true c.g-item.is c.loop-g.invariant c.clash-best.ensures
+
+pub loop-g-preserved : goal.loop-g-preserved
+loop-g-preserved c =
+    told_group c.args.number c.args.kind c.args.first c.args.last c.loop-g.g-index c.loop-g.best c.clash-best.result c.args.groups.now c.g-item.result
+    (tell c.args.number c.args.kind c.args.first c.args.last None (flat c.args.groups.now)) c.loop-g-test.true c.g-item.is c.loop-g.invariant c.clash-best.ensures

@@ -1,0 +1,38 @@
+//! What is known of intervals at once, so that a wish can pass over all of them.
+
+ghost use Rattle.std.specs.Prelude.{◌≡◌, List, None, find};
+ghost use Rattle.std.specs.Bool.{OnTrue};
+ghost use Rattle.nfs_ranges.specs.declared.interval.Interval.{Interval};
+ghost use Rattle.nfs_ranges.specs.Owners.{IsSpanOf};
+ghost use Rattle.nfs_ranges.specs.Clashes.{hits};
+
+use super::Kind;
+
+/// Intervals lie from `first` to `last`, and unless `writes` none of them is held for writing.
+#[derive(Clone, Copy)]
+pub(super) struct Span {
+    pub(super) first: u64,
+    pub(super) last: u64,
+    pub(super) writes: bool,
+}
+
+impl Span {
+    /// The span of the intervals of both.
+    pub(super) fn with(self, other: Span) -> Span
+        ensures mine { (xs : List Interval) → IsSpanOf self xs → IsSpanOf result xs }
+        ensures others { (xs : List Interval) → IsSpanOf other xs → IsSpanOf result xs }
+    {
+        Span {
+            first: self.first.min(other.first),
+            last: self.last.max(other.last),
+            writes: self.writes || other.writes,
+        }
+    }
+
+    /// No interval stands against a wish to lock the range: all lie apart from it, or are held for reading like it.
+    pub(super) fn lets_pass(&self, kind: Kind, first: u64, last: u64) -> bool
+        ensures { OnTrue result ((xs : List Interval) → IsSpanOf self.now xs → find (hits kind first last) xs ≡ None) }
+    {
+        last < self.first || self.last < first || !(self.writes || kind.is_write())
+    }
+}
