@@ -80,7 +80,7 @@ impl<T: Entry> Block<T> {
         self.entries.push(new).unwrap();
     }
 
-    /// An entry comes in. Where the block is full then, the spare one takes its second half and is handed out.
+    /// An entry comes in, which belongs to `of`. Where the block is full then, the spare one takes its second half and is handed out.
     fn put<S: Sought<T>>(
         &mut self,
         of: &S,

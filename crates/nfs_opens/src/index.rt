@@ -104,7 +104,7 @@ pub(crate) fn next_in<T: Entry, S: Sought<T>>(entries: &[T], of: &S, after: u64)
     }
 }
 
-/// An entry comes in. It takes no memory.
+/// An entry comes in, which belongs to `of`. It takes no memory.
 pub(crate) fn put<T: Entry, S: Sought<T>>(entries: &mut Vec<T>, of: &S, new: T)
     requires of { S.of of.now ≡ (T.pair new).of }
     requires order { IsAscending (map T.pair entries.old.items) }

@@ -1,4 +1,4 @@
-use Rattle.std.proofs.Common.{List, ◌-◌, length, map, Some, subst, ◌≡◌, ◌∙◌}
+use Rattle.std.proofs.Common.{List, ◌-◌, length, Some, subst, ◌≡◌, ◌∙◌}
 use Rattle.std.specs.Prelude.{slice_get}
 use Rattle.nfs_opens.specs.declared.index.Pair.{Pair}
 use Rattle.nfs_opens.proofs.EntryLemmas.{last_map}

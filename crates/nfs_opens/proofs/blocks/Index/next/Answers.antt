@@ -1,4 +1,4 @@
-use Rattle.std.proofs.Common.{◌≡◌, List, true, Some, None, subst, sym, ap, ◌∙◌}
+use Rattle.std.proofs.Common.{◌≡◌, List, true, None, subst, sym, ap, ◌∙◌}
 use Rattle.std.specs.Prelude.{slice_get}
 use Rattle.std.specs.Option.{option_copied}
 use Rattle.nfs_opens.specs.declared.index.Pair.{Pair}
