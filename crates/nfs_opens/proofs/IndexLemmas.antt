@@ -1,7 +1,7 @@
 -- Pairs in their order, what stands before and behind a place, what one that comes or goes leaves; and a walk over the states that belong to one file.
 use Rattle.std.proofs.Common.{◌≡◌, ◌≢◌, ◌⊎◌, inl, inr, ℕ, zero, suc, ◌<◌, ◌≤◌, Bool, true, false, not, List, [], ◌∷◌, ◌++◌, map, take, drop, length, get_or}
 use Rattle.std.proofs.Common.{Option, Some, None, refl, sym, ◌∙◌, ap, subst, arith}
-use Rattle.std.specs.Prelude.{◌==◌, ◌&&◌, ◌||◌, nat_lt, is_some, find, filter, slice_get}
+use Rattle.std.specs.Prelude.{◌==◌, ◌&&◌, ◌||◌, nat_lt, is_some, find, filter, slice_get, if◌then◌else◌}
 use Rattle.std.specs.List.{insert, remove, list_any}
 use Rattle.std.specs.List.Sorted.{IsPartitionPoint, IsPartitionedBy}
 use Rattle.std.proofs.lemmas.Bool.{cases_Bool, cases_lt, eq-eqb, ne_eqb, eqb-true, lt-ltb, le-ltb, ltb-true, and_parts, false≢true}
@@ -9,12 +9,9 @@ use Rattle.nfs_xdr.specs.Tables.{IsRising, In}
 use Rattle.nfs_xdr.proofs.Lists.{in_at, in_filter, stays_in, in_map, map_in, in_push, push_in, last_in, find_in, find_none, none_in, in_any}
 use Rattle.nfs_xdr.proofs.Tables.{in_bounds, in_once, without_none}
 use Rattle.nfs_opens.specs.declared.index.Pair.{Pair}
-use Rattle.nfs_opens.specs.Index.{Precedes, IsAscending, is_before, IsNext, HasPut, HasTaken, IsIndex}
+use Rattle.nfs_opens.specs.Index.{Precedes, IsAscending, pair_of, is_before, IsNext, HasPut, HasTaken, IsIndex}
 
 -- Of two pairs one precedes the other, or they are the same.
-
-abbrev pub pair_of : ℕ → ℕ → Pair
-pair_of of number = record { of = of; number = number }
 
 same_pair : (p q : Pair) → p.of ≡ q.of → p.number ≡ q.number → p ≡ q
 same_pair p q o n = ap (λ (k : ℕ). pair_of k p.number) o ∙ ap (λ (k : ℕ). pair_of q.of k) n
@@ -418,9 +415,9 @@ module _ {X : Type 0} (of number : X → ℕ) where
   index_left n xs ps is gone = subst (λ (ys : List X). IsIndex of number ys ps) (sym (without_none number n xs gone)) is
 
   -- a change that keeps what the state belongs to and its number
-  pub index_changed : (f : X → X) (xs : List X) (ps : List Pair) → ((x : X) → of (f x) ≡ of x) → ((x : X) → number (f x) ≡ number x)
+  index_mapped : (f : X → X) (xs : List X) (ps : List Pair) → ((x : X) → of (f x) ≡ of x) → ((x : X) → number (f x) ≡ number x)
       → IsIndex of number xs ps → IsIndex of number (map f xs) ps
-  index_changed f xs ps same_of same_number is = record {
+  index_mapped f xs ps same_of same_number is = record {
     order = is.order;
     each = λ y there.
         let (x, in_x, made) = in_map f xs y there in
@@ -429,6 +426,16 @@ module _ {X : Type 0} (of number : X → ℕ) where
         let (x, in_x, here, same) = is.only p there in
         (f x, map_in f xs x in_x, same_of x ∙ here, same_number x ∙ same);
   }
+
+  -- such a change of the state of one number
+  pub index_changed : (f : X → X) (n : ℕ) (xs ys : List X) (ps : List Pair) → ys ≡ map (λ x. if number x == n then f x else x) xs
+      → ((x : X) → of (f x) ≡ of x) → ((x : X) → number (f x) ≡ number x) → IsIndex of number xs ps → IsIndex of number ys ps
+  index_changed f n xs ys ps made same_of same_number is =
+      subst (λ (zs : List X). IsIndex of number zs ps) (sym made)
+      (index_mapped (λ x. if number x == n then f x else x) xs ps
+      (λ x. elim (cases_Bool (number x == n)) [ inl here ↦ rw here (same_of x) | inr other ↦ rw other refl ])
+      (λ x. elim (cases_Bool (number x == n)) [ inl here ↦ rw here (same_number x) | inr other ↦ rw other refl ])
+      is)
 
   -- The next state.
 

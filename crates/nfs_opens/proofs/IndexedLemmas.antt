@@ -1,28 +1,16 @@
--- The opens in their indexes, behind what changes one of them, and walks over those that belong to one file.
-use Rattle.std.proofs.Common.{◌≡◌, ℕ, suc, ◌-◌, ◌<◌, Bool, true, false, List, Option, Some, None, map, sym, ◌∙◌, ap, subst, arith, refl, inl, inr, Bor}
-use Rattle.std.specs.Prelude.{◌==◌, ◌&&◌, not, nat_lt, is_some, find, if◌then◌else◌}
+-- Walks over the opens that belong to one file.
+use Rattle.std.proofs.Common.{◌≡◌, ℕ, suc, ◌-◌, ◌<◌, Bool, true, false, List, Option, Some, None, sym, ◌∙◌, ap, arith, refl, Bor}
+use Rattle.std.specs.Prelude.{◌==◌, ◌&&◌, not, nat_lt, is_some, find}
 use Rattle.std.specs.List.{list_any}
 use Rattle.std.specs.Option.{option_copied}
-use Rattle.std.proofs.lemmas.Bool.{cases_Bool, and_parts, eqb-true}
+use Rattle.std.proofs.lemmas.Bool.{and_parts, eqb-true}
 use Rattle.nfs_xdr.proofs.Lists.{find_in, any_in}
-use Rattle.nfs_opens.specs.declared.index.Pair.{Pair}
 use Rattle.nfs_opens.specs.declared.records.OpenState.{OpenState}
-use Rattle.nfs_opens.specs.Index.{IsIndex}
 use Rattle.nfs_opens.specs.Keys.{owner_key, open_key}
 use Rattle.nfs_opens.specs.Table.{Table, Asked, is_own}
 use Rattle.nfs_opens.specs.Kept.{IsTable}
 use Rattle.nfs_opens.proofs.ShareLemmas.{own_is}
-use Rattle.nfs_opens.proofs.IndexLemmas.{index_changed, any_begun, any_done, any_missed, come_bounds}
-
-pub opens_changed : (of : OpenState → ℕ) (f : OpenState → OpenState) (n : ℕ) (xs ys : List OpenState) (ps : List Pair)
-    → ys ≡ map (λ o. if o.number == n then f o else o) xs → ((o : OpenState) → of (f o) ≡ of o) → ((o : OpenState) → (f o).number ≡ o.number)
-    → IsIndex of (λ o. o.number) xs ps → IsIndex of (λ o. o.number) ys ps
-opens_changed of f n xs ys ps made file number is =
-    subst (λ (os : List OpenState). IsIndex of (λ o. o.number) os ps) (sym made)
-    (index_changed of (λ o. o.number) (λ o. if o.number == n then f o else o) xs ps
-    (λ o. elim (cases_Bool (o.number == n)) [ inl here ↦ rw here (file o) | inr other ↦ rw other refl ])
-    (λ o. elim (cases_Bool (o.number == n)) [ inl here ↦ rw here (number o) | inr other ↦ rw other refl ])
-    is)
+use Rattle.nfs_opens.proofs.IndexLemmas.{any_begun, any_done, any_missed, come_bounds}
 
 -- A walk over the opens that belong to one thing, as a file, by a test that only they pass.
 

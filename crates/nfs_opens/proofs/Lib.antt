@@ -2,6 +2,7 @@ pub mod BlockLemmas
 pub mod ClashLemmas
 pub mod CountLemmas
 pub mod CountedLemmas
+pub mod EntryLemmas
 pub mod FileLemmas
 pub mod FlatLemmas
 pub mod HolderLemmas

@@ -1,6 +1,6 @@
--- The lock states in their indexes: those of one key, and behind a seqid that rises; and which files stay listed.
-use Rattle.std.proofs.Common.{◌≡◌, ℕ, suc, ◌-◌, ◌<◌, ◌⊎◌, Bool, true, false, not, List, [], ◌∷◌, ◌++◌, map, Some, None, refl, sym, ◌∙◌, ap, subst, arith, inl, inr}
-use Rattle.std.specs.Prelude.{◌==◌, ◌&&◌, nat_lt, find, filter, bytes_eq, IfSome, if◌then◌else◌}
+-- The lock states of one key, and which files stay listed.
+use Rattle.std.proofs.Common.{◌≡◌, ℕ, suc, ◌⊎◌, Bool, true, false, not, List, [], ◌∷◌, ◌++◌, map, Some, refl, sym, ◌∙◌, ap, subst, inl, inr}
+use Rattle.std.specs.Prelude.{◌==◌, find, filter, bytes_eq, IfSome, if◌then◌else◌}
 use Rattle.std.specs.List.{list_any}
 use Rattle.std.proofs.lemmas.Bool.{cases_Bool, cases_eq, and_parts, eqb-true, eq-eqb, false≢true}
 use Rattle.nfs_xdr.proofs.Lists.{find_in, any_in, in_any, any_filter, any_map, push_in, last_in}
@@ -13,9 +13,6 @@ use Rattle.nfs_opens.specs.Holding.{is_listed, ListsNoMore}
 use Rattle.nfs_opens.specs.Locking.{is_locker, raised}
 use Rattle.nfs_opens.specs.Table.{Table, open_at, lock_at}
 use Rattle.nfs_opens.specs.Kept.{IsTable, AreListed}
-use Rattle.nfs_opens.proofs.IndexLemmas.{index_changed}
-use Rattle.nfs_opens.specs.declared.index.Pair.{Pair}
-use Rattle.nfs_opens.specs.Index.{IsIndex}
 use Rattle.nfs_opens.specs.Keys.{owner_key, lock_key}
 use Rattle.nfs_opens.proofs.ShareLemmas.{owner_bytes}
 use Rattle.nfs_opens.proofs.StepLemmas.{all_some, if_some}
@@ -38,16 +35,6 @@ locker_key client owner file k is l e =
 pub its_file : (t : Table) (p : OpenState → Bool) (o : OpenState) → IsTable t → find p t.opens ≡ Some o → IfSome (open_at t o.number) (λ x. x.file ≡ o.file)
 its_file t p o is found = all_some (open_at t o.number) o (λ x. x.file ≡ o.file)
     (at_of_in (λ (o : OpenState). o.number) 1 (suc t.last) t.opens o is.opens (find_in p t.opens o found).0) refl
-
--- a lock state whose seqid rises stays where it is
-pub locks_raised : (of : LockState → ℕ) → ((l : LockState) → of (raised l) ≡ of l) → (n : ℕ) (xs ys : List LockState) (ps : List Pair)
-    → ys ≡ map (λ l. if l.number == n then raised l else l) xs → IsIndex of (λ l. l.number) xs ps → IsIndex of (λ l. l.number) ys ps
-locks_raised of same n xs ys ps made is =
-    subst (λ (ls : List LockState). IsIndex of (λ l. l.number) ls ps) (sym made)
-    (index_changed of (λ l. l.number) (λ l. if l.number == n then raised l else l) xs ps
-    (λ l. elim (cases_Bool (l.number == n)) [ inl here ↦ rw here (same l) | inr other ↦ rw other refl ])
-    (λ l. elim (cases_Bool (l.number == n)) [ inl here ↦ rw here refl | inr other ↦ rw other refl ])
-    is)
 
 -- lock states leave, all of one file, which is listed no longer where none is left
 pub listed_left : (leaves : LockState → Bool) (file : ℕ) (locks locks' : List LockState) (files files' : List (ℕ × LockedBytes)) → AreListed locks files

@@ -3,6 +3,10 @@ use Rattle.std.specs.Prelude.{◌≡◌, ◌≢◌, ◌⊎◌, ℕ, ◌<◌, ◌
 use Rattle.nfs_xdr.specs.Tables.{In}
 use Rattle.nfs_opens.specs.declared.index.Pair.{Pair}
 
+-- what a state belongs to, and its number
+abbrev pub pair_of : ℕ → ℕ → Pair
+pair_of of number = record { of = of; number = number }
+
 -- pairs stand in the order of what the states belong to, and of one file or client in the order of the numbers
 abbrev pub Precedes : Pair → Pair → Type 0
 Precedes p q = (p.of < q.of) ⊎ ((p.of ≡ q.of) × (p.number < q.number))
@@ -17,7 +21,7 @@ is_before of number too p = nat_lt p.of of || ((p.of == of) && (nat_lt p.number 
 
 -- the lowest number behind another that belongs to a file or a client
 abbrev pub IsNext : List Pair → ℕ → ℕ → Option ℕ → Type 0
-IsNext ps of after (Some n) = In (record { of = of; number = n }) ps × (after < n) × ((p : Pair) → In p ps → p.of ≡ of → after < p.number → n ≤ p.number)
+IsNext ps of after (Some n) = In (pair_of of n) ps × (after < n) × ((p : Pair) → In p ps → p.of ≡ of → after < p.number → n ≤ p.number)
 IsNext ps of after None = (p : Pair) → In p ps → p.of ≡ of → p.number ≤ after
 
 -- one more pair
@@ -36,5 +40,5 @@ pub record HasTaken (ps : List Pair) (old : Pair) (qs : List Pair) : Type 0 wher
 -- An index of states: each of them stands in it, and no other.
 pub record IsIndex {X : Type 0} (of number : X → ℕ) (states : List X) (ps : List Pair) : Type 0 where
   pub order : IsAscending ps
-  pub each : (x : X) → In x states → In (record { of = of x; number = number x }) ps
+  pub each : (x : X) → In x states → In (pair_of (of x) (number x)) ps
   pub only : (p : Pair) → In p ps → (x : X) × In x states × (of x ≡ p.of) × (number x ≡ p.number)

@@ -1,138 +1,131 @@
-//! An index in blocks of pairs, so that a pair that comes or goes moves those of its block alone.
+//! An index in blocks of entries, so that an entry that comes or goes moves those of its block alone.
 
-ghost use Rattle.std.specs.Prelude.{◌≡◌, ◌≢◌, ◌+◌, ◌<◌, ◌≤◌, ◌++◌, ◌∷◌, [], true, false, length, vec_capacity, List, slice_get, slice_index_or, option_copied, Some, None, IfSome, IfOk, OnOk};
+ghost use Rattle.std.specs.Prelude.{◌≡◌, ◌≢◌, ◌+◌, ◌/◌, ◌<◌, ◌≤◌, ◌++◌, ◌∷◌, [], true, false, length, map, vec_capacity, List, slice_index_or, Some, None, IfSome, IfOk, OnOk};
 ghost use Rattle.std.specs.List.Sorted.{IsPartitionPoint};
 ghost use Rattle.nfs_xdr.specs.Tables.{In};
-ghost use Rattle.nfs_opens.specs.Index.{IsAscending, IsNext, HasPut, HasTaken};
+ghost use Rattle.nfs_opens.specs.Index.{IsAscending, IsNext, HasPut, HasTaken, pair_of};
 ghost use Rattle.nfs_opens.specs.Flat.{flat};
 ghost use Rattle.nfs_opens.specs.Blocks.{ends_before, AreOrdered, IsPlace, pairs_in};
 
-use crate::index::{Pair, next_in, put, take};
+use crate::index::{Entry, Pair, Sought, item_at, next_in, put, take};
 use std::alloc::{AllocError, Global};
 use std::marker::Model;
 
-/// A block has fewer pairs, and room for so many.
-const MOST: usize = 256;
-
-const HALF: usize = 128;
-
-/// Pairs that stand next to each other.
+/// Entries that stand next to each other.
 #[derive(Drop)]
-pub(crate) struct Block {
-    pairs: Vec<Pair>,
+pub(crate) struct Block<T: Entry> {
+    entries: Vec<T>,
 }
 
-impl Model for Block {
-    ghost use Rattle.std.specs.Prelude.{List, ◌<◌, ◌≤◌, length, vec_capacity};
+impl<T: Entry> Model for Block<T> {
+    ghost use Rattle.std.specs.Prelude.{List, ◌<◌, ◌≤◌, length, map, vec_capacity};
     ghost use Rattle.nfs_opens.specs.declared.index.Pair.{Pair};
 
     ghost Value = { List Pair };
 
-    ghost view = { λ b. b.pairs.items };
+    ghost view = { λ b. map T.pair b.entries.items };
 
-    ghost invariant = { λ b. (length b.pairs.items < 256) × (256 ≤ vec_capacity b.pairs) };
+    ghost invariant = { λ b. (length b.entries.items < T.MOST) × (T.MOST ≤ vec_capacity b.entries) };
 }
 
-/// Pairs go into a vector that has none, and room for them.
-fn add(tail: &mut Vec<Pair>, pairs: &[Pair])
+/// The second half of what is full goes to the tail.
+fn split<T: Entry>(entries: &mut Vec<T>, tail: &mut Vec<T>)
+    requires full { length entries.old.items ≡ T.MOST }
     requires empty { tail.old.items ≡ [] }
-    requires room { length pairs.now ≤ vec_capacity tail.old }
-    ensures items { tail.new.items ≡ pairs.now }
-    ensures room { vec_capacity tail.old ≤ vec_capacity tail.new }
+    requires room { T.MOST ≤ vec_capacity tail.old }
+    ensures items { entries.new.items ++ tail.new.items ≡ entries.old.items }
+    ensures half { length entries.new.items ≡ T.MOST / 2 }
+    ensures room { vec_capacity entries.new ≡ vec_capacity entries.old }
+    ensures tail_room { T.MOST ≤ vec_capacity tail.new }
 {
-    tail.extend_from_slice(pairs).unwrap();
+    while entries.len() > T::MOST / 2 {
+        let last = entries.pop().unwrap();
+        tail.push(last).unwrap();
+    }
+    tail.reverse();
 }
 
-/// The second half of full pairs goes to the tail.
-fn split(pairs: &mut Vec<Pair>, tail: &mut Vec<Pair>)
-    requires full { length pairs.old.items ≡ 256 }
-    requires empty { tail.old.items ≡ [] }
-    requires room { 256 ≤ vec_capacity tail.old }
-    ensures items { pairs.new.items ++ tail.new.items ≡ pairs.old.items }
-    ensures first { length pairs.new.items ≡ 128 }
-    ensures second { length tail.new.items ≡ 128 }
-    ensures room { vec_capacity pairs.new ≡ vec_capacity pairs.old }
-    ensures tail_room { 256 ≤ vec_capacity tail.new }
-{
-    add(tail, &pairs[HALF..]);
-    pairs.truncate(HALF);
-}
-
-impl Block {
-    /// No pairs.
-    fn new(alloc: Global) -> Result<Block, AllocError>
+impl<T: Entry> Block<T> {
+    /// No entries.
+    fn new(alloc: Global) -> Result<Block<T>, AllocError>
         ensures { IfOk result (λ b. b ≡ []) }
     {
-        let pairs = Vec::with_capacity(alloc, MOST)?;
-        Ok(Block { pairs })
+        let entries = Vec::with_capacity(alloc, T::MOST)?;
+        Ok(Block { entries })
     }
 
-    /// Whether the last pair stands before that of a number, or with `too` is that one.
-    fn ends_before(&self, of: u64, number: u64, too: bool) -> bool
-        ensures { result ≡ ends_before of number too self.now }
+    /// Whether the last entry stands before that of a number, or with `too` is that one.
+    fn ends_before<S: Sought<T>>(&self, of: &S, number: u64, too: bool) -> bool
+        ensures { result ≡ ends_before (S.of of.now) number too self.now }
     {
-        match self.pairs.last() {
-            Some(pair) => pair.is_before(of, number, too),
+        match self.entries.last() {
+            Some(entry) => of.is_behind(entry, number, too),
             None => true,
         }
     }
 
-    /// The lowest number behind `after` that belongs to a file or a client.
-    fn next(&self, of: u64, after: u64) -> Option<u64>
+    /// The lowest number behind `after` of what belongs to what is sought.
+    fn next<S: Sought<T>>(&self, of: &S, after: u64) -> Option<u64>
         requires { IsAscending self.now }
-        ensures { IsNext self.now of after result }
+        ensures { IsNext self.now (S.of of.now) after result }
     {
-        next_in(&self.pairs, of, after)
+        next_in(&self.entries, of, after)
     }
 
-    /// The first pair comes in.
-    fn put_first(&mut self, new: Pair)
+    /// The first entry comes in.
+    fn put_first(&mut self, new: T)
         requires { self.old ≡ [] }
-        ensures { self.new ≡ new ∷ [] }
+        ensures { self.new ≡ T.pair new ∷ [] }
     {
-        self.pairs.push(new).unwrap();
+        self.entries.push(new).unwrap();
     }
 
-    /// A pair comes in. Where the block is full then, the spare one takes its second half and is handed out.
-    fn put(&mut self, new: Pair, spare: &mut Option<Block>) -> Option<Block>
+    /// An entry comes in, which belongs to `of`. Where the block is full then, the spare one takes its second half and is handed out.
+    fn put<S: Sought<T>>(
+        &mut self,
+        of: &S,
+        new: T,
+        spare: &mut Option<Block<T>>,
+    ) -> Option<Block<T>>
+        requires of { S.of of.now ≡ (T.pair new).of }
         requires order { IsAscending self.old }
-        requires other { (p : Pair) → In p self.old → p ≢ new }
+        requires other { (p : Pair) → In p self.old → p ≢ T.pair new }
         requires spare { spare.old ≡ Some [] }
-        ensures put { HasPut self.old new (self.new ++ pairs_in result) }
+        ensures put { HasPut self.old (T.pair new) (self.new ++ pairs_in result) }
         ensures some { self.new ≢ [] }
         ensures tail { IfSome result (λ t. (t ≢ []) × (spare.new ≡ None)) }
         ensures stays { result ≡ None → spare.new ≡ spare.old }
     {
-        put(&mut self.pairs, new);
-        if self.pairs.len() < MOST {
+        put(&mut self.entries, of, new);
+        if self.entries.len() < T::MOST {
             return None;
         }
         let mut tail = spare.take().unwrap();
-        split(&mut self.pairs, &mut tail.pairs);
+        split(&mut self.entries, &mut tail.entries);
         Some(tail)
     }
 
-    /// A pair goes. Whether one stays.
-    fn take(&mut self, old: Pair) -> bool
+    /// An entry goes. Whether one stays.
+    fn take<S: Sought<T>>(&mut self, of: &S, number: u64) -> bool
         requires order { IsAscending self.old }
-        requires there { In old self.old }
-        ensures taken { HasTaken self.old old self.new }
+        requires there { In (pair_of (S.of of.now) number) self.old }
+        ensures taken { HasTaken self.old (pair_of (S.of of.now) number) self.new }
         ensures some { result ≡ true → self.new ≢ [] }
         ensures none { result ≡ false → self.new ≡ [] }
     {
-        take(&mut self.pairs, old);
-        !self.pairs.is_empty()
+        take(&mut self.entries, of, number);
+        !self.entries.is_empty()
     }
 }
 
-/// The pairs of states, in their order. One more may come in while a block is spare.
+/// The entries of states, in their order. One more may come in while a block is spare.
 #[derive(Drop)]
-pub(crate) struct Index {
-    blocks: Vec<Block>,
-    spare: Option<Block>,
+pub(crate) struct Index<T: Entry> {
+    blocks: Vec<Block<T>>,
+    spare: Option<Block<T>>,
 }
 
-impl Model for Index {
+impl<T: Entry> Model for Index<T> {
     ghost use Rattle.std.specs.Prelude.{vec_capacity, is_some};
     ghost use Rattle.nfs_opens.specs.Flat.{flat};
     ghost use Rattle.nfs_opens.specs.Blocks.{Listed, AreBlocks};
@@ -145,48 +138,41 @@ impl Model for Index {
 }
 
 /// The first block that does not end before a number.
-fn block_of(blocks: &[Block], of: u64, number: u64, too: bool) -> usize
+fn block_of<T: Entry, S: Sought<T>>(blocks: &[Block<T>], of: &S, number: u64, too: bool) -> usize
     requires { AreOrdered blocks.now }
     ensures bound { result ≤ length blocks.now }
-    ensures split { IsPartitionPoint (λ b. ends_before of number too b ≡ true) (λ b. ends_before of number too b ≡ false) blocks.now result }
+    ensures split { IsPartitionPoint (λ b. ends_before (S.of of.now) number too b ≡ true) (λ b. ends_before (S.of of.now) number too b ≡ false) blocks.now result }
 {
     blocks.partition_point(|b| b.ends_before(of, number, too))
 }
 
-/// The block at a place.
-fn block_at(blocks: &[Block], place: usize) -> Option<&Block>
-    ensures { option_copied result ≡ slice_get blocks.now place }
-{
-    blocks.get(place)
-}
-
-/// The place of the block into which a pair belongs that is not there.
-fn place_in(blocks: &[Block], new: Pair) -> usize
+/// The place of the block into which an entry belongs that is not there.
+fn place_in<T: Entry, S: Sought<T>>(blocks: &[Block<T>], of: &S, number: u64) -> usize
     requires ordered { AreOrdered blocks.now }
     requires some { 0 < length blocks.now }
-    requires other { (p : Pair) → In p (flat blocks.now) → p ≢ new }
+    requires other { (p : Pair) → In p (flat blocks.now) → p ≢ pair_of (S.of of.now) number }
     ensures bound { result < length blocks.now }
-    ensures place { IsPlace blocks.now new result }
+    ensures place { IsPlace blocks.now (pair_of (S.of of.now) number) result }
 {
-    let place = block_of(blocks, new.of, new.number, false);
+    let place = block_of(blocks, of, number, false);
     if place < blocks.len() {
         return place;
     }
     blocks.len() - 1
 }
 
-/// The place of the block in which a pair stands.
-fn place_with(blocks: &[Block], old: Pair) -> usize
+/// The place of the block in which an entry stands.
+fn place_with<T: Entry, S: Sought<T>>(blocks: &[Block<T>], of: &S, number: u64) -> usize
     requires ordered { AreOrdered blocks.now }
-    requires there { In old (flat blocks.now) }
+    requires there { In (pair_of (S.of of.now) number) (flat blocks.now) }
     ensures bound { result < length blocks.now }
-    ensures there { (d : List Pair) → In old (slice_index_or blocks.now result d) }
+    ensures there { (d : List Pair) → In (pair_of (S.of of.now) number) (slice_index_or blocks.now result d) }
 {
-    block_of(blocks, old.of, old.number, false)
+    block_of(blocks, of, number, false)
 }
 
-impl Index {
-    /// No pairs.
+impl<T: Entry> Index<T> {
+    /// No entries.
     pub(crate) fn new(alloc: Global) -> Self
         ensures { result.items ≡ [] }
     {
@@ -196,17 +182,17 @@ impl Index {
         }
     }
 
-    /// The lowest number behind `after` that belongs to a file or a client.
-    pub(crate) fn next(&self, of: u64, after: u64) -> Option<u64>
-        ensures { IsNext self.now.items of after result }
+    /// The lowest number behind `after` of what belongs to what is sought.
+    pub(crate) fn next<S: Sought<T>>(&self, of: &S, after: u64) -> Option<u64>
+        ensures { IsNext self.now.items (S.of of.now) after result }
     {
-        match block_at(&self.blocks, block_of(&self.blocks, of, after, true)) {
+        match item_at(&self.blocks, block_of(&self.blocks, of, after, true)) {
             Some(block) => block.next(of, after),
             None => None,
         }
     }
 
-    /// Room for one more pair.
+    /// Room for one more entry.
     pub(crate) fn reserve(&mut self, alloc: Global) -> Result<(), AllocError>
         ensures items { self.new.items ≡ self.old.items }
         ensures ok { OnOk result (self.new.ready ≡ true) }
@@ -219,11 +205,12 @@ impl Index {
         Ok(())
     }
 
-    /// A pair comes in. It takes no memory.
-    pub(crate) fn put(&mut self, new: Pair)
+    /// An entry comes in, which belongs to `of`. It takes no memory.
+    pub(crate) fn put<S: Sought<T>>(&mut self, of: &S, new: T)
+        requires of { S.of of.now ≡ (T.pair new).of }
         requires ready { self.old.ready ≡ true }
-        requires other { (p : Pair) → In p self.old.items → p ≢ new }
-        ensures { HasPut self.old.items new self.new.items }
+        requires other { (p : Pair) → In p self.old.items → p ≢ T.pair new }
+        ensures { HasPut self.old.items (T.pair new) self.new.items }
     {
         if self.blocks.is_empty() {
             let mut first = self.spare.take().unwrap();
@@ -231,22 +218,33 @@ impl Index {
             self.blocks.push(first).unwrap();
             return;
         }
-        let place = place_in(&self.blocks, new);
-        if let Some(tail) = self.blocks[place].put(new, &mut self.spare) {
+        let place = place_in(&self.blocks, of, new.number());
+        if let Some(tail) = self.blocks[place].put(of, new, &mut self.spare) {
             self.blocks.insert(place + 1, tail).unwrap();
         }
     }
 
-    /// A pair goes.
-    pub(crate) fn take(&mut self, old: Pair)
-        requires { In old self.old.items }
-        ensures taken { HasTaken self.old.items old self.new.items }
+    /// An entry goes.
+    pub(crate) fn take<S: Sought<T>>(&mut self, of: &S, number: u64)
+        requires { In (pair_of (S.of of.now) number) self.old.items }
+        ensures taken { HasTaken self.old.items (pair_of (S.of of.now) number) self.new.items }
         ensures ready { self.new.ready ≡ self.old.ready }
     {
-        let place = place_with(&self.blocks, old);
-        let stays = self.blocks[place].take(old);
+        let place = place_with(&self.blocks, of, number);
+        let stays = self.blocks[place].take(of, number);
         if !stays {
             let _ = self.blocks.remove(place);
         }
+    }
+}
+
+impl Index<Pair> {
+    /// A pair comes in. It takes no memory.
+    pub(crate) fn put_pair(&mut self, of: u64, number: u64)
+        requires ready { self.old.ready ≡ true }
+        requires other { (p : Pair) → In p self.old.items → p ≢ pair_of of number }
+        ensures { HasPut self.old.items (pair_of of number) self.new.items }
+    {
+        self.put(&of, Pair { of, number });
     }
 }

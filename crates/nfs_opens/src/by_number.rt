@@ -1,19 +1,17 @@
 //! States by their numbers, in blocks, so that one that goes moves those of its block alone.
 
-ghost use Rattle.std.specs.Prelude.{◌≡◌, ◌≢◌, ◌==◌, ◌+◌, ◌<◌, ◌≤◌, ◌++◌, ◌∷◌, [], true, false, not, length, filter, find, map, position, vec_capacity, List, slice_get, slice_index_or, if◌then◌else◌, None, IfSome, IfNone, IfOk, OnOk, ℕ, nat_lt};
+ghost use Rattle.std.specs.Prelude.{◌≡◌, ◌≢◌, ◌==◌, ◌&&◌, ◌+◌, ◌<◌, ◌≤◌, ◌++◌, ◌∷◌, [], true, false, not, length, filter, find, map, position, vec_capacity, List, slice_index_or, if◌then◌else◌, None, IfSome, IfNone, IfOk, OnOk, ℕ, nat_lt};
 ghost use Rattle.std.specs.Option.{option_copied};
 ghost use Rattle.std.specs.List.Sorted.{IsPartitionPoint};
 ghost use Rattle.nfs_xdr.specs.Tables.{In};
+ghost use Rattle.nfs_opens.specs.Index.{IsIndex};
 ghost use Rattle.nfs_opens.specs.Flat.{flat};
 ghost use Rattle.nfs_opens.specs.ByNumber.{ends_below, AreRising};
-ghost use Rattle.nfs_opens.specs.Opening.{joins, narrows};
-ghost use Rattle.nfs_opens.specs.Locking.{raised};
-ghost use Rattle.nfs_opens.specs.Calls.{asked};
 ghost use Rattle.nfs_opens.specs.Kept.{Rises};
 
-use crate::opening::Ask;
-use crate::records::{LockState, OpenState, State};
-use crate::share::Share;
+use crate::blocks::Index;
+use crate::index::{Entry, Sought, item_at};
+use crate::records::{Change, State};
 use std::alloc::{AllocError, Global};
 use std::marker::Model;
 
@@ -113,6 +111,16 @@ impl<T: State> StateBlock<T> {
         self.states.push(new).unwrap();
     }
 
+    /// The state of a number changes.
+    fn change<C: Change<T>>(&mut self, number: u64, change: &C)
+        requires { Rises T.number 1 self.old }
+        ensures { self.new ≡ map (λ x. if T.number x == number then C.changed change.now x else x) self.old }
+    {
+        if let Some(place) = place_of(&self.states, number) {
+            change.make(&mut self.states[place]);
+        }
+    }
+
     /// A state goes. Whether one stays.
     fn remove(&mut self, number: u64) -> bool
         requires { Rises T.number 1 self.old }
@@ -122,37 +130,6 @@ impl<T: State> StateBlock<T> {
     {
         drop_state(&mut self.states, number);
         !self.states.is_empty()
-    }
-}
-
-impl StateBlock<OpenState> {
-    fn join(&mut self, number: u64, ask: &Ask)
-        requires { Rises (λ o. o.number) 1 self.old }
-        ensures { self.new ≡ map (λ o. if o.number == number then joins (asked ask.now) o else o) self.old }
-    {
-        if let Some(place) = place_of(&self.states, number) {
-            self.states[place].join(ask);
-        }
-    }
-
-    fn narrow(&mut self, number: u64, access: Share, deny: Share)
-        requires { Rises (λ o. o.number) 1 self.old }
-        ensures { self.new ≡ map (λ o. if o.number == number then narrows access deny o else o) self.old }
-    {
-        if let Some(place) = place_of(&self.states, number) {
-            self.states[place].narrow(access, deny);
-        }
-    }
-}
-
-impl StateBlock<LockState> {
-    fn raise(&mut self, number: u64)
-        requires { Rises (λ l. l.number) 1 self.old }
-        ensures { self.new ≡ map (λ l. if l.number == number then raised l else l) self.old }
-    {
-        if let Some(place) = place_of(&self.states, number) {
-            self.states[place].raise();
-        }
     }
 }
 
@@ -182,13 +159,6 @@ fn block_of<T: State>(blocks: &[StateBlock<T>], number: u64) -> usize
     ensures split { IsPartitionPoint (λ b. ends_below T.number number b ≡ true) (λ b. ends_below T.number number b ≡ false) blocks.now result }
 {
     blocks.partition_point(|b| b.ends_below(number))
-}
-
-/// The block at a place.
-fn block_at<T: State>(blocks: &[StateBlock<T>], place: usize) -> Option<&StateBlock<T>>
-    ensures { option_copied result ≡ slice_get blocks.now place }
-{
-    blocks.get(place)
 }
 
 /// The place of the last block, where it has room for one more state.
@@ -228,8 +198,25 @@ impl<T: State> ByNumber<T> {
     pub(crate) fn get(&self, number: u64) -> Option<&T>
         ensures { option_copied result ≡ find (λ x. T.number x == number) self.now.items }
     {
-        match block_at(&self.blocks, block_of(&self.blocks, number)) {
+        match item_at(&self.blocks, block_of(&self.blocks, number)) {
             Some(block) => block.get(number),
+            None => None,
+        }
+    }
+
+    /// The state with the lowest number behind `after` of those that belong to what is sought, by an index of them.
+    pub(crate) fn next_by<E: Entry, S: Sought<E>>(
+        &self,
+        index: &Index<E>,
+        of: &S,
+        after: u64,
+    ) -> Option<&T>
+        ensures next { (f : T → ℕ) → IsIndex f T.number self.now.items index.now.items → option_copied result ≡ find (λ x. (f x == S.of of.now) && nat_lt after (T.number x)) self.now.items }
+        ensures first { (f : T → ℕ) → IsIndex f T.number self.now.items index.now.items → after ≡ 0 → option_copied result ≡ find (λ x. f x == S.of of.now) self.now.items }
+    {
+        self.kept();
+        match index.next(of, after) {
+            Some(number) => self.get(number),
             None => None,
         }
     }
@@ -277,41 +264,15 @@ impl<T: State> ByNumber<T> {
             let _ = self.blocks.remove(place);
         }
     }
-}
 
-impl ByNumber<OpenState> {
-    /// What is asked joins the open of a number.
-    pub(crate) fn join(&mut self, number: u64, ask: &Ask)
-        ensures items { self.new.items ≡ map (λ o. if o.number == number then joins (asked ask.now) o else o) self.old.items }
+    /// The state of a number changes.
+    pub(crate) fn change<C: Change<T>>(&mut self, number: u64, change: &C)
+        ensures items { self.new.items ≡ map (λ x. if T.number x == number then C.changed change.now x else x) self.old.items }
         ensures ready { self.new.ready ≡ self.old.ready }
     {
         let place = block_of(&self.blocks, number);
         if place < self.blocks.len() {
-            self.blocks[place].join(number, ask);
-        }
-    }
-
-    /// The open of a number has this access and denies this from now on.
-    pub(crate) fn narrow(&mut self, number: u64, access: Share, deny: Share)
-        ensures items { self.new.items ≡ map (λ o. if o.number == number then narrows access deny o else o) self.old.items }
-        ensures ready { self.new.ready ≡ self.old.ready }
-    {
-        let place = block_of(&self.blocks, number);
-        if place < self.blocks.len() {
-            self.blocks[place].narrow(number, access, deny);
-        }
-    }
-}
-
-impl ByNumber<LockState> {
-    /// The seqid of the lock state of a number rises.
-    pub(crate) fn raise(&mut self, number: u64)
-        ensures items { self.new.items ≡ map (λ l. if l.number == number then raised l else l) self.old.items }
-        ensures ready { self.new.ready ≡ self.old.ready }
-    {
-        let place = block_of(&self.blocks, number);
-        if place < self.blocks.len() {
-            self.blocks[place].raise(number);
+            self.blocks[place].change(number, change);
         }
     }
 }

@@ -15,7 +15,6 @@
 
 mod blocks;
 mod by_number;
-mod by_owner;
 mod closing;
 mod counts;
 mod index;

@@ -4,19 +4,17 @@ ghost use Rattle.std.specs.Prelude.{◌≡◌, ◌==◌, ◌&&◌, ◌<◌, ◌+
 ghost use Rattle.std.specs.Option.{option_copied};
 ghost use Rattle.std.specs.List.{list_any};
 ghost use Rattle.nfs_xdr.specs.Tables.{In};
-ghost use Rattle.nfs_opens.specs.Index.{IsIndex};
 ghost use Rattle.nfs_opens.specs.Keys.{lock_key, key_of};
 ghost use Rattle.nfs_opens.specs.Kept.{Rises};
 ghost use Rattle.nfs_opens.specs.Locking.{raised};
 
 use crate::blocks::Index;
 use crate::by_number::ByNumber;
-use crate::by_owner::ByOwner;
 use crate::index::Pair;
 use crate::key::Key;
 use crate::owned::Owned;
 use crate::owner::Owner;
-use crate::records::LockState;
+use crate::records::{LockState, Raise};
 use std::alloc::{AllocError, Global};
 use std::marker::Model;
 
@@ -25,11 +23,11 @@ use std::marker::Model;
 pub(crate) struct LockStates {
     states: ByNumber<LockState>,
     /// The lock states by their files.
-    by_file: Index,
+    by_file: Index<Pair>,
     /// The lock states by the opens under which they were made.
-    by_open: Index,
+    by_open: Index<Pair>,
     /// The lock states by their owners on their files.
-    by_owner: ByOwner,
+    by_owner: Index<Owned>,
 }
 
 impl Model for LockStates {
@@ -45,45 +43,6 @@ impl Model for LockStates {
     ghost invariant = { λ s. AreLocks s.states.items s.by_file.items s.by_open.items s.by_owner.items };
 }
 
-/// A lock state no longer stands among those of its file.
-fn drop_pair(by_file: &mut Index, states: &ByNumber<LockState>, number: u64)
-    requires { IsIndex (λ l. l.file) (λ l. l.number) states.now.items by_file.old.items }
-    ensures { IsIndex (λ l. l.file) (λ l. l.number) (filter (λ l. not (l.number == number)) states.now.items) by_file.new.items }
-{
-    states.kept();
-    if let Some(lock) = states.get(number) {
-        by_file.take(Pair {
-            of: lock.file,
-            number,
-        });
-    }
-}
-
-/// A lock state no longer stands among those of its open.
-fn drop_open_pair(by_open: &mut Index, states: &ByNumber<LockState>, number: u64)
-    requires { IsIndex (λ l. l.opened) (λ l. l.number) states.now.items by_open.old.items }
-    ensures { IsIndex (λ l. l.opened) (λ l. l.number) (filter (λ l. not (l.number == number)) states.now.items) by_open.new.items }
-{
-    states.kept();
-    if let Some(lock) = states.get(number) {
-        by_open.take(Pair {
-            of: lock.opened,
-            number,
-        });
-    }
-}
-
-/// A lock state no longer stands among those of its owner.
-fn drop_owner_pair(by_owner: &mut ByOwner, states: &ByNumber<LockState>, number: u64)
-    requires { IsIndex lock_key (λ l. l.number) states.now.items by_owner.old.items }
-    ensures { IsIndex lock_key (λ l. l.number) (filter (λ l. not (l.number == number)) states.now.items) by_owner.new.items }
-{
-    states.kept();
-    if let Some(lock) = states.get(number) {
-        by_owner.take(&lock.key(), number);
-    }
-}
-
 impl LockStates {
     /// No lock states. What comes later grows by `alloc`.
     pub(crate) fn new(alloc: Global) -> Self
@@ -93,7 +52,7 @@ impl LockStates {
             states: ByNumber::new(alloc),
             by_file: Index::new(alloc),
             by_open: Index::new(alloc),
-            by_owner: ByOwner::new(alloc),
+            by_owner: Index::new(alloc),
         }
     }
 
@@ -108,22 +67,14 @@ impl LockStates {
     pub(crate) fn next_on(&self, file: u64, after: u64) -> Option<&LockState>
         ensures { option_copied result ≡ find (λ l. (l.file == file) && nat_lt after l.number) self.now.items }
     {
-        self.states.kept();
-        match self.by_file.next(file, after) {
-            Some(number) => self.states.get(number),
-            None => None,
-        }
+        self.states.next_by(&self.by_file, &file, after)
     }
 
     /// The lock state that an owner has on a file.
     pub(crate) fn owned(&self, key: &Key<'_>) -> Option<&LockState>
         ensures { option_copied result ≡ find (λ l. lock_key l == key_of key.now) self.now.items }
     {
-        self.states.kept();
-        match self.by_owner.first(key) {
-            Some(number) => self.states.get(number),
-            None => None,
-        }
+        self.states.next_by(&self.by_owner, key, 0)
     }
 
     /// The first lock state under an open.
@@ -132,10 +83,7 @@ impl LockStates {
         ensures rises { Rises (λ l. l.number) 1 self.now.items }
     {
         self.states.kept();
-        match self.by_open.next(opened, 0) {
-            Some(number) => self.states.get(number),
-            None => None,
-        }
+        self.states.next_by(&self.by_open, &opened, 0)
     }
 
     /// Whether a lock state stands on a file.
@@ -165,20 +113,15 @@ impl LockStates {
         requires first { 0 < new.number }
         ensures { self.new.items ≡ self.old.items ++ new ∷ [] }
     {
-        self.by_file.put(Pair {
-            of: new.file,
-            number: new.number,
-        });
-        self.by_open.put(Pair {
-            of: new.opened,
-            number: new.number,
-        });
-        self.by_owner.put(Owned {
+        self.by_file.put_pair(new.file, new.number);
+        self.by_open.put_pair(new.opened, new.number);
+        let owned = Owned {
             file: new.file,
             client: new.client,
             owner,
             number: new.number,
-        });
+        };
+        self.by_owner.put(&new.key(), owned);
         self.states.push(new);
     }
 
@@ -186,16 +129,19 @@ impl LockStates {
     pub(crate) fn raise(&mut self, number: u64)
         ensures { self.new.items ≡ map (λ l. if l.number == number then raised l else l) self.old.items }
     {
-        self.states.raise(number);
+        self.states.change(number, &Raise);
     }
 
     /// The lock state of a number goes.
     pub(crate) fn remove(&mut self, number: u64)
         ensures { self.new.items ≡ filter (λ l. not (l.number == number)) self.old.items }
     {
-        drop_pair(&mut self.by_file, &self.states, number);
-        drop_open_pair(&mut self.by_open, &self.states, number);
-        drop_owner_pair(&mut self.by_owner, &self.states, number);
+        self.states.kept();
+        if let Some(lock) = self.states.get(number) {
+            self.by_file.take(&lock.file, number);
+            self.by_open.take(&lock.opened, number);
+            self.by_owner.take(&lock.key(), number);
+        }
         self.states.remove(number);
     }
 }

@@ -5,22 +5,17 @@ ghost use Rattle.std.specs.Option.{option_copied};
 ghost use Rattle.nfs_xdr.specs.Tables.{In};
 ghost use Rattle.nfs_opens.specs.Kept.{HasOneEach, whose};
 ghost use Rattle.nfs_opens.specs.Keys.{open_key, key_of};
-ghost use Rattle.nfs_opens.specs.Opening.{joins, narrows};
-ghost use Rattle.nfs_opens.specs.Calls.{asked};
 ghost use Rattle.nfs_opens.specs.Counts.{AreCounted, count_of, has_room};
 ghost use Rattle.nfs_opens.specs.StateId.{last_number};
 
 use crate::blocks::Index;
 use crate::by_number::ByNumber;
-use crate::by_owner::ByOwner;
-use crate::counts::{Count, Counts, Reservation};
+use crate::counts::{Count, Counts};
 use crate::index::Pair;
 use crate::key::Key;
-use crate::opening::Ask;
 use crate::owned::Owned;
 use crate::owner::Owner;
-use crate::records::OpenState;
-use crate::share::Share;
+use crate::records::{OpenChange, OpenState};
 use std::alloc::{AllocError, Global};
 use std::marker::Model;
 
@@ -29,11 +24,11 @@ use std::marker::Model;
 pub(crate) struct OpenStates {
     states: ByNumber<OpenState>,
     /// The opens by their files.
-    by_file: Index,
+    by_file: Index<Pair>,
     /// The opens by their clients.
-    by_client: Index,
+    by_client: Index<Pair>,
     /// The opens by their owners on their files.
-    by_owner: ByOwner,
+    by_owner: Index<Owned>,
     /// What the opens of each file have and deny.
     counts: Counts,
 }
@@ -52,38 +47,21 @@ impl Model for OpenStates {
     ghost invariant = { λ s. AreOpens s.states.items s.by_file.items s.by_client.items s.by_owner.items s.counts };
 }
 
-/// An open that is joined by what is asked is counted with that.
-fn count_joined(counts: &mut Counts, states: &ByNumber<OpenState>, number: u64, ask: &Ask)
-    requires counted { AreCounted states.now.items counts.old }
-    requires few { length states.now.items ≤ last_number }
-    ensures counted { AreCounted (map (λ o. if o.number == number then joins (asked ask.now) o else o) states.now.items) counts.new }
-    ensures room { has_room counts.new ≡ has_room counts.old }
-{
-    states.kept();
-    if let Some(open) = states.get(number) {
-        let joined = Reservation {
-            access: open.access.joined(ask.access),
-            deny: open.deny.joined(ask.deny),
-        };
-        counts.change(open.file, open.reserved(), joined);
-    }
-}
-
-/// An open that is narrowed is counted with what it still has and denies.
-fn count_narrowed(
+/// An open that changes is counted with what it has and denies then.
+fn count_changed<C: OpenChange>(
     counts: &mut Counts,
     states: &ByNumber<OpenState>,
     number: u64,
-    narrower: Reservation,
+    change: &C,
 )
     requires counted { AreCounted states.now.items counts.old }
     requires few { length states.now.items ≤ last_number }
-    ensures counted { AreCounted (map (λ o. if o.number == number then narrows narrower.access narrower.deny o else o) states.now.items) counts.new }
+    ensures counted { AreCounted (map (λ o. if o.number == number then C.changed change.now o else o) states.now.items) counts.new }
     ensures room { has_room counts.new ≡ has_room counts.old }
 {
     states.kept();
     if let Some(open) = states.get(number) {
-        counts.change(open.file, open.reserved(), narrower);
+        counts.change(open.file, open.reserved(), change.reserves(open));
     }
 }
 
@@ -96,7 +74,7 @@ impl OpenStates {
             states: ByNumber::new(alloc),
             by_file: Index::new(alloc),
             by_client: Index::new(alloc),
-            by_owner: ByOwner::new(alloc),
+            by_owner: Index::new(alloc),
             counts: Counts::new(alloc),
         }
     }
@@ -119,33 +97,21 @@ impl OpenStates {
     pub(crate) fn next_on(&self, file: u64, after: u64) -> Option<&OpenState>
         ensures { option_copied result ≡ find (λ o. (o.file == file) && nat_lt after o.number) self.now.items }
     {
-        self.states.kept();
-        match self.by_file.next(file, after) {
-            Some(number) => self.states.get(number),
-            None => None,
-        }
+        self.states.next_by(&self.by_file, &file, after)
     }
 
     /// The open of a client with the lowest number behind `after`.
     pub(crate) fn next_of(&self, client: u64, after: u64) -> Option<&OpenState>
         ensures { option_copied result ≡ find (λ o. (o.client == client) && nat_lt after o.number) self.now.items }
     {
-        self.states.kept();
-        match self.by_client.next(client, after) {
-            Some(number) => self.states.get(number),
-            None => None,
-        }
+        self.states.next_by(&self.by_client, &client, after)
     }
 
     /// The open that an owner has of a file.
     pub(crate) fn owned(&self, key: &Key<'_>) -> Option<&OpenState>
         ensures { option_copied result ≡ find (λ o. open_key o == key_of key.now) self.now.items }
     {
-        self.states.kept();
-        match self.by_owner.first(key) {
-            Some(number) => self.states.get(number),
-            None => None,
-        }
+        self.states.next_by(&self.by_owner, key, 0)
     }
 
     /// What the opens of a file have and deny.
@@ -178,43 +144,27 @@ impl OpenStates {
         requires few { length self.old.items < last_number }
         ensures { self.new.items ≡ self.old.items ++ new ∷ [] }
     {
-        self.by_file.put(Pair {
-            of: new.file,
-            number: new.number,
-        });
-        self.by_client.put(Pair {
-            of: new.client,
-            number: new.number,
-        });
-        self.by_owner.put(Owned {
+        self.by_file.put_pair(new.file, new.number);
+        self.by_client.put_pair(new.client, new.number);
+        let owned = Owned {
             file: new.file,
             client: new.client,
             owner,
             number: new.number,
-        });
+        };
+        self.by_owner.put(&new.key(), owned);
         self.counts.add(new.file, new.reserved());
         self.states.push(new);
     }
 
-    /// What is asked joins the open of a number.
-    pub(crate) fn join(&mut self, number: u64, ask: &Ask)
+    /// The open of a number changes.
+    pub(crate) fn change<C: OpenChange>(&mut self, number: u64, change: &C)
         requires few { length self.old.items ≤ last_number }
-        ensures items { self.new.items ≡ map (λ o. if o.number == number then joins (asked ask.now) o else o) self.old.items }
+        ensures items { self.new.items ≡ map (λ o. if o.number == number then C.changed change.now o else o) self.old.items }
         ensures ready { self.new.ready ≡ self.old.ready }
     {
-        count_joined(&mut self.counts, &self.states, number, ask);
-        self.states.join(number, ask);
-    }
-
-    /// The open of a number has this access and denies this from now on.
-    pub(crate) fn narrow(&mut self, number: u64, access: Share, deny: Share)
-        requires few { length self.old.items ≤ last_number }
-        ensures items { self.new.items ≡ map (λ o. if o.number == number then narrows access deny o else o) self.old.items }
-        ensures ready { self.new.ready ≡ self.old.ready }
-    {
-        let narrower = Reservation { access, deny };
-        count_narrowed(&mut self.counts, &self.states, number, narrower);
-        self.states.narrow(number, access, deny);
+        count_changed(&mut self.counts, &self.states, number, change);
+        self.states.change(number, change);
     }
 
     /// The open of a number goes.
@@ -224,14 +174,8 @@ impl OpenStates {
     {
         self.states.kept();
         if let Some(open) = self.states.get(number) {
-            self.by_file.take(Pair {
-                of: open.file,
-                number,
-            });
-            self.by_client.take(Pair {
-                of: open.client,
-                number,
-            });
+            self.by_file.take(&open.file, number);
+            self.by_client.take(&open.client, number);
             self.by_owner.take(&open.key(), number);
             self.counts.take(open.file, open.reserved());
         }

@@ -11,7 +11,7 @@ ghost use Rattle.nfs_opens.specs.Opening.{opens, own_open, downgrade};
 ghost use Rattle.nfs_opens.specs.Calls.{asked, open_fault};
 ghost use Rattle.nfs_opens.specs.Keys.{key_of, owner_key};
 
-use crate::counts::Count;
+use crate::counts::{Count, Reservation};
 use crate::judging::Sort;
 use crate::key::Key;
 use crate::opens::Opens;
@@ -149,7 +149,7 @@ impl Opens {
         match self.own_open(ask) {
             Some(open) => {
                 let (number, seqid) = (open.number, next_seqid(open.seqid));
-                self.opens.join(number, ask);
+                self.opens.change(number, ask);
                 StateId {
                     seqid,
                     instance: self.instance,
@@ -202,7 +202,7 @@ impl Opens {
             Some(open) if !open.is_narrower(access, deny) => return Err(Status::Inval),
             Some(open) => next_seqid(open.seqid),
         };
-        self.opens.narrow(id.number, access, deny);
+        self.opens.change(id.number, &Reservation { access, deny });
         Ok(StateId {
             seqid,
             instance: self.instance,

@@ -3,9 +3,9 @@
 ghost use Rattle.std.specs.Prelude.{◌≡◌, ◌==◌, ◌&&◌, not};
 ghost use Rattle.nfs_opens.specs.Share.{is_part};
 ghost use Rattle.nfs_opens.specs.Table.{is_own};
-ghost use Rattle.nfs_opens.specs.Opening.{joins, narrows, is_narrower};
+ghost use Rattle.nfs_opens.specs.Opening.{is_narrower};
 ghost use Rattle.nfs_opens.specs.Calls.{asked};
-ghost use Rattle.nfs_opens.specs.Locking.{is_locker, raised};
+ghost use Rattle.nfs_opens.specs.Locking.{is_locker};
 ghost use Rattle.nfs_opens.specs.Keys.{open_key, lock_key, owner_key, key_of};
 ghost use Rattle.nfs_opens.specs.Counts.{reserved};
 
@@ -79,6 +79,104 @@ impl State for LockState {
     }
 }
 
+/// A change of a state, which keeps its number.
+pub(crate) trait Change<T: State> {
+    ghost use Rattle.std.specs.Prelude.{◌≡◌};
+
+    ghost changed: { Self → T → T };
+
+    fn make(&self, state: &mut T)
+        ensures { state.new ≡ changed self.now state.old };
+
+    ghost keeps: { (c : Self) (x : T) → T.number (changed c x) ≡ T.number x };
+}
+
+/// A change of an open, which stays its owner's on its file.
+pub(crate) trait OpenChange: Change<OpenState> {
+    ghost use Rattle.std.specs.Prelude.{◌≡◌};
+    ghost use Rattle.nfs_opens.specs.declared.records.OpenState.{OpenState};
+    ghost use Rattle.nfs_opens.specs.Counts.{reserved};
+    ghost use Rattle.nfs_opens.specs.Kept.{whose};
+
+    /// What the open has and denies then.
+    fn reserves(&self, state: &OpenState) -> Reservation
+        ensures { result ≡ reserved (Self.changed self.now state.now) };
+
+    ghost stays: { (c : Self) (o : OpenState) → whose (Self.changed c o) ≡ whose o };
+}
+
+/// What is asked joins.
+impl Change<OpenState> for Ask<'_> {
+    ghost use Rattle.std.specs.Prelude.{refl};
+    ghost use Rattle.nfs_opens.specs.Calls.{asked};
+    ghost use Rattle.nfs_opens.specs.Opening.{joins};
+
+    ghost changed = { λ a o. joins (asked a) o };
+
+    fn make(&self, state: &mut OpenState) {
+        state.seqid = next_seqid(state.seqid);
+        state.access = state.access.joined(self.access);
+        state.deny = state.deny.joined(self.deny);
+    }
+
+    ghost keeps = { λ c x. refl };
+}
+
+impl OpenChange for Ask<'_> {
+    ghost use Rattle.std.specs.Prelude.{refl};
+
+    fn reserves(&self, state: &OpenState) -> Reservation {
+        Reservation {
+            access: state.access.joined(self.access),
+            deny: state.deny.joined(self.deny),
+        }
+    }
+
+    ghost stays = { λ c o. refl };
+}
+
+/// The open has this access and denies this from now on.
+impl Change<OpenState> for Reservation {
+    ghost use Rattle.std.specs.Prelude.{refl};
+    ghost use Rattle.nfs_opens.specs.Opening.{narrows};
+
+    ghost changed = { λ r o. narrows r.access r.deny o };
+
+    fn make(&self, state: &mut OpenState) {
+        state.seqid = next_seqid(state.seqid);
+        state.access = self.access;
+        state.deny = self.deny;
+    }
+
+    ghost keeps = { λ c x. refl };
+}
+
+impl OpenChange for Reservation {
+    ghost use Rattle.std.specs.Prelude.{refl};
+
+    fn reserves(&self, _state: &OpenState) -> Reservation {
+        *self
+    }
+
+    ghost stays = { λ c o. refl };
+}
+
+/// The seqid of a lock state rises.
+pub(crate) struct Raise;
+
+impl Change<LockState> for Raise {
+    ghost use Rattle.std.specs.Prelude.{refl};
+    ghost use Rattle.nfs_opens.specs.Locking.{raised};
+
+    ghost changed = { λ c l. raised l };
+
+    fn make(&self, state: &mut LockState) {
+        state.seqid = next_seqid(state.seqid);
+    }
+
+    ghost keeps = { λ c x. refl };
+}
+
 impl OpenState {
     /// Its owner on its file.
     pub(crate) fn key(&self) -> Key<'_>
@@ -119,27 +217,11 @@ impl OpenState {
         self.client != client
     }
 
-    pub(crate) fn join(&mut self, ask: &Ask)
-        ensures { self.new ≡ joins (asked ask.now) self.old }
-    {
-        self.seqid = next_seqid(self.seqid);
-        self.access = self.access.joined(ask.access);
-        self.deny = self.deny.joined(ask.deny);
-    }
-
     /// Whether this is some access, and neither it nor what is denied has a bit that the open has not.
     pub(crate) fn is_narrower(&self, access: Share, deny: Share) -> bool
         ensures { result ≡ is_narrower access deny self.now }
     {
         !access.is_neither() && access.is_part(self.access) && deny.is_part(self.deny)
-    }
-
-    pub(crate) fn narrow(&mut self, access: Share, deny: Share)
-        ensures { self.new ≡ narrows access deny self.old }
-    {
-        self.seqid = next_seqid(self.seqid);
-        self.access = access;
-        self.deny = deny;
     }
 }
 
@@ -164,11 +246,5 @@ impl LockState {
         ensures key { result ≡ (lock_key self.now == key_of key.now) }
     {
         self.key().is(key)
-    }
-
-    pub(crate) fn raise(&mut self)
-        ensures { self.new ≡ raised self.old }
-    {
-        self.seqid = next_seqid(self.seqid);
     }
 }

@@ -1,4 +1,4 @@
-use Rattle.std.proofs.Common.{◌∙◌, sym, arith}
+use Rattle.std.proofs.Common.{◌∙◌, sym}
 use Rattle.nfs_opens.proofs.KeyLemmas.{files_of_one, files_of_two}
 use Rattle.nfs_opens.proofs.key.compare_files.Goals as goal
 

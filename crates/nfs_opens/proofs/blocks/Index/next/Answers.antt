@@ -1,4 +1,4 @@
-use Rattle.std.proofs.Common.{◌≡◌, List, true, Some, None, subst, sym, ap, ◌∙◌}
+use Rattle.std.proofs.Common.{◌≡◌, List, true, None, subst, sym, ap, ◌∙◌}
 use Rattle.std.specs.Prelude.{slice_get}
 use Rattle.std.specs.Option.{option_copied}
 use Rattle.nfs_opens.specs.declared.index.Pair.{Pair}
@@ -7,27 +7,23 @@ use Rattle.nfs_opens.specs.Blocks.{Listed}
 use Rattle.nfs_opens.proofs.FlatLemmas.{got_block, no_block}
 use Rattle.nfs_opens.proofs.BlockLemmas.{BlocksAt, block_order, next_there, next_nowhere}
 use Rattle.nfs_opens.proofs.blocks.Index.next.Goals as goal
-use Rattle.nfs_opens.proofs.blocks.Index.next.Goals.{In-Some}
-
-found : (c : In-Some) → slice_get c.self.inside.blocks.items c.block_of.result ≡ Some c.in-Some.block.now
-found c = ap (λ (bs : List (List Pair)). slice_get bs c.block_of.result) (sym c.deref.ensures.value) ∙ (sym c.block_at.ensures ∙ ap option_copied c.in-Some.is)
 
 pub next-requires : goal.next-requires
-next-requires c =
-    let got = got_block c.self.inside.blocks.items c.block_of.result c.in-Some.block.now (found (goal.at.next-requires c).In-Some) in
+next-requires g c =
+    let got = got_block c.self.inside.blocks.items c.block_of.result c.in-Some.block.now (ap (λ (bs : List (List Pair)). slice_get bs c.block_of.result) (sym c.deref.ensures.value) ∙ (sym c.item_at.ensures ∙ ap option_copied c.in-Some.is)) in
     block_order c.self.inside.blocks.items c.block_of.result c.in-Some.block.now c.self.invariant.ordered got.0 got.1
 
 pub returns-in-Some : goal.returns-in-Some
-returns-in-Some c =
-    let got = got_block c.self.inside.blocks.items c.block_of.result c.in-Some.block.now (found (goal.at.returns-in-Some c).In-Some) in
-    let split = subst (λ (bs : List (List Pair)). BlocksAt c.args.of c.args.after true bs c.block_of.result) c.deref-2.ensures.value c.block_of.ensures.split in
-    subst (λ (x : Listed). IsNext x.items c.args.of c.args.after c.next.result) c.self.view_is
-    (next_there c.args.of c.args.after c.self.inside.blocks.items c.block_of.result c.in-Some.block.now c.next.result c.self.invariant.ordered split got.0 got.1 c.next.ensures)
+returns-in-Some g c =
+    let got = got_block c.self.inside.blocks.items c.block_of.result c.in-Some.block.now (ap (λ (bs : List (List Pair)). slice_get bs c.block_of.result) (sym c.deref.ensures.value) ∙ (sym c.item_at.ensures ∙ ap option_copied c.in-Some.is)) in
+    let split = subst (λ (bs : List (List Pair)). BlocksAt (g.S.Sought.of c.args.of.now) c.args.after true bs c.block_of.result) c.deref-2.ensures.value c.block_of.ensures.split in
+    subst (λ (x : Listed). IsNext x.items (g.S.Sought.of c.args.of.now) c.args.after c.next.result) c.self.view_is
+    (next_there (g.S.Sought.of c.args.of.now) c.args.after c.self.inside.blocks.items c.block_of.result c.in-Some.block.now c.next.result c.self.invariant.ordered split got.0 got.1 c.next.ensures)
 
 pub returns-in-None : goal.returns-in-None
-returns-in-None c =
+returns-in-None g c =
     let none : slice_get c.self.inside.blocks.items c.block_of.result ≡ None =
-    ap (λ (bs : List (List Pair)). slice_get bs c.block_of.result) (sym c.deref.ensures.value) ∙ (sym c.block_at.ensures ∙ ap option_copied c.in-None.is) in
-    let split = subst (λ (bs : List (List Pair)). BlocksAt c.args.of c.args.after true bs c.block_of.result) c.deref-2.ensures.value c.block_of.ensures.split in
-    subst (λ (x : Listed). IsNext x.items c.args.of c.args.after None) c.self.view_is
-    (next_nowhere c.args.of c.args.after c.self.inside.blocks.items c.block_of.result c.self.invariant.ordered split (no_block c.self.inside.blocks.items c.block_of.result none))
+    ap (λ (bs : List (List Pair)). slice_get bs c.block_of.result) (sym c.deref.ensures.value) ∙ (sym c.item_at.ensures ∙ ap option_copied c.in-None.is) in
+    let split = subst (λ (bs : List (List Pair)). BlocksAt (g.S.Sought.of c.args.of.now) c.args.after true bs c.block_of.result) c.deref-2.ensures.value c.block_of.ensures.split in
+    subst (λ (x : Listed). IsNext x.items (g.S.Sought.of c.args.of.now) c.args.after None) c.self.view_is
+    (next_nowhere (g.S.Sought.of c.args.of.now) c.args.after c.self.inside.blocks.items c.block_of.result c.self.invariant.ordered split (no_block c.self.inside.blocks.items c.block_of.result none))

@@ -1,14 +1,17 @@
 use Rattle.std.proofs.Common.{refl}
+use Rattle.nfs_opens.specs.declared.records.LockState.{LockState}
+use Rattle.nfs_opens.specs.Locking.{raised}
 use Rattle.nfs_opens.specs.Keys.{lock_key}
-use Rattle.nfs_opens.proofs.LockedLemmas.{locks_raised}
+use Rattle.nfs_opens.proofs.IndexLemmas.{index_changed}
 use Rattle.nfs_opens.proofs.lock_states.LockStates.raise.Goals as goal
 
 pub invariant_of-self : goal.invariant_of-self
-invariant_of-self c = (
-  locks_raised (λ l. l.file) (λ l. refl) c.args.number c.self.inside.states.items c.raise.new.self.items c.self.inside.by_file.items c.raise.ensures.items
-      c.self.invariant.0,
-  locks_raised (λ l. l.opened) (λ l. refl) c.args.number c.self.inside.states.items c.raise.new.self.items c.self.inside.by_open.items c.raise.ensures.items
-      c.self.invariant.1,
-  locks_raised lock_key (λ l. refl) c.args.number c.self.inside.states.items c.raise.new.self.items c.self.inside.by_owner.items c.raise.ensures.items
-      c.self.invariant.2,
-)
+invariant_of-self c =
+    let locks = c.self.inside.states.items in (
+      index_changed (λ (l : LockState). l.file) (λ l. l.number) raised c.args.number locks c.change.new.self.items c.self.inside.by_file.items
+          c.change.ensures.items (λ l. refl) (λ l. refl) c.self.invariant.0,
+      index_changed (λ (l : LockState). l.opened) (λ l. l.number) raised c.args.number locks c.change.new.self.items c.self.inside.by_open.items
+          c.change.ensures.items (λ l. refl) (λ l. refl) c.self.invariant.1,
+      index_changed lock_key (λ l. l.number) raised c.args.number locks c.change.new.self.items c.self.inside.by_owner.items
+          c.change.ensures.items (λ l. refl) (λ l. refl) c.self.invariant.2,
+    )

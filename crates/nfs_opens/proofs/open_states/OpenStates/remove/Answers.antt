@@ -5,9 +5,9 @@ use Rattle.nfs_xdr.specs.Tables.{In}
 use Rattle.nfs_opens.specs.declared.records.OpenState.{OpenState}
 use Rattle.nfs_opens.specs.declared.counts.Reservation.{Reservation}
 use Rattle.nfs_opens.specs.Counts.{CountsAnew, count_at, without_one}
-use Rattle.nfs_opens.specs.Index.{HasTaken}
+use Rattle.nfs_opens.specs.Index.{HasTaken, pair_of}
 use Rattle.nfs_opens.specs.Keys.{open_key}
-use Rattle.nfs_opens.proofs.IndexLemmas.{pair_of, pair_in, index_taken, index_left}
+use Rattle.nfs_opens.proofs.IndexLemmas.{pair_in, index_taken, index_left}
 use Rattle.nfs_opens.proofs.CountedLemmas.{counted_without, unchanged_without}
 use Rattle.nfs_opens.proofs.SingleLemmas.{each_left}
 use Rattle.nfs_opens.proofs.open_states.OpenStates.remove.Goals as goal

@@ -15,7 +15,7 @@ use Rattle.nfs_opens.proofs.CountLemmas.{rising_few}
 use Rattle.nfs_opens.proofs.LockLemmas.{same_table}
 use Rattle.nfs_opens.proofs.StepLemmas.{narrow_done, narrow_refused, table_narrow}
 use Rattle.nfs_opens.proofs.opens.Opens.downgrade.Goals as goal
-use Rattle.nfs_opens.proofs.opens.Opens.downgrade.Goals.{After-get, After-is_narrower, After-narrow}
+use Rattle.nfs_opens.proofs.opens.Opens.downgrade.Goals.{After-get, After-is_narrower, After-change}
 
 -- what is found under the number
 found : (c : After-get) (o : Option OpenState) → option_copied c.get.result ≡ o → open_at (table (the_view c.self.inside)) c.args.id.number ≡ o
@@ -37,11 +37,11 @@ refused : (c : After-is_narrower) → c.is_narrower.result ≡ false
 refused c is = narrow_refused (table (the_view c.self.inside)) c.args.id.number c.args.access c.args.deny c.in-Some.open.now (sym c.is_narrower.ensures ∙ is)
 
 -- the opens alone have changed
-changed : (c : After-narrow)
-    → table (record (the_view c.self.inside) { opens = c.narrow.new.self.items })
+changed : (c : After-change)
+    → table (record (the_view c.self.inside) { opens = c.change.new.self.items })
     ≡ with_open (table (the_view c.self.inside)) c.args.id.number (narrows c.args.access c.args.deny)
-changed c = same_table c.narrow.new.self.items _ c.self.inside.locks.items _
-    (held_by c.self.inside.files) _ c.self.inside.last c.self.inside.instance c.narrow.ensures.items refl refl
+changed c = same_table c.change.new.self.items _ c.self.inside.locks.items _
+    (held_by c.self.inside.files) _ c.self.inside.last c.self.inside.instance c.change.ensures.items refl refl
 
 pub returns-in-None-clause-after : goal.returns-in-None-clause-after
 returns-in-None-clause-after c =
@@ -65,15 +65,15 @@ invariant_of-self c =
     let at = goal.at.invariant_of-self c in
     let one = found at.After-get (Some c.in-Some.open.now) (ap option_copied c.in-Some.is) in
     record {
-      table = subst IsTable (sym (changed at.After-narrow))
+      table = subst IsTable (sym (changed at.After-change))
           (table_narrow (table (the_view c.self.inside)) c.args.id.number c.args.access c.args.deny c.in-Some.open.now c.self.invariant.table one
           (sym c.is_narrower.ensures ∙ c.if-not-is_narrower.false));
       listed = c.self.invariant.listed;
-      room = λ yes. c.narrow.ensures.ready ∙ c.self.invariant.room yes;
+      room = λ yes. c.change.ensures.ready ∙ c.self.invariant.room yes;
     }
 
 -- what a downgrade of an open that is narrowed answers and leaves
-granted : (c : After-narrow) → downgrade (table c.args.self.now) c.args.id c.args.client c.args.file c.args.access c.args.deny
+granted : (c : After-change) → downgrade (table c.args.self.now) c.args.id c.args.client c.args.file c.args.access c.args.deny
     ≡ narrow_open (table (the_view c.self.inside)) c.args.id.number c.args.access c.args.deny (Some c.in-Some.open.now)
     → c.is_narrower.result ≡ true → downgrade (table c.args.self.now) c.args.id c.args.client c.args.file c.args.access c.args.deny ≡ record {
       answer = Ok (record { seqid = next_seqid c.in-Some.open.now.seqid; instance = c.self.inside.instance; number = c.args.id.number });
@@ -87,15 +87,15 @@ returns-clause-answer c =
     let at = goal.at.returns-clause-answer c in
     let is = narrowed at.After-get (Some c.in-Some.open.now) (ap option_copied c.in-Some.is) in
     ap (λ (s : ℕ). Ok (record { seqid = s; instance = c.self.inside.instance; number = c.args.id.number })) c.next_seqid-seqid.ensures
-    ∙ sym (ap (λ (d : Did StateId Status). d.answer) (granted at.After-narrow is c.if-not-is_narrower.false))
+    ∙ sym (ap (λ (d : Did StateId Status). d.answer) (granted at.After-change is c.if-not-is_narrower.false))
 
 pub returns-clause-after : goal.returns-clause-after
 returns-clause-after c =
     let at = goal.at.returns-clause-after c in
     let is = narrowed at.After-get (Some c.in-Some.open.now) (ap option_copied c.in-Some.is) in
-    changed at.After-narrow ∙ sym (ap (λ (d : Did StateId Status). d.after) (granted at.After-narrow is c.if-not-is_narrower.false))
+    changed at.After-change ∙ sym (ap (λ (d : Did StateId Status). d.after) (granted at.After-change is c.if-not-is_narrower.false))
 
-pub narrow-requires : goal.narrow-requires
-narrow-requires c =
+pub change-requires : goal.change-requires
+change-requires c =
     let few = rising_few (λ (o : OpenState). o.number) 1 (suc c.self.inside.last) c.self.inside.opens.items c.self.invariant.table.opens in
     record { few = omega arith }

@@ -27,12 +27,12 @@ invariant_of-self c =
     ap (λ (k : Kept). own_open (table k) (asked c.args.ask.now)) c.self.view_is ∙ (sym c.own_open.ensures ∙ ap option_copied c.in-Some.is) in
     let free : list_any (clashes_with (asked c.args.ask.now)) c.self.inside.opens.items ≡ false =
     ap (λ (k : Kept). list_any (clashes_with (asked c.args.ask.now)) k.opens) c.self.view_is ∙ no_clash_asked _ _ c.requires.judged in
-    let same = same_table c.join.new.self.items _ c.self.inside.locks.items _ (held_by c.self.inside.files) _ c.self.inside.last c.self.inside.instance
-    c.join.ensures.items refl refl in
+    let same = same_table c.change.new.self.items _ c.self.inside.locks.items _ (held_by c.self.inside.files) _ c.self.inside.last c.self.inside.instance
+    c.change.ensures.items refl refl in
     record {
       table = subst IsTable (sym same) (table_join (table (the_view c.self.inside)) (asked c.args.ask.now) c.in-Some.open.now c.self.invariant.table own free);
       listed = c.self.invariant.listed;
-      room = λ yes. c.join.ensures.ready ∙ c.self.invariant.room yes;
+      room = λ yes. c.change.ensures.ready ∙ c.self.invariant.room yes;
     }
 
 pub invariant_of-self-in-None : goal.invariant_of-self-in-None
@@ -62,8 +62,8 @@ push-requires-clause-owner c =
     none_owned (asked c.args.ask.now) c.self.inside.opens.items _
     (ap (λ (xs : List ℕ). (c.args.ask.now.file, c.args.ask.now.client, xs)) (c.ready.view_is ∙ c.requires.owner)) none
 
-pub join-requires : goal.join-requires
-join-requires c =
+pub change-requires : goal.change-requires
+change-requires c =
     let few = rising_few (λ (o : OpenState). o.number) 1 (suc c.self.inside.last) c.self.inside.opens.items c.self.invariant.table.opens in
     record { few = omega arith }
 
