@@ -78,9 +78,9 @@ given client number id s c (Some (Asks r who size now choice)) e test = by_items
 given client number id s c (Some (Expires now)) e test = absurd (false≢true test)
 given client number id s c None e test = absurd (false≢true test)
 
--- a session stands under the words 7, 1, 0, 1 where the one that they spell does
-stood : (t : SessionTable) (made : MakesOne id t t) → session_at t made.session ≡ None → is_some (session_at t made.session) ≡ true → ⊥
-stood t made none some = absurd (false≢true (sym (ap is_some none) ∙ some))
+-- what leaves the sessions as they were made none
+unmade : (client : ℕ) (t : SessionTable) → MakesOne client id t t → ⊥
+unmade client t made = absurd (false≢true (sym (ap is_some made.absent) ∙ made.there))
 
 pub is_given_once : IsGivenOnce
 unfolding number hyper step call_of header opaque_auth opaque_at fixed_at behind_header caller_of auth_sys spell_head
@@ -92,7 +92,8 @@ is_given_once = record {
   second = given (7 * 2 ^ 32 + 1) 1 id repeated again (asked_by repeated again) refl refl;
   other = λ same. differ (ap (λ (bytes : List ℕ). get_or bytes 15 0) same);
   third = given (7 * 2 ^ 32 + 1) (following 1) (words (7 ∷ 1 ∷ 0 ∷ 2 ∷ [])) (next repeated again) goes_on (asked_by (next repeated again) goes_on) refl refl;
-  twice = λ made. stood (next start creates).machine.sessions made made.absent made.there;
+  none = unmade (7 * 2 ^ 32 + 1) (before start creates).sessions;
+  twice = unmade (7 * 2 ^ 32 + 1) (next start creates).machine.sessions;
 }
   where
     differ : ◌≡◌ {A = ℕ} 2 1 → ⊥
