@@ -1,40 +1,38 @@
 -- A CREATE_SESSION makes one session, and its repeat none.
-use Rattle.std.proofs.Common.{◌≡◌, ◌≢◌, ℕ, suc, ◌+◌, ◌-◌, ◌^◌, ◌<◌, ◌≤◌, Bool, true, false, cond, eqb, ltb, not, List, [], ◌∷◌, ◌++◌, length, take, drop, Option, Some, None, refl, sym, ◌∙◌, ap, subst, arith, inl, inr}
-use Rattle.std.specs.Prelude.{◌==◌, ◌⊎◌, ◌&&◌, find, filter, option_map, is_some, Result, Ok, Err}
-use Rattle.std.proofs.lemmas.Bool.{cases_Bool, cases_eq, eqb-true, eqb-false, eq-eqb, ne_eqb, and_parts, not-false, false≢true}
+use Rattle.std.proofs.Common.{◌≡◌, ◌≢◌, ℕ, ◌+◌, ◌-◌, ◌^◌, ◌<◌, Bool, true, false, cond, eqb, not, List, [], ◌∷◌, ◌++◌, length, take, drop, Option, Some, None, refl, sym, ◌∙◌, ap, subst, arith, inl, inr}
+use Rattle.std.specs.Prelude.{◌==◌, ◌⊎◌, ◌&&◌, find, option_map, is_some, Result, Ok, Err}
+use Rattle.std.proofs.lemmas.Bool.{cases_Bool, eqb-true, eqb-false, eq-eqb, ne_eqb, and_parts, false≢true}
 use Rattle.std.proofs.lemmas.List.{length-append, take_at, drop_at}
 use Rattle.nfs_xdr.specs.Caller.{Caller}
 use Rattle.nfs_xdr.specs.Tables.{In}
 use Rattle.nfs_xdr.specs.Spelling.{hyper, opaque}
 use Rattle.nfs_xdr.specs.declared.status.Status.{Status}
 use Rattle.nfs_xdr.specs.declared.status.Status.TheVariants.{Nfs4Ok, Delay, StaleClientId, SeqMisordered, ClidInUse, MinorVersMismatch}
-use Rattle.nfs_xdr.proofs.Lists.{find_in, in_filter, in_push, find_push_none, find_past, any_in, find_none}
+use Rattle.nfs_xdr.proofs.Lists.{find_in, in_filter, in_push, push_in, stays_in, find_push_none, find_past, find_none}
 use Rattle.nfs_compound.specs.declared.op_num.OpNum.TheVariants as Num
 use Rattle.nfs_compound.specs.OpNum.{op_number}
 use Rattle.nfs_compound.specs.Operation.{Item, Operation, OpSequence, OpExchangeId, OpCreateSession, OpDestroySession, OpDestroyClientId, OpReclaimComplete}
 use Rattle.nfs_compound.specs.Request.{Request, item_number}
 use Rattle.nfs_compound.specs.SessionArgs.{CreateSession}
 use Rattle.nfs_compound.specs.declared.session_args.Sequence.{Sequence}
-use Rattle.nfs_results.specs.Largest.{largest}
-use Rattle.nfs_results.specs.Result.{Refused, ResCreateSession}
-use Rattle.nfs_results.specs.Results.{spell_result, refusal, done_head, spell_compound_head}
+use Rattle.nfs_results.specs.Result.{Refused}
+use Rattle.nfs_results.specs.Results.{spell_result, done_head, spell_compound_head}
 use Rattle.nfs_results.specs.Items as item
 use Rattle.nfs_results.proofs.Lengths.{length_head, length_spelled}
 use Rattle.nfs_results.proofs.Heads as heads
-use Rattle.nfs_clients.specs.Roster.{ClientRecord, Roster, IsRoster, client_at, without, is_confirmed_of}
+use Rattle.nfs_clients.specs.Roster.{ClientRecord, Roster, IsRoster, client_at, is_confirmed_of}
 use Rattle.nfs_clients.specs.ExchangeId.{case_of}
 use Rattle.nfs_clients.specs.CreateSession as clients
 use Rattle.nfs_clients.specs.CreateSession.{following, create_verdict, leaving, leaving_by, is_other_confirmed_of, with_kept, with_confirmed}
 use Rattle.nfs_clients.specs.Marks.{has_reclaimed}
 use Rattle.nfs_clients.specs.DestroyClientId.{destroy_fault}
-use Rattle.nfs_clients.specs.declared.created.CreateResult.{CreateResult}
 use Rattle.nfs_clients.specs.declared.created.CreateResult.TheVariants as results
 use Rattle.nfs_clients.specs.declared.destroy.DestroyFault.{DestroyFault}
 use Rattle.nfs_sessions.specs.declared.id.SessionId.{SessionId}
 use Rattle.nfs_sessions.specs.declared.channel.Wish.{Wish}
 use Rattle.nfs_sessions.specs.declared.sessions.SessionFault.{SessionFault}
 use Rattle.nfs_sessions.specs.Id.{id_of, id_bytes}
-use Rattle.nfs_sessions.specs.Sessions.{Session, SessionTable, Created, is_session, session_at, create, create_unless, create_fault, fault_status, with_session}
+use Rattle.nfs_sessions.specs.Sessions.{Session, SessionTable, is_session, session_at, create, create_unless, create_fault, fault_status, with_session}
 use Rattle.nfs_sessions.specs.SessionSlots.{unused}
 use Rattle.nfs_sessions.specs.Channel.{granted}
 use Rattle.nfs_lease.specs.Renewals.{has_run_out}
@@ -47,16 +45,16 @@ use Rattle.nfs_names.specs.Ending.{has_open}
 use Rattle.nfs_names.specs.Operation as names
 use Rattle.nfs_files.specs.Operation as files
 use Rattle.nfs_exec.specs.Machine.{Machine, Outcome, is_ok, or_delay, refuses, starts}
-use Rattle.nfs_exec.specs.Behind.{Step, step, on_store, moves_opens, marked_if, otherwise}
+use Rattle.nfs_exec.specs.Behind.{step, on_store, moves_opens, marked_if, otherwise}
 use Rattle.nfs_exec.specs.Run.{run, in_room, is_here, behind_here}
 use Rattle.nfs_exec.specs.Place.{item_fault}
 use Rattle.nfs_exec.specs.ReclaimComplete.{reclaim_complete, of_one, of_all}
 use Rattle.nfs_exec.specs.ExchangeId.{exchange_id, exchange_id_number, ask_of}
-use Rattle.nfs_exec.specs.CreateSession.{create_session_number, by_verdict, creates, by_created, confirmed, made_body, session_made, wish_of, without_any_sessions, create_session}
+use Rattle.nfs_exec.specs.CreateSession.{create_session_number, by_verdict, creates, by_created, confirmed, made_body, wish_of, without_any_sessions, create_session}
 use Rattle.nfs_exec.specs.Destroy.{destroy_session, destroyed_unless, has_session}
 use Rattle.nfs_exec.specs.Sequence as sequence
 use Rattle.nfs_exec.specs.Sequence.{Sequenced, sequenced}
-use Rattle.nfs_exec.specs.Compound.{carried_out, by_fault, first_item, renewed, begun, bare, in_session, by_first, compound}
+use Rattle.nfs_exec.specs.Compound.{carried_out, by_fault, first_item, renewed, begun, bare, Answered, in_session, by_first, compound}
 use Rattle.nfs_exec.specs.Laws.{MachineEvent, Expires, Asks, stepped, all_stepped}
 use Rattle.nfs_exec.specs.OneSession.{asks_of, asks_session, Gives, MakesOne, GivesOne}
 use Rattle.nfs_exec.proofs.Behind.{follow_kept}
@@ -64,81 +62,14 @@ use Rattle.nfs_exec.proofs.Creating.{length_id}
 use Rattle.nfs_exec.proofs.AnsweredRun.{in_room_is}
 use Rattle.nfs_exec.proofs.Numbering.{IsCounted}
 use Rattle.nfs_exec.proofs.Rounds.{counted_all}
-use Rattle.nfs_exec.proofs.SessionNumbers.{After, IsAgain, IsNext, more, after_fewer, after_quiet, after_other, after_own, after_case, after_gone, after_confirmed}
-use Rattle.nfs_exec.proofs.SessionNumbers.{verdict_again, verdict_next, after_again, after_next, not_next, same_kept, next_is_new}
+use Rattle.nfs_exec.proofs.SessionNumbers.{After, IsAgain, IsNext, IsCarried, ToldBy, more, after_own, after_carried}
+use Rattle.nfs_exec.proofs.SessionNumbers.{carried_case, carried_confirmed, verdict_again, verdict_next, after_again, after_next, not_next, same_kept, next_is_new}
+use Rattle.nfs_exec.proofs.SessionNumbers.{tells_more, tells_carried, tells_refused, tells_made}
 
--- The client records, through whatever comes.
-
-abbrev In_ : (n number most : ℕ) → List ℕ → Machine → Type 0
-In_ n number most body m = After n number body most m.clients
-
-marked_after : (n number most : ℕ) (body : List ℕ) (m : Machine) (x : Context) (now : ℕ) (refused : Bool) (i : Item) (moves : Bool) → In_ n number most body m
-    → In_ n number most body (marked_if moves x.client (on_store m (files.comes_to refused m.store x (moment now) i))).outcome.machine
-marked_after n number most body m x now refused i true a =
-    after_quiet n number most x.client body m.clients (λ c. record c { has_open = has_open (files.comes_to refused m.store x (moment now) i).state x.client })
-    (record { id = λ c. refl; number = λ c. refl; kept = λ c. refl }) a
-marked_after n number most body m x now refused i false a = a
-
-one_after : (n number most : ℕ) (body : List ℕ) (m : Machine) (v : Result Node Status) → In_ n number most body m → In_ n number most body (of_one m v).machine
-one_after n number most body m (Ok d) a = a
-one_after n number most body m (Err status) a = a
-
-all_after : (n number most : ℕ) (body : List ℕ) (m : Machine) (x : Context) → In_ n number most body m → In_ n number most body (of_all m x).machine
-all_after n number most body m x a = elim (cases_Bool (has_reclaimed m.clients x.client)) [
-  | inl again ↦ rw again a
-  | inr once ↦ rw once (after_quiet n number most x.client body m.clients (λ c. record c { reclaimed = true })
-      (record { id = λ c. refl; number = λ c. refl; kept = λ c. refl }) a)
-]
-
-reclaim_after : (n number most : ℕ) (body : List ℕ) (m : Machine) (x : Context) (one : Bool) → In_ n number most body m
-    → In_ n number most body (reclaim_complete m x one).machine
-reclaim_after n number most body m x true a = one_after n number most body m (current m.store x) a
-reclaim_after n number most body m x false a = all_after n number most body m x a
-
-otherwise_after : (n number most : ℕ) (body : List ℕ) (m : Machine) (x : Context) (i : Item) → In_ n number most body m
-    → In_ n number most body (otherwise m x i).outcome.machine
-otherwise_after n number most body m x (Operation (OpReclaimComplete one)) a = reclaim_after n number most body m x one a
-otherwise_after n number most body m x i a = a
-
-step_after : (n number most : ℕ) (body : List ℕ) (m : Machine) (x : Context) (now : ℕ) (refused : Bool) (i : Item) → In_ n number most body m
-    → In_ n number most body (step m x now refused i).outcome.machine
-step_after n number most body m x now refused i a = elim (cases_Bool (names.on_names i)) [
-  | inl on ↦ rw on a
-  | inr off ↦ rw off (elim (cases_Bool (files.on_files i)) [
-    | inl on ↦ rw on (marked_after n number most body m x now refused i (moves_opens i) a)
-    | inr other ↦ rw other (otherwise_after n number most body m x i a)
-  ])
-]
-
-run_after : (n number most : ℕ) (body : List ℕ) (limit sofar now : ℕ) (choice : Option ℕ) (m : Machine) (x : Context) (items : List Item) → In_ n number most body m
-    → In_ n number most body (run limit sofar now choice m x items).machine
-run_after n number most body limit sofar now choice m x [] a = a
-run_after n number most body limit sofar now choice m x (i ∷ rest) a =
-    let s = in_room limit sofar now (is_here choice) m x i in
-    let next = sofar + length s.outcome.result in
-    let one : In_ n number most body s.outcome.machine =
-    in_room_is (λ s. In_ n number most body s.outcome.machine) limit sofar now (is_here choice) m x i a (step_after n number most body m x now (is_here choice) i a) in
-    follow_kept (In_ n number most body) s.outcome (run limit next now (behind_here choice) s.outcome.machine s.context rest) one
-    (run_after n number most body limit next now (behind_here choice) s.outcome.machine s.context rest one)
+-- The client records, through whatever comes that asks for no session of the client.
 
 delayed_after : (P : Machine → Type 0) (m : Machine) (o : Outcome) (refused : Bool) (number : ℕ) → P m → P o.machine → P (or_delay refused m number o).machine
 delayed_after P m o refused number before after = elim (cases_Bool (refused && is_ok o.status)) [ inl here ↦ rw here before | inr other ↦ rw other after ]
-
--- a CREATE_SESSION of another client
-made_other : (n number most : ℕ) (body : List ℕ) (m : Machine) (now : ℕ) (c : CreateSession) (t : SessionTable) (v : Result SessionId SessionFault)
-    → c.clientid ≢ n → In_ n number most body m → In_ n number most body (by_created m now c t v).machine
-made_other n number most body m now c t (Ok id) other a =
-    after_other n number most c.clientid body (with_confirmed m.clients c.clientid) (results.Done (made_body c id)) other
-    (after_confirmed n number most body m.clients c.clientid a)
-made_other n number most body m now c t (Err fault) other a =
-    after_other n number most c.clientid body m.clients (results.Refused (fault_status fault)) other a
-
--- or of this one, which may use a number up
-made_own : (n number most : ℕ) (body : List ℕ) (m : Machine) (now : ℕ) (c : CreateSession) (t : SessionTable) (v : Result SessionId SessionFault)
-    → In_ n number most body m → In_ n number (most + 1) body (by_created m now c t v).machine
-made_own n number most body m now c t (Ok id) a =
-    after_own n number most body (with_confirmed m.clients c.clientid) c.clientid (results.Done (made_body c id)) (after_confirmed n number most body m.clients c.clientid a)
-made_own n number most body m now c t (Err fault) a = after_own n number most body m.clients c.clientid (results.Refused (fault_status fault)) a
 
 by_verdict_after : (P : Machine → Type 0) (m : Machine) (now : ℕ) (refused : Bool) (c : CreateSession) (v : clients.Verdict) → P m
     → ((t : SessionTable) (r : Result SessionId SessionFault) → P (by_created m now c t r).machine) → P (by_verdict m now refused c v).machine
@@ -151,84 +82,206 @@ by_verdict_after P m now refused c clients.Runs same made =
     let did = create m.sessions c.clientid (wish_of m c) in
     delayed_after P m (creates m now c did) refused create_session_number same (made did.after did.answer)
 
-created_after : (n number most : ℕ) (body : List ℕ) (m : Machine) (who : Caller) (now : ℕ) (refused : Bool) (c : CreateSession) → In_ n number most body m
-    → In_ n number (most + cond (c.clientid == n) 1 0) body (create_session m who now refused c).machine
-created_after n number most body m who now refused c a = elim (cases_Bool (c.clientid == n)) [
-  | inl own ↦ rw own (by_verdict_after (In_ n number (most + 1) body) m now refused c (create_verdict m.clients c.clientid c.sequence who.uid)
-      (more n number (most + 1) most body m.clients (omega arith) a) (λ t r. made_own n number most body m now c t r a))
-  | inr other ↦ rw other (more n number (most + 0) most body _ (omega arith)
-      (by_verdict_after (In_ n number most body) m now refused c (create_verdict m.clients c.clientid c.sequence who.uid) a
-      (λ t r. made_other n number most body m now c t r (eqb-false c.clientid n other) a)))
-]
-
-destroyed_after : (n number most : ℕ) (body : List ℕ) (m : Machine) (client : ℕ) (o : Option DestroyFault) → In_ n number most body m
-    → In_ n number most body (destroyed_unless m client o).machine
-destroyed_after n number most body m client None a = after_fewer n number most body m.clients (λ c. not (c.id == client)) a
-destroyed_after n number most body m client (Some fault) a = a
-
-ended_after : (n number most : ℕ) (body : List ℕ) (m : Machine) (sessionid : List ℕ) → In_ n number most body m → In_ n number most body (destroy_session m sessionid).machine
-ended_after n number most body m sessionid a = elim (cases_Bool (is_some (session_at m.sessions (id_of sessionid)))) [ inl stood ↦ rw stood a | inr gone ↦ rw gone a ]
-
-abbrev Asked : (n number most : ℕ) → List ℕ → Item → Machine → Type 0
-Asked n number most body i m = In_ n number (most + cond (asks_of n (i ∷ [])) 1 0) body m
-
-as_asked : (n number most : ℕ) (body : List ℕ) (m : Machine) (v : Bool) → In_ n number most body m → In_ n number (most + cond v 1 0) body m
-as_asked n number most body m true a = more n number (most + 1) most body m.clients (omega arith) a
-as_asked n number most body m false a = more n number (most + 0) most body m.clients (omega arith) a
-
-carried_after : (n number most : ℕ) (body : List ℕ) (m : Machine) (who : Caller) (now : ℕ) (refused : Bool) (i : Item) → In_ n number most body m
-    → Asked n number most body i (carried_out m who now refused i).machine
-carried_after n number most body m who now refused (Operation (OpCreateSession c)) a = created_after n number most body m who now refused c a
-carried_after n number most body m who now refused (Operation (OpExchangeId e)) a =
-    as_asked n number most body (or_delay refused m exchange_id_number (exchange_id m who now e)).machine false (delayed_after (In_ n number most body) m (exchange_id m who now e) refused exchange_id_number a
-    (after_case n number most body m.clients (ask_of who e) (case_of m.clients (ask_of who e)) a))
-carried_after n number most body m who now refused (Operation (OpDestroySession sessionid)) a =
-    as_asked n number most body (destroy_session m sessionid).machine false (ended_after n number most body m sessionid a)
-carried_after n number most body m who now refused (Operation (OpDestroyClientId client)) a =
-    as_asked n number most body (destroyed_unless m client (destroy_fault m.clients client (has_session m.sessions client))).machine false (destroyed_after n number most body m client (destroy_fault m.clients client (has_session m.sessions client)) a)
-carried_after n number most body m who now refused i a = as_asked n number most body m (asks_of n (i ∷ [])) a
-
-first_after : (n number most : ℕ) (body : List ℕ) (m : Machine) (declared : ℕ) (who : Caller) (now : ℕ) (refused : Bool) (i : Item) → In_ n number most body m
-    → Asked n number most body i (first_item m declared who now refused i).machine
-first_after n number most body m declared who now refused i a = go (item_fault declared i)
-  where
-    go : (f : Option Status) → Asked n number most body i (by_fault m (item_number i) f (carried_out m who now refused i)).machine
-    go None = carried_after n number most body m who now refused i a
-    go (Some status) = as_asked n number most body m (asks_of n (i ∷ [])) a
-
-session_after : (n number most : ℕ) (body : List ℕ) (m : Machine) (r : Request) (who : Caller) (now : ℕ) (choice : Option ℕ) (s : Sequence) (rest : List Item) (v : Sequenced)
-    → In_ n number most body m → In_ n number most body (in_session m r who now choice s rest v).machine
-session_after n number most body m r who now choice s rest (sequence.Refuses status) a = a
-session_after n number most body m r who now choice s rest (sequence.Repeats reply) a = a
-session_after n number most body m r who now choice s rest (sequence.Runs c) a =
-    run_after n number most body c.response (begun r s c) now (behind_here choice) (renewed m now s) (begins (id_of s.sessionid).client who) rest a
-
 asked_same : (n : ℕ) (i : Item) (rest : List Item) → asks_of n (i ∷ rest) ≡ asks_of n (i ∷ [])
 asked_same n (Operation (OpCreateSession c)) rest = refl
 asked_same n i rest = refl
 
-items_after : (n number most : ℕ) (body : List ℕ) (m : Machine) (r : Request) (who : Caller) (size now : ℕ) (choice : Option ℕ) (items : List Item)
-    → In_ n number most body m → In_ n number (most + cond (asks_of n items) 1 0) body (by_first m r who size now choice items).machine
-items_after n number most body m r who size now choice [] a = as_asked n number most body m false a
-items_after n number most body m r who size now choice (Operation (OpSequence s) ∷ rest) a =
-    as_asked n number most body (in_session m r who now choice s rest (sequenced m r who size s)).machine false (session_after n number most body m r who now choice s rest (sequenced m r who size s) a)
-items_after n number most body m r who size now choice (i ∷ rest) a =
-    subst (λ v. In_ n number (most + cond v 1 0) body (first_item m r.declared who now (is_here choice) i).machine) (sym (asked_same n i rest))
-    (first_after n number most body m r.declared who now (is_here choice) i a)
+module _ (n : ℕ) (P : Roster → Type 0) (held : IsCarried n P) where
+  marked_carried : (m : Machine) (x : Context) (now : ℕ) (refused : Bool) (i : Item) (moves : Bool) → P m.clients
+      → P (marked_if moves x.client (on_store m (files.comes_to refused m.store x (moment now) i))).outcome.machine.clients
+  marked_carried m x now refused i true a =
+      held.quiet m.clients x.client (λ c. record c { has_open = has_open (files.comes_to refused m.store x (moment now) i).state x.client })
+      (record { id = λ c. refl; number = λ c. refl; kept = λ c. refl }) a
+  marked_carried m x now refused i false a = a
 
-compound_after : (n number most : ℕ) (body : List ℕ) (m : Machine) (r : Request) (who : Caller) (size now : ℕ) (choice : Option ℕ) → In_ n number most body m
-    → In_ n number (most + cond (asks_of n r.left) 1 0) body (compound m r who size now choice).machine
-compound_after n number most body m r who size now choice a = go (eqb r.minor 1)
+  one_carried : (m : Machine) (v : Result Node Status) → P m.clients → P (of_one m v).machine.clients
+  one_carried m (Ok d) a = a
+  one_carried m (Err status) a = a
+
+  all_carried : (m : Machine) (x : Context) → P m.clients → P (of_all m x).machine.clients
+  all_carried m x a = elim (cases_Bool (has_reclaimed m.clients x.client)) [
+    | inl again ↦ rw again a
+    | inr once ↦ rw once (held.quiet m.clients x.client (λ c. record c { reclaimed = true }) (record { id = λ c. refl; number = λ c. refl; kept = λ c. refl }) a)
+  ]
+
+  reclaim_carried : (m : Machine) (x : Context) (one : Bool) → P m.clients → P (reclaim_complete m x one).machine.clients
+  reclaim_carried m x true a = one_carried m (current m.store x) a
+  reclaim_carried m x false a = all_carried m x a
+
+  otherwise_carried : (m : Machine) (x : Context) (i : Item) → P m.clients → P (otherwise m x i).outcome.machine.clients
+  otherwise_carried m x (Operation (OpReclaimComplete one)) a = reclaim_carried m x one a
+  otherwise_carried m x i a = a
+
+  step_carried : (m : Machine) (x : Context) (now : ℕ) (refused : Bool) (i : Item) → P m.clients → P (step m x now refused i).outcome.machine.clients
+  step_carried m x now refused i a = elim (cases_Bool (names.on_names i)) [
+    | inl on ↦ rw on a
+    | inr off ↦ rw off (elim (cases_Bool (files.on_files i)) [
+      | inl on ↦ rw on (marked_carried m x now refused i (moves_opens i) a)
+      | inr other ↦ rw other (otherwise_carried m x i a)
+    ])
+  ]
+
+  run_carried : (limit sofar now : ℕ) (choice : Option ℕ) (m : Machine) (x : Context) (items : List Item) → P m.clients
+      → P (run limit sofar now choice m x items).machine.clients
+  run_carried limit sofar now choice m x [] a = a
+  run_carried limit sofar now choice m x (i ∷ rest) a =
+      let s = in_room limit sofar now (is_here choice) m x i in
+      let next = sofar + length s.outcome.result in
+      let one : P s.outcome.machine.clients =
+      in_room_is (λ s. P s.outcome.machine.clients) limit sofar now (is_here choice) m x i a (step_carried m x now (is_here choice) i a) in
+      follow_kept (λ m. P m.clients) s.outcome (run limit next now (behind_here choice) s.outcome.machine s.context rest) one
+      (run_carried limit next now (behind_here choice) s.outcome.machine s.context rest one)
+
+  -- a CREATE_SESSION of another client
+  made_other : (m : Machine) (now : ℕ) (c : CreateSession) (t : SessionTable) (v : Result SessionId SessionFault) → c.clientid ≢ n → P m.clients
+      → P (by_created m now c t v).machine.clients
+  made_other m now c t (Ok id) other a =
+      held.other (with_confirmed m.clients c.clientid) c.clientid (results.Done (made_body c id)) other (carried_confirmed n P held m.clients c.clientid a)
+  made_other m now c t (Err fault) other a = held.other m.clients c.clientid (results.Refused (fault_status fault)) other a
+
+  destroyed_carried : (m : Machine) (client : ℕ) (o : Option DestroyFault) → P m.clients → P (destroyed_unless m client o).machine.clients
+  destroyed_carried m client None a = held.fewer m.clients (λ c. not (c.id == client)) a
+  destroyed_carried m client (Some fault) a = a
+
+  ended_carried : (m : Machine) (sessionid : List ℕ) → P m.clients → P (destroy_session m sessionid).machine.clients
+  ended_carried m sessionid a = elim (cases_Bool (is_some (session_at m.sessions (id_of sessionid)))) [ inl stood ↦ rw stood a | inr gone ↦ rw gone a ]
+
+  out_carried : (m : Machine) (who : Caller) (now : ℕ) (refused : Bool) (i : Item) → asks_of n (i ∷ []) ≡ false → P m.clients
+      → P (carried_out m who now refused i).machine.clients
+  out_carried m who now refused (Operation (OpCreateSession c)) other a =
+      by_verdict_after (λ m. P m.clients) m now refused c (create_verdict m.clients c.clientid c.sequence who.uid) a
+      (λ t r. made_other m now c t r (eqb-false c.clientid n other) a)
+  out_carried m who now refused (Operation (OpExchangeId e)) other a =
+      delayed_after (λ m. P m.clients) m (exchange_id m who now e) refused exchange_id_number a
+      (carried_case n P held m.clients (ask_of who e) (case_of m.clients (ask_of who e)) a)
+  out_carried m who now refused (Operation (OpDestroySession sessionid)) other a = ended_carried m sessionid a
+  out_carried m who now refused (Operation (OpDestroyClientId client)) other a =
+      destroyed_carried m client (destroy_fault m.clients client (has_session m.sessions client)) a
+  out_carried m who now refused i other a = a
+
+  first_carried : (m : Machine) (declared : ℕ) (who : Caller) (now : ℕ) (refused : Bool) (i : Item) → asks_of n (i ∷ []) ≡ false → P m.clients
+      → P (first_item m declared who now refused i).machine.clients
+  first_carried m declared who now refused i other a = go (item_fault declared i)
+    where
+      go : (f : Option Status) → P (by_fault m (item_number i) f (carried_out m who now refused i)).machine.clients
+      go None = out_carried m who now refused i other a
+      go (Some status) = a
+
+  session_carried : (m : Machine) (r : Request) (who : Caller) (now : ℕ) (choice : Option ℕ) (s : Sequence) (rest : List Item) (v : Sequenced) → P m.clients
+      → P (in_session m r who now choice s rest v).machine.clients
+  session_carried m r who now choice s rest (sequence.Refuses status) a = a
+  session_carried m r who now choice s rest (sequence.Repeats reply) a = a
+  session_carried m r who now choice s rest (sequence.Runs c) a =
+      run_carried c.response (begun r s c) now (behind_here choice) (renewed m now s) (begins (id_of s.sessionid).client who) rest a
+
+  items_carried : (m : Machine) (r : Request) (who : Caller) (size now : ℕ) (choice : Option ℕ) (items : List Item) → asks_of n items ≡ false → P m.clients
+      → P (by_first m r who size now choice items).machine.clients
+  items_carried m r who size now choice [] other a = a
+  items_carried m r who size now choice (Operation (OpSequence s) ∷ rest) other a = session_carried m r who now choice s rest (sequenced m r who size s) a
+  items_carried m r who size now choice (i ∷ rest) other a = first_carried m r.declared who now (is_here choice) i (sym (asked_same n i rest) ∙ other) a
+
+  pub event_carried : (m : Machine) (e : MachineEvent) → asks_session n e ≡ false → P m.clients → P (stepped m e).clients
+  event_carried m (Expires now) other a = held.fewer m.clients (λ c. not (has_run_out m.leases now c.id)) a
+  event_carried m (Asks r who size now choice) other a = go (eqb r.minor 1)
+    where
+      go : (v : Bool) → P (cond v (by_first m r who size now choice r.left) (bare r MinorVersMismatch m)).machine.clients
+      go true = items_carried m r who size now choice r.left other a
+      go false = a
+
+-- What asks for a session of the client changes nothing, or runs: and then it is answered what it came to.
+
+abbrev pub created : Machine → ℕ → CreateSession → Outcome
+created m now c = creates m now c (create m.sessions c.clientid (wish_of m c))
+
+record IsRun (m : Machine) (now : ℕ) (c : CreateSession) (o : Outcome) : Type 0 where
+  pub next : IsNext m.clients c.clientid c.sequence
+  pub is : o ≡ created m now c
+
+delay_runs : (m : Machine) (now : ℕ) (c : CreateSession) (refused : Bool) → IsNext m.clients c.clientid c.sequence
+    → (let o = or_delay refused m create_session_number (created m now c) in (o.machine ≡ m) ⊎ IsRun m now c o)
+delay_runs m now c refused next = go (refused && is_ok (created m now c).status)
   where
-    go : (v : Bool) → In_ n number (most + cond (asks_of n r.left) 1 0) body (cond v (by_first m r who size now choice r.left) (bare r MinorVersMismatch m)).machine
-    go true = items_after n number most body m r who size now choice r.left a
-    go false = as_asked n number most body m (asks_of n r.left) a
+    go : (v : Bool) → (let o = cond v (refuses m create_session_number Delay) (created m now c) in (o.machine ≡ m) ⊎ IsRun m now c o)
+    go true = inl refl
+    go false = inr (record { next = next; is = refl })
+
+verdict_runs : (m : Machine) (who : Caller) (now : ℕ) (refused : Bool) (c : CreateSession) (v : clients.Verdict)
+    → create_verdict m.clients c.clientid c.sequence who.uid ≡ v → (let o = by_verdict m now refused c v in (o.machine ≡ m) ⊎ IsRun m now c o)
+verdict_runs m who now refused c clients.Stale e = inl refl
+verdict_runs m who now refused c clients.Misordered e = inl refl
+verdict_runs m who now refused c clients.InUse e = inl refl
+verdict_runs m who now refused c (clients.Again (results.Refused status)) e = inl refl
+verdict_runs m who now refused c (clients.Again (results.Done body)) e = inl refl
+verdict_runs m who now refused c clients.Runs e =
+    delay_runs m now c refused (verdict_next m.clients c.clientid c.sequence who.uid (client_at m.clients c.clientid) refl e)
+
+item_runs : (m : Machine) (declared : ℕ) (who : Caller) (now : ℕ) (refused : Bool) (c : CreateSession)
+    → (let o = first_item m declared who now refused (Operation (OpCreateSession c)) in (o.machine ≡ m) ⊎ IsRun m now c o)
+item_runs m declared who now refused c = go (item_fault declared (Operation (OpCreateSession c)))
+  where
+    go : (f : Option Status) → (let o = by_fault m (op_number Num.CreateSession) f (carried_out m who now refused (Operation (OpCreateSession c))) in
+        (o.machine ≡ m) ⊎ IsRun m now c o)
+    go None = verdict_runs m who now refused c (create_verdict m.clients c.clientid c.sequence who.uid) refl
+    go (Some status) = inl refl
+
+pub record IsAsked (n : ℕ) (m : Machine) (r : Request) (now : ℕ) (a : Answered) : Type 0 where
+  pub asked : CreateSession
+  pub more : List Item
+  pub first : r.left ≡ Operation (OpCreateSession asked) ∷ more
+  pub for : asked.clientid ≡ n
+  pub next : IsNext m.clients asked.clientid asked.sequence
+  pub text : a.text ≡ spell_compound_head (created m now asked).status r.tag 1 ++ (created m now asked).result
+  pub machine : a.machine ≡ (created m now asked).machine
+
+items_run : (n : ℕ) (m : Machine) (r : Request) (who : Caller) (size now : ℕ) (choice : Option ℕ) (items : List Item) → r.left ≡ items → asks_of n items ≡ true
+    → (let a = by_first m r who size now choice items in (a.machine ≡ m) ⊎ IsAsked n m r now a)
+items_run n m r who size now choice (Operation (OpCreateSession c) ∷ more) left asks = elim (item_runs m r.declared who now (is_here choice) c) [
+  | inl same ↦ inl same
+  | inr run ↦ inr (record {
+    asked = c;
+    more = more;
+    first = left;
+    for = eqb-true c.clientid n asks;
+    next = run.next;
+    text = ap (λ (o : Outcome). spell_compound_head o.status r.tag 1 ++ o.result) run.is;
+    machine = ap (λ (o : Outcome). o.machine) run.is;
+  })
+]
+items_run n m r who size now choice items left asks = absurd (false≢true asks)
+
+pub compound_runs : (n : ℕ) (m : Machine) (r : Request) (who : Caller) (size now : ℕ) (choice : Option ℕ) → asks_of n r.left ≡ true
+    → (let a = compound m r who size now choice in (a.machine ≡ m) ⊎ IsAsked n m r now a)
+compound_runs n m r who size now choice asks = go (eqb r.minor 1)
+  where
+    go : (v : Bool) → (let a = cond v (by_first m r who size now choice r.left) (bare r MinorVersMismatch m) in (a.machine ≡ m) ⊎ IsAsked n m r now a)
+    go true = items_run n m r who size now choice r.left refl asks
+    go false = inl refl
+
+-- The client's number: it moves on by one at most where a session of it is asked for.
+
+made_own : (n number most : ℕ) (body : List ℕ) (m : Machine) (now : ℕ) (c : CreateSession) (v : Result SessionId SessionFault) → After n number body most m.clients
+    → After n number body (most + 1) (by_created m now c (create m.sessions c.clientid (wish_of m c)).after v).machine.clients
+made_own n number most body m now c (Ok id) a =
+    after_own n number most body (with_confirmed m.clients c.clientid) c.clientid (results.Done (made_body c id))
+    (carried_confirmed n (After n number body most) (after_carried n number most body) m.clients c.clientid a)
+made_own n number most body m now c (Err fault) a = after_own n number most body m.clients c.clientid (results.Refused (fault_status fault)) a
+
+asked_after : (n number most : ℕ) (body : List ℕ) (m : Machine) (e : MachineEvent) → asks_session n e ≡ true → After n number body most m.clients
+    → After n number body (most + 1) (stepped m e).clients
+asked_after n number most body m (Expires now) asks a = absurd (false≢true asks)
+asked_after n number most body m (Asks r who size now choice) asks a = elim (compound_runs n m r who size now choice asks) [
+  | inl same ↦ subst (λ (m : Machine). After n number body (most + 1) m.clients) (sym same) (more n number (most + 1) most body m.clients (omega arith) a)
+  | inr run ↦ subst (λ (m : Machine). After n number body (most + 1) m.clients) (sym run.machine)
+      (made_own n number most body m now run.asked (create m.sessions run.asked.clientid (wish_of m run.asked)).answer a)
+]
 
 pub event_after : (n number most : ℕ) (body : List ℕ) (m : Machine) (e : MachineEvent) → After n number body most m.clients
     → After n number body (most + cond (asks_session n e) 1 0) (stepped m e).clients
-event_after n number most body m (Expires now) a =
-    as_asked n number most body (stepped m (Expires now)) false (after_fewer n number most body m.clients (λ c. not (has_run_out m.leases now c.id)) a)
-event_after n number most body m (Asks r who size now choice) a = compound_after n number most body m r who size now choice a
+event_after n number most body m e a = elim (cases_Bool (asks_session n e)) [
+  | inl asks ↦ rw asks (asked_after n number most body m e asks a)
+  | inr other ↦ rw other (more n number (most + 0) most body (stepped m e).clients (omega arith)
+      (event_carried n (After n number body most) (after_carried n number most body) m e other a))
+]
 
 -- What a CREATE_SESSION that answered NFS4_OK did.
 
@@ -366,7 +419,7 @@ given_after client number id m e is g = subst (λ n. After n number (id ++ g.beh
           (after_next m.clients g.asked.clientid g.asked.sequence (id ++ g.behind) is made.next)
     ]))
 
-first_bytes : (a b x y : List ℕ) → length a ≡ 16 → length b ≡ 16 → a ++ x ≡ b ++ y → a ≡ b
+pub first_bytes : (a b x y : List ℕ) → length a ≡ 16 → length b ≡ 16 → a ++ x ≡ b ++ y → a ≡ b
 first_bytes a b x y long also e = sym (take_at a x 16 long) ∙ (ap (take 16) e ∙ take_at b y 16 also)
 
 pub given_again : (client number most : ℕ) (id behind other : List ℕ) (m : Machine) (e : MachineEvent) → length id ≡ 16 → After client number (id ++ behind) most m.clients
@@ -414,6 +467,11 @@ left_in : (t : SessionTable) (o : Option ℕ) (s : Session) → In s (without_an
 left_in t None s there = there
 left_in t (Some gone) s there = (in_filter (λ (s : Session). not (s.client == gone)) t.sessions s there).0
 
+own_stays : (o : Option ℕ) (client : ℕ) (t : SessionTable) (s : Session) → o ≢ Some client → In s t.sessions → s.client ≡ client → In s (without_any_sessions t o).sessions
+own_stays None client t s other there same = there
+own_stays (Some gone) client t s other there same =
+    stays_in (λ (s : Session). not (s.client == gone)) t.sessions s there (ap not (ne_eqb s.client gone (λ here. other (ap (λ n. Some n) (sym here ∙ same)))))
+
 new_is : (last client : ℕ) → eqb (last + 1) (last + 1) && eqb client client ≡ true
 new_is last client = rw (eq-eqb (last + 1) (last + 1) refl, eq-eqb client client refl) refl
 
@@ -440,7 +498,7 @@ absent_next t client counted = find_none (is_session (record { client = client; 
 ])
 
 made_one : (m : Machine) (now : ℕ) (c : CreateSession) (id behind : List ℕ) (left : Machine) → IsCounted m.sessions → length id ≡ 16 → IsMade m now c (id ++ behind) left
-    → MakesOne id m.sessions left.sessions
+    → MakesOne c.clientid id m.sessions left.sessions
 made_one m now c id behind left counted long made =
     let wish = wish_of m c in
     let t = m.sessions in
@@ -451,22 +509,31 @@ made_one m now c id behind left counted long made =
     let absent = absent_next t c.clientid counted in
     let sessions : left.sessions ≡ without_any_sessions (with_session t c.clientid wish) (leaving m.clients c.clientid) =
     ap (λ (m : Machine). m.sessions) made.changed ∙ ap (λ (u : SessionTable). without_any_sessions u (leaving m.clients c.clientid)) is.1 in
-    subst (λ (u : SessionTable). MakesOne id t u) (sym sessions) (record {
+    subst (λ (u : SessionTable). MakesOne c.clientid id t u) (sym sessions) (record {
       session = new;
       spelled = bytes ∙ ap id_bytes is.0;
+      of = refl;
       absent = absent;
       there = new_there t c.clientid wish (leaving m.clients c.clientid) (stays_own m.clients c.clientid made.next.client made.next.found) absent;
       alone = λ s there. elim (in_push t.sessions _ s (left_in (with_session t c.clientid wish) (leaving m.clients c.clientid) s there)) [
         | inl here ↦ inr (subst (λ (s : Session). is_session new s ≡ true) (sym here) (new_is t.last c.clientid))
         | inr old ↦ inl old
       ];
+      others = λ s there same. own_stays (leaving m.clients c.clientid) c.clientid (with_session t c.clientid wish) s
+          (stays_own m.clients c.clientid made.next.client made.next.found) (push_in t.sessions _ s there) same;
     })
 
+-- of the client that it gives, a session
+for_client : (client number : ℕ) (id : List ℕ) (m : Machine) (e : MachineEvent) (g : Gives client number id m e) → IsCounted m.sessions
+    → IsMade m g.now g.asked (id ++ g.behind) (stepped m e) → MakesOne client id m.sessions (stepped m e).sessions
+for_client client number id m e g counted made =
+    subst (λ n. MakesOne n id m.sessions (stepped m e).sessions) g.for (made_one m g.now g.asked id g.behind (stepped m e) counted g.long made)
+
 pub gives_one : (client number : ℕ) (id : List ℕ) (m : Machine) (e : MachineEvent) → IsCounted m.sessions → Gives client number id m e
-    → (stepped m e ≡ m) ⊎ MakesOne id m.sessions (stepped m e).sessions
+    → (stepped m e ≡ m) ⊎ MakesOne client id m.sessions (stepped m e).sessions
 gives_one client number id m e counted g = elim (either client number id m e g) [
   | inl repeat ↦ inl repeat.unchanged
-  | inr made ↦ inr (made_one m g.now g.asked id g.behind (stepped m e) counted g.long made)
+  | inr made ↦ inr (for_client client number id m e g counted made)
 ]
 
 pub gives_one_in_runs : GivesOne
@@ -474,12 +541,107 @@ gives_one_in_runs mode instance lease events e client number id g =
     gives_one client number id (all_stepped (starts mode instance lease) events) e
     (counted_all (starts mode instance lease) events (λ s there. absurd there)) g
 
+-- what it repeats is of its client and number
+for_again : (client number : ℕ) (id : List ℕ) (m : Machine) (e : MachineEvent) (g : Gives client number id m e)
+    → IsAgain m.clients g.asked.clientid g.asked.sequence (results.Done (id ++ g.behind)) → IsAgain m.clients client number (results.Done (id ++ g.behind))
+for_again client number id m e g again =
+    subst (λ n. IsAgain m.clients n number (results.Done (id ++ g.behind))) g.for
+    (subst (λ k. IsAgain m.clients g.asked.clientid k (results.Done (id ++ g.behind))) g.with again)
+
 -- behind an answer the next number makes one
 pub given_next : (client number : ℕ) (body other : List ℕ) (m : Machine) (e : MachineEvent) → IsCounted m.sessions → After client number body 0 m.clients
-    → Gives client (following number) other m e → MakesOne other m.sessions (stepped m e).sessions
+    → Gives client (following number) other m e → MakesOne client other m.sessions (stepped m e).sessions
 given_next client number body other m e counted after g = elim (either client (following number) other m e g) [
   | inl repeat ↦ absurd (next_is_new m.clients client number body (results.Done (other ++ g.behind)) after
-      (subst (λ n. IsAgain m.clients n (following number) (results.Done (other ++ g.behind))) g.for
-      (subst (λ k. IsAgain m.clients g.asked.clientid k (results.Done (other ++ g.behind))) g.with repeat.again)))
-  | inr made ↦ made_one m g.now g.asked other g.behind (stepped m e) counted g.long made
+      (for_again client (following number) other m e g repeat.again))
+  | inr made ↦ for_client client (following number) other m e g counted made
+]
+
+-- Where the result of a number is kept, what kept it made a session.
+
+pub record IsMadeBy (client number : ℕ) (body : List ℕ) (m : Machine) (e : MachineEvent) : Type 0 where
+  pub id : List ℕ
+  pub gives : Gives client number id m e
+  pub text : id ++ gives.behind ≡ body
+  pub makes : MakesOne client id m.sessions (stepped m e).sessions
+
+-- the answer of one that ran and was granted
+granted_by : (n number : ℕ) (body : List ℕ) (m : Machine) (r : Request) (who : Caller) (size now : ℕ) (choice : Option ℕ) (id : SessionId)
+    → IsCounted m.sessions → (run : IsAsked n m r now (compound m r who size now choice)) → (create m.sessions run.asked.clientid (wish_of m run.asked)).answer ≡ Ok id
+    → run.asked.sequence ≡ number → made_body run.asked id ≡ body → IsMadeBy n number body m (Asks r who size now choice)
+granted_by n number body m r who size now choice id counted run did number_is text =
+    let told = made_id run.asked id in
+    let e = Asks r who size now choice in
+    let o = by_created m now run.asked (create m.sessions run.asked.clientid (wish_of m run.asked)).after in
+    let g : Gives n number (id_bytes id) m e = record {
+      request = r;
+      who = who;
+      size = size;
+      now = now;
+      choice = choice;
+      is = refl;
+      asked = run.asked;
+      more = run.more;
+      first = run.first;
+      for = run.for;
+      with = number_is;
+      behind = told.0;
+      answers = run.text ∙ (ap (λ v. spell_compound_head (o v).status r.tag 1 ++ (o v).result) did
+          ∙ ap (λ text. spell_compound_head Nfs4Ok r.tag 1 ++ (done_head Num.CreateSession ++ text)) told.1);
+      long = length_id id;
+    } in
+    record {
+      id = id_bytes id;
+      gives = g;
+      text = sym told.1 ∙ text;
+      makes = for_client n number (id_bytes id) m e g counted (record {
+        next = run.next;
+        id = id;
+        text = sym told.1;
+        did = did;
+        changed = run.machine ∙ (ap (λ v. (o v).machine) did
+            ∙ ap (λ text. confirmed (record m { sessions = (create m.sessions run.asked.clientid (wish_of m run.asked)).after }) now run.asked.clientid text) told.1);
+      });
+    }
+
+asked_tells : (n number : ℕ) (body : List ℕ) (X Y : Type 0) (m : Machine) (r : Request) (who : Caller) (size now : ℕ) (choice : Option ℕ) → IsRoster m.clients
+    → IsCounted m.sessions → number < 2 ^ 32 → (X → Y) → (IsMadeBy n number body m (Asks r who size now choice) → Y)
+    → (run : IsAsked n m r now (compound m r who size now choice)) → ToldBy n (following number) body X m.clients
+    → ToldBy n (following number) body Y (compound m r who size now choice).machine.clients
+asked_tells n number body X Y m r who size now choice is counted low old new run tells =
+    let did = create m.sessions run.asked.clientid (wish_of m run.asked) in
+    subst (λ (m : Machine). ToldBy n (following number) body Y m.clients) (sym run.machine) (go did.answer refl)
+  where
+    go : (v : Result SessionId SessionFault) → (create m.sessions run.asked.clientid (wish_of m run.asked)).answer ≡ v
+        → ToldBy n (following number) body Y (by_created m now run.asked (create m.sessions run.asked.clientid (wish_of m run.asked)).after v).machine.clients
+    go (Ok id) did = subst (λ k. ToldBy n (following number) body Y (with_kept (with_confirmed m.clients k) k (results.Done (made_body run.asked id)))) (sym run.for)
+        (tells_made n number run.asked.sequence body (made_body run.asked id) X Y m.clients is
+        (subst (λ k. IsNext m.clients k run.asked.sequence) run.for run.next) low
+        (λ number_is text. new (granted_by n number body m r who size now choice id counted run did number_is text)) tells)
+    go (Err fault) did = subst (λ k. ToldBy n (following number) body Y (with_kept m.clients k (results.Refused (fault_status fault)))) (sym run.for)
+        (tells_refused n (following number) body Y m.clients (fault_status fault) (tells_more n (following number) body X Y m.clients old tells))
+
+pub event_tells : (n number : ℕ) (body : List ℕ) (X Y : Type 0) (m : Machine) (e : MachineEvent) → IsRoster m.clients → IsCounted m.sessions → number < 2 ^ 32
+    → (X → Y) → (IsMadeBy n number body m e → Y) → ToldBy n (following number) body X m.clients → ToldBy n (following number) body Y (stepped m e).clients
+event_tells n number body X Y m e is counted low old new tells = elim (cases_Bool (asks_session n e)) [
+  | inl asks ↦ own e asks new
+  | inr other ↦ tells_more n (following number) body X Y (stepped m e).clients old
+      (event_carried n (ToldBy n (following number) body X) (tells_carried n (following number) body X) m e other tells)
+]
+  where
+    own : (e : MachineEvent) → asks_session n e ≡ true → (IsMadeBy n number body m e → Y) → ToldBy n (following number) body Y (stepped m e).clients
+    own (Expires now) asks new = absurd (false≢true asks)
+    own (Asks r who size now choice) asks new = elim (compound_runs n m r who size now choice asks) [
+      | inl same ↦ subst (λ (m : Machine). ToldBy n (following number) body Y m.clients) (sym same) (tells_more n (following number) body X Y m.clients old tells)
+      | inr run ↦ asked_tells n number body X Y m r who size now choice is counted low old new run tells
+    ]
+
+-- It makes one, or what made it is told.
+pub gives_made : (client number : ℕ) (id : List ℕ) (X : Type 0) (m : Machine) (e : MachineEvent) → IsCounted m.sessions → (g : Gives client number id m e)
+    → ToldBy client (following number) (id ++ g.behind) X m.clients → MakesOne client id m.sessions (stepped m e).sessions ⊎ X
+gives_made client number id X m e counted g tells = elim (either client number id m e g) [
+  | inr made ↦ inl (for_client client number id m e g counted made)
+  | inl repeat ↦ (let again = for_again client number id m e g repeat.again in
+      let there = find_in (λ (c : ClientRecord). c.id == client) m.clients.records again.client again.found in
+      inr (tells.told again.client there.0 (eqb-true again.client.id client there.1) (sym again.before) again.kept))
 ]

@@ -1,8 +1,9 @@
 -- The number of a client's record: each result that is kept moves it on by one, and nothing else changes it or what is kept.
-use Rattle.std.proofs.Common.{◌≡◌, ◌≢◌, ℕ, ◌+◌, ◌%◌, ◌^◌, ◌-◌, ◌<◌, ◌≤◌, suc, zero, Bool, true, false, cond, not, List, [], ◌∷◌, ◌++◌, Option, Some, None, refl, sym, ◌∙◌, ap, subst, arith, inl, inr}
+use Rattle.std.proofs.Common.{◌≡◌, ◌≢◌, ℕ, ◌+◌, ◌%◌, ◌^◌, ◌-◌, ◌<◌, ◌≤◌, Bool, true, false, cond, not, List, Option, Some, None, refl, sym, ◌∙◌, ap, subst, arith, inl, inr}
 use Rattle.std.specs.Prelude.{◌==◌, ◌⊎◌, filter}
 use Rattle.std.specs.Option.{option_map_or}
-use Rattle.std.proofs.lemmas.Bool.{cases_Bool, cases_eq, eqb-true, eq-eqb, ne_eqb, false≢true}
+use Rattle.std.proofs.lemmas.Bool.{cases_Bool, cases_eq, eqb-true, eq-eqb, ne_eqb}
+use Rattle.nfs_xdr.specs.declared.status.Status.{Status}
 use Rattle.nfs_xdr.specs.Tables.{In}
 use Rattle.nfs_xdr.proofs.Lists.{in_filter, in_push, in_map, find_in}
 use Rattle.nfs_xdr.proofs.Tables.{in_bounds, at_of_in}
@@ -10,7 +11,7 @@ use Rattle.nfs_clients.specs.declared.created.CreateResult.{CreateResult}
 use Rattle.nfs_clients.specs.declared.created.CreateResult.TheVariants as results
 use Rattle.nfs_clients.specs.Roster.{ClientRecord, Roster, IsRoster, id_of, next_id, client_at, is_unconfirmed_of, with_changed}
 use Rattle.nfs_clients.specs.ExchangeId.{Ask, Case, Refuses, Stays, Adds, does, new_client, with_new}
-use Rattle.nfs_clients.specs.CreateSession.{Verdict, Stale, Again, Misordered, InUse, Runs, following, verdict_by, uses_up, keeps, with_kept, without_any, leaving, confirms, with_confirmed}
+use Rattle.nfs_clients.specs.CreateSession.{Again, Misordered, InUse, Runs, following, verdict_by, status_uses_up, uses_up, keeps, with_kept, without_any, leaving, confirms, with_confirmed}
 
 -- Each record of the client's id has the number that is k behind the one that follows this one; and if that is none, the result of this one is kept.
 pub record IsAfter (n number k : ℕ) (body : List ℕ) (t : Roster) : Type 0 where
@@ -52,6 +53,13 @@ quiet_at f n q = record {
   number = λ c. elim (c.id == n) as (λ v. (cond v (f c) c).number ≡ c.number) [ true ↦ q.number c | false ↦ refl ];
   kept = λ c. elim (c.id == n) as (λ v. (cond v (f c) c).kept ≡ c.kept) [ true ↦ q.kept c | false ↦ refl ];
 }
+
+-- What holds of the records whatever comes that asks for no session of the client.
+pub record IsCarried (n : ℕ) (P : Roster → Type 0) : Type 0 where
+  pub fewer : (t : Roster) (p : ClientRecord → Bool) → P t → P (record t { records = filter p t.records })
+  pub quiet : (t : Roster) (at : ℕ) (f : ClientRecord → ClientRecord) → IsQuiet f → P t → P (with_changed t at f)
+  pub other : (t : Roster) (at : ℕ) (result : CreateResult) → at ≢ n → P t → P (with_kept t at result)
+  pub new : (t : Roster) (ask : Ask) → P t → P (with_new t ask)
 
 pub after_quiet : (n number most at : ℕ) (body : List ℕ) (t : Roster) (f : ClientRecord → ClientRecord) → IsQuiet f → After n number body most t
     → After n number body most (with_changed t at f)
@@ -164,20 +172,28 @@ after_new n number most body t ask a =
       };
     }
 
-pub after_case : (n number most : ℕ) (body : List ℕ) (t : Roster) (ask : Ask) (k : Case) → After n number body most t → After n number body most (does t ask k).after
-after_case n number most body t ask (Refuses fault) a = a
-after_case n number most body t ask (Stays c) a = a
-after_case n number most body t ask Adds a = after_new n number most body t ask a
+pub after_carried : (n number most : ℕ) (body : List ℕ) → IsCarried n (After n number body most)
+after_carried n number most body = record {
+  fewer = after_fewer n number most body;
+  quiet = λ t at f quiet a. after_quiet n number most at body t f quiet a;
+  other = λ t at result other a. after_other n number most at body t result other a;
+  new = λ t ask a. after_new n number most body t ask a;
+}
 
--- a confirmation, behind which another record of its owner may be gone
-pub after_gone : (n number most : ℕ) (body : List ℕ) (t : Roster) (o : Option ℕ) → After n number body most t → After n number body most (without_any t o)
-after_gone n number most body t None a = a
-after_gone n number most body t (Some gone) a = after_fewer n number most body t (λ c. not (c.id == gone)) a
+module _ (n : ℕ) (P : Roster → Type 0) (held : IsCarried n P) where
+  pub carried_case : (t : Roster) (ask : Ask) (k : Case) → P t → P (does t ask k).after
+  carried_case t ask (Refuses fault) a = a
+  carried_case t ask (Stays c) a = a
+  carried_case t ask Adds a = held.new t ask a
 
-pub after_confirmed : (n number most : ℕ) (body : List ℕ) (t : Roster) (at : ℕ) → After n number body most t → After n number body most (with_confirmed t at)
-after_confirmed n number most body t at a =
-    after_quiet n number most at body (without_any t (leaving t at)) confirms (record { id = λ c. refl; number = λ c. refl; kept = λ c. refl })
-    (after_gone n number most body t (leaving t at) a)
+  -- a confirmation, behind which another record of its owner may be gone
+  carried_gone : (t : Roster) (o : Option ℕ) → P t → P (without_any t o)
+  carried_gone t None a = a
+  carried_gone t (Some gone) a = held.fewer t (λ c. not (c.id == gone)) a
+
+  pub carried_confirmed : (t : Roster) (at : ℕ) → P t → P (with_confirmed t at)
+  carried_confirmed t at a =
+      held.quiet (without_any t (leaving t at)) at confirms (record { id = λ c. refl; number = λ c. refl; kept = λ c. refl }) (carried_gone t (leaving t at) a)
 
 -- What a number comes to.
 
@@ -333,3 +349,101 @@ next_is_new t n number body result a again =
   where
     apart : (number k at : ℕ) → k ≤ 0 → following (following number) ≡ at → at ≡ (number + 1 + k) % 2 ^ 32 → ⊥
     apart number k at none next count = absurd (omega arith)
+
+-- Where a record of the client has this number and keeps this result, X.
+
+pub record ToldBy (n at : ℕ) (body : List ℕ) (X : Type 0) (t : Roster) : Type 0 where
+  pub small : (c : ClientRecord) → In c t.records → c.id ≡ n → c.number < 2 ^ 32
+  pub told : (c : ClientRecord) → In c t.records → c.id ≡ n → c.number ≡ at → c.kept ≡ Some (results.Done body) → X
+
+pub tells_more : (n at : ℕ) (body : List ℕ) (X Y : Type 0) (t : Roster) → (X → Y) → ToldBy n at body X t → ToldBy n at body Y t
+tells_more n at body X Y t to is = record { small = is.small; told = λ c there same number kept. to (is.told c there same number kept) }
+
+-- a record of the client in a table before, with the number and the result of this one
+abbrev Was : ℕ → Roster → ClientRecord → Type 0
+Was n t c = (b : ClientRecord) × In b t.records × (b.id ≡ n) × (c.number ≡ b.number) × (c.kept ≡ b.kept)
+
+tells_as : (n at : ℕ) (body : List ℕ) (X : Type 0) (t left : Roster) → ((c : ClientRecord) → In c left.records → c.id ≡ n → Was n t c)
+    → ToldBy n at body X t → ToldBy n at body X left
+tells_as n at body X t left was is = record {
+  small = λ c there same. (let b = was c there same in subst (λ k. k < 2 ^ 32) (sym b.3) (is.small b.0 b.1 b.2));
+  told = λ c there same number kept. (let b = was c there same in is.told b.0 b.1 b.2 (sym b.3 ∙ number) (sym b.4 ∙ kept));
+}
+
+was_quiet : (n place : ℕ) (t : Roster) (f : ClientRecord → ClientRecord) → IsQuiet f → (c : ClientRecord) → In c (with_changed t place f).records → c.id ≡ n → Was n t c
+was_quiet n place t f quiet c there same =
+    let q = quiet_at f place quiet in
+    let was = in_map (λ c. cond (c.id == place) (f c) c) t.records c there in (
+      was.0,
+      was.1,
+      sym (q.id was.0) ∙ (ap (λ (c : ClientRecord). c.id) (sym was.2) ∙ same),
+      ap (λ (c : ClientRecord). c.number) was.2 ∙ q.number was.0,
+      ap (λ (c : ClientRecord). c.kept) was.2 ∙ q.kept was.0,
+    )
+
+was_other : (n place : ℕ) (t : Roster) (result : CreateResult) → place ≢ n → (c : ClientRecord) → In c (with_kept t place result).records → c.id ≡ n → Was n t c
+was_other n place t result other c there same =
+    let was = in_map (λ c. cond (c.id == place) (keeps result c) c) t.records c there in
+    let id : was.0.id ≡ n = sym (keeps_id place result was.0) ∙ (ap (λ (c : ClientRecord). c.id) (sym was.2) ∙ same) in
+    let still : c ≡ was.0 = was.2 ∙ ap (λ v. cond v (keeps result was.0) was.0) (ne_eqb was.0.id place (λ e. other (sym e ∙ id))) in
+    (was.0, was.1, id, ap (λ (c : ClientRecord). c.number) still, ap (λ (c : ClientRecord). c.kept) still)
+
+pub tells_carried : (n at : ℕ) (body : List ℕ) (X : Type 0) → IsCarried n (ToldBy n at body X)
+tells_carried n at body X = record {
+  fewer = λ t p is. tells_as n at body X t (record t { records = filter p t.records }) (λ c there same. (c, (in_filter p t.records c there).0, same, refl, refl)) is;
+  quiet = λ t place f quiet is. tells_as n at body X t (with_changed t place f) (was_quiet n place t f quiet) is;
+  other = λ t place result other is. tells_as n at body X t (with_kept t place result) (was_other n place t result other) is;
+  new = λ t ask is. record {
+    small = λ c there same. elim (in_push (filter (λ c. not (is_unconfirmed_of ask.owner c)) t.records) (new_client t ask) c there) [
+      | inl new ↦ (let one = ap (λ (c : ClientRecord). c.number) new in omega arith)
+      | inr old ↦ is.small c (in_filter (λ c. not (is_unconfirmed_of ask.owner c)) t.records c old).0 same
+    ];
+    told = λ c there same number kept. elim (in_push (filter (λ c. not (is_unconfirmed_of ask.owner c)) t.records) (new_client t ask) c there) [
+      | inl new ↦ absurd (let none : None ≡ Some (results.Done body) = ap (λ (c : ClientRecord). c.kept) (sym new) ∙ kept in cc)
+      | inr old ↦ is.told c (in_filter (λ c. not (is_unconfirmed_of ask.owner c)) t.records c old).0 same number kept
+    ];
+  };
+}
+
+small_following : (number : ℕ) → following number < 2 ^ 32
+small_following number = omega arith
+
+-- its own number, refused ..
+by_refused : (status : Status) (c b : ClientRecord) (v used : Bool)
+    → c ≡ cond v (cond used (record b { number = following b.number; kept = Some (results.Refused status) }) b) b
+    → (c ≡ b) ⊎ ((c.number ≡ following b.number) × (c.kept ≡ Some (results.Refused status)))
+by_refused status c b true true e = inr (ap (λ (c : ClientRecord). c.number) e, ap (λ (c : ClientRecord). c.kept) e)
+by_refused status c b true false e = inl e
+by_refused status c b false used e = inl e
+
+pub tells_refused : (n at : ℕ) (body : List ℕ) (X : Type 0) (t : Roster) (status : Status) → ToldBy n at body X t → ToldBy n at body X (with_kept t n (results.Refused status))
+tells_refused n at body X t status is = record {
+  small = λ c there same. (let was = in_map (λ c. cond (c.id == n) (keeps (results.Refused status) c) c) t.records c there in
+      elim (by_refused status c was.0 (was.0.id == n) (status_uses_up status) was.2) [
+        | inl still ↦ subst (λ (c : ClientRecord). c.number < 2 ^ 32) (sym still) (is.small was.0 was.1 (ap (λ (c : ClientRecord). c.id) (sym still) ∙ same))
+        | inr used ↦ subst (λ k. k < 2 ^ 32) (sym used.0) (small_following was.0.number)
+      ]);
+  told = λ c there same number kept. (let was = in_map (λ c. cond (c.id == n) (keeps (results.Refused status) c) c) t.records c there in
+      elim (by_refused status c was.0 (was.0.id == n) (status_uses_up status) was.2) [
+        | inl still ↦ is.told was.0 was.1 (ap (λ (c : ClientRecord). c.id) (sym still) ∙ same) (ap (λ (c : ClientRecord). c.number) (sym still) ∙ number)
+            (ap (λ (c : ClientRecord). c.kept) (sym still) ∙ kept)
+        | inr used ↦ absurd (let bad : Some (results.Refused status) ≡ Some (results.Done body) = sym used.1 ∙ kept in cc)
+      ]);
+}
+
+-- .. or done
+same_number : (a b : ℕ) → a < 2 ^ 32 → b < 2 ^ 32 → following a ≡ following b → a ≡ b
+same_number a b low lower e = omega arith
+
+pub tells_made : (n number asked : ℕ) (body made : List ℕ) (X Y : Type 0) (t : Roster) → IsRoster t → IsNext t n asked → number < 2 ^ 32
+    → (asked ≡ number → made ≡ body → Y) → ToldBy n (following number) body X t
+    → ToldBy n (following number) body Y (with_kept (with_confirmed t n) n (results.Done made))
+tells_made n number asked body made X Y t is next low give tells = record {
+  small = λ c there same. (let was = was_before t n made c there same in subst (λ k. k < 2 ^ 32) (sym was.number) (small_following was.before.number));
+  told = λ c there same at kept. (let was = was_before t n made c there same in
+      let one = one_record t n next.client was.before is next.found was.there was.id in
+      let as_asked : was.before.number ≡ number =
+      same_number was.before.number number (tells.small was.before was.there was.id) low (sym was.number ∙ at) in
+      let both : Some (results.Done made) ≡ Some (results.Done body) = sym was.kept ∙ kept in
+      give (next.expected ∙ (ap (λ (c : ClientRecord). c.number) (sym one) ∙ as_asked)) cc);
+}

@@ -41,16 +41,18 @@ pub record Gives (client number : ℕ) (id : List ℕ) (m : Machine) (e : Machin
   pub answers : (compound m request who size now choice).text ≡ spell_compound_head Nfs4Ok request.tag 1 ++ (done_head Op.CreateSession ++ (id ++ behind))
   pub long : length id ≡ 16
 
--- A session of the id stands behind it, which did not before, and no other is new.
-pub record MakesOne (id : List ℕ) (before left : SessionTable) : Type 0 where
+-- A session of the id, of the client, stands behind it, which did not before; no other is new, and the client's others stand on.
+pub record MakesOne (client : ℕ) (id : List ℕ) (before left : SessionTable) : Type 0 where
   pub session : SessionId
   pub spelled : id ≡ id_bytes session
+  pub of : session.client ≡ client
   pub absent : session_at before session ≡ None
   pub there : is_some (session_at left session) ≡ true
   pub alone : (s : Session) → In s left.sessions → In s before.sessions ⊎ (is_session session s ≡ true)
+  pub others : (s : Session) → In s before.sessions → s.client ≡ client → In s left.sessions
 
 -- In every run: what is answered so made one session, of the id that is answered, or changed nothing.
 abbrev pub GivesOne : Type 0
 GivesOne = (mode instance lease : ℕ) (events : List MachineEvent) (e : MachineEvent) (client number : ℕ) (id : List ℕ)
     → (let m = all_stepped (starts mode instance lease) events in
-    Gives client number id m e → (stepped m e ≡ m) ⊎ MakesOne id m.sessions (stepped m e).sessions)
+    Gives client number id m e → (stepped m e ≡ m) ⊎ MakesOne client id m.sessions (stepped m e).sessions)

@@ -5,7 +5,6 @@ use Rattle.std.specs.List.{list_any}
 use Rattle.std.specs.Option.{option_map_or}
 use Rattle.std.proofs.lemmas.Bool.{cases_Bool, or_parts, false≢true}
 use Rattle.nfs_xdr.specs.Checks.{first_fault, judged}
-use Rattle.nfs_xdr.specs.Status.{status_number}
 use Rattle.nfs_xdr.specs.declared.status.Status.{Status}
 use Rattle.nfs_xdr.specs.declared.status.Status.TheVariants.{ShareDenied, ServerFault}
 use Rattle.nfs_compound.specs.OpenArgs.{Open}
@@ -93,19 +92,19 @@ last_ok false false rooms e = ap judged (sym (first_append rooms ((false, Server
     or_none (Some f) = refl
 
 last_denied : (k u : Bool) (rooms : List (Bool × Status)) (status : Status)
-    → Err status ≡ judged (first_fault ((k, ShareDenied) ∷ (u, ServerFault) ∷ [])) → status_number status ≡ status_number ShareDenied
+    → Err status ≡ judged (first_fault ((k, ShareDenied) ∷ (u, ServerFault) ∷ [])) → status ≡ ShareDenied
     → Err status ≡ judged (first_fault ((k, ShareDenied) ∷ rooms ++ (u, ServerFault) ∷ []))
 last_denied true u rooms status e n = e
 last_denied false true rooms status e n = let same : status ≡ ServerFault = cc in
-    let bad : status_number ServerFault ≡ status_number ShareDenied = sym (ap status_number same) ∙ n in absurd (omega arith)
+    absurd (let bad : ServerFault ≡ ShareDenied = sym same ∙ n in cc)
 last_denied false false rooms status e n = absurd cc
 
 last_spent : (k u : Bool) (rooms : List (Bool × Status)) (status : Status)
-    → Err status ≡ judged (first_fault ((k, ShareDenied) ∷ (u, ServerFault) ∷ [])) → (status_number status ≡ status_number ShareDenied → ⊥)
+    → Err status ≡ judged (first_fault ((k, ShareDenied) ∷ (u, ServerFault) ∷ [])) → (status ≡ ShareDenied → ⊥)
     → (r : Result (Unit {0}) Status) → r ≡ judged (first_fault rooms)
     → (Ok tt ≡ r → Err status ≡ judged (first_fault ((k, ShareDenied) ∷ rooms ++ (u, ServerFault) ∷ [])))
     × ((other : Status) → Err other ≡ r → Err other ≡ judged (first_fault ((k, ShareDenied) ∷ rooms ++ (u, ServerFault) ∷ [])))
-last_spent true u rooms status e n r is = let same : status ≡ ShareDenied = cc in absurd (n (ap status_number same))
+last_spent true u rooms status e n r is = let same : status ≡ ShareDenied = cc in absurd (n same)
 last_spent false false rooms status e n r is = absurd cc
 last_spent false true rooms status e n r is = (
   λ ok. by_room (first_fault rooms) refl (ok ∙ is),
@@ -130,14 +129,14 @@ room_decides s x o found shared is ok =
     last_ok (list_any (clashes_with a) s.opens.opens) (is_none (own_open s.opens a) && (s.opens.last == last_number)) (room_checks s.tree found) (sym ok ∙ is)
 
 pub denied_decides : (s : State) (x : Context) (o : Open) (found : Found) (status : Status)
-    → Err status ≡ judged (open_fault s.opens (asking x o (number_of found))) → status_number status ≡ status_number ShareDenied
+    → Err status ≡ judged (open_fault s.opens (asking x o (number_of found))) → status ≡ ShareDenied
     → Err status ≡ judged (first_fault (part.last_checks s x o found))
 denied_decides s x o found status is n =
     let a = asking x o (number_of found) in
     last_denied (list_any (clashes_with a) s.opens.opens) (is_none (own_open s.opens a) && (s.opens.last == last_number)) (room_checks s.tree found) status is n
 
 pub spent_decides : (s : State) (x : Context) (o : Open) (found : Found) (status : Status)
-    → Err status ≡ judged (open_fault s.opens (asking x o (number_of found))) → (status_number status ≡ status_number ShareDenied → ⊥)
+    → Err status ≡ judged (open_fault s.opens (asking x o (number_of found))) → (status ≡ ShareDenied → ⊥)
     → (r : Result (Unit {0}) Status) → r ≡ judged (first_fault (room_checks s.tree found))
     → (Ok tt ≡ r → Err status ≡ judged (first_fault (part.last_checks s x o found)))
     × ((other : Status) → Err other ≡ r → Err other ≡ judged (first_fault (part.last_checks s x o found)))

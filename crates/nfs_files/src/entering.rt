@@ -108,7 +108,7 @@ fn judge_last(
     match store.opens.judge_open(&ask) {
         Ok(()) => room,
         Err(status) => {
-            if status.number() == Status::ShareDenied.number() {
+            if status == Status::ShareDenied {
                 return Err(status);
             }
             match room {

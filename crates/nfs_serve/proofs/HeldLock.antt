@@ -1,58 +1,32 @@
 -- The run of a lock that is kept, computed.
 use Rattle.std.proofs.Common.{◌≡◌, ℕ, ◌+◌, ◌≤◌, Bool, true, false, cond, List, [], ◌∷◌, ◌++◌, length, take, drop, refl, sym, ◌∙◌, ap, subst, arith, inl, inr}
-use Rattle.std.specs.Prelude.{◌==◌, ◌&&◌, not, nat_le, bytes_eq, if◌then◌else◌}
+use Rattle.std.specs.Prelude.{◌==◌, ◌&&◌, not, nat_le, bytes_eq, if◌then◌else◌, Ok}
+use Rattle.std.specs.Int.{w64, from_be_bytes}
 use Rattle.std.proofs.lemmas.Bool.{and_parts, eqb-true, eq-eqb, leb-true, true≢false}
 use Rattle.std.proofs.lemmas.Slice.Eq.{bytes_eq-Decides}
 use Rattle.nfs_xdr.specs.Tables.{In}
-use Rattle.nfs_xdr.specs.Spelling.{number, hyper}
-use Rattle.nfs_xdr.specs.Reading.{opaque_at, fixed_at, flag_at, pieces_at}
+use Rattle.nfs_xdr.specs.Spelling.{number}
 use Rattle.nfs_xdr.specs.declared.status.Status.TheVariants.{Nfs4Ok}
-use Rattle.nfs_rpc.specs.HeadCodec.{header, opaque_auth}
-use Rattle.nfs_rpc.specs.CallHead.{call_of, behind_header, caller_of}
-use Rattle.nfs_xdr.specs.AuthSys.{auth_sys}
-use Rattle.nfs_rpc.specs.Reply.{spell_head}
-use Rattle.nfs_compound.specs.ReadRequest.{request_at, items_at, item_at}
-use Rattle.nfs_compound.specs.OpCodec.{op_at, fault_at}
 use Rattle.nfs_compound.specs.declared.op_num.OpNum.{OpNum}
 use Rattle.nfs_compound.specs.declared.op_num.OpNum.TheVariants as Num
 use Rattle.nfs_results.specs.Results.{done_head}
 use Rattle.nfs_compound.specs.Operation.{Item, Operation, OpLock, OpLockU, OpClose, OpPutRootFh}
-use Rattle.nfs_compound.specs.ChannelAttrs.{channel_attrs}
-use Rattle.nfs_compound.specs.ArgCodecs.{sec_parms, exchange_id_args, create_session_args, sequence_args, protected, impl_id, lock_type, open_to_lock_owner}
-use Rattle.nfs_compound.specs.ArgCodecs.{exist_lock_owner, locker, lock_args, lock_u_args}
-use Rattle.nfs_compound.specs.Stateid.{stateid}
-use Rattle.nfs_compound.specs.StateOwner.{state_owner}
-use Rattle.nfs_compound.specs.ArgCodecs as compound_attributes
-use Rattle.nfs_compound.specs.OpenCodecs.{create_how, open_how, delegation_type, open_claim, open_args}
 use Rattle.nfs_compound.specs.LockArgs.{Lock, OpenOwner}
 use Rattle.nfs_compound.specs.declared.lock_args.LockType.TheVariants as LockTypes
-use Rattle.nfs_results.specs.Items as results
-use Rattle.nfs_ranges.specs.Told.{told}
-use Rattle.nfs_ranges.specs.declared.Kind.TheVariants.{Write}
-use Rattle.nfs_attrs.specs.Attributes.{attributes, settings_of}
-use Rattle.nfs_attrs.specs.Handle.{handle}
 use Rattle.nfs_clients.specs.Roster.{ClientRecord}
 use Rattle.nfs_names.specs.Context.{begins}
-use Rattle.nfs_names.specs.Create.{wanted_of}
-use Rattle.nfs_names.specs.Checks.{current, permits}
-use Rattle.nfs_names.specs.PutFh.{put_fh}
-use Rattle.nfs_names.specs.PutRootFh.{put_root_fh}
-use Rattle.nfs_files.specs.Open.{asked_for, open_file}
-use Rattle.nfs_files.specs.Target.{the_file, target}
-use Rattle.nfs_files.specs.Ranges.{range, wished}
-use Rattle.nfs_files.specs.Denied.{denied}
-use Rattle.nfs_files.specs.Lock.{lock}
-use Rattle.nfs_files.specs.LockU.{lock_u}
+use Rattle.nfs_files.specs.Ranges.{wished}
 use Rattle.nfs_files.specs.LockTold.{LockTold, Names}
 use Rattle.nfs_exec.specs.Machine.{Machine}
 use Rattle.nfs_exec.specs.Ops.{RanOp}
-use Rattle.nfs_exec.specs.LockHeld.{Spares, AreSpared, IsAlone}
-use Rattle.nfs_serve.specs.Step.{State, step}
+use Rattle.nfs_exec.specs.LockHeld.{LocksFor, Spares, AreSpared, IsAlone}
+use Rattle.nfs_serve.specs.Step.{State}
 use Rattle.nfs_serve.specs.Endpoint.{Arrival}
 use Rattle.nfs_serve.specs.Points.{next, all_next, taken, before, ops_of}
 use Rattle.nfs_serve.specs.LockKept.{renews_by, AreInTime}
 use Rattle.nfs_serve.specs.HeldLock as worked
-use Rattle.nfs_serve.specs.HeldLock.{start, locks, IsHeldTo, AreBothTold}
+use Rattle.nfs_serve.specs.HeldLock.{start, locks, last_of, IsHeldTo, AreBothTold}
+use Rattle.nfs_serve.proofs.Computing.{computing}
 
 -- An operation that was refused, or that is none of the three that end locks, spares each lock.
 
@@ -152,10 +126,6 @@ are_in_time k owner lease last s (c ∷ more) e =
       are_in_time k owner lease (if renews_by k.client s c then taken s c else last) (next s c) more t.1,
     )
 
-abbrev pub last_of : RanOp → List RanOp → RanOp
-last_of d [] = d
-last_of d (e ∷ ds) = last_of e ds
-
 -- and up to what holds behind them
 abbrev pub last_of_all : ℕ → ℕ → State → List Arrival → ℕ
 last_of_all client last s [] = last
@@ -167,7 +137,7 @@ up_to k lease last s [] Then all holds = holds
 up_to k lease last s (c ∷ more) Then all holds =
     (all.0, all.1, all.2, up_to k lease (if renews_by k.client s c then taken s c else last) (next s c) more Then all.3 holds)
 
-three : (x : RanOp) (ds : List RanOp) → length ds ≡ 3 → ds ≡ take 2 ds ++ last_of x ds ∷ []
+pub three : (x : RanOp) (ds : List RanOp) → length ds ≡ 3 → ds ≡ take 2 ds ++ last_of x ds ∷ []
 three x [] e = absurd (omega arith)
 three x (a ∷ []) e = absurd (omega arith)
 three x (a ∷ b ∷ []) e = absurd (omega arith)
@@ -185,11 +155,12 @@ nothing = record {
   behind = start.machine;
 }
 
-abbrev pub asked : Lock
-asked = record {
+-- a LOCK of the byte at an offset, and what it was answered
+abbrev asking : (offset : ℕ) → Lock
+asking offset = record {
   locktype = LockTypes.Write;
   reclaim = false;
-  offset = 0;
+  offset = offset;
   length = 1;
   locker = OpenOwner (record {
     open_seqid = 0;
@@ -199,30 +170,25 @@ asked = record {
   });
 }
 
+pub locks_for : (d : RanOp) (client offset n : ℕ) → d.item ≡ Operation (OpLock (asking offset))
+    → wished d.before.store d.context LockTypes.Write offset 1 ≡ Ok (worked.wish client offset) → d.result ≡ done_head Num.Lock ++ worked.stateid_of_lock n
+    → length (worked.stateid_of_lock n) ≡ 16 → from_be_bytes w64 (drop 8 (worked.stateid_of_lock n)) ≡ n → LocksFor d n (worked.wish client offset)
+locks_for d client offset n is wish answers long number = record {
+  asked = asking offset;
+  is = is;
+  wish = wish;
+  names = record { id = worked.stateid_of_lock n; answers = answers; long = long; number = number };
+}
+
 pub is_held_to : IsHeldTo
-unfolding number hyper step call_of header opaque_auth opaque_at fixed_at behind_header caller_of auth_sys spell_head
-    request_at items_at item_at op_at fault_at exchange_id_args create_session_args sequence_args channel_attrs sec_parms protected impl_id pieces_at flag_at
-    stateid state_owner compound_attributes.bitmap compound_attributes.attributes create_how open_how delegation_type open_claim open_args
-    lock_type open_to_lock_owner exist_lock_owner locker lock_args lock_u_args
-    results.exchange_id results.create_session results.sequence results.open_ok results.change_info results.attr_set results.denied
-    told attributes settings_of handle wanted_of current permits put_fh put_root_fh asked_for open_file the_file target range wished denied lock lock_u
+unfolding computing
 is_held_to = record {
   front = take 2 (ops_of start locks);
   lock = last_of nothing (ops_of start locks);
   ops = refl;
   tells = record {
-    wish = record { client = worked.told.client; file = 2; kind = Write; first = 0; last = 0 };
-    locks = record {
-      asked = asked;
-      is = refl;
-      wish = refl;
-      names = record {
-        id = 0 ∷ 0 ∷ 0 ∷ 1 ∷ 0 ∷ 0 ∷ 0 ∷ 7 ∷ 0 ∷ 0 ∷ 0 ∷ 0 ∷ 0 ∷ 0 ∷ 0 ∷ 2 ∷ [];
-        answers = refl;
-        long = refl;
-        number = refl;
-      };
-    };
+    wish = worked.wish 1 0;
+    locks = locks_for (last_of nothing (ops_of start locks)) 1 0 2 refl refl refl refl refl;
     range = (omega arith, omega arith, omega arith);
     kind = refl;
     file = refl;
@@ -236,34 +202,15 @@ is_held_to = record {
   unlocked = refl;
 }
 
--- what B asks for beside it
-abbrev beside : Lock
-beside = record asked { offset = 1 }
-
 pub are_both_told : AreBothTold
-unfolding number hyper step call_of header opaque_auth opaque_at fixed_at behind_header caller_of auth_sys spell_head
-    request_at items_at item_at op_at fault_at exchange_id_args create_session_args sequence_args channel_attrs sec_parms protected impl_id pieces_at flag_at
-    stateid state_owner compound_attributes.bitmap compound_attributes.attributes create_how open_how delegation_type open_claim open_args
-    lock_type open_to_lock_owner exist_lock_owner locker lock_args lock_u_args
-    results.exchange_id results.create_session results.sequence results.open_ok results.change_info results.attr_set results.denied
-    told attributes settings_of handle wanted_of current permits put_fh put_root_fh asked_for open_file the_file target range wished denied lock lock_u
+unfolding computing
 are_both_told = record {
   renewed = refl;
   moment = refl;
   held = refl;
   until = take 2 (ops_of worked.asked worked.goes_beside);
   second = last_of nothing (ops_of worked.asked worked.goes_beside);
-  locks = record {
-    asked = beside;
-    is = refl;
-    wish = refl;
-    names = record {
-      id = 0 ∷ 0 ∷ 0 ∷ 1 ∷ 0 ∷ 0 ∷ 0 ∷ 7 ∷ 0 ∷ 0 ∷ 0 ∷ 0 ∷ 0 ∷ 0 ∷ 0 ∷ 4 ∷ [];
-      answers = refl;
-      long = refl;
-      number = refl;
-    };
-  };
+  locks = locks_for (last_of nothing (ops_of worked.asked worked.goes_beside)) 2 1 4 refl refl refl refl refl;
   between = up_to worked.told 90 102 worked.locked worked.waits
       (λ last t. (ops_of t worked.goes_beside
       ≡ take 2 (ops_of worked.asked worked.goes_beside) ++ last_of nothing (ops_of worked.asked worked.goes_beside) ∷ [])

@@ -2,45 +2,23 @@
 use Rattle.std.proofs.Common.{◌≡◌, ℕ, ◌+◌, Bool, true, false, List, [], ◌∷◌, ◌++◌, length, take, refl, sym, ◌∙◌, ap, arith, inl, inr}
 use Rattle.std.specs.Prelude.{◌&&◌, not, nat_le, if◌then◌else◌}
 use Rattle.std.proofs.lemmas.Bool.{and_parts, leb-true, true≢false}
-use Rattle.nfs_xdr.specs.Spelling.{number, hyper}
-use Rattle.nfs_xdr.specs.Reading.{opaque_at, fixed_at, flag_at, pieces_at}
-use Rattle.nfs_rpc.specs.HeadCodec.{header, opaque_auth}
-use Rattle.nfs_rpc.specs.CallHead.{call_of, behind_header, caller_of}
-use Rattle.nfs_xdr.specs.AuthSys.{auth_sys}
-use Rattle.nfs_rpc.specs.Reply.{spell_head}
-use Rattle.nfs_compound.specs.ReadRequest.{request_at, items_at, item_at}
-use Rattle.nfs_compound.specs.OpCodec.{op_at, fault_at}
 use Rattle.nfs_compound.specs.Operation.{Item, Operation, OpClose}
-use Rattle.nfs_compound.specs.ChannelAttrs.{channel_attrs}
-use Rattle.nfs_compound.specs.ArgCodecs.{sec_parms, exchange_id_args, create_session_args, sequence_args, protected, impl_id}
-use Rattle.nfs_compound.specs.Stateid.{stateid}
-use Rattle.nfs_compound.specs.StateOwner.{state_owner}
-use Rattle.nfs_compound.specs.ArgCodecs as compound_attributes
 use Rattle.nfs_compound.specs.OpenArgs.{Open}
-use Rattle.nfs_compound.specs.OpenCodecs.{create_how, open_how, delegation_type, open_claim, open_args, open_downgrade_args}
-use Rattle.nfs_results.specs.Items as results
-use Rattle.nfs_attrs.specs.Attributes.{attributes, settings_of}
-use Rattle.nfs_attrs.specs.Handle.{handle}
-use Rattle.nfs_names.specs.Create.{wanted_of}
-use Rattle.nfs_names.specs.Checks.{current, permits}
-use Rattle.nfs_names.specs.PutFh.{put_fh}
-use Rattle.nfs_names.specs.PutRootFh.{put_root_fh}
-use Rattle.nfs_files.specs.Open.{asked_for, open_file}
-use Rattle.nfs_files.specs.OpenDowngrade.{open_downgrade}
-use Rattle.nfs_files.specs.Target.{the_file, target}
 use Rattle.nfs_files.specs.OpenTold.{OpenTold, Bits}
 use Rattle.nfs_exec.specs.Ops.{RanOp}
 use Rattle.nfs_exec.specs.OpenHeld.{NoneCloses, bits_left}
-use Rattle.nfs_serve.specs.Step.{State, step}
+use Rattle.nfs_serve.specs.Step.{State}
 use Rattle.nfs_serve.specs.Endpoint.{Arrival}
 use Rattle.nfs_serve.specs.Points.{next, all_next, taken, before, ops_of}
 use Rattle.nfs_serve.specs.LockKept.{renews_by}
 use Rattle.nfs_serve.specs.OpenKept.{LeaveOpen}
 use Rattle.nfs_serve.specs.HeldLock as locks
+use Rattle.nfs_serve.specs.HeldLock.{last_of}
 use Rattle.nfs_serve.specs.HeldOpen as worked
 use Rattle.nfs_serve.specs.HeldOpen.{IsOpenTo}
 use Rattle.nfs_serve.specs.WrongOpens.{reads_too}
-use Rattle.nfs_serve.proofs.HeldLock.{all_own, alone, last_of, last_of_all, nothing}
+use Rattle.nfs_serve.proofs.HeldLock.{all_own, alone, last_of_all, nothing}
+use Rattle.nfs_serve.proofs.Computing.{computing}
 
 -- No operation is a CLOSE.
 
@@ -104,11 +82,7 @@ abbrev wanted : Open
 wanted = record reads_too { share_access = 3; share_deny = 2 }
 
 pub is_open_to : IsOpenTo
-unfolding number hyper step call_of header opaque_auth opaque_at fixed_at behind_header caller_of auth_sys spell_head
-    request_at items_at item_at op_at fault_at exchange_id_args create_session_args sequence_args channel_attrs sec_parms protected impl_id pieces_at flag_at
-    stateid state_owner compound_attributes.bitmap compound_attributes.attributes create_how open_how delegation_type open_claim open_args open_downgrade_args
-    results.exchange_id results.create_session results.sequence results.open_ok results.change_info results.attr_set
-    attributes settings_of handle wanted_of current permits put_fh put_root_fh asked_for open_file open_downgrade the_file target
+unfolding computing
 is_open_to = record {
   front = take 1 (ops_of locks.start worked.opens);
   told = last_of nothing (ops_of locks.start worked.opens);

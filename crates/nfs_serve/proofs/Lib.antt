@@ -38,6 +38,7 @@ pub mod Spelled
 pub mod Mute
 pub mod KeptSlots
 pub mod Good
+pub mod Computing
 pub mod LostReply
 pub mod SeenWrite
 pub mod Points

@@ -4,19 +4,7 @@ use Rattle.nfs_xdr.specs.Tables.{In}
 use Rattle.std.specs.Prelude.{◌&&◌, nat_lt, ◌<◌}
 use Rattle.std.proofs.lemmas.Bool.{and_parts}
 use Rattle.nfs_xdr.specs.Text.{IsBytes}
-use Rattle.nfs_xdr.specs.Spelling.{number, hyper}
-use Rattle.nfs_xdr.specs.Reading.{opaque_at, fixed_at, flag_at, pieces_at}
-use Rattle.nfs_rpc.specs.HeadCodec.{header, opaque_auth}
-use Rattle.nfs_rpc.specs.CallHead.{call_of, behind_header, caller_of}
-use Rattle.nfs_xdr.specs.AuthSys.{auth_sys}
-use Rattle.nfs_rpc.specs.Reply.{spell_head}
-use Rattle.nfs_compound.specs.ReadRequest.{request_at, items_at, item_at}
-use Rattle.nfs_compound.specs.OpCodec.{op_at, fault_at}
-use Rattle.nfs_compound.specs.ChannelAttrs.{channel_attrs}
-use Rattle.nfs_compound.specs.ArgCodecs.{sec_parms, exchange_id_args, create_session_args, sequence_args, protected, impl_id}
-use Rattle.nfs_results.specs.Items as results
 use Rattle.nfs_slots.specs.Slot.{unused_slot}
-use Rattle.nfs_serve.specs.Step.{step}
 use Rattle.nfs_serve.specs.Endpoint.{Place, Heading, Arrival}
 use Rattle.nfs_serve.specs.Network.{Packet, NetworkEvent, Resends, Arrives, Accepts, IsUnused}
 use Rattle.nfs_serve.specs.PerfectWire.{wire, done_on}
@@ -26,6 +14,7 @@ use Rattle.nfs_serve.proofs.KeptSlots.{keeps_slots}
 use Rattle.nfs_serve.proofs.Ticking.{keeps_time}
 use Rattle.nfs_serve.proofs.RealTime.{atomic}
 use Rattle.nfs_serve.proofs.ByXid.{happens}
+use Rattle.nfs_serve.proofs.Computing.{computing}
 
 -- each number is a byte
 abbrev small : List ℕ → Bool
@@ -46,9 +35,7 @@ apart : (q : Packet) (xid number : ℕ) (h : Heading) → (xid ≡ h.xid → ⊥
 apart q xid number h other same e = absurd (other (sym (ap (λ (q : Packet). q.heading.xid) same) ∙ e))
 
 pub is_accepted : IsAccepted
-unfolding number hyper step call_of header opaque_auth opaque_at fixed_at behind_header caller_of auth_sys spell_head
-    request_at items_at item_at op_at fault_at exchange_id_args create_session_args sequence_args channel_attrs sec_parms protected impl_id pieces_at flag_at
-    results.exchange_id results.create_session results.sequence
+unfolding computing
 is_accepted = record {
   unused = (unused_slot, refl, refl, refl);
   schedule = (
@@ -103,9 +90,7 @@ is_accepted = record {
 }
 
 computed : (wire here start.machine (first ++ second) ≡ brought) × (done_on here place start.machine brought ≡ done 1 ∷ done 2 ∷ [])
-unfolding number hyper step call_of header opaque_auth opaque_at fixed_at behind_header caller_of auth_sys spell_head
-    request_at items_at item_at op_at fault_at exchange_id_args create_session_args sequence_args channel_attrs sec_parms protected impl_id pieces_at flag_at
-    results.exchange_id results.create_session results.sequence
+unfolding computing
 computed = (refl, refl)
 
 unused : (p : Place) → In p callers.places → IsUnused here start.machine p

@@ -3,33 +3,23 @@ use Rattle.std.proofs.Common.{◌≡◌, ℕ, ◌+◌, ◌*◌, ◌^◌, Bool, t
 use Rattle.std.specs.Prelude.{◌==◌, ◌&&◌, bytes_eq, is_some}
 use Rattle.std.proofs.lemmas.Bool.{and_parts, eqb-true, false≢true}
 use Rattle.std.proofs.lemmas.Slice.Eq.{bytes_eq-Decides}
-use Rattle.nfs_xdr.specs.Spelling.{number, hyper}
-use Rattle.nfs_xdr.specs.Reading.{opaque_at, fixed_at, flag_at, pieces_at}
 use Rattle.nfs_xdr.specs.declared.status.Status.TheVariants.{Nfs4Ok}
-use Rattle.nfs_rpc.specs.HeadCodec.{header, opaque_auth}
-use Rattle.nfs_rpc.specs.CallHead.{call_of, behind_header, caller_of}
-use Rattle.nfs_xdr.specs.AuthSys.{auth_sys}
-use Rattle.nfs_rpc.specs.Reply.{spell_head}
-use Rattle.nfs_compound.specs.ReadRequest.{request_at, items_at, item_at}
-use Rattle.nfs_compound.specs.OpCodec.{op_at, fault_at}
-use Rattle.nfs_compound.specs.ChannelAttrs.{channel_attrs}
-use Rattle.nfs_compound.specs.ArgCodecs.{sec_parms, exchange_id_args, create_session_args, protected, impl_id}
 use Rattle.nfs_compound.specs.Operation.{Item, Operation, OpCreateSession}
 use Rattle.nfs_compound.specs.Request.{Request}
 use Rattle.nfs_compound.specs.declared.op_num.OpNum.TheVariants as Op
-use Rattle.nfs_results.specs.Items as results
 use Rattle.nfs_results.specs.Results.{done_head, spell_compound_head}
-use Rattle.nfs_sessions.specs.Sessions.{SessionTable, session_at}
+use Rattle.nfs_sessions.specs.Sessions.{SessionTable}
 use Rattle.nfs_clients.specs.CreateSession.{following}
 use Rattle.nfs_exec.specs.Machine.{Machine}
 use Rattle.nfs_exec.specs.Compound.{compound}
 use Rattle.nfs_exec.specs.Laws.{MachineEvent, Expires, Asks}
 use Rattle.nfs_exec.specs.OneSession.{MakesOne}
-use Rattle.nfs_serve.specs.Step.{State, step}
+use Rattle.nfs_serve.specs.Step.{State}
 use Rattle.nfs_serve.specs.Endpoint.{Arrival}
 use Rattle.nfs_serve.specs.Points.{next, before, asked_by}
 use Rattle.nfs_serve.specs.Exchanges.{words}
 use Rattle.nfs_serve.specs.SessionsOnce.{GivesIn, start, creates, again, goes_on, repeated, id, IsGivenOnce}
+use Rattle.nfs_serve.proofs.Computing.{computing}
 
 -- So it can be tested: the answer is NFS4_OK and the session id. In front of what stands behind that are 36 bytes.
 
@@ -79,21 +69,20 @@ given client number id s c (Some (Asks r who size now choice)) e test = by_items
 given client number id s c (Some (Expires now)) e test = absurd (false≢true test)
 given client number id s c None e test = absurd (false≢true test)
 
--- a session stands under the words 7, 1, 0, 1 where the one that they spell does
-stood : (t : SessionTable) (made : MakesOne id t t) → session_at t made.session ≡ None → is_some (session_at t made.session) ≡ true → ⊥
-stood t made none some = absurd (false≢true (sym (ap is_some none) ∙ some))
+-- what leaves the sessions as they were made none
+unmade : (client : ℕ) (t : SessionTable) → MakesOne client id t t → ⊥
+unmade client t made = absurd (false≢true (sym (ap is_some made.absent) ∙ made.there))
 
 pub is_given_once : IsGivenOnce
-unfolding number hyper step call_of header opaque_auth opaque_at fixed_at behind_header caller_of auth_sys spell_head
-    request_at items_at item_at op_at fault_at exchange_id_args create_session_args channel_attrs sec_parms protected impl_id pieces_at flag_at
-    results.exchange_id results.create_session
+unfolding computing
 is_given_once = record {
   first = given (7 * 2 ^ 32 + 1) 1 id start creates (asked_by start creates) refl refl;
   few = refl;
   second = given (7 * 2 ^ 32 + 1) 1 id repeated again (asked_by repeated again) refl refl;
   other = λ same. differ (ap (λ (bytes : List ℕ). get_or bytes 15 0) same);
   third = given (7 * 2 ^ 32 + 1) (following 1) (words (7 ∷ 1 ∷ 0 ∷ 2 ∷ [])) (next repeated again) goes_on (asked_by (next repeated again) goes_on) refl refl;
-  twice = λ made. stood (next start creates).machine.sessions made made.absent made.there;
+  none = unmade (7 * 2 ^ 32 + 1) (before start creates).sessions;
+  twice = unmade (7 * 2 ^ 32 + 1) (next start creates).machine.sessions;
 }
   where
     differ : ◌≡◌ {A = ℕ} 2 1 → ⊥

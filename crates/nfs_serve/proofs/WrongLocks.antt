@@ -1,40 +1,11 @@
 -- Wrong steps that the promises of locks refuse, computed.
 use Rattle.std.proofs.lemmas.Bool.{and_parts, eqb-true, false≢true}
 use Rattle.std.proofs.Common.{◌≡◌, ℕ, Bool, true, false, ◌+◌, ◌≤◌, List, [], ◌∷◌, ◌++◌, length, take, get_or, Option, Some, None, refl, sym, ◌∙◌, ap, subst, arith, inl, inr}
-use Rattle.std.specs.Prelude.{◌==◌, ◌&&◌, ◌*◌, ◌^◌, Result, Ok}
+use Rattle.std.specs.Prelude.{◌==◌, ◌&&◌, Result, Ok}
 use Rattle.nfs_xdr.specs.Spelling.{number, hyper}
-use Rattle.nfs_xdr.specs.Reading.{opaque_at, fixed_at, flag_at, pieces_at}
-use Rattle.nfs_rpc.specs.HeadCodec.{header, opaque_auth}
-use Rattle.nfs_rpc.specs.CallHead.{call_of, behind_header, caller_of}
-use Rattle.nfs_xdr.specs.AuthSys.{auth_sys}
-use Rattle.nfs_rpc.specs.Reply.{spell_head}
-use Rattle.nfs_compound.specs.ReadRequest.{request_at, items_at, item_at}
-use Rattle.nfs_compound.specs.OpCodec.{op_at, fault_at}
 use Rattle.nfs_compound.specs.Operation.{Item, Operation, OpLock, OpLockU, OpClose}
-use Rattle.nfs_compound.specs.ChannelAttrs.{channel_attrs}
-use Rattle.nfs_compound.specs.ArgCodecs.{sec_parms, exchange_id_args, create_session_args, sequence_args, protected, impl_id, lock_type, open_to_lock_owner}
-use Rattle.nfs_compound.specs.ArgCodecs.{exist_lock_owner, locker, lock_args, lock_u_args}
-use Rattle.nfs_compound.specs.Stateid.{stateid}
-use Rattle.nfs_compound.specs.StateOwner.{state_owner}
-use Rattle.nfs_compound.specs.ArgCodecs as compound_attributes
-use Rattle.nfs_compound.specs.OpenCodecs.{create_how, open_how, delegation_type, open_claim, open_args}
 use Rattle.nfs_compound.specs.LockArgs.{Lock}
-use Rattle.nfs_results.specs.Items as results
-use Rattle.nfs_ranges.specs.Told.{told}
 use Rattle.nfs_ranges.specs.declared.Kind.TheVariants.{Write}
-use Rattle.nfs_attrs.specs.Attributes.{attributes, settings_of}
-use Rattle.nfs_attrs.specs.Handle.{handle}
-use Rattle.nfs_names.specs.Create.{wanted_of}
-use Rattle.nfs_names.specs.Checks.{current, permits}
-use Rattle.nfs_names.specs.PutFh.{put_fh}
-use Rattle.nfs_names.specs.PutRootFh.{put_root_fh}
-use Rattle.nfs_files.specs.Open.{asked_for, open_file}
-use Rattle.nfs_files.specs.Target.{the_file, target}
-use Rattle.nfs_files.specs.Ranges.{range, wished}
-use Rattle.nfs_files.specs.Denied.{denied}
-use Rattle.nfs_files.specs.Lock.{lock}
-use Rattle.nfs_files.specs.LockU.{lock_u}
-use Rattle.nfs_opens.specs.declared.locking.Wish.{Wish}
 use Rattle.nfs_opens.specs.Table.{Table}
 use Rattle.nfs_opens.specs.declared.stateid.StateId.{StateId}
 use Rattle.nfs_opens.specs.declared.stateid.CurrentSeqid.TheVariants.{Own}
@@ -58,15 +29,13 @@ use Rattle.nfs_serve.specs.Exchanges.{words}
 use Rattle.nfs_serve.specs.LockKept.{StaysHeld}
 use Rattle.nfs_opens.specs.declared.records.LockState.{LockState}
 use Rattle.nfs_serve.specs.Outlived.{last_renewal}
-use Rattle.nfs_serve.specs.Step.{State, new_state, step}
+use Rattle.nfs_serve.specs.Step.{State, new_state}
 use Rattle.nfs_serve.specs.Points.{next, taken, before, ops_of, asked_by}
 use Rattle.nfs_serve.specs.HeldLock as worked
-use Rattle.nfs_serve.specs.WrongLocks.{AreRefused, NoneDelayed, renewal, short_leases, set_back, closes_another, last_of}
-use Rattle.nfs_serve.proofs.HeldLock.{asked}
-
--- what B's LOCK asked for
-abbrev wish : Wish
-wish = record { client = 7 * 2 ^ 32 + 2; file = 2; kind = Write; first = 0; last = 0 }
+use Rattle.nfs_serve.specs.HeldLock.{renewal, last_of}
+use Rattle.nfs_serve.specs.WrongLocks.{AreRefused, NoneDelayed, short_leases, set_back, told_anyway, closes_another}
+use Rattle.nfs_serve.proofs.HeldLock.{locks_for}
+use Rattle.nfs_serve.proofs.Computing.{computing}
 
 late_by : (last : ℕ) → ◌≡◌ {A = _} (Some 102) (Some last) → 193 ≤ last + 90 → ⊥
 late_by last e within = let same : 102 ≡ last = cc in absurd (omega arith)
@@ -167,25 +136,10 @@ its : (l : LockState) (locks : List LockState) → locks ≡ state ∷ [] → In
 its l locks one there = elim (subst (In l) one there) [ inl same ↦ ap (λ (l : LockState). l.client) same | inr none ↦ absurd none ]
 
 pub are_refused : AreRefused
-unfolding number hyper step call_of header opaque_auth opaque_at fixed_at behind_header caller_of auth_sys spell_head
-    request_at items_at item_at op_at fault_at exchange_id_args create_session_args sequence_args channel_attrs sec_parms protected impl_id pieces_at flag_at
-    stateid state_owner compound_attributes.bitmap compound_attributes.attributes create_how open_how delegation_type open_claim open_args
-    lock_type open_to_lock_owner exist_lock_owner locker lock_args lock_u_args
-    results.exchange_id results.create_session results.sequence results.open_ok results.change_info results.attr_set results.denied
-    told attributes settings_of handle wanted_of current permits put_fh put_root_fh asked_for open_file the_file target range wished denied lock lock_u
+unfolding computing
 are_refused = record {
   delayed = none_delayed (before worked.asked worked.clashes) (asked_by worked.asked worked.clashes) refl;
-  denied = λ d is. is.refused 4 wish (record {
-    asked = asked;
-    is = refl;
-    wish = refl;
-    names = record {
-      id = 0 ∷ 0 ∷ 0 ∷ 1 ∷ 0 ∷ 0 ∷ 0 ∷ 7 ∷ 0 ∷ 0 ∷ 0 ∷ 0 ∷ 0 ∷ 0 ∷ 0 ∷ 4 ∷ [];
-      answers = refl;
-      long = refl;
-      number = refl;
-    };
-  }) (record { other = λ same. absurd (omega arith); file = refl; before = omega arith; behind = omega arith; kinds = refl });
+  denied = λ d is. is.refused 4 (worked.wish 2 0) (locks_for (told_anyway (last_of d (ops_of worked.asked worked.clashes))) 2 0 4 refl refl refl refl refl) (record { other = λ same. absurd (omega arith); file = refl; before = omega arith; behind = omega arith; kinds = refl });
   closed = λ d is.
       unheld (closes_another (last_of d (ops_of worked.asked worked.clashes))).behind.store.opens refl
       (is.1 (spared (last_of d (ops_of worked.asked worked.clashes)))).0;

@@ -1,46 +1,23 @@
 -- Wrong steps that the promise of opens refuses, computed.
 use Rattle.std.proofs.Common.{◌≡◌, Bool, true, false, [], ◌∷◌, refl, sym, ◌∙◌, ap, subst, inl, inr}
 use Rattle.std.proofs.lemmas.Bool.{true≢false}
-use Rattle.nfs_xdr.specs.Spelling.{number, hyper}
-use Rattle.nfs_xdr.specs.Reading.{opaque_at, fixed_at, flag_at, pieces_at}
 use Rattle.nfs_xdr.specs.Tables.{In}
-use Rattle.nfs_rpc.specs.HeadCodec.{header, opaque_auth}
-use Rattle.nfs_rpc.specs.CallHead.{call_of, behind_header, caller_of}
-use Rattle.nfs_xdr.specs.AuthSys.{auth_sys}
-use Rattle.nfs_rpc.specs.Reply.{spell_head}
-use Rattle.nfs_compound.specs.ReadRequest.{request_at, items_at, item_at}
-use Rattle.nfs_compound.specs.OpCodec.{op_at, fault_at}
 use Rattle.nfs_compound.specs.Operation.{Op, Operation, OpOpen, OpOpenDowngrade, OpClose}
-use Rattle.nfs_compound.specs.ChannelAttrs.{channel_attrs}
-use Rattle.nfs_compound.specs.ArgCodecs.{sec_parms, exchange_id_args, create_session_args, sequence_args, protected, impl_id}
-use Rattle.nfs_compound.specs.Stateid.{stateid}
-use Rattle.nfs_compound.specs.StateOwner.{state_owner}
-use Rattle.nfs_compound.specs.ArgCodecs as compound_attributes
 use Rattle.nfs_compound.specs.OpenArgs.{Open}
-use Rattle.nfs_compound.specs.OpenCodecs.{create_how, open_how, delegation_type, open_claim, open_args, open_downgrade_args}
 use Rattle.nfs_compound.specs.declared.open_args.Close.{Close}
 use Rattle.nfs_compound.specs.declared.open_args.OpenDowngrade.{OpenDowngrade}
-use Rattle.nfs_results.specs.Items as results
-use Rattle.nfs_attrs.specs.Attributes.{attributes, settings_of}
-use Rattle.nfs_attrs.specs.Handle.{handle}
-use Rattle.nfs_names.specs.Create.{wanted_of}
-use Rattle.nfs_names.specs.Checks.{current, permits}
-use Rattle.nfs_names.specs.PutFh.{put_fh}
-use Rattle.nfs_names.specs.PutRootFh.{put_root_fh}
 use Rattle.nfs_opens.specs.declared.share.Share.{Share}
 use Rattle.nfs_opens.specs.declared.records.OpenState.{OpenState}
 use Rattle.nfs_opens.specs.Share.{neither}
 use Rattle.nfs_opens.specs.Table.{Table}
-use Rattle.nfs_files.specs.Open.{asked_for, open_file}
-use Rattle.nfs_files.specs.OpenDowngrade.{open_downgrade}
-use Rattle.nfs_files.specs.Target.{the_file, target}
 use Rattle.nfs_files.specs.OpenTold.{Bits, IsOpenWith}
-use Rattle.nfs_serve.specs.Step.{step}
 use Rattle.nfs_serve.specs.Points.{ops_of}
-use Rattle.nfs_serve.specs.WrongLocks.{last_of, closes_another}
+use Rattle.nfs_serve.specs.HeldLock.{last_of}
+use Rattle.nfs_serve.specs.WrongLocks.{closes_another}
 use Rattle.nfs_serve.specs.HeldOpen as worked
 use Rattle.nfs_serve.specs.WrongOpens.{reads_too, reading, puts_in_place, keeps_bits, OpensAreRefused}
 use Rattle.nfs_serve.proofs.WrongLocks.{closes_other}
+use Rattle.nfs_serve.proofs.Computing.{computing}
 
 -- the one open that stands there denies what it ought not to, or denies not what it ought to
 other_deny : (t : Table) (b : Bits) (o : OpenState) (v w : Bool) → t.opens ≡ o ∷ [] → o.deny.writes ≡ v → b.deny.writes ≡ w → (v ≡ w → ⊥)
@@ -63,11 +40,7 @@ abbrev its : (access deny : Share) → OpenState
 its access deny = record { number = 1; client = worked.its_open.client; owner = 0x6f ∷ []; file = 2; seqid = 1; access = access; deny = deny }
 
 pub opens_are_refused : OpensAreRefused
-unfolding number hyper step call_of header opaque_auth opaque_at fixed_at behind_header caller_of auth_sys spell_head
-    request_at items_at item_at op_at fault_at exchange_id_args create_session_args sequence_args channel_attrs sec_parms protected impl_id pieces_at flag_at
-    stateid state_owner compound_attributes.bitmap compound_attributes.attributes create_how open_how delegation_type open_claim open_args open_downgrade_args
-    results.exchange_id results.create_session results.sequence results.open_ok results.change_info results.attr_set
-    attributes settings_of handle wanted_of current permits put_fh put_root_fh asked_for open_file open_downgrade the_file target
+unfolding computing
 opens_are_refused = record {
   replaced = λ d is. other_deny (puts_in_place (last_of d (ops_of worked.asked worked.asks))).behind.store.opens _ (its reading neither) false true refl refl refl
       (λ e. true≢false (sym e)) (is.1 (λ closes. no_close (OpOpen reads_too) reads_too closes.asked refl closes.is)).0;

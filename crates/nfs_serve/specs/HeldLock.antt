@@ -6,6 +6,7 @@ use Rattle.std.specs.Prelude.{◌≡◌, ℕ, ◌+◌, ◌*◌, ◌^◌, ◌≤�
 use Rattle.nfs_xdr.specs.declared.status.Status.{Status}
 use Rattle.nfs_xdr.specs.declared.status.Status.TheVariants.{Nfs4Ok, Denied}
 use Rattle.nfs_ranges.specs.declared.Kind.TheVariants.{Write}
+use Rattle.nfs_opens.specs.declared.locking.Wish.{Wish}
 use Rattle.nfs_files.specs.LockTold.{LockTold}
 use Rattle.nfs_exec.specs.Ops.{RanOp}
 use Rattle.nfs_exec.specs.LockHeld.{LocksFor, AreSpared, Tells}
@@ -42,8 +43,11 @@ abbrev pub locks : Arrival
 locks = came 102 3 (in_session 1 1 4 (opens_and_locks 0))
 
 -- the first renewal of A is at the last second, and so is the second
+abbrev pub renewal : Arrival
+renewal = came 192 4 (in_session 1 2 1 [])
+
 abbrev pub waits : List Arrival
-waits = came 192 4 (in_session 1 2 1 []) ∷ came 200 5 (exchange_id 0x4200_0000) ∷ came 282 6 (in_session 1 3 1 []) ∷ came 283 7 (create_session 2) ∷ []
+waits = renewal ∷ came 200 5 (exchange_id 0x4200_0000) ∷ came 282 6 (in_session 1 3 1 []) ∷ came 283 7 (create_session 2) ∷ []
 
 -- B asks at the last second of A's lease
 abbrev pub clashes : Arrival
@@ -68,6 +72,18 @@ asked = all_next locked waits
 -- Lock state 2 of client 1, under open 1: byte 0 of object 2, as Write.
 abbrev pub told : LockTold
 told = record { state = 2; client = 7 * 2 ^ 32 + 1; opened = 1; file = 2; kind = Write; first = 0; last = 0 }
+
+-- what a LOCK of a client asks for, and what it answers behind NFS4_OK: the stateid of a lock state, whose seqid is 1
+abbrev pub wish : (client offset : ℕ) → Wish
+wish client offset = record { client = 7 * 2 ^ 32 + client; file = 2; kind = Write; first = offset; last = offset }
+
+abbrev pub stateid_of_lock : (number : ℕ) → List ℕ
+stateid_of_lock number = words (1 ∷ 7 ∷ 0 ∷ number ∷ [])
+
+-- the last of these operations; what stands in front of them is of no account
+abbrev pub last_of : RanOp → List RanOp → RanOp
+last_of d [] = d
+last_of d (e ∷ ds) = last_of e ds
 
 abbrev pub statuses : List RanOp → List Status
 statuses ds = map (λ d. d.status) ds
@@ -96,6 +112,6 @@ pub record AreBothTold : Type 0 where
   pub held : (before asked clashes).store.opens.held 2 2 0 ≡ Some Write
   pub until : List RanOp
   pub second : RanOp
-  pub locks : LocksFor second 4 (record { client = 7 * 2 ^ 32 + 2; file = 2; kind = Write; first = 1; last = 1 })
+  pub locks : LocksFor second 4 (wish 2 1)
   pub between : AreInTime told 90 102 locked waits
       (λ last t. (ops_of t goes_beside ≡ until ++ second ∷ []) × (taken t goes_beside ≤ last + 90) × AreSpared told until)

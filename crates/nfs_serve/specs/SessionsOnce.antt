@@ -1,10 +1,10 @@
 -- One session a CREATE_SESSION, in whole runs (RFC 8881 section 18.36.4).
-use Rattle.std.specs.Prelude.{◌≡◌, ◌⊎◌, ℕ, ◌+◌, ◌*◌, ◌-◌, ◌<◌, ◌^◌, Bool, false, List, [], ◌∷◌, Some, if◌then◌else◌}
+use Rattle.std.specs.Prelude.{◌≡◌, ◌⊎◌, ℕ, ◌+◌, ◌*◌, ◌-◌, ◌<◌, ◌^◌, Bool, false, List, [], ◌∷◌, ◌++◌, Some, if◌then◌else◌}
 use Rattle.std.specs.Option.{option_map_or}
 use Rattle.nfs_clients.specs.CreateSession.{following}
 use Rattle.nfs_exec.specs.Laws.{MachineEvent}
 use Rattle.nfs_exec.specs.OneSession.{asks_session, Gives, MakesOne}
-use Rattle.nfs_serve.specs.Step.{State}
+use Rattle.nfs_serve.specs.Step.{State, new_state}
 use Rattle.nfs_serve.specs.Endpoint.{Arrival}
 use Rattle.nfs_serve.specs.Points.{next, all_next, reached, before, asked_by}
 use Rattle.nfs_serve.specs.Exchanges.{words}
@@ -26,11 +26,27 @@ pub record GivesIn (client number : ℕ) (id : List ℕ) (s : State) (c : Arriva
   pub asks : asked_by s c ≡ Some event
   pub gives : Gives client number id (before s c) event
 
--- In every run: a CREATE_SESSION that is answered NFS4_OK makes one session, of the id that is answered, which did not stand before; or it changes nothing.
+-- In every run: a CREATE_SESSION that is answered NFS4_OK makes one session of its client, of the id that is answered, which did not stand before; or it
+-- changes nothing.
 abbrev pub EachMakesOne : Type 0
 EachMakesOne = (mode instance lease : ℕ) (records : List Arrival) (c : Arrival) (client number : ℕ) (id : List ℕ)
     → (let s = reached mode instance lease records in
-    GivesIn client number id s c → ((next s c).machine ≡ before s c) ⊎ MakesOne id (before s c).sessions (next s c).machine.sessions)
+    GivesIn client number id s c → ((next s c).machine ≡ before s c) ⊎ MakesOne client id (before s c).sessions (next s c).machine.sessions)
+
+-- one of these records was a CREATE_SESSION of the client with this number, was answered this session id, and made a session of it
+pub record WasMade (client number : ℕ) (id : List ℕ) (start : State) (records : List Arrival) : Type 0 where
+  pub earlier : List Arrival
+  pub maker : Arrival
+  pub later : List Arrival
+  pub order : records ≡ earlier ++ maker ∷ later
+  pub gives : GivesIn client number id (all_next start earlier) maker
+  pub makes : MakesOne client id (before (all_next start earlier) maker).sessions (next (all_next start earlier) maker).machine.sessions
+
+-- In every run: the session that a CREATE_SESSION is answered was made by it, or by a record before it of the same client and number. So the first one of a
+-- number that is answered NFS4_OK makes a session.
+abbrev pub EachWasMade : Type 0
+EachWasMade = (mode instance lease : ℕ) (records : List Arrival) (c : Arrival) (client number : ℕ) (id : List ℕ) → instance < 2 ^ 32 → number < 2 ^ 32
+    → GivesIn client number id (reached mode instance lease records) c → WasMade client number id (new_state mode instance lease) (records ++ c ∷ [])
 
 -- In every run: a second one of the same client and number is answered the same session id and changes nothing, whatever came between, if fewer than 2^32 - 1
 -- of it ask for a session of that client.
@@ -47,7 +63,7 @@ NextMakesOne = (mode instance lease : ℕ) (earlier : List Arrival) (c : Arrival
     → (let s = reached mode instance lease earlier in
     let t = all_next (next s c) between in
     GivesIn client number id s c → asked client (next s c) between ≡ 0 → GivesIn client (following number) other t d
-    → MakesOne other (before t d).sessions (next t d).machine.sessions)
+    → MakesOne client other (before t d).sessions (next t d).machine.sessions)
 
 -- Worked by hand: to a new server of instance 7 comes EXCHANGE_ID of the owner `A`, and then CREATE_SESSION, twice, and with the next number; another client
 -- comes between.
@@ -74,11 +90,13 @@ repeated = all_next (next start creates) between
 abbrev pub id : List ℕ
 id = words (7 ∷ 1 ∷ 0 ∷ 1 ∷ [])
 
--- The run meets the premises, and the promises refuse a second session at the repeat, and a session of an id that stands.
+-- The run meets the premises. The promises refuse a second session at the repeat, and an answer that makes no session: what leaves the sessions as they were
+-- made none, where none stood and where the one of the id stood.
 pub record IsGivenOnce : Type 0 where
   pub first : GivesIn (7 * 2 ^ 32 + 1) 1 id start creates
   pub few : asked (7 * 2 ^ 32 + 1) (next start creates) between ≡ 0
   pub second : GivesIn (7 * 2 ^ 32 + 1) 1 id repeated again
   pub other : words (7 ∷ 1 ∷ 0 ∷ 2 ∷ []) ≡ id → ⊥
   pub third : GivesIn (7 * 2 ^ 32 + 1) (following 1) (words (7 ∷ 1 ∷ 0 ∷ 2 ∷ [])) (next repeated again) goes_on
-  pub twice : MakesOne id (next start creates).machine.sessions (next start creates).machine.sessions → ⊥
+  pub none : MakesOne (7 * 2 ^ 32 + 1) id (before start creates).sessions (before start creates).sessions → ⊥
+  pub twice : MakesOne (7 * 2 ^ 32 + 1) id (next start creates).machine.sessions (next start creates).machine.sessions → ⊥

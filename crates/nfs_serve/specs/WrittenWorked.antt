@@ -11,8 +11,7 @@ use Rattle.nfs_serve.specs.Endpoint.{Arrival}
 use Rattle.nfs_serve.specs.Points.{next, ops_of}
 use Rattle.nfs_serve.specs.Exchanges.{words}
 use Rattle.nfs_serve.specs.SeenWrite as seen
-use Rattle.nfs_serve.specs.HeldLock.{came, in_session, start}
-use Rattle.nfs_serve.specs.WrongLocks.{last_of}
+use Rattle.nfs_serve.specs.HeldLock.{came, in_session, start, last_of}
 
 abbrev pub makes : Arrival
 makes = came 102 3 (in_session 1 1 3 seen.makes)

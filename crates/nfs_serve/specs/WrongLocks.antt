@@ -14,16 +14,11 @@ use Rattle.nfs_exec.specs.Delayed.{IsDelayed}
 use Rattle.nfs_exec.specs.Ops.{RanOp}
 use Rattle.nfs_exec.specs.LockHeld.{StandsBefore, StandsWhile}
 use Rattle.nfs_serve.specs.Step.{State, new_state}
-use Rattle.nfs_serve.specs.Endpoint.{Arrival}
 use Rattle.nfs_serve.specs.Points.{next, reached, before, asked_by, ops_of}
 use Rattle.nfs_serve.specs.LockKept.{StaysHeld}
 use Rattle.nfs_serve.specs.Outlived.{last_renewal, IsInTime}
 use Rattle.nfs_serve.specs.Exchanges.{words}
-use Rattle.nfs_serve.specs.HeldLock.{came, in_session, earlier, locks, clashes, locked, asked, told}
-
--- the first renewal of A, at the last second of its lease
-abbrev pub renewal : Arrival
-renewal = came 192 4 (in_session 1 2 1 [])
+use Rattle.nfs_serve.specs.HeldLock.{earlier, locks, renewal, clashes, locked, asked, told, stateid_of_lock, last_of}
 
 -- a server whose leases last one second, whatever the client was told
 abbrev pub short_leases : State
@@ -35,7 +30,7 @@ set_back = record locked { machine = record locked.machine { leases = with_renew
 
 -- a LOCK that answers NFS4_OK and a stateid, of lock state 4, and does nothing
 abbrev pub told_anyway : RanOp → RanOp
-told_anyway lock = record lock { result = done_head Op.Lock ++ words (1 ∷ 7 ∷ 0 ∷ 4 ∷ []) }
+told_anyway lock = record lock { result = done_head Op.Lock ++ stateid_of_lock 4 }
 
 -- a CLOSE of open 3, which is B's, that closes A's, and answers as it ought to
 abbrev pub closes_another : RanOp → RanOp
@@ -44,11 +39,6 @@ closes_another d = record d {
   result = done_head Op.Close ++ words (0xffff_ffff ∷ 0 ∷ 0 ∷ 0 ∷ []);
   behind = record d.before { store = with_opens d.before.store (without_open d.before.store.opens 1) };
 }
-
--- the last of these operations; what stands in front of them is of no account
-abbrev pub last_of : RanOp → List RanOp → RanOp
-last_of d [] = d
-last_of d (e ∷ ds) = last_of e ds
 
 -- The answer to what a record asks for is none where the operation at a place of it is delayed.
 abbrev pub NoneDelayed : Machine → (place : ℕ) → Option MachineEvent → Type 0

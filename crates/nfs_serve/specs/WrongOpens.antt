@@ -14,7 +14,8 @@ use Rattle.nfs_exec.specs.Ops.{RanOp}
 use Rattle.nfs_exec.specs.OpenHeld.{IsOpenBefore, OpenWhile}
 use Rattle.nfs_serve.specs.Points.{ops_of}
 use Rattle.nfs_serve.specs.Exchanges.{words}
-use Rattle.nfs_serve.specs.WrongLocks.{last_of, closes_another}
+use Rattle.nfs_serve.specs.HeldLock.{last_of}
+use Rattle.nfs_serve.specs.WrongLocks.{closes_another}
 use Rattle.nfs_serve.specs.HeldOpen.{asks, its_open, first_bits, asked}
 
 -- what A asks for as it opens the file once more: to read

@@ -20,7 +20,7 @@ ghost use Rattle.nfs_serve.specs.Points.{NoClash};
 ghost use Rattle.nfs_serve.specs.PerfectWire.{AsOverAWire};
 ghost use Rattle.nfs_serve.specs.RealTime.{Atomic};
 ghost use Rattle.nfs_serve.specs.Seen.{server};
-ghost use Rattle.nfs_serve.specs.SessionsOnce.{EachMakesOne, RepeatsMakeNone, NextMakesOne, IsGivenOnce};
+ghost use Rattle.nfs_serve.specs.SessionsOnce.{EachMakesOne, EachWasMade, RepeatsMakeNone, NextMakesOne, IsGivenOnce};
 ghost use Rattle.nfs_serve.specs.SeenWrite.{IsSeen};
 ghost use Rattle.nfs_serve.specs.WrongLocks.{AreRefused};
 ghost use Rattle.nfs_serve.specs.WrittenStays.{BytesStay};
@@ -247,9 +247,15 @@ pub fn wrong_bytes_are_refused()
     ensures { BytesRefused }
 {}
 
-/// A CREATE_SESSION that is answered NFS4_OK makes one session, of the id that is answered, which did not stand before; or it changes nothing.
+/// A CREATE_SESSION that is answered NFS4_OK makes one session of its client, of the id that is answered, which did not stand before; or it changes nothing.
 pub fn each_makes_one_session()
     ensures { EachMakesOne }
+{}
+
+/// The session that a CREATE_SESSION is answered with NFS4_OK was made by it, or by a record before it of the same client and number. So a client's first one
+/// makes a session.
+pub fn each_session_was_made()
+    ensures { EachWasMade }
 {}
 
 /// A second CREATE_SESSION of the same client and number that is answered NFS4_OK is answered the same session id, and changes nothing.
@@ -263,7 +269,8 @@ pub fn next_number_makes_a_session()
 {}
 
 /// The definitions compute: CREATE_SESSION comes twice, another client in between, and then with the next number. That run meets the premises of
-/// `each_makes_one_session`, `repeats_make_no_session` and `next_number_makes_a_session`, which refuse a second session and an id that stands.
+/// `each_makes_one_session`, `each_session_was_made`, `repeats_make_no_session` and `next_number_makes_a_session`, which refuse a second session, an id that
+/// stands and an answer that makes no session.
 pub fn a_session_is_made_once()
     ensures { IsGivenOnce }
 {}

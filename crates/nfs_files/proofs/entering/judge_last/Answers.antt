@@ -1,5 +1,7 @@
-use Rattle.std.proofs.Common.{◌≡◌, sym, ap, ◌∙◌}
+use Rattle.std.proofs.Common.{◌≡◌, sym, ap, ◌∙◌, rules}
+use denote.Enum.Bare.{same_true, same_false}
 use Rattle.nfs_xdr.specs.Checks.{judged}
+use Rattle.nfs_xdr.specs.contracts.status.Status.{the_type}
 use Rattle.nfs_compound.specs.OpenCodecs.{view_open}
 use Rattle.nfs_opens.specs.Calls.{open_fault}
 use Rattle.nfs_names.specs.State.{state_of}
@@ -23,22 +25,22 @@ returns-in-Ok c =
     c.judge_room-room.ensures ∙ room_decides (state_of c.args.store.now) c.args.context.now (view_open c.args.asked.now) c.args.found.now
     c.judge_open.result (shared (goal.at.returns-in-Ok c).After-judge_open) c.in-Ok.is
 
-pub returns-then-number : goal.returns-then-number
-returns-then-number c =
+pub returns-then-eq : goal.returns-then-eq
+returns-then-eq c =
     denied_decides (state_of c.args.store.now) c.args.context.now (view_open c.args.asked.now) c.args.found.now
-    c.in-Err.status (sym c.in-Err.is ∙ shared (goal.at.returns-then-number c).After-judge_open)
-    (sym c.number.ensures ∙ c.if-number.true ∙ c.number-in-Err.ensures)
+    c.in-Err.status (sym c.in-Err.is ∙ shared (goal.at.returns-then-eq c).After-judge_open)
+    (same_true the_type (search rules) _ _ (sym c.if-eq.ensures))
 
 pub returns-in-Ok-room : goal.returns-in-Ok-room
 returns-in-Ok-room c =
     let is = shared (goal.at.returns-in-Ok-room c).After-judge_open in
     (spent_decides (state_of c.args.store.now) c.args.context.now (view_open c.args.asked.now) c.args.found.now c.in-Err.status (sym c.in-Err.is ∙ is)
-    (λ e. c.if-number.false (c.number.ensures ∙ e ∙ sym c.number-in-Err.ensures)) c.judge_room-room.result c.judge_room-room.ensures).0
+    (same_false the_type _ _ (sym c.if-eq.ensures)) c.judge_room-room.result c.judge_room-room.ensures).0
     (sym c.in-Ok-room.is)
 
 pub returns-in-Err-room : goal.returns-in-Err-room
 returns-in-Err-room c =
     let is = shared (goal.at.returns-in-Err-room c).After-judge_open in
     (spent_decides (state_of c.args.store.now) c.args.context.now (view_open c.args.asked.now) c.args.found.now c.in-Err.status (sym c.in-Err.is ∙ is)
-    (λ e. c.if-number.false (c.number.ensures ∙ e ∙ sym c.number-in-Err.ensures)) c.judge_room-room.result c.judge_room-room.ensures).1
+    (same_false the_type _ _ (sym c.if-eq.ensures)) c.judge_room-room.result c.judge_room-room.ensures).1
     c.in-Err-room.other (sym c.in-Err-room.is)

@@ -1,0 +1,47 @@
+-- What a run that is worked by hand computes with: how calls are read, what their operations do and how results are spelled.
+use Rattle.nfs_xdr.specs.Spelling.{number, hyper}
+use Rattle.nfs_xdr.specs.Reading.{opaque_at, fixed_at, pieces_at, flag_at}
+use Rattle.nfs_xdr.specs.AuthSys.{auth_sys}
+use Rattle.nfs_rpc.specs.HeadCodec.{header, opaque_auth}
+use Rattle.nfs_rpc.specs.CallHead.{call_of, behind_header, caller_of}
+use Rattle.nfs_rpc.specs.Reply.{spell_head}
+use Rattle.nfs_compound.specs.ReadRequest.{request_at, items_at, item_at}
+use Rattle.nfs_compound.specs.OpCodec.{op_at, fault_at}
+use Rattle.nfs_compound.specs.ArgCodecs.{exchange_id_args, create_session_args, sequence_args, sec_parms, protected, impl_id, lock_type, open_to_lock_owner, exist_lock_owner}
+use Rattle.nfs_compound.specs.ArgCodecs.{locker, lock_args, lock_u_args, read_args, write_args, stable_how}
+use Rattle.nfs_compound.specs.ArgCodecs as compound_attributes
+use Rattle.nfs_compound.specs.ChannelAttrs.{channel_attrs}
+use Rattle.nfs_compound.specs.Stateid.{stateid}
+use Rattle.nfs_compound.specs.StateOwner.{state_owner}
+use Rattle.nfs_compound.specs.OpenCodecs.{create_how, open_how, delegation_type, open_claim, open_args, open_downgrade_args, close_args}
+use Rattle.nfs_results.specs.Items as results
+use Rattle.nfs_ranges.specs.Told.{told}
+use Rattle.nfs_attrs.specs.Attributes.{attributes, settings_of}
+use Rattle.nfs_attrs.specs.Handle.{handle}
+use Rattle.nfs_names.specs.Create.{wanted_of}
+use Rattle.nfs_names.specs.Checks.{current, permits}
+use Rattle.nfs_names.specs.PutFh.{put_fh}
+use Rattle.nfs_names.specs.PutRootFh.{put_root_fh}
+use Rattle.nfs_names.specs.Lookup.{lookup}
+use Rattle.nfs_files.specs.Open.{asked_for, open_file}
+use Rattle.nfs_files.specs.Target.{the_file, target}
+use Rattle.nfs_files.specs.Ranges.{range, wished}
+use Rattle.nfs_files.specs.Denied.{denied}
+use Rattle.nfs_files.specs.Lock.{lock}
+use Rattle.nfs_files.specs.LockU.{lock_u}
+use Rattle.nfs_files.specs.OpenDowngrade.{open_downgrade}
+use Rattle.nfs_files.specs.Bytes.{seat, may_use, readable, writable}
+use Rattle.nfs_files.specs.Close.{close}
+use Rattle.nfs_files.specs.Read as file_read
+use Rattle.nfs_files.specs.Write as file_write
+use Rattle.nfs_serve.specs.Step.{step}
+
+unfoldable pub computing : Unit {0}
+unfolding number hyper step call_of header opaque_auth opaque_at fixed_at behind_header caller_of auth_sys spell_head request_at items_at item_at op_at
+    fault_at exchange_id_args create_session_args sequence_args channel_attrs sec_parms protected impl_id pieces_at flag_at stateid state_owner
+    compound_attributes.bitmap compound_attributes.attributes create_how open_how delegation_type open_claim open_args lock_type open_to_lock_owner
+    exist_lock_owner locker lock_args lock_u_args results.exchange_id results.create_session results.sequence results.open_ok results.change_info
+    results.attr_set results.denied told attributes settings_of handle wanted_of current permits put_fh put_root_fh asked_for open_file the_file target
+    range wished denied lock lock_u open_downgrade_args open_downgrade read_args write_args stable_how results.read_ok results.write_ok lookup seat may_use
+    readable writable file_read.read file_write.write close_args close
+computing = tt
