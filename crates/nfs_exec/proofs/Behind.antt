@@ -63,12 +63,12 @@ other_stays m x a other = refl
 
 -- What holds of a machine whatever its store is, and whether its clients have reclaimed, holds behind the operations.
 
-pub record IsKept (P : Machine → Type 0) : Type 0 where
+pub record IsKeptByEach (P : Machine → Type 0) : Type 0 where
   pub stored : (m : Machine) (s : _) → P m → P (record m { store = s })
   pub reclaimed : (m : Machine) (x : Context) → P m → P (of_all m x).machine
   pub marked : (m : Machine) (client : ℕ) → P m → P (with_mark client m)
 
-pub kept_step : (P : Machine → Type 0) → IsKept P
+pub kept_step : (P : Machine → Type 0) → IsKeptByEach P
     → (m : Machine) (x : Context) (now : ℕ) (refused : Bool) (i : Item) → P m → P (step m x now refused i).outcome.machine
 kept_step P keeps m x now refused i is = elim (cases_Bool (names.on_names i)) [
   | inl on ↦ rw on (keeps.stored m _ is)
@@ -95,7 +95,7 @@ kept_step P keeps m x now refused i is = elim (cases_Bool (names.on_names i)) [
 pub follow_kept : (P : Machine → Type 0) (o : Outcome) (rest : Ran) → P o.machine → P rest.machine → P (follow o rest).machine
 follow_kept P o rest one more = elim (cases_Bool (is_ok o.status)) [ inl ok ↦ rw ok more | inr bad ↦ rw bad one ]
 
-pub kept_run : (P : Machine → Type 0) → IsKept P → (limit sofar now : ℕ) (choice : Option ℕ) (m : Machine) (x : Context) (items : List Item)
+pub kept_run : (P : Machine → Type 0) → IsKeptByEach P → (limit sofar now : ℕ) (choice : Option ℕ) (m : Machine) (x : Context) (items : List Item)
     → P m → P (run limit sofar now choice m x items).machine
 kept_run P keeps limit sofar now choice m x [] is = is
 kept_run P keeps limit sofar now choice m x (i ∷ more) is =
@@ -107,14 +107,14 @@ kept_run P keeps limit sofar now choice m x (i ∷ more) is =
 
 -- Neither leases nor sessions change.
 
-keeps_leases : (b : Book) → IsKept (λ m. m.leases ≡ b)
+keeps_leases : (b : Book) → IsKeptByEach (λ m. m.leases ≡ b)
 keeps_leases b = record {
   stored = λ m s is. is;
   reclaimed = λ m x is. elim (cases_Bool (has_reclaimed m.clients x.client)) [ inl again ↦ rw again is | inr once ↦ rw once is ];
   marked = λ m client is. is;
 }
 
-keeps_sessions : (t : SessionTable) → IsKept (λ m. m.sessions ≡ t)
+keeps_sessions : (t : SessionTable) → IsKeptByEach (λ m. m.sessions ≡ t)
 keeps_sessions t = record {
   stored = λ m s is. is;
   reclaimed = λ m x is. elim (cases_Bool (has_reclaimed m.clients x.client)) [ inl again ↦ rw again is | inr once ↦ rw once is ];

@@ -7,9 +7,9 @@ use Rattle.nfs_xdr.proofs.Lists.{filter_all, filter_both}
 use Rattle.nfs_clients.specs.Roster.{ClientRecord}
 use Rattle.nfs_sessions.specs.Sessions.{Session}
 use Rattle.nfs_lease.specs.Renewals.{Book, is_out, has_run_out, without_lease}
-use Rattle.nfs_names.specs.Kept.{IsStore}
+use Rattle.nfs_names.specs.StoreInvariants.{IsStore}
 use Rattle.nfs_names.specs.Ending.{staying}
-use Rattle.nfs_opens.specs.Kept.{IsTable}
+use Rattle.nfs_opens.specs.TableInvariants.{IsTable}
 use Rattle.nfs_names.proofs.Staying.{staying_twice, staying_everybody, swapped}
 use Rattle.nfs_exec.specs.Machine.{Machine}
 use Rattle.nfs_exec.specs.Expiry.{expired}

@@ -36,7 +36,7 @@ use Rattle.nfs_exec.proofs.Creating.{the_rest, length_id}
 use Rattle.nfs_sessions.specs.declared.id.SessionId.{SessionId}
 use Rattle.nfs_sessions.specs.Id.{id_bytes, id_of}
 use Rattle.std.specs.Option.{IsSomeAnd}
-use Rattle.nfs_sessions.specs.Kept.{MayKeep}
+use Rattle.nfs_sessions.specs.SessionTables.{MayKeep}
 
 -- what it means that a request runs
 pub record IsFresh (r : Request) (who : Caller) (size : ℕ) (s : Sequence) (o : Option Session) (c : Channel) : Type 0 where

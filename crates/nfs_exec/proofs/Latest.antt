@@ -32,7 +32,7 @@ use Rattle.nfs_exec.specs.Destroy.{destroy_session, destroyed_unless, has_sessio
 use Rattle.nfs_exec.specs.Sequence.{Sequenced, Refuses, Repeats, Runs, sequenced}
 use Rattle.nfs_names.specs.Context.{begins}
 use Rattle.nfs_names.specs.State.{State}
-use Rattle.nfs_names.specs.Kept.{IsStore}
+use Rattle.nfs_names.specs.StoreInvariants.{IsStore}
 use Rattle.nfs_names.proofs.Staying.{store_staying}
 use Rattle.nfs_exec.specs.Run.{is_here, behind_here}
 use Rattle.nfs_exec.proofs.Behind.{run_leases}

@@ -25,7 +25,7 @@ pub record IsHeld (P : SessionTable → Type 0) : Type 0 where
   pub made : (t : SessionTable) (client : ℕ) (wish : Wish) → P t → P (with_session t client wish)
 
 -- A SEQUENCE was fresh on its slot, which has its number behind it.
-pub record IsKept (t after : SessionTable) (s : Sequence) : Type 0 where
+pub record KeepsReply (t after : SessionTable) (s : Sequence) : Type 0 where
   pub session : Session
   pub there : session_at t (id_of s.sessionid) ≡ Some session
   pub uid : ℕ
@@ -87,7 +87,7 @@ was_changed : (change : GrantedSlots → GrantedSlots) (b : Bool) (x : Session) 
 was_changed change true x = (refl, refl, refl)
 was_changed change false x = (refl, refl, refl)
 
-was_there : (t after : SessionTable) (s : Sequence) → (is : IsKept t after s) → (x : Session) → In x after.sessions
+was_there : (t after : SessionTable) (s : Sequence) → (is : KeepsReply t after s) → (x : Session) → In x after.sessions
     → WasThere t s (taken s is.uid is.args is.reply) x
 unfolding taken
 was_there t after s is x there =
@@ -104,10 +104,10 @@ was_there t after s is x there =
       slots = ap (λ (s : Session). s.slots.slots) was.2 ∙ fields.2;
     }
 
-same_last : (t after : SessionTable) (s : Sequence) → IsKept t after s → after.last ≡ t.last
+same_last : (t after : SessionTable) (s : Sequence) → KeepsReply t after s → after.last ≡ t.last
 same_last t after s is = ap (λ (t : SessionTable). t.last) is.kept
 
-pub counted_kept : (t after : SessionTable) (s : Sequence) → IsKept t after s → IsCounted t → IsCounted after
+pub counted_kept : (t after : SessionTable) (s : Sequence) → KeepsReply t after s → IsCounted t → IsCounted after
 counted_kept t after s is counted x there =
     let was = was_there t after s is x there in
     let below = counted was.before was.there in let same = was.counter in let last = same_last t after s is in omega arith
@@ -127,7 +127,7 @@ record RanOn (t : SessionTable) (s : Sequence) : Type 0 where
   at : slice_get session.slots.slots s.slotid ≡ Some slot
   number : s.sequenceid ≡ next_number slot.number
 
-ran_on : (t after : SessionTable) (s : Sequence) → IsKept t after s → RanOn t s
+ran_on : (t after : SessionTable) (s : Sequence) → KeepsReply t after s → RanOn t s
 ran_on t after s is =
     let found = find_in (is_session (id_of s.sessionid)) t.sessions is.session is.there in
     let fresh = fresh_found (slice_get is.session.slots.slots s.slotid) s.sequenceid is.uid is.args is.fresh in
@@ -147,7 +147,7 @@ unfolding taken
 number_of s uid args reply y same small = ap (λ (y : SlotState). y.number) same ∙ omega arith
 
 -- Its session's slot has its number ..
-last_here : (t after : SessionTable) (s : Sequence) → IsKept t after s → (id_of s.sessionid).counter ≤ t.last
+last_here : (t after : SessionTable) (s : Sequence) → KeepsReply t after s → (id_of s.sessionid).counter ≤ t.last
     → IsLast (id_of s.sessionid) s.slotid s.sequenceid after
 last_here t after s is given =
     let id = id_of s.sessionid in
@@ -165,7 +165,7 @@ last_here t after s is given =
           number_of s is.uid is.args is.reply y same small),
     )
 
-pub last_first : (t after : SessionTable) (s : Sequence) → IsKept t after s → IsCounted t
+pub last_first : (t after : SessionTable) (s : Sequence) → KeepsReply t after s → IsCounted t
     → IsLast (id_of s.sessionid) s.slotid s.sequenceid after
 last_first t after s is counted =
     let ran = ran_on t after s is in
@@ -184,14 +184,14 @@ moved_on : (n number q : ℕ) → number ≡ n % 2 ^ 32 → q ≡ next_number nu
 moved_on n number q is next = omega arith
 
 -- .. which is the next
-next_is : (t after : SessionTable) (s : Sequence) (n : ℕ) → IsKept t after s → IsLast (id_of s.sessionid) s.slotid n t
+next_is : (t after : SessionTable) (s : Sequence) (n : ℕ) → KeepsReply t after s → IsLast (id_of s.sessionid) s.slotid n t
     → s.sequenceid % 2 ^ 32 ≡ (n + 1) % 2 ^ 32
 next_is t after s n is last =
     let ran = ran_on t after s is in
     moved_on n ran.slot.number s.sequenceid (last.1 ran.session ran.there ran.named ran.slot ran.at) ran.number
 
 -- on another slot nothing changes
-last_apart : (id : SessionId) (slot n : ℕ) (t after : SessionTable) (s : Sequence) → IsKept t after s
+last_apart : (id : SessionId) (slot n : ℕ) (t after : SessionTable) (s : Sequence) → KeepsReply t after s
     → is_on id slot s ≡ false → IsLast id slot n t → IsLast id slot n after
 last_apart id slot n t after s is apart last =
     let same = same_last t after s is in
@@ -223,7 +223,7 @@ last_apart id slot n t after s is apart last =
         false≢true (sym apart ∙ both)
 
 -- The slot's number moves on by one where the request is on it.
-pub last_kept : (id : SessionId) (slot n : ℕ) (t after : SessionTable) (s : Sequence) → IsKept t after s → IsLast id slot n t
+pub last_kept : (id : SessionId) (slot n : ℕ) (t after : SessionTable) (s : Sequence) → KeepsReply t after s → IsLast id slot n t
     → IsLast id slot (n + cond (is_on id slot s) 1 0) after
 last_kept id slot n t after s is last = elim (cases_Bool (is_on id slot s)) [
   | inl here ↦ rw here (
@@ -243,6 +243,6 @@ last_kept id slot n t after s is last = elim (cases_Bool (is_on id slot s)) [
 full_round : (q n : ℕ) → q % 2 ^ 32 ≡ (q + n + 1) % 2 ^ 32 → 2 ^ 32 - 1 ≤ n
 full_round q n e = omega arith
 
-pub runs_again : (t after : SessionTable) (s : Sequence) (q n : ℕ) → IsKept t after s → IsLast (id_of s.sessionid) s.slotid (q + n) t
+pub runs_again : (t after : SessionTable) (s : Sequence) (q n : ℕ) → KeepsReply t after s → IsLast (id_of s.sessionid) s.slotid (q + n) t
     → s.sequenceid ≡ q → 2 ^ 32 - 1 ≤ n
 runs_again t after s q n is last same = full_round q n (ap (λ (k : ℕ). k % 2 ^ 32) (sym same) ∙ next_is t after s (q + n) is last)

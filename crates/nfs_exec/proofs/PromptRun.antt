@@ -61,7 +61,7 @@ use Rattle.nfs_exec.specs.Compound.{carried_out, by_fault, first_item, bare, ren
 use Rattle.nfs_exec.specs.Delayed.{NothingDelays}
 use Rattle.nfs_exec.specs.Laws.{MachineEvent, Expires, Asks, stepped, all_stepped}
 use Rattle.nfs_exec.specs.Ops.{RanOp, ops, ops_in, ops_of}
-use Rattle.nfs_exec.proofs.Behind.{IsKept, kept_run}
+use Rattle.nfs_exec.proofs.Behind.{IsKeptByEach, kept_run}
 use Rattle.nfs_exec.proofs.WholeRun.{in_more}
 use Rattle.nfs_files.proofs.Prompt.{IsPrompt, all_pass, first_passes, not_true, first_prompt, current_prompt, names_prompt}
 use Rattle.nfs_files.proofs.PromptFiles.{files_prompt}
@@ -376,7 +376,7 @@ calm_first m declared who now refused i calm = go (item_fault declared i)
     go None = calm_carried m who now refused i calm
     go (Some status) = calm
 
-keeps_calm : IsKept (λ m. AreCalm m.clients)
+keeps_calm : IsKeptByEach (λ m. AreCalm m.clients)
 keeps_calm = record {
   stored = λ m s is. is;
   reclaimed = λ m x is. elim (cases_Bool (has_reclaimed m.clients x.client)) [

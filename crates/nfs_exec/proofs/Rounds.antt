@@ -10,7 +10,7 @@ use Rattle.nfs_lease.specs.Renewals.{has_run_out}
 use Rattle.nfs_exec.specs.Machine.{Machine, starts}
 use Rattle.nfs_exec.specs.Compound.{compound}
 use Rattle.nfs_exec.specs.Laws.{MachineEvent, Expires, Asks, stepped, all_stepped, ran, is_on, runs_on, NeverRunsAgain}
-use Rattle.nfs_exec.proofs.Numbering.{IsHeld, IsKept, IsCounted, IsLast, held_counted, held_last, counted_kept, last_first, last_kept, runs_again}
+use Rattle.nfs_exec.proofs.Numbering.{IsHeld, KeepsReply, IsCounted, IsLast, held_counted, held_last, counted_kept, last_first, last_kept, runs_again}
 use Rattle.nfs_exec.proofs.Quiet.{quiet_compound, told_compound}
 
 -- What an event did: behind no request sessions are made and end; behind one that ran its number was fresh, and is kept.
@@ -19,7 +19,7 @@ quiet : (P : SessionTable → Type 0) → IsHeld P → (m : Machine) (e : Machin
 quiet P held m (Expires now) none is = held.fewer m.sessions (λ s. not (has_run_out m.leases now s.client)) is
 quiet P held m (Asks r who size now choice) none is = quiet_compound P held m r who size now choice none is
 
-kept : (m : Machine) (e : MachineEvent) (t : Sequence) → ran m e ≡ Some t → IsKept m.sessions (stepped m e).sessions t
+kept : (m : Machine) (e : MachineEvent) (t : Sequence) → ran m e ≡ Some t → KeepsReply m.sessions (stepped m e).sessions t
 kept m (Expires now) t runs = absurd cc
 kept m (Asks r who size now choice) t runs =
     let told = told_compound m r who size now choice t runs in

@@ -9,7 +9,7 @@ use Rattle.nfs_xdr.specs.declared.status.Status.TheVariants.{Nfs4Ok}
 use Rattle.nfs_compound.specs.Operation.{Item}
 use Rattle.nfs_compound.specs.Request.{Request}
 use Rattle.nfs_names.specs.declared.context.Context.{Context}
-use Rattle.nfs_names.specs.Kept.{IsStore}
+use Rattle.nfs_names.specs.StoreInvariants.{IsStore}
 use Rattle.nfs_exec.specs.Machine.{Machine, Outcome, is_ok, is_delay}
 use Rattle.nfs_exec.specs.Behind.{Step}
 use Rattle.nfs_exec.specs.Run.{Ran, run, in_room, follow, only, is_here, behind_here}

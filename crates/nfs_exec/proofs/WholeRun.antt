@@ -21,19 +21,19 @@ use Rattle.nfs_sessions.specs.Sessions.{SessionTable, session_at, create}
 use Rattle.nfs_sessions.specs.declared.id.SessionId.{SessionId}
 use Rattle.nfs_sessions.specs.declared.sessions.SessionFault.{SessionFault}
 use Rattle.nfs_lease.specs.Renewals.{has_run_out}
-use Rattle.nfs_opens.specs.Kept.{IsTable}
+use Rattle.nfs_opens.specs.TableInvariants.{IsTable}
 use Rattle.nfs_opens.proofs.TableLemmas.{table_new}
 use Rattle.nfs_names.specs.declared.context.Context.{Context}
 use Rattle.nfs_names.specs.declared.node.Node.{Node}
 use Rattle.nfs_names.specs.Checks.{current}
 use Rattle.nfs_names.specs.Context.{begins}
 use Rattle.nfs_names.specs.State.{State, moment}
-use Rattle.nfs_names.specs.Kept.{IsStore}
+use Rattle.nfs_names.specs.StoreInvariants.{IsStore}
 use Rattle.nfs_names.specs.Ending.{staying}
 use Rattle.nfs_names.specs.Operation as names
 use Rattle.nfs_names.proofs.Untouched.{leaves_item}
 use Rattle.nfs_names.proofs.Staying.{store_staying}
-use Rattle.nfs_names.proofs.Kept.{store_at_first}
+use Rattle.nfs_names.proofs.StoreInvariants.{store_at_first}
 use Rattle.nfs_names.proofs.Whole as of_names
 use Rattle.nfs_files.specs.Operation as files
 use Rattle.nfs_files.proofs.Whole.{store_left}

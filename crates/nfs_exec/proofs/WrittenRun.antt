@@ -23,7 +23,7 @@ use Rattle.nfs_tree.specs.declared.row.Row.{Row}
 use Rattle.nfs_tree.specs.declared.stored.Stored.{Stored}
 use Rattle.nfs_tree.specs.Object.{is_directory, is_regular}
 use Rattle.nfs_tree.specs.Files.{Files, root, stored_in, object_at, is_there, has_row, data_at}
-use Rattle.nfs_tree.specs.Kept.{IsTree}
+use Rattle.nfs_tree.specs.TreeInvariants.{IsTree}
 use Rattle.nfs_attrs.specs.declared.handle.Handle.{Handle}
 use Rattle.nfs_attrs.specs.Handle.{handle_of}
 use Rattle.nfs_names.specs.declared.context.Context.{Context}

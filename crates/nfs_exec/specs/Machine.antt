@@ -89,8 +89,8 @@ abbrev pub machine_of : Tables → Machine
 machine_of t = record { clients = t.clients; sessions = t.sessions; leases = leases_of t.leases; store = state_of t.store }
 
 -- what a world is kept as; other crates see it through `machine_of` alone
-abbrev pub Kept : Type 0
-Kept = Tables
+abbrev pub KeptTables : Type 0
+KeptTables = Tables
 
 -- No byte of a file has a writer beside another holder, and no two opens of different owners clash (RFC 8881 sections 9.1 and 9.7).
 pub record HasNoClashes (m : Machine) : Type 0 where

@@ -17,12 +17,12 @@ use Rattle.nfs_results.specs.ResultCodec.{IsBounded, HasArrays}
 use Rattle.nfs_results.specs.Results.{spell_result}
 use Rattle.nfs_names.specs.declared.context.Context.{Context}
 use Rattle.nfs_names.specs.State.{state_of}
-use Rattle.nfs_names.specs.Kept.{IsStore}
+use Rattle.nfs_names.specs.StoreInvariants.{IsStore}
 use Rattle.nfs_names.specs.Ending.{staying}
 use Rattle.nfs_lease.specs.Renewals.{Book, without_lease}
 use Rattle.nfs_clients.specs.Roster.{without}
 use Rattle.nfs_clients.specs.declared.exchange_id.Exchanged.{Exchanged}
-use Rattle.nfs_sessions.specs.Kept.{IsGranted}
+use Rattle.nfs_sessions.specs.SessionTables.{IsGranted}
 use Rattle.nfs_sessions.specs.SessionSlots.{rpc_head}
 use Rattle.nfs_sessions.specs.declared.channel.Channel.{Channel}
 use Rattle.nfs_sessions.specs.Sessions as sessions
@@ -129,6 +129,6 @@ abbrev pub settled : Book → ℕ → Exchanged → Book
 settled b next x = if x.added then without_any_lease b x.replaced else without_lease b next
 
 -- What holds of the tables between two records.
-pub record IsKept (t : Tables) : Type 0 where
+pub record AreTables (t : Tables) : Type 0 where
   pub machine : IsMachine (machine_of t)
   pub store : IsStore (state_of t.store)

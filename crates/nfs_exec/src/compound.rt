@@ -7,12 +7,12 @@ ghost use Rattle.nfs_xdr.specs.Limits.{opaque_limit};
 ghost use Rattle.nfs_compound.specs.Operation.{Item};
 ghost use Rattle.nfs_compound.specs.View.{item};
 ghost use Rattle.nfs_lease.specs.Queue.{IsLatest};
-ghost use Rattle.nfs_sessions.specs.Kept.{IsGranted};
-ghost use Rattle.nfs_names.specs.Kept.{IsStore};
+ghost use Rattle.nfs_sessions.specs.SessionTables.{IsGranted};
+ghost use Rattle.nfs_names.specs.StoreInvariants.{IsStore};
 ghost use Rattle.nfs_exec.specs.Machine.{IsMachine, is_delay, machine_of};
 ghost use Rattle.nfs_exec.specs.Sequence.{Runs, sequenced};
 ghost use Rattle.nfs_exec.specs.Compound.{compound, first_item, in_session};
-ghost use Rattle.nfs_exec.specs.View.{Does, IsKept, MayRun, RanIn, CanBear, IsOpened, HasReplyRoom, HasLoneRoom, Answers};
+ghost use Rattle.nfs_exec.specs.View.{Does, AreTables, MayRun, RanIn, CanBear, IsOpened, HasReplyRoom, HasLoneRoom, Answers};
 
 use crate::place::fault_in_first_place;
 use crate::sequence::{Sequenced, accepted, judge};
@@ -35,7 +35,7 @@ impl Tables {
         now: u64,
         out: &mut Sheet,
     )
-        requires kept { IsKept self.old }
+        requires kept { AreTables self.old }
         requires opened { IsOpened args.old }
         requires size { length args.old.bytes ≤ size }
         requires moment { now < 2 ^ 63 }

@@ -10,7 +10,7 @@ ghost use Rattle.nfs_results.specs.Results.{done_head};
 ghost use Rattle.nfs_lease.specs.Queue.{IsLatest};
 ghost use Rattle.nfs_sessions.specs.Sessions.{create};
 ghost use Rattle.nfs_exec.specs.Machine.{Machine, is_delay, or_delay, refuses, machine_of};
-ghost use Rattle.nfs_names.specs.Kept.{IsStore};
+ghost use Rattle.nfs_names.specs.StoreInvariants.{IsStore};
 ghost use Rattle.nfs_exec.specs.CreateSession.{create_session, create_session_number, wish_of, session_made, made_body, channel_of, attrs_of, creates, kept_again, confirmed};
 ghost use Rattle.nfs_exec.specs.View.{without_left, Does, HasLoneRoom};
 

@@ -3,7 +3,7 @@
 ghost use Rattle.std.specs.Prelude.{◌≡◌, ◌+◌, is_some, if◌then◌else◌};
 ghost use Rattle.nfs_lease.specs.Renewals.{leases_of};
 ghost use Rattle.nfs_lease.specs.Queue.{standing};
-ghost use Rattle.nfs_names.specs.Kept.{IsStore};
+ghost use Rattle.nfs_names.specs.StoreInvariants.{IsStore};
 ghost use Rattle.nfs_exec.specs.Expiry.{expired};
 ghost use Rattle.nfs_exec.specs.View.{without_client};
 ghost use Rattle.nfs_exec.specs.Machine.{machine_of};

@@ -10,7 +10,7 @@ ghost use Rattle.nfs_results.specs.Results.{spell_result};
 ghost use Rattle.nfs_results.specs.ResultCodec.{IsBounded};
 ghost use Rattle.nfs_results.specs.View as view;
 ghost use Rattle.nfs_names.specs.State.{moment};
-ghost use Rattle.nfs_names.specs.Kept.{IsStore};
+ghost use Rattle.nfs_names.specs.StoreInvariants.{IsStore};
 ghost use Rattle.nfs_files.specs.Operation as files;
 ghost use Rattle.nfs_sessions.specs.SessionSlots.{rpc_head};
 ghost use Rattle.nfs_exec.specs.Machine.{comes_to, is_delay, machine_of};

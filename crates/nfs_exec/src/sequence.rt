@@ -3,7 +3,7 @@
 ghost use Rattle.std.specs.Prelude.{◌≡◌, ◌≤◌, ◌+◌, List, ℕ, length};
 ghost use Rattle.nfs_xdr.specs.Caller.{caller};
 ghost use Rattle.nfs_xdr.specs.Limits.{most_record};
-ghost use Rattle.nfs_sessions.specs.Kept.{IsGranted};
+ghost use Rattle.nfs_sessions.specs.SessionTables.{IsGranted};
 ghost use Rattle.nfs_sessions.specs.Id.{id_of};
 ghost use Rattle.nfs_sessions.specs.SessionSlots.{rpc_head};
 ghost use Rattle.nfs_sessions.specs.Sessions.{session_at};

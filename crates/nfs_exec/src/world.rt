@@ -22,14 +22,14 @@ pub struct World {
 }
 
 impl Model for World {
-    ghost use Rattle.nfs_exec.specs.View.{IsKept};
-    ghost use Rattle.nfs_exec.specs.Machine.{Kept};
+    ghost use Rattle.nfs_exec.specs.View.{AreTables};
+    ghost use Rattle.nfs_exec.specs.Machine.{KeptTables};
 
-    ghost Value = { Kept };
+    ghost Value = { KeptTables };
 
     ghost view = { λ w. w.tables };
 
-    ghost invariant = { λ w. IsKept w.tables };
+    ghost invariant = { λ w. AreTables w.tables };
 }
 
 impl World {

@@ -20,14 +20,14 @@ use Rattle.nfs_opens.specs.StateId.{is_anonymous, is_bypass}
 use Rattle.nfs_xdr.proofs.Lists.{in_filter, stays_in, find_in, in_any, any_in}
 use Rattle.nfs_xdr.proofs.Tables.{in_once}
 use Rattle.nfs_opens.specs.Table.{Table, open_at, lock_at}
-use Rattle.nfs_opens.specs.Kept.{IsTable}
+use Rattle.nfs_opens.specs.TableInvariants.{IsTable}
 use Rattle.nfs_opens.specs.Judging.{judge, open_named, lock_named, named, named_by, judge_named, judge_checks, seated}
 use Rattle.nfs_opens.specs.Closing as closing
 use Rattle.nfs_names.specs.declared.context.Context.{Context}
 use Rattle.nfs_names.specs.State.{State}
-use Rattle.nfs_names.specs.Kept.{IsStore, IsStoreBut}
+use Rattle.nfs_names.specs.StoreInvariants.{IsStore, IsStoreBut}
 use Rattle.nfs_names.specs.Outcome.{answers}
-use Rattle.nfs_names.proofs.Kept.{store_without}
+use Rattle.nfs_names.proofs.StoreInvariants.{store_without}
 use Rattle.nfs_names.specs.Ending.{with_opens}
 use Rattle.nfs_files.specs.Target.{target}
 use Rattle.nfs_files.specs.Close.{closed, closes, close}

@@ -15,7 +15,7 @@ use Rattle.nfs_tree.specs.declared.stored.Stored.{Stored}
 use Rattle.nfs_tree.specs.Object.{is_directory, is_regular}
 use Rattle.nfs_tree.specs.Files.{Files, is_name, stored_in, is_there, is_directory_at, can_change, entry, has_name, lookup}
 use Rattle.nfs_tree.specs.Calls.{is_regular_at}
-use Rattle.nfs_tree.specs.Kept.{IsTree}
+use Rattle.nfs_tree.specs.TreeInvariants.{IsTree}
 use Rattle.nfs_names.specs.declared.context.Context.{Context}
 use Rattle.nfs_names.specs.declared.node.Node.{Node}
 use Rattle.nfs_names.specs.declared.making.Making.{Making}
@@ -26,7 +26,7 @@ use Rattle.nfs_names.specs.Create.{attributes_in}
 use Rattle.nfs_names.specs.Faults.{status_of, by_tree}
 use Rattle.nfs_names.proofs.Rows.{fault_map}
 use Rattle.nfs_tree.specs.declared.fault.TreeFault.{TreeFault}
-use Rattle.nfs_names.specs.Kept.{IsStore}
+use Rattle.nfs_names.specs.StoreInvariants.{IsStore}
 use Rattle.nfs_opens.specs.StateId.{last_number}
 use Rattle.nfs_names.proofs.Found.{IsHeld, current_is, checked_ok, came, ok_is, short_name, or_fault, first_append}
 use Rattle.nfs_files.specs.declared.opening.Found.{Found}

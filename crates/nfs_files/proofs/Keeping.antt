@@ -16,9 +16,9 @@ use Rattle.nfs_compound.specs.FileArgs.{Write}
 use Rattle.nfs_names.specs.declared.context.Context.{Context}
 use Rattle.nfs_names.specs.declared.node.Node.{Node}
 use Rattle.nfs_names.specs.State.{State, with_tree}
-use Rattle.nfs_names.specs.Kept.{IsStore}
+use Rattle.nfs_names.specs.StoreInvariants.{IsStore}
 use Rattle.nfs_names.specs.Outcome.{Outcome, answers}
-use Rattle.nfs_names.proofs.Kept.{kind_in, kind_changed, store_by}
+use Rattle.nfs_names.proofs.StoreInvariants.{kind_in, kind_changed, store_by}
 use Rattle.nfs_files.specs.Write as of_write
 use Rattle.nfs_files.specs.SetAttr.{gives_some, sets_of, with_set}
 

@@ -22,7 +22,7 @@ use Rattle.nfs_opens.specs.declared.judging.Sort.TheVariants.{OpenOnly, LockOnly
 use Rattle.nfs_opens.specs.Holding.{FileHolders, on_file}
 use Rattle.nfs_opens.specs.StateId.{last_number, next_seqid}
 use Rattle.nfs_opens.specs.Table.{Table, Did, lock_at, with_lock}
-use Rattle.nfs_opens.specs.Kept.{IsTable}
+use Rattle.nfs_opens.specs.TableInvariants.{IsTable}
 use Rattle.nfs_opens.specs.Judging.{judge}
 use Rattle.nfs_opens.specs.Closing.{stands, not_under, without_open, without_lock}
 use Rattle.nfs_opens.specs.Locking as locking

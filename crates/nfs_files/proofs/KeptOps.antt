@@ -31,7 +31,7 @@ use Rattle.nfs_opens.specs.declared.locking.Wish.{Wish}
 use Rattle.nfs_opens.specs.declared.locking.OpenFault.{OpenFault}
 use Rattle.nfs_opens.specs.declared.locking.OpenFault.TheVariants as F
 use Rattle.nfs_opens.specs.Table.{Table, Asked, open_at, lock_at, with_open}
-use Rattle.nfs_opens.specs.Kept.{IsTable}
+use Rattle.nfs_opens.specs.TableInvariants.{IsTable}
 use Rattle.nfs_opens.specs.Judging.{judge}
 use Rattle.nfs_opens.specs.Closing as closing
 use Rattle.nfs_opens.specs.Opening as opening

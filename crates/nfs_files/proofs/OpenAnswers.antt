@@ -19,7 +19,7 @@ use Rattle.nfs_tree.specs.Files.{Files, root, lookup, with_entries_changed}
 use Rattle.nfs_tree.specs.Calls.{is_regular_at}
 use Rattle.nfs_tree.specs.Create.{data_of, new_object}
 use Rattle.nfs_tree.specs.Bytes.{resized, with_resized}
-use Rattle.nfs_tree.specs.Kept.{IsTree}
+use Rattle.nfs_tree.specs.TreeInvariants.{IsTree}
 use Rattle.nfs_tree.proofs.Objects.{new_there}
 use Rattle.nfs_tree.proofs.Trees.{tree_changed}
 use Rattle.nfs_opens.specs.declared.stateid.StateId.{StateId}
@@ -28,14 +28,14 @@ use Rattle.nfs_names.specs.declared.context.Context.{Context}
 use Rattle.nfs_names.specs.declared.node.Node.{Node}
 use Rattle.nfs_names.specs.declared.making.Making.{Making}
 use Rattle.nfs_names.specs.State.{State, with_tree}
-use Rattle.nfs_names.specs.Kept.{IsStore}
+use Rattle.nfs_names.specs.StoreInvariants.{IsStore}
 use Rattle.nfs_names.specs.Outcome.{mapped, checked}
 use Rattle.nfs_names.specs.Checks.{node_at, current}
 use Rattle.nfs_attrs.specs.Mask.{mask_of}
 use Rattle.nfs_names.specs.Create.{attributes_in}
 use Rattle.nfs_names.proofs.Bounds.{IsAnswer, node_refuses, current_refuses, wanted_refuses}
 use Rattle.nfs_names.proofs.Found.{IsHeld, current_is, checked_ok, came, ok_is}
-use Rattle.nfs_names.proofs.Kept.{regular_same, store_new}
+use Rattle.nfs_names.proofs.StoreInvariants.{regular_same, store_new}
 use Rattle.nfs_names.proofs.Refusing.{Refuses, all_refuse, refuses_checked, refuses_mapped, refuses_then, err_refuses, ok_refuses, answers_with}
 use Rattle.nfs_names.proofs.Masks.{few_words}
 use Rattle.nfs_files.specs.declared.opening.Found.{Found}

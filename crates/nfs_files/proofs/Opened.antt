@@ -11,7 +11,7 @@ use Rattle.nfs_compound.specs.OpenArgs.{Open}
 use Rattle.nfs_tree.specs.declared.stored.Stored.{Stored}
 use Rattle.nfs_tree.specs.Object.{is_regular}
 use Rattle.nfs_tree.specs.Files.{Files, root, stored_in, is_there}
-use Rattle.nfs_tree.specs.Kept.{IsTree}
+use Rattle.nfs_tree.specs.TreeInvariants.{IsTree}
 use Rattle.nfs_tree.proofs.Objects.{stored_within}
 use Rattle.nfs_opens.specs.declared.records.OpenState.{OpenState}
 use Rattle.nfs_opens.specs.StateId.{last_number}
@@ -20,7 +20,7 @@ use Rattle.nfs_opens.specs.Opening.{own_open}
 use Rattle.nfs_opens.specs.Calls.{open_fault}
 use Rattle.nfs_names.specs.declared.context.Context.{Context}
 use Rattle.nfs_names.specs.State.{State, is_open}
-use Rattle.nfs_names.specs.Kept.{IsStore}
+use Rattle.nfs_names.specs.StoreInvariants.{IsStore}
 use Rattle.nfs_names.specs.Faults.{by_tree}
 use Rattle.nfs_names.proofs.Found.{or_fault, first_append}
 use Rattle.nfs_files.specs.declared.opening.Found.{Found}

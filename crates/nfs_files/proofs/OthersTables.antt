@@ -9,7 +9,7 @@ use Rattle.nfs_opens.specs.declared.records.OpenState.{OpenState}
 use Rattle.nfs_opens.specs.declared.records.LockState.{LockState}
 use Rattle.nfs_opens.specs.Holding.{FileHolders}
 use Rattle.nfs_opens.specs.Table.{Table, with_open, with_lock}
-use Rattle.nfs_opens.specs.Kept.{IsTable}
+use Rattle.nfs_opens.specs.TableInvariants.{IsTable}
 use Rattle.nfs_opens.specs.Closing.{stands, not_under, without_open, without_lock}
 use Rattle.nfs_names.specs.Ending.{table_staying}
 use Rattle.nfs_files.specs.Own.{HasAsBefore}

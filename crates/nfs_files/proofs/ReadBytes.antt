@@ -14,7 +14,7 @@ use Rattle.nfs_results.proofs.Lengths.{behind_within}
 use Rattle.nfs_tree.specs.declared.object.Object.{Object}
 use Rattle.nfs_tree.specs.declared.stored.Stored.{Stored}
 use Rattle.nfs_tree.specs.Files.{Files, stored_in, object_at, data_at}
-use Rattle.nfs_tree.specs.Kept.{IsTree}
+use Rattle.nfs_tree.specs.TreeInvariants.{IsTree}
 use Rattle.nfs_xdr.proofs.Lists.{find_in}
 use Rattle.nfs_names.specs.declared.context.Context.{Context}
 use Rattle.nfs_names.specs.declared.node.Node.{Node}

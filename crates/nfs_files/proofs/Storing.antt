@@ -9,7 +9,7 @@ use Rattle.nfs_opens.specs.declared.records.OpenState.{OpenState}
 use Rattle.nfs_opens.specs.Table.{Table, Asked}
 use Rattle.nfs_opens.specs.Opening.{own_open, joins, new_open, opens_by, opens}
 use Rattle.nfs_names.specs.State.{State, with_tree}
-use Rattle.nfs_names.specs.Kept.{IsStore}
+use Rattle.nfs_names.specs.StoreInvariants.{IsStore}
 
 abbrev pub open_in : List OpenState → ℕ → Bool
 open_in xs n = list_any (λ o. o.file == n) xs

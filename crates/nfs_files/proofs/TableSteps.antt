@@ -40,7 +40,7 @@ use Rattle.nfs_opens.proofs.HolderLemmas.{IsFewer, fewer_keeps}
 use Rattle.nfs_ranges.specs.declared.Kind.{Kind}
 use Rattle.nfs_opens.specs.StateId.{last_number}
 use Rattle.nfs_opens.specs.Table.{Table, Did, Asked, open_at, lock_at, with_lock, clashes_with}
-use Rattle.nfs_opens.specs.Kept.{IsTable}
+use Rattle.nfs_opens.specs.TableInvariants.{IsTable}
 use Rattle.nfs_opens.specs.Judging.{judge}
 use Rattle.nfs_opens.specs.Closing as closing
 use Rattle.nfs_opens.specs.Opening as opening
@@ -52,8 +52,8 @@ use Rattle.nfs_opens.proofs.StepLemmas.{table_join, table_narrow, no_clash_asked
 use Rattle.nfs_opens.proofs.LockLemmas.{judged_open, judged_lock}
 use Rattle.nfs_names.specs.declared.context.Context.{Context}
 use Rattle.nfs_names.specs.State.{State, is_open}
-use Rattle.nfs_names.specs.Kept.{IsStore}
-use Rattle.nfs_tree.specs.Kept.{IsTree}
+use Rattle.nfs_names.specs.StoreInvariants.{IsStore}
+use Rattle.nfs_tree.specs.TreeInvariants.{IsTree}
 use Rattle.nfs_names.specs.Ending.{with_opens, table_staying}
 use Rattle.nfs_names.specs.Outcome.{answers, checked, passed, or_delay, is_ok}
 use Rattle.nfs_names.proofs.Found.{checked_ok}

@@ -57,7 +57,7 @@ use Rattle.nfs_opens.specs.Share.{meets, joined}
 use Rattle.nfs_opens.specs.StateId.{last_number, next_seqid}
 use Rattle.nfs_opens.specs.Table.{Table, Did, Asked, is_own, is_owners, clashes_with, open_at, lock_at, with_open}
 use Rattle.nfs_opens.specs.Calls.{open_fault, open_checks}
-use Rattle.nfs_opens.specs.Kept.{IsTable}
+use Rattle.nfs_opens.specs.TableInvariants.{IsTable}
 use Rattle.nfs_opens.specs.Judging.{judge}
 use Rattle.nfs_opens.specs.Closing as closing
 use Rattle.nfs_opens.specs.Opening as opening

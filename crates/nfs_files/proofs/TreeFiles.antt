@@ -28,7 +28,7 @@ use Rattle.nfs_tree.specs.Files.{Files, root, has_row, stored_in, is_there, is_d
 use Rattle.nfs_tree.specs.Create.{new_tree}
 use Rattle.nfs_tree.specs.Bytes.{has_bytes}
 use Rattle.nfs_tree.specs.Calls.{write_fault, resize_fault, set_fault}
-use Rattle.nfs_tree.specs.Kept.{IsTree, IsSized}
+use Rattle.nfs_tree.specs.TreeInvariants.{IsTree, IsSized}
 use Rattle.nfs_tree.proofs.Trees.{tree_changed}
 use Rattle.nfs_tree.proofs.Sized.{tree_written, tree_resized}
 use Rattle.nfs_tree.proofs.RowsKept.{rows_same}
@@ -39,7 +39,7 @@ use Rattle.nfs_opens.specs.declared.judging.Sort.TheVariants.{OpenOnly}
 use Rattle.nfs_opens.specs.declared.locking.OpenFault.{OpenFault}
 use Rattle.nfs_opens.specs.declared.locking.OpenFault.TheVariants as F
 use Rattle.nfs_opens.specs.Table.{Table}
-use Rattle.nfs_opens.specs.Kept.{IsTable}
+use Rattle.nfs_opens.specs.TableInvariants.{IsTable}
 use Rattle.nfs_opens.specs.Judging.{judge}
 use Rattle.nfs_opens.specs.Closing as closing
 use Rattle.nfs_opens.specs.Opening as opening
@@ -47,11 +47,11 @@ use Rattle.nfs_opens.specs.Locking as locking
 use Rattle.nfs_names.specs.declared.context.Context.{Context}
 use Rattle.nfs_names.specs.declared.node.Node.{Node}
 use Rattle.nfs_names.specs.State.{State, moment, new_store, with_tree, is_open, is_used}
-use Rattle.nfs_names.specs.Kept.{IsStore, IsRooted}
+use Rattle.nfs_names.specs.StoreInvariants.{IsStore, IsRooted}
 use Rattle.nfs_names.specs.Ending.{with_opens, table_staying, only_used, staying}
 use Rattle.nfs_names.specs.Outcome.{Outcome, answers, checked, or_delay}
 use Rattle.nfs_names.specs.Checks.{current}
-use Rattle.nfs_names.proofs.Kept.{rooted, unused_empty}
+use Rattle.nfs_names.proofs.StoreInvariants.{rooted, unused_empty}
 use Rattle.nfs_names.proofs.Untouched.{by_answers, by_delay}
 use Rattle.nfs_files.specs.StateIds.{meant}
 use Rattle.nfs_files.specs.Target.{target}

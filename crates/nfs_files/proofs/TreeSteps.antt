@@ -17,7 +17,7 @@ use Rattle.nfs_tree.specs.declared.fault.TreeFault.{TreeFault}
 use Rattle.nfs_tree.specs.Files.{Files, root, has_row, has_entries, is_entry, lookup, named}
 use Rattle.nfs_tree.specs.Names.{Move, moves, with_moved, without_name}
 use Rattle.nfs_tree.specs.Calls.{link_fault, remove_fault, rename_fault, create_fault}
-use Rattle.nfs_tree.specs.Kept.{IsTree}
+use Rattle.nfs_tree.specs.TreeInvariants.{IsTree}
 use Rattle.nfs_tree.proofs.Trees.{tree_forgets, tree_removed, remove_granted}
 use Rattle.nfs_tree.proofs.Put.{tree_created, tree_linked}
 use Rattle.nfs_tree.proofs.Moved.{tree_moved}
@@ -25,7 +25,7 @@ use Rattle.nfs_names.specs.declared.context.Context.{Context}
 use Rattle.nfs_names.specs.declared.node.Node.{Node}
 use Rattle.nfs_names.specs.declared.making.Making.{Making}
 use Rattle.nfs_names.specs.State.{State, with_tree, is_open, is_used, without_unused}
-use Rattle.nfs_names.specs.Kept.{IsStore}
+use Rattle.nfs_names.specs.StoreInvariants.{IsStore}
 use Rattle.nfs_names.specs.Outcome.{Outcome, answers, checked, or_delay, is_ok}
 use Rattle.nfs_names.specs.Checks.{current, both}
 use Rattle.nfs_names.specs.Link as of_link
@@ -49,7 +49,7 @@ use Rattle.nfs_names.specs.RestoreFh.{restore_fh}
 use Rattle.nfs_names.specs.SaveFh.{save_fh}
 use Rattle.nfs_names.specs.SecinfoNoName.{secinfo_no_name}
 use Rattle.nfs_names.specs.Verify.{verify}
-use Rattle.nfs_names.proofs.Kept.{rooted, unused_empty}
+use Rattle.nfs_names.proofs.StoreInvariants.{rooted, unused_empty}
 use Rattle.nfs_names.proofs.Changing.{create_goes, create_stops, link_goes, link_stops, remove_goes, remove_stops}
 use Rattle.nfs_names.proofs.Renaming.{rename_goes, rename_stops, what_moves, replaced_empty}
 use Rattle.nfs_names.proofs.Untouched.{by_answers, by_delay}

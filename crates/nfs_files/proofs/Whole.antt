@@ -14,12 +14,12 @@ use Rattle.nfs_results.specs.Result.{Res}
 use Rattle.nfs_results.specs.Results.{refusal}
 use Rattle.nfs_names.specs.declared.context.Context.{Context}
 use Rattle.nfs_ranges.specs.declared.Held.{Held}
-use Rattle.nfs_opens.specs.Kept.{IsTable}
+use Rattle.nfs_opens.specs.TableInvariants.{IsTable}
 use Rattle.nfs_opens.specs.Locking.{test_lock}
 use Rattle.nfs_names.specs.State.{State}
-use Rattle.nfs_names.specs.Kept.{IsStore}
+use Rattle.nfs_names.specs.StoreInvariants.{IsStore}
 use Rattle.nfs_names.specs.Outcome.{Outcome, refuses, checked, answers, or_delay, is_ok}
-use Rattle.nfs_tree.specs.Kept.{IsTree}
+use Rattle.nfs_tree.specs.TreeInvariants.{IsTree}
 use Rattle.nfs_names.proofs.Found.{checked_ok}
 use Rattle.nfs_names.proofs.Bounds.{IsAnswer}
 use Rattle.nfs_files.specs.Operation.{one, grows, is_plain, comes_to, one_or_delay}

@@ -22,7 +22,7 @@ use Rattle.nfs_results.specs.Result.{Res, Refused, ReadOk, ResRead, ResWrite}
 use Rattle.nfs_results.specs.Results.{spell_result, refusal, done_head}
 use Rattle.nfs_results.proofs.Lengths.{length_head, length_spelled}
 use Rattle.nfs_tree.specs.Files.{root, is_there, data_at}
-use Rattle.nfs_tree.specs.Kept.{IsTree}
+use Rattle.nfs_tree.specs.TreeInvariants.{IsTree}
 use Rattle.nfs_tree.specs.Bytes.{has_bytes}
 use Rattle.nfs_tree.proofs.Objects.{stored_within}
 use Rattle.nfs_names.specs.declared.context.Context.{Context}

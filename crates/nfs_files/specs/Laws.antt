@@ -6,13 +6,13 @@ use Rattle.nfs_compound.specs.OpenArgs.{Open}
 use Rattle.nfs_compound.specs.Operation.{Item, OpLock}
 use Rattle.nfs_compound.specs.declared.op_num.OpNum.TheVariants as Op
 use Rattle.nfs_results.specs.Results.{spell_result}
-use Rattle.nfs_tree.specs.Kept.{IsTree}
+use Rattle.nfs_tree.specs.TreeInvariants.{IsTree}
 use Rattle.nfs_opens.specs.declared.locking.Wish.{Wish}
-use Rattle.nfs_opens.specs.Kept.{IsTable}
+use Rattle.nfs_opens.specs.TableInvariants.{IsTable}
 use Rattle.nfs_opens.specs.StateId.{last_number}
 use Rattle.nfs_names.specs.declared.context.Context.{Context}
 use Rattle.nfs_names.specs.State.{State}
-use Rattle.nfs_names.specs.Kept.{IsStore}
+use Rattle.nfs_names.specs.StoreInvariants.{IsStore}
 use Rattle.nfs_files.specs.Open.{open_file}
 use Rattle.nfs_files.specs.Operation.{one_or_delay, comes_to}
 use Rattle.nfs_files.specs.Ranges.{wished}

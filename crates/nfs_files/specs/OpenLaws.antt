@@ -5,7 +5,7 @@ use Rattle.nfs_compound.specs.OpenArgs.{Open}
 use Rattle.nfs_compound.specs.Operation.{OpOpen}
 use Rattle.nfs_compound.specs.declared.op_num.OpNum.TheVariants as Op
 use Rattle.nfs_results.specs.Results.{spell_result}
-use Rattle.nfs_opens.specs.Kept.{IsTable}
+use Rattle.nfs_opens.specs.TableInvariants.{IsTable}
 use Rattle.nfs_opens.specs.Opening.{own_open}
 use Rattle.nfs_opens.specs.StateId.{last_number}
 use Rattle.nfs_names.specs.declared.context.Context.{Context}

@@ -13,7 +13,7 @@ use Rattle.nfs_results.specs.Largest.{given}
 use Rattle.nfs_results.specs.Result.{OpenOk, ResOpen}
 use Rattle.nfs_results.specs.Results.{spell_result, done_head}
 use Rattle.nfs_tree.specs.Files.{Files, is_there, data_at, lookup}
-use Rattle.nfs_tree.specs.Kept.{IsTree}
+use Rattle.nfs_tree.specs.TreeInvariants.{IsTree}
 use Rattle.nfs_attrs.specs.declared.wanted.Wanted.{Wanted}
 use Rattle.nfs_names.specs.declared.context.Context.{Context}
 use Rattle.nfs_names.specs.State.{State}

@@ -2,7 +2,7 @@
 
 ghost use Rattle.std.specs.Prelude.{◌≡◌};
 ghost use Rattle.nfs_names.specs.State.{state_of};
-ghost use Rattle.nfs_names.specs.Kept.{IsRooted};
+ghost use Rattle.nfs_names.specs.StoreInvariants.{IsRooted};
 ghost use Rattle.nfs_names.specs.View.{outcome_of};
 ghost use Rattle.nfs_files.specs.Close as of_close;
 ghost use Rattle.nfs_files.specs.OpenDowngrade as of_downgrade;

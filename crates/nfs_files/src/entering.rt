@@ -10,7 +10,7 @@ ghost use Rattle.nfs_tree.specs.Calls.{new_of, DoesOrWants};
 ghost use Rattle.nfs_tree.specs.Files as files;
 ghost use Rattle.nfs_opens.specs.Calls as of_opens;
 ghost use Rattle.nfs_names.specs.State.{state_of};
-ghost use Rattle.nfs_names.specs.Kept.{IsStore, IsRooted};
+ghost use Rattle.nfs_names.specs.StoreInvariants.{IsStore, IsRooted};
 ghost use Rattle.nfs_names.specs.Outcome.{checked, mapped, is_delay};
 ghost use Rattle.nfs_names.specs.View.{outcome_of};
 ghost use Rattle.nfs_files.specs.Open as of_open;

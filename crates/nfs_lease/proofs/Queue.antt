@@ -9,7 +9,7 @@ use Rattle.std.proofs.lemmas.Option.{none-some, slice_get-get_or}
 use Rattle.std.proofs.lemmas.List.{take_all}
 use Rattle.std.proofs.lemmas.Bool.{cases_Bool, cases_eq, ne_eqb, eq-eqb, eqb-true, le-ltb}
 use Rattle.lru.specs.LruCache.{lru_cache, promoted, put_entries, last_entry}
-use Rattle.nfs_lease.specs.Renewals.{Kept, renewed_in, leases_of, with_lease, with_renewal, without_lease, is_out}
+use Rattle.nfs_lease.specs.Renewals.{KeptLeases, renewed_in, leases_of, with_lease, with_renewal, without_lease, is_out}
 use Rattle.nfs_lease.specs.Queue.{IsNextOut, IsLatest, IsUpTo, IsQueue}
 
 -- the test of a client's entry
@@ -56,7 +56,7 @@ queue_removed client (e ∷ es) q =
       | inr other ↦ rw other (none_removed client e.0 es q.2 q.0, up_to_removed client e.1 es q.2 q.1, queue_removed client es q.2)
     ]
 
-pub maps_removed : (client : ℕ) (k : Kept) → IsQueue k.renewals
+pub maps_removed : (client : ℕ) (k : KeptLeases) → IsQueue k.renewals
     → leases_of (record k { renewals = remove_entry (is_of client) k.renewals }) ≡ without_lease (leases_of k) client
 maps_removed client k q = ap (λ f. record { renewed = f; lease = k.duration }) (fun_ext (λ c. at_removed client c k.renewals q))
 
@@ -71,14 +71,14 @@ count_removed client (e ∷ es) =
 
 -- An entry that goes to the front.
 
-up_to_latest : (k : Kept) (now : ℕ) → IsLatest (leases_of k) now → IsUpTo now k.renewals
+up_to_latest : (k : KeptLeases) (now : ℕ) → IsLatest (leases_of k) now → IsUpTo now k.renewals
 up_to_latest k now is = by k.renewals refl
   where
     by : (es : List (ℕ × ℕ)) → es ≡ k.renewals → IsUpTo now es
     by [] e = tt
     by (x ∷ xs) e = is.each x.0 x.1 (ap (λ es. renewed_in es x.0) (sym e) ∙ rw (eq-eqb x.0 x.0 refl) refl)
 
-pub queue_front : (client now : ℕ) (k : Kept) → IsQueue k.renewals
+pub queue_front : (client now : ℕ) (k : KeptLeases) → IsQueue k.renewals
     → IsLatest (leases_of k) now → IsQueue ((client, now) ∷ remove_entry (is_of client) k.renewals)
 queue_front client now k q latest = (
   at_removed client client k.renewals q ∙ rw (eq-eqb client client refl) refl,
@@ -94,7 +94,7 @@ at_front client now c es q =
       | inr other ↦ rw other (at_removed client c es q ∙ rw other refl)
     ]
 
-pub maps_front : (client now : ℕ) (k : Kept) → IsQueue k.renewals
+pub maps_front : (client now : ℕ) (k : KeptLeases) → IsQueue k.renewals
     → leases_of (record k { renewals = (client, now) ∷ remove_entry (is_of client) k.renewals }) ≡ with_lease (leases_of k) client now
 maps_front client now k q = ap (λ f. record { renewed = f; lease = k.duration }) (fun_ext (λ c. at_front client now c k.renewals q))
 
@@ -134,25 +134,25 @@ put_front client now cap es few = by (lookup_entry (is_of client) es) refl
 abbrev pub renewed_to : ℕ → ℕ → List (ℕ × ℕ) → List (ℕ × ℕ)
 renewed_to client now es = set_value (is_of client) (promoted (is_of client) es) now
 
-pub record Renewed (client now : ℕ) (k : Kept) (es : List (ℕ × ℕ)) : Type 0 where
+pub record Renewed (client now : ℕ) (k : KeptLeases) (es : List (ℕ × ℕ)) : Type 0 where
   pub queue : IsQueue es
   pub map : leases_of (record k { renewals = es }) ≡ with_renewal (leases_of k) client now
 
 -- where there is no lease nothing moves
-pub rests : (client now : ℕ) (k : Kept) → renewed_in k.renewals client ≡ None → leases_of k ≡ with_renewal (leases_of k) client now
+pub rests : (client now : ℕ) (k : KeptLeases) → renewed_in k.renewals client ≡ None → leases_of k ≡ with_renewal (leases_of k) client now
 rests client now k none = ap (λ f. record { renewed = f; lease = k.duration }) (fun_ext (λ c. elim (cases_eq c client) [
   | inl is ↦ rw (eq-eqb c client is, is, none) refl
   | inr other ↦ rw (ne_eqb c client other) refl
 ]))
 
-renewal_some : (client now moment : ℕ) (k : Kept) → renewed_in k.renewals client ≡ Some moment
+renewal_some : (client now moment : ℕ) (k : KeptLeases) → renewed_in k.renewals client ≡ Some moment
     → with_lease (leases_of k) client now ≡ with_renewal (leases_of k) client now
 renewal_some client now moment k some = ap (λ f. record { renewed = f; lease = k.duration }) (fun_ext (λ c. elim (cases_eq c client) [
   | inl is ↦ rw (eq-eqb c client is, is, some) refl
   | inr other ↦ rw (ne_eqb c client other) refl
 ]))
 
-pub renews : (client now : ℕ) (k : Kept) → IsQueue k.renewals → IsLatest (leases_of k) now → Renewed client now k (renewed_to client now k.renewals)
+pub renews : (client now : ℕ) (k : KeptLeases) → IsQueue k.renewals → IsLatest (leases_of k) now → Renewed client now k (renewed_to client now k.renewals)
 renews client now k q latest = by (lookup_entry (is_of client) k.renewals) refl
   where
     front : ℕ × ℕ → List (ℕ × ℕ)
@@ -194,7 +194,7 @@ oldest (x ∷ y ∷ ys) e q last c moment there =
     ]
 
 -- the queue is empty
-pub none_out : (k : Kept) (now : ℕ) → last_entry k.renewals ≡ None → IsNextOut (leases_of k) now None
+pub none_out : (k : KeptLeases) (now : ℕ) → last_entry k.renewals ≡ None → IsNextOut (leases_of k) now None
 none_out k now none = by k.renewals none
   where
     by : (es : List (ℕ × ℕ)) → last_entry es ≡ None → (c : ℕ) → is_out k.duration now (renewed_in es c) ≡ false
@@ -202,12 +202,12 @@ none_out k now none = by k.renewals none
     by (x ∷ xs) e = absurd (none-some (get_or (x ∷ xs) (length (x ∷ xs) - 1) x) (sym e ∙ slice_get-get_or (x ∷ xs) (length (x ∷ xs) - 1) x (omega arith)))
 
 -- the oldest is out
-pub some_out : (k : Kept) (now client moment : ℕ) → IsQueue k.renewals → last_entry k.renewals ≡ Some (client, moment)
+pub some_out : (k : KeptLeases) (now client moment : ℕ) → IsQueue k.renewals → last_entry k.renewals ≡ Some (client, moment)
     → nat_lt k.duration (now - moment) ≡ true → IsNextOut (leases_of k) now (Some client)
 some_out k now client moment q last out = ap (is_out k.duration now) (last_found k.renewals (client, moment) q last) ∙ out
 
 -- the oldest is not, and no other
-pub not_out : (k : Kept) (now client moment : ℕ) → IsQueue k.renewals
+pub not_out : (k : KeptLeases) (now client moment : ℕ) → IsQueue k.renewals
     → last_entry k.renewals ≡ Some (client, moment) → now - moment ≤ k.duration → IsNextOut (leases_of k) now None
 not_out k now client moment q last within c = by (renewed_in k.renewals c) refl
   where

@@ -1,9 +1,9 @@
 -- The clients of a book in the order in which they run out, and which of them is looked at.
 use Rattle.std.specs.Prelude.{◌≡◌, ℕ, ◌≤◌, length, true, false, Option, Some, None, List, [], ◌∷◌}
-use Rattle.nfs_lease.specs.Renewals.{Kept, Book, renewed_in, has_run_out}
+use Rattle.nfs_lease.specs.Renewals.{KeptLeases, Book, renewed_in, has_run_out}
 
 -- how many leases stand
-abbrev pub standing : Kept → ℕ
+abbrev pub standing : KeptLeases → ℕ
 standing kept = length kept.renewals
 
 -- a client whose lease has run out; none where there is none

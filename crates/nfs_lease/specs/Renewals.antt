@@ -3,7 +3,7 @@ use Rattle.std.specs.Prelude.{ℕ, ◌-◌, ◌==◌, nat_lt, Bool, false, Optio
 use Rattle.std.specs.Map.{lookup}
 
 -- what a table keeps, each client with the moment of its last renewal, the newest first; other crates see it through `leases_of` and `standing` alone
-pub record Kept : Type 0 where
+pub record KeptLeases : Type 0 where
   pub renewals : List (ℕ × ℕ)
   pub duration : ℕ
 
@@ -15,7 +15,7 @@ pub record Book : Type 0 where
 abbrev pub renewed_in : List (ℕ × ℕ) → ℕ → Option ℕ
 renewed_in renewals client = lookup (λ c. client == c) renewals
 
-abbrev pub leases_of : Kept → Book
+abbrev pub leases_of : KeptLeases → Book
 leases_of kept = record { renewed = renewed_in kept.renewals; lease = kept.duration }
 
 abbrev pub no_leases : ℕ → Book

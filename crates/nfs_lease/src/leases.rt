@@ -19,10 +19,10 @@ pub struct Leases {
 
 impl Model for Leases {
     ghost use Rattle.std.specs.Prelude.{◌≡◌, ◌-◌, ◌^◌};
-    ghost use Rattle.nfs_lease.specs.Renewals.{Kept};
+    ghost use Rattle.nfs_lease.specs.Renewals.{KeptLeases};
     ghost use Rattle.nfs_lease.specs.Queue.{IsQueue};
 
-    ghost Value = { Kept };
+    ghost Value = { KeptLeases };
 
     ghost view = { λ t. record { renewals = t.renewals.entries; duration = t.lease } };
 

@@ -13,12 +13,12 @@ use Rattle.nfs_tree.specs.Names.{forget}
 use Rattle.nfs_tree.proofs.Objects.{stored_dropped}
 use Rattle.nfs_opens.specs.declared.records.OpenState.{OpenState}
 use Rattle.nfs_opens.specs.Table.{Table}
-use Rattle.nfs_opens.specs.Kept.{IsTable}
+use Rattle.nfs_opens.specs.TableInvariants.{IsTable}
 use Rattle.nfs_opens.proofs.IndexLemmas.{first_least, come_bounds}
 use Rattle.nfs_names.specs.State.{State, with_tree, is_open, is_used}
-use Rattle.nfs_names.specs.Kept.{IsRooted, IsStore}
+use Rattle.nfs_names.specs.StoreInvariants.{IsRooted, IsStore}
 use Rattle.nfs_names.specs.Ending.{table_staying, with_opens, without_opens, without_own, staying}
-use Rattle.nfs_names.proofs.Kept.{rooted, rooted_without}
+use Rattle.nfs_names.proofs.StoreInvariants.{rooted, rooted_without}
 use Rattle.nfs_names.proofs.Staying.{there_in, used_open, used_without, with_objects}
 
 abbrev pub others : ℕ → ℕ → Bool

@@ -5,7 +5,7 @@ pub mod Masks
 pub mod Rows
 pub mod Changing
 pub mod Renaming
-pub mod Kept
+pub mod StoreInvariants
 pub mod Bounds
 pub mod Whole
 pub mod Arms

@@ -14,11 +14,11 @@ use Rattle.nfs_opens.specs.declared.records.OpenState.{OpenState}
 use Rattle.nfs_opens.specs.declared.records.LockState.{LockState}
 use Rattle.nfs_opens.specs.Holding.{FileHolders}
 use Rattle.nfs_opens.specs.Table.{Table}
-use Rattle.nfs_opens.specs.Kept.{IsTable, IsHolder, AreHolders}
+use Rattle.nfs_opens.specs.TableInvariants.{IsTable, IsHolder, AreHolders}
 use Rattle.nfs_opens.specs.Closing.{stands, held_within}
 use Rattle.nfs_opens.proofs.LockLemmas.{same_table}
 use Rattle.nfs_names.specs.State.{State, with_tree, is_open, is_used, without_unused}
-use Rattle.nfs_names.specs.Kept.{IsStore}
+use Rattle.nfs_names.specs.StoreInvariants.{IsStore}
 use Rattle.nfs_names.specs.Ending.{has_open, table_staying, with_opens, only_used, staying}
 
 -- Locked bytes.

@@ -20,12 +20,12 @@ use Rattle.nfs_results.specs.ResultCodec.{IsBounded}
 use Rattle.nfs_results.proofs.Lengths.{length_result}
 use Rattle.nfs_xdr.specs.SheetState.{SheetState, HasRoom, Puts}
 use Rattle.std.proofs.lemmas.List.{length-append}
-use Rattle.nfs_tree.specs.Kept.{IsTree}
+use Rattle.nfs_tree.specs.TreeInvariants.{IsTree}
 use Rattle.nfs_tree.specs.Names.{moves}
 use Rattle.nfs_names.specs.declared.context.Context.{Context}
 use Rattle.nfs_names.specs.declared.node.Pair.{Pair}
 use Rattle.nfs_names.specs.State.{State}
-use Rattle.nfs_names.specs.Kept.{IsStore}
+use Rattle.nfs_names.specs.StoreInvariants.{IsStore}
 use Rattle.nfs_names.specs.Outcome.{Outcome, refuses, checked, answers, or_delay, is_ok}
 use Rattle.nfs_names.specs.Operation.{one, grows, on_names, is_on_names, comes_to, one_or_delay}
 use Rattle.nfs_names.specs.Access.{access}
@@ -48,7 +48,7 @@ use Rattle.nfs_names.specs.SaveFh.{save_fh}
 use Rattle.nfs_names.specs.SecinfoNoName.{secinfo_no_name}
 use Rattle.nfs_names.specs.Verify.{verify}
 use Rattle.nfs_names.proofs.Bounds as bound
-use Rattle.nfs_names.proofs.Kept.{store_new, store_link, store_removed, store_moved}
+use Rattle.nfs_names.proofs.StoreInvariants.{store_new, store_link, store_removed, store_moved}
 
 delay_may : (b : Bool) (s : State) (x : Context) (op : OpNum) (o : Outcome) (P : Res → Type 0)
     → P o.result → P (refusal (op_number op) Delay) → P (or_delay b s x op o).result

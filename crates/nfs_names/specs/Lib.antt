@@ -27,5 +27,5 @@ pub mod Operation
 pub mod Faults
 pub mod View
 pub mod Ending
-pub mod Kept
+pub mod StoreInvariants
 pub mod Lists

@@ -2,9 +2,9 @@
 
 ghost use Rattle.std.specs.Prelude.{◌≡◌, ◌==◌, false, not, find};
 ghost use Rattle.std.specs.Option.{option_map_or};
-ghost use Rattle.nfs_opens.specs.Kept.{IsTable};
+ghost use Rattle.nfs_opens.specs.TableInvariants.{IsTable};
 ghost use Rattle.nfs_names.specs.State.{state_of, is_open, is_used};
-ghost use Rattle.nfs_names.specs.Kept.{IsRooted, IsStore};
+ghost use Rattle.nfs_names.specs.StoreInvariants.{IsRooted, IsStore};
 ghost use Rattle.nfs_names.specs.Ending.{has_open, with_opens, without_opens, without_own, staying};
 
 use crate::store::Store;

@@ -9,7 +9,7 @@ ghost use Rattle.nfs_attrs.specs.Mask.{trimmed_words};
 ghost use Rattle.nfs_results.specs.View as view;
 ghost use Rattle.nfs_results.specs.Results.{status_of_result};
 ghost use Rattle.nfs_names.specs.State.{state_of};
-ghost use Rattle.nfs_names.specs.Kept.{IsRooted};
+ghost use Rattle.nfs_names.specs.StoreInvariants.{IsRooted};
 ghost use Rattle.nfs_names.specs.Outcome.{checked, is_delay};
 ghost use Rattle.nfs_names.specs.Operation.{one_or_delay};
 ghost use Rattle.nfs_names.specs.View.{outcome_of};

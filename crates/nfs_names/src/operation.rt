@@ -6,7 +6,7 @@ ghost use Rattle.nfs_results.specs.Largest.{largest};
 ghost use Rattle.nfs_results.specs.Results.{status_of_result};
 ghost use Rattle.nfs_results.specs.View as view;
 ghost use Rattle.nfs_names.specs.State.{state_of, moment};
-ghost use Rattle.nfs_names.specs.Kept.{IsRooted, IsStore};
+ghost use Rattle.nfs_names.specs.StoreInvariants.{IsRooted, IsStore};
 ghost use Rattle.nfs_names.specs.Comes.{Comes};
 ghost use Rattle.nfs_names.specs.Outcome.{is_delay};
 ghost use Rattle.nfs_names.specs.Operation.{on_names, is_plain, comes_to};

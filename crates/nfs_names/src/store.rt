@@ -3,7 +3,7 @@
 ghost use Rattle.std.specs.Prelude.{◌≡◌, false, IfOk};
 ghost use Rattle.nfs_tree.specs.Files.{has_row, has_entries};
 ghost use Rattle.nfs_names.specs.State.{state_of, new_store, is_open, is_used, without_unused};
-ghost use Rattle.nfs_names.specs.Kept.{IsRooted, IsStore, IsStoreBut};
+ghost use Rattle.nfs_names.specs.StoreInvariants.{IsRooted, IsStore, IsStoreBut};
 
 use nfs_opens::Opens;
 use nfs_tree::Tree;

@@ -10,7 +10,7 @@ use Rattle.nfs_opens.specs.declared.records.OpenState.{OpenState}
 use Rattle.nfs_opens.specs.Counts.{how_many, count_of, had, denied, without_one, reserved}
 use Rattle.nfs_opens.specs.Share.{meets}
 use Rattle.nfs_opens.specs.Table.{Table, Asked, is_owners, is_own, clashes_with}
-use Rattle.nfs_opens.specs.Kept.{IsTable, HasOneEach}
+use Rattle.nfs_opens.specs.TableInvariants.{IsTable, HasOneEach}
 use Rattle.nfs_opens.proofs.CountLemmas.{many_any, many_same}
 use Rattle.nfs_opens.proofs.CountedLemmas.{same_count, count_without}
 use Rattle.nfs_opens.proofs.ShareLemmas.{own_is}

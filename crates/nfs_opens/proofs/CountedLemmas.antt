@@ -10,7 +10,7 @@ use Rattle.nfs_opens.specs.declared.records.OpenState.{OpenState}
 use Rattle.nfs_opens.specs.declared.counts.Count.{Count}
 use Rattle.nfs_opens.specs.declared.counts.Counts.{Counts}
 use Rattle.nfs_opens.specs.Counts.{how_many, count_of, count_at, more, less, with_one, without_one, reserved, CountsAnew, AreCounted}
-use Rattle.nfs_opens.specs.Kept.{Rises}
+use Rattle.nfs_opens.specs.TableInvariants.{Rises}
 use Rattle.nfs_opens.proofs.CountLemmas.{less_without, more_pushed, other_with, many_there}
 
 pub same_count : (a b : Count) → a.opens ≡ b.opens → a.readers ≡ b.readers → a.writers ≡ b.writers → a.read_deniers ≡ b.read_deniers

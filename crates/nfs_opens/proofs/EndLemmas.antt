@@ -10,7 +10,7 @@ use Rattle.nfs_ranges.specs.declared.Kind.{Kind}
 use Rattle.nfs_opens.specs.declared.records.OpenState.{OpenState}
 use Rattle.nfs_opens.specs.declared.records.LockState.{LockState}
 use Rattle.nfs_opens.specs.Table.{Table}
-use Rattle.nfs_opens.specs.Kept.{IsTable}
+use Rattle.nfs_opens.specs.TableInvariants.{IsTable}
 use Rattle.nfs_opens.specs.Closing.{stands, held_within, not_under, without_open}
 use Rattle.nfs_opens.specs.Calls.{without_client}
 use Rattle.nfs_opens.proofs.LockLemmas.{same_table, some_or_none}

@@ -8,7 +8,7 @@ use Rattle.nfs_xdr.proofs.Lists.{find_in, any_in}
 use Rattle.nfs_opens.specs.declared.records.OpenState.{OpenState}
 use Rattle.nfs_opens.specs.Keys.{owner_key, open_key}
 use Rattle.nfs_opens.specs.Table.{Table, Asked, is_own}
-use Rattle.nfs_opens.specs.Kept.{IsTable}
+use Rattle.nfs_opens.specs.TableInvariants.{IsTable}
 use Rattle.nfs_opens.proofs.ShareLemmas.{own_is}
 use Rattle.nfs_opens.proofs.IndexLemmas.{any_begun, any_done, any_missed, come_bounds}
 

@@ -8,7 +8,7 @@ use Rattle.nfs_xdr.proofs.Tables.{in_bounds, in_once}
 use Rattle.nfs_ranges.specs.Holders.{dropped}
 use Rattle.nfs_opens.specs.declared.records.LockState.{LockState}
 use Rattle.nfs_opens.specs.Holding.{FileHolders, on_file}
-use Rattle.nfs_opens.specs.Kept.{Rises}
+use Rattle.nfs_opens.specs.TableInvariants.{Rises}
 use Rattle.nfs_opens.specs.Calls.{held_without}
 use Rattle.nfs_opens.proofs.LockLemmas.{without_none_leaves}
 

@@ -26,7 +26,7 @@ use Rattle.nfs_xdr.specs.Tables.{In}
 use Rattle.nfs_xdr.proofs.Lists.{any_in, in_filter, stays_in, none_any, in_any}
 use Rattle.nfs_xdr.proofs.Tables.{in_once}
 use Rattle.nfs_opens.specs.Table.{Table, open_at, lock_at}
-use Rattle.nfs_opens.specs.Kept.{IsTable, IsHolder, AreHolders}
+use Rattle.nfs_opens.specs.TableInvariants.{IsTable, IsHolder, AreHolders}
 use Rattle.nfs_opens.specs.Closing.{stands, held_within}
 use Rattle.nfs_opens.specs.Calls.{held_without}
 use Rattle.nfs_opens.proofs.FileLemmas.{file_here, file_other, on_file_same}

@@ -12,7 +12,7 @@ use Rattle.nfs_opens.specs.declared.records.LockState.{LockState}
 use Rattle.nfs_opens.specs.Holding.{is_listed, ListsNoMore}
 use Rattle.nfs_opens.specs.Locking.{is_locker, raised}
 use Rattle.nfs_opens.specs.Table.{Table, open_at, lock_at}
-use Rattle.nfs_opens.specs.Kept.{IsTable, AreListed}
+use Rattle.nfs_opens.specs.TableInvariants.{IsTable, AreListed}
 use Rattle.nfs_opens.specs.Keys.{owner_key, lock_key}
 use Rattle.nfs_opens.proofs.ShareLemmas.{owner_bytes}
 use Rattle.nfs_opens.proofs.StepLemmas.{all_some, if_some}

@@ -12,7 +12,7 @@ use Rattle.nfs_xdr.proofs.Lists.{find_none, filter_all, in_push}
 use Rattle.nfs_xdr.proofs.Tables.{IsRising-below, IsRising-from, IsRising-map, IsRising-filter, in_bounds}
 use Rattle.nfs_opens.specs.Flat.{flat, last_of, front_of, rest_of}
 use Rattle.nfs_opens.specs.ByNumber.{ends_below, AreRising}
-use Rattle.nfs_opens.specs.Kept.{Rises}
+use Rattle.nfs_opens.specs.TableInvariants.{Rises}
 use Rattle.nfs_opens.proofs.FlatLemmas.{in_either, in_flat, last_among, block_in, around, set_around, removed_around, in_set, all_front, removed_set, rest_last, flat_push, last_got}
 use Rattle.nfs_opens.proofs.IndexLemmas.{removed_in}
 

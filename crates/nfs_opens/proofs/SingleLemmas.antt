@@ -6,7 +6,7 @@ use Rattle.nfs_xdr.specs.Tables.{In}
 use Rattle.nfs_xdr.proofs.Lists.{in_filter, in_map, in_push, none_in}
 use Rattle.nfs_opens.specs.declared.records.OpenState.{OpenState}
 use Rattle.nfs_opens.specs.Table.{Asked, is_own}
-use Rattle.nfs_opens.specs.Kept.{HasOneEach, whose}
+use Rattle.nfs_opens.specs.TableInvariants.{HasOneEach, whose}
 use Rattle.nfs_opens.proofs.ShareLemmas.{are_owners}
 
 pub each_none : HasOneEach []

@@ -20,7 +20,7 @@ use Rattle.nfs_xdr.specs.declared.status.Status.{Status}
 use Rattle.nfs_xdr.proofs.Lists.{find_in, in_push, push_in, last_in}
 use Rattle.nfs_xdr.proofs.Tables.{IsRising-push, in_once, IsRising-upto, in_bounds}
 use Rattle.nfs_opens.specs.Holding.{FileHolders, on_file}
-use Rattle.nfs_opens.specs.Kept.{HasNoByteBehind, IsTable, IsHolder}
+use Rattle.nfs_opens.specs.TableInvariants.{HasNoByteBehind, IsTable, IsHolder}
 use Rattle.nfs_opens.specs.StateId.{next_seqid, last_number}
 use Rattle.nfs_opens.specs.Table.{Table, open_at, lock_at, with_open, with_lock, Asked, is_own, clashes_with}
 use Rattle.nfs_opens.specs.Closing.{without_lock}

@@ -15,7 +15,7 @@ use Rattle.nfs_opens.specs.declared.records.OpenState.{OpenState}
 use Rattle.nfs_opens.specs.declared.records.LockState.{LockState}
 use Rattle.nfs_opens.specs.Holding.{FileHolders, on_file}
 use Rattle.nfs_opens.specs.Table.{Table, Asked, clashes_with, as_asked, with_open, with_lock, no_opens}
-use Rattle.nfs_opens.specs.Kept.{IsTable, IsHolder, AreHolders}
+use Rattle.nfs_opens.specs.TableInvariants.{IsTable, IsHolder, AreHolders}
 use Rattle.nfs_opens.specs.Opening.{new_open, joins, narrows, is_narrower}
 use Rattle.nfs_opens.specs.Closing.{stands, held_within, not_under, without_open, without_lock}
 use Rattle.nfs_opens.specs.Locking.{raised}

@@ -2,7 +2,7 @@
 use Rattle.std.specs.Prelude.{◌≡◌, ◌≢◌, ℕ, ◌<◌, nat_lt, Bool, true, length, List, [], ◌∷◌, Option, IfSome}
 use Rattle.nfs_xdr.specs.Tables.{In}
 use Rattle.nfs_opens.specs.Flat.{flat, last_of}
-use Rattle.nfs_opens.specs.Kept.{Rises}
+use Rattle.nfs_opens.specs.TableInvariants.{Rises}
 
 -- the states, and whether there is room for one more
 pub record Numbered (X : Type 0) : Type 0 where

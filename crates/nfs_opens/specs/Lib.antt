@@ -14,4 +14,4 @@ pub mod Share
 pub mod StateId
 pub mod Table
 pub mod Calls
-pub mod Kept
+pub mod TableInvariants

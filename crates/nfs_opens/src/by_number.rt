@@ -7,7 +7,7 @@ ghost use Rattle.nfs_xdr.specs.Tables.{In};
 ghost use Rattle.nfs_opens.specs.Index.{IsIndex};
 ghost use Rattle.nfs_opens.specs.Flat.{flat};
 ghost use Rattle.nfs_opens.specs.ByNumber.{ends_below, AreRising};
-ghost use Rattle.nfs_opens.specs.Kept.{Rises};
+ghost use Rattle.nfs_opens.specs.TableInvariants.{Rises};
 
 use crate::blocks::Index;
 use crate::index::{Entry, Sought, item_at};

@@ -5,7 +5,7 @@ ghost use Rattle.std.specs.List.{list_any};
 ghost use Rattle.nfs_ranges.specs.Holders.{dropped};
 ghost use Rattle.nfs_opens.specs.Holding.{held_by, on_file, is_listed, ListsNoMore};
 ghost use Rattle.nfs_opens.specs.Table.{table, open_at, lock_at};
-ghost use Rattle.nfs_opens.specs.Kept.{AreHolders};
+ghost use Rattle.nfs_opens.specs.TableInvariants.{AreHolders};
 ghost use Rattle.nfs_opens.specs.Closing.{without_open, close, free_lock, free};
 ghost use Rattle.nfs_opens.specs.Calls.{without_client, drop_client, held_without};
 

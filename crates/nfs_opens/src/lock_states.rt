@@ -5,7 +5,7 @@ ghost use Rattle.std.specs.Option.{option_copied};
 ghost use Rattle.std.specs.List.{list_any};
 ghost use Rattle.nfs_xdr.specs.Tables.{In};
 ghost use Rattle.nfs_opens.specs.Keys.{lock_key, key_of};
-ghost use Rattle.nfs_opens.specs.Kept.{Rises};
+ghost use Rattle.nfs_opens.specs.TableInvariants.{Rises};
 ghost use Rattle.nfs_opens.specs.Locking.{raised};
 
 use crate::blocks::Index;
@@ -33,7 +33,7 @@ pub(crate) struct LockStates {
 impl Model for LockStates {
     ghost use Rattle.std.specs.Prelude.{◌&&◌};
     ghost use Rattle.nfs_opens.specs.ByNumber.{Numbered};
-    ghost use Rattle.nfs_opens.specs.Kept.{AreLocks};
+    ghost use Rattle.nfs_opens.specs.TableInvariants.{AreLocks};
     ghost use Rattle.nfs_opens.specs.declared.records.LockState.{LockState};
 
     ghost Value = { Numbered LockState };

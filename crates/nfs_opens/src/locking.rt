@@ -5,7 +5,7 @@ ghost use Rattle.std.specs.Option.{option_copied};
 ghost use Rattle.nfs_opens.specs.declared.locking.OpenFault.TheVariants.{Refused, Memory};
 ghost use Rattle.nfs_ranges.specs.Holders.{cleared};
 ghost use Rattle.nfs_opens.specs.Holding.{held_by, on_file, ListsNoMore};
-ghost use Rattle.nfs_opens.specs.Kept.{HasNoByteBehind, IsTable};
+ghost use Rattle.nfs_opens.specs.TableInvariants.{HasNoByteBehind, IsTable};
 ghost use Rattle.nfs_opens.specs.Table.{table, open_at, lock_at};
 ghost use Rattle.nfs_opens.specs.Locking.{lock_as, lock_first, lock_judged, unlock, test_lock, clash, permits, access_in, state_of};
 ghost use Rattle.nfs_opens.specs.Calls.{LocksOrWants, UnlocksOrWants, lock, is_whole};

@@ -3,7 +3,7 @@
 ghost use Rattle.std.specs.Prelude.{◌≡◌, ◌≢◌, ◌==◌, ◌&&◌, ◌<◌, ◌≤◌, ◌++◌, ◌∷◌, [], true, not, length, find, filter, map, nat_lt, if◌then◌else◌, OnOk};
 ghost use Rattle.std.specs.Option.{option_copied};
 ghost use Rattle.nfs_xdr.specs.Tables.{In};
-ghost use Rattle.nfs_opens.specs.Kept.{HasOneEach, whose};
+ghost use Rattle.nfs_opens.specs.TableInvariants.{HasOneEach, whose};
 ghost use Rattle.nfs_opens.specs.Keys.{open_key, key_of};
 ghost use Rattle.nfs_opens.specs.Counts.{AreCounted, count_of, has_room};
 ghost use Rattle.nfs_opens.specs.StateId.{last_number};
@@ -36,7 +36,7 @@ pub(crate) struct OpenStates {
 impl Model for OpenStates {
     ghost use Rattle.std.specs.Prelude.{◌&&◌};
     ghost use Rattle.nfs_opens.specs.ByNumber.{Numbered};
-    ghost use Rattle.nfs_opens.specs.Kept.{AreOpens};
+    ghost use Rattle.nfs_opens.specs.TableInvariants.{AreOpens};
     ghost use Rattle.nfs_opens.specs.Counts.{has_room};
     ghost use Rattle.nfs_opens.specs.declared.records.OpenState.{OpenState};
 

@@ -6,7 +6,7 @@ ghost use Rattle.std.specs.List.{list_any};
 ghost use Rattle.nfs_xdr.specs.Checks.{judged};
 ghost use Rattle.nfs_opens.specs.Table.{table, is_owners, clashes_with};
 ghost use Rattle.nfs_opens.specs.Counts.{count_of};
-ghost use Rattle.nfs_opens.specs.Kept.{IsTable};
+ghost use Rattle.nfs_opens.specs.TableInvariants.{IsTable};
 ghost use Rattle.nfs_opens.specs.Opening.{opens, own_open, downgrade};
 ghost use Rattle.nfs_opens.specs.Calls.{asked, open_fault};
 ghost use Rattle.nfs_opens.specs.Keys.{key_of, owner_key};

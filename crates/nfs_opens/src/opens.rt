@@ -4,7 +4,7 @@ ghost use Rattle.std.specs.Prelude.{◌≡◌, ◌==◌, ◌&&◌, not, length, 
 ghost use Rattle.std.specs.Option.{option_copied};
 ghost use Rattle.std.specs.List.{list_any};
 ghost use Rattle.nfs_opens.specs.Table.{table, no_opens, open_at, lock_at};
-ghost use Rattle.nfs_opens.specs.Kept.{IsTable};
+ghost use Rattle.nfs_opens.specs.TableInvariants.{IsTable};
 ghost use Rattle.nfs_opens.specs.Keys.{open_key, lock_key, key_of};
 ghost use Rattle.nfs_opens.specs.Share.{bits_of};
 
@@ -31,7 +31,7 @@ pub struct Opens {
 }
 
 impl Model for Opens {
-    ghost use Rattle.nfs_opens.specs.Kept.{IsKept};
+    ghost use Rattle.nfs_opens.specs.TableInvariants.{IsKept};
     ghost use Rattle.nfs_opens.specs.Table.{Kept};
 
     ghost Value = { Kept };

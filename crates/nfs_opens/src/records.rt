@@ -96,7 +96,7 @@ pub(crate) trait OpenChange: Change<OpenState> {
     ghost use Rattle.std.specs.Prelude.{◌≡◌};
     ghost use Rattle.nfs_opens.specs.declared.records.OpenState.{OpenState};
     ghost use Rattle.nfs_opens.specs.Counts.{reserved};
-    ghost use Rattle.nfs_opens.specs.Kept.{whose};
+    ghost use Rattle.nfs_opens.specs.TableInvariants.{whose};
 
     /// What the open has and denies then.
     fn reserves(&self, state: &OpenState) -> Reservation

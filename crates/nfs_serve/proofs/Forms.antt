@@ -22,7 +22,7 @@ use Rattle.nfs_serve.specs.Talk.{SpeaksUntil}
 use Rattle.nfs_serve.specs.Hub.{at}
 use Rattle.nfs_serve.specs.Endpoint.{Server, Arrival, stepped, ran}
 use Rattle.nfs_serve.specs.Seen.{server}
-use Rattle.nfs_serve.specs.Points.{all_next}
+use Rattle.nfs_serve.specs.Points.{state_after_all}
 use Rattle.nfs_serve.specs.Forms.{record_of, records_of, LeavesOf, AllRun, FrontRuns, RunUpTo, EachFormRunsRecords}
 use Rattle.nfs_serve.proofs.Moves.{events-append, after-append, output-last, TakesAll-more}
 use Rattle.nfs_serve.proofs.Pieces.{start_holds}
@@ -45,7 +45,7 @@ runs_on s m [] records = refl
 runs_on s m (a ∷ more) records = runs_on s (stepped s m a).state more records
 
 points_are : (mode instance lease : ℕ) (s : State) (records : List Arrival)
-    → ran (server mode instance lease) s records ≡ all_next s records
+    → ran (server mode instance lease) s records ≡ state_after_all s records
 points_are mode instance lease s [] = refl
 points_are mode instance lease s (a ∷ more) = points_are mode instance lease (step s a.bytes a.now a.choice).state more
 

@@ -22,7 +22,7 @@ use Rattle.nfs_exec.specs.Ops.{RanOp}
 use Rattle.nfs_exec.specs.LockHeld.{LocksFor, Spares, AreSpared, IsAlone}
 use Rattle.nfs_serve.specs.Step.{State}
 use Rattle.nfs_serve.specs.Endpoint.{Arrival}
-use Rattle.nfs_serve.specs.Points.{next, all_next, taken, before, ops_of}
+use Rattle.nfs_serve.specs.Points.{state_after, state_after_all, taken, before, ops_of}
 use Rattle.nfs_serve.specs.LockKept.{renews_by, AreInTime}
 use Rattle.nfs_serve.specs.HeldLock as worked
 use Rattle.nfs_serve.specs.HeldLock.{start, locks, last_of, IsHeldTo, AreBothTold}
@@ -109,8 +109,8 @@ in_time k owner lease last s (c ∷ more) =
     nat_le (taken s c) (last + lease)
     && (all_spare (ops_of s c)
     && (all_own k.client owner (before s c).clients.records
-    && (all_own k.client owner (next s c).machine.clients.records
-    && in_time k owner lease (if renews_by k.client s c then taken s c else last) (next s c) more)))
+    && (all_own k.client owner (state_after s c).machine.clients.records
+    && in_time k owner lease (if renews_by k.client s c then taken s c else last) (state_after s c) more)))
 
 are_in_time : (k : LockTold) (owner : List ℕ) (lease last : ℕ) (s : State) (cs : List Arrival) → in_time k owner lease last s cs ≡ true
     → AreInTime k lease last s cs (λ last t. Unit {0})
@@ -122,20 +122,20 @@ are_in_time k owner lease last s (c ∷ more) e =
     let t = and_parts _ _ r.1 in (
       leb-true _ _ p.0,
       all_spared k (ops_of s c) q.0,
-      alone k.client owner (before s c) (next s c).machine r.0 t.0,
-      are_in_time k owner lease (if renews_by k.client s c then taken s c else last) (next s c) more t.1,
+      alone k.client owner (before s c) (state_after s c).machine r.0 t.0,
+      are_in_time k owner lease (if renews_by k.client s c then taken s c else last) (state_after s c) more t.1,
     )
 
 -- and up to what holds behind them
 abbrev pub last_of_all : ℕ → ℕ → State → List Arrival → ℕ
 last_of_all client last s [] = last
-last_of_all client last s (c ∷ more) = last_of_all client (if renews_by client s c then taken s c else last) (next s c) more
+last_of_all client last s (c ∷ more) = last_of_all client (if renews_by client s c then taken s c else last) (state_after s c) more
 
 up_to : (k : LockTold) (lease last : ℕ) (s : State) (cs : List Arrival) (Then : ℕ → State → Type 0) → AreInTime k lease last s cs (λ last t. Unit {0})
-    → Then (last_of_all k.client last s cs) (all_next s cs) → AreInTime k lease last s cs Then
+    → Then (last_of_all k.client last s cs) (state_after_all s cs) → AreInTime k lease last s cs Then
 up_to k lease last s [] Then all holds = holds
 up_to k lease last s (c ∷ more) Then all holds =
-    (all.0, all.1, all.2, up_to k lease (if renews_by k.client s c then taken s c else last) (next s c) more Then all.3 holds)
+    (all.0, all.1, all.2, up_to k lease (if renews_by k.client s c then taken s c else last) (state_after s c) more Then all.3 holds)
 
 pub three : (x : RanOp) (ds : List RanOp) → length ds ≡ 3 → ds ≡ take 2 ds ++ last_of x ds ∷ []
 three x [] e = absurd (omega arith)

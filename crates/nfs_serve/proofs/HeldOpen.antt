@@ -9,7 +9,7 @@ use Rattle.nfs_exec.specs.Ops.{RanOp}
 use Rattle.nfs_exec.specs.OpenHeld.{NoneCloses, bits_left}
 use Rattle.nfs_serve.specs.Step.{State}
 use Rattle.nfs_serve.specs.Endpoint.{Arrival}
-use Rattle.nfs_serve.specs.Points.{next, all_next, taken, before, ops_of}
+use Rattle.nfs_serve.specs.Points.{state_after, state_after_all, taken, before, ops_of}
 use Rattle.nfs_serve.specs.LockKept.{renews_by}
 use Rattle.nfs_serve.specs.OpenKept.{LeaveOpen}
 use Rattle.nfs_serve.specs.HeldLock as locks
@@ -49,15 +49,15 @@ in_time client owner lease last s (c ∷ more) =
     nat_le (taken s c) (last + lease)
     && (none_is_close (ops_of s c)
     && (all_own client owner (before s c).clients.records
-    && (all_own client owner (next s c).machine.clients.records
-    && in_time client owner lease (if renews_by client s c then taken s c else last) (next s c) more)))
+    && (all_own client owner (state_after s c).machine.clients.records
+    && in_time client owner lease (if renews_by client s c then taken s c else last) (state_after s c) more)))
 
 abbrev bits_of_all : ℕ → Bits → State → List Arrival → Bits
 bits_of_all n b s [] = b
-bits_of_all n b s (c ∷ more) = bits_of_all n (bits_left n b (ops_of s c)) (next s c) more
+bits_of_all n b s (c ∷ more) = bits_of_all n (bits_left n b (ops_of s c)) (state_after s c) more
 
 leave_open : (k : OpenTold) (owner : List ℕ) (b : Bits) (lease last : ℕ) (s : State) (cs : List Arrival) (Then : Bits → ℕ → State → Type 0)
-    → in_time k.client owner lease last s cs ≡ true → Then (bits_of_all k.number b s cs) (last_of_all k.client last s cs) (all_next s cs)
+    → in_time k.client owner lease last s cs ≡ true → Then (bits_of_all k.number b s cs) (last_of_all k.client last s cs) (state_after_all s cs)
     → LeaveOpen k b lease last s cs Then
 leave_open k owner b lease last s [] Then e holds = holds
 leave_open k owner b lease last s (c ∷ more) Then e holds =
@@ -67,8 +67,8 @@ leave_open k owner b lease last s (c ∷ more) Then e holds =
     let t = and_parts _ _ r.1 in (
       leb-true _ _ p.0,
       none_closes k (ops_of s c) q.0,
-      alone k.client owner (before s c) (next s c).machine r.0 t.0,
-      leave_open k owner (bits_left k.number b (ops_of s c)) lease (if renews_by k.client s c then taken s c else last) (next s c) more Then t.1 holds,
+      alone k.client owner (before s c) (state_after s c).machine r.0 t.0,
+      leave_open k owner (bits_left k.number b (ops_of s c)) lease (if renews_by k.client s c then taken s c else last) (state_after s c) more Then t.1 holds,
     )
 
 two : (x : RanOp) (ds : List RanOp) → length ds ≡ 2 → ds ≡ take 1 ds ++ last_of x ds ∷ []

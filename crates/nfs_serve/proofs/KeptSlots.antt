@@ -38,7 +38,7 @@ use Rattle.nfs_sessions.specs.Id.{id_of}
 use Rattle.nfs_sessions.specs.SessionSlots.{GrantedSlots, judge, kept}
 use Rattle.nfs_sessions.specs.SessionSlots as slots
 use Rattle.nfs_sessions.specs.Sessions.{Session, SessionTable, session_at, keep}
-use Rattle.nfs_sessions.specs.Kept.{IsSessions}
+use Rattle.nfs_sessions.specs.SessionTables.{IsSessions}
 use Rattle.nfs_sessions.proofs.TableLemmas.{slots_changed, sessions_filtered}
 use Rattle.nfs_exec.specs.Machine.{Machine}
 use Rattle.nfs_exec.specs.Sequence as sequence

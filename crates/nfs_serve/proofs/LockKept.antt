@@ -19,21 +19,21 @@ use Rattle.nfs_exec.proofs.Lasting.{Lasts, ten, compound_lasts, event_told}
 use Rattle.nfs_exec.proofs.WholeRun.{Is}
 use Rattle.nfs_serve.specs.Step.{State, new_state}
 use Rattle.nfs_serve.specs.Endpoint.{Arrival}
-use Rattle.nfs_serve.specs.Points.{next, all_next, reached, taken, before, asked_by, ops_of}
+use Rattle.nfs_serve.specs.Points.{state_after, state_after_all, reached, taken, before, asked_by, ops_of}
 use Rattle.nfs_serve.specs.LockKept.{renews_by, StaysHeld, AreInTime, LockKept, OnlyOneIsTold, LeaseIsTold, EachIsTold}
 use Rattle.nfs_serve.proofs.Points.{left, for_asked, next_is, IsSound, whole_before, sound_all, sound_new}
 use Rattle.nfs_serve.proofs.Staying.{Stays, stays_before, stays_next, stays_from}
 
 -- What attribute 10 says is how long a lease lasts.
 
-lasts_next : (s : State) (c : Arrival) (lease : ℕ) → Lasts lease s.machine → Lasts lease (next s c).machine
+lasts_next : (s : State) (c : Arrival) (lease : ℕ) → Lasts lease s.machine → Lasts lease (state_after s c).machine
 lasts_next s c lease is =
     subst (λ (s : State). Lasts lease s.machine) (sym (next_is s c))
     (for_asked (λ o. Lasts lease (left (before s c) o)) s c is (λ r who. compound_lasts (before s c) r who (length c.bytes) (taken s c) c.choice lease is))
 
-lasts_all : (s : State) (records : List Arrival) (lease : ℕ) → Lasts lease s.machine → Lasts lease (all_next s records).machine
+lasts_all : (s : State) (records : List Arrival) (lease : ℕ) → Lasts lease s.machine → Lasts lease (state_after_all s records).machine
 lasts_all s [] lease is = is
-lasts_all s (c ∷ more) lease is = lasts_all (next s c) more lease (lasts_next s c lease is)
+lasts_all s (c ∷ more) lease is = lasts_all (state_after s c) more lease (lasts_next s c lease is)
 
 asked_told : (m : Machine) (o : Option MachineEvent) (lease : ℕ) → Is m → Lasts lease m → (d : RanOp) → In d (option_map_or (ops_by m) o [])
     → d.item ≡ Operation (OpGetAttr ten) → is_ok d.status ≡ true → d.result ≡ spell_result (ResGetAttr (record { attrmask = ten; attr_vals = number lease }))
@@ -64,7 +64,7 @@ through k lease last s c some lives within =
     (λ r who. lock_through k (before s c) (Asks r who (length c.bytes) (taken s c) c.choice) (whole_before s c lives.sound.whole) some stands)
 
 lives_next : (k : LockTold) (lease last : ℕ) (s : State) (c : Arrival) → k.first ≤ k.last → Lives k lease last s → taken s c ≤ last + lease
-    → AreSpared k (ops_of s c) → IsAlone k.client (before s c) (next s c).machine → Lives k lease (cond (renews_by k.client s c) (taken s c) last) (next s c)
+    → AreSpared k (ops_of s c) → IsAlone k.client (before s c) (state_after s c).machine → Lives k lease (cond (renews_by k.client s c) (taken s c) last) (state_after s c)
 lives_next k lease last s c some lives within spared alone =
     stays_next k.client lease last (Stands k) (Stands k) s c lives ((through k lease last s c some lives within).1 spared
     (subst (IsAlone k.client (before s c)) (ap (λ (s : State). s.machine) (next_is s c)) alone))
@@ -76,7 +76,7 @@ stays k lease last s (c ∷ more) some lives = (
   λ within. (
     (through k lease last s c some lives within).0,
     λ spared alone.
-        stays k lease (cond (renews_by k.client s c) (taken s c) last) (next s c) more some (lives_next k lease last s c some lives within spared alone),
+        stays k lease (cond (renews_by k.client s c) (taken s c) last) (state_after s c) more some (lives_next k lease last s c some lives within spared alone),
   ),
 )
 
@@ -95,7 +95,7 @@ told_left k m (Some event) front lock back is e tells =
 
 pub told_lives : (mode instance lease : ℕ) (earlier : List Arrival) (c : Arrival) (k : LockTold) (front : List RanOp) (lock : RanOp) (back : List RanOp)
     → (let s = reached mode instance lease earlier in
-    ops_of s c ≡ front ++ lock ∷ back → Tells k lock → StandsWhile k back × (AreSpared k back → Lives k lease (taken s c) (next s c)))
+    ops_of s c ≡ front ++ lock ∷ back → Tells k lock → StandsWhile k back × (AreSpared k back → Lives k lease (taken s c) (state_after s c)))
 told_lives mode instance lease earlier c k front lock back e tells =
     let s = reached mode instance lease earlier in
     let sound : IsSound s = sound_all (new_state mode instance lease) earlier (sound_new mode instance lease) in
@@ -106,7 +106,7 @@ pub lock_kept : LockKept
 lock_kept mode instance lease earlier c k front lock back e tells =
     let s = reached mode instance lease earlier in
     let told = told_lives mode instance lease earlier c k front lock back e tells in
-    (told.0, λ spared more. stays k lease (taken s c) (next s c) more tells.range.1 (told.1 spared))
+    (told.0, λ spared more. stays k lease (taken s c) (state_after s c) more tells.range.1 (told.1 spared))
 
 -- Of two LOCKs that clash only one is told.
 
@@ -122,14 +122,14 @@ up_to : (k : LockTold) (lease last : ℕ) (s : State) (records : List Arrival) (
     → AreInTime k lease last s records Then → (to : ℕ) × (t : State) × Lives k lease to t × Then to t
 up_to k lease last s [] Then some lives all = (last, s, lives, all)
 up_to k lease last s (c ∷ more) Then some lives all =
-    up_to k lease (cond (renews_by k.client s c) (taken s c) last) (next s c) more Then some (lives_next k lease last s c some lives all.0 all.1 all.2) all.3
+    up_to k lease (cond (renews_by k.client s c) (taken s c) last) (state_after s c) more Then some (lives_next k lease last s c some lives all.0 all.1 all.2) all.3
 
 pub only_one : OnlyOneIsTold
 only_one mode instance lease earlier c k front first back between d until second behind n w e tells spared all locks clash =
     let s = reached mode instance lease earlier in
     let some = tells.range.1 in
     let lives = (told_lives mode instance lease earlier c k front first back e tells).1 spared in
-    let (last, t, there, then) = up_to k lease (taken s c) (next s c) between
+    let (last, t, there, then) = up_to k lease (taken s c) (state_after s c) between
     (λ last t. (ops_of t d ≡ until ++ second ∷ behind) × (taken t d ≤ last + lease) × AreSpared k until) some lives all in
     (before_second k (ops_of t d) until second behind then.0 (through k lease last t d some there then.1).0 then.2).refused n w locks clash
 

@@ -16,7 +16,7 @@ use Rattle.nfs_exec.proofs.OneWalk.{none_at}
 use Rattle.nfs_exec.proofs.OpenRun.{open_frame, open_through, told_open, each_tells}
 use Rattle.nfs_serve.specs.Step.{State, new_state}
 use Rattle.nfs_serve.specs.Endpoint.{Arrival}
-use Rattle.nfs_serve.specs.Points.{next, reached, taken, before, asked_by, ops_of}
+use Rattle.nfs_serve.specs.Points.{state_after, reached, taken, before, asked_by, ops_of}
 use Rattle.nfs_serve.specs.LockKept.{renews_by}
 use Rattle.nfs_serve.specs.OpenKept.{StaysOpen, OpenKept, EachOpenIsTold}
 use Rattle.nfs_serve.proofs.Points.{left, for_asked, next_is, IsSound, whole_before, sound_all, sound_new}
@@ -44,7 +44,7 @@ stays k b lease last s (c ∷ more) is = (
         λ spared alone.
             (let alone_left = subst (IsAlone k.client (before s c)) (ap (λ (s : State). s.machine) (next_is s c)) alone in
             let c_bits = bits_left k.number b (ops_of s c) in
-            stays k c_bits lease (cond (renews_by k.client s c) (taken s c) last) (next s c) more
+            stays k c_bits lease (cond (renews_by k.client s c) (taken s c) last) (state_after s c) more
             (stays_next k.client lease last (IsOpenWith k b) (IsOpenWith k c_bits) s c is (did.1 spared alone_left))),
       )),
 )
@@ -69,7 +69,7 @@ open_kept mode instance lease earlier c k b front told back e tells =
     let kept = told_left k b (before s c) (asked_by s c) front told back (whole_before s c sound.whole) e tells in
     let c_bits = bits_left k.number b back in (
       kept.within,
-      λ spared more. stays k c_bits lease (taken s c) (next s c) more
+      λ spared more. stays k c_bits lease (taken s c) (state_after s c) more
           (stays_from mode instance lease earlier c k.client (IsOpenWith k c_bits) kept.renewed (kept.behind spared)),
     )
 

@@ -33,7 +33,7 @@ use Rattle.nfs_exec.proofs.OthersRun.{event_apart}
 use Rattle.nfs_exec.proofs.Renewing.{AtLeast, in_time}
 use Rattle.nfs_serve.specs.Step.{State, new_state}
 use Rattle.nfs_serve.specs.Endpoint.{Arrival}
-use Rattle.nfs_serve.specs.Points.{next, all_next, reached, taken, before, asked_by}
+use Rattle.nfs_serve.specs.Points.{state_after, state_after_all, reached, taken, before, asked_by}
 use Rattle.nfs_serve.specs.LockKept.{renews_by}
 use Rattle.nfs_serve.specs.Others.{AreOthers, OthersLeaveAll, is_named, AreStrangers, StrangersChangeNothing}
 use Rattle.nfs_serve.proofs.Points.{left, for_asked, next_is, IsSound, whole_before, sound_next, sound_all, sound_new}
@@ -51,7 +51,7 @@ apart client s c sound =
 
 -- while others come, the client has what it had in this table
 rests_all : (client lease last : ℕ) (t : Table) (s : State) (others : List Arrival) → Stays client lease last (HasAsBefore client t) s
-    → AreOthers client lease last s others → HasAsBefore client t (all_next s others).machine.store.opens
+    → AreOthers client lease last s others → HasAsBefore client t (state_after_all s others).machine.store.opens
 rests_all client lease last t s [] rests all = rests.stands
 rests_all client lease last t s (c ∷ more) rests all =
     let here : HasAsBefore client t (before s c).store.opens =
@@ -60,15 +60,15 @@ rests_all client lease last t s (c ∷ more) rests all =
     let left_is = left (before s c) (asked_by s c) in
     let there : HasAsBefore client t left_is.store.opens =
     both client t (before s c).store.opens left_is.store.opens here (apart client s c rests.sound all.0 alone) in
-    rests_all client lease last t (next s c) more
-    (subst (λ b. Stays client lease (cond b (taken s c) last) (HasAsBefore client t) (next s c)) all.0
+    rests_all client lease last t (state_after s c) more
+    (subst (λ b. Stays client lease (cond b (taken s c) last) (HasAsBefore client t) (state_after s c)) all.0
     (stays_next client lease last (HasAsBefore client t) (HasAsBefore client t) s c rests there)) all.3
 
 pub others_leave_all : OthersLeaveAll
 others_leave_all mode instance lease earlier c client others own all =
     let s = reached mode instance lease earlier in
-    let t = (next s c).machine.store.opens in
-    rests_all client lease (taken s c) t (next s c) others
+    let t = (state_after s c).machine.store.opens in
+    rests_all client lease (taken s c) t (state_after s c) others
     (stays_from mode instance lease earlier c client (HasAsBefore client t) own
     (subst (λ (m : Machine). HasAsBefore client t m.store.opens) (ap (λ (s : State). s.machine) (next_is s c)) (same client t))) all
 
@@ -110,7 +110,7 @@ compound_there m r who size now client choice is = go (eqb r.minor 1)
     go true of = items_there m r who size now client choice r.left is of
     go false of = absurd (false≢true of)
 
-there_behind : (s : State) (c : Arrival) (client : ℕ) → IsMachine s.machine → renews_by client s c ≡ true → is_client (next s c).machine.clients client ≡ true
+there_behind : (s : State) (c : Arrival) (client : ℕ) → IsMachine s.machine → renews_by client s c ≡ true → is_client (state_after s c).machine.clients client ≡ true
 there_behind s c client is own =
     let left_some : is_some ((left (before s c) (asked_by s c)).leases.renewed client) ≡ true =
     for_asked (λ o. option_map_or (renews client (before s c)) o false ≡ true → is_some ((left (before s c) o).leases.renewed client) ≡ true) s c
@@ -138,29 +138,29 @@ strange client k s c sound machine at =
     (λ r who none. compound_strange client (before s c) k r who (length c.bytes) (taken s c) c.choice (whole_before s c sound.whole) machine at none)
 
 rest_next : (client lease last : ℕ) (m : Machine) (s : State) (c : Arrival) → Rest client lease last m s → is_named client s c ≡ false → taken s c ≤ last + lease
-    → Rest client lease last m (next s c)
+    → Rest client lease last m (state_after s c)
 rest_next client lease last m s c rest none within =
     let is = ap (λ (s : State). s.machine) (next_is s c) in
     let at : client_at s.machine.clients client ≡ Some rest.known = rest.all.known ∙ rest.at in
     let least : AtLeast last client s.machine.leases = λ r e. rest.least r (sym rest.all.lease ∙ e) in
     let stays = in_time s.machine.leases last (taken s c) client least (subst (λ n. taken s c ≤ last + n) (sym rest.lasts) within) in
     let here = expired_strange client s.machine rest.known (taken s c) at stays in
-    let behind : IsAsBefore client (before s c) (next s c).machine = subst (IsAsBefore client (before s c)) (sym is)
+    let behind : IsAsBefore client (before s c) (state_after s c).machine = subst (IsAsBefore client (before s c)) (sym is)
     (strange client rest.known s c rest.sound (machine_before s c rest.machine) (here.known ∙ at) none) in
     record {
       sound = sound_next s c rest.sound;
       machine = machine_next s c rest.machine;
       known = rest.known;
       at = rest.at;
-      all = then_as client m s.machine (next s c).machine rest.all (then_as client s.machine (before s c) (next s c).machine here behind);
+      all = then_as client m s.machine (state_after s c).machine rest.all (then_as client s.machine (before s c) (state_after s c).machine here behind);
       least = rest.least;
       lasts = lease_next s c ∙ rest.lasts;
     }
 
 rest_all : (client lease last : ℕ) (m : Machine) (s : State) (strangers : List Arrival) → Rest client lease last m s → AreStrangers client lease last s strangers
-    → IsAsBefore client m (all_next s strangers).machine
+    → IsAsBefore client m (state_after_all s strangers).machine
 rest_all client lease last m s [] rest all = rest.all
-rest_all client lease last m s (c ∷ more) rest all = rest_all client lease last m (next s c) more (rest_next client lease last m s c rest all.0 all.1) all.2
+rest_all client lease last m s (c ∷ more) rest all = rest_all client lease last m (state_after s c) more (rest_next client lease last m s c rest all.0 all.1) all.2
 
 some_of : (o : Option ClientRecord) → is_some o ≡ true → (k : ClientRecord) × (o ≡ Some k)
 some_of None e = absurd (false≢true e)
@@ -172,13 +172,13 @@ strangers_change_nothing mode instance lease earlier c client strangers small ow
     let s = reached mode instance lease earlier in
     let sound : IsSound s = sound_all first earlier (sound_new mode instance lease) in
     let machine : IsMachine s.machine = machine_all first earlier (of_start mode instance lease small) in
-    let (k, at) = some_of (client_at (next s c).machine.clients client) (there_behind s c client machine own) in
-    rest_all client lease (taken s c) (next s c).machine (next s c) strangers (record {
+    let (k, at) = some_of (client_at (state_after s c).machine.clients client) (there_behind s c client machine own) in
+    rest_all client lease (taken s c) (state_after s c).machine (state_after s c) strangers (record {
       sound = sound_next s c sound;
       machine = machine_next s c machine;
       known = k;
       at = at;
-      all = as_it_was client (next s c).machine;
+      all = as_it_was client (state_after s c).machine;
       least = (stays_from mode instance lease earlier c client (λ t. Unit {0}) own tt).least;
       lasts = lease_next s c ∙ lease_all first earlier;
     }) all

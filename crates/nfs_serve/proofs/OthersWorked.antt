@@ -7,7 +7,7 @@ use Rattle.nfs_opens.specs.Closing.{without_lock, without_open}
 use Rattle.nfs_files.specs.Own.{opens_of, locks_of}
 use Rattle.nfs_serve.specs.Step.{State}
 use Rattle.nfs_serve.specs.Endpoint.{Arrival}
-use Rattle.nfs_serve.specs.Points.{next, taken, before}
+use Rattle.nfs_serve.specs.Points.{state_after, taken, before}
 use Rattle.nfs_serve.specs.LockKept.{renews_by}
 use Rattle.nfs_serve.specs.HeldLock as worked
 use Rattle.nfs_serve.specs.Others.{AreOthers, is_named, AreStrangers, strangers, ComeInTime}
@@ -21,8 +21,8 @@ in_time client owner lease last s (c ∷ more) =
     not (renews_by client s c)
     && (nat_le (taken s c) (last + lease)
     && (all_own client owner (before s c).clients.records
-    && (all_own client owner (next s c).machine.clients.records
-    && in_time client owner lease last (next s c) more)))
+    && (all_own client owner (state_after s c).machine.clients.records
+    && in_time client owner lease last (state_after s c) more)))
 
 not_so : (b : Bool) → not b ≡ true → b ≡ false
 not_so true e = absurd (false≢true e)
@@ -38,22 +38,22 @@ are_others client owner lease last s (c ∷ more) e =
     let t = and_parts _ _ r.1 in (
       not_so (renews_by client s c) p.0,
       leb-true _ _ q.0,
-      alone client owner (before s c) (next s c).machine r.0 t.0,
-      are_others client owner lease last (next s c) more t.1,
+      alone client owner (before s c) (state_after s c).machine r.0 t.0,
+      are_others client owner lease last (state_after s c) more t.1,
     )
 
 -- and so can these
 abbrev strange_in_time : ℕ → (lease last : ℕ) → State → List Arrival → Bool
 strange_in_time client lease last s [] = true
 strange_in_time client lease last s (c ∷ more) =
-    not (is_named client s c) && (nat_le (taken s c) (last + lease) && strange_in_time client lease last (next s c) more)
+    not (is_named client s c) && (nat_le (taken s c) (last + lease) && strange_in_time client lease last (state_after s c) more)
 
 are_strangers : (client lease last : ℕ) (s : State) (cs : List Arrival) → strange_in_time client lease last s cs ≡ true → AreStrangers client lease last s cs
 are_strangers client lease last s [] e = tt
 are_strangers client lease last s (c ∷ more) e =
     let p = and_parts _ _ e in
     let q = and_parts _ _ p.1 in
-    (not_so (is_named client s c) p.0, leb-true _ _ q.0, are_strangers client lease last (next s c) more q.1)
+    (not_so (is_named client s c) p.0, leb-true _ _ q.0, are_strangers client lease last (state_after s c) more q.1)
 
 none_is_one : {X : Type 0} (none one : List X) → length none ≡ 0 → length one ≡ 1 → none ≡ one → ⊥
 none_is_one none one zero single same = absurd (let bad : 0 ≡ 1 = sym zero ∙ ap length same ∙ single in cc)

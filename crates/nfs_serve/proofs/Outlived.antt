@@ -20,7 +20,7 @@ use Rattle.nfs_exec.proofs.Latest.{expired_all, latest_compound}
 use Rattle.nfs_exec.proofs.Outlasting.{IsStill, compound_still}
 use Rattle.nfs_serve.specs.Step.{State, new_state}
 use Rattle.nfs_serve.specs.Endpoint.{Arrival}
-use Rattle.nfs_serve.specs.Points.{next, all_next, reached, taken, before}
+use Rattle.nfs_serve.specs.Points.{state_after, state_after_all, reached, taken, before}
 use Rattle.nfs_serve.specs.Outlived.{renewed_by, last_renewal, NoneOutlives}
 use Rattle.nfs_serve.proofs.Points.{left, for_asked, next_is, IsSound, whole_before, latest_before, sound_next, sound_all, sound_new}
 use Rattle.nfs_serve.proofs.Staying.{lease_all}
@@ -30,15 +30,15 @@ use Rattle.nfs_serve.proofs.Staying.{lease_all}
 pub machine_before : (s : State) (c : Arrival) → IsMachine s.machine → IsMachine (before s c)
 machine_before s c is = of_expired s.machine (taken s c) is
 
-pub machine_next : (s : State) (c : Arrival) → IsMachine s.machine → IsMachine (next s c).machine
+pub machine_next : (s : State) (c : Arrival) → IsMachine s.machine → IsMachine (state_after s c).machine
 machine_next s c is =
     let m = machine_before s c is in
     subst (λ (s : State). IsMachine s.machine) (sym (next_is s c))
     (for_asked (λ o. IsMachine (left (before s c) o)) s c m (λ r who. of_compound (before s c) r who (length c.bytes) (taken s c) c.choice m))
 
-pub machine_all : (s : State) (records : List Arrival) → IsMachine s.machine → IsMachine (all_next s records).machine
+pub machine_all : (s : State) (records : List Arrival) → IsMachine s.machine → IsMachine (state_after_all s records).machine
 machine_all s [] is = is
-machine_all s (c ∷ more) is = machine_all (next s c) more (machine_next s c is)
+machine_all s (c ∷ more) is = machine_all (state_after s c) more (machine_next s c is)
 
 -- A lease that stands was renewed no later than by the last record that renewed it.
 
@@ -70,7 +70,7 @@ up_compound s c client last r who sound up = go (renews_or_begins client (before
         (compound_still (before s c) r who (length c.bytes) (taken s c) client c.choice e) up
 
 up_next : (s : State) (c : Arrival) (client : ℕ) (last : Option ℕ) → IsSound s → IsUpTo client last s.machine.leases
-    → IsUpTo client (cond (renewed_by client s c) (Some (taken s c)) last) (next s c).machine.leases
+    → IsUpTo client (cond (renewed_by client s c) (Some (taken s c)) last) (state_after s c).machine.leases
 up_next s c client last sound up =
     let here : IsUpTo client last (before s c).leases = up_expired client (taken s c) last s.machine.leases up in
     subst (λ (s' : State). IsUpTo client (cond (renewed_by client s c) (Some (taken s c)) last) s'.machine.leases) (sym (next_is s c))
@@ -78,10 +78,10 @@ up_next s c client last sound up =
     (λ r who. up_compound s c client last r who sound here))
 
 up_all : (s : State) (records : List Arrival) (client : ℕ) (last : Option ℕ) → IsSound s → IsUpTo client last s.machine.leases
-    → IsUpTo client (last_renewal client last s records) (all_next s records).machine.leases
+    → IsUpTo client (last_renewal client last s records) (state_after_all s records).machine.leases
 up_all s [] client last sound up = up
 up_all s (c ∷ more) client last sound up =
-    up_all (next s c) more client (cond (renewed_by client s c) (Some (taken s c)) last) (sound_next s c sound) (up_next s c client last sound up)
+    up_all (state_after s c) more client (cond (renewed_by client s c) (Some (taken s c)) last) (sound_next s c sound) (up_next s c client last sound up)
 
 -- Who holds a byte.
 

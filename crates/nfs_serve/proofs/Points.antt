@@ -18,7 +18,7 @@ use Rattle.nfs_exec.proofs.Latest.{latest_compound}
 use Rattle.nfs_exec.proofs.WholeRun.{Is, none_of, event_ops, whole_event, start_whole}
 use Rattle.nfs_serve.specs.Step.{State, new_state, step, asked_of, with_arguments, by_procedure, reply_to}
 use Rattle.nfs_serve.specs.Endpoint.{Arrival}
-use Rattle.nfs_serve.specs.Points.{next, all_next, taken, before, asks, asked_by, NoClash}
+use Rattle.nfs_serve.specs.Points.{state_after, state_after_all, taken, before, asks, asked_by, NoClash}
 use Rattle.nfs_serve.proofs.Stepping.{latest_expired}
 
 -- What a record asks for is a compound at its moment, or nothing.
@@ -63,7 +63,7 @@ by_called s size choice (Refused (Refusals.Auth xid stat)) = refl
 by_called s size choice (Refused (Refusals.Accept xid stat)) = refl
 by_called s size choice (Accepted call) = by_call s call size choice call.procedure
 
-pub next_is : (s : State) (c : Arrival) → next s c ≡ record { machine = left (before s c) (asked_by s c); moment = taken s c }
+pub next_is : (s : State) (c : Arrival) → state_after s c ≡ record { machine = left (before s c) (asked_by s c); moment = taken s c }
 unfolding step
 next_is s c = by_called (record { machine = before s c; moment = taken s c }) (length c.bytes) c.choice (call_of c.bytes)
 
@@ -93,12 +93,12 @@ sound_left s c is = record {
       (λ r who. latest_compound (before s c) r who (length c.bytes) (taken s c) c.choice (latest_before s c is.latest));
 }
 
-pub sound_next : (s : State) (c : Arrival) → IsSound s → IsSound (next s c)
+pub sound_next : (s : State) (c : Arrival) → IsSound s → IsSound (state_after s c)
 sound_next s c is = subst IsSound (sym (next_is s c)) (sound_left s c is)
 
-pub sound_all : (s : State) (records : List Arrival) → IsSound s → IsSound (all_next s records)
+pub sound_all : (s : State) (records : List Arrival) → IsSound s → IsSound (state_after_all s records)
 sound_all s [] is = is
-sound_all s (c ∷ more) is = sound_all (next s c) more (sound_next s c is)
+sound_all s (c ∷ more) is = sound_all (state_after s c) more (sound_next s c is)
 
 pub sound_new : (mode instance lease : ℕ) → IsSound (new_state mode instance lease)
 sound_new mode instance lease = record {
@@ -114,7 +114,7 @@ is_before m (Some e) is d there = (event_ops m e is d there).0
 
 pub no_clash : NoClash
 no_clash mode instance lease records c =
-    let s = all_next (new_state mode instance lease) records in
+    let s = state_after_all (new_state mode instance lease) records in
     let is : IsSound s = sound_all (new_state mode instance lease) records (sound_new mode instance lease) in
     record {
       here = none_of s.machine is.whole;

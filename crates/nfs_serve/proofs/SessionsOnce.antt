@@ -12,7 +12,7 @@ use Rattle.nfs_exec.proofs.SessionNumbers.{After, ToldBy, more, tells_more, tell
 use Rattle.nfs_exec.proofs.OneSession.{IsMadeBy, first_bytes, event_after, event_carried, event_tells, given_after, given_again, given_next, gives_made, gives_one}
 use Rattle.nfs_serve.specs.Step.{State, new_state}
 use Rattle.nfs_serve.specs.Endpoint.{Arrival}
-use Rattle.nfs_serve.specs.Points.{next, all_next, reached, taken, before, asked_by}
+use Rattle.nfs_serve.specs.Points.{state_after, state_after_all, reached, taken, before, asked_by}
 use Rattle.nfs_serve.specs.SessionsOnce.{asks_by, asked, GivesIn, WasMade, EachMakesOne, EachWasMade, RepeatsMakeNone, NextMakesOne}
 use Rattle.nfs_serve.proofs.Points.{left, for_asked, next_is}
 use Rattle.nfs_serve.proofs.Outlived.{machine_before, machine_all}
@@ -24,7 +24,7 @@ before_after n number most body s c a =
     more n number most (most + 0) body (before s c).clients (omega arith) (event_after n number most body s.machine (Expires (taken s c)) a)
 
 next_after : (n number most : ℕ) (body : List ℕ) (s : State) (c : Arrival) → After n number body most s.machine.clients
-    → After n number body (most + cond (asks_by n s c) 1 0) (next s c).machine.clients
+    → After n number body (most + cond (asks_by n s c) 1 0) (state_after s c).machine.clients
 next_after n number most body s c a =
     let m = before s c in
     let here = before_after n number most body s c a in
@@ -34,28 +34,28 @@ next_after n number most body s c a =
     (λ r who. event_after n number most body m (Asks r who (length c.bytes) (taken s c) c.choice) here))
 
 all_after : (n number most : ℕ) (body : List ℕ) (s : State) (records : List Arrival) → After n number body most s.machine.clients
-    → After n number body (most + asked n s records) (all_next s records).machine.clients
+    → After n number body (most + asked n s records) (state_after_all s records).machine.clients
 all_after n number most body s [] a = more n number (most + 0) most body s.machine.clients (omega arith) a
 all_after n number most body s (c ∷ rest) a =
     let one = cond (asks_by n s c) 1 0 in
-    more n number (most + (one + asked n (next s c) rest)) ((most + one) + asked n (next s c) rest) body (all_next (next s c) rest).machine.clients (omega arith)
-    (all_after n number (most + one) body (next s c) rest (next_after n number most body s c a))
+    more n number (most + (one + asked n (state_after s c) rest)) ((most + one) + asked n (state_after s c) rest) body (state_after_all (state_after s c) rest).machine.clients (omega arith)
+    (all_after n number (most + one) body (state_after s c) rest (next_after n number most body s c a))
 
 -- No session's counter is above the last that was given.
 
-counted_next : (s : State) (c : Arrival) → IsCounted s.machine.sessions → IsCounted (next s c).machine.sessions
+counted_next : (s : State) (c : Arrival) → IsCounted s.machine.sessions → IsCounted (state_after s c).machine.sessions
 counted_next s c is =
     let m = before s c in
     let here : IsCounted m.sessions = counted_step s.machine (Expires (taken s c)) is in
     subst (λ (t : State). IsCounted t.machine.sessions) (sym (next_is s c))
     (for_asked (λ o. IsCounted (left m o).sessions) s c here (λ r who. counted_step m (Asks r who (length c.bytes) (taken s c) c.choice) here))
 
-counted_all : (s : State) (records : List Arrival) → IsCounted s.machine.sessions → IsCounted (all_next s records).machine.sessions
+counted_all : (s : State) (records : List Arrival) → IsCounted s.machine.sessions → IsCounted (state_after_all s records).machine.sessions
 counted_all s [] is = is
-counted_all s (c ∷ rest) is = counted_all (next s c) rest (counted_next s c is)
+counted_all s (c ∷ rest) is = counted_all (state_after s c) rest (counted_next s c is)
 
 -- the machine behind a record that asks for something
-next_machine : (s : State) (c : Arrival) (e : MachineEvent) → asked_by s c ≡ Some e → (next s c).machine ≡ stepped (before s c) e
+next_machine : (s : State) (c : Arrival) (e : MachineEvent) → asked_by s c ≡ Some e → (state_after s c).machine ≡ stepped (before s c) e
 next_machine s c e asks = ap (λ (t : State). t.machine) (next_is s c) ∙ ap (left (before s c)) asks
 
 pub each_makes_one : EachMakesOne
@@ -69,32 +69,32 @@ each_makes_one mode instance lease records c client number id g =
 -- From an answer on, before a later record: the client's number is at most as far behind as records between asked for.
 told_after : (mode instance lease : ℕ) (earlier : List Arrival) (c : Arrival) (between : List Arrival) (d : Arrival) (client number : ℕ) (id : List ℕ) → instance < 2 ^ 32
     → (let s = reached mode instance lease earlier in
-    let t = all_next (next s c) between in
-    (first : GivesIn client number id s c) → After client number (id ++ first.gives.behind) (asked client (next s c) between) (before t d).clients)
+    let t = state_after_all (state_after s c) between in
+    (first : GivesIn client number id s c) → After client number (id ++ first.gives.behind) (asked client (state_after s c) between) (before t d).clients)
 told_after mode instance lease earlier c between d client number id small first =
     let s = reached mode instance lease earlier in
-    let t = all_next (next s c) between in
+    let t = state_after_all (state_after s c) between in
     let machine : IsMachine (before s c) = machine_before s c (machine_all (new_state mode instance lease) earlier (of_start mode instance lease small)) in
     let body = id ++ first.gives.behind in
-    let told : After client number body 0 (next s c).machine.clients =
+    let told : After client number body 0 (state_after s c).machine.clients =
     subst (λ (m : Machine). After client number body 0 m.clients) (sym (next_machine s c first.event first.asks))
     (given_after client number id (before s c) first.event machine.clients first.gives) in
-    more client number (asked client (next s c) between) (0 + asked client (next s c) between) body (before t d).clients (omega arith)
-    (before_after client number (0 + asked client (next s c) between) body t d (all_after client number 0 body (next s c) between told))
+    more client number (asked client (state_after s c) between) (0 + asked client (state_after s c) between) body (before t d).clients (omega arith)
+    (before_after client number (0 + asked client (state_after s c) between) body t d (all_after client number 0 body (state_after s c) between told))
 
 pub repeats_make_none : RepeatsMakeNone
 repeats_make_none mode instance lease earlier c between d client number id other small first few second =
     let s = reached mode instance lease earlier in
-    let t = all_next (next s c) between in
-    let did = given_again client number (asked client (next s c) between) id first.gives.behind other (before t d) second.event first.gives.long
+    let t = state_after_all (state_after s c) between in
+    let did = given_again client number (asked client (state_after s c) between) id first.gives.behind other (before t d) second.event first.gives.long
     (told_after mode instance lease earlier c between d client number id small first) few second.gives in
     (did.0, next_machine t d second.event second.asks ∙ did.1)
 
 pub next_makes_one : NextMakesOne
 next_makes_one mode instance lease earlier c between d client number id other small first none second =
     let s = reached mode instance lease earlier in
-    let t = all_next (next s c) between in
-    let counted : IsCounted t.machine.sessions = counted_all (next s c) between (counted_next s c (counted_all (new_state mode instance lease) earlier (λ x there. absurd there))) in
+    let t = state_after_all (state_after s c) between in
+    let counted : IsCounted t.machine.sessions = counted_all (state_after s c) between (counted_next s c (counted_all (new_state mode instance lease) earlier (λ x there. absurd there))) in
     let body = id ++ first.gives.behind in
     subst (λ (m : Machine). MakesOne client other (before t d).sessions m.sessions) (sym (next_machine t d second.event second.asks))
     (given_next client number body other (before t d) second.event (counted_step t.machine (Expires (taken t d)) counted)
@@ -124,8 +124,8 @@ told_later client number body start records c t = record {
 }
 
 -- the last of the records made it
-made_last : (client number : ℕ) (id : List ℕ) (start : State) (records : List Arrival) (c : Arrival) → GivesIn client number id (all_next start records) c
-    → MakesOne client id (before (all_next start records) c).sessions (next (all_next start records) c).machine.sessions
+made_last : (client number : ℕ) (id : List ℕ) (start : State) (records : List Arrival) (c : Arrival) → GivesIn client number id (state_after_all start records) c
+    → MakesOne client id (before (state_after_all start records) c).sessions (state_after (state_after_all start records) c).machine.sessions
     → WasMade client number id start (records ++ c ∷ [])
 made_last client number id start records c gives makes = record {
   earlier = records;
@@ -136,11 +136,11 @@ made_last client number id start records c gives makes = record {
   makes = makes;
 }
 
-told_last : (client number : ℕ) (body : List ℕ) (start : State) (records : List Arrival) (c : Arrival) (e : MachineEvent) → asked_by (all_next start records) c ≡ Some e
-    → IsMadeBy client number body (before (all_next start records) c) e → Told client number body start (records ++ c ∷ [])
+told_last : (client number : ℕ) (body : List ℕ) (start : State) (records : List Arrival) (c : Arrival) (e : MachineEvent) → asked_by (state_after_all start records) c ≡ Some e
+    → IsMadeBy client number body (before (state_after_all start records) c) e → Told client number body start (records ++ c ∷ [])
 unfolding made_last
 told_last client number body start records c e asks made =
-    let s = all_next start records in
+    let s = state_after_all start records in
     record {
       id = made.id;
       was = made_last client number made.id start records c (record { event = e; asks = asks; gives = made.gives })
@@ -154,34 +154,34 @@ tells_before client number body X s c tells =
     event_carried client (ToldBy client (following number) body X) (tells_carried client (following number) body X) s.machine (Expires (taken s c)) refl tells
 
 tells_next : (client number : ℕ) (body : List ℕ) (start : State) (records : List Arrival) (c : Arrival) → number < 2 ^ 32
-    → (let s = all_next start records in IsMachine s.machine → IsCounted s.machine.sessions
+    → (let s = state_after_all start records in IsMachine s.machine → IsCounted s.machine.sessions
     → ToldBy client (following number) body (Told client number body start records) s.machine.clients
-    → ToldBy client (following number) body (Told client number body start (records ++ c ∷ [])) (next s c).machine.clients)
+    → ToldBy client (following number) body (Told client number body start (records ++ c ∷ [])) (state_after s c).machine.clients)
 tells_next client number body start records c low is counted tells =
     subst (λ (t : State). ToldBy client (following number) body (Told client number body start (records ++ c ∷ [])) t.machine.clients)
-    (sym (next_is (all_next start records) c)) (by_event (asked_by (all_next start records) c) refl)
+    (sym (next_is (state_after_all start records) c)) (by_event (asked_by (state_after_all start records) c) refl)
   where
-    by_event : (o : Option MachineEvent) → asked_by (all_next start records) c ≡ o
-        → ToldBy client (following number) body (Told client number body start (records ++ c ∷ [])) (left (before (all_next start records) c) o).clients
+    by_event : (o : Option MachineEvent) → asked_by (state_after_all start records) c ≡ o
+        → ToldBy client (following number) body (Told client number body start (records ++ c ∷ [])) (left (before (state_after_all start records) c) o).clients
     by_event None asks =
         let X = Told client number body start records in
         let Y = Told client number body start (records ++ c ∷ []) in
-        tells_more client (following number) body X Y (before (all_next start records) c).clients (told_later client number body start records c)
-        (tells_before client number body X (all_next start records) c tells)
+        tells_more client (following number) body X Y (before (state_after_all start records) c).clients (told_later client number body start records c)
+        (tells_before client number body X (state_after_all start records) c tells)
     by_event (Some e) asks =
-        let s = all_next start records in
+        let s = state_after_all start records in
         let X = Told client number body start records in
         let Y = Told client number body start (records ++ c ∷ []) in
         event_tells client number body X Y (before s c) e (machine_before s c is).clients (counted_step s.machine (Expires (taken s c)) counted) low
         (told_later client number body start records c) (told_last client number body start records c e asks) (tells_before client number body X s c tells)
 
-next_last : (s : State) (records : List Arrival) (c : Arrival) → all_next s (records ++ c ∷ []) ≡ next (all_next s records) c
+next_last : (s : State) (records : List Arrival) (c : Arrival) → state_after_all s (records ++ c ∷ []) ≡ state_after (state_after_all s records) c
 next_last s [] c = refl
-next_last s (first ∷ more) c = next_last (next s first) more c
+next_last s (first ∷ more) c = next_last (state_after s first) more c
 
 -- what the client's record tells behind these records
 abbrev TellsAt : (client number : ℕ) → List ℕ → State → List Arrival → Type 0
-TellsAt client number body start records = ToldBy client (following number) body (Told client number body start records) (all_next start records).machine.clients
+TellsAt client number body start records = ToldBy client (following number) body (Told client number body start records) (state_after_all start records).machine.clients
 
 tells_all : (client number : ℕ) (body : List ℕ) (start : State) (done rest : List Arrival) → number < 2 ^ 32 → IsMachine start.machine → IsCounted start.machine.sessions
     → TellsAt client number body start done → TellsAt client number body start (done ++ rest)
@@ -195,7 +195,7 @@ tells_all client number body start done (c ∷ rest) low is counted tells =
 pub each_was_made : EachWasMade
 each_was_made mode instance lease records c client number id small low g =
     let start = new_state mode instance lease in
-    let s = all_next start records in
+    let s = state_after_all start records in
     let is = of_start mode instance lease small in
     let counted : IsCounted start.machine.sessions = λ x there. absurd there in
     let body = id ++ g.gives.behind in

@@ -16,7 +16,7 @@ use Rattle.nfs_exec.specs.Laws.{MachineEvent, Expires, Asks}
 use Rattle.nfs_exec.specs.OneSession.{MakesOne}
 use Rattle.nfs_serve.specs.Step.{State}
 use Rattle.nfs_serve.specs.Endpoint.{Arrival}
-use Rattle.nfs_serve.specs.Points.{next, before, asked_by}
+use Rattle.nfs_serve.specs.Points.{state_after, before, asked_by}
 use Rattle.nfs_serve.specs.Exchanges.{words}
 use Rattle.nfs_serve.specs.SessionsOnce.{GivesIn, start, creates, again, goes_on, repeated, id, IsGivenOnce}
 use Rattle.nfs_serve.proofs.Computing.{computing}
@@ -80,9 +80,9 @@ is_given_once = record {
   few = refl;
   second = given (7 * 2 ^ 32 + 1) 1 id repeated again (asked_by repeated again) refl refl;
   other = λ same. differ (ap (λ (bytes : List ℕ). get_or bytes 15 0) same);
-  third = given (7 * 2 ^ 32 + 1) (following 1) (words (7 ∷ 1 ∷ 0 ∷ 2 ∷ [])) (next repeated again) goes_on (asked_by (next repeated again) goes_on) refl refl;
+  third = given (7 * 2 ^ 32 + 1) (following 1) (words (7 ∷ 1 ∷ 0 ∷ 2 ∷ [])) (state_after repeated again) goes_on (asked_by (state_after repeated again) goes_on) refl refl;
   none = unmade (7 * 2 ^ 32 + 1) (before start creates).sessions;
-  twice = unmade (7 * 2 ^ 32 + 1) (next start creates).machine.sessions;
+  twice = unmade (7 * 2 ^ 32 + 1) (state_after start creates).machine.sessions;
 }
   where
     differ : ◌≡◌ {A = ℕ} 2 1 → ⊥

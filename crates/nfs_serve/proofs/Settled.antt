@@ -8,7 +8,7 @@ use Rattle.nfs_exec.proofs.Latest.{expired_all, finds_nothing}
 use Rattle.nfs_exec.proofs.WholeRun.{Is, start_whole}
 use Rattle.nfs_serve.specs.Step.{State, new_state, step}
 use Rattle.nfs_serve.specs.Endpoint.{Arrival}
-use Rattle.nfs_serve.specs.Points.{next, taken, before, asked_by}
+use Rattle.nfs_serve.specs.Points.{state_after, taken, before, asked_by}
 use Rattle.nfs_serve.specs.Seen.{ticked}
 use Rattle.nfs_serve.proofs.Points.{left, for_asked, next_is, whole_before, whole_left}
 
@@ -22,7 +22,7 @@ none_left s c client =
     for_asked (λ o. has_run_out (left (before s c) o).leases (taken s c) client ≡ false) s c (expired_all s.machine.leases (taken s c) client)
     (λ r who. finds_nothing s.machine r who (length c.bytes) (taken s c) c.choice client)
 
-settled_next : (s : State) (c : Arrival) → IsSettled s → IsSettled (next s c)
+settled_next : (s : State) (c : Arrival) → IsSettled s → IsSettled (state_after s c)
 settled_next s c is = subst IsSettled (sym (next_is s c)) (record {
   whole = whole_left (before s c) (asked_by s c) (whole_before s c is.whole);
   none = none_left s c;

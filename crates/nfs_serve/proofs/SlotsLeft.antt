@@ -14,7 +14,7 @@ use Rattle.nfs_sessions.specs.Channel.{granted}
 use Rattle.nfs_sessions.specs.SessionSlots.{GrantedSlots, unused}
 use Rattle.nfs_sessions.specs.SessionSlots as slots
 use Rattle.nfs_sessions.specs.Sessions.{Session, SessionTable, is_session, session_at, with_session, keep}
-use Rattle.nfs_sessions.specs.Kept.{IsSessions}
+use Rattle.nfs_sessions.specs.SessionTables.{IsSessions}
 use Rattle.nfs_sessions.specs.Laws.{is_id}
 use Rattle.nfs_sessions.proofs.LawLemmas.{sessions_are_a_map}
 use Rattle.nfs_sessions.proofs.TableLemmas.{sessions_filtered, sessions_with, slots_changed, is_counter}

@@ -10,21 +10,21 @@ use Rattle.nfs_exec.proofs.OthersRun.{event_apart}
 use Rattle.nfs_exec.proofs.Renewing.{AtLeast, in_time, least_expired, least_behind, compound_lease}
 use Rattle.nfs_serve.specs.Step.{State, new_state}
 use Rattle.nfs_serve.specs.Endpoint.{Arrival}
-use Rattle.nfs_serve.specs.Points.{next, all_next, reached, taken, before, asked_by}
+use Rattle.nfs_serve.specs.Points.{state_after, state_after_all, reached, taken, before, asked_by}
 use Rattle.nfs_serve.specs.LockKept.{renews_by}
 use Rattle.nfs_serve.proofs.Points.{left, for_asked, next_is, IsSound, taken_later, sound_next, sound_all, sound_new}
 
 -- How long a lease lasts does not change.
 
-pub lease_next : (s : State) (c : Arrival) → (next s c).machine.leases.lease ≡ s.machine.leases.lease
+pub lease_next : (s : State) (c : Arrival) → (state_after s c).machine.leases.lease ≡ s.machine.leases.lease
 lease_next s c =
     ap (λ (s : State). s.machine.leases.lease) (next_is s c)
     ∙ for_asked (λ o. (left (before s c) o).leases.lease ≡ s.machine.leases.lease) s c refl
     (λ r who. compound_lease (before s c) r who (length c.bytes) (taken s c) c.choice)
 
-pub lease_all : (s : State) (records : List Arrival) → (all_next s records).machine.leases.lease ≡ s.machine.leases.lease
+pub lease_all : (s : State) (records : List Arrival) → (state_after_all s records).machine.leases.lease ≡ s.machine.leases.lease
 lease_all s [] = refl
-lease_all s (c ∷ more) = lease_all (next s c) more ∙ lease_next s c
+lease_all s (c ∷ more) = lease_all (state_after s c) more ∙ lease_next s c
 
 -- This stands in the state, and the client renewed its lease no earlier than then.
 pub record Stays (client lease last : ℕ) (P : Table → Type 0) (s : State) : Type 0 where
@@ -61,7 +61,7 @@ renewal_low false now last low = low
 
 -- and behind the record what its compound leaves
 pub stays_next : (client lease last : ℕ) (P Q : Table → Type 0) (s : State) (c : Arrival) → Stays client lease last P s
-    → Q (left (before s c) (asked_by s c)).store.opens → Stays client lease (cond (renews_by client s c) (taken s c) last) Q (next s c)
+    → Q (left (before s c) (asked_by s c)).store.opens → Stays client lease (cond (renews_by client s c) (taken s c) last) Q (state_after s c)
 stays_next client lease last P Q s c stays leaves =
     let is = ap (λ (s : State). s.machine) (next_is s c) in
     let low : last ≤ taken s c = no_later last s.moment (taken s c) stays.low (taken_later s c) in
@@ -78,7 +78,7 @@ stays_next client lease last P Q s c stays leaves =
 -- behind a record that ran in a session of the client
 pub stays_from : (mode instance lease : ℕ) (earlier : List Arrival) (c : Arrival) (client : ℕ) (P : Table → Type 0)
     → (let s = reached mode instance lease earlier in
-    renews_by client s c ≡ true → P (left (before s c) (asked_by s c)).store.opens → Stays client lease (taken s c) P (next s c))
+    renews_by client s c ≡ true → P (left (before s c) (asked_by s c)).store.opens → Stays client lease (taken s c) P (state_after s c))
 stays_from mode instance lease earlier c client P own leaves =
     let s = reached mode instance lease earlier in
     let is = ap (λ (s : State). s.machine) (next_is s c) in

@@ -11,7 +11,7 @@ use Rattle.nfs_exec.proofs.WholeRun.{Is}
 use Rattle.nfs_exec.proofs.WrittenRun.{LastsIn, event_while, event_left, event_told}
 use Rattle.nfs_serve.specs.Step.{State, new_state}
 use Rattle.nfs_serve.specs.Endpoint.{Arrival}
-use Rattle.nfs_serve.specs.Points.{next, reached, taken, before, asked_by}
+use Rattle.nfs_serve.specs.Points.{state_after, reached, taken, before, asked_by}
 use Rattle.nfs_serve.specs.WrittenStays.{StaysWritten, BytesStay}
 use Rattle.nfs_serve.proofs.Points.{left, for_asked, next_is, IsSound, whole_before, sound_next, sound_all, sound_new}
 
@@ -39,7 +39,7 @@ stays b s [] lives = tt
 stays b s (c ∷ more) lives =
     let did = does b s c lives in (
       did.within,
-      λ spared. stays b (next s c) more (record {
+      λ spared. stays b (state_after s c) more (record {
         sound = sound_next s c lives.sound;
         lasts = subst (LastsIn b) (sym (ap (λ (s : State). s.machine) (next_is s c))) (did.behind spared);
       }),
@@ -56,7 +56,7 @@ bytes_stay mode instance lease earlier c b front write back e writes =
     let sound : IsSound s = sound_all (new_state mode instance lease) earlier (sound_new mode instance lease) in
     let told = told_left b (before s c) (asked_by s c) front write back (whole_before s c sound.whole) e writes in (
       told.0,
-      λ spared more. stays b (next s c) more (record {
+      λ spared more. stays b (state_after s c) more (record {
         sound = sound_next s c sound;
         lasts = subst (LastsIn b) (sym (ap (λ (s : State). s.machine) (next_is s c))) (told.1 spared);
       }),

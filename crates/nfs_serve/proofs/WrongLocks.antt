@@ -30,7 +30,7 @@ use Rattle.nfs_serve.specs.LockKept.{StaysHeld}
 use Rattle.nfs_opens.specs.declared.records.LockState.{LockState}
 use Rattle.nfs_serve.specs.Outlived.{last_renewal}
 use Rattle.nfs_serve.specs.Step.{State, new_state}
-use Rattle.nfs_serve.specs.Points.{next, taken, before, ops_of, asked_by}
+use Rattle.nfs_serve.specs.Points.{state_after, taken, before, ops_of, asked_by}
 use Rattle.nfs_serve.specs.HeldLock as worked
 use Rattle.nfs_serve.specs.HeldLock.{renewal, last_of}
 use Rattle.nfs_serve.specs.WrongLocks.{AreRefused, NoneDelayed, short_leases, set_back, told_anyway, closes_another}
@@ -84,10 +84,10 @@ none_alone : (m n : Machine) → m.clients.records ≡ [] → IsAlone worked.tol
 none_alone m n none a b here = absurd (subst (In a) none here)
 
 gone : (s : State) → (taken s renewal ≤ 102 + 90) → ops_of s renewal ≡ [] → (before s renewal).clients.records ≡ []
-    → (next s renewal).machine.store.opens.held 2 2 0 ≡ None → StaysHeld worked.told 90 102 s (renewal ∷ []) → ⊥
+    → (state_after s renewal).machine.store.opens.held 2 2 0 ≡ None → StaysHeld worked.told 90 102 s (renewal ∷ []) → ⊥
 gone s low none empty free stays =
-    unheld (next s renewal).machine.store.opens free
-    ((stays.1 low).1 (none_spared (ops_of s renewal) none) (none_alone (before s renewal) (next s renewal).machine empty))
+    unheld (state_after s renewal).machine.store.opens free
+    ((stays.1 low).1 (none_spared (ops_of s renewal) none) (none_alone (before s renewal) (state_after s renewal).machine empty))
 
 -- where the whole request answers another status than NFS4_OK, its last operation is not delayed
 

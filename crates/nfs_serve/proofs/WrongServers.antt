@@ -7,7 +7,7 @@ use Rattle.nfs_slots.specs.declared.slot.Verdict.TheVariants.{Fresh, Again, Fals
 use Rattle.nfs_serve.specs.Endpoint.{Place, Heading, Compound, Answer, Stepped}
 use Rattle.nfs_serve.specs.Network.{Callers, Packet, RanCompound, NetworkEvent, Sends, Arrives, Accepts, begins, same_place}
 use Rattle.nfs_serve.specs.Numbered.{Happens}
-use Rattle.nfs_serve.specs.WrongServers.{Small, place, heading, spell, judged, kept, is_fresh, by_verdict, taken, executes, runs_repeats, says_one, LawsRefuse}
+use Rattle.nfs_serve.specs.WrongServers.{Small, place, heading, spell, judged, slot_keeping, is_fresh, by_verdict, taken, executes, runs_repeats, says_one, LawsRefuse}
 use Rattle.nfs_serve.proofs.ServerLaws.{KeepsSlots, Runs, Repeats}
 use Rattle.nfs_serve.proofs.NetworkLines.{same_place_is, same_place_self}
 use Rattle.nfs_serve.proofs.NetworkEvents.{exactly_once_by_number}
@@ -47,7 +47,7 @@ runs s h NoSlot e is = absurd (true≢false (sym is))
 
 repeats : (s : Small) (h : Heading) (a : Answer) (v : Verdict) → judged s h ≡ v → is_fresh v ≡ false → (by s h v).answer ≡ Some a → Repeats runs_repeats s h a.result
 repeats s h a Fresh e is told = absurd (true≢false is)
-repeats s h a Again e is told = record { slot = s.slots h.place; stands = refl; again = e; kept = ap (λ (a : Answer). a.result) (sym (is_some _ a told)) }
+repeats s h a Again e is told = record { slot = s.slots h.place; stands = refl; again = e; slot_keeping = ap (λ (a : Answer). a.result) (sym (is_some _ a told)) }
 repeats s h a FalseRetry e is told = absurd cc
 repeats s h a Misordered e is told = absurd cc
 repeats s h a NoSlot e is told = absurd cc

@@ -10,11 +10,11 @@ use Rattle.nfs_serve.specs.declared.form.Outcome.{Outcome}
 use Rattle.nfs_serve.specs.declared.form.Outcome.TheVariants.{Reply, Silent}
 use Rattle.nfs_serve.specs.Step.{State, Stepped}
 use Rattle.nfs_serve.specs.Run.{spell_reply}
-use Rattle.nfs_serve.specs.Server.{Kept}
+use Rattle.nfs_serve.specs.Server.{KeptServer}
 
 -- what lasts from one record to the next, and the reply that is lent
 pub record EngineModel : Type 0 where
-  pub kept : Kept
+  pub kept : KeptServer
   pub reply : List ℕ
 
 -- whether a refusal of a call is answered

@@ -24,7 +24,7 @@ use Rattle.nfs_serve.specs.Deeds.{Deed}
 use Rattle.nfs_serve.specs.Whole.{script}
 use Rattle.nfs_serve.specs.Endpoint.{Arrival, ran}
 use Rattle.nfs_serve.specs.Seen.{server}
-use Rattle.nfs_serve.specs.Points.{all_next}
+use Rattle.nfs_serve.specs.Points.{state_after_all}
 
 -- the record that a move steps, if it is one that arrives
 abbrev pub record_of : StreamEvent → Option ℕ → List Arrival
@@ -93,4 +93,4 @@ pub record EachFormRunsRecords : Type 0 where
       ran s (ran s s.new before) records ≡ ran s s.new (before ++ records))
   -- and the points of such a run are those of its list of records
   pub points : (mode instance lease : ℕ) (s : State) (records : List Arrival)
-      → ran (server mode instance lease) s records ≡ all_next s records
+      → ran (server mode instance lease) s records ≡ state_after_all s records

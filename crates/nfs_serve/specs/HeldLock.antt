@@ -12,7 +12,7 @@ use Rattle.nfs_exec.specs.Ops.{RanOp}
 use Rattle.nfs_exec.specs.LockHeld.{LocksFor, AreSpared, Tells}
 use Rattle.nfs_serve.specs.Step.{State, new_state}
 use Rattle.nfs_serve.specs.Endpoint.{Arrival}
-use Rattle.nfs_serve.specs.Points.{next, all_next, reached, taken, before, ops_of}
+use Rattle.nfs_serve.specs.Points.{state_after, state_after_all, reached, taken, before, ops_of}
 use Rattle.nfs_serve.specs.LockKept.{AreInTime}
 use Rattle.nfs_serve.specs.Outlived.{last_renewal}
 use Rattle.nfs_serve.specs.Exchanges.{words}
@@ -64,10 +64,10 @@ abbrev pub start : State
 start = reached 511 7 90 earlier
 
 abbrev pub locked : State
-locked = next start locks
+locked = state_after start locks
 
 abbrev pub asked : State
-asked = all_next locked waits
+asked = state_after_all locked waits
 
 -- Lock state 2 of client 1, under open 1: byte 0 of object 2, as Write.
 abbrev pub told : LockTold
@@ -101,8 +101,8 @@ pub record IsHeldTo : Type 0 where
   pub held : asked.machine.store.opens.held 2 2 0 ≡ Some Write
   pub denied : statuses (ops_of asked clashes) ≡ Nfs4Ok ∷ Nfs4Ok ∷ Denied ∷ []
   -- it is held until A unlocks, and then by nobody
-  pub still : (next asked clashes).machine.store.opens.held 2 2 0 ≡ Some Write
-  pub unlocked : (next (next asked clashes) gives_up).machine.store.opens.held 2 2 0 ≡ None
+  pub still : (state_after asked clashes).machine.store.opens.held 2 2 0 ≡ Some Write
+  pub unlocked : (state_after (state_after asked clashes) gives_up).machine.store.opens.held 2 2 0 ≡ None
 
 -- The premises of the other promises are met in that run: the byte is still held when B asks, 90 seconds behind the last renewal of A; and where B asks for the
 -- byte beside it, both are told.

@@ -10,7 +10,7 @@ use Rattle.nfs_exec.specs.Ops.{RanOp}
 use Rattle.nfs_exec.specs.OpenHeld.{TellsOpen}
 use Rattle.nfs_serve.specs.Step.{State}
 use Rattle.nfs_serve.specs.Endpoint.{Arrival}
-use Rattle.nfs_serve.specs.Points.{next, all_next, ops_of}
+use Rattle.nfs_serve.specs.Points.{state_after, state_after_all, ops_of}
 use Rattle.nfs_serve.specs.OpenKept.{LeaveOpen}
 use Rattle.nfs_serve.specs.Exchanges.{words}
 use Rattle.nfs_serve.specs.HeldLock.{came, in_session, waits, start, statuses}
@@ -54,16 +54,16 @@ abbrev pub last_bits : Bits
 last_bits = record { access = record { reads = true; writes = false }; deny = neither }
 
 abbrev pub opened : State
-opened = next start opens
+opened = state_after start opens
 
 abbrev pub asked : State
-asked = all_next opened waits
+asked = state_after_all opened waits
 
 abbrev pub asked_again : State
-asked_again = next (next asked asks) opens_again
+asked_again = state_after (state_after asked asks) opens_again
 
 abbrev pub downgraded : State
-downgraded = next (next asked_again asks_again) downgrades
+downgraded = state_after (state_after asked_again asks_again) downgrades
 
 -- The run meets the premises of the promise, and computes to what it says.
 pub record IsOpenTo : Type 0 where
@@ -76,7 +76,7 @@ pub record IsOpenTo : Type 0 where
   pub kept : LeaveOpen its_open first_bits 90 102 opened (waits ++ asks ∷ opens_again ∷ asks_again ∷ downgrades ∷ []) (λ b last s. b ≡ last_bits)
   -- so B is denied while the open denies others to write, and then is not
   pub denied : statuses (ops_of asked asks) ≡ Nfs4Ok ∷ ShareDenied ∷ []
-  pub joined : statuses (ops_of (next asked asks) opens_again) ≡ Nfs4Ok ∷ Nfs4Ok ∷ []
+  pub joined : statuses (ops_of (state_after asked asks) opens_again) ≡ Nfs4Ok ∷ Nfs4Ok ∷ []
   pub again : statuses (ops_of asked_again asks_again) ≡ Nfs4Ok ∷ ShareDenied ∷ []
-  pub narrowed : statuses (ops_of (next asked_again asks_again) downgrades) ≡ Nfs4Ok ∷ Nfs4Ok ∷ []
+  pub narrowed : statuses (ops_of (state_after asked_again asks_again) downgrades) ≡ Nfs4Ok ∷ Nfs4Ok ∷ []
   pub granted : statuses (ops_of downgraded asks_last) ≡ Nfs4Ok ∷ Nfs4Ok ∷ []

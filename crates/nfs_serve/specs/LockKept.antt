@@ -14,7 +14,7 @@ use Rattle.nfs_files.specs.LockTold.{LockTold, Stands, Clashes}
 use Rattle.nfs_exec.specs.LockHeld.{LocksFor, AreSpared, StandsWhile, Tells, IsAlone, renews}
 use Rattle.nfs_serve.specs.Step.{State}
 use Rattle.nfs_serve.specs.Endpoint.{Arrival}
-use Rattle.nfs_serve.specs.Points.{next, reached, taken, before, asked_by, ops_of}
+use Rattle.nfs_serve.specs.Points.{state_after, reached, taken, before, asked_by, ops_of}
 
 -- a request of it runs in a session of the client, and so renews the client's lease
 abbrev pub renews_by : ℕ → State → Arrival → Bool
@@ -31,8 +31,8 @@ StaysHeld k lease last s (c ∷ more) =
     Stands k s.machine.store.opens
     × (taken s c ≤ last + lease →
     StandsWhile k (ops_of s c)
-    × (AreSpared k (ops_of s c) → IsAlone k.client (before s c) (next s c).machine →
-    StaysHeld k lease (if renews_by k.client s c then taken s c else last) (next s c) more))
+    × (AreSpared k (ops_of s c) → IsAlone k.client (before s c) (state_after s c).machine →
+    StaysHeld k lease (if renews_by k.client s c then taken s c else last) (state_after s c) more))
 
 -- The records come in time, and spare the lock and its client, up to a state and a moment of the client's last renewal of which this holds.
 abbrev pub AreInTime : LockTold → (lease last : ℕ) → State → List Arrival → (ℕ → State → Type 0) → Type 0
@@ -40,8 +40,8 @@ AreInTime k lease last s [] Then = Then last s
 AreInTime k lease last s (c ∷ more) Then =
     (taken s c ≤ last + lease)
     × AreSpared k (ops_of s c)
-    × IsAlone k.client (before s c) (next s c).machine
-    × AreInTime k lease (if renews_by k.client s c then taken s c else last) (next s c) more Then
+    × IsAlone k.client (before s c) (state_after s c).machine
+    × AreInTime k lease (if renews_by k.client s c then taken s c else last) (state_after s c) more Then
 
 -- In every run of a server whose leases last so many seconds, from its start on: a LOCK in the record's compound told the lock, and
 -- these operations are behind it there. The lock stands before each of them while they spare it; and if they all do, it stays through
@@ -50,7 +50,7 @@ abbrev pub LockKept : Type 0
 LockKept = (mode instance lease : ℕ) (earlier : List Arrival) (c : Arrival) (k : LockTold) (front : List RanOp) (lock : RanOp) (back : List RanOp)
     → (let s = reached mode instance lease earlier in
     ops_of s c ≡ front ++ lock ∷ back → Tells k lock
-    → StandsWhile k back × (AreSpared k back → (more : List Arrival) → StaysHeld k lease (taken s c) (next s c) more))
+    → StandsWhile k back × (AreSpared k back → (more : List Arrival) → StaysHeld k lease (taken s c) (state_after s c) more))
 
 -- Whatever LOCK was told told a lock: all that it asked for, where that is a byte at least, as each range on the wire is.
 abbrev pub EachIsTold : Type 0
@@ -67,7 +67,7 @@ OnlyOneIsTold = (mode instance lease : ℕ) (earlier : List Arrival) (c : Arriva
     (between : List Arrival) (d : Arrival) (until : List RanOp) (second : RanOp) (behind : List RanOp) (n : ℕ) (w : Wish)
     → (let s = reached mode instance lease earlier in
     ops_of s c ≡ front ++ first ∷ back → Tells k first → AreSpared k back
-    → AreInTime k lease (taken s c) (next s c) between
+    → AreInTime k lease (taken s c) (state_after s c) between
     (λ last t. (ops_of t d ≡ until ++ second ∷ behind) × (taken t d ≤ last + lease) × AreSpared k until)
     → LocksFor second n w → Clashes k n w → ⊥)
 

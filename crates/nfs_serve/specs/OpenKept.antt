@@ -11,7 +11,7 @@ use Rattle.nfs_exec.specs.LockHeld.{IsAlone}
 use Rattle.nfs_exec.specs.OpenHeld.{OpenWhile, NoneCloses, bits_left, TellsOpen}
 use Rattle.nfs_serve.specs.Step.{State}
 use Rattle.nfs_serve.specs.Endpoint.{Arrival}
-use Rattle.nfs_serve.specs.Points.{next, reached, taken, before, ops_of}
+use Rattle.nfs_serve.specs.Points.{state_after, reached, taken, before, ops_of}
 use Rattle.nfs_serve.specs.LockKept.{renews_by}
 
 -- The open stands here with these bits, and stays through these records, where `last` is the moment of its client's last renewal: if the next one is taken at
@@ -23,8 +23,8 @@ StaysOpen k b lease last s (c ∷ more) =
     IsOpenWith k b s.machine.store.opens
     × (taken s c ≤ last + lease →
     OpenWhile k b (ops_of s c)
-    × (NoneCloses k (ops_of s c) → IsAlone k.client (before s c) (next s c).machine →
-    StaysOpen k (bits_left k.number b (ops_of s c)) lease (if renews_by k.client s c then taken s c else last) (next s c) more))
+    × (NoneCloses k (ops_of s c) → IsAlone k.client (before s c) (state_after s c).machine →
+    StaysOpen k (bits_left k.number b (ops_of s c)) lease (if renews_by k.client s c then taken s c else last) (state_after s c) more))
 
 -- In every run of a server whose leases last so many seconds, from its start on: an OPEN in the record's compound told the open, and these operations are
 -- behind it there. The open stands before each of them while none closes it; and if none does, it stays through whatever records come, from the moment of
@@ -34,7 +34,7 @@ OpenKept = (mode instance lease : ℕ) (earlier : List Arrival) (c : Arrival) (k
     → (let s = reached mode instance lease earlier in
     ops_of s c ≡ front ++ told ∷ back → TellsOpen k b told
     → OpenWhile k b back
-    × (NoneCloses k back → (more : List Arrival) → StaysOpen k (bits_left k.number b back) lease (taken s c) (next s c) more))
+    × (NoneCloses k back → (more : List Arrival) → StaysOpen k (bits_left k.number b back) lease (taken s c) (state_after s c) more))
 
 -- Whatever OPEN is answered NFS4_OK and a stateid told an open.
 abbrev pub EachOpenIsTold : Type 0
@@ -48,5 +48,5 @@ LeaveOpen k b lease last s [] Then = Then b last s
 LeaveOpen k b lease last s (c ∷ more) Then =
     (taken s c ≤ last + lease)
     × NoneCloses k (ops_of s c)
-    × IsAlone k.client (before s c) (next s c).machine
-    × LeaveOpen k (bits_left k.number b (ops_of s c)) lease (if renews_by k.client s c then taken s c else last) (next s c) more Then
+    × IsAlone k.client (before s c) (state_after s c).machine
+    × LeaveOpen k (bits_left k.number b (ops_of s c)) lease (if renews_by k.client s c then taken s c else last) (state_after s c) more Then

@@ -8,7 +8,7 @@ use Rattle.nfs_opens.specs.Table.{Table}
 use Rattle.nfs_exec.specs.Renewing.{renews_or_begins}
 use Rattle.nfs_serve.specs.Step.{State, new_state}
 use Rattle.nfs_serve.specs.Endpoint.{Arrival}
-use Rattle.nfs_serve.specs.Points.{next, reached, taken, before, asked_by}
+use Rattle.nfs_serve.specs.Points.{state_after, reached, taken, before, asked_by}
 
 -- a record renews a client's lease, or begins it
 abbrev pub renewed_by : ℕ → State → Arrival → Bool
@@ -17,7 +17,7 @@ renewed_by client s c = option_map_or (renews_or_begins client (before s c)) (as
 -- the moment of the last of these records that did
 abbrev pub last_renewal : ℕ → Option ℕ → State → List Arrival → Option ℕ
 last_renewal client last s [] = last
-last_renewal client last s (c ∷ more) = last_renewal client (if renewed_by client s c then Some (taken s c) else last) (next s c) more
+last_renewal client last s (c ∷ more) = last_renewal client (if renewed_by client s c then Some (taken s c) else last) (state_after s c) more
 
 -- lock state n stands in the table, of a client that renewed its lease by these moments at most a lease ago
 pub record IsInTime (t : Table) (n lease now : ℕ) (renewal : ℕ → Option ℕ) : Type 0 where

@@ -13,16 +13,16 @@ use Rattle.nfs_serve.specs.Endpoint.{Arrival}
 use Rattle.nfs_serve.specs.Step.{State, new_state, step, asked_of}
 
 -- the state behind a record, and behind a list of them: `ran` of Endpoint, for this server (`EachFormRunsRecords`)
-abbrev pub next : State → Arrival → State
-next s c = (step s c.bytes c.now c.choice).state
+abbrev pub state_after : State → Arrival → State
+state_after s c = (step s c.bytes c.now c.choice).state
 
-abbrev pub all_next : State → List Arrival → State
-all_next s [] = s
-all_next s (c ∷ more) = all_next (next s c) more
+abbrev pub state_after_all : State → List Arrival → State
+state_after_all s [] = s
+state_after_all s (c ∷ more) = state_after_all (state_after s c) more
 
 -- the state that records reach from the start of a server on, whose leases last so many seconds
 abbrev pub reached : (mode instance lease : ℕ) → List Arrival → State
-reached mode instance lease records = all_next (new_state mode instance lease) records
+reached mode instance lease records = state_after_all (new_state mode instance lease) records
 
 -- the moment that it is taken at
 abbrev pub taken : State → Arrival → ℕ

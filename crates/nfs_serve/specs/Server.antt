@@ -20,16 +20,16 @@ abbrev pub fresh : Gathered
 fresh = Begun start
 
 -- what lasts from one record to the next, as it is kept, and the state that the steps speak of
-pub record Kept : Type 0 where
-  pub world : exec.Kept
+pub record KeptServer : Type 0 where
+  pub world : exec.KeptTables
   pub moment : ℕ
 
-abbrev pub state_of : Kept → State
+abbrev pub state_of : KeptServer → State
 state_of k = record { machine = machine_of k.world; moment = k.moment }
 
 -- what is kept, what is held of the stream of each connection, and the reply that is lent
 pub record ServerModel : Type 0 where
-  pub kept : Kept
+  pub kept : KeptServer
   pub held : List Gathered
   pub reply : List ℕ
 

@@ -8,7 +8,7 @@ use Rattle.nfs_exec.specs.Ops.{RanOp}
 use Rattle.nfs_exec.specs.WrittenRun.{WritesIt, AreSpared, StandsBefore}
 use Rattle.nfs_serve.specs.Step.{State}
 use Rattle.nfs_serve.specs.Endpoint.{Arrival}
-use Rattle.nfs_serve.specs.Points.{next, ops_of}
+use Rattle.nfs_serve.specs.Points.{state_after, ops_of}
 use Rattle.nfs_serve.specs.Exchanges.{words}
 use Rattle.nfs_serve.specs.SeenWrite as seen
 use Rattle.nfs_serve.specs.HeldLock.{came, in_session, start, last_of}
@@ -33,16 +33,16 @@ abbrev pub reads : Arrival
 reads = came 106 7 (in_session 1 5 4 seen.reads)
 
 abbrev pub made : State
-made = next start makes
+made = state_after start makes
 
 abbrev pub written : State
-written = next made writes
+written = state_after made writes
 
 abbrev pub grown : State
-grown = next written goes_on
+grown = state_after written goes_on
 
 abbrev pub closed : State
-closed = next grown closes
+closed = state_after grown closes
 
 -- the first `e` of `seen`
 abbrev pub byte : Byte

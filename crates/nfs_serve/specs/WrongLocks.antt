@@ -14,7 +14,7 @@ use Rattle.nfs_exec.specs.Delayed.{IsDelayed}
 use Rattle.nfs_exec.specs.Ops.{RanOp}
 use Rattle.nfs_exec.specs.LockHeld.{StandsBefore, StandsWhile}
 use Rattle.nfs_serve.specs.Step.{State, new_state}
-use Rattle.nfs_serve.specs.Points.{next, reached, before, asked_by, ops_of}
+use Rattle.nfs_serve.specs.Points.{state_after, reached, before, asked_by, ops_of}
 use Rattle.nfs_serve.specs.LockKept.{StaysHeld}
 use Rattle.nfs_serve.specs.Outlived.{last_renewal, IsInTime}
 use Rattle.nfs_serve.specs.Exchanges.{words}
@@ -22,7 +22,7 @@ use Rattle.nfs_serve.specs.HeldLock.{earlier, locks, renewal, clashes, locked, a
 
 -- a server whose leases last one second, whatever the client was told
 abbrev pub short_leases : State
-short_leases = next (reached 511 7 1 earlier) locks
+short_leases = state_after (reached 511 7 1 earlier) locks
 
 -- a LOCK that sets the lease of its client back
 abbrev pub set_back : State

@@ -32,11 +32,11 @@ abbrev pub judged : Small → Heading → Verdict
 judged s h = judge_slot (s.slots h.place) h.compound.number h.compound.uid h.compound.args
 
 -- the compound is run, and its slot keeps the result
-abbrev pub kept : Heading → List ℕ → SlotState
-kept h result = record { number = h.compound.number; used = true; uid = h.compound.uid; args = h.compound.args; reply = result }
+abbrev pub slot_keeping : Heading → List ℕ → SlotState
+slot_keeping h result = record { number = h.compound.number; used = true; uid = h.compound.uid; args = h.compound.args; reply = result }
 
 abbrev pub run : Small → Heading → List ℕ → Small
-run s h result = record { slots = λ p. if same_place h.place p then kept h result else s.slots p; ran = s.ran ++ h.compound.number ∷ [] }
+run s h result = record { slots = λ p. if same_place h.place p then slot_keeping h result else s.slots p; ran = s.ran ++ h.compound.number ∷ [] }
 
 abbrev pub is_fresh : Verdict → Bool
 is_fresh Fresh = true

@@ -12,7 +12,7 @@ use Rattle.nfs_sessions.specs.declared.sessions.SessionFault.{SessionFault}
 use Rattle.nfs_sessions.specs.Channel.{granted}
 use Rattle.nfs_sessions.specs.SessionSlots.{GrantedSlots, unused}
 use Rattle.nfs_sessions.specs.Sessions.{Session, SessionTable, is_session, session_at, create_fault, create_unless, with_session, destroyed}
-use Rattle.nfs_sessions.specs.Kept.{IsSessions}
+use Rattle.nfs_sessions.specs.SessionTables.{IsSessions}
 use Rattle.nfs_sessions.specs.Sessions.{without_client, with_slots}
 use Rattle.nfs_sessions.specs.Laws.{is_id, SessionsAreAMap, Call, Create, Destroy, DropClient, Change, all_after, all_given, IdsRise}
 use Rattle.nfs_xdr.proofs.Lists.{find_none, find_out, find_past, find_map_as, find_push, find_push_other}

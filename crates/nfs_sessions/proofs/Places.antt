@@ -15,7 +15,7 @@ use Rattle.nfs_xdr.proofs.Lists.{find_none, none_in, filter_in, filter_all, some
 use Rattle.nfs_xdr.proofs.Tables.{position_is, in_once, removed, searched}
 use Rattle.nfs_sessions.specs.declared.id.SessionId.{SessionId}
 use Rattle.nfs_sessions.specs.Sessions.{Session, SessionTable, is_session, session_at, destroyed}
-use Rattle.nfs_sessions.specs.Kept.{IsSessions}
+use Rattle.nfs_sessions.specs.SessionTables.{IsSessions}
 use Rattle.nfs_sessions.proofs.TableLemmas.{is_counter, sessions_filtered}
 
 nowhere_of : {X : Type 0} (p : X → Bool) (xs : List X) → find p xs ≡ None → position p xs ≡ None

@@ -12,7 +12,7 @@ use Rattle.nfs_sessions.specs.declared.id.SessionId.{SessionId}
 use Rattle.nfs_sessions.specs.Channel.{granted}
 use Rattle.nfs_sessions.specs.SessionSlots.{GrantedSlots, unused}
 use Rattle.nfs_sessions.specs.Sessions.{Session, SessionTable, is_session, session_at, with_session, with_slots}
-use Rattle.nfs_sessions.specs.Kept.{IsSessions}
+use Rattle.nfs_sessions.specs.SessionTables.{IsSessions}
 
 pub sessions_filtered : (t : SessionTable) (p : Session → Bool) → IsSessions t → IsSessions (record t { sessions = filter p t.sessions })
 sessions_filtered t p is = record { rising = IsRising-filter (λ (s : Session). s.counter) p 1 (suc t.last) t.sessions is.rising }

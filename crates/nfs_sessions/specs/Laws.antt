@@ -7,7 +7,7 @@ use Rattle.nfs_sessions.specs.declared.id.SessionId.{SessionId}
 use Rattle.nfs_sessions.specs.Channel.{granted}
 use Rattle.nfs_sessions.specs.SessionSlots.{GrantedSlots, unused}
 use Rattle.nfs_sessions.specs.Sessions.{Session, SessionTable, session_at, create, with_session, destroyed, without_client, with_slots}
-use Rattle.nfs_sessions.specs.Kept.{IsSessions}
+use Rattle.nfs_sessions.specs.SessionTables.{IsSessions}
 
 abbrev pub is_id : SessionId → SessionId → Bool
 is_id id other = (id.counter == other.counter) && (id.client == other.client)

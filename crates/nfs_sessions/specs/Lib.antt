@@ -3,5 +3,5 @@ pub mod Channel
 pub mod SessionSlots
 pub mod Sessions
 pub mod Laws
-pub mod Kept
+pub mod SessionTables
 pub mod Lends

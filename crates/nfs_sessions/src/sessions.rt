@@ -8,7 +8,7 @@ ghost use Rattle.nfs_xdr.specs.Checks.{judged};
 ghost use Rattle.nfs_sessions.specs.declared.sessions.SessionFault.TheVariants.{Memory};
 ghost use Rattle.nfs_sessions.specs.Sessions.{no_sessions, is_session, session_at, stays, create, create_fault, with_session, destroyed, without_client, keep};
 ghost use Rattle.nfs_sessions.specs.Sessions.{fault_status};
-ghost use Rattle.nfs_sessions.specs.Kept.{IsSessions, CreatesOrWants, MayKeep};
+ghost use Rattle.nfs_sessions.specs.SessionTables.{IsSessions, CreatesOrWants, MayKeep};
 
 use crate::channel::Wish;
 use crate::id::SessionId;
@@ -77,7 +77,7 @@ pub struct Sessions {
 
 impl Model for Sessions {
     ghost use Rattle.nfs_sessions.specs.Sessions.{SessionTable};
-    ghost use Rattle.nfs_sessions.specs.Kept.{IsSessions};
+    ghost use Rattle.nfs_sessions.specs.SessionTables.{IsSessions};
 
     ghost Value = { SessionTable };
 

@@ -1,7 +1,7 @@
 //! A session's slots, with the room that its channel asks for (RFC 8881 section 2.10.6).
 
 ghost use Rattle.std.specs.Prelude.{◌≡◌, ◌≤◌, ◌+◌, IfOk, length};
-ghost use Rattle.nfs_sessions.specs.Kept.{IsGranted, MayKeep, IsGrantedSlots};
+ghost use Rattle.nfs_sessions.specs.SessionTables.{IsGranted, MayKeep, IsGrantedSlots};
 ghost use Rattle.nfs_sessions.specs.SessionSlots.{unused, judge, kept, keep};
 
 use crate::channel::Channel;
@@ -22,7 +22,7 @@ pub struct SessionSlots {
 impl Model for SessionSlots {
     ghost use Rattle.std.specs.Prelude.{◌≡◌, ◌+◌, length};
     ghost use Rattle.nfs_sessions.specs.SessionSlots.{GrantedSlots};
-    ghost use Rattle.nfs_sessions.specs.Kept.{IsFitted};
+    ghost use Rattle.nfs_sessions.specs.SessionTables.{IsFitted};
 
     ghost Value = { GrantedSlots };
 

@@ -11,8 +11,8 @@ use Rattle.std.proofs.lemmas.Slice.Eq.{bytes_eq-Decides}
 use Rattle.nfs_slots.specs.declared.slot.Slot.{Slot}
 use Rattle.nfs_slots.specs.declared.slot.Verdict.TheVariants.{Fresh, Again, FalseRetry, Misordered, NoSlot}
 use Rattle.nfs_slots.specs.Slot.{SlotState, SlotTable, next_number, judge_slot, slot_at, judge, keep}
-use Rattle.nfs_slots.specs.Kept.{IsBounded}
-use Rattle.nfs_slots.specs.Buffers.{state_of, IsKept}
+use Rattle.nfs_slots.specs.SlotTables.{IsBounded}
+use Rattle.nfs_slots.specs.Buffers.{state_of, IsWithinRoom}
 use Rattle.nfs_slots.specs.Laws.{Request, is_on, Keeps, OnePlace, RepeatsAreAnswered}
 
 -- what a slot's buffers stand for, put into the table
@@ -141,19 +141,19 @@ repeats_are_answered old new r more keeps none =
       ap (λ (x : Option SlotState). option_map_or (λ s. s.reply) x []) there,
     )
 
-reply_at : (size request : ℕ) (slots : List Slot) (slot : ℕ) → All (IsKept size request) slots
+reply_at : (size request : ℕ) (slots : List Slot) (slot : ℕ) → All (IsWithinRoom size request) slots
     → length (option_map_or (λ s. s.reply) (slice_get (map state_of slots) slot) []) ≤ size
 reply_at size request [] slot all = omega arith
-reply_at size request (s ∷ slots) zero all = (All-head (IsKept size request) s slots all).1
-reply_at size request (s ∷ slots) (suc i) all = reply_at size request slots i (All-tail (IsKept size request) s slots all)
+reply_at size request (s ∷ slots) zero all = (All-head (IsWithinRoom size request) s slots all).1
+reply_at size request (s ∷ slots) (suc i) all = reply_at size request slots i (All-tail (IsWithinRoom size request) s slots all)
 
-args_at : (size request : ℕ) (slots : List Slot) (slot : ℕ) → All (IsKept size request) slots
+args_at : (size request : ℕ) (slots : List Slot) (slot : ℕ) → All (IsWithinRoom size request) slots
     → length (option_map_or (λ s. s.args) (slice_get (map state_of slots) slot) []) ≤ request
 args_at size request [] slot all = omega arith
-args_at size request (s ∷ slots) zero all = (All-head (IsKept size request) s slots all).2
-args_at size request (s ∷ slots) (suc i) all = args_at size request slots i (All-tail (IsKept size request) s slots all)
+args_at size request (s ∷ slots) zero all = (All-head (IsWithinRoom size request) s slots all).2
+args_at size request (s ∷ slots) (suc i) all = args_at size request slots i (All-tail (IsWithinRoom size request) s slots all)
 
-pub bounded : (size request : ℕ) (slots : List Slot) → All (IsKept size request) slots
+pub bounded : (size request : ℕ) (slots : List Slot) → All (IsWithinRoom size request) slots
     → IsBounded (record { slots = map state_of slots; size = size; request = request })
 bounded size request slots all = record { reply = λ slot. reply_at size request slots slot all; args = λ slot. args_at size request slots slot all }
 

@@ -12,5 +12,5 @@ abbrev pub HasRoom : ℕ → ℕ → Slot → Type 0
 HasRoom size request s = (size ≤ vec_capacity s.reply) × (request ≤ vec_capacity s.args)
 
 -- the slot has the room that it reserved, and keeps no more than that
-abbrev pub IsKept : ℕ → ℕ → Slot → Type 0
-IsKept size request s = HasRoom size request s × (length s.reply.items ≤ size) × (length s.args.items ≤ request)
+abbrev pub IsWithinRoom : ℕ → ℕ → Slot → Type 0
+IsWithinRoom size request s = HasRoom size request s × (length s.reply.items ≤ size) × (length s.args.items ≤ request)

@@ -1,4 +1,4 @@
 pub mod Slot
 pub mod Buffers
 pub mod Laws
-pub mod Kept
+pub mod SlotTables

@@ -2,8 +2,8 @@
 
 ghost use Rattle.std.specs.Prelude.{◌≡◌, ◌≤◌, Bool, true, false, [], length, IfOk, vec_capacity};
 ghost use Rattle.nfs_slots.specs.Slot.{judge_slot, unused_slot};
-ghost use Rattle.nfs_slots.specs.Kept.{verdict_status};
-ghost use Rattle.nfs_slots.specs.Buffers.{state_of, HasRoom, IsKept};
+ghost use Rattle.nfs_slots.specs.SlotTables.{verdict_status};
+ghost use Rattle.nfs_slots.specs.Buffers.{state_of, HasRoom, IsWithinRoom};
 
 use nfs_xdr::Status;
 use std::alloc::{AllocError, Global};
@@ -51,7 +51,7 @@ impl Slot {
     /// A slot that took no request yet, with room for a reply of `size` bytes and arguments of `request` bytes.
     pub(crate) fn new(alloc: Global, size: usize, request: usize) -> Result<Slot, AllocError>
         ensures unused { IfOk result (λ s. state_of s ≡ unused_slot) }
-        ensures room { IfOk result (IsKept size request) }
+        ensures room { IfOk result (IsWithinRoom size request) }
     {
         let args = Vec::with_capacity(alloc, request)?;
         let reply = Vec::with_capacity(alloc, size)?;

@@ -2,7 +2,7 @@
 
 ghost use Rattle.std.specs.Prelude.{◌≡◌, ◌≤◌, length, IfOk};
 ghost use Rattle.nfs_slots.specs.Slot.{judge, keep, kept};
-ghost use Rattle.nfs_slots.specs.Kept.{unused, IsBounded};
+ghost use Rattle.nfs_slots.specs.SlotTables.{unused, IsBounded};
 
 use crate::slot::{Slot, Verdict};
 use std::alloc::{AllocError, Global};
@@ -19,13 +19,13 @@ pub struct Slots {
 impl Model for Slots {
     ghost use Rattle.std.specs.Prelude.{map, All};
     ghost use Rattle.nfs_slots.specs.Slot.{SlotTable};
-    ghost use Rattle.nfs_slots.specs.Buffers.{state_of, IsKept};
+    ghost use Rattle.nfs_slots.specs.Buffers.{state_of, IsWithinRoom};
 
     ghost Value = { SlotTable };
 
     ghost view = { λ t. record { slots = map state_of t.slots.items; size = t.size; request = t.request } };
 
-    ghost invariant = { λ t. All (IsKept t.size t.request) t.slots.items };
+    ghost invariant = { λ t. All (IsWithinRoom t.size t.request) t.slots.items };
 }
 
 impl Slots {

@@ -9,7 +9,7 @@ use Rattle.nfs_tree.specs.declared.row.Row.{Row}
 use Rattle.nfs_tree.specs.Files.{entry, is_directory_at, is_there, parent_in}
 use Rattle.nfs_tree.specs.Names.{is_at_or_below}
 use Rattle.nfs_tree.specs.Walks.{walk}
-use Rattle.nfs_tree.specs.Kept.{Grounded}
+use Rattle.nfs_tree.specs.TreeInvariants.{Grounded}
 use Rattle.nfs_tree.specs.Laws.{BelowIsReached}
 use Rattle.nfs_tree.proofs.Walked.{Ends, ends, then_walk}
 use Rattle.nfs_tree.proofs.Move.{AreUnique, unique_of, depth_bound, parent_is}

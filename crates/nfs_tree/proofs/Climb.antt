@@ -9,7 +9,7 @@ use Rattle.nfs_xdr.proofs.Lists.{find_in, none_in, none_any}
 use Rattle.nfs_tree.specs.Files.{parent_in, has_entries}
 use Rattle.nfs_tree.specs.Names.{is_at_or_below}
 use Rattle.nfs_tree.specs.Maps.{HasOneRow}
-use Rattle.nfs_tree.specs.Kept.{AreRows}
+use Rattle.nfs_tree.specs.TreeInvariants.{AreRows}
 
 pub climb_step : (rows : List Row) (top n m at p : ℕ) (whole : Bool) → n ≡ suc m → (at == top) ≡ false
     → parent_in rows at ≡ Some p → is_at_or_below rows top n at ≡ whole → is_at_or_below rows top m p ≡ whole

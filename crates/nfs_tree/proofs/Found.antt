@@ -15,7 +15,7 @@ use Rattle.nfs_tree.specs.Files.{Files, root, is_entry, entry, lookup, named, ha
 use Rattle.nfs_tree.specs.Calls.{does_unless, create, create_fault, remove, remove_fault}
 use Rattle.nfs_tree.specs.Create.{New, with_new}
 use Rattle.nfs_tree.specs.Names.{without_name}
-use Rattle.nfs_tree.specs.Kept.{IsTree}
+use Rattle.nfs_tree.specs.TreeInvariants.{IsTree}
 use Rattle.nfs_tree.specs.Laws.{CreatedIsFound, RemovedIsAbsent, RemovedIsEmpty, IsUnused, NewIsUnused, UnlinkedIsUnnamed}
 use Rattle.nfs_tree.proofs.RowsKept.{entry_self}
 use Rattle.nfs_tree.proofs.Objects.{stored_within}

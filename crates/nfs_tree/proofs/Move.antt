@@ -12,7 +12,7 @@ use Rattle.nfs_tree.specs.Files.{root, most_links, is_name, is_entry, entry}
 use Rattle.nfs_tree.specs.Files.{parent_in, links_in}
 use Rattle.nfs_tree.specs.Files.{without_entry}
 use Rattle.nfs_tree.specs.Names.{is_at_or_below}
-use Rattle.nfs_tree.specs.Kept.{Grounded, AreRows}
+use Rattle.nfs_tree.specs.TreeInvariants.{Grounded, AreRows}
 use Rattle.nfs_tree.proofs.RowsKept.{entry_parts, entry_self, grounded_in, found_put, one_put, few_put, either}
 
 -- what makes the way up from a directory one way

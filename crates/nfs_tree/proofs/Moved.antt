@@ -16,7 +16,7 @@ use Rattle.nfs_tree.specs.Calls.{CanChange, IsReached, rename_fault}
 use Rattle.nfs_tree.specs.Files.{named, has_entries, with_entries_changed, with_links_changed, without_entry}
 use Rattle.nfs_tree.specs.Names.{is_at_or_below, Move, moved_object, replaced_object, moves, is_below_itself, is_unlike, is_in_the_way, can_move}
 use Rattle.nfs_tree.specs.Names.{rename_checks, with_both_changed, with_moved}
-use Rattle.nfs_tree.specs.Kept.{Grounded, AreRows, IsTree}
+use Rattle.nfs_tree.specs.TreeInvariants.{Grounded, AreRows, IsTree}
 use Rattle.nfs_tree.proofs.RowsKept.{entry_parts, reached, grounded_without, no_entries}
 use Rattle.nfs_tree.proofs.Objects.{stored_within, can_change_all, can_change_none}
 use Rattle.nfs_tree.proofs.Trees.{tree_changed, tree_dropped, entry_names, row_of, has_one, apart}

@@ -15,7 +15,7 @@ use Rattle.nfs_tree.specs.declared.stored.Stored.{Stored}
 use Rattle.nfs_tree.specs.Object.{is_directory, changed}
 use Rattle.nfs_tree.specs.Files.{last_count, stored_in, is_directory_in, change_at, with_changed}
 use Rattle.nfs_tree.specs.Calls.{CanChange}
-use Rattle.nfs_tree.specs.Kept.{IsSized}
+use Rattle.nfs_tree.specs.TreeInvariants.{IsSized}
 
 -- a change of objects that keeps numbers, types and sizes
 pub record Keeps (objects : List Stored) (f : Stored → Stored) : Type 0 where

@@ -21,7 +21,7 @@ use Rattle.nfs_tree.specs.Calls.{IsReached, create_fault, link_fault}
 use Rattle.nfs_tree.specs.Create.{New, File, Directory, Link, size_of, data_of, kind_of, new_object, is_bad_text, is_too_big, create_checks}
 use Rattle.nfs_tree.specs.Create.{with_new}
 use Rattle.nfs_tree.specs.Names.{link_checks, with_link}
-use Rattle.nfs_tree.specs.Kept.{IsSized, IsTree, most_of}
+use Rattle.nfs_tree.specs.TreeInvariants.{IsSized, IsTree, most_of}
 use Rattle.nfs_tree.proofs.RowsKept.{rows_same, rows_put, CanPut, reached}
 use Rattle.nfs_tree.proofs.Objects.{keeps_changed, there_map, directory_map, stored_within, stored_push, new_there}
 use Rattle.nfs_tree.proofs.Trees.{tree_changed}

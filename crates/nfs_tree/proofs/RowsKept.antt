@@ -9,7 +9,7 @@ use Rattle.nfs_tree.specs.Files.{root, most_links, is_name, is_entry, entry, lin
 use Rattle.nfs_xdr.specs.Tables.{In}
 use Rattle.nfs_xdr.proofs.Lists.{in_filter, stays_in, in_push, push_in, find_kept, find_push_some}
 use Rattle.nfs_xdr.proofs.Lists.{find_push_none, count_filter, count_push, in_any, any_in}
-use Rattle.nfs_tree.specs.Kept.{Grounded, AreRows}
+use Rattle.nfs_tree.specs.TreeInvariants.{Grounded, AreRows}
 
 -- the same rows under tests that give the same
 pub rows_same : (rows : List Row) (dirs there dirs' there' : ℕ → Bool) → AreRows rows dirs there

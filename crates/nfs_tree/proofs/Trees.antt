@@ -19,7 +19,7 @@ use Rattle.nfs_tree.specs.Files.{entry, has_name, named, has_row, has_entries, c
 use Rattle.nfs_tree.specs.Files.{with_links_changed, without_entry}
 use Rattle.nfs_tree.specs.Names.{forget, remove_checks, without_name}
 use Rattle.nfs_tree.specs.Calls.{remove_fault, set_checks, set_fault}
-use Rattle.nfs_tree.specs.Kept.{IsSized, IsTree}
+use Rattle.nfs_tree.specs.TreeInvariants.{IsSized, IsTree}
 use Rattle.nfs_tree.proofs.RowsKept.{rows_same, rows_dropped, no_entries, no_row, only_entry, entry_parts}
 use Rattle.nfs_tree.proofs.Objects.{Keeps, keeps_changed, there_map, directory_map, stored_dropped}
 

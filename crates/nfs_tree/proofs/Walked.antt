@@ -7,7 +7,7 @@ use Rattle.nfs_tree.specs.Files.{Files, root, is_entry, entry, is_directory_at, 
 use Rattle.nfs_xdr.specs.Tables.{In}
 use Rattle.nfs_xdr.proofs.Lists.{find_in}
 use Rattle.nfs_tree.specs.Walks.{walk, HasOneWalk, IsWellFormed}
-use Rattle.nfs_tree.specs.Kept.{Grounded, AreRows, IsTree}
+use Rattle.nfs_tree.specs.TreeInvariants.{Grounded, AreRows, IsTree}
 use Rattle.nfs_tree.proofs.RowsKept.{entry_parts}
 
 pub then_walk : (rows : List Row) (d : ℕ) (names : List (List ℕ)) (r : Row) → walk rows d names ≡ Some r.directory

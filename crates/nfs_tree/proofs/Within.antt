@@ -8,7 +8,7 @@ use Rattle.nfs_xdr.proofs.Lists.{find_in}
 use Rattle.nfs_tree.specs.declared.row.Row.{Row}
 use Rattle.nfs_tree.specs.Files.{Files, is_entry, entry, is_directory_at, is_there, has_name, parent_in}
 use Rattle.nfs_tree.specs.Names.{Move, moved_object, is_at_or_below, is_below_itself}
-use Rattle.nfs_tree.specs.Kept.{Grounded, AreRows, IsTree}
+use Rattle.nfs_tree.specs.TreeInvariants.{Grounded, AreRows, IsTree}
 use Rattle.nfs_tree.proofs.RowsKept.{entry_parts}
 use Rattle.nfs_tree.proofs.Trees.{row_of}
 use Rattle.nfs_tree.proofs.Put.{vacant_of}

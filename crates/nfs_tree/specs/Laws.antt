@@ -9,7 +9,7 @@ use Rattle.nfs_tree.specs.Create.{New}
 use Rattle.nfs_tree.specs.Calls.{create, remove}
 use Rattle.nfs_tree.specs.Names.{is_at_or_below}
 use Rattle.nfs_tree.specs.Walks.{IsWellFormed, walk}
-use Rattle.nfs_tree.specs.Kept.{IsTree}
+use Rattle.nfs_tree.specs.TreeInvariants.{IsTree}
 
 -- what every tree keeps makes it well formed
 abbrev pub TreesAreWellFormed : Type 0

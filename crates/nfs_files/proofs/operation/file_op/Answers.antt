@@ -9,7 +9,7 @@ use Rattle.nfs_results.specs.Largest.{largest}
 use Rattle.nfs_results.specs.Results.{status_of_result}
 use Rattle.nfs_results.specs.View as view
 use Rattle.nfs_names.specs.State.{state_of, moment}
-use Rattle.nfs_names.specs.Kept.{IsStore}
+use Rattle.nfs_names.specs.StoreInvariants.{IsStore}
 use Rattle.nfs_names.specs.Comes.{Comes}
 use Rattle.nfs_names.specs.Outcome.{Outcome, is_delay}
 use Rattle.nfs_names.specs.View.{outcome_of}

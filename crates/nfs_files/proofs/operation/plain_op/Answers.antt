@@ -4,7 +4,7 @@ use Rattle.nfs_results.specs.Result.{Res}
 use Rattle.nfs_results.specs.Results.{refusal}
 use Rattle.nfs_names.specs.State.{state_of}
 use Rattle.nfs_names.specs.Outcome.{Outcome}
-use Rattle.nfs_names.proofs.Kept.{rooted}
+use Rattle.nfs_names.proofs.StoreInvariants.{rooted}
 use Rattle.nfs_files.proofs.Arms.{unbuilt}
 use Rattle.nfs_files.proofs.operation.plain_op.Goals as goal
 

@@ -1,6 +1,6 @@
 use Rattle.std.proofs.Common.{◌≡◌, Some, None, sym, ◌∙◌, ap, subst}
 use Rattle.std.specs.Prelude.{◌==◌, position}
-use Rattle.nfs_opens.specs.Kept.{Rises}
+use Rattle.nfs_opens.specs.TableInvariants.{Rises}
 use Rattle.nfs_xdr.proofs.Lists.{position_nowhere}
 use Rattle.nfs_xdr.proofs.Tables.{removed, without_none}
 use Rattle.nfs_opens.proofs.by_number.drop_state.Goals as goal

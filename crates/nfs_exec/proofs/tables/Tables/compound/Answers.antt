@@ -5,7 +5,7 @@ use Rattle.nfs_xdr.specs.declared.status.Status.TheVariants.{Nfs4Ok, MinorVersMi
 use Rattle.nfs_compound.specs.Operation.{Item}
 use Rattle.nfs_compound.specs.Request.{Request}
 use Rattle.nfs_compound.specs.View.{item}
-use Rattle.nfs_names.specs.Kept.{IsStore}
+use Rattle.nfs_names.specs.StoreInvariants.{IsStore}
 use Rattle.nfs_exec.specs.Machine.{Machine, is_delay, machine_of}
 use Rattle.nfs_exec.proofs.Latest.{first_stores}
 use Rattle.nfs_exec.proofs.Bearing.{opened_all, opened_bears, opened_few}

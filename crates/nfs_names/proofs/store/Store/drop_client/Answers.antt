@@ -3,7 +3,7 @@ use Rattle.std.specs.Prelude.{◌==◌}
 use Rattle.nfs_opens.specs.Table.{table}
 use Rattle.nfs_opens.specs.Calls.{without_client}
 use Rattle.nfs_names.specs.State.{State, state_of}
-use Rattle.nfs_names.specs.Kept.{IsStore}
+use Rattle.nfs_names.specs.StoreInvariants.{IsStore}
 use Rattle.nfs_names.specs.Ending.{with_opens, staying}
 use Rattle.nfs_names.proofs.Staying.{staying_others, store_staying}
 use Rattle.nfs_names.proofs.store.Store.drop_client.Goals as goal

@@ -1,7 +1,7 @@
 use Rattle.std.proofs.Common.{sym, ◌∙◌}
 use Rattle.nfs_names.specs.State.{state_of}
 use Rattle.nfs_names.specs.Ending.{without_opens}
-use Rattle.nfs_names.proofs.Kept.{unused_empty}
+use Rattle.nfs_names.proofs.StoreInvariants.{unused_empty}
 use Rattle.nfs_names.proofs.store.Store.drop_own_file.Goals as goal
 
 pub forget-requires-clause-empty : goal.forget-requires-clause-empty

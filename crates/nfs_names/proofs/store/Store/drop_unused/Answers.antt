@@ -1,7 +1,7 @@
 use Rattle.std.proofs.Common.{sym, subst}
 use Rattle.nfs_names.specs.State.{State, state_of}
-use Rattle.nfs_names.specs.Kept.{IsRooted, IsStore}
-use Rattle.nfs_names.proofs.Kept.{unused_empty, rooted_without, store_without}
+use Rattle.nfs_names.specs.StoreInvariants.{IsRooted, IsStore}
+use Rattle.nfs_names.proofs.StoreInvariants.{unused_empty, rooted_without, store_without}
 use Rattle.nfs_names.proofs.store.Store.drop_unused.Goals as goal
 
 pub drop_empty-requires : goal.drop_empty-requires

@@ -3,7 +3,7 @@ use Rattle.nfs_opens.specs.declared.index.Pair.{Pair}
 use Rattle.nfs_opens.specs.declared.records.OpenState.{OpenState}
 use Rattle.nfs_opens.specs.Index.{IsIndex}
 use Rattle.nfs_opens.specs.Keys.{open_key}
-use Rattle.nfs_opens.specs.Kept.{HasOneEach}
+use Rattle.nfs_opens.specs.TableInvariants.{HasOneEach}
 use Rattle.nfs_opens.specs.Counts.{AreCounted}
 use Rattle.nfs_opens.proofs.IndexLemmas.{index_none}
 use Rattle.nfs_opens.proofs.SingleLemmas.{each_none}

@@ -4,7 +4,7 @@ use Rattle.nfs_opens.specs.declared.records.OpenState.{OpenState}
 use Rattle.nfs_opens.specs.ByNumber.{Numbered}
 use Rattle.nfs_opens.specs.Index.{IsIndex, HasPut, pair_of}
 use Rattle.nfs_opens.specs.Keys.{open_key, owner_key}
-use Rattle.nfs_opens.specs.Kept.{whose}
+use Rattle.nfs_opens.specs.TableInvariants.{whose}
 use Rattle.nfs_opens.specs.Counts.{AreCounted, CountsAnew, count_at, with_one}
 use Rattle.nfs_opens.specs.StateId.{last_number}
 use Rattle.nfs_opens.specs.declared.counts.Reservation.{Reservation}

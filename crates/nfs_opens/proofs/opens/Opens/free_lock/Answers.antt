@@ -5,7 +5,7 @@ use Rattle.nfs_opens.specs.contracts.opens.Opens.{the_view}
 use Rattle.nfs_opens.specs.declared.records.LockState.{LockState}
 use Rattle.nfs_opens.specs.Holding.{held_by}
 use Rattle.nfs_opens.specs.Table.{table, lock_at}
-use Rattle.nfs_opens.specs.Kept.{AreHolders, IsTable}
+use Rattle.nfs_opens.specs.TableInvariants.{AreHolders, IsTable}
 use Rattle.nfs_opens.proofs.LockLemmas.{same_table}
 use Rattle.nfs_opens.proofs.StepLemmas.{free_keeps}
 use Rattle.nfs_opens.proofs.LockedLemmas.{listed_left, one_file}

@@ -10,7 +10,7 @@ use Rattle.nfs_opens.specs.contracts.opens.Opens.{the_view}
 use Rattle.nfs_opens.specs.declared.records.OpenState.{OpenState}
 use Rattle.nfs_opens.specs.Holding.{held_by}
 use Rattle.nfs_opens.specs.Table.{Kept, table, clashes_with}
-use Rattle.nfs_opens.specs.Kept.{IsTable}
+use Rattle.nfs_opens.specs.TableInvariants.{IsTable}
 use Rattle.nfs_opens.specs.Opening.{own_open, new_open}
 use Rattle.nfs_opens.specs.Calls.{asked, open_fault}
 use Rattle.nfs_opens.proofs.CountLemmas.{rising_few}

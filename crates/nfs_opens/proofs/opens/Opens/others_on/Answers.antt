@@ -4,7 +4,7 @@ use Rattle.std.specs.Option.{option_copied}
 use Rattle.nfs_opens.specs.declared.records.OpenState.{OpenState}
 use Rattle.nfs_opens.specs.declared.counts.Reservation.{Reservation}
 use Rattle.nfs_opens.specs.Counts.{count_of, without_one}
-use Rattle.nfs_opens.specs.Kept.{HasOneEach}
+use Rattle.nfs_opens.specs.TableInvariants.{HasOneEach}
 use Rattle.nfs_opens.specs.Table.{Kept, table}
 use Rattle.nfs_opens.specs.Calls.{asked}
 use Rattle.nfs_opens.proofs.ClashLemmas.{others_all, others_less}

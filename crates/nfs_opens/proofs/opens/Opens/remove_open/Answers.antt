@@ -3,7 +3,7 @@ use Rattle.std.specs.Prelude.{◌==◌, IfSome}
 use Rattle.nfs_opens.specs.contracts.opens.Opens.{the_view}
 use Rattle.nfs_opens.specs.Holding.{held_by}
 use Rattle.nfs_opens.specs.Table.{Kept, table, open_at}
-use Rattle.nfs_opens.specs.Kept.{IsTable}
+use Rattle.nfs_opens.specs.TableInvariants.{IsTable}
 use Rattle.nfs_opens.specs.Closing.{without_open}
 use Rattle.nfs_opens.proofs.TableLemmas.{table_closed}
 use Rattle.nfs_opens.proofs.LockLemmas.{left_holders, left_held, same_table}

@@ -8,7 +8,7 @@ use Rattle.nfs_opens.specs.declared.locking.OpenFault.TheVariants.{Refused}
 use Rattle.nfs_xdr.specs.declared.status.Status.TheVariants.{BadStateId}
 use Rattle.nfs_opens.specs.Holding.{held_by}
 use Rattle.nfs_opens.specs.Table.{Kept, Did, table, lock_at}
-use Rattle.nfs_opens.specs.Kept.{IsTable}
+use Rattle.nfs_opens.specs.TableInvariants.{IsTable}
 use Rattle.nfs_opens.specs.Judging.{judge}
 use Rattle.nfs_opens.specs.declared.judging.Sort.TheVariants.{LockOnly}
 use Rattle.nfs_opens.specs.Locking.{unlock, unlock_by, clear_lock}

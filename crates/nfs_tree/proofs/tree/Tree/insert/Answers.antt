@@ -3,7 +3,7 @@ use Rattle.std.proofs.lemmas.Grind.{common_steps}
 use Rattle.nfs_tree.specs.Files.{Files, root}
 use Rattle.nfs_tree.specs.Calls.{CanChange, new_of}
 use Rattle.nfs_tree.specs.Create.{with_new}
-use Rattle.nfs_tree.specs.Kept.{IsTree}
+use Rattle.nfs_tree.specs.TreeInvariants.{IsTree}
 use Rattle.nfs_tree.proofs.Objects.{can_change_all, stored_within}
 use Rattle.nfs_tree.proofs.Trees.{tree_of}
 use Rattle.nfs_tree.proofs.Mapped.{short_of}

@@ -6,7 +6,7 @@ use Rattle.nfs_tree.specs.Object.{no_sets}
 use Rattle.nfs_tree.specs.Files.{Files, root}
 use Rattle.nfs_tree.specs.Calls.{CanChange}
 use Rattle.nfs_tree.specs.Bytes.{with_bytes, written, with_written}
-use Rattle.nfs_tree.specs.Kept.{IsTree}
+use Rattle.nfs_tree.specs.TreeInvariants.{IsTree}
 use Rattle.nfs_tree.proofs.Objects.{can_change_all}
 use Rattle.nfs_tree.proofs.Trees.{tree_of}
 use Rattle.nfs_tree.proofs.Sized.{write_granted, tree_written, by_result}

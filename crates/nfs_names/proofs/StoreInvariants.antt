@@ -17,11 +17,11 @@ use Rattle.nfs_tree.specs.Create.{New, with_new, new_object, data_of}
 use Rattle.nfs_tree.specs.Names.{with_link, without_name, forget, Move, moved_object, replaced_object, with_both_changed, with_moved}
 use Rattle.nfs_xdr.specs.Tables.{In}
 use Rattle.nfs_xdr.proofs.Lists.{in_any, any_in, stays_in, push_in, last_in, none_in}
-use Rattle.nfs_tree.specs.Kept.{IsTree}
+use Rattle.nfs_tree.specs.TreeInvariants.{IsTree}
 use Rattle.nfs_tree.proofs.Objects.{keeps_changed, stored_map, stored_push, stored_dropped}
 use Rattle.nfs_tree.proofs.Trees.{entry_names}
 use Rattle.nfs_names.specs.State.{State, new_store, with_tree, is_open, is_used, without_unused}
-use Rattle.nfs_names.specs.Kept.{IsRooted, IsStore, IsStoreBut}
+use Rattle.nfs_names.specs.StoreInvariants.{IsRooted, IsStore, IsStoreBut}
 use Rattle.nfs_names.specs.Rename.{without_replaced}
 
 -- of which type an object is, if it is there
