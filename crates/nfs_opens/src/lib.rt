@@ -1,7 +1,7 @@
 //! Who has which file open how, which stateid means what, and whose bytes are locked, over all files.
 //!
 //! `Opens` is seen as a table: opens and lock states in rising order of their numbers, and a function that says of each
-//! file, lock state and byte how the byte is held (`specs/Table.antt`; `specs/Kept.antt` has what holds of every table).
+//! file, lock state and byte how the byte is held (`specs/Table.antt`; `specs/TableInvariants.antt` has what holds of every table).
 //!
 //! ```text
 //! opens.judge_open(&ask)?;
