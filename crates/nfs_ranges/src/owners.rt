@@ -93,7 +93,7 @@ impl Owner {
         ensures err { OnErr result (self.new ≡ self.old) }
     {
         self.intervals.set(alloc, kind, first, last)?;
-        // the flag is not looked for anew: that would walk over what the owner holds
+        // no walk for the flag: one that stays where no WRITE is left costs time alone
         let writes = self.span.writes_with(kind);
         self.span = self.intervals.span(writes);
         Ok(())
