@@ -1,5 +1,5 @@
 -- The span of intervals, and wishes that lie outside it.
-use Rattle.std.proofs.Common.{◌≡◌, ℕ, suc, ◌-◌, ◌<◌, ◌≤◌, true, false, leb, List, [], ◌∷◌, ◌++◌, drop, length, Some, None, refl}
+use Rattle.std.proofs.Common.{◌≡◌, ℕ, suc, ◌-◌, ◌<◌, ◌≤◌, true, false, leb, ltb, List, [], ◌∷◌, ◌++◌, drop, length, Some, None, refl}
 use Rattle.std.proofs.Common.{sym, ◌∙◌, ap, subst, arith, inl, inr}
 use Rattle.std.specs.Prelude.{find, slice_get}
 use Rattle.std.proofs.lemmas.List.{append-nil}
@@ -7,7 +7,7 @@ use Rattle.std.proofs.lemmas.Bool.{cases_Bool, and_left, and_right, or_parts, lt
 use Rattle.nfs_ranges.specs.declared.Kind.{Kind}
 use Rattle.nfs_ranges.specs.declared.interval.Interval.{Interval}
 use Rattle.nfs_ranges.specs.declared.span.Span.{Span}
-use Rattle.nfs_ranges.specs.Intervals.{AreFrom, kept_below, kept_above, without}
+use Rattle.nfs_ranges.specs.Intervals.{AreFrom, joins, kept_below, kept_above, put, glue, without, with_range}
 use Rattle.nfs_ranges.specs.Edits.{head}
 use Rattle.nfs_ranges.specs.Blocks.{flat, last_from, last_end, block_at, AreSome, AreBlocks}
 use Rattle.nfs_ranges.specs.Owners.{LieWithin, IsSpan, IsSpanOf}
@@ -143,14 +143,44 @@ spans_one s m first last writes = record {
   read = λ e. rw (sym writes ∙ e) refl;
 }
 
--- whether something is held for writing, of intervals behind each other
-pub writes_front : (xs ys : List Interval) → has_write xs ≡ true → has_write (xs ++ ys) ≡ true
-writes_front [] ys e = absurd cc
-writes_front (x ∷ xs) ys e = elim (cases_Bool (is_write x.kind)) [
-  | inl is ↦ rw is refl
-  | inr not ↦ (let rest : has_write xs ≡ true = rw not at e in rw not (writes_front xs ys rest))
-]
+-- where nothing is held for writing, what an edit leaves is not
+below_reads : (b : ℕ) (xs : List Interval) → has_write xs ≡ false → has_write (kept_below b xs) ≡ false
+below_reads b [] none = refl
+below_reads b (x ∷ xs) none =
+    let parts = or_parts (is_write x.kind) (has_write xs) none in
+    elim (cases_Bool (ltb x.first b)) [
+      | inl lt ↦ rw (lt, parts.0) (below_reads b xs parts.1)
+      | inr ge ↦ rw ge refl
+    ]
 
-pub writes_behind : (xs ys : List Interval) → has_write xs ≡ false → has_write (xs ++ ys) ≡ has_write ys
-writes_behind [] ys e = refl
-writes_behind (x ∷ xs) ys e = let parts = or_parts (is_write x.kind) (has_write xs) e in rw parts.0 (writes_behind xs ys parts.1)
+above_reads : (b : ℕ) (xs : List Interval) → has_write xs ≡ false → has_write (kept_above b xs) ≡ false
+above_reads b [] none = refl
+above_reads b (x ∷ xs) none =
+    let parts = or_parts (is_write x.kind) (has_write xs) none in
+    elim (cases_Bool (ltb b x.last)) [
+      | inl lt ↦ rw (lt, parts.0) parts.1
+      | inr ge ↦ rw ge (above_reads b xs parts.1)
+    ]
+
+put_reads : (x : Interval) (ys : List Interval) → is_write x.kind ≡ false → has_write ys ≡ false → has_write (put x ys) ≡ false
+put_reads x [] read none = rw read refl
+put_reads x (y ∷ ys) read none =
+    let parts = or_parts (is_write y.kind) (has_write ys) none in
+    elim (cases_Bool (joins x y)) [
+      | inl is ↦ rw (is, read) parts.1
+      | inr not ↦ rw (not, read) none
+    ]
+
+glue_reads : (xs ys : List Interval) → has_write xs ≡ false → has_write ys ≡ false → has_write (glue xs ys) ≡ false
+glue_reads [] ys read none = none
+glue_reads (x ∷ xs) ys read none =
+    let parts = or_parts (is_write x.kind) (has_write xs) read in
+    put_reads x (glue xs ys) parts.0 (glue_reads xs ys parts.1 none)
+
+pub without_reads : (first last : ℕ) (xs : List Interval) → has_write xs ≡ false → has_write (without first last xs) ≡ false
+without_reads first last xs none = glue_reads (kept_below first xs) (kept_above last xs) (below_reads first xs none) (above_reads last xs none)
+
+pub range_reads : (m : Interval) (xs : List Interval) → is_write m.kind ≡ false → has_write xs ≡ false → has_write (with_range m xs) ≡ false
+range_reads m xs read none =
+    glue_reads (kept_below m.first xs) (put m (kept_above m.last xs)) (below_reads m.first xs none)
+    (put_reads m (kept_above m.last xs) read (above_reads m.last xs none))

@@ -1,6 +1,7 @@
 //! Edits of intervals, each behind one reservation.
 
 ghost use Rattle.std.specs.Prelude.{◌≡◌, ◌+◌, ◌-◌, ◌<◌, ◌≤◌, ◌∷◌, [], length, IfOk, IfSome, OnOk, OnErr, drop, find, None, Some, false, suc, get_or};
+ghost use Rattle.std.specs.Bool.{OnFalse};
 ghost use Rattle.nfs_ranges.specs.Intervals.{IsCanonical, without, with_range};
 ghost use Rattle.nfs_ranges.specs.Holders.{kind_at};
 ghost use Rattle.nfs_ranges.specs.Owners.{IsSpan, IsSpanOf, is_empty};
@@ -209,18 +210,6 @@ fn span_of(blocks: &[Block]) -> (u64, u64)
     (x.first, b.last_end())
 }
 
-/// Whether one of the intervals is held for writing.
-fn any_writes(blocks: &[Block]) -> bool
-    ensures { result ≡ has_write (flat blocks.now) }
-{
-    for b in blocks {
-        if b.writes() {
-            return true;
-        }
-    }
-    false
-}
-
 /// The first interval that stands against a wish to lock the range.
 fn hit_in(blocks: &[Block], kind: Kind, first: u64, last: u64) -> Option<Interval>
     requires { AreBlocks blocks.now }
@@ -330,13 +319,13 @@ impl Intervals {
         kind_in(&self.blocks, byte)
     }
 
-    /// What is known of the intervals at once.
-    pub(super) fn span(&self) -> Span
-        requires { IsCanonical self.now }
+    /// What is known of the intervals at once. Unless `writes` none of them is held for writing.
+    pub(super) fn span(&self, writes: bool) -> Span
+        requires canonical { IsCanonical self.now }
+        requires read { OnFalse writes (has_write self.now ≡ false) }
         ensures { IsSpanOf result self.now }
     {
         let (first, last) = span_of(&self.blocks);
-        let writes = any_writes(&self.blocks);
         Span {
             first,
             last,

@@ -93,7 +93,9 @@ impl Owner {
         ensures err { OnErr result (self.new ≡ self.old) }
     {
         self.intervals.set(alloc, kind, first, last)?;
-        self.span = self.intervals.span();
+        // no walk for the flag: one that stays where no WRITE is left costs time alone
+        let writes = self.span.writes_with(kind);
+        self.span = self.intervals.span(writes);
         Ok(())
     }
 
@@ -104,7 +106,7 @@ impl Owner {
         ensures err { OnErr result (self.new ≡ self.old) }
     {
         self.intervals.clear(alloc, first, last)?;
-        self.span = self.intervals.span();
+        self.span = self.intervals.span(self.span.writes);
         Ok(())
     }
 }

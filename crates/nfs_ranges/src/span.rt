@@ -1,10 +1,11 @@
 //! What is known of intervals at once, so that a wish can pass over all of them.
 
-ghost use Rattle.std.specs.Prelude.{◌≡◌, List, None, find};
+ghost use Rattle.std.specs.Prelude.{◌≡◌, ◌||◌, List, None, find};
 ghost use Rattle.std.specs.Bool.{OnTrue};
 ghost use Rattle.nfs_ranges.specs.declared.interval.Interval.{Interval};
 ghost use Rattle.nfs_ranges.specs.Owners.{IsSpanOf};
 ghost use Rattle.nfs_ranges.specs.Clashes.{hits};
+ghost use Rattle.nfs_ranges.specs.Told.{is_write};
 
 use super::Kind;
 
@@ -27,6 +28,13 @@ impl Span {
             last: self.last.max(other.last),
             writes: self.writes || other.writes,
         }
+    }
+
+    /// Whether one of the intervals may be held for writing once one of this kind has come.
+    pub(super) fn writes_with(&self, kind: Kind) -> bool
+        ensures { result ≡ (self.now.writes || is_write kind) }
+    {
+        self.writes || kind.is_write()
     }
 
     /// No interval stands against a wish to lock the range: all lie apart from it, or are held for reading like it.

@@ -1,4 +1,5 @@
-use Rattle.std.proofs.Common.{◌∙◌, sym, ap, subst}
+use Rattle.std.proofs.Common.{◌≡◌, sym, subst, false}
+use Rattle.std.proofs.lemmas.Bool.{OnFalse_at}
 use Rattle.nfs_ranges.specs.Clashes.{has_write}
 use Rattle.nfs_ranges.specs.Owners.{IsSpan, IsSpanOf}
 use Rattle.nfs_ranges.specs.Blocks.{flat}
@@ -6,11 +7,11 @@ use Rattle.nfs_ranges.proofs.BlockLemmas.{blocks_are}
 use Rattle.nfs_ranges.proofs.edits.Intervals.span.Goals as goal
 
 pub span_of-first-requires : goal.span_of-first-requires
-span_of-first-requires c = rw c.deref.ensures.value (blocks_are c.self.inside.blocks.items c.args.self.now c.self.invariant c.self.view_is c.requires)
+span_of-first-requires c = rw c.deref.ensures.value (blocks_are c.self.inside.blocks.items c.args.self.now c.self.invariant c.self.view_is c.requires.canonical)
 
 pub returns : goal.returns
 returns c =
-    subst (IsSpanOf (record { first = c.span_of-first.result.0; last = c.span_of-first.result.1; writes = c.any_writes-writes.result })) c.self.view_is (record {
+    subst (IsSpanOf (record { first = c.span_of-first.result.0; last = c.span_of-first.result.1; writes = c.args.writes })) c.self.view_is (record {
       span = subst (λ bs. IsSpan c.span_of-first.result.0 c.span_of-first.result.1 (flat bs)) c.deref.ensures.value c.span_of-first.ensures;
-      read = λ e. ap (λ bs. has_write (flat bs)) (sym c.deref-2.ensures.value) ∙ sym c.any_writes-writes.ensures ∙ e;
+      read = λ e. subst (λ xs. has_write xs ≡ false) (sym c.self.view_is) (OnFalse_at e c.requires.read);
     })
