@@ -35,6 +35,8 @@ struct Slot {
     ip: IpAddr,
     /// Whether a read or a write may do something.
     ready: bool,
+    /// Whether a read may: bytes or an end were told, and no read was short since.
+    readable: bool,
     /// Whether the peer has ended its side or the connection has failed, so that a read says so once all bytes were read.
     ending: bool,
     /// When its peer last took the front of an answer, and at first when it began.
@@ -291,6 +293,7 @@ impl<R: rt::Clock> Sockets<'_, R> {
             stream,
             ip: newcomer.ip,
             ready: true,
+            readable: true,
             ending: false,
             used: self.now,
             asked: false,
@@ -316,6 +319,7 @@ impl<R: rt::Clock> Sockets<'_, R> {
                 Some(Some(slot)) => {
                     slot.ready = true;
                     slot.ending = slot.ending || event.is_read_closed() || event.is_error();
+                    slot.readable = slot.readable || slot.ending || event.is_readable();
                 }
                 Some(None) => {}
                 None => self.calling = true,
@@ -367,15 +371,22 @@ impl<R: rt::Clock> Ports for Sockets<'_, R> {
         let Some(slot) = self.slot(port) else {
             return Came::Failed;
         };
+        // Bytes that were read while they were told are told once more, as room to write.
+        if !slot.readable {
+            slot.ready = false;
+            return Came::Blocked;
+        }
         match slot.stream.read(buf) {
             Ok(0) => Came::Ended,
             Ok(n) => {
                 slot.asked = true;
                 // What comes behind a read that was short is told anew; an end that was told already is not.
-                slot.ready = n == buf.len() || slot.ending;
+                slot.readable = n == buf.len() || slot.ending;
+                slot.ready = slot.readable;
                 Came::Bytes(n)
             }
             Err(e) if e.kind() == ErrorKind::WouldBlock => {
+                slot.readable = false;
                 slot.ready = false;
                 Came::Blocked
             }

@@ -5,10 +5,9 @@ use Rattle.std.proofs.lemmas.List.Concat.{flat_map-append}
 use Rattle.std.proofs.lemmas.List.Elements.{filter-append}
 use Rattle.std.specs.Io.KnownBytes.{Appends}
 use Rattle.std.proofs.KnownBytes.{Appends-nil, Appends-trans}
-use Rattle.nfs_serve.specs.Script.{most_piece}
 use Rattle.nfs_serve.specs.Talk.{max_reads}
 use Rattle.nfs_serve.specs.Step.{State}
-use Rattle.nfs_serve.specs.Desk.{Desk, closed, leaving, Act, WriteBlocked, Closed, Failed, Stepped, StepsPart, Came, ReadBlocked, Ended, IsHungry, Does, Goes, IsStuck, Reads, ReadsOnce, is_of_read}
+use Rattle.nfs_serve.specs.Desk.{Desk, most_read, closed, leaving, Act, WriteBlocked, Closed, Failed, Stepped, StepsPart, Came, ReadBlocked, Ended, IsHungry, Does, Goes, IsStuck, Reads, ReadsOnce, is_of_read}
 use Rattle.nfs_serve.specs.Deeds.{Deed, Logs, shown, asked}
 use Rattle.nfs_serve.specs.declared.lane.Lane.{Lane}
 use Rattle.nfs_serve.specs.Lane.{desk_of, Advances, Quiet, Working}
@@ -161,7 +160,7 @@ read_blocked port s d u l0 l1 c hungry none logs = one_shown port ReadBlocked s 
     (refl, hungry, ap (λ v. record { live = d.live; gone = d.gone; stream = d.stream; reads = d.reads; unread = v; owed = d.owed }) (none ∙ sym hungry.unread)) logs
 
 pub read_came : (port : ℕ) (s : State) (d : Desk) (u : List ℕ) (l0 l1 : Option (List Deed)) (c : Option (List ℕ)) → IsHungry d
-    → 0 < length u → length u ≤ most_piece → Logs l0 l1 (record { port = port; act = Came u } ∷ [])
+    → 0 < length u → length u ≤ most_read → Logs l0 l1 (record { port = port; act = Came u } ∷ [])
     → Advances port (Came u ∷ []) s d s (record { live = d.live; gone = d.gone; stream = d.stream; reads = d.reads + 1; unread = u; owed = d.owed }) l0 l1 c c
 read_came port s d u l0 l1 c hungry some few logs = one_shown port (Came u) s d _ l0 l1 c refl refl (refl, hungry, some, few, refl) logs
 

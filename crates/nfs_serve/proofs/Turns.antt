@@ -1,11 +1,11 @@
 -- The acts of one turn: the entries that they come to, and what they put out.
 use Rattle.std.proofs.Common.{◌≡◌, ◌≢◌, ℕ, ◌≤◌, List, [], ◌∷◌, ◌++◌, length, flat_map, true, false, All, refl, sym, ap, subst, ◌∙◌, append_assoc}
-use Rattle.std.proofs.Common.{◌+◌, append-nil, length-append, map, arith}
+use Rattle.std.proofs.Common.{append-nil, map, arith}
 use Rattle.std.proofs.lemmas.Bool.{eq-eqb, ne_eqb}
 use Rattle.std.proofs.lemmas.List.Elements.{All-nil, All-cons}
 use Rattle.nfs_rpc.specs.Stream.{End, Open, TooLong}
 use Rattle.nfs_serve.specs.declared.form.Form.TheVariants.{Plain}
-use Rattle.nfs_serve.specs.Script.{Entry, Fits, most_piece, last_connection}
+use Rattle.nfs_serve.specs.Script.{Entry, Fits, last_connection}
 use Rattle.nfs_serve.specs.Step.{State}
 use Rattle.nfs_serve.specs.Run.{Streams, with_stream, TakesAll, StreamEvent, Arrives, overflow, Brings, Move, events, after, after_event, output, output_of}
 use Rattle.nfs_serve.specs.Server.{Stands}
@@ -60,10 +60,9 @@ stream_same streams conn end = rw (eq-eqb conn conn refl) refl
 pub stream_other : (streams : Streams) (conn : ℕ) (end : End) (c : ℕ) → c ≢ conn → with_stream streams conn end c ≡ streams c
 stream_other streams conn end c other = rw (ne_eqb c conn other) refl
 
--- what is held of a connection that is served stands for its stream, and what waits is of one piece
+-- what is held of a connection that is served stands for its stream
 pub record Holds (end : End) (d : Desk) : Type 0 where
   pub stands : d.live ≡ true → Stands end d.stream
-  pub piece : length d.unread ≤ most_piece
 
 -- these bytes behind those are what is gone and what is left
 abbrev pub Flows : List ℕ → List ℕ → List ℕ → List ℕ → Type 0
@@ -133,7 +132,7 @@ ran port s t d e (Over ∷ acts) from le holds h = absurd h.2
 ran port s t d e (Came bytes ∷ acts) from le holds h =
     let (u, c, does, rest) = h in
     let (same, hungry, some, few, is) = does in
-    passes (ran port s t _ e acts from le (record { stands = holds.stands; piece = few }) (goes_from port s u t _ c e acts same is rest))
+    passes (ran port s t _ e acts from le (record { stands = holds.stands }) (goes_from port s u t _ c e acts same is rest))
     (Came bytes) d refl (λ outs f. record { was = f.was; in_order = rw hungry.unread f.in_order; out_order = f.out_order })
 ran port s t d e (ReadBlocked ∷ acts) from le holds h =
     let (u, c, does, rest) = h in
@@ -143,12 +142,12 @@ ran port s t d e (ReadBlocked ∷ acts) from le holds h =
 ran port s t d e (Ended ∷ acts) from le holds h =
     let (u, c, does, rest) = h in
     let (same, hungry, is) = does in
-    passes (ran port s t leaving e acts from le (record { stands = not_served; piece = omega arith }) (goes_from port s u t leaving c e acts same is rest))
+    passes (ran port s t leaving e acts from le (record { stands = not_served }) (goes_from port s u t leaving c e acts same is rest))
     Ended d refl (λ outs f. not_served f.was)
 ran port s t d e (Took bytes ∷ acts) from le holds h =
     let (u, c, does, rest) = h in
     let (same, live, some, left, split, is) = does in
-    passes (ran port s t _ e acts from le (record { stands = holds.stands; piece = holds.piece }) (goes_from port s u t _ c e acts same is rest))
+    passes (ran port s t _ e acts from le (record { stands = holds.stands }) (goes_from port s u t _ c e acts same is rest))
     (Took bytes) d refl (λ outs f. record {
       was = f.was;
       in_order = f.in_order;
@@ -162,13 +161,13 @@ ran port s t d e (WriteBlocked ∷ acts) from le holds h =
 ran port s t d e (Failed ∷ acts) from le holds h =
     let (u, c, does, rest) = h in
     let (same, live, is) = does in
-    passes (ran port s t leaving e acts from le (record { stands = not_served; piece = omega arith }) (goes_from port s u t leaving c e acts same is rest))
+    passes (ran port s t leaving e acts from le (record { stands = not_served }) (goes_from port s u t leaving c e acts same is rest))
     Failed d refl (λ outs f. not_served f.was)
 ran port s t d e (Closed ∷ acts) from le holds h =
     let (u, c, does, rest) = h in
     let (same, may, is) = does in
     let to = with_stream from port (Open []) in
-    let r = ran port s t closed e acts to le (record { stands = not_served; piece = omega arith }) (goes_from port s u t closed c e acts same is rest) in record {
+    let r = ran port s t closed e acts to le (record { stands = not_served }) (goes_from port s u t closed c e acts same is rest) in record {
       moves = r.moves;
       to = r.to;
       fits = All-cons Fits (close port) (flat_map (entries_of port) acts) (omega arith, le, omega arith) r.fits;
@@ -188,13 +187,12 @@ ran port s t d e (Stepped moment part ∷ acts) from le holds h =
     let to = with_stream from port end in
     let some : part ≢ [] = λ none. omega (arith, ap length none, steps.some) in
     let entry : Entry = record { moment = moment; conn = port; piece = part } in
-    let cut : length d.unread ≡ length part + length left = ap length steps.split ∙ length-append part left in
-    let r = ran port u t _ e acts to le (record { stands = λ on. rw (stream_same from port end) stands; piece = omega (arith, cut, holds.piece) })
+    let r = ran port u t _ e acts to le (record { stands = λ on. rw (stream_same from port end) stands })
     (goes_from port u u t _ c e acts refl same rest) in record {
       moves = takes.moves ++ r.moves;
       to = r.to;
       fits = All-cons Fits entry (flat_map (entries_of port) acts)
-          (steps.clock, le, omega (arith, cut, holds.piece)) r.fits;
+          (steps.clock, le, steps.few) r.fits;
       reads = (
         events takes.moves,
         events r.moves,

@@ -273,7 +273,7 @@ whole s t old new from (Opens p ∷ rounds) holds h =
     let (between, le, is, others, later) = h in
     let to = with_stream from p (Open []) in
     let here : Holds (to p) (between p) =
-    rw (is, stream_same from p (Open [])) record { stands = λ on. (no_bytes, start_holds); piece = omega arith } in
+    rw (is, stream_same from p (Open [])) record { stands = λ on. (no_bytes, start_holds) } in
     let all = changed Holds from to old between p (stream_other from p (Open [])) others here holds in
     behind_opens s t old between new from rounds p is others (whole s t between new to rounds all later) le
 whole s t old new from (Turns p acts ∷ rounds) holds h =
@@ -283,7 +283,7 @@ whole s t old new from (Turns p acts ∷ rounds) holds h =
     behind_turn s u t old between new from rounds p acts others r (whole u t between new r.to rounds all later)
 
 from_start : (old new : State) (rounds : List Round) (desks : Desks) → Going old none_live rounds new desks → Whole old none_live all_closed rounds new desks
-from_start old new rounds desks h = whole old new none_live desks all_closed rounds (λ port. record { stands = not_served; piece = omega arith }) h
+from_start old new rounds desks h = whole old new none_live desks all_closed rounds (λ port. record { stands = not_served }) h
 
 module _ {old new : State} {rounds : List Round} {desks : Desks} (w : Whole old none_live all_closed rounds new desks) where
   abbrev run_of : RunsScript old rounds new desks

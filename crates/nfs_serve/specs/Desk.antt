@@ -1,6 +1,7 @@
 -- One of many connections over one server: what came on it and was not stepped, what is owed to its peer, and what may be done with
 -- it (RFC 5531 section 11). This server's profile.
-use Rattle.std.specs.Prelude.{◌≡◌, ◌⊎◌, ℕ, ◌+◌, ◌<◌, ◌≤◌, List, [], ◌∷◌, ◌++◌, length, filter, Bool, true, false}
+use Rattle.std.specs.Prelude.{◌≡◌, ◌⊎◌, ℕ, ◌+◌, ◌*◌, ◌<◌, ◌≤◌, List, [], ◌∷◌, ◌++◌, length, filter, Bool, true, false}
+use Rattle.nfs_xdr.specs.Limits.{most_record}
 use Rattle.nfs_rpc.specs.RecordMarking.{Gathered, is_too_long}
 use Rattle.nfs_rpc.specs.Stream.{End}
 use Rattle.nfs_serve.specs.declared.form.Form.TheVariants.{Plain}
@@ -9,6 +10,10 @@ use Rattle.nfs_serve.specs.Step.{State}
 use Rattle.nfs_serve.specs.Run.{Brings, Move, events, after, output}
 use Rattle.nfs_serve.specs.Server.{fresh, Stands}
 use Rattle.nfs_serve.specs.Talk.{max_reads}
+
+-- the most bytes that one read brings: two records of the greatest length, each with one mark
+abbrev pub most_read : ℕ
+most_read = 2 * (4 + most_record)
 
 -- a further record is stepped while no more bytes than this are owed
 abbrev pub most_owed : ℕ
@@ -79,19 +84,21 @@ pub record IsHungry (d : Desk) : Type 0 where
 abbrev pub MayClose : Desk → Type 0
 MayClose d = (d.gone ≡ true) ⊎ ((d.live ≡ true) × (d.owed ≡ []) × ((is_too_long d.stream ≡ true) ⊎ ((d.unread ≡ []) × (max_reads ≤ d.reads))))
 
--- A front of what waits is stepped, where few enough bytes are owed: this part of it, to this stream and output.
+-- A front of what waits is stepped, where few enough bytes are owed: this part of it, no longer than a piece of a script, to this stream and
+-- output.
 pub record StepsPart (port : ℕ) (s : State) (d : Desk) (moment : ℕ) (part : List ℕ) (t : State) (is : Gathered) (rest out : List ℕ) : Type 0 where
   pub live : d.live ≡ true
   pub short : is_too_long d.stream ≡ false
   pub room : length d.owed ≤ most_owed
   pub clock : moment ≤ last_moment
   pub some : 0 < length part
+  pub few : length part ≤ most_piece
   pub split : d.unread ≡ part ++ rest
   pub takes : TakesPart port s d.stream moment part t is out
 
 -- what an act does to the state of the server and to its connection
 abbrev pub Does : ℕ → State → Desk → Act → State → Desk → Type 0
-Does port s d (Came bytes) t e = (t ≡ s) × IsHungry d × (0 < length bytes) × (length bytes ≤ most_piece)
+Does port s d (Came bytes) t e = (t ≡ s) × IsHungry d × (0 < length bytes) × (length bytes ≤ most_read)
     × (e ≡ record d { reads = d.reads + 1; unread = bytes })
 Does port s d ReadBlocked t e = (t ≡ s) × IsHungry d × (e ≡ d)
 Does port s d Ended t e = (t ≡ s) × IsHungry d × (e ≡ leaving)

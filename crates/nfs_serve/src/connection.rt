@@ -23,7 +23,7 @@ use std::alloc::{AllocError, Global};
 use std::marker::Model;
 
 /// The bytes of a record mark.
-const MARK: usize = 4;
+pub(crate) const MARK: usize = 4;
 
 /// What the first record of a piece comes to.
 #[derive(Clone, Copy, Debug, PartialEq, Eq)]

@@ -1,15 +1,20 @@
 //! What has come on a connection and was not stepped.
 
-ghost use Rattle.std.specs.Prelude.{◌≡◌, ◌≤◌, ◌<◌, [], length, drop, IfOk};
+ghost use Rattle.std.specs.Prelude.{◌≡◌, ◌≤◌, ◌<◌, [], length, drop, take, IfOk};
 ghost use Rattle.nfs_serve.specs.Deeds.{Logs};
 ghost use Rattle.nfs_serve.specs.Shows.{came};
 ghost use Rattle.nfs_serve.specs.Script.{last_connection, most_piece};
 ghost use Rattle.nfs_serve.specs.Boxes.{Receives};
 
+use crate::connection::MARK;
 use crate::ports::{Came, Ports};
 use crate::script::MAX_PIECE;
+use nfs_xdr::MAX_RECORD;
 use std::alloc::{AllocError, Global};
 use std::marker::Model;
+
+/// The most bytes that one read brings: two records of the greatest length, each with one mark.
+const MOST_READ: usize = 2 * (MARK + MAX_RECORD as usize);
 
 /// Bytes that came and were not stepped, in room that is made once.
 #[derive(Drop)]
@@ -21,13 +26,13 @@ pub(crate) struct Inbox {
 
 impl Model for Inbox {
     ghost use Rattle.std.specs.Prelude.{ℕ, List, take, drop, vec_len, ◌≡◌, ◌≤◌};
-    ghost use Rattle.nfs_serve.specs.Script.{most_piece};
+    ghost use Rattle.nfs_serve.specs.Desk.{most_read};
 
     ghost Value = { List ℕ };
 
     ghost view = { λ b. drop b.at (take b.end b.bytes.items) };
 
-    ghost invariant = { λ b. (b.at ≤ b.end) × (b.end ≤ most_piece) × (vec_len b.bytes ≡ most_piece) };
+    ghost invariant = { λ b. (b.at ≤ b.end) × (b.end ≤ most_read) × (vec_len b.bytes ≡ most_read) };
 }
 
 impl Inbox {
@@ -36,7 +41,7 @@ impl Inbox {
         ensures { IfOk result (λ b. b ≡ []) }
     {
         Ok(Inbox {
-            bytes: vec![in alloc; 0; MAX_PIECE as usize]?,
+            bytes: vec![in alloc; 0; MOST_READ]?,
             at: 0,
             end: 0,
         })
@@ -47,6 +52,15 @@ impl Inbox {
         ensures { result.now ≡ self.now }
     {
         &self.bytes[self.at..self.end]
+    }
+
+    /// What is stepped of them at once: no more than a piece of a script has.
+    #[tactic(auto, using(std::proofs::lemmas::List::take_min))]
+    pub(crate) fn piece(&self) -> &[u8]
+        ensures { result.now ≡ take most_piece self.now }
+    {
+        let rest = self.rest();
+        &rest[..(MAX_PIECE as usize).min(rest.len())]
     }
 
     /// Lets go so many bytes in front.

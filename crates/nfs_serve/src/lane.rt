@@ -140,7 +140,7 @@ impl Lane {
             alloc,
             engine,
             port,
-            self.unread.rest(),
+            self.unread.piece(),
             now,
             &mut self.owed,
         );

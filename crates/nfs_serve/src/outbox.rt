@@ -8,6 +8,7 @@ ghost use Rattle.nfs_serve.specs.Server.{state_of};
 ghost use Rattle.nfs_serve.specs.Step.{step};
 ghost use Rattle.nfs_serve.specs.declared.form.Form.TheVariants.{Plain};
 
+use crate::connection::MARK;
 use crate::engine::Engine;
 use crate::form::Outcome;
 use nfs_rpc::LAST_FRAGMENT;
@@ -17,9 +18,6 @@ use std::marker::Model;
 
 /// Bytes that may be owed where one more record is stepped.
 const MOST_OWED: usize = 65_536;
-
-/// The bytes of a record mark.
-const MARK: usize = 4;
 
 /// Room for them and for the largest reply with its record mark.
 const ROOM: usize = MOST_OWED + MARK + 70_000;

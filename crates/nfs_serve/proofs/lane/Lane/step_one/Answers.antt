@@ -1,18 +1,28 @@
-use Rattle.std.proofs.Common.{◌≡◌, ◌<◌, refl, sym, ◌++◌, ap, take, length, take-append-drop, arith, length-drop, length-take-le}
+use Rattle.std.proofs.Common.{◌≡◌, ◌<◌, ◌≤◌, refl, sym, ◌∙◌, ◌++◌, ap, take, length, take-append-drop, take-take, arith, length-drop, length-take, length-take-le, min}
 use Rattle.nfs_serve.proofs.lane.Lane.step_one.Goals as goal
+
+pub consume-requires : goal.consume-requires
+consume-requires g c =
+    let unread = c.args.self.now.unread in
+    omega (arith, c.take_one-used.ensures.used.1, ap length c.piece.ensures ∙ length-take 65536 unread)
 
 pub returns : goal.returns
 returns g c =
     let (out, takes, owed) = c.take_one-used.ensures.taken in
     let unread = c.args.self.now.unread in
     let used = c.take_one-used.result in
-    let part = take used c.rest.result.now in
-    let split : unread ≡ part ++ c.consume.new.self =
-    rw c.rest.ensures (rw c.consume.ensures (sym (take-append-drop used unread))) in
+    let piece = c.piece.result.now in
+    let part = take used piece in
     let (positive, within) = c.take_one-used.ensures.used in
-    let some : 0 < length part = omega (arith, positive, length-take-le used c.rest.result.now within) in
+    let size : length part ≡ used = length-take-le used piece within in
+    let most : length piece ≡ min 65536 (length unread) = ap length c.piece.ensures ∙ length-take 65536 unread in
+    let few : used ≤ 65536 = omega (arith, within, most) in
+    let front : part ≡ take used unread = ap (take used) c.piece.ensures ∙ take-take used 65536 unread few in
+    let split : unread ≡ part ++ c.consume.new.self =
+    rw front (rw c.consume.ensures (sym (take-append-drop used unread))) in
+    let some : 0 < length part = omega (arith, positive, size) in
     let shorter : length c.consume.new.self < length unread =
-    omega (arith, positive, within, ap length c.rest.ensures, ap length c.consume.ensures, length-drop used unread) in (
+    omega (arith, positive, within, most, ap length c.consume.ensures, length-drop used unread) in (
       c.now-now.result,
       part,
       out,
@@ -23,6 +33,7 @@ returns g c =
         room = c.requires.room;
         clock = c.now-now.ensures.bound;
         some = some;
+        few = omega (arith, few, size);
         split = split;
         takes = takes;
       },
