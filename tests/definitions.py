@@ -81,7 +81,7 @@ class Definitions:
         self.clauses, self.declared = {}, {}  # (of each source that was read; the text of each Rust type that is named)
         for path in sorted(top.glob("crates/*/specs/**/*.antt")):
             crate, _, *inside = path.relative_to(top / "crates").with_suffix("").parts
-            if path.name == "Lib.antt":
+            if path.name == "Lib.antt" or path.with_suffix("").is_dir():
                 self.read_lib(path)
             else:
                 self.files[crate, ".".join(inside)] = path

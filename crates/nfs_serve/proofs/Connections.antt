@@ -9,7 +9,7 @@ use Rattle.nfs_rpc.specs.Stream.{End, Open, TooLong, IsReading, IsUnfinished}
 use Rattle.nfs_rpc.proofs.Readings.{reading_then, part_unfinished}
 use Rattle.nfs_serve.specs.Script.{Entry}
 use Rattle.nfs_serve.specs.Run.{Streams, with_stream, all_closed, Brings, TakesPiece, TakesAll, StreamEvent, Arrives, overflow, events_of}
-use Rattle.nfs_serve.specs.Laws.{stream_on, call_on, overflow_on, IsClosedBehind, NoneCloses, ConnectionsAreStreams}
+use Rattle.nfs_serve.specs.Promises.Laws.{stream_on, call_on, overflow_on, IsClosedBehind, NoneCloses, ConnectionsAreStreams}
 use Rattle.nfs_serve.proofs.Pieces.{start_holds}
 use Rattle.nfs_serve.proofs.Cutting.{still_long}
 

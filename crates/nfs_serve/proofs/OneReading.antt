@@ -13,7 +13,7 @@ use Rattle.nfs_xdr.proofs.CodecLaws.{is_number, is_hyper, is_then}
 use Rattle.nfs_serve.specs.declared.fault.Stop.{Stop}
 use Rattle.nfs_serve.specs.declared.fault.Stop.TheVariants.{Cut, Connection, Long, Late, Many, ReadFailed, WriteFailed}
 use Rattle.nfs_serve.specs.Script.{Entry, head, spell_entry, Fits, max_entries, refusal, IsHead, BeginsRefused, IsPartial, StopsAt, IsRead}
-use Rattle.nfs_serve.specs.Laws.{HasOneReading}
+use Rattle.nfs_serve.specs.Promises.Laws.{HasOneReading}
 use Rattle.nfs_serve.specs.Reading.{BeginsWith}
 use Rattle.nfs_serve.proofs.Entries.{length-head}
 

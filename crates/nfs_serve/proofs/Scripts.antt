@@ -4,9 +4,9 @@ use Rattle.std.proofs.lemmas.List.Elements.{All-nil, All-cons, All-append}
 use Rattle.std.proofs.lemmas.List.Concat.{flat_map-append}
 use Rattle.nfs_serve.specs.Desk.{Act, Closed, Stepped}
 use Rattle.nfs_serve.specs.Hub.{Round, Opens, Turns}
-use Rattle.nfs_serve.specs.Laws.{stream_on, NoneCloses}
-use Rattle.nfs_serve.specs.Account.{part_of}
-use Rattle.nfs_serve.specs.Whole.{close, entries_of, script, acts_on}
+use Rattle.nfs_serve.specs.Promises.Laws.{stream_on, NoneCloses}
+use Rattle.nfs_serve.specs.Promises.Account.{part_of}
+use Rattle.nfs_serve.specs.Promises.Whole.{close, entries_of, script, acts_on}
 
 -- the entries of one port's acts are of that port
 of_port : (port : ℕ) (a : Act) → All (λ e. e.conn ≡ port) (entries_of port a)

@@ -12,7 +12,7 @@ use Rattle.nfs_serve.specs.Lane.{desk_of, desks_of, Advances, Passes, Visits}
 use Rattle.nfs_serve.specs.declared.lane.Lane.{Lane}
 use Rattle.nfs_serve.specs.Hub.{Desks, at, Round, Opens, Turns, OthersStay, Turning, InOrder, IsOf, IsServed, Sweeps, shown_in, asked_in, steps_in}
 use Rattle.nfs_serve.specs.Sweep.{SweepsBelow, Begins}
-use Rattle.nfs_serve.specs.Waiting.{WaitsForFew}
+use Rattle.nfs_serve.specs.Promises.Waiting.{WaitsForFew}
 use Rattle.nfs_serve.proofs.Advancing.{Logs-nil, Logs-trans}
 use Rattle.nfs_serve.proofs.Rounds.{at_same, at_other, at_lane, turning_on}
 

@@ -10,9 +10,9 @@ use Rattle.nfs_serve.specs.Step.{State}
 use Rattle.nfs_serve.specs.Run.{Streams, with_stream, TakesAll, StreamEvent, Arrives, overflow, Brings, Move, events, after, after_event, output, output_of}
 use Rattle.nfs_serve.specs.Server.{Stands}
 use Rattle.nfs_serve.specs.Desk.{Desk, closed, leaving, Act, Opened, Over, Came, ReadBlocked, Ended, Took, WriteBlocked, Failed, Closed, Stepped, Goes}
-use Rattle.nfs_serve.specs.Laws.{NoneCloses}
-use Rattle.nfs_serve.specs.Account.{came, taken, part_of}
-use Rattle.nfs_serve.specs.Whole.{close, entries_of, port_of, output_on}
+use Rattle.nfs_serve.specs.Promises.Laws.{NoneCloses}
+use Rattle.nfs_serve.specs.Promises.Account.{came, taken, part_of}
+use Rattle.nfs_serve.specs.Promises.Whole.{close, entries_of, port_of, output_on}
 use Rattle.nfs_serve.proofs.Moves.{after-append, output-append, events-append}
 use Rattle.nfs_serve.proofs.Runs.{takes_piece}
 

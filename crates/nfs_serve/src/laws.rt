@@ -1,33 +1,33 @@
 //! Laws of the definitions alone: each is the contract of a function that takes and answers nothing.
 
 ghost use Rattle.std.specs.Prelude.{ℕ};
-ghost use Rattle.nfs_serve.specs.Account.{NothingIsLost};
-ghost use Rattle.nfs_serve.specs.Waiting.{WaitsForFew};
-ghost use Rattle.nfs_serve.specs.Alone.{ExecutingAlone, StaysSettled};
-ghost use Rattle.nfs_serve.specs.Exchanges.{RunsTo, null_script, null_output, exchange_script, exchange_output};
-ghost use Rattle.nfs_serve.specs.Laws.{HasOneReading, CutsAnywhere, BringsOnce, ConnectionsAreStreams};
-ghost use Rattle.nfs_serve.specs.Forms.{EachFormRunsRecords};
-ghost use Rattle.nfs_serve.specs.HeldLock.{IsHeldTo, AreBothTold};
-ghost use Rattle.nfs_serve.specs.HeldOpen.{IsOpenTo};
-ghost use Rattle.nfs_serve.specs.LockKept.{LockKept, EachIsTold, OnlyOneIsTold, LeaseIsTold};
-ghost use Rattle.nfs_serve.specs.LostReply.{IsAccepted, IsOverAWire};
-ghost use Rattle.nfs_serve.specs.Network.{ExactlyOnce, AnswersExecuted};
-ghost use Rattle.nfs_serve.specs.Numbered.{AnswersNumbered, ExactlyOnceByNumber, XidsSuffice};
-ghost use Rattle.nfs_serve.specs.OpenKept.{OpenKept, EachOpenIsTold};
-ghost use Rattle.nfs_serve.specs.Others.{OthersLeaveAll, StrangersChangeNothing, ComeInTime};
-ghost use Rattle.nfs_serve.specs.Outlived.{NoneOutlives};
-ghost use Rattle.nfs_serve.specs.Points.{NoClash};
-ghost use Rattle.nfs_serve.specs.PerfectWire.{AsOverAWire};
-ghost use Rattle.nfs_serve.specs.RealTime.{Atomic};
-ghost use Rattle.nfs_serve.specs.Seen.{server};
-ghost use Rattle.nfs_serve.specs.SessionsOnce.{EachMakesOne, EachWasMade, RepeatsMakeNone, NextMakesOne, IsGivenOnce};
-ghost use Rattle.nfs_serve.specs.SeenWrite.{IsSeen};
-ghost use Rattle.nfs_serve.specs.WrongLocks.{AreRefused};
-ghost use Rattle.nfs_serve.specs.WrittenStays.{BytesStay};
-ghost use Rattle.nfs_serve.specs.WrittenWorked.{StaysTo, BytesRefused};
-ghost use Rattle.nfs_serve.specs.WrongOpens.{OpensAreRefused};
-ghost use Rattle.nfs_serve.specs.WrongServers.{LawsRefuse};
-ghost use Rattle.nfs_serve.specs.Whole.{HubRunsScript, NothingIsLostInARun, NothingIsLostInATurn};
+ghost use Rattle.nfs_serve.specs.Promises.Account.{NothingIsLost};
+ghost use Rattle.nfs_serve.specs.Promises.Waiting.{WaitsForFew};
+ghost use Rattle.nfs_serve.specs.Promises.Alone.{ExecutingAlone, StaysSettled};
+ghost use Rattle.nfs_serve.specs.Promises.Exchanges.{RunsTo, null_script, null_output, exchange_script, exchange_output};
+ghost use Rattle.nfs_serve.specs.Promises.Laws.{HasOneReading, CutsAnywhere, BringsOnce, ConnectionsAreStreams};
+ghost use Rattle.nfs_serve.specs.Promises.Forms.{EachFormRunsRecords};
+ghost use Rattle.nfs_serve.specs.Promises.HeldLock.{IsHeldTo, AreBothTold};
+ghost use Rattle.nfs_serve.specs.Promises.HeldOpen.{IsOpenTo};
+ghost use Rattle.nfs_serve.specs.Promises.LockKept.{LockKept, EachIsTold, OnlyOneIsTold, LeaseIsTold};
+ghost use Rattle.nfs_serve.specs.Promises.LostReply.{IsAccepted, IsOverAWire};
+ghost use Rattle.nfs_serve.specs.Promises.Network.{ExactlyOnce, AnswersExecuted};
+ghost use Rattle.nfs_serve.specs.Promises.Numbered.{AnswersNumbered, ExactlyOnceByNumber, XidsSuffice};
+ghost use Rattle.nfs_serve.specs.Promises.OpenKept.{OpenKept, EachOpenIsTold};
+ghost use Rattle.nfs_serve.specs.Promises.Others.{OthersLeaveAll, StrangersChangeNothing, ComeInTime};
+ghost use Rattle.nfs_serve.specs.Promises.Outlived.{NoneOutlives};
+ghost use Rattle.nfs_serve.specs.Promises.Points.{NoClash};
+ghost use Rattle.nfs_serve.specs.Promises.PerfectWire.{AsOverAWire};
+ghost use Rattle.nfs_serve.specs.Promises.RealTime.{Atomic};
+ghost use Rattle.nfs_serve.specs.Promises.Seen.{server};
+ghost use Rattle.nfs_serve.specs.Promises.SessionsOnce.{EachMakesOne, EachWasMade, RepeatsMakeNone, NextMakesOne, IsGivenOnce};
+ghost use Rattle.nfs_serve.specs.Promises.SeenWrite.{IsSeen};
+ghost use Rattle.nfs_serve.specs.Promises.WrongLocks.{AreRefused};
+ghost use Rattle.nfs_serve.specs.Promises.WrittenStays.{BytesStay};
+ghost use Rattle.nfs_serve.specs.Promises.WrittenWorked.{StaysTo, BytesRefused};
+ghost use Rattle.nfs_serve.specs.Promises.WrongOpens.{OpensAreRefused};
+ghost use Rattle.nfs_serve.specs.Promises.WrongServers.{LawsRefuse};
+ghost use Rattle.nfs_serve.specs.Promises.Whole.{HubRunsScript, NothingIsLostInARun, NothingIsLostInATurn};
 
 /// Which fault a script has, if any, and its whole entries before it are decided by its bytes.
 pub fn one_reading()

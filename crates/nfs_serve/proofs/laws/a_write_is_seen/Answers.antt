@@ -1,4 +1,4 @@
-use Rattle.nfs_serve.proofs.SeenWrite.{is_seen}
+use Rattle.nfs_serve.proofs.Promises.SeenWrite.{is_seen}
 use Rattle.nfs_serve.proofs.laws.a_write_is_seen.Goals as goal
 
 pub returns : goal.returns

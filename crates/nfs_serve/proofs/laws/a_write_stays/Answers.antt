@@ -1,4 +1,4 @@
-use Rattle.nfs_serve.proofs.WrittenWorked.{stays_to}
+use Rattle.nfs_serve.proofs.Promises.WrittenWorked.{stays_to}
 use Rattle.nfs_serve.proofs.laws.a_write_stays.Goals as goal
 
 pub returns : goal.returns

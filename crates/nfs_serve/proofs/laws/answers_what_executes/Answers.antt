@@ -1,4 +1,4 @@
-use Rattle.nfs_serve.proofs.KeptSlots.{answers_well}
+use Rattle.nfs_serve.proofs.Promises.KeptSlots.{answers_well}
 use Rattle.nfs_serve.proofs.laws.answers_what_executes.Goals as goal
 
 pub returns : goal.returns

@@ -1,4 +1,4 @@
-use Rattle.nfs_serve.proofs.KeptSlots.{answers_numbered}
+use Rattle.nfs_serve.proofs.Promises.KeptSlots.{answers_numbered}
 use Rattle.nfs_serve.proofs.laws.answers_with_the_number.Goals as goal
 
 pub returns : goal.returns

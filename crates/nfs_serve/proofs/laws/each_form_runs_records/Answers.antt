@@ -1,4 +1,4 @@
-use Rattle.nfs_serve.proofs.Forms.{each_form}
+use Rattle.nfs_serve.proofs.Promises.Forms.{each_form}
 use Rattle.nfs_serve.proofs.laws.each_form_runs_records.Goals as goal
 
 pub returns : goal.returns

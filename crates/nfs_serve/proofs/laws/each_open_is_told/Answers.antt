@@ -1,4 +1,4 @@
-use Rattle.nfs_serve.proofs.OpenKept.{each_open_is_told}
+use Rattle.nfs_serve.proofs.Promises.OpenKept.{each_open_is_told}
 use Rattle.nfs_serve.proofs.laws.each_open_is_told.Goals as goal
 
 pub returns : goal.returns

@@ -1,4 +1,4 @@
-use Rattle.nfs_serve.proofs.SessionsOnce.{each_was_made}
+use Rattle.nfs_serve.proofs.Promises.SessionsOnce.{each_was_made}
 use Rattle.nfs_serve.proofs.laws.each_session_was_made.Goals as goal
 
 pub returns : goal.returns

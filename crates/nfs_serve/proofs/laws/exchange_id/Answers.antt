@@ -1,4 +1,4 @@
-use Rattle.nfs_serve.proofs.Exchanges.{exchange_runs}
+use Rattle.nfs_serve.proofs.Promises.Exchanges.{exchange_runs}
 use Rattle.nfs_serve.proofs.laws.exchange_id.Goals as goal
 
 pub returns : goal.returns

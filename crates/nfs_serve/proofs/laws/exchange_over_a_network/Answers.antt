@@ -1,4 +1,4 @@
-use Rattle.nfs_serve.proofs.LostReply.{is_accepted}
+use Rattle.nfs_serve.proofs.Promises.LostReply.{is_accepted}
 use Rattle.nfs_serve.proofs.laws.exchange_over_a_network.Goals as goal
 
 pub returns : goal.returns

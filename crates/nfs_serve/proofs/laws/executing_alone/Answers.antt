@@ -1,6 +1,6 @@
-use Rattle.nfs_serve.proofs.AloneRuns.{executing_alone}
-use Rattle.nfs_serve.specs.Seen.{server}
-use Rattle.nfs_serve.proofs.Ticking.{keeps_time}
+use Rattle.nfs_serve.proofs.Promises.AloneRuns.{executing_alone}
+use Rattle.nfs_serve.specs.Promises.Seen.{server}
+use Rattle.nfs_serve.proofs.Promises.Ticking.{keeps_time}
 use Rattle.nfs_serve.proofs.laws.executing_alone.Goals as goal
 
 pub returns : goal.returns

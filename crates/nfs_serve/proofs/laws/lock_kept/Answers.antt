@@ -1,4 +1,4 @@
-use Rattle.nfs_serve.proofs.LockKept.{lock_kept}
+use Rattle.nfs_serve.proofs.Promises.LockKept.{lock_kept}
 use Rattle.nfs_serve.proofs.laws.lock_kept.Goals as goal
 
 pub returns : goal.returns

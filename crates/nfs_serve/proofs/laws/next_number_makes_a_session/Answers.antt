@@ -1,4 +1,4 @@
-use Rattle.nfs_serve.proofs.SessionsOnce.{next_makes_one}
+use Rattle.nfs_serve.proofs.Promises.SessionsOnce.{next_makes_one}
 use Rattle.nfs_serve.proofs.laws.next_number_makes_a_session.Goals as goal
 
 pub returns : goal.returns

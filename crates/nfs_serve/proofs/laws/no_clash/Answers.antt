@@ -1,4 +1,4 @@
-use Rattle.nfs_serve.proofs.Points.{no_clash}
+use Rattle.nfs_serve.proofs.Promises.Points.{no_clash}
 use Rattle.nfs_serve.proofs.laws.no_clash.Goals as goal
 
 pub returns : goal.returns

@@ -1,4 +1,4 @@
-use Rattle.nfs_serve.proofs.Outlived.{none_outlives}
+use Rattle.nfs_serve.proofs.Promises.Outlived.{none_outlives}
 use Rattle.nfs_serve.proofs.laws.no_lock_outlives_its_client.Goals as goal
 
 pub returns : goal.returns

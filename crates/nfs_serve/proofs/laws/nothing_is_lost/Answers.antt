@@ -1,4 +1,4 @@
-use Rattle.nfs_serve.proofs.Accounts.{account}
+use Rattle.nfs_serve.proofs.Promises.Accounts.{account}
 use Rattle.nfs_serve.proofs.laws.nothing_is_lost.Goals as goal
 
 pub returns : goal.returns

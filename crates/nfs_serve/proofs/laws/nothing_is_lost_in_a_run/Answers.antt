@@ -1,4 +1,4 @@
-use Rattle.nfs_serve.proofs.Whole.{in_a_run, in_a_turn}
+use Rattle.nfs_serve.proofs.Promises.Whole.{in_a_run, in_a_turn}
 use Rattle.nfs_serve.proofs.laws.nothing_is_lost_in_a_run.Goals as goal
 
 pub returns : goal.returns

@@ -1,4 +1,4 @@
-use Rattle.nfs_serve.proofs.Exchanges.{null_runs}
+use Rattle.nfs_serve.proofs.Promises.Exchanges.{null_runs}
 use Rattle.nfs_serve.proofs.laws.null.Goals as goal
 
 pub returns : goal.returns

@@ -1,4 +1,4 @@
-use Rattle.nfs_serve.proofs.LockKept.{only_one}
+use Rattle.nfs_serve.proofs.Promises.LockKept.{only_one}
 use Rattle.nfs_serve.proofs.laws.only_one_writer_is_told.Goals as goal
 
 pub returns : goal.returns

@@ -1,4 +1,4 @@
-use Rattle.nfs_serve.proofs.OpenKept.{open_kept}
+use Rattle.nfs_serve.proofs.Promises.OpenKept.{open_kept}
 use Rattle.nfs_serve.proofs.laws.open_kept.Goals as goal
 
 pub returns : goal.returns

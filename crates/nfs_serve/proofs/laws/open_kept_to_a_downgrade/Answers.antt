@@ -1,4 +1,4 @@
-use Rattle.nfs_serve.proofs.HeldOpen.{is_open_to}
+use Rattle.nfs_serve.proofs.Promises.HeldOpen.{is_open_to}
 use Rattle.nfs_serve.proofs.laws.open_kept_to_a_downgrade.Goals as goal
 
 pub returns : goal.returns

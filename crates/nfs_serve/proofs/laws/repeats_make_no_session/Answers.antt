@@ -1,4 +1,4 @@
-use Rattle.nfs_serve.proofs.SessionsOnce.{repeats_make_none}
+use Rattle.nfs_serve.proofs.Promises.SessionsOnce.{repeats_make_none}
 use Rattle.nfs_serve.proofs.laws.repeats_make_no_session.Goals as goal
 
 pub returns : goal.returns

@@ -1,4 +1,4 @@
-use Rattle.nfs_serve.proofs.WrittenStays.{bytes_stay}
+use Rattle.nfs_serve.proofs.Promises.WrittenStays.{bytes_stay}
 use Rattle.nfs_serve.proofs.laws.written_bytes_stay.Goals as goal
 
 pub returns : goal.returns

@@ -1,4 +1,4 @@
-use Rattle.nfs_serve.proofs.WrittenWorked.{bytes_refused}
+use Rattle.nfs_serve.proofs.Promises.WrittenWorked.{bytes_refused}
 use Rattle.nfs_serve.proofs.laws.wrong_bytes_are_refused.Goals as goal
 
 pub returns : goal.returns

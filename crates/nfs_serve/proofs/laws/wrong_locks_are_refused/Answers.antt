@@ -1,4 +1,4 @@
-use Rattle.nfs_serve.proofs.WrongLocks.{are_refused}
+use Rattle.nfs_serve.proofs.Promises.WrongLocks.{are_refused}
 use Rattle.nfs_serve.proofs.laws.wrong_locks_are_refused.Goals as goal
 
 pub returns : goal.returns

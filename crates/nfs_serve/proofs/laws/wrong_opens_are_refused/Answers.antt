@@ -1,4 +1,4 @@
-use Rattle.nfs_serve.proofs.WrongOpens.{opens_are_refused}
+use Rattle.nfs_serve.proofs.Promises.WrongOpens.{opens_are_refused}
 use Rattle.nfs_serve.proofs.laws.wrong_opens_are_refused.Goals as goal
 
 pub returns : goal.returns

@@ -1,4 +1,4 @@
-use Rattle.nfs_serve.proofs.WrongServers.{laws_refuse}
+use Rattle.nfs_serve.proofs.Promises.WrongServers.{laws_refuse}
 use Rattle.nfs_serve.proofs.laws.wrong_servers_fail.Goals as goal
 
 pub returns : goal.returns

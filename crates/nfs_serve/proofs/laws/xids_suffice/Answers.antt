@@ -1,6 +1,6 @@
-use Rattle.nfs_serve.proofs.ByXid.{happens}
-use Rattle.nfs_serve.specs.Seen.{server}
-use Rattle.nfs_serve.proofs.KeptSlots.{keeps_slots}
+use Rattle.nfs_serve.proofs.Promises.ByXid.{happens}
+use Rattle.nfs_serve.specs.Promises.Seen.{server}
+use Rattle.nfs_serve.proofs.Promises.KeptSlots.{keeps_slots}
 use Rattle.nfs_serve.proofs.laws.xids_suffice.Goals as goal
 
 pub returns : goal.returns

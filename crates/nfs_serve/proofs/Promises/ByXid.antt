@@ -1,0 +1,87 @@
+-- Callers that go by xids, and use none for two compounds, are callers that may go by SEQUENCE's result.
+use Rattle.std.proofs.Common.{◌≡◌, inl, inr, List, [], ◌∷◌, Some, sym, ◌∙◌, ap, subst}
+use Rattle.nfs_xdr.specs.Tables.{In}
+use Rattle.nfs_serve.specs.Promises.Endpoint.{Place, Compound, Answer, Server, Arrival, ran}
+use Rattle.nfs_serve.specs.Promises.Network.{Callers, Packet, Line, Network, NetworkEvent, Sends, Resends, Arrives, Asks, Intrudes, Accepts, after, IsOfOneCompound, MayAccept, May, Schedule, IsUnused, begins, ExactlyOnce}
+use Rattle.nfs_serve.specs.Promises.Numbered.{CanAccept, Can, Happens}
+use Rattle.nfs_serve.proofs.Promises.ServerLaws.{KeepsSlots}
+use Rattle.nfs_serve.proofs.Promises.NetworkLists.{last_one}
+use Rattle.nfs_serve.proofs.Promises.NetworkEvents.{Begun, IsNetwork, begun_waits, event_keeps, begins_is, exactly_once_by_number}
+
+-- each xid of a caller is of one compound
+abbrev Apart : Callers → List Packet → Type 0
+Apart callers packets = (r : Packet) → In r packets → IsOfOneCompound callers packets r.heading
+
+apart_more : (callers : Callers) (packets : List Packet) (q : Packet) → IsOfOneCompound callers packets q.heading → Apart callers packets → Apart callers (q ∷ packets)
+apart_more callers packets q new apart r (inl same) x (inl alike) who xid =
+    (ap (λ (y : Packet). y.heading.place) (alike ∙ sym same), ap (λ (y : Packet). y.heading.compound) (alike ∙ sym same))
+apart_more callers packets q new apart r (inl same) x (inr old) who xid =
+    let e = new x old (who ∙ ap (λ (y : Packet). callers.who y.heading.place) same) (xid ∙ ap (λ (y : Packet). y.heading.xid) same) in
+    (e.0 ∙ ap (λ (y : Packet). y.heading.place) (sym same), e.1 ∙ ap (λ (y : Packet). y.heading.compound) (sym same))
+apart_more callers packets q new apart r (inr old) x (inl same) who xid =
+    let e = new r old (sym who ∙ ap (λ (y : Packet). callers.who y.heading.place) same) (sym xid ∙ ap (λ (y : Packet). y.heading.xid) same) in
+    (ap (λ (y : Packet). y.heading.place) same ∙ sym e.0, ap (λ (y : Packet). y.heading.compound) same ∙ sym e.1)
+apart_more callers packets q new apart r (inr old) x (inr older) who xid = apart r old x older who xid
+
+-- a reply with an xid of the compound that waits bears its slot and number
+accepts : (s : Server) (laws : KeepsSlots s) (callers : Callers) (start : s.State) (net : Network s) (p : Place) (c : Compound) (a : Answer)
+    → IsNetwork s laws callers start net → Apart callers net.packets → MayAccept s callers net p c a → CanAccept s callers net p c a
+accepts s laws callers start net p c a is apart may = record {
+  place = may.place;
+  caller = callers.who p;
+  sent = may.sent;
+  waits = waits;
+  last = may.last;
+  numbered = numbered;
+}
+  where
+    l : Line
+    l = net.lines p
+
+    waits : l.xids ≡ [] → ⊥
+    waits none = subst (In a.xid) none may.xid
+
+    begun : Begun s laws net.machine net.packets l p
+    begun = begun_waits s laws net.machine net.packets l p waits (is.stage p may.place)
+
+    numbered : s.slot_number a.result ≡ Some (record { place = p; number = c.number })
+    numbered =
+        let by = is.replies _ may.sent may.sequenced in
+        let (q, sent, at, last, xid) = begun.line.sent a.xid may.xid in
+        let one = apart q sent by.packet by.sent (by.caller ∙ ap callers.who (sym at)) (by.xid ∙ sym xid) in
+        let compound : by.packet.heading.compound ≡ c = one.1 ∙ last_one last.0 may.last.0 q.heading.compound c (sym last.1 ∙ may.last.1) in
+        let place : by.packet.heading.place ≡ p = one.0 ∙ at in
+        subst (λ (d : Compound). s.slot_number a.result ≡ Some (record { place = p; number = d.number })) compound
+        (subst (λ (k : Place). s.slot_number a.result ≡ Some (record { place = k; number = by.packet.heading.compound.number })) place
+        (is.tells by.packet.heading.place (is.packets by.packet by.sent).place (record { compound = by.packet.heading.compound; result = a.result }) by.executed))
+
+event_can : (s : Server) (laws : KeepsSlots s) (callers : Callers) (start : s.State) (net : Network s) (e : NetworkEvent) → ((p : Place) → In p callers.places → IsUnused s start p)
+    → IsNetwork s laws callers start net → Apart callers net.packets → May callers net e → Can callers start net e × Apart callers (after callers net e).packets
+event_can s laws callers start net (Sends q) unused is apart may = (
+  record { bytes = may.bytes; reads = may.reads; place = may.place; ready = λ none. inl (unused q.heading.place may.place); idle = may.idle; number = may.number; small = may.small },
+  apart_more callers net.packets q may.xid apart,
+)
+event_can s laws callers start net (Resends q) unused is apart may = (
+  record { bytes = may.bytes; reads = may.reads; place = may.place; waits = may.outstanding; last = may.last },
+  apart_more callers net.packets q may.xid apart,
+)
+event_can s laws callers start net (Arrives q now choice) unused is apart may = (may, apart)
+event_can s laws callers start net (Asks caller a) unused is apart may = (may, apart)
+event_can s laws callers start net (Intrudes a) unused is apart may = (may, apart)
+event_can s laws callers start net (Accepts p c a) unused is apart may = (accepts s laws callers start net p c a is apart may, apart)
+
+events_can : (s : Server) (laws : KeepsSlots s) (callers : Callers) (start : s.State) (net : Network s) (events : List NetworkEvent) → ((p : Place) → In p callers.places → IsUnused s start p)
+    → IsNetwork s laws callers start net → Apart callers net.packets → Schedule callers net events → Happens callers start net events
+events_can s laws callers start net [] unused is apart may = tt
+events_can s laws callers start net (e ∷ more) unused is apart may =
+    let now = event_can s laws callers start net e unused is apart may.0 in
+    (now.0, events_can s laws callers start (after callers net e) more unused (event_keeps s laws callers start net e is now.0) now.1 may.1)
+
+pub happens : (s : Server) → KeepsSlots s → (before : List Arrival) (callers : Callers) (events : List NetworkEvent) → ((p : Place) → In p callers.places → IsUnused s (ran s s.new before) p)
+    → Schedule callers (begins s (ran s s.new before)) events → Happens callers (ran s s.new before) (begins s (ran s s.new before)) events
+happens s laws before callers events unused may =
+    let m : s.State = ran s s.new before in
+    events_can s laws callers m (begins s m) events unused (begins_is s laws callers before) (λ r none. absurd none) may
+
+pub exactly_once : (s : Server) → KeepsSlots s → ExactlyOnce s
+exactly_once s laws before callers events unused may = exactly_once_by_number s laws before callers events (happens s laws before callers events unused may)

@@ -1,0 +1,166 @@
+-- What runs on a slot is answered with a good SEQUENCE, which bears the slot and the number of the call: so its caller may accept it.
+use Rattle.std.proofs.Common.{◌≡◌, inl, inr, ℕ, ◌<◌, ◌^◌, zero, suc, Bool, true, List, [], ◌∷◌, ◌++◌, length, Option, Some, None, refl, ◌∙◌, ap, subst, append_assoc, arith}
+use Rattle.std.specs.Prelude.{◌==◌, nat_lt, take, false, if◌then◌else◌}
+use Rattle.std.specs.Int.{w32, from_be_bytes}
+use Rattle.std.proofs.lemmas.List.{length-append, drop_at}
+use Rattle.std.proofs.lemmas.Bool.{cases_Bool, le-ltb, eqb-true}
+use Rattle.nfs_xdr.specs.Spelling as spelling
+use Rattle.nfs_xdr.specs.Limits.{opaque_limit}
+use Rattle.nfs_xdr.specs.Codec.{number, opaque}
+use Rattle.nfs_xdr.specs.Caller.{Caller}
+use Rattle.nfs_xdr.specs.Status.{status_number}
+use Rattle.nfs_xdr.proofs.CodecLaws.{is_number, is_fixed, is_opaque}
+use Rattle.nfs_xdr.proofs.Putting.{length_number}
+use Rattle.nfs_xdr.proofs.StatusLaws.{is_status_listing}
+use Rattle.nfs_compound.specs.Operation.{Item, Operation, OpSequence}
+use Rattle.nfs_compound.specs.Request.{Request, Lists, HasBody, IsRequest}
+use Rattle.nfs_compound.specs.declared.session_args.Sequence.{Sequence}
+use Rattle.nfs_results.specs.Items as results
+use Rattle.nfs_sessions.specs.declared.channel.Channel.{Channel}
+use Rattle.nfs_sessions.specs.Id.{id_of}
+use Rattle.nfs_exec.specs.Machine.{Machine}
+use Rattle.nfs_exec.specs.Sequence as sequence
+use Rattle.nfs_exec.specs.Sequence.{Sequenced, Refuses, Repeats, Runs, accepted}
+use Rattle.nfs_exec.specs.Run.{behind_here}
+use Rattle.nfs_exec.specs.Compound.{renewed, run_in, in_session, by_first, compound}
+use Rattle.nfs_exec.specs.Laws.{if_runs, first_runs}
+use Rattle.nfs_exec.specs.Executing.{first_sequence, sequence_of}
+use Rattle.nfs_serve.specs.Promises.Endpoint.{SlotNumber}
+use Rattle.nfs_serve.specs.Promises.Seen.{front, by_front, sequenced, sequence_front, by_sequence_front, numbered_by, slot_number}
+use Rattle.nfs_exec.proofs.Quiet.{ran_in}
+
+-- a number is read, whatever it is
+number_any : (n : ℕ) (rest : List ℕ) → (k : ℕ) × (number.read (spelling.number n ++ rest) ≡ Some (k, rest))
+number_any n rest =
+    let bytes = spelling.number n ++ rest in
+    let long : nat_lt (length bytes) 4 ≡ false = le-ltb (length bytes) 4 (omega (arith, length-append (spelling.number n) rest, length_number n)) in
+    (from_be_bytes w32 (take 4 bytes), rw (long, drop_at (spelling.number n) rest 4 (length_number n)) refl)
+
+nested : (a b c d e r : List ℕ) → (a ++ (b ++ c)) ++ ((d ++ e) ++ r) ≡ a ++ (b ++ (c ++ (d ++ (e ++ r))))
+nested a b c d e r =
+    append_assoc a (b ++ c) ((d ++ e) ++ r)
+    ∙ ap (λ (w : List ℕ). a ++ w) (append_assoc b c ((d ++ e) ++ r) ∙ ap (λ (w : List ℕ). b ++ (c ++ w)) (append_assoc d e r))
+
+nested_sequence : (id n slot more rest : List ℕ) → (id ++ (n ++ (slot ++ more))) ++ rest ≡ id ++ (n ++ (slot ++ (more ++ rest)))
+nested_sequence id n slot more rest =
+    append_assoc id (n ++ (slot ++ more)) rest
+    ∙ ap (λ (w : List ℕ). id ++ w) (append_assoc n (slot ++ more) rest ∙ ap (λ (w : List ℕ). n ++ w) (append_assoc slot more rest))
+
+-- The text of a compound that runs on a slot: a status, its tag and a count, and behind them SEQUENCE's result, which begins with the session,
+-- the number and the slot of the call.
+record IsAnswered (tag : List ℕ) (q : Sequence) (text : List ℕ) : Type 0 where
+  status : ℕ
+  count : ℕ
+  rest : List ℕ
+  small : status < 2 ^ 32
+  is : text ≡ (spelling.number status ++ (spelling.opaque tag ++ spelling.number count))
+      ++ ((spelling.number 53 ++ spelling.number 0) ++ (spelling.fixed q.sessionid ++ (spelling.number q.sequenceid ++ (spelling.number q.slotid ++ rest))))
+
+answered : (m : Machine) (r : Request) (who : Caller) (now : ℕ) (choice : Option ℕ) (q : Sequence) (more : List Item) (c : Channel)
+    → IsAnswered r.tag q (in_session m r who now choice q more (Runs c)).text
+unfolding results.sequence
+answered m r who now choice q more c =
+    let rest = run_in (renewed m now q) r who now (behind_here choice) q c more in
+    let ok = accepted q c in
+    let others = spelling.number ok.highest_slotid ++ (spelling.number ok.target_highest_slotid ++ spelling.number ok.status_flags) in
+    let body = spelling.fixed q.sessionid ++ (spelling.number q.sequenceid ++ (spelling.number q.slotid ++ others)) in
+    let head = spelling.number (status_number rest.status) ++ (spelling.opaque r.tag ++ spelling.number (suc rest.count)) in
+    record {
+      status = status_number rest.status;
+      count = suc rest.count;
+      rest = others ++ rest.results;
+      small = is_status_listing.small rest.status;
+      is = ap (λ (w : List ℕ). head ++ w) (append_assoc (spelling.number 53 ++ spelling.number 0) body rest.results)
+          ∙ ap (λ (w : List ℕ). head ++ ((spelling.number 53 ++ spelling.number 0) ++ w))
+          (nested_sequence (spelling.fixed q.sessionid) (spelling.number q.sequenceid) (spelling.number q.slotid) others rest.results);
+    }
+
+answered_verdict : (m : Machine) (r : Request) (who : Caller) (now : ℕ) (choice : Option ℕ) (q s : Sequence) (more : List Item) (v : Sequenced)
+    → if_runs q v ≡ Some s → IsAnswered r.tag s (in_session m r who now choice q more v).text
+answered_verdict m r who now choice q s more (Refuses status) e = absurd cc
+answered_verdict m r who now choice q s more (Repeats reply) e = absurd cc
+answered_verdict m r who now choice q s more (Runs c) e = subst (λ (s : Sequence). IsAnswered r.tag s (in_session m r who now choice q more (Runs c)).text) same (answered m r who now choice q more c)
+  where
+    same : q ≡ s
+    same = cc
+
+answered_items : (m : Machine) (r : Request) (who : Caller) (size now : ℕ) (choice : Option ℕ) (s : Sequence) (items : List Item)
+    → first_runs m r who size items ≡ Some s → IsAnswered r.tag s (by_first m r who size now choice items).text
+answered_items m r who size now choice s [] e = absurd cc
+answered_items m r who size now choice s (Operation (OpSequence q) ∷ more) e = answered_verdict m r who now choice q s more (sequence.sequenced m r who size q) e
+answered_items m r who size now choice s (item ∷ more) e = absurd cc
+
+answered_compound : (m : Machine) (r : Request) (who : Caller) (size now : ℕ) (choice : Option ℕ) (s : Sequence)
+    → ran_in m r who size ≡ Some s → IsAnswered r.tag s (compound m r who size now choice).text
+answered_compound m r who size now choice s e = elim (cases_Bool (r.minor == 1)) [
+  | inl one ↦ rw one (answered_items m r who size now choice s r.left (rw one at e))
+  | inr other ↦ absurd (let none : None ≡ Some s = rw other at e in cc)
+]
+
+-- the front of such a text
+good_front : (status count : ℕ) (tag rest : List ℕ) → status < 2 ^ 32 → (opaque opaque_limit).Fits tag
+    → (k : ℕ) × (front.read ((spelling.number status ++ (spelling.opaque tag ++ spelling.number count)) ++ ((spelling.number 53 ++ spelling.number 0) ++ rest))
+    ≡ Some ((status, (tag, (k, (53, 0)))), rest))
+good_front status count tag rest s fits =
+    let A = spelling.number status in
+    let B = spelling.opaque tag in
+    let C = spelling.number count in
+    let D = spelling.number 53 in
+    let E = spelling.number 0 in
+    let any = number_any count (D ++ (E ++ rest)) in (
+      any.0,
+      ap front.read (nested A B C D E rest)
+          ∙ rw (
+            is_number.again status (B ++ (C ++ (D ++ (E ++ rest)))) s,
+            (is_opaque opaque_limit (omega arith)).again tag (C ++ (D ++ (E ++ rest))) fits,
+            any.1,
+            is_number.again 53 (E ++ rest) (omega arith),
+            is_number.again 0 rest (omega arith),
+          ) refl,
+    )
+
+-- and the session, the number and the slot behind it
+sequence_again : (q : Sequence) (rest : List ℕ) → sequence_front.Fits (q.sessionid, (q.sequenceid, q.slotid))
+    → by_sequence_front (sequence_front.read (spelling.fixed q.sessionid ++ (spelling.number q.sequenceid ++ (spelling.number q.slotid ++ rest))))
+    ≡ Some (record { place = record { session = id_of q.sessionid; slot = q.slotid }; number = q.sequenceid })
+sequence_again q rest fits = rw (
+  (is_fixed 16).again q.sessionid (spelling.number q.sequenceid ++ (spelling.number q.slotid ++ rest)) fits.0,
+  is_number.again q.sequenceid (spelling.number q.slotid ++ rest) fits.1.0,
+  is_number.again q.slotid rest fits.1.1,
+) refl
+
+pub numbered_compound : (m : Machine) (r : Request) (who : Caller) (size now : ℕ) (choice : Option ℕ) (s : Sequence) → (opaque opaque_limit).Fits r.tag
+    → sequence_front.Fits (s.sessionid, (s.sequenceid, s.slotid)) → ran_in m r who size ≡ Some s
+    → slot_number (compound m r who size now choice).text ≡ Some (record { place = record { session = id_of s.sessionid; slot = s.slotid }; number = s.sequenceid })
+numbered_compound m r who size now choice s fits sequence_fits e =
+    let a = answered_compound m r who size now choice s e in
+    let read = good_front a.status a.count r.tag _ a.small fits in
+    ap slot_number a.is ∙ (ap numbered_by read.1 ∙ sequence_again s a.rest sequence_fits)
+
+-- what bears a slot and a number begins with a good SEQUENCE
+pub well_numbered : (result : List ℕ) (n : SlotNumber) → slot_number result ≡ Some n → sequenced result ≡ true
+well_numbered result n e = go (front.read result) e
+  where
+    when : (b : Bool) (o : Option SlotNumber) → (if b then o else None) ≡ Some n → b ≡ true
+    when true o e = refl
+    when false o e = absurd cc
+
+    go : (o : Option ((ℕ × (List ℕ × (ℕ × (ℕ × ℕ)))) × List ℕ)) → numbered_by o ≡ Some n → by_front o ≡ true
+    go None e = absurd cc
+    go (Some x) e = when _ (by_sequence_front (sequence_front.read x.1)) e
+
+-- the session, the number and the slot of a SEQUENCE that was read fit
+first_fits : (n : ℕ) (body : List ℕ) (items : List Item) (q : Sequence) → first_sequence items ≡ Some q → Lists n body items → sequence_front.Fits (q.sessionid, (q.sequenceid, q.slotid))
+first_fits n body [] q e is = absurd cc
+first_fits zero body (Operation (OpSequence s) ∷ more) q e is = absurd is
+first_fits (suc n) body (Operation (OpSequence s) ∷ more) q e is =
+    let (rest, stands, (number, (session, (sequenceid, (slotid, others)))), listed) = is in
+    let same : s ≡ q = cc in
+    subst (λ (q : Sequence). sequence_front.Fits (q.sessionid, (q.sequenceid, q.slotid))) same (session, (sequenceid, slotid))
+first_fits n body (item ∷ more) q e is = absurd cc
+
+pub sequence_fits : (bytes : List ℕ) (r : Request) (q : Sequence) → IsRequest bytes r → sequence_of r ≡ Some q → sequence_front.Fits (q.sessionid, (q.sequenceid, q.slotid))
+sequence_fits bytes r q is e = elim (cases_Bool (r.minor == 1)) [
+  | inl one ↦ first_fits r.declared is.body r.left q (rw one at e) (subst (λ (minor : ℕ). HasBody minor r.declared is.body r.left) (eqb-true r.minor 1 one) is.items)
+  | inr other ↦ absurd (let none : None ≡ Some q = rw other at e in cc)
+]

@@ -1,0 +1,223 @@
+-- The run of a lock that is kept, computed.
+use Rattle.std.proofs.Common.{◌≡◌, ℕ, ◌+◌, ◌≤◌, Bool, true, false, cond, List, [], ◌∷◌, ◌++◌, length, take, drop, refl, sym, ◌∙◌, ap, subst, arith, inl, inr}
+use Rattle.std.specs.Prelude.{◌==◌, ◌&&◌, not, nat_le, bytes_eq, if◌then◌else◌, Ok}
+use Rattle.std.specs.Int.{w64, from_be_bytes}
+use Rattle.std.proofs.lemmas.Bool.{and_parts, eqb-true, eq-eqb, leb-true, true≢false}
+use Rattle.std.proofs.lemmas.Slice.Eq.{bytes_eq-Decides}
+use Rattle.nfs_xdr.specs.Tables.{In}
+use Rattle.nfs_xdr.specs.Spelling.{number}
+use Rattle.nfs_xdr.specs.declared.status.Status.TheVariants.{Nfs4Ok}
+use Rattle.nfs_compound.specs.declared.op_num.OpNum.{OpNum}
+use Rattle.nfs_compound.specs.declared.op_num.OpNum.TheVariants as Num
+use Rattle.nfs_results.specs.Results.{done_head}
+use Rattle.nfs_compound.specs.Operation.{Item, Operation, OpLock, OpLockU, OpClose, OpPutRootFh}
+use Rattle.nfs_compound.specs.LockArgs.{Lock, OpenOwner}
+use Rattle.nfs_compound.specs.declared.lock_args.LockType.TheVariants as LockTypes
+use Rattle.nfs_clients.specs.Roster.{ClientRecord}
+use Rattle.nfs_names.specs.Context.{begins}
+use Rattle.nfs_files.specs.Ranges.{wished}
+use Rattle.nfs_files.specs.LockTold.{LockTold, Names}
+use Rattle.nfs_exec.specs.Machine.{Machine}
+use Rattle.nfs_exec.specs.Ops.{RanOp}
+use Rattle.nfs_exec.specs.LockHeld.{LocksFor, Spares, AreSpared, IsAlone}
+use Rattle.nfs_serve.specs.Step.{State}
+use Rattle.nfs_serve.specs.Promises.Endpoint.{Arrival}
+use Rattle.nfs_serve.specs.Promises.Points.{state_after, state_after_all, taken, before, ops_of}
+use Rattle.nfs_serve.specs.Promises.LockKept.{renews_by, AreInTime}
+use Rattle.nfs_serve.specs.Promises.HeldLock as worked
+use Rattle.nfs_serve.specs.Promises.HeldLock.{start, locks, last_of, IsHeldTo, AreBothTold}
+use Rattle.nfs_serve.proofs.Promises.Computing.{computing}
+
+-- An operation that was refused, or that is none of the three that end locks, spares each lock.
+
+abbrev ends : Item → Bool
+ends (Operation (OpLock a)) = true
+ends (Operation (OpLockU a)) = true
+ends (Operation (OpClose a)) = true
+ends i = false
+
+-- the status in the bytes of a result is NFS4_OK
+abbrev says_ok : List ℕ → Bool
+says_ok result = bytes_eq (take 4 (drop 4 result)) (0 ∷ 0 ∷ 0 ∷ 0 ∷ [])
+
+abbrev spares : RanOp → Bool
+spares d = not (says_ok d.result && ends d.item)
+
+abbrev all_spare : List RanOp → Bool
+all_spare [] = true
+all_spare (d ∷ ds) = spares d && all_spare ds
+
+named_ok : (op : OpNum) (id : List ℕ) → says_ok (done_head op ++ id) ≡ true
+unfolding number
+named_ok op id = refl
+
+ended : (d : RanOp) (op : OpNum) (n : ℕ) → spares d ≡ true → ends d.item ≡ true → Names op d.result n → ⊥
+ended d op n spared end names = go (says_ok d.result) (ends d.item) spared (ap says_ok names.answers ∙ named_ok op names.id) end
+  where
+    go : (ok end : Bool) → not (ok && end) ≡ true → ok ≡ true → end ≡ true → ⊥
+    go true true e ok end = true≢false (sym e)
+    go true false e ok end = true≢false (sym end)
+    go false end e ok is = true≢false (sym ok)
+
+spared : (k : LockTold) (d : RanOp) → spares d ≡ true → Spares k d
+spared k d e = record {
+  locks = λ w l. absurd (ended d Num.Lock k.state e (ap ends l.is) l.names);
+  unlocks = λ w l. absurd (ended d Num.LockU k.state e (ap ends l.is) l.names);
+  closes = λ l. ended d Num.Close 0 e (ap ends l.is) l.names;
+}
+
+all_spared : (k : LockTold) (ds : List RanOp) → all_spare ds ≡ true → AreSpared k ds
+all_spared k [] e d there = absurd there
+all_spared k (x ∷ ds) e d there = (let p = and_parts _ _ e in elim there [
+  | inl here ↦ subst (Spares k) (sym here) (spared k x p.0)
+  | inr later ↦ all_spared k ds p.1 d later
+])
+
+-- A client's record has its owner, and no other record has.
+
+abbrev pub is_own : ℕ → List ℕ → ClientRecord → Bool
+is_own client owner c = if c.id == client then bytes_eq c.owner owner else not (bytes_eq c.owner owner)
+
+abbrev pub all_own : ℕ → List ℕ → List ClientRecord → Bool
+all_own client owner [] = true
+all_own client owner (c ∷ cs) = is_own client owner c && all_own client owner cs
+
+both : (v w : Bool) → cond v w (not w) ≡ true → v ≡ w
+both true w e = sym e
+both false true e = absurd (true≢false (sym e))
+both false false e = refl
+
+own_in : (client : ℕ) (owner : List ℕ) (cs : List ClientRecord) → all_own client owner cs ≡ true → (c : ClientRecord) → In c cs
+    → (c.id == client) ≡ bytes_eq c.owner owner
+own_in client owner [] e c there = absurd there
+own_in client owner (x ∷ cs) e c there = (let p = and_parts _ _ e in elim there [
+  | inl here ↦ subst (λ (c : ClientRecord). (c.id == client) ≡ bytes_eq c.owner owner) (sym here) (both (x.id == client) (bytes_eq x.owner owner) p.0)
+  | inr later ↦ own_in client owner cs p.1 c later
+])
+
+pub alone : (client : ℕ) (owner : List ℕ) (first left : Machine) → all_own client owner first.clients.records ≡ true
+    → all_own client owner left.clients.records ≡ true → IsAlone client first left
+alone client owner first left e f a b in_a is in_b same confirmed =
+    let named : a.owner ≡ owner = (bytes_eq-Decides a.owner owner).0 (sym (own_in client owner first.clients.records e a in_a) ∙ eq-eqb a.id client is) in
+    eqb-true b.id client (own_in client owner left.clients.records f b in_b ∙ (bytes_eq-Decides b.owner owner).1 (same ∙ named))
+
+-- So the premises can be tested.
+
+abbrev in_time : LockTold → List ℕ → (lease last : ℕ) → State → List Arrival → Bool
+in_time k owner lease last s [] = true
+in_time k owner lease last s (c ∷ more) =
+    nat_le (taken s c) (last + lease)
+    && (all_spare (ops_of s c)
+    && (all_own k.client owner (before s c).clients.records
+    && (all_own k.client owner (state_after s c).machine.clients.records
+    && in_time k owner lease (if renews_by k.client s c then taken s c else last) (state_after s c) more)))
+
+are_in_time : (k : LockTold) (owner : List ℕ) (lease last : ℕ) (s : State) (cs : List Arrival) → in_time k owner lease last s cs ≡ true
+    → AreInTime k lease last s cs (λ last t. Unit {0})
+are_in_time k owner lease last s [] e = tt
+are_in_time k owner lease last s (c ∷ more) e =
+    let p = and_parts _ _ e in
+    let q = and_parts _ _ p.1 in
+    let r = and_parts _ _ q.1 in
+    let t = and_parts _ _ r.1 in (
+      leb-true _ _ p.0,
+      all_spared k (ops_of s c) q.0,
+      alone k.client owner (before s c) (state_after s c).machine r.0 t.0,
+      are_in_time k owner lease (if renews_by k.client s c then taken s c else last) (state_after s c) more t.1,
+    )
+
+-- and up to what holds behind them
+abbrev pub last_of_all : ℕ → ℕ → State → List Arrival → ℕ
+last_of_all client last s [] = last
+last_of_all client last s (c ∷ more) = last_of_all client (if renews_by client s c then taken s c else last) (state_after s c) more
+
+up_to : (k : LockTold) (lease last : ℕ) (s : State) (cs : List Arrival) (Then : ℕ → State → Type 0) → AreInTime k lease last s cs (λ last t. Unit {0})
+    → Then (last_of_all k.client last s cs) (state_after_all s cs) → AreInTime k lease last s cs Then
+up_to k lease last s [] Then all holds = holds
+up_to k lease last s (c ∷ more) Then all holds =
+    (all.0, all.1, all.2, up_to k lease (if renews_by k.client s c then taken s c else last) (state_after s c) more Then all.3 holds)
+
+pub three : (x : RanOp) (ds : List RanOp) → length ds ≡ 3 → ds ≡ take 2 ds ++ last_of x ds ∷ []
+three x [] e = absurd (omega arith)
+three x (a ∷ []) e = absurd (omega arith)
+three x (a ∷ b ∷ []) e = absurd (omega arith)
+three x (a ∷ b ∷ c ∷ []) e = refl
+three x (a ∷ b ∷ c ∷ d ∷ more) e = absurd (omega arith)
+
+-- what stands behind the list is of no account
+pub nothing : RanOp
+nothing = record {
+  before = start.machine;
+  context = begins 0 (record { uid = 0; gid = 0; gids = [] });
+  item = Operation OpPutRootFh;
+  status = Nfs4Ok;
+  result = [];
+  behind = start.machine;
+}
+
+-- a LOCK of the byte at an offset, and what it was answered
+abbrev asking : (offset : ℕ) → Lock
+asking offset = record {
+  locktype = LockTypes.Write;
+  reclaim = false;
+  offset = offset;
+  length = 1;
+  locker = OpenOwner (record {
+    open_seqid = 0;
+    open_stateid = record { seqid = 1; other = 0 ∷ 0 ∷ 0 ∷ 0 ∷ 0 ∷ 0 ∷ 0 ∷ 0 ∷ 0 ∷ 0 ∷ 0 ∷ 0 ∷ [] };
+    lock_seqid = 0;
+    lock_owner = record { clientid = 0; owner = 0x6c ∷ [] };
+  });
+}
+
+pub locks_for : (d : RanOp) (client offset n : ℕ) → d.item ≡ Operation (OpLock (asking offset))
+    → wished d.before.store d.context LockTypes.Write offset 1 ≡ Ok (worked.wish client offset) → d.result ≡ done_head Num.Lock ++ worked.stateid_of_lock n
+    → length (worked.stateid_of_lock n) ≡ 16 → from_be_bytes w64 (drop 8 (worked.stateid_of_lock n)) ≡ n → LocksFor d n (worked.wish client offset)
+locks_for d client offset n is wish answers long number = record {
+  asked = asking offset;
+  is = is;
+  wish = wish;
+  names = record { id = worked.stateid_of_lock n; answers = answers; long = long; number = number };
+}
+
+pub is_held_to : IsHeldTo
+unfolding computing
+is_held_to = record {
+  front = take 2 (ops_of start locks);
+  lock = last_of nothing (ops_of start locks);
+  ops = refl;
+  tells = record {
+    wish = worked.wish 1 0;
+    locks = locks_for (last_of nothing (ops_of start locks)) 1 0 2 refl refl refl refl refl;
+    range = (omega arith, omega arith, omega arith);
+    kind = refl;
+    file = refl;
+    client = refl;
+    opened = refl;
+  };
+  kept = are_in_time worked.told (0x41 ∷ []) 90 102 worked.locked (worked.waits ++ worked.clashes ∷ []) refl;
+  held = refl;
+  denied = refl;
+  still = refl;
+  unlocked = refl;
+}
+
+pub are_both_told : AreBothTold
+unfolding computing
+are_both_told = record {
+  renewed = refl;
+  moment = refl;
+  held = refl;
+  until = take 2 (ops_of worked.asked worked.goes_beside);
+  second = last_of nothing (ops_of worked.asked worked.goes_beside);
+  locks = locks_for (last_of nothing (ops_of worked.asked worked.goes_beside)) 2 1 4 refl refl refl refl refl;
+  between = up_to worked.told 90 102 worked.locked worked.waits
+      (λ last t. (ops_of t worked.goes_beside
+      ≡ take 2 (ops_of worked.asked worked.goes_beside) ++ last_of nothing (ops_of worked.asked worked.goes_beside) ∷ [])
+      × (taken t worked.goes_beside ≤ last + 90)
+      × AreSpared worked.told (take 2 (ops_of worked.asked worked.goes_beside))) (are_in_time worked.told (0x41 ∷ []) 90 102 worked.locked worked.waits refl) (
+        three nothing (ops_of worked.asked worked.goes_beside) refl,
+        omega arith,
+        all_spared worked.told (take 2 (ops_of worked.asked worked.goes_beside)) refl,
+      );
+}

@@ -1,0 +1,114 @@
+-- The exchange in which a reply is lost, computed.
+use Rattle.std.proofs.Common.{◌≡◌, inl, inr, ℕ, zero, suc, Bool, true, List, [], ◌∷◌, ◌++◌, get_or, take, None, refl, sym, ◌∙◌, ap, subst, arith, ltb-true}
+use Rattle.nfs_xdr.specs.Tables.{In}
+use Rattle.std.specs.Prelude.{◌&&◌, nat_lt, ◌<◌}
+use Rattle.std.proofs.lemmas.Bool.{and_parts}
+use Rattle.nfs_xdr.specs.Text.{IsBytes}
+use Rattle.nfs_slots.specs.Slot.{unused_slot}
+use Rattle.nfs_serve.specs.Promises.Endpoint.{Place, Heading, Arrival}
+use Rattle.nfs_serve.specs.Promises.Network.{Packet, NetworkEvent, Resends, Arrives, Accepts, IsUnused}
+use Rattle.nfs_serve.specs.Promises.PerfectWire.{wire, done_on}
+use Rattle.nfs_serve.specs.Promises.RealTime.{RunsBehind, IsAtomic}
+use Rattle.nfs_serve.specs.Promises.LostReply.{before, here, place, callers, compound, packet, answer, first, second, start, done, brought, IsAccepted, IsOverAWire}
+use Rattle.nfs_serve.proofs.Promises.KeptSlots.{keeps_slots}
+use Rattle.nfs_serve.proofs.Promises.Ticking.{keeps_time}
+use Rattle.nfs_serve.proofs.Promises.RealTime.{atomic}
+use Rattle.nfs_serve.proofs.Promises.ByXid.{happens}
+use Rattle.nfs_serve.proofs.Promises.Computing.{computing}
+
+-- each number is a byte
+abbrev small : List ℕ → Bool
+small [] = true
+small (b ∷ bytes) = nat_lt b 256 && small bytes
+
+pub is_bytes : (bytes : List ℕ) → small bytes ≡ true → IsBytes bytes
+is_bytes bytes e = record { each = each bytes e }
+  where
+    each : (bytes : List ℕ) → small bytes ≡ true → (i : ℕ) → get_or bytes i 0 < 256
+    each [] e i = omega arith
+    each (b ∷ bytes) e zero = ltb-true b 256 (and_parts (nat_lt b 256) (small bytes) e).0
+    each (b ∷ bytes) e (suc i) = each bytes (and_parts (nat_lt b 256) (small bytes) e).1 i
+
+-- a packet of another xid
+apart : (q : Packet) (xid number : ℕ) (h : Heading) → (xid ≡ h.xid → ⊥) → q ≡ packet xid number → q.heading.xid ≡ h.xid
+    → (q.heading.place ≡ h.place) × (q.heading.compound ≡ h.compound)
+apart q xid number h other same e = absurd (other (sym (ap (λ (q : Packet). q.heading.xid) same) ∙ e))
+
+pub is_accepted : IsAccepted
+unfolding computing
+is_accepted = record {
+  unused = (unused_slot, refl, refl, refl);
+  schedule = (
+    record {
+      bytes = is_bytes _ refl;
+      reads = refl;
+      place = inl refl;
+      idle = refl;
+      number = refl;
+      small = omega arith;
+      xid = λ q none. absurd none;
+    },
+    (
+      inl refl,
+      (
+        record { place = inl refl; sent = inl refl; last = ([], refl); xid = inl refl; sequenced = refl },
+        (
+          record {
+            bytes = is_bytes _ refl;
+            reads = refl;
+            place = inl refl;
+            idle = refl;
+            number = refl;
+            small = omega arith;
+            xid = λ q i who e. elim i [ inl same ↦ apart q 3 1 (packet 4 2).heading (λ k. cc) same e | inr none ↦ absurd none ];
+          },
+          (
+            inl refl,
+            (
+              record {
+                bytes = is_bytes _ refl;
+                reads = refl;
+                place = inl refl;
+                outstanding = λ e. cc;
+                last = (compound 1 ∷ [], refl);
+                xid = λ q i who e. elim i [
+                  | inl same ↦ apart q 4 2 (packet 5 2).heading (λ k. cc) same e
+                  | inr older ↦ elim older [ inl same ↦ apart q 3 1 (packet 5 2).heading (λ k. cc) same e | inr none ↦ absurd none ]
+                ];
+              },
+              (
+                inl refl,
+                (record { place = inl refl; sent = inl refl; last = (compound 1 ∷ [], refl); xid = inl refl; sequenced = refl }, tt),
+              ),
+            ),
+          ),
+        ),
+      ),
+    ),
+  );
+  line = refl;
+}
+
+computed : (wire here start.machine (first ++ second) ≡ brought) × (done_on here place start.machine brought ≡ done 1 ∷ done 2 ∷ [])
+unfolding computing
+computed = (refl, refl)
+
+unused : (p : Place) → In p callers.places → IsUnused here start.machine p
+unused p (inl same) = subst (IsUnused here start.machine) (sym same) is_accepted.unused
+unused p (inr none) = absurd none
+
+is_atomic : IsAtomic here start.machine callers (first ++ second)
+is_atomic = atomic here (keeps_slots 511 7 90) (keeps_time 511 7 90) before callers (first ++ second)
+    (happens here (keeps_slots 511 7 90) before callers (first ++ second) unused is_accepted.schedule)
+
+pub is_over_a_wire : IsOverAWire
+is_over_a_wire = record {
+  brings = computed.0;
+  answers = computed.1;
+  alike = is_atomic.one_list;
+  order = subst (λ (records : List Arrival). RunsBehind here start.machine records place (done 1) place (compound 2)) computed.0
+      (is_atomic.in_time (take 2 first) [] back place (compound 1) (answer 3 1) (packet 4 2) refl);
+}
+  where
+    back : List NetworkEvent
+    back = Arrives (packet 4 2) 103 None ∷ Resends (packet 5 2) ∷ Arrives (packet 5 2) 104 None ∷ Accepts place (compound 2) (answer 5 2) ∷ []

@@ -1,0 +1,124 @@
+-- A byte is held only where its client renewed at most a lease before.
+use Rattle.std.proofs.Common.{◌≡◌, ℕ, ◌+◌, ◌-◌, ◌≤◌, Bool, true, false, cond, List, [], ◌∷◌, length, Option, Some, None, refl, sym, ◌∙◌, ap, subst, arith, inl, inr}
+use Rattle.std.specs.Prelude.{◌==◌, is_some}
+use Rattle.std.specs.Option.{option_map_or}
+use Rattle.std.proofs.lemmas.Bool.{cases_Bool, eq-eqb, ltb-false, false≢true}
+use Rattle.nfs_xdr.specs.Caller.{Caller}
+use Rattle.nfs_xdr.proofs.Lists.{any_in}
+use Rattle.nfs_compound.specs.Request.{Request}
+use Rattle.nfs_lease.specs.Renewals.{Book, is_out, has_run_out}
+use Rattle.nfs_lease.specs.Queue.{IsLatest}
+use Rattle.nfs_clients.specs.Roster.{Roster, ClientRecord, client_at}
+use Rattle.nfs_opens.specs.declared.records.OpenState.{OpenState}
+use Rattle.nfs_names.specs.Ending.{has_open}
+use Rattle.nfs_exec.specs.Machine.{IsMachine, is_client, is_confirmed}
+use Rattle.nfs_exec.specs.Expiry.{leases_kept}
+use Rattle.nfs_exec.specs.Laws.{Asks}
+use Rattle.nfs_exec.specs.Renewing.{renews_or_begins}
+use Rattle.nfs_exec.proofs.Invariant.{of_start, of_expired, of_compound}
+use Rattle.nfs_exec.proofs.Latest.{expired_all, latest_compound}
+use Rattle.nfs_exec.proofs.Outlasting.{IsStill, compound_still}
+use Rattle.nfs_serve.specs.Step.{State, new_state}
+use Rattle.nfs_serve.specs.Promises.Endpoint.{Arrival}
+use Rattle.nfs_serve.specs.Promises.Points.{state_after, state_after_all, reached, taken, before}
+use Rattle.nfs_serve.specs.Promises.Outlived.{renewed_by, last_renewal, NoneOutlives}
+use Rattle.nfs_serve.proofs.Promises.Points.{left, for_asked, next_is, IsSound, whole_before, latest_before, sound_next, sound_all, sound_new}
+use Rattle.nfs_serve.proofs.Promises.Staying.{lease_all}
+
+-- What holds of every machine.
+
+pub machine_before : (s : State) (c : Arrival) → IsMachine s.machine → IsMachine (before s c)
+machine_before s c is = of_expired s.machine (taken s c) is
+
+pub machine_next : (s : State) (c : Arrival) → IsMachine s.machine → IsMachine (state_after s c).machine
+machine_next s c is =
+    let m = machine_before s c is in
+    subst (λ (s : State). IsMachine s.machine) (sym (next_is s c))
+    (for_asked (λ o. IsMachine (left (before s c) o)) s c m (λ r who. of_compound (before s c) r who (length c.bytes) (taken s c) c.choice m))
+
+pub machine_all : (s : State) (records : List Arrival) → IsMachine s.machine → IsMachine (state_after_all s records).machine
+machine_all s [] is = is
+machine_all s (c ∷ more) is = machine_all (state_after s c) more (machine_next s c is)
+
+-- A lease that stands was renewed no later than by the last record that renewed it.
+
+abbrev IsUpTo : ℕ → Option ℕ → Book → Type 0
+IsUpTo client last b = (r : ℕ) → b.renewed client ≡ Some r → (q : ℕ) × (last ≡ Some q) × (r ≤ q)
+
+up_expired : (client now : ℕ) (last : Option ℕ) (b : Book) → IsUpTo client last b → IsUpTo client last (leases_kept b now)
+up_expired client now last b up r e = elim (cases_Bool (has_run_out b now client)) [
+  | inl out ↦ absurd (let bad : None ≡ Some r = rw out at e in cc)
+  | inr stays ↦ up r (rw stays at e)
+]
+
+up_still : (client : ℕ) (last : Option ℕ) (b left : Book) → IsStill client b left → IsUpTo client last b → IsUpTo client last left
+up_still client last b left (inl none) up r e = absurd (let bad : None ≡ Some r = sym none ∙ e in cc)
+up_still client last b left (inr same) up r e = up r (sym same ∙ e)
+
+up_compound : (s : State) (c : Arrival) (client : ℕ) (last : Option ℕ) (r : Request) (who : Caller) → IsSound s → IsUpTo client last (before s c).leases
+    → (let e = Asks r who (length c.bytes) (taken s c) c.choice in
+    IsUpTo client (cond (renews_or_begins client (before s c) e) (Some (taken s c)) last) (left (before s c) (Some e)).leases)
+up_compound s c client last r who sound up = go (renews_or_begins client (before s c) (Asks r who (length c.bytes) (taken s c) c.choice)) refl
+  where
+    latest : IsLatest (left (before s c) (Some (Asks r who (length c.bytes) (taken s c) c.choice))).leases (taken s c)
+    latest = latest_compound (before s c) r who (length c.bytes) (taken s c) c.choice (latest_before s c sound.latest)
+
+    go : (b : Bool) → renews_or_begins client (before s c) (Asks r who (length c.bytes) (taken s c) c.choice) ≡ b
+        → IsUpTo client (cond b (Some (taken s c)) last) (left (before s c) (Some (Asks r who (length c.bytes) (taken s c) c.choice))).leases
+    go true e = λ q at. (taken s c, refl, latest.each client q at)
+    go false e = up_still client last (before s c).leases (left (before s c) (Some (Asks r who (length c.bytes) (taken s c) c.choice))).leases
+        (compound_still (before s c) r who (length c.bytes) (taken s c) client c.choice e) up
+
+up_next : (s : State) (c : Arrival) (client : ℕ) (last : Option ℕ) → IsSound s → IsUpTo client last s.machine.leases
+    → IsUpTo client (cond (renewed_by client s c) (Some (taken s c)) last) (state_after s c).machine.leases
+up_next s c client last sound up =
+    let here : IsUpTo client last (before s c).leases = up_expired client (taken s c) last s.machine.leases up in
+    subst (λ (s' : State). IsUpTo client (cond (renewed_by client s c) (Some (taken s c)) last) s'.machine.leases) (sym (next_is s c))
+    (for_asked (λ o. IsUpTo client (cond (option_map_or (renews_or_begins client (before s c)) o false) (Some (taken s c)) last) (left (before s c) o).leases) s c here
+    (λ r who. up_compound s c client last r who sound here))
+
+up_all : (s : State) (records : List Arrival) (client : ℕ) (last : Option ℕ) → IsSound s → IsUpTo client last s.machine.leases
+    → IsUpTo client (last_renewal client last s records) (state_after_all s records).machine.leases
+up_all s [] client last sound up = up
+up_all s (c ∷ more) client last sound up =
+    up_all (state_after s c) more client (cond (renewed_by client s c) (Some (taken s c)) last) (sound_next s c sound) (up_next s c client last sound up)
+
+-- Who holds a byte.
+
+pub confirmed_is : (t : Roster) (client : ℕ) → is_confirmed t client ≡ true → is_client t client ≡ true
+confirmed_is t client = go (client_at t client)
+  where
+    go : (o : Option ClientRecord) → option_map_or (λ (c : ClientRecord). c.confirmed) o false ≡ true → is_some o ≡ true
+    go None e = absurd (false≢true e)
+    go (Some c) e = refl
+
+some_of : (o : Option ℕ) → is_some o ≡ true → (r : ℕ) × (o ≡ Some r)
+some_of None e = absurd (false≢true e)
+some_of (Some r) e = (r, refl)
+
+not_out : (lease now r : ℕ) → is_out lease now (Some r) ≡ false → now ≤ r + lease
+not_out lease now r e = let h = ltb-false lease (now - r) e in omega arith
+
+pub none_outlives : NoneOutlives
+none_outlives mode instance lease records c file n byte kind small held =
+    let first = new_state mode instance lease in
+    let s = reached mode instance lease records in
+    let m = before s c in
+    let new = sound_new mode instance lease in
+    let sound : IsSound s = sound_all first records new in
+    let whole = whole_before s c sound.whole in
+    let is : IsMachine m = machine_before s c (machine_all first records (of_start mode instance lease small)) in
+    let (l, holder) = whole.table.holders file n byte (λ none. let bad : Some kind ≡ None = sym held ∙ none in cc) in
+    let (o, under) = whole.table.under l holder.stands in
+    let open_there : has_open m.store l.client ≡ true =
+    any_in (λ (o : OpenState). o.client == l.client) m.store.opens.opens o under.stands (eq-eqb o.client l.client under.client) in
+    let known = confirmed_is m.clients l.client (is.opened l.client open_there) in
+    let (r, at) = some_of (m.leases.renewed l.client) (is.leased l.client ∙ known) in
+    let up = up_expired l.client (taken s c) (last_renewal l.client None first records) s.machine.leases
+    (up_all first records l.client None new (λ r e. absurd (let bad : None ≡ Some r = e in cc))) in
+    let (q, last, low) = up r at in
+    let stays : is_out m.leases.lease (taken s c) (Some r) ≡ false =
+    ap (is_out m.leases.lease (taken s c)) (sym at) ∙ expired_all s.machine.leases (taken s c) l.client in
+    let lasts : m.leases.lease ≡ lease = lease_all first records in
+    let within = not_out m.leases.lease (taken s c) r stays in
+    record { lock = l; there = holder.stands; number = holder.number; last = q; renewed = last; within = omega arith }

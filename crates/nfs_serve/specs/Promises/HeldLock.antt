@@ -1,0 +1,117 @@
+-- A lock that is kept, worked by hand in words of four bytes (RFC 8881 sections 8.3, 18.10, 18.12 and 18.16). To a new server of instance 7,
+-- whose leases last 90 seconds, comes a client `A`, which makes the file `f` and locks its first byte. It renews its lease with SEQUENCEs
+-- alone, each 90 seconds behind the last. A client `B` comes meanwhile, opens `f`, and asks for the byte 90 seconds behind the last renewal:
+-- it is denied. Then A unlocks.
+use Rattle.std.specs.Prelude.{◌≡◌, ℕ, ◌+◌, ◌*◌, ◌^◌, ◌≤◌, List, [], ◌∷◌, ◌++◌, map, Some, None}
+use Rattle.nfs_xdr.specs.declared.status.Status.{Status}
+use Rattle.nfs_xdr.specs.declared.status.Status.TheVariants.{Nfs4Ok, Denied}
+use Rattle.nfs_ranges.specs.declared.Kind.TheVariants.{Write}
+use Rattle.nfs_opens.specs.declared.locking.Wish.{Wish}
+use Rattle.nfs_files.specs.LockTold.{LockTold}
+use Rattle.nfs_exec.specs.Ops.{RanOp}
+use Rattle.nfs_exec.specs.LockHeld.{LocksFor, AreSpared, Tells}
+use Rattle.nfs_serve.specs.Step.{State, new_state}
+use Rattle.nfs_serve.specs.Promises.Endpoint.{Arrival}
+use Rattle.nfs_serve.specs.Promises.Points.{state_after, state_after_all, reached, taken, before, ops_of}
+use Rattle.nfs_serve.specs.Promises.LockKept.{AreInTime}
+use Rattle.nfs_serve.specs.Promises.Outlived.{last_renewal}
+use Rattle.nfs_serve.specs.Promises.Exchanges.{words}
+use Rattle.nfs_serve.specs.Promises.LostReply.{call, exchange_id, create_session}
+
+abbrev pub came : (now xid : ℕ) → List ℕ → Arrival
+came now xid args = record { bytes = call xid args; now = now; choice = None }
+
+-- No tag, minor version 1, so many operations; the first is SEQUENCE of the session of a client, with a number, on slot 0, which is the
+-- highest in use, and nothing need be kept. Client 1 has session 1, and client 2 session 2.
+abbrev pub in_session : (client number operations : ℕ) → List ℕ → List ℕ
+in_session client number operations behind = words (0 ∷ 1 ∷ operations ∷ 53 ∷ 7 ∷ client ∷ 0 ∷ client ∷ number ∷ 0 ∷ 0 ∷ 0 ∷ []) ++ behind
+
+-- PUTROOTFH; OPEN by the open owner `o` for reading and writing, which denies nothing, of `f`, which is made where it is not there, without
+-- attributes; and LOCK of one byte from an offset on as WRITE_LT, by the lock owner `l`, new under the current stateid, which is the open's
+abbrev pub opens_and_locks : (offset : ℕ) → List ℕ
+opens_and_locks offset = words (24 ∷ 18 ∷ 0 ∷ 3 ∷ 0 ∷ 0 ∷ 0 ∷ 1 ∷ 0x6f00_0000 ∷ 1 ∷ 0 ∷ 0 ∷ 0 ∷ 0 ∷ 1 ∷ 0x6600_0000
+    ∷ 12 ∷ 2 ∷ 0 ∷ 0 ∷ offset ∷ 0 ∷ 1 ∷ 1 ∷ 0 ∷ 1 ∷ 0 ∷ 0 ∷ 0 ∷ 0 ∷ 0 ∷ 0 ∷ 1 ∷ 0x6c00_0000 ∷ [])
+
+-- PUTFH of object 2, and LOCKU of one byte from 0 on by lock state 2, whose seqid is 1
+abbrev pub unlocks : List ℕ
+unlocks = words (22 ∷ 16 ∷ 7 ∷ 0 ∷ 0 ∷ 2 ∷ 14 ∷ 2 ∷ 0 ∷ 1 ∷ 7 ∷ 0 ∷ 2 ∷ 0 ∷ 0 ∷ 0 ∷ 1 ∷ [])
+
+abbrev pub earlier : List Arrival
+earlier = came 100 1 (exchange_id 0x4100_0000) ∷ came 101 2 (create_session 1) ∷ []
+
+abbrev pub locks : Arrival
+locks = came 102 3 (in_session 1 1 4 (opens_and_locks 0))
+
+-- the first renewal of A is at the last second, and so is the second
+abbrev pub renewal : Arrival
+renewal = came 192 4 (in_session 1 2 1 [])
+
+abbrev pub waits : List Arrival
+waits = renewal ∷ came 200 5 (exchange_id 0x4200_0000) ∷ came 282 6 (in_session 1 3 1 []) ∷ came 283 7 (create_session 2) ∷ []
+
+-- B asks at the last second of A's lease
+abbrev pub clashes : Arrival
+clashes = came 372 8 (in_session 2 1 4 (opens_and_locks 0))
+
+-- or B asks for the byte behind it
+abbrev pub goes_beside : Arrival
+goes_beside = came 372 8 (in_session 2 1 4 (opens_and_locks 1))
+
+abbrev pub gives_up : Arrival
+gives_up = came 372 9 (in_session 1 4 3 unlocks)
+
+abbrev pub start : State
+start = reached 511 7 90 earlier
+
+abbrev pub locked : State
+locked = state_after start locks
+
+abbrev pub asked : State
+asked = state_after_all locked waits
+
+-- Lock state 2 of client 1, under open 1: byte 0 of object 2, as Write.
+abbrev pub told : LockTold
+told = record { state = 2; client = 7 * 2 ^ 32 + 1; opened = 1; file = 2; kind = Write; first = 0; last = 0 }
+
+-- what a LOCK of a client asks for, and what it answers behind NFS4_OK: the stateid of a lock state, whose seqid is 1
+abbrev pub wish : (client offset : ℕ) → Wish
+wish client offset = record { client = 7 * 2 ^ 32 + client; file = 2; kind = Write; first = offset; last = offset }
+
+abbrev pub stateid_of_lock : (number : ℕ) → List ℕ
+stateid_of_lock number = words (1 ∷ 7 ∷ 0 ∷ number ∷ [])
+
+-- the last of these operations; what stands in front of them is of no account
+abbrev pub last_of : RanOp → List RanOp → RanOp
+last_of d [] = d
+last_of d (e ∷ ds) = last_of e ds
+
+abbrev pub statuses : List RanOp → List Status
+statuses ds = map (λ d. d.status) ds
+
+-- The run meets the premises of the promise, and computes to what it says.
+pub record IsHeldTo : Type 0 where
+  -- LOCK is the last operation of its compound, and tells the lock
+  pub front : List RanOp
+  pub lock : RanOp
+  pub ops : ops_of start locks ≡ front ++ lock ∷ []
+  pub tells : Tells told lock
+  -- what follows comes in time, from that compound on, and spares the lock
+  pub kept : AreInTime told 90 102 locked (waits ++ clashes ∷ []) (λ last t. Unit {0})
+  -- so the byte is held when B asks for it, and it is denied
+  pub held : asked.machine.store.opens.held 2 2 0 ≡ Some Write
+  pub denied : statuses (ops_of asked clashes) ≡ Nfs4Ok ∷ Nfs4Ok ∷ Denied ∷ []
+  -- it is held until A unlocks, and then by nobody
+  pub still : (state_after asked clashes).machine.store.opens.held 2 2 0 ≡ Some Write
+  pub unlocked : (state_after (state_after asked clashes) gives_up).machine.store.opens.held 2 2 0 ≡ None
+
+-- The premises of the other promises are met in that run: the byte is still held when B asks, 90 seconds behind the last renewal of A; and where B asks for the
+-- byte beside it, both are told.
+pub record AreBothTold : Type 0 where
+  pub renewed : last_renewal told.client None (new_state 511 7 90) (earlier ++ locks ∷ waits) ≡ Some 282
+  pub moment : taken asked clashes ≡ 372
+  pub held : (before asked clashes).store.opens.held 2 2 0 ≡ Some Write
+  pub until : List RanOp
+  pub second : RanOp
+  pub locks : LocksFor second 4 (wish 2 1)
+  pub between : AreInTime told 90 102 locked waits
+      (λ last t. (ops_of t goes_beside ≡ until ++ second ∷ []) × (taken t goes_beside ≤ last + 90) × AreSpared told until)

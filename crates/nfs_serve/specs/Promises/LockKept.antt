@@ -1,0 +1,78 @@
+-- A lock told is a lock kept: what becomes, over any list of records, of a byte range that a LOCK told as held (RFC 8881
+-- sections 8.3, 9.1 to 9.5 and 18.10).
+use Rattle.std.specs.Prelude.{◌≡◌, ℕ, ◌+◌, ◌≤◌, Bool, true, false, List, [], ◌∷◌, ◌++◌, if◌then◌else◌}
+use Rattle.std.specs.Option.{option_map_or}
+use Rattle.nfs_xdr.specs.Spelling.{number}
+use Rattle.nfs_xdr.specs.Tables.{In}
+use Rattle.nfs_compound.specs.Operation.{Operation, OpGetAttr}
+use Rattle.nfs_results.specs.Result.{ResGetAttr}
+use Rattle.nfs_results.specs.Results.{spell_result}
+use Rattle.nfs_exec.specs.Machine.{is_ok}
+use Rattle.nfs_exec.specs.Ops.{RanOp}
+use Rattle.nfs_opens.specs.declared.locking.Wish.{Wish}
+use Rattle.nfs_files.specs.LockTold.{LockTold, Stands, Clashes}
+use Rattle.nfs_exec.specs.LockHeld.{LocksFor, AreSpared, StandsWhile, Tells, IsAlone, renews}
+use Rattle.nfs_serve.specs.Step.{State}
+use Rattle.nfs_serve.specs.Promises.Endpoint.{Arrival}
+use Rattle.nfs_serve.specs.Promises.Points.{state_after, reached, taken, before, asked_by, ops_of}
+
+-- a request of it runs in a session of the client, and so renews the client's lease
+abbrev pub renews_by : ℕ → State → Arrival → Bool
+renews_by client s c = option_map_or (renews client (before s c)) (asked_by s c) false
+
+-- The lock stands here, and stays through these records, where `last` is the moment of its client's last renewal: if the next
+-- one is taken at most one lease behind that, the lock stands before each operation of it as long as all before it spared it,
+-- and no LOCK there that clashes is answered NFS4_OK; and if they all spare it, and no other id is confirmed for the client's
+-- owner, the same holds of the records behind it. (That each record is at most one lease behind the renewal before it is the
+-- same as that neighbours among the renewals and the last record are: a record between two renewals is not later than the second.)
+abbrev pub StaysHeld : LockTold → (lease last : ℕ) → State → List Arrival → Type 0
+StaysHeld k lease last s [] = Stands k s.machine.store.opens
+StaysHeld k lease last s (c ∷ more) =
+    Stands k s.machine.store.opens
+    × (taken s c ≤ last + lease →
+    StandsWhile k (ops_of s c)
+    × (AreSpared k (ops_of s c) → IsAlone k.client (before s c) (state_after s c).machine →
+    StaysHeld k lease (if renews_by k.client s c then taken s c else last) (state_after s c) more))
+
+-- The records come in time, and spare the lock and its client, up to a state and a moment of the client's last renewal of which this holds.
+abbrev pub AreInTime : LockTold → (lease last : ℕ) → State → List Arrival → (ℕ → State → Type 0) → Type 0
+AreInTime k lease last s [] Then = Then last s
+AreInTime k lease last s (c ∷ more) Then =
+    (taken s c ≤ last + lease)
+    × AreSpared k (ops_of s c)
+    × IsAlone k.client (before s c) (state_after s c).machine
+    × AreInTime k lease (if renews_by k.client s c then taken s c else last) (state_after s c) more Then
+
+-- In every run of a server whose leases last so many seconds, from its start on: a LOCK in the record's compound told the lock, and
+-- these operations are behind it there. The lock stands before each of them while they spare it; and if they all do, it stays through
+-- whatever records come, from the moment of this record on, which renewed its client's lease.
+abbrev pub LockKept : Type 0
+LockKept = (mode instance lease : ℕ) (earlier : List Arrival) (c : Arrival) (k : LockTold) (front : List RanOp) (lock : RanOp) (back : List RanOp)
+    → (let s = reached mode instance lease earlier in
+    ops_of s c ≡ front ++ lock ∷ back → Tells k lock
+    → StandsWhile k back × (AreSpared k back → (more : List Arrival) → StaysHeld k lease (taken s c) (state_after s c) more))
+
+-- Whatever LOCK was told told a lock: all that it asked for, where that is a byte at least, as each range on the wire is.
+abbrev pub EachIsTold : Type 0
+EachIsTold = (mode instance lease : ℕ) (records : List Arrival) (c : Arrival) (d : RanOp) (n : ℕ) (w : Wish)
+    → In d (ops_of (reached mode instance lease records) c) → LocksFor d n w → w.first ≤ w.last
+    → (opened : ℕ)
+    × Tells (record { state = n; client = d.context.client; opened = opened; file = w.file; kind = w.kind; first = w.first; last = w.last }) d
+
+-- Only one writer is told: of two LOCKs that clash on a byte, each answered NFS4_OK and the stateid of a lock state of its own, the second comes
+-- behind an end of the first. Between them an operation unlocks a byte of the first or locks one in another way or closes its open, or another id is
+-- confirmed for its client's owner, or its client's lease runs out: else there are no two such LOCKs.
+abbrev pub OnlyOneIsTold : Type 0
+OnlyOneIsTold = (mode instance lease : ℕ) (earlier : List Arrival) (c : Arrival) (k : LockTold) (front : List RanOp) (first : RanOp) (back : List RanOp)
+    (between : List Arrival) (d : Arrival) (until : List RanOp) (second : RanOp) (behind : List RanOp) (n : ℕ) (w : Wish)
+    → (let s = reached mode instance lease earlier in
+    ops_of s c ≡ front ++ first ∷ back → Tells k first → AreSpared k back
+    → AreInTime k lease (taken s c) (state_after s c) between
+    (λ last t. (ops_of t d ≡ until ++ second ∷ behind) × (taken t d ≤ last + lease) × AreSpared k until)
+    → LocksFor second n w → Clashes k n w → ⊥)
+
+-- The lease is told: a GETATTR of attribute 10, lease_time, that answers NFS4_OK gives the very number of seconds that leases last.
+abbrev pub LeaseIsTold : Type 0
+LeaseIsTold = (mode instance lease : ℕ) (records : List Arrival) (c : Arrival) (d : RanOp) → In d (ops_of (reached mode instance lease records) c)
+    → d.item ≡ Operation (OpGetAttr (0x400 ∷ [])) → is_ok d.status ≡ true
+    → d.result ≡ spell_result (ResGetAttr (record { attrmask = 0x400 ∷ []; attr_vals = number lease }))

@@ -1,0 +1,77 @@
+-- The same network for callers that go by SEQUENCE's result alone (RFC 8881 section 18.46): a caller accepts a reply that bears the session, the
+-- slot and the number of the compound that waits there, whatever its xid and whomever it was sent to. So xids are as callers like, and a slot
+-- may come on the way: it is unused at the beginning, or when its caller sends its first compound.
+use Rattle.std.specs.Prelude.{◌≡◌, ◌⊎◌, ◌+◌, ◌<◌, ◌^◌, ℕ, true, List, [], ◌∷◌, length, Option, Some, None, ⊤}
+use Rattle.nfs_xdr.specs.Text.{IsBytes}
+use Rattle.nfs_xdr.specs.Tables.{In}
+use Rattle.nfs_serve.specs.Promises.Endpoint.{Place, Heading, Compound, Answer, Server, Arrival, ran}
+use Rattle.nfs_serve.specs.Promises.Network.{Callers, Packet, Network, NetworkEvent, Sends, Resends, Arrives, Asks, Intrudes, Accepts, after, IsLast, IsForeign, Schedule, IsUnused, begins, ended, IsExact}
+
+-- The slot took no request yet, at the beginning or by now.
+abbrev pub IsReady : (s : Server) → s.State → Network s → Place → Type 0
+IsReady s start net p = IsUnused s start p ⊎ IsUnused s net.machine p
+
+-- A caller sends the next compound of a slot only where none waits there, and the first one only on a slot that is ready. It numbers them 1, 2
+-- and so on, to less than 2^32.
+pub record CanSend (s : Server) (callers : Callers) (start : s.State) (net : Network s) (p : Packet) : Type 0 where
+  pub bytes : IsBytes p.bytes
+  pub reads : s.heading p.bytes ≡ Some p.heading
+  pub place : In p.heading.place callers.places
+  pub ready : (net.lines p.heading.place).sent ≡ [] → IsReady s start net p.heading.place
+  pub idle : (net.lines p.heading.place).xids ≡ []
+  pub number : p.heading.compound.number ≡ length (net.lines p.heading.place).sent + 1
+  pub small : p.heading.compound.number < 2 ^ 32
+
+-- It sends again the compound that waits there: with the same number, user and argument bytes.
+pub record CanResend (s : Server) (callers : Callers) (net : Network s) (p : Packet) : Type 0 where
+  pub bytes : IsBytes p.bytes
+  pub reads : s.heading p.bytes ≡ Some p.heading
+  pub place : In p.heading.place callers.places
+  pub waits : (net.lines p.heading.place).xids ≡ [] → ⊥
+  pub last : IsLast p.heading.compound (net.lines p.heading.place).sent
+
+-- A caller accepts a reply, whomever it was sent to, that bears the slot and the number of the compound that waits there.
+pub record CanAccept (s : Server) (callers : Callers) (net : Network s) (p : Place) (compound : Compound) (a : Answer) : Type 0 where
+  pub place : In p callers.places
+  pub caller : ℕ
+  pub sent : In (record { caller = caller; answer = a }) net.replies
+  pub waits : (net.lines p).xids ≡ [] → ⊥
+  pub last : IsLast compound (net.lines p).sent
+  pub numbered : s.slot_number a.result ≡ Some (record { place = p; number = compound.number })
+
+abbrev pub Can : {s : Server} → Callers → s.State → Network s → NetworkEvent → Type 0
+Can {s} callers start net (Sends p) = CanSend s callers start net p
+Can {s} callers start net (Resends p) = CanResend s callers net p
+Can callers start net (Arrives p now choice) = In p net.packets
+Can {s} callers start net (Asks caller a) = IsBytes a.bytes × (s.heading a.bytes ≡ None)
+Can {s} callers start net (Intrudes a) = IsForeign s callers a.bytes
+Can {s} callers start net (Accepts p compound a) = CanAccept s callers net p compound a
+
+-- the events are such ones, each in the network that those before it leave
+abbrev pub Happens : {s : Server} → Callers → s.State → Network s → List NetworkEvent → Type 0
+Happens callers start net [] = ⊤
+Happens callers start net (e ∷ more) = Can callers start net e × Happens callers start (after callers net e) more
+
+-- After any records to a new server, for any callers, and any such events: on each slot of a caller.
+abbrev pub ExactlyOnceByNumber : Server → Type 0
+ExactlyOnceByNumber s =
+    (before : List Arrival) (callers : Callers) (events : List NetworkEvent)
+    → Happens callers (ran s s.new before) (begins s (ran s s.new before)) events
+    → (p : Place) → In p callers.places → IsExact ((ended callers (begins s (ran s s.new before)) events).lines p)
+
+-- What executes on a slot is answered under the xid of its call, with a result that bears the slot and the number: its caller may accept it.
+abbrev pub AnswersNumbered : Server → Type 0
+AnswersNumbered s =
+    (m : s.State) (bytes : List ℕ) (now : ℕ) (choice : Option ℕ) (h : Heading)
+    → IsBytes bytes → s.heading bytes ≡ Some h → s.executes m bytes now ≡ true
+    → (result : List ℕ) × ((s.step m bytes now choice).answer ≡ Some (record { xid = h.xid; result = result }))
+    × (s.slot_number result ≡ Some (record { place = h.place; number = h.compound.number }))
+
+-- Callers that go by xids, none of which is of two compounds, and whose slots stand unused at the beginning are such callers: what holds of every
+-- such list of events holds of theirs.
+abbrev pub XidsSuffice : Server → Type 0
+XidsSuffice s =
+    (before : List Arrival) (callers : Callers) (events : List NetworkEvent)
+    → ((p : Place) → In p callers.places → IsUnused s (ran s s.new before) p)
+    → Schedule callers (begins s (ran s s.new before)) events
+    → Happens callers (ran s s.new before) (begins s (ran s s.new before)) events

@@ -1,0 +1,60 @@
+-- Wrong steps that the promises of locks refuse, worked by hand over the run of `HeldLock` (RFC 8881 sections 8.3, 9.1, 18.2 and 18.10). Each is a step that this server
+-- does not take: what a server that took it did is no lock kept.
+use Rattle.std.specs.Prelude.{◌≡◌, ℕ, List, [], ◌∷◌, ◌++◌, Option, None, Some}
+use Rattle.nfs_compound.specs.declared.op_num.OpNum.TheVariants as Op
+use Rattle.nfs_compound.specs.Operation.{Operation, OpClose}
+use Rattle.nfs_lease.specs.Renewals.{with_renewal}
+use Rattle.nfs_results.specs.Results.{done_head}
+use Rattle.nfs_ranges.specs.declared.Kind.TheVariants.{Write}
+use Rattle.nfs_opens.specs.Closing.{without_open}
+use Rattle.nfs_names.specs.Ending.{with_opens}
+use Rattle.nfs_exec.specs.Machine.{Machine}
+use Rattle.nfs_exec.specs.Laws.{MachineEvent, Asks}
+use Rattle.nfs_exec.specs.Delayed.{IsDelayed}
+use Rattle.nfs_exec.specs.Ops.{RanOp}
+use Rattle.nfs_exec.specs.LockHeld.{StandsBefore, StandsWhile}
+use Rattle.nfs_serve.specs.Step.{State, new_state}
+use Rattle.nfs_serve.specs.Promises.Points.{state_after, reached, before, asked_by, ops_of}
+use Rattle.nfs_serve.specs.Promises.LockKept.{StaysHeld}
+use Rattle.nfs_serve.specs.Promises.Outlived.{last_renewal, IsInTime}
+use Rattle.nfs_serve.specs.Promises.Exchanges.{words}
+use Rattle.nfs_serve.specs.Promises.HeldLock.{earlier, locks, renewal, clashes, locked, asked, told, stateid_of_lock, last_of}
+
+-- a server whose leases last one second, whatever the client was told
+abbrev pub short_leases : State
+short_leases = state_after (reached 511 7 1 earlier) locks
+
+-- a LOCK that sets the lease of its client back
+abbrev pub set_back : State
+set_back = record locked { machine = record locked.machine { leases = with_renewal locked.machine.leases told.client 0 } }
+
+-- a LOCK that answers NFS4_OK and a stateid, of lock state 4, and does nothing
+abbrev pub told_anyway : RanOp → RanOp
+told_anyway lock = record lock { result = done_head Op.Lock ++ stateid_of_lock 4 }
+
+-- a CLOSE of open 3, which is B's, that closes A's, and answers as it ought to
+abbrev pub closes_another : RanOp → RanOp
+closes_another d = record d {
+  item = Operation (OpClose (record { seqid = 0; open_stateid = record { seqid = 1; other = words (7 ∷ 0 ∷ 3 ∷ []) } }));
+  result = done_head Op.Close ++ words (0xffff_ffff ∷ 0 ∷ 0 ∷ 0 ∷ []);
+  behind = record d.before { store = with_opens d.before.store (without_open d.before.store.opens 1) };
+}
+
+-- The answer to what a record asks for is none where the operation at a place of it is delayed.
+abbrev pub NoneDelayed : Machine → (place : ℕ) → Option MachineEvent → Type 0
+NoneDelayed m place (Some (Asks r who size now choice)) = IsDelayed m r who size now place → ⊥
+NoneDelayed m place o = ⊥
+
+pub record AreRefused : Type 0 where
+  -- NFS4ERR_DELAY in the place of NFS4ERR_DENIED
+  pub delayed : NoneDelayed (before asked clashes) 3 (asked_by asked clashes)
+  -- in the place of B's LOCK, which is denied
+  pub denied : (d : RanOp) → StandsBefore told (told_anyway (last_of d (ops_of asked clashes))) → ⊥
+  pub closed : (d : RanOp) → StandsWhile told (closes_another (last_of d (ops_of asked clashes)) ∷ []) → ⊥
+  -- the lock is gone behind a renewal in time
+  pub short : StaysHeld told 90 102 short_leases (renewal ∷ []) → ⊥
+  pub back : StaysHeld told 90 102 set_back (renewal ∷ []) → ⊥
+  -- the lock still stands 91 seconds behind the last renewal, where nothing runs out
+  pub last : last_renewal told.client None (new_state 511 7 90) (earlier ++ locks ∷ []) ≡ Some 102
+  pub held : locked.machine.store.opens.held 2 2 0 ≡ Some Write
+  pub late : IsInTime locked.machine.store.opens 2 90 193 (λ client. last_renewal client None (new_state 511 7 90) (earlier ++ locks ∷ [])) → ⊥
