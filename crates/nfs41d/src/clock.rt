@@ -3,7 +3,7 @@
 ghost use Rattle.std.specs.Prelude.{◌≡◌, ◌≤◌, ◌<◌, ◌+◌, ◌%◌, ◌^◌, ℕ, max, List, Option, [], ◌∷◌, None, IfSome};
 ghost use Rattle.std.specs.Io.KnownBytes.{Appends};
 ghost use Rattle.nfs_serve.specs.Script.{last_moment};
-ghost use Rattle.nfs41d.specs.Seconds.{Reads, Answers, Paces, Rises, pace, risen, is_idle, begins, starts, fourths};
+ghost use Rattle.nfs41d.specs.Seconds.{Reads, Answers, Paces, Rises, pace, risen, is_idle, begins, starts, fourths, shown};
 
 use nfs_serve::{Clock, LAST_MOMENT};
 use std::rt;
@@ -91,6 +91,16 @@ struct Paced {
 }
 
 impl Paced {
+    /// What this second shows, less the lag; the last moment where none is read.
+    fn shown(&self, read: Option<u64>) -> u64
+        ensures { result ≡ shown self.now read }
+    {
+        match read {
+            Some(second) => second.saturating_sub(self.lag),
+            None => self.last,
+        }
+    }
+
     /// The moment, where this second is read: it never falls, never leads what is read, and rises in a sweep by `step` at most.
     fn risen(&self, read: Option<u64>) -> u64
         ensures risen { result ≡ risen self.now read }
@@ -98,10 +108,7 @@ impl Paced {
         ensures follows { IfSome read (λ second. result ≤ max self.now.last second) }
         ensures paced { result ≤ max self.now.last (self.now.begun + self.now.step) }
     {
-        let shown = match read {
-            Some(second) => second.saturating_sub(self.lag),
-            None => self.last,
-        };
+        let shown = self.shown(read);
         let top = self.begun.saturating_add(self.step);
         self.last.max(shown.min(top))
     }

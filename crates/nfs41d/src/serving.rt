@@ -3,12 +3,13 @@
 ghost use Rattle.std.specs.Prelude.{MatchResult};
 ghost use Rattle.nfs41d.specs.ExitStatus.{IsOfConnections};
 
-use crate::clock::{PacedClock, SystemClock};
+use crate::clock::SystemClock;
 use crate::fault::Fault;
-use crate::sockets::Sockets;
-use nfs_serve::{Host, Hub, Server};
+use crate::sockets::Listening;
+use nfs_serve::{Clock, Host, Hub, Server};
+use std::alloc::Global;
 use std::io::Write;
-use std::net::{Net, SocketAddr, SocketAddrV4, TcpListener, TcpStream};
+use std::net::{Net, SocketAddrV4, TcpListener, TcpStream};
 use std::rt;
 
 /// Listens on an address, says on `told` which one it has taken, and serves so many connections, one after the other. A connection
@@ -27,50 +28,47 @@ where
     W: Write,
     ensures { MatchResult result (λ _. Unit {0}) (λ fault. IsOfConnections fault) }
 {
-    let alloc = rt.alloc();
     let mut clock = SystemClock::new(rt);
     let listener = TcpListener::bind(rt, addr).map_err(|_| Fault::Start)?;
     let addr = listener.local_addr().map_err(|_| Fault::Start)?;
     let _ = writeln!(told, "nfs41d: listening on {addr}");
     for stream in listener.incoming().take(connections as usize) {
         let stream = stream.map_err(|_| Fault::Accept)?;
-        // A reply leaves at once, where the platform lets it.
-        let _ = stream.set_nodelay(true);
-        let mut r = Host::new(&stream);
-        let mut w = Host::new(&stream);
-        let _ = server.talk(alloc, &mut r, &mut w, &mut clock);
+        talk(rt.alloc(), server, &stream, &mut clock);
     }
     Ok(())
 }
 
-/// Listens on an address, says on `told` which one it has taken, and serves so many connections on which a request is answered, up to
-/// `at_once` of them at once and no more than 16. Where all places are taken, one that was silent for a lease (seconds) gives way to a new one,
-/// and one of the IP address that has most places to one whose address has none.
+/// Serves a connection until it ends.
+fn talk<C: Clock>(alloc: Global, server: &mut Server, stream: &TcpStream, clock: &mut C) {
+    // A reply leaves at once, where the platform lets it.
+    let _ = stream.set_nodelay(true);
+    let mut r = Host::new(stream);
+    let mut w = Host::new(stream);
+    let _ = server.talk(alloc, &mut r, &mut w, clock);
+}
+
+/// Says on `told` which address the ports are of, and serves the connections that come there, until they are over.
 ///
-/// `Start` where the address cannot be listened on, or for want of memory; `Accept` where no connection can be taken any more.
-pub fn serve_many<R, W>(
-    rt: &R,
+/// `Start` where the address is not told; `Accept` where no connection can be taken any more.
+pub fn serve_many<P, C, W>(
+    alloc: Global,
     server: &mut Server,
-    addr: SocketAddrV4,
-    connections: u32,
-    at_once: u32,
-    lease: u32,
+    hub: &mut Hub,
+    ports: &mut P,
+    clock: &mut C,
     told: &mut W,
 ) -> Result<(), Fault>
 where
-    R: Net + AllocGlobal + rt::Clock,
+    P: Listening,
+    C: Clock,
     W: Write,
     ensures { MatchResult result (λ _. Unit {0}) (λ fault. IsOfConnections fault) }
 {
-    let mut clock = PacedClock::new(rt, lease);
-    let mut hub = Hub::new(rt.alloc()).map_err(|_| Fault::Start)?;
-    let mut sockets = Sockets::new(rt, SocketAddr::V4(addr), connections, at_once, lease).map_err(
-        |_| Fault::Start,
-    )?;
-    let addr = sockets.local_addr().map_err(|_| Fault::Start)?;
+    let addr = ports.local_addr().map_err(|_| Fault::Start)?;
     let _ = writeln!(told, "nfs41d: listening on {addr}");
-    server.serve_ports(rt.alloc(), &mut hub, &mut sockets, &mut clock);
-    if sockets.failed() {
+    server.serve_ports(alloc, hub, ports, clock);
+    if ports.failed() {
         return Err(Fault::Accept);
     }
     Ok(())

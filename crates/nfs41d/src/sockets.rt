@@ -2,6 +2,7 @@
 
 ghost use Rattle.std.specs.Prelude.{◌≡◌, ◌≤◌, ◌&&◌, not, true, false, None, IfSome, IfOk, if◌then◌else◌};
 ghost use Rattle.nfs_serve.specs.Script.{last_connection};
+ghost use Rattle.nfs_serve.specs.Shows.{ComesWithin, TakesWithin};
 
 use crate::clock::pace;
 use mio::net::{TcpListener, TcpStream};
@@ -26,6 +27,15 @@ const STRANGER: u64 = 10;
 
 /// The numbers of Linux for want of memory, of descriptors (the system's and the process's) and of buffers.
 const PASSING: [i32; 4] = [12, 23, 24, 105];
+
+/// Ports whose connections come to one address.
+pub trait Listening: Ports {
+    /// The address that was taken.
+    fn local_addr(&self) -> io::Result<SocketAddr>;
+
+    /// Whether no connection could be taken any more.
+    fn failed(&self) -> bool;
+}
 
 /// A connection, and what is known of it.
 #[derive(Drop)]
@@ -62,6 +72,50 @@ impl Slot {
         let is_first = !self.heard;
         self.heard = true;
         is_first
+    }
+
+    /// Reads what is there into the front of `buf`.
+    fn read(&mut self, buf: &mut [u8]) -> Came
+        ensures { ComesWithin result buf.new }
+    {
+        // Bytes that were read while they were told are told once more, as room to write.
+        if !self.readable {
+            self.ready = false;
+            return Came::Blocked;
+        }
+        match self.stream.read(buf) {
+            Ok(0) => Came::Ended,
+            Ok(n) => {
+                self.asked = true;
+                // What comes behind a read that was short is told anew; an end that was told already is not.
+                self.readable = n == buf.len() || self.ending;
+                self.ready = self.readable;
+                Came::Bytes(n)
+            }
+            Err(e) if e.kind() == ErrorKind::WouldBlock => {
+                self.readable = false;
+                self.ready = false;
+                Came::Blocked
+            }
+            Err(e) if e.kind() == ErrorKind::Interrupted => Came::Blocked,
+            Err(_) => Came::Failed,
+        }
+    }
+
+    /// Writes a front of the bytes.
+    fn write(&mut self, bytes: &[u8]) -> Took
+        ensures { TakesWithin result bytes.now }
+    {
+        match self.stream.write(bytes) {
+            Ok(0) => Took::Failed,
+            Ok(n) => Took::Bytes(n),
+            Err(e) if e.kind() == ErrorKind::WouldBlock => {
+                self.ready = false;
+                Took::Blocked
+            }
+            Err(e) if e.kind() == ErrorKind::Interrupted => Took::Blocked,
+            Err(_) => Took::Failed,
+        }
     }
 }
 
@@ -132,16 +186,6 @@ impl<'a, R: Net + AllocGlobal + rt::Clock> Sockets<'a, R> {
 }
 
 impl<R: rt::Clock> Sockets<'_, R> {
-    /// The address that was taken.
-    pub fn local_addr(&self) -> io::Result<SocketAddr> {
-        self.listener.local_addr()
-    }
-
-    /// Whether no connection could be taken any more.
-    pub fn failed(&self) -> bool {
-        self.failed
-    }
-
     /// The connection on a port.
     fn slot(&mut self, port: u32) -> Option<&mut Slot> {
         match self.slots.get_mut(port as usize) {
@@ -339,6 +383,16 @@ fn passes(e: &io::Error) -> bool {
         }
 }
 
+impl<R: rt::Clock> Listening for Sockets<'_, R> {
+    fn local_addr(&self) -> io::Result<SocketAddr> {
+        self.listener.local_addr()
+    }
+
+    fn failed(&self) -> bool {
+        self.failed
+    }
+}
+
 impl<R: rt::Clock> Ports for Sockets<'_, R> {
     ghost log = { λ _. None };
 
@@ -368,30 +422,9 @@ impl<R: rt::Clock> Ports for Sockets<'_, R> {
     }
 
     fn read(&mut self, port: u32, buf: &mut [u8]) -> Came {
-        let Some(slot) = self.slot(port) else {
-            return Came::Failed;
-        };
-        // Bytes that were read while they were told are told once more, as room to write.
-        if !slot.readable {
-            slot.ready = false;
-            return Came::Blocked;
-        }
-        match slot.stream.read(buf) {
-            Ok(0) => Came::Ended,
-            Ok(n) => {
-                slot.asked = true;
-                // What comes behind a read that was short is told anew; an end that was told already is not.
-                slot.readable = n == buf.len() || slot.ending;
-                slot.ready = slot.readable;
-                Came::Bytes(n)
-            }
-            Err(e) if e.kind() == ErrorKind::WouldBlock => {
-                slot.readable = false;
-                slot.ready = false;
-                Came::Blocked
-            }
-            Err(e) if e.kind() == ErrorKind::Interrupted => Came::Blocked,
-            Err(_) => Came::Failed,
+        match self.slot(port) {
+            Some(slot) => slot.read(buf),
+            None => Came::Failed,
         }
     }
 
@@ -400,21 +433,11 @@ impl<R: rt::Clock> Ports for Sockets<'_, R> {
         let Some(slot) = self.slot(port) else {
             return Took::Failed;
         };
-        match slot.stream.write(bytes) {
-            Ok(0) => Took::Failed,
-            Ok(n) => {
-                if slot.note_taken(now) {
-                    self.left = self.left.saturating_sub(1);
-                }
-                Took::Bytes(n)
-            }
-            Err(e) if e.kind() == ErrorKind::WouldBlock => {
-                slot.ready = false;
-                Took::Blocked
-            }
-            Err(e) if e.kind() == ErrorKind::Interrupted => Took::Blocked,
-            Err(_) => Took::Failed,
+        let took = slot.write(bytes);
+        if matches!(took, Took::Bytes(_)) && slot.note_taken(now) {
+            self.left = self.left.saturating_sub(1);
         }
+        took
     }
 
     fn close(&mut self, port: u32) {

@@ -32,17 +32,30 @@ pub fn order<'a>(alloc: Global, words: &'a [&'a str]) -> Result<Order<'a>, Fault
     }
 }
 
+/// The command line that is understood.
 fn command<'a>(alloc: Global) -> Result<Command<'a>, AllocError> {
-    let replay = Command::new(alloc, "replay").arg(option(alloc, "settings"))?;
-    let serve = Command::new(alloc, "serve")
+    let replay = replay_command(alloc)?;
+    let nfs41d = Command::new(alloc, "nfs41d")
+        .subcommand_required(true)
+        .subcommand(replay)?;
+    match serve_command(alloc) {
+        Ok(serve) => nfs41d.subcommand(serve),
+        Err(e) => Err(e),
+    }
+}
+
+/// The order to run a script.
+fn replay_command<'a>(alloc: Global) -> Result<Command<'a>, AllocError> {
+    Command::new(alloc, "replay").arg(option(alloc, "settings"))
+}
+
+/// The order to serve connections.
+fn serve_command<'a>(alloc: Global) -> Result<Command<'a>, AllocError> {
+    Command::new(alloc, "serve")
         .arg(option(alloc, "listen").required(true))?
         .arg(option(alloc, "connections").required(true))?
         .arg(option(alloc, "at-once"))?
-        .arg(option(alloc, "settings"))?;
-    Command::new(alloc, "nfs41d")
-        .subcommand_required(true)
-        .subcommand(replay)?
-        .subcommand(serve)
+        .arg(option(alloc, "settings"))
 }
 
 /// An option that takes a value.
