@@ -1,5 +1,5 @@
 -- What is read of filehandles and of values that are set is their text.
-use Rattle.std.proofs.Common.{◌≡◌, ℕ, Bool, true, false, cond, List, [], ◌∷◌, ◌++◌, length, Option, Some, None, refl, sym, ap, ◌∙◌, arith}
+use Rattle.std.proofs.Common.{◌≡◌, ℕ, Bool, true, false, List, [], ◌∷◌, ◌++◌, length, Option, Some, None, refl, sym, ap, ◌∙◌, arith}
 use Rattle.std.specs.Prelude.{◌↔◌, ◌==◌, is_some, if◌then◌else◌}
 use Rattle.std.proofs.lemmas.Bool.{eqb-true}
 use Rattle.std.proofs.lemmas.List.{append-nil}
@@ -17,7 +17,7 @@ use Rattle.nfs_attrs.specs.Handle.{handle, handle_of}
 use Rattle.nfs_attrs.specs.Mask.{has}
 use Rattle.nfs_attrs.specs.SetTime.{set_time, set_time_at}
 use Rattle.nfs_attrs.specs.Wire.{nfs_fh4, settime4}
-use Rattle.nfs_attrs.specs.Attributes.{Settings, attributes, if_there, set_values, AreAsGiven, settings4}
+use Rattle.nfs_attrs.specs.Attributes.{Settings, attributes, if_there, AreAsGiven, settings4}
 use Rattle.nfs_attrs.specs.SettingsCodec.{spell_if, FitsIf, where_there, settings, settings_of}
 use Rattle.nfs_attrs.specs.declared.handle.Handle.{Handle}
 use Rattle.nfs_attrs.specs.declared.mask.Mask.{Mask}
