@@ -10,3 +10,5 @@ pub mod Whole
 pub mod Counted
 pub mod Bounds
 pub mod SetTimes
+pub mod Texts
+pub mod Before

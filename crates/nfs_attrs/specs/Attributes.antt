@@ -1,19 +1,17 @@
 -- The table of attributes (RFC 8881 section 5): all that this server has, a line each, in rising order of their numbers.
-use Rattle.std.specs.Prelude.{ℕ, ◌==◌, List, [], ◌∷◌, ◌++◌, length, Bool, true, false, Option, Some, None, if◌then◌else◌}
+use Rattle.std.specs.Prelude.{◌≡◌, ℕ, ◌==◌, List, [], ◌∷◌, ◌++◌, Bool, true, false, Option, Some, None, is_some, if◌then◌else◌}
 use Rattle.std.specs.Fmt.{decimal}
 use Rattle.std.specs.List.{flat_map}
 use Rattle.nfs_xdr.specs.Spelling as spelling
-use Rattle.nfs_xdr.specs.Reading.{◌>>=◌}
-use Rattle.nfs_xdr.specs.Codec.{Codec, number, hyper, flag, opaque, unbounded, ◌then◌, array}
-use Rattle.nfs_xdr.specs.Time.{time}
+use Rattle.nfs_xdr.specs.Text.{Text, ◌then◌, void, uint32, uint64, bool, opaque, most}
+use Rattle.nfs_xdr.specs.Wire.{nfstime4}
 use Rattle.nfs_xdr.specs.Limits.{fhsize, most_transfer}
 use Rattle.nfs_tree.specs.Files.{most_bytes, most_links, most_name}
 use Rattle.nfs_tree.specs.declared.object.FileType.{FileType}
 use Rattle.nfs_tree.specs.declared.object.FileType.TheVariants.{Regular, Directory, Link}
 use Rattle.nfs_tree.specs.declared.object.Object.{Object}
-use Rattle.nfs_attrs.specs.Handle.{handle}
 use Rattle.nfs_attrs.specs.Mask.{has, trimmed_words, common, spell_mask}
-use Rattle.nfs_attrs.specs.SetTime.{set_time}
+use Rattle.nfs_attrs.specs.Wire.{nfs_fh4, settime4, bitmap4, fsid4}
 use Rattle.nfs_attrs.specs.declared.about.About.{About}
 use Rattle.nfs_attrs.specs.declared.mask.Mask.{Mask}
 use Rattle.nfs_attrs.specs.declared.set_time.SetTime.{SetTime}
@@ -24,9 +22,6 @@ type_number Regular = 1
 type_number Directory = 2
 type_number Link = 5
 
-abbrev pub mask : Codec (List ℕ)
-mask = array number
-
 -- the values that a request sets, each where its mask has it
 pub record Settings : Type 0 where
   pub size : Option ℕ
@@ -36,31 +31,20 @@ pub record Settings : Type 0 where
   pub access : Option SetTime
   pub modify : Option SetTime
 
-abbrev pub no_settings : Settings
-no_settings = record { size = None; mode = None; owner = None; group = None; access = None; modify = None }
-
--- An attribute: its value, where it can be read; and how one is taken from the front of those that a request sets, where
--- it can be set.
+-- An attribute: its value, where it can be read; and whether it is among those that a request sets, where it can be set.
 pub record Attribute : Type 0 where
   pub number : ℕ
   pub value : Option (About → Object → List ℕ)
-  pub set : Option (Bool → Settings → List ℕ → Option (Settings × List ℕ))
+  pub set : Option (Settings → Bool)
 
--- an item that is there or not, as is known beforehand
-abbrev pub read_if : {A : Type 0} → Bool → Codec A → List ℕ → Option (Option A × List ℕ)
-read_if there c bytes = if there then (c.read bytes >>= λ x. Some (Some x.0, x.1)) else Some (None, bytes)
+abbrev pub read_only : {A : Type 0} → ℕ → (A → Text) → (About → Object → A) → Attribute
+read_only n text value = record { number = n; value = Some (λ a o. (text (value a o)).bytes); set = None }
 
-abbrev pub taken : {A : Type 0} → Codec A → (Option A → Settings → Settings) → Bool → Settings → List ℕ → Option (Settings × List ℕ)
-taken c into there settings bytes = read_if there c bytes >>= λ x. Some (into x.0 settings, x.1)
+abbrev pub read_write : {A : Type 0} → ℕ → (A → Text) → (About → Object → A) → (Settings → Bool) → Attribute
+read_write n text value set = record { number = n; value = Some (λ a o. (text (value a o)).bytes); set = Some set }
 
-abbrev pub read_only : {A : Type 0} → ℕ → Codec A → (About → Object → A) → Attribute
-read_only n c value = record { number = n; value = Some (λ a o. c.spell (value a o)); set = None }
-
-abbrev pub read_write : {A : Type 0} → ℕ → Codec A → (About → Object → A) → (Option A → Settings → Settings) → Attribute
-read_write n c value into = record { number = n; value = Some (λ a o. c.spell (value a o)); set = Some (taken c into) }
-
-abbrev pub write_only : {A : Type 0} → ℕ → Codec A → (Option A → Settings → Settings) → Attribute
-write_only n c into = record { number = n; value = None; set = Some (taken c into) }
+abbrev pub write_only : ℕ → (Settings → Bool) → Attribute
+write_only n set = record { number = n; value = None; set = Some set }
 
 -- the masks of all attributes and of those that can be set, as attributes 0 and 75 report them
 abbrev pub supported : Mask
@@ -71,37 +55,37 @@ settable = record { words = 0x00000010 ∷ 0x00410032 ∷ 0x00000000 ∷ []; bey
 
 unfoldable pub attributes : List Attribute
 attributes =
-    read_only 0 mask (λ a o. trimmed_words supported)  -- supported_attrs
-    ∷ read_only 1 number (λ a o. type_number o.kind)  -- type
-    ∷ read_only 2 number (λ a o. 0)  -- fh_expire_type: never
-    ∷ read_only 3 hyper (λ a o. o.change)  -- change
-    ∷ read_write 4 hyper (λ a o. o.size) (λ x s. record s { size = x })  -- size
-    ∷ read_only 5 flag (λ a o. true)  -- link_support
-    ∷ read_only 6 flag (λ a o. true)  -- symlink_support
-    ∷ read_only 7 flag (λ a o. false)  -- named_attr
-    ∷ read_only 8 (hyper then hyper) (λ a o. (0, 1))  -- fsid
-    ∷ read_only 9 flag (λ a o. true)  -- unique_handles
-    ∷ read_only 10 number (λ a o. a.lease)  -- lease_time
-    ∷ read_only 11 number (λ a o. 0)  -- rdattr_error
-    ∷ read_only 19 (opaque fhsize) (λ a o. handle.spell (record { instance = a.instance; number = a.number }))  -- filehandle
-    ∷ read_only 20 hyper (λ a o. a.number)  -- fileid
-    ∷ read_only 27 hyper (λ a o. most_bytes)  -- maxfilesize
-    ∷ read_only 28 number (λ a o. most_links)  -- maxlink
-    ∷ read_only 29 number (λ a o. most_name)  -- maxname
-    ∷ read_only 30 hyper (λ a o. most_transfer)  -- maxread
-    ∷ read_only 31 hyper (λ a o. most_transfer)  -- maxwrite
-    ∷ read_write 33 number (λ a o. o.mode) (λ x s. record s { mode = x })  -- mode
-    ∷ read_only 35 number (λ a o. a.links)  -- numlinks
-    ∷ read_write 36 unbounded (λ a o. decimal o.owner) (λ x s. record s { owner = x })  -- owner
-    ∷ read_write 37 unbounded (λ a o. decimal o.group) (λ x s. record s { group = x })  -- owner_group
-    ∷ read_only 45 hyper (λ a o. o.size)  -- space_used
-    ∷ read_only 47 time (λ a o. o.access)  -- time_access
-    ∷ write_only 48 set_time (λ x s. record s { access = x })  -- time_access_set
-    ∷ read_only 52 time (λ a o. o.metadata)  -- time_metadata
-    ∷ read_only 53 time (λ a o. o.modify)  -- time_modify
-    ∷ write_only 54 set_time (λ x s. record s { modify = x })  -- time_modify_set
-    ∷ read_only 55 hyper (λ a o. a.number)  -- mounted_on_fileid
-    ∷ read_only 75 mask (λ a o. trimmed_words settable)  -- suppattr_exclcreat
+    read_only 0 bitmap4 (λ a o. trimmed_words supported)  -- supported_attrs
+    ∷ read_only 1 uint32 (λ a o. type_number o.kind)  -- type
+    ∷ read_only 2 uint32 (λ a o. 0)  -- fh_expire_type: never
+    ∷ read_only 3 uint64 (λ a o. o.change)  -- change
+    ∷ read_write 4 uint64 (λ a o. o.size) (λ s. is_some s.size)  -- size
+    ∷ read_only 5 bool (λ a o. true)  -- link_support
+    ∷ read_only 6 bool (λ a o. true)  -- symlink_support
+    ∷ read_only 7 bool (λ a o. false)  -- named_attr
+    ∷ read_only 8 fsid4 (λ a o. (0, 1))  -- fsid
+    ∷ read_only 9 bool (λ a o. true)  -- unique_handles
+    ∷ read_only 10 uint32 (λ a o. a.lease)  -- lease_time
+    ∷ read_only 11 uint32 (λ a o. 0)  -- rdattr_error
+    ∷ read_only 19 (opaque fhsize) (λ a o. (nfs_fh4 (record { instance = a.instance; number = a.number })).bytes)  -- filehandle
+    ∷ read_only 20 uint64 (λ a o. a.number)  -- fileid
+    ∷ read_only 27 uint64 (λ a o. most_bytes)  -- maxfilesize
+    ∷ read_only 28 uint32 (λ a o. most_links)  -- maxlink
+    ∷ read_only 29 uint32 (λ a o. most_name)  -- maxname
+    ∷ read_only 30 uint64 (λ a o. most_transfer)  -- maxread
+    ∷ read_only 31 uint64 (λ a o. most_transfer)  -- maxwrite
+    ∷ read_write 33 uint32 (λ a o. o.mode) (λ s. is_some s.mode)  -- mode
+    ∷ read_only 35 uint32 (λ a o. a.links)  -- numlinks
+    ∷ read_write 36 (opaque most) (λ a o. decimal o.owner) (λ s. is_some s.owner)  -- owner
+    ∷ read_write 37 (opaque most) (λ a o. decimal o.group) (λ s. is_some s.group)  -- owner_group
+    ∷ read_only 45 uint64 (λ a o. o.size)  -- space_used
+    ∷ read_only 47 nfstime4 (λ a o. o.access)  -- time_access
+    ∷ write_only 48 (λ s. is_some s.access)  -- time_access_set
+    ∷ read_only 52 nfstime4 (λ a o. o.metadata)  -- time_metadata
+    ∷ read_only 53 nfstime4 (λ a o. o.modify)  -- time_modify
+    ∷ write_only 54 (λ s. is_some s.modify)  -- time_modify_set
+    ∷ read_only 55 uint64 (λ a o. a.number)  -- mounted_on_fileid
+    ∷ read_only 75 bitmap4 (λ a o. trimmed_words settable)  -- suppattr_exclcreat
     ∷ []
 
 -- the attributes that can be read
@@ -128,15 +112,23 @@ values asked a o = values_in attributes asked a o
 abbrev pub spell_attrs : Mask → About → Object → List ℕ
 spell_attrs asked a o = spell_mask (common asked readable) ++ spelling.opaque (values asked a o)
 
--- the values that a request sets, from the first byte on
-abbrev pub set_if : Option (Bool → Settings → List ℕ → Option (Settings × List ℕ)) → Bool → Settings → List ℕ → Option (Settings × List ℕ)
-set_if None there settings bytes = Some (settings, bytes)
-set_if (Some set) there settings bytes = set there settings bytes
+-- The values that a request sets, one behind the other, each where it is there ..
+abbrev pub if_there : {A : Type 0} → (A → Text) → Option A → Text
+if_there text None = void
+if_there text (Some x) = text x
 
-abbrev pub set_in : List Attribute → Mask → Settings → List ℕ → Option (Settings × List ℕ)
-set_in [] given settings bytes = Some (settings, bytes)
-set_in (line ∷ lines) given settings bytes = set_if line.set (has given line.number) settings bytes >>= λ x. set_in lines given x.0 x.1
+abbrev pub set_values : Settings → Text
+set_values s = if_there uint64 s.size then if_there uint32 s.mode then if_there (opaque most) s.owner then if_there (opaque most) s.group
+    then if_there settime4 s.access then if_there settime4 s.modify
 
--- All of them: the bytes hold these values and nothing behind them.
-unfoldable pub settings_of : Mask → List ℕ → Option Settings
-settings_of given bytes = set_in attributes given no_settings bytes >>= λ x. if length x.1 == 0 then Some x.0 else None
+-- .. and each is there just where a mask has its attribute.
+abbrev pub IsAsGiven : Option (Settings → Bool) → Settings → Bool → Type 0
+IsAsGiven None s given = Unit {0}
+IsAsGiven (Some set) s given = set s ≡ given
+
+abbrev pub AreAsGiven : List Attribute → Mask → Settings → Type 0
+AreAsGiven [] given s = Unit {0}
+AreAsGiven (line ∷ lines) given s = IsAsGiven line.set s (has given line.number) × AreAsGiven lines given s
+
+abbrev pub settings4 : Mask → Settings → Text
+settings4 given s = record { bytes = (set_values s).bytes; Fits = AreAsGiven attributes given s × (set_values s).Fits }

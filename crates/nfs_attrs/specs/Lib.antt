@@ -3,7 +3,10 @@ pub mod Handle
 pub mod Mask
 pub mod Owner
 pub mod SetTime
+pub mod Wire
 pub mod Attributes
+pub mod SettingsCodec
+pub mod Before
 pub mod Asked
 pub mod Value
 pub mod Following

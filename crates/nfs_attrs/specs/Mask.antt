@@ -2,7 +2,7 @@
 use Rattle.std.specs.Prelude.{ℕ, ◌/◌, ◌%◌, ◌==◌, ◌&&◌, ◌||◌, List, [], ◌∷◌, get_or, drop, Bool, false, not, length, bit_and, if◌then◌else◌}
 use Rattle.std.specs.Int.{bit_at}
 use Rattle.std.specs.List.{list_any}
-use Rattle.nfs_xdr.specs.Codec.{number, array}
+use Rattle.nfs_attrs.specs.Wire.{bitmap4}
 use Rattle.nfs_attrs.specs.declared.mask.Mask.{Mask}
 
 -- the mask of a list of words, of which there may be any number
@@ -30,7 +30,7 @@ abbrev pub trimmed_words : Mask → List ℕ
 trimmed_words mask = without_last_zeros mask.words
 
 abbrev pub spell_mask : Mask → List ℕ
-spell_mask mask = (array number).spell (trimmed_words mask)
+spell_mask mask = (bitmap4 (trimmed_words mask)).bytes
 
 -- each bit of a word is one of another
 abbrev pub word_within : ℕ → ℕ → Bool

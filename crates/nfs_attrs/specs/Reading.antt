@@ -4,7 +4,8 @@ use Rattle.nfs_xdr.specs.declared.status.Status.{Status}
 use Rattle.nfs_xdr.specs.declared.status.Status.TheVariants as S
 use Rattle.nfs_attrs.specs.Mask.{within}
 use Rattle.nfs_attrs.specs.Owner.{owner_of}
-use Rattle.nfs_attrs.specs.Attributes.{Settings, supported, settable, settings_of}
+use Rattle.nfs_attrs.specs.Attributes.{Settings, supported, settable}
+use Rattle.nfs_attrs.specs.SettingsCodec.{settings_of}
 use Rattle.nfs_attrs.specs.declared.mask.Mask.{Mask}
 use Rattle.nfs_attrs.specs.declared.set_time.SetTime.{SetTime}
 use Rattle.nfs_attrs.specs.declared.set_time.SetTime.TheVariants.{Now, Given}

@@ -19,3 +19,7 @@ set_time_arms = (0, bare Now) ∷ (1, arm Given time) ∷ []
 
 unfoldable pub set_time : Codec SetTime
 set_time = union spell_set_time FitsSetTime set_time_arms
+
+-- what stands at the front of bytes
+abbrev pub set_time_at : List ℕ → Option (SetTime × List ℕ)
+set_time_at bytes = set_time.read bytes

@@ -2,8 +2,8 @@
 use Rattle.std.specs.Prelude.{ℕ, List, [], ◌++◌, Option, Some, None, if◌then◌else◌}
 use Rattle.std.specs.Fmt.{decimal}
 use Rattle.nfs_xdr.specs.Spelling as spelling
-use Rattle.nfs_xdr.specs.Time.{time}
-use Rattle.nfs_attrs.specs.Handle.{handle}
+use Rattle.nfs_xdr.specs.Wire.{nfstime4}
+use Rattle.nfs_attrs.specs.Wire.{nfs_fh4}
 use Rattle.nfs_attrs.specs.Mask.{has, spell_mask}
 use Rattle.nfs_attrs.specs.Attributes.{attributes, value_at}
 use Rattle.nfs_attrs.specs.declared.about.About.{About}
@@ -17,10 +17,10 @@ spell_value (V.Number n) = spelling.number n
 spell_value (V.Hyper n) = spelling.hyper n
 spell_value (V.Flag b) = spelling.flag b
 spell_value (V.FsId major minor) = spelling.hyper major ++ spelling.hyper minor
-spell_value (V.Handle h) = spelling.opaque (handle.spell h)
+spell_value (V.Handle h) = spelling.opaque (nfs_fh4 h).bytes
 spell_value (V.Owner n) = spelling.opaque (decimal n)
 spell_value (V.Mask m) = spell_mask m
-spell_value (V.Time t) = time.spell t
+spell_value (V.Time t) = (nfstime4 t).bytes
 
 abbrev pub spell_found : Option rust_value.Value → List ℕ
 spell_found None = []

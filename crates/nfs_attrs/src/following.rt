@@ -5,7 +5,7 @@ ghost use Rattle.std.specs.List.{flat_map};
 ghost use Rattle.nfs_xdr.specs.Spelling.{number, hyper, opaque};
 ghost use Rattle.nfs_xdr.specs.Text.{IsBytes};
 ghost use Rattle.nfs_xdr.specs.Codec as codec;
-ghost use Rattle.nfs_xdr.specs.Time.{time};
+ghost use Rattle.nfs_xdr.specs.Wire.{nfstime4};
 ghost use Rattle.nfs_attrs.specs.Following.{Follows};
 
 use nfs_xdr::{Cursor, Time};
@@ -38,9 +38,8 @@ fn signed_follows(value: i64, cursor: &mut Cursor<'_>) -> bool
 }
 
 /// The same of a time.
-#[tactic(auto, unfolding(nfs_xdr::specs::Time::time))]
 pub(crate) fn time_follows(value: Time, cursor: &mut Cursor<'_>) -> bool
-    ensures { Follows result (time.spell value) cursor.old cursor.new }
+    ensures { Follows result (nfstime4 value).bytes cursor.old cursor.new }
 {
     let Time {
         seconds,

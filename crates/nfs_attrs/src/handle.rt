@@ -1,7 +1,8 @@
 //! Filehandles (RFC 8881 section 4).
 
 ghost use Rattle.std.specs.Prelude.{◌≡◌, ◌≢◌, ◌<◌, ◌^◌, ℕ, MatchResult, Some, None};
-ghost use Rattle.nfs_attrs.specs.Handle.{handle, handle_of};
+ghost use Rattle.nfs_attrs.specs.Handle.{handle_of};
+ghost use Rattle.nfs_attrs.specs.Wire.{nfs_fh4};
 
 use nfs_xdr::Cursor;
 
@@ -20,9 +21,9 @@ pub struct BadHandle;
 
 impl Handle {
     /// The bytes of the filehandle: the instance (4 bytes), 4 zero bytes, the object's number (8 bytes), big-endian.
-    #[tactic(auto, unfolding(crate::specs::Handle::handle, nfs_xdr::specs::Spelling::number, nfs_xdr::specs::Spelling::hyper))]
+    #[tactic(auto, unfolding(nfs_xdr::specs::Spelling::number, nfs_xdr::specs::Spelling::hyper))]
     pub fn bytes(&self) -> [u8; 16]
-        ensures { result ≡ handle.spell self.now }
+        ensures { result ≡ (nfs_fh4 self.now).bytes }
     {
         let [a, b, c, d] = self.instance.to_be_bytes();
         let [e, f, g, h, i, j, k, l] = self.number.to_be_bytes();

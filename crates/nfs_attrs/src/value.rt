@@ -33,7 +33,7 @@ pub(crate) enum Value {
 
 impl Value {
     /// Puts the value, which is whole words.
-    #[tactic(auto, using(nfs_xdr::proofs::Putting::putting, crate::proofs::Lengths::measuring))]
+    #[tactic(auto, using(nfs_xdr::proofs::Putting::putting, crate::proofs::Lengths::measuring), unfolding(nfs_xdr::specs::Time::time))]
     pub(crate) fn put(self, sheet: &mut Sheet)
         requires room { HasRoom sheet.old (spell_value self) }
         ensures put { Puts sheet.old sheet.new (spell_value self) }

@@ -4,8 +4,8 @@ ghost use Rattle.std.specs.Prelude.{◌≡◌, ℕ, is_some};
 ghost use Rattle.nfs_xdr.specs.Codec as codec;
 ghost use Rattle.nfs_xdr.specs.Readers.{ReadsPartBy};
 ghost use Rattle.nfs_xdr.specs.Status.{status_number};
-ghost use Rattle.nfs_attrs.specs.Attributes as table;
 ghost use Rattle.nfs_attrs.specs.SetTime.{set_time};
+ghost use Rattle.nfs_attrs.specs.SettingsCodec as setting;
 ghost use Rattle.nfs_attrs.specs.Reading as reading;
 ghost use Rattle.nfs_attrs.specs.View as view;
 
@@ -73,7 +73,7 @@ struct Settings<'a> {
 }
 
 fn number_if(there: bool, cursor: &mut Cursor<'_>) -> Result<Option<u32>, Unreadable>
-    ensures { ReadsPartBy (λ x. x) result (table.read_if there codec.number cursor.old) cursor.new }
+    ensures { ReadsPartBy (λ x. x) result ((setting.where_there there codec.number).read cursor.old) cursor.new }
 {
     if there {
         Ok(Some(cursor.u32()?))
@@ -83,7 +83,7 @@ fn number_if(there: bool, cursor: &mut Cursor<'_>) -> Result<Option<u32>, Unread
 }
 
 fn hyper_if(there: bool, cursor: &mut Cursor<'_>) -> Result<Option<u64>, Unreadable>
-    ensures { ReadsPartBy (λ x. x) result (table.read_if there codec.hyper cursor.old) cursor.new }
+    ensures { ReadsPartBy (λ x. x) result ((setting.where_there there codec.hyper).read cursor.old) cursor.new }
 {
     if there {
         Ok(Some(cursor.u64()?))
@@ -93,7 +93,7 @@ fn hyper_if(there: bool, cursor: &mut Cursor<'_>) -> Result<Option<u64>, Unreada
 }
 
 fn text_if<'a>(there: bool, cursor: &mut Cursor<'a>) -> Result<Option<&'a [u8]>, Unreadable>
-    ensures { ReadsPartBy view.lent result (table.read_if there codec.unbounded cursor.old) cursor.new }
+    ensures { ReadsPartBy view.lent result ((setting.where_there there codec.unbounded).read cursor.old) cursor.new }
 {
     if there {
         Ok(Some(cursor.opaque(u32::MAX)?))
@@ -103,7 +103,7 @@ fn text_if<'a>(there: bool, cursor: &mut Cursor<'a>) -> Result<Option<&'a [u8]>,
 }
 
 fn time_if(there: bool, cursor: &mut Cursor<'_>) -> Result<Option<SetTime>, Unreadable>
-    ensures { ReadsPartBy (λ x. x) result (table.read_if there set_time cursor.old) cursor.new }
+    ensures { ReadsPartBy (λ x. x) result ((setting.where_there there set_time).read cursor.old) cursor.new }
 {
     if there {
         Ok(Some(SetTime::read(cursor)?))
@@ -113,9 +113,9 @@ fn time_if(there: bool, cursor: &mut Cursor<'_>) -> Result<Option<SetTime>, Unre
 }
 
 /// The values that the mask has, in rising order of their attributes.
-#[tactic(auto, unfolding(crate::specs::Attributes::attributes))]
+#[tactic(auto, unfolding(crate::specs::SettingsCodec::settings))]
 fn each_setting<'a>(given: &Mask, cursor: &mut Cursor<'a>) -> Result<Settings<'a>, Unreadable>
-    ensures { ReadsPartBy view.settings result (table.set_in table.attributes given.now table.no_settings cursor.old) cursor.new }
+    ensures { ReadsPartBy view.settings result ((setting.settings given.now).read cursor.old) cursor.new }
 {
     let size = hyper_if(given.has(attribute::SIZE), cursor)?;
     let mode = number_if(given.has(attribute::MODE), cursor)?;
@@ -134,9 +134,9 @@ fn each_setting<'a>(given: &Mask, cursor: &mut Cursor<'a>) -> Result<Settings<'a
 }
 
 /// The values, where the bytes are these and no more.
-#[tactic(auto, unfolding(crate::specs::Attributes::settings_of))]
+#[tactic(auto, unfolding(crate::specs::SettingsCodec::settings_of))]
 fn settings_of<'a>(given: &Mask, values: &'a [u8]) -> Option<Settings<'a>>
-    ensures { view.found result ≡ table.settings_of given.now values.now }
+    ensures { view.found result ≡ setting.settings_of given.now values.now }
 {
     let mut cursor = Cursor::new(values);
     let Ok(settings) = each_setting(given, &mut cursor) else {

@@ -3,7 +3,8 @@ use Rattle.std.proofs.Common.{refl}
 use Rattle.nfs_xdr.specs.Spelling.{number, hyper}
 use Rattle.nfs_compound.specs.Stateid.{stateid}
 use Rattle.nfs_results.specs.Items.{sequence, change_info, attr_set, open_ok}
-use Rattle.nfs_attrs.specs.Attributes.{attributes, settings_of}
+use Rattle.nfs_attrs.specs.Attributes.{attributes}
+use Rattle.nfs_attrs.specs.SettingsCodec.{settings, settings_of}
 use Rattle.nfs_names.specs.Checks.{current, permits}
 use Rattle.nfs_names.specs.Create.{wanted_of}
 use Rattle.nfs_names.specs.PutRootFh.{put_root_fh}
@@ -11,5 +12,5 @@ use Rattle.nfs_files.specs.Open.{asked_for, open_file}
 use Rattle.nfs_exec.specs.DelayedOpen.{IsWorked}
 
 pub is_worked : IsWorked
-unfolding number hyper stateid sequence change_info attr_set open_ok attributes settings_of current permits wanted_of put_root_fh asked_for open_file
+unfolding number hyper stateid sequence change_info attr_set open_ok attributes settings settings_of current permits wanted_of put_root_fh asked_for open_file
 is_worked = record { delayed = refl; store = refl; kept = refl; opened = refl }

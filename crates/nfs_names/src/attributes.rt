@@ -5,7 +5,7 @@ ghost use Rattle.nfs_xdr.specs.SheetState.{Puts};
 ghost use Rattle.nfs_results.specs.Results.{spell_result};
 ghost use Rattle.nfs_results.specs.Result.{ResGetAttr, ResGetFh};
 ghost use Rattle.nfs_attrs.specs.Attributes.{values};
-ghost use Rattle.nfs_attrs.specs.Handle.{handle as spelled};
+ghost use Rattle.nfs_attrs.specs.Wire.{nfs_fh4};
 ghost use Rattle.nfs_compound.specs.ArgCodecs.{view_bitmap, view_attributes};
 ghost use Rattle.nfs_names.specs.State.{state_of};
 ghost use Rattle.nfs_names.specs.Comes.{Comes};
@@ -165,7 +165,7 @@ pub(crate) fn get_attr(
 /// Puts a filehandle, as GETFH answers it.
 fn put_handle(handle: &Handle, out: &mut Sheet)
     requires { length out.old.bytes + 28 ≤ out.old.room }
-    ensures { Puts out.old out.new (spell_result (ResGetFh (spelled.spell handle.now))) }
+    ensures { Puts out.old out.new (spell_result (ResGetFh (nfs_fh4 handle.now).bytes)) }
 {
     write_done_head(OpNum::GetFh, out);
     out.put_opaque(&handle.bytes());

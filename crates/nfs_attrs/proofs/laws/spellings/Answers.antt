@@ -1,14 +1,11 @@
-use Rattle.std.proofs.Common.{refl, arith}
-use Rattle.nfs_xdr.specs.Codec.{number, hyper, led_by, ◌then◌}
-use Rattle.nfs_xdr.proofs.CodecLaws.{is_number, is_hyper, is_led_by, is_then, is_as_type}
-use Rattle.nfs_attrs.specs.Handle.{handle}
-use Rattle.nfs_attrs.proofs.SetTimes.{is_set_time}
+use Rattle.nfs_attrs.proofs.Texts.{handle_is, set_time_leads, settings_are}
 use Rattle.nfs_attrs.proofs.laws.spellings.Goals as goal
 
 pub returns-clause-handles : goal.returns-clause-handles
-unfolding handle
-returns-clause-handles c = is_as_type _ _ (number then led_by 0 hyper) (λ x. refl) (is_then number (led_by 0 hyper) is_number (is_led_by 0 hyper
-    (omega arith) is_hyper))
+returns-clause-handles c = handle_is
 
 pub returns-clause-times : goal.returns-clause-times
-returns-clause-times c = is_set_time
+returns-clause-times c = set_time_leads
+
+pub returns-clause-settings : goal.returns-clause-settings
+returns-clause-settings c = settings_are

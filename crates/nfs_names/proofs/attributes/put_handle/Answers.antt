@@ -7,7 +7,7 @@ use Rattle.nfs_compound.specs.OpNum.{op_number}
 use Rattle.nfs_results.specs.Result.{ResGetFh}
 use Rattle.nfs_results.specs.Results.{head}
 use Rattle.nfs_results.proofs.Lengths.{length_head, behind_within}
-use Rattle.nfs_attrs.specs.Handle.{handle}
+use Rattle.nfs_attrs.specs.Wire.{nfs_fh4}
 use Rattle.nfs_attrs.proofs.Lengths.{length_handle}
 use Rattle.nfs_names.proofs.Masks.{room_then}
 use Rattle.nfs_names.proofs.attributes.put_handle.Goals as goal
@@ -17,7 +17,7 @@ write_done_head-requires c = record { room = omega (arith, length_head (op_numbe
 
 pub put_opaque-requires-clause-room : goal.put_opaque-requires-clause-room
 put_opaque-requires-clause-room c =
-    let bytes = handle.spell c.args.handle.now in
+    let bytes = (nfs_fh4 c.args.handle.now).bytes in
     let few : length bytes ≤ 16 = omega (arith, length_handle c.args.handle.now) in
     let within : 8 + length (opaque bytes) ≤ 28 = behind_within 0 (ResGetFh bytes) tt few in
     subst (λ (text : List ℕ). HasRoom c.write_done_head.new.out (opaque text)) (sym c.bytes.ensures)
