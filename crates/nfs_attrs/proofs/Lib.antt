@@ -11,4 +11,3 @@ pub mod Counted
 pub mod Bounds
 pub mod SetTimes
 pub mod Texts
-pub mod Before

@@ -6,7 +6,6 @@ pub mod SetTime
 pub mod Wire
 pub mod Attributes
 pub mod SettingsCodec
-pub mod Before
 pub mod Asked
 pub mod Value
 pub mod Following

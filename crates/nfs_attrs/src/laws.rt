@@ -2,14 +2,12 @@
 
 ghost use Rattle.std.specs.Prelude.{◌≡◌, ◌↔◌, ◌≤◌, ℕ, List, Some, true, length, is_some};
 ghost use Rattle.nfs_xdr.specs.Text.{IsBytes, Leads};
-ghost use Rattle.nfs_xdr.specs.Lawful.{IsCodec};
 ghost use Rattle.nfs_xdr.specs.Tables.{IsRising};
 ghost use Rattle.nfs_tree.specs.declared.object.Object.{Object};
 ghost use Rattle.nfs_attrs.specs.Attributes as table;
-ghost use Rattle.nfs_attrs.specs.Before as before;
-ghost use Rattle.nfs_attrs.specs.Handle.{handle, handle_of};
+ghost use Rattle.nfs_attrs.specs.Handle.{handle_of};
 ghost use Rattle.nfs_attrs.specs.Laws.{mask_of_lines};
-ghost use Rattle.nfs_attrs.specs.SetTime.{set_time, set_time_at};
+ghost use Rattle.nfs_attrs.specs.SetTime.{set_time_at};
 ghost use Rattle.nfs_attrs.specs.SettingsCodec.{settings_of};
 ghost use Rattle.nfs_attrs.specs.Wire.{nfs_fh4, settime4};
 ghost use Rattle.nfs_attrs.specs.declared.about.About.{About};
@@ -34,23 +32,7 @@ pub fn spellings()
     ensures settings { (given : Mask) (bytes : List ℕ) (s : table.Settings) → IsBytes bytes → settings_of given bytes ≡ Some s ↔ (bytes ≡ (table.settings4 given s).bytes) × (table.settings4 given s).Fits }
 {}
 
-/// The codecs of filehandles and of times that are set spell what the wire's text has, of the same values, and read what they spell.
-pub fn codecs()
-    ensures handles { IsCodec handle }
-    ensures times { IsCodec set_time }
-    ensures handles_are { (h : Handle) → handle.spell h ≡ (nfs_fh4 h).bytes }
-    ensures handles_fit { (h : Handle) → handle.Fits h ↔ (nfs_fh4 h).Fits }
-    ensures times_are { (t : SetTime) → set_time.spell t ≡ (settime4 t).bytes }
-    ensures times_fit { (t : SetTime) → set_time.Fits t ↔ (settime4 t).Fits }
-{}
-
 /// Attributes fit into 632 bytes, whatever is asked: with an operation number and a status they are within 640.
 pub fn attributes_fit()
     ensures { (asked : Mask) (a : About) (o : Object) → length (table.spell_attrs asked a o) ≤ 632 }
-{}
-
-/// The table by the wire's text is the table by codecs.
-pub fn as_before()
-    ensures values { (asked : Mask) (a : About) (o : Object) → table.values asked a o ≡ before.values asked a o }
-    ensures settings { (given : Mask) (bytes : List ℕ) → settings_of given bytes ≡ before.settings_of given bytes }
 {}
