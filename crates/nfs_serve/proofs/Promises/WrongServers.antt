@@ -47,7 +47,7 @@ runs s h NoSlot e is = absurd (true≢false (sym is))
 
 repeats : (s : Small) (h : Heading) (a : Answer) (v : Verdict) → judged s h ≡ v → is_fresh v ≡ false → (by s h v).answer ≡ Some a → Repeats runs_repeats s h a.result
 repeats s h a Fresh e is told = absurd (true≢false is)
-repeats s h a Again e is told = record { slot = s.slots h.place; stands = refl; again = e; slot_keeping = ap (λ (a : Answer). a.result) (sym (is_some _ a told)) }
+repeats s h a Again e is told = record { slot = s.slots h.place; stands = refl; again = e; kept = ap (λ (a : Answer). a.result) (sym (is_some _ a told)) }
 repeats s h a FalseRetry e is told = absurd cc
 repeats s h a Misordered e is told = absurd cc
 repeats s h a NoSlot e is told = absurd cc
