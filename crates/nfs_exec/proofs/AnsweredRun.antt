@@ -22,9 +22,9 @@ use Rattle.nfs_opens.specs.Table.{Table, lock_at}
 use Rattle.nfs_names.specs.declared.context.Context.{Context}
 use Rattle.nfs_names.specs.Context.{begins}
 use Rattle.nfs_names.specs.State.{moment}
-use Rattle.nfs_names.specs.Operation as names
-use Rattle.nfs_names.proofs.Untouched.{leaves_item}
-use Rattle.nfs_files.specs.Operation as files
+use Rattle.nfs_names.proofs.Untouched.{leaves_each}
+use Rattle.nfs_files.proofs.Outcomes as files
+use Rattle.nfs_files.proofs.Outcomes.{for_each}
 use Rattle.nfs_files.specs.Ranges.{wished}
 use Rattle.nfs_files.specs.LockTold.{Names, LockTold, Stands}
 use Rattle.nfs_files.proofs.Inside as inside
@@ -41,6 +41,7 @@ use Rattle.nfs_exec.specs.Compound.{renewed, begun}
 use Rattle.nfs_exec.specs.Laws.{MachineEvent, Expires, Asks, if_runs, first_runs}
 use Rattle.nfs_exec.specs.Ops.{RanOp, done, ops, ops_in, ops_of, ops_by}
 use Rattle.nfs_exec.specs.LockHeld.{LocksFor, UnlocksFor, ClosesOf, Spares, Tells, is_of, renews}
+use Rattle.nfs_exec.proofs.Behind.{by_step}
 use Rattle.nfs_exec.proofs.Bearing.{refused_status}
 use Rattle.nfs_exec.proofs.WholeRun.{Is, whole_room, in_more, event_ops}
 
@@ -212,10 +213,10 @@ ops_run limit sofar now choice m x (i ∷ more) is d there =
 -- they run for one client
 
 step_client : (m : Machine) (x : Context) (now : ℕ) (refused : Bool) (i : Item) → Is m → (step m x now refused i).context.client ≡ x.client
-step_client m x now refused i is = elim (cases_Bool (names.on_names i)) [
-  | inl on ↦ rw on ((leaves_item refused m.store x (moment now) i).client)
-  | inr off ↦ rw off (elim (cases_Bool (files.on_files i)) [ inl on ↦ rw on (by_mark (moves_opens i)) | inr other ↦ rw other (by_item i) ])
-]
+step_client m x now refused i is =
+    by_step (λ s. s.context.client ≡ x.client) m x now refused i (λ o e. (leaves_each refused m.store x (moment now) i o e).client)
+    (for_each (λ o. (marked_if (moves_opens i) x.client (on_store m o)).context.client ≡ x.client) refused m.store x (moment now) i (by_mark (moves_opens i)))
+    (λ none other. by_item i)
   where
     by_mark : (moves : Bool) → (marked_if moves x.client (on_store m (files.comes_to refused m.store x (moment now) i))).context.client ≡ x.client
     by_mark true = (spares_others refused m.store x (moment now) i is.table.opens).client

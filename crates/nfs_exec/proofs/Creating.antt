@@ -27,7 +27,8 @@ use Rattle.nfs_sessions.specs.declared.sessions.SessionFault.TheVariants.{TooSma
 use Rattle.nfs_sessions.specs.Id.{id_bytes}
 use Rattle.nfs_sessions.specs.Sessions.{SessionTable, Created, create, create_unless, create_fault, fault_status}
 use Rattle.nfs_sessions.specs.SessionTables.{CreatesOrWants}
-use Rattle.nfs_exec.specs.Machine.{Machine, Outcome, is_delay, or_delay, refuses}
+use Rattle.nfs_names.specs.Outcome.{is_delay}
+use Rattle.nfs_exec.specs.Machine.{Machine, Outcome, or_delay, refuses}
 use Rattle.nfs_exec.specs.CreateSession.{create_session_number, session_made, made_body, by_verdict, by_created, creates, confirmed}
 use Rattle.nfs_exec.specs.View.{Does}
 

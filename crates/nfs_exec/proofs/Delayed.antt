@@ -2,6 +2,7 @@
 use Rattle.std.proofs.Common.{◌≡◌, ◌⊎◌, ℕ, zero, suc, ◌+◌, ◌≤◌, Bool, true, false, cond, eqb, ltb, List, [], ◌∷◌, ◌++◌, length, take, Option, Some, None}
 use Rattle.std.proofs.Common.{refl, sym, ◌∙◌, ap, arith, inl, inr}
 use Rattle.std.specs.Prelude.{◌&&◌, ◌||◌, not, nat_lt, slice_get}
+use Rattle.std.specs.Option.{option_map, option_map_or}
 use Rattle.std.specs.Option.{option_map_or}
 use Rattle.std.proofs.lemmas.Bool.{cases_Bool, eqb-true, eq-eqb, le-ltb, ltb-false, false≢true}
 use Rattle.std.proofs.lemmas.List.{append_assoc}
@@ -47,7 +48,7 @@ use Rattle.nfs_exec.specs.ExchangeId.{exchange_id, exchange_id_number}
 use Rattle.nfs_exec.specs.CreateSession.{create_session_number, by_verdict, creates, wish_of}
 use Rattle.nfs_exec.specs.Sequence as sequence
 use Rattle.nfs_exec.specs.Sequence.{Sequenced, sequenced, unless, by_session, slot_fault, accepted}
-use Rattle.nfs_exec.specs.Behind.{Step, stays, step, on_store, moves_opens, marked_if}
+use Rattle.nfs_exec.specs.Behind.{Step, stays, step, on_store, moves_opens, marked_if, otherwise}
 use Rattle.nfs_exec.specs.Run.{Ran, run, in_room, reserve, follow, only}
 use Rattle.nfs_exec.specs.Compound.{Answered, answers, carried_out, by_fault, first_item, renewed, begun, runs_behind, keeps, in_session, by_first}
 use Rattle.nfs_exec.specs.Compound.{bare}
@@ -125,14 +126,14 @@ files_grow s x (OpExchangeId a) e = refl
 files_grow s x (OpCreateSession a) e = refl
 files_grow s x op e = or_right (names.grows s x op) (files.grows s x op) e
 
-names_delay : (m : Machine) (x : Context) (now : ℕ) (i : Item)
-    → Delays i m x (on_store m (names.comes_to true m.store x (moment now) i)) (on_store m (names.comes_to false m.store x (moment now) i))
-names_delay m x now (Fault n status) = inl refl
-names_delay m x now (Operation op) =
-    elim (delay_or_not (names.grows m.store x op) m.store x (arguments op).op (names.one m.store x (moment now) op)) [
-      | inl same ↦ inl (ap (on_store m) same)
-      | inr want ↦ inr (record { is = ap (on_store m) want.is; wants = names_grow m.store x op want.wants; ok = want.ok })
-    ]
+abbrev named_by : Machine → Context → Op → OfStore → Bool → Step
+named_by m x op o b = on_store m (of_store.or_delay (names.grows m.store x op && b) m.store x (arguments op).op o)
+
+names_delay : (m : Machine) (x : Context) (op : Op) (o : OfStore) → Delays (Operation op) m x (named_by m x op o true) (named_by m x op o false)
+names_delay m x op o = elim (delay_or_not (names.grows m.store x op) m.store x (arguments op).op o) [
+  | inl same ↦ inl (ap (on_store m) same)
+  | inr want ↦ inr (record { is = ap (on_store m) want.is; wants = names_grow m.store x op want.wants; ok = want.ok })
+]
 
 unmoved : (moves : Bool) (m : Machine) (x : Context) (i : Item) → IsMachine m → marked_if moves x.client (stays m x i Delay) ≡ stays m x i Delay
 unmoved true m x i is = ap (λ (k : Machine). stays k x i Delay) (marked_already m x.client is)
@@ -143,26 +144,38 @@ marked_ok : (moves : Bool) (m : Machine) (x : Context) (o : OfStore) → of_stor
 marked_ok true m x o ok = ok
 marked_ok false m x o ok = ok
 
-files_delay : (m : Machine) (x : Context) (now : ℕ) (i : Item) → IsMachine m
-    → Delays i m x (marked_if (moves_opens i) x.client (on_store m (files.comes_to true m.store x (moment now) i)))
-    (marked_if (moves_opens i) x.client (on_store m (files.comes_to false m.store x (moment now) i)))
-files_delay m x now (Fault n status) is = inl refl
-files_delay m x now (Operation op) is =
+abbrev filed_by : Machine → Context → Op → OfStore → Bool → Step
+filed_by m x op o b =
+    marked_if (moves_opens (Operation op)) x.client (on_store m (of_store.or_delay (files.grows m.store x op && b) m.store x (arguments op).op o))
+
+files_delay : (m : Machine) (x : Context) (op : Op) (o : OfStore) → IsMachine m → Delays (Operation op) m x (filed_by m x op o true) (filed_by m x op o false)
+files_delay m x op o is =
     let marking : OfStore → Step = λ o. marked_if (moves_opens (Operation op)) x.client (on_store m o) in
-    elim (delay_or_not (files.grows m.store x op) m.store x (arguments op).op (files.one m.store x (moment now) op)) [
+    elim (delay_or_not (files.grows m.store x op) m.store x (arguments op).op o) [
       | inl same ↦ inl (ap marking same)
       | inr want ↦ inr (record {
         is = ap marking want.is ∙ unmoved (moves_opens (Operation op)) m x (Operation op) is;
         wants = files_grow m.store x op want.wants;
-        ok = marked_ok (moves_opens (Operation op)) m x (files.comes_to false m.store x (moment now) (Operation op)) want.ok;
+        ok = marked_ok (moves_opens (Operation op)) m x (of_store.or_delay (files.grows m.store x op && false) m.store x (arguments op).op o) want.ok;
       })
     ]
 
 step_delays : (m : Machine) (x : Context) (now : ℕ) (i : Item) → IsMachine m → Delays i m x (step m x now true i) (step m x now false i)
-step_delays m x now i is = elim (cases_Bool (names.on_names i)) [
-  | inl on ↦ rw on (names_delay m x now i)
-  | inr off ↦ rw off (elim (cases_Bool (files.on_files i)) [ inl on ↦ rw on (files_delay m x now i is) | inr other ↦ rw other (inl refl) ])
-]
+step_delays m x now (Fault n status) is = inl refl
+step_delays m x now (Operation op) is = by_whom (names.one m.store x (moment now) op) (files.one m.store x (moment now) op)
+  where
+    marking : OfStore → Step
+    marking o = marked_if (moves_opens (Operation op)) x.client (on_store m o)
+
+    stepped_by : (v w : Option OfStore) (b : Bool) → Step
+    stepped_by v w b =
+        option_map_or (on_store m) (option_map (of_store.or_delay (names.grows m.store x op && b) m.store x (arguments op).op) v)
+        (option_map_or marking (option_map (of_store.or_delay (files.grows m.store x op && b) m.store x (arguments op).op) w) (otherwise m x (Operation op)))
+
+    by_whom : (v w : Option OfStore) → Delays (Operation op) m x (stepped_by v w true) (stepped_by v w false)
+    by_whom (Some o) w = names_delay m x op o
+    by_whom None (Some o) = files_delay m x op o is
+    by_whom None None = inl refl
 
 room_delays : (limit sofar now : ℕ) (m : Machine) (x : Context) (i : Item) → IsMachine m
     → Delays i m x (in_room limit sofar now true m x i) (in_room limit sofar now false m x i)

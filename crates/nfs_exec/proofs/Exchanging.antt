@@ -14,7 +14,8 @@ use Rattle.nfs_xdr.specs.Caller.{Caller}
 use Rattle.nfs_compound.specs.SessionArgs.{ExchangeId}
 use Rattle.nfs_lease.specs.Renewals.{Book, with_lease, without_lease}
 use Rattle.nfs_results.specs.Result.{ResExchangeId, Refused}
-use Rattle.nfs_exec.specs.Machine.{Machine, IsMachine, comes_to, is_delay, or_delay}
+use Rattle.nfs_names.specs.Outcome.{is_delay}
+use Rattle.nfs_exec.specs.Machine.{Machine, IsMachine, comes_to, or_delay}
 use Rattle.nfs_exec.specs.ExchangeId.{exchange_id, exchange_id_number, granted, ask_of, exchanged}
 use Rattle.nfs_exec.specs.View.{settled}
 use Rattle.nfs_exec.proofs.Leasing.{unleased, taken_back}

@@ -1,7 +1,7 @@
 -- A lock that was told, through the operations of an event.
-use Rattle.std.proofs.Common.{◌≡◌, ℕ, ◌≤◌, Bool, true, false, List, ◌∷◌, ◌++◌, refl, sym, ◌∙◌, ap, subst, inl, inr}
+use Rattle.std.proofs.Common.{◌≡◌, ℕ, ◌≤◌, Bool, true, false, List, ◌∷◌, ◌++◌, refl, sym, ◌∙◌, ap, subst, inl}
 use Rattle.std.specs.Prelude.{◌==◌, filter}
-use Rattle.std.proofs.lemmas.Bool.{cases_Bool, eq-eqb}
+use Rattle.std.proofs.lemmas.Bool.{eq-eqb}
 use Rattle.nfs_xdr.specs.Tables.{In}
 use Rattle.nfs_xdr.proofs.Lists.{in_filter, stays_in}
 use Rattle.nfs_compound.specs.Operation.{Op, Item, Operation, Fault, OpLock}
@@ -9,9 +9,9 @@ use Rattle.nfs_opens.specs.declared.records.LockState.{LockState}
 use Rattle.nfs_opens.specs.Table.{Table}
 use Rattle.nfs_names.specs.declared.context.Context.{Context}
 use Rattle.nfs_names.specs.State.{State, moment}
-use Rattle.nfs_names.specs.Operation as names
-use Rattle.nfs_names.proofs.Untouched.{leaves_item}
-use Rattle.nfs_files.specs.Operation as files
+use Rattle.nfs_names.proofs.Untouched.{leaves_each}
+use Rattle.nfs_files.proofs.Outcomes as files
+use Rattle.nfs_files.proofs.Outcomes.{for_each}
 use Rattle.nfs_files.specs.LockTold.{LockTold, Stands}
 use Rattle.nfs_files.specs.Own.{HasAsBefore}
 use Rattle.nfs_files.proofs.Inside as inside
@@ -21,6 +21,7 @@ use Rattle.nfs_exec.specs.Behind.{step, on_store, moves_opens, marked_if}
 use Rattle.nfs_exec.specs.Laws.{MachineEvent, stepped}
 use Rattle.nfs_exec.specs.Ops.{RanOp, ops_by}
 use Rattle.nfs_exec.specs.LockHeld.{Spares, AreSpared, StandsBefore, StandsWhile, Tells, renews}
+use Rattle.nfs_exec.proofs.Behind.{by_step}
 use Rattle.nfs_exec.proofs.WholeRun.{Is, otherwise_store}
 use Rattle.nfs_exec.proofs.AnsweredRun.{in_room_is, IsRun, did_lock, spared_inside, told_stands, event_run}
 use Rattle.nfs_exec.proofs.OthersRun.{SparesClient}
@@ -48,13 +49,12 @@ Spared k m x i ok = (op : Op) → i ≡ Operation op → ok ≡ true → inside.
 
 spared_step : (k : LockTold) (m : Machine) (x : Context) (now : ℕ) (refused : Bool) (i : Item) → Is m → k.first ≤ k.last → Stands k m.store.opens
     → Spared k m x i (is_ok (step m x now refused i).outcome.status) → Stands k (step m x now refused i).outcome.machine.store.opens
-spared_step k m x now refused i is some stands = elim (cases_Bool (names.on_names i)) [
-  | inl on ↦ rw on (λ spares. subst (Stands k) (sym (leaves_item refused m.store x (moment now) i).opens) stands)
-  | inr off ↦ rw off (elim (cases_Bool (files.on_files i)) [
-    | inl on ↦ rw on (by_files (moves_opens i) i)
-    | inr other ↦ rw other (λ spares. subst (λ (s : State). Stands k s.opens) (sym (otherwise_store m x i)) stands)
-  ])
-]
+spared_step k m x now refused i is some stands =
+    by_step (λ s. Spared k m x i (is_ok s.outcome.status) → Stands k s.outcome.machine.store.opens) m x now refused i
+    (λ o e spares. subst (Stands k) (sym (leaves_each refused m.store x (moment now) i o e).opens) stands)
+    (for_each (λ o. (let s = marked_if (moves_opens i) x.client (on_store m o) in
+    Spared k m x i (is_ok s.outcome.status) → Stands k s.outcome.machine.store.opens)) refused m.store x (moment now) i (by_files (moves_opens i) i))
+    (λ none other spares. subst (λ (s : State). Stands k s.opens) (sym (otherwise_store m x i)) stands)
   where
     by_one : (moves : Bool) (op : Op) → (let s = marked_if moves x.client (on_store m (files.comes_to refused m.store x (moment now) (Operation op))) in
         (is_ok s.outcome.status ≡ true → inside.Spares k m.store x op) → Stands k s.outcome.machine.store.opens)

@@ -52,18 +52,18 @@ use Rattle.nfs_names.specs.Context.{begins}
 use Rattle.nfs_names.specs.Ending.{has_open as has_open_in}
 use Rattle.nfs_names.specs.declared.node.Node.{Node}
 use Rattle.nfs_names.specs.Checks.{current}
-use Rattle.nfs_names.specs.Operation as names
 use Rattle.nfs_names.specs.Outcome.{Outcome as OfStore}
 use Rattle.nfs_names.specs.State.{State, moment}
-use Rattle.nfs_names.proofs.Untouched.{Leaves, leaves_item}
+use Rattle.nfs_names.proofs.Untouched.{Leaves, leaves_each}
 use Rattle.nfs_opens.specs.Table.{Table}
-use Rattle.nfs_files.specs.Operation as files
+use Rattle.nfs_files.proofs.Outcomes as files
+use Rattle.nfs_files.proofs.Outcomes.{for_each}
 use Rattle.nfs_files.proofs.OwnOpens.{AreNumbered, Spares, Everybody, OthersThan, spares_all, spares_others}
 use Rattle.nfs_results.specs.Largest.{largest}
 use Rattle.nfs_exec.specs.ReclaimComplete.{reclaim_complete, of_one, of_all}
 use Rattle.nfs_exec.specs.Behind.{Step, step, on_store, moves_opens, marked_if, otherwise}
 use Rattle.nfs_exec.specs.Run.{run, in_room, reserve, is_here, behind_here}
-use Rattle.nfs_exec.proofs.Behind.{follow_kept}
+use Rattle.nfs_exec.proofs.Behind.{by_step, follow_kept}
 use Rattle.nfs_exec.proofs.Keeping.{runs_means}
 use Rattle.nfs_exec.proofs.Marks.{changed_holds, keeps_holds, confirms_holds, kept_holds, gone_holds, new_holds, open_staying, numbered_staying}
 use Rattle.nfs_exec.proofs.Marks.{numbered_without}
@@ -620,10 +620,10 @@ of_marked m client s is known spares =
 
 of_step : (m : Machine) (x : Context) (now : ℕ) (refused : Bool) (i : Item) → IsMachine m → is_confirmed m.clients x.client ≡ true →
     Stands (step m x now refused i)
-of_step m x now refused i is known = elim (cases_Bool (names.on_names i)) [
-  | inl on ↦ rw on (by_names (names.comes_to refused m.store x (moment now) i) (leaves_item refused m.store x (moment now) i))
-  | inr off ↦ rw off (elim (cases_Bool (files.on_files i)) [ inl on ↦ rw on (by_mark (moves_opens i) refl) | inr other ↦ rw other (by_item i) ])
-]
+of_step m x now refused i is known =
+    by_step Stands m x now refused i (λ o e. by_names o (leaves_each refused m.store x (moment now) i o e))
+    (for_each (λ o. Stands (marked_if (moves_opens i) x.client (on_store m o))) refused m.store x (moment now) i (by_mark (moves_opens i) refl))
+    (λ none other. by_item i)
   where
     by_names : (o : OfStore) → Leaves m.store x o.state o.context → Stands (on_store m o)
     by_names o left = record {

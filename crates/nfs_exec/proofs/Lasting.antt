@@ -35,11 +35,11 @@ use Rattle.nfs_names.specs.GetAttr.{get_attr, mask_checks}
 use Rattle.nfs_names.specs.Attributes.{attributes_of}
 use Rattle.nfs_attrs.specs.Mask.{mask_of}
 use Rattle.nfs_names.specs.Outcome as of_store
-use Rattle.nfs_names.specs.Operation as names
-use Rattle.nfs_files.specs.Operation as files
+use Rattle.nfs_files.proofs.Outcomes as files
+use Rattle.nfs_files.proofs.Outcomes.{for_each}
 use Rattle.nfs_files.proofs.Steady.{steady_names, steady_files}
 use Rattle.nfs_exec.specs.Machine.{Machine, Outcome, is_ok, or_delay}
-use Rattle.nfs_exec.specs.Behind.{step, on_store, moves_opens}
+use Rattle.nfs_exec.specs.Behind.{step, on_store, moves_opens, marked_if}
 use Rattle.nfs_exec.specs.Run.{run, in_room, is_here, behind_here}
 use Rattle.nfs_exec.specs.Place.{item_fault}
 use Rattle.nfs_exec.specs.ExchangeId.{exchange_id, exchange_id_number}
@@ -50,7 +50,7 @@ use Rattle.nfs_exec.specs.Sequence.{Sequenced, sequenced}
 use Rattle.nfs_exec.specs.Compound.{carried_out, by_fault, first_item, renewed, begun, bare, in_session, by_first, compound}
 use Rattle.nfs_exec.specs.Laws.{MachineEvent, Expires, Asks}
 use Rattle.nfs_exec.specs.Ops.{RanOp, ops, ops_in, ops_of, ops_by}
-use Rattle.nfs_exec.proofs.Behind.{follow_kept}
+use Rattle.nfs_exec.proofs.Behind.{by_step, follow_kept}
 use Rattle.nfs_exec.proofs.WholeRun.{Is, marked_store, otherwise_store, in_more}
 use Rattle.nfs_exec.proofs.AnsweredRun.{in_room_is, too_big, as_step, IsRun, event_run}
 
@@ -60,14 +60,12 @@ Lasts lease m = m.store.lease ≡ lease
 -- One operation.
 
 step_lasts : (m : Machine) (x : Context) (now : ℕ) (refused : Bool) (i : Item) (lease : ℕ) → Lasts lease m → Lasts lease (step m x now refused i).outcome.machine
-step_lasts m x now refused i lease is = elim (cases_Bool (names.on_names i)) [
-  | inl on ↦ rw on ((steady_names refused m.store x (moment now) i).lease ∙ is)
-  | inr off ↦ rw off (elim (cases_Bool (files.on_files i)) [
-    | inl on ↦ rw on (ap (λ (s : State). s.lease) (marked_store (moves_opens i) x.client (on_store m (files.comes_to refused m.store x (moment now) i)))
-        ∙ ((steady_files refused m.store x (moment now) i).lease ∙ is))
-    | inr other ↦ rw other (ap (λ (s : State). s.lease) (otherwise_store m x i) ∙ is)
-  ])
-]
+step_lasts m x now refused i lease is =
+    by_step (λ s. Lasts lease s.outcome.machine) m x now refused i (λ o e. (steady_names refused m.store x (moment now) i o e).lease ∙ is)
+    (for_each (λ o. Lasts lease (marked_if (moves_opens i) x.client (on_store m o)).outcome.machine) refused m.store x (moment now) i
+    (ap (λ (s : State). s.lease) (marked_store (moves_opens i) x.client (on_store m (files.comes_to refused m.store x (moment now) i)))
+    ∙ ((steady_files refused m.store x (moment now) i).lease ∙ is)))
+    (λ none other. ap (λ (s : State). s.lease) (otherwise_store m x i) ∙ is)
 
 room_lasts : (limit sofar now : ℕ) (refused : Bool) (m : Machine) (x : Context) (i : Item) (lease : ℕ) → Lasts lease m
     → Lasts lease (in_room limit sofar now refused m x i).outcome.machine

@@ -42,8 +42,8 @@ use Rattle.nfs_names.specs.Context.{begins}
 use Rattle.nfs_names.specs.Checks.{current}
 use Rattle.nfs_names.specs.State.{moment}
 use Rattle.nfs_names.specs.Ending.{has_open}
-use Rattle.nfs_names.specs.Operation as names
-use Rattle.nfs_files.specs.Operation as files
+use Rattle.nfs_files.proofs.Outcomes as files
+use Rattle.nfs_files.proofs.Outcomes.{for_each}
 use Rattle.nfs_exec.specs.Machine.{Machine, Outcome, is_ok, or_delay, refuses, starts}
 use Rattle.nfs_exec.specs.Behind.{step, on_store, moves_opens, marked_if, otherwise}
 use Rattle.nfs_exec.specs.Run.{run, in_room, is_here, behind_here}
@@ -57,7 +57,7 @@ use Rattle.nfs_exec.specs.Sequence.{Sequenced, sequenced}
 use Rattle.nfs_exec.specs.Compound.{carried_out, by_fault, first_item, renewed, begun, bare, Answered, in_session, by_first, compound}
 use Rattle.nfs_exec.specs.Laws.{MachineEvent, Expires, Asks, stepped, all_stepped}
 use Rattle.nfs_exec.specs.OneSession.{asks_of, asks_session, Gives, MakesOne, GivesOne}
-use Rattle.nfs_exec.proofs.Behind.{follow_kept}
+use Rattle.nfs_exec.proofs.Behind.{by_step, follow_kept}
 use Rattle.nfs_exec.proofs.Creating.{length_id}
 use Rattle.nfs_exec.proofs.AnsweredRun.{in_room_is}
 use Rattle.nfs_exec.proofs.Numbering.{IsCounted}
@@ -113,13 +113,10 @@ module _ (n : ℕ) (P : Roster → Type 0) (held : IsCarried n P) where
   otherwise_carried m x i a = a
 
   step_carried : (m : Machine) (x : Context) (now : ℕ) (refused : Bool) (i : Item) → P m.clients → P (step m x now refused i).outcome.machine.clients
-  step_carried m x now refused i a = elim (cases_Bool (names.on_names i)) [
-    | inl on ↦ rw on a
-    | inr off ↦ rw off (elim (cases_Bool (files.on_files i)) [
-      | inl on ↦ rw on (marked_carried m x now refused i (moves_opens i) a)
-      | inr other ↦ rw other (otherwise_carried m x i a)
-    ])
-  ]
+  step_carried m x now refused i a =
+      by_step (λ s. P s.outcome.machine.clients) m x now refused i (λ o e. a)
+      (for_each (λ o. P (marked_if (moves_opens i) x.client (on_store m o)).outcome.machine.clients) refused m.store x (moment now) i
+      (marked_carried m x now refused i (moves_opens i) a)) (λ none other. otherwise_carried m x i a)
 
   run_carried : (limit sofar now : ℕ) (choice : Option ℕ) (m : Machine) (x : Context) (items : List Item) → P m.clients
       → P (run limit sofar now choice m x items).machine.clients

@@ -1,7 +1,8 @@
 -- An open that was told, through the operations of an event.
-use Rattle.std.proofs.Common.{◌≡◌, ℕ, Bool, true, false, cond, List, ◌∷◌, ◌++◌, Some, refl, sym, ◌∙◌, ap, subst, inl, inr}
+use Rattle.std.proofs.Common.{◌≡◌, ℕ, Bool, true, false, cond, List, ◌∷◌, ◌++◌, Some, None, refl, sym, ◌∙◌, ap, subst, inl, inr}
 use Rattle.std.specs.Prelude.{◌==◌, filter}
-use Rattle.std.proofs.lemmas.Bool.{cases_Bool, eq-eqb, true≢false, false≢true}
+use Rattle.std.proofs.lemmas.Bool.{eq-eqb, true≢false}
+use Rattle.std.proofs.lemmas.Option.{none-some}
 use Rattle.nfs_xdr.specs.Tables.{In}
 use Rattle.nfs_xdr.specs.declared.status.Status.{Status}
 use Rattle.nfs_xdr.specs.declared.status.Status.TheVariants.{RepTooBig}
@@ -15,11 +16,15 @@ use Rattle.nfs_results.specs.Results.{spell_result, refusal}
 use Rattle.nfs_opens.specs.declared.records.OpenState.{OpenState}
 use Rattle.nfs_opens.specs.Opening.{own_open}
 use Rattle.nfs_opens.specs.Table.{Table}
+use Rattle.nfs_xdr.specs.declared.time.Time.{Time}
 use Rattle.nfs_names.specs.declared.context.Context.{Context}
-use Rattle.nfs_names.specs.State.{moment}
+use Rattle.nfs_names.specs.Outcome.{Outcome as OfStore}
+use Rattle.nfs_names.specs.State.{State, moment}
 use Rattle.nfs_names.specs.Operation as names
-use Rattle.nfs_names.proofs.Untouched.{leaves_item}
-use Rattle.nfs_files.specs.Operation as files
+use Rattle.nfs_names.proofs.Untouched.{leaves_each}
+use Rattle.nfs_files.specs.Operation as table
+use Rattle.nfs_files.proofs.Outcomes as files
+use Rattle.nfs_files.proofs.Outcomes.{for_each}
 use Rattle.nfs_files.specs.Open.{asking}
 use Rattle.nfs_files.specs.OpenDowngrade.{bits}
 use Rattle.nfs_files.specs.Own.{HasAsBefore}
@@ -34,6 +39,7 @@ use Rattle.nfs_exec.specs.Laws.{MachineEvent, stepped}
 use Rattle.nfs_exec.specs.Ops.{RanOp, ops_by}
 use Rattle.nfs_exec.specs.LockHeld.{ClosesOf, renews}
 use Rattle.nfs_exec.specs.OpenHeld.{IsOpenBefore, OpenWhile, NoneCloses, bits_left, TellsOpen}
+use Rattle.nfs_exec.proofs.Behind.{by_step}
 use Rattle.nfs_exec.proofs.WholeRun.{Is, otherwise_store}
 use Rattle.nfs_exec.proofs.AnsweredRun.{in_room_is, IsRun, as_step, told_close, event_run}
 use Rattle.nfs_exec.proofs.OthersRun.{SparesClient}
@@ -64,15 +70,17 @@ refused_bits n (Operation (OpOpenDowngrade a)) status b =
     (short_names_none Num.OpenDowngrade (op_number Num.OpenDowngrade) status n)
 refused_bits n i status b = refl
 
-named_bits : (n : ℕ) (i : Item) (text : List ℕ) (b : Bits) → names.on_names i ≡ true → bits_behind n i text b ≡ b
-named_bits n (Operation (OpOpen a)) text b on = absurd (false≢true on)
-named_bits n (Operation (OpOpenDowngrade a)) text b on = absurd (false≢true on)
-named_bits n i text b on = refl
+named_bits : (n : ℕ) (i : Item) (text : List ℕ) (b : Bits) (refused : Bool) (s : State) (x : Context) (now : Time) (o : OfStore)
+    → names.comes_to refused s x now i ≡ Some o → bits_behind n i text b ≡ b
+named_bits n (Operation (OpOpen a)) text b refused s x now o on = absurd (none-some o on)
+named_bits n (Operation (OpOpenDowngrade a)) text b refused s x now o on = absurd (none-some o on)
+named_bits n i text b refused s x now o on = refl
 
-other_bits : (n : ℕ) (i : Item) (text : List ℕ) (b : Bits) → files.on_files i ≡ false → bits_behind n i text b ≡ b
-other_bits n (Operation (OpOpen a)) text b off = absurd (true≢false off)
-other_bits n (Operation (OpOpenDowngrade a)) text b off = absurd (true≢false off)
-other_bits n i text b off = refl
+other_bits : (n : ℕ) (i : Item) (text : List ℕ) (b : Bits) (refused : Bool) (s : State) (x : Context) (now : Time)
+    → table.comes_to refused s x now i ≡ None → bits_behind n i text b ≡ b
+other_bits n (Operation (OpOpen a)) text b refused s x now off = absurd (none-some _ (sym off))
+other_bits n (Operation (OpOpenDowngrade a)) text b refused s x now off = absurd (none-some _ (sym off))
+other_bits n i text b refused s x now off = refl
 
 -- behind a step the open stands, with the bits that it has then
 abbrev StandsBehind : OpenTold → Bits → Item → Step → Type 0
@@ -83,19 +91,15 @@ ClosesNot k m x i s = (op : Op) → i ≡ Operation op → is_ok s.outcome.statu
 
 step_left : (k : OpenTold) (b : Bits) (m : Machine) (x : Context) (now : ℕ) (refused : Bool) (i : Item) → Is m → IsOpenWith k b m.store.opens
     → ClosesNot k m x i (step m x now refused i) → StandsBehind k b i (step m x now refused i)
-step_left k b m x now refused i is stands = elim (cases_Bool (names.on_names i)) [
-  | inl on ↦ rw on (λ spares.
-      (let o = names.comes_to refused m.store x (moment now) i in
-      subst (λ c. IsOpenWith k c o.state.opens) (sym (named_bits k.number i (spell_result o.result) b on))
-      (same_opens k b m.store.opens o.state.opens (ap (λ (t : Table). t.opens) (leaves_item refused m.store x (moment now) i).opens) stands)))
-  | inr off ↦ rw off (elim (cases_Bool (files.on_files i)) [
-    | inl on ↦ rw on (by_files (moves_opens i) i)
-    | inr other ↦ rw other (λ spares.
-        (let s = otherwise m x i in
-        subst (λ c. IsOpenWith k c s.outcome.machine.store.opens) (sym (other_bits k.number i s.outcome.result b other))
-        (subst (λ u. IsOpenWith k b u.opens) (sym (otherwise_store m x i)) stands)))
-  ])
-]
+step_left k b m x now refused i is stands =
+    by_step (λ s. ClosesNot k m x i s → StandsBehind k b i s) m x now refused i
+    (λ o e spares. subst (λ c. IsOpenWith k c o.state.opens) (sym (named_bits k.number i (spell_result o.result) b refused m.store x (moment now) o e))
+    (same_opens k b m.store.opens o.state.opens (ap (λ (t : Table). t.opens) (leaves_each refused m.store x (moment now) i o e).opens) stands))
+    (for_each (λ o. (let s = marked_if (moves_opens i) x.client (on_store m o) in ClosesNot k m x i s → StandsBehind k b i s)) refused m.store x (moment now) i
+    (by_files (moves_opens i) i))
+    (λ none other spares. (let s = otherwise m x i in
+    subst (λ c. IsOpenWith k c s.outcome.machine.store.opens) (sym (other_bits k.number i s.outcome.result b refused m.store x (moment now) other))
+    (subst (λ u. IsOpenWith k b u.opens) (sym (otherwise_store m x i)) stands)))
   where
     by_one : (moves : Bool) (op : Op) → (let s = marked_if moves x.client (on_store m (files.comes_to refused m.store x (moment now) (Operation op))) in
         ClosesNot k m x (Operation op) s → StandsBehind k b (Operation op) s)

@@ -12,10 +12,9 @@ use Rattle.nfs_names.specs.declared.context.Context.{Context}
 use Rattle.nfs_names.specs.declared.node.Node.{Node}
 use Rattle.nfs_names.specs.Checks.{current}
 use Rattle.nfs_names.specs.State.{State, moment}
-use Rattle.nfs_names.specs.Operation as names
-use Rattle.nfs_names.proofs.Untouched.{leaves_item}
-use Rattle.nfs_files.specs.Operation.{one}
-use Rattle.nfs_files.specs.Operation as files
+use Rattle.nfs_names.proofs.Untouched.{leaves_each}
+use Rattle.nfs_files.proofs.Outcomes as files
+use Rattle.nfs_files.proofs.Outcomes.{for_each}
 use Rattle.nfs_files.proofs.OwnOpens.{spares_others}
 use Rattle.nfs_results.specs.Largest.{largest}
 use Rattle.nfs_exec.specs.Machine.{Machine}
@@ -23,7 +22,7 @@ use Rattle.nfs_exec.specs.Behind.{step, on_store, moves_opens, marked_if, otherw
 use Rattle.nfs_exec.specs.ReclaimComplete.{reclaim_complete, of_one, of_all}
 use Rattle.nfs_exec.specs.Run.{run, in_room, reserve, is_here, behind_here}
 use Rattle.nfs_files.specs.Own.{HasAsBefore}
-use Rattle.nfs_exec.proofs.Behind.{follow_kept, other_context}
+use Rattle.nfs_exec.proofs.Behind.{by_step, follow_kept, other_context}
 use Rattle.nfs_exec.proofs.WholeRun.{Is, whole_room, otherwise_store}
 use Rattle.nfs_files.proofs.OthersTables.{same, both}
 use Rattle.nfs_files.proofs.OthersOps.{is_other, item_apart}
@@ -86,22 +85,21 @@ otherwise_apart c m x i other = refl
 
 step_apart : (c : ℕ) (m : Machine) (x : Context) (now : ℕ) (refused : Bool) (i : Item) → Is m → x.client ≢ c
     → StepsApart c m x (step m x now refused i).outcome.machine (step m x now refused i).context
-step_apart c m x now refused i is other = elim (cases_Bool (names.on_names i)) [
-  | inl on ↦ rw on (let leaves = leaves_item refused m.store x (moment now) i in (
-    record { own = subst (HasAsBefore c m.store.opens) (sym leaves.opens) (same c m.store.opens); known = refl },
-    leaves.client,
-  ))
-  | inr off ↦ rw off (elim (cases_Bool (files.on_files i)) [
-    | inl on ↦ rw on (marked_apart c m x now refused i (moves_opens i) is other)
-    | inr none ↦ rw none (
+step_apart c m x now refused i is other =
+    by_step (λ s. StepsApart c m x s.outcome.machine s.context) m x now refused i
+    (λ o e. (let leaves = leaves_each refused m.store x (moment now) i o e in (
+      record { own = subst (HasAsBefore c m.store.opens) (sym leaves.opens) (same c m.store.opens); known = refl },
+      leaves.client,
+    )))
+    (for_each (λ o. (let s = marked_if (moves_opens i) x.client (on_store m o) in StepsApart c m x s.outcome.machine s.context)) refused m.store x (moment now) i
+    (marked_apart c m x now refused i (moves_opens i) is other))
+    (λ none off. (
       record {
         own = subst (λ (s : State). HasAsBefore c m.store.opens s.opens) (sym (otherwise_store m x i)) (same c m.store.opens);
         known = otherwise_apart c m x i other;
       },
       ap (λ (x : Context). x.client) (sym (other_context m x i)),
-    )
-  ])
-]
+    ))
 
 room_apart : (c limit sofar now : ℕ) (refused : Bool) (m : Machine) (x : Context) (i : Item) → Is m → x.client ≢ c
     → StepsApart c m x (in_room limit sofar now refused m x i).outcome.machine (in_room limit sofar now refused m x i).context

@@ -1,7 +1,7 @@
 -- Nothing answers NFS4ERR_DELAY where memory is not refused.
 use Rattle.std.proofs.Common.{◌≡◌, ℕ, ◌+◌, Bool, true, false, cond, eqb, ltb, not, List, [], ◌∷◌, ◌++◌, length, Option, Some, None, refl, sym, ◌∙◌, ap, subst, inl, inr}
-use Rattle.std.specs.Prelude.{◌==◌, ◌&&◌, ◌||◌, nat_lt, nat_le, filter, is_some, unwrap_or, Result, Ok, Err}
-use Rattle.std.specs.Option.{option_map_or}
+use Rattle.std.specs.Prelude.{◌==◌, ◌&&◌, ◌||◌, nat_lt, nat_le, filter, is_some, unwrap_or, Result, Ok, Err, IfSome}
+use Rattle.std.specs.Option.{option_map, option_map_or}
 use Rattle.std.proofs.lemmas.Bool.{cases_Bool, and_parts}
 use Rattle.nfs_xdr.specs.Caller.{Caller}
 use Rattle.nfs_xdr.specs.Tables.{In}
@@ -42,12 +42,14 @@ use Rattle.nfs_sessions.specs.declared.sessions.SessionFault.TheVariants as Sess
 use Rattle.nfs_names.specs.declared.context.Context.{Context}
 use Rattle.nfs_names.specs.Context.{begins}
 use Rattle.nfs_names.specs.State.{State, moment}
-use Rattle.nfs_names.specs.Outcome.{Outcome as OfStore, or_delay as or_delay_there}
+use Rattle.nfs_names.specs.Outcome.{Outcome as OfStore, or_delay as or_delay_there, is_delay}
 use Rattle.nfs_names.specs.Checks.{current}
 use Rattle.nfs_names.specs.Operation as names
 use Rattle.nfs_names.proofs.Faulted.{status_of_refusal}
-use Rattle.nfs_files.specs.Operation as files
-use Rattle.nfs_exec.specs.Machine.{Machine, Outcome, is_ok, is_delay, or_delay, refuses as exec_refuses, starts}
+use Rattle.nfs_names.proofs.Ones.{each_of}
+use Rattle.nfs_files.proofs.Outcomes as files
+use Rattle.nfs_files.proofs.Outcomes.{for_each}
+use Rattle.nfs_exec.specs.Machine.{Machine, Outcome, is_ok, or_delay, refuses as exec_refuses, starts}
 use Rattle.nfs_exec.specs.Behind.{step, on_store, moves_opens, marked_if, otherwise}
 use Rattle.nfs_exec.specs.CreateSession.{create_session_number, by_verdict, creates, by_created, made_body, wish_of}
 use Rattle.nfs_exec.specs.Destroy.{destroy_session, destroyed_unless, has_session}
@@ -61,7 +63,7 @@ use Rattle.nfs_exec.specs.Compound.{carried_out, by_fault, first_item, bare, ren
 use Rattle.nfs_exec.specs.Delayed.{NothingDelays}
 use Rattle.nfs_exec.specs.Laws.{MachineEvent, Expires, Asks, stepped, all_stepped}
 use Rattle.nfs_exec.specs.Ops.{RanOp, ops, ops_in, ops_of}
-use Rattle.nfs_exec.proofs.Behind.{IsKeptByEach, kept_run}
+use Rattle.nfs_exec.proofs.Behind.{IsKeptByEach, by_step, kept_run}
 use Rattle.nfs_exec.proofs.WholeRun.{in_more}
 use Rattle.nfs_files.proofs.Prompt.{IsPrompt, all_pass, first_passes, not_true, first_prompt, current_prompt, names_prompt}
 use Rattle.nfs_files.proofs.PromptFiles.{files_prompt}
@@ -100,15 +102,20 @@ otherwise_prompt : (m : Machine) (x : Context) (op : Op) → is_delay (otherwise
 otherwise_prompt m x (OpReclaimComplete one) = reclaim_prompt m x one
 otherwise_prompt m x op = refused_prompt (item_number (Operation op)) (status_behind (Operation op)) (behind_prompt op)
 
+undelayed_if : (g : Bool) (s : State) (x : Context) (n : _) (v : Option OfStore) → IfSome v (λ o. is_delay (status_of_result o.result) ≡ false)
+    → IfSome (option_map (or_delay_there (g && false) s x n) v) (λ o. is_delay (status_of_result o.result) ≡ false)
+undelayed_if g s x n None prompt = tt
+undelayed_if g s x n (Some o) prompt = undelayed g s x n o prompt
+
 step_prompt : (m : Machine) (x : Context) (now : ℕ) (op : Op) → is_delay (step m x now false (Operation op)).outcome.status ≡ false
-step_prompt m x now op = elim (cases_Bool (names.on_names (Operation op))) [
-  | inl on ↦ rw on (undelayed (names.grows m.store x op) m.store x (arguments op).op (names.one m.store x (moment now) op) (names_prompt m.store x (moment now) op))
-  | inr off ↦ rw off (elim (cases_Bool (files.on_files (Operation op))) [
-    | inl on ↦ rw on (marked_prompt (moves_opens (Operation op)) m x (files.comes_to false m.store x (moment now) (Operation op))
-        (undelayed (files.grows m.store x op) m.store x (arguments op).op (files.one m.store x (moment now) op) (files_prompt m.store x (moment now) op)))
-    | inr none ↦ rw none (otherwise_prompt m x op)
-  ])
-]
+step_prompt m x now op =
+    by_step (λ s. is_delay s.outcome.status ≡ false) m x now false (Operation op)
+    (each_of (λ o. is_delay (status_of_result o.result) ≡ false) (names.comes_to false m.store x (moment now) (Operation op))
+    (undelayed_if (names.grows m.store x op) m.store x (arguments op).op (names.one m.store x (moment now) op) (names_prompt m.store x (moment now) op)))
+    (for_each (λ o. is_delay (marked_if (moves_opens (Operation op)) x.client (on_store m o)).outcome.status ≡ false) false m.store x (moment now) (Operation op)
+    (marked_prompt (moves_opens (Operation op)) m x (files.comes_to false m.store x (moment now) (Operation op))
+    (undelayed (files.grows m.store x op) m.store x (arguments op).op (files.one m.store x (moment now) op) (files_prompt m.store x (moment now) op))))
+    (λ none other. otherwise_prompt m x op)
 
 room_prompt : (limit sofar now : ℕ) (m : Machine) (x : Context) (op : Op) → is_delay (in_room limit sofar now false m x (Operation op)).outcome.status ≡ false
 room_prompt limit sofar now m x op = elim (cases_Bool (ltb limit (sofar + largest (Operation op) + reserve))) [

@@ -12,7 +12,8 @@ use Rattle.nfs_compound.specs.declared.arg.Arg.TheVariants as Args
 use Rattle.nfs_results.specs.Result.{Res}
 use Rattle.nfs_results.specs.Results.{spell_result, status_of_result, refusal}
 use Rattle.nfs_results.specs.ResultCodec.{HasArrays}
-use Rattle.nfs_exec.specs.Machine.{Machine, Outcome, comes_to, is_delay, refuses}
+use Rattle.nfs_names.specs.Outcome.{is_delay}
+use Rattle.nfs_exec.specs.Machine.{Machine, Outcome, comes_to, refuses}
 use Rattle.nfs_exec.specs.Place.{item_fault}
 use Rattle.nfs_exec.specs.Compound.{carried_out, by_fault, first_item}
 use Rattle.nfs_exec.specs.View.{Does, IsSmall}

@@ -18,7 +18,8 @@ use Rattle.nfs_slots.specs.declared.slot.Verdict.TheVariants.{Fresh, Again, Fals
 use Rattle.nfs_sessions.specs.SessionSlots.{GrantedSlots, judge}
 use Rattle.nfs_sessions.specs.Sessions.{Session, session_at}
 use Rattle.nfs_sessions.specs.Id.{id_of}
-use Rattle.nfs_exec.specs.Machine.{Machine, is_delay}
+use Rattle.nfs_names.specs.Outcome.{is_delay}
+use Rattle.nfs_exec.specs.Machine.{Machine}
 use Rattle.nfs_exec.specs.Sequence.{Sequenced, Refuses, Repeats, Runs, unless, by_verdict, by_session, slot_fault, sequenced}
 use Rattle.nfs_exec.specs.Run.{only}
 use Rattle.nfs_exec.specs.Compound.{Answered, answers, first_item, in_session, by_first, compound}

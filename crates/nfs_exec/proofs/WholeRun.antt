@@ -30,12 +30,13 @@ use Rattle.nfs_names.specs.Context.{begins}
 use Rattle.nfs_names.specs.State.{State, moment}
 use Rattle.nfs_names.specs.StoreInvariants.{IsStore}
 use Rattle.nfs_names.specs.Ending.{staying}
-use Rattle.nfs_names.specs.Operation as names
-use Rattle.nfs_names.proofs.Untouched.{leaves_item}
+use Rattle.nfs_names.proofs.Untouched.{leaves_each}
 use Rattle.nfs_names.proofs.Staying.{store_staying}
 use Rattle.nfs_names.proofs.StoreInvariants.{store_at_first}
+use Rattle.nfs_names.proofs.Ones.{each_of}
 use Rattle.nfs_names.proofs.Whole as of_names
-use Rattle.nfs_files.specs.Operation as files
+use Rattle.nfs_files.proofs.Outcomes as files
+use Rattle.nfs_files.proofs.Outcomes.{for_each}
 use Rattle.nfs_files.proofs.Whole.{store_left}
 use Rattle.nfs_exec.specs.Machine.{Machine, Outcome, is_ok, or_delay, starts, HasNoClashes}
 use Rattle.nfs_exec.specs.Behind.{Step, step, on_store, moves_opens, marked_if, otherwise}
@@ -49,7 +50,7 @@ use Rattle.nfs_exec.specs.Sequence as sequence
 use Rattle.nfs_exec.specs.Sequence.{Sequenced, sequenced}
 use Rattle.nfs_exec.specs.Compound.{carried_out, by_fault, first_item, renewed, begun, in_session, by_first, compound}
 use Rattle.nfs_exec.specs.Laws.{MachineEvent, Expires, Asks, stepped, all_stepped}
-use Rattle.nfs_exec.proofs.Behind.{follow_kept}
+use Rattle.nfs_exec.proofs.Behind.{by_step, follow_kept}
 use Rattle.nfs_exec.specs.Ops.{RanOp, ops, ops_in, ops_of, ops_by}
 use Rattle.nfs_exec.specs.Runs.{NoneInRuns}
 use Rattle.nfs_files.proofs.TreeSteps.{tree_names}
@@ -71,10 +72,6 @@ whole_ended stays s is = record {
   few = is.few;
 }
 
-store_files : (refused : Bool) (s : State) (x : Context) (now : ℕ) (i : Item) → IsWhole s → IsStore (files.comes_to refused s x (moment now) i).state
-store_files refused s x now (Operation op) is = store_left refused s x (moment now) op is.tree is.table is.store
-store_files refused s x now (Fault n status) is = is.store
-
 pub marked_store : (moves : Bool) (client : ℕ) (s : Step) → (marked_if moves client s).outcome.machine.store ≡ s.outcome.machine.store
 marked_store true client s = refl
 marked_store false client s = refl
@@ -95,23 +92,21 @@ otherwise_store m x (Operation (OpReclaimComplete one)) = reclaim_store m x one
 otherwise_store m x i = refl
 
 whole_step : (m : Machine) (x : Context) (now : ℕ) (refused : Bool) (i : Item) → Is m → Is (step m x now refused i).outcome.machine
-whole_step m x now refused i is = elim (cases_Bool (names.on_names i)) [
-  | inl on ↦ rw on (record {
-    tree = tree_names refused m.store x (moment now) i is.tree is.store;
-    store = (of_names.keeps refused m.store x (moment now) i on is.tree is.store).store;
-    table = subst IsTable (sym (leaves_item refused m.store x (moment now) i).opens) is.table;
-    few = (steady_names refused m.store x (moment now) i).few is.few;
-  })
-  | inr off ↦ rw off (elim (cases_Bool (files.on_files i)) [
-    | inl on ↦ rw on (subst IsWhole (sym (marked_store (moves_opens i) x.client (on_store m (files.comes_to refused m.store x (moment now) i)))) (record {
+whole_step m x now refused i is =
+    by_step (λ s. Is s.outcome.machine) m x now refused i (λ o e. record {
+      tree = tree_names refused m.store x (moment now) i is.tree is.store o e;
+      store = (each_of (of_names.Keeps i) _ (of_names.keeps refused m.store x (moment now) i is.tree is.store) o e).store;
+      table = subst IsTable (sym (leaves_each refused m.store x (moment now) i o e).opens) is.table;
+      few = (steady_names refused m.store x (moment now) i o e).few is.few;
+    })
+    (for_each (λ o. Is (marked_if (moves_opens i) x.client (on_store m o)).outcome.machine) refused m.store x (moment now) i
+    (subst IsWhole (sym (marked_store (moves_opens i) x.client (on_store m (files.comes_to refused m.store x (moment now) i)))) (record {
       tree = tree_files refused m.store x (moment now) i is;
-      store = store_files refused m.store x now i is;
+      store = store_left refused m.store x (moment now) i is.tree is.table is.store;
       table = table_item refused m.store x (moment now) i is.tree is.store is.table;
       few = (steady_files refused m.store x (moment now) i).few is.few;
-    }))
-    | inr other ↦ rw other (subst IsWhole (sym (otherwise_store m x i)) is)
-  ])
-]
+    })))
+    (λ none other. subst IsWhole (sym (otherwise_store m x i)) is)
 
 pub whole_room : (limit sofar now : ℕ) (refused : Bool) (m : Machine) (x : Context) (i : Item) → Is m → Is (in_room limit sofar now refused m x i).outcome.machine
 whole_room limit sofar now refused m x i is = elim (cases_Bool (ltb limit (sofar + largest i + reserve))) [

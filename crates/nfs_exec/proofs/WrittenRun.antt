@@ -32,8 +32,8 @@ use Rattle.nfs_names.specs.Outcome.{checked, answers}
 use Rattle.nfs_names.specs.Outcome as outcome
 use Rattle.nfs_names.specs.PutFh.{or_bad, handle_checks, put_fh}
 use Rattle.nfs_names.specs.State.{State, moment, is_open, is_used}
-use Rattle.nfs_names.specs.Operation as names
-use Rattle.nfs_files.specs.Operation as files
+use Rattle.nfs_files.proofs.Outcomes as files
+use Rattle.nfs_files.proofs.Outcomes.{for_each}
 use Rattle.nfs_files.specs.Written.{Byte, StandsIn, Lasts, Writes, Spares, Reads, GivesIt}
 use Rattle.nfs_files.proofs.TreeFiles.{IsWhole}
 use Rattle.nfs_files.proofs.WrittenOps.{lasts_staying, spared_bytes_last, names_leave_bytes}
@@ -50,6 +50,7 @@ use Rattle.nfs_exec.specs.Laws.{MachineEvent, Expires, Asks, stepped, all_steppe
 use Rattle.nfs_exec.specs.Ops.{RanOp, done, ops, ops_in, ops_of, ops_by, left_by, AreChained}
 use Rattle.nfs_exec.specs.LockHeld.{IsAlone}
 use Rattle.nfs_exec.specs.WrittenRun.{WritesIt, SparesIt, AreSpared, StandsBefore, StandsWhile, StandsInRuns}
+use Rattle.nfs_exec.proofs.Behind.{by_step}
 use Rattle.nfs_exec.proofs.WholeRun.{Is, otherwise_store, whole_events, start_whole}
 use Rattle.nfs_exec.proofs.OpsRun.{are_run}
 use Rattle.nfs_exec.proofs.Lone.{HoldsForOthers, holds_alone}
@@ -69,13 +70,11 @@ marked_left b m x now refused i true is = λ spares. spared_bytes_last b refused
 marked_left b m x now refused i false is = λ spares. spared_bytes_last b refused m.store x (moment now) i is spares
 
 step_left : (b : Byte) (m : Machine) (x : Context) (now : ℕ) (refused : Bool) (i : Item) → LastsIn b m → LeftBy b m x i (step m x now refused i)
-step_left b m x now refused i is = elim (cases_Bool (names.on_names i)) [
-  | inl on ↦ rw on (λ spares. names_leave_bytes b refused m.store x (moment now) i is)
-  | inr off ↦ rw off (elim (cases_Bool (files.on_files i)) [
-    | inl on ↦ rw on (marked_left b m x now refused i (moves_opens i) is)
-    | inr other ↦ rw other (λ spares. subst (λ (s : State). Lasts b s.tree) (sym (otherwise_store m x i)) is)
-  ])
-]
+step_left b m x now refused i is =
+    by_step (LeftBy b m x i) m x now refused i (λ o e spares. names_leave_bytes b refused m.store x (moment now) i is o e)
+    (for_each (λ o. LeftBy b m x i (marked_if (moves_opens i) x.client (on_store m o))) refused m.store x (moment now) i
+    (marked_left b m x now refused i (moves_opens i) is))
+    (λ none other spares. subst (λ (s : State). Lasts b s.tree) (sym (otherwise_store m x i)) is)
 
 -- what spares it leaves it
 left_run : (b : Byte) (d : RanOp) → IsRun d → LastsIn b d.before → SparesIt b d → LastsIn b d.behind

@@ -1,5 +1,6 @@
 -- One operation behind a SEQUENCE (RFC 8881 section 2.10.6.4): what it comes to, and the context in which the next one runs.
 use Rattle.std.specs.Prelude.{ℕ, Bool, true, false, if◌then◌else◌}
+use Rattle.std.specs.Option.{option_map_or}
 use Rattle.nfs_xdr.specs.declared.status.Status.{Status}
 use Rattle.nfs_compound.specs.Request.{item_number}
 use Rattle.nfs_compound.specs.Operation.{OpClose, OpOpen, OpReclaimComplete, Item, Operation}
@@ -42,9 +43,9 @@ abbrev pub otherwise : Machine → Context → Item → Step
 otherwise m x (Operation (OpReclaimComplete one)) = record { outcome = reclaim_complete m x one; context = x }
 otherwise m x item = stays m x item (status_behind item)
 
--- an item behind a SEQUENCE, at a moment in seconds, where memory was refused or not
+-- An item behind a SEQUENCE, at a moment in seconds, where memory was refused or not: an operation on names or attributes, one on open
+-- files, or one that is not on the store.
 abbrev pub step : Machine → Context → (now : ℕ) → (refused : Bool) → Item → Step
 step m x now refused item =
-    if names.on_names item then on_store m (names.comes_to refused m.store x (moment now) item)
-    else if files.on_files item then marked_if (moves_opens item) x.client (on_store m (files.comes_to refused m.store x (moment now) item))
-    else otherwise m x item
+    option_map_or (on_store m) (names.comes_to refused m.store x (moment now) item)
+    (option_map_or (λ o. marked_if (moves_opens item) x.client (on_store m o)) (files.comes_to refused m.store x (moment now) item) (otherwise m x item))

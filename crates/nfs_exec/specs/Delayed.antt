@@ -13,7 +13,8 @@ use Rattle.nfs_names.specs.declared.context.Context.{Context}
 use Rattle.nfs_names.specs.State.{State}
 use Rattle.nfs_names.specs.Operation as names
 use Rattle.nfs_files.specs.Operation as files
-use Rattle.nfs_exec.specs.Machine.{Machine, IsMachine, starts, is_delay}
+use Rattle.nfs_names.specs.Outcome.{is_delay}
+use Rattle.nfs_exec.specs.Machine.{Machine, IsMachine, starts}
 use Rattle.nfs_exec.specs.Sequence.{Refuses, sequenced}
 use Rattle.nfs_exec.specs.Compound.{Answered, first_item, keeps, compound}
 use Rattle.nfs_exec.specs.Laws.{MachineEvent, Asks, all_stepped, first_runs}

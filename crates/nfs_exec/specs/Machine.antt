@@ -47,9 +47,6 @@ pub record Outcome : Type 0 where
 abbrev pub is_ok : Status → Bool
 is_ok s = status_number s == status_number Nfs4Ok
 
-abbrev pub is_delay : Status → Bool
-is_delay s = status_number s == status_number Delay
-
 -- a result that is a value
 abbrev pub comes_to : Machine → Res → Outcome
 comes_to m r = record { status = status_of_result r; result = spell_result r; machine = m }

@@ -11,7 +11,8 @@ ghost use Rattle.nfs_results.specs.MayAnswer.{MayAnswer};
 ghost use Rattle.nfs_results.specs.Result.{Refused};
 ghost use Rattle.nfs_results.specs.Results.{status_of_result};
 ghost use Rattle.nfs_results.specs.View as view;
-ghost use Rattle.nfs_exec.specs.Machine.{IsMachine, comes_to, is_delay, or_delay, machine_of};
+ghost use Rattle.nfs_names.specs.Outcome.{is_delay};
+ghost use Rattle.nfs_exec.specs.Machine.{IsMachine, comes_to, or_delay, machine_of};
 ghost use Rattle.nfs_exec.specs.ExchangeId.{exchange_id, exchange_id_number, granted};
 ghost use Rattle.nfs_exec.specs.View.{settled};
 

@@ -1,6 +1,6 @@
 //! The operations of a compound behind its SEQUENCE (RFC 8881 section 2.3).
 
-ghost use Rattle.std.specs.Prelude.{◌≡◌, ◌≤◌, ◌<◌, ◌^◌, ◌+◌, ◌-◌, ℕ, true, Option, length};
+ghost use Rattle.std.specs.Prelude.{◌≡◌, ◌≤◌, ◌<◌, ◌^◌, ◌+◌, ◌-◌, ℕ, Option, length, if◌then◌else◌};
 ghost use Rattle.nfs_xdr.specs.Tables.{In};
 ghost use Rattle.nfs_xdr.specs.declared.status.Status.TheVariants.{Nfs4Ok};
 ghost use Rattle.nfs_compound.specs.Operation.{Item};
@@ -9,20 +9,19 @@ ghost use Rattle.nfs_results.specs.Largest.{largest};
 ghost use Rattle.nfs_results.specs.Results.{spell_result};
 ghost use Rattle.nfs_results.specs.ResultCodec.{IsBounded};
 ghost use Rattle.nfs_results.specs.View as view;
-ghost use Rattle.nfs_names.specs.State.{moment};
 ghost use Rattle.nfs_names.specs.StoreInvariants.{IsStore};
-ghost use Rattle.nfs_files.specs.Operation as files;
 ghost use Rattle.nfs_sessions.specs.SessionSlots.{rpc_head};
-ghost use Rattle.nfs_exec.specs.Machine.{comes_to, is_delay, machine_of};
+ghost use Rattle.nfs_names.specs.Outcome.{is_delay};
+ghost use Rattle.nfs_exec.specs.Machine.{comes_to, machine_of, with_mark};
 ghost use Rattle.nfs_exec.specs.Place.{status_behind};
-ghost use Rattle.nfs_exec.specs.Behind.{step, on_store, moves_opens, marked_if, otherwise};
+ghost use Rattle.nfs_exec.specs.Behind.{step, moves_opens, otherwise};
 ghost use Rattle.nfs_exec.specs.Run.{run, in_room, reserve};
 ghost use Rattle.nfs_exec.specs.View.{RunsTo, Steps, CanBear};
 
 use crate::tables::Tables;
 use nfs_compound::{Arg, Compound};
-use nfs_files::{file_op, is_on_files};
-use nfs_names::{Context, is_on_names, name_op};
+use nfs_files::file_op;
+use nfs_names::{Context, name_op};
 use nfs_results::{Res, largest, write};
 use nfs_sessions::RPC_HEAD;
 use nfs_xdr::{Sheet, Status};
@@ -128,41 +127,27 @@ impl Tables {
         ensures more { result ≡ Nfs4Ok → length out.new.bytes ≤ length out.old.bytes + largest (item arg.now) }
         ensures store { IsStore (machine_of self.new).store }
     {
-        if is_on_names(arg) {
-            return name_op(alloc, &mut self.store, context, arg, now, out);
+        let client = context.client;
+        if let Some(status) = name_op(alloc, &mut self.store, context, arg, now, out) {
+            return status;
         }
-        if is_on_files(arg) {
-            return self.file_step(alloc, arg, context, now, out);
+        if let Some(status) = file_op(alloc, &mut self.store, context, arg, now, out) {
+            self.mark_open(arg, client);
+            return status;
         }
         let res = self.otherwise(arg, context);
         write(&res, out);
         res.status()
     }
 
-    /// Runs an operation on open files. Behind OPEN and CLOSE its client's record is marked where one of its opens stands.
-    fn file_step(
-        &mut self,
-        alloc: Global,
-        arg: &Arg<'_>,
-        context: &mut Context<'_>,
-        now: u64,
-        out: &mut Sheet,
-    ) -> Status
-        requires offered { files.on_files (item arg.now) ≡ true }
-        requires moment { now < 2 ^ 63 }
-        requires store { IsStore (machine_of self.old).store }
-        requires room { length out.old.bytes + largest (item arg.now) ≤ out.old.room }
-        ensures steps { Steps (marked_if (moves_opens (item arg.now)) context.old.client (on_store (machine_of self.old) (files.comes_to (is_delay result) (machine_of self.old).store context.old (moment now) (item arg.now))))
-            result (machine_of self.new) context.new out.old out.new }
-        ensures within { length out.new.bytes ≤ length out.old.bytes + largest (item arg.now) }
-        ensures store { IsStore (machine_of self.new).store }
+    /// Behind OPEN and CLOSE their client's record is marked where one of its opens stands.
+    fn mark_open(&mut self, arg: &Arg<'_>, client: u64)
+        ensures marked { machine_of self.new ≡ (if moves_opens (item arg.now) then with_mark client (machine_of self.old) else machine_of self.old) }
+        ensures store { self.new.store ≡ self.old.store }
     {
-        let client = context.client;
-        let status = file_op(alloc, &mut self.store, context, arg, now, out);
         if moves_opens(arg) {
             self.clients.hold(client, self.store.has_open(client));
         }
-        status
     }
 
     /// What an operation that is not on the store comes to.

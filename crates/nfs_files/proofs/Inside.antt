@@ -19,7 +19,7 @@ use Rattle.nfs_names.specs.Outcome.{is_ok}
 use Rattle.nfs_files.specs.Target.{target}
 use Rattle.nfs_files.specs.Lock.{locking, locks_as}
 use Rattle.nfs_files.specs.LockU.{unlocking}
-use Rattle.nfs_files.specs.Operation.{one_or_delay}
+use Rattle.nfs_files.proofs.Outcomes.{one_or_delay}
 use Rattle.nfs_files.specs.LockTold.{LockTold, IsBeside, IsAlike, Stands, Clashes}
 
 -- a LOCK that is granted: lock state n holds the bytes of the wish from now on

@@ -21,6 +21,7 @@ pub mod Closed
 pub mod OpenAnswers
 pub mod Granted
 pub mod OwnOpens
+pub mod Outcomes
 pub mod Arms
 pub mod Whole
 pub mod OpenTree

@@ -46,12 +46,14 @@ use Rattle.nfs_names.specs.State.{State}
 use Rattle.nfs_names.specs.Ending.{with_opens}
 use Rattle.nfs_names.specs.Outcome.{answers, checked, mapped}
 use Rattle.nfs_names.proofs.Found.{came, checked_ok}
-use Rattle.nfs_names.proofs.Untouched.{unused_opens, by_delay}
+use Rattle.nfs_names.proofs.Ones.{by_delay}
+use Rattle.nfs_names.proofs.Untouched.{unused_opens}
 use Rattle.nfs_files.specs.declared.ranges.Wished.{Wished}
 use Rattle.nfs_files.specs.StateIds.{meant}
 use Rattle.nfs_files.specs.Target.{target, the_file}
 use Rattle.nfs_files.specs.Ranges.{range, wish, wished, wished_by}
-use Rattle.nfs_files.specs.Operation.{one, grows, comes_to}
+use Rattle.nfs_files.specs.Operation.{grows}
+use Rattle.nfs_files.proofs.Outcomes.{one, comes_to}
 use Rattle.nfs_files.specs.Close.{closed, closes, close}
 use Rattle.nfs_files.specs.Commit.{commit}
 use Rattle.nfs_files.specs.FreeStateid.{frees, free_stateid}
@@ -339,5 +341,5 @@ one_apart c s x now op is other = same c s.opens
 
 pub item_apart : (c : ℕ) (refused : Bool) (s : State) (x : Context) (now : Time) (i : Item) → IsTable s.opens → x.client ≢ c → Apart c s (comes_to refused s x now i).state
 item_apart c refused s x now (Operation op) is other =
-    by_delay (λ u y. Apart c s u) (grows s x op && refused) s x (arguments op).op (one s x now op) (same c s.opens) (one_apart c s x now op is other)
+    by_delay (λ o. Apart c s o.state) (grows s x op && refused) s x (arguments op).op (one s x now op) (same c s.opens) (one_apart c s x now op is other)
 item_apart c refused s x now (Fault n status) is other = same c s.opens

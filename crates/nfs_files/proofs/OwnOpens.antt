@@ -46,8 +46,10 @@ use Rattle.nfs_names.specs.declared.context.Context.{Context}
 use Rattle.nfs_names.specs.State.{State}
 use Rattle.nfs_names.specs.Ending.{with_opens}
 use Rattle.nfs_names.specs.Outcome.{done, checked, answers}
-use Rattle.nfs_names.proofs.Untouched.{unused_opens, by_answers, by_delay}
-use Rattle.nfs_files.specs.Operation.{one, grows, comes_to}
+use Rattle.nfs_names.proofs.Ones.{by_delay}
+use Rattle.nfs_names.proofs.Untouched.{unused_opens, by_answers}
+use Rattle.nfs_files.specs.Operation.{grows}
+use Rattle.nfs_files.proofs.Outcomes.{one, comes_to}
 use Rattle.nfs_files.specs.StateIds.{meant}
 use Rattle.nfs_files.specs.Target.{target}
 use Rattle.nfs_files.specs.Close.{closed, closes, close}
@@ -353,13 +355,13 @@ own_one s x now op is = weaker (OthersThan x.client) s x (one s x now op).state
 pub spares_all : (b : Bool) (s : State) (x : Context) (now : Time) (i : Item) → ((a : _) → i ≡ Operation (OpClose a) → ⊥)
     → ((a : _) → i ≡ Operation (OpOpen a) → ⊥) → AreNumbered s.opens → SparesIn Everybody s x (comes_to b s x now i).state (comes_to b s x now i).context
 spares_all b s x now (Operation op) close open_it is =
-    by_delay (SparesIn Everybody s x) (grows s x op && b) s x (arguments op).op (one s x now op) (nothing Everybody s x is)
+    by_delay (λ o. SparesIn Everybody s x o.state o.context) (grows s x op && b) s x (arguments op).op (one s x now op) (nothing Everybody s x is)
     (still_one s x now op (λ a e. close a (ap Operation e)) (λ a e. open_it a (ap Operation e)) is)
 spares_all b s x now (Fault n status) close open_it is = nothing Everybody s x is
 
 -- .. and of their own client alone
 pub spares_others : (b : Bool) (s : State) (x : Context) (now : Time) (i : Item) → AreNumbered s.opens
     → SparesIn (OthersThan x.client) s x (comes_to b s x now i).state (comes_to b s x now i).context
-spares_others b s x now (Operation op) is = by_delay (SparesIn (OthersThan x.client) s x) (grows s x op && b) s x
+spares_others b s x now (Operation op) is = by_delay (λ o. SparesIn (OthersThan x.client) s x o.state o.context) (grows s x op && b) s x
     (arguments op).op (one s x now op) (nothing (OthersThan x.client) s x is) (own_one s x now op is)
 spares_others b s x now (Fault n status) is = nothing (OthersThan x.client) s x is

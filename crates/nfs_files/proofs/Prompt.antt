@@ -1,16 +1,15 @@
 -- What answers no NFS4ERR_DELAY: checks of which none does, and what is made of them; and the operations on names.
 use Rattle.std.proofs.Common.{◌≡◌, ℕ, Bool, true, false, cond, not, List, [], ◌∷◌, ◌++◌, Option, Some, None, refl, sym, ◌∙◌, ap, inl, inr}
-use Rattle.std.specs.Prelude.{◌&&◌, Result, Ok, Err}
+use Rattle.std.specs.Prelude.{◌&&◌, Result, Ok, Err, IfSome}
 use Rattle.std.proofs.lemmas.Bool.{cases_Bool, and_parts}
 use Rattle.nfs_xdr.specs.Checks.{first_fault}
 use Rattle.nfs_xdr.specs.declared.time.Time.{Time}
 use Rattle.nfs_xdr.specs.declared.status.Status.{Status}
-use Rattle.nfs_xdr.specs.declared.status.Status.TheVariants.{NoFileHandle, Stale, BadHandle, NotSupp}
+use Rattle.nfs_xdr.specs.declared.status.Status.TheVariants.{NoFileHandle, Stale, BadHandle}
 use Rattle.nfs_compound.specs.NameArgs as args
 use Rattle.nfs_compound.specs.declared.name_args.SecinfoStyle.{SecinfoStyle}
 use Rattle.nfs_compound.specs.declared.name_args.SecinfoStyle.TheVariants.{CurrentFh, Parent}
 use Rattle.nfs_compound.specs.Attributes.{Attributes}
-use Rattle.nfs_compound.specs.Arguments.{arguments}
 use Rattle.nfs_compound.specs.OpNum.{op_number}
 use Rattle.nfs_compound.specs.declared.op_num.OpNum.{OpNum}
 use Rattle.nfs_compound.specs.declared.op_num.OpNum.TheVariants as Num
@@ -165,7 +164,7 @@ renamed_prompt : (s : State) (x : Context) (now : Time) (a : args.Rename) (p : _
 renamed_prompt s x now a p true = refl
 renamed_prompt s x now a p false = refl
 
-pub names_prompt : (s : State) (x : Context) (now : Time) (op : Op) → is_delay (status_of_result (one s x now op).result) ≡ false
+pub names_prompt : (s : State) (x : Context) (now : Time) (op : Op) → IfSome (one s x now op) (λ o. is_delay (status_of_result o.result) ≡ false)
 unfolding access create get_attr get_fh link lookup lookup_p nverify put_fh put_pub_fh
     put_root_fh read_dir read_link remove rename restore_fh save_fh secinfo_no_name verify
 names_prompt s x now (OpAccess asked) = answered_prompt s x Num.Access (current s x) _ (current_prompt s x) (λ d. refl)
@@ -194,4 +193,4 @@ names_prompt s x now OpSaveFh = answered_prompt s x Num.SaveFh (current s x) _ (
 names_prompt s x now (OpSecinfoNoName style) =
     answered_prompt s x Num.SecinfoNoName _ _ (checked_prompt (current s x) (style_checks s style) (current_prompt s x) (style_prompt s style)) (λ d. refl)
 names_prompt s x now (OpVerify a) = answered_prompt s x Num.Verify _ _ (checked_prompt (compared s x a) _ (compared_prompt s x a) (λ b. refl)) (λ b. refl)
-names_prompt s x now op = ap is_delay (status_of_refusal (op_number (arguments op).op) NotSupp)
+names_prompt s x now op = tt

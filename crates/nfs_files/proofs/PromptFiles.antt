@@ -54,7 +54,7 @@ use Rattle.nfs_files.specs.StateIds.{state_id, meant}
 use Rattle.nfs_files.specs.Target.{target, the_file}
 use Rattle.nfs_files.specs.Ranges.{last_of, range_checks, range, wished, wished_by}
 use Rattle.nfs_files.specs.Denied.{status_of}
-use Rattle.nfs_files.specs.Operation.{one}
+use Rattle.nfs_files.proofs.Outcomes.{one}
 use Rattle.nfs_files.specs.Close.{closes, close}
 use Rattle.nfs_files.specs.Commit.{commit}
 use Rattle.nfs_files.specs.FreeStateid.{frees, free_stateid}

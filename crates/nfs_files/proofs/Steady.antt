@@ -1,6 +1,7 @@
 -- What no operation changes: how long a lease lasts. And numbers of opens and lock states stay below 2^64, since none is given behind the last.
 use Rattle.std.proofs.Common.{◌≡◌, ℕ, ◌≤◌, Bool, true, false, cond, eqb, List, Option, Some, None, refl, sym, ap, subst, arith, inl, inr}
-use Rattle.std.specs.Prelude.{◌&&◌, Result, Ok, Err, is_none}
+use Rattle.std.specs.Prelude.{◌&&◌, Result, Ok, Err, IfSome, is_none}
+use Rattle.std.specs.Option.{ForSome}
 use Rattle.std.specs.List.{list_any}
 use Rattle.std.proofs.lemmas.Bool.{cases_Bool, eqb-false}
 use Rattle.nfs_xdr.specs.declared.time.Time.{Time}
@@ -66,10 +67,12 @@ use Rattle.nfs_names.specs.SaveFh.{save_fh}
 use Rattle.nfs_names.specs.SecinfoNoName.{secinfo_no_name}
 use Rattle.nfs_names.specs.Verify.{verify}
 use Rattle.nfs_names.proofs.Found.{checked_ok}
-use Rattle.nfs_names.proofs.Untouched.{unused_opens, by_delay, leaves_item}
+use Rattle.nfs_names.proofs.Ones.{by_delay, if_delayed, if_both, each_of}
+use Rattle.nfs_names.proofs.Untouched.{unused_opens, leaves_item}
 use Rattle.nfs_files.specs.StateIds.{meant}
 use Rattle.nfs_files.specs.Target.{target}
-use Rattle.nfs_files.specs.Operation.{one, grows, comes_to}
+use Rattle.nfs_files.specs.Operation.{grows}
+use Rattle.nfs_files.proofs.Outcomes.{one, comes_to}
 use Rattle.nfs_files.specs.Close.{closed, closes, close}
 use Rattle.nfs_files.specs.Commit.{commit}
 use Rattle.nfs_files.specs.FreeStateid.{frees, free_stateid}
@@ -114,7 +117,7 @@ lease_rename : (s : State) (x : Context) (now : Time) (a : name_args.Rename) (p 
 lease_rename s x now a p true = replaced_lease (with_tree s (with_moved s.tree (move_of a p) now)) (looked_up s.tree p.current.number a.newname)
 lease_rename s x now a p false = refl
 
-lease_name : (s : State) (x : Context) (now : Time) (op : Op) → HasLease s (names.one s x now op).state
+lease_name : (s : State) (x : Context) (now : Time) (op : Op) → IfSome (names.one s x now op) (λ o. HasLease s o.state)
 unfolding access create get_attr get_fh link lookup lookup_p nverify put_fh put_pub_fh
     put_root_fh read_dir read_link remove rename restore_fh save_fh secinfo_no_name verify
 lease_name s x now (OpAccess asked) = found (HasLease s) s x Num.Access _ _ refl (λ d e. refl)
@@ -137,18 +140,18 @@ lease_name s x now OpRestoreFh = found (HasLease s) s x Num.RestoreFh _ _ refl (
 lease_name s x now OpSaveFh = found (HasLease s) s x Num.SaveFh _ _ refl (λ d e. refl)
 lease_name s x now (OpSecinfoNoName style) = found (HasLease s) s x Num.SecinfoNoName _ _ refl (λ d e. refl)
 lease_name s x now (OpVerify a) = found (HasLease s) s x Num.Verify _ _ refl (λ d e. refl)
-lease_name s x now op = refl
+lease_name s x now op = tt
 
-names_lease : (refused : Bool) (s : State) (x : Context) (now : Time) (i : Item) → HasLease s (names.comes_to refused s x now i).state
+names_lease : (refused : Bool) (s : State) (x : Context) (now : Time) (i : Item) → IfSome (names.comes_to refused s x now i) (λ o. HasLease s o.state)
 names_lease refused s x now (Operation op) =
-    by_delay (λ t x. HasLease s t) (names.grows s x op && refused) s x (arguments op).op (names.one s x now op) refl (lease_name s x now op)
-names_lease refused s x now (Fault n status) = refl
+    if_delayed (λ o. HasLease s o.state) (names.grows s x op && refused) s x (arguments op).op (names.one s x now op) refl (lease_name s x now op)
+names_lease refused s x now (Fault n status) = tt
 
-pub steady_names : (refused : Bool) (s : State) (x : Context) (now : Time) (i : Item) → IsSteady s (names.comes_to refused s x now i).state
-steady_names refused s x now i = record {
-  lease = names_lease refused s x now i;
-  few = λ few. subst Few (sym (leaves_item refused s x now i).opens) few;
-}
+pub steady_names : (refused : Bool) (s : State) (x : Context) (now : Time) (i : Item) → ForSome (names.comes_to refused s x now i) (λ o. IsSteady s o.state)
+steady_names refused s x now i =
+    each_of (λ o. IsSteady s o.state) (names.comes_to refused s x now i)
+    (if_both (names.comes_to refused s x now i) (names_lease refused s x now i) (leaves_item refused s x now i)
+    (λ o lease leaves. record { lease = lease; few = λ few. subst Few (sym leaves.opens) few }))
 
 -- Operations on open files.
 
@@ -306,5 +309,5 @@ steady_one s x now op = same s
 
 pub steady_files : (refused : Bool) (s : State) (x : Context) (now : Time) (i : Item) → IsSteady s (comes_to refused s x now i).state
 steady_files refused s x now (Operation op) =
-    by_delay (λ t x. IsSteady s t) (grows s x op && refused) s x (arguments op).op (one s x now op) (same s) (steady_one s x now op)
+    by_delay (λ o. IsSteady s o.state) (grows s x op && refused) s x (arguments op).op (one s x now op) (same s) (steady_one s x now op)
 steady_files refused s x now (Fault n status) = same s

@@ -57,10 +57,12 @@ use Rattle.nfs_tree.specs.TreeInvariants.{IsTree}
 use Rattle.nfs_names.specs.Ending.{with_opens, table_staying}
 use Rattle.nfs_names.specs.Outcome.{answers, checked, passed, or_delay, is_ok}
 use Rattle.nfs_names.proofs.Found.{checked_ok}
-use Rattle.nfs_names.proofs.Untouched.{unused_opens, by_delay}
+use Rattle.nfs_names.proofs.Ones.{by_delay}
+use Rattle.nfs_names.proofs.Untouched.{unused_opens}
 use Rattle.nfs_files.specs.StateIds.{meant}
 use Rattle.nfs_files.specs.Target.{target}
-use Rattle.nfs_files.specs.Operation.{one, grows, one_or_delay, comes_to}
+use Rattle.nfs_files.specs.Operation.{grows}
+use Rattle.nfs_files.proofs.Outcomes.{one, one_or_delay, comes_to}
 use Rattle.nfs_files.specs.Close.{closed, closes, close}
 use Rattle.nfs_files.specs.Commit.{commit}
 use Rattle.nfs_files.specs.FreeStateid.{frees, free_stateid}
@@ -362,7 +364,7 @@ table_one s x now op tree store is = is
 
 pub table_item : (refused : Bool) (s : State) (x : Context) (now : Time) (i : Item) → IsTree s.tree → IsStore s → IsTable s.opens → IsTable (comes_to refused s x now i).state.opens
 table_item refused s x now (Operation op) tree store is =
-    by_delay (λ s x. IsTable s.opens) (grows s x op && refused) s x (arguments op).op (one s x now op) is (table_one s x now op tree store is)
+    by_delay (λ o. IsTable o.state.opens) (grows s x op && refused) s x (arguments op).op (one s x now op) is (table_one s x now op tree store is)
 table_item refused s x now (Fault n status) tree store is = is
 
 -- The end of clients: an open whose client stays, stays, so each lock state that is left has its open.

@@ -53,7 +53,8 @@ use Rattle.nfs_files.specs.declared.target.Target.{Target}
 use Rattle.nfs_files.specs.StateIds.{wire_id, meant}
 use Rattle.nfs_files.specs.Target.{target, the_file}
 use Rattle.nfs_files.specs.Ranges.{range, wish, wished, wished_by}
-use Rattle.nfs_files.specs.Operation.{one, grows, one_or_delay}
+use Rattle.nfs_files.specs.Operation.{grows}
+use Rattle.nfs_files.proofs.Outcomes.{one, one_or_delay}
 use Rattle.nfs_files.specs.Close.{spent, closes, close}
 use Rattle.nfs_files.specs.Lock as of_lock
 use Rattle.nfs_files.specs.LockU.{unlocking, unlocks, lock_u}

@@ -19,7 +19,8 @@ use Rattle.nfs_opens.specs.Table.{Table, Did}
 use Rattle.nfs_names.specs.declared.context.Context.{Context}
 use Rattle.nfs_names.specs.State.{State}
 use Rattle.nfs_names.specs.Outcome.{is_ok, or_delay}
-use Rattle.nfs_files.specs.Operation.{one, grows, one_or_delay}
+use Rattle.nfs_files.specs.Operation.{grows}
+use Rattle.nfs_files.proofs.Outcomes.{one, one_or_delay}
 use Rattle.nfs_files.specs.Lock as of_lock
 use Rattle.nfs_files.specs.LockTold.{LockTold, IsHeld}
 use Rattle.nfs_files.proofs.Inside.{ToldLocksStand}

@@ -71,13 +71,15 @@ use Rattle.nfs_names.specs.Checks.{node_as, node_at, current}
 use Rattle.nfs_names.specs.Create.{attributes_in}
 use Rattle.nfs_names.specs.Outcome.{Outcome, ◌>>=◌, answers, refuses, checked, mapped, or_delay, is_ok}
 use Rattle.nfs_names.proofs.Found.{came, checked_ok, ok_is}
-use Rattle.nfs_names.proofs.Untouched.{unused_opens, by_delay}
+use Rattle.nfs_names.proofs.Ones.{by_delay}
+use Rattle.nfs_names.proofs.Untouched.{unused_opens}
 use Rattle.nfs_files.specs.declared.target.Target.{Target}
 use Rattle.nfs_files.specs.declared.opening.Found.{Found}
 use Rattle.nfs_files.specs.declared.opening.Found.TheVariants.{There, Absent}
 use Rattle.nfs_files.specs.StateIds.{wire_id, meant}
 use Rattle.nfs_files.specs.Target.{target}
-use Rattle.nfs_files.specs.Operation.{one, grows, one_or_delay, comes_to}
+use Rattle.nfs_files.specs.Operation.{grows}
+use Rattle.nfs_files.proofs.Outcomes.{one, one_or_delay, comes_to}
 use Rattle.nfs_files.specs.Close.{closed, closes, close}
 use Rattle.nfs_files.specs.Commit.{commit}
 use Rattle.nfs_files.specs.FreeStateid.{frees, free_stateid}
@@ -502,7 +504,7 @@ told_open_left k b refused s x now op table few spares is = elim (cases_Bool (mo
   | inr stays ↦
       (let o = one_or_delay refused s x now op in
       subst (λ c. IsOpenWith k c o.state.opens) (sym (other_bits k.number op (spell_result o.result) b stays))
-      (by_delay (λ u y. IsOpenWith k b u.opens) (grows s x op && refused) s x (arguments op).op (one s x now op) is
+      (by_delay (λ o. IsOpenWith k b o.state.opens) (grows s x op && refused) s x (arguments op).op (one s x now op) is
       (same_opens k b s.opens (one s x now op).state.opens (one_alike s x now op stays) is)))
 ]
 

@@ -52,11 +52,13 @@ use Rattle.nfs_names.specs.Ending.{with_opens, table_staying, only_used, staying
 use Rattle.nfs_names.specs.Outcome.{Outcome, answers, checked, or_delay}
 use Rattle.nfs_names.specs.Checks.{current}
 use Rattle.nfs_names.proofs.StoreInvariants.{rooted, unused_empty}
-use Rattle.nfs_names.proofs.Untouched.{by_answers, by_delay}
+use Rattle.nfs_names.proofs.Ones.{by_delay}
+use Rattle.nfs_names.proofs.Untouched.{by_answers}
 use Rattle.nfs_files.specs.StateIds.{meant}
 use Rattle.nfs_files.specs.Target.{target}
 use Rattle.nfs_files.specs.Bytes.{writable}
-use Rattle.nfs_files.specs.Operation.{one, grows, comes_to}
+use Rattle.nfs_files.specs.Operation.{grows}
+use Rattle.nfs_files.proofs.Outcomes.{one, comes_to}
 use Rattle.nfs_files.specs.Close.{closed, closes, close}
 use Rattle.nfs_files.specs.Commit.{commit}
 use Rattle.nfs_files.specs.FreeStateid.{frees, free_stateid}
@@ -200,7 +202,7 @@ tree_file s x now op is = is.tree
 
 pub tree_files : (refused : Bool) (s : State) (x : Context) (now : Time) (i : Item) → IsWhole s → Is (comes_to refused s x now i).state
 tree_files refused s x now (Operation op) is =
-    by_delay (λ s x. IsTree s.tree) (grows s x op && refused) s x (arguments op).op (one s x now op) is.tree (tree_file s x now op is)
+    by_delay (λ o. IsTree o.state.tree) (grows s x op && refused) s x (arguments op).op (one s x now op) is.tree (tree_file s x now op is)
 tree_files refused s x now (Fault n status) is = is.tree
 
 -- The end of clients: an object that is used stays, and each row leads from such a one to such a one.

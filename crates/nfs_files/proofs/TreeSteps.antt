@@ -1,6 +1,7 @@
 -- Each operation leaves a tree that is one.
 use Rattle.std.proofs.Common.{◌≡◌, ◌≢◌, ℕ, ◌+◌, Bool, true, false, cond, eqb, not, List, [], ◌∷◌, Option, Some, None, refl, sym, ◌∙◌, ap, subst, inl, inr, arith}
-use Rattle.std.specs.Prelude.{◌==◌, ◌||◌, ◌&&◌, Result, Ok, Err, filter}
+use Rattle.std.specs.Prelude.{◌==◌, ◌||◌, ◌&&◌, Result, Ok, Err, IfSome, filter}
+use Rattle.std.specs.Option.{ForSome}
 use Rattle.std.specs.List.{list_any}
 use Rattle.std.proofs.lemmas.Bool.{cases_Bool, cases_eq, eq-eqb, or_parts, false≢true}
 use Rattle.nfs_xdr.specs.Tables.{In}
@@ -52,7 +53,8 @@ use Rattle.nfs_names.specs.Verify.{verify}
 use Rattle.nfs_names.proofs.StoreInvariants.{rooted, unused_empty}
 use Rattle.nfs_names.proofs.Changing.{create_goes, create_stops, link_goes, link_stops, remove_goes, remove_stops}
 use Rattle.nfs_names.proofs.Renaming.{rename_goes, rename_stops, what_moves, replaced_empty}
-use Rattle.nfs_names.proofs.Untouched.{by_answers, by_delay}
+use Rattle.nfs_names.proofs.Ones.{if_delayed, each_of}
+use Rattle.nfs_names.proofs.Untouched.{by_answers}
 use Rattle.nfs_files.proofs.KeptOps.{found}
 
 abbrev pub Is : State → Type 0
@@ -160,7 +162,7 @@ tree_rename s x now a is store = by_asked (checked (both s x) (of_rename.place_c
     by_asked (Ok p) e = by_fault p e (rename_fault s.tree (move_of a p)) refl
 
 -- By the operation on names.
-tree_name : (s : State) (x : Context) (now : Time) (op : Op) → Is s → IsStore s → In_ (one s x now op)
+tree_name : (s : State) (x : Context) (now : Time) (op : Op) → Is s → IsStore s → IfSome (one s x now op) In_
 unfolding access get_attr get_fh of_lookup lookup_p nverify put_fh put_pub_fh
     put_root_fh read_dir read_link restore_fh save_fh secinfo_no_name verify
 tree_name s x now (OpAccess asked) is store = found Is s x Num.Access _ _ is (λ d e. is)
@@ -182,9 +184,10 @@ tree_name s x now OpRestoreFh is store = found Is s x Num.RestoreFh _ _ is (λ d
 tree_name s x now OpSaveFh is store = found Is s x Num.SaveFh _ _ is (λ d e. is)
 tree_name s x now (OpSecinfoNoName style) is store = found Is s x Num.SecinfoNoName _ _ is (λ d e. is)
 tree_name s x now (OpVerify a) is store = found Is s x Num.Verify _ _ is (λ d e. is)
-tree_name s x now op is store = is
+tree_name s x now op is store = tt
 
-pub tree_names : (refused : Bool) (s : State) (x : Context) (now : Time) (i : Item) → Is s → IsStore s → Is (comes_to refused s x now i).state
+pub tree_names : (refused : Bool) (s : State) (x : Context) (now : Time) (i : Item) → Is s → IsStore s → ForSome (comes_to refused s x now i) In_
 tree_names refused s x now (Operation op) is store =
-    by_delay (λ s x. IsTree s.tree) (grows s x op && refused) s x (arguments op).op (one s x now op) is (tree_name s x now op is store)
-tree_names refused s x now (Fault n status) is store = is
+    each_of In_ (comes_to refused s x now (Operation op))
+    (if_delayed In_ (grows s x op && refused) s x (arguments op).op (one s x now op) is (tree_name s x now op is store))
+tree_names refused s x now (Fault n status) is store = each_of In_ (comes_to refused s x now (Fault n status)) tt

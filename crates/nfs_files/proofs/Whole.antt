@@ -1,6 +1,7 @@
 -- What every operation keeps: its result is one that it may have, and the store stays one.
-use Rattle.std.proofs.Common.{Result, Ok, Err, ◌≡◌, Bool, true, false, cond, Option, Some, None, refl, arith}
-use Rattle.std.specs.Prelude.{◌&&◌}
+use Rattle.std.proofs.Common.{Result, Ok, Err, ◌≡◌, Bool, true, false, cond, Option, Some, None, refl, subst, arith}
+use Rattle.std.specs.Prelude.{◌&&◌, IfSome}
+use Rattle.std.specs.Option.{ForSome}
 use Rattle.nfs_xdr.specs.declared.time.Time.{Time}
 use Rattle.nfs_xdr.specs.declared.status.Status.{Status}
 use Rattle.nfs_xdr.specs.declared.status.Status.TheVariants.{Delay}
@@ -22,7 +23,10 @@ use Rattle.nfs_names.specs.Outcome.{Outcome, refuses, checked, answers, or_delay
 use Rattle.nfs_tree.specs.TreeInvariants.{IsTree}
 use Rattle.nfs_names.proofs.Found.{checked_ok}
 use Rattle.nfs_names.proofs.Bounds.{IsAnswer}
-use Rattle.nfs_files.specs.Operation.{one, grows, is_plain, comes_to, one_or_delay}
+use Rattle.nfs_names.proofs.Ones.{by_delay}
+use Rattle.nfs_files.specs.Operation as table
+use Rattle.nfs_files.specs.Operation.{grows}
+use Rattle.nfs_files.proofs.Outcomes.{one, comes_to, for_each}
 use Rattle.nfs_names.specs.Checks.{current}
 use Rattle.nfs_tree.specs.Bytes.{has_bytes}
 use Rattle.nfs_files.specs.Bytes.{file_checks, readable, writable}
@@ -49,31 +53,44 @@ delay_may : (b : Bool) (s : State) (x : Context) (op : OpNum) (o : Outcome) (P :
     → P o.result → P (refusal (op_number op) Delay) → P (or_delay b s x op o).result
 delay_may b s x op o P done delayed = elim (b && is_ok o.result) as (λ k. P (cond k (refuses s x op Delay) o).result) [ true ↦ delayed | false ↦ done ]
 
+-- LOCK, LOCKT, READ and TEST_STATEID put their results themselves.
+abbrev pub is_plain : Item → Bool
+is_plain (Operation (OpLock a)) = false
+is_plain (Operation (OpLockT a)) = false
+is_plain (Operation (OpRead a)) = false
+is_plain (Operation (OpTestStateid given)) = false
+is_plain i = true
+
 -- by the operation
-pub may_come : (b : Bool) (s : State) (x : Context) (now : Time) (op : Op)
-    → is_plain (Operation op) ≡ true → IsAnswer (Operation op) (one_or_delay b s x now op).result
+may_come : (b : Bool) (s : State) (x : Context) (now : Time) (op : Op) → is_plain (Operation op) ≡ true
+    → IfSome (table.comes_to b s x now (Operation op)) (λ o. IsAnswer (Operation op) o.result)
 may_come b s x now (OpClose a) e = may_close s x a
 may_come b s x now (OpCommit a) e = may_commit s x a
 may_come b s x now (OpFreeStateid given) e = may_free s x given
+may_come b s x now (OpLock a) e = absurd cc
+may_come b s x now (OpLockT a) e = absurd cc
 may_come b s x now (OpLockU a) e =
     delay_may (wants_memory a && b) s x Num.LockU (lock_u s x a) (IsAnswer (Operation (OpLockU a)))
     (may_lock_u s x a) (record { may = (refl, refl, tt); arrays = tt })
 may_come b s x now (OpOpen a) e = delay_may (true && b) s x Num.Open (open_file s x now a)
     (IsAnswer (Operation (OpOpen a))) (may_open s x now a) (record { may = (refl, refl, tt); arrays = tt })
 may_come b s x now (OpOpenDowngrade a) e = may_downgrade s x a
+may_come b s x now (OpRead a) e = absurd cc
 may_come b s x now (OpSetAttr a) e =
     delay_may (grows s x (OpSetAttr a) && b) s x Num.SetAttr (set_attr s x now a) (IsAnswer (Operation (OpSetAttr a)))
     (may_set_attr s x now a) (record { may = (refl, refl, omega arith); arrays = tt })
+may_come b s x now (OpTestStateid given) e = absurd cc
 may_come b s x now (OpWrite a) e =
     delay_may (has_bytes a.bytes && b) s x Num.Write (write s x now a) (IsAnswer (Operation (OpWrite a)))
     (may_write_bytes s x now a) (record { may = (refl, refl, tt); arrays = tt })
-may_come b s x now op e = absurd cc
+may_come b s x now op e = tt
 
--- the state after an operation
-delay_state : (b : Bool) (s : State) (x : Context) (op : OpNum) (o : Outcome) → IsStore s → IsStore o.state → IsStore (or_delay b s x op o).state
-delay_state b s x op o same done = elim (b && is_ok o.result) as (λ k. IsStore (cond k (refuses s x op Delay) o).state) [ true ↦ same | false ↦ done ]
+may_item : (b : Bool) (s : State) (x : Context) (now : Time) (i : Item) → is_plain i ≡ true
+    → IfSome (table.comes_to b s x now i) (λ o. IsAnswer i o.result)
+may_item b s x now (Operation op) e = may_come b s x now op e
+may_item b s x now (Fault n status) e = tt
 
--- the same, where what was found counts
+-- the state after an operation, where what was found counts
 answers_found : {A : Type 0} (s : State) (x : Context) (op : OpNum) (v : Result A Status) (f : A → Outcome)
     → IsStore s → ((a : A) → v ≡ Ok a → IsStore (f a).state) → IsStore (answers s x op v f).state
 answers_found s x op (Err status) f same done = same
@@ -106,15 +123,20 @@ store_one s x now (OpWrite a) tree table is =
     (of_write.was_written s x now a) is (λ d. store_written s a d now is)
 store_one s x now op tree table is = is
 
-pub store_left : (b : Bool) (s : State) (x : Context) (now : Time) (op : Op)
-    → IsTree s.tree → IsTable s.opens → IsStore s → IsStore (one_or_delay b s x now op).state
-store_left b s x now op tree table is = delay_state (grows s x op && b) s x (arguments op).op (one s x now op) is (store_one s x now op tree table is)
+pub store_left : (b : Bool) (s : State) (x : Context) (now : Time) (i : Item) → IsTree s.tree → IsTable s.opens → IsStore s
+    → IsStore (comes_to b s x now i).state
+store_left b s x now (Operation op) tree table is =
+    by_delay (λ o. IsStore o.state) (grows s x op && b) s x (arguments op).op (one s x now op) is (store_one s x now op tree table is)
+store_left b s x now (Fault n status) tree table is = is
 
 -- What every operation whose result lends nothing keeps.
-pub record Keeps (b : Bool) (s : State) (x : Context) (now : Time) (i : Item) : Type 0 where
-  pub may : IsAnswer i (comes_to b s x now i).result
-  pub store : IsStore (comes_to b s x now i).state
+pub record Keeps (i : Item) (o : Outcome) : Type 0 where
+  pub may : IsAnswer i o.result
+  pub store : IsStore o.state
 
-pub keeps : (b : Bool) (s : State) (x : Context) (now : Time) (i : Item) → is_plain i ≡ true → IsTree s.tree → IsTable s.opens → IsStore s → Keeps b s x now i
-keeps b s x now (Operation op) e tree table is = record { may = may_come b s x now op e; store = store_left b s x now op tree table is }
-keeps b s x now (Fault n status) e tree table is = absurd cc
+pub keeps : (b : Bool) (s : State) (x : Context) (now : Time) (i : Item) → is_plain i ≡ true → IsTree s.tree → IsTable s.opens → IsStore s
+    → ForSome (table.comes_to b s x now i) (Keeps i)
+keeps b s x now i plain tree table is o e = record {
+  may = subst (λ (v : Option Outcome). IfSome v (λ o. IsAnswer i o.result)) e (may_item b s x now i plain);
+  store = for_each (λ o. IsStore o.state) b s x now i (store_left b s x now i tree table is) o e;
+}

@@ -1,6 +1,6 @@
 -- A byte that lasts, through each operation.
 use Rattle.std.proofs.Common.{◌≡◌, ℕ, ◌+◌, ◌≤◌, ◌<◌, ◌^◌, Bool, true, false, cond, ltb, List, [], ◌∷◌, ◌++◌, length, Option, Some, None, refl, sym, ◌∙◌, ap, subst, arith, inl, inr}
-use Rattle.std.specs.Prelude.{◌==◌, ◌&&◌, Result, Ok, Err}
+use Rattle.std.specs.Prelude.{◌==◌, ◌&&◌, Result, Ok, Err, IfSome}
 use Rattle.std.specs.Int.{w32, from_be_bytes}
 use Rattle.std.specs.Option.{option_map_or}
 use Rattle.std.proofs.lemmas.Bool.{cases_Bool, and_parts, eqb-true, ltb-true, ltb-false, false≢true}
@@ -75,14 +75,15 @@ use Rattle.nfs_names.specs.SaveFh.{save_fh}
 use Rattle.nfs_names.specs.SecinfoNoName.{secinfo_no_name}
 use Rattle.nfs_names.specs.Verify.{verify}
 use Rattle.nfs_names.proofs.Found.{came, ok_is, checked_ok}
-use Rattle.nfs_names.proofs.Untouched.{by_delay}
+use Rattle.nfs_names.proofs.Ones.{by_delay, if_delayed, each_of}
 use Rattle.nfs_files.specs.declared.opening.Found.{Found}
 use Rattle.nfs_files.specs.declared.opening.Found.TheVariants.{There, Absent}
 use Rattle.nfs_files.specs.declared.setting.Setting.{Setting}
 use Rattle.nfs_files.specs.StateIds.{meant}
 use Rattle.nfs_files.specs.Target.{target}
 use Rattle.nfs_files.specs.Bytes.{file_checks, writing, may_use, writable}
-use Rattle.nfs_files.specs.Operation.{one, grows, one_or_delay, comes_to}
+use Rattle.nfs_files.specs.Operation.{grows}
+use Rattle.nfs_files.proofs.Outcomes.{one, one_or_delay, comes_to}
 use Rattle.nfs_files.specs.Close.{closed, closes, close}
 use Rattle.nfs_files.specs.Commit.{commit}
 use Rattle.nfs_files.specs.FreeStateid.{frees, free_stateid}
@@ -96,7 +97,7 @@ use Rattle.nfs_files.specs.Read.{read}
 use Rattle.nfs_files.specs.SetAttr as of_set
 use Rattle.nfs_files.specs.TestStateid.{test_stateid}
 use Rattle.nfs_files.specs.Write as of_write
-use Rattle.nfs_files.specs.Written.{Byte, Lasts, WritesOver, SetsSize, OpensEmpty, Spares, SparedBytesLast, NamesLeaveBytes}
+use Rattle.nfs_files.specs.Written.{Byte, Lasts, WritesOver, SetsSize, OpensEmpty, Spares, NamesLeaveBytes}
 use Rattle.nfs_files.proofs.Passing.{if_passed_ok, mapped_came}
 use Rattle.nfs_files.proofs.KeptOps.{found}
 use Rattle.nfs_files.proofs.WrittenTrees.{lasts_new, lasts_link, lasts_without, lasts_moved, lasts_rest, lasts_forget, lasts_changed, lasts_written, lasts_resized}
@@ -124,7 +125,7 @@ lasts_rename b s x now a p true is =
     lasts_replaced b (with_tree s (with_moved s.tree (move_of a p) now)) (looked_up s.tree p.current.number a.newname) (lasts_moved b s.tree (move_of a p) now is)
 lasts_rename b s x now a p false is = is
 
-lasts_name : (b : Byte) (s : State) (x : Context) (now : Time) (op : Op) → LastsIn b s → LastsIn b (names.one s x now op).state
+lasts_name : (b : Byte) (s : State) (x : Context) (now : Time) (op : Op) → LastsIn b s → IfSome (names.one s x now op) (λ o. LastsIn b o.state)
 unfolding access of_create.create get_attr get_fh of_link.link lookup lookup_p nverify put_fh put_pub_fh
     put_root_fh read_dir read_link of_remove.remove of_rename.rename restore_fh save_fh secinfo_no_name verify
 lasts_name b s x now (OpAccess asked) is = found (LastsIn b) s x Num.Access _ _ is (λ d e. is)
@@ -148,18 +149,15 @@ lasts_name b s x now OpRestoreFh is = found (LastsIn b) s x Num.RestoreFh _ _ is
 lasts_name b s x now OpSaveFh is = found (LastsIn b) s x Num.SaveFh _ _ is (λ d e. is)
 lasts_name b s x now (OpSecinfoNoName style) is = found (LastsIn b) s x Num.SecinfoNoName _ _ is (λ d e. is)
 lasts_name b s x now (OpVerify a) is = found (LastsIn b) s x Num.Verify _ _ is (λ d e. is)
-lasts_name b s x now op is = is
+lasts_name b s x now op is = tt
 
 pub names_leave_bytes : NamesLeaveBytes
 names_leave_bytes b refused s x now (Operation op) is =
-    by_delay (λ s x. LastsIn b s) (names.grows s x op && refused) s x (arguments op).op (names.one s x now op) is (lasts_name b s x now op is)
-names_leave_bytes b refused s x now (Fault n status) is = is
+    each_of (λ o. LastsIn b o.state) (names.comes_to refused s x now (Operation op))
+    (if_delayed (λ o. LastsIn b o.state) (names.grows s x op && refused) s x (arguments op).op (names.one s x now op) is (lasts_name b s x now op is))
+names_leave_bytes b refused s x now (Fault n status) is = each_of (λ o. LastsIn b o.state) (names.comes_to refused s x now (Fault n status)) tt
 
 -- Files: the object of the current filehandle.
-
-pub by_outcome : (P : Outcome → Type 0) (b : Bool) (s : State) (x : Context) (op : OpNum) (o : Outcome) → P (refuses s x op Delay) → P o → P (or_delay b s x op o)
-by_outcome P b s x op o delayed done =
-    elim (b && is_ok o.result) as (λ k. P (cond k (refuses s x op Delay) o)) [ true ↦ delayed | false ↦ done ]
 
 pub by_found : {A : Type 0} (P : Outcome → Type 0) (s : State) (x : Context) (op : OpNum) (v : Result A Status) (f : A → Outcome)
     → ((status : Status) → P (refuses s x op status)) → ((a : A) → v ≡ Ok a → P (f a)) → P (answers s x op v f)
@@ -461,7 +459,7 @@ lasts_one b s x now (OpTestStateid given) is spares = is
 lasts_one b s x now (OpWrite a) is spares = lasts_write b s x now a is spares
 lasts_one b s x now op is spares = is
 
-pub spared_bytes_last : SparedBytesLast
+pub spared_bytes_last : (b : Byte) (refused : Bool) (s : State) (x : Context) (now : Time) (i : Item) → Lasts b s.tree → LeftBy b s x i (comes_to refused s x now i)
 spared_bytes_last b refused s x now (Operation op) is =
-    by_outcome (LeftBy b s x (Operation op)) (grows s x op && refused) s x (arguments op).op (one s x now op) (λ spares. is) (lasts_one b s x now op is)
+    by_delay (LeftBy b s x (Operation op)) (grows s x op && refused) s x (arguments op).op (one s x now op) (λ spares. is) (lasts_one b s x now op is)
 spared_bytes_last b refused s x now (Fault n status) is = λ spares. is

@@ -32,14 +32,16 @@ use Rattle.nfs_names.specs.Outcome.{Outcome, checked}
 use Rattle.nfs_names.specs.Checks.{current}
 use Rattle.nfs_names.proofs.Found.{checked_ok, current_is}
 use Rattle.nfs_files.specs.Bytes.{file_checks, reading, may_use, readable, writable}
-use Rattle.nfs_files.specs.Operation.{one, grows, one_or_delay, comes_to}
+use Rattle.nfs_files.specs.Operation.{grows}
+use Rattle.nfs_files.proofs.Outcomes.{one, one_or_delay, comes_to}
 use Rattle.nfs_files.specs.Read as of_read
 use Rattle.nfs_files.specs.Write as of_write
-use Rattle.nfs_files.specs.Written.{Byte, StandsIn, Lasts, Writes, bytes_in, Reads, GivesIt, WritesLeaveBytes, ReadsGiveBytes}
+use Rattle.nfs_names.proofs.Ones.{by_delay}
+use Rattle.nfs_files.specs.Written.{Byte, StandsIn, Lasts, Writes, bytes_in, Reads, GivesIt}
 use Rattle.nfs_files.proofs.Passing.{if_passed_ok}
 use Rattle.nfs_files.proofs.ReadBytes.{few_given}
 use Rattle.nfs_files.proofs.WrittenTrees.{lasts_over}
-use Rattle.nfs_files.proofs.WrittenOps.{by_outcome, by_found, current_number, writable_at, number_back, write_spelled, few_written}
+use Rattle.nfs_files.proofs.WrittenOps.{by_found, current_number, writable_at, number_back, write_spelled, few_written}
 
 some_same : (o : Option ℕ) (m n : ℕ) → o ≡ Some m → o ≡ Some n → m ≡ n
 some_same o m n e f = (let same : Some m ≡ Some n = sym e ∙ f in cc)
@@ -111,14 +113,15 @@ write_leaves : (b : Byte) (refused : Bool) (s : State) (x : Context) (now : Time
     → LeavesTold b x w count more (one_or_delay refused s x now (OpWrite w))
 unfolding of_write.write
 write_leaves b refused s x now w count more tree =
-    by_outcome (LeavesTold b x w count more) (has_bytes w.bytes && refused) s x Num.Write (of_write.write s x now w)
+    by_delay (LeavesTold b x w count more) (has_bytes w.bytes && refused) s x Num.Write (of_write.write s x now w)
     (λ told. absurd (short Num.Write Delay count more told.long told.answers))
     (by_found (LeavesTold b x w count more) s x Num.Write (checked (writable s x w.stateid (current s x)) (of_write.last_checks s w)) (of_write.was_written s x now w)
     (λ status told. absurd (short Num.Write status count more told.long told.answers))
     (λ d granted. (let p = checked_ok (writable s x w.stateid (current s x)) (of_write.last_checks s w) d granted in
     write_told b s x now w d count more tree p.0 p.1)))
 
-pub writes_leave_bytes : WritesLeaveBytes
+pub writes_leave_bytes : (b : Byte) (refused : Bool) (s : State) (x : Context) (now : Time) (i : Item) → IsTree s.tree
+    → (let o = comes_to refused s x now i in Writes b x i (spell_result o.result) → Lasts b o.state.tree)
 writes_leave_bytes b refused s x now i tree writes =
     let over = writes.over in
     let same = over.is in
@@ -214,7 +217,8 @@ read_gives b refused s x now r eof text lasts =
     (λ status told. absurd (short Num.Read status eof text told.long told.answers))
     (λ d granted told. read_told b s x r d eof text lasts (readable_at s x r d granted) told)
 
-pub reads_give_bytes : ReadsGiveBytes
+pub reads_give_bytes : (b : Byte) (refused : Bool) (s : State) (x : Context) (now : Time) (i : Item) → Lasts b s.tree
+    → (let o = comes_to refused s x now i in (r : Reads b.file b.place x i (spell_result o.result)) → GivesIt b x i (spell_result o.result) r)
 reads_give_bytes b refused s x now i lasts r =
     let same = r.is in
     read_gives b refused s x now r.asked r.eof r.text lasts (record {

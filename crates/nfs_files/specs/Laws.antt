@@ -1,9 +1,10 @@
 -- Laws of one operation on open files: what OPEN leaves of the tree, and what a LOCK tells by its answer (RFC 8881 sections 18.10 and 18.16).
 use Rattle.std.specs.Prelude.{◌≡◌, ◌≢◌, ℕ, ◌≤◌, Bool, Some, Ok}
+use Rattle.std.specs.Option.{ForSome}
 use Rattle.nfs_xdr.specs.declared.time.Time.{Time}
 use Rattle.nfs_compound.specs.LockArgs as args
 use Rattle.nfs_compound.specs.OpenArgs.{Open}
-use Rattle.nfs_compound.specs.Operation.{Item, OpLock}
+use Rattle.nfs_compound.specs.Operation.{Item}
 use Rattle.nfs_compound.specs.declared.op_num.OpNum.TheVariants as Op
 use Rattle.nfs_results.specs.Results.{spell_result}
 use Rattle.nfs_tree.specs.TreeInvariants.{IsTree}
@@ -11,10 +12,12 @@ use Rattle.nfs_opens.specs.declared.locking.Wish.{Wish}
 use Rattle.nfs_opens.specs.TableInvariants.{IsTable}
 use Rattle.nfs_opens.specs.StateId.{last_number}
 use Rattle.nfs_names.specs.declared.context.Context.{Context}
+use Rattle.nfs_names.specs.Outcome.{or_delay}
 use Rattle.nfs_names.specs.State.{State}
 use Rattle.nfs_names.specs.StoreInvariants.{IsStore}
 use Rattle.nfs_files.specs.Open.{open_file}
-use Rattle.nfs_files.specs.Operation.{one_or_delay, comes_to}
+use Rattle.nfs_files.specs.Lock.{lock}
+use Rattle.nfs_files.specs.Operation.{comes_to}
 use Rattle.nfs_files.specs.Ranges.{wished}
 use Rattle.nfs_files.specs.Own.{HasAsBefore}
 use Rattle.nfs_files.specs.LockTold.{Names, LockTold, Stands, Clashes}
@@ -27,16 +30,16 @@ OpensLeaveTrees = (s : State) (x : Context) (now : Time) (a : Open) → IsTree s
 abbrev pub ClashesAreRefused : Type 0
 ClashesAreRefused = (k : LockTold) (s : State) (x : Context) (now : Time) (refused : Bool) (a : args.Lock) (n : ℕ) (w : Wish)
     → IsTable s.opens → s.opens.last ≤ last_number → k.first ≤ k.last → Stands k s.opens → wished s x a.locktype a.offset a.length ≡ Ok w
-    → Names Op.Lock (spell_result (one_or_delay refused s x now (OpLock a)).result) n → Clashes k n w → ⊥
+    → Names Op.Lock (spell_result (or_delay refused s x Op.Lock (lock s x a)).result) n → Clashes k n w → ⊥
 
 -- Behind a LOCK that answers NFS4_OK and the stateid of a lock state, this holds each byte that was asked for.
 abbrev pub ToldLocksAreHeld : Type 0
 ToldLocksAreHeld = (s : State) (x : Context) (now : Time) (refused : Bool) (a : args.Lock) (n : ℕ) (w : Wish)
     → IsTable s.opens → s.opens.last ≤ last_number → wished s x a.locktype a.offset a.length ≡ Ok w
-    → Names Op.Lock (spell_result (one_or_delay refused s x now (OpLock a)).result) n
-    → (b : ℕ) → w.first ≤ b → b ≤ w.last → (one_or_delay refused s x now (OpLock a)).state.opens.held w.file n b ≡ Some w.kind
+    → Names Op.Lock (spell_result (or_delay refused s x Op.Lock (lock s x a)).result) n
+    → (b : ℕ) → w.first ≤ b → b ≤ w.last → (or_delay refused s x Op.Lock (lock s x a)).state.opens.held w.file n b ≡ Some w.kind
 
 -- Whatever an operation of one client comes to, another has what it had.
 abbrev pub OthersKeepTheirs : Type 0
 OthersKeepTheirs = (client : ℕ) (refused : Bool) (s : State) (x : Context) (now : Time) (i : Item) → IsTable s.opens → x.client ≢ client
-    → HasAsBefore client s.opens (comes_to refused s x now i).state.opens
+    → ForSome (comes_to refused s x now i) (λ o. HasAsBefore client s.opens o.state.opens)

@@ -2,16 +2,15 @@
 use Rattle.std.specs.Prelude.{◌≡◌, ℕ, ◌≤◌, Bool, true, Some}
 use Rattle.nfs_xdr.specs.declared.time.Time.{Time}
 use Rattle.nfs_compound.specs.OpenArgs.{Open}
-use Rattle.nfs_compound.specs.Operation.{OpOpen}
 use Rattle.nfs_compound.specs.declared.op_num.OpNum.TheVariants as Op
 use Rattle.nfs_results.specs.Results.{spell_result}
 use Rattle.nfs_opens.specs.TableInvariants.{IsTable}
 use Rattle.nfs_opens.specs.Opening.{own_open}
 use Rattle.nfs_opens.specs.StateId.{last_number}
 use Rattle.nfs_names.specs.declared.context.Context.{Context}
+use Rattle.nfs_names.specs.Outcome.{or_delay}
 use Rattle.nfs_names.specs.State.{State}
-use Rattle.nfs_files.specs.Open.{asking}
-use Rattle.nfs_files.specs.Operation.{one_or_delay}
+use Rattle.nfs_files.specs.Open.{asking, open_file}
 use Rattle.nfs_files.specs.OpenTold.{names_open, OpenTold, Bits, bits_with, bits_had, IsOpenWith, claimed, forbids}
 
 -- the claim leads to the file, and the open stands, with the bits that were asked for, joined to what its owner had of the file
@@ -23,12 +22,12 @@ pub record IsToldOpen (s : State) (x : Context) (a : Open) (n : ℕ) (left : Sta
 -- Behind an OPEN that answers NFS4_OK and the stateid of an open, this stands.
 abbrev pub ToldOpensStand : Type 0
 ToldOpensStand = (refused : Bool) (s : State) (x : Context) (now : Time) (a : Open) (n : ℕ) → IsTable s.opens → s.opens.last ≤ last_number
-    → names_open Op.Open (spell_result (one_or_delay refused s x now (OpOpen a)).result) n ≡ true
-    → (file : ℕ) × IsToldOpen s x a n (one_or_delay refused s x now (OpOpen a)).state file
+    → names_open Op.Open (spell_result (or_delay refused s x Op.Open (open_file s x now a)).result) n ≡ true
+    → (file : ℕ) × IsToldOpen s x a n (or_delay refused s x Op.Open (open_file s x now a)).state file
 
 -- While an open stands, no OPEN of its file that it forbids answers NFS4_OK and a stateid.
 abbrev pub ForbiddenOpensAreRefused : Type 0
 ForbiddenOpensAreRefused = (k : OpenTold) (b : Bits) (refused : Bool) (s : State) (x : Context) (now : Time) (a : Open) (n : ℕ)
     → IsTable s.opens → s.opens.last ≤ last_number → IsOpenWith k b s.opens
-    → names_open Op.Open (spell_result (one_or_delay refused s x now (OpOpen a)).result) n ≡ true
-    → claimed (one_or_delay refused s x now (OpOpen a)).state.tree x a.claim ≡ Some k.file → forbids k b x a ≡ true → ⊥
+    → names_open Op.Open (spell_result (or_delay refused s x Op.Open (open_file s x now a)).result) n ≡ true
+    → claimed (or_delay refused s x Op.Open (open_file s x now a)).state.tree x a.claim ≡ Some k.file → forbids k b x a ≡ true → ⊥

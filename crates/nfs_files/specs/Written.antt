@@ -1,6 +1,7 @@
 -- A byte of a file that was written: by which operation it is told, which reads it, and which changes it, by what was asked and what was answered
 -- (RFC 8881 sections 18.16, 18.22, 18.30 and 18.32).
 use Rattle.std.specs.Prelude.{◌≡◌, ◌⊎◌, ℕ, Bool, ◌+◌, ◌-◌, ◌≤◌, ◌<◌, true, List, [], ◌∷◌, ◌++◌, length, take, drop, slice_index_or, Some, Ok}
+use Rattle.std.specs.Option.{ForSome}
 use Rattle.std.specs.Int.{w32, from_be_bytes}
 use Rattle.nfs_xdr.specs.declared.time.Time.{Time}
 use Rattle.nfs_compound.specs.Attributes.{Attributes}
@@ -120,18 +121,18 @@ GivesIt b x i result r =
 -- behind a WRITE that answered NFS4_OK its file has the bytes that it brought
 abbrev pub WritesLeaveBytes : Type 0
 WritesLeaveBytes = (b : Byte) (refused : Bool) (s : State) (x : Context) (now : Time) (i : Item) → IsTree s.tree
-    → (let o = comes_to refused s x now i in Writes b x i (spell_result o.result) → Lasts b o.state.tree)
+    → ForSome (comes_to refused s x now i) (λ o. Writes b x i (spell_result o.result) → Lasts b o.state.tree)
 
 -- what spares a byte leaves it, and what is done to names leaves every one
 abbrev pub SparedBytesLast : Type 0
 SparedBytesLast = (b : Byte) (refused : Bool) (s : State) (x : Context) (now : Time) (i : Item) → Lasts b s.tree
-    → (let o = comes_to refused s x now i in Spares b s x i (spell_result o.result) → Lasts b o.state.tree)
+    → ForSome (comes_to refused s x now i) (λ o. Spares b s x i (spell_result o.result) → Lasts b o.state.tree)
 
 abbrev pub NamesLeaveBytes : Type 0
 NamesLeaveBytes = (b : Byte) (refused : Bool) (s : State) (x : Context) (now : Time) (i : Item) → Lasts b s.tree
-    → Lasts b (names.comes_to refused s x now i).state.tree
+    → ForSome (names.comes_to refused s x now i) (λ o. Lasts b o.state.tree)
 
 -- a READ that answered NFS4_OK was given what stands
 abbrev pub ReadsGiveBytes : Type 0
 ReadsGiveBytes = (b : Byte) (refused : Bool) (s : State) (x : Context) (now : Time) (i : Item) → Lasts b s.tree
-    → (let o = comes_to refused s x now i in (r : Reads b.file b.place x i (spell_result o.result)) → GivesIt b x i (spell_result o.result) r)
+    → ForSome (comes_to refused s x now i) (λ o. (r : Reads b.file b.place x i (spell_result o.result)) → GivesIt b x i (spell_result o.result) r)

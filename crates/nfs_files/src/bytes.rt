@@ -1,25 +1,25 @@
 //! Operations on the bytes of files (RFC 8881 sections 18.3, 18.22 and 18.32).
 
-ghost use Rattle.std.specs.Prelude.{◌≡◌, ◌+◌, ◌-◌, ◌≤◌, ◌||◌, Some, length, nat_le};
+ghost use Rattle.std.specs.Prelude.{◌≡◌, ◌+◌, ◌-◌, ◌≤◌, ◌||◌, ◌&&◌, Some, length, nat_le};
 ghost use Rattle.nfs_xdr.specs.SheetState.{Puts};
 ghost use Rattle.nfs_xdr.specs.Spelling.{padding};
 ghost use Rattle.nfs_compound.specs.ArgCodecs.{view_write};
-ghost use Rattle.nfs_compound.specs.Operation.{OpWrite};
+ghost use Rattle.nfs_compound.specs.declared.op_num.OpNum.TheVariants as num;
 ghost use Rattle.nfs_results.specs.Largest.{given};
 ghost use Rattle.nfs_results.specs.Result.{ResRead};
 ghost use Rattle.nfs_results.specs.Results.{spell_result, status_of_result};
 ghost use Rattle.nfs_results.specs.View as view;
+ghost use Rattle.nfs_tree.specs.Bytes.{has_bytes};
 ghost use Rattle.nfs_tree.specs.Files.{most_bytes, object_at};
 ghost use Rattle.nfs_names.specs.State.{state_of};
 ghost use Rattle.nfs_names.specs.Comes.{Comes};
-ghost use Rattle.nfs_names.specs.Outcome.{checked, is_delay};
+ghost use Rattle.nfs_names.specs.Outcome.{checked, is_delay, or_delay};
 ghost use Rattle.nfs_names.specs.View.{outcome_of};
 ghost use Rattle.nfs_names.specs.Checks as check;
 ghost use Rattle.nfs_files.specs.Bytes as of_bytes;
 ghost use Rattle.nfs_files.specs.Commit as of_commit;
 ghost use Rattle.nfs_files.specs.Read as of_read;
 ghost use Rattle.nfs_files.specs.Write as of_write;
-ghost use Rattle.nfs_files.specs.Operation.{one_or_delay};
 
 use crate::access::{judge_file, readable, writable};
 use nfs_compound::{OpNum, Read, StableHow, Write};
@@ -85,7 +85,7 @@ pub(crate) fn write_bytes(
     asked: &Write<'_>,
     now: Time,
 ) -> Res<'static>
-    ensures { outcome_of result (state_of store.new) context.now ≡ one_or_delay (is_delay (status_of_result (view.res result))) (state_of store.old) context.now now (OpWrite (view_write asked.now)) }
+    ensures { outcome_of result (state_of store.new) context.now ≡ or_delay (has_bytes (view_write asked.now).bytes && is_delay (status_of_result (view.res result))) (state_of store.old) context.now num.Write (of_write.write (state_of store.old) context.now now (view_write asked.now)) }
 {
     match to_write(store, context, asked) {
         Ok(node) => match store

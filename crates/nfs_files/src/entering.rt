@@ -3,7 +3,7 @@
 ghost use Rattle.std.specs.Prelude.{◌≡◌, true, Ok};
 ghost use Rattle.nfs_xdr.specs.Checks.{first_fault, judged};
 ghost use Rattle.nfs_compound.specs.OpenCodecs.{view_open};
-ghost use Rattle.nfs_compound.specs.Operation.{OpOpen};
+ghost use Rattle.nfs_compound.specs.declared.op_num.OpNum.TheVariants as num;
 ghost use Rattle.nfs_results.specs.Results.{status_of_result};
 ghost use Rattle.nfs_results.specs.View as view;
 ghost use Rattle.nfs_tree.specs.Calls.{new_of, DoesOrWants};
@@ -11,11 +11,10 @@ ghost use Rattle.nfs_tree.specs.Files as files;
 ghost use Rattle.nfs_opens.specs.Calls as of_opens;
 ghost use Rattle.nfs_names.specs.State.{state_of};
 ghost use Rattle.nfs_names.specs.StoreInvariants.{IsStore, IsRooted};
-ghost use Rattle.nfs_names.specs.Outcome.{checked, mapped, is_delay};
+ghost use Rattle.nfs_names.specs.Outcome.{checked, mapped, is_delay, or_delay};
 ghost use Rattle.nfs_names.specs.View.{outcome_of};
 ghost use Rattle.nfs_files.specs.Open as of_open;
 ghost use Rattle.nfs_files.specs.OpenParts as part;
-ghost use Rattle.nfs_files.specs.Operation.{one_or_delay};
 
 use crate::opening::{Found, access_of, attributes_in, deny_of, judge, name_of, verifier_of};
 use crate::stateids::wire_id;
@@ -262,7 +261,7 @@ pub(crate) fn open_file(
     now: Time,
 ) -> Res<'static>
     requires { IsStore (state_of store.old) }
-    ensures { outcome_of result (state_of store.new) context.new ≡ one_or_delay (is_delay (status_of_result (view.res result))) (state_of store.old) context.old now (OpOpen (view_open asked.now)) }
+    ensures { outcome_of result (state_of store.new) context.new ≡ or_delay (is_delay (status_of_result (view.res result))) (state_of store.old) context.old num.Open (of_open.open_file (state_of store.old) context.old now (view_open asked.now)) }
 {
     match judge_whole(store, context, asked) {
         Ok(found) => match open_found(alloc, store, context, asked, &found, now) {

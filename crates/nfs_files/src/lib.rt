@@ -25,4 +25,4 @@ mod setting;
 mod stateids;
 mod target;
 
-pub use operation::{file_op, is_on_files};
+pub use operation::file_op;

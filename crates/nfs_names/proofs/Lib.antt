@@ -8,7 +8,7 @@ pub mod Renaming
 pub mod StoreInvariants
 pub mod Bounds
 pub mod Whole
-pub mod Arms
+pub mod Ones
 pub mod Entering
 pub mod Listed
 pub mod Staying

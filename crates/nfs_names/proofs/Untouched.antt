@@ -1,10 +1,10 @@
 -- What operations on names leave alone: all opens, and whose context it is.
 use Rattle.std.proofs.Common.{◌≡◌, ℕ, Bool, true, false, cond, [], ◌∷◌, Option, Some, None, refl, inl, inr}
-use Rattle.std.specs.Prelude.{Result, Ok, Err, ◌&&◌}
+use Rattle.std.specs.Prelude.{Result, Ok, Err, ◌&&◌, IfSome}
+use Rattle.std.specs.Option.{ForSome}
 use Rattle.std.proofs.lemmas.Bool.{cases_Bool}
 use Rattle.nfs_xdr.specs.declared.time.Time.{Time}
 use Rattle.nfs_xdr.specs.declared.status.Status.{Status}
-use Rattle.nfs_xdr.specs.declared.status.Status.TheVariants.{Delay}
 use Rattle.nfs_compound.specs.NameArgs as args
 use Rattle.nfs_compound.specs.Arguments.{arguments}
 use Rattle.nfs_compound.specs.declared.op_num.OpNum.{OpNum}
@@ -19,7 +19,7 @@ use Rattle.nfs_names.specs.declared.context.Context.{Context}
 use Rattle.nfs_names.specs.declared.node.Node.{Node}
 use Rattle.nfs_names.specs.declared.node.Pair.{Pair}
 use Rattle.nfs_names.specs.State.{State, with_tree, is_used, without_unused}
-use Rattle.nfs_names.specs.Outcome.{Outcome, done, refuses, answers, or_delay, is_ok}
+use Rattle.nfs_names.specs.Outcome.{Outcome, done, answers}
 use Rattle.nfs_names.specs.Context.{at_object}
 use Rattle.nfs_names.specs.Operation.{one, grows, comes_to}
 use Rattle.nfs_names.specs.Access.{access}
@@ -41,6 +41,7 @@ use Rattle.nfs_names.specs.RestoreFh.{restored, restore_fh}
 use Rattle.nfs_names.specs.SaveFh.{saving, save_fh}
 use Rattle.nfs_names.specs.SecinfoNoName.{without_current, secinfo_no_name}
 use Rattle.nfs_names.specs.Verify.{verify}
+use Rattle.nfs_names.proofs.Ones.{if_delayed, each_of}
 
 pub record Leaves (s : State) (x : Context) (left : State) (behind : Context) : Type 0 where
   pub opens : left.opens ≡ s.opens
@@ -59,11 +60,6 @@ pub by_answers : {A : Type 0} (P : State → Context → Type 0) (s : State) (x 
 by_answers P s x op (Err status) f same done = same
 by_answers P s x op (Ok a) f same done = done a
 
-pub by_delay : (P : State → Context → Type 0) (b : Bool) (s : State) (x : Context) (op : OpNum) (o : Outcome) → P s x → P o.state o.context
-    → P (or_delay b s x op o).state (or_delay b s x op o).context
-by_delay P b s x op o same done =
-    elim (b && is_ok o.result) as (λ k. P (cond k (refuses s x op Delay) o).state (cond k (refuses s x op Delay) o).context) [ true ↦ same | false ↦ done ]
-
 same : (s : State) (x : Context) → Leaves s x s x
 same s x = record { opens = refl; client = refl }
 
@@ -78,7 +74,7 @@ leaves_rename s x now a p true = record {
 }
 leaves_rename s x now a p false = same s x
 
-leaves_one : (s : State) (x : Context) (now : Time) (op : Op) → Leaves s x (one s x now op).state (one s x now op).context
+leaves_one : (s : State) (x : Context) (now : Time) (op : Op) → IfSome (one s x now op) (λ o. Leaves s x o.state o.context)
 unfolding access create get_attr get_fh link lookup lookup_p nverify put_fh put_pub_fh
     put_root_fh read_dir read_link remove rename restore_fh save_fh secinfo_no_name verify
 leaves_one s x now (OpAccess asked) = by_answers (Leaves s x) s x Num.Access _ _ (same s x) (λ d. same s x)
@@ -108,8 +104,12 @@ leaves_one s x now OpSaveFh = by_answers (Leaves s x) s x Num.SaveFh _ (λ (d : 
 leaves_one s x now (OpSecinfoNoName style) = by_answers (Leaves s x) s x Num.SecinfoNoName _
     (λ d. done s (without_current x) (ResSecinfoNoName (1 ∷ []))) (same s x) (λ d. record { opens = refl; client = refl })
 leaves_one s x now (OpVerify a) = by_answers (Leaves s x) s x Num.Verify _ _ (same s x) (λ d. same s x)
-leaves_one s x now op = same s x
+leaves_one s x now op = tt
 
-pub leaves_item : (b : Bool) (s : State) (x : Context) (now : Time) (i : Item) → Leaves s x (comes_to b s x now i).state (comes_to b s x now i).context
-leaves_item b s x now (Operation op) = by_delay (Leaves s x) (grows s x op && b) s x (arguments op).op (one s x now op) (same s x) (leaves_one s x now op)
-leaves_item b s x now (Fault n status) = same s x
+pub leaves_item : (b : Bool) (s : State) (x : Context) (now : Time) (i : Item) → IfSome (comes_to b s x now i) (λ o. Leaves s x o.state o.context)
+leaves_item b s x now (Operation op) =
+    if_delayed (λ o. Leaves s x o.state o.context) (grows s x op && b) s x (arguments op).op (one s x now op) (same s x) (leaves_one s x now op)
+leaves_item b s x now (Fault n status) = tt
+
+pub leaves_each : (b : Bool) (s : State) (x : Context) (now : Time) (i : Item) → ForSome (comes_to b s x now i) (λ o. Leaves s x o.state o.context)
+leaves_each b s x now i = each_of (λ o. Leaves s x o.state o.context) (comes_to b s x now i) (leaves_item b s x now i)

@@ -1,6 +1,6 @@
 -- What every operation keeps: its result is one that it may have, and its state is a store's.
-use Rattle.std.proofs.Common.{◌≡◌, ◌+◌, ◌≤◌, Bool, true, false, cond, length, refl, ◌∙◌, ap, arith}
-use Rattle.std.specs.Prelude.{Result, Ok, Err, ◌&&◌}
+use Rattle.std.proofs.Common.{◌+◌, ◌≤◌, Bool, true, false, cond, length, refl, ◌∙◌, ap, arith}
+use Rattle.std.specs.Prelude.{Result, Ok, Err, ◌&&◌, IfSome}
 use Rattle.nfs_xdr.specs.declared.time.Time.{Time}
 use Rattle.nfs_xdr.specs.declared.status.Status.{Status}
 use Rattle.nfs_xdr.specs.declared.status.Status.TheVariants.{Delay}
@@ -27,7 +27,7 @@ use Rattle.nfs_names.specs.declared.node.Pair.{Pair}
 use Rattle.nfs_names.specs.State.{State}
 use Rattle.nfs_names.specs.StoreInvariants.{IsStore}
 use Rattle.nfs_names.specs.Outcome.{Outcome, refuses, checked, answers, or_delay, is_ok}
-use Rattle.nfs_names.specs.Operation.{one, grows, on_names, is_on_names, comes_to, one_or_delay}
+use Rattle.nfs_names.specs.Operation.{one, grows, comes_to}
 use Rattle.nfs_names.specs.Access.{access}
 use Rattle.nfs_names.specs.Create.{new_of, sets_of, asked_for, row_checks, created, create}
 use Rattle.nfs_names.specs.GetAttr.{get_attr}
@@ -48,6 +48,7 @@ use Rattle.nfs_names.specs.SaveFh.{save_fh}
 use Rattle.nfs_names.specs.SecinfoNoName.{secinfo_no_name}
 use Rattle.nfs_names.specs.Verify.{verify}
 use Rattle.nfs_names.proofs.Bounds as bound
+use Rattle.nfs_names.proofs.Ones.{if_both, if_delayed}
 use Rattle.nfs_names.proofs.StoreInvariants.{store_new, store_link, store_removed, store_moved}
 
 delay_may : (b : Bool) (s : State) (x : Context) (op : OpNum) (o : Outcome) (P : Res → Type 0)
@@ -55,30 +56,30 @@ delay_may : (b : Bool) (s : State) (x : Context) (op : OpNum) (o : Outcome) (P :
 delay_may b s x op o P done delayed = elim (b && is_ok o.result) as (λ k. P (cond k (refuses s x op Delay) o).result) [ true ↦ delayed | false ↦ done ]
 
 -- by the operation
-pub may_come : (b : Bool) (s : State) (x : Context) (now : Time) (op : Op) → is_on_names op ≡ true → IsAnswer (Operation op) (one_or_delay b s x now op).result
-may_come b s x now (OpAccess asked) e = bound.may_access s x asked
-may_come b s x now (OpCreate c) e = delay_may (true && b) s x Num.Create (create s x now c)
+pub may_come : (b : Bool) (s : State) (x : Context) (now : Time) (op : Op) → IfSome (comes_to b s x now (Operation op)) (λ o. IsAnswer (Operation op) o.result)
+may_come b s x now (OpAccess asked) = bound.may_access s x asked
+may_come b s x now (OpCreate c) = delay_may (true && b) s x Num.Create (create s x now c)
     (IsAnswer (Operation (OpCreate c))) (bound.may_create s x now c) (record { may = (refl, refl, tt); arrays = tt })
-may_come b s x now (OpGetAttr mask) e = bound.may_get_attr s x mask
-may_come b s x now OpGetFh e = bound.may_get_fh s x
-may_come b s x now (OpLink name) e = delay_may (true && b) s x Num.Link (link s x now name)
+may_come b s x now (OpGetAttr mask) = bound.may_get_attr s x mask
+may_come b s x now OpGetFh = bound.may_get_fh s x
+may_come b s x now (OpLink name) = delay_may (true && b) s x Num.Link (link s x now name)
     (IsAnswer (Operation (OpLink name))) (bound.may_link s x now name) (record { may = (refl, refl, tt); arrays = tt })
-may_come b s x now (OpLookup name) e = bound.may_lookup s x name
-may_come b s x now OpLookupP e = bound.may_lookup_p s x
-may_come b s x now (OpNVerify a) e = bound.may_nverify s x a
-may_come b s x now (OpPutFh object) e = bound.may_put_fh s x object
-may_come b s x now OpPutPubFh e = bound.may_put_pub_fh s x
-may_come b s x now OpPutRootFh e = bound.may_put_root_fh s x
-may_come b s x now (OpReadDir a) e = bound.may_read_dir s x a
-may_come b s x now OpReadLink e = bound.may_read_link s x
-may_come b s x now (OpRemove name) e = bound.may_remove s x now name
-may_come b s x now (OpRename a) e = delay_may (grows s x (OpRename a) && b) s x Num.Rename (rename s x now a)
+may_come b s x now (OpLookup name) = bound.may_lookup s x name
+may_come b s x now OpLookupP = bound.may_lookup_p s x
+may_come b s x now (OpNVerify a) = bound.may_nverify s x a
+may_come b s x now (OpPutFh object) = bound.may_put_fh s x object
+may_come b s x now OpPutPubFh = bound.may_put_pub_fh s x
+may_come b s x now OpPutRootFh = bound.may_put_root_fh s x
+may_come b s x now (OpReadDir a) = bound.may_read_dir s x a
+may_come b s x now OpReadLink = bound.may_read_link s x
+may_come b s x now (OpRemove name) = bound.may_remove s x now name
+may_come b s x now (OpRename a) = delay_may (grows s x (OpRename a) && b) s x Num.Rename (rename s x now a)
     (IsAnswer (Operation (OpRename a))) (bound.may_rename s x now a) (record { may = (refl, refl, tt); arrays = tt })
-may_come b s x now OpRestoreFh e = bound.may_restore_fh s x
-may_come b s x now OpSaveFh e = bound.may_save_fh s x
-may_come b s x now (OpSecinfoNoName style) e = bound.may_secinfo_no_name s x style
-may_come b s x now (OpVerify a) e = bound.may_verify s x a
-may_come b s x now op e = absurd cc
+may_come b s x now OpRestoreFh = bound.may_restore_fh s x
+may_come b s x now OpSaveFh = bound.may_save_fh s x
+may_come b s x now (OpSecinfoNoName style) = bound.may_secinfo_no_name s x style
+may_come b s x now (OpVerify a) = bound.may_verify s x a
+may_come b s x now op = tt
 
 -- the tree after an operation
 answers_state : {A : Type 0} (P : State → Type 0) (s : State) (x : Context) (op : OpNum) (v : Result A Status) (f : A → Outcome)
@@ -86,56 +87,48 @@ answers_state : {A : Type 0} (P : State → Type 0) (s : State) (x : Context) (o
 answers_state P s x op (Err status) f same done = same
 answers_state P s x op (Ok a) f same done = done a
 
-delay_state : (P : State → Type 0) (b : Bool) (s : State) (x : Context) (op : OpNum) (o : Outcome) → P s → P o.state → P (or_delay b s x op o).state
-delay_state P b s x op o same done = elim (b && is_ok o.result) as (λ k. P (cond k (refuses s x op Delay) o).state) [ true ↦ same | false ↦ done ]
-
 store_rename : (s : State) (x : Context) (now : Time) (a : args.Rename) (p : Pair) (b : Bool)
     → IsTree s.tree → IsStore s → IsStore (cond b (moved s x now a p) (unmoved s x p)).state
 store_rename s x now a p true tree is = store_moved s (move_of a p) now tree is
 store_rename s x now a p false tree is = is
 
-store_one : (s : State) (x : Context) (now : Time) (op : Op) → is_on_names op ≡ true → IsTree s.tree → IsStore s → IsStore (one s x now op).state
+store_one : (s : State) (x : Context) (now : Time) (op : Op) → IsTree s.tree → IsStore s → IfSome (one s x now op) (λ o. IsStore o.state)
 unfolding access create get_attr get_fh link lookup lookup_p nverify put_fh put_pub_fh
     put_root_fh read_dir read_link remove rename restore_fh save_fh secinfo_no_name verify
-store_one s x now (OpAccess asked) e tree is = answers_state IsStore s x Num.Access _ _ is (λ d. is)
-store_one s x now (OpCreate c) e tree is =
+store_one s x now (OpAccess asked) tree is = answers_state IsStore s x Num.Access _ _ is (λ d. is)
+store_one s x now (OpCreate c) tree is =
     answers_state IsStore s x Num.Create (checked (asked_for s x c) (row_checks s c)) (created s x now c) is
     (λ m. store_new s m.place.number c.objname (new_of c.objtype) (sets_of x now (new_of c.objtype) m.wanted) now is)
-store_one s x now (OpGetAttr mask) e tree is = answers_state IsStore s x Num.GetAttr _ _ is (λ d. is)
-store_one s x now OpGetFh e tree is = answers_state IsStore s x Num.GetFh _ _ is (λ d. is)
-store_one s x now (OpLink name) e tree is = answers_state IsStore s x Num.Link _ _ is (λ p. store_link s _ _ name now is)
-store_one s x now (OpLookup name) e tree is = answers_state IsStore s x Num.Lookup _ _ is (λ d. is)
-store_one s x now OpLookupP e tree is = answers_state IsStore s x Num.LookupP _ _ is (λ d. is)
-store_one s x now (OpNVerify a) e tree is = answers_state IsStore s x Num.NVerify _ _ is (λ d. is)
-store_one s x now (OpPutFh object) e tree is = answers_state IsStore s x Num.PutFh _ _ is (λ d. is)
-store_one s x now OpPutPubFh e tree is = is
-store_one s x now OpPutRootFh e tree is = is
-store_one s x now (OpReadDir a) e tree is = answers_state IsStore s x Num.ReadDir _ _ is (λ d. is)
-store_one s x now OpReadLink e tree is = answers_state IsStore s x Num.ReadLink _ _ is (λ d. is)
-store_one s x now (OpRemove name) e tree is = answers_state IsStore s x Num.Remove _ _ is (λ d. store_removed s d.number name now tree is)
-store_one s x now (OpRename a) e tree is = answers_state IsStore s x Num.Rename _ _ is (λ p. store_rename s x now a p (moves s.tree (move_of a p)) tree is)
-store_one s x now OpRestoreFh e tree is = answers_state IsStore s x Num.RestoreFh _ _ is (λ d. is)
-store_one s x now OpSaveFh e tree is = answers_state IsStore s x Num.SaveFh _ _ is (λ d. is)
-store_one s x now (OpSecinfoNoName style) e tree is = answers_state IsStore s x Num.SecinfoNoName _ _ is (λ d. is)
-store_one s x now (OpVerify a) e tree is = answers_state IsStore s x Num.Verify _ _ is (λ d. is)
-store_one s x now op e tree is = absurd cc
-
-may_item : (b : Bool) (s : State) (x : Context) (now : Time) (i : Item) → on_names i ≡ true → IsAnswer i (comes_to b s x now i).result
-may_item b s x now (Operation op) e = may_come b s x now op e
-may_item b s x now (Fault n st) e = absurd cc
-
-store_item : (b : Bool) (s : State) (x : Context) (now : Time) (i : Item) → on_names i ≡ true → IsTree s.tree → IsStore s → IsStore (comes_to b s x now i).state
-store_item b s x now (Operation op) e tree is =
-    delay_state IsStore (grows s x op && b) s x (arguments op).op (one s x now op) is (store_one s x now op e tree is)
-store_item b s x now (Fault n st) e tree is = absurd cc
+store_one s x now (OpGetAttr mask) tree is = answers_state IsStore s x Num.GetAttr _ _ is (λ d. is)
+store_one s x now OpGetFh tree is = answers_state IsStore s x Num.GetFh _ _ is (λ d. is)
+store_one s x now (OpLink name) tree is = answers_state IsStore s x Num.Link _ _ is (λ p. store_link s _ _ name now is)
+store_one s x now (OpLookup name) tree is = answers_state IsStore s x Num.Lookup _ _ is (λ d. is)
+store_one s x now OpLookupP tree is = answers_state IsStore s x Num.LookupP _ _ is (λ d. is)
+store_one s x now (OpNVerify a) tree is = answers_state IsStore s x Num.NVerify _ _ is (λ d. is)
+store_one s x now (OpPutFh object) tree is = answers_state IsStore s x Num.PutFh _ _ is (λ d. is)
+store_one s x now OpPutPubFh tree is = is
+store_one s x now OpPutRootFh tree is = is
+store_one s x now (OpReadDir a) tree is = answers_state IsStore s x Num.ReadDir _ _ is (λ d. is)
+store_one s x now OpReadLink tree is = answers_state IsStore s x Num.ReadLink _ _ is (λ d. is)
+store_one s x now (OpRemove name) tree is = answers_state IsStore s x Num.Remove _ _ is (λ d. store_removed s d.number name now tree is)
+store_one s x now (OpRename a) tree is = answers_state IsStore s x Num.Rename _ _ is (λ p. store_rename s x now a p (moves s.tree (move_of a p)) tree is)
+store_one s x now OpRestoreFh tree is = answers_state IsStore s x Num.RestoreFh _ _ is (λ d. is)
+store_one s x now OpSaveFh tree is = answers_state IsStore s x Num.SaveFh _ _ is (λ d. is)
+store_one s x now (OpSecinfoNoName style) tree is = answers_state IsStore s x Num.SecinfoNoName _ _ is (λ d. is)
+store_one s x now (OpVerify a) tree is = answers_state IsStore s x Num.Verify _ _ is (λ d. is)
+store_one s x now op tree is = tt
 
 -- What every operation on names keeps.
-pub record Keeps (b : Bool) (s : State) (x : Context) (now : Time) (i : Item) : Type 0 where
-  pub may : IsAnswer i (comes_to b s x now i).result
-  pub store : IsStore (comes_to b s x now i).state
+pub record Keeps (i : Item) (o : Outcome) : Type 0 where
+  pub may : IsAnswer i o.result
+  pub store : IsStore o.state
 
-pub keeps : (b : Bool) (s : State) (x : Context) (now : Time) (i : Item) → on_names i ≡ true → IsTree s.tree → IsStore s → Keeps b s x now i
-keeps b s x now i e tree is = record { may = may_item b s x now i e; store = store_item b s x now i e tree is }
+pub keeps : (b : Bool) (s : State) (x : Context) (now : Time) (i : Item) → IsTree s.tree → IsStore s → IfSome (comes_to b s x now i) (Keeps i)
+keeps b s x now (Operation op) tree is =
+    if_both (comes_to b s x now (Operation op)) (may_come b s x now op)
+    (if_delayed (λ o. IsStore o.state) (grows s x op && b) s x (arguments op).op (one s x now op) is (store_one s x now op tree is))
+    (λ o may store. record { may = may; store = store })
+keeps b s x now (Fault n st) tree is = tt
 
 -- so it is within its largest size
 pub within : (i : Item) (r : Res) (old new : SheetState) → IsAnswer i r → Puts old new (spell_result r) → length new.bytes ≤ length old.bytes + largest i

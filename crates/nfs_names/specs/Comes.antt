@@ -1,11 +1,11 @@
 -- What an operation puts on the sheet, answers and leaves is an outcome.
-use Rattle.std.specs.Prelude.{◌≡◌}
+use Rattle.std.specs.Prelude.{◌≡◌, Bool, Option, Some, None, IsSomeAnd}
 use Rattle.nfs_xdr.specs.SheetState.{SheetState, Puts}
 use Rattle.nfs_xdr.specs.declared.status.Status.{Status}
 use Rattle.nfs_results.specs.Results.{spell_result, status_of_result}
 use Rattle.nfs_names.specs.declared.context.Context.{Context}
 use Rattle.nfs_names.specs.State.{State}
-use Rattle.nfs_names.specs.Outcome.{Outcome}
+use Rattle.nfs_names.specs.Outcome.{Outcome, is_delay}
 
 -- its result stands behind what stood on the sheet, its status is answered, and its state and context are left
 pub record Comes (o : Outcome) (old new : SheetState) (answer : Status) (s : State) (x : Context) : Type 0 where
@@ -13,3 +13,8 @@ pub record Comes (o : Outcome) (old new : SheetState) (answer : Status) (s : Sta
   pub status : answer ≡ status_of_result o.result
   pub state : s ≡ o.state
   pub context : x ≡ o.context
+
+-- The same of an operation that may be none of these, by whether memory was refused: then nothing is answered, and all is as before.
+abbrev pub MayCome : (Bool → Option Outcome) → (before : State) (at : Context) (old new : SheetState) → Option Status → (s : State) (x : Context) → Type 0
+MayCome outcome before at old new None s x = ((refused : Bool) → outcome refused ≡ None) × (new ≡ old) × (s ≡ before) × (x ≡ at)
+MayCome outcome before at old new (Some status) s x = IsSomeAnd (outcome (is_delay status)) (λ o. Comes o old new status s x)

@@ -28,5 +28,5 @@ pub use checks::{current, is_link, judge_name, node_at, permits, put_refusal, re
 pub use context::{Caller, Context, Saved};
 pub use making::{Making, attr_set, change_info, status_of, time_of, wanted_of};
 pub use node::Node;
-pub use operation::{is_on_names, moment, name_op};
+pub use operation::{moment, name_op};
 pub use store::Store;

@@ -1,8 +1,8 @@
 //! Operations that make, name and remove objects (RFC 8881 sections 18.4, 18.9, 18.25 and 18.26).
 
-ghost use Rattle.std.specs.Prelude.{◌≡◌, ◌==◌, ℕ, false, length, nat_lt, option_map};
+ghost use Rattle.std.specs.Prelude.{◌≡◌, ◌==◌, ◌&&◌, ℕ, false, length, nat_lt, option_map};
 ghost use Rattle.nfs_compound.specs.ArgCodecs.{view_attributes, view_create, view_create_type, view_rename};
-ghost use Rattle.nfs_compound.specs.Operation.{OpCreate, OpLink, OpRename};
+ghost use Rattle.nfs_compound.specs.declared.op_num.OpNum.TheVariants as num;
 ghost use Rattle.nfs_tree.specs.Calls.{new_of};
 ghost use Rattle.nfs_tree.specs.Files.{most_text, has_entries};
 ghost use Rattle.nfs_attrs.specs.Mask.{trimmed_words};
@@ -10,8 +10,8 @@ ghost use Rattle.nfs_results.specs.View as view;
 ghost use Rattle.nfs_results.specs.Results.{status_of_result};
 ghost use Rattle.nfs_names.specs.State.{state_of};
 ghost use Rattle.nfs_names.specs.StoreInvariants.{IsRooted};
-ghost use Rattle.nfs_names.specs.Outcome.{checked, is_delay};
-ghost use Rattle.nfs_names.specs.Operation.{one_or_delay};
+ghost use Rattle.nfs_names.specs.Outcome.{checked, is_delay, or_delay};
+ghost use Rattle.nfs_names.specs.Operation.{moves_in};
 ghost use Rattle.nfs_names.specs.View.{outcome_of};
 ghost use Rattle.nfs_names.specs.Checks as check;
 ghost use Rattle.nfs_names.specs.Create as of_create;
@@ -205,7 +205,7 @@ pub(crate) fn create(
     now: Time,
 ) -> Res<'static>
     requires { IsRooted store.old.tree }
-    ensures { outcome_of result (state_of store.new) context.new ≡ one_or_delay (is_delay (status_of_result (view.res result))) (state_of store.old) context.old now (OpCreate (view_create asked.now)) }
+    ensures { outcome_of result (state_of store.new) context.new ≡ or_delay (is_delay (status_of_result (view.res result))) (state_of store.old) context.old num.Create (of_create.create (state_of store.old) context.old now (view_create asked.now)) }
 {
     match judge_making(store, context, asked) {
         Ok(making) => {
@@ -277,7 +277,7 @@ pub(crate) fn link(
     now: Time,
 ) -> Res<'static>
     requires { IsRooted store.old.tree }
-    ensures { outcome_of result (state_of store.new) context.now ≡ one_or_delay (is_delay (status_of_result (view.res result))) (state_of store.old) context.now now (OpLink name.now) }
+    ensures { outcome_of result (state_of store.new) context.now ≡ or_delay (is_delay (status_of_result (view.res result))) (state_of store.old) context.now num.Link (of_link.link (state_of store.old) context.now now name.now) }
 {
     match judge_link(store, context, name) {
         Ok(p) => match store
@@ -368,7 +368,9 @@ pub(crate) fn rename(
     now: Time,
 ) -> Res<'static>
     requires { IsRooted store.old.tree }
-    ensures { outcome_of result (state_of store.new) context.now ≡ one_or_delay (is_delay (status_of_result (view.res result))) (state_of store.old) context.now now (OpRename (view_rename asked.now)) }
+    ensures { outcome_of result (state_of store.new) context.now
+        ≡ or_delay (moves_in (state_of store.old) (view_rename asked.now) (check.both (state_of store.old) context.now) && is_delay (status_of_result (view.res result)))
+        (state_of store.old) context.now num.Rename (of_rename.rename (state_of store.old) context.now now (view_rename asked.now)) }
 {
     match judge_rename(store, context, asked) {
         Ok(p) => match store.tree.rename(

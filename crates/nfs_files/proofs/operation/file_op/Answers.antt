@@ -1,6 +1,4 @@
-use Rattle.std.proofs.Common.{◌≡◌, ◌≤◌, ◌+◌, length, refl, sym, ap, subst, ◌∙◌}
-use Rattle.nfs_xdr.specs.declared.time.Time.{Time}
-use Rattle.nfs_xdr.specs.declared.status.Status.{Status}
+use Rattle.std.proofs.Common.{rules, ◌≡◌, ◌≤◌, ◌+◌, true, length, refl, sym, ap, subst, Some}
 use Rattle.nfs_compound.specs.ArgCodecs.{view_lock, view_lock_t}
 use Rattle.nfs_compound.specs.Stateid.{view_stateids}
 use Rattle.nfs_compound.specs.Operation.{Item, Operation, OpLock, OpLockT, OpRead, OpTestStateid}
@@ -10,38 +8,19 @@ use Rattle.nfs_results.specs.Results.{status_of_result}
 use Rattle.nfs_results.specs.View as view
 use Rattle.nfs_names.specs.State.{state_of, moment}
 use Rattle.nfs_names.specs.StoreInvariants.{IsStore}
-use Rattle.nfs_names.specs.Comes.{Comes}
 use Rattle.nfs_names.specs.Outcome.{Outcome, is_delay}
-use Rattle.nfs_names.specs.View.{outcome_of}
-use Rattle.nfs_names.proofs.Bounds.{IsAnswer}
 use Rattle.nfs_names.proofs.Whole.{within, bounded_may, room_may}
 use Rattle.nfs_files.specs.Operation.{comes_to}
-use Rattle.nfs_files.proofs.Arms.{plain}
+use Rattle.nfs_files.proofs.Arms.{no_file_op}
 use Rattle.nfs_files.proofs.ByteAnswers.{may_read_bytes}
 use Rattle.nfs_files.proofs.StraightAnswers.{short_within, short_lock, short_lock_t, short_test}
-use Rattle.nfs_files.proofs.Whole.{keeps, store_left}
+use Rattle.nfs_files.proofs.Whole.{is_plain, keeps, store_left}
 use Rattle.nfs_files.proofs.operation.file_op.Goals as goal
-
-pub plain_op-res-requires : goal.plain_op-res-requires
-plain_op-res-requires c = record {
-  plain = plain c.args.arg.now c.in_default.not-Lock c.in_default.not-LockT c.in_default.not-Read c.in_default.not-TestStateid c.requires.offered;
-  store = c.requires.store;
-}
-
-pub write-requires : goal.write-requires
-write-requires c =
-    let i = item c.args.arg.now in
-    let r = view.res c.plain_op-res.result in
-    let kept = keeps (is_delay (status_of_result r)) (state_of c.args.store.now) c.args.context.now c.moment.result i
-    (plain c.args.arg.now c.in_default.not-Lock c.in_default.not-LockT c.in_default.not-Read c.in_default.not-TestStateid c.requires.offered)
-    c.kept.ensures c.kept-2.ensures c.requires.store in
-    let is : IsAnswer i r = subst (λ (o : Outcome). IsAnswer i o.result) (sym c.plain_op-res.ensures) kept.may in
-    record { bounds = bounded_may i r is; room = λ arrays. room_may i r c.args.out.now is c.requires.room }
 
 pub returns-in-Lock-clause-store : goal.returns-in-Lock-clause-store
 returns-in-Lock-clause-store c =
     subst IsStore (sym c.lock.ensures.state) (store_left (is_delay c.lock.result) (state_of c.args.store.now) c.args.context.now
-    (moment c.args.now) (OpLock (view_lock c.in-Lock.asked)) c.kept.ensures c.kept-2.ensures c.requires.store)
+    (moment c.args.now) (Operation (OpLock (view_lock c.in-Lock.asked))) c.kept.ensures c.kept-2.ensures c.requires.store)
 
 pub returns-in-Lock-clause-within : goal.returns-in-Lock-clause-within
 returns-in-Lock-clause-within c =
@@ -69,25 +48,34 @@ returns-in-Read-clause-within c =
     subst (λ (i : Item). length c.read.new.out.bytes ≤ length c.args.out.now.bytes + largest i) (sym (ap item c.in-Read.is))
     (within (Operation (OpRead a)) _ c.args.out.now c.read.new.out (may_read_bytes (state_of c.args.store.now) c.args.context.now a) c.read.ensures.put)
 
-pub returns-in_default : goal.returns-in_default
-returns-in_default c =
+pub returns-in_default-clause-comes : goal.returns-in_default-clause-comes
+returns-in_default-clause-comes c =
+    let n = c.in_default in (
+      λ refused. no_file_op refused (state_of c.args.store.now) c.args.context.now (moment c.args.now) c.args.arg.now n.not-Close n.not-Commit n.not-FreeStateid
+          n.not-Lock n.not-LockT n.not-LockU n.not-Open n.not-OpenDowngrade n.not-Read n.not-SetAttr n.not-TestStateid n.not-Write,
+      refl,
+      refl,
+      refl,
+    )
+
+pub write-requires : goal.write-requires
+write-requires c =
     let i = item c.args.arg.now in
+    let r = view.res c.match-arg.res in
     let s = state_of c.args.store.now in
-    let x = c.args.context.now in
-    let r = view.res c.plain_op-res.result in
-    let now = c.moment.result in
-    let kept = keeps (is_delay (status_of_result r)) s x now i
-    (plain c.args.arg.now c.in_default.not-Lock c.in_default.not-LockT c.in_default.not-Read c.in_default.not-TestStateid c.requires.offered)
-    c.kept.ensures c.kept-2.ensures c.requires.store in
-    let is : IsAnswer i r = subst (λ (o : Outcome). IsAnswer i o.result) (sym c.plain_op-res.ensures) kept.may in
-    let left : Outcome = outcome_of c.plain_op-res.result (state_of c.plain_op-res.new.store) c.plain_op-res.new.context in
-    let same : left ≡ comes_to (is_delay c.status.result) s x (moment c.args.now) i =
-    c.plain_op-res.ensures ∙ ap (λ (t : Time). comes_to (is_delay (status_of_result r)) s x t i) c.moment.ensures
-    ∙ ap (λ (st : Status). comes_to (is_delay st) s x (moment c.args.now) i) (sym c.status.ensures) in
-    record {
-      comes = subst
-          (λ (o : Outcome). Comes o c.args.out.now c.write.new.out c.status.result (state_of c.plain_op-res.new.store) c.plain_op-res.new.context) same
-          (record { put = c.write.ensures; status = c.status.ensures; state = refl; context = refl });
-      store = subst (λ (o : Outcome). IsStore o.state) (sym c.plain_op-res.ensures) kept.store;
-      within = within i r c.args.out.now c.write.new.out is c.write.ensures;
-    }
+    let left : Outcome = record { result = r; state = state_of c.match-arg.store; context = c.match-arg.context } in
+    let plain : is_plain i ≡ true = search rules in
+    let is : comes_to (is_delay (status_of_result r)) s c.args.context.now (moment c.args.now) i ≡ Some left = search rules in
+    let may = (keeps (is_delay (status_of_result r)) s c.args.context.now (moment c.args.now) i plain c.kept.ensures c.kept-2.ensures c.requires.store left is).may in
+    record { bounds = bounded_may i r may; room = λ arrays. room_may i r c.args.out.now may c.requires.room }
+
+pub returns : goal.returns
+returns c =
+    let i = item c.args.arg.now in
+    let r = view.res c.match-arg.res in
+    let s = state_of c.args.store.now in
+    let left : Outcome = record { result = r; state = state_of c.match-arg.store; context = c.match-arg.context } in
+    let plain : is_plain i ≡ true = search rules in
+    let is : comes_to (is_delay (status_of_result r)) s c.args.context.now (moment c.args.now) i ≡ Some left = search rules in
+    let kept = keeps (is_delay (status_of_result r)) s c.args.context.now (moment c.args.now) i plain c.kept.ensures c.kept-2.ensures c.requires.store left is in
+    record { comes = search rules; store = kept.store; within = within i r c.args.out.now c.write.new.out kept.may c.write.ensures }

@@ -1,30 +1,22 @@
-use Rattle.std.proofs.Common.{◌≡◌, ◌≤◌, ◌+◌, length, refl, sym, ap, subst, ◌∙◌}
+use Rattle.std.proofs.Common.{rules, ◌≡◌, ◌≤◌, ◌+◌, length, sym, ap, subst, Some}
 use Rattle.nfs_xdr.specs.declared.time.Time.{Time}
-use Rattle.nfs_xdr.specs.declared.status.Status.{Status}
 use Rattle.nfs_compound.specs.ArgCodecs.{view_bitmap, view_read_dir}
 use Rattle.nfs_compound.specs.Operation.{Item, Operation, OpGetAttr, OpGetFh, OpReadDir, OpReadLink}
 use Rattle.nfs_compound.specs.View.{item}
 use Rattle.nfs_results.specs.Largest.{largest}
+use Rattle.nfs_results.specs.Result.{Res}
 use Rattle.nfs_results.specs.Results.{status_of_result}
 use Rattle.nfs_results.specs.View as view
-use Rattle.nfs_names.specs.State.{state_of, moment}
+use Rattle.nfs_tree.specs.TreeInvariants.{IsTree}
+use Rattle.nfs_names.specs.declared.context.Context.{Context}
+use Rattle.nfs_names.specs.State.{State, state_of, moment}
 use Rattle.nfs_names.specs.StoreInvariants.{IsStore}
-use Rattle.nfs_names.specs.Comes.{Comes}
-use Rattle.nfs_names.specs.Outcome.{Outcome, is_delay}
+use Rattle.nfs_names.specs.Outcome.{is_delay}
 use Rattle.nfs_names.specs.Operation.{comes_to}
-use Rattle.nfs_names.specs.View.{outcome_of}
-use Rattle.nfs_names.proofs.Bounds.{IsAnswer, may_get_attr, may_get_fh, may_read_dir, may_read_link}
-use Rattle.nfs_names.proofs.Whole.{keeps, within, bounded_may, room_may}
+use Rattle.nfs_names.proofs.Bounds.{may_get_attr, may_get_fh, may_read_dir, may_read_link}
+use Rattle.nfs_names.proofs.Ones.{each_of}
+use Rattle.nfs_names.proofs.Whole.{Keeps, keeps, within, bounded_may, room_may}
 use Rattle.nfs_names.proofs.operation.name_op.Goals as goal
-
-pub write-requires : goal.write-requires
-write-requires c =
-    let i = item c.args.arg.now in
-    let r = view.res c.plain_op-res.result in
-    let kept = keeps (is_delay (status_of_result r))
-    (state_of c.args.store.now) c.args.context.now c.moment.result i c.requires.offered c.kept.ensures c.requires.store in
-    let is : IsAnswer i r = subst (λ (o : Outcome). IsAnswer i o.result) (sym c.plain_op-res.ensures) kept.may in
-    record { bounds = bounded_may i r is; room = λ arrays. room_may i r c.args.out.now is c.requires.room }
 
 pub returns-in-GetAttr-clause-within : goal.returns-in-GetAttr-clause-within
 returns-in-GetAttr-clause-within c =
@@ -50,23 +42,28 @@ returns-in-ReadLink-clause-within c =
     subst (λ (i : Item). length c.read_link.new.out.bytes ≤ length c.args.out.now.bytes + largest i) (sym (ap item c.in-ReadLink.is))
     (within (Operation OpReadLink) _ c.args.out.now c.read_link.new.out (may_read_link (state_of c.args.store.now) c.args.context.now) c.read_link.ensures.put)
 
-pub returns-in_default : goal.returns-in_default
-returns-in_default c =
+-- what was found of an operation whose result is put behind the match
+kept : (s : State) (x : Context) (now : Time) (i : Item) (r : Res) (left : State) (behind : Context) → IsTree s.tree → IsStore s
+    → comes_to (is_delay (status_of_result r)) s x now i ≡ Some (record { result = r; state = left; context = behind })
+    → Keeps i (record { result = r; state = left; context = behind })
+kept s x now i r left behind tree is = each_of (Keeps i) _ (keeps (is_delay (status_of_result r)) s x now i tree is) _
+
+pub write-requires : goal.write-requires
+write-requires c =
     let i = item c.args.arg.now in
+    let r = view.res c.match-arg.res in
     let s = state_of c.args.store.now in
-    let x = c.args.context.now in
-    let r = view.res c.plain_op-res.result in
-    let now = c.moment.result in
-    let kept = keeps (is_delay (status_of_result r)) s x now i c.requires.offered c.kept.ensures c.requires.store in
-    let is : IsAnswer i r = subst (λ (o : Outcome). IsAnswer i o.result) (sym c.plain_op-res.ensures) kept.may in
-    let left : Outcome = outcome_of c.plain_op-res.result (state_of c.plain_op-res.new.store) c.plain_op-res.new.context in
-    let same : left ≡ comes_to (is_delay c.status.result) s x (moment c.args.now) i =
-    c.plain_op-res.ensures ∙ ap (λ (t : Time). comes_to (is_delay (status_of_result r)) s x t i) c.moment.ensures
-    ∙ ap (λ (st : Status). comes_to (is_delay st) s x (moment c.args.now) i) (sym c.status.ensures) in
-    record {
-      comes = subst
-          (λ (o : Outcome). Comes o c.args.out.now c.write.new.out c.status.result (state_of c.plain_op-res.new.store) c.plain_op-res.new.context) same
-          (record { put = c.write.ensures; status = c.status.ensures; state = refl; context = refl });
-      store = subst (λ (o : Outcome). IsStore o.state) (sym c.plain_op-res.ensures) kept.store;
-      within = within i r c.args.out.now c.write.new.out is c.write.ensures;
-    }
+    let is : comes_to (is_delay (status_of_result r)) s c.args.context.now (moment c.args.now) i
+    ≡ Some (record { result = r; state = state_of c.match-arg.store; context = c.match-arg.context }) = search rules in
+    let may = (kept s c.args.context.now (moment c.args.now) i r (state_of c.match-arg.store) c.match-arg.context c.kept.ensures c.requires.store is).may in
+    record { bounds = bounded_may i r may; room = λ arrays. room_may i r c.args.out.now may c.requires.room }
+
+pub returns : goal.returns
+returns c =
+    let i = item c.args.arg.now in
+    let r = view.res c.match-arg.res in
+    let s = state_of c.args.store.now in
+    let is : comes_to (is_delay (status_of_result r)) s c.args.context.now (moment c.args.now) i
+    ≡ Some (record { result = r; state = state_of c.match-arg.store; context = c.match-arg.context }) = search rules in
+    let keeps = kept s c.args.context.now (moment c.args.now) i r (state_of c.match-arg.store) c.match-arg.context c.kept.ensures c.requires.store is in
+    record { comes = search rules; store = keeps.store; within = within i r c.args.out.now c.write.new.out keeps.may c.write.ensures }

@@ -9,7 +9,8 @@ use Rattle.nfs_results.specs.Results.{refusal, status_of_result}
 use Rattle.nfs_results.specs.ResultCodec.{IsBounded}
 use Rattle.nfs_results.specs.View as view
 use Rattle.nfs_compound.specs.declared.arg.Arg.TheVariants as Args
-use Rattle.nfs_exec.specs.Machine.{Machine, comes_to, is_delay, machine_of}
+use Rattle.nfs_names.specs.Outcome.{is_delay}
+use Rattle.nfs_exec.specs.Machine.{Machine, comes_to, machine_of}
 use Rattle.nfs_exec.specs.View.{IsSmall}
 use Rattle.nfs_exec.proofs.Bearing.{place_small, rest_small, exchanged_small}
 use Rattle.nfs_exec.proofs.Standing.{small_fits, put_does, misplaced, branch_done, not_carried}

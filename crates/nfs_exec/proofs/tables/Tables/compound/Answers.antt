@@ -6,7 +6,8 @@ use Rattle.nfs_compound.specs.Operation.{Item}
 use Rattle.nfs_compound.specs.Request.{Request}
 use Rattle.nfs_compound.specs.View.{item}
 use Rattle.nfs_names.specs.StoreInvariants.{IsStore}
-use Rattle.nfs_exec.specs.Machine.{Machine, is_delay, machine_of}
+use Rattle.nfs_names.specs.Outcome.{is_delay}
+use Rattle.nfs_exec.specs.Machine.{Machine, machine_of}
 use Rattle.nfs_exec.proofs.Latest.{first_stores}
 use Rattle.nfs_exec.proofs.Bearing.{opened_all, opened_bears, opened_few}
 use Rattle.nfs_exec.proofs.Keeping.{any_head_fits, head_fits, alone_fits, has_one}

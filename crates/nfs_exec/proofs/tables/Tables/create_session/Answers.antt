@@ -2,7 +2,8 @@ use Rattle.std.proofs.Common.{refl, ap, subst}
 use Rattle.nfs_xdr.specs.declared.status.Status.TheVariants.{StaleClientId, SeqMisordered, ClidInUse}
 use Rattle.nfs_compound.specs.ArgCodecs.{view_create_session}
 use Rattle.nfs_clients.specs.CreateSession.{Verdict, Stale, Misordered, InUse, create_verdict}
-use Rattle.nfs_exec.specs.Machine.{is_delay, machine_of}
+use Rattle.nfs_names.specs.Outcome.{is_delay}
+use Rattle.nfs_exec.specs.Machine.{machine_of}
 use Rattle.nfs_exec.specs.CreateSession.{by_verdict}
 use Rattle.nfs_exec.specs.View.{Does}
 use Rattle.nfs_exec.proofs.Creating.{refused_call}

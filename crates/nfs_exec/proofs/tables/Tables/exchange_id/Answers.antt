@@ -5,7 +5,8 @@ use Rattle.nfs_clients.specs.ExchangeId.{case_of}
 use Rattle.nfs_lease.specs.Renewals.{Book, leases_of, without_lease}
 use Rattle.nfs_results.specs.Result.{Res, ResExchangeId, ExchangeIdOk}
 use Rattle.nfs_results.specs.Results.{status_of_result}
-use Rattle.nfs_exec.specs.Machine.{comes_to, is_delay, or_delay, machine_of}
+use Rattle.nfs_names.specs.Outcome.{is_delay}
+use Rattle.nfs_exec.specs.Machine.{comes_to, or_delay, machine_of}
 use Rattle.nfs_exec.specs.ExchangeId.{exchange_id, exchange_id_number, ask_of}
 use Rattle.nfs_exec.specs.View.{settled}
 use Rattle.nfs_exec.proofs.Exchanging.{answered_ok, refused_first, refused_last}

@@ -1,0 +1,26 @@
+-- What holds of the outcome of an operation, if it is one of a table of operations.
+use Rattle.std.proofs.Common.{Bool, true, false, cond, Option, Some, None, subst}
+use Rattle.std.specs.Prelude.{◌&&◌, IfSome}
+use Rattle.std.specs.Option.{ForSome, option_map}
+use Rattle.nfs_xdr.specs.declared.status.Status.TheVariants.{Delay}
+use Rattle.nfs_compound.specs.declared.op_num.OpNum.{OpNum}
+use Rattle.nfs_names.specs.declared.context.Context.{Context}
+use Rattle.nfs_names.specs.State.{State}
+use Rattle.nfs_names.specs.Outcome.{Outcome, refuses, or_delay, is_ok}
+
+pub by_delay : (P : Outcome → Type 0) (b : Bool) (s : State) (x : Context) (op : OpNum) (o : Outcome) → P (refuses s x op Delay) → P o → P (or_delay b s x op o)
+by_delay P b s x op o refused done = elim (b && is_ok o.result) as (λ k. P (cond k (refuses s x op Delay) o)) [ true ↦ refused | false ↦ done ]
+
+-- it holds where memory was refused too, if it holds of the refusal
+pub if_delayed : (P : Outcome → Type 0) (b : Bool) (s : State) (x : Context) (op : OpNum) (v : Option Outcome)
+    → P (refuses s x op Delay) → IfSome v P → IfSome (option_map (or_delay b s x op) v) P
+if_delayed P b s x op None refused done = tt
+if_delayed P b s x op (Some o) refused done = by_delay P b s x op o refused done
+
+pub if_both : {P Q R : Outcome → Type 0} (v : Option Outcome) → IfSome v P → IfSome v Q → ((o : Outcome) → P o → Q o → R o) → IfSome v R
+if_both None p q both = tt
+if_both (Some o) p q both = both o p q
+
+-- the same, for whoever knows the outcome
+pub each_of : (P : Outcome → Type 0) (v : Option Outcome) → IfSome v P → ForSome v P
+each_of P v p o e = subst (λ (v : Option Outcome). IfSome v P) e p
