@@ -89,8 +89,8 @@ pub fn exchange_id()
     ensures { RunsTo exchange_script exchange_output }
 {}
 
-/// What callers go by in replies can be read, and in one way: the answer of a reply, whether its SEQUENCE is NFS4_OK, and the slot and the
-/// number that it bears. So each law of whatever finds the answers is one of this server.
+/// What callers go by in replies can be read: the answer of a reply, whether its SEQUENCE is NFS4_OK, and the slot and the number that it
+/// bears. So there is a reader of which the laws of a network speak.
 pub fn replies_can_be_read()
     ensures answers { ReplyReader }
     ensures sequences { (is_sequenced : List ℕ → Bool) × ((result : List ℕ) → IsBytes result → is_sequenced result ≡ true ↔ IsSequenced result) }

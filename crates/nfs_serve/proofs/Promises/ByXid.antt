@@ -1,5 +1,5 @@
 -- Callers that go by xids, and use none for two compounds, are callers that may go by SEQUENCE's result.
-use Rattle.std.proofs.Common.{◌≡◌, inl, inr, List, [], ◌∷◌, Some, sym, ◌∙◌, ap, subst}
+use Rattle.std.proofs.Common.{◌≡◌, inl, inr, List, [], ◌∷◌, sym, ◌∙◌, ap, subst}
 use Rattle.nfs_xdr.specs.Tables.{In}
 use Rattle.nfs_serve.specs.Promises.Endpoint.{Place, Compound, Answer, Server, Arrival, ran}
 use Rattle.nfs_serve.specs.Promises.Network.{Callers, Packet, Line, Network, NetworkEvent, Sends, Resends, Arrives, Asks, Intrudes, Accepts, after, IsOfOneCompound, MayAccept, May, Schedule, IsUnused, begins, ExactlyOnce}

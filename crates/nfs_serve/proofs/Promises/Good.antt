@@ -1,16 +1,12 @@
 -- What runs on a slot is answered with a good SEQUENCE, which bears the slot and the number of the call: so its caller may accept it.
-use Rattle.std.proofs.Common.{◌≡◌, inl, inr, ℕ, ◌<◌, ◌^◌, zero, suc, Bool, true, List, [], ◌∷◌, ◌++◌, length, Option, Some, None, refl, ◌∙◌, ap, subst, append_assoc, arith}
-use Rattle.std.specs.Prelude.{◌==◌, nat_lt, take, false, if◌then◌else◌}
-use Rattle.std.specs.Int.{w32, from_be_bytes}
-use Rattle.std.proofs.lemmas.List.{length-append, drop_at}
-use Rattle.std.proofs.lemmas.Bool.{cases_Bool, le-ltb, eqb-true}
+use Rattle.std.proofs.Common.{◌≡◌, inl, inr, ℕ, ◌<◌, ◌^◌, zero, suc, List, [], ◌∷◌, ◌++◌, Option, Some, None, ◌∙◌, ap, subst, append_assoc}
+use Rattle.std.specs.Prelude.{◌==◌}
+use Rattle.std.proofs.lemmas.Bool.{cases_Bool, eqb-true}
 use Rattle.nfs_xdr.specs.Spelling as spelling
 use Rattle.nfs_xdr.specs.Limits.{opaque_limit}
 use Rattle.nfs_xdr.specs.Codec.{number, opaque}
 use Rattle.nfs_xdr.specs.Caller.{Caller}
 use Rattle.nfs_xdr.specs.Status.{status_number}
-use Rattle.nfs_xdr.proofs.CodecLaws.{is_number, is_fixed, is_opaque}
-use Rattle.nfs_xdr.proofs.Putting.{length_number}
 use Rattle.nfs_xdr.proofs.StatusLaws.{is_status_listing}
 use Rattle.nfs_compound.specs.Operation.{Item, Operation, OpSequence}
 use Rattle.nfs_compound.specs.Request.{Request, Lists, HasBody, IsRequest}

@@ -44,7 +44,7 @@ use Rattle.nfs_exec.specs.Sequence.{Sequenced, Refuses, Repeats, Runs as RunsIn,
 use Rattle.nfs_exec.specs.Compound.{in_session, by_first, compound}
 use Rattle.nfs_exec.specs.Laws.{if_runs, first_runs}
 use Rattle.nfs_exec.proofs.Numbering.{IsHeld}
-use Rattle.nfs_serve.specs.Promises.Endpoint.{Place, Heading, Answer, SlotNumber}
+use Rattle.nfs_serve.specs.Promises.Endpoint.{Place, Heading, Answer}
 use Rattle.nfs_serve.proofs.Promises.ServerLaws.{Runs, Repeats as RepeatsOn, IsElsewhere, KeepsSlots}
 use Rattle.nfs_exec.specs.Executing.{first_sequence, sequence_of, is_alone, executes}
 use Rattle.nfs_serve.specs.Step.{asked_of, State, Stepped, refused, answered, with_arguments, by_procedure, reply_to, step}

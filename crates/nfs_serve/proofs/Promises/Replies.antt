@@ -1,5 +1,5 @@
 -- What a reply says is read just where its text stands, and is read in one way.
-use Rattle.std.proofs.Common.{◌≡◌, ℕ, ◌<◌, ◌^◌, zero, suc, Bool, true, false, List, [], ◌∷◌, ◌++◌, get_or, Option, Some, None, refl, sym, ◌∙◌, ap, subst, append_assoc, arith, ltb-true}
+use Rattle.std.proofs.Common.{◌≡◌, ℕ, ◌<◌, ◌^◌, zero, suc, Bool, true, List, [], ◌++◌, get_or, Option, Some, None, refl, sym, ◌∙◌, ap, subst, append_assoc, arith, ltb-true}
 use Rattle.std.specs.Prelude.{◌==◌, ◌&&◌, nat_lt, bytes_eq, if◌then◌else◌}
 use Rattle.std.specs.Int.{w32, from_be_bytes}
 use Rattle.std.proofs.Math.Path.{fun_ext}
@@ -11,9 +11,9 @@ use Rattle.nfs_xdr.specs.Spelling as spelling
 use Rattle.nfs_xdr.specs.Limits.{opaque_limit}
 use Rattle.nfs_xdr.specs.Codec.{number, opaque}
 use Rattle.nfs_xdr.specs.Combinators.{fixed}
-use Rattle.nfs_xdr.specs.Text.{IsBytes, void}
+use Rattle.nfs_xdr.specs.Text.{IsBytes}
 use Rattle.nfs_xdr.specs.Lawful.{IsCodec}
-use Rattle.nfs_xdr.proofs.CodecLaws.{is_number, is_fixed, is_opaque, is_then, test_some}
+use Rattle.nfs_xdr.proofs.CodecLaws.{is_number, is_fixed, is_then, test_some}
 use Rattle.nfs_rpc.specs.declared.refusal.Refusal.{Refusal}
 use Rattle.nfs_rpc.specs.Reply.{spell_head, spell_refusal}
 use Rattle.nfs_sessions.specs.Id.{id_of}

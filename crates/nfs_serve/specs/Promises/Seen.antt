@@ -27,7 +27,7 @@ accepted_reply xid = uint32 xid then enum 1 then enum 0 then opaque_auth (record
 abbrev pub IsAnswer : List ℕ → Answer → Type 0
 IsAnswer reply a = Leads accepted_reply reply (a.xid, a.result)
 
--- whatever finds the answer in each reply that is one, and finds none in any other
+-- whatever finds the answer in each reply that is the text of one, and none in any other
 pub record ReplyReader : Type 0 where
   pub find : List ℕ → Option Answer
   pub exact : (reply : List ℕ) (a : Answer) → find reply ≡ Some a ↔ IsAnswer reply a
