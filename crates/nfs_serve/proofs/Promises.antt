@@ -13,7 +13,9 @@ pub mod WrongServers
 pub mod Settled
 pub mod Ticking
 pub mod SlotsLeft
+pub mod Reader
 pub mod Spelled
+pub mod Replies
 pub mod Mute
 pub mod KeptSlots
 pub mod Good

@@ -1,6 +1,8 @@
 //! Laws of the definitions alone: each is the contract of a function that takes and answers nothing.
 
-ghost use Rattle.std.specs.Prelude.{ℕ};
+ghost use Rattle.std.specs.Prelude.{◌≡◌, ◌↔◌, ℕ, List, Bool, true, Option, Some};
+ghost use Rattle.nfs_xdr.specs.Text.{IsBytes};
+ghost use Rattle.nfs_serve.specs.Promises.Endpoint.{SlotNumber};
 ghost use Rattle.nfs_serve.specs.Promises.Account.{NothingIsLost};
 ghost use Rattle.nfs_serve.specs.Promises.Waiting.{WaitsForFew};
 ghost use Rattle.nfs_serve.specs.Promises.Alone.{ExecutingAlone, StaysSettled};
@@ -19,7 +21,7 @@ ghost use Rattle.nfs_serve.specs.Promises.Outlived.{NoneOutlives};
 ghost use Rattle.nfs_serve.specs.Promises.Points.{NoClash};
 ghost use Rattle.nfs_serve.specs.Promises.PerfectWire.{AsOverAWire};
 ghost use Rattle.nfs_serve.specs.Promises.RealTime.{Atomic};
-ghost use Rattle.nfs_serve.specs.Promises.Seen.{server};
+ghost use Rattle.nfs_serve.specs.Promises.Seen.{ReplyReader, IsSequenced, Bears, server};
 ghost use Rattle.nfs_serve.specs.Promises.SessionsOnce.{EachMakesOne, EachWasMade, RepeatsMakeNone, NextMakesOne, IsGivenOnce};
 ghost use Rattle.nfs_serve.specs.Promises.SeenWrite.{IsSeen};
 ghost use Rattle.nfs_serve.specs.Promises.WrongLocks.{AreRefused};
@@ -87,73 +89,81 @@ pub fn exchange_id()
     ensures { RunsTo exchange_script exchange_output }
 {}
 
+/// What callers go by in replies can be read: the answer of a reply, whether its SEQUENCE is NFS4_OK, and the slot and the number that it
+/// bears. So there is a reader of which the laws of a network speak.
+pub fn replies_can_be_read()
+    ensures answers { ReplyReader }
+    ensures sequences { (is_sequenced : List ℕ → Bool) × ((result : List ℕ) → IsBytes result → is_sequenced result ≡ true ↔ IsSequenced result) }
+    ensures numbers { (number_of : List ℕ → Option SlotNumber) × ((result : List ℕ) (n : SlotNumber) → IsBytes result → number_of result ≡ Some n ↔ Bears result n) }
+{}
+
 /// Over a network that loses, repeats, delays and reorders: each compound that is sent on a slot is executed at most once, the executed ones
 /// are the first that were sent, in their order, and what their caller accepts are the results of those executions, each for its own
 /// compound.
 pub fn exactly_once()
-    ensures { (mode : ℕ) (instance : ℕ) (lease : ℕ) → ExactlyOnce (server mode instance lease) }
+    ensures { (reader : ReplyReader) (mode : ℕ) (instance : ℕ) (lease : ℕ) → ExactlyOnce (server reader.find mode instance lease) }
 {}
 
 /// What executes on a slot is answered under the xid of its call, with a SEQUENCE that its caller may accept.
 pub fn answers_what_executes()
-    ensures { (mode : ℕ) (instance : ℕ) (lease : ℕ) → AnswersExecuted (server mode instance lease) }
+    ensures { (reader : ReplyReader) (mode : ℕ) (instance : ℕ) (lease : ℕ) → AnswersExecuted (server reader.find mode instance lease) }
 {}
 
 /// The definitions compute: two compounds are sent on a slot, the second again since its first reply is lost; each is executed once, and both
 /// results are accepted.
 pub fn exchange_over_a_network()
-    ensures { IsAccepted }
+    ensures { (reader : ReplyReader) → IsAccepted reader.find }
 {}
 
 /// A list of records leaves what those that execute leave alone, but for the list's last moment and what has run out by then; and those are
 /// answered alike.
 pub fn executing_alone()
-    ensures { (mode : ℕ) (instance : ℕ) (lease : ℕ) → ExecutingAlone (server mode instance lease) }
+    ensures { (reader : ReplyReader) (mode : ℕ) (instance : ℕ) (lease : ℕ) → ExecutingAlone (server reader.find mode instance lease) }
 {}
 
 /// Behind each record of a run nothing is left to run out: to take its moment anew changes nothing.
 pub fn stays_settled()
-    ensures { (mode : ℕ) (instance : ℕ) (lease : ℕ) → StaysSettled (server mode instance lease) }
+    ensures { (reader : ReplyReader) (mode : ℕ) (instance : ℕ) (lease : ℕ) → StaysSettled (server reader.find mode instance lease) }
 {}
 
 /// What `exactly_once` says holds too of callers that go by the session, the slot and the number in SEQUENCE's result, as RFC 8881 clients check, and
 /// by no xid. Callers and their slots may come on the way.
 pub fn exactly_once_by_number()
-    ensures { (mode : ℕ) (instance : ℕ) (lease : ℕ) → ExactlyOnceByNumber (server mode instance lease) }
+    ensures { (reader : ReplyReader) (mode : ℕ) (instance : ℕ) (lease : ℕ) → ExactlyOnceByNumber (server reader.find mode instance lease) }
 {}
 
 /// What executes on a slot is answered with a result that bears the slot and the number, so its caller may accept it.
 pub fn answers_with_the_number()
-    ensures { (mode : ℕ) (instance : ℕ) (lease : ℕ) → AnswersNumbered (server mode instance lease) }
+    ensures { (reader : ReplyReader) (mode : ℕ) (instance : ℕ) (lease : ℕ) → AnswersNumbered (server reader.find mode instance lease) }
 {}
 
 /// Callers that go by xids, and use none for two compounds, do what callers by number may do: so each law of these is one of those.
 pub fn xids_suffice()
-    ensures { (mode : ℕ) (instance : ℕ) (lease : ℕ) → XidsSuffice (server mode instance lease) }
+    ensures { (reader : ReplyReader) (mode : ℕ) (instance : ℕ) (lease : ℕ) → XidsSuffice (server reader.find mode instance lease) }
 {}
 
 /// Over a network that loses, repeats, delays and reorders the server ends as one that received each executed compound once, in order, over a
 /// perfect wire, and nothing that does not execute; what callers accept are the results that it answers there.
 pub fn as_over_a_wire()
-    ensures { (mode : ℕ) (instance : ℕ) (lease : ℕ) → AsOverAWire (server mode instance lease) }
+    ensures { (reader : ReplyReader) (mode : ℕ) (instance : ℕ) (lease : ℕ) → AsOverAWire (server reader.find mode instance lease) }
 {}
 
 /// Atomic, and in real time: over such a network what runs is one list of records, one after the other; each accepted result is its compound's in
 /// that list; and a compound that is sent after a result was accepted, by whatever caller, runs after the compound of that result.
 pub fn atomic_in_real_time()
-    ensures { (mode : ℕ) (instance : ℕ) (lease : ℕ) → Atomic (server mode instance lease) }
+    ensures { (reader : ReplyReader) (mode : ℕ) (instance : ℕ) (lease : ℕ) → Atomic (server reader.find mode instance lease) }
 {}
 
 /// The definitions compute: a client writes to a file, and accepts the result though the first reply was lost; then another client comes and reads
 /// the file, and is answered what was written. Each call has the same xid. That run meets the premises of `as_over_a_wire` and
 /// `atomic_in_real_time`.
 pub fn a_write_is_seen()
-    ensures { IsSeen }
+    ensures { (reader : ReplyReader) → IsSeen reader.find }
 {}
 
 /// The exchange of `exchange_over_a_network` is as over a perfect wire, on which the second compound comes once; and it runs after the first one.
 pub fn exchange_over_a_wire()
-    ensures { IsOverAWire }
+    ensures { (reader : ReplyReader) → IsOverAWire reader.find }
 {}
 
 /// The definitions compute: a small server that runs a repeat again meets `exactly_once_by_number`, and `as_over_a_wire` is false of it; and of one

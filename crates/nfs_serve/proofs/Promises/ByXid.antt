@@ -1,5 +1,5 @@
 -- Callers that go by xids, and use none for two compounds, are callers that may go by SEQUENCE's result.
-use Rattle.std.proofs.Common.{◌≡◌, inl, inr, List, [], ◌∷◌, Some, sym, ◌∙◌, ap, subst}
+use Rattle.std.proofs.Common.{◌≡◌, inl, inr, List, [], ◌∷◌, sym, ◌∙◌, ap, subst}
 use Rattle.nfs_xdr.specs.Tables.{In}
 use Rattle.nfs_serve.specs.Promises.Endpoint.{Place, Compound, Answer, Server, Arrival, ran}
 use Rattle.nfs_serve.specs.Promises.Network.{Callers, Packet, Line, Network, NetworkEvent, Sends, Resends, Arrives, Asks, Intrudes, Accepts, after, IsOfOneCompound, MayAccept, May, Schedule, IsUnused, begins, ExactlyOnce}
@@ -44,15 +44,15 @@ accepts s laws callers start net p c a is apart may = record {
     begun : Begun s laws net.machine net.packets l p
     begun = begun_waits s laws net.machine net.packets l p waits (is.stage p may.place)
 
-    numbered : s.slot_number a.result ≡ Some (record { place = p; number = c.number })
+    numbered : s.Bears a.result (record { place = p; number = c.number })
     numbered =
         let by = is.replies _ may.sent may.sequenced in
         let (q, sent, at, last, xid) = begun.line.sent a.xid may.xid in
         let one = apart q sent by.packet by.sent (by.caller ∙ ap callers.who (sym at)) (by.xid ∙ sym xid) in
         let compound : by.packet.heading.compound ≡ c = one.1 ∙ last_one last.0 may.last.0 q.heading.compound c (sym last.1 ∙ may.last.1) in
         let place : by.packet.heading.place ≡ p = one.0 ∙ at in
-        subst (λ (d : Compound). s.slot_number a.result ≡ Some (record { place = p; number = d.number })) compound
-        (subst (λ (k : Place). s.slot_number a.result ≡ Some (record { place = k; number = by.packet.heading.compound.number })) place
+        subst (λ (d : Compound). s.Bears a.result (record { place = p; number = d.number })) compound
+        (subst (λ (k : Place). s.Bears a.result (record { place = k; number = by.packet.heading.compound.number })) place
         (is.tells by.packet.heading.place (is.packets by.packet by.sent).place (record { compound = by.packet.heading.compound; result = a.result }) by.executed))
 
 event_can : (s : Server) (laws : KeepsSlots s) (callers : Callers) (start : s.State) (net : Network s) (e : NetworkEvent) → ((p : Place) → In p callers.places → IsUnused s start p)

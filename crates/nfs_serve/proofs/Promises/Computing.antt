@@ -36,6 +36,7 @@ use Rattle.nfs_files.specs.Close.{close}
 use Rattle.nfs_files.specs.Read as file_read
 use Rattle.nfs_files.specs.Write as file_write
 use Rattle.nfs_serve.specs.Step.{step}
+use Rattle.nfs_serve.proofs.Promises.Replies.{found}
 
 unfoldable pub computing : Unit {0}
 unfolding number hyper step call_of header opaque_auth opaque_at fixed_at behind_header caller_of auth_sys spell_head request_at items_at item_at op_at
@@ -44,5 +45,5 @@ unfolding number hyper step call_of header opaque_auth opaque_at fixed_at behind
     exist_lock_owner locker lock_args lock_u_args results.exchange_id results.create_session results.sequence results.open_ok results.change_info
     results.attr_set results.denied told attributes settings settings_of handle wanted_of current permits put_fh put_root_fh asked_for open_file the_file target
     range wished denied lock lock_u open_downgrade_args open_downgrade read_args write_args stable_how results.read_ok results.write_ok lookup seat may_use
-    readable writable file_read.read file_write.write close_args close
+    readable writable file_read.read file_write.write close_args close found
 computing = tt

@@ -20,7 +20,7 @@ use Rattle.nfs_serve.specs.Server.{Stands, FeedsOr}
 use Rattle.nfs_serve.specs.Replay.{Replayed, ReplaysFault}
 use Rattle.nfs_serve.specs.Talk.{SpeaksUntil}
 use Rattle.nfs_serve.specs.Hub.{at}
-use Rattle.nfs_serve.specs.Promises.Endpoint.{Server, Arrival, stepped, ran}
+use Rattle.nfs_serve.specs.Promises.Endpoint.{Answer, Server, Arrival, stepped, ran}
 use Rattle.nfs_serve.specs.Promises.Seen.{server}
 use Rattle.nfs_serve.specs.Promises.Points.{state_after_all}
 use Rattle.nfs_serve.specs.Promises.Forms.{record_of, records_of, LeavesOf, AllRun, FrontRuns, RunUpTo, EachFormRunsRecords}
@@ -30,28 +30,28 @@ use Rattle.nfs_serve.proofs.Runs.{takes_piece}
 use Rattle.nfs_serve.proofs.Promises.Whole.{runs_script}
 
 -- the state behind moves is that of their records
-by_event : (mode instance lease : ℕ) (s : State) (moves : List Move) (e : StreamEvent) (choice : Option ℕ)
-    → ((t : State) → after t moves ≡ ran (server mode instance lease) t (records_of moves))
-    → after (after_event s e choice) moves ≡ ran (server mode instance lease) s (record_of e choice ++ records_of moves)
-by_event mode instance lease s moves (Arrives conn moment call) choice rest = rest (step s call moment choice).state
-by_event mode instance lease s moves (Overflows conn) choice rest = rest s
+by_event : (find : List ℕ → Option Answer) (mode instance lease : ℕ) (s : State) (moves : List Move) (e : StreamEvent) (choice : Option ℕ)
+    → ((t : State) → after t moves ≡ ran (server find mode instance lease) t (records_of moves))
+    → after (after_event s e choice) moves ≡ ran (server find mode instance lease) s (record_of e choice ++ records_of moves)
+by_event find mode instance lease s moves (Arrives conn moment call) choice rest = rest (step s call moment choice).state
+by_event find mode instance lease s moves (Overflows conn) choice rest = rest s
 
-after_is : (mode instance lease : ℕ) (s : State) (moves : List Move) → after s moves ≡ ran (server mode instance lease) s (records_of moves)
-after_is mode instance lease s [] = refl
-after_is mode instance lease s (m ∷ moves) = by_event mode instance lease s moves m.event m.choice (λ t. after_is mode instance lease t moves)
+after_is : (find : List ℕ → Option Answer) (mode instance lease : ℕ) (s : State) (moves : List Move) → after s moves ≡ ran (server find mode instance lease) s (records_of moves)
+after_is find mode instance lease s [] = refl
+after_is find mode instance lease s (m ∷ moves) = by_event find mode instance lease s moves m.event m.choice (λ t. after_is find mode instance lease t moves)
 
 runs_on : (s : Server) (m : s.State) (before records : List Arrival) → ran s (ran s m before) records ≡ ran s m (before ++ records)
 runs_on s m [] records = refl
 runs_on s m (a ∷ more) records = runs_on s (stepped s m a).state more records
 
-points_are : (mode instance lease : ℕ) (s : State) (records : List Arrival)
-    → ran (server mode instance lease) s records ≡ state_after_all s records
-points_are mode instance lease s [] = refl
-points_are mode instance lease s (a ∷ more) = points_are mode instance lease (step s a.bytes a.now a.choice).state more
+points_are : (find : List ℕ → Option Answer) (mode instance lease : ℕ) (s : State) (records : List Arrival)
+    → ran (server find mode instance lease) s records ≡ state_after_all s records
+points_are find mode instance lease s [] = refl
+points_are find mode instance lease s (a ∷ more) = points_are find mode instance lease (step s a.bytes a.now a.choice).state more
 
 all_ran : (form : Form) (old new : State) (entries : List Entry) (streams : Streams) (written : List ℕ) → Runs form old new entries streams written → AllRun form old new entries written
 all_ran form old new entries streams written r =
-    (r.moves, record { streams = streams; brought = r.reads; state = λ mode instance lease. r.state ∙ after_is mode instance lease old r.moves }, r.wrote)
+    (r.moves, record { streams = streams; brought = r.reads; state = λ find mode instance lease. r.state ∙ after_is find mode instance lease old r.moves }, r.wrote)
 
 -- No whole record stands in what is held of a stream.
 
@@ -114,7 +114,7 @@ front_ran form old new entries before last streams written order r = record {
     brought = subst (λ (es : List StreamEvent). TakesAll all_closed (before ++ cut ∷ []) es (with_stream streams last.conn r.end)) (sym brought)
         (TakesAll-more all_closed before (events r.earlier) streams cut (events own) (with_stream streams last.conn r.end) r.reads
         (takes_piece streams last.moment last.conn r.taken (events own) r.end some r.brings));
-    state = λ mode instance lease. r.breaks.state ∙ (sym (after-append old (r.earlier ++ r.own) (r.breaking ∷ [])) ∙ after_is mode instance lease old moves);
+    state = λ find mode instance lease. r.breaks.state ∙ (sym (after-append old (r.earlier ++ r.own) (r.breaking ∷ [])) ∙ after_is find mode instance lease old moves);
   };
   replies = ap (λ l. l ++ r.breaks.unwritten) r.breaks.wrote
       ∙ (append_assoc (output form old (r.earlier ++ r.own)) r.breaks.front r.breaks.unwritten
@@ -154,7 +154,7 @@ fed (Ok flow) old new was is conn moment piece form h0 h1 failed (f, open_or_shu
   piece,
   [],
   sym (append-nil piece),
-  λ mode instance lease. f.state ∙ after_is mode instance lease old f.moves,
+  λ find mode instance lease. f.state ∙ after_is find mode instance lease old f.moves,
   λ before stands. let (end, brings, stands_still) = f.stream before stands in (end, brings),
 )
 fed (Err e) old new was is conn moment piece form h0 h1 failed (f, broken) = (
@@ -162,7 +162,7 @@ fed (Err e) old new was is conn moment piece form h0 h1 failed (f, broken) = (
   f.taken,
   f.dropped,
   f.split,
-  λ mode instance lease. f.breaks.state ∙ (sym (after-append old f.moves (f.last ∷ [])) ∙ after_is mode instance lease old (f.moves ++ f.last ∷ [])),
+  λ find mode instance lease. f.breaks.state ∙ (sym (after-append old f.moves (f.last ∷ [])) ∙ after_is find mode instance lease old (f.moves ++ f.last ∷ [])),
   f.stream,
 )
 
@@ -195,7 +195,7 @@ spoke talks.WriteFailed old new pieces written (few, before, last, order, stream
 
 pub each_form : EachFormRunsRecords
 each_form = record {
-  one = λ outcome old new call now steps. (steps.choice, λ mode instance lease. steps.state);
+  one = λ outcome old new call now steps. (steps.choice, λ find mode instance lease. steps.state);
   feed = fed;
   replay = λ answer old new held l0 l1 h0 h1 h.
       let (read, written, consumed, appended, ran_so) = h in
@@ -210,9 +210,9 @@ each_form = record {
         record {
           streams = runs.streams;
           brought = runs.reads;
-          state = λ mode instance lease. runs.state ∙ after_is mode instance lease old runs.moves;
+          state = λ find mode instance lease. runs.state ∙ after_is find mode instance lease old runs.moves;
         },
       );
-  goes_on = λ mode instance lease before records. runs_on (server mode instance lease) (server mode instance lease).new before records;
+  goes_on = λ find mode instance lease before records. runs_on (server find mode instance lease) (server find mode instance lease).new before records;
   points = points_are;
 }

@@ -1,16 +1,12 @@
 -- What runs on a slot is answered with a good SEQUENCE, which bears the slot and the number of the call: so its caller may accept it.
-use Rattle.std.proofs.Common.{◌≡◌, inl, inr, ℕ, ◌<◌, ◌^◌, zero, suc, Bool, true, List, [], ◌∷◌, ◌++◌, length, Option, Some, None, refl, ◌∙◌, ap, subst, append_assoc, arith}
-use Rattle.std.specs.Prelude.{◌==◌, nat_lt, take, false, if◌then◌else◌}
-use Rattle.std.specs.Int.{w32, from_be_bytes}
-use Rattle.std.proofs.lemmas.List.{length-append, drop_at}
-use Rattle.std.proofs.lemmas.Bool.{cases_Bool, le-ltb, eqb-true}
+use Rattle.std.proofs.Common.{◌≡◌, inl, inr, ℕ, ◌<◌, ◌^◌, zero, suc, List, [], ◌∷◌, ◌++◌, Option, Some, None, ◌∙◌, ap, subst, append_assoc}
+use Rattle.std.specs.Prelude.{◌==◌}
+use Rattle.std.proofs.lemmas.Bool.{cases_Bool, eqb-true}
 use Rattle.nfs_xdr.specs.Spelling as spelling
 use Rattle.nfs_xdr.specs.Limits.{opaque_limit}
 use Rattle.nfs_xdr.specs.Codec.{number, opaque}
 use Rattle.nfs_xdr.specs.Caller.{Caller}
 use Rattle.nfs_xdr.specs.Status.{status_number}
-use Rattle.nfs_xdr.proofs.CodecLaws.{is_number, is_fixed, is_opaque}
-use Rattle.nfs_xdr.proofs.Putting.{length_number}
 use Rattle.nfs_xdr.proofs.StatusLaws.{is_status_listing}
 use Rattle.nfs_compound.specs.Operation.{Item, Operation, OpSequence}
 use Rattle.nfs_compound.specs.Request.{Request, Lists, HasBody, IsRequest}
@@ -25,21 +21,10 @@ use Rattle.nfs_exec.specs.Run.{behind_here}
 use Rattle.nfs_exec.specs.Compound.{renewed, run_in, in_session, by_first, compound}
 use Rattle.nfs_exec.specs.Laws.{if_runs, first_runs}
 use Rattle.nfs_exec.specs.Executing.{first_sequence, sequence_of}
-use Rattle.nfs_serve.specs.Promises.Endpoint.{SlotNumber}
-use Rattle.nfs_serve.specs.Promises.Seen.{front, by_front, sequenced, sequence_front, by_sequence_front, numbered_by, slot_number}
+use Rattle.nfs_serve.specs.Promises.Seen.{Bears}
+use Rattle.nfs_serve.proofs.Promises.Reader.{sequence_front}
+use Rattle.nfs_serve.proofs.Promises.Replies.{bears_spelled}
 use Rattle.nfs_exec.proofs.Quiet.{ran_in}
-
--- a number is read, whatever it is
-number_any : (n : ℕ) (rest : List ℕ) → (k : ℕ) × (number.read (spelling.number n ++ rest) ≡ Some (k, rest))
-number_any n rest =
-    let bytes = spelling.number n ++ rest in
-    let long : nat_lt (length bytes) 4 ≡ false = le-ltb (length bytes) 4 (omega (arith, length-append (spelling.number n) rest, length_number n)) in
-    (from_be_bytes w32 (take 4 bytes), rw (long, drop_at (spelling.number n) rest 4 (length_number n)) refl)
-
-nested : (a b c d e r : List ℕ) → (a ++ (b ++ c)) ++ ((d ++ e) ++ r) ≡ a ++ (b ++ (c ++ (d ++ (e ++ r))))
-nested a b c d e r =
-    append_assoc a (b ++ c) ((d ++ e) ++ r)
-    ∙ ap (λ (w : List ℕ). a ++ w) (append_assoc b c ((d ++ e) ++ r) ∙ ap (λ (w : List ℕ). b ++ (c ++ w)) (append_assoc d e r))
 
 nested_sequence : (id n slot more rest : List ℕ) → (id ++ (n ++ (slot ++ more))) ++ rest ≡ id ++ (n ++ (slot ++ (more ++ rest)))
 nested_sequence id n slot more rest =
@@ -97,57 +82,13 @@ answered_compound m r who size now choice s e = elim (cases_Bool (r.minor == 1))
   | inr other ↦ absurd (let none : None ≡ Some s = rw other at e in cc)
 ]
 
--- the front of such a text
-good_front : (status count : ℕ) (tag rest : List ℕ) → status < 2 ^ 32 → (opaque opaque_limit).Fits tag
-    → (k : ℕ) × (front.read ((spelling.number status ++ (spelling.opaque tag ++ spelling.number count)) ++ ((spelling.number 53 ++ spelling.number 0) ++ rest))
-    ≡ Some ((status, (tag, (k, (53, 0)))), rest))
-good_front status count tag rest s fits =
-    let A = spelling.number status in
-    let B = spelling.opaque tag in
-    let C = spelling.number count in
-    let D = spelling.number 53 in
-    let E = spelling.number 0 in
-    let any = number_any count (D ++ (E ++ rest)) in (
-      any.0,
-      ap front.read (nested A B C D E rest)
-          ∙ rw (
-            is_number.again status (B ++ (C ++ (D ++ (E ++ rest)))) s,
-            (is_opaque opaque_limit (omega arith)).again tag (C ++ (D ++ (E ++ rest))) fits,
-            any.1,
-            is_number.again 53 (E ++ rest) (omega arith),
-            is_number.again 0 rest (omega arith),
-          ) refl,
-    )
-
--- and the session, the number and the slot behind it
-sequence_again : (q : Sequence) (rest : List ℕ) → sequence_front.Fits (q.sessionid, (q.sequenceid, q.slotid))
-    → by_sequence_front (sequence_front.read (spelling.fixed q.sessionid ++ (spelling.number q.sequenceid ++ (spelling.number q.slotid ++ rest))))
-    ≡ Some (record { place = record { session = id_of q.sessionid; slot = q.slotid }; number = q.sequenceid })
-sequence_again q rest fits = rw (
-  (is_fixed 16).again q.sessionid (spelling.number q.sequenceid ++ (spelling.number q.slotid ++ rest)) fits.0,
-  is_number.again q.sequenceid (spelling.number q.slotid ++ rest) fits.1.0,
-  is_number.again q.slotid rest fits.1.1,
-) refl
-
+-- and so it bears them
 pub numbered_compound : (m : Machine) (r : Request) (who : Caller) (size now : ℕ) (choice : Option ℕ) (s : Sequence) → (opaque opaque_limit).Fits r.tag
     → sequence_front.Fits (s.sessionid, (s.sequenceid, s.slotid)) → ran_in m r who size ≡ Some s
-    → slot_number (compound m r who size now choice).text ≡ Some (record { place = record { session = id_of s.sessionid; slot = s.slotid }; number = s.sequenceid })
+    → Bears (compound m r who size now choice).text (record { place = record { session = id_of s.sessionid; slot = s.slotid }; number = s.sequenceid })
 numbered_compound m r who size now choice s fits sequence_fits e =
     let a = answered_compound m r who size now choice s e in
-    let read = good_front a.status a.count r.tag _ a.small fits in
-    ap slot_number a.is ∙ (ap numbered_by read.1 ∙ sequence_again s a.rest sequence_fits)
-
--- what bears a slot and a number begins with a good SEQUENCE
-pub well_numbered : (result : List ℕ) (n : SlotNumber) → slot_number result ≡ Some n → sequenced result ≡ true
-well_numbered result n e = go (front.read result) e
-  where
-    when : (b : Bool) (o : Option SlotNumber) → (if b then o else None) ≡ Some n → b ≡ true
-    when true o e = refl
-    when false o e = absurd cc
-
-    go : (o : Option ((ℕ × (List ℕ × (ℕ × (ℕ × ℕ)))) × List ℕ)) → numbered_by o ≡ Some n → by_front o ≡ true
-    go None e = absurd cc
-    go (Some x) e = when _ (by_sequence_front (sequence_front.read x.1)) e
+    bears_spelled a.status a.count r.tag s.sessionid s.sequenceid s.slotid _ a.rest a.small fits sequence_fits a.is
 
 -- the session, the number and the slot of a SEQUENCE that was read fit
 first_fits : (n : ℕ) (body : List ℕ) (items : List Item) (q : Sequence) → first_sequence items ≡ Some q → Lists n body items → sequence_front.Fits (q.sessionid, (q.sequenceid, q.slotid))

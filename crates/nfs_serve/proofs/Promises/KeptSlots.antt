@@ -1,12 +1,11 @@
 -- This server keeps the laws of slots.
 use Rattle.std.proofs.Common.{◌≡◌, inl, inr, ℕ, ◌<◌, ◌^◌, suc, Bool, true, false, List, [], ◌∷◌, ◌++◌, length, Option, Some, None, refl, sym, ◌∙◌, ap, subst, arith}
-use Rattle.std.specs.Prelude.{◌==◌, ◌||◌, not, nat_le, nat_lt, is_some, slice_get}
+use Rattle.std.specs.Prelude.{◌==◌, ◌||◌, not, nat_le, nat_lt, is_some, slice_get, option_map, option_and_then}
 use Rattle.std.specs.Option.{option_map_or}
 use Rattle.std.proofs.lemmas.Bool.{cases_Bool, false≢true}
 use Rattle.std.proofs.lemmas.Option.{same_Some}
 use Rattle.std.proofs.lemmas.List.{append-nil}
 use Rattle.nfs_xdr.specs.Limits.{opaque_limit}
-use Rattle.nfs_xdr.specs.Reading.{◌>>=◌}
 use Rattle.nfs_xdr.specs.Codec.{number, opaque}
 use Rattle.nfs_xdr.specs.Text.{IsBytes}
 use Rattle.nfs_xdr.specs.Caller.{Caller}
@@ -14,7 +13,6 @@ use Rattle.nfs_xdr.specs.Checks.{first_fault}
 use Rattle.nfs_xdr.specs.declared.status.Status.{Status}
 use Rattle.nfs_xdr.specs.declared.status.Status.TheVariants.{BadSession, BadSlot, BadHighSlot, SeqMisordered, SeqFalseRetry, ReqTooBig, TooManyOps}
 use Rattle.nfs_xdr.specs.Status.{status_number}
-use Rattle.nfs_xdr.proofs.CodecLaws.{bind_some}
 use Rattle.nfs_xdr.proofs.StatusLaws.{is_status_listing}
 use Rattle.nfs_rpc.specs.declared.refusal.Refusal.{Refusal}
 use Rattle.nfs_rpc.specs.declared.refusal.Refusal.TheVariants.{Silent, Mismatch, Auth, Accept}
@@ -46,17 +44,19 @@ use Rattle.nfs_exec.specs.Sequence.{Sequenced, Refuses, Repeats, Runs as RunsIn,
 use Rattle.nfs_exec.specs.Compound.{in_session, by_first, compound}
 use Rattle.nfs_exec.specs.Laws.{if_runs, first_runs}
 use Rattle.nfs_exec.proofs.Numbering.{IsHeld}
-use Rattle.nfs_serve.specs.Promises.Endpoint.{Place, Heading, Answer, SlotNumber}
+use Rattle.nfs_serve.specs.Promises.Endpoint.{Place, Heading, Answer}
 use Rattle.nfs_serve.proofs.Promises.ServerLaws.{Runs, Repeats as RepeatsOn, IsElsewhere, KeepsSlots}
 use Rattle.nfs_exec.specs.Executing.{first_sequence, sequence_of, is_alone, executes}
 use Rattle.nfs_serve.specs.Step.{asked_of, State, Stepped, refused, answered, with_arguments, by_procedure, reply_to, step}
-use Rattle.nfs_serve.specs.Promises.Seen.{slot_in, answer_in, sequenced, slot_number, ticked, executes_by, heading_of, heading_by, heading, seen, server}
+use Rattle.nfs_serve.specs.Promises.Seen.{ReplyReader, IsSequenced, Bears, slot_in, ticked, executes_by, heading_of, heading_by, heading, seen, server}
 use Rattle.nfs_serve.proofs.Promises.Ticking.{step_is}
 use Rattle.nfs_exec.proofs.Quiet.{ran_in, quiet_compound, told_compound}
 use Rattle.nfs_serve.proofs.Promises.SlotsLeft.{slot_at, IsGiven, IsLeft, Stays, stands_given, held_sessions, held_given, held_slot, kept_slot, fewer_leaves, keep_there}
-use Rattle.nfs_serve.proofs.Promises.Spelled.{IsBad, answer_spelled, refusal_spelled, front_spelled}
+use Rattle.nfs_serve.proofs.Promises.Reader.{sequenced}
+use Rattle.nfs_serve.proofs.Promises.Spelled.{IsBad, front_spelled}
+use Rattle.nfs_serve.proofs.Promises.Replies.{answer_found, refusal_found, sequenced_again, bears_sequenced, bears_one}
 use Rattle.nfs_serve.proofs.Promises.Mute.{mute_compound}
-use Rattle.nfs_serve.proofs.Promises.Good.{numbered_compound, well_numbered, sequence_fits}
+use Rattle.nfs_serve.proofs.Promises.Good.{numbered_compound, sequence_fits}
 
 -- A call and its request.
 
@@ -95,23 +95,30 @@ record Heads (bytes : List ℕ) (h : Heading) : Type 0 where
   begins : sequence_of request ≡ Some first
   is : heading_of call first ≡ h
 
+mapped_from : {A B : Type 0} (f : A → B) (o : Option A) (y : B) → option_map f o ≡ Some y → (x : A) × (o ≡ Some x) × (f x ≡ y)
+mapped_from f None y e = absurd cc
+mapped_from f (Some x) y e = (x, refl, same_Some (f x) y e)
+
+taken_from : {A B : Type 0} (f : A → Option B) (o : Option A) (y : B) → option_and_then f o ≡ Some y → (x : A) × (o ≡ Some x) × (f x ≡ Some y)
+taken_from f None y e = absurd cc
+taken_from f (Some x) y e = (x, refl, e)
+
 heads : (bytes : List ℕ) (h : Heading) → heading bytes ≡ Some h → Heads bytes h
 heads bytes h e = by (call_of bytes) refl e
   where
     by : (c : Called) → call_of bytes ≡ c → heading_by c ≡ Some h → Heads bytes h
     by (Refused refusal) is e = absurd cc
     by (Accepted call) is e =
-        let r = bind_some (asked_of call call.procedure) (λ r. sequence_of r >>= λ s. Some (heading_of call s)) h e in
-        let s = bind_some (sequence_of r.0) (λ s. Some (heading_of call s)) h r.2 in
-        record { call = call; called = is; request = r.0; asked = r.1; first = s.0; begins = s.1; is = same_Some (heading_of call s.0) h s.2 }
+        let (first, begins, same) = mapped_from (heading_of call) (option_and_then sequence_of (asked_of call call.procedure)) h e in
+        let (request, asked, begins) = taken_from sequence_of (asked_of call call.procedure) first begins in
+        record { call = call; called = is; request = request; asked = asked; first = first; begins = begins; is = same }
 
 -- and back
 heading_from : (bytes : List ℕ) (call : Call) (r : Request) (s : Sequence) → call_of bytes ≡ Accepted call → asked_of call call.procedure ≡ Some r
     → sequence_of r ≡ Some s → heading bytes ≡ Some (heading_of call s)
 heading_from bytes call r s called asked begins =
     ap heading_by called
-    ∙ (ap (λ (o : Option Request). o >>= λ r. sequence_of r >>= λ s. Some (heading_of call s)) asked
-    ∙ ap (λ (o : Option Sequence). o >>= λ s. Some (heading_of call s)) begins)
+    ∙ (ap (λ (o : Option Request). option_map (heading_of call) (option_and_then sequence_of o)) asked ∙ ap (option_map (heading_of call)) begins)
 
 executes_is : (t : State) (size : ℕ) (bytes : List ℕ) (call : Call) (r : Request) → call_of bytes ≡ Accepted call → asked_of call call.procedure ≡ Some r
     → executes_by t size (call_of bytes) ≡ executes t.machine r call.who size
@@ -227,10 +234,10 @@ ran_executes m r who size q e = elim (cases_Bool (r.minor == 1)) [
 
 -- Any other step leaves the slot, or ends its session.
 
-leaves : (mode instance lease : ℕ) (s : State) (bytes : List ℕ) (now : ℕ) (choice : Option ℕ) (p : Place)
-    → IsSessions s.machine.sessions → IsGiven p.session s.machine.sessions → IsElsewhere (server mode instance lease) s p bytes now
+leaves : (reader : ReplyReader) (mode instance lease : ℕ) (s : State) (bytes : List ℕ) (now : ℕ) (choice : Option ℕ) (p : Place)
+    → IsSessions s.machine.sessions → IsGiven p.session s.machine.sessions → IsElsewhere (server reader.find mode instance lease) s p bytes now
     → IsLeft p.session p.slot (slot_at s.machine.sessions p.session p.slot) (step s bytes now choice).state.machine.sessions
-leaves mode instance lease s bytes now choice p is given elsewhere =
+leaves reader mode instance lease s bytes now choice p is given elsewhere =
     let t = ticked s now in
     let x = slot_at s.machine.sessions p.session p.slot in
     let P : SessionTable → Type 0 = Stays p.session p.slot x in
@@ -271,11 +278,11 @@ stood s now p x is e =
       | inr gone ↦ absurd (let none : None ≡ Some x = sym gone ∙ e in cc)
     ]
 
-runs_for : (mode instance lease : ℕ) (s : State) (bytes : List ℕ) (now : ℕ) (choice : Option ℕ) (call : Call) (r : Request) (q : Sequence)
+runs_for : (reader : ReplyReader) (mode instance lease : ℕ) (s : State) (bytes : List ℕ) (now : ℕ) (choice : Option ℕ) (call : Call) (r : Request) (q : Sequence)
     → IsBytes bytes → IsSessions s.machine.sessions → call_of bytes ≡ Accepted call → asked_of call call.procedure ≡ Some r → sequence_of r ≡ Some q
     → executes_by (ticked s now) (length bytes) (call_of bytes) ≡ true
-    → Runs (server mode instance lease) s (heading_of call q) (seen (step s bytes now choice))
-runs_for mode instance lease s bytes now choice call r q fits is called asked begins does =
+    → Runs (server reader.find mode instance lease) s (heading_of call q) (seen reader.find (step s bytes now choice))
+runs_for reader mode instance lease s bytes now choice call r q fits is called asked begins does =
     let t = ticked s now in
     let size = length bytes in
     let id = id_of q.sessionid in
@@ -294,7 +301,7 @@ runs_for mode instance lease s bytes now choice call r q fits is called asked be
       stands = stood s now (record { session = id; slot = q.slotid }) at.0 is here;
       fresh = ap (judge_slot at.0 q.sequenceid call.who.uid) (sym whole) ∙ at.2;
       result = a.text;
-      answer = ap (λ (y : Stepped). (seen y).answer) did ∙ answer_spelled call.xid a.text known.small;
+      answer = ap (λ (y : Stepped). (seen reader.find y).answer) did ∙ answer_found reader call.xid a.text known.small;
       numbered = numbered_compound t.machine r call.who size t.moment choice q request.head.tag_fits (sequence_fits call.args r q request begins) ran;
       keeps =
           ap (λ (y : Stepped). slot_at y.state.machine.sessions id q.slotid) did
@@ -303,13 +310,13 @@ runs_for mode instance lease s bytes now choice call r q fits is called asked be
           ∙ ap (λ (args : List ℕ). let y : Option SlotState = Some (record { number = q.sequenceid; used = true; uid = call.who.uid; args = args; reply = a.text }) in y) whole));
     }
 
-runs : (mode instance lease : ℕ) (s : State) (bytes : List ℕ) (now : ℕ) (choice : Option ℕ) (h : Heading) → IsBytes bytes → IsSessions s.machine.sessions
+runs : (reader : ReplyReader) (mode instance lease : ℕ) (s : State) (bytes : List ℕ) (now : ℕ) (choice : Option ℕ) (h : Heading) → IsBytes bytes → IsSessions s.machine.sessions
     → heading bytes ≡ Some h → executes_by (ticked s now) (length bytes) (call_of bytes) ≡ true
-    → Runs (server mode instance lease) s h (seen (step s bytes now choice))
-runs mode instance lease s bytes now choice h fits is e does =
+    → Runs (server reader.find mode instance lease) s h (seen reader.find (step s bytes now choice))
+runs reader mode instance lease s bytes now choice h fits is e does =
     let from = heads bytes h e in
-    subst (λ (h : Heading). Runs (server mode instance lease) s h (seen (step s bytes now choice))) from.is
-    (runs_for mode instance lease s bytes now choice from.call from.request from.first fits is from.called from.asked from.begins does)
+    subst (λ (h : Heading). Runs (server reader.find mode instance lease) s h (seen reader.find (step s bytes now choice))) from.is
+    (runs_for reader mode instance lease s bytes now choice from.call from.request from.first fits is from.called from.asked from.begins does)
 
 -- A refusal of SEQUENCE is none with NFS4_OK.
 
@@ -401,29 +408,29 @@ compound_again m r who size now choice q fits begins e good = elim (cases_Bool (
 ]
 
 -- what is answered to a call of a request
-told_answer : (s : State) (bytes : List ℕ) (now : ℕ) (choice : Option ℕ) (call : Call) (r : Request) (a : Answer) → IsBytes bytes
-    → call_of bytes ≡ Accepted call → asked_of call call.procedure ≡ Some r → (seen (step s bytes now choice)).answer ≡ Some a
+told_answer : (reader : ReplyReader) (s : State) (bytes : List ℕ) (now : ℕ) (choice : Option ℕ) (call : Call) (r : Request) (a : Answer) → IsBytes bytes
+    → call_of bytes ≡ Accepted call → asked_of call call.procedure ≡ Some r → (seen reader.find (step s bytes now choice)).answer ≡ Some a
     → (a.xid ≡ call.xid) × (a.result ≡ (compound (ticked s now).machine r call.who (length bytes) (ticked s now).moment choice).text)
-told_answer s bytes now choice call r a fits called asked e =
+told_answer reader s bytes now choice call r a fits called asked e =
     let text = (compound (ticked s now).machine r call.who (length bytes) (ticked s now).moment choice).text in
     let known = taken bytes call fits called in
     let did = stepped_is s bytes now choice call r called asked in
     let is : Some (record { xid = call.xid; result = text }) ≡ Some a =
-    sym (answer_spelled call.xid text known.small) ∙ (sym (ap (λ (y : Stepped). (seen y).answer) did) ∙ e) in
+    sym (answer_found reader call.xid text known.small) ∙ (sym (ap (λ (y : Stepped). (seen reader.find y).answer) did) ∙ e) in
     let same = same_Some (record { xid = call.xid; result = text }) a is in
     (ap (λ (a : Answer). a.xid) (sym same), ap (λ (a : Answer). a.result) (sym same))
 
-repeats_for : (mode instance lease : ℕ) (s : State) (bytes : List ℕ) (now : ℕ) (choice : Option ℕ) (call : Call) (r : Request) (q : Sequence) (a : Answer)
+repeats_for : (reader : ReplyReader) (mode instance lease : ℕ) (s : State) (bytes : List ℕ) (now : ℕ) (choice : Option ℕ) (call : Call) (r : Request) (q : Sequence) (a : Answer)
     → IsBytes bytes → IsSessions s.machine.sessions → call_of bytes ≡ Accepted call → asked_of call call.procedure ≡ Some r → sequence_of r ≡ Some q
-    → executes_by (ticked s now) (length bytes) (call_of bytes) ≡ false → (seen (step s bytes now choice)).answer ≡ Some a → sequenced a.result ≡ true
-    → RepeatsOn (server mode instance lease) s (heading_of call q) a.result
-repeats_for mode instance lease s bytes now choice call r q a fits is called asked begins idle e good =
+    → executes_by (ticked s now) (length bytes) (call_of bytes) ≡ false → (seen reader.find (step s bytes now choice)).answer ≡ Some a → sequenced a.result ≡ true
+    → RepeatsOn (server reader.find mode instance lease) s (heading_of call q) a.result
+repeats_for reader mode instance lease s bytes now choice call r q a fits is called asked begins idle e good =
     let t = ticked s now in
     let size = length bytes in
     let id = id_of q.sessionid in
     let known = taken bytes call fits called in
     let request = request_is call r known asked in
-    let said = told_answer s bytes now choice call r a fits called asked e in
+    let said = told_answer reader s bytes now choice call r a fits called asked e in
     let again = compound_again t.machine r call.who size t.moment choice q request.head.tag_fits begins
     (sym (executes_is t size bytes call r called asked) ∙ idle) (ap sequenced (sym said.1) ∙ good) in
     let found = again_session r call.who size q (session_at t.machine.sessions id) again.reply again.verdict in
@@ -437,88 +444,89 @@ repeats_for mode instance lease s bytes now choice call r q a fits is called ask
       kept = said.1 ∙ (again.text_is ∙ reply);
     }
 
-repeats : (mode instance lease : ℕ) (s : State) (bytes : List ℕ) (now : ℕ) (choice : Option ℕ) (h : Heading) (a : Answer) → IsBytes bytes
+repeats : (reader : ReplyReader) (mode instance lease : ℕ) (s : State) (bytes : List ℕ) (now : ℕ) (choice : Option ℕ) (h : Heading) (a : Answer) → IsBytes bytes
     → IsSessions s.machine.sessions → heading bytes ≡ Some h → executes_by (ticked s now) (length bytes) (call_of bytes) ≡ false
-    → (seen (step s bytes now choice)).answer ≡ Some a → sequenced a.result ≡ true → RepeatsOn (server mode instance lease) s h a.result
-repeats mode instance lease s bytes now choice h a fits is e idle answer good =
+    → (seen reader.find (step s bytes now choice)).answer ≡ Some a → sequenced a.result ≡ true → RepeatsOn (server reader.find mode instance lease) s h a.result
+repeats reader mode instance lease s bytes now choice h a fits is e idle answer good =
     let from = heads bytes h e in
-    subst (λ (h : Heading). RepeatsOn (server mode instance lease) s h a.result) from.is
-    (repeats_for mode instance lease s bytes now choice from.call from.request from.first a fits is from.called from.asked from.begins idle answer good)
+    subst (λ (h : Heading). RepeatsOn (server reader.find mode instance lease) s h a.result) from.is
+    (repeats_for reader mode instance lease s bytes now choice from.call from.request from.first a fits is from.called from.asked from.begins idle answer good)
 
 -- The xid of an answer, and what begins with no good SEQUENCE.
 
-same_xid : (s : State) (bytes : List ℕ) (now : ℕ) (choice : Option ℕ) (h : Heading) (a : Answer) → IsBytes bytes → heading bytes ≡ Some h
-    → (seen (step s bytes now choice)).answer ≡ Some a → a.xid ≡ h.xid
-same_xid s bytes now choice h a fits e answer =
+same_xid : (reader : ReplyReader) (s : State) (bytes : List ℕ) (now : ℕ) (choice : Option ℕ) (h : Heading) (a : Answer) → IsBytes bytes → heading bytes ≡ Some h
+    → (seen reader.find (step s bytes now choice)).answer ≡ Some a → a.xid ≡ h.xid
+same_xid reader s bytes now choice h a fits e answer =
     let from = heads bytes h e in
-    (told_answer s bytes now choice from.call from.request a fits from.called from.asked answer).0 ∙ ap (λ (h : Heading). h.xid) from.is
+    (told_answer reader s bytes now choice from.call from.request a fits from.called from.asked answer).0 ∙ ap (λ (h : Heading). h.xid) from.is
 
-refused_mute : (t : State) (refusal : Refusal) → (seen (refused t refusal)).answer ≡ None
-refused_mute t Silent = refl
-refused_mute t (Mismatch xid) = refusal_spelled (Mismatch xid)
-refused_mute t (Auth xid stat) = refusal_spelled (Auth xid stat)
-refused_mute t (Accept xid stat) = refusal_spelled (Accept xid stat)
+refused_mute : (reader : ReplyReader) (t : State) (refusal : Refusal) → (seen reader.find (refused t refusal)).answer ≡ None
+refused_mute reader t Silent = refl
+refused_mute reader t (Mismatch xid) = refusal_found reader (Mismatch xid)
+refused_mute reader t (Auth xid stat) = refusal_found reader (Auth xid stat)
+refused_mute reader t (Accept xid stat) = refusal_found reader (Accept xid stat)
 
 -- no heading, so no SEQUENCE in front
-no_first : (call : Call) (o : Option Sequence) → (o >>= λ s. Some (heading_of call s)) ≡ None → o ≡ None
+no_first : (call : Call) (o : Option Sequence) → option_map (heading_of call) o ≡ None → o ≡ None
 no_first call None e = refl
 no_first call (Some s) e = absurd cc
 
 no_answer : (o : Option Answer) (a : Answer) → o ≡ None → o ≡ Some a → ⊥
 no_answer o a none some = let e : None ≡ Some a = sym none ∙ some in absurd cc
 
-call_mute : (t : State) (size : ℕ) (choice : Option ℕ) (call : Call) (a : Answer) (p : Procedure) → IsCall call
-    → (asked_of call p >>= λ r. sequence_of r >>= λ s. Some (heading_of call s)) ≡ None
-    → (seen (by_procedure t call size choice p)).answer ≡ Some a → sequenced a.result ≡ false
-call_mute t size choice call a Procedures.Null known none e =
+call_mute : (reader : ReplyReader) (t : State) (size : ℕ) (choice : Option ℕ) (call : Call) (a : Answer) (p : Procedure) → IsCall call
+    → option_map (heading_of call) (option_and_then sequence_of (asked_of call p)) ≡ None
+    → (seen reader.find (by_procedure t call size choice p)).answer ≡ Some a → sequenced a.result ≡ false
+call_mute reader t size choice call a Procedures.Null known none e =
     let is : Some (record { xid = call.xid; result = [] }) ≡ Some a =
-    sym (answer_spelled call.xid [] known.small) ∙ (ap answer_in (append-nil (spell_head call.xid)) ∙ e) in
+    sym (answer_found reader call.xid [] known.small) ∙ (ap reader.find (append-nil (spell_head call.xid)) ∙ e) in
     ap sequenced (ap (λ (a : Answer). a.result) (sym (same_Some (record { xid = call.xid; result = [] }) a is)))
-call_mute t size choice call a Procedures.Compound known none e = by (request_at call.args) refl none e
+call_mute reader t size choice call a Procedures.Compound known none e = by (request_at call.args) refl none e
   where
-    by : (o : Option Request) → request_at call.args ≡ o → (o >>= λ r. sequence_of r >>= λ s. Some (heading_of call s)) ≡ None
-        → (seen (with_arguments t call size choice o)).answer ≡ Some a → sequenced a.result ≡ false
-    by None is none e = absurd (no_answer _ a (refused_mute t (Accept call.xid GarbageArgs)) e)
+    by : (o : Option Request) → request_at call.args ≡ o → option_map (heading_of call) (option_and_then sequence_of o) ≡ None
+        → (seen reader.find (with_arguments t call size choice o)).answer ≡ Some a → sequenced a.result ≡ false
+    by None is none e = absurd (no_answer _ a (refused_mute reader t (Accept call.xid GarbageArgs)) e)
     by (Some r) is none e =
         let request = request_takes call.args r known.args is in
         let text = (compound t.machine r call.who size t.moment choice).text in
-        let same : Some (record { xid = call.xid; result = text }) ≡ Some a = sym (answer_spelled call.xid text known.small) ∙ e in
+        let same : Some (record { xid = call.xid; result = text }) ≡ Some a = sym (answer_found reader call.xid text known.small) ∙ e in
         ap sequenced (ap (λ (a : Answer). a.result) (sym (same_Some (record { xid = call.xid; result = text }) a same)))
         ∙ mute_compound t.machine r call.who size t.moment choice (record { bytes = call.args; request = request }) request.head.tag_fits
         (no_first call (sequence_of r) none)
 
-no_sequence : (s : State) (bytes : List ℕ) (now : ℕ) (choice : Option ℕ) (a : Answer) → IsBytes bytes → heading bytes ≡ None
-    → (seen (step s bytes now choice)).answer ≡ Some a → sequenced a.result ≡ false
-no_sequence s bytes now choice a fits none e =
-    by (call_of bytes) refl none (sym (ap (λ (y : Stepped). (seen y).answer) (step_is s bytes now choice)) ∙ e)
+no_sequence : (reader : ReplyReader) (s : State) (bytes : List ℕ) (now : ℕ) (choice : Option ℕ) (a : Answer) → IsBytes bytes → heading bytes ≡ None
+    → (seen reader.find (step s bytes now choice)).answer ≡ Some a → sequenced a.result ≡ false
+no_sequence reader s bytes now choice a fits none e =
+    by (call_of bytes) refl none (sym (ap (λ (y : Stepped). (seen reader.find y).answer) (step_is s bytes now choice)) ∙ e)
   where
-    by : (c : Called) → call_of bytes ≡ c → heading_by c ≡ None → (seen (reply_to (ticked s now) (length bytes) choice c)).answer ≡ Some a
+    by : (c : Called) → call_of bytes ≡ c → heading_by c ≡ None → (seen reader.find (reply_to (ticked s now) (length bytes) choice c)).answer ≡ Some a
         → sequenced a.result ≡ false
-    by (Refused refusal) is none e = absurd (no_answer _ a (refused_mute (ticked s now) refusal) e)
-    by (Accepted call) is none e = call_mute (ticked s now) (length bytes) choice call a call.procedure (taken bytes call fits is) none e
+    by (Refused refusal) is none e = absurd (no_answer _ a (refused_mute reader (ticked s now) refusal) e)
+    by (Accepted call) is none e = call_mute reader (ticked s now) (length bytes) choice call a call.procedure (taken bytes call fits is) none e
 
-pub keeps_slots : (mode instance lease : ℕ) → KeepsSlots (server mode instance lease)
-keeps_slots mode instance lease = record {
+pub keeps_slots : (reader : ReplyReader) (mode instance lease : ℕ) → KeepsSlots (server reader.find mode instance lease)
+keeps_slots reader mode instance lease = record {
   Sound = λ s. IsSessions s.machine.sessions;
   Given = λ s p. IsGiven p.session s.machine.sessions;
   new_sound = record { rising = omega arith };
   step_sound = step_sound;
   stands = λ s p x is e. stands_given s.machine.sessions p.session p.slot x is e;
   stays_given = stays_given;
-  same_xid = same_xid;
-  no_sequence = no_sequence;
-  well_numbered = well_numbered;
-  runs = runs mode instance lease;
-  repeats = repeats mode instance lease;
-  leaves = leaves mode instance lease;
+  same_xid = same_xid reader;
+  no_sequence = λ s bytes now choice a fits none e good. false≢true (sym (no_sequence reader s bytes now choice a fits none e) ∙ sequenced_again a.result good);
+  well_numbered = bears_sequenced;
+  one_number = bears_one;
+  runs = runs reader mode instance lease;
+  repeats = λ s bytes now choice h a fits is reads idle e good. repeats reader mode instance lease s bytes now choice h a fits is reads idle e (sequenced_again a.result good);
+  leaves = leaves reader mode instance lease;
 }
 
 -- What runs is answered with a good SEQUENCE, which bears its slot and number.
-pub answers_numbered : (s : State) (bytes : List ℕ) (now : ℕ) (choice : Option ℕ) (h : Heading) → IsBytes bytes → heading bytes ≡ Some h
+pub answers_numbered : (reader : ReplyReader) (s : State) (bytes : List ℕ) (now : ℕ) (choice : Option ℕ) (h : Heading) → IsBytes bytes → heading bytes ≡ Some h
     → executes_by (ticked s now) (length bytes) (call_of bytes) ≡ true
-    → (result : List ℕ) × ((seen (step s bytes now choice)).answer ≡ Some (record { xid = h.xid; result = result }))
-    × (slot_number result ≡ Some (record { place = h.place; number = h.compound.number }))
-answers_numbered s bytes now choice h fits e does =
+    → (result : List ℕ) × ((seen reader.find (step s bytes now choice)).answer ≡ Some (record { xid = h.xid; result = result }))
+    × Bears result (record { place = h.place; number = h.compound.number })
+answers_numbered reader s bytes now choice h fits e does =
     let from = heads bytes h e in
     let t = ticked s now in
     let size = length bytes in
@@ -528,15 +536,15 @@ answers_numbered s bytes now choice h fits e does =
     let ran = runs_here t.machine r from.call.who size from.first from.begins (sym (executes_is t size bytes from.call r from.called from.asked) ∙ does) in
     let a = compound t.machine r from.call.who size t.moment choice in (
       a.text,
-      ap (λ (y : Stepped). (seen y).answer) (stepped_is s bytes now choice from.call r from.called from.asked)
-          ∙ (answer_spelled from.call.xid a.text known.small ∙ ap (λ (y : Heading). let z : Option Answer = Some (record { xid = y.xid; result = a.text }) in z) from.is),
-      numbered_compound t.machine r from.call.who size t.moment choice from.first request.head.tag_fits (sequence_fits from.call.args r from.first request from.begins) ran
-          ∙ ap (λ (y : Heading). let z : Option SlotNumber = Some (record { place = y.place; number = y.compound.number }) in z) from.is,
+      ap (λ (y : Stepped). (seen reader.find y).answer) (stepped_is s bytes now choice from.call r from.called from.asked)
+          ∙ (answer_found reader from.call.xid a.text known.small ∙ ap (λ (y : Heading). let z : Option Answer = Some (record { xid = y.xid; result = a.text }) in z) from.is),
+      subst (λ (y : Heading). Bears a.text (record { place = y.place; number = y.compound.number })) from.is
+          (numbered_compound t.machine r from.call.who size t.moment choice from.first request.head.tag_fits (sequence_fits from.call.args r from.first request from.begins) ran),
     )
 
-pub answers_well : (s : State) (bytes : List ℕ) (now : ℕ) (choice : Option ℕ) (h : Heading) → IsBytes bytes → heading bytes ≡ Some h
+pub answers_well : (reader : ReplyReader) (s : State) (bytes : List ℕ) (now : ℕ) (choice : Option ℕ) (h : Heading) → IsBytes bytes → heading bytes ≡ Some h
     → executes_by (ticked s now) (length bytes) (call_of bytes) ≡ true
-    → (result : List ℕ) × ((seen (step s bytes now choice)).answer ≡ Some (record { xid = h.xid; result = result })) × (sequenced result ≡ true)
-answers_well s bytes now choice h fits e does =
-    let told = answers_numbered s bytes now choice h fits e does in
-    (told.0, told.1, well_numbered told.0 _ told.2)
+    → (result : List ℕ) × ((seen reader.find (step s bytes now choice)).answer ≡ Some (record { xid = h.xid; result = result })) × IsSequenced result
+answers_well reader s bytes now choice h fits e does =
+    let told = answers_numbered reader s bytes now choice h fits e does in
+    (told.0, told.1, bears_sequenced told.0 _ told.2)

@@ -3,13 +3,17 @@ use Rattle.std.proofs.Common.{◌≡◌, inl, inr, ℕ, zero, suc, Bool, true, L
 use Rattle.nfs_xdr.specs.Tables.{In}
 use Rattle.std.specs.Prelude.{◌&&◌, nat_lt, ◌<◌}
 use Rattle.std.proofs.lemmas.Bool.{and_parts}
+use Rattle.nfs_xdr.specs.Spelling as spelling
 use Rattle.nfs_xdr.specs.Text.{IsBytes}
 use Rattle.nfs_slots.specs.Slot.{unused_slot}
+use Rattle.nfs_serve.specs.Promises.Exchanges.{words}
 use Rattle.nfs_serve.specs.Promises.Endpoint.{Place, Heading, Arrival}
 use Rattle.nfs_serve.specs.Promises.Network.{Packet, NetworkEvent, Resends, Arrives, Accepts, IsUnused}
 use Rattle.nfs_serve.specs.Promises.PerfectWire.{wire, done_on}
 use Rattle.nfs_serve.specs.Promises.RealTime.{RunsBehind, IsAtomic}
 use Rattle.nfs_serve.specs.Promises.LostReply.{before, here, place, callers, compound, packet, answer, first, second, start, done, brought, IsAccepted, IsOverAWire}
+use Rattle.nfs_serve.specs.Promises.Seen.{ReplyReader, IsSequenced}
+use Rattle.nfs_serve.proofs.Promises.Replies.{found, finding, found_by, no_bytes}
 use Rattle.nfs_serve.proofs.Promises.KeptSlots.{keeps_slots}
 use Rattle.nfs_serve.proofs.Promises.Ticking.{keeps_time}
 use Rattle.nfs_serve.proofs.Promises.RealTime.{atomic}
@@ -34,9 +38,19 @@ apart : (q : Packet) (xid number : ℕ) (h : Heading) → (xid ≡ h.xid → ⊥
     → (q.heading.place ≡ h.place) × (q.heading.compound ≡ h.compound)
 apart q xid number h other same e = absurd (other (sym (ap (λ (q : Packet). q.heading.xid) same) ∙ e))
 
-pub is_accepted : IsAccepted
+-- its SEQUENCE is NFS4_OK
+is_good : (number : ℕ) → IsSequenced (answer 0 number).result
+unfolding spelling.number
+is_good number = record {
+  value = (0, ([], 1));
+  rest = words (7 ∷ 1 ∷ 0 ∷ 1 ∷ number ∷ 1 ∷ 3 ∷ 3 ∷ 0 ∷ []);
+  stands = refl;
+  fits = (omega arith, ((omega arith, no_bytes), (omega arith, (tt, (tt, tt)))));
+}
+
+computed_accepted : IsAccepted found
 unfolding computing
-is_accepted = record {
+computed_accepted = record {
   unused = (unused_slot, refl, refl, refl);
   schedule = (
     record {
@@ -51,7 +65,7 @@ is_accepted = record {
     (
       inl refl,
       (
-        record { place = inl refl; sent = inl refl; last = ([], refl); xid = inl refl; sequenced = refl },
+        record { place = inl refl; sent = inl refl; last = ([], refl); xid = inl refl; sequenced = is_good 1 },
         (
           record {
             bytes = is_bytes _ refl;
@@ -78,7 +92,7 @@ is_accepted = record {
               },
               (
                 inl refl,
-                (record { place = inl refl; sent = inl refl; last = (compound 1 ∷ [], refl); xid = inl refl; sequenced = refl }, tt),
+                (record { place = inl refl; sent = inl refl; last = (compound 1 ∷ [], refl); xid = inl refl; sequenced = is_good 2 }, tt),
               ),
             ),
           ),
@@ -89,26 +103,33 @@ is_accepted = record {
   line = refl;
 }
 
-computed : (wire here start.machine (first ++ second) ≡ brought) × (done_on here place start.machine brought ≡ done 1 ∷ done 2 ∷ [])
+-- and so it is by whatever finds answers
+pub is_accepted : (reader : ReplyReader) → IsAccepted reader.find
+is_accepted reader = subst IsAccepted (found_by reader) computed_accepted
+
+computed : (wire (here found) (start found).machine (first ++ second) ≡ brought) × (done_on (here found) place (start found).machine brought ≡ done 1 ∷ done 2 ∷ [])
 unfolding computing
 computed = (refl, refl)
 
-unused : (p : Place) → In p callers.places → IsUnused here start.machine p
-unused p (inl same) = subst (IsUnused here start.machine) (sym same) is_accepted.unused
+unused : (p : Place) → In p callers.places → IsUnused (here found) (start found).machine p
+unused p (inl same) = subst (IsUnused (here found) (start found).machine) (sym same) computed_accepted.unused
 unused p (inr none) = absurd none
 
-is_atomic : IsAtomic here start.machine callers (first ++ second)
-is_atomic = atomic here (keeps_slots 511 7 90) (keeps_time 511 7 90) before callers (first ++ second)
-    (happens here (keeps_slots 511 7 90) before callers (first ++ second) unused is_accepted.schedule)
+is_atomic : IsAtomic (here found) (start found).machine callers (first ++ second)
+is_atomic = atomic (here found) (keeps_slots finding 511 7 90) (keeps_time found 511 7 90) before callers (first ++ second)
+    (happens (here found) (keeps_slots finding 511 7 90) before callers (first ++ second) unused computed_accepted.schedule)
 
-pub is_over_a_wire : IsOverAWire
-is_over_a_wire = record {
+computed_wire : IsOverAWire found
+computed_wire = record {
   brings = computed.0;
   answers = computed.1;
   alike = is_atomic.one_list;
-  order = subst (λ (records : List Arrival). RunsBehind here start.machine records place (done 1) place (compound 2)) computed.0
+  order = subst (λ (records : List Arrival). RunsBehind (here found) (start found).machine records place (done 1) place (compound 2)) computed.0
       (is_atomic.in_time (take 2 first) [] back place (compound 1) (answer 3 1) (packet 4 2) refl);
 }
   where
     back : List NetworkEvent
     back = Arrives (packet 4 2) 103 None ∷ Resends (packet 5 2) ∷ Arrives (packet 5 2) 104 None ∷ Accepts place (compound 2) (answer 5 2) ∷ []
+
+pub is_over_a_wire : (reader : ReplyReader) → IsOverAWire reader.find
+is_over_a_wire reader = subst IsOverAWire (found_by reader) computed_wire

@@ -39,7 +39,7 @@ use Rattle.nfs_exec.specs.Run.{is_here}
 use Rattle.nfs_exec.specs.Compound.{carried_out, by_fault, first_item, by_first, compound}
 use Rattle.nfs_exec.proofs.Bearing.{opened_bears}
 use Rattle.nfs_exec.specs.Executing.{first_sequence, sequence_of}
-use Rattle.nfs_serve.specs.Promises.Seen.{sequenced}
+use Rattle.nfs_serve.proofs.Promises.Reader.{sequenced}
 use Rattle.nfs_serve.proofs.Promises.Spelled.{IsBad, IsMute, mute_spelled, bare_spelled}
 
 small : (s : Status) → status_number s < 2 ^ 32

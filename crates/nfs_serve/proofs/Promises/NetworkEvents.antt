@@ -26,7 +26,7 @@ pub record Answers (callers : Callers) (lines : Place → Line) (packets : List 
   pub executed : In (record { compound = packet.heading.compound; result = r.answer.result }) (lines packet.heading.place).executed
 
 abbrev pub IsReply : (s : Server) → Callers → (Place → Line) → List Packet → Reply → Type 0
-IsReply s callers lines packets r = s.sequenced r.answer.result ≡ true → Answers callers lines packets r
+IsReply s callers lines packets r = s.IsSequenced r.answer.result → Answers callers lines packets r
 
 -- a slot that was unused once, and its line since
 pub record Begun (s : Server) (laws : KeepsSlots s) (m : s.State) (packets : List Packet) (l : Line) (p : Place) : Type 0 where
@@ -39,7 +39,7 @@ Stage s laws m packets l p = Begun s laws m packets l p ⊎ (l ≡ no_line)
 
 -- what was executed bears the slot and its compound's number
 abbrev pub Tells : (s : Server) → Line → Place → Type 0
-Tells s l p = (d : RanCompound) → In d l.executed → s.slot_number d.result ≡ Some (record { place = p; number = d.compound.number })
+Tells s l p = (d : RanCompound) → In d l.executed → s.Bears d.result (record { place = p; number = d.compound.number })
 
 pub record IsNetwork (s : Server) (laws : KeepsSlots s) (callers : Callers) (start : s.State) (net : Network s) : Type 0 where
   pub sound : laws.Sound net.machine
@@ -253,13 +253,13 @@ executes_on s laws callers start net q now choice is i executes = record {
     elsewhere : (p : Place) → (k ≡ p → ⊥) → Begun s laws net.machine net.packets (net.lines p) p → Begun s laws step.state net.packets (net.lines p) p
     elsewhere p other = begun_moves s laws net.machine net.packets q.bytes now choice (net.lines p) p is.sound (λ h reads _ at. other (heading_place h (sym packet.reads ∙ reads) ∙ at))
 
-    bears : s.slot_number (result_of step.answer) ≡ Some (record { place = k; number = q.heading.compound.number })
-    bears = ap s.slot_number (ap result_of runs.answer) ∙ runs.numbered
+    bears : s.Bears (result_of step.answer) (record { place = k; number = q.heading.compound.number })
+    bears = subst (λ (result : List ℕ). s.Bears result (record { place = k; number = q.heading.compound.number })) (sym (ap result_of runs.answer)) runs.numbered
 
     tells_here : (p : Place) → k ≡ p → Tells s new p
     tells_here p e = subst (Tells s new) e (λ d n. elim (In-push d l.executed (record { compound = q.heading.compound; result = result_of step.answer }) n) [
       | inl old ↦ is.tells k packet.place d old
-      | inr same ↦ subst (λ (d : RanCompound). s.slot_number d.result ≡ Some (record { place = k; number = d.compound.number })) (sym same) bears
+      | inr same ↦ subst (λ (d : RanCompound). s.Bears d.result (record { place = k; number = d.compound.number })) (sym same) bears
     ])
 
 arriving_keeps : (s : Server) (laws : KeepsSlots s) (callers : Callers) (start : s.State) (net : Network s) (q : Packet) (now : ℕ) (choice : Option ℕ) → IsNetwork s laws callers start net → In q net.packets
@@ -303,14 +303,6 @@ last_in c cs last = subst (In c) (sym last.1) (In-last last.0 c)
 abbrev bearing : Place → ℕ → SlotNumber
 bearing p number = record { place = p; number = number }
 
-abbrev place_of : Option SlotNumber → Place → Place
-place_of None p = p
-place_of (Some n) p = n.place
-
-abbrev number_of : Option SlotNumber → ℕ
-number_of None = 0
-number_of (Some n) = n.number
-
 pub accepted_here : (s : Server) (laws : KeepsSlots s) (callers : Callers) (start : s.State) (net : Network s) (p : Place) (c : Compound) (a : Answer) → IsNetwork s laws callers start net → CanAccept s callers net p c a
     → In (record { compound = c; result = a.result }) (net.lines p).executed
 accepted_here s laws callers start net p c a is can =
@@ -331,14 +323,14 @@ accepted_here s laws callers start net p c a is can =
     k : Place
     k = by.packet.heading.place
 
-    bears : Some (bearing k d.number) ≡ Some (bearing p c.number)
-    bears = sym (is.tells k (is.packets by.packet by.sent).place (record { compound = d; result = a.result }) by.executed) ∙ can.numbered
+    bears : bearing k d.number ≡ bearing p c.number
+    bears = laws.one_number a.result _ _ (is.tells k (is.packets by.packet by.sent).place (record { compound = d; result = a.result }) by.executed) can.numbered
 
     same_place : k ≡ p
-    same_place = ap (λ (o : Option SlotNumber). place_of o p) bears
+    same_place = ap (λ (n : SlotNumber). n.place) bears
 
     same_number : d.number ≡ c.number
-    same_number = ap number_of bears
+    same_number = ap (λ (n : SlotNumber). n.number) bears
 
     there : In (record { compound = d; result = a.result }) l.executed
     there = subst (λ (x : Place). In (record { compound = d; result = a.result }) (net.lines x).executed) same_place by.executed
@@ -392,7 +384,7 @@ event_keeps s laws callers start net (Resends q) is can =
 event_keeps s laws callers start net (Arrives q now choice) is can = arriving_keeps s laws callers start net q now choice is can (s.executes net.machine q.bytes now) refl
 event_keeps s laws callers start net (Asks caller a) is lone =
     with_replies s laws callers start (record net { machine = (stepped s net.machine a).state }) caller (stepped s net.machine a).answer
-    (λ x e good. absurd (true≢false (sym good ∙ laws.no_sequence net.machine a.bytes a.now a.choice x lone.0 lone.1 e)))
+    (λ x e good. absurd (laws.no_sequence net.machine a.bytes a.now a.choice x lone.0 lone.1 e good))
     (moves s laws callers start net a.bytes a.now a.choice is (λ p i h reads executes at. none_is_some h (sym lone.1 ∙ reads)))
   where
     none_is_some : (h : Heading) → None ≡ Some h → ⊥

@@ -1,19 +1,50 @@
 -- The run in which a write is seen, computed.
 use Rattle.std.proofs.Common.{◌≡◌, inl, inr, List, [], ◌∷◌, ◌++◌, map, take, None, refl, subst, arith}
 use Rattle.nfs_slots.specs.Slot.{unused_slot}
+use Rattle.nfs_serve.specs.Promises.Exchanges.{words}
 use Rattle.nfs_serve.specs.Promises.Endpoint.{Arrival}
 use Rattle.nfs_serve.specs.Promises.Network.{NetworkEvent, Arrives, Asks, ended}
 use Rattle.nfs_serve.specs.Promises.Numbered.{Happens}
 use Rattle.nfs_serve.specs.Promises.PerfectWire.{wire, done_on}
 use Rattle.nfs_serve.specs.Promises.RealTime.{IsAtomic, RunsBehind}
 use Rattle.nfs_serve.specs.Promises.SeenWrite.{before, here, slot_of, callers, write, read, packet, written, seen, accepts, first, joins, second, start, brought, IsSeen}
+use Rattle.nfs_serve.specs.Promises.Seen.{ReplyReader, Bears}
+use Rattle.nfs_serve.proofs.Promises.Replies.{found, finding, found_by, no_bytes}
 use Rattle.nfs_serve.proofs.Promises.LostReply.{is_bytes}
 use Rattle.nfs_serve.proofs.Promises.KeptSlots.{keeps_slots}
 use Rattle.nfs_serve.proofs.Promises.Ticking.{keeps_time}
 use Rattle.nfs_serve.proofs.Promises.RealTime.{atomic}
 use Rattle.nfs_serve.proofs.Promises.Computing.{computing}
 
-happens : Happens callers start.machine start (first ++ second)
+-- what each result bears
+
+write_bears : Bears written.result (record { place = slot_of 1; number = 1 })
+unfolding computing
+write_bears = (
+  words (7 ∷ 1 ∷ 0 ∷ 1 ∷ []),
+  refl,
+  record {
+    value = (0, ([], 4));
+    rest = words (3 ∷ 3 ∷ 0 ∷ 24 ∷ 0 ∷ 15 ∷ 0 ∷ 38 ∷ 0 ∷ 4 ∷ 2 ∷ 7 ∷ 0 ∷ []);
+    stands = refl;
+    fits = (omega arith, ((omega arith, no_bytes), (omega arith, (tt, (tt, ((refl, is_bytes _ refl), (omega arith, omega arith)))))));
+  },
+)
+
+read_bears : Bears seen.result (record { place = slot_of 2; number = 1 })
+unfolding computing
+read_bears = (
+  words (7 ∷ 2 ∷ 0 ∷ 2 ∷ []),
+  refl,
+  record {
+    value = (0, ([], 4));
+    rest = words (3 ∷ 3 ∷ 0 ∷ 24 ∷ 0 ∷ 15 ∷ 0 ∷ 25 ∷ 0 ∷ 1 ∷ 4 ∷ 0x7365_656e ∷ []);
+    stands = refl;
+    fits = (omega arith, ((omega arith, no_bytes), (omega arith, (tt, (tt, ((refl, is_bytes _ refl), (omega arith, omega arith)))))));
+  },
+)
+
+happens : Happens callers (start found).machine (start found) (first ++ second)
 unfolding computing
 happens = (
   record {
@@ -32,7 +63,7 @@ happens = (
       (
         inl refl,
         (
-          record { place = inl refl; caller = 8; sent = inl refl; waits = λ e. cc; last = ([], refl); numbered = refl },
+          record { place = inl refl; caller = 8; sent = inl refl; waits = λ e. cc; last = ([], refl); numbered = write_bears },
           (
             (is_bytes _ refl, refl),
             (
@@ -51,7 +82,7 @@ happens = (
                   inr (inl refl),
                   (
                     inl refl,
-                    (record { place = inr (inl refl); caller = 8; sent = inl refl; waits = λ e. cc; last = ([], refl); numbered = refl }, tt),
+                    (record { place = inr (inl refl); caller = 8; sent = inl refl; waits = λ e. cc; last = ([], refl); numbered = read_bears }, tt),
                   ),
                 ),
               ),
@@ -63,21 +94,22 @@ happens = (
   ),
 )
 
-computed : (((ended callers start (first ++ second)).lines (slot_of 2)).accepted ≡ seen ∷ []) × (wire here start.machine (first ++ second) ≡ brought) × (done_on here (slot_of 2) start.machine brought ≡ seen ∷ [])
+computed : (((ended callers (start found) (first ++ second)).lines (slot_of 2)).accepted ≡ seen ∷ [])
+    × (wire (here found) (start found).machine (first ++ second) ≡ brought) × (done_on (here found) (slot_of 2) (start found).machine brought ≡ seen ∷ [])
 unfolding computing
 computed = (refl, refl, refl)
 
-is_atomic : IsAtomic here start.machine callers (first ++ second)
-is_atomic = atomic here (keeps_slots 511 7 90) (keeps_time 511 7 90) before callers (first ++ second) happens
+is_atomic : IsAtomic (here found) (start found).machine callers (first ++ second)
+is_atomic = atomic (here found) (keeps_slots finding 511 7 90) (keeps_time found 511 7 90) before callers (first ++ second) happens
 
-pub is_seen : IsSeen
-is_seen = record {
+computed_seen : IsSeen found
+computed_seen = record {
   happens = happens;
   accepted = computed.0;
   brings = computed.1;
   answers = computed.2;
   alike = is_atomic.one_list;
-  order = subst (λ (records : List Arrival). RunsBehind here start.machine records (slot_of 1) written (slot_of 2) read) computed.1
+  order = subst (λ (records : List Arrival). RunsBehind (here found) (start found).machine records (slot_of 1) written (slot_of 2) read) computed.1
       (is_atomic.in_time front middle back (slot_of 1) write (record { xid = 16; result = written.result }) (packet 2 read) refl);
 }
   where
@@ -89,3 +121,6 @@ is_seen = record {
 
     back : List NetworkEvent
     back = Arrives (packet 1 write) 109 None ∷ Arrives (packet 2 read) 110 None ∷ accepts 2 seen ∷ []
+
+pub is_seen : (reader : ReplyReader) → IsSeen reader.find
+is_seen reader = subst IsSeen (found_by reader) computed_seen

@@ -12,7 +12,7 @@ pub record Runs (s : Server) (m : s.State) (h : Heading) (step : Stepped s.State
   pub fresh : judge_slot slot h.compound.number h.compound.uid h.compound.args ≡ Fresh
   pub result : List ℕ
   pub answer : step.answer ≡ Some (record { xid = h.xid; result = result })
-  pub numbered : s.slot_number result ≡ Some (record { place = h.place; number = h.compound.number })
+  pub numbered : s.Bears result (record { place = h.place; number = h.compound.number })
   pub keeps : s.slot_at step.state h.place ≡ Some (record { number = h.compound.number; used = true; uid = h.compound.uid; args = h.compound.args; reply = result })
 
 -- a request that was kept: its result comes out as it was kept
@@ -40,14 +40,16 @@ pub record KeepsSlots (s : Server) : Type 1 where
       → s.heading bytes ≡ Some h → (s.step m bytes now choice).answer ≡ Some a → a.xid ≡ h.xid
   -- and no answer to anything but a compound on a session begins with a good SEQUENCE
   pub no_sequence : (m : s.State) (bytes : List ℕ) (now : ℕ) (choice : Option ℕ) (a : Answer) → IsBytes bytes
-      → s.heading bytes ≡ None → (s.step m bytes now choice).answer ≡ Some a → s.sequenced a.result ≡ false
+      → s.heading bytes ≡ None → (s.step m bytes now choice).answer ≡ Some a → s.IsSequenced a.result → ⊥
   -- a result that bears a slot and a number begins with a good SEQUENCE
-  pub well_numbered : (result : List ℕ) (n : SlotNumber) → s.slot_number result ≡ Some n → s.sequenced result ≡ true
+  pub well_numbered : (result : List ℕ) (n : SlotNumber) → s.Bears result n → s.IsSequenced result
+  -- and bears no other
+  pub one_number : (result : List ℕ) (n m : SlotNumber) → s.Bears result n → s.Bears result m → n ≡ m
   pub runs : (m : s.State) (bytes : List ℕ) (now : ℕ) (choice : Option ℕ) (h : Heading) → IsBytes bytes
       → Sound m → s.heading bytes ≡ Some h → s.executes m bytes now ≡ true → Runs s m h (s.step m bytes now choice)
   -- what answers a good SEQUENCE and does not execute is a kept result
   pub repeats : (m : s.State) (bytes : List ℕ) (now : ℕ) (choice : Option ℕ) (h : Heading) (a : Answer) → IsBytes bytes
-      → Sound m → s.heading bytes ≡ Some h → s.executes m bytes now ≡ false → (s.step m bytes now choice).answer ≡ Some a → s.sequenced a.result ≡ true
+      → Sound m → s.heading bytes ≡ Some h → s.executes m bytes now ≡ false → (s.step m bytes now choice).answer ≡ Some a → s.IsSequenced a.result
       → Repeats s m h a.result
   -- any other step leaves the slot, or ends its session; one that has ended does not come back
   pub leaves : (m : s.State) (bytes : List ℕ) (now : ℕ) (choice : Option ℕ) (p : Place)

@@ -12,7 +12,7 @@ use Rattle.nfs_rpc.specs.declared.refusal.Refusal.{Refusal}
 use Rattle.nfs_rpc.specs.declared.refusal.Refusal.TheVariants.{Silent, Mismatch, Auth, Accept}
 use Rattle.nfs_rpc.specs.declared.refusal.AcceptStat.TheVariants.{ProgUnavail, ProgMismatch, ProcUnavail, GarbageArgs}
 use Rattle.nfs_rpc.specs.Reply.{spell_head, spell_refusal}
-use Rattle.nfs_serve.specs.Promises.Seen.{head, by_head, answer_in, front, by_front, sequenced}
+use Rattle.nfs_serve.proofs.Promises.Reader.{head, by_head, answer_in, front, by_front, sequenced}
 
 -- The head of a reply.
 
@@ -44,7 +44,7 @@ refusal_spelled (Accept xid GarbageArgs) = refl
 
 -- The front of a result.
 
-is_front : IsCodec front
+pub is_front : IsCodec front
 is_front = is_then number _ is_number (is_then (opaque opaque_limit) _ (is_opaque 1024 (omega arith)) (is_then number _ is_number (is_then number number is_number is_number)))
 
 joined : (a b c d r : List ℕ) → (a ++ (b ++ c)) ++ (d ++ r) ≡ (a ++ (b ++ (c ++ d))) ++ r

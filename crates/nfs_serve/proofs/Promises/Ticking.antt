@@ -24,6 +24,7 @@ use Rattle.nfs_exec.proofs.Repeating.{expires}
 use Rattle.nfs_serve.proofs.Promises.ServerLaws.{KeepsTime}
 use Rattle.nfs_serve.proofs.Promises.Settled.{IsSettled, settled_new, settled_step, ticks_nothing}
 use Rattle.nfs_exec.specs.Executing.{is_alone, executes}
+use Rattle.nfs_serve.specs.Promises.Endpoint.{Answer}
 use Rattle.nfs_serve.specs.Step.{asked_of, State, Stepped, with_arguments, by_procedure, reply_to, step}
 use Rattle.nfs_serve.specs.Promises.Seen.{ticked, executes_by, seen, server}
 use Rattle.std.specs.Prelude.{is_some}
@@ -124,13 +125,13 @@ stepped_from s t bytes now then' choice same =
     step_is s bytes now choice
     ∙ (ap (λ (u : State). reply_to u (length bytes) choice (call_of bytes)) same ∙ sym (step_is t bytes then' choice))
 
-pub keeps_time : (mode instance lease : ℕ) → KeepsTime (server mode instance lease)
-keeps_time mode instance lease = record {
+pub keeps_time : (find : List ℕ → Option Answer) (mode instance lease : ℕ) → KeepsTime (server find mode instance lease)
+keeps_time find mode instance lease = record {
   twice = twice;
   step_moment = λ s bytes now choice.
       ap (λ (r : Stepped). r.state.moment) (step_is s bytes now choice) ∙ reply_moment (ticked s now) (length bytes) choice (call_of bytes);
-  takes_later = λ s bytes now choice. ap seen (stepped_from s s bytes now (max s.moment now) choice (later s now));
-  ticks_first = λ s bytes early late choice. ap seen (stepped_from (ticked s early) s bytes late (max early late) choice (twice s early late));
+  takes_later = λ s bytes now choice. ap (seen find) (stepped_from s s bytes now (max s.moment now) choice (later s now));
+  ticks_first = λ s bytes early late choice. ap (seen find) (stepped_from (ticked s early) s bytes late (max early late) choice (twice s early late));
   executes_later = λ s bytes now. ap (λ (t : State). executes_by t (length bytes) (call_of bytes)) (later s now);
   executes_ticked = λ s bytes early late. ap (λ (t : State). executes_by t (length bytes) (call_of bytes)) (twice s early late);
   only_ticks = λ s bytes now choice e.

@@ -1,10 +1,10 @@
 -- The runs in which the laws fail of the wrong servers, computed.
-use Rattle.std.proofs.Common.{◌≡◌, inl, inr, ℕ, ◌<◌, zero, suc, true, false, List, [], ◌∷◌, ◌++◌, length, get_or, Option, Some, None, refl, sym, ap, subst, arith}
+use Rattle.std.proofs.Common.{◌≡◌, inl, inr, ℕ, ◌<◌, zero, suc, true, false, List, [], ◌∷◌, ◌++◌, length, get_or, Option, Some, None, refl, sym, ◌∙◌, ap, subst, arith}
 use Rattle.std.proofs.lemmas.Bool.{cases_Bool, true≢false}
 use Rattle.nfs_xdr.specs.Text.{IsBytes}
 use Rattle.nfs_slots.specs.declared.slot.Verdict.{Verdict}
 use Rattle.nfs_slots.specs.declared.slot.Verdict.TheVariants.{Fresh, Again, FalseRetry, Misordered, NoSlot}
-use Rattle.nfs_serve.specs.Promises.Endpoint.{Place, Heading, Compound, Answer, Stepped}
+use Rattle.nfs_serve.specs.Promises.Endpoint.{Place, Heading, Compound, Answer, SlotNumber, Stepped}
 use Rattle.nfs_serve.specs.Promises.Network.{Callers, Packet, RanCompound, NetworkEvent, Sends, Arrives, Accepts, begins, same_place}
 use Rattle.nfs_serve.specs.Promises.Numbered.{Happens}
 use Rattle.nfs_serve.specs.Promises.WrongServers.{Small, place, heading, spell, judged, slot_keeping, is_fresh, by_verdict, taken, executes, runs_repeats, says_one, LawsRefuse}
@@ -70,6 +70,13 @@ stays : (s : Small) (p : Place) (o : Option Heading) → ((h : Heading) → o �
 stays s p None elsewhere = refl
 stays s p (Some h) elsewhere = leaves s h p (judged s h) (λ is at. elsewhere h refl is at)
 
+abbrev spelled : List ℕ → SlotNumber
+spelled (client ∷ counter ∷ slot ∷ number ∷ []) = record { place = record { session = record { client = client; counter = counter }; slot = slot }; number = number }
+spelled result = record { place = place 0; number = 0 }
+
+one_spelled : (n m : SlotNumber) → spell n.place n.number ≡ spell m.place m.number → n ≡ m
+one_spelled n m e = ap spelled e
+
 keeps_slots : KeepsSlots runs_repeats
 keeps_slots = record {
   Sound = λ s. Unit {0};
@@ -79,8 +86,9 @@ keeps_slots = record {
   stands = λ s p x sound e. tt;
   stays_given = λ s bytes now choice p given. tt;
   same_xid = λ s bytes now choice h a fits reads. by_heading (λ (o : Option Heading). (step s o).answer ≡ Some a → a.xid ≡ h.xid) (heading bytes) h reads (same_xid s h a (judged s h));
-  no_sequence = λ s bytes now choice a fits reads told. absurd (nothing s (heading bytes) a reads told);
-  well_numbered = λ result n e. refl;
+  no_sequence = λ s bytes now choice a fits reads told good. nothing s (heading bytes) a reads told;
+  well_numbered = λ result n e. tt;
+  one_number = λ result n m e f. one_spelled n m (sym e ∙ f);
   runs = λ s bytes now choice h fits sound reads.
       by_heading (λ (o : Option Heading). executes s o ≡ true → Runs runs_repeats s h (step s o)) (heading bytes) h reads (runs s h (judged s h) refl);
   repeats = λ s bytes now choice h a fits sound reads idle told good.

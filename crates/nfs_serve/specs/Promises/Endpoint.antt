@@ -22,7 +22,7 @@ pub record Heading : Type 0 where
   pub place : Place
   pub compound : Compound
 
--- a reply as its caller reads it: the xid, and the bytes behind the reply's head
+-- a reply that says success: the xid, and the bytes behind the reply's head
 pub record Answer : Type 0 where
   pub xid : ℕ
   pub result : List ℕ
@@ -49,9 +49,9 @@ pub record Server : Type 1 where
   -- the record at a moment executes: its SEQUENCE is new on its slot and not refused, or it is one of the operations that stand alone
   pub executes : State → List ℕ → ℕ → Bool
   -- a result begins with SEQUENCE's, and that is NFS4_OK
-  pub sequenced : List ℕ → Bool
-  -- what it bears then
-  pub slot_number : List ℕ → Option SlotNumber
+  pub IsSequenced : List ℕ → Type 0
+  -- and bears this slot and number
+  pub Bears : List ℕ → SlotNumber → Type 0
   -- what a slot holds; None where the session or the slot is not there
   pub slot_at : State → Place → Option SlotState
   -- the moment that was taken last

@@ -22,7 +22,7 @@ use Rattle.nfs_serve.specs.Desk.{Desk}
 use Rattle.nfs_serve.specs.Hub.{ServesRounds}
 use Rattle.nfs_serve.specs.Deeds.{Deed}
 use Rattle.nfs_serve.specs.Promises.Whole.{script}
-use Rattle.nfs_serve.specs.Promises.Endpoint.{Arrival, ran}
+use Rattle.nfs_serve.specs.Promises.Endpoint.{Answer, Arrival, ran}
 use Rattle.nfs_serve.specs.Promises.Seen.{server}
 use Rattle.nfs_serve.specs.Promises.Points.{state_after_all}
 
@@ -34,9 +34,9 @@ record_of (Overflows conn) choice = []
 abbrev pub records_of : List Move → List Arrival
 records_of moves = flat_map (λ m. record_of m.event m.choice) moves
 
--- a run of these records, whatever the server was started with
+-- a run of these records, whatever the server was started with, and whatever is found in its replies
 abbrev pub LeavesOf : State → State → List Arrival → Type 0
-LeavesOf old new records = (mode instance lease : ℕ) → new ≡ ran (server mode instance lease) old records
+LeavesOf old new records = (find : List ℕ → Option Answer) (mode instance lease : ℕ) → new ≡ ran (server find mode instance lease) old records
 
 -- These entries came on connections that were closed. They bring these moves, and the state that is left is that which the list of the moves'
 -- records leaves.
@@ -89,8 +89,8 @@ pub record EachFormRunsRecords : Type 0 where
   pub serve : (old new : State) (desks : List Desk) (count : ℕ) (l0 l1 : Option (List Deed)) (c0 c1 : Option (List ℕ))
       → (served : ServesRounds old new desks count l0 l1 c0 c1) → (moves : List Move) × RunsRecords old new (script served.rounds) moves
   -- A run behind a run is one: so what any of these leaves, one after the other, is what a list of records leaves of a new server.
-  pub goes_on : (mode instance lease : ℕ) (before records : List Arrival) → (let s = server mode instance lease in
+  pub goes_on : (find : List ℕ → Option Answer) (mode instance lease : ℕ) (before records : List Arrival) → (let s = server find mode instance lease in
       ran s (ran s s.new before) records ≡ ran s s.new (before ++ records))
   -- and the points of such a run are those of its list of records
-  pub points : (mode instance lease : ℕ) (s : State) (records : List Arrival)
-      → ran (server mode instance lease) s records ≡ state_after_all s records
+  pub points : (find : List ℕ → Option Answer) (mode instance lease : ℕ) (s : State) (records : List Arrival)
+      → ran (server find mode instance lease) s records ≡ state_after_all s records

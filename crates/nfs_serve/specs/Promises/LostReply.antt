@@ -1,7 +1,7 @@
 -- A reply that is lost, worked by hand in words of four bytes (RFC 8881 sections 2.10.6.1, 18.35, 18.36 and 18.46). To a new server of
 -- instance 7 come EXCHANGE_ID and CREATE_SESSION of the owner `A`. Its caller sends two compounds on slot 1 of the session, each a SEQUENCE
 -- alone. The reply to the second does not reach it; it sends that one again, under another xid, and accepts what comes.
-use Rattle.std.specs.Prelude.{◌≡◌, ℕ, ◌+◌, ◌*◌, ◌^◌, List, [], ◌∷◌, ◌++◌, None}
+use Rattle.std.specs.Prelude.{◌≡◌, ℕ, ◌+◌, ◌*◌, ◌^◌, List, [], ◌∷◌, ◌++◌, Option, None}
 use Rattle.nfs_serve.specs.Promises.Exchanges.{words}
 use Rattle.nfs_serve.specs.Promises.Endpoint.{Place, Compound, Answer, Arrival, Server, ran}
 use Rattle.nfs_serve.specs.Promises.Network.{Callers, Packet, RanCompound, NetworkEvent, Sends, Resends, Arrives, Accepts, Schedule, IsUnused, Network, begins, ended}
@@ -24,8 +24,8 @@ create_session client = words (0 ∷ 1 ∷ 1 ∷ 43 ∷ 7 ∷ client ∷ 1 ∷ 0
 abbrev pub before : List Arrival
 before = record { bytes = call 1 (exchange_id 0x4100_0000); now = 100; choice = None } ∷ record { bytes = call 2 (create_session 1); now = 101; choice = None } ∷ []
 
-abbrev pub here : Server
-here = server 511 7 90
+abbrev pub here : (find : List ℕ → Option Answer) → Server
+here find = server find 511 7 90
 
 -- session 1, of client 1 of instance 7: its id spells the words 7, 1, 0, 1
 abbrev pub place : Place
@@ -51,17 +51,17 @@ first = Sends (packet 3 1) ∷ Arrives (packet 3 1) 102 None ∷ Accepts place (
 abbrev pub second : List NetworkEvent
 second = Sends (packet 4 2) ∷ Arrives (packet 4 2) 103 None ∷ Resends (packet 5 2) ∷ Arrives (packet 5 2) 104 None ∷ Accepts place (compound 2) (answer 5 2) ∷ []
 
-abbrev pub start : Network here
-start = begins here (ran here here.new before)
+abbrev pub start : (find : List ℕ → Option Answer) → Network (here find)
+start find = begins (here find) (ran (here find) (here find).new before)
 
 abbrev pub done : ℕ → RanCompound
 done number = record { compound = compound number; result = (answer 0 number).result }
 
 -- These events may happen; and then each compound was executed once, and its result accepted.
-pub record IsAccepted : Type 0 where
-  pub unused : IsUnused here start.machine place
-  pub schedule : Schedule callers start (first ++ second)
-  pub line : (ended callers start (first ++ second)).lines place
+pub record IsAccepted (find : List ℕ → Option Answer) : Type 0 where
+  pub unused : IsUnused (here find) (start find).machine place
+  pub schedule : Schedule callers (start find) (first ++ second)
+  pub line : (ended callers (start find) (first ++ second)).lines place
       ≡ record { sent = compound 1 ∷ compound 2 ∷ []; executed = done 1 ∷ done 2 ∷ []; accepted = done 1 ∷ done 2 ∷ []; xids = [] }
 
 -- what a perfect wire brings for these events: each compound once, at the moment at which it was taken
@@ -70,8 +70,8 @@ brought = record { bytes = (packet 3 1).bytes; now = 102; choice = None } ∷ re
 
 -- These events meet the premises of `as_over_a_wire` and `atomic_in_real_time`: the wire brings the second compound once, which was sent twice,
 -- and that runs after the first one, whose result was accepted before.
-pub record IsOverAWire : Type 0 where
-  pub brings : wire here start.machine (first ++ second) ≡ brought
-  pub answers : done_on here place start.machine brought ≡ done 1 ∷ done 2 ∷ []
-  pub alike : IsAsOverAWire here start.machine callers (first ++ second)
-  pub order : RunsBehind here start.machine brought place (done 1) place (compound 2)
+pub record IsOverAWire (find : List ℕ → Option Answer) : Type 0 where
+  pub brings : wire (here find) (start find).machine (first ++ second) ≡ brought
+  pub answers : done_on (here find) place (start find).machine brought ≡ done 1 ∷ done 2 ∷ []
+  pub alike : IsAsOverAWire (here find) (start find).machine callers (first ++ second)
+  pub order : RunsBehind (here find) (start find).machine brought place (done 1) place (compound 2)

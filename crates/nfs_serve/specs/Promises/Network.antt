@@ -146,7 +146,7 @@ pub record MayAccept (s : Server) (callers : Callers) (net : Network s) (p : Pla
   pub sent : In (record { caller = callers.who p; answer = a }) net.replies
   pub last : IsLast compound (net.lines p).sent
   pub xid : In a.xid (net.lines p).xids
-  pub sequenced : s.sequenced a.result ≡ true
+  pub sequenced : s.IsSequenced a.result
 
 abbrev pub May : {s : Server} → Callers → Network s → NetworkEvent → Type 0
 May {s} callers net (Sends p) = MaySend s callers net p
@@ -202,4 +202,4 @@ abbrev pub AnswersExecuted : Server → Type 0
 AnswersExecuted s =
     (m : s.State) (bytes : List ℕ) (now : ℕ) (choice : Option ℕ) (h : Heading)
     → IsBytes bytes → s.heading bytes ≡ Some h → s.executes m bytes now ≡ true
-    → (result : List ℕ) × ((s.step m bytes now choice).answer ≡ Some (record { xid = h.xid; result = result })) × (s.sequenced result ≡ true)
+    → (result : List ℕ) × ((s.step m bytes now choice).answer ≡ Some (record { xid = h.xid; result = result })) × s.IsSequenced result

@@ -37,7 +37,7 @@ pub record CanAccept (s : Server) (callers : Callers) (net : Network s) (p : Pla
   pub sent : In (record { caller = caller; answer = a }) net.replies
   pub waits : (net.lines p).xids ≡ [] → ⊥
   pub last : IsLast compound (net.lines p).sent
-  pub numbered : s.slot_number a.result ≡ Some (record { place = p; number = compound.number })
+  pub numbered : s.Bears a.result (record { place = p; number = compound.number })
 
 abbrev pub Can : {s : Server} → Callers → s.State → Network s → NetworkEvent → Type 0
 Can {s} callers start net (Sends p) = CanSend s callers start net p
@@ -65,7 +65,7 @@ AnswersNumbered s =
     (m : s.State) (bytes : List ℕ) (now : ℕ) (choice : Option ℕ) (h : Heading)
     → IsBytes bytes → s.heading bytes ≡ Some h → s.executes m bytes now ≡ true
     → (result : List ℕ) × ((s.step m bytes now choice).answer ≡ Some (record { xid = h.xid; result = result }))
-    × (s.slot_number result ≡ Some (record { place = h.place; number = h.compound.number }))
+    × s.Bears result (record { place = h.place; number = h.compound.number })
 
 -- Callers that go by xids, none of which is of two compounds, and whose slots stand unused at the beginning are such callers: what holds of every
 -- such list of events holds of theirs.

@@ -1,16 +1,16 @@
--- This server as a network sees it: which record is a compound on a slot and which executes (RFC 8881 section 2.10.6), and what a caller
--- reads of a reply (RFC 5531 section 9, RFC 8881 section 16.2).
-use Rattle.std.specs.Prelude.{ℕ, max, ◌==◌, ◌&&◌, Bool, false, List, length, Option, Some, None, slice_get, if◌then◌else◌}
+-- This server as a network sees it: which record is a compound on a slot and which executes (RFC 8881 section 2.10.6), and what a reply says
+-- (RFC 5531 section 9, RFC 8881 section 16.2).
+use Rattle.std.specs.Prelude.{◌≡◌, ◌↔◌, ℕ, max, Bool, false, List, [], length, Option, Some, None, slice_get, option_map, option_and_then}
 use Rattle.std.specs.Option.{option_map_or}
-use Rattle.nfs_xdr.specs.Reading.{◌>>=◌}
+use Rattle.nfs_xdr.specs.Text.{Text, ◌then◌, void, uint32, enum, fixed, opaque, Begins, Leads}
 use Rattle.nfs_xdr.specs.Limits.{opaque_limit}
-use Rattle.nfs_xdr.specs.Codec.{Codec, ◌then◌, number, opaque}
-use Rattle.nfs_xdr.specs.Combinators.{fixed}
+use Rattle.nfs_xdr.specs.declared.status.Status.TheVariants.{Nfs4Ok}
 use Rattle.nfs_rpc.specs.CallHead.{Call, Called, Accepted, Refused, call_of}
-use Rattle.nfs_compound.specs.Request.{Request}
+use Rattle.nfs_rpc.specs.Wire.{opaque_auth}
 use Rattle.nfs_compound.specs.declared.session_args.Sequence.{Sequence}
 use Rattle.nfs_compound.specs.declared.op_num.OpNum.TheVariants as Op
 use Rattle.nfs_compound.specs.OpNum.{op_number}
+use Rattle.nfs_results.specs.Wire.{text_of, ends}
 use Rattle.nfs_slots.specs.Slot.{SlotState}
 use Rattle.nfs_sessions.specs.Id.{id_of}
 use Rattle.nfs_sessions.specs.Sessions.{Session, session_at}
@@ -19,47 +19,35 @@ use Rattle.nfs_exec.specs.Expiry.{expired}
 use Rattle.nfs_serve.specs.Promises.Endpoint.{Heading, Answer, SlotNumber, Stepped as Seen, Server}
 use Rattle.nfs_serve.specs.Step.{State, Stepped, new_state, step, asked_of}
 
--- the head of a reply that says success, as six numbers: xid, REPLY 1, MSG_ACCEPTED 0, a verifier AUTH_NONE 0 of no bytes, SUCCESS 0
-abbrev pub head : Codec (ℕ × (ℕ × (ℕ × (ℕ × (ℕ × ℕ)))))
-head = number then number then number then number then number then number
+-- the head of a reply that says success: its xid, REPLY 1, MSG_ACCEPTED 0, a verifier AUTH_NONE 0 of no bytes, SUCCESS 0
+abbrev pub accepted_reply : ℕ → Text
+accepted_reply xid = uint32 xid then enum 1 then enum 0 then opaque_auth (record { flavor = 0; body = [] }) then enum 0
 
-abbrev pub by_head : Option ((ℕ × (ℕ × (ℕ × (ℕ × (ℕ × ℕ))))) × List ℕ) → Option Answer
-by_head None = None
-by_head (Some x) =
-    if (x.0.1.0 == 1) && (x.0.1.1.0 == 0) && (x.0.1.1.1.0 == 0) && (x.0.1.1.1.1.0 == 0) && (x.0.1.1.1.1.1 == 0)
-    then Some (record { xid = x.0.0; result = x.1 }) else None
+-- the reply is that, and behind it is the result
+abbrev pub IsAnswer : List ℕ → Answer → Type 0
+IsAnswer reply a = Leads accepted_reply reply (a.xid, a.result)
 
--- the reply as its caller reads it; None where the head says anything else
-abbrev pub answer_in : List ℕ → Option Answer
-answer_in reply = by_head (head.read reply)
+-- whatever finds the answer in each reply that is the text of one, and none in any other
+pub record ReplyReader : Type 0 where
+  pub find : List ℕ → Option Answer
+  pub exact : (reply : List ℕ) (a : Answer) → find reply ≡ Some a ↔ IsAnswer reply a
 
--- the front of a compound's result: its status, its tag, how many operations answered, and of the first its number and status
-abbrev pub front : Codec (ℕ × (List ℕ × (ℕ × (ℕ × ℕ))))
-front = number then opaque opaque_limit then number then number then number
+-- the front of a compound's result (RFC 8881 section 16.2.2): its status, its tag, how many operations answered, and this of the first of them
+abbrev pub front : Text → ℕ × (List ℕ × ℕ) → Text
+front first (status, (tag, count)) = uint32 status then opaque opaque_limit tag then uint32 count then first
 
-abbrev pub by_front : Option ((ℕ × (List ℕ × (ℕ × (ℕ × ℕ)))) × List ℕ) → Bool
-by_front None = false
-by_front (Some x) = (x.0.1.1.1.0 == op_number Op.Sequence) && (x.0.1.1.1.1 == 0)
+-- SEQUENCE with NFS4_OK, and this of what is behind that
+abbrev pub sequence : Text → Text
+sequence behind = text_of (ends (op_number Op.Sequence) Nfs4Ok behind)
 
 -- the first operation that answered is SEQUENCE, with NFS4_OK
-abbrev pub sequenced : List ℕ → Bool
-sequenced result = by_front (front.read result)
+abbrev pub IsSequenced : List ℕ → Type 0
+IsSequenced result = Begins (front (sequence void)) result
 
--- the first items of SEQUENCE's result: the session, the number and the slot (RFC 8881 section 18.46.2)
-abbrev pub sequence_front : Codec (List ℕ × (ℕ × ℕ))
-sequence_front = fixed 16 then number then number
-
-abbrev pub by_sequence_front : Option ((List ℕ × (ℕ × ℕ)) × List ℕ) → Option SlotNumber
-by_sequence_front None = None
-by_sequence_front (Some x) = Some (record { place = record { session = id_of x.0.0; slot = x.0.1.1 }; number = x.0.1.0 })
-
--- what they say, where that SEQUENCE is there
-abbrev pub numbered_by : Option ((ℕ × (List ℕ × (ℕ × (ℕ × ℕ)))) × List ℕ) → Option SlotNumber
-numbered_by None = None
-numbered_by (Some x) = if by_front (Some x) then by_sequence_front (sequence_front.read x.1) else None
-
-abbrev pub slot_number : List ℕ → Option SlotNumber
-slot_number result = numbered_by (front.read result)
+-- and it bears the session, the number and the slot (RFC 8881 section 18.46.2)
+abbrev pub Bears : List ℕ → SlotNumber → Type 0
+Bears result n = (sessionid : List ℕ) × (n.place.session ≡ id_of sessionid)
+    × Begins (front (sequence (fixed 16 sessionid then uint32 n.number then uint32 n.place.slot))) result
 
 abbrev pub heading_of : Call → Sequence → Heading
 heading_of call s = record {
@@ -70,7 +58,7 @@ heading_of call s = record {
 
 abbrev pub heading_by : Called → Option Heading
 heading_by (Refused refusal) = None
-heading_by (Accepted call) = asked_of call call.procedure >>= λ r. requests.sequence_of r >>= λ s. Some (heading_of call s)
+heading_by (Accepted call) = option_map (heading_of call) (option_and_then requests.sequence_of (asked_of call call.procedure))
 
 -- what a record says that is a compound on a slot
 abbrev pub heading : List ℕ → Option Heading
@@ -91,19 +79,19 @@ slot_in slot None = None
 slot_in slot (Some s) = slice_get s.slots.slots slot
 
 -- what a network sees of a step
-abbrev pub seen : Stepped → Seen State
-seen s = record { answer = s.reply >>= answer_in; state = s.state }
+abbrev pub seen : (find : List ℕ → Option Answer) → Stepped → Seen State
+seen find s = record { answer = option_and_then find s.reply; state = s.state }
 
--- a server whose root has a mode, of an instance, and whose leases last so many seconds
-abbrev pub server : (mode instance lease : ℕ) → Server
-server mode instance lease = record {
+-- a server whose root has a mode, of an instance, and whose leases last so many seconds, by what is found in its replies
+abbrev pub server : (find : List ℕ → Option Answer) (mode instance lease : ℕ) → Server
+server find mode instance lease = record {
   State = State;
   new = new_state mode instance lease;
   heading = heading;
-  step = λ s bytes now choice. seen (step s bytes now choice);
+  step = λ s bytes now choice. seen find (step s bytes now choice);
   executes = λ s bytes now. executes_by (ticked s now) (length bytes) (call_of bytes);
-  sequenced = sequenced;
-  slot_number = slot_number;
+  IsSequenced = IsSequenced;
+  Bears = Bears;
   slot_at = λ s p. slot_in p.slot (session_at s.machine.sessions p.session);
   moment = λ s. s.moment;
   tick = ticked;

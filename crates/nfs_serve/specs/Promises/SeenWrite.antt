@@ -2,9 +2,9 @@
 -- instance 7 comes a client `A`, which makes a session and the file `f`, and writes four bytes to it on slot 1. The reply does not reach it; it
 -- sends the write again, and accepts what comes. Then a client `B` comes, makes a session, and reads the file on slot 1 of that; a packet of the
 -- write reaches the server once more before the read does. B is answered the four bytes. Both go by SEQUENCE's result, and each call has one xid.
-use Rattle.std.specs.Prelude.{◌≡◌, ℕ, ◌+◌, ◌*◌, ◌^◌, List, [], ◌∷◌, ◌++◌, map, None}
+use Rattle.std.specs.Prelude.{◌≡◌, ℕ, ◌+◌, ◌*◌, ◌^◌, List, [], ◌∷◌, ◌++◌, map, Option, None}
 use Rattle.nfs_serve.specs.Promises.Exchanges.{words}
-use Rattle.nfs_serve.specs.Promises.Endpoint.{Place, Compound, Arrival, Server, ran}
+use Rattle.nfs_serve.specs.Promises.Endpoint.{Place, Compound, Answer, Arrival, Server, ran}
 use Rattle.nfs_serve.specs.Promises.Network.{Callers, Packet, RanCompound, NetworkEvent, Sends, Resends, Arrives, Asks, Accepts, Network, begins, ended}
 use Rattle.nfs_serve.specs.Promises.Numbered.{Happens}
 use Rattle.nfs_serve.specs.Promises.Seen.{server}
@@ -36,8 +36,8 @@ reads = words (24 ∷ 15 ∷ 1 ∷ 0x6600_0000 ∷ 25 ∷ 0 ∷ 0 ∷ 0 ∷ 0 �
 abbrev pub before : List Arrival
 before = arrival 100 (call 11 (exchange_id 0x4100_0000)) ∷ arrival 101 (call 12 (create_session 1)) ∷ arrival 102 (call 13 (in_session 1 0 1 3 makes)) ∷ []
 
-abbrev pub here : Server
-here = server 511 7 90
+abbrev pub here : (find : List ℕ → Option Answer) → Server
+here find = server find 511 7 90
 
 -- slot 1 of the session of a client of instance 7
 abbrev pub slot_of : ℕ → Place
@@ -82,8 +82,8 @@ second =
     map (Asks 8) joins
     ++ (Sends (packet 2 read) ∷ Arrives (packet 1 write) 109 None ∷ Arrives (packet 2 read) 110 None ∷ accepts 2 seen ∷ [])
 
-abbrev pub start : Network here
-start = begins here (ran here here.new before)
+abbrev pub start : (find : List ℕ → Option Answer) → Network (here find)
+start find = begins (here find) (ran (here find) (here find).new before)
 
 -- what a perfect wire brings for these events: each compound once, at the moment at which it was taken
 abbrev pub brought : List Arrival
@@ -91,10 +91,10 @@ brought = arrival 105 (packet 1 write).bytes ∷ joins ++ arrival 110 (packet 2 
 
 -- These events may happen, and so meet the premises of `as_over_a_wire` and `atomic_in_real_time`. The wire brings each compound once, and the read
 -- runs after the write.
-pub record IsSeen : Type 0 where
-  pub happens : Happens callers start.machine start (first ++ second)
-  pub accepted : ((ended callers start (first ++ second)).lines (slot_of 2)).accepted ≡ seen ∷ []
-  pub brings : wire here start.machine (first ++ second) ≡ brought
-  pub answers : done_on here (slot_of 2) start.machine brought ≡ seen ∷ []
-  pub alike : IsAsOverAWire here start.machine callers (first ++ second)
-  pub order : RunsBehind here start.machine brought (slot_of 1) written (slot_of 2) read
+pub record IsSeen (find : List ℕ → Option Answer) : Type 0 where
+  pub happens : Happens callers (start find).machine (start find) (first ++ second)
+  pub accepted : ((ended callers (start find) (first ++ second)).lines (slot_of 2)).accepted ≡ seen ∷ []
+  pub brings : wire (here find) (start find).machine (first ++ second) ≡ brought
+  pub answers : done_on (here find) (slot_of 2) (start find).machine brought ≡ seen ∷ []
+  pub alike : IsAsOverAWire (here find) (start find).machine callers (first ++ second)
+  pub order : RunsBehind (here find) (start find).machine brought (slot_of 1) written (slot_of 2) read

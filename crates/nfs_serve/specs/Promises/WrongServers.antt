@@ -1,10 +1,10 @@
 -- Two servers that are wrong, each small enough to read, of which laws over a network fail (RFC 8881 section 2.10.6). A record is an xid, a slot of
 -- one session and a number; a result is a session's id, a slot and a number. Kept are the slots, and of what ran the numbers, in order.
-use Rattle.std.specs.Prelude.{ℕ, List, [], ◌∷◌, ◌++◌, Bool, true, false, Option, Some, None, if◌then◌else◌}
+use Rattle.std.specs.Prelude.{◌≡◌, ℕ, List, [], ◌∷◌, ◌++◌, Bool, true, false, Option, Some, None, if◌then◌else◌}
 use Rattle.nfs_slots.specs.Slot.{SlotState, unused_slot, judge_slot}
 use Rattle.nfs_slots.specs.declared.slot.Verdict.{Verdict}
 use Rattle.nfs_slots.specs.declared.slot.Verdict.TheVariants.{Fresh, Again}
-use Rattle.nfs_serve.specs.Promises.Endpoint.{Place, Heading, SlotNumber, Stepped, Server}
+use Rattle.nfs_serve.specs.Promises.Endpoint.{Place, Heading, Stepped, Server}
 use Rattle.nfs_serve.specs.Promises.Network.{same_place}
 use Rattle.nfs_serve.specs.Promises.Numbered.{ExactlyOnceByNumber}
 use Rattle.nfs_serve.specs.Promises.PerfectWire.{AsOverAWire}
@@ -19,10 +19,6 @@ place slot = record { session = record { client = 3; counter = 4 }; slot = slot 
 abbrev pub heading : List ℕ → Option Heading
 heading (xid ∷ slot ∷ number ∷ []) = Some (record { xid = xid; place = place slot; compound = record { number = number; uid = 6; args = slot ∷ number ∷ [] } })
 heading bytes = None
-
-abbrev pub slot_number : List ℕ → Option SlotNumber
-slot_number (client ∷ counter ∷ slot ∷ number ∷ []) = Some (record { place = record { session = record { client = client; counter = counter }; slot = slot }; number = number })
-slot_number result = None
 
 abbrev pub spell : Place → ℕ → List ℕ
 spell p number = p.session.client ∷ p.session.counter ∷ p.slot ∷ number ∷ []
@@ -69,8 +65,8 @@ module _ (told : Place → Place) (repeated : List ℕ → ℕ → List ℕ) whe
     heading = heading;
     step = λ s bytes now choice. taken s (heading bytes);
     executes = λ s bytes now. executes s (heading bytes);
-    sequenced = λ result. true;
-    slot_number = slot_number;
+    IsSequenced = λ result. Unit {0};
+    Bears = λ result n. result ≡ spell n.place n.number;
     slot_at = λ s p. Some (s.slots p);
     moment = λ s. 0;
     tick = λ s now. s;

@@ -2,4 +2,4 @@ use Rattle.nfs_serve.proofs.Promises.KeptSlots.{answers_well}
 use Rattle.nfs_serve.proofs.laws.answers_what_executes.Goals as goal
 
 pub returns : goal.returns
-returns c = λ mode instance lease s bytes now choice h fits reads executes. answers_well s bytes now choice h fits reads executes
+returns c = λ reader mode instance lease s bytes now choice h fits reads executes. answers_well reader s bytes now choice h fits reads executes

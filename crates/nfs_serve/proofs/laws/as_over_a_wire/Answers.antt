@@ -5,4 +5,4 @@ use Rattle.nfs_serve.proofs.Promises.Ticking.{keeps_time}
 use Rattle.nfs_serve.proofs.laws.as_over_a_wire.Goals as goal
 
 pub returns : goal.returns
-returns c = λ mode instance lease. as_over_a_wire (server mode instance lease) (keeps_slots mode instance lease) (keeps_time mode instance lease)
+returns c = λ reader mode instance lease. as_over_a_wire (server reader.find mode instance lease) (keeps_slots reader mode instance lease) (keeps_time reader.find mode instance lease)

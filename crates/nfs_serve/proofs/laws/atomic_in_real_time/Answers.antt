@@ -5,4 +5,4 @@ use Rattle.nfs_serve.proofs.Promises.Ticking.{keeps_time}
 use Rattle.nfs_serve.proofs.laws.atomic_in_real_time.Goals as goal
 
 pub returns : goal.returns
-returns c = λ mode instance lease. atomic (server mode instance lease) (keeps_slots mode instance lease) (keeps_time mode instance lease)
+returns c = λ reader mode instance lease. atomic (server reader.find mode instance lease) (keeps_slots reader mode instance lease) (keeps_time reader.find mode instance lease)

@@ -4,4 +4,4 @@ use Rattle.nfs_serve.proofs.Promises.KeptSlots.{keeps_slots}
 use Rattle.nfs_serve.proofs.laws.exactly_once.Goals as goal
 
 pub returns : goal.returns
-returns c = λ mode instance lease. exactly_once (server mode instance lease) (keeps_slots mode instance lease)
+returns c = λ reader mode instance lease. exactly_once (server reader.find mode instance lease) (keeps_slots reader mode instance lease)

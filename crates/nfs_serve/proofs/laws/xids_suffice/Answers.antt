@@ -4,4 +4,4 @@ use Rattle.nfs_serve.proofs.Promises.KeptSlots.{keeps_slots}
 use Rattle.nfs_serve.proofs.laws.xids_suffice.Goals as goal
 
 pub returns : goal.returns
-returns c = λ mode instance lease. happens (server mode instance lease) (keeps_slots mode instance lease)
+returns c = λ reader mode instance lease. happens (server reader.find mode instance lease) (keeps_slots reader mode instance lease)
