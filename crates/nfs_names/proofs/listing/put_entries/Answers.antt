@@ -9,13 +9,15 @@ use Rattle.nfs_names.proofs.listing.put_entries.Goals as goal
 
 pub loop-entry-init : goal.loop-entry-init
 loop-entry-init c =
-    let t = c.args.store.now.tree in
-    going_starts t (entry_of (state_of c.args.store.now) c.new-wanted.result) c.args.out.now (c.given.result - 16) c.list-listing.result
-    (subst (AllThere t) (sym c.list-listing.ensures) (listed_there t c.args.place.now.number c.args.asked.now.cookie c.kept.ensures))
+    let t = c.args.store.now.tree in (
+      going_starts t (entry_of (state_of c.args.store.now) c.new-wanted.result) c.args.out.now (c.given.result - 16) c.list-listing.result
+          (subst (AllThere t) (sym c.list-listing.ensures) (listed_there t c.args.place.now.number c.args.asked.now.cookie c.kept.ensures)),
+      c.in_turn-objects.ensures,
+    )
 
 pub put_entry-requires-clause-there : goal.put_entry-requires-clause-there
 put_entry-requires-clause-there c =
-    c.loop-entry.invariant.there (listed_of c.in-Some.entry) (subst (In (listed_of c.in-Some.entry)) (sym c.in-Some.ensures.steps) (inl refl))
+    c.loop-entry.invariant.0.there (listed_of c.in-Some.entry) (subst (In (listed_of c.in-Some.entry)) (sym c.in-Some.ensures.steps) (inl refl))
 
 pub returns-then-not-put_entry : goal.returns-then-not-put_entry
 returns-then-not-put_entry c =
@@ -23,7 +25,7 @@ returns-then-not-put_entry c =
     let g = c.given.result in
     let ended = going_stops c.args.store.now.tree (entry_of s c.new-wanted.result) c.args.out.now c.loop-entry.out c.put_entry.new.out
     (g - 16) c.loop-entry.room c.list-listing.result c.loop-entry.listing c.next.new.self
-    (listed_of c.in-Some.entry) c.loop-entry.invariant c.in-Some.ensures.steps c.if-not-put_entry.ensures in
+    (listed_of c.in-Some.entry) c.loop-entry.invariant.0 c.in-Some.ensures.steps c.if-not-put_entry.ensures in
     let lists = ended_lists s (view_read_dir c.args.asked.now) c.args.place.now c.args.out.now c.put_entry.new.out c.new-wanted.result
     g c.list-listing.result _ ended (c.new-wanted.ensures ∙ c.new.ensures) c.given.ensures.value c.list-listing.ensures c.requires.count in
     record { put = lists.0; all = lists.1 }
@@ -33,7 +35,7 @@ loop-entry-preserved c =
     going_on c.args.store.now.tree (entry_of (state_of c.args.store.now) c.new-wanted.result) c.args.out.now c.loop-entry.out c.put_entry.new.out
     (c.given.result - 16) c.loop-entry.room
     (c.loop-entry.room - (c.len.result - c.len-before.result)) c.list-listing.result c.loop-entry.listing c.next.new.self
-    (listed_of c.in-Some.entry) c.loop-entry.invariant c.in-Some.ensures.steps c.if-not-put_entry.ensures
+    (listed_of c.in-Some.entry) c.loop-entry.invariant.0 c.in-Some.ensures.steps c.if-not-put_entry.ensures
     (let now = c.len.ensures.value in let before = c.len-before.ensures.value in omega arith)
 
 pub returns : goal.returns
@@ -41,7 +43,7 @@ returns c =
     let s = state_of c.args.store.now in
     let g = c.given.result in
     let ended = going_ends c.args.store.now.tree (entry_of s c.new-wanted.result) c.args.out.now c.loop-entry.out
-    (g - 16) c.loop-entry.room c.list-listing.result c.loop-entry.listing c.loop-entry.invariant c.in_default.ensures.steps.0 in
+    (g - 16) c.loop-entry.room c.list-listing.result c.loop-entry.listing c.loop-entry.invariant.0 c.in_default.ensures.steps.0 in
     let lists = ended_lists s (view_read_dir c.args.asked.now) c.args.place.now c.args.out.now c.loop-entry.out c.new-wanted.result
     g c.list-listing.result _ ended (c.new-wanted.ensures ∙ c.new.ensures) c.given.ensures.value c.list-listing.ensures c.requires.count in
     record { put = lists.0; all = lists.1 }
