@@ -11,16 +11,6 @@ use Rattle.nfs_attrs.proofs.Whole.{opaque_of_words}
 pub length_opaque_more : (text : List ℕ) → 4 + length text ≤ length (opaque text)
 length_opaque_more text = simp measuring (omega arith)
 
--- what has been put behind an empty count
-pub count_of : (old mid now : SheetState) (text : List ℕ) → Puts old mid (number 0) → Puts mid now text
-    → length now.bytes ≡ length old.bytes + 4 + length text
-count_of old mid now text first rest = omega (
-  arith,
-  ap length first.bytes ∙ length-append old.bytes (number 0),
-  ap length rest.bytes ∙ length-append mid.bytes text,
-  length_number 0,
-)
-
 -- the count over the empty one
 set_front : (front empty count text : List ℕ) (at : ℕ) → length front ≡ at → length empty ≡ 4
     → take at ((front ++ empty) ++ text) ++ count ++ drop (at + 4) ((front ++ empty) ++ text) ≡ front ++ (count ++ text)
@@ -40,3 +30,24 @@ counted old mid now text at count first rest whole here size =
           ∙ ap (λ (n : ℕ). old.bytes ++ (number n ++ text)) size ∙ ap (λ (w : List ℕ). old.bytes ++ w) (sym (opaque_of_words text whole));
       room = rest.room ∙ first.room;
     }
+
+-- a sheet with more
+abbrev pub with_more : SheetState → List ℕ → SheetState
+with_more sheet more = record { bytes = sheet.bytes ++ more; room = sheet.room }
+
+-- the second of two texts that were put at once
+pub second_put : (old now : SheetState) (first second both : List ℕ) → Puts old now both → both ≡ first ++ second → Puts (with_more old first) now second
+second_put old now first second both put are = record {
+  bytes = put.bytes ∙ ap (λ (w : List ℕ). old.bytes ++ w) are ∙ sym (append_assoc old.bytes first second);
+  room = put.room;
+}
+
+-- how many bytes there are behind a text and an empty count
+pub length_front : (old now : SheetState) (first both : List ℕ) → Puts old now both → both ≡ first ++ number 0
+    → length now.bytes ≡ length old.bytes + length first + 4
+length_front old now first both put are = omega (
+  arith,
+  ap length put.bytes ∙ length-append old.bytes both,
+  ap length are ∙ length-append first (number 0),
+  length_number 0,
+)

@@ -1,7 +1,8 @@
 //! What is asked for of one object after another.
 
-ghost use Rattle.std.specs.Prelude.{◌≡◌, ℕ, take};
-ghost use Rattle.nfs_attrs.specs.Mask.{common};
+ghost use Rattle.std.specs.Prelude.{◌≡◌, ◌++◌};
+ghost use Rattle.nfs_xdr.specs.Spelling.{number};
+ghost use Rattle.nfs_attrs.specs.Mask.{common, spell_mask};
 ghost use Rattle.nfs_attrs.specs.Attributes.{readable};
 ghost use Rattle.nfs_attrs.specs.Asked.{asked_numbers};
 
@@ -13,17 +14,20 @@ use std::marker::Model;
 #[derive(Drop)]
 pub struct Asked {
     mask: Mask,
-    /// Those that can be read.
-    shown: Mask,
+    /// What stands in front of the values: so many words as `words`.
+    front: [[u8; 4]; 5],
+    words: usize,
     /// The numbers of those that the server has, in rising order: so many as `count`.
     numbers: [u32; 31],
     count: usize,
 }
 
 impl Model for Asked {
-    ghost use Rattle.std.specs.Prelude.{◌≡◌, ◌≤◌, take};
+    ghost use Rattle.std.specs.Prelude.{◌≡◌, ◌≤◌, ◌++◌, take};
+    ghost use Rattle.std.specs.List.{flat_map};
+    ghost use Rattle.nfs_xdr.specs.Spelling.{number};
     ghost use Rattle.nfs_attrs.specs.declared.mask.Mask.{Mask};
-    ghost use Rattle.nfs_attrs.specs.Mask.{common};
+    ghost use Rattle.nfs_attrs.specs.Mask.{common, spell_mask};
     ghost use Rattle.nfs_attrs.specs.Attributes.{readable};
     ghost use Rattle.nfs_attrs.specs.Asked.{asked_numbers};
 
@@ -31,7 +35,7 @@ impl Model for Asked {
 
     ghost view = { λ a. a.mask };
 
-    ghost invariant = { λ a. (a.shown ≡ common a.mask readable) × (take a.count a.numbers ≡ asked_numbers a.mask) × (a.count ≤ 31) };
+    ghost invariant = { λ a. (flat_map (λ w. w) (take a.words a.front) ≡ spell_mask (common a.mask readable) ++ number 0) × (a.words ≤ 5) × (take a.count a.numbers ≡ asked_numbers a.mask) × (a.count ≤ 31) };
 }
 
 impl Asked {
@@ -47,9 +51,11 @@ impl Asked {
                 count += 1;
             }
         }
+        let (front, words) = mask.common(&READABLE).front();
         Asked {
             mask,
-            shown: mask.common(&READABLE),
+            front,
+            words,
             numbers,
             count,
         }
@@ -62,11 +68,12 @@ impl Asked {
         self.mask
     }
 
-    /// Those that can be read.
-    pub(crate) fn shown(&self) -> &Mask
-        ensures { result.now ≡ common self.now readable }
+    /// What stands in front of the values: the mask of those that can be read, and an empty word for the count of the
+    /// values' bytes.
+    pub(crate) fn front(&self) -> &[u8]
+        ensures { result.now ≡ spell_mask (common self.now readable) ++ number 0 }
     {
-        &self.shown
+        self.front[..self.words].as_flattened()
     }
 
     /// The numbers of those that the server has, in rising order.

@@ -203,6 +203,7 @@ fn type_number(kind: FileType) -> u32
 
 /// The value of the attribute of this number; none where it cannot be read.
 #[tactic(auto, unfolding(crate::specs::Attributes::attributes))]
+#[inline(always)]
 pub(crate) fn value_of(number: u32, object: &Object, about: &About) -> Option<Value>
     ensures { spell_found result ≡ table.value_at table.attributes number about.now object.now }
 {

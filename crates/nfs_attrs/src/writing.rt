@@ -2,7 +2,6 @@
 
 ghost use Rattle.std.specs.Prelude.{◌≡◌, ◌≤◌, ℕ, length, bytes_eq};
 ghost use Rattle.nfs_xdr.specs.SheetState.{HasRoom, Puts};
-ghost use Rattle.nfs_xdr.specs.Spelling.{opaque};
 ghost use Rattle.nfs_attrs.specs.Attributes as table;
 ghost use Rattle.nfs_attrs.specs.Comparing as comparing;
 
@@ -26,19 +25,6 @@ pub fn attrs_len(object: &Object, about: &About, asked: Mask) -> usize
     mask + 4 + count
 }
 
-/// Puts the values that are asked for, as an opaque: behind the count of their bytes, which are whole words. The count
-/// is known when they are put, and is then written in its place.
-fn put_counted(asked: &Asked, object: &Object, about: &About, sheet: &mut Sheet)
-    requires room { HasRoom sheet.old (opaque (table.values asked.now about.now object.now)) }
-    ensures { Puts sheet.old sheet.new (opaque (table.values asked.now about.now object.now)) }
-{
-    let at = sheet.len();
-    sheet.put_u32(0);
-    put_values(asked, object, about, sheet);
-    let count = sheet.len() - at - 4;
-    sheet.set_u32(at, count as u32);
-}
-
 /// Puts the attributes that are asked for (`fattr4`): the mask of those that the server has and that can be read, and
 /// their values in rising order of their numbers, behind the count of their bytes. They are [`attrs_len`] bytes.
 ///
@@ -50,14 +36,17 @@ pub fn write_attrs(object: &Object, about: &About, asked: Mask, sheet: &mut Shee
     write_asked(object, about, &Asked::new(asked), sheet);
 }
 
-/// Puts what [`write_attrs`] puts, where the mask was decoded before.
-#[tactic(auto, using(nfs_xdr::proofs::Putting::putting))]
+/// Puts what [`write_attrs`] puts, where the mask was decoded before. The count of the values' bytes is known when they
+/// are put, and is then written in its place.
 pub fn write_asked(object: &Object, about: &About, asked: &Asked, sheet: &mut Sheet)
     requires room { HasRoom sheet.old (table.spell_attrs asked.now about.now object.now) }
     ensures { Puts sheet.old sheet.new (table.spell_attrs asked.now about.now object.now) }
 {
-    asked.shown().put(sheet);
-    put_counted(asked, object, about, sheet);
+    sheet.put_bytes(asked.front());
+    let at = sheet.len();
+    put_values(asked, object, about, sheet);
+    let count = sheet.len() - at;
+    sheet.set_u32(at - 4, count as u32);
 }
 
 /// Whether the bytes are the values that are asked for, as the server itself writes them.

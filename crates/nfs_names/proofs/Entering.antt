@@ -170,6 +170,14 @@ listed_there t d cookie is e there =
     some_object : (t : Files) (n : ℕ) → is_there t n ≡ true → is_some (object_at t n) ≡ true
     some_object t n e = some_by (stored_in t.objects n) e
 
+-- an object that is there is found among the same objects
+pub found_there : (t : Files) (objects : List Stored) (n : ℕ) → objects ≡ t.objects → is_some (object_at t n) ≡ true
+    → None ≡ option_map (λ (s : Stored). s.object) (stored_in objects n) → ⊥
+found_there t objects n are there none =
+    let gone : None ≡ object_at t n = none ∙ ap (λ (xs : List Stored). option_map (λ (s : Stored). s.object) (stored_in xs n)) are in
+    let bad : false ≡ true = ap is_some gone ∙ there in
+    cc
+
 -- what is told of what is asked for, where it was asked for by an equal mask
 pub told_as_asked : (s : State) (got asked : Mask) (d : Node) (a : About) → got ≡ asked
     → values got a d.object ≡ values got (about s d) d.object → values asked a d.object ≡ values asked (about s d) d.object

@@ -1,6 +1,6 @@
 //! Operations that put bytes of the tree onto the sheet (RFC 8881 sections 18.23 and 18.24).
 
-ghost use Rattle.std.specs.Prelude.{◌≡◌, ◌+◌, ◌≤◌, ◌==◌, true, is_some, length, nat_le};
+ghost use Rattle.std.specs.Prelude.{◌≡◌, ◌+◌, ◌≤◌, ◌==◌, Some, length, nat_le};
 ghost use Rattle.std.specs.List.{flat_map};
 ghost use Rattle.nfs_xdr.specs.Checks.{first_fault};
 ghost use Rattle.nfs_xdr.specs.SheetState.{Puts};
@@ -30,7 +30,7 @@ use crate::store::Store;
 use nfs_attrs::{About, Asked, Mask, Want, attrs_len, write_asked};
 use nfs_compound::{OpNum, ReadDir};
 use nfs_results::{given, write_done_head, write_entry, write_list_end, write_read_dir_head};
-use nfs_tree::{Entry, Tree};
+use nfs_tree::{Entry, Object, Tree};
 use nfs_xdr::{Sheet, Status};
 
 /// The symbolic link that is to be read.
@@ -95,42 +95,46 @@ fn judge_listing(store: &Store, context: &Context<'_>, asked: &ReadDir<'_>) -> R
 }
 
 /// How many bytes an entry takes.
-fn entry_len(name: &[u8], node: &Node, about: &About, asked: Mask) -> usize
-    ensures { result ≡ length (entry_head 0 name.now) + length (spell_attrs asked about.now node.now.object) }
+fn entry_len(name: &[u8], object: &Object, about: &About, asked: Mask) -> usize
+    ensures { result ≡ length (entry_head 0 name.now) + length (spell_attrs asked about.now object.now) }
 {
-    16 + name.len() + (4 - name.len() % 4) % 4 + attrs_len(&node.object, about, asked)
+    16 + name.len() + (4 - name.len() % 4) % 4 + attrs_len(object, about, asked)
 }
 
 /// The most bytes that an entry takes beside its name: cookie and length, padding, attributes.
 const MOST_BESIDE_NAME: usize = 16 + 3 + 632;
 
 /// Whether an entry takes no more than `room` bytes. It is measured only where the largest might take more.
-fn fits(name: &[u8], node: &Node, about: &About, asked: &Asked, room: usize) -> bool
-    ensures { result ≡ nat_le (length (entry_head 0 name.now) + length (spell_attrs asked.now about.now node.now.object)) room }
+fn fits(name: &[u8], object: &Object, about: &About, asked: &Asked, room: usize) -> bool
+    ensures { result ≡ nat_le (length (entry_head 0 name.now) + length (spell_attrs asked.now about.now object.now)) room }
 {
-    name.len() + MOST_BESIDE_NAME <= room || entry_len(name, node, about, asked.mask()) <= room
+    name.len() + MOST_BESIDE_NAME <= room || entry_len(name, object, about, asked.mask()) <= room
 }
 
-/// Puts an entry with its attributes, if it takes no more than `room` bytes.
-fn put_entry(store: &Store, entry: &Entry<'_>, asked: &Asked, room: usize, out: &mut Sheet) -> bool
-    requires there { is_some (object_at store.now.tree entry.now.number) ≡ true }
+/// Puts an entry with the attributes of its object, if it takes no more than `room` bytes.
+fn put_entry(
+    store: &Store,
+    entry: &Entry<'_>,
+    object: &Object,
+    asked: &Asked,
+    room: usize,
+    out: &mut Sheet,
+) -> bool
+    requires there { Some object.now ≡ object_at store.now.tree entry.now.number }
     requires few { room ≤ most_transfer }
     requires room { length out.old.bytes + room ≤ out.old.room }
     ensures { PutsWithin result room out.old out.new (entry_text (of_read_dir.entry_of (state_of store.now) asked.now (listed_of entry.now))) }
 {
-    let Some(object) = store.tree.object(entry.number) else {
-        return false;
-    };
     let node = Node {
         number: entry.number,
         object: *object,
     };
     let about = about(store, &node, asked.mask());
-    if !fits(entry.name, &node, &about, asked, room) {
+    if !fits(entry.name, object, &about, asked, room) {
         return false;
     }
     write_entry(entry.cookie, entry.name, out);
-    write_asked(&node.object, &about, asked, out);
+    write_asked(object, &about, asked, out);
     true
 }
 
@@ -144,10 +148,14 @@ fn put_entries(store: &Store, place: &Node, asked: &ReadDir<'_>, out: &mut Sheet
     store.tree.kept();
     let wanted = Asked::new(Mask::new(asked.attr_request.words));
     let mut room = given(asked.maxcount) as usize - 16;
+    let mut objects = store.tree.in_turn(place.number);
     let mut listing = store.tree.list(place.number, asked.cookie);
     while let Some(entry) = listing.next() {
+        let Some(object) = objects.object(entry.number) else {
+            return false;
+        };
         let before = out.len();
-        if !put_entry(store, &entry, &wanted, room, out) {
+        if !put_entry(store, &entry, object, &wanted, room, out) {
             return false;
         }
         room -= out.len() - before;

@@ -148,3 +148,14 @@ objects_none s es empty none = subst (AreObjects (get s)) (sym none) (record {
   stored = tt;
   led = λ k x here. absurd (let bad : None ≡ Some x = rw empty at here in cc);
 })
+
+bare : (n : ℕ) (o : Option Body) → option_map (λ (s : Stored). s.object) (option_map (numbered n) o) ≡ option_map (λ (b : Body). b.object) o
+bare n None = refl
+bare n (Some b) = refl
+
+-- the object of a number is the one at the key to which it leads
+pub object_led : (s : Slab Body) (es : List (ℕ × ℕ)) (n : ℕ) (key : Option ℕ) → AreObjects (get s) es → lookup (is_at (nat_cmp n)) es ≡ key
+    → option_map (λ (b : Body). b.object) (option_and_then (get s) key) ≡ option_map (λ (s : Stored). s.object) (stored_in (stored numbered (get s) es) n)
+object_led s es n key are leads =
+    let seen = find_same s es n are ∙ ap (λ k. option_map (numbered n) (option_and_then (get s) k)) leads in
+    sym (ap (option_map (λ (s : Stored). s.object)) seen ∙ bare n (option_and_then (get s) key))

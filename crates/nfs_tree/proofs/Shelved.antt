@@ -92,7 +92,7 @@ at_self n = grind (arith, nat_tests)
 apart : (n m : ℕ) → suc m ≤ n → is_at (nat_cmp n) m ≡ false
 apart n m up = grind (arith, nat_tests)
 
-lookup_in : (low high : ℕ) (es : List (ℕ × ℕ)) (n key : ℕ) → IsRising (λ (e : ℕ × ℕ). e.0) low es high → In (n, key) es → lookup (is_at (nat_cmp n)) es ≡ Some key
+pub lookup_in : (low high : ℕ) (es : List (ℕ × ℕ)) (n key : ℕ) → IsRising (λ (e : ℕ × ℕ). e.0) low es high → In (n, key) es → lookup (is_at (nat_cmp n)) es ≡ Some key
 lookup_in low high [] n key rise there = absurd there
 lookup_in low high (e ∷ es) n key rise (inl is) =
     let here : is_at (nat_cmp n) e.0 ≡ true = ap (λ (x : ℕ × ℕ). is_at (nat_cmp n) x.0) (sym is) ∙ at_self n in

@@ -47,7 +47,7 @@ fn hit_once(next: &mut Range<'_, u64, u32>, cookie: u64) -> Option<u32>
 }
 
 /// The key of a cookie, where it is one of the next two.
-fn hit(next: &mut Range<'_, u64, u32>, cookie: u64) -> Option<u32>
+pub(crate) fn hit(next: &mut Range<'_, u64, u32>, cookie: u64) -> Option<u32>
     ensures hit { IfSome result (λ key. In (cookie, key) next.old) }
     ensures rest { (e : ℕ × ℕ) → In e next.new → In e next.old }
 {

@@ -11,7 +11,7 @@ returns-then-name-room c =
     let name = c.args.name.now in
     let asked = c.args.asked.now in
     let about = c.args.about.now in
-    let object = c.args.node.now.object in
+    let object = c.args.object.now in
     let whole : length (entry_head 0 name) + length (spell_attrs asked about object) ≤ c.args.room =
     omega (arith, length_entry_head 0 name, attrs_within asked about object) in
     le-leb _ _ c.if-name-room.true ∙ sym (le-leb _ _ whole)

@@ -1,7 +1,10 @@
+use Rattle.std.proofs.Common.{◌≡◌}
 use Rattle.nfs_names.specs.State.{state_of}
 use Rattle.nfs_names.specs.ReadDir.{entry_of}
 use Rattle.nfs_names.proofs.Entering.{Going}
 use Rattle.nfs_names.proofs.listing.put_entries.Given as goal
 
 abbrev pub invariant-loop-entry : goal.invariant-loop-entry
-invariant-loop-entry l = Going l.store.tree (entry_of (state_of l.store) l.wanted) l.initial.out l.out l.initial.room l.room l.initial.listing l.listing
+invariant-loop-entry l =
+    Going l.store.tree (entry_of (state_of l.store) l.wanted) l.initial.out l.out l.initial.room l.room l.initial.listing l.listing
+    × (l.objects ≡ l.store.tree.objects)

@@ -14,8 +14,8 @@ pub returns-then-not-fits : goal.returns-then-not-fits
 returns-then-not-fits c =
     let e = listed_of c.args.entry.now in
     let told = told_as_asked (state_of c.args.store.now) c.mask.result c.args.asked.now
-    (record { number = c.args.entry.now.number; object = c.in-Some.object.now }) c.about-about.result c.mask.ensures c.about-about.ensures in
-    let size = entry_length (state_of c.args.store.now) c.args.asked.now e c.in-Some.object.now c.about-about.result c.in-Some.ensures told in
+    (record { number = c.args.entry.now.number; object = c.args.object.now }) c.about-about.result c.mask.ensures c.about-about.ensures in
+    let size = entry_length (state_of c.args.store.now) c.args.asked.now e c.args.object.now c.about-about.result c.requires.there told in
     (omega (arith, size, leb-false _ _ (sym c.fits.ensures ∙ c.if-not-fits.true)), refl)
 
 pub write_entry-requires : goal.write_entry-requires
@@ -34,19 +34,19 @@ write_asked-requires c =
     let whole = leb-true _ _ (sym c.fits.ensures ∙ c.if-not-fits.false) in
     record {
       room = room_then c.args.out.now c.write_entry.new.out (entry_head e.cookie e.name)
-          (spell_attrs c.args.asked.now c.about-about.result c.in-Some.object.now) c.args.room c.write_entry.ensures (omega arith) c.requires.room;
+          (spell_attrs c.args.asked.now c.about-about.result c.args.object.now) c.args.room c.write_entry.ensures (omega arith) c.requires.room;
     }
 
 pub returns : goal.returns
 returns c =
     let s = state_of c.args.store.now in
     let e = listed_of c.args.entry.now in
-    let o = c.in-Some.object.now in
+    let o = c.args.object.now in
     let a = c.about-about.result in
     let told = told_as_asked (state_of c.args.store.now) c.mask.result c.args.asked.now
-    (record { number = c.args.entry.now.number; object = c.in-Some.object.now }) c.about-about.result c.mask.ensures c.about-about.ensures in
-    let size = entry_length s c.args.asked.now e o a c.in-Some.ensures told in (
+    (record { number = c.args.entry.now.number; object = c.args.object.now }) c.about-about.result c.mask.ensures c.about-about.ensures in
+    let size = entry_length s c.args.asked.now e o a c.requires.there told in (
       omega (arith, size, leb-true _ _ (sym c.fits.ensures ∙ c.if-not-fits.false)),
       subst (λ (text : List ℕ). Puts c.args.out.now c.write_asked.new.sheet text)
-          (sym (entry_parts s c.args.asked.now e o a c.in-Some.ensures told)) (puts_then c.write_entry.ensures c.write_asked.ensures),
+          (sym (entry_parts s c.args.asked.now e o a c.requires.there told)) (puts_then c.write_entry.ensures c.write_asked.ensures),
     )

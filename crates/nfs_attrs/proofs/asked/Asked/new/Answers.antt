@@ -2,7 +2,9 @@ use Rattle.std.proofs.Common.{◌≡◌, ℕ, ◌<◌, ◌++◌, List, ◌∷◌
 use Rattle.std.specs.List.{filter}
 use Rattle.std.proofs.lemmas.List.{take_more_set, take_all, append-nil, length-set}
 use Rattle.std.proofs.lemmas.List.Elements.{filter_more}
-use Rattle.nfs_attrs.specs.Mask.{has}
+use Rattle.nfs_xdr.specs.Spelling.{number}
+use Rattle.nfs_attrs.specs.Mask.{has, spell_mask}
+use Rattle.nfs_attrs.specs.declared.mask.Mask.{Mask}
 use Rattle.nfs_attrs.proofs.Values.{numbers}
 use Rattle.nfs_attrs.proofs.Asking.{asked_of_table}
 use Rattle.nfs_attrs.proofs.asked.Asked.new.Goals.{then-has, else-has}
@@ -34,7 +36,8 @@ loop-number-preserved c =
 
 pub invariant_of-result : goal.invariant_of-result
 invariant_of-result c = (
-  c.common.ensures,
+  c.front-words.ensures.words ∙ ap (λ (m : Mask). spell_mask m ++ number 0) c.common.ensures,
+  c.front-words.ensures.few,
   c.loop-number.invariant.taken ∙ ap (filter (has c.args.mask)) (take_all c.loop-number.number-index numbers (omega (arith, c.loop-number-test.false))) ∙ sym (asked_of_table c.args.mask),
   omega (arith, c.loop-number.invariant.few),
 )
