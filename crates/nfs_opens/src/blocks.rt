@@ -198,10 +198,11 @@ impl<T: Entry> Index<T> {
         ensures ok { OnOk result (self.new.ready ≡ true) }
         ensures kept { self.old.ready ≡ true → self.new.ready ≡ true }
     {
-        if self.spare.is_none() {
-            self.blocks.reserve(1)?;
-            self.spare = Some(Block::new(alloc)?);
+        if self.spare.is_some() {
+            return Ok(());
         }
+        self.blocks.reserve(1)?;
+        self.spare = Some(Block::new(alloc)?);
         Ok(())
     }
 
