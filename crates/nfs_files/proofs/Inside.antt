@@ -26,20 +26,20 @@ use Rattle.nfs_files.specs.LockTold.{LockTold, IsBeside, IsAlike, Stands, Clashe
 pub record Locks (s : State) (x : Context) (op : Op) (n : ℕ) (w : Wish) : Type 0 where
   pub asked : args.Lock
   pub id : StateId
-  pub answer : StateId
+  pub did : StateId × Table
   pub is : op ≡ OpLock asked
   pub judged : locking s x asked ≡ Ok (record { wish = w; id = id })
-  pub granted : (locks_as s.opens asked.locker id w).answer ≡ Ok answer
-  pub state : answer.number ≡ n
+  pub granted : locks_as s.opens asked.locker id w ≡ Ok did
+  pub state : did.0.number ≡ n
 
 -- a LOCKU that is granted: lock state n holds none of the bytes of the wish from now on
 pub record Unlocks (s : State) (x : Context) (op : Op) (n : ℕ) (w : Wish) : Type 0 where
   pub asked : LockU
   pub id : StateId
-  pub answer : StateId
+  pub did : StateId × Table
   pub is : op ≡ OpLockU asked
   pub judged : unlocking s x asked ≡ Ok (record { wish = w; id = id })
-  pub granted : (unlock s.opens id w.client w.file w.first w.last).answer ≡ Ok answer
+  pub granted : unlock s.opens id w.client w.file w.first w.last ≡ Ok did
   pub state : id.number ≡ n
 
 -- a CLOSE that is granted: open n goes
@@ -47,9 +47,10 @@ pub record Closes (s : State) (x : Context) (op : Op) (n : ℕ) : Type 0 where
   pub asked : Close
   pub file : ℕ
   pub id : StateId
+  pub did : Unit {0} × Table
   pub is : op ≡ OpClose asked
   pub judged : target s x Own asked.open_stateid ≡ Ok (record { file = file; id = id })
-  pub granted : (opens.close s.opens id x.client file).answer ≡ Ok tt
+  pub granted : opens.close s.opens id x.client file ≡ Ok did
   pub opened : id.number ≡ n
 
 -- No LOCK of another kind and no LOCKU for the lock state on a byte of it, and no CLOSE of its open.

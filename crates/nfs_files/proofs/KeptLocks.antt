@@ -1,36 +1,27 @@
 -- A lock that was told stays through each operation that spares it, and whoever clashes with it is refused.
-use Rattle.std.proofs.Common.{◌≡◌, ◌≢◌, ◌⊎◌, ℕ, suc, ◌+◌, ◌<◌, ◌≤◌, Bool, true, false, cond, eqb, not, List, [], ◌∷◌, ◌++◌, Option, Some, None, refl, sym, ◌∙◌, ap, subst, arith, inl, inr}
-use Rattle.std.specs.Prelude.{◌==◌, ◌^◌, Result, Ok, Err, if◌then◌else◌, filter}
+use Rattle.std.proofs.Common.{◌≡◌, ◌≢◌, ℕ, suc, ◌+◌, ◌<◌, ◌≤◌, true, false, cond, eqb, not, [], ◌∷◌, ◌++◌, Option, Some, None, refl, sym, ◌∙◌, ap, subst, arith, inl, inr}
+use Rattle.std.specs.Prelude.{◌==◌, ◌^◌, if◌then◌else◌, filter}
 use Rattle.std.proofs.lemmas.Bool.{cases_Bool, cases_eq, cases_lt, eq-eqb, ne_eqb, eqb-true, leb-true, and_parts}
 use Rattle.nfs_xdr.specs.Tables.{In}
-use Rattle.nfs_xdr.specs.declared.status.Status.{Status}
 use Rattle.nfs_xdr.proofs.Lists.{stays_in, push_in, map_in, any_in, find_in}
 use Rattle.nfs_xdr.proofs.Tables.{in_once, in_bounds}
-use Rattle.nfs_compound.specs.LockArgs as args
 use Rattle.nfs_ranges.specs.declared.Kind.{Kind}
 use Rattle.nfs_ranges.specs.Holders.{Holders, holding, cleared, holds_any, is_within}
 use Rattle.nfs_ranges.specs.Told.{meets}
 use Rattle.nfs_ranges.specs.Facts.{Tells}
 use Rattle.nfs_ranges.proofs.CanonicalLemmas.{within_is}
-use Rattle.nfs_opens.specs.declared.share.Share.{Share}
 use Rattle.nfs_opens.specs.declared.records.LockState.{LockState}
 use Rattle.nfs_opens.specs.declared.stateid.StateId.{StateId}
 use Rattle.nfs_opens.specs.declared.locking.Wish.{Wish}
-use Rattle.nfs_opens.specs.declared.locking.OpenFault.{OpenFault}
-use Rattle.nfs_opens.specs.declared.judging.Seat.{Seat}
-use Rattle.nfs_opens.specs.declared.judging.Sort.TheVariants.{OpenOnly, LockOnly}
 use Rattle.nfs_opens.specs.Holding.{FileHolders, on_file}
-use Rattle.nfs_opens.specs.StateId.{last_number, next_seqid}
-use Rattle.nfs_opens.specs.Table.{Table, Did, lock_at, with_lock}
+use Rattle.nfs_opens.specs.Table.{Table, lock_at, with_lock}
 use Rattle.nfs_opens.specs.TableInvariants.{IsTable}
-use Rattle.nfs_opens.specs.Judging.{judge}
 use Rattle.nfs_opens.specs.Closing.{stands, not_under, without_open, without_lock}
-use Rattle.nfs_opens.specs.Locking as locking
-use Rattle.nfs_opens.specs.Locking.{raised, lock_judged}
+use Rattle.nfs_opens.specs.Locking.{raised}
 use Rattle.nfs_ranges.proofs.HolderLemmas.{unmet}
 use Rattle.nfs_opens.proofs.LockLemmas.{holds_none}
-use Rattle.nfs_opens.proofs.StepLemmas.{judged_tells, first_state}
-use Rattle.nfs_files.specs.Lock.{locks_as}
+use Rattle.nfs_opens.proofs.StepLemmas.{judged_tells}
+use Rattle.nfs_opens.proofs.CallLaws.{first_state, IsLocked}
 use Rattle.nfs_files.specs.LockTold.{LockTold, IsBeside, IsAlike, Stands, Clashes}
 
 -- bytes
@@ -164,82 +155,14 @@ stands_first k t w new table is =
           (λ h. held_other h (t.last + 1) w.kind w.first w.last k.state b (λ same. absurd (other same))) ∙ is.held b lo hi;
     }
 
--- What a LOCK that is granted leaves: a lock state that stood has more, or a new one has its first bytes; and nothing clashed.
-
-pub record IsMore (t : Table) (w : Wish) (n : ℕ) (u : Table) : Type 0 where
-  pub access : Share
-  pub judged : lock_judged t n access w ≡ Ok tt
-  pub left : u ≡ record (with_lock t n raised) { held = on_file t.held w.file (λ h. holding h n w.kind w.first w.last) }
-
-pub record IsFirst (t : Table) (w : Wish) (n : ℕ) (u : Table) : Type 0 where
-  pub access : Share
-  pub new : LockState
-  pub judged : lock_judged t 0 access w ≡ Ok tt
-  pub number : n ≡ t.last + 1
-  pub left : u ≡ record t {
-    locks = t.locks ++ new ∷ [];
-    held = on_file t.held w.file (λ h. holding h (t.last + 1) w.kind w.first w.last);
-    last = t.last + 1;
-  }
-
-abbrev pub IsGranted : Table → Wish → Did StateId OpenFault → StateId → Type 0
-IsGranted t w did id = IsMore t w id.number did.after ⊎ IsFirst t w id.number did.after
-
-abbrev Grants : Table → Wish → Did StateId OpenFault → Type 0
-Grants t w did = (id : StateId) → did.answer ≡ Ok id → IsGranted t w did id
-
-raised_id : Table → ℕ → LockState → StateId
-raised_id t n l = record { seqid = next_seqid l.seqid; instance = t.instance; number = n }
-
-more_grants : (t : Table) (w : Wish) (n : ℕ) (access : Share) (v : Result (Unit {0}) OpenFault) (l : Option LockState)
-    → lock_judged t n access w ≡ v → Grants t w (locking.does_if t v (locking.lock_more t w n l))
-unfolding raised_id
-more_grants t w n access (Err fault) l is id e = absurd cc
-more_grants t w n access (Ok u) None is id e = absurd cc
-more_grants t w n access (Ok u) (Some l) is id e =
-    let made : raised_id t n l ≡ id = cc in
-    let number : n ≡ id.number = ap (λ (i : StateId). i.number) made in
-    inl (subst (λ m. IsMore t w m (locking.lock_more t w n (Some l)).after) number (record { access = access; judged = is; left = refl }))
-
-new_grants : (t : Table) (w : Wish) (opened : ℕ) (owner : List ℕ) (access : Share) (full : Bool) → eqb t.last last_number ≡ full
-    → lock_judged t 0 access w ≡ Ok tt → Grants t w (locking.lock_new t w opened owner)
-new_grants t w opened owner access true is judged id e = absurd (let bad = (rw is at e) in cc)
-new_grants t w opened owner access false is judged id e =
-    let granted = (rw is at e) in
-    let number : t.last + 1 ≡ id.number = (let made : record { seqid = 1; instance = t.instance; number = t.last + 1 } ≡ id = cc in ap (λ (i : StateId). i.number) made) in
-    inr (record { access = access; new = first_state t w owner opened; judged = judged; number = sym number; left = rw is refl })
-
-first_grants : (t : Table) (w : Wish) (opened : ℕ) (owner : List ℕ) (access : Share) (v : Result (Unit {0}) OpenFault)
-    → lock_judged t 0 access w ≡ v → Grants t w (locking.does_if t v (locking.lock_new t w opened owner))
-first_grants t w opened owner access (Err fault) is id e = absurd cc
-first_grants t w opened owner access (Ok u) is id e = new_grants t w opened owner access (eqb t.last last_number) refl is id e
-
-owner_grants : (t : Table) (w : Wish) (opened : ℕ) (owner : List ℕ) (access : Share) (l : Option LockState)
-    → Grants t w (locking.lock_by_owner t w opened owner access l)
-owner_grants t w opened owner access (Some l) = more_grants t w l.number access (lock_judged t l.number access w) (lock_at t l.number) refl
-owner_grants t w opened owner access None = first_grants t w opened owner access (lock_judged t 0 access w) refl
-
-under_grants : (t : Table) (w : Wish) (opened : ℕ) (owner : List ℕ) (v : Result Seat Status) → Grants t w (locking.lock_under t w opened owner v)
-under_grants t w opened owner (Err status) id e = absurd cc
-under_grants t w opened owner (Ok seat) id e =
-    owner_grants t w opened owner (locking.access_in seat) (locking.state_of t w.client owner w.file) id e
-
-known_grants : (t : Table) (w : Wish) (n : ℕ) (v : Result Seat Status) → Grants t w (locking.lock_known t w n v)
-known_grants t w n (Err status) id e = absurd cc
-known_grants t w n (Ok seat) id e =
-    more_grants t w n (locking.access_in seat) (lock_judged t n (locking.access_in seat) w) (lock_at t n) refl id e
-
-pub lock_grants : (t : Table) (who : args.Locker) (id : StateId) (w : Wish) → Grants t w (locks_as t who id w)
-lock_grants t (args.OpenOwner o) id w = under_grants t w id.number o.lock_owner.owner (judge t id w.client (Some w.file) OpenOnly)
-lock_grants t (args.LockOwner o) id w = known_grants t w id.number (judge t id w.client (Some w.file) LockOnly)
-
 -- a LOCK that is granted leaves the lock where it spares it
-pub stands_locked : (k : LockTold) (t : Table) (w : Wish) (did : Did StateId OpenFault) (id : StateId) → IsTable t → IsGranted t w did id
-    → (id.number ≡ k.state → IsAlike w k) → Stands k t → Stands k did.after
-stands_locked k t w did id table (inl more) spares is =
-    subst (Stands k) (sym more.left) (stands_raised k t id.number w.file (λ h. holding h id.number w.kind w.first w.last)
-    (λ h b lo hi. held_alike k w h id.number b spares lo hi) is)
-stands_locked k t w did id table (inr first) spares is = subst (Stands k) (sym first.left) (stands_first k t w first.new table is)
+pub stands_locked : (k : LockTold) (t : Table) (w : Wish) (did : StateId × Table) → IsTable t → IsLocked t w did
+    → (did.0.number ≡ k.state → IsAlike w k) → Stands k t → Stands k did.1
+stands_locked k t w did table (inl more) spares is =
+    subst (Stands k) (sym more.left) (stands_raised k t more.number w.file (λ h. holding h more.number w.kind w.first w.last)
+    (λ h b lo hi. held_alike k w h more.number b (λ mine. spares (ap (λ (i : StateId). i.number) more.answer ∙ mine)) lo hi) is)
+stands_locked k t w did table (inr first) spares is =
+    subst (Stands k) (sym first.left) (stands_first k t w (first_state t w first.owner first.opened) table is)
 
 -- no lock state has number 0
 no_zero : (t : Table) (file b : ℕ) (kind : Kind) → IsTable t → t.held file 0 b ≡ Some kind → ⊥
@@ -266,10 +189,11 @@ clash_byte k t w m n tells other is some range clash =
       | inr above ↦ no_byte k t w n w.first tells other is clash.file clash.kinds above before (omega arith) range
     ]
 
-pub refused : (k : LockTold) (t : Table) (w : Wish) (did : Did StateId OpenFault) (id : StateId) → IsTable t → IsGranted t w did id
-    → k.first ≤ k.last → w.first ≤ w.last → w.last < 2 ^ 64 → Stands k t → Clashes k id.number w → ⊥
-refused k t w did id table (inl more) some range fits is clash =
-    clash_byte k t w id.number id.number (judged_tells t id.number more.access w table range fits more.judged) clash.other is some range clash
-refused k t w did id table (inr first) some range fits is clash =
-    clash_byte k t w id.number 0 (judged_tells t 0 first.access w table range fits first.judged)
+pub refused : (k : LockTold) (t : Table) (w : Wish) (did : StateId × Table) → IsTable t → IsLocked t w did
+    → k.first ≤ k.last → w.first ≤ w.last → w.last < 2 ^ 64 → Stands k t → Clashes k did.0.number w → ⊥
+refused k t w did table (inl more) some range fits is clash =
+    clash_byte k t w did.0.number more.number (judged_tells t more.number more.access w table range fits more.judged)
+    (λ same. clash.other (ap (λ (i : StateId). i.number) more.answer ∙ same)) is some range clash
+refused k t w did table (inr first) some range fits is clash =
+    clash_byte k t w did.0.number 0 (judged_tells t 0 first.access w table range fits first.judged)
     (λ zero. no_zero t k.file k.first k.kind table (ap (λ s. t.held k.file s k.first) zero ∙ is.held k.first (omega arith) some)) is some range clash

@@ -17,22 +17,14 @@ use Rattle.nfs_compound.specs.declared.lock_args.LockType.{LockType}
 use Rattle.nfs_compound.specs.declared.open_args.Close.{Close}
 use Rattle.nfs_compound.specs.declared.open_args.OpenDowngrade.{OpenDowngrade}
 use Rattle.nfs_compound.specs.Operation.{Op, OpClose, OpCommit, OpFreeStateid, OpLock, OpLockT, OpLockU, OpOpen, OpOpenDowngrade, OpRead, OpSetAttr, OpTestStateid, OpWrite}
-use Rattle.nfs_ranges.specs.Holders.{cleared, holds_any, is_within}
+use Rattle.nfs_ranges.specs.Holders.{cleared}
 use Rattle.nfs_ranges.specs.declared.Held.{Held}
-use Rattle.nfs_opens.specs.declared.share.Share.{Share}
 use Rattle.nfs_opens.specs.declared.stateid.StateId.{StateId}
 use Rattle.nfs_opens.specs.declared.stateid.CurrentSeqid.TheVariants.{Any, Own}
 use Rattle.nfs_opens.specs.declared.records.OpenState.{OpenState}
-use Rattle.nfs_opens.specs.declared.records.LockState.{LockState}
-use Rattle.nfs_opens.specs.declared.judging.Seat.{Seat}
-use Rattle.nfs_opens.specs.declared.judging.Seat.TheVariants as Seats
-use Rattle.nfs_opens.specs.declared.judging.Sort.TheVariants.{OpenOnly, LockOnly, Either}
 use Rattle.nfs_opens.specs.declared.locking.Wish.{Wish}
-use Rattle.nfs_opens.specs.declared.locking.OpenFault.{OpenFault}
-use Rattle.nfs_opens.specs.declared.locking.OpenFault.TheVariants as F
-use Rattle.nfs_opens.specs.Table.{Table, Asked, open_at, lock_at, with_open}
+use Rattle.nfs_opens.specs.Table.{Table, Asked, with_open}
 use Rattle.nfs_opens.specs.TableInvariants.{IsTable}
-use Rattle.nfs_opens.specs.Judging.{judge}
 use Rattle.nfs_opens.specs.Closing as closing
 use Rattle.nfs_opens.specs.Opening as opening
 use Rattle.nfs_opens.specs.Locking as locking
@@ -50,19 +42,22 @@ use Rattle.nfs_files.specs.Operation.{grows}
 use Rattle.nfs_files.proofs.Outcomes.{one}
 use Rattle.nfs_files.specs.Close.{closed, closes, close}
 use Rattle.nfs_files.specs.Commit.{commit}
-use Rattle.nfs_files.specs.FreeStateid.{frees, free_stateid}
+use Rattle.nfs_files.specs.FreeStateid.{free_stateid}
 use Rattle.nfs_files.specs.Lock as of_lock
 use Rattle.nfs_files.specs.LockT.{tested, lock_t}
 use Rattle.nfs_files.specs.LockU.{unlocking, unlocked, unlocks, lock_u}
 use Rattle.nfs_files.specs.Open as of_open
-use Rattle.nfs_files.specs.OpenDowngrade.{bits, narrowing, narrows, open_downgrade}
+use Rattle.nfs_files.specs.OpenDowngrade.{bits, narrows, open_downgrade}
 use Rattle.nfs_files.specs.Read.{read}
 use Rattle.nfs_files.specs.SetAttr.{was_set, set_attr}
 use Rattle.nfs_files.specs.TestStateid.{test_stateid}
 use Rattle.nfs_files.specs.Write.{was_written, write}
 use Rattle.nfs_files.specs.LockTold.{LockTold, IsBeside, IsAlike, Stands}
 use Rattle.nfs_files.proofs.Inside.{Locks, Unlocks, Closes, Spares, SparedLocksStay, ClashesAreNotGranted}
-use Rattle.nfs_files.proofs.KeptLocks.{stands_by, stands_closed, stands_freed, stands_raised, stands_locked, lock_grants, outside, cleared_other, refused}
+use Rattle.nfs_files.proofs.KeptLocks.{stands_by, stands_closed, stands_freed, stands_raised, stands_locked, outside, cleared_other, refused}
+use Rattle.nfs_files.specs.Denied.{status_of}
+use Rattle.nfs_names.specs.Outcome.{map_err}
+use Rattle.nfs_files.proofs.OpensMoved.{by_close, by_free, by_downgrade, by_lock, by_unlock, lock_is}
 
 -- a refusal leaves the state, an answer what follows from what was found
 pub found : {A : Type 0} (P : State → Type 0) (s : State) (x : Context) (op : OpNum) (v : Result A Status) (f : A → Outcome)
@@ -74,95 +69,36 @@ abbrev Keeps : LockTold → State → Type 0
 Keeps k s = Stands k s.opens
 
 -- LOCK
-locked_stands : (k : LockTold) (s : State) (x : Context) (after : Table) (v : Result StateId OpenFault)
-    → Stands k s.opens → ((id : StateId) → v ≡ Ok id → Stands k after) → Keeps k (of_lock.locked s x after v).state
-locked_stands k s x after (Ok id) same each = each id refl
-locked_stands k s x after (Err (F.Refused status)) same each = same
-locked_stands k s x after (Err (F.Denied h)) same each = same
-locked_stands k s x after (Err F.Memory) same each = same
-
 keeps_lock : (k : LockTold) (s : State) (x : Context) (a : args.Lock) → IsTable s.opens → ((n : ℕ) (w : Wish) → Locks s x (OpLock a) n w → n ≡ k.state → IsAlike w k)
     → Stands k s.opens → Keeps k (of_lock.lock s x a).state
-unfolding of_lock.lock
 keeps_lock k s x a table spares is =
-    found (Keeps k) s x Num.Lock (of_lock.locking s x a) (of_lock.locks s x a.locker) is (λ m judged.
-    (let did = of_lock.locks_as s.opens a.locker m.id m.wish in
-    locked_stands k s x did.after did.answer is (λ id granted.
-    stands_locked k s.opens m.wish did id table (lock_grants s.opens a.locker m.id m.wish id granted)
-    (λ mine. spares id.number m.wish (record { asked = a; id = m.id; answer = id; is = refl; judged = judged; granted = granted; state = refl }) mine) is)))
+    by_lock (λ o. Keeps k o.state) s x a (λ status. is) (λ h. is) (λ m did judged granted locked.
+    stands_locked k s.opens m.wish did table locked
+    (λ mine. spares did.0.number m.wish (record { asked = a; id = m.id; did = did; is = refl; judged = judged; granted = granted; state = refl }) mine) is)
 
 -- LOCKU
-cleared_stands : (k : LockTold) (t : Table) (n file first last : ℕ) (w : Wish) (l : Option LockState) (id : StateId)
-    → first ≡ w.first → last ≡ w.last
-    → (locking.clear_lock t n file first last l).answer ≡ Ok id → (n ≡ k.state → IsBeside w k) → Stands k t
-    → Stands k (locking.clear_lock t n file first last l).after
-cleared_stands k t n file first last w None id from to granted spares is = absurd cc
-cleared_stands k t n file first last w (Some l) id from to granted spares is =
-    stands_raised k t n file (λ h. cleared h n first last)
-    (λ h b lo hi held. cleared_other h n first last k.state b
-    (λ same. ap (λ f. is_within f last b) from ∙ ap (λ z. is_within w.first z b) to ∙ outside k w b (spares same) lo hi) ∙ held) is
-
-unlock_stands : (k : LockTold) (t : Table) (n : ℕ) (w : Wish) (v : Result Seat Status) (id : StateId)
-    → (locking.unlock_by t n w.file w.first w.last v).answer ≡ Ok id → (n ≡ k.state → IsBeside w k) → Stands k t
-    → Stands k (locking.unlock_by t n w.file w.first w.last v).after
-unlock_stands k t n w (Err status) id granted spares is = absurd cc
-unlock_stands k t n w (Ok seat) id granted spares is = cleared_stands k t n w.file w.first w.last w (lock_at t n) id refl refl granted spares is
-
-unlocked_stands : (k : LockTold) (s : State) (x : Context) (after : Table) (v : Result StateId OpenFault)
-    → Stands k s.opens → ((id : StateId) → v ≡ Ok id → Stands k after) → Keeps k (unlocked s x after v).state
-unlocked_stands k s x after (Ok id) same each = each id refl
-unlocked_stands k s x after (Err fault) same each = same
-
 keeps_unlock : (k : LockTold) (s : State) (x : Context) (a : LockU) → ((n : ℕ) (w : Wish) → Unlocks s x (OpLockU a) n w → n ≡ k.state → IsBeside w k)
     → Stands k s.opens → Keeps k (lock_u s x a).state
-unfolding lock_u
 keeps_unlock k s x a spares is =
-    found (Keeps k) s x Num.LockU (unlocking s x a) (unlocks s x) is (λ m judged.
-    (let w = m.wish in let did = locking.unlock s.opens m.id w.client w.file w.first w.last in
-    unlocked_stands k s x did.after did.answer is (λ id granted.
-    unlock_stands k s.opens m.id.number w (judge s.opens m.id w.client (Some w.file) LockOnly) id granted
-    (λ mine. spares m.id.number w (record { asked = a; id = m.id; answer = id; is = refl; judged = judged; granted = granted; state = refl }) mine) is)))
+    by_unlock (λ o. Keeps k o.state) s x a (λ status. is) (λ m did judged granted unlocked.
+    (let n = m.id.number in let w = m.wish in
+    subst (Stands k) (sym unlocked.left) (stands_raised k s.opens n w.file (λ h. cleared h n w.first w.last)
+    (λ h b lo hi held. cleared_other h n w.first w.last k.state b (λ same. outside k w b
+    (spares n w (record { asked = a; id = m.id; did = did; is = refl; judged = judged; granted = granted; state = refl }) same) lo hi) ∙ held) is)))
 
 -- CLOSE
-by_seat : (k : LockTold) (s : State) (x : Context) (file : ℕ) (id : StateId) (v : Result Seat Status) → Stands k s.opens
-    → ((closing.close_by s.opens id.number v).answer ≡ Ok tt → id.number ≢ k.opened)
-    → Keeps k (answers s x Num.Close (closing.close_by s.opens id.number v).answer
-    (λ u. closed s x file (closing.close_by s.opens id.number v).after)).state
-by_seat k s x file id (Err status) is other = is
-by_seat k s x file id (Ok seat) is other =
-    subst (Stands k) (sym (unused_opens (with_opens s (closing.without_open s.opens id.number)) file))
-    (stands_closed k s.opens id.number (other refl) is)
-
 keeps_close : (k : LockTold) (s : State) (x : Context) (a : Close) → ((n : ℕ) → Closes s x (OpClose a) n → n ≢ k.opened)
     → Stands k s.opens → Keeps k (close s x a).state
-unfolding close
 keeps_close k s x a spares is =
-    found (Keeps k) s x Num.Close (target s x Own a.open_stateid) (closes s x) is (λ t judged.
-    by_seat k s x t.file t.id (judge s.opens t.id x.client (Some t.file) OpenOnly) is (λ granted.
-    spares t.id.number (record { asked = a; file = t.file; id = t.id; is = refl; judged = judged; granted = granted; opened = refl })))
+    by_close (λ o. Keeps k o.state) s x a (λ status. is) (λ t did judged granted its.
+    subst (Stands k) (sym (unused_opens (with_opens s (closing.without_open s.opens t.id.number)) t.file))
+    (stands_closed k s.opens t.id.number
+    (spares t.id.number (record { asked = a; file = t.file; id = t.id; did = did; is = refl; judged = judged; granted = granted; opened = refl })) is))
 
 -- FREE_STATEID
-freed_stands : (k : LockTold) (t : Table) (n : ℕ) (l : Option LockState) → IsTable t → k.first ≤ k.last → lock_at t n ≡ l → Stands k t
-    → Stands k (closing.free_lock t n l).after
-freed_stands k t n None table some at is = is
-freed_stands k t n (Some l) table some at is = elim (cases_Bool (holds_any (t.held l.file) n)) [
-  | inl held ↦ rw held is
-  | inr none ↦ rw none (stands_freed k t n l table some at none is)
-]
-
-free_stands : (k : LockTold) (t : Table) (v : Result Seat Status) → IsTable t → k.first ≤ k.last → Stands k t → Stands k (closing.free_by t v).after
-free_stands k t (Err status) table some is = is
-free_stands k t (Ok Seats.Anonymous) table some is = is
-free_stands k t (Ok Seats.ReadBypass) table some is = is
-free_stands k t (Ok (Seats.Open number access)) table some is = is
-free_stands k t (Ok (Seats.Lock number access)) table some is = freed_stands k t number (lock_at t number) table some refl is
-
 keeps_free : (k : LockTold) (s : State) (x : Context) (given : Stateid) → IsTable s.opens → k.first ≤ k.last → Stands k s.opens → Keeps k (free_stateid s x given).state
-unfolding free_stateid
 keeps_free k s x given table some is =
-    found (Keeps k) s x Num.FreeStateid (meant x Any given) (frees s x) is (λ id judged.
-    found (Keeps k) s x Num.FreeStateid (closing.free s.opens id x.client).answer _ is (λ u granted.
-    free_stands k s.opens (judge s.opens id x.client None Either) table some is))
+    by_free (λ o. Keeps k o.state) s x given (λ status. is) (λ id did freed. stands_freed k s.opens id.number freed.state table some freed.found freed.empty is)
 
 -- OPEN and OPEN_DOWNGRADE move no lock state
 opened_stands : (k : LockTold) (t : Table) (a : Asked) (o : Option OpenState) → Stands k t → Stands k (opening.opens_by t a o).after
@@ -175,24 +111,10 @@ keeps_open k s x now a is =
     found (Keeps k) s x Num.Open (checked (of_open.asked_for s x a) (of_open.last_checks s x a)) (of_open.opened s x now a) is (λ f granted.
     (let asked = of_open.asking x a (of_open.file_of s.tree f) in opened_stands k s.opens asked (opening.own_open s.opens asked) is))
 
-narrowed_stands : (k : LockTold) (t : Table) (n : ℕ) (access deny : Share) (o : Option OpenState) → Stands k t → Stands k (opening.narrow_open t n access deny o).after
-narrowed_stands k t n access deny None is = is
-narrowed_stands k t n access deny (Some o) is = elim (cases_Bool (opening.is_narrower access deny o)) [
-  | inl part ↦ rw part (stands_by k t (with_open t n (opening.narrows access deny)) refl refl is)
-  | inr more ↦ rw more is
-]
-
-downgrade_stands : (k : LockTold) (t : Table) (n : ℕ) (access deny : Share) (v : Result Seat Status) → Stands k t → Stands k (opening.downgrade_by t n access deny v).after
-downgrade_stands k t n access deny (Err status) is = is
-downgrade_stands k t n access deny (Ok seat) is = narrowed_stands k t n access deny (open_at t n) is
-
 keeps_downgrade : (k : LockTold) (s : State) (x : Context) (a : OpenDowngrade) → Stands k s.opens → Keeps k (open_downgrade s x a).state
-unfolding open_downgrade
 keeps_downgrade k s x a is =
-    found (Keeps k) s x Num.OpenDowngrade (narrowing s x a) (narrows s x a) is (λ t judged.
-    (let access = bits a.share_access in let deny = bits a.share_deny in
-    found (Keeps k) s x Num.OpenDowngrade (opening.downgrade s.opens t.id x.client t.file access deny).answer _ is (λ id granted.
-    downgrade_stands k s.opens t.id.number access deny (judge s.opens t.id x.client (Some t.file) OpenOnly) is)))
+    by_downgrade (λ o. Keeps k o.state) s x a (λ status. is) (λ t did narrowed.
+    stands_by k s.opens (with_open s.opens t.id.number (opening.narrows (bits a.share_access) (bits a.share_deny))) refl refl is)
 
 -- LOCKT
 tested_stands : (k : LockTold) (s : State) (x : Context) (o : Option Held) → Stands k s.opens → Keeps k (tested s x o).state
@@ -216,30 +138,33 @@ keeps_one k s x now (OpWrite a) table some spares is = found (Keeps k) s x Num.W
 keeps_one k s x now op table some spares is = is
 
 -- what is granted answers NFS4_OK
-pub lock_ok : (s : State) (x : Context) (now : Time) (a : args.Lock) (m : _) (id : StateId) → of_lock.locking s x a ≡ Ok m
-    → (of_lock.locks_as s.opens a.locker m.id m.wish).answer ≡ Ok id → is_ok (one s x now (OpLock a)).result ≡ true
+pub lock_ok : (s : State) (x : Context) (now : Time) (a : args.Lock) (m : _) (did : _) → of_lock.locking s x a ≡ Ok m
+    → of_lock.locks_as s.opens a.locker m.id m.wish ≡ Ok did → is_ok (one s x now (OpLock a)).result ≡ true
 unfolding of_lock.lock
-lock_ok s x now a m id judged granted = rw (judged, granted) refl
+lock_ok s x now a m did judged granted = ap (λ v. is_ok (answers s x Num.Lock v (of_lock.locks s x a.locker)).result) judged
+    ∙ ap (λ v. is_ok (of_lock.locked s x v).result) granted
 
-unlock_ok : (s : State) (x : Context) (now : Time) (a : LockU) (m : _) (id : StateId) → unlocking s x a ≡ Ok m
-    → (locking.unlock s.opens m.id m.wish.client m.wish.file m.wish.first m.wish.last).answer ≡ Ok id → is_ok (one s x now (OpLockU a)).result ≡ true
+unlock_ok : (s : State) (x : Context) (now : Time) (a : LockU) (m : _) (did : _) → unlocking s x a ≡ Ok m
+    → locking.unlock s.opens m.id m.wish.client m.wish.file m.wish.first m.wish.last ≡ Ok did → is_ok (one s x now (OpLockU a)).result ≡ true
 unfolding lock_u
-unlock_ok s x now a m id judged granted = rw (judged, granted) refl
+unlock_ok s x now a m did judged granted = ap (λ v. is_ok (answers s x Num.LockU v (unlocks s x)).result) judged
+    ∙ ap (λ v. is_ok (answers s x Num.LockU (map_err status_of v) (λ did. unlocked s x did.0 did.1)).result) granted
 
-pub close_ok : (s : State) (x : Context) (now : Time) (a : Close) (file : ℕ) (id : StateId) → target s x Own a.open_stateid ≡ Ok (record { file = file; id = id })
-    → (closing.close s.opens id x.client file).answer ≡ Ok tt → is_ok (one s x now (OpClose a)).result ≡ true
+pub close_ok : (s : State) (x : Context) (now : Time) (a : Close) (file : ℕ) (id : StateId) (did : _) → target s x Own a.open_stateid ≡ Ok (record { file = file; id = id })
+    → closing.close s.opens id x.client file ≡ Ok did → is_ok (one s x now (OpClose a)).result ≡ true
 unfolding close
-close_ok s x now a file id judged granted = rw (judged, granted) refl
+close_ok s x now a file id did judged granted = ap (λ v. is_ok (answers s x Num.Close v (closes s x)).result) judged
+    ∙ ap (λ v. is_ok (answers s x Num.Close v (λ did. closed s x file did.1)).result) granted
 
 -- what answers NFS4_OK spares it, so what is granted does
 spares_granted : (k : LockTold) (s : State) (x : Context) (now : Time) (op : Op) → (is_ok (one s x now op).result ≡ true → Spares k s x op) → Spares k s x op
 spares_granted k s x now op spares = record {
   locks = λ n w is mine. (spares (subst (λ o. is_ok (one s x now o).result ≡ true) (sym is.is)
-      (lock_ok s x now is.asked (record { wish = w; id = is.id }) is.answer is.judged is.granted))).locks n w is mine;
+      (lock_ok s x now is.asked (record { wish = w; id = is.id }) is.did is.judged is.granted))).locks n w is mine;
   unlocks = λ n w is mine. (spares (subst (λ o. is_ok (one s x now o).result ≡ true) (sym is.is)
-      (unlock_ok s x now is.asked (record { wish = w; id = is.id }) is.answer is.judged is.granted))).unlocks n w is mine;
+      (unlock_ok s x now is.asked (record { wish = w; id = is.id }) is.did is.judged is.granted))).unlocks n w is mine;
   closes = λ n is. (spares (subst (λ o. is_ok (one s x now o).result ≡ true) (sym is.is)
-      (close_ok s x now is.asked is.file is.id is.judged is.granted))).closes n is;
+      (close_ok s x now is.asked is.file is.id is.did is.judged is.granted))).closes n is;
 }
 
 pub spared : SparedLocksStay
@@ -313,6 +238,5 @@ clashing k s x op n w table some is lock clash =
     ] in
     let before = clash.before in
     let range = wish_range lock.asked.offset lock.asked.length w.last parts.1 (omega arith) in
-    refused k s.opens w (of_lock.locks_as s.opens lock.asked.locker lock.id w) lock.answer table
-    (lock_grants s.opens lock.asked.locker lock.id w lock.answer lock.granted) some (let lo = range.0 in omega arith) range.1 is
+    refused k s.opens w lock.did table (lock_is s.opens lock.asked.locker lock.id w lock.did lock.granted) some (let lo = range.0 in omega arith) range.1 is
     (record { other = λ same. clash.other (sym lock.state ∙ same); file = clash.file; before = clash.before; behind = clash.behind; kinds = clash.kinds })

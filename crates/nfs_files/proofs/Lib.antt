@@ -16,6 +16,7 @@ pub mod Locked
 pub mod Codes
 pub mod StateAnswers
 pub mod StraightAnswers
+pub mod OpensMoved
 pub mod OpensKept
 pub mod Closed
 pub mod OpenAnswers

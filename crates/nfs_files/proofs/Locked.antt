@@ -11,8 +11,9 @@ use Rattle.nfs_ranges.specs.declared.Held.{Held}
 use Rattle.nfs_opens.specs.declared.stateid.StateId.{StateId}
 use Rattle.nfs_opens.specs.declared.locking.OpenFault.{OpenFault}
 use Rattle.nfs_opens.specs.declared.locking.OpenFault.TheVariants as F
-use Rattle.nfs_opens.specs.Table.{Table, Did}
+use Rattle.nfs_opens.specs.Table.{Table}
 use Rattle.nfs_opens.specs.Calls.{LocksOrWants}
+use Rattle.nfs_opens.proofs.CallLaws.{refused_is}
 use Rattle.nfs_names.specs.declared.context.Context.{Context}
 use Rattle.nfs_names.specs.State.{State}
 use Rattle.nfs_names.specs.Comes.{Comes}
@@ -20,7 +21,7 @@ use Rattle.nfs_names.specs.Outcome.{Outcome, or_delay, is_delay}
 use Rattle.nfs_names.specs.Ending.{with_opens}
 use Rattle.nfs_files.specs.Denied.{denied}
 use Rattle.nfs_files.specs.Lock.{locked}
-use Rattle.nfs_files.proofs.Refused.{Stays, told_with, refused_outcome, lock_tells, ok_locked}
+use Rattle.nfs_files.proofs.Refused.{told_with, refused_outcome, lock_tells, ok_locked}
 
 comes : (s : State) (x : Context) (o : Outcome) (answer : Status) (r : Res) (old new : SheetState) (after : Table)
     → told_with s x r after ≡ o → Puts old new (spell_result r) → answer ≡ status_of_result r → Comes o old new answer (with_opens s after) x
@@ -28,31 +29,30 @@ comes s x o answer r old new after same put status =
     subst (λ o. Comes o old new answer (with_opens s after) x) same (record { put = put; status = status; state = refl; context = refl })
 
 -- what is known of an answer is known of what it was found to be
-by_answer : (t : Table) (did : Did StateId OpenFault) (v w : Result StateId OpenFault) (after : Table)
+by_answer : (t : Table) (did : Result (StateId × Table) OpenFault) (v w : Result StateId OpenFault) (after : Table)
     → v ≡ w → LocksOrWants t did v after → LocksOrWants t did w after
 by_answer t did v w after e tells = subst (λ v. LocksOrWants t did v after) e tells
 
-pub refused_comes : (s : State) (x : Context) (did : Did StateId OpenFault) (status answer : Status) (old new : SheetState) (after : Table) → Stays s.opens did
+pub refused_comes : (s : State) (x : Context) (did : Result (StateId × Table) OpenFault) (status answer : Status) (old new : SheetState) (after : Table)
     → (v : Result StateId OpenFault) → v ≡ Err (F.Refused status) → LocksOrWants s.opens did v after
     → Puts old new (spell_result (Refused 12 status)) → answer ≡ status
-    → Comes (or_delay (is_delay answer) s x Op.Lock (locked s x did.after did.answer)) old new answer (with_opens s after) x
-refused_comes s x did status answer old new after stays v found known put is =
+    → Comes (or_delay (is_delay answer) s x Op.Lock (locked s x did)) old new answer (with_opens s after) x
+refused_comes s x did status answer old new after v found known put is =
     let tells = by_answer s.opens did v (Err (F.Refused status)) after found known in
-    let o = locked s x did.after did.answer in
+    let o = locked s x did in
     subst (λ a. Comes (or_delay (is_delay a) s x Op.Lock o) old new a (with_opens s after) x) (sym is)
     (comes s x (or_delay (is_delay status) s x Op.Lock o) status (Refused 12 status) old new after
-    (refused_outcome s x Op.Lock true did (locked s x) (F.Refused status) (Refused 12 status) after stays
-    (ok_locked s x) (λ t. refl) refl (lock_tells s.opens did after (F.Refused status) tells)) put refl)
+    (refused_outcome s x Op.Lock true did (locked s x) (F.Refused status) (Refused 12 status) after
+    (ok_locked s x) refl refl (lock_tells s.opens did after (F.Refused status) tells)) put refl)
 
-pub denied_comes : (s : State) (x : Context) (did : Did StateId OpenFault) (held : Held) (answer : Status) (old new : SheetState) (after : Table)
-    → Stays s.opens did
+pub denied_comes : (s : State) (x : Context) (did : Result (StateId × Table) OpenFault) (held : Held) (answer : Status) (old new : SheetState) (after : Table)
     → (v : Result StateId OpenFault) → v ≡ Err (F.Denied held) → LocksOrWants s.opens did v after
     → Puts old new (spell_result (ResLockDenied (denied after held))) → answer ≡ S.Denied
-    → Comes (or_delay (is_delay answer) s x Op.Lock (locked s x did.after did.answer)) old new answer (with_opens s after) x
-denied_comes s x did held answer old new after stays v found known put is =
+    → Comes (or_delay (is_delay answer) s x Op.Lock (locked s x did)) old new answer (with_opens s after) x
+denied_comes s x did held answer old new after v found known put is =
     let tells = by_answer s.opens did v (Err (F.Denied held)) after found known in
-    let o = locked s x did.after did.answer in
-    let left : after ≡ s.opens = tells.1 ∙ stays.kept (F.Denied held) (sym tells.0) in
+    let no = refused_is s.opens did (F.Denied held) tells.0 in
+    let o = locked s x did in
     subst (λ a. Comes (or_delay (is_delay a) s x Op.Lock o) old new a (with_opens s after) x) (sym is)
     (comes s x o S.Denied (ResLockDenied (denied after held)) old new after
-    (ap (λ t. told_with s x (ResLockDenied (denied t held)) t) left ∙ ap (locked s x did.after) tells.0) put refl)
+    (ap (λ t. told_with s x (ResLockDenied (denied t held)) t) (tells.1 ∙ no.1) ∙ sym (ap (locked s x) no.0)) put refl)

@@ -1,15 +1,11 @@
 -- Whose opens an operation on open files can move: those of its own client, and OPEN and CLOSE alone move them.
-use Rattle.std.proofs.Common.{◌≡◌, ◌≢◌, ℕ, suc, ◌+◌, Bool, true, false, cond, List, map, Option, Some, None, refl, sym, ◌∙◌, ap, subst, inl, inr}
+use Rattle.std.proofs.Common.{◌≡◌, ◌≢◌, ℕ, suc, ◌+◌, Bool, true, false, cond, map, Option, Some, None, refl, sym, ◌∙◌, ap, subst, inl, inr}
 use Rattle.std.proofs.Common.{arith}
-use Rattle.std.specs.Prelude.{◌==◌, ◌&&◌, not, Result, Ok, Err, if◌then◌else◌}
+use Rattle.std.specs.Prelude.{◌==◌, ◌&&◌, not, if◌then◌else◌}
 use Rattle.std.specs.List.{list_any}
-use Rattle.std.proofs.lemmas.Bool.{cases_Bool, eqb-true, ne_eqb, false≢true}
-use Rattle.nfs_xdr.specs.Checks.{first_fault}
+use Rattle.std.proofs.lemmas.Bool.{cases_Bool, eqb-true, ne_eqb}
 use Rattle.nfs_xdr.specs.Tables.{IsRising}
 use Rattle.nfs_xdr.specs.declared.time.Time.{Time}
-use Rattle.nfs_xdr.specs.declared.status.Status.{Status}
-use Rattle.nfs_xdr.specs.declared.status.Status.TheVariants.{BadStateId}
-use Rattle.nfs_xdr.proofs.Checks.{all_passed}
 use Rattle.nfs_xdr.proofs.Lists.{find_in, any_map, any_push, any_filter}
 use Rattle.nfs_xdr.proofs.Tables.{in_once, IsRising-push, IsRising-map, IsRising-filter, IsRising-upto}
 use Rattle.nfs_compound.specs.Arguments.{arguments}
@@ -22,48 +18,37 @@ use Rattle.nfs_compound.specs.LockArgs as args
 use Rattle.nfs_compound.specs.OpenArgs.{Open}
 use Rattle.nfs_compound.specs.Operation.{Op, Item, Operation, Fault, OpClose, OpCommit, OpFreeStateid, OpLock, OpLockT, OpLockU, OpOpen, OpOpenDowngrade}
 use Rattle.nfs_compound.specs.Operation.{OpRead, OpSetAttr, OpTestStateid, OpWrite}
-use Rattle.nfs_results.specs.Result.{ResFreeStateid}
 use Rattle.nfs_ranges.specs.declared.Held.{Held}
-use Rattle.nfs_ranges.specs.Holders.{holds_any}
-use Rattle.nfs_opens.specs.declared.share.Share.{Share}
 use Rattle.nfs_opens.specs.declared.stateid.StateId.{StateId}
-use Rattle.nfs_opens.specs.declared.stateid.CurrentSeqid.TheVariants.{Any, Own}
 use Rattle.nfs_opens.specs.declared.records.OpenState.{OpenState}
-use Rattle.nfs_opens.specs.declared.records.LockState.{LockState}
-use Rattle.nfs_opens.specs.declared.judging.Seat.{Seat}
-use Rattle.nfs_opens.specs.declared.judging.Seat.TheVariants as Seats
-use Rattle.nfs_opens.specs.declared.judging.Sort.TheVariants.{OpenOnly, LockOnly, Either}
 use Rattle.nfs_opens.specs.declared.locking.Wish.{Wish}
-use Rattle.nfs_opens.specs.declared.locking.OpenFault.{OpenFault}
-use Rattle.nfs_opens.specs.declared.locking.OpenFault.TheVariants as F
-use Rattle.nfs_opens.specs.StateId.{last_number, is_anonymous, is_bypass}
-use Rattle.nfs_opens.specs.Table.{Table, Did, Asked, open_at, lock_at}
-use Rattle.nfs_opens.specs.Judging.{judge, judge_named, judge_checks, named, named_by, open_named, lock_named, seated}
+use Rattle.nfs_opens.specs.Table.{Table, Asked, open_at}
+use Rattle.nfs_opens.specs.Judging.{named}
 use Rattle.nfs_opens.specs.Closing as closing
 use Rattle.nfs_opens.specs.Opening as opening
 use Rattle.nfs_opens.specs.Locking as locking
 use Rattle.nfs_names.specs.declared.context.Context.{Context}
 use Rattle.nfs_names.specs.State.{State}
 use Rattle.nfs_names.specs.Ending.{with_opens}
-use Rattle.nfs_names.specs.Outcome.{done, checked, answers}
+use Rattle.nfs_names.specs.Outcome.{checked}
 use Rattle.nfs_names.proofs.Ones.{by_delay}
 use Rattle.nfs_names.proofs.Untouched.{unused_opens, by_answers}
 use Rattle.nfs_files.specs.Operation.{grows}
 use Rattle.nfs_files.proofs.Outcomes.{one, comes_to}
-use Rattle.nfs_files.specs.StateIds.{meant}
-use Rattle.nfs_files.specs.Target.{target}
-use Rattle.nfs_files.specs.Close.{closed, closes, close}
+use Rattle.nfs_files.specs.Close.{close}
 use Rattle.nfs_files.specs.Commit.{commit}
-use Rattle.nfs_files.specs.FreeStateid.{frees, free_stateid}
+use Rattle.nfs_files.specs.FreeStateid.{free_stateid}
 use Rattle.nfs_files.specs.Lock as of_lock
 use Rattle.nfs_files.specs.LockT.{tested, lock_t}
-use Rattle.nfs_files.specs.LockU.{unlocking, unlocked, unlocks, lock_u}
+use Rattle.nfs_files.specs.LockU.{unlocked, lock_u}
 use Rattle.nfs_files.specs.Open as of_open
-use Rattle.nfs_files.specs.OpenDowngrade.{bits, narrowing, narrowed, narrows, open_downgrade}
+use Rattle.nfs_files.specs.OpenDowngrade.{bits, narrowed, narrows, open_downgrade}
 use Rattle.nfs_files.specs.Read.{read}
 use Rattle.nfs_files.specs.SetAttr.{was_set, set_attr}
 use Rattle.nfs_files.specs.TestStateid.{test_stateid}
 use Rattle.nfs_files.specs.Write.{was_written, write}
+use Rattle.nfs_opens.proofs.CallLaws.{IsLocked}
+use Rattle.nfs_files.proofs.OpensMoved.{by_close, by_free, by_downgrade, by_lock, by_unlock}
 
 -- the numbers of opens rise, and were all given
 abbrev pub AreNumbered : Table → Type 0
@@ -109,100 +94,28 @@ changed p t n f mild is = record {
     client : (o : OpenState) → (cond (o.number == n) (f o) o).client ≡ o.client
     client o = elim (o.number == n) as (λ b. (cond b (f o) o).client ≡ o.client) [ true ↦ (mild o).1 | false ↦ refl ]
 
-either : {K G : Type 0} (t : Table) (b : Bool) (here there : Did K G) → Spares Everybody t here.after
-    → Spares Everybody t there.after → Spares Everybody t (cond b here there).after
-either t true here there y n = y
-either t false here there y n = n
-
 -- FREE_STATEID
-free_lock : (t : Table) (n : ℕ) (l : Option LockState) → AreNumbered t → Spares Everybody t (closing.free_lock t n l).after
-free_lock t n None is = untouched Everybody t is
-free_lock t n (Some l) is = either t (holds_any (t.held l.file) n) _ _ (untouched Everybody t is) (record { same = λ c spared. refl; numbers = is })
-
-free : (t : Table) (v : Result Seat Status) → AreNumbered t → Spares Everybody t (closing.free_by t v).after
-free t (Err status) is = untouched Everybody t is
-free t (Ok Seats.Anonymous) is = untouched Everybody t is
-free t (Ok Seats.ReadBypass) is = untouched Everybody t is
-free t (Ok (Seats.Open number access)) is = untouched Everybody t is
-free t (Ok (Seats.Lock number access)) is = free_lock t number (lock_at t number) is
-
 still_free : (s : State) (x : Context) (given : Stateid) → AreNumbered s.opens
     → SparesIn Everybody s x (free_stateid s x given).state (free_stateid s x given).context
-unfolding free_stateid
-still_free s x given is =
-    by_answers (SparesIn Everybody s x) s x Num.FreeStateid (meant x Any given) (frees s x) (nothing Everybody s x is) (λ id.
-    by_answers (SparesIn Everybody s x) s x Num.FreeStateid (closing.free s.opens id x.client).answer
-    (λ u. done (with_opens s (closing.free s.opens id x.client).after) x ResFreeStateid) (nothing Everybody s x is) (λ u.
-    record { opens = free s.opens (judge s.opens id x.client None Either) is; client = refl }))
+still_free s x given is = by_free (λ o. SparesIn Everybody s x o.state o.context) s x given (λ status. nothing Everybody s x is)
+    (λ id did freed. record { opens = record { same = λ c spared. refl; numbers = is }; client = refl })
 
 -- OPEN_DOWNGRADE
-narrow : (t : Table) (n : ℕ) (access deny : Share) (o : Option OpenState) → AreNumbered t → Spares Everybody t (opening.narrow_open t n access deny o).after
-narrow t n access deny None is = untouched Everybody t is
-narrow t n access deny (Some o) is =
-    either t (opening.is_narrower access deny o) _ _ (changed Everybody t n (opening.narrows access deny) (λ o. (refl, refl)) is) (untouched Everybody t is)
-
-downgrade : (t : Table) (n : ℕ) (access deny : Share) (v : Result Seat Status)
-    → AreNumbered t → Spares Everybody t (opening.downgrade_by t n access deny v).after
-downgrade t n access deny (Err status) is = untouched Everybody t is
-downgrade t n access deny (Ok seat) is = narrow t n access deny (open_at t n) is
-
 still_downgrade : (s : State) (x : Context) (a : OpenDowngrade) → AreNumbered s.opens
     → SparesIn Everybody s x (open_downgrade s x a).state (open_downgrade s x a).context
-unfolding open_downgrade
-still_downgrade s x a is =
-    let access = bits a.share_access in
-    let deny = bits a.share_deny in
-    by_answers (SparesIn Everybody s x) s x Num.OpenDowngrade (narrowing s x a) (narrows s x a) (nothing Everybody s x is) (λ t.
-    (let did = opening.downgrade s.opens t.id x.client t.file access deny in
-    by_answers (SparesIn Everybody s x) s x Num.OpenDowngrade did.answer (λ id. narrowed s x id did.after) (nothing Everybody s x is) (λ id.
-    record { opens = downgrade s.opens t.id.number access deny (judge s.opens t.id x.client (Some t.file) OpenOnly) is; client = refl })))
+still_downgrade s x a is = by_downgrade (λ o. SparesIn Everybody s x o.state o.context) s x a (λ status. nothing Everybody s x is) (λ t did narrowed.
+    record { opens = changed Everybody s.opens t.id.number (opening.narrows (bits a.share_access) (bits a.share_deny)) (λ o. (refl, refl)) is; client = refl })
 
 -- LOCK
-more : (t : Table) (w : Wish) (n : ℕ) (l : Option LockState) → AreNumbered t → Spares Everybody t (locking.lock_more t w n l).after
-more t w n None is = untouched Everybody t is
-more t w n (Some l) is = record { same = λ c spared. refl; numbers = is }
-
-new : (t : Table) (w : Wish) (opened : ℕ) (owner : List ℕ) → AreNumbered t → Spares Everybody t (locking.lock_new t w opened owner).after
-new t w opened owner is = either t (t.last == last_number) _ _ (untouched Everybody t is)
+lock : (t : Table) (w : Wish) (did : StateId × Table) → AreNumbered t → IsLocked t w did → Spares Everybody t did.1
+lock t w did is (inl more) = subst (Spares Everybody t) (sym more.left) (record { same = λ c spared. refl; numbers = is })
+lock t w did is (inr first) = subst (Spares Everybody t) (sym first.left)
     (record { same = λ c spared. refl; numbers = IsRising-upto (λ (o : OpenState). o.number) 1 (suc t.last) (suc (t.last + 1)) t.opens (omega arith) is })
 
-if_granted : (t : Table) (v : Result (Unit {0}) OpenFault) (did : Did StateId OpenFault)
-    → AreNumbered t → Spares Everybody t did.after → Spares Everybody t (locking.does_if t v did).after
-if_granted t (Err fault) did is granted = untouched Everybody t is
-if_granted t (Ok unit) did is granted = granted
-
-by_owner : (t : Table) (w : Wish) (opened : ℕ) (owner : List ℕ) (access : Share) (l : Option LockState)
-    → AreNumbered t → Spares Everybody t (locking.lock_by_owner t w opened owner access l).after
-by_owner t w opened owner access (Some l) is =
-    if_granted t (locking.lock_judged t l.number access w) (locking.lock_more t w l.number (lock_at t l.number)) is (more t w l.number (lock_at t l.number) is)
-by_owner t w opened owner access None is = if_granted t (locking.lock_judged t 0 access w) (locking.lock_new t w opened owner) is (new t w opened owner is)
-
-under : (t : Table) (w : Wish) (opened : ℕ) (owner : List ℕ) (v : Result Seat Status)
-    → AreNumbered t → Spares Everybody t (locking.lock_under t w opened owner v).after
-under t w opened owner (Err status) is = untouched Everybody t is
-under t w opened owner (Ok seat) is = by_owner t w opened owner (locking.access_in seat) (locking.state_of t w.client owner w.file) is
-
-known : (t : Table) (w : Wish) (n : ℕ) (v : Result Seat Status) → AreNumbered t → Spares Everybody t (locking.lock_known t w n v).after
-known t w n (Err status) is = untouched Everybody t is
-known t w n (Ok seat) is =
-    if_granted t (locking.lock_judged t n (locking.access_in seat) w) (locking.lock_more t w n (lock_at t n)) is (more t w n (lock_at t n) is)
-
-lock : (t : Table) (who : args.Locker) (id : StateId) (w : Wish) → AreNumbered t → Spares Everybody t (of_lock.locks_as t who id w).after
-lock t (args.OpenOwner o) id w is = under t w id.number o.lock_owner.owner (judge t id w.client (Some w.file) OpenOnly) is
-lock t (args.LockOwner o) id w is = known t w id.number (judge t id w.client (Some w.file) LockOnly) is
-
-locked : (s : State) (x : Context) (after : Table) (v : Result StateId OpenFault) → AreNumbered s.opens
-    → Spares Everybody s.opens after → SparesIn Everybody s x (of_lock.locked s x after v).state (of_lock.locked s x after v).context
-locked s x after (Ok id) is same = record { opens = same; client = refl }
-locked s x after (Err (F.Refused status)) is same = nothing Everybody s x is
-locked s x after (Err (F.Denied h)) is same = nothing Everybody s x is
-locked s x after (Err F.Memory) is same = nothing Everybody s x is
-
 still_lock : (s : State) (x : Context) (a : args.Lock) → AreNumbered s.opens → SparesIn Everybody s x (of_lock.lock s x a).state (of_lock.lock s x a).context
-unfolding of_lock.lock
 still_lock s x a is =
-    by_answers (SparesIn Everybody s x) s x Num.Lock (of_lock.locking s x a) (of_lock.locks s x a.locker) (nothing Everybody s x is) (λ k.
-    (let did = of_lock.locks_as s.opens a.locker k.id k.wish in locked s x did.after did.answer is (lock s.opens a.locker k.id k.wish is)))
+    by_lock (λ o. SparesIn Everybody s x o.state o.context) s x a (λ status. nothing Everybody s x is) (λ h. nothing Everybody s x is) (λ m did judged granted locked.
+    record { opens = lock s.opens m.wish did is locked; client = refl })
 
 -- LOCKT
 tests : (s : State) (x : Context) (o : Option Held) → AreNumbered s.opens → SparesIn Everybody s x (tested s x o).state (tested s x o).context
@@ -210,63 +123,14 @@ tests s x None is = nothing Everybody s x is
 tests s x (Some h) is = nothing Everybody s x is
 
 -- LOCKU
-clear : (t : Table) (n file first last : ℕ) (l : Option LockState) → AreNumbered t → Spares Everybody t (locking.clear_lock t n file first last l).after
-clear t n file first last None is = untouched Everybody t is
-clear t n file first last (Some l) is = record { same = λ c spared. refl; numbers = is }
-
-unlock : (t : Table) (n file first last : ℕ) (v : Result Seat Status) → AreNumbered t → Spares Everybody t (locking.unlock_by t n file first last v).after
-unlock t n file first last (Err status) is = untouched Everybody t is
-unlock t n file first last (Ok seat) is = clear t n file first last (lock_at t n) is
-
-unlocks_still : (s : State) (x : Context) (after : Table) (v : Result StateId OpenFault) → AreNumbered s.opens
-    → Spares Everybody s.opens after → SparesIn Everybody s x (unlocked s x after v).state (unlocked s x after v).context
-unlocks_still s x after (Ok id) is same = record { opens = same; client = refl }
-unlocks_still s x after (Err fault) is same = nothing Everybody s x is
-
 still_lock_u : (s : State) (x : Context) (a : LockU) → AreNumbered s.opens → SparesIn Everybody s x (lock_u s x a).state (lock_u s x a).context
-unfolding lock_u
-still_lock_u s x a is =
-    by_answers (SparesIn Everybody s x) s x Num.LockU (unlocking s x a) (unlocks s x) (nothing Everybody s x is) (λ k.
-    (let w = k.wish in let did = locking.unlock s.opens k.id w.client w.file w.first w.last in
-    unlocks_still s x did.after did.answer is (unlock s.opens k.id.number w.file w.first w.last (judge s.opens k.id w.client (Some w.file) LockOnly) is)))
+still_lock_u s x a is = by_unlock (λ o. SparesIn Everybody s x o.state o.context) s x a (λ status. nothing Everybody s x is) (λ m did judged granted unlocked.
+    record { opens = subst (Spares Everybody s.opens) (sym unlocked.left) (record { same = λ c spared. refl; numbers = is }); client = refl })
 
 -- CLOSE: the open of the number that was judged is the client's own, and no other one has that number.
 
 abbrev IsOpenOf : Table → ℕ → ℕ → OpenState → Type 0
 IsOpenOf t n client o = (open_at t n ≡ Some o) × (o.client ≡ client)
-
-is_seated : (seat k : Seat) (f : Option Status) → seated seat f ≡ Ok k → f ≡ None
-is_seated seat k None e = refl
-is_seated seat k (Some status) e = absurd cc
-
-not_false : (b : Bool) → not b ≡ false → b ≡ true
-not_false true e = refl
-not_false false e = absurd cc
-
-own_named : (t : Table) (n client seqid : ℕ) (file : Option ℕ) (k : Seat) (o : Option OpenState) (l : Option LockState)
-    → open_at t n ≡ o → judge_named client file OpenOnly seqid (named_by t o l) ≡ Ok k → (o : OpenState) × IsOpenOf t n client o
-own_named t n client seqid file k (Some o) l is e =
-    let checks = judge_checks client file OpenOnly seqid (open_named o) in
-    let passed = all_passed checks (is_seated (open_named o).seat k (first_fault checks) e) in
-    (o, (is, eqb-true o.client client (not_false (o.client == client) passed.0)))
-own_named t n client seqid file k None (Some l) is e =
-    let checks = judge_checks client file OpenOnly seqid (lock_named t l) in
-    let passed = all_passed checks (is_seated (lock_named t l).seat k (first_fault checks) e) in
-    absurd (false≢true (sym passed.1.1.0))
-own_named t n client seqid file k None None is e = absurd cc
-
-own_by : (t : Table) (id : StateId) (client : ℕ) (file : Option ℕ) (k : Seat) (b : Bool)
-    → judge_named client file OpenOnly id.seqid (cond b (named_by t (open_at t id.number) (lock_at t id.number)) None) ≡ Ok k
-    → (o : OpenState) × IsOpenOf t id.number client o
-own_by t id client file k true e = own_named t id.number client id.seqid file k (open_at t id.number) (lock_at t id.number) refl e
-own_by t id client file k false e = absurd cc
-
-own_judged : (t : Table) (id : StateId) (client : ℕ) (file : Option ℕ) (k : Seat) (a b : Bool)
-    → cond a (Err BadStateId) (cond b (Err BadStateId) (judge_named client file OpenOnly id.seqid (named t id))) ≡ Ok k
-    → (o : OpenState) × IsOpenOf t id.number client o
-own_judged t id client file k true b e = absurd cc
-own_judged t id client file k false true e = absurd cc
-own_judged t id client file k false false e = own_by t id client file k (id.instance == t.instance) e
 
 goes : (t : Table) (n client : ℕ) (o : OpenState) → AreNumbered t → IsOpenOf t n client o → Spares (OthersThan client) t (closing.without_open t n)
 goes t n client o is own =
@@ -282,25 +146,14 @@ goes t n client o is own =
       numbers = IsRising-filter (λ (o : OpenState). o.number) (λ o. not (o.number == n)) 1 (suc t.last) t.opens is;
     }
 
-closes_own : (s : State) (x : Context) (n file : ℕ) (v : Result Seat Status)
-    → ((k : Seat) → v ≡ Ok k → (o : OpenState) × IsOpenOf s.opens n x.client o) → AreNumbered s.opens
-    → (let did = closing.close_by s.opens n v in let o = answers s x Num.Close did.answer (λ u. closed s x file did.after) in
-    SparesIn (OthersThan x.client) s x o.state o.context)
-closes_own s x n file (Err status) each is = nothing (OthersThan x.client) s x is
-closes_own s x n file (Ok k) each is =
-    let o = each k refl in
-    let after = closing.without_open s.opens n in
-    record {
-      opens = subst (Spares (OthersThan x.client) s.opens) (sym (unused_opens (with_opens s after) file)) (goes s.opens n x.client o.0 is o.1);
-      client = refl;
-    }
-
 spares_close : (s : State) (x : Context) (a : Close) → AreNumbered s.opens → SparesIn (OthersThan x.client) s x (close s x a).state (close s x a).context
-unfolding close
 spares_close s x a is =
-    by_answers (SparesIn (OthersThan x.client) s x) s x Num.Close (target s x Own a.open_stateid) (closes s x) (nothing (OthersThan x.client) s x is) (λ t.
-    closes_own s x t.id.number t.file (judge s.opens t.id x.client (Some t.file) OpenOnly)
-    (λ k e. own_judged s.opens t.id x.client (Some t.file) k (is_anonymous t.id) (is_bypass t.id) e) is)
+    by_close (λ o. SparesIn (OthersThan x.client) s x o.state o.context) s x a (λ status. nothing (OthersThan x.client) s x is) (λ t did judged granted its.
+    (let after = closing.without_open s.opens t.id.number in record {
+      opens = subst (Spares (OthersThan x.client) s.opens) (sym (unused_opens (with_opens s after) t.file))
+          (goes s.opens t.id.number x.client its.state is (its.found, its.mine));
+      client = refl;
+    }))
 
 -- OPEN: the client's own open is joined, or a new one is the client's.
 opens_own : (t : Table) (a : Asked) (o : Option OpenState) → AreNumbered t → Spares (OthersThan a.client) t (opening.opens_by t a o).after

@@ -1,5 +1,5 @@
 -- What answers no NFS4ERR_DELAY: checks of which none does, and what is made of them; and the operations on names.
-use Rattle.std.proofs.Common.{◌≡◌, ℕ, Bool, true, false, cond, not, List, [], ◌∷◌, ◌++◌, Option, Some, None, refl, sym, ◌∙◌, ap, inl, inr}
+use Rattle.std.proofs.Common.{◌≡◌, ℕ, Bool, true, false, cond, not, List, [], ◌∷◌, Option, Some, None, refl, sym, ◌∙◌, ap, inl, inr}
 use Rattle.std.specs.Prelude.{◌&&◌, Result, Ok, Err, IfSome}
 use Rattle.std.proofs.lemmas.Bool.{cases_Bool, and_parts}
 use Rattle.nfs_xdr.specs.Checks.{first_fault}
@@ -15,7 +15,7 @@ use Rattle.nfs_compound.specs.declared.op_num.OpNum.{OpNum}
 use Rattle.nfs_compound.specs.declared.op_num.OpNum.TheVariants as Num
 use Rattle.nfs_compound.specs.Operation.{Op, OpAccess, OpCreate, OpGetAttr, OpGetFh, OpLink, OpLookup, OpLookupP, OpNVerify, OpPutFh}
 use Rattle.nfs_compound.specs.Operation.{OpPutPubFh, OpPutRootFh, OpReadDir, OpReadLink, OpRemove, OpRename, OpRestoreFh, OpSaveFh, OpSecinfoNoName, OpVerify}
-use Rattle.nfs_results.specs.Results.{status_of_result, refusal}
+use Rattle.nfs_results.specs.Results.{status_of_result}
 use Rattle.nfs_attrs.specs.Reading.{fault_status}
 use Rattle.nfs_attrs.specs.declared.wanted.AttrFault.{AttrFault}
 use Rattle.nfs_attrs.specs.declared.wanted.AttrFault.TheVariants as Faults
@@ -24,7 +24,7 @@ use Rattle.nfs_tree.specs.declared.object.Object.{Object}
 use Rattle.nfs_names.specs.declared.context.Context.{Context}
 use Rattle.nfs_names.specs.declared.node.Node.{Node}
 use Rattle.nfs_names.specs.State.{State}
-use Rattle.nfs_names.specs.Outcome.{◌>>=◌, Outcome, passed, checked, mapped, answers, refuses, with_status, is_delay}
+use Rattle.nfs_names.specs.Outcome.{◌>>=◌, Outcome, passed, checked, mapped, answers, map_err, is_delay}
 use Rattle.nfs_names.specs.Checks.{current, both, node_at, node_as, saved_object}
 use Rattle.nfs_names.specs.Operation.{one}
 use Rattle.nfs_names.specs.Access.{access}
@@ -42,7 +42,7 @@ use Rattle.nfs_names.specs.PutRootFh.{put_root_fh}
 use Rattle.nfs_names.specs.ReadDir.{read_dir}
 use Rattle.nfs_names.specs.ReadLink.{read_link}
 use Rattle.nfs_names.specs.Remove.{remove}
-use Rattle.nfs_names.specs.Rename.{move_of, moved, unmoved, rename}
+use Rattle.nfs_names.specs.Rename.{moved, unmoved, rename}
 use Rattle.nfs_names.specs.RestoreFh.{or_none, restore_fh}
 use Rattle.nfs_names.specs.SaveFh.{save_fh}
 use Rattle.nfs_names.specs.SecinfoNoName.{style_checks, secinfo_no_name}
@@ -106,7 +106,7 @@ attribute_prompt Faults.Inval = refl
 attribute_prompt Faults.BadXdr = refl
 attribute_prompt Faults.BadOwner = refl
 
-attributes_prompt : {A : Type 0} (v : Result A AttrFault) → IsPrompt (with_status fault_status v)
+attributes_prompt : {A : Type 0} (v : Result A AttrFault) → IsPrompt (map_err fault_status v)
 attributes_prompt (Err fault) = err_prompt (fault_status fault) (attribute_prompt fault)
 attributes_prompt (Ok a) = ok_prompt a
 

@@ -1,12 +1,11 @@
 -- The operations on open files answer fails NFS4ERR_DELAY where memory is not refused.
-use Rattle.std.proofs.Common.{◌≡◌, ℕ, Bool, true, false, cond, not, List, [], ◌∷◌, Option, Some, None, refl, sym, ◌∙◌, ap, inl, inr}
-use Rattle.std.specs.Prelude.{◌==◌, ◌||◌, Result, Ok, Err}
-use Rattle.std.specs.List.{list_any}
+use Rattle.std.proofs.Common.{◌≡◌, ℕ, Bool, true, false, cond, not, List, Option, Some, None, refl, ◌∙◌, ap, inl, inr}
+use Rattle.std.specs.Prelude.{◌==◌, ◌||◌, Result, Ok, Err, ok_or}
 use Rattle.std.proofs.lemmas.Bool.{cases_Bool}
 use Rattle.nfs_xdr.specs.Checks.{first_fault}
 use Rattle.nfs_xdr.specs.declared.time.Time.{Time}
 use Rattle.nfs_xdr.specs.declared.status.Status.{Status}
-use Rattle.nfs_xdr.specs.declared.status.Status.TheVariants.{BadStateId, Inval, NoGrace, NotSupp, OpenMode, ServerFault}
+use Rattle.nfs_xdr.specs.declared.status.Status.TheVariants.{BadStateId, Inval, LocksHeld, NoGrace, NotSupp, OpenMode, ServerFault}
 use Rattle.nfs_compound.specs.Arguments.{arguments}
 use Rattle.nfs_compound.specs.LockArgs as args
 use Rattle.nfs_compound.specs.OpNum.{op_number}
@@ -26,7 +25,6 @@ use Rattle.nfs_opens.specs.declared.share.Share.{Share}
 use Rattle.nfs_opens.specs.declared.stateid.StateId.{StateId}
 use Rattle.nfs_opens.specs.declared.stateid.CurrentSeqid.{CurrentSeqid}
 use Rattle.nfs_opens.specs.declared.stateid.CurrentSeqid.TheVariants.{Any, Own}
-use Rattle.nfs_opens.specs.declared.records.OpenState.{OpenState}
 use Rattle.nfs_opens.specs.declared.records.LockState.{LockState}
 use Rattle.nfs_opens.specs.declared.judging.Seat.{Seat}
 use Rattle.nfs_opens.specs.declared.judging.Seat.TheVariants as Seats
@@ -35,8 +33,8 @@ use Rattle.nfs_opens.specs.declared.judging.Sort.TheVariants.{OpenOnly, LockOnly
 use Rattle.nfs_opens.specs.declared.locking.Wish.{Wish}
 use Rattle.nfs_opens.specs.declared.locking.OpenFault.{OpenFault}
 use Rattle.nfs_opens.specs.declared.locking.OpenFault.TheVariants as F
-use Rattle.nfs_opens.specs.StateId.{last_number, is_anonymous, is_bypass, is_current, has_zeros, has_ones, with_seqid, resolved}
-use Rattle.nfs_opens.specs.Table.{Table, Did, lock_at, open_at}
+use Rattle.nfs_opens.specs.StateId.{last_number, is_anonymous, is_bypass, is_current, has_zeros, has_ones, with_seqid}
+use Rattle.nfs_opens.specs.Table.{Table, lock_at, open_at}
 use Rattle.nfs_opens.specs.Judging.{judge, judge_named, judge_checks, named, seated, special}
 use Rattle.nfs_opens.specs.Closing as closing
 use Rattle.nfs_opens.specs.Opening as opening
@@ -44,7 +42,7 @@ use Rattle.nfs_opens.specs.Locking as locking
 use Rattle.nfs_names.specs.declared.context.Context.{Context}
 use Rattle.nfs_names.specs.declared.node.Node.{Node}
 use Rattle.nfs_names.specs.State.{State}
-use Rattle.nfs_names.specs.Outcome.{checked, mapped, passed, is_delay}
+use Rattle.nfs_names.specs.Outcome.{checked, is_delay}
 use Rattle.nfs_names.specs.Checks.{current}
 use Rattle.nfs_names.specs.Create.{attributes_in}
 use Rattle.nfs_names.proofs.Faulted.{status_of_refusal}
@@ -60,7 +58,7 @@ use Rattle.nfs_files.specs.Commit.{commit}
 use Rattle.nfs_files.specs.FreeStateid.{frees, free_stateid}
 use Rattle.nfs_files.specs.Lock as of_lock
 use Rattle.nfs_files.specs.LockT.{tested, lock_t}
-use Rattle.nfs_files.specs.LockU.{unlocking, unlocked, unlocks, lock_u}
+use Rattle.nfs_files.specs.LockU.{unlocking, unlocks, lock_u}
 use Rattle.nfs_files.specs.Open as of_open
 use Rattle.nfs_files.specs.OpenDowngrade.{bits, bit_checks, narrowing, narrows, open_downgrade}
 use Rattle.nfs_files.specs.Read.{read}
@@ -69,6 +67,7 @@ use Rattle.nfs_files.specs.SetAttr.{set_attr}
 use Rattle.nfs_files.specs.TestStateid.{test_stateid}
 use Rattle.nfs_files.specs.Write.{write}
 use Rattle.nfs_files.proofs.Prompt.{IsPrompt, calm, first_prompt, err_prompt, ok_prompt, checked_prompt, mapped_prompt, then_prompt, wanted_prompt, answered_prompt, current_prompt}
+use Rattle.nfs_opens.specs.Steps.{◌>>=◌, require, map_err}
 
 -- Stateids.
 
@@ -161,82 +160,66 @@ wished_prompt : (x : Context) (given : Stateid) (v : Result Wish Status) → IsP
 wished_prompt x given v is = then_prompt v _ is (λ w. mapped_prompt _ (meant x Any given) (meant_prompt x Any given))
 
 -- what the table of opens refuses
-abbrev IsPromptFault : {A : Type 0} → Result A OpenFault → Type 0
-IsPromptFault v = (fault : OpenFault) → v ≡ Err fault → is_delay (status_of fault) ≡ false
+there_prompt : {A F : Type 0} (g : F → Status) (o : Option A) (f : F) → is_delay (g f) ≡ false → IsPrompt (map_err g (ok_or o f))
+there_prompt g None f is = err_prompt (g f) is
+there_prompt g (Some a) f is = ok_prompt a
 
-fault_prompt : {A : Type 0} (fault : OpenFault) → is_delay (status_of fault) ≡ false → IsPromptFault {A = A} (Err fault)
-fault_prompt fault fails other e = let same : fault ≡ other = cc in ap (λ (f : OpenFault). is_delay (status_of f)) (sym same) ∙ fails
+required_prompt : {F : Type 0} (g : F → Status) (b : Bool) (f : F) → is_delay (g f) ≡ false → IsPrompt (map_err g (require b f))
+required_prompt g true f is = ok_prompt tt
+required_prompt g false f is = err_prompt (g f) is
 
-done_prompt : {A : Type 0} (a : A) → IsPromptFault (Ok a)
-done_prompt a fault e = absurd cc
+next_prompt : {A B F : Type 0} (g : F → Status) (v : Result A F) (next : A → Result B F) → IsPrompt (map_err g v) → ((a : A) → IsPrompt (map_err g (next a)))
+    → IsPrompt (map_err g (v >>= next))
+next_prompt g (Err f) next is more = err_prompt (g f) (is (g f) refl)
+next_prompt g (Ok a) next is more = more a
 
-told_prompt : (o : Option Held) → IsPromptFault (locking.unless_told o)
-told_prompt None = done_prompt tt
-told_prompt (Some h) = fault_prompt (F.Denied h) refl
+fault_prompt : (v : Result Seat Status) → IsPrompt v → IsPrompt (map_err status_of (map_err F.Refused v))
+fault_prompt (Err status) is = err_prompt status (is status refl)
+fault_prompt (Ok seat) is = ok_prompt seat
 
-judged_prompt : (t : Table) (n : ℕ) (access : Share) (w : Wish) → IsPromptFault (locking.lock_judged t n access w)
+told_prompt : (o : Option Held) → IsPrompt (map_err status_of (locking.unless_told o))
+told_prompt None = ok_prompt tt
+told_prompt (Some h) = err_prompt (status_of (F.Denied h)) refl
+
+judged_prompt : (t : Table) (n : ℕ) (access : Share) (w : Wish) → IsPrompt (map_err status_of (locking.lock_judged t n access w))
 judged_prompt t n access w = go (locking.permits access w.kind)
   where
-    go : (b : Bool) → IsPromptFault (cond b (locking.unless_told (locking.clash t n w)) (Err (F.Refused OpenMode)))
+    go : (b : Bool) → IsPrompt (map_err status_of (cond b (locking.unless_told (locking.clash t n w)) (Err (F.Refused OpenMode))))
     go true = told_prompt (locking.clash t n w)
-    go false = fault_prompt (F.Refused OpenMode) refl
+    go false = err_prompt OpenMode refl
 
-more_prompt : (t : Table) (w : Wish) (n : ℕ) (o : Option LockState) → IsPromptFault (locking.lock_more t w n o).answer
-more_prompt t w n None = fault_prompt (F.Refused BadStateId) refl
-more_prompt t w n (Some l) = done_prompt _
-
-new_prompt : (t : Table) (w : Wish) (opened : ℕ) (owner : List ℕ) → IsPromptFault (locking.lock_new t w opened owner).answer
-new_prompt t w opened owner = elim (cases_Bool (t.last == last_number)) [
-  | inl full ↦ rw full (fault_prompt (F.Refused ServerFault) refl)
-  | inr room ↦ rw room (done_prompt _)
-]
-
-granted_prompt : (t : Table) (v : Result (Unit {0}) OpenFault) (did : Did StateId OpenFault) → IsPromptFault v → IsPromptFault did.answer → IsPromptFault (locking.does_if t v did).answer
-granted_prompt t (Err fault) did is granted = fault_prompt fault (is fault refl)
-granted_prompt t (Ok u) did is granted = granted
-
-as_prompt : (t : Table) (w : Wish) (n : ℕ) (access : Share) → IsPromptFault (locking.lock_as t w n access).answer
+as_prompt : (t : Table) (w : Wish) (n : ℕ) (access : Share) → IsPrompt (map_err status_of (locking.lock_as t w n access))
 as_prompt t w n access =
-    granted_prompt t (locking.lock_judged t n access w) (locking.lock_more t w n (lock_at t n)) (judged_prompt t n access w) (more_prompt t w n (lock_at t n))
+    next_prompt status_of (locking.lock_judged t n access w) _ (judged_prompt t n access w) (λ u.
+    next_prompt status_of (ok_or (lock_at t n) (F.Refused BadStateId)) _ (there_prompt status_of (lock_at t n) (F.Refused BadStateId) refl) (λ l. ok_prompt _))
 
 owner_prompt : (t : Table) (w : Wish) (opened : ℕ) (owner : List ℕ) (access : Share) (o : Option LockState)
-    → IsPromptFault (locking.lock_by_owner t w opened owner access o).answer
+    → IsPrompt (map_err status_of (locking.lock_by_owner t w opened owner access o))
 owner_prompt t w opened owner access (Some l) = as_prompt t w l.number access
 owner_prompt t w opened owner access None =
-    granted_prompt t (locking.lock_judged t 0 access w) (locking.lock_new t w opened owner) (judged_prompt t 0 access w) (new_prompt t w opened owner)
+    next_prompt status_of (locking.lock_judged t 0 access w) _ (judged_prompt t 0 access w) (λ u.
+    next_prompt status_of (require (not (t.last == last_number)) (F.Refused ServerFault)) _ (required_prompt status_of _ (F.Refused ServerFault) refl) (λ u. ok_prompt _))
 
-under_prompt : (t : Table) (w : Wish) (opened : ℕ) (owner : List ℕ) (v : Result Seat Status) → IsPrompt v → IsPromptFault (locking.lock_under t w opened owner v).answer
-under_prompt t w opened owner (Err status) is = fault_prompt (F.Refused status) (is status refl)
-under_prompt t w opened owner (Ok k) is = owner_prompt t w opened owner (locking.access_in k) (locking.state_of t w.client owner w.file)
-
-known_prompt : (t : Table) (w : Wish) (n : ℕ) (v : Result Seat Status) → IsPrompt v → IsPromptFault (locking.lock_known t w n v).answer
-known_prompt t w n (Err status) is = fault_prompt (F.Refused status) (is status refl)
-known_prompt t w n (Ok k) is = as_prompt t w n (locking.access_in k)
-
-locks_prompt : (t : Table) (who : args.Locker) (id : StateId) (w : Wish) → IsPromptFault (of_lock.locks_as t who id w).answer
+locks_prompt : (t : Table) (who : args.Locker) (id : StateId) (w : Wish) → IsPrompt (map_err status_of (of_lock.locks_as t who id w))
 locks_prompt t (args.OpenOwner o) id w =
-    under_prompt t w id.number o.lock_owner.owner (judge t id w.client (Some w.file) OpenOnly) (judge_prompt t id w.client (Some w.file) OpenOnly)
-locks_prompt t (args.LockOwner o) id w = known_prompt t w id.number (judge t id w.client (Some w.file) LockOnly) (judge_prompt t id w.client (Some w.file) LockOnly)
+    next_prompt status_of (map_err F.Refused (judge t id w.client (Some w.file) OpenOnly)) _ (fault_prompt _ (judge_prompt t id w.client (Some w.file) OpenOnly))
+    (λ seat. owner_prompt t w id.number o.lock_owner.owner (locking.access_in seat) (locking.state_of t w.client o.lock_owner.owner w.file))
+locks_prompt t (args.LockOwner o) id w =
+    next_prompt status_of (map_err F.Refused (judge t id w.client (Some w.file) LockOnly)) _ (fault_prompt _ (judge_prompt t id w.client (Some w.file) LockOnly))
+    (λ seat. as_prompt t w id.number (locking.access_in seat))
 
-locked_prompt : (s : State) (x : Context) (after : Table) (v : Result StateId OpenFault) → IsPromptFault v
-    → is_delay (status_of_result (of_lock.locked s x after v).result) ≡ false
-locked_prompt s x after (Ok id) is = refl
-locked_prompt s x after (Err (F.Refused status)) is = ap is_delay (status_of_refusal 12 status) ∙ is (F.Refused status) refl
-locked_prompt s x after (Err (F.Denied h)) is = refl
-locked_prompt s x after (Err F.Memory) is = absurd (let bad : true ≡ false = is F.Memory refl in cc)
+locked_prompt : (s : State) (x : Context) (v : Result (StateId × Table) OpenFault) → IsPrompt (map_err status_of v)
+    → is_delay (status_of_result (of_lock.locked s x v).result) ≡ false
+locked_prompt s x (Ok did) is = refl
+locked_prompt s x (Err (F.Refused status)) is = ap is_delay (status_of_refusal 12 status) ∙ is status refl
+locked_prompt s x (Err (F.Denied h)) is = refl
+locked_prompt s x (Err F.Memory) is = absurd (let bad : true ≡ false = is (status_of F.Memory) refl in cc)
 
-clear_prompt : (t : Table) (n file first last : ℕ) (o : Option LockState) → IsPromptFault (locking.clear_lock t n file first last o).answer
-clear_prompt t n file first last None = fault_prompt (F.Refused BadStateId) refl
-clear_prompt t n file first last (Some l) = done_prompt _
-
-unlock_prompt : (t : Table) (n file first last : ℕ) (v : Result Seat Status) → IsPrompt v → IsPromptFault (locking.unlock_by t n file first last v).answer
-unlock_prompt t n file first last (Err status) is = fault_prompt (F.Refused status) (is status refl)
-unlock_prompt t n file first last (Ok k) is = clear_prompt t n file first last (lock_at t n)
-
-unlocked_prompt : (s : State) (x : Context) (after : Table) (v : Result StateId OpenFault) → IsPromptFault v
-    → is_delay (status_of_result (unlocked s x after v).result) ≡ false
-unlocked_prompt s x after (Ok id) is = refl
-unlocked_prompt s x after (Err fault) is = ap is_delay (status_of_refusal 14 (status_of fault)) ∙ is fault refl
+unlock_prompt : (t : Table) (id : StateId) (client file first last : ℕ) → IsPrompt (map_err status_of (locking.unlock t id client file first last))
+unlock_prompt t id client file first last =
+    next_prompt status_of (map_err F.Refused (judge t id client (Some file) LockOnly)) _ (fault_prompt _ (judge_prompt t id client (Some file) LockOnly)) (λ seat.
+    next_prompt status_of (ok_or (lock_at t id.number) (F.Refused BadStateId)) _ (there_prompt status_of (lock_at t id.number) (F.Refused BadStateId) refl)
+    (λ l. ok_prompt _))
 
 tested_prompt : (s : State) (x : Context) (o : Option Held) → is_delay (status_of_result (tested s x o).result) ≡ false
 tested_prompt s x None = refl
@@ -244,34 +227,32 @@ tested_prompt s x (Some h) = refl
 
 -- Opens.
 
-closed_prompt : (t : Table) (n : ℕ) (v : Result Seat Status) → IsPrompt v → IsPrompt (closing.close_by t n v).answer
-closed_prompt t n (Err status) is = err_prompt status (is status refl)
-closed_prompt t n (Ok k) is = ok_prompt tt
+lock_in_prompt : (seat : Seat) → IsPrompt (closing.lock_in seat)
+lock_in_prompt Seats.Anonymous = err_prompt BadStateId refl
+lock_in_prompt Seats.ReadBypass = err_prompt BadStateId refl
+lock_in_prompt (Seats.Open number access) = err_prompt _ refl
+lock_in_prompt (Seats.Lock number access) = ok_prompt number
 
-free_lock_prompt : (t : Table) (n : ℕ) (o : Option LockState) → IsPrompt (closing.free_lock t n o).answer
-free_lock_prompt t n None = err_prompt BadStateId refl
-free_lock_prompt t n (Some l) = elim (cases_Bool (holds_any (t.held l.file) n)) [
-  | inl held ↦ rw held (err_prompt _ refl)
-  | inr none ↦ rw none (ok_prompt tt)
-]
+found_or : {A : Type 0} (o : Option A) (status : Status) → is_delay status ≡ false → IsPrompt (ok_or o status)
+found_or None status is = err_prompt status is
+found_or (Some a) status is = ok_prompt a
 
-free_prompt : (t : Table) (v : Result Seat Status) → IsPrompt v → IsPrompt (closing.free_by t v).answer
-free_prompt t (Err status) is = err_prompt status (is status refl)
-free_prompt t (Ok Seats.Anonymous) is = err_prompt BadStateId refl
-free_prompt t (Ok Seats.ReadBypass) is = err_prompt BadStateId refl
-free_prompt t (Ok (Seats.Open number access)) is = err_prompt _ refl
-free_prompt t (Ok (Seats.Lock number access)) is = free_lock_prompt t number (lock_at t number)
+holds_or : (b : Bool) (status : Status) → is_delay status ≡ false → IsPrompt (require b status)
+holds_or true status is = ok_prompt tt
+holds_or false status is = err_prompt status is
 
-narrow_prompt : (t : Table) (n : ℕ) (access deny : Share) (o : Option OpenState) → IsPrompt (opening.narrow_open t n access deny o).answer
-narrow_prompt t n access deny None = err_prompt BadStateId refl
-narrow_prompt t n access deny (Some o) = elim (cases_Bool (opening.is_narrower access deny o)) [
-  | inl part ↦ rw part (ok_prompt _)
-  | inr more ↦ rw more (err_prompt Inval refl)
-]
+free_prompt : (t : Table) (id : StateId) (client : ℕ) → IsPrompt (closing.free t id client)
+free_prompt t id client =
+    then_prompt (judge t id client None Either) _ (judge_prompt t id client None Either) (λ seat.
+    then_prompt (closing.lock_in seat) _ (lock_in_prompt seat) (λ n.
+    then_prompt (ok_or (lock_at t n) BadStateId) _ (found_or (lock_at t n) BadStateId refl) (λ l.
+    then_prompt (require (not (holds_any (t.held l.file) n)) LocksHeld) _ (holds_or _ LocksHeld refl) (λ u. ok_prompt _))))
 
-downgrade_prompt : (t : Table) (n : ℕ) (access deny : Share) (v : Result Seat Status) → IsPrompt v → IsPrompt (opening.downgrade_by t n access deny v).answer
-downgrade_prompt t n access deny (Err status) is = err_prompt status (is status refl)
-downgrade_prompt t n access deny (Ok k) is = narrow_prompt t n access deny (open_at t n)
+downgrade_prompt : (t : Table) (id : StateId) (client file : ℕ) (access deny : Share) → IsPrompt (opening.downgrade t id client file access deny)
+downgrade_prompt t id client file access deny =
+    then_prompt (judge t id client (Some file) OpenOnly) _ (judge_prompt t id client (Some file) OpenOnly) (λ seat.
+    then_prompt (ok_or (open_at t id.number) BadStateId) _ (found_or (open_at t id.number) BadStateId refl) (λ o.
+    then_prompt (require (opening.is_narrower access deny o) Inval) _ (holds_or _ Inval refl) (λ u. ok_prompt _)))
 
 found_prompt : (s : State) (x : Context) (o : Open) (m : _) (there : Option ℕ) → IsPrompt (of_open.found_by s x o m there)
 unfolding current
@@ -308,15 +289,15 @@ close_prompt : (s : State) (x : Context) (a : Close) → is_delay (status_of_res
 unfolding close
 close_prompt s x a =
     answered_prompt s x Num.Close (target s x Own a.open_stateid) (closes s x) (target_prompt s x Own a.open_stateid) (λ t.
-    answered_prompt s x Num.Close (closing.close s.opens t.id x.client t.file).answer _
-    (closed_prompt s.opens t.id.number _ (judge_prompt s.opens t.id x.client (Some t.file) OpenOnly)) (λ u. refl))
+    answered_prompt s x Num.Close (closing.close s.opens t.id x.client t.file) _
+    (then_prompt (judge s.opens t.id x.client (Some t.file) OpenOnly) _ (judge_prompt s.opens t.id x.client (Some t.file) OpenOnly) (λ seat. ok_prompt _))
+    (λ did. refl))
 
 freed_prompt : (s : State) (x : Context) (given : Stateid) → is_delay (status_of_result (free_stateid s x given).result) ≡ false
 unfolding free_stateid
 freed_prompt s x given =
     answered_prompt s x Num.FreeStateid (meant x Any given) (frees s x) (meant_prompt x Any given) (λ id.
-    answered_prompt s x Num.FreeStateid (closing.free s.opens id x.client).answer _
-    (free_prompt s.opens _ (judge_prompt s.opens id x.client None Either)) (λ u. refl))
+    answered_prompt s x Num.FreeStateid (closing.free s.opens id x.client) _ (free_prompt s.opens id x.client) (λ did. refl))
 
 lock_prompt : (s : State) (x : Context) (a : args.Lock) → is_delay (status_of_result (of_lock.lock s x a).result) ≡ false
 unfolding of_lock.lock
@@ -324,15 +305,16 @@ lock_prompt s x a =
     answered_prompt s x Num.Lock (of_lock.locking s x a) (of_lock.locks s x a.locker)
     (wished_prompt x (of_lock.stateid_in a.locker) _
     (checked_prompt (wished s x a.locktype a.offset a.length) (of_lock.reclaim_checks a) (wish_prompt s x a.locktype a.offset a.length) (λ w. refl)))
-    (λ k. locked_prompt s x _ _ (locks_prompt s.opens a.locker k.id k.wish))
+    (λ k. locked_prompt s x (of_lock.locks_as s.opens a.locker k.id k.wish) (locks_prompt s.opens a.locker k.id k.wish))
 
 lock_u_prompt : (s : State) (x : Context) (a : LockU) → is_delay (status_of_result (lock_u s x a).result) ≡ false
 unfolding lock_u
 lock_u_prompt s x a =
     answered_prompt s x Num.LockU (unlocking s x a) (unlocks s x)
     (wished_prompt x a.lock_stateid _ (wish_prompt s x a.locktype a.offset a.length)) (λ k.
-    unlocked_prompt s x _ _ (unlock_prompt s.opens k.id.number k.wish.file k.wish.first k.wish.last _
-    (judge_prompt s.opens k.id k.wish.client (Some k.wish.file) LockOnly)))
+    (let w = k.wish in
+    answered_prompt s x Num.LockU (map_err status_of (locking.unlock s.opens k.id w.client w.file w.first w.last)) _
+    (unlock_prompt s.opens k.id w.client w.file w.first w.last) (λ did. refl)))
 
 narrows_prompt : (s : State) (x : Context) (a : OpenDowngrade) → is_delay (status_of_result (open_downgrade s x a).result) ≡ false
 unfolding open_downgrade
@@ -340,8 +322,8 @@ narrows_prompt s x a =
     answered_prompt s x Num.OpenDowngrade (narrowing s x a) (narrows s x a)
     (if_prompt (target s x Own a.open_stateid) _ (target_prompt s x Own a.open_stateid) (λ t.
     checked_prompt (judge s.opens t.id x.client (Some t.file) OpenOnly) (bit_checks a) (judge_prompt s.opens t.id x.client (Some t.file) OpenOnly) (λ k. refl)))
-    (λ t. answered_prompt s x Num.OpenDowngrade (opening.downgrade s.opens t.id x.client t.file (bits a.share_access) (bits a.share_deny)).answer _
-    (downgrade_prompt s.opens t.id.number (bits a.share_access) (bits a.share_deny) _ (judge_prompt s.opens t.id x.client (Some t.file) OpenOnly)) (λ id. refl))
+    (λ t. answered_prompt s x Num.OpenDowngrade (opening.downgrade s.opens t.id x.client t.file (bits a.share_access) (bits a.share_deny)) _
+    (downgrade_prompt s.opens t.id x.client t.file (bits a.share_access) (bits a.share_deny)) (λ did. refl))
 
 pub files_prompt : (s : State) (x : Context) (now : Time) (op : Op) → is_delay (status_of_result (one s x now op).result) ≡ false
 unfolding commit lock_t of_open.open_file read set_attr test_stateid write

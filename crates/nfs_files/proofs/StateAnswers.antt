@@ -1,6 +1,6 @@
 -- CLOSE, FREE_STATEID, LOCKU and OPEN_DOWNGRADE: the results that they may have.
-use Rattle.std.proofs.Common.{◌≡◌, ℕ, Bool, true, false, cond, length, Option, Some, None, refl, arith}
-use Rattle.std.specs.Prelude.{Result, Ok, Err}
+use Rattle.std.proofs.Common.{◌≡◌, ℕ, Bool, true, false, length, Option, Some, None, refl, arith}
+use Rattle.std.specs.Prelude.{Result, Ok, Err, ok_or, not}
 use Rattle.std.proofs.lemmas.List.{length-append}
 use Rattle.nfs_xdr.specs.Spelling.{number, hyper}
 use Rattle.nfs_xdr.specs.declared.status.Status.{Status}
@@ -19,14 +19,15 @@ use Rattle.nfs_opens.specs.declared.share.Share.{Share}
 use Rattle.nfs_opens.specs.declared.stateid.StateId.{StateId}
 use Rattle.nfs_opens.specs.declared.stateid.CurrentSeqid.{CurrentSeqid}
 use Rattle.nfs_opens.specs.declared.stateid.CurrentSeqid.TheVariants.{Own, Any}
-use Rattle.nfs_opens.specs.declared.records.OpenState.{OpenState}
-use Rattle.nfs_opens.specs.declared.records.LockState.{LockState}
 use Rattle.nfs_opens.specs.declared.judging.Seat.{Seat}
 use Rattle.nfs_opens.specs.declared.judging.Seat.TheVariants as Seats
 use Rattle.nfs_opens.specs.declared.judging.Sort.TheVariants.{OpenOnly, LockOnly, Either}
 use Rattle.nfs_opens.specs.declared.locking.Wish.{Wish}
-use Rattle.nfs_opens.specs.StateId.{next_seqid}
-use Rattle.nfs_opens.specs.Table.{Table, Did, open_at, lock_at}
+use Rattle.nfs_opens.specs.Steps.{◌>>=◌, require, map_err}
+use Rattle.nfs_opens.specs.Table.{Table, open_at, lock_at}
+use Rattle.nfs_opens.specs.declared.locking.OpenFault.TheVariants as F
+use Rattle.nfs_files.specs.declared.ranges.Wished.{Wished}
+use Rattle.nfs_files.specs.Denied.{status_of}
 use Rattle.nfs_opens.specs.Judging.{judge}
 use Rattle.nfs_opens.specs.Closing as closing
 use Rattle.nfs_opens.specs.Opening as opening
@@ -36,7 +37,7 @@ use Rattle.nfs_names.specs.State.{State}
 use Rattle.nfs_names.specs.Outcome.{done}
 use Rattle.nfs_names.specs.Checks.{current}
 use Rattle.nfs_names.proofs.Bounds.{IsAnswer, current_refuses}
-use Rattle.nfs_names.proofs.Refusing.{Refuses, refuses_checked, refuses_mapped, refuses_then, answers_with, err_refuses, ok_refuses}
+use Rattle.nfs_names.proofs.Refusing.{Refuses, IsRefusal, refuses_checked, refuses_mapped, refuses_then, answers_with, err_refuses, ok_refuses}
 use Rattle.nfs_files.specs.declared.target.Target.{Target}
 use Rattle.nfs_files.specs.StateIds.{meant, wire_id}
 use Rattle.nfs_files.specs.Bytes.{file_checks}
@@ -61,38 +62,38 @@ target_refuses s x form given = refuses_then (the_file s x) _ (the_file_refuses 
     refuses_mapped (λ id. record { file = d.number; id = id }) (meant x form given) (meant_refuses x form given))
 
 -- what the table of opens refuses
-held_refuses : {A : Type 0} → Refuses {A = A} (Err S.LocksHeld)
-held_refuses = err_refuses S.LocksHeld (record { done = refl; legal = refl })
+there_refuses : {A : Type 0} (o : Option A) → Refuses (ok_or o S.BadStateId)
+there_refuses None = bad
+there_refuses (Some a) = ok_refuses a
 
-invalid_refuses : {A : Type 0} → Refuses {A = A} (Err S.Inval)
-invalid_refuses = err_refuses S.Inval (record { done = refl; legal = refl })
+required_refuses : (b : Bool) (status : Status) → IsRefusal status → Refuses (require b status)
+required_refuses true status is = ok_refuses (tt {0})
+required_refuses false status is = err_refuses status is
 
-either_refuses : {X : Type 0} (b : Bool) (here there : Did X Status) → Refuses here.answer → Refuses there.answer → Refuses (cond b here there).answer
-either_refuses true here there y n = y
-either_refuses false here there y n = n
+lock_in_refuses : (seat : Seat) → Refuses (closing.lock_in seat)
+lock_in_refuses Seats.Anonymous = bad
+lock_in_refuses Seats.ReadBypass = bad
+lock_in_refuses (Seats.Open number access) = err_refuses S.LocksHeld (record { done = refl; legal = refl })
+lock_in_refuses (Seats.Lock number access) = ok_refuses number
 
-close_by_refuses : (t : Table) (n : ℕ) (v : Result Seat Status) → Refuses v → Refuses (closing.close_by t n v).answer
-close_by_refuses t n (Err status) h = err_refuses status (h.each status refl)
-close_by_refuses t n (Ok seat) h = ok_refuses (tt {0})
+close_refuses : (t : Table) (id : StateId) (client file : ℕ) → Refuses (closing.close t id client file)
+close_refuses t id client file =
+    refuses_then (judge t id client (Some file) OpenOnly) _ (judge_refuses t id client (Some file) OpenOnly) (λ seat. ok_refuses _)
 
-free_lock_refuses : (t : Table) (n : ℕ) (l : Option LockState) → Refuses (closing.free_lock t n l).answer
-free_lock_refuses t n None = bad
-free_lock_refuses t n (Some l) = either_refuses (holds_any (t.held l.file) n) _ _ held_refuses (ok_refuses (tt {0}))
+free_refuses : (t : Table) (id : StateId) (client : ℕ) → Refuses (closing.free t id client)
+free_refuses t id client =
+    refuses_then (judge t id client None Either) _ (judge_refuses t id client None Either) (λ seat.
+    refuses_then (closing.lock_in seat) _ (lock_in_refuses seat) (λ n.
+    refuses_then (ok_or (lock_at t n) S.BadStateId) _ (there_refuses (lock_at t n)) (λ l.
+    refuses_then (require (not (holds_any (t.held l.file) n)) S.LocksHeld) _ (required_refuses _ S.LocksHeld (record { done = refl; legal = refl })) (λ u.
+    ok_refuses _))))
 
-free_by_refuses : (t : Table) (v : Result Seat Status) → Refuses v → Refuses (closing.free_by t v).answer
-free_by_refuses t (Err status) h = err_refuses status (h.each status refl)
-free_by_refuses t (Ok Seats.Anonymous) h = bad
-free_by_refuses t (Ok Seats.ReadBypass) h = bad
-free_by_refuses t (Ok (Seats.Open number access)) h = held_refuses
-free_by_refuses t (Ok (Seats.Lock number access)) h = free_lock_refuses t number (lock_at t number)
-
-narrow_refuses : (t : Table) (n : ℕ) (access deny : Share) (o : Option OpenState) → Refuses (opening.narrow_open t n access deny o).answer
-narrow_refuses t n access deny None = bad
-narrow_refuses t n access deny (Some o) = either_refuses (opening.is_narrower access deny o) _ _ (ok_refuses _) invalid_refuses
-
-downgrade_by_refuses : (t : Table) (n : ℕ) (access deny : Share) (v : Result Seat Status) → Refuses v → Refuses (opening.downgrade_by t n access deny v).answer
-downgrade_by_refuses t n access deny (Err status) h = err_refuses status (h.each status refl)
-downgrade_by_refuses t n access deny (Ok seat) h = narrow_refuses t n access deny (open_at t n)
+downgrade_refuses : (t : Table) (id : StateId) (client file : ℕ) (access deny : Share) → Refuses (opening.downgrade t id client file access deny)
+downgrade_refuses t id client file access deny =
+    refuses_then (judge t id client (Some file) OpenOnly) _ (judge_refuses t id client (Some file) OpenOnly) (λ seat.
+    refuses_then (ok_or (open_at t id.number) S.BadStateId) _ (there_refuses (open_at t id.number)) (λ o.
+    refuses_then (require (opening.is_narrower access deny o) S.Inval) _ (required_refuses _ S.Inval (record { done = refl; legal = refl })) (λ u.
+    ok_refuses _)))
 
 -- a stateid's bytes are 12
 pub length_id : (id : StateId) → length (wire_id id).other ≡ 12
@@ -101,11 +102,10 @@ length_id id = omega (arith, length-append (number id.instance) (hyper id.number
 -- CLOSE
 closes_may : (s : State) (x : Context) (a : Close) (t : Target) → IsAnswer (Operation (OpClose a)) (closes s x t).result
 closes_may s x a t =
-    let did = closing.close s.opens t.id x.client t.file in
-    answers_with (IsAnswer (Operation (OpClose a))) s x Num.Close did.answer (λ u. closed s x t.file did.after)
-    (close_by_refuses s.opens t.id.number (judge s.opens t.id x.client (Some t.file) OpenOnly) (judge_refuses s.opens t.id x.client (Some t.file) OpenOnly))
+    answers_with (IsAnswer (Operation (OpClose a))) s x Num.Close (closing.close s.opens t.id x.client t.file) (λ did. closed s x t.file did.1)
+    (close_refuses s.opens t.id x.client t.file)
     (λ status h. record { may = (refl, rw (h.done, h.legal) refl, tt); arrays = tt })
-    (λ u. record { may = (refl, tt, tt); arrays = refl })
+    (λ did. record { may = (refl, tt, tt); arrays = refl })
 
 pub may_close : (s : State) (x : Context) (a : Close) → IsAnswer (Operation (OpClose a)) (close s x a).result
 unfolding close
@@ -117,11 +117,10 @@ may_close s x a =
 -- FREE_STATEID
 frees_may : (s : State) (x : Context) (given : Stateid) (id : StateId) → IsAnswer (Operation (OpFreeStateid given)) (frees s x id).result
 frees_may s x given id =
-    let did = closing.free s.opens id x.client in
-    answers_with (IsAnswer (Operation (OpFreeStateid given))) s x Num.FreeStateid did.answer (λ u. done (with_opens s did.after) x ResFreeStateid)
-    (free_by_refuses s.opens (judge s.opens id x.client None Either) (judge_refuses s.opens id x.client None Either))
+    answers_with (IsAnswer (Operation (OpFreeStateid given))) s x Num.FreeStateid (closing.free s.opens id x.client)
+    (λ did. done (with_opens s did.1) x ResFreeStateid) (free_refuses s.opens id x.client)
     (λ status h. record { may = (refl, rw (h.done, h.legal) refl, tt); arrays = tt })
-    (λ u. record { may = (refl, tt, tt); arrays = tt })
+    (λ did. record { may = (refl, tt, tt); arrays = tt })
 
 pub may_free : (s : State) (x : Context) (given : Stateid) → IsAnswer (Operation (OpFreeStateid given)) (free_stateid s x given).result
 unfolding free_stateid
@@ -133,14 +132,11 @@ may_free s x given =
 -- OPEN_DOWNGRADE
 narrows_may : (s : State) (x : Context) (a : OpenDowngrade) (t : Target) → IsAnswer (Operation (OpOpenDowngrade a)) (narrows s x a t).result
 narrows_may s x a t =
-    let access = bits a.share_access in
-    let deny = bits a.share_deny in
-    let did = opening.downgrade s.opens t.id x.client t.file access deny in
-    answers_with (IsAnswer (Operation (OpOpenDowngrade a))) s x Num.OpenDowngrade did.answer (λ id. narrowed s x id did.after)
-    (downgrade_by_refuses s.opens t.id.number access deny (judge s.opens t.id x.client (Some t.file) OpenOnly)
-    (judge_refuses s.opens t.id x.client (Some t.file) OpenOnly))
+    answers_with (IsAnswer (Operation (OpOpenDowngrade a))) s x Num.OpenDowngrade
+    (opening.downgrade s.opens t.id x.client t.file (bits a.share_access) (bits a.share_deny)) (λ did. narrowed s x did.0 did.1)
+    (downgrade_refuses s.opens t.id x.client t.file (bits a.share_access) (bits a.share_deny))
     (λ status h. record { may = (refl, rw (h.done, h.legal) refl, tt); arrays = tt })
-    (λ id. record { may = (refl, tt, tt); arrays = length_id id })
+    (λ did. record { may = (refl, tt, tt); arrays = length_id did.0 })
 
 pub may_downgrade : (s : State) (x : Context) (a : OpenDowngrade) → IsAnswer (Operation (OpOpenDowngrade a)) (open_downgrade s x a).result
 unfolding open_downgrade
@@ -166,18 +162,33 @@ wished_by_refuses : (x : Context) (given : Stateid) (v : Result Wish Status) →
 wished_by_refuses x given v h = refuses_then v _ h (λ w.
     refuses_mapped (λ id. record { wish = w; id = id }) (meant x Any given) (meant_refuses x Any given))
 
-cleared_may : (s : State) (x : Context) (a : LockU) (n file first last : ℕ) (l : Option LockState)
-    → IsAnswer (Operation (OpLockU a)) (let did = locking.clear_lock s.opens n file first last l in unlocked s x did.after did.answer).result
-cleared_may s x a n file first last None = record { may = (refl, refl, tt); arrays = tt }
-cleared_may s x a n file first last (Some l) = record {
-  may = (refl, tt, tt);
-  arrays = length_id (record { seqid = next_seqid l.seqid; instance = s.opens.instance; number = n });
-}
+then_refuses : {A B F : Type 0} (g : F → Status) (v : Result A F) (next : A → Result B F) → Refuses (map_err g v) → ((a : A) → Refuses (map_err g (next a)))
+    → Refuses (map_err g (v >>= next))
+then_refuses g (Err f) next h each = err_refuses (g f) (h.each (g f) refl)
+then_refuses g (Ok a) next h each = each a
 
-unlocked_may : (s : State) (x : Context) (a : LockU) (n file first last : ℕ) (v : Result Seat Status) → Refuses v
-    → IsAnswer (Operation (OpLockU a)) (let did = locking.unlock_by s.opens n file first last v in unlocked s x did.after did.answer).result
-unlocked_may s x a n file first last (Err status) h = let no = h.each status refl in record { may = (refl, rw (no.done, no.legal) refl, tt); arrays = tt }
-unlocked_may s x a n file first last (Ok seat) h = cleared_may s x a n file first last (lock_at s.opens n)
+judged_refuses : (v : Result Seat Status) → Refuses v → Refuses (map_err status_of (map_err F.Refused v))
+judged_refuses (Err status) h = err_refuses status (h.each status refl)
+judged_refuses (Ok seat) h = ok_refuses seat
+
+state_refuses : {A : Type 0} (o : Option A) → Refuses (map_err status_of (ok_or o (F.Refused S.BadStateId)))
+state_refuses None = bad
+state_refuses (Some a) = ok_refuses a
+
+unlock_refuses : (t : Table) (id : StateId) (client file first last : ℕ) → Refuses (map_err status_of (locking.unlock t id client file first last))
+unlock_refuses t id client file first last =
+    then_refuses status_of (map_err F.Refused (judge t id client (Some file) LockOnly)) _
+    (judged_refuses (judge t id client (Some file) LockOnly) (judge_refuses t id client (Some file) LockOnly)) (λ seat.
+    then_refuses status_of (ok_or (lock_at t id.number) (F.Refused S.BadStateId)) _ (state_refuses (lock_at t id.number)) (λ l. ok_refuses _))
+
+unlocks_may : (s : State) (x : Context) (a : LockU) (k : Wished) → IsAnswer (Operation (OpLockU a)) (unlocks s x k).result
+unlocks_may s x a k =
+    let w = k.wish in
+    answers_with (IsAnswer (Operation (OpLockU a))) s x Num.LockU (map_err status_of (locking.unlock s.opens k.id w.client w.file w.first w.last))
+    (λ did. unlocked s x did.0 did.1)
+    (unlock_refuses s.opens k.id w.client w.file w.first w.last)
+    (λ status h. record { may = (refl, rw (h.done, h.legal) refl, tt); arrays = tt })
+    (λ did. record { may = (refl, tt, tt); arrays = length_id did.0 })
 
 pub may_lock_u : (s : State) (x : Context) (a : LockU) → IsAnswer (Operation (OpLockU a)) (lock_u s x a).result
 unfolding lock_u
@@ -185,5 +196,4 @@ may_lock_u s x a =
     answers_with (IsAnswer (Operation (OpLockU a))) s x Num.LockU (unlocking s x a) (unlocks s x)
     (wished_by_refuses x a.lock_stateid (wished s x a.locktype a.offset a.length) (wished_refuses s x a.locktype a.offset a.length))
     (λ status h. record { may = (refl, rw (h.done, h.legal) refl, tt); arrays = tt })
-    (λ k. unlocked_may s x a k.id.number k.wish.file k.wish.first k.wish.last
-    (judge s.opens k.id k.wish.client (Some k.wish.file) LockOnly) (judge_refuses s.opens k.id k.wish.client (Some k.wish.file) LockOnly))
+    (unlocks_may s x a)

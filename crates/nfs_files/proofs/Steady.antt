@@ -1,11 +1,10 @@
 -- What no operation changes: how long a lease lasts. And numbers of opens and lock states stay below 2^64, since none is given behind the last.
-use Rattle.std.proofs.Common.{◌≡◌, ℕ, ◌≤◌, Bool, true, false, cond, eqb, List, Option, Some, None, refl, sym, ap, subst, arith, inl, inr}
-use Rattle.std.specs.Prelude.{◌&&◌, Result, Ok, Err, IfSome, is_none}
+use Rattle.std.proofs.Common.{◌≡◌, ℕ, ◌≤◌, Bool, true, false, cond, eqb, Option, Some, None, refl, sym, ap, subst, arith, inl, inr}
+use Rattle.std.specs.Prelude.{◌&&◌, is_none, IfSome}
 use Rattle.std.specs.Option.{ForSome}
 use Rattle.std.specs.List.{list_any}
 use Rattle.std.proofs.lemmas.Bool.{cases_Bool, eqb-false}
 use Rattle.nfs_xdr.specs.declared.time.Time.{Time}
-use Rattle.nfs_xdr.specs.declared.status.Status.{Status}
 use Rattle.nfs_compound.specs.NameArgs as name_args
 use Rattle.nfs_compound.specs.LockArgs as args
 use Rattle.nfs_compound.specs.Arguments.{arguments}
@@ -18,34 +17,23 @@ use Rattle.nfs_compound.specs.declared.open_args.OpenDowngrade.{OpenDowngrade}
 use Rattle.nfs_compound.specs.Operation.{Op, Item, Operation, Fault, OpClose, OpCommit, OpFreeStateid, OpLock, OpLockT, OpLockU, OpOpen, OpOpenDowngrade, OpRead, OpSetAttr, OpTestStateid, OpWrite}
 use Rattle.nfs_compound.specs.Operation.{OpAccess, OpCreate, OpGetAttr, OpGetFh, OpLink, OpLookup, OpLookupP, OpNVerify, OpPutFh, OpPutPubFh, OpPutRootFh}
 use Rattle.nfs_compound.specs.Operation.{OpReadDir, OpReadLink, OpRemove, OpRename, OpRestoreFh, OpSaveFh, OpSecinfoNoName, OpVerify}
-use Rattle.nfs_ranges.specs.Holders.{holds_any}
 use Rattle.nfs_ranges.specs.declared.Held.{Held}
 use Rattle.nfs_tree.specs.Files.{lookup as looked_up, named}
 use Rattle.nfs_tree.specs.Names.{moves, with_moved, without_name}
-use Rattle.nfs_opens.specs.declared.share.Share.{Share}
 use Rattle.nfs_opens.specs.declared.stateid.StateId.{StateId}
-use Rattle.nfs_opens.specs.declared.stateid.CurrentSeqid.TheVariants.{Any, Own}
 use Rattle.nfs_opens.specs.declared.records.OpenState.{OpenState}
-use Rattle.nfs_opens.specs.declared.records.LockState.{LockState}
-use Rattle.nfs_opens.specs.declared.judging.Seat.{Seat}
-use Rattle.nfs_opens.specs.declared.judging.Seat.TheVariants as Seats
-use Rattle.nfs_opens.specs.declared.judging.Sort.TheVariants.{OpenOnly, LockOnly, Either}
 use Rattle.nfs_opens.specs.declared.locking.Wish.{Wish}
-use Rattle.nfs_opens.specs.declared.locking.OpenFault.{OpenFault}
-use Rattle.nfs_opens.specs.declared.locking.OpenFault.TheVariants as F
 use Rattle.nfs_opens.specs.StateId.{last_number}
-use Rattle.nfs_opens.specs.Table.{Table, Asked, open_at, lock_at, clashes_with}
-use Rattle.nfs_opens.specs.Judging.{judge}
+use Rattle.nfs_opens.specs.Table.{Table, Asked, clashes_with}
 use Rattle.nfs_opens.specs.Closing as closing
 use Rattle.nfs_opens.specs.Opening as opening
 use Rattle.nfs_opens.specs.Calls as calls
 use Rattle.nfs_opens.specs.Locking as locking
-use Rattle.nfs_opens.specs.Locking.{lock_judged}
 use Rattle.nfs_opens.proofs.StepLemmas.{number_left}
 use Rattle.nfs_names.specs.declared.context.Context.{Context}
 use Rattle.nfs_names.specs.State.{State, is_used, without_unused, with_tree}
 use Rattle.nfs_names.specs.Ending.{with_opens}
-use Rattle.nfs_names.specs.Outcome.{answers, checked}
+use Rattle.nfs_names.specs.Outcome.{checked}
 use Rattle.nfs_names.specs.Operation as names
 use Rattle.nfs_names.specs.Access.{access}
 use Rattle.nfs_names.specs.Create.{created, create}
@@ -69,24 +57,24 @@ use Rattle.nfs_names.specs.Verify.{verify}
 use Rattle.nfs_names.proofs.Found.{checked_ok}
 use Rattle.nfs_names.proofs.Ones.{by_delay, if_delayed, if_both, each_of}
 use Rattle.nfs_names.proofs.Untouched.{unused_opens, leaves_item}
-use Rattle.nfs_files.specs.StateIds.{meant}
-use Rattle.nfs_files.specs.Target.{target}
 use Rattle.nfs_files.specs.Operation.{grows}
 use Rattle.nfs_files.proofs.Outcomes.{one, comes_to}
-use Rattle.nfs_files.specs.Close.{closed, closes, close}
+use Rattle.nfs_files.specs.Close.{close}
 use Rattle.nfs_files.specs.Commit.{commit}
-use Rattle.nfs_files.specs.FreeStateid.{frees, free_stateid}
+use Rattle.nfs_files.specs.FreeStateid.{free_stateid}
 use Rattle.nfs_files.specs.Lock as of_lock
 use Rattle.nfs_files.specs.LockT.{tested, lock_t}
-use Rattle.nfs_files.specs.LockU.{unlocking, unlocked, unlocks, lock_u}
+use Rattle.nfs_files.specs.LockU.{unlocked, lock_u}
 use Rattle.nfs_files.specs.Open as of_open
-use Rattle.nfs_files.specs.OpenDowngrade.{bits, narrowing, narrows, open_downgrade}
+use Rattle.nfs_files.specs.OpenDowngrade.{open_downgrade}
 use Rattle.nfs_files.specs.Read.{read}
 use Rattle.nfs_files.specs.SetAttr.{was_set, set_attr}
 use Rattle.nfs_files.specs.TestStateid.{test_stateid}
 use Rattle.nfs_files.specs.Write.{was_written, write}
 use Rattle.nfs_files.proofs.Opened.{shared_free}
 use Rattle.nfs_files.proofs.KeptOps.{found}
+use Rattle.nfs_opens.proofs.CallLaws.{IsLocked}
+use Rattle.nfs_files.proofs.OpensMoved.{by_close, by_free, by_downgrade, by_lock, by_unlock}
 
 -- no number behind the last that there can be was given
 abbrev pub Few : Table → Type 0
@@ -156,118 +144,32 @@ steady_names refused s x now i =
 -- Operations on open files.
 
 -- LOCK
-more_few : (t : Table) (w : Wish) (n : ℕ) (v : Result (Unit {0}) OpenFault) (l : Option LockState) → Few t
-    → Few (locking.does_if t v (locking.lock_more t w n l)).after
-more_few t w n (Err fault) l few = few
-more_few t w n (Ok u) None few = few
-more_few t w n (Ok u) (Some l) few = few
-
-new_few : (t : Table) (w : Wish) (opened : ℕ) (owner : List ℕ) (full : Bool) → eqb t.last last_number ≡ full → Few t
-    → Few (locking.lock_new t w opened owner).after
-new_few t w opened owner true is few = rw is few
-new_few t w opened owner false is few = rw is (let other = eqb-false t.last last_number is in omega arith)
-
-first_few : (t : Table) (w : Wish) (opened : ℕ) (owner : List ℕ) (v : Result (Unit {0}) OpenFault) → Few t
-    → Few (locking.does_if t v (locking.lock_new t w opened owner)).after
-first_few t w opened owner (Err fault) few = few
-first_few t w opened owner (Ok u) few = new_few t w opened owner (eqb t.last last_number) refl few
-
-owner_few : (t : Table) (w : Wish) (opened : ℕ) (owner : List ℕ) (access : Share) (l : Option LockState) → Few t
-    → Few (locking.lock_by_owner t w opened owner access l).after
-owner_few t w opened owner access (Some l) few = more_few t w l.number (lock_judged t l.number access w) (lock_at t l.number) few
-owner_few t w opened owner access None few = first_few t w opened owner (lock_judged t 0 access w) few
-
-under_few : (t : Table) (w : Wish) (opened : ℕ) (owner : List ℕ) (v : Result Seat Status) → Few t → Few (locking.lock_under t w opened owner v).after
-under_few t w opened owner (Err status) few = few
-under_few t w opened owner (Ok seat) few = owner_few t w opened owner (locking.access_in seat) (locking.state_of t w.client owner w.file) few
-
-known_few : (t : Table) (w : Wish) (n : ℕ) (v : Result Seat Status) → Few t → Few (locking.lock_known t w n v).after
-known_few t w n (Err status) few = few
-known_few t w n (Ok seat) few = more_few t w n (lock_judged t n (locking.access_in seat) w) (lock_at t n) few
-
-locks_few : (t : Table) (who : args.Locker) (id : StateId) (w : Wish) → Few t → Few (of_lock.locks_as t who id w).after
-locks_few t (args.OpenOwner o) id w few = under_few t w id.number o.lock_owner.owner (judge t id w.client (Some w.file) OpenOnly) few
-locks_few t (args.LockOwner o) id w few = known_few t w id.number (judge t id w.client (Some w.file) LockOnly) few
-
-locked_steady : (s : State) (x : Context) (after : Table) (v : Result StateId OpenFault) → (Few s.opens → Few after)
-    → IsSteady s (of_lock.locked s x after v).state
-locked_steady s x after (Ok id) few = record { lease = refl; few = few }
-locked_steady s x after (Err (F.Refused status)) few = same s
-locked_steady s x after (Err (F.Denied h)) few = same s
-locked_steady s x after (Err F.Memory) few = same s
+locks_few : (t : Table) (w : Wish) (did : StateId × Table) → IsLocked t w did → Few t → Few did.1
+locks_few t w did (inl more) few = subst Few (sym more.left) few
+locks_few t w did (inr first) few = subst Few (sym first.left) (let other = eqb-false t.last last_number first.room in omega arith)
 
 steady_lock : (s : State) (x : Context) (a : args.Lock) → IsSteady s (of_lock.lock s x a).state
-unfolding of_lock.lock
-steady_lock s x a = found (IsSteady s) s x Num.Lock (of_lock.locking s x a) (of_lock.locks s x a.locker) (same s) (λ m judged.
-    (let did = of_lock.locks_as s.opens a.locker m.id m.wish in locked_steady s x did.after did.answer (locks_few s.opens a.locker m.id m.wish)))
+steady_lock s x a = by_lock (λ o. IsSteady s o.state) s x a (λ status. same s) (λ h. same s) (λ m did judged granted locked.
+    record { lease = refl; few = locks_few s.opens m.wish did locked })
 
 -- LOCKU
-cleared_few : (t : Table) (n file first last : ℕ) (l : Option LockState) → Few t → Few (locking.clear_lock t n file first last l).after
-cleared_few t n file first last None few = few
-cleared_few t n file first last (Some l) few = few
-
-unlock_few : (t : Table) (n file first last : ℕ) (v : Result Seat Status) → Few t → Few (locking.unlock_by t n file first last v).after
-unlock_few t n file first last (Err status) few = few
-unlock_few t n file first last (Ok seat) few = cleared_few t n file first last (lock_at t n) few
-
-unlocked_steady : (s : State) (x : Context) (after : Table) (v : Result StateId OpenFault) → (Few s.opens → Few after) → IsSteady s (unlocked s x after v).state
-unlocked_steady s x after (Ok id) few = record { lease = refl; few = few }
-unlocked_steady s x after (Err fault) few = same s
-
 steady_lock_u : (s : State) (x : Context) (a : LockU) → IsSteady s (lock_u s x a).state
-unfolding lock_u
-steady_lock_u s x a = found (IsSteady s) s x Num.LockU (unlocking s x a) (unlocks s x) (same s) (λ m judged.
-    (let w = m.wish in let did = locking.unlock s.opens m.id w.client w.file w.first w.last in
-    unlocked_steady s x did.after did.answer
-    (unlock_few s.opens m.id.number w.file w.first w.last (judge s.opens m.id w.client (Some w.file) LockOnly))))
+steady_lock_u s x a = by_unlock (λ o. IsSteady s o.state) s x a (λ status. same s) (λ m did judged granted unlocked.
+    record { lease = refl; few = λ few. subst Few (sym unlocked.left) few })
 
 -- CLOSE
-closed_steady : (s : State) (x : Context) (n file : ℕ) (v : Result Seat Status)
-    → IsSteady s (answers s x Num.Close (closing.close_by s.opens n v).answer (λ u. closed s x file (closing.close_by s.opens n v).after)).state
-closed_steady s x n file (Err status) = same s
-closed_steady s x n file (Ok seat) = record {
-  lease = unused_lease (with_opens s (closing.without_open s.opens n)) file;
-  few = λ few. subst Few (sym (unused_opens (with_opens s (closing.without_open s.opens n)) file)) few;
-}
-
 steady_close : (s : State) (x : Context) (a : Close) → IsSteady s (close s x a).state
-unfolding close
-steady_close s x a = found (IsSteady s) s x Num.Close (target s x Own a.open_stateid) (closes s x) (same s) (λ t judged.
-    closed_steady s x t.id.number t.file (judge s.opens t.id x.client (Some t.file) OpenOnly))
+steady_close s x a = by_close (λ o. IsSteady s o.state) s x a (λ status. same s) (λ t did judged granted its.
+    (let left = with_opens s (closing.without_open s.opens t.id.number) in
+    record { lease = unused_lease left t.file; few = λ few. subst Few (sym (unused_opens left t.file)) few }))
 
 -- FREE_STATEID
-freed_few : (t : Table) (n : ℕ) (l : Option LockState) → Few t → Few (closing.free_lock t n l).after
-freed_few t n None few = few
-freed_few t n (Some l) few = elim (cases_Bool (holds_any (t.held l.file) n)) [ inl held ↦ rw held few | inr none ↦ rw none few ]
-
-free_few : (t : Table) (v : Result Seat Status) → Few t → Few (closing.free_by t v).after
-free_few t (Err status) few = few
-free_few t (Ok Seats.Anonymous) few = few
-free_few t (Ok Seats.ReadBypass) few = few
-free_few t (Ok (Seats.Open number access)) few = few
-free_few t (Ok (Seats.Lock number access)) few = freed_few t number (lock_at t number) few
-
 steady_free : (s : State) (x : Context) (given : Stateid) → IsSteady s (free_stateid s x given).state
-unfolding free_stateid
-steady_free s x given = found (IsSteady s) s x Num.FreeStateid (meant x Any given) (frees s x) (same s) (λ id judged.
-    found (IsSteady s) s x Num.FreeStateid (closing.free s.opens id x.client).answer _ (same s) (λ u granted.
-    record { lease = refl; few = free_few s.opens (judge s.opens id x.client None Either) }))
+steady_free s x given = by_free (λ o. IsSteady s o.state) s x given (λ status. same s) (λ id did freed. record { lease = refl; few = λ few. few })
 
 -- OPEN_DOWNGRADE
-narrowed_few : (t : Table) (n : ℕ) (access deny : Share) (o : Option OpenState) → Few t → Few (opening.narrow_open t n access deny o).after
-narrowed_few t n access deny None few = few
-narrowed_few t n access deny (Some o) few = elim (cases_Bool (opening.is_narrower access deny o)) [ inl part ↦ rw part few | inr more ↦ rw more few ]
-
-downgrade_few : (t : Table) (n : ℕ) (access deny : Share) (v : Result Seat Status) → Few t → Few (opening.downgrade_by t n access deny v).after
-downgrade_few t n access deny (Err status) few = few
-downgrade_few t n access deny (Ok seat) few = narrowed_few t n access deny (open_at t n) few
-
 steady_downgrade : (s : State) (x : Context) (a : OpenDowngrade) → IsSteady s (open_downgrade s x a).state
-unfolding open_downgrade
-steady_downgrade s x a = found (IsSteady s) s x Num.OpenDowngrade (narrowing s x a) (narrows s x a) (same s) (λ t judged.
-    (let access = bits a.share_access in let deny = bits a.share_deny in
-    found (IsSteady s) s x Num.OpenDowngrade (opening.downgrade s.opens t.id x.client t.file access deny).answer _ (same s) (λ id granted.
-    record { lease = refl; few = downgrade_few s.opens t.id.number access deny (judge s.opens t.id x.client (Some t.file) OpenOnly) })))
+steady_downgrade s x a = by_downgrade (λ o. IsSteady s o.state) s x a (λ status. same s) (λ t did narrowed. record { lease = refl; few = λ few. few })
 
 -- OPEN
 opened_few : (t : Table) (a : Asked) (o : Option OpenState) → opening.own_open t a ≡ o → calls.open_fault t a ≡ None → Few t

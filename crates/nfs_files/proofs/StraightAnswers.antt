@@ -18,20 +18,17 @@ use Rattle.nfs_results.specs.Largest.{largest, largest_of, number_of, asked}
 use Rattle.nfs_results.specs.MayAnswer.{HasSizes}
 use Rattle.nfs_results.proofs.Lengths.{behind_within, length_spelled}
 use Rattle.nfs_ranges.specs.declared.Held.{Held}
-use Rattle.nfs_opens.specs.declared.stateid.StateId.{StateId}
-use Rattle.nfs_opens.specs.declared.locking.OpenFault.{OpenFault}
-use Rattle.nfs_opens.specs.declared.locking.OpenFault.TheVariants as F
-use Rattle.nfs_opens.specs.Table.{Table}
 use Rattle.nfs_opens.specs.Locking.{test_lock}
 use Rattle.nfs_names.specs.declared.context.Context.{Context}
 use Rattle.nfs_names.specs.State.{State}
 use Rattle.nfs_names.specs.Outcome.{Outcome, refuses, answers, or_delay, is_ok}
 use Rattle.nfs_files.specs.Ranges.{wished}
-use Rattle.nfs_files.specs.Lock.{locking, locks_as, locked, locks, lock}
+use Rattle.nfs_files.specs.Lock.{locked, lock}
 use Rattle.nfs_files.specs.LockT.{tested, lock_t}
 use Rattle.nfs_files.specs.TestStateid.{code, test_stateid}
 use Rattle.nfs_files.proofs.Fitting.{few_denied}
 use Rattle.nfs_files.proofs.StateAnswers.{length_id}
+use Rattle.nfs_files.proofs.OpensMoved.{by_lock}
 
 -- a result of the operation, of the sizes that this server's have
 pub record IsShort (op : Op) (r : Res) : Type 0 where
@@ -54,18 +51,11 @@ answers_any P s x op (Err status) f refused done = refused status
 answers_any P s x op (Ok a) f refused done = done a
 
 -- LOCK
-locked_short : (s : State) (x : Context) (a : args.Lock) (after : Table) (r : Result StateId OpenFault) → IsShort (OpLock a) (locked s x after r).result
-locked_short s x a after (Ok id) = record { number = refl; sizes = tt; arrays = length_id id }
-locked_short s x a after (Err (F.Refused status)) = record { number = refl; sizes = tt; arrays = tt }
-locked_short s x a after (Err (F.Denied h)) = record { number = refl; sizes = few_denied s.opens h; arrays = tt }
-locked_short s x a after (Err F.Memory) = record { number = refl; sizes = tt; arrays = tt }
-
 lock_short : (s : State) (x : Context) (a : args.Lock) → IsShort (OpLock a) (lock s x a).result
-unfolding lock
-lock_short s x a =
-    answers_any (IsShort (OpLock a)) s x Num.Lock (locking s x a) (locks s x a.locker)
+lock_short s x a = by_lock (λ o. IsShort (OpLock a) o.result) s x a
     (λ status. record { number = refl; sizes = tt; arrays = tt })
-    (λ k. (let did = locks_as s.opens a.locker k.id k.wish in locked_short s x a did.after did.answer))
+    (λ h. record { number = refl; sizes = few_denied s.opens h; arrays = tt })
+    (λ m did judged granted locked. record { number = refl; sizes = tt; arrays = length_id did.0 })
 
 pub short_lock : (b : Bool) (s : State) (x : Context) (a : args.Lock) → IsShort (OpLock a) (or_delay b s x Num.Lock (lock s x a)).result
 short_lock b s x a =

@@ -1,16 +1,14 @@
 -- What each operation on open files keeps of the opens.
-use Rattle.std.proofs.Common.{◌≡◌, ◌≢◌, ◌⊎◌, ℕ, suc, ◌+◌, ◌-◌, ◌<◌, ◌≤◌, Bool, true, false, cond, eqb, ltb, not, List, [], ◌∷◌, ◌++◌, Option, Some, None, refl, sym, ◌∙◌, ap, subst, arith, inl, inr}
-use Rattle.std.specs.Prelude.{◌==◌, ◌&&◌, ◌||◌, ◌^◌, nat_lt, Result, Ok, Err, filter}
+use Rattle.std.proofs.Common.{◌≡◌, ◌⊎◌, ℕ, suc, ◌+◌, ◌-◌, ◌<◌, ◌≤◌, Bool, true, false, cond, eqb, not, List, [], ◌∷◌, ◌++◌, Option, Some, None, refl, sym, ◌∙◌, ap, subst, arith, inl, inr}
+use Rattle.std.specs.Prelude.{◌==◌, ◌&&◌, ◌^◌, nat_lt, Ok, filter}
 use Rattle.std.specs.List.{list_any}
 use Rattle.std.proofs.Math.Path.{fun_ext}
-use Rattle.std.proofs.lemmas.Bool.{cases_Bool, cases_lt, eqb-true, ltb-false, and_parts}
+use Rattle.std.proofs.lemmas.Bool.{cases_Bool, cases_lt, eqb-true, ltb-false}
 use Rattle.nfs_xdr.specs.Checks.{first_fault}
-use Rattle.nfs_xdr.specs.Tables.{In}
 use Rattle.nfs_xdr.specs.declared.time.Time.{Time}
-use Rattle.nfs_xdr.specs.declared.status.Status.{Status}
 use Rattle.nfs_xdr.specs.declared.status.Status.TheVariants.{Inval}
 use Rattle.nfs_xdr.proofs.Lists.{find_in, in_filter, stays_in, in_push, push_in}
-use Rattle.nfs_xdr.proofs.Tables.{IsRising-filter, IsRising-push, IsRising-upto, in_once}
+use Rattle.nfs_xdr.proofs.Tables.{IsRising-filter, IsRising-push, IsRising-upto}
 use Rattle.nfs_compound.specs.LockArgs as args
 use Rattle.nfs_compound.specs.Arguments.{arguments}
 use Rattle.nfs_compound.specs.OpenArgs.{Open}
@@ -20,57 +18,47 @@ use Rattle.nfs_compound.specs.declared.lock_args.LockU.{LockU}
 use Rattle.nfs_compound.specs.declared.open_args.Close.{Close}
 use Rattle.nfs_compound.specs.declared.open_args.OpenDowngrade.{OpenDowngrade}
 use Rattle.nfs_compound.specs.Operation.{Op, Item, Operation, Fault, OpClose, OpCommit, OpFreeStateid, OpLock, OpLockT, OpLockU, OpOpen, OpOpenDowngrade, OpRead, OpSetAttr, OpTestStateid, OpWrite}
-use Rattle.nfs_ranges.specs.Holders.{Holders, holding, holds_any}
-use Rattle.nfs_ranges.specs.Facts.{Tells}
+use Rattle.nfs_ranges.specs.Holders.{Holders, holding}
 use Rattle.nfs_ranges.specs.declared.Held.{Held}
 use Rattle.nfs_opens.specs.declared.share.Share.{Share}
 use Rattle.nfs_opens.specs.declared.stateid.StateId.{StateId}
-use Rattle.nfs_opens.specs.declared.stateid.CurrentSeqid.TheVariants.{Any, Own}
 use Rattle.nfs_opens.specs.declared.records.OpenState.{OpenState}
 use Rattle.nfs_opens.specs.declared.records.LockState.{LockState}
-use Rattle.nfs_opens.specs.declared.judging.Seat.{Seat}
-use Rattle.nfs_opens.specs.declared.judging.Seat.TheVariants as Seats
-use Rattle.nfs_opens.specs.declared.judging.Sort.TheVariants.{OpenOnly, LockOnly, Either}
 use Rattle.nfs_opens.specs.declared.locking.Wish.{Wish}
-use Rattle.nfs_opens.specs.declared.locking.OpenFault.{OpenFault}
-use Rattle.nfs_opens.specs.declared.locking.OpenFault.TheVariants as F
 use Rattle.nfs_opens.specs.Holding.{FileHolders, on_file}
 use Rattle.nfs_opens.specs.Closing.{held_within}
 use Rattle.nfs_opens.proofs.HolderLemmas.{IsFewer, fewer_keeps}
 use Rattle.nfs_ranges.specs.declared.Kind.{Kind}
-use Rattle.nfs_opens.specs.StateId.{last_number}
-use Rattle.nfs_opens.specs.Table.{Table, Did, Asked, open_at, lock_at, with_lock, clashes_with}
+use Rattle.nfs_opens.specs.Table.{Table, Asked, open_at, lock_at, with_lock, clashes_with}
 use Rattle.nfs_opens.specs.TableInvariants.{IsTable}
-use Rattle.nfs_opens.specs.Judging.{judge}
 use Rattle.nfs_opens.specs.Closing as closing
 use Rattle.nfs_opens.specs.Opening as opening
 use Rattle.nfs_opens.specs.Calls as calls
 use Rattle.nfs_opens.specs.Locking as locking
 use Rattle.nfs_opens.specs.Locking.{lock_judged}
 use Rattle.nfs_opens.proofs.TableLemmas.{table_opened, table_closed, holders_left, KeepsBytes, table_raised}
-use Rattle.nfs_opens.proofs.StepLemmas.{table_join, table_narrow, no_clash_asked, free_keeps, table_locked, table_unlocked, table_first, judged_tells, first_state}
-use Rattle.nfs_opens.proofs.LockLemmas.{judged_open, judged_lock}
+use Rattle.nfs_opens.proofs.StepLemmas.{table_join, table_narrow, no_clash_asked, free_keeps, table_locked, table_unlocked, table_first, judged_tells}
+use Rattle.nfs_opens.proofs.CallLaws.{first_state, IsLocked}
+use Rattle.nfs_files.proofs.OpensMoved.{by_close, by_free, by_downgrade, by_lock, by_unlock}
 use Rattle.nfs_names.specs.declared.context.Context.{Context}
-use Rattle.nfs_names.specs.State.{State, is_open}
+use Rattle.nfs_names.specs.State.{State}
 use Rattle.nfs_names.specs.StoreInvariants.{IsStore}
 use Rattle.nfs_tree.specs.TreeInvariants.{IsTree}
 use Rattle.nfs_names.specs.Ending.{with_opens, table_staying}
-use Rattle.nfs_names.specs.Outcome.{answers, checked, passed, or_delay, is_ok}
+use Rattle.nfs_names.specs.Outcome.{checked, passed}
 use Rattle.nfs_names.proofs.Found.{checked_ok}
 use Rattle.nfs_names.proofs.Ones.{by_delay}
 use Rattle.nfs_names.proofs.Untouched.{unused_opens}
-use Rattle.nfs_files.specs.StateIds.{meant}
-use Rattle.nfs_files.specs.Target.{target}
 use Rattle.nfs_files.specs.Operation.{grows}
 use Rattle.nfs_files.proofs.Outcomes.{one, one_or_delay, comes_to}
-use Rattle.nfs_files.specs.Close.{closed, closes, close}
+use Rattle.nfs_files.specs.Close.{close}
 use Rattle.nfs_files.specs.Commit.{commit}
-use Rattle.nfs_files.specs.FreeStateid.{frees, free_stateid}
+use Rattle.nfs_files.specs.FreeStateid.{free_stateid}
 use Rattle.nfs_files.specs.Lock as of_lock
 use Rattle.nfs_files.specs.LockT.{tested, lock_t}
-use Rattle.nfs_files.specs.LockU.{unlocking, unlocked, unlocks, lock_u}
+use Rattle.nfs_files.specs.LockU.{unlocked, lock_u}
 use Rattle.nfs_files.specs.Open as of_open
-use Rattle.nfs_files.specs.OpenDowngrade.{bits, narrowing, narrows, open_downgrade}
+use Rattle.nfs_files.specs.OpenDowngrade.{bits, open_downgrade}
 use Rattle.nfs_files.specs.Ranges.{all_ones, range}
 use Rattle.nfs_files.specs.Read.{read}
 use Rattle.nfs_files.specs.SetAttr.{was_set, set_attr}
@@ -154,147 +142,33 @@ first_is t w owner opened access o is (inr empty) judged at client file =
     subst (λ held. IsTable (record t { locks = t.locks ++ first_state t w owner opened ∷ []; held = held; last = t.last + 1 }))
     (no_bytes_on t.held w.file (t.last + 1) w.kind w.first w.last empty) (empty_first t w owner opened o is at client file)
 
-granted_more : (t : Table) (w : Wish) (n : ℕ) (access : Share) (v : Result (Unit {0}) OpenFault) (l : Option LockState) → IsTable t → IsRange w
-    → lock_judged t n access w ≡ v → lock_at t n ≡ l → ((x : LockState) → l ≡ Some x → x.file ≡ w.file)
-    → IsTable (locking.does_if t v (locking.lock_more t w n l)).after
-granted_more t w n access (Err fault) l is range judged at of_file = is
-granted_more t w n access (Ok u) None is range judged at of_file = is
-granted_more t w n access (Ok u) (Some l) is range judged at of_file = more_is t w n access l is range judged at (of_file l refl)
-
-granted_new : (t : Table) (w : Wish) (opened : ℕ) (owner : List ℕ) (access : Share) (full : Bool) (o : OpenState) → eqb t.last last_number ≡ full → IsTable t → IsRange w
-    → lock_judged t 0 access w ≡ Ok tt → open_at t opened ≡ Some o → o.client ≡ w.client → o.file ≡ w.file
-    → IsTable (locking.lock_new t w opened owner).after
-granted_new t w opened owner access true o full is range judged at client file = rw full is
-granted_new t w opened owner access false o full is range judged at client file = rw full (first_is t w owner opened access o is range judged at client file)
-
-granted_first : (t : Table) (w : Wish) (opened : ℕ) (owner : List ℕ) (access : Share) (v : Result (Unit {0}) OpenFault) (o : OpenState) → IsTable t → IsRange w
-    → lock_judged t 0 access w ≡ v → open_at t opened ≡ Some o → o.client ≡ w.client → o.file ≡ w.file
-    → IsTable (locking.does_if t v (locking.lock_new t w opened owner)).after
-granted_first t w opened owner access (Err fault) o is range judged at client file = is
-granted_first t w opened owner access (Ok u) o is range judged at client file =
-    granted_new t w opened owner access (eqb t.last last_number) o refl is range judged at client file
-
--- the lock state that a lock owner has on a file stands under its own number
-locker_file : (t : Table) (w : Wish) (owner : List ℕ) (l : LockState) → locking.state_of t w.client owner w.file ≡ Some l → l.file ≡ w.file
-locker_file t w owner l e =
-    let there = find_in (locking.is_locker w.client owner w.file) t.locks l e in
-    let parts = and_parts _ _ there.1 in eqb-true _ _ parts.0
-
-of_number : (t : Table) (w : Wish) (owner : List ℕ) (l x : LockState) → IsTable t → locking.state_of t w.client owner w.file ≡ Some l → lock_at t l.number ≡ Some x → x.file ≡ w.file
-of_number t w owner l x is e at =
-    let there = find_in (locking.is_locker w.client owner w.file) t.locks l e in
-    let found = find_in (λ (k : LockState). k.number == l.number) t.locks x at in
-    let one : x ≡ l = in_once (λ (l : LockState). l.number) 1 (suc t.last) t.locks x l is.locks found.0 there.0 (eqb-true _ _ found.1) in
-    ap (λ (l : LockState). l.file) one ∙ locker_file t w owner l e
-
-granted_owner : (t : Table) (w : Wish) (opened : ℕ) (owner : List ℕ) (access : Share) (l : Option LockState) (o : OpenState) → IsTable t → IsRange w
-    → locking.state_of t w.client owner w.file ≡ l → open_at t opened ≡ Some o → o.client ≡ w.client → o.file ≡ w.file
-    → IsTable (locking.lock_by_owner t w opened owner access l).after
-granted_owner t w opened owner access (Some l) o is range e at client file =
-    granted_more t w l.number access (lock_judged t l.number access w) (lock_at t l.number) is range refl refl (λ x at. of_number t w owner l x is e at)
-granted_owner t w opened owner access None o is range e at client file =
-    granted_first t w opened owner access (lock_judged t 0 access w) o is range refl at client file
-
-granted_under : (t : Table) (id : StateId) (w : Wish) (owner : List ℕ) (v : Result Seat Status) → IsTable t → IsRange w
-    → judge t id w.client (Some w.file) OpenOnly ≡ v → IsTable (locking.lock_under t w id.number owner v).after
-granted_under t id w owner (Err status) is range e = is
-granted_under t id w owner (Ok seat) is range e =
-    let (o, at, client, file) = judged_open t id w.client w.file seat e in
-    granted_owner t w id.number owner (locking.access_in seat) (locking.state_of t w.client owner w.file) o is range refl at client file
-
-granted_known : (t : Table) (id : StateId) (w : Wish) (v : Result Seat Status) → IsTable t → IsRange w
-    → judge t id w.client (Some w.file) LockOnly ≡ v → IsTable (locking.lock_known t w id.number v).after
-granted_known t id w (Err status) is range e = is
-granted_known t id w (Ok seat) is range e =
-    let (l, at, client, file) = judged_lock t id w.client w.file seat e in
-    granted_more t w id.number (locking.access_in seat) (lock_judged t id.number (locking.access_in seat) w) (lock_at t id.number) is range refl refl
-    (λ x there. (let same : Some l ≡ Some x = sym at ∙ there in let one : l ≡ x = cc in sym (ap (λ (l : LockState). l.file) one) ∙ file))
-
-locks_keep : (t : Table) (who : args.Locker) (id : StateId) (w : Wish) → IsTable t → IsRange w → IsTable (of_lock.locks_as t who id w).after
-locks_keep t (args.OpenOwner o) id w is range = granted_under t id w o.lock_owner.owner (judge t id w.client (Some w.file) OpenOnly) is range refl
-locks_keep t (args.LockOwner o) id w is range = granted_known t id w (judge t id w.client (Some w.file) LockOnly) is range refl
-
-locked_is : (s : State) (x : Context) (after : Table) (v : Result StateId OpenFault) → Is s → IsTable after → Is (of_lock.locked s x after v).state
-locked_is s x after (Ok id) is done = done
-locked_is s x after (Err (F.Refused status)) is done = is
-locked_is s x after (Err (F.Denied h)) is done = is
-locked_is s x after (Err F.Memory) is done = is
+-- LOCK by a lock state that stands, or by a new one
+locked_is : (t : Table) (w : Wish) (did : StateId × Table) → IsTable t → IsRange w → IsLocked t w did → IsTable did.1
+locked_is t w did is range (inl more) =
+    subst IsTable (sym more.left) (more_is t w more.number more.access more.state is range more.judged more.found (more.own is).1)
+locked_is t w did is range (inr first) =
+    subst IsTable (sym first.left)
+    (first_is t w first.owner first.opened first.access first.state is range first.judged first.found first.mine first.there)
 
 -- LOCKU
-cleared_is : (t : Table) (n file first last : ℕ) (l : Option LockState) → IsTable t → IsTable (locking.clear_lock t n file first last l).after
-cleared_is t n file first last None is = is
-cleared_is t n file first last (Some l) is = table_unlocked t n file first last is
-
-unlock_is : (t : Table) (n file first last : ℕ) (v : Result Seat Status) → IsTable t → IsTable (locking.unlock_by t n file first last v).after
-unlock_is t n file first last (Err status) is = is
-unlock_is t n file first last (Ok seat) is = cleared_is t n file first last (lock_at t n) is
-
-unlocked_is : (s : State) (x : Context) (after : Table) (v : Result StateId OpenFault) → Is s → IsTable after → Is (unlocked s x after v).state
-unlocked_is s x after (Ok id) is done = done
-unlocked_is s x after (Err fault) is done = is
-
 table_lock_u : (s : State) (x : Context) (a : LockU) → Is s → Is (lock_u s x a).state
-unfolding lock_u
-table_lock_u s x a is =
-    found Is s x Num.LockU (unlocking s x a) (unlocks s x) is (λ m judged.
-    (let w = m.wish in let did = locking.unlock s.opens m.id w.client w.file w.first w.last in
-    unlocked_is s x did.after did.answer is
-    (unlock_is s.opens m.id.number w.file w.first w.last (judge s.opens m.id w.client (Some w.file) LockOnly) is)))
+table_lock_u s x a is = by_unlock (λ o. Is o.state) s x a (λ status. is) (λ m did judged granted unlocked.
+    subst IsTable (sym unlocked.left) (table_unlocked s.opens m.id.number m.wish.file m.wish.first m.wish.last is))
 
 -- CLOSE
-closed_is : (s : State) (x : Context) (n file : ℕ) (v : Result Seat Status) → Is s
-    → Is (answers s x Num.Close (closing.close_by s.opens n v).answer (λ u. closed s x file (closing.close_by s.opens n v).after)).state
-closed_is s x n file (Err status) is = is
-closed_is s x n file (Ok seat) is =
-    subst IsTable (sym (unused_opens (with_opens s (closing.without_open s.opens n)) file)) (table_closed s.opens n is)
-
 table_close : (s : State) (x : Context) (a : Close) → Is s → Is (close s x a).state
-unfolding close
-table_close s x a is =
-    found Is s x Num.Close (target s x Own a.open_stateid) (closes s x) is (λ t judged.
-    closed_is s x t.id.number t.file (judge s.opens t.id x.client (Some t.file) OpenOnly) is)
+table_close s x a is = by_close (λ o. Is o.state) s x a (λ status. is) (λ t did judged granted its.
+    subst IsTable (sym (unused_opens (with_opens s (closing.without_open s.opens t.id.number)) t.file)) (table_closed s.opens t.id.number is))
 
 -- FREE_STATEID
-freed_is : (t : Table) (n : ℕ) (l : Option LockState) → IsTable t → lock_at t n ≡ l → IsTable (closing.free_lock t n l).after
-freed_is t n None is at = is
-freed_is t n (Some l) is at = elim (cases_Bool (holds_any (t.held l.file) n)) [
-  | inl held ↦ rw held is
-  | inr none ↦ rw none (free_keeps t n l is at none)
-]
-
-free_is : (t : Table) (v : Result Seat Status) → IsTable t → IsTable (closing.free_by t v).after
-free_is t (Err status) is = is
-free_is t (Ok Seats.Anonymous) is = is
-free_is t (Ok Seats.ReadBypass) is = is
-free_is t (Ok (Seats.Open number access)) is = is
-free_is t (Ok (Seats.Lock number access)) is = freed_is t number (lock_at t number) is refl
-
 table_free : (s : State) (x : Context) (given : Stateid) → Is s → Is (free_stateid s x given).state
-unfolding free_stateid
 table_free s x given is =
-    found Is s x Num.FreeStateid (meant x Any given) (frees s x) is (λ id judged.
-    found Is s x Num.FreeStateid (closing.free s.opens id x.client).answer _ is (λ u granted.
-    free_is s.opens (judge s.opens id x.client None Either) is))
+    by_free (λ o. Is o.state) s x given (λ status. is) (λ id did freed. free_keeps s.opens id.number freed.state is freed.found freed.empty)
 
 -- OPEN_DOWNGRADE
-narrowed_is : (t : Table) (n : ℕ) (access deny : Share) (o : Option OpenState) → IsTable t → open_at t n ≡ o → IsTable (opening.narrow_open t n access deny o).after
-narrowed_is t n access deny None is at = is
-narrowed_is t n access deny (Some o) is at = elim (cases_Bool (opening.is_narrower access deny o)) [
-  | inl part ↦ rw part (table_narrow t n access deny o is at part)
-  | inr more ↦ rw more is
-]
-
-downgrade_is : (t : Table) (n : ℕ) (access deny : Share) (v : Result Seat Status) → IsTable t → IsTable (opening.downgrade_by t n access deny v).after
-downgrade_is t n access deny (Err status) is = is
-downgrade_is t n access deny (Ok seat) is = narrowed_is t n access deny (open_at t n) is refl
-
 table_downgrade : (s : State) (x : Context) (a : OpenDowngrade) → Is s → Is (open_downgrade s x a).state
-unfolding open_downgrade
-table_downgrade s x a is =
-    found Is s x Num.OpenDowngrade (narrowing s x a) (narrows s x a) is (λ t judged.
-    (let access = bits a.share_access in let deny = bits a.share_deny in
-    found Is s x Num.OpenDowngrade (opening.downgrade s.opens t.id x.client t.file access deny).answer _ is (λ id granted.
-    downgrade_is s.opens t.id.number access deny (judge s.opens t.id x.client (Some t.file) OpenOnly) is)))
+table_downgrade s x a is = by_downgrade (λ o. Is o.state) s x a (λ status. is) (λ t did narrowed.
+    table_narrow s.opens t.id.number (bits a.share_access) (bits a.share_deny) narrowed.state is narrowed.found narrowed.narrower)
 
 -- OPEN
 opened_is : (t : Table) (a : Asked) (o : Option OpenState) → IsTable t → opening.own_open t a ≡ o → list_any (clashes_with a) t.opens ≡ false → IsTable (opening.opens_by t a o).after
@@ -333,17 +207,14 @@ empty_range offset size last e past = by_size (size == all_ones) (size == 0) e
         by_end false o e = (let bound = ltb-false all_ones (offset + size) o in absurd (omega arith))
 
 table_lock : (s : State) (x : Context) (a : args.Lock) → Is s → Is (of_lock.lock s x a).state
-unfolding of_lock.lock
-table_lock s x a is =
-    found Is s x Num.Lock (of_lock.locking s x a) (of_lock.locks s x a.locker) is (λ m judged.
-    (let did = of_lock.locks_as s.opens a.locker m.id m.wish in
-    let parts = lock_range s x a m judged in
+table_lock s x a is = by_lock (λ o. Is o.state) s x a (λ status. is) (λ h. is) (λ m did judged granted locked.
+    (let parts = lock_range s x a m judged in
     let from = parts.0 in
     let is_range : IsRange m.wish = elim (cases_lt a.offset (2 ^ 64)) [
       | inl here ↦ inl (let range = wish_range a.offset a.length m.wish.last parts.1 here in ((let lo = range.0 in omega arith), range.1))
       | inr past ↦ inr (let empty = empty_range a.offset a.length m.wish.last parts.1 past in omega arith)
     ] in
-    locked_is s x did.after did.answer is (locks_keep s.opens a.locker m.id m.wish is is_range)))
+    locked_is s.opens m.wish did is is_range locked))
 
 -- By the operation.
 table_one : (s : State) (x : Context) (now : Time) (op : Op) → IsTree s.tree → IsStore s → Is s → Is (one s x now op).state

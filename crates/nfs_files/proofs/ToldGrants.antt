@@ -1,9 +1,9 @@
 -- A LOCK, LOCKU or CLOSE is granted where it answers NFS4_OK and a stateid, and answers so where it is granted; the stateid of LOCK and of LOCKU
 -- names the lock state.
-use Rattle.std.proofs.Common.{◌≡◌, ◌⊎◌, ℕ, suc, ◌+◌, ◌≤◌, Bool, true, false, cond, eqb, List, ◌++◌, length, drop, get_or, Option, Some, None, refl, sym, ◌∙◌, ap, subst, arith, inl, inr}
+use Rattle.std.proofs.Common.{◌≡◌, ◌⊎◌, ℕ, suc, ◌+◌, ◌≤◌, Bool, true, false, cond, List, ◌++◌, length, drop, get_or, refl, sym, ◌∙◌, ap, subst, arith, inl, inr}
 use Rattle.std.specs.Prelude.{◌==◌, ◌&&◌, Result, Ok, Err}
 use Rattle.std.specs.Int.{w64, from_be_bytes}
-use Rattle.std.proofs.lemmas.Bool.{cases_Bool, eqb-true, eqb-false, and_parts}
+use Rattle.std.proofs.lemmas.Bool.{cases_Bool, eqb-true, eqb-false}
 use Rattle.std.proofs.lemmas.List.{drop_at, length-append}
 use Rattle.std.proofs.lemmas.Nat.{from_be_bytes-to_be_bytes_8}
 use Rattle.nfs_xdr.specs.Tables.{In}
@@ -26,24 +26,21 @@ use Rattle.nfs_results.specs.Result as result
 use Rattle.nfs_results.specs.Result.{Res, Refused, ResLock, ResLockDenied, ResLockU, ResClose}
 use Rattle.nfs_results.specs.Results.{spell_result, refusal, done_head}
 use Rattle.nfs_results.proofs.Lengths.{length_head, length_spelled}
-use Rattle.nfs_opens.specs.declared.share.Share.{Share}
 use Rattle.nfs_opens.specs.declared.stateid.StateId.{StateId}
 use Rattle.nfs_opens.specs.declared.stateid.CurrentSeqid.TheVariants.{Any, Own}
 use Rattle.nfs_opens.specs.declared.records.LockState.{LockState}
-use Rattle.nfs_opens.specs.declared.judging.Seat.{Seat}
-use Rattle.nfs_opens.specs.declared.judging.Sort.TheVariants.{OpenOnly, LockOnly}
 use Rattle.nfs_opens.specs.declared.locking.Wish.{Wish}
 use Rattle.nfs_opens.specs.declared.locking.OpenFault.{OpenFault}
 use Rattle.nfs_opens.specs.declared.locking.OpenFault.TheVariants as F
-use Rattle.nfs_opens.specs.StateId.{last_number, next_seqid}
-use Rattle.nfs_opens.specs.Table.{Table, Did, lock_at}
+use Rattle.nfs_opens.specs.StateId.{last_number}
+use Rattle.nfs_opens.specs.Table.{Table}
 use Rattle.nfs_opens.specs.TableInvariants.{IsTable}
-use Rattle.nfs_opens.specs.Judging.{judge}
 use Rattle.nfs_opens.specs.Closing as closing
 use Rattle.nfs_opens.specs.Locking as locking
-use Rattle.nfs_opens.specs.Locking.{raised, lock_judged}
-use Rattle.nfs_opens.proofs.LockLemmas.{judged_lock}
-use Rattle.nfs_opens.proofs.StepLemmas.{first_state}
+use Rattle.nfs_opens.specs.Locking.{raised}
+use Rattle.nfs_opens.proofs.CallLaws.{first_state, IsLocked, IsUnlocked, unlocked_is}
+use Rattle.nfs_files.proofs.OpensMoved.{lock_is}
+use Rattle.nfs_files.proofs.Refused.{unlocked_by}
 use Rattle.nfs_names.specs.declared.context.Context.{Context}
 use Rattle.nfs_names.specs.State.{State}
 use Rattle.nfs_names.specs.Outcome.{Outcome, answers, mapped, is_ok, or_delay}
@@ -55,14 +52,13 @@ use Rattle.nfs_files.specs.Target.{target, the_file}
 use Rattle.nfs_files.specs.Ranges.{range, wish, wished, wished_by}
 use Rattle.nfs_files.specs.Operation.{grows}
 use Rattle.nfs_files.proofs.Outcomes.{one, one_or_delay}
-use Rattle.nfs_files.specs.Close.{spent, closes, close}
+use Rattle.nfs_files.specs.Close.{spent, closes, close, closed}
 use Rattle.nfs_files.specs.Lock as of_lock
 use Rattle.nfs_files.specs.LockU.{unlocking, unlocks, lock_u}
 use Rattle.nfs_files.specs.LockTold.{Names, LockTold}
 use Rattle.nfs_files.proofs.Inside.{Locks, Unlocks, Closes}
 use Rattle.nfs_files.specs.Laws.{ClashesAreRefused, ToldLocksAreHeld}
 use Rattle.nfs_files.proofs.KeptOps.{reclaim_parts, id_parts, lock_ok, clashing}
-use Rattle.nfs_files.proofs.KeptLocks.{lock_grants}
 use Rattle.nfs_files.proofs.ToldLocks.{granted_held, left_by}
 use Rattle.nfs_files.proofs.Steady.{Few}
 
@@ -145,12 +141,9 @@ ok_same b s x op o never ok = elim (delay_or_not b s x op o) [
 
 -- The lock state that a LOCK answers has a number that there can be, and is the client's.
 
-pub record IsClients (t : Table) (w : Wish) (did : Did StateId OpenFault) (id : StateId) : Type 0 where
-  pub small : id.number ≤ last_number
-  pub client : (l : LockState) → In l did.after.locks → l.number ≡ id.number → l.client ≡ w.client
-
-abbrev Grants : Table → Wish → Did StateId OpenFault → Type 0
-Grants t w did = (id : StateId) → did.answer ≡ Ok id → IsClients t w did id
+pub record IsClients (t : Table) (w : Wish) (did : StateId × Table) : Type 0 where
+  pub small : did.0.number ≤ last_number
+  pub client : (l : LockState) → In l did.1.locks → l.number ≡ did.0.number → l.client ≡ w.client
 
 raised_number : (n : ℕ) (l : LockState) → (cond (l.number == n) (raised l) l).number ≡ l.number
 raised_number n l = elim (l.number == n) as (λ v. (cond v (raised l) l).number ≡ l.number) [ true ↦ refl | false ↦ refl ]
@@ -158,76 +151,37 @@ raised_number n l = elim (l.number == n) as (λ v. (cond v (raised l) l).number 
 raised_client : (n : ℕ) (l : LockState) → (cond (l.number == n) (raised l) l).client ≡ l.client
 raised_client n l = elim (l.number == n) as (λ v. (cond v (raised l) l).client ≡ l.client) [ true ↦ refl | false ↦ refl ]
 
-more_clients : (t : Table) (w : Wish) (n : ℕ) (v : Result (Unit {0}) OpenFault) (o : Option LockState) → IsTable t → Few t → lock_at t n ≡ o
-    → ((l : LockState) → o ≡ Some l → l.client ≡ w.client) → Grants t w (locking.does_if t v (locking.lock_more t w n o))
-more_clients t w n (Err fault) o table few at mine id e = absurd cc
-more_clients t w n (Ok u) None table few at mine id e = absurd cc
-more_clients t w n (Ok u) (Some l) table few at mine id e =
-    let made : record { seqid = next_seqid l.seqid; instance = t.instance; number = n } ≡ id = cc in
-    let number : n ≡ id.number = ap (λ (i : StateId). i.number) made in
-    let found = find_in (λ (k : LockState). k.number == n) t.locks l at in
+locked_clients : (t : Table) (w : Wish) (did : StateId × Table) → IsTable t → Few t → IsLocked t w did → IsClients t w did
+locked_clients t w did table few (inl more) =
+    let n = more.number in
+    let l = more.state in
+    let number : n ≡ did.0.number = sym (ap (λ (i : StateId). i.number) more.answer) in
+    let found = find_in (λ (k : LockState). k.number == n) t.locks l more.found in
     let named : l.number ≡ n = eqb-true _ _ found.1 in
     let bounds = in_bounds (λ (k : LockState). k.number) 1 (suc t.last) t.locks l table.locks found.0 in
     let below = bounds.1 in
     record {
       small = omega arith;
       client = λ k there same.
-          (let was = in_map (λ (k : LockState). cond (k.number == n) (raised k) k) t.locks k there in
+          (let was = in_map (λ (k : LockState). cond (k.number == n) (raised k) k) t.locks k (subst (λ (u : Table). In k u.locks) more.left there) in
           let its : was.0.number ≡ n = sym (raised_number n was.0) ∙ (sym (ap (λ (k : LockState). k.number) was.2) ∙ (same ∙ sym number)) in
           let one : was.0 ≡ l = in_once (λ (k : LockState). k.number) 1 (suc t.last) t.locks was.0 l table.locks was.1 found.0 (its ∙ sym named) in
-          ap (λ (k : LockState). k.client) was.2 ∙ (raised_client n was.0 ∙ (ap (λ (k : LockState). k.client) one ∙ mine l refl)));
+          ap (λ (k : LockState). k.client) was.2 ∙ (raised_client n was.0 ∙ (ap (λ (k : LockState). k.client) one ∙ (more.own table).0)));
     }
-
-new_clients : (t : Table) (w : Wish) (opened : ℕ) (owner : List ℕ) (full : Bool) → IsTable t → Few t → eqb t.last last_number ≡ full
-    → Grants t w (locking.lock_new t w opened owner)
-new_clients t w opened owner true table few is id e = absurd (let bad = (rw is at e) in cc)
-new_clients t w opened owner false table few is id e =
-    let granted = (rw is at e) in
-    let made : record { seqid = 1; instance = t.instance; number = t.last + 1 } ≡ id = cc in
-    let number : t.last + 1 ≡ id.number = ap (λ (i : StateId). i.number) made in
-    let other = eqb-false t.last last_number is in
+locked_clients t w did table few (inr first) =
+    let number : t.last + 1 ≡ did.0.number = sym (ap (λ (i : StateId). i.number) first.answer) in
+    let other = eqb-false t.last last_number first.room in
     record {
       small = omega arith;
-      client = rw is (λ l there same. elim (in_push t.locks (first_state t w owner opened) l there) [
+      client = λ l there same. elim (in_push t.locks (first_state t w first.owner first.opened) l (subst (λ (u : Table). In l u.locks) first.left there)) [
         | inl new ↦ ap (λ (k : LockState). k.client) new
         | inr old ↦ absurd (let bounds = in_bounds (λ (k : LockState). k.number) 1 (suc t.last) t.locks l table.locks old in let below = bounds.1 in omega arith)
-      ]);
+      ];
     }
 
-first_clients : (t : Table) (w : Wish) (opened : ℕ) (owner : List ℕ) (v : Result (Unit {0}) OpenFault) → IsTable t → Few t
-    → Grants t w (locking.does_if t v (locking.lock_new t w opened owner))
-first_clients t w opened owner (Err fault) table few id e = absurd cc
-first_clients t w opened owner (Ok u) table few id e = new_clients t w opened owner (eqb t.last last_number) table few refl id e
-
-owner_clients : (t : Table) (w : Wish) (opened : ℕ) (owner : List ℕ) (access : Share) (o : Option LockState) → IsTable t → Few t
-    → locking.state_of t w.client owner w.file ≡ o → Grants t w (locking.lock_by_owner t w opened owner access o)
-owner_clients t w opened owner access None table few is = first_clients t w opened owner (lock_judged t 0 access w) table few
-owner_clients t w opened owner access (Some l) table few is =
-    let there = find_in (locking.is_locker w.client owner w.file) t.locks l is in
-    let tests = and_parts _ _ there.1 in
-    let mine : l.client ≡ w.client = eqb-true _ _ (and_parts _ _ tests.1).0 in
-    more_clients t w l.number (lock_judged t l.number access w) (lock_at t l.number) table few refl (λ k at.
-    (let found = find_in (λ (k : LockState). k.number == l.number) t.locks k at in
-    let one : k ≡ l = in_once (λ (k : LockState). k.number) 1 (suc t.last) t.locks k l table.locks found.0 there.0 (eqb-true _ _ found.1) in
-    ap (λ (k : LockState). k.client) one ∙ mine))
-
-under_clients : (t : Table) (w : Wish) (opened : ℕ) (owner : List ℕ) (v : Result Seat Status) → IsTable t → Few t
-    → Grants t w (locking.lock_under t w opened owner v)
-under_clients t w opened owner (Err status) table few id e = absurd cc
-under_clients t w opened owner (Ok seat) table few id e =
-    owner_clients t w opened owner (locking.access_in seat) (locking.state_of t w.client owner w.file) table few refl id e
-
-known_clients : (t : Table) (named : StateId) (w : Wish) (v : Result Seat Status) → IsTable t → Few t
-    → judge t named w.client (Some w.file) LockOnly ≡ v → Grants t w (locking.lock_known t w named.number v)
-known_clients t named w (Err status) table few judged id e = absurd cc
-known_clients t named w (Ok seat) table few judged id e =
-    let (l, at, client, file) = judged_lock t named w.client w.file seat judged in
-    more_clients t w named.number (lock_judged t named.number (locking.access_in seat) w) (lock_at t named.number) table few refl
-    (λ k there. (let same : Some l ≡ Some k = sym at ∙ there in let one : l ≡ k = cc in sym (ap (λ (k : LockState). k.client) one) ∙ client)) id e
-
-pub lock_clients : (t : Table) (who : args.Locker) (id : StateId) (w : Wish) → IsTable t → Few t → Grants t w (of_lock.locks_as t who id w)
-lock_clients t (args.OpenOwner o) id w table few = under_clients t w id.number o.lock_owner.owner (judge t id w.client (Some w.file) OpenOnly) table few
-lock_clients t (args.LockOwner o) id w table few = known_clients t id w (judge t id w.client (Some w.file) LockOnly) table few refl
+pub lock_clients : (t : Table) (who : args.Locker) (id : StateId) (w : Wish) (did : StateId × Table) → IsTable t → Few t → of_lock.locks_as t who id w ≡ Ok did
+    → IsClients t w did
+lock_clients t who id w did table few granted = locked_clients t w did table few (lock_is t who id w did granted)
 
 -- LOCK
 
@@ -241,10 +195,11 @@ unfolding wished
 wished_client s x how offset size w e =
     let d = came (the_file s x) _ w e in wish_client x how offset d.found.number (range offset size) w d.then
 
-lock_result : (s : State) (x : Context) (now : Time) (a : args.Lock) (m : Wished) (id : StateId) → of_lock.locking s x a ≡ Ok m
-    → (of_lock.locks_as s.opens a.locker m.id m.wish).answer ≡ Ok id → (one s x now (OpLock a)).result ≡ ResLock (wire_id id)
+lock_result : (s : State) (x : Context) (now : Time) (a : args.Lock) (m : Wished) (did : StateId × Table) → of_lock.locking s x a ≡ Ok m
+    → of_lock.locks_as s.opens a.locker m.id m.wish ≡ Ok did → (one s x now (OpLock a)).result ≡ ResLock (wire_id did.0)
 unfolding of_lock.lock
-lock_result s x now a m id judged granted = rw (judged, granted) refl
+lock_result s x now a m did judged granted = ap (λ v. (answers s x Num.Lock v (of_lock.locks s x a.locker)).result) judged
+    ∙ ap (λ v. (of_lock.locked s x v).result) granted
 
 pub record IsTold (op : OpNum) (s : State) (x : Context) (how : LockType) (offset size : ℕ) (text : List ℕ) (n : ℕ) (w : Wish) : Type 0 where
   pub wish : wished s x how offset size ≡ Ok w
@@ -259,15 +214,15 @@ lock_tells s x now refused a n w table few locks ok =
     let same : a ≡ locks.asked = cc in
     let m : Wished = record { wish = w; id = locks.id } in
     let judged : of_lock.locking s x a ≡ Ok m = subst (λ a. of_lock.locking s x a ≡ Ok m) (sym same) locks.judged in
-    let granted : (of_lock.locks_as s.opens a.locker m.id m.wish).answer ≡ Ok locks.answer =
-    subst (λ (a : args.Lock). (of_lock.locks_as s.opens a.locker m.id m.wish).answer ≡ Ok locks.answer) (sym same) locks.granted in
-    let small = (lock_clients s.opens a.locker locks.id w table few locks.answer granted).small in
-    let r : (one_or_delay refused s x now (OpLock a)).result ≡ ResLock (wire_id locks.answer) =
-    ok_same (grows s x (OpLock a) && refused) s x Num.Lock (one s x now (OpLock a)) refl ok ∙ lock_result s x now a m locks.answer judged granted in
+    let granted : of_lock.locks_as s.opens a.locker m.id m.wish ≡ Ok locks.did =
+    subst (λ (a : args.Lock). of_lock.locks_as s.opens a.locker m.id m.wish ≡ Ok locks.did) (sym same) locks.granted in
+    let small = (lock_clients s.opens a.locker locks.id w locks.did table few granted).small in
+    let r : (one_or_delay refused s x now (OpLock a)).result ≡ ResLock (wire_id locks.did.0) =
+    ok_same (grows s x (OpLock a) && refused) s x Num.Lock (one s x now (OpLock a)) refl ok ∙ lock_result s x now a m locks.did judged granted in
     record {
       wish = reclaim_parts x a (wished s x a.locktype a.offset a.length) (of_lock.stateid_in a.locker) m judged;
       names = subst (Names Num.Lock (spell_result (one_or_delay refused s x now (OpLock a)).result)) locks.state
-          (names_text Num.Lock _ locks.answer (ap spell_result r ∙ lock_spelled locks.answer) small);
+          (names_text Num.Lock _ locks.did.0 (ap spell_result r ∙ lock_spelled locks.did.0) small);
     }
 
 -- and a LOCK that tells so is granted
@@ -279,19 +234,19 @@ lock_grants_told s x now refused a n w table few wish names =
     by_judged (of_lock.locking s x a) refl
     (undelayed Num.Lock (grows s x (OpLock a) && refused) s x (one s x now (OpLock a)) n (lock_refused Delay n) names)
   where
-    by_answer : (m : Wished) → of_lock.locking s x a ≡ Ok m → (v : Result StateId OpenFault) → (of_lock.locks_as s.opens a.locker m.id m.wish).answer ≡ v
-        → Names Num.Lock (spell_result (of_lock.locked s x (of_lock.locks_as s.opens a.locker m.id m.wish).after v).result) n → Locks s x (OpLock a) n w
-    by_answer m judged (Ok id) granted told =
+    by_answer : (m : Wished) → of_lock.locking s x a ≡ Ok m → (v : Result (StateId × Table) OpenFault) → of_lock.locks_as s.opens a.locker m.id m.wish ≡ v
+        → Names Num.Lock (spell_result (of_lock.locked s x v).result) n → Locks s x (OpLock a) n w
+    by_answer m judged (Ok did) granted told =
         let same : m.wish ≡ w = ok_is (reclaim_parts x a (wished s x a.locktype a.offset a.length) (of_lock.stateid_in a.locker) m judged) wish in
-        let small = (lock_clients s.opens a.locker m.id m.wish table few id granted).small in
+        let small = (lock_clients s.opens a.locker m.id m.wish did table few granted).small in
         subst (Locks s x (OpLock a) n) same (record {
           asked = a;
           id = m.id;
-          answer = id;
+          did = did;
           is = refl;
           judged = judged;
           granted = granted;
-          state = named_text Num.Lock (spell_result (ResLock (wire_id id))) id n (lock_spelled id) small told;
+          state = named_text Num.Lock (spell_result (ResLock (wire_id did.0))) did.0 n (lock_spelled did.0) small told;
         })
     by_answer m judged (Err (F.Refused status)) granted told = absurd (lock_refused status n told)
     by_answer m judged (Err (F.Denied h)) granted told = absurd (denied_names _ n told)
@@ -300,34 +255,28 @@ lock_grants_told s x now refused a n w table few wish names =
     by_judged : (v : Result Wished Status) → of_lock.locking s x a ≡ v
         → Names Num.Lock (spell_result (answers s x Num.Lock v (of_lock.locks s x a.locker)).result) n → Locks s x (OpLock a) n w
     by_judged (Err status) judged told = absurd (lock_refused status n told)
-    by_judged (Ok m) judged told = by_answer m judged (of_lock.locks_as s.opens a.locker m.id m.wish).answer refl told
+    by_judged (Ok m) judged told = by_answer m judged (of_lock.locks_as s.opens a.locker m.id m.wish) refl told
 
 -- LOCKU
 
-cleared_id : (t : Table) (n file first last : ℕ) (o : Option LockState) (id : StateId) → IsTable t → Few t → lock_at t n ≡ o
-    → (locking.clear_lock t n file first last o).answer ≡ Ok id → (id.number ≡ n) × (n ≤ last_number)
-cleared_id t n file first last None id table few at e = absurd cc
-cleared_id t n file first last (Some l) id table few at e =
-    let made : record { seqid = next_seqid l.seqid; instance = t.instance; number = n } ≡ id = cc in
-    let found = find_in (λ (k : LockState). k.number == n) t.locks l at in
-    let named : l.number ≡ n = eqb-true _ _ found.1 in
-    let bounds = in_bounds (λ (k : LockState). k.number) 1 (suc t.last) t.locks l table.locks found.0 in
+unlocked_id : (t : Table) (id : StateId) (client file first last : ℕ) (did : StateId × Table) → IsTable t → Few t
+    → IsUnlocked t id client file first last did → (did.0.number ≡ id.number) × (id.number ≤ last_number)
+unlocked_id t id client file first last did table few its =
+    let found = find_in (λ (k : LockState). k.number == id.number) t.locks its.state its.found in
+    let named : its.state.number ≡ id.number = eqb-true _ _ found.1 in
+    let bounds = in_bounds (λ (k : LockState). k.number) 1 (suc t.last) t.locks its.state table.locks found.0 in
     let below = bounds.1 in
-    (sym (ap (λ (i : StateId). i.number) made), omega arith)
-
-unlock_id : (t : Table) (n file first last : ℕ) (v : Result Seat Status) (id : StateId) → IsTable t → Few t
-    → (locking.unlock_by t n file first last v).answer ≡ Ok id → (id.number ≡ n) × (n ≤ last_number)
-unlock_id t n file first last (Err status) id table few e = absurd cc
-unlock_id t n file first last (Ok seat) id table few e = cleared_id t n file first last (lock_at t n) id table few refl e
+    (ap (λ (i : StateId). i.number) its.answer, omega arith)
 
 unlock_wish : (x : Context) (a : LockU) (v : Result Wish Status) (m : Wished) → wished_by x a.lock_stateid v ≡ Ok m → v ≡ Ok m.wish
 unlock_wish x a (Err status) m e = absurd cc
 unlock_wish x a (Ok w) m e = ap Ok (id_parts m (λ (k : Wished). k.wish) _ w (λ id. refl) (meant x Any a.lock_stateid) e)
 
-unlock_result : (s : State) (x : Context) (now : Time) (a : LockU) (m : Wished) (id : StateId) → unlocking s x a ≡ Ok m
-    → (locking.unlock s.opens m.id m.wish.client m.wish.file m.wish.first m.wish.last).answer ≡ Ok id → (one s x now (OpLockU a)).result ≡ ResLockU (wire_id id)
+unlock_result : (s : State) (x : Context) (now : Time) (a : LockU) (m : Wished) (did : StateId × Table) → unlocking s x a ≡ Ok m
+    → locking.unlock s.opens m.id m.wish.client m.wish.file m.wish.first m.wish.last ≡ Ok did → (one s x now (OpLockU a)).result ≡ ResLockU (wire_id did.0)
 unfolding lock_u
-unlock_result s x now a m id judged granted = rw (judged, granted) refl
+unlock_result s x now a m did judged granted = ap (λ v. (answers s x Num.LockU v (unlocks s x)).result) judged
+    ∙ ap (λ v. (unlocked_by s x v).result) granted
 
 pub unlock_tells : (s : State) (x : Context) (now : Time) (refused : Bool) (a : LockU) (n : ℕ) (w : Wish) → IsTable s.opens → Few s.opens
     → Unlocks s x (OpLockU a) n w → is_ok (one_or_delay refused s x now (OpLockU a)).result ≡ true
@@ -337,23 +286,25 @@ unlock_tells s x now refused a n w table few unlocks ok =
     let same : a ≡ unlocks.asked = cc in
     let m : Wished = record { wish = w; id = unlocks.id } in
     let judged : unlocking s x a ≡ Ok m = subst (λ a. unlocking s x a ≡ Ok m) (sym same) unlocks.judged in
-    let id = unlock_id s.opens m.id.number w.file w.first w.last (judge s.opens m.id w.client (Some w.file) LockOnly) unlocks.answer table few unlocks.granted in
-    let r : (one_or_delay refused s x now (OpLockU a)).result ≡ ResLockU (wire_id unlocks.answer) =
-    ok_same (grows s x (OpLockU a) && refused) s x Num.LockU (one s x now (OpLockU a)) refl ok ∙ unlock_result s x now a m unlocks.answer judged unlocks.granted in
+    let id = unlocked_id s.opens m.id w.client w.file w.first w.last unlocks.did table few
+    (unlocked_is s.opens m.id w.client w.file w.first w.last unlocks.did unlocks.granted) in
+    let r : (one_or_delay refused s x now (OpLockU a)).result ≡ ResLockU (wire_id unlocks.did.0) =
+    ok_same (grows s x (OpLockU a) && refused) s x Num.LockU (one s x now (OpLockU a)) refl ok ∙ unlock_result s x now a m unlocks.did judged unlocks.granted in
     let number = id.0 in
     let low = id.1 in
     record {
       wish = unlock_wish x a (wished s x a.locktype a.offset a.length) m judged;
       names = subst (Names Num.LockU (spell_result (one_or_delay refused s x now (OpLockU a)).result)) (number ∙ unlocks.state)
-          (names_text Num.LockU _ unlocks.answer (ap spell_result r ∙ unlock_spelled unlocks.answer) (omega arith));
+          (names_text Num.LockU _ unlocks.did.0 (ap spell_result r ∙ unlock_spelled unlocks.did.0) (omega arith));
     }
 
 -- CLOSE
 
-close_result : (s : State) (x : Context) (now : Time) (a : Close) (t : Target) → target s x Own a.open_stateid ≡ Ok t
-    → (closing.close s.opens t.id x.client t.file).answer ≡ Ok tt → (one s x now (OpClose a)).result ≡ ResClose spent
+close_result : (s : State) (x : Context) (now : Time) (a : Close) (t : Target) (did : _) → target s x Own a.open_stateid ≡ Ok t
+    → closing.close s.opens t.id x.client t.file ≡ Ok did → (one s x now (OpClose a)).result ≡ ResClose spent
 unfolding close
-close_result s x now a t judged granted = rw (judged, granted) refl
+close_result s x now a t did judged granted = ap (λ v. (answers s x Num.Close v (closes s x)).result) judged
+    ∙ ap (λ v. (answers s x Num.Close v (λ did. closed s x t.file did.1)).result) granted
 
 target_parts : (file : ℕ) (t : Target) (v : Result StateId Status) → mapped (λ id. record { file = file; id = id }) v ≡ Ok t → v ≡ Ok t.id
 target_parts file t (Err status) e = absurd cc
@@ -379,7 +330,7 @@ close_tells s x now refused a n closes ok =
     let t : Target = record { file = closes.file; id = closes.id } in
     let judged : target s x Own a.open_stateid ≡ Ok t = subst (λ (a : Close). target s x Own a.open_stateid ≡ Ok t) (sym same) closes.judged in
     let r : (one_or_delay refused s x now (OpClose a)).result ≡ ResClose spent =
-    ok_same (grows s x (OpClose a) && refused) s x Num.Close (one s x now (OpClose a)) refl ok ∙ close_result s x now a t judged closes.granted in
+    ok_same (grows s x (OpClose a) && refused) s x Num.Close (one s x now (OpClose a)) refl ok ∙ close_result s x now a t closes.did judged closes.granted in
     record {
       id = closes.id;
       meant = target_meant s x a t judged;
@@ -403,11 +354,11 @@ told_ok s x now refused a n names = elim (delay_or_not (grows s x (OpLock a) && 
 -- what a LOCK that tells so did
 pub record IsDone (s : State) (x : Context) (now : Time) (refused : Bool) (a : args.Lock) (n : ℕ) (w : Wish) : Type 0 where
   pub id : StateId
-  pub answer : StateId
-  pub granted : (of_lock.locks_as s.opens a.locker id w).answer ≡ Ok answer
-  pub number : answer.number ≡ n
+  pub did : StateId × Table
+  pub granted : of_lock.locks_as s.opens a.locker id w ≡ Ok did
+  pub number : did.0.number ≡ n
   pub ok : is_ok (one_or_delay refused s x now (OpLock a)).result ≡ true
-  pub left : (one_or_delay refused s x now (OpLock a)).state.opens ≡ (of_lock.locks_as s.opens a.locker id w).after
+  pub left : (one_or_delay refused s x now (OpLock a)).state.opens ≡ did.1
 
 told_done : (s : State) (x : Context) (now : Time) (refused : Bool) (a : args.Lock) (n : ℕ) (w : Wish) → IsTable s.opens → Few s.opens
     → wished s x a.locktype a.offset a.length ≡ Ok w → Names Num.Lock (spell_result (one_or_delay refused s x now (OpLock a)).result) n
@@ -418,16 +369,16 @@ told_done s x now refused a n w table few wish names =
     let same : a ≡ locks.asked = cc in
     let m : Wished = record { wish = w; id = locks.id } in
     let judged : of_lock.locking s x a ≡ Ok m = subst (λ a. of_lock.locking s x a ≡ Ok m) (sym same) locks.judged in
-    let granted : (of_lock.locks_as s.opens a.locker locks.id w).answer ≡ Ok locks.answer =
-    subst (λ (a : args.Lock). (of_lock.locks_as s.opens a.locker locks.id w).answer ≡ Ok locks.answer) (sym same) locks.granted in
-    let ok = ap is_ok (told_ok s x now refused a n names) ∙ lock_ok s x now a m locks.answer judged granted in
+    let granted : of_lock.locks_as s.opens a.locker locks.id w ≡ Ok locks.did =
+    subst (λ (a : args.Lock). of_lock.locks_as s.opens a.locker locks.id w ≡ Ok locks.did) (sym same) locks.granted in
+    let ok = ap is_ok (told_ok s x now refused a n names) ∙ lock_ok s x now a m locks.did judged granted in
     record {
       id = locks.id;
-      answer = locks.answer;
+      did = locks.did;
       granted = granted;
       number = locks.state;
       ok = ok;
-      left = left_by s x now refused a m locks.answer judged granted ok;
+      left = left_by s x now refused a m locks.did judged granted ok;
     }
 
 pub told_is_ok : (s : State) (x : Context) (now : Time) (refused : Bool) (a : args.Lock) (n : ℕ) (w : Wish) → IsTable s.opens → Few s.opens
@@ -440,15 +391,15 @@ pub told_client : (s : State) (x : Context) (now : Time) (refused : Bool) (a : a
     → wished s x a.locktype a.offset a.length ≡ Ok w → Names Num.Lock (spell_result (one_or_delay refused s x now (OpLock a)).result) n
     → (l : LockState) → In l (one_or_delay refused s x now (OpLock a)).state.opens.locks → l.number ≡ n → l.client ≡ x.client
 told_client s x now refused a n w table few wish names l there number =
-    let did = told_done s x now refused a n w table few wish names in
-    (lock_clients s.opens a.locker did.id w table few did.answer did.granted).client l (subst (λ (t : Table). In l t.locks) did.left there)
-    (number ∙ sym did.number)
+    let done = told_done s x now refused a n w table few wish names in
+    (lock_clients s.opens a.locker done.id w done.did table few done.granted).client l (subst (λ (t : Table). In l t.locks) done.left there)
+    (number ∙ sym done.number)
     ∙ wished_client s x a.locktype a.offset a.length w wish
 
 pub told_held : ToldLocksAreHeld
 told_held s x now refused a n w table few wish names b lo hi =
-    let did = told_done s x now refused a n w table few wish names in
+    let done = told_done s x now refused a n w table few wish names in
     let k : LockTold = record { state = n; client = w.client; opened = 0; file = w.file; kind = w.kind; first = b; last = b } in
-    ap (λ (t : Table). t.held w.file n b) did.left
-    ∙ granted_held k s.opens w (of_lock.locks_as s.opens a.locker did.id w) did.answer (lock_grants s.opens a.locker did.id w did.answer did.granted) did.number
+    ap (λ (t : Table). t.held w.file n b) done.left
+    ∙ granted_held k s.opens w done.did (lock_is s.opens a.locker done.id w done.did done.granted) done.number
     refl refl lo hi b (omega arith) (omega arith)

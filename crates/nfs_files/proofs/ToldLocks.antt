@@ -6,6 +6,7 @@ use Rattle.nfs_xdr.specs.declared.time.Time.{Time}
 use Rattle.nfs_xdr.proofs.Lists.{find_in}
 use Rattle.nfs_compound.specs.LockArgs as args
 use Rattle.nfs_compound.specs.Arguments.{arguments}
+use Rattle.nfs_compound.specs.declared.op_num.OpNum.TheVariants as Num
 use Rattle.nfs_compound.specs.Operation.{OpLock}
 use Rattle.nfs_ranges.specs.declared.Kind.{Kind}
 use Rattle.nfs_ranges.specs.Holders.{holding, is_within}
@@ -13,18 +14,18 @@ use Rattle.nfs_ranges.proofs.CanonicalLemmas.{within_is}
 use Rattle.nfs_opens.specs.declared.stateid.StateId.{StateId}
 use Rattle.nfs_opens.specs.declared.records.LockState.{LockState}
 use Rattle.nfs_opens.specs.declared.locking.Wish.{Wish}
-use Rattle.nfs_opens.specs.declared.locking.OpenFault.{OpenFault}
 use Rattle.nfs_opens.specs.Holding.{FileHolders, on_file}
-use Rattle.nfs_opens.specs.Table.{Table, Did}
+use Rattle.nfs_opens.specs.Table.{Table}
 use Rattle.nfs_names.specs.declared.context.Context.{Context}
 use Rattle.nfs_names.specs.State.{State}
-use Rattle.nfs_names.specs.Outcome.{is_ok, or_delay}
+use Rattle.nfs_names.specs.Outcome.{is_ok, or_delay, answers}
 use Rattle.nfs_files.specs.Operation.{grows}
 use Rattle.nfs_files.proofs.Outcomes.{one, one_or_delay}
 use Rattle.nfs_files.specs.Lock as of_lock
 use Rattle.nfs_files.specs.LockTold.{LockTold, IsHeld}
 use Rattle.nfs_files.proofs.Inside.{ToldLocksStand}
-use Rattle.nfs_files.proofs.KeptLocks.{IsGranted, lock_grants}
+use Rattle.nfs_opens.proofs.CallLaws.{IsLocked}
+use Rattle.nfs_files.proofs.OpensMoved.{lock_is}
 use Rattle.nfs_files.proofs.KeptOps.{lock_ok}
 
 -- what a lock state has just locked it holds
@@ -32,43 +33,44 @@ held_now : (held : FileHolders) (file n : ℕ) (kind : Kind) (first last f s b :
     → on_file held file (λ h. holding h n kind first last) f s b ≡ Some kind
 held_now held file n kind first last f s b on number within = rw (eq-eqb f file on, eq-eqb n s number, within) refl
 
-pub granted_held : (k : LockTold) (t : Table) (w : Wish) (did : Did StateId OpenFault) (id : StateId) → IsGranted t w did id → id.number ≡ k.state
-    → k.file ≡ w.file → k.kind ≡ w.kind → w.first ≤ k.first → k.last ≤ w.last → IsHeld k did.after
-granted_held k t w did id (inl more) number file kind from to b lo hi =
+pub granted_held : (k : LockTold) (t : Table) (w : Wish) (did : StateId × Table) → IsLocked t w did → did.0.number ≡ k.state
+    → k.file ≡ w.file → k.kind ≡ w.kind → w.first ≤ k.first → k.last ≤ w.last → IsHeld k did.1
+granted_held k t w did (inl more) number file kind from to b lo hi =
     ap (λ (u : Table). u.held k.file k.state b) more.left
-    ∙ held_now t.held w.file id.number w.kind w.first w.last k.file k.state b file number (within_is w.first w.last b (omega arith) (omega arith))
+    ∙ held_now t.held w.file more.number w.kind w.first w.last k.file k.state b file (sym (ap (λ (i : StateId). i.number) more.answer) ∙ number)
+    (within_is w.first w.last b (omega arith) (omega arith))
     ∙ ap Some (sym kind)
-granted_held k t w did id (inr first) number file kind from to b lo hi =
+granted_held k t w did (inr first) number file kind from to b lo hi =
     ap (λ (u : Table). u.held k.file k.state b) first.left
-    ∙ held_now t.held w.file (t.last + 1) w.kind w.first w.last k.file k.state b file (sym first.number ∙ number)
+    ∙ held_now t.held w.file (t.last + 1) w.kind w.first w.last k.file k.state b file (sym (ap (λ (i : StateId). i.number) first.answer) ∙ number)
     (within_is w.first w.last b (omega arith) (omega arith))
     ∙ ap Some (sym kind)
 
-lock_left : (s : State) (x : Context) (now : Time) (a : args.Lock) (m : _) (id : StateId) → of_lock.locking s x a ≡ Ok m
-    → (of_lock.locks_as s.opens a.locker m.id m.wish).answer ≡ Ok id
-    → (one s x now (OpLock a)).state.opens ≡ (of_lock.locks_as s.opens a.locker m.id m.wish).after
+lock_left : (s : State) (x : Context) (now : Time) (a : args.Lock) (m : _) (did : _) → of_lock.locking s x a ≡ Ok m
+    → of_lock.locks_as s.opens a.locker m.id m.wish ≡ Ok did → (one s x now (OpLock a)).state.opens ≡ did.1
 unfolding of_lock.lock
-lock_left s x now a m id judged granted = rw (judged, granted) refl
+lock_left s x now a m did judged granted = ap (λ v. (answers s x Num.Lock v (of_lock.locks s x a.locker)).state.opens) judged
+    ∙ ap (λ v. (of_lock.locked s x v).state.opens) granted
 
 -- a LOCK that is granted and not delayed leaves what it does to the opens
-pub left_by : (s : State) (x : Context) (now : Time) (refused : Bool) (a : args.Lock) (m : _) (id : StateId) → of_lock.locking s x a ≡ Ok m
-    → (of_lock.locks_as s.opens a.locker m.id m.wish).answer ≡ Ok id → is_ok (one_or_delay refused s x now (OpLock a)).result ≡ true
-    → (one_or_delay refused s x now (OpLock a)).state.opens ≡ (of_lock.locks_as s.opens a.locker m.id m.wish).after
-left_by s x now refused a m id judged granted ok = go (grows s x (OpLock a) && refused) ok
+pub left_by : (s : State) (x : Context) (now : Time) (refused : Bool) (a : args.Lock) (m : _) (did : _) → of_lock.locking s x a ≡ Ok m
+    → of_lock.locks_as s.opens a.locker m.id m.wish ≡ Ok did → is_ok (one_or_delay refused s x now (OpLock a)).result ≡ true
+    → (one_or_delay refused s x now (OpLock a)).state.opens ≡ did.1
+left_by s x now refused a m did judged granted ok = go (grows s x (OpLock a) && refused) ok
   where
     go : (b : Bool) → is_ok (or_delay b s x (arguments (OpLock a)).op (one s x now (OpLock a))).result ≡ true
-        → (or_delay b s x (arguments (OpLock a)).op (one s x now (OpLock a))).state.opens ≡ (of_lock.locks_as s.opens a.locker m.id m.wish).after
-    go false ok = lock_left s x now a m id judged granted
-    go true ok = absurd (let bad = (rw (lock_ok s x now a m id judged granted) at ok) in cc)
+        → (or_delay b s x (arguments (OpLock a)).op (one s x now (OpLock a))).state.opens ≡ did.1
+    go false ok = lock_left s x now a m did judged granted
+    go true ok = absurd (let bad = (rw (lock_ok s x now a m did judged granted) at ok) in cc)
 
 pub told_stands : ToldLocksStand
 told_stands k s x now refused op ok tells =
     let locks = tells.locks in
     let range = tells.range in
-    let did = of_lock.locks_as s.opens locks.asked.locker locks.id tells.wish in
+    let did = locks.did in
     let u : Table = (one_or_delay refused s x now op).state.opens in
-    let is : u ≡ did.after = subst (λ o. is_ok (one_or_delay refused s x now o).result ≡ true → (one_or_delay refused s x now o).state.opens ≡ did.after) (sym locks.is)
-    (left_by s x now refused locks.asked (record { wish = tells.wish; id = locks.id }) locks.answer locks.judged locks.granted) ok in
+    let is : u ≡ did.1 = subst (λ o. is_ok (one_or_delay refused s x now o).result ≡ true → (one_or_delay refused s x now o).state.opens ≡ did.1) (sym locks.is)
+    (left_by s x now refused locks.asked (record { wish = tells.wish; id = locks.id }) did locks.judged locks.granted) ok in
     let found = find_in (λ (l : LockState). l.number == k.state) u.locks tells.lock tells.stands in
     record {
       lock = tells.lock;
@@ -77,6 +79,6 @@ told_stands k s x now refused op ok tells =
       client = sym tells.client;
       opened = sym tells.opened;
       held = λ b lo hi. ap (λ (t : Table). t.held k.file k.state b) is
-          ∙ granted_held k s.opens tells.wish did locks.answer (lock_grants s.opens locks.asked.locker locks.id tells.wish locks.answer locks.granted)
+          ∙ granted_held k s.opens tells.wish did (lock_is s.opens locks.asked.locker locks.id tells.wish did locks.granted)
           locks.state tells.file tells.kind range.0 range.2 b lo hi;
     }

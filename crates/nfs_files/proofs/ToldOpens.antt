@@ -1,24 +1,22 @@
 -- What an operation leaves of an open that was told, and what an OPEN that answers its stateid did.
-use Rattle.std.proofs.Common.{◌≡◌, ◌≢◌, ℕ, suc, ◌+◌, ◌<◌, ◌≤◌, Bool, true, false, cond, eqb, not, List, [], ◌∷◌, ◌++◌, length, take, drop, map, Option, Some, None, refl, sym, ◌∙◌, ap, subst, arith, inl, inr}
-use Rattle.std.specs.Prelude.{◌==◌, ◌&&◌, ◌||◌, nat_le, filter, option_map, is_none, bytes_eq, Result, Ok, Err, if◌then◌else◌}
+use Rattle.std.proofs.Common.{◌≡◌, ◌≢◌, ℕ, suc, ◌+◌, ◌≤◌, Bool, true, false, cond, not, List, [], ◌∷◌, ◌++◌, length, take, drop, map, Option, Some, None, refl, sym, ◌∙◌, ap, subst, arith, inl, inr}
+use Rattle.std.specs.Prelude.{◌==◌, ◌&&◌, ◌||◌, nat_le, option_map, is_none, bytes_eq, Result, Ok, Err, if◌then◌else◌}
 use Rattle.std.specs.List.{list_any}
 use Rattle.std.specs.Int.{w64, from_be_bytes}
-use Rattle.std.proofs.lemmas.Bool.{cases_Bool, cases_eq, eq-eqb, ne_eqb, eqb-true, eqb-false, and_parts, le-leb, leb-true, true≢false, false≢true}
+use Rattle.std.proofs.lemmas.Bool.{cases_Bool, cases_eq, eq-eqb, ne_eqb, eqb-true, eqb-false, and_parts, le-leb, true≢false}
 use Rattle.std.proofs.lemmas.Slice.Eq.{bytes_eq-Decides}
-use Rattle.std.proofs.lemmas.List.{length-append}
 use Rattle.std.proofs.lemmas.Nat.{from_be_bytes-to_be_bytes_8}
-use Rattle.nfs_xdr.specs.Checks.{first_fault}
 use Rattle.nfs_xdr.specs.Spelling.{number, hyper}
 use Rattle.nfs_xdr.specs.Tables.{In}
 use Rattle.nfs_xdr.specs.declared.time.Time.{Time}
 use Rattle.nfs_xdr.specs.declared.status.Status.{Status}
-use Rattle.nfs_xdr.specs.declared.status.Status.TheVariants.{BadStateId, Inval, Delay}
+use Rattle.nfs_xdr.specs.declared.status.Status.TheVariants.{Inval, Delay}
 use Rattle.nfs_xdr.proofs.Checks.{all_passed}
-use Rattle.nfs_xdr.proofs.Lists.{find_in, none_any, none_in, map_in, push_in, last_in, stays_in, find_push_none}
-use Rattle.nfs_xdr.proofs.Tables.{in_bounds, in_once}
+use Rattle.nfs_xdr.proofs.Lists.{find_in, none_any, map_in, push_in, last_in, stays_in, find_push_none}
+use Rattle.nfs_xdr.proofs.Tables.{in_bounds}
 use Rattle.nfs_compound.specs.Arguments.{arguments}
 use Rattle.nfs_compound.specs.LockArgs as args
-use Rattle.nfs_compound.specs.OpenArgs.{Open, OpenClaim, Null, Fh, Previous}
+use Rattle.nfs_compound.specs.OpenArgs.{Open, OpenClaim, Null, Fh}
 use Rattle.nfs_compound.specs.Stateid.{stateid}
 use Rattle.nfs_compound.specs.declared.op_num.OpNum.{OpNum}
 use Rattle.nfs_compound.specs.declared.op_num.OpNum.TheVariants as Num
@@ -27,15 +25,14 @@ use Rattle.nfs_compound.specs.declared.stateid.Stateid.{Stateid}
 use Rattle.nfs_compound.specs.declared.lock_args.LockU.{LockU}
 use Rattle.nfs_compound.specs.declared.open_args.Close.{Close}
 use Rattle.nfs_compound.specs.declared.open_args.OpenDowngrade.{OpenDowngrade}
-use Rattle.nfs_compound.specs.Operation.{Op, Item, Operation, Fault, OpClose, OpCommit, OpFreeStateid, OpLock, OpLockT, OpLockU, OpOpen, OpOpenDowngrade}
+use Rattle.nfs_compound.specs.Operation.{Op, Operation, OpClose, OpCommit, OpFreeStateid, OpLock, OpLockT, OpLockU, OpOpen, OpOpenDowngrade}
 use Rattle.nfs_compound.specs.Operation.{OpRead, OpSetAttr, OpTestStateid, OpWrite}
 use Rattle.nfs_results.specs.declared.res.ChangeInfo.{ChangeInfo}
 use Rattle.nfs_results.specs.Items.{open_ok}
-use Rattle.nfs_results.specs.Result.{Res, Refused, ResOpen, ResOpenDowngrade}
-use Rattle.nfs_results.specs.Results.{spell_result, refusal, done_head}
+use Rattle.nfs_results.specs.Result.{Refused, ResOpen, ResOpenDowngrade}
+use Rattle.nfs_results.specs.Results.{spell_result, done_head}
 use Rattle.nfs_results.proofs.Lengths.{length_spelled}
 use Rattle.nfs_ranges.specs.declared.Held.{Held}
-use Rattle.nfs_ranges.specs.Holders.{holds_any}
 use Rattle.nfs_tree.specs.declared.object.Object.{Object}
 use Rattle.nfs_tree.specs.declared.row.Row.{Row}
 use Rattle.nfs_tree.specs.declared.sets.Sets.{Sets}
@@ -44,21 +41,13 @@ use Rattle.nfs_tree.specs.Files.{Files, object_at, is_entry, entry, lookup}
 use Rattle.nfs_tree.proofs.RowsKept.{entry_self}
 use Rattle.nfs_opens.specs.declared.share.Share.{Share}
 use Rattle.nfs_opens.specs.declared.stateid.StateId.{StateId}
-use Rattle.nfs_opens.specs.declared.stateid.CurrentSeqid.TheVariants.{Any, Own}
 use Rattle.nfs_opens.specs.declared.records.OpenState.{OpenState}
-use Rattle.nfs_opens.specs.declared.records.LockState.{LockState}
-use Rattle.nfs_opens.specs.declared.judging.Seat.{Seat}
-use Rattle.nfs_opens.specs.declared.judging.Seat.TheVariants as Seats
-use Rattle.nfs_opens.specs.declared.judging.Sort.TheVariants.{OpenOnly, LockOnly, Either}
 use Rattle.nfs_opens.specs.declared.locking.Wish.{Wish}
-use Rattle.nfs_opens.specs.declared.locking.OpenFault.{OpenFault}
-use Rattle.nfs_opens.specs.declared.locking.OpenFault.TheVariants as F
 use Rattle.nfs_opens.specs.Share.{meets, joined}
-use Rattle.nfs_opens.specs.StateId.{last_number, next_seqid}
-use Rattle.nfs_opens.specs.Table.{Table, Did, Asked, is_own, is_owners, clashes_with, open_at, lock_at, with_open}
+use Rattle.nfs_opens.specs.StateId.{last_number}
+use Rattle.nfs_opens.specs.Table.{Table, Asked, is_own, is_owners, clashes_with, with_open}
 use Rattle.nfs_opens.specs.Calls.{open_fault, open_checks}
 use Rattle.nfs_opens.specs.TableInvariants.{IsTable}
-use Rattle.nfs_opens.specs.Judging.{judge}
 use Rattle.nfs_opens.specs.Closing as closing
 use Rattle.nfs_opens.specs.Opening as opening
 use Rattle.nfs_opens.specs.Locking as locking
@@ -69,26 +58,25 @@ use Rattle.nfs_names.specs.State.{State}
 use Rattle.nfs_names.specs.Ending.{with_opens}
 use Rattle.nfs_names.specs.Checks.{node_as, node_at, current}
 use Rattle.nfs_names.specs.Create.{attributes_in}
-use Rattle.nfs_names.specs.Outcome.{Outcome, ◌>>=◌, answers, refuses, checked, mapped, or_delay, is_ok}
+use Rattle.nfs_names.specs.Outcome.{Outcome, refuses, checked, mapped, or_delay, is_ok}
 use Rattle.nfs_names.proofs.Found.{came, checked_ok, ok_is}
 use Rattle.nfs_names.proofs.Ones.{by_delay}
 use Rattle.nfs_names.proofs.Untouched.{unused_opens}
 use Rattle.nfs_files.specs.declared.target.Target.{Target}
 use Rattle.nfs_files.specs.declared.opening.Found.{Found}
 use Rattle.nfs_files.specs.declared.opening.Found.TheVariants.{There, Absent}
-use Rattle.nfs_files.specs.StateIds.{wire_id, meant}
-use Rattle.nfs_files.specs.Target.{target}
+use Rattle.nfs_files.specs.StateIds.{wire_id}
 use Rattle.nfs_files.specs.Operation.{grows}
 use Rattle.nfs_files.proofs.Outcomes.{one, one_or_delay, comes_to}
-use Rattle.nfs_files.specs.Close.{closed, closes, close}
+use Rattle.nfs_files.specs.Close.{closes, close}
 use Rattle.nfs_files.specs.Commit.{commit}
-use Rattle.nfs_files.specs.FreeStateid.{frees, free_stateid}
+use Rattle.nfs_files.specs.FreeStateid.{free_stateid}
 use Rattle.nfs_files.specs.Lock as of_lock
 use Rattle.nfs_files.specs.LockT.{tested, lock_t}
-use Rattle.nfs_files.specs.LockU.{unlocking, unlocked, unlocks, lock_u}
+use Rattle.nfs_files.specs.LockU.{lock_u}
 use Rattle.nfs_files.specs.Open as of_open
 use Rattle.nfs_files.specs.Open.{access_of, deny_of}
-use Rattle.nfs_files.specs.OpenDowngrade.{bits, narrowing, narrowed, narrows, open_downgrade}
+use Rattle.nfs_files.specs.OpenDowngrade.{bits, narrowed, narrows, open_downgrade}
 use Rattle.nfs_files.specs.Read.{read}
 use Rattle.nfs_files.specs.SetAttr.{was_set, set_attr}
 use Rattle.nfs_files.specs.TestStateid.{test_stateid}
@@ -96,7 +84,9 @@ use Rattle.nfs_files.specs.Write.{was_written, write}
 use Rattle.nfs_files.specs.OpenTold.{names_open, OpenTold, Bits, bits_with, bits_had, bits_behind, IsOpenWith, named_in, claimed, forbids}
 use Rattle.nfs_files.specs.OpenLaws.{IsToldOpen, ToldOpensStand, ForbiddenOpensAreRefused}
 use Rattle.nfs_files.proofs.Inside.{Closes}
-use Rattle.nfs_files.proofs.KeptLocks.{IsGranted, lock_grants}
+use Rattle.nfs_opens.proofs.CallLaws.{IsLocked, IsNarrowed}
+use Rattle.nfs_files.specs.declared.target.Target.{Target}
+use Rattle.nfs_files.proofs.OpensMoved.{answered, by_close, by_free, by_downgrade, by_lock, by_unlock}
 use Rattle.nfs_files.proofs.KeptOps.{found, close_ok}
 use Rattle.nfs_files.proofs.Opened.{shared_free}
 use Rattle.nfs_files.proofs.Steady.{Few}
@@ -106,61 +96,18 @@ use Rattle.nfs_files.proofs.Steady.{Few}
 abbrev Alike : State → State → Type 0
 Alike s u = u.opens.opens ≡ s.opens.opens
 
-freed_alike : (t : Table) (n : ℕ) (l : Option LockState) → (closing.free_lock t n l).after.opens ≡ t.opens
-freed_alike t n None = refl
-freed_alike t n (Some l) = elim (cases_Bool (holds_any (t.held l.file) n)) [ inl held ↦ rw held refl | inr none ↦ rw none refl ]
-
-free_by_alike : (t : Table) (v : Result Seat Status) → (closing.free_by t v).after.opens ≡ t.opens
-free_by_alike t (Err status) = refl
-free_by_alike t (Ok Seats.Anonymous) = refl
-free_by_alike t (Ok Seats.ReadBypass) = refl
-free_by_alike t (Ok (Seats.Open number access)) = refl
-free_by_alike t (Ok (Seats.Lock number access)) = freed_alike t number (lock_at t number)
-
 free_alike : (s : State) (x : Context) (given : Stateid) → Alike s (free_stateid s x given).state
-unfolding free_stateid
-free_alike s x given =
-    found (Alike s) s x Num.FreeStateid (meant x Any given) (frees s x) refl (λ id judged.
-    found (Alike s) s x Num.FreeStateid (closing.free s.opens id x.client).answer _ refl (λ u granted.
-    free_by_alike s.opens (judge s.opens id x.client None Either)))
+free_alike s x given = by_free (λ o. Alike s o.state) s x given (λ status. refl) (λ id did freed. refl)
 
-granted_alike : (t : Table) (w : Wish) (did : Did StateId OpenFault) (id : StateId) → IsGranted t w did id → did.after.opens ≡ t.opens
-granted_alike t w did id (inl more) = ap (λ (u : Table). u.opens) more.left
-granted_alike t w did id (inr first) = ap (λ (u : Table). u.opens) first.left
-
-locked_alike : (s : State) (x : Context) (after : Table) (v : Result StateId OpenFault) → ((id : StateId) → v ≡ Ok id → after.opens ≡ s.opens.opens)
-    → Alike s (of_lock.locked s x after v).state
-locked_alike s x after (Ok id) each = each id refl
-locked_alike s x after (Err (F.Refused status)) each = refl
-locked_alike s x after (Err (F.Denied h)) each = refl
-locked_alike s x after (Err F.Memory) each = refl
+locked_alike : (t : Table) (w : Wish) (did : StateId × Table) → IsLocked t w did → did.1.opens ≡ t.opens
+locked_alike t w did (inl more) = ap (λ (u : Table). u.opens) more.left
+locked_alike t w did (inr first) = ap (λ (u : Table). u.opens) first.left
 
 lock_alike : (s : State) (x : Context) (a : args.Lock) → Alike s (of_lock.lock s x a).state
-unfolding of_lock.lock
-lock_alike s x a =
-    found (Alike s) s x Num.Lock (of_lock.locking s x a) (of_lock.locks s x a.locker) refl (λ m judged.
-    (let did = of_lock.locks_as s.opens a.locker m.id m.wish in
-    locked_alike s x did.after did.answer (λ id granted. granted_alike s.opens m.wish did id (lock_grants s.opens a.locker m.id m.wish id granted))))
-
-cleared_alike : (t : Table) (n file first last : ℕ) (l : Option LockState) → (locking.clear_lock t n file first last l).after.opens ≡ t.opens
-cleared_alike t n file first last None = refl
-cleared_alike t n file first last (Some l) = refl
-
-unlock_alike : (t : Table) (n file first last : ℕ) (v : Result Seat Status) → (locking.unlock_by t n file first last v).after.opens ≡ t.opens
-unlock_alike t n file first last (Err status) = refl
-unlock_alike t n file first last (Ok seat) = cleared_alike t n file first last (lock_at t n)
-
-unlocked_alike : (s : State) (x : Context) (after : Table) (v : Result StateId OpenFault) → after.opens ≡ s.opens.opens → Alike s (unlocked s x after v).state
-unlocked_alike s x after (Ok id) same = same
-unlocked_alike s x after (Err fault) same = refl
+lock_alike s x a = by_lock (λ o. Alike s o.state) s x a (λ status. refl) (λ h. refl) (λ m did judged granted locked. locked_alike s.opens m.wish did locked)
 
 lock_u_alike : (s : State) (x : Context) (a : LockU) → Alike s (lock_u s x a).state
-unfolding lock_u
-lock_u_alike s x a =
-    found (Alike s) s x Num.LockU (unlocking s x a) (unlocks s x) refl (λ m judged.
-    (let w = m.wish in let did = locking.unlock s.opens m.id w.client w.file w.first w.last in
-    unlocked_alike s x did.after did.answer
-    (unlock_alike s.opens m.id.number w.file w.first w.last (judge s.opens m.id w.client (Some w.file) LockOnly))))
+lock_u_alike s x a = by_unlock (λ o. Alike s o.state) s x a (λ status. refl) (λ m did judged granted its. ap (λ (u : Table). u.opens) its.left)
 
 tested_alike : (s : State) (x : Context) (o : Option Held) → Alike s (tested s x o).state
 tested_alike s x None = refl
@@ -337,28 +284,12 @@ pushed_left k b t new last is = record {
 
 -- CLOSE
 
-by_seat : (k : OpenTold) (b : Bits) (s : State) (x : Context) (file : ℕ) (id : StateId) (v : Result Seat Status) → IsOpenWith k b s.opens
-    → ((closing.close_by s.opens id.number v).answer ≡ Ok tt → id.number ≢ k.number)
-    → IsOpenWith k b (answers s x Num.Close (closing.close_by s.opens id.number v).answer
-    (λ u. closed s x file (closing.close_by s.opens id.number v).after)).state.opens
-by_seat k b s x file id (Err status) is other = is
-by_seat k b s x file id (Ok seat) is other =
-    subst (IsOpenWith k b) (sym (unused_opens (with_opens s (closing.without_open s.opens id.number)) file))
-    (closed_left k b s.opens id.number (other refl) is)
-
 close_left : (k : OpenTold) (b : Bits) (s : State) (x : Context) (a : Close) → ((n : ℕ) → Closes s x (OpClose a) n → n ≢ k.number)
     → IsOpenWith k b s.opens → IsOpenWith k b (close s x a).state.opens
-unfolding close
-close_left k b s x a spares is =
-    found (λ (u : State). IsOpenWith k b u.opens) s x Num.Close (target s x Own a.open_stateid) (closes s x) is (λ t judged.
-    by_seat k b s x t.file t.id (judge s.opens t.id x.client (Some t.file) OpenOnly) is (λ granted.
-    spares t.id.number (record { asked = a; file = t.file; id = t.id; is = refl; judged = judged; granted = granted; opened = refl })))
-
--- what an operation comes to, by what was found
-answered : {A : Type 0} (P : Outcome → Type 0) (s : State) (x : Context) (op : OpNum) (v : Result A Status) (f : A → Outcome)
-    → ((status : Status) → P (refuses s x op status)) → ((a : A) → v ≡ Ok a → P (f a)) → P (answers s x op v f)
-answered P s x op (Err status) f refused each = refused status
-answered P s x op (Ok a) f refused each = each a refl
+close_left k b s x a spares is = by_close (λ o. IsOpenWith k b o.state.opens) s x a (λ status. is) (λ t did judged granted its.
+    subst (IsOpenWith k b) (sym (unused_opens (with_opens s (closing.without_open s.opens t.id.number)) t.file))
+    (closed_left k b s.opens t.id.number
+    (spares t.id.number (record { asked = a; file = t.file; id = t.id; did = did; is = refl; judged = judged; granted = granted; opened = refl })) is))
 
 -- OPEN_DOWNGRADE
 
@@ -374,48 +305,27 @@ downgrade_refused k b s x a is status =
 narrow_mild : (access deny : Share) → IsMild (opening.narrows access deny)
 narrow_mild access deny = record { number = λ o. refl; client = λ o. refl; owner = λ o. refl; file = λ o. refl }
 
-narrow_left : (k : OpenTold) (b : Bits) (s : State) (x : Context) (a : OpenDowngrade) (n : ℕ) (o : Option OpenState) → IsTable s.opens → Few s.opens
-    → open_at s.opens n ≡ o → IsOpenWith k b s.opens
-    → (let did = opening.narrow_open s.opens n (bits a.share_access) (bits a.share_deny) o in
-    LeftBy k b (OpOpenDowngrade a) (answers s x Num.OpenDowngrade did.answer (λ id. narrowed s x id did.after)))
-narrow_left k b s x a n None table few at is = downgrade_refused k b s x a is BadStateId
-narrow_left k b s x a n (Some o) table few at is = elim (cases_Bool (opening.is_narrower (bits a.share_access) (bits a.share_deny) o)) [
-  | inl part ↦ rw part granted
-  | inr more ↦ rw more (downgrade_refused k b s x a is Inval)
-]
-  where
-    id : StateId
-    id = record { seqid = next_seqid o.seqid; instance = s.opens.instance; number = n }
-
-    small : n ≤ last_number
-    small =
-        (let there = find_in (λ (o : OpenState). o.number == n) s.opens.opens o at in
-        let bounds = in_bounds (λ (o : OpenState). o.number) 1 (suc s.opens.last) s.opens.opens o table.opens there.0 in
-        let below = bounds.1 in let named = eqb-true _ _ there.1 in omega arith)
-
-    granted : LeftBy k b (OpOpenDowngrade a)
-        (narrowed s x (record { seqid = next_seqid o.seqid; instance = s.opens.instance; number = n })
-        (with_open s.opens n (opening.narrows (bits a.share_access) (bits a.share_deny))))
-    granted =
-        subst (λ v. IsOpenWith k (cond v (record { access = bits a.share_access; deny = bits a.share_deny }) b)
-        (with_open s.opens n (opening.narrows (bits a.share_access) (bits a.share_deny))))
-        (sym (names_of_downgrade (record { seqid = next_seqid o.seqid; instance = s.opens.instance; number = n }) k.number small))
-        (changed_left k b (record { access = bits a.share_access; deny = bits a.share_deny }) s.opens n (opening.narrows (bits a.share_access) (bits a.share_deny))
-        (n == k.number) refl (narrow_mild (bits a.share_access) (bits a.share_deny)) (λ o access deny. (refl, refl)) is)
-
-downgrade_by_left : (k : OpenTold) (b : Bits) (s : State) (x : Context) (a : OpenDowngrade) (n : ℕ) (v : Result Seat Status) → IsTable s.opens → Few s.opens
-    → IsOpenWith k b s.opens
-    → (let did = opening.downgrade_by s.opens n (bits a.share_access) (bits a.share_deny) v in
-    LeftBy k b (OpOpenDowngrade a) (answers s x Num.OpenDowngrade did.answer (λ id. narrowed s x id did.after)))
-downgrade_by_left k b s x a n (Err status) table few is = downgrade_refused k b s x a is status
-downgrade_by_left k b s x a n (Ok seat) table few is = narrow_left k b s x a n (open_at s.opens n) table few refl is
+narrowed_left : (k : OpenTold) (b : Bits) (s : State) (x : Context) (a : OpenDowngrade) (t : Target) (did : StateId × Table) → IsTable s.opens → Few s.opens
+    → IsOpenWith k b s.opens → IsNarrowed s.opens t.id x.client t.file (bits a.share_access) (bits a.share_deny) did
+    → LeftBy k b (OpOpenDowngrade a) (narrowed s x did.0 (with_open s.opens t.id.number (opening.narrows (bits a.share_access) (bits a.share_deny))))
+narrowed_left k b s x a t did table few is its =
+    let n = t.id.number in
+    let access = bits a.share_access in
+    let deny = bits a.share_deny in
+    let there = find_in (λ (o : OpenState). o.number == n) s.opens.opens its.state its.found in
+    let below = (in_bounds (λ (o : OpenState). o.number) 1 (suc s.opens.last) s.opens.opens its.state table.opens there.0).1 in
+    let named = eqb-true _ _ there.1 in
+    let number : did.0.number ≡ n = ap (λ (i : StateId). i.number) its.answer in
+    let small : did.0.number ≤ last_number = omega arith in
+    subst (λ v. IsOpenWith k (cond v (record { access = access; deny = deny }) b) (with_open s.opens n (opening.narrows access deny)))
+    (sym (names_of_downgrade did.0 k.number small ∙ ap (λ (m : ℕ). m == k.number) number))
+    (changed_left k b (record { access = access; deny = deny }) s.opens n (opening.narrows access deny)
+    (n == k.number) refl (narrow_mild access deny) (λ o access deny. (refl, refl)) is)
 
 downgrade_left : (k : OpenTold) (b : Bits) (s : State) (x : Context) (a : OpenDowngrade) → IsTable s.opens → Few s.opens → IsOpenWith k b s.opens
     → LeftBy k b (OpOpenDowngrade a) (open_downgrade s x a)
-unfolding open_downgrade
-downgrade_left k b s x a table few is =
-    answered (LeftBy k b (OpOpenDowngrade a)) s x Num.OpenDowngrade (narrowing s x a) (narrows s x a) (downgrade_refused k b s x a is) (λ t judged.
-    downgrade_by_left k b s x a t.id.number (judge s.opens t.id x.client (Some t.file) OpenOnly) table few is)
+downgrade_left k b s x a table few is = by_downgrade (LeftBy k b (OpOpenDowngrade a)) s x a (downgrade_refused k b s x a is)
+    (λ t did its. narrowed_left k b s x a t did table few is its)
 
 -- OPEN
 
@@ -495,7 +405,7 @@ pub told_open_left : (k : OpenTold) (b : Bits) (refused : Bool) (s : State) (x :
     → LeftBy k b op (one_or_delay refused s x now op)
 told_open_left k b refused s x now (OpClose a) table few spares is = close_left k b s x a (λ n closes.
     spares (subst (λ o. is_ok (one s x now o).result ≡ true) (sym closes.is)
-    (close_ok s x now closes.asked closes.file closes.id closes.judged closes.granted)) n closes) is
+    (close_ok s x now closes.asked closes.file closes.id closes.did closes.judged closes.granted)) n closes) is
 told_open_left k b refused s x now (OpOpenDowngrade a) table few spares is = downgrade_left k b s x a table few is
 told_open_left k b refused s x now (OpOpen a) table few spares is =
     delayed_left k b refused s x a (of_open.open_file s x now a) is (open_left k b s x now a table few is)

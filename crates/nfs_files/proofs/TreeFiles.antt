@@ -1,8 +1,7 @@
 -- Each operation on open files leaves a tree that is one, and so does the end of clients.
-use Rattle.std.proofs.Common.{◌≡◌, ◌≢◌, ℕ, suc, ◌+◌, ◌≤◌, ◌<◌, Bool, true, false, cond, eqb, not, List, [], ◌∷◌, length, Option, Some, None, refl, sym, ◌∙◌, ap, subst, inl, inr, arith}
+use Rattle.std.proofs.Common.{◌≡◌, ℕ, ◌+◌, Bool, true, false, List, [], ◌∷◌, Option, Some, None, refl, sym, ◌∙◌, ap, subst, inl, inr, arith}
 use Rattle.std.specs.Prelude.{◌==◌, ◌||◌, ◌&&◌, Result, Ok, Err, filter, is_some}
 use Rattle.std.specs.Option.{option_map_or}
-use Rattle.std.specs.List.{list_any}
 use Rattle.std.proofs.lemmas.Bool.{cases_Bool, eq-eqb, eqb-true}
 use Rattle.nfs_xdr.specs.Tables.{In}
 use Rattle.nfs_xdr.specs.declared.time.Time.{Time}
@@ -11,7 +10,6 @@ use Rattle.nfs_xdr.proofs.Lists.{any_in, in_filter, length_filter}
 use Rattle.nfs_xdr.proofs.Tables.{IsRising-filter}
 use Rattle.nfs_compound.specs.Arguments.{arguments}
 use Rattle.nfs_compound.specs.LockArgs as args
-use Rattle.nfs_compound.specs.OpenArgs.{Open}
 use Rattle.nfs_compound.specs.declared.stateid.Stateid.{Stateid}
 use Rattle.nfs_compound.specs.declared.lock_args.LockU.{LockU}
 use Rattle.nfs_compound.specs.declared.open_args.Close.{Close}
@@ -27,46 +25,33 @@ use Rattle.nfs_tree.specs.Object.{is_directory}
 use Rattle.nfs_tree.specs.Files.{Files, root, has_row, stored_in, is_there, is_directory_at}
 use Rattle.nfs_tree.specs.Create.{new_tree}
 use Rattle.nfs_tree.specs.Bytes.{has_bytes}
-use Rattle.nfs_tree.specs.Calls.{write_fault, resize_fault, set_fault}
+use Rattle.nfs_tree.specs.Calls.{write_fault}
 use Rattle.nfs_tree.specs.TreeInvariants.{IsTree, IsSized}
 use Rattle.nfs_tree.proofs.Trees.{tree_changed}
 use Rattle.nfs_tree.proofs.Sized.{tree_written, tree_resized}
 use Rattle.nfs_tree.proofs.RowsKept.{rows_same}
-use Rattle.nfs_opens.specs.declared.stateid.StateId.{StateId}
-use Rattle.nfs_opens.specs.declared.stateid.CurrentSeqid.TheVariants.{Any, Own}
-use Rattle.nfs_opens.specs.declared.judging.Seat.{Seat}
-use Rattle.nfs_opens.specs.declared.judging.Sort.TheVariants.{OpenOnly}
-use Rattle.nfs_opens.specs.declared.locking.OpenFault.{OpenFault}
-use Rattle.nfs_opens.specs.declared.locking.OpenFault.TheVariants as F
-use Rattle.nfs_opens.specs.Table.{Table}
 use Rattle.nfs_opens.specs.TableInvariants.{IsTable}
-use Rattle.nfs_opens.specs.Judging.{judge}
 use Rattle.nfs_opens.specs.Closing as closing
-use Rattle.nfs_opens.specs.Opening as opening
 use Rattle.nfs_opens.specs.Locking as locking
 use Rattle.nfs_names.specs.declared.context.Context.{Context}
 use Rattle.nfs_names.specs.declared.node.Node.{Node}
-use Rattle.nfs_names.specs.State.{State, moment, new_store, with_tree, is_open, is_used}
+use Rattle.nfs_names.specs.State.{State, is_open, is_used}
 use Rattle.nfs_names.specs.StoreInvariants.{IsStore, IsRooted}
 use Rattle.nfs_names.specs.Ending.{with_opens, table_staying, only_used, staying}
-use Rattle.nfs_names.specs.Outcome.{Outcome, answers, checked, or_delay}
+use Rattle.nfs_names.specs.Outcome.{Outcome}
 use Rattle.nfs_names.specs.Checks.{current}
 use Rattle.nfs_names.proofs.StoreInvariants.{rooted, unused_empty}
 use Rattle.nfs_names.proofs.Ones.{by_delay}
-use Rattle.nfs_names.proofs.Untouched.{by_answers}
-use Rattle.nfs_files.specs.StateIds.{meant}
-use Rattle.nfs_files.specs.Target.{target}
 use Rattle.nfs_files.specs.Bytes.{writable}
 use Rattle.nfs_files.specs.Operation.{grows}
 use Rattle.nfs_files.proofs.Outcomes.{one, comes_to}
-use Rattle.nfs_files.specs.Close.{closed, closes, close}
+use Rattle.nfs_files.specs.Close.{close}
 use Rattle.nfs_files.specs.Commit.{commit}
-use Rattle.nfs_files.specs.FreeStateid.{frees, free_stateid}
+use Rattle.nfs_files.specs.FreeStateid.{free_stateid}
 use Rattle.nfs_files.specs.Lock as of_lock
 use Rattle.nfs_files.specs.LockT.{tested, lock_t}
-use Rattle.nfs_files.specs.LockU.{unlocking, unlocked, unlocks, lock_u}
-use Rattle.nfs_files.specs.Open.{open_file}
-use Rattle.nfs_files.specs.OpenDowngrade.{narrowing, narrows, open_downgrade}
+use Rattle.nfs_files.specs.LockU.{unlocked, lock_u}
+use Rattle.nfs_files.specs.OpenDowngrade.{open_downgrade}
 use Rattle.nfs_files.specs.Read.{read}
 use Rattle.nfs_files.specs.SetAttr.{gives_some, with_set, asked_for, sets_of, set_attr}
 use Rattle.nfs_files.specs.SetAttrParts.{tree_fault}
@@ -78,7 +63,8 @@ use Rattle.nfs_files.proofs.SetRows.{set_goes, set_stops}
 use Rattle.nfs_files.proofs.OpenTree.{opens_leave_trees}
 use Rattle.nfs_files.proofs.KeptOps.{found}
 use Rattle.nfs_files.proofs.Steady.{Few}
-use Rattle.nfs_files.proofs.TreeSteps.{Is, tree_unused, tree_names}
+use Rattle.nfs_files.proofs.TreeSteps.{Is, tree_unused}
+use Rattle.nfs_files.proofs.OpensMoved.{by_close, by_free, by_downgrade, by_lock, by_unlock}
 
 abbrev In_ : Outcome → Type 0
 In_ o = IsTree o.state.tree
@@ -136,49 +122,23 @@ tree_set_attr s x now a is = by_asked (asked_for s x a) refl
     by_asked (Ok m) e = by_fault m e (tree_fault s.tree m.node.number m.wanted m.wanted.size) refl
 
 -- CLOSE
-closed_tree : (s : State) (x : Context) (n file : ℕ) (v : Result Seat Status) → Is s → IsStore s
-    → Is (answers s x Num.Close (closing.close_by s.opens n v).answer (λ u. closed s x file (closing.close_by s.opens n v).after)).state
-closed_tree s x n file (Err status) is store = is
-closed_tree s x n file (Ok seat) is store =
-    let left = with_opens s (closing.without_open s.opens n) in
-    tree_unused left file is (λ unused. unused_empty left file is (rooted s store) unused)
-
 tree_close : (s : State) (x : Context) (a : Close) → Is s → IsStore s → Is (close s x a).state
-unfolding close
-tree_close s x a is store =
-    found Is s x Num.Close (target s x Own a.open_stateid) (closes s x) is (λ t judged.
-    closed_tree s x t.id.number t.file (judge s.opens t.id x.client (Some t.file) OpenOnly) is store)
+tree_close s x a is store = by_close (λ o. Is o.state) s x a (λ status. is) (λ t did judged granted its.
+    (let left = with_opens s (closing.without_open s.opens t.id.number) in
+    tree_unused left t.file is (λ unused. unused_empty left t.file is (rooted s store) unused)))
 
 -- those that move opens alone
-locked_tree : (s : State) (x : Context) (after : Table) (v : Result StateId OpenFault) → Is s → Is (of_lock.locked s x after v).state
-locked_tree s x after (Ok id) is = is
-locked_tree s x after (Err (F.Refused status)) is = is
-locked_tree s x after (Err (F.Denied h)) is = is
-locked_tree s x after (Err F.Memory) is = is
-
 tree_lock : (s : State) (x : Context) (a : args.Lock) → Is s → Is (of_lock.lock s x a).state
-unfolding of_lock.lock
-tree_lock s x a is = found Is s x Num.Lock (of_lock.locking s x a) (of_lock.locks s x a.locker) is (λ m judged.
-    (let did = of_lock.locks_as s.opens a.locker m.id m.wish in locked_tree s x did.after did.answer is))
-
-unlocked_tree : (s : State) (x : Context) (after : Table) (v : Result StateId OpenFault) → Is s → Is (unlocked s x after v).state
-unlocked_tree s x after (Ok id) is = is
-unlocked_tree s x after (Err fault) is = is
+tree_lock s x a is = by_lock (λ o. Is o.state) s x a (λ status. is) (λ h. is) (λ m did judged granted locked. is)
 
 tree_lock_u : (s : State) (x : Context) (a : LockU) → Is s → Is (lock_u s x a).state
-unfolding lock_u
-tree_lock_u s x a is = found Is s x Num.LockU (unlocking s x a) (unlocks s x) is (λ m judged.
-    (let w = m.wish in let did = locking.unlock s.opens m.id w.client w.file w.first w.last in unlocked_tree s x did.after did.answer is))
+tree_lock_u s x a is = by_unlock (λ o. Is o.state) s x a (λ status. is) (λ m did judged granted unlocked. is)
 
 tree_free : (s : State) (x : Context) (given : Stateid) → Is s → Is (free_stateid s x given).state
-unfolding free_stateid
-tree_free s x given is = found Is s x Num.FreeStateid (meant x Any given) (frees s x) is (λ id judged.
-    found Is s x Num.FreeStateid (closing.free s.opens id x.client).answer _ is (λ u granted. is))
+tree_free s x given is = by_free (λ o. Is o.state) s x given (λ status. is) (λ id did freed. is)
 
 tree_downgrade : (s : State) (x : Context) (a : OpenDowngrade) → Is s → Is (open_downgrade s x a).state
-unfolding open_downgrade
-tree_downgrade s x a is = found Is s x Num.OpenDowngrade (narrowing s x a) (narrows s x a) is (λ t judged.
-    found Is s x Num.OpenDowngrade _ _ is (λ id granted. is))
+tree_downgrade s x a is = by_downgrade (λ o. Is o.state) s x a (λ status. is) (λ t did narrowed. is)
 
 tested_tree : (s : State) (x : Context) (o : Option Held) → Is s → Is (tested s x o).state
 tested_tree s x None is = is

@@ -1,5 +1,5 @@
 -- A byte that lasts, through each operation.
-use Rattle.std.proofs.Common.{◌≡◌, ℕ, ◌+◌, ◌≤◌, ◌<◌, ◌^◌, Bool, true, false, cond, ltb, List, [], ◌∷◌, ◌++◌, length, Option, Some, None, refl, sym, ◌∙◌, ap, subst, arith, inl, inr}
+use Rattle.std.proofs.Common.{◌≡◌, ℕ, ◌+◌, ◌<◌, ◌^◌, Bool, true, false, cond, ltb, List, ◌++◌, length, Option, Some, None, refl, sym, ◌∙◌, ap, subst, arith, inl, inr}
 use Rattle.std.specs.Prelude.{◌==◌, ◌&&◌, Result, Ok, Err, IfSome}
 use Rattle.std.specs.Int.{w32, from_be_bytes}
 use Rattle.std.specs.Option.{option_map_or}
@@ -34,15 +34,10 @@ use Rattle.nfs_results.specs.Results.{spell_result, done_head}
 use Rattle.nfs_ranges.specs.declared.Held.{Held}
 use Rattle.nfs_tree.specs.declared.object.Object.{Object}
 use Rattle.nfs_tree.specs.Object.{no_sets}
-use Rattle.nfs_tree.specs.Files.{Files, object_at, lookup as looked_up, named}
+use Rattle.nfs_tree.specs.Files.{object_at, lookup as looked_up, named}
 use Rattle.nfs_tree.specs.Bytes.{has_bytes}
 use Rattle.nfs_tree.specs.Names.{moves, with_moved, without_name}
 use Rattle.nfs_attrs.specs.declared.wanted.Wanted.{Wanted}
-use Rattle.nfs_opens.specs.declared.stateid.StateId.{StateId}
-use Rattle.nfs_opens.specs.declared.stateid.CurrentSeqid.TheVariants.{Any, Own}
-use Rattle.nfs_opens.specs.declared.locking.OpenFault.{OpenFault}
-use Rattle.nfs_opens.specs.declared.locking.OpenFault.TheVariants as F
-use Rattle.nfs_opens.specs.Table.{Table}
 use Rattle.nfs_opens.specs.Closing as closing
 use Rattle.nfs_opens.specs.Locking as locking
 use Rattle.nfs_names.specs.declared.context.Context.{Context}
@@ -50,7 +45,7 @@ use Rattle.nfs_names.specs.declared.node.Node.{Node}
 use Rattle.nfs_names.specs.declared.making.Making.{Making}
 use Rattle.nfs_names.specs.State.{State, with_tree, is_used, without_unused}
 use Rattle.nfs_names.specs.Ending.{with_opens, staying}
-use Rattle.nfs_names.specs.Outcome.{Outcome, ◌>>=◌, answers, checked, mapped, refuses, or_delay, is_ok}
+use Rattle.nfs_names.specs.Outcome.{Outcome, answers, checked, refuses, or_delay, is_ok}
 use Rattle.nfs_names.specs.Checks.{node_as, node_at, current}
 use Rattle.nfs_names.specs.Create.{attributes_in}
 use Rattle.nfs_names.specs.Create as of_create
@@ -79,28 +74,27 @@ use Rattle.nfs_names.proofs.Ones.{by_delay, if_delayed, each_of}
 use Rattle.nfs_files.specs.declared.opening.Found.{Found}
 use Rattle.nfs_files.specs.declared.opening.Found.TheVariants.{There, Absent}
 use Rattle.nfs_files.specs.declared.setting.Setting.{Setting}
-use Rattle.nfs_files.specs.StateIds.{meant}
-use Rattle.nfs_files.specs.Target.{target}
 use Rattle.nfs_files.specs.Bytes.{file_checks, writing, may_use, writable}
 use Rattle.nfs_files.specs.Operation.{grows}
 use Rattle.nfs_files.proofs.Outcomes.{one, one_or_delay, comes_to}
-use Rattle.nfs_files.specs.Close.{closed, closes, close}
+use Rattle.nfs_files.specs.Close.{close}
 use Rattle.nfs_files.specs.Commit.{commit}
-use Rattle.nfs_files.specs.FreeStateid.{frees, free_stateid}
+use Rattle.nfs_files.specs.FreeStateid.{free_stateid}
 use Rattle.nfs_files.specs.Lock as of_lock
 use Rattle.nfs_files.specs.LockT.{tested, lock_t}
-use Rattle.nfs_files.specs.LockU.{unlocking, unlocked, unlocks, lock_u}
+use Rattle.nfs_files.specs.LockU.{unlocked, lock_u}
 use Rattle.nfs_files.specs.Open as of_open
 use Rattle.nfs_files.specs.Open.{makes, access_of, place_checks, there_checks, absent_checks, cuts, by_handle}
-use Rattle.nfs_files.specs.OpenDowngrade.{narrowing, narrows, open_downgrade}
+use Rattle.nfs_files.specs.OpenDowngrade.{open_downgrade}
 use Rattle.nfs_files.specs.Read.{read}
 use Rattle.nfs_files.specs.SetAttr as of_set
 use Rattle.nfs_files.specs.TestStateid.{test_stateid}
 use Rattle.nfs_files.specs.Write as of_write
-use Rattle.nfs_files.specs.Written.{Byte, Lasts, WritesOver, SetsSize, OpensEmpty, Spares, NamesLeaveBytes}
+use Rattle.nfs_files.specs.Written.{Byte, Lasts, Spares, NamesLeaveBytes}
 use Rattle.nfs_files.proofs.Passing.{if_passed_ok, mapped_came}
 use Rattle.nfs_files.proofs.KeptOps.{found}
 use Rattle.nfs_files.proofs.WrittenTrees.{lasts_new, lasts_link, lasts_without, lasts_moved, lasts_rest, lasts_forget, lasts_changed, lasts_written, lasts_resized}
+use Rattle.nfs_files.proofs.OpensMoved.{by_close, by_free, by_downgrade, by_lock, by_unlock}
 
 -- an object that goes for want of use
 lasts_unused : (b : Byte) (s : State) (n : ℕ) → Lasts b s.tree → Lasts b (without_unused s n).tree
@@ -402,42 +396,21 @@ lasts_open b s x now o is =
 
 -- CLOSE
 lasts_close : (b : Byte) (s : State) (x : Context) (a : Close) → LastsIn b s → LastsIn b (close s x a).state
-unfolding close
-lasts_close b s x a is =
-    found (LastsIn b) s x Num.Close (target s x Own a.open_stateid) (closes s x) is (λ t judged.
-    (let did = closing.close s.opens t.id x.client t.file in
-    found (LastsIn b) s x Num.Close did.answer (λ u. closed s x t.file did.after) is (λ u granted. lasts_unused b (with_opens s did.after) t.file is)))
+lasts_close b s x a is = by_close (λ o. LastsIn b o.state) s x a (λ status. is) (λ t did judged granted its.
+    lasts_unused b (with_opens s (closing.without_open s.opens t.id.number)) t.file is)
 
 -- those that leave the tree
-locked_left : (b : Byte) (s : State) (x : Context) (after : Table) (v : Result StateId OpenFault) → LastsIn b s → LastsIn b (of_lock.locked s x after v).state
-locked_left b s x after (Ok id) is = is
-locked_left b s x after (Err (F.Refused status)) is = is
-locked_left b s x after (Err (F.Denied h)) is = is
-locked_left b s x after (Err F.Memory) is = is
-
 lasts_lock : (b : Byte) (s : State) (x : Context) (a : locks.Lock) → LastsIn b s → LastsIn b (of_lock.lock s x a).state
-unfolding of_lock.lock
-lasts_lock b s x a is = found (LastsIn b) s x Num.Lock (of_lock.locking s x a) (of_lock.locks s x a.locker) is (λ m judged.
-    (let did = of_lock.locks_as s.opens a.locker m.id m.wish in locked_left b s x did.after did.answer is))
-
-unlocked_left : (b : Byte) (s : State) (x : Context) (after : Table) (v : Result StateId OpenFault) → LastsIn b s → LastsIn b (unlocked s x after v).state
-unlocked_left b s x after (Ok id) is = is
-unlocked_left b s x after (Err fault) is = is
+lasts_lock b s x a is = by_lock (λ o. LastsIn b o.state) s x a (λ status. is) (λ h. is) (λ m did judged granted locked. is)
 
 lasts_unlock : (b : Byte) (s : State) (x : Context) (a : LockU) → LastsIn b s → LastsIn b (lock_u s x a).state
-unfolding lock_u
-lasts_unlock b s x a is = found (LastsIn b) s x Num.LockU (unlocking s x a) (unlocks s x) is (λ m judged.
-    (let w = m.wish in let did = locking.unlock s.opens m.id w.client w.file w.first w.last in unlocked_left b s x did.after did.answer is))
+lasts_unlock b s x a is = by_unlock (λ o. LastsIn b o.state) s x a (λ status. is) (λ m did judged granted unlocked. is)
 
 lasts_free : (b : Byte) (s : State) (x : Context) (given : Stateid) → LastsIn b s → LastsIn b (free_stateid s x given).state
-unfolding free_stateid
-lasts_free b s x given is = found (LastsIn b) s x Num.FreeStateid (meant x Any given) (frees s x) is (λ id judged.
-    found (LastsIn b) s x Num.FreeStateid (closing.free s.opens id x.client).answer _ is (λ u granted. is))
+lasts_free b s x given is = by_free (λ o. LastsIn b o.state) s x given (λ status. is) (λ id did freed. is)
 
 lasts_downgrade : (b : Byte) (s : State) (x : Context) (a : OpenDowngrade) → LastsIn b s → LastsIn b (open_downgrade s x a).state
-unfolding open_downgrade
-lasts_downgrade b s x a is = found (LastsIn b) s x Num.OpenDowngrade (narrowing s x a) (narrows s x a) is (λ t judged.
-    found (LastsIn b) s x Num.OpenDowngrade _ _ is (λ id granted. is))
+lasts_downgrade b s x a is = by_downgrade (λ o. LastsIn b o.state) s x a (λ status. is) (λ t did narrowed. is)
 
 tested_left : (b : Byte) (s : State) (x : Context) (o : Option Held) → LastsIn b s → LastsIn b (tested s x o).state
 tested_left b s x None is = is

@@ -27,9 +27,7 @@ closed s x file after = record {
 }
 
 abbrev pub closes : State → Context → Target → Outcome
-closes s x t =
-    let did = opens.close s.opens t.id x.client t.file in
-    answers s x Op.Close did.answer (λ u. closed s x t.file did.after)
+closes s x t = answers s x Op.Close (opens.close s.opens t.id x.client t.file) (λ did. closed s x t.file did.1)
 
 unfoldable pub close : State → Context → Close → Outcome
 close s x a = answers s x Op.Close (target s x Own a.open_stateid) (closes s x)

@@ -12,9 +12,7 @@ use Rattle.nfs_files.specs.StateIds.{meant}
 use Rattle.nfs_names.specs.Ending.{with_opens}
 
 abbrev pub frees : State → Context → StateId → Outcome
-frees s x id =
-    let did = opens.free s.opens id x.client in
-    answers s x Op.FreeStateid did.answer (λ u. done (with_opens s did.after) x ResFreeStateid)
+frees s x id = answers s x Op.FreeStateid (opens.free s.opens id x.client) (λ did. done (with_opens s did.1) x ResFreeStateid)
 
 unfoldable pub free_stateid : State → Context → Stateid → Outcome
 free_stateid s x given = answers s x Op.FreeStateid (meant x Any given) (frees s x)

@@ -1,5 +1,5 @@
 -- LOCK (RFC 8881 section 18.10): a lock owner holds bytes of a file, if no other one's lock is in the way.
-use Rattle.std.specs.Prelude.{Bool, List, [], ◌∷◌, Some, Result, Ok, Err}
+use Rattle.std.specs.Prelude.{Bool, List, [], ◌∷◌, Result, Ok, Err}
 use Rattle.nfs_xdr.specs.declared.status.Status.{Status}
 use Rattle.nfs_xdr.specs.declared.status.Status.TheVariants.{NoGrace}
 use Rattle.nfs_compound.specs.declared.stateid.Stateid.{Stateid}
@@ -9,10 +9,8 @@ use Rattle.nfs_results.specs.Result.{ResLock, ResLockDenied}
 use Rattle.nfs_opens.specs.declared.stateid.StateId.{StateId}
 use Rattle.nfs_opens.specs.declared.locking.Wish.{Wish}
 use Rattle.nfs_opens.specs.declared.locking.OpenFault.{OpenFault}
-use Rattle.nfs_opens.specs.declared.locking.OpenFault.TheVariants.{Refused, Denied, Memory}
-use Rattle.nfs_opens.specs.declared.judging.Sort.TheVariants.{OpenOnly, LockOnly}
-use Rattle.nfs_opens.specs.Table.{Table, Did}
-use Rattle.nfs_opens.specs.Judging.{judge}
+use Rattle.nfs_opens.specs.declared.locking.OpenFault.TheVariants.{Denied}
+use Rattle.nfs_opens.specs.Table.{Table}
 use Rattle.nfs_opens.specs.Locking.{lock_under, lock_known}
 use Rattle.nfs_names.specs.declared.context.Context.{Context}
 use Rattle.nfs_names.specs.State.{State}
@@ -36,20 +34,17 @@ stateid_in (args.LockOwner o) = o.lock_stateid
 abbrev pub locking : State → Context → args.Lock → Result Wished Status
 locking s x a = wished_by x (stateid_in a.locker) (checked (wished s x a.locktype a.offset a.length) (reclaim_checks a))
 
-abbrev pub locks_as : Table → args.Locker → StateId → Wish → Did StateId OpenFault
-locks_as t (args.OpenOwner o) id w = lock_under t w id.number o.lock_owner.owner (judge t id w.client (Some w.file) OpenOnly)
-locks_as t (args.LockOwner o) id w = lock_known t w id.number (judge t id w.client (Some w.file) LockOnly)
+abbrev pub locks_as : Table → args.Locker → StateId → Wish → Result (StateId × Table) OpenFault
+locks_as t (args.OpenOwner o) id w = lock_under t id o.lock_owner.owner w
+locks_as t (args.LockOwner o) id w = lock_known t id w
 
-abbrev pub locked : State → Context → Table → Result StateId OpenFault → Outcome
-locked s x after (Ok id) = record { result = ResLock (wire_id id); state = with_opens s after; context = with_stateid x (wire_id id) }
-locked s x after (Err (Refused status)) = refuses s x Op.Lock status
-locked s x after (Err (Denied h)) = done s x (ResLockDenied (denied s.opens h))
-locked s x after (Err Memory) = refuses s x Op.Lock (status_of Memory)
+abbrev pub locked : State → Context → Result (StateId × Table) OpenFault → Outcome
+locked s x (Ok did) = record { result = ResLock (wire_id did.0); state = with_opens s did.1; context = with_stateid x (wire_id did.0) }
+locked s x (Err (Denied h)) = done s x (ResLockDenied (denied s.opens h))
+locked s x (Err fault) = refuses s x Op.Lock (status_of fault)
 
 abbrev pub locks : State → Context → args.Locker → Wished → Outcome
-locks s x who k =
-    let did = locks_as s.opens who k.id k.wish in
-    locked s x did.after did.answer
+locks s x who k = locked s x (locks_as s.opens who k.id k.wish)
 
 unfoldable pub lock : State → Context → args.Lock → Outcome
 lock s x a = answers s x Op.Lock (locking s x a) (locks s x a.locker)

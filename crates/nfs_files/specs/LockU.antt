@@ -1,16 +1,15 @@
 -- LOCKU (RFC 8881 section 18.12): a lock owner holds none of these bytes from now on, whether it held them or not.
-use Rattle.std.specs.Prelude.{◌==◌, Bool, not, ◌&&◌, Result, Ok, Err}
+use Rattle.std.specs.Prelude.{◌==◌, Bool, not, ◌&&◌, Result}
 use Rattle.nfs_xdr.specs.declared.status.Status.{Status}
 use Rattle.nfs_compound.specs.declared.lock_args.LockU.{LockU}
 use Rattle.nfs_compound.specs.declared.op_num.OpNum.TheVariants as Op
 use Rattle.nfs_results.specs.Result.{ResLockU}
 use Rattle.nfs_opens.specs.declared.stateid.StateId.{StateId}
-use Rattle.nfs_opens.specs.declared.locking.OpenFault.{OpenFault}
 use Rattle.nfs_opens.specs.Table.{Table}
 use Rattle.nfs_opens.specs.Locking.{unlock}
 use Rattle.nfs_names.specs.declared.context.Context.{Context}
 use Rattle.nfs_names.specs.State.{State}
-use Rattle.nfs_names.specs.Outcome.{Outcome, refuses, answers}
+use Rattle.nfs_names.specs.Outcome.{Outcome, map_err, answers}
 use Rattle.nfs_files.specs.declared.ranges.Wished.{Wished}
 use Rattle.nfs_files.specs.StateIds.{wire_id}
 use Rattle.nfs_names.specs.Ending.{with_opens}
@@ -21,14 +20,13 @@ use Rattle.nfs_files.specs.Denied.{status_of}
 abbrev pub unlocking : State → Context → LockU → Result Wished Status
 unlocking s x a = wished_by x a.lock_stateid (wished s x a.locktype a.offset a.length)
 
-abbrev pub unlocked : State → Context → Table → Result StateId OpenFault → Outcome
-unlocked s x after (Ok id) = record { result = ResLockU (wire_id id); state = with_opens s after; context = with_stateid x (wire_id id) }
-unlocked s x after (Err fault) = refuses s x Op.LockU (status_of fault)
+abbrev pub unlocked : State → Context → StateId → Table → Outcome
+unlocked s x id after = record { result = ResLockU (wire_id id); state = with_opens s after; context = with_stateid x (wire_id id) }
 
 abbrev pub unlocks : State → Context → Wished → Outcome
 unlocks s x k =
-    let did = unlock s.opens k.id k.wish.client k.wish.file k.wish.first k.wish.last in
-    unlocked s x did.after did.answer
+    let w = k.wish in
+    answers s x Op.LockU (map_err status_of (unlock s.opens k.id w.client w.file w.first w.last)) (λ did. unlocked s x did.0 did.1)
 
 unfoldable pub lock_u : State → Context → LockU → Outcome
 lock_u s x a = answers s x Op.LockU (unlocking s x a) (unlocks s x)

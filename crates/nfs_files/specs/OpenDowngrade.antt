@@ -39,8 +39,7 @@ narrowed s x id after = record { result = ResOpenDowngrade (wire_id id); state =
 
 abbrev pub narrows : State → Context → OpenDowngrade → Target → Outcome
 narrows s x a t =
-    let did = opens.downgrade s.opens t.id x.client t.file (bits a.share_access) (bits a.share_deny) in
-    answers s x Op.OpenDowngrade did.answer (λ id. narrowed s x id did.after)
+    answers s x Op.OpenDowngrade (opens.downgrade s.opens t.id x.client t.file (bits a.share_access) (bits a.share_deny)) (λ did. narrowed s x did.0 did.1)
 
 unfoldable pub open_downgrade : State → Context → OpenDowngrade → Outcome
 open_downgrade s x a = answers s x Op.OpenDowngrade (narrowing s x a) (narrows s x a)

@@ -19,7 +19,7 @@ use Rattle.nfs_names.specs.declared.node.Node.{Node}
 use Rattle.nfs_names.specs.declared.making.Making.{Making}
 use Rattle.nfs_names.specs.declared.node.Pair.{Pair}
 use Rattle.nfs_names.specs.State.{State}
-use Rattle.nfs_names.specs.Outcome.{with_status, done, passed, checked, answers}
+use Rattle.nfs_names.specs.Outcome.{map_err, done, passed, checked, answers}
 use Rattle.nfs_names.proofs.Listed.{listed_within}
 use Rattle.nfs_names.proofs.Found.{checked_ok}
 use Rattle.nfs_xdr.specs.Checks.{first_fault}
@@ -85,7 +85,7 @@ fault_refuses F.Inval = record { done = refl; legal = refl }
 fault_refuses F.BadXdr = record { done = refl; legal = refl }
 fault_refuses F.BadOwner = record { done = refl; legal = refl }
 
-status_refuses : {A : Type 0} (r : Result A AttrFault) → Refuses (with_status fault_status r)
+status_refuses : {A : Type 0} (r : Result A AttrFault) → Refuses (map_err fault_status r)
 status_refuses (Err f) = err_refuses (fault_status f) (fault_refuses f)
 status_refuses (Ok a) = ok_refuses a
 

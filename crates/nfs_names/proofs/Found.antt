@@ -9,29 +9,13 @@ use Rattle.nfs_tree.specs.declared.object.Object.{Object}
 use Rattle.nfs_tree.specs.declared.stored.Stored.{Stored}
 use Rattle.nfs_tree.specs.Object.{is_directory}
 use Rattle.nfs_tree.specs.Files.{Files, most_name, is_name, stored_in, object_at, is_there, is_directory_at}
+pub use Rattle.nfs_opens.proofs.CallLaws.{Came, came, ok_is}
 use Rattle.nfs_names.specs.declared.context.Context.{Context}
 use Rattle.nfs_names.specs.declared.node.Node.{Node}
 use Rattle.nfs_names.specs.declared.node.Pair.{Pair}
 use Rattle.nfs_names.specs.State.{State}
-use Rattle.nfs_names.specs.Outcome.{◌>>=◌, passed, checked}
+use Rattle.nfs_names.specs.Outcome.{passed, checked}
 use Rattle.nfs_names.specs.Checks.{node_as, node_at, saved_object, current, both}
-
--- what came of something was found by way of it
-pub record Came {A B F : Type 0} (v : Result A F) (next : A → Result B F) (b : B) : Type 0 where
-  pub found : A
-  pub is : v ≡ Ok found
-  pub then : next found ≡ Ok b
-
-pub came : {A B F : Type 0} (v : Result A F) (next : A → Result B F) (b : B) → (v >>= next) ≡ Ok b → Came v next b
-came (Err f) next b e = absurd cc
-came (Ok a) next b e = record { found = a; is = refl; then = e }
-
-ok_of : {A F : Type 0} (v : Result A F) (a b : A) → v ≡ Ok a → v ≡ Ok b → a ≡ b
-ok_of (Err f) a b e h = absurd cc
-ok_of (Ok c) a b e h = let here : c ≡ a = cc in let there : c ≡ b = cc in sym here ∙ there
-
-pub ok_is : {A F : Type 0} {v : Result A F} {a b : A} → v ≡ Ok a → v ≡ Ok b → a ≡ b
-ok_is {v = v} {a = a} {b = b} e h = ok_of v a b e h
 
 passed_ok : {A : Type 0} (b a : A) (o : Option Status) → passed b o ≡ Ok a → (b ≡ a) × (o ≡ None)
 passed_ok b a None e = (cc, refl)

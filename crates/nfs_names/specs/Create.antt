@@ -26,7 +26,7 @@ use Rattle.nfs_names.specs.declared.node.Node.{Node}
 use Rattle.nfs_names.specs.declared.making.Making.{Making}
 use Rattle.nfs_names.specs.State.{State, with_tree}
 use Rattle.nfs_names.specs.Context.{at_object}
-use Rattle.nfs_names.specs.Outcome.{Outcome, ◌>>=◌, with_status, checked, answers}
+use Rattle.nfs_names.specs.Outcome.{Outcome, ◌>>=◌, map_err, checked, answers}
 use Rattle.nfs_names.specs.Checks.{current, no_directory, denied, name_checks}
 use Rattle.nfs_names.specs.Faults.{by_tree}
 
@@ -64,7 +64,7 @@ unfoldable pub wanted_of : Attributes → Result Wanted AttrFault
 wanted_of a = read_attrs (mask_of a.attrmask) a.attr_vals
 
 abbrev pub attributes_in : Attributes → Result Wanted Status
-attributes_in a = with_status fault_status (wanted_of a)
+attributes_in a = map_err fault_status (wanted_of a)
 
 -- .. then whether the caller may set them ..
 abbrev pub new_checks : Context → Making → List (Bool × Status)

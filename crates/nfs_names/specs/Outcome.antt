@@ -8,6 +8,7 @@ use Rattle.nfs_compound.specs.declared.op_num.OpNum.{OpNum}
 use Rattle.nfs_compound.specs.OpNum.{op_number}
 use Rattle.nfs_results.specs.Result.{Res}
 use Rattle.nfs_results.specs.Results.{status_of_result, refusal}
+pub use Rattle.nfs_opens.specs.Steps.{◌>>=◌, map_err}
 use Rattle.nfs_names.specs.declared.context.Context.{Context}
 use Rattle.nfs_names.specs.State.{State}
 
@@ -23,17 +24,6 @@ done s x r = record { result = r; state = s; context = x }
 -- it was refused, and nothing changed
 abbrev pub refuses : State → Context → OpNum → Status → Outcome
 refuses s x op status = record { result = refusal (op_number op) status; state = s; context = x }
-
-infixl 10 ◌>>=◌
--- What comes of what was found, if it was: a refusal stays.
-abbrev pub ◌>>=◌ : {A B F : Type 0} → Result A F → (A → Result B F) → Result B F
-(Err fault) >>= next = Err fault
-(Ok a) >>= next = next a
-
--- a refusal under its status
-abbrev pub with_status : {A F : Type 0} → (F → Status) → Result A F → Result A Status
-with_status status_of (Err fault) = Err (status_of fault)
-with_status status_of (Ok a) = Ok a
 
 -- The checks of an operation in their order, of what was found: the first that fails decides.
 abbrev pub passed : {A : Type 0} → A → Option Status → Result A Status

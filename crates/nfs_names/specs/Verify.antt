@@ -12,7 +12,7 @@ use Rattle.nfs_attrs.specs.Reading.{fault_status}
 use Rattle.nfs_names.specs.declared.context.Context.{Context}
 use Rattle.nfs_names.specs.declared.node.Node.{Node}
 use Rattle.nfs_names.specs.State.{State}
-use Rattle.nfs_names.specs.Outcome.{Outcome, ◌>>=◌, with_status, done, checked, answers}
+use Rattle.nfs_names.specs.Outcome.{Outcome, ◌>>=◌, map_err, done, checked, answers}
 use Rattle.nfs_names.specs.Checks.{current}
 use Rattle.nfs_names.specs.Attributes.{about}
 
@@ -21,7 +21,7 @@ unfoldable pub same_at : State → Attributes → Node → Result Bool AttrFault
 same_at s a d = same (mask_of a.attrmask) a.attr_vals (about s d) d.object
 
 abbrev pub compared : State → Context → Attributes → Result Bool Status
-compared s x a = current s x >>= λ d. with_status fault_status (same_at s a d)
+compared s x a = current s x >>= λ d. map_err fault_status (same_at s a d)
 
 unfoldable pub verify : State → Context → Attributes → Outcome
 verify s x a = answers s x Op.Verify (checked (compared s x a) (λ equal. (not equal, NotSame) ∷ [])) (λ equal. done s x ResVerify)

@@ -16,5 +16,6 @@ pub mod NumberLemmas
 pub mod LeaveLemmas
 pub mod LockLemmas
 pub mod StepLemmas
+pub mod CallLaws
 pub mod LockedLemmas
 pub mod EndLemmas

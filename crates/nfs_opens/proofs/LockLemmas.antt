@@ -15,19 +15,19 @@ use Rattle.nfs_ranges.proofs.ToldLemmas.{told_is_unique, any_is_decided}
 use Rattle.nfs_xdr.specs.declared.status.Status.TheVariants.{BadStateId, OldStateId}
 use Rattle.nfs_opens.specs.declared.stateid.StateId.{StateId}
 use Rattle.nfs_opens.specs.declared.judging.Seat.{Seat}
-use Rattle.nfs_opens.specs.declared.judging.Seat.TheVariants.{Open, Lock}
-use Rattle.nfs_opens.specs.declared.judging.Sort.TheVariants.{OpenOnly, LockOnly}
+use Rattle.nfs_opens.specs.declared.judging.Seat.TheVariants.{Anonymous, ReadBypass, Open, Lock}
+use Rattle.nfs_opens.specs.declared.judging.Sort.TheVariants.{OpenOnly, LockOnly, Either}
 use Rattle.nfs_opens.specs.StateId.{is_anonymous, is_bypass}
 use Rattle.nfs_opens.specs.Judging.{access_of, judge, judge_named, named_by, seated}
 use Rattle.nfs_opens.specs.declared.records.OpenState.{OpenState}
 use Rattle.nfs_opens.specs.declared.records.LockState.{LockState}
 use Rattle.nfs_opens.specs.Holding.{FileHolders, on_file}
 use Rattle.nfs_xdr.specs.Tables.{In}
-use Rattle.nfs_xdr.proofs.Lists.{any_in, in_filter, stays_in, none_any, in_any}
+use Rattle.nfs_xdr.proofs.Lists.{any_in, in_filter, stays_in, none_any, in_any, find_in}
 use Rattle.nfs_xdr.proofs.Tables.{in_once}
 use Rattle.nfs_opens.specs.Table.{Table, open_at, lock_at}
 use Rattle.nfs_opens.specs.TableInvariants.{IsTable, IsHolder, AreHolders}
-use Rattle.nfs_opens.specs.Closing.{stands, held_within}
+use Rattle.nfs_opens.specs.Closing.{stands, held_within, lock_in}
 use Rattle.nfs_opens.specs.Calls.{held_without}
 use Rattle.nfs_opens.proofs.FileLemmas.{file_here, file_other, on_file_same}
 use Rattle.nfs_ranges.proofs.HolderLemmas.{set_keeps}
@@ -246,6 +246,40 @@ pub judged_lock : (t : Table) (id : StateId) (client file : ℕ) (seat : Seat) �
     → (x : LockState) × (lock_at t id.number ≡ Some x) × (x.client ≡ client) × (x.file ≡ file)
 judged_lock t id client file seat e = lock_judged_as t client file id.seqid seat (id.instance == t.instance) (open_at t id.number) (lock_at t id.number)
     (no_special (is_anonymous id) (is_bypass id) _ seat e)
+
+is_seated : (seat given : Seat) (f : Option Status) → seated seat f ≡ Ok given → (f ≡ None) × (seat ≡ given)
+is_seated seat given None e = (refl, cc)
+is_seated seat given (Some status) e = absurd cc
+
+freed_judged : (t : Table) (client seqid n : ℕ) (given : Seat) (same : Bool) (o : Option OpenState) (l : Option LockState)
+    → judge_named client None Either seqid (cond same (named_by t o l) None) ≡ Ok given → lock_in given ≡ Ok n
+    → (x : LockState) × (l ≡ Some x) × (x.client ≡ client) × (x.number ≡ n)
+freed_judged t client seqid n given false o l e h = absurd cc
+freed_judged t client seqid n given true (Some x) l e h =
+    let seat = is_seated (Open x.number x.access) given _ e in
+    absurd (let bad : lock_in (Open x.number x.access) ≡ Ok n = ap lock_in seat.1 ∙ h in cc)
+freed_judged t client seqid n given true None (Some x) e h =
+    let access = access_of (open_at t x.opened) in
+    let seat = is_seated (Lock x.number access) given _ e in
+    let named : lock_in (Lock x.number access) ≡ Ok n = ap lock_in seat.1 ∙ h in
+    let p = passed (not (x.client == client)) false false (Lock x.number access) given
+    (cond (not (seqid == 0) && nat_lt seqid x.seqid) (Some OldStateId) (cond (nat_lt x.seqid seqid) (Some BadStateId) None)) e in
+    (x, refl, eqb-true _ _ (not_not _ p.0), cc)
+freed_judged t client seqid n given true None None e h = absurd cc
+
+any_special : (a b : Bool) (r : Result Seat Status) (given : Seat) (n : ℕ) → cond a (Ok Anonymous) (cond b (Ok ReadBypass) r) ≡ Ok given → lock_in given ≡ Ok n
+    → r ≡ Ok given
+any_special false false r given n e h = e
+any_special false true r given n e h = absurd (let same : ReadBypass ≡ given = cc in let bad : lock_in ReadBypass ≡ Ok n = ap lock_in same ∙ h in cc)
+any_special true b r given n e h = absurd (let same : Anonymous ≡ given = cc in let bad : lock_in Anonymous ≡ Ok n = ap lock_in same ∙ h in cc)
+
+-- and the lock state of a stateid that any sort may have
+pub judged_freed : (t : Table) (id : StateId) (client : ℕ) (given : Seat) (n : ℕ) → judge t id client None Either ≡ Ok given → lock_in given ≡ Ok n
+    → (x : LockState) × (lock_at t id.number ≡ Some x) × (x.client ≡ client) × (n ≡ id.number)
+judged_freed t id client given n e h =
+    let (x, found, mine, named) = freed_judged t client id.seqid n given (id.instance == t.instance) (open_at t id.number) (lock_at t id.number)
+    (any_special (is_anonymous id) (is_bypass id) _ given n e h) h in
+    (x, found, mine, sym named ∙ eqb-true _ _ (find_in (λ (l : LockState). l.number == id.number) t.locks x found).1)
 
 -- TABLES MADE OF PARTS
 

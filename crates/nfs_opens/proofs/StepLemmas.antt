@@ -2,7 +2,7 @@
 use Rattle.std.proofs.Common.{◌≡◌, ◌≢◌, inl, inr, ℕ, suc, ◌+◌, ◌<◌, ◌≤◌, Bool, true, false, cond, eqb, not, List, [], ◌∷◌, ◌++◌, Option, Some, None, refl, sym}
 use Rattle.std.proofs.Common.{◌∙◌, ap, subst, arith}
 use Rattle.std.proofs.Math.Path.{fun_ext}
-use Rattle.std.specs.Prelude.{◌==◌, ◌^◌, Result, Ok, Err, IfSome, nat_le, ◌&&◌}
+use Rattle.std.specs.Prelude.{◌==◌, ◌^◌, Ok, Err, ok_or, IfSome, nat_le, ◌&&◌}
 use Rattle.std.proofs.lemmas.Bool.{eqb-true, cases_eq, cases_lt, eq-eqb, ne_eqb, le-leb}
 use Rattle.nfs_ranges.specs.declared.Held.{Held}
 use Rattle.nfs_ranges.specs.Holders.{Holders, holding, cleared, dropped, holds_any, HasNoClash}
@@ -13,9 +13,8 @@ use Rattle.nfs_opens.specs.declared.share.Share.{Share}
 use Rattle.nfs_opens.specs.declared.records.OpenState.{OpenState}
 use Rattle.nfs_opens.specs.declared.records.LockState.{LockState}
 use Rattle.nfs_opens.specs.declared.locking.Wish.{Wish}
-use Rattle.nfs_opens.specs.declared.locking.OpenFault.{OpenFault}
 use Rattle.nfs_opens.specs.declared.locking.OpenFault.TheVariants.{Refused}
-use Rattle.nfs_xdr.specs.declared.status.Status.TheVariants.{OpenMode, ShareDenied, ServerFault, Inval}
+use Rattle.nfs_xdr.specs.declared.status.Status.TheVariants.{BadStateId, OpenMode, ShareDenied, ServerFault}
 use Rattle.nfs_xdr.specs.declared.status.Status.{Status}
 use Rattle.nfs_xdr.proofs.Lists.{find_in, in_push, push_in, last_in}
 use Rattle.nfs_xdr.proofs.Tables.{IsRising-push, in_once, IsRising-upto, in_bounds}
@@ -24,11 +23,13 @@ use Rattle.nfs_opens.specs.TableInvariants.{HasNoByteBehind, IsTable, IsHolder}
 use Rattle.nfs_opens.specs.StateId.{next_seqid, last_number}
 use Rattle.nfs_opens.specs.Table.{Table, open_at, lock_at, with_open, with_lock, Asked, is_own, clashes_with}
 use Rattle.nfs_opens.specs.Closing.{without_lock}
-use Rattle.nfs_opens.specs.Locking.{permits, clash, unless_told, lock_judged, lock_as, lock_first, lock_more, lock_new, does_if, raised}
+use Rattle.nfs_opens.specs.Locking.{permits, clash, unless_told, lock_judged, lock_as, lock_first, raised}
+use Rattle.nfs_opens.specs.Steps.{require}
+use Rattle.nfs_opens.proofs.CallLaws.{first_state, goes_on}
 use Rattle.nfs_opens.proofs.TableLemmas.{KeepsBytes, table_raised, clears_bytes, table_freed, table_narrowed, table_joined, on_each}
 use Rattle.nfs_opens.proofs.FileLemmas.{file_here, file_other}
 use Rattle.nfs_opens.proofs.ShareLemmas.{own_is}
-use Rattle.nfs_opens.specs.Opening.{narrow_open, narrows, is_narrower, joins, own_open}
+use Rattle.nfs_opens.specs.Opening.{narrows, is_narrower, joins, own_open}
 use Rattle.std.specs.List.{list_any}
 use Rattle.nfs_opens.proofs.LockLemmas.{sets_bytes, clash_tells, holds_none, some_or_none}
 
@@ -55,8 +56,13 @@ found_holder t n file l e of_file = let there = find_in
     (λ (l : LockState). l.number == n) t.locks l e in record { stands = there.0; number = eqb-true _ _ there.1; file = of_file }
 
 pub lock_as_is : (t : Table) (w : Wish) (n : ℕ) (access : Share) (l : LockState) → lock_judged t n access w ≡ Ok tt → lock_at t n ≡ Some l
-    → lock_as t w n access ≡ lock_more t w n (Some l)
-lock_as_is t w n access l e f = ap (λ (r : Result (Unit {0}) OpenFault). does_if t r (lock_more t w n (lock_at t n))) e ∙ ap (lock_more t w n) f
+    → lock_as t w n access ≡ Ok (
+      record { seqid = next_seqid l.seqid; instance = t.instance; number = n },
+      record (with_lock t n raised) { held = on_file t.held w.file (λ h. holding h n w.kind w.first w.last) },
+    )
+lock_as_is t w n access l e f =
+    goes_on (lock_judged t n access w) _ tt e
+    ∙ goes_on (ok_or (lock_at t n) (Refused BadStateId)) _ l (ap (λ o. ok_or o (Refused BadStateId)) f)
 
 -- a LOCK by a lock state that stands keeps the table
 pub table_locked : (t : Table) (w : Wish) (n : ℕ) (access : Share) (l : LockState) → IsTable t → w.first ≤ w.last → w.last < 2 ^ 64
@@ -111,9 +117,6 @@ no_zero t file b is = elim (some_or_none (t.held file 0 b)) [
       let zero = holder.number in absurd (omega arith))
 ]
 
-abbrev pub first_state : Table → Wish → List ℕ → ℕ → LockState
-first_state t w owner opened = record { number = t.last + 1; client = w.client; owner = owner; file = w.file; opened = opened; seqid = 1 }
-
 -- a LOCK by a new lock state keeps the table
 pub table_first : (t : Table) (w : Wish) (owner : List ℕ) (opened : ℕ) (o : OpenState) → IsTable t → w.first ≤ w.last → w.last < 2 ^ 64
     → Tells (t.held w.file) 0 w.kind w.first w.last None
@@ -158,16 +161,17 @@ table_first t w owner opened o is range fits tells e client of_file =
     }
 
 pub lock_first_is : (t : Table) (w : Wish) (opened : ℕ) (owner : List ℕ) (access : Share) → lock_judged t 0 access w ≡ Ok tt → eqb t.last last_number ≡ false
-    → lock_first t w opened owner access ≡ record {
-      answer = Ok (record { seqid = 1; instance = t.instance; number = t.last + 1 });
-      after = record t {
+    → lock_first t w opened owner access ≡ Ok (
+      record { seqid = 1; instance = t.instance; number = t.last + 1 },
+      record t {
         locks = t.locks ++ first_state t w owner opened ∷ [];
-        held = on_file t.held w.file
-            (λ h. holding h (t.last + 1) w.kind w.first w.last);
+        held = on_file t.held w.file (λ h. holding h (t.last + 1) w.kind w.first w.last);
         last = t.last + 1;
-      };
-    }
-lock_first_is t w opened owner access e f = ap (λ (r : Result (Unit {0}) OpenFault). does_if t r (lock_new t w opened owner)) e ∙ rw f refl
+      },
+    )
+lock_first_is t w opened owner access e f =
+    goes_on (lock_judged t 0 access w) _ tt e
+    ∙ goes_on (require (not (t.last == last_number)) (Refused ServerFault)) _ tt (ap (λ b. require (not b) (Refused ServerFault)) f)
 
 all_true : (a b c : Bool) → a ≡ true → b ≡ true → c ≡ true → (a && (b && c)) ≡ true
 all_true true b c e f g = rw (f, g) refl
@@ -208,21 +212,6 @@ number_left true none last e f = absurd cc
 number_left false true true e f = absurd cc
 number_left false true false e f = refl
 number_left false false last e f = absurd cc
-
-pub narrow_done : (t : Table) (n : ℕ) (access deny : Share) (o : OpenState) → is_narrower access deny o ≡ true
-    → narrow_open t n access deny
-    (Some o) ≡ record { answer = Ok (record { seqid = next_seqid o.seqid; instance = t.instance; number = n }); after = with_open t n (narrows access deny) }
-narrow_done t n access deny o e = ap
-    (λ (v : Bool). cond v
-    (record { answer = Ok (record { seqid = next_seqid o.seqid; instance = t.instance; number = n }); after = with_open t n (narrows access deny) })
-    (record { answer = Err Inval; after = t })) e
-
-pub narrow_refused : (t : Table) (n : ℕ) (access deny : Share) (o : OpenState) → is_narrower access deny o ≡ false
-    → narrow_open t n access deny (Some o) ≡ record { answer = Err Inval; after = t }
-narrow_refused t n access deny o e = ap
-    (λ (v : Bool). cond v
-    (record { answer = Ok (record { seqid = next_seqid o.seqid; instance = t.instance; number = n }); after = with_open t n (narrows access deny) })
-    (record { answer = Err Inval; after = t })) e
 
 -- an open that is found under a number is narrowed
 pub table_narrow : (t : Table) (n : ℕ) (access deny : Share) (o : OpenState) → IsTable t → open_at t n ≡ Some o → is_narrower access deny o ≡ true

@@ -8,16 +8,14 @@ use Rattle.nfs_ranges.specs.Holders.{dropped}
 use Rattle.nfs_opens.specs.Opening.{own_open}
 use Rattle.nfs_opens.specs.declared.opening.Ask.{Ask}
 use Rattle.nfs_opens.specs.StateId.{last_number}
-use Rattle.nfs_opens.specs.Table.{Table, Asked, clashes_with, Did}
+use Rattle.nfs_opens.specs.Table.{Table, Asked, clashes_with, answer_of, table_after}
 use Rattle.nfs_opens.specs.Locking.{lock_under, lock_known}
 use Rattle.nfs_opens.specs.declared.stateid.StateId.{StateId}
-use Rattle.nfs_opens.specs.declared.judging.Sort.TheVariants.{OpenOnly, LockOnly}
 use Rattle.nfs_opens.specs.declared.locking.Wish.{Wish}
 use Rattle.nfs_opens.specs.declared.locking.Locker.{Locker}
 use Rattle.nfs_opens.specs.declared.locking.Locker.TheVariants.{New, Known}
 use Rattle.nfs_opens.specs.declared.locking.OpenFault.{OpenFault}
 use Rattle.nfs_opens.specs.declared.locking.OpenFault.TheVariants.{Memory}
-use Rattle.nfs_opens.specs.Judging.{judge}
 use Rattle.nfs_opens.specs.Closing.{held_within, without_open}
 use Rattle.nfs_opens.specs.declared.records.OpenState.{OpenState}
 use Rattle.nfs_opens.specs.declared.records.LockState.{LockState}
@@ -36,22 +34,22 @@ open_checks t a =
 abbrev pub open_fault : Table → Asked → Option Status
 open_fault t a = first_fault (open_checks t a)
 
-abbrev pub lock : Table → Locker → Wish → Did StateId OpenFault
-lock t (New under owner) w = lock_under t w under.number owner.now (judge t under w.client (Some w.file) OpenOnly)
-lock t (Known state) w = lock_known t w state.number (judge t state w.client (Some w.file) LockOnly)
+abbrev pub lock : Table → Locker → Wish → Result (StateId × Table) OpenFault
+lock t (New under owner) w = lock_under t under owner.now w
+lock t (Known state) w = lock_known t state w
 
 -- the call does what is said; or it wants memory where it would have been granted, and changes nothing
-abbrev pub LocksOrWants : Table → Did StateId OpenFault → Result StateId OpenFault → Table → Type 0
-LocksOrWants old did (Err Memory) new = IsOk did.answer × (new ≡ old)
-LocksOrWants old did answer new = (answer ≡ did.answer) × (new ≡ did.after)
+abbrev pub LocksOrWants : Table → Result (StateId × Table) OpenFault → Result StateId OpenFault → Table → Type 0
+LocksOrWants old did (Err Memory) new = IsOk did × (new ≡ old)
+LocksOrWants old did answer new = (answer ≡ answer_of did) × (new ≡ table_after old did)
 
 -- the bytes of a whole file, which are given up without memory
 abbrev pub is_whole : ℕ → ℕ → Bool
 is_whole first last = (first == 0) && (last == 0xffff_ffff_ffff_ffff)
 
-abbrev pub UnlocksOrWants : Table → Bool → Did StateId OpenFault → Result StateId OpenFault → Table → Type 0
-UnlocksOrWants old whole did (Err Memory) new = IsTrue (not whole) × IsOk did.answer × (new ≡ old)
-UnlocksOrWants old whole did answer new = (answer ≡ did.answer) × (new ≡ did.after)
+abbrev pub UnlocksOrWants : Table → Bool → Result (StateId × Table) OpenFault → Result StateId OpenFault → Table → Type 0
+UnlocksOrWants old whole did (Err Memory) new = IsTrue (not whole) × IsOk did × (new ≡ old)
+UnlocksOrWants old whole did answer new = (answer ≡ answer_of did) × (new ≡ table_after old did)
 
 -- one lock state after the other, of those that leave, gives up its bytes
 abbrev pub held_without : (LockState → Bool) → List LockState → FileHolders → FileHolders

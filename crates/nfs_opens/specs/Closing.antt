@@ -1,5 +1,5 @@
 -- CLOSE and FREE_STATEID (RFC 8881 sections 18.2 and 18.38).
-use Rattle.std.specs.Prelude.{ℕ, ◌==◌, Bool, not, List, Option, Some, None, Result, Ok, Err, filter, if◌then◌else◌}
+use Rattle.std.specs.Prelude.{ℕ, ◌==◌, Bool, not, List, Some, None, ok_or, Result, Ok, Err, filter, if◌then◌else◌}
 use Rattle.std.specs.List.{list_any}
 use Rattle.nfs_xdr.specs.declared.status.Status.{Status}
 use Rattle.nfs_xdr.specs.declared.status.Status.TheVariants.{BadStateId, LocksHeld}
@@ -7,10 +7,11 @@ use Rattle.nfs_ranges.specs.Holders.{holds_any}
 use Rattle.nfs_opens.specs.declared.stateid.StateId.{StateId}
 use Rattle.nfs_opens.specs.declared.records.LockState.{LockState}
 use Rattle.nfs_opens.specs.declared.judging.Seat.{Seat}
-use Rattle.nfs_opens.specs.declared.judging.Seat.TheVariants.{Anonymous, ReadBypass, Open, Lock}
+use Rattle.nfs_opens.specs.declared.judging.Seat.TheVariants.{Open, Lock}
 use Rattle.nfs_opens.specs.declared.judging.Sort.TheVariants.{OpenOnly, Either}
 use Rattle.nfs_opens.specs.Holding.{FileHolders}
-use Rattle.nfs_opens.specs.Table.{Table, Did, lock_at}
+use Rattle.nfs_opens.specs.Steps.{◌>>=◌, require}
+use Rattle.nfs_opens.specs.Table.{Table, lock_at}
 use Rattle.nfs_opens.specs.Judging.{judge}
 
 abbrev pub stands : List LockState → ℕ → Bool
@@ -31,29 +32,26 @@ without_open t n = record t {
   held = held_within (filter (not_under n) t.locks) t.held;
 }
 
-abbrev pub close_by : Table → ℕ → Result Seat Status → Did (Unit {0}) Status
-close_by t n (Err status) = record { answer = Err status; after = t }
-close_by t n (Ok seat) = record { answer = Ok tt; after = without_open t n }
-
-abbrev pub close : Table → StateId → ℕ → ℕ → Did (Unit {0}) Status
-close t id client file = close_by t id.number (judge t id client (Some file) OpenOnly)
+abbrev pub close : Table → StateId → ℕ → ℕ → Result (Unit {0} × Table) Status
+close t id client file = do
+  seat ← judge t id client (Some file) OpenOnly
+  Ok (tt, without_open t id.number)
 
 -- a lock state goes
 abbrev pub without_lock : Table → ℕ → Table
 without_lock t n = record t { locks = filter (λ l. not (l.number == n)) t.locks }
 
--- FREE_STATEID of a lock state: it must hold no byte
-abbrev pub free_lock : Table → ℕ → Option LockState → Did (Unit {0}) Status
-free_lock t n None = record { answer = Err BadStateId; after = t }
-free_lock t n (Some l) =
-    if holds_any (t.held l.file) n then record { answer = Err LocksHeld; after = t } else record { answer = Ok tt; after = without_lock t n }
+-- the lock state that is to go: a special stateid names none, and an open goes by CLOSE alone
+abbrev pub lock_in : Seat → Result ℕ Status
+lock_in (Lock number access) = Ok number
+lock_in (Open number access) = Err LocksHeld
+lock_in special = Err BadStateId
 
-abbrev pub free_by : Table → Result Seat Status → Did (Unit {0}) Status
-free_by t (Err status) = record { answer = Err status; after = t }
-free_by t (Ok Anonymous) = record { answer = Err BadStateId; after = t }
-free_by t (Ok ReadBypass) = record { answer = Err BadStateId; after = t }
-free_by t (Ok (Open number access)) = record { answer = Err LocksHeld; after = t }
-free_by t (Ok (Lock number access)) = free_lock t number (lock_at t number)
-
-abbrev pub free : Table → StateId → ℕ → Did (Unit {0}) Status
-free t id client = free_by t (judge t id client None Either)
+-- FREE_STATEID: a lock state that holds no byte
+abbrev pub free : Table → StateId → ℕ → Result (Unit {0} × Table) Status
+free t id client = do
+  seat ← judge t id client None Either
+  number ← lock_in seat
+  l ← ok_or (lock_at t number) BadStateId
+  u ← require (not (holds_any (t.held l.file) number)) LocksHeld
+  Ok (tt, without_lock t number)

@@ -12,6 +12,7 @@ pub mod Locking
 pub mod Opening
 pub mod Share
 pub mod StateId
+pub mod Steps
 pub mod Table
 pub mod Calls
 pub mod TableInvariants

@@ -1,6 +1,5 @@
 -- LOCK, LOCKT and LOCKU (RFC 8881 sections 18.10 to 18.12).
-use Rattle.std.specs.Prelude.{ℕ, ◌+◌, ◌==◌, suc, Bool, ◌&&◌, List, [], ◌∷◌, ◌++◌, Option, Some, None, Result, Ok, Err, find, bytes_eq, if◌then◌else◌}
-use Rattle.nfs_xdr.specs.declared.status.Status.{Status}
+use Rattle.std.specs.Prelude.{ℕ, ◌+◌, ◌==◌, suc, Bool, not, ◌&&◌, List, [], ◌∷◌, ◌++◌, Option, Some, None, ok_or, Result, Ok, Err, find, bytes_eq, if◌then◌else◌}
 use Rattle.nfs_xdr.specs.declared.status.Status.TheVariants.{BadStateId, OpenMode, ServerFault}
 use Rattle.nfs_ranges.specs.declared.Kind.{Kind}
 use Rattle.nfs_ranges.specs.declared.Kind.TheVariants.{Read, Write}
@@ -12,14 +11,15 @@ use Rattle.nfs_opens.specs.declared.stateid.StateId.{StateId}
 use Rattle.nfs_opens.specs.declared.records.LockState.{LockState}
 use Rattle.nfs_opens.specs.declared.judging.Seat.{Seat}
 use Rattle.nfs_opens.specs.declared.judging.Seat.TheVariants.{Open, Lock}
-use Rattle.nfs_opens.specs.declared.judging.Sort.TheVariants.{LockOnly}
+use Rattle.nfs_opens.specs.declared.judging.Sort.TheVariants.{OpenOnly, LockOnly}
 use Rattle.nfs_opens.specs.declared.locking.Wish.{Wish}
 use Rattle.nfs_opens.specs.declared.locking.OpenFault.{OpenFault}
 use Rattle.nfs_opens.specs.declared.locking.OpenFault.TheVariants.{Refused, Denied}
 use Rattle.nfs_opens.specs.Share.{neither}
 use Rattle.nfs_opens.specs.StateId.{next_seqid, last_number}
 use Rattle.nfs_opens.specs.Holding.{on_file}
-use Rattle.nfs_opens.specs.Table.{Table, Did, lock_at, with_lock}
+use Rattle.nfs_opens.specs.Steps.{◌>>=◌, require, map_err}
+use Rattle.nfs_opens.specs.Table.{Table, lock_at, with_lock}
 use Rattle.nfs_opens.specs.Judging.{judge}
 
 -- the lock state that a lock owner has on a file
@@ -55,30 +55,6 @@ access_in seat = neither
 abbrev pub raised : LockState → LockState
 raised l = record l { seqid = next_seqid l.seqid }
 
-abbrev pub lock_refused : Table → OpenFault → Did StateId OpenFault
-lock_refused t fault = record { answer = Err fault; after = t }
-
--- a lock state that stands holds the bytes in this way, and its seqid rises
-abbrev pub lock_more : Table → Wish → ℕ → Option LockState → Did StateId OpenFault
-lock_more t w n None = lock_refused t (Refused BadStateId)
-lock_more t w n (Some l) = record {
-  answer = Ok (record { seqid = next_seqid l.seqid; instance = t.instance; number = n });
-  after = record (with_lock t n raised) { held = on_file t.held w.file (λ h. holding h n w.kind w.first w.last) };
-}
-
--- a new lock state under an open holds the bytes
-abbrev pub lock_new : Table → Wish → ℕ → List ℕ → Did StateId OpenFault
-lock_new t w opened owner =
-    if t.last == last_number then lock_refused t (Refused ServerFault)
-    else record {
-      answer = Ok (record { seqid = 1; instance = t.instance; number = t.last + 1 });
-      after = record t {
-        locks = t.locks ++ record { number = t.last + 1; client = w.client; owner = owner; file = w.file; opened = opened; seqid = 1 } ∷ [];
-        held = on_file t.held w.file (λ h. holding h (t.last + 1) w.kind w.first w.last);
-        last = t.last + 1;
-      };
-    }
-
 abbrev pub unless_told : Option Held → Result (Unit {0}) OpenFault
 unless_told (Some h) = Err (Denied h)
 unless_told None = Ok tt
@@ -87,42 +63,52 @@ unless_told None = Ok tt
 abbrev pub lock_judged : Table → ℕ → Share → Wish → Result (Unit {0}) OpenFault
 lock_judged t state access w = if permits access w.kind then unless_told (clash t state w) else Err (Refused OpenMode)
 
-abbrev pub does_if : Table → Result (Unit {0}) OpenFault → Did StateId OpenFault → Did StateId OpenFault
-does_if t (Err fault) granted = lock_refused t fault
-does_if t (Ok unit) granted = granted
+-- by a lock state that stands, with the access of an open: it holds the bytes in this way, and its seqid rises
+abbrev pub lock_as : Table → Wish → ℕ → Share → Result (StateId × Table) OpenFault
+lock_as t w n access = do
+  u ← lock_judged t n access w
+  l ← ok_or (lock_at t n) (Refused BadStateId)
+  Ok (
+    record { seqid = next_seqid l.seqid; instance = t.instance; number = n },
+    record (with_lock t n raised) { held = on_file t.held w.file (λ h. holding h n w.kind w.first w.last) },
+  )
 
--- by a lock state that stands, with the access of an open
-abbrev pub lock_as : Table → Wish → ℕ → Share → Did StateId OpenFault
-lock_as t w n access = does_if t (lock_judged t n access w) (lock_more t w n (lock_at t n))
+-- by a lock owner that has no state on the file: a new one under the open holds the bytes
+abbrev pub lock_first : Table → Wish → ℕ → List ℕ → Share → Result (StateId × Table) OpenFault
+lock_first t w opened owner access = do
+  u ← lock_judged t 0 access w
+  u ← require (not (t.last == last_number)) (Refused ServerFault)
+  Ok (
+    record { seqid = 1; instance = t.instance; number = t.last + 1 },
+    record t {
+      locks = t.locks ++ record { number = t.last + 1; client = w.client; owner = owner; file = w.file; opened = opened; seqid = 1 } ∷ [];
+      held = on_file t.held w.file (λ h. holding h (t.last + 1) w.kind w.first w.last);
+      last = t.last + 1;
+    },
+  )
 
--- by a lock owner that has no state on the file
-abbrev pub lock_first : Table → Wish → ℕ → List ℕ → Share → Did StateId OpenFault
-lock_first t w opened owner access = does_if t (lock_judged t 0 access w) (lock_new t w opened owner)
-
-abbrev pub lock_by_owner : Table → Wish → ℕ → List ℕ → Share → Option LockState → Did StateId OpenFault
+abbrev pub lock_by_owner : Table → Wish → ℕ → List ℕ → Share → Option LockState → Result (StateId × Table) OpenFault
 lock_by_owner t w opened owner access (Some l) = lock_as t w l.number access
 lock_by_owner t w opened owner access None = lock_first t w opened owner access
 
--- a new lock owner uses the state that it has on the file, if it has one
-abbrev pub lock_under : Table → Wish → ℕ → List ℕ → Result Seat Status → Did StateId OpenFault
-lock_under t w opened owner (Err status) = lock_refused t (Refused status)
-lock_under t w opened owner (Ok seat) = lock_by_owner t w opened owner (access_in seat) (state_of t w.client owner w.file)
+-- LOCK by a new lock owner, under an open: it uses the state that it has on the file, if it has one
+abbrev pub lock_under : Table → StateId → List ℕ → Wish → Result (StateId × Table) OpenFault
+lock_under t id owner w = do
+  seat ← map_err Refused (judge t id w.client (Some w.file) OpenOnly)
+  lock_by_owner t w id.number owner (access_in seat) (state_of t w.client owner w.file)
 
-abbrev pub lock_known : Table → Wish → ℕ → Result Seat Status → Did StateId OpenFault
-lock_known t w state (Err status) = lock_refused t (Refused status)
-lock_known t w state (Ok seat) = lock_as t w state (access_in seat)
+-- LOCK by a lock owner that names its state
+abbrev pub lock_known : Table → StateId → Wish → Result (StateId × Table) OpenFault
+lock_known t id w = do
+  seat ← map_err Refused (judge t id w.client (Some w.file) LockOnly)
+  lock_as t w id.number (access_in seat)
 
 -- LOCKU: the lock state holds none of the bytes, and its seqid rises
-abbrev pub clear_lock : Table → ℕ → ℕ → ℕ → ℕ → Option LockState → Did StateId OpenFault
-clear_lock t n file first last None = lock_refused t (Refused BadStateId)
-clear_lock t n file first last (Some l) = record {
-  answer = Ok (record { seqid = next_seqid l.seqid; instance = t.instance; number = n });
-  after = record (with_lock t n raised) { held = on_file t.held file (λ h. cleared h n first last) };
-}
-
-abbrev pub unlock_by : Table → ℕ → ℕ → ℕ → ℕ → Result Seat Status → Did StateId OpenFault
-unlock_by t n file first last (Err status) = lock_refused t (Refused status)
-unlock_by t n file first last (Ok seat) = clear_lock t n file first last (lock_at t n)
-
-abbrev pub unlock : Table → StateId → ℕ → ℕ → ℕ → ℕ → Did StateId OpenFault
-unlock t state client file first last = unlock_by t state.number file first last (judge t state client (Some file) LockOnly)
+abbrev pub unlock : Table → StateId → ℕ → ℕ → ℕ → ℕ → Result (StateId × Table) OpenFault
+unlock t id client file first last = do
+  seat ← map_err Refused (judge t id client (Some file) LockOnly)
+  l ← ok_or (lock_at t id.number) (Refused BadStateId)
+  Ok (
+    record { seqid = next_seqid l.seqid; instance = t.instance; number = id.number },
+    record (with_lock t id.number raised) { held = on_file t.held file (λ h. cleared h id.number first last) },
+  )

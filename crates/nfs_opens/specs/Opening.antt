@@ -1,15 +1,15 @@
 -- OPEN and OPEN_DOWNGRADE as far as they concern opens (RFC 8881 sections 18.16 and 18.18).
-use Rattle.std.specs.Prelude.{ℕ, ◌+◌, Bool, not, ◌&&◌, [], ◌∷◌, ◌++◌, Option, Some, None, Result, Ok, Err, find, if◌then◌else◌}
+use Rattle.std.specs.Prelude.{ℕ, ◌+◌, Bool, not, ◌&&◌, [], ◌∷◌, ◌++◌, Option, Some, None, ok_or, Result, Ok, find}
 use Rattle.nfs_xdr.specs.declared.status.Status.{Status}
 use Rattle.nfs_xdr.specs.declared.status.Status.TheVariants.{BadStateId, Inval}
 use Rattle.nfs_opens.specs.declared.share.Share.{Share}
 use Rattle.nfs_opens.specs.declared.stateid.StateId.{StateId}
 use Rattle.nfs_opens.specs.declared.records.OpenState.{OpenState}
-use Rattle.nfs_opens.specs.declared.judging.Seat.{Seat}
 use Rattle.nfs_opens.specs.declared.judging.Sort.TheVariants.{OpenOnly}
 use Rattle.nfs_opens.specs.Share.{joined, is_part, is_neither}
 use Rattle.nfs_opens.specs.StateId.{next_seqid}
-use Rattle.nfs_opens.specs.Table.{Table, Did, Asked, is_own, open_at, with_open}
+use Rattle.nfs_opens.specs.Steps.{◌>>=◌, require}
+use Rattle.nfs_opens.specs.Table.{Table, Asked, is_own, open_at, with_open}
 use Rattle.nfs_opens.specs.Judging.{judge}
 
 -- the open that the owner has of the file
@@ -45,16 +45,9 @@ is_narrower access deny o = not (is_neither access) && (is_part access o.access 
 abbrev pub narrows : Share → Share → OpenState → OpenState
 narrows access deny o = record o { seqid = next_seqid o.seqid; access = access; deny = deny }
 
-abbrev pub narrow_open : Table → ℕ → Share → Share → Option OpenState → Did StateId Status
-narrow_open t n access deny None = record { answer = Err BadStateId; after = t }
-narrow_open t n access deny (Some o) =
-    if is_narrower access deny o
-    then record { answer = Ok (record { seqid = next_seqid o.seqid; instance = t.instance; number = n }); after = with_open t n (narrows access deny) }
-    else record { answer = Err Inval; after = t }
-
-abbrev pub downgrade_by : Table → ℕ → Share → Share → Result Seat Status → Did StateId Status
-downgrade_by t n access deny (Err status) = record { answer = Err status; after = t }
-downgrade_by t n access deny (Ok seat) = narrow_open t n access deny (open_at t n)
-
-abbrev pub downgrade : Table → StateId → ℕ → ℕ → Share → Share → Did StateId Status
-downgrade t id client file access deny = downgrade_by t id.number access deny (judge t id client (Some file) OpenOnly)
+abbrev pub downgrade : Table → StateId → ℕ → ℕ → Share → Share → Result (StateId × Table) Status
+downgrade t id client file access deny = do
+  seat ← judge t id client (Some file) OpenOnly
+  o ← ok_or (open_at t id.number) BadStateId
+  u ← require (is_narrower access deny o) Inval
+  Ok (record { seqid = next_seqid o.seqid; instance = t.instance; number = id.number }, with_open t id.number (narrows access deny))

@@ -1,5 +1,5 @@
 -- Opens, lock states and locked bytes (RFC 8881 sections 8.2, 9.1 and 9.7).
-use Rattle.std.specs.Prelude.{ℕ, ◌==◌, Bool, not, ◌&&◌, ◌||◌, List, [], Option, Result, find, map, bytes_eq, if◌then◌else◌}
+use Rattle.std.specs.Prelude.{ℕ, ◌==◌, Bool, not, ◌&&◌, ◌||◌, List, [], Option, Result, Ok, Err, find, map, bytes_eq, if◌then◌else◌}
 use Rattle.nfs_ranges.specs.Holders.{LockedBytes}
 use Rattle.nfs_opens.specs.declared.share.Share.{Share}
 use Rattle.nfs_opens.specs.declared.records.OpenState.{OpenState}
@@ -46,10 +46,15 @@ with_open t n change = record t { opens = map (λ o. if o.number == n then chang
 abbrev pub with_lock : Table → ℕ → (LockState → LockState) → Table
 with_lock t n change = record t { locks = map (λ l. if l.number == n then change l else l) t.locks }
 
--- what one call answers, and the table after it
-pub record Did (X F : Type 0) : Type 0 where
-  pub answer : Result X F
-  pub after : Table
+-- What a call comes to is its answer with the table that it leaves, or its refusal. What it answers ..
+abbrev pub answer_of : {A F : Type 0} → Result (A × Table) F → Result A F
+answer_of (Err fault) = Err fault
+answer_of (Ok did) = Ok did.0
+
+-- .. and the table after it: a refusal leaves the table as it is
+abbrev pub table_after : {A F : Type 0} → Table → Result (A × Table) F → Table
+table_after t (Err fault) = t
+table_after t (Ok did) = did.1
 
 -- who asks to open which file, and how
 pub record Asked : Type 0 where

@@ -4,9 +4,9 @@ ghost use Rattle.std.specs.Prelude.{◌≡◌, ◌==◌, false, not, filter, IfS
 ghost use Rattle.std.specs.List.{list_any};
 ghost use Rattle.nfs_ranges.specs.Holders.{dropped};
 ghost use Rattle.nfs_opens.specs.Holding.{held_by, on_file, is_listed, ListsNoMore};
-ghost use Rattle.nfs_opens.specs.Table.{table, open_at, lock_at};
+ghost use Rattle.nfs_opens.specs.Table.{table, open_at, answer_of, table_after};
 ghost use Rattle.nfs_opens.specs.TableInvariants.{AreHolders};
-ghost use Rattle.nfs_opens.specs.Closing.{without_open, close, free_lock, free};
+ghost use Rattle.nfs_opens.specs.Closing.{without_open, close, lock_in, free};
 ghost use Rattle.nfs_opens.specs.Calls.{without_client, drop_client, held_without};
 
 use crate::judging::{Seat, Sort};
@@ -50,13 +50,24 @@ fn forget_unlocked(files: &mut LockedFiles, locks: &LockStates, file: u64)
     }
 }
 
+/// The lock state that FREE_STATEID may free: an open goes by CLOSE alone.
+fn lock_in(seat: Seat) -> Result<u64, Status>
+    ensures { result ≡ lock_in seat }
+{
+    match seat {
+        Seat::Lock { number, .. } => Ok(number),
+        Seat::Open { .. } => Err(Status::LocksHeld),
+        Seat::Anonymous | Seat::ReadBypass => Err(Status::BadStateId),
+    }
+}
+
 impl Opens {
     /// CLOSE: the open goes, with its lock states and the bytes that they hold.
     ///
     /// `id` and `file` are judged as of an open. A refusal changes nothing.
     pub fn close(&mut self, id: StateId, client: u64, file: u64) -> Result<(), Status>
-        ensures answer { result ≡ (close (table self.old) id client file).answer }
-        ensures after { table self.new ≡ (close (table self.old) id client file).after }
+        ensures answer { result ≡ answer_of (close (table self.old) id client file) }
+        ensures after { table self.new ≡ table_after (table self.old) (close (table self.old) id client file) }
         ensures room { self.new.ready ≡ self.old.ready }
     {
         self.judge(id, client, Some(file), Sort::OpenOnly)?;
@@ -109,22 +120,11 @@ impl Opens {
     /// `id` is judged as a lock state's or an open's of any file, and a special stateid is BAD_STATEID; then LOCKS_HELD
     /// for an open, and for a lock state that holds a byte. A refusal changes nothing.
     pub fn free(&mut self, id: StateId, client: u64) -> Result<(), Status>
-        ensures answer { result ≡ (free (table self.old) id client).answer }
-        ensures after { table self.new ≡ (free (table self.old) id client).after }
+        ensures answer { result ≡ answer_of (free (table self.old) id client) }
+        ensures after { table self.new ≡ table_after (table self.old) (free (table self.old) id client) }
         ensures room { self.new.ready ≡ self.old.ready }
     {
-        match self.judge(id, client, None, Sort::Either)? {
-            Seat::Anonymous | Seat::ReadBypass => Err(Status::BadStateId),
-            Seat::Open { .. } => Err(Status::LocksHeld),
-            Seat::Lock { number, .. } => self.free_lock(number),
-        }
-    }
-
-    fn free_lock(&mut self, number: u64) -> Result<(), Status>
-        ensures answer { result ≡ (free_lock (table self.old) number (lock_at (table self.old) number)).answer }
-        ensures after { table self.new ≡ (free_lock (table self.old) number (lock_at (table self.old) number)).after }
-        ensures room { self.new.ready ≡ self.old.ready }
-    {
+        let number = lock_in(self.judge(id, client, None, Sort::Either)?)?;
         let file = match self.locks.get(number) {
             Some(lock) => lock.file,
             None => return Err(Status::BadStateId),

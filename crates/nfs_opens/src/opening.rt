@@ -4,7 +4,7 @@ ghost use Rattle.std.specs.Prelude.{◌≡◌, ◌==◌, ◌&&◌, ◌+◌, ◌<
 ghost use Rattle.std.specs.Option.{option_copied};
 ghost use Rattle.std.specs.List.{list_any};
 ghost use Rattle.nfs_xdr.specs.Checks.{judged};
-ghost use Rattle.nfs_opens.specs.Table.{table, is_owners, clashes_with};
+ghost use Rattle.nfs_opens.specs.Table.{table, is_owners, clashes_with, answer_of, table_after};
 ghost use Rattle.nfs_opens.specs.Counts.{count_of};
 ghost use Rattle.nfs_opens.specs.TableInvariants.{IsTable};
 ghost use Rattle.nfs_opens.specs.Opening.{opens, own_open, downgrade};
@@ -192,8 +192,8 @@ impl Opens {
         access: Share,
         deny: Share,
     ) -> Result<StateId, Status>
-        ensures answer { result ≡ (downgrade (table self.old) id client file access deny).answer }
-        ensures after { table self.new ≡ (downgrade (table self.old) id client file access deny).after }
+        ensures answer { result ≡ answer_of (downgrade (table self.old) id client file access deny) }
+        ensures after { table self.new ≡ table_after (table self.old) (downgrade (table self.old) id client file access deny) }
         ensures room { self.new.ready ≡ self.old.ready }
     {
         self.judge(id, client, Some(file), Sort::OpenOnly)?;

@@ -1,8 +1,11 @@
+use Rattle.std.proofs.Common.{◌∙◌, ap}
+use Rattle.nfs_results.specs.Result.{ResClose}
+use Rattle.nfs_files.specs.Target.{with_stateid}
 use Rattle.nfs_compound.specs.declared.op_num.OpNum.TheVariants as Op
 use Rattle.nfs_opens.specs.Closing as opens
-use Rattle.nfs_names.specs.State.{state_of}
-use Rattle.nfs_files.specs.Close.{closed}
-use Rattle.nfs_files.proofs.Refused.{by_refusal, close_stays}
+use Rattle.nfs_names.specs.State.{State, state_of}
+use Rattle.nfs_files.specs.Close.{spent, closed}
+use Rattle.nfs_files.proofs.Refused.{by_refusal, by_grant}
 use Rattle.nfs_files.proofs.closing.close_open.Goals as goal
 
 pub returns-in-Err : goal.returns-in-Err
@@ -10,6 +13,13 @@ returns-in-Err c =
     let s = state_of c.args.store.now in
     let x = c.args.context.now in
     let t = c.args.target in
-    let did = opens.close s.opens t.id x.client t.file in
-    by_refusal s x Op.Close did (λ u. closed s x t.file did.after) c.in-Err.status _ _
-    (close_stays s.opens t.id x.client t.file) c.in-Err.ensures.answer c.in-Err.ensures.after c.refuse.ensures
+    by_refusal s x Op.Close (opens.close s.opens t.id x.client t.file) (λ did. closed s x t.file did.1) c.in-Err.status _ _
+    c.in-Err.ensures.answer c.in-Err.ensures.after c.refuse.ensures
+
+pub returns-in-Ok : goal.returns-in-Ok
+returns-in-Ok c =
+    let s = state_of c.args.store.now in
+    let x = c.args.context.now in
+    let t = c.args.target in
+    ap (λ (left : State). record { result = ResClose spent; state = left; context = with_stateid x spent }) c.drop_unused.ensures.state
+    ∙ by_grant s x Op.Close (opens.close s.opens t.id x.client t.file) (λ did. closed s x t.file did.1) tt _ c.in-Ok.ensures.answer c.in-Ok.ensures.after

@@ -4,13 +4,12 @@ use Rattle.nfs_opens.specs.Closing as opens
 use Rattle.nfs_names.specs.State.{state_of}
 use Rattle.nfs_names.specs.Outcome.{done}
 use Rattle.nfs_names.specs.Ending.{with_opens}
-use Rattle.nfs_files.proofs.Refused.{by_refusal, free_stays}
+use Rattle.nfs_files.proofs.Refused.{by_refusal}
 use Rattle.nfs_files.proofs.stateids.free_id.Goals as goal
 
 pub returns-in-Err : goal.returns-in-Err
 returns-in-Err c =
     let s = state_of c.args.store.now in
     let x = c.args.context.now in
-    let did = opens.free s.opens c.args.id x.client in
-    by_refusal s x Op.FreeStateid did (λ u. done (with_opens s did.after) x ResFreeStateid) c.in-Err.status _ _
-    (free_stays s.opens c.args.id x.client) c.in-Err.ensures.answer c.in-Err.ensures.after c.refuse.ensures
+    by_refusal s x Op.FreeStateid (opens.free s.opens c.args.id x.client) (λ did. done (with_opens s did.1) x ResFreeStateid) c.in-Err.status _ _
+    c.in-Err.ensures.answer c.in-Err.ensures.after c.refuse.ensures

@@ -9,7 +9,7 @@ use Rattle.nfs_attrs.specs.Reading.{fault_status}
 use Rattle.nfs_attrs.specs.declared.wanted.Wanted.{Wanted}
 use Rattle.nfs_names.specs.declared.making.Making.{Making}
 use Rattle.nfs_names.specs.State.{state_of}
-use Rattle.nfs_names.specs.Outcome.{◌>>=◌, with_status, checked}
+use Rattle.nfs_names.specs.Outcome.{◌>>=◌, map_err, checked}
 use Rattle.nfs_names.specs.Create.{attributes_in, new_checks, asked_for}
 use Rattle.nfs_names.proofs.Found.{judged_err, stopped, append_fault}
 use Rattle.nfs_names.proofs.making.judge_making.Goals as goal
@@ -29,7 +29,7 @@ returns-in_err-may_make c =
     let all : first_fault (new_checks x m) ≡ Some f = append_fault (make_checks w x.who) ((is_some w.size, Inval) ∷ []) f barred in
     let judged : Wanted → Making = λ w. record { place = d; wanted = w } in
     let last : checked (Ok m) (new_checks x) ≡ Err f = stopped (Ok m) (new_checks x) m f refl all in
-    let read = ap (λ v. with_status fault_status v >>= λ w. checked (Ok (judged w)) (new_checks x)) (sym c.wanted_of.ensures ∙ c.in-Ok.is) in
+    let read = ap (λ v. map_err fault_status v >>= λ w. checked (Ok (judged w)) (new_checks x)) (sym c.wanted_of.ensures ∙ c.in-Ok.is) in
     let placed : asked_for s x a ≡ Err f = ap (λ v. v >>= λ d. attributes_in a.createattrs >>= λ w. checked (Ok (record { place = d; wanted = w })) (new_checks x))
     (sym c.judge_place.ensures ∙ c.in_ok-place.was) ∙ read ∙ last in
     r.1 ∙ ap Err r.2 ∙ sym placed

@@ -1,19 +1,24 @@
-use Rattle.std.proofs.Common.{◌≡◌, Option, Some, None, ℕ, suc, sym, subst, ap, ◌∙◌, refl, false, true, arith}
-use Rattle.std.specs.Prelude.{Ok, Err}
+use Rattle.std.proofs.Common.{◌≡◌, Bool, Option, Some, None, ℕ, suc, sym, subst, ap, ◌∙◌, refl, false, true, arith}
+use Rattle.std.specs.Prelude.{Ok, Result, ok_or}
 use Rattle.std.specs.Option.{option_copied}
 use Rattle.nfs_xdr.specs.declared.status.Status.{Status}
-use Rattle.nfs_xdr.specs.declared.status.Status.TheVariants.{Inval}
+use Rattle.nfs_xdr.specs.declared.status.Status.TheVariants.{BadStateId, Inval}
 use Rattle.nfs_opens.specs.contracts.opens.Opens.{the_view}
+use Rattle.nfs_opens.specs.declared.share.Share.{Share}
+use Rattle.nfs_opens.specs.declared.judging.Sort.TheVariants.{OpenOnly}
 use Rattle.nfs_opens.specs.declared.stateid.StateId.{StateId}
 use Rattle.nfs_opens.specs.declared.records.OpenState.{OpenState}
 use Rattle.nfs_opens.specs.Holding.{held_by}
+use Rattle.nfs_opens.specs.Judging.{judge}
 use Rattle.nfs_opens.specs.StateId.{next_seqid}
-use Rattle.nfs_opens.specs.Table.{Kept, Did, with_open, table, open_at}
+use Rattle.nfs_opens.specs.Steps.{◌>>=◌, require}
+use Rattle.nfs_opens.specs.Table.{Kept, Table, with_open, table, table_after, answer_of, open_at}
 use Rattle.nfs_opens.specs.TableInvariants.{IsTable}
-use Rattle.nfs_opens.specs.Opening.{downgrade, downgrade_by, narrow_open, narrows}
+use Rattle.nfs_opens.specs.Opening.{downgrade, is_narrower, narrows}
+use Rattle.nfs_opens.proofs.CallLaws.{goes_on}
 use Rattle.nfs_opens.proofs.CountLemmas.{rising_few}
 use Rattle.nfs_opens.proofs.LockLemmas.{same_table}
-use Rattle.nfs_opens.proofs.StepLemmas.{narrow_done, narrow_refused, table_narrow}
+use Rattle.nfs_opens.proofs.StepLemmas.{table_narrow}
 use Rattle.nfs_opens.proofs.opens.Opens.downgrade.Goals as goal
 use Rattle.nfs_opens.proofs.opens.Opens.downgrade.Goals.{After-get, After-is_narrower, After-change}
 
@@ -21,20 +26,36 @@ use Rattle.nfs_opens.proofs.opens.Opens.downgrade.Goals.{After-get, After-is_nar
 found : (c : After-get) (o : Option OpenState) → option_copied c.get.result ≡ o → open_at (table (the_view c.self.inside)) c.args.id.number ≡ o
 found c o is = sym c.get.ensures ∙ is
 
--- a downgrade by a stateid that was judged well narrows what is found
-narrowed : (c : After-get) (o : Option OpenState) → option_copied c.get.result ≡ o
-    → downgrade (table c.args.self.now) c.args.id c.args.client c.args.file c.args.access c.args.deny
-    ≡ narrow_open (table (the_view c.self.inside)) c.args.id.number c.args.access c.args.deny o
-narrowed c o is =
-    let n = c.args.id.number in
-    ap (downgrade_by (table c.args.self.now) n c.args.access c.args.deny) (sym c.judge.ensures ∙ c.in_ok-judge.was)
-    ∙ ap (λ (k : Kept). narrow_open (table k) n c.args.access c.args.deny (open_at (table k) n)) (sym c.self.view_is)
-    ∙ ap (narrow_open (table (the_view c.self.inside)) n c.args.access c.args.deny) (found c o is)
+-- what a downgrade comes to by what is found, and by whether it has what is left
+abbrev by_bits : Table → StateId → Share → Share → OpenState → Bool → Result (StateId × Table) Status
+by_bits t id access deny o b = do
+  u ← require b Inval
+  Ok (record { seqid = next_seqid o.seqid; instance = t.instance; number = id.number }, with_open t id.number (narrows access deny))
 
-refused : (c : After-is_narrower) → c.is_narrower.result ≡ false
-    → narrow_open (table (the_view c.self.inside)) c.args.id.number c.args.access c.args.deny (Some c.in-Some.open.now)
-    ≡ record { answer = Err Inval; after = table (the_view c.self.inside) }
-refused c is = narrow_refused (table (the_view c.self.inside)) c.args.id.number c.args.access c.args.deny c.in-Some.open.now (sym c.is_narrower.ensures ∙ is)
+abbrev by_state : Table → StateId → Share → Share → Option OpenState → Result (StateId × Table) Status
+by_state t id access deny o = do
+  o ← ok_or o BadStateId
+  by_bits t id access deny o (is_narrower access deny o)
+
+judged : (c : After-get) (o : Option OpenState) → option_copied c.get.result ≡ o
+    → downgrade (table c.args.self.now) c.args.id c.args.client c.args.file c.args.access c.args.deny
+    ≡ by_state (table c.args.self.now) c.args.id c.args.access c.args.deny o
+judged c o is =
+    let t = table c.args.self.now in
+    goes_on (judge t c.args.id c.args.client (Some c.args.file) OpenOnly) (λ seat. by_state t c.args.id c.args.access c.args.deny (open_at t c.args.id.number))
+    c.in_ok-judge.field-0 (sym c.judge.ensures ∙ c.in_ok-judge.was)
+    ∙ ap (by_state t c.args.id c.args.access c.args.deny) (ap (λ (k : Kept). open_at (table k) c.args.id.number) (sym c.self.view_is) ∙ found c o is)
+
+some : (c : After-is_narrower) (b : Bool)
+    → downgrade (table c.args.self.now) c.args.id c.args.client c.args.file c.args.access c.args.deny
+    ≡ by_state (table c.args.self.now) c.args.id c.args.access c.args.deny (Some c.in-Some.open.now)
+    → c.is_narrower.result ≡ b
+    → downgrade (table c.args.self.now) c.args.id c.args.client c.args.file c.args.access c.args.deny
+    ≡ by_bits (table (the_view c.self.inside)) c.args.id c.args.access c.args.deny c.in-Some.open.now b
+some c b found is =
+    found
+    ∙ ap (by_bits (table c.args.self.now) c.args.id c.args.access c.args.deny c.in-Some.open.now) (sym c.is_narrower.ensures ∙ is)
+    ∙ ap (λ (k : Kept). by_bits (table k) c.args.id c.args.access c.args.deny c.in-Some.open.now b) (sym c.self.view_is)
 
 -- the opens alone have changed
 changed : (c : After-change)
@@ -45,20 +66,19 @@ changed c = same_table c.change.new.self.items _ c.self.inside.locks.items _
 
 pub returns-in-None-clause-after : goal.returns-in-None-clause-after
 returns-in-None-clause-after c =
-    let is = narrowed (goal.at.returns-in-None-clause-after c).After-get None (ap option_copied c.in-None.is) in
-    ap table (sym c.self.view_is) ∙ sym (ap (λ (d : Did StateId Status). d.after) is)
+    sym (ap (table_after (table c.args.self.now)) (judged (goal.at.returns-in-None-clause-after c).After-get None (ap option_copied c.in-None.is)))
 
 pub returns-in-Some-clause-answer : goal.returns-in-Some-clause-answer
 returns-in-Some-clause-answer c =
     let at = goal.at.returns-in-Some-clause-answer c in
-    let is = narrowed at.After-get (Some c.in-Some.open.now) (ap option_copied c.in-Some.is) in
-    sym (ap (λ (d : Did StateId Status). d.answer) (is ∙ refused at.After-is_narrower c.if-not-is_narrower.true))
+    let found = judged at.After-get (Some c.in-Some.open.now) (ap option_copied c.in-Some.is) in
+    sym (ap answer_of (some at.After-is_narrower false found c.if-not-is_narrower.true))
 
 pub returns-in-Some-clause-after : goal.returns-in-Some-clause-after
 returns-in-Some-clause-after c =
     let at = goal.at.returns-in-Some-clause-after c in
-    let is = narrowed at.After-get (Some c.in-Some.open.now) (ap option_copied c.in-Some.is) in
-    ap table (sym c.self.view_is) ∙ sym (ap (λ (d : Did StateId Status). d.after) (is ∙ refused at.After-is_narrower c.if-not-is_narrower.true))
+    let found = judged at.After-get (Some c.in-Some.open.now) (ap option_copied c.in-Some.is) in
+    sym (ap (table_after (table c.args.self.now)) (some at.After-is_narrower false found c.if-not-is_narrower.true))
 
 pub invariant_of-self : goal.invariant_of-self
 invariant_of-self c =
@@ -72,28 +92,18 @@ invariant_of-self c =
       room = λ yes. c.change.ensures.ready ∙ c.self.invariant.room yes;
     }
 
--- what a downgrade of an open that is narrowed answers and leaves
-granted : (c : After-change) → downgrade (table c.args.self.now) c.args.id c.args.client c.args.file c.args.access c.args.deny
-    ≡ narrow_open (table (the_view c.self.inside)) c.args.id.number c.args.access c.args.deny (Some c.in-Some.open.now)
-    → c.is_narrower.result ≡ true → downgrade (table c.args.self.now) c.args.id c.args.client c.args.file c.args.access c.args.deny ≡ record {
-      answer = Ok (record { seqid = next_seqid c.in-Some.open.now.seqid; instance = c.self.inside.instance; number = c.args.id.number });
-      after = with_open (table (the_view c.self.inside)) c.args.id.number (narrows c.args.access c.args.deny);
-    }
-granted c is narrower = is ∙ narrow_done (table (the_view c.self.inside)) c.args.id.number c.args.access c.args.deny c.in-Some.open.now
-    (sym c.is_narrower.ensures ∙ narrower)
-
 pub returns-clause-answer : goal.returns-clause-answer
 returns-clause-answer c =
     let at = goal.at.returns-clause-answer c in
-    let is = narrowed at.After-get (Some c.in-Some.open.now) (ap option_copied c.in-Some.is) in
+    let found = judged at.After-get (Some c.in-Some.open.now) (ap option_copied c.in-Some.is) in
     ap (λ (s : ℕ). Ok (record { seqid = s; instance = c.self.inside.instance; number = c.args.id.number })) c.next_seqid-seqid.ensures
-    ∙ sym (ap (λ (d : Did StateId Status). d.answer) (granted at.After-change is c.if-not-is_narrower.false))
+    ∙ sym (ap answer_of (some at.After-is_narrower true found c.if-not-is_narrower.false))
 
 pub returns-clause-after : goal.returns-clause-after
 returns-clause-after c =
     let at = goal.at.returns-clause-after c in
-    let is = narrowed at.After-get (Some c.in-Some.open.now) (ap option_copied c.in-Some.is) in
-    changed at.After-change ∙ sym (ap (λ (d : Did StateId Status). d.after) (granted at.After-change is c.if-not-is_narrower.false))
+    let found = judged at.After-get (Some c.in-Some.open.now) (ap option_copied c.in-Some.is) in
+    changed at.After-change ∙ sym (ap (table_after (table c.args.self.now)) (some at.After-is_narrower true found c.if-not-is_narrower.false))
 
 pub change-requires : goal.change-requires
 change-requires c =

@@ -3,11 +3,9 @@ use Rattle.nfs_xdr.proofs.Lists.{find_in}
 use Rattle.std.specs.Prelude.{Ok, ◌==◌}
 use Rattle.std.specs.Option.{option_copied}
 use Rattle.nfs_opens.specs.contracts.opens.Opens.{the_view}
-use Rattle.nfs_opens.specs.declared.stateid.StateId.{StateId}
-use Rattle.nfs_opens.specs.declared.locking.OpenFault.{OpenFault}
 use Rattle.nfs_opens.specs.declared.records.LockState.{LockState}
 use Rattle.nfs_opens.specs.Holding.{held_by}
-use Rattle.nfs_opens.specs.Table.{Kept, Did, table, lock_at}
+use Rattle.nfs_opens.specs.Table.{Kept, table, answer_of, table_after, lock_at}
 use Rattle.nfs_opens.specs.TableInvariants.{IsTable}
 use Rattle.nfs_opens.specs.Locking.{lock_judged, lock_as}
 use Rattle.nfs_opens.proofs.LockLemmas.{same_table}
@@ -46,7 +44,7 @@ returns-clause-locks c =
     let same = same_table c.self.inside.opens.items _ c.raise.new.self.items _ (held_by c.set.new.self) _ c.self.inside.last c.self.inside.instance
     refl c.raise.ensures c.in_ok-set.ensures.ok in
     subst (λ (k : Kept). (Ok (record { seqid = c.next_seqid-seqid.result; instance = c.self.inside.instance; number = c.args.state }) ≡
-    (lock_as (table k) c.args.wish.now c.args.state c.args.access).answer)
+    answer_of (lock_as (table k) c.args.wish.now c.args.state c.args.access))
     × (record {
       opens = c.self.inside.opens.items;
       locks = c.raise.new.self.items;
@@ -54,9 +52,9 @@ returns-clause-locks c =
       last = c.self.inside.last;
       instance =
           c.self.inside.instance;
-    } ≡ (lock_as (table k) c.args.wish.now c.args.state c.args.access).after))
+    } ≡ table_after (table k) (lock_as (table k) c.args.wish.now c.args.state c.args.access)))
     c.self.view_is (
       ap (λ (s : ℕ). Ok (record { seqid = s; instance = c.self.inside.instance; number = c.args.state })) c.next_seqid-seqid.ensures
-          ∙ sym (ap (λ (d : Did StateId OpenFault). d.answer) is),
-      same ∙ sym (ap (λ (d : Did StateId OpenFault). d.after) is),
+          ∙ sym (ap answer_of is),
+      same ∙ sym (ap (table_after (table (the_view c.self.inside))) is),
     )

@@ -3,14 +3,13 @@ use Rattle.std.specs.Prelude.{Ok}
 use Rattle.std.proofs.lemmas.Grind.{common_steps}
 use Rattle.std.proofs.lemmas.Bool.{ne_eqb}
 use Rattle.nfs_opens.specs.contracts.opens.Opens.{the_view}
-use Rattle.nfs_opens.specs.declared.stateid.StateId.{StateId}
-use Rattle.nfs_opens.specs.declared.locking.OpenFault.{OpenFault}
 use Rattle.nfs_opens.specs.Holding.{held_by}
-use Rattle.nfs_opens.specs.Table.{Kept, Did, table, open_at}
+use Rattle.nfs_opens.specs.Table.{Kept, table, answer_of, table_after, open_at}
 use Rattle.nfs_opens.specs.TableInvariants.{IsTable}
 use Rattle.nfs_opens.specs.Locking.{lock_judged, lock_first}
 use Rattle.nfs_opens.proofs.LockLemmas.{same_table}
-use Rattle.nfs_opens.proofs.StepLemmas.{judged_tells, first_state, table_first, lock_first_is}
+use Rattle.nfs_opens.proofs.StepLemmas.{judged_tells, table_first, lock_first_is}
+use Rattle.nfs_opens.proofs.CallLaws.{first_state}
 use Rattle.nfs_opens.proofs.LockedLemmas.{listed_pushed}
 use Rattle.nfs_opens.proofs.opens.Opens.lock_first.Goals as goal
 use Rattle.nfs_xdr.proofs.Lists.{some_there}
@@ -51,7 +50,7 @@ returns-clause-locks c =
     (c.self.inside.last + 1) c.self.inside.instance refl items c.in_ok-set.ensures.ok in
     let is = lock_first_is (table (the_view c.self.inside)) c.args.wish.now c.args.opened c.args.owner.now c.args.access judged (ne_eqb _ _ c.if-self.false) in
     subst (λ (k : Kept). (Ok (record { seqid = 1; instance = c.self.inside.instance; number = c.self.inside.last + 1 }) ≡
-    (lock_first (table k) c.args.wish.now c.args.opened c.args.owner.now c.args.access).answer)
+    answer_of (lock_first (table k) c.args.wish.now c.args.opened c.args.owner.now c.args.access))
     × (record {
       opens = c.self.inside.opens.items;
       locks = c.push.new.self.items;
@@ -59,6 +58,6 @@ returns-clause-locks c =
       last = c.self.inside.last + 1;
       instance =
           c.self.inside.instance;
-    } ≡ (lock_first (table k) c.args.wish.now c.args.opened c.args.owner.now c.args.access).after))
+    } ≡ table_after (table k) (lock_first (table k) c.args.wish.now c.args.opened c.args.owner.now c.args.access)))
     c.self.view_is
-    (sym (ap (λ (d : Did StateId OpenFault). d.answer) is), same ∙ sym (ap (λ (d : Did StateId OpenFault). d.after) is))
+    (sym (ap answer_of is), same ∙ sym (ap (table_after (table (the_view c.self.inside))) is))

@@ -1,17 +1,19 @@
 use Rattle.std.proofs.Common.{◌≡◌, Some, None, ℕ, sym, subst, ap, ◌∙◌, refl}
-use Rattle.std.specs.Prelude.{Ok, Err}
+use Rattle.std.specs.Prelude.{Ok, Err, ok_or}
 use Rattle.std.specs.Option.{option_copied}
 use Rattle.nfs_opens.specs.contracts.opens.Opens.{the_view}
-use Rattle.nfs_opens.specs.declared.stateid.StateId.{StateId}
-use Rattle.nfs_opens.specs.declared.locking.OpenFault.{OpenFault}
 use Rattle.nfs_opens.specs.declared.locking.OpenFault.TheVariants.{Refused}
 use Rattle.nfs_xdr.specs.declared.status.Status.TheVariants.{BadStateId}
-use Rattle.nfs_opens.specs.Holding.{held_by}
-use Rattle.nfs_opens.specs.Table.{Kept, Did, table, lock_at}
+use Rattle.nfs_opens.specs.Holding.{held_by, on_file}
+use Rattle.nfs_opens.specs.Table.{Kept, table, answer_of, table_after, lock_at, with_lock}
 use Rattle.nfs_opens.specs.TableInvariants.{IsTable}
 use Rattle.nfs_opens.specs.Judging.{judge}
 use Rattle.nfs_opens.specs.declared.judging.Sort.TheVariants.{LockOnly}
-use Rattle.nfs_opens.specs.Locking.{unlock, unlock_by, clear_lock}
+use Rattle.nfs_ranges.specs.Holders.{cleared}
+use Rattle.nfs_opens.specs.StateId.{next_seqid}
+use Rattle.nfs_opens.specs.Steps.{map_err}
+use Rattle.nfs_opens.specs.Locking.{unlock, raised}
+use Rattle.nfs_opens.proofs.CallLaws.{goes_on, stops}
 use Rattle.nfs_opens.proofs.LockLemmas.{same_table}
 use Rattle.nfs_opens.proofs.StepLemmas.{table_unlocked}
 use Rattle.nfs_opens.proofs.LockedLemmas.{listed_raised}
@@ -26,14 +28,15 @@ returns-in-None-clause-unlocks c =
     ap (λ (k : Kept). judge (table k) c.args.id c.args.client (Some c.args.file) LockOnly) c.self.view_is ∙ (sym c.judge.ensures ∙ c.in_ok-judge.was) in
     let found : lock_at (table (the_view c.self.inside)) c.args.id.number ≡ None =
     sym c.get.ensures ∙ ap option_copied c.in-None.is in
-    let is : unlock (table (the_view c.self.inside)) c.args.id c.args.client c.args.file c.args.first c.args.last ≡ clear_lock
-    (table (the_view c.self.inside)) c.args.id.number c.args.file c.args.first c.args.last None =
-    ap (unlock_by (table (the_view c.self.inside)) c.args.id.number c.args.file c.args.first c.args.last) judged
-    ∙ ap (clear_lock (table (the_view c.self.inside)) c.args.id.number c.args.file c.args.first c.args.last) found in
-    subst (λ (k : Kept). (Err (Refused BadStateId) ≡ (unlock (table k) c.args.id c.args.client c.args.file c.args.first c.args.last).answer) ×
-    (table k ≡ (unlock (table k) c.args.id c.args.client c.args.file c.args.first c.args.last).after))
+    let is : unlock (table (the_view c.self.inside)) c.args.id c.args.client c.args.file c.args.first c.args.last ≡ Err (Refused BadStateId) =
+    goes_on (map_err Refused (judge (table (the_view c.self.inside)) c.args.id c.args.client (Some c.args.file) LockOnly)) _ c.in_ok-judge.field-0
+    (ap (λ r. map_err Refused r) judged)
+    ∙ stops (ok_or (lock_at (table (the_view c.self.inside)) c.args.id.number) (Refused BadStateId)) _ (Refused BadStateId)
+    (ap (λ o. ok_or o (Refused BadStateId)) found) in
+    subst (λ (k : Kept). (Err (Refused BadStateId) ≡ answer_of (unlock (table k) c.args.id c.args.client c.args.file c.args.first c.args.last)) ×
+    (table k ≡ table_after (table k) (unlock (table k) c.args.id c.args.client c.args.file c.args.first c.args.last)))
     c.self.view_is
-    (sym (ap (λ (d : Did StateId OpenFault). d.answer) is), sym (ap (λ (d : Did StateId OpenFault). d.after) is))
+    (sym (ap answer_of is), sym (ap (table_after (table (the_view c.self.inside))) is))
 
 pub invariant_of-self-2 : goal.invariant_of-self-2
 invariant_of-self-2 c =
@@ -53,23 +56,29 @@ returns-clause-unlocks c =
     sym c.get.ensures ∙ ap option_copied c.in-Some.is in
     let judged : judge (table (the_view c.self.inside)) c.args.id c.args.client (Some c.args.file) LockOnly ≡ Ok c.in_ok-judge.field-0 =
     ap (λ (k : Kept). judge (table k) c.args.id c.args.client (Some c.args.file) LockOnly) c.self.view_is ∙ (sym c.judge.ensures ∙ c.in_ok-judge.was) in
-    let is : unlock (table (the_view c.self.inside)) c.args.id c.args.client c.args.file c.args.first c.args.last ≡ clear_lock
-    (table (the_view c.self.inside)) c.args.id.number c.args.file c.args.first c.args.last (Some c.in-Some.lock.now) =
-    ap (unlock_by (table (the_view c.self.inside)) c.args.id.number c.args.file c.args.first c.args.last) judged
-    ∙ ap (clear_lock (table (the_view c.self.inside)) c.args.id.number c.args.file c.args.first c.args.last) found in
+    let is : unlock (table (the_view c.self.inside)) c.args.id c.args.client c.args.file c.args.first c.args.last ≡ Ok (
+      record { seqid = next_seqid c.in-Some.lock.now.seqid; instance = c.self.inside.instance; number = c.args.id.number },
+      record (with_lock (table (the_view c.self.inside)) c.args.id.number raised) {
+        held = on_file (held_by c.self.inside.files) c.args.file (λ h. cleared h c.args.id.number c.args.first c.args.last);
+      },
+    ) =
+    goes_on (map_err Refused (judge (table (the_view c.self.inside)) c.args.id c.args.client (Some c.args.file) LockOnly)) _ c.in_ok-judge.field-0
+    (ap (λ r. map_err Refused r) judged)
+    ∙ goes_on (ok_or (lock_at (table (the_view c.self.inside)) c.args.id.number) (Refused BadStateId)) _ c.in-Some.lock.now
+    (ap (λ o. ok_or o (Refused BadStateId)) found) in
     let same = same_table c.self.inside.opens.items _ c.raise.new.self.items _
     (held_by c.clear_bytes.new.files) _ c.self.inside.last c.self.inside.instance refl c.raise.ensures c.in_ok-clear_bytes.ensures.ok in
     subst (λ (k : Kept). (Ok (record { seqid = c.next_seqid-seqid.result; instance = c.self.inside.instance; number = c.args.id.number }) ≡
-    (unlock (table k) c.args.id c.args.client c.args.file c.args.first c.args.last).answer)
+    answer_of (unlock (table k) c.args.id c.args.client c.args.file c.args.first c.args.last))
     × (record {
       opens = c.self.inside.opens.items;
       locks = c.raise.new.self.items;
       held = held_by c.clear_bytes.new.files;
       last = c.self.inside.last;
       instance = c.self.inside.instance;
-    } ≡ (unlock (table k) c.args.id c.args.client c.args.file c.args.first c.args.last).after))
+    } ≡ table_after (table k) (unlock (table k) c.args.id c.args.client c.args.file c.args.first c.args.last)))
     c.self.view_is (
       ap (λ (s : ℕ). Ok (record { seqid = s; instance = c.self.inside.instance; number = c.args.id.number })) c.next_seqid-seqid.ensures
-          ∙ sym (ap (λ (d : Did StateId OpenFault). d.answer) is),
-      same ∙ sym (ap (λ (d : Did StateId OpenFault). d.after) is),
+          ∙ sym (ap answer_of is),
+      same ∙ sym (ap (table_after (table (the_view c.self.inside))) is),
     )
