@@ -16,10 +16,12 @@ pub mod Locked
 pub mod Codes
 pub mod StateAnswers
 pub mod StraightAnswers
-pub mod OpensKept
-pub mod Closed
 pub mod OpenAnswers
 pub mod Granted
+pub mod OthersTables
+pub mod Effects
+pub mod Effected
+pub mod Sound
 pub mod OwnOpens
 pub mod Arms
 pub mod Whole
@@ -32,9 +34,7 @@ pub mod Steady
 pub mod ToldGrants
 pub mod ToldOpens
 pub mod TableSteps
-pub mod TreeSteps
 pub mod TreeFiles
-pub mod OthersTables
 pub mod OthersOps
 pub mod Prompt
 pub mod PromptFiles

@@ -46,7 +46,8 @@ use Rattle.nfs_names.specs.declared.context.Context.{Context}
 use Rattle.nfs_names.specs.State.{State}
 use Rattle.nfs_names.specs.Ending.{with_opens}
 use Rattle.nfs_names.specs.Outcome.{done, checked, answers}
-use Rattle.nfs_names.proofs.Untouched.{unused_opens, by_answers, by_delay}
+use Rattle.nfs_names.proofs.Answered.{by_answers, by_delay}
+use Rattle.nfs_names.proofs.Untouched.{unused_opens}
 use Rattle.nfs_files.specs.Operation.{one, grows, comes_to}
 use Rattle.nfs_files.specs.StateIds.{meant}
 use Rattle.nfs_files.specs.Target.{target}

@@ -57,7 +57,8 @@ use Rattle.nfs_tree.specs.TreeInvariants.{IsTree}
 use Rattle.nfs_names.specs.Ending.{with_opens, table_staying}
 use Rattle.nfs_names.specs.Outcome.{answers, checked, passed, or_delay, is_ok}
 use Rattle.nfs_names.proofs.Found.{checked_ok}
-use Rattle.nfs_names.proofs.Untouched.{unused_opens, by_delay}
+use Rattle.nfs_names.proofs.Answered.{by_delay}
+use Rattle.nfs_names.proofs.Untouched.{unused_opens}
 use Rattle.nfs_files.specs.StateIds.{meant}
 use Rattle.nfs_files.specs.Target.{target}
 use Rattle.nfs_files.specs.Operation.{one, grows, one_or_delay, comes_to}

@@ -71,7 +71,8 @@ use Rattle.nfs_names.specs.Checks.{node_as, node_at, current}
 use Rattle.nfs_names.specs.Create.{attributes_in}
 use Rattle.nfs_names.specs.Outcome.{Outcome, ◌>>=◌, answers, refuses, checked, mapped, or_delay, is_ok}
 use Rattle.nfs_names.proofs.Found.{came, checked_ok, ok_is}
-use Rattle.nfs_names.proofs.Untouched.{unused_opens, by_delay}
+use Rattle.nfs_names.proofs.Answered.{by_delay}
+use Rattle.nfs_names.proofs.Untouched.{unused_opens}
 use Rattle.nfs_files.specs.declared.target.Target.{Target}
 use Rattle.nfs_files.specs.declared.opening.Found.{Found}
 use Rattle.nfs_files.specs.declared.opening.Found.TheVariants.{There, Absent}

@@ -1,11 +1,8 @@
 -- What every operation keeps: its result is one that it may have, and its state is a store's.
 use Rattle.std.proofs.Common.{◌≡◌, ◌+◌, ◌≤◌, Bool, true, false, cond, length, refl, ◌∙◌, ap, arith}
-use Rattle.std.specs.Prelude.{Result, Ok, Err, ◌&&◌}
+use Rattle.std.specs.Prelude.{◌&&◌}
 use Rattle.nfs_xdr.specs.declared.time.Time.{Time}
-use Rattle.nfs_xdr.specs.declared.status.Status.{Status}
 use Rattle.nfs_xdr.specs.declared.status.Status.TheVariants.{Delay}
-use Rattle.nfs_compound.specs.NameArgs as args
-use Rattle.nfs_compound.specs.Arguments.{arguments}
 use Rattle.nfs_compound.specs.declared.op_num.OpNum.{OpNum}
 use Rattle.nfs_compound.specs.declared.op_num.OpNum.TheVariants as Num
 use Rattle.nfs_compound.specs.OpNum.{op_number}
@@ -21,34 +18,16 @@ use Rattle.nfs_results.proofs.Lengths.{length_result}
 use Rattle.nfs_xdr.specs.SheetState.{SheetState, HasRoom, Puts}
 use Rattle.std.proofs.lemmas.List.{length-append}
 use Rattle.nfs_tree.specs.TreeInvariants.{IsTree}
-use Rattle.nfs_tree.specs.Names.{moves}
 use Rattle.nfs_names.specs.declared.context.Context.{Context}
-use Rattle.nfs_names.specs.declared.node.Pair.{Pair}
 use Rattle.nfs_names.specs.State.{State}
 use Rattle.nfs_names.specs.StoreInvariants.{IsStore}
-use Rattle.nfs_names.specs.Outcome.{Outcome, refuses, checked, answers, or_delay, is_ok}
-use Rattle.nfs_names.specs.Operation.{one, grows, on_names, is_on_names, comes_to, one_or_delay}
-use Rattle.nfs_names.specs.Access.{access}
-use Rattle.nfs_names.specs.Create.{new_of, sets_of, asked_for, row_checks, created, create}
-use Rattle.nfs_names.specs.GetAttr.{get_attr}
-use Rattle.nfs_names.specs.GetFh.{get_fh}
+use Rattle.nfs_names.specs.Outcome.{Outcome, refuses, or_delay, is_ok}
+use Rattle.nfs_names.specs.Operation.{grows, on_names, is_on_names, comes_to, one_or_delay}
+use Rattle.nfs_names.specs.Create.{create}
 use Rattle.nfs_names.specs.Link.{link}
-use Rattle.nfs_names.specs.Lookup.{lookup}
-use Rattle.nfs_names.specs.LookupP.{lookup_p}
-use Rattle.nfs_names.specs.NVerify.{nverify}
-use Rattle.nfs_names.specs.PutFh.{put_fh}
-use Rattle.nfs_names.specs.PutPubFh.{put_pub_fh}
-use Rattle.nfs_names.specs.PutRootFh.{put_root_fh}
-use Rattle.nfs_names.specs.ReadDir.{read_dir}
-use Rattle.nfs_names.specs.ReadLink.{read_link}
-use Rattle.nfs_names.specs.Remove.{remove}
-use Rattle.nfs_names.specs.Rename.{move_of, moved, unmoved, rename}
-use Rattle.nfs_names.specs.RestoreFh.{restore_fh}
-use Rattle.nfs_names.specs.SaveFh.{save_fh}
-use Rattle.nfs_names.specs.SecinfoNoName.{secinfo_no_name}
-use Rattle.nfs_names.specs.Verify.{verify}
+use Rattle.nfs_names.specs.Rename.{rename}
 use Rattle.nfs_names.proofs.Bounds as bound
-use Rattle.nfs_names.proofs.StoreInvariants.{store_new, store_link, store_removed, store_moved}
+use Rattle.nfs_names.proofs.Sound.{sound_item}
 
 delay_may : (b : Bool) (s : State) (x : Context) (op : OpNum) (o : Outcome) (P : Res → Type 0)
     → P o.result → P (refusal (op_number op) Delay) → P (or_delay b s x op o).result
@@ -80,54 +59,9 @@ may_come b s x now (OpSecinfoNoName style) e = bound.may_secinfo_no_name s x sty
 may_come b s x now (OpVerify a) e = bound.may_verify s x a
 may_come b s x now op e = absurd cc
 
--- the tree after an operation
-answers_state : {A : Type 0} (P : State → Type 0) (s : State) (x : Context) (op : OpNum) (v : Result A Status) (f : A → Outcome)
-    → P s → ((a : A) → P (f a).state) → P (answers s x op v f).state
-answers_state P s x op (Err status) f same done = same
-answers_state P s x op (Ok a) f same done = done a
-
-delay_state : (P : State → Type 0) (b : Bool) (s : State) (x : Context) (op : OpNum) (o : Outcome) → P s → P o.state → P (or_delay b s x op o).state
-delay_state P b s x op o same done = elim (b && is_ok o.result) as (λ k. P (cond k (refuses s x op Delay) o).state) [ true ↦ same | false ↦ done ]
-
-store_rename : (s : State) (x : Context) (now : Time) (a : args.Rename) (p : Pair) (b : Bool)
-    → IsTree s.tree → IsStore s → IsStore (cond b (moved s x now a p) (unmoved s x p)).state
-store_rename s x now a p true tree is = store_moved s (move_of a p) now tree is
-store_rename s x now a p false tree is = is
-
-store_one : (s : State) (x : Context) (now : Time) (op : Op) → is_on_names op ≡ true → IsTree s.tree → IsStore s → IsStore (one s x now op).state
-unfolding access create get_attr get_fh link lookup lookup_p nverify put_fh put_pub_fh
-    put_root_fh read_dir read_link remove rename restore_fh save_fh secinfo_no_name verify
-store_one s x now (OpAccess asked) e tree is = answers_state IsStore s x Num.Access _ _ is (λ d. is)
-store_one s x now (OpCreate c) e tree is =
-    answers_state IsStore s x Num.Create (checked (asked_for s x c) (row_checks s c)) (created s x now c) is
-    (λ m. store_new s m.place.number c.objname (new_of c.objtype) (sets_of x now (new_of c.objtype) m.wanted) now is)
-store_one s x now (OpGetAttr mask) e tree is = answers_state IsStore s x Num.GetAttr _ _ is (λ d. is)
-store_one s x now OpGetFh e tree is = answers_state IsStore s x Num.GetFh _ _ is (λ d. is)
-store_one s x now (OpLink name) e tree is = answers_state IsStore s x Num.Link _ _ is (λ p. store_link s _ _ name now is)
-store_one s x now (OpLookup name) e tree is = answers_state IsStore s x Num.Lookup _ _ is (λ d. is)
-store_one s x now OpLookupP e tree is = answers_state IsStore s x Num.LookupP _ _ is (λ d. is)
-store_one s x now (OpNVerify a) e tree is = answers_state IsStore s x Num.NVerify _ _ is (λ d. is)
-store_one s x now (OpPutFh object) e tree is = answers_state IsStore s x Num.PutFh _ _ is (λ d. is)
-store_one s x now OpPutPubFh e tree is = is
-store_one s x now OpPutRootFh e tree is = is
-store_one s x now (OpReadDir a) e tree is = answers_state IsStore s x Num.ReadDir _ _ is (λ d. is)
-store_one s x now OpReadLink e tree is = answers_state IsStore s x Num.ReadLink _ _ is (λ d. is)
-store_one s x now (OpRemove name) e tree is = answers_state IsStore s x Num.Remove _ _ is (λ d. store_removed s d.number name now tree is)
-store_one s x now (OpRename a) e tree is = answers_state IsStore s x Num.Rename _ _ is (λ p. store_rename s x now a p (moves s.tree (move_of a p)) tree is)
-store_one s x now OpRestoreFh e tree is = answers_state IsStore s x Num.RestoreFh _ _ is (λ d. is)
-store_one s x now OpSaveFh e tree is = answers_state IsStore s x Num.SaveFh _ _ is (λ d. is)
-store_one s x now (OpSecinfoNoName style) e tree is = answers_state IsStore s x Num.SecinfoNoName _ _ is (λ d. is)
-store_one s x now (OpVerify a) e tree is = answers_state IsStore s x Num.Verify _ _ is (λ d. is)
-store_one s x now op e tree is = absurd cc
-
 may_item : (b : Bool) (s : State) (x : Context) (now : Time) (i : Item) → on_names i ≡ true → IsAnswer i (comes_to b s x now i).result
 may_item b s x now (Operation op) e = may_come b s x now op e
 may_item b s x now (Fault n st) e = absurd cc
-
-store_item : (b : Bool) (s : State) (x : Context) (now : Time) (i : Item) → on_names i ≡ true → IsTree s.tree → IsStore s → IsStore (comes_to b s x now i).state
-store_item b s x now (Operation op) e tree is =
-    delay_state IsStore (grows s x op && b) s x (arguments op).op (one s x now op) is (store_one s x now op e tree is)
-store_item b s x now (Fault n st) e tree is = absurd cc
 
 -- What every operation on names keeps.
 pub record Keeps (b : Bool) (s : State) (x : Context) (now : Time) (i : Item) : Type 0 where
@@ -135,7 +69,7 @@ pub record Keeps (b : Bool) (s : State) (x : Context) (now : Time) (i : Item) : 
   pub store : IsStore (comes_to b s x now i).state
 
 pub keeps : (b : Bool) (s : State) (x : Context) (now : Time) (i : Item) → on_names i ≡ true → IsTree s.tree → IsStore s → Keeps b s x now i
-keeps b s x now i e tree is = record { may = may_item b s x now i e; store = store_item b s x now i e tree is }
+keeps b s x now i e tree is = record { may = may_item b s x now i e; store = (sound_item b s x now i tree is).store }
 
 -- so it is within its largest size
 pub within : (i : Item) (r : Res) (old new : SheetState) → IsAnswer i r → Puts old new (spell_result r) → length new.bytes ≤ length old.bytes + largest i
