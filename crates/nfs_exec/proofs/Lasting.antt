@@ -37,7 +37,7 @@ use Rattle.nfs_attrs.specs.Mask.{mask_of}
 use Rattle.nfs_names.specs.Outcome as of_store
 use Rattle.nfs_files.proofs.Outcomes as files
 use Rattle.nfs_files.proofs.Outcomes.{for_each}
-use Rattle.nfs_files.proofs.Steady.{steady_names, steady_files}
+use Rattle.nfs_files.proofs.Steady.{lease_names, lease_files}
 use Rattle.nfs_exec.specs.Machine.{Machine, Outcome, is_ok, or_delay}
 use Rattle.nfs_exec.specs.Behind.{step, on_store, moves_opens, marked_if}
 use Rattle.nfs_exec.specs.Run.{run, in_room, is_here, behind_here}
@@ -61,10 +61,10 @@ Lasts lease m = m.store.lease ≡ lease
 
 step_lasts : (m : Machine) (x : Context) (now : ℕ) (refused : Bool) (i : Item) (lease : ℕ) → Lasts lease m → Lasts lease (step m x now refused i).outcome.machine
 step_lasts m x now refused i lease is =
-    by_step (λ s. Lasts lease s.outcome.machine) m x now refused i (λ o e. (steady_names refused m.store x (moment now) i o e).lease ∙ is)
+    by_step (λ s. Lasts lease s.outcome.machine) m x now refused i (λ o e. lease_names refused m.store x (moment now) i o e ∙ is)
     (for_each (λ o. Lasts lease (marked_if (moves_opens i) x.client (on_store m o)).outcome.machine) refused m.store x (moment now) i
     (ap (λ (s : State). s.lease) (marked_store (moves_opens i) x.client (on_store m (files.comes_to refused m.store x (moment now) i)))
-    ∙ ((steady_files refused m.store x (moment now) i).lease ∙ is)))
+    ∙ (lease_files refused m.store x (moment now) i ∙ is)))
     (λ none other. ap (λ (s : State). s.lease) (otherwise_store m x i) ∙ is)
 
 room_lasts : (limit sofar now : ℕ) (refused : Bool) (m : Machine) (x : Context) (i : Item) (lease : ℕ) → Lasts lease m

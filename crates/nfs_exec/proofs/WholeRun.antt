@@ -5,7 +5,7 @@ use Rattle.std.proofs.lemmas.Bool.{cases_Bool}
 use Rattle.nfs_xdr.specs.Caller.{Caller}
 use Rattle.nfs_xdr.specs.Tables.{In}
 use Rattle.nfs_xdr.specs.declared.status.Status.{Status}
-use Rattle.nfs_compound.specs.Operation.{Item, Operation, Fault, OpSequence, OpExchangeId, OpCreateSession, OpDestroySession, OpDestroyClientId, OpReclaimComplete}
+use Rattle.nfs_compound.specs.Operation.{Item, Operation, OpSequence, OpExchangeId, OpCreateSession, OpDestroySession, OpDestroyClientId, OpReclaimComplete}
 use Rattle.nfs_compound.specs.Request.{Request, item_number}
 use Rattle.nfs_compound.specs.SessionArgs.{CreateSession}
 use Rattle.nfs_compound.specs.declared.session_args.Sequence.{Sequence}
@@ -28,16 +28,15 @@ use Rattle.nfs_names.specs.declared.node.Node.{Node}
 use Rattle.nfs_names.specs.Checks.{current}
 use Rattle.nfs_names.specs.Context.{begins}
 use Rattle.nfs_names.specs.State.{State, moment}
-use Rattle.nfs_names.specs.StoreInvariants.{IsStore}
 use Rattle.nfs_names.specs.Ending.{staying}
 use Rattle.nfs_names.proofs.Untouched.{leaves_each}
 use Rattle.nfs_names.proofs.Staying.{store_staying}
 use Rattle.nfs_names.proofs.StoreInvariants.{store_at_first}
 use Rattle.nfs_names.proofs.Ones.{each_of}
-use Rattle.nfs_names.proofs.Whole as of_names
 use Rattle.nfs_files.proofs.Outcomes as files
 use Rattle.nfs_files.proofs.Outcomes.{for_each}
-use Rattle.nfs_files.proofs.Whole.{store_left}
+use Rattle.nfs_names.proofs.Sound as of_names
+use Rattle.nfs_files.proofs.Sound as of_files
 use Rattle.nfs_exec.specs.Machine.{Machine, Outcome, is_ok, or_delay, starts, HasNoClashes}
 use Rattle.nfs_exec.specs.Behind.{Step, step, on_store, moves_opens, marked_if, otherwise}
 use Rattle.nfs_exec.specs.Run.{run, in_room, reserve, is_here, behind_here}
@@ -53,10 +52,9 @@ use Rattle.nfs_exec.specs.Laws.{MachineEvent, Expires, Asks, stepped, all_steppe
 use Rattle.nfs_exec.proofs.Behind.{by_step, follow_kept}
 use Rattle.nfs_exec.specs.Ops.{RanOp, ops, ops_in, ops_of, ops_by}
 use Rattle.nfs_exec.specs.Runs.{NoneInRuns}
-use Rattle.nfs_files.proofs.TreeSteps.{tree_names}
-use Rattle.nfs_files.proofs.TreeFiles.{IsWhole, tree_files, tree_ended, tree_new}
+use Rattle.nfs_files.proofs.TreeFiles.{IsWhole, tree_ended, tree_new}
 use Rattle.nfs_files.proofs.TableSteps.{table_item, table_staying_is}
-use Rattle.nfs_files.proofs.Steady.{steady_names, steady_files}
+use Rattle.nfs_files.proofs.Steady.{Few, few_files}
 
 abbrev pub Is : Machine → Type 0
 Is m = IsWhole m.store
@@ -93,18 +91,21 @@ otherwise_store m x i = refl
 
 whole_step : (m : Machine) (x : Context) (now : ℕ) (refused : Bool) (i : Item) → Is m → Is (step m x now refused i).outcome.machine
 whole_step m x now refused i is =
-    by_step (λ s. Is s.outcome.machine) m x now refused i (λ o e. record {
-      tree = tree_names refused m.store x (moment now) i is.tree is.store o e;
-      store = (each_of (of_names.Keeps i) _ (of_names.keeps refused m.store x (moment now) i is.tree is.store) o e).store;
-      table = subst IsTable (sym (leaves_each refused m.store x (moment now) i o e).opens) is.table;
-      few = (steady_names refused m.store x (moment now) i o e).few is.few;
-    })
+    by_step (λ s. Is s.outcome.machine) m x now refused i (λ o e.
+    (let sound = each_of (λ o. of_names.IsSound o.state) _ (of_names.sound_item refused m.store x (moment now) i is.tree is.store) o e in
+    let leaves = leaves_each refused m.store x (moment now) i o e in record {
+      tree = sound.tree;
+      store = sound.store;
+      table = subst IsTable (sym leaves.opens) is.table;
+      few = subst Few (sym leaves.opens) is.few;
+    }))
     (for_each (λ o. Is (marked_if (moves_opens i) x.client (on_store m o)).outcome.machine) refused m.store x (moment now) i
-    (subst IsWhole (sym (marked_store (moves_opens i) x.client (on_store m (files.comes_to refused m.store x (moment now) i)))) (record {
-      tree = tree_files refused m.store x (moment now) i is;
-      store = store_left refused m.store x (moment now) i is.tree is.table is.store;
+    (subst IsWhole (sym (marked_store (moves_opens i) x.client (on_store m (files.comes_to refused m.store x (moment now) i))))
+    (let sound = of_files.sound_item refused m.store x (moment now) i is.tree is.table is.store in record {
+      tree = sound.tree;
+      store = sound.store;
       table = table_item refused m.store x (moment now) i is.tree is.store is.table;
-      few = (steady_files refused m.store x (moment now) i).few is.few;
+      few = few_files refused m.store x (moment now) i is.table is.few;
     })))
     (λ none other. subst IsWhole (sym (otherwise_store m x i)) is)
 

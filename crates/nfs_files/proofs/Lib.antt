@@ -17,12 +17,14 @@ pub mod Codes
 pub mod StateAnswers
 pub mod StraightAnswers
 pub mod OpensMoved
-pub mod OpensKept
-pub mod Closed
+pub mod Outcomes
 pub mod OpenAnswers
 pub mod Granted
+pub mod OthersTables
+pub mod Effects
+pub mod Effected
+pub mod Sound
 pub mod OwnOpens
-pub mod Outcomes
 pub mod Arms
 pub mod Whole
 pub mod OpenTree
@@ -34,9 +36,7 @@ pub mod Steady
 pub mod ToldGrants
 pub mod ToldOpens
 pub mod TableSteps
-pub mod TreeSteps
 pub mod TreeFiles
-pub mod OthersTables
 pub mod OthersOps
 pub mod Prompt
 pub mod PromptFiles

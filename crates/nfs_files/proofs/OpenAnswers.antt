@@ -1,10 +1,14 @@
 -- OPEN: the results that it may have, and what it leaves.
-use Rattle.std.proofs.Common.{◌≡◌, ℕ, ◌+◌, ◌≤◌, Bool, true, false, cond, List, length, Option, Some, None, refl, ◌∙◌, ap, subst, arith}
-use Rattle.std.specs.Prelude.{Result, Ok, Err}
+use Rattle.std.proofs.Common.{◌≡◌, ℕ, ◌+◌, ◌≤◌, Bool, true, false, cond, List, [], ◌∷◌, ◌++◌, length, Option, Some, None, refl, sym, ◌∙◌, ap, subst, arith}
+use Rattle.std.specs.Prelude.{◌==◌, Result, Ok, Err}
 use Rattle.std.specs.Option.{option_map_or}
+use Rattle.std.proofs.lemmas.Bool.{eqb-true, eq-eqb, false≢true}
 use Rattle.std.proofs.lemmas.List.{length-append}
 use Rattle.nfs_xdr.specs.Checks.{first_fault}
+use Rattle.nfs_xdr.specs.Tables.{In, IsRising}
 use Rattle.nfs_xdr.proofs.Checks.{all_passed}
+use Rattle.nfs_xdr.proofs.Lists.{find_in, none_in, last_in}
+use Rattle.nfs_xdr.proofs.Tables.{in_once}
 use Rattle.nfs_xdr.specs.Spelling.{number, hyper}
 use Rattle.nfs_xdr.specs.declared.time.Time.{Time}
 use Rattle.nfs_xdr.specs.declared.status.Status.{Status}
@@ -14,41 +18,37 @@ use Rattle.nfs_compound.specs.declared.op_num.OpNum.TheVariants as Num
 use Rattle.nfs_compound.specs.OpenArgs.{Open, OpenClaim, Null, Previous, DelegateCur, DelegatePrev, Fh, DelegCurFh, DelegPrevFh}
 use Rattle.nfs_compound.specs.Operation.{Operation, OpOpen}
 use Rattle.nfs_tree.specs.declared.stored.Stored.{Stored}
-use Rattle.nfs_tree.specs.Object.{is_regular, modified, no_sets}
-use Rattle.nfs_tree.specs.Files.{Files, root, lookup, with_entries_changed}
+use Rattle.nfs_tree.specs.Object.{is_regular, no_sets}
+use Rattle.nfs_tree.specs.Files.{Files, root, stored_in, lookup, with_entries_changed}
 use Rattle.nfs_tree.specs.Calls.{is_regular_at}
 use Rattle.nfs_tree.specs.Create.{data_of, new_object}
 use Rattle.nfs_tree.specs.Bytes.{resized, with_resized}
 use Rattle.nfs_tree.specs.TreeInvariants.{IsTree}
-use Rattle.nfs_tree.proofs.Objects.{new_there}
-use Rattle.nfs_tree.proofs.Trees.{tree_changed}
 use Rattle.nfs_opens.specs.declared.stateid.StateId.{StateId}
 use Rattle.nfs_opens.specs.Opening.{opens}
 use Rattle.nfs_names.specs.declared.context.Context.{Context}
 use Rattle.nfs_names.specs.declared.node.Node.{Node}
 use Rattle.nfs_names.specs.declared.making.Making.{Making}
-use Rattle.nfs_names.specs.State.{State, with_tree}
-use Rattle.nfs_names.specs.StoreInvariants.{IsStore}
+use Rattle.nfs_names.specs.State.{State}
 use Rattle.nfs_names.specs.Outcome.{mapped, checked}
 use Rattle.nfs_names.specs.Checks.{node_at, current}
 use Rattle.nfs_attrs.specs.Mask.{mask_of}
 use Rattle.nfs_names.specs.Create.{attributes_in}
 use Rattle.nfs_names.proofs.Bounds.{IsAnswer, node_refuses, current_refuses, wanted_refuses}
 use Rattle.nfs_names.proofs.Found.{IsHeld, current_is, checked_ok, came, ok_is}
-use Rattle.nfs_names.proofs.StoreInvariants.{regular_same, store_new}
+use Rattle.nfs_names.proofs.StoreInvariants.{regular_same}
 use Rattle.nfs_names.proofs.Refusing.{Refuses, all_refuse, refuses_checked, refuses_mapped, refuses_then, err_refuses, ok_refuses, answers_with}
 use Rattle.nfs_names.proofs.Masks.{few_words}
 use Rattle.nfs_files.specs.declared.opening.Found.{Found}
 use Rattle.nfs_files.specs.declared.opening.Found.TheVariants.{There, Absent}
 use Rattle.nfs_files.specs.StateIds.{wire_id}
 use Rattle.nfs_files.specs.Bytes.{file_checks}
-use Rattle.nfs_files.specs.Open.{makes, name_of, argument_checks, place_checks, absent_checks, there_checks, cuts, found_by}
+use Rattle.nfs_files.specs.Open.{makes, argument_checks, place_checks, absent_checks, there_checks, cuts, found_by}
 use Rattle.nfs_files.specs.Open.{by_name, by_handle, by_claim, asked_for, file_of, asking, last_checks, new_of, sets_of, tree_of, set_of, opened, open_file}
 use Rattle.nfs_files.proofs.Passing.{mapped_came}
 use Rattle.nfs_files.proofs.Seats.{by_bool}
 use Rattle.nfs_files.proofs.SetRows.{file_regular}
-use Rattle.nfs_files.proofs.Keeping.{kind_bytes, store_resized}
-use Rattle.nfs_files.proofs.Storing.{store_opened}
+use Rattle.nfs_files.proofs.Keeping.{kind_bytes}
 
 -- refusals
 found_by_refuses : (s : State) (x : Context) (o : Open) (m : Making) (n : Option ℕ) → Refuses (found_by s x o m n)
@@ -171,8 +171,17 @@ asked_regular s x o place f cut e =
     claim_regular s x o o.claim c.found place f cut is c.then
 
 -- what is made is one
+number_regular : (xs : List Stored) (made : Stored) (low high : ℕ) → IsRising (λ s. s.number) low xs high → In made xs → is_regular made.object.kind ≡ true
+    → (o : Option Stored) → stored_in xs made.number ≡ o → option_map_or (λ (s : Stored). is_regular s.object.kind) o false ≡ true
+number_regular xs made low high rising there regular None e =
+    absurd (false≢true (sym (none_in (λ (s : Stored). s.number == made.number) xs made e there) ∙ eq-eqb made.number made.number refl))
+number_regular xs made low high rising there regular (Some s) e =
+    let at = find_in (λ (s : Stored). s.number == made.number) xs s e in
+    let one : s ≡ made = in_once (λ (s : Stored). s.number) low high xs s made rising at.0 there (eqb-true _ _ at.1) in
+    ap (λ (s : Stored). is_regular s.object.kind) one ∙ regular
+
 made_regular : (t : Files) (x : Context) (now : Time) (o : Open) (m : Making)
-    → IsTree t → is_regular_at (tree_of t x now o (Absent m)) (t.last_object + 1) ≡ true
+    → IsTree (tree_of t x now o (Absent m)) → is_regular_at (tree_of t x now o (Absent m)) (t.last_object + 1) ≡ true
 made_regular t x now o m is =
     let objects = with_entries_changed m.place.number now t.objects in
     let made : Stored = record {
@@ -180,26 +189,16 @@ made_regular t x now o m is =
       object = new_object now (new_of o m.wanted) (sets_of x now o m.wanted);
       bytes = data_of (new_of o m.wanted);
     } in
-    ap (λ k. option_map_or (λ (s : Stored). is_regular s.object.kind) k false)
-    (new_there objects made root (t.last_object + 1) (tree_changed t m.place.number now (modified now no_sets) is).objects refl)
+    number_regular (objects ++ made ∷ []) made root (t.last_object + 1 + 1) is.objects (last_in objects made) refl _ refl
 
--- the store after it
 cut_regular : (t : Files) (x : Context) (now : Time) (o : Open) (place : ℕ) (f : Node) (cut : Bool)
     → is_regular_at t f.number ≡ true → is_regular_at (tree_of t x now o (There place f cut)) f.number ≡ true
 cut_regular t x now o place f true e =
     regular_same (with_resized t f.number 0 no_sets now) t f.number (kind_bytes t.objects f.number f.number now no_sets (λ k. resized k.bytes 0)) ∙ e
 cut_regular t x now o place f false e = e
 
-cut_store : (s : State) (x : Context) (now : Time) (o : Open) (place : ℕ) (f : Node) (cut : Bool)
-    → IsStore s → IsStore (with_tree s (tree_of s.tree x now o (There place f cut)))
-cut_store s x now o place f true is = store_resized s f.number 0 no_sets now is
-cut_store s x now o place f false is = is
-
-pub store_open : (s : State) (x : Context) (now : Time) (o : Open) (found : Found)
-    → IsTree s.tree → IsStore s → asked_for s x o ≡ Ok found → IsStore (opened s x now o found).state
-store_open s x now o (There place f cut) tree is v =
-    store_opened s (tree_of s.tree x now o (There place f cut)) (asking x o f.number)
-    (cut_regular s.tree x now o place f cut (asked_regular s x o place f cut v)) (cut_store s x now o place f cut is)
-store_open s x now o (Absent m) tree is v =
-    store_opened s (tree_of s.tree x now o (Absent m)) (asking x o (s.tree.last_object + 1)) (made_regular s.tree x now o m tree)
-    (store_new s m.place.number (name_of o.claim) (new_of o m.wanted) (sets_of x now o m.wanted) now is)
+-- the file that is opened, in the tree that OPEN leaves
+pub file_regular_behind : (s : State) (x : Context) (now : Time) (o : Open) (found : Found) → asked_for s x o ≡ Ok found → IsTree (tree_of s.tree x now o found)
+    → is_regular_at (tree_of s.tree x now o found) (file_of s.tree found) ≡ true
+file_regular_behind s x now o (There place f cut) v is = cut_regular s.tree x now o place f cut (asked_regular s x o place f cut v)
+file_regular_behind s x now o (Absent m) v is = made_regular s.tree x now o m is

@@ -116,7 +116,7 @@ pub set_by : (s : State) (x : Context) (a : SetAttr) (d : Node) (w : Wanted) →
     → setting s x a ≡ checked (Ok (record { node = d; wanted = w })) (owner_checks x)
 set_by s x a d w held read = rw (held, read) refl
 
-set_found : (s : State) (x : Context) (a : SetAttr) (m : Setting) → asked_for s x a ≡ Ok m
+pub set_found : (s : State) (x : Context) (a : SetAttr) (m : Setting) → asked_for s x a ≡ Ok m
     → option_map status_of (tree_fault s.tree m.node.number m.wanted m.wanted.size) ≡ first_fault (last_checks s m)
 unfolding asked_for
 set_found s x a m v =

@@ -52,7 +52,7 @@ was_open t a None n e = elim (or_split (open_in t.opens n) (a.file == n) (sym (p
     [ inl old ↦ inl old | inr new ↦ inr (eqb-true _ _ new) ]
 was_open t a (Some o) n e = inl (sym (joined_same a o.number n t.opens) ∙ e)
 
-used_open : (a r o p : Bool) → (o ≡ true → p ≡ true) → a || (r || o) ≡ true → a || (r || p) ≡ true
+pub used_open : (a r o p : Bool) → (o ≡ true → p ≡ true) → a || (r || o) ≡ true → a || (r || p) ≡ true
 used_open true r o p f e = refl
 used_open false true o p f e = refl
 used_open false false o p f e = f e

@@ -62,12 +62,13 @@ use Rattle.nfs_names.specs.Outcome.{Outcome, refuses, checked, mapped, or_delay,
 use Rattle.nfs_names.proofs.Found.{came, checked_ok, ok_is}
 use Rattle.nfs_names.proofs.Ones.{by_delay}
 use Rattle.nfs_names.proofs.Untouched.{unused_opens}
+use Rattle.nfs_names.proofs.Answered.{by_delay}
 use Rattle.nfs_files.specs.declared.target.Target.{Target}
 use Rattle.nfs_files.specs.declared.opening.Found.{Found}
 use Rattle.nfs_files.specs.declared.opening.Found.TheVariants.{There, Absent}
 use Rattle.nfs_files.specs.StateIds.{wire_id}
 use Rattle.nfs_files.specs.Operation.{grows}
-use Rattle.nfs_files.proofs.Outcomes.{one, one_or_delay, comes_to}
+use Rattle.nfs_files.proofs.Outcomes.{one, one_or_delay}
 use Rattle.nfs_files.specs.Close.{closes, close}
 use Rattle.nfs_files.specs.Commit.{commit}
 use Rattle.nfs_files.specs.FreeStateid.{free_stateid}
@@ -85,7 +86,6 @@ use Rattle.nfs_files.specs.OpenTold.{names_open, OpenTold, Bits, bits_with, bits
 use Rattle.nfs_files.specs.OpenLaws.{IsToldOpen, ToldOpensStand, ForbiddenOpensAreRefused}
 use Rattle.nfs_files.proofs.Inside.{Closes}
 use Rattle.nfs_opens.proofs.CallLaws.{IsLocked, IsNarrowed}
-use Rattle.nfs_files.specs.declared.target.Target.{Target}
 use Rattle.nfs_files.proofs.OpensMoved.{answered, by_close, by_free, by_downgrade, by_lock, by_unlock}
 use Rattle.nfs_files.proofs.KeptOps.{found, close_ok}
 use Rattle.nfs_files.proofs.Opened.{shared_free}

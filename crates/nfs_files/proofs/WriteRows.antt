@@ -38,7 +38,7 @@ write_rows s w d is e =
     let same : write_fault t n w.offset w.bytes ≡ first_fault tail = rw (there, directory, regular) refl in
     ap (option_map status_of) same ∙ fault_map status_of tail
 
-write_found : (s : State) (x : Context) (w : Write) (d : Node) → writable s x w.stateid (current s x) ≡ Ok d
+pub write_found : (s : State) (x : Context) (w : Write) (d : Node) → writable s x w.stateid (current s x) ≡ Ok d
     → option_map status_of (write_fault s.tree d.number w.offset w.bytes) ≡ first_fault (last_checks s w d)
 write_found s x w d v = let found = writable_ok s x w.stateid (current s x) d v in write_rows s w d (current_is s x d found.0) found.1
 

@@ -1,6 +1,6 @@
 -- A byte that lasts, through each operation.
 use Rattle.std.proofs.Common.{◌≡◌, ℕ, ◌+◌, ◌<◌, ◌^◌, Bool, true, false, cond, ltb, List, ◌++◌, length, Option, Some, None, refl, sym, ◌∙◌, ap, subst, arith, inl, inr}
-use Rattle.std.specs.Prelude.{◌==◌, ◌&&◌, Result, Ok, Err, IfSome}
+use Rattle.std.specs.Prelude.{◌==◌, ◌&&◌, Result, Ok, Err}
 use Rattle.std.specs.Int.{w32, from_be_bytes}
 use Rattle.std.specs.Option.{option_map_or}
 use Rattle.std.proofs.lemmas.Bool.{cases_Bool, and_parts, eqb-true, ltb-true, ltb-false, false≢true}
@@ -9,10 +9,9 @@ use Rattle.nfs_xdr.specs.Checks.{first_fault}
 use Rattle.nfs_xdr.specs.Spelling.{number}
 use Rattle.nfs_xdr.specs.declared.time.Time.{Time}
 use Rattle.nfs_xdr.specs.declared.status.Status.{Status}
-use Rattle.nfs_xdr.specs.declared.status.Status.TheVariants.{Delay, Inval}
+use Rattle.nfs_xdr.specs.declared.status.Status.TheVariants.{Inval}
 use Rattle.nfs_xdr.proofs.Checks.{all_passed}
 use Rattle.nfs_xdr.proofs.Putting.{length_number}
-use Rattle.nfs_compound.specs.NameArgs as args
 use Rattle.nfs_compound.specs.LockArgs as locks
 use Rattle.nfs_compound.specs.Arguments.{arguments}
 use Rattle.nfs_compound.specs.Attributes.{Attributes}
@@ -24,8 +23,7 @@ use Rattle.nfs_compound.specs.declared.open_args.Close.{Close}
 use Rattle.nfs_compound.specs.declared.open_args.OpenDowngrade.{OpenDowngrade}
 use Rattle.nfs_compound.specs.declared.op_num.OpNum.{OpNum}
 use Rattle.nfs_compound.specs.declared.op_num.OpNum.TheVariants as Num
-use Rattle.nfs_compound.specs.Operation.{Op, Item, Operation, Fault, OpAccess, OpCreate, OpGetAttr, OpGetFh, OpLink, OpLookup, OpLookupP, OpNVerify, OpPutFh}
-use Rattle.nfs_compound.specs.Operation.{OpPutPubFh, OpPutRootFh, OpReadDir, OpReadLink, OpRemove, OpRename, OpRestoreFh, OpSaveFh, OpSecinfoNoName, OpVerify}
+use Rattle.nfs_compound.specs.Operation.{Op, Item, Operation, Fault}
 use Rattle.nfs_compound.specs.Operation.{OpClose, OpCommit, OpFreeStateid, OpLock, OpLockT, OpLockU, OpOpen, OpOpenDowngrade, OpRead, OpSetAttr, OpTestStateid, OpWrite}
 use Rattle.nfs_results.specs.Items as item
 use Rattle.nfs_results.specs.Result.{ResWrite}
@@ -36,7 +34,7 @@ use Rattle.nfs_tree.specs.declared.object.Object.{Object}
 use Rattle.nfs_tree.specs.Object.{no_sets}
 use Rattle.nfs_tree.specs.Files.{object_at, lookup as looked_up, named}
 use Rattle.nfs_tree.specs.Bytes.{has_bytes}
-use Rattle.nfs_tree.specs.Names.{moves, with_moved, without_name}
+use Rattle.nfs_tree.specs.Names.{with_moved, without_name}
 use Rattle.nfs_attrs.specs.declared.wanted.Wanted.{Wanted}
 use Rattle.nfs_opens.specs.Closing as closing
 use Rattle.nfs_opens.specs.Locking as locking
@@ -45,38 +43,22 @@ use Rattle.nfs_names.specs.declared.node.Node.{Node}
 use Rattle.nfs_names.specs.declared.making.Making.{Making}
 use Rattle.nfs_names.specs.State.{State, with_tree, is_used, without_unused}
 use Rattle.nfs_names.specs.Ending.{with_opens, staying}
-use Rattle.nfs_names.specs.Outcome.{Outcome, answers, checked, refuses, or_delay, is_ok}
+use Rattle.nfs_names.specs.Outcome.{Outcome, answers, checked, refuses}
 use Rattle.nfs_names.specs.Checks.{node_as, node_at, current}
 use Rattle.nfs_names.specs.Create.{attributes_in}
-use Rattle.nfs_names.specs.Create as of_create
-use Rattle.nfs_names.specs.Link as of_link
-use Rattle.nfs_names.specs.Remove as of_remove
-use Rattle.nfs_names.specs.Rename as of_rename
-use Rattle.nfs_names.specs.Rename.{move_of, without_replaced}
-use Rattle.nfs_names.specs.Operation as names
-use Rattle.nfs_names.specs.Access.{access}
-use Rattle.nfs_names.specs.GetAttr.{get_attr}
-use Rattle.nfs_names.specs.GetFh.{get_fh}
-use Rattle.nfs_names.specs.Lookup.{lookup}
-use Rattle.nfs_names.specs.LookupP.{lookup_p}
-use Rattle.nfs_names.specs.NVerify.{nverify}
-use Rattle.nfs_names.specs.PutFh.{put_fh}
-use Rattle.nfs_names.specs.PutPubFh.{put_pub_fh}
-use Rattle.nfs_names.specs.PutRootFh.{put_root_fh}
-use Rattle.nfs_names.specs.ReadDir.{read_dir}
-use Rattle.nfs_names.specs.ReadLink.{read_link}
-use Rattle.nfs_names.specs.RestoreFh.{restore_fh}
-use Rattle.nfs_names.specs.SaveFh.{save_fh}
-use Rattle.nfs_names.specs.SecinfoNoName.{secinfo_no_name}
-use Rattle.nfs_names.specs.Verify.{verify}
+use Rattle.nfs_names.specs.Rename.{without_replaced}
 use Rattle.nfs_names.proofs.Found.{came, ok_is, checked_ok}
-use Rattle.nfs_names.proofs.Ones.{by_delay, if_delayed, each_of}
+use Rattle.nfs_names.specs.Operation as names
+use Rattle.nfs_names.proofs.Ones.{by_delay, each_of}
+use Rattle.nfs_names.proofs.Effects as names_effects
+use Rattle.nfs_names.proofs.Effects.{Makes, Links, Removes, Moves}
+use Rattle.nfs_names.proofs.Effected.{kept_item}
 use Rattle.nfs_files.specs.declared.opening.Found.{Found}
 use Rattle.nfs_files.specs.declared.opening.Found.TheVariants.{There, Absent}
 use Rattle.nfs_files.specs.declared.setting.Setting.{Setting}
 use Rattle.nfs_files.specs.Bytes.{file_checks, writing, may_use, writable}
 use Rattle.nfs_files.specs.Operation.{grows}
-use Rattle.nfs_files.proofs.Outcomes.{one, one_or_delay, comes_to}
+use Rattle.nfs_files.proofs.Outcomes.{one, comes_to}
 use Rattle.nfs_files.specs.Close.{close}
 use Rattle.nfs_files.specs.Commit.{commit}
 use Rattle.nfs_files.specs.FreeStateid.{free_stateid}
@@ -113,43 +95,17 @@ lasts_replaced : (b : Byte) (s : State) (o : Option ℕ) → LastsIn b s → Las
 lasts_replaced b s None is = is
 lasts_replaced b s (Some n) is = lasts_unused b s n is
 
-lasts_rename : (b : Byte) (s : State) (x : Context) (now : Time) (a : args.Rename) (p : _) (v : Bool) → LastsIn b s
-    → LastsIn b (cond v (of_rename.moved s x now a p) (of_rename.unmoved s x p)).state
-lasts_rename b s x now a p true is =
-    lasts_replaced b (with_tree s (with_moved s.tree (move_of a p) now)) (looked_up s.tree p.current.number a.newname) (lasts_moved b s.tree (move_of a p) now is)
-lasts_rename b s x now a p false is = is
-
-lasts_name : (b : Byte) (s : State) (x : Context) (now : Time) (op : Op) → LastsIn b s → IfSome (names.one s x now op) (λ o. LastsIn b o.state)
-unfolding access of_create.create get_attr get_fh of_link.link lookup lookup_p nverify put_fh put_pub_fh
-    put_root_fh read_dir read_link of_remove.remove of_rename.rename restore_fh save_fh secinfo_no_name verify
-lasts_name b s x now (OpAccess asked) is = found (LastsIn b) s x Num.Access _ _ is (λ d e. is)
-lasts_name b s x now (OpCreate c) is = found (LastsIn b) s x Num.Create _ (of_create.created s x now c) is
-    (λ m e. lasts_new b s.tree m.place.number c.objname (of_create.new_of c.objtype) (of_create.sets_of x now (of_create.new_of c.objtype) m.wanted) now is)
-lasts_name b s x now (OpGetAttr mask) is = found (LastsIn b) s x Num.GetAttr _ _ is (λ d e. is)
-lasts_name b s x now OpGetFh is = found (LastsIn b) s x Num.GetFh _ _ is (λ d e. is)
-lasts_name b s x now (OpLink name) is = found (LastsIn b) s x Num.Link _ (of_link.linked s x now name) is (λ p e. lasts_link b s.tree p.saved.number p.current.number name now is)
-lasts_name b s x now (OpLookup name) is = found (LastsIn b) s x Num.Lookup _ _ is (λ d e. is)
-lasts_name b s x now OpLookupP is = found (LastsIn b) s x Num.LookupP _ _ is (λ d e. is)
-lasts_name b s x now (OpNVerify a) is = found (LastsIn b) s x Num.NVerify _ _ is (λ d e. is)
-lasts_name b s x now (OpPutFh object) is = found (LastsIn b) s x Num.PutFh _ _ is (λ d e. is)
-lasts_name b s x now OpPutPubFh is = is
-lasts_name b s x now OpPutRootFh is = is
-lasts_name b s x now (OpReadDir a) is = found (LastsIn b) s x Num.ReadDir _ _ is (λ d e. is)
-lasts_name b s x now OpReadLink is = found (LastsIn b) s x Num.ReadLink _ _ is (λ d e. is)
-lasts_name b s x now (OpRemove name) is = found (LastsIn b) s x Num.Remove _ (of_remove.removed s x now name) is
-    (λ d e. lasts_unused b (with_tree s (without_name s.tree d.number name now)) (named s.tree d.number name) (lasts_without b s.tree d.number name now is))
-lasts_name b s x now (OpRename a) is = found (LastsIn b) s x Num.Rename _ _ is (λ p e. lasts_rename b s x now a p (moves s.tree (move_of a p)) is)
-lasts_name b s x now OpRestoreFh is = found (LastsIn b) s x Num.RestoreFh _ _ is (λ d e. is)
-lasts_name b s x now OpSaveFh is = found (LastsIn b) s x Num.SaveFh _ _ is (λ d e. is)
-lasts_name b s x now (OpSecinfoNoName style) is = found (LastsIn b) s x Num.SecinfoNoName _ _ is (λ d e. is)
-lasts_name b s x now (OpVerify a) is = found (LastsIn b) s x Num.Verify _ _ is (λ d e. is)
-lasts_name b s x now op is = tt
+lasts_effect : (b : Byte) → names_effects.Each (LastsIn b)
+lasts_effect b s (Makes d name new sets now) fits is = lasts_new b s.tree d name new sets now is
+lasts_effect b s (Links n d name now) fits is = lasts_link b s.tree n d name now is
+lasts_effect b s (Removes d name now) fits is =
+    lasts_unused b (with_tree s (without_name s.tree d name now)) (named s.tree d name) (lasts_without b s.tree d name now is)
+lasts_effect b s (Moves m now) fits is =
+    lasts_replaced b (with_tree s (with_moved s.tree m now)) (looked_up s.tree m.target m.name) (lasts_moved b s.tree m now is)
 
 pub names_leave_bytes : NamesLeaveBytes
-names_leave_bytes b refused s x now (Operation op) is =
-    each_of (λ o. LastsIn b o.state) (names.comes_to refused s x now (Operation op))
-    (if_delayed (λ o. LastsIn b o.state) (names.grows s x op && refused) s x (arguments op).op (names.one s x now op) is (lasts_name b s x now op is))
-names_leave_bytes b refused s x now (Fault n status) is = each_of (λ o. LastsIn b o.state) (names.comes_to refused s x now (Fault n status)) tt
+names_leave_bytes b refused s x now i is = each_of (λ o. LastsIn b o.state) (names.comes_to refused s x now i)
+    (kept_item (λ s x. LastsIn b s) (names_effects.of_states (LastsIn b) (lasts_effect b)) refused s x now i is)
 
 -- Files: the object of the current filehandle.
 

@@ -6,6 +6,10 @@ pub mod Rows
 pub mod Changing
 pub mod Renaming
 pub mod StoreInvariants
+pub mod Answered
+pub mod Effects
+pub mod Effected
+pub mod Sound
 pub mod Bounds
 pub mod Whole
 pub mod Ones

@@ -1,55 +1,33 @@
 -- What every operation keeps: its result is one that it may have, and its state is a store's.
 use Rattle.std.proofs.Common.{◌+◌, ◌≤◌, Bool, true, false, cond, length, refl, ◌∙◌, ap, arith}
-use Rattle.std.specs.Prelude.{Result, Ok, Err, ◌&&◌, IfSome}
+use Rattle.std.specs.Prelude.{◌&&◌, IfSome}
 use Rattle.nfs_xdr.specs.declared.time.Time.{Time}
-use Rattle.nfs_xdr.specs.declared.status.Status.{Status}
 use Rattle.nfs_xdr.specs.declared.status.Status.TheVariants.{Delay}
-use Rattle.nfs_compound.specs.NameArgs as args
-use Rattle.nfs_compound.specs.Arguments.{arguments}
 use Rattle.nfs_compound.specs.declared.op_num.OpNum.{OpNum}
 use Rattle.nfs_compound.specs.declared.op_num.OpNum.TheVariants as Num
 use Rattle.nfs_compound.specs.OpNum.{op_number}
 use Rattle.nfs_compound.specs.Operation.{Op, Item, Operation, Fault, OpAccess, OpCreate, OpGetAttr, OpGetFh, OpLink, OpLookup, OpLookupP, OpNVerify, OpPutFh}
 use Rattle.nfs_compound.specs.Operation.{OpPutPubFh, OpPutRootFh, OpReadDir, OpReadLink, OpRemove, OpRename, OpRestoreFh, OpSaveFh, OpSecinfoNoName, OpVerify}
 use Rattle.nfs_results.specs.Result.{Res}
-use Rattle.nfs_results.specs.Results.{refusal}
+use Rattle.nfs_results.specs.Results.{refusal, spell_result}
 use Rattle.nfs_names.proofs.Bounds.{IsAnswer}
 use Rattle.nfs_results.specs.Largest.{largest}
-use Rattle.nfs_results.specs.Results.{spell_result}
 use Rattle.nfs_results.specs.ResultCodec.{IsBounded}
 use Rattle.nfs_results.proofs.Lengths.{length_result}
 use Rattle.nfs_xdr.specs.SheetState.{SheetState, HasRoom, Puts}
 use Rattle.std.proofs.lemmas.List.{length-append}
 use Rattle.nfs_tree.specs.TreeInvariants.{IsTree}
-use Rattle.nfs_tree.specs.Names.{moves}
 use Rattle.nfs_names.specs.declared.context.Context.{Context}
-use Rattle.nfs_names.specs.declared.node.Pair.{Pair}
 use Rattle.nfs_names.specs.State.{State}
 use Rattle.nfs_names.specs.StoreInvariants.{IsStore}
-use Rattle.nfs_names.specs.Outcome.{Outcome, refuses, checked, answers, or_delay, is_ok}
-use Rattle.nfs_names.specs.Operation.{one, grows, comes_to}
-use Rattle.nfs_names.specs.Access.{access}
-use Rattle.nfs_names.specs.Create.{new_of, sets_of, asked_for, row_checks, created, create}
-use Rattle.nfs_names.specs.GetAttr.{get_attr}
-use Rattle.nfs_names.specs.GetFh.{get_fh}
+use Rattle.nfs_names.specs.Outcome.{Outcome, refuses, or_delay, is_ok}
+use Rattle.nfs_names.specs.Operation.{grows, comes_to}
+use Rattle.nfs_names.specs.Create.{create}
 use Rattle.nfs_names.specs.Link.{link}
-use Rattle.nfs_names.specs.Lookup.{lookup}
-use Rattle.nfs_names.specs.LookupP.{lookup_p}
-use Rattle.nfs_names.specs.NVerify.{nverify}
-use Rattle.nfs_names.specs.PutFh.{put_fh}
-use Rattle.nfs_names.specs.PutPubFh.{put_pub_fh}
-use Rattle.nfs_names.specs.PutRootFh.{put_root_fh}
-use Rattle.nfs_names.specs.ReadDir.{read_dir}
-use Rattle.nfs_names.specs.ReadLink.{read_link}
-use Rattle.nfs_names.specs.Remove.{remove}
-use Rattle.nfs_names.specs.Rename.{move_of, moved, unmoved, rename}
-use Rattle.nfs_names.specs.RestoreFh.{restore_fh}
-use Rattle.nfs_names.specs.SaveFh.{save_fh}
-use Rattle.nfs_names.specs.SecinfoNoName.{secinfo_no_name}
-use Rattle.nfs_names.specs.Verify.{verify}
+use Rattle.nfs_names.specs.Rename.{rename}
 use Rattle.nfs_names.proofs.Bounds as bound
-use Rattle.nfs_names.proofs.Ones.{if_both, if_delayed}
-use Rattle.nfs_names.proofs.StoreInvariants.{store_new, store_link, store_removed, store_moved}
+use Rattle.nfs_names.proofs.Ones.{if_both}
+use Rattle.nfs_names.proofs.Sound.{sound_item}
 
 delay_may : (b : Bool) (s : State) (x : Context) (op : OpNum) (o : Outcome) (P : Res → Type 0)
     → P o.result → P (refusal (op_number op) Delay) → P (or_delay b s x op o).result
@@ -81,43 +59,6 @@ may_come b s x now (OpSecinfoNoName style) = bound.may_secinfo_no_name s x style
 may_come b s x now (OpVerify a) = bound.may_verify s x a
 may_come b s x now op = tt
 
--- the tree after an operation
-answers_state : {A : Type 0} (P : State → Type 0) (s : State) (x : Context) (op : OpNum) (v : Result A Status) (f : A → Outcome)
-    → P s → ((a : A) → P (f a).state) → P (answers s x op v f).state
-answers_state P s x op (Err status) f same done = same
-answers_state P s x op (Ok a) f same done = done a
-
-store_rename : (s : State) (x : Context) (now : Time) (a : args.Rename) (p : Pair) (b : Bool)
-    → IsTree s.tree → IsStore s → IsStore (cond b (moved s x now a p) (unmoved s x p)).state
-store_rename s x now a p true tree is = store_moved s (move_of a p) now tree is
-store_rename s x now a p false tree is = is
-
-store_one : (s : State) (x : Context) (now : Time) (op : Op) → IsTree s.tree → IsStore s → IfSome (one s x now op) (λ o. IsStore o.state)
-unfolding access create get_attr get_fh link lookup lookup_p nverify put_fh put_pub_fh
-    put_root_fh read_dir read_link remove rename restore_fh save_fh secinfo_no_name verify
-store_one s x now (OpAccess asked) tree is = answers_state IsStore s x Num.Access _ _ is (λ d. is)
-store_one s x now (OpCreate c) tree is =
-    answers_state IsStore s x Num.Create (checked (asked_for s x c) (row_checks s c)) (created s x now c) is
-    (λ m. store_new s m.place.number c.objname (new_of c.objtype) (sets_of x now (new_of c.objtype) m.wanted) now is)
-store_one s x now (OpGetAttr mask) tree is = answers_state IsStore s x Num.GetAttr _ _ is (λ d. is)
-store_one s x now OpGetFh tree is = answers_state IsStore s x Num.GetFh _ _ is (λ d. is)
-store_one s x now (OpLink name) tree is = answers_state IsStore s x Num.Link _ _ is (λ p. store_link s _ _ name now is)
-store_one s x now (OpLookup name) tree is = answers_state IsStore s x Num.Lookup _ _ is (λ d. is)
-store_one s x now OpLookupP tree is = answers_state IsStore s x Num.LookupP _ _ is (λ d. is)
-store_one s x now (OpNVerify a) tree is = answers_state IsStore s x Num.NVerify _ _ is (λ d. is)
-store_one s x now (OpPutFh object) tree is = answers_state IsStore s x Num.PutFh _ _ is (λ d. is)
-store_one s x now OpPutPubFh tree is = is
-store_one s x now OpPutRootFh tree is = is
-store_one s x now (OpReadDir a) tree is = answers_state IsStore s x Num.ReadDir _ _ is (λ d. is)
-store_one s x now OpReadLink tree is = answers_state IsStore s x Num.ReadLink _ _ is (λ d. is)
-store_one s x now (OpRemove name) tree is = answers_state IsStore s x Num.Remove _ _ is (λ d. store_removed s d.number name now tree is)
-store_one s x now (OpRename a) tree is = answers_state IsStore s x Num.Rename _ _ is (λ p. store_rename s x now a p (moves s.tree (move_of a p)) tree is)
-store_one s x now OpRestoreFh tree is = answers_state IsStore s x Num.RestoreFh _ _ is (λ d. is)
-store_one s x now OpSaveFh tree is = answers_state IsStore s x Num.SaveFh _ _ is (λ d. is)
-store_one s x now (OpSecinfoNoName style) tree is = answers_state IsStore s x Num.SecinfoNoName _ _ is (λ d. is)
-store_one s x now (OpVerify a) tree is = answers_state IsStore s x Num.Verify _ _ is (λ d. is)
-store_one s x now op tree is = tt
-
 -- What every operation on names keeps.
 pub record Keeps (i : Item) (o : Outcome) : Type 0 where
   pub may : IsAnswer i o.result
@@ -125,9 +66,8 @@ pub record Keeps (i : Item) (o : Outcome) : Type 0 where
 
 pub keeps : (b : Bool) (s : State) (x : Context) (now : Time) (i : Item) → IsTree s.tree → IsStore s → IfSome (comes_to b s x now i) (Keeps i)
 keeps b s x now (Operation op) tree is =
-    if_both (comes_to b s x now (Operation op)) (may_come b s x now op)
-    (if_delayed (λ o. IsStore o.state) (grows s x op && b) s x (arguments op).op (one s x now op) is (store_one s x now op tree is))
-    (λ o may store. record { may = may; store = store })
+    if_both (comes_to b s x now (Operation op)) (may_come b s x now op) (sound_item b s x now (Operation op) tree is)
+    (λ o may sound. record { may = may; store = sound.store })
 keeps b s x now (Fault n st) tree is = tt
 
 -- so it is within its largest size

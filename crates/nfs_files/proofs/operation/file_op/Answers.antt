@@ -14,13 +14,14 @@ use Rattle.nfs_files.specs.Operation.{comes_to}
 use Rattle.nfs_files.proofs.Arms.{no_file_op}
 use Rattle.nfs_files.proofs.ByteAnswers.{may_read_bytes}
 use Rattle.nfs_files.proofs.StraightAnswers.{short_within, short_lock, short_lock_t, short_test}
-use Rattle.nfs_files.proofs.Whole.{is_plain, keeps, store_left}
+use Rattle.nfs_files.proofs.Whole.{keeps, is_plain}
+use Rattle.nfs_files.proofs.Sound.{sound_item}
 use Rattle.nfs_files.proofs.operation.file_op.Goals as goal
 
 pub returns-in-Lock-clause-store : goal.returns-in-Lock-clause-store
 returns-in-Lock-clause-store c =
-    subst IsStore (sym c.lock.ensures.state) (store_left (is_delay c.lock.result) (state_of c.args.store.now) c.args.context.now
-    (moment c.args.now) (Operation (OpLock (view_lock c.in-Lock.asked))) c.kept.ensures c.kept-2.ensures c.requires.store)
+    subst IsStore (sym c.lock.ensures.state) (sound_item (is_delay c.lock.result) (state_of c.args.store.now) c.args.context.now
+    (moment c.args.now) (Operation (OpLock (view_lock c.in-Lock.asked))) c.kept.ensures c.kept-2.ensures c.requires.store).store
 
 pub returns-in-Lock-clause-within : goal.returns-in-Lock-clause-within
 returns-in-Lock-clause-within c =
