@@ -4,9 +4,9 @@
 //! entry [`write_entry`] and its attributes, and [`write_list_end`]. GETATTR is [`write_done_head`] and the
 //! attributes. TEST_STATEID is [`write_test_stateid_head`] and the number of each status.
 
-ghost use Rattle.std.specs.Prelude.{◌≡◌, ◌<◌, ◌^◌, ◌++◌, length, true};
+ghost use Rattle.std.specs.Prelude.{◌<◌, ◌^◌, ◌++◌, length, replicate};
 ghost use Rattle.nfs_xdr.specs.SheetState.{HasRoom, Puts};
-ghost use Rattle.nfs_xdr.specs.Spelling.{number, hyper, flag};
+ghost use Rattle.nfs_xdr.specs.Spelling.{number, flag, padding};
 ghost use Rattle.nfs_results.specs.Straight.{read_head, read_end, read_dir_head, entry_head, list_end, test_stateid_head};
 ghost use Rattle.nfs_results.specs.Results.{done_head};
 
@@ -68,18 +68,24 @@ pub fn write_entry(cookie: u64, name: &[u8], out: &mut Sheet)
     requires room { HasRoom out.old (entry_head cookie name.now) }
     ensures { Puts out.old out.new (entry_head cookie name.now) }
 {
-    out.put_bytes(&entry_front(cookie, name.len() as u32));
-    out.put_fixed(name);
+    out.put_flag(true);
+    out.put_u64(cookie);
+    out.put_u32(name.len() as u32);
+    out.put_bytes(name);
+    put_padding(name.len(), out);
 }
 
-/// What an entry has in front of its name: that it follows, its cookie, and how long the name is. It is put at once.
-#[tactic(auto, unfolding(nfs_xdr::specs::Spelling::number, nfs_xdr::specs::Spelling::hyper))]
-fn entry_front(cookie: u64, length: u32) -> [u8; 16]
-    ensures { result ≡ flag true ++ (hyper cookie ++ number length) }
+/// Puts the zeros that fill up the last word of so many bytes. Each arm is one store, and not a copy of some length.
+fn put_padding(length: usize, out: &mut Sheet)
+    requires room { HasRoom out.old (replicate (padding length) 0) }
+    ensures { Puts out.old out.new (replicate (padding length) 0) }
 {
-    let [a, b, c, d, e, f, g, h] = cookie.to_be_bytes();
-    let [i, j, k, l] = length.to_be_bytes();
-    [0, 0, 0, 1, a, b, c, d, e, f, g, h, i, j, k, l]
+    match length % 4 {
+        1 => out.put_bytes(&[0; 3]),
+        2 => out.put_bytes(&[0; 2]),
+        3 => out.put_bytes(&[0]),
+        _ => (),
+    }
 }
 
 /// Puts that no entry follows, and whether the directory has none left.
