@@ -43,8 +43,7 @@ use Rattle.nfs_names.specs.Faults.{status_of}
 use Rattle.nfs_names.specs.Outcome.{checked, mapped}
 use Rattle.nfs_names.specs.Checks.{current}
 use Rattle.nfs_names.proofs.Found.{came, checked_ok}
-use Rattle.nfs_names.proofs.Answered.{by_found}
-use Rattle.nfs_names.proofs.Ones.{by_delay}
+use Rattle.nfs_names.proofs.Answered.{by_found, by_delay}
 use Rattle.nfs_names.proofs.Effects.{Makes}
 use Rattle.nfs_names.proofs.Effected.{none_mapped}
 use Rattle.nfs_files.specs.declared.opening.Found.{Found}
@@ -231,5 +230,5 @@ module _ {P : State → Context → Type 0} (s : State) (x : Context) (kept : Ke
   kept_one now op = is
 
   pub kept_item : (refused : Bool) (now : Time) (i : Item) → P (comes_to refused s x now i).state (comes_to refused s x now i).context
-  kept_item refused now (Operation op) = by_delay (λ o. P o.state o.context) (grows s x op && refused) s x (arguments op).op (one s x now op) is (kept_one now op)
+  kept_item refused now (Operation op) = by_delay P (grows s x op && refused) s x (arguments op).op (one s x now op) is (kept_one now op)
   kept_item refused now (Fault n status) = is

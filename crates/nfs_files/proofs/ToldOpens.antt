@@ -62,7 +62,6 @@ use Rattle.nfs_names.specs.Outcome.{Outcome, refuses, checked, mapped, or_delay,
 use Rattle.nfs_names.proofs.Found.{came, checked_ok, ok_is}
 use Rattle.nfs_names.proofs.Ones.{by_delay}
 use Rattle.nfs_names.proofs.Untouched.{unused_opens}
-use Rattle.nfs_names.proofs.Answered.{by_delay}
 use Rattle.nfs_files.specs.declared.target.Target.{Target}
 use Rattle.nfs_files.specs.declared.opening.Found.{Found}
 use Rattle.nfs_files.specs.declared.opening.Found.TheVariants.{There, Absent}
