@@ -28,6 +28,7 @@ use Rattle.nfs_opens.specs.TableInvariants.{IsTable}
 use Rattle.nfs_opens.specs.Closing as closing
 use Rattle.nfs_opens.specs.Opening as opening
 use Rattle.nfs_opens.specs.Locking as locking
+use Rattle.nfs_opens.specs.Steps.{map_err}
 use Rattle.nfs_names.specs.declared.context.Context.{Context}
 use Rattle.nfs_names.specs.declared.node.Node.{Node}
 use Rattle.nfs_names.specs.State.{State}
@@ -56,7 +57,6 @@ use Rattle.nfs_files.specs.LockTold.{LockTold, IsBeside, IsAlike, Stands}
 use Rattle.nfs_files.proofs.Inside.{Locks, Unlocks, Closes, Spares, SparedLocksStay, ClashesAreNotGranted}
 use Rattle.nfs_files.proofs.KeptLocks.{stands_by, stands_closed, stands_freed, stands_raised, stands_locked, outside, cleared_other, refused}
 use Rattle.nfs_files.specs.Denied.{status_of}
-use Rattle.nfs_names.specs.Outcome.{map_err}
 use Rattle.nfs_files.proofs.OpensMoved.{by_close, by_free, by_downgrade, by_lock, by_unlock, lock_is}
 
 -- a refusal leaves the state, an answer what follows from what was found

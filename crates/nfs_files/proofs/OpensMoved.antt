@@ -21,10 +21,11 @@ use Rattle.nfs_opens.specs.Closing as closing
 use Rattle.nfs_opens.specs.Opening as opening
 use Rattle.nfs_opens.specs.Locking.{unlock}
 use Rattle.nfs_opens.proofs.CallLaws.{IsClosed, closed_is, IsFreed, freed_is, IsNarrowed, narrowed_is, IsLocked, under_is, known_is, IsUnlocked, unlocked_is, unmapped}
+use Rattle.nfs_opens.specs.Steps.{map_err}
 use Rattle.nfs_names.specs.declared.context.Context.{Context}
 use Rattle.nfs_names.specs.State.{State}
 use Rattle.nfs_names.specs.Ending.{with_opens}
-use Rattle.nfs_names.specs.Outcome.{Outcome, map_err, done, refuses, answers}
+use Rattle.nfs_names.specs.Outcome.{Outcome, done, refuses, answers}
 use Rattle.nfs_files.specs.declared.ranges.Wished.{Wished}
 use Rattle.nfs_files.specs.declared.target.Target.{Target}
 use Rattle.nfs_files.specs.StateIds.{meant}

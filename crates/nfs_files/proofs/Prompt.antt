@@ -21,10 +21,11 @@ use Rattle.nfs_attrs.specs.declared.wanted.AttrFault.{AttrFault}
 use Rattle.nfs_attrs.specs.declared.wanted.AttrFault.TheVariants as Faults
 use Rattle.nfs_attrs.specs.Handle.{handle_of}
 use Rattle.nfs_tree.specs.declared.object.Object.{Object}
+use Rattle.nfs_opens.specs.Steps.{◌>>=◌, map_err}
 use Rattle.nfs_names.specs.declared.context.Context.{Context}
 use Rattle.nfs_names.specs.declared.node.Node.{Node}
 use Rattle.nfs_names.specs.State.{State}
-use Rattle.nfs_names.specs.Outcome.{◌>>=◌, Outcome, passed, checked, mapped, answers, map_err, is_delay}
+use Rattle.nfs_names.specs.Outcome.{Outcome, passed, checked, mapped, answers, is_delay}
 use Rattle.nfs_names.specs.Checks.{current, both, node_at, node_as, saved_object}
 use Rattle.nfs_names.specs.Operation.{one}
 use Rattle.nfs_names.specs.Access.{access}

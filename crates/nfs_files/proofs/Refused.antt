@@ -16,9 +16,10 @@ use Rattle.nfs_opens.specs.Table.{Table, answer_of, table_after}
 use Rattle.nfs_opens.proofs.CallLaws.{did_is, refused_is}
 use Rattle.nfs_compound.specs.declared.op_num.OpNum.TheVariants as Op
 use Rattle.nfs_opens.specs.Calls as calls
+use Rattle.nfs_opens.specs.Steps.{map_err}
 use Rattle.nfs_names.specs.declared.context.Context.{Context}
 use Rattle.nfs_names.specs.State.{State}
-use Rattle.nfs_names.specs.Outcome.{Outcome, map_err, refuses, answers, or_delay, is_ok, is_delay}
+use Rattle.nfs_names.specs.Outcome.{Outcome, refuses, answers, or_delay, is_ok, is_delay}
 use Rattle.nfs_names.specs.Ending.{with_opens}
 use Rattle.nfs_files.specs.Denied.{status_of}
 use Rattle.nfs_files.specs.Lock.{locked}

@@ -13,10 +13,11 @@ use Rattle.nfs_opens.specs.declared.share.Share.{Share}
 use Rattle.nfs_opens.specs.Share.{meets, is_part}
 use Rattle.nfs_opens.specs.Judging.{judge}
 use Rattle.nfs_attrs.specs.declared.permission.Want.{Want}
+use Rattle.nfs_opens.specs.Steps.{◌>>=◌}
 use Rattle.nfs_names.specs.declared.context.Context.{Context}
 use Rattle.nfs_names.specs.declared.node.Node.{Node}
 use Rattle.nfs_names.specs.State.{State}
-use Rattle.nfs_names.specs.Outcome.{◌>>=◌, checked, mapped}
+use Rattle.nfs_names.specs.Outcome.{checked, mapped}
 use Rattle.nfs_names.specs.Checks.{denied}
 use Rattle.nfs_names.specs.Lookup.{is_link}
 use Rattle.nfs_files.specs.StateIds.{meant}

@@ -7,9 +7,10 @@ use Rattle.nfs_results.specs.Result.{ResLockU}
 use Rattle.nfs_opens.specs.declared.stateid.StateId.{StateId}
 use Rattle.nfs_opens.specs.Table.{Table}
 use Rattle.nfs_opens.specs.Locking.{unlock}
+use Rattle.nfs_opens.specs.Steps.{map_err}
 use Rattle.nfs_names.specs.declared.context.Context.{Context}
 use Rattle.nfs_names.specs.State.{State}
-use Rattle.nfs_names.specs.Outcome.{Outcome, map_err, answers}
+use Rattle.nfs_names.specs.Outcome.{Outcome, answers}
 use Rattle.nfs_files.specs.declared.ranges.Wished.{Wished}
 use Rattle.nfs_files.specs.StateIds.{wire_id}
 use Rattle.nfs_names.specs.Ending.{with_opens}

@@ -27,11 +27,12 @@ use Rattle.nfs_opens.specs.Share.{neither, share_of}
 use Rattle.nfs_opens.specs.StateId.{last_number}
 use Rattle.nfs_opens.specs.Table.{Asked, clashes_with}
 use Rattle.nfs_opens.specs.Opening.{own_open, opens}
+use Rattle.nfs_opens.specs.Steps.{◌>>=◌}
 use Rattle.nfs_names.specs.declared.context.Context.{Context}
 use Rattle.nfs_names.specs.declared.node.Node.{Node}
 use Rattle.nfs_names.specs.declared.making.Making.{Making}
 use Rattle.nfs_names.specs.State.{State}
-use Rattle.nfs_names.specs.Outcome.{Outcome, ◌>>=◌, checked, mapped, answers}
+use Rattle.nfs_names.specs.Outcome.{Outcome, checked, mapped, answers}
 use Rattle.nfs_names.specs.Checks.{node_at, current, no_directory, denied, name_checks}
 use Rattle.nfs_names.specs.Create.{attributes_in, change_info}
 use Rattle.nfs_names.specs.Faults.{by_tree}

@@ -10,9 +10,10 @@ use Rattle.nfs_ranges.specs.declared.Kind.{Kind}
 use Rattle.nfs_ranges.specs.declared.Kind.TheVariants as Kinds
 use Rattle.nfs_opens.specs.declared.locking.Wish.{Wish}
 use Rattle.nfs_opens.specs.declared.stateid.CurrentSeqid.TheVariants.{Any}
+use Rattle.nfs_opens.specs.Steps.{◌>>=◌}
 use Rattle.nfs_names.specs.declared.context.Context.{Context}
 use Rattle.nfs_names.specs.State.{State}
-use Rattle.nfs_names.specs.Outcome.{◌>>=◌, passed, mapped}
+use Rattle.nfs_names.specs.Outcome.{passed, mapped}
 use Rattle.nfs_files.specs.declared.ranges.Wished.{Wished}
 use Rattle.nfs_files.specs.StateIds.{meant}
 use Rattle.nfs_files.specs.Target.{the_file}

@@ -13,13 +13,14 @@ use Rattle.nfs_compound.specs.Operation.{OpPutRootFh, OpReadDir, OpReadLink, OpR
 use Rattle.nfs_results.specs.Result.{Res, ResReadDir}
 use Rattle.nfs_results.specs.MayAnswer.{MayAnswer}
 use Rattle.nfs_results.specs.ResultCodec.{HasArrays}
+use Rattle.nfs_opens.specs.Steps.{map_err}
 use Rattle.nfs_names.specs.declared.context.Context.{Context}
 use Rattle.nfs_names.specs.declared.context.Saved.{Saved}
 use Rattle.nfs_names.specs.declared.node.Node.{Node}
 use Rattle.nfs_names.specs.declared.making.Making.{Making}
 use Rattle.nfs_names.specs.declared.node.Pair.{Pair}
 use Rattle.nfs_names.specs.State.{State}
-use Rattle.nfs_names.specs.Outcome.{map_err, done, passed, checked, answers}
+use Rattle.nfs_names.specs.Outcome.{done, passed, checked, answers}
 use Rattle.nfs_names.proofs.Listed.{listed_within}
 use Rattle.nfs_names.proofs.Found.{checked_ok}
 use Rattle.nfs_xdr.specs.Checks.{first_fault}

@@ -10,9 +10,10 @@ use Rattle.nfs_compound.specs.declared.op_num.OpNum.{OpNum}
 use Rattle.nfs_compound.specs.OpNum.{op_number}
 use Rattle.nfs_results.specs.Result.{Res}
 use Rattle.nfs_results.specs.Results.{refusal}
+use Rattle.nfs_opens.specs.Steps.{◌>>=◌}
 use Rattle.nfs_names.specs.declared.context.Context.{Context}
 use Rattle.nfs_names.specs.State.{State}
-use Rattle.nfs_names.specs.Outcome.{Outcome, ◌>>=◌, passed, checked, mapped, answers}
+use Rattle.nfs_names.specs.Outcome.{Outcome, passed, checked, mapped, answers}
 
 -- neither NFS4_OK nor that of an operation that there is not
 pub record IsRefusal (status : Status) : Type 0 where

@@ -21,12 +21,13 @@ use Rattle.nfs_attrs.specs.Mask.{mask_of, trimmed_words}
 use Rattle.nfs_attrs.specs.Reading.{read_attrs, fault_status}
 use Rattle.nfs_attrs.specs.Setting.{make_checks}
 use Rattle.nfs_attrs.specs.Permissions.{change}
+use Rattle.nfs_opens.specs.Steps.{◌>>=◌, map_err}
 use Rattle.nfs_names.specs.declared.context.Context.{Context}
 use Rattle.nfs_names.specs.declared.node.Node.{Node}
 use Rattle.nfs_names.specs.declared.making.Making.{Making}
 use Rattle.nfs_names.specs.State.{State, with_tree}
 use Rattle.nfs_names.specs.Context.{at_object}
-use Rattle.nfs_names.specs.Outcome.{Outcome, ◌>>=◌, map_err, checked, answers}
+use Rattle.nfs_names.specs.Outcome.{Outcome, checked, answers}
 use Rattle.nfs_names.specs.Checks.{current, no_directory, denied, name_checks}
 use Rattle.nfs_names.specs.Faults.{by_tree}
 

@@ -8,7 +8,6 @@ use Rattle.nfs_compound.specs.declared.op_num.OpNum.{OpNum}
 use Rattle.nfs_compound.specs.OpNum.{op_number}
 use Rattle.nfs_results.specs.Result.{Res}
 use Rattle.nfs_results.specs.Results.{status_of_result, refusal}
-pub use Rattle.nfs_opens.specs.Steps.{◌>>=◌, map_err}
 use Rattle.nfs_names.specs.declared.context.Context.{Context}
 use Rattle.nfs_names.specs.State.{State}
 

@@ -9,10 +9,11 @@ use Rattle.nfs_attrs.specs.declared.wanted.AttrFault.{AttrFault}
 use Rattle.nfs_attrs.specs.Mask.{mask_of}
 use Rattle.nfs_attrs.specs.Comparing.{same}
 use Rattle.nfs_attrs.specs.Reading.{fault_status}
+use Rattle.nfs_opens.specs.Steps.{◌>>=◌, map_err}
 use Rattle.nfs_names.specs.declared.context.Context.{Context}
 use Rattle.nfs_names.specs.declared.node.Node.{Node}
 use Rattle.nfs_names.specs.State.{State}
-use Rattle.nfs_names.specs.Outcome.{Outcome, ◌>>=◌, map_err, done, checked, answers}
+use Rattle.nfs_names.specs.Outcome.{Outcome, done, checked, answers}
 use Rattle.nfs_names.specs.Checks.{current}
 use Rattle.nfs_names.specs.Attributes.{about}
 

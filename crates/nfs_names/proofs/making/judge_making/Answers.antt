@@ -7,9 +7,10 @@ use Rattle.nfs_compound.specs.ArgCodecs.{view_create}
 use Rattle.nfs_attrs.specs.Setting.{make_checks}
 use Rattle.nfs_attrs.specs.Reading.{fault_status}
 use Rattle.nfs_attrs.specs.declared.wanted.Wanted.{Wanted}
+use Rattle.nfs_opens.specs.Steps.{◌>>=◌, map_err}
 use Rattle.nfs_names.specs.declared.making.Making.{Making}
 use Rattle.nfs_names.specs.State.{state_of}
-use Rattle.nfs_names.specs.Outcome.{◌>>=◌, map_err, checked}
+use Rattle.nfs_names.specs.Outcome.{checked}
 use Rattle.nfs_names.specs.Create.{attributes_in, new_checks, asked_for}
 use Rattle.nfs_names.proofs.Found.{judged_err, stopped, append_fault}
 use Rattle.nfs_names.proofs.making.judge_making.Goals as goal
