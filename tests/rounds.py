@@ -125,9 +125,11 @@ class Rounds:
     def round_of(self, crate, edits, texts, flags, kept):
         """Tries the edits of a round together, and again alone those that are not seen to be refused there."""
         of_each = {it: changed(self.rt, it, crate.folder)[0] for it in edits}
-        with_it = {function for some in of_each.values() for function in some}
+        with_it, before = {function for some in of_each.values() for function in some}, spent()
         with copied(kept) as copy:
             ran = self.checked(crate, texts, flags, copy, with_it)
+        took = f"{(spent() - before) / 60:.1f} minutes of processors"
+        print(f"a round of {crate.name}: {len(edits)} edits, {len(with_it)} functions, {took}", flush=True)
         lines = ran.stdout.rstrip("\n").split("\n")
         is_read = ran.returncode == 1 and lines[-1].startswith("only=") and not self.rt.rtlib.STALE.search(ran.stdout)
         is_read = is_read and not any(self.rt.unread(it, texts) for it in lines)
@@ -163,7 +165,7 @@ class Rounds:
         if is_shown_later or is_shown:
             for some, texts in self.rounds_of(crate, able):
                 tried.update(zip(some, self.round_of(crate, some, texts, flags, kept)))
-            if is_shown_later and not self.unchanged.get(crate.name) and not self.is_proved(crate, flags, kept):
+            if is_shown_later and not self.is_unchanged(crate, flags, kept):
                 tried = {}
         return [tried[it] if it in tried and tried[it][0] else self.alone(crate, it, flags) for it in edits]
 
@@ -183,6 +185,13 @@ class Rounds:
         """Drops what a crate's rounds began with: there are no more."""
         shutil.rmtree(self.starts.pop(crate.name, ("",))[0], ignore_errors=True)
         self.kept.pop(crate.name, None)
+
+    def is_unchanged(self, crate, flags, kept):
+        """Returns whether the crate is proved over what this run kept: a round showed it, or a check without any edit does, once."""
+        with self.alone_in[crate.name]:
+            if not self.unchanged.get(crate.name):
+                self.unchanged[crate.name] = self.is_proved(crate, flags, kept)
+            return self.unchanged[crate.name]
 
     def is_proved(self, crate, flags, kept):
         return not self.checked(crate, {}, flags, kept).returncode
