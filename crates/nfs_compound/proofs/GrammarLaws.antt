@@ -10,9 +10,11 @@ use Rattle.nfs_xdr.proofs.CodecLaws.{bind_some, test_some, is_number}
 use Rattle.nfs_xdr.proofs.WordLaws.{listed_number}
 use Rattle.nfs_xdr.specs.declared.status.Status.TheVariants.{BadXdr}
 use Rattle.nfs_compound.specs.declared.op_num.OpNum.{OpNum}
-use Rattle.nfs_compound.specs.declared.op_num.OpNum.TheVariants as Ops
+use Rattle.nfs_compound.specs.declared.op_num.OpNum.TheVariants as Num
 use Rattle.nfs_compound.specs.OpNum.{op_number, op_nums, op_num}
-use Rattle.nfs_compound.specs.Operation.{Op, Item, Operation, Fault}
+use Rattle.nfs_compound.specs.declared.op.Op.{Op}
+use Rattle.nfs_compound.specs.declared.op.Item.{Item}
+use Rattle.nfs_compound.specs.declared.op.Item.TheVariants.{Operation, Fault}
 use Rattle.nfs_compound.specs.ArgCodecs.{protected}
 use Rattle.nfs_compound.specs.OpCodec.{op_codec, op_at, flaw, fault_of, fault_at}
 use Rattle.nfs_xdr.specs.Text.{IsBytes, Text, uint32, Lacks}
@@ -54,8 +56,8 @@ names_none n none op is = none≢some op (sym none ∙ named n op is)
 
 -- The fault of a number.
 
-other_flaw : (op : OpNum) (bytes : List ℕ) → (op ≡ Ops.ExchangeId → protected.read bytes ≡ None) → flaw op bytes ≡ BadXdr
-other_flaw Ops.ExchangeId bytes none = rw (none refl) refl
+other_flaw : (op : OpNum) (bytes : List ℕ) → (op ≡ Num.ExchangeId → protected.read bytes ≡ None) → flaw op bytes ≡ BadXdr
+other_flaw Num.ExchangeId bytes none = rw (none refl) refl
 other_flaw op bytes none = refl
 
 out_of_range : (n : ℕ) → (n < 3) ⊎ (58 < n) → (leb 3 n && leb n 58) ≡ false
@@ -66,7 +68,7 @@ out_of_range n (inr high) = and_right (leb 3 n) _ (lt-leb n 58 high)
 pub answer_is : (n : ℕ) (behind : List ℕ) (fault : Item) → IsBytes behind → Answers n behind fault → fault ≡ fault_at n behind
 unfolding fault_at
 answer_is n behind fault fits (Unserved at begins e) =
-    rw (e, named n Ops.ExchangeId at, ap protected.read begins.stands ∙ is_protected_text.again begins.value begins.rest begins.fits) refl
+    rw (e, named n Num.ExchangeId at, ap protected.read begins.stands ∙ is_protected_text.again begins.value begins.rest begins.fits) refl
 answer_is n behind fault fits (Unreadable op at lacks e) =
     rw (e, named n op at, other_flaw op behind (λ same. lacks_again protected4 protected.read behind is_protected_text fits (lacks same))) refl
 answer_is n behind fault fits (Unsupported at low high e) = rw (e, unnamed n at, le-leb 3 n low, le-leb n 58 high) refl
@@ -80,18 +82,18 @@ nothing_protected = refl
 pub some_answer : (n : ℕ) (behind : List ℕ) (fault : Item) → Answers n behind fault → (other : List ℕ) × (fault ≡ fault_at n other)
 unfolding fault_at
 some_answer n behind fault (Unserved at begins e) =
-    (behind, rw (e, named n Ops.ExchangeId at, ap protected.read begins.stands ∙ is_protected_text.again begins.value begins.rest begins.fits) refl)
+    (behind, rw (e, named n Num.ExchangeId at, ap protected.read begins.stands ∙ is_protected_text.again begins.value begins.rest begins.fits) refl)
 some_answer n behind fault (Unreadable op at lacks e) = ([], rw (e, named n op at, other_flaw op [] (λ same. nothing_protected)) refl)
 some_answer n behind fault (Unsupported at low high e) = ([], rw (e, unnamed n at, le-leb 3 n low, le-leb n 58 high) refl)
 some_answer n behind fault (Illegal at out e) = ([], rw (e, unnamed n at, out_of_range n out) refl)
 
 flaw_answers : (op : OpNum) (n : ℕ) (behind : List ℕ) (r : Option (_ × List ℕ)) → IsBytes behind → n ≡ op_number op → protected.read behind ≡ r
     → Answers n behind (Fault n (flaw op behind))
-flaw_answers Ops.ExchangeId n behind (Some x) fits at e =
+flaw_answers Num.ExchangeId n behind (Some x) fits at e =
     let t = is_protected_text.takes behind x.0 x.1 fits e in
     Unserved at (record { value = x.0; rest = x.1; stands = t.0; fits = t.2 }) (rw e refl)
-flaw_answers Ops.ExchangeId n behind None fits at e =
-    Unreadable Ops.ExchangeId at (λ same. lacks_from protected4 protected.read behind is_protected_text e) (rw e refl)
+flaw_answers Num.ExchangeId n behind None fits at e =
+    Unreadable Num.ExchangeId at (λ same. lacks_from protected4 protected.read behind is_protected_text e) (rw e refl)
 flaw_answers op n behind r fits at e = Unreadable op at (λ same. absurd cc) refl
 
 answers_by : (o : Option OpNum) (n : ℕ) (behind : List ℕ) → IsBytes behind → op_num n ≡ o → Answers n behind (fault_of o n behind)

@@ -1,47 +1,44 @@
 -- The number of each operation in the table of arguments is its own.
 use Rattle.std.proofs.Common.{◌≡◌, refl}
-use Rattle.nfs_compound.specs.Operation.{Op, OpAccess, OpClose, OpCommit, OpCreate, OpGetAttr, OpGetFh, OpLink, OpLock, OpLockT, OpLockU, OpLookup, OpLookupP}
-use Rattle.nfs_compound.specs.Operation.{OpNVerify, OpOpen, OpOpenDowngrade, OpPutFh, OpPutPubFh, OpPutRootFh, OpRead, OpReadDir, OpReadLink, OpRemove}
-use Rattle.nfs_compound.specs.Operation.{OpRename, OpRestoreFh, OpSaveFh, OpSetAttr, OpVerify, OpWrite, OpExchangeId, OpCreateSession, OpDestroySession}
-use Rattle.nfs_compound.specs.Operation.{OpFreeStateid, OpSecinfoNoName, OpSequence, OpTestStateid, OpDestroyClientId, OpReclaimComplete}
+use Rattle.nfs_compound.specs.declared.op.Op.{Op}
 use Rattle.nfs_compound.specs.Arguments.{arguments}
 use Rattle.nfs_compound.specs.OpOf.{op_of}
 
 pub numbered : (op : Op) → (arguments op).op ≡ op_of op
-numbered (OpAccess access) = refl
-numbered (OpClose a) = refl
-numbered (OpCommit a) = refl
-numbered (OpCreate a) = refl
-numbered (OpGetAttr mask) = refl
-numbered OpGetFh = refl
-numbered (OpLink name) = refl
-numbered (OpLock a) = refl
-numbered (OpLockT a) = refl
-numbered (OpLockU a) = refl
-numbered (OpLookup name) = refl
-numbered OpLookupP = refl
-numbered (OpNVerify a) = refl
-numbered (OpOpen a) = refl
-numbered (OpOpenDowngrade a) = refl
-numbered (OpPutFh object) = refl
-numbered OpPutPubFh = refl
-numbered OpPutRootFh = refl
-numbered (OpRead a) = refl
-numbered (OpReadDir a) = refl
-numbered OpReadLink = refl
-numbered (OpRemove name) = refl
-numbered (OpRename a) = refl
-numbered OpRestoreFh = refl
-numbered OpSaveFh = refl
-numbered (OpSetAttr a) = refl
-numbered (OpVerify a) = refl
-numbered (OpWrite a) = refl
-numbered (OpExchangeId a) = refl
-numbered (OpCreateSession a) = refl
-numbered (OpDestroySession sessionid) = refl
-numbered (OpFreeStateid held) = refl
-numbered (OpSecinfoNoName style) = refl
-numbered (OpSequence a) = refl
-numbered (OpTestStateid held) = refl
-numbered (OpDestroyClientId clientid) = refl
-numbered (OpReclaimComplete one_fs) = refl
+numbered (Op.Access access) = refl
+numbered (Op.Close a) = refl
+numbered (Op.Commit a) = refl
+numbered (Op.Create a) = refl
+numbered (Op.GetAttr mask) = refl
+numbered Op.GetFh = refl
+numbered (Op.Link name) = refl
+numbered (Op.Lock a) = refl
+numbered (Op.LockT a) = refl
+numbered (Op.LockU a) = refl
+numbered (Op.Lookup name) = refl
+numbered Op.LookupP = refl
+numbered (Op.NVerify a) = refl
+numbered (Op.Open a) = refl
+numbered (Op.OpenDowngrade a) = refl
+numbered (Op.PutFh object) = refl
+numbered Op.PutPubFh = refl
+numbered Op.PutRootFh = refl
+numbered (Op.Read a) = refl
+numbered (Op.ReadDir a) = refl
+numbered Op.ReadLink = refl
+numbered (Op.Remove name) = refl
+numbered (Op.Rename a) = refl
+numbered Op.RestoreFh = refl
+numbered Op.SaveFh = refl
+numbered (Op.SetAttr a) = refl
+numbered (Op.Verify a) = refl
+numbered (Op.Write a) = refl
+numbered (Op.ExchangeId a) = refl
+numbered (Op.CreateSession a) = refl
+numbered (Op.DestroySession sessionid) = refl
+numbered (Op.FreeStateid held) = refl
+numbered (Op.SecinfoNoName style) = refl
+numbered (Op.Sequence a) = refl
+numbered (Op.TestStateid held) = refl
+numbered (Op.DestroyClientId clientid) = refl
+numbered (Op.ReclaimComplete one_fs) = refl

@@ -10,7 +10,7 @@ use Rattle.nfs_xdr.specs.Codec.{opaque}
 use Rattle.nfs_xdr.specs.Lawful.{IsCodec}
 use Rattle.nfs_xdr.proofs.CodecLaws.{bind_some, is_number, is_opaque}
 use Rattle.nfs_compound.specs.declared.compound.Garbage.{Garbage}
-use Rattle.nfs_compound.specs.Operation.{Item}
+use Rattle.nfs_compound.specs.declared.op.Item.{Item}
 use Rattle.nfs_xdr.specs.Text as text
 use Rattle.nfs_xdr.specs.Text.{IsBytes, uint32}
 use Rattle.nfs_compound.specs.Request.{Request, IsHead, HasBody, IsRequest, IsGarbage, LacksTag, LacksMinor, LacksCount, SpoilsBody}

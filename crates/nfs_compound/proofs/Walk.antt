@@ -6,7 +6,9 @@ use Rattle.nfs_xdr.proofs.CodecLaws.{bind_some}
 use Rattle.std.specs.Prelude.{is_some}
 use Rattle.std.proofs.lemmas.Bool.{eq-eqb, ne_eqb, false≢true}
 use Rattle.nfs_xdr.specs.Reading.{◌>>=◌, number_at, opaque_at}
-use Rattle.nfs_compound.specs.Operation.{Op, Item, Operation, Fault}
+use Rattle.nfs_compound.specs.declared.op.Op.{Op}
+use Rattle.nfs_compound.specs.declared.op.Item.{Item}
+use Rattle.nfs_compound.specs.declared.op.Item.TheVariants.{Operation, Fault}
 use Rattle.nfs_compound.specs.OpCodec.{fault_at, op_at}
 use Rattle.nfs_compound.specs.OpNum.{op_num}
 use Rattle.nfs_compound.specs.ReadRequest.{is_fault, op_or_fault, item_at, in_front, first_of, items_at, items_left, request_at}

@@ -17,15 +17,18 @@ use Rattle.nfs_compound.specs.ArgCodecs.{commit_args, read_args, stable_how, wri
 use Rattle.nfs_compound.specs.ArgCodecs.{rename_args, secinfo_style}
 use Rattle.nfs_compound.specs.ArgCodecs as callback
 use Rattle.nfs_compound.specs.Callback.{SecParms, AuthNone, Sys, RpcsecGss}
-use Rattle.nfs_compound.specs.OpenArgs.{CreateHow, Unchecked, Guarded, Exclusive, Exclusive41, OpenHow, NoCreate, Create}
+use Rattle.nfs_compound.specs.declared.open_args.CreateHow.{CreateHow}
+use Rattle.nfs_compound.specs.declared.open_args.CreateHow.TheVariants.{Unchecked, Guarded, Exclusive, Exclusive41}
+use Rattle.nfs_compound.specs.declared.open_args.OpenHow.{OpenHow}
+use Rattle.nfs_compound.specs.declared.open_args.OpenHow.TheVariants.{NoCreate, Create}
 use Rattle.nfs_compound.specs.OpenCodecs.{create_how, open_how, open_claim, delegation_type, open_args, open_downgrade_args, close_args}
-use Rattle.nfs_compound.specs.OpenArgs.{OpenClaim, Null, Previous, DelegateCur, DelegatePrev, Fh, DelegCurFh, DelegPrevFh}
-use Rattle.nfs_compound.specs.LockArgs.{Locker, OpenOwner, LockOwner}
-use Rattle.nfs_compound.specs.NameArgs.{CreateType, Block, Character, Symlink, Other}
-use Rattle.nfs_compound.specs.Operation.{Op, OpAccess, OpClose, OpCommit, OpCreate, OpGetAttr, OpGetFh, OpLink, OpLock, OpLockT, OpLockU, OpLookup, OpLookupP}
-use Rattle.nfs_compound.specs.Operation.{OpNVerify, OpOpen, OpOpenDowngrade, OpPutFh, OpPutPubFh, OpPutRootFh, OpRead, OpReadDir, OpReadLink, OpRemove}
-use Rattle.nfs_compound.specs.Operation.{OpRename, OpRestoreFh, OpSaveFh, OpSetAttr, OpVerify, OpWrite, OpExchangeId, OpCreateSession, OpDestroySession}
-use Rattle.nfs_compound.specs.Operation.{OpFreeStateid, OpSecinfoNoName, OpSequence, OpTestStateid, OpDestroyClientId, OpReclaimComplete}
+use Rattle.nfs_compound.specs.declared.open_args.OpenClaim.{OpenClaim}
+use Rattle.nfs_compound.specs.declared.open_args.OpenClaim.TheVariants.{Null, Previous, DelegateCur, DelegatePrev, Fh, DelegCurFh, DelegPrevFh}
+use Rattle.nfs_compound.specs.declared.lock_args.Locker.{Locker}
+use Rattle.nfs_compound.specs.declared.lock_args.Locker.TheVariants.{OpenOwner, LockOwner}
+use Rattle.nfs_compound.specs.declared.name_args.CreateType.{CreateType}
+use Rattle.nfs_compound.specs.declared.name_args.CreateType.TheVariants.{Block, Character, Symlink, Other}
+use Rattle.nfs_compound.specs.declared.op.Op.{Op}
 use Rattle.nfs_compound.specs.Request.{spell_op, FitsOp}
 use Rattle.nfs_compound.specs.OpCodec.{op_codec}
 use Rattle.nfs_compound.specs.Wire.{bitmap4, fattr4, state_owner4, stateid4, createtype4, locker4, createhow4, openflag4}
@@ -227,131 +230,131 @@ all_parms = record {
 
 op_same : (x : Op) → spell_op x ≡ (nfs_argop4 x).bytes
 unfolding stateid stateids state_owner bitmap attributes exchange_id_args create_session_args sequence_args open_args open_downgrade_args close_args lock_type lock_args lock_t_args lock_u_args commit_args read_args stable_how write_args set_attr_args create_args read_dir_args rename_args secinfo_style
-op_same (OpAccess a) = refl
-op_same (OpClose a) = refl
-op_same (OpCommit a) = refl
-op_same (OpCreate a) = rw (types.same a.objtype) refl
-op_same (OpGetAttr a) = refl
-op_same OpGetFh = refl
-op_same (OpLink a) = refl
-op_same (OpLock a) = rw (lockers.same a.locker) refl
-op_same (OpLockT a) = refl
-op_same (OpLockU a) = refl
-op_same (OpLookup a) = refl
-op_same OpLookupP = refl
-op_same (OpNVerify a) = refl
-op_same (OpOpen a) = rw (flags.same a.openhow, claims.same a.claim) refl
-op_same (OpOpenDowngrade a) = refl
-op_same (OpPutFh a) = refl
-op_same OpPutPubFh = refl
-op_same OpPutRootFh = refl
-op_same (OpRead a) = refl
-op_same (OpReadDir a) = refl
-op_same OpReadLink = refl
-op_same (OpRemove a) = refl
-op_same (OpRename a) = refl
-op_same OpRestoreFh = refl
-op_same OpSaveFh = refl
-op_same (OpSetAttr a) = refl
-op_same (OpVerify a) = refl
-op_same (OpWrite a) = refl
-op_same (OpExchangeId a) = rw (made.same a.impl_id) refl
-op_same (OpCreateSession a) = rw (channels.same a.fore_chan_attrs, channels.same a.back_chan_attrs) refl
-op_same (OpDestroySession a) = refl
-op_same (OpFreeStateid a) = refl
-op_same (OpSecinfoNoName a) = refl
-op_same (OpSequence a) = refl
-op_same (OpTestStateid a) = refl
-op_same (OpDestroyClientId a) = refl
-op_same (OpReclaimComplete a) = refl
+op_same (Op.Access a) = refl
+op_same (Op.Close a) = refl
+op_same (Op.Commit a) = refl
+op_same (Op.Create a) = rw (types.same a.objtype) refl
+op_same (Op.GetAttr a) = refl
+op_same Op.GetFh = refl
+op_same (Op.Link a) = refl
+op_same (Op.Lock a) = rw (lockers.same a.locker) refl
+op_same (Op.LockT a) = refl
+op_same (Op.LockU a) = refl
+op_same (Op.Lookup a) = refl
+op_same Op.LookupP = refl
+op_same (Op.NVerify a) = refl
+op_same (Op.Open a) = rw (flags.same a.openhow, claims.same a.claim) refl
+op_same (Op.OpenDowngrade a) = refl
+op_same (Op.PutFh a) = refl
+op_same Op.PutPubFh = refl
+op_same Op.PutRootFh = refl
+op_same (Op.Read a) = refl
+op_same (Op.ReadDir a) = refl
+op_same Op.ReadLink = refl
+op_same (Op.Remove a) = refl
+op_same (Op.Rename a) = refl
+op_same Op.RestoreFh = refl
+op_same Op.SaveFh = refl
+op_same (Op.SetAttr a) = refl
+op_same (Op.Verify a) = refl
+op_same (Op.Write a) = refl
+op_same (Op.ExchangeId a) = rw (made.same a.impl_id) refl
+op_same (Op.CreateSession a) = rw (channels.same a.fore_chan_attrs, channels.same a.back_chan_attrs) refl
+op_same (Op.DestroySession a) = refl
+op_same (Op.FreeStateid a) = refl
+op_same (Op.SecinfoNoName a) = refl
+op_same (Op.Sequence a) = refl
+op_same (Op.TestStateid a) = refl
+op_same (Op.DestroyClientId a) = refl
+op_same (Op.ReclaimComplete a) = refl
 
 op_to : (x : Op) → FitsOp x → (nfs_argop4 x).Fits
 unfolding exchange_id_args create_session_args sequence_args open_args open_downgrade_args close_args lock_type lock_args lock_t_args lock_u_args commit_args read_args stable_how write_args set_attr_args create_args read_dir_args rename_args secinfo_style
-op_to (OpAccess a) fits = (tt, fits)
-op_to (OpClose a) (e, (seqid, held)) = (tt, (seqid, ids.to a.open_stateid held))
-op_to (OpCommit a) (e, fits) = (tt, fits)
-op_to (OpCreate a) (e, (t, (name, values))) = (tt, (types.to a.objtype t, (name, attrs.to a.createattrs values)))
-op_to (OpGetAttr a) fits = (tt, masks.to a fits)
-op_to OpGetFh fits = (tt, tt)
-op_to (OpLink a) fits = (tt, fits)
-op_to (OpLock a) (e, (k, (r, (o, (l, who))))) = (tt, (k, (r, (o, (l, lockers.to a.locker who)))))
-op_to (OpLockT a) (e, (k, (o, (l, owner)))) = (tt, (k, (o, (l, owners.to a.owner owner))))
-op_to (OpLockU a) (e, (k, (seqid, (held, range)))) = (tt, (k, (seqid, (ids.to a.lock_stateid held, range))))
-op_to (OpLookup a) fits = (tt, fits)
-op_to OpLookupP fits = (tt, tt)
-op_to (OpNVerify a) fits = (tt, attrs.to a fits)
-op_to (OpOpen a) (e, (seqid, (access, (deny, (owner, (how, claim)))))) =
+op_to (Op.Access a) fits = (tt, fits)
+op_to (Op.Close a) (e, (seqid, held)) = (tt, (seqid, ids.to a.open_stateid held))
+op_to (Op.Commit a) (e, fits) = (tt, fits)
+op_to (Op.Create a) (e, (t, (name, values))) = (tt, (types.to a.objtype t, (name, attrs.to a.createattrs values)))
+op_to (Op.GetAttr a) fits = (tt, masks.to a fits)
+op_to Op.GetFh fits = (tt, tt)
+op_to (Op.Link a) fits = (tt, fits)
+op_to (Op.Lock a) (e, (k, (r, (o, (l, who))))) = (tt, (k, (r, (o, (l, lockers.to a.locker who)))))
+op_to (Op.LockT a) (e, (k, (o, (l, owner)))) = (tt, (k, (o, (l, owners.to a.owner owner))))
+op_to (Op.LockU a) (e, (k, (seqid, (held, range)))) = (tt, (k, (seqid, (ids.to a.lock_stateid held, range))))
+op_to (Op.Lookup a) fits = (tt, fits)
+op_to Op.LookupP fits = (tt, tt)
+op_to (Op.NVerify a) fits = (tt, attrs.to a fits)
+op_to (Op.Open a) (e, (seqid, (access, (deny, (owner, (how, claim)))))) =
     (tt, (seqid, (access, (deny, (owners.to a.owner owner, (flags.to a.openhow how, claims.to a.claim claim))))))
-op_to (OpOpenDowngrade a) (e, (held, fits)) = (tt, (ids.to a.open_stateid held, fits))
-op_to (OpPutFh a) fits = (tt, fits)
-op_to OpPutPubFh fits = (tt, tt)
-op_to OpPutRootFh fits = (tt, tt)
-op_to (OpRead a) (e, (held, fits)) = (tt, (ids.to a.stateid held, fits))
-op_to (OpReadDir a) (e, (cookie, (verf, (dirs, (size, mask))))) = (tt, (cookie, (verf, (dirs, (size, masks.to a.attr_request mask)))))
-op_to OpReadLink fits = (tt, tt)
-op_to (OpRemove a) fits = (tt, fits)
-op_to (OpRename a) (e, fits) = (tt, fits)
-op_to OpRestoreFh fits = (tt, tt)
-op_to OpSaveFh fits = (tt, tt)
-op_to (OpSetAttr a) (e, (held, values)) = (tt, (ids.to a.stateid held, attrs.to a.obj_attributes values))
-op_to (OpVerify a) fits = (tt, attrs.to a fits)
-op_to (OpWrite a) (e, (held, fits)) = (tt, (ids.to a.stateid held, fits))
-op_to (OpExchangeId a) (e, (verf, (owner, (f, impl)))) = (tt, (verf, (owner, (f, (tt, made.to a.impl_id impl)))))
-op_to (OpCreateSession a) (e, (client, (seq, (f, (fore, (back, (program, ps))))))) = (
+op_to (Op.OpenDowngrade a) (e, (held, fits)) = (tt, (ids.to a.open_stateid held, fits))
+op_to (Op.PutFh a) fits = (tt, fits)
+op_to Op.PutPubFh fits = (tt, tt)
+op_to Op.PutRootFh fits = (tt, tt)
+op_to (Op.Read a) (e, (held, fits)) = (tt, (ids.to a.stateid held, fits))
+op_to (Op.ReadDir a) (e, (cookie, (verf, (dirs, (size, mask))))) = (tt, (cookie, (verf, (dirs, (size, masks.to a.attr_request mask)))))
+op_to Op.ReadLink fits = (tt, tt)
+op_to (Op.Remove a) fits = (tt, fits)
+op_to (Op.Rename a) (e, fits) = (tt, fits)
+op_to Op.RestoreFh fits = (tt, tt)
+op_to Op.SaveFh fits = (tt, tt)
+op_to (Op.SetAttr a) (e, (held, values)) = (tt, (ids.to a.stateid held, attrs.to a.obj_attributes values))
+op_to (Op.Verify a) fits = (tt, attrs.to a fits)
+op_to (Op.Write a) (e, (held, fits)) = (tt, (ids.to a.stateid held, fits))
+op_to (Op.ExchangeId a) (e, (verf, (owner, (f, impl)))) = (tt, (verf, (owner, (f, (tt, made.to a.impl_id impl)))))
+op_to (Op.CreateSession a) (e, (client, (seq, (f, (fore, (back, (program, ps))))))) = (
   tt,
   (client, (seq, (f, (channels.to a.fore_chan_attrs fore, (channels.to a.back_chan_attrs back, (program, all_parms.to a.sec_parms ps)))))),
 )
-op_to (OpDestroySession a) fits = (tt, fits)
-op_to (OpFreeStateid a) fits = (tt, ids.to a fits)
-op_to (OpSecinfoNoName a) fits = (tt, tt)
-op_to (OpSequence a) (e, fits) = (tt, fits)
-op_to (OpTestStateid a) fits = (tt, id_lists.to a fits)
-op_to (OpDestroyClientId a) fits = (tt, fits)
-op_to (OpReclaimComplete a) fits = (tt, tt)
+op_to (Op.DestroySession a) fits = (tt, fits)
+op_to (Op.FreeStateid a) fits = (tt, ids.to a fits)
+op_to (Op.SecinfoNoName a) fits = (tt, tt)
+op_to (Op.Sequence a) (e, fits) = (tt, fits)
+op_to (Op.TestStateid a) fits = (tt, id_lists.to a fits)
+op_to (Op.DestroyClientId a) fits = (tt, fits)
+op_to (Op.ReclaimComplete a) fits = (tt, tt)
 
 op_from : (x : Op) → (nfs_argop4 x).Fits → FitsOp x
 unfolding exchange_id_args create_session_args sequence_args open_args open_downgrade_args close_args lock_type lock_args lock_t_args lock_u_args commit_args read_args stable_how write_args set_attr_args create_args read_dir_args rename_args secinfo_style
-op_from (OpAccess a) (u, fits) = fits
-op_from (OpClose a) (u, (seqid, held)) = (refl, (seqid, ids.from a.open_stateid held))
-op_from (OpCommit a) (u, fits) = (refl, fits)
-op_from (OpCreate a) (u, (t, (name, values))) = (refl, (types.from a.objtype t, (name, attrs.from a.createattrs values)))
-op_from (OpGetAttr a) (u, fits) = masks.from a fits
-op_from OpGetFh fits = refl
-op_from (OpLink a) (u, fits) = fits
-op_from (OpLock a) (u, (k, (r, (o, (l, who))))) = (refl, (k, (r, (o, (l, lockers.from a.locker who)))))
-op_from (OpLockT a) (u, (k, (o, (l, owner)))) = (refl, (k, (o, (l, owners.from a.owner owner))))
-op_from (OpLockU a) (u, (k, (seqid, (held, range)))) = (refl, (k, (seqid, (ids.from a.lock_stateid held, range))))
-op_from (OpLookup a) (u, fits) = fits
-op_from OpLookupP fits = refl
-op_from (OpNVerify a) (u, fits) = attrs.from a fits
-op_from (OpOpen a) (u, (seqid, (access, (deny, (owner, (how, claim)))))) =
+op_from (Op.Access a) (u, fits) = fits
+op_from (Op.Close a) (u, (seqid, held)) = (refl, (seqid, ids.from a.open_stateid held))
+op_from (Op.Commit a) (u, fits) = (refl, fits)
+op_from (Op.Create a) (u, (t, (name, values))) = (refl, (types.from a.objtype t, (name, attrs.from a.createattrs values)))
+op_from (Op.GetAttr a) (u, fits) = masks.from a fits
+op_from Op.GetFh fits = refl
+op_from (Op.Link a) (u, fits) = fits
+op_from (Op.Lock a) (u, (k, (r, (o, (l, who))))) = (refl, (k, (r, (o, (l, lockers.from a.locker who)))))
+op_from (Op.LockT a) (u, (k, (o, (l, owner)))) = (refl, (k, (o, (l, owners.from a.owner owner))))
+op_from (Op.LockU a) (u, (k, (seqid, (held, range)))) = (refl, (k, (seqid, (ids.from a.lock_stateid held, range))))
+op_from (Op.Lookup a) (u, fits) = fits
+op_from Op.LookupP fits = refl
+op_from (Op.NVerify a) (u, fits) = attrs.from a fits
+op_from (Op.Open a) (u, (seqid, (access, (deny, (owner, (how, claim)))))) =
     (refl, (seqid, (access, (deny, (owners.from a.owner owner, (flags.from a.openhow how, claims.from a.claim claim))))))
-op_from (OpOpenDowngrade a) (u, (held, fits)) = (refl, (ids.from a.open_stateid held, fits))
-op_from (OpPutFh a) (u, fits) = fits
-op_from OpPutPubFh fits = refl
-op_from OpPutRootFh fits = refl
-op_from (OpRead a) (u, (held, fits)) = (refl, (ids.from a.stateid held, fits))
-op_from (OpReadDir a) (u, (cookie, (verf, (dirs, (size, mask))))) = (refl, (cookie, (verf, (dirs, (size, masks.from a.attr_request mask)))))
-op_from OpReadLink fits = refl
-op_from (OpRemove a) (u, fits) = fits
-op_from (OpRename a) (u, fits) = (refl, fits)
-op_from OpRestoreFh fits = refl
-op_from OpSaveFh fits = refl
-op_from (OpSetAttr a) (u, (held, values)) = (refl, (ids.from a.stateid held, attrs.from a.obj_attributes values))
-op_from (OpVerify a) (u, fits) = attrs.from a fits
-op_from (OpWrite a) (u, (held, fits)) = (refl, (ids.from a.stateid held, fits))
-op_from (OpExchangeId a) (u, (verf, (owner, (f, (none, impl))))) = (refl, (verf, (owner, (f, made.from a.impl_id impl))))
-op_from (OpCreateSession a) (u, (client, (seq, (f, (fore, (back, (program, ps))))))) = (
+op_from (Op.OpenDowngrade a) (u, (held, fits)) = (refl, (ids.from a.open_stateid held, fits))
+op_from (Op.PutFh a) (u, fits) = fits
+op_from Op.PutPubFh fits = refl
+op_from Op.PutRootFh fits = refl
+op_from (Op.Read a) (u, (held, fits)) = (refl, (ids.from a.stateid held, fits))
+op_from (Op.ReadDir a) (u, (cookie, (verf, (dirs, (size, mask))))) = (refl, (cookie, (verf, (dirs, (size, masks.from a.attr_request mask)))))
+op_from Op.ReadLink fits = refl
+op_from (Op.Remove a) (u, fits) = fits
+op_from (Op.Rename a) (u, fits) = (refl, fits)
+op_from Op.RestoreFh fits = refl
+op_from Op.SaveFh fits = refl
+op_from (Op.SetAttr a) (u, (held, values)) = (refl, (ids.from a.stateid held, attrs.from a.obj_attributes values))
+op_from (Op.Verify a) (u, fits) = attrs.from a fits
+op_from (Op.Write a) (u, (held, fits)) = (refl, (ids.from a.stateid held, fits))
+op_from (Op.ExchangeId a) (u, (verf, (owner, (f, (none, impl))))) = (refl, (verf, (owner, (f, made.from a.impl_id impl))))
+op_from (Op.CreateSession a) (u, (client, (seq, (f, (fore, (back, (program, ps))))))) = (
   refl,
   (client, (seq, (f, (channels.from a.fore_chan_attrs fore, (channels.from a.back_chan_attrs back, (program, all_parms.from a.sec_parms ps)))))),
 )
-op_from (OpDestroySession a) (u, fits) = fits
-op_from (OpFreeStateid a) (u, fits) = ids.from a fits
-op_from (OpSecinfoNoName a) fits = tt
-op_from (OpSequence a) (u, fits) = (refl, fits)
-op_from (OpTestStateid a) (u, fits) = id_lists.from a fits
-op_from (OpDestroyClientId a) (u, fits) = fits
-op_from (OpReclaimComplete a) fits = tt
+op_from (Op.DestroySession a) (u, fits) = fits
+op_from (Op.FreeStateid a) (u, fits) = ids.from a fits
+op_from (Op.SecinfoNoName a) fits = tt
+op_from (Op.Sequence a) (u, fits) = (refl, fits)
+op_from (Op.TestStateid a) (u, fits) = id_lists.from a fits
+op_from (Op.DestroyClientId a) (u, fits) = fits
+op_from (Op.ReclaimComplete a) fits = tt
 
 pub ops : Spells op_codec nfs_argop4
 ops = record { same = op_same; to = op_to; from = op_from }

@@ -1,5 +1,5 @@
--- How the arguments of operations are spelled and read, and what the code's values of them say (RFC 5662).
-use Rattle.std.specs.Prelude.{ℕ, List, map, [], ◌∷◌, ◌++◌, Option, ◌≢◌, ◌<◌, ◌^◌, ◌==◌, ◌||◌, Some, None}
+-- How the arguments of operations are spelled and read (RFC 5662).
+use Rattle.std.specs.Prelude.{ℕ, List, [], ◌∷◌, ◌++◌, Option, ◌≢◌, ◌<◌, ◌^◌, ◌==◌, ◌||◌}
 use Rattle.std.specs.Int.{w32, from_be_bytes}
 use Rattle.nfs_xdr.specs.Codec.{Codec, number, unbounded, ◌then◌, as_type, pieces, array, union, arm, bare, hyper, flag, opaque, only, led_by}
 use Rattle.nfs_xdr.specs.AuthSys.{auth_sys}
@@ -7,45 +7,41 @@ use Rattle.nfs_xdr.specs.Spelling as spelling
 use Rattle.nfs_xdr.specs.Combinators.{raw, listed, fixed, union_or, optional}
 use Rattle.nfs_xdr.specs.Time.{time}
 use Rattle.nfs_xdr.specs.Limits.{opaque_limit}
-use Rattle.nfs_compound.specs.Attributes.{Attributes}
-use Rattle.nfs_compound.specs.declared.attributes.Bitmap as rust_bitmap
-use Rattle.nfs_compound.specs.declared.attributes.Attributes as rust_attributes
+use Rattle.nfs_compound.specs.declared.attributes.Attributes.{Attributes}
 use Rattle.nfs_compound.specs.Callback.{GssHandles, SecParms, AuthNone, Sys, RpcsecGss}
-use Rattle.nfs_compound.specs.FileArgs.{stable_how_number, Write, SetAttr}
+use Rattle.nfs_compound.specs.FileArgs.{stable_how_number}
+use Rattle.nfs_compound.specs.declared.file_args.Write.{Write}
+use Rattle.nfs_compound.specs.declared.file_args.SetAttr.{SetAttr}
 use Rattle.nfs_compound.specs.declared.file_args.Commit.{Commit}
 use Rattle.nfs_compound.specs.declared.file_args.Read.{Read}
 use Rattle.nfs_compound.specs.declared.file_args.StableHow.{StableHow}
 use Rattle.nfs_compound.specs.declared.file_args.StableHow.TheVariants as StableHows
-use Rattle.nfs_compound.specs.declared.file_args.Write as rust_write
-use Rattle.nfs_compound.specs.declared.file_args.SetAttr as rust_set_attr
 use Rattle.nfs_compound.specs.Stateid.{stateid}
-use Rattle.nfs_compound.specs.NameArgs.{CreateType, Block, Character, Symlink, Other, Create, ReadDir, Rename, secinfo_style_number}
+use Rattle.nfs_compound.specs.NameArgs.{secinfo_style_number}
+use Rattle.nfs_compound.specs.declared.name_args.CreateType.{CreateType}
+use Rattle.nfs_compound.specs.declared.name_args.CreateType.TheVariants.{Block, Character, Symlink, Other}
+use Rattle.nfs_compound.specs.declared.name_args.Create.{Create}
+use Rattle.nfs_compound.specs.declared.name_args.ReadDir.{ReadDir}
+use Rattle.nfs_compound.specs.declared.name_args.Rename.{Rename}
 use Rattle.nfs_compound.specs.declared.name_args.SpecData.{SpecData}
-use Rattle.nfs_compound.specs.declared.name_args.CreateType as rust_create_type
-use Rattle.nfs_compound.specs.declared.name_args.CreateType.TheVariants as CreateTypes
-use Rattle.nfs_compound.specs.declared.name_args.Create as rust_create
-use Rattle.nfs_compound.specs.declared.name_args.ReadDir as rust_read_dir
-use Rattle.nfs_compound.specs.declared.name_args.Rename as rust_rename
 use Rattle.nfs_compound.specs.declared.name_args.SecinfoStyle.{SecinfoStyle}
 use Rattle.nfs_compound.specs.declared.name_args.SecinfoStyle.TheVariants as SecinfoStyles
-use Rattle.nfs_compound.specs.LockArgs.{lock_type_number, OpenToLockOwner, Locker, OpenOwner, LockOwner, Lock, LockT}
+use Rattle.nfs_compound.specs.LockArgs.{lock_type_number}
+use Rattle.nfs_compound.specs.declared.lock_args.OpenToLockOwner.{OpenToLockOwner}
+use Rattle.nfs_compound.specs.declared.lock_args.Locker.{Locker}
+use Rattle.nfs_compound.specs.declared.lock_args.Locker.TheVariants.{OpenOwner, LockOwner}
+use Rattle.nfs_compound.specs.declared.lock_args.Lock.{Lock}
+use Rattle.nfs_compound.specs.declared.lock_args.LockT.{LockT}
 use Rattle.nfs_compound.specs.declared.lock_args.LockType.{LockType}
 use Rattle.nfs_compound.specs.declared.lock_args.LockType.TheVariants as LockTypes
 use Rattle.nfs_compound.specs.declared.lock_args.ExistLockOwner.{ExistLockOwner}
 use Rattle.nfs_compound.specs.StateOwner.{state_owner}
-use Rattle.nfs_compound.specs.declared.lock_args.OpenToLockOwner as rust_open_to_lock_owner
-use Rattle.nfs_compound.specs.declared.lock_args.Locker as rust_locker
-use Rattle.nfs_compound.specs.declared.lock_args.Locker.TheVariants as Lockers
-use Rattle.nfs_compound.specs.declared.lock_args.Lock as rust_lock
-use Rattle.nfs_compound.specs.declared.lock_args.LockT as rust_lock_t
 use Rattle.nfs_compound.specs.declared.lock_args.LockU.{LockU}
-use Rattle.nfs_compound.specs.StateOwner as StateOwner
-use Rattle.nfs_compound.specs.SessionArgs.{ImplId, ExchangeId, CreateSession}
+use Rattle.nfs_compound.specs.declared.session_args.ImplId.{ImplId}
+use Rattle.nfs_compound.specs.declared.session_args.ExchangeId.{ExchangeId}
+use Rattle.nfs_compound.specs.declared.session_args.CreateSession.{CreateSession}
 use Rattle.nfs_compound.specs.declared.session_args.Sequence.{Sequence}
 use Rattle.nfs_compound.specs.ChannelAttrs.{channel_attrs}
-use Rattle.nfs_compound.specs.declared.session_args.ImplId as rust_impl_id
-use Rattle.nfs_compound.specs.declared.session_args.ExchangeId as rust_exchange_id
-use Rattle.nfs_compound.specs.declared.session_args.CreateSession as rust_create_session
 
 -- the words of a mask; bit i of word w is attribute 32 w + i
 unfoldable pub bitmap : Codec (List ℕ)
@@ -53,12 +49,6 @@ bitmap = pieces 4 (from_be_bytes w32) number
 
 unfoldable pub attributes : Codec Attributes
 attributes = as_type (λ (attrmask, attr_vals). record { attrmask = attrmask; attr_vals = attr_vals }) (λ a. (a.attrmask, a.attr_vals)) (bitmap then unbounded)
-
-abbrev pub view_bitmap : rust_bitmap.Bitmap → List ℕ
-view_bitmap b = map (from_be_bytes w32) b.words.now
-
-abbrev pub view_attributes : rust_attributes.Attributes → Attributes
-view_attributes a = record { attrmask = view_bitmap a.attrmask; attr_vals = a.attr_vals.now }
 
 unfoldable pub gss_handles : Codec GssHandles
 gss_handles = as_type
@@ -117,12 +107,6 @@ unfoldable pub set_attr_args : Codec SetAttr
 set_attr_args = as_type (λ (held, obj_attributes). record { stateid = held; obj_attributes = obj_attributes })
     (λ s. (s.stateid, s.obj_attributes)) (stateid then attributes)
 
-abbrev pub view_write : rust_write.Write → Write
-view_write w = record { stateid = w.stateid; offset = w.offset; stable = w.stable; bytes = w.bytes.now }
-
-abbrev pub view_set_attr : rust_set_attr.SetAttr → SetAttr
-view_set_attr s = record { stateid = s.stateid; obj_attributes = view_attributes s.obj_attributes }
-
 unfoldable pub spec_data : Codec SpecData
 spec_data = as_type (λ (specdata1, specdata2). record { specdata1 = specdata1; specdata2 = specdata2 }) (λ d. (d.specdata1, d.specdata2)) (number then number)
 
@@ -174,27 +158,6 @@ secinfo_styles = SecinfoStyles.CurrentFh ∷ SecinfoStyles.Parent ∷ []
 
 unfoldable pub secinfo_style : Codec SecinfoStyle
 secinfo_style = listed secinfo_style_number secinfo_styles
-
-abbrev pub view_create_type : rust_create_type.CreateType → CreateType
-view_create_type (CreateTypes.Block d) = Block d
-view_create_type (CreateTypes.Character d) = Character d
-view_create_type (CreateTypes.Symlink linkdata) = Symlink linkdata.now
-view_create_type (CreateTypes.Other objtype) = Other objtype
-
-abbrev pub view_create : rust_create.Create → Create
-view_create c = record { objtype = view_create_type c.objtype; objname = c.objname.now; createattrs = view_attributes c.createattrs }
-
-abbrev pub view_read_dir : rust_read_dir.ReadDir → ReadDir
-view_read_dir r = record {
-  cookie = r.cookie;
-  cookieverf = r.cookieverf;
-  dircount = r.dircount;
-  maxcount = r.maxcount;
-  attr_request = view_bitmap r.attr_request;
-}
-
-abbrev pub view_rename : rust_rename.Rename → Rename
-view_rename r = record { oldname = r.oldname.now; newname = r.newname.now }
 
 abbrev pub lock_types : List LockType
 lock_types = LockTypes.Read ∷ LockTypes.Write ∷ LockTypes.ReadW ∷ LockTypes.WriteW ∷ []
@@ -255,24 +218,6 @@ lock_u_args = as_type
     (λ l. (l.locktype, (l.seqid, (l.lock_stateid, (l.offset, l.length)))))
     (lock_type then number then stateid then hyper then hyper)
 
-abbrev pub view_open_to_lock_owner : rust_open_to_lock_owner.OpenToLockOwner → OpenToLockOwner
-view_open_to_lock_owner o = record {
-  open_seqid = o.open_seqid;
-  open_stateid = o.open_stateid;
-  lock_seqid = o.lock_seqid;
-  lock_owner = StateOwner.view o.lock_owner;
-}
-
-abbrev pub view_locker : rust_locker.Locker → Locker
-view_locker (Lockers.OpenOwner o) = OpenOwner (view_open_to_lock_owner o)
-view_locker (Lockers.LockOwner o) = LockOwner o
-
-abbrev pub view_lock : rust_lock.Lock → Lock
-view_lock l = record { locktype = l.locktype; reclaim = l.reclaim; offset = l.offset; length = l.length; locker = view_locker l.locker }
-
-abbrev pub view_lock_t : rust_lock_t.LockT → LockT
-view_lock_t l = record { locktype = l.locktype; offset = l.offset; length = l.length; owner = StateOwner.view l.owner }
-
 unfoldable pub impl_id : Codec ImplId
 impl_id = as_type (λ (domain, (name, date)). record { domain = domain; name = name; date = date })
     (λ i. (i.domain, (i.name, i.date))) (unbounded then unbounded then time)
@@ -312,24 +257,3 @@ sequence_args = as_type
     })
     (λ s. (s.sessionid, (s.sequenceid, (s.slotid, (s.highest_slotid, s.cachethis)))))
     (fixed 16 then number then number then number then flag)
-
-abbrev pub view_impl_id : rust_impl_id.ImplId → ImplId
-view_impl_id i = record { domain = i.domain.now; name = i.name.now; date = i.date }
-
-abbrev pub view_optional_impl_id : Option rust_impl_id.ImplId → Option ImplId
-view_optional_impl_id None = None
-view_optional_impl_id (Some i) = Some (view_impl_id i)
-
-abbrev pub view_exchange_id : rust_exchange_id.ExchangeId → ExchangeId
-view_exchange_id e = record { verifier = e.verifier; ownerid = e.ownerid.now; flags = e.flags; impl_id = view_optional_impl_id e.impl_id }
-
-abbrev pub view_create_session : rust_create_session.CreateSession → CreateSession
-view_create_session a = record {
-  clientid = a.clientid;
-  sequence = a.sequence;
-  flags = a.flags;
-  fore_chan_attrs = a.fore_chan_attrs;
-  back_chan_attrs = a.back_chan_attrs;
-  cb_program = a.cb_program;
-  sec_parms = a.sec_parms.now;
-}

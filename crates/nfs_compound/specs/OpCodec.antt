@@ -7,57 +7,56 @@ use Rattle.nfs_xdr.specs.declared.status.Status.{Status}
 use Rattle.nfs_xdr.specs.declared.status.Status.TheVariants.{Inval, NotSupp, BadXdr, OpIllegal}
 use Rattle.nfs_compound.specs.Request.{spell_op, FitsOp}
 use Rattle.nfs_compound.specs.declared.op_num.OpNum.{OpNum}
-use Rattle.nfs_compound.specs.declared.op_num.OpNum.TheVariants as Ops
+use Rattle.nfs_compound.specs.declared.op_num.OpNum.TheVariants as Num
 use Rattle.nfs_compound.specs.OpNum.{op_number, op_nums, op_num, first_op, last_op, op_illegal}
 use Rattle.nfs_compound.specs.Stateid.{stateid, stateids}
 use Rattle.nfs_compound.specs.ArgCodecs.{bitmap, attributes, lock_args, lock_t_args, lock_u_args, commit_args, read_args, write_args, set_attr_args}
 use Rattle.nfs_compound.specs.ArgCodecs.{create_args, read_dir_args, rename_args, secinfo_style, exchange_id_args, protected, create_session_args}
 use Rattle.nfs_compound.specs.ArgCodecs.{sequence_args}
 use Rattle.nfs_compound.specs.OpenCodecs.{open_args, open_downgrade_args, close_args}
-use Rattle.nfs_compound.specs.Operation.{Op, Item, Fault, OpAccess, OpClose, OpCommit, OpCreate, OpGetAttr, OpGetFh, OpLink, OpLock, OpLockT, OpLockU, OpLookup}
-use Rattle.nfs_compound.specs.Operation.{OpLookupP, OpNVerify, OpOpen, OpOpenDowngrade, OpPutFh, OpPutPubFh, OpPutRootFh, OpRead, OpReadDir, OpReadLink}
-use Rattle.nfs_compound.specs.Operation.{OpRemove, OpRename, OpRestoreFh, OpSaveFh, OpSetAttr, OpVerify, OpWrite, OpExchangeId, OpCreateSession}
-use Rattle.nfs_compound.specs.Operation.{OpDestroySession, OpFreeStateid, OpSecinfoNoName, OpSequence, OpTestStateid, OpDestroyClientId, OpReclaimComplete}
+use Rattle.nfs_compound.specs.declared.op.Op.{Op}
+use Rattle.nfs_compound.specs.declared.op.Item.{Item}
+use Rattle.nfs_compound.specs.declared.op.Item.TheVariants.{Fault}
 
 -- The same, read behind the number.
 unfoldable pub op_at : OpNum → List ℕ → Option (Op × List ℕ)
-op_at Ops.Access bytes = arm OpAccess number bytes
-op_at Ops.Close bytes = arm OpClose close_args bytes
-op_at Ops.Commit bytes = arm OpCommit commit_args bytes
-op_at Ops.Create bytes = arm OpCreate create_args bytes
-op_at Ops.GetAttr bytes = arm OpGetAttr bitmap bytes
-op_at Ops.GetFh bytes = bare OpGetFh bytes
-op_at Ops.Link bytes = arm OpLink unbounded bytes
-op_at Ops.Lock bytes = arm OpLock lock_args bytes
-op_at Ops.LockT bytes = arm OpLockT lock_t_args bytes
-op_at Ops.LockU bytes = arm OpLockU lock_u_args bytes
-op_at Ops.Lookup bytes = arm OpLookup unbounded bytes
-op_at Ops.LookupP bytes = bare OpLookupP bytes
-op_at Ops.NVerify bytes = arm OpNVerify attributes bytes
-op_at Ops.Open bytes = arm OpOpen open_args bytes
-op_at Ops.OpenDowngrade bytes = arm OpOpenDowngrade open_downgrade_args bytes
-op_at Ops.PutFh bytes = arm OpPutFh (opaque fhsize) bytes
-op_at Ops.PutPubFh bytes = bare OpPutPubFh bytes
-op_at Ops.PutRootFh bytes = bare OpPutRootFh bytes
-op_at Ops.Read bytes = arm OpRead read_args bytes
-op_at Ops.ReadDir bytes = arm OpReadDir read_dir_args bytes
-op_at Ops.ReadLink bytes = bare OpReadLink bytes
-op_at Ops.Remove bytes = arm OpRemove unbounded bytes
-op_at Ops.Rename bytes = arm OpRename rename_args bytes
-op_at Ops.RestoreFh bytes = bare OpRestoreFh bytes
-op_at Ops.SaveFh bytes = bare OpSaveFh bytes
-op_at Ops.SetAttr bytes = arm OpSetAttr set_attr_args bytes
-op_at Ops.Verify bytes = arm OpVerify attributes bytes
-op_at Ops.Write bytes = arm OpWrite write_args bytes
-op_at Ops.ExchangeId bytes = arm OpExchangeId exchange_id_args bytes
-op_at Ops.CreateSession bytes = arm OpCreateSession create_session_args bytes
-op_at Ops.DestroySession bytes = arm OpDestroySession (fixed 16) bytes
-op_at Ops.FreeStateid bytes = arm OpFreeStateid stateid bytes
-op_at Ops.SecinfoNoName bytes = arm OpSecinfoNoName secinfo_style bytes
-op_at Ops.Sequence bytes = arm OpSequence sequence_args bytes
-op_at Ops.TestStateid bytes = arm OpTestStateid stateids bytes
-op_at Ops.DestroyClientId bytes = arm OpDestroyClientId hyper bytes
-op_at Ops.ReclaimComplete bytes = arm OpReclaimComplete flag bytes
+op_at Num.Access bytes = arm Op.Access number bytes
+op_at Num.Close bytes = arm Op.Close close_args bytes
+op_at Num.Commit bytes = arm Op.Commit commit_args bytes
+op_at Num.Create bytes = arm Op.Create create_args bytes
+op_at Num.GetAttr bytes = arm Op.GetAttr bitmap bytes
+op_at Num.GetFh bytes = bare Op.GetFh bytes
+op_at Num.Link bytes = arm Op.Link unbounded bytes
+op_at Num.Lock bytes = arm Op.Lock lock_args bytes
+op_at Num.LockT bytes = arm Op.LockT lock_t_args bytes
+op_at Num.LockU bytes = arm Op.LockU lock_u_args bytes
+op_at Num.Lookup bytes = arm Op.Lookup unbounded bytes
+op_at Num.LookupP bytes = bare Op.LookupP bytes
+op_at Num.NVerify bytes = arm Op.NVerify attributes bytes
+op_at Num.Open bytes = arm Op.Open open_args bytes
+op_at Num.OpenDowngrade bytes = arm Op.OpenDowngrade open_downgrade_args bytes
+op_at Num.PutFh bytes = arm Op.PutFh (opaque fhsize) bytes
+op_at Num.PutPubFh bytes = bare Op.PutPubFh bytes
+op_at Num.PutRootFh bytes = bare Op.PutRootFh bytes
+op_at Num.Read bytes = arm Op.Read read_args bytes
+op_at Num.ReadDir bytes = arm Op.ReadDir read_dir_args bytes
+op_at Num.ReadLink bytes = bare Op.ReadLink bytes
+op_at Num.Remove bytes = arm Op.Remove unbounded bytes
+op_at Num.Rename bytes = arm Op.Rename rename_args bytes
+op_at Num.RestoreFh bytes = bare Op.RestoreFh bytes
+op_at Num.SaveFh bytes = bare Op.SaveFh bytes
+op_at Num.SetAttr bytes = arm Op.SetAttr set_attr_args bytes
+op_at Num.Verify bytes = arm Op.Verify attributes bytes
+op_at Num.Write bytes = arm Op.Write write_args bytes
+op_at Num.ExchangeId bytes = arm Op.ExchangeId exchange_id_args bytes
+op_at Num.CreateSession bytes = arm Op.CreateSession create_session_args bytes
+op_at Num.DestroySession bytes = arm Op.DestroySession (fixed 16) bytes
+op_at Num.FreeStateid bytes = arm Op.FreeStateid stateid bytes
+op_at Num.SecinfoNoName bytes = arm Op.SecinfoNoName secinfo_style bytes
+op_at Num.Sequence bytes = arm Op.Sequence sequence_args bytes
+op_at Num.TestStateid bytes = arm Op.TestStateid stateids bytes
+op_at Num.DestroyClientId bytes = arm Op.DestroyClientId hyper bytes
+op_at Num.ReclaimComplete bytes = arm Op.ReclaimComplete flag bytes
 
 abbrev pub op_codec : Codec Op
 op_codec = union_by op_number op_nums spell_op FitsOp op_at
@@ -72,7 +71,7 @@ protected_at bytes = protected.read bytes
 
 -- Why arguments are refused: EXCHANGE_ID may want a state protection that is not served.
 abbrev pub flaw : OpNum → List ℕ → Status
-flaw Ops.ExchangeId bytes = if is_some (protected.read bytes) then Inval else BadXdr
+flaw Num.ExchangeId bytes = if is_some (protected.read bytes) then Inval else BadXdr
 flaw op bytes = BadXdr
 
 -- The fault of a number, with these bytes behind it, where no operation that is read stands. RFC 8881 has the operations

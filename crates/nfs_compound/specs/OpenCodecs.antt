@@ -1,25 +1,24 @@
--- How the arguments of OPEN, OPEN_DOWNGRADE and CLOSE are spelled and read, and what the code's values of them say (RFC 5662).
+-- How the arguments of OPEN, OPEN_DOWNGRADE and CLOSE are spelled and read (RFC 5662).
 use Rattle.std.specs.Prelude.{ℕ, List, [], ◌∷◌, ◌++◌, Option}
 use Rattle.nfs_xdr.specs.Spelling as spelling
 use Rattle.nfs_xdr.specs.Codec.{Codec, ◌then◌, union, arm, bare, number, unbounded, as_type}
 use Rattle.nfs_xdr.specs.Combinators.{fixed, listed}
-use Rattle.nfs_compound.specs.OpenArgs.{CreateHow, Unchecked, Guarded, Exclusive, Exclusive41, OpenHow, NoCreate, Create, delegation_number, OpenClaim, Null}
-use Rattle.nfs_compound.specs.OpenArgs.{Previous, DelegateCur, DelegatePrev, Fh, DelegCurFh, DelegPrevFh, Open}
-use Rattle.nfs_compound.specs.ArgCodecs.{attributes, view_attributes}
+use Rattle.nfs_compound.specs.OpenArgs.{delegation_number}
+use Rattle.nfs_compound.specs.declared.open_args.CreateHow.{CreateHow}
+use Rattle.nfs_compound.specs.declared.open_args.CreateHow.TheVariants.{Unchecked, Guarded, Exclusive, Exclusive41}
+use Rattle.nfs_compound.specs.declared.open_args.OpenHow.{OpenHow}
+use Rattle.nfs_compound.specs.declared.open_args.OpenHow.TheVariants.{NoCreate, Create}
+use Rattle.nfs_compound.specs.declared.open_args.OpenClaim.{OpenClaim}
+use Rattle.nfs_compound.specs.declared.open_args.OpenClaim.TheVariants.{Null}
+use Rattle.nfs_compound.specs.declared.open_args.OpenClaim.TheVariants.{Previous, DelegateCur, DelegatePrev, Fh, DelegCurFh, DelegPrevFh}
+use Rattle.nfs_compound.specs.declared.open_args.Open.{Open}
+use Rattle.nfs_compound.specs.ArgCodecs.{attributes}
 use Rattle.nfs_compound.specs.declared.open_args.DelegationType.{DelegationType}
 use Rattle.nfs_compound.specs.declared.open_args.DelegationType.TheVariants as Delegations
 use Rattle.nfs_compound.specs.Stateid.{stateid}
 use Rattle.nfs_compound.specs.StateOwner.{state_owner}
-use Rattle.nfs_compound.specs.declared.open_args.CreateHow as rust_create_how
-use Rattle.nfs_compound.specs.declared.open_args.CreateHow.TheVariants as CreateHows
-use Rattle.nfs_compound.specs.declared.open_args.OpenHow as rust_open_how
-use Rattle.nfs_compound.specs.declared.open_args.OpenHow.TheVariants as OpenHows
-use Rattle.nfs_compound.specs.declared.open_args.OpenClaim as rust_open_claim
-use Rattle.nfs_compound.specs.declared.open_args.OpenClaim.TheVariants as Claims
-use Rattle.nfs_compound.specs.declared.open_args.Open as rust_open
 use Rattle.nfs_compound.specs.declared.open_args.OpenDowngrade.{OpenDowngrade}
 use Rattle.nfs_compound.specs.declared.open_args.Close.{Close}
-use Rattle.nfs_compound.specs.StateOwner as StateOwner
 
 abbrev pub spell_create_how : CreateHow → List ℕ
 spell_create_how (Unchecked a) = spelling.number 0 ++ attributes.spell a
@@ -122,32 +121,3 @@ open_downgrade_args = as_type
 
 unfoldable pub close_args : Codec Close
 close_args = as_type (λ (seqid, open_stateid). record { seqid = seqid; open_stateid = open_stateid }) (λ c. (c.seqid, c.open_stateid)) (number then stateid)
-
-abbrev pub view_create_how : rust_create_how.CreateHow → CreateHow
-view_create_how (CreateHows.Unchecked a) = Unchecked (view_attributes a)
-view_create_how (CreateHows.Guarded a) = Guarded (view_attributes a)
-view_create_how (CreateHows.Exclusive v) = Exclusive v
-view_create_how (CreateHows.Exclusive41 v a) = Exclusive41 v (view_attributes a)
-
-abbrev pub view_open_how : rust_open_how.OpenHow → OpenHow
-view_open_how OpenHows.NoCreate = NoCreate
-view_open_how (OpenHows.Create how) = Create (view_create_how how)
-
-abbrev pub view_open_claim : rust_open_claim.OpenClaim → OpenClaim
-view_open_claim (Claims.Null file) = Null file.now
-view_open_claim (Claims.Previous delegate_type) = Previous delegate_type
-view_open_claim (Claims.DelegateCur s file) = DelegateCur s file.now
-view_open_claim (Claims.DelegatePrev file) = DelegatePrev file.now
-view_open_claim Claims.Fh = Fh
-view_open_claim (Claims.DelegCurFh s) = DelegCurFh s
-view_open_claim Claims.DelegPrevFh = DelegPrevFh
-
-abbrev pub view_open : rust_open.Open → Open
-view_open o = record {
-  seqid = o.seqid;
-  share_access = o.share_access;
-  share_deny = o.share_deny;
-  owner = StateOwner.view o.owner;
-  openhow = view_open_how o.openhow;
-  claim = view_open_claim o.claim;
-}

@@ -3,7 +3,9 @@
 use Rattle.std.specs.Prelude.{ℕ, zero, suc, ◌==◌, List, [], ◌∷◌, length, Option, Some, None, Bool, true, false, if◌then◌else◌}
 use Rattle.nfs_xdr.specs.Reading.{◌>>=◌, number_at, opaque_at}
 use Rattle.nfs_xdr.specs.Limits.{opaque_limit}
-use Rattle.nfs_compound.specs.Operation.{Op, Item, Operation, Fault}
+use Rattle.nfs_compound.specs.declared.op.Op.{Op}
+use Rattle.nfs_compound.specs.declared.op.Item.{Item}
+use Rattle.nfs_compound.specs.declared.op.Item.TheVariants.{Operation, Fault}
 use Rattle.nfs_compound.specs.OpNum.{op_num}
 use Rattle.nfs_compound.specs.OpCodec.{op_at, fault_at}
 use Rattle.nfs_compound.specs.Request.{Request}

@@ -6,7 +6,9 @@ use Rattle.nfs_xdr.specs.declared.status.Status.TheVariants.{Inval, NotSupp, Bad
 use Rattle.nfs_compound.specs.declared.op_num.OpNum.{OpNum}
 use Rattle.nfs_compound.specs.declared.op_num.OpNum.TheVariants.{ExchangeId}
 use Rattle.nfs_compound.specs.OpNum.{op_number, first_op, last_op, op_illegal}
-use Rattle.nfs_compound.specs.Operation.{Op, Item, Operation, Fault}
+use Rattle.nfs_compound.specs.declared.op.Op.{Op}
+use Rattle.nfs_compound.specs.declared.op.Item.{Item}
+use Rattle.nfs_compound.specs.declared.op.Item.TheVariants.{Operation, Fault}
 use Rattle.nfs_xdr.specs.Text.{uint32, opaque, Begins, Lacks}
 use Rattle.nfs_compound.specs.Wire.{protected4, nfs_argop4}
 use Rattle.nfs_compound.specs.Arguments.{arguments}

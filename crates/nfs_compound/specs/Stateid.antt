@@ -1,10 +1,9 @@
 -- Stateids (stateid4 of RFC 5662; RFC 8881 section 8.2.2).
-use Rattle.std.specs.Prelude.{ℕ, List, take, drop, map}
+use Rattle.std.specs.Prelude.{ℕ, List, take, drop}
 use Rattle.std.specs.Int.{w32, from_be_bytes}
 use Rattle.nfs_xdr.specs.Codec.{Codec, number, ◌then◌, as_type, pieces}
 use Rattle.nfs_xdr.specs.Combinators.{fixed}
 use Rattle.nfs_compound.specs.declared.stateid.Stateid.{Stateid}
-use Rattle.nfs_compound.specs.declared.stateid.Stateids as rust_stateids
 
 unfoldable pub stateid : Codec Stateid
 stateid = as_type (λ (seqid, other). record { seqid = seqid; other = other }) (λ s. (s.seqid, s.other)) (number then fixed 12)
@@ -15,6 +14,3 @@ stateid_of bytes = record { seqid = from_be_bytes w32 (take 4 bytes); other = ta
 
 unfoldable pub stateids : Codec (List Stateid)
 stateids = pieces 16 stateid_of stateid
-
-abbrev pub view_stateids : rust_stateids.Stateids → List Stateid
-view_stateids s = map stateid_of s.spelled.now

@@ -6,20 +6,26 @@ use Rattle.nfs_xdr.specs.Text.{Text, ◌then◌, void, uint32, uint64, bool, enu
 use Rattle.nfs_xdr.specs.Limits.{fhsize, opaque_limit}
 use Rattle.nfs_compound.specs.declared.stateid.Stateid.{Stateid}
 use Rattle.nfs_compound.specs.declared.channel_attrs.ChannelAttrs.{ChannelAttrs}
-use Rattle.nfs_compound.specs.StateOwner.{StateOwner}
-use Rattle.nfs_compound.specs.Attributes.{Attributes}
-use Rattle.nfs_compound.specs.NameArgs.{CreateType, Block, Character, Symlink, Other, secinfo_style_number}
-use Rattle.nfs_compound.specs.LockArgs.{Locker, OpenOwner, LockOwner, lock_type_number}
-use Rattle.nfs_compound.specs.OpenArgs.{CreateHow, Unchecked, Guarded, Exclusive, Exclusive41, OpenHow, NoCreate, Create, delegation_number}
-use Rattle.nfs_compound.specs.OpenArgs.{OpenClaim, Null, Previous, DelegateCur, DelegatePrev, Fh, DelegCurFh, DelegPrevFh}
+use Rattle.nfs_compound.specs.declared.state_owner.StateOwner.{StateOwner}
+use Rattle.nfs_compound.specs.declared.attributes.Attributes.{Attributes}
+use Rattle.nfs_compound.specs.NameArgs.{secinfo_style_number}
+use Rattle.nfs_compound.specs.declared.name_args.CreateType.{CreateType}
+use Rattle.nfs_compound.specs.declared.name_args.CreateType.TheVariants.{Block, Character, Symlink, Other}
+use Rattle.nfs_compound.specs.LockArgs.{lock_type_number}
+use Rattle.nfs_compound.specs.declared.lock_args.Locker.{Locker}
+use Rattle.nfs_compound.specs.declared.lock_args.Locker.TheVariants.{OpenOwner, LockOwner}
+use Rattle.nfs_compound.specs.OpenArgs.{delegation_number}
+use Rattle.nfs_compound.specs.declared.open_args.CreateHow.{CreateHow}
+use Rattle.nfs_compound.specs.declared.open_args.CreateHow.TheVariants.{Unchecked, Guarded, Exclusive, Exclusive41}
+use Rattle.nfs_compound.specs.declared.open_args.OpenHow.{OpenHow}
+use Rattle.nfs_compound.specs.declared.open_args.OpenHow.TheVariants.{NoCreate, Create}
+use Rattle.nfs_compound.specs.declared.open_args.OpenClaim.{OpenClaim}
+use Rattle.nfs_compound.specs.declared.open_args.OpenClaim.TheVariants.{Null, Previous, DelegateCur, DelegatePrev, Fh, DelegCurFh, DelegPrevFh}
 use Rattle.nfs_compound.specs.FileArgs.{stable_how_number}
-use Rattle.nfs_compound.specs.SessionArgs.{ImplId}
+use Rattle.nfs_compound.specs.declared.session_args.ImplId.{ImplId}
 use Rattle.nfs_compound.specs.Callback.{GssHandles, SecParms, AuthNone, Sys, RpcsecGss}
 use Rattle.nfs_xdr.specs.Wire.{authsys_parms, nfstime4}
-use Rattle.nfs_compound.specs.Operation.{Op, OpAccess, OpClose, OpCommit, OpCreate, OpGetAttr, OpGetFh, OpLink, OpLock, OpLockT, OpLockU, OpLookup, OpLookupP}
-use Rattle.nfs_compound.specs.Operation.{OpNVerify, OpOpen, OpOpenDowngrade, OpPutFh, OpPutPubFh, OpPutRootFh, OpRead, OpReadDir, OpReadLink, OpRemove}
-use Rattle.nfs_compound.specs.Operation.{OpRename, OpRestoreFh, OpSaveFh, OpSetAttr, OpVerify, OpWrite, OpExchangeId, OpCreateSession, OpDestroySession}
-use Rattle.nfs_compound.specs.Operation.{OpFreeStateid, OpSecinfoNoName, OpSequence, OpTestStateid, OpDestroyClientId, OpReclaimComplete}
+use Rattle.nfs_compound.specs.declared.op.Op.{Op}
 
 -- RFC 8881 section 3.
 
@@ -107,45 +113,45 @@ sec_parms bytes = record {
 -- RFC 8881 sections 18.1 to 18.51.
 
 abbrev pub nfs_argop4 : Op → Text
-nfs_argop4 (OpAccess access) = enum 3 then uint32 access
-nfs_argop4 (OpClose a) = enum 4 then uint32 a.seqid then stateid4 a.open_stateid
-nfs_argop4 (OpCommit a) = enum 5 then uint64 a.offset then uint32 a.count
-nfs_argop4 (OpCreate a) = enum 6 then createtype4 a.objtype then component4 a.objname then fattr4 a.createattrs
-nfs_argop4 (OpGetAttr attr_request) = enum 9 then bitmap4 attr_request
-nfs_argop4 OpGetFh = enum 10 then void
-nfs_argop4 (OpLink newname) = enum 11 then component4 newname
-nfs_argop4 (OpLock a) = enum 12 then enum (lock_type_number a.locktype) then bool a.reclaim then uint64 a.offset then uint64 a.length then locker4 a.locker
-nfs_argop4 (OpLockT a) = enum 13 then enum (lock_type_number a.locktype) then uint64 a.offset then uint64 a.length then state_owner4 a.owner
-nfs_argop4 (OpLockU a) = enum 14 then enum (lock_type_number a.locktype) then uint32 a.seqid then stateid4 a.lock_stateid then uint64 a.offset
+nfs_argop4 (Op.Access access) = enum 3 then uint32 access
+nfs_argop4 (Op.Close a) = enum 4 then uint32 a.seqid then stateid4 a.open_stateid
+nfs_argop4 (Op.Commit a) = enum 5 then uint64 a.offset then uint32 a.count
+nfs_argop4 (Op.Create a) = enum 6 then createtype4 a.objtype then component4 a.objname then fattr4 a.createattrs
+nfs_argop4 (Op.GetAttr attr_request) = enum 9 then bitmap4 attr_request
+nfs_argop4 Op.GetFh = enum 10 then void
+nfs_argop4 (Op.Link newname) = enum 11 then component4 newname
+nfs_argop4 (Op.Lock a) = enum 12 then enum (lock_type_number a.locktype) then bool a.reclaim then uint64 a.offset then uint64 a.length then locker4 a.locker
+nfs_argop4 (Op.LockT a) = enum 13 then enum (lock_type_number a.locktype) then uint64 a.offset then uint64 a.length then state_owner4 a.owner
+nfs_argop4 (Op.LockU a) = enum 14 then enum (lock_type_number a.locktype) then uint32 a.seqid then stateid4 a.lock_stateid then uint64 a.offset
     then uint64 a.length
-nfs_argop4 (OpLookup objname) = enum 15 then component4 objname
-nfs_argop4 OpLookupP = enum 16 then void
-nfs_argop4 (OpNVerify obj_attributes) = enum 17 then fattr4 obj_attributes
-nfs_argop4 (OpOpen a) = enum 18 then uint32 a.seqid then uint32 a.share_access then uint32 a.share_deny then state_owner4 a.owner
+nfs_argop4 (Op.Lookup objname) = enum 15 then component4 objname
+nfs_argop4 Op.LookupP = enum 16 then void
+nfs_argop4 (Op.NVerify obj_attributes) = enum 17 then fattr4 obj_attributes
+nfs_argop4 (Op.Open a) = enum 18 then uint32 a.seqid then uint32 a.share_access then uint32 a.share_deny then state_owner4 a.owner
     then openflag4 a.openhow then open_claim4 a.claim
-nfs_argop4 (OpOpenDowngrade a) = enum 21 then stateid4 a.open_stateid then uint32 a.seqid then uint32 a.share_access then uint32 a.share_deny
-nfs_argop4 (OpPutFh object) = enum 22 then opaque fhsize object
-nfs_argop4 OpPutPubFh = enum 23 then void
-nfs_argop4 OpPutRootFh = enum 24 then void
-nfs_argop4 (OpRead a) = enum 25 then stateid4 a.stateid then uint64 a.offset then uint32 a.count
-nfs_argop4 (OpReadDir a) = enum 26 then uint64 a.cookie then fixed 8 a.cookieverf then uint32 a.dircount then uint32 a.maxcount then bitmap4 a.attr_request
-nfs_argop4 OpReadLink = enum 27 then void
-nfs_argop4 (OpRemove target) = enum 28 then component4 target
-nfs_argop4 (OpRename a) = enum 29 then component4 a.oldname then component4 a.newname
-nfs_argop4 OpRestoreFh = enum 31 then void
-nfs_argop4 OpSaveFh = enum 32 then void
-nfs_argop4 (OpSetAttr a) = enum 34 then stateid4 a.stateid then fattr4 a.obj_attributes
-nfs_argop4 (OpVerify obj_attributes) = enum 37 then fattr4 obj_attributes
-nfs_argop4 (OpWrite a) = enum 38 then stateid4 a.stateid then uint64 a.offset then enum (stable_how_number a.stable) then opaque most a.bytes
-nfs_argop4 (OpExchangeId a) = enum 42 then fixed 8 a.verifier then opaque opaque_limit a.ownerid then uint32 a.flags then enum 0
+nfs_argop4 (Op.OpenDowngrade a) = enum 21 then stateid4 a.open_stateid then uint32 a.seqid then uint32 a.share_access then uint32 a.share_deny
+nfs_argop4 (Op.PutFh object) = enum 22 then opaque fhsize object
+nfs_argop4 Op.PutPubFh = enum 23 then void
+nfs_argop4 Op.PutRootFh = enum 24 then void
+nfs_argop4 (Op.Read a) = enum 25 then stateid4 a.stateid then uint64 a.offset then uint32 a.count
+nfs_argop4 (Op.ReadDir a) = enum 26 then uint64 a.cookie then fixed 8 a.cookieverf then uint32 a.dircount then uint32 a.maxcount then bitmap4 a.attr_request
+nfs_argop4 Op.ReadLink = enum 27 then void
+nfs_argop4 (Op.Remove target) = enum 28 then component4 target
+nfs_argop4 (Op.Rename a) = enum 29 then component4 a.oldname then component4 a.newname
+nfs_argop4 Op.RestoreFh = enum 31 then void
+nfs_argop4 Op.SaveFh = enum 32 then void
+nfs_argop4 (Op.SetAttr a) = enum 34 then stateid4 a.stateid then fattr4 a.obj_attributes
+nfs_argop4 (Op.Verify obj_attributes) = enum 37 then fattr4 obj_attributes
+nfs_argop4 (Op.Write a) = enum 38 then stateid4 a.stateid then uint64 a.offset then enum (stable_how_number a.stable) then opaque most a.bytes
+nfs_argop4 (Op.ExchangeId a) = enum 42 then fixed 8 a.verifier then opaque opaque_limit a.ownerid then uint32 a.flags then enum 0
     then optional nfs_impl_id4 a.impl_id
-nfs_argop4 (OpCreateSession a) = enum 43 then uint64 a.clientid then uint32 a.sequence then uint32 a.flags then channel_attrs4 a.fore_chan_attrs
+nfs_argop4 (Op.CreateSession a) = enum 43 then uint64 a.clientid then uint32 a.sequence then uint32 a.flags then channel_attrs4 a.fore_chan_attrs
     then channel_attrs4 a.back_chan_attrs then uint32 a.cb_program then sec_parms a.sec_parms
-nfs_argop4 (OpDestroySession sessionid) = enum 44 then fixed 16 sessionid
-nfs_argop4 (OpFreeStateid stateid) = enum 45 then stateid4 stateid
-nfs_argop4 (OpSecinfoNoName style) = enum 52 then enum (secinfo_style_number style)
-nfs_argop4 (OpSequence a) = enum 53 then fixed 16 a.sessionid then uint32 a.sequenceid then uint32 a.slotid then uint32 a.highest_slotid
+nfs_argop4 (Op.DestroySession sessionid) = enum 44 then fixed 16 sessionid
+nfs_argop4 (Op.FreeStateid stateid) = enum 45 then stateid4 stateid
+nfs_argop4 (Op.SecinfoNoName style) = enum 52 then enum (secinfo_style_number style)
+nfs_argop4 (Op.Sequence a) = enum 53 then fixed 16 a.sessionid then uint32 a.sequenceid then uint32 a.slotid then uint32 a.highest_slotid
     then bool a.cachethis
-nfs_argop4 (OpTestStateid stateids) = enum 55 then array most stateid4 stateids
-nfs_argop4 (OpDestroyClientId clientid) = enum 57 then uint64 clientid
-nfs_argop4 (OpReclaimComplete one_fs) = enum 58 then bool one_fs
+nfs_argop4 (Op.TestStateid stateids) = enum 55 then array most stateid4 stateids
+nfs_argop4 (Op.DestroyClientId clientid) = enum 57 then uint64 clientid
+nfs_argop4 (Op.ReclaimComplete one_fs) = enum 58 then bool one_fs

@@ -4,10 +4,9 @@ ghost use Rattle.std.specs.Prelude.{◌≡◌, ◌∷◌, ◌≤◌, [], length,
 ghost use Rattle.nfs_xdr.specs.Limits.{opaque_limit};
 ghost use Rattle.nfs_compound.specs.Request.{IsRequest, IsGarbage};
 ghost use Rattle.nfs_compound.specs.ReadRequest.{items_at, request_at};
-ghost use Rattle.nfs_compound.specs.View as view;
 
-use crate::arg::Arg;
 use crate::item::item;
+use crate::op::Item;
 use nfs_xdr::{Cursor, OPAQUE_LIMIT, Unreadable};
 use std::marker::Model;
 
@@ -98,10 +97,10 @@ impl<'a> Compound<'a> {
 
     /// The next operation, or the fault that ends the list.
     #[tactic(auto, unfolding(crate::specs::ReadRequest::items_left))]
-    pub fn next(&mut self) -> Option<Arg<'a>>
+    pub fn next(&mut self) -> Option<Item<'a>>
         ensures item { MatchOption result
             ((self.old.left ≡ []) × (self.new.left ≡ []))
-            (λ a. self.old.left ≡ view.item a ∷ self.new.left) }
+            (λ a. self.old.left ≡ a ∷ self.new.left) }
         ensures head { self.new ≡ record self.old { left = self.new.left } }
     {
         if self.left == 0 {

@@ -1,9 +1,10 @@
 //! COMMIT, READ, WRITE and SETATTR: RFC 8881 sections 18.3, 18.22, 18.32 and 18.30.
 
 ghost use Rattle.nfs_xdr.specs.Readers.{ReadsPartBy};
-ghost use Rattle.nfs_compound.specs.ArgCodecs.{commit_args, read_args, stable_how, write_args, set_attr_args, view_write, view_set_attr};
+ghost use Rattle.nfs_compound.specs.ArgCodecs.{commit_args, read_args, stable_how, write_args, set_attr_args};
 
 use crate::attributes::Attributes;
+use crate::lent::Lent;
 use crate::stateid::Stateid;
 use nfs_xdr::{Cursor, Unreadable};
 
@@ -82,26 +83,26 @@ impl StableHow {
 }
 
 /// The arguments of WRITE.
-#[derive(Clone, Copy)]
+#[derive(Drop)]
 pub struct Write<'a> {
     pub stateid: Stateid,
     /// In bytes.
     pub offset: u64,
     pub stable: StableHow,
     /// The bytes that are written, whatever their number.
-    pub bytes: &'a [u8],
+    pub bytes: Lent<'a>,
 }
 
 impl<'a> Write<'a> {
     /// Reads the arguments of WRITE; unreadable where they are not spelled so.
     #[tactic(auto, unfolding(crate::specs::ArgCodecs::write_args))]
     pub fn read(c: &mut Cursor<'a>) -> Result<Write<'a>, Unreadable>
-        ensures { ReadsPartBy view_write result (write_args.read c.old) c.new }
+        ensures { ReadsPartBy (λ x. x) result (write_args.read c.old) c.new }
     {
         let stateid = Stateid::read(c)?;
         let offset = c.u64()?;
         let stable = StableHow::read(c)?;
-        let bytes = c.opaque(u32::MAX)?;
+        let bytes = Lent::read(c, u32::MAX)?;
         Ok(Write {
             stateid,
             offset,
@@ -112,7 +113,7 @@ impl<'a> Write<'a> {
 }
 
 /// The arguments of SETATTR.
-#[derive(Clone, Copy)]
+#[derive(Drop)]
 pub struct SetAttr<'a> {
     pub stateid: Stateid,
     pub obj_attributes: Attributes<'a>,
@@ -122,7 +123,7 @@ impl<'a> SetAttr<'a> {
     /// Reads the arguments of SETATTR; unreadable where they are not spelled so.
     #[tactic(auto, unfolding(crate::specs::ArgCodecs::set_attr_args))]
     pub fn read(c: &mut Cursor<'a>) -> Result<SetAttr<'a>, Unreadable>
-        ensures { ReadsPartBy view_set_attr result (set_attr_args.read c.old) c.new }
+        ensures { ReadsPartBy (λ x. x) result (set_attr_args.read c.old) c.new }
     {
         let stateid = Stateid::read(c)?;
         let obj_attributes = Attributes::read(c)?;

@@ -2,17 +2,15 @@
 
 ghost use Rattle.std.specs.Prelude.{◌≡◌, MatchOption, Some, None};
 ghost use Rattle.nfs_xdr.specs.Readers.{ReadsPartBy};
-ghost use Rattle.nfs_xdr.specs.Combinators.{in_arm};
-ghost use Rattle.nfs_compound.specs.Operation.{Operation};
 ghost use Rattle.nfs_compound.specs.OpCodec.{op_at, fault_at, flaw};
 ghost use Rattle.nfs_compound.specs.ReadRequest.{item_at};
-ghost use Rattle.nfs_compound.specs.View as view;
 
-use crate::arg::Arg;
 use crate::attributes::{Attributes, Bitmap};
 use crate::file_args::{Commit, Read, SetAttr, Write};
+use crate::lent::Lent;
 use crate::lock_args::{Lock, LockT, LockU};
 use crate::name_args::{Create, ReadDir, Rename, SecinfoStyle};
+use crate::op::{Item, Op};
 use crate::op_num::{FIRST_OP, LAST_OP, OP_ILLEGAL, OpNum};
 use crate::open_args::{Close, Open, OpenDowngrade};
 use crate::session_args::{CreateSession, ExchangeId, Sequence};
@@ -22,18 +20,18 @@ use nfs_xdr::{Cursor, FHSIZE, Status, Unreadable};
 /// What stands at the cursor, with the cursor behind it; behind a fault nothing is left. `None` where no operation
 /// number can be read.
 #[tactic(auto, unfolding(crate::specs::ReadRequest::item_at))]
-pub(crate) fn item<'a>(c: &mut Cursor<'a>) -> Option<Arg<'a>>
+pub(crate) fn item<'a>(c: &mut Cursor<'a>) -> Option<Item<'a>>
     ensures { MatchOption result
         ((item_at c.old ≡ None) × (c.new ≡ c.old))
-        (λ a. item_at c.old ≡ Some (view.item a, c.new)) }
+        (λ a. item_at c.old ≡ Some (a, c.new)) }
 {
     let Ok(number) = c.u32() else {
         return None;
     };
     let behind = c.rest();
     if let Some(op) = OpNum::of(number) {
-        if let Ok(arg) = arguments(op, c) {
-            return Some(arg);
+        if let Ok(op) = arguments(op, c) {
+            return Some(Item::Operation(op));
         }
     }
     *c = Cursor::new(&[]);
@@ -42,87 +40,87 @@ pub(crate) fn item<'a>(c: &mut Cursor<'a>) -> Option<Arg<'a>>
 
 /// The arguments of an operation, which stand at the cursor.
 #[tactic(auto, unfolding(crate::specs::OpCodec::op_at))]
-fn arguments<'a>(op: OpNum, c: &mut Cursor<'a>) -> Result<Arg<'a>, Unreadable>
-    ensures { ReadsPartBy view.item result (in_arm Operation (op_at op c.old)) c.new }
+fn arguments<'a>(op: OpNum, c: &mut Cursor<'a>) -> Result<Op<'a>, Unreadable>
+    ensures { ReadsPartBy (λ x. x) result (op_at op c.old) c.new }
 {
     Ok(match op {
-        OpNum::Access => Arg::Access { access: c.u32()? },
-        OpNum::Close => Arg::Close(Close::read(c)?),
-        OpNum::Commit => Arg::Commit(Commit::read(c)?),
-        OpNum::Create => Arg::Create(Create::read(c)?),
-        OpNum::GetAttr => Arg::GetAttr {
+        OpNum::Access => Op::Access { access: c.u32()? },
+        OpNum::Close => Op::Close(Close::read(c)?),
+        OpNum::Commit => Op::Commit(Commit::read(c)?),
+        OpNum::Create => Op::Create(Create::read(c)?),
+        OpNum::GetAttr => Op::GetAttr {
             attr_request: Bitmap::read(c)?,
         },
-        OpNum::GetFh => Arg::GetFh,
-        OpNum::Link => Arg::Link {
-            newname: c.opaque(u32::MAX)?,
+        OpNum::GetFh => Op::GetFh,
+        OpNum::Link => Op::Link {
+            newname: Lent::read(c, u32::MAX)?,
         },
-        OpNum::Lock => Arg::Lock(Lock::read(c)?),
-        OpNum::LockT => Arg::LockT(LockT::read(c)?),
-        OpNum::LockU => Arg::LockU(LockU::read(c)?),
-        OpNum::Lookup => Arg::Lookup {
-            objname: c.opaque(u32::MAX)?,
+        OpNum::Lock => Op::Lock(Lock::read(c)?),
+        OpNum::LockT => Op::LockT(LockT::read(c)?),
+        OpNum::LockU => Op::LockU(LockU::read(c)?),
+        OpNum::Lookup => Op::Lookup {
+            objname: Lent::read(c, u32::MAX)?,
         },
-        OpNum::LookupP => Arg::LookupP,
-        OpNum::NVerify => Arg::NVerify {
+        OpNum::LookupP => Op::LookupP,
+        OpNum::NVerify => Op::NVerify {
             obj_attributes: Attributes::read(c)?,
         },
-        OpNum::Open => Arg::Open(Open::read(c)?),
-        OpNum::OpenDowngrade => Arg::OpenDowngrade(OpenDowngrade::read(c)?),
-        OpNum::PutFh => Arg::PutFh {
-            object: c.opaque(FHSIZE)?,
+        OpNum::Open => Op::Open(Open::read(c)?),
+        OpNum::OpenDowngrade => Op::OpenDowngrade(OpenDowngrade::read(c)?),
+        OpNum::PutFh => Op::PutFh {
+            object: Lent::read(c, FHSIZE)?,
         },
-        OpNum::PutPubFh => Arg::PutPubFh,
-        OpNum::PutRootFh => Arg::PutRootFh,
-        OpNum::Read => Arg::Read(Read::read(c)?),
-        OpNum::ReadDir => Arg::ReadDir(ReadDir::read(c)?),
-        OpNum::ReadLink => Arg::ReadLink,
-        OpNum::Remove => Arg::Remove {
-            target: c.opaque(u32::MAX)?,
+        OpNum::PutPubFh => Op::PutPubFh,
+        OpNum::PutRootFh => Op::PutRootFh,
+        OpNum::Read => Op::Read(Read::read(c)?),
+        OpNum::ReadDir => Op::ReadDir(ReadDir::read(c)?),
+        OpNum::ReadLink => Op::ReadLink,
+        OpNum::Remove => Op::Remove {
+            target: Lent::read(c, u32::MAX)?,
         },
-        OpNum::Rename => Arg::Rename(Rename::read(c)?),
-        OpNum::RestoreFh => Arg::RestoreFh,
-        OpNum::SaveFh => Arg::SaveFh,
-        OpNum::SetAttr => Arg::SetAttr(SetAttr::read(c)?),
-        OpNum::Verify => Arg::Verify {
+        OpNum::Rename => Op::Rename(Rename::read(c)?),
+        OpNum::RestoreFh => Op::RestoreFh,
+        OpNum::SaveFh => Op::SaveFh,
+        OpNum::SetAttr => Op::SetAttr(SetAttr::read(c)?),
+        OpNum::Verify => Op::Verify {
             obj_attributes: Attributes::read(c)?,
         },
-        OpNum::Write => Arg::Write(Write::read(c)?),
-        OpNum::ExchangeId => Arg::ExchangeId(ExchangeId::read(c)?),
-        OpNum::CreateSession => Arg::CreateSession(CreateSession::read(c)?),
-        OpNum::DestroySession => Arg::DestroySession {
+        OpNum::Write => Op::Write(Write::read(c)?),
+        OpNum::ExchangeId => Op::ExchangeId(ExchangeId::read(c)?),
+        OpNum::CreateSession => Op::CreateSession(CreateSession::read(c)?),
+        OpNum::DestroySession => Op::DestroySession {
             sessionid: c.fixed::<16>()?,
         },
-        OpNum::FreeStateid => Arg::FreeStateid {
+        OpNum::FreeStateid => Op::FreeStateid {
             stateid: Stateid::read(c)?,
         },
-        OpNum::SecinfoNoName => Arg::SecinfoNoName {
+        OpNum::SecinfoNoName => Op::SecinfoNoName {
             style: SecinfoStyle::read(c)?,
         },
-        OpNum::Sequence => Arg::Sequence(Sequence::read(c)?),
-        OpNum::TestStateid => Arg::TestStateid {
+        OpNum::Sequence => Op::Sequence(Sequence::read(c)?),
+        OpNum::TestStateid => Op::TestStateid {
             stateids: Stateids::read(c)?,
         },
-        OpNum::DestroyClientId => Arg::DestroyClientId { clientid: c.u64()? },
-        OpNum::ReclaimComplete => Arg::ReclaimComplete { one_fs: c.flag()? },
+        OpNum::DestroyClientId => Op::DestroyClientId { clientid: c.u64()? },
+        OpNum::ReclaimComplete => Op::ReclaimComplete { one_fs: c.flag()? },
     })
 }
 
 /// Why no operation is read of this number and the bytes behind it.
 #[tactic(auto, unfolding(crate::specs::OpCodec::fault_at))]
-fn fault<'a>(number: u32, behind: &[u8]) -> Arg<'a>
-    ensures { view.item result ≡ fault_at number behind.now }
+fn fault<'a>(number: u32, behind: &[u8]) -> Item<'a>
+    ensures { result ≡ fault_at number behind.now }
 {
     match (OpNum::of(number), number) {
-        (Some(op), _) => Arg::Fault {
+        (Some(op), _) => Item::Fault {
             number,
             status: flaw(op, behind),
         },
-        (None, FIRST_OP..=LAST_OP) => Arg::Fault {
+        (None, FIRST_OP..=LAST_OP) => Item::Fault {
             number,
             status: Status::NotSupp,
         },
-        (None, _) => Arg::Fault {
+        (None, _) => Item::Fault {
             number: OP_ILLEGAL,
             status: Status::OpIllegal,
         },

@@ -4,7 +4,7 @@ ghost use Rattle.std.specs.Prelude.{◌≡◌, ◌↔◌, ℕ, List, Some};
 ghost use Rattle.nfs_xdr.specs.Text.{IsBytes, Leads};
 ghost use Rattle.nfs_compound.specs.declared.op_num.OpNum.{OpNum};
 ghost use Rattle.nfs_compound.specs.OpNum.{op_num, op_number};
-ghost use Rattle.nfs_compound.specs.Operation.{Op};
+ghost use Rattle.nfs_compound.specs.declared.op.Op.{Op};
 ghost use Rattle.nfs_compound.specs.Arguments.{arguments};
 ghost use Rattle.nfs_compound.specs.OpOf.{op_of};
 ghost use Rattle.nfs_compound.specs.OpCodec.{operation_at, protected_at};

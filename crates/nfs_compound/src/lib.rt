@@ -7,13 +7,12 @@
 //!
 //! ```text
 //! let mut compound = Compound::open(args)?;
-//! while let Some(Arg::ExchangeId(wanted)) = compound.next() { .. }
+//! while let Some(Item::Operation(Op::ExchangeId(wanted))) = compound.next() { .. }
 //! ```
 //!
 //! RFC 8881 sections 16.2 and 18, RFC 5662.
 #![tactic(auto)]
 
-mod arg;
 mod attributes;
 mod callback;
 mod channel_attrs;
@@ -21,21 +20,24 @@ mod compound;
 mod file_args;
 mod item;
 pub mod laws;
+mod lent;
 mod lock_args;
 mod name_args;
+mod op;
 mod op_num;
 mod open_args;
 mod session_args;
 mod state_owner;
 mod stateid;
 
-pub use arg::Arg;
 pub use attributes::{Attributes, Bitmap};
 pub use channel_attrs::ChannelAttrs;
 pub use compound::{Compound, Garbage, MINOR_VERSION};
 pub use file_args::{Commit, Read, SetAttr, StableHow, Write};
+pub use lent::Lent;
 pub use lock_args::{ExistLockOwner, Lock, LockT, LockType, LockU, Locker, OpenToLockOwner};
 pub use name_args::{Create, CreateType, ReadDir, Rename, SecinfoStyle, SpecData};
+pub use op::{Item, Op};
 pub use op_num::{FIRST_OP, LAST_OP, OP_ILLEGAL, OpNum};
 pub use open_args::{Close, CreateHow, DelegationType, Open, OpenClaim, OpenDowngrade, OpenHow};
 pub use session_args::{CreateSession, ExchangeId, ImplId, SP4_NONE, Sequence};

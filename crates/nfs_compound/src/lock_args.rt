@@ -4,7 +4,6 @@ ghost use Rattle.std.specs.Prelude.{◌≡◌};
 ghost use Rattle.nfs_xdr.specs.Readers.{ReadsPartBy};
 ghost use Rattle.nfs_compound.specs.LockArgs.{lock_type_number};
 ghost use Rattle.nfs_compound.specs.ArgCodecs.{lock_type, open_to_lock_owner, exist_lock_owner, locker, lock_args, lock_t_args, lock_u_args};
-ghost use Rattle.nfs_compound.specs.ArgCodecs.{view_open_to_lock_owner, view_locker, view_lock, view_lock_t};
 
 use crate::state_owner::StateOwner;
 use crate::stateid::Stateid;
@@ -52,7 +51,7 @@ impl LockType {
 }
 
 /// The first lock of an owner on a file (open_to_lock_owner4).
-#[derive(Clone, Copy)]
+#[derive(Drop)]
 pub struct OpenToLockOwner<'a> {
     pub open_seqid: u32,
     pub open_stateid: Stateid,
@@ -64,7 +63,7 @@ impl<'a> OpenToLockOwner<'a> {
     /// Reads the first lock of an owner on a file; unreadable where it is not spelled so.
     #[tactic(auto, unfolding(crate::specs::ArgCodecs::open_to_lock_owner))]
     pub fn read(c: &mut Cursor<'a>) -> Result<OpenToLockOwner<'a>, Unreadable>
-        ensures { ReadsPartBy view_open_to_lock_owner result (open_to_lock_owner.read c.old) c.new }
+        ensures { ReadsPartBy (λ x. x) result (open_to_lock_owner.read c.old) c.new }
     {
         let open_seqid = c.u32()?;
         let open_stateid = Stateid::read(c)?;
@@ -102,7 +101,7 @@ impl ExistLockOwner {
 }
 
 /// Who locks (locker4).
-#[derive(Clone, Copy)]
+#[derive(Drop)]
 pub enum Locker<'a> {
     /// A new lock owner.
     OpenOwner(OpenToLockOwner<'a>),
@@ -114,7 +113,7 @@ impl<'a> Locker<'a> {
     /// Reads who locks; unreadable where it is not spelled so.
     #[tactic(auto, unfolding(crate::specs::ArgCodecs::locker))]
     pub fn read(c: &mut Cursor<'a>) -> Result<Locker<'a>, Unreadable>
-        ensures { ReadsPartBy view_locker result (locker.read c.old) c.new }
+        ensures { ReadsPartBy (λ x. x) result (locker.read c.old) c.new }
     {
         match c.u32()? {
             1 => Ok(Locker::OpenOwner(OpenToLockOwner::read(c)?)),
@@ -125,7 +124,7 @@ impl<'a> Locker<'a> {
 }
 
 /// The arguments of LOCK.
-#[derive(Clone, Copy)]
+#[derive(Drop)]
 pub struct Lock<'a> {
     pub locktype: LockType,
     pub reclaim: bool,
@@ -140,7 +139,7 @@ impl<'a> Lock<'a> {
     /// Reads the arguments of LOCK; unreadable where they are not spelled so.
     #[tactic(auto, unfolding(crate::specs::ArgCodecs::lock_args))]
     pub fn read(c: &mut Cursor<'a>) -> Result<Lock<'a>, Unreadable>
-        ensures { ReadsPartBy view_lock result (lock_args.read c.old) c.new }
+        ensures { ReadsPartBy (λ x. x) result (lock_args.read c.old) c.new }
     {
         let locktype = LockType::read(c)?;
         let reclaim = c.flag()?;
@@ -158,7 +157,7 @@ impl<'a> Lock<'a> {
 }
 
 /// The arguments of LOCKT.
-#[derive(Clone, Copy)]
+#[derive(Drop)]
 pub struct LockT<'a> {
     pub locktype: LockType,
     pub offset: u64,
@@ -170,7 +169,7 @@ impl<'a> LockT<'a> {
     /// Reads the arguments of LOCKT; unreadable where they are not spelled so.
     #[tactic(auto, unfolding(crate::specs::ArgCodecs::lock_t_args))]
     pub fn read(c: &mut Cursor<'a>) -> Result<LockT<'a>, Unreadable>
-        ensures { ReadsPartBy view_lock_t result (lock_t_args.read c.old) c.new }
+        ensures { ReadsPartBy (λ x. x) result (lock_t_args.read c.old) c.new }
     {
         let locktype = LockType::read(c)?;
         let offset = c.u64()?;

@@ -1,10 +1,10 @@
 //! CREATE, READDIR, RENAME and SECINFO_NO_NAME: RFC 8881 sections 18.4, 18.23, 18.26 and 18.45.
 
 ghost use Rattle.nfs_xdr.specs.Readers.{ReadsPartBy};
-ghost use Rattle.nfs_compound.specs.ArgCodecs.{spec_data, create_type, create_args, read_dir_args, rename_args, secinfo_style, view_create_type, view_create};
-ghost use Rattle.nfs_compound.specs.ArgCodecs.{view_read_dir, view_rename};
+ghost use Rattle.nfs_compound.specs.ArgCodecs.{spec_data, create_type, create_args, read_dir_args, rename_args, secinfo_style};
 
 use crate::attributes::{Attributes, Bitmap};
+use crate::lent::Lent;
 use nfs_xdr::{Cursor, Unreadable};
 
 /// The numbers of a device (specdata4).
@@ -30,14 +30,14 @@ impl SpecData {
 }
 
 /// The type of an object that is made (createtype4 with the numbers of nfs_ftype4).
-#[derive(Clone, Copy)]
+#[derive(Drop)]
 pub enum CreateType<'a> {
     /// NF4BLK, 3.
     Block(SpecData),
     /// NF4CHR, 4.
     Character(SpecData),
     /// NF4LNK, 5.
-    Symlink { linkdata: &'a [u8] },
+    Symlink { linkdata: Lent<'a> },
     /// Any other number, behind which nothing stands: 2 is NF4DIR.
     Other { objtype: u32 },
 }
@@ -46,13 +46,13 @@ impl<'a> CreateType<'a> {
     /// Reads the type of an object that is made; unreadable where it is not spelled so.
     #[tactic(auto, unfolding(crate::specs::ArgCodecs::create_type))]
     pub fn read(c: &mut Cursor<'a>) -> Result<CreateType<'a>, Unreadable>
-        ensures { ReadsPartBy view_create_type result (create_type.read c.old) c.new }
+        ensures { ReadsPartBy (λ x. x) result (create_type.read c.old) c.new }
     {
         match c.u32()? {
             3 => Ok(CreateType::Block(SpecData::read(c)?)),
             4 => Ok(CreateType::Character(SpecData::read(c)?)),
             5 => Ok(CreateType::Symlink {
-                linkdata: c.opaque(u32::MAX)?,
+                linkdata: Lent::read(c, u32::MAX)?,
             }),
             objtype => Ok(CreateType::Other { objtype }),
         }
@@ -60,10 +60,10 @@ impl<'a> CreateType<'a> {
 }
 
 /// The arguments of CREATE.
-#[derive(Clone, Copy)]
+#[derive(Drop)]
 pub struct Create<'a> {
     pub objtype: CreateType<'a>,
-    pub objname: &'a [u8],
+    pub objname: Lent<'a>,
     pub createattrs: Attributes<'a>,
 }
 
@@ -71,10 +71,10 @@ impl<'a> Create<'a> {
     /// Reads the arguments of CREATE; unreadable where they are not spelled so.
     #[tactic(auto, unfolding(crate::specs::ArgCodecs::create_args))]
     pub fn read(c: &mut Cursor<'a>) -> Result<Create<'a>, Unreadable>
-        ensures { ReadsPartBy view_create result (create_args.read c.old) c.new }
+        ensures { ReadsPartBy (λ x. x) result (create_args.read c.old) c.new }
     {
         let objtype = CreateType::read(c)?;
-        let objname = c.opaque(u32::MAX)?;
+        let objname = Lent::read(c, u32::MAX)?;
         let createattrs = Attributes::read(c)?;
         Ok(Create {
             objtype,
@@ -85,7 +85,7 @@ impl<'a> Create<'a> {
 }
 
 /// The arguments of READDIR.
-#[derive(Clone, Copy)]
+#[derive(Drop)]
 pub struct ReadDir<'a> {
     pub cookie: u64,
     pub cookieverf: [u8; 8],
@@ -100,7 +100,7 @@ impl<'a> ReadDir<'a> {
     /// Reads the arguments of READDIR; unreadable where they are not spelled so.
     #[tactic(auto, unfolding(crate::specs::ArgCodecs::read_dir_args))]
     pub fn read(c: &mut Cursor<'a>) -> Result<ReadDir<'a>, Unreadable>
-        ensures { ReadsPartBy view_read_dir result (read_dir_args.read c.old) c.new }
+        ensures { ReadsPartBy (λ x. x) result (read_dir_args.read c.old) c.new }
     {
         let cookie = c.u64()?;
         let cookieverf = c.fixed::<8>()?;
@@ -118,20 +118,20 @@ impl<'a> ReadDir<'a> {
 }
 
 /// The arguments of RENAME.
-#[derive(Clone, Copy)]
+#[derive(Drop)]
 pub struct Rename<'a> {
-    pub oldname: &'a [u8],
-    pub newname: &'a [u8],
+    pub oldname: Lent<'a>,
+    pub newname: Lent<'a>,
 }
 
 impl<'a> Rename<'a> {
     /// Reads the arguments of RENAME; unreadable where they are not spelled so.
     #[tactic(auto, unfolding(crate::specs::ArgCodecs::rename_args))]
     pub fn read(c: &mut Cursor<'a>) -> Result<Rename<'a>, Unreadable>
-        ensures { ReadsPartBy view_rename result (rename_args.read c.old) c.new }
+        ensures { ReadsPartBy (λ x. x) result (rename_args.read c.old) c.new }
     {
-        let oldname = c.opaque(u32::MAX)?;
-        let newname = c.opaque(u32::MAX)?;
+        let oldname = Lent::read(c, u32::MAX)?;
+        let newname = Lent::read(c, u32::MAX)?;
         Ok(Rename { oldname, newname })
     }
 }

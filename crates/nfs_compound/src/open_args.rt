@@ -1,16 +1,16 @@
 //! OPEN, OPEN_DOWNGRADE and CLOSE: RFC 8881 sections 18.16, 18.18 and 18.2.
 
 ghost use Rattle.nfs_xdr.specs.Readers.{ReadsPartBy};
-ghost use Rattle.nfs_compound.specs.OpenCodecs.{create_how, open_how, delegation_type, open_claim, open_args, open_downgrade_args, close_args, view_create_how};
-ghost use Rattle.nfs_compound.specs.OpenCodecs.{view_open_how, view_open_claim, view_open};
+ghost use Rattle.nfs_compound.specs.OpenCodecs.{create_how, open_how, delegation_type, open_claim, open_args, open_downgrade_args, close_args};
 
 use crate::attributes::Attributes;
+use crate::lent::Lent;
 use crate::state_owner::StateOwner;
 use crate::stateid::Stateid;
 use nfs_xdr::{Cursor, Unreadable};
 
 /// How a file is made (createhow4).
-#[derive(Clone, Copy)]
+#[derive(Drop)]
 pub enum CreateHow<'a> {
     /// UNCHECKED4, mode 0.
     Unchecked {
@@ -35,7 +35,7 @@ impl<'a> CreateHow<'a> {
     /// Reads how a file is made; unreadable where it is not spelled so.
     #[tactic(auto, unfolding(crate::specs::OpenCodecs::create_how))]
     pub fn read(c: &mut Cursor<'a>) -> Result<CreateHow<'a>, Unreadable>
-        ensures { ReadsPartBy view_create_how result (create_how.read c.old) c.new }
+        ensures { ReadsPartBy (λ x. x) result (create_how.read c.old) c.new }
     {
         match c.u32()? {
             0 => Ok(CreateHow::Unchecked {
@@ -58,7 +58,7 @@ impl<'a> CreateHow<'a> {
 }
 
 /// Whether a file is made (openflag4).
-#[derive(Clone, Copy)]
+#[derive(Drop)]
 pub enum OpenHow<'a> {
     /// OPEN4_NOCREATE, 0.
     NoCreate,
@@ -70,7 +70,7 @@ impl<'a> OpenHow<'a> {
     /// Reads whether a file is made; unreadable where it is not spelled so.
     #[tactic(auto, unfolding(crate::specs::OpenCodecs::open_how))]
     pub fn read(c: &mut Cursor<'a>) -> Result<OpenHow<'a>, Unreadable>
-        ensures { ReadsPartBy view_open_how result (open_how.read c.old) c.new }
+        ensures { ReadsPartBy (λ x. x) result (open_how.read c.old) c.new }
     {
         match c.u32()? {
             0 => Ok(OpenHow::NoCreate),
@@ -110,11 +110,11 @@ impl DelegationType {
 }
 
 /// What is opened (open_claim4).
-#[derive(Clone, Copy)]
+#[derive(Drop)]
 pub enum OpenClaim<'a> {
     /// CLAIM_NULL, 0: the file of this name in the current directory.
     Null {
-        file: &'a [u8],
+        file: Lent<'a>,
     },
     /// CLAIM_PREVIOUS, 1.
     Previous {
@@ -123,11 +123,11 @@ pub enum OpenClaim<'a> {
     /// CLAIM_DELEGATE_CUR, 2.
     DelegateCur {
         delegate_stateid: Stateid,
-        file: &'a [u8],
+        file: Lent<'a>,
     },
     /// CLAIM_DELEGATE_PREV, 3.
     DelegatePrev {
-        file: &'a [u8],
+        file: Lent<'a>,
     },
     /// CLAIM_FH, 4: the current filehandle.
     Fh,
@@ -143,25 +143,25 @@ impl<'a> OpenClaim<'a> {
     /// Reads what is opened; unreadable where it is not spelled so.
     #[tactic(auto, unfolding(crate::specs::OpenCodecs::open_claim))]
     pub fn read(c: &mut Cursor<'a>) -> Result<OpenClaim<'a>, Unreadable>
-        ensures { ReadsPartBy view_open_claim result (open_claim.read c.old) c.new }
+        ensures { ReadsPartBy (λ x. x) result (open_claim.read c.old) c.new }
     {
         match c.u32()? {
             0 => Ok(OpenClaim::Null {
-                file: c.opaque(u32::MAX)?,
+                file: Lent::read(c, u32::MAX)?,
             }),
             1 => Ok(OpenClaim::Previous {
                 delegate_type: DelegationType::read(c)?,
             }),
             2 => {
                 let delegate_stateid = Stateid::read(c)?;
-                let file = c.opaque(u32::MAX)?;
+                let file = Lent::read(c, u32::MAX)?;
                 Ok(OpenClaim::DelegateCur {
                     delegate_stateid,
                     file,
                 })
             }
             3 => Ok(OpenClaim::DelegatePrev {
-                file: c.opaque(u32::MAX)?,
+                file: Lent::read(c, u32::MAX)?,
             }),
             4 => Ok(OpenClaim::Fh),
             5 => Ok(OpenClaim::DelegCurFh {
@@ -174,7 +174,7 @@ impl<'a> OpenClaim<'a> {
 }
 
 /// The arguments of OPEN. Access and deny are any numbers.
-#[derive(Clone, Copy)]
+#[derive(Drop)]
 pub struct Open<'a> {
     pub seqid: u32,
     pub share_access: u32,
@@ -188,7 +188,7 @@ impl<'a> Open<'a> {
     /// Reads the arguments of OPEN; unreadable where they are not spelled so.
     #[tactic(auto, unfolding(crate::specs::OpenCodecs::open_args))]
     pub fn read(c: &mut Cursor<'a>) -> Result<Open<'a>, Unreadable>
-        ensures { ReadsPartBy view_open result (open_args.read c.old) c.new }
+        ensures { ReadsPartBy (λ x. x) result (open_args.read c.old) c.new }
     {
         let seqid = c.u32()?;
         let share_access = c.u32()?;

@@ -3,11 +3,11 @@
 ghost use Rattle.std.specs.Prelude.{◌≡◌, is_some};
 ghost use Rattle.nfs_xdr.specs.Readers.{ReadsPartBy};
 ghost use Rattle.nfs_xdr.specs.Combinators.{in_arm};
-ghost use Rattle.nfs_compound.specs.ArgCodecs.{impl_id, exchange_id_args, protected, create_session_args, sequence_args, view_impl_id, view_exchange_id};
-ghost use Rattle.nfs_compound.specs.ArgCodecs.{view_create_session};
+ghost use Rattle.nfs_compound.specs.ArgCodecs.{impl_id, exchange_id_args, protected, create_session_args, sequence_args};
 
 use crate::callback::all_sec_parms;
 use crate::channel_attrs::ChannelAttrs;
+use crate::lent::Lent;
 use nfs_xdr::{Cursor, OPAQUE_LIMIT, Time, Unreadable};
 
 /// No state protection (RFC 8881 section 18.35).
@@ -20,10 +20,10 @@ const SP4_MACH_CRED: u32 = 1;
 const SP4_SSV: u32 = 2;
 
 /// Who made a client, and when (nfs_impl_id4).
-#[derive(Clone, Copy)]
+#[derive(Drop)]
 pub struct ImplId<'a> {
-    pub domain: &'a [u8],
-    pub name: &'a [u8],
+    pub domain: Lent<'a>,
+    pub name: Lent<'a>,
     pub date: Time,
 }
 
@@ -31,21 +31,21 @@ impl<'a> ImplId<'a> {
     /// Reads who made a client, and when; unreadable where it is not spelled so.
     #[tactic(auto, unfolding(crate::specs::ArgCodecs::impl_id))]
     pub fn read(c: &mut Cursor<'a>) -> Result<ImplId<'a>, Unreadable>
-        ensures { ReadsPartBy view_impl_id result (impl_id.read c.old) c.new }
+        ensures { ReadsPartBy (λ x. x) result (impl_id.read c.old) c.new }
     {
-        let domain = c.opaque(u32::MAX)?;
-        let name = c.opaque(u32::MAX)?;
+        let domain = Lent::read(c, u32::MAX)?;
+        let name = Lent::read(c, u32::MAX)?;
         let date = c.time()?;
         Ok(ImplId { domain, name, date })
     }
 }
 
 /// The arguments of EXCHANGE_ID with no state protection.
-#[derive(Clone, Copy)]
+#[derive(Drop)]
 pub struct ExchangeId<'a> {
     pub verifier: [u8; 8],
     /// At most 1,024 bytes.
-    pub ownerid: &'a [u8],
+    pub ownerid: Lent<'a>,
     pub flags: u32,
     pub impl_id: Option<ImplId<'a>>,
 }
@@ -54,10 +54,10 @@ impl<'a> ExchangeId<'a> {
     /// Reads the arguments of EXCHANGE_ID with no state protection; unreadable where they are not spelled so.
     #[tactic(auto, unfolding(crate::specs::ArgCodecs::exchange_id_args))]
     pub fn read(c: &mut Cursor<'a>) -> Result<ExchangeId<'a>, Unreadable>
-        ensures { ReadsPartBy view_exchange_id result (exchange_id_args.read c.old) c.new }
+        ensures { ReadsPartBy (λ x. x) result (exchange_id_args.read c.old) c.new }
     {
         let verifier = c.fixed::<8>()?;
-        let ownerid = c.opaque(OPAQUE_LIMIT)?;
+        let ownerid = Lent::read(c, OPAQUE_LIMIT)?;
         let flags = c.u32()?;
         if c.u32()? != SP4_NONE {
             return Err(Unreadable);
@@ -97,7 +97,7 @@ fn protection(c: &mut Cursor<'_>) -> Result<u32, Unreadable>
 }
 
 /// The arguments of CREATE_SESSION.
-#[derive(Clone, Copy)]
+#[derive(Drop)]
 pub struct CreateSession<'a> {
     pub clientid: u64,
     pub sequence: u32,
@@ -106,14 +106,14 @@ pub struct CreateSession<'a> {
     pub back_chan_attrs: ChannelAttrs,
     pub cb_program: u32,
     /// The security parameters of callbacks as they are spelled; nothing looks at them.
-    pub sec_parms: &'a [u8],
+    pub sec_parms: Lent<'a>,
 }
 
 impl<'a> CreateSession<'a> {
     /// Reads the arguments of CREATE_SESSION; unreadable where they are not spelled so.
     #[tactic(auto, unfolding(crate::specs::ArgCodecs::create_session_args))]
     pub fn read(c: &mut Cursor<'a>) -> Result<CreateSession<'a>, Unreadable>
-        ensures { ReadsPartBy view_create_session result (create_session_args.read c.old) c.new }
+        ensures { ReadsPartBy (λ x. x) result (create_session_args.read c.old) c.new }
     {
         let clientid = c.u64()?;
         let sequence = c.u32()?;
@@ -121,7 +121,7 @@ impl<'a> CreateSession<'a> {
         let fore_chan_attrs = ChannelAttrs::read(c)?;
         let back_chan_attrs = ChannelAttrs::read(c)?;
         let cb_program = c.u32()?;
-        let sec_parms = all_sec_parms(c)?;
+        let sec_parms = Lent::of(all_sec_parms(c)?);
         Ok(CreateSession {
             clientid,
             sequence,

@@ -7,11 +7,13 @@ use Rattle.nfs_xdr.specs.Tables.{In}
 use Rattle.nfs_xdr.specs.Caller.{Caller}
 use Rattle.nfs_xdr.specs.declared.status.Status.TheVariants.{RepTooBig}
 use Rattle.nfs_xdr.proofs.Lists.{find_in}
-use Rattle.nfs_compound.specs.LockArgs as args
+use Rattle.nfs_compound.specs.declared.lock_args.Lock as args
 use Rattle.nfs_compound.specs.declared.lock_args.LockU.{LockU}
 use Rattle.nfs_compound.specs.declared.open_args.Close.{Close}
 use Rattle.nfs_compound.specs.declared.op_num.OpNum.TheVariants as Num
-use Rattle.nfs_compound.specs.Operation.{Op, Item, Operation, OpLock, OpLockU, OpClose, OpSequence, OpReclaimComplete}
+use Rattle.nfs_compound.specs.declared.op.Op.{Op}
+use Rattle.nfs_compound.specs.declared.op.Item.{Item}
+use Rattle.nfs_compound.specs.declared.op.Item.TheVariants.{Operation}
 use Rattle.nfs_compound.specs.Request.{Request, item_number}
 use Rattle.nfs_compound.specs.declared.session_args.Sequence.{Sequence}
 use Rattle.nfs_results.specs.Largest.{largest}
@@ -55,41 +57,41 @@ too_big m x i ok = let bad : is_ok RepTooBig ≡ true = sym (ap is_ok (refused_s
 
 -- One LOCK, LOCKU or CLOSE.
 
-lock_told : (limit sofar now : ℕ) (refused : Bool) (m : Machine) (x : Context) (a : args.Lock) (n : ℕ) (w : Wish) → Is m → Locks m.store x (OpLock a) n w
-    → (let o = (in_room limit sofar now refused m x (Operation (OpLock a))).outcome in
+lock_told : (limit sofar now : ℕ) (refused : Bool) (m : Machine) (x : Context) (a : args.Lock) (n : ℕ) (w : Wish) → Is m → Locks m.store x (Op.Lock a) n w
+    → (let o = (in_room limit sofar now refused m x (Operation (Op.Lock a))).outcome in
     is_ok o.status ≡ true → IsTold Num.Lock m.store x a.locktype a.offset a.length o.result n w)
 lock_told limit sofar now refused m x a n w is locks =
     in_room_is (λ s. is_ok s.outcome.status ≡ true → IsTold Num.Lock m.store x a.locktype a.offset a.length s.outcome.result n w)
-    limit sofar now refused m x (Operation (OpLock a)) (λ ok. absurd (too_big m x (Operation (OpLock a)) ok))
+    limit sofar now refused m x (Operation (Op.Lock a)) (λ ok. absurd (too_big m x (Operation (Op.Lock a)) ok))
     (λ ok. lock_tells m.store x (moment now) refused a n w is.table is.few locks ok)
 
-unlock_told : (limit sofar now : ℕ) (refused : Bool) (m : Machine) (x : Context) (a : LockU) (n : ℕ) (w : Wish) → Is m → Unlocks m.store x (OpLockU a) n w
-    → (let o = (in_room limit sofar now refused m x (Operation (OpLockU a))).outcome in
+unlock_told : (limit sofar now : ℕ) (refused : Bool) (m : Machine) (x : Context) (a : LockU) (n : ℕ) (w : Wish) → Is m → Unlocks m.store x (Op.LockU a) n w
+    → (let o = (in_room limit sofar now refused m x (Operation (Op.LockU a))).outcome in
     is_ok o.status ≡ true → IsTold Num.LockU m.store x a.locktype a.offset a.length o.result n w)
 unlock_told limit sofar now refused m x a n w is unlocks =
     in_room_is (λ s. is_ok s.outcome.status ≡ true → IsTold Num.LockU m.store x a.locktype a.offset a.length s.outcome.result n w)
-    limit sofar now refused m x (Operation (OpLockU a)) (λ ok. absurd (too_big m x (Operation (OpLockU a)) ok))
+    limit sofar now refused m x (Operation (Op.LockU a)) (λ ok. absurd (too_big m x (Operation (Op.LockU a)) ok))
     (λ ok. unlock_tells m.store x (moment now) refused a n w is.table is.few unlocks ok)
 
-close_told : (limit sofar now : ℕ) (refused : Bool) (m : Machine) (x : Context) (a : Close) (n : ℕ) → Closes m.store x (OpClose a) n
-    → (let o = (in_room limit sofar now refused m x (Operation (OpClose a))).outcome in is_ok o.status ≡ true → IsToldClosed x a o.result n)
+close_told : (limit sofar now : ℕ) (refused : Bool) (m : Machine) (x : Context) (a : Close) (n : ℕ) → Closes m.store x (Op.Close a) n
+    → (let o = (in_room limit sofar now refused m x (Operation (Op.Close a))).outcome in is_ok o.status ≡ true → IsToldClosed x a o.result n)
 close_told limit sofar now refused m x a n closes =
     in_room_is (λ s. is_ok s.outcome.status ≡ true → IsToldClosed x a s.outcome.result n)
-    limit sofar now refused m x (Operation (OpClose a)) (λ ok. absurd (too_big m x (Operation (OpClose a)) ok))
+    limit sofar now refused m x (Operation (Op.Close a)) (λ ok. absurd (too_big m x (Operation (Op.Close a)) ok))
     (λ ok. close_tells m.store x (moment now) refused a n closes ok)
 
 -- what a LOCK did that was told
 pub record DidLock (s : Step) (m : Machine) (x : Context) (a : args.Lock) (n : ℕ) (w : Wish) : Type 0 where
-  pub locks : Locks m.store x (OpLock a) n w
+  pub locks : Locks m.store x (Op.Lock a) n w
   pub ok : is_ok s.outcome.status ≡ true
   pub client : (l : LockState) → In l s.outcome.machine.store.opens.locks → l.number ≡ n → l.client ≡ x.client
 
 lock_did : (limit sofar now : ℕ) (refused : Bool) (m : Machine) (x : Context) (a : args.Lock) (n : ℕ) (w : Wish) → Is m
     → wished m.store x a.locktype a.offset a.length ≡ Ok w
-    → (let s = in_room limit sofar now refused m x (Operation (OpLock a)) in Names Num.Lock s.outcome.result n → DidLock s m x a n w)
+    → (let s = in_room limit sofar now refused m x (Operation (Op.Lock a)) in Names Num.Lock s.outcome.result n → DidLock s m x a n w)
 lock_did limit sofar now refused m x a n w is wish =
     in_room_is (λ s. Names Num.Lock s.outcome.result n → DidLock s m x a n w)
-    limit sofar now refused m x (Operation (OpLock a)) (λ told. absurd (lock_refused RepTooBig n told)) (λ told. record {
+    limit sofar now refused m x (Operation (Op.Lock a)) (λ told. absurd (lock_refused RepTooBig n told)) (λ told. record {
       locks = lock_grants_told m.store x (moment now) refused a n w is.table is.few wish told;
       ok = told_is_ok m.store x (moment now) refused a n w is.table is.few wish told;
       client = told_client m.store x (moment now) refused a n w is.table is.few wish told;
@@ -115,8 +117,8 @@ as_step d r i same = r.is ∙ ap (λ i. done d.before d.context i (ran_as d r i)
 told_lock : (d : RanOp) → IsRun d → (op : Op) (n : ℕ) (w : Wish) → d.item ≡ Operation op → is_ok d.status ≡ true → Locks d.before.store d.context op n w → LocksFor d n w
 told_lock d r op n w item ok locks =
     let a = locks.asked in
-    let is : d.item ≡ Operation (OpLock a) = item ∙ ap Operation locks.is in
-    let same = as_step d r (Operation (OpLock a)) is in
+    let is : d.item ≡ Operation (Op.Lock a) = item ∙ ap Operation locks.is in
+    let same = as_step d r (Operation (Op.Lock a)) is in
     let told = lock_told r.limit r.sofar r.now r.refused d.before d.context a n w r.whole
     (subst (λ op. Locks d.before.store d.context op n w) locks.is locks) (ap (λ (d : RanOp). is_ok d.status) (sym same) ∙ ok) in
     record { asked = a; is = is; wish = told.wish; names = subst (λ (d : RanOp). Names Num.Lock d.result n) (sym same) told.names }
@@ -125,8 +127,8 @@ told_unlock : (d : RanOp) → IsRun d → (op : Op) (n : ℕ) (w : Wish) → d.i
     → UnlocksFor d n w
 told_unlock d r op n w item ok unlocks =
     let a = unlocks.asked in
-    let is : d.item ≡ Operation (OpLockU a) = item ∙ ap Operation unlocks.is in
-    let same = as_step d r (Operation (OpLockU a)) is in
+    let is : d.item ≡ Operation (Op.LockU a) = item ∙ ap Operation unlocks.is in
+    let same = as_step d r (Operation (Op.LockU a)) is in
     let told = unlock_told r.limit r.sofar r.now r.refused d.before d.context a n w r.whole
     (subst (λ op. Unlocks d.before.store d.context op n w) unlocks.is unlocks) (ap (λ (d : RanOp). is_ok d.status) (sym same) ∙ ok) in
     record { asked = a; is = is; wish = told.wish; names = subst (λ (d : RanOp). Names Num.LockU d.result n) (sym same) told.names }
@@ -134,8 +136,8 @@ told_unlock d r op n w item ok unlocks =
 pub told_close : (d : RanOp) → IsRun d → (op : Op) (n : ℕ) → d.item ≡ Operation op → is_ok d.status ≡ true → Closes d.before.store d.context op n → ClosesOf d n
 told_close d r op n item ok closes =
     let a = closes.asked in
-    let is : d.item ≡ Operation (OpClose a) = item ∙ ap Operation closes.is in
-    let same = as_step d r (Operation (OpClose a)) is in
+    let is : d.item ≡ Operation (Op.Close a) = item ∙ ap Operation closes.is in
+    let same = as_step d r (Operation (Op.Close a)) is in
     let told = close_told r.limit r.sofar r.now r.refused d.before d.context a n
     (subst (λ op. Closes d.before.store d.context op n) closes.is closes) (ap (λ (d : RanOp). is_ok d.status) (sym same) ∙ ok) in
     record {
@@ -147,10 +149,10 @@ told_close d r op n item ok closes =
       names = subst (λ (d : RanOp). Names Num.Close d.result 0) (sym same) told.names;
     }
 
-pub did_lock : (d : RanOp) (r : IsRun d) (n : ℕ) (w : Wish) (l : LocksFor d n w) → DidLock (ran_as d r (Operation (OpLock l.asked))) d.before d.context l.asked n w
+pub did_lock : (d : RanOp) (r : IsRun d) (n : ℕ) (w : Wish) (l : LocksFor d n w) → DidLock (ran_as d r (Operation (Op.Lock l.asked))) d.before d.context l.asked n w
 did_lock d r n w l =
     lock_did r.limit r.sofar r.now r.refused d.before d.context l.asked n w r.whole l.wish
-    (subst (λ (d : RanOp). Names Num.Lock d.result n) (as_step d r (Operation (OpLock l.asked)) l.is) l.names)
+    (subst (λ (d : RanOp). Names Num.Lock d.result n) (as_step d r (Operation (Op.Lock l.asked)) l.is) l.names)
 
 -- what spares a lock by what was answered spares it from the inside
 pub spared_inside : (k : LockTold) (d : RanOp) → IsRun d → Spares k d → (op : Op) → d.item ≡ Operation op → is_ok d.status ≡ true
@@ -166,19 +168,19 @@ mapped_some None n e = (let bad : None ≡ Some n = e in absurd cc)
 mapped_some (Some l) n e = (let same : Some l.opened ≡ Some n = e in (l, refl, cc))
 
 lock_stands : (k : LockTold) (limit sofar now : ℕ) (refused : Bool) (m : Machine) (x : Context) (a : args.Lock)
-    → (let s = in_room limit sofar now refused m x (Operation (OpLock a)) in
-    is_ok s.outcome.status ≡ true → inside.Tells k m.store x (OpLock a) s.outcome.machine.store.opens → Stands k s.outcome.machine.store.opens)
+    → (let s = in_room limit sofar now refused m x (Operation (Op.Lock a)) in
+    is_ok s.outcome.status ≡ true → inside.Tells k m.store x (Op.Lock a) s.outcome.machine.store.opens → Stands k s.outcome.machine.store.opens)
 lock_stands k limit sofar now refused m x a =
-    in_room_is (λ s. is_ok s.outcome.status ≡ true → inside.Tells k m.store x (OpLock a) s.outcome.machine.store.opens → Stands k s.outcome.machine.store.opens)
-    limit sofar now refused m x (Operation (OpLock a)) (λ ok tells. absurd (too_big m x (Operation (OpLock a)) ok))
-    (λ ok tells. told.told_stands k m.store x (moment now) refused (OpLock a) ok tells)
+    in_room_is (λ s. is_ok s.outcome.status ≡ true → inside.Tells k m.store x (Op.Lock a) s.outcome.machine.store.opens → Stands k s.outcome.machine.store.opens)
+    limit sofar now refused m x (Operation (Op.Lock a)) (λ ok tells. absurd (too_big m x (Operation (Op.Lock a)) ok))
+    (λ ok tells. told.told_stands k m.store x (moment now) refused (Op.Lock a) ok tells)
 
 -- what a LOCK told stands behind it
 pub told_stands : (k : LockTold) (d : RanOp) → IsRun d → Tells k d → Stands k d.behind.store.opens
 told_stands k d r tells =
     let l = tells.locks in
-    let s = ran_as d r (Operation (OpLock l.asked)) in
-    let same : d ≡ done d.before d.context (Operation (OpLock l.asked)) s = as_step d r (Operation (OpLock l.asked)) l.is in
+    let s = ran_as d r (Operation (Op.Lock l.asked)) in
+    let same : d ≡ done d.before d.context (Operation (Op.Lock l.asked)) s = as_step d r (Operation (Op.Lock l.asked)) l.is in
     let did = did_lock d r k.state tells.wish l in
     let t : Table = s.outcome.machine.store.opens in
     let left : d.behind.store.opens ≡ t = ap (λ (d : RanOp). d.behind.store.opens) same in
@@ -223,7 +225,7 @@ step_client m x now refused i is =
     by_mark false = (spares_others refused m.store x (moment now) i is.table.opens).client
 
     by_item : (i : Item) → (otherwise m x i).context.client ≡ x.client
-    by_item (Operation (OpReclaimComplete one)) = refl
+    by_item (Operation (Op.ReclaimComplete one)) = refl
     by_item i = refl
 
 room_client : (limit sofar now : ℕ) (refused : Bool) (m : Machine) (x : Context) (i : Item) → Is m
@@ -264,7 +266,7 @@ session_run m r who now choice s more (sequence.Runs c) is d there =
 first_run : (m : Machine) (r : Request) (who : Caller) (size now : ℕ) (choice : Option ℕ) (items : List Item) → Is m
     → (d : RanOp) → In d (ops_of m r who size now choice items) → IsRunBy d (first_runs m r who size items)
 first_run m r who size now choice [] is d there = absurd there
-first_run m r who size now choice (Operation (OpSequence s) ∷ more) is d there = session_run m r who now choice s more (sequenced m r who size s) is d there
+first_run m r who size now choice (Operation (Op.Sequence s) ∷ more) is d there = session_run m r who now choice s more (sequenced m r who size s) is d there
 first_run m r who size now choice (item ∷ more) is d there = absurd there
 
 pub event_run : (m : Machine) (e : MachineEvent) → Is m → (d : RanOp) → In d (ops_by m e) → IsRun d × (renews d.context.client m e ≡ true)
@@ -280,11 +282,11 @@ event_run m (Asks r who size now choice) is d there = go (eqb r.minor 1) there
 
 lock_holds : (limit sofar now : ℕ) (refused : Bool) (m : Machine) (x : Context) (a : args.Lock) (n b : ℕ) (w : Wish) → Is m
     → wished m.store x a.locktype a.offset a.length ≡ Ok w → w.first ≤ b → b ≤ w.last
-    → (let s = in_room limit sofar now refused m x (Operation (OpLock a)) in
+    → (let s = in_room limit sofar now refused m x (Operation (Op.Lock a)) in
     Names Num.Lock s.outcome.result n → s.outcome.machine.store.opens.held w.file n b ≡ Some w.kind)
 lock_holds limit sofar now refused m x a n b w is wish lo hi =
     in_room_is (λ s. Names Num.Lock s.outcome.result n → s.outcome.machine.store.opens.held w.file n b ≡ Some w.kind)
-    limit sofar now refused m x (Operation (OpLock a)) (λ told. absurd (lock_refused RepTooBig n told))
+    limit sofar now refused m x (Operation (Op.Lock a)) (λ told. absurd (lock_refused RepTooBig n told))
     (λ told. told_held m.store x (moment now) refused a n w is.table is.few wish told b lo hi)
 
 found_open : (n : ℕ) (locks : List LockState) (l : LockState) → In l locks → l.number ≡ n
@@ -301,7 +303,7 @@ found_open n (k ∷ more) l there number = elim (cases_Bool (k.number == n)) [
 pub told_state : (d : RanOp) → IsRun d → Is d.behind → (n : ℕ) (w : Wish) → LocksFor d n w → w.first ≤ w.last
     → (opened : ℕ) × (option_map (λ (l : LockState). l.opened) (lock_at d.behind.store.opens n) ≡ Some opened)
 told_state d r behind n w l some =
-    let same = as_step d r (Operation (OpLock l.asked)) l.is in
+    let same = as_step d r (Operation (Op.Lock l.asked)) l.is in
     let t : Table = d.behind.store.opens in
     let now : t.held w.file n w.first ≡ Some w.kind =
     ap (λ (d : RanOp). d.behind.store.opens.held w.file n w.first) same

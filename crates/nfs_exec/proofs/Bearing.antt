@@ -14,7 +14,9 @@ use Rattle.nfs_compound.specs.declared.op_num.OpNum.TheVariants.{ReadDir, ReadLi
 use Rattle.nfs_compound.specs.declared.op_num.OpNum.TheVariants.{CreateSession, DestroySession, FreeStateid, SecinfoNoName, Sequence, TestStateid}
 use Rattle.nfs_compound.specs.declared.op_num.OpNum.TheVariants.{DestroyClientId, ReclaimComplete}
 use Rattle.nfs_compound.specs.OpNum.{op_number, op_nums, op_num}
-use Rattle.nfs_compound.specs.Operation.{Op, Item, Operation, Fault}
+use Rattle.nfs_compound.specs.declared.op.Op.{Op}
+use Rattle.nfs_compound.specs.declared.op.Item.{Item}
+use Rattle.nfs_compound.specs.declared.op.Item.TheVariants.{Operation, Fault}
 use Rattle.nfs_compound.specs.Arguments.{arguments}
 use Rattle.nfs_compound.specs.OpCodec.{flaw, fault_of, fault_at}
 use Rattle.nfs_compound.specs.Request.{Request, Lists, HasBody, item_number}
@@ -22,7 +24,7 @@ use Rattle.nfs_compound.proofs.GrammarLaws.{some_answer}
 use Rattle.nfs_results.specs.Results.{refusal}
 use Rattle.nfs_results.specs.Refusals.{bears, tells, can_refuse}
 use Rattle.nfs_results.specs.Parts.{is_legal}
-use Rattle.nfs_results.specs.Result.{Res, ResSetAttr, ResDestroySession, ResDestroyClientId, Refused}
+use Rattle.nfs_results.specs.declared.res.Res.{Res}
 use Rattle.nfs_results.specs.Results.{head, spell_result, status_of_result}
 use Rattle.nfs_results.specs.ResultCodec.{HasArrays, IsBounded}
 use Rattle.nfs_results.specs.Largest.{number_of}
@@ -33,8 +35,7 @@ use Rattle.nfs_xdr.proofs.Putting.{length_number}
 use Rattle.std.proofs.lemmas.List.{length-append, append-nil}
 use Rattle.nfs_xdr.specs.Spelling.{number}
 use Rattle.nfs_compound.specs.ArgCodecs.{protected}
-use Rattle.nfs_compound.specs.SessionArgs.{ExchangeId as ExchangeArgs}
-use Rattle.nfs_compound.specs.Operation.{OpExchangeId, OpDestroySession, OpDestroyClientId, OpSequence}
+use Rattle.nfs_compound.specs.declared.session_args.ExchangeId.{ExchangeId as ExchangeArgs}
 use Rattle.nfs_clients.specs.declared.destroy.DestroyFault.{DestroyFault}
 use Rattle.nfs_clients.specs.declared.destroy.DestroyFault.TheVariants.{Stale, Busy}
 use Rattle.nfs_clients.specs.DestroyClientId.{destroy_status}
@@ -43,7 +44,6 @@ use Rattle.nfs_xdr.specs.Combinators.{listed_at}
 use Rattle.std.proofs.Common.{length}
 use Rattle.nfs_exec.specs.Place.{stands_alone, is_sequence, item_fault, status_behind}
 use Rattle.nfs_exec.specs.View.{CanBear, IsSmall, IsOpened}
-use Rattle.nfs_compound.specs.View.{item}
 
 -- a status that every operation of the minor version can be refused with, with nothing behind it
 abbrev IsCommon : Status → Type 0
@@ -158,13 +158,13 @@ refusal_small n s can = elim (cases_Bool (eqb n 34)) [
   | inl e ↦ (
       let legal : is_legal s ≡ true = legal_of (is_legal s) (bears n s)
       (subst (λ b. IsTrue ((b && is_legal s) || (bears n s && not (b || ((eqb n 12 || eqb n 13) && eqb (status_number s) 10010))))) e can) in
-      let may : MayAnswer (Fault n s) (ResSetAttr s []) = (sym (eqb-true n 34 e), legal, omega arith) in
-      rw e (may.1, λ arrays. length_result (Fault n s) (ResSetAttr s []) arrays may)
+      let may : MayAnswer (Fault n s) (Res.SetAttr s []) = (sym (eqb-true n 34 e), legal, omega arith) in
+      rw e (may.1, λ arrays. length_result (Fault n s) (Res.SetAttr s []) arrays may)
       )
   | inr e ↦ (
       let plain : IsTrue (can_refuse n s) = subst (λ b. IsTrue ((b && is_legal s) || can_refuse n s)) e can in
-      let may : MayAnswer (Fault n s) (Refused n s) = (refl, plain, tt) in
-      rw e (plain, λ arrays. length_result (Fault n s) (Refused n s) arrays may)
+      let may : MayAnswer (Fault n s) (Res.Refused n s) = (refl, plain, tt) in
+      rw e (plain, λ arrays. length_result (Fault n s) (Res.Refused n s) arrays may)
       )
 ]
 
@@ -180,8 +180,8 @@ not_supp op = op_small op NotSupp (refl, refl, refl)
 pub not_in_session : (op : Op) → IsSmall (refusal (number_of op) OpNotInSession)
 not_in_session op = op_small op OpNotInSession (refl, refl, refl)
 
-pub exchanged_small : (e : ExchangeArgs) (r : Res) → MayAnswer (Operation (OpExchangeId e)) r → IsSmall r
-exchanged_small e r may = (may.1, λ arrays. length_result (Operation (OpExchangeId e)) r arrays may)
+pub exchanged_small : (e : ExchangeArgs) (r : Res) → MayAnswer (Operation (Op.ExchangeId e)) r → IsSmall r
+exchanged_small e r may = (may.1, λ arrays. length_result (Operation (Op.ExchangeId e)) r arrays may)
 
 -- the status that the first place refuses an item with is one that a reply can bear
 pub place_small : (i : Item) (declared : ℕ) (s : Status) → CanBear i → item_fault declared i ≡ Some s → IsSmall (refusal (item_number i) s)
@@ -225,18 +225,18 @@ opened_all r opened one i there = in_first r.declared opened.request.body i r.le
 pub opened_few : (r : Request) → IsOpened r → r.minor ≡ 1 → length r.left ≤ r.declared
 opened_few r opened one = few_listed r.declared opened.request.body r.left (listed r opened one)
 
-pub done_small : IsSmall ResDestroyClientId
-done_small = (tt, λ arrays. length_result (Operation (OpDestroyClientId 0)) ResDestroyClientId arrays (refl, tt, tt))
+pub done_small : IsSmall Res.DestroyClientId
+done_small = (tt, λ arrays. length_result (Operation (Op.DestroyClientId 0)) Res.DestroyClientId arrays (refl, tt, tt))
 
-pub session_done_small : IsSmall ResDestroySession
-session_done_small = (tt, λ arrays. length_result (Operation (OpDestroySession [])) ResDestroySession arrays (refl, tt, tt))
+pub session_done_small : IsSmall Res.DestroySession
+session_done_small = (tt, λ arrays. length_result (Operation (Op.DestroySession [])) Res.DestroySession arrays (refl, tt, tt))
 
 pub destroy_session_small : IsSmall (refusal 44 BadSession)
-destroy_session_small = op_small (OpDestroySession []) BadSession (refl, refl, refl)
+destroy_session_small = op_small (Op.DestroySession []) BadSession (refl, refl, refl)
 
 pub destroy_client_small : (fault : DestroyFault) → IsSmall (refusal 57 (destroy_status fault))
-destroy_client_small Stale = op_small (OpDestroyClientId 0) StaleClientId (refl, refl, refl)
-destroy_client_small Busy = op_small (OpDestroyClientId 0) ClientIdBusy (refl, refl, refl)
+destroy_client_small Stale = op_small (Op.DestroyClientId 0) StaleClientId (refl, refl, refl)
+destroy_client_small Busy = op_small (Op.DestroyClientId 0) ClientIdBusy (refl, refl, refl)
 
 -- what an item behind a SEQUENCE is refused with
 
@@ -262,7 +262,7 @@ pub behind_bears : (i : Item) (big : Bool) → CanBear i
 behind_bears (Fault n s) true bears = fault_too_big n s bears
 behind_bears (Fault n s) false bears = bears
 behind_bears (Operation op) true bears = op_bears op RepTooBig (refl, refl, refl)
-behind_bears (Operation (OpSequence s)) false bears = op_bears (OpSequence s) SequencePos (refl, refl, refl)
+behind_bears (Operation (Op.Sequence s)) false bears = op_bears (Op.Sequence s) SequencePos (refl, refl, refl)
 behind_bears (Operation op) false bears = refl
 
 pub refusal_bounded : (n : ℕ) (s : Status) → IsTrue ((eqb n 34 && is_legal s) || can_refuse n s) → IsBounded (refusal n s)

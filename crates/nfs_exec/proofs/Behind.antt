@@ -7,16 +7,15 @@ use Rattle.std.proofs.lemmas.Bool.{cases_Bool}
 use Rattle.std.proofs.lemmas.List.{length-append}
 use Rattle.nfs_xdr.specs.declared.status.Status.{Status}
 use Rattle.nfs_xdr.specs.declared.status.Status.TheVariants.{Nfs4Ok, NoFileHandle, Stale}
-use Rattle.nfs_compound.specs.Operation.{Item, Operation, OpReclaimComplete}
+use Rattle.nfs_compound.specs.declared.op.Item.{Item}
+use Rattle.nfs_compound.specs.declared.op.Item.TheVariants.{Operation}
+use Rattle.nfs_compound.specs.declared.op.Op.{Op}
 use Rattle.nfs_results.specs.Largest.{largest}
 use Rattle.nfs_xdr.specs.SheetState.{SheetState, Puts}
-use Rattle.nfs_results.specs.Result.{Res, ResReclaimComplete}
+use Rattle.nfs_results.specs.declared.res.Res.{Res}
 use Rattle.nfs_results.specs.Results.{spell_result, status_of_result, head}
 use Rattle.nfs_results.specs.Refusals.{can_refuse}
 use Rattle.nfs_results.proofs.Lengths.{length_head}
-use Rattle.nfs_compound.specs.declared.arg.Arg.{Arg}
-use Rattle.nfs_compound.specs.declared.arg.Arg.TheVariants as Args
-use Rattle.nfs_compound.specs.View.{item}
 use Rattle.nfs_tree.specs.declared.object.Object.{Object}
 use Rattle.nfs_tree.specs.Files.{object_at}
 use Rattle.nfs_names.specs.State.{State, moment}
@@ -53,14 +52,14 @@ pub current_bears : (s : State) (x : Context) (status : Status) → current s x 
 unfolding current
 current_bears s x status e = held_bears s x.current status e
 
-pub reclaimed_short : length (spell_result ResReclaimComplete) ≤ 12
+pub reclaimed_short : length (spell_result Res.ReclaimComplete) ≤ 12
 reclaimed_short = omega (arith, length-append (head 58 Nfs4Ok) [], length_head 58 Nfs4Ok)
 
 -- what nothing carries out is refused
-pub other_stays : (m : Machine) (x : Context) (a : Arg) → ((one : Bool) → a ≡ Args.ReclaimComplete one → ⊥)
-    → otherwise m x (item a) ≡ stays m x (item a) (status_behind (item a))
-other_stays m x (Args.ReclaimComplete one) other = absurd (other one refl)
-other_stays m x a other = refl
+pub other_stays : (m : Machine) (x : Context) (op : Op) → ((one : Bool) → op ≡ Op.ReclaimComplete one → ⊥)
+    → otherwise m x (Operation op) ≡ stays m x (Operation op) (status_behind (Operation op))
+other_stays m x (Op.ReclaimComplete one) other = absurd (other one refl)
+other_stays m x op other = refl
 
 -- What it comes to, by whose operation it is.
 
@@ -125,7 +124,7 @@ kept_step P keeps m x now refused i is =
     reclaim false = keeps.reclaimed m x is
 
     by_item : (i : Item) → P (otherwise m x i).outcome.machine
-    by_item (Operation (OpReclaimComplete one_fs)) = reclaim one_fs
+    by_item (Operation (Op.ReclaimComplete one_fs)) = reclaim one_fs
     by_item i = is
 
 pub follow_kept : (P : Machine → Type 0) (o : Outcome) (rest : Ran) → P o.machine → P rest.machine → P (follow o rest).machine
@@ -168,7 +167,7 @@ run_sessions limit sofar now choice m x items = kept_run (λ k. k.sessions ≡ m
 -- What was run, by whose operation it was.
 
 pub other_context : (m : Machine) (x : Context) (i : Item) → x ≡ (otherwise m x i).context
-other_context m x (Operation (OpReclaimComplete one)) = refl
+other_context m x (Operation (Op.ReclaimComplete one)) = refl
 other_context m x i = refl
 
 -- the mark was set, or nothing can have moved it

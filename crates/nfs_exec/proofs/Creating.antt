@@ -9,12 +9,13 @@ use Rattle.nfs_xdr.specs.declared.status.Status.{Status}
 use Rattle.nfs_xdr.specs.declared.status.Status.TheVariants.{Nfs4Ok, Delay}
 use Rattle.nfs_xdr.specs.Spelling.{hyper}
 use Rattle.nfs_xdr.proofs.Putting.{length_hyper}
-use Rattle.nfs_compound.specs.SessionArgs.{CreateSession}
-use Rattle.nfs_compound.specs.Operation.{Operation, OpCreateSession}
-use Rattle.nfs_results.specs.Result.{Res, ResCreateSession}
+use Rattle.nfs_compound.specs.declared.session_args.CreateSession.{CreateSession}
+use Rattle.nfs_compound.specs.declared.op.Item.TheVariants.{Operation}
+use Rattle.nfs_compound.specs.declared.op.Op.TheVariants as Op
+use Rattle.nfs_results.specs.declared.res.Res.{Res}
 use Rattle.nfs_results.specs.Results.{spell_result, head, operation_of, status_of_result, done_head}
 use Rattle.nfs_results.specs.Parts.{parts}
-use Rattle.nfs_compound.specs.declared.op_num.OpNum.TheVariants as Op
+use Rattle.nfs_compound.specs.declared.op_num.OpNum.TheVariants as Num
 use Rattle.nfs_results.proofs.Lengths.{length_result, length_head}
 use Rattle.nfs_clients.specs.Roster.{Roster}
 use Rattle.nfs_clients.specs.declared.created.CreateResult.TheVariants.{Refused}
@@ -35,11 +36,11 @@ use Rattle.nfs_exec.specs.View.{Does}
 pub length_id : (id : SessionId) → length (id_bytes id) ≡ 16
 length_id id = length-append (hyper id.client) (hyper id.counter) ∙ omega (arith, length_hyper id.client, length_hyper id.counter)
 
-pub made_long : (c : CreateSession) (id : SessionId) → length (spell_result (ResCreateSession (session_made c id))) ≤ 92
-made_long c id = length_result (Operation (OpCreateSession c)) (ResCreateSession (session_made c id)) (length_id id) (refl, tt, refl)
+pub made_long : (c : CreateSession) (id : SessionId) → length (spell_result (Res.CreateSession (session_made c id))) ≤ 92
+made_long c id = length_result (Operation (Op.CreateSession c)) (Res.CreateSession (session_made c id)) (length_id id) (refl, tt, refl)
 
 pub made_fits : (sheet : SheetState) (c : CreateSession) (id : SessionId) (r : Res)
-    → length sheet.bytes + 92 ≤ sheet.room → r ≡ ResCreateSession (session_made c id) → HasRoom sheet (spell_result r)
+    → length sheet.bytes + 92 ≤ sheet.room → r ≡ Res.CreateSession (session_made c id) → HasRoom sheet (spell_result r)
 made_fits sheet c id r room is =
     let long : length (spell_result r) ≤ 92 = subst (λ (r : Res). length (spell_result r) ≤ 92) (sym is) (made_long c id) in
     omega (arith, room, long)
@@ -81,7 +82,7 @@ begins_within old new r begin put at = (let whole = ap length put.bytes ∙ leng
 pub made : (m : Machine) (now : ℕ) (c : CreateSession) (id : SessionId) (did : Created) (after : SessionTable)
     (left : Machine) (body : List ℕ) (old new : SheetState) →
     Ok id ≡ did.answer → after ≡ did.after → left ≡ confirmed (record m { sessions = after }) now c.clientid body →
-    body ≡ made_body c id → Puts old new (done_head Op.CreateSession ++ made_body c id) →
+    body ≡ made_body c id → Puts old new (done_head Num.CreateSession ++ made_body c id) →
     Does (creates m now c did) Nfs4Ok left old new
 made m now c id did after left body old new ok is kept whole put =
     subst (λ answer. Does (by_created m now c did.after answer) Nfs4Ok left old new) ok (record {

@@ -14,13 +14,15 @@ use Rattle.nfs_xdr.specs.declared.status.Status.{Status}
 use Rattle.nfs_xdr.specs.declared.status.Status.TheVariants.{Nfs4Ok, MinorVersMismatch, Delay, NotOnlyOp, OpNotInSession}
 use Rattle.nfs_xdr.proofs.Tables.{at_of_in}
 use Rattle.nfs_compound.specs.Arguments.{arguments}
-use Rattle.nfs_compound.specs.Operation.{Op, Item, Operation, Fault, OpSequence, OpExchangeId, OpCreateSession}
+use Rattle.nfs_compound.specs.declared.op.Op.{Op}
+use Rattle.nfs_compound.specs.declared.op.Item.{Item}
+use Rattle.nfs_compound.specs.declared.op.Item.TheVariants.{Operation, Fault}
 use Rattle.nfs_compound.specs.Request.{Request, item_number}
-use Rattle.nfs_compound.specs.SessionArgs.{CreateSession}
+use Rattle.nfs_compound.specs.declared.session_args.CreateSession.{CreateSession}
 use Rattle.nfs_compound.specs.declared.op_num.OpNum.{OpNum}
 use Rattle.nfs_compound.specs.declared.session_args.Sequence.{Sequence}
 use Rattle.nfs_results.specs.Largest.{largest}
-use Rattle.nfs_results.specs.Result.{ResSequence}
+use Rattle.nfs_results.specs.declared.res.Res.TheVariants as Res
 use Rattle.nfs_results.specs.Results.{refusal, spell_result, spell_compound_head}
 use Rattle.nfs_clients.specs.Roster.{ClientRecord, client_at, id_of as client_id, next_id}
 use Rattle.nfs_clients.specs.CreateSession as clients
@@ -117,13 +119,13 @@ or_right true b e = refl
 or_right false b e = e
 
 names_grow : (s : State) (x : Context) (op : Op) → names.grows s x op ≡ true → grows s x (Operation op) ≡ true
-names_grow s x (OpExchangeId a) e = refl
-names_grow s x (OpCreateSession a) e = refl
+names_grow s x (Op.ExchangeId a) e = refl
+names_grow s x (Op.CreateSession a) e = refl
 names_grow s x op e = or_left (names.grows s x op) (files.grows s x op) e
 
 files_grow : (s : State) (x : Context) (op : Op) → files.grows s x op ≡ true → grows s x (Operation op) ≡ true
-files_grow s x (OpExchangeId a) e = refl
-files_grow s x (OpCreateSession a) e = refl
+files_grow s x (Op.ExchangeId a) e = refl
+files_grow s x (Op.CreateSession a) e = refl
 files_grow s x op e = or_right (names.grows s x op) (files.grows s x op) e
 
 abbrev named_by : Machine → Context → Op → OfStore → Bool → Step
@@ -327,16 +329,16 @@ IsEither m r who size now place items =
 
 -- SEQUENCE in front answers NFS4_OK
 abbrev behind_it : Machine → Request → Caller → Sequence → Channel → Ran → Answered
-behind_it m r who s channel rest = keeps r who s (answers r (follow (comes_to m (ResSequence (accepted s channel))) rest))
+behind_it m r who s channel rest = keeps r who s (answers r (follow (comes_to m (Res.Sequence (accepted s channel))) rest))
 
 abbrev front : Sequence → Channel → List ℕ
-front s channel = spell_result (ResSequence (accepted s channel))
+front s channel = spell_result (Res.Sequence (accepted s channel))
 
 cut_in_run : (m : Machine) (r c : Request) (who : Caller) (shorter now place : ℕ) (s : Sequence) (more : List Item) (channel : Channel) (left : Ran)
     → sequenced m c who shorter s ≡ sequence.Runs channel → c.tag ≡ r.tag
     → run channel.response (begun r s channel) now None (renewed m now s) (begins (id_of s.sessionid).client who) (take place more) ≡ left
     → left.status ≡ Nfs4Ok → left.count ≡ place
-    → by_first m c who shorter now None (Operation (OpSequence s) ∷ take place more)
+    → by_first m c who shorter now None (Operation (Op.Sequence s) ∷ take place more)
     ≡ keeps c who s (with_ok r (suc place) (front s channel ++ left.results) left.machine)
 cut_in_run m r c who shorter now place s more channel left runs tag is ok count =
     let k = renewed m now s in
@@ -347,12 +349,12 @@ cut_in_run m r c who shorter now place s more channel left runs tag is ok count 
     } in
     ap (in_session m c who now None s (take place more)) runs
     ∙ ap (λ (t : List ℕ). keeps c who s (answers (tagged t) (runs_behind k (tagged t) who now None s channel (take place more)))) tag
-    ∙ ap (λ (rest : Ran). keeps c who s (answers (tagged r.tag) (follow (comes_to k (ResSequence (accepted s channel))) rest))) is
+    ∙ ap (λ (rest : Ran). keeps c who s (answers (tagged r.tag) (follow (comes_to k (Res.Sequence (accepted s channel))) rest))) is
     ∙ ap (λ (status : Status). keeps c who s (texts status left.count)) ok
     ∙ ap (λ (n : ℕ). keeps c who s (texts Nfs4Ok n)) count
 
 in_run : (m : Machine) (r : Request) (who : Caller) (size now place : ℕ) (s : Sequence) (more : List Item) (channel : Channel) → IsMachine m
-    → sequenced m r who size s ≡ sequence.Runs channel → IsEither m r who size now (suc place) (Operation (OpSequence s) ∷ more)
+    → sequenced m r who size s ≡ sequence.Runs channel → IsEither m r who size now (suc place) (Operation (Op.Sequence s) ∷ more)
 in_run m r who size now place s more channel is runs =
     let k = renewed m now s in
     let client = (id_of s.sessionid).client in
@@ -390,7 +392,7 @@ in_run m r who size now place s more channel is runs =
 
 -- a refusal and a repeat run nothing, and SEQUENCE itself wants nothing
 in_session_either : (m : Machine) (r : Request) (who : Caller) (size now place : ℕ) (s : Sequence) (more : List Item) (v : Sequenced) → IsMachine m
-    → sequenced m r who size s ≡ v → IsEither m r who size now place (Operation (OpSequence s) ∷ more)
+    → sequenced m r who size s ≡ v → IsEither m r who size now place (Operation (Op.Sequence s) ∷ more)
 in_session_either m r who size now place s more (sequence.Refuses status) is e =
     inl (ap (in_session m r who now (Some place) s more) e ∙ sym (ap (in_session m r who now None s more) e))
 in_session_either m r who size now place s more (sequence.Repeats reply) is e =
@@ -413,7 +415,7 @@ lone : (m : Machine) (n : ℕ) (o : Outcome) → (or_delay true m n o ≡ o) ⊎
 lone m n o = elim (cases_Bool (is_ok o.status)) [ inl ok ↦ inr (rw ok refl, ok) | inr bad ↦ inl (rw bad refl) ]
 
 created_delays : (m : Machine) (now : ℕ) (c : CreateSession) (v : clients.Verdict)
-    → IsLone m (Operation (OpCreateSession c)) (by_verdict m now true c v) (by_verdict m now false c v)
+    → IsLone m (Operation (Op.CreateSession c)) (by_verdict m now true c v) (by_verdict m now false c v)
 created_delays m now c clients.Runs = elim (lone m create_session_number (creates m now c (create m.sessions c.clientid (wish_of m c)))) [
   | inl same ↦ inl same
   | inr delayed ↦ inr (record { is = delayed.0; wants = λ x. refl; ok = delayed.1 })
@@ -421,11 +423,11 @@ created_delays m now c clients.Runs = elim (lone m create_session_number (create
 created_delays m now c v = inl refl
 
 carried_delays : (m : Machine) (who : Caller) (now : ℕ) (i : Item) → IsLone m i (carried_out m who now true i) (carried_out m who now false i)
-carried_delays m who now (Operation (OpExchangeId e)) = elim (lone m exchange_id_number (exchange_id m who now e)) [
+carried_delays m who now (Operation (Op.ExchangeId e)) = elim (lone m exchange_id_number (exchange_id m who now e)) [
   | inl same ↦ inl same
   | inr delayed ↦ inr (record { is = delayed.0; wants = λ x. refl; ok = delayed.1 })
 ]
-carried_delays m who now (Operation (OpCreateSession c)) = created_delays m now c (clients.create_verdict m.clients c.clientid c.sequence who.uid)
+carried_delays m who now (Operation (Op.CreateSession c)) = created_delays m now c (clients.create_verdict m.clients c.clientid c.sequence who.uid)
 carried_delays m who now i = inl refl
 
 -- an operation that may stand where so many are declared may stand where fewer are
@@ -470,7 +472,7 @@ first_delays m declared who now i = go (item_fault declared i) refl
 
 items_either : (m : Machine) (r : Request) (who : Caller) (size now place : ℕ) (items : List Item) → IsMachine m → IsEither m r who size now place items
 items_either m r who size now place [] is = inl refl
-items_either m r who size now place (Operation (OpSequence s) ∷ more) is = in_session_either m r who size now place s more (sequenced m r who size s) is refl
+items_either m r who size now place (Operation (Op.Sequence s) ∷ more) is = in_session_either m r who size now place s more (sequenced m r who size s) is refl
 items_either m r who size now zero (item ∷ more) is = elim (first_delays m r.declared who now item) [
   | inl same ↦ inl (ap (λ (o : Outcome). answers r (only o)) same)
   | inr delayed ↦ inr (record {

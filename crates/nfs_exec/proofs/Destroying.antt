@@ -6,7 +6,7 @@ use Rattle.nfs_xdr.proofs.Lists.{filter_all, none_in}
 use Rattle.nfs_sessions.specs.Id.{id_of}
 use Rattle.nfs_sessions.specs.declared.id.SessionId.{SessionId}
 use Rattle.nfs_sessions.specs.Sessions.{SessionTable, is_session, session_at, destroyed}
-use Rattle.nfs_results.specs.Result.{Res}
+use Rattle.nfs_results.specs.declared.res.Res.{Res}
 use Rattle.nfs_results.specs.Results.{refusal}
 use Rattle.nfs_exec.specs.Machine.{Machine, comes_to}
 use Rattle.nfs_exec.specs.Destroy.{destroy_session}

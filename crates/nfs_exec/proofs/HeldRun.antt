@@ -4,7 +4,9 @@ use Rattle.std.specs.Prelude.{◌==◌, filter}
 use Rattle.std.proofs.lemmas.Bool.{eq-eqb}
 use Rattle.nfs_xdr.specs.Tables.{In}
 use Rattle.nfs_xdr.proofs.Lists.{in_filter, stays_in}
-use Rattle.nfs_compound.specs.Operation.{Op, Item, Operation, Fault, OpLock}
+use Rattle.nfs_compound.specs.declared.op.Op.{Op}
+use Rattle.nfs_compound.specs.declared.op.Item.{Item}
+use Rattle.nfs_compound.specs.declared.op.Item.TheVariants.{Operation, Fault}
 use Rattle.nfs_opens.specs.declared.records.LockState.{LockState}
 use Rattle.nfs_opens.specs.Table.{Table}
 use Rattle.nfs_names.specs.declared.context.Context.{Context}
@@ -77,7 +79,7 @@ lock_behind k some d r stands spares =
 before_lock : (k : LockTold) → k.first ≤ k.last → (d : RanOp) → IsRun d → Stands k d.before.store.opens → StandsBefore k d
 before_lock k some d r stands = record {
   stands = stands;
-  refused = λ n w l clash. clashing k d.before.store d.context (OpLock l.asked) n w r.whole.table some stands (did_lock d r n w l).locks clash;
+  refused = λ n w l clash. clashing k d.before.store d.context (Op.Lock l.asked) n w r.whole.table some stands (did_lock d r n w l).locks clash;
 }
 
 walked : (k : LockTold) → k.first ≤ k.last

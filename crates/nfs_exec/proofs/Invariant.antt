@@ -10,9 +10,11 @@ use Rattle.nfs_xdr.specs.declared.status.Status.{Status}
 use Rattle.nfs_xdr.specs.Tables.{In, record_at}
 use Rattle.nfs_xdr.proofs.Lists.{in_filter, in_push, in_map, find_in}
 use Rattle.nfs_xdr.proofs.Tables.{at_of_in, at_without, at_with, at_push}
-use Rattle.nfs_compound.specs.Operation.{Item, Operation, OpSequence, OpExchangeId, OpCreateSession, OpDestroySession, OpDestroyClientId, OpReclaimComplete}
+use Rattle.nfs_compound.specs.declared.op.Item.{Item}
+use Rattle.nfs_compound.specs.declared.op.Item.TheVariants.{Operation}
+use Rattle.nfs_compound.specs.declared.op.Op.TheVariants as Op
 use Rattle.nfs_compound.specs.Request.{Request, item_number}
-use Rattle.nfs_compound.specs.SessionArgs.{CreateSession}
+use Rattle.nfs_compound.specs.declared.session_args.CreateSession.{CreateSession}
 use Rattle.nfs_compound.specs.declared.session_args.Sequence.{Sequence}
 use Rattle.nfs_clients.specs.Roster.{ClientRecord, Roster, IsRoster, id_of as client_id, client_at, without, is_unconfirmed_of, unconfirmed_of, confirmed_of}
 use Rattle.nfs_clients.specs.Roster.{next_id}
@@ -490,12 +492,12 @@ of_destroyed_session m sessionid is = elim (cases_Bool (is_some (session_at m.se
 ]
 
 carried : (m : Machine) (who : Caller) (now : ℕ) (refused : Bool) (i : Item) → IsMachine m → IsMachine (carried_out m who now refused i).machine
-carried m who now refused (Operation (OpExchangeId e)) is =
+carried m who now refused (Operation (Op.ExchangeId e)) is =
     delayed m (exchange_id m who now e) refused exchange_id_number is (of_exchanged m (ask_of who e) now (case_of m.clients (ask_of who e)) is refl)
-carried m who now refused (Operation (OpCreateSession c)) is = of_created m now refused c
+carried m who now refused (Operation (Op.CreateSession c)) is = of_created m now refused c
     (clients.create_verdict m.clients c.clientid c.sequence who.uid) is (known_runs (client_at m.clients c.clientid) c.sequence who.uid)
-carried m who now refused (Operation (OpDestroySession sessionid)) is = of_destroyed_session m sessionid is
-carried m who now refused (Operation (OpDestroyClientId client)) is =
+carried m who now refused (Operation (Op.DestroySession sessionid)) is = of_destroyed_session m sessionid is
+carried m who now refused (Operation (Op.DestroyClientId client)) is =
     of_destroyed m client (destroy_fault m.clients client (has_session m.sessions client)) is
     (nothing_left (not (is_client m.clients client)) (has_session m.sessions client) (has_open m.clients client))
 carried m who now refused i is = is
@@ -654,7 +656,7 @@ of_step m x now refused i is known =
     reclaim false = of_reclaimed m x is known
 
     by_item : (i : Item) → Stands (otherwise m x i)
-    by_item (Operation (OpReclaimComplete one_fs)) = reclaim one_fs
+    by_item (Operation (Op.ReclaimComplete one_fs)) = reclaim one_fs
     by_item i = record { machine = is; client = known }
 
 pub of_room : (limit sofar now : ℕ) (refused : Bool) (m : Machine) (x : Context) (i : Item) → IsMachine m → is_confirmed m.clients x.client ≡ true →
@@ -698,7 +700,7 @@ sequenced_kept m r who size now choice s more (sequence.Runs c) is comes =
 items_kept : (m : Machine) (r : Request) (who : Caller) (size now : ℕ) (choice : Option ℕ) (items : List Item)
     → IsMachine m → IsMachine (by_first m r who size now choice items).machine
 items_kept m r who size now choice [] is = is
-items_kept m r who size now choice (Operation (OpSequence s) ∷ more) is = sequenced_kept m r who size now choice s more (sequenced m r who size s) is refl
+items_kept m r who size now choice (Operation (Op.Sequence s) ∷ more) is = sequenced_kept m r who size now choice s more (sequenced m r who size s) is refl
 items_kept m r who size now choice (item ∷ more) is = first m r.declared who now (is_here choice) item is
 
 pub of_compound : (m : Machine) (r : Request) (who : Caller) (size now : ℕ) (choice : Option ℕ)

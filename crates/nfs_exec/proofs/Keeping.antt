@@ -8,12 +8,14 @@ use Rattle.nfs_xdr.specs.Caller.{Caller}
 use Rattle.nfs_xdr.specs.SheetState.{SheetState, HasRoom, Puts}
 use Rattle.nfs_xdr.specs.declared.status.Status.{Status}
 use Rattle.nfs_xdr.specs.declared.status.Status.TheVariants.{Nfs4Ok}
-use Rattle.nfs_compound.specs.Operation.{Item, Operation, OpSequence}
+use Rattle.nfs_compound.specs.declared.op.Item.{Item}
+use Rattle.nfs_compound.specs.declared.op.Item.TheVariants.{Operation}
+use Rattle.nfs_compound.specs.declared.op.Op.TheVariants as Op
 use Rattle.nfs_compound.specs.Request.{Request}
 use Rattle.nfs_compound.specs.declared.session_args.Sequence.{Sequence}
 use Rattle.nfs_slots.specs.declared.slot.Verdict.{Verdict}
 use Rattle.nfs_slots.specs.declared.slot.Verdict.TheVariants.{Fresh, Again, FalseRetry, Misordered, NoSlot}
-use Rattle.nfs_results.specs.Result.{Res, ResSequence}
+use Rattle.nfs_results.specs.declared.res.Res.{Res}
 use Rattle.nfs_results.specs.Results.{spell_result, refusal, spell_compound_head}
 use Rattle.nfs_exec.proofs.Bearing.{refusal_short}
 use Rattle.nfs_results.specs.OpenHead.{HeadsAt, HasHead, SetsHead}
@@ -84,8 +86,8 @@ runs_means r who size s (Some session) c e =
     }
 
 -- the bytes of SEQUENCE's result
-pub accepted_long : (s : Sequence) (c : Channel) → length s.sessionid ≡ 16 → length (spell_result (ResSequence (accepted s c))) ≤ 44
-accepted_long s c long = length_result (Operation (OpSequence s)) (ResSequence (accepted s c)) long (refl, tt, tt)
+pub accepted_long : (s : Sequence) (c : Channel) → length s.sessionid ≡ 16 → length (spell_result (Res.Sequence (accepted s c))) ≤ 44
+accepted_long s c long = length_result (Operation (Op.Sequence s)) (Res.Sequence (accepted s c)) long (refl, tt, tt)
 
 -- The head that is closed over the results.
 

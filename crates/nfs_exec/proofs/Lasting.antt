@@ -7,11 +7,13 @@ use Rattle.nfs_xdr.specs.Tables.{In}
 use Rattle.nfs_xdr.specs.Spelling.{number}
 use Rattle.nfs_xdr.specs.declared.status.Status.{Status}
 use Rattle.nfs_xdr.specs.declared.status.Status.TheVariants.{NoFileHandle, Stale, MinorVersMismatch}
-use Rattle.nfs_compound.specs.Operation.{Item, Operation, OpSequence, OpExchangeId, OpCreateSession, OpDestroySession, OpDestroyClientId, OpGetAttr}
+use Rattle.nfs_compound.specs.declared.op.Item.{Item}
+use Rattle.nfs_compound.specs.declared.op.Item.TheVariants.{Operation}
+use Rattle.nfs_compound.specs.declared.op.Op.TheVariants as Op
 use Rattle.nfs_compound.specs.Request.{Request, item_number}
-use Rattle.nfs_compound.specs.SessionArgs.{CreateSession}
+use Rattle.nfs_compound.specs.declared.session_args.CreateSession.{CreateSession}
 use Rattle.nfs_compound.specs.declared.session_args.Sequence.{Sequence}
-use Rattle.nfs_results.specs.Result.{ResGetAttr}
+use Rattle.nfs_results.specs.declared.res.Res.TheVariants as Res
 use Rattle.nfs_results.specs.Results.{spell_result}
 use Rattle.nfs_clients.specs.CreateSession as clients
 use Rattle.nfs_clients.specs.CreateSession.{leaving}
@@ -127,11 +129,11 @@ session_lasts : (m : Machine) (sessionid : List ℕ) (lease : ℕ) → Lasts lea
 session_lasts m sessionid lease is = elim (cases_Bool (is_some (session_at m.sessions (id_of sessionid)))) [ inl stood ↦ rw stood is | inr gone ↦ rw gone is ]
 
 carried_lasts : (m : Machine) (who : Caller) (now : ℕ) (refused : Bool) (i : Item) (lease : ℕ) → Lasts lease m → Lasts lease (carried_out m who now refused i).machine
-carried_lasts m who now refused (Operation (OpExchangeId e)) lease is = delayed_lasts m (exchange_id m who now e) refused exchange_id_number lease is is
-carried_lasts m who now refused (Operation (OpCreateSession c)) lease is =
+carried_lasts m who now refused (Operation (Op.ExchangeId e)) lease is = delayed_lasts m (exchange_id m who now e) refused exchange_id_number lease is is
+carried_lasts m who now refused (Operation (Op.CreateSession c)) lease is =
     created_lasts m now refused c (clients.create_verdict m.clients c.clientid c.sequence who.uid) lease is
-carried_lasts m who now refused (Operation (OpDestroySession sessionid)) lease is = session_lasts m sessionid lease is
-carried_lasts m who now refused (Operation (OpDestroyClientId client)) lease is =
+carried_lasts m who now refused (Operation (Op.DestroySession sessionid)) lease is = session_lasts m sessionid lease is
+carried_lasts m who now refused (Operation (Op.DestroyClientId client)) lease is =
     destroyed_lasts m client (destroy_fault m.clients client (has_session m.sessions client)) lease is
 carried_lasts m who now refused i lease is = is
 
@@ -155,7 +157,7 @@ sequenced_lasts m r who now choice s more (sequence.Runs c) lease is =
 items_last : (m : Machine) (r : Request) (who : Caller) (size now : ℕ) (choice : Option ℕ) (items : List Item) (lease : ℕ) → Lasts lease m
     → Lasts lease (by_first m r who size now choice items).machine
 items_last m r who size now choice [] lease is = is
-items_last m r who size now choice (Operation (OpSequence s) ∷ more) lease is = sequenced_lasts m r who now choice s more (sequenced m r who size s) lease is
+items_last m r who size now choice (Operation (Op.Sequence s) ∷ more) lease is = sequenced_lasts m r who now choice s more (sequenced m r who size s) lease is
 items_last m r who size now choice (item ∷ more) lease is = first_lasts m r.declared who now (is_here choice) item lease is
 
 pub compound_lasts : (m : Machine) (r : Request) (who : Caller) (size now : ℕ) (choice : Option ℕ) (lease : ℕ) → Lasts lease m
@@ -176,7 +178,7 @@ session_ops m r who now choice s more (sequence.Runs c) lease is d there =
 first_ops : (m : Machine) (r : Request) (who : Caller) (size now : ℕ) (choice : Option ℕ) (items : List Item) (lease : ℕ) → Lasts lease m
     → (d : RanOp) → In d (ops_of m r who size now choice items) → Lasts lease d.before
 first_ops m r who size now choice [] lease is d there = absurd there
-first_ops m r who size now choice (Operation (OpSequence s) ∷ more) lease is d there =
+first_ops m r who size now choice (Operation (Op.Sequence s) ∷ more) lease is d there =
     session_ops m r who now choice s more (sequenced m r who size s) lease is d there
 first_ops m r who size now choice (item ∷ more) lease is d there = absurd there
 
@@ -204,30 +206,30 @@ unfolding current
 not_current s x status e = not_held s x.current status e
 
 by_current : (s : State) (x : Context) (v : Result Node Status) → ((status : Status) → v ≡ Err status → is_ok status ≡ false)
-    → (let o = of_store.answers s x Num.GetAttr (of_store.checked v (mask_checks ten)) (λ d. of_store.done s x (ResGetAttr (attributes_of s (mask_of ten) d))) in
-    of_store.is_ok o.result ≡ true → o.result ≡ ResGetAttr (record { attrmask = ten; attr_vals = number s.lease }))
+    → (let o = of_store.answers s x Num.GetAttr (of_store.checked v (mask_checks ten)) (λ d. of_store.done s x (Res.GetAttr (attributes_of s (mask_of ten) d))) in
+    of_store.is_ok o.result ≡ true → o.result ≡ Res.GetAttr (record { attrmask = ten; attr_vals = number s.lease }))
 unfolding attributes values number
 by_current s x (Err status) bad ok = absurd (let no : false ≡ true = sym (bad status refl) ∙ ok in cc)
 by_current s x (Ok d) bad ok = refl
 
 lease_result : (s : State) (x : Context) → of_store.is_ok (get_attr s x ten).result ≡ true
-    → (get_attr s x ten).result ≡ ResGetAttr (record { attrmask = ten; attr_vals = number s.lease })
+    → (get_attr s x ten).result ≡ Res.GetAttr (record { attrmask = ten; attr_vals = number s.lease })
 unfolding get_attr
 lease_result s x = by_current s x (current s x) (not_current s x)
 
 -- a GETATTR of attribute 10 that answered NFS4_OK
-pub lease_told : (d : RanOp) → IsRun d → (lease : ℕ) → Lasts lease d.before → d.item ≡ Operation (OpGetAttr ten) → is_ok d.status ≡ true
-    → d.result ≡ spell_result (ResGetAttr (record { attrmask = ten; attr_vals = number lease }))
+pub lease_told : (d : RanOp) → IsRun d → (lease : ℕ) → Lasts lease d.before → d.item ≡ Operation (Op.GetAttr ten) → is_ok d.status ≡ true
+    → d.result ≡ spell_result (Res.GetAttr (record { attrmask = ten; attr_vals = number lease }))
 lease_told d r lease lasts item ok =
-    let same = as_step d r (Operation (OpGetAttr ten)) item in
-    let text : List ℕ = spell_result (ResGetAttr (record { attrmask = ten; attr_vals = number lease })) in
+    let same = as_step d r (Operation (Op.GetAttr ten)) item in
+    let text : List ℕ = spell_result (Res.GetAttr (record { attrmask = ten; attr_vals = number lease })) in
     ap (λ (d : RanOp). d.result) same
-    ∙ in_room_is (λ s. is_ok s.outcome.status ≡ true → s.outcome.result ≡ text) r.limit r.sofar r.now r.refused d.before d.context (Operation (OpGetAttr ten))
-    (λ ok. absurd (too_big d.before d.context (Operation (OpGetAttr ten)) ok))
+    ∙ in_room_is (λ s. is_ok s.outcome.status ≡ true → s.outcome.result ≡ text) r.limit r.sofar r.now r.refused d.before d.context (Operation (Op.GetAttr ten))
+    (λ ok. absurd (too_big d.before d.context (Operation (Op.GetAttr ten)) ok))
     (λ ok. ap spell_result (lease_result d.before.store d.context ok)
-    ∙ ap (λ (n : ℕ). spell_result (ResGetAttr (record { attrmask = ten; attr_vals = number n }))) lasts)
+    ∙ ap (λ (n : ℕ). spell_result (Res.GetAttr (record { attrmask = ten; attr_vals = number n }))) lasts)
     (ap (λ (d : RanOp). is_ok d.status) (sym same) ∙ ok)
 
-pub event_told : (m : Machine) (e : MachineEvent) (lease : ℕ) → Is m → Lasts lease m → (d : RanOp) → In d (ops_by m e) → d.item ≡ Operation (OpGetAttr ten)
-    → is_ok d.status ≡ true → d.result ≡ spell_result (ResGetAttr (record { attrmask = ten; attr_vals = number lease }))
+pub event_told : (m : Machine) (e : MachineEvent) (lease : ℕ) → Is m → Lasts lease m → (d : RanOp) → In d (ops_by m e) → d.item ≡ Operation (Op.GetAttr ten)
+    → is_ok d.status ≡ true → d.result ≡ spell_result (Res.GetAttr (record { attrmask = ten; attr_vals = number lease }))
 event_told m e lease is lasts d there = lease_told d (event_run m e is d there).0 lease (event_ops_last m e lease lasts d there)

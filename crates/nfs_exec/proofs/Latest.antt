@@ -4,9 +4,11 @@ use Rattle.std.proofs.lemmas.Bool.{cases_Bool, le-ltb}
 use Rattle.std.specs.Prelude.{◌&&◌, ◌==◌, not, is_some, option_map}
 use Rattle.nfs_xdr.specs.Caller.{Caller}
 use Rattle.nfs_xdr.specs.declared.status.Status.{Status}
-use Rattle.nfs_compound.specs.Operation.{Item, Operation, OpSequence, OpExchangeId, OpCreateSession, OpDestroySession, OpDestroyClientId}
+use Rattle.nfs_compound.specs.declared.op.Item.{Item}
+use Rattle.nfs_compound.specs.declared.op.Item.TheVariants.{Operation}
+use Rattle.nfs_compound.specs.declared.op.Op.TheVariants as Op
 use Rattle.nfs_compound.specs.Request.{Request, item_number}
-use Rattle.nfs_compound.specs.SessionArgs.{CreateSession}
+use Rattle.nfs_compound.specs.declared.session_args.CreateSession.{CreateSession}
 use Rattle.nfs_compound.specs.declared.session_args.Sequence.{Sequence}
 use Rattle.nfs_clients.specs.declared.exchange_id.Exchanged.{Exchanged}
 use Rattle.nfs_clients.specs.declared.exchange_id.ClientFault.{ClientFault}
@@ -92,12 +94,12 @@ client_gone P now held m client (Some fault) is = is
 
 carried : (P : Book → Type 0) (now : ℕ) → IsHeld P now → (m : Machine) (who : Caller) (refused : Bool) (i : Item)
     → P m.leases → P (carried_out m who now refused i).machine.leases
-carried P now held m who refused (Operation (OpExchangeId e)) is =
+carried P now held m who refused (Operation (Op.ExchangeId e)) is =
     delayed P m (exchange_id m who now e) refused exchange_id_number is (behind P now held m.leases (exchange m.clients (ask_of who e)).answer is)
-carried P now held m who refused (Operation (OpCreateSession c)) is =
+carried P now held m who refused (Operation (Op.CreateSession c)) is =
     created P now held m refused c (clients.create_verdict m.clients c.clientid c.sequence who.uid) is
-carried P now held m who refused (Operation (OpDestroySession sessionid)) is = session_gone P m sessionid is
-carried P now held m who refused (Operation (OpDestroyClientId client)) is =
+carried P now held m who refused (Operation (Op.DestroySession sessionid)) is = session_gone P m sessionid is
+carried P now held m who refused (Operation (Op.DestroyClientId client)) is =
     client_gone P now held m client (destroy_fault m.clients client (has_session m.sessions client)) is
 carried P now held m who refused i is = is
 
@@ -121,7 +123,7 @@ sequenced_held P now held m r who choice s more (Runs c) is =
 items_held : (P : Book → Type 0) (now : ℕ) → IsHeld P now → (m : Machine) (r : Request) (who : Caller) (size : ℕ) (choice : Option ℕ) (items : List Item)
     → P m.leases → P (by_first m r who size now choice items).machine.leases
 items_held P now held m r who size choice [] is = is
-items_held P now held m r who size choice (Operation (OpSequence s) ∷ more) is = sequenced_held P now held m r who choice s more (sequenced m r who size s) is
+items_held P now held m r who size choice (Operation (Op.Sequence s) ∷ more) is = sequenced_held P now held m r who choice s more (sequenced m r who size s) is
 items_held P now held m r who size choice (item ∷ more) is = first P now held m r.declared who (is_here choice) item is
 
 pub compound_held : (P : Book → Type 0) (now : ℕ) → IsHeld P now → (m : Machine) (r : Request) (who : Caller) (size : ℕ) (choice : Option ℕ)
@@ -205,10 +207,10 @@ of_client m client None is = is
 of_client m client (Some fault) is = is
 
 of_carried : (m : Machine) (who : Caller) (now : ℕ) (refused : Bool) (i : Item) → IsStore m.store → IsStore (carried_out m who now refused i).machine.store
-of_carried m who now refused (Operation (OpExchangeId e)) is = of_delayed m (exchange_id m who now e) refused exchange_id_number is is
-of_carried m who now refused (Operation (OpCreateSession c)) is = of_created m now refused c (clients.create_verdict m.clients c.clientid c.sequence who.uid) is
-of_carried m who now refused (Operation (OpDestroySession sessionid)) is = of_session m sessionid is
-of_carried m who now refused (Operation (OpDestroyClientId client)) is = of_client m client (destroy_fault m.clients client (has_session m.sessions client)) is
+of_carried m who now refused (Operation (Op.ExchangeId e)) is = of_delayed m (exchange_id m who now e) refused exchange_id_number is is
+of_carried m who now refused (Operation (Op.CreateSession c)) is = of_created m now refused c (clients.create_verdict m.clients c.clientid c.sequence who.uid) is
+of_carried m who now refused (Operation (Op.DestroySession sessionid)) is = of_session m sessionid is
+of_carried m who now refused (Operation (Op.DestroyClientId client)) is = of_client m client (destroy_fault m.clients client (has_session m.sessions client)) is
 of_carried m who now refused i is = is
 
 pub first_stores : (m : Machine) (declared : ℕ) (who : Caller) (now : ℕ) (refused : Bool) (i : Item)

@@ -9,9 +9,11 @@ use Rattle.nfs_xdr.specs.Tables.{In}
 use Rattle.nfs_xdr.specs.declared.status.Status.{Status}
 use Rattle.nfs_xdr.specs.declared.status.Status.TheVariants.{Delay}
 use Rattle.nfs_xdr.proofs.Lists.{stays_in, map_in, find_in}
-use Rattle.nfs_compound.specs.Operation.{Item, Operation, OpExchangeId, OpCreateSession, OpDestroySession, OpDestroyClientId}
+use Rattle.nfs_compound.specs.declared.op.Item.{Item}
+use Rattle.nfs_compound.specs.declared.op.Item.TheVariants.{Operation}
+use Rattle.nfs_compound.specs.declared.op.Op.TheVariants as Op
 use Rattle.nfs_compound.specs.Request.{item_number}
-use Rattle.nfs_compound.specs.SessionArgs.{CreateSession}
+use Rattle.nfs_compound.specs.declared.session_args.CreateSession.{CreateSession}
 use Rattle.nfs_clients.specs.CreateSession as clients
 use Rattle.nfs_clients.specs.CreateSession.{leaving, leaving_by, without_any, confirms, keeps, with_kept, with_confirmed, is_other_confirmed_of}
 use Rattle.nfs_clients.specs.Roster.{ClientRecord, Roster, client_at, without}
@@ -120,12 +122,12 @@ session P m sessionid is = elim (cases_Bool (is_some (session_at m.sessions (id_
 
 carried : (client : ℕ) (P : State → Type 0) → HoldsForOthers client P → (m : Machine) (who : Caller) (now : ℕ) (refused : Bool) (i : Item) → P m.store
     → HoldsIfAlone client P m (carried_out m who now refused i).machine
-carried client P others m who now refused (Operation (OpExchangeId e)) is alone =
+carried client P others m who now refused (Operation (Op.ExchangeId e)) is alone =
     delayed client P m (exchange_id m who now e) refused exchange_id_number is (λ alone. is) alone
-carried client P others m who now refused (Operation (OpCreateSession c)) is alone =
+carried client P others m who now refused (Operation (Op.CreateSession c)) is alone =
     created client P others m now refused c (clients.create_verdict m.clients c.clientid c.sequence who.uid) is alone
-carried client P others m who now refused (Operation (OpDestroySession sessionid)) is alone = session P m sessionid is
-carried client P others m who now refused (Operation (OpDestroyClientId gone)) is alone =
+carried client P others m who now refused (Operation (Op.DestroySession sessionid)) is alone = session P m sessionid is
+carried client P others m who now refused (Operation (Op.DestroyClientId gone)) is alone =
     destroyed P m gone (destroy_fault m.clients gone (has_session m.sessions gone)) is
 carried client P others m who now refused i is alone = is
 

@@ -11,11 +11,13 @@ use Rattle.nfs_xdr.specs.declared.status.Status.TheVariants.{Nfs4Ok, Delay, Stal
 use Rattle.nfs_xdr.proofs.Lists.{find_in, in_filter, in_push, push_in, stays_in, find_push_none, find_past, find_none}
 use Rattle.nfs_compound.specs.declared.op_num.OpNum.TheVariants as Num
 use Rattle.nfs_compound.specs.OpNum.{op_number}
-use Rattle.nfs_compound.specs.Operation.{Item, Operation, OpSequence, OpExchangeId, OpCreateSession, OpDestroySession, OpDestroyClientId, OpReclaimComplete}
+use Rattle.nfs_compound.specs.declared.op.Item.{Item}
+use Rattle.nfs_compound.specs.declared.op.Item.TheVariants.{Operation}
+use Rattle.nfs_compound.specs.declared.op.Op.TheVariants as Op
 use Rattle.nfs_compound.specs.Request.{Request, item_number}
-use Rattle.nfs_compound.specs.SessionArgs.{CreateSession}
+use Rattle.nfs_compound.specs.declared.session_args.CreateSession.{CreateSession}
 use Rattle.nfs_compound.specs.declared.session_args.Sequence.{Sequence}
-use Rattle.nfs_results.specs.Result.{Refused}
+use Rattle.nfs_results.specs.declared.res.Res.TheVariants as Res
 use Rattle.nfs_results.specs.Results.{spell_result, done_head, spell_compound_head}
 use Rattle.nfs_results.specs.Items as item
 use Rattle.nfs_results.proofs.Lengths.{length_head, length_spelled}
@@ -50,7 +52,7 @@ use Rattle.nfs_exec.specs.Run.{run, in_room, is_here, behind_here}
 use Rattle.nfs_exec.specs.Place.{item_fault}
 use Rattle.nfs_exec.specs.ReclaimComplete.{reclaim_complete, of_one, of_all}
 use Rattle.nfs_exec.specs.ExchangeId.{exchange_id, exchange_id_number, ask_of}
-use Rattle.nfs_exec.specs.CreateSession.{create_session_number, by_verdict, creates, by_created, confirmed, made_body, wish_of, without_any_sessions, create_session}
+use Rattle.nfs_exec.specs.CreateSession.{create_session_number, by_verdict, creates, by_created, confirmed, made_body, wish_of, without_any_sessions}
 use Rattle.nfs_exec.specs.Destroy.{destroy_session, destroyed_unless, has_session}
 use Rattle.nfs_exec.specs.Sequence as sequence
 use Rattle.nfs_exec.specs.Sequence.{Sequenced, sequenced}
@@ -83,7 +85,7 @@ by_verdict_after P m now refused c clients.Runs same made =
     delayed_after P m (creates m now c did) refused create_session_number same (made did.after did.answer)
 
 asked_same : (n : ℕ) (i : Item) (rest : List Item) → asks_of n (i ∷ rest) ≡ asks_of n (i ∷ [])
-asked_same n (Operation (OpCreateSession c)) rest = refl
+asked_same n (Operation (Op.CreateSession c)) rest = refl
 asked_same n i rest = refl
 
 module _ (n : ℕ) (P : Roster → Type 0) (held : IsCarried n P) where
@@ -109,7 +111,7 @@ module _ (n : ℕ) (P : Roster → Type 0) (held : IsCarried n P) where
   reclaim_carried m x false a = all_carried m x a
 
   otherwise_carried : (m : Machine) (x : Context) (i : Item) → P m.clients → P (otherwise m x i).outcome.machine.clients
-  otherwise_carried m x (Operation (OpReclaimComplete one)) a = reclaim_carried m x one a
+  otherwise_carried m x (Operation (Op.ReclaimComplete one)) a = reclaim_carried m x one a
   otherwise_carried m x i a = a
 
   step_carried : (m : Machine) (x : Context) (now : ℕ) (refused : Bool) (i : Item) → P m.clients → P (step m x now refused i).outcome.machine.clients
@@ -145,14 +147,14 @@ module _ (n : ℕ) (P : Roster → Type 0) (held : IsCarried n P) where
 
   out_carried : (m : Machine) (who : Caller) (now : ℕ) (refused : Bool) (i : Item) → asks_of n (i ∷ []) ≡ false → P m.clients
       → P (carried_out m who now refused i).machine.clients
-  out_carried m who now refused (Operation (OpCreateSession c)) other a =
+  out_carried m who now refused (Operation (Op.CreateSession c)) other a =
       by_verdict_after (λ m. P m.clients) m now refused c (create_verdict m.clients c.clientid c.sequence who.uid) a
       (λ t r. made_other m now c t r (eqb-false c.clientid n other) a)
-  out_carried m who now refused (Operation (OpExchangeId e)) other a =
+  out_carried m who now refused (Operation (Op.ExchangeId e)) other a =
       delayed_after (λ m. P m.clients) m (exchange_id m who now e) refused exchange_id_number a
       (carried_case n P held m.clients (ask_of who e) (case_of m.clients (ask_of who e)) a)
-  out_carried m who now refused (Operation (OpDestroySession sessionid)) other a = ended_carried m sessionid a
-  out_carried m who now refused (Operation (OpDestroyClientId client)) other a =
+  out_carried m who now refused (Operation (Op.DestroySession sessionid)) other a = ended_carried m sessionid a
+  out_carried m who now refused (Operation (Op.DestroyClientId client)) other a =
       destroyed_carried m client (destroy_fault m.clients client (has_session m.sessions client)) a
   out_carried m who now refused i other a = a
 
@@ -174,7 +176,7 @@ module _ (n : ℕ) (P : Roster → Type 0) (held : IsCarried n P) where
   items_carried : (m : Machine) (r : Request) (who : Caller) (size now : ℕ) (choice : Option ℕ) (items : List Item) → asks_of n items ≡ false → P m.clients
       → P (by_first m r who size now choice items).machine.clients
   items_carried m r who size now choice [] other a = a
-  items_carried m r who size now choice (Operation (OpSequence s) ∷ rest) other a = session_carried m r who now choice s rest (sequenced m r who size s) a
+  items_carried m r who size now choice (Operation (Op.Sequence s) ∷ rest) other a = session_carried m r who now choice s rest (sequenced m r who size s) a
   items_carried m r who size now choice (i ∷ rest) other a = first_carried m r.declared who now (is_here choice) i (sym (asked_same n i rest) ∙ other) a
 
   pub event_carried : (m : Machine) (e : MachineEvent) → asks_session n e ≡ false → P m.clients → P (stepped m e).clients
@@ -213,10 +215,10 @@ verdict_runs m who now refused c clients.Runs e =
     delay_runs m now c refused (verdict_next m.clients c.clientid c.sequence who.uid (client_at m.clients c.clientid) refl e)
 
 item_runs : (m : Machine) (declared : ℕ) (who : Caller) (now : ℕ) (refused : Bool) (c : CreateSession)
-    → (let o = first_item m declared who now refused (Operation (OpCreateSession c)) in (o.machine ≡ m) ⊎ IsRun m now c o)
-item_runs m declared who now refused c = go (item_fault declared (Operation (OpCreateSession c)))
+    → (let o = first_item m declared who now refused (Operation (Op.CreateSession c)) in (o.machine ≡ m) ⊎ IsRun m now c o)
+item_runs m declared who now refused c = go (item_fault declared (Operation (Op.CreateSession c)))
   where
-    go : (f : Option Status) → (let o = by_fault m (op_number Num.CreateSession) f (carried_out m who now refused (Operation (OpCreateSession c))) in
+    go : (f : Option Status) → (let o = by_fault m (op_number Num.CreateSession) f (carried_out m who now refused (Operation (Op.CreateSession c))) in
         (o.machine ≡ m) ⊎ IsRun m now c o)
     go None = verdict_runs m who now refused c (create_verdict m.clients c.clientid c.sequence who.uid) refl
     go (Some status) = inl refl
@@ -224,7 +226,7 @@ item_runs m declared who now refused c = go (item_fault declared (Operation (OpC
 pub record IsAsked (n : ℕ) (m : Machine) (r : Request) (now : ℕ) (a : Answered) : Type 0 where
   pub asked : CreateSession
   pub more : List Item
-  pub first : r.left ≡ Operation (OpCreateSession asked) ∷ more
+  pub first : r.left ≡ Operation (Op.CreateSession asked) ∷ more
   pub for : asked.clientid ≡ n
   pub next : IsNext m.clients asked.clientid asked.sequence
   pub text : a.text ≡ spell_compound_head (created m now asked).status r.tag 1 ++ (created m now asked).result
@@ -232,7 +234,7 @@ pub record IsAsked (n : ℕ) (m : Machine) (r : Request) (now : ℕ) (a : Answer
 
 items_run : (n : ℕ) (m : Machine) (r : Request) (who : Caller) (size now : ℕ) (choice : Option ℕ) (items : List Item) → r.left ≡ items → asks_of n items ≡ true
     → (let a = by_first m r who size now choice items in (a.machine ≡ m) ⊎ IsAsked n m r now a)
-items_run n m r who size now choice (Operation (OpCreateSession c) ∷ more) left asks = elim (item_runs m r.declared who now (is_here choice) c) [
+items_run n m r who size now choice (Operation (Op.CreateSession c) ∷ more) left asks = elim (item_runs m r.declared who now (is_here choice) c) [
   | inl same ↦ inl same
   | inr run ↦ inr (record {
     asked = c;
@@ -284,10 +286,10 @@ event_after n number most body m e a = elim (cases_Bool (asks_session n e)) [
 
 -- a refusal ends behind its status
 refused_short : (status : Status) (id behind : List ℕ) → length id ≡ 16
-    → spell_result (Refused (op_number Num.CreateSession) status) ≡ done_head Num.CreateSession ++ (id ++ behind) → ⊥
+    → spell_result (Res.Refused (op_number Num.CreateSession) status) ≡ done_head Num.CreateSession ++ (id ++ behind) → ⊥
 refused_short status id behind long e =
     let whole = ap length e in
-    let spelled = length_spelled (Refused (op_number Num.CreateSession) status) in
+    let spelled = length_spelled (Res.Refused (op_number Num.CreateSession) status) in
     let head = length_head (op_number Num.CreateSession) Nfs4Ok in
     let both = length-append (done_head Num.CreateSession) (id ++ behind) in
     let rest = length-append id behind in absurd (omega arith)
@@ -360,10 +362,10 @@ verdict_either m who now refused c id behind clients.Runs long e =
     (made_either m now c id behind did.answer long (verdict_next m.clients c.clientid c.sequence who.uid (client_at m.clients c.clientid) refl e) refl)
 
 item_either : (m : Machine) (declared : ℕ) (who : Caller) (now : ℕ) (refused : Bool) (c : CreateSession) (id behind : List ℕ) → length id ≡ 16
-    → (let o = first_item m declared who now refused (Operation (OpCreateSession c)) in Tells (id ++ behind) o → IsEither m now c (id ++ behind) o.machine)
-item_either m declared who now refused c id behind long = go (item_fault declared (Operation (OpCreateSession c)))
+    → (let o = first_item m declared who now refused (Operation (Op.CreateSession c)) in Tells (id ++ behind) o → IsEither m now c (id ++ behind) o.machine)
+item_either m declared who now refused c id behind long = go (item_fault declared (Operation (Op.CreateSession c)))
   where
-    go : (f : Option Status) → (let o = by_fault m (op_number Num.CreateSession) f (carried_out m who now refused (Operation (OpCreateSession c))) in
+    go : (f : Option Status) → (let o = by_fault m (op_number Num.CreateSession) f (carried_out m who now refused (Operation (Op.CreateSession c))) in
         Tells (id ++ behind) o → IsEither m now c (id ++ behind) o.machine)
     go None = verdict_either m who now refused c id behind (create_verdict m.clients c.clientid c.sequence who.uid) long refl
     go (Some status) = λ told. absurd (refused_short status id behind long told)
@@ -386,13 +388,13 @@ either : (client number : ℕ) (id : List ℕ) (m : Machine) (e : MachineEvent) 
 either client number id m e g =
     subst (λ e. IsEither m g.now g.asked (id ++ g.behind) (stepped m e)) (sym g.is) (by_minor (eqb g.request.minor 1) g.answers)
   where
-    by_items : (items : List Item) → items ≡ Operation (OpCreateSession g.asked) ∷ g.more
+    by_items : (items : List Item) → items ≡ Operation (Op.CreateSession g.asked) ∷ g.more
         → (by_first m g.request g.who g.size g.now g.choice items).text ≡ spell_compound_head Nfs4Ok g.request.tag 1 ++ (done_head Num.CreateSession ++ (id ++ g.behind))
         → IsEither m g.now g.asked (id ++ g.behind) (by_first m g.request g.who g.size g.now g.choice items).machine
     by_items items same told =
-        let list : by_first m g.request g.who g.size g.now g.choice items ≡ by_first m g.request g.who g.size g.now g.choice (Operation (OpCreateSession g.asked) ∷ g.more) =
+        let list : by_first m g.request g.who g.size g.now g.choice items ≡ by_first m g.request g.who g.size g.now g.choice (Operation (Op.CreateSession g.asked) ∷ g.more) =
         ap (by_first m g.request g.who g.size g.now g.choice) same in
-        let o = first_item m g.request.declared g.who g.now (is_here g.choice) (Operation (OpCreateSession g.asked)) in
+        let o = first_item m g.request.declared g.who g.now (is_here g.choice) (Operation (Op.CreateSession g.asked)) in
         subst (λ a. IsEither m g.now g.asked (id ++ g.behind) a.machine) (sym list)
         (item_either m g.request.declared g.who g.now (is_here g.choice) g.asked id g.behind g.long
         (behind_head o.status Nfs4Ok g.request.tag 1 o.result (done_head Num.CreateSession ++ (id ++ g.behind)) (ap (λ a. a.text) (sym list) ∙ told)))

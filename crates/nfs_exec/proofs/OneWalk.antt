@@ -4,7 +4,9 @@ use Rattle.std.specs.Option.{option_map_or}
 use Rattle.nfs_xdr.specs.Caller.{Caller}
 use Rattle.nfs_xdr.specs.declared.status.Status.TheVariants.{MinorVersMismatch}
 use Rattle.nfs_xdr.specs.Tables.{In}
-use Rattle.nfs_compound.specs.Operation.{Item, Operation, OpSequence}
+use Rattle.nfs_compound.specs.declared.op.Item.{Item}
+use Rattle.nfs_compound.specs.declared.op.Item.TheVariants.{Operation}
+use Rattle.nfs_compound.specs.declared.op.Op.TheVariants as Op
 use Rattle.nfs_compound.specs.Request.{Request}
 use Rattle.nfs_compound.specs.declared.session_args.Sequence.{Sequence}
 use Rattle.nfs_sessions.specs.Id.{id_of}
@@ -46,7 +48,7 @@ session_kind m r who now choice s more (sequence.Runs c) =
 first_kind : (m : Machine) (r : Request) (who : Caller) (size now : ℕ) (choice : Option ℕ) (items : List Item)
     → Kind m (ops_of m r who size now choice items) (by_first m r who size now choice items).machine (first_runs m r who size items)
 first_kind m r who size now choice [] = inr (refl, refl)
-first_kind m r who size now choice (Operation (OpSequence s) ∷ more) = session_kind m r who now choice s more (sequenced m r who size s)
+first_kind m r who size now choice (Operation (Op.Sequence s) ∷ more) = session_kind m r who now choice s more (sequenced m r who size s)
 first_kind m r who size now choice (item ∷ more) = inr (refl, refl)
 
 event_kind : (m : Machine) (e : MachineEvent) → Kind m (ops_by m e) (stepped m e) (ran m e)

@@ -1,5 +1,5 @@
 -- An open that was told, through the operations of an event.
-use Rattle.std.proofs.Common.{◌≡◌, ℕ, Bool, true, false, cond, List, ◌∷◌, ◌++◌, Some, None, refl, sym, ◌∙◌, ap, subst, inl, inr}
+use Rattle.std.proofs.Common.{◌≡◌, ℕ, Bool, true, false, cond, List, ◌∷◌, ◌++◌, Some, None, refl, sym, ◌∙◌, ap, subst, inl}
 use Rattle.std.specs.Prelude.{◌==◌, filter}
 use Rattle.std.proofs.lemmas.Bool.{eq-eqb, true≢false}
 use Rattle.std.proofs.lemmas.Option.{none-some}
@@ -7,10 +7,12 @@ use Rattle.nfs_xdr.specs.Tables.{In}
 use Rattle.nfs_xdr.specs.declared.status.Status.{Status}
 use Rattle.nfs_xdr.specs.declared.status.Status.TheVariants.{RepTooBig}
 use Rattle.nfs_xdr.proofs.Lists.{in_filter, stays_in}
-use Rattle.nfs_compound.specs.OpenArgs.{Open}
+use Rattle.nfs_compound.specs.declared.open_args.Open.{Open}
 use Rattle.nfs_compound.specs.declared.op_num.OpNum.TheVariants as Num
 use Rattle.nfs_compound.specs.OpNum.{op_number}
-use Rattle.nfs_compound.specs.Operation.{Op, Item, Operation, Fault, OpOpen, OpOpenDowngrade}
+use Rattle.nfs_compound.specs.declared.op.Op.{Op}
+use Rattle.nfs_compound.specs.declared.op.Item.{Item}
+use Rattle.nfs_compound.specs.declared.op.Item.TheVariants.{Operation, Fault}
 use Rattle.nfs_compound.specs.Request.{item_number}
 use Rattle.nfs_results.specs.Results.{spell_result, refusal}
 use Rattle.nfs_opens.specs.declared.records.OpenState.{OpenState}
@@ -64,22 +66,22 @@ framed k b t u own is =
 -- One operation.
 
 refused_bits : (n : ℕ) (i : Item) (status : Status) (b : Bits) → bits_behind n i (spell_result (refusal (item_number i) status)) b ≡ b
-refused_bits n (Operation (OpOpen a)) status b = ap (λ v. cond v (bits_with b a) b) (short_names_none Num.Open (op_number Num.Open) status n)
-refused_bits n (Operation (OpOpenDowngrade a)) status b =
+refused_bits n (Operation (Op.Open a)) status b = ap (λ v. cond v (bits_with b a) b) (short_names_none Num.Open (op_number Num.Open) status n)
+refused_bits n (Operation (Op.OpenDowngrade a)) status b =
     ap (λ v. cond v (record { access = bits a.share_access; deny = bits a.share_deny }) b)
     (short_names_none Num.OpenDowngrade (op_number Num.OpenDowngrade) status n)
 refused_bits n i status b = refl
 
 named_bits : (n : ℕ) (i : Item) (text : List ℕ) (b : Bits) (refused : Bool) (s : State) (x : Context) (now : Time) (o : OfStore)
     → names.comes_to refused s x now i ≡ Some o → bits_behind n i text b ≡ b
-named_bits n (Operation (OpOpen a)) text b refused s x now o on = absurd (none-some o on)
-named_bits n (Operation (OpOpenDowngrade a)) text b refused s x now o on = absurd (none-some o on)
+named_bits n (Operation (Op.Open a)) text b refused s x now o on = absurd (none-some o on)
+named_bits n (Operation (Op.OpenDowngrade a)) text b refused s x now o on = absurd (none-some o on)
 named_bits n i text b refused s x now o on = refl
 
 other_bits : (n : ℕ) (i : Item) (text : List ℕ) (b : Bits) (refused : Bool) (s : State) (x : Context) (now : Time)
     → table.comes_to refused s x now i ≡ None → bits_behind n i text b ≡ b
-other_bits n (Operation (OpOpen a)) text b refused s x now off = absurd (none-some _ (sym off))
-other_bits n (Operation (OpOpenDowngrade a)) text b refused s x now off = absurd (none-some _ (sym off))
+other_bits n (Operation (Op.Open a)) text b refused s x now off = absurd (none-some _ (sym off))
+other_bits n (Operation (Op.OpenDowngrade a)) text b refused s x now off = absurd (none-some _ (sym off))
 other_bits n i text b refused s x now off = refl
 
 -- behind a step the open stands, with the bits that it has then
@@ -122,11 +124,11 @@ room_left k b limit sofar now refused m x i is stands =
 -- An OPEN that answers its stateid.
 
 open_refused : (k : OpenTold) (b : Bits) (limit sofar now : ℕ) (refused : Bool) (m : Machine) (x : Context) (a : Open) (n : ℕ) → Is m → IsOpenWith k b m.store.opens
-    → (let s = in_room limit sofar now refused m x (Operation (OpOpen a)) in
+    → (let s = in_room limit sofar now refused m x (Operation (Op.Open a)) in
     names_open Num.Open s.outcome.result n ≡ true → claimed s.outcome.machine.store.tree x a.claim ≡ Some k.file → forbids k b x a ≡ true → ⊥)
 open_refused k b limit sofar now refused m x a n is stands =
     in_room_is (λ s. names_open Num.Open s.outcome.result n ≡ true → claimed s.outcome.machine.store.tree x a.claim ≡ Some k.file → forbids k b x a ≡ true → ⊥)
-    limit sofar now refused m x (Operation (OpOpen a))
+    limit sofar now refused m x (Operation (Op.Open a))
     (λ named leads e. true≢false (sym named ∙ short_names_none Num.Open (op_number Num.Open) RepTooBig n))
     (λ named leads e. opens_refused k b refused m.store x (moment now) a n is.table is.few stands named leads e)
 
@@ -134,7 +136,7 @@ before_open : (k : OpenTold) (b : Bits) (d : RanOp) → IsRun d → IsOpenWith k
 before_open k b d r stands = record {
   stands = stands;
   refused = λ n o e.
-      (let same = as_step d r (Operation (OpOpen o.asked)) o.is in
+      (let same = as_step d r (Operation (Op.Open o.asked)) o.is in
       open_refused k b r.limit r.sofar r.now r.refused d.before d.context o.asked n r.whole stands
       (subst (λ (c : RanOp). names_open Num.Open c.result n ≡ true) same o.names)
       (subst (λ (c : RanOp). claimed c.behind.store.tree d.context o.asked.claim ≡ Some k.file) same o.leads) e);
@@ -176,18 +178,18 @@ open_frame = framed
 -- What an OPEN told.
 
 opens_told : (limit sofar now : ℕ) (refused : Bool) (m : Machine) (x : Context) (a : Open) (n : ℕ) → Is m
-    → (let s = in_room limit sofar now refused m x (Operation (OpOpen a)) in
+    → (let s = in_room limit sofar now refused m x (Operation (Op.Open a)) in
     names_open Num.Open s.outcome.result n ≡ true → (file : ℕ) × IsToldOpen m.store x a n s.outcome.machine.store file)
 opens_told limit sofar now refused m x a n is =
     in_room_is (λ s. names_open Num.Open s.outcome.result n ≡ true → (file : ℕ) × IsToldOpen m.store x a n s.outcome.machine.store file)
-    limit sofar now refused m x (Operation (OpOpen a))
+    limit sofar now refused m x (Operation (Op.Open a))
     (λ named. absurd (true≢false (sym named ∙ short_names_none Num.Open (op_number Num.Open) RepTooBig n)))
     (λ named. told_opens refused m.store x (moment now) a n is.table is.few named)
 
-run_told : (d : RanOp) → IsRun d → (a : Open) (n : ℕ) → d.item ≡ Operation (OpOpen a) → names_open Num.Open d.result n ≡ true
+run_told : (d : RanOp) → IsRun d → (a : Open) (n : ℕ) → d.item ≡ Operation (Op.Open a) → names_open Num.Open d.result n ≡ true
     → (file : ℕ) × IsToldOpen d.before.store d.context a n d.behind.store file
 run_told d r a n item named =
-    let same = as_step d r (Operation (OpOpen a)) item in
+    let same = as_step d r (Operation (Op.Open a)) item in
     let (file, told) = opens_told r.limit r.sofar r.now r.refused d.before d.context a n r.whole
     (subst (λ (c : RanOp). names_open Num.Open c.result n ≡ true) same named) in
     (file, subst (λ (c : RanOp). IsToldOpen d.before.store d.context a n c.behind.store file) (sym same) told)
@@ -225,7 +227,7 @@ told_open k b m e front told back is same tells =
     (λ b ds t. IsOpenWith k (bits_left k.number b ds) t) (walked k) m e front told back is same b (told_stands k b told run.0 tells) in
     record { within = kept.0; behind = kept.1; renewed = subst (λ client. renews client m e ≡ true) (sym tells.client) run.1 }
 
-pub each_tells : (m : Machine) (e : MachineEvent) (d : RanOp) (a : Open) (n : ℕ) → Is m → In d (ops_by m e) → d.item ≡ Operation (OpOpen a)
+pub each_tells : (m : Machine) (e : MachineEvent) (d : RanOp) (a : Open) (n : ℕ) → Is m → In d (ops_by m e) → d.item ≡ Operation (Op.Open a)
     → names_open Num.Open d.result n ≡ true
     → (k : OpenTold) × (b : Bits) × (k.number ≡ n) × TellsOpen k b d
 each_tells m e d a n is there item named =

@@ -3,10 +3,12 @@ use Rattle.std.proofs.Common.{◌≡◌, ℕ, suc, ◌+◌, Bool, true, false, c
 use Rattle.std.proofs.lemmas.Bool.{true≢false, false≢true}
 use Rattle.nfs_xdr.specs.Caller.{Caller}
 use Rattle.nfs_xdr.specs.declared.status.Status.TheVariants.{MinorVersMismatch}
-use Rattle.nfs_compound.specs.Operation.{Item, Operation, OpSequence}
+use Rattle.nfs_compound.specs.declared.op.Item.{Item}
+use Rattle.nfs_compound.specs.declared.op.Item.TheVariants.{Operation}
+use Rattle.nfs_compound.specs.declared.op.Op.TheVariants as Op
 use Rattle.nfs_compound.specs.Request.{Request}
 use Rattle.nfs_compound.specs.declared.session_args.Sequence.{Sequence}
-use Rattle.nfs_results.specs.Result.{ResSequence}
+use Rattle.nfs_results.specs.declared.res.Res.TheVariants as Res
 use Rattle.nfs_results.specs.Results.{spell_result, spell_compound_head}
 use Rattle.nfs_sessions.specs.declared.channel.Channel.{Channel}
 use Rattle.nfs_names.specs.declared.context.Context.{Context}
@@ -57,7 +59,7 @@ are_run_in m r who now choice s c more =
 
 abbrev IsTheirs : Request → Sequence → Channel → List RanOp → List ℕ → Type 0
 IsTheirs r s c ds text =
-    text ≡ spell_compound_head (last_status ds) r.tag (suc (length ds)) ++ (spell_result (ResSequence (accepted s c)) ++ results_of ds)
+    text ≡ spell_compound_head (last_status ds) r.tag (suc (length ds)) ++ (spell_result (Res.Sequence (accepted s c)) ++ results_of ds)
 
 session_theirs : (m : Machine) (r : Request) (who : Caller) (now : ℕ) (choice : Option ℕ) (t s : Sequence) (more : List Item) (v : Sequenced)
     → if_runs t v ≡ Some s → (c : Channel) × IsTheirs r s c (ops_in m r who now choice t more v) (in_session m r who now choice t more v).text
@@ -69,17 +71,17 @@ session_theirs m r who now choice t s more (sequence.Runs c) e =
     let ran = run_in (renewed m now t) r who now (behind_here choice) t c more in
     let ds = ops_in m r who now choice t more (sequence.Runs c) in (
       c,
-      ap (λ status. spell_compound_head status r.tag (suc ran.count) ++ (spell_result (ResSequence (accepted t c)) ++ ran.results)) is.status
-          ∙ (ap (λ n. spell_compound_head (last_status ds) r.tag (suc n) ++ (spell_result (ResSequence (accepted t c)) ++ ran.results)) is.count
-          ∙ (ap (λ text. spell_compound_head (last_status ds) r.tag (suc (length ds)) ++ (spell_result (ResSequence (accepted t c)) ++ text)) is.results
-          ∙ ap (λ (u : Sequence). spell_compound_head (last_status ds) r.tag (suc (length ds)) ++ (spell_result (ResSequence (accepted u c)) ++ results_of ds)) same)),
+      ap (λ status. spell_compound_head status r.tag (suc ran.count) ++ (spell_result (Res.Sequence (accepted t c)) ++ ran.results)) is.status
+          ∙ (ap (λ n. spell_compound_head (last_status ds) r.tag (suc n) ++ (spell_result (Res.Sequence (accepted t c)) ++ ran.results)) is.count
+          ∙ (ap (λ text. spell_compound_head (last_status ds) r.tag (suc (length ds)) ++ (spell_result (Res.Sequence (accepted t c)) ++ text)) is.results
+          ∙ ap (λ (u : Sequence). spell_compound_head (last_status ds) r.tag (suc (length ds)) ++ (spell_result (Res.Sequence (accepted u c)) ++ results_of ds)) same)),
     )
 
 first_theirs : (m : Machine) (r : Request) (who : Caller) (size now : ℕ) (choice : Option ℕ) (s : Sequence) (items : List Item)
     → first_runs m r who size items ≡ Some s
     → (c : Channel) × IsTheirs r s c (ops_of m r who size now choice items) (by_first m r who size now choice items).text
 first_theirs m r who size now choice s [] e = absurd cc
-first_theirs m r who size now choice s (Operation (OpSequence t) ∷ more) e = session_theirs m r who now choice t s more (sequenced m r who size t) e
+first_theirs m r who size now choice s (Operation (Op.Sequence t) ∷ more) e = session_theirs m r who now choice t s more (sequenced m r who size t) e
 first_theirs m r who size now choice s (item ∷ more) e = absurd cc
 
 pub answers_are_theirs : AnswersAreTheirs

@@ -4,8 +4,9 @@ use Rattle.std.specs.Prelude.{Result, Ok, Err}
 use Rattle.std.proofs.lemmas.Bool.{cases_Bool, ne_eqb}
 use Rattle.nfs_xdr.specs.declared.status.Status.{Status}
 use Rattle.nfs_xdr.proofs.Tables.{at_with}
-use Rattle.nfs_compound.specs.Operation.{Item, Operation}
-use Rattle.nfs_compound.specs.Operation.{OpReclaimComplete}
+use Rattle.nfs_compound.specs.declared.op.Item.{Item}
+use Rattle.nfs_compound.specs.declared.op.Item.TheVariants.{Operation}
+use Rattle.nfs_compound.specs.declared.op.Op.TheVariants as Op
 use Rattle.nfs_clients.specs.Roster.{ClientRecord, Roster, client_at, with_changed}
 use Rattle.nfs_clients.specs.Marks.{has_reclaimed}
 use Rattle.nfs_names.specs.declared.context.Context.{Context}
@@ -80,7 +81,7 @@ reclaim_apart c m x true other = of_one_apart c m (current m.store x)
 reclaim_apart c m x false other = of_all_apart c m x other
 
 otherwise_apart : (c : ℕ) (m : Machine) (x : Context) (i : Item) → x.client ≢ c → client_at (otherwise m x i).outcome.machine.clients c ≡ client_at m.clients c
-otherwise_apart c m x (Operation (OpReclaimComplete one)) other = reclaim_apart c m x one other
+otherwise_apart c m x (Operation (Op.ReclaimComplete one)) other = reclaim_apart c m x one other
 otherwise_apart c m x i other = refl
 
 step_apart : (c : ℕ) (m : Machine) (x : Context) (now : ℕ) (refused : Bool) (i : Item) → Is m → x.client ≢ c

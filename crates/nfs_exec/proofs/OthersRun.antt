@@ -5,7 +5,9 @@ use Rattle.std.specs.Option.{option_map_or}
 use Rattle.std.proofs.lemmas.Bool.{ne_eqb, eqb-false}
 use Rattle.nfs_xdr.specs.Caller.{Caller}
 use Rattle.nfs_xdr.specs.declared.status.Status.TheVariants.{MinorVersMismatch}
-use Rattle.nfs_compound.specs.Operation.{Item, Operation, OpSequence}
+use Rattle.nfs_compound.specs.declared.op.Item.{Item}
+use Rattle.nfs_compound.specs.declared.op.Item.TheVariants.{Operation}
+use Rattle.nfs_compound.specs.declared.op.Op.TheVariants as Op
 use Rattle.nfs_compound.specs.Request.{Request}
 use Rattle.nfs_compound.specs.declared.session_args.Sequence.{Sequence}
 use Rattle.nfs_sessions.specs.Id.{id_of}
@@ -44,7 +46,7 @@ first_apart : (c : ℕ) (m : Machine) (r : Request) (who : Caller) (size now : �
     → option_map_or (is_of c) (first_runs m r who size items) false ≡ false → IsAlone c m (by_first m r who size now choice items).machine
     → HasAsBefore c m.store.opens (by_first m r who size now choice items).machine.store.opens
 first_apart c m r who size now choice [] is other alone = same c m.store.opens
-first_apart c m r who size now choice (Operation (OpSequence s) ∷ more) is other alone =
+first_apart c m r who size now choice (Operation (Op.Sequence s) ∷ more) is other alone =
     session_apart c m r who now choice s more (sequenced m r who size s) is other
 first_apart c m r who size now choice (item ∷ more) is other alone =
     holds_alone c (λ s. HasAsBefore c m.store.opens s.opens) (alone_apart c m.store.opens) m r.declared who now (is_here choice) item (same c m.store.opens) alone

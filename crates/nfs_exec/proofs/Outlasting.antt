@@ -6,9 +6,11 @@ use Rattle.std.proofs.lemmas.Bool.{cases_Bool, eqb-false, ne_eqb, false≢true}
 use Rattle.nfs_xdr.specs.Caller.{Caller}
 use Rattle.nfs_xdr.specs.declared.status.Status.{Status}
 use Rattle.nfs_xdr.specs.declared.status.Status.TheVariants.{Delay, MinorVersMismatch}
-use Rattle.nfs_compound.specs.Operation.{Item, Operation, OpSequence, OpExchangeId, OpCreateSession, OpDestroySession, OpDestroyClientId}
+use Rattle.nfs_compound.specs.declared.op.Item.{Item}
+use Rattle.nfs_compound.specs.declared.op.Item.TheVariants.{Operation}
+use Rattle.nfs_compound.specs.declared.op.Op.TheVariants as Op
 use Rattle.nfs_compound.specs.Request.{Request, item_number}
-use Rattle.nfs_compound.specs.SessionArgs.{CreateSession}
+use Rattle.nfs_compound.specs.declared.session_args.CreateSession.{CreateSession}
 use Rattle.nfs_compound.specs.declared.session_args.Sequence.{Sequence}
 use Rattle.nfs_results.specs.Results.{status_of_result}
 use Rattle.nfs_clients.specs.declared.exchange_id.Exchanged.{Exchanged}
@@ -115,13 +117,13 @@ client_still m client gone (Some fault) = inr refl
 
 carried_still : (m : Machine) (who : Caller) (now client : ℕ) (refused : Bool) (i : Item)
     → is_ok (carried_out m who now refused i).status && is_for client m who i ≡ false → IsStill client m.leases (carried_out m who now refused i).machine.leases
-carried_still m who now client refused (Operation (OpExchangeId e)) none =
+carried_still m who now client refused (Operation (Op.ExchangeId e)) none =
     let v = (exchange m.clients (ask_of who e)).answer in
     delayed_still m client (exchange_id m who now e) refused exchange_id_number (adds client v) (exchanged_still m now client v) none
-carried_still m who now client refused (Operation (OpCreateSession c)) none =
+carried_still m who now client refused (Operation (Op.CreateSession c)) none =
     created_still m now client refused c (clients.create_verdict m.clients c.clientid c.sequence who.uid) none
-carried_still m who now client refused (Operation (OpDestroySession sessionid)) none = session_still m client sessionid
-carried_still m who now client refused (Operation (OpDestroyClientId gone)) none =
+carried_still m who now client refused (Operation (Op.DestroySession sessionid)) none = session_still m client sessionid
+carried_still m who now client refused (Operation (Op.DestroyClientId gone)) none =
     client_still m client gone (destroy_fault m.clients gone (has_session m.sessions gone))
 carried_still m who now client refused i none = inr refl
 
@@ -149,7 +151,7 @@ items_still : (m : Machine) (r : Request) (who : Caller) (size now client : ℕ)
     → option_map_or (is_of client) (first_runs m r who size items) false ≡ false → renews_alone client m r who now choice items ≡ false
     → IsStill client m.leases (by_first m r who size now choice items).machine.leases
 items_still m r who size now client choice [] runs alone = inr refl
-items_still m r who size now client choice (Operation (OpSequence s) ∷ more) runs alone =
+items_still m r who size now client choice (Operation (Op.Sequence s) ∷ more) runs alone =
     sequenced_still m r who now client choice s more (sequenced m r who size s) runs
 items_still m r who size now client choice (item ∷ more) runs alone = first_still m r.declared who now client (is_here choice) item alone
 

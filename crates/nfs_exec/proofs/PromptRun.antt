@@ -11,10 +11,12 @@ use Rattle.nfs_xdr.specs.declared.status.Status.TheVariants.{RepTooBig, NotSupp,
 use Rattle.nfs_xdr.specs.declared.status.Status.TheVariants.{ReqTooBig, TooManyOps, StaleClientId, ClidInUse, ClientIdBusy, NotOnlyOp, OpNotInSession}
 use Rattle.nfs_xdr.specs.declared.status.Status.TheVariants.{TooSmall, NoSpc, ServerFault, MinorVersMismatch}
 use Rattle.nfs_xdr.proofs.Lists.{in_filter, in_map, in_push, find_in}
-use Rattle.nfs_compound.specs.Operation.{Op, Item, Operation, OpExchangeId, OpCreateSession, OpDestroySession, OpDestroyClientId, OpSequence, OpReclaimComplete}
+use Rattle.nfs_compound.specs.declared.op.Op.{Op}
+use Rattle.nfs_compound.specs.declared.op.Item.{Item}
+use Rattle.nfs_compound.specs.declared.op.Item.TheVariants.{Operation}
 use Rattle.nfs_compound.specs.Arguments.{arguments}
 use Rattle.nfs_compound.specs.Request.{Request, item_number}
-use Rattle.nfs_compound.specs.SessionArgs.{CreateSession}
+use Rattle.nfs_compound.specs.declared.session_args.CreateSession.{CreateSession}
 use Rattle.nfs_compound.specs.declared.session_args.Sequence.{Sequence}
 use Rattle.nfs_results.specs.Largest.{largest}
 use Rattle.nfs_results.specs.Results.{status_of_result, refusal}
@@ -95,11 +97,11 @@ reclaim_prompt m x true = one_prompt m (current m.store x) (current_prompt m.sto
 reclaim_prompt m x false = all_prompt m x
 
 behind_prompt : (op : Op) → is_delay (status_behind (Operation op)) ≡ false
-behind_prompt (OpSequence s) = refl
+behind_prompt (Op.Sequence s) = refl
 behind_prompt op = refl
 
 otherwise_prompt : (m : Machine) (x : Context) (op : Op) → is_delay (otherwise m x (Operation op)).outcome.status ≡ false
-otherwise_prompt m x (OpReclaimComplete one) = reclaim_prompt m x one
+otherwise_prompt m x (Op.ReclaimComplete one) = reclaim_prompt m x one
 otherwise_prompt m x op = refused_prompt (item_number (Operation op)) (status_behind (Operation op)) (behind_prompt op)
 
 undelayed_if : (g : Bool) (s : State) (x : Context) (n : _) (v : Option OfStore) → IfSome v (λ o. is_delay (status_of_result o.result) ≡ false)
@@ -151,7 +153,7 @@ session_prompt m r who now s more (sequence.Runs c) d op there is =
 first_ops_prompt : (m : Machine) (r : Request) (who : Caller) (size now : ℕ) (items : List Item) (d : RanOp) (op : Op)
     → In d (ops_of m r who size now None items) → d.item ≡ Operation op → is_delay d.status ≡ false
 first_ops_prompt m r who size now [] d op there is = absurd there
-first_ops_prompt m r who size now (Operation (OpSequence s) ∷ more) d op there is = session_prompt m r who now s more (sequenced m r who size s) d op there is
+first_ops_prompt m r who size now (Operation (Op.Sequence s) ∷ more) d op there is = session_prompt m r who now s more (sequenced m r who size s) d op there is
 first_ops_prompt m r who size now (item ∷ more) d op there is = absurd there
 
 -- SEQUENCE.
@@ -271,15 +273,15 @@ client_gone_prompt m client (Some Destroys.Stale) = refused_prompt 57 StaleClien
 client_gone_prompt m client (Some Destroys.Busy) = refused_prompt 57 ClientIdBusy refl
 
 carried_prompt : (m : Machine) (who : Caller) (now : ℕ) (op : Op) → AreCalm m.clients → is_delay (carried_out m who now false (Operation op)).status ≡ false
-carried_prompt m who now (OpExchangeId e) calm =
+carried_prompt m who now (Op.ExchangeId e) calm =
     let a = ask_of who e in
     exchanged_prompt m now a (case_of m.clients a) (room_calm (has_room m.clients a.owner) (case_by a (confirmed_of m.clients a.owner)) (case_prompt a (confirmed_of m.clients a.owner)))
-carried_prompt m who now (OpCreateSession c) calm =
+carried_prompt m who now (Op.CreateSession c) calm =
     created_prompt m now c (clients.create_verdict m.clients c.clientid c.sequence who.uid) (λ status e.
     (let (k, at, kept) = verdict_kept (client_at m.clients c.clientid) c.sequence who.uid (results.Refused status) e in
     calm k (find_in (λ (k : ClientRecord). k.id == c.clientid) m.clients.records k at).0 status kept))
-carried_prompt m who now (OpDestroySession sessionid) calm = session_gone_prompt m sessionid
-carried_prompt m who now (OpDestroyClientId client) calm = client_gone_prompt m client (destroy_fault m.clients client (has_session m.sessions client))
+carried_prompt m who now (Op.DestroySession sessionid) calm = session_gone_prompt m sessionid
+carried_prompt m who now (Op.DestroyClientId client) calm = client_gone_prompt m client (destroy_fault m.clients client (has_session m.sessions client))
 carried_prompt m who now op calm = refused_prompt (item_number (Operation op)) NotSupp refl
 
 placed_prompt : (m : Machine) (n : ℕ) (o : Option Status) (done : Outcome) → ((fault : Status) → o ≡ Some fault → is_delay fault ≡ false) → is_delay done.status ≡ false
@@ -368,12 +370,12 @@ calm_destroyed m client None calm = calm_filtered m.clients (λ c. not (c.id == 
 calm_destroyed m client (Some fault) calm = calm
 
 calm_carried : (m : Machine) (who : Caller) (now : ℕ) (refused : Bool) (i : Item) → AreCalm m.clients → AreCalm (carried_out m who now refused i).machine.clients
-calm_carried m who now refused (Operation (OpExchangeId e)) calm =
+calm_carried m who now refused (Operation (Op.ExchangeId e)) calm =
     calm_delayed m (exchange_id m who now e) refused exchange_id_number calm (calm_exchanged m now (ask_of who e) (case_of m.clients (ask_of who e)) calm)
-calm_carried m who now refused (Operation (OpCreateSession c)) calm =
+calm_carried m who now refused (Operation (Op.CreateSession c)) calm =
     calm_created m now refused c (clients.create_verdict m.clients c.clientid c.sequence who.uid) calm
-calm_carried m who now refused (Operation (OpDestroySession sessionid)) calm = calm_session m sessionid calm
-calm_carried m who now refused (Operation (OpDestroyClientId client)) calm = calm_destroyed m client (destroy_fault m.clients client (has_session m.sessions client)) calm
+calm_carried m who now refused (Operation (Op.DestroySession sessionid)) calm = calm_session m sessionid calm
+calm_carried m who now refused (Operation (Op.DestroyClientId client)) calm = calm_destroyed m client (destroy_fault m.clients client (has_session m.sessions client)) calm
 calm_carried m who now refused i calm = calm
 
 calm_first : (m : Machine) (declared : ℕ) (who : Caller) (now : ℕ) (refused : Bool) (i : Item) → AreCalm m.clients → AreCalm (first_item m declared who now refused i).machine.clients
@@ -403,7 +405,7 @@ calm_session_run m r who now choice s more (sequence.Runs c) calm =
 calm_items : (m : Machine) (r : Request) (who : Caller) (size now : ℕ) (choice : Option ℕ) (items : List Item) → AreCalm m.clients
     → AreCalm (by_first m r who size now choice items).machine.clients
 calm_items m r who size now choice [] calm = calm
-calm_items m r who size now choice (Operation (OpSequence s) ∷ more) calm = calm_session_run m r who now choice s more (sequenced m r who size s) calm
+calm_items m r who size now choice (Operation (Op.Sequence s) ∷ more) calm = calm_session_run m r who now choice s more (sequenced m r who size s) calm
 calm_items m r who size now choice (item ∷ more) calm = calm_first m r.declared who now (is_here choice) item calm
 
 calm_event : (m : Machine) (e : MachineEvent) → AreCalm m.clients → AreCalm (stepped m e).clients

@@ -4,9 +4,11 @@ use Rattle.std.specs.Prelude.{◌==◌, ◌&&◌, not, is_some, if◌then◌else
 use Rattle.std.proofs.lemmas.Bool.{cases_Bool}
 use Rattle.nfs_xdr.specs.Caller.{Caller}
 use Rattle.nfs_xdr.specs.declared.status.Status.{Status}
-use Rattle.nfs_compound.specs.Operation.{Item, Operation, OpSequence, OpExchangeId, OpCreateSession, OpDestroySession, OpDestroyClientId}
+use Rattle.nfs_compound.specs.declared.op.Item.{Item}
+use Rattle.nfs_compound.specs.declared.op.Item.TheVariants.{Operation}
+use Rattle.nfs_compound.specs.declared.op.Op.TheVariants as Op
 use Rattle.nfs_compound.specs.Request.{Request, item_number}
-use Rattle.nfs_compound.specs.SessionArgs.{CreateSession}
+use Rattle.nfs_compound.specs.declared.session_args.CreateSession.{CreateSession}
 use Rattle.nfs_compound.specs.declared.session_args.Sequence.{Sequence}
 use Rattle.nfs_clients.specs.declared.destroy.DestroyFault.{DestroyFault}
 use Rattle.nfs_clients.specs.declared.created.CreateResult.TheVariants as result
@@ -79,10 +81,10 @@ module _ (P : SessionTable → Type 0) (held : IsHeld P) where
   client_gone m client (Some fault) is = is
 
   carried : (m : Machine) (who : Caller) (now : ℕ) (refused : Bool) (i : Item) → P m.sessions → P (carried_out m who now refused i).machine.sessions
-  carried m who now refused (Operation (OpExchangeId e)) is = delayed m (exchange_id m who now e) refused exchange_id_number is is
-  carried m who now refused (Operation (OpCreateSession c)) is = created m now refused c (clients.create_verdict m.clients c.clientid c.sequence who.uid) is
-  carried m who now refused (Operation (OpDestroySession sessionid)) is = session_gone m sessionid is
-  carried m who now refused (Operation (OpDestroyClientId client)) is = client_gone m client (destroy_fault m.clients client (has_session m.sessions client)) is
+  carried m who now refused (Operation (Op.ExchangeId e)) is = delayed m (exchange_id m who now e) refused exchange_id_number is is
+  carried m who now refused (Operation (Op.CreateSession c)) is = created m now refused c (clients.create_verdict m.clients c.clientid c.sequence who.uid) is
+  carried m who now refused (Operation (Op.DestroySession sessionid)) is = session_gone m sessionid is
+  carried m who now refused (Operation (Op.DestroyClientId client)) is = client_gone m client (destroy_fault m.clients client (has_session m.sessions client)) is
   carried m who now refused i is = is
 
   first : (m : Machine) (declared : ℕ) (who : Caller) (now : ℕ) (refused : Bool) (i : Item) → P m.sessions
@@ -102,7 +104,7 @@ module _ (P : SessionTable → Type 0) (held : IsHeld P) where
   quiet_items : (m : Machine) (r : Request) (who : Caller) (size now : ℕ) (choice : Option ℕ) (items : List Item)
       → first_runs m r who size items ≡ None → P m.sessions → P (by_first m r who size now choice items).machine.sessions
   quiet_items m r who size now choice [] none is = is
-  quiet_items m r who size now choice (Operation (OpSequence s) ∷ more) none is = quiet_verdict m r who now choice s more (sequenced m r who size s) none is
+  quiet_items m r who size now choice (Operation (Op.Sequence s) ∷ more) none is = quiet_verdict m r who now choice s more (sequenced m r who size s) none is
   quiet_items m r who size now choice (item ∷ more) none is = first m r.declared who now (is_here choice) item is
 
   pub quiet_compound : (m : Machine) (r : Request) (who : Caller) (size now : ℕ) (choice : Option ℕ) → ran_in m r who size ≡ None
@@ -156,7 +158,7 @@ told_verdict m r who size now choice s t more (sequence.Runs c) is runs =
 told_items : (m : Machine) (r : Request) (who : Caller) (size now : ℕ) (choice : Option ℕ) (t : Sequence) (items : List Item)
     → first_runs m r who size items ≡ Some t → IsToldBy m r who t (by_first m r who size now choice items)
 told_items m r who size now choice t [] runs = absurd cc
-told_items m r who size now choice t (Operation (OpSequence s) ∷ more) runs = told_verdict m r who size now choice s t more (sequenced m r who size s) refl runs
+told_items m r who size now choice t (Operation (Op.Sequence s) ∷ more) runs = told_verdict m r who size now choice s t more (sequenced m r who size s) refl runs
 told_items m r who size now choice t (item ∷ more) runs = absurd cc
 
 pub told_compound : (m : Machine) (r : Request) (who : Caller) (size now : ℕ) (choice : Option ℕ) (t : Sequence) → ran_in m r who size ≡ Some t

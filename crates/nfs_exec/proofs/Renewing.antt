@@ -5,7 +5,9 @@ use Rattle.std.specs.Option.{option_map_or}
 use Rattle.std.proofs.lemmas.Bool.{cases_Bool, eqb-true, eq-eqb, le-ltb, false≢true}
 use Rattle.nfs_xdr.specs.Caller.{Caller}
 use Rattle.nfs_xdr.specs.declared.status.Status.TheVariants.{MinorVersMismatch}
-use Rattle.nfs_compound.specs.Operation.{Item, Operation, OpSequence}
+use Rattle.nfs_compound.specs.declared.op.Item.{Item}
+use Rattle.nfs_compound.specs.declared.op.Item.TheVariants.{Operation}
+use Rattle.nfs_compound.specs.declared.op.Op.TheVariants as Op
 use Rattle.nfs_compound.specs.Request.{Request}
 use Rattle.nfs_compound.specs.declared.session_args.Sequence.{Sequence}
 use Rattle.nfs_sessions.specs.Id.{id_of}
@@ -77,7 +79,7 @@ session_least m r who now client choice s more (sequence.Runs c) of =
 first_least : (m : Machine) (r : Request) (who : Caller) (size now client : ℕ) (choice : Option ℕ) (items : List Item)
     → option_map_or (is_of client) (first_runs m r who size items) false ≡ true → AtLeast now client (by_first m r who size now choice items).machine.leases
 first_least m r who size now client choice [] of = absurd (false≢true of)
-first_least m r who size now client choice (Operation (OpSequence s) ∷ more) of = session_least m r who now client choice s more (sequenced m r who size s) of
+first_least m r who size now client choice (Operation (Op.Sequence s) ∷ more) of = session_least m r who now client choice s more (sequenced m r who size s) of
 first_least m r who size now client choice (item ∷ more) of = absurd (false≢true of)
 
 compound_least : (m : Machine) (r : Request) (who : Caller) (size now client : ℕ) (choice : Option ℕ)

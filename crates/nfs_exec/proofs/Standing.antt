@@ -4,12 +4,11 @@ use Rattle.nfs_xdr.specs.Caller.{Caller}
 use Rattle.nfs_xdr.specs.SheetState.{SheetState, HasRoom, Puts}
 use Rattle.nfs_xdr.specs.declared.status.Status.{Status}
 use Rattle.nfs_xdr.specs.declared.status.Status.TheVariants.{NotSupp}
-use Rattle.nfs_compound.specs.Operation.{Item}
+use Rattle.nfs_compound.specs.declared.op.Item.{Item}
+use Rattle.nfs_compound.specs.declared.op.Item.TheVariants.{Operation}
 use Rattle.nfs_compound.specs.Request.{item_number}
-use Rattle.nfs_compound.specs.View.{item}
-use Rattle.nfs_compound.specs.declared.arg.Arg.{Arg}
-use Rattle.nfs_compound.specs.declared.arg.Arg.TheVariants as Args
-use Rattle.nfs_results.specs.Result.{Res}
+use Rattle.nfs_compound.specs.declared.op.Op.{Op}
+use Rattle.nfs_results.specs.declared.res.Res.{Res}
 use Rattle.nfs_results.specs.Results.{spell_result, status_of_result, refusal}
 use Rattle.nfs_results.specs.ResultCodec.{HasArrays}
 use Rattle.nfs_names.specs.Outcome.{is_delay}
@@ -40,14 +39,14 @@ pub in_place : (m : Machine) (declared : ℕ) (who : Caller) (now : ℕ) (refuse
 in_place m declared who now refused i o none is = is ∙ ap (λ (f : Option Status). by_fault m (item_number i) f (carried_out m who now refused i)) (sym none)
 
 -- what none of the four operations is
-pub not_carried : (m : Machine) (who : Caller) (now : ℕ) (refused : Bool) (a : Arg) →
-    ((x : _) → a ≡ Args.ExchangeId x → ⊥) → ((x : _) → a ≡ Args.CreateSession x → ⊥) → ((x : _) → a ≡ Args.DestroySession x → ⊥) →
-    ((x : _) → a ≡ Args.DestroyClientId x → ⊥) → refuses m (item_number (item a)) NotSupp ≡ carried_out m who now refused (item a)
-not_carried m who now refused (Args.ExchangeId x) e c s d = absurd (e x refl)
-not_carried m who now refused (Args.CreateSession x) e c s d = absurd (c x refl)
-not_carried m who now refused (Args.DestroySession x) e c s d = absurd (s x refl)
-not_carried m who now refused (Args.DestroyClientId x) e c s d = absurd (d x refl)
-not_carried m who now refused a e c s d = refl
+pub not_carried : (m : Machine) (who : Caller) (now : ℕ) (refused : Bool) (op : Op) →
+    ((x : _) → op ≡ Op.ExchangeId x → ⊥) → ((x : _) → op ≡ Op.CreateSession x → ⊥) → ((x : _) → op ≡ Op.DestroySession x → ⊥) →
+    ((x : _) → op ≡ Op.DestroyClientId x → ⊥) → refuses m (item_number (Operation op)) NotSupp ≡ carried_out m who now refused (Operation op)
+not_carried m who now refused (Op.ExchangeId x) e c s d = absurd (e x refl)
+not_carried m who now refused (Op.CreateSession x) e c s d = absurd (c x refl)
+not_carried m who now refused (Op.DestroySession x) e c s d = absurd (s x refl)
+not_carried m who now refused (Op.DestroyClientId x) e c s d = absurd (d x refl)
+not_carried m who now refused op e c s d = refl
 
 pub branch_done : (m left kept : Machine) (declared : ℕ) (who : Caller) (now : ℕ) (i j : Item) (r s : Res) → left ≡ kept →
     r ≡ s → i ≡ j → item_fault declared i ≡ None → comes_to kept s ≡ carried_out m who now (is_delay (status_of_result s)) j →

@@ -9,9 +9,11 @@ use Rattle.nfs_xdr.specs.declared.status.Status.{Status}
 use Rattle.nfs_xdr.specs.declared.status.Status.TheVariants.{Delay, MinorVersMismatch}
 use Rattle.nfs_xdr.proofs.Lists.{find_in, find_kept, find_push_some, filter_past}
 use Rattle.nfs_xdr.proofs.Tables.{at_without, in_bounds, in_once}
-use Rattle.nfs_compound.specs.Operation.{Item, Operation, OpExchangeId, OpCreateSession, OpDestroySession, OpDestroyClientId, OpSequence}
+use Rattle.nfs_compound.specs.declared.op.Item.{Item}
+use Rattle.nfs_compound.specs.declared.op.Item.TheVariants.{Operation}
+use Rattle.nfs_compound.specs.declared.op.Op.TheVariants as Op
 use Rattle.nfs_compound.specs.Request.{Request, item_number}
-use Rattle.nfs_compound.specs.SessionArgs.{CreateSession}
+use Rattle.nfs_compound.specs.declared.session_args.CreateSession.{CreateSession}
 use Rattle.nfs_compound.specs.declared.session_args.Sequence.{Sequence}
 use Rattle.nfs_clients.specs.Roster.{ClientRecord, Roster, IsRoster, id_of as client_id, next_id, client_at, is_unconfirmed_of, unconfirmed_of}
 use Rattle.nfs_clients.specs.ExchangeId.{Ask, Case, Refuses, Stays, Adds, case_of, does, new_client}
@@ -243,16 +245,16 @@ destroyed_strange client m gone (Some fault) other = as_it_was client m
 
 carried_strange : (client : ℕ) (m : Machine) (k : ClientRecord) (who : Caller) (now : ℕ) (refused : Bool) (i : Item) (more : List Item) → IsRoster m.clients
     → client_at m.clients client ≡ Some k → is_named_in client m.clients (i ∷ more) ≡ false → IsAsBefore client m (carried_out m who now refused i).machine
-carried_strange client m k who now refused (Operation (OpExchangeId e)) more is at none =
+carried_strange client m k who now refused (Operation (Op.ExchangeId e)) more is at none =
     delayed client m (exchange_id m who now e) refused exchange_id_number
     (exchange_strange client m k now (ask_of who e) (case_of m.clients (ask_of who e)) is at none)
-carried_strange client m k who now refused (Operation (OpCreateSession c)) more is at none =
+carried_strange client m k who now refused (Operation (Op.CreateSession c)) more is at none =
     let parts = neither (c.clientid == client) _ none in
     created_strange client m now refused c (clients.create_verdict m.clients c.clientid c.sequence who.uid) (eqb-false c.clientid client parts.0)
     (not_leaving m.clients client c.clientid k is at parts.1)
-carried_strange client m k who now refused (Operation (OpDestroySession sessionid)) more is at none =
+carried_strange client m k who now refused (Operation (Op.DestroySession sessionid)) more is at none =
     session_strange client m sessionid (eqb-false (id_of sessionid).client client none)
-carried_strange client m k who now refused (Operation (OpDestroyClientId gone)) more is at none =
+carried_strange client m k who now refused (Operation (Op.DestroyClientId gone)) more is at none =
     destroyed_strange client m gone (destroy_fault m.clients gone (has_session m.sessions gone)) (eqb-false gone client none)
 carried_strange client m k who now refused i more is at none = as_it_was client m
 
@@ -301,7 +303,7 @@ session_runs_strange client m r who now choice s more (sequence.Runs c) is other
 items_strange : (client : ℕ) (m : Machine) (k : ClientRecord) (r : Request) (who : Caller) (size now : ℕ) (choice : Option ℕ) (items : List Item) → Is m → IsRoster m.clients
     → client_at m.clients client ≡ Some k → is_named_in client m.clients items ≡ false → IsAsBefore client m (by_first m r who size now choice items).machine
 items_strange client m k r who size now choice [] is roster at none = as_it_was client m
-items_strange client m k r who size now choice (Operation (OpSequence s) ∷ more) is roster at none =
+items_strange client m k r who size now choice (Operation (Op.Sequence s) ∷ more) is roster at none =
     session_runs_strange client m r who now choice s more (sequenced m r who size s) is (eqb-false (id_of s.sessionid).client client none)
 items_strange client m k r who size now choice (item ∷ more) is roster at none =
     first_strange client m k r.declared who now (is_here choice) item more roster at none

@@ -5,12 +5,11 @@ use Rattle.nfs_xdr.specs.Caller.{Caller}
 use Rattle.nfs_xdr.specs.SheetState.{SheetState, Puts}
 use Rattle.nfs_xdr.specs.declared.status.Status.{Status}
 use Rattle.nfs_xdr.specs.declared.status.Status.TheVariants.{Nfs4Ok}
-use Rattle.nfs_compound.specs.Operation.{Item, Operation, OpSequence}
+use Rattle.nfs_compound.specs.declared.op.Item.{Item}
+use Rattle.nfs_compound.specs.declared.op.Item.TheVariants.{Operation}
+use Rattle.nfs_compound.specs.declared.op.Op.TheVariants as Op
 use Rattle.nfs_compound.specs.Request.{Request}
-use Rattle.nfs_compound.specs.View.{item}
 use Rattle.nfs_compound.specs.declared.session_args.Sequence.{Sequence}
-use Rattle.nfs_compound.specs.declared.arg.Arg.{Arg}
-use Rattle.nfs_compound.specs.declared.arg.Arg.TheVariants as Args
 use Rattle.nfs_results.specs.Results.{spell_compound_head}
 use Rattle.nfs_results.specs.OpenHead.{HeadsAt, SetsHead}
 use Rattle.nfs_slots.specs.declared.slot.Verdict.{Verdict}
@@ -51,7 +50,7 @@ answer_same m r xs who now choice s more (Repeats reply) = refl
 answer_same m r xs who now choice s more (Runs c) = refl
 
 pub for_sequence : (m : Machine) (r q : Request) (who : Caller) (size now : ℕ) (choice : Option ℕ) (s : Sequence) (old new : SheetState) (left : Machine) →
-    r.minor ≡ 1 → r.left ≡ Operation (OpSequence s) ∷ q.left → q ≡ record r { left = q.left } →
+    r.minor ≡ 1 → r.left ≡ Operation (Op.Sequence s) ∷ q.left → q ≡ record r { left = q.left } →
     Answers (in_session m q who now choice s q.left (sequenced m q who size s)) old new left → Answers (compound m r who size now choice) old new left
 for_sequence m r q who size now choice s old new left one list is did =
     let whole : compound m r who size now choice ≡ in_session m r who now choice s q.left (sequenced m r who size s) = rw (eq-eqb r.minor 1 one, list) refl in
@@ -62,24 +61,24 @@ for_sequence m r q who size now choice s old new left one list is did =
     ∙ ap (in_session m r who now choice s q.left) (session_same r q.left who size s found) in
     subst (λ (a : Answered). Answers a old new left) (same ∙ sym whole) did
 
-other_first : (m : Machine) (r : Request) (who : Caller) (size now : ℕ) (choice : Option ℕ) (a : Arg) (more : List Item) → ((x : _) → a ≡ Args.Sequence x → ⊥) →
-    by_first m r who size now choice (item a ∷ more) ≡ answers r (only (first_item m r.declared who now (is_here choice) (item a)))
-other_first m r who size now choice (Args.Sequence x) more other = absurd (other x refl)
+other_first : (m : Machine) (r : Request) (who : Caller) (size now : ℕ) (choice : Option ℕ) (a : Item) (more : List Item) → ((x : _) → a ≡ Operation (Op.Sequence x) → ⊥) →
+    by_first m r who size now choice (a ∷ more) ≡ answers r (only (first_item m r.declared who now (is_here choice) a))
+other_first m r who size now choice (Operation (Op.Sequence x)) more other = absurd (other x refl)
 other_first m r who size now choice a more other = refl
 
-pub for_other : (m : Machine) (r : Request) (who : Caller) (size now declared : ℕ) (a : Arg) (more : List Item) (status : Status) (status_at count_at : ℕ)
+pub for_other : (m : Machine) (r : Request) (who : Caller) (size now declared : ℕ) (a : Item) (more : List Item) (status : Status) (status_at count_at : ℕ)
     (tag : List ℕ) (before first second last : SheetState) (left : Machine) →
-    r.minor ≡ 1 → r.left ≡ item a ∷ more → ((x : _) → a ≡ Args.Sequence x → ⊥) → declared ≡ r.declared → tag ≡ r.tag →
+    r.minor ≡ 1 → r.left ≡ a ∷ more → ((x : _) → a ≡ Operation (Op.Sequence x) → ⊥) → declared ≡ r.declared → tag ≡ r.tag →
     HeadsAt status_at count_at before.bytes tag → Puts before first (spell_compound_head Nfs4Ok tag 0) →
-    Does (first_item m declared who now (is_delay status) (item a)) status left first second → SetsHead status_at count_at status 1 second last →
+    Does (first_item m declared who now (is_delay status) a) status left first second → SetsHead status_at count_at status 1 second last →
     (choice : Option ℕ) × Answers (compound m r who size now choice) before last left
 for_other m r who size now declared a more status status_at count_at tag before first second last left one list other count named places put does sets =
     let choice = choice_of (is_delay status) in
-    let o = first_item m declared who now (is_delay status) (item a) in
+    let o = first_item m declared who now (is_delay status) a in
     let whole : compound m r who size now choice ≡ answers r (only o) =
     rw (eq-eqb r.minor 1 one, list) (other_first m r who size now choice a more other)
-    ∙ ap (λ (refused : Bool). answers r (only (first_item m r.declared who now refused (item a)))) (chosen (is_delay status))
-    ∙ ap (λ (n : ℕ). answers r (only (first_item m n who now (is_delay status) (item a)))) (sym count) in
+    ∙ ap (λ (refused : Bool). answers r (only (first_item m r.declared who now refused a))) (chosen (is_delay status))
+    ∙ ap (λ (n : ℕ). answers r (only (first_item m n who now (is_delay status) a))) (sym count) in
     let text : Puts before last (spell_compound_head o.status r.tag 1 ++ o.result) =
     subst (λ (t : List ℕ). Puts before last (spell_compound_head o.status t 1 ++ o.result)) named
     (subst (λ (u : Status). Puts before last (spell_compound_head u tag 1 ++ o.result)) does.status

@@ -5,9 +5,11 @@ use Rattle.std.proofs.lemmas.Bool.{cases_Bool}
 use Rattle.nfs_xdr.specs.Caller.{Caller}
 use Rattle.nfs_xdr.specs.Tables.{In}
 use Rattle.nfs_xdr.specs.declared.status.Status.{Status}
-use Rattle.nfs_compound.specs.Operation.{Item, Operation, OpSequence, OpExchangeId, OpCreateSession, OpDestroySession, OpDestroyClientId, OpReclaimComplete}
+use Rattle.nfs_compound.specs.declared.op.Item.{Item}
+use Rattle.nfs_compound.specs.declared.op.Item.TheVariants.{Operation}
+use Rattle.nfs_compound.specs.declared.op.Op.TheVariants as Op
 use Rattle.nfs_compound.specs.Request.{Request, item_number}
-use Rattle.nfs_compound.specs.SessionArgs.{CreateSession}
+use Rattle.nfs_compound.specs.declared.session_args.CreateSession.{CreateSession}
 use Rattle.nfs_compound.specs.declared.session_args.Sequence.{Sequence}
 use Rattle.nfs_results.specs.Largest.{largest}
 use Rattle.nfs_clients.specs.CreateSession as clients
@@ -86,7 +88,7 @@ reclaim_store m x true = of_one_store m (current m.store x)
 reclaim_store m x false = of_all_store m x
 
 pub otherwise_store : (m : Machine) (x : Context) (i : Item) → (otherwise m x i).outcome.machine.store ≡ m.store
-otherwise_store m x (Operation (OpReclaimComplete one)) = reclaim_store m x one
+otherwise_store m x (Operation (Op.ReclaimComplete one)) = reclaim_store m x one
 otherwise_store m x i = refl
 
 whole_step : (m : Machine) (x : Context) (now : ℕ) (refused : Bool) (i : Item) → Is m → Is (step m x now refused i).outcome.machine
@@ -175,11 +177,11 @@ session_whole : (m : Machine) (sessionid : List ℕ) → Is m → Is (destroy_se
 session_whole m sessionid is = elim (cases_Bool (is_some (session_at m.sessions (id_of sessionid)))) [ inl stood ↦ rw stood is | inr gone ↦ rw gone is ]
 
 carried : (m : Machine) (who : Caller) (now : ℕ) (refused : Bool) (i : Item) → Is m → Is (carried_out m who now refused i).machine
-carried m who now refused (Operation (OpExchangeId e)) is = delayed m (exchange_id m who now e) refused exchange_id_number is is
-carried m who now refused (Operation (OpCreateSession c)) is =
+carried m who now refused (Operation (Op.ExchangeId e)) is = delayed m (exchange_id m who now e) refused exchange_id_number is is
+carried m who now refused (Operation (Op.CreateSession c)) is =
     created_whole m now refused c (clients.create_verdict m.clients c.clientid c.sequence who.uid) is
-carried m who now refused (Operation (OpDestroySession sessionid)) is = session_whole m sessionid is
-carried m who now refused (Operation (OpDestroyClientId client)) is =
+carried m who now refused (Operation (Op.DestroySession sessionid)) is = session_whole m sessionid is
+carried m who now refused (Operation (Op.DestroyClientId client)) is =
     destroyed_whole m client (destroy_fault m.clients client (has_session m.sessions client)) is
 carried m who now refused i is = is
 
@@ -202,7 +204,7 @@ whole_session m r who now choice s more (sequence.Runs c) is =
 whole_first : (m : Machine) (r : Request) (who : Caller) (size now : ℕ) (choice : Option ℕ) (items : List Item) → Is m
     → Is (by_first m r who size now choice items).machine
 whole_first m r who size now choice [] is = is
-whole_first m r who size now choice (Operation (OpSequence s) ∷ more) is =
+whole_first m r who size now choice (Operation (Op.Sequence s) ∷ more) is =
     whole_session m r who now choice s more (sequenced m r who size s) is
 whole_first m r who size now choice (item ∷ more) is = first m r.declared who now (is_here choice) item is
 
@@ -222,7 +224,7 @@ session_ops m r who now choice s more (sequence.Runs c) is d there =
 first_ops : (m : Machine) (r : Request) (who : Caller) (size now : ℕ) (choice : Option ℕ) (items : List Item) → Is m
     → (d : RanOp) → In d (ops_of m r who size now choice items) → Around d
 first_ops m r who size now choice [] is d there = absurd there
-first_ops m r who size now choice (Operation (OpSequence s) ∷ more) is d there =
+first_ops m r who size now choice (Operation (Op.Sequence s) ∷ more) is d there =
     session_ops m r who now choice s more (sequenced m r who size s) is d there
 first_ops m r who size now choice (item ∷ more) is d there = absurd there
 

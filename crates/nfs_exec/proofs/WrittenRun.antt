@@ -8,13 +8,15 @@ use Rattle.nfs_xdr.specs.Tables.{In}
 use Rattle.nfs_xdr.specs.declared.status.Status.TheVariants.{RepTooBig, Stale, MinorVersMismatch}
 use Rattle.nfs_xdr.specs.Spelling.{number}
 use Rattle.nfs_xdr.proofs.Lists.{in_any}
-use Rattle.nfs_compound.specs.FileArgs.{Write}
+use Rattle.nfs_compound.specs.declared.file_args.Write.{Write}
 use Rattle.nfs_compound.specs.declared.file_args.Read.{Read}
 use Rattle.nfs_compound.specs.declared.op_num.OpNum.TheVariants as Num
-use Rattle.nfs_compound.specs.Operation.{Item, Operation, OpPutFh, OpRead, OpWrite, OpSequence}
+use Rattle.nfs_compound.specs.declared.op.Item.{Item}
+use Rattle.nfs_compound.specs.declared.op.Item.TheVariants.{Operation}
+use Rattle.nfs_compound.specs.declared.op.Op.TheVariants as Op
 use Rattle.nfs_compound.specs.Request.{Request}
 use Rattle.nfs_compound.specs.declared.session_args.Sequence.{Sequence}
-use Rattle.nfs_results.specs.Result.{ResPutFh, Refused}
+use Rattle.nfs_results.specs.declared.res.Res.TheVariants as Res
 use Rattle.nfs_results.specs.Results.{spell_result}
 use Rattle.nfs_clients.specs.Roster.{ClientRecord}
 use Rattle.nfs_sessions.specs.Id.{id_of}
@@ -22,8 +24,7 @@ use Rattle.nfs_tree.specs.declared.object.FileType.{FileType}
 use Rattle.nfs_tree.specs.declared.row.Row.{Row}
 use Rattle.nfs_tree.specs.declared.stored.Stored.{Stored}
 use Rattle.nfs_tree.specs.Object.{is_directory, is_regular}
-use Rattle.nfs_tree.specs.Files.{Files, root, stored_in, object_at, is_there, has_row, data_at}
-use Rattle.nfs_tree.specs.TreeInvariants.{IsTree}
+use Rattle.nfs_tree.specs.Files.{root, stored_in, object_at, is_there, has_row}
 use Rattle.nfs_attrs.specs.declared.handle.Handle.{Handle}
 use Rattle.nfs_attrs.specs.Handle.{handle_of}
 use Rattle.nfs_names.specs.declared.context.Context.{Context}
@@ -34,21 +35,19 @@ use Rattle.nfs_names.specs.PutFh.{or_bad, handle_checks, put_fh}
 use Rattle.nfs_names.specs.State.{State, moment, is_open, is_used}
 use Rattle.nfs_files.proofs.Outcomes as files
 use Rattle.nfs_files.proofs.Outcomes.{for_each}
-use Rattle.nfs_files.specs.Written.{Byte, StandsIn, Lasts, Writes, Spares, Reads, GivesIt}
+use Rattle.nfs_files.specs.Written.{Byte, Lasts, Writes, Spares, Reads, GivesIt}
 use Rattle.nfs_files.proofs.TreeFiles.{IsWhole}
 use Rattle.nfs_files.proofs.WrittenOps.{lasts_staying, spared_bytes_last, names_leave_bytes}
 use Rattle.nfs_files.proofs.WrittenTold.{short, writes_leave_bytes, reads_give_bytes}
 use Rattle.nfs_lease.specs.Renewals.{has_run_out}
 use Rattle.nfs_exec.specs.Machine.{Machine, starts}
 use Rattle.nfs_exec.specs.Behind.{Step, step, on_store, moves_opens, marked_if}
-use Rattle.nfs_exec.specs.CreateSession.{without_any_opens}
 use Rattle.nfs_exec.specs.Run.{in_room, is_here, behind_here}
 use Rattle.nfs_exec.specs.Sequence as sequence
 use Rattle.nfs_exec.specs.Sequence.{Sequenced, sequenced}
-use Rattle.nfs_exec.specs.Compound.{first_item, renewed, begun, bare, in_session, by_first, compound}
+use Rattle.nfs_exec.specs.Compound.{first_item, renewed, begun, bare, in_session, by_first}
 use Rattle.nfs_exec.specs.Laws.{MachineEvent, Expires, Asks, stepped, all_stepped}
-use Rattle.nfs_exec.specs.Ops.{RanOp, done, ops, ops_in, ops_of, ops_by, left_by, AreChained}
-use Rattle.nfs_exec.specs.LockHeld.{IsAlone}
+use Rattle.nfs_exec.specs.Ops.{RanOp, done, ops_in, ops_of, ops_by, left_by, AreChained}
 use Rattle.nfs_exec.specs.WrittenRun.{WritesIt, SparesIt, AreSpared, StandsBefore, StandsWhile, StandsInRuns}
 use Rattle.nfs_exec.proofs.Behind.{by_step}
 use Rattle.nfs_exec.proofs.WholeRun.{Is, otherwise_store, whole_events, start_whole}
@@ -85,32 +84,32 @@ left_run b d r is =
 
 -- a WRITE that told it leaves it
 written_room : (b : Byte) (limit sofar now : ℕ) (refused : Bool) (m : Machine) (x : Context) (a : Write) → Is m
-    → (let s = in_room limit sofar now refused m x (Operation (OpWrite a)) in Writes b x (Operation (OpWrite a)) s.outcome.result → LastsIn b s.outcome.machine)
+    → (let s = in_room limit sofar now refused m x (Operation (Op.Write a)) in Writes b x (Operation (Op.Write a)) s.outcome.result → LastsIn b s.outcome.machine)
 written_room b limit sofar now refused m x a is =
-    in_room_is (λ s. Writes b x (Operation (OpWrite a)) s.outcome.result → LastsIn b s.outcome.machine) limit sofar now refused m x (Operation (OpWrite a))
+    in_room_is (λ s. Writes b x (Operation (Op.Write a)) s.outcome.result → LastsIn b s.outcome.machine) limit sofar now refused m x (Operation (Op.Write a))
     (λ writes. absurd (short Num.Write RepTooBig writes.over.count writes.over.more writes.over.long writes.over.answers))
-    (λ writes. writes_leave_bytes b refused m.store x (moment now) (Operation (OpWrite a)) is.tree writes)
+    (λ writes. writes_leave_bytes b refused m.store x (moment now) (Operation (Op.Write a)) is.tree writes)
 
 told_run : (b : Byte) (d : RanOp) → IsRun d → WritesIt b d → LastsIn b d.behind
 told_run b d r writes =
-    let i = Operation (OpWrite writes.over.asked) in
+    let i = Operation (Op.Write writes.over.asked) in
     let same : d ≡ done d.before d.context i (ran_as d r i) = as_step d r i writes.over.is in
     subst (λ (d : RanOp). LastsIn b d.behind) (sym same)
     (written_room b r.limit r.sofar r.now r.refused d.before d.context writes.over.asked r.whole (subst (WritesIt b) same writes))
 
 -- a READ is given it
 read_room : (b : Byte) (limit sofar now : ℕ) (refused : Bool) (m : Machine) (x : Context) (a : Read) → LastsIn b m
-    → (let s = in_room limit sofar now refused m x (Operation (OpRead a)) in
-    (r : Reads b.file b.place x (Operation (OpRead a)) s.outcome.result) → GivesIt b x (Operation (OpRead a)) s.outcome.result r)
+    → (let s = in_room limit sofar now refused m x (Operation (Op.Read a)) in
+    (r : Reads b.file b.place x (Operation (Op.Read a)) s.outcome.result) → GivesIt b x (Operation (Op.Read a)) s.outcome.result r)
 read_room b limit sofar now refused m x a is =
-    in_room_is (λ s. (r : Reads b.file b.place x (Operation (OpRead a)) s.outcome.result) → GivesIt b x (Operation (OpRead a)) s.outcome.result r)
-    limit sofar now refused m x (Operation (OpRead a))
+    in_room_is (λ s. (r : Reads b.file b.place x (Operation (Op.Read a)) s.outcome.result) → GivesIt b x (Operation (Op.Read a)) s.outcome.result r)
+    limit sofar now refused m x (Operation (Op.Read a))
     (λ r. absurd (short Num.Read RepTooBig r.eof r.text r.long r.answers))
-    (λ r. reads_give_bytes b refused m.store x (moment now) (Operation (OpRead a)) is r)
+    (λ r. reads_give_bytes b refused m.store x (moment now) (Operation (Op.Read a)) is r)
 
 read_run : (b : Byte) (d : RanOp) → IsRun d → LastsIn b d.before → (r : Reads b.file b.place d.context d.item d.result) → GivesIt b d.context d.item d.result r
 read_run b d run is r =
-    let i = Operation (OpRead r.asked) in
+    let i = Operation (Op.Read r.asked) in
     let same : d ≡ done d.before d.context i (ran_as d run i) = as_step d run i r.is in
     read_room b run.limit run.sofar run.now run.refused d.before d.context r.asked is (record {
       asked = r.asked;
@@ -153,34 +152,34 @@ some_object : (o : Option Stored) → is_some o ≡ true → is_some (option_map
 some_object None e = absurd (false≢true e)
 some_object (Some s) e = refl
 
-not_stale : spell_result ResPutFh ≡ spell_result (Refused 22 Stale) → ⊥
+not_stale : spell_result Res.PutFh ≡ spell_result (Res.Refused 22 Stale) → ⊥
 unfolding number
 not_stale e = let bad : ◌≡◌ {A = ℕ} 0 70 = ap (λ (text : List ℕ). get_or text 7 0) e in absurd (omega arith)
 
-big_not_stale : spell_result (Refused 22 RepTooBig) ≡ spell_result (Refused 22 Stale) → ⊥
+big_not_stale : spell_result (Res.Refused 22 RepTooBig) ≡ spell_result (Res.Refused 22 Stale) → ⊥
 unfolding number
 big_not_stale e = let bad : ◌≡◌ {A = ℕ} 82 70 = ap (λ (text : List ℕ). get_or text 7 0) e in absurd (omega arith)
 
 put_found : (s : State) (x : Context) (h : List ℕ) (n : ℕ) → handle_of h ≡ Some (record { instance = s.instance; number = n }) → is_there s.tree n ≡ true
-    → spell_result (put_fh s x h).result ≡ spell_result (Refused 22 Stale) → ⊥
+    → spell_result (put_fh s x h).result ≡ spell_result (Res.Refused 22 Stale) → ⊥
 unfolding put_fh
 put_found s x h n is there e =
     let held : is_some (object_at s.tree n) ≡ true = some_object (stored_in s.tree.objects n) there in
     let passes : checked (or_bad (handle_of h)) (handle_checks s) ≡ Ok (record { instance = s.instance; number = n }) =
     rw (is, eq-eqb s.instance s.instance refl, held) refl in
-    not_stale (ap (λ v. spell_result (answers s x Num.PutFh v (λ (k : Handle). outcome.done s (at_object x k.number) ResPutFh)).result) (sym passes) ∙ e)
+    not_stale (ap (λ v. spell_result (answers s x Num.PutFh v (λ (k : Handle). outcome.done s (at_object x k.number) Res.PutFh)).result) (sym passes) ∙ e)
 
 put_room : (limit sofar now : ℕ) (refused : Bool) (m : Machine) (x : Context) (h : List ℕ) (n : ℕ)
     → handle_of h ≡ Some (record { instance = m.store.instance; number = n }) → is_there m.store.tree n ≡ true
-    → (let s = in_room limit sofar now refused m x (Operation (OpPutFh h)) in s.outcome.result ≡ spell_result (Refused 22 Stale) → ⊥)
+    → (let s = in_room limit sofar now refused m x (Operation (Op.PutFh h)) in s.outcome.result ≡ spell_result (Res.Refused 22 Stale) → ⊥)
 put_room limit sofar now refused m x h n is there =
-    in_room_is (λ s. s.outcome.result ≡ spell_result (Refused 22 Stale) → ⊥) limit sofar now refused m x (Operation (OpPutFh h))
+    in_room_is (λ s. s.outcome.result ≡ spell_result (Res.Refused 22 Stale) → ⊥) limit sofar now refused m x (Operation (Op.PutFh h))
     big_not_stale (put_found m.store x h n is there)
 
-put_run : (d : RanOp) (run : IsRun d) (n : ℕ) → is_there d.before.store.tree n ≡ true → (h : List ℕ) → d.item ≡ Operation (OpPutFh h)
-    → handle_of h ≡ Some (record { instance = d.before.store.instance; number = n }) → d.result ≡ spell_result (Refused 22 Stale) → ⊥
+put_run : (d : RanOp) (run : IsRun d) (n : ℕ) → is_there d.before.store.tree n ≡ true → (h : List ℕ) → d.item ≡ Operation (Op.PutFh h)
+    → handle_of h ≡ Some (record { instance = d.before.store.instance; number = n }) → d.result ≡ spell_result (Res.Refused 22 Stale) → ⊥
 put_run d run n there h item is told =
-    let same : d ≡ done d.before d.context (Operation (OpPutFh h)) (ran_as d run (Operation (OpPutFh h))) = as_step d run (Operation (OpPutFh h)) item in
+    let same : d ≡ done d.before d.context (Operation (Op.PutFh h)) (ran_as d run (Operation (Op.PutFh h))) = as_step d run (Operation (Op.PutFh h)) item in
     put_room run.limit run.sofar run.now run.refused d.before d.context h n is there (ap (λ (d : RanOp). d.result) (sym same) ∙ told)
 
 before_run : (b : Byte) (d : RanOp) → IsRun d → LastsIn b d.before → StandsBefore b d
@@ -287,7 +286,7 @@ through_session b m r who now choice s more (sequence.Runs c) =
 through_first : (b : Byte) (m : Machine) (r : Request) (who : Caller) (size now : ℕ) (choice : Option ℕ) (items : List Item)
     → Through b m (by_first m r who size now choice items).machine (ops_of m r who size now choice items)
 through_first b m r who size now choice [] = through_none b m m (λ is. is)
-through_first b m r who size now choice (Operation (OpSequence s) ∷ more) = through_session b m r who now choice s more (sequenced m r who size s)
+through_first b m r who size now choice (Operation (Op.Sequence s) ∷ more) = through_session b m r who now choice s more (sequenced m r who size s)
 through_first b m r who size now choice (item ∷ more) =
     through_none b m (first_item m r.declared who now (is_here choice) item).machine (alone_left b m r.declared who now (is_here choice) item)
 

@@ -3,7 +3,9 @@ use Rattle.std.specs.Prelude.{ℕ, Bool, true, false, if◌then◌else◌}
 use Rattle.std.specs.Option.{option_map_or}
 use Rattle.nfs_xdr.specs.declared.status.Status.{Status}
 use Rattle.nfs_compound.specs.Request.{item_number}
-use Rattle.nfs_compound.specs.Operation.{OpClose, OpOpen, OpReclaimComplete, Item, Operation}
+use Rattle.nfs_compound.specs.declared.op.Item.{Item}
+use Rattle.nfs_compound.specs.declared.op.Item.TheVariants.{Operation}
+use Rattle.nfs_compound.specs.declared.op.Op.TheVariants as Op
 use Rattle.nfs_names.specs.declared.context.Context.{Context}
 use Rattle.nfs_names.specs.State.{moment}
 use Rattle.nfs_names.specs.Outcome.{Outcome as OfStore}
@@ -27,8 +29,8 @@ on_store m o = record { outcome = comes_to (record m { store = o.state }) o.resu
 
 -- OPEN and CLOSE alone can move whether a client has an open ..
 abbrev pub moves_opens : Item → Bool
-moves_opens (Operation (OpClose a)) = true
-moves_opens (Operation (OpOpen a)) = true
+moves_opens (Operation (Op.Close a)) = true
+moves_opens (Operation (Op.Open a)) = true
 moves_opens item = false
 
 -- .. and behind them the client's record has the mark of an open where one of its opens stands
@@ -40,7 +42,7 @@ marked_if moves client s = if moves then marked client s else s
 
 -- RECLAIM_COMPLETE, and what nothing carries out
 abbrev pub otherwise : Machine → Context → Item → Step
-otherwise m x (Operation (OpReclaimComplete one)) = record { outcome = reclaim_complete m x one; context = x }
+otherwise m x (Operation (Op.ReclaimComplete one)) = record { outcome = reclaim_complete m x one; context = x }
 otherwise m x item = stays m x item (status_behind item)
 
 -- An item behind a SEQUENCE, at a moment in seconds, where memory was refused or not: an operation on names or attributes, one on open

@@ -3,10 +3,12 @@ use Rattle.std.specs.Prelude.{◌+◌, ℕ, ◌==◌, Bool, List, [], ◌∷◌,
 use Rattle.nfs_xdr.specs.declared.status.Status.{Status}
 use Rattle.nfs_xdr.specs.declared.status.Status.TheVariants.{Nfs4Ok, MinorVersMismatch, NotSupp}
 use Rattle.nfs_xdr.specs.Caller.{Caller}
-use Rattle.nfs_compound.specs.Operation.{OpExchangeId, OpCreateSession, OpDestroySession, OpDestroyClientId, OpSequence, Item, Operation}
+use Rattle.nfs_compound.specs.declared.op.Item.{Item}
+use Rattle.nfs_compound.specs.declared.op.Item.TheVariants.{Operation}
+use Rattle.nfs_compound.specs.declared.op.Op.TheVariants as Op
 use Rattle.nfs_compound.specs.declared.session_args.Sequence.{Sequence}
 use Rattle.nfs_compound.specs.Request.{Request, item_number}
-use Rattle.nfs_results.specs.Result.{ResSequence}
+use Rattle.nfs_results.specs.declared.res.Res.TheVariants as Res
 use Rattle.nfs_results.specs.Results.{spell_result, spell_compound_head}
 use Rattle.nfs_names.specs.Context.{begins}
 use Rattle.nfs_lease.specs.Renewals.{with_renewal}
@@ -36,10 +38,10 @@ bare r status m = answers r (record (finished m) { status = status })
 
 -- Outside a session one operation stands alone, and may want memory; no other item is run there.
 abbrev pub carried_out : Machine → Caller → ℕ → Bool → Item → Outcome
-carried_out m who now refused (Operation (OpExchangeId e)) = or_delay refused m exchange_id_number (exchange_id m who now e)
-carried_out m who now refused (Operation (OpCreateSession c)) = create_session m who now refused c
-carried_out m who now refused (Operation (OpDestroySession sessionid)) = destroy_session m sessionid
-carried_out m who now refused (Operation (OpDestroyClientId client)) = destroy_client m client
+carried_out m who now refused (Operation (Op.ExchangeId e)) = or_delay refused m exchange_id_number (exchange_id m who now e)
+carried_out m who now refused (Operation (Op.CreateSession c)) = create_session m who now refused c
+carried_out m who now refused (Operation (Op.DestroySession sessionid)) = destroy_session m sessionid
+carried_out m who now refused (Operation (Op.DestroyClientId client)) = destroy_client m client
 carried_out m who now refused item = refuses m (item_number item) NotSupp
 
 abbrev pub by_fault : Machine → ℕ → Option Status → Outcome → Outcome
@@ -56,7 +58,7 @@ renewed m now s = record m { leases = with_renewal m.leases (id_of s.sessionid).
 
 -- the bytes of a reply with SEQUENCE's result, its RPC head and the head of its compound among them
 abbrev pub begun : Request → Sequence → Channel → ℕ
-begun r s c = rpc_head + length (spell_compound_head Nfs4Ok r.tag 0) + length (spell_result (ResSequence (accepted s c)))
+begun r s c = rpc_head + length (spell_compound_head Nfs4Ok r.tag 0) + length (spell_result (Res.Sequence (accepted s c)))
 
 -- what is behind SEQUENCE runs for the session's client, in what the channel lets pass
 abbrev pub run_in : Machine → Request → Caller → ℕ → Option ℕ → Sequence → Channel → List Item → Ran
@@ -64,7 +66,7 @@ run_in m r who now choice s c more = run c.response (begun r s c) now choice m (
 
 -- SEQUENCE answers, and what is behind it runs
 abbrev pub runs_behind : Machine → Request → Caller → ℕ → Option ℕ → Sequence → Channel → List Item → Ran
-runs_behind m r who now choice s c more = follow (comes_to m (ResSequence (accepted s c))) (run_in m r who now (behind_here choice) s c more)
+runs_behind m r who now choice s c more = follow (comes_to m (Res.Sequence (accepted s c))) (run_in m r who now (behind_here choice) s c more)
 
 -- the slot keeps the whole answer
 abbrev pub keeps : Request → Caller → Sequence → Answered → Answered
@@ -79,7 +81,7 @@ in_session m r who now choice s more (Runs c) = keeps r who s (answers r (runs_b
 
 abbrev pub by_first : Machine → Request → Caller → (size now : ℕ) → Option ℕ → List Item → Answered
 by_first m r who size now choice [] = bare r Nfs4Ok m
-by_first m r who size now choice (Operation (OpSequence s) ∷ more) = in_session m r who now choice s more (sequenced m r who size s)
+by_first m r who size now choice (Operation (Op.Sequence s) ∷ more) = in_session m r who now choice s more (sequenced m r who size s)
 by_first m r who size now choice (item ∷ more) = answers r (only (first_item m r.declared who now (is_here choice) item))
 
 -- The answer to a request of a caller, in a record of so many bytes, at a moment, with the place, if any, at which memory

@@ -2,12 +2,12 @@
 -- What a number came to is kept with its client, and answered again for that number.
 use Rattle.std.specs.Prelude.{ℕ, ◌==◌, not, Bool, List, ◌++◌, Option, Some, None, Result, Ok, Err}
 use Rattle.nfs_xdr.specs.declared.status.Status.TheVariants.{Nfs4Ok, StaleClientId, SeqMisordered, ClidInUse}
-use Rattle.nfs_compound.specs.declared.op_num.OpNum.TheVariants as Op
+use Rattle.nfs_compound.specs.declared.op_num.OpNum.TheVariants as Num
 use Rattle.nfs_compound.specs.OpNum.{op_number}
 use Rattle.nfs_compound.specs.declared.channel_attrs.ChannelAttrs.{ChannelAttrs}
-use Rattle.nfs_compound.specs.SessionArgs.{CreateSession}
+use Rattle.nfs_compound.specs.declared.session_args.CreateSession.{CreateSession}
 use Rattle.nfs_results.specs.declared.res.CreateSessionOk.{CreateSessionOk}
-use Rattle.nfs_results.specs.Result.{ResCreateSession}
+use Rattle.nfs_results.specs.declared.res.Res.TheVariants as Res
 use Rattle.nfs_results.specs.Parts.{parts}
 use Rattle.nfs_results.specs.Results.{done_head}
 use Rattle.nfs_clients.specs.declared.created.CreateResult.{CreateResult}
@@ -28,7 +28,7 @@ use Rattle.nfs_exec.specs.Machine.{Machine, Outcome, refuses, or_delay}
 use Rattle.nfs_exec.specs.ExchangeId.{without_any_lease}
 
 abbrev pub create_session_number : ℕ
-create_session_number = op_number Op.CreateSession
+create_session_number = op_number Num.CreateSession
 
 -- what is asked for of a channel, and what is answered of one; there is no header padding and no RDMA
 abbrev pub channel_of : ChannelAttrs → Channel
@@ -66,7 +66,7 @@ session_made c id = record {
 
 -- what stands behind the status
 abbrev pub made_body : CreateSession → SessionId → List ℕ
-made_body c id = (parts (ResCreateSession (session_made c id))).behind
+made_body c id = (parts (Res.CreateSession (session_made c id))).behind
 
 abbrev pub without_any_sessions : SessionTable → Option ℕ → SessionTable
 without_any_sessions t None = t
@@ -89,7 +89,7 @@ confirmed m now client body = record {
 abbrev pub by_created : Machine → ℕ → CreateSession → SessionTable → Result SessionId SessionFault → Outcome
 by_created m now c sessions (Ok id) = record {
   status = Nfs4Ok;
-  result = done_head Op.CreateSession ++ made_body c id;
+  result = done_head Num.CreateSession ++ made_body c id;
   machine = confirmed (record m { sessions = sessions }) now c.clientid (made_body c id);
 }
 by_created m now c sessions (Err fault) =
@@ -100,7 +100,7 @@ creates m now c did = by_created m now c did.after did.answer
 
 -- what was kept, answered again
 abbrev pub kept_again : Machine → CreateResult → Outcome
-kept_again m (Done body) = record { status = Nfs4Ok; result = done_head Op.CreateSession ++ body; machine = m }
+kept_again m (Done body) = record { status = Nfs4Ok; result = done_head Num.CreateSession ++ body; machine = m }
 kept_again m (Refused status) = refuses m create_session_number status
 
 abbrev pub by_verdict : Machine → ℕ → Bool → CreateSession → Verdict → Outcome

@@ -5,7 +5,9 @@ use Rattle.nfs_xdr.specs.declared.status.Status.{Status}
 use Rattle.nfs_xdr.specs.declared.status.Status.TheVariants.{Nfs4Ok, Delay}
 use Rattle.nfs_xdr.specs.Tables.{In}
 use Rattle.nfs_xdr.specs.Caller.{Caller}
-use Rattle.nfs_compound.specs.Operation.{Op, Item, Operation, Fault, OpExchangeId, OpCreateSession}
+use Rattle.nfs_compound.specs.declared.op.Op.{Op}
+use Rattle.nfs_compound.specs.declared.op.Item.{Item}
+use Rattle.nfs_compound.specs.declared.op.Item.TheVariants.{Operation, Fault}
 use Rattle.nfs_compound.specs.Request.{Request, item_number}
 use Rattle.nfs_compound.specs.declared.session_args.Sequence.{Sequence}
 use Rattle.nfs_results.specs.Results.{refusal, spell_result, spell_compound_head}
@@ -22,8 +24,8 @@ use Rattle.nfs_exec.specs.Ops.{RanOp, ops_by}
 
 -- What may want memory: the operations on the tree and on open files that are said to, and the two that make clients and sessions.
 abbrev pub grows : State → Context → Item → Bool
-grows s x (Operation (OpExchangeId e)) = true
-grows s x (Operation (OpCreateSession c)) = true
+grows s x (Operation (Op.ExchangeId e)) = true
+grows s x (Operation (Op.CreateSession c)) = true
 grows s x (Operation op) = names.grows s x op || files.grows s x op
 grows s x (Fault number status) = false
 

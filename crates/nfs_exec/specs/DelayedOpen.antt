@@ -4,8 +4,11 @@
 use Rattle.std.specs.Prelude.{◌≡◌, ℕ, ◌+◌, ◌*◌, ◌^◌, false, List, [], ◌∷◌, length, map, replicate, flat_map, Option, Some, None}
 use Rattle.nfs_xdr.specs.Spelling.{number}
 use Rattle.nfs_compound.specs.declared.channel_attrs.ChannelAttrs.{ChannelAttrs}
-use Rattle.nfs_compound.specs.Operation.{OpExchangeId, OpCreateSession, OpSequence, OpPutRootFh, OpOpen, Op, Operation}
-use Rattle.nfs_compound.specs.OpenArgs.{Create, Exclusive, Null}
+use Rattle.nfs_compound.specs.declared.op.Op.{Op}
+use Rattle.nfs_compound.specs.declared.op.Item.TheVariants.{Operation}
+use Rattle.nfs_compound.specs.declared.open_args.OpenHow.TheVariants.{Create}
+use Rattle.nfs_compound.specs.declared.open_args.CreateHow.TheVariants.{Exclusive}
+use Rattle.nfs_compound.specs.declared.open_args.OpenClaim.TheVariants.{Null}
 use Rattle.nfs_compound.specs.Request.{Request}
 use Rattle.nfs_exec.specs.Machine.{Machine, starts}
 use Rattle.nfs_exec.specs.Compound.{Answered, compound}
@@ -22,7 +25,7 @@ abbrev pub asked : Machine → (now : ℕ) → Option ℕ → Request → Answer
 asked m now choice r = compound m r (record { uid = 5; gid = 6; gids = [] }) 200 now choice
 
 abbrev pub exchanges : Op
-exchanges = OpExchangeId (record { verifier = replicate 8 1; ownerid = 0x41 ∷ []; flags = 0; impl_id = None })
+exchanges = Op.ExchangeId (record { verifier = replicate 8 1; ownerid = 0x41 ∷ []; flags = 0; impl_id = None })
 
 abbrev pub channel : ChannelAttrs
 channel = record {
@@ -36,7 +39,7 @@ channel = record {
 }
 
 abbrev pub begins_session : Op
-begins_session = OpCreateSession (record {
+begins_session = Op.CreateSession (record {
   clientid = 7 * 2 ^ 32 + 1;
   sequence = 1;
   flags = 0;
@@ -49,9 +52,9 @@ begins_session = OpCreateSession (record {
 -- SEQUENCE with this number on slot 0 of session 1 of client 1; PUTROOTFH; and OPEN by the open owner `o`, for reading and writing, which denies
 -- nothing, of `f`, which is made with a verifier where it is not there
 abbrev pub opens : ℕ → Request
-opens n = request n (OpSequence (record { sessionid = words (7 ∷ 1 ∷ 0 ∷ 1 ∷ []); sequenceid = n; slotid = 0; highest_slotid = 0; cachethis = false })
-    ∷ OpPutRootFh
-    ∷ OpOpen (record {
+opens n = request n (Op.Sequence (record { sessionid = words (7 ∷ 1 ∷ 0 ∷ 1 ∷ []); sequenceid = n; slotid = 0; highest_slotid = 0; cachethis = false })
+    ∷ Op.PutRootFh
+    ∷ Op.Open (record {
       seqid = 0;
       share_access = 3;
       share_deny = 0;

@@ -2,9 +2,9 @@
 use Rattle.std.specs.Prelude.{ℕ, Bool, ◌==◌, List, Option, Some, None, is_some, if◌then◌else◌}
 use Rattle.std.specs.List.{list_any}
 use Rattle.nfs_xdr.specs.declared.status.Status.TheVariants.{BadSession}
-use Rattle.nfs_compound.specs.declared.op_num.OpNum.TheVariants as Op
+use Rattle.nfs_compound.specs.declared.op_num.OpNum.TheVariants as Num
 use Rattle.nfs_compound.specs.OpNum.{op_number}
-use Rattle.nfs_results.specs.Result.{ResDestroySession, ResDestroyClientId}
+use Rattle.nfs_results.specs.declared.res.Res.TheVariants as Res
 use Rattle.nfs_sessions.specs.Id.{id_of}
 use Rattle.nfs_sessions.specs.Sessions.{SessionTable, session_at}
 use Rattle.nfs_sessions.specs.Sessions as sessions
@@ -18,16 +18,16 @@ use Rattle.nfs_exec.specs.Machine.{Machine, Outcome, comes_to, refuses}
 abbrev pub destroy_session : Machine → List ℕ → Outcome
 destroy_session m sessionid =
     if is_some (session_at m.sessions (id_of sessionid))
-    then comes_to (record m { sessions = sessions.destroyed m.sessions (id_of sessionid) }) ResDestroySession
-    else refuses m (op_number Op.DestroySession) BadSession
+    then comes_to (record m { sessions = sessions.destroyed m.sessions (id_of sessionid) }) Res.DestroySession
+    else refuses m (op_number Num.DestroySession) BadSession
 
 abbrev pub has_session : SessionTable → ℕ → Bool
 has_session t client = list_any (λ s. s.client == client) t.sessions
 
 -- a client goes with its lease, where it has neither a session nor an open
 abbrev pub destroyed_unless : Machine → ℕ → Option DestroyFault → Outcome
-destroyed_unless m client None = comes_to (record m { clients = without m.clients client; leases = without_lease m.leases client }) ResDestroyClientId
-destroyed_unless m client (Some fault) = refuses m (op_number Op.DestroyClientId) (destroy_status fault)
+destroyed_unless m client None = comes_to (record m { clients = without m.clients client; leases = without_lease m.leases client }) Res.DestroyClientId
+destroyed_unless m client (Some fault) = refuses m (op_number Num.DestroyClientId) (destroy_status fault)
 
 abbrev pub destroy_client : Machine → ℕ → Outcome
 destroy_client m client = destroyed_unless m client (destroy_fault m.clients client (has_session m.sessions client))

@@ -1,10 +1,11 @@
 -- EXCHANGE_ID (RFC 8881 section 18.35): the table of clients decides, a record that is added begins its lease, and one that
 -- it replaces loses its own.
 use Rattle.std.specs.Prelude.{ℕ, List, [], ◌∷◌, Bool, true, false, Option, Some, None, Result, Ok, Err, if◌then◌else◌}
-use Rattle.nfs_compound.specs.declared.op_num.OpNum.TheVariants as Op
+use Rattle.nfs_compound.specs.declared.op_num.OpNum.TheVariants as Num
 use Rattle.nfs_compound.specs.OpNum.{op_number}
-use Rattle.nfs_compound.specs.SessionArgs.{ExchangeId}
-use Rattle.nfs_results.specs.Result.{ExchangeIdOk, Res, ResExchangeId, Refused}
+use Rattle.nfs_compound.specs.declared.session_args.ExchangeId.{ExchangeId}
+use Rattle.nfs_results.specs.declared.res.ExchangeIdOk.{ExchangeIdOk}
+use Rattle.nfs_results.specs.declared.res.Res.{Res}
 use Rattle.nfs_clients.specs.declared.exchange_id.Exchanged.{Exchanged}
 use Rattle.nfs_clients.specs.declared.exchange_id.ClientFault.{ClientFault}
 use Rattle.nfs_clients.specs.ExchangeId.{Ask, Did, asks, exchange, fault_status}
@@ -13,7 +14,7 @@ use Rattle.nfs_xdr.specs.Caller.{Caller}
 use Rattle.nfs_exec.specs.Machine.{Machine, Outcome, comes_to}
 
 abbrev pub exchange_id_number : ℕ
-exchange_id_number = op_number Op.ExchangeId
+exchange_id_number = op_number Num.ExchangeId
 
 -- the text `nfs41d`, by which the server names itself and its scope
 abbrev pub server_name : List ℕ
@@ -36,8 +37,8 @@ granted x = record {
 }
 
 abbrev pub answered : Result Exchanged ClientFault → Res
-answered (Ok x) = ResExchangeId (granted x)
-answered (Err fault) = Refused exchange_id_number (fault_status fault)
+answered (Ok x) = Res.ExchangeId (granted x)
+answered (Err fault) = Res.Refused exchange_id_number (fault_status fault)
 
 abbrev pub without_any_lease : Book → Option ℕ → Book
 without_any_lease b None = b

@@ -2,7 +2,9 @@
 -- that stands alone outside a session.
 use Rattle.std.specs.Prelude.{ℕ, ◌==◌, ◌&&◌, ◌||◌, nat_lt, not, Bool, false, List, ◌∷◌, Option, Some, None, is_some, if◌then◌else◌}
 use Rattle.nfs_xdr.specs.Caller.{Caller}
-use Rattle.nfs_compound.specs.Operation.{OpSequence, Item, Operation}
+use Rattle.nfs_compound.specs.declared.op.Item.{Item}
+use Rattle.nfs_compound.specs.declared.op.Item.TheVariants.{Operation}
+use Rattle.nfs_compound.specs.declared.op.Op.TheVariants as Op
 use Rattle.nfs_compound.specs.declared.session_args.Sequence.{Sequence}
 use Rattle.nfs_compound.specs.Request.{Request}
 use Rattle.nfs_exec.specs.Machine.{Machine}
@@ -11,7 +13,7 @@ use Rattle.nfs_exec.specs.Laws.{first_runs}
 
 -- SEQUENCE in front of the operations
 abbrev pub first_sequence : List Item → Option Sequence
-first_sequence (Operation (OpSequence s) ∷ more) = Some s
+first_sequence (Operation (Op.Sequence s) ∷ more) = Some s
 first_sequence items = None
 
 -- the SEQUENCE that a request of minor version 1 begins with

@@ -4,7 +4,9 @@ use Rattle.std.specs.Option.{option_map_or}
 use Rattle.nfs_xdr.specs.declared.status.Status.{Status}
 use Rattle.nfs_xdr.specs.Caller.{Caller}
 use Rattle.nfs_compound.specs.declared.session_args.Sequence.{Sequence}
-use Rattle.nfs_compound.specs.Operation.{OpSequence, Item, Operation}
+use Rattle.nfs_compound.specs.declared.op.Item.{Item}
+use Rattle.nfs_compound.specs.declared.op.Item.TheVariants.{Operation}
+use Rattle.nfs_compound.specs.declared.op.Op.TheVariants as Op
 use Rattle.nfs_compound.specs.Request.{Request}
 use Rattle.nfs_lease.specs.Renewals.{has_run_out}
 use Rattle.nfs_sessions.specs.declared.id.SessionId.{SessionId}
@@ -20,7 +22,7 @@ use Rattle.nfs_exec.specs.Expiry.{expired}
 pub record Begins (m : Machine) (r : Request) (who : Caller) (size : ℕ) (s : Sequence) (v : Sequenced) : Type 0 where
   pub more : List Item
   pub minor : r.minor ≡ 1
-  pub list : r.left ≡ Operation (OpSequence s) ∷ more
+  pub list : r.left ≡ Operation (Op.Sequence s) ∷ more
   pub verdict : sequenced m r who size s ≡ v
 
 -- A repeat is answered with the reply that its slot keeps, runs nothing and changes nothing, wherever memory is refused.
@@ -64,7 +66,7 @@ if_runs s (Runs channel) = Some s
 if_runs s verdict = None
 
 abbrev pub first_runs : Machine → Request → Caller → ℕ → List Item → Option Sequence
-first_runs m r who size (Operation (OpSequence s) ∷ more) = if_runs s (sequenced m r who size s)
+first_runs m r who size (Operation (Op.Sequence s) ∷ more) = if_runs s (sequenced m r who size s)
 first_runs m r who size items = None
 
 -- The SEQUENCE behind which an event runs operations: those of a request that is new on its slot. A repeat, what is refused

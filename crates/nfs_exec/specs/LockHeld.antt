@@ -3,11 +3,12 @@
 use Rattle.std.specs.Prelude.{◌≡◌, ℕ, ◌≤◌, ◌==◌, Bool, true, false, List, [], ◌∷◌, Some, Ok, option_map}
 use Rattle.std.specs.Option.{option_map_or}
 use Rattle.nfs_xdr.specs.Tables.{In}
-use Rattle.nfs_compound.specs.LockArgs as args
+use Rattle.nfs_compound.specs.declared.lock_args.Lock as args
 use Rattle.nfs_compound.specs.declared.lock_args.LockU.{LockU}
 use Rattle.nfs_compound.specs.declared.open_args.Close.{Close}
-use Rattle.nfs_compound.specs.declared.op_num.OpNum.TheVariants as Op
-use Rattle.nfs_compound.specs.Operation.{Operation, OpLock, OpLockU, OpClose}
+use Rattle.nfs_compound.specs.declared.op_num.OpNum.TheVariants as Num
+use Rattle.nfs_compound.specs.declared.op.Item.TheVariants.{Operation}
+use Rattle.nfs_compound.specs.declared.op.Op.TheVariants as Op
 use Rattle.nfs_compound.specs.declared.session_args.Sequence.{Sequence}
 use Rattle.nfs_sessions.specs.Id.{id_of}
 use Rattle.nfs_clients.specs.Roster.{ClientRecord}
@@ -26,25 +27,25 @@ use Rattle.nfs_exec.specs.Ops.{RanOp}
 -- a LOCK for the bytes of a wish that answered NFS4_OK and the stateid of lock state n
 pub record LocksFor (d : RanOp) (n : ℕ) (w : Wish) : Type 0 where
   pub asked : args.Lock
-  pub is : d.item ≡ Operation (OpLock asked)
+  pub is : d.item ≡ Operation (Op.Lock asked)
   pub wish : wished d.before.store d.context asked.locktype asked.offset asked.length ≡ Ok w
-  pub names : Names Op.Lock d.result n
+  pub names : Names Num.Lock d.result n
 
 -- a LOCKU that did
 pub record UnlocksFor (d : RanOp) (n : ℕ) (w : Wish) : Type 0 where
   pub asked : LockU
-  pub is : d.item ≡ Operation (OpLockU asked)
+  pub is : d.item ≡ Operation (Op.LockU asked)
   pub wish : wished d.before.store d.context asked.locktype asked.offset asked.length ≡ Ok w
-  pub names : Names Op.LockU d.result n
+  pub names : Names Num.LockU d.result n
 
 -- a CLOSE of open n, whose stateid may be the current one, that answered NFS4_OK and a stateid that names nothing
 pub record ClosesOf (d : RanOp) (n : ℕ) : Type 0 where
   pub asked : Close
   pub id : StateId
-  pub is : d.item ≡ Operation (OpClose asked)
+  pub is : d.item ≡ Operation (Op.Close asked)
   pub means : meant d.context Own asked.open_stateid ≡ Ok id
   pub opened : id.number ≡ n
-  pub names : Names Op.Close d.result 0
+  pub names : Names Num.Close d.result 0
 
 -- It is no LOCK of another kind and no LOCKU for the lock state on a byte of it, and no CLOSE of its open.
 pub record Spares (k : LockTold) (d : RanOp) : Type 0 where

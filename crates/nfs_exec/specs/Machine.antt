@@ -5,7 +5,7 @@ use Rattle.nfs_xdr.specs.declared.status.Status.{Status}
 use Rattle.nfs_xdr.specs.declared.status.Status.TheVariants.{Nfs4Ok, Delay}
 use Rattle.nfs_xdr.specs.Status.{status_number}
 use Rattle.nfs_xdr.specs.Tables.{IsRising, In}
-use Rattle.nfs_results.specs.Result.{Res}
+use Rattle.nfs_results.specs.declared.res.Res.{Res}
 use Rattle.nfs_results.specs.Results.{status_of_result, spell_result, refusal}
 use Rattle.nfs_opens.specs.declared.records.OpenState.{OpenState}
 use Rattle.nfs_ranges.specs.Holders.{HasNoClash}

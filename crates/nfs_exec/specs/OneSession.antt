@@ -1,12 +1,14 @@
 -- One session a CREATE_SESSION (RFC 8881 section 18.36.4): what it asked for and was answered, and which sessions it leaves.
-use Rattle.std.specs.Prelude.{◌≡◌, ◌⊎◌, ℕ, ◌+◌, ◌==◌, Bool, true, false, List, [], ◌∷◌, ◌++◌, length, Option, None, is_some, if◌then◌else◌}
+use Rattle.std.specs.Prelude.{◌≡◌, ◌⊎◌, ℕ, ◌==◌, Bool, true, false, List, ◌∷◌, ◌++◌, length, Option, None, is_some}
 use Rattle.nfs_xdr.specs.Caller.{Caller}
 use Rattle.nfs_xdr.specs.Tables.{In}
 use Rattle.nfs_xdr.specs.declared.status.Status.TheVariants.{Nfs4Ok}
-use Rattle.nfs_compound.specs.Operation.{OpCreateSession, Item, Operation}
+use Rattle.nfs_compound.specs.declared.op.Item.{Item}
+use Rattle.nfs_compound.specs.declared.op.Item.TheVariants.{Operation}
+use Rattle.nfs_compound.specs.declared.op.Op.TheVariants as Op
 use Rattle.nfs_compound.specs.Request.{Request}
-use Rattle.nfs_compound.specs.SessionArgs.{CreateSession}
-use Rattle.nfs_compound.specs.declared.op_num.OpNum.TheVariants as Op
+use Rattle.nfs_compound.specs.declared.session_args.CreateSession.{CreateSession}
+use Rattle.nfs_compound.specs.declared.op_num.OpNum.TheVariants as Num
 use Rattle.nfs_results.specs.Results.{done_head, spell_compound_head}
 use Rattle.nfs_sessions.specs.declared.id.SessionId.{SessionId}
 use Rattle.nfs_sessions.specs.Id.{id_bytes}
@@ -17,7 +19,7 @@ use Rattle.nfs_exec.specs.Laws.{MachineEvent, Expires, Asks, stepped, all_steppe
 
 -- it asks for a session of the client: CREATE_SESSION stands first
 abbrev pub asks_of : ℕ → List Item → Bool
-asks_of client (Operation (OpCreateSession c) ∷ more) = c.clientid == client
+asks_of client (Operation (Op.CreateSession c) ∷ more) = c.clientid == client
 asks_of client items = false
 
 abbrev pub asks_session : ℕ → MachineEvent → Bool
@@ -34,11 +36,11 @@ pub record Gives (client number : ℕ) (id : List ℕ) (m : Machine) (e : Machin
   pub is : e ≡ Asks request who size now choice
   pub asked : CreateSession
   pub more : List Item
-  pub first : request.left ≡ Operation (OpCreateSession asked) ∷ more
+  pub first : request.left ≡ Operation (Op.CreateSession asked) ∷ more
   pub for : asked.clientid ≡ client
   pub with : asked.sequence ≡ number
   pub behind : List ℕ
-  pub answers : (compound m request who size now choice).text ≡ spell_compound_head Nfs4Ok request.tag 1 ++ (done_head Op.CreateSession ++ (id ++ behind))
+  pub answers : (compound m request who size now choice).text ≡ spell_compound_head Nfs4Ok request.tag 1 ++ (done_head Num.CreateSession ++ (id ++ behind))
   pub long : length id ≡ 16
 
 -- A session of the id, of the client, stands behind it, which did not before; no other is new, and the client's others stand on.

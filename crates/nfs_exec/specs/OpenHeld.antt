@@ -2,9 +2,10 @@
 -- A CLOSE of it that answers NFS4_OK ends it, and so does the end of its client.
 use Rattle.std.specs.Prelude.{◌≡◌, ℕ, true, List, [], ◌∷◌, Some}
 use Rattle.nfs_xdr.specs.Tables.{In}
-use Rattle.nfs_compound.specs.OpenArgs.{Open}
-use Rattle.nfs_compound.specs.declared.op_num.OpNum.TheVariants as Op
-use Rattle.nfs_compound.specs.Operation.{Operation, OpOpen}
+use Rattle.nfs_compound.specs.declared.open_args.Open.{Open}
+use Rattle.nfs_compound.specs.declared.op_num.OpNum.TheVariants as Num
+use Rattle.nfs_compound.specs.declared.op.Item.TheVariants.{Operation}
+use Rattle.nfs_compound.specs.declared.op.Op.TheVariants as Op
 use Rattle.nfs_opens.specs.Opening.{own_open}
 use Rattle.nfs_files.specs.Open.{asking}
 use Rattle.nfs_files.specs.OpenTold.{names_open, OpenTold, Bits, bits_with, bits_had, bits_behind, IsOpenWith, claimed, forbids}
@@ -14,8 +15,8 @@ use Rattle.nfs_exec.specs.LockHeld.{ClosesOf}
 -- an OPEN of a file that answered NFS4_OK and the stateid of open n; behind it the claim leads to the file
 pub record OpensAs (d : RanOp) (n file : ℕ) : Type 0 where
   pub asked : Open
-  pub is : d.item ≡ Operation (OpOpen asked)
-  pub names : names_open Op.Open d.result n ≡ true
+  pub is : d.item ≡ Operation (Op.Open asked)
+  pub names : names_open Num.Open d.result n ≡ true
   pub leads : claimed d.behind.store.tree d.context asked.claim ≡ Some file
 
 -- it stands before the operation, which is no OPEN of its file that it forbids and that answered NFS4_OK

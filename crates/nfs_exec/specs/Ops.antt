@@ -3,10 +3,12 @@ use Rattle.std.specs.Prelude.{◌≡◌, ℕ, suc, ◌+◌, ◌==◌, true, fals
 use Rattle.nfs_xdr.specs.declared.status.Status.{Status}
 use Rattle.nfs_xdr.specs.declared.status.Status.TheVariants.{Nfs4Ok}
 use Rattle.nfs_xdr.specs.Caller.{Caller}
-use Rattle.nfs_compound.specs.Operation.{OpSequence, Item, Operation}
+use Rattle.nfs_compound.specs.declared.op.Item.{Item}
+use Rattle.nfs_compound.specs.declared.op.Item.TheVariants.{Operation}
+use Rattle.nfs_compound.specs.declared.op.Op.TheVariants as Op
 use Rattle.nfs_compound.specs.Request.{Request}
 use Rattle.nfs_compound.specs.declared.session_args.Sequence.{Sequence}
-use Rattle.nfs_results.specs.Result.{ResSequence}
+use Rattle.nfs_results.specs.declared.res.Res.TheVariants as Res
 use Rattle.nfs_results.specs.Results.{spell_result, spell_compound_head}
 use Rattle.nfs_sessions.specs.Id.{id_of}
 use Rattle.nfs_sessions.specs.declared.channel.Channel.{Channel}
@@ -92,7 +94,7 @@ ops_in m r who now choice s more (Runs c) =
 ops_in m r who now choice s more verdict = []
 
 abbrev pub ops_of : Machine → Request → Caller → (size now : ℕ) → Option ℕ → List Item → List RanOp
-ops_of m r who size now choice (Operation (OpSequence s) ∷ more) = ops_in m r who now choice s more (sequenced m r who size s)
+ops_of m r who size now choice (Operation (Op.Sequence s) ∷ more) = ops_in m r who now choice s more (sequenced m r who size s)
 ops_of m r who size now choice items = []
 
 -- the machine that a run in a session begins with is the one whose client's lease was renewed, and this one is behind it
@@ -110,4 +112,4 @@ abbrev pub AnswersAreTheirs : Type 0
 AnswersAreTheirs = (m : Machine) (r : Request) (who : Caller) (size now : ℕ) (choice : Option ℕ) (s : Sequence) → ran m (Asks r who size now choice) ≡ Some s
     → (c : Channel) × (let ds = ops_by m (Asks r who size now choice) in
     (compound m r who size now choice).text
-    ≡ spell_compound_head (last_status ds) r.tag (suc (length ds)) ++ (spell_result (ResSequence (accepted s c)) ++ results_of ds))
+    ≡ spell_compound_head (last_status ds) r.tag (suc (length ds)) ++ (spell_result (Res.Sequence (accepted s c)) ++ results_of ds))

@@ -2,7 +2,9 @@
 -- 9.1 and 9.7); and which requests name it.
 use Rattle.std.specs.Prelude.{◌≡◌, ℕ, ◌==◌, ◌||◌, Bool, false, List, ◌∷◌, filter, bytes_eq}
 use Rattle.std.specs.Option.{option_map_or}
-use Rattle.nfs_compound.specs.Operation.{OpExchangeId, OpCreateSession, OpDestroySession, OpDestroyClientId, OpSequence, Item, Operation}
+use Rattle.nfs_compound.specs.declared.op.Item.{Item}
+use Rattle.nfs_compound.specs.declared.op.Item.TheVariants.{Operation}
+use Rattle.nfs_compound.specs.declared.op.Op.TheVariants as Op
 use Rattle.nfs_clients.specs.Roster.{Roster, client_at}
 use Rattle.nfs_sessions.specs.Id.{id_of}
 use Rattle.nfs_sessions.specs.Sessions.{Session, SessionTable}
@@ -30,11 +32,11 @@ is_id_of t client id = (id == client) || option_map_or (λ c. has_owner t client
 
 -- The first item names the client: by a session, its owner, or an id.
 abbrev pub is_named_in : ℕ → Roster → List Item → Bool
-is_named_in client t (Operation (OpSequence s) ∷ more) = (id_of s.sessionid).client == client
-is_named_in client t (Operation (OpExchangeId e) ∷ more) = has_owner t client e.ownerid
-is_named_in client t (Operation (OpCreateSession c) ∷ more) = is_id_of t client c.clientid
-is_named_in client t (Operation (OpDestroySession sessionid) ∷ more) = (id_of sessionid).client == client
-is_named_in client t (Operation (OpDestroyClientId id) ∷ more) = id == client
+is_named_in client t (Operation (Op.Sequence s) ∷ more) = (id_of s.sessionid).client == client
+is_named_in client t (Operation (Op.ExchangeId e) ∷ more) = has_owner t client e.ownerid
+is_named_in client t (Operation (Op.CreateSession c) ∷ more) = is_id_of t client c.clientid
+is_named_in client t (Operation (Op.DestroySession sessionid) ∷ more) = (id_of sessionid).client == client
+is_named_in client t (Operation (Op.DestroyClientId id) ∷ more) = id == client
 is_named_in client t items = false
 
 abbrev pub is_named_by : ℕ → Machine → MachineEvent → Bool

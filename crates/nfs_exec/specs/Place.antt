@@ -3,19 +3,21 @@ use Rattle.std.specs.Prelude.{ℕ, ◌||◌, ◌&&◌, nat_lt, not, Bool, true, 
 use Rattle.nfs_xdr.specs.Checks.{first_fault}
 use Rattle.nfs_xdr.specs.declared.status.Status.{Status}
 use Rattle.nfs_xdr.specs.declared.status.Status.TheVariants.{NotOnlyOp, NotSupp, OpNotInSession, SequencePos}
-use Rattle.nfs_compound.specs.Operation.{Op, OpExchangeId, OpCreateSession, OpDestroySession, OpDestroyClientId, OpSequence, Item, Operation, Fault}
+use Rattle.nfs_compound.specs.declared.op.Op.{Op}
+use Rattle.nfs_compound.specs.declared.op.Item.{Item}
+use Rattle.nfs_compound.specs.declared.op.Item.TheVariants.{Operation, Fault}
 
 -- the operations that stand alone in a compound outside a session
 abbrev pub stands_alone : Op → Bool
-stands_alone (OpExchangeId e) = true
-stands_alone (OpCreateSession c) = true
-stands_alone (OpDestroySession sessionid) = true
-stands_alone (OpDestroyClientId clientid) = true
+stands_alone (Op.ExchangeId e) = true
+stands_alone (Op.CreateSession c) = true
+stands_alone (Op.DestroySession sessionid) = true
+stands_alone (Op.DestroyClientId clientid) = true
 stands_alone op = false
 
 -- SEQUENCE, which begins a compound in a session
 abbrev pub is_sequence : Op → Bool
-is_sequence (OpSequence s) = true
+is_sequence (Op.Sequence s) = true
 is_sequence op = false
 
 -- Why an operation cannot stand in the first place, of so many declared.
@@ -34,5 +36,5 @@ item_fault declared (Fault number status) = Some status
 -- supported there (this server's profile).
 abbrev pub status_behind : Item → Status
 status_behind (Fault number status) = status
-status_behind (Operation (OpSequence s)) = SequencePos
+status_behind (Operation (Op.Sequence s)) = SequencePos
 status_behind (Operation op) = NotSupp

@@ -1,7 +1,9 @@
 -- Which events renew a client's lease or begin it (RFC 8881 sections 8.3, 18.35 and 18.36).
 use Rattle.std.specs.Prelude.{ℕ, ◌==◌, ◌&&◌, ◌||◌, Bool, false, List, [], ◌∷◌, Option, Result, Ok, Err}
 use Rattle.nfs_xdr.specs.Caller.{Caller}
-use Rattle.nfs_compound.specs.Operation.{Item, Operation, OpExchangeId, OpCreateSession}
+use Rattle.nfs_compound.specs.declared.op.Item.{Item}
+use Rattle.nfs_compound.specs.declared.op.Item.TheVariants.{Operation}
+use Rattle.nfs_compound.specs.declared.op.Op.TheVariants as Op
 use Rattle.nfs_compound.specs.Request.{Request}
 use Rattle.nfs_clients.specs.declared.exchange_id.Exchanged.{Exchanged}
 use Rattle.nfs_clients.specs.declared.exchange_id.ClientFault.{ClientFault}
@@ -20,8 +22,8 @@ adds client (Err fault) = false
 
 -- a CREATE_SESSION of the client, or an EXCHANGE_ID that adds its record
 abbrev pub is_for : ℕ → Machine → Caller → Item → Bool
-is_for client m who (Operation (OpExchangeId e)) = adds client (exchange m.clients (ask_of who e)).answer
-is_for client m who (Operation (OpCreateSession c)) = c.clientid == client
+is_for client m who (Operation (Op.ExchangeId e)) = adds client (exchange m.clients (ask_of who e)).answer
+is_for client m who (Operation (Op.CreateSession c)) = c.clientid == client
 is_for client m who item = false
 
 -- outside a session, where it answers NFS4_OK

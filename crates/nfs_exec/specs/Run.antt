@@ -3,7 +3,7 @@
 use Rattle.std.specs.Prelude.{ℕ, zero, suc, ◌+◌, nat_lt, Bool, true, false, List, [], ◌∷◌, ◌++◌, length, Option, Some, None, if◌then◌else◌}
 use Rattle.nfs_xdr.specs.declared.status.Status.{Status}
 use Rattle.nfs_xdr.specs.declared.status.Status.TheVariants.{Nfs4Ok, RepTooBig}
-use Rattle.nfs_compound.specs.Operation.{Item}
+use Rattle.nfs_compound.specs.declared.op.Item.{Item}
 use Rattle.nfs_results.specs.Largest.{largest}
 use Rattle.nfs_names.specs.declared.context.Context.{Context}
 use Rattle.nfs_exec.specs.Machine.{Machine, Outcome, is_ok}

@@ -4,7 +4,7 @@ use Rattle.nfs_xdr.specs.Checks.{first_fault}
 use Rattle.nfs_xdr.specs.declared.status.Status.{Status}
 use Rattle.nfs_xdr.specs.declared.status.Status.TheVariants.{BadSession, BadSlot, BadHighSlot, SeqMisordered, SeqFalseRetry, ReqTooBig, TooManyOps}
 use Rattle.nfs_xdr.specs.Caller.{Caller}
-use Rattle.nfs_compound.specs.declared.op_num.OpNum.TheVariants as Op
+use Rattle.nfs_compound.specs.declared.op_num.OpNum.TheVariants as Num
 use Rattle.nfs_compound.specs.OpNum.{op_number}
 use Rattle.nfs_compound.specs.declared.session_args.Sequence.{Sequence}
 use Rattle.nfs_compound.specs.Request.{Request}
@@ -18,7 +18,7 @@ use Rattle.nfs_sessions.specs.Sessions.{Session, session_at}
 use Rattle.nfs_exec.specs.Machine.{Machine}
 
 abbrev pub sequence_number : ℕ
-sequence_number = op_number Op.Sequence
+sequence_number = op_number Num.Sequence
 
 -- It is refused; or the request is a repeat, and the reply that its slot keeps is the answer; or the request is new, and
 -- runs in a session of this channel.

@@ -5,12 +5,13 @@ use Rattle.nfs_xdr.specs.SheetState.{SheetState, Puts}
 use Rattle.nfs_xdr.specs.Caller.{Caller}
 use Rattle.nfs_xdr.specs.Limits.{opaque_limit}
 use Rattle.nfs_xdr.specs.Tables.{In}
-use Rattle.nfs_compound.specs.Operation.{Item, Operation, Fault}
+use Rattle.nfs_compound.specs.declared.op.Item.{Item}
+use Rattle.nfs_compound.specs.declared.op.Item.TheVariants.{Operation, Fault}
 use Rattle.nfs_compound.specs.Request.{Request, IsRequest}
 use Rattle.nfs_compound.specs.declared.session_args.Sequence.{Sequence}
 use Rattle.nfs_compound.specs.declared.op_num.OpNum.TheVariants.{SetAttr}
 use Rattle.nfs_compound.specs.OpNum.{op_number}
-use Rattle.nfs_results.specs.Result.{Res}
+use Rattle.nfs_results.specs.declared.res.Res.{Res}
 use Rattle.nfs_results.specs.Parts.{is_legal}
 use Rattle.nfs_results.specs.Refusals.{can_refuse}
 use Rattle.nfs_results.specs.ResultCodec.{IsBounded, HasArrays}

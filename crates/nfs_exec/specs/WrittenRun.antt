@@ -2,9 +2,10 @@
 use Rattle.std.specs.Prelude.{◌≡◌, ℕ, true, List, [], ◌∷◌, ◌++◌, Some}
 use Rattle.nfs_xdr.specs.Tables.{In}
 use Rattle.nfs_xdr.specs.declared.status.Status.TheVariants.{Stale}
-use Rattle.nfs_compound.specs.declared.op_num.OpNum.TheVariants as Op
+use Rattle.nfs_compound.specs.declared.op_num.OpNum.TheVariants as Num
 use Rattle.nfs_compound.specs.OpNum.{op_number}
-use Rattle.nfs_compound.specs.Operation.{Operation, OpPutFh}
+use Rattle.nfs_compound.specs.declared.op.Item.TheVariants.{Operation}
+use Rattle.nfs_compound.specs.declared.op.Op.TheVariants as Op
 use Rattle.nfs_results.specs.Results.{spell_result, refusal}
 use Rattle.nfs_tree.specs.Files.{data_at}
 use Rattle.nfs_attrs.specs.Handle.{handle_of}
@@ -29,8 +30,8 @@ AreSpared b ds = (d : RanOp) → In d ds → SparesIt b d
 -- given it.
 pub record StandsBefore (b : Byte) (d : RanOp) : Type 0 where
   pub stands : is_used d.before.store b.file ≡ true → StandsIn b (data_at d.before.store.tree b.file)
-  pub found : is_used d.before.store b.file ≡ true → (h : List ℕ) → d.item ≡ Operation (OpPutFh h)
-      → handle_of h ≡ Some (record { instance = d.before.store.instance; number = b.file }) → d.result ≡ spell_result (refusal (op_number Op.PutFh) Stale) → ⊥
+  pub found : is_used d.before.store b.file ≡ true → (h : List ℕ) → d.item ≡ Operation (Op.PutFh h)
+      → handle_of h ≡ Some (record { instance = d.before.store.instance; number = b.file }) → d.result ≡ spell_result (refusal (op_number Num.PutFh) Stale) → ⊥
   pub read : (r : Reads b.file b.place d.context d.item d.result) → GivesIt b d.context d.item d.result r
 
 -- before each operation, as long as all before it spared it

@@ -4,8 +4,8 @@ ghost use Rattle.std.specs.Prelude.{◌≡◌, ◌≤◌, ◌<◌, ◌^◌, ℕ,
 ghost use Rattle.nfs_xdr.specs.Caller.{caller};
 ghost use Rattle.nfs_xdr.specs.Tables.{In};
 ghost use Rattle.nfs_xdr.specs.Limits.{opaque_limit};
-ghost use Rattle.nfs_compound.specs.Operation.{Item};
-ghost use Rattle.nfs_compound.specs.View.{item};
+ghost use Rattle.nfs_compound.specs.declared.op.Item.{Item};
+ghost use Rattle.nfs_compound.specs.declared.op.Item.TheVariants.{Operation};
 ghost use Rattle.nfs_lease.specs.Queue.{IsLatest};
 ghost use Rattle.nfs_sessions.specs.SessionTables.{IsGranted};
 ghost use Rattle.nfs_names.specs.StoreInvariants.{IsStore};
@@ -15,10 +15,10 @@ ghost use Rattle.nfs_exec.specs.Sequence.{Runs, sequenced};
 ghost use Rattle.nfs_exec.specs.Compound.{compound, first_item, in_session};
 ghost use Rattle.nfs_exec.specs.View.{Does, AreTables, MayRun, RanIn, CanBear, IsOpened, HasReplyRoom, HasLoneRoom, Answers};
 
-use crate::place::fault_in_first_place;
+use crate::place::{place_fault, sequence_in};
 use crate::sequence::{Sequenced, accepted, judge};
 use crate::tables::Tables;
-use nfs_compound::{Arg, Compound, MINOR_VERSION, OpNum, Sequence};
+use nfs_compound::{Compound, Item, MINOR_VERSION, Op, OpNum, Sequence};
 use nfs_names::Context;
 use nfs_results::{OpenHead, Res, write, write_compound_head};
 use nfs_sessions::{Channel, SessionId};
@@ -51,15 +51,15 @@ impl Tables {
             write_compound_head(Status::MinorVersMismatch, tag, 0, out);
             return;
         }
-        let Some(arg) = args.next() else {
+        let Some(item) = args.next() else {
             write_compound_head(Status::Nfs4Ok, tag, 0, out);
             return;
         };
-        match &arg {
-            Arg::Sequence(asked) => self.in_session(alloc, asked, args, who, size, now, out),
-            arg => {
+        match sequence_in(&item) {
+            Some(asked) => self.in_session(alloc, asked, args, who, size, now, out),
+            None => {
                 let head = OpenHead::put(tag, out);
-                let status = self.alone(alloc, arg, args.declared(), who, now, out);
+                let status = self.alone(alloc, &item, args.declared(), who, now, out);
                 head.close(status, 1, out);
             }
         }
@@ -69,29 +69,54 @@ impl Tables {
     fn alone(
         &mut self,
         alloc: Global,
-        arg: &Arg<'_>,
+        item: &Item<'_>,
         declared: u32,
         who: &Who<'_>,
         now: u64,
         out: &mut Sheet,
     ) -> Status
-        requires bears { CanBear (item arg.now) }
+        requires bears { CanBear item.now }
         requires machine { IsMachine (machine_of self.old) }
         requires store { IsStore (machine_of self.old).store }
         requires latest { IsLatest (machine_of self.old).leases now }
         requires room { HasLoneRoom out.old }
-        ensures { Does (first_item (machine_of self.old) declared (caller who.now) now (is_delay result) (item arg.now)) result (machine_of self.new) out.old out.new }
+        ensures { Does (first_item (machine_of self.old) declared (caller who.now) now (is_delay result) item.now) result (machine_of self.new) out.old out.new }
     {
-        let res = match fault_in_first_place(arg, declared) {
-            Some(status) => Res::refusal(arg.number(), status),
-            None => match arg {
-                Arg::CreateSession(asked) => return self.create_session(
-                    alloc, asked, who, now, out,
-                ),
-                Arg::ExchangeId(asked) => self.exchange_id(alloc, asked, who, now),
-                Arg::DestroySession { sessionid } => self.destroy_session(sessionid),
-                Arg::DestroyClientId { clientid } => self.destroy_client(*clientid),
-                _ => Res::refusal(arg.number(), Status::NotSupp),
+        match item {
+            Item::Operation(op) => self.alone_as(alloc, op, declared, who, now, out),
+            Item::Fault { number, status } => {
+                let res = Res::refusal(*number, *status);
+                write(&res, out);
+                res.status()
+            }
+        }
+    }
+
+    /// The same of an operation.
+    fn alone_as(
+        &mut self,
+        alloc: Global,
+        op: &Op<'_>,
+        declared: u32,
+        who: &Who<'_>,
+        now: u64,
+        out: &mut Sheet,
+    ) -> Status
+        requires bears { CanBear (Operation op.now) }
+        requires machine { IsMachine (machine_of self.old) }
+        requires store { IsStore (machine_of self.old).store }
+        requires latest { IsLatest (machine_of self.old).leases now }
+        requires room { HasLoneRoom out.old }
+        ensures { Does (first_item (machine_of self.old) declared (caller who.now) now (is_delay result) (Operation op.now)) result (machine_of self.new) out.old out.new }
+    {
+        let res = match place_fault(op, declared) {
+            Some(status) => Res::refusal(op.number(), status),
+            None => match op {
+                Op::CreateSession(asked) => return self.create_session(alloc, asked, who, now, out),
+                Op::ExchangeId(asked) => self.exchange_id(alloc, asked, who, now),
+                Op::DestroySession { sessionid } => self.destroy_session(sessionid),
+                Op::DestroyClientId { clientid } => self.destroy_client(*clientid),
+                _ => Res::refusal(op.number(), Status::NotSupp),
             },
         };
         write(&res, out);

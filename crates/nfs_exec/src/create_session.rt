@@ -3,9 +3,8 @@
 ghost use Rattle.std.specs.Prelude.{◌≡◌, ◌++◌, Option};
 ghost use Rattle.nfs_xdr.specs.Caller.{caller};
 ghost use Rattle.nfs_xdr.specs.SheetState.{Puts};
-ghost use Rattle.nfs_compound.specs.ArgCodecs.{view_create_session};
 ghost use Rattle.nfs_clients.specs.CreateSession as clients;
-ghost use Rattle.nfs_compound.specs.declared.op_num.OpNum.TheVariants as Op;
+ghost use Rattle.nfs_compound.specs.declared.op_num.OpNum.TheVariants as Num;
 ghost use Rattle.nfs_results.specs.Results.{done_head};
 ghost use Rattle.nfs_lease.specs.Queue.{IsLatest};
 ghost use Rattle.nfs_sessions.specs.Sessions.{create};
@@ -42,7 +41,7 @@ impl Tables {
         requires latest { IsLatest (machine_of self.old).leases now }
         requires store { IsStore (machine_of self.old).store }
         requires room { HasLoneRoom out.old }
-        ensures { Does (create_session (machine_of self.old) (caller who.now) now (is_delay result) (view_create_session asked.now)) result (machine_of self.new) out.old out.new }
+        ensures { Does (create_session (machine_of self.old) (caller who.now) now (is_delay result) asked.now) result (machine_of self.new) out.old out.new }
     {
         let status = match self
             .clients
@@ -69,7 +68,7 @@ impl Tables {
         requires store { IsStore (machine_of self.old).store }
         requires room { HasLoneRoom out.old }
         ensures { Does (or_delay (is_delay result) (machine_of self.old) create_session_number
-            (creates (machine_of self.old) now (view_create_session asked.now) (create self.old.sessions asked.now.clientid (wish_of (machine_of self.old) (view_create_session asked.now)))))
+            (creates (machine_of self.old) now asked.now (create self.old.sessions asked.now.clientid (wish_of (machine_of self.old) asked.now))))
             result (machine_of self.new) out.old out.new }
     {
         let client = asked.clientid;
@@ -154,7 +153,7 @@ fn attrs_of(channel: Channel) -> ChannelAttrs
 
 /// The result of a session that was made.
 fn session_made(asked: &CreateSession<'_>, id: SessionId) -> CreateSessionOk
-    ensures { result ≡ session_made (view_create_session asked.now) id }
+    ensures { result ≡ session_made asked.now id }
 {
     CreateSessionOk {
         sessionid: id.to_bytes(),
@@ -168,8 +167,8 @@ fn session_made(asked: &CreateSession<'_>, id: SessionId) -> CreateSessionOk
 /// Puts the result of a session that was made, and returns its body.
 fn put_made(asked: &CreateSession<'_>, id: SessionId, out: &mut Sheet) -> Resok
     requires room { HasLoneRoom out.old }
-    ensures body { result ≡ made_body (view_create_session asked.now) id }
-    ensures put { Puts out.old out.new (done_head Op.CreateSession ++ made_body (view_create_session asked.now) id) }
+    ensures body { result ≡ made_body asked.now id }
+    ensures put { Puts out.old out.new (done_head Num.CreateSession ++ made_body asked.now id) }
 {
     let begin = out.len();
     write(&Res::CreateSession(session_made(asked, id)), out);

@@ -1,7 +1,6 @@
 //! DESTROY_SESSION (RFC 8881 section 18.37) and DESTROY_CLIENTID (section 18.50).
 
 ghost use Rattle.std.specs.Prelude.{◌≡◌};
-ghost use Rattle.nfs_results.specs.View as view;
 ghost use Rattle.nfs_exec.specs.Machine.{comes_to, machine_of};
 ghost use Rattle.nfs_exec.specs.Destroy.{destroy_session, destroy_client};
 ghost use Rattle.nfs_exec.specs.View.{IsSmall};
@@ -15,8 +14,8 @@ use nfs_xdr::Status;
 impl Tables {
     /// Ends a session, with its slots.
     pub(crate) fn destroy_session(&mut self, sessionid: &[u8; 16]) -> Res<'static>
-        ensures outcome { comes_to (machine_of self.new) (view.res result) ≡ destroy_session (machine_of self.old) sessionid.now }
-        ensures size { IsSmall (view.res result) }
+        ensures outcome { comes_to (machine_of self.new) result ≡ destroy_session (machine_of self.old) sessionid.now }
+        ensures size { IsSmall result }
     {
         if self.sessions.destroy(&SessionId::from_bytes(sessionid)) {
             return Res::DestroySession;
@@ -26,8 +25,8 @@ impl Tables {
 
     /// Ends a client that has neither a session nor an open, with its lease.
     pub(crate) fn destroy_client(&mut self, client: u64) -> Res<'static>
-        ensures outcome { comes_to (machine_of self.new) (view.res result) ≡ destroy_client (machine_of self.old) client }
-        ensures size { IsSmall (view.res result) }
+        ensures outcome { comes_to (machine_of self.new) result ≡ destroy_client (machine_of self.old) client }
+        ensures size { IsSmall result }
     {
         match self
             .clients

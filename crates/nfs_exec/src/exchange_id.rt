@@ -2,15 +2,14 @@
 
 ghost use Rattle.std.specs.Prelude.{◌≡◌};
 ghost use Rattle.nfs_xdr.specs.Caller.{caller};
-ghost use Rattle.nfs_compound.specs.Operation.{Operation, OpExchangeId};
-ghost use Rattle.nfs_compound.specs.ArgCodecs.{view_exchange_id};
+ghost use Rattle.nfs_compound.specs.declared.op.Item.TheVariants.{Operation};
+ghost use Rattle.nfs_compound.specs.declared.op.Op.TheVariants as Op;
 ghost use Rattle.nfs_clients.specs.ExchangeId.{fault_status};
 ghost use Rattle.nfs_lease.specs.Renewals.{leases_of};
 ghost use Rattle.nfs_lease.specs.Queue.{IsLatest};
 ghost use Rattle.nfs_results.specs.MayAnswer.{MayAnswer};
-ghost use Rattle.nfs_results.specs.Result.{Refused};
+ghost use Rattle.nfs_results.specs.declared.res.Res.TheVariants as Res;
 ghost use Rattle.nfs_results.specs.Results.{status_of_result};
-ghost use Rattle.nfs_results.specs.View as view;
 ghost use Rattle.nfs_names.specs.Outcome.{is_delay};
 ghost use Rattle.nfs_exec.specs.Machine.{IsMachine, comes_to, or_delay, machine_of};
 ghost use Rattle.nfs_exec.specs.ExchangeId.{exchange_id, exchange_id_number, granted};
@@ -18,7 +17,7 @@ ghost use Rattle.nfs_exec.specs.View.{settled};
 
 use crate::tables::Tables;
 use nfs_clients::{CONFIRMED_R, ClientFault, Exchanged};
-use nfs_compound::{ExchangeId, OpNum};
+use nfs_compound::{ExchangeId, Lent, OpNum};
 use nfs_lease::Leases;
 use nfs_results::{ExchangeIdOk, Res};
 use nfs_xdr::Who;
@@ -39,12 +38,12 @@ impl Tables {
     ) -> Res<'static>
         requires machine { IsMachine (machine_of self.old) }
         requires latest { IsLatest (machine_of self.old).leases now }
-        ensures outcome { comes_to (machine_of self.new) (view.res result)
-            ≡ or_delay (is_delay (status_of_result (view.res result))) (machine_of self.old) exchange_id_number
-            (exchange_id (machine_of self.old) (caller who.now) now (view_exchange_id asked.now)) }
-        ensures size { MayAnswer (Operation (OpExchangeId (view_exchange_id asked.now))) (view.res result) }
+        ensures outcome { comes_to (machine_of self.new) result
+            ≡ or_delay (is_delay (status_of_result result)) (machine_of self.old) exchange_id_number
+            (exchange_id (machine_of self.old) (caller who.now) now asked.now) }
+        ensures size { MayAnswer (Operation (Op.ExchangeId asked.now)) result }
     {
-        let (owner, verifier, flags) = (asked.ownerid, asked.verifier, asked.flags);
+        let (owner, verifier, flags) = (asked.ownerid.bytes(), asked.verifier, asked.flags);
         if let Err(fault) = self.clients.judge_exchange(owner, verifier, flags, who.uid) {
             return refused(fault);
         }
@@ -80,7 +79,7 @@ fn settle(leases: &mut Leases, next: u64, exchanged: &Exchanged)
 }
 
 fn refused(fault: ClientFault) -> Res<'static>
-    ensures { view.res result ≡ Refused exchange_id_number (fault_status fault) }
+    ensures { result ≡ Res.Refused exchange_id_number (fault_status fault) }
 {
     Res::Refused {
         operation: OpNum::ExchangeId.number(),
@@ -89,7 +88,7 @@ fn refused(fault: ClientFault) -> Res<'static>
 }
 
 fn granted(exchanged: &Exchanged) -> ExchangeIdOk<'static>
-    ensures { view.exchange_id result ≡ granted exchanged.now }
+    ensures { result ≡ granted exchanged.now }
 {
     ExchangeIdOk {
         clientid: exchanged.id,
@@ -100,7 +99,7 @@ fn granted(exchanged: &Exchanged) -> ExchangeIdOk<'static>
             USE_NON_PNFS
         },
         minor_id: 0,
-        major_id: b"nfs41d",
-        server_scope: b"nfs41d",
+        major_id: Lent::of(b"nfs41d"),
+        server_scope: Lent::of(b"nfs41d"),
     }
 }

@@ -1,25 +1,39 @@
 //! What may stand in the first place of a compound (RFC 8881 sections 2.10.6.4 and 15.1.3).
 
-ghost use Rattle.std.specs.Prelude.{◌≡◌, nat_lt, if◌then◌else◌, Some, None};
+ghost use Rattle.std.specs.Prelude.{◌≡◌, nat_lt, if◌then◌else◌, Some, None, MatchOption};
 ghost use Rattle.nfs_xdr.specs.declared.status.Status.TheVariants.{NotOnlyOp};
-ghost use Rattle.nfs_compound.specs.View.{item};
-ghost use Rattle.nfs_exec.specs.Place.{item_fault};
+ghost use Rattle.nfs_compound.specs.declared.op.Item.TheVariants.{Operation};
+ghost use Rattle.nfs_compound.specs.declared.op.Op.TheVariants as Op;
+ghost use Rattle.nfs_compound.specs.declared.session_args.Sequence as args;
+ghost use Rattle.nfs_exec.specs.Place.{place_fault};
 
-use nfs_compound::Arg;
+use nfs_compound::{Item, Op, Sequence};
 use nfs_xdr::Status;
 
-/// Why the item cannot stand in the first place, of so many declared: a fault answers its own status; four operations
-/// stand alone outside a session, and SEQUENCE begins a compound in one.
-pub(crate) fn fault_in_first_place(arg: &Arg<'_>, declared: u32) -> Option<Status>
-    ensures { result ≡ item_fault declared (item arg.now) }
+/// The arguments of the SEQUENCE that an item is.
+pub(crate) fn sequence_in<'i>(item: &'i Item<'_>) -> Option<&'i Sequence>
+    ensures { MatchOption result ((s : args.Sequence) → item.now ≡ Operation (Op.Sequence s) → ⊥) (λ s. item.now ≡ Operation (Op.Sequence s.now)) }
 {
-    match arg {
-        Arg::Fault { status, .. } => Some(*status),
-        Arg::ExchangeId(_) => crowded(declared),
-        Arg::CreateSession(_) => crowded(declared),
-        Arg::DestroySession { .. } => crowded(declared),
-        Arg::DestroyClientId { .. } => crowded(declared),
-        Arg::Sequence(_) => None,
+    match item {
+        Item::Operation(op) => match op {
+            Op::Sequence(asked) => Some(asked),
+            _ => None,
+        },
+        Item::Fault { .. } => None,
+    }
+}
+
+/// Why an operation cannot stand in the first place, of so many declared: four operations stand alone outside a session,
+/// and SEQUENCE begins a compound in one.
+pub(crate) fn place_fault(op: &Op<'_>, declared: u32) -> Option<Status>
+    ensures { result ≡ place_fault declared op.now }
+{
+    match op {
+        Op::ExchangeId(_) => crowded(declared),
+        Op::CreateSession(_) => crowded(declared),
+        Op::DestroySession { .. } => crowded(declared),
+        Op::DestroyClientId { .. } => crowded(declared),
+        Op::Sequence(_) => None,
         _ => Some(Status::OpNotInSession),
     }
 }

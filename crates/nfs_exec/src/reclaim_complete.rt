@@ -1,11 +1,10 @@
 //! RECLAIM_COMPLETE (RFC 8881 section 18.51).
 
 ghost use Rattle.std.specs.Prelude.{◌≡◌, ◌≤◌, length};
-ghost use Rattle.nfs_compound.specs.declared.op_num.OpNum.TheVariants as Op;
+ghost use Rattle.nfs_compound.specs.declared.op_num.OpNum.TheVariants as Num;
 ghost use Rattle.nfs_compound.specs.OpNum.{op_number};
 ghost use Rattle.nfs_results.specs.Results.{spell_result, refusal};
 ghost use Rattle.nfs_results.specs.ResultCodec.{IsBounded};
-ghost use Rattle.nfs_results.specs.View as view;
 ghost use Rattle.nfs_exec.specs.Machine.{comes_to, machine_of};
 ghost use Rattle.nfs_exec.specs.ReclaimComplete.{reclaim_complete};
 ghost use Rattle.nfs_exec.specs.Run.{reserve};
@@ -20,9 +19,9 @@ impl Tables {
     /// Notes that a client has nothing more to reclaim, once; of the current filehandle's file system alone (`one`), nothing
     /// is noted.
     pub(crate) fn reclaim_complete(&mut self, context: &Context<'_>, one: bool) -> Res<'static>
-        ensures outcome { comes_to (machine_of self.new) (view.res result) ≡ reclaim_complete (machine_of self.old) context.now one }
-        ensures bounds { IsBounded (view.res result) }
-        ensures short { length (spell_result (view.res result)) ≤ reserve }
+        ensures outcome { comes_to (machine_of self.new) result ≡ reclaim_complete (machine_of self.old) context.now one }
+        ensures bounds { IsBounded result }
+        ensures short { length (spell_result result) ≤ reserve }
         ensures store { self.new.store ≡ self.old.store }
     {
         if one {
@@ -40,7 +39,7 @@ impl Tables {
 }
 
 fn refused(status: Status) -> Res<'static>
-    ensures { view.res result ≡ refusal (op_number Op.ReclaimComplete) status }
+    ensures { result ≡ refusal (op_number Num.ReclaimComplete) status }
 {
     Res::refusal(OpNum::ReclaimComplete.number(), status)
 }

@@ -3,12 +3,11 @@
 ghost use Rattle.std.specs.Prelude.{◌≡◌, ◌≤◌, ◌<◌, ◌^◌, ◌+◌, ◌-◌, ℕ, Option, length, if◌then◌else◌};
 ghost use Rattle.nfs_xdr.specs.Tables.{In};
 ghost use Rattle.nfs_xdr.specs.declared.status.Status.TheVariants.{Nfs4Ok};
-ghost use Rattle.nfs_compound.specs.Operation.{Item};
-ghost use Rattle.nfs_compound.specs.View.{item};
+ghost use Rattle.nfs_compound.specs.declared.op.Item.{Item};
+ghost use Rattle.nfs_compound.specs.declared.op.Item.TheVariants.{Operation};
 ghost use Rattle.nfs_results.specs.Largest.{largest};
 ghost use Rattle.nfs_results.specs.Results.{spell_result};
 ghost use Rattle.nfs_results.specs.ResultCodec.{IsBounded};
-ghost use Rattle.nfs_results.specs.View as view;
 ghost use Rattle.nfs_names.specs.StoreInvariants.{IsStore};
 ghost use Rattle.nfs_sessions.specs.SessionSlots.{rpc_head};
 ghost use Rattle.nfs_names.specs.Outcome.{is_delay};
@@ -19,7 +18,7 @@ ghost use Rattle.nfs_exec.specs.Run.{run, in_room, reserve};
 ghost use Rattle.nfs_exec.specs.View.{RunsTo, Steps, CanBear};
 
 use crate::tables::Tables;
-use nfs_compound::{Arg, Compound};
+use nfs_compound::{Compound, Item, Op};
 use nfs_files::file_op;
 use nfs_names::{Context, name_op};
 use nfs_results::{Res, largest, write};
@@ -65,9 +64,9 @@ impl Tables {
         ensures store { IsStore (machine_of self.new).store }
     {
         let mut count = 0;
-        while let Some(arg) = args.next() {
+        while let Some(item) = args.next() {
             let sofar = u64::from(RPC_HEAD) + (out.len() - start) as u64;
-            let status = self.in_room(alloc, &arg, context, u64::from(limit), sofar, now, out);
+            let status = self.in_room(alloc, &item, context, u64::from(limit), sofar, now, out);
             count += 1;
             match status {
                 Status::Nfs4Ok => {}
@@ -85,100 +84,113 @@ impl Tables {
     fn in_room(
         &mut self,
         alloc: Global,
-        arg: &Arg<'_>,
+        item: &Item<'_>,
         context: &mut Context<'_>,
         limit: u64,
         sofar: u64,
         now: u64,
         out: &mut Sheet,
     ) -> Status
-        requires bears { CanBear (item arg.now) }
+        requires bears { CanBear item.now }
         requires moment { now < 2 ^ 63 }
         requires store { IsStore (machine_of self.old).store }
         requires reserve { sofar + reserve ≤ limit }
         requires room { length out.old.bytes + limit ≤ out.old.room + sofar }
-        ensures steps { Steps (in_room limit sofar now (is_delay result) (machine_of self.old) context.old (item arg.now)) result (machine_of self.new) context.new out.old out.new }
+        ensures steps { Steps (in_room limit sofar now (is_delay result) (machine_of self.old) context.old item.now) result (machine_of self.new) context.new out.old out.new }
         ensures fits { length out.new.bytes + sofar ≤ length out.old.bytes + limit }
         ensures more { result ≡ Nfs4Ok → length out.new.bytes + sofar + reserve ≤ length out.old.bytes + limit }
         ensures store { IsStore (machine_of self.new).store }
     {
-        if largest(arg) > limit - RESERVE - sofar {
-            write(&Res::refusal(arg.number(), Status::RepTooBig), out);
+        if largest(item) > limit - RESERVE - sofar {
+            write(&Res::refusal(item.number(), Status::RepTooBig), out);
             return Status::RepTooBig;
         }
-        self.step(alloc, arg, context, now, out)
+        self.step(alloc, item, context, now, out)
     }
 
     /// Runs one operation, for which there is room, puts its result and returns its status.
     fn step(
         &mut self,
         alloc: Global,
-        arg: &Arg<'_>,
+        item: &Item<'_>,
         context: &mut Context<'_>,
         now: u64,
         out: &mut Sheet,
     ) -> Status
-        requires bears { CanBear (item arg.now) }
+        requires bears { CanBear item.now }
         requires moment { now < 2 ^ 63 }
         requires store { IsStore (machine_of self.old).store }
-        requires room { length out.old.bytes + largest (item arg.now) + reserve ≤ out.old.room }
-        ensures steps { Steps (step (machine_of self.old) context.old now (is_delay result) (item arg.now)) result (machine_of self.new) context.new out.old out.new }
-        ensures fits { length out.new.bytes ≤ length out.old.bytes + largest (item arg.now) + reserve }
-        ensures more { result ≡ Nfs4Ok → length out.new.bytes ≤ length out.old.bytes + largest (item arg.now) }
+        requires room { length out.old.bytes + largest item.now + reserve ≤ out.old.room }
+        ensures steps { Steps (step (machine_of self.old) context.old now (is_delay result) item.now) result (machine_of self.new) context.new out.old out.new }
+        ensures fits { length out.new.bytes ≤ length out.old.bytes + largest item.now + reserve }
+        ensures more { result ≡ Nfs4Ok → length out.new.bytes ≤ length out.old.bytes + largest item.now }
         ensures store { IsStore (machine_of self.new).store }
     {
         let client = context.client;
-        if let Some(status) = name_op(alloc, &mut self.store, context, arg, now, out) {
+        if let Some(status) = name_op(alloc, &mut self.store, context, item, now, out) {
             return status;
         }
-        if let Some(status) = file_op(alloc, &mut self.store, context, arg, now, out) {
-            self.mark_open(arg, client);
+        if let Some(status) = file_op(alloc, &mut self.store, context, item, now, out) {
+            self.mark_open(item, client);
             return status;
         }
-        let res = self.otherwise(arg, context);
+        let res = self.otherwise(item, context);
         write(&res, out);
         res.status()
     }
 
     /// Behind OPEN and CLOSE their client's record is marked where one of its opens stands.
-    fn mark_open(&mut self, arg: &Arg<'_>, client: u64)
-        ensures marked { machine_of self.new ≡ (if moves_opens (item arg.now) then with_mark client (machine_of self.old) else machine_of self.old) }
+    fn mark_open(&mut self, item: &Item<'_>, client: u64)
+        ensures marked { machine_of self.new ≡ (if moves_opens item.now then with_mark client (machine_of self.old) else machine_of self.old) }
         ensures store { self.new.store ≡ self.old.store }
     {
-        if moves_opens(arg) {
+        if moves_opens(item) {
             self.clients.hold(client, self.store.has_open(client));
         }
     }
 
     /// What an operation that is not on the store comes to.
-    fn otherwise(&mut self, arg: &Arg<'_>, context: &Context<'_>) -> Res<'static>
-        requires bears { CanBear (item arg.now) }
-        ensures outcome { comes_to (machine_of self.new) (view.res result) ≡ (otherwise (machine_of self.old) context.now (item arg.now)).outcome }
-        ensures bounds { IsBounded (view.res result) }
-        ensures short { length (spell_result (view.res result)) ≤ reserve }
+    fn otherwise(&mut self, item: &Item<'_>, context: &Context<'_>) -> Res<'static>
+        requires bears { CanBear item.now }
+        ensures outcome { comes_to (machine_of self.new) result ≡ (otherwise (machine_of self.old) context.now item.now).outcome }
+        ensures bounds { IsBounded result }
+        ensures short { length (spell_result result) ≤ reserve }
         ensures store { self.new.store ≡ self.old.store }
     {
-        match arg {
-            Arg::ReclaimComplete { one_fs } => self.reclaim_complete(context, *one_fs),
-            _ => Res::refusal(arg.number(), status_behind(arg)),
+        match item {
+            Item::Operation(op) => self.unstored(op, context),
+            Item::Fault { number, status } => Res::refusal(*number, *status),
+        }
+    }
+
+    /// The same of an operation.
+    fn unstored(&mut self, op: &Op<'_>, context: &Context<'_>) -> Res<'static>
+        requires bears { CanBear (Operation op.now) }
+        ensures outcome { comes_to (machine_of self.new) result ≡ (otherwise (machine_of self.old) context.now (Operation op.now)).outcome }
+        ensures bounds { IsBounded result }
+        ensures short { length (spell_result result) ≤ reserve }
+        ensures store { self.new.store ≡ self.old.store }
+    {
+        match op {
+            Op::ReclaimComplete { one_fs } => self.reclaim_complete(context, *one_fs),
+            _ => Res::refusal(op.number(), status_behind(op)),
         }
     }
 }
 
 /// Whether the operation can move whether its client has an open.
-fn moves_opens(arg: &Arg<'_>) -> bool
-    ensures { result ≡ moves_opens (item arg.now) }
+fn moves_opens(item: &Item<'_>) -> bool
+    ensures { result ≡ moves_opens item.now }
 {
-    matches!(arg, Arg::Close(_) | Arg::Open(_))
+    matches!(item, Item::Operation(Op::Close(_) | Op::Open(_)))
 }
 
-/// What an item behind a SEQUENCE is refused with, where nothing carries it out.
-fn status_behind(arg: &Arg<'_>) -> Status
-    ensures { result ≡ status_behind (item arg.now) }
+/// What an operation behind a SEQUENCE is refused with, where nothing carries it out.
+fn status_behind(op: &Op<'_>) -> Status
+    ensures { result ≡ status_behind (Operation op.now) }
 {
-    match arg {
-        Arg::Fault { status, .. } => *status,
-        Arg::Sequence(_) => Status::SequencePos,
+    match op {
+        Op::Sequence(_) => Status::SequencePos,
         _ => Status::NotSupp,
     }
 }

@@ -9,8 +9,9 @@ use Rattle.nfs_xdr.proofs.Putting.{length_number}
 use Rattle.nfs_compound.specs.declared.op_num.OpNum.TheVariants as Num
 use Rattle.nfs_compound.specs.declared.file_args.Commit.{Commit}
 use Rattle.nfs_compound.specs.declared.file_args.Read.{Read}
-use Rattle.nfs_compound.specs.FileArgs.{Write}
-use Rattle.nfs_compound.specs.Operation.{Operation, OpCommit, OpRead, OpWrite}
+use Rattle.nfs_compound.specs.declared.file_args.Write.{Write}
+use Rattle.nfs_compound.specs.declared.op.Item.TheVariants.{Operation}
+use Rattle.nfs_compound.specs.declared.op.Op.TheVariants as Op
 use Rattle.nfs_results.specs.Largest.{given}
 use Rattle.nfs_names.specs.declared.context.Context.{Context}
 use Rattle.nfs_names.specs.State.{State}
@@ -31,24 +32,24 @@ verifier_length s = omega (arith, length-append (number s.instance) (replicate 4
 given_most : (count : ℕ) → given count ≤ 65536
 given_most count = elim (cases_Bool (nat_lt 65536 count)) [ inl most ↦ rw most (omega arith) | inr few ↦ rw few (ltb-false _ _ few) ]
 
-pub may_commit : (s : State) (x : Context) (a : Commit) → IsAnswer (Operation (OpCommit a)) (commit s x).result
+pub may_commit : (s : State) (x : Context) (a : Commit) → IsAnswer (Operation (Op.Commit a)) (commit s x).result
 unfolding commit
 may_commit s x a =
-    answers_with (IsAnswer (Operation (OpCommit a))) s x Num.Commit _ _ (refuses_checked (current s x) file_checks (current_refuses s x) (λ d. refl))
+    answers_with (IsAnswer (Operation (Op.Commit a))) s x Num.Commit _ _ (refuses_checked (current s x) file_checks (current_refuses s x) (λ d. refl))
     (λ status h. record { may = (refl, rw (h.done, h.legal) refl, tt); arrays = tt })
     (λ d. record { may = (refl, tt, tt); arrays = verifier_length s })
 
-pub may_read_bytes : (s : State) (x : Context) (a : Read) → IsAnswer (Operation (OpRead a)) (read s x a).result
+pub may_read_bytes : (s : State) (x : Context) (a : Read) → IsAnswer (Operation (Op.Read a)) (read s x a).result
 unfolding read
 may_read_bytes s x a =
-    answers_with (IsAnswer (Operation (OpRead a))) s x Num.Read _ _ (readable_refuses s x a.stateid (current s x) (current_refuses s x))
+    answers_with (IsAnswer (Operation (Op.Read a))) s x Num.Read _ _ (readable_refuses s x a.stateid (current s x) (current_refuses s x))
     (λ status h. record { may = (refl, rw (h.done, h.legal) refl, tt); arrays = tt })
     (λ d. (let few = few_given s a d in let most = given_most a.count in record { may = (refl, omega arith, few); arrays = tt }))
 
-pub may_write_bytes : (s : State) (x : Context) (now : Time) (a : Write) → IsAnswer (Operation (OpWrite a)) (write s x now a).result
+pub may_write_bytes : (s : State) (x : Context) (now : Time) (a : Write) → IsAnswer (Operation (Op.Write a)) (write s x now a).result
 unfolding write
 may_write_bytes s x now a =
-    answers_with (IsAnswer (Operation (OpWrite a))) s x Num.Write _ _
+    answers_with (IsAnswer (Operation (Op.Write a))) s x Num.Write _ _
     (refuses_checked (writable s x a.stateid (current s x)) (last_checks s a) (writable_refuses s x a.stateid (current s x) (current_refuses s x)) (λ d. refl))
     (λ status h. record { may = (refl, rw (h.done, h.legal) refl, tt); arrays = tt })
     (λ d. record { may = (refl, tt, tt); arrays = verifier_length s })

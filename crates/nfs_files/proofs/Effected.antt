@@ -14,11 +14,13 @@ use Rattle.nfs_compound.specs.declared.open_args.Close.{Close}
 use Rattle.nfs_compound.specs.declared.open_args.OpenDowngrade.{OpenDowngrade}
 use Rattle.nfs_compound.specs.declared.lock_args.LockU.{LockU}
 use Rattle.nfs_compound.specs.declared.lock_args.LockType.{LockType}
-use Rattle.nfs_compound.specs.LockArgs as args
-use Rattle.nfs_compound.specs.FileArgs.{Write, SetAttr}
-use Rattle.nfs_compound.specs.OpenArgs.{Open}
-use Rattle.nfs_compound.specs.Operation.{Op, Item, Operation, Fault, OpClose, OpCommit, OpFreeStateid, OpLock, OpLockT, OpLockU, OpOpen, OpOpenDowngrade}
-use Rattle.nfs_compound.specs.Operation.{OpRead, OpSetAttr, OpTestStateid, OpWrite}
+use Rattle.nfs_compound.specs.declared.lock_args.Lock as args
+use Rattle.nfs_compound.specs.declared.file_args.Write.{Write}
+use Rattle.nfs_compound.specs.declared.file_args.SetAttr.{SetAttr}
+use Rattle.nfs_compound.specs.declared.open_args.Open.{Open}
+use Rattle.nfs_compound.specs.declared.op.Op.{Op}
+use Rattle.nfs_compound.specs.declared.op.Item.{Item}
+use Rattle.nfs_compound.specs.declared.op.Item.TheVariants.{Operation, Fault}
 use Rattle.nfs_tree.specs.Object.{no_sets}
 use Rattle.nfs_tree.specs.Bytes.{has_bytes}
 use Rattle.nfs_tree.specs.Calls.{write_fault}
@@ -215,18 +217,18 @@ module _ {P : State → Context → Type 0} (s : State) (x : Context) (kept : Ke
   -- By the operation.
   kept_one : (now : Time) (op : Op) → P (one s x now op).state (one s x now op).context
   unfolding commit lock_t read test_stateid
-  kept_one now (OpClose a) = close_kept a
-  kept_one now (OpCommit a) = by_found P s x Num.Commit _ _ is (λ d e. is)
-  kept_one now (OpFreeStateid given) = free_kept given
-  kept_one now (OpLock a) = lock_kept a
-  kept_one now (OpLockT a) = by_found P s x Num.LockT _ _ is (λ w e. tested_kept (locking.test_lock s.opens a.owner.owner w))
-  kept_one now (OpLockU a) = lock_u_kept a
-  kept_one now (OpOpen a) = open_kept now a
-  kept_one now (OpOpenDowngrade a) = downgrade_kept a
-  kept_one now (OpRead a) = by_found P s x Num.Read _ _ is (λ d e. is)
-  kept_one now (OpSetAttr a) = set_attr_kept now a
-  kept_one now (OpTestStateid given) = is
-  kept_one now (OpWrite a) = write_kept now a
+  kept_one now (Op.Close a) = close_kept a
+  kept_one now (Op.Commit a) = by_found P s x Num.Commit _ _ is (λ d e. is)
+  kept_one now (Op.FreeStateid given) = free_kept given
+  kept_one now (Op.Lock a) = lock_kept a
+  kept_one now (Op.LockT a) = by_found P s x Num.LockT _ _ is (λ w e. tested_kept (locking.test_lock s.opens a.owner.owner w))
+  kept_one now (Op.LockU a) = lock_u_kept a
+  kept_one now (Op.Open a) = open_kept now a
+  kept_one now (Op.OpenDowngrade a) = downgrade_kept a
+  kept_one now (Op.Read a) = by_found P s x Num.Read _ _ is (λ d e. is)
+  kept_one now (Op.SetAttr a) = set_attr_kept now a
+  kept_one now (Op.TestStateid given) = is
+  kept_one now (Op.Write a) = write_kept now a
   kept_one now op = is
 
   pub kept_item : (refused : Bool) (now : Time) (i : Item) → P (comes_to refused s x now i).state (comes_to refused s x now i).context

@@ -2,7 +2,8 @@
 use Rattle.std.proofs.Common.{◌≡◌, ℕ, ◌+◌, ◌≤◌, length, Option, Some, None, sym, subst, arith}
 use Rattle.std.proofs.lemmas.List.{length-take}
 use Rattle.nfs_xdr.specs.SheetState.{SheetState, HasRoom}
-use Rattle.nfs_results.specs.Result.{Res, Denied}
+use Rattle.nfs_results.specs.declared.res.Res.{Res}
+use Rattle.nfs_results.specs.declared.res.Denied.{Denied}
 use Rattle.nfs_results.specs.Results.{spell_result, operation_of}
 use Rattle.nfs_results.specs.ResultCodec.{HasArrays}
 use Rattle.nfs_results.specs.Largest.{largest_of}

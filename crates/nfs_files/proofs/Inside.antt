@@ -1,10 +1,10 @@
 -- LOCK, LOCKU and CLOSE by their own checks, and what they leave of a lock that was told.
 use Rattle.std.specs.Prelude.{◌≡◌, ◌≢◌, ℕ, ◌≤◌, Bool, true, Some, Ok}
 use Rattle.nfs_xdr.specs.declared.time.Time.{Time}
-use Rattle.nfs_compound.specs.LockArgs as args
+use Rattle.nfs_compound.specs.declared.lock_args.Lock as args
 use Rattle.nfs_compound.specs.declared.lock_args.LockU.{LockU}
 use Rattle.nfs_compound.specs.declared.open_args.Close.{Close}
-use Rattle.nfs_compound.specs.Operation.{Op, OpLock, OpLockU, OpClose}
+use Rattle.nfs_compound.specs.declared.op.Op.{Op}
 use Rattle.nfs_opens.specs.declared.records.LockState.{LockState}
 use Rattle.nfs_opens.specs.declared.stateid.StateId.{StateId}
 use Rattle.nfs_opens.specs.declared.stateid.CurrentSeqid.TheVariants.{Own}
@@ -27,7 +27,7 @@ pub record Locks (s : State) (x : Context) (op : Op) (n : ℕ) (w : Wish) : Type
   pub asked : args.Lock
   pub id : StateId
   pub did : StateId × Table
-  pub is : op ≡ OpLock asked
+  pub is : op ≡ Op.Lock asked
   pub judged : locking s x asked ≡ Ok (record { wish = w; id = id })
   pub granted : locks_as s.opens asked.locker id w ≡ Ok did
   pub state : did.0.number ≡ n
@@ -37,7 +37,7 @@ pub record Unlocks (s : State) (x : Context) (op : Op) (n : ℕ) (w : Wish) : Ty
   pub asked : LockU
   pub id : StateId
   pub did : StateId × Table
-  pub is : op ≡ OpLockU asked
+  pub is : op ≡ Op.LockU asked
   pub judged : unlocking s x asked ≡ Ok (record { wish = w; id = id })
   pub granted : unlock s.opens id w.client w.file w.first w.last ≡ Ok did
   pub state : id.number ≡ n
@@ -48,7 +48,7 @@ pub record Closes (s : State) (x : Context) (op : Op) (n : ℕ) : Type 0 where
   pub file : ℕ
   pub id : StateId
   pub did : Unit {0} × Table
-  pub is : op ≡ OpClose asked
+  pub is : op ≡ Op.Close asked
   pub judged : target s x Own asked.open_stateid ≡ Ok (record { file = file; id = id })
   pub granted : opens.close s.opens id x.client file ≡ Ok did
   pub opened : id.number ≡ n

@@ -6,9 +6,9 @@ use Rattle.nfs_xdr.specs.Checks.{first_fault}
 use Rattle.nfs_xdr.specs.declared.time.Time.{Time}
 use Rattle.nfs_xdr.specs.declared.status.Status.{Status}
 use Rattle.nfs_xdr.specs.declared.status.Status.TheVariants.{Inval, NoGrace}
-use Rattle.nfs_compound.specs.LockArgs as args
+use Rattle.nfs_compound.specs.declared.lock_args.Lock as args
 use Rattle.nfs_compound.specs.Arguments.{arguments}
-use Rattle.nfs_compound.specs.OpenArgs.{Open}
+use Rattle.nfs_compound.specs.declared.open_args.Open.{Open}
 use Rattle.nfs_compound.specs.declared.op_num.OpNum.{OpNum}
 use Rattle.nfs_compound.specs.declared.op_num.OpNum.TheVariants as Num
 use Rattle.nfs_compound.specs.declared.stateid.Stateid.{Stateid}
@@ -16,7 +16,7 @@ use Rattle.nfs_compound.specs.declared.lock_args.LockU.{LockU}
 use Rattle.nfs_compound.specs.declared.lock_args.LockType.{LockType}
 use Rattle.nfs_compound.specs.declared.open_args.Close.{Close}
 use Rattle.nfs_compound.specs.declared.open_args.OpenDowngrade.{OpenDowngrade}
-use Rattle.nfs_compound.specs.Operation.{Op, OpClose, OpCommit, OpFreeStateid, OpLock, OpLockT, OpLockU, OpOpen, OpOpenDowngrade, OpRead, OpSetAttr, OpTestStateid, OpWrite}
+use Rattle.nfs_compound.specs.declared.op.Op.{Op}
 use Rattle.nfs_ranges.specs.Holders.{cleared}
 use Rattle.nfs_ranges.specs.declared.Held.{Held}
 use Rattle.nfs_opens.specs.declared.stateid.StateId.{StateId}
@@ -48,7 +48,7 @@ use Rattle.nfs_files.specs.Lock as of_lock
 use Rattle.nfs_files.specs.LockT.{tested, lock_t}
 use Rattle.nfs_files.specs.LockU.{unlocking, unlocked, unlocks, lock_u}
 use Rattle.nfs_files.specs.Open as of_open
-use Rattle.nfs_files.specs.OpenDowngrade.{bits, narrows, open_downgrade}
+use Rattle.nfs_files.specs.OpenDowngrade.{bits, open_downgrade}
 use Rattle.nfs_files.specs.Read.{read}
 use Rattle.nfs_files.specs.SetAttr.{was_set, set_attr}
 use Rattle.nfs_files.specs.TestStateid.{test_stateid}
@@ -69,7 +69,7 @@ abbrev Keeps : LockTold → State → Type 0
 Keeps k s = Stands k s.opens
 
 -- LOCK
-keeps_lock : (k : LockTold) (s : State) (x : Context) (a : args.Lock) → IsTable s.opens → ((n : ℕ) (w : Wish) → Locks s x (OpLock a) n w → n ≡ k.state → IsAlike w k)
+keeps_lock : (k : LockTold) (s : State) (x : Context) (a : args.Lock) → IsTable s.opens → ((n : ℕ) (w : Wish) → Locks s x (Op.Lock a) n w → n ≡ k.state → IsAlike w k)
     → Stands k s.opens → Keeps k (of_lock.lock s x a).state
 keeps_lock k s x a table spares is =
     by_lock (λ o. Keeps k o.state) s x a (λ status. is) (λ h. is) (λ m did judged granted locked.
@@ -77,7 +77,7 @@ keeps_lock k s x a table spares is =
     (λ mine. spares did.0.number m.wish (record { asked = a; id = m.id; did = did; is = refl; judged = judged; granted = granted; state = refl }) mine) is)
 
 -- LOCKU
-keeps_unlock : (k : LockTold) (s : State) (x : Context) (a : LockU) → ((n : ℕ) (w : Wish) → Unlocks s x (OpLockU a) n w → n ≡ k.state → IsBeside w k)
+keeps_unlock : (k : LockTold) (s : State) (x : Context) (a : LockU) → ((n : ℕ) (w : Wish) → Unlocks s x (Op.LockU a) n w → n ≡ k.state → IsBeside w k)
     → Stands k s.opens → Keeps k (lock_u s x a).state
 keeps_unlock k s x a spares is =
     by_unlock (λ o. Keeps k o.state) s x a (λ status. is) (λ m did judged granted unlocked.
@@ -87,7 +87,7 @@ keeps_unlock k s x a spares is =
     (spares n w (record { asked = a; id = m.id; did = did; is = refl; judged = judged; granted = granted; state = refl }) same) lo hi) ∙ held) is)))
 
 -- CLOSE
-keeps_close : (k : LockTold) (s : State) (x : Context) (a : Close) → ((n : ℕ) → Closes s x (OpClose a) n → n ≢ k.opened)
+keeps_close : (k : LockTold) (s : State) (x : Context) (a : Close) → ((n : ℕ) → Closes s x (Op.Close a) n → n ≢ k.opened)
     → Stands k s.opens → Keeps k (close s x a).state
 keeps_close k s x a spares is =
     by_close (λ o. Keeps k o.state) s x a (λ status. is) (λ t did judged granted its.
@@ -123,35 +123,35 @@ tested_stands k s x (Some h) is = is
 
 keeps_one : (k : LockTold) (s : State) (x : Context) (now : Time) (op : Op) → IsTable s.opens → k.first ≤ k.last → Spares k s x op → Stands k s.opens → Keeps k (one s x now op).state
 unfolding commit lock_t read set_attr test_stateid write
-keeps_one k s x now (OpClose a) table some spares is = keeps_close k s x a spares.closes is
-keeps_one k s x now (OpCommit a) table some spares is = found (Keeps k) s x Num.Commit _ _ is (λ d e. is)
-keeps_one k s x now (OpFreeStateid given) table some spares is = keeps_free k s x given table some is
-keeps_one k s x now (OpLock a) table some spares is = keeps_lock k s x a table spares.locks is
-keeps_one k s x now (OpLockT a) table some spares is = found (Keeps k) s x Num.LockT _ _ is (λ w e. tested_stands k s x (locking.test_lock s.opens a.owner.owner w) is)
-keeps_one k s x now (OpLockU a) table some spares is = keeps_unlock k s x a spares.unlocks is
-keeps_one k s x now (OpOpen a) table some spares is = keeps_open k s x now a is
-keeps_one k s x now (OpOpenDowngrade a) table some spares is = keeps_downgrade k s x a is
-keeps_one k s x now (OpRead a) table some spares is = found (Keeps k) s x Num.Read _ _ is (λ d e. is)
-keeps_one k s x now (OpSetAttr a) table some spares is = found (Keeps k) s x Num.SetAttr _ (was_set s x now a) is (λ m e. is)
-keeps_one k s x now (OpTestStateid given) table some spares is = is
-keeps_one k s x now (OpWrite a) table some spares is = found (Keeps k) s x Num.Write _ (was_written s x now a) is (λ d e. is)
+keeps_one k s x now (Op.Close a) table some spares is = keeps_close k s x a spares.closes is
+keeps_one k s x now (Op.Commit a) table some spares is = found (Keeps k) s x Num.Commit _ _ is (λ d e. is)
+keeps_one k s x now (Op.FreeStateid given) table some spares is = keeps_free k s x given table some is
+keeps_one k s x now (Op.Lock a) table some spares is = keeps_lock k s x a table spares.locks is
+keeps_one k s x now (Op.LockT a) table some spares is = found (Keeps k) s x Num.LockT _ _ is (λ w e. tested_stands k s x (locking.test_lock s.opens a.owner.owner w) is)
+keeps_one k s x now (Op.LockU a) table some spares is = keeps_unlock k s x a spares.unlocks is
+keeps_one k s x now (Op.Open a) table some spares is = keeps_open k s x now a is
+keeps_one k s x now (Op.OpenDowngrade a) table some spares is = keeps_downgrade k s x a is
+keeps_one k s x now (Op.Read a) table some spares is = found (Keeps k) s x Num.Read _ _ is (λ d e. is)
+keeps_one k s x now (Op.SetAttr a) table some spares is = found (Keeps k) s x Num.SetAttr _ (was_set s x now a) is (λ m e. is)
+keeps_one k s x now (Op.TestStateid given) table some spares is = is
+keeps_one k s x now (Op.Write a) table some spares is = found (Keeps k) s x Num.Write _ (was_written s x now a) is (λ d e. is)
 keeps_one k s x now op table some spares is = is
 
 -- what is granted answers NFS4_OK
 pub lock_ok : (s : State) (x : Context) (now : Time) (a : args.Lock) (m : _) (did : _) → of_lock.locking s x a ≡ Ok m
-    → of_lock.locks_as s.opens a.locker m.id m.wish ≡ Ok did → is_ok (one s x now (OpLock a)).result ≡ true
+    → of_lock.locks_as s.opens a.locker m.id m.wish ≡ Ok did → is_ok (one s x now (Op.Lock a)).result ≡ true
 unfolding of_lock.lock
 lock_ok s x now a m did judged granted = ap (λ v. is_ok (answers s x Num.Lock v (of_lock.locks s x a.locker)).result) judged
     ∙ ap (λ v. is_ok (of_lock.locked s x v).result) granted
 
 unlock_ok : (s : State) (x : Context) (now : Time) (a : LockU) (m : _) (did : _) → unlocking s x a ≡ Ok m
-    → locking.unlock s.opens m.id m.wish.client m.wish.file m.wish.first m.wish.last ≡ Ok did → is_ok (one s x now (OpLockU a)).result ≡ true
+    → locking.unlock s.opens m.id m.wish.client m.wish.file m.wish.first m.wish.last ≡ Ok did → is_ok (one s x now (Op.LockU a)).result ≡ true
 unfolding lock_u
 unlock_ok s x now a m did judged granted = ap (λ v. is_ok (answers s x Num.LockU v (unlocks s x)).result) judged
     ∙ ap (λ v. is_ok (answers s x Num.LockU (map_err status_of v) (λ did. unlocked s x did.0 did.1)).result) granted
 
 pub close_ok : (s : State) (x : Context) (now : Time) (a : Close) (file : ℕ) (id : StateId) (did : _) → target s x Own a.open_stateid ≡ Ok (record { file = file; id = id })
-    → closing.close s.opens id x.client file ≡ Ok did → is_ok (one s x now (OpClose a)).result ≡ true
+    → closing.close s.opens id x.client file ≡ Ok did → is_ok (one s x now (Op.Close a)).result ≡ true
 unfolding close
 close_ok s x now a file id did judged granted = ap (λ v. is_ok (answers s x Num.Close v (closes s x)).result) judged
     ∙ ap (λ v. is_ok (answers s x Num.Close v (λ did. closed s x file did.1)).result) granted

@@ -4,8 +4,8 @@ use Rattle.std.specs.Prelude.{Result, Err}
 use Rattle.nfs_xdr.specs.SheetState.{SheetState, Puts}
 use Rattle.nfs_xdr.specs.declared.status.Status.{Status}
 use Rattle.nfs_xdr.specs.declared.status.Status.TheVariants as S
-use Rattle.nfs_compound.specs.declared.op_num.OpNum.TheVariants as Op
-use Rattle.nfs_results.specs.Result.{Res, Refused, ResLockDenied}
+use Rattle.nfs_compound.specs.declared.op_num.OpNum.TheVariants as Num
+use Rattle.nfs_results.specs.declared.res.Res.{Res}
 use Rattle.nfs_results.specs.Results.{spell_result, status_of_result}
 use Rattle.nfs_ranges.specs.declared.Held.{Held}
 use Rattle.nfs_opens.specs.declared.stateid.StateId.{StateId}
@@ -35,24 +35,24 @@ by_answer t did v w after e tells = subst (λ v. LocksOrWants t did v after) e t
 
 pub refused_comes : (s : State) (x : Context) (did : Result (StateId × Table) OpenFault) (status answer : Status) (old new : SheetState) (after : Table)
     → (v : Result StateId OpenFault) → v ≡ Err (F.Refused status) → LocksOrWants s.opens did v after
-    → Puts old new (spell_result (Refused 12 status)) → answer ≡ status
-    → Comes (or_delay (is_delay answer) s x Op.Lock (locked s x did)) old new answer (with_opens s after) x
+    → Puts old new (spell_result (Res.Refused 12 status)) → answer ≡ status
+    → Comes (or_delay (is_delay answer) s x Num.Lock (locked s x did)) old new answer (with_opens s after) x
 refused_comes s x did status answer old new after v found known put is =
     let tells = by_answer s.opens did v (Err (F.Refused status)) after found known in
     let o = locked s x did in
-    subst (λ a. Comes (or_delay (is_delay a) s x Op.Lock o) old new a (with_opens s after) x) (sym is)
-    (comes s x (or_delay (is_delay status) s x Op.Lock o) status (Refused 12 status) old new after
-    (refused_outcome s x Op.Lock true did (locked s x) (F.Refused status) (Refused 12 status) after
+    subst (λ a. Comes (or_delay (is_delay a) s x Num.Lock o) old new a (with_opens s after) x) (sym is)
+    (comes s x (or_delay (is_delay status) s x Num.Lock o) status (Res.Refused 12 status) old new after
+    (refused_outcome s x Num.Lock true did (locked s x) (F.Refused status) (Res.Refused 12 status) after
     (ok_locked s x) refl refl (lock_tells s.opens did after (F.Refused status) tells)) put refl)
 
 pub denied_comes : (s : State) (x : Context) (did : Result (StateId × Table) OpenFault) (held : Held) (answer : Status) (old new : SheetState) (after : Table)
     → (v : Result StateId OpenFault) → v ≡ Err (F.Denied held) → LocksOrWants s.opens did v after
-    → Puts old new (spell_result (ResLockDenied (denied after held))) → answer ≡ S.Denied
-    → Comes (or_delay (is_delay answer) s x Op.Lock (locked s x did)) old new answer (with_opens s after) x
+    → Puts old new (spell_result (Res.LockDenied (denied after held))) → answer ≡ S.Denied
+    → Comes (or_delay (is_delay answer) s x Num.Lock (locked s x did)) old new answer (with_opens s after) x
 denied_comes s x did held answer old new after v found known put is =
     let tells = by_answer s.opens did v (Err (F.Denied held)) after found known in
     let no = refused_is s.opens did (F.Denied held) tells.0 in
     let o = locked s x did in
-    subst (λ a. Comes (or_delay (is_delay a) s x Op.Lock o) old new a (with_opens s after) x) (sym is)
-    (comes s x o S.Denied (ResLockDenied (denied after held)) old new after
-    (ap (λ t. told_with s x (ResLockDenied (denied t held)) t) (tells.1 ∙ no.1) ∙ sym (ap (locked s x) no.0)) put refl)
+    subst (λ a. Comes (or_delay (is_delay a) s x Num.Lock o) old new a (with_opens s after) x) (sym is)
+    (comes s x o S.Denied (Res.LockDenied (denied after held)) old new after
+    (ap (λ t. told_with s x (Res.LockDenied (denied t held)) t) (tells.1 ∙ no.1) ∙ sym (ap (locked s x) no.0)) put refl)

@@ -15,8 +15,11 @@ use Rattle.nfs_xdr.specs.declared.status.Status.{Status}
 use Rattle.nfs_xdr.specs.declared.status.Status.TheVariants as S
 use Rattle.nfs_xdr.proofs.Putting.{length_number, length_hyper}
 use Rattle.nfs_compound.specs.declared.op_num.OpNum.TheVariants as Num
-use Rattle.nfs_compound.specs.OpenArgs.{Open, OpenClaim, Null, Previous, DelegateCur, DelegatePrev, Fh, DelegCurFh, DelegPrevFh}
-use Rattle.nfs_compound.specs.Operation.{Operation, OpOpen}
+use Rattle.nfs_compound.specs.declared.open_args.Open.{Open}
+use Rattle.nfs_compound.specs.declared.open_args.OpenClaim.{OpenClaim}
+use Rattle.nfs_compound.specs.declared.open_args.OpenClaim.TheVariants.{Null, Previous, DelegateCur, DelegatePrev, Fh, DelegCurFh, DelegPrevFh}
+use Rattle.nfs_compound.specs.declared.op.Item.TheVariants.{Operation}
+use Rattle.nfs_compound.specs.declared.op.Op.TheVariants as Op
 use Rattle.nfs_tree.specs.declared.stored.Stored.{Stored}
 use Rattle.nfs_tree.specs.Object.{is_regular, no_sets}
 use Rattle.nfs_tree.specs.Files.{Files, root, stored_in, lookup, with_entries_changed}
@@ -44,7 +47,7 @@ use Rattle.nfs_files.specs.declared.opening.Found.TheVariants.{There, Absent}
 use Rattle.nfs_files.specs.StateIds.{wire_id}
 use Rattle.nfs_files.specs.Bytes.{file_checks}
 use Rattle.nfs_files.specs.Open.{makes, argument_checks, place_checks, absent_checks, there_checks, cuts, found_by}
-use Rattle.nfs_files.specs.Open.{by_name, by_handle, by_claim, asked_for, file_of, asking, last_checks, new_of, sets_of, tree_of, set_of, opened, open_file}
+use Rattle.nfs_files.specs.Open.{by_name, by_handle, by_claim, asked_for, file_of, asking, last_checks, new_of, sets_of, tree_of, set_of, open_file}
 use Rattle.nfs_files.proofs.Passing.{mapped_came}
 use Rattle.nfs_files.proofs.Seats.{by_bool}
 use Rattle.nfs_files.proofs.SetRows.{file_regular}
@@ -98,10 +101,10 @@ set_few o (Absent m) =
 wire_length : (id : StateId) → length (wire_id id).other ≡ 12
 wire_length id = omega (arith, length-append (number id.instance) (hyper id.number), length_number id.instance, length_hyper id.number)
 
-pub may_open : (s : State) (x : Context) (now : Time) (o : Open) → IsAnswer (Operation (OpOpen o)) (open_file s x now o).result
+pub may_open : (s : State) (x : Context) (now : Time) (o : Open) → IsAnswer (Operation (Op.Open o)) (open_file s x now o).result
 unfolding open_file
 may_open s x now o =
-    answers_with (IsAnswer (Operation (OpOpen o))) s x Num.Open _ _
+    answers_with (IsAnswer (Operation (Op.Open o))) s x Num.Open _ _
     (refuses_checked (asked_for s x o) (last_checks s x o) (asked_refuses s x o) last_refuse)
     (λ status h. record { may = (refl, rw (h.done, h.legal) refl, tt); arrays = tt })
     (λ found. record { may = (refl, tt, set_few o found); arrays = wire_length (opens s.opens (asking x o (file_of s.tree found))).id })

@@ -7,7 +7,7 @@ use Rattle.std.proofs.lemmas.Bool.{cases_Bool, or_parts, false≢true}
 use Rattle.nfs_xdr.specs.Checks.{first_fault, judged}
 use Rattle.nfs_xdr.specs.declared.status.Status.{Status}
 use Rattle.nfs_xdr.specs.declared.status.Status.TheVariants.{ShareDenied, ServerFault}
-use Rattle.nfs_compound.specs.OpenArgs.{Open}
+use Rattle.nfs_compound.specs.declared.open_args.Open.{Open}
 use Rattle.nfs_tree.specs.declared.stored.Stored.{Stored}
 use Rattle.nfs_tree.specs.Object.{is_regular}
 use Rattle.nfs_tree.specs.Files.{Files, root, stored_in, is_there}

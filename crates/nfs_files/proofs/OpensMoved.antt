@@ -2,14 +2,16 @@
 use Rattle.std.proofs.Common.{◌≡◌, refl, sym, subst}
 use Rattle.std.specs.Prelude.{Result, Ok, Err}
 use Rattle.nfs_xdr.specs.declared.status.Status.{Status}
-use Rattle.nfs_compound.specs.LockArgs as args
+use Rattle.nfs_compound.specs.declared.lock_args.Lock.{Lock}
+use Rattle.nfs_compound.specs.declared.lock_args.Locker.TheVariants.{LockOwner, OpenOwner}
+use Rattle.nfs_compound.specs.declared.lock_args.Locker.{Locker}
 use Rattle.nfs_compound.specs.declared.op_num.OpNum.{OpNum}
 use Rattle.nfs_compound.specs.declared.op_num.OpNum.TheVariants as Num
 use Rattle.nfs_compound.specs.declared.stateid.Stateid.{Stateid}
 use Rattle.nfs_compound.specs.declared.lock_args.LockU.{LockU}
 use Rattle.nfs_compound.specs.declared.open_args.Close.{Close}
 use Rattle.nfs_compound.specs.declared.open_args.OpenDowngrade.{OpenDowngrade}
-use Rattle.nfs_results.specs.Result.{ResFreeStateid, ResLockDenied}
+use Rattle.nfs_results.specs.declared.res.Res.TheVariants as Res
 use Rattle.nfs_ranges.specs.declared.Held.{Held}
 use Rattle.nfs_opens.specs.declared.stateid.StateId.{StateId}
 use Rattle.nfs_opens.specs.declared.stateid.CurrentSeqid.TheVariants.{Any, Own}
@@ -56,14 +58,14 @@ by_close P s x a refused each =
 
 pub by_free : (P : Outcome → Type 0) (s : State) (x : Context) (given : Stateid) → ((status : Status) → P (refuses s x Num.FreeStateid status))
     → ((id : StateId) (did : Unit {0} × Table) → IsFreed s.opens id x.client did
-    → P (done (with_opens s (closing.without_lock s.opens id.number)) x ResFreeStateid))
+    → P (done (with_opens s (closing.without_lock s.opens id.number)) x Res.FreeStateid))
     → P (free_stateid s x given)
 unfolding free_stateid
 by_free P s x given refused each =
     answered P s x Num.FreeStateid (meant x Any given) (frees s x) refused (λ id judged.
     answered P s x Num.FreeStateid (closing.free s.opens id x.client) _ refused (λ did granted.
     (let is = freed_is s.opens id x.client did granted in
-    subst (λ after. P (done (with_opens s after) x ResFreeStateid)) (sym is.left) (each id did is))))
+    subst (λ after. P (done (with_opens s after) x Res.FreeStateid)) (sym is.left) (each id did is))))
 
 pub by_downgrade : (P : Outcome → Type 0) (s : State) (x : Context) (a : OpenDowngrade) → ((status : Status) → P (refuses s x Num.OpenDowngrade status))
     → ((t : Target) (did : StateId × Table) → IsNarrowed s.opens t.id x.client t.file (bits a.share_access) (bits a.share_deny) did
@@ -76,19 +78,19 @@ by_downgrade P s x a refused each =
     (let is = narrowed_is s.opens t.id x.client t.file (bits a.share_access) (bits a.share_deny) did granted in
     subst (λ after. P (narrowed s x did.0 after)) (sym is.left) (each t did is))))
 
-pub lock_is : (t : Table) (who : args.Locker) (id : StateId) (w : Wish) (did : StateId × Table) → locks_as t who id w ≡ Ok did → IsLocked t w did
-lock_is t (args.OpenOwner o) id w did granted = under_is t id o.lock_owner.owner w did granted
-lock_is t (args.LockOwner o) id w did granted = known_is t id w did granted
+pub lock_is : (t : Table) (who : Locker) (id : StateId) (w : Wish) (did : StateId × Table) → locks_as t who id w ≡ Ok did → IsLocked t w did
+lock_is t (OpenOwner o) id w did granted = under_is t id o.lock_owner.owner w did granted
+lock_is t (LockOwner o) id w did granted = known_is t id w did granted
 
 by_locked : (P : Outcome → Type 0) (s : State) (x : Context) (v : Result (StateId × Table) OpenFault) → ((status : Status) → P (refuses s x Num.Lock status))
-    → ((h : Held) → P (done s x (ResLockDenied (denied s.opens h)))) → ((did : StateId × Table) → v ≡ Ok did → P (locked s x (Ok did))) → P (locked s x v)
+    → ((h : Held) → P (done s x (Res.LockDenied (denied s.opens h)))) → ((did : StateId × Table) → v ≡ Ok did → P (locked s x (Ok did))) → P (locked s x v)
 by_locked P s x (Ok did) refused held each = each did refl
 by_locked P s x (Err (F.Refused status)) refused held each = refused status
 by_locked P s x (Err (F.Denied h)) refused held each = held h
 by_locked P s x (Err F.Memory) refused held each = refused (status_of F.Memory)
 
-pub by_lock : (P : Outcome → Type 0) (s : State) (x : Context) (a : args.Lock) → ((status : Status) → P (refuses s x Num.Lock status))
-    → ((h : Held) → P (done s x (ResLockDenied (denied s.opens h))))
+pub by_lock : (P : Outcome → Type 0) (s : State) (x : Context) (a : Lock) → ((status : Status) → P (refuses s x Num.Lock status))
+    → ((h : Held) → P (done s x (Res.LockDenied (denied s.opens h))))
     → ((m : Wished) (did : StateId × Table) → locking s x a ≡ Ok m → locks_as s.opens a.locker m.id m.wish ≡ Ok did → IsLocked s.opens m.wish did
     → P (locked s x (Ok did)))
     → P (lock s x a)

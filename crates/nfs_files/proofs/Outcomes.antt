@@ -6,8 +6,10 @@ use Rattle.std.specs.Option.{ForSome, option_map, unwrap_or}
 use Rattle.nfs_xdr.specs.declared.time.Time.{Time}
 use Rattle.nfs_xdr.specs.declared.status.Status.TheVariants.{NotSupp}
 use Rattle.nfs_compound.specs.Arguments.{arguments}
-use Rattle.nfs_compound.specs.Operation.{Op, Item, Operation, Fault}
-use Rattle.nfs_results.specs.Result.{Refused}
+use Rattle.nfs_compound.specs.declared.op.Op.{Op}
+use Rattle.nfs_compound.specs.declared.op.Item.{Item}
+use Rattle.nfs_compound.specs.declared.op.Item.TheVariants.{Operation, Fault}
+use Rattle.nfs_results.specs.declared.res.Res.TheVariants as Res
 use Rattle.nfs_names.specs.declared.context.Context.{Context}
 use Rattle.nfs_names.specs.State.{State}
 use Rattle.nfs_names.specs.Outcome.{Outcome, refuses, or_delay}
@@ -22,7 +24,7 @@ one_or_delay refused s x now op = or_delay (grows s x op && refused) s x (argume
 
 abbrev pub comes_to : Bool → State → Context → Time → Item → Outcome
 comes_to refused s x now (Operation op) = one_or_delay refused s x now op
-comes_to refused s x now (Fault number status) = record { result = Refused number status; state = s; context = x }
+comes_to refused s x now (Fault number status) = record { result = Res.Refused number status; state = s; context = x }
 
 mapped_is : (f : Outcome → Outcome) (v : Option Outcome) (none o : Outcome) → option_map f v ≡ Some o → f (unwrap_or v none) ≡ o
 mapped_is f None none o e = absurd cc

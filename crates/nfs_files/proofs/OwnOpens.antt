@@ -13,10 +13,11 @@ use Rattle.nfs_compound.specs.declared.stateid.Stateid.{Stateid}
 use Rattle.nfs_compound.specs.declared.open_args.Close.{Close}
 use Rattle.nfs_compound.specs.declared.open_args.OpenDowngrade.{OpenDowngrade}
 use Rattle.nfs_compound.specs.declared.lock_args.LockU.{LockU}
-use Rattle.nfs_compound.specs.LockArgs as args
-use Rattle.nfs_compound.specs.OpenArgs.{Open}
-use Rattle.nfs_compound.specs.Operation.{Op, Item, Operation, Fault, OpClose, OpCommit, OpFreeStateid, OpLock, OpLockT, OpLockU, OpOpen, OpOpenDowngrade}
-use Rattle.nfs_compound.specs.Operation.{OpRead, OpSetAttr, OpTestStateid, OpWrite}
+use Rattle.nfs_compound.specs.declared.lock_args.Lock as args
+use Rattle.nfs_compound.specs.declared.open_args.Open.{Open}
+use Rattle.nfs_compound.specs.declared.op.Op.{Op}
+use Rattle.nfs_compound.specs.declared.op.Item.{Item}
+use Rattle.nfs_compound.specs.declared.op.Item.TheVariants.{Operation, Fault}
 use Rattle.nfs_ranges.specs.declared.Held.{Held}
 use Rattle.nfs_opens.specs.declared.stateid.StateId.{StateId}
 use Rattle.nfs_opens.specs.declared.records.OpenState.{OpenState}
@@ -40,9 +41,9 @@ use Rattle.nfs_files.specs.Commit.{commit}
 use Rattle.nfs_files.specs.FreeStateid.{free_stateid}
 use Rattle.nfs_files.specs.Lock as of_lock
 use Rattle.nfs_files.specs.LockT.{tested, lock_t}
-use Rattle.nfs_files.specs.LockU.{unlocked, lock_u}
+use Rattle.nfs_files.specs.LockU.{lock_u}
 use Rattle.nfs_files.specs.Open as of_open
-use Rattle.nfs_files.specs.OpenDowngrade.{bits, narrowed, narrows, open_downgrade}
+use Rattle.nfs_files.specs.OpenDowngrade.{bits, open_downgrade}
 use Rattle.nfs_files.specs.Read.{read}
 use Rattle.nfs_files.specs.SetAttr.{was_set, set_attr}
 use Rattle.nfs_files.specs.TestStateid.{test_stateid}
@@ -176,37 +177,37 @@ spares_open s x now a is =
 
 -- By the operation.
 
-still_one : (s : State) (x : Context) (now : Time) (op : Op) → ((a : _) → op ≡ OpClose a → ⊥)
-    → ((a : _) → op ≡ OpOpen a → ⊥) → AreNumbered s.opens → SparesIn Everybody s x (one s x now op).state (one s x now op).context
+still_one : (s : State) (x : Context) (now : Time) (op : Op) → ((a : _) → op ≡ Op.Close a → ⊥)
+    → ((a : _) → op ≡ Op.Open a → ⊥) → AreNumbered s.opens → SparesIn Everybody s x (one s x now op).state (one s x now op).context
 unfolding commit lock_t read set_attr test_stateid write
-still_one s x now (OpClose a) close open_it is = absurd (close a refl)
-still_one s x now (OpOpen a) close open_it is = absurd (open_it a refl)
-still_one s x now (OpCommit a) close open_it is =
+still_one s x now (Op.Close a) close open_it is = absurd (close a refl)
+still_one s x now (Op.Open a) close open_it is = absurd (open_it a refl)
+still_one s x now (Op.Commit a) close open_it is =
     by_answers (SparesIn Everybody s x) s x Num.Commit _ _ (nothing Everybody s x is) (λ d. nothing Everybody s x is)
-still_one s x now (OpFreeStateid given) close open_it is = still_free s x given is
-still_one s x now (OpLock a) close open_it is = still_lock s x a is
-still_one s x now (OpLockT a) close open_it is =
+still_one s x now (Op.FreeStateid given) close open_it is = still_free s x given is
+still_one s x now (Op.Lock a) close open_it is = still_lock s x a is
+still_one s x now (Op.LockT a) close open_it is =
     by_answers (SparesIn Everybody s x) s x Num.LockT _ _ (nothing Everybody s x is) (λ w. tests s x (locking.test_lock s.opens a.owner.owner w) is)
-still_one s x now (OpLockU a) close open_it is = still_lock_u s x a is
-still_one s x now (OpOpenDowngrade a) close open_it is = still_downgrade s x a is
-still_one s x now (OpRead a) close open_it is = by_answers (SparesIn Everybody s x) s x Num.Read _ _ (nothing Everybody s x is) (λ d. nothing Everybody s x is)
-still_one s x now (OpSetAttr a) close open_it is = by_answers (SparesIn Everybody s x) s x Num.SetAttr _
+still_one s x now (Op.LockU a) close open_it is = still_lock_u s x a is
+still_one s x now (Op.OpenDowngrade a) close open_it is = still_downgrade s x a is
+still_one s x now (Op.Read a) close open_it is = by_answers (SparesIn Everybody s x) s x Num.Read _ _ (nothing Everybody s x is) (λ d. nothing Everybody s x is)
+still_one s x now (Op.SetAttr a) close open_it is = by_answers (SparesIn Everybody s x) s x Num.SetAttr _
     (was_set s x now a) (nothing Everybody s x is) (λ m. record { opens = untouched Everybody s.opens is; client = refl })
-still_one s x now (OpTestStateid given) close open_it is = nothing Everybody s x is
-still_one s x now (OpWrite a) close open_it is = by_answers (SparesIn Everybody s x) s x Num.Write _
+still_one s x now (Op.TestStateid given) close open_it is = nothing Everybody s x is
+still_one s x now (Op.Write a) close open_it is = by_answers (SparesIn Everybody s x) s x Num.Write _
     (was_written s x now a) (nothing Everybody s x is) (λ d. record { opens = untouched Everybody s.opens is; client = refl })
 still_one s x now op close open_it is = nothing Everybody s x is
 
 own_one : (s : State) (x : Context) (now : Time) (op : Op) → AreNumbered s.opens
     → SparesIn (OthersThan x.client) s x (one s x now op).state (one s x now op).context
-own_one s x now (OpClose a) is = spares_close s x a is
-own_one s x now (OpOpen a) is = spares_open s x now a is
+own_one s x now (Op.Close a) is = spares_close s x a is
+own_one s x now (Op.Open a) is = spares_open s x now a is
 own_one s x now op is = weaker (OthersThan x.client) s x (one s x now op).state
     (one s x now op).context (still_one s x now op (λ a e. absurd cc) (λ a e. absurd cc) is)
 
 -- OPEN and CLOSE alone move whether a client has an open ..
-pub spares_all : (b : Bool) (s : State) (x : Context) (now : Time) (i : Item) → ((a : _) → i ≡ Operation (OpClose a) → ⊥)
-    → ((a : _) → i ≡ Operation (OpOpen a) → ⊥) → AreNumbered s.opens → SparesIn Everybody s x (comes_to b s x now i).state (comes_to b s x now i).context
+pub spares_all : (b : Bool) (s : State) (x : Context) (now : Time) (i : Item) → ((a : _) → i ≡ Operation (Op.Close a) → ⊥)
+    → ((a : _) → i ≡ Operation (Op.Open a) → ⊥) → AreNumbered s.opens → SparesIn Everybody s x (comes_to b s x now i).state (comes_to b s x now i).context
 spares_all b s x now (Operation op) close open_it is =
     by_delay (λ o. SparesIn Everybody s x o.state o.context) (grows s x op && b) s x (arguments op).op (one s x now op) (nothing Everybody s x is)
     (still_one s x now op (λ a e. close a (ap Operation e)) (λ a e. open_it a (ap Operation e)) is)

@@ -6,15 +6,15 @@ use Rattle.nfs_xdr.specs.Checks.{first_fault}
 use Rattle.nfs_xdr.specs.declared.time.Time.{Time}
 use Rattle.nfs_xdr.specs.declared.status.Status.{Status}
 use Rattle.nfs_xdr.specs.declared.status.Status.TheVariants.{NoFileHandle, Stale, BadHandle}
-use Rattle.nfs_compound.specs.NameArgs as args
+use Rattle.nfs_compound.specs.declared.name_args.Create.{Create}
+use Rattle.nfs_compound.specs.declared.name_args.Rename.{Rename}
 use Rattle.nfs_compound.specs.declared.name_args.SecinfoStyle.{SecinfoStyle}
 use Rattle.nfs_compound.specs.declared.name_args.SecinfoStyle.TheVariants.{CurrentFh, Parent}
-use Rattle.nfs_compound.specs.Attributes.{Attributes}
+use Rattle.nfs_compound.specs.declared.attributes.Attributes.{Attributes}
 use Rattle.nfs_compound.specs.OpNum.{op_number}
 use Rattle.nfs_compound.specs.declared.op_num.OpNum.{OpNum}
 use Rattle.nfs_compound.specs.declared.op_num.OpNum.TheVariants as Num
-use Rattle.nfs_compound.specs.Operation.{Op, OpAccess, OpCreate, OpGetAttr, OpGetFh, OpLink, OpLookup, OpLookupP, OpNVerify, OpPutFh}
-use Rattle.nfs_compound.specs.Operation.{OpPutPubFh, OpPutRootFh, OpReadDir, OpReadLink, OpRemove, OpRename, OpRestoreFh, OpSaveFh, OpSecinfoNoName, OpVerify}
+use Rattle.nfs_compound.specs.declared.op.Op.{Op}
 use Rattle.nfs_results.specs.Results.{status_of_result}
 use Rattle.nfs_attrs.specs.Reading.{fault_status}
 use Rattle.nfs_attrs.specs.declared.wanted.AttrFault.{AttrFault}
@@ -148,7 +148,7 @@ saved_prompt : (o : _) → IsPrompt (or_none o)
 saved_prompt None = err_prompt NoFileHandle refl
 saved_prompt (Some saved) = ok_prompt saved
 
-made_prompt : (s : State) (x : Context) (c : args.Create) → IsPrompt (of_create.asked_for s x c)
+made_prompt : (s : State) (x : Context) (c : Create) → IsPrompt (of_create.asked_for s x c)
 made_prompt s x c =
     then_prompt (checked (current s x) (of_create.place_checks x c)) _ (checked_prompt (current s x) (of_create.place_checks x c) (current_prompt s x) (λ d. refl)) (λ d.
     then_prompt (attributes_in c.createattrs) _ (wanted_prompt c.createattrs) (λ wanted. checked_prompt _ (of_create.new_checks x) (ok_prompt _) (λ m. refl)))
@@ -160,7 +160,7 @@ style_prompt : (s : State) (style : SecinfoStyle) (d : Node) → calm (style_che
 style_prompt s CurrentFh d = refl
 style_prompt s Parent d = refl
 
-renamed_prompt : (s : State) (x : Context) (now : Time) (a : args.Rename) (p : _) (b : Bool)
+renamed_prompt : (s : State) (x : Context) (now : Time) (a : Rename) (p : _) (b : Bool)
     → is_delay (status_of_result (cond b (moved s x now a p) (unmoved s x p)).result) ≡ false
 renamed_prompt s x now a p true = refl
 renamed_prompt s x now a p false = refl
@@ -168,30 +168,30 @@ renamed_prompt s x now a p false = refl
 pub names_prompt : (s : State) (x : Context) (now : Time) (op : Op) → IfSome (one s x now op) (λ o. is_delay (status_of_result o.result) ≡ false)
 unfolding access create get_attr get_fh link lookup lookup_p nverify put_fh put_pub_fh
     put_root_fh read_dir read_link remove rename restore_fh save_fh secinfo_no_name verify
-names_prompt s x now (OpAccess asked) = answered_prompt s x Num.Access (current s x) _ (current_prompt s x) (λ d. refl)
-names_prompt s x now (OpCreate c) = answered_prompt s x Num.Create _ _ (checked_prompt (of_create.asked_for s x c) _ (made_prompt s x c) (λ m. refl)) (λ m. refl)
-names_prompt s x now (OpGetAttr mask) = answered_prompt s x Num.GetAttr _ _ (checked_prompt (current s x) _ (current_prompt s x) (λ d. refl)) (λ d. refl)
-names_prompt s x now OpGetFh = answered_prompt s x Num.GetFh (current s x) _ (current_prompt s x) (λ d. refl)
-names_prompt s x now (OpLink name) =
+names_prompt s x now (Op.Access asked) = answered_prompt s x Num.Access (current s x) _ (current_prompt s x) (λ d. refl)
+names_prompt s x now (Op.Create c) = answered_prompt s x Num.Create _ _ (checked_prompt (of_create.asked_for s x c) _ (made_prompt s x c) (λ m. refl)) (λ m. refl)
+names_prompt s x now (Op.GetAttr mask) = answered_prompt s x Num.GetAttr _ _ (checked_prompt (current s x) _ (current_prompt s x) (λ d. refl)) (λ d. refl)
+names_prompt s x now Op.GetFh = answered_prompt s x Num.GetFh (current s x) _ (current_prompt s x) (λ d. refl)
+names_prompt s x now (Op.Link name) =
     answered_prompt s x Num.Link _ _ (checked_prompt _ _ (checked_prompt (both s x) _ (both_prompt s x) (λ p. refl)) (λ p. refl)) (λ p. refl)
-names_prompt s x now (OpLookup name) =
+names_prompt s x now (Op.Lookup name) =
     answered_prompt s x Num.Lookup _ _ (mapped_prompt _ _ (checked_prompt (current s x) _ (current_prompt s x) (λ d. refl))) (λ n. refl)
-names_prompt s x now OpLookupP = answered_prompt s x Num.LookupP _ _ (mapped_prompt _ _ (checked_prompt (current s x) _ (current_prompt s x) (λ d. refl))) (λ n. refl)
-names_prompt s x now (OpNVerify a) = answered_prompt s x Num.NVerify _ _ (checked_prompt (compared s x a) _ (compared_prompt s x a) (λ b. refl)) (λ b. refl)
-names_prompt s x now (OpPutFh object) =
+names_prompt s x now Op.LookupP = answered_prompt s x Num.LookupP _ _ (mapped_prompt _ _ (checked_prompt (current s x) _ (current_prompt s x) (λ d. refl))) (λ n. refl)
+names_prompt s x now (Op.NVerify a) = answered_prompt s x Num.NVerify _ _ (checked_prompt (compared s x a) _ (compared_prompt s x a) (λ b. refl)) (λ b. refl)
+names_prompt s x now (Op.PutFh object) =
     answered_prompt s x Num.PutFh _ _ (checked_prompt (or_bad (handle_of object)) _ (handle_prompt (handle_of object)) (λ h. refl)) (λ h. refl)
-names_prompt s x now OpPutPubFh = refl
-names_prompt s x now OpPutRootFh = refl
-names_prompt s x now (OpReadDir a) =
+names_prompt s x now Op.PutPubFh = refl
+names_prompt s x now Op.PutRootFh = refl
+names_prompt s x now (Op.ReadDir a) =
     answered_prompt s x Num.ReadDir _ _ (checked_prompt _ _ (checked_prompt (current s x) _ (current_prompt s x) (λ d. refl)) (λ d. refl)) (λ d. refl)
-names_prompt s x now OpReadLink = answered_prompt s x Num.ReadLink _ _ (checked_prompt (current s x) _ (current_prompt s x) (λ d. refl)) (λ d. refl)
-names_prompt s x now (OpRemove name) =
+names_prompt s x now Op.ReadLink = answered_prompt s x Num.ReadLink _ _ (checked_prompt (current s x) _ (current_prompt s x) (λ d. refl)) (λ d. refl)
+names_prompt s x now (Op.Remove name) =
     answered_prompt s x Num.Remove _ _ (checked_prompt _ _ (checked_prompt (current s x) _ (current_prompt s x) (λ d. refl)) (λ d. refl)) (λ d. refl)
-names_prompt s x now (OpRename a) =
+names_prompt s x now (Op.Rename a) =
     answered_prompt s x Num.Rename _ _ (checked_prompt _ _ (checked_prompt (both s x) _ (both_prompt s x) (λ p. refl)) (λ p. refl)) (λ p. renamed_prompt s x now a p _)
-names_prompt s x now OpRestoreFh = answered_prompt s x Num.RestoreFh _ _ (checked_prompt (or_none x.saved) _ (saved_prompt x.saved) (λ saved. refl)) (λ saved. refl)
-names_prompt s x now OpSaveFh = answered_prompt s x Num.SaveFh (current s x) _ (current_prompt s x) (λ d. refl)
-names_prompt s x now (OpSecinfoNoName style) =
+names_prompt s x now Op.RestoreFh = answered_prompt s x Num.RestoreFh _ _ (checked_prompt (or_none x.saved) _ (saved_prompt x.saved) (λ saved. refl)) (λ saved. refl)
+names_prompt s x now Op.SaveFh = answered_prompt s x Num.SaveFh (current s x) _ (current_prompt s x) (λ d. refl)
+names_prompt s x now (Op.SecinfoNoName style) =
     answered_prompt s x Num.SecinfoNoName _ _ (checked_prompt (current s x) (style_checks s style) (current_prompt s x) (style_prompt s style)) (λ d. refl)
-names_prompt s x now (OpVerify a) = answered_prompt s x Num.Verify _ _ (checked_prompt (compared s x a) _ (compared_prompt s x a) (λ b. refl)) (λ b. refl)
+names_prompt s x now (Op.Verify a) = answered_prompt s x Num.Verify _ _ (checked_prompt (compared s x a) _ (compared_prompt s x a) (λ b. refl)) (λ b. refl)
 names_prompt s x now op = tt

@@ -7,17 +7,21 @@ use Rattle.nfs_xdr.specs.declared.time.Time.{Time}
 use Rattle.nfs_xdr.specs.declared.status.Status.{Status}
 use Rattle.nfs_xdr.specs.declared.status.Status.TheVariants.{BadStateId, Inval, LocksHeld, NoGrace, NotSupp, OpenMode, ServerFault}
 use Rattle.nfs_compound.specs.Arguments.{arguments}
-use Rattle.nfs_compound.specs.LockArgs as args
+use Rattle.nfs_compound.specs.declared.lock_args.Lock.{Lock}
+use Rattle.nfs_compound.specs.declared.lock_args.Locker.TheVariants.{LockOwner, OpenOwner}
+use Rattle.nfs_compound.specs.declared.lock_args.Locker.{Locker}
 use Rattle.nfs_compound.specs.OpNum.{op_number}
-use Rattle.nfs_compound.specs.OpenArgs.{Open, OpenClaim, Null, Fh, Previous}
+use Rattle.nfs_compound.specs.declared.open_args.Open.{Open}
+use Rattle.nfs_compound.specs.declared.open_args.OpenClaim.{OpenClaim}
+use Rattle.nfs_compound.specs.declared.open_args.OpenClaim.TheVariants.{Null, Fh, Previous}
 use Rattle.nfs_compound.specs.declared.op_num.OpNum.TheVariants as Num
 use Rattle.nfs_compound.specs.declared.stateid.Stateid.{Stateid}
 use Rattle.nfs_compound.specs.declared.open_args.Close.{Close}
 use Rattle.nfs_compound.specs.declared.open_args.OpenDowngrade.{OpenDowngrade}
-use Rattle.nfs_compound.specs.FileArgs.{SetAttr}
+use Rattle.nfs_compound.specs.declared.file_args.SetAttr.{SetAttr}
 use Rattle.nfs_compound.specs.declared.lock_args.LockU.{LockU}
 use Rattle.nfs_compound.specs.declared.lock_args.LockType.{LockType}
-use Rattle.nfs_compound.specs.Operation.{Op, OpClose, OpCommit, OpFreeStateid, OpLock, OpLockT, OpLockU, OpOpen, OpOpenDowngrade, OpRead, OpSetAttr, OpTestStateid, OpWrite}
+use Rattle.nfs_compound.specs.declared.op.Op.{Op}
 use Rattle.nfs_results.specs.Results.{status_of_result}
 use Rattle.nfs_ranges.specs.declared.Held.{Held}
 use Rattle.nfs_ranges.specs.Holders.{holds_any}
@@ -200,11 +204,11 @@ owner_prompt t w opened owner access None =
     next_prompt status_of (locking.lock_judged t 0 access w) _ (judged_prompt t 0 access w) (λ u.
     next_prompt status_of (require (not (t.last == last_number)) (F.Refused ServerFault)) _ (required_prompt status_of _ (F.Refused ServerFault) refl) (λ u. ok_prompt _))
 
-locks_prompt : (t : Table) (who : args.Locker) (id : StateId) (w : Wish) → IsPrompt (map_err status_of (of_lock.locks_as t who id w))
-locks_prompt t (args.OpenOwner o) id w =
+locks_prompt : (t : Table) (who : Locker) (id : StateId) (w : Wish) → IsPrompt (map_err status_of (of_lock.locks_as t who id w))
+locks_prompt t (OpenOwner o) id w =
     next_prompt status_of (map_err F.Refused (judge t id w.client (Some w.file) OpenOnly)) _ (fault_prompt _ (judge_prompt t id w.client (Some w.file) OpenOnly))
     (λ seat. owner_prompt t w id.number o.lock_owner.owner (locking.access_in seat) (locking.state_of t w.client o.lock_owner.owner w.file))
-locks_prompt t (args.LockOwner o) id w =
+locks_prompt t (LockOwner o) id w =
     next_prompt status_of (map_err F.Refused (judge t id w.client (Some w.file) LockOnly)) _ (fault_prompt _ (judge_prompt t id w.client (Some w.file) LockOnly))
     (λ seat. as_prompt t w id.number (locking.access_in seat))
 
@@ -299,7 +303,7 @@ freed_prompt s x given =
     answered_prompt s x Num.FreeStateid (meant x Any given) (frees s x) (meant_prompt x Any given) (λ id.
     answered_prompt s x Num.FreeStateid (closing.free s.opens id x.client) _ (free_prompt s.opens id x.client) (λ did. refl))
 
-lock_prompt : (s : State) (x : Context) (a : args.Lock) → is_delay (status_of_result (of_lock.lock s x a).result) ≡ false
+lock_prompt : (s : State) (x : Context) (a : Lock) → is_delay (status_of_result (of_lock.lock s x a).result) ≡ false
 unfolding of_lock.lock
 lock_prompt s x a =
     answered_prompt s x Num.Lock (of_lock.locking s x a) (of_lock.locks s x a.locker)
@@ -327,17 +331,17 @@ narrows_prompt s x a =
 
 pub files_prompt : (s : State) (x : Context) (now : Time) (op : Op) → is_delay (status_of_result (one s x now op).result) ≡ false
 unfolding commit lock_t of_open.open_file read set_attr test_stateid write
-files_prompt s x now (OpClose a) = close_prompt s x a
-files_prompt s x now (OpCommit a) = answered_prompt s x Num.Commit _ _ (checked_prompt (current s x) file_checks (current_prompt s x) (λ d. refl)) (λ d. refl)
-files_prompt s x now (OpFreeStateid given) = freed_prompt s x given
-files_prompt s x now (OpLock a) = lock_prompt s x a
-files_prompt s x now (OpLockT a) = answered_prompt s x Num.LockT _ _ (wish_prompt s x a.locktype a.offset a.length) (λ w. tested_prompt s x _)
-files_prompt s x now (OpLockU a) = lock_u_prompt s x a
-files_prompt s x now (OpOpen a) = answered_prompt s x Num.Open _ _ (open_prompt s x a) (λ f. refl)
-files_prompt s x now (OpOpenDowngrade a) = narrows_prompt s x a
-files_prompt s x now (OpRead a) = answered_prompt s x Num.Read _ _ (readable_prompt s x a.stateid (current s x) (current_prompt s x)) (λ d. refl)
-files_prompt s x now (OpSetAttr a) = answered_prompt s x Num.SetAttr _ _ (checked_prompt (of_set.asked_for s x a) _ (set_prompt s x a) (λ m. refl)) (λ m. refl)
-files_prompt s x now (OpTestStateid given) = refl
-files_prompt s x now (OpWrite a) =
+files_prompt s x now (Op.Close a) = close_prompt s x a
+files_prompt s x now (Op.Commit a) = answered_prompt s x Num.Commit _ _ (checked_prompt (current s x) file_checks (current_prompt s x) (λ d. refl)) (λ d. refl)
+files_prompt s x now (Op.FreeStateid given) = freed_prompt s x given
+files_prompt s x now (Op.Lock a) = lock_prompt s x a
+files_prompt s x now (Op.LockT a) = answered_prompt s x Num.LockT _ _ (wish_prompt s x a.locktype a.offset a.length) (λ w. tested_prompt s x _)
+files_prompt s x now (Op.LockU a) = lock_u_prompt s x a
+files_prompt s x now (Op.Open a) = answered_prompt s x Num.Open _ _ (open_prompt s x a) (λ f. refl)
+files_prompt s x now (Op.OpenDowngrade a) = narrows_prompt s x a
+files_prompt s x now (Op.Read a) = answered_prompt s x Num.Read _ _ (readable_prompt s x a.stateid (current s x) (current_prompt s x)) (λ d. refl)
+files_prompt s x now (Op.SetAttr a) = answered_prompt s x Num.SetAttr _ _ (checked_prompt (of_set.asked_for s x a) _ (set_prompt s x a) (λ m. refl)) (λ m. refl)
+files_prompt s x now (Op.TestStateid given) = refl
+files_prompt s x now (Op.Write a) =
     answered_prompt s x Num.Write _ _ (checked_prompt _ _ (writable_prompt s x a.stateid (current s x) (current_prompt s x)) (λ d. refl)) (λ d. refl)
 files_prompt s x now op = ap is_delay (status_of_refusal (op_number (arguments op).op) NotSupp)

@@ -9,7 +9,7 @@ use Rattle.nfs_xdr.specs.Spelling.{flag, opaque, padding}
 use Rattle.nfs_compound.specs.declared.file_args.Read.{Read}
 use Rattle.nfs_results.specs.Items.{read_ok}
 use Rattle.nfs_results.specs.Largest.{given}
-use Rattle.nfs_results.specs.Result.{ResRead}
+use Rattle.nfs_results.specs.declared.res.Res.TheVariants as Res
 use Rattle.nfs_results.proofs.Lengths.{behind_within}
 use Rattle.nfs_tree.specs.declared.object.Object.{Object}
 use Rattle.nfs_tree.specs.declared.stored.Stored.{Stored}
@@ -63,7 +63,7 @@ few_given s r d = omega (arith, length-take (given r.count) (drop r.offset (data
 pub read_within : (s : State) (r : Read) (d : Node)
     → 8 + length (flag (was_read s r d).eof ++ opaque (bytes_of s r d)) ≤ 16 + (given r.count + padding (given r.count))
 unfolding read_ok
-read_within s r d = behind_within r.count (ResRead (was_read s r d)) tt (few_given s r d)
+read_within s r d = behind_within r.count (Res.Read (was_read s r d)) tt (few_given s r d)
 
 pub readable_is : (s : State) (x : Context) (r : Read) (d : Node) → readable s x r.stateid (current s x) ≡ Ok d → object_at s.tree d.number ≡ Some d.object
 unfolding readable

@@ -7,14 +7,14 @@ use Rattle.nfs_xdr.specs.declared.status.Status.{Status}
 use Rattle.nfs_xdr.specs.declared.status.Status.TheVariants as S
 use Rattle.nfs_compound.specs.declared.op_num.OpNum.{OpNum}
 use Rattle.nfs_compound.specs.OpNum.{op_number}
-use Rattle.nfs_results.specs.Result.{Res, ResSetAttr, Refused}
+use Rattle.nfs_results.specs.declared.res.Res.{Res}
 use Rattle.nfs_results.specs.Results.{refusal, status_of_result}
 use Rattle.nfs_opens.specs.declared.stateid.StateId.{StateId}
 use Rattle.nfs_opens.specs.declared.locking.OpenFault.{OpenFault}
 use Rattle.nfs_opens.specs.declared.locking.OpenFault.TheVariants as F
 use Rattle.nfs_opens.specs.Table.{Table, answer_of, table_after}
 use Rattle.nfs_opens.proofs.CallLaws.{did_is, refused_is}
-use Rattle.nfs_compound.specs.declared.op_num.OpNum.TheVariants as Op
+use Rattle.nfs_compound.specs.declared.op_num.OpNum.TheVariants as Num
 use Rattle.nfs_opens.specs.Calls as calls
 use Rattle.nfs_opens.specs.Steps.{map_err}
 use Rattle.nfs_names.specs.declared.context.Context.{Context}
@@ -58,7 +58,7 @@ own_refusal w s x op status o e =
 
 status_of_refusal : (n : ℕ) (status : Status) → status_of_result (refusal n status) ≡ status
 status_of_refusal n status =
-    elim (eqb n 34) as (λ b. status_of_result (cond b (ResSetAttr status []) (Refused n status)) ≡ status) [ true ↦ refl | false ↦ refl ]
+    elim (eqb n 34) as (λ b. status_of_result (cond b (Res.SetAttr status []) (Res.Refused n status)) ≡ status) [ true ↦ refl | false ↦ refl ]
 
 -- what a refused call of the table reports: want of memory where it would have been done, or a refusal of its own
 abbrev pub Wanted : Table → Bool → Result (StateId × Table) OpenFault → Table → OpenFault → Type 0
@@ -102,7 +102,7 @@ refused_outcome s x op grows did outcome fault r new goes stops is (inr told) =
 
 -- what LOCKU comes to, by what the table says
 abbrev pub unlocked_by : State → Context → Result (StateId × Table) OpenFault → Outcome
-unlocked_by s x v = answers s x Op.LockU (map_err status_of v) (λ did. unlocked s x did.0 did.1)
+unlocked_by s x v = answers s x Num.LockU (map_err status_of v) (λ did. unlocked s x did.0 did.1)
 
 pub ok_unlocked : (s : State) (x : Context) (v : Result (StateId × Table) OpenFault) → IsOk v → is_ok (unlocked_by s x v).result ≡ true
 ok_unlocked s x (Ok did) h = refl
@@ -114,7 +114,7 @@ ok_locked s x (Err fault) h = absurd cc
 
 pub granted_outcome : (grows : Bool) (s : State) (x : Context) (did : Result (StateId × Table) OpenFault) (id : StateId) (after : Table)
     → Ok id ≡ answer_of did → after ≡ table_after s.opens did
-    → unlocked s x id after ≡ or_delay (grows && is_delay S.Nfs4Ok) s x Op.LockU (unlocked_by s x did)
+    → unlocked s x id after ≡ or_delay (grows && is_delay S.Nfs4Ok) s x Num.LockU (unlocked_by s x did)
 granted_outcome grows s x did id after e left =
     let same : unlocked s x id after ≡ unlocked_by s x did = ap (unlocked s x id) left ∙ sym (ap (unlocked_by s x) (did_is s.opens did id (sym e))) in
-    same ∙ sym (own_refusal grows s x Op.LockU S.Nfs4Ok (unlocked_by s x did) (ap (λ (o : Outcome). status_of_result o.result) (sym same)))
+    same ∙ sym (own_refusal grows s x Num.LockU S.Nfs4Ok (unlocked_by s x did) (ap (λ (o : Outcome). status_of_result o.result) (sym same)))

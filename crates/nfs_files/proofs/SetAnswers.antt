@@ -5,8 +5,9 @@ use Rattle.nfs_xdr.specs.declared.time.Time.{Time}
 use Rattle.std.proofs.Common.{ℕ, Option, Some, None, arith}
 use Rattle.nfs_compound.specs.declared.op_num.OpNum.TheVariants as Num
 use Rattle.nfs_compound.specs.declared.stateid.Stateid.{Stateid}
-use Rattle.nfs_compound.specs.FileArgs.{SetAttr}
-use Rattle.nfs_compound.specs.Operation.{Operation, OpSetAttr}
+use Rattle.nfs_compound.specs.declared.file_args.SetAttr.{SetAttr}
+use Rattle.nfs_compound.specs.declared.op.Item.TheVariants.{Operation}
+use Rattle.nfs_compound.specs.declared.op.Op.TheVariants as Op
 use Rattle.nfs_attrs.specs.Mask.{mask_of}
 use Rattle.nfs_names.specs.declared.context.Context.{Context}
 use Rattle.nfs_names.specs.declared.node.Node.{Node}
@@ -34,9 +35,9 @@ asked_refuses s x a =
     (let m : Setting = record { node = d; wanted = w } in refuses_checked (Ok m) (owner_checks x) (ok_refuses m) (λ m. refl)))))
     (λ m. sized_refuses s x a.stateid m.node m.wanted.size)
 
-pub may_set_attr : (s : State) (x : Context) (now : Time) (a : SetAttr) → IsAnswer (Operation (OpSetAttr a)) (set_attr s x now a).result
+pub may_set_attr : (s : State) (x : Context) (now : Time) (a : SetAttr) → IsAnswer (Operation (Op.SetAttr a)) (set_attr s x now a).result
 unfolding set_attr
 may_set_attr s x now a =
-    answers_with (IsAnswer (Operation (OpSetAttr a))) s x Num.SetAttr _ _ (refuses_checked (asked_for s x a) (last_checks s) (asked_refuses s x a) (λ m. refl))
+    answers_with (IsAnswer (Operation (Op.SetAttr a))) s x Num.SetAttr _ _ (refuses_checked (asked_for s x a) (last_checks s) (asked_refuses s x a) (λ m. refl))
     (λ status h. record { may = (refl, rw h.legal refl, omega arith); arrays = tt })
     (λ m. record { may = (refl, refl, few_words (mask_of a.obj_attributes.attrmask).words); arrays = tt })

@@ -7,9 +7,9 @@ use Rattle.nfs_xdr.specs.Checks.{first_fault}
 use Rattle.nfs_xdr.proofs.Checks.{all_passed}
 use Rattle.nfs_xdr.specs.declared.time.Time.{Time}
 use Rattle.nfs_xdr.specs.declared.status.Status.{Status}
-use Rattle.nfs_compound.specs.declared.op_num.OpNum.TheVariants as Op
+use Rattle.nfs_compound.specs.declared.op_num.OpNum.TheVariants as Num
 use Rattle.nfs_compound.specs.declared.stateid.Stateid.{Stateid}
-use Rattle.nfs_compound.specs.FileArgs.{SetAttr}
+use Rattle.nfs_compound.specs.declared.file_args.SetAttr.{SetAttr}
 use Rattle.nfs_tree.specs.declared.fault.TreeFault.{TreeFault}
 use Rattle.nfs_tree.specs.declared.fault.TreeFault.TheVariants as F
 use Rattle.nfs_tree.specs.declared.object.FileType.{FileType}
@@ -128,12 +128,12 @@ pub set_goes : (s : State) (x : Context) (now : Time) (a : SetAttr) (m : Setting
     → tree_fault s.tree m.node.number m.wanted m.wanted.size ≡ None → set_attr s x now a ≡ was_set s x now a m
 unfolding set_attr
 set_goes s x now a m v none =
-    by_last s x Op.SetAttr (asked_for s x a) (last_checks s) (was_set s x now a) m v (sym (set_found s x a m v) ∙ ap (option_map status_of) none)
+    by_last s x Num.SetAttr (asked_for s x a) (last_checks s) (was_set s x now a) m v (sym (set_found s x a m v) ∙ ap (option_map status_of) none)
 
 pub set_stops : (s : State) (x : Context) (now : Time) (a : SetAttr) (m : Setting) (f : TreeFault)
     → asked_for s x a ≡ Ok m → tree_fault s.tree m.node.number m.wanted m.wanted.size ≡ Some f
-    → set_attr s x now a ≡ refuses s x Op.SetAttr (status_of f)
+    → set_attr s x now a ≡ refuses s x Num.SetAttr (status_of f)
 unfolding set_attr
 set_stops s x now a m f v some =
-    by_refusal s x Op.SetAttr (asked_for s x a) (last_checks s) (was_set s x now a) m
+    by_refusal s x Num.SetAttr (asked_for s x a) (last_checks s) (was_set s x now a) m
     (status_of f) v (sym (set_found s x a m v) ∙ ap (option_map status_of) some)

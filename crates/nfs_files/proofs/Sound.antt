@@ -6,7 +6,7 @@ use Rattle.std.proofs.lemmas.Bool.{cases_Bool, eqb-true}
 use Rattle.nfs_xdr.specs.Tables.{In}
 use Rattle.nfs_xdr.specs.declared.time.Time.{Time}
 use Rattle.nfs_xdr.proofs.Lists.{in_any, any_in, stays_in, in_filter}
-use Rattle.nfs_compound.specs.Operation.{Item}
+use Rattle.nfs_compound.specs.declared.op.Item.{Item}
 use Rattle.nfs_tree.specs.Object.{no_sets}
 use Rattle.nfs_tree.specs.Files.{root, has_row, with_changed}
 use Rattle.nfs_tree.specs.Bytes.{written, resized, with_written, with_resized}

@@ -12,8 +12,9 @@ use Rattle.nfs_compound.specs.declared.open_args.Close.{Close}
 use Rattle.nfs_compound.specs.declared.open_args.OpenDowngrade.{OpenDowngrade}
 use Rattle.nfs_compound.specs.declared.lock_args.LockType.{LockType}
 use Rattle.nfs_compound.specs.declared.lock_args.LockU.{LockU}
-use Rattle.nfs_compound.specs.Operation.{Operation, OpClose, OpFreeStateid, OpLockU, OpOpenDowngrade}
-use Rattle.nfs_results.specs.Result.{ResFreeStateid}
+use Rattle.nfs_compound.specs.declared.op.Item.TheVariants.{Operation}
+use Rattle.nfs_compound.specs.declared.op.Op.TheVariants as Op
+use Rattle.nfs_results.specs.declared.res.Res.TheVariants as Res
 use Rattle.nfs_ranges.specs.Holders.{holds_any}
 use Rattle.nfs_opens.specs.declared.share.Share.{Share}
 use Rattle.nfs_opens.specs.declared.stateid.StateId.{StateId}
@@ -100,48 +101,48 @@ pub length_id : (id : StateId) → length (wire_id id).other ≡ 12
 length_id id = omega (arith, length-append (number id.instance) (hyper id.number), length_number id.instance, length_hyper id.number)
 
 -- CLOSE
-closes_may : (s : State) (x : Context) (a : Close) (t : Target) → IsAnswer (Operation (OpClose a)) (closes s x t).result
+closes_may : (s : State) (x : Context) (a : Close) (t : Target) → IsAnswer (Operation (Op.Close a)) (closes s x t).result
 closes_may s x a t =
-    answers_with (IsAnswer (Operation (OpClose a))) s x Num.Close (closing.close s.opens t.id x.client t.file) (λ did. closed s x t.file did.1)
+    answers_with (IsAnswer (Operation (Op.Close a))) s x Num.Close (closing.close s.opens t.id x.client t.file) (λ did. closed s x t.file did.1)
     (close_refuses s.opens t.id x.client t.file)
     (λ status h. record { may = (refl, rw (h.done, h.legal) refl, tt); arrays = tt })
     (λ did. record { may = (refl, tt, tt); arrays = refl })
 
-pub may_close : (s : State) (x : Context) (a : Close) → IsAnswer (Operation (OpClose a)) (close s x a).result
+pub may_close : (s : State) (x : Context) (a : Close) → IsAnswer (Operation (Op.Close a)) (close s x a).result
 unfolding close
 may_close s x a =
-    answers_with (IsAnswer (Operation (OpClose a))) s x Num.Close (target s x Own a.open_stateid) (closes s x) (target_refuses s x Own a.open_stateid)
+    answers_with (IsAnswer (Operation (Op.Close a))) s x Num.Close (target s x Own a.open_stateid) (closes s x) (target_refuses s x Own a.open_stateid)
     (λ status h. record { may = (refl, rw (h.done, h.legal) refl, tt); arrays = tt })
     (λ t. closes_may s x a t)
 
 -- FREE_STATEID
-frees_may : (s : State) (x : Context) (given : Stateid) (id : StateId) → IsAnswer (Operation (OpFreeStateid given)) (frees s x id).result
+frees_may : (s : State) (x : Context) (given : Stateid) (id : StateId) → IsAnswer (Operation (Op.FreeStateid given)) (frees s x id).result
 frees_may s x given id =
-    answers_with (IsAnswer (Operation (OpFreeStateid given))) s x Num.FreeStateid (closing.free s.opens id x.client)
-    (λ did. done (with_opens s did.1) x ResFreeStateid) (free_refuses s.opens id x.client)
+    answers_with (IsAnswer (Operation (Op.FreeStateid given))) s x Num.FreeStateid (closing.free s.opens id x.client)
+    (λ did. done (with_opens s did.1) x Res.FreeStateid) (free_refuses s.opens id x.client)
     (λ status h. record { may = (refl, rw (h.done, h.legal) refl, tt); arrays = tt })
     (λ did. record { may = (refl, tt, tt); arrays = tt })
 
-pub may_free : (s : State) (x : Context) (given : Stateid) → IsAnswer (Operation (OpFreeStateid given)) (free_stateid s x given).result
+pub may_free : (s : State) (x : Context) (given : Stateid) → IsAnswer (Operation (Op.FreeStateid given)) (free_stateid s x given).result
 unfolding free_stateid
 may_free s x given =
-    answers_with (IsAnswer (Operation (OpFreeStateid given))) s x Num.FreeStateid (meant x Any given) (frees s x) (meant_refuses x Any given)
+    answers_with (IsAnswer (Operation (Op.FreeStateid given))) s x Num.FreeStateid (meant x Any given) (frees s x) (meant_refuses x Any given)
     (λ status h. record { may = (refl, rw (h.done, h.legal) refl, tt); arrays = tt })
     (λ id. frees_may s x given id)
 
 -- OPEN_DOWNGRADE
-narrows_may : (s : State) (x : Context) (a : OpenDowngrade) (t : Target) → IsAnswer (Operation (OpOpenDowngrade a)) (narrows s x a t).result
+narrows_may : (s : State) (x : Context) (a : OpenDowngrade) (t : Target) → IsAnswer (Operation (Op.OpenDowngrade a)) (narrows s x a t).result
 narrows_may s x a t =
-    answers_with (IsAnswer (Operation (OpOpenDowngrade a))) s x Num.OpenDowngrade
+    answers_with (IsAnswer (Operation (Op.OpenDowngrade a))) s x Num.OpenDowngrade
     (opening.downgrade s.opens t.id x.client t.file (bits a.share_access) (bits a.share_deny)) (λ did. narrowed s x did.0 did.1)
     (downgrade_refuses s.opens t.id x.client t.file (bits a.share_access) (bits a.share_deny))
     (λ status h. record { may = (refl, rw (h.done, h.legal) refl, tt); arrays = tt })
     (λ did. record { may = (refl, tt, tt); arrays = length_id did.0 })
 
-pub may_downgrade : (s : State) (x : Context) (a : OpenDowngrade) → IsAnswer (Operation (OpOpenDowngrade a)) (open_downgrade s x a).result
+pub may_downgrade : (s : State) (x : Context) (a : OpenDowngrade) → IsAnswer (Operation (Op.OpenDowngrade a)) (open_downgrade s x a).result
 unfolding open_downgrade
 may_downgrade s x a =
-    answers_with (IsAnswer (Operation (OpOpenDowngrade a))) s x Num.OpenDowngrade (narrowing s x a) (narrows s x a)
+    answers_with (IsAnswer (Operation (Op.OpenDowngrade a))) s x Num.OpenDowngrade (narrowing s x a) (narrows s x a)
     (if_passed_refuses (target s x Own a.open_stateid) (λ t. _) (target_refuses s x Own a.open_stateid)
     (λ t. refuses_checked (judge s.opens t.id x.client (Some t.file) OpenOnly) (bit_checks a)
     (judge_refuses s.opens t.id x.client (Some t.file) OpenOnly) (λ seat. refl)))
@@ -181,19 +182,19 @@ unlock_refuses t id client file first last =
     (judged_refuses (judge t id client (Some file) LockOnly) (judge_refuses t id client (Some file) LockOnly)) (λ seat.
     then_refuses status_of (ok_or (lock_at t id.number) (F.Refused S.BadStateId)) _ (state_refuses (lock_at t id.number)) (λ l. ok_refuses _))
 
-unlocks_may : (s : State) (x : Context) (a : LockU) (k : Wished) → IsAnswer (Operation (OpLockU a)) (unlocks s x k).result
+unlocks_may : (s : State) (x : Context) (a : LockU) (k : Wished) → IsAnswer (Operation (Op.LockU a)) (unlocks s x k).result
 unlocks_may s x a k =
     let w = k.wish in
-    answers_with (IsAnswer (Operation (OpLockU a))) s x Num.LockU (map_err status_of (locking.unlock s.opens k.id w.client w.file w.first w.last))
+    answers_with (IsAnswer (Operation (Op.LockU a))) s x Num.LockU (map_err status_of (locking.unlock s.opens k.id w.client w.file w.first w.last))
     (λ did. unlocked s x did.0 did.1)
     (unlock_refuses s.opens k.id w.client w.file w.first w.last)
     (λ status h. record { may = (refl, rw (h.done, h.legal) refl, tt); arrays = tt })
     (λ did. record { may = (refl, tt, tt); arrays = length_id did.0 })
 
-pub may_lock_u : (s : State) (x : Context) (a : LockU) → IsAnswer (Operation (OpLockU a)) (lock_u s x a).result
+pub may_lock_u : (s : State) (x : Context) (a : LockU) → IsAnswer (Operation (Op.LockU a)) (lock_u s x a).result
 unfolding lock_u
 may_lock_u s x a =
-    answers_with (IsAnswer (Operation (OpLockU a))) s x Num.LockU (unlocking s x a) (unlocks s x)
+    answers_with (IsAnswer (Operation (Op.LockU a))) s x Num.LockU (unlocking s x a) (unlocks s x)
     (wished_by_refuses x a.lock_stateid (wished s x a.locktype a.offset a.length) (wished_refuses s x a.locktype a.offset a.length))
     (λ status h. record { may = (refl, rw (h.done, h.legal) refl, tt); arrays = tt })
     (unlocks_may s x a)

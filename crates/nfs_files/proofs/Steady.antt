@@ -5,7 +5,7 @@ use Rattle.std.specs.Option.{ForSome}
 use Rattle.std.specs.List.{list_any}
 use Rattle.std.proofs.lemmas.Bool.{cases_Bool, eqb-false}
 use Rattle.nfs_xdr.specs.declared.time.Time.{Time}
-use Rattle.nfs_compound.specs.Operation.{Item}
+use Rattle.nfs_compound.specs.declared.op.Item.{Item}
 use Rattle.nfs_tree.specs.Files.{lookup as looked_up, named}
 use Rattle.nfs_tree.specs.Names.{with_moved, without_name}
 use Rattle.nfs_opens.specs.declared.records.OpenState.{OpenState}

@@ -9,9 +9,11 @@ use Rattle.nfs_compound.specs.declared.op_num.OpNum.{OpNum}
 use Rattle.nfs_compound.specs.declared.op_num.OpNum.TheVariants as Num
 use Rattle.nfs_compound.specs.declared.stateid.Stateid.{Stateid}
 use Rattle.nfs_compound.specs.OpNum.{op_number}
-use Rattle.nfs_compound.specs.LockArgs as args
-use Rattle.nfs_compound.specs.Operation.{Op, Operation, OpLock, OpLockT, OpTestStateid}
-use Rattle.nfs_results.specs.Result.{Res}
+use Rattle.nfs_compound.specs.declared.lock_args.Lock.{Lock}
+use Rattle.nfs_compound.specs.declared.lock_args.LockT.{LockT}
+use Rattle.nfs_compound.specs.declared.op.Op.{Op}
+use Rattle.nfs_compound.specs.declared.op.Item.TheVariants.{Operation}
+use Rattle.nfs_results.specs.declared.res.Res.{Res}
 use Rattle.nfs_results.specs.Results.{spell_result, operation_of, refusal}
 use Rattle.nfs_results.specs.ResultCodec.{HasArrays}
 use Rattle.nfs_results.specs.Largest.{largest, largest_of, number_of, asked}
@@ -23,7 +25,7 @@ use Rattle.nfs_names.specs.declared.context.Context.{Context}
 use Rattle.nfs_names.specs.State.{State}
 use Rattle.nfs_names.specs.Outcome.{Outcome, refuses, answers, or_delay, is_ok}
 use Rattle.nfs_files.specs.Ranges.{wished}
-use Rattle.nfs_files.specs.Lock.{locked, lock}
+use Rattle.nfs_files.specs.Lock.{lock}
 use Rattle.nfs_files.specs.LockT.{tested, lock_t}
 use Rattle.nfs_files.specs.TestStateid.{code, test_stateid}
 use Rattle.nfs_files.proofs.Fitting.{few_denied}
@@ -51,32 +53,32 @@ answers_any P s x op (Err status) f refused done = refused status
 answers_any P s x op (Ok a) f refused done = done a
 
 -- LOCK
-lock_short : (s : State) (x : Context) (a : args.Lock) → IsShort (OpLock a) (lock s x a).result
-lock_short s x a = by_lock (λ o. IsShort (OpLock a) o.result) s x a
+lock_short : (s : State) (x : Context) (a : Lock) → IsShort (Op.Lock a) (lock s x a).result
+lock_short s x a = by_lock (λ o. IsShort (Op.Lock a) o.result) s x a
     (λ status. record { number = refl; sizes = tt; arrays = tt })
     (λ h. record { number = refl; sizes = few_denied s.opens h; arrays = tt })
     (λ m did judged granted locked. record { number = refl; sizes = tt; arrays = length_id did.0 })
 
-pub short_lock : (b : Bool) (s : State) (x : Context) (a : args.Lock) → IsShort (OpLock a) (or_delay b s x Num.Lock (lock s x a)).result
+pub short_lock : (b : Bool) (s : State) (x : Context) (a : Lock) → IsShort (Op.Lock a) (or_delay b s x Num.Lock (lock s x a)).result
 short_lock b s x a =
-    elim (b && is_ok (lock s x a).result) as (λ k. IsShort (OpLock a) (cond k (refuses s x Num.Lock Delay) (lock s x a)).result) [
+    elim (b && is_ok (lock s x a).result) as (λ k. IsShort (Op.Lock a) (cond k (refuses s x Num.Lock Delay) (lock s x a)).result) [
       | true ↦ record { number = refl; sizes = tt; arrays = tt }
       | false ↦ lock_short s x a
     ]
 
 -- LOCKT
-tested_short : (s : State) (x : Context) (a : args.LockT) (o : Option Held) → IsShort (OpLockT a) (tested s x o).result
+tested_short : (s : State) (x : Context) (a : LockT) (o : Option Held) → IsShort (Op.LockT a) (tested s x o).result
 tested_short s x a None = record { number = refl; sizes = tt; arrays = tt }
 tested_short s x a (Some h) = record { number = refl; sizes = few_denied s.opens h; arrays = tt }
 
-pub short_lock_t : (s : State) (x : Context) (a : args.LockT) → IsShort (OpLockT a) (lock_t s x a).result
+pub short_lock_t : (s : State) (x : Context) (a : LockT) → IsShort (Op.LockT a) (lock_t s x a).result
 unfolding lock_t
 short_lock_t s x a =
-    answers_any (IsShort (OpLockT a)) s x Num.LockT (wished s x a.locktype a.offset a.length) (λ w. tested s x (test_lock s.opens a.owner.owner w))
+    answers_any (IsShort (Op.LockT a)) s x Num.LockT (wished s x a.locktype a.offset a.length) (λ w. tested s x (test_lock s.opens a.owner.owner w))
     (λ status. record { number = refl; sizes = tt; arrays = tt })
     (λ w. tested_short s x a (test_lock s.opens a.owner.owner w))
 
 -- TEST_STATEID
-pub short_test : (s : State) (x : Context) (given : List Stateid) → IsShort (OpTestStateid given) (test_stateid s x given).result
+pub short_test : (s : State) (x : Context) (given : List Stateid) → IsShort (Op.TestStateid given) (test_stateid s x given).result
 unfolding test_stateid
 short_test s x given = record { number = refl; sizes = omega (arith, length-map given (code s x)); arrays = tt }

@@ -9,15 +9,17 @@ use Rattle.nfs_xdr.specs.declared.time.Time.{Time}
 use Rattle.nfs_xdr.specs.declared.status.Status.TheVariants.{Inval}
 use Rattle.nfs_xdr.proofs.Lists.{find_in, in_filter, stays_in, in_push, push_in}
 use Rattle.nfs_xdr.proofs.Tables.{IsRising-filter, IsRising-push, IsRising-upto}
-use Rattle.nfs_compound.specs.LockArgs as args
+use Rattle.nfs_compound.specs.declared.lock_args.Lock as args
 use Rattle.nfs_compound.specs.Arguments.{arguments}
-use Rattle.nfs_compound.specs.OpenArgs.{Open}
+use Rattle.nfs_compound.specs.declared.open_args.Open.{Open}
 use Rattle.nfs_compound.specs.declared.op_num.OpNum.TheVariants as Num
 use Rattle.nfs_compound.specs.declared.stateid.Stateid.{Stateid}
 use Rattle.nfs_compound.specs.declared.lock_args.LockU.{LockU}
 use Rattle.nfs_compound.specs.declared.open_args.Close.{Close}
 use Rattle.nfs_compound.specs.declared.open_args.OpenDowngrade.{OpenDowngrade}
-use Rattle.nfs_compound.specs.Operation.{Op, Item, Operation, Fault, OpClose, OpCommit, OpFreeStateid, OpLock, OpLockT, OpLockU, OpOpen, OpOpenDowngrade, OpRead, OpSetAttr, OpTestStateid, OpWrite}
+use Rattle.nfs_compound.specs.declared.op.Op.{Op}
+use Rattle.nfs_compound.specs.declared.op.Item.{Item}
+use Rattle.nfs_compound.specs.declared.op.Item.TheVariants.{Operation, Fault}
 use Rattle.nfs_ranges.specs.Holders.{Holders, holding}
 use Rattle.nfs_ranges.specs.declared.Held.{Held}
 use Rattle.nfs_opens.specs.declared.share.Share.{Share}
@@ -56,7 +58,7 @@ use Rattle.nfs_files.specs.Commit.{commit}
 use Rattle.nfs_files.specs.FreeStateid.{free_stateid}
 use Rattle.nfs_files.specs.Lock as of_lock
 use Rattle.nfs_files.specs.LockT.{tested, lock_t}
-use Rattle.nfs_files.specs.LockU.{unlocked, lock_u}
+use Rattle.nfs_files.specs.LockU.{lock_u}
 use Rattle.nfs_files.specs.Open as of_open
 use Rattle.nfs_files.specs.OpenDowngrade.{bits, open_downgrade}
 use Rattle.nfs_files.specs.Ranges.{all_ones, range}
@@ -219,18 +221,18 @@ table_lock s x a is = by_lock (λ o. Is o.state) s x a (λ status. is) (λ h. is
 -- By the operation.
 table_one : (s : State) (x : Context) (now : Time) (op : Op) → IsTree s.tree → IsStore s → Is s → Is (one s x now op).state
 unfolding commit lock_t read set_attr test_stateid write
-table_one s x now (OpClose a) tree store is = table_close s x a is
-table_one s x now (OpCommit a) tree store is = found Is s x Num.Commit _ _ is (λ d e. is)
-table_one s x now (OpFreeStateid given) tree store is = table_free s x given is
-table_one s x now (OpLock a) tree store is = table_lock s x a is
-table_one s x now (OpLockT a) tree store is = found Is s x Num.LockT _ _ is (λ w e. tested_is s x (locking.test_lock s.opens a.owner.owner w) is)
-table_one s x now (OpLockU a) tree store is = table_lock_u s x a is
-table_one s x now (OpOpen a) tree store is = table_open s x now a tree store is
-table_one s x now (OpOpenDowngrade a) tree store is = table_downgrade s x a is
-table_one s x now (OpRead a) tree store is = found Is s x Num.Read _ _ is (λ d e. is)
-table_one s x now (OpSetAttr a) tree store is = found Is s x Num.SetAttr _ (was_set s x now a) is (λ m e. is)
-table_one s x now (OpTestStateid given) tree store is = is
-table_one s x now (OpWrite a) tree store is = found Is s x Num.Write _ (was_written s x now a) is (λ d e. is)
+table_one s x now (Op.Close a) tree store is = table_close s x a is
+table_one s x now (Op.Commit a) tree store is = found Is s x Num.Commit _ _ is (λ d e. is)
+table_one s x now (Op.FreeStateid given) tree store is = table_free s x given is
+table_one s x now (Op.Lock a) tree store is = table_lock s x a is
+table_one s x now (Op.LockT a) tree store is = found Is s x Num.LockT _ _ is (λ w e. tested_is s x (locking.test_lock s.opens a.owner.owner w) is)
+table_one s x now (Op.LockU a) tree store is = table_lock_u s x a is
+table_one s x now (Op.Open a) tree store is = table_open s x now a tree store is
+table_one s x now (Op.OpenDowngrade a) tree store is = table_downgrade s x a is
+table_one s x now (Op.Read a) tree store is = found Is s x Num.Read _ _ is (λ d e. is)
+table_one s x now (Op.SetAttr a) tree store is = found Is s x Num.SetAttr _ (was_set s x now a) is (λ m e. is)
+table_one s x now (Op.TestStateid given) tree store is = is
+table_one s x now (Op.Write a) tree store is = found Is s x Num.Write _ (was_written s x now a) is (λ d e. is)
 table_one s x now op tree store is = is
 
 pub table_item : (refused : Bool) (s : State) (x : Context) (now : Time) (i : Item) → IsTree s.tree → IsStore s → IsTable s.opens → IsTable (comes_to refused s x now i).state.opens

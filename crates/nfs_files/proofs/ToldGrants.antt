@@ -13,7 +13,8 @@ use Rattle.nfs_xdr.specs.declared.status.Status.{Status}
 use Rattle.nfs_xdr.specs.declared.status.Status.TheVariants.{Nfs4Ok, Delay}
 use Rattle.nfs_xdr.proofs.Lists.{find_in, in_map, in_push}
 use Rattle.nfs_xdr.proofs.Tables.{in_bounds, in_once}
-use Rattle.nfs_compound.specs.LockArgs as args
+use Rattle.nfs_compound.specs.declared.lock_args.Lock.{Lock}
+use Rattle.nfs_compound.specs.declared.lock_args.Locker.{Locker}
 use Rattle.nfs_compound.specs.Stateid.{stateid}
 use Rattle.nfs_compound.specs.declared.lock_args.LockU.{LockU}
 use Rattle.nfs_compound.specs.declared.lock_args.LockType.{LockType}
@@ -21,9 +22,9 @@ use Rattle.nfs_compound.specs.declared.open_args.Close.{Close}
 use Rattle.nfs_compound.specs.declared.op_num.OpNum.{OpNum}
 use Rattle.nfs_compound.specs.declared.op_num.OpNum.TheVariants as Num
 use Rattle.nfs_compound.specs.OpNum.{op_number}
-use Rattle.nfs_compound.specs.Operation.{OpLock, OpLockU, OpClose}
-use Rattle.nfs_results.specs.Result as result
-use Rattle.nfs_results.specs.Result.{Res, Refused, ResLock, ResLockDenied, ResLockU, ResClose}
+use Rattle.nfs_compound.specs.declared.op.Op.TheVariants as Op
+use Rattle.nfs_results.specs.declared.res.Denied as result
+use Rattle.nfs_results.specs.declared.res.Res.{Res}
 use Rattle.nfs_results.specs.Results.{spell_result, refusal, done_head}
 use Rattle.nfs_results.proofs.Lengths.{length_head, length_spelled}
 use Rattle.nfs_opens.specs.declared.stateid.StateId.{StateId}
@@ -67,11 +68,11 @@ use Rattle.nfs_files.proofs.Steady.{Few}
 abbrev id_text : StateId → List ℕ
 id_text k = number k.seqid ++ (number k.instance ++ hyper k.number)
 
-lock_spelled : (k : StateId) → spell_result (ResLock (wire_id k)) ≡ done_head Num.Lock ++ id_text k
+lock_spelled : (k : StateId) → spell_result (Res.Lock (wire_id k)) ≡ done_head Num.Lock ++ id_text k
 unfolding number hyper stateid
 lock_spelled k = refl
 
-unlock_spelled : (k : StateId) → spell_result (ResLockU (wire_id k)) ≡ done_head Num.LockU ++ id_text k
+unlock_spelled : (k : StateId) → spell_result (Res.LockU (wire_id k)) ≡ done_head Num.LockU ++ id_text k
 unfolding number hyper stateid
 unlock_spelled k = refl
 
@@ -93,9 +94,9 @@ named_text op text k n is small names =
     sym (drop_at (done_head op) (id_text k) 8 head) ∙ (ap (drop 8) (sym is ∙ names.answers) ∙ drop_at (done_head op) names.id 8 head) in
     sym (text_number k small) ∙ (ap (λ (id : List ℕ). from_be_bytes w64 (drop 8 id)) same ∙ names.number)
 
-spent_named : Names Num.Close (spell_result (ResClose spent)) 0
+spent_named : Names Num.Close (spell_result (Res.Close spent)) 0
 unfolding number hyper stateid
-spent_named = record { id = drop 8 (spell_result (ResClose spent)); answers = refl; long = refl; number = refl }
+spent_named = record { id = drop 8 (spell_result (Res.Close spent)); answers = refl; long = refl; number = refl }
 
 -- What is refused names nothing: it is too short, or says another status.
 
@@ -107,15 +108,15 @@ short_names op n r m short names =
     let long = names.long in absurd (omega arith)
 
 pub lock_refused : (status : Status) (m : ℕ) → Names Num.Lock (spell_result (refusal (op_number Num.Lock) status)) m → ⊥
-lock_refused status m names = short_names Num.Lock 12 (Refused (op_number Num.Lock) status) m (length_spelled (Refused (op_number Num.Lock) status)) names
+lock_refused status m names = short_names Num.Lock 12 (Res.Refused (op_number Num.Lock) status) m (length_spelled (Res.Refused (op_number Num.Lock) status)) names
 
 unlock_refused : (status : Status) (m : ℕ) → Names Num.LockU (spell_result (refusal (op_number Num.LockU) status)) m → ⊥
-unlock_refused status m names = short_names Num.LockU 14 (Refused (op_number Num.LockU) status) m (length_spelled (Refused (op_number Num.LockU) status)) names
+unlock_refused status m names = short_names Num.LockU 14 (Res.Refused (op_number Num.LockU) status) m (length_spelled (Res.Refused (op_number Num.LockU) status)) names
 
 close_refused : (status : Status) (m : ℕ) → Names Num.Close (spell_result (refusal (op_number Num.Close) status)) m → ⊥
-close_refused status m names = short_names Num.Close 4 (Refused (op_number Num.Close) status) m (length_spelled (Refused (op_number Num.Close) status)) names
+close_refused status m names = short_names Num.Close 4 (Res.Refused (op_number Num.Close) status) m (length_spelled (Res.Refused (op_number Num.Close) status)) names
 
-denied_names : (d : result.Denied) (m : ℕ) → Names Num.Lock (spell_result (ResLockDenied d)) m → ⊥
+denied_names : (d : result.Denied) (m : ℕ) → Names Num.Lock (spell_result (Res.LockDenied d)) m → ⊥
 unfolding number
 denied_names d m names = let bad : ◌≡◌ {A = ℕ} 39 0 = ap (λ (text : List ℕ). get_or text 6 0) names.answers in absurd (omega arith)
 
@@ -179,7 +180,7 @@ locked_clients t w did table few (inr first) =
       ];
     }
 
-pub lock_clients : (t : Table) (who : args.Locker) (id : StateId) (w : Wish) (did : StateId × Table) → IsTable t → Few t → of_lock.locks_as t who id w ≡ Ok did
+pub lock_clients : (t : Table) (who : Locker) (id : StateId) (w : Wish) (did : StateId × Table) → IsTable t → Few t → of_lock.locks_as t who id w ≡ Ok did
     → IsClients t w did
 lock_clients t who id w did table few granted = locked_clients t w did table few (lock_is t who id w did granted)
 
@@ -195,8 +196,8 @@ unfolding wished
 wished_client s x how offset size w e =
     let d = came (the_file s x) _ w e in wish_client x how offset d.found.number (range offset size) w d.then
 
-lock_result : (s : State) (x : Context) (now : Time) (a : args.Lock) (m : Wished) (did : StateId × Table) → of_lock.locking s x a ≡ Ok m
-    → of_lock.locks_as s.opens a.locker m.id m.wish ≡ Ok did → (one s x now (OpLock a)).result ≡ ResLock (wire_id did.0)
+lock_result : (s : State) (x : Context) (now : Time) (a : Lock) (m : Wished) (did : StateId × Table) → of_lock.locking s x a ≡ Ok m
+    → of_lock.locks_as s.opens a.locker m.id m.wish ≡ Ok did → (one s x now (Op.Lock a)).result ≡ Res.Lock (wire_id did.0)
 unfolding of_lock.lock
 lock_result s x now a m did judged granted = ap (λ v. (answers s x Num.Lock v (of_lock.locks s x a.locker)).result) judged
     ∙ ap (λ v. (of_lock.locked s x v).result) granted
@@ -206,54 +207,54 @@ pub record IsTold (op : OpNum) (s : State) (x : Context) (how : LockType) (offse
   pub names : Names op text n
 
 -- a LOCK that is granted and answers NFS4_OK tells so
-pub lock_tells : (s : State) (x : Context) (now : Time) (refused : Bool) (a : args.Lock) (n : ℕ) (w : Wish) → IsTable s.opens → Few s.opens
-    → Locks s x (OpLock a) n w → is_ok (one_or_delay refused s x now (OpLock a)).result ≡ true
-    → IsTold Num.Lock s x a.locktype a.offset a.length (spell_result (one_or_delay refused s x now (OpLock a)).result) n w
+pub lock_tells : (s : State) (x : Context) (now : Time) (refused : Bool) (a : Lock) (n : ℕ) (w : Wish) → IsTable s.opens → Few s.opens
+    → Locks s x (Op.Lock a) n w → is_ok (one_or_delay refused s x now (Op.Lock a)).result ≡ true
+    → IsTold Num.Lock s x a.locktype a.offset a.length (spell_result (one_or_delay refused s x now (Op.Lock a)).result) n w
 lock_tells s x now refused a n w table few locks ok =
-    let op : OpLock a ≡ OpLock locks.asked = locks.is in
+    let op : Op.Lock a ≡ Op.Lock locks.asked = locks.is in
     let same : a ≡ locks.asked = cc in
     let m : Wished = record { wish = w; id = locks.id } in
     let judged : of_lock.locking s x a ≡ Ok m = subst (λ a. of_lock.locking s x a ≡ Ok m) (sym same) locks.judged in
     let granted : of_lock.locks_as s.opens a.locker m.id m.wish ≡ Ok locks.did =
-    subst (λ (a : args.Lock). of_lock.locks_as s.opens a.locker m.id m.wish ≡ Ok locks.did) (sym same) locks.granted in
+    subst (λ (a : Lock). of_lock.locks_as s.opens a.locker m.id m.wish ≡ Ok locks.did) (sym same) locks.granted in
     let small = (lock_clients s.opens a.locker locks.id w locks.did table few granted).small in
-    let r : (one_or_delay refused s x now (OpLock a)).result ≡ ResLock (wire_id locks.did.0) =
-    ok_same (grows s x (OpLock a) && refused) s x Num.Lock (one s x now (OpLock a)) refl ok ∙ lock_result s x now a m locks.did judged granted in
+    let r : (one_or_delay refused s x now (Op.Lock a)).result ≡ Res.Lock (wire_id locks.did.0) =
+    ok_same (grows s x (Op.Lock a) && refused) s x Num.Lock (one s x now (Op.Lock a)) refl ok ∙ lock_result s x now a m locks.did judged granted in
     record {
       wish = reclaim_parts x a (wished s x a.locktype a.offset a.length) (of_lock.stateid_in a.locker) m judged;
-      names = subst (Names Num.Lock (spell_result (one_or_delay refused s x now (OpLock a)).result)) locks.state
+      names = subst (Names Num.Lock (spell_result (one_or_delay refused s x now (Op.Lock a)).result)) locks.state
           (names_text Num.Lock _ locks.did.0 (ap spell_result r ∙ lock_spelled locks.did.0) small);
     }
 
 -- and a LOCK that tells so is granted
-pub lock_grants_told : (s : State) (x : Context) (now : Time) (refused : Bool) (a : args.Lock) (n : ℕ) (w : Wish) → IsTable s.opens → Few s.opens
-    → wished s x a.locktype a.offset a.length ≡ Ok w → Names Num.Lock (spell_result (one_or_delay refused s x now (OpLock a)).result) n
-    → Locks s x (OpLock a) n w
+pub lock_grants_told : (s : State) (x : Context) (now : Time) (refused : Bool) (a : Lock) (n : ℕ) (w : Wish) → IsTable s.opens → Few s.opens
+    → wished s x a.locktype a.offset a.length ≡ Ok w → Names Num.Lock (spell_result (one_or_delay refused s x now (Op.Lock a)).result) n
+    → Locks s x (Op.Lock a) n w
 unfolding of_lock.lock
 lock_grants_told s x now refused a n w table few wish names =
     by_judged (of_lock.locking s x a) refl
-    (undelayed Num.Lock (grows s x (OpLock a) && refused) s x (one s x now (OpLock a)) n (lock_refused Delay n) names)
+    (undelayed Num.Lock (grows s x (Op.Lock a) && refused) s x (one s x now (Op.Lock a)) n (lock_refused Delay n) names)
   where
     by_answer : (m : Wished) → of_lock.locking s x a ≡ Ok m → (v : Result (StateId × Table) OpenFault) → of_lock.locks_as s.opens a.locker m.id m.wish ≡ v
-        → Names Num.Lock (spell_result (of_lock.locked s x v).result) n → Locks s x (OpLock a) n w
+        → Names Num.Lock (spell_result (of_lock.locked s x v).result) n → Locks s x (Op.Lock a) n w
     by_answer m judged (Ok did) granted told =
         let same : m.wish ≡ w = ok_is (reclaim_parts x a (wished s x a.locktype a.offset a.length) (of_lock.stateid_in a.locker) m judged) wish in
         let small = (lock_clients s.opens a.locker m.id m.wish did table few granted).small in
-        subst (Locks s x (OpLock a) n) same (record {
+        subst (Locks s x (Op.Lock a) n) same (record {
           asked = a;
           id = m.id;
           did = did;
           is = refl;
           judged = judged;
           granted = granted;
-          state = named_text Num.Lock (spell_result (ResLock (wire_id did.0))) did.0 n (lock_spelled did.0) small told;
+          state = named_text Num.Lock (spell_result (Res.Lock (wire_id did.0))) did.0 n (lock_spelled did.0) small told;
         })
     by_answer m judged (Err (F.Refused status)) granted told = absurd (lock_refused status n told)
     by_answer m judged (Err (F.Denied h)) granted told = absurd (denied_names _ n told)
     by_answer m judged (Err F.Memory) granted told = absurd (lock_refused Delay n told)
 
     by_judged : (v : Result Wished Status) → of_lock.locking s x a ≡ v
-        → Names Num.Lock (spell_result (answers s x Num.Lock v (of_lock.locks s x a.locker)).result) n → Locks s x (OpLock a) n w
+        → Names Num.Lock (spell_result (answers s x Num.Lock v (of_lock.locks s x a.locker)).result) n → Locks s x (Op.Lock a) n w
     by_judged (Err status) judged told = absurd (lock_refused status n told)
     by_judged (Ok m) judged told = by_answer m judged (of_lock.locks_as s.opens a.locker m.id m.wish) refl told
 
@@ -273,35 +274,35 @@ unlock_wish x a (Err status) m e = absurd cc
 unlock_wish x a (Ok w) m e = ap Ok (id_parts m (λ (k : Wished). k.wish) _ w (λ id. refl) (meant x Any a.lock_stateid) e)
 
 unlock_result : (s : State) (x : Context) (now : Time) (a : LockU) (m : Wished) (did : StateId × Table) → unlocking s x a ≡ Ok m
-    → locking.unlock s.opens m.id m.wish.client m.wish.file m.wish.first m.wish.last ≡ Ok did → (one s x now (OpLockU a)).result ≡ ResLockU (wire_id did.0)
+    → locking.unlock s.opens m.id m.wish.client m.wish.file m.wish.first m.wish.last ≡ Ok did → (one s x now (Op.LockU a)).result ≡ Res.LockU (wire_id did.0)
 unfolding lock_u
 unlock_result s x now a m did judged granted = ap (λ v. (answers s x Num.LockU v (unlocks s x)).result) judged
     ∙ ap (λ v. (unlocked_by s x v).result) granted
 
 pub unlock_tells : (s : State) (x : Context) (now : Time) (refused : Bool) (a : LockU) (n : ℕ) (w : Wish) → IsTable s.opens → Few s.opens
-    → Unlocks s x (OpLockU a) n w → is_ok (one_or_delay refused s x now (OpLockU a)).result ≡ true
-    → IsTold Num.LockU s x a.locktype a.offset a.length (spell_result (one_or_delay refused s x now (OpLockU a)).result) n w
+    → Unlocks s x (Op.LockU a) n w → is_ok (one_or_delay refused s x now (Op.LockU a)).result ≡ true
+    → IsTold Num.LockU s x a.locktype a.offset a.length (spell_result (one_or_delay refused s x now (Op.LockU a)).result) n w
 unlock_tells s x now refused a n w table few unlocks ok =
-    let op : OpLockU a ≡ OpLockU unlocks.asked = unlocks.is in
+    let op : Op.LockU a ≡ Op.LockU unlocks.asked = unlocks.is in
     let same : a ≡ unlocks.asked = cc in
     let m : Wished = record { wish = w; id = unlocks.id } in
     let judged : unlocking s x a ≡ Ok m = subst (λ a. unlocking s x a ≡ Ok m) (sym same) unlocks.judged in
     let id = unlocked_id s.opens m.id w.client w.file w.first w.last unlocks.did table few
     (unlocked_is s.opens m.id w.client w.file w.first w.last unlocks.did unlocks.granted) in
-    let r : (one_or_delay refused s x now (OpLockU a)).result ≡ ResLockU (wire_id unlocks.did.0) =
-    ok_same (grows s x (OpLockU a) && refused) s x Num.LockU (one s x now (OpLockU a)) refl ok ∙ unlock_result s x now a m unlocks.did judged unlocks.granted in
+    let r : (one_or_delay refused s x now (Op.LockU a)).result ≡ Res.LockU (wire_id unlocks.did.0) =
+    ok_same (grows s x (Op.LockU a) && refused) s x Num.LockU (one s x now (Op.LockU a)) refl ok ∙ unlock_result s x now a m unlocks.did judged unlocks.granted in
     let number = id.0 in
     let low = id.1 in
     record {
       wish = unlock_wish x a (wished s x a.locktype a.offset a.length) m judged;
-      names = subst (Names Num.LockU (spell_result (one_or_delay refused s x now (OpLockU a)).result)) (number ∙ unlocks.state)
+      names = subst (Names Num.LockU (spell_result (one_or_delay refused s x now (Op.LockU a)).result)) (number ∙ unlocks.state)
           (names_text Num.LockU _ unlocks.did.0 (ap spell_result r ∙ unlock_spelled unlocks.did.0) (omega arith));
     }
 
 -- CLOSE
 
 close_result : (s : State) (x : Context) (now : Time) (a : Close) (t : Target) (did : _) → target s x Own a.open_stateid ≡ Ok t
-    → closing.close s.opens t.id x.client t.file ≡ Ok did → (one s x now (OpClose a)).result ≡ ResClose spent
+    → closing.close s.opens t.id x.client t.file ≡ Ok did → (one s x now (Op.Close a)).result ≡ Res.Close spent
 unfolding close
 close_result s x now a t did judged granted = ap (λ v. (answers s x Num.Close v (closes s x)).result) judged
     ∙ ap (λ v. (answers s x Num.Close v (λ did. closed s x t.file did.1)).result) granted
@@ -321,16 +322,16 @@ pub record IsToldClosed (x : Context) (a : Close) (text : List ℕ) (n : ℕ) : 
   pub opened : id.number ≡ n
   pub names : Names Num.Close text 0
 
-pub close_tells : (s : State) (x : Context) (now : Time) (refused : Bool) (a : Close) (n : ℕ) → Closes s x (OpClose a) n
-    → is_ok (one_or_delay refused s x now (OpClose a)).result ≡ true
-    → IsToldClosed x a (spell_result (one_or_delay refused s x now (OpClose a)).result) n
+pub close_tells : (s : State) (x : Context) (now : Time) (refused : Bool) (a : Close) (n : ℕ) → Closes s x (Op.Close a) n
+    → is_ok (one_or_delay refused s x now (Op.Close a)).result ≡ true
+    → IsToldClosed x a (spell_result (one_or_delay refused s x now (Op.Close a)).result) n
 close_tells s x now refused a n closes ok =
-    let op : OpClose a ≡ OpClose closes.asked = closes.is in
+    let op : Op.Close a ≡ Op.Close closes.asked = closes.is in
     let same : a ≡ closes.asked = cc in
     let t : Target = record { file = closes.file; id = closes.id } in
     let judged : target s x Own a.open_stateid ≡ Ok t = subst (λ (a : Close). target s x Own a.open_stateid ≡ Ok t) (sym same) closes.judged in
-    let r : (one_or_delay refused s x now (OpClose a)).result ≡ ResClose spent =
-    ok_same (grows s x (OpClose a) && refused) s x Num.Close (one s x now (OpClose a)) refl ok ∙ close_result s x now a t closes.did judged closes.granted in
+    let r : (one_or_delay refused s x now (Op.Close a)).result ≡ Res.Close spent =
+    ok_same (grows s x (Op.Close a) && refused) s x Num.Close (one s x now (Op.Close a)) refl ok ∙ close_result s x now a t closes.did judged closes.granted in
     record {
       id = closes.id;
       meant = target_meant s x a t judged;
@@ -342,35 +343,35 @@ close_tells s x now refused a n closes ok =
 
 pub clashes_refused : ClashesAreRefused
 clashes_refused k s x now refused a n w table few some stands wish names clash =
-    clashing k s x (OpLock a) n w table some stands (lock_grants_told s x now refused a n w table few wish names) clash
+    clashing k s x (Op.Lock a) n w table some stands (lock_grants_told s x now refused a n w table few wish names) clash
 
-told_ok : (s : State) (x : Context) (now : Time) (refused : Bool) (a : args.Lock) (n : ℕ) → Names Num.Lock (spell_result (one_or_delay refused s x now (OpLock a)).result) n
-    → (one_or_delay refused s x now (OpLock a)).result ≡ (one s x now (OpLock a)).result
-told_ok s x now refused a n names = elim (delay_or_not (grows s x (OpLock a) && refused) s x Num.Lock (one s x now (OpLock a))) [
+told_ok : (s : State) (x : Context) (now : Time) (refused : Bool) (a : Lock) (n : ℕ) → Names Num.Lock (spell_result (one_or_delay refused s x now (Op.Lock a)).result) n
+    → (one_or_delay refused s x now (Op.Lock a)).result ≡ (one s x now (Op.Lock a)).result
+told_ok s x now refused a n names = elim (delay_or_not (grows s x (Op.Lock a) && refused) s x Num.Lock (one s x now (Op.Lock a))) [
   | inl delayed ↦ absurd (lock_refused Delay n (subst (λ r. Names Num.Lock (spell_result r) n) delayed names))
   | inr same ↦ same
 ]
 
 -- what a LOCK that tells so did
-pub record IsDone (s : State) (x : Context) (now : Time) (refused : Bool) (a : args.Lock) (n : ℕ) (w : Wish) : Type 0 where
+pub record IsDone (s : State) (x : Context) (now : Time) (refused : Bool) (a : Lock) (n : ℕ) (w : Wish) : Type 0 where
   pub id : StateId
   pub did : StateId × Table
   pub granted : of_lock.locks_as s.opens a.locker id w ≡ Ok did
   pub number : did.0.number ≡ n
-  pub ok : is_ok (one_or_delay refused s x now (OpLock a)).result ≡ true
-  pub left : (one_or_delay refused s x now (OpLock a)).state.opens ≡ did.1
+  pub ok : is_ok (one_or_delay refused s x now (Op.Lock a)).result ≡ true
+  pub left : (one_or_delay refused s x now (Op.Lock a)).state.opens ≡ did.1
 
-told_done : (s : State) (x : Context) (now : Time) (refused : Bool) (a : args.Lock) (n : ℕ) (w : Wish) → IsTable s.opens → Few s.opens
-    → wished s x a.locktype a.offset a.length ≡ Ok w → Names Num.Lock (spell_result (one_or_delay refused s x now (OpLock a)).result) n
+told_done : (s : State) (x : Context) (now : Time) (refused : Bool) (a : Lock) (n : ℕ) (w : Wish) → IsTable s.opens → Few s.opens
+    → wished s x a.locktype a.offset a.length ≡ Ok w → Names Num.Lock (spell_result (one_or_delay refused s x now (Op.Lock a)).result) n
     → IsDone s x now refused a n w
 told_done s x now refused a n w table few wish names =
     let locks = lock_grants_told s x now refused a n w table few wish names in
-    let op : OpLock a ≡ OpLock locks.asked = locks.is in
+    let op : Op.Lock a ≡ Op.Lock locks.asked = locks.is in
     let same : a ≡ locks.asked = cc in
     let m : Wished = record { wish = w; id = locks.id } in
     let judged : of_lock.locking s x a ≡ Ok m = subst (λ a. of_lock.locking s x a ≡ Ok m) (sym same) locks.judged in
     let granted : of_lock.locks_as s.opens a.locker locks.id w ≡ Ok locks.did =
-    subst (λ (a : args.Lock). of_lock.locks_as s.opens a.locker locks.id w ≡ Ok locks.did) (sym same) locks.granted in
+    subst (λ (a : Lock). of_lock.locks_as s.opens a.locker locks.id w ≡ Ok locks.did) (sym same) locks.granted in
     let ok = ap is_ok (told_ok s x now refused a n names) ∙ lock_ok s x now a m locks.did judged granted in
     record {
       id = locks.id;
@@ -381,15 +382,15 @@ told_done s x now refused a n w table few wish names =
       left = left_by s x now refused a m locks.did judged granted ok;
     }
 
-pub told_is_ok : (s : State) (x : Context) (now : Time) (refused : Bool) (a : args.Lock) (n : ℕ) (w : Wish) → IsTable s.opens → Few s.opens
-    → wished s x a.locktype a.offset a.length ≡ Ok w → Names Num.Lock (spell_result (one_or_delay refused s x now (OpLock a)).result) n
-    → is_ok (one_or_delay refused s x now (OpLock a)).result ≡ true
+pub told_is_ok : (s : State) (x : Context) (now : Time) (refused : Bool) (a : Lock) (n : ℕ) (w : Wish) → IsTable s.opens → Few s.opens
+    → wished s x a.locktype a.offset a.length ≡ Ok w → Names Num.Lock (spell_result (one_or_delay refused s x now (Op.Lock a)).result) n
+    → is_ok (one_or_delay refused s x now (Op.Lock a)).result ≡ true
 told_is_ok s x now refused a n w table few wish names = (told_done s x now refused a n w table few wish names).ok
 
 -- the lock state is the client's
-pub told_client : (s : State) (x : Context) (now : Time) (refused : Bool) (a : args.Lock) (n : ℕ) (w : Wish) → IsTable s.opens → Few s.opens
-    → wished s x a.locktype a.offset a.length ≡ Ok w → Names Num.Lock (spell_result (one_or_delay refused s x now (OpLock a)).result) n
-    → (l : LockState) → In l (one_or_delay refused s x now (OpLock a)).state.opens.locks → l.number ≡ n → l.client ≡ x.client
+pub told_client : (s : State) (x : Context) (now : Time) (refused : Bool) (a : Lock) (n : ℕ) (w : Wish) → IsTable s.opens → Few s.opens
+    → wished s x a.locktype a.offset a.length ≡ Ok w → Names Num.Lock (spell_result (one_or_delay refused s x now (Op.Lock a)).result) n
+    → (l : LockState) → In l (one_or_delay refused s x now (Op.Lock a)).state.opens.locks → l.number ≡ n → l.client ≡ x.client
 told_client s x now refused a n w table few wish names l there number =
     let done = told_done s x now refused a n w table few wish names in
     (lock_clients s.opens a.locker done.id w done.did table few done.granted).client l (subst (λ (t : Table). In l t.locks) done.left there)

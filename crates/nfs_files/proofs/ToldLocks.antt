@@ -4,10 +4,10 @@ use Rattle.std.specs.Prelude.{◌==◌, ◌&&◌, Ok}
 use Rattle.std.proofs.lemmas.Bool.{eq-eqb, eqb-true}
 use Rattle.nfs_xdr.specs.declared.time.Time.{Time}
 use Rattle.nfs_xdr.proofs.Lists.{find_in}
-use Rattle.nfs_compound.specs.LockArgs as args
+use Rattle.nfs_compound.specs.declared.lock_args.Lock as args
 use Rattle.nfs_compound.specs.Arguments.{arguments}
 use Rattle.nfs_compound.specs.declared.op_num.OpNum.TheVariants as Num
-use Rattle.nfs_compound.specs.Operation.{OpLock}
+use Rattle.nfs_compound.specs.declared.op.Op.TheVariants as Op
 use Rattle.nfs_ranges.specs.declared.Kind.{Kind}
 use Rattle.nfs_ranges.specs.Holders.{holding, is_within}
 use Rattle.nfs_ranges.proofs.CanonicalLemmas.{within_is}
@@ -47,19 +47,19 @@ granted_held k t w did (inr first) number file kind from to b lo hi =
     ∙ ap Some (sym kind)
 
 lock_left : (s : State) (x : Context) (now : Time) (a : args.Lock) (m : _) (did : _) → of_lock.locking s x a ≡ Ok m
-    → of_lock.locks_as s.opens a.locker m.id m.wish ≡ Ok did → (one s x now (OpLock a)).state.opens ≡ did.1
+    → of_lock.locks_as s.opens a.locker m.id m.wish ≡ Ok did → (one s x now (Op.Lock a)).state.opens ≡ did.1
 unfolding of_lock.lock
 lock_left s x now a m did judged granted = ap (λ v. (answers s x Num.Lock v (of_lock.locks s x a.locker)).state.opens) judged
     ∙ ap (λ v. (of_lock.locked s x v).state.opens) granted
 
 -- a LOCK that is granted and not delayed leaves what it does to the opens
 pub left_by : (s : State) (x : Context) (now : Time) (refused : Bool) (a : args.Lock) (m : _) (did : _) → of_lock.locking s x a ≡ Ok m
-    → of_lock.locks_as s.opens a.locker m.id m.wish ≡ Ok did → is_ok (one_or_delay refused s x now (OpLock a)).result ≡ true
-    → (one_or_delay refused s x now (OpLock a)).state.opens ≡ did.1
-left_by s x now refused a m did judged granted ok = go (grows s x (OpLock a) && refused) ok
+    → of_lock.locks_as s.opens a.locker m.id m.wish ≡ Ok did → is_ok (one_or_delay refused s x now (Op.Lock a)).result ≡ true
+    → (one_or_delay refused s x now (Op.Lock a)).state.opens ≡ did.1
+left_by s x now refused a m did judged granted ok = go (grows s x (Op.Lock a) && refused) ok
   where
-    go : (b : Bool) → is_ok (or_delay b s x (arguments (OpLock a)).op (one s x now (OpLock a))).result ≡ true
-        → (or_delay b s x (arguments (OpLock a)).op (one s x now (OpLock a))).state.opens ≡ did.1
+    go : (b : Bool) → is_ok (or_delay b s x (arguments (Op.Lock a)).op (one s x now (Op.Lock a))).result ≡ true
+        → (or_delay b s x (arguments (Op.Lock a)).op (one s x now (Op.Lock a))).state.opens ≡ did.1
     go false ok = lock_left s x now a m did judged granted
     go true ok = absurd (let bad = (rw (lock_ok s x now a m did judged granted) at ok) in cc)
 

@@ -15,8 +15,10 @@ use Rattle.nfs_xdr.proofs.Checks.{all_passed}
 use Rattle.nfs_xdr.proofs.Lists.{find_in, none_any, map_in, push_in, last_in, stays_in, find_push_none}
 use Rattle.nfs_xdr.proofs.Tables.{in_bounds}
 use Rattle.nfs_compound.specs.Arguments.{arguments}
-use Rattle.nfs_compound.specs.LockArgs as args
-use Rattle.nfs_compound.specs.OpenArgs.{Open, OpenClaim, Null, Fh}
+use Rattle.nfs_compound.specs.declared.lock_args.Lock as args
+use Rattle.nfs_compound.specs.declared.open_args.Open.{Open}
+use Rattle.nfs_compound.specs.declared.open_args.OpenClaim.{OpenClaim}
+use Rattle.nfs_compound.specs.declared.open_args.OpenClaim.TheVariants.{Null, Fh}
 use Rattle.nfs_compound.specs.Stateid.{stateid}
 use Rattle.nfs_compound.specs.declared.op_num.OpNum.{OpNum}
 use Rattle.nfs_compound.specs.declared.op_num.OpNum.TheVariants as Num
@@ -25,11 +27,11 @@ use Rattle.nfs_compound.specs.declared.stateid.Stateid.{Stateid}
 use Rattle.nfs_compound.specs.declared.lock_args.LockU.{LockU}
 use Rattle.nfs_compound.specs.declared.open_args.Close.{Close}
 use Rattle.nfs_compound.specs.declared.open_args.OpenDowngrade.{OpenDowngrade}
-use Rattle.nfs_compound.specs.Operation.{Op, Operation, OpClose, OpCommit, OpFreeStateid, OpLock, OpLockT, OpLockU, OpOpen, OpOpenDowngrade}
-use Rattle.nfs_compound.specs.Operation.{OpRead, OpSetAttr, OpTestStateid, OpWrite}
+use Rattle.nfs_compound.specs.declared.op.Op.{Op}
+use Rattle.nfs_compound.specs.declared.op.Item.TheVariants.{Operation}
 use Rattle.nfs_results.specs.declared.res.ChangeInfo.{ChangeInfo}
 use Rattle.nfs_results.specs.Items.{open_ok}
-use Rattle.nfs_results.specs.Result.{Refused, ResOpen, ResOpenDowngrade}
+use Rattle.nfs_results.specs.declared.res.Res.TheVariants as Res
 use Rattle.nfs_results.specs.Results.{spell_result, done_head}
 use Rattle.nfs_results.proofs.Lengths.{length_spelled}
 use Rattle.nfs_ranges.specs.declared.Held.{Held}
@@ -68,7 +70,7 @@ use Rattle.nfs_files.specs.declared.opening.Found.TheVariants.{There, Absent}
 use Rattle.nfs_files.specs.StateIds.{wire_id}
 use Rattle.nfs_files.specs.Operation.{grows}
 use Rattle.nfs_files.proofs.Outcomes.{one, one_or_delay}
-use Rattle.nfs_files.specs.Close.{closes, close}
+use Rattle.nfs_files.specs.Close.{close}
 use Rattle.nfs_files.specs.Commit.{commit}
 use Rattle.nfs_files.specs.FreeStateid.{free_stateid}
 use Rattle.nfs_files.specs.Lock as of_lock
@@ -76,7 +78,7 @@ use Rattle.nfs_files.specs.LockT.{tested, lock_t}
 use Rattle.nfs_files.specs.LockU.{lock_u}
 use Rattle.nfs_files.specs.Open as of_open
 use Rattle.nfs_files.specs.Open.{access_of, deny_of}
-use Rattle.nfs_files.specs.OpenDowngrade.{bits, narrowed, narrows, open_downgrade}
+use Rattle.nfs_files.specs.OpenDowngrade.{bits, narrowed, open_downgrade}
 use Rattle.nfs_files.specs.Read.{read}
 use Rattle.nfs_files.specs.SetAttr.{was_set, set_attr}
 use Rattle.nfs_files.specs.TestStateid.{test_stateid}
@@ -113,30 +115,30 @@ tested_alike s x None = refl
 tested_alike s x (Some h) = refl
 
 abbrev moves_bits : Op → Bool
-moves_bits (OpClose a) = true
-moves_bits (OpOpen a) = true
-moves_bits (OpOpenDowngrade a) = true
+moves_bits (Op.Close a) = true
+moves_bits (Op.Open a) = true
+moves_bits (Op.OpenDowngrade a) = true
 moves_bits op = false
 
 one_alike : (s : State) (x : Context) (now : Time) (op : Op) → moves_bits op ≡ false → Alike s (one s x now op).state
 unfolding commit lock_t read set_attr test_stateid write
-one_alike s x now (OpClose a) e = absurd (true≢false e)
-one_alike s x now (OpOpen a) e = absurd (true≢false e)
-one_alike s x now (OpOpenDowngrade a) e = absurd (true≢false e)
-one_alike s x now (OpCommit a) e = found (Alike s) s x Num.Commit _ _ refl (λ d e. refl)
-one_alike s x now (OpFreeStateid given) e = free_alike s x given
-one_alike s x now (OpLock a) e = lock_alike s x a
-one_alike s x now (OpLockT a) e = found (Alike s) s x Num.LockT _ _ refl (λ w e. tested_alike s x (locking.test_lock s.opens a.owner.owner w))
-one_alike s x now (OpLockU a) e = lock_u_alike s x a
-one_alike s x now (OpRead a) e = found (Alike s) s x Num.Read _ _ refl (λ d e. refl)
-one_alike s x now (OpSetAttr a) e = found (Alike s) s x Num.SetAttr _ (was_set s x now a) refl (λ m e. refl)
-one_alike s x now (OpTestStateid given) e = refl
-one_alike s x now (OpWrite a) e = found (Alike s) s x Num.Write _ (was_written s x now a) refl (λ d e. refl)
+one_alike s x now (Op.Close a) e = absurd (true≢false e)
+one_alike s x now (Op.Open a) e = absurd (true≢false e)
+one_alike s x now (Op.OpenDowngrade a) e = absurd (true≢false e)
+one_alike s x now (Op.Commit a) e = found (Alike s) s x Num.Commit _ _ refl (λ d e. refl)
+one_alike s x now (Op.FreeStateid given) e = free_alike s x given
+one_alike s x now (Op.Lock a) e = lock_alike s x a
+one_alike s x now (Op.LockT a) e = found (Alike s) s x Num.LockT _ _ refl (λ w e. tested_alike s x (locking.test_lock s.opens a.owner.owner w))
+one_alike s x now (Op.LockU a) e = lock_u_alike s x a
+one_alike s x now (Op.Read a) e = found (Alike s) s x Num.Read _ _ refl (λ d e. refl)
+one_alike s x now (Op.SetAttr a) e = found (Alike s) s x Num.SetAttr _ (was_set s x now a) refl (λ m e. refl)
+one_alike s x now (Op.TestStateid given) e = refl
+one_alike s x now (Op.Write a) e = found (Alike s) s x Num.Write _ (was_written s x now a) refl (λ d e. refl)
 one_alike s x now op e = refl
 
 other_bits : (n : ℕ) (op : Op) (text : List ℕ) (b : Bits) → moves_bits op ≡ false → bits_behind n (Operation op) text b ≡ b
-other_bits n (OpOpen a) text b e = absurd (true≢false e)
-other_bits n (OpOpenDowngrade a) text b e = absurd (true≢false e)
+other_bits n (Op.Open a) text b e = absurd (true≢false e)
+other_bits n (Op.OpenDowngrade a) text b e = absurd (true≢false e)
 other_bits n op text b e = refl
 
 pub same_opens : (k : OpenTold) (b : Bits) (t u : Table) → u.opens ≡ t.opens → IsOpenWith k b t → IsOpenWith k b u
@@ -153,11 +155,11 @@ same_opens k b t u same is = record {
 
 -- The stateid in a result.
 
-pub short_names_none : (op : OpNum) (operation : ℕ) (status : Status) (n : ℕ) → names_open op (spell_result (Refused operation status)) n ≡ false
+pub short_names_none : (op : OpNum) (operation : ℕ) (status : Status) (n : ℕ) → names_open op (spell_result (Res.Refused operation status)) n ≡ false
 short_names_none op operation status n = rw short refl
   where
-    short : nat_le 24 (length (spell_result (Refused operation status))) ≡ false
-    short = (let long : length (spell_result (Refused operation status)) ≡ 8 = length_spelled (Refused operation status) in rw long refl)
+    short : nat_le 24 (length (spell_result (Res.Refused operation status))) ≡ false
+    short = (let long : length (spell_result (Res.Refused operation status)) ≡ 8 = length_spelled (Res.Refused operation status) in rw long refl)
 
 abbrev text_of : StateId → List ℕ → List ℕ
 text_of id rest = number id.seqid ++ (number id.instance ++ (hyper id.number ++ rest))
@@ -195,22 +197,22 @@ names_text op id rest n head small =
     rw (long, head) (ap (λ (m : ℕ). m == n) read)
 
 open_spelled : (id : StateId) (cinfo : ChangeInfo) (attrset : List ℕ)
-    → (rest : List ℕ) × (spell_result (ResOpen (record { stateid = wire_id id; cinfo = cinfo; attrset = attrset })) ≡ done_head Num.Open ++ text_of id rest)
+    → (rest : List ℕ) × (spell_result (Res.Open (record { stateid = wire_id id; cinfo = cinfo; attrset = attrset })) ≡ done_head Num.Open ++ text_of id rest)
 unfolding number hyper stateid open_ok
 open_spelled id cinfo attrset = (_, refl)
 
-downgrade_spelled : (id : StateId) → spell_result (ResOpenDowngrade (wire_id id)) ≡ done_head Num.OpenDowngrade ++ text_of id []
+downgrade_spelled : (id : StateId) → spell_result (Res.OpenDowngrade (wire_id id)) ≡ done_head Num.OpenDowngrade ++ text_of id []
 unfolding number hyper stateid
 downgrade_spelled id = refl
 
 names_of_open : (id : StateId) (cinfo : ChangeInfo) (attrset : List ℕ) (n : ℕ) → id.number ≤ last_number
-    → names_open Num.Open (spell_result (ResOpen (record { stateid = wire_id id; cinfo = cinfo; attrset = attrset }))) n ≡ (id.number == n)
+    → names_open Num.Open (spell_result (Res.Open (record { stateid = wire_id id; cinfo = cinfo; attrset = attrset }))) n ≡ (id.number == n)
 names_of_open id cinfo attrset n small =
     let (rest, is) = open_spelled id cinfo attrset in
     ap (λ (text : List ℕ). names_open Num.Open text n) is ∙ names_text Num.Open id rest n (open_head id rest) small
 
 names_of_downgrade : (id : StateId) (n : ℕ) → id.number ≤ last_number
-    → names_open Num.OpenDowngrade (spell_result (ResOpenDowngrade (wire_id id))) n ≡ (id.number == n)
+    → names_open Num.OpenDowngrade (spell_result (Res.OpenDowngrade (wire_id id))) n ≡ (id.number == n)
 names_of_downgrade id n small =
     ap (λ (text : List ℕ). names_open Num.OpenDowngrade text n) (downgrade_spelled id)
     ∙ names_text Num.OpenDowngrade id [] n (downgrade_head id []) small
@@ -283,7 +285,7 @@ pushed_left k b t new last is = record {
 
 -- CLOSE
 
-close_left : (k : OpenTold) (b : Bits) (s : State) (x : Context) (a : Close) → ((n : ℕ) → Closes s x (OpClose a) n → n ≢ k.number)
+close_left : (k : OpenTold) (b : Bits) (s : State) (x : Context) (a : Close) → ((n : ℕ) → Closes s x (Op.Close a) n → n ≢ k.number)
     → IsOpenWith k b s.opens → IsOpenWith k b (close s x a).state.opens
 close_left k b s x a spares is = by_close (λ o. IsOpenWith k b o.state.opens) s x a (λ status. is) (λ t did judged granted its.
     subst (IsOpenWith k b) (sym (unused_opens (with_opens s (closing.without_open s.opens t.id.number)) t.file))
@@ -296,7 +298,7 @@ abbrev LeftBy : OpenTold → Bits → Op → Outcome → Type 0
 LeftBy k b op o = IsOpenWith k (bits_behind k.number (Operation op) (spell_result o.result) b) o.state.opens
 
 downgrade_refused : (k : OpenTold) (b : Bits) (s : State) (x : Context) (a : OpenDowngrade) → IsOpenWith k b s.opens
-    → (status : Status) → LeftBy k b (OpOpenDowngrade a) (refuses s x Num.OpenDowngrade status)
+    → (status : Status) → LeftBy k b (Op.OpenDowngrade a) (refuses s x Num.OpenDowngrade status)
 downgrade_refused k b s x a is status =
     subst (λ v. IsOpenWith k (cond v (record { access = bits a.share_access; deny = bits a.share_deny }) b) s.opens)
     (sym (short_names_none Num.OpenDowngrade (op_number Num.OpenDowngrade) status k.number)) is
@@ -306,7 +308,7 @@ narrow_mild access deny = record { number = λ o. refl; client = λ o. refl; own
 
 narrowed_left : (k : OpenTold) (b : Bits) (s : State) (x : Context) (a : OpenDowngrade) (t : Target) (did : StateId × Table) → IsTable s.opens → Few s.opens
     → IsOpenWith k b s.opens → IsNarrowed s.opens t.id x.client t.file (bits a.share_access) (bits a.share_deny) did
-    → LeftBy k b (OpOpenDowngrade a) (narrowed s x did.0 (with_open s.opens t.id.number (opening.narrows (bits a.share_access) (bits a.share_deny))))
+    → LeftBy k b (Op.OpenDowngrade a) (narrowed s x did.0 (with_open s.opens t.id.number (opening.narrows (bits a.share_access) (bits a.share_deny))))
 narrowed_left k b s x a t did table few is its =
     let n = t.id.number in
     let access = bits a.share_access in
@@ -322,14 +324,14 @@ narrowed_left k b s x a t did table few is its =
     (n == k.number) refl (narrow_mild access deny) (λ o access deny. (refl, refl)) is)
 
 downgrade_left : (k : OpenTold) (b : Bits) (s : State) (x : Context) (a : OpenDowngrade) → IsTable s.opens → Few s.opens → IsOpenWith k b s.opens
-    → LeftBy k b (OpOpenDowngrade a) (open_downgrade s x a)
-downgrade_left k b s x a table few is = by_downgrade (LeftBy k b (OpOpenDowngrade a)) s x a (downgrade_refused k b s x a is)
+    → LeftBy k b (Op.OpenDowngrade a) (open_downgrade s x a)
+downgrade_left k b s x a table few is = by_downgrade (LeftBy k b (Op.OpenDowngrade a)) s x a (downgrade_refused k b s x a is)
     (λ t did its. narrowed_left k b s x a t did table few is its)
 
 -- OPEN
 
 open_refused : (k : OpenTold) (b : Bits) (s : State) (x : Context) (a : Open) → IsOpenWith k b s.opens
-    → (status : Status) → LeftBy k b (OpOpen a) (refuses s x Num.Open status)
+    → (status : Status) → LeftBy k b (Op.Open a) (refuses s x Num.Open status)
 open_refused k b s x a is status =
     subst (λ v. IsOpenWith k (cond v (bits_with b a) b) s.opens) (sym (short_names_none Num.Open (op_number Num.Open) status k.number)) is
 
@@ -374,7 +376,7 @@ abbrev pub asking : State → Context → Open → Found → Asked
 asking s x a f = of_open.asking x a (of_open.file_of s.tree f)
 
 opened_left : (k : OpenTold) (b : Bits) (s : State) (x : Context) (now : Time) (a : Open) (f : Found) → IsTable s.opens → Few s.opens
-    → IsFree s.opens (asking s x a f) → IsOpenWith k b s.opens → LeftBy k b (OpOpen a) (of_open.opened s x now a f)
+    → IsFree s.opens (asking s x a f) → IsOpenWith k b s.opens → LeftBy k b (Op.Open a) (of_open.opened s x now a f)
 opened_left k b s x now a f table few free is =
     let asked = asking s x a f in
     let did = opening.opens s.opens asked in
@@ -383,16 +385,16 @@ opened_left k b s x now a f table few free is =
     (opens_left k b s.opens asked (opening.own_open s.opens asked) table refl is)
 
 open_left : (k : OpenTold) (b : Bits) (s : State) (x : Context) (now : Time) (a : Open) → IsTable s.opens → Few s.opens → IsOpenWith k b s.opens
-    → LeftBy k b (OpOpen a) (of_open.open_file s x now a)
+    → LeftBy k b (Op.Open a) (of_open.open_file s x now a)
 unfolding of_open.open_file
 open_left k b s x now a table few is =
-    answered (LeftBy k b (OpOpen a)) s x Num.Open (checked (of_open.asked_for s x a) (of_open.last_checks s x a)) (of_open.opened s x now a)
+    answered (LeftBy k b (Op.Open a)) s x Num.Open (checked (of_open.asked_for s x a) (of_open.last_checks s x a)) (of_open.opened s x now a)
     (open_refused k b s x a is) (λ f granted.
     (let p = checked_ok (of_open.asked_for s x a) (of_open.last_checks s x a) f granted in
     opened_left k b s x now a f table few (free_of s.opens (asking s x a f) (shared_free s x a f p.1)) is))
 
-delayed_left : (k : OpenTold) (b : Bits) (v : Bool) (s : State) (x : Context) (a : Open) (o : Outcome) → IsOpenWith k b s.opens → LeftBy k b (OpOpen a) o
-    → LeftBy k b (OpOpen a) (or_delay v s x Num.Open o)
+delayed_left : (k : OpenTold) (b : Bits) (v : Bool) (s : State) (x : Context) (a : Open) (o : Outcome) → IsOpenWith k b s.opens → LeftBy k b (Op.Open a) o
+    → LeftBy k b (Op.Open a) (or_delay v s x Num.Open o)
 delayed_left k b v s x a o is left = elim (cases_Bool (v && is_ok o.result)) [
   | inl delayed ↦ rw delayed (open_refused k b s x a is Delay)
   | inr other ↦ rw other left
@@ -402,11 +404,11 @@ delayed_left k b v s x a o is left = elim (cases_Bool (v && is_ok o.result)) [
 pub told_open_left : (k : OpenTold) (b : Bits) (refused : Bool) (s : State) (x : Context) (now : Time) (op : Op) → IsTable s.opens → Few s.opens
     → (is_ok (one_or_delay refused s x now op).result ≡ true → (n : ℕ) → Closes s x op n → n ≢ k.number) → IsOpenWith k b s.opens
     → LeftBy k b op (one_or_delay refused s x now op)
-told_open_left k b refused s x now (OpClose a) table few spares is = close_left k b s x a (λ n closes.
+told_open_left k b refused s x now (Op.Close a) table few spares is = close_left k b s x a (λ n closes.
     spares (subst (λ o. is_ok (one s x now o).result ≡ true) (sym closes.is)
     (close_ok s x now closes.asked closes.file closes.id closes.did closes.judged closes.granted)) n closes) is
-told_open_left k b refused s x now (OpOpenDowngrade a) table few spares is = downgrade_left k b s x a table few is
-told_open_left k b refused s x now (OpOpen a) table few spares is =
+told_open_left k b refused s x now (Op.OpenDowngrade a) table few spares is = downgrade_left k b s x a table few is
+told_open_left k b refused s x now (Op.Open a) table few spares is =
     delayed_left k b refused s x a (of_open.open_file s x now a) is (open_left k b s x now a table few is)
 told_open_left k b refused s x now op table few spares is = elim (cases_Bool (moves_bits op)) [
   | inl moves ↦ absurd cc
@@ -426,14 +428,14 @@ pub record IsOpened (s : State) (x : Context) (now : Time) (a : Open) (n : ℕ) 
   pub number : (opening.opens s.opens (asking s x a found)).id.number ≡ n
   pub state : o.state ≡ (of_open.opened s x now a found).state
 
-never_named : (op : OpNum) (operation : ℕ) (status : Status) (n : ℕ) → names_open op (spell_result (Refused operation status)) n ≡ true → ⊥
+never_named : (op : OpNum) (operation : ℕ) (status : Status) (n : ℕ) → names_open op (spell_result (Res.Refused operation status)) n ≡ true → ⊥
 never_named op operation status n e = true≢false (sym e ∙ short_names_none op operation status n)
 
 abbrev DidIf : State → Context → Time → Open → ℕ → Outcome → Type 0
 DidIf s x now a n o = names_open Num.Open (spell_result o.result) n ≡ true → IsOpened s x now a n o
 
 pub did_open : (refused : Bool) (s : State) (x : Context) (now : Time) (a : Open) (n : ℕ) → IsTable s.opens → Few s.opens
-    → names_open Num.Open (spell_result (one_or_delay refused s x now (OpOpen a)).result) n ≡ true → IsOpened s x now a n (one_or_delay refused s x now (OpOpen a))
+    → names_open Num.Open (spell_result (one_or_delay refused s x now (Op.Open a)).result) n ≡ true → IsOpened s x now a n (one_or_delay refused s x now (Op.Open a))
 unfolding of_open.open_file
 did_open refused s x now a n table few = by_delayed (of_open.open_file s x now a) (answered (DidIf s x now a n) s x Num.Open
     (checked (of_open.asked_for s x a) (of_open.last_checks s x a)) (of_open.opened s x now a)

@@ -19,8 +19,6 @@ use Rattle.nfs_names.specs.State.{State, is_open, is_used}
 use Rattle.nfs_names.specs.StoreInvariants.{IsStore, IsRooted}
 use Rattle.nfs_names.specs.Ending.{with_opens, table_staying, only_used, staying}
 use Rattle.nfs_names.proofs.StoreInvariants.{rooted}
-use Rattle.nfs_files.specs.Operation.{one}
-use Rattle.nfs_files.proofs.KeptOps.{found}
 use Rattle.nfs_files.proofs.Steady.{Few}
 
 -- what a state keeps

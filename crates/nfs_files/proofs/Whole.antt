@@ -7,9 +7,10 @@ use Rattle.nfs_xdr.specs.declared.status.Status.TheVariants.{Delay}
 use Rattle.nfs_compound.specs.declared.op_num.OpNum.{OpNum}
 use Rattle.nfs_compound.specs.declared.op_num.OpNum.TheVariants as Num
 use Rattle.nfs_compound.specs.OpNum.{op_number}
-use Rattle.nfs_compound.specs.Operation.{Op, Item, Operation, Fault, OpClose, OpCommit, OpFreeStateid, OpLock, OpLockT, OpLockU, OpOpen, OpOpenDowngrade}
-use Rattle.nfs_compound.specs.Operation.{OpRead, OpSetAttr, OpTestStateid, OpWrite}
-use Rattle.nfs_results.specs.Result.{Res}
+use Rattle.nfs_compound.specs.declared.op.Op.{Op}
+use Rattle.nfs_compound.specs.declared.op.Item.{Item}
+use Rattle.nfs_compound.specs.declared.op.Item.TheVariants.{Operation, Fault}
+use Rattle.nfs_results.specs.declared.res.Res.{Res}
 use Rattle.nfs_results.specs.Results.{refusal}
 use Rattle.nfs_names.specs.declared.context.Context.{Context}
 use Rattle.nfs_opens.specs.TableInvariants.{IsTable}
@@ -38,33 +39,33 @@ delay_may b s x op o P done delayed = elim (b && is_ok o.result) as (λ k. P (co
 
 -- LOCK, LOCKT, READ and TEST_STATEID put their results themselves.
 abbrev pub is_plain : Item → Bool
-is_plain (Operation (OpLock a)) = false
-is_plain (Operation (OpLockT a)) = false
-is_plain (Operation (OpRead a)) = false
-is_plain (Operation (OpTestStateid given)) = false
+is_plain (Operation (Op.Lock a)) = false
+is_plain (Operation (Op.LockT a)) = false
+is_plain (Operation (Op.Read a)) = false
+is_plain (Operation (Op.TestStateid given)) = false
 is_plain i = true
 
 -- by the operation
 may_come : (b : Bool) (s : State) (x : Context) (now : Time) (op : Op) → is_plain (Operation op) ≡ true
     → IfSome (table.comes_to b s x now (Operation op)) (λ o. IsAnswer (Operation op) o.result)
-may_come b s x now (OpClose a) e = may_close s x a
-may_come b s x now (OpCommit a) e = may_commit s x a
-may_come b s x now (OpFreeStateid given) e = may_free s x given
-may_come b s x now (OpLock a) e = absurd cc
-may_come b s x now (OpLockT a) e = absurd cc
-may_come b s x now (OpLockU a) e =
-    delay_may (wants_memory a && b) s x Num.LockU (lock_u s x a) (IsAnswer (Operation (OpLockU a)))
+may_come b s x now (Op.Close a) e = may_close s x a
+may_come b s x now (Op.Commit a) e = may_commit s x a
+may_come b s x now (Op.FreeStateid given) e = may_free s x given
+may_come b s x now (Op.Lock a) e = absurd cc
+may_come b s x now (Op.LockT a) e = absurd cc
+may_come b s x now (Op.LockU a) e =
+    delay_may (wants_memory a && b) s x Num.LockU (lock_u s x a) (IsAnswer (Operation (Op.LockU a)))
     (may_lock_u s x a) (record { may = (refl, refl, tt); arrays = tt })
-may_come b s x now (OpOpen a) e = delay_may (true && b) s x Num.Open (open_file s x now a)
-    (IsAnswer (Operation (OpOpen a))) (may_open s x now a) (record { may = (refl, refl, tt); arrays = tt })
-may_come b s x now (OpOpenDowngrade a) e = may_downgrade s x a
-may_come b s x now (OpRead a) e = absurd cc
-may_come b s x now (OpSetAttr a) e =
-    delay_may (grows s x (OpSetAttr a) && b) s x Num.SetAttr (set_attr s x now a) (IsAnswer (Operation (OpSetAttr a)))
+may_come b s x now (Op.Open a) e = delay_may (true && b) s x Num.Open (open_file s x now a)
+    (IsAnswer (Operation (Op.Open a))) (may_open s x now a) (record { may = (refl, refl, tt); arrays = tt })
+may_come b s x now (Op.OpenDowngrade a) e = may_downgrade s x a
+may_come b s x now (Op.Read a) e = absurd cc
+may_come b s x now (Op.SetAttr a) e =
+    delay_may (grows s x (Op.SetAttr a) && b) s x Num.SetAttr (set_attr s x now a) (IsAnswer (Operation (Op.SetAttr a)))
     (may_set_attr s x now a) (record { may = (refl, refl, omega arith); arrays = tt })
-may_come b s x now (OpTestStateid given) e = absurd cc
-may_come b s x now (OpWrite a) e =
-    delay_may (has_bytes a.bytes && b) s x Num.Write (write s x now a) (IsAnswer (Operation (OpWrite a)))
+may_come b s x now (Op.TestStateid given) e = absurd cc
+may_come b s x now (Op.Write a) e =
+    delay_may (has_bytes a.bytes && b) s x Num.Write (write s x now a) (IsAnswer (Operation (Op.Write a)))
     (may_write_bytes s x now a) (record { may = (refl, refl, tt); arrays = tt })
 may_come b s x now op e = tt
 

@@ -4,8 +4,8 @@ use Rattle.std.specs.Prelude.{Ok, option_map, nat_lt, ◌+◌, ◌&&◌}
 use Rattle.nfs_xdr.specs.Checks.{first_fault}
 use Rattle.nfs_xdr.proofs.Checks.{all_passed}
 use Rattle.nfs_xdr.specs.declared.time.Time.{Time}
-use Rattle.nfs_compound.specs.declared.op_num.OpNum.TheVariants as Op
-use Rattle.nfs_compound.specs.FileArgs.{Write}
+use Rattle.nfs_compound.specs.declared.op_num.OpNum.TheVariants as Num
+use Rattle.nfs_compound.specs.declared.file_args.Write.{Write}
 use Rattle.nfs_tree.specs.declared.fault.TreeFault.{TreeFault}
 use Rattle.nfs_tree.specs.declared.fault.TreeFault.TheVariants as F
 use Rattle.nfs_tree.specs.Bytes.{has_bytes}
@@ -46,13 +46,13 @@ pub write_goes : (s : State) (x : Context) (now : Time) (w : Write) (d : Node) �
     → write_fault s.tree d.number w.offset w.bytes ≡ None → write s x now w ≡ was_written s x now w d
 unfolding write
 write_goes s x now w d v none =
-    by_last s x Op.Write (writable s x w.stateid (current s x)) (last_checks s w)
+    by_last s x Num.Write (writable s x w.stateid (current s x)) (last_checks s w)
     (was_written s x now w) d v (sym (write_found s x w d v) ∙ ap (option_map status_of) none)
 
 pub write_stops : (s : State) (x : Context) (now : Time) (w : Write) (d : Node) (f : TreeFault)
     → writable s x w.stateid (current s x) ≡ Ok d → write_fault s.tree d.number w.offset w.bytes ≡ Some f
-    → write s x now w ≡ refuses s x Op.Write (status_of f)
+    → write s x now w ≡ refuses s x Num.Write (status_of f)
 unfolding write
 write_stops s x now w d f v some =
-    by_refusal s x Op.Write (writable s x w.stateid (current s x)) (last_checks s w)
+    by_refusal s x Num.Write (writable s x w.stateid (current s x)) (last_checks s w)
     (was_written s x now w) d (status_of f) v (sym (write_found s x w d v) ∙ ap (option_map status_of) some)

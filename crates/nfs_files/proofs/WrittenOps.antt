@@ -12,21 +12,28 @@ use Rattle.nfs_xdr.specs.declared.status.Status.{Status}
 use Rattle.nfs_xdr.specs.declared.status.Status.TheVariants.{Inval}
 use Rattle.nfs_xdr.proofs.Checks.{all_passed}
 use Rattle.nfs_xdr.proofs.Putting.{length_number}
-use Rattle.nfs_compound.specs.LockArgs as locks
+use Rattle.nfs_compound.specs.declared.lock_args.Lock as locks
 use Rattle.nfs_compound.specs.Arguments.{arguments}
-use Rattle.nfs_compound.specs.Attributes.{Attributes}
-use Rattle.nfs_compound.specs.FileArgs.{Write, SetAttr}
-use Rattle.nfs_compound.specs.OpenArgs.{Open, OpenHow, NoCreate, Create, Unchecked, Guarded, Exclusive, Exclusive41, OpenClaim, Null, Previous, DelegateCur, DelegatePrev, Fh, DelegCurFh, DelegPrevFh}
+use Rattle.nfs_compound.specs.declared.attributes.Attributes.{Attributes}
+use Rattle.nfs_compound.specs.declared.file_args.Write.{Write}
+use Rattle.nfs_compound.specs.declared.file_args.SetAttr.{SetAttr}
+use Rattle.nfs_compound.specs.declared.open_args.Open.{Open}
+use Rattle.nfs_compound.specs.declared.open_args.OpenHow.{OpenHow}
+use Rattle.nfs_compound.specs.declared.open_args.OpenHow.TheVariants.{NoCreate, Create}
+use Rattle.nfs_compound.specs.declared.open_args.CreateHow.TheVariants.{Unchecked, Guarded, Exclusive, Exclusive41}
+use Rattle.nfs_compound.specs.declared.open_args.OpenClaim.{OpenClaim}
+use Rattle.nfs_compound.specs.declared.open_args.OpenClaim.TheVariants.{Null, Previous, DelegateCur, DelegatePrev, Fh, DelegCurFh, DelegPrevFh}
 use Rattle.nfs_compound.specs.declared.stateid.Stateid.{Stateid}
 use Rattle.nfs_compound.specs.declared.lock_args.LockU.{LockU}
 use Rattle.nfs_compound.specs.declared.open_args.Close.{Close}
 use Rattle.nfs_compound.specs.declared.open_args.OpenDowngrade.{OpenDowngrade}
 use Rattle.nfs_compound.specs.declared.op_num.OpNum.{OpNum}
 use Rattle.nfs_compound.specs.declared.op_num.OpNum.TheVariants as Num
-use Rattle.nfs_compound.specs.Operation.{Op, Item, Operation, Fault}
-use Rattle.nfs_compound.specs.Operation.{OpClose, OpCommit, OpFreeStateid, OpLock, OpLockT, OpLockU, OpOpen, OpOpenDowngrade, OpRead, OpSetAttr, OpTestStateid, OpWrite}
+use Rattle.nfs_compound.specs.declared.op.Op.{Op}
+use Rattle.nfs_compound.specs.declared.op.Item.{Item}
+use Rattle.nfs_compound.specs.declared.op.Item.TheVariants.{Operation, Fault}
 use Rattle.nfs_results.specs.Items as item
-use Rattle.nfs_results.specs.Result.{ResWrite}
+use Rattle.nfs_results.specs.declared.res.Res.TheVariants as Res
 use Rattle.nfs_results.specs.declared.res.WriteOk.{WriteOk}
 use Rattle.nfs_results.specs.Results.{spell_result, done_head}
 use Rattle.nfs_ranges.specs.declared.Held.{Held}
@@ -64,7 +71,7 @@ use Rattle.nfs_files.specs.Commit.{commit}
 use Rattle.nfs_files.specs.FreeStateid.{free_stateid}
 use Rattle.nfs_files.specs.Lock as of_lock
 use Rattle.nfs_files.specs.LockT.{tested, lock_t}
-use Rattle.nfs_files.specs.LockU.{unlocked, lock_u}
+use Rattle.nfs_files.specs.LockU.{lock_u}
 use Rattle.nfs_files.specs.Open as of_open
 use Rattle.nfs_files.specs.Open.{makes, access_of, place_checks, there_checks, absent_checks, cuts, by_handle}
 use Rattle.nfs_files.specs.OpenDowngrade.{open_downgrade}
@@ -136,7 +143,7 @@ pub number_back : (n : ℕ) → n < 2 ^ 32 → from_be_bytes w32 (number n) ≡ 
 unfolding number
 number_back n small = from_be_bytes-to_be_bytes_4 n small
 
-pub write_spelled : (k : WriteOk) → (more : List ℕ) × (spell_result (ResWrite k) ≡ done_head Num.Write ++ (number k.count ++ more))
+pub write_spelled : (k : WriteOk) → (more : List ℕ) × (spell_result (Res.Write k) ≡ done_head Num.Write ++ (number k.count ++ more))
 unfolding item.write_ok
 write_spelled k = (_, refl)
 
@@ -154,7 +161,7 @@ abbrev LeftBy : Byte → State → Context → Item → Outcome → Type 0
 LeftBy b s x i o = Spares b s x i (spell_result o.result) → Lasts b o.state.tree
 
 written_left : (b : Byte) (s : State) (x : Context) (now : Time) (w : Write) (d : Node) → writable s x w.stateid (current s x) ≡ Ok d
-    → first_fault (of_write.last_checks s w d) ≡ None → LastsIn b s → LeftBy b s x (Operation (OpWrite w)) (of_write.was_written s x now w d)
+    → first_fault (of_write.last_checks s w d) ≡ None → LastsIn b s → LeftBy b s x (Operation (Op.Write w)) (of_write.was_written s x now w d)
 written_left b s x now w d e none is spares = elim (cases_Bool (has_bytes w.bytes)) [
   | inl some ↦ rw some (lasts_written b s.tree d.number w.offset w.bytes now (λ at from below.
       (let spelled = write_spelled (of_write.write_ok s w) in
@@ -172,10 +179,10 @@ written_left b s x now w d e none is spares = elim (cases_Bool (has_bytes w.byte
   | inr empty ↦ rw empty is
 ]
 
-lasts_write : (b : Byte) (s : State) (x : Context) (now : Time) (w : Write) → LastsIn b s → LeftBy b s x (Operation (OpWrite w)) (of_write.write s x now w)
+lasts_write : (b : Byte) (s : State) (x : Context) (now : Time) (w : Write) → LastsIn b s → LeftBy b s x (Operation (Op.Write w)) (of_write.write s x now w)
 unfolding of_write.write
 lasts_write b s x now w is =
-    by_found (LeftBy b s x (Operation (OpWrite w))) s x Num.Write (checked (writable s x w.stateid (current s x)) (of_write.last_checks s w)) (of_write.was_written s x now w)
+    by_found (LeftBy b s x (Operation (Op.Write w))) s x Num.Write (checked (writable s x w.stateid (current s x)) (of_write.last_checks s w)) (of_write.was_written s x now w)
     (λ status spares. is) (λ d granted.
     (let p = checked_ok (writable s x w.stateid (current s x)) (of_write.last_checks s w) d granted in written_left b s x now w d p.0 p.1 is))
 
@@ -198,7 +205,7 @@ setting_is s x a m e =
     }
 
 set_left : (b : Byte) (s : State) (x : Context) (now : Time) (a : SetAttr) (m : Setting) → IsSetting s x a m → LastsIn b s
-    → LeftBy b s x (Operation (OpSetAttr a)) (of_set.was_set s x now a m)
+    → LeftBy b s x (Operation (Op.SetAttr a)) (of_set.was_set s x now a m)
 set_left b s x now a m is lasts spares = by_size m.wanted.size refl
   where
     by_size : (o : Option ℕ) → m.wanted.size ≡ o → Lasts b (of_set.with_set s.tree m.node.number now m.wanted o)
@@ -222,10 +229,10 @@ set_left b s x now a m is lasts spares = by_size m.wanted.size refl
       | inr nothing ↦ rw nothing lasts
     ]
 
-lasts_set : (b : Byte) (s : State) (x : Context) (now : Time) (a : SetAttr) → LastsIn b s → LeftBy b s x (Operation (OpSetAttr a)) (of_set.set_attr s x now a)
+lasts_set : (b : Byte) (s : State) (x : Context) (now : Time) (a : SetAttr) → LastsIn b s → LeftBy b s x (Operation (Op.SetAttr a)) (of_set.set_attr s x now a)
 unfolding of_set.set_attr
 lasts_set b s x now a is =
-    by_found (LeftBy b s x (Operation (OpSetAttr a))) s x Num.SetAttr (checked (of_set.asked_for s x a) (of_set.last_checks s)) (of_set.was_set s x now a)
+    by_found (LeftBy b s x (Operation (Op.SetAttr a))) s x Num.SetAttr (checked (of_set.asked_for s x a) (of_set.last_checks s)) (of_set.was_set s x now a)
     (λ status spares. is) (λ m granted.
     set_left b s x now a m (setting_is s x a m (checked_ok (of_set.asked_for s x a) (of_set.last_checks s) m granted).0) is)
 
@@ -317,7 +324,7 @@ asks_empty o wanted (Create (Exclusive v)) is e = absurd (false≢true (sym (ap 
 asks_empty o wanted (Create (Exclusive41 v a)) is e = absurd (false≢true (sym (ap (λ how. (makes how).cuts) is) ∙ (and_parts _ _ e).0))
 
 opened_left : (b : Byte) (s : State) (x : Context) (now : Time) (o : Open) (f : Found) → of_open.asked_for s x o ≡ Ok f → LastsIn b s
-    → LeftBy b s x (Operation (OpOpen o)) (of_open.opened s x now o f)
+    → LeftBy b s x (Operation (Op.Open o)) (of_open.opened s x now o f)
 opened_left b s x now o (Absent m) e is spares =
     lasts_new b s.tree m.place.number (of_open.name_of o.claim) (of_open.new_of o m.wanted) (of_open.sets_of x now o m.wanted) now is
 opened_left b s x now o (There place f false) e is spares = is
@@ -344,10 +351,10 @@ opened_left b s x now o (There place f true) e is spares =
       sets = refl;
     })))) is
 
-lasts_open : (b : Byte) (s : State) (x : Context) (now : Time) (o : Open) → LastsIn b s → LeftBy b s x (Operation (OpOpen o)) (of_open.open_file s x now o)
+lasts_open : (b : Byte) (s : State) (x : Context) (now : Time) (o : Open) → LastsIn b s → LeftBy b s x (Operation (Op.Open o)) (of_open.open_file s x now o)
 unfolding of_open.open_file
 lasts_open b s x now o is =
-    by_found (LeftBy b s x (Operation (OpOpen o))) s x Num.Open (checked (of_open.asked_for s x o) (of_open.last_checks s x o)) (of_open.opened s x now o)
+    by_found (LeftBy b s x (Operation (Op.Open o))) s x Num.Open (checked (of_open.asked_for s x o) (of_open.last_checks s x o)) (of_open.opened s x now o)
     (λ status spares. is) (λ f granted. opened_left b s x now o f (checked_ok (of_open.asked_for s x o) (of_open.last_checks s x o) f granted).0 is)
 
 -- CLOSE
@@ -374,18 +381,18 @@ tested_left b s x (Some h) is = is
 
 lasts_one : (b : Byte) (s : State) (x : Context) (now : Time) (op : Op) → LastsIn b s → LeftBy b s x (Operation op) (one s x now op)
 unfolding commit lock_t read test_stateid
-lasts_one b s x now (OpClose a) is spares = lasts_close b s x a is
-lasts_one b s x now (OpCommit a) is spares = found (LastsIn b) s x Num.Commit _ _ is (λ d e. is)
-lasts_one b s x now (OpFreeStateid given) is spares = lasts_free b s x given is
-lasts_one b s x now (OpLock a) is spares = lasts_lock b s x a is
-lasts_one b s x now (OpLockT a) is spares = found (LastsIn b) s x Num.LockT _ _ is (λ w e. tested_left b s x (locking.test_lock s.opens a.owner.owner w) is)
-lasts_one b s x now (OpLockU a) is spares = lasts_unlock b s x a is
-lasts_one b s x now (OpOpen a) is spares = lasts_open b s x now a is spares
-lasts_one b s x now (OpOpenDowngrade a) is spares = lasts_downgrade b s x a is
-lasts_one b s x now (OpRead a) is spares = found (LastsIn b) s x Num.Read _ _ is (λ d e. is)
-lasts_one b s x now (OpSetAttr a) is spares = lasts_set b s x now a is spares
-lasts_one b s x now (OpTestStateid given) is spares = is
-lasts_one b s x now (OpWrite a) is spares = lasts_write b s x now a is spares
+lasts_one b s x now (Op.Close a) is spares = lasts_close b s x a is
+lasts_one b s x now (Op.Commit a) is spares = found (LastsIn b) s x Num.Commit _ _ is (λ d e. is)
+lasts_one b s x now (Op.FreeStateid given) is spares = lasts_free b s x given is
+lasts_one b s x now (Op.Lock a) is spares = lasts_lock b s x a is
+lasts_one b s x now (Op.LockT a) is spares = found (LastsIn b) s x Num.LockT _ _ is (λ w e. tested_left b s x (locking.test_lock s.opens a.owner.owner w) is)
+lasts_one b s x now (Op.LockU a) is spares = lasts_unlock b s x a is
+lasts_one b s x now (Op.Open a) is spares = lasts_open b s x now a is spares
+lasts_one b s x now (Op.OpenDowngrade a) is spares = lasts_downgrade b s x a is
+lasts_one b s x now (Op.Read a) is spares = found (LastsIn b) s x Num.Read _ _ is (λ d e. is)
+lasts_one b s x now (Op.SetAttr a) is spares = lasts_set b s x now a is spares
+lasts_one b s x now (Op.TestStateid given) is spares = is
+lasts_one b s x now (Op.Write a) is spares = lasts_write b s x now a is spares
 lasts_one b s x now op is spares = is
 
 pub spared_bytes_last : (b : Byte) (refused : Bool) (s : State) (x : Context) (now : Time) (i : Item) → Lasts b s.tree → LeftBy b s x i (comes_to refused s x now i)

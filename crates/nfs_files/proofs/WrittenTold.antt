@@ -1,25 +1,27 @@
 -- What a WRITE leaves of its own, and what a READ is given.
-use Rattle.std.proofs.Common.{◌≡◌, ◌⊎◌, ℕ, suc, ◌+◌, ◌-◌, ◌≤◌, ◌<◌, ◌^◌, Bool, true, false, cond, ltb, min, List, [], ◌∷◌, ◌++◌, length, take, drop, get_or, Option, Some, None, refl, sym, ◌∙◌, ap, subst, arith, inl, inr}
-use Rattle.std.specs.Prelude.{◌&&◌, nat_lt, Result, Ok, Err}
+use Rattle.std.proofs.Common.{◌≡◌, ◌⊎◌, ℕ, ◌+◌, ◌-◌, ◌≤◌, ◌<◌, ◌^◌, Bool, true, false, List, ◌++◌, length, take, drop, get_or, Option, Some, None, refl, sym, ◌∙◌, ap, subst, arith, inl, inr}
+use Rattle.std.specs.Prelude.{◌&&◌, nat_lt, Ok}
 use Rattle.std.specs.Int.{w32, from_be_bytes}
 use Rattle.std.proofs.lemmas.Bool.{cases_Bool, ltb-false}
 use Rattle.std.proofs.lemmas.List.{take_at, drop_at, length-append, length-take, length-drop, get_or-take, get_or-drop}
 use Rattle.nfs_xdr.specs.Checks.{first_fault}
-use Rattle.nfs_xdr.specs.Spelling.{number, flag, fixed, opaque, padding}
+use Rattle.nfs_xdr.specs.Spelling.{number, flag, fixed, opaque}
 use Rattle.nfs_xdr.specs.declared.time.Time.{Time}
 use Rattle.nfs_xdr.specs.declared.status.Status.{Status}
 use Rattle.nfs_xdr.specs.declared.status.Status.TheVariants.{Nfs4Ok, Delay}
 use Rattle.nfs_xdr.proofs.Putting.{length_number}
-use Rattle.nfs_compound.specs.FileArgs.{Write}
+use Rattle.nfs_compound.specs.declared.file_args.Write.{Write}
 use Rattle.nfs_compound.specs.declared.file_args.Read.{Read}
 use Rattle.nfs_compound.specs.declared.op_num.OpNum.{OpNum}
 use Rattle.nfs_compound.specs.declared.op_num.OpNum.TheVariants as Num
 use Rattle.nfs_compound.specs.OpNum.{op_number}
-use Rattle.nfs_compound.specs.Operation.{Item, Operation, OpRead, OpWrite}
+use Rattle.nfs_compound.specs.declared.op.Item.{Item}
+use Rattle.nfs_compound.specs.declared.op.Op.TheVariants as Op
 use Rattle.nfs_results.specs.Items as item
 use Rattle.nfs_results.specs.Largest.{given}
-use Rattle.nfs_results.specs.Result.{Res, Refused, ReadOk, ResRead, ResWrite}
-use Rattle.nfs_results.specs.Results.{spell_result, refusal, done_head}
+use Rattle.nfs_results.specs.declared.res.Res.{Res}
+use Rattle.nfs_results.specs.declared.res.ReadOk.{ReadOk}
+use Rattle.nfs_results.specs.Results.{spell_result, done_head}
 use Rattle.nfs_results.proofs.Lengths.{length_head, length_spelled}
 use Rattle.nfs_tree.specs.Files.{root, is_there, data_at}
 use Rattle.nfs_tree.specs.TreeInvariants.{IsTree}
@@ -27,13 +29,12 @@ use Rattle.nfs_tree.specs.Bytes.{has_bytes}
 use Rattle.nfs_tree.proofs.Objects.{stored_within}
 use Rattle.nfs_names.specs.declared.context.Context.{Context}
 use Rattle.nfs_names.specs.declared.node.Node.{Node}
-use Rattle.nfs_names.specs.State.{State, with_tree}
+use Rattle.nfs_names.specs.State.{State}
 use Rattle.nfs_names.specs.Outcome.{Outcome, checked}
 use Rattle.nfs_names.specs.Checks.{current}
 use Rattle.nfs_names.proofs.Found.{checked_ok, current_is}
 use Rattle.nfs_files.specs.Bytes.{file_checks, reading, may_use, readable, writable}
-use Rattle.nfs_files.specs.Operation.{grows}
-use Rattle.nfs_files.proofs.Outcomes.{one, one_or_delay, comes_to}
+use Rattle.nfs_files.proofs.Outcomes.{one_or_delay, comes_to}
 use Rattle.nfs_files.specs.Read as of_read
 use Rattle.nfs_files.specs.Write as of_write
 use Rattle.nfs_names.proofs.Ones.{by_delay}
@@ -48,10 +49,10 @@ some_same o m n e f = (let same : Some m ≡ Some n = sym e ∙ f in cc)
 
 -- a refusal ends behind its status
 pub short : (op : OpNum) (status : Status) (first more : List ℕ) → length first ≡ 4
-    → spell_result (Refused (op_number op) status) ≡ done_head op ++ (first ++ more) → ⊥
+    → spell_result (Res.Refused (op_number op) status) ≡ done_head op ++ (first ++ more) → ⊥
 short op status first more four e =
     let whole = ap length e in
-    let spelled = length_spelled (Refused (op_number op) status) in
+    let spelled = length_spelled (Res.Refused (op_number op) status) in
     let head = length_head (op_number op) Nfs4Ok in
     let both = length-append (done_head op) (first ++ more) in
     let rest = length-append first more in absurd (omega arith)
@@ -110,7 +111,7 @@ write_told b s x now w d count more tree e none told =
     written_lasts b s now w d same (subst (λ n. n ≤ s.tree.last_object) same (there_given s x d tree at)) few.0 told.from few.1 told.value
 
 write_leaves : (b : Byte) (refused : Bool) (s : State) (x : Context) (now : Time) (w : Write) (count more : List ℕ) → IsTree s.tree
-    → LeavesTold b x w count more (one_or_delay refused s x now (OpWrite w))
+    → LeavesTold b x w count more (one_or_delay refused s x now (Op.Write w))
 unfolding of_write.write
 write_leaves b refused s x now w count more tree =
     by_delay (LeavesTold b x w count more) (has_bytes w.bytes && refused) s x Num.Write (of_write.write s x now w)
@@ -137,7 +138,7 @@ writes_leave_bytes b refused s x now i tree writes =
 
 -- READ
 
-read_spelled : (r : ReadOk) → spell_result (ResRead r) ≡ done_head Num.Read ++ (flag r.eof ++ opaque r.bytes)
+read_spelled : (r : ReadOk) → spell_result (Res.Read r) ≡ done_head Num.Read ++ (flag r.eof ++ opaque r.bytes)
 unfolding item.read_ok
 read_spelled r = refl
 
@@ -195,7 +196,7 @@ in_given place offset count bytes told same few (inr within) =
     (let less : place < offset + length bytes = subst (λ (t : List ℕ). place < offset + length t) same within in omega arith)
 
 read_told : (b : Byte) (s : State) (x : Context) (r : Read) (d : Node) (eof text : List ℕ) → Lasts b s.tree → current s x ≡ Ok d
-    → TellsRead b x r eof text (spell_result (ResRead (of_read.was_read s r d))) → Given b r (bytes_in text)
+    → TellsRead b x r eof text (spell_result (Res.Read (of_read.was_read s r d))) → Given b r (bytes_in text)
 read_told b s x r d eof text lasts e told =
     let bytes = of_read.bytes_of s r d in
     let k = of_read.was_read s r d in
@@ -210,7 +211,7 @@ read_told b s x r d eof text lasts e told =
     (part_gives b r (given r.count) (data_at s.tree d.number) stands told.from (in_given b.place r.offset (given r.count) bytes (bytes_in text) told_bytes few told.below))
 
 read_gives : (b : Byte) (refused : Bool) (s : State) (x : Context) (now : Time) (r : Read) (eof text : List ℕ) → Lasts b s.tree
-    → GivesTold b x r eof text (one_or_delay refused s x now (OpRead r))
+    → GivesTold b x r eof text (one_or_delay refused s x now (Op.Read r))
 unfolding of_read.read
 read_gives b refused s x now r eof text lasts =
     by_found (GivesTold b x r eof text) s x Num.Read (readable s x r.stateid (current s x)) _

@@ -3,8 +3,8 @@
 use Rattle.std.specs.Prelude.{ℕ, replicate}
 use Rattle.nfs_compound.specs.declared.stateid.Stateid.{Stateid}
 use Rattle.nfs_compound.specs.declared.open_args.Close.{Close}
-use Rattle.nfs_compound.specs.declared.op_num.OpNum.TheVariants as Op
-use Rattle.nfs_results.specs.Result.{ResClose}
+use Rattle.nfs_compound.specs.declared.op_num.OpNum.TheVariants as Num
+use Rattle.nfs_results.specs.declared.res.Res.TheVariants as Res
 use Rattle.nfs_opens.specs.declared.stateid.CurrentSeqid.TheVariants.{Own}
 use Rattle.nfs_opens.specs.Table.{Table}
 use Rattle.nfs_opens.specs.Closing as opens
@@ -21,13 +21,13 @@ spent = record { seqid = 0xffff_ffff; other = replicate 12 0 }
 
 abbrev pub closed : State → Context → ℕ → Table → Outcome
 closed s x file after = record {
-  result = ResClose spent;
+  result = Res.Close spent;
   state = without_unused (with_opens s after) file;
   context = with_stateid x spent;
 }
 
 abbrev pub closes : State → Context → Target → Outcome
-closes s x t = answers s x Op.Close (opens.close s.opens t.id x.client t.file) (λ did. closed s x t.file did.1)
+closes s x t = answers s x Num.Close (opens.close s.opens t.id x.client t.file) (λ did. closed s x t.file did.1)
 
 unfoldable pub close : State → Context → Close → Outcome
-close s x a = answers s x Op.Close (target s x Own a.open_stateid) (closes s x)
+close s x a = answers s x Num.Close (target s x Own a.open_stateid) (closes s x)

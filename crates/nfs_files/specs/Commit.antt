@@ -1,8 +1,8 @@
 -- COMMIT (RFC 8881 section 18.3): what was written is as lasting as it gets, and the write verifier marks this start of the server off from others.
 use Rattle.std.specs.Prelude.{ℕ, List, ◌++◌, replicate}
 use Rattle.nfs_xdr.specs.Spelling.{number}
-use Rattle.nfs_compound.specs.declared.op_num.OpNum.TheVariants as Op
-use Rattle.nfs_results.specs.Result.{ResCommit}
+use Rattle.nfs_compound.specs.declared.op_num.OpNum.TheVariants as Num
+use Rattle.nfs_results.specs.declared.res.Res.TheVariants as Res
 use Rattle.nfs_names.specs.declared.context.Context.{Context}
 use Rattle.nfs_names.specs.State.{State}
 use Rattle.nfs_names.specs.Outcome.{Outcome, done, checked, answers}
@@ -14,4 +14,4 @@ abbrev pub write_verifier : State → List ℕ
 write_verifier s = number s.instance ++ replicate 4 0
 
 unfoldable pub commit : State → Context → Outcome
-commit s x = answers s x Op.Commit (checked (current s x) file_checks) (λ d. done s x (ResCommit (write_verifier s)))
+commit s x = answers s x Num.Commit (checked (current s x) file_checks) (λ d. done s x (Res.Commit (write_verifier s)))

@@ -3,10 +3,10 @@ use Rattle.std.specs.Prelude.{ℕ, suc, ◌-◌, ◌==◌, [], take, Option, Som
 use Rattle.nfs_xdr.specs.declared.status.Status.{Status}
 use Rattle.nfs_xdr.specs.declared.status.Status.TheVariants as S
 use Rattle.nfs_xdr.specs.Limits.{opaque_limit}
-use Rattle.nfs_compound.specs.StateOwner.{StateOwner}
+use Rattle.nfs_compound.specs.declared.state_owner.StateOwner.{StateOwner}
 use Rattle.nfs_compound.specs.declared.lock_args.LockType.{LockType}
 use Rattle.nfs_compound.specs.declared.lock_args.LockType.TheVariants as LockTypes
-use Rattle.nfs_results.specs.Result as result
+use Rattle.nfs_results.specs.declared.res.Denied as result
 use Rattle.nfs_ranges.specs.declared.Kind.{Kind}
 use Rattle.nfs_ranges.specs.declared.Kind.TheVariants as Kinds
 use Rattle.nfs_ranges.specs.declared.Held.{Held}
@@ -30,7 +30,7 @@ holder None = record { clientid = 0; owner = [] }
 holder (Some l) = record { clientid = l.client; owner = take opaque_limit l.owner }
 
 unfoldable pub denied : Table → Held → result.Denied
-denied t h = record { offset = h.first; extent = size_of h; locktype = type_of h.kind; owner = holder (lock_at t h.owner) }
+denied t h = record { offset = h.first; length = size_of h; locktype = type_of h.kind; owner = holder (lock_at t h.owner) }
 
 -- the status of what the table of opens refuses
 abbrev pub status_of : OpenFault → Status

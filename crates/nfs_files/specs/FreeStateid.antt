@@ -1,7 +1,7 @@
 -- FREE_STATEID (RFC 8881 section 18.38): a lock state that holds no byte goes.
 use Rattle.nfs_compound.specs.declared.stateid.Stateid.{Stateid}
-use Rattle.nfs_compound.specs.declared.op_num.OpNum.TheVariants as Op
-use Rattle.nfs_results.specs.Result.{ResFreeStateid}
+use Rattle.nfs_compound.specs.declared.op_num.OpNum.TheVariants as Num
+use Rattle.nfs_results.specs.declared.res.Res.TheVariants as Res
 use Rattle.nfs_opens.specs.declared.stateid.StateId.{StateId}
 use Rattle.nfs_opens.specs.declared.stateid.CurrentSeqid.TheVariants.{Any}
 use Rattle.nfs_opens.specs.Closing as opens
@@ -12,7 +12,7 @@ use Rattle.nfs_files.specs.StateIds.{meant}
 use Rattle.nfs_names.specs.Ending.{with_opens}
 
 abbrev pub frees : State → Context → StateId → Outcome
-frees s x id = answers s x Op.FreeStateid (opens.free s.opens id x.client) (λ did. done (with_opens s did.1) x ResFreeStateid)
+frees s x id = answers s x Num.FreeStateid (opens.free s.opens id x.client) (λ did. done (with_opens s did.1) x Res.FreeStateid)
 
 unfoldable pub free_stateid : State → Context → Stateid → Outcome
-free_stateid s x given = answers s x Op.FreeStateid (meant x Any given) (frees s x)
+free_stateid s x given = answers s x Num.FreeStateid (meant x Any given) (frees s x)

@@ -6,11 +6,16 @@ use Rattle.std.specs.Option.{option_map_or}
 use Rattle.nfs_xdr.specs.declared.time.Time.{Time}
 use Rattle.nfs_xdr.specs.declared.status.Status.{Status}
 use Rattle.nfs_xdr.specs.declared.status.Status.TheVariants.{Inval, NoGrace, NotSupp, NoEnt, Exist, ShareDenied, ServerFault}
-use Rattle.nfs_compound.specs.declared.op_num.OpNum.TheVariants as Op
-use Rattle.nfs_compound.specs.Attributes.{Attributes}
-use Rattle.nfs_compound.specs.OpenArgs.{Open, OpenHow, NoCreate, Create, Unchecked, Guarded, Exclusive, Exclusive41, OpenClaim, Null, Previous, Fh}
+use Rattle.nfs_compound.specs.declared.op_num.OpNum.TheVariants as Num
+use Rattle.nfs_compound.specs.declared.attributes.Attributes.{Attributes}
+use Rattle.nfs_compound.specs.declared.open_args.Open.{Open}
+use Rattle.nfs_compound.specs.declared.open_args.OpenHow.{OpenHow}
+use Rattle.nfs_compound.specs.declared.open_args.OpenHow.TheVariants.{NoCreate, Create}
+use Rattle.nfs_compound.specs.declared.open_args.CreateHow.TheVariants.{Unchecked, Guarded, Exclusive, Exclusive41}
+use Rattle.nfs_compound.specs.declared.open_args.OpenClaim.{OpenClaim}
+use Rattle.nfs_compound.specs.declared.open_args.OpenClaim.TheVariants.{Null, Previous, Fh}
 use Rattle.nfs_results.specs.declared.res.ChangeInfo.{ChangeInfo}
-use Rattle.nfs_results.specs.Result.{ResOpen}
+use Rattle.nfs_results.specs.declared.res.Res.TheVariants as Res
 use Rattle.nfs_tree.specs.declared.sets.Sets.{Sets}
 use Rattle.nfs_tree.specs.Object.{no_sets}
 use Rattle.nfs_tree.specs.declared.fault.TreeFault.{TreeFault}
@@ -176,10 +181,10 @@ opened s x now o found =
     let file = file_of s.tree found in
     let did = opens s.opens (asking x o file) in
     record {
-      result = ResOpen (record { stateid = wire_id did.id; cinfo = info_of s.tree found; attrset = set_of o found });
+      result = Res.Open (record { stateid = wire_id did.id; cinfo = info_of s.tree found; attrset = set_of o found });
       state = record s { tree = tree_of s.tree x now o found; opens = did.after };
       context = record x { current = Some file; stateid = wire_id did.id };
     }
 
 unfoldable pub open_file : State → Context → Time → Open → Outcome
-open_file s x now o = answers s x Op.Open (checked (asked_for s x o) (last_checks s x o)) (opened s x now o)
+open_file s x now o = answers s x Num.Open (checked (asked_for s x o) (last_checks s x o)) (opened s x now o)

@@ -3,8 +3,8 @@ use Rattle.std.specs.Prelude.{ℕ, Bool, List, [], ◌∷◌, Result, Some, is_n
 use Rattle.nfs_xdr.specs.declared.status.Status.{Status}
 use Rattle.nfs_xdr.specs.declared.status.Status.TheVariants.{Inval}
 use Rattle.nfs_compound.specs.declared.open_args.OpenDowngrade.{OpenDowngrade}
-use Rattle.nfs_compound.specs.declared.op_num.OpNum.TheVariants as Op
-use Rattle.nfs_results.specs.Result.{ResOpenDowngrade}
+use Rattle.nfs_compound.specs.declared.op_num.OpNum.TheVariants as Num
+use Rattle.nfs_results.specs.declared.res.Res.TheVariants as Res
 use Rattle.nfs_opens.specs.declared.share.Share.{Share}
 use Rattle.nfs_opens.specs.declared.stateid.StateId.{StateId}
 use Rattle.nfs_opens.specs.declared.stateid.CurrentSeqid.TheVariants.{Own}
@@ -35,11 +35,11 @@ abbrev pub narrowing : State → Context → OpenDowngrade → Result Target Sta
 narrowing s x a = if_passed (target s x Own a.open_stateid) (λ t. checked (judge s.opens t.id x.client (Some t.file) OpenOnly) (bit_checks a))
 
 abbrev pub narrowed : State → Context → StateId → Table → Outcome
-narrowed s x id after = record { result = ResOpenDowngrade (wire_id id); state = with_opens s after; context = with_stateid x (wire_id id) }
+narrowed s x id after = record { result = Res.OpenDowngrade (wire_id id); state = with_opens s after; context = with_stateid x (wire_id id) }
 
 abbrev pub narrows : State → Context → OpenDowngrade → Target → Outcome
 narrows s x a t =
-    answers s x Op.OpenDowngrade (opens.downgrade s.opens t.id x.client t.file (bits a.share_access) (bits a.share_deny)) (λ did. narrowed s x did.0 did.1)
+    answers s x Num.OpenDowngrade (opens.downgrade s.opens t.id x.client t.file (bits a.share_access) (bits a.share_deny)) (λ did. narrowed s x did.0 did.1)
 
 unfoldable pub open_downgrade : State → Context → OpenDowngrade → Outcome
-open_downgrade s x a = answers s x Op.OpenDowngrade (narrowing s x a) (narrows s x a)
+open_downgrade s x a = answers s x Num.OpenDowngrade (narrowing s x a) (narrows s x a)

@@ -5,8 +5,9 @@ use Rattle.std.specs.List.{list_any}
 use Rattle.nfs_xdr.specs.declared.time.Time.{Time}
 use Rattle.nfs_xdr.specs.declared.status.Status.{Status}
 use Rattle.nfs_xdr.specs.declared.status.Status.TheVariants.{Delay, FBig, NoSpc, ShareDenied, ServerFault}
-use Rattle.nfs_compound.specs.OpenArgs.{Open}
-use Rattle.nfs_results.specs.Result.{OpenOk, ResOpen}
+use Rattle.nfs_compound.specs.declared.open_args.Open.{Open}
+use Rattle.nfs_results.specs.declared.res.OpenOk.{OpenOk}
+use Rattle.nfs_results.specs.declared.res.Res.TheVariants as Res
 use Rattle.nfs_tree.specs.Files.{Files, most_bytes, most_objects, last_count, can_change}
 use Rattle.nfs_tree.specs.declared.fault.TreeFault.{TreeFault}
 use Rattle.nfs_tree.specs.Calls.{resize_fault, create_fault, Did, does_unless}
@@ -59,4 +60,4 @@ entered t x now o found = does_unless t (tree_fault t o found) (file_of t found)
 -- It was done, or memory was refused and nothing changed.
 abbrev pub OpensOr : Result OpenOk Status → Outcome → State → Context → State → Context → Type 0
 OpensOr (Err status) done s x left context = (status ≡ Delay) × (left ≡ s) × (context ≡ x)
-OpensOr (Ok ok) done s x left context = record { result = ResOpen ok; state = left; context = context } ≡ done
+OpensOr (Ok ok) done s x left context = record { result = Res.Open ok; state = left; context = context } ≡ done

@@ -3,9 +3,13 @@ use Rattle.std.specs.Prelude.{◌≡◌, ℕ, ◌==◌, nat_le, Bool, not, ◌&&
 use Rattle.std.specs.Int.{w64, from_be_bytes}
 use Rattle.nfs_xdr.specs.Tables.{In}
 use Rattle.nfs_compound.specs.declared.op_num.OpNum.{OpNum}
-use Rattle.nfs_compound.specs.declared.op_num.OpNum.TheVariants as Op
-use Rattle.nfs_compound.specs.OpenArgs.{Open, OpenClaim, Null}
-use Rattle.nfs_compound.specs.Operation.{Item, Operation, OpOpen, OpOpenDowngrade}
+use Rattle.nfs_compound.specs.declared.op_num.OpNum.TheVariants as Num
+use Rattle.nfs_compound.specs.declared.open_args.Open.{Open}
+use Rattle.nfs_compound.specs.declared.open_args.OpenClaim.{OpenClaim}
+use Rattle.nfs_compound.specs.declared.open_args.OpenClaim.TheVariants.{Null}
+use Rattle.nfs_compound.specs.declared.op.Item.{Item}
+use Rattle.nfs_compound.specs.declared.op.Item.TheVariants.{Operation}
+use Rattle.nfs_compound.specs.declared.op.Op.TheVariants as Op
 use Rattle.nfs_results.specs.Results.{done_head}
 use Rattle.nfs_tree.specs.Files.{Files, lookup}
 use Rattle.nfs_opens.specs.declared.share.Share.{Share}
@@ -43,9 +47,9 @@ bits_had (Some o) = record { access = o.access; deny = o.deny }
 -- The bits of open n behind an operation: an OPEN that answered its stateid joins what it asks for to them, and an OPEN_DOWNGRADE that did puts what it
 -- asks for in their place.
 abbrev pub bits_behind : ℕ → Item → (result : List ℕ) → Bits → Bits
-bits_behind n (Operation (OpOpen a)) result b = if names_open Op.Open result n then bits_with b a else b
-bits_behind n (Operation (OpOpenDowngrade a)) result b =
-    if names_open Op.OpenDowngrade result n then record { access = bits a.share_access; deny = bits a.share_deny } else b
+bits_behind n (Operation (Op.Open a)) result b = if names_open Num.Open result n then bits_with b a else b
+bits_behind n (Operation (Op.OpenDowngrade a)) result b =
+    if names_open Num.OpenDowngrade result n then record { access = bits a.share_access; deny = bits a.share_deny } else b
 bits_behind n item result b = b
 
 -- the open stands, with these bits

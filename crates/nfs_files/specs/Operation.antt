@@ -3,8 +3,9 @@ use Rattle.std.specs.Prelude.{◌&&◌, Bool, true, false, Option, Some, None}
 use Rattle.std.specs.Option.{option_map}
 use Rattle.nfs_xdr.specs.declared.time.Time.{Time}
 use Rattle.nfs_compound.specs.Arguments.{arguments}
-use Rattle.nfs_compound.specs.Operation.{Op, Item, Operation, Fault, OpClose, OpCommit, OpFreeStateid, OpLock, OpLockT, OpLockU, OpOpen, OpOpenDowngrade}
-use Rattle.nfs_compound.specs.Operation.{OpRead, OpSetAttr, OpTestStateid, OpWrite}
+use Rattle.nfs_compound.specs.declared.op.Op.{Op}
+use Rattle.nfs_compound.specs.declared.op.Item.{Item}
+use Rattle.nfs_compound.specs.declared.op.Item.TheVariants.{Operation, Fault}
 use Rattle.nfs_tree.specs.Bytes.{has_bytes}
 use Rattle.nfs_names.specs.declared.context.Context.{Context}
 use Rattle.nfs_names.specs.State.{State}
@@ -24,26 +25,26 @@ use Rattle.nfs_files.specs.Write.{write}
 
 -- what an operation comes to, at a moment
 abbrev pub one : State → Context → Time → Op → Option Outcome
-one s x now (OpClose a) = Some (close s x a)
-one s x now (OpCommit a) = Some (commit s x)
-one s x now (OpFreeStateid given) = Some (free_stateid s x given)
-one s x now (OpLock a) = Some (lock s x a)
-one s x now (OpLockT a) = Some (lock_t s x a)
-one s x now (OpLockU a) = Some (lock_u s x a)
-one s x now (OpOpen a) = Some (open_file s x now a)
-one s x now (OpOpenDowngrade a) = Some (open_downgrade s x a)
-one s x now (OpRead a) = Some (read s x a)
-one s x now (OpSetAttr a) = Some (set_attr s x now a)
-one s x now (OpTestStateid given) = Some (test_stateid s x given)
-one s x now (OpWrite a) = Some (write s x now a)
+one s x now (Op.Close a) = Some (close s x a)
+one s x now (Op.Commit a) = Some (commit s x)
+one s x now (Op.FreeStateid given) = Some (free_stateid s x given)
+one s x now (Op.Lock a) = Some (lock s x a)
+one s x now (Op.LockT a) = Some (lock_t s x a)
+one s x now (Op.LockU a) = Some (lock_u s x a)
+one s x now (Op.Open a) = Some (open_file s x now a)
+one s x now (Op.OpenDowngrade a) = Some (open_downgrade s x a)
+one s x now (Op.Read a) = Some (read s x a)
+one s x now (Op.SetAttr a) = Some (set_attr s x now a)
+one s x now (Op.TestStateid given) = Some (test_stateid s x given)
+one s x now (Op.Write a) = Some (write s x now a)
 one s x now op = None
 
 -- the operations that may want memory
 abbrev pub grows : State → Context → Op → Bool
-grows s x (OpLock a) = true
-grows s x (OpLockU a) = wants_memory a
-grows s x (OpOpen a) = true
-grows s x (OpWrite a) = has_bytes a.bytes
+grows s x (Op.Lock a) = true
+grows s x (Op.LockU a) = wants_memory a
+grows s x (Op.Open a) = true
+grows s x (Op.Write a) = has_bytes a.bytes
 grows s x op = false
 
 -- What stands at a place of a compound comes to, where memory was refused or not; a fault is none of these.

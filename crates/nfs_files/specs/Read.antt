@@ -1,9 +1,10 @@
 -- READ (RFC 8881 section 18.22): bytes of a file, and whether they end where it does.
 use Rattle.std.specs.Prelude.{ℕ, ◌+◌, List, length, nat_le}
-use Rattle.nfs_compound.specs.declared.op_num.OpNum.TheVariants as Op
+use Rattle.nfs_compound.specs.declared.op_num.OpNum.TheVariants as Num
 use Rattle.nfs_compound.specs.declared.file_args.Read.{Read}
 use Rattle.nfs_results.specs.Largest.{given}
-use Rattle.nfs_results.specs.Result.{ReadOk, ResRead}
+use Rattle.nfs_results.specs.declared.res.ReadOk.{ReadOk}
+use Rattle.nfs_results.specs.declared.res.Res.TheVariants as Res
 use Rattle.nfs_tree.specs.Bytes.{part}
 use Rattle.nfs_names.specs.declared.context.Context.{Context}
 use Rattle.nfs_names.specs.declared.node.Node.{Node}
@@ -20,4 +21,4 @@ abbrev pub was_read : State → Read → Node → ReadOk
 was_read s r d = record { eof = nat_le d.object.size (r.offset + length (bytes_of s r d)); bytes = bytes_of s r d }
 
 unfoldable pub read : State → Context → Read → Outcome
-read s x r = answers s x Op.Read (readable s x r.stateid (current s x)) (λ d. done s x (ResRead (was_read s r d)))
+read s x r = answers s x Num.Read (readable s x r.stateid (current s x)) (λ d. done s x (Res.Read (was_read s r d)))

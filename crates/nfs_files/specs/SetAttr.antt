@@ -3,10 +3,10 @@ use Rattle.std.specs.Prelude.{ℕ, ◌||◌, ◌&&◌, Bool, false, not, List, [
 use Rattle.nfs_xdr.specs.declared.time.Time.{Time}
 use Rattle.nfs_xdr.specs.declared.status.Status.{Status}
 use Rattle.nfs_xdr.specs.declared.status.Status.TheVariants.{Nfs4Ok, FBig, ServerFault}
-use Rattle.nfs_compound.specs.declared.op_num.OpNum.TheVariants as Op
+use Rattle.nfs_compound.specs.declared.op_num.OpNum.TheVariants as Num
 use Rattle.nfs_compound.specs.declared.stateid.Stateid.{Stateid}
-use Rattle.nfs_compound.specs.FileArgs.{SetAttr}
-use Rattle.nfs_results.specs.Result.{ResSetAttr}
+use Rattle.nfs_compound.specs.declared.file_args.SetAttr.{SetAttr}
+use Rattle.nfs_results.specs.declared.res.Res.TheVariants as Res
 use Rattle.nfs_tree.specs.declared.sets.Sets.{Sets}
 use Rattle.nfs_tree.specs.Files.{Files, most_bytes, can_change, with_changed}
 use Rattle.nfs_tree.specs.Bytes.{with_resized}
@@ -74,10 +74,10 @@ with_set t n now wanted None = if gives_some wanted then record t { objects = wi
 
 abbrev pub was_set : State → Context → Time → SetAttr → Setting → Outcome
 was_set s x now a m = record {
-  result = ResSetAttr Nfs4Ok (trimmed_words (mask_of a.obj_attributes.attrmask));
+  result = Res.SetAttr Nfs4Ok (trimmed_words (mask_of a.obj_attributes.attrmask));
   state = with_tree s (with_set s.tree m.node.number now m.wanted m.wanted.size);
   context = x;
 }
 
 unfoldable pub set_attr : State → Context → Time → SetAttr → Outcome
-set_attr s x now a = answers s x Op.SetAttr (checked (asked_for s x a) (last_checks s)) (was_set s x now a)
+set_attr s x now a = answers s x Num.SetAttr (checked (asked_for s x a) (last_checks s)) (was_set s x now a)

@@ -4,7 +4,7 @@ use Rattle.nfs_xdr.specs.Status.{status_number}
 use Rattle.nfs_xdr.specs.declared.status.Status.{Status}
 use Rattle.nfs_xdr.specs.declared.status.Status.TheVariants.{Nfs4Ok, BadStateId}
 use Rattle.nfs_compound.specs.declared.stateid.Stateid.{Stateid}
-use Rattle.nfs_results.specs.Result.{ResTestStateid}
+use Rattle.nfs_results.specs.declared.res.Res.TheVariants as Res
 use Rattle.nfs_opens.specs.declared.stateid.StateId.{StateId}
 use Rattle.nfs_opens.specs.declared.judging.Seat.{Seat}
 use Rattle.nfs_opens.specs.declared.judging.Seat.TheVariants.{Anonymous, ReadBypass, Open, Lock}
@@ -32,4 +32,4 @@ unfoldable pub code : State → Context → Stateid → ℕ
 code s x given = status_number (tested s x (state_id given))
 
 unfoldable pub test_stateid : State → Context → List Stateid → Outcome
-test_stateid s x given = done s x (ResTestStateid (map (code s x) given))
+test_stateid s x given = done s x (Res.TestStateid (map (code s x) given))

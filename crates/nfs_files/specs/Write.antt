@@ -3,11 +3,11 @@ use Rattle.std.specs.Prelude.{◌+◌, ◌&&◌, Bool, not, List, [], ◌∷◌,
 use Rattle.nfs_xdr.specs.declared.time.Time.{Time}
 use Rattle.nfs_xdr.specs.declared.status.Status.{Status}
 use Rattle.nfs_xdr.specs.declared.status.Status.TheVariants.{FBig, ServerFault}
-use Rattle.nfs_compound.specs.declared.op_num.OpNum.TheVariants as Op
+use Rattle.nfs_compound.specs.declared.op_num.OpNum.TheVariants as Num
 use Rattle.nfs_compound.specs.declared.file_args.StableHow.TheVariants.{FileSync}
-use Rattle.nfs_compound.specs.FileArgs.{Write}
+use Rattle.nfs_compound.specs.declared.file_args.Write.{Write}
 use Rattle.nfs_results.specs.declared.res.WriteOk.{WriteOk}
-use Rattle.nfs_results.specs.Result.{ResWrite}
+use Rattle.nfs_results.specs.declared.res.Res.TheVariants as Res
 use Rattle.nfs_tree.specs.Files.{Files, most_bytes, can_change}
 use Rattle.nfs_tree.specs.Bytes.{has_bytes, with_written}
 use Rattle.nfs_names.specs.declared.context.Context.{Context}
@@ -33,7 +33,7 @@ abbrev pub with_bytes : Files → Write → Node → Time → Files
 with_bytes t w d now = if has_bytes w.bytes then with_written t d.number w.offset w.bytes now else t
 
 abbrev pub was_written : State → Context → Time → Write → Node → Outcome
-was_written s x now w d = record { result = ResWrite (write_ok s w); state = with_tree s (with_bytes s.tree w d now); context = x }
+was_written s x now w d = record { result = Res.Write (write_ok s w); state = with_tree s (with_bytes s.tree w d now); context = x }
 
 unfoldable pub write : State → Context → Time → Write → Outcome
-write s x now w = answers s x Op.Write (checked (writable s x w.stateid (current s x)) (last_checks s w)) (was_written s x now w)
+write s x now w = answers s x Num.Write (checked (writable s x w.stateid (current s x)) (last_checks s w)) (was_written s x now w)

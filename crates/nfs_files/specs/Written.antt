@@ -4,14 +4,21 @@ use Rattle.std.specs.Prelude.{◌≡◌, ◌⊎◌, ℕ, Bool, ◌+◌, ◌-◌,
 use Rattle.std.specs.Option.{ForSome}
 use Rattle.std.specs.Int.{w32, from_be_bytes}
 use Rattle.nfs_xdr.specs.declared.time.Time.{Time}
-use Rattle.nfs_compound.specs.Attributes.{Attributes}
-use Rattle.nfs_compound.specs.OpenArgs.{Open, Create, Unchecked, Null}
-use Rattle.nfs_compound.specs.FileArgs.{Write, SetAttr}
+use Rattle.nfs_compound.specs.declared.attributes.Attributes.{Attributes}
+use Rattle.nfs_compound.specs.declared.open_args.Open.{Open}
+use Rattle.nfs_compound.specs.declared.open_args.OpenHow.TheVariants.{Create}
+use Rattle.nfs_compound.specs.declared.open_args.CreateHow.TheVariants.{Unchecked}
+use Rattle.nfs_compound.specs.declared.open_args.OpenClaim.TheVariants.{Null}
+use Rattle.nfs_compound.specs.declared.file_args.Write.{Write}
+use Rattle.nfs_compound.specs.declared.file_args.SetAttr.{SetAttr}
 use Rattle.nfs_compound.specs.declared.file_args.Read.{Read}
-use Rattle.nfs_compound.specs.Operation.{Item, Operation, OpOpen, OpRead, OpSetAttr, OpWrite}
-use Rattle.nfs_compound.specs.declared.op_num.OpNum.TheVariants as Op
+use Rattle.nfs_compound.specs.declared.op.Item.{Item}
+use Rattle.nfs_compound.specs.declared.op.Item.TheVariants.{Operation}
+use Rattle.nfs_compound.specs.declared.op.Op.TheVariants as Op
+use Rattle.nfs_compound.specs.declared.op_num.OpNum.TheVariants as Num
 use Rattle.nfs_results.specs.Largest.{given}
-use Rattle.nfs_results.specs.Result.{OpenOk, ResOpen}
+use Rattle.nfs_results.specs.declared.res.OpenOk.{OpenOk}
+use Rattle.nfs_results.specs.declared.res.Res.TheVariants as Res
 use Rattle.nfs_results.specs.Results.{spell_result, done_head}
 use Rattle.nfs_tree.specs.Files.{Files, is_there, data_at, lookup}
 use Rattle.nfs_tree.specs.TreeInvariants.{IsTree}
@@ -43,11 +50,11 @@ pub record Lasts (b : Byte) (t : Files) : Type 0 where
 -- a WRITE over the place answered NFS4_OK: the place is in the range that begins at the offset and has as many bytes as were answered
 pub record WritesOver (file place : ℕ) (x : Context) (i : Item) (result : List ℕ) : Type 0 where
   pub asked : Write
-  pub is : i ≡ Operation (OpWrite asked)
+  pub is : i ≡ Operation (Op.Write asked)
   pub at : x.current ≡ Some file
   pub count : List ℕ
   pub more : List ℕ
-  pub answers : result ≡ done_head Op.Write ++ (count ++ more)
+  pub answers : result ≡ done_head Num.Write ++ (count ++ more)
   pub long : length count ≡ 4
   pub from : asked.offset ≤ place
   pub below : place < asked.offset + from_be_bytes w32 count
@@ -60,7 +67,7 @@ pub record Writes (b : Byte) (x : Context) (i : Item) (result : List ℕ) : Type
 -- a SETATTR of a size that the place is not below answered NFS4_OK
 pub record SetsSize (file place : ℕ) (x : Context) (i : Item) (result : List ℕ) : Type 0 where
   pub asked : SetAttr
-  pub is : i ≡ Operation (OpSetAttr asked)
+  pub is : i ≡ Operation (Op.SetAttr asked)
   pub at : x.current ≡ Some file
   pub wanted : Wanted
   pub reads : attributes_in asked.obj_attributes ≡ Ok wanted
@@ -68,12 +75,12 @@ pub record SetsSize (file place : ℕ) (x : Context) (i : Item) (result : List �
   pub sets : wanted.size ≡ Some size
   pub cuts : size ≤ place
   pub more : List ℕ
-  pub answers : result ≡ done_head Op.SetAttr ++ more
+  pub answers : result ≡ done_head Num.SetAttr ++ more
 
 -- an OPEN of the file by a name, for writing, as UNCHECKED4 and with size 0, answered NFS4_OK and that it set the size
 pub record OpensEmpty (file : ℕ) (s : State) (x : Context) (i : Item) (result : List ℕ) : Type 0 where
   pub asked : Open
-  pub is : i ≡ Operation (OpOpen asked)
+  pub is : i ≡ Operation (Op.Open asked)
   pub directory : ℕ
   pub at : x.current ≡ Some directory
   pub name : List ℕ
@@ -86,7 +93,7 @@ pub record OpensEmpty (file : ℕ) (s : State) (x : Context) (i : Item) (result 
   pub size : wanted.size ≡ Some 0
   pub writes : (access_of asked).writes ≡ true
   pub ok : OpenOk
-  pub answers : result ≡ spell_result (ResOpen ok)
+  pub answers : result ≡ spell_result (Res.Open ok)
   pub sets : ok.attrset ≡ 0x10 ∷ []
 
 -- It is none of these.
@@ -102,12 +109,12 @@ bytes_in text = take (from_be_bytes w32 (take 4 text)) (drop 4 text)
 -- A READ answered NFS4_OK. The place is among the bytes that it asked for, of which no more than 65,536 need be given at once, or among those that it was given.
 pub record Reads (file place : ℕ) (x : Context) (i : Item) (result : List ℕ) : Type 0 where
   pub asked : Read
-  pub is : i ≡ Operation (OpRead asked)
+  pub is : i ≡ Operation (Op.Read asked)
   pub at : x.current ≡ Some file
   pub eof : List ℕ
   pub long : length eof ≡ 4
   pub text : List ℕ
-  pub answers : result ≡ done_head Op.Read ++ (eof ++ text)
+  pub answers : result ≡ done_head Num.Read ++ (eof ++ text)
   pub from : asked.offset ≤ place
   pub below : (place < asked.offset + given asked.count) ⊎ (place < asked.offset + length (bytes_in text))
 

@@ -3,12 +3,10 @@
 ghost use Rattle.std.specs.Prelude.{◌≡◌, ◌+◌, ◌-◌, ◌≤◌, ◌||◌, ◌&&◌, Some, length, nat_le};
 ghost use Rattle.nfs_xdr.specs.SheetState.{Puts};
 ghost use Rattle.nfs_xdr.specs.Spelling.{padding};
-ghost use Rattle.nfs_compound.specs.ArgCodecs.{view_write};
-ghost use Rattle.nfs_compound.specs.declared.op_num.OpNum.TheVariants as num;
+ghost use Rattle.nfs_compound.specs.declared.op_num.OpNum.TheVariants as Num;
 ghost use Rattle.nfs_results.specs.Largest.{given};
-ghost use Rattle.nfs_results.specs.Result.{ResRead};
+ghost use Rattle.nfs_results.specs.declared.res.Res.TheVariants as Res;
 ghost use Rattle.nfs_results.specs.Results.{spell_result, status_of_result};
-ghost use Rattle.nfs_results.specs.View as view;
 ghost use Rattle.nfs_tree.specs.Bytes.{has_bytes};
 ghost use Rattle.nfs_tree.specs.Files.{most_bytes, object_at};
 ghost use Rattle.nfs_names.specs.State.{state_of};
@@ -59,7 +57,7 @@ pub(crate) fn commit(store: &Store, context: &Context<'_>) -> Res<'static>
 /// The file that is to be written.
 #[tactic(auto, unfolding(crate::specs::Bytes::writable))]
 fn to_write(store: &Store, context: &Context<'_>, asked: &Write<'_>) -> Result<Node, Status>
-    ensures { result ≡ of_bytes.writable (state_of store.now) context.now (view_write asked.now).stateid (check.current (state_of store.now) context.now) }
+    ensures { result ≡ of_bytes.writable (state_of store.now) context.now asked.now.stateid (check.current (state_of store.now) context.now) }
 {
     let node = current(store, context)?;
     writable(store, context, &asked.stateid, node)
@@ -67,11 +65,11 @@ fn to_write(store: &Store, context: &Context<'_>, asked: &Write<'_>) -> Result<N
 
 /// All bytes were written, as lastingly as any are.
 fn write_ok(store: &Store, asked: &Write<'_>) -> WriteOk
-    requires { length (view_write asked.now).bytes ≤ most_bytes }
-    ensures { result ≡ of_write.write_ok (state_of store.now) (view_write asked.now) }
+    requires { length asked.now.bytes ≤ most_bytes }
+    ensures { result ≡ of_write.write_ok (state_of store.now) asked.now }
 {
     WriteOk {
-        count: asked.bytes.len() as u32,
+        count: asked.bytes.bytes().len() as u32,
         committed: StableHow::FileSync,
         writeverf: write_verifier(store),
     }
@@ -85,12 +83,12 @@ pub(crate) fn write_bytes(
     asked: &Write<'_>,
     now: Time,
 ) -> Res<'static>
-    ensures { outcome_of result (state_of store.new) context.now ≡ or_delay (has_bytes (view_write asked.now).bytes && is_delay (status_of_result (view.res result))) (state_of store.old) context.now num.Write (of_write.write (state_of store.old) context.now now (view_write asked.now)) }
+    ensures { outcome_of result (state_of store.new) context.now ≡ or_delay (has_bytes asked.now.bytes && is_delay (status_of_result result)) (state_of store.old) context.now Num.Write (of_write.write (state_of store.old) context.now now asked.now) }
 {
     match to_write(store, context, asked) {
         Ok(node) => match store
             .tree
-            .write(alloc, node.number, asked.offset, asked.bytes, now)
+            .write(alloc, node.number, asked.offset, asked.bytes.bytes(), now)
         {
             Ok(()) => Res::Write(write_ok(store, asked)),
             Err(fault) => refuse(OpNum::Write, status_of(fault)),
@@ -110,7 +108,7 @@ fn reaches_end(size: u64, offset: u64, count: u32) -> bool
 fn put_read(store: &Store, node: &Node, asked: &Read, out: &mut Sheet)
     requires there { object_at store.now.tree node.now.number ≡ Some node.now.object }
     requires room { length out.old.bytes + (16 + (given asked.now.count + padding (given asked.now.count))) ≤ out.old.room }
-    ensures { Puts out.old out.new (spell_result (ResRead (of_read.was_read (state_of store.now) asked.now node.now))) }
+    ensures { Puts out.old out.new (spell_result (Res.Read (of_read.was_read (state_of store.now) asked.now node.now))) }
 {
     store.tree.kept();
     let count = given(asked.count);

@@ -2,10 +2,8 @@
 
 ghost use Rattle.std.specs.Prelude.{◌≡◌, true, Ok};
 ghost use Rattle.nfs_xdr.specs.Checks.{first_fault, judged};
-ghost use Rattle.nfs_compound.specs.OpenCodecs.{view_open};
-ghost use Rattle.nfs_compound.specs.declared.op_num.OpNum.TheVariants as num;
+ghost use Rattle.nfs_compound.specs.declared.op_num.OpNum.TheVariants as Num;
 ghost use Rattle.nfs_results.specs.Results.{status_of_result};
-ghost use Rattle.nfs_results.specs.View as view;
 ghost use Rattle.nfs_tree.specs.Calls.{new_of, DoesOrWants};
 ghost use Rattle.nfs_tree.specs.Files as files;
 ghost use Rattle.nfs_opens.specs.Calls as of_opens;
@@ -18,9 +16,9 @@ ghost use Rattle.nfs_files.specs.OpenParts as part;
 
 use crate::opening::{Found, access_of, attributes_in, deny_of, judge, name_of, verifier_of};
 use crate::stateids::wire_id;
-use nfs_attrs::{Mask, Wanted, attribute};
+use nfs_attrs::{Wanted, attribute};
 use nfs_compound::{OpNum, Open};
-use nfs_names::{Context, Store, attr_set, change_info, refuse, status_of, time_of};
+use nfs_names::{Context, Store, attr_set, change_info, mask_in, refuse, status_of, time_of};
 use nfs_opens::Ask;
 use nfs_results::{AttrSet, ChangeInfo, OpenOk, Res};
 use nfs_tree::{Change, New, Sets, Tree, TreeFault};
@@ -72,11 +70,11 @@ fn judge_room(tree: &Tree, found: &Found) -> Result<(), Status>
 
 /// What is asked of the opens of a file.
 fn ask_for<'a>(context: &Context<'_>, asked: &Open<'a>, file: u64) -> Ask<'a>
-    ensures { of_opens.asked result ≡ of_open.asking context.now (view_open asked.now) file }
+    ensures { of_opens.asked result ≡ of_open.asking context.now asked.now file }
 {
     Ask {
         client: context.client,
-        owner: asked.owner.owner,
+        owner: asked.owner.owner.bytes(),
         file,
         access: access_of(asked),
         deny: deny_of(asked),
@@ -100,7 +98,7 @@ fn judge_last(
     asked: &Open<'_>,
     found: &Found,
 ) -> Result<(), Status>
-    ensures { result ≡ judged (first_fault (part.last_checks (state_of store.now) context.now (view_open asked.now) found.now)) }
+    ensures { result ≡ judged (first_fault (part.last_checks (state_of store.now) context.now asked.now found.now)) }
 {
     let room = judge_room(&store.tree, found);
     let ask = ask_for(context, asked, number_of(found));
@@ -121,7 +119,7 @@ fn judge_last(
 /// What is to be opened, if it may be.
 fn judge_whole(store: &Store, context: &Context<'_>, asked: &Open<'_>) -> Result<Found, Status>
     requires { IsStore (state_of store.now) }
-    ensures { result ≡ checked (of_open.asked_for (state_of store.now) context.now (view_open asked.now)) (of_open.last_checks (state_of store.now) context.now (view_open asked.now)) }
+    ensures { result ≡ checked (of_open.asked_for (state_of store.now) context.now asked.now) (of_open.last_checks (state_of store.now) context.now asked.now) }
 {
     store.tree.kept();
     let found = judge(store, context, asked)?;
@@ -156,7 +154,7 @@ fn info_of(tree: &Tree, found: &Found) -> ChangeInfo
 
 /// What a new file is.
 fn new_file(asked: &Open<'_>, wanted: &Wanted) -> New<'static>
-    ensures { new_of result ≡ of_open.new_of (view_open asked.now) wanted.now }
+    ensures { new_of result ≡ of_open.new_of asked.now wanted.now }
 {
     New::File {
         size: wanted.size.unwrap_or(0),
@@ -166,7 +164,7 @@ fn new_file(asked: &Open<'_>, wanted: &Wanted) -> New<'static>
 
 /// What its attributes are, where nothing else is given.
 fn sets_of(context: &Context<'_>, now: Time, asked: &Open<'_>, wanted: &Wanted) -> Sets
-    ensures { result ≡ of_open.sets_of context.now now (view_open asked.now) wanted.now }
+    ensures { result ≡ of_open.sets_of context.now now asked.now wanted.now }
 {
     let _ = &asked.openhow;
     Sets {
@@ -180,13 +178,11 @@ fn sets_of(context: &Context<'_>, now: Time, asked: &Open<'_>, wanted: &Wanted) 
 
 /// The attributes that are set.
 fn set_of(asked: &Open<'_>, found: &Found) -> AttrSet
-    ensures { view.attr_set result ≡ of_open.set_of (view_open asked.now) found.now }
+    ensures { result ≡ of_open.set_of asked.now found.now }
 {
     match found {
-        Found::There { cut, .. } => AttrSet {
-            words: [if *cut { SIZE } else { 0 }, 0, 0],
-        },
-        Found::Absent(_) => attr_set(&Mask::new(attributes_in(&asked.openhow).attrmask.words)),
+        Found::There { cut, .. } => AttrSet::of([if *cut { SIZE } else { 0 }, 0, 0]),
+        Found::Absent(_) => attr_set(&mask_in(&attributes_in(&asked.openhow).attrmask)),
     }
 }
 
@@ -200,7 +196,7 @@ fn enter(
     now: Time,
 ) -> Result<u64, TreeFault>
     requires { IsRooted tree.old }
-    ensures { DoesOrWants tree.old true (part.entered tree.old context.now now (view_open asked.now) found.now) result tree.new }
+    ensures { DoesOrWants tree.old true (part.entered tree.old context.now now asked.now found.now) result tree.new }
 {
     match found {
         Found::There { file, cut, .. } => {
@@ -228,12 +224,12 @@ fn open_found(
     found: &Found,
     now: Time,
 ) -> Result<OpenOk, Status>
-    requires granted { checked (of_open.asked_for (state_of store.old) context.old (view_open asked.now)) (of_open.last_checks (state_of store.old) context.old (view_open asked.now)) ≡ Ok found.now }
+    requires granted { checked (of_open.asked_for (state_of store.old) context.old asked.now) (of_open.last_checks (state_of store.old) context.old asked.now) ≡ Ok found.now }
     requires store { IsStore (state_of store.old) }
-    ensures { part.OpensOr (mapped view.open_ok result) (of_open.opened (state_of store.old) context.old now (view_open asked.now) found.now) (state_of store.old) context.old (state_of store.new) context.new }
+    ensures { part.OpensOr result (of_open.opened (state_of store.old) context.old now asked.now found.now) (state_of store.old) context.old (state_of store.new) context.new }
 {
     store.tree.kept();
-    let Ok(ready) = store.opens.reserve(alloc, asked.owner.owner) else {
+    let Ok(ready) = store.opens.reserve(alloc, asked.owner.owner.bytes()) else {
         return Err(Status::Delay);
     };
     let cinfo = info_of(&store.tree, found);
@@ -261,7 +257,7 @@ pub(crate) fn open_file(
     now: Time,
 ) -> Res<'static>
     requires { IsStore (state_of store.old) }
-    ensures { outcome_of result (state_of store.new) context.new ≡ or_delay (is_delay (status_of_result (view.res result))) (state_of store.old) context.old num.Open (of_open.open_file (state_of store.old) context.old now (view_open asked.now)) }
+    ensures { outcome_of result (state_of store.new) context.new ≡ or_delay (is_delay (status_of_result result)) (state_of store.old) context.old Num.Open (of_open.open_file (state_of store.old) context.old now asked.now) }
 {
     match judge_whole(store, context, asked) {
         Ok(found) => match open_found(alloc, store, context, asked, &found, now) {

@@ -2,14 +2,12 @@
 
 ghost use Rattle.std.specs.Prelude.{◌≡◌, ◌+◌, ◌≤◌, ◌&&◌, not, IfOk, length, take};
 ghost use Rattle.nfs_xdr.specs.declared.status.Status.TheVariants as S;
-ghost use Rattle.nfs_compound.specs.declared.op_num.OpNum.TheVariants as Op;
-ghost use Rattle.nfs_compound.specs.ArgCodecs.{view_lock, view_lock_t, view_locker};
+ghost use Rattle.nfs_compound.specs.declared.op_num.OpNum.TheVariants as Num;
 ghost use Rattle.nfs_compound.specs.StateOwner as state_owner;
 ghost use Rattle.nfs_xdr.specs.SheetState.{Puts};
 ghost use Rattle.nfs_xdr.specs.Limits.{opaque_limit};
-ghost use Rattle.nfs_results.specs.Result.{ResLock, ResLockDenied, ResLockT, ResLockTDenied};
+ghost use Rattle.nfs_results.specs.declared.res.Res.TheVariants as Res;
 ghost use Rattle.nfs_results.specs.Results.{spell_result, status_of_result};
-ghost use Rattle.nfs_results.specs.View as view;
 ghost use Rattle.nfs_opens.specs.Table.{table, lock_at};
 ghost use Rattle.nfs_opens.specs.Calls.{LocksOrWants, is_whole};
 ghost use Rattle.nfs_names.specs.State.{state_of};
@@ -24,7 +22,7 @@ ghost use Rattle.nfs_files.specs.Ranges as of_ranges;
 
 use crate::ranges::{Wished, wish_for};
 use crate::stateids::{meant, wire_id};
-use nfs_compound::{Lock, LockT, LockType, LockU, Locker, OpNum, StateOwner, Stateid};
+use nfs_compound::{Lent, Lock, LockT, LockType, LockU, Locker, OpNum, StateOwner, Stateid};
 use nfs_names::{Context, Store, put_refusal, refuse};
 use nfs_opens::{CurrentSeqid, OpenFault, Opens, StateId, Wish};
 use nfs_ranges::{Held, Kind};
@@ -66,16 +64,16 @@ fn owner_of(bytes: &[u8]) -> &[u8]
 
 /// Who holds the bytes, by the number of the lock state.
 fn holder(opens: &Opens, number: u64) -> StateOwner<'_>
-    ensures { state_owner.view result ≡ of_denied.holder (lock_at (table opens.now) number) }
+    ensures { result ≡ of_denied.holder (lock_at (table opens.now) number) }
 {
     match opens.lock_state(number) {
         Some(lock) => StateOwner {
             clientid: lock.client,
-            owner: owner_of(lock.owner.bytes()),
+            owner: Lent::of(owner_of(lock.owner.bytes())),
         },
         None => StateOwner {
             clientid: 0,
-            owner: &[],
+            owner: Lent::of(&[]),
         },
     }
 }
@@ -83,7 +81,7 @@ fn holder(opens: &Opens, number: u64) -> StateOwner<'_>
 /// The lock that is in the way.
 #[tactic(auto, unfolding(crate::specs::Denied::denied))]
 fn denied<'a>(opens: &'a Opens, held: &Held) -> Denied<'a>
-    ensures { view.denied result ≡ of_denied.denied (table opens.now) held.now }
+    ensures { result ≡ of_denied.denied (table opens.now) held.now }
 {
     Denied {
         offset: held.first,
@@ -107,7 +105,7 @@ fn status_of(fault: OpenFault) -> Status
 /// Puts the lock that is in the way of a LOCK, as it answers it.
 fn put_denied(opens: &Opens, held: &Held, out: &mut Sheet) -> Status
     requires { length out.old.bytes + of_denied.most_denied ≤ out.old.room }
-    ensures put { Puts out.old out.new (spell_result (ResLockDenied (of_denied.denied (table opens.now) held.now))) }
+    ensures put { Puts out.old out.new (spell_result (Res.LockDenied (of_denied.denied (table opens.now) held.now))) }
     ensures status { result ≡ S.Denied }
 {
     write(&Res::LockDenied(denied(opens, held)), out);
@@ -117,7 +115,7 @@ fn put_denied(opens: &Opens, held: &Held, out: &mut Sheet) -> Status
 /// Puts the lock that is in the way of a LOCKT, as it answers it.
 fn put_denied_test(opens: &Opens, held: &Held, out: &mut Sheet) -> Status
     requires { length out.old.bytes + of_denied.most_denied ≤ out.old.room }
-    ensures put { Puts out.old out.new (spell_result (ResLockTDenied (of_denied.denied (table opens.now) held.now))) }
+    ensures put { Puts out.old out.new (spell_result (Res.LockTDenied (of_denied.denied (table opens.now) held.now))) }
     ensures status { result ≡ S.Denied }
 {
     write(&Res::LockTDenied(denied(opens, held)), out);
@@ -127,7 +125,7 @@ fn put_denied_test(opens: &Opens, held: &Held, out: &mut Sheet) -> Status
 /// Puts the stateid of a lock that was set, as LOCK answers it.
 fn put_locked(id: Stateid, out: &mut Sheet) -> Status
     requires { length out.old.bytes + of_denied.most_denied ≤ out.old.room }
-    ensures put { Puts out.old out.new (spell_result (ResLock id)) }
+    ensures put { Puts out.old out.new (spell_result (Res.Lock id)) }
     ensures status { result ≡ S.Nfs4Ok }
 {
     write(&Res::Lock(id), out);
@@ -137,7 +135,7 @@ fn put_locked(id: Stateid, out: &mut Sheet) -> Status
 /// Puts that no lock is in the way, as LOCKT answers it.
 fn put_free(out: &mut Sheet) -> Status
     requires { length out.old.bytes + of_denied.most_denied ≤ out.old.room }
-    ensures put { Puts out.old out.new (spell_result ResLockT) }
+    ensures put { Puts out.old out.new (spell_result Res.LockT) }
     ensures status { result ≡ S.Nfs4Ok }
 {
     write(&Res::LockT, out);
@@ -153,10 +151,10 @@ pub(crate) fn lock_t(
     out: &mut Sheet,
 ) -> Status
     requires { length out.old.bytes + of_denied.most_denied ≤ out.old.room }
-    ensures { Comes (of_lock_t.lock_t (state_of store.now) context.now (view_lock_t asked.now)) out.old out.new result (state_of store.now) context.now }
+    ensures { Comes (of_lock_t.lock_t (state_of store.now) context.now asked.now) out.old out.new result (state_of store.now) context.now }
 {
     match wish_for(store, context, asked.locktype, asked.offset, asked.length) {
-        Ok(wish) => match store.opens.test_lock(asked.owner.owner, &wish) {
+        Ok(wish) => match store.opens.test_lock(asked.owner.owner.bytes(), &wish) {
             Some(held) => put_denied_test(&store.opens, &held, out),
             None => put_free(out),
         },
@@ -166,7 +164,7 @@ pub(crate) fn lock_t(
 
 /// The stateid by which a lock owner asks.
 fn stateid_in(locker: &Locker<'_>) -> Stateid
-    ensures { result ≡ of_lock.stateid_in (view_locker locker.now) }
+    ensures { result ≡ of_lock.stateid_in locker.now }
 {
     match locker {
         Locker::OpenOwner(first) => first.open_stateid,
@@ -176,7 +174,7 @@ fn stateid_in(locker: &Locker<'_>) -> Stateid
 
 /// The bytes that are to be locked, and by which open or lock state.
 fn judge_lock(store: &Store, context: &Context<'_>, asked: &Lock<'_>) -> Result<Wished, Status>
-    ensures wish { result ≡ of_lock.locking (state_of store.now) context.now (view_lock asked.now) }
+    ensures wish { result ≡ of_lock.locking (state_of store.now) context.now asked.now }
     ensures order { IfOk result (λ k. k.wish.first ≤ k.wish.last) }
 {
     let wish = wish_for(store, context, asked.locktype, asked.offset, asked.length)?;
@@ -195,13 +193,13 @@ fn lock_bytes(
     wished: &Wished,
 ) -> Result<StateId, OpenFault>
     requires { wished.now.wish.first ≤ wished.now.wish.last }
-    ensures { LocksOrWants (table opens.old) (of_lock.locks_as (table opens.old) (view_locker locker.now) wished.now.id wished.now.wish) result (table opens.new) }
+    ensures { LocksOrWants (table opens.old) (of_lock.locks_as (table opens.old) locker.now wished.now.id wished.now.wish) result (table opens.new) }
 {
     match locker {
         Locker::OpenOwner(first) => {
             let locker = nfs_opens::Locker::New {
                 under: wished.id,
-                owner: first.lock_owner.owner,
+                owner: first.lock_owner.owner.bytes(),
             };
             opens.lock(alloc, &locker, &wished.wish)
         }
@@ -222,7 +220,7 @@ fn set_lock(
 ) -> Status
     requires order { wished.now.wish.first ≤ wished.now.wish.last }
     requires room { length out.old.bytes + of_denied.most_denied ≤ out.old.room }
-    ensures { Comes (or_delay (is_delay result) (state_of store.old) context.old Op.Lock (of_lock.locks (state_of store.old) context.old (view_locker locker.now) wished.now)) out.old out.new result (state_of store.new) context.new }
+    ensures { Comes (or_delay (is_delay result) (state_of store.old) context.old Num.Lock (of_lock.locks (state_of store.old) context.old locker.now wished.now)) out.old out.new result (state_of store.new) context.new }
 {
     match lock_bytes(alloc, &mut store.opens, locker, wished) {
         Ok(id) => {
@@ -246,7 +244,7 @@ pub(crate) fn lock(
     out: &mut Sheet,
 ) -> Status
     requires { length out.old.bytes + of_denied.most_denied ≤ out.old.room }
-    ensures { Comes (or_delay (is_delay result) (state_of store.old) context.old Op.Lock (of_lock.lock (state_of store.old) context.old (view_lock asked.now))) out.old out.new result (state_of store.new) context.new }
+    ensures { Comes (or_delay (is_delay result) (state_of store.old) context.old Num.Lock (of_lock.lock (state_of store.old) context.old asked.now)) out.old out.new result (state_of store.new) context.new }
 {
     match judge_lock(store, context, asked) {
         Ok(wished) => set_lock(alloc, store, context, &asked.locker, &wished, out),
@@ -272,7 +270,7 @@ fn give_up(
     wished: &Wished,
 ) -> Res<'static>
     requires order { wished.now.wish.first ≤ wished.now.wish.last }
-    ensures { outcome_of result (state_of store.new) context.new ≡ or_delay (not (is_whole wished.now.wish.first wished.now.wish.last) && is_delay (status_of_result (view.res result))) (state_of store.old) context.old Op.LockU (of_lock_u.unlocks (state_of store.old) context.old wished.now) }
+    ensures { outcome_of result (state_of store.new) context.new ≡ or_delay (not (is_whole wished.now.wish.first wished.now.wish.last) && is_delay (status_of_result result)) (state_of store.old) context.old Num.LockU (of_lock_u.unlocks (state_of store.old) context.old wished.now) }
 {
     let wish = &wished.wish;
     match store.opens.unlock(
@@ -300,7 +298,7 @@ pub(crate) fn lock_u(
     context: &mut Context<'_>,
     asked: &LockU,
 ) -> Res<'static>
-    ensures { outcome_of result (state_of store.new) context.new ≡ or_delay (of_lock_u.wants_memory asked.now && is_delay (status_of_result (view.res result))) (state_of store.old) context.old Op.LockU (of_lock_u.lock_u (state_of store.old) context.old asked.now) }
+    ensures { outcome_of result (state_of store.new) context.new ≡ or_delay (of_lock_u.wants_memory asked.now && is_delay (status_of_result result)) (state_of store.old) context.old Num.LockU (of_lock_u.lock_u (state_of store.old) context.old asked.now) }
 {
     match judge_unlock(store, context, asked) {
         Ok(wished) => give_up(alloc, store, context, &wished),

@@ -1,15 +1,13 @@
 //! OPEN: what is to be opened, and whether it may be (RFC 8881 section 18.16).
 
 ghost use Rattle.std.specs.Prelude.{◌≡◌, Ok};
-ghost use Rattle.nfs_compound.specs.ArgCodecs.{view_attributes};
-ghost use Rattle.nfs_compound.specs.OpenCodecs.{view_open, view_open_how, view_open_claim};
 ghost use Rattle.nfs_names.specs.State.{state_of};
 ghost use Rattle.nfs_names.specs.Outcome.{checked};
 ghost use Rattle.nfs_files.specs.Open as of_open;
 
 use crate::access::{judge_file, want_of};
 use nfs_attrs::{Want, Wanted, may_make};
-use nfs_compound::{Attributes, Bitmap, CreateHow, Open, OpenClaim, OpenHow};
+use nfs_compound::{Attributes, Bitmap, CreateHow, Lent, Open, OpenClaim, OpenHow};
 use nfs_names::{Context, Making, Node, Store, current, judge_name, node_at, permits, wanted_of};
 use nfs_opens::Share;
 use nfs_xdr::Status;
@@ -25,20 +23,20 @@ pub(crate) enum Found {
 
 /// What the open is to be allowed.
 pub(crate) fn access_of(asked: &Open<'_>) -> Share
-    ensures { result ≡ of_open.access_of (view_open asked.now) }
+    ensures { result ≡ of_open.access_of asked.now }
 {
     Share::from_bits(asked.share_access % 4).unwrap_or(Share::neither())
 }
 
 /// What it is to deny.
 pub(crate) fn deny_of(asked: &Open<'_>) -> Share
-    ensures { result ≡ of_open.deny_of (view_open asked.now) }
+    ensures { result ≡ of_open.deny_of asked.now }
 {
     Share::from_bits(asked.share_deny).unwrap_or(Share::neither())
 }
 
 fn creates(how: &OpenHow<'_>) -> bool
-    ensures { result ≡ (of_open.makes (view_open_how how.now)).creates }
+    ensures { result ≡ (of_open.makes how.now).creates }
 {
     match how {
         OpenHow::NoCreate => false,
@@ -58,7 +56,7 @@ fn is_made_by(verifier: [u8; 8], made: Option<[u8; 8]>) -> bool
 
 /// Whether an object that was made with this verifier, if with one, is opened.
 fn opens(how: &OpenHow<'_>, made: Option<[u8; 8]>) -> bool
-    ensures { result ≡ (of_open.makes (view_open_how how.now)).opens made }
+    ensures { result ≡ (of_open.makes how.now).opens made }
 {
     match how {
         OpenHow::NoCreate => true,
@@ -70,7 +68,7 @@ fn opens(how: &OpenHow<'_>, made: Option<[u8; 8]>) -> bool
 }
 
 fn is_unchecked(how: &OpenHow<'_>) -> bool
-    ensures { result ≡ (of_open.makes (view_open_how how.now)).cuts }
+    ensures { result ≡ (of_open.makes how.now).cuts }
 {
     match how {
         OpenHow::NoCreate => false,
@@ -83,7 +81,7 @@ fn is_unchecked(how: &OpenHow<'_>) -> bool
 
 /// The verifier of an exclusive create.
 pub(crate) fn verifier_of(how: &OpenHow<'_>) -> Option<[u8; 8]>
-    ensures { result ≡ (of_open.makes (view_open_how how.now)).verifier }
+    ensures { result ≡ (of_open.makes how.now).verifier }
 {
     match how {
         OpenHow::NoCreate => None,
@@ -96,32 +94,42 @@ pub(crate) fn verifier_of(how: &OpenHow<'_>) -> Option<[u8; 8]>
 
 /// The attributes that are given.
 pub(crate) fn attributes_in<'a>(how: &OpenHow<'a>) -> Attributes<'a>
-    ensures { view_attributes result ≡ (of_open.makes (view_open_how how.now)).attributes }
+    ensures { result ≡ (of_open.makes how.now).attributes }
 {
     match how {
         OpenHow::NoCreate => no_attributes(),
-        OpenHow::Create(CreateHow::Unchecked { createattrs }) => *createattrs,
-        OpenHow::Create(CreateHow::Guarded { createattrs }) => *createattrs,
+        OpenHow::Create(CreateHow::Unchecked { createattrs }) => lent_again(createattrs),
+        OpenHow::Create(CreateHow::Guarded { createattrs }) => lent_again(createattrs),
         OpenHow::Create(CreateHow::Exclusive { .. }) => no_attributes(),
-        OpenHow::Create(CreateHow::Exclusive41 { attrs, .. }) => *attrs,
+        OpenHow::Create(CreateHow::Exclusive41 { attrs, .. }) => lent_again(attrs),
+    }
+}
+
+/// The same attributes, lent once more.
+fn lent_again<'a>(given: &Attributes<'a>) -> Attributes<'a>
+    ensures { result ≡ given.now }
+{
+    Attributes {
+        attrmask: Bitmap::of(given.attrmask.words()),
+        attr_vals: Lent::of(given.attr_vals.bytes()),
     }
 }
 
 fn no_attributes() -> Attributes<'static>
-    ensures { view_attributes result ≡ of_open.no_attributes }
+    ensures { result ≡ of_open.no_attributes }
 {
     Attributes {
-        attrmask: Bitmap { words: &[] },
-        attr_vals: &[],
+        attrmask: Bitmap::of(&[]),
+        attr_vals: Lent::of(&[]),
     }
 }
 
 /// The name of the file, which a claim by filehandle does not have.
 pub(crate) fn name_of<'a>(claim: &OpenClaim<'a>) -> &'a [u8]
-    ensures { result.now ≡ of_open.name_of (view_open_claim claim.now) }
+    ensures { result.now ≡ of_open.name_of claim.now }
 {
     match claim {
-        OpenClaim::Null { file } => file,
+        OpenClaim::Null { file } => file.bytes(),
         OpenClaim::Previous { .. } => &[],
         OpenClaim::DelegateCur { .. } => &[],
         OpenClaim::DelegatePrev { .. } => &[],
@@ -133,7 +141,7 @@ pub(crate) fn name_of<'a>(claim: &OpenClaim<'a>) -> &'a [u8]
 
 /// The current filehandle's object, where such things may be asked for.
 fn judge_arguments(asked: &Open<'_>, node: Node) -> Result<Node, Status>
-    ensures { result ≡ checked (Ok node) (of_open.argument_checks (view_open asked.now)) }
+    ensures { result ≡ checked (Ok node) (of_open.argument_checks asked.now) }
 {
     if asked.share_access % 4 == 0 {
         return Err(Status::Inval);
@@ -160,7 +168,7 @@ fn judge_place(context: &Context<'_>, name: &[u8], node: Node) -> Result<Node, S
 
 /// What is to be made where, if it may be.
 fn judge_absent(context: &Context<'_>, asked: &Open<'_>, making: Making) -> Result<Making, Status>
-    ensures { result ≡ checked (Ok making) (of_open.absent_checks context.now (view_open asked.now)) }
+    ensures { result ≡ checked (Ok making) (of_open.absent_checks context.now asked.now) }
 {
     if !creates(&asked.openhow) {
         return Err(Status::NoEnt);
@@ -174,7 +182,7 @@ fn judge_absent(context: &Context<'_>, asked: &Open<'_>, making: Making) -> Resu
 
 /// The object that is there, if it may be opened.
 fn judge_there(context: &Context<'_>, asked: &Open<'_>, file: Node) -> Result<Node, Status>
-    ensures { result ≡ checked (Ok file) (of_open.there_checks context.now (view_open asked.now)) }
+    ensures { result ≡ checked (Ok file) (of_open.there_checks context.now asked.now) }
 {
     if !opens(&asked.openhow, file.object.verifier) {
         return Err(Status::Exist);
@@ -188,7 +196,7 @@ fn judge_there(context: &Context<'_>, asked: &Open<'_>, file: Node) -> Result<No
 
 /// Whether the file is cut.
 fn cuts(asked: &Open<'_>, wanted: &Wanted) -> bool
-    ensures { result ≡ of_open.cuts (view_open asked.now) wanted.now }
+    ensures { result ≡ of_open.cuts asked.now wanted.now }
 {
     is_unchecked(&asked.openhow) && wanted.size == Some(0) && access_of(asked).writes
 }
@@ -200,7 +208,7 @@ fn found_by(
     making: Making,
     number: Option<u64>,
 ) -> Result<Found, Status>
-    ensures { result ≡ of_open.found_by (state_of store.now) context.now (view_open asked.now) making number }
+    ensures { result ≡ of_open.found_by (state_of store.now) context.now asked.now making number }
 {
     match number {
         Some(number) => {
@@ -227,7 +235,7 @@ fn by_name(
     name: &[u8],
     node: Node,
 ) -> Result<Found, Status>
-    ensures { result ≡ of_open.by_name (state_of store.now) context.now (view_open asked.now) name.now node }
+    ensures { result ≡ of_open.by_name (state_of store.now) context.now asked.now name.now node }
 {
     let place = judge_place(context, name, node)?;
     let wanted = match wanted_of(&attributes_in(&asked.openhow)) {
@@ -240,7 +248,7 @@ fn by_name(
 
 /// The current filehandle's file itself.
 fn by_handle(context: &Context<'_>, asked: &Open<'_>, node: Node) -> Result<Found, Status>
-    ensures { result ≡ of_open.by_handle context.now (view_open asked.now) node }
+    ensures { result ≡ of_open.by_handle context.now asked.now node }
 {
     let file = judge_there(context, asked, node)?;
     Ok(Found::There {
@@ -258,10 +266,10 @@ fn by_claim(
     claim: &OpenClaim<'_>,
     node: Node,
 ) -> Result<Found, Status>
-    ensures { result ≡ of_open.by_claim (state_of store.now) context.now (view_open asked.now) (view_open_claim claim.now) node }
+    ensures { result ≡ of_open.by_claim (state_of store.now) context.now asked.now claim.now node }
 {
     match claim {
-        OpenClaim::Null { file } => by_name(store, context, asked, file, node),
+        OpenClaim::Null { file } => by_name(store, context, asked, file.bytes(), node),
         OpenClaim::Fh => {
             if creates(&asked.openhow) {
                 return Err(Status::Inval);
@@ -279,7 +287,7 @@ fn by_claim(
 /// What is to be opened.
 #[tactic(auto, unfolding(crate::specs::Open::asked_for))]
 pub(crate) fn judge(store: &Store, context: &Context<'_>, asked: &Open<'_>) -> Result<Found, Status>
-    ensures { result ≡ of_open.asked_for (state_of store.now) context.now (view_open asked.now) }
+    ensures { result ≡ of_open.asked_for (state_of store.now) context.now asked.now }
 {
     let node = current(store, context)?;
     let node = judge_arguments(asked, node)?;

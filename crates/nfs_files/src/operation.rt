@@ -1,7 +1,7 @@
 //! One operation of a compound.
 
 ghost use Rattle.std.specs.Prelude.{◌+◌, ◌≤◌, ◌<◌, ◌^◌, length};
-ghost use Rattle.nfs_compound.specs.View.{item};
+ghost use Rattle.nfs_compound.specs.declared.op.Item.TheVariants.{Operation};
 ghost use Rattle.nfs_results.specs.Largest.{largest};
 ghost use Rattle.nfs_names.specs.State.{state_of, moment};
 ghost use Rattle.nfs_names.specs.StoreInvariants.{IsStore};
@@ -14,7 +14,7 @@ use crate::entering::open_file;
 use crate::locking::{lock, lock_t, lock_u};
 use crate::setting::set_attr;
 use crate::stateids::{free_stateid, test_stateid};
-use nfs_compound::Arg;
+use nfs_compound::{Item, Op};
 use nfs_names::{Context, Store, moment};
 use nfs_results::write;
 use nfs_xdr::{Sheet, Status};
@@ -29,35 +29,57 @@ pub fn file_op(
     alloc: Global,
     store: &mut Store,
     context: &mut Context<'_>,
-    arg: &Arg<'_>,
+    item: &Item<'_>,
     now: u64,
     out: &mut Sheet,
 ) -> Option<Status>
     requires moment { now < 2 ^ 63 }
     requires store { IsStore (state_of store.old) }
-    requires room { length out.old.bytes + largest (item arg.now) ≤ out.old.room }
-    ensures comes { MayCome (λ refused. comes_to refused (state_of store.old) context.old (moment now) (item arg.now)) (state_of store.old) context.old out.old out.new result (state_of store.new) context.new }
+    requires room { length out.old.bytes + largest item.now ≤ out.old.room }
+    ensures comes { MayCome (λ refused. comes_to refused (state_of store.old) context.old (moment now) item.now) (state_of store.old) context.old out.old out.new result (state_of store.new) context.new }
     ensures store { IsStore (state_of store.new) }
-    ensures within { length out.new.bytes ≤ length out.old.bytes + largest (item arg.now) }
+    ensures within { length out.new.bytes ≤ length out.old.bytes + largest item.now }
+{
+    match item {
+        Item::Operation(op) => on_files(alloc, store, context, op, now, out),
+        Item::Fault { .. } => None,
+    }
+}
+
+/// The same of an operation.
+fn on_files(
+    alloc: Global,
+    store: &mut Store,
+    context: &mut Context<'_>,
+    op: &Op<'_>,
+    now: u64,
+    out: &mut Sheet,
+) -> Option<Status>
+    requires moment { now < 2 ^ 63 }
+    requires store { IsStore (state_of store.old) }
+    requires room { length out.old.bytes + largest (Operation op.now) ≤ out.old.room }
+    ensures comes { MayCome (λ refused. comes_to refused (state_of store.old) context.old (moment now) (Operation op.now)) (state_of store.old) context.old out.old out.new result (state_of store.new) context.new }
+    ensures store { IsStore (state_of store.new) }
+    ensures within { length out.new.bytes ≤ length out.old.bytes + largest (Operation op.now) }
 {
     store.tree.kept();
     store.kept();
     let now = moment(now);
-    let res = match arg {
-        Arg::Close(asked) => close(store, context, asked),
-        Arg::Commit(_) => commit(store, context),
-        Arg::FreeStateid { stateid } => free_stateid(store, context, stateid),
-        Arg::Lock(asked) => return Some(lock(alloc, store, context, asked, out)),
-        Arg::LockT(asked) => return Some(lock_t(store, context, asked, out)),
-        Arg::LockU(asked) => lock_u(alloc, store, context, asked),
-        Arg::Open(asked) => open_file(alloc, store, context, asked, now),
-        Arg::OpenDowngrade(asked) => open_downgrade(store, context, asked),
-        Arg::Read(asked) => return Some(read(store, context, asked, out)),
-        Arg::SetAttr(asked) => set_attr(store, context, asked, now),
-        Arg::TestStateid { stateids } => {
+    let res = match op {
+        Op::Close(asked) => close(store, context, asked),
+        Op::Commit(_) => commit(store, context),
+        Op::FreeStateid { stateid } => free_stateid(store, context, stateid),
+        Op::Lock(asked) => return Some(lock(alloc, store, context, asked, out)),
+        Op::LockT(asked) => return Some(lock_t(store, context, asked, out)),
+        Op::LockU(asked) => lock_u(alloc, store, context, asked),
+        Op::Open(asked) => open_file(alloc, store, context, asked, now),
+        Op::OpenDowngrade(asked) => open_downgrade(store, context, asked),
+        Op::Read(asked) => return Some(read(store, context, asked, out)),
+        Op::SetAttr(asked) => set_attr(store, context, asked, now),
+        Op::TestStateid { stateids } => {
             return Some(test_stateid(store, context, stateids, out));
         }
-        Arg::Write(asked) => write_bytes(alloc, store, context, asked, now),
+        Op::Write(asked) => write_bytes(alloc, store, context, asked, now),
         _ => return None,
     };
     write(&res, out);

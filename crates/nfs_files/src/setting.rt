@@ -1,16 +1,17 @@
 //! SETATTR (RFC 8881 section 18.30).
 
 ghost use Rattle.std.specs.Prelude.{◌≡◌};
-ghost use Rattle.nfs_compound.specs.ArgCodecs.{view_set_attr};
 ghost use Rattle.nfs_names.specs.State.{state_of};
 ghost use Rattle.nfs_names.specs.View.{outcome_of};
 ghost use Rattle.nfs_files.specs.SetAttr as of_set_attr;
 ghost use Rattle.nfs_files.specs.SetAttrParts as part;
 
 use crate::access::writable;
-use nfs_attrs::{Mask, Wanted, may_set};
+use nfs_attrs::{Wanted, may_set};
 use nfs_compound::{OpNum, SetAttr, Stateid};
-use nfs_names::{Context, Node, Store, attr_set, current, refuse, status_of, time_of, wanted_of};
+use nfs_names::{
+    Context, Node, Store, attr_set, current, mask_in, refuse, status_of, time_of, wanted_of,
+};
 use nfs_results::Res;
 use nfs_tree::{Sets, Tree, TreeFault};
 use nfs_xdr::{Status, Time};
@@ -28,7 +29,7 @@ fn judge_setting(
     context: &Context<'_>,
     asked: &SetAttr<'_>,
 ) -> Result<Setting, Status>
-    ensures { result ≡ of_set_attr.setting (state_of store.now) context.now (view_set_attr asked.now) }
+    ensures { result ≡ of_set_attr.setting (state_of store.now) context.now asked.now }
 {
     let node = current(store, context)?;
     let wanted = match wanted_of(&asked.obj_attributes) {
@@ -56,7 +57,7 @@ fn judge_sized(
 
 #[tactic(auto, unfolding(crate::specs::SetAttr::asked_for))]
 fn judge(store: &Store, context: &Context<'_>, asked: &SetAttr<'_>) -> Result<Setting, Status>
-    ensures { result ≡ of_set_attr.asked_for (state_of store.now) context.now (view_set_attr asked.now) }
+    ensures { result ≡ of_set_attr.asked_for (state_of store.now) context.now asked.now }
 {
     let setting = judge_setting(store, context, asked)?;
     judge_sized(store, context, &asked.stateid, &setting)?;
@@ -111,12 +112,12 @@ pub(crate) fn set_attr(
     asked: &SetAttr<'_>,
     now: Time,
 ) -> Res<'static>
-    ensures { outcome_of result (state_of store.new) context.now ≡ of_set_attr.set_attr (state_of store.old) context.now now (view_set_attr asked.now) }
+    ensures { outcome_of result (state_of store.new) context.now ≡ of_set_attr.set_attr (state_of store.old) context.now now asked.now }
 {
     match judge(store, context, asked) {
         Ok(setting) => match change(&mut store.tree, &setting, now) {
             Ok(()) => {
-                let given = Mask::new(asked.obj_attributes.attrmask.words);
+                let given = mask_in(&asked.obj_attributes.attrmask);
                 Res::SetAttr {
                     status: Status::Nfs4Ok,
                     attrsset: attr_set(&given),

@@ -4,7 +4,6 @@ ghost use Rattle.std.specs.Prelude.{◌≡◌, ◌+◌, ◌*◌, ◌≤◌, leng
 ghost use Rattle.std.specs.List.{flat_map};
 ghost use Rattle.nfs_xdr.specs.SheetState.{Puts};
 ghost use Rattle.nfs_xdr.specs.Spelling.{number};
-ghost use Rattle.nfs_compound.specs.Stateid.{view_stateids};
 ghost use Rattle.nfs_names.specs.State.{state_of};
 ghost use Rattle.nfs_names.specs.Comes.{Comes};
 ghost use Rattle.nfs_names.specs.View.{outcome_of};
@@ -114,8 +113,8 @@ fn code(store: &Store, context: &Context<'_>, given: &Stateid) -> u32
 
 /// Puts the number of the status of each stateid.
 fn put_codes(store: &Store, context: &Context<'_>, given: &Stateids<'_>, out: &mut Sheet)
-    requires { length out.old.bytes + 4 * length given.now.spelled.now ≤ out.old.room }
-    ensures { Puts out.old out.new (flat_map number (map (of_test.code (state_of store.now) context.now) (view_stateids given.now))) }
+    requires { length out.old.bytes + 4 * length given.now ≤ out.old.room }
+    ensures { Puts out.old out.new (flat_map number (map (of_test.code (state_of store.now) context.now) given.now)) }
 {
     for place in 0..given.len() {
         out.put_u32(code(store, context, &given.get(place)));
@@ -124,7 +123,7 @@ fn put_codes(store: &Store, context: &Context<'_>, given: &Stateids<'_>, out: &m
 
 /// How many there are, as a word has it. Their own count was one word too.
 fn count_of(given: &Stateids<'_>) -> u32
-    ensures { number result ≡ number (length given.now.spelled.now) }
+    ensures { number result ≡ number (length given.now) }
 {
     (given.len() % 0x1_0000_0000) as u32
 }
@@ -137,8 +136,8 @@ pub(crate) fn test_stateid(
     given: &Stateids<'_>,
     out: &mut Sheet,
 ) -> Status
-    requires { length out.old.bytes + (12 + 4 * length given.now.spelled.now) ≤ out.old.room }
-    ensures { Comes (of_test.test_stateid (state_of store.now) context.now (view_stateids given.now)) out.old out.new result (state_of store.now) context.now }
+    requires { length out.old.bytes + (12 + 4 * length given.now) ≤ out.old.room }
+    ensures { Comes (of_test.test_stateid (state_of store.now) context.now given.now) out.old out.new result (state_of store.now) context.now }
 {
     write_test_stateid_head(count_of(given), out);
     put_codes(store, context, given, out);

@@ -3,14 +3,17 @@ use Rattle.std.proofs.Common.{ℕ, Bool, true, false, cond, List, Option, Some, 
 use Rattle.std.specs.Prelude.{Result, Ok, Err}
 use Rattle.nfs_xdr.specs.declared.time.Time.{Time}
 use Rattle.nfs_xdr.specs.declared.status.Status.{Status}
-use Rattle.nfs_compound.specs.Attributes.{Attributes}
-use Rattle.nfs_compound.specs.NameArgs as args
+use Rattle.nfs_compound.specs.declared.attributes.Attributes.{Attributes}
+use Rattle.nfs_compound.specs.declared.name_args.Create.{Create}
+use Rattle.nfs_compound.specs.declared.name_args.ReadDir.{ReadDir}
+use Rattle.nfs_compound.specs.declared.name_args.Rename.{Rename}
 use Rattle.nfs_compound.specs.declared.name_args.SecinfoStyle.{SecinfoStyle}
 use Rattle.nfs_compound.specs.declared.name_args.SecinfoStyle.TheVariants.{CurrentFh, Parent}
 use Rattle.nfs_compound.specs.declared.op_num.OpNum.TheVariants as Num
-use Rattle.nfs_compound.specs.Operation.{Item, Operation, OpAccess, OpCreate, OpGetAttr, OpGetFh, OpLink, OpLookup, OpLookupP, OpNVerify, OpPutFh, OpPutPubFh}
-use Rattle.nfs_compound.specs.Operation.{OpPutRootFh, OpReadDir, OpReadLink, OpRemove, OpRename, OpRestoreFh, OpSaveFh, OpSecinfoNoName, OpVerify}
-use Rattle.nfs_results.specs.Result.{Res, ResReadDir}
+use Rattle.nfs_compound.specs.declared.op.Item.{Item}
+use Rattle.nfs_compound.specs.declared.op.Item.TheVariants.{Operation}
+use Rattle.nfs_compound.specs.declared.op.Op.TheVariants as Op
+use Rattle.nfs_results.specs.declared.res.Res.{Res}
 use Rattle.nfs_results.specs.MayAnswer.{MayAnswer}
 use Rattle.nfs_results.specs.ResultCodec.{HasArrays}
 use Rattle.nfs_opens.specs.Steps.{map_err}
@@ -93,7 +96,7 @@ status_refuses (Ok a) = ok_refuses a
 pub wanted_refuses : (a : Attributes) → Refuses (attributes_in a)
 wanted_refuses a = status_refuses (wanted_of a)
 
-pub asked_refuses : (s : State) (x : Context) (c : args.Create) → Refuses (asked_for s x c)
+pub asked_refuses : (s : State) (x : Context) (c : Create) → Refuses (asked_for s x c)
 asked_refuses s x c =
     refuses_then (checked (current s x) (place_checks x c)) _ (refuses_checked (current s x) (place_checks x c) (current_refuses s x) (λ d. refl)) (λ d.
     refuses_then (attributes_in c.createattrs) _ (wanted_refuses c.createattrs) (λ w.
@@ -119,138 +122,138 @@ pub record IsAnswer (i : Item) (r : Res) : Type 0 where
   pub may : MayAnswer i r
   pub arrays : HasArrays r
 
-pub may_access : (s : State) (x : Context) (asked : ℕ) → IsAnswer (Operation (OpAccess asked)) (access s x asked).result
+pub may_access : (s : State) (x : Context) (asked : ℕ) → IsAnswer (Operation (Op.Access asked)) (access s x asked).result
 unfolding access
 may_access s x asked =
-    answers_with (IsAnswer (Operation (OpAccess asked))) s x Num.Access _ _ (current_refuses s x)
+    answers_with (IsAnswer (Operation (Op.Access asked))) s x Num.Access _ _ (current_refuses s x)
     (λ status h. record { may = (refl, rw (h.done, h.legal) refl, tt); arrays = tt })
     (λ a. record { may = (refl, tt, tt); arrays = tt })
 
-pub may_link : (s : State) (x : Context) (now : Time) (name : List ℕ) → IsAnswer (Operation (OpLink name)) (link s x now name).result
+pub may_link : (s : State) (x : Context) (now : Time) (name : List ℕ) → IsAnswer (Operation (Op.Link name)) (link s x now name).result
 unfolding link
 may_link s x now name =
-    answers_with (IsAnswer (Operation (OpLink name))) s x Num.Link _ _ (refuses_checked _ _ (refuses_checked _ _ (both_refuses s x) (λ p. refl)) (λ p. refl))
+    answers_with (IsAnswer (Operation (Op.Link name))) s x Num.Link _ _ (refuses_checked _ _ (refuses_checked _ _ (both_refuses s x) (λ p. refl)) (λ p. refl))
     (λ status h. record { may = (refl, rw (h.done, h.legal) refl, tt); arrays = tt })
     (λ a. record { may = (refl, tt, tt); arrays = tt })
 
-pub may_lookup : (s : State) (x : Context) (name : List ℕ) → IsAnswer (Operation (OpLookup name)) (lookup s x name).result
+pub may_lookup : (s : State) (x : Context) (name : List ℕ) → IsAnswer (Operation (Op.Lookup name)) (lookup s x name).result
 unfolding lookup
 may_lookup s x name =
-    answers_with (IsAnswer (Operation (OpLookup name))) s x Num.Lookup _ _ (refuses_mapped _ _ (refuses_checked _ _ (current_refuses s x) (λ d. refl)))
+    answers_with (IsAnswer (Operation (Op.Lookup name))) s x Num.Lookup _ _ (refuses_mapped _ _ (refuses_checked _ _ (current_refuses s x) (λ d. refl)))
     (λ status h. record { may = (refl, rw (h.done, h.legal) refl, tt); arrays = tt })
     (λ a. record { may = (refl, tt, tt); arrays = tt })
 
-pub may_lookup_p : (s : State) (x : Context) → IsAnswer (Operation OpLookupP) (lookup_p s x).result
+pub may_lookup_p : (s : State) (x : Context) → IsAnswer (Operation Op.LookupP) (lookup_p s x).result
 unfolding lookup_p
 may_lookup_p s x =
-    answers_with (IsAnswer (Operation OpLookupP)) s x Num.LookupP _ _ (refuses_mapped _ _ (refuses_checked _ _ (current_refuses s x) (λ d. refl)))
+    answers_with (IsAnswer (Operation Op.LookupP)) s x Num.LookupP _ _ (refuses_mapped _ _ (refuses_checked _ _ (current_refuses s x) (λ d. refl)))
     (λ status h. record { may = (refl, rw (h.done, h.legal) refl, tt); arrays = tt })
     (λ a. record { may = (refl, tt, tt); arrays = tt })
 
-pub may_nverify : (s : State) (x : Context) (a : Attributes) → IsAnswer (Operation (OpNVerify a)) (nverify s x a).result
+pub may_nverify : (s : State) (x : Context) (a : Attributes) → IsAnswer (Operation (Op.NVerify a)) (nverify s x a).result
 unfolding nverify
 may_nverify s x a =
-    answers_with (IsAnswer (Operation (OpNVerify a))) s x Num.NVerify _ _ (refuses_checked _ _ (compared_refuses s x a) (λ equal. refl))
+    answers_with (IsAnswer (Operation (Op.NVerify a))) s x Num.NVerify _ _ (refuses_checked _ _ (compared_refuses s x a) (λ equal. refl))
     (λ status h. record { may = (refl, rw (h.done, h.legal) refl, tt); arrays = tt })
     (λ a. record { may = (refl, tt, tt); arrays = tt })
 
-pub may_verify : (s : State) (x : Context) (a : Attributes) → IsAnswer (Operation (OpVerify a)) (verify s x a).result
+pub may_verify : (s : State) (x : Context) (a : Attributes) → IsAnswer (Operation (Op.Verify a)) (verify s x a).result
 unfolding verify
 may_verify s x a =
-    answers_with (IsAnswer (Operation (OpVerify a))) s x Num.Verify _ _ (refuses_checked _ _ (compared_refuses s x a) (λ equal. refl))
+    answers_with (IsAnswer (Operation (Op.Verify a))) s x Num.Verify _ _ (refuses_checked _ _ (compared_refuses s x a) (λ equal. refl))
     (λ status h. record { may = (refl, rw (h.done, h.legal) refl, tt); arrays = tt })
     (λ a. record { may = (refl, tt, tt); arrays = tt })
 
-pub may_put_fh : (s : State) (x : Context) (object : List ℕ) → IsAnswer (Operation (OpPutFh object)) (put_fh s x object).result
+pub may_put_fh : (s : State) (x : Context) (object : List ℕ) → IsAnswer (Operation (Op.PutFh object)) (put_fh s x object).result
 unfolding put_fh
 may_put_fh s x object =
-    answers_with (IsAnswer (Operation (OpPutFh object))) s x Num.PutFh _ _ (refuses_checked _ _ (handle_refuses (handle_of object)) (λ h. refl))
+    answers_with (IsAnswer (Operation (Op.PutFh object))) s x Num.PutFh _ _ (refuses_checked _ _ (handle_refuses (handle_of object)) (λ h. refl))
     (λ status h. record { may = (refl, rw (h.done, h.legal) refl, tt); arrays = tt })
     (λ a. record { may = (refl, tt, tt); arrays = tt })
 
-pub may_remove : (s : State) (x : Context) (now : Time) (name : List ℕ) → IsAnswer (Operation (OpRemove name)) (remove s x now name).result
+pub may_remove : (s : State) (x : Context) (now : Time) (name : List ℕ) → IsAnswer (Operation (Op.Remove name)) (remove s x now name).result
 unfolding remove
 may_remove s x now name =
-    answers_with (IsAnswer (Operation (OpRemove name))) s x Num.Remove _ _
+    answers_with (IsAnswer (Operation (Op.Remove name))) s x Num.Remove _ _
     (refuses_checked _ _ (refuses_checked _ _ (current_refuses s x) (λ d. refl)) (λ d. refl))
     (λ status h. record { may = (refl, rw (h.done, h.legal) refl, tt); arrays = tt })
     (λ a. record { may = (refl, tt, tt); arrays = tt })
 
-pub may_restore_fh : (s : State) (x : Context) → IsAnswer (Operation OpRestoreFh) (restore_fh s x).result
+pub may_restore_fh : (s : State) (x : Context) → IsAnswer (Operation Op.RestoreFh) (restore_fh s x).result
 unfolding restore_fh
 may_restore_fh s x =
-    answers_with (IsAnswer (Operation OpRestoreFh)) s x Num.RestoreFh _ _ (refuses_checked _ _ (saved_refuses x.saved) (λ v. refl))
+    answers_with (IsAnswer (Operation Op.RestoreFh)) s x Num.RestoreFh _ _ (refuses_checked _ _ (saved_refuses x.saved) (λ v. refl))
     (λ status h. record { may = (refl, rw (h.done, h.legal) refl, tt); arrays = tt })
     (λ a. record { may = (refl, tt, tt); arrays = tt })
 
-pub may_save_fh : (s : State) (x : Context) → IsAnswer (Operation OpSaveFh) (save_fh s x).result
+pub may_save_fh : (s : State) (x : Context) → IsAnswer (Operation Op.SaveFh) (save_fh s x).result
 unfolding save_fh
 may_save_fh s x =
-    answers_with (IsAnswer (Operation OpSaveFh)) s x Num.SaveFh _ _ (current_refuses s x)
+    answers_with (IsAnswer (Operation Op.SaveFh)) s x Num.SaveFh _ _ (current_refuses s x)
     (λ status h. record { may = (refl, rw (h.done, h.legal) refl, tt); arrays = tt })
     (λ a. record { may = (refl, tt, tt); arrays = tt })
 
-pub may_secinfo_no_name : (s : State) (x : Context) (style : SecinfoStyle) → IsAnswer (Operation (OpSecinfoNoName style)) (secinfo_no_name s x style).result
+pub may_secinfo_no_name : (s : State) (x : Context) (style : SecinfoStyle) → IsAnswer (Operation (Op.SecinfoNoName style)) (secinfo_no_name s x style).result
 unfolding secinfo_no_name
 may_secinfo_no_name s x style =
-    answers_with (IsAnswer (Operation (OpSecinfoNoName style))) s x Num.SecinfoNoName _ _ (style_refuses s style _ (current_refuses s x))
+    answers_with (IsAnswer (Operation (Op.SecinfoNoName style))) s x Num.SecinfoNoName _ _ (style_refuses s style _ (current_refuses s x))
     (λ status h. record { may = (refl, rw (h.done, h.legal) refl, tt); arrays = tt })
     (λ d. record { may = (refl, omega arith, omega arith); arrays = tt })
 
-pub may_create : (s : State) (x : Context) (now : Time) (c : args.Create) → IsAnswer (Operation (OpCreate c)) (create s x now c).result
+pub may_create : (s : State) (x : Context) (now : Time) (c : Create) → IsAnswer (Operation (Op.Create c)) (create s x now c).result
 unfolding create
 may_create s x now c =
-    answers_with (IsAnswer (Operation (OpCreate c))) s x Num.Create _ _ (refuses_checked (asked_for s x c) _ (asked_refuses s x c) (λ m. refl))
+    answers_with (IsAnswer (Operation (Op.Create c))) s x Num.Create _ _ (refuses_checked (asked_for s x c) _ (asked_refuses s x c) (λ m. refl))
     (λ status h. record { may = (refl, rw (h.done, h.legal) refl, tt); arrays = tt })
     (λ m. record { may = (refl, tt, few_words (mask_of c.createattrs.attrmask).words); arrays = tt })
 
-pub may_get_attr : (s : State) (x : Context) (words : List ℕ) → IsAnswer (Operation (OpGetAttr words)) (get_attr s x words).result
+pub may_get_attr : (s : State) (x : Context) (words : List ℕ) → IsAnswer (Operation (Op.GetAttr words)) (get_attr s x words).result
 unfolding get_attr
 may_get_attr s x words =
-    answers_with (IsAnswer (Operation (OpGetAttr words))) s x Num.GetAttr _ _
+    answers_with (IsAnswer (Operation (Op.GetAttr words))) s x Num.GetAttr _ _
     (refuses_checked (current s x) (mask_checks words) (current_refuses s x) (λ d. refl))
     (λ status h. record { may = (refl, rw (h.done, h.legal) refl, tt); arrays = tt })
     (λ d. (let few = attributes_within (mask_of words) (about s d) d.object in
     record { may = (refl, omega arith, (at_most_three_words (mask_of words) readable, omega arith)); arrays = tt }))
 
-pub may_get_fh : (s : State) (x : Context) → IsAnswer (Operation OpGetFh) (get_fh s x).result
+pub may_get_fh : (s : State) (x : Context) → IsAnswer (Operation Op.GetFh) (get_fh s x).result
 unfolding get_fh
 may_get_fh s x =
-    answers_with (IsAnswer (Operation OpGetFh)) s x Num.GetFh _ _ (current_refuses s x)
+    answers_with (IsAnswer (Operation Op.GetFh)) s x Num.GetFh _ _ (current_refuses s x)
     (λ status h. record { may = (refl, rw (h.done, h.legal) refl, tt); arrays = tt })
     (λ d. (let few = length_handle (record { instance = s.instance; number = d.number }) in record { may = (refl, omega arith, omega arith); arrays = tt }))
 
-pub may_read_link : (s : State) (x : Context) → IsAnswer (Operation OpReadLink) (read_link s x).result
+pub may_read_link : (s : State) (x : Context) → IsAnswer (Operation Op.ReadLink) (read_link s x).result
 unfolding read_link
 may_read_link s x =
-    answers_with (IsAnswer (Operation OpReadLink)) s x Num.ReadLink _ _ (refuses_checked (current s x) link_only (current_refuses s x) (λ d. refl))
+    answers_with (IsAnswer (Operation Op.ReadLink)) s x Num.ReadLink _ _ (refuses_checked (current s x) link_only (current_refuses s x) (λ d. refl))
     (λ status h. record { may = (refl, rw (h.done, h.legal) refl, tt); arrays = tt })
     (λ d. (let few = part_few s.tree d.number most_text in record { may = (refl, omega arith, few); arrays = tt }))
 
-renamed_may : (s : State) (x : Context) (now : Time) (a : args.Rename) (p : Pair) (b : Bool)
-    → IsAnswer (Operation (OpRename a)) (cond b (moved s x now a p) (unmoved s x p)).result
+renamed_may : (s : State) (x : Context) (now : Time) (a : Rename) (p : Pair) (b : Bool)
+    → IsAnswer (Operation (Op.Rename a)) (cond b (moved s x now a p) (unmoved s x p)).result
 renamed_may s x now a p true = record { may = (refl, tt, tt); arrays = tt }
 renamed_may s x now a p false = record { may = (refl, tt, tt); arrays = tt }
 
-pub may_rename : (s : State) (x : Context) (now : Time) (a : args.Rename) → IsAnswer (Operation (OpRename a)) (rename s x now a).result
+pub may_rename : (s : State) (x : Context) (now : Time) (a : Rename) → IsAnswer (Operation (Op.Rename a)) (rename s x now a).result
 unfolding rename
 may_rename s x now a =
-    answers_with (IsAnswer (Operation (OpRename a))) s x Num.Rename _ _ (refuses_checked _ _ (refuses_checked _ _ (both_refuses s x) (λ p. refl)) (λ p. refl))
+    answers_with (IsAnswer (Operation (Op.Rename a))) s x Num.Rename _ _ (refuses_checked _ _ (refuses_checked _ _ (both_refuses s x) (λ p. refl)) (λ p. refl))
     (λ status h. record { may = (refl, rw (h.done, h.legal) refl, tt); arrays = tt })
     (λ p. renamed_may s x now a p (moves s.tree (move_of a p)))
 
-pub may_put_pub_fh : (s : State) (x : Context) → IsAnswer (Operation OpPutPubFh) (put_pub_fh s x).result
+pub may_put_pub_fh : (s : State) (x : Context) → IsAnswer (Operation Op.PutPubFh) (put_pub_fh s x).result
 unfolding put_pub_fh
 may_put_pub_fh s x = record { may = (refl, tt, tt); arrays = tt }
 
-pub may_put_root_fh : (s : State) (x : Context) → IsAnswer (Operation OpPutRootFh) (put_root_fh s x).result
+pub may_put_root_fh : (s : State) (x : Context) → IsAnswer (Operation Op.PutRootFh) (put_root_fh s x).result
 unfolding put_root_fh
 may_put_root_fh s x = record { may = (refl, tt, tt); arrays = tt }
 
-listed_may : (s : State) (a : args.ReadDir) (d : Node) → 16 ≤ a.maxcount → IsAnswer (Operation (OpReadDir a)) (ResReadDir (listed s a d))
+listed_may : (s : State) (a : ReadDir) (d : Node) → 16 ≤ a.maxcount → IsAnswer (Operation (Op.ReadDir a)) (Res.ReadDir (listed s a d))
 listed_may s a d le = record { may = (refl, tt, listed_within s a d le); arrays = refl }
 
-pub may_read_dir : (s : State) (x : Context) (a : args.ReadDir) → IsAnswer (Operation (OpReadDir a)) (read_dir s x a).result
+pub may_read_dir : (s : State) (x : Context) (a : ReadDir) → IsAnswer (Operation (Op.ReadDir a)) (read_dir s x a).result
 unfolding read_dir
 may_read_dir s x a = by_place (checked (current s x) (listing_checks x a))
     (refuses_checked (current s x) (listing_checks x a) (current_refuses s x) (λ d. refl))
@@ -260,14 +263,14 @@ may_read_dir s x a = by_place (checked (current s x) (listing_checks x a))
     large d e = ltb-false _ _ (all_passed (listing_checks x a d) e).1.1.1.1.1.0
 
     by_fault : (d : Node) (o : Option Status) → 16 ≤ a.maxcount → (o ≡ first_fault (entry_checks s a d))
-        → IsAnswer (Operation (OpReadDir a)) (answers s x Num.ReadDir (passed d o) (λ d. done s x (ResReadDir (listed s a d)))).result
+        → IsAnswer (Operation (Op.ReadDir a)) (answers s x Num.ReadDir (passed d o) (λ d. done s x (Res.ReadDir (listed s a d)))).result
     by_fault d o le e =
-        answers_with (IsAnswer (Operation (OpReadDir a))) s x Num.ReadDir (passed d o) (λ d. done s x (ResReadDir (listed s a d)))
+        answers_with (IsAnswer (Operation (Op.ReadDir a))) s x Num.ReadDir (passed d o) (λ d. done s x (Res.ReadDir (listed s a d)))
         (subst (λ o. Refuses (passed d o)) (sym e) (refuses_checked (Ok d) (entry_checks s a) (ok_refuses d) (λ d. refl)))
         (λ status h. record { may = (refl, rw (h.done, h.legal) refl, tt); arrays = tt })
         (λ d. listed_may s a d le)
 
     by_place : (v : Result Node Status) → Refuses v → ((d : Node) → v ≡ Ok d → 16 ≤ a.maxcount)
-        → IsAnswer (Operation (OpReadDir a)) (answers s x Num.ReadDir (checked v (entry_checks s a)) (λ d. done s x (ResReadDir (listed s a d)))).result
+        → IsAnswer (Operation (Op.ReadDir a)) (answers s x Num.ReadDir (checked v (entry_checks s a)) (λ d. done s x (Res.ReadDir (listed s a d)))).result
     by_place (Err status) all le = (let h = all.each status refl in record { may = (refl, rw (h.done, h.legal) refl, tt); arrays = tt })
     by_place (Ok d) all le = by_fault d (first_fault (entry_checks s a d)) (le d refl) refl

@@ -3,8 +3,8 @@ use Rattle.std.proofs.Common.{◌≡◌, ℕ, true, false, not, List, Some, None
 use Rattle.std.specs.Prelude.{Ok, option_map, ◌&&◌}
 use Rattle.nfs_xdr.specs.Checks.{first_fault}
 use Rattle.nfs_xdr.specs.declared.time.Time.{Time}
-use Rattle.nfs_compound.specs.declared.op_num.OpNum.TheVariants as Op
-use Rattle.nfs_compound.specs.NameArgs.{Create}
+use Rattle.nfs_compound.specs.declared.op_num.OpNum.TheVariants as Num
+use Rattle.nfs_compound.specs.declared.name_args.Create.{Create}
 use Rattle.nfs_tree.specs.declared.fault.TreeFault.{TreeFault}
 use Rattle.nfs_tree.specs.Files.{Files, is_there}
 use Rattle.nfs_tree.specs.Names.{link_checks, remove_checks}
@@ -37,15 +37,15 @@ pub link_goes : (s : State) (x : Context) (now : Time) (name : List ℕ) (p : Pa
     → of_link.link s x now name ≡ of_link.linked s x now name p
 unfolding of_link.link
 link_goes s x now name p v none =
-    by_last s x Op.Link (checked (both s x) (of_link.place_checks x name)) (of_link.row_checks s name) (of_link.linked s x now name) p v
+    by_last s x Num.Link (checked (both s x) (of_link.place_checks x name)) (of_link.row_checks s name) (of_link.linked s x now name) p v
     (sym (link_found s x name p v) ∙ ap (option_map status_of) none)
 
 pub link_stops : (s : State) (x : Context) (now : Time) (name : List ℕ) (p : Pair) (f : TreeFault)
     → checked (both s x) (of_link.place_checks x name) ≡ Ok p → link_fault s.tree p.saved.number p.current.number name ≡ Some f
-    → of_link.link s x now name ≡ refuses s x Op.Link (status_of f)
+    → of_link.link s x now name ≡ refuses s x Num.Link (status_of f)
 unfolding of_link.link
 link_stops s x now name p f v some =
-    by_refusal s x Op.Link (checked (both s x) (of_link.place_checks x name)) (of_link.row_checks s name) (of_link.linked s x now name) p (status_of f) v
+    by_refusal s x Num.Link (checked (both s x) (of_link.place_checks x name)) (of_link.row_checks s name) (of_link.linked s x now name) p (status_of f) v
     (sym (link_found s x name p v) ∙ ap (option_map status_of) some)
 
 -- REMOVE
@@ -58,15 +58,15 @@ pub remove_goes : (s : State) (x : Context) (now : Time) (name : List ℕ) (d : 
     → of_remove.remove s x now name ≡ of_remove.removed s x now name d
 unfolding of_remove.remove
 remove_goes s x now name d v none =
-    by_last s x Op.Remove (checked (current s x) (of_remove.place_checks x name)) (of_remove.row_checks s name) (of_remove.removed s x now name) d v
+    by_last s x Num.Remove (checked (current s x) (of_remove.place_checks x name)) (of_remove.row_checks s name) (of_remove.removed s x now name) d v
     (sym (remove_found s x name d v) ∙ ap (option_map status_of) none)
 
 pub remove_stops : (s : State) (x : Context) (now : Time) (name : List ℕ) (d : Node) (f : TreeFault)
     → checked (current s x) (of_remove.place_checks x name) ≡ Ok d → remove_fault s.tree d.number name ≡ Some f
-    → of_remove.remove s x now name ≡ refuses s x Op.Remove (status_of f)
+    → of_remove.remove s x now name ≡ refuses s x Num.Remove (status_of f)
 unfolding of_remove.remove
 remove_stops s x now name d f v some =
-    by_refusal s x Op.Remove (checked (current s x) (of_remove.place_checks x name))
+    by_refusal s x Num.Remove (checked (current s x) (of_remove.place_checks x name))
     (of_remove.row_checks s name) (of_remove.removed s x now name) d (status_of f) v
     (sym (remove_found s x name d v) ∙ ap (option_map status_of) some)
 
@@ -80,13 +80,13 @@ pub create_goes : (s : State) (x : Context) (now : Time) (c : Create) (m : Makin
     → of_create.create s x now c ≡ of_create.created s x now c m
 unfolding of_create.create
 create_goes s x now c m v none =
-    by_last s x Op.Create (of_create.asked_for s x c) (of_create.row_checks s c) (of_create.created s x now c) m v
+    by_last s x Num.Create (of_create.asked_for s x c) (of_create.row_checks s c) (of_create.created s x now c) m v
     (sym (create_found s x c m v) ∙ ap (option_map status_of) none)
 
 pub create_stops : (s : State) (x : Context) (now : Time) (c : Create) (m : Making) (f : TreeFault)
     → of_create.asked_for s x c ≡ Ok m → create_fault s.tree m.place.number c.objname (of_create.new_of c.objtype) ≡ Some f
-    → of_create.create s x now c ≡ refuses s x Op.Create (status_of f)
+    → of_create.create s x now c ≡ refuses s x Num.Create (status_of f)
 unfolding of_create.create
 create_stops s x now c m f v some =
-    by_refusal s x Op.Create (of_create.asked_for s x c) (of_create.row_checks s c) (of_create.created s x now c) m (status_of f) v
+    by_refusal s x Num.Create (of_create.asked_for s x c) (of_create.row_checks s c) (of_create.created s x now c) m (status_of f) v
     (sym (create_found s x c m v) ∙ ap (option_map status_of) some)

@@ -4,12 +4,13 @@ use Rattle.std.specs.Prelude.{◌&&◌, Result, Ok, IfSome, option_map}
 use Rattle.nfs_xdr.specs.Checks.{first_fault}
 use Rattle.nfs_xdr.specs.declared.time.Time.{Time}
 use Rattle.nfs_xdr.specs.declared.status.Status.{Status}
-use Rattle.nfs_compound.specs.NameArgs as args
+use Rattle.nfs_compound.specs.declared.name_args.Rename as args
 use Rattle.nfs_compound.specs.Arguments.{arguments}
 use Rattle.nfs_compound.specs.declared.op_num.OpNum.TheVariants as Num
-use Rattle.nfs_compound.specs.Operation.{Op, Item, Operation, Fault, OpAccess, OpCreate, OpGetAttr, OpGetFh, OpLink, OpLookup, OpLookupP, OpNVerify, OpPutFh}
-use Rattle.nfs_compound.specs.Operation.{OpPutPubFh, OpPutRootFh, OpReadDir, OpReadLink, OpRemove, OpRename, OpRestoreFh, OpSaveFh, OpSecinfoNoName, OpVerify}
-use Rattle.nfs_results.specs.Result.{ResRestoreFh, ResSaveFh, ResSecinfoNoName}
+use Rattle.nfs_compound.specs.declared.op.Op.{Op}
+use Rattle.nfs_compound.specs.declared.op.Item.{Item}
+use Rattle.nfs_compound.specs.declared.op.Item.TheVariants.{Operation, Fault}
+use Rattle.nfs_results.specs.declared.res.Res.TheVariants as Res
 use Rattle.nfs_attrs.specs.declared.handle.Handle.{Handle}
 use Rattle.nfs_tree.specs.declared.fault.TreeFault.{TreeFault}
 use Rattle.nfs_tree.specs.Files.{root}
@@ -73,38 +74,38 @@ kept_one : (P : State → Context → Type 0) → Kept P → (s : State) (x : Co
     → IfSome (one s x now op) (λ o. P o.state o.context)
 unfolding access of_create.create get_attr get_fh of_link.link lookup lookup_p nverify put_fh put_pub_fh
     put_root_fh read_dir read_link of_remove.remove of_rename.rename restore_fh save_fh secinfo_no_name verify
-kept_one P kept s x now (OpAccess asked) is = by_found P s x Num.Access _ _ is (λ d e. is)
-kept_one P kept s x now (OpCreate c) is = by_found P s x Num.Create _ (of_create.created s x now c) is (λ m granted.
+kept_one P kept s x now (Op.Access asked) is = by_found P s x Num.Access _ _ is (λ d e. is)
+kept_one P kept s x now (Op.Create c) is = by_found P s x Num.Create _ (of_create.created s x now c) is (λ m granted.
     (let new = of_create.new_of c.objtype in
     let none = last_passed (of_create.asked_for s x c) (λ m. create_checks s.tree m.place.number c.objname new) m granted in
     kept.handles _ x (at_object x (s.tree.last_object + 1)) refl
     (kept.effects s x (Makes m.place.number c.objname new (of_create.sets_of x now new m.wanted) now) none is)))
-kept_one P kept s x now (OpGetAttr mask) is = by_found P s x Num.GetAttr _ _ is (λ d e. is)
-kept_one P kept s x now OpGetFh is = by_found P s x Num.GetFh _ _ is (λ d e. is)
-kept_one P kept s x now (OpLink name) is = by_found P s x Num.Link _ (of_link.linked s x now name) is (λ p granted.
+kept_one P kept s x now (Op.GetAttr mask) is = by_found P s x Num.GetAttr _ _ is (λ d e. is)
+kept_one P kept s x now Op.GetFh is = by_found P s x Num.GetFh _ _ is (λ d e. is)
+kept_one P kept s x now (Op.Link name) is = by_found P s x Num.Link _ (of_link.linked s x now name) is (λ p granted.
     (let none = last_passed (checked (both s x) (of_link.place_checks x name)) (λ p. link_checks s.tree p.saved.number p.current.number name) p granted in
     kept.effects s x (Links p.saved.number p.current.number name now) none is))
-kept_one P kept s x now (OpLookup name) is = by_found P s x Num.Lookup _ _ is (λ n e. kept.handles s x (at_object x n) refl is)
-kept_one P kept s x now OpLookupP is = by_found P s x Num.LookupP _ _ is (λ n e. kept.handles s x (at_object x n) refl is)
-kept_one P kept s x now (OpNVerify a) is = by_found P s x Num.NVerify _ _ is (λ d e. is)
-kept_one P kept s x now (OpPutFh object) is = by_found P s x Num.PutFh _ _ is (λ (h : Handle) e. kept.handles s x (at_object x h.number) refl is)
-kept_one P kept s x now OpPutPubFh is = kept.handles s x (at_object x root) refl is
-kept_one P kept s x now OpPutRootFh is = kept.handles s x (at_object x root) refl is
-kept_one P kept s x now (OpReadDir a) is = by_found P s x Num.ReadDir _ _ is (λ d e. is)
-kept_one P kept s x now OpReadLink is = by_found P s x Num.ReadLink _ _ is (λ d e. is)
-kept_one P kept s x now (OpRemove name) is = by_found P s x Num.Remove _ (of_remove.removed s x now name) is (λ d granted.
+kept_one P kept s x now (Op.Lookup name) is = by_found P s x Num.Lookup _ _ is (λ n e. kept.handles s x (at_object x n) refl is)
+kept_one P kept s x now Op.LookupP is = by_found P s x Num.LookupP _ _ is (λ n e. kept.handles s x (at_object x n) refl is)
+kept_one P kept s x now (Op.NVerify a) is = by_found P s x Num.NVerify _ _ is (λ d e. is)
+kept_one P kept s x now (Op.PutFh object) is = by_found P s x Num.PutFh _ _ is (λ (h : Handle) e. kept.handles s x (at_object x h.number) refl is)
+kept_one P kept s x now Op.PutPubFh is = kept.handles s x (at_object x root) refl is
+kept_one P kept s x now Op.PutRootFh is = kept.handles s x (at_object x root) refl is
+kept_one P kept s x now (Op.ReadDir a) is = by_found P s x Num.ReadDir _ _ is (λ d e. is)
+kept_one P kept s x now Op.ReadLink is = by_found P s x Num.ReadLink _ _ is (λ d e. is)
+kept_one P kept s x now (Op.Remove name) is = by_found P s x Num.Remove _ (of_remove.removed s x now name) is (λ d granted.
     (let none = last_passed (checked (current s x) (of_remove.place_checks x name)) (λ d. remove_checks s.tree d.number name) d granted in
     kept.effects s x (Removes d.number name now) none is))
-kept_one P kept s x now (OpRename a) is = by_found P s x Num.Rename _ _ is (λ p granted.
+kept_one P kept s x now (Op.Rename a) is = by_found P s x Num.Rename _ _ is (λ p granted.
     (let none = last_passed (checked (both s x) (of_rename.place_checks x a)) (λ p. rename_checks s.tree (move_of a p)) p granted in
     renamed_kept P kept s x now a p (moves s.tree (move_of a p)) none refl is))
-kept_one P kept s x now OpRestoreFh is = by_found P s x Num.RestoreFh _ (λ saved. done s (restored x saved) ResRestoreFh) is
+kept_one P kept s x now Op.RestoreFh is = by_found P s x Num.RestoreFh _ (λ saved. done s (restored x saved) Res.RestoreFh) is
     (λ saved e. kept.handles s x (restored x saved) refl is)
-kept_one P kept s x now OpSaveFh is = by_found P s x Num.SaveFh _ (λ (d : Node). done s (saving x d.number) ResSaveFh) is
+kept_one P kept s x now Op.SaveFh is = by_found P s x Num.SaveFh _ (λ (d : Node). done s (saving x d.number) Res.SaveFh) is
     (λ d e. kept.handles s x (saving x d.number) refl is)
-kept_one P kept s x now (OpSecinfoNoName style) is = by_found P s x Num.SecinfoNoName _ (λ d. done s (without_current x) (ResSecinfoNoName (1 ∷ []))) is
+kept_one P kept s x now (Op.SecinfoNoName style) is = by_found P s x Num.SecinfoNoName _ (λ d. done s (without_current x) (Res.SecinfoNoName (1 ∷ []))) is
     (λ d e. kept.handles s x (without_current x) refl is)
-kept_one P kept s x now (OpVerify a) is = by_found P s x Num.Verify _ _ is (λ d e. is)
+kept_one P kept s x now (Op.Verify a) is = by_found P s x Num.Verify _ _ is (λ d e. is)
 kept_one P kept s x now op is = tt
 
 pub kept_item : (P : State → Context → Type 0) → Kept P → (b : Bool) (s : State) (x : Context) (now : Time) (i : Item) → P s x

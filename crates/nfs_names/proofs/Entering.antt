@@ -5,7 +5,7 @@ use Rattle.std.specs.Prelude.{nat_le, ◌==◌, is_some}
 use Rattle.std.specs.List.{flat_map}
 use Rattle.std.proofs.lemmas.Bool.{cases_Bool, leb-true, leb-false, le-leb, eq-eqb, ne_eqb, false_from_ne_true}
 use Rattle.nfs_xdr.specs.SheetState.{SheetState, Puts}
-use Rattle.nfs_results.specs.Result.{Entry}
+use Rattle.nfs_results.specs.declared.res.Entry.{Entry}
 use Rattle.nfs_results.specs.Straight.{entry_text}
 use Rattle.nfs_xdr.specs.Spelling.{padding, opaque}
 use Rattle.nfs_xdr.proofs.Putting.{length_number, length_hyper}
@@ -28,7 +28,7 @@ use Rattle.nfs_names.proofs.Masks.{attributes_spelled}
 use Rattle.nfs_tree.specs.Files.{Files, Listed, listed, listing, stored_in, is_there, object_at}
 use Rattle.nfs_names.specs.ReadDir.{longest, fits, fitting, left}
 use Rattle.nfs_names.specs.Lists.{PutsWithin}
-use Rattle.nfs_compound.specs.NameArgs.{ReadDir}
+use Rattle.nfs_compound.specs.declared.name_args.ReadDir.{ReadDir}
 use Rattle.nfs_results.specs.Largest.{given}
 use Rattle.nfs_attrs.specs.Mask.{mask_of, common, spell_mask}
 use Rattle.nfs_attrs.specs.declared.about.About.{About}

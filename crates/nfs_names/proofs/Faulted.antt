@@ -7,7 +7,7 @@ use Rattle.nfs_xdr.specs.declared.status.Status.{Status}
 use Rattle.nfs_xdr.specs.declared.status.Status.TheVariants.{Delay}
 use Rattle.nfs_compound.specs.declared.op_num.OpNum.{OpNum}
 use Rattle.nfs_compound.specs.OpNum.{op_number}
-use Rattle.nfs_results.specs.Result.{Res, ResSetAttr, Refused}
+use Rattle.nfs_results.specs.declared.res.Res.{Res}
 use Rattle.nfs_results.specs.Results.{status_of_result, refusal}
 use Rattle.nfs_tree.specs.declared.fault.TreeFault.{TreeFault}
 use Rattle.nfs_tree.specs.declared.fault.TreeFault.TheVariants.{NoEnt, Exist, NotDir, IsDir, NotEmpty, Inval, Fbig, NoSpc, Mlink, Counter, Memory}
@@ -54,7 +54,7 @@ by_error s x op v checks f status is = ap (λ v. answers s x op (checked v check
 
 pub status_of_refusal : (n : ℕ) (status : Status) → status_of_result (refusal n status) ≡ status
 status_of_refusal n status =
-    elim (eqb n 34) as (λ b. status_of_result (cond b (ResSetAttr status []) (Refused n status)) ≡ status) [ true ↦ refl | false ↦ refl ]
+    elim (eqb n 34) as (λ b. status_of_result (cond b (Res.SetAttr status []) (Res.Refused n status)) ≡ status) [ true ↦ refl | false ↦ refl ]
 
 -- where nothing wants memory
 pub not_delayed : (refused : Bool) (s : State) (x : Context) (op : OpNum) (o : Outcome) → refused ≡ false → or_delay refused s x op o ≡ o

@@ -10,9 +10,11 @@ use Rattle.nfs_xdr.specs.Checks.{first_fault}
 use Rattle.nfs_xdr.specs.SheetState.{SheetState, Puts}
 use Rattle.nfs_xdr.specs.declared.status.Status.{Status}
 use Rattle.nfs_xdr.specs.declared.status.Status.TheVariants.{Nfs4Ok, TooSmall}
-use Rattle.nfs_compound.specs.NameArgs.{ReadDir}
+use Rattle.nfs_compound.specs.declared.name_args.ReadDir.{ReadDir}
 use Rattle.nfs_results.specs.Largest.{given}
-use Rattle.nfs_results.specs.Result.{Entry, ReadDirOk, ResReadDir}
+use Rattle.nfs_results.specs.declared.res.Entry.{Entry}
+use Rattle.nfs_results.specs.declared.res.ReadDirOk.{ReadDirOk}
+use Rattle.nfs_results.specs.declared.res.Res.TheVariants as Res
 use Rattle.nfs_results.specs.Straight.{entry_head, entry_text, read_dir_head, list_end}
 use Rattle.nfs_results.specs.Items.{fattr}
 use Rattle.nfs_results.specs.Results.{spell_result, refusal, head}
@@ -22,7 +24,7 @@ use Rattle.nfs_results.proofs.StraightLaws.{read_dir_in_parts}
 use Rattle.nfs_xdr.specs.Spelling.{number, fixed}
 use Rattle.nfs_xdr.proofs.Putting.{length_number, puts_then}
 use Rattle.std.proofs.Math.Seq.{take-append_seam}
-use Rattle.nfs_compound.specs.declared.op_num.OpNum.TheVariants as Op
+use Rattle.nfs_compound.specs.declared.op_num.OpNum.TheVariants as Num
 use Rattle.nfs_names.specs.declared.context.Context.{Context}
 use Rattle.nfs_names.specs.Comes.{Comes}
 use Rattle.nfs_names.specs.Outcome.{done, passed, checked, answers}
@@ -92,7 +94,7 @@ pub lists_some : (answer status : Status) (o : Option Status) (entries : ReadDir
 lists_some answer status o entries old new is same put = subst (λ o. Lists answer o entries old new) (sym is) (same, put)
 
 pub lists_none : (answer : Status) (o : Option Status) (entries : ReadDirOk) (old new : SheetState) → o ≡ None
-    → answer ≡ Nfs4Ok → Puts old new (spell_result (ResReadDir entries)) → Lists answer o entries old new
+    → answer ≡ Nfs4Ok → Puts old new (spell_result (Res.ReadDir entries)) → Lists answer o entries old new
 lists_none answer o entries old new is same put = subst (λ o. Lists answer o entries old new) (sym is) (same, put)
 
 pub front_length : length (read_dir_head zeros) ≡ 16
@@ -113,7 +115,7 @@ taken_back old mid last a b start p q is =
 
 pub listed_whole : (s : State) (a : ReadDir) (d : Node) (old mid out new : SheetState) (whole : Bool)
     → Puts old mid (read_dir_head zeros) → Puts mid out (flat_map entry_text (fitting s a d)) → Puts out new (list_end whole)
-    → whole ≡ (length (fitting s a d) == length (left s a d)) → Puts old new (spell_result (ResReadDir (listed s a d)))
+    → whole ≡ (length (fitting s a d) == length (left s a d)) → Puts old new (spell_result (Res.ReadDir (listed s a d)))
 listed_whole s a d old mid out new whole p q r eof =
     subst (Puts old new)
     (ap (λ e. read_dir_head zeros ++ (flat_map entry_text (fitting s a d) ++ list_end e)) eof ∙ sym (read_dir_in_parts (listed s a d)))
@@ -125,21 +127,21 @@ pub listing_comes : (s : State) (x : Context) (a : ReadDir) (d : Node) (answer :
     → Comes (read_dir s x a) old new answer s x
 unfolding read_dir
 listing_comes s x a d answer old new v lists =
-    subst (λ v. Comes (answers s x Op.ReadDir (checked v (entry_checks s a)) (λ d. done s x (ResReadDir (listed s a d)))) old new answer s x) (sym v)
+    subst (λ v. Comes (answers s x Num.ReadDir (checked v (entry_checks s a)) (λ d. done s x (Res.ReadDir (listed s a d)))) old new answer s x) (sym v)
     (by_fault (first_fault (entry_checks s a d)) lists)
   where
     by_fault : (o : Option Status) → Lists answer o (listed s a d) old new
-        → Comes (answers s x Op.ReadDir (passed d o) (λ d. done s x (ResReadDir (listed s a d)))) old new answer s x
+        → Comes (answers s x Num.ReadDir (passed d o) (λ d. done s x (Res.ReadDir (listed s a d)))) old new answer s x
     by_fault None l = record { put = l.1; status = l.0; state = refl; context = refl }
     by_fault (Some status) l = record { put = l.1; status = l.0; state = refl; context = refl }
 
 -- all behind the status is within the bytes that are given
-pub listed_within : (s : State) (a : ReadDir) (d : Node) → 16 ≤ a.maxcount → length (parts (ResReadDir (listed s a d))).behind ≤ given a.maxcount
+pub listed_within : (s : State) (a : ReadDir) (d : Node) → 16 ≤ a.maxcount → length (parts (Res.ReadDir (listed s a d))).behind ≤ given a.maxcount
 listed_within s a d le =
     let text = flat_map entry_text (fitting s a d) in
     let eof = length (fitting s a d) == length (left s a d) in
     let whole = ap length (read_dir_in_parts (listed s a d)) ∙ length-append (read_dir_head zeros) (text ++ list_end eof) in
     let behind = length-append text (list_end eof) in
-    let spelled = length_spelled (ResReadDir (listed s a d)) in
+    let spelled = length_spelled (Res.ReadDir (listed s a d)) in
     let few = fitting_within s a d le in
     omega (arith, front_length, end_length eof)

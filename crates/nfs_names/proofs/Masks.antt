@@ -6,7 +6,7 @@ use Rattle.std.proofs.lemmas.List.{length-append, length-take}
 use Rattle.nfs_tree.specs.Files.{Files, data_at}
 use Rattle.nfs_tree.specs.Bytes.{part}
 use Rattle.nfs_xdr.specs.SheetState.{SheetState, HasRoom, Puts}
-use Rattle.nfs_results.specs.View.{before, trimmed}
+use Rattle.nfs_results.specs.AttrSet.{before, trimmed}
 use Rattle.nfs_results.specs.Items.{attr_set, fattr}
 use Rattle.nfs_tree.specs.declared.object.Object.{Object}
 use Rattle.nfs_attrs.specs.declared.about.About.{About}

@@ -8,7 +8,7 @@ use Rattle.nfs_xdr.specs.Status.{status_number}
 use Rattle.nfs_xdr.specs.declared.status.Status.{Status}
 use Rattle.nfs_compound.specs.declared.op_num.OpNum.{OpNum}
 use Rattle.nfs_compound.specs.OpNum.{op_number}
-use Rattle.nfs_results.specs.Result.{Res}
+use Rattle.nfs_results.specs.declared.res.Res.{Res}
 use Rattle.nfs_results.specs.Results.{refusal}
 use Rattle.nfs_opens.specs.Steps.{◌>>=◌}
 use Rattle.nfs_names.specs.declared.context.Context.{Context}

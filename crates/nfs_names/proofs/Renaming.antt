@@ -1,19 +1,19 @@
 -- RENAME: the tree's own checks are its last ones, and what it leaves.
-use Rattle.std.proofs.Common.{◌≡◌, ℕ, ◌+◌, true, false, not, Option, Some, None, refl, sym, ◌∙◌, ap, inl, inr}
-use Rattle.std.specs.Prelude.{Ok, Err, IsOk, is_ok as is_right, option_map, ◌==◌, ◌&&◌, ◌||◌, if◌then◌else◌, is_some, unwrap_or}
+use Rattle.std.proofs.Common.{◌≡◌, ℕ, List, ◌+◌, true, false, not, Option, Some, None, refl, sym, subst, ◌∙◌, ap, inl, inr}
+use Rattle.std.specs.Prelude.{Result, Ok, Err, IsOk, is_ok as is_right, option_map, ◌==◌, ◌&&◌, ◌||◌, if◌then◌else◌, is_some, unwrap_or}
 use Rattle.std.proofs.lemmas.Bool.{cases_Bool, and_right, or_parts, ne_eqb, and_from, false≢true}
 use Rattle.nfs_xdr.specs.Checks.{first_fault}
 use Rattle.nfs_xdr.proofs.Checks.{all_passed}
 use Rattle.nfs_xdr.specs.declared.time.Time.{Time}
-use Rattle.nfs_compound.specs.declared.op_num.OpNum.TheVariants as Op
-use Rattle.nfs_compound.specs.NameArgs as args
+use Rattle.nfs_compound.specs.declared.op_num.OpNum.TheVariants as Num
+use Rattle.nfs_compound.specs.declared.name_args.Rename as args
 use Rattle.nfs_tree.specs.declared.row.Row.{Row}
 use Rattle.nfs_tree.specs.declared.done.Renamed.{Renamed}
 use Rattle.nfs_tree.specs.declared.fault.TreeFault.{TreeFault}
 use Rattle.nfs_tree.specs.Files.{Files, has_name, lookup, is_entry, entry, has_entries, without_entry, raised, stays}
 use Rattle.nfs_tree.specs.Calls.{Did, DoesOrWants, rename_fault, rename_unless}
 use Rattle.nfs_tree.specs.Calls as tree
-use Rattle.nfs_tree.specs.Names.{Move, move, moves, moved_object, replaced_object, is_below_itself, is_unlike, is_in_the_way, can_move, rename_checks}
+use Rattle.nfs_tree.specs.Names.{Move, move, moves, moved_object, replaced_object, is_unlike, is_in_the_way, rename_checks}
 use Rattle.nfs_tree.specs.Names.{with_moved}
 use Rattle.nfs_tree.proofs.Trees.{has_one, apart}
 use Rattle.nfs_names.specs.declared.context.Context.{Context}
@@ -34,6 +34,15 @@ rename_found : (s : State) (x : Context) (a : args.Rename) (p : Pair) → checke
     → option_map status_of (rename_fault s.tree (move_of a p)) ≡ first_fault (of_rename.row_checks s a p)
 rename_found s x a p v = fault_map status_of (rename_checks s.tree (move_of a p))
 
+-- what the tree did of two names, of the names that were asked for
+pub as_named : (t left : Files) (now : Time) (p : Pair) (a : args.Rename) (old new : List ℕ) (r : Result Renamed TreeFault) → old ≡ a.oldname → new ≡ a.newname
+    → DoesOrWants t (moves t (move p.saved.number old p.current.number new)) (tree.rename t (move p.saved.number old p.current.number new) now) r left
+    → DoesOrWants t (moves t (move_of a p)) (tree.rename t (move_of a p) now) r left
+as_named t left now p a old new r one other did =
+    let does : List ℕ → List ℕ → Type 0 =
+    λ o n. DoesOrWants t (moves t (move p.saved.number o p.current.number n)) (tree.rename t (move p.saved.number o p.current.number n) now) r left in
+    subst (λ (n : List ℕ). does a.oldname n) other (subst (λ (o : List ℕ). does o new) one did)
+
 abbrev pub what_moves : State → Context → Time → args.Rename → Pair → Outcome
 what_moves s x now a p = if moves s.tree (move_of a p) then of_rename.moved s x now a p else of_rename.unmoved s x p
 
@@ -42,15 +51,15 @@ pub rename_goes : (s : State) (x : Context) (now : Time) (a : args.Rename) (p : 
     → of_rename.rename s x now a ≡ what_moves s x now a p
 unfolding of_rename.rename
 rename_goes s x now a p v none =
-    by_last s x Op.Rename (checked (both s x) (of_rename.place_checks x a)) (of_rename.row_checks s a) (what_moves s x now a) p v
+    by_last s x Num.Rename (checked (both s x) (of_rename.place_checks x a)) (of_rename.row_checks s a) (what_moves s x now a) p v
     (sym (rename_found s x a p v) ∙ ap (option_map status_of) none)
 
 pub rename_stops : (s : State) (x : Context) (now : Time) (a : args.Rename) (p : Pair) (f : TreeFault)
     → checked (both s x) (of_rename.place_checks x a) ≡ Ok p → rename_fault s.tree (move_of a p) ≡ Some f
-    → of_rename.rename s x now a ≡ refuses s x Op.Rename (status_of f)
+    → of_rename.rename s x now a ≡ refuses s x Num.Rename (status_of f)
 unfolding of_rename.rename
 rename_stops s x now a p f v some =
-    by_refusal s x Op.Rename (checked (both s x) (of_rename.place_checks x a)) (of_rename.row_checks s a) (what_moves s x now a) p (status_of f) v
+    by_refusal s x Num.Rename (checked (both s x) (of_rename.place_checks x a)) (of_rename.row_checks s a) (what_moves s x now a) p (status_of f) v
     (sym (rename_found s x a p v) ∙ ap (option_map status_of) some)
 
 -- the same answer and tree as the tree's definition has where no check fails
@@ -127,7 +136,7 @@ pub rename_refused : (s : State) (x : Context) (now : Time) (a : args.Rename) (p
     → checked (both s x) (of_rename.place_checks x a) ≡ Ok p
     → DoesOrWants s.tree (moves s.tree (move_of a p)) (tree.rename s.tree (move_of a p) now) (Err f) new
     → (new ≡ s.tree)
-    × (refuses s x Op.Rename (status_of f) ≡ or_delay (moves_in s a (both s x) && is_delay (status_of f)) s x Op.Rename (of_rename.rename s x now a))
+    × (refuses s x Num.Rename (status_of f) ≡ or_delay (moves_in s a (both s x) && is_delay (status_of f)) s x Num.Rename (of_rename.rename s x now a))
 rename_refused s x now a p f new v d =
     let t = s.tree in
     let m = move_of a p in
@@ -141,9 +150,9 @@ rename_refused s x now a p f new v d =
             let is : o ≡ of_rename.moved s x now a p = rename_goes s x now a p v none
             ∙ ap (λ b. if b then of_rename.moved s x now a p else of_rename.unmoved s x p) w.1 in
             let flag : moves_in s a (both s x) && is_delay (status_of f) ≡ true = and_from _ _ (grows ∙ w.1) (ap (λ f. is_delay (status_of f)) w.0) in
-            ap (λ f. refuses s x Op.Rename (status_of f)) w.0
-            ∙ sym (ap (λ b. or_delay b s x Op.Rename o) flag ∙ ap (or_delay true s x Op.Rename) is ∙ delayed s x Op.Rename (of_rename.moved s x now a p) refl)),
+            ap (λ f. refuses s x Num.Rename (status_of f)) w.0
+            ∙ sym (ap (λ b. or_delay b s x Num.Rename o) flag ∙ ap (or_delay true s x Num.Rename) is ∙ delayed s x Num.Rename (of_rename.moved s x now a p) refl)),
       )
       | inr e ↦ (let err = unless_err t (rename_fault t m) (Goes t m now) f new (goes_ok t m now) e.1 e.2 in
-          (err.1, sym (not_delayed _ s x Op.Rename o (and_right (moves_in s a (both s x)) _ e.0) ∙ rename_stops s x now a p f v err.0)))
+          (err.1, sym (not_delayed _ s x Num.Rename o (and_right (moves_in s a (both s x)) _ e.0) ∙ rename_stops s x now a p f v err.0)))
     ]

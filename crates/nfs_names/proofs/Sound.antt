@@ -4,7 +4,7 @@ use Rattle.std.specs.Prelude.{◌==◌, ◌||◌, IfSome}
 use Rattle.std.proofs.lemmas.Bool.{cases_Bool, eq-eqb, or_parts, false≢true}
 use Rattle.nfs_xdr.specs.declared.time.Time.{Time}
 use Rattle.nfs_xdr.proofs.Lists.{none_left}
-use Rattle.nfs_compound.specs.Operation.{Item}
+use Rattle.nfs_compound.specs.declared.op.Item.{Item}
 use Rattle.nfs_tree.specs.Files.{root, has_row, has_entries, is_entry, lookup, named}
 use Rattle.nfs_tree.specs.Names.{with_moved, without_name}
 use Rattle.nfs_tree.specs.TreeInvariants.{IsTree}

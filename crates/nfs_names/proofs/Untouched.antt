@@ -4,7 +4,7 @@ use Rattle.std.specs.Prelude.{IfSome}
 use Rattle.std.specs.Option.{ForSome}
 use Rattle.std.proofs.lemmas.Bool.{cases_Bool}
 use Rattle.nfs_xdr.specs.declared.time.Time.{Time}
-use Rattle.nfs_compound.specs.Operation.{Item}
+use Rattle.nfs_compound.specs.declared.op.Item.{Item}
 use Rattle.nfs_tree.specs.Files.{lookup, named}
 use Rattle.nfs_tree.specs.Names.{with_moved, without_name}
 use Rattle.nfs_names.specs.declared.context.Context.{Context}

@@ -6,9 +6,10 @@ use Rattle.nfs_xdr.specs.declared.status.Status.TheVariants.{Delay}
 use Rattle.nfs_compound.specs.declared.op_num.OpNum.{OpNum}
 use Rattle.nfs_compound.specs.declared.op_num.OpNum.TheVariants as Num
 use Rattle.nfs_compound.specs.OpNum.{op_number}
-use Rattle.nfs_compound.specs.Operation.{Op, Item, Operation, Fault, OpAccess, OpCreate, OpGetAttr, OpGetFh, OpLink, OpLookup, OpLookupP, OpNVerify, OpPutFh}
-use Rattle.nfs_compound.specs.Operation.{OpPutPubFh, OpPutRootFh, OpReadDir, OpReadLink, OpRemove, OpRename, OpRestoreFh, OpSaveFh, OpSecinfoNoName, OpVerify}
-use Rattle.nfs_results.specs.Result.{Res}
+use Rattle.nfs_compound.specs.declared.op.Op.{Op}
+use Rattle.nfs_compound.specs.declared.op.Item.{Item}
+use Rattle.nfs_compound.specs.declared.op.Item.TheVariants.{Operation, Fault}
+use Rattle.nfs_results.specs.declared.res.Res.{Res}
 use Rattle.nfs_results.specs.Results.{refusal, spell_result}
 use Rattle.nfs_names.proofs.Bounds.{IsAnswer}
 use Rattle.nfs_results.specs.Largest.{largest}
@@ -35,28 +36,28 @@ delay_may b s x op o P done delayed = elim (b && is_ok o.result) as (λ k. P (co
 
 -- by the operation
 pub may_come : (b : Bool) (s : State) (x : Context) (now : Time) (op : Op) → IfSome (comes_to b s x now (Operation op)) (λ o. IsAnswer (Operation op) o.result)
-may_come b s x now (OpAccess asked) = bound.may_access s x asked
-may_come b s x now (OpCreate c) = delay_may (true && b) s x Num.Create (create s x now c)
-    (IsAnswer (Operation (OpCreate c))) (bound.may_create s x now c) (record { may = (refl, refl, tt); arrays = tt })
-may_come b s x now (OpGetAttr mask) = bound.may_get_attr s x mask
-may_come b s x now OpGetFh = bound.may_get_fh s x
-may_come b s x now (OpLink name) = delay_may (true && b) s x Num.Link (link s x now name)
-    (IsAnswer (Operation (OpLink name))) (bound.may_link s x now name) (record { may = (refl, refl, tt); arrays = tt })
-may_come b s x now (OpLookup name) = bound.may_lookup s x name
-may_come b s x now OpLookupP = bound.may_lookup_p s x
-may_come b s x now (OpNVerify a) = bound.may_nverify s x a
-may_come b s x now (OpPutFh object) = bound.may_put_fh s x object
-may_come b s x now OpPutPubFh = bound.may_put_pub_fh s x
-may_come b s x now OpPutRootFh = bound.may_put_root_fh s x
-may_come b s x now (OpReadDir a) = bound.may_read_dir s x a
-may_come b s x now OpReadLink = bound.may_read_link s x
-may_come b s x now (OpRemove name) = bound.may_remove s x now name
-may_come b s x now (OpRename a) = delay_may (grows s x (OpRename a) && b) s x Num.Rename (rename s x now a)
-    (IsAnswer (Operation (OpRename a))) (bound.may_rename s x now a) (record { may = (refl, refl, tt); arrays = tt })
-may_come b s x now OpRestoreFh = bound.may_restore_fh s x
-may_come b s x now OpSaveFh = bound.may_save_fh s x
-may_come b s x now (OpSecinfoNoName style) = bound.may_secinfo_no_name s x style
-may_come b s x now (OpVerify a) = bound.may_verify s x a
+may_come b s x now (Op.Access asked) = bound.may_access s x asked
+may_come b s x now (Op.Create c) = delay_may (true && b) s x Num.Create (create s x now c)
+    (IsAnswer (Operation (Op.Create c))) (bound.may_create s x now c) (record { may = (refl, refl, tt); arrays = tt })
+may_come b s x now (Op.GetAttr mask) = bound.may_get_attr s x mask
+may_come b s x now Op.GetFh = bound.may_get_fh s x
+may_come b s x now (Op.Link name) = delay_may (true && b) s x Num.Link (link s x now name)
+    (IsAnswer (Operation (Op.Link name))) (bound.may_link s x now name) (record { may = (refl, refl, tt); arrays = tt })
+may_come b s x now (Op.Lookup name) = bound.may_lookup s x name
+may_come b s x now Op.LookupP = bound.may_lookup_p s x
+may_come b s x now (Op.NVerify a) = bound.may_nverify s x a
+may_come b s x now (Op.PutFh object) = bound.may_put_fh s x object
+may_come b s x now Op.PutPubFh = bound.may_put_pub_fh s x
+may_come b s x now Op.PutRootFh = bound.may_put_root_fh s x
+may_come b s x now (Op.ReadDir a) = bound.may_read_dir s x a
+may_come b s x now Op.ReadLink = bound.may_read_link s x
+may_come b s x now (Op.Remove name) = bound.may_remove s x now name
+may_come b s x now (Op.Rename a) = delay_may (grows s x (Op.Rename a) && b) s x Num.Rename (rename s x now a)
+    (IsAnswer (Operation (Op.Rename a))) (bound.may_rename s x now a) (record { may = (refl, refl, tt); arrays = tt })
+may_come b s x now Op.RestoreFh = bound.may_restore_fh s x
+may_come b s x now Op.SaveFh = bound.may_save_fh s x
+may_come b s x now (Op.SecinfoNoName style) = bound.may_secinfo_no_name s x style
+may_come b s x now (Op.Verify a) = bound.may_verify s x a
 may_come b s x now op = tt
 
 -- What every operation on names keeps.

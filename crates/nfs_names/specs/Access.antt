@@ -1,8 +1,8 @@
 -- ACCESS (RFC 8881 section 18.1): which of the rights that are asked for can be judged, and which the caller has.
 use Rattle.std.specs.Prelude.{ℕ}
-use Rattle.nfs_compound.specs.declared.op_num.OpNum.TheVariants as Op
+use Rattle.nfs_compound.specs.declared.op_num.OpNum.TheVariants as Num
 use Rattle.nfs_results.specs.declared.res.AccessOk.{AccessOk}
-use Rattle.nfs_results.specs.Result.{ResAccess}
+use Rattle.nfs_results.specs.declared.res.Res.TheVariants as Res
 use Rattle.nfs_attrs.specs.declared.permission.Access as judged
 use Rattle.nfs_attrs.specs.Permissions.{judge_access}
 use Rattle.nfs_names.specs.declared.context.Context.{Context}
@@ -14,4 +14,4 @@ abbrev pub told_access : judged.Access → AccessOk
 told_access a = record { supported = a.supported; access = a.granted }
 
 unfoldable pub access : State → Context → ℕ → Outcome
-access s x asked = answers s x Op.Access (current s x) (λ d. done s x (ResAccess (told_access (judge_access d.object x.who asked))))
+access s x asked = answers s x Num.Access (current s x) (λ d. done s x (Res.Access (told_access (judge_access d.object x.who asked))))

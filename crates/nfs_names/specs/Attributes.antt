@@ -6,7 +6,7 @@ use Rattle.nfs_attrs.specs.declared.about.About.{About}
 use Rattle.nfs_attrs.specs.declared.mask.Mask.{Mask}
 use Rattle.nfs_attrs.specs.Mask.{trimmed_words, common}
 use Rattle.nfs_attrs.specs.Attributes.{readable, values}
-use Rattle.nfs_results.specs.Result.{Fattr}
+use Rattle.nfs_results.specs.declared.res.Fattr.{Fattr}
 use Rattle.nfs_names.specs.declared.node.Node.{Node}
 use Rattle.nfs_names.specs.State.{State}
 

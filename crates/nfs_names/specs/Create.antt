@@ -4,11 +4,13 @@ use Rattle.std.specs.Prelude.{unwrap_or, option_map}
 use Rattle.nfs_xdr.specs.declared.time.Time.{Time}
 use Rattle.nfs_xdr.specs.declared.status.Status.{Status}
 use Rattle.nfs_xdr.specs.declared.status.Status.TheVariants.{Inval, NameTooLong, BadType}
-use Rattle.nfs_compound.specs.declared.op_num.OpNum.TheVariants as Op
-use Rattle.nfs_compound.specs.Attributes.{Attributes}
-use Rattle.nfs_compound.specs.NameArgs.{Create, CreateType, Symlink, Other}
+use Rattle.nfs_compound.specs.declared.op_num.OpNum.TheVariants as Num
+use Rattle.nfs_compound.specs.declared.attributes.Attributes.{Attributes}
+use Rattle.nfs_compound.specs.declared.name_args.Create.{Create}
+use Rattle.nfs_compound.specs.declared.name_args.CreateType.{CreateType}
+use Rattle.nfs_compound.specs.declared.name_args.CreateType.TheVariants.{Symlink, Other}
 use Rattle.nfs_results.specs.declared.res.ChangeInfo.{ChangeInfo}
-use Rattle.nfs_results.specs.Result.{ResCreate}
+use Rattle.nfs_results.specs.declared.res.Res.TheVariants as Res
 use Rattle.nfs_tree.specs.declared.done.Change.{Change}
 use Rattle.nfs_tree.specs.declared.sets.Sets.{Sets}
 use Rattle.nfs_tree.specs.Files.{most_text, raised}
@@ -95,7 +97,7 @@ change_info c = record { atomic = true; before = c.before; after = c.after }
 
 abbrev pub created : State → Context → Time → Create → Making → Outcome
 created s x now c m = record {
-  result = ResCreate (record { cinfo = change_info (raised s.tree m.place.number); attrset = trimmed_words (mask_of c.createattrs.attrmask) });
+  result = Res.Create (record { cinfo = change_info (raised s.tree m.place.number); attrset = trimmed_words (mask_of c.createattrs.attrmask) });
   state = with_tree s (with_new s.tree m.place.number c.objname (new_of c.objtype) (sets_of x now (new_of c.objtype) m.wanted) now);
   context = at_object x (s.tree.last_object + 1);
 }
@@ -107,4 +109,4 @@ asked_for s x c = do
   checked (Ok (record { place = d; wanted = wanted })) (new_checks x)
 
 unfoldable pub create : State → Context → Time → Create → Outcome
-create s x now c = answers s x Op.Create (checked (asked_for s x c) (row_checks s c)) (created s x now c)
+create s x now c = answers s x Num.Create (checked (asked_for s x c) (row_checks s c)) (created s x now c)

@@ -2,8 +2,8 @@
 use Rattle.std.specs.Prelude.{ℕ, Bool, List, [], ◌∷◌}
 use Rattle.nfs_xdr.specs.declared.status.Status.{Status}
 use Rattle.nfs_xdr.specs.declared.status.Status.TheVariants.{Inval}
-use Rattle.nfs_compound.specs.declared.op_num.OpNum.TheVariants as Op
-use Rattle.nfs_results.specs.Result.{ResGetAttr}
+use Rattle.nfs_compound.specs.declared.op_num.OpNum.TheVariants as Num
+use Rattle.nfs_results.specs.declared.res.Res.TheVariants as Res
 use Rattle.nfs_attrs.specs.Mask.{mask_of, asks_set_only}
 use Rattle.nfs_names.specs.declared.context.Context.{Context}
 use Rattle.nfs_names.specs.declared.node.Node.{Node}
@@ -16,4 +16,4 @@ abbrev pub mask_checks : List ℕ → Node → List (Bool × Status)
 mask_checks words d = (asks_set_only (mask_of words), Inval) ∷ []
 
 unfoldable pub get_attr : State → Context → List ℕ → Outcome
-get_attr s x words = answers s x Op.GetAttr (checked (current s x) (mask_checks words)) (λ d. done s x (ResGetAttr (attributes_of s (mask_of words) d)))
+get_attr s x words = answers s x Num.GetAttr (checked (current s x) (mask_checks words)) (λ d. done s x (Res.GetAttr (attributes_of s (mask_of words) d)))

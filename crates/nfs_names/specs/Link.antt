@@ -3,8 +3,8 @@ use Rattle.std.specs.Prelude.{ℕ, Bool, List, ◌∷◌}
 use Rattle.nfs_xdr.specs.declared.time.Time.{Time}
 use Rattle.nfs_xdr.specs.declared.status.Status.{Status}
 use Rattle.nfs_xdr.specs.declared.status.Status.TheVariants.{IsDir}
-use Rattle.nfs_compound.specs.declared.op_num.OpNum.TheVariants as Op
-use Rattle.nfs_results.specs.Result.{ResLink}
+use Rattle.nfs_compound.specs.declared.op_num.OpNum.TheVariants as Num
+use Rattle.nfs_results.specs.declared.res.Res.TheVariants as Res
 use Rattle.nfs_tree.specs.Object.{is_directory}
 use Rattle.nfs_tree.specs.Names.{link_checks, with_link}
 use Rattle.nfs_tree.specs.Files.{raised}
@@ -31,10 +31,10 @@ row_checks s name p = by_tree (link_checks s.tree p.saved.number p.current.numbe
 
 abbrev pub linked : State → Context → Time → List ℕ → Pair → Outcome
 linked s x now name p = record {
-  result = ResLink (change_info (raised s.tree p.current.number));
+  result = Res.Link (change_info (raised s.tree p.current.number));
   state = with_tree s (with_link s.tree p.saved.number p.current.number name now);
   context = x;
 }
 
 unfoldable pub link : State → Context → Time → List ℕ → Outcome
-link s x now name = answers s x Op.Link (checked (checked (both s x) (place_checks x name)) (row_checks s name)) (linked s x now name)
+link s x now name = answers s x Num.Link (checked (checked (both s x) (place_checks x name)) (row_checks s name)) (linked s x now name)

@@ -3,9 +3,10 @@ use Rattle.std.specs.Prelude.{◌≡◌, ℕ, ◌<◌, ◌≤◌, Bool, true, fa
 use Rattle.nfs_xdr.specs.SheetState.{SheetState, Puts}
 use Rattle.nfs_xdr.specs.declared.status.Status.{Status}
 use Rattle.nfs_xdr.specs.declared.status.Status.TheVariants.{Nfs4Ok}
-use Rattle.nfs_compound.specs.declared.op_num.OpNum.TheVariants as Op
+use Rattle.nfs_compound.specs.declared.op_num.OpNum.TheVariants as Num
 use Rattle.nfs_compound.specs.OpNum.{op_number}
-use Rattle.nfs_results.specs.Result.{ReadDirOk, ResReadDir}
+use Rattle.nfs_results.specs.declared.res.ReadDirOk.{ReadDirOk}
+use Rattle.nfs_results.specs.declared.res.Res.TheVariants as Res
 use Rattle.nfs_results.specs.Results.{spell_result, refusal}
 
 -- what a call that puts an entry has put, if it takes no more than so many bytes
@@ -15,5 +16,5 @@ PutsWithin false room old new text = (room < length text) × (new ≡ old)
 
 -- what a listing answers and puts: its entries, or why there are none
 abbrev pub Lists : Status → Option Status → ReadDirOk → SheetState → SheetState → Type 0
-Lists answer None entries old new = (answer ≡ Nfs4Ok) × Puts old new (spell_result (ResReadDir entries))
-Lists answer (Some status) entries old new = (answer ≡ status) × Puts old new (spell_result (refusal (op_number Op.ReadDir) status))
+Lists answer None entries old new = (answer ≡ Nfs4Ok) × Puts old new (spell_result (Res.ReadDir entries))
+Lists answer (Some status) entries old new = (answer ≡ status) × Puts old new (spell_result (refusal (op_number Num.ReadDir) status))

@@ -2,8 +2,8 @@
 use Rattle.std.specs.Prelude.{ℕ, Bool, true, false, not, List, [], ◌∷◌, ◌++◌}
 use Rattle.nfs_xdr.specs.declared.status.Status.{Status}
 use Rattle.nfs_xdr.specs.declared.status.Status.TheVariants.{Symlink, NoEnt}
-use Rattle.nfs_compound.specs.declared.op_num.OpNum.TheVariants as Op
-use Rattle.nfs_results.specs.Result.{ResLookup}
+use Rattle.nfs_compound.specs.declared.op_num.OpNum.TheVariants as Num
+use Rattle.nfs_results.specs.declared.res.Res.TheVariants as Res
 use Rattle.nfs_tree.specs.declared.object.FileType.{FileType}
 use Rattle.nfs_tree.specs.declared.object.FileType.TheVariants.{Regular, Directory, Link}
 use Rattle.nfs_tree.specs.Files.{has_name, named}
@@ -31,5 +31,5 @@ lookup_checks s x name d =
 
 unfoldable pub lookup : State → Context → List ℕ → Outcome
 lookup s x name =
-    answers s x Op.Lookup (mapped (λ d. named s.tree d.number name) (checked (current s x) (lookup_checks s x name)))
-    (λ n. done s (at_object x n) ResLookup)
+    answers s x Num.Lookup (mapped (λ d. named s.tree d.number name) (checked (current s x) (lookup_checks s x name)))
+    (λ n. done s (at_object x n) Res.Lookup)

@@ -3,10 +3,11 @@ use Rattle.std.specs.Prelude.{◌&&◌, Bool, true, false, Ok, Err, Result, Opti
 use Rattle.std.specs.Option.{option_map}
 use Rattle.nfs_xdr.specs.declared.time.Time.{Time}
 use Rattle.nfs_xdr.specs.declared.status.Status.{Status}
-use Rattle.nfs_compound.specs.NameArgs as args
+use Rattle.nfs_compound.specs.declared.name_args.Rename as args
 use Rattle.nfs_compound.specs.Arguments.{arguments}
-use Rattle.nfs_compound.specs.Operation.{Op, Item, Operation, Fault, OpAccess, OpCreate, OpGetAttr, OpGetFh, OpLink, OpLookup, OpLookupP, OpNVerify, OpPutFh}
-use Rattle.nfs_compound.specs.Operation.{OpPutPubFh, OpPutRootFh, OpReadDir, OpReadLink, OpRemove, OpRename, OpRestoreFh, OpSaveFh, OpSecinfoNoName, OpVerify}
+use Rattle.nfs_compound.specs.declared.op.Op.{Op}
+use Rattle.nfs_compound.specs.declared.op.Item.{Item}
+use Rattle.nfs_compound.specs.declared.op.Item.TheVariants.{Operation, Fault}
 use Rattle.nfs_tree.specs.Names.{moves}
 use Rattle.nfs_names.specs.declared.context.Context.{Context}
 use Rattle.nfs_names.specs.declared.node.Pair.{Pair}
@@ -35,25 +36,25 @@ use Rattle.nfs_names.specs.Verify.{verify}
 
 -- what an operation comes to, at a moment
 abbrev pub one : State → Context → Time → Op → Option Outcome
-one s x now (OpAccess asked) = Some (access s x asked)
-one s x now (OpCreate c) = Some (create s x now c)
-one s x now (OpGetAttr mask) = Some (get_attr s x mask)
-one s x now OpGetFh = Some (get_fh s x)
-one s x now (OpLink name) = Some (link s x now name)
-one s x now (OpLookup name) = Some (lookup s x name)
-one s x now OpLookupP = Some (lookup_p s x)
-one s x now (OpNVerify attributes) = Some (nverify s x attributes)
-one s x now (OpPutFh object) = Some (put_fh s x object)
-one s x now OpPutPubFh = Some (put_pub_fh s x)
-one s x now OpPutRootFh = Some (put_root_fh s x)
-one s x now (OpReadDir a) = Some (read_dir s x a)
-one s x now OpReadLink = Some (read_link s x)
-one s x now (OpRemove name) = Some (remove s x now name)
-one s x now (OpRename a) = Some (rename s x now a)
-one s x now OpRestoreFh = Some (restore_fh s x)
-one s x now OpSaveFh = Some (save_fh s x)
-one s x now (OpSecinfoNoName style) = Some (secinfo_no_name s x style)
-one s x now (OpVerify attributes) = Some (verify s x attributes)
+one s x now (Op.Access asked) = Some (access s x asked)
+one s x now (Op.Create c) = Some (create s x now c)
+one s x now (Op.GetAttr mask) = Some (get_attr s x mask)
+one s x now Op.GetFh = Some (get_fh s x)
+one s x now (Op.Link name) = Some (link s x now name)
+one s x now (Op.Lookup name) = Some (lookup s x name)
+one s x now Op.LookupP = Some (lookup_p s x)
+one s x now (Op.NVerify attributes) = Some (nverify s x attributes)
+one s x now (Op.PutFh object) = Some (put_fh s x object)
+one s x now Op.PutPubFh = Some (put_pub_fh s x)
+one s x now Op.PutRootFh = Some (put_root_fh s x)
+one s x now (Op.ReadDir a) = Some (read_dir s x a)
+one s x now Op.ReadLink = Some (read_link s x)
+one s x now (Op.Remove name) = Some (remove s x now name)
+one s x now (Op.Rename a) = Some (rename s x now a)
+one s x now Op.RestoreFh = Some (restore_fh s x)
+one s x now Op.SaveFh = Some (save_fh s x)
+one s x now (Op.SecinfoNoName style) = Some (secinfo_no_name s x style)
+one s x now (Op.Verify attributes) = Some (verify s x attributes)
 one s x now op = None
 
 -- A RENAME of an object onto itself moves nothing, and wants nothing.
@@ -63,9 +64,9 @@ moves_in s a (Ok p) = moves s.tree (move_of a p)
 
 -- the operations that may want memory
 abbrev pub grows : State → Context → Op → Bool
-grows s x (OpCreate c) = true
-grows s x (OpLink name) = true
-grows s x (OpRename a) = moves_in s a (both s x)
+grows s x (Op.Create c) = true
+grows s x (Op.Link name) = true
+grows s x (Op.Rename a) = moves_in s a (both s x)
 grows s x op = false
 
 -- What stands at a place of a compound comes to, where memory was refused or not; a fault is none of these.

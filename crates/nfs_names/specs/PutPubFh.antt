@@ -1,5 +1,5 @@
 -- PUTPUBFH (RFC 8881 section 18.20): the public filehandle is the root's.
-use Rattle.nfs_results.specs.Result.{ResPutPubFh}
+use Rattle.nfs_results.specs.declared.res.Res.TheVariants as Res
 use Rattle.nfs_tree.specs.Files.{root}
 use Rattle.nfs_names.specs.declared.context.Context.{Context}
 use Rattle.nfs_names.specs.State.{State}
@@ -7,4 +7,4 @@ use Rattle.nfs_names.specs.Context.{at_object}
 use Rattle.nfs_names.specs.Outcome.{Outcome, done}
 
 unfoldable pub put_pub_fh : State → Context → Outcome
-put_pub_fh s x = done s (at_object x root) ResPutPubFh
+put_pub_fh s x = done s (at_object x root) Res.PutPubFh

@@ -1,5 +1,5 @@
 -- PUTROOTFH (RFC 8881 section 18.21): the root becomes the current filehandle's object.
-use Rattle.nfs_results.specs.Result.{ResPutRootFh}
+use Rattle.nfs_results.specs.declared.res.Res.TheVariants as Res
 use Rattle.nfs_tree.specs.Files.{root}
 use Rattle.nfs_names.specs.declared.context.Context.{Context}
 use Rattle.nfs_names.specs.State.{State}
@@ -7,4 +7,4 @@ use Rattle.nfs_names.specs.Context.{at_object}
 use Rattle.nfs_names.specs.Outcome.{Outcome, done}
 
 unfoldable pub put_root_fh : State → Context → Outcome
-put_root_fh s x = done s (at_object x root) ResPutRootFh
+put_root_fh s x = done s (at_object x root) Res.PutRootFh

@@ -4,10 +4,13 @@ use Rattle.std.specs.Prelude.{None}
 use Rattle.std.specs.List.{flat_map}
 use Rattle.nfs_xdr.specs.declared.status.Status.{Status}
 use Rattle.nfs_xdr.specs.declared.status.Status.TheVariants.{Inval, NotSame, BadCookie, TooSmall}
-use Rattle.nfs_compound.specs.declared.op_num.OpNum.TheVariants as Op
-use Rattle.nfs_compound.specs.NameArgs.{ReadDir}
+use Rattle.nfs_compound.specs.declared.op_num.OpNum.TheVariants as Num
+use Rattle.nfs_compound.specs.declared.name_args.ReadDir.{ReadDir}
 use Rattle.nfs_results.specs.Largest.{given}
-use Rattle.nfs_results.specs.Result.{Entry, Fattr, ReadDirOk, ResReadDir}
+use Rattle.nfs_results.specs.declared.res.Entry.{Entry}
+use Rattle.nfs_results.specs.declared.res.Fattr.{Fattr}
+use Rattle.nfs_results.specs.declared.res.ReadDirOk.{ReadDirOk}
+use Rattle.nfs_results.specs.declared.res.Res.TheVariants as Res
 use Rattle.nfs_results.specs.Straight.{entry_text}
 use Rattle.nfs_tree.specs.declared.object.Object.{Object}
 use Rattle.nfs_tree.specs.Files.{Listed, listing, object_at}
@@ -68,4 +71,4 @@ listed s a d = record { cookieverf = zeros; entries = fitting s a d; eof = lengt
 
 unfoldable pub read_dir : State → Context → ReadDir → Outcome
 read_dir s x a =
-    answers s x Op.ReadDir (checked (checked (current s x) (listing_checks x a)) (entry_checks s a)) (λ d. done s x (ResReadDir (listed s a d)))
+    answers s x Num.ReadDir (checked (checked (current s x) (listing_checks x a)) (entry_checks s a)) (λ d. done s x (Res.ReadDir (listed s a d)))

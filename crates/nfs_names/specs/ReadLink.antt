@@ -2,8 +2,8 @@
 use Rattle.std.specs.Prelude.{Bool, not, List, [], ◌∷◌}
 use Rattle.nfs_xdr.specs.declared.status.Status.{Status}
 use Rattle.nfs_xdr.specs.declared.status.Status.TheVariants.{WrongType}
-use Rattle.nfs_compound.specs.declared.op_num.OpNum.TheVariants as Op
-use Rattle.nfs_results.specs.Result.{ResReadLink}
+use Rattle.nfs_compound.specs.declared.op_num.OpNum.TheVariants as Num
+use Rattle.nfs_results.specs.declared.res.Res.TheVariants as Res
 use Rattle.nfs_tree.specs.Files.{most_text}
 use Rattle.nfs_tree.specs.Bytes.{part}
 use Rattle.nfs_names.specs.declared.context.Context.{Context}
@@ -18,4 +18,4 @@ link_only d = (not (is_link d.object.kind), WrongType) ∷ []
 
 -- the text is all that the object has, and no link has more
 unfoldable pub read_link : State → Context → Outcome
-read_link s x = answers s x Op.ReadLink (checked (current s x) link_only) (λ d. done s x (ResReadLink (part s.tree d.number 0 most_text)))
+read_link s x = answers s x Num.ReadLink (checked (current s x) link_only) (λ d. done s x (Res.ReadLink (part s.tree d.number 0 most_text)))

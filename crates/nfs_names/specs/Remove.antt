@@ -2,8 +2,8 @@
 use Rattle.std.specs.Prelude.{ℕ, Bool, List, ◌∷◌}
 use Rattle.nfs_xdr.specs.declared.time.Time.{Time}
 use Rattle.nfs_xdr.specs.declared.status.Status.{Status}
-use Rattle.nfs_compound.specs.declared.op_num.OpNum.TheVariants as Op
-use Rattle.nfs_results.specs.Result.{ResRemove}
+use Rattle.nfs_compound.specs.declared.op_num.OpNum.TheVariants as Num
+use Rattle.nfs_results.specs.declared.res.Res.TheVariants as Res
 use Rattle.nfs_tree.specs.Files.{named, raised}
 use Rattle.nfs_tree.specs.Names.{remove_checks, without_name}
 use Rattle.nfs_attrs.specs.Permissions.{change}
@@ -28,10 +28,10 @@ row_checks s name d = by_tree (remove_checks s.tree d.number name)
 
 abbrev pub removed : State → Context → Time → List ℕ → Node → Outcome
 removed s x now name d = record {
-  result = ResRemove (change_info (raised s.tree d.number));
+  result = Res.Remove (change_info (raised s.tree d.number));
   state = without_unused (with_tree s (without_name s.tree d.number name now)) (named s.tree d.number name);
   context = x;
 }
 
 unfoldable pub remove : State → Context → Time → List ℕ → Outcome
-remove s x now name = answers s x Op.Remove (checked (checked (current s x) (place_checks x name)) (row_checks s name)) (removed s x now name)
+remove s x now name = answers s x Num.Remove (checked (checked (current s x) (place_checks x name)) (row_checks s name)) (removed s x now name)

@@ -2,9 +2,9 @@
 use Rattle.std.specs.Prelude.{ℕ, Bool, List, ◌∷◌, ◌++◌, Option, Some, None, if◌then◌else◌}
 use Rattle.nfs_xdr.specs.declared.time.Time.{Time}
 use Rattle.nfs_xdr.specs.declared.status.Status.{Status}
-use Rattle.nfs_compound.specs.declared.op_num.OpNum.TheVariants as Op
-use Rattle.nfs_compound.specs.NameArgs as args
-use Rattle.nfs_results.specs.Result.{ResRename}
+use Rattle.nfs_compound.specs.declared.op_num.OpNum.TheVariants as Num
+use Rattle.nfs_compound.specs.declared.name_args.Rename as args
+use Rattle.nfs_results.specs.declared.res.Res.TheVariants as Res
 use Rattle.nfs_tree.specs.Files.{lookup, raised, stays}
 use Rattle.nfs_tree.specs.Names.{Move, move, moves, rename_checks, with_moved}
 use Rattle.nfs_attrs.specs.Permissions.{change}
@@ -40,7 +40,7 @@ without_replaced s (Some n) = without_unused s n
 
 abbrev pub moved : State → Context → Time → args.Rename → Pair → Outcome
 moved s x now a p = record {
-  result = ResRename (record {
+  result = Res.Rename (record {
     source_cinfo = change_info (raised s.tree p.saved.number);
     target_cinfo = change_info (raised s.tree p.current.number);
   });
@@ -50,12 +50,12 @@ moved s x now a p = record {
 
 abbrev pub unmoved : State → Context → Pair → Outcome
 unmoved s x p =
-    done s x (ResRename (record {
+    done s x (Res.Rename (record {
       source_cinfo = change_info (stays s.tree p.saved.number);
       target_cinfo = change_info (stays s.tree p.current.number);
     }))
 
 unfoldable pub rename : State → Context → Time → args.Rename → Outcome
 rename s x now a =
-    answers s x Op.Rename (checked (checked (both s x) (place_checks x a)) (row_checks s a))
+    answers s x Num.Rename (checked (checked (both s x) (place_checks x a)) (row_checks s a))
     (λ p. if moves s.tree (move_of a p) then moved s x now a p else unmoved s x p)

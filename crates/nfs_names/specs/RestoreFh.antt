@@ -2,8 +2,8 @@
 use Rattle.std.specs.Prelude.{Bool, not, List, [], ◌∷◌, Option, Some, None, Result, Ok, Err, is_some}
 use Rattle.nfs_xdr.specs.declared.status.Status.{Status}
 use Rattle.nfs_xdr.specs.declared.status.Status.TheVariants.{NoFileHandle, Stale}
-use Rattle.nfs_compound.specs.declared.op_num.OpNum.TheVariants as Op
-use Rattle.nfs_results.specs.Result.{ResRestoreFh}
+use Rattle.nfs_compound.specs.declared.op_num.OpNum.TheVariants as Num
+use Rattle.nfs_results.specs.declared.res.Res.TheVariants as Res
 use Rattle.nfs_tree.specs.Files.{object_at}
 use Rattle.nfs_names.specs.declared.context.Context.{Context}
 use Rattle.nfs_names.specs.declared.context.Saved.{Saved}
@@ -21,4 +21,4 @@ abbrev pub restored : Context → Saved → Context
 restored x saved = record x { current = Some saved.object; stateid = saved.stateid }
 
 unfoldable pub restore_fh : State → Context → Outcome
-restore_fh s x = answers s x Op.RestoreFh (checked (or_none x.saved) (saved_checks s)) (λ saved. done s (restored x saved) ResRestoreFh)
+restore_fh s x = answers s x Num.RestoreFh (checked (or_none x.saved) (saved_checks s)) (λ saved. done s (restored x saved) Res.RestoreFh)

@@ -1,10 +1,10 @@
 -- SECINFO_NO_NAME (RFC 8881 section 18.45): AUTH_SYS is the one flavor; the current filehandle is then none.
 use Rattle.std.specs.Prelude.{Bool, List, [], ◌∷◌, None}
 use Rattle.nfs_xdr.specs.declared.status.Status.{Status}
-use Rattle.nfs_compound.specs.declared.op_num.OpNum.TheVariants as Op
+use Rattle.nfs_compound.specs.declared.op_num.OpNum.TheVariants as Num
 use Rattle.nfs_compound.specs.declared.name_args.SecinfoStyle.{SecinfoStyle}
 use Rattle.nfs_compound.specs.declared.name_args.SecinfoStyle.TheVariants.{CurrentFh, Parent}
-use Rattle.nfs_results.specs.Result.{ResSecinfoNoName}
+use Rattle.nfs_results.specs.declared.res.Res.TheVariants as Res
 use Rattle.nfs_names.specs.declared.context.Context.{Context}
 use Rattle.nfs_names.specs.declared.node.Node.{Node}
 use Rattle.nfs_names.specs.State.{State}
@@ -21,4 +21,4 @@ without_current x = record x { current = None }
 
 unfoldable pub secinfo_no_name : State → Context → SecinfoStyle → Outcome
 secinfo_no_name s x style =
-    answers s x Op.SecinfoNoName (checked (current s x) (style_checks s style)) (λ d. done s (without_current x) (ResSecinfoNoName (1 ∷ [])))
+    answers s x Num.SecinfoNoName (checked (current s x) (style_checks s style)) (λ d. done s (without_current x) (Res.SecinfoNoName (1 ∷ [])))

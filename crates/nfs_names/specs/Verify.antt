@@ -2,9 +2,9 @@
 use Rattle.std.specs.Prelude.{Bool, not, [], ◌∷◌, Result}
 use Rattle.nfs_xdr.specs.declared.status.Status.{Status}
 use Rattle.nfs_xdr.specs.declared.status.Status.TheVariants.{NotSame}
-use Rattle.nfs_compound.specs.declared.op_num.OpNum.TheVariants as Op
-use Rattle.nfs_compound.specs.Attributes.{Attributes}
-use Rattle.nfs_results.specs.Result.{ResVerify}
+use Rattle.nfs_compound.specs.declared.op_num.OpNum.TheVariants as Num
+use Rattle.nfs_compound.specs.declared.attributes.Attributes.{Attributes}
+use Rattle.nfs_results.specs.declared.res.Res.TheVariants as Res
 use Rattle.nfs_attrs.specs.declared.wanted.AttrFault.{AttrFault}
 use Rattle.nfs_attrs.specs.Mask.{mask_of}
 use Rattle.nfs_attrs.specs.Comparing.{same}
@@ -25,4 +25,4 @@ abbrev pub compared : State → Context → Attributes → Result Bool Status
 compared s x a = current s x >>= λ d. map_err fault_status (same_at s a d)
 
 unfoldable pub verify : State → Context → Attributes → Outcome
-verify s x a = answers s x Op.Verify (checked (compared s x a) (λ equal. (not equal, NotSame) ∷ [])) (λ equal. done s x ResVerify)
+verify s x a = answers s x Num.Verify (checked (compared s x a) (λ equal. (not equal, NotSame) ∷ [])) (λ equal. done s x Res.Verify)

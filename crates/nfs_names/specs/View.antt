@@ -1,9 +1,8 @@
 -- What the code's answer to one operation says.
 use Rattle.nfs_results.specs.declared.res.Res.{Res}
-use Rattle.nfs_results.specs.View as view
 use Rattle.nfs_names.specs.declared.context.Context.{Context}
 use Rattle.nfs_names.specs.State.{State}
 use Rattle.nfs_names.specs.Outcome.{Outcome}
 
 abbrev pub outcome_of : Res → State → Context → Outcome
-outcome_of r s x = record { result = view.res r; state = s; context = x }
+outcome_of r s x = record { result = r; state = s; context = x }

@@ -3,10 +3,10 @@
 ghost use Rattle.std.specs.Prelude.{◌≡◌, ◌+◌, ◌≤◌, length};
 ghost use Rattle.nfs_xdr.specs.SheetState.{Puts};
 ghost use Rattle.nfs_results.specs.Results.{spell_result};
-ghost use Rattle.nfs_results.specs.Result.{ResGetAttr, ResGetFh};
+ghost use Rattle.nfs_results.specs.declared.res.Res.TheVariants as Res;
 ghost use Rattle.nfs_attrs.specs.Attributes.{values};
+ghost use Rattle.nfs_attrs.specs.Mask.{mask_of};
 ghost use Rattle.nfs_attrs.specs.Wire.{nfs_fh4};
-ghost use Rattle.nfs_compound.specs.ArgCodecs.{view_bitmap, view_attributes};
 ghost use Rattle.nfs_names.specs.State.{state_of};
 ghost use Rattle.nfs_names.specs.Comes.{Comes};
 ghost use Rattle.nfs_names.specs.Outcome.{checked};
@@ -27,6 +27,13 @@ use nfs_attrs::{About, AttrFault, Handle, Mask, attribute, judge_access, same, w
 use nfs_compound::{Attributes, Bitmap, OpNum};
 use nfs_results::{AccessOk, Res, write_done_head};
 use nfs_xdr::{Sheet, Status};
+
+/// The attributes of a mask that a record lends.
+pub fn mask_in(lent: &Bitmap<'_>) -> Mask
+    ensures { result ≡ mask_of lent.now }
+{
+    Mask::new(lent.words())
+}
 
 /// How many names the object has: a directory has one.
 fn links_of(store: &Store, node: &Node) -> u32
@@ -76,10 +83,10 @@ pub(crate) fn access(store: &Store, context: &Context<'_>, asked: u32) -> Res<'s
 
 /// The object whose attributes are asked for: those that can only be set are not reported.
 fn judge_mask(store: &Store, context: &Context<'_>, mask: &Bitmap<'_>) -> Result<Node, Status>
-    ensures { result ≡ checked (check.current (state_of store.now) context.now) (of_get_attr.mask_checks (view_bitmap mask.now)) }
+    ensures { result ≡ checked (check.current (state_of store.now) context.now) (of_get_attr.mask_checks mask.now) }
 {
     let d = current(store, context)?;
-    if Mask::new(mask.words).asks_set_only() {
+    if mask_in(mask).asks_set_only() {
         return Err(Status::Inval);
     }
     Ok(d)
@@ -87,7 +94,7 @@ fn judge_mask(store: &Store, context: &Context<'_>, mask: &Bitmap<'_>) -> Result
 
 /// Whether the attributes of the current object are those that are given.
 fn compare(store: &Store, context: &Context<'_>, given: &Attributes<'_>) -> Result<bool, Status>
-    ensures { result ≡ of_verify.compared (state_of store.now) context.now (view_attributes given.now) }
+    ensures { result ≡ of_verify.compared (state_of store.now) context.now given.now }
 {
     let d = current(store, context)?;
     match same_at(store, &d, given) {
@@ -98,21 +105,21 @@ fn compare(store: &Store, context: &Context<'_>, given: &Attributes<'_>) -> Resu
 
 #[tactic(auto, unfolding(crate::specs::Verify::same_at))]
 fn same_at(store: &Store, node: &Node, given: &Attributes<'_>) -> Result<bool, AttrFault>
-    ensures { result ≡ of_verify.same_at (state_of store.now) (view_attributes given.now) node.now }
+    ensures { result ≡ of_verify.same_at (state_of store.now) given.now node.now }
 {
-    let asked = Mask::new(given.attrmask.words);
+    let asked = mask_in(&given.attrmask);
     same(
         &node.object,
         &about(store, node, asked),
         asked,
-        given.attr_vals,
+        given.attr_vals.bytes(),
     )
 }
 
 /// VERIFY.
 #[tactic(auto, unfolding(crate::specs::Verify::verify))]
 pub(crate) fn verify(store: &Store, context: &Context<'_>, given: &Attributes<'_>) -> Res<'static>
-    ensures { outcome_of result (state_of store.now) context.now ≡ of_verify.verify (state_of store.now) context.now (view_attributes given.now) }
+    ensures { outcome_of result (state_of store.now) context.now ≡ of_verify.verify (state_of store.now) context.now given.now }
 {
     match compare(store, context, given) {
         Ok(true) => Res::Verify,
@@ -124,7 +131,7 @@ pub(crate) fn verify(store: &Store, context: &Context<'_>, given: &Attributes<'_
 /// NVERIFY.
 #[tactic(auto, unfolding(crate::specs::NVerify::nverify))]
 pub(crate) fn nverify(store: &Store, context: &Context<'_>, given: &Attributes<'_>) -> Res<'static>
-    ensures { outcome_of result (state_of store.now) context.now ≡ of_nverify.nverify (state_of store.now) context.now (view_attributes given.now) }
+    ensures { outcome_of result (state_of store.now) context.now ≡ of_nverify.nverify (state_of store.now) context.now given.now }
 {
     match compare(store, context, given) {
         Ok(true) => refuse(OpNum::NVerify, Status::Same),
@@ -136,7 +143,7 @@ pub(crate) fn nverify(store: &Store, context: &Context<'_>, given: &Attributes<'
 /// Puts the attributes of an object, as GETATTR answers them.
 fn put_attributes(store: &Store, node: &Node, asked: Mask, out: &mut Sheet)
     requires { length out.old.bytes + 640 ≤ out.old.room }
-    ensures { Puts out.old out.new (spell_result (ResGetAttr (attributes.attributes_of (state_of store.now) asked node.now))) }
+    ensures { Puts out.old out.new (spell_result (Res.GetAttr (attributes.attributes_of (state_of store.now) asked node.now))) }
 {
     write_done_head(OpNum::GetAttr, out);
     write_attrs(&node.object, &about(store, node, asked), asked, out);
@@ -151,11 +158,11 @@ pub(crate) fn get_attr(
     out: &mut Sheet,
 ) -> Status
     requires { length out.old.bytes + 640 ≤ out.old.room }
-    ensures { Comes (of_get_attr.get_attr (state_of store.now) context.now (view_bitmap asked.now)) out.old out.new result (state_of store.now) context.now }
+    ensures { Comes (of_get_attr.get_attr (state_of store.now) context.now asked.now) out.old out.new result (state_of store.now) context.now }
 {
     match judge_mask(store, context, asked) {
         Ok(d) => {
-            put_attributes(store, &d, Mask::new(asked.words), out);
+            put_attributes(store, &d, mask_in(asked), out);
             Status::Nfs4Ok
         }
         Err(status) => put_refusal(OpNum::GetAttr, status, out),
@@ -165,7 +172,7 @@ pub(crate) fn get_attr(
 /// Puts a filehandle, as GETFH answers it.
 fn put_handle(handle: &Handle, out: &mut Sheet)
     requires { length out.old.bytes + 28 ≤ out.old.room }
-    ensures { Puts out.old out.new (spell_result (ResGetFh (nfs_fh4 handle.now).bytes)) }
+    ensures { Puts out.old out.new (spell_result (Res.GetFh (nfs_fh4 handle.now).bytes)) }
 {
     write_done_head(OpNum::GetFh, out);
     out.put_opaque(&handle.bytes());

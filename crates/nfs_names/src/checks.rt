@@ -5,9 +5,8 @@ ghost use Rattle.std.specs.List.{list_any};
 ghost use Rattle.nfs_xdr.specs.Checks.{first_fault, judged};
 ghost use Rattle.nfs_compound.specs.OpNum.{op_number};
 ghost use Rattle.nfs_xdr.specs.SheetState.{Puts};
-ghost use Rattle.nfs_results.specs.Result.{Refused};
+ghost use Rattle.nfs_results.specs.declared.res.Res.TheVariants as Res;
 ghost use Rattle.nfs_results.specs.Results.{refusal, spell_result};
-ghost use Rattle.nfs_results.specs.View as view;
 ghost use Rattle.nfs_tree.specs.Files.{object_at};
 ghost use Rattle.nfs_names.specs.State.{state_of};
 ghost use Rattle.nfs_names.specs.Checks.{node_at, current, both, saved_object, permits, is_barred, is_dots, name_checks};
@@ -24,7 +23,7 @@ use nfs_xdr::{Sheet, Status};
 
 /// The refusal of an operation.
 pub fn refuse(op: OpNum, status: Status) -> Res<'static>
-    ensures { view.res result ≡ refusal (op_number op) status }
+    ensures { result ≡ refusal (op_number op) status }
 {
     Res::refusal(op.number(), status)
 }
@@ -32,7 +31,7 @@ pub fn refuse(op: OpNum, status: Status) -> Res<'static>
 /// Puts the refusal of an operation that has nothing behind its status then, and answers the status.
 pub fn put_refusal(op: OpNum, status: Status, out: &mut Sheet) -> Status
     requires { length out.old.bytes + 8 ≤ out.old.room }
-    ensures put { Puts out.old out.new (spell_result (Refused (op_number op) status)) }
+    ensures put { Puts out.old out.new (spell_result (Res.Refused (op_number op) status)) }
     ensures status { result ≡ status }
 {
     out.put_u32(op.number());

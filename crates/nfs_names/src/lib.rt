@@ -24,6 +24,7 @@ mod operation;
 mod store;
 mod walking;
 
+pub use attributes::mask_in;
 pub use checks::{current, is_link, judge_name, node_at, permits, put_refusal, refuse};
 pub use context::{Caller, Context, Saved};
 pub use making::{Making, attr_set, change_info, status_of, time_of, wanted_of};

@@ -5,9 +5,8 @@ ghost use Rattle.std.specs.List.{flat_map};
 ghost use Rattle.nfs_xdr.specs.Checks.{first_fault};
 ghost use Rattle.nfs_xdr.specs.SheetState.{Puts};
 ghost use Rattle.nfs_xdr.specs.Limits.{most_transfer};
-ghost use Rattle.nfs_compound.specs.ArgCodecs.{view_read_dir};
 ghost use Rattle.nfs_results.specs.Largest.{given};
-ghost use Rattle.nfs_results.specs.Result.{ResReadLink};
+ghost use Rattle.nfs_results.specs.declared.res.Res.TheVariants as Res;
 ghost use Rattle.nfs_results.specs.Results.{spell_result};
 ghost use Rattle.nfs_results.specs.Straight.{entry_head, entry_text};
 ghost use Rattle.nfs_tree.specs.Bytes.{part};
@@ -22,7 +21,7 @@ ghost use Rattle.nfs_names.specs.ReadLink as of_read_link;
 ghost use Rattle.nfs_names.specs.ReadDir as of_read_dir;
 ghost use Rattle.nfs_names.specs.Lists.{PutsWithin, Lists};
 
-use crate::attributes::about;
+use crate::attributes::{about, mask_in};
 use crate::checks::{current, is_link, permits, put_refusal};
 use crate::context::Context;
 use crate::node::Node;
@@ -47,7 +46,7 @@ fn judge_link(store: &Store, context: &Context<'_>) -> Result<Node, Status>
 /// Puts the text of a symbolic link, as READLINK answers it.
 fn put_text(tree: &Tree, number: u64, out: &mut Sheet)
     requires { length out.old.bytes + 1036 ≤ out.old.room }
-    ensures { Puts out.old out.new (spell_result (ResReadLink (part tree.now number 0 most_text))) }
+    ensures { Puts out.old out.new (spell_result (Res.ReadLink (part tree.now number 0 most_text))) }
 {
     write_done_head(OpNum::ReadLink, out);
     tree.read(number, 0, out, Tree::MAX_TEXT);
@@ -70,7 +69,7 @@ pub(crate) fn read_link(store: &Store, context: &Context<'_>, out: &mut Sheet) -
 
 /// The directory that is to be listed.
 fn judge_listing(store: &Store, context: &Context<'_>, asked: &ReadDir<'_>) -> Result<Node, Status>
-    ensures { result ≡ checked (check.current (state_of store.now) context.now) (of_read_dir.listing_checks context.now (view_read_dir asked.now)) }
+    ensures { result ≡ checked (check.current (state_of store.now) context.now) (of_read_dir.listing_checks context.now asked.now) }
 {
     let d = current(store, context)?;
     if !d.object.kind.is_directory() {
@@ -79,7 +78,7 @@ fn judge_listing(store: &Store, context: &Context<'_>, asked: &ReadDir<'_>) -> R
     if !permits(context, &d, Want::READ) {
         return Err(Status::Access);
     }
-    if Mask::new(asked.attr_request.words).asks_set_only() {
+    if mask_in(&asked.attr_request).asks_set_only() {
         return Err(Status::Inval);
     }
     if asked.cookieverf.as_slice() != [0; 8].as_slice() {
@@ -142,11 +141,11 @@ fn put_entry(
 fn put_entries(store: &Store, place: &Node, asked: &ReadDir<'_>, out: &mut Sheet) -> bool
     requires count { 16 ≤ asked.now.maxcount }
     requires room { length out.old.bytes + given asked.now.maxcount ≤ out.old.room + 16 }
-    ensures put { Puts out.old out.new (flat_map entry_text (of_read_dir.fitting (state_of store.now) (view_read_dir asked.now) place.now)) }
-    ensures all { result ≡ (length (of_read_dir.fitting (state_of store.now) (view_read_dir asked.now) place.now) == length (of_read_dir.left (state_of store.now) (view_read_dir asked.now) place.now)) }
+    ensures put { Puts out.old out.new (flat_map entry_text (of_read_dir.fitting (state_of store.now) asked.now place.now)) }
+    ensures all { result ≡ (length (of_read_dir.fitting (state_of store.now) asked.now place.now) == length (of_read_dir.left (state_of store.now) asked.now place.now)) }
 {
     store.tree.kept();
-    let wanted = Asked::new(Mask::new(asked.attr_request.words));
+    let wanted = Asked::new(mask_in(&asked.attr_request));
     let mut room = given(asked.maxcount) as usize - 16;
     let mut objects = store.tree.in_turn(place.number);
     let mut listing = store.tree.list(place.number, asked.cookie);
@@ -167,7 +166,7 @@ fn put_entries(store: &Store, place: &Node, asked: &ReadDir<'_>, out: &mut Sheet
 fn put_listing(store: &Store, place: &Node, asked: &ReadDir<'_>, out: &mut Sheet) -> Status
     requires count { 16 ≤ asked.now.maxcount }
     requires room { length out.old.bytes + (8 + given asked.now.maxcount) ≤ out.old.room }
-    ensures { Lists result (first_fault (of_read_dir.entry_checks (state_of store.now) (view_read_dir asked.now) place.now)) (of_read_dir.listed (state_of store.now) (view_read_dir asked.now) place.now) out.old out.new }
+    ensures { Lists result (first_fault (of_read_dir.entry_checks (state_of store.now) asked.now place.now)) (of_read_dir.listed (state_of store.now) asked.now place.now) out.old out.new }
 {
     let start = out.len();
     write_read_dir_head(&[0; 8], out);
@@ -190,7 +189,7 @@ pub(crate) fn read_dir(
     out: &mut Sheet,
 ) -> Status
     requires { length out.old.bytes + (8 + given asked.now.maxcount) ≤ out.old.room }
-    ensures { Comes (of_read_dir.read_dir (state_of store.now) context.now (view_read_dir asked.now)) out.old out.new result (state_of store.now) context.now }
+    ensures { Comes (of_read_dir.read_dir (state_of store.now) context.now asked.now) out.old out.new result (state_of store.now) context.now }
 {
     match judge_listing(store, context, asked) {
         Ok(d) => put_listing(store, &d, asked, out),

@@ -1,12 +1,10 @@
 //! Operations that make, name and remove objects (RFC 8881 sections 18.4, 18.9, 18.25 and 18.26).
 
 ghost use Rattle.std.specs.Prelude.{◌≡◌, ◌==◌, ◌&&◌, ℕ, false, length, nat_lt, option_map};
-ghost use Rattle.nfs_compound.specs.ArgCodecs.{view_attributes, view_create, view_create_type, view_rename};
-ghost use Rattle.nfs_compound.specs.declared.op_num.OpNum.TheVariants as num;
+ghost use Rattle.nfs_compound.specs.declared.op_num.OpNum.TheVariants as Num;
 ghost use Rattle.nfs_tree.specs.Calls.{new_of};
 ghost use Rattle.nfs_tree.specs.Files.{most_text, has_entries};
 ghost use Rattle.nfs_attrs.specs.Mask.{trimmed_words};
-ghost use Rattle.nfs_results.specs.View as view;
 ghost use Rattle.nfs_results.specs.Results.{status_of_result};
 ghost use Rattle.nfs_names.specs.State.{state_of};
 ghost use Rattle.nfs_names.specs.StoreInvariants.{IsRooted};
@@ -20,6 +18,7 @@ ghost use Rattle.nfs_names.specs.Remove as of_remove;
 ghost use Rattle.nfs_names.specs.Rename as of_rename;
 ghost use Rattle.nfs_names.specs.Faults as of_tree;
 
+use crate::attributes::mask_in;
 use crate::checks::{both, current, judge_name, permits, refuse};
 use crate::context::Context;
 use crate::node::{Node, Pair};
@@ -41,7 +40,7 @@ pub struct Making {
 }
 
 fn is_made(objtype: &CreateType<'_>) -> bool
-    ensures { result ≡ of_create.is_made (view_create_type objtype.now) }
+    ensures { result ≡ of_create.is_made objtype.now }
 {
     match objtype {
         CreateType::Block(_) => false,
@@ -52,10 +51,10 @@ fn is_made(objtype: &CreateType<'_>) -> bool
 }
 
 fn is_empty_text(objtype: &CreateType<'_>) -> bool
-    ensures { result ≡ of_create.text_is (λ n. n == 0) (view_create_type objtype.now) }
+    ensures { result ≡ of_create.text_is (λ n. n == 0) objtype.now }
 {
     match objtype {
-        CreateType::Symlink { linkdata } => linkdata.is_empty(),
+        CreateType::Symlink { linkdata } => linkdata.bytes().is_empty(),
         CreateType::Block(_) => false,
         CreateType::Character(_) => false,
         CreateType::Other { .. } => false,
@@ -63,10 +62,10 @@ fn is_empty_text(objtype: &CreateType<'_>) -> bool
 }
 
 fn is_long_text(objtype: &CreateType<'_>) -> bool
-    ensures { result ≡ of_create.text_is (nat_lt most_text) (view_create_type objtype.now) }
+    ensures { result ≡ of_create.text_is (nat_lt most_text) objtype.now }
 {
     match objtype {
-        CreateType::Symlink { linkdata } => linkdata.len() > Tree::MAX_TEXT as usize,
+        CreateType::Symlink { linkdata } => linkdata.bytes().len() > Tree::MAX_TEXT as usize,
         CreateType::Block(_) => false,
         CreateType::Character(_) => false,
         CreateType::Other { .. } => false,
@@ -74,10 +73,10 @@ fn is_long_text(objtype: &CreateType<'_>) -> bool
 }
 
 fn new_of<'a>(objtype: &CreateType<'a>) -> New<'a>
-    ensures { new_of result ≡ of_create.new_of (view_create_type objtype.now) }
+    ensures { new_of result ≡ of_create.new_of objtype.now }
 {
     match objtype {
-        CreateType::Symlink { linkdata } => New::Link(linkdata),
+        CreateType::Symlink { linkdata } => New::Link(linkdata.bytes()),
         CreateType::Block(_) => New::Directory,
         CreateType::Character(_) => New::Directory,
         CreateType::Other { .. } => New::Directory,
@@ -96,7 +95,7 @@ fn plain_mode(new: &New<'_>) -> u32
 
 /// The directory in which an object is to be made, where its type and its name may be.
 fn judge_place(store: &Store, context: &Context<'_>, asked: &Create<'_>) -> Result<Node, Status>
-    ensures { result ≡ checked (check.current (state_of store.now) context.now) (of_create.place_checks context.now (view_create asked.now)) }
+    ensures { result ≡ checked (check.current (state_of store.now) context.now) (of_create.place_checks context.now asked.now) }
 {
     let d = current(store, context)?;
     if !d.object.kind.is_directory() {
@@ -114,16 +113,16 @@ fn judge_place(store: &Store, context: &Context<'_>, asked: &Create<'_>) -> Resu
     if is_long_text(&asked.objtype) {
         return Err(Status::NameTooLong);
     }
-    judge_name(asked.objname)?;
+    judge_name(asked.objname.bytes())?;
     Ok(d)
 }
 
 /// The attributes that are given.
 #[tactic(auto, unfolding(crate::specs::Create::wanted_of))]
 pub fn wanted_of(given: &Attributes<'_>) -> Result<Wanted, AttrFault>
-    ensures { result ≡ of_create.wanted_of (view_attributes given.now) }
+    ensures { result ≡ of_create.wanted_of given.now }
 {
-    read_attrs(Mask::new(given.attrmask.words), given.attr_vals)
+    read_attrs(mask_in(&given.attrmask), given.attr_vals.bytes())
 }
 
 /// The time that a request sets, where it sets one at this moment.
@@ -163,7 +162,7 @@ pub fn change_info(change: Change) -> ChangeInfo
 
 /// What is to be made where, if the caller may.
 fn judge_making(store: &Store, context: &Context<'_>, asked: &Create<'_>) -> Result<Making, Status>
-    ensures { result ≡ of_create.asked_for (state_of store.now) context.now (view_create asked.now) }
+    ensures { result ≡ of_create.asked_for (state_of store.now) context.now asked.now }
 {
     let place = judge_place(store, context, asked)?;
     let wanted = match wanted_of(&asked.createattrs) {
@@ -205,16 +204,23 @@ pub(crate) fn create(
     now: Time,
 ) -> Res<'static>
     requires { IsRooted store.old.tree }
-    ensures { outcome_of result (state_of store.new) context.new ≡ or_delay (is_delay (status_of_result (view.res result))) (state_of store.old) context.old num.Create (of_create.create (state_of store.old) context.old now (view_create asked.now)) }
+    ensures { outcome_of result (state_of store.new) context.new ≡ or_delay (is_delay (status_of_result result)) (state_of store.old) context.old Num.Create (of_create.create (state_of store.old) context.old now asked.now) }
 {
     match judge_making(store, context, asked) {
         Ok(making) => {
             let new = new_of(&asked.objtype);
             let sets = sets_of(context, now, &new, &making.wanted);
-            match store.tree.create(alloc, making.place.number, asked.objname, &new, &sets, now) {
+            match store.tree.create(
+                alloc,
+                making.place.number,
+                asked.objname.bytes(),
+                &new,
+                &sets,
+                now,
+            ) {
                 Ok(created) => {
                     context.go_to(created.number);
-                    let given = Mask::new(asked.createattrs.attrmask.words);
+                    let given = mask_in(&asked.createattrs.attrmask);
                     Res::Create(create_ok(&created, &given))
                 }
                 Err(fault) => refuse(OpNum::Create, status_of(fault)),
@@ -226,11 +232,11 @@ pub(crate) fn create(
 
 /// The attributes of a mask, as a result reports them.
 pub fn attr_set(mask: &Mask) -> AttrSet
-    ensures { view.attr_set result ≡ trimmed_words mask.now }
+    ensures { result ≡ trimmed_words mask.now }
 {
     let words = mask.words;
     measure(&words);
-    AttrSet { words }
+    AttrSet::of(words)
 }
 
 /// An array is as long as its type says.
@@ -242,7 +248,7 @@ fn measure(words: &[u32; 3])
 
 /// What is reported of an object that was made.
 fn create_ok(created: &Created, given: &Mask) -> CreateOk
-    ensures { view.create result ≡ record { cinfo = of_create.change_info created.now.directory; attrset = trimmed_words given.now } }
+    ensures { result ≡ record { cinfo = of_create.change_info created.now.directory; attrset = trimmed_words given.now } }
 {
     CreateOk {
         cinfo: change_info(created.directory),
@@ -277,7 +283,7 @@ pub(crate) fn link(
     now: Time,
 ) -> Res<'static>
     requires { IsRooted store.old.tree }
-    ensures { outcome_of result (state_of store.new) context.now ≡ or_delay (is_delay (status_of_result (view.res result))) (state_of store.old) context.now num.Link (of_link.link (state_of store.old) context.now now name.now) }
+    ensures { outcome_of result (state_of store.new) context.now ≡ or_delay (is_delay (status_of_result result)) (state_of store.old) context.now Num.Link (of_link.link (state_of store.old) context.now now name.now) }
 {
     match judge_link(store, context, name) {
         Ok(p) => match store
@@ -339,7 +345,7 @@ pub(crate) fn remove(
 
 /// The two directories of an entry that is to move.
 fn judge_rename(store: &Store, context: &Context<'_>, asked: &Rename<'_>) -> Result<Pair, Status>
-    ensures { result ≡ checked (check.both (state_of store.now) context.now) (of_rename.place_checks context.now (view_rename asked.now)) }
+    ensures { result ≡ checked (check.both (state_of store.now) context.now) (of_rename.place_checks context.now asked.now) }
 {
     let p = both(store, context)?;
     if !p.saved.object.kind.is_directory() {
@@ -354,8 +360,8 @@ fn judge_rename(store: &Store, context: &Context<'_>, asked: &Rename<'_>) -> Res
     if !permits(context, &p.current, Want::CHANGE) {
         return Err(Status::Access);
     }
-    judge_name(asked.oldname)?;
-    judge_name(asked.newname)?;
+    judge_name(asked.oldname.bytes())?;
+    judge_name(asked.newname.bytes())?;
     Ok(p)
 }
 
@@ -369,16 +375,16 @@ pub(crate) fn rename(
 ) -> Res<'static>
     requires { IsRooted store.old.tree }
     ensures { outcome_of result (state_of store.new) context.now
-        ≡ or_delay (moves_in (state_of store.old) (view_rename asked.now) (check.both (state_of store.old) context.now) && is_delay (status_of_result (view.res result)))
-        (state_of store.old) context.now num.Rename (of_rename.rename (state_of store.old) context.now now (view_rename asked.now)) }
+        ≡ or_delay (moves_in (state_of store.old) asked.now (check.both (state_of store.old) context.now) && is_delay (status_of_result result))
+        (state_of store.old) context.now Num.Rename (of_rename.rename (state_of store.old) context.now now asked.now) }
 {
     match judge_rename(store, context, asked) {
         Ok(p) => match store.tree.rename(
             alloc,
             p.saved.number,
-            asked.oldname,
+            asked.oldname.bytes(),
             p.current.number,
-            asked.newname,
+            asked.newname.bytes(),
             now,
         ) {
             Ok(renamed) => {

@@ -1,7 +1,7 @@
 //! One operation of a compound.
 
 ghost use Rattle.std.specs.Prelude.{◌≡◌, ◌+◌, ◌≤◌, ◌<◌, ◌^◌, length};
-ghost use Rattle.nfs_compound.specs.View.{item};
+ghost use Rattle.nfs_compound.specs.declared.op.Item.TheVariants.{Operation};
 ghost use Rattle.nfs_results.specs.Largest.{largest};
 ghost use Rattle.nfs_names.specs.State.{state_of, moment};
 ghost use Rattle.nfs_names.specs.StoreInvariants.{IsStore};
@@ -16,7 +16,7 @@ use crate::store::Store;
 use crate::walking::{
     lookup, lookup_p, put_fh, put_pub_fh, put_root_fh, restore_fh, save_fh, secinfo_no_name,
 };
-use nfs_compound::Arg;
+use nfs_compound::{Item, Op};
 use nfs_results::write;
 use nfs_xdr::{Sheet, Status, Time};
 use std::alloc::Global;
@@ -41,62 +41,83 @@ pub fn name_op(
     alloc: Global,
     store: &mut Store,
     context: &mut Context<'_>,
-    arg: &Arg<'_>,
+    item: &Item<'_>,
     now: u64,
     out: &mut Sheet,
 ) -> Option<Status>
     requires moment { now < 2 ^ 63 }
     requires store { IsStore (state_of store.old) }
-    requires room { length out.old.bytes + largest (item arg.now) ≤ out.old.room }
-    ensures comes { MayCome (λ refused. comes_to refused (state_of store.old) context.old (moment now) (item arg.now)) (state_of store.old) context.old out.old out.new result (state_of store.new) context.new }
+    requires room { length out.old.bytes + largest item.now ≤ out.old.room }
+    ensures comes { MayCome (λ refused. comes_to refused (state_of store.old) context.old (moment now) item.now) (state_of store.old) context.old out.old out.new result (state_of store.new) context.new }
     ensures store { IsStore (state_of store.new) }
-    ensures within { length out.new.bytes ≤ length out.old.bytes + largest (item arg.now) }
+    ensures within { length out.new.bytes ≤ length out.old.bytes + largest item.now }
+{
+    match item {
+        Item::Operation(op) => on_names(alloc, store, context, op, now, out),
+        Item::Fault { .. } => None,
+    }
+}
+
+/// The same of an operation.
+fn on_names(
+    alloc: Global,
+    store: &mut Store,
+    context: &mut Context<'_>,
+    op: &Op<'_>,
+    now: u64,
+    out: &mut Sheet,
+) -> Option<Status>
+    requires moment { now < 2 ^ 63 }
+    requires store { IsStore (state_of store.old) }
+    requires room { length out.old.bytes + largest (Operation op.now) ≤ out.old.room }
+    ensures comes { MayCome (λ refused. comes_to refused (state_of store.old) context.old (moment now) (Operation op.now)) (state_of store.old) context.old out.old out.new result (state_of store.new) context.new }
+    ensures store { IsStore (state_of store.new) }
+    ensures within { length out.new.bytes ≤ length out.old.bytes + largest (Operation op.now) }
 {
     store.tree.kept();
     let now = moment(now);
-    let res = match arg {
-        Arg::Access { access: asked } => access(store, context, *asked),
-        Arg::Create(asked) => create(alloc, store, context, asked, now),
-        Arg::GetAttr { attr_request } => {
+    let res = match op {
+        Op::Access { access: asked } => access(store, context, *asked),
+        Op::Create(asked) => create(alloc, store, context, asked, now),
+        Op::GetAttr { attr_request } => {
             return Some(get_attr(store, context, attr_request, out));
         }
-        Arg::GetFh => return Some(get_fh(store, context, out)),
-        Arg::Link { newname } => link(alloc, store, context, newname, now),
-        Arg::Lookup { objname } => lookup(store, context, objname),
-        Arg::LookupP => lookup_p(store, context),
-        Arg::NVerify { obj_attributes } => nverify(store, context, obj_attributes),
-        Arg::PutFh { object } => put_fh(store, context, object),
-        Arg::PutPubFh => put_pub_fh(store, context),
-        Arg::PutRootFh => put_root_fh(store, context),
-        Arg::ReadDir(asked) => return Some(read_dir(store, context, asked, out)),
-        Arg::ReadLink => return Some(read_link(store, context, out)),
-        Arg::Remove { target } => remove(store, context, target, now),
-        Arg::Rename(asked) => rename(alloc, store, context, asked, now),
-        Arg::RestoreFh => restore_fh(store, context),
-        Arg::SaveFh => save_fh(store, context),
-        Arg::SecinfoNoName { style } => secinfo_no_name(store, context, *style),
-        Arg::Verify { obj_attributes } => verify(store, context, obj_attributes),
+        Op::GetFh => return Some(get_fh(store, context, out)),
+        Op::Link { newname } => link(alloc, store, context, newname.bytes(), now),
+        Op::Lookup { objname } => lookup(store, context, objname.bytes()),
+        Op::LookupP => lookup_p(store, context),
+        Op::NVerify { obj_attributes } => nverify(store, context, obj_attributes),
+        Op::PutFh { object } => put_fh(store, context, object.bytes()),
+        Op::PutPubFh => put_pub_fh(store, context),
+        Op::PutRootFh => put_root_fh(store, context),
+        Op::ReadDir(asked) => return Some(read_dir(store, context, asked, out)),
+        Op::ReadLink => return Some(read_link(store, context, out)),
+        Op::Remove { target } => remove(store, context, target.bytes(), now),
+        Op::Rename(asked) => rename(alloc, store, context, asked, now),
+        Op::RestoreFh => restore_fh(store, context),
+        Op::SaveFh => save_fh(store, context),
+        Op::SecinfoNoName { style } => secinfo_no_name(store, context, *style),
+        Op::Verify { obj_attributes } => verify(store, context, obj_attributes),
         // on open files
-        Arg::Close(_)
-        | Arg::Commit(_)
-        | Arg::FreeStateid { .. }
-        | Arg::Lock(_)
-        | Arg::LockT(_)
-        | Arg::LockU(_)
-        | Arg::Open(_)
-        | Arg::OpenDowngrade(_)
-        | Arg::Read(_)
-        | Arg::SetAttr(_)
-        | Arg::TestStateid { .. }
-        | Arg::Write(_)
+        Op::Close(_)
+        | Op::Commit(_)
+        | Op::FreeStateid { .. }
+        | Op::Lock(_)
+        | Op::LockT(_)
+        | Op::LockU(_)
+        | Op::Open(_)
+        | Op::OpenDowngrade(_)
+        | Op::Read(_)
+        | Op::SetAttr(_)
+        | Op::TestStateid { .. }
+        | Op::Write(_)
         // not on the store
-        | Arg::CreateSession(_)
-        | Arg::DestroyClientId { .. }
-        | Arg::DestroySession { .. }
-        | Arg::ExchangeId(_)
-        | Arg::Fault { .. }
-        | Arg::ReclaimComplete { .. }
-        | Arg::Sequence(_) => return None,
+        | Op::CreateSession(_)
+        | Op::DestroyClientId { .. }
+        | Op::DestroySession { .. }
+        | Op::ExchangeId(_)
+        | Op::ReclaimComplete { .. }
+        | Op::Sequence(_) => return None,
     };
     write(&res, out);
     Some(res.status())

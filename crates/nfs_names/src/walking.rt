@@ -23,7 +23,7 @@ use crate::node::Node;
 use crate::store::Store;
 use nfs_attrs::{Handle, Want};
 use nfs_compound::{OpNum, SecinfoStyle};
-use nfs_results::{Flavors, Res};
+use nfs_results::{Res, Words};
 use nfs_tree::Tree;
 use nfs_xdr::Status;
 
@@ -222,7 +222,7 @@ pub(crate) fn secinfo_no_name(
     match judge_style(store, context, style) {
         Ok(_) => {
             context.current = None;
-            Res::SecinfoNoName(Flavors { spelled: &AUTH_SYS })
+            Res::SecinfoNoName(Words::of(&AUTH_SYS))
         }
         Err(status) => refuse(OpNum::SecinfoNoName, status),
     }

@@ -11,7 +11,7 @@ use Rattle.nfs_xdr.specs.Combinators.{passed}
 use Rattle.nfs_xdr.specs.Chain.{spell_chain, chain}
 use Rattle.nfs_xdr.proofs.CodecLaws.{bind_some, is_flag}
 use Rattle.nfs_xdr.proofs.ChainLaws.{is_chain}
-use Rattle.nfs_results.specs.Result.{Entry}
+use Rattle.nfs_results.specs.declared.res.Entry.{Entry}
 use Rattle.nfs_results.specs.Items.{entry}
 use Rattle.nfs_results.specs.Entries.{in_front, entries_in, AreEntries}
 use Rattle.nfs_results.proofs.ItemLaws.{is_entry}

@@ -12,7 +12,8 @@ use Rattle.nfs_xdr.proofs.CodecLaws.{is_only, is_few, is_pieces}
 use Rattle.nfs_xdr.proofs.ChainLaws.{is_chain}
 use Rattle.nfs_compound.proofs.ArgLaws.{is_lock_type, is_stable_how}
 use Rattle.nfs_compound.proofs.ItemLaws.{is_stateid, is_state_owner, is_channel_attrs}
-use Rattle.nfs_results.specs.Items.{always, is_trimmed, attr_set, fattr, change_info, access, create, denied, open_ok, read_ok, entry, read_dir, rename}
+use Rattle.nfs_results.specs.Items.{always, is_trimmed, attr_set, fattr, change_info, access, create, denied, open_ok, read_ok, entry, rename}
+use Rattle.nfs_results.specs.Listing.{read_dir}
 use Rattle.nfs_results.specs.Items.{write_ok, exchange_id, create_session, flavors, sequence, are_statuses, status_codes}
 
 is_always : (k : ℕ) → k < 2 ^ 32 → IsCodec (always k)

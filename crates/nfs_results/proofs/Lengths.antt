@@ -18,17 +18,15 @@ use Rattle.nfs_compound.specs.ArgCodecs.{lock_type, stable_how}
 use Rattle.nfs_results.specs.declared.res.ChangeInfo.{ChangeInfo}
 use Rattle.nfs_results.specs.Items.{access, attr_set, fattr, change_info, create, denied, open_ok, read_ok, rename, write_ok, exchange_id, create_session}
 use Rattle.nfs_results.specs.Items.{flavors, sequence, status_codes}
-use Rattle.nfs_results.specs.Result.{Denied, Res, ResAccess, ResClose, ResCommit, ResCreate, ResGetAttr, ResGetFh, ResLink, ResLock, ResLockDenied, ResLockT}
-use Rattle.nfs_results.specs.Result.{ResLockTDenied, ResLockU, ResLookup, ResLookupP, ResNVerify, ResOpen, ResOpenDowngrade, ResPutFh, ResPutPubFh}
-use Rattle.nfs_results.specs.Result.{ResPutRootFh, ResRead, ResReadDir, ResReadLink, ResRemove, ResRename, ResRestoreFh, ResSaveFh, ResSetAttr, ResVerify}
-use Rattle.nfs_results.specs.Result.{ResWrite, ResExchangeId, ResCreateSession, ResDestroySession, ResFreeStateid, ResSecinfoNoName, ResSequence}
-use Rattle.nfs_results.specs.Result.{ResTestStateid, ResDestroyClientId, ResReclaimComplete, Refused}
+use Rattle.nfs_results.specs.declared.res.Denied.{Denied}
+use Rattle.nfs_results.specs.declared.res.Res.{Res}
 use Rattle.nfs_results.specs.Results.{head, operation_of, spell_result, spell_compound_head}
 use Rattle.nfs_results.specs.Parts.{parts}
 use Rattle.nfs_results.specs.ResultCodec.{HasArrays}
 use Rattle.nfs_results.specs.Largest.{largest_of, asked, largest}
 use Rattle.nfs_results.specs.MayAnswer.{HasSizes, IsPlain, MayAnswer}
-use Rattle.nfs_compound.specs.Operation.{Item, Operation, Fault}
+use Rattle.nfs_compound.specs.declared.op.Item.{Item}
+use Rattle.nfs_compound.specs.declared.op.Item.TheVariants.{Operation, Fault}
 
 -- the lengths of texts whose parts are known
 pub ruleset lengths = (length_number, length_hyper, length-append, length-replicate)
@@ -88,59 +86,59 @@ at_least operation asked =
 -- one line a result
 pub behind_within : (asked : ℕ) (r : Res) → HasArrays r → HasSizes asked r → 8 + length (parts r).behind ≤ largest_of (operation_of r) asked
 unfolding access create fattr open_ok read_ok rename write_ok stable_how exchange_id create_session flavors sequence status_codes
-behind_within wanted (ResAccess x) arrays sizes = simp lengths (omega arith)
-behind_within wanted (ResClose s) arrays sizes = omega (arith, length_stateid s arrays)
-behind_within wanted (ResCommit verifier) arrays sizes = simp (lengths, arrays) (omega arith)
-behind_within wanted (ResCreate c) arrays sizes =
+behind_within wanted (Res.Access x) arrays sizes = simp lengths (omega arith)
+behind_within wanted (Res.Close s) arrays sizes = omega (arith, length_stateid s arrays)
+behind_within wanted (Res.Commit verifier) arrays sizes = simp (lengths, arrays) (omega arith)
+behind_within wanted (Res.Create c) arrays sizes =
     omega (arith, sizes, length-append (change_info.spell c.cinfo) (attr_set.spell c.attrset), length_change_info c.cinfo, length_attr_set c.attrset)
-behind_within wanted (ResGetAttr f) arrays sizes = simp (lengths, length_attr_set f.attrmask) (omega (arith, sizes.0, sizes.1))
-behind_within wanted (ResGetFh object) arrays sizes = simp lengths (omega (arith, sizes))
-behind_within wanted (ResLink c) arrays sizes = omega (arith, length_change_info c)
-behind_within wanted (ResLock s) arrays sizes = omega (arith, length_stateid s arrays)
-behind_within wanted (ResLockDenied d) arrays sizes = omega (arith, length_denied d sizes)
-behind_within wanted ResLockT arrays sizes = omega arith
-behind_within wanted (ResLockTDenied d) arrays sizes = omega (arith, length_denied d sizes)
-behind_within wanted (ResLockU s) arrays sizes = omega (arith, length_stateid s arrays)
-behind_within wanted ResLookup arrays sizes = omega arith
-behind_within wanted ResLookupP arrays sizes = omega arith
-behind_within wanted ResNVerify arrays sizes = omega arith
-behind_within wanted (ResOpen o) arrays sizes =
+behind_within wanted (Res.GetAttr f) arrays sizes = simp (lengths, length_attr_set f.attrmask) (omega (arith, sizes.0, sizes.1))
+behind_within wanted (Res.GetFh object) arrays sizes = simp lengths (omega (arith, sizes))
+behind_within wanted (Res.Link c) arrays sizes = omega (arith, length_change_info c)
+behind_within wanted (Res.Lock s) arrays sizes = omega (arith, length_stateid s arrays)
+behind_within wanted (Res.LockDenied d) arrays sizes = omega (arith, length_denied d sizes)
+behind_within wanted Res.LockT arrays sizes = omega arith
+behind_within wanted (Res.LockTDenied d) arrays sizes = omega (arith, length_denied d sizes)
+behind_within wanted (Res.LockU s) arrays sizes = omega (arith, length_stateid s arrays)
+behind_within wanted Res.Lookup arrays sizes = omega arith
+behind_within wanted Res.LookupP arrays sizes = omega arith
+behind_within wanted Res.NVerify arrays sizes = omega arith
+behind_within wanted (Res.Open o) arrays sizes =
     simp (lengths, length_stateid o.stateid arrays, length_change_info o.cinfo, length_attr_set o.attrset) (omega (arith, sizes))
-behind_within wanted (ResOpenDowngrade s) arrays sizes = omega (arith, length_stateid s arrays)
-behind_within wanted ResPutFh arrays sizes = omega arith
-behind_within wanted ResPutPubFh arrays sizes = omega arith
-behind_within wanted ResPutRootFh arrays sizes = omega arith
-behind_within wanted (ResRead r) arrays sizes = simp (lengths, length_flag) (omega (arith, sizes))
-behind_within wanted (ResReadDir r) arrays sizes = omega (arith, sizes)
-behind_within wanted (ResReadLink link) arrays sizes = simp lengths (omega (arith, sizes))
-behind_within wanted (ResRemove c) arrays sizes = omega (arith, length_change_info c)
-behind_within wanted (ResRename r) arrays sizes = simp (lengths, length_change_info r.source_cinfo, length_change_info r.target_cinfo) (omega arith)
-behind_within wanted ResRestoreFh arrays sizes = omega arith
-behind_within wanted ResSaveFh arrays sizes = omega arith
-behind_within wanted (ResSetAttr s attrsset) arrays sizes = omega (arith, sizes, length_attr_set attrsset)
-behind_within wanted ResVerify arrays sizes = omega arith
-behind_within wanted (ResWrite w) arrays sizes = simp (lengths, arrays) (omega arith)
-behind_within wanted (ResExchangeId r) arrays sizes = simp lengths (omega (arith, sizes.0, sizes.1))
-behind_within wanted (ResCreateSession s) arrays sizes =
+behind_within wanted (Res.OpenDowngrade s) arrays sizes = omega (arith, length_stateid s arrays)
+behind_within wanted Res.PutFh arrays sizes = omega arith
+behind_within wanted Res.PutPubFh arrays sizes = omega arith
+behind_within wanted Res.PutRootFh arrays sizes = omega arith
+behind_within wanted (Res.Read r) arrays sizes = simp (lengths, length_flag) (omega (arith, sizes))
+behind_within wanted (Res.ReadDir r) arrays sizes = omega (arith, sizes)
+behind_within wanted (Res.ReadLink link) arrays sizes = simp lengths (omega (arith, sizes))
+behind_within wanted (Res.Remove c) arrays sizes = omega (arith, length_change_info c)
+behind_within wanted (Res.Rename r) arrays sizes = simp (lengths, length_change_info r.source_cinfo, length_change_info r.target_cinfo) (omega arith)
+behind_within wanted Res.RestoreFh arrays sizes = omega arith
+behind_within wanted Res.SaveFh arrays sizes = omega arith
+behind_within wanted (Res.SetAttr s attrsset) arrays sizes = omega (arith, sizes, length_attr_set attrsset)
+behind_within wanted Res.Verify arrays sizes = omega arith
+behind_within wanted (Res.Write w) arrays sizes = simp (lengths, arrays) (omega arith)
+behind_within wanted (Res.ExchangeId r) arrays sizes = simp lengths (omega (arith, sizes.0, sizes.1))
+behind_within wanted (Res.CreateSession s) arrays sizes =
     simp (lengths, arrays, length_channel s.fore_chan_attrs, length_channel s.back_chan_attrs, sizes) (omega (arith, length_ird s.back_chan_attrs.rdma_ird))
   where
     length_ird : (limit : Option ℕ) → length ((optional number).spell limit) ≤ 8
     length_ird None = omega (arith, length_number 0)
     length_ird (Some n) = omega (arith, length-append (spelling.number 1) (spelling.number n), length_number 1, length_number n)
-behind_within wanted ResDestroySession arrays sizes = omega arith
-behind_within wanted ResFreeStateid arrays sizes = omega arith
-behind_within wanted (ResSecinfoNoName words) arrays sizes =
+behind_within wanted Res.DestroySession arrays sizes = omega arith
+behind_within wanted Res.FreeStateid arrays sizes = omega arith
+behind_within wanted (Res.SecinfoNoName words) arrays sizes =
     omega (arith, sizes, length-append (spelling.number (length words)) (flat_map spelling.number words), length_number (length words), length_numbers words)
-behind_within wanted (ResSequence s) arrays sizes = simp (lengths, arrays) (omega arith)
-behind_within wanted (ResTestStateid codes) arrays sizes =
+behind_within wanted (Res.Sequence s) arrays sizes = simp (lengths, arrays) (omega arith)
+behind_within wanted (Res.TestStateid codes) arrays sizes =
     omega (arith, sizes, length-append (spelling.number (length codes)) (flat_map spelling.number codes), length_number (length codes), length_numbers codes)
-behind_within wanted ResDestroyClientId arrays sizes = omega arith
-behind_within wanted ResReclaimComplete arrays sizes = omega arith
-behind_within wanted (Refused operation s) arrays sizes = at_least operation wanted
+behind_within wanted Res.DestroyClientId arrays sizes = omega arith
+behind_within wanted Res.ReclaimComplete arrays sizes = omega arith
+behind_within wanted (Res.Refused operation s) arrays sizes = at_least operation wanted
 
 length_plain : (r : Res) → IsPlain r → length (parts r).behind ≤ 16
-length_plain (Refused operation s) plain = omega arith
-length_plain (ResSetAttr s attrsset) plain = omega (arith, plain, length_attr_set attrsset)
+length_plain (Res.Refused operation s) plain = omega arith
+length_plain (Res.SetAttr s attrsset) plain = omega (arith, plain, length_attr_set attrsset)
 length_plain r plain = absurd plain
 
 pub length_spelled : (r : Res) → length (spell_result r) ≡ 8 + length (parts r).behind

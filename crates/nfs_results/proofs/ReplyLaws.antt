@@ -9,7 +9,7 @@ use Rattle.nfs_xdr.specs.declared.cursor.Unreadable.{Unreadable}
 use Rattle.nfs_xdr.specs.Reading.{◌>>=◌, number_at, opaque_at}
 use Rattle.nfs_xdr.specs.Codec.{many_at}
 use Rattle.nfs_xdr.specs.Text.{IsBytes}
-use Rattle.nfs_results.specs.Result.{Res}
+use Rattle.nfs_results.specs.declared.res.Res.{Res}
 use Rattle.nfs_xdr.specs.declared.status.Status.{Status}
 use Rattle.nfs_xdr.specs.StatusCodec.{status}
 use Rattle.nfs_results.specs.ResultCodec.{result}

@@ -17,16 +17,13 @@ use Rattle.nfs_xdr.proofs.CodecLaws.{bind_some, test_some, chosen, taken_at, arm
 use Rattle.nfs_xdr.proofs.StatusLaws.{is_status, is_status_listing}
 use Rattle.nfs_xdr.proofs.WordLaws.{listed_number}
 use Rattle.nfs_compound.specs.declared.op_num.OpNum.{OpNum}
-use Rattle.nfs_compound.specs.declared.op_num.OpNum.TheVariants as Op
+use Rattle.nfs_compound.specs.declared.op_num.OpNum.TheVariants as Num
 use Rattle.nfs_compound.specs.OpNum.{op_number, op_nums, op_num}
 use Rattle.nfs_compound.specs.Stateid.{stateid}
 use Rattle.nfs_compound.proofs.ItemLaws.{is_stateid}
 use Rattle.nfs_results.specs.Items as item
-use Rattle.nfs_results.specs.Result.{Res, ResAccess, ResClose, ResCommit, ResCreate, ResGetAttr, ResGetFh, ResLink, ResLock, ResLockDenied, ResLockT}
-use Rattle.nfs_results.specs.Result.{ResLockTDenied, ResLockU, ResLookup, ResLookupP, ResNVerify, ResOpen, ResOpenDowngrade, ResPutFh, ResPutPubFh}
-use Rattle.nfs_results.specs.Result.{ResPutRootFh, ResRead, ResReadDir, ResReadLink, ResRemove, ResRename, ResRestoreFh, ResSaveFh, ResSetAttr, ResVerify}
-use Rattle.nfs_results.specs.Result.{ResWrite, ResExchangeId, ResCreateSession, ResDestroySession, ResFreeStateid, ResSecinfoNoName, ResSequence}
-use Rattle.nfs_results.specs.Result.{ResTestStateid, ResDestroyClientId, ResReclaimComplete, Refused}
+use Rattle.nfs_results.specs.Listing.{read_dir}
+use Rattle.nfs_results.specs.declared.res.Res.{Res}
 use Rattle.nfs_results.specs.Results.{head, spell_result}
 use Rattle.nfs_results.specs.Refusals.{bears, tells, can_refuse}
 use Rattle.nfs_results.specs.Parts.{is_legal}
@@ -64,43 +61,43 @@ is_alone op x reads spells fit = record {
 -- one line an operation
 all_done : (op : OpNum) → IsDone op
 unfolding done_at
-all_done Op.Access = is_told Op.Access ResAccess item.access is_access (λ _. refl) (λ _. refl) (λ _ fits. fits)
-all_done Op.Close = is_told Op.Close ResClose stateid is_stateid (λ _. refl) (λ _. refl) (λ _ fits. fits)
-all_done Op.Commit = is_told Op.Commit ResCommit (fixed 8) (is_fixed 8) (λ _. refl) (λ _. refl) (λ _ fits. fits)
-all_done Op.Create = is_told Op.Create ResCreate item.create is_create (λ _. refl) (λ _. refl) (λ _ fits. fits)
-all_done Op.GetAttr = is_told Op.GetAttr ResGetAttr item.fattr is_fattr (λ _. refl) (λ _. refl) (λ _ fits. fits)
-all_done Op.GetFh = is_told Op.GetFh ResGetFh (opaque 128) (is_opaque 128 (omega arith)) (λ _. refl) (λ _. refl) (λ _ fits. fits)
-all_done Op.Link = is_told Op.Link ResLink item.change_info is_change_info (λ _. refl) (λ _. refl) (λ _ fits. fits)
-all_done Op.Lock = is_told Op.Lock ResLock stateid is_stateid (λ _. refl) (λ _. refl) (λ _ fits. fits)
-all_done Op.LockT = is_alone Op.LockT ResLockT (λ _. refl) refl tt
-all_done Op.LockU = is_told Op.LockU ResLockU stateid is_stateid (λ _. refl) (λ _. refl) (λ _ fits. fits)
-all_done Op.Lookup = is_alone Op.Lookup ResLookup (λ _. refl) refl tt
-all_done Op.LookupP = is_alone Op.LookupP ResLookupP (λ _. refl) refl tt
-all_done Op.NVerify = is_alone Op.NVerify ResNVerify (λ _. refl) refl tt
-all_done Op.Open = is_told Op.Open ResOpen item.open_ok is_open_ok (λ _. refl) (λ _. refl) (λ _ fits. fits)
-all_done Op.OpenDowngrade = is_told Op.OpenDowngrade ResOpenDowngrade stateid is_stateid (λ _. refl) (λ _. refl) (λ _ fits. fits)
-all_done Op.PutFh = is_alone Op.PutFh ResPutFh (λ _. refl) refl tt
-all_done Op.PutPubFh = is_alone Op.PutPubFh ResPutPubFh (λ _. refl) refl tt
-all_done Op.PutRootFh = is_alone Op.PutRootFh ResPutRootFh (λ _. refl) refl tt
-all_done Op.Read = is_told Op.Read ResRead item.read_ok is_read_ok (λ _. refl) (λ _. refl) (λ _ fits. fits)
-all_done Op.ReadDir = is_told Op.ReadDir ResReadDir item.read_dir is_read_dir (λ _. refl) (λ _. refl) (λ _ fits. fits)
-all_done Op.ReadLink = is_told Op.ReadLink ResReadLink unbounded is_unbounded (λ _. refl) (λ _. refl) (λ _ fits. fits)
-all_done Op.Remove = is_told Op.Remove ResRemove item.change_info is_change_info (λ _. refl) (λ _. refl) (λ _ fits. fits)
-all_done Op.Rename = is_told Op.Rename ResRename item.rename is_rename (λ _. refl) (λ _. refl) (λ _ fits. fits)
-all_done Op.RestoreFh = is_alone Op.RestoreFh ResRestoreFh (λ _. refl) refl tt
-all_done Op.SaveFh = is_alone Op.SaveFh ResSaveFh (λ _. refl) refl tt
-all_done Op.SetAttr = is_told Op.SetAttr (ResSetAttr Nfs4Ok) item.attr_set is_attr_set (λ _. refl) (λ _. refl) (λ _ fits. (fits, refl))
-all_done Op.Verify = is_alone Op.Verify ResVerify (λ _. refl) refl tt
-all_done Op.Write = is_told Op.Write ResWrite item.write_ok is_write_ok (λ _. refl) (λ _. refl) (λ _ fits. fits)
-all_done Op.ExchangeId = is_told Op.ExchangeId ResExchangeId item.exchange_id is_exchange_id (λ _. refl) (λ _. refl) (λ _ fits. fits)
-all_done Op.CreateSession = is_told Op.CreateSession ResCreateSession item.create_session is_create_session (λ _. refl) (λ _. refl) (λ _ fits. fits)
-all_done Op.DestroySession = is_alone Op.DestroySession ResDestroySession (λ _. refl) refl tt
-all_done Op.FreeStateid = is_alone Op.FreeStateid ResFreeStateid (λ _. refl) refl tt
-all_done Op.SecinfoNoName = is_told Op.SecinfoNoName ResSecinfoNoName item.flavors is_flavors (λ _. refl) (λ _. refl) (λ _ fits. fits)
-all_done Op.Sequence = is_told Op.Sequence ResSequence item.sequence is_sequence (λ _. refl) (λ _. refl) (λ _ fits. fits)
-all_done Op.TestStateid = is_told Op.TestStateid ResTestStateid item.status_codes is_status_codes (λ _. refl) (λ _. refl) (λ _ fits. fits)
-all_done Op.DestroyClientId = is_alone Op.DestroyClientId ResDestroyClientId (λ _. refl) refl tt
-all_done Op.ReclaimComplete = is_alone Op.ReclaimComplete ResReclaimComplete (λ _. refl) refl tt
+all_done Num.Access = is_told Num.Access Res.Access item.access is_access (λ _. refl) (λ _. refl) (λ _ fits. fits)
+all_done Num.Close = is_told Num.Close Res.Close stateid is_stateid (λ _. refl) (λ _. refl) (λ _ fits. fits)
+all_done Num.Commit = is_told Num.Commit Res.Commit (fixed 8) (is_fixed 8) (λ _. refl) (λ _. refl) (λ _ fits. fits)
+all_done Num.Create = is_told Num.Create Res.Create item.create is_create (λ _. refl) (λ _. refl) (λ _ fits. fits)
+all_done Num.GetAttr = is_told Num.GetAttr Res.GetAttr item.fattr is_fattr (λ _. refl) (λ _. refl) (λ _ fits. fits)
+all_done Num.GetFh = is_told Num.GetFh Res.GetFh (opaque 128) (is_opaque 128 (omega arith)) (λ _. refl) (λ _. refl) (λ _ fits. fits)
+all_done Num.Link = is_told Num.Link Res.Link item.change_info is_change_info (λ _. refl) (λ _. refl) (λ _ fits. fits)
+all_done Num.Lock = is_told Num.Lock Res.Lock stateid is_stateid (λ _. refl) (λ _. refl) (λ _ fits. fits)
+all_done Num.LockT = is_alone Num.LockT Res.LockT (λ _. refl) refl tt
+all_done Num.LockU = is_told Num.LockU Res.LockU stateid is_stateid (λ _. refl) (λ _. refl) (λ _ fits. fits)
+all_done Num.Lookup = is_alone Num.Lookup Res.Lookup (λ _. refl) refl tt
+all_done Num.LookupP = is_alone Num.LookupP Res.LookupP (λ _. refl) refl tt
+all_done Num.NVerify = is_alone Num.NVerify Res.NVerify (λ _. refl) refl tt
+all_done Num.Open = is_told Num.Open Res.Open item.open_ok is_open_ok (λ _. refl) (λ _. refl) (λ _ fits. fits)
+all_done Num.OpenDowngrade = is_told Num.OpenDowngrade Res.OpenDowngrade stateid is_stateid (λ _. refl) (λ _. refl) (λ _ fits. fits)
+all_done Num.PutFh = is_alone Num.PutFh Res.PutFh (λ _. refl) refl tt
+all_done Num.PutPubFh = is_alone Num.PutPubFh Res.PutPubFh (λ _. refl) refl tt
+all_done Num.PutRootFh = is_alone Num.PutRootFh Res.PutRootFh (λ _. refl) refl tt
+all_done Num.Read = is_told Num.Read Res.Read item.read_ok is_read_ok (λ _. refl) (λ _. refl) (λ _ fits. fits)
+all_done Num.ReadDir = is_told Num.ReadDir Res.ReadDir read_dir is_read_dir (λ _. refl) (λ _. refl) (λ _ fits. fits)
+all_done Num.ReadLink = is_told Num.ReadLink Res.ReadLink unbounded is_unbounded (λ _. refl) (λ _. refl) (λ _ fits. fits)
+all_done Num.Remove = is_told Num.Remove Res.Remove item.change_info is_change_info (λ _. refl) (λ _. refl) (λ _ fits. fits)
+all_done Num.Rename = is_told Num.Rename Res.Rename item.rename is_rename (λ _. refl) (λ _. refl) (λ _ fits. fits)
+all_done Num.RestoreFh = is_alone Num.RestoreFh Res.RestoreFh (λ _. refl) refl tt
+all_done Num.SaveFh = is_alone Num.SaveFh Res.SaveFh (λ _. refl) refl tt
+all_done Num.SetAttr = is_told Num.SetAttr (Res.SetAttr Nfs4Ok) item.attr_set is_attr_set (λ _. refl) (λ _. refl) (λ _ fits. (fits, refl))
+all_done Num.Verify = is_alone Num.Verify Res.Verify (λ _. refl) refl tt
+all_done Num.Write = is_told Num.Write Res.Write item.write_ok is_write_ok (λ _. refl) (λ _. refl) (λ _ fits. fits)
+all_done Num.ExchangeId = is_told Num.ExchangeId Res.ExchangeId item.exchange_id is_exchange_id (λ _. refl) (λ _. refl) (λ _ fits. fits)
+all_done Num.CreateSession = is_told Num.CreateSession Res.CreateSession item.create_session is_create_session (λ _. refl) (λ _. refl) (λ _ fits. fits)
+all_done Num.DestroySession = is_alone Num.DestroySession Res.DestroySession (λ _. refl) refl tt
+all_done Num.FreeStateid = is_alone Num.FreeStateid Res.FreeStateid (λ _. refl) refl tt
+all_done Num.SecinfoNoName = is_told Num.SecinfoNoName Res.SecinfoNoName item.flavors is_flavors (λ _. refl) (λ _. refl) (λ _ fits. fits)
+all_done Num.Sequence = is_told Num.Sequence Res.Sequence item.sequence is_sequence (λ _. refl) (λ _. refl) (λ _ fits. fits)
+all_done Num.TestStateid = is_told Num.TestStateid Res.TestStateid item.status_codes is_status_codes (λ _. refl) (λ _. refl) (λ _ fits. fits)
+all_done Num.DestroyClientId = is_alone Num.DestroyClientId Res.DestroyClientId (λ _. refl) refl tt
+all_done Num.ReclaimComplete = is_alone Num.ReclaimComplete Res.ReclaimComplete (λ _. refl) refl tt
 
 -- the same behind a number that names an operation
 by_takes : (operation : ℕ) (op : Option OpNum) (left : List ℕ) (y : Res) (rest : List ℕ) → op_num operation ≡ op
@@ -115,29 +112,29 @@ refused_takes : (operation : ℕ) (s : Status) (left : List ℕ) (y : Res) (rest
     → refused_at operation s left ≡ Some (y, rest) → Taken (head operation s ++ left) y rest
 unfolding refused_at
 refused_takes operation s left y rest f e =
-    elim (chosen (eqb operation 34 && is_legal s) (arm (ResSetAttr s) item.attr_set left) _ (Some (y, rest)) e) [
+    elim (chosen (eqb operation 34 && is_legal s) (arm (Res.SetAttr s) item.attr_set left) _ (Some (y, rest)) e) [
       | inl q ↦
           let is = and_parts (eqb operation 34) (is_legal s) q.0 in
-          let t = arm_takes item.attr_set result (ResSetAttr s) (head 34 s) is_attr_set
+          let t = arm_takes item.attr_set result (Res.SetAttr s) (head 34 s) is_attr_set
           (λ _. refl) (λ _ fits. (fits, is.1)) (head 34 s ++ left) left y rest refl f q.1 in
           (ap (λ (k : ℕ). head k s ++ left) (eqb-true operation 34 is.0) ∙ t.0, t.1, t.2)
       | inr q ↦
-          elim (chosen (eqb operation 12 && eqb (status_number s) 10010) (arm ResLockDenied item.denied left) _ (Some (y, rest)) q.1) [
+          elim (chosen (eqb operation 12 && eqb (status_number s) 10010) (arm Res.LockDenied item.denied left) _ (Some (y, rest)) q.1) [
             | inl r ↦
                 let is = and_parts (eqb operation 12) (eqb (status_number s) 10010) r.0 in
-                let t = arm_takes item.denied result ResLockDenied (head 12 Denied) is_denied
+                let t = arm_takes item.denied result Res.LockDenied (head 12 Denied) is_denied
                 (λ _. refl) (λ _ fits. fits) (head 12 Denied ++ left) left y rest refl f r.1 in
                 (told 12 is.0 is.1 ∙ t.0, t.1, t.2)
             | inr r ↦
-                elim (chosen (eqb operation 13 && eqb (status_number s) 10010) (arm ResLockTDenied item.denied left) _ (Some (y, rest)) r.1) [
+                elim (chosen (eqb operation 13 && eqb (status_number s) 10010) (arm Res.LockTDenied item.denied left) _ (Some (y, rest)) r.1) [
                   | inl u ↦
                       let is = and_parts (eqb operation 13) (eqb (status_number s) 10010) u.0 in
-                      let t = arm_takes item.denied result ResLockTDenied (head 13 Denied) is_denied
+                      let t = arm_takes item.denied result Res.LockTDenied (head 13 Denied) is_denied
                       (λ _. refl) (λ _ fits. fits) (head 13 Denied ++ left) left y rest refl f u.1 in
                       (told 13 is.0 is.1 ∙ t.0, t.1, t.2)
                   | inr u ↦
-                      let g = test_some (can_refuse operation s) (Some (Refused operation s, left)) (y, rest) u.1 in
-                      taken_at result (head operation s ++ left) (Refused operation s) y left rest g.1
+                      let g = test_some (can_refuse operation s) (Some (Res.Refused operation s, left)) (y, rest) u.1 in
+                      taken_at result (head operation s ++ left) (Res.Refused operation s) y left rest g.1
                       (ap (λ (w : List ℕ). w ++ left) (sym (append-nil (head operation s))), f, g.0)
                 ]
           ]
@@ -209,18 +206,18 @@ bears_some false operation code is e =
     neither false c h = refl
 
 refused_again : (operation : ℕ) (s : Status) (rest : List ℕ) → can_refuse operation s ≡ true
-    → result.read (spell_result (Refused operation s) ++ rest) ≡ Some (Refused operation s, rest)
+    → result.read (spell_result (Res.Refused operation s) ++ rest) ≡ Some (Res.Refused operation s, rest)
 unfolding refused_at
 refused_again operation s rest fits =
     let b = bears_some (eqb operation 10044) operation (status_number s) refl (and_parts (bears operation s) (not (tells operation s)) fits).0 in
-    let refuses : refused_at operation s rest ≡ Some (Refused operation s, rest) =
+    let refuses : refused_at operation s rest ≡ Some (Res.Refused operation s, rest) =
     passes (bears operation s) (eqb operation 34) (is_legal s) (eqb operation 12) (eqb operation 13) (eqb (status_number s) 10010) _ _ _ _ None fits in
-    alone_again operation s (Refused operation s) rest b.0
+    alone_again operation s (Res.Refused operation s) rest b.0
     (ap (λ (ok : Bool). cond ok (done_by (op_num operation) rest) (refused_at operation s rest)) b.1 ∙ refuses) refl
 
 -- SETATTR reports what was set with every status that it can have
 set_behind : (b : Bool) (s : Status) (left : List ℕ) → eqb (status_number s) 0 ≡ b → is_legal s ≡ true
-    → read_behind 34 s left ≡ arm (ResSetAttr s) item.attr_set left
+    → read_behind 34 s left ≡ arm (Res.SetAttr s) item.attr_set left
 unfolding done_at refused_at
 set_behind true s left is legal = rw (same_status s Nfs4Ok (eqb-true (status_number s) 0 is)) refl
 set_behind false s left is legal = rw (is, legal) refl
@@ -228,48 +225,48 @@ set_behind false s left is legal = rw (is, legal) refl
 -- one line a result
 result_again : (y : Res) (rest : List ℕ) → FitsResult y → result.read (spell_result y ++ rest) ≡ Some (y, rest)
 unfolding done_at refused_at
-result_again (ResAccess x) rest fits = told_again 3 Nfs4Ok ResAccess item.access is_access (omega arith) x rest fits (λ _. refl) refl
-result_again (ResClose x) rest fits = told_again 4 Nfs4Ok ResClose stateid is_stateid (omega arith) x rest fits (λ _. refl) refl
-result_again (ResCommit x) rest fits = told_again 5 Nfs4Ok ResCommit (fixed 8) (is_fixed 8) (omega arith) x rest fits (λ _. refl) refl
-result_again (ResCreate x) rest fits = told_again 6 Nfs4Ok ResCreate item.create is_create (omega arith) x rest fits (λ _. refl) refl
-result_again (ResGetAttr x) rest fits = told_again 9 Nfs4Ok ResGetAttr item.fattr is_fattr (omega arith) x rest fits (λ _. refl) refl
-result_again (ResGetFh x) rest fits = told_again 10 Nfs4Ok ResGetFh (opaque 128) (is_opaque 128 (omega arith)) (omega arith) x rest fits (λ _. refl) refl
-result_again (ResLink x) rest fits = told_again 11 Nfs4Ok ResLink item.change_info is_change_info (omega arith) x rest fits (λ _. refl) refl
-result_again (ResLock x) rest fits = told_again 12 Nfs4Ok ResLock stateid is_stateid (omega arith) x rest fits (λ _. refl) refl
-result_again (ResLockDenied x) rest fits = told_again 12 Denied ResLockDenied item.denied is_denied (omega arith) x rest fits (λ _. refl) refl
-result_again ResLockT rest fits = alone_again 13 Nfs4Ok ResLockT rest (omega arith) refl refl
-result_again (ResLockTDenied x) rest fits = told_again 13 Denied ResLockTDenied item.denied is_denied (omega arith) x rest fits (λ _. refl) refl
-result_again (ResLockU x) rest fits = told_again 14 Nfs4Ok ResLockU stateid is_stateid (omega arith) x rest fits (λ _. refl) refl
-result_again ResLookup rest fits = alone_again 15 Nfs4Ok ResLookup rest (omega arith) refl refl
-result_again ResLookupP rest fits = alone_again 16 Nfs4Ok ResLookupP rest (omega arith) refl refl
-result_again ResNVerify rest fits = alone_again 17 Nfs4Ok ResNVerify rest (omega arith) refl refl
-result_again (ResOpen x) rest fits = told_again 18 Nfs4Ok ResOpen item.open_ok is_open_ok (omega arith) x rest fits (λ _. refl) refl
-result_again (ResOpenDowngrade x) rest fits = told_again 21 Nfs4Ok ResOpenDowngrade stateid is_stateid (omega arith) x rest fits (λ _. refl) refl
-result_again ResPutFh rest fits = alone_again 22 Nfs4Ok ResPutFh rest (omega arith) refl refl
-result_again ResPutPubFh rest fits = alone_again 23 Nfs4Ok ResPutPubFh rest (omega arith) refl refl
-result_again ResPutRootFh rest fits = alone_again 24 Nfs4Ok ResPutRootFh rest (omega arith) refl refl
-result_again (ResRead x) rest fits = told_again 25 Nfs4Ok ResRead item.read_ok is_read_ok (omega arith) x rest fits (λ _. refl) refl
-result_again (ResReadDir x) rest fits = told_again 26 Nfs4Ok ResReadDir item.read_dir is_read_dir (omega arith) x rest fits (λ _. refl) refl
-result_again (ResReadLink x) rest fits = told_again 27 Nfs4Ok ResReadLink unbounded is_unbounded (omega arith) x rest fits (λ _. refl) refl
-result_again (ResRemove x) rest fits = told_again 28 Nfs4Ok ResRemove item.change_info is_change_info (omega arith) x rest fits (λ _. refl) refl
-result_again (ResRename x) rest fits = told_again 29 Nfs4Ok ResRename item.rename is_rename (omega arith) x rest fits (λ _. refl) refl
-result_again ResRestoreFh rest fits = alone_again 31 Nfs4Ok ResRestoreFh rest (omega arith) refl refl
-result_again ResSaveFh rest fits = alone_again 32 Nfs4Ok ResSaveFh rest (omega arith) refl refl
-result_again (ResSetAttr s x) rest (fits, legal) =
-    told_again 34 s (ResSetAttr s) item.attr_set is_attr_set (omega arith) x rest fits (λ left. set_behind (eqb (status_number s) 0) s left refl legal) refl
-result_again ResVerify rest fits = alone_again 37 Nfs4Ok ResVerify rest (omega arith) refl refl
-result_again (ResWrite x) rest fits = told_again 38 Nfs4Ok ResWrite item.write_ok is_write_ok (omega arith) x rest fits (λ _. refl) refl
-result_again (ResExchangeId x) rest fits = told_again 42 Nfs4Ok ResExchangeId item.exchange_id is_exchange_id (omega arith) x rest fits (λ _. refl) refl
-result_again (ResCreateSession x) rest fits =
-    told_again 43 Nfs4Ok ResCreateSession item.create_session is_create_session (omega arith) x rest fits (λ _. refl) refl
-result_again ResDestroySession rest fits = alone_again 44 Nfs4Ok ResDestroySession rest (omega arith) refl refl
-result_again ResFreeStateid rest fits = alone_again 45 Nfs4Ok ResFreeStateid rest (omega arith) refl refl
-result_again (ResSecinfoNoName x) rest fits = told_again 52 Nfs4Ok ResSecinfoNoName item.flavors is_flavors (omega arith) x rest fits (λ _. refl) refl
-result_again (ResSequence x) rest fits = told_again 53 Nfs4Ok ResSequence item.sequence is_sequence (omega arith) x rest fits (λ _. refl) refl
-result_again (ResTestStateid x) rest fits = told_again 55 Nfs4Ok ResTestStateid item.status_codes is_status_codes (omega arith) x rest fits (λ _. refl) refl
-result_again ResDestroyClientId rest fits = alone_again 57 Nfs4Ok ResDestroyClientId rest (omega arith) refl refl
-result_again ResReclaimComplete rest fits = alone_again 58 Nfs4Ok ResReclaimComplete rest (omega arith) refl refl
-result_again (Refused operation s) rest fits = refused_again operation s rest fits
+result_again (Res.Access x) rest fits = told_again 3 Nfs4Ok Res.Access item.access is_access (omega arith) x rest fits (λ _. refl) refl
+result_again (Res.Close x) rest fits = told_again 4 Nfs4Ok Res.Close stateid is_stateid (omega arith) x rest fits (λ _. refl) refl
+result_again (Res.Commit x) rest fits = told_again 5 Nfs4Ok Res.Commit (fixed 8) (is_fixed 8) (omega arith) x rest fits (λ _. refl) refl
+result_again (Res.Create x) rest fits = told_again 6 Nfs4Ok Res.Create item.create is_create (omega arith) x rest fits (λ _. refl) refl
+result_again (Res.GetAttr x) rest fits = told_again 9 Nfs4Ok Res.GetAttr item.fattr is_fattr (omega arith) x rest fits (λ _. refl) refl
+result_again (Res.GetFh x) rest fits = told_again 10 Nfs4Ok Res.GetFh (opaque 128) (is_opaque 128 (omega arith)) (omega arith) x rest fits (λ _. refl) refl
+result_again (Res.Link x) rest fits = told_again 11 Nfs4Ok Res.Link item.change_info is_change_info (omega arith) x rest fits (λ _. refl) refl
+result_again (Res.Lock x) rest fits = told_again 12 Nfs4Ok Res.Lock stateid is_stateid (omega arith) x rest fits (λ _. refl) refl
+result_again (Res.LockDenied x) rest fits = told_again 12 Denied Res.LockDenied item.denied is_denied (omega arith) x rest fits (λ _. refl) refl
+result_again Res.LockT rest fits = alone_again 13 Nfs4Ok Res.LockT rest (omega arith) refl refl
+result_again (Res.LockTDenied x) rest fits = told_again 13 Denied Res.LockTDenied item.denied is_denied (omega arith) x rest fits (λ _. refl) refl
+result_again (Res.LockU x) rest fits = told_again 14 Nfs4Ok Res.LockU stateid is_stateid (omega arith) x rest fits (λ _. refl) refl
+result_again Res.Lookup rest fits = alone_again 15 Nfs4Ok Res.Lookup rest (omega arith) refl refl
+result_again Res.LookupP rest fits = alone_again 16 Nfs4Ok Res.LookupP rest (omega arith) refl refl
+result_again Res.NVerify rest fits = alone_again 17 Nfs4Ok Res.NVerify rest (omega arith) refl refl
+result_again (Res.Open x) rest fits = told_again 18 Nfs4Ok Res.Open item.open_ok is_open_ok (omega arith) x rest fits (λ _. refl) refl
+result_again (Res.OpenDowngrade x) rest fits = told_again 21 Nfs4Ok Res.OpenDowngrade stateid is_stateid (omega arith) x rest fits (λ _. refl) refl
+result_again Res.PutFh rest fits = alone_again 22 Nfs4Ok Res.PutFh rest (omega arith) refl refl
+result_again Res.PutPubFh rest fits = alone_again 23 Nfs4Ok Res.PutPubFh rest (omega arith) refl refl
+result_again Res.PutRootFh rest fits = alone_again 24 Nfs4Ok Res.PutRootFh rest (omega arith) refl refl
+result_again (Res.Read x) rest fits = told_again 25 Nfs4Ok Res.Read item.read_ok is_read_ok (omega arith) x rest fits (λ _. refl) refl
+result_again (Res.ReadDir x) rest fits = told_again 26 Nfs4Ok Res.ReadDir read_dir is_read_dir (omega arith) x rest fits (λ _. refl) refl
+result_again (Res.ReadLink x) rest fits = told_again 27 Nfs4Ok Res.ReadLink unbounded is_unbounded (omega arith) x rest fits (λ _. refl) refl
+result_again (Res.Remove x) rest fits = told_again 28 Nfs4Ok Res.Remove item.change_info is_change_info (omega arith) x rest fits (λ _. refl) refl
+result_again (Res.Rename x) rest fits = told_again 29 Nfs4Ok Res.Rename item.rename is_rename (omega arith) x rest fits (λ _. refl) refl
+result_again Res.RestoreFh rest fits = alone_again 31 Nfs4Ok Res.RestoreFh rest (omega arith) refl refl
+result_again Res.SaveFh rest fits = alone_again 32 Nfs4Ok Res.SaveFh rest (omega arith) refl refl
+result_again (Res.SetAttr s x) rest (fits, legal) =
+    told_again 34 s (Res.SetAttr s) item.attr_set is_attr_set (omega arith) x rest fits (λ left. set_behind (eqb (status_number s) 0) s left refl legal) refl
+result_again Res.Verify rest fits = alone_again 37 Nfs4Ok Res.Verify rest (omega arith) refl refl
+result_again (Res.Write x) rest fits = told_again 38 Nfs4Ok Res.Write item.write_ok is_write_ok (omega arith) x rest fits (λ _. refl) refl
+result_again (Res.ExchangeId x) rest fits = told_again 42 Nfs4Ok Res.ExchangeId item.exchange_id is_exchange_id (omega arith) x rest fits (λ _. refl) refl
+result_again (Res.CreateSession x) rest fits =
+    told_again 43 Nfs4Ok Res.CreateSession item.create_session is_create_session (omega arith) x rest fits (λ _. refl) refl
+result_again Res.DestroySession rest fits = alone_again 44 Nfs4Ok Res.DestroySession rest (omega arith) refl refl
+result_again Res.FreeStateid rest fits = alone_again 45 Nfs4Ok Res.FreeStateid rest (omega arith) refl refl
+result_again (Res.SecinfoNoName x) rest fits = told_again 52 Nfs4Ok Res.SecinfoNoName item.flavors is_flavors (omega arith) x rest fits (λ _. refl) refl
+result_again (Res.Sequence x) rest fits = told_again 53 Nfs4Ok Res.Sequence item.sequence is_sequence (omega arith) x rest fits (λ _. refl) refl
+result_again (Res.TestStateid x) rest fits = told_again 55 Nfs4Ok Res.TestStateid item.status_codes is_status_codes (omega arith) x rest fits (λ _. refl) refl
+result_again Res.DestroyClientId rest fits = alone_again 57 Nfs4Ok Res.DestroyClientId rest (omega arith) refl refl
+result_again Res.ReclaimComplete rest fits = alone_again 58 Nfs4Ok Res.ReclaimComplete rest (omega arith) refl refl
+result_again (Res.Refused operation s) rest fits = refused_again operation s rest fits
 
 pub is_result : IsCodec result
 is_result = record {

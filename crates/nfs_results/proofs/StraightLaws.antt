@@ -3,18 +3,22 @@ use Rattle.std.proofs.Common.{◌≡◌, ℕ, Bool, true, List, [], ◌∷◌, �
 use Rattle.std.specs.List.{flat_map}
 use Rattle.nfs_xdr.specs.Spelling.{number, hyper, flag, fixed, opaque}
 use Rattle.nfs_xdr.specs.Chain.{spell_chain}
-use Rattle.nfs_compound.specs.declared.op_num.OpNum.TheVariants as Op
-use Rattle.nfs_results.specs.Items.{fattr, entry, read_ok, read_dir, status_codes}
-use Rattle.nfs_results.specs.Result.{ReadOk, Entry, ReadDirOk, ResRead, ResReadDir, ResTestStateid}
+use Rattle.nfs_compound.specs.declared.op_num.OpNum.TheVariants as Num
+use Rattle.nfs_results.specs.Items.{fattr, entry, read_ok, status_codes}
+use Rattle.nfs_results.specs.Listing.{read_dir}
+use Rattle.nfs_results.specs.declared.res.ReadOk.{ReadOk}
+use Rattle.nfs_results.specs.declared.res.Entry.{Entry}
+use Rattle.nfs_results.specs.declared.res.ReadDirOk.{ReadDirOk}
+use Rattle.nfs_results.specs.declared.res.Res.TheVariants as Res
 use Rattle.nfs_results.specs.Results.{spell_result, done_head}
 use Rattle.nfs_results.specs.Straight.{read_head, read_end, read_dir_head, entry_head, entry_text, list_end, test_stateid_head}
 
-pub read_in_parts : (r : ReadOk) → spell_result (ResRead r) ≡ read_head r.eof (length r.bytes) ++ (r.bytes ++ read_end (length r.bytes))
+pub read_in_parts : (r : ReadOk) → spell_result (Res.Read r) ≡ read_head r.eof (length r.bytes) ++ (r.bytes ++ read_end (length r.bytes))
 unfolding read_ok
 read_in_parts r =
     let tail : List ℕ = r.bytes ++ read_end (length r.bytes) in
-    sym (append_assoc (done_head Op.Read) (flag r.eof ++ number (length r.bytes)) tail
-    ∙ ap (λ (w : List ℕ). done_head Op.Read ++ w) (append_assoc (flag r.eof) (number (length r.bytes)) tail))
+    sym (append_assoc (done_head Num.Read) (flag r.eof ++ number (length r.bytes)) tail
+    ∙ ap (λ (w : List ℕ). done_head Num.Read ++ w) (append_assoc (flag r.eof) (number (length r.bytes)) tail))
 
 one_entry : (e : Entry) (rest : List ℕ) → flag true ++ (entry.spell e ++ rest) ≡ entry_text e ++ rest
 unfolding entry
@@ -34,12 +38,12 @@ entries_in_parts (e ∷ es) eof =
     ∙ one_entry e (flat_map entry_text es ++ list_end eof)
     ∙ sym (append_assoc (entry_text e) (flat_map entry_text es) (list_end eof))
 
-pub read_dir_in_parts : (r : ReadDirOk) → spell_result (ResReadDir r) ≡ read_dir_head r.cookieverf ++ (flat_map entry_text r.entries ++ list_end r.eof)
+pub read_dir_in_parts : (r : ReadDirOk) → spell_result (Res.ReadDir r) ≡ read_dir_head r.cookieverf ++ (flat_map entry_text r.entries ++ list_end r.eof)
 unfolding read_dir
 read_dir_in_parts r =
-    ap (λ (w : List ℕ). done_head Op.ReadDir ++ (fixed r.cookieverf ++ w)) (entries_in_parts r.entries r.eof)
-    ∙ sym (append_assoc (done_head Op.ReadDir) (fixed r.cookieverf) (flat_map entry_text r.entries ++ list_end r.eof))
+    ap (λ (w : List ℕ). done_head Num.ReadDir ++ (fixed r.cookieverf ++ w)) (entries_in_parts r.entries r.eof)
+    ∙ sym (append_assoc (done_head Num.ReadDir) (fixed r.cookieverf) (flat_map entry_text r.entries ++ list_end r.eof))
 
-pub test_stateid_in_parts : (codes : List ℕ) → spell_result (ResTestStateid codes) ≡ test_stateid_head (length codes) ++ flat_map number codes
+pub test_stateid_in_parts : (codes : List ℕ) → spell_result (Res.TestStateid codes) ≡ test_stateid_head (length codes) ++ flat_map number codes
 unfolding status_codes
-test_stateid_in_parts codes = sym (append_assoc (done_head Op.TestStateid) (number (length codes)) (flat_map number codes))
+test_stateid_in_parts codes = sym (append_assoc (done_head Num.TestStateid) (number (length codes)) (flat_map number codes))

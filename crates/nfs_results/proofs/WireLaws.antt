@@ -16,7 +16,7 @@ use Rattle.nfs_xdr.specs.declared.status.Status.TheVariants.{Nfs4Ok, Denied, OpI
 use Rattle.nfs_xdr.proofs.StatusLaws.{is_status_listing}
 use Rattle.nfs_xdr.proofs.WordLaws.{listed_number}
 use Rattle.nfs_compound.specs.declared.op_num.OpNum.{OpNum}
-use Rattle.nfs_compound.specs.declared.op_num.OpNum.TheVariants as Op
+use Rattle.nfs_compound.specs.declared.op_num.OpNum.TheVariants as Num
 use Rattle.nfs_compound.specs.OpNum.{op_number}
 use Rattle.nfs_compound.specs.Stateid.{stateid}
 use Rattle.nfs_compound.specs.StateOwner.{state_owner}
@@ -27,12 +27,11 @@ use Rattle.nfs_xdr.proofs.TextLaws.{Spells, all_fit, arrays, numbers}
 use Rattle.nfs_compound.specs.Wire.{channel_attrs4}
 use Rattle.nfs_compound.proofs.WireLaws.{owners, ids, channels}
 use Rattle.nfs_results.specs.Items as item
+use Rattle.nfs_results.specs.Listing.{read_dir}
 use Rattle.nfs_results.specs.Items.{is_trimmed, are_statuses}
-use Rattle.nfs_results.specs.Result.{Entry, Fattr, Res, ResAccess, ResClose, ResCommit, ResCreate, ResGetAttr, ResGetFh, ResLink, ResLock, ResLockDenied, ResLockT}
-use Rattle.nfs_results.specs.Result.{ResLockTDenied, ResLockU, ResLookup, ResLookupP, ResNVerify, ResOpen, ResOpenDowngrade, ResPutFh, ResPutPubFh}
-use Rattle.nfs_results.specs.Result.{ResPutRootFh, ResRead, ResReadDir, ResReadLink, ResRemove, ResRename, ResRestoreFh, ResSaveFh, ResSetAttr, ResVerify}
-use Rattle.nfs_results.specs.Result.{ResWrite, ResExchangeId, ResCreateSession, ResDestroySession, ResFreeStateid, ResSecinfoNoName, ResSequence}
-use Rattle.nfs_results.specs.Result.{ResTestStateid, ResDestroyClientId, ResReclaimComplete, Refused}
+use Rattle.nfs_results.specs.declared.res.Entry.{Entry}
+use Rattle.nfs_results.specs.declared.res.Fattr.{Fattr}
+use Rattle.nfs_results.specs.declared.res.Res.{Res}
 use Rattle.nfs_results.specs.Parts.{is_legal, parts}
 use Rattle.nfs_results.specs.Straight.{entry_text}
 use Rattle.nfs_results.proofs.ResultLaws.{same_status}
@@ -131,8 +130,8 @@ chains = record { same = same; to = to; from = from }
     from [] fits = tt
     from (e ∷ es) (u, (one, others)) = (entries.from e one, from es others)
 
-listings : Spells item.read_dir (λ r. fixed 8 r.cookieverf then entries4 r.entries then bool r.eof)
-unfolding item.read_dir
+listings : Spells read_dir (λ r. fixed 8 r.cookieverf then entries4 r.entries then bool r.eof)
+unfolding read_dir
 listings = record {
   same = λ r. rw (chains.same r.entries) refl;
   to = λ r (e, (verf, (listed, eof))). (verf, (chains.to r.entries listed, eof));
@@ -236,52 +235,52 @@ texts : (limit : ℕ) → Spells (codec.opaque limit) (opaque limit)
 texts limit = record { same = λ x. refl; to = λ x fits. fits; from = λ x fits. fits }
 
 pub says : (r : Res) → Says (parts r).operation (parts r).status (parts r).behind (parts r).Fits (nfs_resop4 r)
-says (ResAccess a) = done Op.Access item.access _ accesses a
-says (ResClose s) = done Op.Close stateid _ ids s
-says (ResCommit verifier) = done Op.Commit (combinators.fixed 8) _ (verifiers 8) verifier
-says (ResCreate c) = done Op.Create item.create _ creates c
-says (ResGetAttr f) = done Op.GetAttr item.fattr _ attrs f
-says (ResGetFh object) = done Op.GetFh (codec.opaque 128) _ (texts 128) object
-says (ResLink c) = done Op.Link item.change_info _ changes c
-says (ResLock s) = done Op.Lock stateid _ ids s
-says (ResLockDenied d) = told Op.Lock Denied item.denied _ denials d
-says ResLockT = alone Op.LockT
-says (ResLockTDenied d) = told Op.LockT Denied item.denied _ denials d
-says (ResLockU s) = done Op.LockU stateid _ ids s
-says ResLookup = alone Op.Lookup
-says ResLookupP = alone Op.LookupP
-says ResNVerify = alone Op.NVerify
-says (ResOpen o) = done Op.Open item.open_ok _ opens o
-says (ResOpenDowngrade s) = done Op.OpenDowngrade stateid _ ids s
-says ResPutFh = alone Op.PutFh
-says ResPutPubFh = alone Op.PutPubFh
-says ResPutRootFh = alone Op.PutRootFh
-says (ResRead r) = done Op.Read item.read_ok _ reads r
-says (ResReadDir r) = done Op.ReadDir item.read_dir _ listings r
-says (ResReadLink link) = done Op.ReadLink codec.unbounded _ (texts most) link
-says (ResRemove c) = done Op.Remove item.change_info _ changes c
-says (ResRename r) = done Op.Rename item.rename _ moves r
-says ResRestoreFh = alone Op.RestoreFh
-says ResSaveFh = alone Op.SaveFh
-says (ResSetAttr s attrsset) = record {
+says (Res.Access a) = done Num.Access item.access _ accesses a
+says (Res.Close s) = done Num.Close stateid _ ids s
+says (Res.Commit verifier) = done Num.Commit (combinators.fixed 8) _ (verifiers 8) verifier
+says (Res.Create c) = done Num.Create item.create _ creates c
+says (Res.GetAttr f) = done Num.GetAttr item.fattr _ attrs f
+says (Res.GetFh object) = done Num.GetFh (codec.opaque 128) _ (texts 128) object
+says (Res.Link c) = done Num.Link item.change_info _ changes c
+says (Res.Lock s) = done Num.Lock stateid _ ids s
+says (Res.LockDenied d) = told Num.Lock Denied item.denied _ denials d
+says Res.LockT = alone Num.LockT
+says (Res.LockTDenied d) = told Num.LockT Denied item.denied _ denials d
+says (Res.LockU s) = done Num.LockU stateid _ ids s
+says Res.Lookup = alone Num.Lookup
+says Res.LookupP = alone Num.LookupP
+says Res.NVerify = alone Num.NVerify
+says (Res.Open o) = done Num.Open item.open_ok _ opens o
+says (Res.OpenDowngrade s) = done Num.OpenDowngrade stateid _ ids s
+says Res.PutFh = alone Num.PutFh
+says Res.PutPubFh = alone Num.PutPubFh
+says Res.PutRootFh = alone Num.PutRootFh
+says (Res.Read r) = done Num.Read item.read_ok _ reads r
+says (Res.ReadDir r) = done Num.ReadDir read_dir _ listings r
+says (Res.ReadLink link) = done Num.ReadLink codec.unbounded _ (texts most) link
+says (Res.Remove c) = done Num.Remove item.change_info _ changes c
+says (Res.Rename r) = done Num.Rename item.rename _ moves r
+says Res.RestoreFh = alone Num.RestoreFh
+says Res.SaveFh = alone Num.SaveFh
+says (Res.SetAttr s attrsset) = record {
   operation_is = refl;
   status_is = refl;
   behind_is = sets.same attrsset;
   to = λ (fits, legal). (sets.to attrsset fits, legal_is s legal);
   from = λ (fits, legal). (sets.from attrsset fits, is_legal_by s (is_legal s) refl legal);
 }
-says ResVerify = alone Op.Verify
-says (ResWrite w) = done Op.Write item.write_ok _ writes w
-says (ResExchangeId r) = done Op.ExchangeId item.exchange_id _ grants r
-says (ResCreateSession s) = done Op.CreateSession item.create_session _ sessions s
-says ResDestroySession = alone Op.DestroySession
-says ResFreeStateid = alone Op.FreeStateid
-says (ResSecinfoNoName fs) = done Op.SecinfoNoName item.flavors _ flavors fs
-says (ResSequence s) = done Op.Sequence item.sequence _ sequences s
-says (ResTestStateid ns) = done Op.TestStateid item.status_codes _ codes ns
-says ResDestroyClientId = alone Op.DestroyClientId
-says ResReclaimComplete = alone Op.ReclaimComplete
-says (Refused operation s) = record { operation_is = refl; status_is = refl; behind_is = refl; to = λ can. (tt, can); from = λ (u, can). can }
+says Res.Verify = alone Num.Verify
+says (Res.Write w) = done Num.Write item.write_ok _ writes w
+says (Res.ExchangeId r) = done Num.ExchangeId item.exchange_id _ grants r
+says (Res.CreateSession s) = done Num.CreateSession item.create_session _ sessions s
+says Res.DestroySession = alone Num.DestroySession
+says Res.FreeStateid = alone Num.FreeStateid
+says (Res.SecinfoNoName fs) = done Num.SecinfoNoName item.flavors _ flavors fs
+says (Res.Sequence s) = done Num.Sequence item.sequence _ sequences s
+says (Res.TestStateid ns) = done Num.TestStateid item.status_codes _ codes ns
+says Res.DestroyClientId = alone Num.DestroyClientId
+says Res.ReclaimComplete = alone Num.ReclaimComplete
+says (Res.Refused operation s) = record { operation_is = refl; status_is = refl; behind_is = refl; to = λ can. (tt, can); from = λ (u, can). can }
 
 -- an entry's parts, as they are put
 pub entry_is : (e : Entry) → entry_text e ≡ (bool true then entry4 e).bytes

@@ -6,7 +6,7 @@ use Rattle.nfs_xdr.specs.Codec as codec
 use Rattle.nfs_xdr.specs.Codec.{Codec, ◌then◌, as_type, array}
 use Rattle.nfs_xdr.specs.declared.status.Status.{Status}
 use Rattle.nfs_xdr.specs.StatusCodec.{status as any_status}
-use Rattle.nfs_results.specs.Result.{Res}
+use Rattle.nfs_results.specs.declared.res.Res.{Res}
 use Rattle.nfs_results.specs.ResultCodec.{result}
 use Rattle.nfs_results.specs.Results.{spell_result, spell_compound_head}
 

@@ -2,7 +2,7 @@
 use Rattle.std.specs.Prelude.{◌≡◌, ℕ, List, [], Option, Some, None}
 use Rattle.std.specs.List.{AllByRecursion}
 use Rattle.nfs_xdr.specs.Chain.{spell_chain, chain}
-use Rattle.nfs_results.specs.Result.{Entry}
+use Rattle.nfs_results.specs.declared.res.Entry.{Entry}
 use Rattle.nfs_results.specs.Items.{entry}
 
 abbrev pub in_front : Option (List Entry × List ℕ) → List Entry

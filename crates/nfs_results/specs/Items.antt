@@ -8,7 +8,6 @@ use Rattle.nfs_xdr.specs.StatusCodec.{status_of}
 use Rattle.nfs_xdr.specs.Limits.{opaque_limit}
 use Rattle.nfs_xdr.specs.Codec.{Codec, number, hyper, flag, opaque, unbounded, ◌then◌, as_type, only, pieces}
 use Rattle.nfs_xdr.specs.Combinators.{fixed, few}
-use Rattle.nfs_xdr.specs.Chain.{chain}
 use Rattle.nfs_compound.specs.Stateid.{stateid}
 use Rattle.nfs_compound.specs.StateOwner.{state_owner}
 use Rattle.nfs_compound.specs.ChannelAttrs.{channel_attrs}
@@ -19,7 +18,13 @@ use Rattle.nfs_results.specs.declared.res.RenameOk.{RenameOk}
 use Rattle.nfs_results.specs.declared.res.WriteOk.{WriteOk}
 use Rattle.nfs_results.specs.declared.res.CreateSessionOk.{CreateSessionOk}
 use Rattle.nfs_results.specs.declared.res.SequenceOk.{SequenceOk}
-use Rattle.nfs_results.specs.Result.{CreateOk, Fattr, Denied, OpenOk, ReadOk, Entry, ReadDirOk, ExchangeIdOk}
+use Rattle.nfs_results.specs.declared.res.CreateOk.{CreateOk}
+use Rattle.nfs_results.specs.declared.res.Fattr.{Fattr}
+use Rattle.nfs_results.specs.declared.res.Denied.{Denied}
+use Rattle.nfs_results.specs.declared.res.OpenOk.{OpenOk}
+use Rattle.nfs_results.specs.declared.res.ReadOk.{ReadOk}
+use Rattle.nfs_results.specs.declared.res.Entry.{Entry}
+use Rattle.nfs_results.specs.declared.res.ExchangeIdOk.{ExchangeIdOk}
 
 -- a number that is always the same
 abbrev pub always : ℕ → Codec (Unit {0})
@@ -54,8 +59,8 @@ unfoldable pub create : Codec CreateOk
 create = as_type (λ (cinfo, attrset). record { cinfo = cinfo; attrset = attrset }) (λ c. (c.cinfo, c.attrset)) (change_info then attr_set)
 
 unfoldable pub denied : Codec Denied
-denied = as_type (λ (offset, (extent, (locktype, owner))). record { offset = offset; extent = extent; locktype = locktype; owner = owner })
-    (λ d. (d.offset, (d.extent, (d.locktype, d.owner))))
+denied = as_type (λ (offset, (size, (locktype, owner))). record { offset = offset; length = size; locktype = locktype; owner = owner })
+    (λ d. (d.offset, (d.length, (d.locktype, d.owner))))
     (hyper then hyper then lock_type then state_owner)
 
 -- The flags are OPEN4_RESULT_LOCKTYPE_POSIX and OPEN4_RESULT_PRESERVE_UNLINKED, and the delegation is none.
@@ -70,10 +75,6 @@ read_ok = as_type (λ (eof, bytes). record { eof = eof; bytes = bytes }) (λ r. 
 unfoldable pub entry : Codec Entry
 entry = as_type (λ (cookie, (name, attrs)). record { cookie = cookie; name = name; attrs = attrs })
     (λ e. (e.cookie, (e.name, e.attrs))) (hyper then unbounded then fattr)
-
-unfoldable pub read_dir : Codec ReadDirOk
-read_dir = as_type (λ (cookieverf, (entries, eof)). record { cookieverf = cookieverf; entries = entries; eof = eof })
-    (λ r. (r.cookieverf, (r.entries, r.eof))) (fixed 8 then chain entry then flag)
 
 unfoldable pub rename : Codec RenameOk
 rename = as_type (λ (source_cinfo, target_cinfo). record { source_cinfo = source_cinfo; target_cinfo = target_cinfo })

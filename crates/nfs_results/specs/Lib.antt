@@ -1,8 +1,8 @@
-pub mod Result
 pub mod Items
+pub mod Listing
 pub mod Results
 pub mod Entries
-pub mod View
+pub mod AttrSet
 pub mod Straight
 pub mod CompoundResult
 pub mod OpenHead

@@ -1,10 +1,10 @@
 -- The results that an operation of this server may have, by their sizes.
 use Rattle.std.specs.Prelude.{◌≡◌, ℕ, ◌≤◌, length, None}
 use Rattle.nfs_xdr.specs.Limits.{opaque_limit}
-use Rattle.nfs_compound.specs.Operation.{Item, Operation, Fault}
+use Rattle.nfs_compound.specs.declared.op.Item.{Item}
+use Rattle.nfs_compound.specs.declared.op.Item.TheVariants.{Operation, Fault}
 use Rattle.nfs_results.specs.Largest.{given, number_of, asked}
-use Rattle.nfs_results.specs.Result.{Res, ResCreate, ResGetAttr, ResGetFh, ResLockDenied, ResLockTDenied, ResOpen, ResRead, ResReadDir, ResReadLink, ResSetAttr}
-use Rattle.nfs_results.specs.Result.{ResExchangeId, ResCreateSession, ResSecinfoNoName, ResTestStateid, Refused}
+use Rattle.nfs_results.specs.declared.res.Res.{Res}
 use Rattle.nfs_results.specs.Results.{operation_of}
 use Rattle.nfs_results.specs.Parts.{parts}
 use Rattle.nfs_results.specs.ResultCodec.{IsBounded}
@@ -12,26 +12,26 @@ use Rattle.nfs_results.specs.ResultCodec.{IsBounded}
 -- The sizes that this server's answers have where so much was asked for: filehandles of 16 bytes, text of at most 1,024,
 -- three words of a mask, the values of its attributes, and no more bytes, entries and statuses than asked.
 abbrev pub HasSizes : (asked : ℕ) → Res → Type 0
-HasSizes asked (ResCreate c) = length c.attrset ≤ 3
-HasSizes asked (ResGetAttr f) = (length f.attrmask ≤ 3) × (length f.attr_vals ≤ 612)
-HasSizes asked (ResGetFh object) = length object ≤ 16
-HasSizes asked (ResLockDenied d) = length d.owner.owner ≤ opaque_limit
-HasSizes asked (ResLockTDenied d) = length d.owner.owner ≤ opaque_limit
-HasSizes asked (ResOpen o) = length o.attrset ≤ 3
-HasSizes asked (ResRead r) = length r.bytes ≤ given asked
-HasSizes asked (ResReadDir r) = length (parts (ResReadDir r)).behind ≤ given asked
-HasSizes asked (ResReadLink link) = length link ≤ 1024
-HasSizes asked (ResSetAttr status attrsset) = length attrsset ≤ 3
-HasSizes asked (ResExchangeId r) = (length r.major_id ≤ 8) × (length r.server_scope ≤ 8)
-HasSizes asked (ResCreateSession s) = s.fore_chan_attrs.rdma_ird ≡ None
-HasSizes asked (ResSecinfoNoName flavors) = length flavors ≤ 1
-HasSizes asked (ResTestStateid codes) = length codes ≤ asked
+HasSizes asked (Res.Create c) = length c.attrset ≤ 3
+HasSizes asked (Res.GetAttr f) = (length f.attrmask ≤ 3) × (length f.attr_vals ≤ 612)
+HasSizes asked (Res.GetFh object) = length object ≤ 16
+HasSizes asked (Res.LockDenied d) = length d.owner.owner ≤ opaque_limit
+HasSizes asked (Res.LockTDenied d) = length d.owner.owner ≤ opaque_limit
+HasSizes asked (Res.Open o) = length o.attrset ≤ 3
+HasSizes asked (Res.Read r) = length r.bytes ≤ given asked
+HasSizes asked (Res.ReadDir r) = length (parts (Res.ReadDir r)).behind ≤ given asked
+HasSizes asked (Res.ReadLink link) = length link ≤ 1024
+HasSizes asked (Res.SetAttr status attrsset) = length attrsset ≤ 3
+HasSizes asked (Res.ExchangeId r) = (length r.major_id ≤ 8) × (length r.server_scope ≤ 8)
+HasSizes asked (Res.CreateSession s) = s.fore_chan_attrs.rdma_ird ≡ None
+HasSizes asked (Res.SecinfoNoName flavors) = length flavors ≤ 1
+HasSizes asked (Res.TestStateid codes) = length codes ≤ asked
 HasSizes asked other = Unit {0}
 
 -- a refusal that says no more than which attributes were set
 abbrev pub IsPlain : Res → Type 0
-IsPlain (Refused operation status) = Unit {0}
-IsPlain (ResSetAttr status attrsset) = length attrsset ≤ 3
+IsPlain (Res.Refused operation status) = Unit {0}
+IsPlain (Res.SetAttr status attrsset) = length attrsset ≤ 3
 IsPlain other = ⊥
 
 -- The results that an item may have: under its own number, such as can be put, and of those sizes.

@@ -7,16 +7,13 @@ use Rattle.nfs_xdr.specs.Status.{status_number}
 use Rattle.nfs_xdr.specs.Codec.{Codec, opaque, unbounded}
 use Rattle.nfs_xdr.specs.Combinators.{fixed}
 use Rattle.nfs_compound.specs.declared.op_num.OpNum.{OpNum}
-use Rattle.nfs_compound.specs.declared.op_num.OpNum.TheVariants as Op
+use Rattle.nfs_compound.specs.declared.op_num.OpNum.TheVariants as Num
 use Rattle.nfs_compound.specs.OpNum.{op_number}
 use Rattle.nfs_compound.specs.Stateid.{stateid}
 use Rattle.nfs_results.specs.Refusals.{can_refuse}
 use Rattle.nfs_results.specs.Items as item
-use Rattle.nfs_results.specs.Result.{Res, ResAccess, ResClose, ResCommit, ResCreate, ResGetAttr, ResGetFh, ResLink, ResLock, ResLockDenied, ResLockT}
-use Rattle.nfs_results.specs.Result.{ResLockTDenied, ResLockU, ResLookup, ResLookupP, ResNVerify, ResOpen, ResOpenDowngrade, ResPutFh, ResPutPubFh}
-use Rattle.nfs_results.specs.Result.{ResPutRootFh, ResRead, ResReadDir, ResReadLink, ResRemove, ResRename, ResRestoreFh, ResSaveFh, ResSetAttr, ResVerify}
-use Rattle.nfs_results.specs.Result.{ResWrite, ResExchangeId, ResCreateSession, ResDestroySession, ResFreeStateid, ResSecinfoNoName, ResSequence}
-use Rattle.nfs_results.specs.Result.{ResTestStateid, ResDestroyClientId, ResReclaimComplete, Refused}
+use Rattle.nfs_results.specs.Listing.{read_dir}
+use Rattle.nfs_results.specs.declared.res.Res.{Res}
 
 -- What makes a result: its operation number, its status, what is behind them, whether that fits, and what has to hold
 -- for that beside the sizes of numbers and of arrays, which their types give.
@@ -44,7 +41,7 @@ is_legal s = not (status_number s == status_number OpIllegal)
 -- SETATTR says what was set with NFS4_OK and with whatever it is refused with
 abbrev pub reported : Status → List ℕ → Parts
 reported s attrsset = record {
-  operation = op_number Op.SetAttr;
+  operation = op_number Num.SetAttr;
   status = s;
   behind = item.attr_set.spell attrsset;
   Fits = item.attr_set.Fits attrsset × IsTrue (is_legal s);
@@ -61,43 +58,43 @@ abbrev pub refused : ℕ → Status → Parts
 refused operation s = record { operation = operation; status = s; behind = []; Fits = IsTrue (can_refuse operation s); Bound = IsTrue (can_refuse operation s) }
 
 abbrev pub parts : Res → Parts
-parts (ResAccess a) = done Op.Access item.access a
-parts (ResClose s) = done Op.Close stateid s
-parts (ResCommit verifier) = done Op.Commit (fixed 8) verifier
-parts (ResCreate c) = done Op.Create item.create c
-parts (ResGetAttr f) = bounded (IsText f.attr_vals) (done Op.GetAttr item.fattr f)
-parts (ResGetFh object) = bounded (length object ≤ fhsize) (done Op.GetFh (opaque fhsize) object)
-parts (ResLink c) = done Op.Link item.change_info c
-parts (ResLock s) = done Op.Lock stateid s
-parts (ResLockDenied d) = bounded (length d.owner.owner ≤ opaque_limit) (with_status Op.Lock Denied item.denied d)
-parts ResLockT = alone Op.LockT
-parts (ResLockTDenied d) = bounded (length d.owner.owner ≤ opaque_limit) (with_status Op.LockT Denied item.denied d)
-parts (ResLockU s) = done Op.LockU stateid s
-parts ResLookup = alone Op.Lookup
-parts ResLookupP = alone Op.LookupP
-parts ResNVerify = alone Op.NVerify
-parts (ResOpen o) = done Op.Open item.open_ok o
-parts (ResOpenDowngrade s) = done Op.OpenDowngrade stateid s
-parts ResPutFh = alone Op.PutFh
-parts ResPutPubFh = alone Op.PutPubFh
-parts ResPutRootFh = alone Op.PutRootFh
-parts (ResRead r) = bounded (IsText r.bytes) (done Op.Read item.read_ok r)
-parts (ResReadDir r) = done Op.ReadDir item.read_dir r
-parts (ResReadLink link) = bounded (IsText link) (done Op.ReadLink unbounded link)
-parts (ResRemove c) = done Op.Remove item.change_info c
-parts (ResRename r) = done Op.Rename item.rename r
-parts ResRestoreFh = alone Op.RestoreFh
-parts ResSaveFh = alone Op.SaveFh
-parts (ResSetAttr s attrsset) = reported s attrsset
-parts ResVerify = alone Op.Verify
-parts (ResWrite w) = done Op.Write item.write_ok w
-parts (ResExchangeId r) = bounded ((length r.major_id ≤ opaque_limit) × (length r.server_scope ≤ opaque_limit)) (done Op.ExchangeId item.exchange_id r)
-parts (ResCreateSession s) = done Op.CreateSession item.create_session s
-parts ResDestroySession = alone Op.DestroySession
-parts ResFreeStateid = alone Op.FreeStateid
-parts (ResSecinfoNoName flavors) = bounded (length flavors < 2 ^ 32) (done Op.SecinfoNoName item.flavors flavors)
-parts (ResSequence s) = done Op.Sequence item.sequence s
-parts (ResTestStateid codes) = bounded (IsTrue (item.are_statuses codes) × (length codes < 2 ^ 32)) (done Op.TestStateid item.status_codes codes)
-parts ResDestroyClientId = alone Op.DestroyClientId
-parts ResReclaimComplete = alone Op.ReclaimComplete
-parts (Refused operation s) = refused operation s
+parts (Res.Access a) = done Num.Access item.access a
+parts (Res.Close s) = done Num.Close stateid s
+parts (Res.Commit verifier) = done Num.Commit (fixed 8) verifier
+parts (Res.Create c) = done Num.Create item.create c
+parts (Res.GetAttr f) = bounded (IsText f.attr_vals) (done Num.GetAttr item.fattr f)
+parts (Res.GetFh object) = bounded (length object ≤ fhsize) (done Num.GetFh (opaque fhsize) object)
+parts (Res.Link c) = done Num.Link item.change_info c
+parts (Res.Lock s) = done Num.Lock stateid s
+parts (Res.LockDenied d) = bounded (length d.owner.owner ≤ opaque_limit) (with_status Num.Lock Denied item.denied d)
+parts Res.LockT = alone Num.LockT
+parts (Res.LockTDenied d) = bounded (length d.owner.owner ≤ opaque_limit) (with_status Num.LockT Denied item.denied d)
+parts (Res.LockU s) = done Num.LockU stateid s
+parts Res.Lookup = alone Num.Lookup
+parts Res.LookupP = alone Num.LookupP
+parts Res.NVerify = alone Num.NVerify
+parts (Res.Open o) = done Num.Open item.open_ok o
+parts (Res.OpenDowngrade s) = done Num.OpenDowngrade stateid s
+parts Res.PutFh = alone Num.PutFh
+parts Res.PutPubFh = alone Num.PutPubFh
+parts Res.PutRootFh = alone Num.PutRootFh
+parts (Res.Read r) = bounded (IsText r.bytes) (done Num.Read item.read_ok r)
+parts (Res.ReadDir r) = done Num.ReadDir read_dir r
+parts (Res.ReadLink link) = bounded (IsText link) (done Num.ReadLink unbounded link)
+parts (Res.Remove c) = done Num.Remove item.change_info c
+parts (Res.Rename r) = done Num.Rename item.rename r
+parts Res.RestoreFh = alone Num.RestoreFh
+parts Res.SaveFh = alone Num.SaveFh
+parts (Res.SetAttr s attrsset) = reported s attrsset
+parts Res.Verify = alone Num.Verify
+parts (Res.Write w) = done Num.Write item.write_ok w
+parts (Res.ExchangeId r) = bounded ((length r.major_id ≤ opaque_limit) × (length r.server_scope ≤ opaque_limit)) (done Num.ExchangeId item.exchange_id r)
+parts (Res.CreateSession s) = done Num.CreateSession item.create_session s
+parts Res.DestroySession = alone Num.DestroySession
+parts Res.FreeStateid = alone Num.FreeStateid
+parts (Res.SecinfoNoName flavors) = bounded (length flavors < 2 ^ 32) (done Num.SecinfoNoName item.flavors flavors)
+parts (Res.Sequence s) = done Num.Sequence item.sequence s
+parts (Res.TestStateid codes) = bounded (IsTrue (item.are_statuses codes) × (length codes < 2 ^ 32)) (done Num.TestStateid item.status_codes codes)
+parts Res.DestroyClientId = alone Num.DestroyClientId
+parts Res.ReclaimComplete = alone Num.ReclaimComplete
+parts (Res.Refused operation s) = refused operation s

@@ -3,7 +3,7 @@ use Rattle.std.specs.Prelude.{ℕ, ◌==◌, ◌||◌, ◌&&◌, Bool, not, nat_
 use Rattle.nfs_xdr.specs.declared.status.Status.{Status}
 use Rattle.nfs_xdr.specs.declared.status.Status.TheVariants.{Nfs4Ok, Denied, OpIllegal, RepTooBig}
 use Rattle.nfs_xdr.specs.Status.{status_number}
-use Rattle.nfs_compound.specs.declared.op_num.OpNum.TheVariants as Op
+use Rattle.nfs_compound.specs.declared.op_num.OpNum.TheVariants as Num
 use Rattle.nfs_compound.specs.OpNum.{op_number, first_op, last_op, op_illegal}
 
 -- A refusal is one of an operation of minor version 1, which are first_op to last_op, or of OP_ILLEGAL. That one alone is illegal, and
@@ -15,8 +15,8 @@ bears operation s =
 
 -- SETATTR says more than its status, and so do LOCK and LOCKT that are denied
 abbrev pub tells : ℕ → Status → Bool
-tells operation s = operation == op_number Op.SetAttr
-    || ((operation == op_number Op.Lock || operation == op_number Op.LockT) && status_number s == status_number Denied)
+tells operation s = operation == op_number Num.SetAttr
+    || ((operation == op_number Num.Lock || operation == op_number Num.LockT) && status_number s == status_number Denied)
 
 abbrev pub can_refuse : ℕ → Status → Bool
 can_refuse operation s = bears operation s && not (tells operation s)

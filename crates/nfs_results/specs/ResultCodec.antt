@@ -9,18 +9,15 @@ use Rattle.nfs_xdr.specs.StatusCodec.{status as any_status}
 use Rattle.nfs_xdr.specs.Codec.{Codec, opaque, unbounded, arm, bare}
 use Rattle.nfs_xdr.specs.Combinators.{fixed}
 use Rattle.nfs_compound.specs.declared.op_num.OpNum.{OpNum}
-use Rattle.nfs_compound.specs.declared.op_num.OpNum.TheVariants as Op
+use Rattle.nfs_compound.specs.declared.op_num.OpNum.TheVariants as Num
 use Rattle.nfs_compound.specs.OpNum.{op_number, op_num}
 use Rattle.nfs_compound.specs.Stateid.{stateid}
 use Rattle.nfs_results.specs.Parts.{is_legal, parts}
 use Rattle.nfs_results.specs.Refusals.{can_refuse}
 use Rattle.nfs_results.specs.Results.{spell_result}
 use Rattle.nfs_results.specs.Items as item
-use Rattle.nfs_results.specs.Result.{Res, ResAccess, ResClose, ResCommit, ResCreate, ResGetAttr, ResGetFh, ResLink, ResLock, ResLockDenied, ResLockT}
-use Rattle.nfs_results.specs.Result.{ResLockTDenied, ResLockU, ResLookup, ResLookupP, ResNVerify, ResOpen, ResOpenDowngrade, ResPutFh, ResPutPubFh}
-use Rattle.nfs_results.specs.Result.{ResPutRootFh, ResRead, ResReadDir, ResReadLink, ResRemove, ResRename, ResRestoreFh, ResSaveFh, ResSetAttr, ResVerify}
-use Rattle.nfs_results.specs.Result.{ResWrite, ResExchangeId, ResCreateSession, ResDestroySession, ResFreeStateid, ResSecinfoNoName, ResSequence}
-use Rattle.nfs_results.specs.Result.{ResTestStateid, ResDestroyClientId, ResReclaimComplete, Refused}
+use Rattle.nfs_results.specs.Listing.{read_dir}
+use Rattle.nfs_results.specs.declared.res.Res.{Res}
 
 abbrev pub FitsResult : Res → Type 0
 FitsResult r = (parts r).Fits
@@ -30,57 +27,57 @@ IsBounded r = (parts r).Bound
 
 -- its arrays are as long as their types say
 abbrev pub HasArrays : Res → Type 0
-HasArrays (ResClose s) = length s.other ≡ 12
-HasArrays (ResCommit verifier) = length verifier ≡ 8
-HasArrays (ResLock s) = length s.other ≡ 12
-HasArrays (ResLockU s) = length s.other ≡ 12
-HasArrays (ResOpen o) = length o.stateid.other ≡ 12
-HasArrays (ResOpenDowngrade s) = length s.other ≡ 12
-HasArrays (ResReadDir r) = length r.cookieverf ≡ 8
-HasArrays (ResWrite w) = length w.writeverf ≡ 8
-HasArrays (ResCreateSession s) = length s.sessionid ≡ 16
-HasArrays (ResSequence s) = length s.sessionid ≡ 16
+HasArrays (Res.Close s) = length s.other ≡ 12
+HasArrays (Res.Commit verifier) = length verifier ≡ 8
+HasArrays (Res.Lock s) = length s.other ≡ 12
+HasArrays (Res.LockU s) = length s.other ≡ 12
+HasArrays (Res.Open o) = length o.stateid.other ≡ 12
+HasArrays (Res.OpenDowngrade s) = length s.other ≡ 12
+HasArrays (Res.ReadDir r) = length r.cookieverf ≡ 8
+HasArrays (Res.Write w) = length w.writeverf ≡ 8
+HasArrays (Res.CreateSession s) = length s.sessionid ≡ 16
+HasArrays (Res.Sequence s) = length s.sessionid ≡ 16
 HasArrays other = Unit {0}
 
 -- How it is read: what an operation that was done has behind NFS4_OK ..
 unfoldable pub done_at : OpNum → List ℕ → Option (Res × List ℕ)
-done_at Op.Access bytes = arm ResAccess item.access bytes
-done_at Op.Close bytes = arm ResClose stateid bytes
-done_at Op.Commit bytes = arm ResCommit (fixed 8) bytes
-done_at Op.Create bytes = arm ResCreate item.create bytes
-done_at Op.GetAttr bytes = arm ResGetAttr item.fattr bytes
-done_at Op.GetFh bytes = arm ResGetFh (opaque fhsize) bytes
-done_at Op.Link bytes = arm ResLink item.change_info bytes
-done_at Op.Lock bytes = arm ResLock stateid bytes
-done_at Op.LockT bytes = bare ResLockT bytes
-done_at Op.LockU bytes = arm ResLockU stateid bytes
-done_at Op.Lookup bytes = bare ResLookup bytes
-done_at Op.LookupP bytes = bare ResLookupP bytes
-done_at Op.NVerify bytes = bare ResNVerify bytes
-done_at Op.Open bytes = arm ResOpen item.open_ok bytes
-done_at Op.OpenDowngrade bytes = arm ResOpenDowngrade stateid bytes
-done_at Op.PutFh bytes = bare ResPutFh bytes
-done_at Op.PutPubFh bytes = bare ResPutPubFh bytes
-done_at Op.PutRootFh bytes = bare ResPutRootFh bytes
-done_at Op.Read bytes = arm ResRead item.read_ok bytes
-done_at Op.ReadDir bytes = arm ResReadDir item.read_dir bytes
-done_at Op.ReadLink bytes = arm ResReadLink unbounded bytes
-done_at Op.Remove bytes = arm ResRemove item.change_info bytes
-done_at Op.Rename bytes = arm ResRename item.rename bytes
-done_at Op.RestoreFh bytes = bare ResRestoreFh bytes
-done_at Op.SaveFh bytes = bare ResSaveFh bytes
-done_at Op.SetAttr bytes = arm (ResSetAttr Nfs4Ok) item.attr_set bytes
-done_at Op.Verify bytes = bare ResVerify bytes
-done_at Op.Write bytes = arm ResWrite item.write_ok bytes
-done_at Op.ExchangeId bytes = arm ResExchangeId item.exchange_id bytes
-done_at Op.CreateSession bytes = arm ResCreateSession item.create_session bytes
-done_at Op.DestroySession bytes = bare ResDestroySession bytes
-done_at Op.FreeStateid bytes = bare ResFreeStateid bytes
-done_at Op.SecinfoNoName bytes = arm ResSecinfoNoName item.flavors bytes
-done_at Op.Sequence bytes = arm ResSequence item.sequence bytes
-done_at Op.TestStateid bytes = arm ResTestStateid item.status_codes bytes
-done_at Op.DestroyClientId bytes = bare ResDestroyClientId bytes
-done_at Op.ReclaimComplete bytes = bare ResReclaimComplete bytes
+done_at Num.Access bytes = arm Res.Access item.access bytes
+done_at Num.Close bytes = arm Res.Close stateid bytes
+done_at Num.Commit bytes = arm Res.Commit (fixed 8) bytes
+done_at Num.Create bytes = arm Res.Create item.create bytes
+done_at Num.GetAttr bytes = arm Res.GetAttr item.fattr bytes
+done_at Num.GetFh bytes = arm Res.GetFh (opaque fhsize) bytes
+done_at Num.Link bytes = arm Res.Link item.change_info bytes
+done_at Num.Lock bytes = arm Res.Lock stateid bytes
+done_at Num.LockT bytes = bare Res.LockT bytes
+done_at Num.LockU bytes = arm Res.LockU stateid bytes
+done_at Num.Lookup bytes = bare Res.Lookup bytes
+done_at Num.LookupP bytes = bare Res.LookupP bytes
+done_at Num.NVerify bytes = bare Res.NVerify bytes
+done_at Num.Open bytes = arm Res.Open item.open_ok bytes
+done_at Num.OpenDowngrade bytes = arm Res.OpenDowngrade stateid bytes
+done_at Num.PutFh bytes = bare Res.PutFh bytes
+done_at Num.PutPubFh bytes = bare Res.PutPubFh bytes
+done_at Num.PutRootFh bytes = bare Res.PutRootFh bytes
+done_at Num.Read bytes = arm Res.Read item.read_ok bytes
+done_at Num.ReadDir bytes = arm Res.ReadDir read_dir bytes
+done_at Num.ReadLink bytes = arm Res.ReadLink unbounded bytes
+done_at Num.Remove bytes = arm Res.Remove item.change_info bytes
+done_at Num.Rename bytes = arm Res.Rename item.rename bytes
+done_at Num.RestoreFh bytes = bare Res.RestoreFh bytes
+done_at Num.SaveFh bytes = bare Res.SaveFh bytes
+done_at Num.SetAttr bytes = arm (Res.SetAttr Nfs4Ok) item.attr_set bytes
+done_at Num.Verify bytes = bare Res.Verify bytes
+done_at Num.Write bytes = arm Res.Write item.write_ok bytes
+done_at Num.ExchangeId bytes = arm Res.ExchangeId item.exchange_id bytes
+done_at Num.CreateSession bytes = arm Res.CreateSession item.create_session bytes
+done_at Num.DestroySession bytes = bare Res.DestroySession bytes
+done_at Num.FreeStateid bytes = bare Res.FreeStateid bytes
+done_at Num.SecinfoNoName bytes = arm Res.SecinfoNoName item.flavors bytes
+done_at Num.Sequence bytes = arm Res.Sequence item.sequence bytes
+done_at Num.TestStateid bytes = arm Res.TestStateid item.status_codes bytes
+done_at Num.DestroyClientId bytes = bare Res.DestroyClientId bytes
+done_at Num.ReclaimComplete bytes = bare Res.ReclaimComplete bytes
 
 abbrev pub done_by : Option OpNum → List ℕ → Option (Res × List ℕ)
 done_by None bytes = None
@@ -89,10 +86,10 @@ done_by (Some op) bytes = done_at op bytes
 -- .. and what one that was refused has behind its status.
 unfoldable pub refused_at : ℕ → Status → List ℕ → Option (Res × List ℕ)
 refused_at operation s bytes =
-    if operation == op_number Op.SetAttr && is_legal s then arm (ResSetAttr s) item.attr_set bytes
-    else if operation == op_number Op.Lock && status_number s == status_number Denied then arm ResLockDenied item.denied bytes
-    else if operation == op_number Op.LockT && status_number s == status_number Denied then arm ResLockTDenied item.denied bytes
-    else if can_refuse operation s then Some (Refused operation s, bytes)
+    if operation == op_number Num.SetAttr && is_legal s then arm (Res.SetAttr s) item.attr_set bytes
+    else if operation == op_number Num.Lock && status_number s == status_number Denied then arm Res.LockDenied item.denied bytes
+    else if operation == op_number Num.LockT && status_number s == status_number Denied then arm Res.LockTDenied item.denied bytes
+    else if can_refuse operation s then Some (Res.Refused operation s, bytes)
     else None
 
 abbrev pub read_behind : ℕ → Status → List ℕ → Option (Res × List ℕ)

@@ -6,10 +6,10 @@ use Rattle.nfs_xdr.specs.declared.status.Status.{Status}
 use Rattle.nfs_xdr.specs.Status.{status_number}
 use Rattle.nfs_xdr.specs.Spelling.{number, opaque}
 use Rattle.nfs_xdr.specs.declared.status.Status.TheVariants.{Nfs4Ok}
-use Rattle.nfs_compound.specs.declared.op_num.OpNum.TheVariants as Op
+use Rattle.nfs_compound.specs.declared.op_num.OpNum.TheVariants as Num
 use Rattle.nfs_compound.specs.OpNum.{op_number}
 use Rattle.nfs_compound.specs.declared.op_num.OpNum.{OpNum}
-use Rattle.nfs_results.specs.Result.{Res, ResSetAttr, Refused}
+use Rattle.nfs_results.specs.declared.res.Res.{Res}
 use Rattle.nfs_results.specs.Parts.{parts}
 
 -- which operation a result is of, and how that ended
@@ -27,7 +27,7 @@ spell_result r = head (operation_of r) (status_of_result r) ++ (parts r).behind
 
 -- How an operation of this number is refused with no more said: SETATTR reports that nothing was set.
 abbrev pub refusal : ℕ → Status → Res
-refusal operation s = if operation == op_number Op.SetAttr then ResSetAttr s [] else Refused operation s
+refusal operation s = if operation == op_number Num.SetAttr then Res.SetAttr s [] else Res.Refused operation s
 
 -- what stands in front of the results of a compound (RFC 8881 section 16.2.2)
 abbrev pub spell_compound_head : (status : Status) (tag : List ℕ) (count : ℕ) → List ℕ

@@ -2,21 +2,21 @@
 -- them and behind them.
 use Rattle.std.specs.Prelude.{ℕ, List, ◌++◌, Bool, true, false, replicate}
 use Rattle.nfs_xdr.specs.Spelling.{number, hyper, flag, fixed, opaque, padding}
-use Rattle.nfs_compound.specs.declared.op_num.OpNum.TheVariants as Op
+use Rattle.nfs_compound.specs.declared.op_num.OpNum.TheVariants as Num
 use Rattle.nfs_results.specs.Items as item
-use Rattle.nfs_results.specs.Result.{Entry}
+use Rattle.nfs_results.specs.declared.res.Entry.{Entry}
 use Rattle.nfs_results.specs.Results.{done_head}
 
 -- READ: in front of so many bytes, and the zeros behind them
 abbrev pub read_head : (eof : Bool) (count : ℕ) → List ℕ
-read_head eof count = done_head Op.Read ++ (flag eof ++ number count)
+read_head eof count = done_head Num.Read ++ (flag eof ++ number count)
 
 abbrev pub read_end : (count : ℕ) → List ℕ
 read_end count = replicate (padding count) 0
 
 -- READDIR: in front of the entries, in front of an entry's attributes, and behind the entries
 abbrev pub read_dir_head : (cookieverf : List ℕ) → List ℕ
-read_dir_head cookieverf = done_head Op.ReadDir ++ fixed cookieverf
+read_dir_head cookieverf = done_head Num.ReadDir ++ fixed cookieverf
 
 abbrev pub entry_head : (cookie : ℕ) (name : List ℕ) → List ℕ
 entry_head cookie name = flag true ++ (hyper cookie ++ opaque name)
@@ -29,4 +29,4 @@ entry_text e = entry_head e.cookie e.name ++ item.fattr.spell e.attrs
 
 -- TEST_STATEID: in front of so many statuses
 abbrev pub test_stateid_head : (count : ℕ) → List ℕ
-test_stateid_head count = done_head Op.TestStateid ++ number count
+test_stateid_head count = done_head Num.TestStateid ++ number count

@@ -10,12 +10,12 @@ use Rattle.nfs_compound.specs.FileArgs.{stable_how_number}
 use Rattle.nfs_xdr.specs.Text.{Text, ◌then◌, void, uint32, uint64, bool, enum, fixed, opaque, array, optional, most}
 use Rattle.nfs_compound.specs.Wire.{component4, state_owner4, stateid4, nfs_impl_id4, channel_attrs4}
 use Rattle.nfs_results.specs.declared.res.ChangeInfo.{ChangeInfo}
-use Rattle.nfs_results.specs.Result as result
-use Rattle.nfs_results.specs.Result.{Fattr, Entry, Res, ResAccess, ResClose, ResCommit, ResCreate, ResGetAttr, ResGetFh, ResLink, ResLock, ResLockDenied, ResLockT}
-use Rattle.nfs_results.specs.Result.{ResLockTDenied, ResLockU, ResLookup, ResLookupP, ResNVerify, ResOpen, ResOpenDowngrade, ResPutFh, ResPutPubFh}
-use Rattle.nfs_results.specs.Result.{ResPutRootFh, ResRead, ResReadDir, ResReadLink, ResRemove, ResRename, ResRestoreFh, ResSaveFh, ResSetAttr, ResVerify}
-use Rattle.nfs_results.specs.Result.{ResWrite, ResExchangeId, ResCreateSession, ResDestroySession, ResFreeStateid, ResSecinfoNoName, ResSequence}
-use Rattle.nfs_results.specs.Result.{ResTestStateid, ResDestroyClientId, ResReclaimComplete, Refused}
+use Rattle.nfs_results.specs.declared.res.Denied.{Denied as DeniedLock}
+use Rattle.nfs_results.specs.declared.res.ExchangeIdOk.{ExchangeIdOk}
+use Rattle.nfs_results.specs.declared.res.OpenOk.{OpenOk}
+use Rattle.nfs_results.specs.declared.res.Fattr.{Fattr}
+use Rattle.nfs_results.specs.declared.res.Entry.{Entry}
+use Rattle.nfs_results.specs.declared.res.Res.{Res}
 use Rattle.nfs_results.specs.Refusals.{can_refuse}
 use Rattle.nfs_results.specs.CompoundResult.{CompoundResult}
 
@@ -42,13 +42,13 @@ change_info4 c = bool c.atomic then uint64 c.before then uint64 c.after
 
 -- RFC 8881 section 18.10.
 
-abbrev pub lock4denied : result.Denied → Text
-lock4denied d = uint64 d.offset then uint64 d.extent then enum (lock_type_number d.locktype) then state_owner4 d.owner
+abbrev pub lock4denied : DeniedLock → Text
+lock4denied d = uint64 d.offset then uint64 d.length then enum (lock_type_number d.locktype) then state_owner4 d.owner
 
 -- RFC 8881 section 18.16. The flags are OPEN4_RESULT_LOCKTYPE_POSIX (4) and OPEN4_RESULT_PRESERVE_UNLINKED (8), and the delegation is
 -- OPEN_DELEGATE_NONE, which is 0.
 
-abbrev pub open4resok : result.OpenOk → Text
+abbrev pub open4resok : OpenOk → Text
 open4resok o = stateid4 o.stateid then change_info4 o.cinfo then uint32 12 then bitmap4 o.attrset then enum 0
 
 -- RFC 8881 section 18.23. A bool in front of each entry says that it follows, and one behind the last that none does.
@@ -62,7 +62,7 @@ entries4 (e ∷ es) = bool true then entry4 e then entries4 es
 
 -- RFC 8881 section 18.35. The state protection is SP4_NONE, which is 0, and no implementation is named.
 
-abbrev pub exchange_id4resok : result.ExchangeIdOk → Text
+abbrev pub exchange_id4resok : ExchangeIdOk → Text
 exchange_id4resok r = uint64 r.clientid then uint32 r.sequenceid then uint32 r.flags then enum 0 then uint64 r.minor_id then opaque opaque_limit r.major_id
     then opaque opaque_limit r.server_scope then optional nfs_impl_id4 None
 
@@ -82,48 +82,48 @@ ends operation status text = record { operation = operation; status = status; be
 -- was set, and other refusals tell nothing more. A secinfo4 is the number of its flavor: RPCSEC_GSS, which alone has more, is not among those given.
 
 abbrev pub nfs_resop4 : Res → Resop
-nfs_resop4 (ResAccess a) = ends 3 Nfs4Ok (uint32 a.supported then uint32 a.access)
-nfs_resop4 (ResClose open_stateid) = ends 4 Nfs4Ok (stateid4 open_stateid)
-nfs_resop4 (ResCommit writeverf) = ends 5 Nfs4Ok (fixed 8 writeverf)
-nfs_resop4 (ResCreate c) = ends 6 Nfs4Ok (change_info4 c.cinfo then bitmap4 c.attrset)
-nfs_resop4 (ResGetAttr obj_attributes) = ends 9 Nfs4Ok (fattr4 obj_attributes)
-nfs_resop4 (ResGetFh object) = ends 10 Nfs4Ok (opaque fhsize object)
-nfs_resop4 (ResLink cinfo) = ends 11 Nfs4Ok (change_info4 cinfo)
-nfs_resop4 (ResLock lock_stateid) = ends 12 Nfs4Ok (stateid4 lock_stateid)
-nfs_resop4 (ResLockDenied d) = ends 12 Denied (lock4denied d)
-nfs_resop4 ResLockT = ends 13 Nfs4Ok void
-nfs_resop4 (ResLockTDenied d) = ends 13 Denied (lock4denied d)
-nfs_resop4 (ResLockU lock_stateid) = ends 14 Nfs4Ok (stateid4 lock_stateid)
-nfs_resop4 ResLookup = ends 15 Nfs4Ok void
-nfs_resop4 ResLookupP = ends 16 Nfs4Ok void
-nfs_resop4 ResNVerify = ends 17 Nfs4Ok void
-nfs_resop4 (ResOpen o) = ends 18 Nfs4Ok (open4resok o)
-nfs_resop4 (ResOpenDowngrade open_stateid) = ends 21 Nfs4Ok (stateid4 open_stateid)
-nfs_resop4 ResPutFh = ends 22 Nfs4Ok void
-nfs_resop4 ResPutPubFh = ends 23 Nfs4Ok void
-nfs_resop4 ResPutRootFh = ends 24 Nfs4Ok void
-nfs_resop4 (ResRead r) = ends 25 Nfs4Ok (bool r.eof then opaque most r.bytes)
-nfs_resop4 (ResReadDir r) = ends 26 Nfs4Ok (fixed 8 r.cookieverf then entries4 r.entries then bool r.eof)
-nfs_resop4 (ResReadLink link) = ends 27 Nfs4Ok (opaque most link)
-nfs_resop4 (ResRemove cinfo) = ends 28 Nfs4Ok (change_info4 cinfo)
-nfs_resop4 (ResRename r) = ends 29 Nfs4Ok (change_info4 r.source_cinfo then change_info4 r.target_cinfo)
-nfs_resop4 ResRestoreFh = ends 31 Nfs4Ok void
-nfs_resop4 ResSaveFh = ends 32 Nfs4Ok void
-nfs_resop4 (ResSetAttr status attrsset) = ends 34 status (bitmap4 attrsset provided (status ≢ OpIllegal))
-nfs_resop4 ResVerify = ends 37 Nfs4Ok void
-nfs_resop4 (ResWrite w) = ends 38 Nfs4Ok (uint32 w.count then enum (stable_how_number w.committed) then fixed 8 w.writeverf)
-nfs_resop4 (ResExchangeId r) = ends 42 Nfs4Ok (exchange_id4resok r)
-nfs_resop4 (ResCreateSession s) = ends 43 Nfs4Ok
+nfs_resop4 (Res.Access a) = ends 3 Nfs4Ok (uint32 a.supported then uint32 a.access)
+nfs_resop4 (Res.Close open_stateid) = ends 4 Nfs4Ok (stateid4 open_stateid)
+nfs_resop4 (Res.Commit writeverf) = ends 5 Nfs4Ok (fixed 8 writeverf)
+nfs_resop4 (Res.Create c) = ends 6 Nfs4Ok (change_info4 c.cinfo then bitmap4 c.attrset)
+nfs_resop4 (Res.GetAttr obj_attributes) = ends 9 Nfs4Ok (fattr4 obj_attributes)
+nfs_resop4 (Res.GetFh object) = ends 10 Nfs4Ok (opaque fhsize object)
+nfs_resop4 (Res.Link cinfo) = ends 11 Nfs4Ok (change_info4 cinfo)
+nfs_resop4 (Res.Lock lock_stateid) = ends 12 Nfs4Ok (stateid4 lock_stateid)
+nfs_resop4 (Res.LockDenied d) = ends 12 Denied (lock4denied d)
+nfs_resop4 Res.LockT = ends 13 Nfs4Ok void
+nfs_resop4 (Res.LockTDenied d) = ends 13 Denied (lock4denied d)
+nfs_resop4 (Res.LockU lock_stateid) = ends 14 Nfs4Ok (stateid4 lock_stateid)
+nfs_resop4 Res.Lookup = ends 15 Nfs4Ok void
+nfs_resop4 Res.LookupP = ends 16 Nfs4Ok void
+nfs_resop4 Res.NVerify = ends 17 Nfs4Ok void
+nfs_resop4 (Res.Open o) = ends 18 Nfs4Ok (open4resok o)
+nfs_resop4 (Res.OpenDowngrade open_stateid) = ends 21 Nfs4Ok (stateid4 open_stateid)
+nfs_resop4 Res.PutFh = ends 22 Nfs4Ok void
+nfs_resop4 Res.PutPubFh = ends 23 Nfs4Ok void
+nfs_resop4 Res.PutRootFh = ends 24 Nfs4Ok void
+nfs_resop4 (Res.Read r) = ends 25 Nfs4Ok (bool r.eof then opaque most r.bytes)
+nfs_resop4 (Res.ReadDir r) = ends 26 Nfs4Ok (fixed 8 r.cookieverf then entries4 r.entries then bool r.eof)
+nfs_resop4 (Res.ReadLink link) = ends 27 Nfs4Ok (opaque most link)
+nfs_resop4 (Res.Remove cinfo) = ends 28 Nfs4Ok (change_info4 cinfo)
+nfs_resop4 (Res.Rename r) = ends 29 Nfs4Ok (change_info4 r.source_cinfo then change_info4 r.target_cinfo)
+nfs_resop4 Res.RestoreFh = ends 31 Nfs4Ok void
+nfs_resop4 Res.SaveFh = ends 32 Nfs4Ok void
+nfs_resop4 (Res.SetAttr status attrsset) = ends 34 status (bitmap4 attrsset provided (status ≢ OpIllegal))
+nfs_resop4 Res.Verify = ends 37 Nfs4Ok void
+nfs_resop4 (Res.Write w) = ends 38 Nfs4Ok (uint32 w.count then enum (stable_how_number w.committed) then fixed 8 w.writeverf)
+nfs_resop4 (Res.ExchangeId r) = ends 42 Nfs4Ok (exchange_id4resok r)
+nfs_resop4 (Res.CreateSession s) = ends 43 Nfs4Ok
     (fixed 16 s.sessionid then uint32 s.sequence then uint32 s.flags then channel_attrs4 s.fore_chan_attrs then channel_attrs4 s.back_chan_attrs)
-nfs_resop4 ResDestroySession = ends 44 Nfs4Ok void
-nfs_resop4 ResFreeStateid = ends 45 Nfs4Ok void
-nfs_resop4 (ResSecinfoNoName flavors) = ends 52 Nfs4Ok (array most uint32 flavors)
-nfs_resop4 (ResSequence s) = ends 53 Nfs4Ok (fixed 16 s.sessionid then uint32 s.sequenceid then uint32 s.slotid then uint32 s.highest_slotid
+nfs_resop4 Res.DestroySession = ends 44 Nfs4Ok void
+nfs_resop4 Res.FreeStateid = ends 45 Nfs4Ok void
+nfs_resop4 (Res.SecinfoNoName flavors) = ends 52 Nfs4Ok (array most uint32 flavors)
+nfs_resop4 (Res.Sequence s) = ends 53 Nfs4Ok (fixed 16 s.sessionid then uint32 s.sequenceid then uint32 s.slotid then uint32 s.highest_slotid
     then uint32 s.target_highest_slotid then uint32 s.status_flags)
-nfs_resop4 (ResTestStateid codes) = ends 55 Nfs4Ok (array most nfsstat4 codes)
-nfs_resop4 ResDestroyClientId = ends 57 Nfs4Ok void
-nfs_resop4 ResReclaimComplete = ends 58 Nfs4Ok void
-nfs_resop4 (Refused operation status) = ends operation status (void provided IsTrue (can_refuse operation status))
+nfs_resop4 (Res.TestStateid codes) = ends 55 Nfs4Ok (array most nfsstat4 codes)
+nfs_resop4 Res.DestroyClientId = ends 57 Nfs4Ok void
+nfs_resop4 Res.ReclaimComplete = ends 58 Nfs4Ok void
+nfs_resop4 (Res.Refused operation status) = ends operation status (void provided IsTrue (can_refuse operation status))
 
 -- A result, and the result of a compound (RFC 8881 section 16.2.2): its status, the tag of its call and the results of the operations that were run.
 

@@ -7,7 +7,6 @@ ghost use Rattle.nfs_xdr.specs.Text.{IsBytes};
 ghost use Rattle.nfs_xdr.specs.Combinators.{passed};
 ghost use Rattle.nfs_xdr.specs.Readers.{ReadsPartBy};
 ghost use Rattle.nfs_results.specs.Items as table;
-ghost use Rattle.nfs_results.specs.View as view;
 
 use crate::item_reading::entry;
 use crate::res::Entry;
@@ -22,7 +21,7 @@ pub struct Entries<'a> {
 
 impl<'a> Model for Entries<'a> {
     ghost use Rattle.std.specs.Prelude.{List};
-    ghost use Rattle.nfs_results.specs.Result.{Entry};
+    ghost use Rattle.nfs_results.specs.declared.res.Entry.{Entry};
     ghost use Rattle.nfs_results.specs.Entries.{entries_in, AreEntries};
 
     ghost Value = { List Entry };
@@ -43,7 +42,7 @@ impl<'a> Entries<'a> {
 
     /// Takes the first entry that is left; `None` behind the last.
     pub fn next(&mut self) -> Option<Entry<'a>>
-        ensures { MatchOption result ((self.old ≡ []) × (self.new ≡ [])) (λ e. self.old ≡ view.entry e ∷ self.new) }
+        ensures { MatchOption result ((self.old ≡ []) × (self.new ≡ [])) (λ e. self.old ≡ e ∷ self.new) }
     {
         let mut cursor = Cursor::new(self.spelled);
         let more = match cursor.flag() {

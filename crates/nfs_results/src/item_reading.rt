@@ -5,15 +5,15 @@ ghost use Rattle.std.specs.Int.{w32, from_be_bytes};
 ghost use Rattle.nfs_xdr.specs.Readers.{ReadsPartBy};
 ghost use Rattle.nfs_xdr.specs.StatusCodec.{status_of};
 ghost use Rattle.nfs_results.specs.Items as table;
-ghost use Rattle.nfs_results.specs.View as view;
+ghost use Rattle.nfs_results.specs.Listing as listing;
 
 use crate::entries::Entries;
 use crate::item_writing::{OPEN_DELEGATE_NONE, RESULT_FLAGS};
 use crate::res::{
     AccessOk, AttrSet, ChangeInfo, CreateOk, CreateSessionOk, Denied, Entry, ExchangeIdOk, Fattr,
-    Flavors, OpenOk, ReadDirOk, ReadOk, RenameOk, SequenceOk, StatusCodes, WriteOk,
+    OpenOk, ReadDirOk, ReadOk, RenameOk, SequenceOk, Words, WriteOk,
 };
-use nfs_compound::{ChannelAttrs, LockType, SP4_NONE, StableHow, StateOwner, Stateid};
+use nfs_compound::{ChannelAttrs, Lent, LockType, SP4_NONE, StableHow, StateOwner, Stateid};
 use nfs_xdr::{Cursor, OPAQUE_LIMIT, Status, Unreadable};
 
 /// A number that is always the same.
@@ -52,7 +52,7 @@ pub(crate) fn change_info(c: &mut Cursor<'_>) -> Result<ChangeInfo, Unreadable>
 /// A set of attributes below 96, with no word at its end that is zero.
 #[tactic(auto, unfolding(crate::specs::Items::attr_set))]
 pub(crate) fn attr_set(c: &mut Cursor<'_>) -> Result<AttrSet, Unreadable>
-    ensures { ReadsPartBy view.attr_set result (table.attr_set.read c.old) c.new }
+    ensures { ReadsPartBy (λ x. x) result (table.attr_set.read c.old) c.new }
 {
     let words = match c.u32()? {
         0 => [0, 0, 0],
@@ -61,7 +61,7 @@ pub(crate) fn attr_set(c: &mut Cursor<'_>) -> Result<AttrSet, Unreadable>
         3 => [c.u32()?, c.u32()?, last_word(c)?],
         _ => return Err(Unreadable),
     };
-    Ok(AttrSet { words })
+    Ok(AttrSet::of(words))
 }
 
 /// A number that is not zero.
@@ -77,7 +77,7 @@ fn last_word(c: &mut Cursor<'_>) -> Result<u32, Unreadable>
 
 #[tactic(auto, unfolding(crate::specs::Items::create))]
 pub(crate) fn create(c: &mut Cursor<'_>) -> Result<CreateOk, Unreadable>
-    ensures { ReadsPartBy view.create result (table.create.read c.old) c.new }
+    ensures { ReadsPartBy (λ x. x) result (table.create.read c.old) c.new }
 {
     let cinfo = change_info(c)?;
     let attrset = attr_set(c)?;
@@ -86,10 +86,10 @@ pub(crate) fn create(c: &mut Cursor<'_>) -> Result<CreateOk, Unreadable>
 
 #[tactic(auto, unfolding(crate::specs::Items::fattr))]
 pub(crate) fn fattr<'a>(c: &mut Cursor<'a>) -> Result<Fattr<'a>, Unreadable>
-    ensures { ReadsPartBy view.fattr result (table.fattr.read c.old) c.new }
+    ensures { ReadsPartBy (λ x. x) result (table.fattr.read c.old) c.new }
 {
     let attrmask = attr_set(c)?;
-    let attr_vals = c.opaque(u32::MAX)?;
+    let attr_vals = Lent::read(c, u32::MAX)?;
     Ok(Fattr {
         attrmask,
         attr_vals,
@@ -98,7 +98,7 @@ pub(crate) fn fattr<'a>(c: &mut Cursor<'a>) -> Result<Fattr<'a>, Unreadable>
 
 #[tactic(auto, unfolding(crate::specs::Items::denied))]
 pub(crate) fn denied<'a>(c: &mut Cursor<'a>) -> Result<Denied<'a>, Unreadable>
-    ensures { ReadsPartBy view.denied result (table.denied.read c.old) c.new }
+    ensures { ReadsPartBy (λ x. x) result (table.denied.read c.old) c.new }
 {
     let offset = c.u64()?;
     let length = c.u64()?;
@@ -114,7 +114,7 @@ pub(crate) fn denied<'a>(c: &mut Cursor<'a>) -> Result<Denied<'a>, Unreadable>
 
 #[tactic(auto, unfolding(crate::specs::Items::open_ok))]
 pub(crate) fn open_ok(c: &mut Cursor<'_>) -> Result<OpenOk, Unreadable>
-    ensures { ReadsPartBy view.open_ok result (table.open_ok.read c.old) c.new }
+    ensures { ReadsPartBy (λ x. x) result (table.open_ok.read c.old) c.new }
 {
     let stateid = Stateid::read(c)?;
     let cinfo = change_info(c)?;
@@ -130,19 +130,19 @@ pub(crate) fn open_ok(c: &mut Cursor<'_>) -> Result<OpenOk, Unreadable>
 
 #[tactic(auto, unfolding(crate::specs::Items::read_ok))]
 pub(crate) fn read_ok<'a>(c: &mut Cursor<'a>) -> Result<ReadOk<'a>, Unreadable>
-    ensures { ReadsPartBy view.read_ok result (table.read_ok.read c.old) c.new }
+    ensures { ReadsPartBy (λ x. x) result (table.read_ok.read c.old) c.new }
 {
     let eof = c.flag()?;
-    let data = c.opaque(u32::MAX)?;
-    Ok(ReadOk { eof, data })
+    let bytes = Lent::read(c, u32::MAX)?;
+    Ok(ReadOk { eof, bytes })
 }
 
 #[tactic(auto, unfolding(crate::specs::Items::entry))]
 pub(crate) fn entry<'a>(c: &mut Cursor<'a>) -> Result<Entry<'a>, Unreadable>
-    ensures { ReadsPartBy view.entry result (table.entry.read c.old) c.new }
+    ensures { ReadsPartBy (λ x. x) result (table.entry.read c.old) c.new }
 {
     let cookie = c.u64()?;
-    let name = c.opaque(u32::MAX)?;
+    let name = Lent::read(c, u32::MAX)?;
     let attrs = fattr(c)?;
     Ok(Entry {
         cookie,
@@ -151,9 +151,9 @@ pub(crate) fn entry<'a>(c: &mut Cursor<'a>) -> Result<Entry<'a>, Unreadable>
     })
 }
 
-#[tactic(auto, unfolding(crate::specs::Items::read_dir))]
+#[tactic(auto, unfolding(crate::specs::Listing::read_dir))]
 pub(crate) fn read_dir<'a>(c: &mut Cursor<'a>) -> Result<ReadDirOk<'a>, Unreadable>
-    ensures { ReadsPartBy view.read_dir result (table.read_dir.read c.old) c.new }
+    ensures { ReadsPartBy (λ x. x) result (listing.read_dir.read c.old) c.new }
 {
     let cookieverf = c.fixed::<8>()?;
     let entries = Entries::read(c)?;
@@ -193,15 +193,15 @@ pub(crate) fn write_ok(c: &mut Cursor<'_>) -> Result<WriteOk, Unreadable>
 
 #[tactic(auto, unfolding(crate::specs::Items::exchange_id))]
 pub(crate) fn exchange_id<'a>(c: &mut Cursor<'a>) -> Result<ExchangeIdOk<'a>, Unreadable>
-    ensures { ReadsPartBy view.exchange_id result (table.exchange_id.read c.old) c.new }
+    ensures { ReadsPartBy (λ x. x) result (table.exchange_id.read c.old) c.new }
 {
     let clientid = c.u64()?;
     let sequenceid = c.u32()?;
     let flags = c.u32()?;
     always(SP4_NONE, c)?;
     let minor_id = c.u64()?;
-    let major_id = c.opaque(OPAQUE_LIMIT)?;
-    let server_scope = c.opaque(OPAQUE_LIMIT)?;
+    let major_id = Lent::read(c, OPAQUE_LIMIT)?;
+    let server_scope = Lent::read(c, OPAQUE_LIMIT)?;
     always(0, c)?;
     Ok(ExchangeIdOk {
         clientid,
@@ -232,11 +232,11 @@ pub(crate) fn create_session(c: &mut Cursor<'_>) -> Result<CreateSessionOk, Unre
 }
 
 #[tactic(auto, unfolding(crate::specs::Items::flavors))]
-pub(crate) fn flavors<'a>(c: &mut Cursor<'a>) -> Result<Flavors<'a>, Unreadable>
-    ensures { ReadsPartBy view.flavors result (table.flavors.read c.old) c.new }
+pub(crate) fn flavors<'a>(c: &mut Cursor<'a>) -> Result<Words<'a>, Unreadable>
+    ensures { ReadsPartBy (λ x. x) result (table.flavors.read c.old) c.new }
 {
     let spelled = c.pieces::<4>()?;
-    Ok(Flavors { spelled })
+    Ok(Words::of(spelled))
 }
 
 #[tactic(auto, unfolding(crate::specs::Items::sequence))]
@@ -260,14 +260,14 @@ pub(crate) fn sequence(c: &mut Cursor<'_>) -> Result<SequenceOk, Unreadable>
 }
 
 #[tactic(auto, unfolding(crate::specs::Items::status_codes))]
-pub(crate) fn status_codes<'a>(c: &mut Cursor<'a>) -> Result<StatusCodes<'a>, Unreadable>
-    ensures { ReadsPartBy view.status_codes result (table.status_codes.read c.old) c.new }
+pub(crate) fn status_codes<'a>(c: &mut Cursor<'a>) -> Result<Words<'a>, Unreadable>
+    ensures { ReadsPartBy (λ x. x) result (table.status_codes.read c.old) c.new }
 {
     let spelled = c.pieces::<4>()?;
     if !are_statuses(spelled) {
         return Err(Unreadable);
     }
-    Ok(StatusCodes { spelled })
+    Ok(Words::of(spelled))
 }
 
 /// Whether each of the numbers, four bytes each, is that of a status that this server answers.

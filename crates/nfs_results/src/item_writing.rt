@@ -10,11 +10,10 @@ ghost use Rattle.nfs_xdr.specs.Combinators.{optional};
 ghost use Rattle.nfs_xdr.specs.Limits.{opaque_limit};
 ghost use Rattle.nfs_compound.specs.Stateid.{stateid};
 ghost use Rattle.nfs_compound.specs.StateOwner.{state_owner};
-ghost use Rattle.nfs_compound.specs.StateOwner as owner;
 ghost use Rattle.nfs_compound.specs.ChannelAttrs.{channel_attrs};
 ghost use Rattle.nfs_compound.specs.FileArgs.{stable_how_number};
 ghost use Rattle.nfs_results.specs.Items as table;
-ghost use Rattle.nfs_results.specs.View as view;
+ghost use Rattle.nfs_results.specs.Listing as listing;
 
 use crate::res::{
     AccessOk, AttrSet, ChangeInfo, CreateOk, CreateSessionOk, Denied, ExchangeIdOk, Fattr, OpenOk,
@@ -46,12 +45,12 @@ pub(crate) fn put_stateid(s: &Stateid, out: &mut Sheet)
 
 #[tactic(auto, using(nfs_xdr::proofs::Putting::putting), unfolding(nfs_compound::specs::StateOwner::state_owner))]
 fn put_state_owner(o: &StateOwner<'_>, out: &mut Sheet)
-    requires size { length o.now.owner.now ≤ opaque_limit }
-    requires room { HasRoom out.old (state_owner.spell (owner.view o.now)) }
-    ensures { Puts out.old out.new (state_owner.spell (owner.view o.now)) }
+    requires size { length o.now.owner ≤ opaque_limit }
+    requires room { HasRoom out.old (state_owner.spell o.now) }
+    ensures { Puts out.old out.new (state_owner.spell o.now) }
 {
     out.put_u64(o.clientid);
-    out.put_opaque(o.owner);
+    out.put_opaque(o.owner.bytes());
 }
 
 #[tactic(auto, using(nfs_xdr::proofs::Putting::putting), unfolding(crate::specs::Items::access))]
@@ -76,10 +75,10 @@ pub(crate) fn put_change_info(c: &ChangeInfo, out: &mut Sheet)
 /// Puts the words up to the last that is not zero.
 #[tactic(auto, using(nfs_xdr::proofs::Putting::putting), unfolding(crate::specs::Items::attr_set))]
 pub(crate) fn put_attr_set(set: &AttrSet, out: &mut Sheet)
-    requires room { HasRoom out.old (table.attr_set.spell (view.attr_set set.now)) }
-    ensures { Puts out.old out.new (table.attr_set.spell (view.attr_set set.now)) }
+    requires room { HasRoom out.old (table.attr_set.spell set.now) }
+    ensures { Puts out.old out.new (table.attr_set.spell set.now) }
 {
-    match set.words {
+    match set.words() {
         [0, 0, 0] => out.put_u32(0),
         [first, 0, 0] => {
             out.put_u32(1);
@@ -101,8 +100,8 @@ pub(crate) fn put_attr_set(set: &AttrSet, out: &mut Sheet)
 
 #[tactic(auto, using(nfs_xdr::proofs::Putting::putting), unfolding(crate::specs::Items::create))]
 pub(crate) fn put_create(c: &CreateOk, out: &mut Sheet)
-    requires room { HasRoom out.old (table.create.spell (view.create c.now)) }
-    ensures { Puts out.old out.new (table.create.spell (view.create c.now)) }
+    requires room { HasRoom out.old (table.create.spell c.now) }
+    ensures { Puts out.old out.new (table.create.spell c.now) }
 {
     put_change_info(&c.cinfo, out);
     put_attr_set(&c.attrset, out);
@@ -110,19 +109,19 @@ pub(crate) fn put_create(c: &CreateOk, out: &mut Sheet)
 
 #[tactic(auto, using(nfs_xdr::proofs::Putting::putting), unfolding(crate::specs::Items::fattr))]
 pub(crate) fn put_fattr(f: &Fattr<'_>, out: &mut Sheet)
-    requires size { length f.now.attr_vals.now < 2 ^ 32 }
-    requires room { HasRoom out.old (table.fattr.spell (view.fattr f.now)) }
-    ensures { Puts out.old out.new (table.fattr.spell (view.fattr f.now)) }
+    requires size { length f.now.attr_vals < 2 ^ 32 }
+    requires room { HasRoom out.old (table.fattr.spell f.now) }
+    ensures { Puts out.old out.new (table.fattr.spell f.now) }
 {
     put_attr_set(&f.attrmask, out);
-    out.put_opaque(f.attr_vals);
+    out.put_opaque(f.attr_vals.bytes());
 }
 
 #[tactic(auto, using(nfs_xdr::proofs::Putting::putting), unfolding(crate::specs::Items::denied, nfs_compound::specs::ArgCodecs::lock_type))]
 pub(crate) fn put_denied(d: &Denied<'_>, out: &mut Sheet)
-    requires size { length d.now.owner.owner.now ≤ opaque_limit }
-    requires room { HasRoom out.old (table.denied.spell (view.denied d.now)) }
-    ensures { Puts out.old out.new (table.denied.spell (view.denied d.now)) }
+    requires size { length d.now.owner.owner ≤ opaque_limit }
+    requires room { HasRoom out.old (table.denied.spell d.now) }
+    ensures { Puts out.old out.new (table.denied.spell d.now) }
 {
     out.put_u64(d.offset);
     out.put_u64(d.length);
@@ -132,8 +131,8 @@ pub(crate) fn put_denied(d: &Denied<'_>, out: &mut Sheet)
 
 #[tactic(auto, using(nfs_xdr::proofs::Putting::putting), unfolding(crate::specs::Items::open_ok))]
 pub(crate) fn put_open(o: &OpenOk, out: &mut Sheet)
-    requires room { HasRoom out.old (table.open_ok.spell (view.open_ok o.now)) }
-    ensures { Puts out.old out.new (table.open_ok.spell (view.open_ok o.now)) }
+    requires room { HasRoom out.old (table.open_ok.spell o.now) }
+    ensures { Puts out.old out.new (table.open_ok.spell o.now) }
 {
     put_stateid(&o.stateid, out);
     put_change_info(&o.cinfo, out);
@@ -144,18 +143,18 @@ pub(crate) fn put_open(o: &OpenOk, out: &mut Sheet)
 
 #[tactic(auto, using(nfs_xdr::proofs::Putting::putting), unfolding(crate::specs::Items::read_ok))]
 pub(crate) fn put_read(r: &ReadOk<'_>, out: &mut Sheet)
-    requires size { length r.now.«data».now < 2 ^ 32 }
-    requires room { HasRoom out.old (table.read_ok.spell (view.read_ok r.now)) }
-    ensures { Puts out.old out.new (table.read_ok.spell (view.read_ok r.now)) }
+    requires size { length r.now.bytes < 2 ^ 32 }
+    requires room { HasRoom out.old (table.read_ok.spell r.now) }
+    ensures { Puts out.old out.new (table.read_ok.spell r.now) }
 {
     out.put_flag(r.eof);
-    out.put_opaque(r.data);
+    out.put_opaque(r.bytes.bytes());
 }
 
-#[tactic(auto, using(nfs_xdr::proofs::Putting::putting), unfolding(crate::specs::Items::read_dir))]
+#[tactic(auto, using(nfs_xdr::proofs::Putting::putting), unfolding(crate::specs::Listing::read_dir))]
 pub(crate) fn put_read_dir(r: &ReadDirOk<'_>, out: &mut Sheet)
-    requires room { HasRoom out.old (table.read_dir.spell (view.read_dir r.now)) }
-    ensures { Puts out.old out.new (table.read_dir.spell (view.read_dir r.now)) }
+    requires room { HasRoom out.old (listing.read_dir.spell r.now) }
+    ensures { Puts out.old out.new (listing.read_dir.spell r.now) }
 {
     out.put_fixed(&r.cookieverf);
     r.entries.put(out);
@@ -193,17 +192,17 @@ fn stable_number(how: StableHow) -> u32
 
 #[tactic(auto, using(nfs_xdr::proofs::Putting::putting), unfolding(crate::specs::Items::exchange_id))]
 pub(crate) fn put_exchange_id(r: &ExchangeIdOk<'_>, out: &mut Sheet)
-    requires major { length r.now.major_id.now ≤ opaque_limit }
-    requires scope { length r.now.server_scope.now ≤ opaque_limit }
-    requires room { HasRoom out.old (table.exchange_id.spell (view.exchange_id r.now)) }
-    ensures { Puts out.old out.new (table.exchange_id.spell (view.exchange_id r.now)) }
+    requires major { length r.now.major_id ≤ opaque_limit }
+    requires scope { length r.now.server_scope ≤ opaque_limit }
+    requires room { HasRoom out.old (table.exchange_id.spell r.now) }
+    ensures { Puts out.old out.new (table.exchange_id.spell r.now) }
 {
     out.put_u64(r.clientid);
     out.put_u32(r.sequenceid);
     out.put_u32(r.flags);
     out.put_u32(SP4_NONE);
     out.put_u64(r.minor_id);
-    put_names(r.major_id, r.server_scope, out);
+    put_names(r.major_id.bytes(), r.server_scope.bytes(), out);
 }
 
 /// The tail of an EXCHANGE_ID: the server's major id, its scope, and no implementation.

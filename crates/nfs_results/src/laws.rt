@@ -6,8 +6,13 @@ ghost use Rattle.std.specs.List.{flat_map};
 ghost use Rattle.nfs_xdr.specs.Spelling.{number, padding};
 ghost use Rattle.nfs_xdr.specs.declared.status.Status.{Status};
 ghost use Rattle.nfs_xdr.specs.Text.{IsBytes, ◌then◌, bool, Leads, BeginsNoOther};
-ghost use Rattle.nfs_compound.specs.declared.op_num.OpNum.TheVariants as Op;
-ghost use Rattle.nfs_results.specs.Result.{Entry, Fattr, ReadOk, ReadDirOk, Res, ResGetAttr, ResRead, ResReadDir, ResTestStateid};
+ghost use Rattle.nfs_compound.specs.declared.op_num.OpNum.TheVariants as Num;
+ghost use Rattle.nfs_results.specs.declared.res.Entry.{Entry};
+ghost use Rattle.nfs_results.specs.declared.res.Fattr.{Fattr};
+ghost use Rattle.nfs_results.specs.declared.res.ReadOk.{ReadOk};
+ghost use Rattle.nfs_results.specs.declared.res.ReadDirOk.{ReadDirOk};
+ghost use Rattle.nfs_results.specs.declared.res.Res.{Res};
+ghost use Rattle.nfs_results.specs.declared.res.Res.TheVariants as Res;
 ghost use Rattle.nfs_results.specs.Results.{spell_result, spell_compound_head, done_head};
 ghost use Rattle.nfs_results.specs.Parts.{parts};
 ghost use Rattle.nfs_results.specs.Straight.{read_head, read_end, read_dir_head, entry_text, list_end, test_stateid_head};
@@ -37,10 +42,10 @@ pub fn results()
 
 /// The parts that are put straight from where bytes are kept make up their results.
 pub fn parts()
-    ensures read { (r : ReadOk) → spell_result (ResRead r) ≡ read_head r.eof (length r.bytes) ++ (r.bytes ++ read_end (length r.bytes)) }
-    ensures listed { (r : ReadDirOk) → spell_result (ResReadDir r) ≡ read_dir_head r.cookieverf ++ (flat_map entry_text r.entries ++ list_end r.eof) }
-    ensures attributes { (f : Fattr) → spell_result (ResGetAttr f) ≡ done_head Op.GetAttr ++ (fattr4 f).bytes }
-    ensures codes { (codes : List ℕ) → spell_result (ResTestStateid codes) ≡ test_stateid_head (length codes) ++ flat_map number codes }
+    ensures read { (r : ReadOk) → spell_result (Res.Read r) ≡ read_head r.eof (length r.bytes) ++ (r.bytes ++ read_end (length r.bytes)) }
+    ensures listed { (r : ReadDirOk) → spell_result (Res.ReadDir r) ≡ read_dir_head r.cookieverf ++ (flat_map entry_text r.entries ++ list_end r.eof) }
+    ensures attributes { (f : Fattr) → spell_result (Res.GetAttr f) ≡ done_head Num.GetAttr ++ (fattr4 f).bytes }
+    ensures codes { (codes : List ℕ) → spell_result (Res.TestStateid codes) ≡ test_stateid_head (length codes) ++ flat_map number codes }
 {}
 
 /// The head of a compound's result has its status, its tag in whole words behind their number, and its count; a result has its operation's

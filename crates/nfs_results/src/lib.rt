@@ -31,7 +31,7 @@ pub use reading::can_refuse;
 pub use reply::{Reply, read_reply};
 pub use res::{
     AccessOk, AttrSet, ChangeInfo, CreateOk, CreateSessionOk, Denied, Entry, ExchangeIdOk, Fattr,
-    Flavors, OpenOk, ReadDirOk, ReadOk, RenameOk, Res, SequenceOk, StatusCodes, WriteOk,
+    OpenOk, ReadDirOk, ReadOk, RenameOk, Res, SequenceOk, Words, WriteOk,
 };
 pub use straight::{
     write_done_head, write_entry, write_list_end, write_read_dir_head, write_read_end,

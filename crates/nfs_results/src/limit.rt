@@ -3,39 +3,48 @@
 ghost use Rattle.std.specs.Prelude.{◌≡◌, ◌≤◌, ◌+◌, length};
 ghost use Rattle.nfs_xdr.specs.Spelling.{padding};
 ghost use Rattle.nfs_xdr.specs.Limits.{most_transfer};
-ghost use Rattle.nfs_compound.specs.View.{item};
-ghost use Rattle.nfs_results.specs.Result.{Res};
+ghost use Rattle.nfs_compound.specs.declared.op.Item.TheVariants.{Operation};
+ghost use Rattle.nfs_results.specs.declared.res.Res.{Res};
 ghost use Rattle.nfs_results.specs.Results.{spell_result};
 ghost use Rattle.nfs_results.specs.ResultCodec.{HasArrays};
 ghost use Rattle.nfs_results.specs.Largest as limit;
 ghost use Rattle.nfs_results.specs.MayAnswer as may_answer;
 
-use nfs_compound::Arg;
+use nfs_compound::{Item, Op};
 use nfs_xdr::MAX_TRANSFER;
 
 /// How many bytes the result of an operation takes at most, from its operation number on (this server's
 /// profile). A refusal always fits.
-pub fn largest(arg: &Arg<'_>) -> u64
-    ensures value { result ≡ limit.largest (item arg.now) }
-    ensures within { (r : Res) → HasArrays r → may_answer.MayAnswer (item arg.now) r → length (spell_result r) ≤ result }
+pub fn largest(item: &Item<'_>) -> u64
+    ensures value { result ≡ limit.largest item.now }
+    ensures within { (r : Res) → HasArrays r → may_answer.MayAnswer item.now r → length (spell_result r) ≤ result }
 {
-    size(arg)
+    size(item)
 }
 
-fn size(arg: &Arg<'_>) -> u64
-    ensures { result ≡ limit.largest (item arg.now) }
+fn size(item: &Item<'_>) -> u64
+    ensures { result ≡ limit.largest item.now }
 {
-    match arg {
-        Arg::Sequence(_) => 44,
-        Arg::CreateSession(_) => 92,
-        Arg::Read(read) => 16 + padded(given(read.count)),
-        Arg::ReadDir(listed) => 8 + u64::from(given(listed.maxcount)),
-        Arg::Lock(_) | Arg::LockT(_) => 1064,
-        Arg::ReadLink => 1036,
-        Arg::GetAttr { .. } => 640,
-        Arg::GetFh => 28,
-        Arg::Open(_) => 128,
-        Arg::TestStateid { stateids } => 12 + 4 * stateids.spelled.len() as u64,
+    match item {
+        Item::Operation(op) => size_of(op),
+        Item::Fault { .. } => 64,
+    }
+}
+
+fn size_of(op: &Op<'_>) -> u64
+    ensures { result ≡ limit.largest (Operation op.now) }
+{
+    match op {
+        Op::Sequence(_) => 44,
+        Op::CreateSession(_) => 92,
+        Op::Read(read) => 16 + padded(given(read.count)),
+        Op::ReadDir(listed) => 8 + u64::from(given(listed.maxcount)),
+        Op::Lock(_) | Op::LockT(_) => 1064,
+        Op::ReadLink => 1036,
+        Op::GetAttr { .. } => 640,
+        Op::GetFh => 28,
+        Op::Open(_) => 128,
+        Op::TestStateid { stateids } => 12 + 4 * stateids.len() as u64,
         _ => 64,
     }
 }

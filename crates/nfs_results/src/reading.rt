@@ -5,16 +5,15 @@ ghost use Rattle.nfs_xdr.specs.Readers.{ReadsPartBy};
 ghost use Rattle.nfs_xdr.specs.StatusCodec.{status};
 ghost use Rattle.nfs_results.specs.Refusals as refusals;
 ghost use Rattle.nfs_results.specs.ResultCodec as result_codec;
-ghost use Rattle.nfs_results.specs.View as view;
 
 use crate::item_reading as item;
 use crate::res::Res;
-use nfs_compound::{FIRST_OP, LAST_OP, OP_ILLEGAL, OpNum, Stateid};
+use nfs_compound::{FIRST_OP, LAST_OP, Lent, OP_ILLEGAL, OpNum, Stateid};
 use nfs_xdr::{Cursor, FHSIZE, Status, Unreadable};
 
 /// A result, from its operation number on. A refusal leaves the cursor anywhere.
 pub(crate) fn res<'a>(c: &mut Cursor<'a>) -> Result<Res<'a>, Unreadable>
-    ensures { ReadsPartBy view.res result (result_codec.result.read c.old) c.new }
+    ensures { ReadsPartBy (λ x. x) result (result_codec.result.read c.old) c.new }
 {
     let operation = c.u32()?;
     let status = status(c)?;
@@ -41,7 +40,7 @@ pub(crate) fn status(c: &mut Cursor<'_>) -> Result<Status, Unreadable>
 /// What an operation that was done has behind NFS4_OK.
 #[tactic(auto, unfolding(crate::specs::ResultCodec::done_at))]
 fn done<'a>(op: OpNum, c: &mut Cursor<'a>) -> Result<Res<'a>, Unreadable>
-    ensures { ReadsPartBy view.res result (result_codec.done_at op c.old) c.new }
+    ensures { ReadsPartBy (λ x. x) result (result_codec.done_at op c.old) c.new }
 {
     Ok(match op {
         OpNum::Access => Res::Access(item::access(c)?),
@@ -49,7 +48,7 @@ fn done<'a>(op: OpNum, c: &mut Cursor<'a>) -> Result<Res<'a>, Unreadable>
         OpNum::Commit => Res::Commit(c.fixed::<8>()?),
         OpNum::Create => Res::Create(item::create(c)?),
         OpNum::GetAttr => Res::GetAttr(item::fattr(c)?),
-        OpNum::GetFh => Res::GetFh(c.opaque(FHSIZE)?),
+        OpNum::GetFh => Res::GetFh(Lent::read(c, FHSIZE)?),
         OpNum::Link => Res::Link(item::change_info(c)?),
         OpNum::Lock => Res::Lock(Stateid::read(c)?),
         OpNum::LockT => Res::LockT,
@@ -64,7 +63,7 @@ fn done<'a>(op: OpNum, c: &mut Cursor<'a>) -> Result<Res<'a>, Unreadable>
         OpNum::PutRootFh => Res::PutRootFh,
         OpNum::Read => Res::Read(item::read_ok(c)?),
         OpNum::ReadDir => Res::ReadDir(item::read_dir(c)?),
-        OpNum::ReadLink => Res::ReadLink(c.opaque(u32::MAX)?),
+        OpNum::ReadLink => Res::ReadLink(Lent::read(c, u32::MAX)?),
         OpNum::Remove => Res::Remove(item::change_info(c)?),
         OpNum::Rename => Res::Rename(item::rename(c)?),
         OpNum::RestoreFh => Res::RestoreFh,
@@ -90,7 +89,7 @@ fn done<'a>(op: OpNum, c: &mut Cursor<'a>) -> Result<Res<'a>, Unreadable>
 /// What an operation that was refused has behind its status.
 #[tactic(auto, unfolding(crate::specs::ResultCodec::refused_at))]
 fn refused<'a>(operation: u32, status: Status, c: &mut Cursor<'a>) -> Result<Res<'a>, Unreadable>
-    ensures { ReadsPartBy view.res result (result_codec.refused_at operation status c.old) c.new }
+    ensures { ReadsPartBy (λ x. x) result (result_codec.refused_at operation status c.old) c.new }
 {
     if operation == OpNum::SetAttr.number() && status != Status::OpIllegal {
         let attrsset = item::attr_set(c)?;

@@ -5,7 +5,6 @@ ghost use Rattle.nfs_xdr.specs.Codec.{many_at};
 ghost use Rattle.nfs_results.specs.ResultCodec as table;
 ghost use Rattle.nfs_results.specs.CompoundResult.{compound_result, IsReply, IsNoReply};
 ghost use Rattle.nfs_results.specs.ReadReply.{whole, is_whole};
-ghost use Rattle.nfs_results.specs.View as view;
 
 use crate::reading;
 use crate::res::Res;
@@ -92,7 +91,7 @@ impl<'a> Reply<'a> {
 
     /// Takes the next result, in the order in which the operations were run; `None` behind the last.
     pub fn next(&mut self) -> Option<Res<'a>>
-        ensures item { MatchOption result ((self.old.results ≡ []) × (self.new.results ≡ [])) (λ r. self.old.results ≡ view.res r ∷ self.new.results) }
+        ensures item { MatchOption result ((self.old.results ≡ []) × (self.new.results ≡ [])) (λ r. self.old.results ≡ r ∷ self.new.results) }
         ensures head { self.new ≡ record self.old { results = self.new.results } }
     {
         if self.left == 0 {

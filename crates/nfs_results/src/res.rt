@@ -1,8 +1,13 @@
 //! The results of operations.
 
+ghost use Rattle.std.specs.Prelude.{◌≡◌, ◌≤◌, map, length};
+ghost use Rattle.std.specs.Int.{w32, from_be_bytes};
+ghost use Rattle.nfs_results.specs.AttrSet.{spelled};
+
 use crate::entries::Entries;
-use nfs_compound::{ChannelAttrs, LockType, StableHow, StateOwner, Stateid};
+use nfs_compound::{ChannelAttrs, Lent, LockType, StableHow, StateOwner, Stateid};
 use nfs_xdr::Status;
+use std::marker::Model;
 
 /// What an operation answers: a variant for each operation that was done, and what RFC 5662 has behind the
 /// status of one that was not.
@@ -19,7 +24,7 @@ pub enum Res<'a> {
     /// RFC 8881 section 18.7.
     GetAttr(Fattr<'a>),
     /// The filehandle, of at most 128 bytes (RFC 8881 section 18.8).
-    GetFh(&'a [u8]),
+    GetFh(Lent<'a>),
     /// The directory's change (RFC 8881 section 18.9).
     Link(ChangeInfo),
     /// The lock stateid (RFC 8881 section 18.10).
@@ -53,7 +58,7 @@ pub enum Res<'a> {
     /// RFC 8881 section 18.23.
     ReadDir(ReadDirOk<'a>),
     /// The text of the link, below 2^32 bytes (RFC 8881 section 18.24).
-    ReadLink(&'a [u8]),
+    ReadLink(Lent<'a>),
     /// The directory's change (RFC 8881 section 18.25).
     Remove(ChangeInfo),
     /// RFC 8881 section 18.26.
@@ -77,12 +82,12 @@ pub enum Res<'a> {
     DestroySession,
     /// RFC 8881 section 18.38.
     FreeStateid,
-    /// RFC 8881 section 18.45.
-    SecinfoNoName(Flavors<'a>),
+    /// The security flavors of a directory (RFC 8881 sections 18.45.2 and 18.29.2).
+    SecinfoNoName(Words<'a>),
     /// RFC 8881 section 18.46.
     Sequence(SequenceOk),
-    /// RFC 8881 section 18.48.
-    TestStateid(StatusCodes<'a>),
+    /// The number of a status for each stateid that was asked for (RFC 8881 section 18.48.2).
+    TestStateid(Words<'a>),
     /// RFC 8881 section 18.50.
     DestroyClientId,
     /// RFC 8881 section 18.51.
@@ -108,16 +113,41 @@ pub struct ChangeInfo {
     pub after: u64,
 }
 
-/// A set of attributes below number 96 (bitmap4, RFC 8881 section 3.2). It is spelled without zero words at
-/// its end.
-#[derive(Clone, Copy)]
+/// A set of attributes below number 96 (bitmap4, RFC 8881 section 3.2): bit `i` of word `w` is attribute `32 * w + i`.
+/// Contracts see the words that are spelled: those up to the last that is not zero.
+#[derive(Drop)]
 pub struct AttrSet {
-    /// Bit `i` of word `w` is attribute `32 * w + i`.
-    pub words: [u32; 3],
+    words: [u32; 3],
+}
+
+impl Model for AttrSet {
+    ghost use Rattle.std.specs.Prelude.{ℕ, List};
+    ghost use Rattle.nfs_results.specs.AttrSet.{spelled};
+
+    ghost Value = { List ℕ };
+
+    ghost view = { λ s. spelled s.words };
+}
+
+impl AttrSet {
+    /// The set of these words.
+    pub fn of(words: [u32; 3]) -> Self
+        ensures { result ≡ spelled words }
+    {
+        AttrSet { words }
+    }
+
+    /// Its three words.
+    pub fn words(&self) -> [u32; 3]
+        ensures value { spelled result ≡ self.now }
+        ensures bound { length self.now ≤ 3 }
+    {
+        self.words
+    }
 }
 
 /// An object that was made (RFC 8881 section 18.4.2).
-#[derive(Clone, Copy)]
+#[derive(Drop)]
 pub struct CreateOk {
     /// The directory's change.
     pub cinfo: ChangeInfo,
@@ -126,15 +156,15 @@ pub struct CreateOk {
 }
 
 /// Attributes and their values (fattr4, RFC 8881 section 3.3.7).
-#[derive(Clone, Copy)]
+#[derive(Drop)]
 pub struct Fattr<'a> {
     pub attrmask: AttrSet,
     /// The values, one behind the other in rising order of attribute: below 2^32 bytes.
-    pub attr_vals: &'a [u8],
+    pub attr_vals: Lent<'a>,
 }
 
 /// The lock that is in the way (RFC 8881 section 18.10.2).
-#[derive(Clone, Copy)]
+#[derive(Drop)]
 pub struct Denied<'a> {
     /// Its first byte.
     pub offset: u64,
@@ -149,7 +179,7 @@ pub struct Denied<'a> {
 /// A file that was opened, with no delegation (RFC 8881 section 18.16.2). Its locks are POSIX locks, and it
 /// stays while it is open (OPEN4_RESULT_LOCKTYPE_POSIX and OPEN4_RESULT_PRESERVE_UNLINKED; this server's
 /// profile).
-#[derive(Clone, Copy)]
+#[derive(Drop)]
 pub struct OpenOk {
     /// The open stateid.
     pub stateid: Stateid,
@@ -160,12 +190,12 @@ pub struct OpenOk {
 }
 
 /// Bytes of a file (RFC 8881 section 18.22.2).
-#[derive(Clone, Copy)]
+#[derive(Drop)]
 pub struct ReadOk<'a> {
     /// Whether what is given ends where the file does.
     pub eof: bool,
     /// Below 2^32 bytes.
-    pub data: &'a [u8],
+    pub bytes: Lent<'a>,
 }
 
 /// Entries of a directory (RFC 8881 section 18.23.2).
@@ -178,11 +208,11 @@ pub struct ReadDirOk<'a> {
 }
 
 /// An entry of a directory (entry4, RFC 8881 section 18.23.2).
-#[derive(Clone, Copy)]
+#[derive(Drop)]
 pub struct Entry<'a> {
     pub cookie: u64,
     /// Below 2^32 bytes.
-    pub name: &'a [u8],
+    pub name: Lent<'a>,
     pub attrs: Fattr<'a>,
 }
 
@@ -207,7 +237,7 @@ pub struct WriteOk {
 
 /// A granted EXCHANGE_ID, with no state protection and no implementation named (RFC 8881 section 18.35.2;
 /// this server's profile).
-#[derive(Clone, Copy)]
+#[derive(Drop)]
 pub struct ExchangeIdOk<'a> {
     /// The client id.
     pub clientid: u64,
@@ -218,9 +248,9 @@ pub struct ExchangeIdOk<'a> {
     /// The minor id of the server's owner.
     pub minor_id: u64,
     /// The major id of the server's owner: at most 1,024 bytes.
-    pub major_id: &'a [u8],
+    pub major_id: Lent<'a>,
     /// At most 1,024 bytes.
-    pub server_scope: &'a [u8],
+    pub server_scope: Lent<'a>,
 }
 
 /// A session that was made (RFC 8881 section 18.36.2).
@@ -235,11 +265,35 @@ pub struct CreateSessionOk {
     pub back_chan_attrs: ChannelAttrs,
 }
 
-/// The security flavors of a directory, lent (RFC 8881 section 18.45.2, 18.29.2).
-#[derive(Clone, Copy)]
-pub struct Flavors<'a> {
-    /// Each as it is spelled: big-endian. Fewer than 2^32.
-    pub spelled: &'a [[u8; 4]],
+/// Words, lent: fewer than 2^32. Contracts see them one after the other.
+#[derive(Drop)]
+pub struct Words<'a> {
+    spelled: &'a [[u8; 4]],
+}
+
+impl<'a> Model for Words<'a> {
+    ghost use Rattle.std.specs.Prelude.{ℕ, List, map};
+    ghost use Rattle.std.specs.Int.{w32, from_be_bytes};
+
+    ghost Value = { List ℕ };
+
+    ghost view = { λ w. map (from_be_bytes w32) w.spelled.now };
+}
+
+impl<'a> Words<'a> {
+    /// The words that are spelled so, each big-endian.
+    pub fn of(spelled: &'a [[u8; 4]]) -> Self
+        ensures { result ≡ map (from_be_bytes w32) spelled.now }
+    {
+        Words { spelled }
+    }
+
+    /// Each as it is spelled: big-endian.
+    pub fn spelled(&self) -> &'a [[u8; 4]]
+        ensures { map (from_be_bytes w32) result.now ≡ self.now }
+    {
+        self.spelled
+    }
 }
 
 /// An accepted SEQUENCE (RFC 8881 section 18.46.2).
@@ -252,11 +306,4 @@ pub struct SequenceOk {
     pub target_highest_slotid: u32,
     /// SEQ4_STATUS bits.
     pub status_flags: u32,
-}
-
-/// What became of the stateids that were asked for, lent (RFC 8881 section 18.48.2).
-#[derive(Clone, Copy)]
-pub struct StatusCodes<'a> {
-    /// The number of a status each, as it is spelled: big-endian. Fewer than 2^32.
-    pub spelled: &'a [[u8; 4]],
 }

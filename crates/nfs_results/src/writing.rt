@@ -6,7 +6,6 @@ ghost use Rattle.nfs_xdr.specs.Status.{status_number};
 ghost use Rattle.nfs_results.specs.Results.{spell_result, head, operation_of, status_of_result, refusal};
 ghost use Rattle.nfs_results.specs.ResultCodec.{IsBounded, HasArrays};
 ghost use Rattle.nfs_results.specs.Parts.{parts};
-ghost use Rattle.nfs_results.specs.View as view;
 
 use crate::item_writing::{
     put_access, put_attr_set, put_change_info, put_create, put_create_session, put_denied,
@@ -21,9 +20,9 @@ use nfs_xdr::{Sheet, Status};
 /// result has a spelling: no opaque is above its bound, and a refusal is one that a reply can bear.
 #[tactic(auto, using(nfs_xdr::proofs::Putting::putting))]
 pub fn write(res: &Res<'_>, out: &mut Sheet)
-    requires bounds { IsBounded (view.res res.now) }
-    requires room { HasArrays (view.res res.now) → HasRoom out.old (spell_result (view.res res.now)) }
-    ensures { Puts out.old out.new (spell_result (view.res res.now)) }
+    requires bounds { IsBounded res.now }
+    requires room { HasArrays res.now → HasRoom out.old (spell_result res.now) }
+    ensures { Puts out.old out.new (spell_result res.now) }
 {
     measure(res);
     put_head(res.operation(), res.status(), out);
@@ -41,7 +40,7 @@ pub(crate) fn put_head(operation: u32, status: Status, out: &mut Sheet)
 
 /// Looks at the arrays, which are as long as their types say.
 fn measure(res: &Res<'_>) -> usize
-    ensures { HasArrays (view.res res.now) }
+    ensures { HasArrays res.now }
 {
     match res {
         Res::Close(stateid)
@@ -67,9 +66,9 @@ fn measured<const N: usize>(array: &[u8; N]) -> usize
 /// What stands behind the status.
 #[tactic(auto, using(nfs_xdr::proofs::Putting::putting, crate::proofs::Nothing::puts_nothing), unfolding(crate::specs::Items::flavors, crate::specs::Items::status_codes))]
 fn put_behind(res: &Res<'_>, out: &mut Sheet)
-    requires bounds { IsBounded (view.res res.now) }
-    requires room { HasRoom out.old (parts (view.res res.now)).behind }
-    ensures { Puts out.old out.new (parts (view.res res.now)).behind }
+    requires bounds { IsBounded res.now }
+    requires room { HasRoom out.old (parts res.now).behind }
+    ensures { Puts out.old out.new (parts res.now).behind }
 {
     match res {
         Res::Access(access) => put_access(access, out),
@@ -80,21 +79,21 @@ fn put_behind(res: &Res<'_>, out: &mut Sheet)
         Res::Commit(writeverf) => out.put_fixed(writeverf),
         Res::Create(created) => put_create(created, out),
         Res::GetAttr(attributes) => put_fattr(attributes, out),
-        Res::GetFh(object) => out.put_opaque(object),
+        Res::GetFh(object) => out.put_opaque(object.bytes()),
         Res::Link(cinfo) | Res::Remove(cinfo) => put_change_info(cinfo, out),
         Res::LockDenied(denied) | Res::LockTDenied(denied) => put_denied(denied, out),
         Res::Open(opened) => put_open(opened, out),
         Res::Read(read) => put_read(read, out),
         Res::ReadDir(listed) => put_read_dir(listed, out),
-        Res::ReadLink(link) => out.put_opaque(link),
+        Res::ReadLink(link) => out.put_opaque(link.bytes()),
         Res::Rename(renamed) => put_rename(renamed, out),
         Res::SetAttr { attrsset, .. } => put_attr_set(attrsset, out),
         Res::Write(written) => put_write(written, out),
         Res::ExchangeId(granted) => put_exchange_id(granted, out),
         Res::CreateSession(made) => put_create_session(made, out),
-        Res::SecinfoNoName(flavors) => put_numbers(flavors.spelled, out),
+        Res::SecinfoNoName(flavors) => put_numbers(flavors.spelled(), out),
         Res::Sequence(accepted) => put_sequence(accepted, out),
-        Res::TestStateid(codes) => put_numbers(codes.spelled, out),
+        Res::TestStateid(codes) => put_numbers(codes.spelled(), out),
         Res::LockT
         | Res::Lookup
         | Res::LookupP
@@ -117,10 +116,10 @@ impl Res<'_> {
     /// How an operation of this number is refused with nothing beside that: SETATTR reports that it set no
     /// attribute (RFC 8881 section 18.30.2).
     pub fn refusal(operation: u32, status: Status) -> Res<'static>
-        ensures { view.res result ≡ refusal operation status }
+        ensures { result ≡ refusal operation status }
     {
         if operation == OpNum::SetAttr.number() {
-            let attrsset = AttrSet { words: [0, 0, 0] };
+            let attrsset = AttrSet::of([0, 0, 0]);
             return Res::SetAttr { status, attrsset };
         }
         Res::Refused { operation, status }
@@ -128,7 +127,7 @@ impl Res<'_> {
 
     /// The number of its operation (RFC 5662).
     pub fn operation(&self) -> u32
-        ensures { result ≡ operation_of (view.res self.now) }
+        ensures { result ≡ operation_of self.now }
     {
         let op = match self {
             Res::Access(_) => OpNum::Access,
@@ -175,7 +174,7 @@ impl Res<'_> {
 
     /// How the operation ended.
     pub fn status(&self) -> Status
-        ensures { result ≡ status_of_result (view.res self.now) }
+        ensures { result ≡ status_of_result self.now }
     {
         match self {
             Res::LockDenied(_) | Res::LockTDenied(_) => Status::Denied,

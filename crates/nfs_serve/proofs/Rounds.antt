@@ -1,5 +1,5 @@
 -- One more sweep, and what stands on the ports when one of them changes.
-use Rattle.std.proofs.Common.{◌≡◌, ◌≢◌, ℕ, ◌<◌, ◌≤◌, List, [], ◌∷◌, ◌++◌, length, map, set, get_or, flat_map, Option, refl, sym, ap, subst, ◌∙◌, append-nil, length-append, arith, ◌+◌, ◌⊎◌, true, false, eqb, inl, inr}
+use Rattle.std.proofs.Common.{◌≡◌, ◌≢◌, ℕ, ◌<◌, List, [], ◌∷◌, ◌++◌, length, map, set, get_or, flat_map, Option, refl, sym, ap, subst, ◌∙◌, append-nil, length-append, arith, ◌+◌, ◌⊎◌, true, false, eqb, inl, inr}
 use Rattle.std.proofs.lemmas.Bool.Decides.{eqb_tells}
 use Rattle.std.proofs.lemmas.List.{map-set, get_or-set_same, get_or-set_other, get_or-map, length-map}
 use Rattle.std.proofs.lemmas.List.Concat.{flat_map-append}

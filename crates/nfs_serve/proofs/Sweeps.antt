@@ -6,7 +6,7 @@ use Rattle.std.specs.Io.KnownBytes.{Appends}
 use Rattle.std.proofs.KnownBytes.{Appends-nil, Appends-trans}
 use Rattle.nfs_serve.specs.Step.{State}
 use Rattle.nfs_serve.specs.Script.{last_connection, connection_count}
-use Rattle.nfs_serve.specs.Desk.{Desk, opened, Act, Opened, HasMore, EndsTurn, most_steps, step_count}
+use Rattle.nfs_serve.specs.Desk.{opened, Act, Opened, HasMore, EndsTurn, most_steps, step_count}
 use Rattle.nfs_serve.specs.Deeds.{Deed, Logs}
 use Rattle.nfs_serve.specs.Lane.{desk_of, desks_of, Advances, Passes, Visits}
 use Rattle.nfs_serve.specs.declared.lane.Lane.{Lane}

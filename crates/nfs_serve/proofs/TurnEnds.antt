@@ -1,6 +1,6 @@
 -- How a turn ends, by what it stepped and left.
-use Rattle.std.proofs.Common.{◌≡◌, ℕ, ◌+◌, ◌-◌, ◌<◌, ◌≤◌, List, [], ◌∷◌, ◌++◌, length, true, false, inl, inr, refl, ap, subst, arith}
-use Rattle.nfs_serve.specs.Desk.{Desk, Act, Stepped, most_steps, most_taken, step_count, taken_by, taken_count, StepsBefore, HasMore, IsStuck, Reads, ReadsOnce, EndsTurn}
+use Rattle.std.proofs.Common.{◌≡◌, ℕ, ◌-◌, ◌<◌, ◌≤◌, List, [], ◌∷◌, ◌++◌, length, true, false, inl, inr, refl, ap, subst, arith}
+use Rattle.nfs_serve.specs.Desk.{Desk, Act, Stepped, most_steps, most_taken, step_count, taken_by, taken_count, StepsBefore, IsStuck, Reads, ReadsOnce, EndsTurn}
 use Rattle.nfs_serve.specs.declared.lane.Budget.{Budget}
 use Rattle.nfs_serve.specs.Lane.{StepsWithin, Spends, HasHadEnough}
 

@@ -1,6 +1,6 @@
 -- Many connections over one server: the ports have their turns in the order of their numbers, sweep after sweep. Who is ready, and who
 -- begins, comes from outside.
-use Rattle.std.specs.Prelude.{length, ◌≡◌, ◌≢◌, ◌<◌, ◌≤◌, ◌⊎◌, ◌^◌, ◌-◌, ℕ, suc, ◌+◌, List, [], ◌∷◌, flat_map, get_or, Option}
+use Rattle.std.specs.Prelude.{length, ◌≡◌, ◌≢◌, ◌≤◌, ◌⊎◌, ◌^◌, ◌-◌, ℕ, suc, ◌+◌, List, [], ◌∷◌, flat_map, get_or, Option}
 use Rattle.std.specs.Io.KnownBytes.{Appends}
 use Rattle.nfs_serve.specs.Step.{State}
 use Rattle.nfs_serve.specs.Script.{last_connection, connection_count}

@@ -1,5 +1,5 @@
 -- What a port's fields stand for, and how far its functions bring it; private contracts alone speak of it.
-use Rattle.std.specs.Prelude.{◌≡◌, ◌⊎◌, ℕ, ◌+◌, ◌-◌, ◌<◌, ◌≤◌, List, [], ◌∷◌, ◌++◌, length, map, filter, flat_map, Bool, true, false, Option}
+use Rattle.std.specs.Prelude.{◌≡◌, ◌⊎◌, ℕ, ◌+◌, ◌-◌, ◌<◌, List, [], ◌∷◌, ◌++◌, length, map, filter, flat_map, true, false, Option}
 use Rattle.std.specs.Io.KnownBytes.{Appends}
 use Rattle.nfs_rpc.specs.RecordMarking.{is_too_long}
 use Rattle.nfs_serve.specs.Step.{State}

@@ -5,7 +5,7 @@ use Rattle.nfs_xdr.specs.SheetState.{SheetState, HasRoom, Puts}
 use Rattle.nfs_xdr.specs.declared.status.Status.{Status}
 use Rattle.nfs_xdr.specs.declared.status.Status.TheVariants.{Nfs4Ok}
 use Rattle.nfs_results.specs.OpenHead.{HeadsAt, HasHead}
-use Rattle.nfs_results.specs.Result.{Res}
+use Rattle.nfs_results.specs.declared.res.Res.{Res}
 use Rattle.nfs_results.specs.Results.{operation_of, spell_result, spell_compound_head}
 use Rattle.nfs_results.specs.ResultCodec.{HasArrays}
 use Rattle.nfs_results.specs.Largest.{largest_of}

@@ -3,26 +3,28 @@
 use crate::names::{create_form, is_of_files, is_of_names};
 use crate::opens::{is_held, is_of_opens, lock_form, open_form};
 use crate::words::{A, B, SESSION};
-use nfs_compound::{Arg, ChannelAttrs, Compound, CreateSession, ExchangeId, SecinfoStyle};
+use nfs_compound::{
+    ChannelAttrs, Compound, CreateSession, ExchangeId, Item, Op, SecinfoStyle, Stateid,
+};
 use nfs_testing::bytes_of;
 use std::alloc::{AllocError, Global};
 use std::test::Fail;
 
 /// Which form of its operation this is, by the number that RFC 5662 has for that, if each field is what the words say.
-fn form_of(arg: &Arg<'_>) -> Option<u32> {
-    match arg {
-        Arg::Open(open) => open_form(open),
-        Arg::Lock(lock) => lock_form(lock),
-        Arg::Create(create) => create_form(create),
-        Arg::ExchangeId(asked) => exchange_id_form(asked),
-        Arg::CreateSession(asked) => create_session_form(asked),
-        Arg::SecinfoNoName { style } => Some(style_form(style)),
-        _ => is_of_one_form(arg).then_some(0),
+fn form_of(op: &Op<'_>) -> Option<u32> {
+    match op {
+        Op::Open(open) => open_form(open),
+        Op::Lock(lock) => lock_form(lock),
+        Op::Create(create) => create_form(create),
+        Op::ExchangeId(asked) => exchange_id_form(asked),
+        Op::CreateSession(asked) => create_session_form(asked),
+        Op::SecinfoNoName { style } => Some(style_form(style)),
+        _ => is_of_one_form(op).then_some(0),
     }
 }
 
-fn is_of_one_form(arg: &Arg<'_>) -> bool {
-    is_of_sessions(arg) || is_of_opens(arg) || is_of_files(arg) || is_of_names(arg)
+fn is_of_one_form(op: &Op<'_>) -> bool {
+    is_of_sessions(op) || is_of_opens(op) || is_of_files(op) || is_of_names(op)
 }
 
 fn style_form(it: &SecinfoStyle) -> u32 {
@@ -34,12 +36,16 @@ fn style_form(it: &SecinfoStyle) -> u32 {
 
 /// How many implementations it names.
 fn exchange_id_form(it: &ExchangeId<'_>) -> Option<u32> {
-    if it.verifier != [0, 0, 0, 1, 0, 0, 0, 2] || it.ownerid != b"a".as_slice() || it.flags != 3 {
+    if it.verifier != [0, 0, 0, 1, 0, 0, 0, 2]
+        || it.ownerid.bytes() != b"a".as_slice()
+        || it.flags != 3
+    {
         return None;
     }
-    match it.impl_id {
+    match &it.impl_id {
         None => Some(0),
-        Some(by) if by.domain != b"b".as_slice() || by.name != b"a".as_slice() => None,
+        Some(by) if by.domain.bytes() != b"b".as_slice() || by.name.bytes() != b"a".as_slice() =>
+            None,
         Some(by) => ((by.date.seconds, by.date.nanoseconds) == (-2, 6)).then_some(1),
     }
 }
@@ -49,7 +55,7 @@ fn create_session_form(it: &CreateSession<'_>) -> Option<u32> {
     let numbers = (it.clientid, it.sequence, it.flags, it.cb_program);
     let is_fore = sizes(&it.fore_chan_attrs) == [10, 11, 12, 13, 14, 15, 16];
     let is_back = sizes(&it.back_chan_attrs) == [20, 21, 22, 23, 24, 25, 0];
-    let parameters = match it.sec_parms.len() {
+    let parameters = match it.sec_parms.bytes().len() {
         8 => 1,
         68 => 3,
         _ => return None,
@@ -69,18 +75,23 @@ fn sizes(it: &ChannelAttrs) -> [u32; 7] {
     ]
 }
 
-fn is_of_sessions(arg: &Arg<'_>) -> bool {
-    match arg {
-        Arg::DestroySession { sessionid } => *sessionid == SESSION,
-        Arg::Sequence(it) => {
+/// Whether the stateid is spelled like the session id.
+fn is_first(it: &Stateid) -> bool {
+    it.seqid == 1 && it.other == [0, 0, 0, 2, 0, 0, 0, 3, 0, 0, 0, 4]
+}
+
+fn is_of_sessions(op: &Op<'_>) -> bool {
+    match op {
+        Op::DestroySession { sessionid } => *sessionid == SESSION,
+        Op::Sequence(it) => {
             let numbers = (it.sequenceid, it.slotid, it.highest_slotid, it.cachethis);
             it.sessionid == SESSION && numbers == (5, 6, 7, true)
         }
-        Arg::DestroyClientId { clientid } => *clientid == 0x0000_0001_0000_0002,
-        Arg::ReclaimComplete { one_fs } => *one_fs,
-        Arg::FreeStateid { stateid } => is_held(stateid),
-        Arg::TestStateid { stateids } => {
-            stateids.len() == 2 && is_held(&stateids.get(1)) && stateids.spelled[0] == SESSION
+        Op::DestroyClientId { clientid } => *clientid == 0x0000_0001_0000_0002,
+        Op::ReclaimComplete { one_fs } => *one_fs,
+        Op::FreeStateid { stateid } => is_held(stateid),
+        Op::TestStateid { stateids } => {
+            stateids.len() == 2 && is_held(&stateids.get(1)) && is_first(&stateids.get(0))
         }
         _ => false,
     }
@@ -92,15 +103,15 @@ fn is_read(alloc: Global, form: u32, words: &[u32]) -> Result<bool, AllocError> 
     let Ok(mut compound) = Compound::open(args.as_slice()) else {
         return Ok(false);
     };
-    let Some(arg) = compound.next() else {
+    let Some(Item::Operation(op)) = compound.next() else {
         return Ok(false);
     };
-    if let Arg::CreateSession(asked) = arg {
-        if !args.as_slice().ends_with(asked.sec_parms) {
+    if let Op::CreateSession(asked) = &op {
+        if !args.as_slice().ends_with(asked.sec_parms.bytes()) {
             return Ok(false);
         }
     }
-    Ok(form_of(&arg) == Some(form) && words.first() == Some(&arg.number()))
+    Ok(form_of(&op) == Some(form) && words.first() == Some(&op.number()))
 }
 
 /// The first case, if any, whose words are not read as that form.

@@ -2,7 +2,7 @@
 
 use crate::names::is_attributes;
 use nfs_compound::{
-    Arg, CreateHow, DelegationType, Lock, LockType, Locker, Open, OpenClaim, OpenHow, StateOwner,
+    CreateHow, DelegationType, Lock, LockType, Locker, Op, Open, OpenClaim, OpenHow, StateOwner,
     Stateid,
 };
 
@@ -13,7 +13,7 @@ pub(crate) fn is_held(it: &Stateid) -> bool {
 
 /// The words 0, 4, 1 and `A`.
 pub(crate) fn is_owner(it: &StateOwner<'_>) -> bool {
-    it.clientid == 4 && it.owner == b"a".as_slice()
+    it.clientid == 4 && it.owner.bytes() == b"a".as_slice()
 }
 
 /// The number of the claim; each claim stands with one way to open.
@@ -29,7 +29,7 @@ pub(crate) fn open_form(it: &Open<'_>) -> Option<u32> {
 
 fn plain_form(claim: &OpenClaim<'_>) -> Option<u32> {
     match claim {
-        OpenClaim::Null { file } => (*file == b"b".as_slice()).then_some(0),
+        OpenClaim::Null { file } => (file.bytes() == b"b".as_slice()).then_some(0),
         OpenClaim::DelegCurFh { delegate_stateid } => is_held(delegate_stateid).then_some(5),
         OpenClaim::DelegPrevFh => Some(6),
         _ => None,
@@ -49,11 +49,11 @@ fn create_form(how: &CreateHow<'_>, claim: &OpenClaim<'_>) -> Option<u32> {
                 file,
             },
         ) => {
-            let is_file = *file == b"a".as_slice() && is_held(delegate_stateid);
+            let is_file = file.bytes() == b"a".as_slice() && is_held(delegate_stateid);
             (is_file && is_attributes(createattrs)).then_some(2)
         }
         (CreateHow::Exclusive { createverf }, OpenClaim::DelegatePrev { file }) => {
-            (is_verifier(createverf) && *file == b"b".as_slice()).then_some(3)
+            (is_verifier(createverf) && file.bytes() == b"b".as_slice()).then_some(3)
         }
         (CreateHow::Exclusive41 { verf, attrs }, OpenClaim::Fh) => {
             (is_verifier(verf) && is_attributes(attrs)).then_some(4)
@@ -86,18 +86,18 @@ pub(crate) fn lock_form(it: &Lock<'_>) -> Option<u32> {
 }
 
 /// The other operations on opens and locks.
-pub(crate) fn is_of_opens(arg: &Arg<'_>) -> bool {
-    match arg {
-        Arg::OpenDowngrade(it) => {
+pub(crate) fn is_of_opens(op: &Op<'_>) -> bool {
+    match op {
+        Op::OpenDowngrade(it) => {
             let numbers = (it.seqid, it.share_access, it.share_deny);
             is_held(&it.open_stateid) && numbers == (1, 2, 3)
         }
-        Arg::Close(it) => it.seqid == 5 && is_held(&it.open_stateid),
-        Arg::LockT(it) => {
+        Op::Close(it) => it.seqid == 5 && is_held(&it.open_stateid),
+        Op::LockT(it) => {
             let is_range = (it.offset, it.length) == (5, 6);
             matches!(it.locktype, LockType::ReadW) && is_range && is_owner(&it.owner)
         }
-        Arg::LockU(it) => {
+        Op::LockU(it) => {
             let is_range = (it.seqid, it.offset, it.length) == (2, 3, 4);
             matches!(it.locktype, LockType::Read) && is_range && is_held(&it.lock_stateid)
         }

@@ -116,8 +116,10 @@ fn is_listed(bytes: &[u8]) -> bool {
 }
 
 fn is_entry(it: &Entry<'_>) -> bool {
-    let is_named = it.cookie == 3 && it.name == b"d".as_slice();
-    is_named && it.attrs.attrmask.words == [8, 4, 0] && it.attrs.attr_vals == b"e".as_slice()
+    let is_named = it.cookie == 3 && it.name.bytes() == b"d".as_slice();
+    is_named
+        && it.attrs.attrmask.words() == [8, 4, 0]
+        && it.attrs.attr_vals.bytes() == b"e".as_slice()
 }
 
 #[test]

@@ -3,13 +3,12 @@
 ghost use Rattle.std.specs.Prelude.{◌≤◌, IsTrue, length};
 ghost use Rattle.nfs_results.specs.MayAnswer.{HasSizes};
 ghost use Rattle.nfs_results.specs.ResultCodec.{IsBounded};
-ghost use Rattle.nfs_results.specs.View as view;
 
 use crate::words::{A, SESSION};
-use nfs_compound::{Arg, ChannelAttrs, LockType, Read, StableHow, Stateid};
+use nfs_compound::{ChannelAttrs, Item, LockType, Op, Read, StableHow, Stateid};
 use nfs_results::{
-    ChangeInfo, CreateSessionOk, Denied, ExchangeIdOk, Res, can_refuse, given, largest, read_reply,
-    write, write_compound_head,
+    AttrSet, ChangeInfo, CreateSessionOk, Denied, ExchangeIdOk, Res, can_refuse, given, largest,
+    read_reply, write, write_compound_head,
 };
 use nfs_testing::bytes_of;
 use nfs_xdr::{Sheet, Status};
@@ -34,13 +33,14 @@ fn is_other_change(it: &ChangeInfo) -> bool {
 /// The words 0, 1, 0, 2, 2, 0, 4, 1 and `A`.
 fn is_denied(it: &Denied<'_>) -> bool {
     let is_range = (it.offset, it.length) == (1, 2);
-    let is_owner = it.owner.clientid == 4 && it.owner.owner == b"a".as_slice();
+    let is_owner = it.owner.clientid == 4 && it.owner.owner.bytes() == b"a".as_slice();
     matches!(it.locktype, LockType::Write) && is_range && is_owner
 }
 
 fn is_granted(it: &ExchangeIdOk<'_>) -> bool {
     let numbers = (it.clientid, it.sequenceid, it.flags, it.minor_id);
-    let is_server = it.major_id == b"nfs41d".as_slice() && it.server_scope == b"scop".as_slice();
+    let is_server = it.major_id.bytes() == b"nfs41d".as_slice()
+        && it.server_scope.bytes() == b"scop".as_slice();
     numbers == (0x0000_0007_0000_0001, 2, 0x0001_0000, 0x0000_0003_0000_0004) && is_server
 }
 
@@ -83,11 +83,11 @@ fn has_fields(res: &Res<'_>) -> bool {
         | Res::OpenDowngrade(stateid) => is_stateid(stateid),
         Res::LockDenied(denied) | Res::LockTDenied(denied) => is_denied(denied),
         Res::Open(it) => {
-            is_stateid(&it.stateid) && is_change(&it.cinfo) && it.attrset.words == [16, 2, 0]
+            is_stateid(&it.stateid) && is_change(&it.cinfo) && it.attrset.words() == [16, 2, 0]
         }
         Res::ExchangeId(granted) => is_granted(granted),
         Res::CreateSession(made) => is_made(made),
-        Res::SecinfoNoName(it) => it.spelled.len() == 1 && it.spelled[0] == [0, 0, 0, 1],
+        Res::SecinfoNoName(it) => it.spelled().len() == 1 && it.spelled()[0] == [0, 0, 0, 1],
         Res::Sequence(it) => {
             let slots = [
                 it.sequenceid,
@@ -97,7 +97,7 @@ fn has_fields(res: &Res<'_>) -> bool {
             ];
             it.sessionid == SESSION && slots == [5, 6, 15, 14] && it.status_flags == 7
         }
-        Res::TestStateid(it) => it.spelled.len() == 2 && it.spelled[1] == [0, 0, 0x27, 0x29],
+        Res::TestStateid(it) => it.spelled().len() == 2 && it.spelled()[1] == [0, 0, 0x27, 0x29],
         _ => true,
     }
 }
@@ -106,17 +106,17 @@ fn is_of_files(res: &Res<'_>) -> bool {
     match res {
         Res::Access(it) => (it.supported, it.access) == (0x3f, 0x21),
         Res::Commit(writeverf) => *writeverf == [0, 0, 0, 7, 0, 0, 0, 9],
-        Res::Create(it) => is_change(&it.cinfo) && it.attrset.words == [0, 0, 5],
-        Res::GetAttr(it) => it.attrmask.words == [8, 0, 0]
-            && it.attr_vals == b"abcdefgh".as_slice(),
-        Res::GetFh(object) => *object == b"abcde".as_slice(),
+        Res::Create(it) => is_change(&it.cinfo) && it.attrset.words() == [0, 0, 5],
+        Res::GetAttr(it) => it.attrmask.words() == [8, 0, 0]
+            && it.attr_vals.bytes() == b"abcdefgh".as_slice(),
+        Res::GetFh(object) => object.bytes() == b"abcde".as_slice(),
         Res::Link(cinfo) | Res::Remove(cinfo) => is_change(cinfo),
-        Res::Read(it) => it.eof && it.data == b"abcdef".as_slice(),
-        Res::ReadLink(link) => *link == b"a".as_slice(),
+        Res::Read(it) => it.eof && it.bytes.bytes() == b"abcdef".as_slice(),
+        Res::ReadLink(link) => link.bytes() == b"a".as_slice(),
         Res::Rename(it) => is_change(&it.source_cinfo) && is_other_change(&it.target_cinfo),
         Res::SetAttr { status, attrsset } => {
             let set = if status.number() == 0 { 16 } else { 0 };
-            attrsset.words == [set, 0, 0]
+            attrsset.words() == [set, 0, 0]
         }
         Res::Write(it) => {
             let is_lasting = matches!(it.committed, StableHow::FileSync);
@@ -128,30 +128,44 @@ fn is_of_files(res: &Res<'_>) -> bool {
 
 /// Whether the result can be put, and a sheet of 2,200 bytes has room for it.
 fn is_small(res: &Res<'_>) -> bool
-    ensures bounds { IsTrue result → IsBounded (view.res res.now) }
-    ensures sizes { IsTrue result → HasSizes 64 (view.res res.now) }
+    ensures bounds { IsTrue result → IsBounded res.now }
+    ensures sizes { IsTrue result → HasSizes 64 res.now }
 {
     match res {
         Res::ReadDir(_) | Res::TestStateid(_) => false,
-        Res::GetAttr(attributes) => attributes.attr_vals.len() <= 612,
-        Res::GetFh(object) => object.len() <= 16,
-        Res::LockDenied(denied) | Res::LockTDenied(denied) => denied.owner.owner.len() <= 1024,
-        Res::Read(read) => read.data.len() <= 64,
-        Res::ReadLink(link) => link.len() <= 1024,
+        Res::Create(created) => has_three_words(&created.attrset),
+        Res::GetAttr(attributes) => {
+            has_three_words(&attributes.attrmask) && attributes.attr_vals.bytes().len() <= 612
+        }
+        Res::GetFh(object) => object.bytes().len() <= 16,
+        Res::LockDenied(denied) | Res::LockTDenied(denied) => denied.owner.owner.bytes().len()
+            <= 1024,
+        Res::Read(read) => read.bytes.bytes().len() <= 64,
+        Res::ReadLink(link) => link.bytes().len() <= 1024,
         Res::ExchangeId(granted) => are_short(granted),
         Res::CreateSession(made) => made.fore_chan_attrs.rdma_ird.is_none(),
-        Res::SecinfoNoName(flavors) => flavors.spelled.len() <= 1,
-        Res::SetAttr { status, .. } => *status != Status::OpIllegal,
+        Res::SecinfoNoName(flavors) => flavors.spelled().len() <= 1,
+        Res::Open(opened) => has_three_words(&opened.attrset),
+        Res::SetAttr { status, attrsset } => {
+            has_three_words(attrsset) && *status != Status::OpIllegal
+        }
         Res::Refused { operation, status } => can_refuse(*operation, *status),
         _ => true,
     }
 }
 
-fn are_short(granted: &ExchangeIdOk<'_>) -> bool
-    ensures major { IsTrue result → length granted.now.major_id.now ≤ 8 }
-    ensures scope { IsTrue result → length granted.now.server_scope.now ≤ 8 }
+/// Whether the set is spelled by three words at most, as each is.
+fn has_three_words(set: &AttrSet) -> bool
+    ensures { length set.now ≤ 3 }
 {
-    granted.major_id.len() <= 8 && granted.server_scope.len() <= 8
+    set.words().len() == 3
+}
+
+fn are_short(granted: &ExchangeIdOk<'_>) -> bool
+    ensures major { IsTrue result → length granted.now.major_id ≤ 8 }
+    ensures scope { IsTrue result → length granted.now.server_scope ≤ 8 }
+{
+    granted.major_id.bytes().len() <= 8 && granted.server_scope.bytes().len() <= 8
 }
 
 /// Whether a compound of this result alone is put as these bytes. READDIR and TEST_STATEID are put in parts.
@@ -310,15 +324,15 @@ fn the_largest_results_are_those_of_the_profile(rt: HostRuntime) {
         offset: 0,
         count: 5,
     };
-    let bad = Arg::Fault {
+    let bad = Item::Fault {
         number: 53,
         status: Status::BadXdr,
     };
     let sizes = [
-        largest(&Arg::Read(asked)),
-        largest(&Arg::GetFh),
-        largest(&Arg::ReadLink),
-        largest(&Arg::LookupP),
+        largest(&Item::Operation(Op::Read(asked))),
+        largest(&Item::Operation(Op::GetFh)),
+        largest(&Item::Operation(Op::ReadLink)),
+        largest(&Item::Operation(Op::LookupP)),
         largest(&bad),
         u64::from(given(65_537)),
     ];

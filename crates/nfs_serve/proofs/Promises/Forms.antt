@@ -1,5 +1,5 @@
 -- The run of a script, of a talk and of many connections, as a run of their records.
-use Rattle.std.proofs.Common.{◌≡◌, ◌≢◌, ℕ, Bool, true, false, List, [], ◌∷◌, ◌++◌, flat_map, map, Option, Result, Ok, Err, refl, sym, ap, subst, ◌∙◌, append_assoc, append-nil, nat_eq, if◌then◌else◌, inl, inr}
+use Rattle.std.proofs.Common.{◌≡◌, ◌≢◌, ℕ, Bool, true, false, List, [], ◌∷◌, ◌++◌, flat_map, Option, Result, Ok, Err, refl, sym, ap, subst, ◌∙◌, append_assoc, append-nil, nat_eq, if◌then◌else◌, inl, inr}
 use Rattle.std.specs.Io.KnownBytes.{Consumes}
 use Rattle.nfs_rpc.specs.RecordMarking.{Gathered, start}
 use Rattle.nfs_rpc.specs.Stream.{End, Open, TooLong, IsUnfinished, EndsAs, IsReading}

@@ -8,7 +8,9 @@ use Rattle.nfs_xdr.specs.Codec.{number, opaque}
 use Rattle.nfs_xdr.specs.Caller.{Caller}
 use Rattle.nfs_xdr.specs.Status.{status_number}
 use Rattle.nfs_xdr.proofs.StatusLaws.{is_status_listing}
-use Rattle.nfs_compound.specs.Operation.{Item, Operation, OpSequence}
+use Rattle.nfs_compound.specs.declared.op.Item.{Item}
+use Rattle.nfs_compound.specs.declared.op.Item.TheVariants.{Operation}
+use Rattle.nfs_compound.specs.declared.op.Op.TheVariants as Op
 use Rattle.nfs_compound.specs.Request.{Request, Lists, HasBody, IsRequest}
 use Rattle.nfs_compound.specs.declared.session_args.Sequence.{Sequence}
 use Rattle.nfs_results.specs.Items as results
@@ -72,7 +74,7 @@ answered_verdict m r who now choice q s more (Runs c) e = subst (λ (s : Sequenc
 answered_items : (m : Machine) (r : Request) (who : Caller) (size now : ℕ) (choice : Option ℕ) (s : Sequence) (items : List Item)
     → first_runs m r who size items ≡ Some s → IsAnswered r.tag s (by_first m r who size now choice items).text
 answered_items m r who size now choice s [] e = absurd cc
-answered_items m r who size now choice s (Operation (OpSequence q) ∷ more) e = answered_verdict m r who now choice q s more (sequence.sequenced m r who size q) e
+answered_items m r who size now choice s (Operation (Op.Sequence q) ∷ more) e = answered_verdict m r who now choice q s more (sequence.sequenced m r who size q) e
 answered_items m r who size now choice s (item ∷ more) e = absurd cc
 
 answered_compound : (m : Machine) (r : Request) (who : Caller) (size now : ℕ) (choice : Option ℕ) (s : Sequence)
@@ -93,8 +95,8 @@ numbered_compound m r who size now choice s fits sequence_fits e =
 -- the session, the number and the slot of a SEQUENCE that was read fit
 first_fits : (n : ℕ) (body : List ℕ) (items : List Item) (q : Sequence) → first_sequence items ≡ Some q → Lists n body items → sequence_front.Fits (q.sessionid, (q.sequenceid, q.slotid))
 first_fits n body [] q e is = absurd cc
-first_fits zero body (Operation (OpSequence s) ∷ more) q e is = absurd is
-first_fits (suc n) body (Operation (OpSequence s) ∷ more) q e is =
+first_fits zero body (Operation (Op.Sequence s) ∷ more) q e is = absurd is
+first_fits (suc n) body (Operation (Op.Sequence s) ∷ more) q e is =
     let (rest, stands, (number, (session, (sequenceid, (slotid, others)))), listed) = is in
     let same : s ≡ q = cc in
     subst (λ (q : Sequence). sequence_front.Fits (q.sessionid, (q.sequenceid, q.slotid))) same (session, (sequenceid, slotid))

@@ -10,8 +10,11 @@ use Rattle.nfs_xdr.specs.declared.status.Status.TheVariants.{Nfs4Ok}
 use Rattle.nfs_compound.specs.declared.op_num.OpNum.{OpNum}
 use Rattle.nfs_compound.specs.declared.op_num.OpNum.TheVariants as Num
 use Rattle.nfs_results.specs.Results.{done_head}
-use Rattle.nfs_compound.specs.Operation.{Item, Operation, OpLock, OpLockU, OpClose, OpPutRootFh}
-use Rattle.nfs_compound.specs.LockArgs.{Lock, OpenOwner}
+use Rattle.nfs_compound.specs.declared.op.Item.{Item}
+use Rattle.nfs_compound.specs.declared.op.Item.TheVariants.{Operation}
+use Rattle.nfs_compound.specs.declared.op.Op.TheVariants as Op
+use Rattle.nfs_compound.specs.declared.lock_args.Lock.{Lock}
+use Rattle.nfs_compound.specs.declared.lock_args.Locker.TheVariants.{OpenOwner}
 use Rattle.nfs_compound.specs.declared.lock_args.LockType.TheVariants as LockTypes
 use Rattle.nfs_clients.specs.Roster.{ClientRecord}
 use Rattle.nfs_names.specs.Context.{begins}
@@ -31,9 +34,9 @@ use Rattle.nfs_serve.proofs.Promises.Computing.{computing}
 -- An operation that was refused, or that is none of the three that end locks, spares each lock.
 
 abbrev ends : Item → Bool
-ends (Operation (OpLock a)) = true
-ends (Operation (OpLockU a)) = true
-ends (Operation (OpClose a)) = true
+ends (Operation (Op.Lock a)) = true
+ends (Operation (Op.LockU a)) = true
+ends (Operation (Op.Close a)) = true
 ends i = false
 
 -- the status in the bytes of a result is NFS4_OK
@@ -149,7 +152,7 @@ pub nothing : RanOp
 nothing = record {
   before = start.machine;
   context = begins 0 (record { uid = 0; gid = 0; gids = [] });
-  item = Operation OpPutRootFh;
+  item = Operation Op.PutRootFh;
   status = Nfs4Ok;
   result = [];
   behind = start.machine;
@@ -170,7 +173,7 @@ asking offset = record {
   });
 }
 
-pub locks_for : (d : RanOp) (client offset n : ℕ) → d.item ≡ Operation (OpLock (asking offset))
+pub locks_for : (d : RanOp) (client offset n : ℕ) → d.item ≡ Operation (Op.Lock (asking offset))
     → wished d.before.store d.context LockTypes.Write offset 1 ≡ Ok (worked.wish client offset) → d.result ≡ done_head Num.Lock ++ worked.stateid_of_lock n
     → length (worked.stateid_of_lock n) ≡ 16 → from_be_bytes w64 (drop 8 (worked.stateid_of_lock n)) ≡ n → LocksFor d n (worked.wish client offset)
 locks_for d client offset n is wish answers long number = record {

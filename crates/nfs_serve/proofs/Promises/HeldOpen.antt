@@ -2,8 +2,10 @@
 use Rattle.std.proofs.Common.{◌≡◌, ℕ, ◌+◌, Bool, true, false, List, [], ◌∷◌, ◌++◌, length, take, refl, sym, ◌∙◌, ap, arith, inl, inr}
 use Rattle.std.specs.Prelude.{◌&&◌, not, nat_le, if◌then◌else◌}
 use Rattle.std.proofs.lemmas.Bool.{and_parts, leb-true, true≢false}
-use Rattle.nfs_compound.specs.Operation.{Item, Operation, OpClose}
-use Rattle.nfs_compound.specs.OpenArgs.{Open}
+use Rattle.nfs_compound.specs.declared.op.Item.{Item}
+use Rattle.nfs_compound.specs.declared.op.Item.TheVariants.{Operation}
+use Rattle.nfs_compound.specs.declared.op.Op.TheVariants as Op
+use Rattle.nfs_compound.specs.declared.open_args.Open.{Open}
 use Rattle.nfs_files.specs.OpenTold.{OpenTold, Bits}
 use Rattle.nfs_exec.specs.Ops.{RanOp}
 use Rattle.nfs_exec.specs.OpenHeld.{NoneCloses, bits_left}
@@ -23,7 +25,7 @@ use Rattle.nfs_serve.proofs.Promises.Computing.{computing}
 -- No operation is a CLOSE.
 
 abbrev is_close : Item → Bool
-is_close (Operation (OpClose a)) = true
+is_close (Operation (Op.Close a)) = true
 is_close i = false
 
 abbrev none_is_close : List RanOp → Bool

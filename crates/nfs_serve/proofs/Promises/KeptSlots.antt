@@ -23,7 +23,9 @@ use Rattle.nfs_rpc.specs.HeadCodec.{header}
 use Rattle.nfs_rpc.specs.CallHead.{Call, Called, Accepted, Refused, call_of}
 use Rattle.nfs_rpc.specs.Reply.{spell_head}
 use Rattle.nfs_rpc.proofs.HeadLaws.{call_taken}
-use Rattle.nfs_compound.specs.Operation.{Item, Operation, OpSequence}
+use Rattle.nfs_compound.specs.declared.op.Item.{Item}
+use Rattle.nfs_compound.specs.declared.op.Item.TheVariants.{Operation}
+use Rattle.nfs_compound.specs.declared.op.Op.TheVariants as Op
 use Rattle.nfs_compound.specs.Request.{Request, IsRequest}
 use Rattle.nfs_compound.specs.ReadRequest.{request_at}
 use Rattle.nfs_compound.specs.declared.session_args.Sequence.{Sequence}
@@ -204,7 +206,7 @@ verdict_runs q (RunsIn c) e = refl
 items_run : (m : Machine) (r : Request) (who : Caller) (size : ℕ) (q : Sequence) (items : List Item) → first_sequence items ≡ Some q
     → (is_some (first_runs m r who size items) || is_alone r.declared items) ≡ true → first_runs m r who size items ≡ Some q
 items_run m r who size q [] begins e = absurd cc
-items_run m r who size q (Operation (OpSequence s) ∷ more) begins e =
+items_run m r who size q (Operation (Op.Sequence s) ∷ more) begins e =
     verdict_runs s (sequence.sequenced m r who size s) e ∙ begins
 items_run m r who size q (item ∷ more) begins e = absurd cc
 
@@ -222,7 +224,7 @@ ran_verdict q s (RunsIn c) e = (e, refl)
 ran_items : (m : Machine) (r : Request) (who : Caller) (size : ℕ) (q : Sequence) (items : List Item) → first_runs m r who size items ≡ Some q
     → (first_sequence items ≡ Some q) × ((is_some (first_runs m r who size items) || is_alone r.declared items) ≡ true)
 ran_items m r who size q [] e = absurd cc
-ran_items m r who size q (Operation (OpSequence s) ∷ more) e = ran_verdict s q (sequence.sequenced m r who size s) e
+ran_items m r who size q (Operation (Op.Sequence s) ∷ more) e = ran_verdict s q (sequence.sequenced m r who size s) e
 ran_items m r who size q (item ∷ more) e = absurd cc
 
 ran_executes : (m : Machine) (r : Request) (who : Caller) (size : ℕ) (q : Sequence) → ran_in m r who size ≡ Some q
@@ -394,7 +396,7 @@ items_again : (m : Machine) (r : Request) (who : Caller) (size now : ℕ) (choic
     → first_sequence items ≡ Some q → (is_some (first_runs m r who size items) || is_alone r.declared items) ≡ false
     → sequenced (by_first m r who size now choice items).text ≡ true → IsAgain m r who size q (by_first m r who size now choice items).text
 items_again m r who size now choice q [] fits begins e good = absurd cc
-items_again m r who size now choice q (Operation (OpSequence s) ∷ more) fits begins e good =
+items_again m r who size now choice q (Operation (Op.Sequence s) ∷ more) fits begins e good =
     subst (λ (q : Sequence). IsAgain m r who size q (in_session m r who now choice s more (sequence.sequenced m r who size s)).text) (same_Some s q begins)
     (verdict_again m r who size now choice s more (sequence.sequenced m r who size s) fits refl e good)
 items_again m r who size now choice q (item ∷ more) fits begins e good = absurd cc

@@ -3,8 +3,9 @@ use Rattle.std.proofs.Common.{◌≡◌, ℕ, ◌+◌, ◌≤◌, true, false, c
 use Rattle.std.specs.Option.{option_map_or}
 use Rattle.nfs_xdr.specs.Spelling.{number}
 use Rattle.nfs_xdr.specs.Tables.{In}
-use Rattle.nfs_compound.specs.Operation.{Operation, OpGetAttr}
-use Rattle.nfs_results.specs.Result.{ResGetAttr}
+use Rattle.nfs_compound.specs.declared.op.Item.TheVariants.{Operation}
+use Rattle.nfs_compound.specs.declared.op.Op.TheVariants as Op
+use Rattle.nfs_results.specs.declared.res.Res.TheVariants as Res
 use Rattle.nfs_results.specs.Results.{spell_result}
 use Rattle.nfs_exec.specs.Machine.{Machine, is_ok}
 use Rattle.nfs_exec.specs.Laws.{MachineEvent, Asks}
@@ -36,7 +37,7 @@ lasts_all s [] lease is = is
 lasts_all s (c ∷ more) lease is = lasts_all (state_after s c) more lease (lasts_next s c lease is)
 
 asked_told : (m : Machine) (o : Option MachineEvent) (lease : ℕ) → Is m → Lasts lease m → (d : RanOp) → In d (option_map_or (ops_by m) o [])
-    → d.item ≡ Operation (OpGetAttr ten) → is_ok d.status ≡ true → d.result ≡ spell_result (ResGetAttr (record { attrmask = ten; attr_vals = number lease }))
+    → d.item ≡ Operation (Op.GetAttr ten) → is_ok d.status ≡ true → d.result ≡ spell_result (Res.GetAttr (record { attrmask = ten; attr_vals = number lease }))
 asked_told m None lease is lasts d there = absurd there
 asked_told m (Some e) lease is lasts d there = event_told m e lease is lasts d there
 

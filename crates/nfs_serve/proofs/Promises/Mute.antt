@@ -10,11 +10,13 @@ use Rattle.nfs_xdr.specs.declared.status.Status.TheVariants.{Nfs4Ok, Delay, NotS
 use Rattle.nfs_xdr.specs.Status.{status_number}
 use Rattle.nfs_xdr.proofs.StatusLaws.{is_status_listing}
 use Rattle.nfs_compound.proofs.OpNumLaws.{is_op_listing}
-use Rattle.nfs_compound.specs.Operation.{Op, Item, Operation, Fault, OpSequence, OpExchangeId, OpCreateSession, OpDestroySession, OpDestroyClientId}
+use Rattle.nfs_compound.specs.declared.op.Op.{Op}
+use Rattle.nfs_compound.specs.declared.op.Item.{Item}
+use Rattle.nfs_compound.specs.declared.op.Item.TheVariants.{Operation, Fault}
 use Rattle.nfs_compound.specs.Arguments.{arguments}
 use Rattle.nfs_compound.specs.Request.{Request, item_number}
-use Rattle.nfs_compound.specs.SessionArgs.{CreateSession}
-use Rattle.nfs_results.specs.Result.{ResSetAttr, Refused}
+use Rattle.nfs_compound.specs.declared.session_args.CreateSession.{CreateSession}
+use Rattle.nfs_results.specs.declared.res.Res.TheVariants as Res
 use Rattle.nfs_results.specs.Results.{refusal, spell_result}
 use Rattle.nfs_results.specs.Refusals.{bears, can_refuse}
 use Rattle.nfs_results.specs.Parts.{is_legal}
@@ -49,7 +51,7 @@ small s = is_status_listing.small s
 mute_refusal : (n : ℕ) (s : Status) → n < 2 ^ 32 → ((n == 53) && (status_number s == 0)) ≡ false → IsMute (spell_result (refusal n s))
 mute_refusal n s n_small other = by (n == 34)
   where
-    by : (b : Bool) → IsMute (spell_result (if b then ResSetAttr s [] else Refused n s))
+    by : (b : Bool) → IsMute (spell_result (if b then Res.SetAttr s [] else Res.Refused n s))
     by true = record { op = 34; first = status_number s; rest = _; spelled = refl; op_small = omega arith; first_small = small s; other = refl }
     by false = record { op = n; first = status_number s; rest = []; spelled = refl; op_small = n_small; first_small = small s; other = other }
 
@@ -128,11 +130,11 @@ op_small : (op : Op) → item_number (Operation op) < 2 ^ 32
 op_small op = is_op_listing.small (arguments op).op
 
 mute_carried : (m : Machine) (who : Caller) (now : ℕ) (refused : Bool) (op : Op) → IsMute (carried_out m who now refused (Operation op)).result
-mute_carried m who now refused (OpExchangeId e) =
+mute_carried m who now refused (Op.ExchangeId e) =
     mute_delayed m refused exchange_id_number (exchange_id m who now e) (omega arith) (mute_exchanged (exchange m.clients (ask_of who e)).answer)
-mute_carried m who now refused (OpCreateSession c) = mute_created m now refused c (clients.create_verdict m.clients c.clientid c.sequence who.uid)
-mute_carried m who now refused (OpDestroySession sessionid) = mute_destroyed m sessionid
-mute_carried m who now refused (OpDestroyClientId client) = mute_client m client (destroy_fault m.clients client (has_session m.sessions client))
+mute_carried m who now refused (Op.CreateSession c) = mute_created m now refused c (clients.create_verdict m.clients c.clientid c.sequence who.uid)
+mute_carried m who now refused (Op.DestroySession sessionid) = mute_destroyed m sessionid
+mute_carried m who now refused (Op.DestroyClientId client) = mute_client m client (destroy_fault m.clients client (has_session m.sessions client))
 mute_carried m who now refused op = mute_bad (item_number (Operation op)) NotSupp (op_small op) refl
 
 mute_op : (m : Machine) (n : ℕ) (alone sequence many : Bool) (o : Outcome) → n < 2 ^ 32 → IsMute o.result
@@ -154,7 +156,7 @@ mute_items : (m : Machine) (r : Request) (who : Caller) (size now : ℕ) (choice
     → ((item : Item) (more : List Item) → items ≡ item ∷ more → CanBear item) → first_sequence items ≡ None
     → sequenced (by_first m r who size now choice items).text ≡ false
 mute_items m r who size now choice [] fits bears' none = bare_spelled (status_number Nfs4Ok) 0 r.tag (omega arith) (omega arith) fits
-mute_items m r who size now choice (Operation (OpSequence s) ∷ more) fits bears' none = absurd cc
+mute_items m r who size now choice (Operation (Op.Sequence s) ∷ more) fits bears' none = absurd cc
 mute_items m r who size now choice (item ∷ more) fits bears' none =
     let o = first_item m r.declared who now (is_here choice) item in
     mute_spelled (status_number o.status) 1 r.tag o.result (small o.status) (omega arith) fits

@@ -2,9 +2,10 @@
 use Rattle.std.proofs.Common.{◌≡◌, ℕ, true, false, cond, List, [], ◌∷◌, ◌++◌, length, Option, Some, None, ap, subst}
 use Rattle.std.specs.Option.{option_map_or}
 use Rattle.nfs_xdr.specs.Tables.{In}
-use Rattle.nfs_compound.specs.OpenArgs.{Open}
-use Rattle.nfs_compound.specs.declared.op_num.OpNum.TheVariants as Op
-use Rattle.nfs_compound.specs.Operation.{Operation, OpOpen}
+use Rattle.nfs_compound.specs.declared.open_args.Open.{Open}
+use Rattle.nfs_compound.specs.declared.op_num.OpNum.TheVariants as Num
+use Rattle.nfs_compound.specs.declared.op.Item.TheVariants.{Operation}
+use Rattle.nfs_compound.specs.declared.op.Op.TheVariants as Op
 use Rattle.nfs_files.specs.OpenTold.{names_open, OpenTold, Bits, IsOpenWith}
 use Rattle.nfs_exec.specs.Machine.{Machine}
 use Rattle.nfs_exec.specs.Laws.{MachineEvent, Asks}
@@ -73,8 +74,8 @@ open_kept mode instance lease earlier c k b front told back e tells =
           (stays_from mode instance lease earlier c k.client (IsOpenWith k c_bits) kept.renewed (kept.behind spared)),
     )
 
-tells_by : (m : Machine) (o : Option MachineEvent) (d : RanOp) (a : Open) (n : ℕ) → Is m → In d (option_map_or (ops_by m) o []) → d.item ≡ Operation (OpOpen a)
-    → names_open Op.Open d.result n ≡ true → (k : OpenTold) × (b : Bits) × (k.number ≡ n) × TellsOpen k b d
+tells_by : (m : Machine) (o : Option MachineEvent) (d : RanOp) (a : Open) (n : ℕ) → Is m → In d (option_map_or (ops_by m) o []) → d.item ≡ Operation (Op.Open a)
+    → names_open Num.Open d.result n ≡ true → (k : OpenTold) × (b : Bits) × (k.number ≡ n) × TellsOpen k b d
 tells_by m None d a n is there item named = absurd there
 tells_by m (Some e) d a n is there item named = each_tells m e d a n is there item named
 

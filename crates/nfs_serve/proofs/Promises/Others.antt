@@ -6,7 +6,9 @@ use Rattle.std.proofs.lemmas.Bool.{and_parts, eqb-true, eq-eqb, false≢true}
 use Rattle.nfs_xdr.specs.Caller.{Caller}
 use Rattle.nfs_xdr.specs.declared.status.Status.TheVariants.{MinorVersMismatch}
 use Rattle.nfs_xdr.proofs.Lists.{find_in}
-use Rattle.nfs_compound.specs.Operation.{Item, Operation, OpSequence}
+use Rattle.nfs_compound.specs.declared.op.Item.{Item}
+use Rattle.nfs_compound.specs.declared.op.Item.TheVariants.{Operation}
+use Rattle.nfs_compound.specs.declared.op.Op.TheVariants as Op
 use Rattle.nfs_compound.specs.Request.{Request}
 use Rattle.nfs_compound.specs.declared.session_args.Sequence.{Sequence}
 use Rattle.nfs_lease.specs.Renewals.{Book}
@@ -97,7 +99,7 @@ session_there m r who size now client choice s more (sequence.Runs c) is e of =
 items_there : (m : Machine) (r : Request) (who : Caller) (size now client : ℕ) (choice : Option ℕ) (items : List Item) → IsMachine m
     → option_map_or (is_of client) (first_runs m r who size items) false ≡ true → is_some ((by_first m r who size now choice items).machine.leases.renewed client) ≡ true
 items_there m r who size now client choice [] is of = absurd (false≢true of)
-items_there m r who size now client choice (Operation (OpSequence s) ∷ more) is of =
+items_there m r who size now client choice (Operation (Op.Sequence s) ∷ more) is of =
     session_there m r who size now client choice s more (sequenced m r who size s) is refl of
 items_there m r who size now client choice (item ∷ more) is of = absurd (false≢true of)
 

@@ -1,5 +1,5 @@
 -- Events that are cut in two: what the first part runs is a front of what the whole runs.
-use Rattle.std.proofs.Common.{◌≡◌, ◌⊎◌, inl, inr, ◌+◌, ◌<◌, ◌≤◌, Bool, true, false, List, [], ◌∷◌, ◌++◌, length, refl, sym, ◌∙◌, ap, subst, arith, append_assoc}
+use Rattle.std.proofs.Common.{◌≡◌, ◌⊎◌, inl, inr, ◌<◌, ◌≤◌, Bool, true, false, List, [], ◌∷◌, ◌++◌, length, refl, sym, ◌∙◌, ap, subst, arith, append_assoc}
 use Rattle.std.specs.Prelude.{if◌then◌else◌}
 use Rattle.nfs_xdr.specs.Tables.{In}
 use Rattle.nfs_serve.specs.Promises.Endpoint.{Place, Compound, Answer, Server, Arrival, stepped, ran}

@@ -4,9 +4,11 @@ use Rattle.std.specs.Prelude.{◌==◌, ◌&&◌, bytes_eq, is_some}
 use Rattle.std.proofs.lemmas.Bool.{and_parts, eqb-true, false≢true}
 use Rattle.std.proofs.lemmas.Slice.Eq.{bytes_eq-Decides}
 use Rattle.nfs_xdr.specs.declared.status.Status.TheVariants.{Nfs4Ok}
-use Rattle.nfs_compound.specs.Operation.{Item, Operation, OpCreateSession}
+use Rattle.nfs_compound.specs.declared.op.Item.{Item}
+use Rattle.nfs_compound.specs.declared.op.Item.TheVariants.{Operation}
+use Rattle.nfs_compound.specs.declared.op.Op.TheVariants as Op
 use Rattle.nfs_compound.specs.Request.{Request}
-use Rattle.nfs_compound.specs.declared.op_num.OpNum.TheVariants as Op
+use Rattle.nfs_compound.specs.declared.op_num.OpNum.TheVariants as Num
 use Rattle.nfs_results.specs.Results.{done_head, spell_compound_head}
 use Rattle.nfs_sessions.specs.Sessions.{SessionTable}
 use Rattle.nfs_clients.specs.CreateSession.{following}
@@ -24,10 +26,10 @@ use Rattle.nfs_serve.proofs.Promises.Computing.{computing}
 -- So it can be tested: the answer is NFS4_OK and the session id. In front of what stands behind that are 36 bytes.
 
 abbrev answers_so : (client number : ℕ) → List ℕ → Request → List ℕ → List Item → Bool
-answers_so client number id r text (Operation (OpCreateSession c) ∷ more) =
+answers_so client number id r text (Operation (Op.CreateSession c) ∷ more) =
     (c.clientid == client)
     && ((c.sequence == number)
-    && ((length id == 16) && bytes_eq text (spell_compound_head Nfs4Ok r.tag 1 ++ (done_head Op.CreateSession ++ (id ++ drop 36 text)))))
+    && ((length id == 16) && bytes_eq text (spell_compound_head Nfs4Ok r.tag 1 ++ (done_head Num.CreateSession ++ (id ++ drop 36 text)))))
 answers_so client number id r text items = false
 
 abbrev gives_so : (client number : ℕ) → List ℕ → Machine → Option MachineEvent → Bool
@@ -40,7 +42,7 @@ given client number id s c (Some (Asks r who size now choice)) e test = by_items
   where
     by_items : (items : List Item) → r.left ≡ items → answers_so client number id r (compound (before s c) r who size now choice).text items ≡ true
         → GivesIn client number id s c
-    by_items (Operation (OpCreateSession a) ∷ more) is test =
+    by_items (Operation (Op.CreateSession a) ∷ more) is test =
         let p = and_parts _ _ test in
         let q = and_parts _ _ p.1 in
         let t = and_parts _ _ q.1 in
@@ -61,7 +63,7 @@ given client number id s c (Some (Asks r who size now choice)) e test = by_items
             for = eqb-true _ _ p.0;
             with = eqb-true _ _ q.0;
             behind = drop 36 text;
-            answers = (bytes_eq-Decides text (spell_compound_head Nfs4Ok r.tag 1 ++ (done_head Op.CreateSession ++ (id ++ drop 36 text)))).0 t.1;
+            answers = (bytes_eq-Decides text (spell_compound_head Nfs4Ok r.tag 1 ++ (done_head Num.CreateSession ++ (id ++ drop 36 text)))).0 t.1;
             long = eqb-true _ _ t.0;
           };
         }

@@ -8,7 +8,9 @@ use Rattle.nfs_rpc.specs.declared.refusal.Refusal.TheVariants.{Silent, Mismatch,
 use Rattle.nfs_rpc.specs.declared.call.Procedure.{Procedure}
 use Rattle.nfs_rpc.specs.declared.call.Procedure.TheVariants as Procedures
 use Rattle.nfs_rpc.specs.CallHead.{Called, Accepted, Refused, call_of}
-use Rattle.nfs_compound.specs.Operation.{Item, Operation, Fault, OpSequence, OpExchangeId, OpCreateSession, OpDestroySession, OpDestroyClientId}
+use Rattle.nfs_compound.specs.declared.op.Item.{Item}
+use Rattle.nfs_compound.specs.declared.op.Item.TheVariants.{Operation, Fault}
+use Rattle.nfs_compound.specs.declared.op.Op.TheVariants as Op
 use Rattle.nfs_compound.specs.Request.{Request, item_number}
 use Rattle.nfs_compound.specs.ReadRequest.{request_at}
 use Rattle.nfs_compound.specs.declared.session_args.Sequence.{Sequence}
@@ -43,10 +45,10 @@ beyond false e = absurd cc
 first_idle : (m : Machine) (declared : ℕ) (who : Caller) (now : ℕ) (b : Bool) (i : Item) (more : List Item) → is_alone declared (i ∷ more) ≡ false
     → (first_item m declared who now b i).machine ≡ m
 first_idle m declared who now b (Fault n status) more e = refl
-first_idle m declared who now b (Operation (OpExchangeId a)) more e = rw (beyond (nat_lt 1 declared) e) refl
-first_idle m declared who now b (Operation (OpCreateSession a)) more e = rw (beyond (nat_lt 1 declared) e) refl
-first_idle m declared who now b (Operation (OpDestroySession a)) more e = rw (beyond (nat_lt 1 declared) e) refl
-first_idle m declared who now b (Operation (OpDestroyClientId a)) more e = rw (beyond (nat_lt 1 declared) e) refl
+first_idle m declared who now b (Operation (Op.ExchangeId a)) more e = rw (beyond (nat_lt 1 declared) e) refl
+first_idle m declared who now b (Operation (Op.CreateSession a)) more e = rw (beyond (nat_lt 1 declared) e) refl
+first_idle m declared who now b (Operation (Op.DestroySession a)) more e = rw (beyond (nat_lt 1 declared) e) refl
+first_idle m declared who now b (Operation (Op.DestroyClientId a)) more e = rw (beyond (nat_lt 1 declared) e) refl
 first_idle m declared who now b (Operation op) more e =
     faulted m (item_number (Operation op)) (place_fault declared op) (carried_out m who now b (Operation op)) refl
 
@@ -59,7 +61,7 @@ verdict_idle m r who now choice s more (sequence.Runs c) e = absurd cc
 items_idle : (m : Machine) (r : Request) (who : Caller) (size now : ℕ) (choice : Option ℕ) (items : List Item)
     → (is_some (first_runs m r who size items) || is_alone r.declared items) ≡ false → (by_first m r who size now choice items).machine ≡ m
 items_idle m r who size now choice [] e = refl
-items_idle m r who size now choice (Operation (OpSequence s) ∷ more) e = verdict_idle m r who now choice s more (sequenced m r who size s) e
+items_idle m r who size now choice (Operation (Op.Sequence s) ∷ more) e = verdict_idle m r who now choice s more (sequenced m r who size s) e
 items_idle m r who size now choice (item ∷ more) e = first_idle m r.declared who now (is_here choice) item more e
 
 pub compound_idle : (m : Machine) (r : Request) (who : Caller) (size now : ℕ) (choice : Option ℕ) → executes m r who size ≡ false

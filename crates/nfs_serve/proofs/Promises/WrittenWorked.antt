@@ -3,11 +3,13 @@ use Rattle.std.proofs.Common.{◌≡◌, ℕ, ◌++◌, length, ◌<◌, Bool, t
 use Rattle.std.specs.Prelude.{◌&&◌, not, nat_le}
 use Rattle.std.proofs.lemmas.Bool.{and_parts, not-true, leb-false, ltb-true, true≢false}
 use Rattle.nfs_xdr.specs.Spelling.{number}
-use Rattle.nfs_compound.specs.declared.op_num.OpNum.TheVariants as Op
-use Rattle.nfs_compound.specs.FileArgs as args
+use Rattle.nfs_compound.specs.declared.op_num.OpNum.TheVariants as Num
+use Rattle.nfs_compound.specs.declared.file_args.Write as args
 use Rattle.nfs_compound.specs.declared.file_args.Read.{Read}
 use Rattle.nfs_compound.specs.declared.file_args.StableHow.TheVariants.{Unstable}
-use Rattle.nfs_compound.specs.Operation.{Item, Operation, OpOpen, OpRead, OpSetAttr, OpWrite}
+use Rattle.nfs_compound.specs.declared.op.Item.{Item}
+use Rattle.nfs_compound.specs.declared.op.Item.TheVariants.{Operation}
+use Rattle.nfs_compound.specs.declared.op.Op.TheVariants as Op
 use Rattle.nfs_results.specs.Results.{done_head}
 use Rattle.nfs_names.specs.declared.context.Context.{Context}
 use Rattle.nfs_names.specs.Context.{anonymous}
@@ -24,9 +26,9 @@ use Rattle.nfs_serve.proofs.Promises.Computing.{computing}
 -- A WRITE behind the place, and whatever is none of the three that change bytes, spares the byte.
 
 abbrev changes : Byte → Item → Bool
-changes b (Operation (OpWrite w)) = nat_le w.offset b.place
-changes b (Operation (OpSetAttr a)) = true
-changes b (Operation (OpOpen a)) = true
+changes b (Operation (Op.Write w)) = nat_le w.offset b.place
+changes b (Operation (Op.SetAttr a)) = true
+changes b (Operation (Op.Open a)) = true
 changes b i = false
 
 write_behind : (b : Byte) (x : Context) (i : Item) (result : List ℕ) → changes b i ≡ false → WritesOver b.file b.place x i result → ⊥
@@ -98,8 +100,8 @@ unfolding computing
 until_read = all_spared byte (take 2 (ops_of closed reads)) refl
 
 -- the READ, answered that the file ends behind it and with these bytes
-abbrev reads_it : (d : RanOp) (text : List ℕ) → d.item ≡ Operation (OpRead read) → d.context.current ≡ Some byte.file
-    → d.result ≡ done_head Op.Read ++ (words (1 ∷ []) ++ text) → length (words (1 ∷ [])) ≡ 4 → Reads byte.file byte.place d.context d.item d.result
+abbrev reads_it : (d : RanOp) (text : List ℕ) → d.item ≡ Operation (Op.Read read) → d.context.current ≡ Some byte.file
+    → d.result ≡ done_head Num.Read ++ (words (1 ∷ []) ++ text) → length (words (1 ∷ [])) ≡ 4 → Reads byte.file byte.place d.context d.item d.result
 reads_it d text is at answers long = record {
   asked = read;
   is = is;

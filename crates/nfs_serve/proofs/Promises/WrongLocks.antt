@@ -3,8 +3,10 @@ use Rattle.std.proofs.lemmas.Bool.{and_parts, eqb-true, false≢true}
 use Rattle.std.proofs.Common.{◌≡◌, ℕ, Bool, true, false, ◌+◌, ◌≤◌, List, [], ◌∷◌, ◌++◌, length, take, get_or, Option, Some, None, refl, sym, ◌∙◌, ap, subst, arith, inl, inr}
 use Rattle.std.specs.Prelude.{◌==◌, ◌&&◌, Result, Ok}
 use Rattle.nfs_xdr.specs.Spelling.{number, hyper}
-use Rattle.nfs_compound.specs.Operation.{Item, Operation, OpLock, OpLockU, OpClose}
-use Rattle.nfs_compound.specs.LockArgs.{Lock}
+use Rattle.nfs_compound.specs.declared.op.Item.{Item}
+use Rattle.nfs_compound.specs.declared.op.Item.TheVariants.{Operation}
+use Rattle.nfs_compound.specs.declared.op.Op.TheVariants as Op
+use Rattle.nfs_compound.specs.declared.lock_args.Lock.{Lock}
 use Rattle.nfs_ranges.specs.declared.Kind.TheVariants.{Write}
 use Rattle.nfs_opens.specs.Table.{Table}
 use Rattle.nfs_opens.specs.declared.stateid.StateId.{StateId}
@@ -51,16 +53,16 @@ other_open id e one =
 abbrev close : Close
 close = record { seqid = 0; open_stateid = record { seqid = 1; other = words (7 ∷ 0 ∷ 3 ∷ []) } }
 
-pub closes_other : (x : Context) (a : Close) (id : StateId) → Operation (OpClose close) ≡ Operation (OpClose a) → meant x Own a.open_stateid ≡ Ok id → id.number ≡ 1 → ⊥
+pub closes_other : (x : Context) (a : Close) (id : StateId) → Operation (Op.Close close) ≡ Operation (Op.Close a) → meant x Own a.open_stateid ≡ Ok id → id.number ≡ 1 → ⊥
 unfolding number hyper
 closes_other x a id is means one =
     let same : close ≡ a = cc in
     other_open id (subst (λ (a : Close). meant x Own a.open_stateid ≡ Ok id) (sym same) means) one
 
-no_lock : (a : Lock) → Operation (OpClose close) ≡ Operation (OpLock a) → ⊥
+no_lock : (a : Lock) → Operation (Op.Close close) ≡ Operation (Op.Lock a) → ⊥
 no_lock a e = cc
 
-no_unlock : (a : LockU) → Operation (OpClose close) ≡ Operation (OpLockU a) → ⊥
+no_unlock : (a : LockU) → Operation (Op.Close close) ≡ Operation (Op.LockU a) → ⊥
 no_unlock a e = cc
 
 spared : (d : RanOp) → Spares worked.told (closes_another d)

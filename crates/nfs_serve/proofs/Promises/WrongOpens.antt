@@ -2,8 +2,9 @@
 use Rattle.std.proofs.Common.{◌≡◌, Bool, true, false, [], ◌∷◌, refl, sym, ◌∙◌, ap, subst, inl, inr}
 use Rattle.std.proofs.lemmas.Bool.{true≢false}
 use Rattle.nfs_xdr.specs.Tables.{In}
-use Rattle.nfs_compound.specs.Operation.{Op, Operation, OpOpen, OpOpenDowngrade, OpClose}
-use Rattle.nfs_compound.specs.OpenArgs.{Open}
+use Rattle.nfs_compound.specs.declared.op.Op.{Op}
+use Rattle.nfs_compound.specs.declared.op.Item.TheVariants.{Operation}
+use Rattle.nfs_compound.specs.declared.open_args.Open.{Open}
 use Rattle.nfs_compound.specs.declared.open_args.Close.{Close}
 use Rattle.nfs_compound.specs.declared.open_args.OpenDowngrade.{OpenDowngrade}
 use Rattle.nfs_opens.specs.declared.share.Share.{Share}
@@ -29,10 +30,10 @@ other_deny t b o v w is have want apart stands =
 none_stands : (t : Table) (b : Bits) → t.opens ≡ [] → IsOpenWith worked.its_open b t → ⊥
 none_stands t b none stands = absurd (subst (In stands.state) none stands.there)
 
-no_close : (op : Op) (a : Open) (c : Close) → op ≡ OpOpen a → Operation op ≡ Operation (OpClose c) → ⊥
+no_close : (op : Op) (a : Open) (c : Close) → op ≡ Op.Open a → Operation op ≡ Operation (Op.Close c) → ⊥
 no_close op a c is e = cc
 
-not_narrowing : (a : OpenDowngrade) (c : Close) → Operation (OpOpenDowngrade a) ≡ Operation (OpClose c) → ⊥
+not_narrowing : (a : OpenDowngrade) (c : Close) → Operation (Op.OpenDowngrade a) ≡ Operation (Op.Close c) → ⊥
 not_narrowing a c e = cc
 
 -- A's open, as it is when B asks
@@ -43,7 +44,7 @@ pub opens_are_refused : OpensAreRefused
 unfolding computing
 opens_are_refused = record {
   replaced = λ d is. other_deny (puts_in_place (last_of d (ops_of worked.asked worked.asks))).behind.store.opens _ (its reading neither) false true refl refl refl
-      (λ e. true≢false (sym e)) (is.1 (λ closes. no_close (OpOpen reads_too) reads_too closes.asked refl closes.is)).0;
+      (λ e. true≢false (sym e)) (is.1 (λ closes. no_close (Op.Open reads_too) reads_too closes.asked refl closes.is)).0;
   wide = λ d is. other_deny (keeps_bits (last_of d (ops_of worked.asked worked.asks))).behind.store.opens _
       (its (record { reads = true; writes = true }) (record { reads = false; writes = true })) true false refl refl refl
       (λ e. true≢false e) (is.1 (λ closes. not_narrowing _ closes.asked closes.is)).0;

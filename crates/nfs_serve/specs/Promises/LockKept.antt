@@ -4,8 +4,9 @@ use Rattle.std.specs.Prelude.{◌≡◌, ℕ, ◌+◌, ◌≤◌, Bool, true, fa
 use Rattle.std.specs.Option.{option_map_or}
 use Rattle.nfs_xdr.specs.Spelling.{number}
 use Rattle.nfs_xdr.specs.Tables.{In}
-use Rattle.nfs_compound.specs.Operation.{Operation, OpGetAttr}
-use Rattle.nfs_results.specs.Result.{ResGetAttr}
+use Rattle.nfs_compound.specs.declared.op.Item.TheVariants.{Operation}
+use Rattle.nfs_compound.specs.declared.op.Op.TheVariants as Op
+use Rattle.nfs_results.specs.declared.res.Res.TheVariants as Res
 use Rattle.nfs_results.specs.Results.{spell_result}
 use Rattle.nfs_exec.specs.Machine.{is_ok}
 use Rattle.nfs_exec.specs.Ops.{RanOp}
@@ -74,5 +75,5 @@ OnlyOneIsTold = (mode instance lease : ℕ) (earlier : List Arrival) (c : Arriva
 -- The lease is told: a GETATTR of attribute 10, lease_time, that answers NFS4_OK gives the very number of seconds that leases last.
 abbrev pub LeaseIsTold : Type 0
 LeaseIsTold = (mode instance lease : ℕ) (records : List Arrival) (c : Arrival) (d : RanOp) → In d (ops_of (reached mode instance lease records) c)
-    → d.item ≡ Operation (OpGetAttr (0x400 ∷ [])) → is_ok d.status ≡ true
-    → d.result ≡ spell_result (ResGetAttr (record { attrmask = 0x400 ∷ []; attr_vals = number lease }))
+    → d.item ≡ Operation (Op.GetAttr (0x400 ∷ [])) → is_ok d.status ≡ true
+    → d.result ≡ spell_result (Res.GetAttr (record { attrmask = 0x400 ∷ []; attr_vals = number lease }))

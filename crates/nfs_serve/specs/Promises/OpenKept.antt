@@ -2,9 +2,10 @@
 -- 9.7, 18.2, 18.16 and 18.18).
 use Rattle.std.specs.Prelude.{◌≡◌, ℕ, ◌+◌, ◌≤◌, true, List, [], ◌∷◌, ◌++◌, if◌then◌else◌}
 use Rattle.nfs_xdr.specs.Tables.{In}
-use Rattle.nfs_compound.specs.OpenArgs.{Open}
-use Rattle.nfs_compound.specs.declared.op_num.OpNum.TheVariants as Op
-use Rattle.nfs_compound.specs.Operation.{Operation, OpOpen}
+use Rattle.nfs_compound.specs.declared.open_args.Open.{Open}
+use Rattle.nfs_compound.specs.declared.op_num.OpNum.TheVariants as Num
+use Rattle.nfs_compound.specs.declared.op.Item.TheVariants.{Operation}
+use Rattle.nfs_compound.specs.declared.op.Op.TheVariants as Op
 use Rattle.nfs_files.specs.OpenTold.{names_open, OpenTold, Bits, IsOpenWith}
 use Rattle.nfs_exec.specs.Ops.{RanOp}
 use Rattle.nfs_exec.specs.LockHeld.{IsAlone}
@@ -39,7 +40,7 @@ OpenKept = (mode instance lease : ℕ) (earlier : List Arrival) (c : Arrival) (k
 -- Whatever OPEN is answered NFS4_OK and a stateid told an open.
 abbrev pub EachOpenIsTold : Type 0
 EachOpenIsTold = (mode instance lease : ℕ) (records : List Arrival) (c : Arrival) (d : RanOp) (a : Open) (n : ℕ)
-    → In d (ops_of (reached mode instance lease records) c) → d.item ≡ Operation (OpOpen a) → names_open Op.Open d.result n ≡ true
+    → In d (ops_of (reached mode instance lease records) c) → d.item ≡ Operation (Op.Open a) → names_open Num.Open d.result n ≡ true
     → (k : OpenTold) × (b : Bits) × (k.number ≡ n) × TellsOpen k b d
 
 -- The records come in time and close it nowhere, and leave its client: up to a state and a moment of the client's last renewal, and to bits, of which this holds.

@@ -8,7 +8,7 @@ use Rattle.nfs_xdr.specs.declared.status.Status.TheVariants.{Nfs4Ok}
 use Rattle.nfs_rpc.specs.CallHead.{Call, Called, Accepted, Refused, call_of}
 use Rattle.nfs_rpc.specs.Wire.{opaque_auth}
 use Rattle.nfs_compound.specs.declared.session_args.Sequence.{Sequence}
-use Rattle.nfs_compound.specs.declared.op_num.OpNum.TheVariants as Op
+use Rattle.nfs_compound.specs.declared.op_num.OpNum.TheVariants as Num
 use Rattle.nfs_compound.specs.OpNum.{op_number}
 use Rattle.nfs_results.specs.Wire.{text_of, ends}
 use Rattle.nfs_slots.specs.Slot.{SlotState}
@@ -38,7 +38,7 @@ front first (status, (tag, count)) = uint32 status then opaque opaque_limit tag 
 
 -- SEQUENCE with NFS4_OK, and this of what is behind that
 abbrev pub sequence : Text → Text
-sequence behind = text_of (ends (op_number Op.Sequence) Nfs4Ok behind)
+sequence behind = text_of (ends (op_number Num.Sequence) Nfs4Ok behind)
 
 -- the first operation that answered is SEQUENCE, with NFS4_OK
 abbrev pub IsSequenced : List ℕ → Type 0

@@ -1,7 +1,7 @@
 -- A byte that stays, worked by hand in words of four bytes (RFC 8881 sections 18.2, 18.16, 18.22 and 18.32). To a new server of instance 7 comes a client `A`,
 -- which makes the file `f`, writes four bytes to it, writes two more behind a gap, closes the file and reads it.
 use Rattle.std.specs.Prelude.{◌≡◌, ℕ, List, [], ◌∷◌, ◌++◌}
-use Rattle.nfs_compound.specs.declared.op_num.OpNum.TheVariants as Op
+use Rattle.nfs_compound.specs.declared.op_num.OpNum.TheVariants as Num
 use Rattle.nfs_results.specs.Results.{done_head}
 use Rattle.nfs_files.specs.Written.{Byte, Reads, bytes_in}
 use Rattle.nfs_exec.specs.Ops.{RanOp}
@@ -66,7 +66,7 @@ pub record StaysTo : Type 0 where
 
 -- a READ that answers NFS4_OK and this
 abbrev pub answering : List ℕ → RanOp → RanOp
-answering text d = record d { result = done_head Op.Read ++ text }
+answering text d = record d { result = done_head Num.Read ++ text }
 
 -- the same in a state whose objects are gone, while their names are not
 abbrev pub without_objects : RanOp → RanOp

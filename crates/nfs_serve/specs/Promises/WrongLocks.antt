@@ -1,8 +1,9 @@
 -- Wrong steps that the promises of locks refuse, worked by hand over the run of `HeldLock` (RFC 8881 sections 8.3, 9.1, 18.2 and 18.10). Each is a step that this server
 -- does not take: what a server that took it did is no lock kept.
-use Rattle.std.specs.Prelude.{◌≡◌, ℕ, List, [], ◌∷◌, ◌++◌, Option, None, Some}
-use Rattle.nfs_compound.specs.declared.op_num.OpNum.TheVariants as Op
-use Rattle.nfs_compound.specs.Operation.{Operation, OpClose}
+use Rattle.std.specs.Prelude.{◌≡◌, ℕ, [], ◌∷◌, ◌++◌, Option, None, Some}
+use Rattle.nfs_compound.specs.declared.op_num.OpNum.TheVariants as Num
+use Rattle.nfs_compound.specs.declared.op.Item.TheVariants.{Operation}
+use Rattle.nfs_compound.specs.declared.op.Op.TheVariants as Op
 use Rattle.nfs_lease.specs.Renewals.{with_renewal}
 use Rattle.nfs_results.specs.Results.{done_head}
 use Rattle.nfs_ranges.specs.declared.Kind.TheVariants.{Write}
@@ -30,13 +31,13 @@ set_back = record locked { machine = record locked.machine { leases = with_renew
 
 -- a LOCK that answers NFS4_OK and a stateid, of lock state 4, and does nothing
 abbrev pub told_anyway : RanOp → RanOp
-told_anyway lock = record lock { result = done_head Op.Lock ++ stateid_of_lock 4 }
+told_anyway lock = record lock { result = done_head Num.Lock ++ stateid_of_lock 4 }
 
 -- a CLOSE of open 3, which is B's, that closes A's, and answers as it ought to
 abbrev pub closes_another : RanOp → RanOp
 closes_another d = record d {
-  item = Operation (OpClose (record { seqid = 0; open_stateid = record { seqid = 1; other = words (7 ∷ 0 ∷ 3 ∷ []) } }));
-  result = done_head Op.Close ++ words (0xffff_ffff ∷ 0 ∷ 0 ∷ 0 ∷ []);
+  item = Operation (Op.Close (record { seqid = 0; open_stateid = record { seqid = 1; other = words (7 ∷ 0 ∷ 3 ∷ []) } }));
+  result = done_head Num.Close ++ words (0xffff_ffff ∷ 0 ∷ 0 ∷ 0 ∷ []);
   behind = record d.before { store = with_opens d.before.store (without_open d.before.store.opens 1) };
 }
 

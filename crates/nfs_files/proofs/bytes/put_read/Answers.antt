@@ -4,7 +4,7 @@ use Rattle.nfs_xdr.specs.Spelling.{flag, opaque, padding}
 use Rattle.nfs_xdr.specs.declared.status.Status.TheVariants.{Nfs4Ok}
 use Rattle.nfs_xdr.proofs.Putting.{puts_then}
 use Rattle.std.proofs.lemmas.List.{length-append}
-use Rattle.nfs_compound.specs.declared.op_num.OpNum.TheVariants as Op
+use Rattle.nfs_compound.specs.declared.op_num.OpNum.TheVariants as Num
 use Rattle.nfs_compound.specs.OpNum.{op_number}
 use Rattle.nfs_results.specs.Items.{read_ok}
 use Rattle.nfs_results.specs.Largest.{given}
@@ -18,7 +18,7 @@ use Rattle.nfs_files.proofs.ReadBytes.{eof_is, read_fits}
 use Rattle.nfs_files.proofs.bytes.put_read.Goals as goal
 
 pub write_done_head-requires : goal.write_done_head-requires
-write_done_head-requires c = record { room = omega (arith, length_head (op_number Op.Read) Nfs4Ok) }
+write_done_head-requires c = record { room = omega (arith, length_head (op_number Num.Read) Nfs4Ok) }
 
 pub put_flag-requires : goal.put_flag-requires
 put_flag-requires c =
@@ -28,8 +28,8 @@ put_flag-requires c =
     let eof = c.reaches_end.result in
     let fits = read_fits s r d eof (eof_is s r d c.given-count.result eof c.kept.ensures c.requires.there c.given-count.ensures.value c.reaches_end.ensures) in
     record {
-      room = room_then c.args.out.now _ (head (op_number Op.Read) Nfs4Ok) (flag eof) (16 + (given r.count + padding (given r.count))) c.write_done_head.ensures
-          (omega (arith, fits, length_head (op_number Op.Read) Nfs4Ok)) c.requires.room;
+      room = room_then c.args.out.now _ (head (op_number Num.Read) Nfs4Ok) (flag eof) (16 + (given r.count + padding (given r.count))) c.write_done_head.ensures
+          (omega (arith, fits, length_head (op_number Num.Read) Nfs4Ok)) c.requires.room;
     }
 
 pub read-requires : goal.read-requires
@@ -38,14 +38,14 @@ read-requires c =
     let r = c.args.asked.now in
     let d = c.args.node.now in
     let eof = c.reaches_end.result in
-    let front = head (op_number Op.Read) Nfs4Ok in
+    let front = head (op_number Num.Read) Nfs4Ok in
     let fits = read_fits s r d eof (eof_is s r d c.given-count.result eof c.kept.ensures c.requires.there c.given-count.ensures.value c.reaches_end.ensures) in
     let same : part s.tree d.number r.offset c.given-count.result ≡ bytes_of s r d = ap (part s.tree d.number r.offset) c.given-count.ensures.value in
     record {
       room = subst (λ (text : List ℕ). HasRoom c.put_flag.new.self (opaque text)) (sym same)
           (room_then c.args.out.now _ (front ++ flag eof) (opaque (bytes_of s r d))
           (16 + (given r.count + padding (given r.count))) (puts_then c.write_done_head.ensures c.put_flag.ensures)
-          (omega (arith, fits, length-append front (flag eof), length_head (op_number Op.Read) Nfs4Ok)) c.requires.room);
+          (omega (arith, fits, length-append front (flag eof), length_head (op_number Num.Read) Nfs4Ok)) c.requires.room);
     }
 
 pub returns : goal.returns
@@ -55,7 +55,7 @@ returns c =
     let r = c.args.asked.now in
     let d = c.args.node.now in
     let eof = c.reaches_end.result in
-    let front = head (op_number Op.Read) Nfs4Ok in
+    let front = head (op_number Num.Read) Nfs4Ok in
     let ends : eof ≡ (was_read s r d).eof =
     eof_is s r d c.given-count.result eof c.kept.ensures c.requires.there c.given-count.ensures.value c.reaches_end.ensures in
     let same : part s.tree d.number r.offset c.given-count.result ≡ bytes_of s r d = ap (part s.tree d.number r.offset) c.given-count.ensures.value in

@@ -1,7 +1,7 @@
 use Rattle.std.proofs.Common.{◌∙◌, ap}
-use Rattle.nfs_results.specs.Result.{ResClose}
+use Rattle.nfs_results.specs.declared.res.Res.TheVariants as Res
 use Rattle.nfs_files.specs.Target.{with_stateid}
-use Rattle.nfs_compound.specs.declared.op_num.OpNum.TheVariants as Op
+use Rattle.nfs_compound.specs.declared.op_num.OpNum.TheVariants as Num
 use Rattle.nfs_opens.specs.Closing as opens
 use Rattle.nfs_names.specs.State.{State, state_of}
 use Rattle.nfs_files.specs.Close.{spent, closed}
@@ -13,7 +13,7 @@ returns-in-Err c =
     let s = state_of c.args.store.now in
     let x = c.args.context.now in
     let t = c.args.target in
-    by_refusal s x Op.Close (opens.close s.opens t.id x.client t.file) (λ did. closed s x t.file did.1) c.in-Err.status _ _
+    by_refusal s x Num.Close (opens.close s.opens t.id x.client t.file) (λ did. closed s x t.file did.1) c.in-Err.status _ _
     c.in-Err.ensures.answer c.in-Err.ensures.after c.refuse.ensures
 
 pub returns-in-Ok : goal.returns-in-Ok
@@ -21,5 +21,5 @@ returns-in-Ok c =
     let s = state_of c.args.store.now in
     let x = c.args.context.now in
     let t = c.args.target in
-    ap (λ (left : State). record { result = ResClose spent; state = left; context = with_stateid x spent }) c.drop_unused.ensures.state
-    ∙ by_grant s x Op.Close (opens.close s.opens t.id x.client t.file) (λ did. closed s x t.file did.1) tt _ c.in-Ok.ensures.answer c.in-Ok.ensures.after
+    ap (λ (left : State). record { result = Res.Close spent; state = left; context = with_stateid x spent }) c.drop_unused.ensures.state
+    ∙ by_grant s x Num.Close (opens.close s.opens t.id x.client t.file) (λ did. closed s x t.file did.1) tt _ c.in-Ok.ensures.answer c.in-Ok.ensures.after

@@ -1,10 +1,10 @@
 use Rattle.nfs_opens.specs.Table.{table}
 use Rattle.nfs_names.specs.Ending.{with_opens}
-use Rattle.nfs_results.specs.Result.{ResOpenDowngrade}
+use Rattle.nfs_results.specs.declared.res.Res.TheVariants as Res
 use Rattle.nfs_compound.specs.declared.stateid.Stateid.{Stateid}
 use Rattle.nfs_files.specs.Target.{with_stateid}
 use Rattle.std.proofs.Common.{◌∙◌, ap}
-use Rattle.nfs_compound.specs.declared.op_num.OpNum.TheVariants as Op
+use Rattle.nfs_compound.specs.declared.op_num.OpNum.TheVariants as Num
 use Rattle.nfs_opens.specs.declared.share.Share.{Share}
 use Rattle.nfs_opens.specs.Opening as opens
 use Rattle.nfs_names.specs.State.{state_of}
@@ -22,8 +22,8 @@ returns-in-Err c =
     let access = c.bits-access.result in
     let deny = c.bits-deny.result in
     let by_shares : Share → Share → Outcome =
-    λ access deny. answers s x Op.OpenDowngrade (opens.downgrade s.opens t.id x.client t.file access deny) (λ did. narrowed s x did.0 did.1) in
-    by_refusal s x Op.OpenDowngrade (opens.downgrade s.opens t.id x.client t.file access deny) (λ did. narrowed s x did.0 did.1) c.in-Err.status _ _
+    λ access deny. answers s x Num.OpenDowngrade (opens.downgrade s.opens t.id x.client t.file access deny) (λ did. narrowed s x did.0 did.1) in
+    by_refusal s x Num.OpenDowngrade (opens.downgrade s.opens t.id x.client t.file access deny) (λ did. narrowed s x did.0 did.1) c.in-Err.status _ _
     c.in-Err.ensures.answer c.in-Err.ensures.after c.refuse.ensures
     ∙ ap (λ v. by_shares v deny) c.bits-access.ensures ∙ ap (by_shares (bits a.share_access)) c.bits-deny.ensures
 
@@ -36,8 +36,8 @@ returns-in-Ok c =
     let access = c.bits-access.result in
     let deny = c.bits-deny.result in
     let by_shares : Share → Share → Outcome =
-    λ access deny. answers s x Op.OpenDowngrade (opens.downgrade s.opens t.id x.client t.file access deny) (λ did. narrowed s x did.0 did.1) in
-    ap (λ (w : Stateid). record { result = ResOpenDowngrade w; state = with_opens s (table c.downgrade.new.self); context = with_stateid x w }) c.wire_id-id.ensures
-    ∙ by_grant s x Op.OpenDowngrade (opens.downgrade s.opens t.id x.client t.file access deny) (λ did. narrowed s x did.0 did.1) c.in-Ok.id _
+    λ access deny. answers s x Num.OpenDowngrade (opens.downgrade s.opens t.id x.client t.file access deny) (λ did. narrowed s x did.0 did.1) in
+    ap (λ (w : Stateid). record { result = Res.OpenDowngrade w; state = with_opens s (table c.downgrade.new.self); context = with_stateid x w }) c.wire_id-id.ensures
+    ∙ by_grant s x Num.OpenDowngrade (opens.downgrade s.opens t.id x.client t.file access deny) (λ did. narrowed s x did.0 did.1) c.in-Ok.id _
     c.in-Ok.ensures.answer c.in-Ok.ensures.after
     ∙ ap (λ v. by_shares v deny) c.bits-access.ensures ∙ ap (by_shares (bits a.share_access)) c.bits-deny.ensures

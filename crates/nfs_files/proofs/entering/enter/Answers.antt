@@ -1,7 +1,6 @@
 use Rattle.std.proofs.Common.{◌≡◌, ◌⊎◌, ◌+◌, true, sym, ap, subst, ◌∙◌}
 use Rattle.std.specs.Prelude.{Err}
 use Rattle.std.proofs.lemmas.Result.{err_from_is_err_and}
-use Rattle.nfs_compound.specs.OpenCodecs.{view_open}
 use Rattle.nfs_tree.specs.Calls as tree_create
 use Rattle.nfs_tree.specs.Create.{with_new}
 use Rattle.nfs_tree.specs.Calls.{create_fault, does_unless, DoesOrWants}
@@ -19,7 +18,7 @@ returns-in_err-created-in-Absent c =
     let t = c.args.tree.now in
     let x = c.args.context.now in
     let now = c.args.now in
-    let o = view_open c.args.asked.now in
+    let o = c.args.asked.now in
     let m = c.in-Absent.making in
     let d = m.place.number in
     let left = c.create.new.self in

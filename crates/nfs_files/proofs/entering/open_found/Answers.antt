@@ -1,5 +1,4 @@
 use Rattle.std.proofs.Common.{◌≡◌, true, Some, None, inl, inr, refl, sym, ap, ◌∙◌}
-use Rattle.nfs_compound.specs.OpenCodecs.{view_open}
 use Rattle.nfs_tree.specs.declared.fault.TreeFault.TheVariants.{Memory}
 use Rattle.nfs_tree.specs.Files.{Files}
 use Rattle.nfs_opens.specs.Table.{Kept, table}
@@ -21,7 +20,7 @@ returns-in-Err c =
     let s = state_of c.args.store.now in
     let x = c.args.context.now in
     let t = s.tree in
-    let o = view_open c.args.asked.now in
+    let o = c.args.asked.now in
     let found = c.args.found.now in
     let f = c.in-Err.fault in
     let granted = checked_ok (asked_for s x o) (last_checks s x o) found c.requires.granted in
@@ -37,7 +36,7 @@ pub info_of-cinfo-requires : goal.info_of-cinfo-requires
 info_of-cinfo-requires c =
     let s = state_of c.args.store.now in
     let x = c.args.context.now in
-    let o = view_open c.args.asked.now in
+    let o = c.args.asked.now in
     let found = c.args.found.now in
     may_change s x o found (checked_ok (asked_for s x o) (last_checks s x o) found c.requires.granted).1
 
@@ -46,7 +45,7 @@ open-requires-clause-judged c =
     let s = state_of c.args.store.now in
     let x = c.args.context.now in
     let t = s.tree in
-    let o = view_open c.args.asked.now in
+    let o = c.args.asked.now in
     let found = c.args.found.now in
     let granted = checked_ok (asked_for s x o) (last_checks s x o) found c.requires.granted in
     let did = done_by_tree t true (tree_fault t o found) (file_of t found) c.in-Ok-enter.file

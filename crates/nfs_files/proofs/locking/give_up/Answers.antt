@@ -4,8 +4,8 @@ use Rattle.nfs_compound.specs.declared.stateid.Stateid.{Stateid}
 use Rattle.nfs_files.specs.Target.{with_stateid}
 use Rattle.std.proofs.Common.{ap, ◌∙◌, sym, refl, not}
 use Rattle.std.specs.Prelude.{◌&&◌}
-use Rattle.nfs_compound.specs.declared.op_num.OpNum.TheVariants as Op
-use Rattle.nfs_results.specs.Result.{Res, Refused, ResLockU}
+use Rattle.nfs_compound.specs.declared.op_num.OpNum.TheVariants as Num
+use Rattle.nfs_results.specs.declared.res.Res.{Res}
 use Rattle.nfs_results.specs.Results.{status_of_result}
 use Rattle.nfs_opens.specs.Locking.{unlock}
 use Rattle.nfs_opens.specs.Calls.{is_whole}
@@ -23,10 +23,10 @@ returns-in-Err c =
     let w = k.wish in
     let whole = is_whole w.first w.last in
     let did = unlock s.opens k.id w.client w.file w.first w.last in
-    let is = c.refuse.ensures ∙ ap (Refused 14) c.status_of.ensures in
-    refused_outcome s x Op.LockU (not whole) did (unlocked_by s x) c.in-Err.fault _ _ (ok_unlocked s x) refl is
+    let is = c.refuse.ensures ∙ ap (Res.Refused 14) c.status_of.ensures in
+    refused_outcome s x Num.LockU (not whole) did (unlocked_by s x) c.in-Err.fault _ _ (ok_unlocked s x) refl is
     (unlock_tells s.opens whole did _ c.in-Err.fault c.in-Err.ensures.unlocks)
-    ∙ sym (ap (λ (r : Res). or_delay (not whole && is_delay (status_of_result r)) s x Op.LockU (unlocks s x k)) is)
+    ∙ sym (ap (λ (r : Res). or_delay (not whole && is_delay (status_of_result r)) s x Num.LockU (unlocks s x k)) is)
 
 pub returns-in-Ok : goal.returns-in-Ok
 returns-in-Ok c =
@@ -36,5 +36,5 @@ returns-in-Ok c =
     let w = k.wish in
     let grows = not (is_whole w.first w.last) in
     let did = unlock s.opens k.id w.client w.file w.first w.last in
-    ap (λ (w : Stateid). record { result = ResLockU w; state = with_opens s (table c.unlock.new.self); context = with_stateid x w }) c.wire_id-id.ensures
+    ap (λ (w : Stateid). record { result = Res.LockU w; state = with_opens s (table c.unlock.new.self); context = with_stateid x w }) c.wire_id-id.ensures
     ∙ granted_outcome grows s x did c.in-Ok.id _ c.in-Ok.ensures.unlocks.0 c.in-Ok.ensures.unlocks.1

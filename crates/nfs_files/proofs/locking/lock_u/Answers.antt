@@ -1,8 +1,7 @@
 use Rattle.std.proofs.Common.{◌≡◌, ap, ◌∙◌, sym, not}
 use Rattle.std.specs.Prelude.{Ok, ◌&&◌}
-use Rattle.nfs_compound.specs.declared.op_num.OpNum.TheVariants as Op
+use Rattle.nfs_compound.specs.declared.op_num.OpNum.TheVariants as Num
 use Rattle.nfs_results.specs.Results.{status_of_result}
-use Rattle.nfs_results.specs.View as view
 use Rattle.nfs_names.specs.State.{state_of}
 use Rattle.nfs_names.specs.Outcome.{answers, or_delay, is_delay}
 use Rattle.nfs_files.specs.LockU.{unlocking, unlocks, lock_u, wants_memory}
@@ -16,9 +15,9 @@ returns-in-Ok c =
     let x = c.args.context.now in
     let a = c.args.asked.now in
     let k = c.in-Ok.wished in
-    let delayed = is_delay (status_of_result (view.res c.give_up.result)) in
+    let delayed = is_delay (status_of_result c.give_up.result) in
     let found : unlocking s x a ≡ Ok k = sym c.judge_unlock.ensures.wish ∙ c.in-Ok.is in
     let whole = wished_whole s x a.locktype a.offset a.length a.lock_stateid k found in
     c.give_up.ensures
-    ∙ ap (λ b. or_delay (not b && delayed) s x Op.LockU (unlocks s x k)) whole
-    ∙ sym (ap (λ v. or_delay (wants_memory a && delayed) s x Op.LockU (answers s x Op.LockU v (unlocks s x))) found)
+    ∙ ap (λ b. or_delay (not b && delayed) s x Num.LockU (unlocks s x k)) whole
+    ∙ sym (ap (λ v. or_delay (wants_memory a && delayed) s x Num.LockU (answers s x Num.LockU v (unlocks s x))) found)

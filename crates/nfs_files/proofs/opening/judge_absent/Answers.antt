@@ -2,7 +2,6 @@ use Rattle.std.proofs.Common.{◌≡◌, false, not, Some, refl, sym, ap, ◌∙
 use Rattle.std.specs.Prelude.{Ok, Err}
 use Rattle.std.proofs.lemmas.Result.{err_from_is_err_and}
 use Rattle.nfs_xdr.specs.Checks.{first_fault, judged}
-use Rattle.nfs_compound.specs.OpenCodecs.{view_open}
 use Rattle.nfs_attrs.specs.Permissions.{write}
 use Rattle.nfs_attrs.specs.Setting.{make_checks}
 use Rattle.nfs_names.specs.Checks.{permits}
@@ -13,7 +12,7 @@ use Rattle.nfs_files.proofs.opening.judge_absent.Goals as goal
 pub returns-in_err-may_make : goal.returns-in_err-may_make
 returns-in_err-may_make c =
     let x = c.args.context.now in
-    let o = view_open c.args.asked.now in
+    let o = c.args.asked.now in
     let m = c.args.making in
     let f = c.in_err-may_make.field-0.0 in
     let r = err_from_is_err_and c.from_residual.result c.from_residual.ensures.1 in

@@ -2,7 +2,6 @@ use Rattle.std.proofs.Common.{◌≡◌, Some, None, refl, sym, ap, ◌∙◌}
 use Rattle.std.specs.Prelude.{Ok, Err}
 use Rattle.std.proofs.lemmas.Result.{err_from_is_err_and}
 use Rattle.nfs_xdr.specs.Checks.{first_fault}
-use Rattle.nfs_compound.specs.ArgCodecs.{view_set_attr}
 use Rattle.nfs_attrs.specs.Setting.{may_set}
 use Rattle.nfs_names.specs.State.{state_of}
 use Rattle.nfs_names.specs.Outcome.{passed, checked}
@@ -16,7 +15,7 @@ pub returns-in_err-may_set : goal.returns-in_err-may_set
 returns-in_err-may_set c =
     let s = state_of c.args.store.now in
     let x = c.args.context.now in
-    let a = view_set_attr c.args.asked.now in
+    let a = c.args.asked.now in
     let d = c.in_ok-node.node in
     let w = c.in-Ok.wanted in
     let m : Setting = record { node = d; wanted = w } in
@@ -32,7 +31,7 @@ pub returns : goal.returns
 returns c =
     let s = state_of c.args.store.now in
     let x = c.args.context.now in
-    let a = view_set_attr c.args.asked.now in
+    let a = c.args.asked.now in
     let d = c.in_ok-node.node in
     let w = c.in-Ok.wanted in
     let m : Setting = record { node = d; wanted = w } in

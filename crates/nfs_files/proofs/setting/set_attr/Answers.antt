@@ -1,7 +1,6 @@
 use Rattle.std.proofs.Common.{ℕ, List, sym, ap, ◌∙◌}
-use Rattle.nfs_compound.specs.declared.op_num.OpNum.TheVariants as Op
-use Rattle.nfs_compound.specs.ArgCodecs.{view_set_attr}
-use Rattle.nfs_results.specs.Result.{Res, ResSetAttr}
+use Rattle.nfs_compound.specs.declared.op_num.OpNum.TheVariants as Num
+use Rattle.nfs_results.specs.declared.res.Res.{Res}
 use Rattle.nfs_results.specs.Results.{refusal}
 use Rattle.nfs_xdr.specs.declared.status.Status.TheVariants.{Nfs4Ok}
 use Rattle.nfs_tree.specs.Files.{Files}
@@ -19,14 +18,14 @@ pub returns-in-Ok-change : goal.returns-in-Ok-change
 returns-in-Ok-change c =
     let s = state_of c.args.store.now in
     let x = c.args.context.now in
-    let a = view_set_attr c.args.asked.now in
+    let a = c.args.asked.now in
     let m = c.in-Ok.setting in
-    let told : List ℕ → Res = ResSetAttr Nfs4Ok in
+    let told : List ℕ → Res = Res.SetAttr Nfs4Ok in
     let leaves : Res → Files → Outcome = λ r t. record { result = r; state = with_tree s t; context = x } in
     let after = with_set s.tree m.node.number c.args.now m.wanted m.wanted.size in
     let did = did_ok s.tree (tree_fault s.tree m.node.number m.wanted m.wanted.size) tt c.in-Ok-change.field-0 after c.change.new.tree
     c.in-Ok-change.ensures.answer c.in-Ok-change.ensures.after in
-    ap (λ set. leaves (told set) c.change.new.tree) (c.attr_set.ensures ∙ ap trimmed_words c.new-given.ensures)
+    ap (λ set. leaves (told set) c.change.new.tree) (c.attr_set.ensures ∙ ap trimmed_words c.mask_in-given.ensures)
     ∙ ap (leaves (told (trimmed_words (mask_of a.obj_attributes.attrmask)))) did.2
     ∙ sym (set_goes s x c.args.now a m (sym c.judge.ensures ∙ c.in-Ok.is) did.0)
 
@@ -34,7 +33,7 @@ pub returns-in-Err-change : goal.returns-in-Err-change
 returns-in-Err-change c =
     let s = state_of c.args.store.now in
     let x = c.args.context.now in
-    let a = view_set_attr c.args.asked.now in
+    let a = c.args.asked.now in
     let m = c.in-Ok.setting in
     let f = c.in-Err-change.fault in
     let leaves : Res → Files → Outcome = λ r t. record { result = r; state = with_tree s t; context = x } in
@@ -50,6 +49,6 @@ unfolding set_attr
 returns-in-Err c =
     let s = state_of c.args.store.now in
     let x = c.args.context.now in
-    let a = view_set_attr c.args.asked.now in
+    let a = c.args.asked.now in
     ap (λ (r : Res). record { result = r; state = s; context = x }) c.refuse-in-Err.ensures
-    ∙ sym (by_error s x Op.SetAttr (asked_for s x a) (last_checks s) (was_set s x c.args.now a) c.in-Err.status (sym c.judge.ensures ∙ c.in-Err.is))
+    ∙ sym (by_error s x Num.SetAttr (asked_for s x a) (last_checks s) (was_set s x c.args.now a) c.in-Err.status (sym c.judge.ensures ∙ c.in-Err.is))

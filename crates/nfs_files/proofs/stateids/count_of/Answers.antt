@@ -4,4 +4,4 @@ use Rattle.nfs_files.proofs.Codes.{same_word}
 use Rattle.nfs_files.proofs.stateids.count_of.Goals as goal
 
 pub returns : goal.returns
-returns c = same_word c.len.result ∙ ap number c.len.ensures
+returns c = same_word c.len.result ∙ ap number c.len.ensures.value

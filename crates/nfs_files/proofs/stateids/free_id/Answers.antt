@@ -1,5 +1,5 @@
-use Rattle.nfs_compound.specs.declared.op_num.OpNum.TheVariants as Op
-use Rattle.nfs_results.specs.Result.{ResFreeStateid}
+use Rattle.nfs_compound.specs.declared.op_num.OpNum.TheVariants as Num
+use Rattle.nfs_results.specs.declared.res.Res.TheVariants as Res
 use Rattle.nfs_opens.specs.Closing as opens
 use Rattle.nfs_names.specs.State.{state_of}
 use Rattle.nfs_names.specs.Outcome.{done}
@@ -11,5 +11,5 @@ pub returns-in-Err : goal.returns-in-Err
 returns-in-Err c =
     let s = state_of c.args.store.now in
     let x = c.args.context.now in
-    by_refusal s x Op.FreeStateid (opens.free s.opens c.args.id x.client) (λ did. done (with_opens s did.1) x ResFreeStateid) c.in-Err.status _ _
+    by_refusal s x Num.FreeStateid (opens.free s.opens c.args.id x.client) (λ did. done (with_opens s did.1) x Res.FreeStateid) c.in-Err.status _ _
     c.in-Err.ensures.answer c.in-Err.ensures.after c.refuse.ensures

@@ -7,15 +7,15 @@ pub put_u32-requires : goal.put_u32-requires
 put_u32-requires c =
     let before = c.loop-place-test.true in
     let end = c.loop-place.auto.place-end in
-    let count = c.len-place-end.ensures in
+    let count = c.len-place-end.ensures.value in
     record {
       room = room_for_code (state_of c.args.store.now) c.args.context.now c.args.out.now c.loop-place.out
-          c.args.given.now.spelled.now c.loop-place.place c.code.result (omega arith) c.requires c.loop-place.invariant;
+          c.args.given.now c.loop-place.place c.code.result (omega arith) c.requires c.loop-place.invariant;
     }
 
 pub returns : goal.returns
 returns c =
     let behind = c.loop-place-test.false in
-    let count = c.len-place-end.ensures in
-    all_codes (state_of c.args.store.now) c.args.context.now c.args.out.now c.loop-place.out c.args.given.now.spelled.now c.loop-place.place
+    let count = c.len-place-end.ensures.value in
+    all_codes (state_of c.args.store.now) c.args.context.now c.args.out.now c.loop-place.out c.args.given.now c.loop-place.place
     (omega arith) c.loop-place.invariant

@@ -19,7 +19,7 @@ pub returns : goal.returns
 unfolding test_stateid
 returns c = record {
   put = told_codes (state_of c.args.store.now) c.args.context.now c.args.out.now c.write_test_stateid_head.new.out c.put_codes.new.out
-      c.args.given.now.spelled.now c.count_of.result c.count_of.ensures c.write_test_stateid_head.ensures c.put_codes.ensures;
+      c.args.given.now c.count_of.result c.count_of.ensures c.write_test_stateid_head.ensures c.put_codes.ensures;
   status = refl;
   state = refl;
   context = refl;

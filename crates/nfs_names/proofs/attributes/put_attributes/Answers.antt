@@ -3,9 +3,9 @@ use Rattle.nfs_xdr.specs.SheetState.{Puts}
 use Rattle.nfs_xdr.specs.Spelling.{opaque}
 use Rattle.nfs_xdr.specs.declared.status.Status.TheVariants.{Nfs4Ok}
 use Rattle.nfs_xdr.proofs.Putting.{puts_then}
-use Rattle.nfs_compound.specs.declared.op_num.OpNum.TheVariants as Op
+use Rattle.nfs_compound.specs.declared.op_num.OpNum.TheVariants as Num
 use Rattle.nfs_compound.specs.OpNum.{op_number}
-use Rattle.nfs_results.specs.Result.{ResGetAttr}
+use Rattle.nfs_results.specs.declared.res.Res.TheVariants as Res
 use Rattle.nfs_results.specs.Results.{head}
 use Rattle.nfs_results.specs.Items.{fattr}
 use Rattle.nfs_results.proofs.Lengths.{length_head, behind_within}
@@ -19,7 +19,7 @@ use Rattle.nfs_names.proofs.Masks.{room_then, at_most_three_words, attributes_sp
 use Rattle.nfs_names.proofs.attributes.put_attributes.Goals as goal
 
 pub write_done_head-requires : goal.write_done_head-requires
-write_done_head-requires c = record { room = omega (arith, length_head (op_number Op.GetAttr) Nfs4Ok) }
+write_done_head-requires c = record { room = omega (arith, length_head (op_number Num.GetAttr) Nfs4Ok) }
 
 pub write_attrs-requires : goal.write_attrs-requires
 write_attrs-requires c =
@@ -29,10 +29,10 @@ write_attrs-requires c =
     let few = attributes_within asked a o in
     let within : 8 + length (spell_attrs asked a o) ≤ 640 =
     subst (λ (text : List ℕ). 8 + length text ≤ 640) (sym (attributes_spelled asked a o))
-    (behind_within 0 (ResGetAttr (record { attrmask = _; attr_vals = _ })) tt (at_most_three_words asked table.readable, omega arith)) in
+    (behind_within 0 (Res.GetAttr (record { attrmask = _; attr_vals = _ })) tt (at_most_three_words asked table.readable, omega arith)) in
     record {
-      room = room_then c.args.out.now _ (head (op_number Op.GetAttr) Nfs4Ok)
-          (spell_attrs asked a o) 640 c.write_done_head.ensures (omega (arith, length_head (op_number Op.GetAttr) Nfs4Ok)) c.requires;
+      room = room_then c.args.out.now _ (head (op_number Num.GetAttr) Nfs4Ok)
+          (spell_attrs asked a o) 640 c.write_done_head.ensures (omega (arith, length_head (op_number Num.GetAttr) Nfs4Ok)) c.requires;
     }
 
 pub returns : goal.returns
@@ -42,5 +42,5 @@ returns c =
     let d = c.args.node.now in
     let same : spell_attrs asked c.about.result d.object ≡ fattr.spell (attributes_of s asked d) =
     ap (λ (text : List ℕ). spell_mask (common asked table.readable) ++ opaque text) c.about.ensures ∙ attributes_spelled asked (about s d) d.object in
-    subst (λ (text : List ℕ). Puts c.args.out.now c.write_attrs.new.sheet (head (op_number Op.GetAttr) Nfs4Ok ++ text)) same
+    subst (λ (text : List ℕ). Puts c.args.out.now c.write_attrs.new.sheet (head (op_number Num.GetAttr) Nfs4Ok ++ text)) same
     (puts_then c.write_done_head.ensures c.write_attrs.ensures)

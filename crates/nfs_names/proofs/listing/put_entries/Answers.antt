@@ -1,6 +1,5 @@
 use Rattle.std.proofs.Common.{◌-◌, List, sym, subst, ap, refl, arith, inl, ◌∙◌}
 use Rattle.std.specs.Prelude.{option_map}
-use Rattle.nfs_compound.specs.ArgCodecs.{view_read_dir}
 use Rattle.nfs_tree.specs.Files.{stored_in}
 use Rattle.nfs_tree.specs.Listing.{listed_of}
 use Rattle.nfs_tree.specs.declared.stored.Stored.{Stored}
@@ -41,8 +40,8 @@ returns-then-not-put_entry c =
     let ended = going_stops c.args.store.now.tree (entry_of s c.new-wanted.result) c.args.out.now c.loop-entry.out c.put_entry.new.out
     (g - 16) c.loop-entry.room c.list-listing.result c.loop-entry.listing c.next.new.self
     (listed_of c.in-Some.entry) c.loop-entry.invariant.0 c.in-Some.ensures.steps c.if-not-put_entry.ensures in
-    let lists = ended_lists s (view_read_dir c.args.asked.now) c.args.place.now c.args.out.now c.put_entry.new.out c.new-wanted.result
-    g c.list-listing.result _ ended (c.new-wanted.ensures ∙ c.new.ensures) c.given.ensures.value c.list-listing.ensures c.requires.count in
+    let lists = ended_lists s c.args.asked.now c.args.place.now c.args.out.now c.put_entry.new.out c.new-wanted.result
+    g c.list-listing.result _ ended (c.new-wanted.ensures ∙ c.mask_in.ensures) c.given.ensures.value c.list-listing.ensures c.requires.count in
     record { put = lists.0; all = lists.1 }
 
 pub loop-entry-preserved : goal.loop-entry-preserved
@@ -61,6 +60,6 @@ returns c =
     let g = c.given.result in
     let ended = going_ends c.args.store.now.tree (entry_of s c.new-wanted.result) c.args.out.now c.loop-entry.out
     (g - 16) c.loop-entry.room c.list-listing.result c.loop-entry.listing c.loop-entry.invariant.0 c.in_default.ensures.steps.0 in
-    let lists = ended_lists s (view_read_dir c.args.asked.now) c.args.place.now c.args.out.now c.loop-entry.out c.new-wanted.result
-    g c.list-listing.result _ ended (c.new-wanted.ensures ∙ c.new.ensures) c.given.ensures.value c.list-listing.ensures c.requires.count in
+    let lists = ended_lists s c.args.asked.now c.args.place.now c.args.out.now c.loop-entry.out c.new-wanted.result
+    g c.list-listing.result _ ended (c.new-wanted.ensures ∙ c.mask_in.ensures) c.given.ensures.value c.list-listing.ensures c.requires.count in
     record { put = lists.0; all = lists.1 }

@@ -3,7 +3,6 @@ use Rattle.std.specs.List.{flat_map}
 use Rattle.std.proofs.lemmas.List.{length-append}
 use Rattle.nfs_xdr.specs.SheetState.{SheetState, Puts}
 use Rattle.nfs_xdr.specs.declared.status.Status.TheVariants.{TooSmall}
-use Rattle.nfs_compound.specs.ArgCodecs.{view_read_dir}
 use Rattle.nfs_results.specs.Results.{spell_result, refusal}
 use Rattle.nfs_results.specs.Straight.{entry_text, read_dir_head}
 use Rattle.nfs_names.specs.State.{state_of}
@@ -25,7 +24,7 @@ put_entries-whole-requires-clause-room c =
 pub returns-then-len-before : goal.returns-then-len-before
 returns-then-len-before c =
     let s = state_of c.args.store.now in
-    let a = view_read_dir c.args.asked.now in
+    let a = c.args.asked.now in
     let d = c.args.place.now in
     let text = flat_map entry_text (fitting s a d) in
     let put = c.put_entries-whole.ensures.put in
@@ -43,7 +42,7 @@ returns-then-len-before c =
 pub write_list_end-requires : goal.write_list_end-requires
 write_list_end-requires c =
     let s = state_of c.args.store.now in
-    let a = view_read_dir c.args.asked.now in
+    let a = c.args.asked.now in
     let d = c.args.place.now in
     let text = flat_map entry_text (fitting s a d) in
     let first = c.write_read_dir_head.ensures in
@@ -58,7 +57,7 @@ write_list_end-requires c =
 pub returns : goal.returns
 returns c =
     let s = state_of c.args.store.now in
-    let a = view_read_dir c.args.asked.now in
+    let a = c.args.asked.now in
     let d = c.args.place.now in
     let text = flat_map entry_text (fitting s a d) in
     let put = c.put_entries-whole.ensures.put in

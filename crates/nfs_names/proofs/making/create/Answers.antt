@@ -1,8 +1,8 @@
-use Rattle.std.proofs.Common.{◌≡◌, ◌+◌, true, refl, sym, ap, subst, ◌∙◌}
+use Rattle.std.proofs.Common.{◌≡◌, ℕ, List, ◌+◌, true, refl, sym, ap, subst, ◌∙◌}
 use Rattle.std.specs.Prelude.{Result, Ok, Err}
-use Rattle.nfs_compound.specs.declared.op_num.OpNum.TheVariants as Op
-use Rattle.nfs_compound.specs.ArgCodecs.{view_create}
-use Rattle.nfs_results.specs.Result.{CreateOk, ResCreate, Refused}
+use Rattle.nfs_compound.specs.declared.op_num.OpNum.TheVariants as Num
+use Rattle.nfs_results.specs.declared.res.CreateOk.{CreateOk}
+use Rattle.nfs_results.specs.declared.res.Res.TheVariants as Res
 use Rattle.nfs_tree.specs.Files.{raised}
 use Rattle.nfs_tree.specs.Calls.{DoesOrWants, create_fault}
 use Rattle.nfs_tree.specs.Create.{New, with_new}
@@ -24,32 +24,34 @@ use Rattle.nfs_names.proofs.making.create.Goals as goal
 use Rattle.nfs_names.proofs.making.create.Goals.{After-create}
 
 -- what the tree does of what was asked
-abbrev does : (c : After-create) → New → Sets → Result Created TreeFault → Type 0
-does c new sets r = DoesOrWants c.args.store.now.tree true
-    (tree_create.create c.args.store.now.tree c.in-Ok.making.place.number (view_create c.args.asked.now).objname new sets c.args.now) r c.create.new.self
+abbrev does : (c : After-create) → List ℕ → New → Sets → Result Created TreeFault → Type 0
+does c name new sets r = DoesOrWants c.args.store.now.tree true
+    (tree_create.create c.args.store.now.tree c.in-Ok.making.place.number name new sets c.args.now) r c.create.new.self
 
-as_asked : (c : After-create) (r : Result Created TreeFault) → does c (tree_create.new_of c.new_of-new.result) c.sets_of-sets.result r
-    → does c (new_of (view_create c.args.asked.now).objtype)
-    (sets_of c.args.context.now c.args.now (new_of (view_create c.args.asked.now).objtype) c.in-Ok.making.wanted) r
+as_asked : (c : After-create) (r : Result Created TreeFault) → does c c.bytes.result.now (tree_create.new_of c.new_of-new.result) c.sets_of-sets.result r
+    → does c c.args.asked.now.objname (new_of c.args.asked.now.objtype)
+    (sets_of c.args.context.now c.args.now (new_of c.args.asked.now.objtype) c.in-Ok.making.wanted) r
 as_asked c r did =
     let sets : New → Sets = λ n. sets_of c.args.context.now c.args.now n c.in-Ok.making.wanted in
-    subst (λ (n : New). does c n (sets n) r) c.new_of-new.ensures
-    (subst (λ (k : Sets). does c (tree_create.new_of c.new_of-new.result) k r) c.sets_of-sets.ensures did)
+    let name : List ℕ = c.args.asked.now.objname in
+    subst (λ (n : New). does c name n (sets n) r) c.new_of-new.ensures
+    (subst (λ (k : Sets). does c name (tree_create.new_of c.new_of-new.result) k r) c.sets_of-sets.ensures
+    (subst (λ (b : List ℕ). does c b (tree_create.new_of c.new_of-new.result) c.sets_of-sets.result r) c.bytes.ensures did))
 
 pub returns-in-Ok-create : goal.returns-in-Ok-create
 returns-in-Ok-create c =
     let s = state_of c.args.store.now in
     let x = c.args.context.now in
-    let a = view_create c.args.asked.now in
+    let a = c.args.asked.now in
     let m = c.in-Ok.making in
     let d = m.place.number in
     let new = new_of a.objtype in
     let made = c.in-Ok-create.created in
-    let outcome : CreateOk → Context → Outcome = λ r x. record { result = ResCreate r; state = with_tree s c.create.new.self; context = x } in
+    let outcome : CreateOk → Context → Outcome = λ r x. record { result = Res.Create r; state = with_tree s c.create.new.self; context = x } in
     let told_ok : Created → CreateOk = λ k. record { cinfo = change_info k.directory; attrset = trimmed_words (mask_of a.createattrs.attrmask) } in
     let given : Mask → CreateOk = λ mask. record { cinfo = change_info made.directory; attrset = trimmed_words mask } in
-    ap (λ r. outcome r c.go_to.new.self) (c.create_ok.ensures ∙ ap given c.new-given.ensures) ∙ ap (outcome (told_ok made)) c.go_to.ensures
-    ∙ told_done true true s x Op.Create (create s x c.args.now a) (λ k. ResCreate (told_ok k)) (λ (k : Created). at_object x k.number)
+    ap (λ r. outcome r c.go_to.new.self) (c.create_ok.ensures ∙ ap given c.mask_in-given.ensures) ∙ ap (outcome (told_ok made)) c.go_to.ensures
+    ∙ told_done true true s x Num.Create (create s x c.args.now a) (λ k. Res.Create (told_ok k)) (λ (k : Created). at_object x k.number)
     (create_fault s.tree d a.objname new) (record { number = s.tree.last_object + 1; directory = raised s.tree d }) made
     (with_new s.tree d a.objname new (sets_of x c.args.now new m.wanted) c.args.now) c.create.new.self
     (create_goes s x c.args.now a m (sym c.judge_making.ensures ∙ c.in-Ok.is))
@@ -59,15 +61,15 @@ pub returns-in-Err-create : goal.returns-in-Err-create
 returns-in-Err-create c =
     let s = state_of c.args.store.now in
     let x = c.args.context.now in
-    let a = view_create c.args.asked.now in
+    let a = c.args.asked.now in
     let m = c.in-Ok.making in
     let d = m.place.number in
     let new = new_of a.objtype in
     let f = c.in-Err-create.fault in
     let v : asked_for s x a ≡ Ok m = sym c.judge_making.ensures ∙ c.in-Ok.is in
-    told_fault true true s x Op.Create (create s x c.args.now a) (created s x c.args.now a m) _ (create_fault s.tree d a.objname new)
+    told_fault true true s x Num.Create (create s x c.args.now a) (created s x c.args.now a m) _ (create_fault s.tree d a.objname new)
     (record { number = s.tree.last_object + 1; directory = raised s.tree d }) (with_new s.tree d a.objname new (sets_of x c.args.now new m.wanted) c.args.now)
-    c.create.new.self f refl (c.refuse.ensures ∙ ap (Refused 6) c.status_of.ensures)
+    c.create.new.self f refl (c.refuse.ensures ∙ ap (Res.Refused 6) c.status_of.ensures)
     (create_goes s x c.args.now a m v) (create_stops s x c.args.now a m f v) refl
     (as_asked (goal.at.returns-in-Err-create c).After-create (Err f) c.in-Err-create.ensures)
 
@@ -76,6 +78,6 @@ unfolding create
 returns-in-Err c =
     let s = state_of c.args.store.now in
     let x = c.args.context.now in
-    let a = view_create c.args.asked.now in
-    told_error true s x Op.Create (asked_for s x a) (row_checks s a) (created s x c.args.now a) _ c.in-Err.status
+    let a = c.args.asked.now in
+    told_error true s x Num.Create (asked_for s x a) (row_checks s a) (created s x c.args.now a) _ c.in-Err.status
     (asked_refuses s x a) (sym c.judge_making.ensures ∙ c.in-Err.is) c.refuse-in-Err.ensures

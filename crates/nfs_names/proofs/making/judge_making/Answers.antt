@@ -3,7 +3,6 @@ use Rattle.std.specs.Prelude.{Ok, Err, is_some}
 use Rattle.std.proofs.lemmas.Result.{err_from_is_err_and}
 use Rattle.nfs_xdr.specs.Checks.{first_fault, judged}
 use Rattle.nfs_xdr.specs.declared.status.Status.TheVariants.{Inval}
-use Rattle.nfs_compound.specs.ArgCodecs.{view_create}
 use Rattle.nfs_attrs.specs.Setting.{make_checks}
 use Rattle.nfs_attrs.specs.Reading.{fault_status}
 use Rattle.nfs_attrs.specs.declared.wanted.Wanted.{Wanted}
@@ -19,7 +18,7 @@ pub returns-in_err-may_make : goal.returns-in_err-may_make
 returns-in_err-may_make c =
     let s = state_of c.args.store.now in
     let x = c.args.context.now in
-    let a = view_create c.args.asked.now in
+    let a = c.args.asked.now in
     let d = c.in_ok-place.place in
     let w = c.in-Ok.wanted in
     let m : Making = record { place = d; wanted = w } in

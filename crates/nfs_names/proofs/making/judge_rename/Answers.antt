@@ -1,8 +1,7 @@
-use Rattle.std.proofs.Common.{◌≡◌, false, not, Some, None, sym, ap, ◌∙◌, arith}
+use Rattle.std.proofs.Common.{◌≡◌, ℕ, List, false, not, Some, None, sym, ap, ◌∙◌, arith}
 use Rattle.std.specs.Prelude.{Err}
 use Rattle.std.proofs.lemmas.Result.{err_from_is_err_and}
-use Rattle.nfs_xdr.specs.Checks.{first_fault}
-use Rattle.nfs_compound.specs.ArgCodecs.{view_rename}
+use Rattle.nfs_xdr.specs.Checks.{first_fault, judged}
 use Rattle.nfs_tree.specs.Object.{is_directory}
 use Rattle.nfs_attrs.specs.Permissions.{change}
 use Rattle.nfs_names.specs.State.{state_of}
@@ -15,11 +14,11 @@ pub returns-in_err-judge_name : goal.returns-in_err-judge_name
 returns-in_err-judge_name c =
     let s = state_of c.args.store.now in
     let x = c.args.context.now in
-    let a = view_rename c.args.asked.now in
+    let a = c.args.asked.now in
     let p = c.in_ok-p.p in
     let f = c.in_err-judge_name.field-0.0 in
     let r = err_from_is_err_and c.from_residual-in_err-judge_name.result c.from_residual-in_err-judge_name.ensures.1 in
-    let named : first_fault (name_checks a.oldname) ≡ Some f = judged_err _ _ (sym c.judge_name.ensures ∙ c.in_err-judge_name.was) in
+    let named : first_fault (name_checks a.oldname) ≡ Some f = judged_err _ _ (ap (λ (n : List ℕ). judged (first_fault (name_checks n))) (sym c.bytes.ensures) ∙ sym c.judge_name.ensures ∙ c.in_err-judge_name.was) in
     let source : not (is_directory p.saved.object.kind) ≡ false = grind arith in
     let target : not (is_directory p.current.object.kind) ≡ false = grind arith in
     let leaves : not (permits x p.saved change) ≡ false = grind arith in
@@ -32,12 +31,12 @@ pub returns-in_err-judge_name-2 : goal.returns-in_err-judge_name-2
 returns-in_err-judge_name-2 c =
     let s = state_of c.args.store.now in
     let x = c.args.context.now in
-    let a = view_rename c.args.asked.now in
+    let a = c.args.asked.now in
     let p = c.in_ok-p.p in
     let f = c.in_err-judge_name-2.field-0.0 in
     let r = err_from_is_err_and c.from_residual-in_err-judge_name-2.result c.from_residual-in_err-judge_name-2.ensures.1 in
-    let old : first_fault (name_checks a.oldname) ≡ None = judged_ok _ _ (sym c.judge_name.ensures ∙ c.in_ok-judge_name.was) in
-    let new : first_fault (name_checks a.newname) ≡ Some f = judged_err _ _ (sym c.judge_name-2.ensures ∙ c.in_err-judge_name-2.was) in
+    let old : first_fault (name_checks a.oldname) ≡ None = judged_ok _ _ (ap (λ (n : List ℕ). judged (first_fault (name_checks n))) (sym c.bytes.ensures) ∙ sym c.judge_name.ensures ∙ c.in_ok-judge_name.was) in
+    let new : first_fault (name_checks a.newname) ≡ Some f = judged_err _ _ (ap (λ (n : List ℕ). judged (first_fault (name_checks n))) (sym c.bytes-2.ensures) ∙ sym c.judge_name-2.ensures ∙ c.in_err-judge_name-2.was) in
     let source : not (is_directory p.saved.object.kind) ≡ false = grind arith in
     let target : not (is_directory p.current.object.kind) ≡ false = grind arith in
     let leaves : not (permits x p.saved change) ≡ false = grind arith in

@@ -1,7 +1,7 @@
 use Rattle.std.proofs.Common.{◌≡◌, true, refl, sym, ap, ◌∙◌}
 use Rattle.std.specs.Prelude.{Ok}
-use Rattle.nfs_compound.specs.declared.op_num.OpNum.TheVariants as Op
-use Rattle.nfs_results.specs.Result.{ResLink, Refused}
+use Rattle.nfs_compound.specs.declared.op_num.OpNum.TheVariants as Num
+use Rattle.nfs_results.specs.declared.res.Res.TheVariants as Res
 use Rattle.nfs_tree.specs.Files.{raised}
 use Rattle.nfs_tree.specs.Names.{with_link}
 use Rattle.nfs_tree.specs.Calls.{link_fault}
@@ -22,8 +22,8 @@ returns-in-Ok-link c =
     let x = c.args.context.now in
     let p = c.in-Ok.p in
     let name = c.args.name.now in
-    ap (λ info. record { result = ResLink info; state = with_tree s c.link.new.self; context = x }) c.change_info.ensures
-    ∙ told_done true true s x Op.Link (link s x c.args.now name) (λ k. ResLink (change_info k)) (λ k. x)
+    ap (λ info. record { result = Res.Link info; state = with_tree s c.link.new.self; context = x }) c.change_info.ensures
+    ∙ told_done true true s x Num.Link (link s x c.args.now name) (λ k. Res.Link (change_info k)) (λ k. x)
     (link_fault s.tree p.saved.number p.current.number name) (raised s.tree p.current.number) c.in-Ok-link.change
     (with_link s.tree p.saved.number p.current.number name c.args.now) c.link.new.self
     (link_goes s x c.args.now name p (sym c.judge_link.ensures ∙ c.in-Ok.is)) c.in-Ok-link.ensures
@@ -36,9 +36,9 @@ returns-in-Err-link c =
     let name = c.args.name.now in
     let f = c.in-Err-link.fault in
     let v : checked (both s x) (place_checks x name) ≡ Ok p = sym c.judge_link.ensures ∙ c.in-Ok.is in
-    told_fault true true s x Op.Link (link s x c.args.now name) (linked s x c.args.now name p) _
+    told_fault true true s x Num.Link (link s x c.args.now name) (linked s x c.args.now name p) _
     (link_fault s.tree p.saved.number p.current.number name) (raised s.tree p.current.number)
-    (with_link s.tree p.saved.number p.current.number name c.args.now) c.link.new.self f refl (c.refuse.ensures ∙ ap (Refused 11) c.status_of.ensures)
+    (with_link s.tree p.saved.number p.current.number name c.args.now) c.link.new.self f refl (c.refuse.ensures ∙ ap (Res.Refused 11) c.status_of.ensures)
     (link_goes s x c.args.now name p v) (link_stops s x c.args.now name p f v) refl c.in-Err-link.ensures
 
 pub returns-in-Err : goal.returns-in-Err
@@ -47,5 +47,5 @@ returns-in-Err c =
     let s = state_of c.args.store.now in
     let x = c.args.context.now in
     let name = c.args.name.now in
-    told_error true s x Op.Link (checked (both s x) (place_checks x name)) (row_checks s name) (linked s x c.args.now name) _ c.in-Err.status
+    told_error true s x Num.Link (checked (both s x) (place_checks x name)) (row_checks s name) (linked s x c.args.now name) _ c.in-Err.status
     (refuses_checked (both s x) (place_checks x name) (both_refuses s x) (λ p. refl)) (sym c.judge_link.ensures ∙ c.in-Err.is) c.refuse-in-Err.ensures

@@ -1,8 +1,8 @@
 use Rattle.std.proofs.Common.{◌≡◌, not, sym, ap, ◌∙◌, false}
 use Rattle.std.specs.Prelude.{Ok, ◌==◌}
-use Rattle.nfs_compound.specs.declared.op_num.OpNum.TheVariants as Op
+use Rattle.nfs_compound.specs.declared.op_num.OpNum.TheVariants as Num
 use Rattle.nfs_results.specs.declared.res.ChangeInfo.{ChangeInfo}
-use Rattle.nfs_results.specs.Result.{Res, ResRemove, Refused}
+use Rattle.nfs_results.specs.declared.res.Res.{Res}
 use Rattle.nfs_tree.specs.declared.row.Row.{Row}
 use Rattle.nfs_tree.specs.declared.done.Removed.{Removed}
 use Rattle.nfs_tree.specs.Files.{Files, is_entry, named, has_entries, raised}
@@ -46,7 +46,7 @@ returns-in-Ok-remove c =
     let v : checked (current s x) (place_checks x name) ≡ Ok d = sym c.judge_remove.ensures ∙ c.in-Ok.is in
     let did = did_ok t (remove_fault t d.number name) (record { number = n; directory = raised t d.number }) c.in-Ok-remove.removed
     (without_name t d.number name now) c.remove.new.self c.in-Ok-remove.ensures.answer c.in-Ok-remove.ensures.after in
-    let outcome : ChangeInfo → State → Outcome = λ info u. record { result = ResRemove info; state = u; context = x } in
+    let outcome : ChangeInfo → State → Outcome = λ info u. record { result = Res.Remove info; state = u; context = x } in
     let left : State = with_tree s (without_name t d.number name now) in
     ap (λ info. outcome info (state_of c.drop_empty.new.self)) (c.change_info.ensures ∙ ap (λ (k : Removed). change_info k.directory) did.1)
     ∙ ap (outcome (change_info (raised t d.number)))
@@ -67,7 +67,7 @@ returns-in-Err-remove c =
     let did = does_err t (remove_fault t d.number name) (record { number = named t d.number name; directory = raised t d.number })
     (without_name t d.number name now) c.remove.new.self f c.in-Err-remove.ensures.answer c.in-Err-remove.ensures.after in
     let outcome : Res → Files → Outcome = λ r t. record { result = r; state = with_tree s t; context = x } in
-    ap (λ r. outcome r c.remove.new.self) (c.refuse.ensures ∙ ap (Refused 28) c.status_of.ensures) ∙ ap (outcome (Refused 28 (status_of f))) did.1
+    ap (λ r. outcome r c.remove.new.self) (c.refuse.ensures ∙ ap (Res.Refused 28) c.status_of.ensures) ∙ ap (outcome (Res.Refused 28 (status_of f))) did.1
     ∙ sym (remove_stops s x now name d f v did.0)
 
 pub returns-in-Err : goal.returns-in-Err
@@ -78,5 +78,5 @@ returns-in-Err c =
     let name = c.args.name.now in
     let outcome : Res → Outcome = λ r. record { result = r; state = s; context = x } in
     ap outcome c.refuse-in-Err.ensures
-    ∙ sym (by_error s x Op.Remove (checked (current s x) (place_checks x name)) (row_checks s name)
+    ∙ sym (by_error s x Num.Remove (checked (current s x) (place_checks x name)) (row_checks s name)
     (removed s x c.args.now name) c.in-Err.status (sym c.judge_remove.ensures ∙ c.in-Err.is))

@@ -1,10 +1,9 @@
 use Rattle.std.proofs.Common.{◌≡◌, false, None, refl, sym, ap, ◌∙◌, inl, inr}
-use Rattle.std.specs.Prelude.{Ok, ◌&&◌, if◌then◌else◌}
+use Rattle.std.specs.Prelude.{Ok, Err, ◌&&◌, if◌then◌else◌}
 use Rattle.std.proofs.lemmas.Bool.{cases_Bool, and_right}
-use Rattle.nfs_compound.specs.ArgCodecs.{view_rename}
-use Rattle.nfs_compound.specs.declared.op_num.OpNum.TheVariants as Op
+use Rattle.nfs_compound.specs.declared.op_num.OpNum.TheVariants as Num
 use Rattle.nfs_results.specs.declared.res.RenameOk.{RenameOk}
-use Rattle.nfs_results.specs.Result.{ResRename, Refused}
+use Rattle.nfs_results.specs.declared.res.Res.TheVariants as Res
 use Rattle.nfs_tree.specs.Files.{lookup, raised, stays}
 use Rattle.nfs_tree.specs.declared.done.Renamed.{Renamed}
 use Rattle.nfs_tree.specs.Calls as tree
@@ -19,14 +18,15 @@ use Rattle.nfs_names.specs.Rename.{move_of, place_checks, row_checks, without_re
 use Rattle.nfs_names.proofs.Bounds.{both_refuses}
 use Rattle.nfs_names.proofs.Refusing.{refuses_checked}
 use Rattle.nfs_names.proofs.Faulted.{told_refusal_by, told_error, not_delayed}
-use Rattle.nfs_names.proofs.Renaming.{went, went_empty, rename_goes, rename_refused, what_moves}
+use Rattle.nfs_names.proofs.Renaming.{as_named, went, went_empty, rename_goes, rename_refused, what_moves}
 use Rattle.nfs_names.proofs.making.rename.Goals as goal
 
 pub drop_replaced-requires : goal.drop_replaced-requires
 drop_replaced-requires c =
     let t = c.args.store.now.tree in
-    let m = move_of (view_rename c.args.asked.now) c.in-Ok.p in
-    went_empty t m c.args.now c.in-Ok-rename.renamed c.rename.new.self (went t m c.args.now c.in-Ok-rename.renamed c.rename.new.self c.in-Ok-rename.ensures)
+    let m = move_of c.args.asked.now c.in-Ok.p in
+    went_empty t m c.args.now c.in-Ok-rename.renamed c.rename.new.self (went t m c.args.now c.in-Ok-rename.renamed c.rename.new.self
+    (as_named t c.rename.new.self c.args.now c.in-Ok.p c.args.asked.now _ _ (Ok c.in-Ok-rename.renamed) c.bytes.ensures c.bytes-in-Ok.ensures c.in-Ok-rename.ensures))
 
 pub returns-in-Ok-rename : goal.returns-in-Ok-rename
 returns-in-Ok-rename c =
@@ -34,14 +34,14 @@ returns-in-Ok-rename c =
     let x = c.args.context.now in
     let t = s.tree in
     let now = c.args.now in
-    let a = view_rename c.args.asked.now in
+    let a = c.args.asked.now in
     let p = c.in-Ok.p in
     let m = move_of a p in
     let r = c.in-Ok-rename.renamed in
     let left = c.rename.new.self in
     let v : checked (both s x) (place_checks x a) ≡ Ok p = sym c.judge_rename.ensures ∙ c.in-Ok.is in
-    let w = went t m now r left c.in-Ok-rename.ensures in
-    let outcome : RenameOk → State → Outcome = λ r u. record { result = ResRename r; state = u; context = x } in
+    let w = went t m now r left (as_named t left now p a _ _ (Ok r) c.bytes.ensures c.bytes-in-Ok.ensures c.in-Ok-rename.ensures) in
+    let outcome : RenameOk → State → Outcome = λ r u. record { result = Res.Rename r; state = u; context = x } in
     let told_ok : Renamed → RenameOk = λ r. record { source_cinfo = change_info r.source; target_cinfo = change_info r.target } in
     let by_code = ap (λ k. outcome k (state_of c.drop_replaced.new.store)) c.rename_ok.ensures ∙ ap (outcome (told_ok r)) c.drop_replaced.ensures in
     let whole : outcome (told_ok r) (without_replaced (with_tree s left) r.replaced) ≡ what_moves s x now a p = elim (cases_Bool (moves t m)) [
@@ -59,26 +59,27 @@ returns-in-Ok-rename c =
           ∙ ap (λ u. outcome (told_ok (record { source = stays t m.source; target = stays t m.target; replaced = None })) (with_tree s u)) after
           ∙ sym (ap (λ b. if b then moved s x now a p else unmoved s x p) stay))
     ] in
-    by_code ∙ whole ∙ sym (not_delayed (moves_in s a (both s x) && false) s x Op.Rename (rename s x now a) (and_right (moves_in s a (both s x)) false refl)
+    by_code ∙ whole ∙ sym (not_delayed (moves_in s a (both s x) && false) s x Num.Rename (rename s x now a) (and_right (moves_in s a (both s x)) false refl)
     ∙ rename_goes s x now a p v w.none)
 
 pub returns-in-Err-rename : goal.returns-in-Err-rename
 returns-in-Err-rename c =
     let s = state_of c.args.store.now in
     let x = c.args.context.now in
-    let a = view_rename c.args.asked.now in
+    let a = c.args.asked.now in
     let p = c.in-Ok.p in
     let f = c.in-Err-rename.fault in
     let v : checked (both s x) (place_checks x a) ≡ Ok p = sym c.judge_rename.ensures ∙ c.in-Ok.is in
-    let parts = rename_refused s x c.args.now a p f c.rename.new.self v c.in-Err-rename.ensures in
-    told_refusal_by (moves_in s a (both s x)) s c.rename.new.self x Op.Rename (rename s x c.args.now a) _
-    (status_of f) (c.refuse.ensures ∙ ap (Refused 29) c.status_of.ensures) parts.0 parts.1
+    let did = as_named s.tree c.rename.new.self c.args.now p a _ _ (Err f) c.bytes.ensures c.bytes-in-Ok.ensures c.in-Err-rename.ensures in
+    let parts = rename_refused s x c.args.now a p f c.rename.new.self v did in
+    told_refusal_by (moves_in s a (both s x)) s c.rename.new.self x Num.Rename (rename s x c.args.now a) _
+    (status_of f) (c.refuse.ensures ∙ ap (Res.Refused 29) c.status_of.ensures) parts.0 parts.1
 
 pub returns-in-Err : goal.returns-in-Err
 unfolding rename
 returns-in-Err c =
     let s = state_of c.args.store.now in
     let x = c.args.context.now in
-    let a = view_rename c.args.asked.now in
-    told_error (moves_in s a (both s x)) s x Op.Rename (checked (both s x) (place_checks x a)) (row_checks s a) (what_moves s x c.args.now a) _ c.in-Err.status
+    let a = c.args.asked.now in
+    told_error (moves_in s a (both s x)) s x Num.Rename (checked (both s x) (place_checks x a)) (row_checks s a) (what_moves s x c.args.now a) _ c.in-Err.status
     (refuses_checked (both s x) (place_checks x a) (both_refuses s x) (λ p. refl)) (sym c.judge_rename.ensures ∙ c.in-Err.is) c.refuse-in-Err.ensures

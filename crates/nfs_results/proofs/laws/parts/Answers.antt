@@ -1,5 +1,5 @@
 use Rattle.std.proofs.Common.{ℕ, List, ◌++◌, ap}
-use Rattle.nfs_compound.specs.declared.op_num.OpNum.TheVariants as Op
+use Rattle.nfs_compound.specs.declared.op_num.OpNum.TheVariants as Num
 use Rattle.nfs_results.specs.Results.{done_head}
 use Rattle.nfs_results.proofs.WireLaws.{attributes_told}
 use Rattle.nfs_results.proofs.StraightLaws.{read_in_parts, read_dir_in_parts, test_stateid_in_parts}
@@ -15,4 +15,4 @@ pub returns-clause-codes : goal.returns-clause-codes
 returns-clause-codes c = test_stateid_in_parts
 
 pub returns-clause-attributes : goal.returns-clause-attributes
-returns-clause-attributes c = λ f. ap (λ (w : List ℕ). done_head Op.GetAttr ++ w) (attributes_told f)
+returns-clause-attributes c = λ f. ap (λ (w : List ℕ). done_head Num.GetAttr ++ w) (attributes_told f)

@@ -1,4 +1,4 @@
-use Rattle.std.proofs.Common.{◌≡◌, None, arith}
+use Rattle.std.proofs.Common.{None, arith}
 use Rattle.nfs_rpc.proofs.Lengths.{length_refusal}
 use Rattle.nfs_rpc.specs.View as view
 use Rattle.nfs_serve.proofs.Stepping.{refusal_puts, arguments_within}

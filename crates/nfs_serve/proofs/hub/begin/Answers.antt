@@ -1,4 +1,4 @@
-use Rattle.std.proofs.Common.{◌≡◌, ◌≤◌, ◌<◌, ◌∙◌, length, arith, inl, inr, refl, rules}
+use Rattle.std.proofs.Common.{◌≤◌, ◌<◌, ◌∙◌, length, arith, inl, inr, refl}
 use Rattle.nfs_serve.proofs.Rounds.{at_same, at_other}
 use Rattle.nfs_serve.proofs.hub.begin.Goals as goal
 

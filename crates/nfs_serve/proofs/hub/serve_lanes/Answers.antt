@@ -1,4 +1,4 @@
-use Rattle.std.proofs.Common.{◌≤◌, ◌<◌, length, arith, ◌≡◌, ◌^◌, ◌-◌, Bool, true, false, inl, inr, refl, subst, rules}
+use Rattle.std.proofs.Common.{arith, ◌≡◌, ◌^◌, ◌-◌, true, false, inl, inr, refl, subst, rules}
 use Rattle.nfs_serve.specs.Server.{state_of}
 use Rattle.nfs_serve.specs.Hub.{at}
 use Rattle.nfs_serve.specs.Lane.{desks_of}

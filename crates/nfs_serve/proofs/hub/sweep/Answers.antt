@@ -1,4 +1,4 @@
-use Rattle.std.proofs.Common.{◌≤◌, ◌<◌, length, length-set, arith, rules}
+use Rattle.std.proofs.Common.{◌≤◌, ◌<◌, length, length-set, rules}
 use Rattle.nfs_serve.specs.Server.{state_of}
 use Rattle.nfs_serve.specs.Hub.{at}
 use Rattle.nfs_serve.specs.Lane.{desks_of}

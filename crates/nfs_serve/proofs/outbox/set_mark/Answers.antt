@@ -1,4 +1,4 @@
-use Rattle.std.proofs.Common.{◌≡◌, ◌+◌, ◌-◌, ◌++◌, length, take, drop, arith, ap, length-append, length-drop, length-take-le}
+use Rattle.std.proofs.Common.{◌+◌, ◌-◌, ◌++◌, length, take, drop, arith, ap, length-append, length-drop, length-take-le}
 use Rattle.nfs_xdr.specs.Spelling.{number}
 use Rattle.nfs_xdr.proofs.Putting.{length_number}
 use Rattle.nfs_serve.proofs.outbox.set_mark.Goals as goal

@@ -2,9 +2,8 @@ use Rattle.std.proofs.Common.{List, ◌∷◌, length, inr, ap, sym, subst, ◌�
 use Rattle.nfs_xdr.specs.Caller.{caller}
 use Rattle.nfs_xdr.specs.Tables.{In}
 use Rattle.nfs_xdr.specs.declared.status.Status.TheVariants.{Nfs4Ok, MinorVersMismatch}
-use Rattle.nfs_compound.specs.Operation.{Item}
+use Rattle.nfs_compound.specs.declared.op.Item.{Item}
 use Rattle.nfs_compound.specs.Request.{Request}
-use Rattle.nfs_compound.specs.View.{item}
 use Rattle.nfs_names.specs.StoreInvariants.{IsStore}
 use Rattle.nfs_names.specs.Outcome.{is_delay}
 use Rattle.nfs_exec.specs.Machine.{Machine, machine_of}
@@ -36,7 +35,7 @@ put-head-requires c = record { tag = c.tag-tag.ensures.bound; room = head_fits c
 
 pub alone-status-requires : goal.alone-status-requires
 alone-status-requires c = record {
-  bears = opened_bears c.args.args.now (item c.in-Some.arg) c.next.new.self.left c.requires.opened
+  bears = opened_bears c.args.args.now c.in-Some.item c.next.new.self.left c.requires.opened
       (sym c.minor.ensures ∙ c.if-minor-ne-MINOR_VERSION.false) c.in-Some.ensures.item;
   machine = c.requires.kept.machine;
   store = c.requires.kept.store;
@@ -50,30 +49,30 @@ close-requires c = record {
       c.put-head.result.count_at c.tag-tag.result.now _ c.put-head.ensures.places c.put-head.ensures.puts c.alone-status.ensures.put;
 }
 
-pub returns-in-Sequence : goal.returns-in-Sequence
-returns-in-Sequence c = record {
+pub returns-in-Some-sequence_in : goal.returns-in-Some-sequence_in
+returns-in-Some-sequence_in c = record {
   answer = (
     c.in_session.ensures.answer.0,
     for_sequence (machine_of c.args.self.now) c.args.args.now c.next.new.self (caller c.args.who.now) c.args.size c.args.now
-        c.in_session.ensures.answer.0 c.in-Sequence.asked c.args.out.now c.in_session.new.out (machine_of c.in_session.new.self)
-        (sym c.minor.ensures ∙ c.if-minor-ne-MINOR_VERSION.false) (c.in-Some.ensures.item ∙ ap (λ a. item a ∷ c.next.new.self.left) c.in-Sequence.is)
+        c.in_session.ensures.answer.0 c.in-Some-sequence_in.asked.now c.args.out.now c.in_session.new.out (machine_of c.in_session.new.self)
+        (sym c.minor.ensures ∙ c.if-minor-ne-MINOR_VERSION.false) (c.in-Some.ensures.item ∙ ap (λ i. i ∷ c.next.new.self.left) c.in-Some-sequence_in.ensures)
         c.in-Some.ensures.head c.in_session.ensures.answer.1,
   );
   store = c.in_session.ensures.store;
 }
 
-pub returns-in_default-arg : goal.returns-in_default-arg
-returns-in_default-arg c = record {
+pub returns-in-None : goal.returns-in-None
+returns-in-None c = record {
   answer =
       for_other (machine_of c.args.self.now) c.args.args.now (caller c.args.who.now) c.args.size c.args.now c.declared.result
-      c.in-Some.arg c.next.new.self.left c.alone-status.result c.put-head.result.status_at c.put-head.result.count_at
+      c.in-Some.item c.next.new.self.left c.alone-status.result c.put-head.result.status_at c.put-head.result.count_at
       c.tag-tag.result.now
       c.args.out.now c.put-head.new.out c.alone-status.new.out c.close.new.out (machine_of c.alone-status.new.self)
-      (sym c.minor.ensures ∙ c.if-minor-ne-MINOR_VERSION.false) c.in-Some.ensures.item c.in_default-arg.not-Sequence
+      (sym c.minor.ensures ∙ c.if-minor-ne-MINOR_VERSION.false) c.in-Some.ensures.item c.in-None.ensures
       (c.declared.ensures ∙ ap (λ (r : Request). r.declared) c.in-Some.ensures.head) c.tag-tag.ensures.value
       c.put-head.ensures.places c.put-head.ensures.puts c.alone-status.ensures c.close.ensures;
   store =
       subst (λ (m : Machine). IsStore m.store) (sym c.alone-status.ensures.machine)
       (first_stores (machine_of c.args.self.now) c.declared.result (caller c.args.who.now) c.args.now
-      (is_delay c.alone-status.result) (item c.in-Some.arg) c.requires.kept.store);
+      (is_delay c.alone-status.result) c.in-Some.item c.requires.kept.store);
 }

@@ -1,9 +1,12 @@
-use Rattle.std.proofs.Common.{◌≡◌, refl, sym, ◌∙◌, ap, subst}
-use Rattle.nfs_xdr.specs.Caller.{caller}
-use Rattle.nfs_compound.specs.ArgCodecs.{view_exchange_id}
-use Rattle.nfs_clients.specs.ExchangeId.{case_of}
+use Rattle.std.proofs.Common.{◌≡◌, ℕ, List, Err, refl, sym, ◌∙◌, ap, subst}
+use Rattle.nfs_xdr.specs.Caller.{Caller, caller}
+use Rattle.nfs_xdr.specs.Checks.{judged}
+use Rattle.nfs_compound.specs.declared.session_args.ExchangeId.{ExchangeId}
+use Rattle.nfs_clients.specs.ExchangeId.{Ask, asks, case_of, exchange}
+use Rattle.nfs_clients.specs.Calls.{exchange_fault, ExchangesOrWants}
 use Rattle.nfs_lease.specs.Renewals.{Book, leases_of, without_lease}
-use Rattle.nfs_results.specs.Result.{Res, ResExchangeId, ExchangeIdOk}
+use Rattle.nfs_results.specs.declared.res.Res.{Res}
+use Rattle.nfs_results.specs.declared.res.ExchangeIdOk.{ExchangeIdOk}
 use Rattle.nfs_results.specs.Results.{status_of_result}
 use Rattle.nfs_names.specs.Outcome.{is_delay}
 use Rattle.nfs_exec.specs.Machine.{comes_to, or_delay, machine_of}
@@ -12,33 +15,43 @@ use Rattle.nfs_exec.specs.View.{settled}
 use Rattle.nfs_exec.proofs.Exchanging.{answered_ok, refused_first, refused_last}
 use Rattle.nfs_exec.proofs.tables.Tables.exchange_id.Goals as goal
 
+-- what is asked for the owner of these bytes
+abbrev asked_by : Caller → ExchangeId → List ℕ → Ask
+asked_by who e owner = asks owner e.verifier e.flags who.uid
+
 pub returns-in-Err-clause-outcome : goal.returns-in-Err-clause-outcome
 returns-in-Err-clause-outcome c =
     let m = machine_of c.args.self.now in
     let who = caller c.args.who.now in
-    let e = view_exchange_id c.args.asked.now in
+    let e = c.args.asked.now in
     subst (λ (r : Res). comes_to m r ≡ or_delay (is_delay (status_of_result r)) m exchange_id_number (exchange_id m who c.args.now e)) (sym c.refused.ensures)
-    (refused_first m who c.args.now e c.in-Err.fault (case_of m.clients (ask_of who e)) c.in-Err.ensures)
+    (refused_first m who c.args.now e c.in-Err.fault (case_of m.clients (ask_of who e))
+    (c.in-Err.ensures ∙ ap (λ (b : List ℕ). judged (exchange_fault m.clients (asked_by who e b))) c.bytes-owner.ensures))
 
 pub returns-in-Ok-exchange-clause-outcome : goal.returns-in-Ok-exchange-clause-outcome
 returns-in-Ok-exchange-clause-outcome c =
     let m = machine_of c.args.self.now in
     let who = caller c.args.who.now in
-    let e = view_exchange_id c.args.asked.now in
+    let e = c.args.asked.now in
     let book = c.settle.ensures ∙ ap (λ (b : Book). settled b c.next_id-next.result c.in-Ok-exchange.exchanged) c.in-Ok.ensures.ok in
-    ap (λ (x : ExchangeIdOk). comes_to (record m { clients = c.exchange.new.self; leases = leases_of c.settle.new.leases }) (ResExchangeId x)) c.granted.ensures
+    ap (λ (x : ExchangeIdOk). comes_to (record m { clients = c.exchange.new.self; leases = leases_of c.settle.new.leases }) (Res.ExchangeId x)) c.granted.ensures
     ∙ answered_ok m who c.args.now e c.next_id-next.result c.in-Ok-exchange.exchanged c.exchange.new.self
     (leases_of c.settle.new.leases) (case_of m.clients (ask_of who e))
-    c.requires.machine c.next_id-next.ensures.fresh c.next_id-next.ensures.value refl c.in-Ok-exchange.ensures.0 c.in-Ok-exchange.ensures.1 book
+    c.requires.machine c.next_id-next.ensures.fresh c.next_id-next.ensures.value refl
+    (c.in-Ok-exchange.ensures.0 ∙ ap (λ (b : List ℕ). (exchange m.clients (asked_by who e b)).answer) c.bytes-owner.ensures)
+    (c.in-Ok-exchange.ensures.1 ∙ ap (λ (b : List ℕ). (exchange m.clients (asked_by who e b)).after) c.bytes-owner.ensures) book
 
 pub returns-in-Err-exchange-clause-outcome : goal.returns-in-Err-exchange-clause-outcome
 returns-in-Err-exchange-clause-outcome c =
     let m = machine_of c.args.self.now in
     let who = caller c.args.who.now in
-    let e = view_exchange_id c.args.asked.now in
+    let e = c.args.asked.now in
     let after = record m { clients = c.exchange.new.self; leases = leases_of c.remove.new.self } in
     subst (λ (r : Res). comes_to after r ≡ or_delay (is_delay (status_of_result r)) m exchange_id_number (exchange_id m who c.args.now e))
     (sym c.refused-in-Err-exchange.ensures)
     (refused_last m who c.args.now e c.next_id-next.result c.in-Err-exchange.fault c.exchange.new.self (leases_of c.remove.new.self)
-    c.requires.machine c.next_id-next.ensures.fresh (sym c.judge_exchange.ensures ∙ c.in_default.is) c.in-Err-exchange.ensures
+    c.requires.machine c.next_id-next.ensures.fresh
+    (ap (λ (b : List ℕ). judged (exchange_fault m.clients (asked_by who e b))) (sym c.bytes-owner.ensures) ∙ sym c.judge_exchange.ensures ∙ c.in_default.is)
+    (subst (λ (b : List ℕ). ExchangesOrWants m.clients (asked_by who e b) (Err c.in-Err-exchange.fault) c.exchange.new.self) c.bytes-owner.ensures
+    c.in-Err-exchange.ensures)
     (c.remove.ensures.lease ∙ ap (λ (b : Book). without_lease b c.next_id-next.result) c.in-Ok.ensures.ok))

@@ -1,8 +1,7 @@
 use Rattle.std.proofs.Common.{◌≤◌, length, ap, sym, subst, arith}
 use Rattle.std.proofs.lemmas.List.{length-append}
-use Rattle.nfs_results.specs.Result.{Res}
+use Rattle.nfs_results.specs.declared.res.Res.{Res}
 use Rattle.nfs_results.specs.Results.{spell_result}
-use Rattle.nfs_results.specs.View as view
 use Rattle.nfs_xdr.specs.declared.status.Status.TheVariants.{RepTooBig}
 use Rattle.nfs_exec.proofs.Bearing.{refusal_short}
 use Rattle.nfs_exec.proofs.tables.Tables.in_room.Goals as goal
@@ -19,5 +18,5 @@ returns-then-largest-limit-clause-fits c =
     let short = subst (λ (r : Res). length (spell_result r) ≤ 12) (sym c.refusal.ensures) (refusal_short c.number.result RepTooBig) in
     let reserve = c.requires.reserve in
     let long = ap length c.write.ensures.bytes in
-    let parts = length-append c.args.out.now.bytes (spell_result (view.res c.refusal.result)) in
+    let parts = length-append c.args.out.now.bytes (spell_result c.refusal.result) in
     omega (arith, short, reserve, long, parts)

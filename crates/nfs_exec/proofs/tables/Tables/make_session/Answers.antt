@@ -1,6 +1,5 @@
 use Rattle.std.proofs.Common.{◌≡◌, ℕ, Option, Ok, Err, ap, sym, subst, ◌∙◌}
 use Rattle.nfs_xdr.specs.declared.status.Status.{Status}
-use Rattle.nfs_compound.specs.ArgCodecs.{view_create_session}
 use Rattle.nfs_sessions.specs.declared.channel.Wish.{Wish}
 use Rattle.nfs_sessions.specs.Sessions.{create}
 use Rattle.nfs_sessions.specs.SessionTables.{CreatesOrWants}
@@ -14,7 +13,7 @@ use Rattle.nfs_exec.proofs.tables.Tables.make_session.Goals as goal
 pub returns-in-Ok : goal.returns-in-Ok
 returns-in-Ok c =
     let m = machine_of c.args.self.now in
-    let asked = view_create_session c.args.asked.now in
+    let asked = c.args.asked.now in
     let leaving : Option ℕ → Wish = λ o. record { fore = channel_of asked.fore_chan_attrs; back = channel_of asked.back_chan_attrs; leaving = o } in
     let wish : c.wish.result ≡ wish_of m asked = c.wish.ensures ∙ ap leaving c.leaving-leaving.ensures in
     let did = subst (λ (w : Wish). CreatesOrWants m.sessions (create m.sessions asked.clientid w) (Ok c.in-Ok.id) c.create.new.self) wish c.in-Ok.ensures in
@@ -25,7 +24,7 @@ returns-in-Ok c =
 pub returns-in-Err : goal.returns-in-Err
 returns-in-Err c =
     let m = machine_of c.args.self.now in
-    let asked = view_create_session c.args.asked.now in
+    let asked = c.args.asked.now in
     let leaving : Option ℕ → Wish = λ o. record { fore = channel_of asked.fore_chan_attrs; back = channel_of asked.back_chan_attrs; leaving = o } in
     let wish : c.wish.result ≡ wish_of m asked = c.wish.ensures ∙ ap leaving c.leaving-leaving.ensures in
     let did = subst (λ (w : Wish). CreatesOrWants m.sessions (create m.sessions asked.clientid w) (Err c.in-Err.fault) c.create.new.self)

@@ -1,26 +1,18 @@
-use Rattle.std.proofs.Common.{◌≡◌, ◌∙◌, false, ap, sym, subst, refl, length, ◌≤◌}
-use Rattle.nfs_compound.specs.Request.{item_number}
-use Rattle.nfs_compound.specs.View.{item}
-use Rattle.nfs_results.specs.Result.{Res}
-use Rattle.nfs_results.specs.Results.{spell_result, refusal}
+use Rattle.std.proofs.Common.{false, sym, subst, length, ◌≤◌}
+use Rattle.nfs_compound.specs.declared.op.Item.TheVariants.{Fault}
+use Rattle.nfs_results.specs.declared.res.Res.{Res}
+use Rattle.nfs_results.specs.Results.{spell_result}
 use Rattle.nfs_results.specs.ResultCodec.{IsBounded}
-use Rattle.nfs_results.specs.View as view
-use Rattle.nfs_exec.specs.Machine.{comes_to, machine_of}
-use Rattle.nfs_exec.specs.Place.{status_behind}
-use Rattle.nfs_exec.specs.Behind.{Step}
+use Rattle.nfs_exec.specs.View.{CanBear}
 use Rattle.nfs_exec.proofs.Bearing.{behind_bears, refusal_bounded, refusal_short}
-use Rattle.nfs_exec.proofs.Behind.{other_stays}
 use Rattle.nfs_exec.proofs.tables.Tables.otherwise.Goals as goal
 
-pub returns-in_default : goal.returns-in_default
-returns-in_default c =
-    let m = machine_of c.args.self.now in
-    let i = item c.args.arg.now in
-    let is : view.res c.refusal.result ≡ refusal (item_number i) (status_behind i) =
-    c.refusal.ensures ∙ ap (λ n. refusal n c.status_behind.result) c.number.ensures ∙ ap (refusal (item_number i)) c.status_behind.ensures in
-    record {
-      outcome = ap (comes_to m) is ∙ sym (ap (λ (s : Step). s.outcome) (other_stays m c.args.context.now c.args.arg.now c.in_default.not-ReclaimComplete));
-      bounds = subst IsBounded (sym is) (refusal_bounded (item_number i) (status_behind i) (behind_bears i false c.requires.bears));
-      short = subst (λ (r : Res). length (spell_result r) ≤ 12) (sym is) (refusal_short (item_number i) (status_behind i));
-      store = refl;
-    }
+pub returns-in-Fault-clause-bounds : goal.returns-in-Fault-clause-bounds
+returns-in-Fault-clause-bounds c =
+    let n = c.in-Fault.number in
+    let s = c.in-Fault.status in
+    subst IsBounded (sym c.refusal.ensures) (refusal_bounded n s (behind_bears (Fault n s) false (subst CanBear c.in-Fault.is c.requires.bears)))
+
+pub returns-in-Fault-clause-short : goal.returns-in-Fault-clause-short
+returns-in-Fault-clause-short c =
+    subst (λ (r : Res). length (spell_result r) ≤ 12) (sym c.refusal.ensures) (refusal_short c.in-Fault.number c.in-Fault.status)

@@ -1,5 +1,5 @@
 use Rattle.std.proofs.Common.{◌≡◌, ◌+◌, ◌-◌, ◌≤◌, length, ap, sym, subst, arith}
-use Rattle.nfs_results.specs.Result.{ResSequence}
+use Rattle.nfs_results.specs.declared.res.Res.TheVariants as Res
 use Rattle.nfs_results.specs.declared.res.SequenceOk.{SequenceOk}
 use Rattle.nfs_results.specs.Results.{spell_result, spell_compound_head}
 use Rattle.std.proofs.Common.{ℕ, List, Option, ◌∙◌}
@@ -25,16 +25,16 @@ put-head-requires-clause-room c = head_fits c.args.out.now c.tag.result.now c.ta
 
 pub write-requires-clause-room : goal.write-requires-clause-room
 write-requires-clause-room c = λ arrays.
-    (let long = subst (λ (s : SequenceOk). length (spell_result (ResSequence s)) ≤ 44)
+    (let long = subst (λ (s : SequenceOk). length (spell_result (Res.Sequence s)) ≤ 44)
     (sym c.accepted.ensures) (accepted_long c.args.asked.now c.args.channel.now c.requires.sessionid) in
     second_fits c.args.out.now c.put-head.new.out c.tag.result.now
-    (spell_result (ResSequence c.accepted.result)) c.tag.ensures.bound c.requires.room c.put-head.ensures.puts long)
+    (spell_result (Res.Sequence c.accepted.result)) c.tag.ensures.bound c.requires.room c.put-head.ensures.puts long)
 
 pub run-ran-requires-clause-fits : goal.run-ran-requires-clause-fits
 run-ran-requires-clause-fits c =
-    let long = subst (λ (s : SequenceOk). length (spell_result (ResSequence s)) ≤ 44)
+    let long = subst (λ (s : SequenceOk). length (spell_result (Res.Sequence s)) ≤ 44)
     (sym c.accepted.ensures) (accepted_long c.args.asked.now c.args.channel.now c.requires.sessionid) in
-    run_fits c.args.out.now c.put-head.new.out c.write.new.out c.tag.result.now (spell_result (ResSequence c.accepted.result))
+    run_fits c.args.out.now c.put-head.new.out c.write.new.out c.tag.result.now (spell_result (Res.Sequence c.accepted.result))
     c.len-start.result c.args.channel.now.response c.tag.ensures.bound c.put-head.ensures.puts c.write.ensures long
     c.len-start.ensures.value c.requires.granted.response.0
 
@@ -65,9 +65,9 @@ returns c =
     let first = c.write.new.out in
     let rest = c.run-ran.new.out in
     let limit = c.args.channel.now.response in
-    let text = spell_result (ResSequence (Sequence.accepted s c.args.channel.now)) in
+    let text = spell_result (Res.Sequence (Sequence.accepted s c.args.channel.now)) in
     let named : c.tag.result.now ≡ r.tag = c.tag.ensures.value in
-    let same : spell_result (ResSequence c.accepted.result) ≡ text = ap (λ (s : SequenceOk). spell_result (ResSequence s)) c.accepted.ensures in
+    let same : spell_result (Res.Sequence c.accepted.result) ≡ text = ap (λ (s : SequenceOk). spell_result (Res.Sequence s)) c.accepted.ensures in
     let one : Puts before heads (spell_compound_head Nfs4Ok r.tag 0) =
     subst (λ (t : List ℕ). Puts before heads (spell_compound_head Nfs4Ok t 0)) named c.put-head.ensures.puts in
     let two : Puts heads first text = subst (λ (t : List ℕ). Puts heads first t) same c.write.ensures in

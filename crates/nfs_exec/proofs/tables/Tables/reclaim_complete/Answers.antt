@@ -1,5 +1,5 @@
 use Rattle.std.proofs.Common.{◌∙◌, sym, subst, length, ◌≤◌}
-use Rattle.nfs_results.specs.Result.{Res}
+use Rattle.nfs_results.specs.declared.res.Res.{Res}
 use Rattle.nfs_results.specs.Results.{spell_result}
 use Rattle.nfs_results.specs.ResultCodec.{IsBounded}
 use Rattle.nfs_xdr.specs.declared.status.Status.TheVariants.{CompleteAlready}

@@ -1,7 +1,6 @@
 use Rattle.std.proofs.Common.{refl, ℕ, ◌+◌, ◌-◌, ◌≤◌, ◌∷◌, ap, subst, ◌∙◌, List, length}
-use Rattle.nfs_compound.specs.Operation.{Item}
+use Rattle.nfs_compound.specs.declared.op.Item.{Item}
 use Rattle.nfs_compound.specs.Request.{Request}
-use Rattle.nfs_compound.specs.View.{item}
 use Rattle.nfs_names.specs.declared.context.Context.{Context}
 use Rattle.nfs_xdr.specs.SheetState.{SheetState}
 use Rattle.nfs_exec.specs.declared.tables.Tables.{Tables}
@@ -21,15 +20,15 @@ abbrev first : After-in_room-status → Stand
 first c = stand c.args.self.now c.args.context.now c.args.out.now
 
 abbrev here : After-in_room-status → Stand
-here c = stand c.loop-arg.self c.loop-arg.context c.loop-arg.out
+here c = stand c.loop-item.self c.loop-item.context c.loop-item.out
 
 abbrev next : After-in_room-status → Stand
 next c = stand c.in_room-status.new.self c.in_room-status.new.context c.in_room-status.new.out
 
 going : (c : After-in_room-status)
-    → Going c.args.limit c.args.start c.args.now (first c) (here c) c.args.args.now.left (item c.in-Some.arg ∷ c.next.new.self.left) c.loop-arg.count
-going c = subst (λ (left : List Item). Going c.args.limit c.args.start c.args.now (first c) (here c) c.args.args.now.left left c.loop-arg.count)
-    c.in-Some.ensures.item c.loop-arg.invariant.going
+    → Going c.args.limit c.args.start c.args.now (first c) (here c) c.args.args.now.left (c.in-Some.item ∷ c.next.new.self.left) c.loop-item.count
+going c = subst (λ (left : List Item). Going c.args.limit c.args.start c.args.now (first c) (here c) c.args.args.now.left left c.loop-item.count)
+    c.in-Some.ensures.item c.loop-item.invariant.going
 
 -- what holds of the bytes as the code counts them holds of them
 at_code : (c : After-in_room-status) (P : (limit sofar : ℕ) → Type 0)
@@ -38,21 +37,21 @@ at_code c P = counted P c.args.limit c.args.start (here c).sheet c.from-in-Some.
     c.from-in-Some.ensures c.from.ensures c.len.ensures.value
 
 did : (c : After-in_room-status)
-    → Stepped c.args.limit c.args.start c.args.now (here c) (next c) (item c.in-Some.arg) c.in_room-status.result
+    → Stepped c.args.limit c.args.start c.args.now (here c) (next c) c.in-Some.item c.in_room-status.result
 did c = at_code c
-    (λ limit sofar. Steps (in_room limit sofar c.args.now (is_delay c.in_room-status.result) (here c).machine (here c).context (item c.in-Some.arg))
+    (λ limit sofar. Steps (in_room limit sofar c.args.now (is_delay c.in_room-status.result) (here c).machine (here c).context c.in-Some.item)
     c.in_room-status.result (next c).machine (next c).context (here c).sheet (next c).sheet)
     c.in_room-status.ensures.steps
 
-pub loop-arg-preserved : goal.loop-arg-preserved
-loop-arg-preserved c =
-    let at = (goal.at.loop-arg-preserved c).After-in_room-status in
+pub loop-item-preserved : goal.loop-item-preserved
+loop-item-preserved c =
+    let at = (goal.at.loop-item-preserved c).After-in_room-status in
     let more = at_code at (λ limit sofar. length (next at).sheet.bytes + sofar + 12 ≤ length (here at).sheet.bytes + limit)
     (c.in_room-status.ensures.more c.in-Nfs4Ok.is) in
     record {
       going = goes_on c.args.limit c.args.start c.args.now (first at) (here at) (next at) c.args.args.now.left
-          c.next.new.self.left (item c.in-Some.arg) c.loop-arg.count c.in_room-status.result (going at) (did at) c.in-Nfs4Ok.is more;
-      same = c.in-Some.ensures.head ∙ ap (λ (r : Request). record r { left = c.next.new.self.left }) c.loop-arg.invariant.same;
+          c.next.new.self.left c.in-Some.item c.loop-item.count c.in_room-status.result (going at) (did at) c.in-Nfs4Ok.is more;
+      same = c.in-Some.ensures.head ∙ ap (λ (r : Request). record r { left = c.next.new.self.left }) c.loop-item.invariant.same;
       store = c.in_room-status.ensures.store;
     }
 
@@ -62,15 +61,15 @@ returns-in_default-status c =
     let fits = at_code at (λ limit sofar. length (next at).sheet.bytes + sofar ≤ length (here at).sheet.bytes + limit) c.in_room-status.ensures.fits in
     record {
       ran = ends_with c.args.limit c.args.start c.args.now (first at) (here at) (next at) c.args.args.now.left c.next.new.self.left
-          (item c.in-Some.arg) c.loop-arg.count c.in_room-status.result (going at) (did at) (not_ok c.in_room-status.result c.in_default-status.not-Nfs4Ok);
+          c.in-Some.item c.loop-item.count c.in_room-status.result (going at) (did at) (not_ok c.in_room-status.result c.in_default-status.not-Nfs4Ok);
       fits = ends_within c.args.limit c.args.start c.args.now (first at) (here at) (next at).sheet c.args.args.now.left
-          c.next.new.self.left (item c.in-Some.arg) c.loop-arg.count (going at) fits;
-      same = c.in-Some.ensures.head ∙ ap (λ (r : Request). record r { left = c.next.new.self.left }) c.loop-arg.invariant.same;
+          c.next.new.self.left c.in-Some.item c.loop-item.count (going at) fits;
+      same = c.in-Some.ensures.head ∙ ap (λ (r : Request). record r { left = c.next.new.self.left }) c.loop-item.invariant.same;
       store = c.in_room-status.ensures.store;
     }
 
-pub loop-arg-init : goal.loop-arg-init
-loop-arg-init c = record {
+pub loop-item-init : goal.loop-item-init
+loop-item-init c = record {
   going = begins c.args.limit c.args.start c.args.now (stand c.args.self.now c.args.context.now c.args.out.now)
       c.args.args.now.left c.requires.bears c.requires.few c.requires.start c.requires.fits;
   same = refl;
@@ -80,7 +79,7 @@ loop-arg-init c = record {
 pub returns-clause-ran : goal.returns-clause-ran
 returns-clause-ran c =
     let begun = stand c.args.self.now c.args.context.now c.args.out.now in
-    let ended = stand c.loop-arg.self c.loop-arg.context c.loop-arg.out in
-    ends c.args.limit c.args.start c.args.now begun ended c.args.args.now.left c.loop-arg.count
-    (subst (λ (left : List Item). Going c.args.limit c.args.start c.args.now begun ended c.args.args.now.left left c.loop-arg.count)
-    c.in_default.ensures.item.0 c.loop-arg.invariant.going)
+    let ended = stand c.loop-item.self c.loop-item.context c.loop-item.out in
+    ends c.args.limit c.args.start c.args.now begun ended c.args.args.now.left c.loop-item.count
+    (subst (λ (left : List Item). Going c.args.limit c.args.start c.args.now begun ended c.args.args.now.left left c.loop-item.count)
+    c.in_default.ensures.item.0 c.loop-item.invariant.going)

@@ -1,4 +1,4 @@
-use Rattle.std.proofs.Common.{◌≡◌, sym, ap, ◌∙◌, refl}
+use Rattle.std.proofs.Common.{sym, ap, ◌∙◌, refl}
 use Rattle.nfs_rpc.specs.CallHead.{call_of}
 use Rattle.nfs_exec.specs.Expiry.{expired}
 use Rattle.nfs_exec.specs.Machine.{machine_of}

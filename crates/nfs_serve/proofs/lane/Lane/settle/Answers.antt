@@ -1,4 +1,4 @@
-use Rattle.std.proofs.Common.{◌≡◌, ◌⊎◌, ◌<◌, rules, arith, refl, ap, ◌∙◌, [], ◌∷◌, ◌++◌, length, true, false, inl, inr, sym}
+use Rattle.std.proofs.Common.{◌≡◌, ◌⊎◌, ◌<◌, rules, refl, ap, ◌∙◌, [], ◌∷◌, ◌++◌, length, true, false, inl, inr, sym}
 use Rattle.std.proofs.lemmas.List.{nil_from_length}
 use Rattle.nfs_serve.specs.Desk.{Closed}
 use Rattle.nfs_serve.specs.Lane.{desk_of}

@@ -1,12 +1,11 @@
 use Rattle.std.proofs.Common.{rules, ◌≡◌, ◌≤◌, ◌+◌, length, sym, ap, subst, Some}
 use Rattle.nfs_xdr.specs.declared.time.Time.{Time}
-use Rattle.nfs_compound.specs.ArgCodecs.{view_bitmap, view_read_dir}
-use Rattle.nfs_compound.specs.Operation.{Item, Operation, OpGetAttr, OpGetFh, OpReadDir, OpReadLink}
-use Rattle.nfs_compound.specs.View.{item}
+use Rattle.nfs_compound.specs.declared.op.Item.{Item}
+use Rattle.nfs_compound.specs.declared.op.Item.TheVariants.{Operation}
+use Rattle.nfs_compound.specs.declared.op.Op.TheVariants as Op
 use Rattle.nfs_results.specs.Largest.{largest}
-use Rattle.nfs_results.specs.Result.{Res}
+use Rattle.nfs_results.specs.declared.res.Res.{Res}
 use Rattle.nfs_results.specs.Results.{status_of_result}
-use Rattle.nfs_results.specs.View as view
 use Rattle.nfs_tree.specs.TreeInvariants.{IsTree}
 use Rattle.nfs_names.specs.declared.context.Context.{Context}
 use Rattle.nfs_names.specs.State.{State, state_of, moment}
@@ -16,31 +15,31 @@ use Rattle.nfs_names.specs.Operation.{comes_to}
 use Rattle.nfs_names.proofs.Bounds.{may_get_attr, may_get_fh, may_read_dir, may_read_link}
 use Rattle.nfs_names.proofs.Ones.{each_of}
 use Rattle.nfs_names.proofs.Whole.{Keeps, keeps, within, bounded_may, room_may}
-use Rattle.nfs_names.proofs.operation.name_op.Goals as goal
+use Rattle.nfs_names.proofs.operation.on_names.Goals as goal
 
 pub returns-in-GetAttr-clause-within : goal.returns-in-GetAttr-clause-within
 returns-in-GetAttr-clause-within c =
-    let words = view_bitmap c.in-GetAttr.attr_request in
-    subst (λ (i : Item). length c.get_attr.new.out.bytes ≤ length c.args.out.now.bytes + largest i) (sym (ap item c.in-GetAttr.is))
-    (within (Operation (OpGetAttr words)) _ c.args.out.now c.get_attr.new.out
+    let words = c.in-GetAttr.attr_request in
+    subst (λ (i : Item). length c.get_attr.new.out.bytes ≤ length c.args.out.now.bytes + largest i) (sym (ap Operation c.in-GetAttr.is))
+    (within (Operation (Op.GetAttr words)) _ c.args.out.now c.get_attr.new.out
     (may_get_attr (state_of c.args.store.now) c.args.context.now words) c.get_attr.ensures.put)
 
 pub returns-in-GetFh-clause-within : goal.returns-in-GetFh-clause-within
 returns-in-GetFh-clause-within c =
-    subst (λ (i : Item). length c.get_fh.new.out.bytes ≤ length c.args.out.now.bytes + largest i) (sym (ap item c.in-GetFh.is))
-    (within (Operation OpGetFh) _ c.args.out.now c.get_fh.new.out (may_get_fh (state_of c.args.store.now) c.args.context.now) c.get_fh.ensures.put)
+    subst (λ (i : Item). length c.get_fh.new.out.bytes ≤ length c.args.out.now.bytes + largest i) (sym (ap Operation c.in-GetFh.is))
+    (within (Operation Op.GetFh) _ c.args.out.now c.get_fh.new.out (may_get_fh (state_of c.args.store.now) c.args.context.now) c.get_fh.ensures.put)
 
 pub returns-in-ReadDir-clause-within : goal.returns-in-ReadDir-clause-within
 returns-in-ReadDir-clause-within c =
-    let a = view_read_dir c.in-ReadDir.asked in
-    subst (λ (i : Item). length c.read_dir.new.out.bytes ≤ length c.args.out.now.bytes + largest i) (sym (ap item c.in-ReadDir.is))
-    (within (Operation (OpReadDir a)) _ c.args.out.now c.read_dir.new.out
+    let a = c.in-ReadDir.asked in
+    subst (λ (i : Item). length c.read_dir.new.out.bytes ≤ length c.args.out.now.bytes + largest i) (sym (ap Operation c.in-ReadDir.is))
+    (within (Operation (Op.ReadDir a)) _ c.args.out.now c.read_dir.new.out
     (may_read_dir (state_of c.args.store.now) c.args.context.now a) c.read_dir.ensures.put)
 
 pub returns-in-ReadLink-clause-within : goal.returns-in-ReadLink-clause-within
 returns-in-ReadLink-clause-within c =
-    subst (λ (i : Item). length c.read_link.new.out.bytes ≤ length c.args.out.now.bytes + largest i) (sym (ap item c.in-ReadLink.is))
-    (within (Operation OpReadLink) _ c.args.out.now c.read_link.new.out (may_read_link (state_of c.args.store.now) c.args.context.now) c.read_link.ensures.put)
+    subst (λ (i : Item). length c.read_link.new.out.bytes ≤ length c.args.out.now.bytes + largest i) (sym (ap Operation c.in-ReadLink.is))
+    (within (Operation Op.ReadLink) _ c.args.out.now c.read_link.new.out (may_read_link (state_of c.args.store.now) c.args.context.now) c.read_link.ensures.put)
 
 -- what was found of an operation whose result is put behind the match
 kept : (s : State) (x : Context) (now : Time) (i : Item) (r : Res) (left : State) (behind : Context) → IsTree s.tree → IsStore s
@@ -50,20 +49,20 @@ kept s x now i r left behind tree is = each_of (Keeps i) _ (keeps (is_delay (sta
 
 pub write-requires : goal.write-requires
 write-requires c =
-    let i = item c.args.arg.now in
-    let r = view.res c.match-arg.res in
+    let i = Operation c.args.op.now in
+    let r = c.match-op.res in
     let s = state_of c.args.store.now in
     let is : comes_to (is_delay (status_of_result r)) s c.args.context.now (moment c.args.now) i
-    ≡ Some (record { result = r; state = state_of c.match-arg.store; context = c.match-arg.context }) = search rules in
-    let may = (kept s c.args.context.now (moment c.args.now) i r (state_of c.match-arg.store) c.match-arg.context c.kept.ensures c.requires.store is).may in
+    ≡ Some (record { result = r; state = state_of c.match-op.store; context = c.match-op.context }) = search rules in
+    let may = (kept s c.args.context.now (moment c.args.now) i r (state_of c.match-op.store) c.match-op.context c.kept.ensures c.requires.store is).may in
     record { bounds = bounded_may i r may; room = λ arrays. room_may i r c.args.out.now may c.requires.room }
 
 pub returns : goal.returns
 returns c =
-    let i = item c.args.arg.now in
-    let r = view.res c.match-arg.res in
+    let i = Operation c.args.op.now in
+    let r = c.match-op.res in
     let s = state_of c.args.store.now in
     let is : comes_to (is_delay (status_of_result r)) s c.args.context.now (moment c.args.now) i
-    ≡ Some (record { result = r; state = state_of c.match-arg.store; context = c.match-arg.context }) = search rules in
-    let keeps = kept s c.args.context.now (moment c.args.now) i r (state_of c.match-arg.store) c.match-arg.context c.kept.ensures c.requires.store is in
+    ≡ Some (record { result = r; state = state_of c.match-op.store; context = c.match-op.context }) = search rules in
+    let keeps = kept s c.args.context.now (moment c.args.now) i r (state_of c.match-op.store) c.match-op.context c.kept.ensures c.requires.store is in
     record { comes = search rules; store = keeps.store; within = within i r c.args.out.now c.write.new.out keeps.may c.write.ensures }

@@ -1,12 +1,14 @@
 //! The operations with their arguments, lent from the record.
 
 ghost use Rattle.std.specs.Prelude.{◌≡◌};
+ghost use Rattle.nfs_compound.specs.OpNum.{op_number};
+ghost use Rattle.nfs_compound.specs.Arguments.{arguments};
 ghost use Rattle.nfs_compound.specs.Request.{item_number};
-ghost use Rattle.nfs_compound.specs.View as view;
 ghost use Rattle.nfs_compound.specs.ReadRequest.{is_fault};
 
 use crate::attributes::{Attributes, Bitmap};
 use crate::file_args::{Commit, Read, SetAttr, Write};
+use crate::lent::Lent;
 use crate::lock_args::{Lock, LockT, LockU};
 use crate::name_args::{Create, ReadDir, Rename, SecinfoStyle};
 use crate::op_num::OpNum;
@@ -15,10 +17,9 @@ use crate::session_args::{CreateSession, ExchangeId, Sequence};
 use crate::stateid::{Stateid, Stateids};
 use nfs_xdr::Status;
 
-/// What stands at a place of a compound: an operation of RFC 8881 section 18 with its arguments, or the fault that ends
-/// the list.
-#[derive(Clone, Copy)]
-pub enum Arg<'a> {
+/// An operation of RFC 8881 section 18 with its arguments.
+#[derive(Drop)]
+pub enum Op<'a> {
     /// Section 18.1.
     Access { access: u32 },
     /// Section 18.2.
@@ -32,7 +33,7 @@ pub enum Arg<'a> {
     /// Section 18.8.
     GetFh,
     /// Section 18.9.
-    Link { newname: &'a [u8] },
+    Link { newname: Lent<'a> },
     /// Section 18.10.
     Lock(Lock<'a>),
     /// Section 18.11.
@@ -40,7 +41,7 @@ pub enum Arg<'a> {
     /// Section 18.12.
     LockU(LockU),
     /// Section 18.13.
-    Lookup { objname: &'a [u8] },
+    Lookup { objname: Lent<'a> },
     /// Section 18.14.
     LookupP,
     /// Section 18.15.
@@ -50,7 +51,7 @@ pub enum Arg<'a> {
     /// Section 18.18.
     OpenDowngrade(OpenDowngrade),
     /// Section 18.19.
-    PutFh { object: &'a [u8] },
+    PutFh { object: Lent<'a> },
     /// Section 18.20.
     PutPubFh,
     /// Section 18.21.
@@ -62,7 +63,7 @@ pub enum Arg<'a> {
     /// Section 18.24.
     ReadLink,
     /// Section 18.25.
-    Remove { target: &'a [u8] },
+    Remove { target: Lent<'a> },
     /// Section 18.26.
     Rename(Rename<'a>),
     /// Section 18.27.
@@ -93,6 +94,12 @@ pub enum Arg<'a> {
     DestroyClientId { clientid: u64 },
     /// Section 18.51.
     ReclaimComplete { one_fs: bool },
+}
+
+/// What stands at a place of a compound: an operation, or the fault that ends the list.
+#[derive(Drop)]
+pub enum Item<'a> {
+    Operation(Op<'a>),
     /// No operation that can be run, and nothing behind it is read: the operation number and the status of its result.
     /// `NotSupp` for an operation of minor version 1 that this server does not have, `OpIllegal` under the number of
     /// OP_ILLEGAL for a number that is no operation's, `BadXdr` for arguments that are not spelled as RFC 5662 has them,
@@ -100,58 +107,69 @@ pub enum Arg<'a> {
     Fault { number: u32, status: Status },
 }
 
-impl Arg<'_> {
-    /// The operation number under which it is answered.
+impl Op<'_> {
+    /// Its number (RFC 5662).
     pub fn number(&self) -> u32
-        ensures { result ≡ item_number (view.item self.now) }
+        ensures { result ≡ op_number (arguments self.now).op }
     {
         let op = match self {
-            Arg::Access { .. } => OpNum::Access,
-            Arg::Close(_) => OpNum::Close,
-            Arg::Commit(_) => OpNum::Commit,
-            Arg::Create(_) => OpNum::Create,
-            Arg::GetAttr { .. } => OpNum::GetAttr,
-            Arg::GetFh => OpNum::GetFh,
-            Arg::Link { .. } => OpNum::Link,
-            Arg::Lock(_) => OpNum::Lock,
-            Arg::LockT(_) => OpNum::LockT,
-            Arg::LockU(_) => OpNum::LockU,
-            Arg::Lookup { .. } => OpNum::Lookup,
-            Arg::LookupP => OpNum::LookupP,
-            Arg::NVerify { .. } => OpNum::NVerify,
-            Arg::Open(_) => OpNum::Open,
-            Arg::OpenDowngrade(_) => OpNum::OpenDowngrade,
-            Arg::PutFh { .. } => OpNum::PutFh,
-            Arg::PutPubFh => OpNum::PutPubFh,
-            Arg::PutRootFh => OpNum::PutRootFh,
-            Arg::Read(_) => OpNum::Read,
-            Arg::ReadDir(_) => OpNum::ReadDir,
-            Arg::ReadLink => OpNum::ReadLink,
-            Arg::Remove { .. } => OpNum::Remove,
-            Arg::Rename(_) => OpNum::Rename,
-            Arg::RestoreFh => OpNum::RestoreFh,
-            Arg::SaveFh => OpNum::SaveFh,
-            Arg::SetAttr(_) => OpNum::SetAttr,
-            Arg::Verify { .. } => OpNum::Verify,
-            Arg::Write(_) => OpNum::Write,
-            Arg::ExchangeId(_) => OpNum::ExchangeId,
-            Arg::CreateSession(_) => OpNum::CreateSession,
-            Arg::DestroySession { .. } => OpNum::DestroySession,
-            Arg::FreeStateid { .. } => OpNum::FreeStateid,
-            Arg::SecinfoNoName { .. } => OpNum::SecinfoNoName,
-            Arg::Sequence(_) => OpNum::Sequence,
-            Arg::TestStateid { .. } => OpNum::TestStateid,
-            Arg::DestroyClientId { .. } => OpNum::DestroyClientId,
-            Arg::ReclaimComplete { .. } => OpNum::ReclaimComplete,
-            Arg::Fault { number, .. } => return *number,
+            Op::Access { .. } => OpNum::Access,
+            Op::Close(_) => OpNum::Close,
+            Op::Commit(_) => OpNum::Commit,
+            Op::Create(_) => OpNum::Create,
+            Op::GetAttr { .. } => OpNum::GetAttr,
+            Op::GetFh => OpNum::GetFh,
+            Op::Link { .. } => OpNum::Link,
+            Op::Lock(_) => OpNum::Lock,
+            Op::LockT(_) => OpNum::LockT,
+            Op::LockU(_) => OpNum::LockU,
+            Op::Lookup { .. } => OpNum::Lookup,
+            Op::LookupP => OpNum::LookupP,
+            Op::NVerify { .. } => OpNum::NVerify,
+            Op::Open(_) => OpNum::Open,
+            Op::OpenDowngrade(_) => OpNum::OpenDowngrade,
+            Op::PutFh { .. } => OpNum::PutFh,
+            Op::PutPubFh => OpNum::PutPubFh,
+            Op::PutRootFh => OpNum::PutRootFh,
+            Op::Read(_) => OpNum::Read,
+            Op::ReadDir(_) => OpNum::ReadDir,
+            Op::ReadLink => OpNum::ReadLink,
+            Op::Remove { .. } => OpNum::Remove,
+            Op::Rename(_) => OpNum::Rename,
+            Op::RestoreFh => OpNum::RestoreFh,
+            Op::SaveFh => OpNum::SaveFh,
+            Op::SetAttr(_) => OpNum::SetAttr,
+            Op::Verify { .. } => OpNum::Verify,
+            Op::Write(_) => OpNum::Write,
+            Op::ExchangeId(_) => OpNum::ExchangeId,
+            Op::CreateSession(_) => OpNum::CreateSession,
+            Op::DestroySession { .. } => OpNum::DestroySession,
+            Op::FreeStateid { .. } => OpNum::FreeStateid,
+            Op::SecinfoNoName { .. } => OpNum::SecinfoNoName,
+            Op::Sequence(_) => OpNum::Sequence,
+            Op::TestStateid { .. } => OpNum::TestStateid,
+            Op::DestroyClientId { .. } => OpNum::DestroyClientId,
+            Op::ReclaimComplete { .. } => OpNum::ReclaimComplete,
         };
         op.number()
+    }
+}
+
+impl Item<'_> {
+    /// The operation number under which it is answered.
+    pub fn number(&self) -> u32
+        ensures { result ≡ item_number self.now }
+    {
+        match self {
+            Item::Operation(op) => op.number(),
+            Item::Fault { number, .. } => *number,
+        }
     }
 
     /// Whether it is the fault that ends the list.
     pub fn is_fault(&self) -> bool
-        ensures { result ≡ is_fault (view.item self.now) }
+        ensures { result ≡ is_fault self.now }
     {
-        matches!(self, Arg::Fault { .. })
+        matches!(self, Item::Fault { .. })
     }
 }

@@ -1,11 +1,9 @@
 use Rattle.std.proofs.Common.{rules, ◌≡◌, ◌≤◌, ◌+◌, true, length, refl, sym, ap, subst, Some}
-use Rattle.nfs_compound.specs.ArgCodecs.{view_lock, view_lock_t}
-use Rattle.nfs_compound.specs.Stateid.{view_stateids}
-use Rattle.nfs_compound.specs.Operation.{Item, Operation, OpLock, OpLockT, OpRead, OpTestStateid}
-use Rattle.nfs_compound.specs.View.{item}
+use Rattle.nfs_compound.specs.declared.op.Item.{Item}
+use Rattle.nfs_compound.specs.declared.op.Item.TheVariants.{Operation}
+use Rattle.nfs_compound.specs.declared.op.Op.TheVariants as Op
 use Rattle.nfs_results.specs.Largest.{largest}
 use Rattle.nfs_results.specs.Results.{status_of_result}
-use Rattle.nfs_results.specs.View as view
 use Rattle.nfs_names.specs.State.{state_of, moment}
 use Rattle.nfs_names.specs.StoreInvariants.{IsStore}
 use Rattle.nfs_names.specs.Outcome.{Outcome, is_delay}
@@ -16,43 +14,43 @@ use Rattle.nfs_files.proofs.ByteAnswers.{may_read_bytes}
 use Rattle.nfs_files.proofs.StraightAnswers.{short_within, short_lock, short_lock_t, short_test}
 use Rattle.nfs_files.proofs.Whole.{keeps, is_plain}
 use Rattle.nfs_files.proofs.Sound.{sound_item}
-use Rattle.nfs_files.proofs.operation.file_op.Goals as goal
+use Rattle.nfs_files.proofs.operation.on_files.Goals as goal
 
 pub returns-in-Lock-clause-store : goal.returns-in-Lock-clause-store
 returns-in-Lock-clause-store c =
     subst IsStore (sym c.lock.ensures.state) (sound_item (is_delay c.lock.result) (state_of c.args.store.now) c.args.context.now
-    (moment c.args.now) (Operation (OpLock (view_lock c.in-Lock.asked))) c.kept.ensures c.kept-2.ensures c.requires.store).store
+    (moment c.args.now) (Operation (Op.Lock c.in-Lock.asked)) c.kept.ensures c.kept-2.ensures c.requires.store).store
 
 pub returns-in-Lock-clause-within : goal.returns-in-Lock-clause-within
 returns-in-Lock-clause-within c =
-    let a = view_lock c.in-Lock.asked in
-    subst (λ (i : Item). length c.lock.new.out.bytes ≤ length c.args.out.now.bytes + largest i) (sym (ap item c.in-Lock.is))
-    (short_within (OpLock a) _ c.args.out.now c.lock.new.out
+    let a = c.in-Lock.asked in
+    subst (λ (i : Item). length c.lock.new.out.bytes ≤ length c.args.out.now.bytes + largest i) (sym (ap Operation c.in-Lock.is))
+    (short_within (Op.Lock a) _ c.args.out.now c.lock.new.out
     (short_lock (is_delay c.lock.result) (state_of c.args.store.now) c.args.context.now a) c.lock.ensures.put)
 
 pub returns-in-LockT-clause-within : goal.returns-in-LockT-clause-within
 returns-in-LockT-clause-within c =
-    let a = view_lock_t c.in-LockT.asked in
-    subst (λ (i : Item). length c.lock_t.new.out.bytes ≤ length c.args.out.now.bytes + largest i) (sym (ap item c.in-LockT.is))
-    (short_within (OpLockT a) _ c.args.out.now c.lock_t.new.out (short_lock_t (state_of c.args.store.now) c.args.context.now a) c.lock_t.ensures.put)
+    let a = c.in-LockT.asked in
+    subst (λ (i : Item). length c.lock_t.new.out.bytes ≤ length c.args.out.now.bytes + largest i) (sym (ap Operation c.in-LockT.is))
+    (short_within (Op.LockT a) _ c.args.out.now c.lock_t.new.out (short_lock_t (state_of c.args.store.now) c.args.context.now a) c.lock_t.ensures.put)
 
 pub returns-in-TestStateid-clause-within : goal.returns-in-TestStateid-clause-within
 returns-in-TestStateid-clause-within c =
-    let given = view_stateids c.in-TestStateid.stateids in
-    subst (λ (i : Item). length c.test_stateid.new.out.bytes ≤ length c.args.out.now.bytes + largest i) (sym (ap item c.in-TestStateid.is))
-    (short_within (OpTestStateid given) _ c.args.out.now c.test_stateid.new.out
+    let given = c.in-TestStateid.stateids in
+    subst (λ (i : Item). length c.test_stateid.new.out.bytes ≤ length c.args.out.now.bytes + largest i) (sym (ap Operation c.in-TestStateid.is))
+    (short_within (Op.TestStateid given) _ c.args.out.now c.test_stateid.new.out
     (short_test (state_of c.args.store.now) c.args.context.now given) c.test_stateid.ensures.put)
 
 pub returns-in-Read-clause-within : goal.returns-in-Read-clause-within
 returns-in-Read-clause-within c =
     let a = c.in-Read.asked in
-    subst (λ (i : Item). length c.read.new.out.bytes ≤ length c.args.out.now.bytes + largest i) (sym (ap item c.in-Read.is))
-    (within (Operation (OpRead a)) _ c.args.out.now c.read.new.out (may_read_bytes (state_of c.args.store.now) c.args.context.now a) c.read.ensures.put)
+    subst (λ (i : Item). length c.read.new.out.bytes ≤ length c.args.out.now.bytes + largest i) (sym (ap Operation c.in-Read.is))
+    (within (Operation (Op.Read a)) _ c.args.out.now c.read.new.out (may_read_bytes (state_of c.args.store.now) c.args.context.now a) c.read.ensures.put)
 
 pub returns-in_default-clause-comes : goal.returns-in_default-clause-comes
 returns-in_default-clause-comes c =
     let n = c.in_default in (
-      λ refused. no_file_op refused (state_of c.args.store.now) c.args.context.now (moment c.args.now) c.args.arg.now n.not-Close n.not-Commit n.not-FreeStateid
+      λ refused. no_file_op refused (state_of c.args.store.now) c.args.context.now (moment c.args.now) c.args.op.now n.not-Close n.not-Commit n.not-FreeStateid
           n.not-Lock n.not-LockT n.not-LockU n.not-Open n.not-OpenDowngrade n.not-Read n.not-SetAttr n.not-TestStateid n.not-Write,
       refl,
       refl,
@@ -61,10 +59,10 @@ returns-in_default-clause-comes c =
 
 pub write-requires : goal.write-requires
 write-requires c =
-    let i = item c.args.arg.now in
-    let r = view.res c.match-arg.res in
+    let i = Operation c.args.op.now in
+    let r = c.match-op.res in
     let s = state_of c.args.store.now in
-    let left : Outcome = record { result = r; state = state_of c.match-arg.store; context = c.match-arg.context } in
+    let left : Outcome = record { result = r; state = state_of c.match-op.store; context = c.match-op.context } in
     let plain : is_plain i ≡ true = search rules in
     let is : comes_to (is_delay (status_of_result r)) s c.args.context.now (moment c.args.now) i ≡ Some left = search rules in
     let may = (keeps (is_delay (status_of_result r)) s c.args.context.now (moment c.args.now) i plain c.kept.ensures c.kept-2.ensures c.requires.store left is).may in
@@ -72,10 +70,10 @@ write-requires c =
 
 pub returns : goal.returns
 returns c =
-    let i = item c.args.arg.now in
-    let r = view.res c.match-arg.res in
+    let i = Operation c.args.op.now in
+    let r = c.match-op.res in
     let s = state_of c.args.store.now in
-    let left : Outcome = record { result = r; state = state_of c.match-arg.store; context = c.match-arg.context } in
+    let left : Outcome = record { result = r; state = state_of c.match-op.store; context = c.match-op.context } in
     let plain : is_plain i ≡ true = search rules in
     let is : comes_to (is_delay (status_of_result r)) s c.args.context.now (moment c.args.now) i ≡ Some left = search rules in
     let kept = keeps (is_delay (status_of_result r)) s c.args.context.now (moment c.args.now) i plain c.kept.ensures c.kept-2.ensures c.requires.store left is in
