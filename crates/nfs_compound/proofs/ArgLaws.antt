@@ -28,18 +28,15 @@ use Rattle.nfs_compound.specs.declared.open_args.CreateHow.TheVariants.{Unchecke
 use Rattle.nfs_compound.specs.OpenCodecs.{create_how, spell_create_how, FitsCreateHow, create_how_arms, open_how, spell_open_how, FitsOpenHow, open_how_arms}
 use Rattle.nfs_compound.specs.OpenCodecs.{delegations, delegation_type, open_claim, spell_open_claim, FitsOpenClaim, open_claim_arms, open_args}
 use Rattle.nfs_compound.specs.OpenCodecs.{open_downgrade_args, close_args}
-use Rattle.nfs_compound.specs.OpenArgs.{delegation_number}
+use Rattle.nfs_compound.specs.Enums.{delegation_number, lock_type_number, stable_how_number, secinfo_style_number}
 use Rattle.nfs_compound.specs.declared.open_args.OpenHow.{OpenHow}
 use Rattle.nfs_compound.specs.declared.open_args.OpenHow.TheVariants.{NoCreate, Create}
 use Rattle.nfs_compound.specs.declared.open_args.OpenClaim.{OpenClaim}
 use Rattle.nfs_compound.specs.declared.open_args.OpenClaim.TheVariants.{Null, Previous, DelegateCur, DelegatePrev, Fh, DelegCurFh, DelegPrevFh}
-use Rattle.nfs_compound.specs.LockArgs.{lock_type_number}
 use Rattle.nfs_compound.specs.declared.lock_args.Locker.{Locker}
 use Rattle.nfs_compound.specs.declared.lock_args.Locker.TheVariants.{OpenOwner, LockOwner}
-use Rattle.nfs_compound.specs.FileArgs.{stable_how_number}
 use Rattle.nfs_compound.specs.declared.name_args.CreateType.{CreateType}
 use Rattle.nfs_compound.specs.declared.name_args.CreateType.TheVariants.{Block, Character, Symlink, Other}
-use Rattle.nfs_compound.specs.NameArgs.{secinfo_style_number}
 
 -- Clients and sessions.
 

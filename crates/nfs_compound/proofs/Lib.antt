@@ -2,8 +2,8 @@ pub mod OpNumLaws
 pub mod ItemLaws
 pub mod ArgLaws
 pub mod OpLaws
-pub mod OpOfLaws
 pub mod WireLaws
+pub mod FirstNumber
 pub mod Walk
 pub mod GrammarLaws
 pub mod RequestLaws

@@ -228,136 +228,106 @@ all_parms = record {
 
 -- The operations.
 
-op_same : (x : Op) → spell_op x ≡ (nfs_argop4 x).bytes
+-- an operation is spelled as its text has it
+record IsSpelled (x : Op) : Type 0 where
+  same : spell_op x ≡ (nfs_argop4 x).bytes
+  to : FitsOp x → (nfs_argop4 x).Fits
+  from : (nfs_argop4 x).Fits → FitsOp x
+
+op_spells : (x : Op) → IsSpelled x
 unfolding stateid stateids state_owner bitmap attributes exchange_id_args create_session_args sequence_args open_args open_downgrade_args close_args lock_type lock_args lock_t_args lock_u_args commit_args read_args stable_how write_args set_attr_args create_args read_dir_args rename_args secinfo_style
-op_same (Op.Access a) = refl
-op_same (Op.Close a) = refl
-op_same (Op.Commit a) = refl
-op_same (Op.Create a) = rw (types.same a.objtype) refl
-op_same (Op.GetAttr a) = refl
-op_same Op.GetFh = refl
-op_same (Op.Link a) = refl
-op_same (Op.Lock a) = rw (lockers.same a.locker) refl
-op_same (Op.LockT a) = refl
-op_same (Op.LockU a) = refl
-op_same (Op.Lookup a) = refl
-op_same Op.LookupP = refl
-op_same (Op.NVerify a) = refl
-op_same (Op.Open a) = rw (flags.same a.openhow, claims.same a.claim) refl
-op_same (Op.OpenDowngrade a) = refl
-op_same (Op.PutFh a) = refl
-op_same Op.PutPubFh = refl
-op_same Op.PutRootFh = refl
-op_same (Op.Read a) = refl
-op_same (Op.ReadDir a) = refl
-op_same Op.ReadLink = refl
-op_same (Op.Remove a) = refl
-op_same (Op.Rename a) = refl
-op_same Op.RestoreFh = refl
-op_same Op.SaveFh = refl
-op_same (Op.SetAttr a) = refl
-op_same (Op.Verify a) = refl
-op_same (Op.Write a) = refl
-op_same (Op.ExchangeId a) = rw (made.same a.impl_id) refl
-op_same (Op.CreateSession a) = rw (channels.same a.fore_chan_attrs, channels.same a.back_chan_attrs) refl
-op_same (Op.DestroySession a) = refl
-op_same (Op.FreeStateid a) = refl
-op_same (Op.SecinfoNoName a) = refl
-op_same (Op.Sequence a) = refl
-op_same (Op.TestStateid a) = refl
-op_same (Op.DestroyClientId a) = refl
-op_same (Op.ReclaimComplete a) = refl
-
-op_to : (x : Op) → FitsOp x → (nfs_argop4 x).Fits
-unfolding exchange_id_args create_session_args sequence_args open_args open_downgrade_args close_args lock_type lock_args lock_t_args lock_u_args commit_args read_args stable_how write_args set_attr_args create_args read_dir_args rename_args secinfo_style
-op_to (Op.Access a) fits = (tt, fits)
-op_to (Op.Close a) (e, (seqid, held)) = (tt, (seqid, ids.to a.open_stateid held))
-op_to (Op.Commit a) (e, fits) = (tt, fits)
-op_to (Op.Create a) (e, (t, (name, values))) = (tt, (types.to a.objtype t, (name, attrs.to a.createattrs values)))
-op_to (Op.GetAttr a) fits = (tt, masks.to a fits)
-op_to Op.GetFh fits = (tt, tt)
-op_to (Op.Link a) fits = (tt, fits)
-op_to (Op.Lock a) (e, (k, (r, (o, (l, who))))) = (tt, (k, (r, (o, (l, lockers.to a.locker who)))))
-op_to (Op.LockT a) (e, (k, (o, (l, owner)))) = (tt, (k, (o, (l, owners.to a.owner owner))))
-op_to (Op.LockU a) (e, (k, (seqid, (held, range)))) = (tt, (k, (seqid, (ids.to a.lock_stateid held, range))))
-op_to (Op.Lookup a) fits = (tt, fits)
-op_to Op.LookupP fits = (tt, tt)
-op_to (Op.NVerify a) fits = (tt, attrs.to a fits)
-op_to (Op.Open a) (e, (seqid, (access, (deny, (owner, (how, claim)))))) =
-    (tt, (seqid, (access, (deny, (owners.to a.owner owner, (flags.to a.openhow how, claims.to a.claim claim))))))
-op_to (Op.OpenDowngrade a) (e, (held, fits)) = (tt, (ids.to a.open_stateid held, fits))
-op_to (Op.PutFh a) fits = (tt, fits)
-op_to Op.PutPubFh fits = (tt, tt)
-op_to Op.PutRootFh fits = (tt, tt)
-op_to (Op.Read a) (e, (held, fits)) = (tt, (ids.to a.stateid held, fits))
-op_to (Op.ReadDir a) (e, (cookie, (verf, (dirs, (size, mask))))) = (tt, (cookie, (verf, (dirs, (size, masks.to a.attr_request mask)))))
-op_to Op.ReadLink fits = (tt, tt)
-op_to (Op.Remove a) fits = (tt, fits)
-op_to (Op.Rename a) (e, fits) = (tt, fits)
-op_to Op.RestoreFh fits = (tt, tt)
-op_to Op.SaveFh fits = (tt, tt)
-op_to (Op.SetAttr a) (e, (held, values)) = (tt, (ids.to a.stateid held, attrs.to a.obj_attributes values))
-op_to (Op.Verify a) fits = (tt, attrs.to a fits)
-op_to (Op.Write a) (e, (held, fits)) = (tt, (ids.to a.stateid held, fits))
-op_to (Op.ExchangeId a) (e, (verf, (owner, (f, impl)))) = (tt, (verf, (owner, (f, (tt, made.to a.impl_id impl)))))
-op_to (Op.CreateSession a) (e, (client, (seq, (f, (fore, (back, (program, ps))))))) = (
-  tt,
-  (client, (seq, (f, (channels.to a.fore_chan_attrs fore, (channels.to a.back_chan_attrs back, (program, all_parms.to a.sec_parms ps)))))),
-)
-op_to (Op.DestroySession a) fits = (tt, fits)
-op_to (Op.FreeStateid a) fits = (tt, ids.to a fits)
-op_to (Op.SecinfoNoName a) fits = (tt, tt)
-op_to (Op.Sequence a) (e, fits) = (tt, fits)
-op_to (Op.TestStateid a) fits = (tt, id_lists.to a fits)
-op_to (Op.DestroyClientId a) fits = (tt, fits)
-op_to (Op.ReclaimComplete a) fits = (tt, tt)
-
-op_from : (x : Op) → (nfs_argop4 x).Fits → FitsOp x
-unfolding exchange_id_args create_session_args sequence_args open_args open_downgrade_args close_args lock_type lock_args lock_t_args lock_u_args commit_args read_args stable_how write_args set_attr_args create_args read_dir_args rename_args secinfo_style
-op_from (Op.Access a) (u, fits) = fits
-op_from (Op.Close a) (u, (seqid, held)) = (refl, (seqid, ids.from a.open_stateid held))
-op_from (Op.Commit a) (u, fits) = (refl, fits)
-op_from (Op.Create a) (u, (t, (name, values))) = (refl, (types.from a.objtype t, (name, attrs.from a.createattrs values)))
-op_from (Op.GetAttr a) (u, fits) = masks.from a fits
-op_from Op.GetFh fits = refl
-op_from (Op.Link a) (u, fits) = fits
-op_from (Op.Lock a) (u, (k, (r, (o, (l, who))))) = (refl, (k, (r, (o, (l, lockers.from a.locker who)))))
-op_from (Op.LockT a) (u, (k, (o, (l, owner)))) = (refl, (k, (o, (l, owners.from a.owner owner))))
-op_from (Op.LockU a) (u, (k, (seqid, (held, range)))) = (refl, (k, (seqid, (ids.from a.lock_stateid held, range))))
-op_from (Op.Lookup a) (u, fits) = fits
-op_from Op.LookupP fits = refl
-op_from (Op.NVerify a) (u, fits) = attrs.from a fits
-op_from (Op.Open a) (u, (seqid, (access, (deny, (owner, (how, claim)))))) =
-    (refl, (seqid, (access, (deny, (owners.from a.owner owner, (flags.from a.openhow how, claims.from a.claim claim))))))
-op_from (Op.OpenDowngrade a) (u, (held, fits)) = (refl, (ids.from a.open_stateid held, fits))
-op_from (Op.PutFh a) (u, fits) = fits
-op_from Op.PutPubFh fits = refl
-op_from Op.PutRootFh fits = refl
-op_from (Op.Read a) (u, (held, fits)) = (refl, (ids.from a.stateid held, fits))
-op_from (Op.ReadDir a) (u, (cookie, (verf, (dirs, (size, mask))))) = (refl, (cookie, (verf, (dirs, (size, masks.from a.attr_request mask)))))
-op_from Op.ReadLink fits = refl
-op_from (Op.Remove a) (u, fits) = fits
-op_from (Op.Rename a) (u, fits) = (refl, fits)
-op_from Op.RestoreFh fits = refl
-op_from Op.SaveFh fits = refl
-op_from (Op.SetAttr a) (u, (held, values)) = (refl, (ids.from a.stateid held, attrs.from a.obj_attributes values))
-op_from (Op.Verify a) (u, fits) = attrs.from a fits
-op_from (Op.Write a) (u, (held, fits)) = (refl, (ids.from a.stateid held, fits))
-op_from (Op.ExchangeId a) (u, (verf, (owner, (f, (none, impl))))) = (refl, (verf, (owner, (f, made.from a.impl_id impl))))
-op_from (Op.CreateSession a) (u, (client, (seq, (f, (fore, (back, (program, ps))))))) = (
-  refl,
-  (client, (seq, (f, (channels.from a.fore_chan_attrs fore, (channels.from a.back_chan_attrs back, (program, all_parms.from a.sec_parms ps)))))),
-)
-op_from (Op.DestroySession a) (u, fits) = fits
-op_from (Op.FreeStateid a) (u, fits) = ids.from a fits
-op_from (Op.SecinfoNoName a) fits = tt
-op_from (Op.Sequence a) (u, fits) = (refl, fits)
-op_from (Op.TestStateid a) (u, fits) = id_lists.from a fits
-op_from (Op.DestroyClientId a) (u, fits) = fits
-op_from (Op.ReclaimComplete a) fits = tt
+op_spells (Op.Access a) = record { same = refl; to = λ fits. (tt, fits); from = λ (u, fits). fits }
+op_spells (Op.Close a) = record {
+  same = refl;
+  to = λ (e, (seqid, held)). (tt, (seqid, ids.to a.open_stateid held));
+  from = λ (u, (seqid, held)). (refl, (seqid, ids.from a.open_stateid held));
+}
+op_spells (Op.Commit a) = record { same = refl; to = λ (e, fits). (tt, fits); from = λ (u, fits). (refl, fits) }
+op_spells (Op.Create a) = record {
+  same = rw (types.same a.objtype) refl;
+  to = λ (e, (t, (name, values))). (tt, (types.to a.objtype t, (name, attrs.to a.createattrs values)));
+  from = λ (u, (t, (name, values))). (refl, (types.from a.objtype t, (name, attrs.from a.createattrs values)));
+}
+op_spells (Op.GetAttr a) = record { same = refl; to = λ fits. (tt, masks.to a fits); from = λ (u, fits). masks.from a fits }
+op_spells Op.GetFh = record { same = refl; to = λ fits. (tt, tt); from = λ fits. refl }
+op_spells (Op.Link a) = record { same = refl; to = λ fits. (tt, fits); from = λ (u, fits). fits }
+op_spells (Op.Lock a) = record {
+  same = rw (lockers.same a.locker) refl;
+  to = λ (e, (k, (r, (o, (l, who))))). (tt, (k, (r, (o, (l, lockers.to a.locker who)))));
+  from = λ (u, (k, (r, (o, (l, who))))). (refl, (k, (r, (o, (l, lockers.from a.locker who)))));
+}
+op_spells (Op.LockT a) = record {
+  same = refl;
+  to = λ (e, (k, (o, (l, owner)))). (tt, (k, (o, (l, owners.to a.owner owner))));
+  from = λ (u, (k, (o, (l, owner)))). (refl, (k, (o, (l, owners.from a.owner owner))));
+}
+op_spells (Op.LockU a) = record {
+  same = refl;
+  to = λ (e, (k, (seqid, (held, range)))). (tt, (k, (seqid, (ids.to a.lock_stateid held, range))));
+  from = λ (u, (k, (seqid, (held, range)))). (refl, (k, (seqid, (ids.from a.lock_stateid held, range))));
+}
+op_spells (Op.Lookup a) = record { same = refl; to = λ fits. (tt, fits); from = λ (u, fits). fits }
+op_spells Op.LookupP = record { same = refl; to = λ fits. (tt, tt); from = λ fits. refl }
+op_spells (Op.NVerify a) = record { same = refl; to = λ fits. (tt, attrs.to a fits); from = λ (u, fits). attrs.from a fits }
+op_spells (Op.Open a) = record {
+  same = rw (flags.same a.openhow, claims.same a.claim) refl;
+  to = λ (e, (seqid, (access, (deny, (owner, (how, claim)))))). (tt, (seqid, (access, (deny, (owners.to a.owner owner, (flags.to a.openhow how, claims.to a.claim claim))))));
+  from = λ (u, (seqid, (access, (deny, (owner, (how, claim)))))). (refl, (seqid, (access, (deny, (owners.from a.owner owner, (flags.from a.openhow how, claims.from a.claim claim))))));
+}
+op_spells (Op.OpenDowngrade a) = record {
+  same = refl;
+  to = λ (e, (held, fits)). (tt, (ids.to a.open_stateid held, fits));
+  from = λ (u, (held, fits)). (refl, (ids.from a.open_stateid held, fits));
+}
+op_spells (Op.PutFh a) = record { same = refl; to = λ fits. (tt, fits); from = λ (u, fits). fits }
+op_spells Op.PutPubFh = record { same = refl; to = λ fits. (tt, tt); from = λ fits. refl }
+op_spells Op.PutRootFh = record { same = refl; to = λ fits. (tt, tt); from = λ fits. refl }
+op_spells (Op.Read a) = record {
+  same = refl;
+  to = λ (e, (held, fits)). (tt, (ids.to a.stateid held, fits));
+  from = λ (u, (held, fits)). (refl, (ids.from a.stateid held, fits));
+}
+op_spells (Op.ReadDir a) = record {
+  same = refl;
+  to = λ (e, (cookie, (verf, (dirs, (size, mask))))). (tt, (cookie, (verf, (dirs, (size, masks.to a.attr_request mask)))));
+  from = λ (u, (cookie, (verf, (dirs, (size, mask))))). (refl, (cookie, (verf, (dirs, (size, masks.from a.attr_request mask)))));
+}
+op_spells Op.ReadLink = record { same = refl; to = λ fits. (tt, tt); from = λ fits. refl }
+op_spells (Op.Remove a) = record { same = refl; to = λ fits. (tt, fits); from = λ (u, fits). fits }
+op_spells (Op.Rename a) = record { same = refl; to = λ (e, fits). (tt, fits); from = λ (u, fits). (refl, fits) }
+op_spells Op.RestoreFh = record { same = refl; to = λ fits. (tt, tt); from = λ fits. refl }
+op_spells Op.SaveFh = record { same = refl; to = λ fits. (tt, tt); from = λ fits. refl }
+op_spells (Op.SetAttr a) = record {
+  same = refl;
+  to = λ (e, (held, values)). (tt, (ids.to a.stateid held, attrs.to a.obj_attributes values));
+  from = λ (u, (held, values)). (refl, (ids.from a.stateid held, attrs.from a.obj_attributes values));
+}
+op_spells (Op.Verify a) = record { same = refl; to = λ fits. (tt, attrs.to a fits); from = λ (u, fits). attrs.from a fits }
+op_spells (Op.Write a) = record {
+  same = refl;
+  to = λ (e, (held, fits)). (tt, (ids.to a.stateid held, fits));
+  from = λ (u, (held, fits)). (refl, (ids.from a.stateid held, fits));
+}
+op_spells (Op.ExchangeId a) = record {
+  same = rw (made.same a.impl_id) refl;
+  to = λ (e, (verf, (owner, (f, impl)))). (tt, (verf, (owner, (f, (tt, made.to a.impl_id impl)))));
+  from = λ (u, (verf, (owner, (f, (none, impl))))). (refl, (verf, (owner, (f, made.from a.impl_id impl))));
+}
+op_spells (Op.CreateSession a) = record {
+  same = rw (channels.same a.fore_chan_attrs, channels.same a.back_chan_attrs) refl;
+  to = λ (e, (client, (seq, (f, (fore, (back, (program, ps))))))). (tt, (client, (seq, (f, (channels.to a.fore_chan_attrs fore, (channels.to a.back_chan_attrs back, (program, all_parms.to a.sec_parms ps)))))));
+  from = λ (u, (client, (seq, (f, (fore, (back, (program, ps))))))). (refl, (client, (seq, (f, (channels.from a.fore_chan_attrs fore, (channels.from a.back_chan_attrs back, (program, all_parms.from a.sec_parms ps)))))));
+}
+op_spells (Op.DestroySession a) = record { same = refl; to = λ fits. (tt, fits); from = λ (u, fits). fits }
+op_spells (Op.FreeStateid a) = record { same = refl; to = λ fits. (tt, ids.to a fits); from = λ (u, fits). ids.from a fits }
+op_spells (Op.SecinfoNoName a) = record { same = refl; to = λ fits. (tt, tt); from = λ fits. tt }
+op_spells (Op.Sequence a) = record { same = refl; to = λ (e, fits). (tt, fits); from = λ (u, fits). (refl, fits) }
+op_spells (Op.TestStateid a) = record { same = refl; to = λ fits. (tt, id_lists.to a fits); from = λ (u, fits). id_lists.from a fits }
+op_spells (Op.DestroyClientId a) = record { same = refl; to = λ fits. (tt, fits); from = λ (u, fits). fits }
+op_spells (Op.ReclaimComplete a) = record { same = refl; to = λ fits. (tt, tt); from = λ fits. tt }
 
 pub ops : Spells op_codec nfs_argop4
-ops = record { same = op_same; to = op_to; from = op_from }
+ops = record { same = λ x. (op_spells x).same; to = λ x. (op_spells x).to; from = λ x. (op_spells x).from }
 
 pub protections : Spells protected protected4
 unfolding protected

@@ -9,7 +9,7 @@ use Rattle.nfs_xdr.specs.Time.{time}
 use Rattle.nfs_xdr.specs.Limits.{opaque_limit}
 use Rattle.nfs_compound.specs.declared.attributes.Attributes.{Attributes}
 use Rattle.nfs_compound.specs.Callback.{GssHandles, SecParms, AuthNone, Sys, RpcsecGss}
-use Rattle.nfs_compound.specs.FileArgs.{stable_how_number}
+use Rattle.nfs_compound.specs.Enums.{stable_how_number, secinfo_style_number, lock_type_number}
 use Rattle.nfs_compound.specs.declared.file_args.Write.{Write}
 use Rattle.nfs_compound.specs.declared.file_args.SetAttr.{SetAttr}
 use Rattle.nfs_compound.specs.declared.file_args.Commit.{Commit}
@@ -17,7 +17,6 @@ use Rattle.nfs_compound.specs.declared.file_args.Read.{Read}
 use Rattle.nfs_compound.specs.declared.file_args.StableHow.{StableHow}
 use Rattle.nfs_compound.specs.declared.file_args.StableHow.TheVariants as StableHows
 use Rattle.nfs_compound.specs.Stateid.{stateid}
-use Rattle.nfs_compound.specs.NameArgs.{secinfo_style_number}
 use Rattle.nfs_compound.specs.declared.name_args.CreateType.{CreateType}
 use Rattle.nfs_compound.specs.declared.name_args.CreateType.TheVariants.{Block, Character, Symlink, Other}
 use Rattle.nfs_compound.specs.declared.name_args.Create.{Create}
@@ -26,7 +25,6 @@ use Rattle.nfs_compound.specs.declared.name_args.Rename.{Rename}
 use Rattle.nfs_compound.specs.declared.name_args.SpecData.{SpecData}
 use Rattle.nfs_compound.specs.declared.name_args.SecinfoStyle.{SecinfoStyle}
 use Rattle.nfs_compound.specs.declared.name_args.SecinfoStyle.TheVariants as SecinfoStyles
-use Rattle.nfs_compound.specs.LockArgs.{lock_type_number}
 use Rattle.nfs_compound.specs.declared.lock_args.OpenToLockOwner.{OpenToLockOwner}
 use Rattle.nfs_compound.specs.declared.lock_args.Locker.{Locker}
 use Rattle.nfs_compound.specs.declared.lock_args.Locker.TheVariants.{OpenOwner, LockOwner}

@@ -3,11 +3,7 @@ pub mod Stateid
 pub mod StateOwner
 pub mod ChannelAttrs
 pub mod Callback
-pub mod OpenArgs
-pub mod LockArgs
-pub mod FileArgs
-pub mod NameArgs
-pub mod OpOf
+pub mod Enums
 pub mod Arguments
 pub mod Wire
 pub mod Request

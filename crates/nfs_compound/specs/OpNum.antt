@@ -2,49 +2,46 @@
 use Rattle.std.specs.Prelude.{ℕ, List, [], ◌∷◌, Option}
 use Rattle.nfs_xdr.specs.Combinators.{listed_at}
 use Rattle.nfs_compound.specs.declared.op_num.OpNum.{OpNum}
-use Rattle.nfs_compound.specs.declared.op_num.OpNum.TheVariants.{Access, Close, Commit, Create, GetAttr, GetFh, Link, Lock, LockT, LockU, Lookup, LookupP}
-use Rattle.nfs_compound.specs.declared.op_num.OpNum.TheVariants.{NVerify, Open, OpenDowngrade, PutFh, PutPubFh, PutRootFh, Read, ReadDir, ReadLink, Remove}
-use Rattle.nfs_compound.specs.declared.op_num.OpNum.TheVariants.{Rename, RestoreFh, SaveFh, SetAttr, Verify, Write, ExchangeId, CreateSession, DestroySession}
-use Rattle.nfs_compound.specs.declared.op_num.OpNum.TheVariants.{FreeStateid, SecinfoNoName, Sequence, TestStateid, DestroyClientId, ReclaimComplete}
+use Rattle.nfs_compound.specs.declared.op_num.OpNum.TheVariants as Num
 
 abbrev pub op_number : OpNum → ℕ
-op_number Access = 3
-op_number Close = 4
-op_number Commit = 5
-op_number Create = 6
-op_number GetAttr = 9
-op_number GetFh = 10
-op_number Link = 11
-op_number Lock = 12
-op_number LockT = 13
-op_number LockU = 14
-op_number Lookup = 15
-op_number LookupP = 16
-op_number NVerify = 17
-op_number Open = 18
-op_number OpenDowngrade = 21
-op_number PutFh = 22
-op_number PutPubFh = 23
-op_number PutRootFh = 24
-op_number Read = 25
-op_number ReadDir = 26
-op_number ReadLink = 27
-op_number Remove = 28
-op_number Rename = 29
-op_number RestoreFh = 31
-op_number SaveFh = 32
-op_number SetAttr = 34
-op_number Verify = 37
-op_number Write = 38
-op_number ExchangeId = 42
-op_number CreateSession = 43
-op_number DestroySession = 44
-op_number FreeStateid = 45
-op_number SecinfoNoName = 52
-op_number Sequence = 53
-op_number TestStateid = 55
-op_number DestroyClientId = 57
-op_number ReclaimComplete = 58
+op_number Num.Access = 3
+op_number Num.Close = 4
+op_number Num.Commit = 5
+op_number Num.Create = 6
+op_number Num.GetAttr = 9
+op_number Num.GetFh = 10
+op_number Num.Link = 11
+op_number Num.Lock = 12
+op_number Num.LockT = 13
+op_number Num.LockU = 14
+op_number Num.Lookup = 15
+op_number Num.LookupP = 16
+op_number Num.NVerify = 17
+op_number Num.Open = 18
+op_number Num.OpenDowngrade = 21
+op_number Num.PutFh = 22
+op_number Num.PutPubFh = 23
+op_number Num.PutRootFh = 24
+op_number Num.Read = 25
+op_number Num.ReadDir = 26
+op_number Num.ReadLink = 27
+op_number Num.Remove = 28
+op_number Num.Rename = 29
+op_number Num.RestoreFh = 31
+op_number Num.SaveFh = 32
+op_number Num.SetAttr = 34
+op_number Num.Verify = 37
+op_number Num.Write = 38
+op_number Num.ExchangeId = 42
+op_number Num.CreateSession = 43
+op_number Num.DestroySession = 44
+op_number Num.FreeStateid = 45
+op_number Num.SecinfoNoName = 52
+op_number Num.Sequence = 53
+op_number Num.TestStateid = 55
+op_number Num.DestroyClientId = 57
+op_number Num.ReclaimComplete = 58
 
 -- the least and the greatest number of an operation of minor version 1, whether or not it is read, and that of OP_ILLEGAL
 abbrev pub first_op : ℕ
@@ -59,9 +56,10 @@ op_illegal = 10044
 -- every operation that is read
 abbrev pub op_nums : List OpNum
 op_nums =
-    Access ∷ Close ∷ Commit ∷ Create ∷ GetAttr ∷ GetFh ∷ Link ∷ Lock ∷ LockT ∷ LockU ∷ Lookup ∷ LookupP ∷ NVerify ∷ Open ∷ OpenDowngrade ∷
-    PutFh ∷ PutPubFh ∷ PutRootFh ∷ Read ∷ ReadDir ∷ ReadLink ∷ Remove ∷ Rename ∷ RestoreFh ∷ SaveFh ∷ SetAttr ∷ Verify ∷ Write ∷
-    ExchangeId ∷ CreateSession ∷ DestroySession ∷ FreeStateid ∷ SecinfoNoName ∷ Sequence ∷ TestStateid ∷ DestroyClientId ∷ ReclaimComplete ∷ []
+    Num.Access ∷ Num.Close ∷ Num.Commit ∷ Num.Create ∷ Num.GetAttr ∷ Num.GetFh ∷ Num.Link ∷ Num.Lock ∷ Num.LockT ∷ Num.LockU ∷ Num.Lookup ∷
+    Num.LookupP ∷ Num.NVerify ∷ Num.Open ∷ Num.OpenDowngrade ∷ Num.PutFh ∷ Num.PutPubFh ∷ Num.PutRootFh ∷ Num.Read ∷ Num.ReadDir ∷ Num.ReadLink ∷
+    Num.Remove ∷ Num.Rename ∷ Num.RestoreFh ∷ Num.SaveFh ∷ Num.SetAttr ∷ Num.Verify ∷ Num.Write ∷ Num.ExchangeId ∷ Num.CreateSession ∷
+    Num.DestroySession ∷ Num.FreeStateid ∷ Num.SecinfoNoName ∷ Num.Sequence ∷ Num.TestStateid ∷ Num.DestroyClientId ∷ Num.ReclaimComplete ∷ []
 
 -- the operation that has the number
 abbrev pub op_num : ℕ → Option OpNum

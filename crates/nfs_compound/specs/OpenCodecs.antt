@@ -3,7 +3,7 @@ use Rattle.std.specs.Prelude.{ℕ, List, [], ◌∷◌, ◌++◌, Option}
 use Rattle.nfs_xdr.specs.Spelling as spelling
 use Rattle.nfs_xdr.specs.Codec.{Codec, ◌then◌, union, arm, bare, number, unbounded, as_type}
 use Rattle.nfs_xdr.specs.Combinators.{fixed, listed}
-use Rattle.nfs_compound.specs.OpenArgs.{delegation_number}
+use Rattle.nfs_compound.specs.Enums.{delegation_number}
 use Rattle.nfs_compound.specs.declared.open_args.CreateHow.{CreateHow}
 use Rattle.nfs_compound.specs.declared.open_args.CreateHow.TheVariants.{Unchecked, Guarded, Exclusive, Exclusive41}
 use Rattle.nfs_compound.specs.declared.open_args.OpenHow.{OpenHow}

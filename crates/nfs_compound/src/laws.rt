@@ -1,12 +1,12 @@
 //! Laws of the grammar of compounds.
 
-ghost use Rattle.std.specs.Prelude.{◌≡◌, ◌↔◌, ℕ, List, Some};
+ghost use Rattle.std.specs.Prelude.{◌≡◌, ◌↔◌, ℕ, List, Some, take};
+ghost use Rattle.nfs_xdr.specs.Spelling.{number};
 ghost use Rattle.nfs_xdr.specs.Text.{IsBytes, Leads};
 ghost use Rattle.nfs_compound.specs.declared.op_num.OpNum.{OpNum};
 ghost use Rattle.nfs_compound.specs.OpNum.{op_num, op_number};
 ghost use Rattle.nfs_compound.specs.declared.op.Op.{Op};
 ghost use Rattle.nfs_compound.specs.Arguments.{arguments};
-ghost use Rattle.nfs_compound.specs.OpOf.{op_of};
 ghost use Rattle.nfs_compound.specs.OpCodec.{operation_at, protected_at};
 ghost use Rattle.nfs_compound.specs.ArgCodecs.{protected};
 ghost use Rattle.nfs_compound.specs.Request.{spell_op, FitsOp};
@@ -22,10 +22,10 @@ pub fn arguments()
     ensures none_else { (n : ℕ) (op : OpNum) → op_num n ≡ Some op → n ≡ op_number op }
 {}
 
-/// Each operation is spelled as its structs and unions of RFC 5662 have it, and what has a spelling is just what fits there. Its number is
-/// that of RFC 8881 section 18.
+/// Each operation is spelled as its structs and unions of RFC 5662 have it, and what has a spelling is just what fits there. It is the
+/// operation whose number its text begins with.
 pub fn wire()
-    ensures number { (op : Op) → (arguments op).op ≡ op_of op }
+    ensures number { (op : Op) (n : OpNum) → (arguments op).op ≡ n ↔ take 4 (nfs_argop4 op).bytes ≡ number (op_number n) }
     ensures spelled { (op : Op) → spell_op op ≡ (nfs_argop4 op).bytes }
     ensures fits { (op : Op) → FitsOp op ↔ (nfs_argop4 op).Fits }
 {}

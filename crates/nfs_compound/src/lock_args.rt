@@ -2,7 +2,7 @@
 
 ghost use Rattle.std.specs.Prelude.{◌≡◌};
 ghost use Rattle.nfs_xdr.specs.Readers.{ReadsPartBy};
-ghost use Rattle.nfs_compound.specs.LockArgs.{lock_type_number};
+ghost use Rattle.nfs_compound.specs.Enums.{lock_type_number};
 ghost use Rattle.nfs_compound.specs.ArgCodecs.{lock_type, open_to_lock_owner, exist_lock_owner, locker, lock_args, lock_t_args, lock_u_args};
 
 use crate::state_owner::StateOwner;

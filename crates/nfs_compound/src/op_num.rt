@@ -7,79 +7,79 @@ ghost use Rattle.nfs_compound.specs.OpNum.{op_number, op_num};
 #[derive(Clone, Copy)]
 pub enum OpNum {
     /// ACCESS, RFC 8881 section 18.1.
-    Access,
+    Access = 3,
     /// CLOSE, RFC 8881 section 18.2.
-    Close,
+    Close = 4,
     /// COMMIT, RFC 8881 section 18.3.
-    Commit,
+    Commit = 5,
     /// CREATE, RFC 8881 section 18.4.
-    Create,
+    Create = 6,
     /// GETATTR, RFC 8881 section 18.7.
-    GetAttr,
+    GetAttr = 9,
     /// GETFH, RFC 8881 section 18.8.
-    GetFh,
+    GetFh = 10,
     /// LINK, RFC 8881 section 18.9.
-    Link,
+    Link = 11,
     /// LOCK, RFC 8881 section 18.10.
-    Lock,
+    Lock = 12,
     /// LOCKT, RFC 8881 section 18.11.
-    LockT,
+    LockT = 13,
     /// LOCKU, RFC 8881 section 18.12.
-    LockU,
+    LockU = 14,
     /// LOOKUP, RFC 8881 section 18.13.
-    Lookup,
+    Lookup = 15,
     /// LOOKUPP, RFC 8881 section 18.14.
-    LookupP,
+    LookupP = 16,
     /// NVERIFY, RFC 8881 section 18.15.
-    NVerify,
+    NVerify = 17,
     /// OPEN, RFC 8881 section 18.16.
-    Open,
+    Open = 18,
     /// OPEN_DOWNGRADE, RFC 8881 section 18.18.
-    OpenDowngrade,
+    OpenDowngrade = 21,
     /// PUTFH, RFC 8881 section 18.19.
-    PutFh,
+    PutFh = 22,
     /// PUTPUBFH, RFC 8881 section 18.20.
-    PutPubFh,
+    PutPubFh = 23,
     /// PUTROOTFH, RFC 8881 section 18.21.
-    PutRootFh,
+    PutRootFh = 24,
     /// READ, RFC 8881 section 18.22.
-    Read,
+    Read = 25,
     /// READDIR, RFC 8881 section 18.23.
-    ReadDir,
+    ReadDir = 26,
     /// READLINK, RFC 8881 section 18.24.
-    ReadLink,
+    ReadLink = 27,
     /// REMOVE, RFC 8881 section 18.25.
-    Remove,
+    Remove = 28,
     /// RENAME, RFC 8881 section 18.26.
-    Rename,
+    Rename = 29,
     /// RESTOREFH, RFC 8881 section 18.27.
-    RestoreFh,
+    RestoreFh = 31,
     /// SAVEFH, RFC 8881 section 18.28.
-    SaveFh,
+    SaveFh = 32,
     /// SETATTR, RFC 8881 section 18.30.
-    SetAttr,
+    SetAttr = 34,
     /// VERIFY, RFC 8881 section 18.31.
-    Verify,
+    Verify = 37,
     /// WRITE, RFC 8881 section 18.32.
-    Write,
+    Write = 38,
     /// EXCHANGE_ID, RFC 8881 section 18.35.
-    ExchangeId,
+    ExchangeId = 42,
     /// CREATE_SESSION, RFC 8881 section 18.36.
-    CreateSession,
+    CreateSession = 43,
     /// DESTROY_SESSION, RFC 8881 section 18.37.
-    DestroySession,
+    DestroySession = 44,
     /// FREE_STATEID, RFC 8881 section 18.38.
-    FreeStateid,
+    FreeStateid = 45,
     /// SECINFO_NO_NAME, RFC 8881 section 18.45.
-    SecinfoNoName,
+    SecinfoNoName = 52,
     /// SEQUENCE, RFC 8881 section 18.46.
-    Sequence,
+    Sequence = 53,
     /// TEST_STATEID, RFC 8881 section 18.48.
-    TestStateid,
+    TestStateid = 55,
     /// DESTROY_CLIENTID, RFC 8881 section 18.50.
-    DestroyClientId,
+    DestroyClientId = 57,
     /// RECLAIM_COMPLETE, RFC 8881 section 18.51.
-    ReclaimComplete,
+    ReclaimComplete = 58,
 }
 
 /// The least number of an operation of minor version 1, whether or not this server reads it: ACCESS.
@@ -96,45 +96,7 @@ impl OpNum {
     pub fn number(self) -> u32
         ensures { result ≡ op_number self }
     {
-        match self {
-            OpNum::Access => 3,
-            OpNum::Close => 4,
-            OpNum::Commit => 5,
-            OpNum::Create => 6,
-            OpNum::GetAttr => 9,
-            OpNum::GetFh => 10,
-            OpNum::Link => 11,
-            OpNum::Lock => 12,
-            OpNum::LockT => 13,
-            OpNum::LockU => 14,
-            OpNum::Lookup => 15,
-            OpNum::LookupP => 16,
-            OpNum::NVerify => 17,
-            OpNum::Open => 18,
-            OpNum::OpenDowngrade => 21,
-            OpNum::PutFh => 22,
-            OpNum::PutPubFh => 23,
-            OpNum::PutRootFh => 24,
-            OpNum::Read => 25,
-            OpNum::ReadDir => 26,
-            OpNum::ReadLink => 27,
-            OpNum::Remove => 28,
-            OpNum::Rename => 29,
-            OpNum::RestoreFh => 31,
-            OpNum::SaveFh => 32,
-            OpNum::SetAttr => 34,
-            OpNum::Verify => 37,
-            OpNum::Write => 38,
-            OpNum::ExchangeId => 42,
-            OpNum::CreateSession => 43,
-            OpNum::DestroySession => 44,
-            OpNum::FreeStateid => 45,
-            OpNum::SecinfoNoName => 52,
-            OpNum::Sequence => 53,
-            OpNum::TestStateid => 55,
-            OpNum::DestroyClientId => 57,
-            OpNum::ReclaimComplete => 58,
-        }
+        self as u32
     }
 
     /// The operation that has the number, if this server reads it.

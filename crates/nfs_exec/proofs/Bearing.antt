@@ -8,11 +8,8 @@ use Rattle.nfs_xdr.specs.declared.status.Status.TheVariants.{NotSupp, Inval, Bad
 use Rattle.nfs_xdr.specs.declared.status.Status.TheVariants.{StaleClientId, ClientIdBusy}
 use Rattle.nfs_xdr.specs.Status.{status_number}
 use Rattle.nfs_compound.specs.declared.op_num.OpNum.{OpNum}
-use Rattle.nfs_compound.specs.declared.op_num.OpNum.TheVariants.{Access, Close, Commit, Create, GetAttr, GetFh, Link, Lock, LockT, LockU, Lookup, LookupP}
-use Rattle.nfs_compound.specs.declared.op_num.OpNum.TheVariants.{NVerify, Open, OpenDowngrade, PutFh, PutPubFh, PutRootFh, Read}
-use Rattle.nfs_compound.specs.declared.op_num.OpNum.TheVariants.{ReadDir, ReadLink, Remove, Rename, RestoreFh, SaveFh, SetAttr, Verify, Write, ExchangeId}
-use Rattle.nfs_compound.specs.declared.op_num.OpNum.TheVariants.{CreateSession, DestroySession, FreeStateid, SecinfoNoName, Sequence, TestStateid}
-use Rattle.nfs_compound.specs.declared.op_num.OpNum.TheVariants.{DestroyClientId, ReclaimComplete}
+use Rattle.nfs_compound.proofs.OpNumLaws.{op_between}
+use Rattle.nfs_compound.specs.declared.op_num.OpNum.TheVariants.{ExchangeId}
 use Rattle.nfs_compound.specs.OpNum.{op_number, op_nums, op_num}
 use Rattle.nfs_compound.specs.declared.op.Op.{Op}
 use Rattle.nfs_compound.specs.declared.op.Item.{Item}
@@ -59,47 +56,8 @@ common_bears n s low high common = elim (cases_Bool (eqb n 34)) [
       )
 ]
 
-numbered : (op : OpNum) → (3 ≤ op_number op) × (op_number op ≤ 58)
-numbered Access = (omega arith, omega arith)
-numbered Close = (omega arith, omega arith)
-numbered Commit = (omega arith, omega arith)
-numbered Create = (omega arith, omega arith)
-numbered GetAttr = (omega arith, omega arith)
-numbered GetFh = (omega arith, omega arith)
-numbered Link = (omega arith, omega arith)
-numbered Lock = (omega arith, omega arith)
-numbered LockT = (omega arith, omega arith)
-numbered LockU = (omega arith, omega arith)
-numbered Lookup = (omega arith, omega arith)
-numbered LookupP = (omega arith, omega arith)
-numbered NVerify = (omega arith, omega arith)
-numbered Open = (omega arith, omega arith)
-numbered OpenDowngrade = (omega arith, omega arith)
-numbered PutFh = (omega arith, omega arith)
-numbered PutPubFh = (omega arith, omega arith)
-numbered PutRootFh = (omega arith, omega arith)
-numbered Read = (omega arith, omega arith)
-numbered ReadDir = (omega arith, omega arith)
-numbered ReadLink = (omega arith, omega arith)
-numbered Remove = (omega arith, omega arith)
-numbered Rename = (omega arith, omega arith)
-numbered RestoreFh = (omega arith, omega arith)
-numbered SaveFh = (omega arith, omega arith)
-numbered SetAttr = (omega arith, omega arith)
-numbered Verify = (omega arith, omega arith)
-numbered Write = (omega arith, omega arith)
-numbered ExchangeId = (omega arith, omega arith)
-numbered CreateSession = (omega arith, omega arith)
-numbered DestroySession = (omega arith, omega arith)
-numbered FreeStateid = (omega arith, omega arith)
-numbered SecinfoNoName = (omega arith, omega arith)
-numbered Sequence = (omega arith, omega arith)
-numbered TestStateid = (omega arith, omega arith)
-numbered DestroyClientId = (omega arith, omega arith)
-numbered ReclaimComplete = (omega arith, omega arith)
-
 pub op_bears : (op : Op) (s : Status) → IsCommon s → IsTrue ((eqb (number_of op) 34 && is_legal s) || can_refuse (number_of op) s)
-op_bears op s common = let in_range = numbered (arguments op).op in common_bears (number_of op) s in_range.0 in_range.1 common
+op_bears op s common = let in_range = op_between (arguments op).op in common_bears (number_of op) s in_range.0 in_range.1 common
 
 -- the number under which an operation is listed
 number_listed : (ops : List OpNum) (n : ℕ) (op : OpNum) → listed_at op_number ops n ≡ Some op → n ≡ op_number op

@@ -1,7 +1,7 @@
 -- How long a lease lasts, by what attribute 10 says, does not change; and GETATTR says it.
 use Rattle.std.proofs.Common.{◌≡◌, ℕ, ◌+◌, Bool, true, false, cond, eqb, List, [], ◌∷◌, length, Option, Some, None, refl, sym, ◌∙◌, ap, subst, inl, inr}
 use Rattle.std.specs.Prelude.{Result, Ok, Err, is_some, ◌&&◌}
-use Rattle.std.proofs.lemmas.Bool.{cases_Bool}
+use Rattle.std.proofs.lemmas.Bool.{cases_Bool, false≢true}
 use Rattle.nfs_xdr.specs.Caller.{Caller}
 use Rattle.nfs_xdr.specs.Tables.{In}
 use Rattle.nfs_xdr.specs.Spelling.{number}
@@ -33,7 +33,8 @@ use Rattle.nfs_names.specs.declared.node.Node.{Node}
 use Rattle.nfs_names.specs.Checks.{current, node_at, node_as}
 use Rattle.nfs_names.specs.Context.{begins}
 use Rattle.nfs_names.specs.State.{State, moment}
-use Rattle.nfs_names.specs.GetAttr.{get_attr, mask_checks}
+use Rattle.nfs_names.specs.GetAttr.{get_attr}
+use Rattle.nfs_names.proofs.NameLaws.{by_get_attr}
 use Rattle.nfs_names.specs.Attributes.{attributes_of}
 use Rattle.nfs_attrs.specs.Mask.{mask_of}
 use Rattle.nfs_names.specs.Outcome as of_store
@@ -193,29 +194,12 @@ event_ops_last m (Asks r who size now choice) lease is d there =
 abbrev pub ten : List ℕ
 ten = 0x400 ∷ []
 
-not_held : (s : State) (o : Option ℕ) (status : Status) → node_at s o ≡ Err status → is_ok status ≡ false
-not_held s None status e = (let same : NoFileHandle ≡ status = cc in ap is_ok (sym same))
-not_held s (Some n) status e = go (object_at s.tree n) e
-  where
-    go : (o : Option Object) → node_as n o ≡ Err status → is_ok status ≡ false
-    go None e = (let same : Stale ≡ status = cc in ap is_ok (sym same))
-    go (Some object) e = absurd cc
-
-not_current : (s : State) (x : Context) (status : Status) → current s x ≡ Err status → is_ok status ≡ false
-unfolding current
-not_current s x status e = not_held s x.current status e
-
-by_current : (s : State) (x : Context) (v : Result Node Status) → ((status : Status) → v ≡ Err status → is_ok status ≡ false)
-    → (let o = of_store.answers s x Num.GetAttr (of_store.checked v (mask_checks ten)) (λ d. of_store.done s x (Res.GetAttr (attributes_of s (mask_of ten) d))) in
-    of_store.is_ok o.result ≡ true → o.result ≡ Res.GetAttr (record { attrmask = ten; attr_vals = number s.lease }))
-unfolding attributes values number
-by_current s x (Err status) bad ok = absurd (let no : false ≡ true = sym (bad status refl) ∙ ok in cc)
-by_current s x (Ok d) bad ok = refl
-
 lease_result : (s : State) (x : Context) → of_store.is_ok (get_attr s x ten).result ≡ true
     → (get_attr s x ten).result ≡ Res.GetAttr (record { attrmask = ten; attr_vals = number s.lease })
-unfolding get_attr
-lease_result s x = by_current s x (current s x) (not_current s x)
+unfolding attributes values number
+lease_result s x =
+    by_get_attr (λ o. of_store.is_ok o.result ≡ true → o.result ≡ Res.GetAttr (record { attrmask = ten; attr_vals = number s.lease })) s x ten
+    (λ f h ok. absurd (false≢true (sym h.done ∙ ok))) (λ d there plain ok. refl)
 
 -- a GETATTR of attribute 10 that answered NFS4_OK
 pub lease_told : (d : RanOp) → IsRun d → (lease : ℕ) → Lasts lease d.before → d.item ≡ Operation (Op.GetAttr ten) → is_ok d.status ≡ true

@@ -31,7 +31,7 @@ use Rattle.nfs_names.specs.declared.context.Context.{Context}
 use Rattle.nfs_names.specs.Context.{begins, at_object}
 use Rattle.nfs_names.specs.Outcome.{checked, answers}
 use Rattle.nfs_names.specs.Outcome as outcome
-use Rattle.nfs_names.specs.PutFh.{or_bad, handle_checks, put_fh}
+use Rattle.nfs_names.specs.PutFh.{put_fh}
 use Rattle.nfs_names.specs.State.{State, moment, is_open, is_used}
 use Rattle.nfs_files.proofs.Outcomes as files
 use Rattle.nfs_files.proofs.Outcomes.{for_each}
@@ -165,9 +165,8 @@ put_found : (s : State) (x : Context) (h : List ℕ) (n : ℕ) → handle_of h �
 unfolding put_fh
 put_found s x h n is there e =
     let held : is_some (object_at s.tree n) ≡ true = some_object (stored_in s.tree.objects n) there in
-    let passes : checked (or_bad (handle_of h)) (handle_checks s) ≡ Ok (record { instance = s.instance; number = n }) =
-    rw (is, eq-eqb s.instance s.instance refl, held) refl in
-    not_stale (ap (λ v. spell_result (answers s x Num.PutFh v (λ (k : Handle). outcome.done s (at_object x k.number) Res.PutFh)).result) (sym passes) ∙ e)
+    let passes : put_fh s x h ≡ outcome.done s (at_object x n) Res.PutFh = rw (is, eq-eqb s.instance s.instance refl, held) refl in
+    not_stale (ap (λ (o : outcome.Outcome). spell_result o.result) (sym passes) ∙ e)
 
 put_room : (limit sofar now : ℕ) (refused : Bool) (m : Machine) (x : Context) (h : List ℕ) (n : ℕ)
     → handle_of h ≡ Some (record { instance = m.store.instance; number = n }) → is_there m.store.tree n ≡ true

@@ -108,7 +108,7 @@ impl Tables {
         self.step(alloc, item, context, now, out)
     }
 
-    /// Runs one operation, for which there is room, puts its result and returns its status.
+    /// Runs what stands at one place, for which there is room, puts its result and returns its status.
     fn step(
         &mut self,
         alloc: Global,
@@ -126,44 +126,57 @@ impl Tables {
         ensures more { result ≡ Nfs4Ok → length out.new.bytes ≤ length out.old.bytes + largest item.now }
         ensures store { IsStore (machine_of self.new).store }
     {
+        match item {
+            Item::Operation(op) => self.operation(alloc, op, context, now, out),
+            Item::Fault { number, status } => {
+                write(&Res::refusal(*number, *status), out);
+                *status
+            }
+        }
+    }
+
+    /// The same of an operation.
+    fn operation(
+        &mut self,
+        alloc: Global,
+        op: &Op<'_>,
+        context: &mut Context<'_>,
+        now: u64,
+        out: &mut Sheet,
+    ) -> Status
+        requires bears { CanBear (Operation op.now) }
+        requires moment { now < 2 ^ 63 }
+        requires store { IsStore (machine_of self.old).store }
+        requires room { length out.old.bytes + largest (Operation op.now) + reserve ≤ out.old.room }
+        ensures steps { Steps (step (machine_of self.old) context.old now (is_delay result) (Operation op.now)) result (machine_of self.new) context.new out.old out.new }
+        ensures fits { length out.new.bytes ≤ length out.old.bytes + largest (Operation op.now) + reserve }
+        ensures more { result ≡ Nfs4Ok → length out.new.bytes ≤ length out.old.bytes + largest (Operation op.now) }
+        ensures store { IsStore (machine_of self.new).store }
+    {
         let client = context.client;
-        if let Some(status) = name_op(alloc, &mut self.store, context, item, now, out) {
+        if let Some(status) = name_op(alloc, &mut self.store, context, op, now, out) {
             return status;
         }
-        if let Some(status) = file_op(alloc, &mut self.store, context, item, now, out) {
-            self.mark_open(item, client);
+        if let Some(status) = file_op(alloc, &mut self.store, context, op, now, out) {
+            self.mark_open(op, client);
             return status;
         }
-        let res = self.otherwise(item, context);
+        let res = self.unstored(op, context);
         write(&res, out);
         res.status()
     }
 
     /// Behind OPEN and CLOSE their client's record is marked where one of its opens stands.
-    fn mark_open(&mut self, item: &Item<'_>, client: u64)
-        ensures marked { machine_of self.new ≡ (if moves_opens item.now then with_mark client (machine_of self.old) else machine_of self.old) }
+    fn mark_open(&mut self, op: &Op<'_>, client: u64)
+        ensures marked { machine_of self.new ≡ (if moves_opens (Operation op.now) then with_mark client (machine_of self.old) else machine_of self.old) }
         ensures store { self.new.store ≡ self.old.store }
     {
-        if moves_opens(item) {
+        if moves_opens(op) {
             self.clients.hold(client, self.store.has_open(client));
         }
     }
 
     /// What an operation that is not on the store comes to.
-    fn otherwise(&mut self, item: &Item<'_>, context: &Context<'_>) -> Res<'static>
-        requires bears { CanBear item.now }
-        ensures outcome { comes_to (machine_of self.new) result ≡ (otherwise (machine_of self.old) context.now item.now).outcome }
-        ensures bounds { IsBounded result }
-        ensures short { length (spell_result result) ≤ reserve }
-        ensures store { self.new.store ≡ self.old.store }
-    {
-        match item {
-            Item::Operation(op) => self.unstored(op, context),
-            Item::Fault { number, status } => Res::refusal(*number, *status),
-        }
-    }
-
-    /// The same of an operation.
     fn unstored(&mut self, op: &Op<'_>, context: &Context<'_>) -> Res<'static>
         requires bears { CanBear (Operation op.now) }
         ensures outcome { comes_to (machine_of self.new) result ≡ (otherwise (machine_of self.old) context.now (Operation op.now)).outcome }
@@ -179,10 +192,10 @@ impl Tables {
 }
 
 /// Whether the operation can move whether its client has an open.
-fn moves_opens(item: &Item<'_>) -> bool
-    ensures { result ≡ moves_opens item.now }
+fn moves_opens(op: &Op<'_>) -> bool
+    ensures { result ≡ moves_opens (Operation op.now) }
 {
-    matches!(item, Item::Operation(Op::Close(_) | Op::Open(_)))
+    matches!(op, Op::Close(_) | Op::Open(_))
 }
 
 /// What an operation behind a SEQUENCE is refused with, where nothing carries it out.

@@ -16,7 +16,8 @@ use Rattle.nfs_results.specs.Largest.{given}
 use Rattle.nfs_names.specs.declared.context.Context.{Context}
 use Rattle.nfs_names.specs.State.{State}
 use Rattle.nfs_names.specs.Checks.{current}
-use Rattle.nfs_names.proofs.Bounds.{IsAnswer, current_refuses}
+use Rattle.nfs_names.proofs.Bounds.{IsAnswer}
+use Rattle.nfs_names.proofs.NameLaws.{current_refuses}
 use Rattle.nfs_names.proofs.Refusing.{refuses_checked, answers_with}
 use Rattle.nfs_files.specs.Bytes.{file_checks, writable}
 use Rattle.nfs_files.specs.Commit.{write_verifier, commit}

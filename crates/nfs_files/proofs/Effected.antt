@@ -47,7 +47,7 @@ use Rattle.nfs_names.specs.Checks.{current}
 use Rattle.nfs_names.proofs.Found.{came, checked_ok}
 use Rattle.nfs_names.proofs.Answered.{by_found, by_delay}
 use Rattle.nfs_names.proofs.Effects.{Makes}
-use Rattle.nfs_names.proofs.Effected.{none_mapped}
+use Rattle.nfs_names.proofs.Rows.{none_mapped}
 use Rattle.nfs_files.specs.declared.opening.Found.{Found}
 use Rattle.nfs_files.specs.declared.opening.Found.TheVariants.{There, Absent}
 use Rattle.nfs_files.specs.declared.ranges.Wished.{Wished}

@@ -25,7 +25,6 @@ pub mod Effects
 pub mod Effected
 pub mod Sound
 pub mod OwnOpens
-pub mod Arms
 pub mod Whole
 pub mod OpenTree
 pub mod Inside

@@ -37,10 +37,11 @@ use Rattle.nfs_names.specs.Outcome.{mapped, checked}
 use Rattle.nfs_names.specs.Checks.{node_at, current}
 use Rattle.nfs_attrs.specs.Mask.{mask_of}
 use Rattle.nfs_names.specs.Create.{attributes_in}
-use Rattle.nfs_names.proofs.Bounds.{IsAnswer, node_refuses, current_refuses, wanted_refuses}
+use Rattle.nfs_names.proofs.Bounds.{IsAnswer}
+use Rattle.nfs_names.proofs.NameLaws.{node_refuses, current_refuses, wanted_refuses}
 use Rattle.nfs_names.proofs.Found.{IsHeld, current_is, checked_ok, came, ok_is}
 use Rattle.nfs_names.proofs.StoreInvariants.{regular_same}
-use Rattle.nfs_names.proofs.Refusing.{Refuses, all_refuse, refuses_checked, refuses_mapped, refuses_then, err_refuses, ok_refuses, answers_with}
+use Rattle.nfs_names.proofs.Refusing.{Refuses, refusal_by, all_refuse, refuses_checked, refuses_mapped, refuses_then, err_refuses, ok_refuses, answers_with}
 use Rattle.nfs_names.proofs.Masks.{few_words}
 use Rattle.nfs_files.specs.declared.opening.Found.{Found}
 use Rattle.nfs_files.specs.declared.opening.Found.TheVariants.{There, Absent}
@@ -75,18 +76,25 @@ handle_refuses x o d =
 claim_refuses : (s : State) (x : Context) (o : Open) (claim : OpenClaim) (d : Node) → Refuses (by_claim s x o claim d)
 claim_refuses s x o (Null name) d = name_refuses s x o name d
 claim_refuses s x o Fh d =
-    by_bool (makes o.openhow).creates (Err S.Inval) (by_handle x o d) (err_refuses S.Inval (record { done = refl; legal = refl })) (handle_refuses x o d)
-claim_refuses s x o (Previous type) d = err_refuses S.NoGrace (record { done = refl; legal = refl })
-claim_refuses s x o (DelegateCur id file) d = err_refuses S.NotSupp (record { done = refl; legal = refl })
-claim_refuses s x o (DelegatePrev file) d = err_refuses S.NotSupp (record { done = refl; legal = refl })
-claim_refuses s x o (DelegCurFh id) d = err_refuses S.NotSupp (record { done = refl; legal = refl })
-claim_refuses s x o DelegPrevFh d = err_refuses S.NotSupp (record { done = refl; legal = refl })
+    by_bool (makes o.openhow).creates (Err S.Inval) (by_handle x o d) (err_refuses S.Inval (refusal_by S.Inval refl)) (handle_refuses x o d)
+claim_refuses s x o (Previous type) d = err_refuses S.NoGrace (refusal_by S.NoGrace refl)
+claim_refuses s x o (DelegateCur id file) d = err_refuses S.NotSupp (refusal_by S.NotSupp refl)
+claim_refuses s x o (DelegatePrev file) d = err_refuses S.NotSupp (refusal_by S.NotSupp refl)
+claim_refuses s x o (DelegCurFh id) d = err_refuses S.NotSupp (refusal_by S.NotSupp refl)
+claim_refuses s x o DelegPrevFh d = err_refuses S.NotSupp (refusal_by S.NotSupp refl)
 
 pub asked_refuses : (s : State) (x : Context) (o : Open) → Refuses (asked_for s x o)
 unfolding asked_for
 asked_refuses s x o =
     refuses_then (checked (current s x) (argument_checks o)) (by_claim s x o o.claim)
     (refuses_checked (current s x) (argument_checks o) (current_refuses s x) (λ d. refl)) (claim_refuses s x o o.claim)
+
+last_refuse : (s : State) (x : Context) (o : Open) (found : Found) → all_refuse (last_checks s x o found) ≡ true
+last_refuse s x o (There place f cut) = refl
+last_refuse s x o (Absent m) = refl
+
+pub open_refuses : (s : State) (x : Context) (o : Open) → Refuses (checked (asked_for s x o) (last_checks s x o))
+open_refuses s x o = refuses_checked (asked_for s x o) (last_checks s x o) (asked_refuses s x o) (last_refuse s x o)
 
 -- results
 set_few : (o : Open) (found : Found) → length (set_of o found) ≤ 3
@@ -105,13 +113,9 @@ pub may_open : (s : State) (x : Context) (now : Time) (o : Open) → IsAnswer (O
 unfolding open_file
 may_open s x now o =
     answers_with (IsAnswer (Operation (Op.Open o))) s x Num.Open _ _
-    (refuses_checked (asked_for s x o) (last_checks s x o) (asked_refuses s x o) last_refuse)
+    (open_refuses s x o)
     (λ status h. record { may = (refl, rw (h.done, h.legal) refl, tt); arrays = tt })
     (λ found. record { may = (refl, tt, set_few o found); arrays = wire_length (opens s.opens (asking x o (file_of s.tree found))).id })
-  where
-    last_refuse : (found : Found) → all_refuse (last_checks s x o found) ≡ true
-    last_refuse (There place f cut) = refl
-    last_refuse (Absent m) = refl
 
 -- what is there is a file
 there_regular : (s : State) (x : Context) (o : Open) (f : Node) → IsHeld s.tree f

@@ -20,13 +20,13 @@ use Rattle.nfs_names.specs.declared.context.Context.{Context}
 use Rattle.nfs_names.specs.declared.node.Node.{Node}
 use Rattle.nfs_names.specs.State.{State}
 use Rattle.nfs_names.specs.Outcome.{passed, checked}
-use Rattle.nfs_names.proofs.Refusing.{Refuses, all_refuse, err_refuses, ok_refuses, refuses_checked, refuses_then}
+use Rattle.nfs_names.proofs.Refusing.{Refuses, refusal_by, all_refuse, err_refuses, ok_refuses, refuses_checked, refuses_then}
 use Rattle.nfs_files.specs.StateIds.{state_id, meant}
 use Rattle.nfs_files.specs.Bytes.{file_checks, seat, reading, writing, seat_checks, may_use, readable, writable}
 use Rattle.nfs_files.proofs.Passing.{if_passed_refuses}
 
 pub bad : {A : Type 0} → Refuses {A = A} (Err S.BadStateId)
-bad = err_refuses S.BadStateId (record { done = refl; legal = refl })
+bad = err_refuses S.BadStateId (refusal_by S.BadStateId refl)
 
 pub by_bool : {A : Type 0} (b : Bool) (v w : Result A Status) → Refuses v → Refuses w → Refuses (cond b v w)
 by_bool true v w h g = h

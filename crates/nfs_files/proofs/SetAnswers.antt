@@ -14,7 +14,8 @@ use Rattle.nfs_names.specs.declared.node.Node.{Node}
 use Rattle.nfs_names.specs.State.{State}
 use Rattle.nfs_names.specs.Checks.{current}
 use Rattle.nfs_names.specs.Create.{attributes_in}
-use Rattle.nfs_names.proofs.Bounds.{IsAnswer, current_refuses, wanted_refuses}
+use Rattle.nfs_names.proofs.Bounds.{IsAnswer}
+use Rattle.nfs_names.proofs.NameLaws.{current_refuses, wanted_refuses}
 use Rattle.nfs_names.proofs.Refusing.{Refuses, refuses_checked, refuses_then, ok_refuses, answers_with}
 use Rattle.nfs_files.specs.declared.setting.Setting.{Setting}
 use Rattle.nfs_names.proofs.Masks.{few_words}

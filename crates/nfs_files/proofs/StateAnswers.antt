@@ -1,5 +1,5 @@
 -- CLOSE, FREE_STATEID, LOCKU and OPEN_DOWNGRADE: the results that they may have.
-use Rattle.std.proofs.Common.{◌≡◌, ℕ, Bool, true, false, length, Option, Some, None, refl, arith}
+use Rattle.std.proofs.Common.{◌≡◌, ℕ, length, Option, Some, None, refl, arith}
 use Rattle.std.specs.Prelude.{Result, Ok, Err, ok_or, not}
 use Rattle.std.proofs.lemmas.List.{length-append}
 use Rattle.nfs_xdr.specs.Spelling.{number, hyper}
@@ -37,8 +37,9 @@ use Rattle.nfs_names.specs.declared.context.Context.{Context}
 use Rattle.nfs_names.specs.State.{State}
 use Rattle.nfs_names.specs.Outcome.{done}
 use Rattle.nfs_names.specs.Checks.{current}
-use Rattle.nfs_names.proofs.Bounds.{IsAnswer, current_refuses}
-use Rattle.nfs_names.proofs.Refusing.{Refuses, IsRefusal, refuses_checked, refuses_mapped, refuses_then, answers_with, err_refuses, ok_refuses}
+use Rattle.nfs_names.proofs.Bounds.{IsAnswer}
+use Rattle.nfs_names.proofs.NameLaws.{current_refuses}
+use Rattle.nfs_names.proofs.Refusing.{Refuses, refusal_by, refuses_checked, refuses_mapped, refuses_then, there_refuses, held_refuses, answers_with, err_refuses, ok_refuses}
 use Rattle.nfs_files.specs.declared.target.Target.{Target}
 use Rattle.nfs_files.specs.StateIds.{meant, wire_id}
 use Rattle.nfs_files.specs.Bytes.{file_checks}
@@ -53,47 +54,39 @@ use Rattle.nfs_files.proofs.Passing.{if_passed_refuses}
 use Rattle.nfs_files.proofs.Seats.{bad, meant_refuses, judge_refuses}
 
 -- the file and the stateid
-the_file_refuses : (s : State) (x : Context) → Refuses (the_file s x)
+pub the_file_refuses : (s : State) (x : Context) → Refuses (the_file s x)
 unfolding the_file
 the_file_refuses s x = refuses_checked (current s x) file_checks (current_refuses s x) (λ d. refl)
 
-target_refuses : (s : State) (x : Context) (form : CurrentSeqid) (given : Stateid) → Refuses (target s x form given)
+pub target_refuses : (s : State) (x : Context) (form : CurrentSeqid) (given : Stateid) → Refuses (target s x form given)
 unfolding target
 target_refuses s x form given = refuses_then (the_file s x) _ (the_file_refuses s x) (λ d.
     refuses_mapped (λ id. record { file = d.number; id = id }) (meant x form given) (meant_refuses x form given))
 
 -- what the table of opens refuses
-there_refuses : {A : Type 0} (o : Option A) → Refuses (ok_or o S.BadStateId)
-there_refuses None = bad
-there_refuses (Some a) = ok_refuses a
-
-required_refuses : (b : Bool) (status : Status) → IsRefusal status → Refuses (require b status)
-required_refuses true status is = ok_refuses (tt {0})
-required_refuses false status is = err_refuses status is
-
 lock_in_refuses : (seat : Seat) → Refuses (closing.lock_in seat)
 lock_in_refuses Seats.Anonymous = bad
 lock_in_refuses Seats.ReadBypass = bad
-lock_in_refuses (Seats.Open number access) = err_refuses S.LocksHeld (record { done = refl; legal = refl })
+lock_in_refuses (Seats.Open number access) = err_refuses S.LocksHeld (refusal_by S.LocksHeld refl)
 lock_in_refuses (Seats.Lock number access) = ok_refuses number
 
-close_refuses : (t : Table) (id : StateId) (client file : ℕ) → Refuses (closing.close t id client file)
+pub close_refuses : (t : Table) (id : StateId) (client file : ℕ) → Refuses (closing.close t id client file)
 close_refuses t id client file =
     refuses_then (judge t id client (Some file) OpenOnly) _ (judge_refuses t id client (Some file) OpenOnly) (λ seat. ok_refuses _)
 
-free_refuses : (t : Table) (id : StateId) (client : ℕ) → Refuses (closing.free t id client)
+pub free_refuses : (t : Table) (id : StateId) (client : ℕ) → Refuses (closing.free t id client)
 free_refuses t id client =
     refuses_then (judge t id client None Either) _ (judge_refuses t id client None Either) (λ seat.
     refuses_then (closing.lock_in seat) _ (lock_in_refuses seat) (λ n.
-    refuses_then (ok_or (lock_at t n) S.BadStateId) _ (there_refuses (lock_at t n)) (λ l.
-    refuses_then (require (not (holds_any (t.held l.file) n)) S.LocksHeld) _ (required_refuses _ S.LocksHeld (record { done = refl; legal = refl })) (λ u.
+    refuses_then (ok_or (lock_at t n) S.BadStateId) _ (there_refuses (lock_at t n) S.BadStateId refl) (λ l.
+    refuses_then (require (not (holds_any (t.held l.file) n)) S.LocksHeld) _ (held_refuses _ S.LocksHeld refl) (λ u.
     ok_refuses _))))
 
-downgrade_refuses : (t : Table) (id : StateId) (client file : ℕ) (access deny : Share) → Refuses (opening.downgrade t id client file access deny)
+pub downgrade_refuses : (t : Table) (id : StateId) (client file : ℕ) (access deny : Share) → Refuses (opening.downgrade t id client file access deny)
 downgrade_refuses t id client file access deny =
     refuses_then (judge t id client (Some file) OpenOnly) _ (judge_refuses t id client (Some file) OpenOnly) (λ seat.
-    refuses_then (ok_or (open_at t id.number) S.BadStateId) _ (there_refuses (open_at t id.number)) (λ o.
-    refuses_then (require (opening.is_narrower access deny o) S.Inval) _ (required_refuses _ S.Inval (record { done = refl; legal = refl })) (λ u.
+    refuses_then (ok_or (open_at t id.number) S.BadStateId) _ (there_refuses (open_at t id.number) S.BadStateId refl) (λ o.
+    refuses_then (require (opening.is_narrower access deny o) S.Inval) _ (held_refuses _ S.Inval refl) (λ u.
     ok_refuses _)))
 
 -- a stateid's bytes are 12
@@ -139,13 +132,16 @@ narrows_may s x a t =
     (λ status h. record { may = (refl, rw (h.done, h.legal) refl, tt); arrays = tt })
     (λ did. record { may = (refl, tt, tt); arrays = length_id did.0 })
 
+pub narrowing_refuses : (s : State) (x : Context) (a : OpenDowngrade) → Refuses (narrowing s x a)
+narrowing_refuses s x a = if_passed_refuses (target s x Own a.open_stateid) (λ t. _) (target_refuses s x Own a.open_stateid)
+    (λ t. refuses_checked (judge s.opens t.id x.client (Some t.file) OpenOnly) (bit_checks a)
+    (judge_refuses s.opens t.id x.client (Some t.file) OpenOnly) (λ seat. refl))
+
 pub may_downgrade : (s : State) (x : Context) (a : OpenDowngrade) → IsAnswer (Operation (Op.OpenDowngrade a)) (open_downgrade s x a).result
 unfolding open_downgrade
 may_downgrade s x a =
     answers_with (IsAnswer (Operation (Op.OpenDowngrade a))) s x Num.OpenDowngrade (narrowing s x a) (narrows s x a)
-    (if_passed_refuses (target s x Own a.open_stateid) (λ t. _) (target_refuses s x Own a.open_stateid)
-    (λ t. refuses_checked (judge s.opens t.id x.client (Some t.file) OpenOnly) (bit_checks a)
-    (judge_refuses s.opens t.id x.client (Some t.file) OpenOnly) (λ seat. refl)))
+    (narrowing_refuses s x a)
     (λ status h. record { may = (refl, rw (h.done, h.legal) refl, tt); arrays = tt })
     (λ t. narrows_may s x a t)
 
@@ -154,21 +150,21 @@ range_refuses : (offset size : ℕ) → Refuses (range offset size)
 unfolding range
 range_refuses offset size = refuses_checked (Ok (last_of offset size)) (λ last. range_checks offset size) (ok_refuses (last_of offset size)) (λ last. refl)
 
-wished_refuses : (s : State) (x : Context) (how : LockType) (offset size : ℕ) → Refuses (wished s x how offset size)
+pub wished_refuses : (s : State) (x : Context) (how : LockType) (offset size : ℕ) → Refuses (wished s x how offset size)
 unfolding wished
 wished_refuses s x how offset size = refuses_then (the_file s x) _ (the_file_refuses s x) (λ d.
     refuses_mapped (λ last. wish x how offset last d.number) (range offset size) (range_refuses offset size))
 
-wished_by_refuses : (x : Context) (given : Stateid) (v : Result Wish Status) → Refuses v → Refuses (wished_by x given v)
+pub wished_by_refuses : (x : Context) (given : Stateid) (v : Result Wish Status) → Refuses v → Refuses (wished_by x given v)
 wished_by_refuses x given v h = refuses_then v _ h (λ w.
     refuses_mapped (λ id. record { wish = w; id = id }) (meant x Any given) (meant_refuses x Any given))
 
-then_refuses : {A B F : Type 0} (g : F → Status) (v : Result A F) (next : A → Result B F) → Refuses (map_err g v) → ((a : A) → Refuses (map_err g (next a)))
+pub then_refuses : {A B F : Type 0} (g : F → Status) (v : Result A F) (next : A → Result B F) → Refuses (map_err g v) → ((a : A) → Refuses (map_err g (next a)))
     → Refuses (map_err g (v >>= next))
 then_refuses g (Err f) next h each = err_refuses (g f) (h.each (g f) refl)
 then_refuses g (Ok a) next h each = each a
 
-judged_refuses : (v : Result Seat Status) → Refuses v → Refuses (map_err status_of (map_err F.Refused v))
+pub judged_refuses : (v : Result Seat Status) → Refuses v → Refuses (map_err status_of (map_err F.Refused v))
 judged_refuses (Err status) h = err_refuses status (h.each status refl)
 judged_refuses (Ok seat) h = ok_refuses seat
 
@@ -176,7 +172,7 @@ state_refuses : {A : Type 0} (o : Option A) → Refuses (map_err status_of (ok_o
 state_refuses None = bad
 state_refuses (Some a) = ok_refuses a
 
-unlock_refuses : (t : Table) (id : StateId) (client file first last : ℕ) → Refuses (map_err status_of (locking.unlock t id client file first last))
+pub unlock_refuses : (t : Table) (id : StateId) (client file first last : ℕ) → Refuses (map_err status_of (locking.unlock t id client file first last))
 unlock_refuses t id client file first last =
     then_refuses status_of (map_err F.Refused (judge t id client (Some file) LockOnly)) _
     (judged_refuses (judge t id client (Some file) LockOnly) (judge_refuses t id client (Some file) LockOnly)) (λ seat.

@@ -14,7 +14,7 @@ use crate::entering::open_file;
 use crate::locking::{lock, lock_t, lock_u};
 use crate::setting::set_attr;
 use crate::stateids::{free_stateid, test_stateid};
-use nfs_compound::{Item, Op};
+use nfs_compound::Op;
 use nfs_names::{Context, Store, moment};
 use nfs_results::write;
 use nfs_xdr::{Sheet, Status};
@@ -26,28 +26,6 @@ use std::alloc::Global;
 /// LOCK, LOCKU of a part of a file, OPEN and WRITE of bytes may want memory: where it is refused, they answer
 /// NFS4ERR_DELAY as their last check and change nothing. No other operation does.
 pub fn file_op(
-    alloc: Global,
-    store: &mut Store,
-    context: &mut Context<'_>,
-    item: &Item<'_>,
-    now: u64,
-    out: &mut Sheet,
-) -> Option<Status>
-    requires moment { now < 2 ^ 63 }
-    requires store { IsStore (state_of store.old) }
-    requires room { length out.old.bytes + largest item.now ≤ out.old.room }
-    ensures comes { MayCome (λ refused. comes_to refused (state_of store.old) context.old (moment now) item.now) (state_of store.old) context.old out.old out.new result (state_of store.new) context.new }
-    ensures store { IsStore (state_of store.new) }
-    ensures within { length out.new.bytes ≤ length out.old.bytes + largest item.now }
-{
-    match item {
-        Item::Operation(op) => on_files(alloc, store, context, op, now, out),
-        Item::Fault { .. } => None,
-    }
-}
-
-/// The same of an operation.
-fn on_files(
     alloc: Global,
     store: &mut Store,
     context: &mut Context<'_>,
@@ -80,7 +58,33 @@ fn on_files(
             return Some(test_stateid(store, context, stateids, out));
         }
         Op::Write(asked) => write_bytes(alloc, store, context, asked, now),
-        _ => return None,
+        // on names and attributes
+        Op::Access { .. }
+        | Op::Create(_)
+        | Op::GetAttr { .. }
+        | Op::GetFh
+        | Op::Link { .. }
+        | Op::Lookup { .. }
+        | Op::LookupP
+        | Op::NVerify { .. }
+        | Op::PutFh { .. }
+        | Op::PutPubFh
+        | Op::PutRootFh
+        | Op::ReadDir(_)
+        | Op::ReadLink
+        | Op::Remove { .. }
+        | Op::Rename(_)
+        | Op::RestoreFh
+        | Op::SaveFh
+        | Op::SecinfoNoName { .. }
+        | Op::Verify { .. }
+        // not on the store
+        | Op::CreateSession(_)
+        | Op::DestroyClientId { .. }
+        | Op::DestroySession { .. }
+        | Op::ExchangeId(_)
+        | Op::ReclaimComplete { .. }
+        | Op::Sequence(_) => return None,
     };
     write(&res, out);
     Some(res.status())

@@ -1,92 +1,121 @@
--- The tree's own checks are the last ones of an operation, under the statuses of its faults.
-use Rattle.std.proofs.Common.{◌≡◌, ℕ, true, false, not, List, Some, None, refl, sym, ◌∙◌, ap}
-use Rattle.std.specs.Prelude.{Ok, option_map, ◌&&◌}
-use Rattle.nfs_xdr.specs.Checks.{first_fault}
+-- Operations that change the tree ask it last: what they come to by what was found before, and by what the tree refuses.
+use Rattle.std.proofs.Common.{◌≡◌, ℕ, List, Option, Some, None, refl, sym, ◌∙◌, ap}
+use Rattle.std.specs.Prelude.{Bool, Result, Ok, Err, not, is_some, option_map}
+use Rattle.nfs_xdr.specs.Checks.{first_fault, judged}
 use Rattle.nfs_xdr.specs.declared.time.Time.{Time}
+use Rattle.nfs_xdr.specs.declared.status.Status.{Status}
+use Rattle.nfs_xdr.specs.declared.status.Status.TheVariants.{Inval}
+use Rattle.nfs_compound.specs.declared.op_num.OpNum.{OpNum}
 use Rattle.nfs_compound.specs.declared.op_num.OpNum.TheVariants as Num
 use Rattle.nfs_compound.specs.declared.name_args.Create.{Create}
+use Rattle.nfs_compound.specs.declared.name_args.Rename.{Rename}
 use Rattle.nfs_tree.specs.declared.fault.TreeFault.{TreeFault}
-use Rattle.nfs_tree.specs.Files.{Files, is_there}
-use Rattle.nfs_tree.specs.Names.{link_checks, remove_checks}
-use Rattle.nfs_tree.specs.Calls.{link_fault, remove_fault, create_fault}
 use Rattle.nfs_tree.specs.Create.{create_checks}
+use Rattle.nfs_tree.specs.Names.{link_checks, moves, remove_checks, rename_checks}
+use Rattle.nfs_attrs.specs.declared.wanted.Wanted.{Wanted}
+use Rattle.nfs_attrs.specs.Setting.{make_checks}
+use Rattle.nfs_opens.specs.Steps.{◌>>=◌, ◌>>◌, in_order, require}
 use Rattle.nfs_names.specs.declared.context.Context.{Context}
-use Rattle.nfs_names.specs.declared.node.Node.{Node}
-use Rattle.nfs_names.specs.declared.node.Pair.{Pair}
 use Rattle.nfs_names.specs.declared.making.Making.{Making}
+use Rattle.nfs_names.specs.declared.node.Node.{Node}
 use Rattle.nfs_names.specs.State.{State}
-use Rattle.nfs_names.specs.Faults.{status_of}
-use Rattle.nfs_names.specs.Outcome.{refuses, checked}
+use Rattle.nfs_names.specs.Faults.{status_of, by_tree}
+use Rattle.nfs_names.specs.Outcome.{Outcome, refuses, or_refusal}
 use Rattle.nfs_names.specs.Checks.{current, both}
-use Rattle.nfs_names.specs.Link as of_link
-use Rattle.nfs_names.specs.Remove as of_remove
-use Rattle.nfs_names.specs.Create as of_create
+use Rattle.nfs_names.specs.Create.{attributes_in, create, new_of, place_checks}
+use Rattle.nfs_names.specs.Fronts.{creating, linking, removing, renaming}
+use Rattle.nfs_names.specs.Link.{link}
+use Rattle.nfs_names.specs.Remove.{remove}
+use Rattle.nfs_names.specs.Rename as of_rename
+use Rattle.nfs_names.specs.Rename.{move_of, renamed, rename}
 use Rattle.nfs_names.proofs.Rows.{fault_map}
-use Rattle.nfs_names.proofs.Faulted.{by_last, by_refusal}
+use Rattle.nfs_names.proofs.Refusing.{Refuses, refuses_then, order_refuses, held_refuses, ok_refuses}
+use Rattle.nfs_names.proofs.Steps.{through}
+use Rattle.nfs_names.proofs.NameLaws.{current_refuses, both_refuses, wanted_refuses, link_places, remove_places, removed, linked, created}
 
-there_both : (t : Files) (a b : ℕ) → is_there t a ≡ true → is_there t b ≡ true → not (is_there t a && is_there t b) ≡ false
-there_both t a b e h = rw (e, h) refl
+-- What is found before the tree is asked.
 
--- LINK
-link_found : (s : State) (x : Context) (name : List ℕ) (p : Pair) → checked (both s x) (of_link.place_checks x name) ≡ Ok p
-    → option_map status_of (link_fault s.tree p.saved.number p.current.number name) ≡ first_fault (of_link.row_checks s name p)
-link_found s x name p v = fault_map status_of (link_checks s.tree p.saved.number p.current.number name)
+pub removing_refuses : (s : State) (x : Context) (name : List ℕ) → Refuses (removing s x name)
+removing_refuses s x name = refuses_then (current s x) _ (current_refuses s x) (λ d.
+    refuses_then (in_order (remove_places x name d)) _ (order_refuses (remove_places x name d) refl) (λ u. ok_refuses d))
 
-pub link_goes : (s : State) (x : Context) (now : Time) (name : List ℕ) (p : Pair)
-    → checked (both s x) (of_link.place_checks x name) ≡ Ok p → link_fault s.tree p.saved.number p.current.number name ≡ None
-    → of_link.link s x now name ≡ of_link.linked s x now name p
-unfolding of_link.link
-link_goes s x now name p v none =
-    by_last s x Num.Link (checked (both s x) (of_link.place_checks x name)) (of_link.row_checks s name) (of_link.linked s x now name) p v
-    (sym (link_found s x name p v) ∙ ap (option_map status_of) none)
+pub linking_refuses : (s : State) (x : Context) (name : List ℕ) → Refuses (linking s x name)
+linking_refuses s x name = refuses_then (both s x) _ (both_refuses s x) (λ p.
+    refuses_then (in_order (link_places x name p)) _ (order_refuses (link_places x name p) refl) (λ u. ok_refuses p))
 
-pub link_stops : (s : State) (x : Context) (now : Time) (name : List ℕ) (p : Pair) (f : TreeFault)
-    → checked (both s x) (of_link.place_checks x name) ≡ Ok p → link_fault s.tree p.saved.number p.current.number name ≡ Some f
-    → of_link.link s x now name ≡ refuses s x Num.Link (status_of f)
-unfolding of_link.link
-link_stops s x now name p f v some =
-    by_refusal s x Num.Link (checked (both s x) (of_link.place_checks x name)) (of_link.row_checks s name) (of_link.linked s x now name) p (status_of f) v
-    (sym (link_found s x name p v) ∙ ap (option_map status_of) some)
+pub renaming_refuses : (s : State) (x : Context) (a : Rename) → Refuses (renaming s x a)
+renaming_refuses s x a = refuses_then (both s x) _ (both_refuses s x) (λ p.
+    refuses_then (in_order (of_rename.place_checks x a p)) _ (order_refuses (of_rename.place_checks x a p) refl) (λ u. ok_refuses p))
 
--- REMOVE
-remove_found : (s : State) (x : Context) (name : List ℕ) (d : Node) → checked (current s x) (of_remove.place_checks x name) ≡ Ok d
-    → option_map status_of (remove_fault s.tree d.number name) ≡ first_fault (of_remove.row_checks s name d)
-remove_found s x name d v = fault_map status_of (remove_checks s.tree d.number name)
+pub creating_refuses : (s : State) (x : Context) (c : Create) → Refuses (creating s x c)
+creating_refuses s x c = refuses_then (current s x) _ (current_refuses s x) (λ d.
+    refuses_then (in_order (place_checks x c d)) _ (order_refuses (place_checks x c d) refl) (λ u.
+    refuses_then (attributes_in c.createattrs) _ (wanted_refuses c.createattrs) (λ w.
+    refuses_then (in_order (make_checks w x.who)) _ (order_refuses (make_checks w x.who) refl) (λ u.
+    refuses_then (require (not (is_some w.size)) Inval) _ (held_refuses (not (is_some w.size)) Inval refl) (λ u.
+    (let m : Making = record { place = d; wanted = w } in ok_refuses m))))))
 
-pub remove_goes : (s : State) (x : Context) (now : Time) (name : List ℕ) (d : Node)
-    → checked (current s x) (of_remove.place_checks x name) ≡ Ok d → remove_fault s.tree d.number name ≡ None
-    → of_remove.remove s x now name ≡ of_remove.removed s x now name d
-unfolding of_remove.remove
-remove_goes s x now name d v none =
-    by_last s x Num.Remove (checked (current s x) (of_remove.place_checks x name)) (of_remove.row_checks s name) (of_remove.removed s x now name) d v
-    (sym (remove_found s x name d v) ∙ ap (option_map status_of) none)
+-- An operation of which the tree is asked last.
 
-pub remove_stops : (s : State) (x : Context) (now : Time) (name : List ℕ) (d : Node) (f : TreeFault)
-    → checked (current s x) (of_remove.place_checks x name) ≡ Ok d → remove_fault s.tree d.number name ≡ Some f
-    → of_remove.remove s x now name ≡ refuses s x Num.Remove (status_of f)
-unfolding of_remove.remove
-remove_stops s x now name d f v some =
-    by_refusal s x Num.Remove (checked (current s x) (of_remove.place_checks x name))
-    (of_remove.row_checks s name) (of_remove.removed s x now name) d (status_of f) v
-    (sym (remove_found s x name d v) ∙ ap (option_map status_of) some)
+pub record Asks {A : Type 0} (s : State) (x : Context) (op : OpNum) (found : Result A Status) (checks : A → List (Bool × TreeFault)) (does : A → Outcome)
+    (o : Outcome) : Type 0 where
+  pub is : o ≡ or_refusal s x op (found >>= λ a. in_order (by_tree (checks a)) >> Ok (does a))
 
--- CREATE
-create_found : (s : State) (x : Context) (c : Create) (m : Making) → of_create.asked_for s x c ≡ Ok m
-    → option_map status_of (create_fault s.tree m.place.number c.objname (of_create.new_of c.objtype)) ≡ first_fault (of_create.row_checks s c m)
-create_found s x c m v = fault_map status_of (create_checks s.tree m.place.number c.objname (of_create.new_of c.objtype))
+module _ {A : Type 0} {s : State} {x : Context} {op : OpNum} {found : Result A Status} {checks : A → List (Bool × TreeFault)} {does : A → Outcome}
+    {o : Outcome} (asks : Asks s x op found checks does o) where
+  by_tree_fault : (a : A) (fault : Option TreeFault) → found ≡ Ok a → first_fault (checks a) ≡ fault
+      → o ≡ or_refusal s x op (judged (option_map status_of fault) >> Ok (does a))
+  by_tree_fault a fault there e = asks.is ∙ ap (λ v. or_refusal s x op (v >>= λ a. in_order (by_tree (checks a)) >> Ok (does a))) there
+      ∙ ap (λ o. or_refusal s x op (judged o >> Ok (does a))) (sym (fault_map status_of (checks a)) ∙ ap (option_map status_of) e)
 
-pub create_goes : (s : State) (x : Context) (now : Time) (c : Create) (m : Making)
-    → of_create.asked_for s x c ≡ Ok m → create_fault s.tree m.place.number c.objname (of_create.new_of c.objtype) ≡ None
-    → of_create.create s x now c ≡ of_create.created s x now c m
-unfolding of_create.create
-create_goes s x now c m v none =
-    by_last s x Num.Create (of_create.asked_for s x c) (of_create.row_checks s c) (of_create.created s x now c) m v
-    (sym (create_found s x c m v) ∙ ap (option_map status_of) none)
+  pub goes : (a : A) → found ≡ Ok a → first_fault (checks a) ≡ None → o ≡ does a
+  goes a there none = by_tree_fault a None there none
 
-pub create_stops : (s : State) (x : Context) (now : Time) (c : Create) (m : Making) (f : TreeFault)
-    → of_create.asked_for s x c ≡ Ok m → create_fault s.tree m.place.number c.objname (of_create.new_of c.objtype) ≡ Some f
-    → of_create.create s x now c ≡ refuses s x Num.Create (status_of f)
-unfolding of_create.create
-create_stops s x now c m f v some =
-    by_refusal s x Num.Create (of_create.asked_for s x c) (of_create.row_checks s c) (of_create.created s x now c) m (status_of f) v
-    (sym (create_found s x c m v) ∙ ap (option_map status_of) some)
+  pub stops : (a : A) (f : TreeFault) → found ≡ Ok a → first_fault (checks a) ≡ Some f → o ≡ refuses s x op (status_of f)
+  stops a f there some = by_tree_fault a (Some f) there some
+
+  pub errs : (f : Status) → found ≡ Err f → o ≡ refuses s x op f
+  errs f err = asks.is ∙ ap (λ v. or_refusal s x op (v >>= λ a. in_order (by_tree (checks a)) >> Ok (does a))) err
+
+pub remove_asks : (s : State) (x : Context) (now : Time) (name : List ℕ)
+    → Asks s x Num.Remove (removing s x name) (λ d. remove_checks s.tree d.number name) (λ d. removed s x now name d) (remove s x now name)
+unfolding remove
+remove_asks s x now name = record { is = ap (or_refusal s x Num.Remove) (through (current s x) _ Ok _) }
+
+pub link_asks : (s : State) (x : Context) (now : Time) (name : List ℕ)
+    → Asks s x Num.Link (linking s x name) (λ p. link_checks s.tree p.saved.number p.current.number name) (λ p. linked s x now name p) (link s x now name)
+unfolding link
+link_asks s x now name = record { is = ap (or_refusal s x Num.Link) (through (both s x) _ Ok _) }
+
+pub rename_asks : (s : State) (x : Context) (now : Time) (a : Rename)
+    → Asks s x Num.Rename (renaming s x a) (λ p. rename_checks s.tree (move_of a p)) (λ p. renamed s x now a p (moves s.tree (move_of a p))) (rename s x now a)
+unfolding rename
+rename_asks s x now a = record { is = ap (or_refusal s x Num.Rename) (through (both s x) _ Ok _) }
+
+pub create_asks : (s : State) (x : Context) (now : Time) (c : Create)
+    → Asks s x Num.Create (creating s x c) (λ m. create_checks s.tree m.place.number c.objname (new_of c.objtype)) (λ m. created s x now c m.place m.wanted) (create s x now c)
+unfolding create
+create_asks s x now c = record { is = ap (or_refusal s x Num.Create) (in_steps (current s x) _ (attributes_in c.createattrs) _ _ _) }
+  where
+    in_steps : (v : Result Node Status) (place : Node → Result (Unit {0}) Status) (read : Result Wanted Status) (may unsized : Wanted → Result (Unit {0}) Status)
+        (next : Making → Result Outcome Status)
+        → (v >>= λ d. place d >> (read >>= λ w. may w >> (unsized w >> next (record { place = d; wanted = w }))))
+        ≡ ((v >>= λ d. place d >> (read >>= λ w. may w >> (unsized w >> Ok (record { place = d; wanted = w })))) >>= next)
+    in_steps (Err f) place read may unsized next = refl
+    in_steps (Ok d) place read may unsized next = by_place (place d)
+      where
+        by_last : (w : Wanted) (a b : Result (Unit {0}) Status) → (a >> (b >> next (record { place = d; wanted = w })))
+            ≡ ((a >> (b >> Ok (record { place = d; wanted = w }))) >>= next)
+        by_last w (Err f) b = refl
+        by_last w (Ok u) (Err f) = refl
+        by_last w (Ok u) (Ok t) = refl
+
+        by_read : (read : Result Wanted Status) → (read >>= λ w. may w >> (unsized w >> next (record { place = d; wanted = w })))
+            ≡ ((read >>= λ w. may w >> (unsized w >> Ok (record { place = d; wanted = w }))) >>= next)
+        by_read (Err f) = refl
+        by_read (Ok w) = by_last w (may w) (unsized w)
+
+        by_place : (p : Result (Unit {0}) Status) → (p >> (read >>= λ w. may w >> (unsized w >> next (record { place = d; wanted = w }))))
+            ≡ ((p >> (read >>= λ w. may w >> (unsized w >> Ok (record { place = d; wanted = w })))) >>= next)
+        by_place (Err f) = refl
+        by_place (Ok u) = by_read read

@@ -70,12 +70,6 @@ judged_refusal b s x op status h =
     let bad : is_ok (refusal (op_number op) status) ≡ false = ap (λ r. eqb (status_number r) 0) (status_of_refusal (op_number op) status) ∙ h.done in
     ap (λ k. cond k (refuses s x op Delay) (refuses s x op status)) (and_right b (is_ok (refusal (op_number op) status)) bad)
 
-pub error_outcome : {A : Type 0} (b : Bool) (s : State) (x : Context) (op : OpNum) (v : Result A Status) (checks : A → List (Bool × Status)) (f : A → Outcome)
-    (status : Status) → Refuses v → v ≡ Err status
-    → refuses s x op status ≡ or_delay b s x op (answers s x op (checked v checks) f)
-error_outcome b s x op v checks f status all is =
-    sym (ap (or_delay b s x op) (by_error s x op v checks f status is) ∙ judged_refusal b s x op status (all.each status is))
-
 -- the outcome of a refusal that the code made, where an operation wants memory only if it grows
 pub told_refusal_by : (g : Bool) (s : State) (t : Files) (x : Context) (op : OpNum) (o : Outcome) (r : Res) (status : Status)
     → r ≡ refusal (op_number op) status → t ≡ s.tree
@@ -171,9 +165,14 @@ told_fault may grows s x op o done r fault answer after new f same is goes stops
     (refused_growing grows s x op o done fault f goes stops ok did.1))
 
 -- what was refused before the tree was asked
+pub told_stop : (may : Bool) (s : State) (x : Context) (op : OpNum) (o : Outcome) (r : Res) (status : Status) → IsRefusal status → o ≡ refuses s x op status
+    → r ≡ refusal (op_number op) status → record { result = r; state = s; context = x } ≡ or_delay (may && is_delay (status_of_result r)) s x op o
+told_stop may s x op o r status own is told =
+    told_refusal_by may s s.tree x op o r status told refl
+    (sym (ap (or_delay (may && is_delay status) s x op) is ∙ judged_refusal (may && is_delay status) s x op status own))
+
 pub told_error : {A : Type 0} (may : Bool) (s : State) (x : Context) (op : OpNum) (v : Result A Status) (checks : A → List (Bool × Status)) (f : A → Outcome)
     (r : Res) (status : Status) → Refuses v → v ≡ Err status → r ≡ refusal (op_number op) status
     → record { result = r; state = s; context = x } ≡ or_delay (may && is_delay (status_of_result r)) s x op (answers s x op (checked v checks) f)
 told_error may s x op v checks f r status all is told =
-    told_refusal_by may s s.tree x op (answers s x op (checked v checks) f) r status told refl
-    (error_outcome (may && is_delay status) s x op v checks f status all is)
+    told_stop may s x op (answers s x op (checked v checks) f) r status (all.each status is) (by_error s x op v checks f status is) told

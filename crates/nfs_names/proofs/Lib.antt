@@ -1,8 +1,11 @@
 pub mod Refusing
+pub mod Steps
+pub mod Rows
+pub mod NameLaws
 pub mod Faulted
 pub mod Found
 pub mod Masks
-pub mod Rows
+pub mod Fronted
 pub mod Changing
 pub mod Renaming
 pub mod StoreInvariants

@@ -1,12 +1,12 @@
 -- A listing is put whole, or refused where no entry fits.
-use Rattle.std.proofs.Common.{◌≡◌, ℕ, ◌+◌, ◌<◌, ◌≤◌, Bool, true, false, List, [], ◌∷◌, ◌++◌, length, take, Option, Some, None, refl, sym, ◌∙◌, ap, subst, inl}
+use Rattle.std.proofs.Common.{◌≡◌, ℕ, ◌+◌, ◌<◌, ◌≤◌, Bool, true, false, List, [], ◌∷◌, ◌++◌, length, take, refl, sym, ◌∙◌, ap, subst, inl}
 use Rattle.std.proofs.Common.{inr, arith}
-use Rattle.std.specs.Prelude.{nat_lt, ◌==◌, ◌&&◌, Ok}
+use Rattle.std.specs.Prelude.{nat_lt, ◌==◌, Result, Ok, not}
 use Rattle.std.specs.List.{flat_map}
 use Rattle.std.proofs.lemmas.List.{length-append}
 use Rattle.std.proofs.lemmas.Bool.{cases_Bool, leb-true, le-leb, lt-ltb, eq-eqb, eqb-true, and_right, and_left, and_from, false_from_ne_true, false≢true}
 use Rattle.std.proofs.lemmas.Bool.{eqb-false}
-use Rattle.nfs_xdr.specs.Checks.{first_fault}
+use Rattle.nfs_opens.specs.Steps.{◌>>=◌, ◌>>◌, require}
 use Rattle.nfs_xdr.specs.SheetState.{SheetState, Puts}
 use Rattle.nfs_xdr.specs.declared.status.Status.{Status}
 use Rattle.nfs_xdr.specs.declared.status.Status.TheVariants.{Nfs4Ok, TooSmall}
@@ -27,12 +27,14 @@ use Rattle.std.proofs.Math.Seq.{take-append_seam}
 use Rattle.nfs_compound.specs.declared.op_num.OpNum.TheVariants as Num
 use Rattle.nfs_names.specs.declared.context.Context.{Context}
 use Rattle.nfs_names.specs.Comes.{Comes}
-use Rattle.nfs_names.specs.Outcome.{done, passed, checked, answers}
+use Rattle.nfs_names.specs.Outcome.{Outcome, done, or_refusal}
 use Rattle.nfs_names.specs.Checks.{current}
 use Rattle.nfs_names.specs.declared.node.Node.{Node}
 use Rattle.nfs_names.specs.State.{State}
-use Rattle.nfs_names.specs.ReadDir.{longest, fits, fitting, left, zeros, listing_checks, entry_checks, listed, read_dir}
+use Rattle.nfs_names.specs.Fronts.{listing}
+use Rattle.nfs_names.specs.ReadDir.{longest, fits, fitting, left, zeros, fits_none, listed, read_dir}
 use Rattle.nfs_names.specs.Lists.{Lists}
+use Rattle.nfs_names.proofs.Steps.{through}
 use Rattle.nfs_names.proofs.Entering.{length_entry_head, given_least}
 
 longest_passes : {A : Type 0} (test : List A → Bool) (xs : List A) → test [] ≡ true → test (longest test xs) ≡ true
@@ -59,7 +61,7 @@ no_text (x ∷ es) e =
     absurd (omega arith)
 
 pub too_small : (s : State) (a : ReadDir) (d : Node) → false ≡ (length (fitting s a d) == length (left s a d))
-    → length (flat_map entry_text (fitting s a d)) ≡ 0 → first_fault (entry_checks s a d) ≡ Some TooSmall
+    → length (flat_map entry_text (fitting s a d)) ≡ 0 → fits_none s a d ≡ true
 too_small s a d part none =
     let empty = no_text (fitting s a d) none in
     let some : 0 < length (left s a d) = elim (cases_Bool (length (left s a d) == 0)) [
@@ -67,35 +69,30 @@ too_small s a d part none =
           (let z : length (left s a d) ≡ 0 = eqb-true _ _ zero in false≢true (part ∙ eq-eqb (length (fitting s a d)) (length (left s a d)) (empty ∙ sym z)))
       | inr more ↦ (let m = eqb-false _ _ more in omega arith)
     ] in
-    let both : (nat_lt 0 (length (left s a d)) && (length (fitting s a d) == 0)) ≡ true = and_from _ _ (lt-ltb 0 _ some) (eq-eqb _ _ empty) in
-    rw both refl
+    and_from _ _ (lt-ltb 0 _ some) (eq-eqb _ _ empty)
 
-pub all_small : (s : State) (a : ReadDir) (d : Node) → true ≡ (length (fitting s a d) == length (left s a d)) → first_fault (entry_checks s a d) ≡ None
+pub all_small : (s : State) (a : ReadDir) (d : Node) → true ≡ (length (fitting s a d) == length (left s a d)) → fits_none s a d ≡ false
 all_small s a d whole =
     let same : length (fitting s a d) ≡ length (left s a d) = eqb-true _ _ (sym whole) in
-    let none : (nat_lt 0 (length (left s a d)) && (length (fitting s a d) == 0)) ≡ false = elim (cases_Bool (length (fitting s a d) == 0)) [
+    elim (cases_Bool (length (fitting s a d) == 0)) [
       | inl zero ↦ (let z : length (fitting s a d) ≡ 0 = eqb-true _ _ zero in let l : length (left s a d) ≡ 0 = sym same ∙ z in and_left _ _ (ap (nat_lt 0) l))
       | inr more ↦ and_right _ _ more
-    ] in
-    rw none refl
+    ]
 
-pub some_small : (s : State) (a : ReadDir) (d : Node) → (length (flat_map entry_text (fitting s a d)) ≡ 0 → ⊥) → first_fault (entry_checks s a d) ≡ None
-some_small s a d some =
-    let none : (nat_lt 0 (length (left s a d)) && (length (fitting s a d) == 0)) ≡ false =
-    and_right _ _ (false_from_ne_true _ (λ e. some (empty_text (fitting s a d) (eqb-true _ _ e)))) in
-    rw none refl
+pub some_small : (s : State) (a : ReadDir) (d : Node) → (length (flat_map entry_text (fitting s a d)) ≡ 0 → ⊥) → fits_none s a d ≡ false
+some_small s a d some = and_right _ _ (false_from_ne_true _ (λ e. some (empty_text (fitting s a d) (eqb-true _ _ e))))
   where
     empty_text : (es : List Entry) → length es ≡ 0 → length (flat_map entry_text es) ≡ 0
     empty_text [] e = refl
     empty_text (x ∷ es) e = absurd (omega arith)
 
-pub lists_some : (answer status : Status) (o : Option Status) (entries : ReadDirOk) (old new : SheetState)
-    → o ≡ Some status → answer ≡ status → Puts old new (spell_result (refusal 26 status)) → Lists answer o entries old new
-lists_some answer status o entries old new is same put = subst (λ o. Lists answer o entries old new) (sym is) (same, put)
+pub lists_none : (answer : Status) (none : Bool) (entries : ReadDirOk) (old new : SheetState)
+    → none ≡ true → answer ≡ TooSmall → Puts old new (spell_result (refusal 26 TooSmall)) → Lists answer none entries old new
+lists_none answer none entries old new is same put = subst (λ b. Lists answer b entries old new) (sym is) (same, put)
 
-pub lists_none : (answer : Status) (o : Option Status) (entries : ReadDirOk) (old new : SheetState) → o ≡ None
-    → answer ≡ Nfs4Ok → Puts old new (spell_result (Res.ReadDir entries)) → Lists answer o entries old new
-lists_none answer o entries old new is same put = subst (λ o. Lists answer o entries old new) (sym is) (same, put)
+pub lists_some : (answer : Status) (none : Bool) (entries : ReadDirOk) (old new : SheetState) → none ≡ false
+    → answer ≡ Nfs4Ok → Puts old new (spell_result (Res.ReadDir entries)) → Lists answer none entries old new
+lists_some answer none entries old new is same put = subst (λ b. Lists answer b entries old new) (sym is) (same, put)
 
 pub front_length : length (read_dir_head zeros) ≡ 16
 front_length = length-append (head 26 Nfs4Ok) (fixed zeros) ∙ ap (λ n. n + length (fixed zeros)) (length_head 26 Nfs4Ok)
@@ -121,19 +118,25 @@ listed_whole s a d old mid out new whole p q r eof =
     (ap (λ e. read_dir_head zeros ++ (flat_map entry_text (fitting s a d) ++ list_end e)) eof ∙ sym (read_dir_in_parts (listed s a d)))
     (puts_then p (puts_then q r))
 
+abbrev put_listing : State → Context → ReadDir → Node → Result Outcome Status
+put_listing s x a d = require (not (fits_none s a d)) TooSmall >> Ok (done s x (Res.ReadDir (listed s a d)))
+
+pub read_dir_by : (s : State) (x : Context) (a : ReadDir) (v : Result Node Status) → v ≡ listing s x a
+    → read_dir s x a ≡ or_refusal s x Num.ReadDir (v >>= put_listing s x a)
+unfolding read_dir
+read_dir_by s x a v e =
+    ap (or_refusal s x Num.ReadDir) (through (current s x) _ Ok (put_listing s x a) ∙ ap (λ v. v >>= put_listing s x a) (sym e))
+
 -- a listing that was put is what READDIR comes to
 pub listing_comes : (s : State) (x : Context) (a : ReadDir) (d : Node) (answer : Status) (old new : SheetState)
-    → checked (current s x) (listing_checks x a) ≡ Ok d → Lists answer (first_fault (entry_checks s a d)) (listed s a d) old new
-    → Comes (read_dir s x a) old new answer s x
-unfolding read_dir
+    → listing s x a ≡ Ok d → Lists answer (fits_none s a d) (listed s a d) old new → Comes (read_dir s x a) old new answer s x
 listing_comes s x a d answer old new v lists =
-    subst (λ v. Comes (answers s x Num.ReadDir (checked v (entry_checks s a)) (λ d. done s x (Res.ReadDir (listed s a d)))) old new answer s x) (sym v)
-    (by_fault (first_fault (entry_checks s a d)) lists)
+    subst (λ o. Comes o old new answer s x) (sym (read_dir_by s x a (Ok d) (sym v))) (by_fit (fits_none s a d) lists)
   where
-    by_fault : (o : Option Status) → Lists answer o (listed s a d) old new
-        → Comes (answers s x Num.ReadDir (passed d o) (λ d. done s x (Res.ReadDir (listed s a d)))) old new answer s x
-    by_fault None l = record { put = l.1; status = l.0; state = refl; context = refl }
-    by_fault (Some status) l = record { put = l.1; status = l.0; state = refl; context = refl }
+    by_fit : (none : Bool) → Lists answer none (listed s a d) old new
+        → Comes (or_refusal s x Num.ReadDir (require (not none) TooSmall >> Ok (done s x (Res.ReadDir (listed s a d))))) old new answer s x
+    by_fit true l = record { put = l.1; status = l.0; state = refl; context = refl }
+    by_fit false l = record { put = l.1; status = l.0; state = refl; context = refl }
 
 -- all behind the status is within the bytes that are given
 pub listed_within : (s : State) (a : ReadDir) (d : Node) → 16 ≤ a.maxcount → length (parts (Res.ReadDir (listed s a d))).behind ≤ given a.maxcount

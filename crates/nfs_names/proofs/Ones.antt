@@ -1,5 +1,5 @@
 -- What holds of the outcome of an operation, if it is one of a table of operations.
-use Rattle.std.proofs.Common.{Bool, true, false, cond, Option, Some, None, subst}
+use Rattle.std.proofs.Common.{◌≡◌, refl, Bool, true, false, cond, Option, Some, None, subst}
 use Rattle.std.specs.Prelude.{◌&&◌, IfSome}
 use Rattle.std.specs.Option.{ForSome, option_map}
 use Rattle.nfs_xdr.specs.declared.status.Status.TheVariants.{Delay}
@@ -16,6 +16,13 @@ pub if_delayed : (P : Outcome → Type 0) (b : Bool) (s : State) (x : Context) (
     → P (refuses s x op Delay) → IfSome v P → IfSome (option_map (or_delay b s x op) v) P
 if_delayed P b s x op None refused done = tt
 if_delayed P b s x op (Some o) refused done = by_delay P b s x op o refused done
+
+-- the same, where memory may be wanted only by what grows
+pub if_grown : (P : Outcome → Type 0) (grows b : Bool) (s : State) (x : Context) (op : OpNum) (v : Option Outcome)
+    → (grows ≡ true → P (refuses s x op Delay)) → IfSome v P → IfSome (option_map (or_delay (grows && b) s x op) v) P
+if_grown P true b s x op v refused done = if_delayed P b s x op v (refused refl) done
+if_grown P false b s x op None refused done = tt
+if_grown P false b s x op (Some o) refused done = done
 
 pub if_both : {P Q R : Outcome → Type 0} (v : Option Outcome) → IfSome v P → IfSome v Q → ((o : Outcome) → P o → Q o → R o) → IfSome v R
 if_both None p q both = tt

@@ -2,7 +2,6 @@
 use Rattle.std.proofs.Common.{◌≡◌, ℕ, List, ◌+◌, true, false, not, Option, Some, None, refl, sym, subst, ◌∙◌, ap, inl, inr}
 use Rattle.std.specs.Prelude.{Result, Ok, Err, IsOk, is_ok as is_right, option_map, ◌==◌, ◌&&◌, ◌||◌, if◌then◌else◌, is_some, unwrap_or}
 use Rattle.std.proofs.lemmas.Bool.{cases_Bool, and_right, or_parts, ne_eqb, and_from, false≢true}
-use Rattle.nfs_xdr.specs.Checks.{first_fault}
 use Rattle.nfs_xdr.proofs.Checks.{all_passed}
 use Rattle.nfs_xdr.specs.declared.time.Time.{Time}
 use Rattle.nfs_compound.specs.declared.op_num.OpNum.TheVariants as Num
@@ -20,19 +19,18 @@ use Rattle.nfs_names.specs.declared.context.Context.{Context}
 use Rattle.nfs_names.specs.declared.node.Pair.{Pair}
 use Rattle.nfs_names.specs.State.{State}
 use Rattle.nfs_names.specs.Faults.{status_of}
-use Rattle.nfs_names.specs.Outcome.{Outcome, refuses, checked, or_delay, is_delay}
+use Rattle.nfs_names.specs.Outcome.{refuses, or_delay, is_delay}
 use Rattle.nfs_names.specs.Checks.{both}
 use Rattle.nfs_names.specs.Operation.{moves_in}
 use Rattle.nfs_names.specs.Rename as of_rename
-use Rattle.nfs_names.specs.Rename.{move_of}
-use Rattle.nfs_names.proofs.Found.{checked_ok}
-use Rattle.nfs_names.proofs.Rows.{fault_map, none_pushed}
-use Rattle.nfs_names.proofs.Faulted.{by_last, by_refusal, refused_by_did, delayed, not_delayed}
+use Rattle.nfs_names.specs.Rename.{move_of, renamed}
+use Rattle.nfs_opens.specs.Steps.{in_order}
+use Rattle.nfs_names.proofs.Found.{came, ok_is}
+use Rattle.nfs_names.specs.Fronts.{renaming}
+use Rattle.nfs_names.proofs.Changing.{rename_asks, goes, stops}
+use Rattle.nfs_names.proofs.Rows.{none_pushed}
+use Rattle.nfs_names.proofs.Faulted.{refused_by_did, delayed, not_delayed}
 use Rattle.nfs_xdr.proofs.Lists.{none_left}
-
-rename_found : (s : State) (x : Context) (a : args.Rename) (p : Pair) → checked (both s x) (of_rename.place_checks x a) ≡ Ok p
-    → option_map status_of (rename_fault s.tree (move_of a p)) ≡ first_fault (of_rename.row_checks s a p)
-rename_found s x a p v = fault_map status_of (rename_checks s.tree (move_of a p))
 
 -- what the tree did of two names, of the names that were asked for
 pub as_named : (t left : Files) (now : Time) (p : Pair) (a : args.Rename) (old new : List ℕ) (r : Result Renamed TreeFault) → old ≡ a.oldname → new ≡ a.newname
@@ -42,25 +40,6 @@ as_named t left now p a old new r one other did =
     let does : List ℕ → List ℕ → Type 0 =
     λ o n. DoesOrWants t (moves t (move p.saved.number o p.current.number n)) (tree.rename t (move p.saved.number o p.current.number n) now) r left in
     subst (λ (n : List ℕ). does a.oldname n) other (subst (λ (o : List ℕ). does o new) one did)
-
-abbrev pub what_moves : State → Context → Time → args.Rename → Pair → Outcome
-what_moves s x now a p = if moves s.tree (move_of a p) then of_rename.moved s x now a p else of_rename.unmoved s x p
-
-pub rename_goes : (s : State) (x : Context) (now : Time) (a : args.Rename) (p : Pair)
-    → checked (both s x) (of_rename.place_checks x a) ≡ Ok p → rename_fault s.tree (move_of a p) ≡ None
-    → of_rename.rename s x now a ≡ what_moves s x now a p
-unfolding of_rename.rename
-rename_goes s x now a p v none =
-    by_last s x Num.Rename (checked (both s x) (of_rename.place_checks x a)) (of_rename.row_checks s a) (what_moves s x now a) p v
-    (sym (rename_found s x a p v) ∙ ap (option_map status_of) none)
-
-pub rename_stops : (s : State) (x : Context) (now : Time) (a : args.Rename) (p : Pair) (f : TreeFault)
-    → checked (both s x) (of_rename.place_checks x a) ≡ Ok p → rename_fault s.tree (move_of a p) ≡ Some f
-    → of_rename.rename s x now a ≡ refuses s x Num.Rename (status_of f)
-unfolding of_rename.rename
-rename_stops s x now a p f v some =
-    by_refusal s x Num.Rename (checked (both s x) (of_rename.place_checks x a)) (of_rename.row_checks s a) (what_moves s x now a) p (status_of f) v
-    (sym (rename_found s x a p v) ∙ ap (option_map status_of) some)
 
 -- the same answer and tree as the tree's definition has where no check fails
 abbrev Goes : Files → Move → Time → Did Renamed
@@ -133,7 +112,7 @@ went_empty t m now r new w n is = elim (cases_Bool (moves t m)) [
 
 -- A RENAME that the tree refused: a check failed, or memory was refused where an entry would have moved.
 pub rename_refused : (s : State) (x : Context) (now : Time) (a : args.Rename) (p : Pair) (f : TreeFault) (new : Files)
-    → checked (both s x) (of_rename.place_checks x a) ≡ Ok p
+    → renaming s x a ≡ Ok p
     → DoesOrWants s.tree (moves s.tree (move_of a p)) (tree.rename s.tree (move_of a p) now) (Err f) new
     → (new ≡ s.tree)
     × (refuses s x Num.Rename (status_of f) ≡ or_delay (moves_in s a (both s x) && is_delay (status_of f)) s x Num.Rename (of_rename.rename s x now a))
@@ -141,18 +120,19 @@ rename_refused s x now a p f new v d =
     let t = s.tree in
     let m = move_of a p in
     let o = of_rename.rename s x now a in
-    let found = checked_ok (both s x) (of_rename.place_checks x a) p v in
-    let grows : moves_in s a (both s x) ≡ moves t m = ap (moves_in s a) found.0 in
+    let asks = rename_asks s x now a in
+    let found = came (both s x) _ p v in
+    let same = ok_is refl (came (in_order (of_rename.place_checks x a found.found)) _ p found.then).then in
+    let grows : moves_in s a (both s x) ≡ moves t m = ap (moves_in s a) (found.is ∙ ap Ok same) in
     elim (refused_by_did t (moves t m) (tree.rename t m now) new f d) [
       | inl w ↦ (
         w.3,
         (let none = unless_none t (rename_fault t m) (Goes t m now) w.2 in
-            let is : o ≡ of_rename.moved s x now a p = rename_goes s x now a p v none
-            ∙ ap (λ b. if b then of_rename.moved s x now a p else of_rename.unmoved s x p) w.1 in
+            let is : o ≡ renamed s x now a p true = goes asks p v none ∙ ap (renamed s x now a p) w.1 in
             let flag : moves_in s a (both s x) && is_delay (status_of f) ≡ true = and_from _ _ (grows ∙ w.1) (ap (λ f. is_delay (status_of f)) w.0) in
             ap (λ f. refuses s x Num.Rename (status_of f)) w.0
-            ∙ sym (ap (λ b. or_delay b s x Num.Rename o) flag ∙ ap (or_delay true s x Num.Rename) is ∙ delayed s x Num.Rename (of_rename.moved s x now a p) refl)),
+            ∙ sym (ap (λ b. or_delay b s x Num.Rename o) flag ∙ ap (or_delay true s x Num.Rename) is ∙ delayed s x Num.Rename (renamed s x now a p true) refl)),
       )
       | inr e ↦ (let err = unless_err t (rename_fault t m) (Goes t m now) f new (goes_ok t m now) e.1 e.2 in
-          (err.1, sym (not_delayed _ s x Num.Rename o (and_right (moves_in s a (both s x)) _ e.0) ∙ rename_stops s x now a p f v err.0)))
+          (err.1, sym (not_delayed _ s x Num.Rename o (and_right (moves_in s a (both s x)) _ e.0) ∙ stops asks p f v err.0)))
     ]

@@ -1,10 +1,12 @@
 -- The last checks of an operation are those of the tree, under the statuses of its faults.
-use Rattle.std.proofs.Common.{◌≡◌, Bool, true, false, cond, eqb, not, List, [], ◌∷◌, ◌++◌, length, map, Option, Some, refl, ◌∙◌, ap, inl, inr, arith}
+use Rattle.std.proofs.Common.{◌≡◌, Bool, true, false, cond, eqb, not, List, [], ◌∷◌, ◌++◌, length, map, Option, Some, None, refl, ◌∙◌, ap, inl, inr, arith}
 use Rattle.std.specs.Prelude.{option_map, filter}
 use Rattle.std.specs.List.{list_any}
 use Rattle.std.proofs.lemmas.Bool.{cases_Bool, ne_eqb}
 use Rattle.nfs_xdr.specs.Checks.{first_fault}
 use Rattle.nfs_xdr.proofs.Lists.{any_push}
+use Rattle.nfs_tree.specs.declared.fault.TreeFault.{TreeFault}
+use Rattle.nfs_names.specs.Faults.{status_of, by_tree}
 
 -- faults under other names
 pub fault_map : {F G : Type 0} (f : F → G) (checks : List (Bool × F))
@@ -32,3 +34,11 @@ any_counted p (x ∷ xs) = elim (cases_Bool (p x)) [
 -- none passes after a push of one that does not, where none did
 pub none_pushed : {X : Type 0} (p : X → Bool) (xs : List X) (y : X) → list_any p xs ≡ false → p y ≡ false → list_any p (xs ++ y ∷ []) ≡ false
 none_pushed p xs y e fails = any_push p xs y fails ∙ e
+
+pub none_mapped : {F G : Type 0} (f : F → G) (o : Option F) → option_map f o ≡ None → o ≡ None
+none_mapped f None e = refl
+none_mapped f (Some fault) e = absurd cc
+
+-- what passed the tree's checks under the statuses of its faults passed them
+pub tree_passes : (checks : List (Bool × TreeFault)) → first_fault (by_tree checks) ≡ None → first_fault checks ≡ None
+tree_passes checks e = none_mapped status_of (first_fault checks) (fault_map status_of checks ∙ e)

@@ -1,11 +1,11 @@
 -- Checks that several operations share, each once.
-use Rattle.std.specs.Prelude.{ℕ, ◌==◌, ◌||◌, Bool, not, List, [], ◌∷◌, length, nat_lt, Option, Some, None, Result, Ok, Err, is_some, bytes_eq, unwrap_or}
+use Rattle.std.specs.Prelude.{ℕ, ◌==◌, ◌||◌, Bool, not, List, [], ◌∷◌, length, nat_lt, Option, Some, None, Result, Ok, Err, bytes_eq}
 use Rattle.std.specs.List.{list_any}
 use Rattle.nfs_xdr.specs.declared.status.Status.{Status}
-use Rattle.nfs_xdr.specs.declared.status.Status.TheVariants.{Access, NotDir, Inval, NameTooLong, Stale, NoFileHandle, BadChar, BadName, NoEnt}
+use Rattle.nfs_xdr.specs.declared.status.Status.TheVariants.{Access, NotDir, Inval, NameTooLong, Stale, NoFileHandle, BadChar, BadName}
 use Rattle.nfs_tree.specs.declared.object.Object.{Object}
 use Rattle.nfs_tree.specs.Object.{is_directory}
-use Rattle.nfs_tree.specs.Files.{most_name, object_at, parent_in}
+use Rattle.nfs_tree.specs.Files.{most_name, object_at}
 use Rattle.nfs_attrs.specs.declared.permission.Want.{Want}
 use Rattle.nfs_attrs.specs.Permissions.{may}
 use Rattle.nfs_opens.specs.Steps.{◌>>=◌}
@@ -48,16 +48,6 @@ permits x d want = may d.object x.who want
 
 abbrev pub denied : Context → Node → Want → Bool × Status
 denied x d want = (not (permits x d want), Access)
-
--- the directory in which an object stands: the root stands in none
-abbrev pub has_parent : State → Node → Bool
-has_parent s d = is_some (parent_in s.tree.rows d.number)
-
-abbrev pub parent : State → Node → ℕ
-parent s d = unwrap_or (parent_in s.tree.rows d.number) 0
-
-abbrev pub no_parent : State → Node → Bool × Status
-no_parent s d = (not (has_parent s d), NoEnt)
 
 -- The four checks of a name (component4, RFC 8881 sections 14.3 and 15.1.7): `/` and a zero byte stand in none, and `.` and `..` are none.
 abbrev pub is_barred : ℕ → Bool

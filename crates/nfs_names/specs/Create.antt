@@ -1,5 +1,5 @@
 -- CREATE (RFC 8881 section 18.4): a directory or a symbolic link is made, and becomes the current filehandle's object.
-use Rattle.std.specs.Prelude.{ℕ, ◌+◌, ◌==◌, Bool, true, false, not, List, [], ◌∷◌, ◌++◌, length, nat_lt, Some, Result, Ok, is_some}
+use Rattle.std.specs.Prelude.{ℕ, ◌+◌, ◌==◌, Bool, true, false, not, List, ◌∷◌, length, nat_lt, Some, Result, Ok, is_some}
 use Rattle.std.specs.Prelude.{unwrap_or, option_map}
 use Rattle.nfs_xdr.specs.declared.time.Time.{Time}
 use Rattle.nfs_xdr.specs.declared.status.Status.{Status}
@@ -23,13 +23,12 @@ use Rattle.nfs_attrs.specs.Mask.{mask_of, trimmed_words}
 use Rattle.nfs_attrs.specs.Reading.{read_attrs, fault_status}
 use Rattle.nfs_attrs.specs.Setting.{make_checks}
 use Rattle.nfs_attrs.specs.Permissions.{change}
-use Rattle.nfs_opens.specs.Steps.{◌>>=◌, map_err}
+use Rattle.nfs_opens.specs.Steps.{◌>>=◌, map_err, in_order, require, ◌>>◌}
 use Rattle.nfs_names.specs.declared.context.Context.{Context}
 use Rattle.nfs_names.specs.declared.node.Node.{Node}
-use Rattle.nfs_names.specs.declared.making.Making.{Making}
 use Rattle.nfs_names.specs.State.{State, with_tree}
 use Rattle.nfs_names.specs.Context.{at_object}
-use Rattle.nfs_names.specs.Outcome.{Outcome, checked, answers}
+use Rattle.nfs_names.specs.Outcome.{Outcome, or_refusal}
 use Rattle.nfs_names.specs.Checks.{current, no_directory, denied, name_checks}
 use Rattle.nfs_names.specs.Faults.{by_tree}
 
@@ -52,7 +51,7 @@ abbrev pub plain_mode : New → ℕ
 plain_mode (Link text) = 511
 plain_mode other = 493
 
--- first the place, the type and the name are looked at ..
+-- what is looked at of the place, the type and the name
 abbrev pub place_checks : Context → Create → Node → List (Bool × Status)
 place_checks x c d =
     no_directory d
@@ -62,20 +61,12 @@ place_checks x c d =
     ∷ (text_is (nat_lt most_text) c.objtype, NameTooLong)
     ∷ name_checks c.objname
 
--- .. then the attributes are read ..
+-- the attributes that are given, or why they cannot be read
 unfoldable pub wanted_of : Attributes → Result Wanted AttrFault
 wanted_of a = read_attrs (mask_of a.attrmask) a.attr_vals
 
 abbrev pub attributes_in : Attributes → Result Wanted Status
 attributes_in a = map_err fault_status (wanted_of a)
-
--- .. then whether the caller may set them ..
-abbrev pub new_checks : Context → Making → List (Bool × Status)
-new_checks x m = make_checks m.wanted x.who ++ (is_some m.wanted.size, Inval) ∷ []
-
--- .. then what is there, and whether there is a place for the object, as the tree does.
-abbrev pub row_checks : State → Create → Making → List (Bool × Status)
-row_checks s c m = by_tree (create_checks s.tree m.place.number c.objname (new_of c.objtype))
 
 -- what is set: what is given, else the plain mode, and the caller's user and group
 abbrev pub time_of : Time → SetTime → Time
@@ -95,18 +86,16 @@ sets_of x now new wanted = record {
 abbrev pub change_info : Change → ChangeInfo
 change_info c = record { atomic = true; before = c.before; after = c.after }
 
-abbrev pub created : State → Context → Time → Create → Making → Outcome
-created s x now c m = record {
-  result = Res.Create (record { cinfo = change_info (raised s.tree m.place.number); attrset = trimmed_words (mask_of c.createattrs.attrmask) });
-  state = with_tree s (with_new s.tree m.place.number c.objname (new_of c.objtype) (sets_of x now (new_of c.objtype) m.wanted) now);
-  context = at_object x (s.tree.last_object + 1);
-}
-
-abbrev pub asked_for : State → Context → Create → Result Making Status
-asked_for s x c = do
-  d ← checked (current s x) (place_checks x c)
-  wanted ← attributes_in c.createattrs
-  checked (Ok (record { place = d; wanted = wanted })) (new_checks x)
-
 unfoldable pub create : State → Context → Time → Create → Outcome
-create s x now c = answers s x Num.Create (checked (asked_for s x c) (row_checks s c)) (created s x now c)
+create s x now c = or_refusal s x Num.Create (do
+  d ← current s x
+  in_order (place_checks x c d)
+  wanted ← attributes_in c.createattrs
+  in_order (make_checks wanted x.who)
+  require (not (is_some wanted.size)) Inval
+  in_order (by_tree (create_checks s.tree d.number c.objname (new_of c.objtype)))
+  Ok (record {
+    result = Res.Create (record { cinfo = change_info (raised s.tree d.number); attrset = trimmed_words (mask_of c.createattrs.attrmask) });
+    state = with_tree s (with_new s.tree d.number c.objname (new_of c.objtype) (sets_of x now (new_of c.objtype) wanted) now);
+    context = at_object x (s.tree.last_object + 1);
+  }))

@@ -4,8 +4,12 @@ use Rattle.nfs_results.specs.declared.res.Res.TheVariants as Res
 use Rattle.nfs_attrs.specs.Wire.{nfs_fh4}
 use Rattle.nfs_names.specs.declared.context.Context.{Context}
 use Rattle.nfs_names.specs.State.{State}
-use Rattle.nfs_names.specs.Outcome.{Outcome, done, answers}
+use Rattle.nfs_names.specs.Outcome.{Outcome, done, or_refusal}
 use Rattle.nfs_names.specs.Checks.{current}
+use Rattle.nfs_opens.specs.Steps.{◌>>=◌}
+use Rattle.std.specs.Prelude.{Ok}
 
 unfoldable pub get_fh : State → Context → Outcome
-get_fh s x = answers s x Num.GetFh (current s x) (λ d. done s x (Res.GetFh (nfs_fh4 (record { instance = s.instance; number = d.number })).bytes))
+get_fh s x = or_refusal s x Num.GetFh (do
+  d ← current s x
+  Ok (done s x (Res.GetFh (nfs_fh4 (record { instance = s.instance; number = d.number })).bytes)))

@@ -23,6 +23,7 @@ pub mod RestoreFh
 pub mod SaveFh
 pub mod SecinfoNoName
 pub mod Verify
+pub mod Fronts
 pub mod Operation
 pub mod Faults
 pub mod View

@@ -1,7 +1,6 @@
 -- LINK (RFC 8881 section 18.9): the saved filehandle's object gets one more name, in the current filehandle's directory.
-use Rattle.std.specs.Prelude.{ℕ, Bool, List, ◌∷◌}
+use Rattle.std.specs.Prelude.{ℕ, List, ◌∷◌, Ok}
 use Rattle.nfs_xdr.specs.declared.time.Time.{Time}
-use Rattle.nfs_xdr.specs.declared.status.Status.{Status}
 use Rattle.nfs_xdr.specs.declared.status.Status.TheVariants.{IsDir}
 use Rattle.nfs_compound.specs.declared.op_num.OpNum.TheVariants as Num
 use Rattle.nfs_results.specs.declared.res.Res.TheVariants as Res
@@ -10,31 +9,20 @@ use Rattle.nfs_tree.specs.Names.{link_checks, with_link}
 use Rattle.nfs_tree.specs.Files.{raised}
 use Rattle.nfs_attrs.specs.Permissions.{change}
 use Rattle.nfs_names.specs.declared.context.Context.{Context}
-use Rattle.nfs_names.specs.declared.node.Pair.{Pair}
 use Rattle.nfs_names.specs.State.{State, with_tree}
-use Rattle.nfs_names.specs.Outcome.{Outcome, checked, answers}
+use Rattle.nfs_names.specs.Outcome.{Outcome, or_refusal}
 use Rattle.nfs_names.specs.Checks.{both, no_directory, denied, name_checks}
 use Rattle.nfs_names.specs.Create.{change_info}
 use Rattle.nfs_names.specs.Faults.{by_tree}
-
--- first the places and the name are looked at ..
-abbrev pub place_checks : Context → List ℕ → Pair → List (Bool × Status)
-place_checks x name p =
-    no_directory p.current
-    ∷ (is_directory p.saved.object.kind, IsDir)
-    ∷ denied x p.current change
-    ∷ name_checks name
-
--- .. then what is there, as the tree does
-abbrev pub row_checks : State → List ℕ → Pair → List (Bool × Status)
-row_checks s name p = by_tree (link_checks s.tree p.saved.number p.current.number name)
-
-abbrev pub linked : State → Context → Time → List ℕ → Pair → Outcome
-linked s x now name p = record {
-  result = Res.Link (change_info (raised s.tree p.current.number));
-  state = with_tree s (with_link s.tree p.saved.number p.current.number name now);
-  context = x;
-}
+use Rattle.nfs_opens.specs.Steps.{in_order, ◌>>=◌, ◌>>◌}
 
 unfoldable pub link : State → Context → Time → List ℕ → Outcome
-link s x now name = answers s x Num.Link (checked (checked (both s x) (place_checks x name)) (row_checks s name)) (linked s x now name)
+link s x now name = or_refusal s x Num.Link (do
+  p ← both s x
+  in_order (no_directory p.current ∷ (is_directory p.saved.object.kind, IsDir) ∷ denied x p.current change ∷ name_checks name)
+  in_order (by_tree (link_checks s.tree p.saved.number p.current.number name))
+  Ok (record {
+    result = Res.Link (change_info (raised s.tree p.current.number));
+    state = with_tree s (with_link s.tree p.saved.number p.current.number name now);
+    context = x;
+  }))

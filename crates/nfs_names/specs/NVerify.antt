@@ -1,13 +1,17 @@
 -- NVERIFY (RFC 8881 section 18.15): whether the attributes are not those that are given.
-use Rattle.std.specs.Prelude.{[], ◌∷◌}
+use Rattle.std.specs.Prelude.{Ok, not}
 use Rattle.nfs_xdr.specs.declared.status.Status.TheVariants.{Same}
 use Rattle.nfs_compound.specs.declared.op_num.OpNum.TheVariants as Num
 use Rattle.nfs_compound.specs.declared.attributes.Attributes.{Attributes}
 use Rattle.nfs_results.specs.declared.res.Res.TheVariants as Res
 use Rattle.nfs_names.specs.declared.context.Context.{Context}
 use Rattle.nfs_names.specs.State.{State}
-use Rattle.nfs_names.specs.Outcome.{Outcome, done, checked, answers}
+use Rattle.nfs_names.specs.Outcome.{Outcome, done, or_refusal}
 use Rattle.nfs_names.specs.Verify.{compared}
+use Rattle.nfs_opens.specs.Steps.{require, ◌>>=◌, ◌>>◌}
 
 unfoldable pub nverify : State → Context → Attributes → Outcome
-nverify s x a = answers s x Num.NVerify (checked (compared s x a) (λ equal. (equal, Same) ∷ [])) (λ equal. done s x Res.NVerify)
+nverify s x a = or_refusal s x Num.NVerify (do
+  equal ← compared s x a
+  require (not equal) Same
+  Ok (done s x Res.NVerify))

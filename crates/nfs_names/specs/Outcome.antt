@@ -38,6 +38,11 @@ abbrev pub mapped : {A B : Type 0} → (A → B) → Result A Status → Result 
 mapped f (Err status) = Err status
 mapped f (Ok a) = Ok (f a)
 
+-- The steps of an operation: it is refused, or comes to an outcome.
+abbrev pub or_refusal : State → Context → OpNum → Result Outcome Status → Outcome
+or_refusal s x op (Err status) = refuses s x op status
+or_refusal s x op (Ok o) = o
+
 -- An operation is refused, or comes to an outcome by what was found.
 abbrev pub answers : {A : Type 0} → State → Context → OpNum → Result A Status → (A → Outcome) → Outcome
 answers s x op (Err status) outcome = refuses s x op status

@@ -1,5 +1,5 @@
 -- READDIR (RFC 8881 section 18.23): the entries behind a cookie with their attributes, as many as fit into so many bytes.
-use Rattle.std.specs.Prelude.{ℕ, ◌+◌, ◌==◌, Bool, not, ◌&&◌, ◌||◌, List, [], ◌∷◌, length, map, nat_lt, nat_le, replicate, bytes_eq, if◌then◌else◌, Option, Some}
+use Rattle.std.specs.Prelude.{ℕ, ◌+◌, ◌==◌, Bool, not, ◌&&◌, ◌||◌, List, [], ◌∷◌, length, map, nat_lt, nat_le, replicate, bytes_eq, if◌then◌else◌, Option, Some, Ok}
 use Rattle.std.specs.Prelude.{None}
 use Rattle.std.specs.List.{flat_map}
 use Rattle.nfs_xdr.specs.declared.status.Status.{Status}
@@ -20,9 +20,10 @@ use Rattle.nfs_attrs.specs.Permissions.{read}
 use Rattle.nfs_names.specs.declared.context.Context.{Context}
 use Rattle.nfs_names.specs.declared.node.Node.{Node}
 use Rattle.nfs_names.specs.State.{State}
-use Rattle.nfs_names.specs.Outcome.{Outcome, done, checked, answers}
+use Rattle.nfs_names.specs.Outcome.{Outcome, done, or_refusal}
 use Rattle.nfs_names.specs.Checks.{current, no_directory, denied}
 use Rattle.nfs_names.specs.Attributes.{attributes_of}
+use Rattle.nfs_opens.specs.Steps.{in_order, require, ◌>>=◌, ◌>>◌}
 
 -- what is reported of an object; an entry's object is there, so the first line is never met
 abbrev pub attributes_at : State → Mask → ℕ → Option Object → Fattr
@@ -51,7 +52,7 @@ fitting s a d = longest (fits (given a.maxcount)) (left s a d)
 abbrev pub zeros : List ℕ
 zeros = replicate 8 0
 
--- first the directory and the arguments are looked at ..
+-- what is looked at of the directory and the arguments
 abbrev pub listing_checks : Context → ReadDir → Node → List (Bool × Status)
 listing_checks x a d =
     no_directory d
@@ -62,13 +63,16 @@ listing_checks x a d =
     ∷ (nat_lt a.maxcount 16, TooSmall)
     ∷ []
 
--- .. then whether one entry fits, if any is left
-abbrev pub entry_checks : State → ReadDir → Node → List (Bool × Status)
-entry_checks s a d = (nat_lt 0 (length (left s a d)) && length (fitting s a d) == 0, TooSmall) ∷ []
+-- an entry is left, and none fits
+abbrev pub fits_none : State → ReadDir → Node → Bool
+fits_none s a d = nat_lt 0 (length (left s a d)) && length (fitting s a d) == 0
 
 abbrev pub listed : State → ReadDir → Node → ReadDirOk
 listed s a d = record { cookieverf = zeros; entries = fitting s a d; eof = length (fitting s a d) == length (left s a d) }
 
 unfoldable pub read_dir : State → Context → ReadDir → Outcome
-read_dir s x a =
-    answers s x Num.ReadDir (checked (checked (current s x) (listing_checks x a)) (entry_checks s a)) (λ d. done s x (Res.ReadDir (listed s a d)))
+read_dir s x a = or_refusal s x Num.ReadDir (do
+  d ← current s x
+  in_order (listing_checks x a d)
+  require (not (fits_none s a d)) TooSmall
+  Ok (done s x (Res.ReadDir (listed s a d))))

@@ -1,37 +1,26 @@
 -- REMOVE (RFC 8881 section 18.25): a name goes, and with its last name an object that is not open.
-use Rattle.std.specs.Prelude.{ℕ, Bool, List, ◌∷◌}
+use Rattle.std.specs.Prelude.{ℕ, List, ◌∷◌, Ok}
 use Rattle.nfs_xdr.specs.declared.time.Time.{Time}
-use Rattle.nfs_xdr.specs.declared.status.Status.{Status}
 use Rattle.nfs_compound.specs.declared.op_num.OpNum.TheVariants as Num
 use Rattle.nfs_results.specs.declared.res.Res.TheVariants as Res
 use Rattle.nfs_tree.specs.Files.{named, raised}
 use Rattle.nfs_tree.specs.Names.{remove_checks, without_name}
 use Rattle.nfs_attrs.specs.Permissions.{change}
 use Rattle.nfs_names.specs.declared.context.Context.{Context}
-use Rattle.nfs_names.specs.declared.node.Node.{Node}
 use Rattle.nfs_names.specs.State.{State, with_tree, without_unused}
-use Rattle.nfs_names.specs.Outcome.{Outcome, checked, answers}
+use Rattle.nfs_names.specs.Outcome.{Outcome, or_refusal}
 use Rattle.nfs_names.specs.Checks.{current, no_directory, denied, name_checks}
 use Rattle.nfs_names.specs.Create.{change_info}
 use Rattle.nfs_names.specs.Faults.{by_tree}
-
--- first the place and the name are looked at ..
-abbrev pub place_checks : Context → List ℕ → Node → List (Bool × Status)
-place_checks x name d =
-    no_directory d
-    ∷ denied x d change
-    ∷ name_checks name
-
--- .. then what is there, as the tree does
-abbrev pub row_checks : State → List ℕ → Node → List (Bool × Status)
-row_checks s name d = by_tree (remove_checks s.tree d.number name)
-
-abbrev pub removed : State → Context → Time → List ℕ → Node → Outcome
-removed s x now name d = record {
-  result = Res.Remove (change_info (raised s.tree d.number));
-  state = without_unused (with_tree s (without_name s.tree d.number name now)) (named s.tree d.number name);
-  context = x;
-}
+use Rattle.nfs_opens.specs.Steps.{in_order, ◌>>=◌, ◌>>◌}
 
 unfoldable pub remove : State → Context → Time → List ℕ → Outcome
-remove s x now name = answers s x Num.Remove (checked (checked (current s x) (place_checks x name)) (row_checks s name)) (removed s x now name)
+remove s x now name = or_refusal s x Num.Remove (do
+  d ← current s x
+  in_order (no_directory d ∷ denied x d change ∷ name_checks name)
+  in_order (by_tree (remove_checks s.tree d.number name))
+  Ok (record {
+    result = Res.Remove (change_info (raised s.tree d.number));
+    state = without_unused (with_tree s (without_name s.tree d.number name now)) (named s.tree d.number name);
+    context = x;
+  }))

@@ -1,5 +1,5 @@
 -- VERIFY (RFC 8881 section 18.31): whether the attributes are those that are given, byte for byte as the server writes them (profile).
-use Rattle.std.specs.Prelude.{Bool, not, [], ◌∷◌, Result}
+use Rattle.std.specs.Prelude.{Bool, Result, Ok}
 use Rattle.nfs_xdr.specs.declared.status.Status.{Status}
 use Rattle.nfs_xdr.specs.declared.status.Status.TheVariants.{NotSame}
 use Rattle.nfs_compound.specs.declared.op_num.OpNum.TheVariants as Num
@@ -9,11 +9,11 @@ use Rattle.nfs_attrs.specs.declared.wanted.AttrFault.{AttrFault}
 use Rattle.nfs_attrs.specs.Mask.{mask_of}
 use Rattle.nfs_attrs.specs.Comparing.{same}
 use Rattle.nfs_attrs.specs.Reading.{fault_status}
-use Rattle.nfs_opens.specs.Steps.{◌>>=◌, map_err}
+use Rattle.nfs_opens.specs.Steps.{◌>>=◌, map_err, require, ◌>>◌}
 use Rattle.nfs_names.specs.declared.context.Context.{Context}
 use Rattle.nfs_names.specs.declared.node.Node.{Node}
 use Rattle.nfs_names.specs.State.{State}
-use Rattle.nfs_names.specs.Outcome.{Outcome, done, checked, answers}
+use Rattle.nfs_names.specs.Outcome.{Outcome, done, or_refusal}
 use Rattle.nfs_names.specs.Checks.{current}
 use Rattle.nfs_names.specs.Attributes.{about}
 
@@ -22,7 +22,12 @@ unfoldable pub same_at : State → Attributes → Node → Result Bool AttrFault
 same_at s a d = same (mask_of a.attrmask) a.attr_vals (about s d) d.object
 
 abbrev pub compared : State → Context → Attributes → Result Bool Status
-compared s x a = current s x >>= λ d. map_err fault_status (same_at s a d)
+compared s x a = do
+  d ← current s x
+  map_err fault_status (same_at s a d)
 
 unfoldable pub verify : State → Context → Attributes → Outcome
-verify s x a = answers s x Num.Verify (checked (compared s x a) (λ equal. (not equal, NotSame) ∷ [])) (λ equal. done s x Res.Verify)
+verify s x a = or_refusal s x Num.Verify (do
+  equal ← compared s x a
+  require equal NotSame
+  Ok (done s x Res.Verify))

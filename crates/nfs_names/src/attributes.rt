@@ -9,9 +9,8 @@ ghost use Rattle.nfs_attrs.specs.Mask.{mask_of};
 ghost use Rattle.nfs_attrs.specs.Wire.{nfs_fh4};
 ghost use Rattle.nfs_names.specs.State.{state_of};
 ghost use Rattle.nfs_names.specs.Comes.{Comes};
-ghost use Rattle.nfs_names.specs.Outcome.{checked};
 ghost use Rattle.nfs_names.specs.View.{outcome_of};
-ghost use Rattle.nfs_names.specs.Checks as check;
+ghost use Rattle.nfs_names.specs.Fronts as front;
 ghost use Rattle.nfs_names.specs.Attributes as attributes;
 ghost use Rattle.nfs_names.specs.Access as of_access;
 ghost use Rattle.nfs_names.specs.GetAttr as of_get_attr;
@@ -83,7 +82,7 @@ pub(crate) fn access(store: &Store, context: &Context<'_>, asked: u32) -> Res<'s
 
 /// The object whose attributes are asked for: those that can only be set are not reported.
 fn judge_mask(store: &Store, context: &Context<'_>, mask: &Bitmap<'_>) -> Result<Node, Status>
-    ensures { result ≡ checked (check.current (state_of store.now) context.now) (of_get_attr.mask_checks mask.now) }
+    ensures { result ≡ front.reported (state_of store.now) context.now mask.now }
 {
     let d = current(store, context)?;
     if mask_in(mask).asks_set_only() {

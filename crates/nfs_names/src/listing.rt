@@ -2,7 +2,6 @@
 
 ghost use Rattle.std.specs.Prelude.{◌≡◌, ◌+◌, ◌≤◌, ◌==◌, Some, length, nat_le};
 ghost use Rattle.std.specs.List.{flat_map};
-ghost use Rattle.nfs_xdr.specs.Checks.{first_fault};
 ghost use Rattle.nfs_xdr.specs.SheetState.{Puts};
 ghost use Rattle.nfs_xdr.specs.Limits.{most_transfer};
 ghost use Rattle.nfs_results.specs.Largest.{given};
@@ -15,8 +14,7 @@ ghost use Rattle.nfs_tree.specs.Listing.{listed_of};
 ghost use Rattle.nfs_attrs.specs.Attributes.{spell_attrs};
 ghost use Rattle.nfs_names.specs.State.{state_of};
 ghost use Rattle.nfs_names.specs.Comes.{Comes};
-ghost use Rattle.nfs_names.specs.Outcome.{checked};
-ghost use Rattle.nfs_names.specs.Checks as check;
+ghost use Rattle.nfs_names.specs.Fronts as front;
 ghost use Rattle.nfs_names.specs.ReadLink as of_read_link;
 ghost use Rattle.nfs_names.specs.ReadDir as of_read_dir;
 ghost use Rattle.nfs_names.specs.Lists.{PutsWithin, Lists};
@@ -34,7 +32,7 @@ use nfs_xdr::{Sheet, Status};
 
 /// The symbolic link that is to be read.
 fn judge_link(store: &Store, context: &Context<'_>) -> Result<Node, Status>
-    ensures { result ≡ checked (check.current (state_of store.now) context.now) of_read_link.link_only }
+    ensures { result ≡ front.link_in (state_of store.now) context.now }
 {
     let d = current(store, context)?;
     if !is_link(d.object.kind) {
@@ -69,7 +67,7 @@ pub(crate) fn read_link(store: &Store, context: &Context<'_>, out: &mut Sheet) -
 
 /// The directory that is to be listed.
 fn judge_listing(store: &Store, context: &Context<'_>, asked: &ReadDir<'_>) -> Result<Node, Status>
-    ensures { result ≡ checked (check.current (state_of store.now) context.now) (of_read_dir.listing_checks context.now asked.now) }
+    ensures { result ≡ front.listing (state_of store.now) context.now asked.now }
 {
     let d = current(store, context)?;
     if !d.object.kind.is_directory() {
@@ -166,7 +164,7 @@ fn put_entries(store: &Store, place: &Node, asked: &ReadDir<'_>, out: &mut Sheet
 fn put_listing(store: &Store, place: &Node, asked: &ReadDir<'_>, out: &mut Sheet) -> Status
     requires count { 16 ≤ asked.now.maxcount }
     requires room { length out.old.bytes + (8 + given asked.now.maxcount) ≤ out.old.room }
-    ensures { Lists result (first_fault (of_read_dir.entry_checks (state_of store.now) asked.now place.now)) (of_read_dir.listed (state_of store.now) asked.now place.now) out.old out.new }
+    ensures { Lists result (of_read_dir.fits_none (state_of store.now) asked.now place.now) (of_read_dir.listed (state_of store.now) asked.now place.now) out.old out.new }
 {
     let start = out.len();
     write_read_dir_head(&[0; 8], out);

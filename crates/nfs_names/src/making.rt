@@ -1,6 +1,6 @@
 //! Operations that make, name and remove objects (RFC 8881 sections 18.4, 18.9, 18.25 and 18.26).
 
-ghost use Rattle.std.specs.Prelude.{◌≡◌, ◌==◌, ◌&&◌, ℕ, false, length, nat_lt, option_map};
+ghost use Rattle.std.specs.Prelude.{◌≡◌, ◌==◌, ◌&&◌, ℕ, Some, false, length, nat_lt, option_map};
 ghost use Rattle.nfs_compound.specs.declared.op_num.OpNum.TheVariants as Num;
 ghost use Rattle.nfs_tree.specs.Calls.{new_of};
 ghost use Rattle.nfs_tree.specs.Files.{most_text, has_entries};
@@ -8,10 +8,11 @@ ghost use Rattle.nfs_attrs.specs.Mask.{trimmed_words};
 ghost use Rattle.nfs_results.specs.Results.{status_of_result};
 ghost use Rattle.nfs_names.specs.State.{state_of};
 ghost use Rattle.nfs_names.specs.StoreInvariants.{IsRooted};
-ghost use Rattle.nfs_names.specs.Outcome.{checked, is_delay, or_delay};
+ghost use Rattle.nfs_names.specs.Outcome.{is_delay, or_delay};
 ghost use Rattle.nfs_names.specs.Operation.{moves_in};
 ghost use Rattle.nfs_names.specs.View.{outcome_of};
 ghost use Rattle.nfs_names.specs.Checks as check;
+ghost use Rattle.nfs_names.specs.Fronts as front;
 ghost use Rattle.nfs_names.specs.Create as of_create;
 ghost use Rattle.nfs_names.specs.Link as of_link;
 ghost use Rattle.nfs_names.specs.Remove as of_remove;
@@ -95,7 +96,7 @@ fn plain_mode(new: &New<'_>) -> u32
 
 /// The directory in which an object is to be made, where its type and its name may be.
 fn judge_place(store: &Store, context: &Context<'_>, asked: &Create<'_>) -> Result<Node, Status>
-    ensures { result ≡ checked (check.current (state_of store.now) context.now) (of_create.place_checks context.now asked.now) }
+    ensures { result ≡ front.place_of (state_of store.now) context.now asked.now }
 {
     let d = current(store, context)?;
     if !d.object.kind.is_directory() {
@@ -161,8 +162,9 @@ pub fn change_info(change: Change) -> ChangeInfo
 }
 
 /// What is to be made where, if the caller may.
+#[tactic(auto, using(crate::proofs::Fronted::creating_by))]
 fn judge_making(store: &Store, context: &Context<'_>, asked: &Create<'_>) -> Result<Making, Status>
-    ensures { result ≡ of_create.asked_for (state_of store.now) context.now asked.now }
+    ensures { result ≡ front.creating (state_of store.now) context.now asked.now }
 {
     let place = judge_place(store, context, asked)?;
     let wanted = match wanted_of(&asked.createattrs) {
@@ -258,7 +260,7 @@ fn create_ok(created: &Created, given: &Mask) -> CreateOk
 
 /// The directory and the object that is to get one more name.
 fn judge_link(store: &Store, context: &Context<'_>, name: &[u8]) -> Result<Pair, Status>
-    ensures { result ≡ checked (check.both (state_of store.now) context.now) (of_link.place_checks context.now name.now) }
+    ensures { result ≡ front.linking (state_of store.now) context.now name.now }
 {
     let p = both(store, context)?;
     if !p.current.object.kind.is_directory() {
@@ -309,7 +311,7 @@ fn drop_replaced(store: &mut Store, replaced: Option<u64>)
 
 /// The directory of a name that is to go.
 fn judge_remove(store: &Store, context: &Context<'_>, name: &[u8]) -> Result<Node, Status>
-    ensures { result ≡ checked (check.current (state_of store.now) context.now) (of_remove.place_checks context.now name.now) }
+    ensures { result ≡ front.removing (state_of store.now) context.now name.now }
 {
     let d = current(store, context)?;
     if !d.object.kind.is_directory() {
@@ -345,7 +347,7 @@ pub(crate) fn remove(
 
 /// The two directories of an entry that is to move.
 fn judge_rename(store: &Store, context: &Context<'_>, asked: &Rename<'_>) -> Result<Pair, Status>
-    ensures { result ≡ checked (check.both (state_of store.now) context.now) (of_rename.place_checks context.now asked.now) }
+    ensures { result ≡ front.renaming (state_of store.now) context.now asked.now }
 {
     let p = both(store, context)?;
     if !p.saved.object.kind.is_directory() {

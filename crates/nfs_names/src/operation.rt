@@ -16,7 +16,7 @@ use crate::store::Store;
 use crate::walking::{
     lookup, lookup_p, put_fh, put_pub_fh, put_root_fh, restore_fh, save_fh, secinfo_no_name,
 };
-use nfs_compound::{Item, Op};
+use nfs_compound::Op;
 use nfs_results::write;
 use nfs_xdr::{Sheet, Status, Time};
 use std::alloc::Global;
@@ -38,28 +38,6 @@ pub fn moment(now: u64) -> Time
 /// CREATE, LINK and RENAME may want memory: where it is refused, they answer NFS4ERR_DELAY as their last check and change
 /// nothing. No other operation does.
 pub fn name_op(
-    alloc: Global,
-    store: &mut Store,
-    context: &mut Context<'_>,
-    item: &Item<'_>,
-    now: u64,
-    out: &mut Sheet,
-) -> Option<Status>
-    requires moment { now < 2 ^ 63 }
-    requires store { IsStore (state_of store.old) }
-    requires room { length out.old.bytes + largest item.now ≤ out.old.room }
-    ensures comes { MayCome (λ refused. comes_to refused (state_of store.old) context.old (moment now) item.now) (state_of store.old) context.old out.old out.new result (state_of store.new) context.new }
-    ensures store { IsStore (state_of store.new) }
-    ensures within { length out.new.bytes ≤ length out.old.bytes + largest item.now }
-{
-    match item {
-        Item::Operation(op) => on_names(alloc, store, context, op, now, out),
-        Item::Fault { .. } => None,
-    }
-}
-
-/// The same of an operation.
-fn on_names(
     alloc: Global,
     store: &mut Store,
     context: &mut Context<'_>,

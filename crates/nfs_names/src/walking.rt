@@ -2,12 +2,9 @@
 //! 18.45).
 
 ghost use Rattle.std.specs.Prelude.{◌≡◌};
-ghost use Rattle.nfs_tree.specs.Files.{named};
-ghost use Rattle.nfs_attrs.specs.Handle.{handle_of};
 ghost use Rattle.nfs_names.specs.State.{state_of};
-ghost use Rattle.nfs_names.specs.Outcome.{checked, mapped};
 ghost use Rattle.nfs_names.specs.View.{outcome_of};
-ghost use Rattle.nfs_names.specs.Checks as check;
+ghost use Rattle.nfs_names.specs.Fronts as front;
 ghost use Rattle.nfs_names.specs.Lookup as of_lookup;
 ghost use Rattle.nfs_names.specs.LookupP as of_lookup_p;
 ghost use Rattle.nfs_names.specs.PutFh as of_put_fh;
@@ -32,7 +29,7 @@ const AUTH_SYS: [[u8; 4]; 1] = [[0, 0, 0, 1]];
 
 /// The object of a name in the current directory.
 fn find(store: &Store, context: &Context<'_>, name: &[u8]) -> Result<u64, Status>
-    ensures { result ≡ mapped (λ d. named store.now.tree d.number name.now) (checked (check.current (state_of store.now) context.now) (of_lookup.lookup_checks (state_of store.now) context.now name.now)) }
+    ensures { result ≡ front.named (state_of store.now) context.now name.now }
 {
     let d = current(store, context)?;
     if is_link(d.object.kind) {
@@ -67,7 +64,7 @@ pub(crate) fn lookup(store: &Store, context: &mut Context<'_>, name: &[u8]) -> R
 
 /// The directory in which the current one stands.
 fn find_parent(store: &Store, context: &Context<'_>) -> Result<u64, Status>
-    ensures { result ≡ mapped (check.parent (state_of store.now)) (checked (check.current (state_of store.now) context.now) (of_lookup_p.lookup_p_checks (state_of store.now) context.now)) }
+    ensures { result ≡ front.above (state_of store.now) context.now }
 {
     let d = current(store, context)?;
     if !d.object.kind.is_directory() {
@@ -98,7 +95,7 @@ pub(crate) fn lookup_p(store: &Store, context: &mut Context<'_>) -> Res<'static>
 
 /// The object that the filehandle names.
 fn read_handle(store: &Store, object: &[u8]) -> Result<Handle, Status>
-    ensures { result ≡ checked (of_put_fh.or_bad (handle_of object.now)) (of_put_fh.handle_checks (state_of store.now)) }
+    ensures { result ≡ front.handle_in (state_of store.now) object.now }
 {
     let Ok(handle) = Handle::read(object) else {
         return Err(Status::BadHandle);
@@ -148,7 +145,7 @@ pub(crate) fn put_root_fh(store: &Store, context: &mut Context<'_>) -> Res<'stat
 
 /// The saved filehandle, whose object is there.
 fn saved(store: &Store, context: &Context<'_>) -> Result<Saved, Status>
-    ensures { result ≡ checked (of_restore_fh.or_none context.now.saved) (of_restore_fh.saved_checks (state_of store.now)) }
+    ensures { result ≡ front.saved_in (state_of store.now) context.now }
 {
     let Some(saved) = context.saved else {
         return Err(Status::NoFileHandle);
@@ -193,7 +190,7 @@ pub(crate) fn save_fh(store: &Store, context: &mut Context<'_>) -> Res<'static>
 
 /// The object whose flavors are asked for, or in whose directory.
 fn judge_style(store: &Store, context: &Context<'_>, style: SecinfoStyle) -> Result<Node, Status>
-    ensures { result ≡ checked (check.current (state_of store.now) context.now) (of_secinfo.style_checks (state_of store.now) style) }
+    ensures { result ≡ front.styled (state_of store.now) context.now style }
 {
     let d = current(store, context)?;
     match style {

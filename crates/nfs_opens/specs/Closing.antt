@@ -10,7 +10,7 @@ use Rattle.nfs_opens.specs.declared.judging.Seat.{Seat}
 use Rattle.nfs_opens.specs.declared.judging.Seat.TheVariants.{Open, Lock}
 use Rattle.nfs_opens.specs.declared.judging.Sort.TheVariants.{OpenOnly, Either}
 use Rattle.nfs_opens.specs.Holding.{FileHolders}
-use Rattle.nfs_opens.specs.Steps.{◌>>=◌, require}
+use Rattle.nfs_opens.specs.Steps.{◌>>=◌, ◌>>◌, require}
 use Rattle.nfs_opens.specs.Table.{Table, lock_at}
 use Rattle.nfs_opens.specs.Judging.{judge}
 
@@ -53,5 +53,5 @@ free t id client = do
   seat ← judge t id client None Either
   number ← lock_in seat
   l ← ok_or (lock_at t number) BadStateId
-  u ← require (not (holds_any (t.held l.file) number)) LocksHeld
+  require (not (holds_any (t.held l.file) number)) LocksHeld
   Ok (tt, without_lock t number)

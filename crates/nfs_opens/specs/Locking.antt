@@ -18,7 +18,7 @@ use Rattle.nfs_opens.specs.declared.locking.OpenFault.TheVariants.{Refused, Deni
 use Rattle.nfs_opens.specs.Share.{neither}
 use Rattle.nfs_opens.specs.StateId.{next_seqid, last_number}
 use Rattle.nfs_opens.specs.Holding.{on_file}
-use Rattle.nfs_opens.specs.Steps.{◌>>=◌, require, map_err}
+use Rattle.nfs_opens.specs.Steps.{◌>>=◌, ◌>>◌, require, map_err}
 use Rattle.nfs_opens.specs.Table.{Table, lock_at, with_lock}
 use Rattle.nfs_opens.specs.Judging.{judge}
 
@@ -77,7 +77,7 @@ lock_as t w n access = do
 abbrev pub lock_first : Table → Wish → ℕ → List ℕ → Share → Result (StateId × Table) OpenFault
 lock_first t w opened owner access = do
   u ← lock_judged t 0 access w
-  u ← require (not (t.last == last_number)) (Refused ServerFault)
+  require (not (t.last == last_number)) (Refused ServerFault)
   Ok (
     record { seqid = 1; instance = t.instance; number = t.last + 1 },
     record t {

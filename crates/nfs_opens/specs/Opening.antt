@@ -8,7 +8,7 @@ use Rattle.nfs_opens.specs.declared.records.OpenState.{OpenState}
 use Rattle.nfs_opens.specs.declared.judging.Sort.TheVariants.{OpenOnly}
 use Rattle.nfs_opens.specs.Share.{joined, is_part, is_neither}
 use Rattle.nfs_opens.specs.StateId.{next_seqid}
-use Rattle.nfs_opens.specs.Steps.{◌>>=◌, require}
+use Rattle.nfs_opens.specs.Steps.{◌>>=◌, ◌>>◌, require}
 use Rattle.nfs_opens.specs.Table.{Table, Asked, is_own, open_at, with_open}
 use Rattle.nfs_opens.specs.Judging.{judge}
 
@@ -49,5 +49,5 @@ abbrev pub downgrade : Table → StateId → ℕ → ℕ → Share → Share →
 downgrade t id client file access deny = do
   seat ← judge t id client (Some file) OpenOnly
   o ← ok_or (open_at t id.number) BadStateId
-  u ← require (is_narrower access deny o) Inval
+  require (is_narrower access deny o) Inval
   Ok (record { seqid = next_seqid o.seqid; instance = t.instance; number = id.number }, with_open t id.number (narrows access deny))

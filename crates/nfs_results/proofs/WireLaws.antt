@@ -21,7 +21,7 @@ use Rattle.nfs_compound.specs.OpNum.{op_number}
 use Rattle.nfs_compound.specs.Stateid.{stateid}
 use Rattle.nfs_compound.specs.StateOwner.{state_owner}
 use Rattle.nfs_compound.specs.ArgCodecs.{lock_type, stable_how}
-use Rattle.nfs_compound.specs.FileArgs.{stable_how_number}
+use Rattle.nfs_compound.specs.Enums.{stable_how_number}
 use Rattle.nfs_xdr.specs.Text.{Text, ◌then◌, void, uint32, bool, enum, fixed, opaque, array, most}
 use Rattle.nfs_xdr.proofs.TextLaws.{Spells, all_fit, arrays, numbers}
 use Rattle.nfs_compound.specs.Wire.{channel_attrs4}

@@ -5,8 +5,7 @@ use Rattle.nfs_xdr.specs.Limits.{fhsize, opaque_limit}
 use Rattle.nfs_xdr.specs.declared.status.Status.{Status}
 use Rattle.nfs_xdr.specs.declared.status.Status.TheVariants.{Nfs4Ok, Denied, OpIllegal}
 use Rattle.nfs_xdr.specs.Status.{status_number}
-use Rattle.nfs_compound.specs.LockArgs.{lock_type_number}
-use Rattle.nfs_compound.specs.FileArgs.{stable_how_number}
+use Rattle.nfs_compound.specs.Enums.{lock_type_number, stable_how_number}
 use Rattle.nfs_xdr.specs.Text.{Text, ◌then◌, void, uint32, uint64, bool, enum, fixed, opaque, array, optional, most}
 use Rattle.nfs_compound.specs.Wire.{component4, state_owner4, stateid4, nfs_impl_id4, channel_attrs4}
 use Rattle.nfs_results.specs.declared.res.ChangeInfo.{ChangeInfo}

@@ -11,7 +11,7 @@ ghost use Rattle.nfs_xdr.specs.Limits.{opaque_limit};
 ghost use Rattle.nfs_compound.specs.Stateid.{stateid};
 ghost use Rattle.nfs_compound.specs.StateOwner.{state_owner};
 ghost use Rattle.nfs_compound.specs.ChannelAttrs.{channel_attrs};
-ghost use Rattle.nfs_compound.specs.FileArgs.{stable_how_number};
+ghost use Rattle.nfs_compound.specs.Enums.{stable_how_number};
 ghost use Rattle.nfs_results.specs.Items as table;
 ghost use Rattle.nfs_results.specs.Listing as listing;
 

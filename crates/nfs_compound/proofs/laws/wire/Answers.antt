@@ -1,9 +1,9 @@
-use Rattle.nfs_compound.proofs.OpOfLaws.{numbered}
+use Rattle.nfs_compound.proofs.FirstNumber.{first_number}
 use Rattle.nfs_compound.proofs.WireLaws.{ops}
 use Rattle.nfs_compound.proofs.laws.wire.Goals as goal
 
 pub returns-clause-number : goal.returns-clause-number
-returns-clause-number c = numbered
+returns-clause-number c = first_number
 
 pub returns-clause-spelled : goal.returns-clause-spelled
 returns-clause-spelled c = ops.same

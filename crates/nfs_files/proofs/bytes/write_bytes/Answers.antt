@@ -11,7 +11,7 @@ use Rattle.nfs_tree.specs.Calls.{DoesOrWants, write_fault}
 use Rattle.nfs_tree.specs.Calls as tree
 use Rattle.nfs_names.specs.State.{state_of, with_tree}
 use Rattle.nfs_names.specs.Checks.{current}
-use Rattle.nfs_names.proofs.Bounds.{current_refuses}
+use Rattle.nfs_names.proofs.NameLaws.{current_refuses}
 use Rattle.nfs_names.proofs.Faulted.{told_done, told_fault, told_error}
 use Rattle.nfs_files.specs.Bytes.{writable}
 use Rattle.nfs_files.specs.Write.{write_ok, with_bytes, last_checks, was_written, write}

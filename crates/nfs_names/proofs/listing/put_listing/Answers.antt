@@ -35,7 +35,7 @@ returns-then-len-before c =
     let none : length text ≡ 0 = omega arith in
     let back : c.cut.new.self ≡ c.args.out.now = c.cut.ensures ∙ taken_back c.args.out.now c.write_read_dir_head.new.out c.put_entries-whole.new.out
     (read_dir_head zeros) text c.len-start.result c.write_read_dir_head.ensures put c.len-start.ensures.value in
-    lists_some c.put_refusal.result TooSmall _ _ c.args.out.now c.put_refusal.new.out
+    lists_none c.put_refusal.result _ _ c.args.out.now c.put_refusal.new.out
     (too_small s a d c.if-not-whole.ensures.all none) c.put_refusal.ensures.status
     (subst (λ (p : SheetState). Puts p c.put_refusal.new.out (spell_result (refusal 26 TooSmall))) back c.put_refusal.ensures.put)
 
@@ -64,7 +64,7 @@ returns c =
     let count : length c.put_entries-whole.new.out.bytes ≡ length c.write_read_dir_head.new.out.bytes + length text =
     ap length put.bytes ∙ length-append c.write_read_dir_head.new.out.bytes text in
     let before = c.len-before.ensures.value in
-    lists_none _ _ _ c.args.out.now c.write_list_end.new.out
+    lists_some _ _ _ c.args.out.now c.write_list_end.new.out
     (elim c.else-not-whole.branch [
       | else-not-whole-via-then-not-whole+else-len-before w ↦
           some_small s a d (λ z. (let now = w.len.ensures.value in let other = w.if-len-before.false in other (omega arith)))

@@ -16,10 +16,11 @@ use Rattle.nfs_names.specs.declared.context.Context.{Context}
 use Rattle.nfs_names.specs.State.{state_of, with_tree}
 use Rattle.nfs_names.specs.Context.{at_object}
 use Rattle.nfs_names.specs.Outcome.{Outcome}
-use Rattle.nfs_names.specs.Create.{asked_for, new_of, sets_of, change_info, row_checks, created, create}
-use Rattle.nfs_names.proofs.Bounds.{asked_refuses}
-use Rattle.nfs_names.proofs.Changing.{create_goes, create_stops}
-use Rattle.nfs_names.proofs.Faulted.{told_done, told_fault, told_error}
+use Rattle.nfs_names.specs.Create.{new_of, sets_of, change_info, create}
+use Rattle.nfs_names.proofs.NameLaws.{created}
+use Rattle.nfs_names.specs.Fronts.{creating}
+use Rattle.nfs_names.proofs.Changing.{creating_refuses, create_asks, goes, stops, errs}
+use Rattle.nfs_names.proofs.Faulted.{told_done, told_fault, told_stop}
 use Rattle.nfs_names.proofs.making.create.Goals as goal
 use Rattle.nfs_names.proofs.making.create.Goals.{After-create}
 
@@ -54,7 +55,7 @@ returns-in-Ok-create c =
     ∙ told_done true true s x Num.Create (create s x c.args.now a) (λ k. Res.Create (told_ok k)) (λ (k : Created). at_object x k.number)
     (create_fault s.tree d a.objname new) (record { number = s.tree.last_object + 1; directory = raised s.tree d }) made
     (with_new s.tree d a.objname new (sets_of x c.args.now new m.wanted) c.args.now) c.create.new.self
-    (create_goes s x c.args.now a m (sym c.judge_making.ensures ∙ c.in-Ok.is))
+    (λ none. goes (create_asks s x c.args.now a) m (sym c.judge_making.ensures ∙ c.in-Ok.is) none)
     (as_asked (goal.at.returns-in-Ok-create c).After-create (Ok made) c.in-Ok-create.ensures)
 
 pub returns-in-Err-create : goal.returns-in-Err-create
@@ -66,18 +67,19 @@ returns-in-Err-create c =
     let d = m.place.number in
     let new = new_of a.objtype in
     let f = c.in-Err-create.fault in
-    let v : asked_for s x a ≡ Ok m = sym c.judge_making.ensures ∙ c.in-Ok.is in
-    told_fault true true s x Num.Create (create s x c.args.now a) (created s x c.args.now a m) _ (create_fault s.tree d a.objname new)
+    let v : creating s x a ≡ Ok m = sym c.judge_making.ensures ∙ c.in-Ok.is in
+    told_fault true true s x Num.Create (create s x c.args.now a) (created s x c.args.now a m.place m.wanted) _ (create_fault s.tree d a.objname new)
     (record { number = s.tree.last_object + 1; directory = raised s.tree d }) (with_new s.tree d a.objname new (sets_of x c.args.now new m.wanted) c.args.now)
     c.create.new.self f refl (c.refuse.ensures ∙ ap (Res.Refused 6) c.status_of.ensures)
-    (create_goes s x c.args.now a m v) (create_stops s x c.args.now a m f v) refl
+    (λ none. goes (create_asks s x c.args.now a) m v none)
+    (λ some. stops (create_asks s x c.args.now a) m f v some) refl
     (as_asked (goal.at.returns-in-Err-create c).After-create (Err f) c.in-Err-create.ensures)
 
 pub returns-in-Err : goal.returns-in-Err
-unfolding create
 returns-in-Err c =
     let s = state_of c.args.store.now in
     let x = c.args.context.now in
     let a = c.args.asked.now in
-    told_error true s x Num.Create (asked_for s x a) (row_checks s a) (created s x c.args.now a) _ c.in-Err.status
-    (asked_refuses s x a) (sym c.judge_making.ensures ∙ c.in-Err.is) c.refuse-in-Err.ensures
+    let is : creating s x a ≡ Err c.in-Err.status = sym c.judge_making.ensures ∙ c.in-Err.is in
+    told_stop true s x Num.Create (create s x c.args.now a) _ c.in-Err.status ((creating_refuses s x a).each _ is)
+    (errs (create_asks s x c.args.now a) _ is) c.refuse-in-Err.ensures

@@ -1,19 +1,17 @@
 use Rattle.std.proofs.Common.{◌≡◌, true, refl, sym, ap, ◌∙◌}
-use Rattle.std.specs.Prelude.{Ok}
+use Rattle.std.specs.Prelude.{Ok, Err}
 use Rattle.nfs_compound.specs.declared.op_num.OpNum.TheVariants as Num
 use Rattle.nfs_results.specs.declared.res.Res.TheVariants as Res
 use Rattle.nfs_tree.specs.Files.{raised}
 use Rattle.nfs_tree.specs.Names.{with_link}
 use Rattle.nfs_tree.specs.Calls.{link_fault}
 use Rattle.nfs_names.specs.State.{state_of, with_tree}
-use Rattle.nfs_names.specs.Outcome.{checked}
-use Rattle.nfs_names.specs.Checks.{both}
 use Rattle.nfs_names.specs.Create.{change_info}
-use Rattle.nfs_names.specs.Link.{place_checks, row_checks, linked, link}
-use Rattle.nfs_names.proofs.Bounds.{both_refuses}
-use Rattle.nfs_names.proofs.Refusing.{refuses_checked}
-use Rattle.nfs_names.proofs.Changing.{link_goes, link_stops}
-use Rattle.nfs_names.proofs.Faulted.{told_done, told_fault, told_error}
+use Rattle.nfs_names.specs.Link.{link}
+use Rattle.nfs_names.proofs.NameLaws.{linked}
+use Rattle.nfs_names.specs.Fronts.{linking}
+use Rattle.nfs_names.proofs.Changing.{linking_refuses, link_asks, goes, stops, errs}
+use Rattle.nfs_names.proofs.Faulted.{told_done, told_fault, told_stop}
 use Rattle.nfs_names.proofs.making.link.Goals as goal
 
 pub returns-in-Ok-link : goal.returns-in-Ok-link
@@ -26,7 +24,7 @@ returns-in-Ok-link c =
     ∙ told_done true true s x Num.Link (link s x c.args.now name) (λ k. Res.Link (change_info k)) (λ k. x)
     (link_fault s.tree p.saved.number p.current.number name) (raised s.tree p.current.number) c.in-Ok-link.change
     (with_link s.tree p.saved.number p.current.number name c.args.now) c.link.new.self
-    (link_goes s x c.args.now name p (sym c.judge_link.ensures ∙ c.in-Ok.is)) c.in-Ok-link.ensures
+    (λ none. goes (link_asks s x c.args.now name) p (sym c.judge_link.ensures ∙ c.in-Ok.is) none) c.in-Ok-link.ensures
 
 pub returns-in-Err-link : goal.returns-in-Err-link
 returns-in-Err-link c =
@@ -35,17 +33,18 @@ returns-in-Err-link c =
     let p = c.in-Ok.p in
     let name = c.args.name.now in
     let f = c.in-Err-link.fault in
-    let v : checked (both s x) (place_checks x name) ≡ Ok p = sym c.judge_link.ensures ∙ c.in-Ok.is in
+    let v : linking s x name ≡ Ok p = sym c.judge_link.ensures ∙ c.in-Ok.is in
     told_fault true true s x Num.Link (link s x c.args.now name) (linked s x c.args.now name p) _
     (link_fault s.tree p.saved.number p.current.number name) (raised s.tree p.current.number)
     (with_link s.tree p.saved.number p.current.number name c.args.now) c.link.new.self f refl (c.refuse.ensures ∙ ap (Res.Refused 11) c.status_of.ensures)
-    (link_goes s x c.args.now name p v) (link_stops s x c.args.now name p f v) refl c.in-Err-link.ensures
+    (λ none. goes (link_asks s x c.args.now name) p v none)
+    (λ some. stops (link_asks s x c.args.now name) p f v some) refl c.in-Err-link.ensures
 
 pub returns-in-Err : goal.returns-in-Err
-unfolding link
 returns-in-Err c =
     let s = state_of c.args.store.now in
     let x = c.args.context.now in
     let name = c.args.name.now in
-    told_error true s x Num.Link (checked (both s x) (place_checks x name)) (row_checks s name) (linked s x c.args.now name) _ c.in-Err.status
-    (refuses_checked (both s x) (place_checks x name) (both_refuses s x) (λ p. refl)) (sym c.judge_link.ensures ∙ c.in-Err.is) c.refuse-in-Err.ensures
+    let is : linking s x name ≡ Err c.in-Err.status = sym c.judge_link.ensures ∙ c.in-Err.is in
+    told_stop true s x Num.Link (link s x c.args.now name) _ c.in-Err.status ((linking_refuses s x name).each _ is)
+    (errs (link_asks s x c.args.now name) _ is) c.refuse-in-Err.ensures

@@ -1,6 +1,5 @@
 use Rattle.std.proofs.Common.{◌≡◌, not, sym, ap, ◌∙◌, false}
 use Rattle.std.specs.Prelude.{Ok, ◌==◌}
-use Rattle.nfs_compound.specs.declared.op_num.OpNum.TheVariants as Num
 use Rattle.nfs_results.specs.declared.res.ChangeInfo.{ChangeInfo}
 use Rattle.nfs_results.specs.declared.res.Res.{Res}
 use Rattle.nfs_tree.specs.declared.row.Row.{Row}
@@ -10,14 +9,13 @@ use Rattle.nfs_tree.specs.Names.{without_name}
 use Rattle.nfs_tree.specs.Calls.{remove_fault}
 use Rattle.nfs_tree.proofs.Trees.{remove_granted}
 use Rattle.nfs_names.specs.State.{State, state_of, with_tree, without_unused}
-use Rattle.nfs_names.specs.Outcome.{Outcome, checked}
-use Rattle.nfs_names.specs.Checks.{current}
+use Rattle.nfs_names.specs.Outcome.{Outcome}
 use Rattle.nfs_names.specs.Create.{change_info}
 use Rattle.nfs_names.specs.Faults.{status_of}
-use Rattle.nfs_names.specs.Remove.{place_checks, row_checks, removed, remove}
 use Rattle.nfs_xdr.proofs.Lists.{none_left}
-use Rattle.nfs_names.proofs.Changing.{remove_goes, remove_stops}
-use Rattle.nfs_names.proofs.Faulted.{did_ok, does_err, by_error}
+use Rattle.nfs_names.specs.Fronts.{removing}
+use Rattle.nfs_names.proofs.Changing.{remove_asks, goes, stops, errs}
+use Rattle.nfs_names.proofs.Faulted.{did_ok, does_err}
 use Rattle.nfs_names.proofs.making.remove.Goals as goal
 
 pub drop_empty-requires : goal.drop_empty-requires
@@ -43,7 +41,7 @@ returns-in-Ok-remove c =
     let d = c.in-Ok.d in
     let name = c.args.name.now in
     let n = named t d.number name in
-    let v : checked (current s x) (place_checks x name) ≡ Ok d = sym c.judge_remove.ensures ∙ c.in-Ok.is in
+    let v : removing s x name ≡ Ok d = sym c.judge_remove.ensures ∙ c.in-Ok.is in
     let did = did_ok t (remove_fault t d.number name) (record { number = n; directory = raised t d.number }) c.in-Ok-remove.removed
     (without_name t d.number name now) c.remove.new.self c.in-Ok-remove.ensures.answer c.in-Ok-remove.ensures.after in
     let outcome : ChangeInfo → State → Outcome = λ info u. record { result = Res.Remove info; state = u; context = x } in
@@ -52,7 +50,7 @@ returns-in-Ok-remove c =
     ∙ ap (outcome (change_info (raised t d.number)))
     (c.drop_empty.ensures ∙ ap (λ u. without_unused (with_tree s u) c.in-Ok-remove.removed.number) did.2
     ∙ ap (λ (k : Removed). without_unused left k.number) did.1)
-    ∙ sym (remove_goes s x now name d v did.0)
+    ∙ sym (goes (remove_asks s x now name) d v did.0)
 
 pub returns-in-Err-remove : goal.returns-in-Err-remove
 returns-in-Err-remove c =
@@ -63,20 +61,18 @@ returns-in-Err-remove c =
     let d = c.in-Ok.d in
     let name = c.args.name.now in
     let f = c.in-Err-remove.fault in
-    let v : checked (current s x) (place_checks x name) ≡ Ok d = sym c.judge_remove.ensures ∙ c.in-Ok.is in
+    let v : removing s x name ≡ Ok d = sym c.judge_remove.ensures ∙ c.in-Ok.is in
     let did = does_err t (remove_fault t d.number name) (record { number = named t d.number name; directory = raised t d.number })
     (without_name t d.number name now) c.remove.new.self f c.in-Err-remove.ensures.answer c.in-Err-remove.ensures.after in
     let outcome : Res → Files → Outcome = λ r t. record { result = r; state = with_tree s t; context = x } in
     ap (λ r. outcome r c.remove.new.self) (c.refuse.ensures ∙ ap (Res.Refused 28) c.status_of.ensures) ∙ ap (outcome (Res.Refused 28 (status_of f))) did.1
-    ∙ sym (remove_stops s x now name d f v did.0)
+    ∙ sym (stops (remove_asks s x now name) d f v did.0)
 
 pub returns-in-Err : goal.returns-in-Err
-unfolding remove
 returns-in-Err c =
     let s = state_of c.args.store.now in
     let x = c.args.context.now in
     let name = c.args.name.now in
     let outcome : Res → Outcome = λ r. record { result = r; state = s; context = x } in
     ap outcome c.refuse-in-Err.ensures
-    ∙ sym (by_error s x Num.Remove (checked (current s x) (place_checks x name)) (row_checks s name)
-    (removed s x c.args.now name) c.in-Err.status (sym c.judge_remove.ensures ∙ c.in-Err.is))
+    ∙ sym (errs (remove_asks s x c.args.now name) c.in-Err.status (sym c.judge_remove.ensures ∙ c.in-Err.is))

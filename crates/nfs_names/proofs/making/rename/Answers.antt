@@ -1,5 +1,5 @@
 use Rattle.std.proofs.Common.{◌≡◌, false, None, refl, sym, ap, ◌∙◌, inl, inr}
-use Rattle.std.specs.Prelude.{Ok, Err, ◌&&◌, if◌then◌else◌}
+use Rattle.std.specs.Prelude.{Ok, Err, ◌&&◌}
 use Rattle.std.proofs.lemmas.Bool.{cases_Bool, and_right}
 use Rattle.nfs_compound.specs.declared.op_num.OpNum.TheVariants as Num
 use Rattle.nfs_results.specs.declared.res.RenameOk.{RenameOk}
@@ -9,16 +9,16 @@ use Rattle.nfs_tree.specs.declared.done.Renamed.{Renamed}
 use Rattle.nfs_tree.specs.Calls as tree
 use Rattle.nfs_tree.specs.Names.{moves, with_moved}
 use Rattle.nfs_names.specs.State.{State, state_of, with_tree}
-use Rattle.nfs_names.specs.Outcome.{Outcome, checked}
+use Rattle.nfs_names.specs.Outcome.{Outcome}
 use Rattle.nfs_names.specs.Checks.{both}
 use Rattle.nfs_names.specs.Create.{change_info}
 use Rattle.nfs_names.specs.Faults.{status_of}
 use Rattle.nfs_names.specs.Operation.{moves_in}
-use Rattle.nfs_names.specs.Rename.{move_of, place_checks, row_checks, without_replaced, moved, unmoved, rename}
-use Rattle.nfs_names.proofs.Bounds.{both_refuses}
-use Rattle.nfs_names.proofs.Refusing.{refuses_checked}
-use Rattle.nfs_names.proofs.Faulted.{told_refusal_by, told_error, not_delayed}
-use Rattle.nfs_names.proofs.Renaming.{as_named, went, went_empty, rename_goes, rename_refused, what_moves}
+use Rattle.nfs_names.specs.Rename.{move_of, without_replaced, renamed, rename}
+use Rattle.nfs_names.specs.Fronts.{renaming}
+use Rattle.nfs_names.proofs.Changing.{renaming_refuses, rename_asks, goes, errs}
+use Rattle.nfs_names.proofs.Faulted.{told_refusal_by, told_stop, not_delayed}
+use Rattle.nfs_names.proofs.Renaming.{as_named, went, went_empty, rename_refused}
 use Rattle.nfs_names.proofs.making.rename.Goals as goal
 
 pub drop_replaced-requires : goal.drop_replaced-requires
@@ -39,28 +39,28 @@ returns-in-Ok-rename c =
     let m = move_of a p in
     let r = c.in-Ok-rename.renamed in
     let left = c.rename.new.self in
-    let v : checked (both s x) (place_checks x a) ≡ Ok p = sym c.judge_rename.ensures ∙ c.in-Ok.is in
+    let v : renaming s x a ≡ Ok p = sym c.judge_rename.ensures ∙ c.in-Ok.is in
     let w = went t m now r left (as_named t left now p a _ _ (Ok r) c.bytes.ensures c.bytes-in-Ok.ensures c.in-Ok-rename.ensures) in
     let outcome : RenameOk → State → Outcome = λ r u. record { result = Res.Rename r; state = u; context = x } in
     let told_ok : Renamed → RenameOk = λ r. record { source_cinfo = change_info r.source; target_cinfo = change_info r.target } in
     let by_code = ap (λ k. outcome k (state_of c.drop_replaced.new.store)) c.rename_ok.ensures ∙ ap (outcome (told_ok r)) c.drop_replaced.ensures in
-    let whole : outcome (told_ok r) (without_replaced (with_tree s left) r.replaced) ≡ what_moves s x now a p = elim (cases_Bool (moves t m)) [
+    let whole : outcome (told_ok r) (without_replaced (with_tree s left) r.replaced) ≡ renamed s x now a p (moves t m) = elim (cases_Bool (moves t m)) [
       | inl go ↦ (let answer : Ok r ≡ (tree.moved t m now).answer = rw go at w.answer in
           let after : left ≡ with_moved t m now = rw go at w.after in
           let same : r ≡ record { source = raised t m.source; target = raised t m.target; replaced = lookup t m.target m.name } = cc in
           ap (λ (k : Renamed). outcome (told_ok k) (without_replaced (with_tree s left) k.replaced)) same
           ∙ ap (λ u. outcome (told_ok (record { source = raised t m.source; target = raised t m.target; replaced = None }))
           (without_replaced (with_tree s u) (lookup t m.target m.name))) after
-          ∙ sym (ap (λ b. if b then moved s x now a p else unmoved s x p) go))
+          ∙ sym (ap (renamed s x now a p) go))
       | inr stay ↦ (let answer : Ok r ≡ (tree.unmoved t m).answer = rw stay at w.answer in
           let after : left ≡ t = rw stay at w.after in
           let same : r ≡ record { source = stays t m.source; target = stays t m.target; replaced = None } = cc in
           ap (λ (k : Renamed). outcome (told_ok k) (without_replaced (with_tree s left) k.replaced)) same
           ∙ ap (λ u. outcome (told_ok (record { source = stays t m.source; target = stays t m.target; replaced = None })) (with_tree s u)) after
-          ∙ sym (ap (λ b. if b then moved s x now a p else unmoved s x p) stay))
+          ∙ sym (ap (renamed s x now a p) stay))
     ] in
     by_code ∙ whole ∙ sym (not_delayed (moves_in s a (both s x) && false) s x Num.Rename (rename s x now a) (and_right (moves_in s a (both s x)) false refl)
-    ∙ rename_goes s x now a p v w.none)
+    ∙ (goes (rename_asks s x now a) p v w.none))
 
 pub returns-in-Err-rename : goal.returns-in-Err-rename
 returns-in-Err-rename c =
@@ -69,17 +69,17 @@ returns-in-Err-rename c =
     let a = c.args.asked.now in
     let p = c.in-Ok.p in
     let f = c.in-Err-rename.fault in
-    let v : checked (both s x) (place_checks x a) ≡ Ok p = sym c.judge_rename.ensures ∙ c.in-Ok.is in
+    let v : renaming s x a ≡ Ok p = sym c.judge_rename.ensures ∙ c.in-Ok.is in
     let did = as_named s.tree c.rename.new.self c.args.now p a _ _ (Err f) c.bytes.ensures c.bytes-in-Ok.ensures c.in-Err-rename.ensures in
     let parts = rename_refused s x c.args.now a p f c.rename.new.self v did in
     told_refusal_by (moves_in s a (both s x)) s c.rename.new.self x Num.Rename (rename s x c.args.now a) _
     (status_of f) (c.refuse.ensures ∙ ap (Res.Refused 29) c.status_of.ensures) parts.0 parts.1
 
 pub returns-in-Err : goal.returns-in-Err
-unfolding rename
 returns-in-Err c =
     let s = state_of c.args.store.now in
     let x = c.args.context.now in
     let a = c.args.asked.now in
-    told_error (moves_in s a (both s x)) s x Num.Rename (checked (both s x) (place_checks x a)) (row_checks s a) (what_moves s x c.args.now a) _ c.in-Err.status
-    (refuses_checked (both s x) (place_checks x a) (both_refuses s x) (λ p. refl)) (sym c.judge_rename.ensures ∙ c.in-Err.is) c.refuse-in-Err.ensures
+    let is : renaming s x a ≡ Err c.in-Err.status = sym c.judge_rename.ensures ∙ c.in-Err.is in
+    told_stop (moves_in s a (both s x)) s x Num.Rename (rename s x c.args.now a) _ c.in-Err.status ((renaming_refuses s x a).each _ is)
+    (errs (rename_asks s x c.args.now a) _ is) c.refuse-in-Err.ensures

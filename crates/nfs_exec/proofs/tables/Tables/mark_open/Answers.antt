@@ -1,4 +1,5 @@
 use Rattle.std.proofs.Common.{sym, ◌∙◌}
+use Rattle.nfs_compound.specs.declared.op.Item.TheVariants.{Operation}
 use Rattle.nfs_exec.specs.Machine.{machine_of}
 use Rattle.nfs_exec.specs.Behind.{moves_opens}
 use Rattle.nfs_exec.proofs.Behind.{marks_moved, marks_nothing}
@@ -6,9 +7,9 @@ use Rattle.nfs_exec.proofs.tables.Tables.mark_open.Goals as goal
 
 pub returns-then-moves_opens-clause-marked : goal.returns-then-moves_opens-clause-marked
 returns-then-moves_opens-clause-marked c =
-    marks_moved (moves_opens c.args.item.now) c.args.client (machine_of c.args.self.now) c.hold.new.self c.has_open.result
+    marks_moved (moves_opens (Operation c.args.op.now)) c.args.client (machine_of c.args.self.now) c.hold.new.self c.has_open.result
     (sym c.moves_opens.ensures ∙ c.if-moves_opens.true) c.has_open.ensures.found c.hold.ensures
 
 pub returns-else-moves_opens-clause-marked : goal.returns-else-moves_opens-clause-marked
 returns-else-moves_opens-clause-marked c =
-    marks_nothing (moves_opens c.args.item.now) c.args.client (machine_of c.args.self.now) (sym c.moves_opens.ensures ∙ c.if-moves_opens.false)
+    marks_nothing (moves_opens (Operation c.args.op.now)) c.args.client (machine_of c.args.self.now) (sym c.moves_opens.ensures ∙ c.if-moves_opens.false)

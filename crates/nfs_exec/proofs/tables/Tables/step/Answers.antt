@@ -1,31 +1,31 @@
-use Rattle.std.proofs.Common.{refl}
-use Rattle.nfs_names.specs.State.{state_of}
-use Rattle.nfs_exec.specs.Machine.{machine_of}
-use Rattle.nfs_exec.proofs.Behind.{none_named, named_steps, file_steps, other_steps}
+use Rattle.std.proofs.Common.{◌≡◌, ◌≤◌, ◌+◌, ◌∙◌, length, ap, sym, subst, arith}
+use Rattle.std.proofs.lemmas.List.{length-append}
+use Rattle.nfs_compound.specs.declared.op.Item.{Item}
+use Rattle.nfs_results.specs.declared.res.Res.{Res}
+use Rattle.nfs_results.specs.Largest.{largest}
+use Rattle.nfs_results.specs.Results.{spell_result}
+use Rattle.nfs_exec.proofs.Bearing.{refusal_short}
 use Rattle.nfs_exec.proofs.tables.Tables.step.Goals as goal
 
-pub returns-in-Some-clause-steps : goal.returns-in-Some-clause-steps
-returns-in-Some-clause-steps c =
-    named_steps (machine_of c.args.self.now) c.args.context.now c.args.now c.args.item.now c.args.out.now c.name_op.new.out c.name_op.result
-    c.in-Some.status (state_of c.name_op.new.store) c.name_op.new.context c.name_op.ensures.comes c.in-Some.is
+-- what a fault answers has 12 bytes at most
+short : (r k : Res) → r ≡ k → length (spell_result k) ≤ 12 → length (spell_result r) ≤ 12
+short r k is few = subst (λ (r : Res). length (spell_result r) ≤ 12) (sym is) few
 
-pub returns-in-Some-file_op-clause-steps : goal.returns-in-Some-file_op-clause-steps
-returns-in-Some-file_op-clause-steps c =
-    let m = machine_of c.args.self.now in
-    let i = c.args.item.now in
-    file_steps m (machine_of c.mark_open.new.self) c.args.context.now c.args.now i c.args.out.now c.name_op.new.out c.file_op.new.out
-    (state_of c.name_op.new.store) (state_of c.file_op.new.store) c.name_op.new.context c.file_op.new.context c.file_op.result c.in-Some-file_op.status
-    (none_named m c.args.context.now c.args.now i c.args.out.now c.name_op.new.out c.name_op.result (state_of c.name_op.new.store) c.name_op.new.context
-    c.name_op.ensures.comes c.in_default.is)
-    c.file_op.ensures.comes c.in-Some-file_op.is c.mark_open.ensures.marked
+pub write-requires-clause-room : goal.write-requires-clause-room
+write-requires-clause-room c = λ arrays.
+    (let few = short c.refusal.result _ c.refusal.ensures (refusal_short c.in-Fault.number c.in-Fault.status) in
+    let room = c.requires.room in
+    omega (arith, few, room))
 
-pub returns-clause-steps : goal.returns-clause-steps
-returns-clause-steps c =
-    let m = machine_of c.args.self.now in
-    let i = c.args.item.now in
-    other_steps m (record m { store = state_of c.file_op.new.store }) (machine_of c.otherwise-res.new.self) c.args.context.now c.args.now i
-    c.args.out.now c.name_op.new.out c.file_op.new.out c.write.new.out (state_of c.name_op.new.store) (state_of c.file_op.new.store)
-    c.name_op.new.context c.file_op.new.context c.file_op.result c.otherwise-res.result c.status.result
-    (none_named m c.args.context.now c.args.now i c.args.out.now c.name_op.new.out c.name_op.result (state_of c.name_op.new.store) c.name_op.new.context
-    c.name_op.ensures.comes c.in_default.is)
-    c.file_op.ensures.comes c.in_default-file_op.is refl c.otherwise-res.ensures.outcome c.status.ensures c.write.ensures
+pub returns-in-Fault-clause-fits : goal.returns-in-Fault-clause-fits
+returns-in-Fault-clause-fits c =
+    let few = short c.refusal.result _ c.refusal.ensures (refusal_short c.in-Fault.number c.in-Fault.status) in
+    let long = ap length c.write.ensures.bytes ∙ length-append c.args.out.now.bytes (spell_result c.refusal.result) in
+    omega (arith, few, long)
+
+pub returns-in-Fault-clause-more : goal.returns-in-Fault-clause-more
+returns-in-Fault-clause-more c = λ ok.
+    (let few = short c.refusal.result _ c.refusal.ensures (refusal_short c.in-Fault.number c.in-Fault.status) in
+    let long = ap length c.write.ensures.bytes ∙ length-append c.args.out.now.bytes (spell_result c.refusal.result) in
+    let most : largest c.args.item.now ≡ 64 = ap largest c.in-Fault.is in
+    omega (arith, few, long, most))

@@ -11,7 +11,7 @@ use Rattle.nfs_opens.specs.declared.records.OpenState.{OpenState}
 use Rattle.nfs_opens.specs.Holding.{held_by}
 use Rattle.nfs_opens.specs.Judging.{judge}
 use Rattle.nfs_opens.specs.StateId.{next_seqid}
-use Rattle.nfs_opens.specs.Steps.{◌>>=◌, require}
+use Rattle.nfs_opens.specs.Steps.{◌>>=◌, ◌>>◌, require}
 use Rattle.nfs_opens.specs.Table.{Kept, Table, with_open, table, table_after, answer_of, open_at}
 use Rattle.nfs_opens.specs.TableInvariants.{IsTable}
 use Rattle.nfs_opens.specs.Opening.{downgrade, is_narrower, narrows}
@@ -29,7 +29,7 @@ found c o is = sym c.get.ensures ∙ is
 -- what a downgrade comes to by what is found, and by whether it has what is left
 abbrev by_bits : Table → StateId → Share → Share → OpenState → Bool → Result (StateId × Table) Status
 by_bits t id access deny o b = do
-  u ← require b Inval
+  require b Inval
   Ok (record { seqid = next_seqid o.seqid; instance = t.instance; number = id.number }, with_open t id.number (narrows access deny))
 
 abbrev by_state : Table → StateId → Share → Share → Option OpenState → Result (StateId × Table) Status

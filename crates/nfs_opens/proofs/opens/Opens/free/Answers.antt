@@ -10,7 +10,7 @@ use Rattle.nfs_opens.specs.declared.judging.Sort.TheVariants.{Either}
 use Rattle.nfs_opens.specs.declared.stateid.StateId.{StateId}
 use Rattle.nfs_opens.specs.declared.records.LockState.{LockState}
 use Rattle.nfs_opens.specs.Holding.{held_by}
-use Rattle.nfs_opens.specs.Steps.{◌>>=◌, require}
+use Rattle.nfs_opens.specs.Steps.{◌>>=◌, ◌>>◌, require}
 use Rattle.nfs_opens.specs.Table.{Kept, Table, table, answer_of, table_after, lock_at}
 use Rattle.nfs_opens.specs.TableInvariants.{AreHolders, IsTable}
 use Rattle.nfs_opens.specs.Judging.{judge}
@@ -24,7 +24,7 @@ use Rattle.nfs_opens.proofs.opens.Opens.free.Goals as goal
 -- what it comes to by what is found under the number, and by whether that holds a byte
 abbrev by_held : Table → ℕ → Bool → Result (Unit {0} × Table) Status
 by_held t n held = do
-  u ← require (not held) LocksHeld
+  require (not held) LocksHeld
   Ok (tt, without_lock t n)
 
 abbrev by_state : Table → ℕ → Option LockState → Result (Unit {0} × Table) Status

@@ -9,12 +9,11 @@ use Rattle.nfs_names.specs.StoreInvariants.{IsStore}
 use Rattle.nfs_names.specs.Outcome.{Outcome, is_delay}
 use Rattle.nfs_names.proofs.Whole.{within, bounded_may, room_may}
 use Rattle.nfs_files.specs.Operation.{comes_to}
-use Rattle.nfs_files.proofs.Arms.{no_file_op}
 use Rattle.nfs_files.proofs.ByteAnswers.{may_read_bytes}
 use Rattle.nfs_files.proofs.StraightAnswers.{short_within, short_lock, short_lock_t, short_test}
 use Rattle.nfs_files.proofs.Whole.{keeps, is_plain}
 use Rattle.nfs_files.proofs.Sound.{sound_item}
-use Rattle.nfs_files.proofs.operation.on_files.Goals as goal
+use Rattle.nfs_files.proofs.operation.file_op.Goals as goal
 
 pub returns-in-Lock-clause-store : goal.returns-in-Lock-clause-store
 returns-in-Lock-clause-store c =
@@ -46,16 +45,6 @@ returns-in-Read-clause-within c =
     let a = c.in-Read.asked in
     subst (λ (i : Item). length c.read.new.out.bytes ≤ length c.args.out.now.bytes + largest i) (sym (ap Operation c.in-Read.is))
     (within (Operation (Op.Read a)) _ c.args.out.now c.read.new.out (may_read_bytes (state_of c.args.store.now) c.args.context.now a) c.read.ensures.put)
-
-pub returns-in_default-clause-comes : goal.returns-in_default-clause-comes
-returns-in_default-clause-comes c =
-    let n = c.in_default in (
-      λ refused. no_file_op refused (state_of c.args.store.now) c.args.context.now (moment c.args.now) c.args.op.now n.not-Close n.not-Commit n.not-FreeStateid
-          n.not-Lock n.not-LockT n.not-LockU n.not-Open n.not-OpenDowngrade n.not-Read n.not-SetAttr n.not-TestStateid n.not-Write,
-      refl,
-      refl,
-      refl,
-    )
 
 pub write-requires : goal.write-requires
 write-requires c =

@@ -12,34 +12,34 @@ use Rattle.nfs_names.specs.State.{State, state_of, moment}
 use Rattle.nfs_names.specs.StoreInvariants.{IsStore}
 use Rattle.nfs_names.specs.Outcome.{is_delay}
 use Rattle.nfs_names.specs.Operation.{comes_to}
-use Rattle.nfs_names.proofs.Bounds.{may_get_attr, may_get_fh, may_read_dir, may_read_link}
+use Rattle.nfs_names.proofs.Bounds.{answers_one}
 use Rattle.nfs_names.proofs.Ones.{each_of}
 use Rattle.nfs_names.proofs.Whole.{Keeps, keeps, within, bounded_may, room_may}
-use Rattle.nfs_names.proofs.operation.on_names.Goals as goal
+use Rattle.nfs_names.proofs.operation.name_op.Goals as goal
 
 pub returns-in-GetAttr-clause-within : goal.returns-in-GetAttr-clause-within
 returns-in-GetAttr-clause-within c =
     let words = c.in-GetAttr.attr_request in
     subst (λ (i : Item). length c.get_attr.new.out.bytes ≤ length c.args.out.now.bytes + largest i) (sym (ap Operation c.in-GetAttr.is))
     (within (Operation (Op.GetAttr words)) _ c.args.out.now c.get_attr.new.out
-    (may_get_attr (state_of c.args.store.now) c.args.context.now words) c.get_attr.ensures.put)
+    (answers_one (state_of c.args.store.now) c.args.context.now (moment c.args.now) (Op.GetAttr words)).is c.get_attr.ensures.put)
 
 pub returns-in-GetFh-clause-within : goal.returns-in-GetFh-clause-within
 returns-in-GetFh-clause-within c =
     subst (λ (i : Item). length c.get_fh.new.out.bytes ≤ length c.args.out.now.bytes + largest i) (sym (ap Operation c.in-GetFh.is))
-    (within (Operation Op.GetFh) _ c.args.out.now c.get_fh.new.out (may_get_fh (state_of c.args.store.now) c.args.context.now) c.get_fh.ensures.put)
+    (within (Operation Op.GetFh) _ c.args.out.now c.get_fh.new.out (answers_one (state_of c.args.store.now) c.args.context.now (moment c.args.now) Op.GetFh).is c.get_fh.ensures.put)
 
 pub returns-in-ReadDir-clause-within : goal.returns-in-ReadDir-clause-within
 returns-in-ReadDir-clause-within c =
     let a = c.in-ReadDir.asked in
     subst (λ (i : Item). length c.read_dir.new.out.bytes ≤ length c.args.out.now.bytes + largest i) (sym (ap Operation c.in-ReadDir.is))
     (within (Operation (Op.ReadDir a)) _ c.args.out.now c.read_dir.new.out
-    (may_read_dir (state_of c.args.store.now) c.args.context.now a) c.read_dir.ensures.put)
+    (answers_one (state_of c.args.store.now) c.args.context.now (moment c.args.now) (Op.ReadDir a)).is c.read_dir.ensures.put)
 
 pub returns-in-ReadLink-clause-within : goal.returns-in-ReadLink-clause-within
 returns-in-ReadLink-clause-within c =
     subst (λ (i : Item). length c.read_link.new.out.bytes ≤ length c.args.out.now.bytes + largest i) (sym (ap Operation c.in-ReadLink.is))
-    (within (Operation Op.ReadLink) _ c.args.out.now c.read_link.new.out (may_read_link (state_of c.args.store.now) c.args.context.now) c.read_link.ensures.put)
+    (within (Operation Op.ReadLink) _ c.args.out.now c.read_link.new.out (answers_one (state_of c.args.store.now) c.args.context.now (moment c.args.now) Op.ReadLink).is c.read_link.ensures.put)
 
 -- what was found of an operation whose result is put behind the match
 kept : (s : State) (x : Context) (now : Time) (i : Item) (r : Res) (left : State) (behind : Context) → IsTree s.tree → IsStore s

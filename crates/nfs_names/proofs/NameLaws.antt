@@ -1,0 +1,279 @@
+-- What an operation on names found if it was done, and what it came to: a law for each. If it was refused, it was for a reason of its own.
+use Rattle.std.proofs.Common.{◌≡◌, ℕ, ◌+◌, Bool, true, List, [], ◌∷◌, Option, Some, None, refl}
+use Rattle.std.specs.Prelude.{◌==◌, Result, Ok, Err, not, is_some}
+use Rattle.nfs_xdr.specs.Checks.{first_fault}
+use Rattle.nfs_xdr.specs.declared.time.Time.{Time}
+use Rattle.nfs_xdr.specs.declared.status.Status.{Status}
+use Rattle.nfs_xdr.specs.declared.status.Status.TheVariants.{IsDir, Symlink, Inval, Stale, NoEnt, BadHandle, NoFileHandle, WrongType, NotSame, Same, TooSmall}
+use Rattle.nfs_compound.specs.declared.op_num.OpNum.{OpNum}
+use Rattle.nfs_compound.specs.declared.op_num.OpNum.TheVariants as Num
+use Rattle.nfs_compound.specs.declared.attributes.Attributes.{Attributes}
+use Rattle.nfs_compound.specs.declared.name_args.Create.{Create}
+use Rattle.nfs_compound.specs.declared.name_args.ReadDir.{ReadDir}
+use Rattle.nfs_compound.specs.declared.name_args.Rename.{Rename}
+use Rattle.nfs_compound.specs.declared.name_args.SecinfoStyle.{SecinfoStyle}
+use Rattle.nfs_compound.specs.declared.name_args.SecinfoStyle.TheVariants.{CurrentFh, Parent}
+use Rattle.nfs_results.specs.declared.res.Res.TheVariants as Res
+use Rattle.nfs_tree.specs.declared.object.Object.{Object}
+use Rattle.nfs_tree.specs.Bytes.{part}
+use Rattle.nfs_tree.specs.Files.{most_text, raised, named, object_at, parent_in, lookup as found}
+use Rattle.nfs_tree.specs.Create.{create_checks, with_new}
+use Rattle.nfs_tree.specs.Names.{link_checks, with_link, moves, remove_checks, rename_checks, without_name}
+use Rattle.nfs_tree.specs.Object.{is_directory}
+use Rattle.nfs_attrs.specs.declared.handle.Handle.{Handle}
+use Rattle.nfs_attrs.specs.declared.wanted.AttrFault.{AttrFault}
+use Rattle.nfs_attrs.specs.declared.wanted.AttrFault.TheVariants as F
+use Rattle.nfs_attrs.specs.declared.wanted.Wanted.{Wanted}
+use Rattle.nfs_attrs.specs.Handle.{handle_of}
+use Rattle.nfs_attrs.specs.Mask.{mask_of, asks_set_only, trimmed_words}
+use Rattle.nfs_attrs.specs.Permissions.{change, execute, judge_access}
+use Rattle.nfs_attrs.specs.Reading.{fault_status}
+use Rattle.nfs_attrs.specs.Setting.{make_checks}
+use Rattle.nfs_attrs.specs.Wire.{nfs_fh4}
+use Rattle.nfs_opens.specs.Steps.{map_err}
+use Rattle.nfs_names.specs.declared.context.Context.{Context}
+use Rattle.nfs_names.specs.declared.context.Saved.{Saved}
+use Rattle.nfs_names.specs.declared.node.Node.{Node}
+use Rattle.nfs_names.specs.declared.node.Pair.{Pair}
+use Rattle.nfs_names.specs.State.{State, with_tree, without_unused}
+use Rattle.nfs_names.specs.Context.{at_object}
+use Rattle.nfs_names.specs.Outcome.{Outcome, done, refuses}
+use Rattle.nfs_names.specs.Checks.{node_as, node_at, saved_object, current, both, no_directory, denied, name_checks}
+use Rattle.nfs_names.specs.Faults.{by_tree}
+use Rattle.nfs_names.specs.Attributes.{attributes_of}
+use Rattle.nfs_names.specs.Access.{told_access, access}
+use Rattle.nfs_names.specs.Create.{attributes_in, change_info, create, new_of, place_checks, sets_of, wanted_of}
+use Rattle.nfs_names.specs.GetAttr.{get_attr}
+use Rattle.nfs_names.specs.GetFh.{get_fh}
+use Rattle.nfs_names.specs.Link.{link}
+use Rattle.nfs_names.specs.Lookup.{lookup, is_link}
+use Rattle.nfs_names.specs.LookupP.{lookup_p}
+use Rattle.nfs_names.specs.NVerify.{nverify}
+use Rattle.nfs_names.specs.PutFh.{put_fh}
+use Rattle.nfs_names.specs.ReadDir.{listing_checks, fits_none, listed, read_dir}
+use Rattle.nfs_names.specs.ReadLink.{read_link}
+use Rattle.nfs_names.specs.Remove.{remove}
+use Rattle.nfs_names.specs.Rename as of_rename
+use Rattle.nfs_names.specs.Rename.{move_of, renamed, rename}
+use Rattle.nfs_names.specs.RestoreFh.{restore_fh}
+use Rattle.nfs_names.specs.SaveFh.{save_fh}
+use Rattle.nfs_names.specs.SecinfoNoName.{style_checks, secinfo_no_name}
+use Rattle.nfs_names.specs.Verify.{same_at, compared, verify}
+use Rattle.nfs_names.proofs.Rows.{tree_passes}
+use Rattle.nfs_names.proofs.Refusing.{IsRefusal, refusal_by, Refuses, all_refuse, err_refuses, ok_refuses, refuses_then}
+use Rattle.nfs_names.proofs.Steps.{ends_found, ends_there, ends_held, ends_passed, by_steps}
+
+-- What is looked up.
+
+node_refuses_as : (n : ℕ) (o : Option Object) → Refuses (node_as n o)
+node_refuses_as n None = err_refuses Stale (refusal_by Stale refl)
+node_refuses_as n (Some o) = ok_refuses _
+
+pub node_refuses : (s : State) (o : Option ℕ) → Refuses (node_at s o)
+node_refuses s None = err_refuses NoFileHandle (refusal_by NoFileHandle refl)
+node_refuses s (Some n) = node_refuses_as n (object_at s.tree n)
+
+pub current_refuses : (s : State) (x : Context) → Refuses (current s x)
+unfolding current
+current_refuses s x = node_refuses s x.current
+
+pub both_refuses : (s : State) (x : Context) → Refuses (both s x)
+unfolding both
+both_refuses s x = refuses_then (current s x) _ (current_refuses s x) (λ d.
+    refuses_then (node_at s (saved_object x.saved)) _ (node_refuses s (saved_object x.saved)) (λ e. ok_refuses _))
+
+attribute_refusal : (f : AttrFault) → IsRefusal (fault_status f)
+attribute_refusal F.AttrNotSupp = refusal_by _ refl
+attribute_refusal F.Inval = refusal_by _ refl
+attribute_refusal F.BadXdr = refusal_by _ refl
+attribute_refusal F.BadOwner = refusal_by _ refl
+
+read_refuses : {A : Type 0} (v : Result A AttrFault) → Refuses (map_err fault_status v)
+read_refuses (Err f) = err_refuses (fault_status f) (attribute_refusal f)
+read_refuses (Ok a) = ok_refuses a
+
+pub wanted_refuses : (a : Attributes) → Refuses (attributes_in a)
+wanted_refuses a = read_refuses (wanted_of a)
+
+compared_refuses : (s : State) (x : Context) (a : Attributes) → Refuses (compared s x a)
+compared_refuses s x a = refuses_then (current s x) _ (current_refuses s x) (λ d. read_refuses (same_at s a d))
+
+style_refuse : (s : State) (style : SecinfoStyle) (d : Node) → all_refuse (style_checks s style d) ≡ true
+style_refuse s CurrentFh d = refl
+style_refuse s Parent d = refl
+
+-- What is refused, whatever follows.
+abbrev pub Refused : (Outcome → Type 0) → State → Context → OpNum → Type 0
+Refused P s x op = (f : Status) → IsRefusal f → P (refuses s x op f)
+
+-- What operations that change the tree come to.
+
+abbrev pub removed : State → Context → Time → List ℕ → Node → Outcome
+removed s x now name d = record {
+  result = Res.Remove (change_info (raised s.tree d.number));
+  state = without_unused (with_tree s (without_name s.tree d.number name now)) (named s.tree d.number name);
+  context = x;
+}
+
+abbrev pub linked : State → Context → Time → List ℕ → Pair → Outcome
+linked s x now name p = record {
+  result = Res.Link (change_info (raised s.tree p.current.number));
+  state = with_tree s (with_link s.tree p.saved.number p.current.number name now);
+  context = x;
+}
+
+abbrev pub created : State → Context → Time → Create → Node → Wanted → Outcome
+created s x now c d wanted = record {
+  result = Res.Create (record { cinfo = change_info (raised s.tree d.number); attrset = trimmed_words (mask_of c.createattrs.attrmask) });
+  state = with_tree s (with_new s.tree d.number c.objname (new_of c.objtype) (sets_of x now (new_of c.objtype) wanted) now);
+  context = at_object x (s.tree.last_object + 1);
+}
+
+-- What is looked at first.
+
+abbrev pub link_places : Context → List ℕ → Pair → List (Bool × Status)
+link_places x name p = no_directory p.current ∷ (is_directory p.saved.object.kind, IsDir) ∷ denied x p.current change ∷ name_checks name
+
+abbrev lookup_places : Context → List ℕ → Node → List (Bool × Status)
+lookup_places x name d = (is_link d.object.kind, Symlink) ∷ no_directory d ∷ denied x d execute ∷ name_checks name
+
+abbrev lookup_p_places : Context → Node → List (Bool × Status)
+lookup_p_places x d = no_directory d ∷ denied x d execute ∷ []
+
+abbrev handle_places : State → Handle → List (Bool × Status)
+handle_places s h = (not (h.instance == s.instance), Stale) ∷ (not (is_some (object_at s.tree h.number)), Stale) ∷ []
+
+abbrev pub remove_places : Context → List ℕ → Node → List (Bool × Status)
+remove_places x name d = no_directory d ∷ denied x d change ∷ name_checks name
+
+-- The laws.
+
+module _ (P : Outcome → Type 0) (s : State) (x : Context) where
+  pub by_access : (asked : ℕ) → Refused P s x Num.Access
+      → ((d : Node) → current s x ≡ Ok d → P (done s x (Res.Access (told_access (judge_access d.object x.who asked))))) → P (access s x asked)
+  unfolding access
+  by_access asked refused then = by_steps P s x Num.Access _ refused (ends_found P _ _ (current_refuses s x) then)
+
+  pub by_create : (now : Time) (c : Create) → Refused P s x Num.Create
+      → ((d : Node) (wanted : Wanted) → current s x ≡ Ok d → first_fault (place_checks x c d) ≡ None → attributes_in c.createattrs ≡ Ok wanted
+          → first_fault (create_checks s.tree d.number c.objname (new_of c.objtype)) ≡ None → P (created s x now c d wanted))
+      → P (create s x now c)
+  unfolding create
+  by_create now c refused then = by_steps P s x Num.Create _ refused (ends_found P (current s x) _ (current_refuses s x) (λ d there.
+      ends_passed P (place_checks x c d) _ refl (λ placed. ends_found P (attributes_in c.createattrs) _ (wanted_refuses c.createattrs) (λ wanted read.
+      ends_passed P (make_checks wanted x.who) _ refl (λ may. ends_held P (not (is_some wanted.size)) Inval _ refl (λ unsized.
+      (let row = create_checks s.tree d.number c.objname (new_of c.objtype) in
+      ends_passed P (by_tree row) _ refl (λ none. then d wanted there placed read (tree_passes row none)))))))))
+
+  pub by_get_attr : (words : List ℕ) → Refused P s x Num.GetAttr
+      → ((d : Node) → current s x ≡ Ok d → not (asks_set_only (mask_of words)) ≡ true → P (done s x (Res.GetAttr (attributes_of s (mask_of words) d))))
+      → P (get_attr s x words)
+  unfolding get_attr
+  by_get_attr words refused then = by_steps P s x Num.GetAttr _ refused (ends_found P (current s x) _ (current_refuses s x) (λ d there.
+      ends_held P (not (asks_set_only (mask_of words))) Inval _ refl (then d there)))
+
+  pub by_get_fh : Refused P s x Num.GetFh
+      → ((d : Node) → current s x ≡ Ok d → P (done s x (Res.GetFh (nfs_fh4 (record { instance = s.instance; number = d.number })).bytes))) → P (get_fh s x)
+  unfolding get_fh
+  by_get_fh refused then = by_steps P s x Num.GetFh _ refused (ends_found P _ _ (current_refuses s x) then)
+
+  pub by_link : (now : Time) (name : List ℕ) → Refused P s x Num.Link
+      → ((p : Pair) → both s x ≡ Ok p
+          → first_fault (link_places x name p) ≡ None
+          → first_fault (link_checks s.tree p.saved.number p.current.number name) ≡ None → P (linked s x now name p))
+      → P (link s x now name)
+  unfolding link
+  by_link now name refused then = by_steps P s x Num.Link _ refused (ends_found P (both s x) _ (both_refuses s x) (λ p there.
+      ends_passed P (link_places x name p) _ refl (λ placed.
+      (let row = link_checks s.tree p.saved.number p.current.number name in ends_passed P (by_tree row) _ refl (λ none. then p there placed (tree_passes row none))))))
+
+  pub by_lookup : (name : List ℕ) → Refused P s x Num.Lookup
+      → ((d : Node) (n : ℕ) → current s x ≡ Ok d
+          → first_fault (lookup_places x name d) ≡ None
+          → found s.tree d.number name ≡ Some n → P (done s (at_object x n) Res.Lookup))
+      → P (lookup s x name)
+  unfolding lookup
+  by_lookup name refused then = by_steps P s x Num.Lookup _ refused (ends_found P (current s x) _ (current_refuses s x) (λ d there.
+      ends_passed P (lookup_places x name d) _ refl (λ placed. ends_there P (found s.tree d.number name) NoEnt _ refl (λ n named. then d n there placed named))))
+
+  pub by_lookup_p : Refused P s x Num.LookupP
+      → ((d : Node) (n : ℕ) → current s x ≡ Ok d → first_fault (lookup_p_places x d) ≡ None
+          → parent_in s.tree.rows d.number ≡ Some n → P (done s (at_object x n) Res.LookupP))
+      → P (lookup_p s x)
+  unfolding lookup_p
+  by_lookup_p refused then = by_steps P s x Num.LookupP _ refused (ends_found P (current s x) _ (current_refuses s x) (λ d there.
+      ends_passed P (lookup_p_places x d) _ refl (λ placed. ends_there P (parent_in s.tree.rows d.number) NoEnt _ refl (λ n stands. then d n there placed stands))))
+
+  pub by_nverify : (a : Attributes) → Refused P s x Num.NVerify
+      → ((equal : Bool) → compared s x a ≡ Ok equal → not equal ≡ true → P (done s x Res.NVerify)) → P (nverify s x a)
+  unfolding nverify
+  by_nverify a refused then = by_steps P s x Num.NVerify _ refused (ends_found P (compared s x a) _ (compared_refuses s x a) (λ equal e.
+      ends_held P (not equal) Same _ refl (then equal e)))
+
+  pub by_put_fh : (object : List ℕ) → Refused P s x Num.PutFh
+      → ((h : Handle) → handle_of object ≡ Some h
+          → first_fault (handle_places s h) ≡ None
+          → P (done s (at_object x h.number) Res.PutFh))
+      → P (put_fh s x object)
+  unfolding put_fh
+  by_put_fh object refused then = by_steps P s x Num.PutFh _ refused (ends_there P (handle_of object) BadHandle _ refl (λ h read.
+      ends_passed P (handle_places s h) _ refl (then h read)))
+
+  pub by_read_dir : (a : ReadDir) → Refused P s x Num.ReadDir
+      → ((d : Node) → current s x ≡ Ok d → first_fault (listing_checks x a d) ≡ None → not (fits_none s a d) ≡ true
+          → P (done s x (Res.ReadDir (listed s a d))))
+      → P (read_dir s x a)
+  unfolding read_dir
+  by_read_dir a refused then = by_steps P s x Num.ReadDir _ refused (ends_found P (current s x) _ (current_refuses s x) (λ d there.
+      ends_passed P (listing_checks x a d) _ refl (λ placed. ends_held P (not (fits_none s a d)) TooSmall _ refl (then d there placed))))
+
+  pub by_read_link : Refused P s x Num.ReadLink
+      → ((d : Node) → current s x ≡ Ok d → is_link d.object.kind ≡ true → P (done s x (Res.ReadLink (part s.tree d.number 0 most_text))))
+      → P (read_link s x)
+  unfolding read_link
+  by_read_link refused then = by_steps P s x Num.ReadLink _ refused (ends_found P (current s x) _ (current_refuses s x) (λ d there.
+      ends_held P (is_link d.object.kind) WrongType _ refl (then d there)))
+
+  pub by_remove : (now : Time) (name : List ℕ) → Refused P s x Num.Remove
+      → ((d : Node) → current s x ≡ Ok d → first_fault (remove_places x name d) ≡ None
+          → first_fault (remove_checks s.tree d.number name) ≡ None → P (removed s x now name d))
+      → P (remove s x now name)
+  unfolding remove
+  by_remove now name refused then = by_steps P s x Num.Remove _ refused (ends_found P (current s x) _ (current_refuses s x) (λ d there.
+      ends_passed P (remove_places x name d) _ refl (λ placed.
+      (let row = remove_checks s.tree d.number name in ends_passed P (by_tree row) _ refl (λ none. then d there placed (tree_passes row none))))))
+
+  pub by_rename : (now : Time) (a : Rename) → Refused P s x Num.Rename
+      → ((p : Pair) → both s x ≡ Ok p → first_fault (rename_checks s.tree (move_of a p)) ≡ None → P (renamed s x now a p (moves s.tree (move_of a p))))
+      → P (rename s x now a)
+  unfolding rename
+  by_rename now a refused then = by_steps P s x Num.Rename _ refused (ends_found P (both s x) _ (both_refuses s x) (λ p there.
+      ends_passed P (of_rename.place_checks x a p) _ refl (λ placed.
+      (let row = rename_checks s.tree (move_of a p) in ends_passed P (by_tree row) _ refl (λ none. then p there (tree_passes row none))))))
+
+  pub by_restore_fh : Refused P s x Num.RestoreFh
+      → ((saved : Saved) → x.saved ≡ Some saved → is_some (object_at s.tree saved.object) ≡ true
+          → P (done s (record x { current = Some saved.object; stateid = saved.stateid }) Res.RestoreFh))
+      → P (restore_fh s x)
+  unfolding restore_fh
+  by_restore_fh refused then = by_steps P s x Num.RestoreFh _ refused (ends_there P x.saved NoFileHandle _ refl (λ saved kept.
+      ends_held P (is_some (object_at s.tree saved.object)) Stale _ refl (then saved kept)))
+
+  pub by_save_fh : Refused P s x Num.SaveFh
+      → ((d : Node) → current s x ≡ Ok d → P (done s (record x { saved = Some (record { object = d.number; stateid = x.stateid }) }) Res.SaveFh))
+      → P (save_fh s x)
+  unfolding save_fh
+  by_save_fh refused then = by_steps P s x Num.SaveFh _ refused (ends_found P _ _ (current_refuses s x) then)
+
+  pub by_secinfo_no_name : (style : SecinfoStyle) → Refused P s x Num.SecinfoNoName
+      → ((d : Node) → current s x ≡ Ok d → first_fault (style_checks s style d) ≡ None → P (done s (record x { current = None }) (Res.SecinfoNoName (1 ∷ []))))
+      → P (secinfo_no_name s x style)
+  unfolding secinfo_no_name
+  by_secinfo_no_name style refused then = by_steps P s x Num.SecinfoNoName _ refused (ends_found P (current s x) _ (current_refuses s x) (λ d there.
+      ends_passed P (style_checks s style d) _ (style_refuse s style d) (then d there)))
+
+  pub by_verify : (a : Attributes) → Refused P s x Num.Verify
+      → ((equal : Bool) → compared s x a ≡ Ok equal → equal ≡ true → P (done s x Res.Verify)) → P (verify s x a)
+  unfolding verify
+  by_verify a refused then = by_steps P s x Num.Verify _ refused (ends_found P (compared s x a) _ (compared_refuses s x a) (λ equal e.
+      ends_held P equal NotSame _ refl (then equal e)))
