@@ -30,5 +30,5 @@ pub first_number : (op : Op) (n : OpNum) → (arguments op).op ≡ n ↔ take 4 
 first_number op n = (
   λ e. begins op ∙ ap (λ n. number (op_number n)) e,
   λ e. one_op (arguments op).op n
-    (one_number _ _ (is_op_listing.small (arguments op).op) (is_op_listing.small n) (sym (begins op) ∙ e)),
+      (one_number _ _ (is_op_listing.small (arguments op).op) (is_op_listing.small n) (sym (begins op) ∙ e)),
 )

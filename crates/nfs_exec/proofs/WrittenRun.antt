@@ -1,6 +1,6 @@
 -- A byte that was written lasts through compounds and expiry.
 use Rattle.std.proofs.Common.{◌≡◌, ℕ, suc, ◌+◌, ◌<◌, Bool, true, false, cond, eqb, not, List, [], ◌∷◌, ◌++◌, get_or, Option, Some, None, refl, sym, ◌∙◌, ap, subst, arith, inl, inr}
-use Rattle.std.specs.Prelude.{◌==◌, ◌||◌, is_some, option_map, Ok}
+use Rattle.std.specs.Prelude.{◌==◌, ◌||◌, is_some, option_map}
 use Rattle.std.specs.Option.{option_map_or}
 use Rattle.std.proofs.lemmas.Bool.{cases_Bool, cases_eq, eqb-true, eq-eqb, false≢true}
 use Rattle.nfs_xdr.specs.Caller.{Caller}
@@ -25,7 +25,6 @@ use Rattle.nfs_tree.specs.declared.row.Row.{Row}
 use Rattle.nfs_tree.specs.declared.stored.Stored.{Stored}
 use Rattle.nfs_tree.specs.Object.{is_directory, is_regular}
 use Rattle.nfs_tree.specs.Files.{root, stored_in, object_at, is_there, has_row}
-use Rattle.nfs_attrs.specs.declared.handle.Handle.{Handle}
 use Rattle.nfs_attrs.specs.Handle.{handle_of}
 use Rattle.nfs_names.specs.declared.context.Context.{Context}
 use Rattle.nfs_names.specs.Context.{begins, at_object}

@@ -156,7 +156,7 @@ module _ (P : Outcome → Type 0) (s : State) (x : Context) where
 
   pub by_create : (now : Time) (c : Create) → Refused P s x Num.Create
       → ((d : Node) (wanted : Wanted) → current s x ≡ Ok d → first_fault (place_checks x c d) ≡ None → attributes_in c.createattrs ≡ Ok wanted
-          → first_fault (create_checks s.tree d.number c.objname (new_of c.objtype)) ≡ None → P (created s x now c d wanted))
+      → first_fault (create_checks s.tree d.number c.objname (new_of c.objtype)) ≡ None → P (created s x now c d wanted))
       → P (create s x now c)
   unfolding create
   by_create now c refused then = by_steps P s x Num.Create _ refused (ends_found P (current s x) _ (current_refuses s x) (λ d there.
@@ -179,8 +179,8 @@ module _ (P : Outcome → Type 0) (s : State) (x : Context) where
 
   pub by_link : (now : Time) (name : List ℕ) → Refused P s x Num.Link
       → ((p : Pair) → both s x ≡ Ok p
-          → first_fault (link_places x name p) ≡ None
-          → first_fault (link_checks s.tree p.saved.number p.current.number name) ≡ None → P (linked s x now name p))
+      → first_fault (link_places x name p) ≡ None
+      → first_fault (link_checks s.tree p.saved.number p.current.number name) ≡ None → P (linked s x now name p))
       → P (link s x now name)
   unfolding link
   by_link now name refused then = by_steps P s x Num.Link _ refused (ends_found P (both s x) _ (both_refuses s x) (λ p there.
@@ -189,8 +189,8 @@ module _ (P : Outcome → Type 0) (s : State) (x : Context) where
 
   pub by_lookup : (name : List ℕ) → Refused P s x Num.Lookup
       → ((d : Node) (n : ℕ) → current s x ≡ Ok d
-          → first_fault (lookup_places x name d) ≡ None
-          → found s.tree d.number name ≡ Some n → P (done s (at_object x n) Res.Lookup))
+      → first_fault (lookup_places x name d) ≡ None
+      → found s.tree d.number name ≡ Some n → P (done s (at_object x n) Res.Lookup))
       → P (lookup s x name)
   unfolding lookup
   by_lookup name refused then = by_steps P s x Num.Lookup _ refused (ends_found P (current s x) _ (current_refuses s x) (λ d there.
@@ -198,7 +198,7 @@ module _ (P : Outcome → Type 0) (s : State) (x : Context) where
 
   pub by_lookup_p : Refused P s x Num.LookupP
       → ((d : Node) (n : ℕ) → current s x ≡ Ok d → first_fault (lookup_p_places x d) ≡ None
-          → parent_in s.tree.rows d.number ≡ Some n → P (done s (at_object x n) Res.LookupP))
+      → parent_in s.tree.rows d.number ≡ Some n → P (done s (at_object x n) Res.LookupP))
       → P (lookup_p s x)
   unfolding lookup_p
   by_lookup_p refused then = by_steps P s x Num.LookupP _ refused (ends_found P (current s x) _ (current_refuses s x) (λ d there.
@@ -212,8 +212,8 @@ module _ (P : Outcome → Type 0) (s : State) (x : Context) where
 
   pub by_put_fh : (object : List ℕ) → Refused P s x Num.PutFh
       → ((h : Handle) → handle_of object ≡ Some h
-          → first_fault (handle_places s h) ≡ None
-          → P (done s (at_object x h.number) Res.PutFh))
+      → first_fault (handle_places s h) ≡ None
+      → P (done s (at_object x h.number) Res.PutFh))
       → P (put_fh s x object)
   unfolding put_fh
   by_put_fh object refused then = by_steps P s x Num.PutFh _ refused (ends_there P (handle_of object) BadHandle _ refl (λ h read.
@@ -221,7 +221,7 @@ module _ (P : Outcome → Type 0) (s : State) (x : Context) where
 
   pub by_read_dir : (a : ReadDir) → Refused P s x Num.ReadDir
       → ((d : Node) → current s x ≡ Ok d → first_fault (listing_checks x a d) ≡ None → not (fits_none s a d) ≡ true
-          → P (done s x (Res.ReadDir (listed s a d))))
+      → P (done s x (Res.ReadDir (listed s a d))))
       → P (read_dir s x a)
   unfolding read_dir
   by_read_dir a refused then = by_steps P s x Num.ReadDir _ refused (ends_found P (current s x) _ (current_refuses s x) (λ d there.
@@ -236,7 +236,7 @@ module _ (P : Outcome → Type 0) (s : State) (x : Context) where
 
   pub by_remove : (now : Time) (name : List ℕ) → Refused P s x Num.Remove
       → ((d : Node) → current s x ≡ Ok d → first_fault (remove_places x name d) ≡ None
-          → first_fault (remove_checks s.tree d.number name) ≡ None → P (removed s x now name d))
+      → first_fault (remove_checks s.tree d.number name) ≡ None → P (removed s x now name d))
       → P (remove s x now name)
   unfolding remove
   by_remove now name refused then = by_steps P s x Num.Remove _ refused (ends_found P (current s x) _ (current_refuses s x) (λ d there.
@@ -253,7 +253,7 @@ module _ (P : Outcome → Type 0) (s : State) (x : Context) where
 
   pub by_restore_fh : Refused P s x Num.RestoreFh
       → ((saved : Saved) → x.saved ≡ Some saved → is_some (object_at s.tree saved.object) ≡ true
-          → P (done s (record x { current = Some saved.object; stateid = saved.stateid }) Res.RestoreFh))
+      → P (done s (record x { current = Some saved.object; stateid = saved.stateid }) Res.RestoreFh))
       → P (restore_fh s x)
   unfolding restore_fh
   by_restore_fh refused then = by_steps P s x Num.RestoreFh _ refused (ends_there P x.saved NoFileHandle _ refl (λ saved kept.
