@@ -23,7 +23,7 @@ use Rattle.nfs_results.specs.Refusals.{bears, tells, can_refuse}
 use Rattle.nfs_results.specs.Parts.{is_legal}
 use Rattle.nfs_results.specs.declared.res.Res.{Res}
 use Rattle.nfs_results.specs.Results.{head, spell_result, status_of_result}
-use Rattle.nfs_results.specs.ResultCodec.{HasArrays, IsBounded}
+use Rattle.nfs_results.specs.ResultCodec.{IsBounded}
 use Rattle.nfs_results.specs.Largest.{number_of}
 use Rattle.nfs_results.specs.MayAnswer.{MayAnswer}
 use Rattle.nfs_results.proofs.Lengths.{length_result, length_head}
@@ -234,12 +234,6 @@ pub refusal_short : (n : ℕ) (s : Status) → length (spell_result (refusal n s
 refusal_short n s = elim (cases_Bool (eqb n 34)) [
   | inl e ↦ rw e (omega (arith, length-append (head 34 s) (attr_set.spell []), length_head 34 s, length_no_attrs))
   | inr e ↦ rw e (omega (arith, length-append (head n s) [], length_head n s))
-]
-
-pub refusal_arrays : (n : ℕ) (s : Status) → HasArrays (refusal n s)
-refusal_arrays n s = elim (cases_Bool (eqb n 34)) [
-  | inl e ↦ rw e tt
-  | inr e ↦ rw e tt
 ]
 
 pub refused_status : (n : ℕ) (s : Status) → status_of_result (refusal n s) ≡ s

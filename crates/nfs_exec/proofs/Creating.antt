@@ -74,9 +74,6 @@ body_within c id =
     let front = length_head 43 Nfs4Ok in
     omega (arith, whole, parts_long, front)
 
-pub begins_within : (old new : SheetState) (r : Res) (begin : ℕ) → Puts old new (spell_result r) → begin ≡ length old.bytes → begin ≤ length new.bytes
-begins_within old new r begin put at = (let whole = ap length put.bytes ∙ length-append old.bytes (spell_result r) in omega (arith, whole, at))
-
 -- A session was made.
 
 pub made : (m : Machine) (now : ℕ) (c : CreateSession) (id : SessionId) (did : Created) (after : SessionTable)

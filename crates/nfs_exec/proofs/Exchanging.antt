@@ -53,11 +53,6 @@ answered_ok m who now e next x after b Adds is none value at answer left book =
     let made : b ≡ settled (with_lease m.leases (next_id m.clients) now) next (answer_added m.clients (ask_of who e).owner) = rw (id, same) at book in
     rw (same, left, made) refl
 
-case_ok : (case : Case) → judged (refusal_of case) ≡ Ok tt → (t : Roster) (a : Ask) → (x : Exchanged) × ((does t a case).answer ≡ Ok x)
-case_ok (Refuses fault) e t a = absurd cc
-case_ok (Stays c) e t a = (answer_standing c, refl)
-case_ok Adds e t a = (answer_added t a.owner, refl)
-
 -- the call was refused before anything was made
 pub refused_first : (m : Machine) (who : Caller) (now : ℕ) (e : ExchangeId) (fault : ClientFault) (case : Case) → Err fault ≡ judged (refusal_of case) →
     comes_to m (Res.Refused exchange_id_number (fault_status fault))

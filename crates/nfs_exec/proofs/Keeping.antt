@@ -34,9 +34,9 @@ use Rattle.nfs_exec.specs.View.{RunsTo, HasReplyRoom}
 use Rattle.nfs_xdr.specs.Spelling.{number, opaque}
 use Rattle.nfs_xdr.specs.Status.{status_number}
 use Rattle.nfs_xdr.proofs.Putting.{length_number}
-use Rattle.nfs_exec.proofs.Creating.{the_rest, length_id}
+use Rattle.nfs_exec.proofs.Creating.{the_rest}
 use Rattle.nfs_sessions.specs.declared.id.SessionId.{SessionId}
-use Rattle.nfs_sessions.specs.Id.{id_bytes, id_of}
+use Rattle.nfs_sessions.specs.Id.{id_of}
 use Rattle.std.specs.Option.{IsSomeAnd}
 use Rattle.nfs_sessions.specs.SessionTables.{MayKeep}
 
@@ -146,9 +146,6 @@ run_few limit sofar now choice m x (item ∷ more) =
     let next = sofar + length s.outcome.result in
     follow_few s.outcome (run limit next now (behind_here choice) s.outcome.machine s.context more)
     (length more) (run_few limit next now (behind_here choice) s.outcome.machine s.context more)
-
-pub sixteen : (id : SessionId) (bytes : List ℕ) → id_bytes id ≡ bytes → length bytes ≡ 16
-sixteen id bytes is = ap length (sym is) ∙ length_id id
 
 pub head_fits : (sheet : SheetState) (tag : List ℕ) → length tag ≤ 1024 → HasReplyRoom sheet → HasRoom sheet (spell_compound_head Nfs4Ok tag 0)
 head_fits sheet tag short room = (let h = length_head_within Nfs4Ok tag 0 short in omega (arith, h, room))

@@ -33,11 +33,6 @@ pub misplaced : (m : Machine) (declared : ℕ) (who : Caller) (now : ℕ) (refus
     comes_to m (refusal (item_number i) s) ≡ first_item m declared who now refused i
 misplaced m declared who now refused i s fault = ap (λ (f : Option Status). by_fault m (item_number i) f (carried_out m who now refused i)) (sym fault)
 
-pub in_place : (m : Machine) (declared : ℕ) (who : Caller) (now : ℕ) (refused : Bool) (i : Item) (o : Outcome) →
-    item_fault declared i ≡ None → o ≡ carried_out m who now refused i →
-    o ≡ first_item m declared who now refused i
-in_place m declared who now refused i o none is = is ∙ ap (λ (f : Option Status). by_fault m (item_number i) f (carried_out m who now refused i)) (sym none)
-
 -- what none of the four operations is
 pub not_carried : (m : Machine) (who : Caller) (now : ℕ) (refused : Bool) (op : Op) →
     ((x : _) → op ≡ Op.ExchangeId x → ⊥) → ((x : _) → op ≡ Op.CreateSession x → ⊥) → ((x : _) → op ≡ Op.DestroySession x → ⊥) →

@@ -5,21 +5,18 @@ use Rattle.std.proofs.lemmas.Bool.{cases_Bool, and_parts}
 use Rattle.nfs_xdr.specs.Checks.{first_fault}
 use Rattle.nfs_xdr.specs.declared.time.Time.{Time}
 use Rattle.nfs_xdr.specs.declared.status.Status.{Status}
-use Rattle.nfs_compound.specs.declared.attributes.Attributes.{Attributes}
 use Rattle.nfs_compound.specs.OpNum.{op_number}
 use Rattle.nfs_compound.specs.declared.op_num.OpNum.{OpNum}
 use Rattle.nfs_compound.specs.declared.op.Op.{Op}
 use Rattle.nfs_results.specs.Results.{status_of_result}
-use Rattle.nfs_opens.specs.Steps.{◌>>=◌}
 use Rattle.nfs_names.specs.declared.context.Context.{Context}
 use Rattle.nfs_names.specs.State.{State}
-use Rattle.nfs_names.specs.Outcome.{Outcome, passed, checked, mapped, answers, is_delay}
+use Rattle.nfs_names.specs.Outcome.{Outcome, answers, is_delay}
 use Rattle.nfs_names.specs.Checks.{current}
 use Rattle.nfs_names.specs.Operation.{one}
-use Rattle.nfs_names.specs.Create.{attributes_in}
 use Rattle.nfs_names.proofs.Bounds.{Answers, answers_one}
 use Rattle.nfs_names.proofs.Faulted.{status_of_refusal}
-use Rattle.nfs_names.proofs.NameLaws.{current_refuses, wanted_refuses}
+use Rattle.nfs_names.proofs.NameLaws.{current_refuses}
 use Rattle.nfs_names.proofs.Refusing.{Refuses}
 
 -- what all checks answer passes a test, and so does what the first that fails does
@@ -57,31 +54,12 @@ err_prompt fault fails status e = let same : fault ≡ status = cc in ap is_dela
 pub ok_prompt : {A : Type 0} (a : A) → IsPrompt (Ok a)
 ok_prompt a status e = absurd cc
 
-passed_prompt : {A : Type 0} (a : A) (o : Option Status) → ((status : Status) → o ≡ Some status → is_delay status ≡ false) → IsPrompt (passed a o)
-passed_prompt a None fails = ok_prompt a
-passed_prompt a (Some fault) fails = err_prompt fault (fails fault refl)
-
-pub checked_prompt : {A : Type 0} (v : Result A Status) (checks : A → List (Bool × Status)) → IsPrompt v → ((a : A) → calm (checks a) ≡ true) → IsPrompt (checked v checks)
-checked_prompt (Err fault) checks is all = err_prompt fault (is fault refl)
-checked_prompt (Ok a) checks is all = passed_prompt a (first_fault (checks a)) (first_prompt (checks a) (all a))
-
-pub mapped_prompt : {A B : Type 0} (f : A → B) (v : Result A Status) → IsPrompt v → IsPrompt (mapped f v)
-mapped_prompt f (Err fault) is = err_prompt fault (is fault refl)
-mapped_prompt f (Ok a) is = ok_prompt (f a)
-
-pub then_prompt : {A B : Type 0} (v : Result A Status) (next : A → Result B Status) → IsPrompt v → ((a : A) → IsPrompt (next a)) → IsPrompt (v >>= next)
-then_prompt (Err fault) next is more = err_prompt fault (is fault refl)
-then_prompt (Ok a) next is more = more a
-
 -- what is refused for a reason of an operation's own
 pub own_prompt : {A : Type 0} (v : Result A Status) → Refuses v → IsPrompt v
 own_prompt v all status e = (all.each status e).prompt
 
 pub current_prompt : (s : State) (x : Context) → IsPrompt (current s x)
 current_prompt s x = own_prompt (current s x) (current_refuses s x)
-
-pub wanted_prompt : (a : Attributes) → IsPrompt (attributes_in a)
-wanted_prompt a = own_prompt (attributes_in a) (wanted_refuses a)
 
 -- what an operation answers
 pub answered_prompt : {A : Type 0} (s : State) (x : Context) (op : OpNum) (v : Result A Status) (f : A → Outcome) → IsPrompt v

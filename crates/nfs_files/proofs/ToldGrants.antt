@@ -110,12 +110,6 @@ short_names op n r m short names =
 pub lock_refused : (status : Status) (m : ℕ) → Names Num.Lock (spell_result (refusal (op_number Num.Lock) status)) m → ⊥
 lock_refused status m names = short_names Num.Lock 12 (Res.Refused (op_number Num.Lock) status) m (length_spelled (Res.Refused (op_number Num.Lock) status)) names
 
-unlock_refused : (status : Status) (m : ℕ) → Names Num.LockU (spell_result (refusal (op_number Num.LockU) status)) m → ⊥
-unlock_refused status m names = short_names Num.LockU 14 (Res.Refused (op_number Num.LockU) status) m (length_spelled (Res.Refused (op_number Num.LockU) status)) names
-
-close_refused : (status : Status) (m : ℕ) → Names Num.Close (spell_result (refusal (op_number Num.Close) status)) m → ⊥
-close_refused status m names = short_names Num.Close 4 (Res.Refused (op_number Num.Close) status) m (length_spelled (Res.Refused (op_number Num.Close) status)) names
-
 denied_names : (d : result.Denied) (m : ℕ) → Names Num.Lock (spell_result (Res.LockDenied d)) m → ⊥
 unfolding number
 denied_names d m names = let bad : ◌≡◌ {A = ℕ} 39 0 = ap (λ (text : List ℕ). get_or text 6 0) names.answers in absurd (omega arith)

@@ -31,13 +31,9 @@ use Rattle.nfs_names.specs.Rename.{move_of, renamed, rename}
 use Rattle.nfs_names.proofs.Rows.{fault_map}
 use Rattle.nfs_names.proofs.Refusing.{Refuses, refuses_then, order_refuses, held_refuses, ok_refuses}
 use Rattle.nfs_names.proofs.Steps.{through}
-use Rattle.nfs_names.proofs.NameLaws.{current_refuses, both_refuses, wanted_refuses, link_places, remove_places, removed, linked, created}
+use Rattle.nfs_names.proofs.NameLaws.{current_refuses, both_refuses, wanted_refuses, link_places, removed, linked, created}
 
 -- What is found before the tree is asked.
-
-pub removing_refuses : (s : State) (x : Context) (name : List ℕ) → Refuses (removing s x name)
-removing_refuses s x name = refuses_then (current s x) _ (current_refuses s x) (λ d.
-    refuses_then (in_order (remove_places x name d)) _ (order_refuses (remove_places x name d) refl) (λ u. ok_refuses d))
 
 pub linking_refuses : (s : State) (x : Context) (name : List ℕ) → Refuses (linking s x name)
 linking_refuses s x name = refuses_then (both s x) _ (both_refuses s x) (λ p.

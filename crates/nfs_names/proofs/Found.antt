@@ -1,5 +1,5 @@
 -- What is known of an object that was found under a filehandle, and of what passed its checks.
-use Rattle.std.proofs.Common.{◌≡◌, ℕ, ◌≤◌, Bool, true, false, cond, List, [], ◌∷◌, ◌++◌, length, Option, Some, None, refl, sym, ◌∙◌, ap, subst, arith}
+use Rattle.std.proofs.Common.{◌≡◌, ℕ, ◌≤◌, Bool, true, false, cond, List, [], ◌∷◌, ◌++◌, length, Option, Some, None, refl, sym, ◌∙◌, ap, arith}
 use Rattle.std.specs.Prelude.{Result, Ok, Err, is_some, nat_lt, nat_le, ◌==◌, ◌&&◌}
 use Rattle.std.specs.Option.{option_map_or}
 use Rattle.std.proofs.lemmas.Bool.{and_from, ltb-false, lt-ltb, le-leb}
@@ -12,10 +12,9 @@ use Rattle.nfs_tree.specs.Files.{Files, most_name, is_name, stored_in, object_at
 pub use Rattle.nfs_opens.proofs.CallLaws.{Came, came, ok_is}
 use Rattle.nfs_names.specs.declared.context.Context.{Context}
 use Rattle.nfs_names.specs.declared.node.Node.{Node}
-use Rattle.nfs_names.specs.declared.node.Pair.{Pair}
 use Rattle.nfs_names.specs.State.{State}
 use Rattle.nfs_names.specs.Outcome.{passed, checked}
-use Rattle.nfs_names.specs.Checks.{node_as, node_at, saved_object, current, both}
+use Rattle.nfs_names.specs.Checks.{node_as, node_at, current}
 
 passed_ok : {A : Type 0} (b a : A) (o : Option Status) → passed b o ≡ Ok a → (b ≡ a) × (o ≡ None)
 passed_ok b a None e = (cc, refl)
@@ -63,16 +62,6 @@ pub current_is : (s : State) (x : Context) (d : Node) → current s x ≡ Ok d �
 unfolding current
 current_is s x d e = node_is s x.current d e
 
-pub both_is : (s : State) (x : Context) (p : Pair) → both s x ≡ Ok p → IsHeld s.tree p.current × IsHeld s.tree p.saved
-unfolding both current
-both_is s x p e =
-    let c = came (node_at s x.current) _ p e in
-    let o = came (node_at s (saved_object x.saved)) _ p c.then in
-    let same = ok_is refl o.then in (
-      subst (λ (q : Pair). IsHeld s.tree q.current) same (node_is s x.current c.found c.is),
-      subst (λ (q : Pair). IsHeld s.tree q.saved) same (node_is s (saved_object x.saved) o.found o.is),
-    )
-
 -- neither empty nor longer than so many bytes
 pub short_list : (most : ℕ) (xs : List ℕ) → (length xs == 0) ≡ false → nat_lt most (length xs) ≡ false → nat_lt 0 (length xs) && nat_le (length xs) most ≡ true
 short_list most [] e h = absurd cc
@@ -111,9 +100,6 @@ first_append (check ∷ checks) more = by_test check.0 (first_append checks more
         → cond b (Some check.1) (first_fault (checks ++ more)) ≡ or_fault (cond b (Some check.1) (first_fault checks)) (first_fault more)
     by_test true rest = refl
     by_test false rest = rest
-
-pub append_fault : (checks more : List (Bool × Status)) (f : Status) → first_fault checks ≡ Some f → first_fault (checks ++ more) ≡ Some f
-append_fault checks more f e = first_append checks more ∙ ap (λ o. or_fault o (first_fault more)) e
 
 pub append_none : (checks more : List (Bool × Status)) → first_fault checks ≡ None → first_fault (checks ++ more) ≡ first_fault more
 append_none checks more e = first_append checks more ∙ ap (λ o. or_fault o (first_fault more)) e

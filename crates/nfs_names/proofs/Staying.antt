@@ -96,19 +96,6 @@ staying_twice p q s =
 pub staying_same : (p q : ℕ → Bool) (s : State) → ((c : ℕ) → p c ≡ q c) → staying p s ≡ staying q s
 staying_same p q s same = ap (λ (stays : ℕ → Bool). staying stays s) (fun_ext same)
 
--- of a client that ends anyway, nothing is left to end
-pub staying_ends : (stays : ℕ → Bool) (client : ℕ) (s : State) → stays client ≡ false → staying stays (staying (λ c. not (c == client)) s) ≡ staying stays s
-staying_ends stays client s ends =
-    staying_twice stays (λ c. not (c == client)) s
-    ∙ staying_same (λ c. stays c && not (c == client)) stays s (λ c. elim (cases_Bool (c == client)) [
-      | inl is ↦ (let gone : stays c ≡ false = ap stays (eqb-true _ _ is) ∙ ends in rw gone refl)
-      | inr other ↦ rw other (both (stays c))
-    ])
-  where
-    both : (b : Bool) → b && true ≡ b
-    both true = refl
-    both false = refl
-
 -- an object is there
 pub there_in : (xs : List Stored) (x : Stored) → In x xs → is_some (stored_in xs x.number) ≡ true
 there_in [] x there = absurd there

@@ -1,5 +1,5 @@
 -- What holds of the steps of an operation, one after the other.
-use Rattle.std.proofs.Common.{◌≡◌, Bool, true, false, List, Option, Some, None, refl, ◌∙◌, ap}
+use Rattle.std.proofs.Common.{◌≡◌, Bool, true, false, List, Option, Some, None, refl}
 use Rattle.std.specs.Prelude.{Result, Ok, Err, ok_or}
 use Rattle.nfs_xdr.specs.Checks.{first_fault, judged}
 use Rattle.nfs_xdr.specs.declared.status.Status.{Status}
@@ -54,9 +54,3 @@ through {A} {B} {C} {F} (Ok a) check found next = by_check (check a)
     by_check : (r : Result (Unit {0}) F) → (r >> (found a >>= next)) ≡ ((r >> found a) >>= next)
     by_check (Err f) = refl
     by_check (Ok u) = refl
-
--- what a check stops, whatever would follow
-pub halted : {A B F : Type 0} (v : Result A F) (checks : A → List (Bool × F)) (next : A → Result B F) (a : A) (f : F)
-    → v ≡ Ok a → first_fault (checks a) ≡ Some f → (v >>= λ a. in_order (checks a) >> next a) ≡ Err f
-halted {A} {B} {F} v checks next a f is some =
-    ap (λ (v : Result A F). v >>= λ a. in_order (checks a) >> next a) is ∙ ap (λ (o : Option F). judged o >> next a) some
