@@ -45,7 +45,8 @@ use Rattle.nfs_names.specs.Faults.{status_of}
 use Rattle.nfs_names.specs.Outcome.{checked, mapped}
 use Rattle.nfs_names.specs.Checks.{current}
 use Rattle.nfs_names.proofs.Found.{came, checked_ok}
-use Rattle.nfs_names.proofs.Answered.{by_found, by_delay}
+use Rattle.nfs_names.proofs.Ones.{by_delay}
+use Rattle.nfs_files.proofs.Answered.{by_found}
 use Rattle.nfs_names.proofs.Effects.{Makes}
 use Rattle.nfs_names.proofs.Rows.{none_mapped}
 use Rattle.nfs_files.specs.declared.opening.Found.{Found}
@@ -85,7 +86,7 @@ mapped_wish : (x : Context) (how : LockType) (first file : ℕ) (v : Result ℕ 
 mapped_wish x how first file (Err status) w e = absurd cc
 mapped_wish x how first file (Ok last) w e = let is : wish x how first last file ≡ w = cc in sym (ap (λ (w : Wish). w.client) is)
 
-wish_client : (s : State) (x : Context) (how : LockType) (offset size : ℕ) (w : Wish) → wished s x how offset size ≡ Ok w → w.client ≡ x.client
+pub wish_client : (s : State) (x : Context) (how : LockType) (offset size : ℕ) (w : Wish) → wished s x how offset size ≡ Ok w → w.client ≡ x.client
 unfolding wished
 wish_client s x how offset size w e =
     let d = came (the_file s x) _ w e in mapped_wish x how offset d.found.number (range offset size) w d.then
@@ -232,5 +233,5 @@ module _ {P : State → Context → Type 0} (s : State) (x : Context) (kept : Ke
   kept_one now op = is
 
   pub kept_item : (refused : Bool) (now : Time) (i : Item) → P (comes_to refused s x now i).state (comes_to refused s x now i).context
-  kept_item refused now (Operation op) = by_delay P (grows s x op && refused) s x (arguments op).op (one s x now op) is (kept_one now op)
+  kept_item refused now (Operation op) = by_delay (λ o. P o.state o.context) (grows s x op && refused) s x (arguments op).op (one s x now op) is (kept_one now op)
   kept_item refused now (Fault n status) = is

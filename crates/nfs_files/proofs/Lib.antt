@@ -1,3 +1,4 @@
+pub mod Answered
 pub mod Passing
 pub mod Seats
 pub mod Answering

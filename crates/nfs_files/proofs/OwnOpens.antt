@@ -36,7 +36,7 @@ use Rattle.nfs_names.proofs.Untouched.{unused_opens}
 use Rattle.nfs_files.specs.Operation.{grows}
 use Rattle.nfs_files.proofs.Outcomes.{one, comes_to}
 use Rattle.nfs_files.specs.Close.{close}
-use Rattle.nfs_names.proofs.Answered.{by_answers}
+use Rattle.nfs_files.proofs.Answered.{by_answers}
 use Rattle.nfs_files.specs.Commit.{commit}
 use Rattle.nfs_files.specs.FreeStateid.{free_stateid}
 use Rattle.nfs_files.specs.Lock as of_lock

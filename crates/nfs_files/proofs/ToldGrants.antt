@@ -50,8 +50,9 @@ use Rattle.nfs_files.specs.declared.ranges.Wished.{Wished}
 use Rattle.nfs_files.specs.declared.target.Target.{Target}
 use Rattle.nfs_files.specs.StateIds.{wire_id, meant}
 use Rattle.nfs_files.specs.Target.{target, the_file}
-use Rattle.nfs_files.specs.Ranges.{range, wish, wished, wished_by}
+use Rattle.nfs_files.specs.Ranges.{wish, wished, wished_by}
 use Rattle.nfs_files.specs.Operation.{grows}
+use Rattle.nfs_files.proofs.Effected.{wish_client}
 use Rattle.nfs_files.proofs.Outcomes.{one, one_or_delay}
 use Rattle.nfs_files.specs.Close.{spent, closes, close, closed}
 use Rattle.nfs_files.specs.Lock as of_lock
@@ -179,16 +180,6 @@ pub lock_clients : (t : Table) (who : Locker) (id : StateId) (w : Wish) (did : S
 lock_clients t who id w did table few granted = locked_clients t w did table few (lock_is t who id w did granted)
 
 -- LOCK
-
-wish_client : (x : Context) (how : LockType) (offset : ℕ) (file : ℕ) (r : Result ℕ Status) (w : Wish)
-    → mapped (λ last. wish x how offset last file) r ≡ Ok w → w.client ≡ x.client
-wish_client x how offset file (Err status) w e = absurd cc
-wish_client x how offset file (Ok last) w e = let same : wish x how offset last file ≡ w = cc in sym (ap (λ (w : Wish). w.client) same)
-
-pub wished_client : (s : State) (x : Context) (how : LockType) (offset size : ℕ) (w : Wish) → wished s x how offset size ≡ Ok w → w.client ≡ x.client
-unfolding wished
-wished_client s x how offset size w e =
-    let d = came (the_file s x) _ w e in wish_client x how offset d.found.number (range offset size) w d.then
 
 lock_result : (s : State) (x : Context) (now : Time) (a : Lock) (m : Wished) (did : StateId × Table) → of_lock.locking s x a ≡ Ok m
     → of_lock.locks_as s.opens a.locker m.id m.wish ≡ Ok did → (one s x now (Op.Lock a)).result ≡ Res.Lock (wire_id did.0)
@@ -389,7 +380,7 @@ told_client s x now refused a n w table few wish names l there number =
     let done = told_done s x now refused a n w table few wish names in
     (lock_clients s.opens a.locker done.id w done.did table few done.granted).client l (subst (λ (t : Table). In l t.locks) done.left there)
     (number ∙ sym done.number)
-    ∙ wished_client s x a.locktype a.offset a.length w wish
+    ∙ wish_client s x a.locktype a.offset a.length w wish
 
 pub told_held : ToldLocksAreHeld
 told_held s x now refused a n w table few wish names b lo hi =

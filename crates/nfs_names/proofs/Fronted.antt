@@ -25,7 +25,7 @@ use Rattle.nfs_names.specs.Comes.{Comes}
 use Rattle.nfs_names.specs.Checks.{current}
 use Rattle.nfs_names.specs.Attributes.{attributes_of}
 use Rattle.nfs_names.specs.Create.{attributes_in}
-use Rattle.nfs_names.specs.Fronts.{creating, link_in, named, place_of, reported}
+use Rattle.nfs_names.specs.Fronts.{creating, getting_attr, looking_up, placing, reading_link}
 use Rattle.nfs_names.specs.GetAttr.{get_attr}
 use Rattle.nfs_names.specs.Lookup.{lookup}
 use Rattle.nfs_names.specs.ReadLink.{read_link}
@@ -40,24 +40,24 @@ wanting x c place = do
   require (not (is_some wanted.size)) Inval
   Ok (record { place = place; wanted = wanted })
 
-pub creating_by : (s : State) (x : Context) (c : Create) (v : Result Node Status) → v ≡ place_of s x c → creating s x c ≡ (v >>= wanting x c)
+pub creating_by : (s : State) (x : Context) (c : Create) (v : Result Node Status) → v ≡ placing s x c → creating s x c ≡ (v >>= wanting x c)
 creating_by s x c v e = through (current s x) _ Ok (wanting x c) ∙ ap (λ v. v >>= wanting x c) (sym e)
 
-pub get_attr_by : (s : State) (x : Context) (words : List ℕ) (v : Result Node Status) → v ≡ reported s x words
+pub get_attr_by : (s : State) (x : Context) (words : List ℕ) (v : Result Node Status) → v ≡ getting_attr s x words
     → get_attr s x words ≡ or_refusal s x Num.GetAttr (v >>= λ d. Ok (done s x (Res.GetAttr (attributes_of s (mask_of words) d))))
 unfolding get_attr
 get_attr_by s x words v e =
     let next : Node → Result Outcome Status = λ d. Ok (done s x (Res.GetAttr (attributes_of s (mask_of words) d))) in
     ap (or_refusal s x Num.GetAttr) (through (current s x) _ Ok next ∙ ap (λ v. v >>= next) (sym e))
 
-pub lookup_by : (s : State) (x : Context) (name : List ℕ) (v : Result ℕ Status) → v ≡ named s x name
+pub lookup_by : (s : State) (x : Context) (name : List ℕ) (v : Result ℕ Status) → v ≡ looking_up s x name
     → lookup s x name ≡ or_refusal s x Num.Lookup (v >>= λ n. Ok (done s (at_object x n) Res.Lookup))
 unfolding lookup
 lookup_by s x name v e =
     let next : ℕ → Result Outcome Status = λ n. Ok (done s (at_object x n) Res.Lookup) in
     ap (or_refusal s x Num.Lookup) (through (current s x) _ (λ d. ok_or (found s.tree d.number name) NoEnt) next ∙ ap (λ v. v >>= next) (sym e))
 
-pub read_link_by : (s : State) (x : Context) (v : Result Node Status) → v ≡ link_in s x
+pub read_link_by : (s : State) (x : Context) (v : Result Node Status) → v ≡ reading_link s x
     → read_link s x ≡ or_refusal s x Num.ReadLink (v >>= λ d. Ok (done s x (Res.ReadLink (part s.tree d.number 0 most_text))))
 unfolding read_link
 read_link_by s x v e =

@@ -9,7 +9,6 @@ pub mod Fronted
 pub mod Changing
 pub mod Renaming
 pub mod StoreInvariants
-pub mod Answered
 pub mod Effects
 pub mod Effected
 pub mod Sound

@@ -31,7 +31,7 @@ use Rattle.nfs_names.specs.Outcome.{Outcome, done, or_refusal}
 use Rattle.nfs_names.specs.Checks.{current}
 use Rattle.nfs_names.specs.declared.node.Node.{Node}
 use Rattle.nfs_names.specs.State.{State}
-use Rattle.nfs_names.specs.Fronts.{listing}
+use Rattle.nfs_names.specs.Fronts.{reading_dir}
 use Rattle.nfs_names.specs.ReadDir.{longest, fits, fitting, left, zeros, fits_none, listed, read_dir}
 use Rattle.nfs_names.specs.Lists.{Lists}
 use Rattle.nfs_names.proofs.Steps.{through}
@@ -121,7 +121,7 @@ listed_whole s a d old mid out new whole p q r eof =
 abbrev put_listing : State → Context → ReadDir → Node → Result Outcome Status
 put_listing s x a d = require (not (fits_none s a d)) TooSmall >> Ok (done s x (Res.ReadDir (listed s a d)))
 
-pub read_dir_by : (s : State) (x : Context) (a : ReadDir) (v : Result Node Status) → v ≡ listing s x a
+pub read_dir_by : (s : State) (x : Context) (a : ReadDir) (v : Result Node Status) → v ≡ reading_dir s x a
     → read_dir s x a ≡ or_refusal s x Num.ReadDir (v >>= put_listing s x a)
 unfolding read_dir
 read_dir_by s x a v e =
@@ -129,7 +129,7 @@ read_dir_by s x a v e =
 
 -- a listing that was put is what READDIR comes to
 pub listing_comes : (s : State) (x : Context) (a : ReadDir) (d : Node) (answer : Status) (old new : SheetState)
-    → listing s x a ≡ Ok d → Lists answer (fits_none s a d) (listed s a d) old new → Comes (read_dir s x a) old new answer s x
+    → reading_dir s x a ≡ Ok d → Lists answer (fits_none s a d) (listed s a d) old new → Comes (read_dir s x a) old new answer s x
 listing_comes s x a d answer old new v lists =
     subst (λ o. Comes o old new answer s x) (sym (read_dir_by s x a (Ok d) (sym v))) (by_fit (fits_none s a d) lists)
   where

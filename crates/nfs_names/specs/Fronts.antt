@@ -28,8 +28,8 @@ use Rattle.nfs_names.specs.Rename as of_rename
 use Rattle.nfs_names.specs.SecinfoNoName.{style_checks}
 
 -- the directory in which CREATE makes an object
-abbrev pub place_of : State → Context → Create → Result Node Status
-place_of s x c = do
+abbrev pub placing : State → Context → Create → Result Node Status
+placing s x c = do
   place ← current s x
   in_order (place_checks x c place)
   Ok place
@@ -66,57 +66,57 @@ renaming s x a = do
   Ok p
 
 -- the object that LOOKUP finds
-abbrev pub named : State → Context → List ℕ → Result ℕ Status
-named s x name = do
+abbrev pub looking_up : State → Context → List ℕ → Result ℕ Status
+looking_up s x name = do
   d ← current s x
   in_order ((is_link d.object.kind, Symlink) ∷ no_directory d ∷ denied x d execute ∷ name_checks name)
   ok_or (lookup s.tree d.number name) NoEnt
 
 -- the directory that LOOKUPP finds
-abbrev pub above : State → Context → Result ℕ Status
-above s x = do
+abbrev pub looking_above : State → Context → Result ℕ Status
+looking_above s x = do
   d ← current s x
   in_order (no_directory d ∷ denied x d execute ∷ [])
   ok_or (parent_in s.tree.rows d.number) NoEnt
 
 -- the filehandle of PUTFH
-abbrev pub handle_in : State → List ℕ → Result Handle Status
-handle_in s object = do
+abbrev pub putting_fh : State → List ℕ → Result Handle Status
+putting_fh s object = do
   h ← ok_or (handle_of object) BadHandle
   in_order ((not (h.instance == s.instance), Stale) ∷ (not (is_some (object_at s.tree h.number)), Stale) ∷ [])
   Ok h
 
 -- what RESTOREFH restores
-abbrev pub saved_in : State → Context → Result Saved Status
-saved_in s x = do
+abbrev pub restoring_fh : State → Context → Result Saved Status
+restoring_fh s x = do
   saved ← ok_or x.saved NoFileHandle
   require (is_some (object_at s.tree saved.object)) Stale
   Ok saved
 
 -- the object of SECINFO_NO_NAME
-abbrev pub styled : State → Context → SecinfoStyle → Result Node Status
-styled s x style = do
+abbrev pub asking_flavors : State → Context → SecinfoStyle → Result Node Status
+asking_flavors s x style = do
   d ← current s x
   in_order (style_checks s style d)
   Ok d
 
 -- the link of READLINK
-abbrev pub link_in : State → Context → Result Node Status
-link_in s x = do
+abbrev pub reading_link : State → Context → Result Node Status
+reading_link s x = do
   d ← current s x
   require (is_link d.object.kind) WrongType
   Ok d
 
 -- the directory of READDIR
-abbrev pub listing : State → Context → ReadDir → Result Node Status
-listing s x a = do
+abbrev pub reading_dir : State → Context → ReadDir → Result Node Status
+reading_dir s x a = do
   d ← current s x
   in_order (listing_checks x a d)
   Ok d
 
 -- the object of GETATTR
-abbrev pub reported : State → Context → List ℕ → Result Node Status
-reported s x words = do
+abbrev pub getting_attr : State → Context → List ℕ → Result Node Status
+getting_attr s x words = do
   d ← current s x
   require (not (asks_set_only (mask_of words))) Inval
   Ok d

@@ -82,7 +82,7 @@ pub(crate) fn access(store: &Store, context: &Context<'_>, asked: u32) -> Res<'s
 
 /// The object whose attributes are asked for: those that can only be set are not reported.
 fn judge_mask(store: &Store, context: &Context<'_>, mask: &Bitmap<'_>) -> Result<Node, Status>
-    ensures { result ≡ front.reported (state_of store.now) context.now mask.now }
+    ensures { result ≡ front.getting_attr (state_of store.now) context.now mask.now }
 {
     let d = current(store, context)?;
     if mask_in(mask).asks_set_only() {

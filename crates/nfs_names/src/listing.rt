@@ -32,7 +32,7 @@ use nfs_xdr::{Sheet, Status};
 
 /// The symbolic link that is to be read.
 fn judge_link(store: &Store, context: &Context<'_>) -> Result<Node, Status>
-    ensures { result ≡ front.link_in (state_of store.now) context.now }
+    ensures { result ≡ front.reading_link (state_of store.now) context.now }
 {
     let d = current(store, context)?;
     if !is_link(d.object.kind) {
@@ -67,7 +67,7 @@ pub(crate) fn read_link(store: &Store, context: &Context<'_>, out: &mut Sheet) -
 
 /// The directory that is to be listed.
 fn judge_listing(store: &Store, context: &Context<'_>, asked: &ReadDir<'_>) -> Result<Node, Status>
-    ensures { result ≡ front.listing (state_of store.now) context.now asked.now }
+    ensures { result ≡ front.reading_dir (state_of store.now) context.now asked.now }
 {
     let d = current(store, context)?;
     if !d.object.kind.is_directory() {

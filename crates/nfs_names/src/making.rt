@@ -96,7 +96,7 @@ fn plain_mode(new: &New<'_>) -> u32
 
 /// The directory in which an object is to be made, where its type and its name may be.
 fn judge_place(store: &Store, context: &Context<'_>, asked: &Create<'_>) -> Result<Node, Status>
-    ensures { result ≡ front.place_of (state_of store.now) context.now asked.now }
+    ensures { result ≡ front.placing (state_of store.now) context.now asked.now }
 {
     let d = current(store, context)?;
     if !d.object.kind.is_directory() {

@@ -29,7 +29,7 @@ const AUTH_SYS: [[u8; 4]; 1] = [[0, 0, 0, 1]];
 
 /// The object of a name in the current directory.
 fn find(store: &Store, context: &Context<'_>, name: &[u8]) -> Result<u64, Status>
-    ensures { result ≡ front.named (state_of store.now) context.now name.now }
+    ensures { result ≡ front.looking_up (state_of store.now) context.now name.now }
 {
     let d = current(store, context)?;
     if is_link(d.object.kind) {
@@ -49,7 +49,7 @@ fn find(store: &Store, context: &Context<'_>, name: &[u8]) -> Result<u64, Status
 }
 
 /// LOOKUP.
-#[tactic(auto, unfolding(crate::specs::Lookup::lookup))]
+#[tactic(auto, using(crate::proofs::Fronted::lookup_by))]
 pub(crate) fn lookup(store: &Store, context: &mut Context<'_>, name: &[u8]) -> Res<'static>
     ensures { outcome_of result (state_of store.now) context.new ≡ of_lookup.lookup (state_of store.now) context.old name.now }
 {
@@ -64,7 +64,7 @@ pub(crate) fn lookup(store: &Store, context: &mut Context<'_>, name: &[u8]) -> R
 
 /// The directory in which the current one stands.
 fn find_parent(store: &Store, context: &Context<'_>) -> Result<u64, Status>
-    ensures { result ≡ front.above (state_of store.now) context.now }
+    ensures { result ≡ front.looking_above (state_of store.now) context.now }
 {
     let d = current(store, context)?;
     if !d.object.kind.is_directory() {
@@ -95,7 +95,7 @@ pub(crate) fn lookup_p(store: &Store, context: &mut Context<'_>) -> Res<'static>
 
 /// The object that the filehandle names.
 fn read_handle(store: &Store, object: &[u8]) -> Result<Handle, Status>
-    ensures { result ≡ front.handle_in (state_of store.now) object.now }
+    ensures { result ≡ front.putting_fh (state_of store.now) object.now }
 {
     let Ok(handle) = Handle::read(object) else {
         return Err(Status::BadHandle);
@@ -145,7 +145,7 @@ pub(crate) fn put_root_fh(store: &Store, context: &mut Context<'_>) -> Res<'stat
 
 /// The saved filehandle, whose object is there.
 fn saved(store: &Store, context: &Context<'_>) -> Result<Saved, Status>
-    ensures { result ≡ front.saved_in (state_of store.now) context.now }
+    ensures { result ≡ front.restoring_fh (state_of store.now) context.now }
 {
     let Some(saved) = context.saved else {
         return Err(Status::NoFileHandle);
@@ -190,7 +190,7 @@ pub(crate) fn save_fh(store: &Store, context: &mut Context<'_>) -> Res<'static>
 
 /// The object whose flavors are asked for, or in whose directory.
 fn judge_style(store: &Store, context: &Context<'_>, style: SecinfoStyle) -> Result<Node, Status>
-    ensures { result ≡ front.styled (state_of store.now) context.now style }
+    ensures { result ≡ front.asking_flavors (state_of store.now) context.now style }
 {
     let d = current(store, context)?;
     match style {

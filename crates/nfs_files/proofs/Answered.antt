@@ -1,22 +1,16 @@
 -- What holds behind a refusal and behind what follows from what was found holds behind an operation.
-use Rattle.std.proofs.Common.{◌≡◌, Bool, true, false, cond, refl}
-use Rattle.std.specs.Prelude.{Result, Ok, Err, ◌&&◌}
+use Rattle.std.proofs.Common.{◌≡◌, refl}
+use Rattle.std.specs.Prelude.{Result, Ok, Err}
 use Rattle.nfs_xdr.specs.declared.status.Status.{Status}
-use Rattle.nfs_xdr.specs.declared.status.Status.TheVariants.{Delay}
 use Rattle.nfs_compound.specs.declared.op_num.OpNum.{OpNum}
 use Rattle.nfs_names.specs.declared.context.Context.{Context}
 use Rattle.nfs_names.specs.State.{State}
-use Rattle.nfs_names.specs.Outcome.{Outcome, refuses, answers, or_delay, is_ok}
+use Rattle.nfs_names.specs.Outcome.{Outcome, answers}
 
 pub by_found : {A : Type 0} (P : State → Context → Type 0) (s : State) (x : Context) (op : OpNum) (v : Result A Status) (f : A → Outcome) → P s x
     → ((a : A) → v ≡ Ok a → P (f a).state (f a).context) → P (answers s x op v f).state (answers s x op v f).context
 by_found P s x op (Err status) f same done = same
 by_found P s x op (Ok a) f same done = done a refl
-
-pub by_delay : (P : State → Context → Type 0) (b : Bool) (s : State) (x : Context) (op : OpNum) (o : Outcome) → P s x → P o.state o.context
-    → P (or_delay b s x op o).state (or_delay b s x op o).context
-by_delay P b s x op o same done =
-    elim (b && is_ok o.result) as (λ k. P (cond k (refuses s x op Delay) o).state (cond k (refuses s x op Delay) o).context) [ true ↦ same | false ↦ done ]
 
 pub by_answers : {A : Type 0} (P : State → Context → Type 0) (s : State) (x : Context) (op : OpNum) (v : Result A Status) (f : A → Outcome) → P s x
     → ((a : A) → P (f a).state (f a).context) → P (answers s x op v f).state (answers s x op v f).context
