@@ -34,7 +34,8 @@ use Rattle.nfs_files.proofs.Inside.{Locks, Unlocks, Closes}
 use Rattle.nfs_files.proofs.OwnOpens.{spares_others}
 use Rattle.nfs_files.proofs.ToldLocks as told
 use Rattle.nfs_files.proofs.ToldGrants.{IsTold, IsToldClosed, lock_tells, unlock_tells, close_tells, lock_grants_told, lock_refused, told_held, told_is_ok, told_client}
-use Rattle.nfs_exec.specs.Machine.{Machine, is_ok}
+use Rattle.nfs_names.specs.Outcome.{is_ok}
+use Rattle.nfs_exec.specs.Machine.{Machine}
 use Rattle.nfs_exec.specs.Behind.{Step, step, stays, on_store, moves_opens, marked_if, otherwise}
 use Rattle.nfs_exec.specs.Run.{in_room, reserve, is_here, behind_here}
 use Rattle.nfs_exec.specs.Sequence as sequence

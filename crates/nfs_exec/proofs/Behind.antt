@@ -28,10 +28,10 @@ use Rattle.nfs_clients.specs.Roster.{Roster}
 use Rattle.nfs_clients.specs.Marks.{has_reclaimed, with_open}
 use Rattle.nfs_names.specs.Comes.{Comes, MayCome}
 use Rattle.nfs_names.specs.Ending.{has_open}
-use Rattle.nfs_names.specs.Outcome.{Outcome as OfStore, is_delay}
+use Rattle.nfs_names.specs.Outcome.{Outcome as OfStore, is_delay, is_ok}
 use Rattle.nfs_lease.specs.Renewals.{Book}
 use Rattle.nfs_sessions.specs.Sessions.{SessionTable}
-use Rattle.nfs_exec.specs.Machine.{Machine, Outcome, is_ok, comes_to, with_mark}
+use Rattle.nfs_exec.specs.Machine.{Machine, Outcome, with_result, with_mark}
 use Rattle.nfs_exec.specs.Place.{status_behind}
 use Rattle.nfs_exec.specs.ReclaimComplete.{reclaim_complete, of_one, of_all}
 use Rattle.nfs_exec.specs.Behind.{Step, step, on_store, moves_opens, marked_if, otherwise, stays}
@@ -241,13 +241,13 @@ pub other_steps : (m before left : Machine) (x : Context) (now : ℕ) (i : Item)
     (q : Option Status) (r : Res) (s : Status)
     → ((refused : Bool) → names.comes_to refused m.store x (moment now) i ≡ None) × (mid ≡ old) × (between ≡ m.store) × (y ≡ x)
     → MayCome (λ refused. files.comes_to refused between y (moment now) i) between y mid late q store behind → q ≡ None
-    → before ≡ record m { store = store } → comes_to left r ≡ (otherwise before behind i).outcome → s ≡ status_of_result r
+    → before ≡ record m { store = store } → with_result left r ≡ (otherwise before behind i).outcome → s ≡ status_of_result r
     → Puts late new (spell_result r) → Steps (step m x now (is_delay s) i) s left behind old new
 other_steps m before left x now i old mid late new between store y behind q r s none came is start done status put =
     let other = same_start m x now i old mid late between store y behind None none.1 none.2 none.3
     (subst (λ q. MayCome (λ refused. files.comes_to refused between y (moment now) i) between y mid late q store behind) is came) in
     let same : before ≡ m = start ∙ ap (λ (t : State). record m { store = t }) other.2 in
-    let out : comes_to left r ≡ (otherwise m x i).outcome =
+    let out : with_result left r ≡ (otherwise m x i).outcome =
     done ∙ ap (λ (k : Machine). (otherwise k behind i).outcome) same ∙ ap (λ (z : Context). (otherwise m z i).outcome) other.3 in
     subst (λ t. Steps t s left behind old new) (sym (step_of_none m x now (is_delay s) i (none.0 (is_delay s)) (other.0 (is_delay s)))) (record {
       status = status ∙ ap (λ (o : Outcome). o.status) out;

@@ -23,7 +23,7 @@ use Rattle.nfs_compound.specs.declared.op_num.OpNum.{OpNum}
 use Rattle.nfs_compound.specs.declared.session_args.Sequence.{Sequence}
 use Rattle.nfs_results.specs.Largest.{largest}
 use Rattle.nfs_results.specs.declared.res.Res.TheVariants as Res
-use Rattle.nfs_results.specs.Results.{refusal, spell_result, spell_compound_head}
+use Rattle.nfs_results.specs.Results.{refusal, spell_result, spell_compound_head, status_of_result}
 use Rattle.nfs_clients.specs.Roster.{ClientRecord, client_at, id_of as client_id, next_id}
 use Rattle.nfs_clients.specs.CreateSession as clients
 use Rattle.nfs_clients.specs.Marks.{has_open_by}
@@ -40,11 +40,11 @@ use Rattle.nfs_names.specs.Context.{begins}
 use Rattle.nfs_names.specs.Ending.{has_open}
 use Rattle.nfs_names.specs.State.{State, moment}
 use Rattle.nfs_names.specs.Outcome as of_store
-use Rattle.nfs_names.specs.Outcome.{Outcome as OfStore}
+use Rattle.nfs_names.specs.Outcome.{Outcome as OfStore, is_ok}
 use Rattle.nfs_names.specs.Operation as names
 use Rattle.nfs_names.proofs.Faulted.{status_of_refusal}
 use Rattle.nfs_files.specs.Operation as files
-use Rattle.nfs_exec.specs.Machine.{Machine, IsMachine, Outcome, is_ok, or_delay, refuses, comes_to, with_mark, is_confirmed}
+use Rattle.nfs_exec.specs.Machine.{Machine, IsMachine, Outcome, or_delay, refuses, with_result, with_mark, is_confirmed}
 use Rattle.nfs_exec.specs.Place.{item_fault, place_fault, stands_alone, is_sequence}
 use Rattle.nfs_exec.specs.ExchangeId.{exchange_id, exchange_id_number}
 use Rattle.nfs_exec.specs.CreateSession.{create_session_number, by_verdict, creates, wish_of}
@@ -100,11 +100,11 @@ Delays i m x refused plenty = (refused ≡ plenty) ⊎ IsRefused i m x refused p
 record IsWant (g : Bool) (s : State) (x : Context) (n : OpNum) (o : OfStore) : Type 0 where
   is : of_store.or_delay (g && true) s x n o ≡ of_store.refuses s x n Delay
   wants : g ≡ true
-  ok : of_store.is_ok (of_store.or_delay (g && false) s x n o).result ≡ true
+  ok : of_store.is_ok (status_of_result (of_store.or_delay (g && false) s x n o).result) ≡ true
 
 delay_or_not : (g : Bool) (s : State) (x : Context) (n : OpNum) (o : OfStore)
     → (of_store.or_delay (g && true) s x n o ≡ of_store.or_delay (g && false) s x n o) ⊎ IsWant g s x n o
-delay_or_not true s x n o = elim (cases_Bool (of_store.is_ok o.result)) [
+delay_or_not true s x n o = elim (cases_Bool (of_store.is_ok (status_of_result o.result))) [
   | inl ok ↦ inr (record { is = rw ok refl; wants = refl; ok = ok })
   | inr bad ↦ inl (rw bad refl)
 ]
@@ -141,7 +141,7 @@ unmoved : (moves : Bool) (m : Machine) (x : Context) (i : Item) → IsMachine m 
 unmoved true m x i is = ap (λ (k : Machine). stays k x i Delay) (marked_already m x.client is)
 unmoved false m x i is = refl
 
-marked_ok : (moves : Bool) (m : Machine) (x : Context) (o : OfStore) → of_store.is_ok o.result ≡ true
+marked_ok : (moves : Bool) (m : Machine) (x : Context) (o : OfStore) → of_store.is_ok (status_of_result o.result) ≡ true
     → is_ok (marked_if moves x.client (on_store m o)).outcome.status ≡ true
 marked_ok true m x o ok = ok
 marked_ok false m x o ok = ok
@@ -329,7 +329,7 @@ IsEither m r who size now place items =
 
 -- SEQUENCE in front answers NFS4_OK
 abbrev behind_it : Machine → Request → Caller → Sequence → Channel → Ran → Answered
-behind_it m r who s channel rest = keeps r who s (answers r (follow (comes_to m (Res.Sequence (accepted s channel))) rest))
+behind_it m r who s channel rest = keeps r who s (answers r (follow (with_result m (Res.Sequence (accepted s channel))) rest))
 
 abbrev front : Sequence → Channel → List ℕ
 front s channel = spell_result (Res.Sequence (accepted s channel))
@@ -349,7 +349,7 @@ cut_in_run m r c who shorter now place s more channel left runs tag is ok count 
     } in
     ap (in_session m c who now None s (take place more)) runs
     ∙ ap (λ (t : List ℕ). keeps c who s (answers (tagged t) (runs_behind k (tagged t) who now None s channel (take place more)))) tag
-    ∙ ap (λ (rest : Ran). keeps c who s (answers (tagged r.tag) (follow (comes_to k (Res.Sequence (accepted s channel))) rest))) is
+    ∙ ap (λ (rest : Ran). keeps c who s (answers (tagged r.tag) (follow (with_result k (Res.Sequence (accepted s channel))) rest))) is
     ∙ ap (λ (status : Status). keeps c who s (texts status left.count)) ok
     ∙ ap (λ (n : ℕ). keeps c who s (texts Nfs4Ok n)) count
 

@@ -8,7 +8,7 @@ use Rattle.nfs_sessions.specs.declared.id.SessionId.{SessionId}
 use Rattle.nfs_sessions.specs.Sessions.{SessionTable, is_session, session_at, destroyed}
 use Rattle.nfs_results.specs.declared.res.Res.{Res}
 use Rattle.nfs_results.specs.Results.{refusal}
-use Rattle.nfs_exec.specs.Machine.{Machine, comes_to}
+use Rattle.nfs_exec.specs.Machine.{Machine, with_result}
 use Rattle.nfs_exec.specs.Destroy.{destroy_session}
 use Rattle.nfs_exec.proofs.Leasing.{none_of}
 
@@ -18,7 +18,7 @@ none_destroyed t id none = ap (λ xs. record t { sessions = xs })
 
 pub no_session : (m : Machine) (sessionid : List ℕ) (id : SessionId) (after : SessionTable) (r : Res) →
     id ≡ id_of sessionid → false ≡ is_some (session_at m.sessions id) → after ≡ destroyed m.sessions id →
-    r ≡ refusal 44 BadSession → comes_to (record m { sessions = after }) r ≡ destroy_session m sessionid
+    r ≡ refusal 44 BadSession → with_result (record m { sessions = after }) r ≡ destroy_session m sessionid
 no_session m sessionid id after r read stood gone told =
     let none : session_at m.sessions (id_of sessionid) ≡ None = none_of _ (sym (stood ∙ ap (λ id. is_some (session_at m.sessions id)) read)) in
     let same : after ≡ m.sessions = gone ∙ ap (destroyed m.sessions) read ∙ none_destroyed m.sessions (id_of sessionid) none in

@@ -15,7 +15,7 @@ use Rattle.nfs_compound.specs.declared.session_args.ExchangeId.{ExchangeId}
 use Rattle.nfs_lease.specs.Renewals.{Book, with_lease, without_lease}
 use Rattle.nfs_results.specs.declared.res.Res.TheVariants as Res
 use Rattle.nfs_names.specs.Outcome.{is_delay}
-use Rattle.nfs_exec.specs.Machine.{Machine, IsMachine, comes_to, or_delay}
+use Rattle.nfs_exec.specs.Machine.{Machine, IsMachine, with_result, or_delay}
 use Rattle.nfs_exec.specs.ExchangeId.{exchange_id, exchange_id_number, granted, ask_of, exchanged}
 use Rattle.nfs_exec.specs.View.{settled}
 use Rattle.nfs_exec.proofs.Leasing.{unleased, taken_back}
@@ -41,7 +41,7 @@ pub answered_ok : (m : Machine) (who : Caller) (now : ℕ) (e : ExchangeId) (nex
     IsMachine m → client_at m.clients next ≡ None → (m.clients.last < last_counter → next ≡ next_id m.clients) → case_of m.clients (ask_of who e) ≡ case →
     Ok x ≡ (does m.clients (ask_of who e) case).answer →
     after ≡ (does m.clients (ask_of who e) case).after → b ≡ settled (with_lease m.leases next now) next x →
-    comes_to (record m { clients = after; leases = b }) (Res.ExchangeId (granted x)) ≡ exchanged m now (does m.clients (ask_of who e) case)
+    with_result (record m { clients = after; leases = b }) (Res.ExchangeId (granted x)) ≡ exchanged m now (does m.clients (ask_of who e) case)
 answered_ok m who now e next x after b (Refuses fault) is none value at answer left book = absurd cc
 answered_ok m who now e next x after b (Stays c) is none value at answer left book =
     let same : x ≡ answer_standing c = cc in
@@ -55,7 +55,7 @@ answered_ok m who now e next x after b Adds is none value at answer left book =
 
 -- the call was refused before anything was made
 pub refused_first : (m : Machine) (who : Caller) (now : ℕ) (e : ExchangeId) (fault : ClientFault) (case : Case) → Err fault ≡ judged (refusal_of case) →
-    comes_to m (Res.Refused exchange_id_number (fault_status fault))
+    with_result m (Res.Refused exchange_id_number (fault_status fault))
     ≡ or_delay (is_delay (fault_status fault)) m exchange_id_number (exchanged m now (does m.clients (ask_of who e) case))
 refused_first m who now e fault (Stays c) is = absurd cc
 refused_first m who now e fault Adds is = absurd cc
@@ -69,7 +69,7 @@ refused_first m who now e Memory (Refuses f) is = let same : f ≡ Memory = cc i
 
 -- memory was refused where the call would have been answered
 pub wanted : (m : Machine) (who : Caller) (now : ℕ) (e : ExchangeId) (case : Case) → judged (refusal_of case) ≡ Ok tt →
-    comes_to m (Res.Refused exchange_id_number (fault_status Memory)) ≡ or_delay true m exchange_id_number (exchanged m now (does m.clients (ask_of who e) case))
+    with_result m (Res.Refused exchange_id_number (fault_status Memory)) ≡ or_delay true m exchange_id_number (exchanged m now (does m.clients (ask_of who e) case))
 wanted m who now e (Refuses f) is = absurd cc
 wanted m who now e (Stays c) is = refl
 wanted m who now e Adds is = refl
@@ -85,7 +85,7 @@ pub refused_last : (m : Machine) (who : Caller) (now : ℕ) (e : ExchangeId) (ne
     IsMachine m → client_at m.clients next ≡ None → judged (exchange_fault m.clients (ask_of who e)) ≡ Ok tt →
     ExchangesOrWants m.clients (ask_of who e) (Err fault) after →
     b ≡ without_lease (with_lease m.leases next now) next →
-    comes_to (record m { clients = after; leases = b }) (Res.Refused exchange_id_number (fault_status fault))
+    with_result (record m { clients = after; leases = b }) (Res.Refused exchange_id_number (fault_status fault))
     ≡ or_delay (is_delay (fault_status fault)) m exchange_id_number (exchange_id m who now e)
 refused_last m who now e next Memory after b is none judged did book =
     let back : b ≡ m.leases = book ∙ taken_back m.leases next now (unleased m next is none) in

@@ -18,7 +18,8 @@ use Rattle.nfs_files.specs.LockTold.{LockTold, Stands}
 use Rattle.nfs_files.specs.Own.{HasAsBefore}
 use Rattle.nfs_files.proofs.Inside as inside
 use Rattle.nfs_files.proofs.KeptOps.{spared, clashing}
-use Rattle.nfs_exec.specs.Machine.{Machine, is_ok}
+use Rattle.nfs_names.specs.Outcome.{is_ok}
+use Rattle.nfs_exec.specs.Machine.{Machine}
 use Rattle.nfs_exec.specs.Behind.{step, on_store, moves_opens, marked_if}
 use Rattle.nfs_exec.specs.Laws.{MachineEvent, stepped}
 use Rattle.nfs_exec.specs.Ops.{RanOp, ops_by}

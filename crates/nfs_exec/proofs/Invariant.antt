@@ -39,7 +39,7 @@ use Rattle.nfs_sessions.specs.Sessions.{Session, SessionTable, is_session, sessi
 use Rattle.nfs_sessions.specs.Sessions.{with_slots}
 use Rattle.nfs_sessions.specs.Sessions as sessions
 use Rattle.nfs_lease.specs.Renewals.{Book, has_run_out, with_lease, with_renewal, without_lease}
-use Rattle.nfs_exec.specs.Machine.{Machine, IsMachine, Outcome, is_ok, or_delay, starts, with_mark, is_client, is_confirmed}
+use Rattle.nfs_exec.specs.Machine.{Machine, IsMachine, Outcome, or_delay, starts, with_mark, is_client, is_confirmed}
 use Rattle.nfs_exec.specs.Place.{item_fault}
 use Rattle.nfs_exec.specs.ExchangeId.{exchange_id, exchange_id_number, ask_of, leases_behind, without_any_lease}
 use Rattle.nfs_exec.specs.CreateSession.{create_session_number, by_verdict, creates, by_created, confirmed, wish_of, without_any_sessions, without_any_opens}
@@ -54,7 +54,7 @@ use Rattle.nfs_names.specs.Context.{begins}
 use Rattle.nfs_names.specs.Ending.{has_open as has_open_in}
 use Rattle.nfs_names.specs.declared.node.Node.{Node}
 use Rattle.nfs_names.specs.Checks.{current}
-use Rattle.nfs_names.specs.Outcome.{Outcome as OfStore}
+use Rattle.nfs_names.specs.Outcome.{Outcome as OfStore, is_ok}
 use Rattle.nfs_names.specs.State.{State, moment}
 use Rattle.nfs_names.proofs.Untouched.{Leaves, leaves_each}
 use Rattle.nfs_opens.specs.Table.{Table}

@@ -23,7 +23,8 @@ use Rattle.nfs_results.proofs.Lengths.{length_result, length_head_within}
 use Rattle.nfs_sessions.specs.declared.channel.Channel.{Channel}
 use Rattle.nfs_sessions.specs.SessionSlots.{GrantedSlots, judge}
 use Rattle.nfs_sessions.specs.Sessions.{session_at, Session, SessionTable, keep}
-use Rattle.nfs_exec.specs.Machine.{Machine, Outcome, is_ok}
+use Rattle.nfs_names.specs.Outcome.{is_ok}
+use Rattle.nfs_exec.specs.Machine.{Machine, Outcome}
 use Rattle.nfs_exec.specs.Sequence.{Sequenced, Runs, unless, by_verdict, by_session, slot_fault, fresh_fault, accepted}
 use Rattle.nfs_names.specs.declared.context.Context.{Context}
 use Rattle.nfs_exec.specs.Run.{Ran, run, in_room, follow, is_here, behind_here}

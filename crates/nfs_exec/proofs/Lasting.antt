@@ -14,7 +14,7 @@ use Rattle.nfs_compound.specs.Request.{Request, item_number}
 use Rattle.nfs_compound.specs.declared.session_args.CreateSession.{CreateSession}
 use Rattle.nfs_compound.specs.declared.session_args.Sequence.{Sequence}
 use Rattle.nfs_results.specs.declared.res.Res.TheVariants as Res
-use Rattle.nfs_results.specs.Results.{spell_result}
+use Rattle.nfs_results.specs.Results.{spell_result, status_of_result}
 use Rattle.nfs_clients.specs.CreateSession as clients
 use Rattle.nfs_clients.specs.CreateSession.{leaving}
 use Rattle.nfs_clients.specs.DestroyClientId.{destroy_fault}
@@ -34,7 +34,8 @@ use Rattle.nfs_names.specs.Outcome as of_store
 use Rattle.nfs_files.proofs.Outcomes as files
 use Rattle.nfs_files.proofs.Outcomes.{for_each}
 use Rattle.nfs_files.proofs.Steady.{lease_names, lease_files}
-use Rattle.nfs_exec.specs.Machine.{Machine, Outcome, is_ok, or_delay}
+use Rattle.nfs_names.specs.Outcome.{is_ok}
+use Rattle.nfs_exec.specs.Machine.{Machine, Outcome, or_delay}
 use Rattle.nfs_exec.specs.Behind.{step, on_store, moves_opens, marked_if}
 use Rattle.nfs_exec.specs.Run.{run, in_room, is_here, behind_here}
 use Rattle.nfs_exec.specs.Place.{item_fault}
@@ -187,11 +188,11 @@ event_ops_last m (Asks r who size now choice) lease is d there =
 abbrev pub ten : List ℕ
 ten = 0x400 ∷ []
 
-lease_result : (s : State) (x : Context) → of_store.is_ok (get_attr s x ten).result ≡ true
+lease_result : (s : State) (x : Context) → of_store.is_ok (status_of_result (get_attr s x ten).result) ≡ true
     → (get_attr s x ten).result ≡ Res.GetAttr (record { attrmask = ten; attr_vals = number s.lease })
 unfolding attributes values number
 lease_result s x =
-    by_get_attr (λ o. of_store.is_ok o.result ≡ true → o.result ≡ Res.GetAttr (record { attrmask = ten; attr_vals = number s.lease })) s x ten
+    by_get_attr (λ o. of_store.is_ok (status_of_result o.result) ≡ true → o.result ≡ Res.GetAttr (record { attrmask = ten; attr_vals = number s.lease })) s x ten
     (λ f h ok. absurd (false≢true (sym h.done ∙ ok))) (λ d there plain ok. refl)
 
 -- a GETATTR of attribute 10 that answered NFS4_OK

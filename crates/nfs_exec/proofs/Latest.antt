@@ -24,7 +24,8 @@ use Rattle.nfs_sessions.specs.Sessions.{SessionTable, create, session_at}
 use Rattle.nfs_lease.specs.Renewals.{Book, is_out, has_run_out, with_lease, with_renewal, without_lease}
 use Rattle.nfs_lease.specs.Queue.{IsLatest}
 use Rattle.nfs_lease.proofs.Latest.{latest_lease, latest_renewal, latest_without}
-use Rattle.nfs_exec.specs.Machine.{Machine, Outcome, is_ok, or_delay}
+use Rattle.nfs_names.specs.Outcome.{is_ok}
+use Rattle.nfs_exec.specs.Machine.{Machine, Outcome, or_delay}
 use Rattle.nfs_exec.specs.Expiry.{expired, leases_kept}
 use Rattle.nfs_exec.specs.Laws.{ExpiryFindsNothing}
 use Rattle.nfs_exec.specs.Place.{item_fault}

@@ -27,7 +27,8 @@ use Rattle.nfs_sessions.specs.Sessions.{SessionTable, session_at, create}
 use Rattle.nfs_sessions.specs.declared.id.SessionId.{SessionId}
 use Rattle.nfs_sessions.specs.declared.sessions.SessionFault.{SessionFault}
 use Rattle.nfs_names.specs.State.{State}
-use Rattle.nfs_exec.specs.Machine.{Machine, Outcome, is_ok, or_delay, refuses}
+use Rattle.nfs_names.specs.Outcome.{is_ok}
+use Rattle.nfs_exec.specs.Machine.{Machine, Outcome, or_delay, refuses}
 use Rattle.nfs_exec.specs.Place.{item_fault}
 use Rattle.nfs_exec.specs.ExchangeId.{exchange_id, exchange_id_number}
 use Rattle.nfs_exec.specs.CreateSession.{create_session_number, by_verdict, creates, by_created, confirmed, made_body, wish_of, without_any_opens}

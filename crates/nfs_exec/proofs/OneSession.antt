@@ -46,7 +46,8 @@ use Rattle.nfs_names.specs.State.{moment}
 use Rattle.nfs_names.specs.Ending.{has_open}
 use Rattle.nfs_files.proofs.Outcomes as files
 use Rattle.nfs_files.proofs.Outcomes.{for_each}
-use Rattle.nfs_exec.specs.Machine.{Machine, Outcome, is_ok, or_delay, refuses, starts}
+use Rattle.nfs_names.specs.Outcome.{is_ok}
+use Rattle.nfs_exec.specs.Machine.{Machine, Outcome, or_delay, refuses, starts}
 use Rattle.nfs_exec.specs.Behind.{step, on_store, moves_opens, marked_if, otherwise}
 use Rattle.nfs_exec.specs.Run.{run, in_room, is_here, behind_here}
 use Rattle.nfs_exec.specs.Place.{item_fault}

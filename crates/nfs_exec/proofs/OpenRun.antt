@@ -20,7 +20,7 @@ use Rattle.nfs_opens.specs.Opening.{own_open}
 use Rattle.nfs_opens.specs.Table.{Table}
 use Rattle.nfs_xdr.specs.declared.time.Time.{Time}
 use Rattle.nfs_names.specs.declared.context.Context.{Context}
-use Rattle.nfs_names.specs.Outcome.{Outcome as OfStore}
+use Rattle.nfs_names.specs.Outcome.{Outcome as OfStore, is_ok}
 use Rattle.nfs_names.specs.State.{State, moment}
 use Rattle.nfs_names.specs.Operation as names
 use Rattle.nfs_names.proofs.Untouched.{leaves_each}
@@ -34,7 +34,7 @@ use Rattle.nfs_files.specs.OpenTold.{names_open, OpenTold, Bits, bits_with, bits
 use Rattle.nfs_files.specs.OpenLaws.{IsToldOpen}
 use Rattle.nfs_files.proofs.Inside.{Closes}
 use Rattle.nfs_files.proofs.ToldOpens.{same_opens, short_names_none, told_open_left, told_opens, opens_refused}
-use Rattle.nfs_exec.specs.Machine.{Machine, is_ok}
+use Rattle.nfs_exec.specs.Machine.{Machine}
 use Rattle.nfs_exec.specs.Behind.{Step, step, on_store, moves_opens, marked_if, otherwise}
 use Rattle.nfs_exec.specs.Run.{in_room}
 use Rattle.nfs_exec.specs.Laws.{MachineEvent, stepped}

@@ -12,7 +12,8 @@ use Rattle.nfs_results.specs.declared.res.Res.TheVariants as Res
 use Rattle.nfs_results.specs.Results.{spell_result, spell_compound_head}
 use Rattle.nfs_sessions.specs.declared.channel.Channel.{Channel}
 use Rattle.nfs_names.specs.declared.context.Context.{Context}
-use Rattle.nfs_exec.specs.Machine.{Machine, is_ok}
+use Rattle.nfs_names.specs.Outcome.{is_ok}
+use Rattle.nfs_exec.specs.Machine.{Machine}
 use Rattle.nfs_exec.specs.Behind.{Step}
 use Rattle.nfs_exec.specs.Run.{Ran, run, in_room, follow, is_here, behind_here}
 use Rattle.nfs_exec.specs.Sequence as sequence

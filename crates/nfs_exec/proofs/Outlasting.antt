@@ -26,7 +26,8 @@ use Rattle.nfs_sessions.specs.Id.{id_of}
 use Rattle.nfs_sessions.specs.Sessions.{SessionTable, create, session_at}
 use Rattle.nfs_lease.specs.Renewals.{Book, with_lease, with_renewal, without_lease}
 use Rattle.nfs_names.specs.Context.{begins}
-use Rattle.nfs_exec.specs.Machine.{Machine, Outcome, is_ok, or_delay, refuses}
+use Rattle.nfs_names.specs.Outcome.{is_ok}
+use Rattle.nfs_exec.specs.Machine.{Machine, Outcome, or_delay, refuses}
 use Rattle.nfs_exec.specs.Place.{item_fault}
 use Rattle.nfs_exec.specs.ExchangeId.{exchange_id, exchange_id_number, leases_behind, without_any_lease, ask_of, answered}
 use Rattle.nfs_exec.specs.CreateSession.{create_session_number, by_verdict, creates, by_created, wish_of}

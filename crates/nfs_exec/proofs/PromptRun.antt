@@ -44,14 +44,14 @@ use Rattle.nfs_sessions.specs.declared.sessions.SessionFault.TheVariants as Sess
 use Rattle.nfs_names.specs.declared.context.Context.{Context}
 use Rattle.nfs_names.specs.Context.{begins}
 use Rattle.nfs_names.specs.State.{State, moment}
-use Rattle.nfs_names.specs.Outcome.{Outcome as OfStore, or_delay as or_delay_there, is_delay}
+use Rattle.nfs_names.specs.Outcome.{Outcome as OfStore, or_delay as or_delay_there, is_delay, is_ok}
 use Rattle.nfs_names.specs.Checks.{current}
 use Rattle.nfs_names.specs.Operation as names
 use Rattle.nfs_names.proofs.Faulted.{status_of_refusal}
 use Rattle.nfs_names.proofs.Ones.{each_of}
 use Rattle.nfs_files.proofs.Outcomes as files
 use Rattle.nfs_files.proofs.Outcomes.{for_each}
-use Rattle.nfs_exec.specs.Machine.{Machine, Outcome, is_ok, or_delay, refuses as exec_refuses, starts}
+use Rattle.nfs_exec.specs.Machine.{Machine, Outcome, or_delay, refuses as exec_refuses, starts}
 use Rattle.nfs_exec.specs.Behind.{step, on_store, moves_opens, marked_if, otherwise}
 use Rattle.nfs_exec.specs.CreateSession.{create_session_number, by_verdict, creates, by_created, made_body, wish_of}
 use Rattle.nfs_exec.specs.Destroy.{destroy_session, destroyed_unless, has_session}

@@ -10,8 +10,8 @@ use Rattle.nfs_compound.specs.declared.op.Item.{Item}
 use Rattle.nfs_compound.specs.Request.{Request}
 use Rattle.nfs_names.specs.declared.context.Context.{Context}
 use Rattle.nfs_names.specs.StoreInvariants.{IsStore}
-use Rattle.nfs_names.specs.Outcome.{is_delay}
-use Rattle.nfs_exec.specs.Machine.{Machine, Outcome, is_ok}
+use Rattle.nfs_names.specs.Outcome.{is_delay, is_ok}
+use Rattle.nfs_exec.specs.Machine.{Machine, Outcome}
 use Rattle.nfs_exec.specs.Behind.{Step}
 use Rattle.nfs_exec.specs.Run.{Ran, run, in_room, follow, only, is_here, behind_here}
 use Rattle.nfs_exec.specs.View.{RunsTo, Steps, CanBear}

@@ -12,7 +12,7 @@ use Rattle.nfs_results.specs.declared.res.Res.{Res}
 use Rattle.nfs_results.specs.Results.{spell_result, status_of_result, refusal}
 use Rattle.nfs_results.specs.ResultCodec.{HasArrays}
 use Rattle.nfs_names.specs.Outcome.{is_delay}
-use Rattle.nfs_exec.specs.Machine.{Machine, Outcome, comes_to, refuses}
+use Rattle.nfs_exec.specs.Machine.{Machine, Outcome, with_result, refuses}
 use Rattle.nfs_exec.specs.Place.{item_fault}
 use Rattle.nfs_exec.specs.Compound.{carried_out, by_fault, first_item}
 use Rattle.nfs_exec.specs.View.{Does, IsSmall}
@@ -22,7 +22,7 @@ small_fits sheet r room small arrays = (let long = small.1 arrays in omega (arit
 
 -- a result that was put
 pub put_does : (m left : Machine) (declared : ℕ) (who : Caller) (now : ℕ) (i : Item) (r : Res) (s : Status) (old new : SheetState) →
-    comes_to left r ≡ first_item m declared who now (is_delay (status_of_result r)) i → s ≡ status_of_result r → Puts old new (spell_result r) →
+    with_result left r ≡ first_item m declared who now (is_delay (status_of_result r)) i → s ≡ status_of_result r → Puts old new (spell_result r) →
     Does (first_item m declared who now (is_delay s) i) s left old new
 put_does m left declared who now i r s old new is status put =
     subst (λ (t : Status). Does (first_item m declared who now (is_delay t) i) t left old new) (sym status)
@@ -30,7 +30,7 @@ put_does m left declared who now i r s old new is status put =
 
 -- an item that cannot stand in the first place
 pub misplaced : (m : Machine) (declared : ℕ) (who : Caller) (now : ℕ) (refused : Bool) (i : Item) (s : Status) → item_fault declared i ≡ Some s →
-    comes_to m (refusal (item_number i) s) ≡ first_item m declared who now refused i
+    with_result m (refusal (item_number i) s) ≡ first_item m declared who now refused i
 misplaced m declared who now refused i s fault = ap (λ (f : Option Status). by_fault m (item_number i) f (carried_out m who now refused i)) (sym fault)
 
 -- what none of the four operations is
@@ -44,10 +44,10 @@ not_carried m who now refused (Op.DestroyClientId x) e c s d = absurd (d x refl)
 not_carried m who now refused op e c s d = refl
 
 pub branch_done : (m left kept : Machine) (declared : ℕ) (who : Caller) (now : ℕ) (i j : Item) (r s : Res) → left ≡ kept →
-    r ≡ s → i ≡ j → item_fault declared i ≡ None → comes_to kept s ≡ carried_out m who now (is_delay (status_of_result s)) j →
-    comes_to left r ≡ first_item m declared who now (is_delay (status_of_result r)) i
+    r ≡ s → i ≡ j → item_fault declared i ≡ None → with_result kept s ≡ carried_out m who now (is_delay (status_of_result s)) j →
+    with_result left r ≡ first_item m declared who now (is_delay (status_of_result r)) i
 branch_done m left kept declared who now i j r s same told at none is =
-    ap (λ (k : Machine). comes_to k r) same ∙ ap (comes_to kept) told ∙ is
+    ap (λ (k : Machine). with_result k r) same ∙ ap (with_result kept) told ∙ is
     ∙ ap (λ (t : Res). carried_out m who now (is_delay (status_of_result t)) j) (sym told)
     ∙ ap (carried_out m who now (is_delay (status_of_result r))) (sym at)
     ∙ ap (λ (f : Option Status). by_fault m (item_number i) f (carried_out m who now (is_delay (status_of_result r)) i)) (sym none)

@@ -39,7 +39,8 @@ use Rattle.nfs_files.proofs.Outcomes as files
 use Rattle.nfs_files.proofs.Outcomes.{for_each}
 use Rattle.nfs_names.proofs.Sound as of_names
 use Rattle.nfs_files.proofs.Sound as of_files
-use Rattle.nfs_exec.specs.Machine.{Machine, Outcome, is_ok, or_delay, starts, HasNoClashes}
+use Rattle.nfs_names.specs.Outcome.{is_ok}
+use Rattle.nfs_exec.specs.Machine.{Machine, Outcome, or_delay, starts, HasNoClashes}
 use Rattle.nfs_exec.specs.Behind.{Step, step, on_store, moves_opens, marked_if, otherwise}
 use Rattle.nfs_exec.specs.Run.{run, in_room, reserve, is_here, behind_here}
 use Rattle.nfs_exec.specs.Place.{item_fault}

@@ -11,7 +11,7 @@ use Rattle.nfs_names.specs.State.{moment}
 use Rattle.nfs_names.specs.Outcome.{Outcome as OfStore}
 use Rattle.nfs_names.specs.Operation as names
 use Rattle.nfs_files.specs.Operation as files
-use Rattle.nfs_exec.specs.Machine.{Machine, Outcome, comes_to, refuses, with_mark}
+use Rattle.nfs_exec.specs.Machine.{Machine, Outcome, with_result, refuses, with_mark}
 use Rattle.nfs_exec.specs.Place.{status_behind}
 use Rattle.nfs_exec.specs.ReclaimComplete.{reclaim_complete}
 
@@ -25,7 +25,7 @@ stays m x item status = record { outcome = refuses m (item_number item) status; 
 
 -- an operation on the store leaves the other tables as they are
 abbrev pub on_store : Machine → OfStore → Step
-on_store m o = record { outcome = comes_to (record m { store = o.state }) o.result; context = o.context }
+on_store m o = record { outcome = with_result (record m { store = o.state }) o.result; context = o.context }
 
 -- OPEN and CLOSE alone can move whether a client has an open ..
 abbrev pub moves_opens : Item → Bool

@@ -16,7 +16,7 @@ use Rattle.nfs_sessions.specs.declared.channel.Channel.{Channel}
 use Rattle.nfs_sessions.specs.SessionSlots.{rpc_head}
 use Rattle.nfs_sessions.specs.Id.{id_of}
 use Rattle.nfs_sessions.specs.Sessions.{keep}
-use Rattle.nfs_exec.specs.Machine.{Machine, Outcome, comes_to, refuses, or_delay}
+use Rattle.nfs_exec.specs.Machine.{Machine, Outcome, with_result, refuses, or_delay}
 use Rattle.nfs_exec.specs.Place.{item_fault}
 use Rattle.nfs_exec.specs.ExchangeId.{exchange_id, exchange_id_number}
 use Rattle.nfs_exec.specs.CreateSession.{create_session}
@@ -66,7 +66,7 @@ run_in m r who now choice s c more = run c.response (begun r s c) now choice m (
 
 -- SEQUENCE answers, and what is behind it runs
 abbrev pub runs_behind : Machine → Request → Caller → ℕ → Option ℕ → Sequence → Channel → List Item → Ran
-runs_behind m r who now choice s c more = follow (comes_to m (Res.Sequence (accepted s c))) (run_in m r who now (behind_here choice) s c more)
+runs_behind m r who now choice s c more = follow (with_result m (Res.Sequence (accepted s c))) (run_in m r who now (behind_here choice) s c more)
 
 -- the slot keeps the whole answer
 abbrev pub keeps : Request → Caller → Sequence → Answered → Answered

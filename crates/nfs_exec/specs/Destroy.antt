@@ -12,13 +12,13 @@ use Rattle.nfs_clients.specs.declared.destroy.DestroyFault.{DestroyFault}
 use Rattle.nfs_clients.specs.Roster.{without}
 use Rattle.nfs_clients.specs.DestroyClientId.{destroy_fault, destroy_status}
 use Rattle.nfs_lease.specs.Renewals.{without_lease}
-use Rattle.nfs_exec.specs.Machine.{Machine, Outcome, comes_to, refuses}
+use Rattle.nfs_exec.specs.Machine.{Machine, Outcome, with_result, refuses}
 
 -- a session goes with its slots
 abbrev pub destroy_session : Machine → List ℕ → Outcome
 destroy_session m sessionid =
     if is_some (session_at m.sessions (id_of sessionid))
-    then comes_to (record m { sessions = sessions.destroyed m.sessions (id_of sessionid) }) Res.DestroySession
+    then with_result (record m { sessions = sessions.destroyed m.sessions (id_of sessionid) }) Res.DestroySession
     else refuses m (op_number Num.DestroySession) BadSession
 
 abbrev pub has_session : SessionTable → ℕ → Bool
@@ -26,7 +26,7 @@ has_session t client = list_any (λ s. s.client == client) t.sessions
 
 -- a client goes with its lease, where it has neither a session nor an open
 abbrev pub destroyed_unless : Machine → ℕ → Option DestroyFault → Outcome
-destroyed_unless m client None = comes_to (record m { clients = without m.clients client; leases = without_lease m.leases client }) Res.DestroyClientId
+destroyed_unless m client None = with_result (record m { clients = without m.clients client; leases = without_lease m.leases client }) Res.DestroyClientId
 destroyed_unless m client (Some fault) = refuses m (op_number Num.DestroyClientId) (destroy_status fault)
 
 abbrev pub destroy_client : Machine → ℕ → Outcome

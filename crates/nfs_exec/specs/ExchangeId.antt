@@ -11,7 +11,7 @@ use Rattle.nfs_clients.specs.declared.exchange_id.ClientFault.{ClientFault}
 use Rattle.nfs_clients.specs.ExchangeId.{Ask, Did, asks, exchange, fault_status}
 use Rattle.nfs_lease.specs.Renewals.{Book, with_lease, without_lease}
 use Rattle.nfs_xdr.specs.Caller.{Caller}
-use Rattle.nfs_exec.specs.Machine.{Machine, Outcome, comes_to}
+use Rattle.nfs_exec.specs.Machine.{Machine, Outcome, with_result}
 
 abbrev pub exchange_id_number : ℕ
 exchange_id_number = op_number Num.ExchangeId
@@ -53,7 +53,7 @@ abbrev pub ask_of : Caller → ExchangeId → Ask
 ask_of who e = asks e.ownerid e.verifier e.flags who.uid
 
 abbrev pub exchanged : Machine → ℕ → Did → Outcome
-exchanged m now did = comes_to (record m { clients = did.after; leases = leases_behind m.leases now did.answer }) (answered did.answer)
+exchanged m now did = with_result (record m { clients = did.after; leases = leases_behind m.leases now did.answer }) (answered did.answer)
 
 abbrev pub exchange_id : Machine → Caller → ℕ → ExchangeId → Outcome
 exchange_id m who now e = exchanged m now (exchange m.clients (ask_of who e))

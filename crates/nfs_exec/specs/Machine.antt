@@ -1,15 +1,15 @@
 -- What stands between two records: the meanings of the server's tables; and what one operation comes to.
-use Rattle.std.specs.Prelude.{◌≡◌, ℕ, suc, Bool, true, false, ◌==◌, ◌&&◌, List, is_some, if◌then◌else◌}
+use Rattle.std.specs.Prelude.{◌≡◌, ℕ, suc, Bool, true, false, ◌&&◌, List, is_some, if◌then◌else◌}
 use Rattle.std.specs.Option.{option_map_or}
 use Rattle.nfs_xdr.specs.declared.status.Status.{Status}
-use Rattle.nfs_xdr.specs.declared.status.Status.TheVariants.{Nfs4Ok, Delay}
-use Rattle.nfs_xdr.specs.Status.{status_number}
+use Rattle.nfs_xdr.specs.declared.status.Status.TheVariants.{Delay}
 use Rattle.nfs_xdr.specs.Tables.{IsRising, In}
 use Rattle.nfs_results.specs.declared.res.Res.{Res}
 use Rattle.nfs_results.specs.Results.{status_of_result, spell_result, refusal}
 use Rattle.nfs_opens.specs.declared.records.OpenState.{OpenState}
 use Rattle.nfs_ranges.specs.Holders.{HasNoClash}
 use Rattle.nfs_opens.specs.Table.{clashes_with, as_asked}
+use Rattle.nfs_names.specs.Outcome.{is_ok}
 use Rattle.nfs_names.specs.Ending.{has_open}
 use Rattle.nfs_names.specs.State.{State, new_store, moment, state_of}
 use Rattle.nfs_lease.specs.Renewals.{Book, no_leases, leases_of}
@@ -44,16 +44,13 @@ pub record Outcome : Type 0 where
   pub result : List ℕ
   pub machine : Machine
 
-abbrev pub is_ok : Status → Bool
-is_ok s = status_number s == status_number Nfs4Ok
-
--- a result that is a value
-abbrev pub comes_to : Machine → Res → Outcome
-comes_to m r = record { status = status_of_result r; result = spell_result r; machine = m }
+-- the outcome with this result, and this machine behind it
+abbrev pub with_result : Machine → Res → Outcome
+with_result m r = record { status = status_of_result r; result = spell_result r; machine = m }
 
 -- the refusal of an operation, which changes nothing
 abbrev pub refuses : Machine → ℕ → Status → Outcome
-refuses m operation status = comes_to m (refusal operation status)
+refuses m operation status = with_result m (refusal operation status)
 
 -- What an operation that may want memory comes to: where memory was refused it answers NFS4ERR_DELAY in place of
 -- NFS4_OK and changes nothing; a refusal of its own comes before that.

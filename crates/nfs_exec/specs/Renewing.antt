@@ -8,7 +8,8 @@ use Rattle.nfs_compound.specs.Request.{Request}
 use Rattle.nfs_clients.specs.declared.exchange_id.Exchanged.{Exchanged}
 use Rattle.nfs_clients.specs.declared.exchange_id.ClientFault.{ClientFault}
 use Rattle.nfs_clients.specs.ExchangeId.{exchange}
-use Rattle.nfs_exec.specs.Machine.{Machine, is_ok}
+use Rattle.nfs_names.specs.Outcome.{is_ok}
+use Rattle.nfs_exec.specs.Machine.{Machine}
 use Rattle.nfs_exec.specs.ExchangeId.{ask_of}
 use Rattle.nfs_exec.specs.Run.{is_here}
 use Rattle.nfs_exec.specs.Compound.{first_item}

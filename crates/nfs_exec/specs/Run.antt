@@ -6,7 +6,8 @@ use Rattle.nfs_xdr.specs.declared.status.Status.TheVariants.{Nfs4Ok, RepTooBig}
 use Rattle.nfs_compound.specs.declared.op.Item.{Item}
 use Rattle.nfs_results.specs.Largest.{largest}
 use Rattle.nfs_names.specs.declared.context.Context.{Context}
-use Rattle.nfs_exec.specs.Machine.{Machine, Outcome, is_ok}
+use Rattle.nfs_names.specs.Outcome.{is_ok}
+use Rattle.nfs_exec.specs.Machine.{Machine, Outcome}
 use Rattle.nfs_exec.specs.Behind.{Step, stays, step}
 
 -- The place at which memory was refused, if any, is counted from here ..

@@ -1,7 +1,7 @@
 //! DESTROY_SESSION (RFC 8881 section 18.37) and DESTROY_CLIENTID (section 18.50).
 
 ghost use Rattle.std.specs.Prelude.{◌≡◌};
-ghost use Rattle.nfs_exec.specs.Machine.{comes_to, machine_of};
+ghost use Rattle.nfs_exec.specs.Machine.{with_result, machine_of};
 ghost use Rattle.nfs_exec.specs.Destroy.{destroy_session, destroy_client};
 ghost use Rattle.nfs_exec.specs.View.{IsSmall};
 
@@ -14,7 +14,7 @@ use nfs_xdr::Status;
 impl Tables {
     /// Ends a session, with its slots.
     pub(crate) fn destroy_session(&mut self, sessionid: &[u8; 16]) -> Res<'static>
-        ensures outcome { comes_to (machine_of self.new) result ≡ destroy_session (machine_of self.old) sessionid.now }
+        ensures outcome { with_result (machine_of self.new) result ≡ destroy_session (machine_of self.old) sessionid.now }
         ensures size { IsSmall result }
     {
         if self.sessions.destroy(&SessionId::from_bytes(sessionid)) {
@@ -25,7 +25,7 @@ impl Tables {
 
     /// Ends a client that has neither a session nor an open, with its lease.
     pub(crate) fn destroy_client(&mut self, client: u64) -> Res<'static>
-        ensures outcome { comes_to (machine_of self.new) result ≡ destroy_client (machine_of self.old) client }
+        ensures outcome { with_result (machine_of self.new) result ≡ destroy_client (machine_of self.old) client }
         ensures size { IsSmall result }
     {
         match self

@@ -11,7 +11,7 @@ ghost use Rattle.nfs_results.specs.MayAnswer.{MayAnswer};
 ghost use Rattle.nfs_results.specs.declared.res.Res.TheVariants as Res;
 ghost use Rattle.nfs_results.specs.Results.{status_of_result};
 ghost use Rattle.nfs_names.specs.Outcome.{is_delay};
-ghost use Rattle.nfs_exec.specs.Machine.{IsMachine, comes_to, or_delay, machine_of};
+ghost use Rattle.nfs_exec.specs.Machine.{IsMachine, with_result, or_delay, machine_of};
 ghost use Rattle.nfs_exec.specs.ExchangeId.{exchange_id, exchange_id_number, granted};
 ghost use Rattle.nfs_exec.specs.View.{settled};
 
@@ -38,7 +38,7 @@ impl Tables {
     ) -> Res<'static>
         requires machine { IsMachine (machine_of self.old) }
         requires latest { IsLatest (machine_of self.old).leases now }
-        ensures outcome { comes_to (machine_of self.new) result
+        ensures outcome { with_result (machine_of self.new) result
             ≡ or_delay (is_delay (status_of_result result)) (machine_of self.old) exchange_id_number
             (exchange_id (machine_of self.old) (caller who.now) now asked.now) }
         ensures size { MayAnswer (Operation (Op.ExchangeId asked.now)) result }

@@ -5,7 +5,7 @@ ghost use Rattle.nfs_compound.specs.declared.op_num.OpNum.TheVariants as Num;
 ghost use Rattle.nfs_compound.specs.OpNum.{op_number};
 ghost use Rattle.nfs_results.specs.Results.{spell_result, refusal};
 ghost use Rattle.nfs_results.specs.ResultCodec.{IsBounded};
-ghost use Rattle.nfs_exec.specs.Machine.{comes_to, machine_of};
+ghost use Rattle.nfs_exec.specs.Machine.{with_result, machine_of};
 ghost use Rattle.nfs_exec.specs.ReclaimComplete.{reclaim_complete};
 ghost use Rattle.nfs_exec.specs.Run.{reserve};
 
@@ -19,7 +19,7 @@ impl Tables {
     /// Notes that a client has nothing more to reclaim, once; of the current filehandle's file system alone (`one`), nothing
     /// is noted.
     pub(crate) fn reclaim_complete(&mut self, context: &Context<'_>, one: bool) -> Res<'static>
-        ensures outcome { comes_to (machine_of self.new) result ≡ reclaim_complete (machine_of self.old) context.now one }
+        ensures outcome { with_result (machine_of self.new) result ≡ reclaim_complete (machine_of self.old) context.now one }
         ensures bounds { IsBounded result }
         ensures short { length (spell_result result) ≤ reserve }
         ensures store { self.new.store ≡ self.old.store }

@@ -11,7 +11,7 @@ ghost use Rattle.nfs_results.specs.ResultCodec.{IsBounded};
 ghost use Rattle.nfs_names.specs.StoreInvariants.{IsStore};
 ghost use Rattle.nfs_sessions.specs.SessionSlots.{rpc_head};
 ghost use Rattle.nfs_names.specs.Outcome.{is_delay};
-ghost use Rattle.nfs_exec.specs.Machine.{comes_to, machine_of, with_mark};
+ghost use Rattle.nfs_exec.specs.Machine.{with_result, machine_of, with_mark};
 ghost use Rattle.nfs_exec.specs.Place.{status_behind};
 ghost use Rattle.nfs_exec.specs.Behind.{step, moves_opens, otherwise};
 ghost use Rattle.nfs_exec.specs.Run.{run, in_room, reserve};
@@ -179,7 +179,7 @@ impl Tables {
     /// What an operation that is not on the store comes to.
     fn unstored(&mut self, op: &Op<'_>, context: &Context<'_>) -> Res<'static>
         requires bears { CanBear (Operation op.now) }
-        ensures outcome { comes_to (machine_of self.new) result ≡ (otherwise (machine_of self.old) context.now (Operation op.now)).outcome }
+        ensures outcome { with_result (machine_of self.new) result ≡ (otherwise (machine_of self.old) context.now (Operation op.now)).outcome }
         ensures bounds { IsBounded result }
         ensures short { length (spell_result result) ≤ reserve }
         ensures store { self.new.store ≡ self.old.store }

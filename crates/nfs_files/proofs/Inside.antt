@@ -13,6 +13,7 @@ use Rattle.nfs_opens.specs.TableInvariants.{IsTable}
 use Rattle.nfs_opens.specs.Table.{Table, lock_at}
 use Rattle.nfs_opens.specs.Locking.{unlock}
 use Rattle.nfs_opens.specs.Closing as opens
+use Rattle.nfs_results.specs.Results.{status_of_result}
 use Rattle.nfs_names.specs.declared.context.Context.{Context}
 use Rattle.nfs_names.specs.State.{State}
 use Rattle.nfs_names.specs.Outcome.{is_ok}
@@ -74,7 +75,7 @@ pub record Tells (k : LockTold) (s : State) (x : Context) (op : Op) (left : Tabl
 -- An operation that spares a lock, or does not answer NFS4_OK, leaves it.
 abbrev pub SparedLocksStay : Type 0
 SparedLocksStay = (k : LockTold) (s : State) (x : Context) (now : Time) (refused : Bool) (op : Op) → IsTable s.opens → k.first ≤ k.last
-    → (is_ok (one_or_delay refused s x now op).result ≡ true → Spares k s x op) → Stands k s.opens
+    → (is_ok (status_of_result (one_or_delay refused s x now op).result) ≡ true → Spares k s x op) → Stands k s.opens
     → Stands k (one_or_delay refused s x now op).state.opens
 
 -- A LOCK that clashes with a lock that stands is not granted.
@@ -85,5 +86,5 @@ ClashesAreNotGranted = (k : LockTold) (s : State) (x : Context) (op : Op) (n : �
 -- Behind a LOCK that answered NFS4_OK the lock that it tells stands.
 abbrev pub ToldLocksStand : Type 0
 ToldLocksStand = (k : LockTold) (s : State) (x : Context) (now : Time) (refused : Bool) (op : Op)
-    → is_ok (one_or_delay refused s x now op).result ≡ true → Tells k s x op (one_or_delay refused s x now op).state.opens
+    → is_ok (status_of_result (one_or_delay refused s x now op).result) ≡ true → Tells k s x op (one_or_delay refused s x now op).state.opens
     → Stands k (one_or_delay refused s x now op).state.opens

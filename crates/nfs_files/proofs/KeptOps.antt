@@ -29,6 +29,7 @@ use Rattle.nfs_opens.specs.Closing as closing
 use Rattle.nfs_opens.specs.Opening as opening
 use Rattle.nfs_opens.specs.Locking as locking
 use Rattle.nfs_opens.specs.Steps.{map_err}
+use Rattle.nfs_results.specs.Results.{status_of_result}
 use Rattle.nfs_names.specs.declared.context.Context.{Context}
 use Rattle.nfs_names.specs.declared.node.Node.{Node}
 use Rattle.nfs_names.specs.State.{State}
@@ -139,41 +140,41 @@ keeps_one k s x now op table some spares is = is
 
 -- what is granted answers NFS4_OK
 pub lock_ok : (s : State) (x : Context) (now : Time) (a : args.Lock) (m : _) (did : _) → of_lock.locking s x a ≡ Ok m
-    → of_lock.locks_as s.opens a.locker m.id m.wish ≡ Ok did → is_ok (one s x now (Op.Lock a)).result ≡ true
+    → of_lock.locks_as s.opens a.locker m.id m.wish ≡ Ok did → is_ok (status_of_result (one s x now (Op.Lock a)).result) ≡ true
 unfolding of_lock.lock
-lock_ok s x now a m did judged granted = ap (λ v. is_ok (answers s x Num.Lock v (of_lock.locks s x a.locker)).result) judged
-    ∙ ap (λ v. is_ok (of_lock.locked s x v).result) granted
+lock_ok s x now a m did judged granted = ap (λ v. is_ok (status_of_result (answers s x Num.Lock v (of_lock.locks s x a.locker)).result)) judged
+    ∙ ap (λ v. is_ok (status_of_result (of_lock.locked s x v).result)) granted
 
 unlock_ok : (s : State) (x : Context) (now : Time) (a : LockU) (m : _) (did : _) → unlocking s x a ≡ Ok m
-    → locking.unlock s.opens m.id m.wish.client m.wish.file m.wish.first m.wish.last ≡ Ok did → is_ok (one s x now (Op.LockU a)).result ≡ true
+    → locking.unlock s.opens m.id m.wish.client m.wish.file m.wish.first m.wish.last ≡ Ok did → is_ok (status_of_result (one s x now (Op.LockU a)).result) ≡ true
 unfolding lock_u
-unlock_ok s x now a m did judged granted = ap (λ v. is_ok (answers s x Num.LockU v (unlocks s x)).result) judged
-    ∙ ap (λ v. is_ok (answers s x Num.LockU (map_err status_of v) (λ did. unlocked s x did.0 did.1)).result) granted
+unlock_ok s x now a m did judged granted = ap (λ v. is_ok (status_of_result (answers s x Num.LockU v (unlocks s x)).result)) judged
+    ∙ ap (λ v. is_ok (status_of_result (answers s x Num.LockU (map_err status_of v) (λ did. unlocked s x did.0 did.1)).result)) granted
 
 pub close_ok : (s : State) (x : Context) (now : Time) (a : Close) (file : ℕ) (id : StateId) (did : _) → target s x Own a.open_stateid ≡ Ok (record { file = file; id = id })
-    → closing.close s.opens id x.client file ≡ Ok did → is_ok (one s x now (Op.Close a)).result ≡ true
+    → closing.close s.opens id x.client file ≡ Ok did → is_ok (status_of_result (one s x now (Op.Close a)).result) ≡ true
 unfolding close
-close_ok s x now a file id did judged granted = ap (λ v. is_ok (answers s x Num.Close v (closes s x)).result) judged
-    ∙ ap (λ v. is_ok (answers s x Num.Close v (λ did. closed s x file did.1)).result) granted
+close_ok s x now a file id did judged granted = ap (λ v. is_ok (status_of_result (answers s x Num.Close v (closes s x)).result)) judged
+    ∙ ap (λ v. is_ok (status_of_result (answers s x Num.Close v (λ did. closed s x file did.1)).result)) granted
 
 -- what answers NFS4_OK spares it, so what is granted does
-spares_granted : (k : LockTold) (s : State) (x : Context) (now : Time) (op : Op) → (is_ok (one s x now op).result ≡ true → Spares k s x op) → Spares k s x op
+spares_granted : (k : LockTold) (s : State) (x : Context) (now : Time) (op : Op) → (is_ok (status_of_result (one s x now op).result) ≡ true → Spares k s x op) → Spares k s x op
 spares_granted k s x now op spares = record {
-  locks = λ n w is mine. (spares (subst (λ o. is_ok (one s x now o).result ≡ true) (sym is.is)
+  locks = λ n w is mine. (spares (subst (λ o. is_ok (status_of_result (one s x now o).result) ≡ true) (sym is.is)
       (lock_ok s x now is.asked (record { wish = w; id = is.id }) is.did is.judged is.granted))).locks n w is mine;
-  unlocks = λ n w is mine. (spares (subst (λ o. is_ok (one s x now o).result ≡ true) (sym is.is)
+  unlocks = λ n w is mine. (spares (subst (λ o. is_ok (status_of_result (one s x now o).result) ≡ true) (sym is.is)
       (unlock_ok s x now is.asked (record { wish = w; id = is.id }) is.did is.judged is.granted))).unlocks n w is mine;
-  closes = λ n is. (spares (subst (λ o. is_ok (one s x now o).result ≡ true) (sym is.is)
+  closes = λ n is. (spares (subst (λ o. is_ok (status_of_result (one s x now o).result) ≡ true) (sym is.is)
       (close_ok s x now is.asked is.file is.id is.did is.judged is.granted))).closes n is;
 }
 
 pub spared : SparedLocksStay
 spared k s x now refused op table some spares is = go (grows s x op && refused) spares
   where
-    go : (b : Bool) → (is_ok (or_delay b s x (arguments op).op (one s x now op)).result ≡ true → Spares k s x op)
+    go : (b : Bool) → (is_ok (status_of_result (or_delay b s x (arguments op).op (one s x now op)).result) ≡ true → Spares k s x op)
         → Keeps k (or_delay b s x (arguments op).op (one s x now op)).state
     go false spares = keeps_one k s x now op table some (spares_granted k s x now op spares) is
-    go true spares = elim (cases_Bool (is_ok (one s x now op).result)) [
+    go true spares = elim (cases_Bool (is_ok (status_of_result (one s x now op).result))) [
       | inl ok ↦ rw ok is
       | inr bad ↦ rw bad (keeps_one k s x now op table some (spares_granted k s x now op (λ ok. absurd (let no = sym ok ∙ bad in cc))) is)
     ]

@@ -52,7 +52,7 @@ not_both n = not_both_by n (eqb n 10008) refl
 pub own_refusal : (w : Bool) (s : State) (x : Context) (op : OpNum) (status : Status) (o : Outcome)
     → status_of_result o.result ≡ status → or_delay (w && is_delay status) s x op o ≡ o
 own_refusal w s x op status o e =
-    let no : (w && is_delay status) && is_ok o.result ≡ false = elim w as (λ v. (v && is_delay status) && is_ok o.result ≡ false)
+    let no : (w && is_delay status) && is_ok (status_of_result o.result) ≡ false = elim w as (λ v. (v && is_delay status) && is_ok (status_of_result o.result) ≡ false)
     [ true ↦ ap (λ st. is_delay status && eqb (status_number st) 0) e ∙ not_both (status_number status) | false ↦ refl ] in
     ap (λ b. cond b (refuses s x op S.Delay) o) no
 
@@ -82,7 +82,7 @@ lock_tells old did new F.Memory h = inl (refl, refl, h.0, h.1)
 -- what an outcome by such a call comes to, if it is done where the call is, and refuses where the call does
 pub refused_outcome : (s : State) (x : Context) (op : OpNum) (grows : Bool) (did : Result (StateId × Table) OpenFault)
     (outcome : Result (StateId × Table) OpenFault → Outcome) (fault : OpenFault) (r : Res) (new : Table)
-    → ((v : Result (StateId × Table) OpenFault) → IsOk v → is_ok (outcome v).result ≡ true)
+    → ((v : Result (StateId × Table) OpenFault) → IsOk v → is_ok (status_of_result (outcome v).result) ≡ true)
     → outcome (Err fault) ≡ refuses s x op (status_of fault)
     → r ≡ refusal (op_number op) (status_of fault) → Wanted s.opens grows did new fault ⊎ Told s.opens did new fault
     → told_with s x r new ≡ or_delay (grows && is_delay (status_of fault)) s x op (outcome did)
@@ -104,11 +104,11 @@ refused_outcome s x op grows did outcome fault r new goes stops is (inr told) =
 abbrev pub unlocked_by : State → Context → Result (StateId × Table) OpenFault → Outcome
 unlocked_by s x v = answers s x Num.LockU (map_err status_of v) (λ did. unlocked s x did.0 did.1)
 
-pub ok_unlocked : (s : State) (x : Context) (v : Result (StateId × Table) OpenFault) → IsOk v → is_ok (unlocked_by s x v).result ≡ true
+pub ok_unlocked : (s : State) (x : Context) (v : Result (StateId × Table) OpenFault) → IsOk v → is_ok (status_of_result (unlocked_by s x v).result) ≡ true
 ok_unlocked s x (Ok did) h = refl
 ok_unlocked s x (Err fault) h = absurd cc
 
-pub ok_locked : (s : State) (x : Context) (v : Result (StateId × Table) OpenFault) → IsOk v → is_ok (locked s x v).result ≡ true
+pub ok_locked : (s : State) (x : Context) (v : Result (StateId × Table) OpenFault) → IsOk v → is_ok (status_of_result (locked s x v).result) ≡ true
 ok_locked s x (Ok did) h = refl
 ok_locked s x (Err fault) h = absurd cc
 

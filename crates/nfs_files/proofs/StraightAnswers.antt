@@ -14,7 +14,7 @@ use Rattle.nfs_compound.specs.declared.lock_args.LockT.{LockT}
 use Rattle.nfs_compound.specs.declared.op.Op.{Op}
 use Rattle.nfs_compound.specs.declared.op.Item.TheVariants.{Operation}
 use Rattle.nfs_results.specs.declared.res.Res.{Res}
-use Rattle.nfs_results.specs.Results.{spell_result, operation_of, refusal}
+use Rattle.nfs_results.specs.Results.{spell_result, operation_of, refusal, status_of_result}
 use Rattle.nfs_results.specs.ResultCodec.{HasArrays}
 use Rattle.nfs_results.specs.Largest.{largest, largest_of, number_of, asked}
 use Rattle.nfs_results.specs.MayAnswer.{HasSizes}
@@ -61,7 +61,7 @@ lock_short s x a = by_lock (λ o. IsShort (Op.Lock a) o.result) s x a
 
 pub short_lock : (b : Bool) (s : State) (x : Context) (a : Lock) → IsShort (Op.Lock a) (or_delay b s x Num.Lock (lock s x a)).result
 short_lock b s x a =
-    elim (b && is_ok (lock s x a).result) as (λ k. IsShort (Op.Lock a) (cond k (refuses s x Num.Lock Delay) (lock s x a)).result) [
+    elim (b && is_ok (status_of_result (lock s x a).result)) as (λ k. IsShort (Op.Lock a) (cond k (refuses s x Num.Lock Delay) (lock s x a)).result) [
       | true ↦ record { number = refl; sizes = tt; arrays = tt }
       | false ↦ lock_short s x a
     ]

@@ -25,7 +25,7 @@ use Rattle.nfs_compound.specs.OpNum.{op_number}
 use Rattle.nfs_compound.specs.declared.op.Op.TheVariants as Op
 use Rattle.nfs_results.specs.declared.res.Denied as result
 use Rattle.nfs_results.specs.declared.res.Res.{Res}
-use Rattle.nfs_results.specs.Results.{spell_result, refusal, done_head}
+use Rattle.nfs_results.specs.Results.{spell_result, refusal, done_head, status_of_result}
 use Rattle.nfs_results.proofs.Lengths.{length_head, length_spelled}
 use Rattle.nfs_opens.specs.declared.stateid.StateId.{StateId}
 use Rattle.nfs_opens.specs.declared.stateid.CurrentSeqid.TheVariants.{Any, Own}
@@ -118,7 +118,7 @@ denied_names d m names = let bad : ◌≡◌ {A = ℕ} 39 0 = ap (λ (text : Lis
 -- or the operation came to what it comes to
 delay_or_not : (b : Bool) (s : State) (x : Context) (op : OpNum) (o : Outcome)
     → ((or_delay b s x op o).result ≡ refusal (op_number op) Delay) ⊎ ((or_delay b s x op o).result ≡ o.result)
-delay_or_not b s x op o = elim (cases_Bool (b && is_ok o.result)) [ inl here ↦ inl (rw here refl) | inr other ↦ inr (rw other refl) ]
+delay_or_not b s x op o = elim (cases_Bool (b && is_ok (status_of_result o.result))) [ inl here ↦ inl (rw here refl) | inr other ↦ inr (rw other refl) ]
 
 undelayed : (op : OpNum) (b : Bool) (s : State) (x : Context) (o : Outcome) (m : ℕ)
     → (Names op (spell_result (refusal (op_number op) Delay)) m → ⊥)
@@ -128,10 +128,10 @@ undelayed op b s x o m never names = elim (delay_or_not b s x op o) [
   | inr same ↦ subst (λ r. Names op (spell_result r) m) same names
 ]
 
-ok_same : (b : Bool) (s : State) (x : Context) (op : OpNum) (o : Outcome) → is_ok (refusal (op_number op) Delay) ≡ false
-    → is_ok (or_delay b s x op o).result ≡ true → (or_delay b s x op o).result ≡ o.result
+ok_same : (b : Bool) (s : State) (x : Context) (op : OpNum) (o : Outcome) → is_ok (status_of_result (refusal (op_number op) Delay)) ≡ false
+    → is_ok (status_of_result (or_delay b s x op o).result) ≡ true → (or_delay b s x op o).result ≡ o.result
 ok_same b s x op o never ok = elim (delay_or_not b s x op o) [
-  | inl delayed ↦ absurd (let bad : true ≡ false = sym ok ∙ (ap is_ok delayed ∙ never) in cc)
+  | inl delayed ↦ absurd (let bad : true ≡ false = sym ok ∙ (ap (λ (r : Res). is_ok (status_of_result r)) delayed ∙ never) in cc)
   | inr same ↦ same
 ]
 
@@ -193,7 +193,7 @@ pub record IsTold (op : OpNum) (s : State) (x : Context) (how : LockType) (offse
 
 -- a LOCK that is granted and answers NFS4_OK tells so
 pub lock_tells : (s : State) (x : Context) (now : Time) (refused : Bool) (a : Lock) (n : ℕ) (w : Wish) → IsTable s.opens → Few s.opens
-    → Locks s x (Op.Lock a) n w → is_ok (one_or_delay refused s x now (Op.Lock a)).result ≡ true
+    → Locks s x (Op.Lock a) n w → is_ok (status_of_result (one_or_delay refused s x now (Op.Lock a)).result) ≡ true
     → IsTold Num.Lock s x a.locktype a.offset a.length (spell_result (one_or_delay refused s x now (Op.Lock a)).result) n w
 lock_tells s x now refused a n w table few locks ok =
     let op : Op.Lock a ≡ Op.Lock locks.asked = locks.is in
@@ -265,7 +265,7 @@ unlock_result s x now a m did judged granted = ap (λ v. (answers s x Num.LockU 
     ∙ ap (λ v. (unlocked_by s x v).result) granted
 
 pub unlock_tells : (s : State) (x : Context) (now : Time) (refused : Bool) (a : LockU) (n : ℕ) (w : Wish) → IsTable s.opens → Few s.opens
-    → Unlocks s x (Op.LockU a) n w → is_ok (one_or_delay refused s x now (Op.LockU a)).result ≡ true
+    → Unlocks s x (Op.LockU a) n w → is_ok (status_of_result (one_or_delay refused s x now (Op.LockU a)).result) ≡ true
     → IsTold Num.LockU s x a.locktype a.offset a.length (spell_result (one_or_delay refused s x now (Op.LockU a)).result) n w
 unlock_tells s x now refused a n w table few unlocks ok =
     let op : Op.LockU a ≡ Op.LockU unlocks.asked = unlocks.is in
@@ -308,7 +308,7 @@ pub record IsToldClosed (x : Context) (a : Close) (text : List ℕ) (n : ℕ) : 
   pub names : Names Num.Close text 0
 
 pub close_tells : (s : State) (x : Context) (now : Time) (refused : Bool) (a : Close) (n : ℕ) → Closes s x (Op.Close a) n
-    → is_ok (one_or_delay refused s x now (Op.Close a)).result ≡ true
+    → is_ok (status_of_result (one_or_delay refused s x now (Op.Close a)).result) ≡ true
     → IsToldClosed x a (spell_result (one_or_delay refused s x now (Op.Close a)).result) n
 close_tells s x now refused a n closes ok =
     let op : Op.Close a ≡ Op.Close closes.asked = closes.is in
@@ -343,7 +343,7 @@ pub record IsDone (s : State) (x : Context) (now : Time) (refused : Bool) (a : L
   pub did : StateId × Table
   pub granted : of_lock.locks_as s.opens a.locker id w ≡ Ok did
   pub number : did.0.number ≡ n
-  pub ok : is_ok (one_or_delay refused s x now (Op.Lock a)).result ≡ true
+  pub ok : is_ok (status_of_result (one_or_delay refused s x now (Op.Lock a)).result) ≡ true
   pub left : (one_or_delay refused s x now (Op.Lock a)).state.opens ≡ did.1
 
 told_done : (s : State) (x : Context) (now : Time) (refused : Bool) (a : Lock) (n : ℕ) (w : Wish) → IsTable s.opens → Few s.opens
@@ -357,7 +357,7 @@ told_done s x now refused a n w table few wish names =
     let judged : of_lock.locking s x a ≡ Ok m = subst (λ a. of_lock.locking s x a ≡ Ok m) (sym same) locks.judged in
     let granted : of_lock.locks_as s.opens a.locker locks.id w ≡ Ok locks.did =
     subst (λ (a : Lock). of_lock.locks_as s.opens a.locker locks.id w ≡ Ok locks.did) (sym same) locks.granted in
-    let ok = ap is_ok (told_ok s x now refused a n names) ∙ lock_ok s x now a m locks.did judged granted in
+    let ok = ap (λ (r : Res). is_ok (status_of_result r)) (told_ok s x now refused a n names) ∙ lock_ok s x now a m locks.did judged granted in
     record {
       id = locks.id;
       did = locks.did;
@@ -369,7 +369,7 @@ told_done s x now refused a n w table few wish names =
 
 pub told_is_ok : (s : State) (x : Context) (now : Time) (refused : Bool) (a : Lock) (n : ℕ) (w : Wish) → IsTable s.opens → Few s.opens
     → wished s x a.locktype a.offset a.length ≡ Ok w → Names Num.Lock (spell_result (one_or_delay refused s x now (Op.Lock a)).result) n
-    → is_ok (one_or_delay refused s x now (Op.Lock a)).result ≡ true
+    → is_ok (status_of_result (one_or_delay refused s x now (Op.Lock a)).result) ≡ true
 told_is_ok s x now refused a n w table few wish names = (told_done s x now refused a n w table few wish names).ok
 
 -- the lock state is the client's

@@ -16,6 +16,7 @@ use Rattle.nfs_opens.specs.declared.records.LockState.{LockState}
 use Rattle.nfs_opens.specs.declared.locking.Wish.{Wish}
 use Rattle.nfs_opens.specs.Holding.{FileHolders, on_file}
 use Rattle.nfs_opens.specs.Table.{Table}
+use Rattle.nfs_results.specs.Results.{status_of_result}
 use Rattle.nfs_names.specs.declared.context.Context.{Context}
 use Rattle.nfs_names.specs.State.{State}
 use Rattle.nfs_names.specs.Outcome.{is_ok, or_delay, answers}
@@ -54,11 +55,11 @@ lock_left s x now a m did judged granted = ap (λ v. (answers s x Num.Lock v (of
 
 -- a LOCK that is granted and not delayed leaves what it does to the opens
 pub left_by : (s : State) (x : Context) (now : Time) (refused : Bool) (a : args.Lock) (m : _) (did : _) → of_lock.locking s x a ≡ Ok m
-    → of_lock.locks_as s.opens a.locker m.id m.wish ≡ Ok did → is_ok (one_or_delay refused s x now (Op.Lock a)).result ≡ true
+    → of_lock.locks_as s.opens a.locker m.id m.wish ≡ Ok did → is_ok (status_of_result (one_or_delay refused s x now (Op.Lock a)).result) ≡ true
     → (one_or_delay refused s x now (Op.Lock a)).state.opens ≡ did.1
 left_by s x now refused a m did judged granted ok = go (grows s x (Op.Lock a) && refused) ok
   where
-    go : (b : Bool) → is_ok (or_delay b s x (arguments (Op.Lock a)).op (one s x now (Op.Lock a))).result ≡ true
+    go : (b : Bool) → is_ok (status_of_result (or_delay b s x (arguments (Op.Lock a)).op (one s x now (Op.Lock a))).result) ≡ true
         → (or_delay b s x (arguments (Op.Lock a)).op (one s x now (Op.Lock a))).state.opens ≡ did.1
     go false ok = lock_left s x now a m did judged granted
     go true ok = absurd (let bad = (rw (lock_ok s x now a m did judged granted) at ok) in cc)
@@ -69,7 +70,7 @@ told_stands k s x now refused op ok tells =
     let range = tells.range in
     let did = locks.did in
     let u : Table = (one_or_delay refused s x now op).state.opens in
-    let is : u ≡ did.1 = subst (λ o. is_ok (one_or_delay refused s x now o).result ≡ true → (one_or_delay refused s x now o).state.opens ≡ did.1) (sym locks.is)
+    let is : u ≡ did.1 = subst (λ o. is_ok (status_of_result (one_or_delay refused s x now o).result) ≡ true → (one_or_delay refused s x now o).state.opens ≡ did.1) (sym locks.is)
     (left_by s x now refused locks.asked (record { wish = tells.wish; id = locks.id }) did locks.judged locks.granted) ok in
     let found = find_in (λ (l : LockState). l.number == k.state) u.locks tells.lock tells.stands in
     record {

@@ -32,7 +32,7 @@ use Rattle.nfs_compound.specs.declared.op.Item.TheVariants.{Operation}
 use Rattle.nfs_results.specs.declared.res.ChangeInfo.{ChangeInfo}
 use Rattle.nfs_results.specs.Items.{open_ok}
 use Rattle.nfs_results.specs.declared.res.Res.TheVariants as Res
-use Rattle.nfs_results.specs.Results.{spell_result, done_head}
+use Rattle.nfs_results.specs.Results.{spell_result, done_head, status_of_result}
 use Rattle.nfs_results.proofs.Lengths.{length_spelled}
 use Rattle.nfs_ranges.specs.declared.Held.{Held}
 use Rattle.nfs_tree.specs.declared.object.Object.{Object}
@@ -395,17 +395,17 @@ open_left k b s x now a table few is =
 
 delayed_left : (k : OpenTold) (b : Bits) (v : Bool) (s : State) (x : Context) (a : Open) (o : Outcome) → IsOpenWith k b s.opens → LeftBy k b (Op.Open a) o
     → LeftBy k b (Op.Open a) (or_delay v s x Num.Open o)
-delayed_left k b v s x a o is left = elim (cases_Bool (v && is_ok o.result)) [
+delayed_left k b v s x a o is left = elim (cases_Bool (v && is_ok (status_of_result o.result))) [
   | inl delayed ↦ rw delayed (open_refused k b s x a is Delay)
   | inr other ↦ rw other left
 ]
 
 -- By the operation: an open stands behind it, with the bits that it has then, unless it closed it.
 pub told_open_left : (k : OpenTold) (b : Bits) (refused : Bool) (s : State) (x : Context) (now : Time) (op : Op) → IsTable s.opens → Few s.opens
-    → (is_ok (one_or_delay refused s x now op).result ≡ true → (n : ℕ) → Closes s x op n → n ≢ k.number) → IsOpenWith k b s.opens
+    → (is_ok (status_of_result (one_or_delay refused s x now op).result) ≡ true → (n : ℕ) → Closes s x op n → n ≢ k.number) → IsOpenWith k b s.opens
     → LeftBy k b op (one_or_delay refused s x now op)
 told_open_left k b refused s x now (Op.Close a) table few spares is = close_left k b s x a (λ n closes.
-    spares (subst (λ o. is_ok (one s x now o).result ≡ true) (sym closes.is)
+    spares (subst (λ o. is_ok (status_of_result (one s x now o).result) ≡ true) (sym closes.is)
     (close_ok s x now closes.asked closes.file closes.id closes.did closes.judged closes.granted)) n closes) is
 told_open_left k b refused s x now (Op.OpenDowngrade a) table few spares is = downgrade_left k b s x a table few is
 told_open_left k b refused s x now (Op.Open a) table few spares is =
@@ -454,7 +454,7 @@ did_open refused s x now a n table few = by_delayed (of_open.open_file s x now a
     })))
   where
     by_delayed : (o : Outcome) → DidIf s x now a n o → DidIf s x now a n (or_delay refused s x Num.Open o)
-    by_delayed o did = elim (cases_Bool (refused && is_ok o.result)) [
+    by_delayed o did = elim (cases_Bool (refused && is_ok (status_of_result o.result))) [
       | inl delayed ↦ rw delayed (λ named. absurd (never_named Num.Open (op_number Num.Open) Delay n named))
       | inr other ↦ rw other did
     ]

@@ -11,7 +11,7 @@ use Rattle.nfs_compound.specs.declared.op.Op.{Op}
 use Rattle.nfs_compound.specs.declared.op.Item.{Item}
 use Rattle.nfs_compound.specs.declared.op.Item.TheVariants.{Operation, Fault}
 use Rattle.nfs_results.specs.declared.res.Res.{Res}
-use Rattle.nfs_results.specs.Results.{refusal}
+use Rattle.nfs_results.specs.Results.{refusal, status_of_result}
 use Rattle.nfs_names.specs.declared.context.Context.{Context}
 use Rattle.nfs_opens.specs.TableInvariants.{IsTable}
 use Rattle.nfs_names.specs.State.{State}
@@ -35,7 +35,7 @@ use Rattle.nfs_files.proofs.Sound.{sound_item}
 
 delay_may : (b : Bool) (s : State) (x : Context) (op : OpNum) (o : Outcome) (P : Res → Type 0)
     → P o.result → P (refusal (op_number op) Delay) → P (or_delay b s x op o).result
-delay_may b s x op o P done delayed = elim (b && is_ok o.result) as (λ k. P (cond k (refuses s x op Delay) o).result) [ true ↦ delayed | false ↦ done ]
+delay_may b s x op o P done delayed = elim (b && is_ok (status_of_result o.result)) as (λ k. P (cond k (refuses s x op Delay) o).result) [ true ↦ delayed | false ↦ done ]
 
 -- LOCK, LOCKT, READ and TEST_STATEID put their results themselves.
 abbrev pub is_plain : Item → Bool

@@ -1,15 +1,12 @@
 -- The operations on open files, one line each, and what want of memory makes of them. The others are none of these.
-use Rattle.std.specs.Prelude.{◌&&◌, Bool, true, false, Option, Some, None}
-use Rattle.std.specs.Option.{option_map}
+use Rattle.std.specs.Prelude.{Bool, true, false, Option, Some, None}
 use Rattle.nfs_xdr.specs.declared.time.Time.{Time}
-use Rattle.nfs_compound.specs.Arguments.{arguments}
 use Rattle.nfs_compound.specs.declared.op.Op.{Op}
 use Rattle.nfs_compound.specs.declared.op.Item.{Item}
-use Rattle.nfs_compound.specs.declared.op.Item.TheVariants.{Operation, Fault}
 use Rattle.nfs_tree.specs.Bytes.{has_bytes}
 use Rattle.nfs_names.specs.declared.context.Context.{Context}
 use Rattle.nfs_names.specs.State.{State}
-use Rattle.nfs_names.specs.Outcome.{Outcome, or_delay}
+use Rattle.nfs_names.specs.Outcome.{Outcome, by_table}
 use Rattle.nfs_files.specs.Close.{close}
 use Rattle.nfs_files.specs.Commit.{commit}
 use Rattle.nfs_files.specs.FreeStateid.{free_stateid}
@@ -47,7 +44,6 @@ grows s x (Op.Open a) = true
 grows s x (Op.Write a) = has_bytes a.bytes
 grows s x op = false
 
--- What stands at a place of a compound comes to, where memory was refused or not; a fault is none of these.
+-- what stands at a place of a compound comes to, where memory was refused or not
 abbrev pub comes_to : Bool → State → Context → Time → Item → Option Outcome
-comes_to refused s x now (Operation op) = option_map (or_delay (grows s x op && refused) s x (arguments op).op) (one s x now op)
-comes_to refused s x now (Fault number status) = None
+comes_to refused s x now i = by_table grows one refused s x now i

@@ -60,15 +60,15 @@ status_of_refusal n status =
 pub not_delayed : (refused : Bool) (s : State) (x : Context) (op : OpNum) (o : Outcome) → refused ≡ false → or_delay refused s x op o ≡ o
 not_delayed refused s x op o e = ap (λ b. or_delay b s x op o) e
 
-pub delayed : (s : State) (x : Context) (op : OpNum) (o : Outcome) → is_ok o.result ≡ true → or_delay true s x op o ≡ refuses s x op Delay
+pub delayed : (s : State) (x : Context) (op : OpNum) (o : Outcome) → is_ok (status_of_result o.result) ≡ true → or_delay true s x op o ≡ refuses s x op Delay
 delayed s x op o ok = ap (λ b. cond b (refuses s x op Delay) o) ok
 
 -- the refusal of a check is answered whether memory was refused or not
 pub judged_refusal : (b : Bool) (s : State) (x : Context) (op : OpNum) (status : Status)
     → IsRefusal status → or_delay b s x op (refuses s x op status) ≡ refuses s x op status
 judged_refusal b s x op status h =
-    let bad : is_ok (refusal (op_number op) status) ≡ false = ap (λ r. eqb (status_number r) 0) (status_of_refusal (op_number op) status) ∙ h.done in
-    ap (λ k. cond k (refuses s x op Delay) (refuses s x op status)) (and_right b (is_ok (refusal (op_number op) status)) bad)
+    let bad : is_ok (status_of_result (refusal (op_number op) status)) ≡ false = ap (λ r. eqb (status_number r) 0) (status_of_refusal (op_number op) status) ∙ h.done in
+    ap (λ k. cond k (refuses s x op Delay) (refuses s x op status)) (and_right b (is_ok (status_of_result (refusal (op_number op) status))) bad)
 
 -- the outcome of a refusal that the code made, where an operation wants memory only if it grows
 pub told_refusal_by : (g : Bool) (s : State) (t : Files) (x : Context) (op : OpNum) (o : Outcome) (r : Res) (status : Status)
@@ -129,7 +129,7 @@ refused_tree t grows fault answer after new f d = elim (refused_by_did t grows (
 ]
 
 refused_growing : (grows : Bool) (s : State) (x : Context) (op : OpNum) (o g : Outcome) (fault : Option TreeFault) (f : TreeFault)
-    → (fault ≡ None → o ≡ g) → (fault ≡ Some f → o ≡ refuses s x op (status_of f)) → is_ok g.result ≡ true
+    → (fault ≡ None → o ≡ g) → (fault ≡ Some f → o ≡ refuses s x op (status_of f)) → is_ok (status_of_result g.result) ≡ true
     → Wants grows f fault ⊎ Other f fault → refuses s x op (status_of f) ≡ or_delay (grows && is_delay (status_of f)) s x op o
 refused_growing grows s x op o g fault f goes stops ok (inl w) =
     rw w.2 (ap (λ f. refuses s x op (status_of f)) w.0
@@ -155,7 +155,7 @@ told_done may grows s x op o result context fault answer a after new goes d =
 pub told_fault : {A : Type 0} (may grows : Bool) (s : State) (x : Context) (op : OpNum) (o done : Outcome) (r : Res)
     (fault : Option TreeFault) (answer : A) (after new : Files) (f : TreeFault)
     → may ≡ grows → r ≡ refusal (op_number op) (status_of f)
-    → (fault ≡ None → o ≡ done) → (fault ≡ Some f → o ≡ refuses s x op (status_of f)) → is_ok done.result ≡ true
+    → (fault ≡ None → o ≡ done) → (fault ≡ Some f → o ≡ refuses s x op (status_of f)) → is_ok (status_of_result done.result) ≡ true
     → DoesOrWants s.tree grows (does_unless s.tree fault answer after) (Err f) new
     → record { result = r; state = with_tree s new; context = x } ≡ or_delay (may && is_delay (status_of_result r)) s x op o
 told_fault may grows s x op o done r fault answer after new f same is goes stops ok d =

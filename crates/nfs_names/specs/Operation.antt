@@ -1,18 +1,15 @@
 -- The operations on names and attributes, one line each, and what want of memory makes of them. The others are none of these.
-use Rattle.std.specs.Prelude.{◌&&◌, Bool, true, false, Ok, Err, Result, Option, Some, None}
-use Rattle.std.specs.Option.{option_map}
+use Rattle.std.specs.Prelude.{Bool, true, false, Ok, Err, Result, Option, Some, None}
 use Rattle.nfs_xdr.specs.declared.time.Time.{Time}
 use Rattle.nfs_xdr.specs.declared.status.Status.{Status}
 use Rattle.nfs_compound.specs.declared.name_args.Rename as args
-use Rattle.nfs_compound.specs.Arguments.{arguments}
 use Rattle.nfs_compound.specs.declared.op.Op.{Op}
 use Rattle.nfs_compound.specs.declared.op.Item.{Item}
-use Rattle.nfs_compound.specs.declared.op.Item.TheVariants.{Operation, Fault}
 use Rattle.nfs_tree.specs.Names.{moves}
 use Rattle.nfs_names.specs.declared.context.Context.{Context}
 use Rattle.nfs_names.specs.declared.node.Pair.{Pair}
 use Rattle.nfs_names.specs.State.{State}
-use Rattle.nfs_names.specs.Outcome.{Outcome, or_delay}
+use Rattle.nfs_names.specs.Outcome.{Outcome, by_table}
 use Rattle.nfs_names.specs.Checks.{both}
 use Rattle.nfs_names.specs.Access.{access}
 use Rattle.nfs_names.specs.Create.{create}
@@ -69,7 +66,6 @@ grows s x (Op.Link name) = true
 grows s x (Op.Rename a) = moves_in s a (both s x)
 grows s x op = false
 
--- What stands at a place of a compound comes to, where memory was refused or not; a fault is none of these.
+-- what stands at a place of a compound comes to, where memory was refused or not
 abbrev pub comes_to : Bool → State → Context → Time → Item → Option Outcome
-comes_to refused s x now (Operation op) = option_map (or_delay (grows s x op && refused) s x (arguments op).op) (one s x now op)
-comes_to refused s x now (Fault number status) = None
+comes_to refused s x now i = by_table grows one refused s x now i

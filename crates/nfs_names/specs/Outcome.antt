@@ -1,11 +1,17 @@
 -- What one operation comes to: its result, and the state and the context behind it.
 use Rattle.std.specs.Prelude.{◌==◌, ◌&&◌, Bool, List, Option, Some, None, Result, Ok, Err, if◌then◌else◌}
+use Rattle.std.specs.Option.{option_map}
 use Rattle.nfs_xdr.specs.Checks.{first_fault}
+use Rattle.nfs_xdr.specs.declared.time.Time.{Time}
 use Rattle.nfs_xdr.specs.Status.{status_number}
 use Rattle.nfs_xdr.specs.declared.status.Status.{Status}
 use Rattle.nfs_xdr.specs.declared.status.Status.TheVariants.{Nfs4Ok, Delay}
 use Rattle.nfs_compound.specs.declared.op_num.OpNum.{OpNum}
 use Rattle.nfs_compound.specs.OpNum.{op_number}
+use Rattle.nfs_compound.specs.Arguments.{arguments}
+use Rattle.nfs_compound.specs.declared.op.Op.{Op}
+use Rattle.nfs_compound.specs.declared.op.Item.{Item}
+use Rattle.nfs_compound.specs.declared.op.Item.TheVariants.{Operation, Fault}
 use Rattle.nfs_results.specs.declared.res.Res.{Res}
 use Rattle.nfs_results.specs.Results.{status_of_result, refusal}
 use Rattle.nfs_names.specs.declared.context.Context.{Context}
@@ -48,12 +54,18 @@ abbrev pub answers : {A : Type 0} → State → Context → OpNum → Result A S
 answers s x op (Err status) outcome = refuses s x op status
 answers s x op (Ok a) outcome = outcome a
 
-abbrev pub is_ok : Res → Bool
-is_ok r = status_number (status_of_result r) == status_number Nfs4Ok
+abbrev pub is_ok : Status → Bool
+is_ok status = status_number status == status_number Nfs4Ok
 
 abbrev pub is_delay : Status → Bool
 is_delay status = status_number status == status_number Delay
 
 -- where memory was refused, NFS4ERR_DELAY stands in place of NFS4_OK and nothing changed; a refusal of its own comes before that
 abbrev pub or_delay : Bool → State → Context → OpNum → Outcome → Outcome
-or_delay refused s x op o = if refused && is_ok o.result then refuses s x op Delay else o
+or_delay refused s x op o = if refused && is_ok (status_of_result o.result) then refuses s x op Delay else o
+
+-- What stands at a place of a compound comes to by a table of operations, where memory was refused or not; a fault is in no table.
+abbrev pub by_table : (grows : State → Context → Op → Bool) → (one : State → Context → Time → Op → Option Outcome)
+    → (refused : Bool) → State → Context → Time → Item → Option Outcome
+by_table grows one refused s x now (Operation op) = option_map (or_delay (grows s x op && refused) s x (arguments op).op) (one s x now op)
+by_table grows one refused s x now (Fault number status) = None

@@ -31,7 +31,8 @@ use Rattle.nfs_sessions.specs.declared.id.SessionId.{SessionId}
 use Rattle.nfs_sessions.specs.declared.sessions.SessionFault.{SessionFault}
 use Rattle.nfs_sessions.specs.Id.{id_of}
 use Rattle.nfs_sessions.specs.Sessions.{SessionTable, create, session_at, fault_status}
-use Rattle.nfs_exec.specs.Machine.{Machine, Outcome, is_ok, or_delay}
+use Rattle.nfs_names.specs.Outcome.{is_ok}
+use Rattle.nfs_exec.specs.Machine.{Machine, Outcome, or_delay}
 use Rattle.nfs_exec.specs.Place.{stands_alone, is_sequence}
 use Rattle.nfs_exec.specs.View.{CanBear, IsOpened}
 use Rattle.nfs_exec.specs.ExchangeId.{exchange_id, exchange_id_number, answered, ask_of}

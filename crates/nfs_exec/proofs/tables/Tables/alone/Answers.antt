@@ -5,7 +5,7 @@ use Rattle.nfs_compound.specs.declared.op.Item.TheVariants.{Fault}
 use Rattle.nfs_results.specs.ResultCodec.{IsBounded}
 use Rattle.nfs_results.specs.Results.{status_of_result}
 use Rattle.nfs_names.specs.Outcome.{is_delay}
-use Rattle.nfs_exec.specs.Machine.{comes_to, machine_of}
+use Rattle.nfs_exec.specs.Machine.{with_result, machine_of}
 use Rattle.nfs_exec.specs.Compound.{first_item}
 use Rattle.nfs_exec.specs.View.{IsSmall, CanBear, Does}
 use Rattle.nfs_exec.proofs.Bearing.{place_small}
@@ -29,5 +29,5 @@ returns-in-Fault c =
     let r = c.refusal-res.result in
     subst (λ (k : Item). Does (first_item m c.args.declared who c.args.now (is_delay c.status.result) k) c.status.result m c.args.out.now c.write.new.out)
     (sym c.in-Fault.is) (put_does m m c.args.declared who c.args.now i r c.status.result c.args.out.now c.write.new.out
-    (ap (comes_to m) c.refusal-res.ensures ∙ misplaced m c.args.declared who c.args.now (is_delay (status_of_result r)) i c.in-Fault.status refl)
+    (ap (with_result m) c.refusal-res.ensures ∙ misplaced m c.args.declared who c.args.now (is_delay (status_of_result r)) i c.in-Fault.status refl)
     c.status.ensures c.write.ensures)

@@ -8,7 +8,7 @@ use Rattle.nfs_results.specs.ResultCodec.{IsBounded}
 use Rattle.nfs_compound.specs.declared.op.Item.TheVariants.{Operation}
 use Rattle.nfs_compound.specs.declared.op.Op.TheVariants as Op
 use Rattle.nfs_names.specs.Outcome.{is_delay}
-use Rattle.nfs_exec.specs.Machine.{Machine, comes_to, machine_of}
+use Rattle.nfs_exec.specs.Machine.{Machine, with_result, machine_of}
 use Rattle.nfs_exec.specs.View.{IsSmall}
 use Rattle.nfs_exec.proofs.Bearing.{place_small, rest_small, exchanged_small}
 use Rattle.nfs_exec.proofs.Standing.{small_fits, put_does, misplaced, branch_done, not_carried}
@@ -62,7 +62,7 @@ returns c =
     (elim c.match-place_fault.branch [
       | in-Some w ↦ (
           let same = w.refusal-res.ensures ∙ ap (λ n. refusal n w.in-Some.status) w.number.ensures in
-          ap (λ (k : Machine). comes_to k r) (ap machine_of w.self-is) ∙ ap (comes_to m) (w.res-is ∙ same)
+          ap (λ (k : Machine). with_result k r) (ap machine_of w.self-is) ∙ ap (with_result m) (w.res-is ∙ same)
           ∙ misplaced m c.args.declared who c.args.now (is_delay (status_of_result r)) i w.in-Some.status (sym c.place_fault.ensures ∙ w.in-Some.is)
           )
       | in-None+in-ExchangeId w ↦ branch_done m left (machine_of w.exchange_id.new.self) c.args.declared who c.args.now i

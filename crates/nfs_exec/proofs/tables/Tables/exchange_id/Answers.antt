@@ -9,7 +9,7 @@ use Rattle.nfs_results.specs.declared.res.Res.{Res}
 use Rattle.nfs_results.specs.declared.res.ExchangeIdOk.{ExchangeIdOk}
 use Rattle.nfs_results.specs.Results.{status_of_result}
 use Rattle.nfs_names.specs.Outcome.{is_delay}
-use Rattle.nfs_exec.specs.Machine.{comes_to, or_delay, machine_of}
+use Rattle.nfs_exec.specs.Machine.{with_result, or_delay, machine_of}
 use Rattle.nfs_exec.specs.ExchangeId.{exchange_id, exchange_id_number, ask_of}
 use Rattle.nfs_exec.specs.View.{settled}
 use Rattle.nfs_exec.proofs.Exchanging.{answered_ok, refused_first, refused_last}
@@ -24,7 +24,7 @@ returns-in-Err-clause-outcome c =
     let m = machine_of c.args.self.now in
     let who = caller c.args.who.now in
     let e = c.args.asked.now in
-    subst (λ (r : Res). comes_to m r ≡ or_delay (is_delay (status_of_result r)) m exchange_id_number (exchange_id m who c.args.now e)) (sym c.refused.ensures)
+    subst (λ (r : Res). with_result m r ≡ or_delay (is_delay (status_of_result r)) m exchange_id_number (exchange_id m who c.args.now e)) (sym c.refused.ensures)
     (refused_first m who c.args.now e c.in-Err.fault (case_of m.clients (ask_of who e))
     (c.in-Err.ensures ∙ ap (λ (b : List ℕ). judged (exchange_fault m.clients (asked_by who e b))) c.bytes-owner.ensures))
 
@@ -34,7 +34,7 @@ returns-in-Ok-exchange-clause-outcome c =
     let who = caller c.args.who.now in
     let e = c.args.asked.now in
     let book = c.settle.ensures ∙ ap (λ (b : Book). settled b c.next_id-next.result c.in-Ok-exchange.exchanged) c.in-Ok.ensures.ok in
-    ap (λ (x : ExchangeIdOk). comes_to (record m { clients = c.exchange.new.self; leases = leases_of c.settle.new.leases }) (Res.ExchangeId x)) c.granted.ensures
+    ap (λ (x : ExchangeIdOk). with_result (record m { clients = c.exchange.new.self; leases = leases_of c.settle.new.leases }) (Res.ExchangeId x)) c.granted.ensures
     ∙ answered_ok m who c.args.now e c.next_id-next.result c.in-Ok-exchange.exchanged c.exchange.new.self
     (leases_of c.settle.new.leases) (case_of m.clients (ask_of who e))
     c.requires.machine c.next_id-next.ensures.fresh c.next_id-next.ensures.value refl
@@ -47,7 +47,7 @@ returns-in-Err-exchange-clause-outcome c =
     let who = caller c.args.who.now in
     let e = c.args.asked.now in
     let after = record m { clients = c.exchange.new.self; leases = leases_of c.remove.new.self } in
-    subst (λ (r : Res). comes_to after r ≡ or_delay (is_delay (status_of_result r)) m exchange_id_number (exchange_id m who c.args.now e))
+    subst (λ (r : Res). with_result after r ≡ or_delay (is_delay (status_of_result r)) m exchange_id_number (exchange_id m who c.args.now e))
     (sym c.refused-in-Err-exchange.ensures)
     (refused_last m who c.args.now e c.next_id-next.result c.in-Err-exchange.fault c.exchange.new.self (leases_of c.remove.new.self)
     c.requires.machine c.next_id-next.ensures.fresh

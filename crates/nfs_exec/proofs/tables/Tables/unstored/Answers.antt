@@ -4,7 +4,7 @@ use Rattle.nfs_compound.specs.declared.op.Item.TheVariants.{Operation}
 use Rattle.nfs_results.specs.declared.res.Res.{Res}
 use Rattle.nfs_results.specs.Results.{spell_result, refusal}
 use Rattle.nfs_results.specs.ResultCodec.{IsBounded}
-use Rattle.nfs_exec.specs.Machine.{comes_to, machine_of}
+use Rattle.nfs_exec.specs.Machine.{with_result, machine_of}
 use Rattle.nfs_exec.specs.Place.{status_behind}
 use Rattle.nfs_exec.specs.Behind.{Step}
 use Rattle.nfs_exec.proofs.Bearing.{behind_bears, refusal_bounded, refusal_short}
@@ -18,7 +18,7 @@ returns-in_default c =
     let is : c.refusal.result ≡ refusal (item_number i) (status_behind i) =
     c.refusal.ensures ∙ ap (λ n. refusal n c.status_behind.result) c.number.ensures ∙ ap (refusal (item_number i)) c.status_behind.ensures in
     record {
-      outcome = ap (comes_to m) is ∙ sym (ap (λ (s : Step). s.outcome) (other_stays m c.args.context.now c.args.op.now c.in_default.not-ReclaimComplete));
+      outcome = ap (with_result m) is ∙ sym (ap (λ (s : Step). s.outcome) (other_stays m c.args.context.now c.args.op.now c.in_default.not-ReclaimComplete));
       bounds = subst IsBounded (sym is) (refusal_bounded (item_number i) (status_behind i) (behind_bears i false c.requires.bears));
       short = subst (λ (r : Res). length (spell_result r) ≤ 12) (sym is) (refusal_short (item_number i) (status_behind i));
       store = refl;
