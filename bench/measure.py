@@ -1,5 +1,4 @@
 """What the measurements share: where the encoder is, their options, and how they run the program."""
-import argparse
 import contextlib
 import fcntl
 import os
@@ -20,6 +19,7 @@ sys.path.insert(0, str(TOP / "tools"))
 
 import results  # noqa: E402
 from program import PROGRAM, needed  # noqa: E402
+from words import Words  # noqa: E402
 
 COUNTED = re.compile(r"Collected : (\d+)")
 
@@ -32,7 +32,7 @@ def name():
 def options(text, *more):
     """The options of a measurement: the program, what `more` adds to the parser, and a file for the table; and the run that is measured.
     It ends the script unless the program is there."""
-    parser = argparse.ArgumentParser(description=text, formatter_class=argparse.RawDescriptionHelpFormatter)
+    parser = Words(text)
     parser.add_argument("program", nargs="?", default=str(PROGRAM), metavar="PROGRAM", help="left out, the built one")
     for add in more:
         add(parser)

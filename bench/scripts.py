@@ -6,12 +6,12 @@ and files are of one session of 16 slots.
 
 writes one to standard output. As a module it makes scripts of any calls: functions that end in `_of` or take calls give entries, and all else
 gives operations."""
-import argparse
 import sys
 
 import measure  # noqa: F401 (it says where the encoder is)
 import nfs4
 from nfs4 import op, u32, u64
+from words import Words
 
 INSTANCE = 7
 ROOT = op("PUTROOTFH")
@@ -214,7 +214,7 @@ SCRIPTS = {
 
 
 def main():
-    options = argparse.ArgumentParser(description=__doc__, formatter_class=argparse.RawDescriptionHelpFormatter)
+    options = Words(__doc__)
     options.add_argument("name", choices=SCRIPTS, metavar="NAME", help=", ".join(SCRIPTS))
     try:
         for piece in SCRIPTS[options.parse_args().name]():

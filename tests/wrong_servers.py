@@ -5,7 +5,6 @@
     tests/wrong_servers.py NAME HOST:PORT [--listen PORT]
 
 The first line that the second form prints is the port on which the wrong server listens, a free one by itself."""
-import argparse
 import socket
 import sys
 import threading
@@ -14,6 +13,7 @@ from pathlib import Path
 sys.dont_write_bytecode = True
 sys.path.insert(0, str(Path(__file__).resolve().parent.parent / "tools"))
 import nfs4  # noqa: E402
+from words import Words  # noqa: E402
 
 ALL_ONES = 2**64 - 1
 WRONG = {}
@@ -520,7 +520,7 @@ def exactly(sock, size):
 
 
 def main():
-    options = argparse.ArgumentParser(description=__doc__, formatter_class=argparse.RawDescriptionHelpFormatter)
+    options = Words(__doc__)
     options.add_argument("name", nargs="?", metavar="NAME")
     options.add_argument("server", nargs="?", metavar="HOST:PORT")
     options.add_argument("--listen", type=int, default=0, metavar="PORT")

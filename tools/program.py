@@ -1,5 +1,4 @@
 """The built program: where it is, how a script begins that needs it, a run of it over a script, and a server of it on the loopback."""
-import argparse
 import os
 import re
 import socket
@@ -8,6 +7,8 @@ import sys
 import tempfile
 import time
 from pathlib import Path
+
+from words import Words
 
 TOP = Path(__file__).resolve().parent.parent
 PROGRAM = TOP / "crates/nfs41d/out/nfs41d"
@@ -25,7 +26,7 @@ def needed(program=PROGRAM):
 
 def begin(text):
     """Answers --help with a script's own text, takes no other words, and ends the script unless the program is there."""
-    argparse.ArgumentParser(description=text, formatter_class=argparse.RawDescriptionHelpFormatter).parse_args()
+    Words(text).parse_args()
     needed()
 
 
