@@ -1,5 +1,10 @@
 """The text form of scripts of `nfs41d replay`: a line a call, which `tools/show --text` prints and `tools/script --text` takes."""
+import re
+
 import nfs4
+
+# a # within a word is part of it
+COMMENT = re.compile(r"(?:^|\s)#.*")
 
 
 def words(fields):
@@ -80,7 +85,7 @@ def script_of(text):
     """The script of lines of text."""
     script, xid = [], 0
     for number, line in enumerate(text.splitlines(), 1):
-        line = line.partition("#")[0].strip()
+        line = COMMENT.sub("", line).strip()
         if not line:
             continue
         try:

@@ -87,7 +87,12 @@ def meant(word):
     """The bytes that a word means; bytes are themselves."""
     if isinstance(word, bytes):
         return word
-    return bytes.fromhex(word[2:]) if word.startswith("0x") else unquote_to_bytes(word)
+    if not word.startswith("0x"):
+        return unquote_to_bytes(word)
+    try:
+        return bytes.fromhex(word[2:])
+    except ValueError as fault:
+        raise Unreadable(f"{word} is no 0x with pairs of hexadecimal digits") from fault
 
 
 def number_of(name, word, bits=32):
@@ -238,9 +243,10 @@ class Writer:
     What is not given is 0 or empty."""
 
     def __init__(self, given):
-        self.given, self.data = given, b""
+        self.given, self.data, self.names = given, b"", []
 
     def next(self, name, default):
+        self.names.append(name)
         for i, (given, word) in enumerate(self.given):
             if given == name:
                 del self.given[i]
@@ -572,7 +578,7 @@ def written(name, items, fields):
     c = Writer(list(fields))
     items(c)
     if c.given:
-        raise Unreadable(f"{name} has no {c.given[0][0]}, or not there")
+        raise Unreadable(f"{name} has no {c.given[0][0]}, or not there; its fields here: {', '.join(c.names) or 'none'}")
     return c.data
 
 

@@ -1,6 +1,8 @@
 """How a script reads its words: `--help` prints the script's own text, and words that it does not know end it with one line and status 2."""
 import argparse
 import difflib
+import os
+import signal
 import sys
 
 
@@ -27,3 +29,12 @@ def nearest(word, known):
     """A question after the known word that is most like another, if one is."""
     found = difflib.get_close_matches(word, known, 1)
     return f" (is it {found[0]}?)" if found else ""
+
+
+def ends_as_cat():
+    """Lets ctrl-C and a pipe that nobody reads end the script by their signals, as they end cat; without a standard output a line ends it."""
+    signal.signal(signal.SIGPIPE, signal.SIG_DFL)
+    if signal.getsignal(signal.SIGINT) is signal.default_int_handler:
+        signal.signal(signal.SIGINT, signal.SIG_DFL)
+    if sys.stdout is None:
+        sys.exit(f"{os.path.basename(sys.argv[0])}: standard output is closed")
