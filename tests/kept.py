@@ -20,6 +20,15 @@ def rule():
     return hashlib.sha256("".join(text_of(f"{folder}/{it}.py") for it in ("edits", "rounds")).encode()).hexdigest()
 
 
+def place(store):
+    """Returns the folder for what passed: beside the toolchain's own, or in the user's cache where that cannot be made."""
+    beside = f"{store}-in-rounds"
+    is_own = os.path.isdir(beside) and os.stat(beside).st_uid == os.geteuid()
+    if is_own or not os.path.lexists(beside) and os.access(os.path.dirname(beside) or ".", os.W_OK):
+        return beside
+    return os.path.join(os.environ.get("XDG_CACHE_HOME") or os.path.expanduser("~/.cache"), "gondzalif", "proved")
+
+
 # what a turn counts for among the tasks of a run, whose order is by the lines behind each
 LINES_OF_A_TURN = 150
 
@@ -31,7 +40,7 @@ class Tries:
     def __init__(self, rt, rounds, store=None):
         """`store` gets the script's own store under "kept"."""
         self.rt, self.rounds, self.store = rt, rounds, {} if store is None else store
-        rt.STORE, rt.add_edits = f"{rt.STORE}-in-rounds", self.add
+        rt.STORE, rt.add_edits = place(rt.STORE), self.add
         of_edit, own = rt.Kept.of_edit, rule()
         rt.Kept.of_edit = lambda kept, edit, sum: hashlib.sha256(f"{of_edit(kept, edit, sum)} {own} {listed(edit)}".encode()).hexdigest()
 

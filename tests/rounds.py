@@ -25,6 +25,8 @@ from collections import defaultdict
 from concurrent.futures import Future
 
 import kept as for_later
+import progress
+from built import Build
 from edits import Said, changed, listed, text_of
 
 KINDS = {"proof": "proofs", "tests": "tests", "edits": "edits"}
@@ -347,7 +349,7 @@ class Minutes:
     """What the tasks of a run take."""
 
     def __init__(self):
-        self.began, self.seconds, self.running, self.ended = time.monotonic(), defaultdict(lambda: defaultdict(float)), {}, 0
+        self.began, self.seconds, self.running, self.ended = time.monotonic(), defaultdict(lambda: defaultdict(float)), {}, []
 
     def timed(self, key, call):
         """Returns the call of a task, which notes what it takes of processors."""
@@ -358,7 +360,7 @@ class Minutes:
             finally:
                 self.seconds[key[0]][key[1]] += spent() - before
                 del self.running[key]
-                self.ended += key[1] == "proof"
+                self.ended += [key[0]] if key[1] == "proof" else []
 
         return run
 
@@ -370,14 +372,17 @@ class Minutes:
         return ["minutes of processors: proofs, tests, edits", *("  ".join([f"{name:14}", *(f"{it:6.1f}" for it in took)]) for name, took in lines)]
 
 
-def tell(minutes, of):
-    """Says on standard error, each quarter of a minute and as long as the program runs, how far the proofs are."""
+def tell(minutes, wanted):
+    """Says on standard error, each quarter of a minute and as long as the program runs, how far the proofs of the crates are."""
+    of, pace = progress.measured()
+
     def ever():
         while True:
             time.sleep(15)
             now = time.monotonic()
-            running = ", ".join(f"{name} ({(now - began) / 60:.0f} min)" for (name, *_), began in sorted(minutes.running.items(), key=lambda it: it[1]))
-            print(f"nfs41d: {minutes.ended} of {of} crates proved, {(now - minutes.began) / 60:.0f} min; now {running}", file=sys.stderr, flush=True)
+            took = {name: minutes.seconds[name]["proof"] / 60 for name in [*minutes.ended]}
+            running = {name: (now - began) / 60 for (name, *_), began in sorted([*minutes.running.items()], key=lambda it: it[1])}
+            print(f"nfs41d: {progress.said(of, pace, wanted, took, running, (now - minutes.began) / 60)}", file=sys.stderr, flush=True)
 
     threading.Thread(target=ever, daemon=True).start()
 
@@ -391,7 +396,7 @@ def program_alone(rt, in_lanes, minutes):
     def run(tasks):
         crates = rt.rtlib.crates_below(os.getcwd())
         wanted = {below.name for it in crates if it.is_program for below in [it, *it.below()]}
-        tell(minutes, len(wanted))
+        tell(minutes, wanted)
         raise Ended(all(in_lanes({key: it for key, it in tasks.items() if key[1] == "proof" and key[0] in wanted}).values()))
 
     return run
@@ -406,7 +411,10 @@ def run(rt, words):
     in_lanes = program_alone(rt, in_lanes, minutes) if is_program else in_lanes
     tasks_of = lambda tasks: in_order(rt, tasks, lambda: store.get("kept"))
     rt.in_lanes = lambda tasks: in_lanes({key: (*task[:3], minutes.timed(key, task[3])) for key, task in tasks_of(tasks).items()})
-    with tempfile.TemporaryDirectory(prefix="rt-kept-") as room:
+    build = Build(os.getcwd())
+    sources, mark = build.sources(), build.mark()
+    # (by this name the toolchain's script removes the folder of a run that was killed)
+    with tempfile.TemporaryDirectory(prefix=f"rt-copy-{os.getpid()}-") as room:
         is_ci = words[0] != "must-fail"
         kept = keep_all(rt, room) if is_ci else keep_own(rt, room, words[1:])
         rounds = Rounds(rt, kept, is_ci, lambda crate: unpacked(rt, crate, f"{room}/{crate.name}"))
@@ -416,5 +424,6 @@ def run(rt, words):
             status = rt.main(["ci", *words[1:]] if is_program else words)
         except Ended as ended:
             status = 0 if ended.args[0] else 1
+    build.note(mark, sources)
     print("\n".join(minutes.table()))
     return status
