@@ -91,7 +91,7 @@ class Build:
         """The version, the commit, the toolchain, and whether the program is built, a line each."""
         old = self.why_old()
         return "\n".join([f"nfs41d {self.number()}", f"commit {self.commit()}", f"toolchain {toolchain() or 'rt is not on the path'}",
-                          f"program {'not of these sources: ' + old if old else 'built of these sources'}"])
+                          f"program {'to be built, since ' + old if old else 'built of these sources'}"])
 
     def told(self):
         """Of what the program that stands here was built, a line each."""
