@@ -174,7 +174,7 @@ def wrong_text(path, text):
     if not tomllib:
         return f"{path}: this Python reads no TOML (Python 3.11 does), so the file is not looked at"
     try:
-        table = tomllib.loads(text)
+        table = tomllib.loads(text.removeprefix("\ufeff"))
     except (ValueError, RecursionError) as fault:
         return f"{path} is no TOML: {fault}"
     for key, value in table.items():
