@@ -1,8 +1,8 @@
 """What an operation costs among few and among many objects, from bench/results/growth.tsv (bench/instructions --results)."""
 import common
-from svg import FAINT, RULE, SERIES, Drawing, powers, scale, short
+from svg import FAINT, INK, RULE, SERIES, Drawing, scale
 
-GROWS = 2.0
+GROWS, STEP = 2.0, 24
 
 
 def series():
@@ -14,33 +14,33 @@ def series():
     return facts, {name: sorted(points) for name, points in found.items()}
 
 
+def line(picture, y, name, points):
+    """The row of an operation: its name, a small curve of its cost relative to the first, the costs, and the ratio of last to first."""
+    ratio = points[-1][1] / points[0][1]
+    colour = SERIES[1] if ratio >= GROWS else SERIES[0]
+    across, up = scale(points[0][0], points[-1][0], 470, 560, True), scale(0, max(2.0, ratio), y + 4, y - 13)
+    picture.text(20, y, name, 12, weight="bold" if ratio >= GROWS else None)
+    picture.line(470, y + 4, 560, y + 4, RULE)
+    picture.path([(across(count), up(cost / points[0][1])) for count, cost in points], colour, 2)
+    for i, (_, cost) in enumerate(points):
+        picture.text(670 + 100 * i, y, f"{cost:,.0f}", 12, "end")
+    picture.text(980, y, f"{ratio:.2f}", 12, "end", colour, "bold" if ratio >= GROWS else None)
+
+
 def draw():
     facts, found = series()
-    order = sorted(found.items(), key=lambda item: -item[1][-1][1])
-    every = [point for points in found.values() for point in points]
-    ticks, counts = powers(min(cost for _, cost in every), max(cost for _, cost in every)), sorted({count for count, _ in every})
-    height = max(480, 90 + 24 * len(order))
-    picture = Drawing(1000, height + 60, "Cost of an operation against the number of objects",
-                      "Instructions on a logarithmic scale against the number of objects. Most lines are nearly level; the ones that grow are drawn in colour.")
-    across, up = scale(counts[0], counts[-1], 80, 480, True), scale(ticks[0], ticks[-1], height - 30, 60, True)
-    picture.text(20, 30, "Instructions of one operation, among so many objects (both logarithmic)", 16, weight="bold")
-    for value in ticks:
-        picture.line(80, up(value), 480, up(value), RULE)
-        picture.text(72, up(value) + 4, short(value), 11, "end", FAINT)
-    for count in counts:
-        picture.line(across(count), 60, across(count), height - 30, RULE)
-        picture.text(across(count), height - 12, f"{count:,}", 11, "middle", FAINT)
-    grown = [name for name, points in order if points[-1][1] / points[0][1] >= GROWS]
-    gap = (height - 90) / max(len(order) - 1, 1)
+    order = sorted(found.items(), key=lambda item: item[1][-1][1] / item[1][0][1])
+    counts = sorted({count for points in found.values() for count, _ in points})
+    picture = Drawing(1000, 120 + STEP * len(order), "Cost of an operation against the number of objects",
+                      "A row for each operation, those that grow least first: instructions among few and many objects, and how many times as many the last are.")
+    picture.text(20, 30, "Instructions of one operation, among so many objects", 16, weight="bold")
+    for i, count in enumerate(counts):
+        picture.text(670 + 100 * i, 58, f"{count:,}", 12, "end", FAINT)
+    picture.text(980, 58, "last to first", 12, "end", FAINT)
     for i, (name, points) in enumerate(order):
-        grows = points[-1][1] / points[0][1]
-        colour = SERIES[1 + grown.index(name) % 5] if name in grown else SERIES[0]
-        picture.path([(across(count), up(cost)) for count, cost in points], colour, 2.6 if name in grown else 1.4)
-        for count, cost in points:
-            picture.dot(across(count), up(cost), 3, colour)
-        y = 60 + gap * i
-        picture.path([(across(points[-1][0]) + 6, up(points[-1][1])), (520, y), (530, y)], RULE)
-        picture.text(536, y + 4, f"{name}: {grows:.2f} times", 11.5, fill=colour, weight="bold" if name in grown else None)
-    picture.text(20, height + 22, f"{facts['how'].capitalize()}.", 11, fill=FAINT)
-    picture.text(20, height + 40, common.told(facts), 11, fill=FAINT)
+        line(picture, 82 + STEP * i, name, points)
+    bottom = 82 + STEP * len(order)
+    picture.line(20, bottom - 12, 980, bottom - 12, INK, 0.5)
+    picture.text(20, bottom + 6, f"{facts['how'].capitalize()}. Each curve is the cost relative to that among the fewest.", 11, fill=FAINT)
+    picture.text(20, bottom + 23, common.told(facts), 11, fill=FAINT)
     return picture.svg()

@@ -1,6 +1,6 @@
 """A lock and its lease on a time line: the calls of the row a_lock_kept_by_renewals."""
 import common
-from svg import FAINT, INK, OTHER, OURS, RULE, Drawing, scale
+from svg import FAINT, INK, ON_COLOUR, OTHER, OURS, RULE, Drawing, scale
 
 ROW, LEASE = "a_lock_kept_by_renewals", 90
 
@@ -29,25 +29,25 @@ def draw():
     begun = locks[0][0]
     renewals = [moment for moment, client, _, _ in told if client == "A"]
     out = max(renewals) + LEASE
-    picture = Drawing(1000, 340, "A granted lock is kept while its client renews its lease",
+    picture = Drawing(1000, 300, "A granted lock is kept while its client renews its lease",
                       "Client A is granted a lock and renews its lease twice. Client B asks for the same byte in the last second of A's lease and is denied, "
                       "and a second later, when the lease has run out, it is granted.")
     at = scale(0, out - begun + 40, 110, 970)
-    picture.text(24, 92, "client A", 14, weight="bold")
-    picture.text(24, 236, "client B", 14, weight="bold")
-    picture.rect(at(0), 128, at(out - begun) - at(0), 26, OURS, radius=3)
-    picture.text((at(0) + at(out - begun)) / 2, 146, "A holds byte 0 of the file for writing", 13, "middle", "#ffffff")
-    picture.rect(at(out - begun + 1), 128, 970 - at(out - begun + 1), 26, OTHER, radius=3)
-    picture.text((at(out - begun + 1) + 970) / 2, 146, "B holds it", 13, "middle", "#ffffff")
+    picture.text(24, 52, "client A", 14, weight="bold")
+    picture.text(24, 196, "client B", 14, weight="bold")
+    picture.rect(at(0), 88, at(out - begun) - at(0), 26, OURS, radius=3)
+    picture.text((at(0) + at(out - begun)) / 2, 106, "A holds byte 0 of the file for writing", 13, "middle", ON_COLOUR)
+    picture.rect(at(out - begun + 1), 88, 970 - at(out - begun + 1), 26, OTHER, radius=3)
+    picture.text((at(out - begun + 1) + 970) / 2, 106, "B holds it", 13, "middle", ON_COLOUR)
     for i, moment in enumerate(sorted(set(renewals))):
         x, end = at(moment - begun), at(min(moment + LEASE, out) - begun)
-        picture.dot(x, 88, 5, OURS)
-        picture.text(x + (0 if i else -6), 70, "LOCK: NFS4_OK" if i == 0 else "SEQUENCE renews", 12, "middle" if i else "start")
-        picture.path([(x + 8, 88), (end - 8, 88)], OURS, 1.4, arrow=True)
-        picture.text((x + end) / 2, 108, f"lease, {LEASE} s", 12, "middle", FAINT)
-    for (moment, _, _, status), y in zip(locks[1:], (208, 248), strict=True):
+        picture.dot(x, 48, 5, OURS)
+        picture.text(x + (0 if i else -6), 30, "LOCK: NFS4_OK" if i == 0 else "SEQUENCE renews", 12, "middle" if i else "start")
+        picture.path([(x + 8, 48), (end - 8, 48)], OURS, 1.4, arrow=True)
+        picture.text((x + end) / 2, 68, f"lease, {LEASE} s", 12, "middle", FAINT)
+    for (moment, _, _, status), y in zip(locks[1:], (168, 208), strict=True):
         x, colour = at(moment - begun), "#c0392b" if status != "NFS4_OK" else "#3d8c40"
-        picture.line(x, 158, x, y, colour, 1, "3 3")
+        picture.line(x, 118, x, y, colour, 1, "3 3")
         picture.dot(x, y, 5, colour)
         picture.text(x - 12, y + 4, f"LOCK of the same byte at {moment - begun} s: {status}", 12, "end", colour)
     axis(picture, at, out - begun)
@@ -55,9 +55,9 @@ def draw():
 
 
 def axis(picture, at, out):
-    picture.line(at(0), 284, 970, 284, INK)
+    picture.line(at(0), 244, 970, 244, INK)
     for second in range(0, out + 1, LEASE):
-        picture.line(at(second), 280, at(second), 288, INK)
-        picture.text(at(second), 304, f"{second} s", 12, "middle")
-        picture.line(at(second), 160, at(second), 280, RULE, 1, "1 4")
-    picture.text(at(0), 328, f"Seconds after the LOCK. The lease runs out after {out} s: at any later moment A's lock is gone.", 12, fill=FAINT)
+        picture.line(at(second), 240, at(second), 248, INK)
+        picture.text(at(second), 264, f"{second} s", 12, "middle")
+        picture.line(at(second), 120, at(second), 240, RULE, 1, "1 4")
+    picture.text(at(0), 288, f"Seconds after the LOCK. The lease runs out after {out} s: at any later moment A's lock is gone.", 12, fill=FAINT)

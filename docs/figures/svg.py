@@ -5,7 +5,12 @@ from xml.sax.saxutils import escape
 INK, FAINT, RULE = "#222222", "#666666", "#c8c8c8"
 PROVED, TESTED, TRUSTED = "#cfe6d4", "#fbe9c0", "#f1f1f1"
 OURS, OTHER, CEILING = "#1f6f8b", "#d98e32", "#8a8a8a"
+ON_COLOUR = "#fffffe"
 SERIES = ["#1f6f8b", "#d1495b", "#3d8c40", "#8661c1", "#d98e32", "#5c6b73", "#b0407a", "#00798c"]
+# what a colour is on a dark page; the others are the same on both
+DARK = {INK: "#e6e6e6", FAINT: "#a6a6a6", RULE: "#4a4a4a", PROVED: "#234a2f", TESTED: "#54431a", TRUSTED: "#2b2b2b", OURS: "#2f8fb0", OTHER: "#c98a3a",
+        CEILING: "#9a9a9a", "#ffffff": "#15181c", "#3f7d52": "#6fbf88", "#a57c1b": "#d8b24a", "#ecd28c": "#6e5a26", "#eff7f1": "#1a2a20",
+        "#b9cfd6": "#37505a", "#e9a6ae": "#7a3c46", "#d1495b": "#e0697a", "#c0392b": "#e8705f", "#3d8c40": "#6bbf6e"}
 FONT = "Helvetica, Arial, 'DejaVu Sans', sans-serif"
 
 
@@ -75,8 +80,13 @@ class Drawing:
                  f'<rect width="8" height="8" fill="{TESTED}"/><line x1="0" y1="0" x2="0" y2="8" stroke="#ecd28c" stroke-width="3"/></pattern></defs>\n')
         begun = (f'<svg xmlns="http://www.w3.org/2000/svg" width="{self.width}" height="{self.height}" viewBox="0 0 {self.width} {self.height}" '
                  f'font-family="{FONT}" role="img">\n')
-        ground = f'<rect width="{self.width}" height="{self.height}" fill="#ffffff"/>\n'
-        return begun + self.head + hatch + ground + "\n".join(self.parts) + "\n</svg>\n"
+        return begun + self.head + self.style() + hatch + "\n".join(self.parts) + "\n</svg>\n"
+
+    def style(self):
+        """The style sheet: on a dark page each colour that the drawing uses has its other one."""
+        used = [it for it in DARK if any(f'"{it}"' in part for part in self.parts) or it in (TESTED, "#ecd28c")]
+        rules = "".join(f'[fill="{it}"]{{fill:{DARK[it]}}}[stroke="{it}"]{{stroke:{DARK[it]}}}' for it in used)
+        return f"<style>@media (prefers-color-scheme: dark){{{rules}}}</style>\n"
 
 
 def wide(text, size):

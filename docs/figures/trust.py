@@ -2,7 +2,7 @@
 import sys
 
 import common
-from svg import FAINT, INK, SERIES, Drawing, wide
+from svg import FAINT, INK, ON_COLOUR, SERIES, Drawing, wide
 
 sys.path.append(str(common.TOP / "tests"))
 from promises import lines_by_crate  # noqa: E402
@@ -10,6 +10,7 @@ from promises import lines_by_crate  # noqa: E402
 ONLY_TEST = {"nfs_testing", "nfs_tests"}
 AREAS = [("to believe", "definitions that the promises rest on", "#d1495b"), ("other definitions", "between crates; laws; comments", "#e9a6ae"),
          ("code", "Rust with contracts", SERIES[0]), ("proof", "read by the checker alone", "#b9cfd6")]
+DEEP = {"#d1495b", SERIES[0]}
 
 
 def lines(paths):
@@ -37,15 +38,17 @@ def draw():
                       "; ".join(f"{name}: {total:,} lines" for (name, _, _), total in zip(AREAS, totals)))
     top, width = 56, 880
     picture.text(20, 34, "What you read, and what the checker reads: lines, as areas", 16, weight="bold")
-    # one band whose parts are as wide as their lines are many
+    # one band whose parts are as wide as their lines are many; the words of a narrow one are turned
     at, height = 20.0, 120
     for (name, _, colour), total in zip(AREAS, totals):
         part = total / sum(totals) * (width + 80)
         picture.rect(at, top, part, height, colour, "#ffffff")
+        fill, middle = ON_COLOUR if colour in DEEP else INK, at + part / 2
         if part > wide(name, 15) + 8:
-            fill = "#ffffff" if colour == SERIES[0] else INK
-            picture.text(at + part / 2, top + 56, name, 15, "middle", fill, "bold")
-            picture.text(at + part / 2, top + 78, f"{total:,} lines", 13, "middle", fill)
+            picture.text(middle, top + 56, name, 15, "middle", fill, "bold")
+            picture.text(middle, top + 78, f"{total:,} lines", 13, "middle", fill)
+        else:
+            picture.text(middle + 4, top + height / 2, f"{name.split()[-1]}: {total:,}", min(11, part * 0.8), "middle", fill, "bold", turn=-90)
         at += part
     for i, ((name, note, colour), total) in enumerate(zip(AREAS, totals)):
         x, y = 20 + i * 245, top + height + 24
