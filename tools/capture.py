@@ -51,6 +51,18 @@ class Connections:
         return self.gaps + sum(side.lacks() for side in self.sides.values())
 
 
+def heard(path, port, most=4 << 20):
+    """The records that a capture has of connections to a server's port, in the order in which they became whole: the moment in seconds, the client
+    (its address and port), whether the server sent it, and the record, of at most so many bytes."""
+    sides, records = {}, {}
+    for (second, part), client, from_server, flags, number, data in pcap.segments(path, port):
+        key = client, from_server
+        if flags & pcap.SYN or key not in sides:
+            sides[key], records[key] = pcap.Side(), nfs4.Records(most)
+        for record in records[key].feed(sides[key].feed(number, flags, data)):
+            yield second + part / 1_000_000, client, from_server, record
+
+
 def instance_of(reply):
     """The first half of the client id that a reply to EXCHANGE_ID gives."""
     try:

@@ -644,10 +644,10 @@ def record(data):
 
 
 class Records:
-    """The records of a stream that comes in pieces."""
+    """The records of a stream that comes in pieces; from one on that is longer than `most`, nothing more is read."""
 
-    def __init__(self):
-        self.kept, self.whole, self.lost = b"", b"", False
+    def __init__(self, most=66_560 + 65_536):
+        self.kept, self.whole, self.lost, self.most = b"", b"", False, most
 
     def feed(self, piece):
         self.kept += piece
@@ -655,7 +655,7 @@ class Records:
         while len(self.kept) >= 4 and not self.lost:
             mark = int.from_bytes(self.kept[:4], "big")
             size = mark & ~LAST
-            if len(self.whole) + size > 66_560 + 65_536:
+            if len(self.whole) + size > self.most:
                 self.lost = True
             if self.lost or len(self.kept) < 4 + size:
                 break
@@ -700,11 +700,12 @@ def compound_results(results):
 
 
 class Call:
-    """A call: its head, and its operations as far as they can be read; `fault` says why they end early."""
+    """A call: its head, the place of its arguments, and its operations as far as they can be read, with the places at which they begin; `fault`
+    says why they end early."""
 
     def __init__(self, data, most=None):
         c = Reader(data, most=most)
-        self.data, self.operations, self.fault = data, [], None
+        self.data, self.operations, self.places, self.fault = data, [], [], None
         self.xid, self.uid, self.gid, self.gids, self.tag, self.minor, self.procedure = c.number(), None, None, [], b"", None, None
         if c.number() != 0:
             raise Unreadable("no call")
@@ -713,6 +714,7 @@ class Call:
         flavor, body = c.number(), c.opaque()
         c.number()
         c.opaque()
+        self.arguments = c.at
         if versions != (2, 100_003, 4) or self.procedure > 1:
             raise Unreadable(f"RPC version {versions[0]}, program {versions[1]}, version {versions[2]}, procedure {self.procedure}")
         self.flavor = flavor
@@ -727,7 +729,9 @@ class Call:
         self.declared = c.number()
         try:
             for _ in range(self.declared):
+                place = c.at
                 self.operations.append(read_operation(c))
+                self.places.append(place)
             if c.at != len(data):
                 raise Unreadable("bytes behind the last operation")
         except Unreadable as fault:
