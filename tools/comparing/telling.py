@@ -1,9 +1,9 @@
 """What was found, as text, as TAP and JUnit, and as files: a case is a script of replay, its text, and a capture."""
 import re
-from xml.sax.saxutils import quoteattr
 
 import nfs4
 import pcap
+import verdicts
 
 from . import rules
 from .symbols import Sym, Turn
@@ -110,24 +110,17 @@ def by_operation(counts):
 def tap(path, counts, findings):
     """A line an operation; what was found stands below it."""
     told = by_operation(counts)
-    names = sorted(set(told) | {finding.difference.operation for finding in findings})
-    lines = [f"1..{len(names)}"]
-    for number, name in enumerate(names, 1):
-        mine = [finding for finding in findings if finding.difference.operation == name]
-        lines.append(f"{'not ok' if mine else 'ok'} {number} - {name}, RFC 8881 section {rules.SECTION.get(name, '?')}, {told.get(name, (0, 0))[0]} results")
-        lines += [f"  # {finding.difference}" for finding in mine]
-    path.write_text("\n".join(lines) + "\n")
+    verdicts.tap(path, [(f"{name}, RFC 8881 section {rules.SECTION.get(name, '?')}, {told.get(name, (0, 0))[0]} results", [str(f.difference) for f in mine])
+                        for name, mine in found_by_operation(told, findings)])
 
 
 def junit(path, counts, findings, seconds):
     """A test case an operation, with a failure for each finding."""
     told = by_operation(counts)
+    verdicts.junit(path, "compare", "nfs4.1", [(name, [headline(f) for f in mine]) for name, mine in found_by_operation(told, findings)], seconds)
+
+
+def found_by_operation(told, findings):
+    """Each operation that was compared or found wrong, with its findings."""
     names = sorted(set(told) | {finding.difference.operation for finding in findings})
-    lines = ['<?xml version="1.0" encoding="UTF-8"?>',
-             f'<testsuite name="compare" tests="{len(names)}" failures="{len({f.difference.operation for f in findings})}" time="{seconds:.1f}">']
-    for name in names:
-        mine = [finding for finding in findings if finding.difference.operation == name]
-        lines.append(f"  <testcase classname=\"nfs4.1\" name={quoteattr(name)}>")
-        lines += [f"    <failure message={quoteattr(headline(finding))}/>" for finding in mine]
-        lines.append("  </testcase>")
-    path.write_text("\n".join([*lines, "</testsuite>"]) + "\n")
+    return [(name, [finding for finding in findings if finding.difference.operation == name]) for name in names]
