@@ -133,9 +133,9 @@ class Written:
 
     def packet(self, moment, client, to_server, flags, data=b""):
         numbers = self.numbers[client]
-        # moments are whole seconds: what comes in one of them is a microsecond apart
+        # what comes in one moment, which is a second as a rule, is a microsecond apart
         second, part = self.clock
-        self.clock = (moment, 0) if moment > second else (second, part + 1) if part < 999_999 else (second + 1, 0)
+        self.clock = max((int(moment), int(moment % 1 * 1_000_000)), (second, part + 1) if part < 999_999 else (second + 1, 0))
         ports = (client, self.port) if to_server else (self.port, client)
         ends = (self.CLIENT, self.SERVER) if to_server else (self.SERVER, self.CLIENT)
         here, there = (0, 1) if to_server else (1, 0)
