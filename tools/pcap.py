@@ -25,8 +25,9 @@ def bytes_of(path):
         raise NoCapture(f"{path} is pcapng, which tshark would turn into pcap: {fault}") from fault
 
 
-def packets(path):
-    """The second, microsecond and bytes of each IP packet. A file may end inside a packet, as one does that is still written."""
+def packets(path, notes=None):
+    """The second, microsecond and bytes of each IP packet. A file may end inside a packet, as one does that is still written. With a list of notes, packets
+    that were cut are taken too; that, and where the file ends, is noted there."""
     data = bytes_of(path)
     order = {b"\xd4\xc3\xb2\xa1": "<", b"\x4d\x3c\xb2\xa1": "<", b"\xa1\xb2\xc3\xd4": ">", b"\xa1\xb2\x3c\x4d": ">"}.get(data[:4])
     if order is None:
@@ -41,35 +42,46 @@ def packets(path):
     while at + 16 <= len(data):
         second, part, size, whole = struct.unpack_from(order + "4I", data, at)
         if size < whole:
-            raise NoCapture(f"{path} has packets that were cut; capture them whole (tcpdump -s 0)")
+            if notes is None:
+                raise NoCapture(f"{path} has packets that were cut; capture them whole (tcpdump -s 0)")
+            if "packets were cut" not in notes:
+                notes.append("packets were cut")
         yield second, part // nano, data[at + 16 + BEFORE[link]:at + 16 + size]
         at += 16 + size
+    if at != len(data) and notes is not None:
+        notes.append("the file ends inside a packet")
 
 
-def over_tcp(path):
-    """The packets of TCP over IPv4: moment, packet, and where TCP begins in it."""
-    for second, part, packet in packets(path):
+def over_tcp(path, notes=None):
+    """The packets of TCP over IPv4: the number of the frame, as Wireshark counts them; moment, packet, and where TCP begins in it."""
+    for frame, (second, part, packet) in enumerate(packets(path, notes), 1):
         if len(packet) >= 20 and packet[0] >> 4 == 4 and packet[9] == socket.IPPROTO_TCP:
             packet = packet[:struct.unpack_from(">H", packet, 2)[0]]
             tcp = packet[4 * (packet[0] & 15):]
             if len(tcp) >= 20:
-                yield second, part, packet, tcp
+                yield frame, second, part, packet, tcp
 
 
 def ports(path):
     """The ports to which connections are made."""
-    return {struct.unpack_from(">H", tcp, 2)[0] for _, _, _, tcp in over_tcp(path) if tcp[13] & (SYN | ACK) == SYN}
+    return {struct.unpack_from(">H", tcp, 2)[0] for _, _, _, _, tcp in over_tcp(path, []) if tcp[13] & (SYN | ACK) == SYN}
 
 
 def segments(path, port):
     """The TCP segments to and from a port over IPv4: moment, client (address and port), whether the server sent it, flags, sequence number, bytes."""
-    for second, part, packet, tcp in over_tcp(path):
-        source, target, number = struct.unpack_from(">HHI", tcp)
-        data = tcp[4 * (tcp[12] >> 4):]
+    for _, _, *segment in numbered(path, port):
+        yield segment
+
+
+def numbered(path, port, notes=None):
+    """The same, and before each the number of its frame, and which sequence number it acknowledges (none without the flag)."""
+    for frame, second, part, packet, tcp in over_tcp(path, notes):
+        source, target, number, acknowledged = struct.unpack_from(">HHII", tcp)
+        data, told = tcp[4 * (tcp[12] >> 4):], acknowledged if tcp[13] & ACK else None
         if source == port:
-            yield (second, part), (packet[16:20], target), True, tcp[13], number, data
+            yield frame, told, (second, part), (packet[16:20], target), True, tcp[13], number, data
         elif target == port:
-            yield (second, part), (packet[12:16], source), False, tcp[13], number, data
+            yield frame, told, (second, part), (packet[12:16], source), False, tcp[13], number, data
 
 
 def ahead(number, base):

@@ -1,0 +1,146 @@
+"""The compounds of a slot (RFC 8881 section 2.10.6): what is sent next, and what is sent again."""
+import repeats
+
+# SEQUENCE's refusals that say that the slot has executed under this number
+HAS_RUN = ("NFS4ERR_SEQ_FALSE_RETRY", "NFS4ERR_RETRY_UNCACHED_REP")
+ROUND = 1 << 32
+
+
+class Sent:
+    """A compound on a slot, from its first sending on: `sendings` are the frames, of which the last was on `connection`."""
+
+    def __init__(self, call, connection, frame, moment):
+        self.call, self.connection, self.moment, self.sendings = call, connection, moment, [frame]
+        fields = dict(call.operations[0][1])
+        self.session, self.number, self.slot, self.highest = fields["sessionid"], *(int(fields[name]) for name in ("seqid", "slot_id", "high_slot_id"))
+        self.user = call.flavor, call.uid
+        # the frames of its reply, of a reply that bears its xid and is another's, and of the compound that was sent though it waited
+        self.answered = self.other = self.passed = None
+        self.refused = None
+
+    @property
+    def name(self):
+        return f"number {self.number}"
+
+    @property
+    def is_lone(self):
+        return self.call.declared == 1
+
+    def is_answer(self, result):
+        """Whether a result of SEQUENCE is that of this compound."""
+        fields = dict(result[2])
+        return (fields["sessionid"], fields["seqid"], fields["slot_id"]) == (self.session, str(self.number), str(self.slot))
+
+
+class Slot:
+    """A slot of a session. `is_known` says that all its compounds are in the capture, from the first one on."""
+
+    def __init__(self, place, is_known, found):
+        self.place, self.is_known, self.found = place, is_known, found
+        self.last, self.count, self.again, self.moved = None, 0, 0, 0
+        # compounds that were passed over while they waited
+        self.open_ends = []
+
+    def forget(self):
+        """Compounds or replies may be lacking from here on."""
+        self.last, self.is_known, self.open_ends = None, False, []
+
+    def send(self, new, has_ended):
+        """Takes a sending, and says of which compound it is: of this new one, or of the one before, sent again. `has_ended` tells
+        of a connection whether it has ended."""
+        last = self.last
+        if last is None:
+            if self.is_known and new.number != 1:
+                self.say("numbers", (new.sendings[0],), f"the first number is {new.number}")
+            return self.take(new)
+        if new.number == last.number:
+            return self.same_number(last, new, has_ended)
+        ahead = (new.number - last.number) % ROUND
+        if ahead != 1:
+            how = f"{ahead - 1} skipped" if ahead < ROUND // 2 else f"{ROUND - ahead} back"
+            self.say("numbers", (last.sendings[-1], new.sendings[0]), f"{new.name} comes after {last.name}: {how}")
+        else:
+            self.next_number(last, new)
+        return self.take(new)
+
+    def take(self, new):
+        self.last, self.count = new, self.count + 1
+        return new
+
+    def next_number(self, last, new):
+        if last.answered is not None or last.refused in HAS_RUN:
+            return
+        if last.refused:
+            text = f"{new.name} comes after {last.name}, whose SEQUENCE was refused with {last.refused} and did not use it up"
+            self.say("numbers", (last.sendings[-1], new.sendings[0]), text)
+        elif last.other is not None:
+            text = f"{new.name} is sent after a reply that has the xid of {last.name} and another SEQUENCE"
+            self.say("other-reply", (last.sendings[-1], last.other, new.sendings[0]), text)
+        else:
+            # whether the reply comes later tells what it is
+            last.passed = new.sendings[0]
+            self.open_ends.append(last)
+
+    def same_number(self, last, new, has_ended):
+        frames = (last.sendings[-1], new.sendings[0])
+        is_same = repeats.compared(new.call) == repeats.compared(last.call)
+        if is_same and new.user == last.user:
+            return self.sent_again(last, new, has_ended, frames)
+        if last.refused and last.answered is None:
+            self.say("refused-number", frames, f"{new.name} is another compound; the first was refused with {last.refused}")
+        elif new.is_lone and not last.is_lone and new.user == last.user and last.answered is None:
+            self.say("asked-instead", frames, f"{new.name}: a lone SEQUENCE in place of {names_of(last.call)}, which waits")
+        elif is_same:
+            self.say("other-user", frames, f"{new.name} by {user_of(new)}, and before by {user_of(last)}")
+        else:
+            self.say("other-bytes", frames, f"{new.name}: {difference(last.call, new.call)}")
+        return self.take(new)
+
+    def sent_again(self, last, new, has_ended, frames):
+        if not has_ended(last.connection):
+            self.say("still-connected", frames, f"{new.name} is sent again, and the connection of the first sending stands")
+        self.again += 1
+        self.moved += new.highest != last.highest
+        last.sendings.append(new.sendings[0])
+        last.connection, last.refused = new.connection, None
+        return last
+
+    def reply(self, sent, frame, result):
+        """Takes a reply that has the xid of a sending, by its result of SEQUENCE."""
+        if result[1] != "NFS4_OK":
+            if sent.answered is None:
+                sent.refused = result[1]
+        elif not sent.is_answer(result):
+            sent.other = frame
+        elif sent.answered is None:
+            sent.answered = frame
+            if sent.passed is not None:
+                self.open_ends.remove(sent)
+                text = f"{sent.name} had its reply after the next number was sent"
+                self.say("two-waiting", (sent.sendings[0], sent.passed, frame), text)
+            return True
+        return False
+
+    def finish(self):
+        """What had no reply to the end."""
+        for sent in self.open_ends:
+            self.say("given-up", (sent.sendings[-1], sent.passed), f"{sent.name} ({names_of(sent.call)}) had no reply when the next number was sent, and none later")
+        self.open_ends = []
+
+    def say(self, rule, frames, text):
+        self.found(rule, frames, text, self.place)
+
+
+def user_of(sent):
+    return f"uid {sent.call.uid}" if sent.call.flavor == 1 else f"flavor {sent.call.flavor}"
+
+
+def names_of(call):
+    """The operations of a compound behind its SEQUENCE."""
+    names = [name for name, _ in call.operations[1:]]
+    return ", ".join(names) + (" .." if call.fault else "") if names or call.fault else "a lone SEQUENCE"
+
+
+def difference(first, second):
+    """In what two compounds under one number differ, but for what may be another one when it is sent again."""
+    return "; ".join(told for told in repeats.differences(first, second) if not told.startswith(("xid ", "gid ", "gids ", "high_slot_id of SEQUENCE "))) or "other bytes"

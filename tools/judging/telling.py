@@ -1,0 +1,108 @@
+"""What was found, as text and as cases for a gate; and which promises of docs/PROMISES.md hold for the run."""
+from .rules import KEPT, MADE, ONCE, RULES
+
+# how many findings of a rule and client are printed without --all
+SHOWN = 3
+
+
+def listed(names):
+    """Names as a list in words."""
+    names = [f'"{name}"' for name in names]
+    return names[0] if len(names) == 1 else f"{', '.join(names[:-1])} and {names[-1]}"
+
+
+def headline(name):
+    """A rule with its section and what it is a premise of."""
+    rule = RULES[name]
+    premise = f"a premise of {listed(rule.premise_of)}" if rule.premise_of else "a premise of no promise"
+    return f"{name}: {rule.says} (RFC 8881 section {rule.section}; {premise})"
+
+
+def line(finding, unit):
+    frames = f"{unit}{'s' if len(finding.frames) > 1 else ''} {', '.join(map(str, finding.frames))}"
+    return f"{frames}: {finding.place + ': ' if finding.place else ''}{finding.text}"
+
+
+def client_line(judge, client):
+    """A client, what it did, and how long it was silent."""
+    slots = [slot for session in judge.sessions.values() if session.client is client for slot in session.slots.values()]
+    count, again, moved = (sum(getattr(slot, name) for slot in slots) for name in ("count", "again", "moved"))
+    used = sum(slot.count > 0 for slot in slots)
+    text = f"client {client.name}{f' ({client.owner})' if client.owner else ''}: {count} compounds on {used} slot{'s' * (used != 1)}"
+    if again:
+        text += f"; {again} sent again, {moved} of them with another sa_highest_slotid, as RFC 8881 section 2.10.6.1 lets it move"
+    if client.longest:
+        text += f"; {client.longest[0]:.1f} s at most without a renewal, of a lease of {'unknown length' if judge.lease is None else f'{judge.lease} s'}"
+    return text + (f"; ended: {client.ended}" if client.ended else "")
+
+
+def of_client(judge, client, unit, has_all):
+    """The findings of a client, by rule."""
+    lines = []
+    for name in RULES:
+        mine = [finding for finding in judge.found if (finding.rule, finding.client) == (name, client)]
+        if mine:
+            lines.append("  " + headline(name))
+            shown = mine if has_all else mine[:SHOWN]
+            lines += ["    " + line(finding, unit) for finding in shown]
+            if (more := judge.counts[name, client] - len(shown)) > 0:
+                lines.append(f"    and {more} more{'' if has_all else '; --all shows them'}")
+    return lines
+
+
+def promises(judge, unit):
+    """Which promises hold for the run, because their premises do."""
+    lines = []
+    for group in (ONCE, KEPT, MADE):
+        broken = {place: finding for (rule, client, place), finding in reversed(judge.broken.items()) if RULES[rule].premise_of is group
+                  for place in [place or f"client {client}"]}
+        if not broken:
+            lines.append(f"Of {listed(group)} this run keeps the premises, so what docs/PROMISES.md says there holds for it.")
+            continue
+        lines.append(f"Of {listed(group)} this run breaks a premise, so docs/PROMISES.md does not speak there of:")
+        lines += [f"  {place} from {unit} {finding.frames[-1]} on ({finding.rule})" for place, finding in broken.items()]
+    return lines
+
+
+def limits(judge, notes):
+    """What was not judged, and why."""
+    seen, told = judge.seen, list(notes)
+    if seen["holes"]:
+        told.append(f"bytes are lacking in {seen['holes']} places; what may have been there is held against nobody")
+    if seen["begun before"]:
+        told.append(f"{seen['begun before']} connections began before the capture")
+    for name, words in (("unreadable", "records are no calls or replies of NFS version 4"), ("not judged", "calls cannot be read, or are of another minor version"),
+                        ("unmatched", "replies answer no call that waits")):
+        if seen[name]:
+            told.append(f"{seen[name]} {words}")
+    if judge.lease is None and judge.clients:
+        told.append("no reply tells the lease (attribute 10), so it is not judged; --lease N gives it")
+    return told
+
+
+def text(judge, name, unit, notes, has_all=False):
+    """All that is told of a run."""
+    seen, seconds = judge.seen, (judge.moment or 0) - (judge.begun or 0)
+    lines = [f"{name}: {seen['calls']} calls and {seen['replies']} replies on {seen['connections']} connection{'s' * (seen['connections'] != 1)} in {seconds:.1f} s"]
+    lines += [f"  note: {note}" for note in limits(judge, notes)]
+    told = set()
+    for client in judge.clients.values():
+        if client.calls or any(finding.client == client.name for finding in judge.found):
+            lines += [client_line(judge, client), *of_client(judge, client.name, unit, has_all)]
+            told.add(client.name)
+    for other in dict.fromkeys(finding.client for finding in judge.found if finding.client not in told):
+        lines += [f"client {other}", *of_client(judge, other, unit, has_all)]
+    lacking = {key[8:]: times for key, times in seen.items() if key.startswith("lacking ")}
+    if lacking:
+        lines.append("The server answered that it does not have: " + ", ".join(f"{name} ({times} times)" for name, times in lacking.items()))
+    total = sum(judge.counts.values())
+    lines.append(f"{total or 'no'} finding{'s' * (total != 1)}")
+    return lines + promises(judge, unit)
+
+
+# For a gate.
+
+def cases(judge, unit):
+    """A case for each rule, with what was found."""
+    return [(f"{name}, RFC 8881 section {rule.section}", [f"client {one.client}, {line(one, unit)}" for one in judge.found if one.rule == name][:SHOWN])
+            for name, rule in RULES.items()]
