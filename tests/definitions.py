@@ -3,44 +3,21 @@
 
 What cannot be followed by the text is refused, as a fault: an import that resolves to nothing, or whose path does not begin with
 `Rattle.`; one that passes names on (`pub use`), brings all of a module (`M.*`) or has another name for `Unit`; a module with a name in a file
-of definitions; in a source a module that is written into it, a macro, text of another file, or a `pub use` where it is not the crate's root."""
+of definitions; in a source a module that is written into it, a macro, text of another file, a `pub use` where it is not the crate's root, or a
+body that a trait gives a function."""
 
 import re
 
+import rattle
+from rattle import without_comments
+
 ANTT_IMPORT = re.compile(r"^(?:(?:pub|unfoldable)\s+)*use\s+([^\n]*(?:\n[ \t}][^\n]*)*)", re.M)
-RUST_IMPORT = re.compile(r"^[ \t]*(?:pub )?ghost use\s+([^;]*);", re.M)
 PASSED_ON = re.compile(r"^(?:unfoldable\s+)*pub\s+(?:unfoldable\s+)*use\s.*|^(?:pub )?mod .*", re.M)
 IN_FULL = re.compile(r"(?<![\w.])Rattle\.\w+\.[^\s(){},;\[\]⟦⟧]+")
 HEAD = re.compile(r"((?:(?:pub|abbrev|unfoldable|opaque|data|record)\s+)+)([^\s(){}:]+)|()([^\s(){}:]+)\s*:(?=\s|$)")
 SECTION = re.compile(r"( *)module (\S+)(?: .*)? where$")
 FIELD = re.compile(r"^[ \t]+pub [^:\n]*:", re.M)
 WORD = re.compile(r"[^\s(){},;\[\]⟦⟧«»]+")
-FUNCTION = re.compile(r"^ *(pub(?:\([^)]*\))? )?(?:const |unsafe )*fn (\w+)", re.M)
-CLAUSE = re.compile(r"\b(requires|ensures)\*?(?: \w+)?\s*\{|\bghost (\w+)(?: = |: (?:\w+ )?)\{")
-BLOCK = re.compile(r"^(?:pub )?(?:impl\b.* for |trait )", re.M)
-OWNER = re.compile(r"^(?:pub(?:\([^)]*\))? )?(?:impl\b(?:<.*?>)? (?:.* for )?|trait |struct )(\w+)[^;\n]*$", re.M)
-INLINE = re.compile(r"^ *(?:(?:pub(?:\([^)]*\))? )?mod \w+ *\{|#\[path\b|include!|(?:pub )?macro_rules!).*", re.M)
-SHOWN = re.compile(r"^ *pub(?:\([^)]*\))? use .*", re.M)
-
-
-def without_comments(text):
-    return re.sub(r"(^|(?<=\s))--.*$", "", text, flags=re.M)
-
-
-def braced(text, at):
-    """Where the brace that was opened before this place is closed."""
-    depth = 1
-    while depth and at < len(text):
-        depth += {"{": 1, "}": -1}.get(text[at], 0)
-        at += 1
-    return at - 1
-
-
-def declaration(text, head):
-    """The text of a Rust type that begins there, without comments."""
-    first = re.compile(r"[{;]").search(text, head.end())
-    end = braced(text, first.end()) if first and first[0] == "{" else first.start() if first else len(text)
-    return " ".join(re.sub(r"//.*$", "", text[head.start() : end], flags=re.M).split())
 
 
 class Definition:
@@ -61,17 +38,6 @@ class Definition:
         return f"{' '.join(self.file)}.{self.name}"
 
 
-class Clause:
-    """A clause of a contract, or a ghost: what it is, its text, the name of its function, or its own, the type or trait that has that, if any,
-    and whether it is public."""
-
-    def __init__(self, kind, text, name, owner, is_public):
-        self.kind, self.text, self.name, self.owner, self.is_public = kind, text, name, owner, is_public
-
-    def __str__(self):
-        return f"{self.owner}::{self.name}" if self.owner else self.name
-
-
 class Definitions:
     """The definitions of a repository's crates."""
 
@@ -88,7 +54,8 @@ class Definitions:
         for file, path in self.files.items():
             self.read(file, path)
         for file, path in self.files.items():
-            self.imports[file], self.std[file] = self.imports_of(path, ANTT_IMPORT)
+            said = ANTT_IMPORT.findall(without_comments(path.read_text(encoding="utf-8")))
+            self.imports[file], self.std[file] = self.imports_of(path, said)
 
     def place(self, path):
         return path.relative_to(self.top / "crates")
@@ -140,10 +107,10 @@ class Definitions:
             return now
         return names.get(first[0]) if first else None
 
-    def imports_of(self, path, pattern):
-        """What the names that a file imports stand for: a definition, as (file, name), or a file, as (file, None); and the names of std."""
+    def imports_of(self, path, said):
+        """What the names that a file imports so stand for: a definition, as (file, name), or a file, as (file, None); and the names of std."""
         found, std, place = {}, set(), self.place(path)
-        for whole in pattern.findall(path.read_text(encoding="utf-8")):
+        for whole in said:
             whole = " ".join(whole.split())
             path_of, _, names = whole.partition("{")
             path_of, _, alias = path_of.strip().partition(" as ")
@@ -185,11 +152,10 @@ class Definitions:
         for length in range(len(path) - 1, -1, -1):
             source = self.top / "crates" / crate / "src" / ("/".join(path[:length] or ["lib"]) + ".rt")
             if source.is_file():
-                said = rf"^\s*(?:pub(?:\([^)]*\))? )?(?:struct|enum|union) {re.escape(path[length])}\b"
-                text = source.read_text(encoding="utf-8")
-                if head := re.search(said, text, re.M):
+                read = rattle.read(source)
+                for block in (it for it in read.types if it.name == path[length]):
                     found = crate, (".".join(path[: length + 1]),)
-                    self.declared[found] = declaration(text, head)
+                    self.declared[found] = read.declaration(block)
                     return found
         self.faults.append(f"{place}: there is no Rust type for {crate} specs: {'.'.join(path)}")
         return None
@@ -232,45 +198,18 @@ class Definitions:
     # Contracts of sources.
 
     def read_source(self, path):
-        """The clauses of a source and what it imports."""
+        """The clauses of a source, what it imports, and the names of std."""
         if path not in self.clauses:
-            text, place = path.read_text(encoding="utf-8"), self.place(path)
-            self.faults += [f"{place}: text that stands elsewhere, or a module written into a source: {it.strip()}" for it in INLINE.findall(text)]
-            if path.name != "lib.rt":
-                self.faults += [f"{place}: names that are passed on: {it.strip()}" for it in SHOWN.findall(text)]
-            self.clauses[path] = [*clauses_of(text)], self.imports_of(path, RUST_IMPORT)[0]
+            source, place = rattle.read(path), self.place(path)
+            self.faults += [f"{place}: {it}" for it in rattle.hidden(source, path.name == "lib.rt")]
+            self.clauses[path] = source.clauses, *self.imports_of(path, source.ghost_uses)
         return self.clauses[path]
+
+    def sources(self, crate):
+        """The sources of a crate that its modules lead to, but those of tests."""
+        folder = self.top / "crates" / crate
+        return [folder / file for file, (_, is_test) in rattle.tree(folder).items() if not is_test]
 
     def cited_in(self, path, clause):
         """What a clause of a source names."""
         return self.cited(clause.text, self.read_source(path)[1], None, self.place(path))
-
-
-def clauses_of(text):
-    """The clauses of a source, in order."""
-    for it in CLAUSE.finditer(text):
-        end = braced(text, it.end())
-        said = text[it.end() : end]
-        # (what a trait gives a ghost where an impl does not)
-        if it[2] and (more := re.match(r"\s*=\s*\{", text[end + 1 :])):
-            begin = end + 1 + more.end()
-            said += " " + text[begin : braced(text, begin)]
-        name, is_public = function_at(text, it.start()) if it[1] else (it[2], True)
-        yield Clause(it[1] or "ghost", said, name, owner_at(text, it.start()), is_public)
-
-
-def function_at(text, at):
-    """The function whose contract has a clause there, and whether it is public; none where the clause is one of a body."""
-    heads = [*FUNCTION.finditer(text, 0, at)]
-    if not heads:
-        return "", False
-    head, blocks = heads[-1], [*BLOCK.finditer(text, 0, at)]
-    is_traits = bool(blocks) and "\n}\n" not in text[blocks[-1].end() : at]
-    is_in_body = re.search(r"^ *\{$", text[head.end() : at], re.M)
-    return head[2], not is_in_body and (is_traits or head[1] == "pub ")
-
-
-def owner_at(text, at):
-    """The type or trait in whose block a place is, or none."""
-    blocks = [*OWNER.finditer(text, 0, at)]
-    return blocks[-1][1] if blocks and "\n}\n" not in text[blocks[-1].end() : at] else ""

@@ -4,6 +4,9 @@ while this file is the same."""
 import os
 import re
 
+import rattle
+from rattle import module_of, path_of
+
 # what the prover says where a proof names a step that the edit took away, which tells nothing of the contract
 GONE = re.compile(r"has no field|is not in scope|has no `|was not admitted")
 # an open goal, and whether the prover knows values at which it is false; a function, and what comes of it; an error in a written proof
@@ -13,10 +16,6 @@ ERROR = re.compile(r"(?:\./)?proofs/(\S+)/\w+\.antt:\d+:\d+: error: (?:`([^`]+)`
 UNPROVED = re.compile(r"did not prove (.*)")
 # goals that any body owes, whatever its contract: that sums fit, divisors are not 0, indices are within, loops and recursion end
 SAFETY = re.compile(r"overflow_|nonzero_|(?:offset_|slice_)?bounds\b|index\b|decreases")
-
-FUNCTION = re.compile(r"^(?:    )?(pub(?:\([^)]*\))? )?(?:const |unsafe )*fn (\w+)", re.MULTILINE)
-BLOCK = re.compile(r"^impl(?:<(?P<own>.*?)>)? (?:(?P<trait>[^{]+?) for )?(?P<type>[^{]+?) \{$", re.MULTILINE)
-
 
 def text_of(path):
     with open(path, encoding="utf-8") as it:
@@ -74,70 +73,30 @@ class Said:
         return any(came == "proved" for it, came in self.came.items() if it not in functions)
 
 
-def holder_of(block):
-    """Returns what the prover calls an impl block: the words of its type, of its trait and of that one's arguments, without its own parameters."""
-    own = [re.sub(r"^const ", "", it.strip()).partition(":")[0] for it in (block["own"] or "").split(",")]
-    words = re.findall(r"[\w:]+", re.sub(r"'\w+", "", f"{block['type']} {block['trait'] or ''}"))
-    return "".join(it.rpartition("::")[2] for it in words if it not in own)
-
-
-def module_of(file):
-    """Returns the words of the path of a file's module."""
-    return [it for it in file.removeprefix("src/").removesuffix(".rt").split("/") if it not in ("lib", "main")]
-
-
-def home_of(name, file, folder):
-    """Returns the file of the crate that declares the type: this one or, if it does not, the only one that does; or None."""
-    said = re.compile(rf"^(?:pub(?:\([^)]*\))? )?(?:struct|enum|union) {re.escape(name)}\b", re.MULTILINE)
-    files = [f"{above}/{it}" for above, _, names in os.walk(f"{folder}/src") for it in names if it.endswith(".rt")]
-    homes = [os.path.relpath(it, folder) for it in files if said.search(text_of(it))]
-    return file if file in homes else homes[0] if len(homes) == 1 else None
-
-
-def bodies(text):
-    """Yields the head of each function with a body, and where that begins and ends."""
-    heads = [*FUNCTION.finditer(text)]
-    for head, behind in zip(heads, [*(it.start() for it in heads[1:]), len(text)]):
-        indent = "    " if head[0].startswith(" ") else ""
-        # (a signature of several lines ends where the line of its closing bracket does)
-        same_line = re.compile(rf"(?:[^\n;]*\(\n(?:{indent}    [^\n]*\n)+{indent}\))?[^\n;]*\{{\n").match(text, head.end())
-        opens = text.find(f"\n{indent}{{\n", head.end(), behind)
-        opens = same_line.end() if same_line else opens + len(indent) + 3 if opens >= 0 else -1
-        closes = text.find(f"\n{indent}}}\n", opens - 1)
-        if 0 <= opens <= closes:
-            yield head, opens, closes
-
-
-def path_of(head, text, file, folder):
-    """Returns the path of a function as the prover prints it below the crate, or None."""
-    if not head[0].startswith(" "):
-        return "::".join([*module_of(file), head[2]])
-    blocks = [it for it in BLOCK.finditer(text) if it.start() <= head.start()]
-    if not blocks:
-        return None
-    # a method has its type's module before it, wherever its block stands; one of a trait has the block's
-    block = blocks[-1]
-    home = file if block["trait"] else home_of(re.match(r"\w+", block["type"])[0], file, folder)
-    return "::".join([*module_of(home), holder_of(block), head[2]]) if home else None
+def bodies(file, folder):
+    """The functions of a source of a crate that have a body and are none of tests."""
+    source, is_test = rattle.tree(folder).get(file, (None, True))
+    return [] if is_test else [it for it in source.functions if it.opens >= 0 and not it.is_test]
 
 
 def body_at(file, folder, old):
     """Returns the path of the function whose body holds the old text, or None."""
     text = text_of(f"{folder}/{file}") if os.path.isfile(f"{folder}/{file}") else ""
     place = text.find(old)
-    for head, opens, closes in bodies(text):
-        if place >= 0 and opens <= place + len(old) - len(old.lstrip()) and place + len(old) <= closes:
-            return path_of(head, text, file, folder)
-    return None
+    begins, ends = place + len(old) - len(old.lstrip()), place + len(old.rstrip())
+    some = [it for it in bodies(file, folder) if place >= 0 and it.opens <= begins and ends <= it.closes]
+    return path_of(some[0], file, folder) if some else None
 
 
-def stated(rt, text):
+def stated(text):
     """Returns what a source says beside the code of its bodies: its text without them, and the clauses, functions and proofs in them."""
-    rest, at = [], 0
-    for _, opens, closes in bodies(text):
-        inside = text[opens:closes]
-        rest += [text[at:opens], *rt.rtlib.ghost_texts(inside), *re.findall(r".*(?:\bfn \w|#\[|prove!).*", inside)]
-        at = closes
+    source, rest, at = rattle.source_of(text), [], 0
+    for it in source.functions:
+        if it.opens >= 0:
+            inside = source.plain[it.opens : it.closes]
+            clauses = [source.plain[one.start() : source.end_of(one.end())] for one in rattle.CLAUSE.finditer(source.plain, it.opens, it.closes)]
+            rest += [text[at : it.opens], *clauses, *re.findall(r".*(?:\bfn \w|#\[|prove!).*", inside)]
+            at = it.closes
     return [*rest, text[at:]]
 
 
@@ -149,7 +108,7 @@ def changed(rt, edit, folder):
         if line.startswith("file: "):
             file = line.removeprefix("file: ").strip()
         elif line.startswith("old: "):
-            path = None if file.startswith("src/tests") else body_at(file, folder, line.removeprefix("old: "))
+            path = body_at(file, folder, line.removeprefix("old: "))
             if not path:
                 return [], f"this stands in no body of {file}: {line.removeprefix('old: ').strip()[:80]}"
             paths.add(path)
@@ -157,7 +116,7 @@ def changed(rt, edit, folder):
     if why:
         return [], why
     for file, text in texts.items():
-        if stated(rt, text) != stated(rt, text_of(f"{folder}/{file}")):
+        if stated(text) != stated(text_of(f"{folder}/{file}")):
             return [], f"it changes more of {file} than what bodies do"
     wanted = listed(edit)
     found = [[path for path in paths if f"::{path}".endswith(f"::{it}")] for it in wanted]
@@ -167,92 +126,68 @@ def changed(rt, edit, folder):
 
 
 def heads(folder):
-    """Yields each function with a body of a library, but those of its tests: its file's text, its path, its head's match and its signature with
-    its clauses."""
-    for above, _, names in os.walk(f"{folder}/src"):
-        for name in sorted(it for it in names if it.endswith(".rt")):
-            file = os.path.relpath(f"{above}/{name}", folder)
-            if module_of(file)[:1] == ["tests"]:
-                continue
-            text = text_of(f"{folder}/{file}")
-            for head, opens, _ in bodies(text):
-                if path := path_of(head, text, file, folder):
-                    yield file, path, head, text[head.end() : opens]
+    """Yields each function with a body of a crate, but those of its tests, with its file and its path."""
+    for file in rattle.tree(folder):
+        for it in bodies(file, folder):
+            if path := path_of(it, file, folder):
+                yield file, path, it
 
 
 def public(folder):
-    """Returns the public functions of a crate that have something to turn, each path with its signature and clauses: those that give something
-    back or change something. A program shows its modules to itself."""
-    is_program = not os.path.isfile(f"{folder}/src/lib.rt")
-    lib, found, shown = "" if is_program else text_of(f"{folder}/src/lib.rt"), {}, {}
-    for home, names in re.findall(r"^pub use (?:crate::)?(\w+)::\{?([^;}]*)\}?;", lib, re.MULTILINE):
-        shown[home] = f"{shown.get(home, '')} {names}"
-    for file, path, head, signature in heads(folder):
-        module, words = module_of(file), path.split("::")
-        told = re.split(r"\n *(?:requires|ensures|\{)", signature)[0]
-        if head[1] != "pub " or not re.search(r"->|&mut|Cell<", told):
-            continue
-        is_whole = is_program or not module or re.search(rf"^pub mod {module[0]};", lib, re.MULTILINE)
-        name = words[-2] if head[0].startswith(" ") else words[-1]
-        if is_whole or re.search(rf"\b{re.escape(name)}\b", shown.get(words[0], "")):
-            found[path] = signature
+    """Returns the public functions of a crate by their paths: those that it shows. A program shows its modules to itself."""
+    tree, found, shown = rattle.tree(folder), {}, {}
+    lib = tree["src/lib.rt"][0] if "src/lib.rt" in tree else None
+    for sees, use, _ in lib.uses if lib else ():
+        home, _, names = use.removeprefix("crate::").partition("::")
+        shown.setdefault(home if sees == "pub" else "", set()).update(re.findall(r"\w+", names))
+    whole = {name for sees, name, *_ in lib.modules if sees == "pub"} if lib else set()
+    for file, path, it in heads(folder):
+        module = module_of(file)
+        is_whole = not lib or not module or module[0] in whole
+        name = it.owner.name if it.owner else it.name
+        if it.sees == "pub" and (is_whole or name in shown.get(path.split("::")[0], ())):
+            found[path] = it
     return found
 
 
-# forms by which a public function could be overlooked
-HIDDEN = {
-    r"^pub use [^;]*\*": "a glob shows what no list names",
-    r"^ *(?:pub(?:\([^)]*\))? )?mod \w+ \{": "a module within a file has functions whose paths are not read",
-}
-
-
-def unread(folder):
-    """Returns what the sources of a crate have that these readings could overlook."""
-    faults = []
-    for above, _, names in os.walk(f"{folder}/src"):
-        for name in sorted(it for it in names if it.endswith(".rt")):
-            file = os.path.relpath(f"{above}/{name}", folder)
-            text = text_of(f"{folder}/{file}")
-            faults += [f"{file}: {why}" for form, why in HIDDEN.items() if re.search(form, text, re.MULTILINE)]
-            read = {head.start() for head, _, _ in bodies(text)}
-            traits = [(it.start(), text.find("\n}\n", it.start())) for it in re.finditer(r"^(?:pub(?:\([^)]*\))? )?trait ", text, re.MULTILINE)]
-            for head in FUNCTION.finditer(text):
-                in_trait = any(begins < head.start() < ends for begins, ends in traits)
-                is_empty = re.compile(r"[^{]*(?:\{[^\n]*\}[^{]*)*\n? *\{\}$", re.MULTILINE).match(text, head.end())
-                if in_trait and head.start() in read:
-                    faults.append(f"{file}: the trait's default {head[2]} is no function of a type")
-                elif head[1] == "pub " and not in_trait and head.start() not in read and not is_empty:
-                    faults.append(f"{file}: where the body of {head[2]} begins and ends is not read")
-    return faults
+def has_effect(function):
+    """Returns whether a function gives something back or changes something, so that there is something to turn."""
+    return bool(re.search(r"->|&\s*(?:'\w+ )?mut|Cell<", function.takes))
 
 
 # relations that leave one result and one new state for each argument; functions under one of them are of one kind
 RELATIONS = {"ReadsPartBy"}
-CLAUSE = re.compile(r"^ *ensures\*?(?: \w+)? \{(.*)\}$", re.MULTILINE)
 EQUATION = re.compile(r"(result(?:\.now)?|(\w+)\.new) ≡ (.*)")
 
 
-def kind_of(signature):
+def ensured(function):
+    return [" ".join(it.text.split()) for it in function.clauses if it.kind == "ensures"]
+
+
+def kind_of(function):
     """Returns what kind of contract a function has where that leaves one value for whatever it gives and changes: "equations", if each is equal to
     what its arguments determine, or the relation that says so; else None. Any body that gives another value is refused at such a clause by logic
     alone, so that one edit of a kind shows what there is to show."""
-    told = re.split(r"\n *(?:requires|ensures|\{)", signature)[0]
-    clauses = [it.strip() for it in CLAUSE.findall(signature)]
+    clauses = ensured(function)
     relations = {it.split(" ")[0] for it in clauses} & RELATIONS
     if relations and len(clauses) == 1:
         return relations.pop()
     pinned = {it[1] for it in map(EQUATION.fullmatch, clauses) if it and not re.search(r"\bresult\b|\.new\b|[→⊎⊥]", it[3])}
-    due = {f"{name}.new" for name in re.findall(r"(\w+): &(?:'\w+ )?mut ", told)} | ({"self.new"} if "&mut self" in told else set())
+    due = {f"{name}.new" for name in re.findall(r"(\w+): &(?:'\w+ )?mut ", function.takes)} | ({"self.new"} if "&mut self" in function.takes else set())
     is_given = "result" in pinned or "result.now" in pinned
-    return "equations" if clauses and (is_given or "->" not in told) and due <= pinned else None
+    return "equations" if clauses and (is_given or "->" not in function.takes) and due <= pinned else None
 
 
-def says(signature):
+def says(function):
     """Returns whether a clause of the contract speaks of what the function gives or leaves, other than that it is equal to itself."""
-    signature = re.sub(r"\s*\{\s*\Z", "\n", signature)
-    ensured = re.findall(r"^ *ensures\*?(?: \w+)? (\{.*?)(?=^ *(?:ensures|requires|ghost)|\Z)", signature, re.MULTILINE | re.DOTALL)
-    for clause in ensured:
-        one, is_equation, other = clause.strip().strip("{}").partition(" ≡ ")
+    for clause in ensured(function):
+        one, is_equation, other = clause.partition(" ≡ ")
         if re.search(r"\bresult\b|\.new\b", clause) and not (is_equation and one.strip() == other.strip()):
             return True
     return False
+
+
+def alike(edits):
+    """Returns the edits that say the same as another one."""
+    first = {}
+    return [it for it in edits if first.setdefault("\n".join(sorted(text_of(it).splitlines())), it) != it]

@@ -8,7 +8,8 @@ has to be one crate that has it. Laws that no section names come last."""
 import hashlib
 import re
 
-from definitions import FUNCTION, RUST_IMPORT, Definitions, declaration
+import rattle
+from definitions import Definitions
 from statements import Statements, parts_of_record
 
 CALLS = "The calls that the program makes"
@@ -18,7 +19,6 @@ ALL = "All of these"
 HEADING = re.compile(r"^#{2,4} +(.*?)\s*$", re.M)
 CODE = re.compile(r"`([^`\n]+)`")
 LAW = re.compile(r"(?:(\w+)::)?laws::(\w+|\{[\w, ]+\})$")
-SHOWN = re.compile(r"^pub use ([^;]*);|^pub mod (\w+);", re.M)
 
 
 class Promise:
@@ -87,7 +87,7 @@ class Promises:
 
     def __init__(self, definitions, text, pins):
         self.all, self.statements, self.faults, self.top = definitions, Statements(definitions), [], definitions.top
-        self.laws, self.sources, self.pinned = {}, {}, {}  # (sources of each crate's laws by their names; pins by their definitions)
+        self.laws, self.pinned = {}, {}  # (sources of each crate's laws by their names; pins by their definitions)
         self.order, self.judged = listed(self.top), 0  # (how many clauses were judged)
         for crate in sorted({it.parent.name for it in self.top.glob("crates/*/src")}):
             self.find_laws(crate)
@@ -103,26 +103,22 @@ class Promises:
     # Laws, and whether they state anything.
 
     def find_laws(self, crate):
-        src = self.top / "crates" / crate / "src"
-        for path in [src / "laws.rt", *sorted((src / "laws").glob("**/*.rt"))]:
-            if not path.is_file():
-                continue
-            text = path.read_text(encoding="utf-8")
-            for head in FUNCTION.finditer(text):
-                if head[1] == "pub ":
-                    self.laws[crate, head[2]] = path
-                    self.judge_law(path, head[2], text[head.end() :].partition("\n")[0], f"{crate} laws::{head[2]}")
+        for path in self.all.sources(crate):
+            if rattle.module_of(str(path.relative_to(self.top / "crates" / crate)))[:1] == ["laws"]:
+                for it in rattle.read(path).functions:
+                    if it.sees == "pub" and not it.is_test:
+                        self.laws[crate, it.name] = path
+                        self.judge_law(path, it, f"{crate} laws::{it.name}")
 
-    def judge_law(self, path, name, takes, what):
+    def judge_law(self, path, law, what):
         """A law takes nothing, asks for nothing and answers nothing, and each of its clauses states something."""
-        clauses = [it for it in self.all.read_source(path)[0] if it.name == name and it.is_public]
-        some = [it for it in clauses if it.kind == "ensures"]
+        some = [it for it in law.clauses if it.kind == "ensures"]
         self.faults += [f"{what}: it ensures nothing"] * (not some)
-        self.faults += [f"{what}: a law takes and answers nothing, and asks for nothing"] * (takes.strip() != "()" or len(some) < len(clauses))
+        self.faults += [f"{what}: a law takes and answers nothing, and asks for nothing"] * ("".join(law.takes.split()) != "()" or some != law.clauses)
         self.must_state(path, some, what)
 
     def must_state(self, path, clauses, what):
-        imports, std = self.all.imports_of(path, RUST_IMPORT)
+        _, imports, std = self.all.read_source(path)
         self.judged += len(clauses)
         for it in clauses:
             if not self.statements.states(it.text, imports, std):
@@ -138,7 +134,7 @@ class Promises:
         for crate in [it for it in self.order if it in crates]:
             shown = self.shown(crate)
             types = set().union(*shown.values())
-            for path in sorted((self.top / "crates" / crate / "src").glob("**/*.rt")):
+            for path in self.all.sources(crate):
                 names = shown.get(path)
                 # (a type's block may stand in any source)
                 is_shown = lambda it: it.owner in types or names is not None and (not names or (it.owner or it.name) in names)
@@ -167,16 +163,17 @@ class Promises:
     def held(self):
         """The names in the declarations of the types that the crates' sources declare, by the types' names; of all types of one name."""
         found = {}
-        for path in sorted(self.top.glob("crates/*/src/**/*.rt")):
-            text = path.read_text(encoding="utf-8")
-            for head in re.finditer(r"^(?:pub(?:\([^)]*\))? )?(?:struct|enum) (\w+)", text, re.M):
-                found.setdefault(head[1], set()).update(re.findall(r"\w+", declaration(text, head)))
+        for source in map(rattle.read, self.all_sources()):
+            for it in source.types:
+                found.setdefault(it.name, set()).update(re.findall(r"\w+", source.declaration(it)))
         return found
+
+    def all_sources(self):
+        return [it for path in sorted(self.top.glob("crates/*/src")) for it in self.all.sources(path.parent.name)]
 
     def ghosts(self):
         """The ghosts of all sources, each with its crate and its source."""
-        paths = sorted(self.top.glob("crates/*/src/**/*.rt"))
-        return [(self.all.place(path).parts[0], path, it) for path in paths for it in self.all.read_source(path)[0] if it.kind == "ghost"]
+        return [(self.all.place(path).parts[0], path, it) for path in self.all_sources() for it in self.all.read_source(path)[0] if it.kind == "ghost"]
 
     def is_program(self, crate):
         return (self.top / "crates" / crate / "src/main.rt").is_file()
@@ -187,20 +184,19 @@ class Promises:
         src, found = self.top / "crates" / crate / "src", {}
         lib = src / "lib.rt"
         if self.is_program(crate):
-            return {it: set() for it in sorted(src.glob("**/*.rt")) if it.stem not in ("main", "tests")}
-        for use, module in SHOWN.findall(lib.read_text(encoding="utf-8")) if lib.is_file() else ():
-            path = re.sub(r"^(?:crate|self)::", "", use)
-            name, _, rest = path.partition("::")
-            is_seen = (src / f"{name}.rt").is_file() and re.fullmatch(r"[\w ]+|\{[\w ,\s]*\}", rest)
-            if use and not is_seen:
+            return {it: set() for it in self.all.sources(crate) if it.stem != "main"}
+        read = rattle.read(lib) if lib.is_file() else None
+        for use in [use for sees, use, _ in read.uses if sees == "pub"] if read else ():
+            name, _, rest = re.sub(r"^(?:crate|self)::", "", use).partition("::")
+            if not (src / f"{name}.rt").is_file() or not re.fullmatch(r"[\w ]+|\{[\w ,\s]*\}", rest):
                 self.faults.append(f"{crate}: it cannot be seen what this shows: pub use {use}")
-            elif use:
-                names = [it.partition(" as ")[0].strip() for it in rest.strip("{}").split(",")]
-                found.setdefault(src / f"{name}.rt", set()).update(filter(None, names))
-            elif module != "laws":
-                found.update({it: set() for it in [src / f"{module}.rt", *sorted((src / module).glob("**/*.rt"))]})
+                continue
+            names = [it.partition(" as ")[0].strip() for it in rest.strip("{}").split(",")]
+            found.setdefault(src / f"{name}.rt", set()).update(filter(None, names))
+        for name in [name for sees, name, *_ in read.modules if sees == "pub" and name != "laws"] if read else ():
+            found.update({it: set() for it in [src / f"{name}.rt", *sorted((src / name).glob("**/*.rt"))]})
         for path in found:
-            said = re.findall(r"^pub type .*", path.read_text(encoding="utf-8"), re.M)
+            said = [whole for sees, word, _, whole, owner, _ in rattle.read(path).others if (sees, word, owner) == ("pub", "type", None)]
             self.faults += [f"{crate}: it cannot be seen what this shows: {it}" for it in said]
         return {**found, lib: set()}
 
@@ -282,7 +278,7 @@ class Promises:
         if not one or not path:
             self.faults.append(f"{pin}: there is no such definition, or no public laws::{pin.law}")
             return
-        imports, _ = self.all.imports_of(path, RUST_IMPORT)
+        imports = self.all.read_source(path)[1]
         fields, beside, leant = set(), set(), set()
         for clause in self.all.read_source(path)[0]:
             if clause.name != pin.law or not clause.is_public or clause.kind != "ensures":

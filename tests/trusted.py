@@ -3,9 +3,8 @@ it."""
 
 import re
 
-USE = re.compile(r"^ *(?:pub )?use ([a-z_]\w*)(?:::|;)", re.M)
-GHOST_USE = re.compile(r"^ *(?:pub )?ghost use Rattle\.(\w+)\.", re.M)
-DERIVE = re.compile(r"#\[derive\([^\]]*?\b(\w+)::")
+import rattle
+
 CODE = re.compile(r"`([^`\n]+)`")
 # what every source may name without a line of crates.txt
 OWN = {"std", "core", "alloc", "crate", "self", "super", "Self", "rt"}
@@ -15,9 +14,12 @@ def named(top, crate):
     """The libraries that the sources of a crate bring names from."""
     found = set()
     for path in sorted((top / "crates" / crate / "src").glob("**/*.rt")):
-        text = re.sub(r"//.*$", "", path.read_text(encoding="utf-8"), flags=re.M)
+        source = rattle.read(path)
         modules = {it.stem for it in path.parent.glob("*.rt")} | {it.name for it in path.parent.iterdir() if it.is_dir()}
-        found |= {it for it in (*USE.findall(text), *DERIVE.findall(text)) if it not in modules} | set(GHOST_USE.findall(text))
+        derived = [it for said in source.attributes if said.startswith("derive") for it in re.findall(r"(\w+)::", said)]
+        used = [it[1] for _, use, _ in source.uses if (it := re.match(r"([a-z_]\w*)(?:::|$)", use))]
+        ghosts = [it[1] for use in source.ghost_uses if (it := re.match(r"Rattle\.(\w+)\.", use))]
+        found |= {it for it in (*used, *derived) if it not in modules} | set(ghosts)
     return found - OWN - {crate}
 
 
