@@ -44,7 +44,7 @@ class Definitions:
     def __init__(self, top):
         self.top, self.faults = top, []
         self.files, self.names, self.imports, self.std = {}, {}, {}, {}
-        self.clauses, self.declared = {}, {}  # (of each source that was read; the text of each Rust type that is named)
+        self.clauses, self.declared, self.known_by = {}, {}, {}  # (of each source that was read; the text of each Rust type that is named; what each definition names)
         for path in sorted(top.glob("crates/*/specs/**/*.antt")):
             crate, _, *inside = path.relative_to(top / "crates").with_suffix("").parts
             if path.name == "Lib.antt" or path.with_suffix("").is_dir():
@@ -189,7 +189,9 @@ class Definitions:
     def cited_by(self, cited):
         """What the text of a definition names."""
         one = self.at(cited)
-        return self.named_in(one, FIELD.sub("", "\n".join(one.lines))) if one else set()
+        if one and one not in self.known_by:
+            self.known_by[one] = self.named_in(one, FIELD.sub("", "\n".join(one.lines)))
+        return self.known_by[one] if one else set()
 
     def named_in(self, one, text):
         """What a text names that stands in the file of a definition."""

@@ -134,25 +134,25 @@ def heads(folder):
 
 
 def public(folder):
-    """Returns the public functions of a crate by their paths: those that it shows. A program shows its modules to itself."""
+    """Returns the functions that a crate shows by their paths, those of traits and of their impls too. A program shows its modules to itself."""
     tree, found, shown = rattle.tree(folder), {}, {}
     lib = tree["src/lib.rt"][0] if "src/lib.rt" in tree else None
     for sees, use, _ in lib.uses if lib else ():
         home, _, names = use.removeprefix("crate::").partition("::")
         shown.setdefault(home if sees == "pub" else "", set()).update(re.findall(r"\w+", names))
     whole = {name for sees, name, *_ in lib.modules if sees == "pub"} if lib else set()
-    for file, path, it in heads(folder):
-        module = module_of(file)
-        is_whole = not lib or not module or module[0] in whole
-        name = it.owner.name if it.owner else it.name
-        if it.sees == "pub" and (is_whole or name in shown.get(path.split("::")[0], ())):
-            found[path] = it
+    for file, (source, is_test) in tree.items():
+        for it in source.functions:
+            path = None if is_test or it.is_test or not it.is_public else path_of(it, file, folder)
+            is_whole = not lib or not module_of(file) or module_of(file)[0] in whole
+            if path and (is_whole or (it.owner.name if it.owner else it.name) in shown.get(path.split("::")[0], ())):
+                found[path] = it
     return found
 
 
-def has_effect(function):
-    """Returns whether a function gives something back or changes something, so that there is something to turn."""
-    return bool(re.search(r"->|&\s*(?:'\w+ )?mut|Cell<", function.takes))
+def wants_edit(function):
+    """Returns whether a function is one of a type or a module that gives something back or changes something, so that there is something to turn."""
+    return function.sees == "pub" and function.opens >= 0 and bool(re.search(r"->|&\s*(?:'\w+ )?mut|Cell<", function.takes))
 
 
 # relations that leave one result and one new state for each argument; functions under one of them are of one kind

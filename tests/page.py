@@ -3,7 +3,7 @@
 import re
 import textwrap
 
-from promises import CALLS
+from promises import CALLS, WORKED
 
 RFC = re.compile(r"RFC (\d+)(?: (?:sections?|appendix) [A-Z\d][\d.]*(?:(?:, (?:and )?| and | to )\d[\d.]*)*(?<![.,]))?")
 ROW = re.compile(r"^\| (.*?) \| ([\d,]+) \| ([\d,]+) \| ([\d,]+) \| ([\d,]+) \| `(\w+)` \|$", re.M)
@@ -27,6 +27,9 @@ lines are those that no promise above leans on. The files of a crate are in the
 order in which they use each other, and each has the RFC sections that its first
 lines name.
 
+A worked example computes a run, or a server that a law refuses. No promise
+rests on it, so it counts for none, and has a row of its own.
+
 The sum is of all that a promise says: of its contracts, of what they lean on,
 and of the Rust types. If it is the one of the day on which you read a promise,
 nothing of it has changed since.
@@ -36,6 +39,12 @@ PINS = """## Definitions that a law pins
 For each of these a law says, for every argument, which value it has, in other
 words. Those words are to be believed. The definition is not, so it is counted
 nowhere, and neither is what it alone leans on.
+"""
+UNMET = """## Premises that no worked example meets
+
+A law with one of these premises can be true because nothing meets the premise.
+No law that is worked out speaks of it. The premises of the other laws are met
+by the worked examples, which compute.
 """
 REST = """## Files that no promise leans on
 
@@ -74,7 +83,7 @@ class Page:
     def totals(self):
         """What the table at the top says of each promise: its title, lines, new lines, lines of its files, types, and sum."""
         whole = self.promises.whole()
-        return [self.told_of(it, new) for it, new in [*self.rows, (whole, whole.needed)]]
+        return [self.told_of(it, new) for it, new in [*self.rows[:-1], (whole, whole.needed), self.rows[-1]]]
 
     def told_of(self, it, new):
         files = sum(self.whole[file] for file in it.files)
@@ -86,7 +95,7 @@ class Page:
             parts.append(self.section(it, new))
         if self.promises.pinned:
             parts.append(PINS + "\n" + "".join(wrapped(self.told(one, pin), "  ") + "\n" for one, pin in self.promises.pinned.items()))
-        parts += [self.rest(), self.ghosts()]
+        parts += [self.unmet(), self.rest(), self.ghosts()]
         text = "\n".join(it for it in parts if it)
         return text + "".join(["\n", *(f"[{label}]: {to}\n" for label, to in sorted(self.links.items()))] if self.links else [])
 
@@ -120,9 +129,13 @@ class Page:
         """What each law of a promise says."""
         lines = ["Stated by" if promise.stated else "There are none."] + [""] * bool(promise.stated)
         for crate, name in promise.stated:
-            clauses = self.all.read_source(self.promises.laws[crate, name])[0]
-            said = [" ".join(it.text.split()) for it in clauses if it.name == name and it.kind == "ensures"]
-            lines.append(wrapped(f"- `{crate}`: `laws::{name}`: {', and '.join(f'`{it}`' for it in said)}", "  "))
+            if (crate, name) not in self.promises.laws:
+                lines.append(f"- `{crate}`: `{name}`, by its contract")
+                continue
+            said = [" ".join(it.text.split()) for it in self.promises.contract(crate, name)[0]]
+            is_told = promise.title != WORKED and (crate, name) in self.promises.worked
+            of_it = "a worked example, which counts nowhere" if is_told else ", and ".join(f"`{it}`" for it in said)
+            lines.append(wrapped(f"- `{crate}`: `laws::{name}`: {of_it}", "  "))
         return lines
 
     def definitions_of(self, file):
@@ -168,6 +181,11 @@ class Page:
             for file in sorted(it for it in self.all.files if it[0] == crate):
                 visit(file, frozenset())
         return [it for it in found if it in files]
+
+    def unmet(self):
+        found = self.promises.unmet()
+        lines = [wrapped(f"- `{it}`: {', '.join(f'`{law}`' for law in laws)}", "  ") for it, laws in found.items()]
+        return UNMET + "\n" + "\n".join(lines) + "\n" if found else ""
 
     def rest(self):
         files = self.in_order(set(self.all.files) - self.believed)

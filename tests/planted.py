@@ -41,6 +41,8 @@ Halves = (n : ℕ) → half (n + n) ≡ n
 HALVES, QUOTIENTS = "(n : ℕ) → half (n + n) ≡ n", "(n : ℕ) → half n ≡ quotient n 2"
 HEAD, SAID = "abbrev pub Halves : Type 0\n", f"Halves = {HALVES}"
 
+UNCALLED = "tried\thalved\tit is here to be proved\ntried\tsame\tit is here to be proved\n"
+UNMET = "- `tried Words.Met`: `tried laws::quotients`"
 STATED = "this states nothing"
 STALE = "BELIEVED.md is not what"
 UNSEEN = "it cannot be seen what this brings"
@@ -141,12 +143,14 @@ class Plants:
 
     def __init__(self, told, look, library, definition, page, edit):
         self.told, self.look, self.definition, self.page, self.edit = told, look, definition, page, edit
-        self.shows = library.replace("ghost use", "pub mod laws;\n\nghost use", 1)
+        self.shows = library.replace("ghost use", "pub mod laws;\nmod more;\nmod pair;\n#[cfg(test)]\nmod tests;\n\nghost use", 1)
         self.first = {LIB: self.shows, LAWS_AT: LAWS, WORDS_AT: WORDS}
 
     def all(self):
         self.statements()
         self.pages()
+        self.contracts()
+        self.examples()
         self.imports()
         self.hidden()
         self.ghosts()
@@ -193,12 +197,37 @@ class Plants:
                 **in_laws(HALVES, "(n : ℕ) → Halves n"),
                 **in_words(HEAD + SAID, "abbrev pub Halves : ℕ → Type 0\nHalves zero = Unit {0}\nHalves (suc n) = Halves n"),
             },
+            "a law whose words are a comment": in_laws(HALVES, f"{{- {HALVES} -}} Unit {{0}}"),
+            "a law whose words are behind a sign of comment": in_laws(HALVES, f"Unit {{0}} -- {HALVES}\n"),
+            "a law whose statement's words are a comment": named(f"Halves = {{- {HALVES} {{- -}} -}} Unit {{0}}"),
+            "a law that a sum is at least a part of it": in_laws(HALVES, "(n : ℕ) → n ≤ n + 0"),
+            "a law of a case that always holds": in_laws(HALVES, f"(n : ℕ) → (half n ≡ n) ⊎ (half n ≤ half n + 1)"),
+            "a law of what is in an empty list": in_laws(HALVES, "(n : ℕ) → In n [] → half n ≡ n"),
+            "a law of a length below 0": in_laws(HALVES, "(n : ℕ) → half n < 0 → half n ≡ n"),
+            "a law for whoever proves everything": in_laws(HALVES, "((A : Type 0) → A) → half 2 ≡ 1"),
+            "a law whose premise's name is never met": named("Halves = (n : ℕ) → Never n → half n ≡ n\n\nabbrev pub Never : ℕ → Type 0\nNever n = half n < 0"),
             "a public call of which nothing is said": self.in_lib("(result ≤ number) × (number ≤ result)", "result ≡ result"),
         }.items():
             self.is_red(what, changes, STATED)
         for what, new in (("asks", "quotients()\n    requires { half 1 ≡ 1 }"), ("takes", "quotients(never: Never)"), ("answers", "quotients() -> u32")):
             self.is_red(f"a law that {what}", in_laws("quotients()", new), "a law takes and answers nothing")
-        self.is_red("a law without a contract", in_laws(f"    ensures {{ {HALVES} }}\n", ""), "laws::halves: it ensures nothing")
+        clause = f"    ensures {{ {HALVES} }}\n"
+        for what, new in {
+            "a law without a contract": "",
+            "a law whose clause is a comment": f"    //{clause}",
+            "a law whose clause is a block of comment": f"    /* /* */ {clause} */\n",
+            "a law whose clause is behind another comment": f"    /// {clause}",
+            "a law whose clause is of a string": f"    ;\nconst TEXT: &str = \"{clause}\";\nfn other()\n",
+        }.items():
+            self.is_red(what, in_laws(clause, new), "laws::halves: it ensures nothing")
+        for what, old, new in (
+            ("a law of tests", "pub fn halves", "#[cfg(test)]\npub fn halves"),
+            ("a law that is a comment", "pub fn halves()", "fn other() {}\n// pub fn halves()"),
+            ("a law that the crate alone sees", "pub fn halves", "pub(crate) fn halves"),
+        ):
+            self.is_red(what, in_laws(old, new), "laws::halves: no crate has such a law")
+        self.is_red("laws of tests", self.in_lib("pub mod laws;", "#[cfg(test)]\npub mod laws;"), "laws::halves: no crate has such a law")
+        self.is_red("laws that say the same", in_laws(QUOTIENTS, HALVES), "laws::quotients: it states what laws::halves does")
 
     def pages(self):
         without = {BELIEVED: lambda page: "\n".join(line for line in page.splitlines() if "`half` 2" not in line)}
@@ -214,6 +243,32 @@ class Plants:
         self.is_right("a law that both name", {README: "It keeps `laws::halves`.\n"})
         self.is_right("a number of lines that the page has", {README: "Read 4 lines of meaning.\n"})
         self.is_red("a number of lines that it has not", {README: "Read 77 lines of meaning.\n"}, "README.md: 77 lines of meaning")
+
+    def contracts(self):
+        asks = self.in_lib("    ensures { result ≡ half", "    requires { number ≡ 1 }\n    ensures { result ≡ half")
+        for what, changes in (
+            ("a call that asks for more", asks),
+            ("a call whose clause is a comment", self.in_lib("    ensures { result ≡ half", "    // ensures { result ≡ half")),
+            ("a call that is no longer shown", self.in_lib("pub fn same", "fn same")),
+        ):
+            self.is_red(what, changes, "tests/contracts.tsv is not what", False)
+        self.is_red("a public call that only tests call", {"tests/uncalled.tsv": None}, "only tests call it")
+        self.is_red("a reason for a call that is called", self.in_lib("    number / two", "    same(number / two)"), "tests/uncalled.tsv: tried same: it is called")
+        self.is_red("a reason of one word", {"tests/uncalled.tsv": UNCALLED.replace("is here to be", "")}, "gives no reason for tried")
+        where = {PROMISES: f"{self.page}\n- **Where.** `tried::halved`.\n"}
+        self.is_stale("a call that a section names", where)
+        self.is_red("a call that is not there", {PROMISES: where[PROMISES].replace("halved", "thirds")}, "tried::thirds: 0 crates show")
+
+    def examples(self):
+        """Worked examples, and premises that none meets."""
+        worked = {"tests/worked.tsv": "tried\tlaws::halves\n"}
+        self.is_stale("a law that becomes a worked example", worked)
+        self.is_red("a worked example that is not there", {"tests/worked.tsv": "tried\tlaws::thirds\n"}, "tried has no laws::thirds")
+        meets = {**in_laws(QUOTIENTS, "(n : ℕ) → Met n → half n ≡ quotient n 2"), WORDS_AT: f"{WORDS}\nabbrev pub Met : ℕ → Type 0\nMet n = half n ≡ 1\n"}
+        meets[LAWS_AT] = meets[LAWS_AT].replace("{quotient,", "{Met, quotient,")
+        names_it = {**worked, **meets, LAWS_AT: meets[LAWS_AT].replace(HALVES, f"Met 2 × (half 1 ≡ 0)")}
+        told = [UNMET in self.look({**self.first, **changes}, {}, True)[2] for changes in (meets, names_it)]
+        self.told("a premise that no worked example meets", told == [True, False])
 
     def imports(self):
         deep = {LIB: self.shows, LAWS_AT: LAWS, WORDS_AT: WORDS}
@@ -249,6 +304,8 @@ class Plants:
             ("a module written into a source", {MORE: "pub mod inner {\n}\n"}, "a module written into a source"),
             ("text of another file", {MORE: "#[path = \"../hidden.rt\"]\nmod hidden;\n"}, "text that stands elsewhere"),
             ("a macro that writes contracts", {MORE: "macro_rules! law {\n}\n"}, "text that stands elsewhere"),
+            ("a body that a trait gives", {MORE: "pub trait Tells {\n    fn tell(&self) -> u32 {\n        1\n    }\n}\n"}, "the trait's default tell"),
+            ("a source that no module names", {"crates/tried/src/other.rt": ""}, "other.rt: no module names it"),
             ("another name for Unit", in_words("{◌≡◌,", "{Unit as Whole, ◌≡◌,"), "another name for a type that everything has"),
             ("another name of a type shown", {MORE: "pub type Pair = Inner;\n", **self.in_lib(shown, f"{shown}pub use more::Pair;\n")}, "pub type"),
         ):

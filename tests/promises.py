@@ -1,24 +1,29 @@
 """What each promise of docs/PROMISES.md leans on. `tests/believed` stands on it.
 
 The first promise is of the calls that the program makes: the contracts of all that the crates which it stands on show. Each further one is of
-the laws that a section of docs/PROMISES.md names in code, as `laws::exactly_once`. A law is that of the crate that is named with it, as
-`nfs_serve::laws::exactly_once`, or in code last before it in its section, as "`nfs_serve`: `laws::exactly_once`", if that has it; else there
-has to be one crate that has it. Laws that no section names come last."""
+the laws that a section of docs/PROMISES.md names in code, as `laws::exactly_once`, and of the calls that its paragraph "Where" names, as
+`Server::replay` or `nfs_names::name_op`. A law is that of the crate that is named with it, as `nfs_serve::laws::exactly_once`, or in code last
+before it in its section, as "`nfs_serve`: `laws::exactly_once`", if that has it; else there has to be one crate that has it. Laws that no section
+names come last, and then the worked examples of tests/worked.tsv: they are told with the section that names them and count for none."""
 
 import hashlib
 import re
 
 import rattle
 from definitions import Definitions
-from statements import Statements, parts_of_record
+from edits import public
+from statements import Statements, bare, equations, groups, is_binder, parts_of_record, split, tokens_of
 
 CALLS = "The calls that the program makes"
 OTHERS = "Laws that no promise names"
+WORKED = "Worked examples"
 ALL = "All of these"
 
 HEADING = re.compile(r"^#{2,4} +(.*?)\s*$", re.M)
 CODE = re.compile(r"`([^`\n]+)`")
 LAW = re.compile(r"(?:(\w+)::)?laws::(\w+|\{[\w, ]+\})$")
+CALL = re.compile(r"(\w+)::(\w+)(?:\(\))?$")
+WHERE = re.compile(r"^- \*\*Where\.\*\*.*?(?=^- \*\*|\Z)", re.M | re.S)
 
 
 class Promise:
@@ -71,13 +76,13 @@ def rows_of(path):
 def read(top):
     """The promises of a repository."""
     text = (top / "docs/PROMISES.md").read_text(encoding="utf-8")
-    return Promises(Definitions(top), text, [it for it in rows_of(top / "tests/pins.tsv") if len(it) == 3])
+    return Promises(Definitions(top), text, [it for it in rows_of(top / "tests/pins.tsv") if len(it) == 3], rows_of(top / "tests/worked.tsv"))
 
 
 def lines_by_crate(top):
     """How many lines of meaning of each crate a repository's promises lean on."""
     found = {}
-    for one in set().union(*(it.needed for it in read(top).promises)):
+    for one in read(top).whole().needed:
         found[one.file[0]] = found.get(one.file[0], 0) + len(one.lines)
     return found
 
@@ -85,20 +90,22 @@ def lines_by_crate(top):
 class Promises:
     """The promises of a repository, in the order of docs/PROMISES.md, and what each leans on."""
 
-    def __init__(self, definitions, text, pins):
+    def __init__(self, definitions, text, pins, worked):
         self.all, self.statements, self.faults, self.top = definitions, Statements(definitions), [], definitions.top
         self.laws, self.pinned = {}, {}  # (sources of each crate's laws by their names; pins by their definitions)
         self.order, self.judged = listed(self.top), 0  # (how many clauses were judged)
         for crate in sorted({it.parent.name for it in self.top.glob("crates/*/src")}):
             self.find_laws(crate)
+        self.faults += [f"{crate} laws::{name}: it states what laws::{other} does" for crate, name, other in self.copies()]
+        self.worked = [(crate, law.removeprefix("laws::")) for crate, law in worked]
+        self.faults += [f"tests/worked.tsv: {crate} has no laws::{name}" for crate, name in self.worked if (crate, name) not in self.laws]
         pins = [Pin(it) for it in pins]
         for it in pins:
             self.pin(it)
         self.promises = [self.of_calls(), *self.of_sections(text)]
-        self.promises.append(self.of_others())
-        for it in self.promises:
-            it.needed, _, it.types = self.behind(it.cited)
-        self.judge_pins(pins)
+        self.promises += [self.of_others(), self.of_worked()]
+        asked = [self.lean(it) for it in self.promises]
+        self.judge_pins(asked)
 
     # Laws, and whether they state anything.
 
@@ -116,6 +123,19 @@ class Promises:
         self.faults += [f"{what}: it ensures nothing"] * (not some)
         self.faults += [f"{what}: a law takes and answers nothing, and asks for nothing"] * ("".join(law.takes.split()) != "()" or some != law.clauses)
         self.must_state(path, some, what)
+
+    def contract(self, crate, name):
+        """The clauses of a law, and its source."""
+        path = self.laws[crate, name]
+        return [it for it in self.all.read_source(path)[0] if it.name == name and not it.owner and it.kind == "ensures"], path
+
+    def copies(self):
+        """The laws that have the words of another one of their crate, with that."""
+        first = {}
+        for crate, name in self.laws:
+            said = crate, *sorted(" ".join(it.text.split()) for it in self.contract(crate, name)[0])
+            if first.setdefault(said, name) != name:
+                yield crate, name, first[said]
 
     def must_state(self, path, clauses, what):
         _, imports, std = self.all.read_source(path)
@@ -211,7 +231,23 @@ class Promises:
                 elif law := LAW.match(word):
                     for name in re.findall(r"\w+", law[2]):
                         self.state_by(made, law[1], crate, name)
+            for word in (word for where in WHERE.findall(body) for word in CODE.findall(where)):
+                if (call := CALL.match(word)) and call[1] != "laws":
+                    self.take_call(made, *call.groups())
         return [it for it in seen.values() if it.stated]
+
+    def take_call(self, made, owner, name):
+        """Has the contract of a call state the promise: of a type's, or of a crate's own."""
+        some = [(crate, path, it) for crate in self.order for path, it in public(self.top / "crates" / crate).items()
+                if it.name == name and it.sees == "pub" and owner == (it.owner.name if it.owner else crate)]
+        if len(some) != 1:
+            self.faults.append(f"docs/PROMISES.md: {owner}::{name}: {len(some)} crates show such a call")
+            return
+        crate, _, it = some[0]
+        if (crate, f"{owner}::{name}") not in made.stated:
+            place = next(path for path in self.all.sources(crate) if it in rattle.read(path).functions)
+            made.stated.append((crate, f"{owner}::{name}"))
+            self.take(made, crate, place, it.clauses)
 
     def state_by(self, made, own, last, name):
         """Has the law of this name state the promise: that of its own crate, where one is named with it, or of the one named last."""
@@ -224,9 +260,10 @@ class Promises:
             self.take_law(made, some[0], name)
 
     def take_law(self, made, crate, name):
-        path = self.laws[crate, name]
         made.stated.append((crate, name))
-        self.take(made, crate, path, [it for it in self.all.read_source(path)[0] if it.name == name and it.is_public])
+        if made.title == WORKED or (crate, name) not in self.worked:
+            clauses, path = self.contract(crate, name)
+            self.take(made, crate, path, clauses)
 
     def take(self, made, crate, path, clauses):
         """Has these clauses state the promise."""
@@ -236,7 +273,7 @@ class Promises:
     def whole(self):
         """All that the promises say, as one."""
         made = Promise(ALL)
-        for it in self.promises:
+        for it in self.promises[:-1]:
             made.texts += it.texts
             made.needed |= it.needed
             made.types |= it.types
@@ -244,7 +281,7 @@ class Promises:
 
     def unnamed(self, text):
         """The laws that a text names and no promise does."""
-        told = {name for it in self.promises if it.title != OTHERS for _, name in it.stated}
+        told = {name for it in self.promises if it.title not in (OTHERS, WORKED) for _, name in it.stated}
         found = [name for word in CODE.findall(text) if (law := LAW.match(word)) for name in re.findall(r"\w+", law[2])]
         return [it for it in dict.fromkeys(found) if it not in told]
 
@@ -255,19 +292,66 @@ class Promises:
                 self.take_law(made, crate, name)
         return made
 
+    def of_worked(self):
+        made = Promise(WORKED)
+        for crate, name in self.worked:
+            if (crate, name) in self.laws:
+                self.take_law(made, crate, name)
+        return made
+
+    def unmet(self):
+        """The premises of laws that no worked example speaks of, each with the laws that have it."""
+        met, found = self.promises[-1].needed, {}
+        for crate, name in self.laws.keys() - set(self.worked):
+            premises, (clauses, path) = set(), self.contract(crate, name)
+            imports = self.all.read_source(path)[1]
+            for it in clauses:
+                self.premises_in(tokens_of(it.text), lambda word: self.statements.found(imports, None, word), set(), premises)
+            for one in premises - met:
+                found.setdefault(str(one), []).append(f"{crate} laws::{name}")
+        return {it: sorted(found[it]) for it in sorted(found)}
+
+    def premises_in(self, tokens, named, seen, premises):
+        """Adds the definitions that the premises of a statement begin with, and those of the definitions that it states."""
+        *front, last = split(bare(tokens), "→")
+        heads = [groups(bare(it))[0] for it in front if it and not is_binder(it)]
+        premises.update(one for it in heads if len(it) == 1 and (one := named(it[0])))
+        for sign in "×⊎":
+            if len(parts := split(bare(last), sign)) > 1:
+                for it in parts:
+                    self.premises_in(it, named, seen, premises)
+                return
+        words = groups(bare(last))
+        one = named(words[0][0]) if words and len(words[0]) == 1 else None
+        if one and one not in seen and not one.is_data:
+            seen.add(one)
+            within = self.statements.scope(one.file)[0]
+            for it in parts_of_record(one)[1].values() if one.is_record else [right for _, right in equations(one)]:
+                self.premises_in(it, within, seen, premises)
+
     # What is leaned on.
 
-    def behind(self, cited):
+    def lean(self, made):
+        """Finds what a promise leans on. A pin counts for it where it asks for no field that the pin's law leaves open; returns those that do not."""
+        asked = {}
+        while True:
+            made.needed, made.passed, made.types = self.behind(made.cited, asked)
+            new = {one: why for one in made.passed if (why := self.asked_of(one, made.needed))}
+            if not new:
+                return asked
+            asked.update(new)
+
+    def behind(self, cited, asked=()):
         """These definitions and what they name in turn, with what a law names in place of those that it pins; the pinned ones; and the types."""
         due, seen, passed, types = set(cited), set(), set(), set()
         while due:
             file, _ = cited = due.pop()
             types |= {file} if file not in self.all.names else set()
             one = self.all.at(cited)
-            if one in self.pinned and one not in passed:
+            if one in self.pinned and one not in asked:
+                due |= self.pinned[one].cited if one not in passed else set()
                 passed.add(one)
-                due |= self.pinned[one].cited
-            elif one and one not in seen and one not in self.pinned:
+            elif one and one not in seen:
                 seen.add(one)
                 due |= self.all.cited_by(cited)
         return seen, passed, types
@@ -297,25 +381,25 @@ class Promises:
             pin.fields, pin.cited = fields, leant | beside
             self.pinned[one] = pin
 
-    def judge_pins(self, pins):
-        passed = set().union(*(self.behind(it.cited)[1] for it in self.promises))
-        needed = set().union(*(it.needed for it in self.promises))
+    def judge_pins(self, asked):
+        """Each pin counts for a promise, and its law leans on no other that is pinned. `asked` has what each promise asks of pins that leave it open."""
+        passed = set().union(*(it.passed for it in self.promises if it.title not in (OTHERS, WORKED)))
         for one, pin in self.pinned.items():
-            self.faults += [f"{pin}: a law pins it, and no promise leans on it"] * (one not in passed)
+            whys = [it[one] for it in asked if one in it]
+            self.faults += [f"{pin}: {whys[0] if whys else 'a law pins it, and no promise leans on it'}"] * (one not in passed)
             others = {self.all.at(it) for it in pin.cited if self.all.at(it) in self.pinned} | self.behind(pin.cited)[1]
             self.faults += [f"{pin}: its law leans on {it}, which is pinned too" for it in others - {one}]
-            if "" not in pin.fields:
-                self.judge_fields(one, pin, needed)
 
-    def judge_fields(self, one, pin, needed):
-        """No field of a definition that its law leaves open may be asked for by what a promise leans on: by what names the definition, or the
-        record that it gives."""
+    def asked_of(self, one, needed):
+        """What of these definitions asks for a field that a pin's law leaves open, by naming the definition or the record that it gives, if any."""
+        pin = self.pinned[one]
+        if "" in pin.fields:
+            return None
         kind = one.lines[0].split()[-1]
         record = next((it for it in self.all.names[one.file].values() if it.name == kind and it.is_record), None)
-        open_fields = set(parts_of_record(record)[1]) - pin.fields if record else {"any"}
         ask = [it for it in needed if {one, record} & {self.all.at(cited) for cited in self.all.cited_by((it.file, it.name))}]
-        for field in sorted(open_fields):
-            asked = [it for it in ask if re.search(rf"\.{re.escape(field)}\b", " ".join(it.lines))]
-            if asked or not record:
-                who = asked[0] if asked else "a promise"
-                self.faults.append(f"{pin}: laws::{pin.law} says nothing of its {field}, which {who} may ask for")
+        for field in sorted(set(parts_of_record(record)[1]) - pin.fields) if record else ["value"]:
+            asked = [it for it in ask if not record or re.search(rf"\.{re.escape(field)}\b", " ".join(it.lines))]
+            if asked:
+                return f"laws::{pin.law} says nothing of its {field}, which {asked[0]} may ask for"
+        return None

@@ -12,7 +12,8 @@ RUST = re.compile(r"//[^\n]*|/\*|[bc]?\"(?:\\.|[^\"\\])*\"|[bc]?r(#*)\".*?\"\1|b
 ANTT = re.compile(r"(?<![^\s(){}])--[^\n]*|\{-|\"(?:\\.|[^\"\\])*\"|[{}]")
 HEAD = re.compile(r"(?P<pub>pub(?:\s*\([^)]*\))?\s+)?(?:(?:const|unsafe)\s+(?=(?:const|unsafe|fn|impl|trait|extern)\b))*(?P<word>ghost\s+use|[\w!]+)(?:\s+(?P<name>\w+))?")
 CLAUSE = re.compile(r"(requires|ensures|ghost)\s*\*?(?:\s*(\w+))?(?:\s*:(?:\s*\w+)?)?\s*(?=\{)")
-IMPL = re.compile(r"impl\s*(?P<own><.*?>)?\s+(?:(?P<trait>[^{]+?)\s+for\s+)?(?P<type>[^{]+?)\s*(?:\bwhere\b[^{]*)?\Z", re.S)
+# (the toolchain gives a block of a trait a name of its own, behind `as`)
+IMPL = re.compile(r"impl\s*(?P<own><.*?>)?\s+(?:(?P<trait>[^{]+?)\s+for\s+)?(?P<type>[^{]+?)(?:\s+as\s+\w+)?\s*(?:\bwhere\b[^{]*)?\Z", re.S)
 TYPES = ("struct", "enum", "union")
 
 
@@ -92,7 +93,7 @@ class Block:
     @property
     def holder(self):
         """What the prover calls an impl block: the words of its type, of its trait and of that one's arguments, without its own parameters."""
-        own = [re.sub(r"^const ", "", it.strip()).partition(":")[0] for it in self.own.strip("<>").split(",")]
+        own = [re.sub(r"^const ", "", it.strip()).partition(":")[0].strip() for it in self.own.strip("<>").split(",")]
         words = re.findall(r"[\w:]+", re.sub(r"'\w+", "", f"{self.type} {self.trait or ''}"))
         return "".join(it.rpartition("::")[2] for it in words if it not in own)
 
@@ -253,7 +254,7 @@ def hidden(source, is_root):
     elsewhere += [f"#[{it}]" for it in source.attributes if re.match(r"path\b", it)]
     elsewhere += [f"{word} {name}" for _, word, name, *_ in source.others if word in ("macro_rules!", "include!")]
     yield from (f"text that stands elsewhere, or a module written into a source: {it}" for it in elsewhere)
-    yield from (f"the trait's default {it} is no function of a type" for it in source.functions if it.opens >= 0 and it.owner and it.owner.kind == "trait")
+    yield from (f"the trait's default {it.name} is no function of a type" for it in source.functions if it.opens >= 0 and it.owner and it.owner.kind == "trait")
 
 
 @functools.cache

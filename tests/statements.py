@@ -1,7 +1,8 @@
 """Whether a clause of a contract states anything, and whether a law pins a definition. `tests/believed` stands on it.
 
 A clause states something if, with the names in it unfolded, something is left that could be false: not `Unit {0}`, not an equation of one
-text with itself, nothing that is a premise of the clause itself, and no equation in which only std has a word.
+text with itself, no sum that is at least a part of it, nothing that is a premise of the clause itself, and no equation in which only std and the
+clause's own variables have a word; and if no premise of it is one that nothing meets, as a length below 0 or a member of the empty list.
 
 A law pins a definition if a clause of it is, for all arguments and without a premise but `IsBytes`, an equation or an equivalence of the
 definition at these arguments with words that do not lean on it. Where a definition gives a record, clauses of the law may pin it field by field."""
@@ -80,6 +81,12 @@ def premises_of(tokens):
     return names, premises, bare(last)
 
 
+def is_sum(left, sign, right):
+    """Whether a relation says no more than that a sum is at least a part of it."""
+    less, more = (left, right) if sign in ("≤", "<") else (right, left)
+    return sign in ("≤", "≥") and (less == ["0"] or more[: len(less) + 1] == [*less, "+"] or more[-len(less) - 1 :] == ["+", *less])
+
+
 def equations(one):
     """The equations of a definition, each as its patterns and its text; none where it has no such."""
     found = []
@@ -132,7 +139,7 @@ class Statements:
         """Whether a clause of a source states anything."""
         def named(word):
             return self.found(imports, None, word)
-        return self.says(tokens_of(text), (named, std), frozenset(), ())
+        return self.says(tokens_of(text), (named, std, frozenset()), frozenset(), ())
 
     def found(self, imports, own, word):
         """The definition that a word stands for, if any."""
@@ -140,14 +147,14 @@ class Statements:
         if own and first in self.all.names[own]:
             return self.all.names[own][first]
         for home, name in imports.get(first, ()):
-            if one := self.all.at((home, name or (more and more[0]))):
+            if one := self.all.at((home, name or (more[0] if more else None))):
                 return one
         return None
 
     def scope(self, file):
         def named(word):
             return self.found(self.all.imports[file], file, word)
-        return named, self.all.std[file]
+        return named, self.all.std[file], frozenset()
 
     def says(self, tokens, scope, seen, known):
         """Whether a type can be empty as far as its text tells, where these are known to hold."""
@@ -159,10 +166,10 @@ class Statements:
             return self.says(tokens[tokens.index("in") + 1 :], scope, seen, known)
         if tokens[:1] == ["if"] and len(some := split([";" if it in ("then", "else") else it for it in tokens], ";")) == 3:
             return any(self.says(it, scope, seen, known) for it in some[1:])
-        _, premises, last = premises_of(tokens)
+        names, premises, last = premises_of(tokens)
         if premises or len(split(tokens, "→")) > 1:
-            is_met = not any(it == ["⊥"] or any(sign in it for sign in RELATIONS) and self.is_closed(it, scope) for it in premises)
-            return is_met and self.says(last, scope, seen, (*known, *premises))
+            within = (*scope[:2], scope[2] | set(names))
+            return not any(self.is_never(it, scope, ()) for it in premises) and self.says(last, within, seen, (*known, *premises))
         if tokens in known or not tokens:
             return False
         if len(some := split(tokens, "⊎")) > 1:
@@ -172,13 +179,32 @@ class Statements:
         for sign in REFLEXIVE:
             if len(sides := split(tokens, sign)) == 2:
                 left, right = map(bare, sides)
-                return left != right and not self.is_closed(tokens, scope)
+                return left != right and not is_sum(left, sign, right) and not self.is_closed(tokens, (*scope[:2], () if known else scope[2]))
         return self.applies(groups(tokens), scope, seen, known)
 
     def is_closed(self, tokens, scope):
-        """Whether only std has a word in a text: it is proved, or refuted, whatever the project says."""
+        """Whether only std, and variables that the clause binds, have a word in a text: it is proved, or refuted, whatever the project says."""
         words = [it for it in tokens if re.match(r"[^\W\d]|‹|«", it) and it.split(".")[0] not in scope[1]]
-        return not any(it not in VALUES or scope[0](it) for it in words)
+        return not any((it not in VALUES and it not in scope[2]) or scope[0](it) for it in words)
+
+    def is_never(self, tokens, scope, seen):
+        """Whether a premise is one that nothing meets, as far as its text tells."""
+        names, _, last = premises_of(tokens)
+        tokens = bare(tokens)
+        if last in ([it] for it in names) or tokens == ["⊥"] or tokens[:1] == ["In"] and ["[", "]"] in (tokens[-2:], tokens[1:3]):
+            return True
+        if tokens[-2:] in (["<", "0"], ["<", "zero"]) or any(it in tokens for it in RELATIONS) and self.is_closed(tokens, (*scope[:2], ())):
+            return True
+        if len(parts := split(tokens, "×")) > 1:
+            return any(self.is_never(it, scope, seen) for it in parts if not is_binder(it))
+        one = scope[0](tokens[0]) if tokens and "→" not in tokens and "⊎" not in tokens else None
+        if not one or one in seen:
+            return False
+        within, seen = self.scope(one.file), (*seen, one)
+        if one.is_data:
+            return not constructors(one)
+        some = [*parts_of_record(one)[1].values()] if one.is_record else [right for _, right in equations(one)]
+        return (one.is_record or len(some) == 1) and any(self.is_never(it, within, seen) for it in some)
 
     def applies(self, found, scope, seen, known):
         """The same of a name with its arguments."""
@@ -186,7 +212,7 @@ class Statements:
         one = scope[0](head[0]) if len(head) == 1 else None
         if one:
             return self.unfolds(one, arguments, seen)
-        if head[0] in VALUES or head != ["⊥"] and self.is_closed([it for some in found for it in some], scope):
+        if head[0] in VALUES or head != ["⊥"] and self.is_closed([it for some in found for it in some], (*scope[:2], ())):
             return False
         under = [it[1:-1] for it in arguments if it[:2] == ["(", "λ"]]
         return any(self.says(it, scope, seen, known) for it in under) if under else True
