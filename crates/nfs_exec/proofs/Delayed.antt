@@ -49,7 +49,7 @@ use Rattle.nfs_exec.specs.Place.{item_fault, place_fault, stands_alone, is_seque
 use Rattle.nfs_exec.specs.ExchangeId.{exchange_id, exchange_id_number}
 use Rattle.nfs_exec.specs.CreateSession.{create_session_number, by_verdict, creates, wish_of}
 use Rattle.nfs_exec.specs.Sequence as sequence
-use Rattle.nfs_exec.specs.Sequence.{Sequenced, sequenced, unless, by_session, slot_fault, accepted}
+use Rattle.nfs_exec.specs.Sequence.{compared, Sequenced, sequenced, unless, by_session, slot_fault, accepted}
 use Rattle.nfs_exec.specs.Behind.{Step, stays, step, on_store, moves_opens, marked_if, otherwise}
 use Rattle.nfs_exec.specs.Run.{Ran, run, in_room, reserve, follow, only}
 use Rattle.nfs_exec.specs.Compound.{Answered, answers, carried_out, by_fault, first_item, renewed, begun, runs_behind, keeps, in_session, by_first}
@@ -285,13 +285,13 @@ cut_runs r c who size shorter s (Some session) channel e few short =
     let same : session ≡ means.session = cc in
     let g = session.slots in
     let is : g.channel ≡ channel = ap (λ (x : Session). x.slots.channel) same ∙ means.channel in
-    let fresh : judge g s.slotid s.sequenceid who.uid r.bytes ≡ Fresh =
-    ap (λ (x : Session). judge x.slots s.slotid s.sequenceid who.uid r.bytes) same ∙ means.fresh in
-    let again : judge g s.slotid s.sequenceid who.uid c.bytes ≡ Fresh = fresh_again (slice_get g.slots s.slotid) s.sequenceid who.uid r.bytes c.bytes fresh in
+    let fresh : judge g s.slotid s.sequenceid who.uid (compared r) ≡ Fresh =
+    ap (λ (x : Session). judge x.slots s.slotid s.sequenceid who.uid (compared r)) same ∙ means.fresh in
+    let again : judge g s.slotid s.sequenceid who.uid (compared c) ≡ Fresh = fresh_again (slice_get g.slots s.slotid) s.sequenceid who.uid (compared r) (compared c) fresh in
     let fits : shorter ≤ g.channel.request = (let whole = means.fits in let request = ap (λ (k : Channel). k.request) is in omega arith) in
     let within : c.declared ≤ g.channel.operations = (let whole = means.few in let operations = ap (λ (k : Channel). k.operations) is in omega arith) in
-    by_fault_of (slot_fault s g.channel) (sequence.by_verdict r size s g (judge g s.slotid s.sequenceid who.uid r.bytes))
-    (sequence.by_verdict c shorter s g (judge g s.slotid s.sequenceid who.uid c.bytes))
+    by_fault_of (slot_fault s g.channel) (sequence.by_verdict r size s g (judge g s.slotid s.sequenceid who.uid (compared r)))
+    (sequence.by_verdict c shorter s g (judge g s.slotid s.sequenceid who.uid (compared c)))
     (rw (again, le-ltb g.channel.request shorter fits, le-ltb g.channel.operations c.declared within) (ap (λ (k : Channel). sequence.Runs k) is)) e
   where
     by_fault_of : (f : Option Status) (v w : Sequenced) → w ≡ sequence.Runs channel → unless f v ≡ sequence.Runs channel → unless f w ≡ sequence.Runs channel

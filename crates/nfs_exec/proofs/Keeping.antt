@@ -2,7 +2,7 @@
 use Rattle.std.proofs.Common.{◌≡◌, ℕ, suc, ◌+◌, ◌-◌, ◌≤◌, ◌<◌, Bool, true, false, cond, ltb, List, [], ◌∷◌, ◌++◌, length, take, drop, Option, Some, None, refl}
 use Rattle.std.proofs.Common.{sym, ◌∙◌, ap, subst, arith, inl, inr}
 use Rattle.std.proofs.lemmas.Bool.{cases_Bool, ltb-false}
-use Rattle.std.proofs.lemmas.List.{length-append, append_assoc}
+use Rattle.std.proofs.lemmas.List.{length-append, length-take, length-drop, append_assoc}
 use Rattle.std.proofs.Math.Seq.{drop-append_seam}
 use Rattle.nfs_xdr.specs.Caller.{Caller}
 use Rattle.nfs_xdr.specs.SheetState.{SheetState, HasRoom, Puts}
@@ -25,7 +25,7 @@ use Rattle.nfs_sessions.specs.SessionSlots.{GrantedSlots, judge}
 use Rattle.nfs_sessions.specs.Sessions.{session_at, Session, SessionTable, keep}
 use Rattle.nfs_names.specs.Outcome.{is_ok}
 use Rattle.nfs_exec.specs.Machine.{Machine, Outcome}
-use Rattle.nfs_exec.specs.Sequence.{Sequenced, Runs, unless, by_verdict, by_session, slot_fault, fresh_fault, accepted}
+use Rattle.nfs_exec.specs.Sequence.{highest_at, compared, Sequenced, Runs, unless, by_verdict, by_session, slot_fault, fresh_fault, accepted}
 use Rattle.nfs_names.specs.declared.context.Context.{Context}
 use Rattle.nfs_exec.specs.Run.{Ran, run, in_room, follow, is_here, behind_here}
 use Rattle.nfs_exec.specs.Compound.{renewed}
@@ -46,7 +46,7 @@ pub record IsFresh (r : Request) (who : Caller) (size : ℕ) (s : Sequence) (o :
   pub session : Session
   pub found : o ≡ Some session
   pub channel : session.slots.channel ≡ c
-  pub fresh : judge session.slots s.slotid s.sequenceid who.uid r.bytes ≡ Fresh
+  pub fresh : judge session.slots s.slotid s.sequenceid who.uid (compared r) ≡ Fresh
   pub fits : size ≤ c.request
   pub few : r.declared ≤ c.operations
 
@@ -72,8 +72,8 @@ pub runs_means : (r : Request) (who : Caller) (size : ℕ) (s : Sequence) (o : O
 runs_means r who size s None c e = absurd cc
 runs_means r who size s (Some session) c e =
     let g = session.slots in
-    let at = unless_runs (slot_fault s g.channel) (by_verdict r size s g (judge g s.slotid s.sequenceid who.uid r.bytes)) c e in
-    let means = fresh_runs r size s g (judge g s.slotid s.sequenceid who.uid r.bytes) c at.1 in
+    let at = unless_runs (slot_fault s g.channel) (by_verdict r size s g (judge g s.slotid s.sequenceid who.uid (compared r))) c e in
+    let means = fresh_runs r size s g (judge g s.slotid s.sequenceid who.uid (compared r)) c at.1 in
     let tests = passed (ltb g.channel.request size) (ltb g.channel.operations r.declared) _ _ means.1 in
     let request : size ≤ g.channel.request = ltb-false g.channel.request size tests.0 in
     let operations : r.declared ≤ g.channel.operations = ltb-false g.channel.operations r.declared tests.1 in
@@ -227,18 +227,26 @@ pub renewed_machine : (m : Machine) (s : Sequence) (now : ℕ) (id : SessionId) 
 renewed_machine m s now id b read book = ap (λ (b : Book). record m { leases = b }) (book ∙ ap (λ (i : SessionId). with_renewal m.leases i.client now) read)
 
 pub kept_machine : (was left : Machine) (r : Request) (who : Caller) (s : Sequence) (text : List ℕ) (id : SessionId) (t : SessionTable) (args reply : List ℕ) →
-    id ≡ id_of s.sessionid → t ≡ keep was.sessions id s.slotid s.sequenceid who.uid args reply → args ≡ r.bytes → reply ≡ text → was ≡ left →
-    record was { sessions = t } ≡ record left { sessions = keep left.sessions (id_of s.sessionid) s.slotid s.sequenceid who.uid r.bytes text }
+    id ≡ id_of s.sessionid → t ≡ keep was.sessions id s.slotid s.sequenceid who.uid args reply → args ≡ compared r → reply ≡ text → was ≡ left →
+    record was { sessions = t } ≡ record left { sessions = keep left.sessions (id_of s.sessionid) s.slotid s.sequenceid who.uid (compared r) text }
 kept_machine was left r who s text id t args reply read table same whole is =
     ap (λ (t : SessionTable). record was { sessions = t }) (table ∙ ap (λ (i : SessionId). keep was.sessions i s.slotid s.sequenceid who.uid args reply) read
     ∙ ap (λ a. keep was.sessions (id_of s.sessionid) s.slotid s.sequenceid who.uid a reply) same
-    ∙ ap (λ a. keep was.sessions (id_of s.sessionid) s.slotid s.sequenceid who.uid r.bytes a) whole)
-    ∙ ap (λ (k : Machine). record k { sessions = keep k.sessions (id_of s.sessionid) s.slotid s.sequenceid who.uid r.bytes text }) is
+    ∙ ap (λ a. keep was.sessions (id_of s.sessionid) s.slotid s.sequenceid who.uid (compared r) a) whole)
+    ∙ ap (λ (k : Machine). record k { sessions = keep k.sessions (id_of s.sessionid) s.slotid s.sequenceid who.uid (compared r) text }) is
+
+-- what is compared is no longer than the arguments
+compared_within : (n : ℕ) (xs : List ℕ) → length (take n xs ++ drop (n + 4) xs) ≤ length xs
+compared_within n xs =
+    let both = length-append (take n xs) (drop (n + 4) xs) in
+    let front = length-take n xs in
+    let rest = length-drop (n + 4) xs in
+    omega (arith, both, front, rest)
 
 -- the slot of a request that runs may keep what it came to
 pub may_keep : (now was : SessionTable) (r : Request) (who : Caller) (size : ℕ) (s : Sequence) (c : Channel) (id : SessionId) (args reply text : List ℕ)
     (old new : SheetState) → now ≡ was → id ≡ id_of s.sessionid → length r.bytes ≤ size →
-    by_session r who size s (session_at was (id_of s.sessionid)) ≡ Runs c → args ≡ r.bytes →
+    by_session r who size s (session_at was (id_of s.sessionid)) ≡ Runs c → args ≡ compared r →
     reply ≡ text → Puts old new text → length new.bytes + 24 ≤ length old.bytes + c.response →
     IsSomeAnd (session_at now id) (λ x. MayKeep x.slots s.slotid s.sequenceid who.uid args reply)
 may_keep now was r who size s c id args reply text old new table read short runs same whole put fits =
@@ -249,9 +257,11 @@ may_keep now was r who size s c id args reply text old new table read short runs
     let channel = is.channel in
     subst (λ (o : Option Session). IsSomeAnd o (λ x. MayKeep x.slots s.slotid s.sequenceid who.uid args reply)) (sym found)
     (subst (λ a. MayKeep is.session.slots s.slotid s.sequenceid who.uid a reply) (sym same)
-    (subst (λ t. MayKeep is.session.slots s.slotid s.sequenceid who.uid r.bytes t) (sym whole) (record {
+    (subst (λ t. MayKeep is.session.slots s.slotid s.sequenceid who.uid (compared r) t) (sym whole) (record {
       fresh = is.fresh;
-      args_fit = subst (λ (g : Channel). length r.bytes ≤ g.request) (sym channel) (omega (arith, short, request));
+      args_fit =
+          let within = compared_within (highest_at r) r.bytes in
+          subst (λ (g : Channel). length (compared r) ≤ g.request) (sym channel) (omega (arith, within, short, request));
       reply_fits = subst (λ (g : Channel). 24 + length text ≤ g.response) (sym channel) (omega (arith, long, fits));
     })))
 

@@ -60,7 +60,7 @@ use Rattle.nfs_exec.specs.ReclaimComplete.{reclaim_complete, of_one, of_all}
 use Rattle.nfs_exec.specs.Run.{in_room, reserve, is_here, behind_here}
 use Rattle.nfs_exec.specs.Place.{stands_alone, is_sequence, place_fault, item_fault, status_behind}
 use Rattle.nfs_exec.specs.Sequence as sequence
-use Rattle.nfs_exec.specs.Sequence.{Sequenced, sequenced}
+use Rattle.nfs_exec.specs.Sequence.{compared, Sequenced, sequenced}
 use Rattle.nfs_exec.specs.Compound.{carried_out, by_fault, first_item, bare, renewed, begun, in_session, by_first}
 use Rattle.nfs_exec.specs.Delayed.{NothingDelays}
 use Rattle.nfs_exec.specs.Laws.{MachineEvent, Expires, Asks, stepped, all_stepped}
@@ -181,9 +181,9 @@ by_session_prompt : (r : Request) (who : Caller) (size : ℕ) (s : Sequence) (o 
 by_session_prompt r who size s None status e = refuses_as BadSession status e refl
 by_session_prompt r who size s (Some session) status e =
     let g = session.slots in
-    refuses_prompt (sequence.slot_fault s g.channel) (sequence.by_verdict r size s g (judge g s.slotid s.sequenceid who.uid r.bytes)) status
+    refuses_prompt (sequence.slot_fault s g.channel) (sequence.by_verdict r size s g (judge g s.slotid s.sequenceid who.uid (compared r))) status
     (first_prompt ((nat_le g.channel.slots s.slotid, BadSlot) ∷ (nat_le g.channel.slots s.highest_slotid, BadHighSlot) ∷ []) refl)
-    (verdict_prompt r size s g (judge g s.slotid s.sequenceid who.uid r.bytes) status) e
+    (verdict_prompt r size s g (judge g s.slotid s.sequenceid who.uid (compared r)) status) e
 
 -- Outside a session. What a number of CREATE_SESSION came to is no NFS4ERR_DELAY.
 

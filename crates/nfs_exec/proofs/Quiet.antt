@@ -30,7 +30,7 @@ use Rattle.nfs_exec.specs.ExchangeId.{exchange_id, exchange_id_number}
 use Rattle.nfs_exec.specs.CreateSession.{create_session_number, by_verdict, by_created, wish_of, without_any_sessions}
 use Rattle.nfs_exec.specs.Destroy.{destroy_session, destroyed_unless, has_session}
 use Rattle.nfs_exec.specs.Sequence as sequence
-use Rattle.nfs_exec.specs.Sequence.{Sequenced, sequenced, unless, by_session, slot_fault}
+use Rattle.nfs_exec.specs.Sequence.{compared, Sequenced, sequenced, unless, by_session, slot_fault}
 use Rattle.nfs_exec.specs.Run.{is_here, behind_here}
 use Rattle.nfs_exec.specs.Compound.{Answered, carried_out, by_fault, first_item, renewed, begun, in_session, by_first, compound}
 use Rattle.nfs_exec.specs.Laws.{if_runs, first_runs}
@@ -125,17 +125,17 @@ fresh_slot r size s g c None slot.Misordered e = absurd cc
 fresh_slot r size s g c None slot.NoSlot e = absurd cc
 
 fresh_session : (r : Request) (who : Caller) (size : ℕ) (s : Sequence) (found : Option Session) (c : Channel) → by_session r who size s found ≡ sequence.Runs c
-    → (session : Session) × (found ≡ Some session) × (judge session.slots s.slotid s.sequenceid who.uid r.bytes ≡ slot.Fresh)
+    → (session : Session) × (found ≡ Some session) × (judge session.slots s.slotid s.sequenceid who.uid (compared r) ≡ slot.Fresh)
 fresh_session r who size s None c e = absurd cc
 fresh_session r who size s (Some session) c e =
-    (session, refl, fresh_slot r size s session.slots c (slot_fault s session.slots.channel) (judge session.slots s.slotid s.sequenceid who.uid r.bytes) e)
+    (session, refl, fresh_slot r size s session.slots c (slot_fault s session.slots.channel) (judge session.slots s.slotid s.sequenceid who.uid (compared r)) e)
 
 -- A request that ran: its number was fresh on its slot, which keeps the answer.
 pub record IsTold (m : Machine) (r : Request) (who : Caller) (after : SessionTable) (text : List ℕ) (s : Sequence) : Type 0 where
   pub session : Session
   pub there : session_at m.sessions (id_of s.sessionid) ≡ Some session
-  pub fresh : judge session.slots s.slotid s.sequenceid who.uid r.bytes ≡ slot.Fresh
-  pub kept : after ≡ keep m.sessions (id_of s.sessionid) s.slotid s.sequenceid who.uid r.bytes text
+  pub fresh : judge session.slots s.slotid s.sequenceid who.uid (compared r) ≡ slot.Fresh
+  pub kept : after ≡ keep m.sessions (id_of s.sessionid) s.slotid s.sequenceid who.uid (compared r) text
 
 abbrev IsToldBy : Machine → Request → Caller → Sequence → Answered → Type 0
 IsToldBy m r who s a = IsTold m r who a.machine.sessions a.text s
@@ -152,7 +152,7 @@ told_verdict m r who size now choice s t more (sequence.Runs c) is runs =
       session = fresh.0;
       there = fresh.1;
       fresh = fresh.2;
-      kept = ap (λ (k : SessionTable). keep k (id_of s.sessionid) s.slotid s.sequenceid who.uid r.bytes did.text)
+      kept = ap (λ (k : SessionTable). keep k (id_of s.sessionid) s.slotid s.sequenceid who.uid (compared r) did.text)
           (run_sessions c.response (begun r s c) now (behind_here choice) (renewed m now s) (begins (id_of s.sessionid).client who) more);
     })
 

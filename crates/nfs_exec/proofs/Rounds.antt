@@ -8,6 +8,7 @@ use Rattle.nfs_sessions.specs.Id.{id_of}
 use Rattle.nfs_sessions.specs.Sessions.{SessionTable}
 use Rattle.nfs_lease.specs.Renewals.{has_run_out}
 use Rattle.nfs_exec.specs.Machine.{Machine, starts}
+use Rattle.nfs_exec.specs.Sequence.{compared}
 use Rattle.nfs_exec.specs.Compound.{compound}
 use Rattle.nfs_exec.specs.Laws.{MachineEvent, Expires, Asks, stepped, all_stepped, ran, is_on, runs_on, NeverRunsAgain}
 use Rattle.nfs_exec.proofs.Numbering.{IsHeld, KeepsReply, IsCounted, IsLast, held_counted, held_last, counted_kept, last_first, last_kept, runs_again}
@@ -27,7 +28,7 @@ kept m (Asks r who size now choice) t runs =
       session = told.session;
       there = told.there;
       uid = who.uid;
-      args = r.bytes;
+      args = compared r;
       reply = (compound m r who size now choice).text;
       fresh = told.fresh;
       kept = told.kept;

@@ -19,7 +19,7 @@ use Rattle.nfs_sessions.specs.Sessions.{Session, session_at}
 use Rattle.nfs_sessions.specs.Id.{id_of}
 use Rattle.nfs_names.specs.Outcome.{is_delay}
 use Rattle.nfs_exec.specs.Machine.{Machine}
-use Rattle.nfs_exec.specs.Sequence.{Sequenced, Refuses, Repeats, Runs, unless, by_verdict, by_session, slot_fault, sequenced}
+use Rattle.nfs_exec.specs.Sequence.{compared, Sequenced, Refuses, Repeats, Runs, unless, by_verdict, by_session, slot_fault, sequenced}
 use Rattle.nfs_exec.specs.Run.{only}
 use Rattle.nfs_exec.specs.Compound.{Answered, answers, first_item, in_session, by_first, compound}
 use Rattle.nfs_exec.specs.Run.{is_here}
@@ -41,7 +41,7 @@ session_same : (r : Request) (xs : List Item) (who : Caller) (size : ℕ) (s : S
     → by_session (record r { left = xs }) who size s o ≡ by_session r who size s o
 session_same r xs who size s None = refl
 session_same r xs who size s (Some x) =
-    ap (unless (slot_fault s x.slots.channel)) (verdict_same r xs size s x.slots (judge x.slots s.slotid s.sequenceid who.uid r.bytes))
+    ap (unless (slot_fault s x.slots.channel)) (verdict_same r xs size s x.slots (judge x.slots s.slotid s.sequenceid who.uid (compared r)))
 
 answer_same : (m : Machine) (r : Request) (xs : List Item) (who : Caller) (now : ℕ) (choice : Option ℕ) (s : Sequence) (more : List Item) (v : Sequenced) →
     in_session m (record r { left = xs }) who now choice s more v ≡ in_session m r who now choice s more v

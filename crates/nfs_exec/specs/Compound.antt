@@ -21,7 +21,7 @@ use Rattle.nfs_exec.specs.Place.{item_fault}
 use Rattle.nfs_exec.specs.ExchangeId.{exchange_id, exchange_id_number}
 use Rattle.nfs_exec.specs.CreateSession.{create_session}
 use Rattle.nfs_exec.specs.Destroy.{destroy_session, destroy_client}
-use Rattle.nfs_exec.specs.Sequence.{Sequenced, Refuses, Repeats, Runs, sequenced, accepted, sequence_number}
+use Rattle.nfs_exec.specs.Sequence.{Sequenced, Refuses, Repeats, Runs, compared, sequenced, accepted, sequence_number}
 use Rattle.nfs_exec.specs.Run.{Ran, run, finished, only, follow, is_here, behind_here}
 
 -- The bytes of the result of a compound, from its status on, and the machine behind it.
@@ -71,7 +71,7 @@ runs_behind m r who now choice s c more = follow (with_result m (Res.Sequence (a
 -- the slot keeps the whole answer
 abbrev pub keeps : Request → Caller → Sequence → Answered → Answered
 keeps r who s a =
-    record a { machine = record a.machine { sessions = keep a.machine.sessions (id_of s.sessionid) s.slotid s.sequenceid who.uid r.bytes a.text } }
+    record a { machine = record a.machine { sessions = keep a.machine.sessions (id_of s.sessionid) s.slotid s.sequenceid who.uid (compared r) a.text } }
 
 -- a refusal and a repeat change nothing
 abbrev pub in_session : Machine → Request → Caller → ℕ → Option ℕ → Sequence → List Item → Sequenced → Answered

@@ -12,6 +12,7 @@ pub mod Expiry
 pub mod View
 pub mod Laws
 pub mod Executing
+pub mod Compared
 pub mod Delayed
 pub mod DelayedOpen
 pub mod Ops

@@ -1,6 +1,7 @@
 -- SEQUENCE (RFC 8881 sections 2.10.6.1 and 18.46): what it comes to, before anything is run.
-use Rattle.std.specs.Prelude.{ℕ, ◌-◌, nat_lt, nat_le, List, [], ◌∷◌, Option, Some, None}
+use Rattle.std.specs.Prelude.{ℕ, ◌+◌, ◌-◌, nat_lt, nat_le, List, [], ◌∷◌, ◌++◌, length, take, drop, Option, Some, None}
 use Rattle.nfs_xdr.specs.Checks.{first_fault}
+use Rattle.nfs_xdr.specs.Spelling.{padding}
 use Rattle.nfs_xdr.specs.declared.status.Status.{Status}
 use Rattle.nfs_xdr.specs.declared.status.Status.TheVariants.{BadSession, BadSlot, BadHighSlot, SeqMisordered, SeqFalseRetry, ReqTooBig, TooManyOps}
 use Rattle.nfs_xdr.specs.Caller.{Caller}
@@ -19,6 +20,16 @@ use Rattle.nfs_exec.specs.Machine.{Machine}
 
 abbrev pub sequence_number : ℕ
 sequence_number = op_number Num.Sequence
+
+-- Where sa_highest_slotid stands in the arguments of a compound that SEQUENCE begins: behind the tag, its padding and 40 bytes, which are the length of
+-- the tag (4), the minor version (4), the count (4), SEQUENCE's number (4), the session (16), the number (4) and the slot (4).
+abbrev pub highest_at : Request → ℕ
+highest_at r = length r.tag + padding (length r.tag) + 40
+
+-- What a repeat is compared by: the argument bytes but for the four of sa_highest_slotid. That field says how many slots the client has in use as it sends,
+-- and nothing of what is asked; a client that sends a call again may give another one.
+abbrev pub compared : Request → List ℕ
+compared r = take (highest_at r) r.bytes ++ drop (highest_at r + 4) r.bytes
 
 -- It is refused; or the request is a repeat, and the reply that its slot keeps is the answer; or the request is new, and
 -- runs in a session of this channel.
@@ -52,7 +63,7 @@ slot_fault s c =
     ∷ [])
 
 abbrev pub by_slots : Request → Caller → ℕ → Sequence → GrantedSlots → Sequenced
-by_slots r who size s g = unless (slot_fault s g.channel) (by_verdict r size s g (judge g s.slotid s.sequenceid who.uid r.bytes))
+by_slots r who size s g = unless (slot_fault s g.channel) (by_verdict r size s g (judge g s.slotid s.sequenceid who.uid (compared r)))
 
 abbrev pub by_session : Request → Caller → ℕ → Sequence → Option Session → Sequenced
 by_session r who size s None = Refuses BadSession

@@ -16,7 +16,7 @@ ghost use Rattle.nfs_exec.specs.Compound.{compound, first_item, in_session};
 ghost use Rattle.nfs_exec.specs.View.{Does, AreTables, MayRun, RanIn, CanBear, IsOpened, HasReplyRoom, HasLoneRoom, Answers};
 
 use crate::place::{place_fault, sequence_in};
-use crate::sequence::{Sequenced, accepted, judge};
+use crate::sequence::{Sequenced, accepted, ahead, behind, judge};
 use crate::tables::Tables;
 use nfs_compound::{Compound, Item, MINOR_VERSION, Op, OpNum, Sequence};
 use nfs_names::Context;
@@ -192,7 +192,8 @@ impl Tables {
             asked.slotid,
             asked.sequenceid,
             who.uid,
-            args.bytes(),
+            ahead(args),
+            behind(args),
             reply,
         );
     }

@@ -1,6 +1,7 @@
 //! Laws of compounds and of expiry, over their definitions.
 
 ghost use Rattle.nfs_exec.specs.Laws.{RepeatsChangeNothing, RefusalsChangeNothing, NeverRunsAgain, ExpiresOnce, ExpiryFindsNothing};
+ghost use Rattle.nfs_exec.specs.Compared.{ComparesAllButHighest, DifferThereAlone};
 ghost use Rattle.nfs_exec.specs.Delayed.{DelayIsACut, NothingDelays};
 ghost use Rattle.nfs_exec.specs.DelayedOpen.{IsWorked};
 ghost use Rattle.nfs_exec.specs.Ops.{OpsAreRun, OpsAreRunIn, AnswersAreTheirs};
@@ -11,6 +12,13 @@ ghost use Rattle.nfs_exec.specs.WrittenRun.{StandsInRuns};
 /// A request that is repeated is answered with the reply that was kept, byte for byte, and changes nothing.
 pub fn repeats_change_nothing()
     ensures { RepeatsChangeNothing }
+{}
+
+/// The bytes of a request that SEQUENCE begins are what stands before sa_highest_slotid, its four bytes and what stands behind them; and a repeat is compared by
+/// the first and the last of these. So two requests that are compared by the same bytes differ in that field or not at all.
+pub fn compares_all_but_highest()
+    ensures cut { ComparesAllButHighest }
+    ensures alone { DifferThereAlone }
 {}
 
 /// A SEQUENCE that is refused changes nothing: the slot, its kept reply and the lease are as they were.

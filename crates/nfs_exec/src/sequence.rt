@@ -1,6 +1,6 @@
 //! SEQUENCE (RFC 8881 sections 2.10.6.1 and 18.46).
 
-ghost use Rattle.std.specs.Prelude.{◌≡◌, ◌≤◌, ◌+◌, List, ℕ, length};
+ghost use Rattle.std.specs.Prelude.{◌≡◌, ◌≤◌, ◌+◌, List, ℕ, length, take, drop};
 ghost use Rattle.nfs_xdr.specs.Caller.{caller};
 ghost use Rattle.nfs_xdr.specs.Limits.{most_record};
 ghost use Rattle.nfs_sessions.specs.SessionTables.{IsGranted};
@@ -8,7 +8,7 @@ ghost use Rattle.nfs_sessions.specs.Id.{id_of};
 ghost use Rattle.nfs_sessions.specs.SessionSlots.{rpc_head};
 ghost use Rattle.nfs_sessions.specs.Sessions.{session_at};
 ghost use Rattle.nfs_sessions.specs.declared.channel.Channel.{Channel as Granted};
-ghost use Rattle.nfs_exec.specs.Sequence.{Repeats, Runs, by_session, slot_fault, fresh_fault, accepted};
+ghost use Rattle.nfs_exec.specs.Sequence.{Repeats, Runs, highest_at, by_session, slot_fault, fresh_fault, accepted};
 ghost use Rattle.nfs_exec.specs.View.{sequenced_of};
 
 use nfs_compound::{Compound, Sequence};
@@ -30,8 +30,8 @@ pub(crate) enum Sequenced<'a> {
 
 /// Judges a SEQUENCE of a caller, in a record of `size` bytes. The checks in their order: NFS4ERR_BADSESSION,
 /// NFS4ERR_BADSLOT, NFS4ERR_BAD_HIGH_SLOT, NFS4ERR_SEQ_MISORDERED; where the slot's last number comes again,
-/// NFS4ERR_SEQ_FALSE_RETRY for another caller or other arguments; and where the number is new, NFS4ERR_REQ_TOO_BIG for a
-/// record that is longer than the session's requests, and NFS4ERR_TOO_MANY_OPS.
+/// NFS4ERR_SEQ_FALSE_RETRY for another caller or for arguments that differ in more than sa_highest_slotid; and where the
+/// number is new, NFS4ERR_REQ_TOO_BIG for a record that is longer than the session's requests, and NFS4ERR_TOO_MANY_OPS.
 pub(crate) fn judge<'a>(
     sessions: &'a Sessions,
     asked: &Sequence,
@@ -51,7 +51,14 @@ pub(crate) fn judge<'a>(
     if let Some(status) = slot_fault(asked, &channel) {
         return Sequenced::Refuses(status);
     }
-    match slots.judge(asked.slotid, asked.sequenceid, who.uid, args.bytes()) {
+    let verdict = slots.judge(
+        asked.slotid,
+        asked.sequenceid,
+        who.uid,
+        ahead(args),
+        behind(args),
+    );
+    match verdict {
         Verdict::NoSlot => Sequenced::Refuses(Status::BadSlot),
         Verdict::Misordered => Sequenced::Refuses(Status::SeqMisordered),
         Verdict::FalseRetry => Sequenced::Refuses(Status::SeqFalseRetry),
@@ -60,6 +67,37 @@ pub(crate) fn judge<'a>(
             Some(status) => Sequenced::Refuses(status),
             None => Sequenced::Runs(channel),
         },
+    }
+}
+
+/// Where sa_highest_slotid is in the argument bytes of a compound that SEQUENCE begins: behind the tag with its length and
+/// padding, the minor version, the count, SEQUENCE's number, the session, the number and the slot.
+fn highest_at(args: &Compound<'_>) -> usize
+    ensures value { result ≡ highest_at args.now }
+    ensures small { result ≤ 1100 }
+{
+    let tag = args.tag().len();
+    tag + (4 - tag % 4) % 4 + 40
+}
+
+/// The argument bytes before sa_highest_slotid. A repeat is compared by these and those behind the field.
+pub(crate) fn ahead<'a>(args: &Compound<'a>) -> &'a [u8]
+    ensures { result.now ≡ take (highest_at args.now) args.now.bytes }
+{
+    let bytes = args.bytes();
+    match bytes.split_at_checked(highest_at(args)) {
+        Some((front, _)) => front,
+        None => bytes,
+    }
+}
+
+/// The argument bytes behind sa_highest_slotid.
+pub(crate) fn behind<'a>(args: &Compound<'a>) -> &'a [u8]
+    ensures { result.now ≡ drop (highest_at args.now + 4) args.now.bytes }
+{
+    match args.bytes().split_at_checked(highest_at(args) + 4) {
+        Some((_, rest)) => rest,
+        None => &[],
     }
 }
 

@@ -19,6 +19,8 @@ pub mod Replies
 pub mod Mute
 pub mod KeptSlots
 pub mod Good
+pub mod Slotted
+pub mod Repeated
 pub mod Computing
 pub mod LostReply
 pub mod SeenWrite

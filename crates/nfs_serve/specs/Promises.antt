@@ -11,6 +11,7 @@ pub mod PerfectWire
 pub mod RealTime
 pub mod WrongServers
 pub mod Seen
+pub mod Repeated
 pub mod LostReply
 pub mod SeenWrite
 pub mod Points

@@ -21,6 +21,7 @@ ghost use Rattle.nfs_serve.specs.Promises.Outlived.{NoneOutlives};
 ghost use Rattle.nfs_serve.specs.Promises.Points.{NoClash};
 ghost use Rattle.nfs_serve.specs.Promises.PerfectWire.{AsOverAWire};
 ghost use Rattle.nfs_serve.specs.Promises.RealTime.{Atomic};
+ghost use Rattle.nfs_serve.specs.Promises.Repeated.{AnswersRepeats};
 ghost use Rattle.nfs_serve.specs.Promises.Seen.{ReplyReader, IsSequenced, Bears, server};
 ghost use Rattle.nfs_serve.specs.Promises.SessionsOnce.{EachMakesOne, EachWasMade, RepeatsMakeNone, NextMakesOne, IsGivenOnce};
 ghost use Rattle.nfs_serve.specs.Promises.SeenWrite.{IsSeen};
@@ -107,6 +108,11 @@ pub fn exactly_once()
 /// What executes on a slot is answered under the xid of its call, with a SEQUENCE that its caller may accept.
 pub fn answers_what_executes()
     ensures { (reader : ReplyReader) (mode : ℕ) (instance : ℕ) (lease : ℕ) → AnswersExecuted (server reader.find mode instance lease) }
+{}
+
+/// A compound that comes again is answered with the result of its first sending, under its own xid, whatever highest slot of its session it then says is in use.
+pub fn answers_repeats()
+    ensures { (reader : ReplyReader) (mode : ℕ) (instance : ℕ) (lease : ℕ) → AnswersRepeats (server reader.find mode instance lease) }
 {}
 
 /// The definitions compute: two compounds are sent on a slot, the second again since its first reply is lost; each is executed once, and both

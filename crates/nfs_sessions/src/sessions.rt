@@ -1,6 +1,6 @@
 //! The table of sessions (RFC 8881 sections 2.10, 18.36 and 18.37).
 
-ghost use Rattle.std.specs.Prelude.{◌≡◌, ◌≤◌, ◌+◌, ◌==◌, None, IfOk, OnOk, OnErr, IsSomeAnd, is_some, option_map, count_by, find, filter, not, position};
+ghost use Rattle.std.specs.Prelude.{◌≡◌, ◌≤◌, ◌+◌, ◌++◌, ◌==◌, None, IfOk, OnOk, OnErr, IsSomeAnd, is_some, option_map, count_by, find, filter, not, position};
 ghost use Rattle.std.specs.Borrow.{sem};
 ghost use Rattle.std.specs.Option.{option_copied, option_copied_mut};
 ghost use Rattle.std.specs.List.{list_any};
@@ -242,21 +242,23 @@ impl Sessions {
         self.sessions.iter().any(|s| s.client == client)
     }
 
-    /// Keeps the reply to a request that was fresh on a session's slot and has run.
+    /// Keeps the reply to a request that was fresh on a session's slot and has run. Its argument bytes are `head` and behind
+    /// it `tail`.
     pub fn keep(
         &mut self,
         id: &SessionId,
         slot: u32,
         number: u32,
         uid: u32,
-        args: &[u8],
+        head: &[u8],
+        tail: &[u8],
         reply: &[u8],
     )
-        requires { IsSomeAnd (session_at self.old id.now) (λ s. MayKeep s.slots slot number uid args.now reply.now) }
-        ensures { self.new ≡ keep self.old id.now slot number uid args.now reply.now }
+        requires { IsSomeAnd (session_at self.old id.now) (λ s. MayKeep s.slots slot number uid (head.now ++ tail.now) reply.now) }
+        ensures { self.new ≡ keep self.old id.now slot number uid (head.now ++ tail.now) reply.now }
     {
         if let Some(slots) = self.slots_mut(id) {
-            slots.keep(slot, number, uid, args, reply);
+            slots.keep(slot, number, uid, head, tail, reply);
         }
     }
 

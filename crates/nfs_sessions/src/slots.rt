@@ -1,6 +1,6 @@
 //! A session's slots, with the room that its channel asks for (RFC 8881 section 2.10.6).
 
-ghost use Rattle.std.specs.Prelude.{◌≡◌, ◌≤◌, ◌+◌, IfOk, length};
+ghost use Rattle.std.specs.Prelude.{◌≡◌, ◌≤◌, ◌+◌, ◌++◌, IfOk, length};
 ghost use Rattle.nfs_sessions.specs.SessionTables.{IsGranted, MayKeep, IsGrantedSlots};
 ghost use Rattle.nfs_sessions.specs.SessionSlots.{unused, judge, kept, keep};
 
@@ -53,11 +53,12 @@ impl SessionSlots {
         self.channel
     }
 
-    /// What slot `slot` says of a request with this number, caller and argument bytes.
-    pub fn judge(&self, slot: u32, number: u32, uid: u32, args: &[u8]) -> Verdict
-        ensures { result ≡ judge self.now slot number uid args.now }
+    /// What slot `slot` says of a request with this number, caller and argument bytes: `head` and behind it `tail`, as in
+    /// `Slots::judge`.
+    pub fn judge(&self, slot: u32, number: u32, uid: u32, head: &[u8], tail: &[u8]) -> Verdict
+        ensures { result ≡ judge self.now slot number uid (head.now ++ tail.now) }
     {
-        self.slots.judge(slot, number, uid, args)
+        self.slots.judge(slot, number, uid, head, tail)
     }
 
     /// The reply that slot `slot` keeps, from the status of its COMPOUND on; none where it keeps nothing. With the RPC
@@ -69,11 +70,11 @@ impl SessionSlots {
         self.slots.kept(slot)
     }
 
-    /// Keeps the reply to a request that was fresh and has run.
-    pub fn keep(&mut self, slot: u32, number: u32, uid: u32, args: &[u8], reply: &[u8])
-        requires { MayKeep self.old slot number uid args.now reply.now }
-        ensures { self.new ≡ keep self.old slot number uid args.now reply.now }
+    /// Keeps the reply to a request that was fresh and has run. Its argument bytes are `head` and behind it `tail`.
+    pub fn keep(&mut self, slot: u32, number: u32, uid: u32, head: &[u8], tail: &[u8], reply: &[u8])
+        requires { MayKeep self.old slot number uid (head.now ++ tail.now) reply.now }
+        ensures { self.new ≡ keep self.old slot number uid (head.now ++ tail.now) reply.now }
     {
-        self.slots.keep(slot, number, uid, args, reply);
+        self.slots.keep(slot, number, uid, head, tail, reply);
     }
 }

@@ -30,7 +30,8 @@ fn serve(
     reply: &[u8],
 ) -> Option<Verdict> {
     let slots = sessions.slots(id)?;
-    let verdict = slots.judge(0, number, 0, args);
+    let (head, tail) = args.split_at(args.len() / 2);
+    let verdict = slots.judge(0, number, 0, head, tail);
     let channel = slots.channel();
     if args.len() > channel.request as usize || reply.len() + 24 > channel.response as usize {
         return Some(verdict);
@@ -38,7 +39,7 @@ fn serve(
     let Verdict::Fresh = verdict else {
         return Some(verdict);
     };
-    sessions.keep(id, 0, number, 0, args, reply);
+    sessions.keep(id, 0, number, 0, head, tail, reply);
     Some(verdict)
 }
 

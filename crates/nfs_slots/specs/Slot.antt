@@ -4,7 +4,8 @@ use Rattle.std.specs.Option.{option_map_or}
 use Rattle.nfs_slots.specs.declared.slot.Verdict.{Verdict}
 use Rattle.nfs_slots.specs.declared.slot.Verdict.TheVariants.{Fresh, Again, FalseRetry, Misordered, NoSlot}
 
--- a slot: the number of its last request, whether it took one, and of that request the caller, the argument bytes and the reply
+-- a slot: the number of its last request, whether it took one, and of that request the caller, the argument bytes that a repeat is compared by, and the
+-- reply
 pub record SlotState : Type 0 where
   pub number : ℕ
   pub used : Bool

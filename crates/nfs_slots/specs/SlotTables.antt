@@ -10,7 +10,7 @@ use Rattle.nfs_slots.specs.declared.slot.Verdict.TheVariants.{Fresh, Again, Fals
 abbrev pub unused : ℕ → ℕ → ℕ → SlotTable
 unused count size request = record { slots = replicate count unused_slot; size = size; request = request }
 
--- the argument bytes that a slot keeps
+-- the argument bytes that a slot keeps, by which a repeat is compared
 abbrev pub kept_args : SlotTable → ℕ → List ℕ
 kept_args t slot = option_map_or (λ s. s.args) (slot_at t slot) []
 

@@ -1,11 +1,12 @@
 //! The slots of a session: a request number is run once, and its repeat is answered with the reply that was kept.
 //!
 //! A `Slots` is seen as a table of slots (`specs/Slot.antt`): each has the number of its last request,
-//! and of that request the caller, the argument bytes and the reply.
+//! and of that request the caller, the argument bytes that a repeat is compared by, and the reply. Which bytes those are
+//! is not known here: whoever calls leaves out what is not compared, and hands in what is before it and behind it.
 //!
 //! ```text
-//! match slots.judge(slot, number, uid, args) {
-//!     Verdict::Fresh => { let reply = run(args); slots.keep(slot, number, uid, args, reply); }
+//! match slots.judge(slot, number, uid, head, tail) {
+//!     Verdict::Fresh => { let reply = run(args); slots.keep(slot, number, uid, head, tail, reply); }
 //!     Verdict::Again => answer(slots.kept(slot)), ..
 //! }
 //! ```

@@ -1,6 +1,6 @@
 //! One slot: what it says of a request, and the reply that it keeps (RFC 8881 section 2.10.6.1).
 
-ghost use Rattle.std.specs.Prelude.{◌≡◌, ◌≤◌, Bool, true, false, [], length, IfOk, vec_capacity};
+ghost use Rattle.std.specs.Prelude.{◌≡◌, ◌≤◌, ◌++◌, Bool, true, false, [], length, IfOk, bytes_eq, vec_capacity};
 ghost use Rattle.nfs_slots.specs.Slot.{judge_slot, unused_slot};
 ghost use Rattle.nfs_slots.specs.SlotTables.{verdict_status};
 ghost use Rattle.nfs_slots.specs.Buffers.{state_of, HasRoom, IsWithinRoom};
@@ -64,9 +64,9 @@ impl Slot {
         })
     }
 
-    /// What the slot says of a request with this number, caller and argument bytes.
-    pub(crate) fn judge(&self, number: u32, uid: u32, args: &[u8]) -> Verdict
-        ensures { result ≡ judge_slot (state_of self.now) number uid args.now }
+    /// What the slot says of a request with this number and caller, whose argument bytes are `head` and behind it `tail`.
+    pub(crate) fn judge(&self, number: u32, uid: u32, head: &[u8], tail: &[u8]) -> Verdict
+        ensures { result ≡ judge_slot (state_of self.now) number uid (head.now ++ tail.now) }
     {
         if number == self.number.wrapping_add(1) {
             return Verdict::Fresh;
@@ -74,7 +74,7 @@ impl Slot {
         if !(self.used && number == self.number) {
             return Verdict::Misordered;
         }
-        if uid == self.uid && args == self.args.as_slice() {
+        if uid == self.uid && is_joined(&self.args, head, tail) {
             Verdict::Again
         } else {
             Verdict::FalseRetry
@@ -88,11 +88,12 @@ impl Slot {
         &self.reply
     }
 
-    /// Keeps a request and its reply in the room that was reserved, in the place of the one before.
-    pub(crate) fn keep(&mut self, number: u32, uid: u32, args: &[u8], reply: &[u8])
-        requires args { length args.now ≤ vec_capacity self.old.args }
+    /// Keeps a request and its reply in the room that was reserved, in the place of the one before. The argument bytes
+    /// are `head` and behind it `tail`.
+    pub(crate) fn keep(&mut self, number: u32, uid: u32, head: &[u8], tail: &[u8], reply: &[u8])
+        requires args { length (head.now ++ tail.now) ≤ vec_capacity self.old.args }
         requires reply { length reply.now ≤ vec_capacity self.old.reply }
-        ensures state { state_of self.new ≡ record { number = number; used = true; uid = uid; args = args.now; reply = reply.now } }
+        ensures state { state_of self.new ≡ record { number = number; used = true; uid = uid; args = head.now ++ tail.now; reply = reply.now } }
         ensures args_room { vec_capacity self.old.args ≤ vec_capacity self.new.args }
         ensures reply_room { vec_capacity self.old.reply ≤ vec_capacity self.new.reply }
     {
@@ -100,9 +101,20 @@ impl Slot {
         self.used = true;
         self.uid = uid;
         self.args.clear();
-        self.args.extend_from_slice(args).unwrap();
+        self.args.extend_from_slice(head).unwrap();
+        self.args.extend_from_slice(tail).unwrap();
         self.reply.clear();
         self.reply.extend_from_slice(reply).unwrap();
+    }
+}
+
+/// Whether these bytes are `head` and behind it `tail`.
+fn is_joined(bytes: &[u8], head: &[u8], tail: &[u8]) -> bool
+    ensures { result ≡ bytes_eq (head.now ++ tail.now) bytes.now }
+{
+    match bytes.split_at_checked(head.len()) {
+        Some((front, behind)) => head == front && tail == behind,
+        None => false,
     }
 }
 

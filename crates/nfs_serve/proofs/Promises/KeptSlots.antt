@@ -42,7 +42,7 @@ use Rattle.nfs_sessions.specs.SessionTables.{IsSessions}
 use Rattle.nfs_sessions.proofs.TableLemmas.{slots_changed, sessions_filtered}
 use Rattle.nfs_exec.specs.Machine.{Machine}
 use Rattle.nfs_exec.specs.Sequence as sequence
-use Rattle.nfs_exec.specs.Sequence.{Sequenced, Refuses, Repeats, Runs as RunsIn, unless, by_session, by_verdict, fresh_fault, slot_fault}
+use Rattle.nfs_exec.specs.Sequence.{compared, Sequenced, Refuses, Repeats, Runs as RunsIn, unless, by_session, by_verdict, fresh_fault, slot_fault}
 use Rattle.nfs_exec.specs.Compound.{in_session, by_first, compound}
 use Rattle.nfs_exec.specs.Laws.{if_runs, first_runs}
 use Rattle.nfs_exec.proofs.Numbering.{IsHeld}
@@ -50,7 +50,7 @@ use Rattle.nfs_serve.specs.Promises.Endpoint.{Place, Heading, Answer}
 use Rattle.nfs_serve.proofs.Promises.ServerLaws.{Runs, Repeats as RepeatsOn, IsElsewhere, KeepsSlots}
 use Rattle.nfs_exec.specs.Executing.{first_sequence, sequence_of, is_alone, executes}
 use Rattle.nfs_serve.specs.Step.{asked_of, State, Stepped, refused, answered, with_arguments, by_procedure, reply_to, step}
-use Rattle.nfs_serve.specs.Promises.Seen.{ReplyReader, IsSequenced, Bears, slot_in, ticked, executes_by, heading_of, heading_by, heading, seen, server}
+use Rattle.nfs_serve.specs.Promises.Seen.{ReplyReader, IsSequenced, Bears, slot_in, ticked, executes_by, heading_of, heading_in, heading_by, heading, seen, server}
 use Rattle.nfs_serve.proofs.Promises.Ticking.{step_is}
 use Rattle.nfs_exec.proofs.Quiet.{ran_in, quiet_compound, told_compound}
 use Rattle.nfs_serve.proofs.Promises.SlotsLeft.{slot_at, IsGiven, IsLeft, Stays, stands_given, held_sessions, held_given, held_slot, kept_slot, fewer_leaves, keep_there}
@@ -67,11 +67,11 @@ bytes_behind [] ys is = is
 bytes_behind (x ∷ xs) ys is = bytes_behind xs ys (record { each = λ i. is.each (suc i) })
 
 -- what an accepted call is known by
-record IsCall (call : Call) : Type 0 where
-  small : call.xid < 2 ^ 32
-  args : IsBytes call.args
+pub record IsCall (call : Call) : Type 0 where
+  pub small : call.xid < 2 ^ 32
+  pub args : IsBytes call.args
 
-taken : (bytes : List ℕ) (call : Call) → IsBytes bytes → call_of bytes ≡ Accepted call → IsCall call
+pub taken : (bytes : List ℕ) (call : Call) → IsBytes bytes → call_of bytes ≡ Accepted call → IsCall call
 taken bytes call fits e =
     let t = call_taken bytes call fits e in
     let whole = subst IsBytes t.3 fits in
@@ -88,14 +88,14 @@ request_is : (call : Call) (r : Request) → IsCall call → asked_of call call.
 request_is call r is e = request_takes call.args r is.args (asked_is call call.procedure r e)
 
 -- what a heading is read from
-record Heads (bytes : List ℕ) (h : Heading) : Type 0 where
-  call : Call
-  called : call_of bytes ≡ Accepted call
-  request : Request
-  asked : asked_of call call.procedure ≡ Some request
-  first : Sequence
-  begins : sequence_of request ≡ Some first
-  is : heading_of call first ≡ h
+pub record Heads (bytes : List ℕ) (h : Heading) : Type 0 where
+  pub call : Call
+  pub called : call_of bytes ≡ Accepted call
+  pub request : Request
+  pub asked : asked_of call call.procedure ≡ Some request
+  pub first : Sequence
+  pub begins : sequence_of request ≡ Some first
+  pub is : heading_of call request first ≡ h
 
 mapped_from : {A B : Type 0} (f : A → B) (o : Option A) (y : B) → option_map f o ≡ Some y → (x : A) × (o ≡ Some x) × (f x ≡ y)
 mapped_from f None y e = absurd cc
@@ -105,22 +105,22 @@ taken_from : {A B : Type 0} (f : A → Option B) (o : Option A) (y : B) → opti
 taken_from f None y e = absurd cc
 taken_from f (Some x) y e = (x, refl, e)
 
-heads : (bytes : List ℕ) (h : Heading) → heading bytes ≡ Some h → Heads bytes h
+pub heads : (bytes : List ℕ) (h : Heading) → heading bytes ≡ Some h → Heads bytes h
 heads bytes h e = by (call_of bytes) refl e
   where
     by : (c : Called) → call_of bytes ≡ c → heading_by c ≡ Some h → Heads bytes h
     by (Refused refusal) is e = absurd cc
     by (Accepted call) is e =
-        let (first, begins, same) = mapped_from (heading_of call) (option_and_then sequence_of (asked_of call call.procedure)) h e in
-        let (request, asked, begins) = taken_from sequence_of (asked_of call call.procedure) first begins in
+        let (request, asked, says) = taken_from (heading_in call) (asked_of call call.procedure) h e in
+        let (first, begins, same) = mapped_from (heading_of call request) (sequence_of request) h says in
         record { call = call; called = is; request = request; asked = asked; first = first; begins = begins; is = same }
 
 -- and back
 heading_from : (bytes : List ℕ) (call : Call) (r : Request) (s : Sequence) → call_of bytes ≡ Accepted call → asked_of call call.procedure ≡ Some r
-    → sequence_of r ≡ Some s → heading bytes ≡ Some (heading_of call s)
+    → sequence_of r ≡ Some s → heading bytes ≡ Some (heading_of call r s)
 heading_from bytes call r s called asked begins =
     ap heading_by called
-    ∙ (ap (λ (o : Option Request). option_map (heading_of call) (option_and_then sequence_of o)) asked ∙ ap (option_map (heading_of call)) begins)
+    ∙ (ap (option_and_then (heading_in call)) asked ∙ ap (option_map (heading_of call r)) begins)
 
 executes_is : (t : State) (size : ℕ) (bytes : List ℕ) (call : Call) (r : Request) → call_of bytes ≡ Accepted call → asked_of call call.procedure ≡ Some r
     → executes_by t size (call_of bytes) ≡ executes t.machine r call.who size
@@ -134,7 +134,7 @@ answered_is : (t : State) (call : Call) (size : ℕ) (choice : Option ℕ) (r : 
 answered_is t call size choice r Procedures.Null e = absurd cc
 answered_is t call size choice r Procedures.Compound e = ap (with_arguments t call size choice) e
 
-stepped_is : (s : State) (bytes : List ℕ) (now : ℕ) (choice : Option ℕ) (call : Call) (r : Request) → call_of bytes ≡ Accepted call
+pub stepped_is : (s : State) (bytes : List ℕ) (now : ℕ) (choice : Option ℕ) (call : Call) (r : Request) → call_of bytes ≡ Accepted call
     → asked_of call call.procedure ≡ Some r
     → step s bytes now choice ≡ answered (ticked s now) call.xid (compound (ticked s now).machine r call.who (length bytes) (ticked s now).moment choice)
 stepped_is s bytes now choice call r called asked =
@@ -161,7 +161,7 @@ reply_holds P t size choice (Accepted call) is does = by_call call.procedure (λ
     by_call Procedures.Null f = is
     by_call Procedures.Compound f = by_request (request_at call.args) f
 
-step_holds : (P : SessionTable → Type 0) (s : State) (bytes : List ℕ) (now : ℕ) (choice : Option ℕ) → P (ticked s now).machine.sessions
+pub step_holds : (P : SessionTable → Type 0) (s : State) (bytes : List ℕ) (now : ℕ) (choice : Option ℕ) → P (ticked s now).machine.sessions
     → ((call : Call) (r : Request) → call_of bytes ≡ Accepted call → asked_of call call.procedure ≡ Some r
     → P (compound (ticked s now).machine r call.who (length bytes) (ticked s now).moment choice).machine.sessions)
     → P (step s bytes now choice).state.machine.sessions
@@ -169,8 +169,8 @@ step_holds P s bytes now choice is does =
     subst (λ (x : Stepped). P x.state.machine.sessions) (sym (step_is s bytes now choice)) (reply_holds P (ticked s now) (length bytes) choice (call_of bytes) is does)
 
 -- behind a compound, whether it runs or not
-compound_holds : (P : SessionTable → Type 0) → IsHeld P → (m : Machine) (r : Request) (who : Caller) (size now : ℕ) (choice : Option ℕ)
-    → ((s : Sequence) (text : List ℕ) → ran_in m r who size ≡ Some s → P (keep m.sessions (id_of s.sessionid) s.slotid s.sequenceid who.uid r.bytes text))
+pub compound_holds : (P : SessionTable → Type 0) → IsHeld P → (m : Machine) (r : Request) (who : Caller) (size now : ℕ) (choice : Option ℕ)
+    → ((s : Sequence) (text : List ℕ) → ran_in m r who size ≡ Some s → P (keep m.sessions (id_of s.sessionid) s.slotid s.sequenceid who.uid (compared r) text))
     → P m.sessions → P (compound m r who size now choice).machine.sessions
 compound_holds P held m r who size now choice runs is = by (ran_in m r who size) refl
   where
@@ -186,7 +186,7 @@ step_sound s bytes now choice is =
     let ticked_is = sessions_filtered s.machine.sessions (λ (x : Session). not (has_run_out s.machine.leases t.moment x.client)) is in
     step_holds IsSessions s bytes now choice ticked_is (λ call r called asked.
     compound_holds IsSessions held_sessions t.machine r call.who (length bytes) t.moment choice
-    (λ q text ran. slots_changed t.machine.sessions (id_of q.sessionid) (λ g. slots.keep g q.slotid q.sequenceid call.who.uid r.bytes text) ticked_is)
+    (λ q text ran. slots_changed t.machine.sessions (id_of q.sessionid) (λ g. slots.keep g q.slotid q.sequenceid call.who.uid (compared r) text) ticked_is)
     ticked_is)
 
 stays_given : (s : State) (bytes : List ℕ) (now : ℕ) (choice : Option ℕ) (p : Place) → IsGiven p.session s.machine.sessions
@@ -248,7 +248,7 @@ leaves reader mode instance lease s bytes now choice p is given elsewhere =
     let ticked_is : P t.machine.sessions = held.fewer s.machine.sessions (λ (x : Session). not (has_run_out s.machine.leases t.moment x.client)) before in
     (step_holds P s bytes now choice ticked_is (λ call r called asked.
     compound_holds P held t.machine r call.who (length bytes) t.moment choice
-    (λ q text ran. kept_slot p.session p.slot x t.machine.sessions (id_of q.sessionid) q.slotid q.sequenceid call.who.uid r.bytes text
+    (λ q text ran. kept_slot p.session p.slot x t.machine.sessions (id_of q.sessionid) q.slotid q.sequenceid call.who.uid (compared r) text
     (apart call r q called asked ran) ticked_is)
     ticked_is)).left
   where
@@ -256,10 +256,10 @@ leaves reader mode instance lease s bytes now choice p is given elsewhere =
         → ran_in (ticked s now).machine r call.who (length bytes) ≡ Some q → (p.session ≡ id_of q.sessionid) × (p.slot ≡ q.slotid) → ⊥
     apart call r q called asked ran same =
         let did = ran_executes (ticked s now).machine r call.who (length bytes) q ran in
-        let place : (heading_of call q).place ≡ p =
+        let place : (heading_of call r q).place ≡ p =
         ap (λ i. let y : Place = record { session = i; slot = q.slotid } in y) (sym same.0)
         ∙ ap (λ k. let y : Place = record { session = p.session; slot = k } in y) (sym same.1) in
-        elsewhere (heading_of call q) (heading_from bytes call r q called asked did.0)
+        elsewhere (heading_of call r q) (heading_from bytes call r q called asked did.0)
         (executes_is (ticked s now) (length bytes) bytes call r called asked ∙ did.1) place
 
 -- A fresh request.
@@ -270,7 +270,7 @@ judged v None n uid args some e = absurd (some (sym e))
 judged v (Some x) n uid args some e = (x, refl, e)
 
 -- a slot that stands behind expiry stood before
-stood : (s : State) (now : ℕ) (p : Place) (x : SlotState) → IsSessions s.machine.sessions
+pub stood : (s : State) (now : ℕ) (p : Place) (x : SlotState) → IsSessions s.machine.sessions
     → slot_at (ticked s now).machine.sessions p.session p.slot ≡ Some x → slot_at s.machine.sessions p.session p.slot ≡ Some x
 stood s now p x is e =
     let before = slot_at s.machine.sessions p.session p.slot in
@@ -283,36 +283,34 @@ stood s now p x is e =
 runs_for : (reader : ReplyReader) (mode instance lease : ℕ) (s : State) (bytes : List ℕ) (now : ℕ) (choice : Option ℕ) (call : Call) (r : Request) (q : Sequence)
     → IsBytes bytes → IsSessions s.machine.sessions → call_of bytes ≡ Accepted call → asked_of call call.procedure ≡ Some r → sequence_of r ≡ Some q
     → executes_by (ticked s now) (length bytes) (call_of bytes) ≡ true
-    → Runs (server reader.find mode instance lease) s (heading_of call q) (seen reader.find (step s bytes now choice))
+    → Runs (server reader.find mode instance lease) s (heading_of call r q) (seen reader.find (step s bytes now choice))
 runs_for reader mode instance lease s bytes now choice call r q fits is called asked begins does =
     let t = ticked s now in
     let size = length bytes in
     let id = id_of q.sessionid in
     let known = taken bytes call fits called in
     let request = request_is call r known asked in
-    let whole = request.whole in
     let ran = runs_here t.machine r call.who size q begins (sym (executes_is t size bytes call r called asked) ∙ does) in
     let told = told_compound t.machine r call.who size t.moment choice q ran in
     let a = compound t.machine r call.who size t.moment choice in
     let did = stepped_is s bytes now choice call r called asked in
-    let at = judged slot.Fresh (slice_get told.session.slots.slots q.slotid) q.sequenceid call.who.uid r.bytes (λ k. cc) told.fresh in
+    let at = judged slot.Fresh (slice_get told.session.slots.slots q.slotid) q.sequenceid call.who.uid (compared r) (λ k. cc) told.fresh in
     let here : slot_at t.machine.sessions id q.slotid ≡ Some at.0 = ap (slot_in q.slotid) told.there ∙ at.1 in
     let sound : IsSessions t.machine.sessions = sessions_filtered s.machine.sessions (λ (x : Session). not (has_run_out s.machine.leases t.moment x.client)) is in
     record {
       slot = at.0;
       stands = stood s now (record { session = id; slot = q.slotid }) at.0 is here;
-      fresh = ap (judge_slot at.0 q.sequenceid call.who.uid) (sym whole) ∙ at.2;
+      fresh = at.2;
       result = a.text;
       answer = ap (λ (y : Stepped). (seen reader.find y).answer) did ∙ answer_found reader call.xid a.text known.small;
       numbered = numbered_compound t.machine r call.who size t.moment choice q request.head.tag_fits (sequence_fits call.args r q request begins) ran;
       keeps =
           ap (λ (y : Stepped). slot_at y.state.machine.sessions id q.slotid) did
           ∙ (ap (λ (k : SessionTable). slot_at k id q.slotid) told.kept
-          ∙ (keep_there t.machine.sessions id q.slotid q.sequenceid call.who.uid r.bytes a.text at.0 sound here
-          ∙ ap (λ (args : List ℕ). let y : Option SlotState = Some (record { number = q.sequenceid; used = true; uid = call.who.uid; args = args; reply = a.text }) in y) whole));
+          ∙ keep_there t.machine.sessions id q.slotid q.sequenceid call.who.uid (compared r) a.text at.0 sound here);
     }
 
-runs : (reader : ReplyReader) (mode instance lease : ℕ) (s : State) (bytes : List ℕ) (now : ℕ) (choice : Option ℕ) (h : Heading) → IsBytes bytes → IsSessions s.machine.sessions
+pub runs : (reader : ReplyReader) (mode instance lease : ℕ) (s : State) (bytes : List ℕ) (now : ℕ) (choice : Option ℕ) (h : Heading) → IsBytes bytes → IsSessions s.machine.sessions
     → heading bytes ≡ Some h → executes_by (ticked s now) (length bytes) (call_of bytes) ≡ true
     → Runs (server reader.find mode instance lease) s h (seen reader.find (step s bytes now choice))
 runs reader mode instance lease s bytes now choice h fits is e does =
@@ -348,7 +346,7 @@ bad_session : (r : Request) (who : Caller) (size : ℕ) (s : Sequence) (found : 
 bad_session r who size s None status e = is_refused BadSession status refl e
 bad_session r who size s (Some x) status e =
     let c = x.slots.channel in
-    let v = judge x.slots s.slotid s.sequenceid who.uid r.bytes in
+    let v = judge x.slots s.slotid s.sequenceid who.uid (compared r) in
     bad_unless (slot_fault s c) (by_verdict r size s x.slots v) status
     (λ y is. bad_of_two (nat_le c.slots s.slotid) (nat_le c.slots s.highest_slotid) BadSlot BadHighSlot y refl refl is)
     (bad_verdict r size s x.slots v status) e
@@ -369,10 +367,10 @@ again_slot r size s g reply None slot.Misordered e = absurd cc
 again_slot r size s g reply None slot.NoSlot e = absurd cc
 
 again_session : (r : Request) (who : Caller) (size : ℕ) (s : Sequence) (found : Option Session) (reply : List ℕ) → by_session r who size s found ≡ Repeats reply
-    → (session : Session) × (found ≡ Some session) × (judge session.slots s.slotid s.sequenceid who.uid r.bytes ≡ slot.Again) × (reply ≡ kept session.slots s.slotid)
+    → (session : Session) × (found ≡ Some session) × (judge session.slots s.slotid s.sequenceid who.uid (compared r) ≡ slot.Again) × (reply ≡ kept session.slots s.slotid)
 again_session r who size s None reply e = absurd cc
 again_session r who size s (Some session) reply e =
-    let again = again_slot r size s session.slots reply (slot_fault s session.slots.channel) (judge session.slots s.slotid s.sequenceid who.uid r.bytes) e in
+    let again = again_slot r size s session.slots reply (slot_fault s session.slots.channel) (judge session.slots s.slotid s.sequenceid who.uid (compared r)) e in
     (session, refl, again.0, again.1)
 
 -- what a good SEQUENCE answers that does not run
@@ -425,7 +423,7 @@ told_answer reader s bytes now choice call r a fits called asked e =
 repeats_for : (reader : ReplyReader) (mode instance lease : ℕ) (s : State) (bytes : List ℕ) (now : ℕ) (choice : Option ℕ) (call : Call) (r : Request) (q : Sequence) (a : Answer)
     → IsBytes bytes → IsSessions s.machine.sessions → call_of bytes ≡ Accepted call → asked_of call call.procedure ≡ Some r → sequence_of r ≡ Some q
     → executes_by (ticked s now) (length bytes) (call_of bytes) ≡ false → (seen reader.find (step s bytes now choice)).answer ≡ Some a → sequenced a.result ≡ true
-    → RepeatsOn (server reader.find mode instance lease) s (heading_of call q) a.result
+    → RepeatsOn (server reader.find mode instance lease) s (heading_of call r q) a.result
 repeats_for reader mode instance lease s bytes now choice call r q a fits is called asked begins idle e good =
     let t = ticked s now in
     let size = length bytes in
@@ -436,13 +434,13 @@ repeats_for reader mode instance lease s bytes now choice call r q a fits is cal
     let again = compound_again t.machine r call.who size t.moment choice q request.head.tag_fits begins
     (sym (executes_is t size bytes call r called asked) ∙ idle) (ap sequenced (sym said.1) ∙ good) in
     let found = again_session r call.who size q (session_at t.machine.sessions id) again.reply again.verdict in
-    let at = judged slot.Again (slice_get found.0.slots.slots q.slotid) q.sequenceid call.who.uid r.bytes (λ k. cc) found.2 in
+    let at = judged slot.Again (slice_get found.0.slots.slots q.slotid) q.sequenceid call.who.uid (compared r) (λ k. cc) found.2 in
     let here : slot_at t.machine.sessions id q.slotid ≡ Some at.0 = ap (slot_in q.slotid) found.1 ∙ at.1 in
     let reply : again.reply ≡ at.0.reply = found.3 ∙ ap (λ (o : Option SlotState). option_map_or (λ (y : SlotState). y.reply) o []) at.1 in
     record {
       slot = at.0;
       stands = stood s now (record { session = id; slot = q.slotid }) at.0 is here;
-      again = ap (judge_slot at.0 q.sequenceid call.who.uid) (sym request.whole) ∙ at.2;
+      again = at.2;
       kept = said.1 ∙ (again.text_is ∙ reply);
     }
 
@@ -469,15 +467,15 @@ refused_mute reader t (Auth xid stat) = refusal_found reader (Auth xid stat)
 refused_mute reader t (Accept xid stat) = refusal_found reader (Accept xid stat)
 
 -- no heading, so no SEQUENCE in front
-no_first : (call : Call) (o : Option Sequence) → option_map (heading_of call) o ≡ None → o ≡ None
-no_first call None e = refl
-no_first call (Some s) e = absurd cc
+no_first : (call : Call) (r : Request) (o : Option Sequence) → option_map (heading_of call r) o ≡ None → o ≡ None
+no_first call r None e = refl
+no_first call r (Some s) e = absurd cc
 
 no_answer : (o : Option Answer) (a : Answer) → o ≡ None → o ≡ Some a → ⊥
 no_answer o a none some = let e : None ≡ Some a = sym none ∙ some in absurd cc
 
 call_mute : (reader : ReplyReader) (t : State) (size : ℕ) (choice : Option ℕ) (call : Call) (a : Answer) (p : Procedure) → IsCall call
-    → option_map (heading_of call) (option_and_then sequence_of (asked_of call p)) ≡ None
+    → option_and_then (heading_in call) (asked_of call p) ≡ None
     → (seen reader.find (by_procedure t call size choice p)).answer ≡ Some a → sequenced a.result ≡ false
 call_mute reader t size choice call a Procedures.Null known none e =
     let is : Some (record { xid = call.xid; result = [] }) ≡ Some a =
@@ -485,7 +483,7 @@ call_mute reader t size choice call a Procedures.Null known none e =
     ap sequenced (ap (λ (a : Answer). a.result) (sym (same_Some (record { xid = call.xid; result = [] }) a is)))
 call_mute reader t size choice call a Procedures.Compound known none e = by (request_at call.args) refl none e
   where
-    by : (o : Option Request) → request_at call.args ≡ o → option_map (heading_of call) (option_and_then sequence_of o) ≡ None
+    by : (o : Option Request) → request_at call.args ≡ o → option_and_then (heading_in call) o ≡ None
         → (seen reader.find (with_arguments t call size choice o)).answer ≡ Some a → sequenced a.result ≡ false
     by None is none e = absurd (no_answer _ a (refused_mute reader t (Accept call.xid GarbageArgs)) e)
     by (Some r) is none e =
@@ -494,7 +492,7 @@ call_mute reader t size choice call a Procedures.Compound known none e = by (req
         let same : Some (record { xid = call.xid; result = text }) ≡ Some a = sym (answer_found reader call.xid text known.small) ∙ e in
         ap sequenced (ap (λ (a : Answer). a.result) (sym (same_Some (record { xid = call.xid; result = text }) a same)))
         ∙ mute_compound t.machine r call.who size t.moment choice (record { bytes = call.args; request = request }) request.head.tag_fits
-        (no_first call (sequence_of r) none)
+        (no_first call r (sequence_of r) none)
 
 no_sequence : (reader : ReplyReader) (s : State) (bytes : List ℕ) (now : ℕ) (choice : Option ℕ) (a : Answer) → IsBytes bytes → heading bytes ≡ None
     → (seen reader.find (step s bytes now choice)).answer ≡ Some a → sequenced a.result ≡ false

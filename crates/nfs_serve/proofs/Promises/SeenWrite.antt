@@ -79,7 +79,7 @@ happens = (
                   small = omega arith;
                 },
                 (
-                  inr (inl refl),
+                  inr (inr (inl refl)),
                   (
                     inl refl,
                     (record { place = inr (inl refl); caller = 8; sent = inl refl; waits = λ e. cc; last = ([], refl); numbered = read_bears }, tt),
@@ -110,7 +110,7 @@ computed_seen = record {
   answers = computed.2;
   alike = is_atomic.one_list;
   order = subst (λ (records : List Arrival). RunsBehind (here found) (start found).machine records (slot_of 1) written (slot_of 2) read) computed.1
-      (is_atomic.in_time front middle back (slot_of 1) write (record { xid = 16; result = written.result }) (packet 2 read) refl);
+      (is_atomic.in_time front middle back (slot_of 1) write (record { xid = 16; result = written.result }) (packet 2 1 read) refl);
 }
   where
     front : List NetworkEvent
@@ -120,7 +120,7 @@ computed_seen = record {
     middle = map (Asks 8) joins
 
     back : List NetworkEvent
-    back = Arrives (packet 1 write) 109 None ∷ Arrives (packet 2 read) 110 None ∷ accepts 2 seen ∷ []
+    back = Arrives (packet 1 1 write) 109 None ∷ Arrives (packet 2 1 read) 110 None ∷ accepts 2 seen ∷ []
 
 pub is_seen : (reader : ReplyReader) → IsSeen reader.find
 is_seen reader = subst IsSeen (found_by reader) computed_seen

@@ -23,7 +23,7 @@ use Rattle.nfs_serve.specs.Promises.Seen.{slot_in}
 
 -- In a rising list, what is found of one number is found behind a filter too, or nothing is.
 
-found_fewer : {X : Type 0} (number : X → ℕ) (n low high : ℕ) (p q : X → Bool) (xs : List X) → ((x : X) → p x ≡ true → number x ≡ n)
+pub found_fewer : {X : Type 0} (number : X → ℕ) (n low high : ℕ) (p q : X → Bool) (xs : List X) → ((x : X) → p x ≡ true → number x ≡ n)
     → IsRising number low xs high → (find p (filter q xs) ≡ find p xs) ⊎ (find p (filter q xs) ≡ None)
 found_fewer {X} number n low high p q xs only rising = elim (some_or_none (find p xs)) [
   | inr none ↦ inr (find_none_kept p q xs none)

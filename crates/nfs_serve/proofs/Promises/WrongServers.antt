@@ -4,10 +4,10 @@ use Rattle.std.proofs.lemmas.Bool.{cases_Bool, true≢false}
 use Rattle.nfs_xdr.specs.Text.{IsBytes}
 use Rattle.nfs_slots.specs.declared.slot.Verdict.{Verdict}
 use Rattle.nfs_slots.specs.declared.slot.Verdict.TheVariants.{Fresh, Again, FalseRetry, Misordered, NoSlot}
-use Rattle.nfs_serve.specs.Promises.Endpoint.{Place, Heading, Compound, Answer, SlotNumber, Stepped}
+use Rattle.nfs_serve.specs.Promises.Endpoint.{Place, Heading, Compound, Answer, SlotNumber, Stepped, Arrival}
 use Rattle.nfs_serve.specs.Promises.Network.{Callers, Packet, RanCompound, NetworkEvent, Sends, Arrives, Accepts, begins, same_place}
 use Rattle.nfs_serve.specs.Promises.Numbered.{Happens}
-use Rattle.nfs_serve.specs.Promises.WrongServers.{Small, place, heading, spell, judged, is_fresh, by_verdict, taken, executes, runs_repeats, says_one, LawsRefuse}
+use Rattle.nfs_serve.specs.Promises.WrongServers.{Small, place, heading, spell, arguments, judged, is_fresh, by_verdict, taken, executes, runs_repeats, says_one, compares_all, LawsRefuse}
 use Rattle.nfs_serve.proofs.Promises.ServerLaws.{KeepsSlots, Runs, Repeats}
 use Rattle.nfs_serve.proofs.Promises.NetworkLines.{same_place_is, same_place_self}
 use Rattle.nfs_serve.proofs.Promises.NetworkEvents.{exactly_once_by_number}
@@ -15,10 +15,10 @@ use Rattle.nfs_serve.proofs.Promises.NetworkEvents.{exactly_once_by_number}
 -- The first server keeps its slots as it should.
 
 abbrev by : Small → Heading → Verdict → Stepped Small
-by s h v = by_verdict (λ p. p) (λ ran number. ran ++ number ∷ []) s h v
+by s h v = by_verdict arguments (λ p. p) (λ ran number. ran ++ number ∷ []) s h v
 
 abbrev step : Small → Option Heading → Stepped Small
-step s o = taken (λ p. p) (λ ran number. ran ++ number ∷ []) s o
+step s o = taken arguments (λ p. p) (λ ran number. ran ++ number ∷ []) s o
 
 is_some : {X : Type 0} (x y : X) → Some x ≡ Some y → x ≡ y
 is_some x y e = cc
@@ -30,7 +30,7 @@ same_xid s h a FalseRetry e = absurd cc
 same_xid s h a Misordered e = absurd cc
 same_xid s h a NoSlot e = absurd cc
 
-runs : (s : Small) (h : Heading) (v : Verdict) → judged s h ≡ v → is_fresh v ≡ true → Runs runs_repeats s h (by s h v)
+runs : (s : Small) (h : Heading) (v : Verdict) → judged arguments s h ≡ v → is_fresh v ≡ true → Runs runs_repeats s h (by s h v)
 runs s h Fresh e is = record {
   slot = s.slots h.place;
   stands = refl;
@@ -45,7 +45,7 @@ runs s h FalseRetry e is = absurd (true≢false (sym is))
 runs s h Misordered e is = absurd (true≢false (sym is))
 runs s h NoSlot e is = absurd (true≢false (sym is))
 
-repeats : (s : Small) (h : Heading) (a : Answer) (v : Verdict) → judged s h ≡ v → is_fresh v ≡ false → (by s h v).answer ≡ Some a → Repeats runs_repeats s h a.result
+repeats : (s : Small) (h : Heading) (a : Answer) (v : Verdict) → judged arguments s h ≡ v → is_fresh v ≡ false → (by s h v).answer ≡ Some a → Repeats runs_repeats s h a.result
 repeats s h a Fresh e is told = absurd (true≢false is)
 repeats s h a Again e is told = record { slot = s.slots h.place; stands = refl; again = e; kept = ap (λ (a : Answer). a.result) (sym (is_some _ a told)) }
 repeats s h a FalseRetry e is told = absurd cc
@@ -66,9 +66,9 @@ leaves s h p NoSlot elsewhere = refl
 by_heading : (P : Option Heading → Type 0) (o : Option Heading) (h : Heading) → o ≡ Some h → P (Some h) → P o
 by_heading P o h e is = subst P (sym e) is
 
-stays : (s : Small) (p : Place) (o : Option Heading) → ((h : Heading) → o ≡ Some h → executes s o ≡ true → h.place ≡ p → ⊥) → Some ((step s o).state.slots p) ≡ Some (s.slots p)
+stays : (s : Small) (p : Place) (o : Option Heading) → ((h : Heading) → o ≡ Some h → executes arguments s o ≡ true → h.place ≡ p → ⊥) → Some ((step s o).state.slots p) ≡ Some (s.slots p)
 stays s p None elsewhere = refl
-stays s p (Some h) elsewhere = leaves s h p (judged s h) (λ is at. elsewhere h refl is at)
+stays s p (Some h) elsewhere = leaves s h p (judged arguments s h) (λ is at. elsewhere h refl is at)
 
 abbrev spelled : List ℕ → SlotNumber
 spelled (client ∷ counter ∷ slot ∷ number ∷ []) = record { place = record { session = record { client = client; counter = counter }; slot = slot }; number = number }
@@ -85,14 +85,14 @@ keeps_slots = record {
   step_sound = λ s bytes now choice sound. tt;
   stands = λ s p x sound e. tt;
   stays_given = λ s bytes now choice p given. tt;
-  same_xid = λ s bytes now choice h a fits reads. by_heading (λ (o : Option Heading). (step s o).answer ≡ Some a → a.xid ≡ h.xid) (heading bytes) h reads (same_xid s h a (judged s h));
+  same_xid = λ s bytes now choice h a fits reads. by_heading (λ (o : Option Heading). (step s o).answer ≡ Some a → a.xid ≡ h.xid) (heading bytes) h reads (same_xid s h a (judged arguments s h));
   no_sequence = λ s bytes now choice a fits reads told good. nothing s (heading bytes) a reads told;
   well_numbered = λ result n e. tt;
   one_number = λ result n m e f. one_spelled n m (sym e ∙ f);
   runs = λ s bytes now choice h fits sound reads.
-      by_heading (λ (o : Option Heading). executes s o ≡ true → Runs runs_repeats s h (step s o)) (heading bytes) h reads (runs s h (judged s h) refl);
+      by_heading (λ (o : Option Heading). executes arguments s o ≡ true → Runs runs_repeats s h (step s o)) (heading bytes) h reads (runs s h (judged arguments s h) refl);
   repeats = λ s bytes now choice h a fits sound reads idle told good.
-      by_heading (λ (o : Option Heading). executes s o ≡ false → (step s o).answer ≡ Some a → Repeats runs_repeats s h a.result) (heading bytes) h reads (repeats s h a (judged s h) refl) idle told;
+      by_heading (λ (o : Option Heading). executes arguments s o ≡ false → (step s o).answer ≡ Some a → Repeats runs_repeats s h a.result) (heading bytes) h reads (repeats s h a (judged arguments s h) refl) idle told;
   leaves = λ s bytes now choice p sound given elsewhere. inl (stays s p (heading bytes) elsewhere);
 }
   where
@@ -102,14 +102,15 @@ keeps_slots = record {
 
 -- The runs.
 
-three_bytes : (a b c : ℕ) → a < 256 → b < 256 → c < 256 → IsBytes (a ∷ b ∷ c ∷ [])
-three_bytes a b c x y z = record { each = each }
+four_bytes : (a b c d : ℕ) → a < 256 → b < 256 → c < 256 → d < 256 → IsBytes (a ∷ b ∷ c ∷ d ∷ [])
+four_bytes a b c d w x y z = record { each = each }
   where
-    each : (i : ℕ) → get_or (a ∷ b ∷ c ∷ []) i 0 < 256
-    each zero = x
-    each (suc zero) = y
-    each (suc (suc zero)) = z
-    each (suc (suc (suc i))) = omega arith
+    each : (i : ℕ) → get_or (a ∷ b ∷ c ∷ d ∷ []) i 0 < 256
+    each zero = w
+    each (suc zero) = x
+    each (suc (suc zero)) = y
+    each (suc (suc (suc zero))) = z
+    each (suc (suc (suc (suc i)))) = omega arith
 
 abbrev callers : Callers
 callers = record { places = place 1 ∷ place 2 ∷ []; who = λ p. 7 }
@@ -118,7 +119,7 @@ abbrev compound : ℕ → Compound
 compound slot = record { number = 1; uid = 6; args = slot ∷ 1 ∷ [] }
 
 abbrev packet : (xid slot : ℕ) → Packet
-packet xid slot = record { bytes = xid ∷ slot ∷ 1 ∷ []; heading = record { xid = xid; place = place slot; compound = compound slot } }
+packet xid slot = record { bytes = xid ∷ slot ∷ 1 ∷ 4 ∷ []; heading = record { xid = xid; place = place slot; compound = compound slot; highest = 4 } }
 
 -- a compound is sent, and its packet comes twice
 abbrev twice : List NetworkEvent
@@ -127,7 +128,7 @@ twice = Sends (packet 8 1) ∷ Arrives (packet 8 1) 0 None ∷ Arrives (packet 8
 twice_happens : Happens callers runs_repeats.new (begins runs_repeats runs_repeats.new) twice
 twice_happens = (
   record {
-    bytes = three_bytes 8 1 1 (omega arith) (omega arith) (omega arith);
+    bytes = four_bytes 8 1 1 4 (omega arith) (omega arith) (omega arith) (omega arith);
     reads = refl;
     place = inl refl;
     ready = λ none. inl (runs_repeats.new.slots (place 1), refl, refl, refl);
@@ -145,7 +146,7 @@ crossed = Sends (packet 8 1) ∷ Sends (packet 9 2) ∷ Arrives (packet 9 2) 0 N
 crossed_happens : Happens callers says_one.new (begins says_one says_one.new) crossed
 crossed_happens = (
   record {
-    bytes = three_bytes 8 1 1 (omega arith) (omega arith) (omega arith);
+    bytes = four_bytes 8 1 1 4 (omega arith) (omega arith) (omega arith) (omega arith);
     reads = refl;
     place = inl refl;
     ready = λ none. inl (says_one.new.slots (place 1), refl, refl, refl);
@@ -155,7 +156,7 @@ crossed_happens = (
   },
   (
     record {
-      bytes = three_bytes 9 2 1 (omega arith) (omega arith) (omega arith);
+      bytes = four_bytes 9 2 1 4 (omega arith) (omega arith) (omega arith) (omega arith);
       reads = refl;
       place = inr (inl refl);
       ready = λ none. inl (says_one.new.slots (place 2), refl, refl, refl);
@@ -170,6 +171,16 @@ crossed_happens = (
   ),
 )
 
+-- a compound runs on slot 1, and comes again with another highest slot
+abbrev again_with : ℕ → Arrival
+again_with highest = record { bytes = 8 ∷ 1 ∷ 1 ∷ highest ∷ []; now = 0; choice = None }
+
+abbrev heading_with : ℕ → Heading
+heading_with highest = record { xid = 8; place = place 1; compound = compound 1; highest = highest }
+
+no_answer : (a : Answer) → None ≡ Some a → ⊥
+no_answer a e = cc
+
 none_longer : (d : RanCompound) (rest : List RanCompound) → [] ≡ d ∷ rest → ⊥
 none_longer d rest e = cc
 
@@ -183,4 +194,8 @@ laws_refuse = record {
   another_slot = λ law.
       let told = (law [] callers crossed crossed_happens (place 1) (inl refl)).told in
       none_longer _ told.0 told.1;
+  refused_repeat = λ law.
+      no_answer _ (law [] (again_with 4) (again_with 5) (heading_with 4) (heading_with 5) _ _
+      (four_bytes 8 1 1 4 (omega arith) (omega arith) (omega arith) (omega arith)) refl refl
+      (four_bytes 8 1 1 5 (omega arith) (omega arith) (omega arith) (omega arith)) refl refl refl refl refl);
 }

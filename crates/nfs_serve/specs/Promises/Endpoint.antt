@@ -9,18 +9,20 @@ pub record Place : Type 0 where
   pub session : SessionId
   pub slot : ℕ
 
--- a compound that is sent on a slot: its number there (the sequence id of its SEQUENCE), its user, and its argument bytes, which are all
--- that stands behind the call's head
+-- a compound that is sent on a slot: its number there (the sequence id of its SEQUENCE), its user, and its argument bytes, which are all that stands behind
+-- the call's head, but for sa_highest_slotid: what differs in that field alone is one compound
 pub record Compound : Type 0 where
   pub number : ℕ
   pub uid : ℕ
   pub args : List ℕ
 
--- What a record says that is a call of COMPOUND, with minor version 1 and beginning with SEQUENCE: under which xid, on which slot, and what.
+-- What a record says that is a call of COMPOUND, with minor version 1 and beginning with SEQUENCE: under which xid, on which slot, what, and in
+-- sa_highest_slotid the highest slot that its caller has in use as it sends.
 pub record Heading : Type 0 where
   pub xid : ℕ
   pub place : Place
   pub compound : Compound
+  pub highest : ℕ
 
 -- a reply that says success: the xid, and the bytes behind the reply's head
 pub record Answer : Type 0 where

@@ -1,7 +1,8 @@
 -- A reply that is lost, worked by hand in words of four bytes (RFC 8881 sections 2.10.6.1, 18.35, 18.36 and 18.46). To a new server of
 -- instance 7 come EXCHANGE_ID and CREATE_SESSION of the owner `A`. Its caller sends two compounds on slot 1 of the session, each a SEQUENCE
--- alone. The reply to the second does not reach it; it sends that one again, under another xid, and accepts what comes.
-use Rattle.std.specs.Prelude.{◌≡◌, ℕ, ◌+◌, ◌*◌, ◌^◌, List, [], ◌∷◌, ◌++◌, Option, None}
+-- alone. The reply to the second does not reach it; it sends that one again, under another xid and with another highest slot, and accepts what
+-- comes.
+use Rattle.std.specs.Prelude.{◌≡◌, ℕ, ◌+◌, ◌*◌, ◌^◌, ◌==◌, if◌then◌else◌, List, [], ◌∷◌, ◌++◌, Option, None, take, drop}
 use Rattle.nfs_serve.specs.Promises.Exchanges.{words}
 use Rattle.nfs_serve.specs.Promises.Endpoint.{Place, Compound, Answer, Arrival, Server, ran}
 use Rattle.nfs_serve.specs.Promises.Network.{Callers, Packet, RanCompound, NetworkEvent, Sends, Resends, Arrives, Accepts, Schedule, IsUnused, Network, begins, ended}
@@ -34,12 +35,23 @@ place = record { session = record { client = 7 * 2 ^ 32 + 1; counter = 1 }; slot
 abbrev pub callers : Callers
 callers = record { places = place ∷ []; who = λ p. 9 }
 
--- SEQUENCE of the session with a number, on slot 1; the highest slot in use is 2, and nothing need be kept
+-- SEQUENCE of the session with a number, on slot 1, but for the highest slot in use; nothing need be kept
 abbrev pub compound : ℕ → Compound
-compound number = record { number = number; uid = 5; args = words (0 ∷ 1 ∷ 1 ∷ 53 ∷ 7 ∷ 1 ∷ 0 ∷ 1 ∷ number ∷ 1 ∷ 2 ∷ 0 ∷ []) }
+compound number = record { number = number; uid = 5; args = words (0 ∷ 1 ∷ 1 ∷ 53 ∷ 7 ∷ 1 ∷ 0 ∷ 1 ∷ number ∷ 1 ∷ 0 ∷ []) }
+
+-- and with that
+abbrev pub with_highest : ℕ → List ℕ → List ℕ
+with_highest highest args = take 40 args ++ (words (highest ∷ []) ++ drop 40 args)
+
+-- the highest slot in use as a call is sent: 3 under xid 5, else 2
+abbrev pub highest_by : (xid : ℕ) → ℕ
+highest_by xid = if xid == 5 then 3 else 2
 
 abbrev pub packet : (xid number : ℕ) → Packet
-packet xid number = record { bytes = call xid (compound number).args; heading = record { xid = xid; place = place; compound = compound number } }
+packet xid number = record {
+  bytes = call xid (with_highest (highest_by xid) (compound number).args);
+  heading = record { xid = xid; place = place; compound = compound number; highest = highest_by xid };
+}
 
 -- NFS4_OK, no tag, one operation: SEQUENCE, NFS4_OK, the session, the number, slot 1, slots to 3, twice, no flags
 abbrev pub answer : (xid number : ℕ) → Answer

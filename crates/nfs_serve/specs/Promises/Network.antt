@@ -127,7 +127,8 @@ pub record MaySend (s : Server) (callers : Callers) (net : Network s) (p : Packe
 abbrev pub IsLast : Compound → List Compound → Type 0
 IsLast compound sent = (before : List Compound) × (sent ≡ before ++ compound ∷ [])
 
--- It sends again, under an xid of its own or the same one, the compound that waits there: with the same number, user and argument bytes.
+-- It sends again, under an xid of its own or the same one, the compound that waits there: with the same number, user and argument bytes, but for
+-- sa_highest_slotid, which it says anew.
 pub record MayResend (s : Server) (callers : Callers) (net : Network s) (p : Packet) : Type 0 where
   pub bytes : IsBytes p.bytes
   pub reads : s.heading p.bytes ≡ Some p.heading

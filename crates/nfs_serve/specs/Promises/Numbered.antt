@@ -22,7 +22,7 @@ pub record CanSend (s : Server) (callers : Callers) (start : s.State) (net : Net
   pub number : p.heading.compound.number ≡ length (net.lines p.heading.place).sent + 1
   pub small : p.heading.compound.number < 2 ^ 32
 
--- It sends again the compound that waits there: with the same number, user and argument bytes.
+-- It sends again the compound that waits there: with the same number, user and argument bytes, but for sa_highest_slotid.
 pub record CanResend (s : Server) (callers : Callers) (net : Network s) (p : Packet) : Type 0 where
   pub bytes : IsBytes p.bytes
   pub reads : s.heading p.bytes ≡ Some p.heading

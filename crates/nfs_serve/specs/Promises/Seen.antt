@@ -10,11 +10,13 @@ use Rattle.nfs_rpc.specs.Wire.{opaque_auth}
 use Rattle.nfs_compound.specs.declared.session_args.Sequence.{Sequence}
 use Rattle.nfs_compound.specs.declared.op_num.OpNum.TheVariants as Num
 use Rattle.nfs_compound.specs.OpNum.{op_number}
+use Rattle.nfs_compound.specs.Request.{Request}
 use Rattle.nfs_results.specs.Wire.{text_of, ends}
 use Rattle.nfs_slots.specs.Slot.{SlotState}
 use Rattle.nfs_sessions.specs.Id.{id_of}
 use Rattle.nfs_sessions.specs.Sessions.{Session, session_at}
 use Rattle.nfs_exec.specs.Executing as requests
+use Rattle.nfs_exec.specs.Sequence.{compared}
 use Rattle.nfs_exec.specs.Expiry.{expired}
 use Rattle.nfs_serve.specs.Promises.Endpoint.{Heading, Answer, SlotNumber, Stepped as Seen, Server}
 use Rattle.nfs_serve.specs.Step.{State, Stepped, new_state, step, asked_of}
@@ -49,16 +51,21 @@ abbrev pub Bears : List ℕ → SlotNumber → Type 0
 Bears result n = (sessionid : List ℕ) × (n.place.session ≡ id_of sessionid)
     × Begins (front (sequence (fixed 16 sessionid then uint32 n.number then uint32 n.place.slot))) result
 
-abbrev pub heading_of : Call → Sequence → Heading
-heading_of call s = record {
+-- a compound is what a repeat is compared by
+abbrev pub heading_of : Call → Request → Sequence → Heading
+heading_of call r s = record {
   xid = call.xid;
   place = record { session = id_of s.sessionid; slot = s.slotid };
-  compound = record { number = s.sequenceid; uid = call.who.uid; args = call.args };
+  compound = record { number = s.sequenceid; uid = call.who.uid; args = compared r };
+  highest = s.highest_slotid;
 }
+
+abbrev pub heading_in : Call → Request → Option Heading
+heading_in call r = option_map (heading_of call r) (requests.sequence_of r)
 
 abbrev pub heading_by : Called → Option Heading
 heading_by (Refused refusal) = None
-heading_by (Accepted call) = option_map (heading_of call) (option_and_then requests.sequence_of (asked_of call call.procedure))
+heading_by (Accepted call) = option_and_then (heading_in call) (asked_of call call.procedure)
 
 -- what a record says that is a compound on a slot
 abbrev pub heading : List ℕ → Option Heading

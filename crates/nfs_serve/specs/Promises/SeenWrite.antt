@@ -1,14 +1,14 @@
 -- A write that is seen, worked by hand in words of four bytes (RFC 8881 sections 2.10.6, 18.13, 18.16, 18.22, 18.32 and 18.46). To a new server of
 -- instance 7 comes a client `A`, which makes a session and the file `f`, and writes four bytes to it on slot 1. The reply does not reach it; it
--- sends the write again, and accepts what comes. Then a client `B` comes, makes a session, and reads the file on slot 1 of that; a packet of the
+-- sends the write again, with another highest slot, and accepts what comes. Then a client `B` comes, makes a session, and reads the file on slot 1 of that; a packet of the
 -- write reaches the server once more before the read does. B is answered the four bytes. Both go by SEQUENCE's result, and each call has one xid.
-use Rattle.std.specs.Prelude.{◌≡◌, ℕ, ◌+◌, ◌*◌, ◌^◌, List, [], ◌∷◌, ◌++◌, map, Option, None}
+use Rattle.std.specs.Prelude.{◌≡◌, ℕ, ◌+◌, ◌*◌, ◌^◌, List, [], ◌∷◌, ◌++◌, map, Option, None, take, drop}
 use Rattle.nfs_serve.specs.Promises.Exchanges.{words}
 use Rattle.nfs_serve.specs.Promises.Endpoint.{Place, Compound, Answer, Arrival, Server, ran}
 use Rattle.nfs_serve.specs.Promises.Network.{Callers, Packet, RanCompound, NetworkEvent, Sends, Resends, Arrives, Asks, Accepts, Network, begins, ended}
 use Rattle.nfs_serve.specs.Promises.Numbered.{Happens}
 use Rattle.nfs_serve.specs.Promises.Seen.{server}
-use Rattle.nfs_serve.specs.Promises.LostReply.{call, exchange_id, create_session}
+use Rattle.nfs_serve.specs.Promises.LostReply.{call, exchange_id, create_session, with_highest}
 use Rattle.nfs_serve.specs.Promises.PerfectWire.{wire, done_on, IsAsOverAWire}
 use Rattle.nfs_serve.specs.Promises.RealTime.{RunsBehind}
 
@@ -47,14 +47,22 @@ slot_of client = record { session = record { client = 7 * 2 ^ 32 + client; count
 abbrev pub callers : Callers
 callers = record { places = slot_of 1 ∷ slot_of 2 ∷ []; who = λ p. 8 }
 
+-- these arguments but for the highest slot in use
+abbrev pub but_highest : List ℕ → List ℕ
+but_highest args = take 40 args ++ drop 44 args
+
 abbrev pub write : Compound
-write = record { number = 1; uid = 5; args = in_session 1 1 1 4 writes }
+write = record { number = 1; uid = 5; args = but_highest (in_session 1 1 1 4 writes) }
 
 abbrev pub read : Compound
-read = record { number = 1; uid = 5; args = in_session 2 1 1 4 reads }
+read = record { number = 1; uid = 5; args = but_highest (in_session 2 1 1 4 reads) }
 
-abbrev pub packet : (client : ℕ) → Compound → Packet
-packet client c = record { bytes = call 16 c.args; heading = record { xid = 16; place = slot_of client; compound = c } }
+-- with the highest slot in use as it is sent
+abbrev pub packet : (client highest : ℕ) → Compound → Packet
+packet client highest c = record {
+  bytes = call 16 (with_highest highest c.args);
+  heading = record { xid = 16; place = slot_of client; compound = c; highest = highest };
+}
 
 -- NFS4_OK, no tag, four operations: SEQUENCE, NFS4_OK, the session, number 1, slot 1, slots to 3, twice, no flags; PUTROOTFH and LOOKUP, NFS4_OK
 abbrev pub result : (client : ℕ) → List ℕ → List ℕ
@@ -72,7 +80,7 @@ abbrev pub accepts : (client : ℕ) → RanCompound → NetworkEvent
 accepts client d = Accepts (slot_of client) d.compound (record { xid = 16; result = d.result })
 
 abbrev pub first : List NetworkEvent
-first = Sends (packet 1 write) ∷ Arrives (packet 1 write) 105 None ∷ Resends (packet 1 write) ∷ Arrives (packet 1 write) 106 None ∷ accepts 1 written ∷ []
+first = Sends (packet 1 1 write) ∷ Arrives (packet 1 1 write) 105 None ∷ Resends (packet 1 3 write) ∷ Arrives (packet 1 3 write) 106 None ∷ accepts 1 written ∷ []
 
 abbrev pub joins : List Arrival
 joins = arrival 107 (call 16 (exchange_id 0x4200_0000)) ∷ arrival 108 (call 16 (create_session 2)) ∷ []
@@ -80,14 +88,14 @@ joins = arrival 107 (call 16 (exchange_id 0x4200_0000)) ∷ arrival 108 (call 16
 abbrev pub second : List NetworkEvent
 second =
     map (Asks 8) joins
-    ++ (Sends (packet 2 read) ∷ Arrives (packet 1 write) 109 None ∷ Arrives (packet 2 read) 110 None ∷ accepts 2 seen ∷ [])
+    ++ (Sends (packet 2 1 read) ∷ Arrives (packet 1 1 write) 109 None ∷ Arrives (packet 2 1 read) 110 None ∷ accepts 2 seen ∷ [])
 
 abbrev pub start : (find : List ℕ → Option Answer) → Network (here find)
 start find = begins (here find) (ran (here find) (here find).new before)
 
 -- what a perfect wire brings for these events: each compound once, at the moment at which it was taken
 abbrev pub brought : List Arrival
-brought = arrival 105 (packet 1 write).bytes ∷ joins ++ arrival 110 (packet 2 read).bytes ∷ []
+brought = arrival 105 (packet 1 1 write).bytes ∷ joins ++ arrival 110 (packet 2 1 read).bytes ∷ []
 
 -- These events may happen, and so meet the premises of `as_over_a_wire` and `atomic_in_real_time`. The wire brings each compound once, and the read
 -- runs after the write.

@@ -1,4 +1,4 @@
-use Rattle.std.proofs.Common.{ℕ, ◌≡◌, ◌-◌, ◌≤◌, List, length, take, drop, ap, sym, subst, ◌∙◌}
+use Rattle.std.proofs.Common.{ℕ, ◌≡◌, ◌-◌, ◌≤◌, List, ◌++◌, length, take, drop, ap, sym, subst, ◌∙◌}
 use Rattle.nfs_xdr.specs.Caller.{caller}
 use Rattle.nfs_compound.specs.Request.{Request}
 use Rattle.nfs_lease.specs.Renewals.{leases_of}
@@ -6,9 +6,11 @@ use Rattle.nfs_exec.specs.Machine.{Machine, machine_of}
 use Rattle.nfs_names.specs.Context.{begins}
 use Rattle.nfs_sessions.specs.Id.{id_of}
 use Rattle.nfs_exec.specs.Run.{behind_here}
+use Rattle.nfs_exec.specs.Sequence.{compared}
 use Rattle.nfs_exec.specs.Compound.{answers, begun, renewed, runs_behind}
 use Rattle.nfs_exec.specs.View.{Answers}
 use Rattle.nfs_exec.proofs.Behind.{run_sessions}
+use Rattle.nfs_exec.proofs.Judging.{joined}
 use Rattle.nfs_exec.proofs.Keeping.{starts_within, text_of, renewed_machine, kept_machine, may_keep}
 use Rattle.nfs_exec.proofs.tables.Tables.run_new.Goals as goal
 
@@ -37,9 +39,10 @@ keep-requires c =
     ∙ run_sessions channel.response (begun r s channel) c.args.now (behind_here choice) behind (begins (id_of s.sessionid).client who) r.left in
     let reply = ap (λ (xs : List ℕ). take (length xs - c.len-start.result) (drop c.len-start.result xs)) c.bytes.ensures
     ∙ text_of c.args.out.now c.put_run.new.out _ c.len-start.result did.put c.len-start.ensures.value in
-    let args : c.bytes-2.result.now ≡ r.bytes = c.bytes-2.ensures ∙ ap (λ (q : Request). q.bytes) c.put_run.ensures.same in
+    let args : c.ahead.result.now ++ c.behind.result.now ≡ compared r =
+    joined c.put_run.new.args c.ahead.result.now c.behind.result.now c.ahead.ensures c.behind.ensures ∙ ap compared c.put_run.ensures.same in
     may_keep c.put_run.new.self.sessions m.sessions r who c.requires.runs.0 s channel
-    c.from_bytes-id.result c.bytes-2.result.now _ _ c.args.out.now c.put_run.new.out
+    c.from_bytes-id.result (c.ahead.result.now ++ c.behind.result.now) _ _ c.args.out.now c.put_run.new.out
     sessions c.from_bytes-id.ensures.read c.requires.runs.1 c.requires.runs.2 args reply did.put c.put_run.ensures.fits
 
 pub returns-clause-answer : goal.returns-clause-answer
@@ -55,12 +58,14 @@ returns-clause-answer c =
     (machine_of c.put_run.new.self)) behind c.put_run.ensures.answer.1 in
     let ran = runs_behind (renewed m c.args.now s) r who c.args.now choice s c.args.channel.now r.left in
     let reply = ap (λ (xs : List ℕ). take (length xs - c.len-start.result) (drop c.len-start.result xs)) c.bytes.ensures
-    ∙ text_of c.args.out.now c.put_run.new.out (answers r ran).text c.len-start.result did.put c.len-start.ensures.value in (
+    ∙ text_of c.args.out.now c.put_run.new.out (answers r ran).text c.len-start.result did.put c.len-start.ensures.value in
+    let args : c.ahead.result.now ++ c.behind.result.now ≡ compared r =
+    joined c.put_run.new.args c.ahead.result.now c.behind.result.now c.ahead.ensures c.behind.ensures ∙ ap compared c.put_run.ensures.same in (
       choice,
       record {
         put = did.put;
         machine = kept_machine (machine_of c.put_run.new.self) ran.machine r who s
-            (answers r ran).text c.from_bytes-id.result c.keep.new.self c.bytes-2.result.now _
-            c.from_bytes-id.ensures.read c.keep.ensures (c.bytes-2.ensures ∙ ap (λ (q : Request). q.bytes) c.put_run.ensures.same) reply did.machine;
+            (answers r ran).text c.from_bytes-id.result c.keep.new.self (c.ahead.result.now ++ c.behind.result.now) _
+            c.from_bytes-id.ensures.read c.keep.ensures args reply did.machine;
       },
     )
