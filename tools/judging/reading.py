@@ -1,5 +1,6 @@
 """The records of a capture, and those of a script of `nfs41d replay` and its output, for the judge. A stream in which bytes are lacking goes on with
 the next record that can be found."""
+import collections
 from typing import NamedTuple
 
 import nfs4
@@ -161,17 +162,20 @@ def lacking(link, segment):
 
 def read_script(judge, script, output):
     """A script and its output: a place is the number of a call."""
-    answers, at, place = list(nfs4.replies(output)), 0, 0
+    answers, at, place, ends = list(nfs4.replies(output)), 0, 0, collections.Counter()
     for moment, connection, data in nfs4.whole_calls(script):
+        # a connection that was closed is another one the next time
+        name = connection, ends[connection]
         while at < len(answers) and answers[at][1] is None:
             at += 1
         if data is None:
-            judge.ended(moment, connection, place)
+            judge.ended(moment, name, place)
+            ends[connection] += 1
             continue
         place += 1
-        judge.record(moment, connection, True, data, place)
+        judge.record(moment, name, True, data, place)
         if at < len(answers) and answers[at][0] == connection and answers[at][1] and answers[at][1][:4] == data[:4]:
-            judge.record(moment, connection, False, answers[at][1], place)
+            judge.record(moment, name, False, answers[at][1], place)
             at += 1
     judge.finish()
     return len(answers) - at

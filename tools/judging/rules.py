@@ -25,7 +25,7 @@ RULES = {
     "refused-number": Rule("2.10.6.1.2", ONCE, "A number whose SEQUENCE was refused goes on with the same compound."),
     "numbers": Rule("2.10.6.1", ONCE, "The numbers of a slot begin at 1 and go up by one."),
     "other-reply": Rule("18.46.3", ONCE, "A reply is taken whose SEQUENCE has the session, the slot and the number of the compound."),
-    "one-xid": Rule("2.10.6.2 and RFC 5531 section 9", (), "An xid is used for one compound."),
+    "one-xid": Rule("2.10.6.2 and of RFC 5531 section 9", (), "An xid is used for one compound."),
     "still-connected": Rule("2.10.6.2", (), "A compound is sent again only if the connection of its last sending has ended."),
     # sessions
     "slot-beyond": Rule("18.46.3", (), "Slots, and sa_highest_slotid, are below the number of slots that CREATE_SESSION gave."),

@@ -12,10 +12,9 @@ def listed(names):
 
 
 def headline(name):
-    """A rule with its section and what it is a premise of."""
+    """A rule with its section, and the promises of which it is a premise."""
     rule = RULES[name]
-    premise = f"a premise of {listed(rule.premise_of)}" if rule.premise_of else "a premise of no promise"
-    return f"{name}: {rule.says} (RFC 8881 section {rule.section}; {premise})"
+    return [f"{name} (RFC 8881 section {rule.section}): {rule.says}"] + ([f"  a premise of {listed(rule.premise_of)}"] if rule.premise_of else [])
 
 
 def line(finding, unit):
@@ -28,7 +27,8 @@ def client_line(judge, client):
     slots = [slot for session in judge.sessions.values() if session.client is client for slot in session.slots.values()]
     count, again, moved = (sum(getattr(slot, name) for slot in slots) for name in ("count", "again", "moved"))
     used = sum(slot.count > 0 for slot in slots)
-    text = f"client {client.name}{f' ({client.owner})' if client.owner else ''}: {count} compounds on {used} slot{'s' * (used != 1)}"
+    owner = f" ({client.owner.replace('%20', ' ')})" if client.owner else ""
+    text = f"client {client.name}{owner}: {count} compounds on {used} slot{'s' * (used != 1)}"
     if again:
         text += f"; {again} sent again, {moved} of them with another sa_highest_slotid, as RFC 8881 section 2.10.6.1 lets it move"
     if client.longest:
@@ -42,7 +42,7 @@ def of_client(judge, client, unit, has_all):
     for name in RULES:
         mine = [finding for finding in judge.found if (finding.rule, finding.client) == (name, client)]
         if mine:
-            lines.append("  " + headline(name))
+            lines += ["  " + part for part in headline(name)]
             shown = mine if has_all else mine[:SHOWN]
             lines += ["    " + line(finding, unit) for finding in shown]
             if (more := judge.counts[name, client] - len(shown)) > 0:
@@ -57,11 +57,22 @@ def promises(judge, unit):
         broken = {place: finding for (rule, client, place), finding in reversed(judge.broken.items()) if RULES[rule].premise_of is group
                   for place in [place or f"client {client}"]}
         if not broken:
-            lines.append(f"Of {listed(group)} this run keeps the premises, so what docs/PROMISES.md says there holds for it.")
+            why = unknown(judge, group)
+            lines.append(f"Of {listed(group)} " + (f"it is not known whether this run keeps the premises: {why}." if why else
+                                                   "this run keeps the premises, so what docs/PROMISES.md says there holds for it."))
             continue
         lines.append(f"Of {listed(group)} this run breaks a premise, so docs/PROMISES.md does not speak there of:")
         lines += [f"  {place} from {unit} {finding.frames[-1]} on ({finding.rule})" for place, finding in broken.items()]
     return lines
+
+
+def unknown(judge, group):
+    """Why it cannot be said that the premises hold, or nothing."""
+    if judge.seen["holes"]:
+        return "the capture lacks bytes"
+    if not any(client.calls for client in judge.clients.values()):
+        return "no compound was seen"
+    return "no reply tells the lease" if group is KEPT and judge.lease is None else ""
 
 
 def limits(judge, notes):
