@@ -1,12 +1,15 @@
-"""What is pinned, so that it cannot vanish unseen: the names of the must-fail edits, how many tests and asserts each crate has at least, and
-the checks that ./test runs. `tests/believed` stands on it."""
+"""What is pinned, so that it cannot vanish unseen: the names of the must-fail edits, how many tests and asserts each crate has, and how many cases
+of each part of ./test pass. `tests/believed` stands on it."""
 
+import os
 import re
 
-TEST = re.compile(r"^ *#\[test\]", re.M)
-ASSERT = re.compile(r"\bassert\w*!")
+import rattle
+
+ASSERT = re.compile(r"\bassert\w*!\s*(?=[(\[{])")
 ADDED = re.compile(r"^ *add(?:_where_it_can)? (.+)$", re.M)
-COMMENT = re.compile(r"//.*$", re.M)
+PART = re.compile(r"^part (.+): (\d+) passed, 0 failed$", re.M)
+NUMBER = re.compile(r"\d+(?:-\d+)?")
 
 
 def wrong_bodies(top):
@@ -14,14 +17,31 @@ def wrong_bodies(top):
     return sorted(f"{it.parent.parent.name}/{it.stem}" for it in top.glob("crates/*/must-fail/*.edit"))
 
 
+def tests_of(folder):
+    """How many tests a crate has, as the toolchain's runner counts them."""
+    return sum("test" in it.attributes for source, _ in rattle.tree(folder).values() for it in source.functions)
+
+
+def asserts_of(folder):
+    """What each assert of a crate asks."""
+    for source, _ in rattle.tree(folder).values():
+        for it in ASSERT.finditer(source.plain):
+            yield it[0].rstrip(), source.text[it.end() + 1 : source.end_of(it.end())]
+
+
+def asks_nothing(word, asked):
+    """Whether an assert compares a thing with itself, or asks for what is always so."""
+    sides = re.split(r" == |,", asked, maxsplit=1) if "_eq" in word else re.split(r" (?:==|>=|<=) ", asked)
+    return asked.strip() == "true" or len(sides) == 2 and "".join(sides[0].split()) == "".join(sides[1].split()).rstrip(",")
+
+
 def counts(top):
     """How many tests and asserts the sources of each crate have that has any."""
     found = {}
-    for crate in sorted(it.parent for it in top.glob("crates/*/src")):
-        text = "\n".join(COMMENT.sub("", it.read_text(encoding="utf-8")) for it in sorted(crate.glob("src/**/*.rt")))
-        if TEST.search(text):
-            found[f"tests of {crate.name}"] = len(TEST.findall(text))
-            found[f"asserts of {crate.name}"] = len(ASSERT.findall(text))
+    for folder in sorted(it.parent for it in top.glob("crates/*/src")):
+        if count := tests_of(folder):
+            found[f"tests of {folder.name}"] = count
+            found[f"asserts of {folder.name}"] = len([*asserts_of(folder)])
     return found
 
 
@@ -33,31 +53,36 @@ def faults(top, rows):
     found = [f"must-fail edit {it}: tests/wrong_bodies.txt names it, and it is not there" for it in told if it not in there]
     found += [f"must-fail edit {it}: tests/wrong_bodies.txt does not name it (tests/believed --pin)" for it in there if it not in told]
     found += ["tests/wrong_bodies.txt: its lines are not in order, or one stands there twice"] * (told != sorted(set(told)))
-    least = {it[0]: it[1] for it in rows if len(it) == 2 and it[1].isdigit()}
-    found += [f"tests/least.tsv: no line of a name and a number: {' '.join(it)}" for it in rows if it[0] not in least]
+    due = {it[0]: it[1] for it in rows if len(it) == 2 + ("-" in it[1]) and NUMBER.fullmatch(it[1])}
+    found += [f"tests/least.tsv: no line of a name and a number, or of a range and its reason: {' '.join(it)}" for it in rows if it[0] not in due]
     counted = counts(top)
-    for name in sorted({it for it in least if " of " in it} | set(counted)):
-        if name not in least:
-            found.append(f"tests/least.tsv: it says nothing of the {name} (tests/believed --pin)")
-        elif counted.get(name, 0) < int(least[name]):
-            found.append(f"{name}: {counted.get(name, 0)}, and tests/least.tsv asks for {least[name]}")
-    return found + of_checks(top, least)
+    for name in sorted({it for it in due if " of " in it} | set(counted)):
+        if counted.get(name, 0) != int(due.get(name, "0")):
+            found.append(f"{name}: {counted.get(name, 0)}, and tests/least.tsv has {due.get(name, 'none')} (tests/believed --pin)")
+    for folder in sorted(it.parent for it in top.glob("crates/*/src")):
+        found += [f"{folder.name}: {word}({asked.strip()}) asks nothing" for word, asked in asserts_of(folder) if asks_nothing(word, asked)]
+    return found + of_parts(top, due)
 
 
-def of_checks(top, least):
-    """Where ./test and tests/least.tsv do not name the same checks."""
+def of_parts(top, due):
+    """Where ./test, tests/least.tsv and the scripts of tests/ do not name the same parts."""
     path = top / "test"
     added = ADDED.findall(path.read_text(encoding="utf-8")) if path.is_file() else []
-    told = [it for it in least if " of " not in it]
+    told = [it for it in due if " of " not in it]
+    scripts = [f"tests/{it.name}" for it in sorted(top.glob("tests/*")) if it.is_file() and not it.suffix and os.access(it, os.X_OK)]
     found = [f"tests/least.tsv: it says nothing of {it}, which ./test runs" for it in added if it not in told]
+    found += [f"./test does not run {it}" for it in scripts if it not in [one.split()[0] for one in added]]
     return found + [f"./test does not run {it}, of which tests/least.tsv tells" for it in told if it not in added]
 
 
-def write(top):
-    """Pins what is there."""
+def write(top, log):
+    """Pins what is there and, where a log of ./test is given, how many cases of each of its parts passed; a range stays."""
     (top / "tests/wrong_bodies.txt").write_text("".join(f"{it}\n" for it in wrong_bodies(top)), encoding="utf-8")
-    path = top / "tests/least.tsv"
+    path, passed = top / "tests/least.tsv", dict(PART.findall(log))
     lines = path.read_text(encoding="utf-8").splitlines() if path.is_file() else []
-    kept = [it for it in lines if not re.match(r"(?:tests|asserts) of \w+\t", it)]
+    kept = []
+    for it in (it for it in lines if not re.match(r"(?:tests|asserts) of \w+\t", it)):
+        name, _, number = it.partition("\t")
+        kept.append(f"{name}\t{passed[name]}" if name in passed and "-" not in number else it)
     path.write_text("".join(f"{it}\n" for it in [*kept, *(f"{name}\t{count}" for name, count in counts(top).items())]), encoding="utf-8")
     return 0

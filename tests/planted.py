@@ -8,6 +8,8 @@ import importlib.util
 import io
 from pathlib import Path
 
+import pinned
+
 LIB, LAWS_AT, MORE = "crates/tried/src/lib.rt", "crates/tried/src/laws.rt", "crates/tried/src/more.rt"
 PAIR_AT = "crates/tried/src/pair.rt"
 HALF, WORDS_AT = "crates/tried/specs/Half.antt", "crates/tried/specs/Words.antt"
@@ -360,10 +362,15 @@ class Plants:
             ("a must-fail edit that is gone", {"crates/tried/must-fail/turned.edit": None}, f"edit tried/turned: {edits} names it"),
             ("a must-fail edit that is not pinned", {"crates/tried/must-fail/other.edit": self.edit}, f"edit tried/other: {edits} does not"),
             ("a list of must-fail edits that is gone", {edits: None}, f"{edits} does not name it"),
-            ("tests that are gone", {**tests, "crates/tried/src/tests.rt": None}, f"tests of tried: 0, and {least} asks for 1"),
-            ("a test that asserts nothing", {**tests, "crates/tried/src/tests.rt": bare}, f"asserts of tried: 0, and {least} asks for 1"),
-            ("tests that are not pinned", {**tests, least: None}, "it says nothing of the tests of tried"),
+            ("tests that are gone", {**tests, "crates/tried/src/tests.rt": None}, f"tests of tried: 0, and {least} has 1"),
+            ("a test that is a comment", {**tests, "crates/tried/src/tests.rt": f"/* {TEST} */\n"}, f"tests of tried: 0, and {least} has 1"),
+            ("a test that asserts nothing", {**tests, "crates/tried/src/tests.rt": bare}, f"asserts of tried: 0, and {least} has 1"),
+            ("a test that asserts more than is pinned", {**tests, "crates/tried/src/tests.rt": TEST * 2}, f"tests of tried: 2, and {least} has 1"),
+            ("a test that compares a thing with itself", {**tests, "crates/tried/src/tests.rt": TEST.replace("== 2", "== halved(4)")}, "asks nothing"),
+            ("a range without a reason", {"test": "add tests/halves\n", least: "tests/halves\t3-4\n"}, "a range and its reason"),
+            ("tests that are not pinned", {**tests, least: None}, f"tests of tried: 1, and {least} has none"),
             ("a check that is not pinned", {"test": "add tests/halves\n"}, "it says nothing of tests/halves"),
+            ("a script of tests that is not run", {"tests/halves": "#!/bin/sh\n"}, "./test does not run tests/halves"),
             ("a check that is not run", {least: "tests/halves\t3\n"}, "./test does not run tests/halves"),
             ("a crate that crates.txt does not list", {"crates/other/src/lib.rt": ""}, "crates.txt: it has no line for other"),
         ):

@@ -25,6 +25,7 @@ from collections import defaultdict
 from concurrent.futures import Future
 
 import kept as for_later
+import pinned
 import progress
 from built import Build
 from edits import Said, changed, listed, text_of
@@ -287,7 +288,8 @@ def tests_of(rt, crate, store):
         how = {"cwd": crate.folder, "stdin": subprocess.DEVNULL, "stdout": subprocess.PIPE, "stderr": subprocess.STDOUT, "errors": "replace"}
         ran = subprocess.run([f"{rt.KIT}/bin/rt", "try", "--test"], **how)
         ended = re.search(r"^test result: ok\. ([1-9]\d*) passed; 0 failed", ran.stdout, re.MULTILINE)
-        is_well = ran.returncode == 0 and ended is not None
+        # (a test that the reader of the sources finds and the runner does not is none, and the other way round)
+        is_well = ran.returncode == 0 and ended is not None and int(ended[1]) == pinned.tests_of(crate.folder)
         print(f"== {crate.name}: its tests under run-time checks\n" + (ended[0] if is_well else ran.stdout[-4000:]), flush=True)
         if is_well and kept:
             kept.keep_tried(name, rt.REFUSED, ended[0])
