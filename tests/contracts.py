@@ -9,9 +9,9 @@ import re
 
 import rattle
 from edits import public
+from pinned import TESTS
 
 CALL = re.compile(r"(?:(\w+)(?:::<[^>]*>)?::|(\.)\s*|\b)(\w+)(?=\s*(?:::<|[(),;}]))")
-TESTS = ("nfs_testing", "nfs_tests")
 HEAD = "# The contract of each public function (tests/believed --write): crate, function, clauses that ask, clauses that state, sum of what they lean on.\n"
 
 

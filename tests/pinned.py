@@ -1,15 +1,19 @@
 """What is pinned, so that it cannot vanish unseen: the names of the must-fail edits, how many tests and asserts each crate has, and how many cases
-of each part of ./test pass. `tests/believed` stands on it."""
+of each part of ./test pass, and the lines at which a body makes want of memory up. Contracts allow that at any call which asks for memory, so a body
+could say so without need: tests/wants.tsv has each such line. `tests/believed` stands on it."""
 
 import os
 import re
 
 import rattle
 
+TESTS = ("nfs_testing", "nfs_tests")
 ASSERT = re.compile(r"\bassert\w*!\s*(?=[(\[{])")
 ADDED = re.compile(r"^ *add(?:_where_it_can)? (.+)$", re.M)
 PART = re.compile(r"^part (.+): (\d+) passed, 0 failed$", re.M)
 NUMBER = re.compile(r"\d+(?:-\d+)?")
+WANT = re.compile(r".*(?:\bAllocError\b|\b\w+::Memory\b|\bStatus::Delay\b).*")
+WANTS = "# Lines of bodies that make want of memory up, or pass it on by its name (tests/believed --pin): crate, function, line.\n"
 
 
 def wrong_bodies(top):
@@ -45,8 +49,27 @@ def counts(top):
     return found
 
 
+def wants(top):
+    """The lines at which code that is none of tests names want of memory, as tests/wants.tsv has them."""
+    lines = []
+    for folder in sorted(it.parent for it in top.glob("crates/*/src") if it.parent.name not in TESTS):
+        for source, is_test in rattle.tree(folder).values():
+            for it in source.functions if not is_test else ():
+                if it.opens >= 0 and not it.is_test:
+                    lines += [f"{folder.name}\t{it}\t{line.strip()}\n" for line in WANT.findall(source.plain[it.opens : it.closes])]
+    return WANTS + "".join(lines)
+
+
 def faults(top, rows):
     """What is not as it is pinned."""
+    path = top / "tests/wants.tsv"
+    was, now = path.read_text(encoding="utf-8").splitlines() if path.is_file() else [WANTS.strip()], wants(top).splitlines()
+    fresh = [f"want of memory that tests/wants.tsv does not list (tests/believed --pin): {it}" for it in now if now.count(it) > was.count(it)]
+    return [*fresh, *(f"tests/wants.tsv: no body has {it}" for it in was if was.count(it) > now.count(it)), *of_names(top, rows)]
+
+
+def of_names(top, rows):
+    """Where edits, tests, asserts and parts are not as they are pinned."""
     path = top / "tests/wrong_bodies.txt"
     told = path.read_text(encoding="utf-8").split() if path.is_file() else []
     there = wrong_bodies(top)
@@ -78,6 +101,7 @@ def of_parts(top, due):
 def write(top, log):
     """Pins what is there and, where a log of ./test is given, how many cases of each of its parts passed; a range stays."""
     (top / "tests/wrong_bodies.txt").write_text("".join(f"{it}\n" for it in wrong_bodies(top)), encoding="utf-8")
+    (top / "tests/wants.tsv").write_text(wants(top), encoding="utf-8")
     path, passed = top / "tests/least.tsv", dict(PART.findall(log))
     lines = path.read_text(encoding="utf-8").splitlines() if path.is_file() else []
     kept = []

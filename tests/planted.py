@@ -370,6 +370,8 @@ class Plants:
             ("a range without a reason", {"test": "add tests/halves\n", least: "tests/halves\t3-4\n"}, "a range and its reason"),
             ("tests that are not pinned", {**tests, least: None}, f"tests of tried: 1, and {least} has none"),
             ("a check that is not pinned", {"test": "add tests/halves\n"}, "it says nothing of tests/halves"),
+            ("a body that makes want of memory up", {MORE: "fn more() -> Result<u32, AllocError> {\n    Err(AllocError)\n}\n"}, "want of memory that tests/wants.tsv"),
+            ("a want of memory that is gone", {"tests/wants.tsv": f"{pinned.WANTS}tried\tmore\tErr(AllocError)\n"}, "no body has tried"),
             ("a script of tests that is not run", {"tests/halves": "#!/bin/sh\n"}, "./test does not run tests/halves"),
             ("a check that is not run", {least: "tests/halves\t3\n"}, "./test does not run tests/halves"),
             ("a crate that crates.txt does not list", {"crates/other/src/lib.rt": ""}, "crates.txt: it has no line for other"),
