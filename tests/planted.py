@@ -334,6 +334,7 @@ class Plants:
         for what, law, why in (
             ("a pin by what its premise says", "(n : ℕ) → half n ≡ quotient n 2 → half n ≡ quotient n 2", NO_EQUATION),
             ("a pin of some arguments", "(n : ℕ) → n ≡ 4 → half n ≡ quotient n 2", NO_EQUATION),
+            ("a pin of arguments of a kind", "(n : ℕ) → (half n ≤ 3) → half n ≡ quotient n 2", NO_EQUATION),
             ("a pin of one argument", "half 4 ≡ quotient 4 2", NO_EQUATION),
             ("a pin of the argument's twice", "(n : ℕ) → half (n + n) ≡ quotient (n + n) 2", NO_EQUATION),
             ("a pin by an equation of something else", "(n : ℕ) → half n + n ≡ quotient n 2 + n", NO_EQUATION),

@@ -157,27 +157,6 @@ fn the_fault_of_a_run_is_told_with_its_entry(rt: HostRuntime) -> Result<(), Fail
 }
 
 #[test]
-fn settings_are_what_the_text_says(rt: HostRuntime) -> Result<(), Fail> {
-    for (text, lease, root_mode, instance) in [
-        ("", 90, 0o777, 5),
-        ("lease = 30", 30, 0o777, 5),
-        ("root_mode = 0o750\ninstance = 9", 90, 0o750, 9),
-        (
-            "instance = 4294967294\nlease = 86400\nroot_mode = 0",
-            86_400,
-            0,
-            4_294_967_294,
-        ),
-    ] {
-        let found = settings(rt.alloc(), text, 5);
-        assert!(rt;
-            matches!(found, Ok((it, number)) if it.lease == lease && it.root_mode == root_mode && number == instance)
-        );
-    }
-    Ok(())
-}
-
-#[test]
 fn texts_that_are_no_settings_are_refused(rt: HostRuntime) -> Result<(), Fail> {
     for text in [
         "lease = 0",

@@ -29,20 +29,6 @@ impl Read for Drip<'_> {
     }
 }
 
-/// Gives a zero byte at each call, without end.
-#[derive(Drop)]
-pub(super) struct Trickle;
-
-impl Read for Trickle {
-    fn read(&mut self, buf: &mut [u8]) -> io::Result<usize> {
-        if buf.is_empty() {
-            return Ok(0);
-        }
-        buf[0] = 0;
-        Ok(1)
-    }
-}
-
 /// A clock that counts how often it was asked, and answers that in seconds.
 #[derive(Drop)]
 pub(super) struct Counting {

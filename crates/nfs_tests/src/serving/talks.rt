@@ -1,6 +1,6 @@
 //! Talks over ends that fail at each of their calls in turn, and over a reader that never ends.
 
-use super::fakes::{Counting, Drip, Tray, Trickle};
+use super::fakes::{Counting, Drip, Tray};
 use super::{EXCHANGE_ID, LAST, NULL, NULL_REPLY, SETTINGS, exchanged};
 use nfs_serve::{Host, Server, Talk};
 use nfs_testing::bytes_of;
@@ -107,12 +107,5 @@ fn a_writer_fails_at_each_call(rt: HostRuntime) -> Result<(), Fail> {
             "at call {fails}"
         );
     }
-    Ok(())
-}
-
-#[test]
-fn no_more_than_1_000_000_pieces_are_read(rt: HostRuntime) -> Result<(), Fail> {
-    let talked = talk_anew(rt.alloc(), Trickle, 0)?;
-    assert_eq!(rt; (talked.ended, talked.asked), (Talk::TooMany, 1_000_000));
     Ok(())
 }
