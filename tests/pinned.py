@@ -76,7 +76,7 @@ def of_names(top, rows):
     found = [f"must-fail edit {it}: tests/wrong_bodies.txt names it, and it is not there" for it in told if it not in there]
     found += [f"must-fail edit {it}: tests/wrong_bodies.txt does not name it (tests/believed --pin)" for it in there if it not in told]
     found += ["tests/wrong_bodies.txt: its lines are not in order, or one stands there twice"] * (told != sorted(set(told)))
-    due = {it[0]: it[1] for it in rows if len(it) == 2 + ("-" in it[1]) and NUMBER.fullmatch(it[1])}
+    due = {it[0]: it[1] for it in rows if len(it) > 1 and len(it) == 2 + ("-" in it[1]) and NUMBER.fullmatch(it[1])}
     found += [f"tests/least.tsv: no line of a name and a number, or of a range and its reason: {' '.join(it)}" for it in rows if it[0] not in due]
     counted = counts(top)
     for name in sorted({it for it in due if " of " in it} | set(counted)):
