@@ -31,8 +31,8 @@
 #include <sys/wait.h>
 #include <time.h>
 #include <unistd.h>
+#include "client.h"
 
-#define AT "/mnt/"
 /* BADTYPE is the kernel's own number for NFS4ERR_BADTYPE, which it hands to the caller as it is. */
 enum { PIECE = 4096, LONG = 300000, MANY = 200, PROCESSES = 6, EACH = 20, BADTYPE = 527 };
 
@@ -40,13 +40,13 @@ static unsigned char wanted[LONG], got[LONG + 1];
 static char names[MANY][16];
 static int steps;
 
-static double now(void) {
+double now(void) {
     struct timespec t;
     clock_gettime(CLOCK_MONOTONIC, &t);
     return t.tv_sec + t.tv_nsec / 1e9;
 }
 
-static void step(const char *name, int holds, const char *shown, ...) {
+void step(const char *name, int holds, const char *shown, ...) {
     va_list rest;
     steps++;
     printf("step %s: %s", name, holds ? "ok" : "FAILED ");
@@ -59,14 +59,16 @@ static void step(const char *name, int holds, const char *shown, ...) {
     fflush(stdout);
 }
 
-/* A call that is to succeed, or to fail with this errno. */
-static void ends(const char *name, long value, int error) {
+void took_step(void) {
+    steps++;
+}
+
+void ends(const char *name, long value, int error) {
     int came = value < 0 ? errno : 0;
     step(name, came == error, "errno %d (%s), wanted %d", came, strerror(came), error);
 }
 
-/* Asks the host for something and returns whether it says `again`. */
-static int ask(const char *word) {
+int ask(const char *word) {
     char line[64] = {0};
     printf("ask %s\n", word);
     fflush(stdout);
@@ -79,17 +81,14 @@ static void meet(void) {
     ask("meet");
 }
 
-/* Waits for a child and returns the status that it ended with. */
-static int ended(pid_t child) {
+int ended(pid_t child) {
     int status = -1;
     waitpid(child, &status, 0);
     return WIFEXITED(status) ? WEXITSTATUS(status) : 256 + status;
 }
 
-/* A command that is to end with status 0; where it does not, what it said is shown, its lines joined. */
-static int command(const char *name, char *const words[]) {
-    char said[400] = {0};
-    size_t size = 0;
+int told_by(char *const words[], char *said, size_t size) {
+    size_t at = 0;
     ssize_t more;
     int from[2];
     if (pipe(from)) _exit(1);
@@ -103,10 +102,17 @@ static int command(const char *name, char *const words[]) {
         _exit(127);
     }
     close(from[1]);
-    while (size < sizeof said - 1 && (more = read(from[0], said + size, sizeof said - 1 - size)) > 0) size += more;
+    while (at < size - 1 && (more = read(from[0], said + at, size - 1 - at)) > 0) at += more;
+    said[at] = 0;
     close(from[0]);
-    int status = ended(child);
-    for (size_t i = 0; i < size; i++) said[i] = said[i] == '\n' ? ';' : said[i];
+    for (size_t i = 0; i < at; i++) said[i] = said[i] == '\n' ? ';' : said[i];
+    return ended(child);
+}
+
+/* A command that is to end with status 0; where it does not, what it said is shown. */
+static int command(const char *name, char *const words[]) {
+    char said[400];
+    int status = told_by(words, said, sizeof said);
     step(name, status == 0, "status %d, and it said: %s", status, said);
     return status == 0;
 }
@@ -140,7 +146,7 @@ static void kernel_shows(const char *options) {
     step("the kernel shows the options", !wrong, "%d of %s are not in %s", wrong, options, shown);
 }
 
-static long put(const char *path, int flags, const void *bytes, size_t size) {
+long put(const char *path, int flags, const void *bytes, size_t size) {
     int file = open(path, O_WRONLY | flags, 0644);
     if (file < 0) return -1;
     long wrote = write(file, bytes, size);
@@ -157,17 +163,17 @@ static long taken(const char *path) {
     return more < 0 ? -1 : all;
 }
 
-static void holds_bytes(const char *name, const char *path, const void *bytes, long size) {
+void holds_bytes(const char *name, const char *path, const void *bytes, long size) {
     long came = taken(path);
     step(name, came == size && !memcmp(got, bytes, size), "%ld bytes, wanted %ld", came, size);
 }
 
-static int locked(int file, int how, short kind, long start, long length) {
+int locked(int file, int how, short kind, long start, long length) {
     struct flock lock = {.l_type = kind, .l_whence = SEEK_SET, .l_start = start, .l_len = length};
     return fcntl(file, how, &lock);
 }
 
-static void forget(void) {
+void forget(void) {
     int file = open("/proc/sys/vm/drop_caches", O_WRONLY);
     if (file >= 0) {
         if (write(file, "3", 1) < 0) printf("note: caches were not dropped\n");
@@ -362,8 +368,7 @@ static void anothers_lock(void) {
     close(file);
 }
 
-/* Adds one to the number in a file, so many times, each under a lock over all of it: the number of what went wrong, or 0. */
-static int added(const char *path, int times) {
+int added(const char *path, int times) {
     int file = open(path, O_CREAT | O_RDWR, 0666);
     for (int i = 0; i < times; i++) {
         char text[16] = {0};
@@ -674,31 +679,6 @@ static void two_machines(int first) {
     first_is_killed(first);
 }
 
-/* Small writes and reads, a minute at least and until the host has seen enough: each must come out as it went in. */
-static void go_on(void) {
-    double until = now() + 60;
-    long rounds = 0, wrong = 0;
-    char name[64];
-    while (!wrong) {
-        if (now() >= until) {
-            if (!ask("enough")) break;
-            until = now() + 10;
-        }
-        snprintf(name, sizeof name, AT "round%ld", rounds % 7);
-        for (int i = 0; i < PIECE; i++) wanted[i] = (unsigned char)(rounds * 31 + i % 251);
-        wrong += put(name, O_CREAT | O_EXCL, wanted, PIECE) != PIECE;
-        forget();
-        wrong += taken(name) != PIECE || memcmp(got, wanted, PIECE);
-        wrong += mkdir(AT "once", 0700) != 0;
-        wrong += rename(AT "once", AT "twice") != 0;
-        wrong += rmdir(AT "twice") != 0;
-        wrong += unlink(name) != 0;
-        rounds++;
-    }
-    step("files made by O_EXCL, read back, and directories made once, renamed once, removed once", !wrong, "round %ld, errno %d", rounds, errno);
-    printf("note: %ld rounds\n", rounds);
-}
-
 static void lease_runs_out(void) {
     char bytes[8] = {0};
     struct stat a;
@@ -809,7 +789,10 @@ static void play(const char *part, int first, char *options) {
     }
     if (!strcmp(part, "several")) many_at_once();
     if (!strcmp(part, "two")) two_machines(first);
-    if (!strcmp(part, "cut")) go_on();
+    if (!strcmp(part, "cut")) over_cuts();
+    if (!strcmp(part, "database")) database();
+    if (!strcmp(part, "mounts")) two_mounts(options);
+    if (getenv("life")) life(getenv("life"));
     if (!strcmp(part, "expired")) lease_runs_out();
     if (!strcmp(part, "restart")) server_restarts(options);
     unmounted();

@@ -363,6 +363,11 @@ class Running:
     def port(self):
         return self.between.port
 
+    @property
+    def done(self):
+        """How often each fault was done."""
+        return self.between.done
+
     def do(self, call, *given):
         """Has the proxy do something that it can do, such as `cut_all`."""
         self.between.loop.call_soon_threadsafe(call, *given)

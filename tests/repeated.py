@@ -1,0 +1,64 @@
+"""What a capture has of calls that were sent again: how many, in what they differ from the first sending, and how they were answered."""
+import collections
+from typing import NamedTuple
+
+import capture
+import nfs4
+import repeats
+
+NONE = "no reply"
+
+
+class Found(NamedTuple):
+    """Of the compounds of a capture: all, those that were sent again, of these those with another highest slot alone and those that ask for something
+    else, and by status how those that were sent again were answered."""
+    compounds: int
+    again: int
+    higher: int
+    other: int
+    answers: collections.Counter
+
+    def __str__(self):
+        answers = ", ".join(f"{count} by {status}" for status, count in self.answers.most_common())
+        return (f"{self.compounds} compounds; {self.again} were sent again, {self.higher} of them with another highest slot and {self.other} with something "
+                f"else; answered: {answers or 'none'}")
+
+
+def found_in(path, port):
+    """What a capture has of the compounds that clients sent to a port."""
+    sent, waiting, answers = repeats.Sent(), {}, collections.Counter()
+    compounds = again = higher = other = 0
+    for _, client, from_server, record in capture.heard(path, port):
+        if from_server:
+            if waiting.pop((client, record[:4]), None):
+                answers[status_of(record)] += 1
+            continue
+        call = called(record)
+        if call is None or not call.operations or call.operations[0][0] != "SEQUENCE":
+            continue
+        compounds += 1
+        if first := sent.again(call, None):
+            again += 1
+            is_true = repeats.is_true(first[1], call)
+            other += not is_true
+            higher += is_true and call.data[call.arguments:] != first[1].data[first[1].arguments:]
+            waiting[client, record[:4]] = True
+    # (what a cut connection took with it was asked once more)
+    answers[NONE] = again - answers.total()
+    return Found(compounds, again, higher, other, +answers)
+
+
+def called(record):
+    try:
+        return nfs4.Call(record)
+    except nfs4.Unreadable:
+        return None
+
+
+def status_of(record):
+    """How SEQUENCE was answered."""
+    try:
+        reply = nfs4.Reply(record)
+    except nfs4.Unreadable as fault:
+        return str(fault)
+    return reply.results[0][1] if reply.results else reply.status
