@@ -793,6 +793,7 @@ static void play(const char *part, int first, char *options) {
     if (!strcmp(part, "database")) database();
     if (!strcmp(part, "mounts")) two_mounts(options);
     if (getenv("life")) life(getenv("life"));
+    if (!strcmp(part, "killed")) killed();
     if (!strcmp(part, "expired")) lease_runs_out();
     if (!strcmp(part, "restart")) server_restarts(options);
     unmounted();

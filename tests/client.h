@@ -30,3 +30,6 @@ void database(void);
 /* client_life.c */
 void life(char *what);
 void two_mounts(char *options);
+
+/* client_killed.c */
+void killed(void);

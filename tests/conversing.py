@@ -79,7 +79,7 @@ class Talk:
         if name == "SEQUENCE":
             return {key: fields[key] for key in ("sessionid", "seqid", "slot_id")} | {"high_slot_id": SLOTS - 1, "target_high_slot_id": SLOTS - 1}
         if name == "EXCHANGE_ID":
-            return {"clientid": 7 << 32 | self.next("client"), "seqid": 1, "major_id": b"talk", "scope": b"talk"}
+            return {"clientid": 7 << 32 | self.next("client"), "seqid": 1, "major_id": b"nfs41d", "scope": b"nfs41d"}
         if name == "CREATE_SESSION":
             return {"sessionid": f"0x{self.next('session'):032x}", "seqid": fields["seqid"], "fore_max_reqs": min(SLOTS, fields["fore_max_reqs"])}
         if name == "OPEN":

@@ -42,6 +42,8 @@ class Judge:
         self.found, self.counts, self.broken = [], collections.Counter(), {}
         self.seen = collections.Counter()
         self.begun = self.moment = self.place = None
+        # what the server calls itself
+        self.server = None
 
     # what comes
 
@@ -99,14 +101,14 @@ class Judge:
 
     def call(self, moment, connection, link, call, place):
         self.seen["calls"] += 1
-        if call.procedure == 0 or call.minor != 1 or not call.operations:
-            self.seen["not judged"] += call.procedure != 0
-            return
-        first, fields = call.operations[0]
+        first, fields = call.operations[0] if call.operations and call.minor == 1 else (None, [])
         if first == "SEQUENCE":
             self.compound(moment, connection, link, Sent(call, connection, place, moment), place)
             return
         link.waiting[call.xid].append(Alone(call, place, moment))
+        if first is None:
+            self.seen["not judged"] += call.procedure != 0
+            return
         if first == "CREATE_SESSION" and (client := self.clients.get(dict(fields)["clientid"])):
             client.makes_session(dict(fields), place)
         if first not in ALONE:
@@ -144,7 +146,8 @@ class Judge:
         """Whether the slot is one of the session's."""
         size = session.size
         if size is not None and new.slot < size <= new.highest or new.highest < new.slot:
-            session.client.say("slot-beyond", (place,), f"sa_highest_slotid {new.highest} on slot {new.slot}, of {size or 'unknown'} slots", f"session {session.name}")
+            text = f"sa_highest_slotid {new.highest} on slot {new.slot}, of {size or 'unknown'} slots"
+            session.client.say("slot-beyond", (place,), text, f"session {session.name}")
         if size is not None and new.slot >= size:
             session.client.say("slot-beyond", (place,), f"slot {new.slot} of {size}", f"session {session.name}")
             return False
@@ -226,11 +229,12 @@ class Judge:
             if status != "NFS4_OK" or asked is None:
                 continue
             if client:
-                client.stateids.answer(name, asked, told, place)
+                client.stateids.answer(name, asked, told, place, sent)
             if name in ANSWERS:
                 ANSWERS[name](self, dict(asked), dict(told), moment, place)
 
     def exchanged(self, asked, told, moment, place):
+        self.server = told["major_id"]
         name, is_confirmed = told["clientid"], bool(int(told["eir_flags"], 0) & CONFIRMED)
         if name not in self.clients:
             self.clients[name] = Client(name, asked["owner"], not is_confirmed, self.say)

@@ -1,5 +1,5 @@
-"""What a client is judged by: one table. Each rule has the section of RFC 8881 that it comes from, and the promises of docs/PROMISES.md of which it is a
-premise: where it is broken, these say nothing."""
+"""What a client is judged by: one table. Each rule has the section of RFC 8881 that it comes from, which are from memory: the authors had no text of the RFC
+at hand. And it has the promises of docs/PROMISES.md of which it is a premise: where it is broken, these say nothing."""
 from typing import NamedTuple
 
 ONCE = ("Exactly once over a network", "As if over a perfect wire", "Atomic, and in real time")
@@ -18,14 +18,14 @@ class Rule(NamedTuple):
 RULES = {
     # the compounds of a slot
     "two-waiting": Rule("2.10.6.2", ONCE, "A slot has one compound waiting at a time."),
-    "given-up": Rule("2.10.6.2", ONCE, "The next compound of a slot is sent when the last one has its reply."),
-    "asked-instead": Rule("2.10.6.2", ONCE, "A compound that waits is not replaced by a lone SEQUENCE of its number."),
+    "given-up": Rule("2.10.6.2", (), "The next compound of a slot is sent when the last one has its reply."),
+    "asked-instead": Rule("2.10.6.2", (), "A compound that waits is not replaced by another of its number, such as a lone SEQUENCE."),
     "other-bytes": Rule("2.10.6.1.3.1", ONCE, "What is sent again under a number is the same, but for sa_highest_slotid."),
     "other-user": Rule("2.10.6.1.3.1", ONCE, "It is sent again by the same user."),
-    "refused-number": Rule("2.10.6.1.2", ONCE, "A number whose SEQUENCE was refused goes on with the same compound."),
+    "refused-number": Rule("2.10.6.1.2", (), "A number whose SEQUENCE was refused goes on with the same compound."),
     "numbers": Rule("2.10.6.1", ONCE, "The numbers of a slot begin at 1 and go up by one."),
     "other-reply": Rule("18.46.3", ONCE, "A reply is taken whose SEQUENCE has the session, the slot and the number of the compound."),
-    "one-xid": Rule("2.10.6.2 and of RFC 5531 section 9", (), "An xid is used for one compound."),
+    "one-xid": Rule("2.10.6.2 and of RFC 5531 section 9", ONCE, "An xid is used for one compound."),
     "still-connected": Rule("2.10.6.2", (), "A compound is sent again only if the connection of its last sending has ended."),
     # sessions
     "slot-beyond": Rule("18.46.3", (), "Slots, and sa_highest_slotid, are below the number of slots that CREATE_SESSION gave."),
@@ -45,8 +45,10 @@ RULES = {
     "locks-left": Rule("18.12.3", (), "Locks are given back by LOCKU or CLOSE."),
     "unsupported": Rule("15.1.1.5", (), "An operation that the server does not have is not called again."),
 }
-# A slot on which one of these was broken is one of which the laws of the network say less; the others end with the compound.
-OF_SLOTS = tuple(name for name, rule in RULES.items() if rule.premise_of is ONCE)
+
+
+# Where this one is found, the promises hold if the client did not take those replies: it may have given the compounds up.
+IF_TAKEN = "two-waiting"
 
 
 class Finding(NamedTuple):

@@ -3,6 +3,8 @@ import repeats
 
 # SEQUENCE's refusals that say that the slot has executed under this number
 HAS_RUN = ("NFS4ERR_SEQ_FALSE_RETRY", "NFS4ERR_RETRY_UNCACHED_REP")
+# how repeats.differences begins with what may be another one
+MAY_DIFFER = ("xid ", "gid ", "gids ", "high_slot_id of SEQUENCE ")
 ROUND = 1 << 32
 
 
@@ -13,9 +15,13 @@ class Sent:
         self.call, self.connection, self.moment, self.sendings = call, connection, moment, [frame]
         fields = dict(call.operations[0][1])
         self.session, self.number, self.slot, self.highest = fields["sessionid"], *(int(fields[name]) for name in ("seqid", "slot_id", "high_slot_id"))
-        self.user = call.flavor, call.uid
+        self.user, self.xids = (call.flavor, call.uid), {call.xid}
         # the frames of its reply, of a reply that bears its xid and is another's, and of the compound that was sent though it waited
         self.answered = self.other = self.passed = None
+        # whether the server has answered that it ran, if only to a client that did not get that reply
+        self.has_run = False
+        # whether another compound was sent on its slot since: then the client has taken its reply
+        self.is_over = False
         self.refused = None
 
     @property
@@ -43,6 +49,8 @@ class Slot:
 
     def forget(self):
         """Compounds or replies may be lacking from here on."""
+        if self.last:
+            self.last.is_over = True
         self.last, self.is_known, self.open_ends = None, False, []
 
     def send(self, new, has_ended):
@@ -56,14 +64,29 @@ class Slot:
         if new.number == last.number:
             return self.same_number(last, new, has_ended)
         ahead = (new.number - last.number) % ROUND
-        if ahead != 1:
+        if asked := self.asked_by(new):
+            self.open_ends.remove(asked)
+            text = f"{new.name} ({names_of(asked.call)}) had no reply when the next number was sent, which was misordered; a lone SEQUENCE asks whether it ran"
+            self.say("asked-instead", (asked.sendings[-1], asked.passed, new.sendings[0]), text)
+        elif ahead != 1:
             how = f"{ahead - 1} skipped" if ahead < ROUND // 2 else f"{ROUND - ahead} back"
             self.say("numbers", (last.sendings[-1], new.sendings[0]), f"{new.name} comes after {last.name}: {how}")
         else:
             self.next_number(last, new)
         return self.take(new)
 
+    def asked_by(self, new):
+        """The compound that was given up, and of which a lone SEQUENCE asks whether it ran, where a later number was refused as misordered."""
+        if not new.is_lone or self.last.refused != "NFS4ERR_SEQ_MISORDERED":
+            return None
+        return next((sent for sent in self.open_ends if sent.number == new.number), None)
+
     def take(self, new):
+        if self.last:
+            self.last.is_over = True
+            if self.last.has_run:
+                # nothing is asked of its operations any more
+                self.last.call = None
         self.last, self.count = new, self.count + 1
         return new
 
@@ -71,8 +94,8 @@ class Slot:
         if last.answered is not None or last.refused in HAS_RUN:
             return
         if last.refused:
-            text = f"{new.name} comes after {last.name}, whose SEQUENCE was refused with {last.refused} and did not use it up"
-            self.say("numbers", (last.sendings[-1], new.sendings[0]), text)
+            text = f"{new.name} comes after {last.name} ({names_of(last.call)}), whose SEQUENCE was refused with {last.refused} and did not use it up"
+            self.say("given-up", (last.sendings[-1], new.sendings[0]), text)
         elif last.other is not None:
             text = f"{new.name} is sent after a reply that has the xid of {last.name} and another SEQUENCE"
             self.say("other-reply", (last.sendings[-1], last.other, new.sendings[0]), text)
@@ -88,8 +111,8 @@ class Slot:
             return self.sent_again(last, new, has_ended, frames)
         if last.refused and last.answered is None:
             self.say("refused-number", frames, f"{new.name} is another compound; the first was refused with {last.refused}")
-        elif new.is_lone and not last.is_lone and new.user == last.user and last.answered is None:
-            self.say("asked-instead", frames, f"{new.name}: a lone SEQUENCE in place of {names_of(last.call)}, which waits")
+        elif last.answered is None and not new.xids & last.xids:
+            self.say("asked-instead", frames, f"{new.name}: {names_of(new.call)} in place of {names_of(last.call)}, which waits")
         elif is_same:
             self.say("other-user", frames, f"{new.name} by {user_of(new)}, and before by {user_of(last)}")
         else:
@@ -102,11 +125,13 @@ class Slot:
         self.again += 1
         self.moved += new.highest != last.highest
         last.sendings.append(new.sendings[0])
-        last.connection, last.refused = new.connection, None
+        last.xids |= new.xids
+        # (a reply that came before was not taken)
+        last.connection, last.refused, last.answered = new.connection, None, None
         return last
 
     def reply(self, sent, frame, result):
-        """Takes a reply that has the xid of a sending, by its result of SEQUENCE."""
+        """Takes a reply that has the xid of a sending, by its result of SEQUENCE; whether it is the first that says that the compound has run."""
         if result[1] != "NFS4_OK":
             if sent.answered is None:
                 sent.refused = result[1]
@@ -114,17 +139,19 @@ class Slot:
             sent.other = frame
         elif sent.answered is None:
             sent.answered = frame
-            if sent.passed is not None:
+            if sent in self.open_ends:
                 self.open_ends.remove(sent)
                 text = f"{sent.name} had its reply after the next number was sent"
                 self.say("two-waiting", (sent.sendings[0], sent.passed, frame), text)
-            return True
+            is_first, sent.has_run = not sent.has_run, True
+            return is_first
         return False
 
     def finish(self):
         """What had no reply to the end."""
         for sent in self.open_ends:
-            self.say("given-up", (sent.sendings[-1], sent.passed), f"{sent.name} ({names_of(sent.call)}) had no reply when the next number was sent, and none later")
+            text = f"{sent.name} ({names_of(sent.call)}) had no reply when the next number was sent, and none later"
+            self.say("given-up", (sent.sendings[-1], sent.passed), text)
         self.open_ends = []
 
     def say(self, rule, frames, text):
@@ -143,4 +170,5 @@ def names_of(call):
 
 def difference(first, second):
     """In what two compounds under one number differ, but for what may be another one when it is sent again."""
-    return "; ".join(told for told in repeats.differences(first, second) if not told.startswith(("xid ", "gid ", "gids ", "high_slot_id of SEQUENCE "))) or "other bytes"
+    found = [words for words in repeats.differences(first, second) if not words.startswith(MAY_DIFFER)]
+    return "; ".join(found) or "other bytes"

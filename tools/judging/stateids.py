@@ -1,4 +1,7 @@
-"""The stateids of a client (RFC 8881 section 8.2): which its opens and lock states have, what is held under them, and how they are used."""
+"""The stateids of a client (RFC 8881 section 8.2): which its opens and lock states have, what is held under them, and how they are used.
+
+A client that sends several compounds at once may have a reply on its way to those that use the stateid. So what a reply says counts against it when
+it has sent the next compound on the slot of that reply: by then it has taken it."""
 
 SPECIAL = ("0x" + "00" * 12, "0x" + "ff" * 12)
 # operations that use a stateid, but for TEST_STATEID, which may ask for any
@@ -13,9 +16,22 @@ class Given:
     def __init__(self, kind, frame, of=None):
         self.kind, self.frame, self.of = kind, frame, of
         self.seqid, self.ranges, self.ended, self.ending = 0, [], None, 0
+        # the highest seqid of replies that were taken, and those of replies that may not be
+        self.taken, self.coming = 0, []
 
-    def gives(self, seqid):
+    def gives(self, seqid, sent):
         self.seqid = max(self.seqid, seqid)
+        self.coming.append((seqid, sent))
+
+    def known(self):
+        """The highest seqid that the client knows."""
+        self.taken = max([self.taken, *(seqid for seqid, sent in self.coming if sent.is_over and sent.answered is not None)])
+        self.coming = [(seqid, sent) for seqid, sent in self.coming if not sent.is_over]
+        return self.taken
+
+    def has_ended(self):
+        """Whether the client knows that it has ended."""
+        return self.ended is not None and self.ended[2].is_over and self.ended[2].answered is not None
 
 
 class Stateids:
@@ -43,12 +59,12 @@ class Stateids:
         if given is None:
             if self.client.is_whole:
                 self.say("never-given", (frame,), other, f"{name} uses a stateid that {'another client has' if is_of_other(other) else 'no reply gave'}")
-        elif given.ended:
+        elif given.has_ended():
             rule = "after-free" if given.ended[0] == "FREE_STATEID" else "after-close"
             if name != "FREE_STATEID" or rule == "after-free":
                 self.say(rule, (given.ended[1], frame), other, f"{name} uses it after {given.ended[0]}")
-        elif seqid and seqid < given.seqid:
-            self.say("old-seqid", (frame,), other, f"{name} uses seqid {seqid}, and a reply gave {given.seqid}")
+        elif seqid and seqid < given.known():
+            self.say("old-seqid", (frame,), other, f"{name} uses seqid {seqid}, and a reply gave {given.taken}")
         elif seqid > given.seqid and self.client.is_whole:
             self.say("never-given", (frame,), other, f"{name} uses seqid {seqid}, and the last that a reply gave is {given.seqid}")
         if given and name in ("CLOSE", "LOCKU"):
@@ -56,45 +72,45 @@ class Stateids:
 
     # what is answered
 
-    def answer(self, name, asked, told, frame):
-        """An operation was answered NFS4_OK."""
-        asked, told = dict(asked), dict(told)
+    def answer(self, name, asked, told, frame, sent):
+        """An operation of a compound was answered NFS4_OK."""
+        asked, told, at = dict(asked), dict(told), (frame, sent)
         if name in ("OPEN", "OPEN_DOWNGRADE"):
-            self.note("open", told["StateID"], frame)
+            self.note("open", told["StateID"], at)
             if "delegation_stateid" in told:
-                self.note("delegation", told["delegation_stateid"], frame)
+                self.note("delegation", told["delegation_stateid"], at)
         elif name == "LOCK":
             of = parts(asked["StateID"])[1] if asked["new_lock_owner"] == "1" else None
-            self.note("lock state", told["StateID"], frame, of).ranges = added(self.ranges(told), *range_of(asked))
+            self.note("lock state", told["StateID"], at, of).ranges = added(self.ranges(told), *range_of(asked))
         elif name == "LOCKU":
-            state = self.note("lock state", told["StateID"], frame)
+            state = self.note("lock state", told["StateID"], at)
             state.ranges, state.ending = taken(state.ranges, *range_of(asked)), max(0, state.ending - 1)
         elif name == "CLOSE":
-            self.close(parts(asked["StateID"])[1], frame)
+            self.close(parts(asked["StateID"])[1], at)
         elif name == "FREE_STATEID":
-            self.end(parts(asked["StateID"])[1], "FREE_STATEID", frame)
+            self.end(parts(asked["StateID"])[1], "FREE_STATEID", at)
 
     def ranges(self, told):
         state = self.given.get(parts(told["StateID"])[1])
         return state.ranges if state else []
 
-    def note(self, kind, word, frame, of=None):
+    def note(self, kind, word, at, of=None):
         seqid, other = parts(word)
         state = self.given.get(other)
         if state is None or state.ended:
-            state = self.given[other] = Given(kind, frame, of)
-        state.gives(seqid)
+            state = self.given[other] = Given(kind, at[0], of)
+        state.gives(seqid, at[1])
         return state
 
-    def close(self, other, frame):
-        self.end(other, "CLOSE", frame)
+    def close(self, other, at):
+        self.end(other, "CLOSE", at)
         for lock, state in self.given.items():
             if state.of == other and not state.ended:
-                self.end(lock, "CLOSE of its open", frame)
+                self.end(lock, "CLOSE of its open", at)
 
-    def end(self, other, why, frame):
+    def end(self, other, why, at):
         if other in self.given:
-            self.given[other].ended, self.given[other].ranges = (why, frame), []
+            self.given[other].ended, self.given[other].ranges = (why, *at), []
 
     # the end
 

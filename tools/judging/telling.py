@@ -1,6 +1,8 @@
 """What was found, as text and as cases for a gate; and which promises of docs/PROMISES.md hold for the run."""
-from .rules import KEPT, MADE, ONCE, RULES
+from .rules import IF_TAKEN, KEPT, MADE, ONCE, RULES
 
+# what this repository's server calls itself
+OURS = "nfs41d"
 # how many findings of a rule and client are printed without --all
 SHOWN = 3
 
@@ -54,16 +56,30 @@ def promises(judge, unit):
     """Which promises hold for the run, because their premises do."""
     lines = []
     for group in (ONCE, KEPT, MADE):
-        broken = {place: finding for (rule, client, place), finding in reversed(judge.broken.items()) if RULES[rule].premise_of is group
-                  for place in [place or f"client {client}"]}
+        broken = {}
+        for (rule, client, place), finding in sorted(judge.broken.items(), key=lambda one: (one[1].rule == IF_TAKEN, one[1].frames[-1])):
+            if RULES[rule].premise_of is group:
+                broken.setdefault(place or f"client {client}", finding)
+        late = {place: finding for place, finding in broken.items() if finding.rule == IF_TAKEN}
+        if late and len(late) == len(broken):
+            lines.append(f"Of {listed(group)} this run keeps the premises if the client did not take replies that came after it had sent the next number:")
+            lines += [f"  {place} from {unit} {finding.frames[-1]} on ({finding.rule})" for place, finding in late.items()]
+            continue
         if not broken:
             why = unknown(judge, group)
             lines.append(f"Of {listed(group)} " + (f"it is not known whether this run keeps the premises: {why}." if why else
-                                                   "this run keeps the premises, so what docs/PROMISES.md says there holds for it."))
+                                                   f"this run keeps the premises, {holds(judge.server)}"))
             continue
         lines.append(f"Of {listed(group)} this run breaks a premise, so docs/PROMISES.md does not speak there of:")
         lines += [f"  {place} from {unit} {finding.frames[-1]} on ({finding.rule})" for place, finding in broken.items()]
     return lines
+
+
+def holds(server):
+    """What follows where the premises are kept, which stands on whose server it is."""
+    if server == OURS:
+        return "so what docs/PROMISES.md says there holds for it."
+    return f"but docs/PROMISES.md speaks of {OURS}, and {'the capture does not tell the server' if server is None else f'the server is {server}'}."
 
 
 def unknown(judge, group):
