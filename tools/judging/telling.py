@@ -52,7 +52,14 @@ def of_client(judge, client, unit, has_all):
     return lines
 
 
-def promises(judge, unit):
+def places(broken, unit, has_all):
+    """Where premises were broken, and from which frame on."""
+    lines = [f"  {place} from {unit} {finding.frames[-1]} on ({finding.rule})" for place, finding in broken.items()]
+    more = len(lines) - SHOWN
+    return lines if has_all or more <= 0 else [*lines[:SHOWN], f"  and {more} more; --all shows them"]
+
+
+def promises(judge, unit, has_all):
     """Which promises hold for the run, because their premises do."""
     lines = []
     for group in (ONCE, KEPT, MADE):
@@ -63,7 +70,7 @@ def promises(judge, unit):
         late = {place: finding for place, finding in broken.items() if finding.rule == IF_TAKEN}
         if late and len(late) == len(broken):
             lines.append(f"Of {listed(group)} this run keeps the premises if the client did not take replies that came after it had sent the next number:")
-            lines += [f"  {place} from {unit} {finding.frames[-1]} on ({finding.rule})" for place, finding in late.items()]
+            lines += places(late, unit, has_all)
             continue
         if not broken:
             why = unknown(judge, group)
@@ -71,7 +78,7 @@ def promises(judge, unit):
                                                    f"this run keeps the premises, {holds(judge.server)}"))
             continue
         lines.append(f"Of {listed(group)} this run breaks a premise, so docs/PROMISES.md does not speak there of:")
-        lines += [f"  {place} from {unit} {finding.frames[-1]} on ({finding.rule})" for place, finding in broken.items()]
+        lines += places(broken, unit, has_all)
     return lines
 
 
@@ -124,7 +131,7 @@ def text(judge, name, unit, notes, has_all=False):
         lines.append("The server answered that it does not have: " + ", ".join(f"{name} ({times} times)" for name, times in lacking.items()))
     total = sum(judge.counts.values())
     lines.append(f"{total or 'no'} finding{'s' * (total != 1)}")
-    return lines + promises(judge, unit)
+    return lines + promises(judge, unit, has_all)
 
 
 # For a gate.
