@@ -11,8 +11,8 @@ ANY = ("COMPOUND", "NULL")
 # The faults by their words: what comes after them (S seconds, STATUS), and what may be told behind `at` (B bytes, K an operation).
 FAULTS = {
     "call lost": ("", ""), "call twice": ("", ""), "call held": ("S", ""), "reply lost": ("", ""), "reply twice": ("", ""),
-    "reply held": ("S", ""), "reply behind next": ("", ""), "cut before call": ("", ""), "cut inside call": ("", "B"),
-    "cut behind call": ("", ""), "cut before reply": ("", ""), "cut inside reply": ("", "B"), "cut behind reply": ("", ""),
+    "reply held": ("S", ""), "reply after next": ("", ""), "cut before call": ("", ""), "cut inside call": ("", "B"),
+    "cut after call": ("", ""), "cut before reply": ("", ""), "cut inside reply": ("", "B"), "cut after reply": ("", ""),
     "answer": ("STATUS", "K"), "cut": ("", ""), "stop": ("S", ""), "hand over": ("", ""),
 }
 # Those that are done to all connections, and take no call.
@@ -259,8 +259,8 @@ def plan_of(text):
 
 # What --seed chooses from. A lost reply is one whose connection is cut: a client of version 4.1 waits for a reply as long as its connection
 # stands (RFC 8881 section 2.9.2).
-CHOSEN = ["cut before call", "cut inside call", "cut behind call", "cut before reply", "cut inside reply", "cut behind reply",
-          "reply held 0.3", "reply behind next", "call twice", "call held 0.3", "answer NFS4ERR_DELAY at 1", "answer NFS4ERR_DELAY at 2"]
+CHOSEN = ["cut before call", "cut inside call", "cut after call", "cut before reply", "cut inside reply", "cut after reply",
+          "reply held 0.3", "reply after next", "call twice", "call held 0.3", "answer NFS4ERR_DELAY at 1", "answer NFS4ERR_DELAY at 2"]
 
 
 class RandomPlan(Plan):

@@ -261,7 +261,7 @@ class Between:
         elif fault.what == "cut before call":
             it.cut()
             it.back.close()
-        elif fault.what == "cut behind call":
+        elif fault.what == "cut after call":
             it.waiting[record[:4]] = None, None, "", None
             await sent(it.back, data)
             it.cut()
@@ -309,13 +309,13 @@ class Between:
             await self.to_client(it, data + data)
         elif what == "reply held":
             self.loop.call_later(fault.seconds, self.to_client_later, it, data)
-        elif what == "reply behind next":
+        elif what == "reply after next":
             it.kept.append(data)
             self.loop.call_later(PATIENCE, self.to_client_kept, it, data)
         elif what == "cut inside reply":
             await self.to_client(it, data[:min(fault.place or len(data) // 2, len(data) - 1)])
             it.cut()
-        elif what == "cut behind reply":
+        elif what == "cut after reply":
             await self.to_client(it, data)
             it.cut()
         elif what == "cut before reply":
