@@ -53,13 +53,20 @@ def packets(path, notes=None):
 
 
 def over_tcp(path, notes=None):
-    """The packets of TCP over IPv4: the number of the frame, as Wireshark counts them; moment, packet, and where TCP begins in it."""
+    """The packets of TCP: the number of the frame, as Wireshark counts them; moment, the addresses of source and target, and what TCP has."""
     for frame, (second, part, packet) in enumerate(packets(path, notes), 1):
-        if len(packet) >= 20 and packet[0] >> 4 == 4 and packet[9] == socket.IPPROTO_TCP:
-            packet = packet[:struct.unpack_from(">H", packet, 2)[0]]
-            tcp = packet[4 * (packet[0] & 15):]
-            if len(tcp) >= 20:
-                yield frame, second, part, packet, tcp
+        *addresses, tcp = of_ip(packet)
+        if len(tcp) >= 20:
+            yield frame, second, part, addresses, tcp
+
+
+def of_ip(packet):
+    """The addresses of an IP packet of TCP, and what TCP has of it, which is nothing of another; IPv6 has no headers between here."""
+    if len(packet) >= 20 and packet[0] >> 4 == 4 and packet[9] == socket.IPPROTO_TCP:
+        return packet[12:16], packet[16:20], packet[4 * (packet[0] & 15):struct.unpack_from(">H", packet, 2)[0]]
+    if len(packet) >= 40 and packet[0] >> 4 == 6 and packet[6] == socket.IPPROTO_TCP:
+        return packet[8:24], packet[24:40], packet[40:40 + struct.unpack_from(">H", packet, 4)[0]]
+    return b"", b"", b""
 
 
 def ports(path):
@@ -68,20 +75,20 @@ def ports(path):
 
 
 def segments(path, port):
-    """The TCP segments to and from a port over IPv4: moment, client (address and port), whether the server sent it, flags, sequence number, bytes."""
+    """The TCP segments to and from a port: moment, client (address and port), whether the server sent it, flags, sequence number, bytes."""
     for _, _, *segment in numbered(path, port):
         yield segment
 
 
 def numbered(path, port, notes=None):
     """The same, and before each the number of its frame, and which sequence number it acknowledges (none without the flag)."""
-    for frame, second, part, packet, tcp in over_tcp(path, notes):
+    for frame, second, part, addresses, tcp in over_tcp(path, notes):
         source, target, number, acknowledged = struct.unpack_from(">HHII", tcp)
         data, told = tcp[4 * (tcp[12] >> 4):], acknowledged if tcp[13] & ACK else None
         if source == port:
-            yield frame, told, (second, part), (packet[16:20], target), True, tcp[13], number, data
+            yield frame, told, (second, part), (addresses[1], target), True, tcp[13], number, data
         elif target == port:
-            yield frame, told, (second, part), (packet[12:16], source), False, tcp[13], number, data
+            yield frame, told, (second, part), (addresses[0], source), False, tcp[13], number, data
 
 
 def ahead(number, base):

@@ -32,8 +32,10 @@ class Client:
         self.renewed = self.confirmed = None
         self.longest = None       # the longest time without a renewal, and its frames
         self.ended = None         # why the server does not know it any more, or that it ended itself
-        self.reclaimed, self.is_reclaim_known = None, is_whole
-        self.number, self.making = None, None
+        # whether RECLAIM_COMPLETE was sent, or that is not known; and the frame in which it was answered NFS4_OK
+        self.has_reclaimed, self.reclaimed = not is_whole, None
+        # the number of CREATE_SESSION that is next, if it is known, and the one that was sent last
+        self.number = self.making = None
         self.stateids = Stateids(self)
         self.lacking, self.calls = {}, 0
 
@@ -69,13 +71,13 @@ class Client:
 
     def reclaims(self, frame):
         if self.reclaimed is not None:
-            self.say("reclaim-complete", (self.reclaimed, frame), "it is sent a second time")
-        self.reclaimed = frame
+            self.say("reclaim-complete", (self.reclaimed, frame), "it is sent though it was answered NFS4_OK")
+        self.has_reclaimed = True
 
     def locks(self, frame, name):
-        if self.reclaimed is None and self.is_reclaim_known:
+        if not self.has_reclaimed:
             self.say("reclaim-complete", (frame,), f"{name} is sent before RECLAIM_COMPLETE")
-            self.is_reclaim_known = False
+            self.has_reclaimed = True
 
     # operations that the server does not have
 
@@ -93,7 +95,8 @@ class Client:
 
     def makes_session(self, call_fields, frame):
         number = int(call_fields["seqid"])
-        if self.number is not None and number not in (self.number, self.number - 1) or self.number is not None and number == self.number - 1 and self.making is None:
+        allowed = (self.number,) if self.making is None else (self.number, self.making)
+        if self.number is not None and number not in allowed:
             self.say("session-numbers", (frame,), f"CREATE_SESSION has number {number}, where {self.number} is next")
         self.making = number
 
@@ -102,7 +105,7 @@ class Client:
 
     def forget(self, moment, frame):
         """Bytes of it are lacking: what it may have done there is not held against it."""
-        self.is_whole, self.is_reclaim_known, self.number = False, False, None
+        self.is_whole, self.has_reclaimed, self.number = False, True, None
         if self.renewed is not None:
             self.renewed = self.confirmed = moment, frame
 

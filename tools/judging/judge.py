@@ -77,6 +77,11 @@ class Judge:
         link.waiting.clear()
         for session in link.sessions:
             self.forget(session, moment, place)
+        # (one of them may have made a session here)
+        with_session = {session.client for session in self.sessions.values()}
+        for client in self.clients.values():
+            if client not in with_session:
+                client.forget(moment, place)
 
     def finish(self):
         """The end of what is judged."""
@@ -230,6 +235,8 @@ class Judge:
                 continue
             if client:
                 client.stateids.answer(name, asked, told, place, sent)
+                if name == "RECLAIM_COMPLETE" and dict(asked)["one_fs"] == "0":
+                    client.reclaimed = place
             if name in ANSWERS:
                 ANSWERS[name](self, dict(asked), dict(told), moment, place)
 

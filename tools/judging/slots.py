@@ -44,8 +44,8 @@ class Slot:
     def __init__(self, place, is_known, found):
         self.place, self.is_known, self.found = place, is_known, found
         self.last, self.count, self.again, self.moved = None, 0, 0, 0
-        # compounds that were passed over while they waited
-        self.open_ends = []
+        # compounds that were passed over while they waited; and the first number behind what is not known
+        self.open_ends, self.floor = [], None
 
     def forget(self):
         """Compounds or replies may be lacking from here on."""
@@ -60,6 +60,7 @@ class Slot:
         if last is None:
             if self.is_known and new.number != 1:
                 self.say("numbers", (new.sendings[0],), f"the first number is {new.number}")
+            self.floor = None if self.is_known else new.number
             return self.take(new)
         if new.number == last.number:
             return self.same_number(last, new, has_ended)
@@ -68,12 +69,16 @@ class Slot:
             self.open_ends.remove(asked)
             text = f"{new.name} ({names_of(asked.call)}) had no reply when the next number was sent, which was misordered; a lone SEQUENCE asks whether it ran"
             self.say("asked-instead", (asked.sendings[-1], asked.passed, new.sendings[0]), text)
-        elif ahead != 1:
+        elif ahead != 1 and not self.is_before_all(new):
             how = f"{ahead - 1} skipped" if ahead < ROUND // 2 else f"{ROUND - ahead} back"
             self.say("numbers", (last.sendings[-1], new.sendings[0]), f"{new.name} comes after {last.name}: {how}")
-        else:
+        elif ahead == 1:
             self.next_number(last, new)
         return self.take(new)
+
+    def is_before_all(self, new):
+        """Whether it goes back to where the capture lacks bytes, as a lone SEQUENCE does that asks for a compound there."""
+        return self.floor is not None and new.number < self.floor and self.last.refused == "NFS4ERR_SEQ_MISORDERED"
 
     def asked_by(self, new):
         """The compound that was given up, and of which a lone SEQUENCE asks whether it ran, where a later number was refused as misordered."""
