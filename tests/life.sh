@@ -114,7 +114,6 @@ in_stress() {
     stress chmod --chmod-ops 60
     stress seek --seek-ops 100 --seek-size 512K
     stress hdd --hdd-ops 60 --hdd-bytes 512K --hdd-write-size 4K
-    stress io-uring --io-uring-ops 1
 }
 
 in_bonnie() {
