@@ -1,7 +1,7 @@
 -- How long a lease lasts, by what attribute 10 says, does not change; and GETATTR says it.
 use Rattle.std.proofs.Common.{◌≡◌, ℕ, ◌+◌, Bool, true, false, cond, eqb, List, [], ◌∷◌, length, Option, Some, None, refl, sym, ◌∙◌, ap, subst, inl, inr}
 use Rattle.std.specs.Prelude.{Result, Ok, Err, is_some, ◌&&◌}
-use Rattle.std.proofs.lemmas.Bool.{cases_Bool, false≢true}
+use Rattle.std.proofs.lemmas.Bool.{cases_Bool}
 use Rattle.nfs_xdr.specs.Caller.{Caller}
 use Rattle.nfs_xdr.specs.Tables.{In}
 use Rattle.nfs_xdr.specs.Spelling.{number}
@@ -13,8 +13,6 @@ use Rattle.nfs_compound.specs.declared.op.Op.TheVariants as Op
 use Rattle.nfs_compound.specs.Request.{Request, item_number}
 use Rattle.nfs_compound.specs.declared.session_args.CreateSession.{CreateSession}
 use Rattle.nfs_compound.specs.declared.session_args.Sequence.{Sequence}
-use Rattle.nfs_results.specs.declared.res.Res.TheVariants as Res
-use Rattle.nfs_results.specs.Results.{spell_result, status_of_result}
 use Rattle.nfs_clients.specs.CreateSession as clients
 use Rattle.nfs_clients.specs.CreateSession.{leaving}
 use Rattle.nfs_clients.specs.DestroyClientId.{destroy_fault}
@@ -24,13 +22,10 @@ use Rattle.nfs_sessions.specs.Id.{id_of}
 use Rattle.nfs_sessions.specs.Sessions.{SessionTable, session_at, create}
 use Rattle.nfs_sessions.specs.declared.id.SessionId.{SessionId}
 use Rattle.nfs_sessions.specs.declared.sessions.SessionFault.{SessionFault}
-use Rattle.nfs_attrs.specs.Attributes.{attributes, values}
+use Rattle.nfs_attrs.specs.Mask.{mask_of, has}
 use Rattle.nfs_names.specs.declared.context.Context.{Context}
 use Rattle.nfs_names.specs.Context.{begins}
 use Rattle.nfs_names.specs.State.{State, moment}
-use Rattle.nfs_names.specs.GetAttr.{get_attr}
-use Rattle.nfs_names.proofs.NameLaws.{by_get_attr}
-use Rattle.nfs_names.specs.Outcome as of_store
 use Rattle.nfs_files.proofs.Outcomes as files
 use Rattle.nfs_files.proofs.Outcomes.{for_each}
 use Rattle.nfs_files.proofs.Steady.{lease_names, lease_files}
@@ -46,10 +41,12 @@ use Rattle.nfs_exec.specs.Sequence as sequence
 use Rattle.nfs_exec.specs.Sequence.{Sequenced, sequenced}
 use Rattle.nfs_exec.specs.Compound.{carried_out, by_fault, first_item, renewed, begun, bare, in_session, by_first, compound}
 use Rattle.nfs_exec.specs.Laws.{MachineEvent, Expires, Asks}
+use Rattle.nfs_exec.specs.AttributesTold.{TellsValue}
 use Rattle.nfs_exec.specs.Ops.{RanOp, ops, ops_in, ops_of, ops_by}
 use Rattle.nfs_exec.proofs.Behind.{by_step, follow_kept}
 use Rattle.nfs_exec.proofs.WholeRun.{Is, marked_store, otherwise_store, in_more}
-use Rattle.nfs_exec.proofs.AnsweredRun.{in_room_is, too_big, as_step, IsRun, event_run}
+use Rattle.nfs_exec.proofs.AnsweredRun.{event_run}
+use Rattle.nfs_exec.proofs.AttributesTold.{lease_in}
 
 abbrev pub Lasts : ℕ → Machine → Type 0
 Lasts lease m = m.store.lease ≡ lease
@@ -182,32 +179,8 @@ event_ops_last m (Expires now) lease is d there = absurd there
 event_ops_last m (Asks r who size now choice) lease is d there =
     first_ops m r who size now choice r.left lease is d (in_more (eqb r.minor 1) d (ops_of m r who size now choice r.left) there)
 
--- GETATTR of attribute 10.
-
--- the mask of attribute 10 alone
-abbrev pub ten : List ℕ
-ten = 0x400 ∷ []
-
-lease_result : (s : State) (x : Context) → of_store.is_ok (status_of_result (get_attr s x ten).result) ≡ true
-    → (get_attr s x ten).result ≡ Res.GetAttr (record { attrmask = ten; attr_vals = number s.lease })
-unfolding attributes values number
-lease_result s x =
-    by_get_attr (λ o. of_store.is_ok (status_of_result o.result) ≡ true → o.result ≡ Res.GetAttr (record { attrmask = ten; attr_vals = number s.lease })) s x ten
-    (λ f h ok. absurd (false≢true (sym h.done ∙ ok))) (λ d there plain ok. refl)
-
 -- a GETATTR of attribute 10 that answered NFS4_OK
-pub lease_told : (d : RanOp) → IsRun d → (lease : ℕ) → Lasts lease d.before → d.item ≡ Operation (Op.GetAttr ten) → is_ok d.status ≡ true
-    → d.result ≡ spell_result (Res.GetAttr (record { attrmask = ten; attr_vals = number lease }))
-lease_told d r lease lasts item ok =
-    let same = as_step d r (Operation (Op.GetAttr ten)) item in
-    let text : List ℕ = spell_result (Res.GetAttr (record { attrmask = ten; attr_vals = number lease })) in
-    ap (λ (d : RanOp). d.result) same
-    ∙ in_room_is (λ s. is_ok s.outcome.status ≡ true → s.outcome.result ≡ text) r.limit r.sofar r.now r.refused d.before d.context (Operation (Op.GetAttr ten))
-    (λ ok. absurd (too_big d.before d.context (Operation (Op.GetAttr ten)) ok))
-    (λ ok. ap spell_result (lease_result d.before.store d.context ok)
-    ∙ ap (λ (n : ℕ). spell_result (Res.GetAttr (record { attrmask = ten; attr_vals = number n }))) lasts)
-    (ap (λ (d : RanOp). is_ok d.status) (sym same) ∙ ok)
-
-pub event_told : (m : Machine) (e : MachineEvent) (lease : ℕ) → Is m → Lasts lease m → (d : RanOp) → In d (ops_by m e) → d.item ≡ Operation (Op.GetAttr ten)
-    → is_ok d.status ≡ true → d.result ≡ spell_result (Res.GetAttr (record { attrmask = ten; attr_vals = number lease }))
-event_told m e lease is lasts d there = lease_told d (event_run m e is d there).0 lease (event_ops_last m e lease lasts d there)
+pub event_told : (m : Machine) (e : MachineEvent) (lease : ℕ) (words : List ℕ) → Is m → Lasts lease m → (d : RanOp) → In d (ops_by m e)
+    → d.item ≡ Operation (Op.GetAttr words) → has (mask_of words) 10 ≡ true → is_ok d.status ≡ true → TellsValue 10 (number lease) (mask_of words) d.result
+event_told m e lease words is lasts d there item ten ok =
+    subst (λ (n : ℕ). TellsValue 10 (number n) (mask_of words) d.result) (event_ops_last m e lease lasts d there) (lease_in d (event_run m e is d there).0 words item ten ok)

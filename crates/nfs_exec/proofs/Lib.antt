@@ -23,11 +23,14 @@ pub mod WholeRun
 pub mod Lone
 pub mod HeldRun
 pub mod AnsweredRun
+pub mod LockOwners
 pub mod Renewing
 pub mod Outlasting
+pub mod AttributesTold
 pub mod Lasting
 pub mod OthersOps
 pub mod OthersRun
+pub mod Ended
 pub mod OneWalk
 pub mod OpenRun
 pub mod Strangers

@@ -1,24 +1,22 @@
--- What holds of a store, and of it where clients other than one end, holds behind an operation that stands alone, if that client's owner is confirmed under no
--- other id.
-use Rattle.std.proofs.Common.{◌≡◌, ◌≢◌, ℕ, Bool, true, false, cond, not, List, Option, Some, None, refl, sym, ◌∙◌, ap, subst, inl, inr}
-use Rattle.std.specs.Prelude.{◌==◌, ◌&&◌, find, option_map, is_some, Result, Ok, Err}
-use Rattle.std.proofs.lemmas.Slice.Eq.{bytes_eq-Decides}
-use Rattle.std.proofs.lemmas.Bool.{cases_Bool, eq-eqb, ne_eqb, eqb-true, and_parts, false≢true}
+-- What holds of a store, and of it where clients other than one end, holds behind an operation that stands alone, if that is no CREATE_SESSION by which another id
+-- takes that client's place.
+use Rattle.std.proofs.Common.{◌≡◌, ◌≢◌, ℕ, suc, ◌+◌, ◌<◌, Bool, true, false, cond, not, List, [], ◌∷◌, Option, Some, None, refl, sym, ◌∙◌, ap, arith, inl, inr}
+use Rattle.std.specs.Prelude.{◌==◌, ◌&&◌, find, option_map, is_some, bytes_eq, Result, Ok, Err}
+use Rattle.std.specs.Option.{option_map_or}
+use Rattle.std.proofs.lemmas.Bool.{cases_Bool, eq-eqb, ne_eqb, eqb-true, and_parts, and_from, false≢true}
 use Rattle.nfs_xdr.specs.Caller.{Caller}
 use Rattle.nfs_xdr.specs.Tables.{In}
 use Rattle.nfs_xdr.specs.declared.status.Status.{Status}
 use Rattle.nfs_xdr.specs.declared.status.Status.TheVariants.{Delay}
-use Rattle.nfs_xdr.proofs.Lists.{stays_in, map_in, find_in}
+use Rattle.nfs_xdr.proofs.Lists.{any_in, in_any, find_in}
 use Rattle.nfs_compound.specs.declared.op.Item.{Item}
 use Rattle.nfs_compound.specs.declared.op.Item.TheVariants.{Operation}
 use Rattle.nfs_compound.specs.declared.op.Op.TheVariants as Op
 use Rattle.nfs_compound.specs.Request.{item_number}
 use Rattle.nfs_compound.specs.declared.session_args.CreateSession.{CreateSession}
 use Rattle.nfs_clients.specs.CreateSession as clients
-use Rattle.nfs_clients.specs.CreateSession.{leaving, leaving_by, without_any, confirms, keeps, with_kept, with_confirmed, is_other_confirmed_of}
-use Rattle.nfs_clients.specs.Roster.{ClientRecord, Roster, client_at, without}
-use Rattle.nfs_clients.proofs.Members.{change_at, mild_at, mild_keeps}
-use Rattle.nfs_clients.specs.declared.created.CreateResult.{CreateResult}
+use Rattle.nfs_clients.specs.CreateSession.{leaving, leaving_by, is_other_confirmed_of}
+use Rattle.nfs_clients.specs.Roster.{ClientRecord, Roster, client_at}
 use Rattle.nfs_clients.specs.declared.created.CreateResult.TheVariants as results
 use Rattle.nfs_clients.specs.DestroyClientId.{destroy_fault}
 use Rattle.nfs_clients.specs.declared.destroy.DestroyFault.{DestroyFault}
@@ -31,88 +29,67 @@ use Rattle.nfs_names.specs.Outcome.{is_ok}
 use Rattle.nfs_exec.specs.Machine.{Machine, Outcome, or_delay, refuses}
 use Rattle.nfs_exec.specs.Place.{item_fault}
 use Rattle.nfs_exec.specs.ExchangeId.{exchange_id, exchange_id_number}
-use Rattle.nfs_exec.specs.CreateSession.{create_session_number, by_verdict, creates, by_created, confirmed, made_body, wish_of, without_any_opens}
+use Rattle.nfs_exec.specs.CreateSession.{create_session_number, by_verdict, creates, by_created, wish_of, without_any_opens}
 use Rattle.nfs_exec.specs.Destroy.{destroy_session, destroyed_unless, has_session}
 use Rattle.nfs_exec.specs.Compound.{carried_out, by_fault, first_item}
-use Rattle.nfs_exec.specs.LockHeld.{IsAlone}
+use Rattle.nfs_exec.specs.LockHeld.{is_of_owner, takes_place}
 
-confirms_owner : (n : ℕ) (c : ClientRecord) → (change_at n confirms c).owner ≡ c.owner
-confirms_owner n c = elim (c.id == n) as (λ v. (cond v (confirms c) c).owner ≡ c.owner) [ true ↦ refl | false ↦ refl ]
-
-confirms_id : (n : ℕ) (c : ClientRecord) → (change_at n confirms c).id ≡ c.id
-confirms_id n c = elim (c.id == n) as (λ v. (cond v (confirms c) c).id ≡ c.id) [ true ↦ refl | false ↦ refl ]
-
-confirms_mark : (n : ℕ) (c : ClientRecord) → c.id ≡ n → (change_at n confirms c).confirmed ≡ true
-confirms_mark n c is = rw (eq-eqb c.id n is) refl
-
--- the record that is confirmed stands behind it, where another one goes
-confirmed_in : (t : Roster) (id client : ℕ) (result : CreateResult) (c : ClientRecord) → In c t.records → c.id ≡ id → id ≢ client → leaving t id ≡ Some client
-    → In (change_at id (keeps result) (change_at id confirms c)) (with_kept (with_confirmed t id) id result).records
-confirmed_in t id client result c there is other leaves =
-    let left : In c (without t client).records =
-    stays_in (λ (x : ClientRecord). not (x.id == client)) t.records c there (ap not (ne_eqb c.id client (λ same. other (sym is ∙ same)))) in
-    let stays : In c (without_any t (leaving t id)).records = subst (λ o. In c (without_any t o).records) (sym leaves) left in
-    map_in (change_at id (keeps result)) (with_confirmed t id).records (change_at id confirms c) (map_in (change_at id confirms) (without_any t (leaving t id)).records c stays)
-
--- a confirmation behind which a client's owner is confirmed under no other id removes no record of the client's
-none_replaced : (m : Machine) (now id client : ℕ) (body : List ℕ) (t : SessionTable) → IsAlone client m (confirmed (record m { sessions = t }) now id body)
-    → leaving m.clients id ≢ Some client
-none_replaced m now id client body t alone leaves = by_record (client_at m.clients id) refl
+-- what confirms no other id of a client's owner removes no record of the client's
+pub not_leaving : (t : Roster) (id client : ℕ) → not (id == client) && option_map_or (λ (k : ClientRecord). is_of_owner t client k.owner) (client_at t id) false ≡ false
+    → leaving t id ≢ Some client
+not_leaving t id client spares leaves = by_record (client_at t id) refl
   where
-    by_found : (c : ClientRecord) → client_at m.clients id ≡ Some c → (o : Option ClientRecord) → find (is_other_confirmed_of c) m.clients.records ≡ o → ⊥
+    by_found : (c : ClientRecord) → client_at t id ≡ Some c → (o : Option ClientRecord) → find (is_other_confirmed_of c) t.records ≡ o → ⊥
     by_found c at None none =
-        let bad : None ≡ Some client = sym (ap (leaving_by m.clients) at ∙ ap (option_map (λ (d : ClientRecord). d.id)) none) ∙ leaves in absurd cc
+        let bad : None ≡ Some client = sym (ap (leaving_by t) at ∙ ap (option_map (λ (d : ClientRecord). d.id)) none) ∙ leaves in cc
     by_found c at (Some d) found =
-        let gone : Some d.id ≡ Some client = sym (ap (leaving_by m.clients) at ∙ ap (option_map (λ (d : ClientRecord). d.id)) found) ∙ leaves in
+        let gone : Some d.id ≡ Some client = sym (ap (leaving_by t) at ∙ ap (option_map (λ (d : ClientRecord). d.id)) found) ∙ leaves in
         let same : d.id ≡ client = cc in
-        let here = find_in (λ (c : ClientRecord). c.id == id) m.clients.records c at in
-        let named : c.id ≡ id = eqb-true _ _ here.1 in
-        let there = find_in (is_other_confirmed_of c) m.clients.records d found in
+        let named : c.id ≡ id = eqb-true _ _ (find_in (λ (c : ClientRecord). c.id == id) t.records c at).1 in
+        let there = find_in (is_other_confirmed_of c) t.records d found in
         let tests = and_parts _ _ there.1 in
-        let owner : d.owner ≡ c.owner = (bytes_eq-Decides d.owner c.owner).0 (and_parts _ _ tests.0).0 in
-        let other : id ≢ client = λ e. false≢true (sym (ap not (eq-eqb d.id c.id (same ∙ sym e ∙ sym named))) ∙ tests.1) in
-        let one = change_at id confirms c in
-        let mild = mild_at (keeps (results.Done body)) id (mild_keeps (results.Done body)) in
-        other (sym named ∙ sym (confirms_id id c) ∙ sym (mild.id one)
-        ∙ alone d (change_at id (keeps (results.Done body)) one) there.0 same (confirmed_in m.clients id client (results.Done body) c here.0 named other leaves)
-        (mild.owner one ∙ confirms_owner id c ∙ sym owner) (mild.mark one ∙ confirms_mark id c named))
+        let owner : is_of_owner t client c.owner ≡ true =
+        any_in (λ (k : ClientRecord). (k.id == client) && bytes_eq k.owner c.owner) t.records d there.0
+        (and_from (d.id == client) (bytes_eq d.owner c.owner) (eq-eqb d.id client same) (and_parts _ _ tests.0).0) in
+        let other : (id == client) ≡ false =
+        ne_eqb id client (λ e. false≢true (sym (ap not (eq-eqb d.id c.id (same ∙ sym e ∙ sym named))) ∙ tests.1)) in
+        false≢true (sym spares
+        ∙ and_from (not (id == client)) (option_map_or (λ (k : ClientRecord). is_of_owner t client k.owner) (client_at t id) false) (ap not other)
+        (ap (λ (o : Option ClientRecord). option_map_or (λ (k : ClientRecord). is_of_owner t client k.owner) o false) at ∙ owner))
 
-    by_record : (o : Option ClientRecord) → client_at m.clients id ≡ o → ⊥
-    by_record None none = let bad : None ≡ Some client = sym (ap (leaving_by m.clients) none) ∙ leaves in absurd cc
-    by_record (Some c) at = by_found c at (find (is_other_confirmed_of c) m.clients.records) refl
+    by_record : (o : Option ClientRecord) → client_at t id ≡ o → ⊥
+    by_record None none = let bad : None ≡ Some client = sym (ap (leaving_by t) none) ∙ leaves in cc
+    by_record (Some c) at = by_found c at (find (is_other_confirmed_of c) t.records) refl
 
 -- it holds where clients other than this one end
 abbrev pub HoldsForOthers : ℕ → (State → Type 0) → Type 0
 HoldsForOthers client P = (s : State) (o : Option ℕ) → o ≢ Some client → P s → P (without_any_opens s o)
 
--- it holds where the client's owner is confirmed under no other id behind it
-abbrev pub HoldsIfAlone : ℕ → (State → Type 0) → Machine → Machine → Type 0
-HoldsIfAlone client P before behind = IsAlone client before behind → P behind.store
-
 made : (client : ℕ) (P : State → Type 0) → HoldsForOthers client P → (m : Machine) (now : ℕ) (c : CreateSession) (t : SessionTable) (v : Result SessionId SessionFault)
-    → P m.store → HoldsIfAlone client P m (by_created m now c t v).machine
-made client P others m now c t (Ok id) is alone =
-    others m.store (leaving m.clients c.clientid) (none_replaced m now c.clientid client (made_body c id) t alone) is
-made client P others m now c t (Err fault) is alone = is
+    → P m.store → is_ok (by_created m now c t v).status && takes_place client m.clients (Operation (Op.CreateSession c)) ≡ false → P (by_created m now c t v).machine.store
+made client P others m now c t (Ok id) is spares = others m.store (leaving m.clients c.clientid) (not_leaving m.clients c.clientid client spares) is
+made client P others m now c t (Err fault) is spares = is
 
-delayed : (client : ℕ) (P : State → Type 0) (m : Machine) (o : Outcome) (refused : Bool) (n : ℕ) → P m.store → HoldsIfAlone client P m o.machine
-    → HoldsIfAlone client P m (or_delay refused m n o).machine
-delayed client P m o refused n before after = go (refused && is_ok o.status)
+delayed : (P : State → Type 0) (m : Machine) (o : Outcome) (refused : Bool) (n : ℕ) (mine : Bool) → P m.store → (is_ok o.status && mine ≡ false → P o.machine.store)
+    → is_ok (or_delay refused m n o).status && mine ≡ false → P (or_delay refused m n o).machine.store
+delayed P m o refused n mine before after = go (refused && is_ok o.status)
   where
-    go : (b : Bool) → HoldsIfAlone client P m (cond b (refuses m n Delay) o).machine
-    go true alone = before
-    go false alone = after alone
+    go : (b : Bool) → is_ok (cond b (refuses m n Delay) o).status && mine ≡ false → P (cond b (refuses m n Delay) o).machine.store
+    go true spares = before
+    go false spares = after spares
 
 created : (client : ℕ) (P : State → Type 0) → HoldsForOthers client P → (m : Machine) (now : ℕ) (refused : Bool) (c : CreateSession) (v : clients.Verdict)
-    → P m.store → HoldsIfAlone client P m (by_verdict m now refused c v).machine
-created client P others m now refused c clients.Stale is alone = is
-created client P others m now refused c (clients.Again (results.Done body)) is alone = is
-created client P others m now refused c (clients.Again (results.Refused status)) is alone = is
-created client P others m now refused c clients.Misordered is alone = is
-created client P others m now refused c clients.InUse is alone = is
-created client P others m now refused c clients.Runs is alone =
+    → P m.store → is_ok (by_verdict m now refused c v).status && takes_place client m.clients (Operation (Op.CreateSession c)) ≡ false
+    → P (by_verdict m now refused c v).machine.store
+created client P others m now refused c clients.Stale is spares = is
+created client P others m now refused c (clients.Again (results.Done body)) is spares = is
+created client P others m now refused c (clients.Again (results.Refused status)) is spares = is
+created client P others m now refused c clients.Misordered is spares = is
+created client P others m now refused c clients.InUse is spares = is
+created client P others m now refused c clients.Runs is spares =
     let did = create m.sessions c.clientid (wish_of m c) in
-    delayed client P m (creates m now c did) refused create_session_number is (made client P others m now c did.after did.answer is) alone
+    delayed P m (creates m now c did) refused create_session_number (takes_place client m.clients (Operation (Op.CreateSession c))) is
+    (made client P others m now c did.after did.answer is) spares
 
 destroyed : (P : State → Type 0) (m : Machine) (gone : ℕ) (o : Option DestroyFault) → P m.store → P (destroyed_unless m gone o).machine.store
 destroyed P m gone None is = is
@@ -122,20 +99,63 @@ session : (P : State → Type 0) (m : Machine) (sessionid : List ℕ) → P m.st
 session P m sessionid is = elim (cases_Bool (is_some (session_at m.sessions (id_of sessionid)))) [ inl stood ↦ rw stood is | inr gone ↦ rw gone is ]
 
 carried : (client : ℕ) (P : State → Type 0) → HoldsForOthers client P → (m : Machine) (who : Caller) (now : ℕ) (refused : Bool) (i : Item) → P m.store
-    → HoldsIfAlone client P m (carried_out m who now refused i).machine
-carried client P others m who now refused (Operation (Op.ExchangeId e)) is alone =
-    delayed client P m (exchange_id m who now e) refused exchange_id_number is (λ alone. is) alone
-carried client P others m who now refused (Operation (Op.CreateSession c)) is alone =
-    created client P others m now refused c (clients.create_verdict m.clients c.clientid c.sequence who.uid) is alone
-carried client P others m who now refused (Operation (Op.DestroySession sessionid)) is alone = session P m sessionid is
-carried client P others m who now refused (Operation (Op.DestroyClientId gone)) is alone =
+    → is_ok (carried_out m who now refused i).status && takes_place client m.clients i ≡ false → P (carried_out m who now refused i).machine.store
+carried client P others m who now refused (Operation (Op.ExchangeId e)) is spares =
+    delayed P m (exchange_id m who now e) refused exchange_id_number false is (λ none. is) spares
+carried client P others m who now refused (Operation (Op.CreateSession c)) is spares =
+    created client P others m now refused c (clients.create_verdict m.clients c.clientid c.sequence who.uid) is spares
+carried client P others m who now refused (Operation (Op.DestroySession sessionid)) is spares = session P m sessionid is
+carried client P others m who now refused (Operation (Op.DestroyClientId gone)) is spares =
     destroyed P m gone (destroy_fault m.clients gone (has_session m.sessions gone)) is
-carried client P others m who now refused i is alone = is
+carried client P others m who now refused i is spares = is
 
 pub holds_alone : (client : ℕ) (P : State → Type 0) → HoldsForOthers client P → (m : Machine) (declared : ℕ) (who : Caller) (now : ℕ) (refused : Bool) (i : Item)
-    → P m.store → HoldsIfAlone client P m (first_item m declared who now refused i).machine
+    → P m.store → is_ok (first_item m declared who now refused i).status && takes_place client m.clients i ≡ false → P (first_item m declared who now refused i).machine.store
 holds_alone client P others m declared who now refused i is = go (item_fault declared i)
   where
-    go : (f : Option Status) → HoldsIfAlone client P m (by_fault m (item_number i) f (carried_out m who now refused i)).machine
-    go None alone = carried client P others m who now refused i is alone
-    go (Some status) alone = is
+    go : (f : Option Status) → is_ok (by_fault m (item_number i) f (carried_out m who now refused i)).status && takes_place client m.clients i ≡ false
+        → P (by_fault m (item_number i) f (carried_out m who now refused i)).machine.store
+    go None spares = carried client P others m who now refused i is spares
+    go (Some status) spares = is
+
+-- whoever ends by it: no record has an id above all
+abbrev pub above : List ClientRecord → ℕ
+above [] = 0
+above (c ∷ cs) = suc c.id + above cs
+
+below_all : (cs : List ClientRecord) (a : ClientRecord) → In a cs → a.id < above cs
+below_all [] a there = absurd there
+below_all (c ∷ cs) a there = elim there [
+  | inl here ↦ (let same = ap (λ (a : ClientRecord). a.id) here in omega arith)
+  | inr later ↦ (let lt = below_all cs a later in omega arith)
+]
+
+none_above : (t : Roster) (owner : List ℕ) → is_of_owner t (above t.records) owner ≡ false
+none_above t owner = elim (cases_Bool (is_of_owner t (above t.records) owner)) [
+  | inr none ↦ none
+  | inl some ↦ absurd (let (k, there, is) = in_any (λ (k : ClientRecord). (k.id == above t.records) && bytes_eq k.owner owner) t.records some in
+      let lt = below_all t.records k there in
+      let same : k.id ≡ above t.records = eqb-true k.id (above t.records) (and_parts _ _ is).0 in
+      omega (arith, lt, same))
+]
+
+-- so it holds whatever stands alone, where it holds whoever ends
+pub holds_whoever : (P : State → Type 0) → ((s : State) (o : Option ℕ) → P s → P (without_any_opens s o)) → (m : Machine) (declared : ℕ) (who : Caller) (now : ℕ) (refused : Bool)
+    (i : Item) → P m.store → P (first_item m declared who now refused i).machine.store
+holds_whoever P each m declared who now refused i is =
+    let n = above m.clients.records in
+    holds_alone n P (λ s o other here. each s o here) m declared who now refused i is
+    (spares (is_ok (first_item m declared who now refused i).status) (takes_place n m.clients i) (none_replaced i))
+  where
+    spares : (ok b : Bool) → b ≡ false → ok && b ≡ false
+    spares true b none = none
+    spares false b none = refl
+
+    by_record : (b : Bool) (o : Option ClientRecord) → b && option_map_or (λ (k : ClientRecord). is_of_owner m.clients (above m.clients.records) k.owner) o false ≡ false
+    by_record true None = refl
+    by_record true (Some k) = none_above m.clients k.owner
+    by_record false o = refl
+
+    none_replaced : (i : Item) → takes_place (above m.clients.records) m.clients i ≡ false
+    none_replaced (Operation (Op.CreateSession c)) = by_record (not (c.clientid == above m.clients.records)) (client_at m.clients c.clientid)
+    none_replaced i = refl

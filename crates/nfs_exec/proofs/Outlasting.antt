@@ -38,7 +38,7 @@ use Rattle.nfs_exec.specs.Run.{is_here, behind_here}
 use Rattle.nfs_exec.specs.Compound.{carried_out, by_fault, first_item, renewed, begun, bare, in_session, by_first, compound}
 use Rattle.nfs_exec.specs.Laws.{Asks, first_runs, if_runs}
 use Rattle.nfs_exec.specs.LockHeld.{is_of}
-use Rattle.nfs_exec.specs.Renewing.{adds, is_for, renews_alone, renews_or_begins}
+use Rattle.nfs_exec.specs.Renewing.{adds, is_new, is_for, renews_alone, renews_or_begins}
 use Rattle.nfs_exec.proofs.Behind.{run_leases}
 
 abbrev pub IsStill : ℕ → Book → Book → Type 0
@@ -96,7 +96,7 @@ made_still m now client c t (Ok id) e =
 made_still m now client c t (Err fault) e = inr refl
 
 created_still : (m : Machine) (now client : ℕ) (refused : Bool) (c : CreateSession) (v : clients.Verdict)
-    → is_ok (by_verdict m now refused c v).status && (c.clientid == client) ≡ false → IsStill client m.leases (by_verdict m now refused c v).machine.leases
+    → is_ok (by_verdict m now refused c v).status && (is_new v && (c.clientid == client)) ≡ false → IsStill client m.leases (by_verdict m now refused c v).machine.leases
 created_still m now client refused c clients.Stale e = inr refl
 created_still m now client refused c (clients.Again (kept.Done body)) e = inr refl
 created_still m now client refused c (clients.Again (kept.Refused status)) e = inr refl

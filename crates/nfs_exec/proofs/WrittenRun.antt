@@ -1,5 +1,5 @@
 -- A byte that was written lasts through compounds and expiry.
-use Rattle.std.proofs.Common.{◌≡◌, ℕ, suc, ◌+◌, ◌<◌, Bool, true, false, cond, eqb, not, List, [], ◌∷◌, ◌++◌, get_or, Option, Some, None, refl, sym, ◌∙◌, ap, subst, arith, inl, inr}
+use Rattle.std.proofs.Common.{◌≡◌, ℕ, ◌+◌, Bool, true, false, cond, eqb, not, List, [], ◌∷◌, ◌++◌, get_or, Option, Some, None, refl, sym, ◌∙◌, ap, subst, arith, inl, inr}
 use Rattle.std.specs.Prelude.{◌==◌, ◌||◌, is_some, option_map}
 use Rattle.std.specs.Option.{option_map_or}
 use Rattle.std.proofs.lemmas.Bool.{cases_Bool, cases_eq, eqb-true, eq-eqb, false≢true}
@@ -18,7 +18,6 @@ use Rattle.nfs_compound.specs.Request.{Request}
 use Rattle.nfs_compound.specs.declared.session_args.Sequence.{Sequence}
 use Rattle.nfs_results.specs.declared.res.Res.TheVariants as Res
 use Rattle.nfs_results.specs.Results.{spell_result}
-use Rattle.nfs_clients.specs.Roster.{ClientRecord}
 use Rattle.nfs_sessions.specs.Id.{id_of}
 use Rattle.nfs_tree.specs.declared.object.FileType.{FileType}
 use Rattle.nfs_tree.specs.declared.row.Row.{Row}
@@ -28,7 +27,7 @@ use Rattle.nfs_tree.specs.Files.{root, stored_in, object_at, is_there, has_row}
 use Rattle.nfs_attrs.specs.Handle.{handle_of}
 use Rattle.nfs_names.specs.declared.context.Context.{Context}
 use Rattle.nfs_names.specs.Context.{begins, at_object}
-use Rattle.nfs_names.specs.Outcome.{checked, answers}
+use Rattle.nfs_names.specs.Outcome.{answers}
 use Rattle.nfs_names.specs.Outcome as outcome
 use Rattle.nfs_names.specs.PutFh.{put_fh}
 use Rattle.nfs_names.specs.State.{State, moment, is_open, is_used}
@@ -51,7 +50,8 @@ use Rattle.nfs_exec.specs.WrittenRun.{WritesIt, SparesIt, AreSpared, StandsBefor
 use Rattle.nfs_exec.proofs.Behind.{by_step}
 use Rattle.nfs_exec.proofs.WholeRun.{Is, otherwise_store, whole_events, start_whole}
 use Rattle.nfs_exec.proofs.OpsRun.{are_run}
-use Rattle.nfs_exec.proofs.Lone.{HoldsForOthers, holds_alone}
+use Rattle.nfs_exec.specs.CreateSession.{without_any_opens}
+use Rattle.nfs_exec.proofs.Lone.{holds_whoever}
 use Rattle.nfs_exec.proofs.AnsweredRun.{in_room_is, IsRun, ran_as, as_step, event_run}
 
 abbrev pub LastsIn : Byte → Machine → Type 0
@@ -221,28 +221,14 @@ chain_told b m (f ∷ front) write back chained runs writes = chain_told b f.beh
 
 -- An event.
 
--- an operation that stands alone, whoever ends by it: no record has an id above all
-abbrev above : List ClientRecord → ℕ
-above [] = 0
-above (c ∷ cs) = suc c.id + above cs
-
-below_all : (cs : List ClientRecord) (a : ClientRecord) → In a cs → a.id < above cs
-below_all [] a there = absurd there
-below_all (c ∷ cs) a there = elim there [
-  | inl here ↦ (let same = ap (λ (a : ClientRecord). a.id) here in omega arith)
-  | inr later ↦ (let lt = below_all cs a later in omega arith)
-]
-
-without_left : (b : Byte) (client : ℕ) → HoldsForOthers client (λ s. Lasts b s.tree)
-without_left b client s None other is = is
-without_left b client s (Some gone) other is = lasts_staying b _ s is
+-- an operation that stands alone, whoever ends by it
+without_left : (b : Byte) (s : State) (o : Option ℕ) → Lasts b s.tree → Lasts b (without_any_opens s o).tree
+without_left b s None is = is
+without_left b s (Some gone) is = lasts_staying b _ s is
 
 alone_left : (b : Byte) (m : Machine) (declared : ℕ) (who : Caller) (now : ℕ) (refused : Bool) (i : Item) → LastsIn b m
     → LastsIn b (first_item m declared who now refused i).machine
-alone_left b m declared who now refused i is =
-    let n = above m.clients.records in
-    holds_alone n (λ s. Lasts b s.tree) (without_left b n) m declared who now refused i is
-    (λ a c in_a same in_c owner confirmed. absurd (let lt = below_all m.clients.records a in_a in omega arith))
+alone_left b m declared who now refused i is = holds_whoever (λ s. Lasts b s.tree) (without_left b) m declared who now refused i is
 
 -- it begins with this machine, and leaves what its operations leave
 record Through (b : Byte) (m left : Machine) (ds : List RanOp) : Type 0 where

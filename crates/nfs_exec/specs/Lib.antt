@@ -17,8 +17,10 @@ pub mod Delayed
 pub mod DelayedOpen
 pub mod Ops
 pub mod LockHeld
+pub mod AttributesTold
 pub mod OpenHeld
 pub mod Own
+pub mod Ended
 pub mod Renewing
 pub mod Runs
 pub mod WrittenRun

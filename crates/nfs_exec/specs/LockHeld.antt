@@ -1,27 +1,34 @@
 -- A lock that was told, and what ends it: what a client asked and was answered (RFC 8881 sections 8.3, 9.1, 18.2, 18.10 and 18.12). That is an operation
 -- that answers NFS4_OK and unlocks a byte of it, locks one in another way or closes its open; and the end of its client.
-use Rattle.std.specs.Prelude.{◌≡◌, ℕ, ◌≤◌, ◌==◌, Bool, true, false, List, [], ◌∷◌, Some, Ok, option_map}
+use Rattle.std.specs.Prelude.{◌≡◌, ℕ, ◌≤◌, ◌==◌, ◌&&◌, not, Bool, false, List, [], ◌∷◌, Option, Some, Ok, option_map, bytes_eq}
+use Rattle.std.specs.List.{list_any}
 use Rattle.std.specs.Option.{option_map_or}
+use Rattle.nfs_xdr.specs.Caller.{Caller}
 use Rattle.nfs_xdr.specs.Tables.{In}
 use Rattle.nfs_compound.specs.declared.lock_args.Lock as args
 use Rattle.nfs_compound.specs.declared.lock_args.LockU.{LockU}
 use Rattle.nfs_compound.specs.declared.open_args.Close.{Close}
 use Rattle.nfs_compound.specs.declared.op_num.OpNum.TheVariants as Num
+use Rattle.nfs_compound.specs.declared.op.Item.{Item}
 use Rattle.nfs_compound.specs.declared.op.Item.TheVariants.{Operation}
 use Rattle.nfs_compound.specs.declared.op.Op.TheVariants as Op
 use Rattle.nfs_compound.specs.declared.session_args.Sequence.{Sequence}
+use Rattle.nfs_compound.specs.Request.{Request}
 use Rattle.nfs_sessions.specs.Id.{id_of}
-use Rattle.nfs_clients.specs.Roster.{ClientRecord}
+use Rattle.nfs_clients.specs.Roster.{ClientRecord, Roster, client_at}
 use Rattle.nfs_opens.specs.declared.locking.Wish.{Wish}
 use Rattle.nfs_opens.specs.declared.records.LockState.{LockState}
 use Rattle.nfs_opens.specs.declared.stateid.CurrentSeqid.TheVariants.{Own}
 use Rattle.nfs_opens.specs.declared.stateid.StateId.{StateId}
 use Rattle.nfs_opens.specs.Table.{lock_at}
+use Rattle.nfs_names.specs.Outcome.{is_ok}
 use Rattle.nfs_files.specs.StateIds.{meant}
 use Rattle.nfs_files.specs.Ranges.{wished}
 use Rattle.nfs_files.specs.LockTold.{Names, LockTold, Stands, IsAlike, IsBeside, Clashes}
 use Rattle.nfs_exec.specs.Machine.{Machine}
-use Rattle.nfs_exec.specs.Laws.{MachineEvent, ran}
+use Rattle.nfs_exec.specs.Run.{is_here}
+use Rattle.nfs_exec.specs.Compound.{first_item}
+use Rattle.nfs_exec.specs.Laws.{MachineEvent, Expires, Asks, ran}
 use Rattle.nfs_exec.specs.Ops.{RanOp}
 
 -- a LOCK for the bytes of a wish that answered NFS4_OK and the stateid of lock state n
@@ -76,10 +83,24 @@ pub record Tells (k : LockTold) (d : RanOp) : Type 0 where
   pub client : k.client ≡ d.context.client
   pub opened : option_map (λ (l : LockState). l.opened) (lock_at d.behind.store.opens k.state) ≡ Some k.opened
 
--- Behind it no other id is confirmed for the owner that the client had before it.
-abbrev pub IsAlone : ℕ → (before behind : Machine) → Type 0
-IsAlone client before behind =
-    (a b : ClientRecord) → In a before.clients.records → a.id ≡ client → In b behind.clients.records → b.owner ≡ a.owner → b.confirmed ≡ true → b.id ≡ client
+-- the record of the id has this owner
+abbrev pub is_of_owner : Roster → ℕ → List ℕ → Bool
+is_of_owner t client owner = list_any (λ (c : ClientRecord). (c.id == client) && bytes_eq c.owner owner) t.records
+
+-- a CREATE_SESSION of another id of the client's owner
+abbrev pub takes_place : ℕ → Roster → Item → Bool
+takes_place client t (Operation (Op.CreateSession c)) =
+    not (c.clientid == client) && option_map_or (λ (k : ClientRecord). is_of_owner t client k.owner) (client_at t c.clientid) false
+takes_place client t item = false
+
+abbrev pub replaces_in : ℕ → Machine → Request → Caller → ℕ → Option ℕ → List Item → Bool
+replaces_in client m r who now choice [] = false
+replaces_in client m r who now choice (item ∷ more) = is_ok (first_item m r.declared who now (is_here choice) item).status && takes_place client m.clients item
+
+-- The event replaces the client: such a CREATE_SESSION, which is answered NFS4_OK.
+abbrev pub replaces : ℕ → Machine → MachineEvent → Bool
+replaces client m (Expires now) = false
+replaces client m (Asks r who size now choice) = r.minor == 1 && replaces_in client m r who now choice r.left
 
 -- The SEQUENCE behind which the event runs operations is of a session of the client, and so renews its lease.
 abbrev pub is_of : ℕ → Sequence → Bool

@@ -1,5 +1,5 @@
 -- Which events renew a client's lease or begin it (RFC 8881 sections 8.3, 18.35 and 18.36).
-use Rattle.std.specs.Prelude.{ℕ, ◌==◌, ◌&&◌, ◌||◌, Bool, false, List, [], ◌∷◌, Option, Result, Ok, Err}
+use Rattle.std.specs.Prelude.{ℕ, ◌==◌, ◌&&◌, ◌||◌, Bool, true, false, List, [], ◌∷◌, Option, Result, Ok, Err}
 use Rattle.nfs_xdr.specs.Caller.{Caller}
 use Rattle.nfs_compound.specs.declared.op.Item.{Item}
 use Rattle.nfs_compound.specs.declared.op.Item.TheVariants.{Operation}
@@ -7,6 +7,7 @@ use Rattle.nfs_compound.specs.declared.op.Op.TheVariants as Op
 use Rattle.nfs_compound.specs.Request.{Request}
 use Rattle.nfs_clients.specs.declared.exchange_id.Exchanged.{Exchanged}
 use Rattle.nfs_clients.specs.declared.exchange_id.ClientFault.{ClientFault}
+use Rattle.nfs_clients.specs.CreateSession.{Verdict, Runs, create_verdict}
 use Rattle.nfs_clients.specs.ExchangeId.{exchange}
 use Rattle.nfs_names.specs.Outcome.{is_ok}
 use Rattle.nfs_exec.specs.Machine.{Machine}
@@ -21,10 +22,15 @@ abbrev pub adds : ℕ → Result Exchanged ClientFault → Bool
 adds client (Ok x) = x.added && (x.id == client)
 adds client (Err fault) = false
 
--- a CREATE_SESSION of the client, or an EXCHANGE_ID that adds its record
+-- its number is the one behind the client's last: a repeat renews nothing
+abbrev pub is_new : Verdict → Bool
+is_new Runs = true
+is_new verdict = false
+
+-- a CREATE_SESSION of the client with a new number, or an EXCHANGE_ID that adds its record
 abbrev pub is_for : ℕ → Machine → Caller → Item → Bool
 is_for client m who (Operation (Op.ExchangeId e)) = adds client (exchange m.clients (ask_of who e)).answer
-is_for client m who (Operation (Op.CreateSession c)) = c.clientid == client
+is_for client m who (Operation (Op.CreateSession c)) = is_new (create_verdict m.clients c.clientid c.sequence who.uid) && (c.clientid == client)
 is_for client m who item = false
 
 -- outside a session, where it answers NFS4_OK

@@ -4,6 +4,7 @@ ghost use Rattle.nfs_exec.specs.Laws.{RepeatsChangeNothing, RefusalsChangeNothin
 ghost use Rattle.nfs_exec.specs.Compared.{ComparesAllButHighest, DifferThereAlone};
 ghost use Rattle.nfs_exec.specs.Delayed.{DelayIsACut, NothingDelays};
 ghost use Rattle.nfs_exec.specs.DelayedOpen.{IsWorked};
+ghost use Rattle.nfs_exec.specs.Ended.{WhatRunsOutEnds};
 ghost use Rattle.nfs_exec.specs.Ops.{OpsAreRun, OpsAreRunIn, AnswersAreTheirs};
 ghost use Rattle.nfs_exec.specs.Runs.{NoneInRuns};
 ghost use Rattle.nfs_exec.specs.OneSession.{GivesOne};
@@ -29,6 +30,11 @@ pub fn refusals_change_nothing()
 /// A request that ran does not run again on its session and slot before 2^32 minus 1 others ran there, whatever comes between.
 pub fn never_runs_again()
     ensures { NeverRunsAgain }
+{}
+
+/// Expiry ends all that a client has whose lease has run out, and leaves every other client what it has; a byte that is held then is held by a lock state that stays.
+pub fn what_runs_out_ends()
+    ensures { WhatRunsOutEnds }
 {}
 
 /// What has run out at a moment has run out at each later one, and expiry at both is expiry at the later.

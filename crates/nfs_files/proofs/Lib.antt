@@ -32,6 +32,7 @@ pub mod Inside
 pub mod KeptLocks
 pub mod KeptOps
 pub mod ToldLocks
+pub mod LockOwners
 pub mod Steady
 pub mod ToldGrants
 pub mod ToldOpens

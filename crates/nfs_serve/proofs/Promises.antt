@@ -29,6 +29,7 @@ pub mod Forms
 pub mod LockKept
 pub mod Outlived
 pub mod HeldLock
+pub mod LockOwned
 pub mod WrongLocks
 pub mod Others
 pub mod OthersWorked

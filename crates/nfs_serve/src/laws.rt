@@ -12,6 +12,7 @@ ghost use Rattle.nfs_serve.specs.Promises.Forms.{EachFormRunsRecords};
 ghost use Rattle.nfs_serve.specs.Promises.HeldLock.{IsHeldTo, AreBothTold};
 ghost use Rattle.nfs_serve.specs.Promises.HeldOpen.{IsOpenTo};
 ghost use Rattle.nfs_serve.specs.Promises.LockKept.{LockKept, EachIsTold, OnlyOneIsTold, LeaseIsTold};
+ghost use Rattle.nfs_serve.specs.Promises.LockOwned.{EachIsOwned, OwnersApart};
 ghost use Rattle.nfs_serve.specs.Promises.LostReply.{IsAccepted, IsOverAWire};
 ghost use Rattle.nfs_serve.specs.Promises.Network.{ExactlyOnce, AnswersExecuted};
 ghost use Rattle.nfs_serve.specs.Promises.Numbered.{AnswersNumbered, ExactlyOnceByNumber, XidsSuffice};
@@ -194,7 +195,18 @@ pub fn each_lock_is_told()
     ensures { EachIsTold }
 {}
 
-/// In every run a GETATTR of attribute 10 that answers NFS4_OK gives the number of seconds that leases last.
+/// A LOCK of a new lock owner that is answered NFS4_OK names a lock state of that owner's string and of the client.
+pub fn each_lock_is_its_owners()
+    ensures { EachIsOwned }
+{}
+
+/// The definitions compute: the LOCK of that run names a lock state of its owner, and `each_lock_is_its_owners` refuses a server that gives it to another owner of the
+/// client.
+pub fn lock_owners_are_apart()
+    ensures { OwnersApart }
+{}
+
+/// In every run a GETATTR of attribute 10, whatever else it asks for, that answers NFS4_OK gives the number of seconds that leases last.
 pub fn lease_is_told()
     ensures { LeaseIsTold }
 {}
@@ -227,8 +239,8 @@ pub fn wrong_locks_are_refused()
     ensures { AreRefused }
 {}
 
-/// Nobody else touches what is a client's: behind a record that ran in a session of it, while its lease lasts and nobody confirms another id for its
-/// owner, records of others leave its opens, its lock states, their stateids and the bytes that they hold as they were.
+/// Nobody else touches what is a client's: behind a record that ran in a session of it, while its lease lasts and no CREATE_SESSION puts another
+/// id in its place, records of others leave its opens, its lock states, their stateids and the bytes that they hold as they were.
 pub fn others_leave_all()
     ensures { OthersLeaveAll }
 {}

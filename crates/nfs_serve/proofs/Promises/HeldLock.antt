@@ -1,10 +1,8 @@
 -- The run of a lock that is kept, computed.
-use Rattle.std.proofs.Common.{◌≡◌, ℕ, ◌+◌, ◌≤◌, Bool, true, false, cond, List, [], ◌∷◌, ◌++◌, length, take, drop, refl, sym, ◌∙◌, ap, subst, arith, inl, inr}
-use Rattle.std.specs.Prelude.{◌==◌, ◌&&◌, not, nat_le, bytes_eq, if◌then◌else◌, Ok}
+use Rattle.std.proofs.Common.{◌≡◌, ℕ, ◌+◌, ◌≤◌, Bool, true, false, List, [], ◌∷◌, ◌++◌, length, take, drop, refl, sym, ◌∙◌, ap, subst, arith, inl, inr}
+use Rattle.std.specs.Prelude.{◌&&◌, not, nat_le, bytes_eq, if◌then◌else◌, Ok}
 use Rattle.std.specs.Int.{w64, from_be_bytes}
-use Rattle.std.proofs.lemmas.Bool.{and_parts, eqb-true, eq-eqb, leb-true, true≢false}
-use Rattle.std.proofs.lemmas.Slice.Eq.{bytes_eq-Decides}
-use Rattle.nfs_xdr.specs.Tables.{In}
+use Rattle.std.proofs.lemmas.Bool.{and_parts, leb-true, true≢false}
 use Rattle.nfs_xdr.specs.Spelling.{number}
 use Rattle.nfs_xdr.specs.declared.status.Status.TheVariants.{Nfs4Ok}
 use Rattle.nfs_compound.specs.declared.op_num.OpNum.{OpNum}
@@ -16,17 +14,15 @@ use Rattle.nfs_compound.specs.declared.op.Op.TheVariants as Op
 use Rattle.nfs_compound.specs.declared.lock_args.Lock.{Lock}
 use Rattle.nfs_compound.specs.declared.lock_args.Locker.TheVariants.{OpenOwner}
 use Rattle.nfs_compound.specs.declared.lock_args.LockType.TheVariants as LockTypes
-use Rattle.nfs_clients.specs.Roster.{ClientRecord}
 use Rattle.nfs_names.specs.Context.{begins}
 use Rattle.nfs_files.specs.Ranges.{wished}
 use Rattle.nfs_files.specs.LockTold.{LockTold, Names}
-use Rattle.nfs_exec.specs.Machine.{Machine}
 use Rattle.nfs_exec.specs.Ops.{RanOp}
-use Rattle.nfs_exec.specs.LockHeld.{LocksFor, Spares, AreSpared, IsAlone}
+use Rattle.nfs_exec.specs.LockHeld.{LocksFor, Spares, AreSpared}
 use Rattle.nfs_serve.specs.Step.{State}
 use Rattle.nfs_serve.specs.Promises.Endpoint.{Arrival}
 use Rattle.nfs_serve.specs.Promises.Points.{state_after, state_after_all, taken, before, ops_of}
-use Rattle.nfs_serve.specs.Promises.LockKept.{renews_by, AreInTime}
+use Rattle.nfs_serve.specs.Promises.LockKept.{renews_by, replaces_by, AreInTime}
 use Rattle.nfs_serve.specs.Promises.HeldLock as worked
 use Rattle.nfs_serve.specs.Promises.HeldLock.{start, locks, last_of, IsHeldTo, AreBothTold}
 use Rattle.nfs_serve.proofs.Promises.Computing.{computing}
@@ -76,57 +72,29 @@ all_spared k (x ∷ ds) e d there = (let p = and_parts _ _ e in elim there [
   | inr later ↦ all_spared k ds p.1 d later
 ])
 
--- A client's record has its owner, and no other record has.
-
-abbrev pub is_own : ℕ → List ℕ → ClientRecord → Bool
-is_own client owner c = if c.id == client then bytes_eq c.owner owner else not (bytes_eq c.owner owner)
-
-abbrev pub all_own : ℕ → List ℕ → List ClientRecord → Bool
-all_own client owner [] = true
-all_own client owner (c ∷ cs) = is_own client owner c && all_own client owner cs
-
-both : (v w : Bool) → cond v w (not w) ≡ true → v ≡ w
-both true w e = sym e
-both false true e = absurd (true≢false (sym e))
-both false false e = refl
-
-own_in : (client : ℕ) (owner : List ℕ) (cs : List ClientRecord) → all_own client owner cs ≡ true → (c : ClientRecord) → In c cs
-    → (c.id == client) ≡ bytes_eq c.owner owner
-own_in client owner [] e c there = absurd there
-own_in client owner (x ∷ cs) e c there = (let p = and_parts _ _ e in elim there [
-  | inl here ↦ subst (λ (c : ClientRecord). (c.id == client) ≡ bytes_eq c.owner owner) (sym here) (both (x.id == client) (bytes_eq x.owner owner) p.0)
-  | inr later ↦ own_in client owner cs p.1 c later
-])
-
-pub alone : (client : ℕ) (owner : List ℕ) (first left : Machine) → all_own client owner first.clients.records ≡ true
-    → all_own client owner left.clients.records ≡ true → IsAlone client first left
-alone client owner first left e f a b in_a is in_b same confirmed =
-    let named : a.owner ≡ owner = (bytes_eq-Decides a.owner owner).0 (sym (own_in client owner first.clients.records e a in_a) ∙ eq-eqb a.id client is) in
-    eqb-true b.id client (own_in client owner left.clients.records f b in_b ∙ (bytes_eq-Decides b.owner owner).1 (same ∙ named))
+pub not_so : (b : Bool) → not b ≡ true → b ≡ false
+not_so true e = absurd (true≢false (sym e))
+not_so false e = refl
 
 -- So the premises can be tested.
 
-abbrev in_time : LockTold → List ℕ → (lease last : ℕ) → State → List Arrival → Bool
-in_time k owner lease last s [] = true
-in_time k owner lease last s (c ∷ more) =
+abbrev in_time : LockTold → (lease last : ℕ) → State → List Arrival → Bool
+in_time k lease last s [] = true
+in_time k lease last s (c ∷ more) =
     nat_le (taken s c) (last + lease)
     && (all_spare (ops_of s c)
-    && (all_own k.client owner (before s c).clients.records
-    && (all_own k.client owner (state_after s c).machine.clients.records
-    && in_time k owner lease (if renews_by k.client s c then taken s c else last) (state_after s c) more)))
+    && (not (replaces_by k.client s c) && in_time k lease (if renews_by k.client s c then taken s c else last) (state_after s c) more))
 
-are_in_time : (k : LockTold) (owner : List ℕ) (lease last : ℕ) (s : State) (cs : List Arrival) → in_time k owner lease last s cs ≡ true
-    → AreInTime k lease last s cs (λ last t. Unit {0})
-are_in_time k owner lease last s [] e = tt
-are_in_time k owner lease last s (c ∷ more) e =
+are_in_time : (k : LockTold) (lease last : ℕ) (s : State) (cs : List Arrival) → in_time k lease last s cs ≡ true → AreInTime k lease last s cs (λ last t. Unit {0})
+are_in_time k lease last s [] e = tt
+are_in_time k lease last s (c ∷ more) e =
     let p = and_parts _ _ e in
     let q = and_parts _ _ p.1 in
-    let r = and_parts _ _ q.1 in
-    let t = and_parts _ _ r.1 in (
+    let r = and_parts _ _ q.1 in (
       leb-true _ _ p.0,
       all_spared k (ops_of s c) q.0,
-      alone k.client owner (before s c) (state_after s c).machine r.0 t.0,
-      are_in_time k owner lease (if renews_by k.client s c then taken s c else last) (state_after s c) more t.1,
+      not_so (replaces_by k.client s c) r.0,
+      are_in_time k lease (if renews_by k.client s c then taken s c else last) (state_after s c) more r.1,
     )
 
 -- and up to what holds behind them
@@ -198,7 +166,7 @@ is_held_to = record {
     client = refl;
     opened = refl;
   };
-  kept = are_in_time worked.told (0x41 ∷ []) 90 102 worked.locked (worked.waits ++ worked.clashes ∷ []) refl;
+  kept = are_in_time worked.told 90 102 worked.locked (worked.waits ++ worked.clashes ∷ []) refl;
   held = refl;
   denied = refl;
   still = refl;
@@ -218,7 +186,7 @@ are_both_told = record {
       (λ last t. (ops_of t worked.goes_beside
       ≡ take 2 (ops_of worked.asked worked.goes_beside) ++ last_of nothing (ops_of worked.asked worked.goes_beside) ∷ [])
       × (taken t worked.goes_beside ≤ last + 90)
-      × AreSpared worked.told (take 2 (ops_of worked.asked worked.goes_beside))) (are_in_time worked.told (0x41 ∷ []) 90 102 worked.locked worked.waits refl) (
+      × AreSpared worked.told (take 2 (ops_of worked.asked worked.goes_beside))) (are_in_time worked.told 90 102 worked.locked worked.waits refl) (
         three nothing (ops_of worked.asked worked.goes_beside) refl,
         omega arith,
         all_spared worked.told (take 2 (ops_of worked.asked worked.goes_beside)) refl,

@@ -11,15 +11,15 @@ use Rattle.nfs_exec.specs.Ops.{RanOp}
 use Rattle.nfs_exec.specs.OpenHeld.{NoneCloses, bits_left}
 use Rattle.nfs_serve.specs.Step.{State}
 use Rattle.nfs_serve.specs.Promises.Endpoint.{Arrival}
-use Rattle.nfs_serve.specs.Promises.Points.{state_after, state_after_all, taken, before, ops_of}
-use Rattle.nfs_serve.specs.Promises.LockKept.{renews_by}
+use Rattle.nfs_serve.specs.Promises.Points.{state_after, state_after_all, taken, ops_of}
+use Rattle.nfs_serve.specs.Promises.LockKept.{renews_by, replaces_by}
 use Rattle.nfs_serve.specs.Promises.OpenKept.{LeaveOpen}
 use Rattle.nfs_serve.specs.Promises.HeldLock as locks
 use Rattle.nfs_serve.specs.Promises.HeldLock.{last_of}
 use Rattle.nfs_serve.specs.Promises.HeldOpen as worked
 use Rattle.nfs_serve.specs.Promises.HeldOpen.{IsOpenTo}
 use Rattle.nfs_serve.specs.Promises.WrongOpens.{reads_too}
-use Rattle.nfs_serve.proofs.Promises.HeldLock.{all_own, alone, last_of_all, nothing}
+use Rattle.nfs_serve.proofs.Promises.HeldLock.{not_so, last_of_all, nothing}
 use Rattle.nfs_serve.proofs.Promises.Computing.{computing}
 
 -- No operation is a CLOSE.
@@ -45,32 +45,28 @@ none_closes k (x ∷ ds) e d there closes = (let p = and_parts _ _ e in elim the
 
 -- So the premises can be tested.
 
-abbrev in_time : ℕ → List ℕ → (lease last : ℕ) → State → List Arrival → Bool
-in_time client owner lease last s [] = true
-in_time client owner lease last s (c ∷ more) =
+abbrev in_time : ℕ → (lease last : ℕ) → State → List Arrival → Bool
+in_time client lease last s [] = true
+in_time client lease last s (c ∷ more) =
     nat_le (taken s c) (last + lease)
-    && (none_is_close (ops_of s c)
-    && (all_own client owner (before s c).clients.records
-    && (all_own client owner (state_after s c).machine.clients.records
-    && in_time client owner lease (if renews_by client s c then taken s c else last) (state_after s c) more)))
+    && (none_is_close (ops_of s c) && (not (replaces_by client s c) && in_time client lease (if renews_by client s c then taken s c else last) (state_after s c) more))
 
 abbrev bits_of_all : ℕ → Bits → State → List Arrival → Bits
 bits_of_all n b s [] = b
 bits_of_all n b s (c ∷ more) = bits_of_all n (bits_left n b (ops_of s c)) (state_after s c) more
 
-leave_open : (k : OpenTold) (owner : List ℕ) (b : Bits) (lease last : ℕ) (s : State) (cs : List Arrival) (Then : Bits → ℕ → State → Type 0)
-    → in_time k.client owner lease last s cs ≡ true → Then (bits_of_all k.number b s cs) (last_of_all k.client last s cs) (state_after_all s cs)
+leave_open : (k : OpenTold) (b : Bits) (lease last : ℕ) (s : State) (cs : List Arrival) (Then : Bits → ℕ → State → Type 0)
+    → in_time k.client lease last s cs ≡ true → Then (bits_of_all k.number b s cs) (last_of_all k.client last s cs) (state_after_all s cs)
     → LeaveOpen k b lease last s cs Then
-leave_open k owner b lease last s [] Then e holds = holds
-leave_open k owner b lease last s (c ∷ more) Then e holds =
+leave_open k b lease last s [] Then e holds = holds
+leave_open k b lease last s (c ∷ more) Then e holds =
     let p = and_parts _ _ e in
     let q = and_parts _ _ p.1 in
-    let r = and_parts _ _ q.1 in
-    let t = and_parts _ _ r.1 in (
+    let r = and_parts _ _ q.1 in (
       leb-true _ _ p.0,
       none_closes k (ops_of s c) q.0,
-      alone k.client owner (before s c) (state_after s c).machine r.0 t.0,
-      leave_open k owner (bits_left k.number b (ops_of s c)) lease (if renews_by k.client s c then taken s c else last) (state_after s c) more Then t.1 holds,
+      not_so (replaces_by k.client s c) r.0,
+      leave_open k (bits_left k.number b (ops_of s c)) lease (if renews_by k.client s c then taken s c else last) (state_after s c) more Then r.1 holds,
     )
 
 two : (x : RanOp) (ds : List RanOp) → length ds ≡ 2 → ds ≡ take 1 ds ++ last_of x ds ∷ []
@@ -90,7 +86,7 @@ is_open_to = record {
   told = last_of nothing (ops_of locks.start worked.opens);
   ops = two nothing (ops_of locks.start worked.opens) refl;
   tells = record { opens = record { asked = wanted; is = refl; names = refl; leads = refl }; client = refl; owner = refl; bits = refl };
-  kept = leave_open worked.its_open (0x41 ∷ []) worked.first_bits 90 102 worked.opened
+  kept = leave_open worked.its_open worked.first_bits 90 102 worked.opened
       (locks.waits ++ worked.asks ∷ worked.opens_again ∷ worked.asks_again ∷ worked.downgrades ∷ []) (λ b last s. b ≡ worked.last_bits) refl refl;
   denied = refl;
   joined = refl;

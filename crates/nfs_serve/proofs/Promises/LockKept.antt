@@ -1,28 +1,28 @@
 -- A lock that was told stays through all records that spare it and come in time.
-use Rattle.std.proofs.Common.{◌≡◌, ℕ, ◌+◌, ◌≤◌, true, false, cond, List, [], ◌∷◌, ◌++◌, length, Option, Some, None, refl, sym, ap, subst, arith, inl, inr}
+use Rattle.std.proofs.Common.{◌≡◌, ℕ, ◌+◌, ◌≤◌, true, false, cond, List, [], ◌∷◌, ◌++◌, length, Option, Some, None, refl, sym, subst, arith, inl, inr}
 use Rattle.std.specs.Option.{option_map_or}
 use Rattle.nfs_xdr.specs.Spelling.{number}
 use Rattle.nfs_xdr.specs.Tables.{In}
 use Rattle.nfs_compound.specs.declared.op.Item.TheVariants.{Operation}
 use Rattle.nfs_compound.specs.declared.op.Op.TheVariants as Op
-use Rattle.nfs_results.specs.declared.res.Res.TheVariants as Res
-use Rattle.nfs_results.specs.Results.{spell_result}
+use Rattle.nfs_attrs.specs.Mask.{mask_of, has}
 use Rattle.nfs_names.specs.Outcome.{is_ok}
 use Rattle.nfs_exec.specs.Machine.{Machine}
 use Rattle.nfs_exec.specs.Laws.{MachineEvent, Asks}
+use Rattle.nfs_exec.specs.AttributesTold.{TellsValue}
 use Rattle.nfs_exec.specs.Ops.{RanOp, ops_by}
 use Rattle.nfs_opens.specs.declared.locking.Wish.{Wish}
 use Rattle.nfs_files.specs.LockTold.{LockTold, Stands}
-use Rattle.nfs_exec.specs.LockHeld.{LocksFor, AreSpared, StandsBefore, StandsWhile, Tells, IsAlone, renews}
+use Rattle.nfs_exec.specs.LockHeld.{LocksFor, AreSpared, StandsBefore, StandsWhile, Tells, replaces, renews}
 use Rattle.nfs_exec.proofs.HeldRun.{lock_frame, lock_through, told_kept}
 use Rattle.nfs_exec.proofs.OneWalk.{none_at}
 use Rattle.nfs_exec.proofs.AnsweredRun.{event_state}
-use Rattle.nfs_exec.proofs.Lasting.{Lasts, ten, compound_lasts, event_told}
+use Rattle.nfs_exec.proofs.Lasting.{Lasts, compound_lasts, event_told}
 use Rattle.nfs_exec.proofs.WholeRun.{Is}
 use Rattle.nfs_serve.specs.Step.{State, new_state}
 use Rattle.nfs_serve.specs.Promises.Endpoint.{Arrival}
 use Rattle.nfs_serve.specs.Promises.Points.{state_after, state_after_all, reached, taken, before, asked_by, ops_of}
-use Rattle.nfs_serve.specs.Promises.LockKept.{renews_by, StaysHeld, AreInTime, LockKept, OnlyOneIsTold, LeaseIsTold, EachIsTold}
+use Rattle.nfs_serve.specs.Promises.LockKept.{renews_by, replaces_by, StaysHeld, AreInTime, LockKept, OnlyOneIsTold, LeaseIsTold, EachIsTold}
 use Rattle.nfs_serve.proofs.Promises.Points.{left, for_asked, next_is, IsSound, whole_before, sound_all, sound_new}
 use Rattle.nfs_serve.proofs.Promises.Staying.{Stays, stays_before, stays_next, stays_from}
 
@@ -37,23 +37,23 @@ lasts_all : (s : State) (records : List Arrival) (lease : ℕ) → Lasts lease s
 lasts_all s [] lease is = is
 lasts_all s (c ∷ more) lease is = lasts_all (state_after s c) more lease (lasts_next s c lease is)
 
-asked_told : (m : Machine) (o : Option MachineEvent) (lease : ℕ) → Is m → Lasts lease m → (d : RanOp) → In d (option_map_or (ops_by m) o [])
-    → d.item ≡ Operation (Op.GetAttr ten) → is_ok d.status ≡ true → d.result ≡ spell_result (Res.GetAttr (record { attrmask = ten; attr_vals = number lease }))
-asked_told m None lease is lasts d there = absurd there
-asked_told m (Some e) lease is lasts d there = event_told m e lease is lasts d there
+asked_told : (m : Machine) (o : Option MachineEvent) (lease : ℕ) (words : List ℕ) → Is m → Lasts lease m → (d : RanOp) → In d (option_map_or (ops_by m) o [])
+    → d.item ≡ Operation (Op.GetAttr words) → has (mask_of words) 10 ≡ true → is_ok d.status ≡ true → TellsValue 10 (number lease) (mask_of words) d.result
+asked_told m None lease words is lasts d there = absurd there
+asked_told m (Some e) lease words is lasts d there = event_told m e lease words is lasts d there
 
 pub lease_is_told : LeaseIsTold
-lease_is_told mode instance lease records c d there =
+lease_is_told mode instance lease records c d words there =
     let first = new_state mode instance lease in
     let s = reached mode instance lease records in
     let sound : IsSound s = sound_all first records (sound_new mode instance lease) in
-    asked_told (before s c) (asked_by s c) lease (whole_before s c sound.whole) (lasts_all first records lease refl) d there
+    asked_told (before s c) (asked_by s c) lease words (whole_before s c sound.whole) (lasts_all first records lease refl) d there
 
 -- what a record's compound, if it has one, does to it
 abbrev Through : LockTold → Machine → Option MachineEvent → Type 0
 Through k m o =
     StandsWhile k (option_map_or (ops_by m) o [])
-    × (AreSpared k (option_map_or (ops_by m) o []) → IsAlone k.client m (left m o) → Stands k (left m o).store.opens)
+    × (AreSpared k (option_map_or (ops_by m) o []) → option_map_or (replaces k.client m) o false ≡ false → Stands k (left m o).store.opens)
 
 abbrev Lives : LockTold → (lease last : ℕ) → State → Type 0
 Lives k lease last s = Stays k.client lease last (Stands k) s
@@ -66,10 +66,9 @@ through k lease last s c some lives within =
     (λ r who. lock_through k (before s c) (Asks r who (length c.bytes) (taken s c) c.choice) (whole_before s c lives.sound.whole) some stands)
 
 lives_next : (k : LockTold) (lease last : ℕ) (s : State) (c : Arrival) → k.first ≤ k.last → Lives k lease last s → taken s c ≤ last + lease
-    → AreSpared k (ops_of s c) → IsAlone k.client (before s c) (state_after s c).machine → Lives k lease (cond (renews_by k.client s c) (taken s c) last) (state_after s c)
+    → AreSpared k (ops_of s c) → replaces_by k.client s c ≡ false → Lives k lease (cond (renews_by k.client s c) (taken s c) last) (state_after s c)
 lives_next k lease last s c some lives within spared alone =
-    stays_next k.client lease last (Stands k) (Stands k) s c lives ((through k lease last s c some lives within).1 spared
-    (subst (IsAlone k.client (before s c)) (ap (λ (s : State). s.machine) (next_is s c)) alone))
+    stays_next k.client lease last (Stands k) (Stands k) s c lives ((through k lease last s c some lives within).1 spared alone)
 
 stays : (k : LockTold) (lease last : ℕ) (s : State) (records : List Arrival) → k.first ≤ k.last → Lives k lease last s → StaysHeld k lease last s records
 stays k lease last s [] some lives = lives.stands

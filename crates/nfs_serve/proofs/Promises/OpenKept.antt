@@ -1,5 +1,5 @@
 -- An open that was told stays through all records that come in time and do not close it.
-use Rattle.std.proofs.Common.{◌≡◌, ℕ, true, false, cond, List, [], ◌∷◌, ◌++◌, length, Option, Some, None, ap, subst}
+use Rattle.std.proofs.Common.{◌≡◌, ℕ, true, false, cond, List, [], ◌∷◌, ◌++◌, length, Option, Some, None}
 use Rattle.std.specs.Option.{option_map_or}
 use Rattle.nfs_xdr.specs.Tables.{In}
 use Rattle.nfs_compound.specs.declared.open_args.Open.{Open}
@@ -10,7 +10,7 @@ use Rattle.nfs_files.specs.OpenTold.{names_open, OpenTold, Bits, IsOpenWith}
 use Rattle.nfs_exec.specs.Machine.{Machine}
 use Rattle.nfs_exec.specs.Laws.{MachineEvent, Asks}
 use Rattle.nfs_exec.specs.Ops.{RanOp, ops_by}
-use Rattle.nfs_exec.specs.LockHeld.{IsAlone, renews}
+use Rattle.nfs_exec.specs.LockHeld.{replaces, renews}
 use Rattle.nfs_exec.specs.OpenHeld.{OpenWhile, NoneCloses, bits_left, TellsOpen}
 use Rattle.nfs_exec.proofs.WholeRun.{Is}
 use Rattle.nfs_exec.proofs.OneWalk.{none_at}
@@ -20,14 +20,14 @@ use Rattle.nfs_serve.specs.Promises.Endpoint.{Arrival}
 use Rattle.nfs_serve.specs.Promises.Points.{state_after, reached, taken, before, asked_by, ops_of}
 use Rattle.nfs_serve.specs.Promises.LockKept.{renews_by}
 use Rattle.nfs_serve.specs.Promises.OpenKept.{StaysOpen, OpenKept, EachOpenIsTold}
-use Rattle.nfs_serve.proofs.Promises.Points.{left, for_asked, next_is, IsSound, whole_before, sound_all, sound_new}
+use Rattle.nfs_serve.proofs.Promises.Points.{left, for_asked, IsSound, whole_before, sound_all, sound_new}
 use Rattle.nfs_serve.proofs.Promises.Staying.{Stays, stays_before, stays_next, stays_from}
 
 -- what a record's compound, if it has one, does to it
 abbrev Through : OpenTold → Bits → Machine → Option MachineEvent → Type 0
 Through k b m o =
     OpenWhile k b (option_map_or (ops_by m) o [])
-    × (NoneCloses k (option_map_or (ops_by m) o []) → IsAlone k.client m (left m o)
+    × (NoneCloses k (option_map_or (ops_by m) o []) → option_map_or (replaces k.client m) o false ≡ false
     → IsOpenWith k (bits_left k.number b (option_map_or (ops_by m) o [])) (left m o).store.opens)
 
 through : (k : OpenTold) (b : Bits) (s : State) (c : Arrival) → IsSound s → IsOpenWith k b (before s c).store.opens → Through k b (before s c) (asked_by s c)
@@ -43,10 +43,9 @@ stays k b lease last s (c ∷ more) is = (
       (let did = through k b s c is.sound (stays_before k.client lease last (IsOpenWith k b) s c (open_frame k b) is within) in (
         did.0,
         λ spared alone.
-            (let alone_left = subst (IsAlone k.client (before s c)) (ap (λ (s : State). s.machine) (next_is s c)) alone in
-            let c_bits = bits_left k.number b (ops_of s c) in
+            (let c_bits = bits_left k.number b (ops_of s c) in
             stays k c_bits lease (cond (renews_by k.client s c) (taken s c) last) (state_after s c) more
-            (stays_next k.client lease last (IsOpenWith k b) (IsOpenWith k c_bits) s c is (did.1 spared alone_left))),
+            (stays_next k.client lease last (IsOpenWith k b) (IsOpenWith k c_bits) s c is (did.1 spared alone))),
       )),
 )
 

@@ -25,7 +25,7 @@ use Rattle.nfs_opens.specs.Table.{Table}
 use Rattle.nfs_clients.specs.Roster.{ClientRecord, client_at}
 use Rattle.nfs_exec.specs.Machine.{Machine, IsMachine, is_client, is_confirmed}
 use Rattle.nfs_exec.specs.Laws.{Asks, first_runs, if_runs}
-use Rattle.nfs_exec.specs.LockHeld.{IsAlone, is_of, renews}
+use Rattle.nfs_exec.specs.LockHeld.{replaces, is_of, renews}
 use Rattle.nfs_files.specs.Own.{HasAsBefore}
 use Rattle.nfs_exec.specs.Own.{IsAsBefore, is_named_by}
 use Rattle.nfs_exec.proofs.Invariant.{of_start}
@@ -36,17 +36,17 @@ use Rattle.nfs_exec.proofs.Renewing.{AtLeast, in_time}
 use Rattle.nfs_serve.specs.Step.{State, new_state}
 use Rattle.nfs_serve.specs.Promises.Endpoint.{Arrival}
 use Rattle.nfs_serve.specs.Promises.Points.{state_after, state_after_all, reached, taken, before, asked_by}
-use Rattle.nfs_serve.specs.Promises.LockKept.{renews_by}
+use Rattle.nfs_serve.specs.Promises.LockKept.{renews_by, replaces_by}
 use Rattle.nfs_serve.specs.Promises.Others.{AreOthers, OthersLeaveAll, is_named, AreStrangers, StrangersChangeNothing}
 use Rattle.nfs_serve.proofs.Promises.Points.{left, for_asked, next_is, IsSound, whole_before, sound_next, sound_all, sound_new}
 use Rattle.nfs_serve.proofs.Promises.Staying.{lease_next, lease_all, Stays, stays_before, stays_next, stays_from}
 use Rattle.nfs_serve.proofs.Promises.Outlived.{confirmed_is, machine_before, machine_next, machine_all}
 
 -- what a record of another does, if it asks for anything
-apart : (client : ℕ) (s : State) (c : Arrival) → IsSound s → renews_by client s c ≡ false → IsAlone client (before s c) (left (before s c) (asked_by s c))
+apart : (client : ℕ) (s : State) (c : Arrival) → IsSound s → renews_by client s c ≡ false → replaces_by client s c ≡ false
     → HasAsBefore client (before s c).store.opens (left (before s c) (asked_by s c)).store.opens
 apart client s c sound =
-    for_asked (λ o. option_map_or (renews client (before s c)) o false ≡ false → IsAlone client (before s c) (left (before s c) o)
+    for_asked (λ o. option_map_or (renews client (before s c)) o false ≡ false → option_map_or (replaces client (before s c)) o false ≡ false
     → HasAsBefore client (before s c).store.opens (left (before s c) o).store.opens) s c
     (λ other alone. same client (before s c).store.opens)
     (λ r who. event_apart client (before s c) (Asks r who (length c.bytes) (taken s c) c.choice) (whole_before s c sound.whole))
@@ -58,10 +58,9 @@ rests_all client lease last t s [] rests all = rests.stands
 rests_all client lease last t s (c ∷ more) rests all =
     let here : HasAsBefore client t (before s c).store.opens =
     stays_before client lease last (HasAsBefore client t) s c (λ u v step first. both client t u v first step) rests all.1 in
-    let alone = subst (IsAlone client (before s c)) (ap (λ (s : State). s.machine) (next_is s c)) all.2 in
     let left_is = left (before s c) (asked_by s c) in
     let there : HasAsBefore client t left_is.store.opens =
-    both client t (before s c).store.opens left_is.store.opens here (apart client s c rests.sound all.0 alone) in
+    both client t (before s c).store.opens left_is.store.opens here (apart client s c rests.sound all.0 all.2) in
     rests_all client lease last t (state_after s c) more
     (subst (λ b. Stays client lease (cond b (taken s c) last) (HasAsBefore client t) (state_after s c)) all.0
     (stays_next client lease last (HasAsBefore client t) (HasAsBefore client t) s c rests there)) all.3

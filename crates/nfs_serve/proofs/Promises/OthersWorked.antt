@@ -1,45 +1,31 @@
 -- A run in which others come in time, computed.
-use Rattle.std.proofs.Common.{◌≡◌, ℕ, ◌+◌, Bool, true, false, not, List, [], ◌∷◌, length, refl, sym, ◌∙◌, ap}
+use Rattle.std.proofs.Common.{◌≡◌, ℕ, ◌+◌, Bool, true, not, List, [], ◌∷◌, length, refl, sym, ◌∙◌, ap}
 use Rattle.std.specs.Prelude.{◌&&◌, nat_le}
-use Rattle.std.proofs.lemmas.Bool.{and_parts, leb-true, false≢true}
+use Rattle.std.proofs.lemmas.Bool.{and_parts, leb-true}
 use Rattle.nfs_opens.specs.Closing.{without_lock, without_open}
 use Rattle.nfs_files.specs.Own.{opens_of, locks_of}
 use Rattle.nfs_serve.specs.Step.{State}
 use Rattle.nfs_serve.specs.Promises.Endpoint.{Arrival}
-use Rattle.nfs_serve.specs.Promises.Points.{state_after, taken, before}
-use Rattle.nfs_serve.specs.Promises.LockKept.{renews_by}
+use Rattle.nfs_serve.specs.Promises.Points.{state_after, taken}
+use Rattle.nfs_serve.specs.Promises.LockKept.{renews_by, replaces_by}
 use Rattle.nfs_serve.specs.Promises.HeldLock as worked
 use Rattle.nfs_serve.specs.Promises.Others.{AreOthers, is_named, AreStrangers, strangers, ComeInTime}
-use Rattle.nfs_serve.proofs.Promises.HeldLock.{all_own, alone}
+use Rattle.nfs_serve.proofs.Promises.HeldLock.{not_so}
 use Rattle.nfs_serve.proofs.Promises.Computing.{computing}
 
 -- the premises can be tested
-abbrev in_time : ℕ → List ℕ → (lease last : ℕ) → State → List Arrival → Bool
-in_time client owner lease last s [] = true
-in_time client owner lease last s (c ∷ more) =
-    not (renews_by client s c)
-    && (nat_le (taken s c) (last + lease)
-    && (all_own client owner (before s c).clients.records
-    && (all_own client owner (state_after s c).machine.clients.records
-    && in_time client owner lease last (state_after s c) more)))
+abbrev in_time : ℕ → (lease last : ℕ) → State → List Arrival → Bool
+in_time client lease last s [] = true
+in_time client lease last s (c ∷ more) =
+    not (renews_by client s c) && (nat_le (taken s c) (last + lease) && (not (replaces_by client s c) && in_time client lease last (state_after s c) more))
 
-not_so : (b : Bool) → not b ≡ true → b ≡ false
-not_so true e = absurd (false≢true e)
-not_so false e = refl
-
-are_others : (client : ℕ) (owner : List ℕ) (lease last : ℕ) (s : State) (cs : List Arrival) → in_time client owner lease last s cs ≡ true
-    → AreOthers client lease last s cs
-are_others client owner lease last s [] e = tt
-are_others client owner lease last s (c ∷ more) e =
+are_others : (client lease last : ℕ) (s : State) (cs : List Arrival) → in_time client lease last s cs ≡ true → AreOthers client lease last s cs
+are_others client lease last s [] e = tt
+are_others client lease last s (c ∷ more) e =
     let p = and_parts _ _ e in
     let q = and_parts _ _ p.1 in
     let r = and_parts _ _ q.1 in
-    let t = and_parts _ _ r.1 in (
-      not_so (renews_by client s c) p.0,
-      leb-true _ _ q.0,
-      alone client owner (before s c) (state_after s c).machine r.0 t.0,
-      are_others client owner lease last (state_after s c) more t.1,
-    )
+    (not_so (renews_by client s c) p.0, leb-true _ _ q.0, not_so (replaces_by client s c) r.0, are_others client lease last (state_after s c) more r.1)
 
 -- and so can these
 abbrev strange_in_time : ℕ → (lease last : ℕ) → State → List Arrival → Bool
@@ -61,7 +47,7 @@ pub come_in_time : ComeInTime
 unfolding computing
 come_in_time = record {
   renews = refl;
-  others = are_others worked.told.client (0x41 ∷ []) 90 102 worked.locked strangers refl;
+  others = are_others worked.told.client 90 102 worked.locked strangers refl;
   none = are_strangers worked.told.client 90 102 worked.locked strangers refl;
   held = refl;
   opened = refl;

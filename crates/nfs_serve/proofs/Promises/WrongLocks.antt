@@ -26,16 +26,17 @@ use Rattle.nfs_exec.specs.Compound.{Answered, compound}
 use Rattle.nfs_exec.specs.Laws.{MachineEvent, Expires, Asks, first_runs}
 use Rattle.nfs_exec.specs.Delayed.{IsDelayed, kept_by, with_ok}
 use Rattle.nfs_exec.specs.Ops.{RanOp}
-use Rattle.nfs_exec.specs.LockHeld.{Spares, AreSpared, IsAlone}
+use Rattle.nfs_exec.specs.LockHeld.{Spares, AreSpared}
 use Rattle.nfs_serve.specs.Promises.Exchanges.{words}
-use Rattle.nfs_serve.specs.Promises.LockKept.{StaysHeld}
+use Rattle.nfs_serve.specs.Promises.LockKept.{StaysHeld, replaces_by}
 use Rattle.nfs_opens.specs.declared.records.LockState.{LockState}
-use Rattle.nfs_serve.specs.Promises.Outlived.{last_renewal}
+use Rattle.nfs_serve.specs.Promises.Outlived.{last_renewal, IsInTime}
 use Rattle.nfs_serve.specs.Step.{State, new_state}
+use Rattle.nfs_serve.specs.Promises.Endpoint.{Arrival}
 use Rattle.nfs_serve.specs.Promises.Points.{state_after, taken, before, ops_of, asked_by}
 use Rattle.nfs_serve.specs.Promises.HeldLock as worked
 use Rattle.nfs_serve.specs.Promises.HeldLock.{renewal, last_of}
-use Rattle.nfs_serve.specs.Promises.WrongLocks.{AreRefused, NoneDelayed, short_leases, set_back, told_anyway, closes_another}
+use Rattle.nfs_serve.specs.Promises.WrongLocks.{AreRefused, repeats, ended, NoneDelayed, short_leases, set_back, told_anyway, closes_another}
 use Rattle.nfs_serve.proofs.Promises.HeldLock.{locks_for}
 use Rattle.nfs_serve.proofs.Promises.Computing.{computing}
 
@@ -82,14 +83,11 @@ unheld t none is =
 none_spared : (ds : List RanOp) → ds ≡ [] → AreSpared worked.told ds
 none_spared ds none d there = absurd (subst (In d) none there)
 
-none_alone : (m n : Machine) → m.clients.records ≡ [] → IsAlone worked.told.client m n
-none_alone m n none a b here = absurd (subst (In a) none here)
-
-gone : (s : State) → (taken s renewal ≤ 102 + 90) → ops_of s renewal ≡ [] → (before s renewal).clients.records ≡ []
+gone : (s : State) → (taken s renewal ≤ 102 + 90) → ops_of s renewal ≡ [] → replaces_by worked.told.client s renewal ≡ false
     → (state_after s renewal).machine.store.opens.held 2 2 0 ≡ None → StaysHeld worked.told 90 102 s (renewal ∷ []) → ⊥
-gone s low none empty free stays =
+gone s low none spares free stays =
     unheld (state_after s renewal).machine.store.opens free
-    ((stays.1 low).1 (none_spared (ops_of s renewal) none) (none_alone (before s renewal) (state_after s renewal).machine empty))
+    ((stays.1 low).1 (none_spared (ops_of s renewal) none) spares)
 
 -- where the whole request answers another status than NFS4_OK, its last operation is not delayed
 
@@ -137,6 +135,18 @@ state = record { number = 2; client = worked.told.client; owner = 0x6c ∷ []; f
 its : (l : LockState) (locks : List LockState) → locks ≡ state ∷ [] → In l locks → l.client ≡ worked.told.client
 its l locks one there = elim (subst (In l) one there) [ inl same ↦ ap (λ (l : LockState). l.client) same | inr none ↦ absurd none ]
 
+no_state : state ∷ [] ≡ [] → ⊥
+no_state e = cc
+
+-- the lock stands 91 seconds behind the last renewal
+late : (records : List Arrival) → last_renewal worked.told.client None (new_state 511 7 90) records ≡ Some 102
+    → IsInTime worked.locked.machine.store.opens 2 90 193 (λ client. last_renewal client None (new_state 511 7 90) records) → ⊥
+unfolding computing
+late records renewed is =
+    late_by is.last
+    (sym renewed ∙ subst (λ client. last_renewal client None (new_state 511 7 90) records ≡ Some is.last)
+    (its is.lock worked.locked.machine.store.opens.locks refl is.there) is.renewed) is.within
+
 pub are_refused : AreRefused
 unfolding computing
 are_refused = record {
@@ -147,9 +157,14 @@ are_refused = record {
       (is.1 (spared (last_of d (ops_of worked.asked worked.clashes)))).0;
   short = gone short_leases (omega arith) refl refl refl;
   back = gone set_back (omega arith) refl refl refl;
+  anew = refl;
+  taken_over = refl;
+  exchanged = λ is. unheld ended.machine.store.opens refl is;
   last = refl;
   held = refl;
-  late = λ is. late_by is.last
-      (subst (λ client. last_renewal client None (new_state 511 7 90) (worked.earlier ++ worked.locks ∷ []) ≡ Some is.last)
-      (its is.lock worked.locked.machine.store.opens.locks refl is.there) is.renewed) is.within;
+  late = late (worked.earlier ++ worked.locks ∷ []) refl;
+  run_out = refl;
+  kept_all = λ none. no_state none.locks;
+  repeat = refl;
+  lives_on = late (worked.earlier ++ worked.locks ∷ repeats ∷ []) refl;
 }

@@ -6,13 +6,13 @@ use Rattle.nfs_xdr.specs.Spelling.{number}
 use Rattle.nfs_xdr.specs.Tables.{In}
 use Rattle.nfs_compound.specs.declared.op.Item.TheVariants.{Operation}
 use Rattle.nfs_compound.specs.declared.op.Op.TheVariants as Op
-use Rattle.nfs_results.specs.declared.res.Res.TheVariants as Res
-use Rattle.nfs_results.specs.Results.{spell_result}
+use Rattle.nfs_attrs.specs.Mask.{mask_of, has}
 use Rattle.nfs_names.specs.Outcome.{is_ok}
+use Rattle.nfs_exec.specs.AttributesTold.{TellsValue}
 use Rattle.nfs_exec.specs.Ops.{RanOp}
 use Rattle.nfs_opens.specs.declared.locking.Wish.{Wish}
 use Rattle.nfs_files.specs.LockTold.{LockTold, Stands, Clashes}
-use Rattle.nfs_exec.specs.LockHeld.{LocksFor, AreSpared, StandsWhile, Tells, IsAlone, renews}
+use Rattle.nfs_exec.specs.LockHeld.{LocksFor, AreSpared, StandsWhile, Tells, replaces, renews}
 use Rattle.nfs_serve.specs.Step.{State}
 use Rattle.nfs_serve.specs.Promises.Endpoint.{Arrival}
 use Rattle.nfs_serve.specs.Promises.Points.{state_after, reached, taken, before, asked_by, ops_of}
@@ -21,10 +21,14 @@ use Rattle.nfs_serve.specs.Promises.Points.{state_after, reached, taken, before,
 abbrev pub renews_by : ℕ → State → Arrival → Bool
 renews_by client s c = option_map_or (renews client (before s c)) (asked_by s c) false
 
+-- it puts another id in the client's place: a CREATE_SESSION of another id of its owner, which is answered NFS4_OK
+abbrev pub replaces_by : ℕ → State → Arrival → Bool
+replaces_by client s c = option_map_or (replaces client (before s c)) (asked_by s c) false
+
 -- The lock stands here, and stays through these records, where `last` is the moment of its client's last renewal: if the next
 -- one is taken at most one lease behind that, the lock stands before each operation of it as long as all before it spared it,
--- and no LOCK there that clashes is answered NFS4_OK; and if they all spare it, and no other id is confirmed for the client's
--- owner, the same holds of the records behind it. (That each record is at most one lease behind the renewal before it is the
+-- and no LOCK there that clashes is answered NFS4_OK; and if they all spare it, and the record puts no other id in the
+-- client's place, the same holds of the records behind it. (That each record is at most one lease behind the renewal before it is the
 -- same as that neighbours among the renewals and the last record are: a record between two renewals is not later than the second.)
 abbrev pub StaysHeld : LockTold → (lease last : ℕ) → State → List Arrival → Type 0
 StaysHeld k lease last s [] = Stands k s.machine.store.opens
@@ -32,7 +36,7 @@ StaysHeld k lease last s (c ∷ more) =
     Stands k s.machine.store.opens
     × (taken s c ≤ last + lease →
     StandsWhile k (ops_of s c)
-    × (AreSpared k (ops_of s c) → IsAlone k.client (before s c) (state_after s c).machine →
+    × (AreSpared k (ops_of s c) → replaces_by k.client s c ≡ false →
     StaysHeld k lease (if renews_by k.client s c then taken s c else last) (state_after s c) more))
 
 -- The records come in time, and spare the lock and its client, up to a state and a moment of the client's last renewal of which this holds.
@@ -41,7 +45,7 @@ AreInTime k lease last s [] Then = Then last s
 AreInTime k lease last s (c ∷ more) Then =
     (taken s c ≤ last + lease)
     × AreSpared k (ops_of s c)
-    × IsAlone k.client (before s c) (state_after s c).machine
+    × (replaces_by k.client s c ≡ false)
     × AreInTime k lease (if renews_by k.client s c then taken s c else last) (state_after s c) more Then
 
 -- In every run of a server whose leases last so many seconds, from its start on: a LOCK in the record's compound told the lock, and
@@ -62,7 +66,7 @@ EachIsTold = (mode instance lease : ℕ) (records : List Arrival) (c : Arrival) 
 
 -- Only one writer is told: of two LOCKs that clash on a byte, each answered NFS4_OK and the stateid of a lock state of its own, the second comes
 -- behind an end of the first. Between them an operation unlocks a byte of the first or locks one in another way or closes its open, or another id is
--- confirmed for its client's owner, or its client's lease runs out: else there are no two such LOCKs.
+-- put in its client's place, or its client's lease runs out: else there are no two such LOCKs.
 abbrev pub OnlyOneIsTold : Type 0
 OnlyOneIsTold = (mode instance lease : ℕ) (earlier : List Arrival) (c : Arrival) (k : LockTold) (front : List RanOp) (first : RanOp) (back : List RanOp)
     (between : List Arrival) (d : Arrival) (until : List RanOp) (second : RanOp) (behind : List RanOp) (n : ℕ) (w : Wish)
@@ -72,8 +76,7 @@ OnlyOneIsTold = (mode instance lease : ℕ) (earlier : List Arrival) (c : Arriva
     (λ last t. (ops_of t d ≡ until ++ second ∷ behind) × (taken t d ≤ last + lease) × AreSpared k until)
     → LocksFor second n w → Clashes k n w → ⊥)
 
--- The lease is told: a GETATTR of attribute 10, lease_time, that answers NFS4_OK gives the very number of seconds that leases last.
+-- The lease is told: a GETATTR of attribute 10, lease_time, whatever else it asks for, that answers NFS4_OK gives the very number of seconds that leases last.
 abbrev pub LeaseIsTold : Type 0
-LeaseIsTold = (mode instance lease : ℕ) (records : List Arrival) (c : Arrival) (d : RanOp) → In d (ops_of (reached mode instance lease records) c)
-    → d.item ≡ Operation (Op.GetAttr (0x400 ∷ [])) → is_ok d.status ≡ true
-    → d.result ≡ spell_result (Res.GetAttr (record { attrmask = 0x400 ∷ []; attr_vals = number lease }))
+LeaseIsTold = (mode instance lease : ℕ) (records : List Arrival) (c : Arrival) (d : RanOp) (words : List ℕ) → In d (ops_of (reached mode instance lease records) c)
+    → d.item ≡ Operation (Op.GetAttr words) → has (mask_of words) 10 ≡ true → is_ok d.status ≡ true → TellsValue 10 (number lease) (mask_of words) d.result

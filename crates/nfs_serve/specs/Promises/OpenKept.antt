@@ -8,23 +8,22 @@ use Rattle.nfs_compound.specs.declared.op.Item.TheVariants.{Operation}
 use Rattle.nfs_compound.specs.declared.op.Op.TheVariants as Op
 use Rattle.nfs_files.specs.OpenTold.{names_open, OpenTold, Bits, IsOpenWith}
 use Rattle.nfs_exec.specs.Ops.{RanOp}
-use Rattle.nfs_exec.specs.LockHeld.{IsAlone}
 use Rattle.nfs_exec.specs.OpenHeld.{OpenWhile, NoneCloses, bits_left, TellsOpen}
 use Rattle.nfs_serve.specs.Step.{State}
 use Rattle.nfs_serve.specs.Promises.Endpoint.{Arrival}
-use Rattle.nfs_serve.specs.Promises.Points.{state_after, reached, taken, before, ops_of}
-use Rattle.nfs_serve.specs.Promises.LockKept.{renews_by}
+use Rattle.nfs_serve.specs.Promises.Points.{state_after, reached, taken, ops_of}
+use Rattle.nfs_serve.specs.Promises.LockKept.{renews_by, replaces_by}
 
 -- The open stands here with these bits, and stays through these records, where `last` is the moment of its client's last renewal: if the next one is taken at
 -- most one lease behind that, the open stands before each operation of it, and no OPEN there that it forbids is answered NFS4_OK; and if none of them closes it,
--- and no other id is confirmed for the client's owner, the same holds of the records behind it, with the bits that it has then.
+-- and the record puts no other id in the client's place, the same holds of the records behind it, with the bits that it has then.
 abbrev pub StaysOpen : OpenTold → Bits → (lease last : ℕ) → State → List Arrival → Type 0
 StaysOpen k b lease last s [] = IsOpenWith k b s.machine.store.opens
 StaysOpen k b lease last s (c ∷ more) =
     IsOpenWith k b s.machine.store.opens
     × (taken s c ≤ last + lease →
     OpenWhile k b (ops_of s c)
-    × (NoneCloses k (ops_of s c) → IsAlone k.client (before s c) (state_after s c).machine →
+    × (NoneCloses k (ops_of s c) → replaces_by k.client s c ≡ false →
     StaysOpen k (bits_left k.number b (ops_of s c)) lease (if renews_by k.client s c then taken s c else last) (state_after s c) more))
 
 -- In every run of a server whose leases last so many seconds, from its start on: an OPEN in the record's compound told the open, and these operations are
@@ -49,5 +48,5 @@ LeaveOpen k b lease last s [] Then = Then b last s
 LeaveOpen k b lease last s (c ∷ more) Then =
     (taken s c ≤ last + lease)
     × NoneCloses k (ops_of s c)
-    × IsAlone k.client (before s c) (state_after s c).machine
+    × (replaces_by k.client s c ≡ false)
     × LeaveOpen k (bits_left k.number b (ops_of s c)) lease (if renews_by k.client s c then taken s c else last) (state_after s c) more Then

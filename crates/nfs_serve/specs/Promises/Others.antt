@@ -4,24 +4,23 @@ use Rattle.std.specs.Prelude.{◌≡◌, ℕ, ◌+◌, ◌≤◌, ◌<◌, ◌^�
 use Rattle.std.specs.Option.{option_map_or}
 use Rattle.nfs_ranges.specs.declared.Kind.TheVariants.{Write}
 use Rattle.nfs_opens.specs.Closing.{without_lock, without_open}
-use Rattle.nfs_exec.specs.LockHeld.{IsAlone}
 use Rattle.nfs_files.specs.Own.{HasAsBefore}
 use Rattle.nfs_exec.specs.Own.{IsAsBefore, is_named_by}
 use Rattle.nfs_serve.specs.Step.{State}
 use Rattle.nfs_serve.specs.Promises.Endpoint.{Arrival}
 use Rattle.nfs_serve.specs.Promises.Points.{state_after, state_after_all, reached, taken, before, asked_by}
-use Rattle.nfs_serve.specs.Promises.LockKept.{renews_by}
+use Rattle.nfs_serve.specs.Promises.LockKept.{renews_by, replaces_by}
 use Rattle.nfs_serve.specs.Promises.LostReply.{exchange_id, create_session}
 use Rattle.nfs_serve.specs.Promises.HeldLock.{came, in_session, opens_and_locks, start, locks, locked, told}
 
 -- These records are others' and come in time: none runs in a session of the client, each is taken at most one lease behind the moment `last`, and none
--- confirms another id for the client's owner.
+-- puts another id in the client's place.
 abbrev pub AreOthers : ℕ → (lease last : ℕ) → State → List Arrival → Type 0
 AreOthers client lease last s [] = Unit {0}
 AreOthers client lease last s (c ∷ more) =
     (renews_by client s c ≡ false)
     × (taken s c ≤ last + lease)
-    × IsAlone client (before s c) (state_after s c).machine
+    × (replaces_by client s c ≡ false)
     × AreOthers client lease last (state_after s c) more
 
 -- In every run of a server whose leases last so many seconds: whatever records of others come behind one that ran in a session of the client, while its

@@ -1,25 +1,29 @@
 -- Wrong steps that the promises of locks refuse, worked by hand over the run of `HeldLock` (RFC 8881 sections 8.3, 9.1, 18.2 and 18.10). Each is a step that this server
 -- does not take: what a server that took it did is no lock kept.
-use Rattle.std.specs.Prelude.{◌≡◌, ℕ, [], ◌∷◌, ◌++◌, Option, None, Some}
+use Rattle.std.specs.Prelude.{◌≡◌, ℕ, true, false, [], ◌∷◌, ◌++◌, Option, None, Some}
 use Rattle.nfs_compound.specs.declared.op_num.OpNum.TheVariants as Num
 use Rattle.nfs_compound.specs.declared.op.Item.TheVariants.{Operation}
 use Rattle.nfs_compound.specs.declared.op.Op.TheVariants as Op
-use Rattle.nfs_lease.specs.Renewals.{with_renewal}
+use Rattle.nfs_lease.specs.Renewals.{with_renewal, has_run_out}
 use Rattle.nfs_results.specs.Results.{done_head}
 use Rattle.nfs_ranges.specs.declared.Kind.TheVariants.{Write}
 use Rattle.nfs_opens.specs.Closing.{without_open}
 use Rattle.nfs_names.specs.Ending.{with_opens}
 use Rattle.nfs_exec.specs.Machine.{Machine}
+use Rattle.nfs_exec.specs.CreateSession.{without_any_opens}
 use Rattle.nfs_exec.specs.Laws.{MachineEvent, Asks}
 use Rattle.nfs_exec.specs.Delayed.{IsDelayed}
+use Rattle.nfs_exec.specs.Ended.{HasNothing}
 use Rattle.nfs_exec.specs.Ops.{RanOp}
 use Rattle.nfs_exec.specs.LockHeld.{StandsBefore, StandsWhile}
 use Rattle.nfs_serve.specs.Step.{State, new_state}
 use Rattle.nfs_serve.specs.Promises.Points.{state_after, reached, before, asked_by, ops_of}
-use Rattle.nfs_serve.specs.Promises.LockKept.{StaysHeld}
+use Rattle.nfs_serve.specs.Promises.LockKept.{replaces_by, StaysHeld}
 use Rattle.nfs_serve.specs.Promises.Outlived.{last_renewal, IsInTime}
 use Rattle.nfs_serve.specs.Promises.Exchanges.{words}
-use Rattle.nfs_serve.specs.Promises.HeldLock.{earlier, locks, renewal, clashes, locked, asked, told, stateid_of_lock, last_of}
+use Rattle.nfs_serve.specs.Promises.Endpoint.{Arrival}
+use Rattle.nfs_serve.specs.Promises.LostReply.{create_session}
+use Rattle.nfs_serve.specs.Promises.HeldLock.{came, earlier, locks, renewal, clashes, locked, asked, told, stateid_of_lock, last_of}
 
 -- a server whose leases last one second, whatever the client was told
 abbrev pub short_leases : State
@@ -41,6 +45,21 @@ closes_another d = record d {
   behind = record d.before { store = with_opens d.before.store (without_open d.before.store.opens 1) };
 }
 
+-- A's CREATE_SESSION comes again, with the number that was answered
+abbrev pub repeats : Arrival
+repeats = came 150 9 (create_session 1)
+
+-- A starts anew, with another verifier; and confirms the id that it is given
+abbrev pub begins_anew : Arrival
+begins_anew = came 103 9 (words (0 ∷ 1 ∷ 1 ∷ 42 ∷ 0 ∷ 2 ∷ 1 ∷ 0x4100_0000 ∷ 0 ∷ 0 ∷ 0 ∷ []))
+
+abbrev pub confirms : Arrival
+confirms = came 104 10 (create_session 2)
+
+-- an EXCHANGE_ID that ends what A has open and locked
+abbrev pub ended : State
+ended = record locked { machine = record locked.machine { store = without_any_opens locked.machine.store (Some told.client) } }
+
 -- The answer to what a record asks for is none where the operation at a place of it is delayed.
 abbrev pub NoneDelayed : Machine → (place : ℕ) → Option MachineEvent → Type 0
 NoneDelayed m place (Some (Asks r who size now choice)) = IsDelayed m r who size now place → ⊥
@@ -55,7 +74,17 @@ pub record AreRefused : Type 0 where
   -- the lock is gone behind a renewal in time
   pub short : StaysHeld told 90 102 short_leases (renewal ∷ []) → ⊥
   pub back : StaysHeld told 90 102 set_back (renewal ∷ []) → ⊥
+  -- the lock is gone behind an EXCHANGE_ID of A's owner: that puts nobody in A's place, but the CREATE_SESSION behind it does
+  pub anew : replaces_by told.client locked begins_anew ≡ false
+  pub taken_over : replaces_by told.client (state_after locked begins_anew) confirms ≡ true
+  pub exchanged : StaysHeld told 90 102 ended [] → ⊥
   -- the lock still stands 91 seconds behind the last renewal, where nothing runs out
   pub last : last_renewal told.client None (new_state 511 7 90) (earlier ++ locks ∷ []) ≡ Some 102
   pub held : locked.machine.store.opens.held 2 2 0 ≡ Some Write
+  -- and so does all that its client had, whose lease has run out by then
+  pub run_out : has_run_out locked.machine.leases 193 told.client ≡ true
+  pub kept_all : HasNothing told.client locked.machine → ⊥
+  -- and where it lives on a CREATE_SESSION that is repeated, which renews nothing
+  pub repeat : last_renewal told.client None (new_state 511 7 90) (earlier ++ locks ∷ repeats ∷ []) ≡ Some 102
+  pub lives_on : IsInTime locked.machine.store.opens 2 90 193 (λ client. last_renewal client None (new_state 511 7 90) (earlier ++ locks ∷ repeats ∷ [])) → ⊥
   pub late : IsInTime locked.machine.store.opens 2 90 193 (λ client. last_renewal client None (new_state 511 7 90) (earlier ++ locks ∷ [])) → ⊥
