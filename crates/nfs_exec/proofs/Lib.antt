@@ -21,6 +21,7 @@ pub mod Rounds
 pub mod OpsRun
 pub mod WholeRun
 pub mod Lone
+pub mod SessionLasts
 pub mod HeldRun
 pub mod AnsweredRun
 pub mod LockOwners

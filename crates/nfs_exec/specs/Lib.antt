@@ -18,6 +18,7 @@ pub mod DelayedOpen
 pub mod Ops
 pub mod LockHeld
 pub mod AttributesTold
+pub mod SessionLasts
 pub mod OpenHeld
 pub mod Own
 pub mod Ended

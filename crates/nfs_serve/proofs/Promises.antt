@@ -20,9 +20,12 @@ pub mod Mute
 pub mod KeptSlots
 pub mod Good
 pub mod Slotted
-pub mod Repeated
 pub mod Computing
 pub mod LostReply
+pub mod AnsweredAgain
+pub mod FreshRuns
+pub mod Answering
+pub mod WrongAnswers
 pub mod SeenWrite
 pub mod Points
 pub mod Forms
@@ -30,6 +33,7 @@ pub mod LockKept
 pub mod Outlived
 pub mod HeldLock
 pub mod LockOwned
+pub mod AskedAgain
 pub mod WrongLocks
 pub mod Others
 pub mod OthersWorked
@@ -38,6 +42,7 @@ pub mod WrittenWorked
 pub mod SessionsOnce
 pub mod SessionsWorked
 pub mod Staying
+pub mod SessionStays
 pub mod OpenKept
 pub mod HeldOpen
 pub mod WrongOpens

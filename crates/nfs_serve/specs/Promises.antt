@@ -11,8 +11,11 @@ pub mod PerfectWire
 pub mod RealTime
 pub mod WrongServers
 pub mod Seen
-pub mod Repeated
 pub mod LostReply
+pub mod AnsweredAgain
+pub mod FreshRuns
+pub mod Answering
+pub mod WrongAnswers
 pub mod SeenWrite
 pub mod Points
 pub mod Forms
@@ -20,6 +23,8 @@ pub mod LockKept
 pub mod Outlived
 pub mod HeldLock
 pub mod LockOwned
+pub mod AskedAgain
+pub mod SessionStays
 pub mod WrongLocks
 pub mod Others
 pub mod WrittenStays

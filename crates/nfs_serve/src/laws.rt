@@ -6,7 +6,11 @@ ghost use Rattle.nfs_serve.specs.Promises.Endpoint.{SlotNumber};
 ghost use Rattle.nfs_serve.specs.Promises.Account.{NothingIsLost};
 ghost use Rattle.nfs_serve.specs.Promises.Waiting.{WaitsForFew};
 ghost use Rattle.nfs_serve.specs.Promises.Alone.{ExecutingAlone, StaysSettled};
+ghost use Rattle.nfs_serve.specs.Promises.AnsweredAgain.{AnsweredAgain};
+ghost use Rattle.nfs_serve.specs.Promises.Answering.{EachIsAnswered};
+ghost use Rattle.nfs_serve.specs.Promises.AskedAgain.{IsFreshThere, IsHadAgain, IsUnderItsXid};
 ghost use Rattle.nfs_serve.specs.Promises.Exchanges.{RunsTo, null_script, null_output, exchange_script, exchange_output};
+ghost use Rattle.nfs_serve.specs.Promises.FreshRuns.{FreshRuns, NextRuns, Passes};
 ghost use Rattle.nfs_serve.specs.Promises.Laws.{HasOneReading, CutsAnywhere, BringsOnce, ConnectionsAreStreams};
 ghost use Rattle.nfs_serve.specs.Promises.Forms.{EachFormRunsRecords};
 ghost use Rattle.nfs_serve.specs.Promises.HeldLock.{IsHeldTo, AreBothTold};
@@ -22,10 +26,11 @@ ghost use Rattle.nfs_serve.specs.Promises.Outlived.{NoneOutlives};
 ghost use Rattle.nfs_serve.specs.Promises.Points.{NoClash};
 ghost use Rattle.nfs_serve.specs.Promises.PerfectWire.{AsOverAWire};
 ghost use Rattle.nfs_serve.specs.Promises.RealTime.{Atomic};
-ghost use Rattle.nfs_serve.specs.Promises.Repeated.{AnswersRepeats};
 ghost use Rattle.nfs_serve.specs.Promises.Seen.{ReplyReader, IsSequenced, Bears, server};
 ghost use Rattle.nfs_serve.specs.Promises.SessionsOnce.{EachMakesOne, EachWasMade, RepeatsMakeNone, NextMakesOne, IsGivenOnce};
 ghost use Rattle.nfs_serve.specs.Promises.SeenWrite.{IsSeen};
+ghost use Rattle.nfs_serve.specs.Promises.SessionStays.{SessionsStay, StaysToLast};
+ghost use Rattle.nfs_serve.specs.Promises.WrongAnswers.{AnswersAreRefused};
 ghost use Rattle.nfs_serve.specs.Promises.WrongLocks.{AreRefused};
 ghost use Rattle.nfs_serve.specs.Promises.WrittenStays.{BytesStay};
 ghost use Rattle.nfs_serve.specs.Promises.WrittenWorked.{StaysTo, BytesRefused};
@@ -111,11 +116,6 @@ pub fn answers_what_executes()
     ensures { (reader : ReplyReader) (mode : ℕ) (instance : ℕ) (lease : ℕ) → AnswersExecuted (server reader.find mode instance lease) }
 {}
 
-/// A compound that comes again is answered with the result of its first sending, under its own xid, whatever highest slot of its session it then says is in use.
-pub fn answers_repeats()
-    ensures { (reader : ReplyReader) (mode : ℕ) (instance : ℕ) (lease : ℕ) → AnswersRepeats (server reader.find mode instance lease) }
-{}
-
 /// The definitions compute: two compounds are sent on a slot, the second again since its first reply is lost; each is executed once, and both
 /// results are accepted.
 pub fn exchange_over_a_network()
@@ -177,6 +177,58 @@ pub fn exchange_over_a_wire()
 /// whose results bear another slot `exactly_once_by_number` is false.
 pub fn wrong_servers_fail()
     ensures { LawsRefuse }
+{}
+
+/// A lost reply can be had again: a compound that executed is answered with the same result whenever it comes again, under the xid that it then has, while no
+/// other executed on its slot and its session stands; and nothing runs.
+pub fn lost_replies_can_be_had()
+    ensures { (reader : ReplyReader) (mode : ℕ) (instance : ℕ) (lease : ℕ) → AnsweredAgain (server reader.find mode instance lease) }
+{}
+
+/// In every run a session in which a request ran stays, with its slots, while its client renews in time, no DESTROY_SESSION of it is answered NFS4_OK and no CREATE_SESSION
+/// puts another id in its client's place.
+pub fn sessions_stay()
+    ensures { SessionsStay }
+{}
+
+/// The definitions compute: a client renews its lease at the last second, twice, and nothing ends its session. That run meets the premises of `sessions_stay`, which
+/// refuses a server that forgets the session.
+pub fn a_session_stays()
+    ensures { StaysToLast }
+{}
+
+/// Each call is answered under its xid, whatever it asks for and in whatever state; and what is no call is not answered.
+pub fn each_call_is_answered()
+    ensures { EachIsAnswered }
+{}
+
+/// A fresh request runs: a compound with the number behind its slot's, on a slot of its session and within what the session lets pass, executes, and its SEQUENCE is
+/// answered NFS4_OK.
+pub fn fresh_requests_run()
+    ensures { (reader : ReplyReader) (mode : ℕ) (instance : ℕ) (lease : ℕ) → FreshRuns (server reader.find mode instance lease) Passes }
+{}
+
+/// Who was answered goes on: the number behind that of the compound which executed on the slot last is fresh there.
+pub fn next_requests_run()
+    ensures { (reader : ReplyReader) (mode : ℕ) (instance : ℕ) (lease : ℕ) → NextRuns (server reader.find mode instance lease) Passes }
+{}
+
+/// The definitions compute: of the exchange in which a reply is lost, the second compound meets the premises of `fresh_requests_run`.
+pub fn a_request_is_fresh()
+    ensures { (reader : ReplyReader) → IsFreshThere reader.find }
+{}
+
+/// The definitions compute: the reply to a compound is lost, and it comes again behind other records, under another xid and with another highest slot. That run
+/// meets the premises of `lost_replies_can_be_had`. And a call that is refused is answered under its xid; a reply is not answered.
+pub fn a_reply_is_had_again()
+    ensures again { (reader : ReplyReader) → IsHadAgain reader.find }
+    ensures under { IsUnderItsXid }
+{}
+
+/// The definitions compute: `lost_replies_can_be_had` refuses a small server that refuses repeats from slot 2 on, one that makes
+/// their answer anew and one that runs them again; `fresh_requests_run` refuses one that refuses everything; and `each_call_is_answered` refuses a call that is not answered, an answer under another xid and an answer to what is no call.
+pub fn wrong_answers_are_refused()
+    ensures { AnswersAreRefused }
 {}
 
 /// In every run no byte has a writer beside another holder and no two opens clash: behind each record, and before each operation of one.

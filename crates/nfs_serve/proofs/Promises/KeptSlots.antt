@@ -122,7 +122,7 @@ heading_from bytes call r s called asked begins =
     ap heading_by called
     ∙ (ap (option_and_then (heading_in call)) asked ∙ ap (option_map (heading_of call r)) begins)
 
-executes_is : (t : State) (size : ℕ) (bytes : List ℕ) (call : Call) (r : Request) → call_of bytes ≡ Accepted call → asked_of call call.procedure ≡ Some r
+pub executes_is : (t : State) (size : ℕ) (bytes : List ℕ) (call : Call) (r : Request) → call_of bytes ≡ Accepted call → asked_of call call.procedure ≡ Some r
     → executes_by t size (call_of bytes) ≡ executes t.machine r call.who size
 executes_is t size bytes call r called asked =
     ap (executes_by t size) called ∙ ap (λ (o : Option Request). option_map_or (λ r. executes t.machine r call.who size) o false) asked

@@ -195,7 +195,7 @@ laws_refuse = record {
       let told = (law [] callers crossed crossed_happens (place 1) (inl refl)).told in
       none_longer _ told.0 told.1;
   refused_repeat = λ law.
-      no_answer _ (law [] (again_with 4) (again_with 5) (heading_with 4) (heading_with 5) _ _
-      (four_bytes 8 1 1 4 (omega arith) (omega arith) (omega arith) (omega arith)) refl refl
-      (four_bytes 8 1 1 5 (omega arith) (omega arith) (omega arith) (omega arith)) refl refl refl refl refl);
+      no_answer _ (law [] (again_with 4) (heading_with 4) [] (again_with 5) (heading_with 5)
+      (four_bytes 8 1 1 4 (omega arith) (omega arith) (omega arith) (omega arith)) refl refl tt
+      (four_bytes 8 1 1 5 (omega arith) (omega arith) (omega arith) (omega arith)) refl refl refl (record { slot = _; here = refl; top = _; below = refl })).answer;
 }

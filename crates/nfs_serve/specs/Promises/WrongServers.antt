@@ -9,7 +9,7 @@ use Rattle.nfs_serve.specs.Promises.Endpoint.{Place, Heading, Stepped, Server}
 use Rattle.nfs_serve.specs.Promises.Network.{same_place}
 use Rattle.nfs_serve.specs.Promises.Numbered.{ExactlyOnceByNumber}
 use Rattle.nfs_serve.specs.Promises.PerfectWire.{AsOverAWire}
-use Rattle.nfs_serve.specs.Promises.Repeated.{AnswersRepeats}
+use Rattle.nfs_serve.specs.Promises.AnsweredAgain.{AnsweredAgain}
 
 pub record Small : Type 0 where
   pub slots : Place → SlotState
@@ -96,4 +96,4 @@ pub record LawsRefuse : Type 0 where
   pub admitted : ExactlyOnceByNumber runs_repeats
   pub repeat_run : AsOverAWire runs_repeats → ⊥
   pub another_slot : ExactlyOnceByNumber says_one → ⊥
-  pub refused_repeat : AnswersRepeats compares_all → ⊥
+  pub refused_repeat : AnsweredAgain compares_all → ⊥
