@@ -39,6 +39,8 @@ pub mod Others
 pub mod OthersWorked
 pub mod WrittenStays
 pub mod WrittenWorked
+pub mod ChangeTells
+pub mod ChangeWorked
 pub mod SessionsOnce
 pub mod SessionsWorked
 pub mod Staying

@@ -29,6 +29,8 @@ pub mod WrongLocks
 pub mod Others
 pub mod WrittenStays
 pub mod WrittenWorked
+pub mod ChangeTells
+pub mod ChangeWorked
 pub mod SessionsOnce
 pub mod OpenKept
 pub mod HeldOpen

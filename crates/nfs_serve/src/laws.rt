@@ -9,6 +9,8 @@ ghost use Rattle.nfs_serve.specs.Promises.Alone.{ExecutingAlone, StaysSettled};
 ghost use Rattle.nfs_serve.specs.Promises.AnsweredAgain.{AnsweredAgain};
 ghost use Rattle.nfs_serve.specs.Promises.Answering.{EachIsAnswered};
 ghost use Rattle.nfs_serve.specs.Promises.AskedAgain.{IsFreshThere, IsHadAgain, IsUnderItsXid};
+ghost use Rattle.nfs_serve.specs.Promises.ChangeTells.{ChangeTells, ReadsAreAlike, ChangeIsTold};
+ghost use Rattle.nfs_serve.specs.Promises.ChangeWorked.{ToldByChange, ChangesAreRefused};
 ghost use Rattle.nfs_serve.specs.Promises.Exchanges.{RunsTo, null_script, null_output, exchange_script, exchange_output};
 ghost use Rattle.nfs_serve.specs.Promises.FreshRuns.{FreshRuns, NextRuns, Passes};
 ghost use Rattle.nfs_serve.specs.Promises.Laws.{HasOneReading, CutsAnywhere, BringsOnce, ConnectionsAreStreams};
@@ -325,6 +327,33 @@ pub fn a_write_stays()
 /// while it has a name.
 pub fn wrong_bytes_are_refused()
     ensures { BytesRefused }
+{}
+
+/// While an object's change is the same, so are its bytes, its attributes but for the number of its names, and its entries; and its change does not fall.
+pub fn change_tells()
+    ensures { ChangeTells }
+{}
+
+/// While a file's change is the same, two READs of the same bytes that are answered NFS4_OK are answered the same, whoever asks for them.
+pub fn reads_are_alike()
+    ensures { ReadsAreAlike }
+{}
+
+/// In every run a GETATTR of attribute 3, whatever else it asks for, that answers NFS4_OK gives the object's change.
+pub fn change_is_told()
+    ensures { ChangeIsTold }
+{}
+
+/// The definitions compute: a file is written, and its change rises; then it is read twice, and its change is the same, and so is the answer. That run meets the
+/// premises of `change_tells` and `reads_are_alike`.
+pub fn a_change_tells()
+    ensures { ToldByChange }
+{}
+
+/// The definitions compute: `change_tells` refuses a WRITE that keeps the change, a SETATTR that sets it back and a REMOVE that keeps the directory's; and
+/// `reads_are_alike` refuses a second READ that is answered zeros.
+pub fn wrong_changes_are_refused()
+    ensures { ChangesAreRefused }
 {}
 
 /// A CREATE_SESSION that is answered NFS4_OK makes one session of its client, of the id that is answered, which did not stand before; or it changes nothing.

@@ -1,0 +1,584 @@
+-- The change attribute tells, through whatever records come.
+use Rattle.std.proofs.Common.{◌≡◌, ◌≢◌, ◌⊎◌, inl, inr, ℕ, ◌+◌, ◌<◌, ◌≤◌, Bool, true, false, cond, not, eqb, List, [], ◌∷◌, ◌++◌, map, length, take, drop, Option, Some, None, refl, sym, ◌∙◌, ap, subst, arith}
+use Rattle.std.specs.Prelude.{◌==◌, nat_le, filter, option_map, is_some, if◌then◌else◌, Ok}
+use Rattle.std.specs.Option.{ForSome, option_map_or}
+use Rattle.std.proofs.lemmas.Bool.{cases_Bool, cases_eq, eq-eqb, ne_eqb, eqb-true, false≢true}
+use Rattle.nfs_xdr.specs.declared.time.Time.{Time}
+use Rattle.nfs_xdr.specs.declared.status.Status.TheVariants.{MinorVersMismatch, RepTooBig}
+use Rattle.nfs_compound.specs.declared.file_args.Read.{Read}
+use Rattle.nfs_compound.specs.declared.op_num.OpNum.TheVariants as Num
+use Rattle.nfs_results.specs.Largest.{given}
+use Rattle.nfs_results.specs.declared.res.Res.TheVariants as Res
+use Rattle.nfs_results.specs.Results.{spell_result, done_head}
+use Rattle.nfs_names.specs.declared.node.Node.{Node}
+use Rattle.nfs_names.specs.Checks.{node_as, node_at, current}
+use Rattle.nfs_names.proofs.Found.{ok_is, checked_ok}
+use Rattle.nfs_files.specs.Bytes.{file_checks, reading, may_use, readable}
+use Rattle.nfs_files.specs.Read as of_read
+use Rattle.nfs_files.proofs.Passing.{if_passed_ok}
+use Rattle.nfs_files.proofs.WrittenOps.{by_found}
+use Rattle.nfs_files.proofs.WrittenTold.{short}
+use Rattle.nfs_exec.specs.Run.{in_room}
+use Rattle.nfs_xdr.specs.Caller.{Caller}
+use Rattle.nfs_xdr.specs.Tables.{In}
+use Rattle.nfs_xdr.proofs.Lists.{find_in, find_past, find_out, find_push_other, filter_past}
+use Rattle.nfs_compound.specs.declared.op.Item.{Item}
+use Rattle.nfs_compound.specs.declared.op.Item.TheVariants.{Operation}
+use Rattle.nfs_compound.specs.declared.op.Op.TheVariants as Op
+use Rattle.nfs_compound.specs.Request.{Request}
+use Rattle.nfs_compound.specs.declared.session_args.Sequence.{Sequence}
+use Rattle.nfs_lease.specs.Renewals.{has_run_out}
+use Rattle.nfs_sessions.specs.Id.{id_of}
+use Rattle.nfs_tree.specs.declared.row.Row.{Row}
+use Rattle.nfs_tree.specs.declared.sets.Sets.{Sets}
+use Rattle.nfs_tree.specs.declared.stored.Stored.{Stored}
+use Rattle.nfs_tree.specs.Object.{modified, no_sets}
+use Rattle.nfs_tree.specs.Files.{Files, root, stored_in, is_there, change_of, is_entry, change_at, with_changed, with_entries_changed, with_links_changed, without_entry, lookup, named}
+use Rattle.nfs_tree.specs.Create.{New, with_new, new_object, data_of}
+use Rattle.nfs_tree.specs.Names.{with_link, without_name, forget, Move, moved_object, replaced_object, with_both_changed, with_moved}
+use Rattle.nfs_tree.specs.Bytes.{written, resized, with_bytes, with_written, with_resized}
+use Rattle.nfs_tree.proofs.Objects.{keeps_changed, stored_map, stored_within}
+use Rattle.nfs_opens.specs.Table.{Table}
+use Rattle.nfs_opens.specs.Closing.{without_open}
+use Rattle.nfs_names.specs.declared.context.Context.{Context}
+use Rattle.nfs_names.specs.Context.{begins}
+use Rattle.nfs_names.specs.State as store
+use Rattle.nfs_names.specs.State.{with_tree, is_used, without_unused, moment}
+use Rattle.nfs_names.specs.Ending.{with_opens, table_staying, staying}
+use Rattle.nfs_names.specs.Rename.{without_replaced}
+use Rattle.nfs_names.specs.Outcome.{checked}
+use Rattle.nfs_names.specs.Operation as names
+use Rattle.nfs_names.proofs.Ones.{each_of}
+use Rattle.nfs_names.proofs.Effects as names_effects
+use Rattle.nfs_names.proofs.Effects.{Makes, Links, Removes, Moves}
+use Rattle.nfs_names.proofs.Effected as names_effected
+use Rattle.nfs_files.proofs.Effects as files_effects
+use Rattle.nfs_files.proofs.Effects.{Names, Writes, Resizes, Changes, Closes}
+use Rattle.nfs_files.proofs.Effected as files_effected
+use Rattle.nfs_files.proofs.Outcomes as files
+use Rattle.nfs_files.proofs.Outcomes.{for_each}
+use Rattle.nfs_exec.specs.Machine.{Machine}
+use Rattle.nfs_exec.specs.Behind.{step, on_store, moves_opens, marked_if}
+use Rattle.nfs_exec.specs.Run.{is_here, behind_here}
+use Rattle.nfs_exec.specs.Sequence as sequence
+use Rattle.nfs_exec.specs.Sequence.{Sequenced, sequenced}
+use Rattle.nfs_exec.specs.Compound.{first_item, renewed, begun, bare, in_session, by_first}
+use Rattle.nfs_exec.specs.Laws.{MachineEvent, Expires, Asks, stepped}
+use Rattle.nfs_exec.specs.Ops.{RanOp, done, ops_in, ops_of as ops_first, ops_by, left_by, AreChained}
+use Rattle.nfs_exec.proofs.AttributesTold.{change_in}
+use Rattle.nfs_exec.proofs.Behind.{by_step}
+use Rattle.nfs_exec.proofs.WholeRun.{Is, otherwise_store}
+use Rattle.nfs_exec.proofs.OpsRun.{are_run}
+use Rattle.nfs_exec.specs.CreateSession.{without_any_opens}
+use Rattle.nfs_exec.proofs.Lone.{holds_whoever}
+use Rattle.nfs_exec.proofs.AnsweredRun.{in_room_is, IsRun, ran_as, as_step, event_run}
+use Rattle.nfs_exec.proofs.OneWalk.{none_at, in_back}
+use Rattle.nfs_serve.specs.Step.{State, new_state}
+use Rattle.nfs_serve.specs.Promises.Endpoint.{Arrival}
+use Rattle.nfs_serve.specs.Promises.Points.{state_after, reached, taken, before, asked_by, ops_of}
+use Rattle.nfs_serve.specs.Promises.ChangeTells.{entries_in, Tells, RunsIn, ChangeTells, ReadsOf, ReadsAreAlike, ChangeIsTold}
+use Rattle.nfs_serve.proofs.Promises.Points.{left, for_asked, next_is, IsSound, whole_before, sound_next, sound_all, sound_new}
+
+-- Entries of another directory.
+
+entries_push : (rows : List Row) (r : Row) (n : ℕ) → r.directory ≢ n → entries_in (rows ++ r ∷ []) n ≡ entries_in rows n
+entries_push [] r n other = rw (ne_eqb r.directory n other) refl
+entries_push (x ∷ xs) r n other = ap (λ (ys : List Row). cond (x.directory == n) (x ∷ ys) ys) (entries_push xs r n other)
+
+entries_without : (d : ℕ) (name : List ℕ) (rows : List Row) (n : ℕ) → d ≢ n → entries_in (without_entry d name rows) n ≡ entries_in rows n
+entries_without d name rows n other =
+    filter_past (λ (r : Row). r.directory == n) (λ r. not (is_entry d name r)) rows (λ x there here.
+    (let is : x.directory ≡ n = eqb-true x.directory n here in
+    rw (ne_eqb x.directory d (λ same. other (sym same ∙ is))) refl))
+
+-- What is there under a number was there, and has a greater change, or is the same, and then this holds.
+
+record Was (n : ℕ) (xs : List Stored) (now : Stored) (Same : Type 0) : Type 0 where
+  pub was : Stored
+  pub there : stored_in xs n ≡ Some was
+  pub either : (was.object.change < now.object.change) ⊎ ((now ≡ was) × Same)
+
+joined : (a b c : Stored) (S T U : Type 0) → (S → T → U) → (a.object.change < b.object.change) ⊎ ((b ≡ a) × S)
+    → (b.object.change < c.object.change) ⊎ ((c ≡ b) × T) → (a.object.change < c.object.change) ⊎ ((c ≡ a) × U)
+joined a b c S T U both (inl less) (inl more) = inl (omega arith)
+joined a b c S T U both (inl less) (inr also) = inl (subst (λ (k : Stored). a.object.change < k.object.change) (sym also.0) less)
+joined a b c S T U both (inr same) (inl more) = inl (subst (λ (k : Stored). k.object.change < c.object.change) same.0 more)
+joined a b c S T U both (inr same) (inr also) = inr (also.0 ∙ same.0, both same.1 also.1)
+
+was_after : (n : ℕ) (xs ys : List Stored) (now : Stored) (S T U : Type 0) → (S → T → U) → Was n ys now T → ((s : Stored) → stored_in ys n ≡ Some s → Was n xs s S) → Was n xs now U
+was_after n xs ys now S T U both late early =
+    let first = early late.was late.there in
+    record { was = first.was; there = first.there; either = joined first.was late.was now S T U both first.either late.either }
+
+by_map : (n : ℕ) (f : Stored → Stored) (xs : List Stored) (Same : Type 0) → ((s : Stored) → (f s).number ≡ s.number)
+    → ((s : Stored) → s.number ≡ n → (s.object.change < (f s).object.change) ⊎ ((f s ≡ s) × Same))
+    → (now : Stored) → stored_in (map f xs) n ≡ Some now → Was n xs now Same
+by_map n f xs Same number each now e = go (stored_in xs n) refl (sym (stored_map xs f n number) ∙ e)
+  where
+    go : (o : Option Stored) → stored_in xs n ≡ o → option_map f o ≡ Some now → Was n xs now Same
+    go None there e = absurd cc
+    go (Some s) there e =
+        let is : f s ≡ now = cc in
+        let at = find_in (λ (s : Stored). s.number == n) xs s there in
+        record {
+          was = s;
+          there = there;
+          either = subst (λ (k : Stored). (s.object.change < k.object.change) ⊎ ((k ≡ s) × Same)) is (each s (eqb-true s.number n at.1));
+        }
+
+changed_or : (m n : ℕ) (now : Time) (sets : Sets) (Same : Type 0) → (m ≢ n → Same) → (s : Stored) → s.number ≡ n
+    → (s.object.change < (change_at m now sets s).object.change) ⊎ ((change_at m now sets s ≡ s) × Same)
+changed_or m n now sets Same other s at = elim (cases_eq s.number m) [
+  | inl here ↦ rw (eq-eqb s.number m here) (inl (omega arith))
+  | inr apart ↦ rw (ne_eqb s.number m apart) (inr (refl, other (λ same. apart (at ∙ sym same))))
+]
+
+at_changed : (n m : ℕ) (now : Time) (sets : Sets) (xs : List Stored) (Same : Type 0) → (m ≢ n → Same) → (k : Stored)
+    → stored_in (with_changed m now sets xs) n ≡ Some k → Was n xs k Same
+at_changed n m now sets xs Same other k e = by_map n (change_at m now sets) xs Same (keeps_changed m now sets []).number (changed_or m n now sets Same other) k e
+
+both_changed : (n d m : ℕ) (now : Time) (xs : List Stored) (Same : Type 0) → (d ≢ n → Same) → (k : Stored)
+    → stored_in (with_links_changed m now (with_entries_changed d now xs)) n ≡ Some k → Was n xs k Same
+both_changed n d m now xs Same other k e =
+    was_after n xs (with_entries_changed d now xs) k Same (Unit {0}) Same (λ s u. s)
+    (at_changed n m now no_sets (with_entries_changed d now xs) (Unit {0}) (λ apart. tt) k e)
+    (λ s there. at_changed n d now (modified now no_sets) xs Same other s there)
+
+two_changed : (n a b : ℕ) (now : Time) (xs : List Stored) (Same : Type 0) → (a ≢ n → b ≢ n → Same) → (k : Stored)
+    → stored_in (with_both_changed a b now xs) n ≡ Some k → Was n xs k Same
+two_changed n a b now xs Same make k e = elim (cases_eq a b) [
+  | inl same ↦ at_changed n a now (modified now no_sets) xs Same (λ apart. make apart (λ is. apart (same ∙ is))) k (rw (eq-eqb a b same) at e)
+  | inr differ ↦ was_after n xs (with_entries_changed a now xs) k (a ≢ n) (b ≢ n) Same make
+      (at_changed n b now (modified now no_sets) (with_entries_changed a now xs) (b ≢ n) (λ apart. apart) k (rw (ne_eqb a b differ) at e))
+      (λ s there. at_changed n a now (modified now no_sets) xs (a ≢ n) (λ apart. apart) s there)
+]
+
+by_rest : (n : ℕ) (p : ℕ → Bool) (xs : List Stored) (Same : Type 0) → Same → (now : Stored)
+    → stored_in (filter (λ (s : Stored). p s.number) xs) n ≡ Some now → Was n xs now Same
+by_rest n p xs Same same now e = elim (cases_Bool (p n)) [
+  | inl stays ↦ record {
+    was = now;
+    there = sym (find_past (λ (s : Stored). s.number == n) (λ s. p s.number) xs (λ s e. ap p (eqb-true s.number n e) ∙ stays)) ∙ e;
+    either = inr (refl, same);
+  }
+  | inr goes ↦ absurd (let none : None ≡ Some now =
+      sym (find_out (λ (s : Stored). s.number == n) (λ s. p s.number) xs (λ s e. ap p (eqb-true s.number n e) ∙ goes)) ∙ e in cc)
+]
+
+bytes_or : (m n : ℕ) (now : Time) (sets : Sets) (bytes : Stored → List ℕ) (Same : Type 0) → Same → (s : Stored) → s.number ≡ n
+    → (s.object.change < (if s.number == m then with_bytes now sets (bytes s) s else s).object.change)
+    ⊎ (((if s.number == m then with_bytes now sets (bytes s) s else s) ≡ s) × Same)
+bytes_or m n now sets bytes Same same s at = elim (cases_Bool (s.number == m)) [
+  | inl here ↦ rw here (inl (omega arith))
+  | inr other ↦ rw other (inr (refl, same))
+]
+
+at_bytes : (n m : ℕ) (now : Time) (sets : Sets) (bytes : Stored → List ℕ) (xs : List Stored) (Same : Type 0) → Same → (k : Stored)
+    → stored_in (map (λ (s : Stored). if s.number == m then with_bytes now sets (bytes s) s else s) xs) n ≡ Some k → Was n xs k Same
+at_bytes n m now sets bytes xs Same same k e =
+    by_map n (λ (s : Stored). if s.number == m then with_bytes now sets (bytes s) s else s) xs Same
+    (λ s. elim (s.number == m) as (λ v. (cond v (with_bytes now sets (bytes s) s) s).number ≡ s.number) [ true ↦ refl | false ↦ refl ])
+    (bytes_or m n now sets bytes Same same) k e
+
+-- A tree behind another.
+
+record Follows (n : ℕ) (t u : Files) : Type 0 where
+  pub given : n ≤ u.last_object
+  pub came : (now : Stored) → stored_in u.objects n ≡ Some now → Was n t.objects now (entries_in u.rows n ≡ entries_in t.rows n)
+
+follows_itself : (n : ℕ) (t : Files) → n ≤ t.last_object → Follows n t t
+follows_itself n t low = record { given = low; came = λ k e. record { was = k; there = e; either = inr (refl, refl) } }
+
+follows_on : (n : ℕ) (t u v : Files) → Follows n t u → (n ≤ u.last_object → Follows n u v) → Follows n t v
+follows_on n t u v first step =
+    let second = step first.given in
+    record {
+      given = second.given;
+      came = λ k e. was_after n t.objects u.objects k (entries_in u.rows n ≡ entries_in t.rows n) (entries_in v.rows n ≡ entries_in u.rows n)
+          (entries_in v.rows n ≡ entries_in t.rows n) (λ s t. t ∙ s) (second.came k e) first.came;
+    }
+
+new_follows : (n : ℕ) (t : Files) (d : ℕ) (name : List ℕ) (new : New) (sets : Sets) (now : Time) → n ≤ t.last_object → Follows n t (with_new t d name new sets now)
+new_follows n t d name new sets now low =
+    let made : Stored = record { number = t.last_object + 1; object = new_object now new sets; bytes = data_of new } in
+    let row : Row = record { directory = d; name = name; object = t.last_object + 1; cookie = t.last_cookie + 1 } in
+    let other : t.last_object + 1 ≢ n = λ same. omega arith in
+    record {
+      given = omega arith;
+      came = λ k e. at_changed n d now (modified now no_sets) t.objects (entries_in (t.rows ++ row ∷ []) n ≡ entries_in t.rows n) (λ apart. entries_push t.rows row n apart) k
+          (sym (find_push_other (λ (s : Stored). s.number == n) (with_entries_changed d now t.objects) made (ne_eqb (t.last_object + 1) n other)) ∙ e);
+    }
+
+link_follows : (n : ℕ) (t : Files) (m d : ℕ) (name : List ℕ) (now : Time) → n ≤ t.last_object → Follows n t (with_link t m d name now)
+link_follows n t m d name now low =
+    let row : Row = record { directory = d; name = name; object = m; cookie = t.last_cookie + 1 } in
+    record {
+      given = low;
+      came = λ k e. both_changed n d m now t.objects (entries_in (t.rows ++ row ∷ []) n ≡ entries_in t.rows n) (λ apart. entries_push t.rows row n apart) k e;
+    }
+
+without_follows : (n : ℕ) (t : Files) (d : ℕ) (name : List ℕ) (now : Time) → n ≤ t.last_object → Follows n t (without_name t d name now)
+without_follows n t d name now low = record {
+  given = low;
+  came = λ k e. both_changed n d (named t d name) now t.objects (entries_in (without_entry d name t.rows) n ≡ entries_in t.rows n)
+      (λ apart. entries_without d name t.rows n apart) k e;
+}
+
+moved_follows : (n : ℕ) (t : Files) (m : Move) (now : Time) → n ≤ t.last_object → Follows n t (with_moved t m now)
+moved_follows n t m now low =
+    let row : Row = record { directory = m.target; name = m.name; object = moved_object t m; cookie = t.last_cookie + 1 } in
+    let without = without_entry m.target m.name t.rows in
+    let Same : Type 0 = entries_in (without_entry m.source m.old without ++ row ∷ []) n ≡ entries_in t.rows n in
+    record {
+      given = low;
+      came = λ k e. was_after n t.objects (with_links_changed (replaced_object t m) now t.objects) k (Unit {0}) Same Same (λ u s. s)
+          (two_changed n m.source m.target now (with_links_changed (replaced_object t m) now t.objects) Same
+          (λ source target. entries_push (without_entry m.source m.old without) row n target
+          ∙ (entries_without m.source m.old without n source ∙ entries_without m.target m.name t.rows n target)) k e)
+          (λ s there. at_changed n (replaced_object t m) now no_sets t.objects (Unit {0}) (λ apart. tt) s there);
+    }
+
+rest_follows : (n : ℕ) (t : Files) (p : ℕ → Bool) → n ≤ t.last_object → Follows n t (record t { objects = filter (λ (s : Stored). p s.number) t.objects })
+rest_follows n t p low = record { given = low; came = λ k e. by_rest n p t.objects (entries_in t.rows n ≡ entries_in t.rows n) refl k e }
+
+changed_follows : (n : ℕ) (t : Files) (m : ℕ) (sets : Sets) (now : Time) → n ≤ t.last_object → Follows n t (record t { objects = with_changed m now sets t.objects })
+changed_follows n t m sets now low = record { given = low; came = λ k e. at_changed n m now sets t.objects (entries_in t.rows n ≡ entries_in t.rows n) (λ apart. refl) k e }
+
+written_follows : (n : ℕ) (t : Files) (m offset : ℕ) (text : List ℕ) (now : Time) → n ≤ t.last_object → Follows n t (with_written t m offset text now)
+written_follows n t m offset text now low = record {
+  given = low;
+  came = λ k e. at_bytes n m now no_sets (λ s. written s.bytes offset text) t.objects (entries_in t.rows n ≡ entries_in t.rows n) refl k e;
+}
+
+resized_follows : (n : ℕ) (t : Files) (m size : ℕ) (sets : Sets) (now : Time) → n ≤ t.last_object → Follows n t (with_resized t m size sets now)
+resized_follows n t m size sets now low = record {
+  given = low;
+  came = λ k e. at_bytes n m now sets (λ s. resized s.bytes size) t.objects (entries_in t.rows n ≡ entries_in t.rows n) refl k e;
+}
+
+-- Effects.
+
+unused_follows : (n : ℕ) (t : Files) (s : store.State) (m : ℕ) → Follows n t s.tree → Follows n t (without_unused s m).tree
+unused_follows n t s m is = elim (cases_Bool (is_used s m)) [
+  | inl stays ↦ rw stays is
+  | inr goes ↦ rw goes (follows_on n t s.tree (forget s.tree m) is (rest_follows n s.tree (λ k. not (k == m))))
+]
+
+replaced_follows : (n : ℕ) (t : Files) (s : store.State) (o : Option ℕ) → Follows n t s.tree → Follows n t (without_replaced s o).tree
+replaced_follows n t s None is = is
+replaced_follows n t s (Some m) is = unused_follows n t s m is
+
+staying_follows : (n : ℕ) (t : Files) (stays : ℕ → Bool) (s : store.State) → Follows n t s.tree → Follows n t (staying stays s).tree
+staying_follows n t stays s is =
+    follows_on n t s.tree (staying stays s).tree is (rest_follows n s.tree (is_used (with_opens s (table_staying stays s.opens))))
+
+names_behind : (n : ℕ) (t : Files) (s : store.State) (e : names_effects.Effect) → Follows n t s.tree → Follows n t (names_effects.behind s e).tree
+names_behind n t s (Makes d name new sets now) is = follows_on n t s.tree (with_new s.tree d name new sets now) is (new_follows n s.tree d name new sets now)
+names_behind n t s (Links m d name now) is = follows_on n t s.tree (with_link s.tree m d name now) is (link_follows n s.tree m d name now)
+names_behind n t s (Removes d name now) is =
+    unused_follows n t (with_tree s (without_name s.tree d name now)) (named s.tree d name)
+    (follows_on n t s.tree (without_name s.tree d name now) is (without_follows n s.tree d name now))
+names_behind n t s (Moves m now) is =
+    replaced_follows n t (with_tree s (with_moved s.tree m now)) (lookup s.tree m.target m.name)
+    (follows_on n t s.tree (with_moved s.tree m now) is (moved_follows n s.tree m now))
+
+files_behind : (n : ℕ) (t : Files) (s : store.State) (e : files_effects.Effect) → Follows n t s.tree → Follows n t (files_effects.behind s e).tree
+files_behind n t s (Names e) is = names_behind n t s e is
+files_behind n t s (Writes m offset text now) is = follows_on n t s.tree (with_written s.tree m offset text now) is (written_follows n s.tree m offset text now)
+files_behind n t s (Resizes m size sets now) is = follows_on n t s.tree (with_resized s.tree m size sets now) is (resized_follows n s.tree m size sets now)
+files_behind n t s (Changes m sets now) is =
+    follows_on n t s.tree (record s.tree { objects = with_changed m now sets s.tree.objects }) is (changed_follows n s.tree m sets now)
+files_behind n t s (Closes m file) is = unused_follows n t (with_opens s (without_open s.opens m)) file is
+files_behind n t s e is = is
+
+-- Operations.
+
+names_item : (n : ℕ) (t : Files) (refused : Bool) (s : store.State) (x : Context) (now : Time) (i : Item) → Follows n t s.tree
+    → ForSome (names.comes_to refused s x now i) (λ o. Follows n t o.state.tree)
+names_item n t refused s x now i is =
+    each_of (λ o. Follows n t o.state.tree) (names.comes_to refused s x now i)
+    (names_effected.kept_item (λ s x. Follows n t s.tree)
+    (names_effects.of_states (λ s. Follows n t s.tree) (λ s e fits is. names_behind n t s e is)) refused s x now i is)
+
+files_kept : (n : ℕ) (t : Files) (begun : Table) → files_effects.Kept begun (λ s x. Follows n t s.tree)
+files_kept n t begun = record { effects = λ s x e fits is. files_behind n t s e is; handles = λ s x y same is. is }
+
+file_item : (n : ℕ) (t : Files) (refused : Bool) (s : store.State) (x : Context) (now : Time) (i : Item) → Follows n t s.tree
+    → Follows n t (files.comes_to refused s x now i).state.tree
+file_item n t refused s x now i is = files_effected.kept_item {P = λ s x. Follows n t s.tree} s x (files_kept n t s.opens) is refused now i
+
+step_follows : (n : ℕ) (t : Files) (m : Machine) (x : Context) (now : ℕ) (refused : Bool) (i : Item) → Follows n t m.store.tree
+    → Follows n t (step m x now refused i).outcome.machine.store.tree
+step_follows n t m x now refused i is =
+    by_step (λ s. Follows n t s.outcome.machine.store.tree) m x now refused i (λ o e. names_item n t refused m.store x (moment now) i is o e)
+    (for_each (λ o. Follows n t (marked_if (moves_opens i) x.client (on_store m o)).outcome.machine.store.tree) refused m.store x (moment now) i
+    (by_mark (moves_opens i)))
+    (λ none other. subst (λ (s : store.State). Follows n t s.tree) (sym (otherwise_store m x i)) is)
+  where
+    by_mark : (moves : Bool) → Follows n t (marked_if moves x.client (on_store m (files.comes_to refused m.store x (moment now) i))).outcome.machine.store.tree
+    by_mark true = file_item n t refused m.store x (moment now) i is
+    by_mark false = file_item n t refused m.store x (moment now) i is
+
+run_follows : (n : ℕ) (t : Files) (d : RanOp) → IsRun d → Follows n t d.before.store.tree → Follows n t d.behind.store.tree
+run_follows n t d r is =
+    subst (λ (d : RanOp). Follows n t d.behind.store.tree) (sym r.is)
+    (in_room_is (λ s. Follows n t s.outcome.machine.store.tree) r.limit r.sofar r.now r.refused d.before d.context d.item is
+    (step_follows n t d.before d.context r.now r.refused d.item is))
+
+-- Operations that are chained: before each of them, and behind all.
+
+record Runs (n : ℕ) (t : Files) (ds : List RanOp) (left : Machine) : Type 0 where
+  pub within : (d : RanOp) → In d ds → Follows n t d.before.store.tree
+  pub behind : Follows n t left.store.tree
+
+chain_runs : (n : ℕ) (t : Files) (m : Machine) (ds : List RanOp) → AreChained m ds → ((d : RanOp) → In d ds → IsRun d) → Follows n t m.store.tree
+    → Runs n t ds (left_by m ds)
+chain_runs n t m [] chained runs is = record { within = λ d there. absurd there; behind = is }
+chain_runs n t m (d ∷ more) chained runs is =
+    let here : Follows n t d.before.store.tree = subst (λ (m : Machine). Follows n t m.store.tree) (sym chained.0) is in
+    let rest = chain_runs n t d.behind more chained.1 (λ e there. runs e (inr there)) (run_follows n t d (runs d (inl refl)) here) in
+    record {
+      within = λ e there. elim there [
+        | inl same ↦ subst (λ (e : RanOp). Follows n t e.before.store.tree) (sym same) here
+        | inr later ↦ rest.within e later
+      ];
+      behind = rest.behind;
+    }
+
+-- An event.
+
+without_follows_any : (n : ℕ) (t : Files) (s : store.State) (o : Option ℕ) → Follows n t s.tree → Follows n t (without_any_opens s o).tree
+without_follows_any n t s None is = is
+without_follows_any n t s (Some gone) is = staying_follows n t (λ c. not (c == gone)) s is
+
+alone_follows : (n : ℕ) (t : Files) (m : Machine) (declared : ℕ) (who : Caller) (now : ℕ) (refused : Bool) (i : Item) → Follows n t m.store.tree
+    → Follows n t (first_item m declared who now refused i).machine.store.tree
+alone_follows n t m declared who now refused i is = holds_whoever (λ s. Follows n t s.tree) (without_follows_any n t) m declared who now refused i is
+
+record Through (n : ℕ) (t : Files) (m behind : Machine) (ds : List RanOp) : Type 0 where
+  pub start : Machine
+  pub first : start.store ≡ m.store
+  pub chained : AreChained start ds
+  pub last : Follows n t (left_by start ds).store.tree → Follows n t behind.store.tree
+
+through_none : (n : ℕ) (t : Files) (m behind : Machine) → (Follows n t m.store.tree → Follows n t behind.store.tree) → Through n t m behind []
+through_none n t m behind each = record { start = m; first = refl; chained = tt; last = each }
+
+through_session : (n : ℕ) (t : Files) (m : Machine) (r : Request) (who : Caller) (now : ℕ) (choice : Option ℕ) (s : Sequence) (more : List Item) (v : Sequenced)
+    → Through n t m (in_session m r who now choice s more v).machine (ops_in m r who now choice s more v)
+through_session n t m r who now choice s more (sequence.Refuses status) = through_none n t m m (λ is. is)
+through_session n t m r who now choice s more (sequence.Repeats reply) = through_none n t m m (λ is. is)
+through_session n t m r who now choice s more (sequence.Runs c) =
+    let is = are_run c.response (begun r s c) now (behind_here choice) (renewed m now s) (begins (id_of s.sessionid).client who) more in
+    record {
+      start = renewed m now s;
+      first = refl;
+      chained = is.chained;
+      last = λ rest. subst (λ (m : Machine). Follows n t m.store.tree) (sym is.machine) rest;
+    }
+
+through_first : (n : ℕ) (t : Files) (m : Machine) (r : Request) (who : Caller) (size now : ℕ) (choice : Option ℕ) (items : List Item)
+    → Through n t m (by_first m r who size now choice items).machine (ops_first m r who size now choice items)
+through_first n t m r who size now choice [] = through_none n t m m (λ is. is)
+through_first n t m r who size now choice (Operation (Op.Sequence s) ∷ more) = through_session n t m r who now choice s more (sequenced m r who size s)
+through_first n t m r who size now choice (item ∷ more) =
+    through_none n t m (first_item m r.declared who now (is_here choice) item).machine (alone_follows n t m r.declared who now (is_here choice) item)
+
+through : (n : ℕ) (t : Files) (m : Machine) (e : MachineEvent) → Through n t m (stepped m e) (ops_by m e)
+through n t m (Expires now) = through_none n t m (stepped m (Expires now)) (staying_follows n t (λ client. not (has_run_out m.leases now client)) m.store)
+through n t m (Asks r who size now choice) = go (eqb r.minor 1)
+  where
+    go : (v : Bool) → Through n t m (cond v (by_first m r who size now choice r.left) (bare r MinorVersMismatch m)).machine (cond v (ops_first m r who size now choice r.left) [])
+    go true = through_first n t m r who size now choice r.left
+    go false = through_none n t m m (λ is. is)
+
+event_runs : (n : ℕ) (t : Files) (m : Machine) (e : MachineEvent) → Is m → Follows n t m.store.tree → Runs n t (ops_by m e) (stepped m e)
+event_runs n t m e is follows =
+    let th = through n t m e in
+    let all = chain_runs n t th.start (ops_by m e) th.chained (λ d there. (event_run m e is d there).0)
+    (subst (λ (s : store.State). Follows n t s.tree) (sym th.first) follows) in
+    record { within = all.within; behind = th.last all.behind }
+
+-- and from one of its operations on
+chained_at : (m : Machine) (front : List RanOp) (d : RanOp) (back : List RanOp) → AreChained m (front ++ d ∷ back) → AreChained d.behind back
+chained_at m [] d back chained = chained.1
+chained_at m (f ∷ front) d back chained = chained_at f.behind front d back chained.1
+
+left_at : (m : Machine) (front : List RanOp) (d : RanOp) (back : List RanOp) → left_by m (front ++ d ∷ back) ≡ left_by d.behind back
+left_at m [] d back = refl
+left_at m (f ∷ front) d back = left_at f.behind front d back
+
+low_there : (n : ℕ) (m : Machine) → Is m → is_there m.store.tree n ≡ true → n ≤ m.store.tree.last_object
+low_there n m is there =
+    let within = stored_within root (m.store.tree.last_object + 1) m.store.tree.objects n is.tree.objects there in
+    let below = within.1 in omega arith
+
+event_behind : (n : ℕ) (m : Machine) (e : MachineEvent) (front : List RanOp) (d : RanOp) (back : List RanOp) → Is m → ops_by m e ≡ front ++ d ∷ back
+    → is_there d.before.store.tree n ≡ true → Runs n d.before.store.tree (d ∷ back) (stepped m e)
+event_behind n m e front d back is same there =
+    let t = d.before.store.tree in
+    let th = through n t m e in
+    let run : IsRun d = (event_run m e is d (subst (In d) (sym same) (in_back d front (d ∷ back) (inl refl)))).0 in
+    let chained : AreChained d.before (d ∷ back) = (refl, chained_at th.start front d back (subst (AreChained th.start) same th.chained)) in
+    let all = chain_runs n t d.before (d ∷ back) chained
+    (λ c in_c. (event_run m e is c (subst (In c) (sym same) (in_back c front (d ∷ back) in_c))).0)
+    (follows_itself n t (low_there n d.before run.whole there)) in
+    record {
+      within = all.within;
+      behind = th.last (subst (λ (m : Machine). Follows n t m.store.tree) (sym (ap (left_by th.start) same ∙ left_at th.start front d back)) all.behind);
+    }
+
+-- Records.
+
+asked_behind : (n : ℕ) (m : Machine) (o : Option MachineEvent) (front : List RanOp) (d : RanOp) (back : List RanOp) → Is m
+    → option_map_or (ops_by m) o [] ≡ front ++ d ∷ back → is_there d.before.store.tree n ≡ true → Runs n d.before.store.tree (d ∷ back) (left m o)
+asked_behind n m None front d back is same there = absurd (none_at front d back same)
+asked_behind n m (Some e) front d back is same there = event_behind n m e front d back is same there
+
+record_runs : (n : ℕ) (t : Files) (s : State) (c : Arrival) → IsSound s → Follows n t s.machine.store.tree → Runs n t (ops_of s c) (state_after s c).machine
+record_runs n t s c sound is =
+    let m = before s c in
+    let whole : Is m = whole_before s c sound.whole in
+    let here : Follows n t m.store.tree = (event_runs n t s.machine (Expires (taken s c)) sound.whole is).behind in
+    let did : Runs n t (option_map_or (ops_by m) (asked_by s c) []) (left m (asked_by s c)) =
+    for_asked (λ o. Runs n t (option_map_or (ops_by m) o []) (left m o)) s c (record { within = λ d there. absurd there; behind = here })
+    (λ r who. event_runs n t m (Asks r who (length c.bytes) (taken s c) c.choice) whole here) in
+    record { within = did.within; behind = subst (λ (s : State). Follows n t s.machine.store.tree) (sym (next_is s c)) did.behind }
+
+later : (n : ℕ) (t : Files) (s : State) (more : List Arrival) → IsSound s → Follows n t s.machine.store.tree → (e : RanOp) → RunsIn s more e
+    → Follows n t e.before.store.tree
+later n t s [] sound is e there = absurd there
+later n t s (c ∷ more) sound is e (inl here) = (record_runs n t s c sound is).within e here
+later n t s (c ∷ more) sound is e (inr more_late) = later n t (state_after s c) more (sound_next s c sound) (record_runs n t s c sound is).behind e more_late
+
+abbrev change : Option Stored → ℕ
+change o = option_map_or (λ (s : Stored). s.object.change) o 0
+
+told : (n : ℕ) (t u : Files) → Follows n t u → is_there u n ≡ true → Tells n t u
+told n t u follows there = go (stored_in u.objects n) refl there
+  where
+    go : (o : Option Stored) → stored_in u.objects n ≡ o → is_some o ≡ true → Tells n t u
+    go None e none = absurd (false≢true none)
+    go (Some k) e some =
+        let w = follows.came k e in
+        let old : change_of t n ≡ w.was.object.change = ap change w.there in
+        let new : change_of u n ≡ k.object.change = ap change e in
+        elim w.either [
+          | inl rose ↦ record { rises = omega arith; same = λ is. absurd (omega arith) }
+          | inr alike ↦ (let equal : k.object.change ≡ w.was.object.change = ap (λ (s : Stored). s.object.change) alike.0 in record {
+            rises = omega arith;
+            same = λ is. record { stored = e ∙ (ap (λ (s : Stored). Some s) alike.0 ∙ sym w.there); entries = alike.1 };
+          })
+        ]
+
+pub change_tells : ChangeTells
+change_tells mode instance lease earlier c front d back more e n same there here behind =
+    let s = reached mode instance lease earlier in
+    let sound : IsSound s = sound_all (new_state mode instance lease) earlier (sound_new mode instance lease) in
+    let runs = asked_behind n (before s c) (asked_by s c) front d back (whole_before s c sound.whole) same here in
+    told n d.before.store.tree e.before.store.tree (by_place runs there) behind
+  where
+    by_place : Runs n d.before.store.tree (d ∷ back) (left (before (reached mode instance lease earlier) c) (asked_by (reached mode instance lease earlier) c))
+        → In e back ⊎ RunsIn (state_after (reached mode instance lease earlier) c) more e → Follows n d.before.store.tree e.before.store.tree
+    by_place runs (inl within) = runs.within e (inr within)
+    by_place runs (inr late) =
+        let s = reached mode instance lease earlier in
+        let sound : IsSound s = sound_all (new_state mode instance lease) earlier (sound_new mode instance lease) in
+        later n d.before.store.tree (state_after s c) more (sound_next s c sound)
+        (subst (λ (s : State). Follows n d.before.store.tree s.machine.store.tree) (sym (next_is s c)) runs.behind) e late
+
+-- READs.
+
+read_text : Stored → (offset count : ℕ) → List ℕ
+read_text st offset count =
+    let bytes : List ℕ = take (given count) (drop offset st.bytes) in
+    spell_result (Res.Read (record { eof = nat_le st.object.size (offset + length bytes); bytes = bytes }))
+
+node_there : (s : store.State) (x : Context) (n : ℕ) (st : Stored) → x.current ≡ Some n → stored_in s.tree.objects n ≡ Some st
+    → current s x ≡ Ok (record { number = n; object = st.object })
+unfolding current
+node_there s x n st at there = ap (node_at s) at ∙ ap (λ (o : Option Stored). node_as n (option_map (λ (s : Stored). s.object) o)) there
+
+read_is : (s : store.State) (x : Context) (r : Read) (n : ℕ) (st : Stored) (d : Node) → x.current ≡ Some n → stored_in s.tree.objects n ≡ Some st → current s x ≡ Ok d
+    → spell_result (Res.Read (of_read.was_read s r d)) ≡ read_text st r.offset r.count
+unfolding read_text
+read_is s x r n st d at there e =
+    let here : Node = record { number = n; object = st.object } in
+    let same : here ≡ d = ok_is refl (sym (node_there s x n st at there) ∙ e) in
+    subst (λ (d : Node). spell_result (Res.Read (of_read.was_read s r d)) ≡ read_text st r.offset r.count) same
+    (ap (λ (o : Option Stored). (let bytes : List ℕ = take (given r.count) (drop r.offset (option_map_or (λ (s : Stored). s.bytes) o [])) in
+    spell_result (Res.Read (record { eof = nat_le st.object.size (r.offset + length bytes); bytes = bytes })))) there)
+
+readable_at : (s : store.State) (x : Context) (r : Read) (d : Node) → readable s x r.stateid (current s x) ≡ Ok d → current s x ≡ Ok d
+unfolding readable
+readable_at s x r d e =
+    (checked_ok (current s x) file_checks d (if_passed_ok (checked (current s x) file_checks) (may_use s x reading r.stateid) d e).0).0
+
+record Shape (text : List ℕ) : Type 0 where
+  pub eof : List ℕ
+  pub long : length eof ≡ 4
+  pub behind : List ℕ
+  pub answers : text ≡ done_head Num.Read ++ (eof ++ behind)
+
+read_room : (limit sofar now : ℕ) (refused : Bool) (m : Machine) (x : Context) (a : Read) (n : ℕ) (st : Stored) → x.current ≡ Some n → stored_in m.store.tree.objects n ≡ Some st
+    → (let s = in_room limit sofar now refused m x (Operation (Op.Read a)) in Shape s.outcome.result → s.outcome.result ≡ read_text st a.offset a.count)
+unfolding of_read.read
+read_room limit sofar now refused m x a n st at there =
+    in_room_is (λ s. Shape s.outcome.result → s.outcome.result ≡ read_text st a.offset a.count) limit sofar now refused m x (Operation (Op.Read a))
+    (λ shape. absurd (short Num.Read RepTooBig shape.eof shape.behind shape.long shape.answers))
+    (by_found (λ o. Shape (spell_result o.result) → spell_result o.result ≡ read_text st a.offset a.count) m.store x Num.Read (readable m.store x a.stateid (current m.store x)) _
+    (λ status shape. absurd (short Num.Read status shape.eof shape.behind shape.long shape.answers))
+    (λ d granted shape. read_is m.store x a n st d at there (readable_at m.store x a d granted)))
+
+read_run : (d : RanOp) → IsRun d → (n offset count : ℕ) (st : Stored) → stored_in d.before.store.tree.objects n ≡ Some st → ReadsOf n offset count d
+    → d.result ≡ read_text st offset count
+read_run d run n offset count st there reads =
+    let a = reads.asked in
+    let same : d ≡ done d.before d.context (Operation (Op.Read a)) (ran_as d run (Operation (Op.Read a))) = as_step d run (Operation (Op.Read a)) reads.is in
+    let text = (ran_as d run (Operation (Op.Read a))).outcome.result in
+    ap (λ (d : RanOp). d.result) same
+    ∙ (read_room run.limit run.sofar run.now run.refused d.before d.context a n st reads.at there
+    (record { eof = reads.eof; long = reads.long; behind = reads.text; answers = ap (λ (d : RanOp). d.result) (sym same) ∙ reads.answers })
+    ∙ (ap (λ (k : ℕ). read_text st k a.count) reads.from ∙ ap (read_text st offset) reads.many))
+
+there_stored : (t : Files) (n : ℕ) → is_there t n ≡ true → (st : Stored) × (stored_in t.objects n ≡ Some st)
+there_stored t n there = go (stored_in t.objects n) refl there
+  where
+    go : (o : Option Stored) → stored_in t.objects n ≡ o → is_some o ≡ true → (st : Stored) × (stored_in t.objects n ≡ Some st)
+    go None e none = absurd (false≢true none)
+    go (Some st) e some = (st, e)
+
+asked_run : (m : Machine) (o : Option MachineEvent) → Is m → (d : RanOp) → In d (option_map_or (ops_by m) o []) → IsRun d
+asked_run m None is d there = absurd there
+asked_run m (Some e) is d there = (event_run m e is d there).0
+
+later_run : (s : State) (more : List Arrival) → IsSound s → (e : RanOp) → RunsIn s more e → IsRun e
+later_run s [] sound e there = absurd there
+later_run s (c ∷ more) sound e (inl here) = asked_run (before s c) (asked_by s c) (whole_before s c sound.whole) e here
+later_run s (c ∷ more) sound e (inr late) = later_run (state_after s c) more (sound_next s c sound) e late
+
+pub reads_are_alike : ReadsAreAlike
+reads_are_alike mode instance lease earlier c front d back more e n offset count same there here behind equal reads also =
+    let s = reached mode instance lease earlier in
+    let sound : IsSound s = sound_all (new_state mode instance lease) earlier (sound_new mode instance lease) in
+    let whole = whole_before s c sound.whole in
+    let alike = (change_tells mode instance lease earlier c front d back more e n same there here behind).same equal in
+    let stored = there_stored d.before.store.tree n here in
+    let run_d = asked_run (before s c) (asked_by s c) whole d (subst (In d) (sym same) (in_back d front (d ∷ back) (inl refl))) in
+    read_run e (by_place there) n offset count stored.0 (alike.stored ∙ stored.1) also ∙ sym (read_run d run_d n offset count stored.0 stored.1 reads)
+  where
+    by_place : In e back ⊎ RunsIn (state_after (reached mode instance lease earlier) c) more e → IsRun e
+    by_place (inl within) =
+        let s = reached mode instance lease earlier in
+        let sound : IsSound s = sound_all (new_state mode instance lease) earlier (sound_new mode instance lease) in
+        asked_run (before s c) (asked_by s c) (whole_before s c sound.whole) e (subst (In e) (sym same) (in_back e front (d ∷ back) (inr within)))
+    by_place (inr late) =
+        let s = reached mode instance lease earlier in
+        let sound : IsSound s = sound_all (new_state mode instance lease) earlier (sound_new mode instance lease) in
+        later_run (state_after s c) more (sound_next s c sound) e late
+
+pub change_is_told : ChangeIsTold
+change_is_told mode instance lease records c d words n there item asks ok at =
+    let s = reached mode instance lease records in
+    let sound : IsSound s = sound_all (new_state mode instance lease) records (sound_new mode instance lease) in
+    change_in d (asked_run (before s c) (asked_by s c) (whole_before s c sound.whole) d there) words n item asks ok at

@@ -1,0 +1,114 @@
+-- The run of a change that tells, and the wrong steps, computed.
+use Rattle.std.proofs.Common.{◌≡◌, inl, inr, ℕ, ◌<◌, true, List, [], ◌∷◌, ◌++◌, length, get_or, take, Option, Some, refl, ◌∙◌, ap, arith}
+use Rattle.std.specs.Option.{option_map_or}
+use Rattle.nfs_compound.specs.declared.file_args.Read.{Read}
+use Rattle.nfs_compound.specs.declared.op.Item.TheVariants.{Operation}
+use Rattle.nfs_compound.specs.declared.op.Op.TheVariants as Op
+use Rattle.nfs_compound.specs.declared.op_num.OpNum.TheVariants as Num
+use Rattle.nfs_names.specs.Context.{anonymous}
+use Rattle.nfs_results.specs.Results.{done_head}
+use Rattle.nfs_tree.specs.declared.row.Row.{Row}
+use Rattle.nfs_tree.specs.declared.stored.Stored.{Stored}
+use Rattle.nfs_tree.specs.Files.{is_there, change_of}
+use Rattle.nfs_xdr.specs.Tables.{In}
+use Rattle.nfs_exec.specs.Ops.{RanOp}
+use Rattle.nfs_serve.specs.Promises.Points.{ops_of}
+use Rattle.nfs_serve.specs.Promises.Exchanges.{words}
+use Rattle.nfs_serve.specs.Promises.HeldLock.{last_of}
+use Rattle.nfs_serve.specs.Promises.WrittenWorked.{made, writes, closed, reads}
+use Rattle.nfs_serve.specs.Promises.ChangeTells.{ReadsOf}
+use Rattle.nfs_serve.specs.Promises.ChangeWorked.{reads_again, read_once, ToldByChange, ChangesAreRefused}
+use Rattle.nfs_serve.proofs.Promises.HeldLock.{nothing, three}
+use Rattle.nfs_serve.proofs.Promises.Computing.{computing}
+
+abbrev write : RanOp
+write = last_of nothing (ops_of made writes)
+
+abbrev read : RanOp
+read = last_of nothing (ops_of closed reads)
+
+abbrev again : RanOp
+again = last_of nothing (ops_of read_once reads_again)
+
+asked : Read
+asked = record { stateid = anonymous; offset = 0; count = 8 }
+
+write_ops : ops_of made writes ≡ take 2 (ops_of made writes) ++ write ∷ []
+unfolding computing
+write_ops = three nothing (ops_of made writes) refl
+
+read_ops : ops_of closed reads ≡ take 2 (ops_of closed reads) ++ read ∷ []
+unfolding computing
+read_ops = three nothing (ops_of closed reads) refl
+
+again_in : In again (ops_of read_once reads_again)
+unfolding computing
+again_in = inr (inr (inl refl))
+
+there : (is_there write.before.store.tree 2 ≡ true) × (is_there read.before.store.tree 2 ≡ true) × (is_there again.before.store.tree 2 ≡ true)
+unfolding computing
+there = (refl, refl, refl)
+
+raised : change_of write.before.store.tree 2 < change_of read.before.store.tree 2
+unfolding computing
+raised = omega arith
+
+same : change_of again.before.store.tree 2 ≡ change_of read.before.store.tree 2
+unfolding computing
+same = refl
+
+answers : (read.result ≡ done_head Num.Read ++ (words (1 ∷ []) ++ words (8 ∷ 0x7365_656e ∷ 0x0000_6d6f ∷ []))) × (again.result ≡ read.result)
+unfolding computing
+answers = (refl, refl)
+
+abbrev reads_it : (d : RanOp) → d.item ≡ Operation (Op.Read asked) → d.context.current ≡ Some 2 → d.result ≡ read.result → ReadsOf 2 0 8 d
+reads_it d is at told = record {
+  asked = asked;
+  is = is;
+  at = at;
+  from = refl;
+  many = refl;
+  eof = words (1 ∷ []);
+  long = refl;
+  text = _;
+  answers = told ∙ answers.0;
+}
+
+first : ReadsOf 2 0 8 read
+unfolding computing asked
+first = reads_it read refl refl refl
+
+second : ReadsOf 2 0 8 again
+unfolding computing asked
+second = reads_it again refl refl answers.1
+
+pub told_by_change : ToldByChange
+told_by_change = record {
+  front = take 2 (ops_of made writes);
+  write = write;
+  ops = write_ops;
+  until = take 2 (ops_of closed reads);
+  read = read;
+  last = read_ops;
+  again = again;
+  late = inl again_in;
+  there = there.0;
+  stays = there.1;
+  still = there.2;
+  raised = raised;
+  same = same;
+  first = first;
+  second = second;
+  told = answers.1;
+}
+
+pub changes_are_refused : ChangesAreRefused
+unfolding computing
+changes_are_refused = record {
+  kept = λ d tells.
+      let long : 4 ≡ 0 = ap (λ (o : Option Stored). option_map_or (λ (s : Stored). length s.bytes) o 0) (tells.same refl).stored in
+      omega arith;
+  back = λ d tells. let up = tells.rises in omega arith;
+  unlisted = λ d tells. let fewer : 0 ≡ 1 = ap (λ (rows : List Row). length rows) (tells.same refl).entries in omega arith;
+  zeros = λ d is. let byte : 0 ≡ 0x73 = ap (λ (text : List ℕ). get_or text 16 0) is in omega arith;
+}
