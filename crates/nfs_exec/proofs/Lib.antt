@@ -2,6 +2,7 @@ pub mod Leasing
 pub mod Exchanging
 pub mod Judging
 pub mod Compared
+pub mod Sequencing
 pub mod Bearing
 pub mod Destroying
 pub mod Expiring

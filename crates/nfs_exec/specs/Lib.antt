@@ -13,6 +13,7 @@ pub mod View
 pub mod Laws
 pub mod Executing
 pub mod Compared
+pub mod Sequencing
 pub mod Delayed
 pub mod DelayedOpen
 pub mod Ops

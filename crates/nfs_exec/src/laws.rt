@@ -2,6 +2,7 @@
 
 ghost use Rattle.nfs_exec.specs.Laws.{RepeatsChangeNothing, RefusalsChangeNothing, NeverRunsAgain, ExpiresOnce, ExpiryFindsNothing};
 ghost use Rattle.nfs_exec.specs.Compared.{ComparesAllButHighest, DifferThereAlone};
+ghost use Rattle.nfs_exec.specs.Sequencing.{NextNumberRuns, FalseRetriesAreTrue};
 ghost use Rattle.nfs_exec.specs.Delayed.{DelayIsACut, NothingDelays};
 ghost use Rattle.nfs_exec.specs.DelayedOpen.{IsWorked};
 ghost use Rattle.nfs_exec.specs.Ended.{WhatRunsOutEnds};
@@ -25,6 +26,13 @@ pub fn compares_all_but_highest()
 /// A SEQUENCE that is refused changes nothing: the slot, its kept reply and the lease are as they were.
 pub fn refusals_change_nothing()
     ensures { RefusalsChangeNothing }
+{}
+
+/// The number behind a slot's last one runs, whatever became of the reply to that, where the slots and sizes of the session allow it. And what is refused as a
+/// false retry is one: the slot took another request under that number.
+pub fn numbers_are_judged_truly()
+    ensures next { NextNumberRuns }
+    ensures false_retries { FalseRetriesAreTrue }
 {}
 
 /// A request that ran does not run again on its session and slot before 2^32 minus 1 others ran there, whatever comes between.

@@ -27,6 +27,7 @@ pub mod FreshRuns
 pub mod Answering
 pub mod WrongAnswers
 pub mod SeenWrite
+pub mod GivenUp
 pub mod Points
 pub mod Forms
 pub mod LockKept

@@ -15,6 +15,7 @@ ghost use Rattle.nfs_serve.specs.Promises.Exchanges.{RunsTo, null_script, null_o
 ghost use Rattle.nfs_serve.specs.Promises.FreshRuns.{FreshRuns, NextRuns, Passes};
 ghost use Rattle.nfs_serve.specs.Promises.Laws.{HasOneReading, CutsAnywhere, BringsOnce, ConnectionsAreStreams};
 ghost use Rattle.nfs_serve.specs.Promises.Forms.{EachFormRunsRecords};
+ghost use Rattle.nfs_serve.specs.Promises.GivenUp.{IsGivenUp};
 ghost use Rattle.nfs_serve.specs.Promises.HeldLock.{IsHeldTo, AreBothTold};
 ghost use Rattle.nfs_serve.specs.Promises.HeldOpen.{IsOpenTo};
 ghost use Rattle.nfs_serve.specs.Promises.LockKept.{LockKept, EachIsTold, OnlyOneIsTold, LeaseIsTold};
@@ -106,9 +107,9 @@ pub fn replies_can_be_read()
     ensures numbers { (number_of : List ℕ → Option SlotNumber) × ((result : List ℕ) (n : SlotNumber) → IsBytes result → number_of result ≡ Some n ↔ Bears result n) }
 {}
 
-/// Over a network that loses, repeats, delays and reorders: each compound that is sent on a slot is executed at most once, the executed ones
-/// are the first that were sent, in their order, and what their caller accepts are the results of those executions, each for its own
-/// compound.
+/// Over a network that loses, repeats, delays and reorders: of the compounds that are sent on a slot under a number one is executed at most, and
+/// once; so a compound that is given up runs once or never. What their caller accepts are results of those executions, in their order, each for its own
+/// compound. Where none is given up, the executed ones are the first that were sent, in their order.
 pub fn exactly_once()
     ensures { (reader : ReplyReader) (mode : ℕ) (instance : ℕ) (lease : ℕ) → ExactlyOnce (server reader.find mode instance lease) }
 {}
@@ -122,6 +123,12 @@ pub fn answers_what_executes()
 /// results are accepted.
 pub fn exchange_over_a_network()
     ensures { (reader : ReplyReader) → IsAccepted reader.find }
+{}
+
+/// The definitions compute: a caller gives up a compound that was executed, one that is late, and one that is refused meanwhile, which it sends again behind another
+/// one under the number of the late one. That run meets the premises of `exactly_once_by_number`; each number is executed once.
+pub fn a_slot_is_given_up()
+    ensures { (reader : ReplyReader) → IsGivenUp reader.find }
 {}
 
 /// A list of records leaves what those that execute leave alone, but for the list's last moment and what has run out by then; and those are
@@ -158,7 +165,7 @@ pub fn as_over_a_wire()
 {}
 
 /// Atomic, and in real time: over such a network what runs is one list of records, one after the other; each accepted result is its compound's in
-/// that list; and a compound that is sent after a result was accepted, by whatever caller, runs after the compound of that result.
+/// that list; and a compound that is first sent after a result was accepted, by whatever caller, runs after the compound of that result.
 pub fn atomic_in_real_time()
     ensures { (reader : ReplyReader) (mode : ℕ) (instance : ℕ) (lease : ℕ) → Atomic (server reader.find mode instance lease) }
 {}

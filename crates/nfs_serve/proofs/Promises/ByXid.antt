@@ -33,6 +33,7 @@ accepts s laws callers start net p c a is apart may = record {
   waits = waits;
   last = may.last;
   numbered = numbered;
+  own = inr owned;
 }
   where
     l : Line
@@ -55,10 +56,17 @@ accepts s laws callers start net p c a is apart may = record {
         (subst (λ (k : Place). s.Bears a.result (record { place = k; number = by.packet.heading.compound.number })) place
         (is.tells by.packet.heading.place (is.packets by.packet by.sent).place (record { compound = by.packet.heading.compound; result = a.result }) by.executed))
 
+    -- whatever its caller sent under this xid is the compound that waits
+    owned : (r : Packet) → In r net.packets → callers.who r.heading.place ≡ callers.who p → r.heading.xid ≡ a.xid → r.heading.compound ≡ c
+    owned r i who same =
+        let (q, sent, at, last, xid) = begun.line.sent a.xid may.xid in
+        let one = apart q sent r i (who ∙ ap callers.who (sym at)) (same ∙ sym xid) in
+        one.1 ∙ last_one last.0 may.last.0 q.heading.compound c (sym last.1 ∙ may.last.1)
+
 event_can : (s : Server) (laws : KeepsSlots s) (callers : Callers) (start : s.State) (net : Network s) (e : NetworkEvent) → ((p : Place) → In p callers.places → IsUnused s start p)
     → IsNetwork s laws callers start net → Apart callers net.packets → May callers net e → Can callers start net e × Apart callers (after callers net e).packets
 event_can s laws callers start net (Sends q) unused is apart may = (
-  record { bytes = may.bytes; reads = may.reads; place = may.place; ready = λ none. inl (unused q.heading.place may.place); idle = may.idle; number = may.number; small = may.small },
+  record { bytes = may.bytes; reads = may.reads; place = may.place; ready = λ none. inl (unused q.heading.place may.place); next = may.next; small = may.small },
   apart_more callers net.packets q may.xid apart,
 )
 event_can s laws callers start net (Resends q) unused is apart may = (

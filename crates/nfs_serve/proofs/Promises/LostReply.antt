@@ -7,10 +7,10 @@ use Rattle.nfs_xdr.specs.Spelling as spelling
 use Rattle.nfs_xdr.specs.Text.{IsBytes}
 use Rattle.nfs_slots.specs.Slot.{unused_slot}
 use Rattle.nfs_serve.specs.Promises.Exchanges.{words}
-use Rattle.nfs_serve.specs.Promises.Endpoint.{Place, Heading, Arrival}
-use Rattle.nfs_serve.specs.Promises.Network.{Packet, NetworkEvent, Resends, Arrives, Accepts, IsUnused}
+use Rattle.nfs_serve.specs.Promises.Endpoint.{Place, Compound, Heading, Arrival}
+use Rattle.nfs_serve.specs.Promises.Network.{Packet, Next, NetworkEvent, Resends, Arrives, Accepts, IsUnused}
 use Rattle.nfs_serve.specs.Promises.PerfectWire.{wire, done_on}
-use Rattle.nfs_serve.specs.Promises.RealTime.{RunsBehind, IsAtomic}
+use Rattle.nfs_serve.specs.Promises.RealTime.{RunsBehind, IsAtomic, WasNotSent}
 use Rattle.nfs_serve.specs.Promises.LostReply.{before, here, place, callers, compound, packet, answer, first, second, start, done, brought, IsAccepted, IsOverAWire}
 use Rattle.nfs_serve.specs.Promises.Seen.{ReplyReader, IsSequenced}
 use Rattle.nfs_serve.proofs.Promises.Replies.{found, finding, found_by, no_bytes}
@@ -57,8 +57,7 @@ computed_accepted = record {
       bytes = is_bytes _ refl;
       reads = refl;
       place = inl refl;
-      idle = refl;
-      number = refl;
+      next = Next refl;
       small = omega arith;
       xid = λ q none. absurd none;
     },
@@ -71,8 +70,7 @@ computed_accepted = record {
             bytes = is_bytes _ refl;
             reads = refl;
             place = inl refl;
-            idle = refl;
-            number = refl;
+            next = Next refl;
             small = omega arith;
             xid = λ q i who e. elim i [ inl same ↦ apart q 3 1 (packet 4 2).heading (λ k. cc) same e | inr none ↦ absurd none ];
           },
@@ -125,11 +123,15 @@ computed_wire = record {
   answers = computed.1;
   alike = is_atomic.one_list;
   order = subst (λ (records : List Arrival). RunsBehind (here found) (start found).machine records place (done 1) place (compound 2)) computed.0
-      (is_atomic.in_time (take 2 first) [] back place (compound 1) (answer 3 1) (packet 4 2) refl);
+      (is_atomic.in_time (take 2 first) [] back place (compound 1) (answer 3 1) (packet 4 2) refl not_before);
 }
   where
     back : List NetworkEvent
     back = Arrives (packet 4 2) 103 None ∷ Resends (packet 5 2) ∷ Arrives (packet 5 2) 104 None ∷ Accepts place (compound 2) (answer 5 2) ∷ []
+
+    not_before : WasNotSent (packet 4 2) (take 2 first)
+    not_before q (inl e) at same = (let number : 1 ≡ 2 = ap (λ (c : Compound). c.number) (sym (ap (λ (p : Packet). p.heading.compound) e) ∙ same) in omega arith)
+    not_before q (inr none) at same = none
 
 pub is_over_a_wire : (reader : ReplyReader) → IsOverAWire reader.find
 is_over_a_wire reader = subst IsOverAWire (found_by reader) computed_wire

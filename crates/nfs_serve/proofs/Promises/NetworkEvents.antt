@@ -7,8 +7,8 @@ use Rattle.nfs_serve.specs.Promises.Endpoint.{Place, Compound, Heading, Answer, 
 use Rattle.nfs_serve.specs.Promises.Network.{Callers, Packet, Reply, RanCompound, Line, Network, NetworkEvent, Sends, Resends, Arrives, Asks, Intrudes, Accepts, IsLast, with_line, sending, resending, accepting, executing, result_of, with_reply, with_packet, arriving, after, ended, IsUnused, no_line, begins, IsExact}
 use Rattle.nfs_serve.specs.Promises.Numbered.{CanSend, CanAccept, Can, Happens, ExactlyOnceByNumber}
 use Rattle.nfs_serve.proofs.Promises.ServerLaws.{KeepsSlots, Runs, IsElsewhere}
-use Rattle.nfs_serve.proofs.Promises.NetworkLists.{In-front, In-last, In-push, In-map, CountUp, CountUp-front, CountUp-one, counted_once}
-use Rattle.nfs_serve.proofs.Promises.NetworkLines.{updated, compounds, Stands, Idle, IsLine, executed_first, accepted_first, line_more, line_leaves, line_sends, line_resends, line_runs, line_accepts, kept_is_executed}
+use Rattle.nfs_serve.proofs.Promises.NetworkLists.{In-front, In-last, In-push, counted_once}
+use Rattle.nfs_serve.proofs.Promises.NetworkLines.{updated, Stands, Idle, IsLine, executed_first, accepted_first, line_more, line_leaves, line_sends, line_resends, line_runs, line_accepts, kept_is_executed}
 
 -- a packet: it reads as it says, and its compound was sent on a slot of a caller
 pub record IsPacket (s : Server) (callers : Callers) (lines : Place → Line) (q : Packet) : Type 0 where
@@ -56,9 +56,12 @@ begins_here s laws m packets p sound u = record {
   given = laws.stands m p u.0 sound u.1;
   line = record {
     small = omega arith;
+    positive = λ c none. absurd none;
     counts = tt;
+    was_sent = λ d none. absurd none;
     slot = Stands u.0 u.1 (record { number = u.2; kept = λ used. absurd (true≢false (sym used ∙ u.3)) });
-    course = Idle refl refl refl;
+    told = record { part = tt; below = λ c waits. absurd (waits refl) };
+    course = λ none. record { counts = tt; course = Idle refl refl refl };
     sent = λ x none. absurd none;
   };
 }
@@ -306,7 +309,7 @@ bearing p number = record { place = p; number = number }
 pub accepted_here : (s : Server) (laws : KeepsSlots s) (callers : Callers) (start : s.State) (net : Network s) (p : Place) (c : Compound) (a : Answer) → IsNetwork s laws callers start net → CanAccept s callers net p c a
     → In (record { compound = c; result = a.result }) (net.lines p).executed
 accepted_here s laws callers start net p c a is can =
-    subst (λ (x : Compound). In (record { compound = x; result = a.result }) l.executed) (CountUp-one 1 l.sent d c begun.line.counts was_sent (last_in c l.sent can.last) same_number) there
+    subst (λ (x : Compound). In (record { compound = x; result = a.result }) l.executed) same there
   where
     l : Line
     l = net.lines p
@@ -335,10 +338,11 @@ accepted_here s laws callers start net p c a is can =
     there : In (record { compound = d; result = a.result }) l.executed
     there = subst (λ (x : Place). In (record { compound = d; result = a.result }) (net.lines x).executed) same_place by.executed
 
-    was_sent : In d l.sent
-    was_sent =
-        let first = executed_first l begun.line.course in
-        subst (In d) (sym first.1) (In-front d (compounds l.executed) first.0 (In-map (λ (x : RanCompound). x.compound) (record { compound = d; result = a.result }) l.executed there))
+    same : d ≡ c
+    same = elim can.own [
+      | inl one ↦ one d (begun.line.was_sent (record { compound = d; result = a.result }) there) same_number
+      | inr one ↦ one by.packet by.sent by.caller by.xid
+    ]
 
 accepting_keeps : (s : Server) (laws : KeepsSlots s) (callers : Callers) (start : s.State) (net : Network s) (p : Place) (c : Compound) (a : Answer) → IsNetwork s laws callers start net → CanAccept s callers net p c a
     → IsNetwork s laws callers start (record net { lines = with_line net.lines p (accepting (net.lines p) (record { compound = c; result = a.result })) })
@@ -375,7 +379,7 @@ event_keeps s laws callers start net (Sends q) is can =
     let l = net.lines q.heading.place in
     let begun = begun_ready s laws callers start net q is can in
     with_packet_keeps s laws callers start net q (sending l q.heading) can.bytes can.reads can.place (In-last l.sent q.heading.compound) (λ c i. In-front c l.sent (q.heading.compound ∷ []) i) refl
-    (record { given = begun.given; line = line_sends (s.slot_at net.machine q.heading.place) net.packets q l can.idle can.number can.small begun.line }) is
+    (record { given = begun.given; line = line_sends (s.slot_at net.machine q.heading.place) net.packets q l can.next can.small begun.line }) is
 event_keeps s laws callers start net (Resends q) is can =
     let l = net.lines q.heading.place in
     let begun = begun_waits s laws net.machine net.packets l q.heading.place can.waits (is.stage q.heading.place can.place) in
@@ -418,13 +422,20 @@ begins_is s laws callers before =
 pub exact : (s : Server) (laws : KeepsSlots s) (m : s.State) (packets : List Packet) (l : Line) (p : Place) → Stage s laws m packets l p → IsExact l
 exact s laws m packets l p (inl begun) =
     let is = begun.line in
-    let first = executed_first l is.course in
     record {
-      once = λ number. counted_once 1 number l.executed (CountUp-front 1 (compounds l.executed) first.0 (subst (CountUp 1) first.1 is.counts));
-      in_order = first;
-      told = accepted_first l is.course;
+      once = λ number. counted_once 1 number l.executed is.counts;
+      sent = is.was_sent;
+      numbers = is.counts;
+      told = is.told.part;
+      whole = λ none. (let course = (is.course none).course in record { in_order = executed_first l course; told = accepted_first l course });
     }
-exact s laws m packets l p (inr none) = subst IsExact (sym none) (record { once = λ number. omega arith; in_order = ([], refl); told = ([], refl) })
+exact s laws m packets l p (inr none) = subst IsExact (sym none) (record {
+  once = λ number. omega arith;
+  sent = λ d none. absurd none;
+  numbers = tt;
+  told = tt;
+  whole = λ none. record { in_order = ([], refl); told = ([], refl) };
+})
 
 pub exactly_once_by_number : (s : Server) → KeepsSlots s → ExactlyOnceByNumber s
 exactly_once_by_number s laws before callers events can p i =

@@ -1,5 +1,5 @@
 -- One slot's line against the slot, through each event.
-use Rattle.std.proofs.Common.{◌≡◌, ◌⊎◌, inl, inr, ℕ, ◌+◌, ◌%◌, ◌^◌, ◌<◌, ◌≤◌, Bool, true, false, List, [], ◌∷◌, ◌++◌, map, length, Option, Some, None, refl, sym, ◌∙◌, ap, subst, arith}
+use Rattle.std.proofs.Common.{◌≡◌, ◌⊎◌, inl, inr, ℕ, ◌+◌, ◌-◌, ◌%◌, ◌^◌, ◌<◌, ◌≤◌, Bool, true, false, List, [], ◌∷◌, ◌++◌, map, length, Option, Some, None, refl, sym, ◌∙◌, ap, subst, arith}
 use Rattle.std.specs.Prelude.{◌==◌, ◌&&◌, not, if◌then◌else◌, bytes_eq}
 use Rattle.std.proofs.lemmas.Bool.{eqb-true, eq-eqb, and_parts, and_from, true≢false, false≢true}
 use Rattle.std.proofs.lemmas.Slice.Eq.{bytes_eq-Decides}
@@ -10,9 +10,9 @@ use Rattle.nfs_slots.proofs.TableLemmas.{fresh_number}
 use Rattle.nfs_sessions.specs.declared.id.SessionId.{SessionId}
 use Rattle.nfs_sessions.specs.Laws.{is_id}
 use Rattle.nfs_serve.specs.Promises.Endpoint.{Place, Compound, Heading, Answer, Stepped, Server}
-use Rattle.nfs_serve.specs.Promises.Network.{Packet, RanCompound, Line, IsLast, same_place, with_line, sending, resending, accepting, executing, result_of}
+use Rattle.nfs_serve.specs.Promises.Network.{Packet, RanCompound, Line, IsNext, Next, Instead, IsLast, CountUp, IsPart, top, waiting, same_place, with_line, sending, resending, accepting, executing, result_of}
 use Rattle.nfs_serve.proofs.Promises.ServerLaws.{Runs, Repeats}
-use Rattle.nfs_serve.proofs.Promises.NetworkLists.{In-last, In-push, In-map, append_none, length_append, length_push, map_push, map_length, last_one, CountUp, CountUp-push, CountUp-front, CountUp-last, CountUp-bounds}
+use Rattle.nfs_serve.proofs.Promises.NetworkLists.{In-front, In-last, In-push, In-map, In-map-back, append_none, length_append, length_push, map_push, map_length, last_one, CountUp-push, CountUp-front, CountUp-last, CountUp-bounds, CountUp-within, CountUp-top, top_bounds, top_within, top_push, IsPart-in, IsPart-more, IsPart-push}
 
 -- the two verdicts
 
@@ -102,11 +102,24 @@ pub data Course (l : Line) : Type 0 where
 abbrev pub IsSent : List Packet → Line → Place → Type 0
 IsSent packets l p = (x : ℕ) → In x l.xids → (q : Packet) × In q packets × (q.heading.place ≡ p) × IsLast q.heading.compound l.sent × (q.heading.xid ≡ x)
 
-pub record IsLine (found : Option SlotState) (packets : List Packet) (l : Line) (p : Place) : Type 0 where
-  pub small : length l.sent < 2 ^ 32
+-- what was accepted are results of the executions, in their order, and of lower numbers than the compound that waits
+pub record IsTold (l : Line) : Type 0 where
+  pub part : IsPart l.accepted l.executed
+  pub below : (c : Compound) → (l.xids ≡ [] → ⊥) → IsLast c l.sent → (d : RanCompound) → In d l.accepted → d.compound.number < c.number
+
+-- where none was given up
+pub record IsCourse (l : Line) : Type 0 where
   pub counts : CountUp 1 l.sent
-  pub slot : IsAt l found
   pub course : Course l
+
+pub record IsLine (found : Option SlotState) (packets : List Packet) (l : Line) (p : Place) : Type 0 where
+  pub small : top l.sent < 2 ^ 32
+  pub positive : (c : Compound) → In c l.sent → 1 ≤ c.number
+  pub counts : CountUp 1 (compounds l.executed)
+  pub was_sent : (d : RanCompound) → In d l.executed → In d.compound l.sent
+  pub slot : IsAt l found
+  pub told : IsTold l
+  pub course : l.given_up ≡ 0 → IsCourse l
   pub sent : IsSent packets l p
 
 executed_length : (l : Line) (rest : List Compound) → l.sent ≡ compounds l.executed ++ rest → length l.sent ≡ length l.executed + length rest
@@ -132,12 +145,30 @@ pub sent_more : (packets : List Packet) (q : Packet) (l : Line) (p : Place) → 
 sent_more packets q l p sent x i = let found = sent x i in (found.0, inr found.1, found.2, found.3, found.4)
 
 pub line_more : (found : Option SlotState) (packets : List Packet) (q : Packet) (l : Line) (p : Place) → IsLine found packets l p → IsLine found (q ∷ packets) l p
-line_more found packets q l p is = record { small = is.small; counts = is.counts; slot = is.slot; course = is.course; sent = sent_more packets q l p is.sent }
+line_more found packets q l p is = record {
+  small = is.small;
+  positive = is.positive;
+  counts = is.counts;
+  was_sent = is.was_sent;
+  slot = is.slot;
+  told = is.told;
+  course = is.course;
+  sent = sent_more packets q l p is.sent;
+}
 
 -- the slot stays, or goes
 pub line_leaves : (found later : Option SlotState) (packets : List Packet) (l : Line) (p : Place) → (later ≡ found) ⊎ (later ≡ None) → IsLine found packets l p → IsLine later packets l p
 line_leaves found later packets l p (inl same) is = subst (λ (x : Option SlotState). IsLine x packets l p) (sym same) is
-line_leaves found later packets l p (inr gone) is = record { small = is.small; counts = is.counts; slot = Gone gone; course = is.course; sent = is.sent }
+line_leaves found later packets l p (inr gone) is = record {
+  small = is.small;
+  positive = is.positive;
+  counts = is.counts;
+  was_sent = is.was_sent;
+  slot = Gone gone;
+  told = is.told;
+  course = is.course;
+  sent = is.sent;
+}
 
 -- the slot's part speaks of what was executed alone
 slot_alike : (l m : Line) (found : Option SlotState) → l.executed ≡ m.executed → IsAt l found → IsAt m found
@@ -147,21 +178,81 @@ slot_alike l m found same (Stands x e is) = Stands x e (record {
   kept = λ used. subst (λ (ds : List RanCompound). In (record { compound = compound_of x; result = x.reply }) ds) same (is.kept used);
 })
 
+-- a compound that was executed was sent
+ran_was_sent : (l : Line) (c : Compound) → ((d : RanCompound) → In d l.executed → In d.compound l.sent) → In c (compounds l.executed) → In c l.sent
+ran_was_sent l c was_sent i = go l.executed was_sent i
+  where
+    go : (ds : List RanCompound) → ((d : RanCompound) → In d ds → In d.compound l.sent) → In c (compounds ds) → In c l.sent
+    go [] was_sent i = absurd i
+    go (d ∷ ds) was_sent (inl e) = subst (λ (x : Compound). In x l.sent) (sym e) (was_sent d (inl refl))
+    go (d ∷ ds) was_sent (inr i) = go ds (λ x j. was_sent x (inr j)) i
+
 -- a caller sends its next compound
 sending_course : (l : Line) (h : Heading) → l.xids ≡ [] → Course l → Course (sending l h)
 sending_course l h idle (Idle none same all) = Waits (λ e. cc) same h.compound (ap (λ (cs : List Compound). cs ++ h.compound ∷ []) all)
 sending_course l h idle (Waits some same c all) = absurd (some idle)
 sending_course l h idle (Ran some d same all) = absurd (some idle)
 
-pub line_sends : (found : Option SlotState) (packets : List Packet) (q : Packet) (l : Line) → l.xids ≡ [] → q.heading.compound.number ≡ length l.sent + 1 → q.heading.compound.number < 2 ^ 32
+-- what it may send has a higher number than what was accepted
+next_above : (l : Line) (c : Compound) → IsTold l → ((d : RanCompound) → In d l.executed → In d.compound l.sent) → IsNext l c
+    → (d : RanCompound) → In d l.accepted → d.compound.number < c.number
+next_above l c is was_sent (Next number) d i =
+    let bound = top_bounds l.sent d.compound (was_sent d (IsPart-in d l.accepted l.executed is.part i)) in
+    omega (arith, bound, number)
+next_above l c is was_sent (Instead low high above) d i = above d i
+
+next_positive : (l : Line) (c : Compound) → IsNext l c → 1 ≤ c.number
+next_positive l c (Next number) = omega (arith, number)
+next_positive l c (Instead low high above) = low
+
+none_waits : (xids : List ℕ) (n : ℕ) → n + waiting xids ≡ 0 → (n ≡ 0) × (xids ≡ [])
+none_waits [] n e = (omega (arith, e), refl)
+none_waits (x ∷ xids) n e = absurd (omega (arith, e))
+
+-- where none waits and none was given up, no number is to be used again
+used_up : (l : Line) (c : Compound) → l.xids ≡ [] → 1 ≤ c.number → c.number ≤ top l.sent → ((d : RanCompound) → In d l.accepted → d.compound.number < c.number) → Course l → ⊥
+used_up l c idle low high above (Waits some same d all) = some idle
+used_up l c idle low high above (Ran some d same all) = some idle
+used_up l c idle low high above (Idle none same all) =
+    let within = top_within l.sent (c.number - 1) (λ d i. (
+    let (x, there, is) = In-map-back (λ (y : RanCompound). y.compound) d l.executed (subst (In d) all i) in
+    let less = above x (subst (In x) (sym same) there) in
+    let number : x.compound.number ≡ d.number = ap (λ (y : Compound). y.number) is in
+    omega (arith, less, number))) in
+    omega (arith, within, low, high)
+
+sent_in_course : (l : Line) (h : Heading) → IsNext l h.compound → (l.given_up ≡ 0 → IsCourse l) → (sending l h).given_up ≡ 0 → IsCourse (sending l h)
+sent_in_course l h (Next number) course none =
+    let (before, idle) = none_waits l.xids l.given_up none in
+    let is = course before in
+    let highest = CountUp-top l.sent is.counts in
+    record { counts = CountUp-push 1 l.sent h.compound is.counts (omega (arith, number, highest)); course = sending_course l h idle is.course }
+sent_in_course l h (Instead low high above) course none =
+    let (before, idle) = none_waits l.xids l.given_up none in
+    absurd (used_up l h.compound idle low high above (course before).course)
+
+pub line_sends : (found : Option SlotState) (packets : List Packet) (q : Packet) (l : Line) → IsNext l q.heading.compound → q.heading.compound.number < 2 ^ 32
     → IsLine found packets l q.heading.place → IsLine found (q ∷ packets) (sending l q.heading) q.heading.place
-line_sends found packets q l idle number small is = record {
-  small = omega (arith, length_push l.sent q.heading.compound, number, small);
-  counts = CountUp-push 1 l.sent q.heading.compound is.counts (omega (arith, number));
-  slot = slot_alike l (sending l q.heading) found refl is.slot;
-  course = sending_course l q.heading idle is.course;
-  sent = λ x i. elim i [ inl e ↦ (q, inl refl, refl, (l.sent, refl), sym e) | inr none ↦ absurd none ];
-}
+line_sends found packets q l next small is =
+    let c = q.heading.compound in
+    record {
+      small = (let before = is.small in omega (arith, top_push l.sent c, small, before));
+      positive = λ d i. elim (In-push d l.sent c i) [
+        | inl old ↦ is.positive d old
+        | inr same ↦ subst (λ (x : Compound). 1 ≤ x.number) (sym same) (next_positive l c next)
+      ];
+      counts = is.counts;
+      was_sent = λ d i. In-front d.compound l.sent (c ∷ []) (is.was_sent d i);
+      slot = slot_alike l (sending l q.heading) found refl is.slot;
+      told = record {
+        part = is.told.part;
+        below = λ d some last x j.
+            let one : d ≡ c = last_one last.0 l.sent d c (sym last.1) in
+            subst (λ (y : Compound). x.compound.number < y.number) (sym one) (next_above l c is.told is.was_sent next x j);
+      };
+      course = sent_in_course l q.heading next is.course;
+      sent = λ x i. elim i [ inl e ↦ (q, inl refl, refl, (l.sent, refl), sym e) | inr none ↦ absurd none ];
+    }
 
 -- it sends the outstanding one again
 resending_course : (l : Line) (h : Heading) → (l.xids ≡ [] → ⊥) → Course l → Course (resending l h)
@@ -173,9 +264,12 @@ pub line_resends : (found : Option SlotState) (packets : List Packet) (q : Packe
     → IsLine found packets l q.heading.place → IsLine found (q ∷ packets) (resending l q.heading) q.heading.place
 line_resends found packets q l some last is = record {
   small = is.small;
+  positive = is.positive;
   counts = is.counts;
+  was_sent = is.was_sent;
   slot = slot_alike l (resending l q.heading) found refl is.slot;
-  course = resending_course l q.heading some is.course;
+  told = record { part = is.told.part; below = λ c waits. is.told.below c some };
+  course = λ none. (let before = is.course none in record { counts = before.counts; course = resending_course l q.heading some before.course });
   sent = λ x i. elim i [ inl e ↦ (q, inl refl, refl, last, sym e) | inr old ↦ sent_more packets q l q.heading.place is.sent x old ];
 }
 
@@ -200,6 +294,12 @@ executing_course l c answer counts i next (Ran some d same all) =
     let bound = CountUp-bounds 1 l.sent c counts i in
     absurd (omega (arith, next, bound.1, executed_length l [] (all ∙ sym (append_none (compounds l.executed)))))
 
+-- there are no more executions than the highest number
+executed_within : (l : Line) → CountUp 1 (compounds l.executed) → ((d : RanCompound) → In d l.executed → In d.compound l.sent) → length l.executed ≤ top l.sent
+executed_within l counts was_sent =
+    let within = CountUp-within 1 (compounds l.executed) (top l.sent) counts (omega arith) (λ c i. top_bounds l.sent c (ran_was_sent l c was_sent i)) in
+    omega (arith, within, map_length (λ (d : RanCompound). d.compound) l.executed)
+
 slot_number : (l : Line) (found : Option SlotState) (x : SlotState) → found ≡ Some x → IsAt l found → x.number ≡ length l.executed
 slot_number l found x e (Gone gone) = absurd cc
 slot_number l found x e (Stands y e' is) = let same : y ≡ x = cc in ap (λ (z : SlotState). z.number) (sym same) ∙ is.number
@@ -216,19 +316,25 @@ line_runs s m step packets l h i runs is =
     let c = h.compound in
     let count : runs.slot.number ≡ length l.executed = slot_number l (s.slot_at m h.place) runs.slot runs.stands is.slot in
     let fresh : c.number ≡ (length l.executed + 1) % 2 ^ 32 = fresh_number runs.slot c.number c.uid c.args runs.fresh ∙ ap next_number count in
-    let bound = CountUp-bounds 1 l.sent c is.counts i in
-    let first = executed_first l is.course in
-    let next : c.number ≡ length l.executed + 1 = next_is (length l.executed) c.number (length l.sent) is.small (omega (arith, executed_length l first.0 first.1)) bound.0 (omega (arith, bound.1)) fresh in
+    let next : c.number ≡ length l.executed + 1 =
+    next_is (length l.executed) c.number (top l.sent) is.small (executed_within l is.counts is.was_sent) (is.positive c i) (top_bounds l.sent c i) fresh in
     let done : RanCompound = record { compound = c; result = result_of step.answer } in
     let told : result_of step.answer ≡ runs.result = ap result_of runs.answer in
     record {
       small = is.small;
-      counts = is.counts;
+      positive = is.positive;
+      counts = subst (CountUp 1) (sym (map_push (λ (d : RanCompound). d.compound) l.executed done))
+          (CountUp-push 1 (compounds l.executed) c is.counts (omega (arith, next, map_length (λ (d : RanCompound). d.compound) l.executed)));
+      was_sent = λ d j. elim (In-push d l.executed done j) [
+        | inl old ↦ is.was_sent d old
+        | inr same ↦ subst (λ (x : RanCompound). In x.compound l.sent) (sym same) i
+      ];
+      told = record { part = IsPart-more l.accepted l.executed done is.told.part; below = is.told.below };
       slot = Stands _ runs.keeps (record {
         number = next ∙ sym (length_push l.executed done);
         kept = λ used. subst (λ (r : List ℕ). In (record { compound = c; result = r }) (l.executed ++ done ∷ [])) told (In-last l.executed done);
       });
-      course = executing_course l c step.answer is.counts i next is.course;
+      course = λ none. (let before = is.course none in record { counts = before.counts; course = executing_course l c step.answer before.counts i next before.course });
       sent = is.sent;
     }
 
@@ -259,9 +365,16 @@ pub line_accepts : (found : Option SlotState) (packets : List Packet) (l : Line)
     → IsLine found packets l p → IsLine found packets (accepting l done) p
 line_accepts found packets l p done some last i is = record {
   small = is.small;
+  positive = is.positive;
   counts = is.counts;
+  was_sent = is.was_sent;
   slot = slot_alike l (accepting l done) found refl is.slot;
-  course = accepting_course l done is.counts some last i is.course;
+  told = record {
+    part = IsPart-push 1 l.accepted l.executed done is.counts is.told.part i
+        (is.told.below done.compound some last);
+    below = λ c waits. absurd (waits refl);
+  };
+  course = λ none. (let before = is.course none in record { counts = before.counts; course = accepting_course l done before.counts some last i before.course });
   sent = λ x none. absurd none;
 }
 

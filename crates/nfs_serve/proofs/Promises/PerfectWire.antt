@@ -1,5 +1,5 @@
 -- The records that reach a server over a network, and those of them that execute.
-use Rattle.std.proofs.Common.{◌≡◌, ℕ, Bool, true, false, List, [], ◌∷◌, ◌++◌, map, Option, Some, None, refl, sym, ◌∙◌, ap, subst, inl, inr}
+use Rattle.std.proofs.Common.{◌≡◌, ℕ, Bool, true, false, List, [], ◌∷◌, ◌++◌, Option, Some, None, refl, sym, ◌∙◌, ap, subst, inl, inr}
 use Rattle.std.specs.Prelude.{if◌then◌else◌}
 use Rattle.std.proofs.lemmas.Bool.{cases_Bool}
 use Rattle.nfs_xdr.specs.Tables.{In}
@@ -134,14 +134,7 @@ pub as_over_a_wire : (s : Server) → KeepsSlots s → KeepsTime s → AsOverAWi
 as_over_a_wire s slots time before callers events can = record {
   state = reached ∙ (lone.state ∙ ap (λ (x : s.State). s.tick (ran s m (wire s m events)) (s.moment x)) (sym reached));
   executes = executing_again s time m (all_reaching events);
-  lines = λ p i.
-      let exact = exactly_once_by_number s slots before callers events can p i in
-      let same = executed p i in
-      record {
-        executed = same;
-        sent = (exact.in_order.0, exact.in_order.1 ∙ ap (λ (ds : List RanCompound). map (λ (d : RanCompound). d.compound) ds ++ exact.in_order.0) same);
-        accepted = (exact.told.0, sym same ∙ exact.told.1);
-      };
+  lines = λ p i. record { executed = executed p i; exact = exactly_once_by_number s slots before callers events can p i };
 }
   where
     m : s.State

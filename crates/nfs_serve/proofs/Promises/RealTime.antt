@@ -1,5 +1,5 @@
 -- Events that are cut in two: what the first part runs is a front of what the whole runs.
-use Rattle.std.proofs.Common.{◌≡◌, ◌⊎◌, inl, inr, ◌<◌, ◌≤◌, Bool, true, false, List, [], ◌∷◌, ◌++◌, length, refl, sym, ◌∙◌, ap, subst, arith, append_assoc}
+use Rattle.std.proofs.Common.{◌≡◌, ◌⊎◌, inl, inr, Bool, true, false, List, [], ◌∷◌, ◌++◌, refl, sym, ◌∙◌, ap, subst, append_assoc}
 use Rattle.std.specs.Prelude.{if◌then◌else◌}
 use Rattle.nfs_xdr.specs.Tables.{In}
 use Rattle.nfs_serve.specs.Promises.Endpoint.{Place, Compound, Answer, Server, Arrival, stepped, ran}
@@ -7,11 +7,10 @@ use Rattle.nfs_serve.specs.Promises.Network.{Callers, Packet, RanCompound, Line,
 use Rattle.nfs_serve.specs.Promises.Numbered.{Happens}
 use Rattle.nfs_serve.specs.Promises.Alone.{taken, alone}
 use Rattle.nfs_serve.specs.Promises.PerfectWire.{reaching, all_reaching, wire, done_by, done_on, IsAsDone, IsAsOverAWire}
-use Rattle.nfs_serve.specs.Promises.RealTime.{KeepsOrder, Atomic}
+use Rattle.nfs_serve.specs.Promises.RealTime.{sendings, WasNotSent, KeepsOrder, Atomic}
 use Rattle.nfs_serve.proofs.Promises.ServerLaws.{KeepsSlots, KeepsTime}
-use Rattle.nfs_serve.proofs.Promises.NetworkLists.{In-front, In-last, In-map, length_push, CountUp-bounds}
-use Rattle.nfs_serve.proofs.Promises.NetworkLines.{updated, compounds}
-use Rattle.nfs_serve.proofs.Promises.NetworkEvents.{IsNetwork, begun_sent, events_keep, begins_is}
+use Rattle.nfs_serve.proofs.Promises.NetworkLists.{In-last, In-push, IsPart-in}
+use Rattle.nfs_serve.proofs.Promises.NetworkLines.{updated}
 use Rattle.nfs_serve.proofs.Promises.PerfectWire.{as_over_a_wire}
 
 In-either : {X : Type 0} (x : X) (xs ys : List X) → In x (xs ++ ys) → In x xs ⊎ In x ys
@@ -60,36 +59,72 @@ done_append s p m (a ∷ more) later =
     ap (λ (ds : List RanCompound). done_by p (s.heading a.bytes) (stepped s m a).answer ++ ds) (done_append s p (stepped s m a).state more later)
     ∙ sym (append_assoc (done_by p (s.heading a.bytes) (stepped s m a).answer) (done_on s p (stepped s m a).state more) (done_on s p (ran s (stepped s m a).state more) later))
 
--- a caller's list of what it sent only grows
+-- What was sent on a slot was sent by an event.
 
-line_grows : (lines : Place → Line) (k : Place) (l : Line) (q : Place) → length (lines k).sent ≤ length l.sent → length (lines q).sent ≤ length (with_line lines k l q).sent
-line_grows lines k l q grows = updated (λ (x : Line). length (lines q).sent ≤ length x.sent) lines k l q
-    (λ e. subst (λ (p : Place). length (lines p).sent ≤ length l.sent) e grows) (λ other. omega arith)
+record WasSent (q : Place) (c : Compound) (packets : List Packet) : Type 0 where
+  packet : Packet
+  among : In packet packets
+  place : packet.heading.place ≡ q
+  compound : packet.heading.compound ≡ c
 
-event_grows : (s : Server) (callers : Callers) (net : Network s) (e : NetworkEvent) (q : Place) → length (net.lines q).sent ≤ length ((after callers net e).lines q).sent
-event_grows s callers net (Sends p) q =
-    let l = net.lines p.heading.place in
-    line_grows net.lines p.heading.place (sending l p.heading) q (omega (arith, length_push l.sent p.heading.compound))
-event_grows s callers net (Resends p) q = line_grows net.lines p.heading.place (resending (net.lines p.heading.place) p.heading) q (omega arith)
-event_grows s callers net (Arrives p now choice) q = go (s.executes net.machine p.bytes now)
+line_back : (lines : Place → Line) (k : Place) (l : Line) (q : Place) (c : Compound) → In c (with_line lines k l q).sent → ((k ≡ q) × In c l.sent) ⊎ In c (lines q).sent
+line_back lines k l q c = updated (λ (x : Line). In c x.sent → ((k ≡ q) × In c l.sent) ⊎ In c (lines q).sent) lines k l q (λ e i. inl (e, i)) (λ other i. inr i)
+
+-- a line that sends nothing more
+same_back : (lines : Place → Line) (k : Place) (l : Line) (q : Place) (c : Compound) → l.sent ≡ (lines k).sent → In c (with_line lines k l q).sent → In c (lines q).sent
+same_back lines k l q c same i = elim (line_back lines k l q c i) [
+  | inl (e, here) ↦ subst (λ (p : Place). In c (lines p).sent) e (subst (In c) same here)
+  | inr there ↦ there
+]
+
+event_back : (s : Server) (callers : Callers) (net : Network s) (e : NetworkEvent) (more : List NetworkEvent) (q : Place) (c : Compound)
+    → In c ((after callers net e).lines q).sent → In c (net.lines q).sent ⊎ WasSent q c (sendings (e ∷ more))
+event_back s callers net (Sends p) more q c i =
+    let k = p.heading.place in
+    let l = net.lines k in
+    elim (line_back net.lines k (sending l p.heading) q c i) [
+      | inl (e, here) ↦ elim (In-push c l.sent p.heading.compound here) [
+        | inl old ↦ inl (subst (λ (x : Place). In c (net.lines x).sent) e old)
+        | inr same ↦ inr (record { packet = p; among = inl refl; place = e; compound = sym same })
+      ]
+      | inr there ↦ inl there
+    ]
+event_back s callers net (Resends p) more q c i = inl (same_back net.lines p.heading.place (resending (net.lines p.heading.place) p.heading) q c refl i)
+event_back s callers net (Arrives p now choice) more q c i = inl (go (s.executes net.machine p.bytes now) i)
   where
-    go : (b : Bool) → length (net.lines q).sent ≤ length ((arriving callers net p.heading b (s.step net.machine p.bytes now choice)).lines q).sent
-    go true = line_grows net.lines p.heading.place (executing (net.lines p.heading.place) p.heading.compound (s.step net.machine p.bytes now choice).answer) q (omega arith)
-    go false = omega arith
-event_grows s callers net (Asks caller a) q = omega arith
-event_grows s callers net (Intrudes a) q = omega arith
-event_grows s callers net (Accepts p c a) q = line_grows net.lines p (accepting (net.lines p) (record { compound = c; result = a.result })) q (omega arith)
+    go : (b : Bool) → In c ((arriving callers net p.heading b (s.step net.machine p.bytes now choice)).lines q).sent → In c (net.lines q).sent
+    go true i = same_back net.lines p.heading.place (executing (net.lines p.heading.place) p.heading.compound (s.step net.machine p.bytes now choice).answer) q c refl i
+    go false i = i
+event_back s callers net (Asks caller a) more q c i = inl i
+event_back s callers net (Intrudes a) more q c i = inl i
+event_back s callers net (Accepts p d a) more q c i = inl (same_back net.lines p (accepting (net.lines p) (record { compound = d; result = a.result })) q c refl i)
 
-grows : (s : Server) (callers : Callers) (net : Network s) (events : List NetworkEvent) (q : Place) → length (net.lines q).sent ≤ length ((ended callers net events).lines q).sent
-grows s callers net [] q = omega arith
-grows s callers net (e ∷ more) q = omega (arith, event_grows s callers net e q, grows s callers (after callers net e) more q)
+sendings_more : (e : NetworkEvent) (more : List NetworkEvent) (q : Packet) → In q (sendings more) → In q (sendings (e ∷ more))
+sendings_more (Sends p) more q i = inr i
+sendings_more (Resends p) more q i = i
+sendings_more (Arrives p now choice) more q i = i
+sendings_more (Asks caller a) more q i = i
+sendings_more (Intrudes a) more q i = i
+sendings_more (Accepts p c a) more q i = i
 
--- so what is sent later has a higher number than all that was sent
-later_number : (s : Server) (callers : Callers) (start : s.State) (net : Network s) (middle back : List NetworkEvent) (sent : Packet) → Happens callers start net (middle ++ Sends sent ∷ back)
-    → (In sent.heading.place callers.places) × (length (net.lines sent.heading.place).sent < sent.heading.compound.number)
-later_number s callers start net middle back sent can =
-    let then' = (happens_later s callers start net middle (Sends sent ∷ back) can).0 in
-    (then'.place, omega (arith, grows s callers net middle sent.heading.place, then'.number))
+ended_back : (s : Server) (callers : Callers) (net : Network s) (events : List NetworkEvent) (q : Place) (c : Compound)
+    → In c ((ended callers net events).lines q).sent → In c (net.lines q).sent ⊎ WasSent q c (sendings events)
+ended_back s callers net [] q c i = inl i
+ended_back s callers net (e ∷ more) q c i = elim (ended_back s callers (after callers net e) more q c i) [
+  | inl early ↦ event_back s callers net e more q c early
+  | inr late ↦ inr (record { packet = late.packet; among = sendings_more e more late.packet late.among; place = late.place; compound = late.compound })
+]
+
+-- an event that accepts sends nothing
+sendings_front : (front : List NetworkEvent) (p : Place) (c : Compound) (a : Answer) (q : Packet) → In q (sendings (front ++ Accepts p c a ∷ [])) → In q (sendings front)
+sendings_front [] p c a q i = i
+sendings_front (Sends r ∷ more) p c a q (inl e) = inl e
+sendings_front (Sends r ∷ more) p c a q (inr i) = inr (sendings_front more p c a q i)
+sendings_front (Resends r ∷ more) p c a q i = sendings_front more p c a q i
+sendings_front (Arrives r now choice ∷ more) p c a q i = sendings_front more p c a q i
+sendings_front (Asks caller b ∷ more) p c a q i = sendings_front more p c a q i
+sendings_front (Intrudes b ∷ more) p c a q i = sendings_front more p c a q i
+sendings_front (Accepts r d b ∷ more) p c a q i = sendings_front more p c a q i
 
 -- a result that is accepted is the last one of its slot
 accepted_here : (s : Server) (callers : Callers) (net : Network s) (front : List NetworkEvent) (p : Place) (c : Compound) (a : Answer)
@@ -104,11 +139,11 @@ accepted_here s callers net front p c a =
 
 pub keeps_order : (s : Server) → KeepsSlots s → KeepsTime s → (before : List Arrival) (callers : Callers) (events : List NetworkEvent)
     → Happens callers (ran s s.new before) (begins s (ran s s.new before)) events → KeepsOrder s (ran s s.new before) events
-keeps_order s slots time before callers events can front middle back p c a sent split = record {
+keeps_order s slots time before callers events can front middle back p c a sent split new = record {
   front = early;
   back = late;
   order = order;
-  first = subst (In told) (sym line.accepted.1) (In-front told (net.lines p).accepted line.accepted.0 (accepted_here s callers (begins s m) front p c a));
+  first = subst (In told) line.executed (IsPart-in told (net.lines p).accepted (net.lines p).executed line.exact.told (accepted_here s callers (begins s m) front p c a));
   behind = λ d i same. elim (In-either d (done_on s q m early) (done_on s q (ran s m early) late) (subst (In d) (ap (done_on s q m) order ∙ done_append s q m early late) i)) [
     | inl here ↦ absurd (not_yet d here same)
     | inr there ↦ there
@@ -159,20 +194,17 @@ keeps_order s slots time before callers events can front middle back p c a sent 
     line : IsAsDone (net.lines p) (done_on s p m early)
     line = over.lines p (happens_later s callers m (begins s m) front (Accepts p c a ∷ []) first_happens).0.place
 
-    -- the later compound has a higher number than all that were sent by then
-    next : (In q callers.places) × (length (net.lines q).sent < sent.heading.compound.number)
-    next = later_number s callers m net middle back sent (happens_later s callers m (begins s m) first later all_happen)
+    of_caller : In q callers.places
+    of_caller = (happens_later s callers m net middle (Sends sent ∷ back) (happens_later s callers m (begins s m) first later all_happen)).0.place
 
-    sound : IsNetwork s slots callers m net
-    sound = events_keep s slots callers m (begins s m) first (begins_is s slots callers before) first_happens
-
+    -- the later compound is none of those that were sent by then
     not_yet : (d : RanCompound) → In d (done_on s q m early) → d.compound ≡ sent.heading.compound → ⊥
     not_yet d i same =
-        let there = over.lines q next.0 in
-        let was_sent : In d.compound (net.lines q).sent = subst (In d.compound) (sym there.sent.1)
-        (In-front d.compound (compounds (done_on s q m early)) there.sent.0 (In-map (λ (d : RanCompound). d.compound) d (done_on s q m early) i)) in
-        let bound = CountUp-bounds 1 (net.lines q).sent d.compound (begun_sent s slots net.machine net.packets (net.lines q) q d.compound was_sent (sound.stage q next.0)).line.counts was_sent in
-        omega (arith, bound.1, next.1, ap (λ (c : Compound). c.number) same)
+        let there = over.lines q of_caller in
+        elim (ended_back s callers (begins s m) first q d.compound (there.exact.sent d (subst (In d) (sym there.executed) i))) [
+          | inl none ↦ absurd none
+          | inr was ↦ new was.packet (sendings_front front p c a was.packet was.among) was.place (was.compound ∙ same)
+        ]
 
 pub atomic : (s : Server) → KeepsSlots s → KeepsTime s → Atomic s
 atomic s slots time before callers events can = record {

@@ -1,12 +1,13 @@
 -- The run in which a write is seen, computed.
-use Rattle.std.proofs.Common.{◌≡◌, inl, inr, List, [], ◌∷◌, ◌++◌, map, take, None, refl, subst, arith}
+use Rattle.std.proofs.Common.{◌≡◌, inl, inr, ℕ, ◌+◌, ◌*◌, ◌^◌, List, [], ◌∷◌, ◌++◌, map, take, None, refl, sym, ◌∙◌, ap, subst, arith}
+use Rattle.nfs_xdr.specs.Tables.{In}
 use Rattle.nfs_slots.specs.Slot.{unused_slot}
 use Rattle.nfs_serve.specs.Promises.Exchanges.{words}
-use Rattle.nfs_serve.specs.Promises.Endpoint.{Arrival}
-use Rattle.nfs_serve.specs.Promises.Network.{NetworkEvent, Arrives, Asks, ended}
+use Rattle.nfs_serve.specs.Promises.Endpoint.{Place, Arrival}
+use Rattle.nfs_serve.specs.Promises.Network.{Packet, Next, NetworkEvent, Arrives, Asks, ended}
 use Rattle.nfs_serve.specs.Promises.Numbered.{Happens}
 use Rattle.nfs_serve.specs.Promises.PerfectWire.{wire, done_on}
-use Rattle.nfs_serve.specs.Promises.RealTime.{IsAtomic, RunsBehind}
+use Rattle.nfs_serve.specs.Promises.RealTime.{IsAtomic, RunsBehind, WasNotSent}
 use Rattle.nfs_serve.specs.Promises.SeenWrite.{before, here, slot_of, callers, write, read, packet, written, seen, accepts, first, joins, second, start, brought, IsSeen}
 use Rattle.nfs_serve.specs.Promises.Seen.{ReplyReader, Bears}
 use Rattle.nfs_serve.proofs.Promises.Replies.{found, finding, found_by, no_bytes}
@@ -44,6 +45,11 @@ read_bears = (
   },
 )
 
+-- one compound was sent on the slot
+only : {X : Type 0} {x : X} (y : X) → In y (x ∷ []) → y ≡ x
+only y (inl same) = same
+only y (inr none) = absurd none
+
 happens : Happens callers (start found).machine (start found) (first ++ second)
 unfolding computing
 happens = (
@@ -52,8 +58,7 @@ happens = (
     reads = refl;
     place = inl refl;
     ready = λ none. inl (unused_slot, refl, refl, refl);
-    idle = refl;
-    number = refl;
+    next = Next refl;
     small = omega arith;
   },
   (
@@ -63,7 +68,7 @@ happens = (
       (
         inl refl,
         (
-          record { place = inl refl; caller = 8; sent = inl refl; waits = λ e. cc; last = ([], refl); numbered = write_bears },
+          record { place = inl refl; caller = 8; sent = inl refl; waits = λ e. cc; last = ([], refl); numbered = write_bears; own = inl (λ d i same. only d i) },
           (
             (is_bytes _ refl, refl),
             (
@@ -74,15 +79,14 @@ happens = (
                   reads = refl;
                   place = inr (inl refl);
                   ready = λ none. inr (unused_slot, refl, refl, refl);
-                  idle = refl;
-                  number = refl;
+                  next = Next refl;
                   small = omega arith;
                 },
                 (
                   inr (inr (inl refl)),
                   (
                     inl refl,
-                    (record { place = inr (inl refl); caller = 8; sent = inl refl; waits = λ e. cc; last = ([], refl); numbered = read_bears }, tt),
+                    (record { place = inr (inl refl); caller = 8; sent = inl refl; waits = λ e. cc; last = ([], refl); numbered = read_bears; own = inl (λ d i same. only d i) }, tt),
                   ),
                 ),
               ),
@@ -110,7 +114,7 @@ computed_seen = record {
   answers = computed.2;
   alike = is_atomic.one_list;
   order = subst (λ (records : List Arrival). RunsBehind (here found) (start found).machine records (slot_of 1) written (slot_of 2) read) computed.1
-      (is_atomic.in_time front middle back (slot_of 1) write (record { xid = 16; result = written.result }) (packet 2 1 read) refl);
+      (is_atomic.in_time front middle back (slot_of 1) write (record { xid = 16; result = written.result }) (packet 2 1 read) refl not_before);
 }
   where
     front : List NetworkEvent
@@ -121,6 +125,14 @@ computed_seen = record {
 
     back : List NetworkEvent
     back = Arrives (packet 1 1 write) 109 None ∷ Arrives (packet 2 1 read) 110 None ∷ accepts 2 seen ∷ []
+
+    -- it was sent on another slot
+    not_before : WasNotSent (packet 2 1 read) front
+    not_before q (inl e) at same = (
+        let session : 7 * 2 ^ 32 + 1 ≡ 7 * 2 ^ 32 + 2 =
+        ap (λ (p : Place). p.session.client) (sym (ap (λ (p : Packet). p.heading.place) e) ∙ at) in
+        omega (arith, session))
+    not_before q (inr none) at same = none
 
 pub is_seen : (reader : ReplyReader) → IsSeen reader.find
 is_seen reader = subst IsSeen (found_by reader) computed_seen

@@ -2,10 +2,11 @@
 use Rattle.std.proofs.Common.{◌≡◌, inl, inr, ℕ, ◌<◌, zero, suc, true, false, List, [], ◌∷◌, ◌++◌, length, get_or, Option, Some, None, refl, sym, ◌∙◌, ap, subst, arith}
 use Rattle.std.proofs.lemmas.Bool.{cases_Bool, true≢false}
 use Rattle.nfs_xdr.specs.Text.{IsBytes}
+use Rattle.nfs_xdr.specs.Tables.{In}
 use Rattle.nfs_slots.specs.declared.slot.Verdict.{Verdict}
 use Rattle.nfs_slots.specs.declared.slot.Verdict.TheVariants.{Fresh, Again, FalseRetry, Misordered, NoSlot}
 use Rattle.nfs_serve.specs.Promises.Endpoint.{Place, Heading, Compound, Answer, SlotNumber, Stepped, Arrival}
-use Rattle.nfs_serve.specs.Promises.Network.{Callers, Packet, RanCompound, NetworkEvent, Sends, Arrives, Accepts, begins, same_place}
+use Rattle.nfs_serve.specs.Promises.Network.{Callers, Packet, Next, NetworkEvent, Sends, Arrives, Accepts, begins, same_place}
 use Rattle.nfs_serve.specs.Promises.Numbered.{Happens}
 use Rattle.nfs_serve.specs.Promises.WrongServers.{Small, place, heading, spell, arguments, judged, is_fresh, by_verdict, taken, executes, runs_repeats, says_one, compares_all, LawsRefuse}
 use Rattle.nfs_serve.proofs.Promises.ServerLaws.{KeepsSlots, Runs, Repeats}
@@ -132,8 +133,7 @@ twice_happens = (
     reads = refl;
     place = inl refl;
     ready = λ none. inl (runs_repeats.new.slots (place 1), refl, refl, refl);
-    idle = refl;
-    number = refl;
+    next = Next refl;
     small = omega arith;
   },
   (inl refl, (inl refl, tt)),
@@ -143,6 +143,11 @@ twice_happens = (
 abbrev crossed : List NetworkEvent
 crossed = Sends (packet 8 1) ∷ Sends (packet 9 2) ∷ Arrives (packet 9 2) 0 None ∷ Accepts (place 1) (compound 1) (record { xid = 9; result = spell (place 1) 1 }) ∷ []
 
+-- one compound was sent on the slot
+only : {X : Type 0} {x : X} (y : X) → In y (x ∷ []) → y ≡ x
+only y (inl same) = same
+only y (inr none) = absurd none
+
 crossed_happens : Happens callers says_one.new (begins says_one says_one.new) crossed
 crossed_happens = (
   record {
@@ -150,8 +155,7 @@ crossed_happens = (
     reads = refl;
     place = inl refl;
     ready = λ none. inl (says_one.new.slots (place 1), refl, refl, refl);
-    idle = refl;
-    number = refl;
+    next = Next refl;
     small = omega arith;
   },
   (
@@ -160,13 +164,12 @@ crossed_happens = (
       reads = refl;
       place = inr (inl refl);
       ready = λ none. inl (says_one.new.slots (place 2), refl, refl, refl);
-      idle = refl;
-      number = refl;
+      next = Next refl;
       small = omega arith;
     },
     (
       inl refl,
-      (record { place = inl refl; caller = 7; sent = inl refl; waits = λ e. cc; last = ([], refl); numbered = refl }, tt),
+      (record { place = inl refl; caller = 7; sent = inl refl; waits = λ e. cc; last = ([], refl); numbered = refl; own = inl (λ d i same. only d i) }, tt),
     ),
   ),
 )
@@ -181,9 +184,6 @@ heading_with highest = record { xid = 8; place = place 1; compound = compound 1;
 no_answer : (a : Answer) → None ≡ Some a → ⊥
 no_answer a e = cc
 
-none_longer : (d : RanCompound) (rest : List RanCompound) → [] ≡ d ∷ rest → ⊥
-none_longer d rest e = cc
-
 pub laws_refuse : LawsRefuse
 laws_refuse = record {
   admitted = exactly_once_by_number runs_repeats keeps_slots;
@@ -191,9 +191,7 @@ laws_refuse = record {
       let state = (law [] callers twice twice_happens).state in
       let ran : 2 ≡ 1 = ap (λ (s : Small). length s.ran) state in
       omega arith;
-  another_slot = λ law.
-      let told = (law [] callers crossed crossed_happens (place 1) (inl refl)).told in
-      none_longer _ told.0 told.1;
+  another_slot = λ law. (law [] callers crossed crossed_happens (place 1) (inl refl)).told;
   refused_repeat = λ law.
       no_answer _ (law [] (again_with 4) (heading_with 4) [] (again_with 5) (heading_with 5)
       (four_bytes 8 1 1 4 (omega arith) (omega arith) (omega arith) (omega arith)) refl refl tt

@@ -74,7 +74,7 @@ pub record IsAccepted (find : List ℕ → Option Answer) : Type 0 where
   pub unused : IsUnused (here find) (start find).machine place
   pub schedule : Schedule callers (start find) (first ++ second)
   pub line : (ended callers (start find) (first ++ second)).lines place
-      ≡ record { sent = compound 1 ∷ compound 2 ∷ []; executed = done 1 ∷ done 2 ∷ []; accepted = done 1 ∷ done 2 ∷ []; xids = [] }
+      ≡ record { sent = compound 1 ∷ compound 2 ∷ []; given_up = 0; executed = done 1 ∷ done 2 ∷ []; accepted = done 1 ∷ done 2 ∷ []; xids = [] }
 
 -- what a perfect wire brings for these events: each compound once, at the moment at which it was taken
 abbrev pub brought : List Arrival

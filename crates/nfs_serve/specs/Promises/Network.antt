@@ -1,6 +1,6 @@
 -- Callers and a server over a network that loses, repeats, delays and reorders, and what is promised there: each compound that is sent on a
 -- slot executes at most once (RFC 8881 section 2.10.6).
-use Rattle.std.specs.Prelude.{◌≡◌, ℕ, ◌+◌, ◌<◌, ◌≤◌, ◌^◌, ◌==◌, ◌&&◌, Bool, true, false, List, [], ◌∷◌, ◌++◌, length, map, count_by, Option, Some, None, if◌then◌else◌, ⊤}
+use Rattle.std.specs.Prelude.{◌≡◌, ◌⊎◌, ℕ, ◌+◌, ◌<◌, ◌≤◌, ◌^◌, ◌==◌, ◌&&◌, max, Bool, true, false, List, [], ◌∷◌, ◌++◌, map, count_by, Option, Some, None, if◌then◌else◌, ⊤}
 use Rattle.nfs_xdr.specs.Text.{IsBytes}
 use Rattle.nfs_xdr.specs.Tables.{In}
 use Rattle.nfs_slots.specs.Slot.{SlotState}
@@ -31,6 +31,8 @@ pub record RanCompound : Type 0 where
 pub record Line : Type 0 where
   -- those that its caller sent
   pub sent : List Compound
+  -- how many of them it gave up: it sent another one while they waited
+  pub given_up : ℕ
   -- those that the server executed, with what it answered to each execution
   pub executed : List RanCompound
   -- those of which the caller accepted a result
@@ -67,8 +69,13 @@ same_place p q = is_id p.session q.session && (p.slot == q.slot)
 abbrev pub with_line : (Place → Line) → Place → Line → Place → Line
 with_line lines p l q = if same_place p q then l else lines q
 
+-- one, where a compound waits
+abbrev pub waiting : (xids : List ℕ) → ℕ
+waiting [] = 0
+waiting (xid ∷ xids) = 1
+
 abbrev pub sending : Line → Heading → Line
-sending l h = record l { sent = l.sent ++ h.compound ∷ []; xids = h.xid ∷ [] }
+sending l h = record l { sent = l.sent ++ h.compound ∷ []; given_up = l.given_up + waiting l.xids; xids = h.xid ∷ [] }
 
 abbrev pub resending : Line → Heading → Line
 resending l h = record l { xids = h.xid ∷ l.xids }
@@ -113,13 +120,23 @@ IsOfOneCompound callers packets h =
     (q : Packet) → In q packets → callers.who q.heading.place ≡ callers.who h.place → q.heading.xid ≡ h.xid
     → (q.heading.place ≡ h.place) × (q.heading.compound ≡ h.compound)
 
--- A caller sends the next compound of a slot only where none waits there. It numbers them 1, 2 and so on, to less than 2^32.
+-- the highest number of these, or 0
+abbrev pub top : List Compound → ℕ
+top [] = 0
+top (c ∷ more) = max c.number (top more)
+
+-- What a caller may send next on a slot, where it gives up the compound that waits, if one does. It numbers them 1, 2 and so on. Or it takes a number that it
+-- used, above those of which it accepted a result: for another compound, as to find out whether that number ran, or for one that it gave up.
+pub data IsNext (l : Line) (c : Compound) : Type 0 where
+  Next : c.number ≡ top l.sent + 1 → IsNext l c
+  Instead : 1 ≤ c.number → c.number ≤ top l.sent → ((d : RanCompound) → In d l.accepted → d.compound.number < c.number) → IsNext l c
+
+-- A caller sends a compound on a slot, under a number below 2^32.
 pub record MaySend (s : Server) (callers : Callers) (net : Network s) (p : Packet) : Type 0 where
   pub bytes : IsBytes p.bytes
   pub reads : s.heading p.bytes ≡ Some p.heading
   pub place : In p.heading.place callers.places
-  pub idle : (net.lines p.heading.place).xids ≡ []
-  pub number : p.heading.compound.number ≡ length (net.lines p.heading.place).sent + 1
+  pub next : IsNext (net.lines p.heading.place) p.heading.compound
   pub small : p.heading.compound.number < 2 ^ 32
   pub xid : IsOfOneCompound callers net.packets p.heading
 
@@ -172,7 +189,7 @@ abbrev pub IsUnused : (s : Server) → s.State → Place → Type 0
 IsUnused s m p = (x : SlotState) × (s.slot_at m p ≡ Some x) × (x.number ≡ 0) × (x.used ≡ false)
 
 abbrev pub no_line : Line
-no_line = record { sent = []; executed = []; accepted = []; xids = [] }
+no_line = record { sent = []; given_up = 0; executed = []; accepted = []; xids = [] }
 
 abbrev pub begins : (s : Server) → s.State → Network s
 begins s m = record { machine = m; lines = λ p. no_line; packets = []; replies = [] }
@@ -182,13 +199,33 @@ begins s m = record { machine = m; lines = λ p. no_line; packets = []; replies 
 abbrev pub is_number : ℕ → RanCompound → Bool
 is_number number d = d.compound.number == number
 
-pub record IsExact (l : Line) : Type 0 where
-  -- no compound was executed twice
-  pub once : (number : ℕ) → count_by (is_number number) l.executed ≤ 1
+-- the numbers are n, n + 1 and so on
+abbrev pub CountUp : ℕ → List Compound → Type 0
+CountUp n [] = ⊤
+CountUp n (c ∷ more) = (c.number ≡ n) × CountUp (n + 1) more
+
+-- the first ones are some of the others, in their order
+abbrev pub IsPart : {X : Type 0} → List X → List X → Type 0
+IsPart [] ys = ⊤
+IsPart (x ∷ xs) [] = ⊥
+IsPart (x ∷ xs) (y ∷ ys) = ((x ≡ y) × IsPart xs ys) ⊎ IsPart (x ∷ xs) ys
+
+-- where none was given up
+pub record IsWhole (l : Line) : Type 0 where
   -- those that were executed are the first of those that were sent, in their order
   pub in_order : (rest : List Compound) × (l.sent ≡ map (λ d. d.compound) l.executed ++ rest)
-  -- what was accepted are the results of the first executions, in their order, each for its own compound
+  -- what was accepted are the results of the first executions
   pub told : (rest : List RanCompound) × (l.executed ≡ l.accepted ++ rest)
+
+pub record IsExact (l : Line) : Type 0 where
+  -- of the compounds that were sent under a number one was executed at most, and no more than once; so each that was given up ran once or never
+  pub once : (number : ℕ) → count_by (is_number number) l.executed ≤ 1
+  -- those that were executed were sent, and they bear the numbers 1, 2 and so on
+  pub sent : (d : RanCompound) → In d l.executed → In d.compound l.sent
+  pub numbers : CountUp 1 (map (λ d. d.compound) l.executed)
+  -- what was accepted are results of the executions, in their order, each for its own compound
+  pub told : IsPart l.accepted l.executed
+  pub whole : l.given_up ≡ 0 → IsWhole l
 
 -- Behind any records to a new server, for any callers whose slots stand unused then, and any schedule: on each slot of a caller.
 abbrev pub ExactlyOnce : Server → Type 0

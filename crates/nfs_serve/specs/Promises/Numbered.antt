@@ -1,25 +1,23 @@
--- The same network for callers that go by SEQUENCE's result alone (RFC 8881 section 18.46): a caller accepts a reply that bears the session, the
--- slot and the number of the compound that waits there, whatever its xid and whomever it was sent to. So xids are as callers like, and a slot
--- may come on the way: it is unused at the beginning, or when its caller sends its first compound.
-use Rattle.std.specs.Prelude.{◌≡◌, ◌⊎◌, ◌+◌, ◌<◌, ◌^◌, ℕ, true, List, [], ◌∷◌, length, Option, Some, None, ⊤}
+-- The same network for callers that go by SEQUENCE's result (RFC 8881 section 18.46): a caller accepts a reply that bears the session, the slot and the
+-- number of the compound that waits there, whatever its xid and whomever it was sent to. So xids are as callers like, but where one sent two compounds under
+-- a number. And a slot may come on the way: it is unused at the beginning, or when its caller sends its first compound.
+use Rattle.std.specs.Prelude.{◌≡◌, ◌⊎◌, ◌<◌, ◌^◌, ℕ, true, List, [], ◌∷◌, Option, Some, None, ⊤}
 use Rattle.nfs_xdr.specs.Text.{IsBytes}
 use Rattle.nfs_xdr.specs.Tables.{In}
 use Rattle.nfs_serve.specs.Promises.Endpoint.{Place, Heading, Compound, Answer, Server, Arrival, ran}
-use Rattle.nfs_serve.specs.Promises.Network.{Callers, Packet, Network, NetworkEvent, Sends, Resends, Arrives, Asks, Intrudes, Accepts, after, IsLast, IsForeign, Schedule, IsUnused, begins, ended, IsExact}
+use Rattle.nfs_serve.specs.Promises.Network.{Callers, Packet, Network, NetworkEvent, Sends, Resends, Arrives, Asks, Intrudes, Accepts, after, IsNext, IsLast, IsForeign, Schedule, IsUnused, begins, ended, IsExact}
 
 -- The slot took no request yet, at the beginning or by now.
 abbrev pub IsReady : (s : Server) → s.State → Network s → Place → Type 0
 IsReady s start net p = IsUnused s start p ⊎ IsUnused s net.machine p
 
--- A caller sends the next compound of a slot only where none waits there, and the first one only on a slot that is ready. It numbers them 1, 2
--- and so on, to less than 2^32.
+-- A caller sends a compound on a slot, under a number below 2^32, and the first one only on a slot that is ready.
 pub record CanSend (s : Server) (callers : Callers) (start : s.State) (net : Network s) (p : Packet) : Type 0 where
   pub bytes : IsBytes p.bytes
   pub reads : s.heading p.bytes ≡ Some p.heading
   pub place : In p.heading.place callers.places
   pub ready : (net.lines p.heading.place).sent ≡ [] → IsReady s start net p.heading.place
-  pub idle : (net.lines p.heading.place).xids ≡ []
-  pub number : p.heading.compound.number ≡ length (net.lines p.heading.place).sent + 1
+  pub next : IsNext (net.lines p.heading.place) p.heading.compound
   pub small : p.heading.compound.number < 2 ^ 32
 
 -- It sends again the compound that waits there: with the same number, user and argument bytes, but for sa_highest_slotid.
@@ -30,7 +28,8 @@ pub record CanResend (s : Server) (callers : Callers) (net : Network s) (p : Pac
   pub waits : (net.lines p.heading.place).xids ≡ [] → ⊥
   pub last : IsLast p.heading.compound (net.lines p.heading.place).sent
 
--- A caller accepts a reply, whomever it was sent to, that bears the slot and the number of the compound that waits there.
+-- A caller accepts a reply, whomever it was sent to, that bears the slot and the number of the compound that waits there. If it sent another one there under
+-- that number, it goes by the xid too: whom the reply was sent to used it for this compound alone.
 pub record CanAccept (s : Server) (callers : Callers) (net : Network s) (p : Place) (compound : Compound) (a : Answer) : Type 0 where
   pub place : In p callers.places
   pub caller : ℕ
@@ -38,6 +37,8 @@ pub record CanAccept (s : Server) (callers : Callers) (net : Network s) (p : Pla
   pub waits : (net.lines p).xids ≡ [] → ⊥
   pub last : IsLast compound (net.lines p).sent
   pub numbered : s.Bears a.result (record { place = p; number = compound.number })
+  pub own : ((d : Compound) → In d (net.lines p).sent → d.number ≡ compound.number → d ≡ compound)
+      ⊎ ((q : Packet) → In q net.packets → callers.who q.heading.place ≡ caller → q.heading.xid ≡ a.xid → q.heading.compound ≡ compound)
 
 abbrev pub Can : {s : Server} → Callers → s.State → Network s → NetworkEvent → Type 0
 Can {s} callers start net (Sends p) = CanSend s callers start net p

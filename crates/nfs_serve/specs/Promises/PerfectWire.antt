@@ -1,9 +1,9 @@
 -- A network that loses, repeats, delays and reorders, against a perfect wire (RFC 8881 section 2.10.6): the server ends as one that received
 -- each executed compound once, in order, and nothing that does not execute; and each caller accepts what that server answers.
-use Rattle.std.specs.Prelude.{◌≡◌, List, [], ◌∷◌, ◌++◌, map, flat_map, Option, Some, None, if◌then◌else◌}
+use Rattle.std.specs.Prelude.{◌≡◌, List, [], ◌∷◌, ◌++◌, flat_map, Option, Some, None, if◌then◌else◌}
 use Rattle.nfs_xdr.specs.Tables.{In}
-use Rattle.nfs_serve.specs.Promises.Endpoint.{Place, Heading, Answer, Compound, Server, Arrival, stepped, ran}
-use Rattle.nfs_serve.specs.Promises.Network.{Callers, RanCompound, Line, NetworkEvent, Arrives, Asks, Intrudes, same_place, result_of, begins, ended}
+use Rattle.nfs_serve.specs.Promises.Endpoint.{Place, Heading, Answer, Server, Arrival, stepped, ran}
+use Rattle.nfs_serve.specs.Promises.Network.{Callers, RanCompound, Line, NetworkEvent, Arrives, Asks, Intrudes, same_place, result_of, begins, ended, IsExact}
 use Rattle.nfs_serve.specs.Promises.Numbered.{Happens}
 use Rattle.nfs_serve.specs.Promises.Alone.{alone}
 
@@ -32,14 +32,11 @@ abbrev pub done_on : (s : Server) → Place → s.State → List Arrival → Lis
 done_on s p m [] = []
 done_on s p m (a ∷ more) = done_by p (s.heading a.bytes) (stepped s m a).answer ++ done_on s p (stepped s m a).state more
 
--- what became of the compounds of a slot, against what is done on it at the end of the wire
+-- What became of the compounds of a slot, against what is done on it at the end of the wire: that is what the server executed, and what it answered. And so
+-- the caller sent these, each once, and accepted of these results, each for its own compound.
 pub record IsAsDone (l : Line) (done : List RanCompound) : Type 0 where
-  -- what the server executed, and what it answered
   pub executed : l.executed ≡ done
-  -- the compounds are the first of those that their caller sent, each once, in their order
-  pub sent : (rest : List Compound) × (l.sent ≡ map (λ d. d.compound) done ++ rest)
-  -- and what it accepted are the first of these results, each for its own compound
-  pub accepted : (rest : List RanCompound) × (done ≡ l.accepted ++ rest)
+  pub exact : IsExact l
 
 pub record IsAsOverAWire (s : Server) (m : s.State) (callers : Callers) (events : List NetworkEvent) : Type 0 where
   -- the server is left as the wire leaves it, at the last moment that it took

@@ -1,6 +1,6 @@
 -- Over a network that loses, repeats, delays and reorders what runs is one list of records, each whole and one after the other, and that list
--- keeps to real time (RFC 8881 section 2.10.6): what is sent after a result was accepted, by whomever, runs after the compound of that result.
-use Rattle.std.specs.Prelude.{◌≡◌, List, ◌∷◌, ◌++◌}
+-- keeps to real time (RFC 8881 section 2.10.6): what is first sent after a result was accepted, by whomever, runs after the compound of that result.
+use Rattle.std.specs.Prelude.{◌≡◌, List, [], ◌∷◌, ◌++◌}
 use Rattle.nfs_xdr.specs.Tables.{In}
 use Rattle.nfs_serve.specs.Promises.Endpoint.{Place, Compound, Answer, Server, Arrival, ran}
 use Rattle.nfs_serve.specs.Promises.Network.{Callers, Packet, RanCompound, NetworkEvent, Sends, Accepts, begins}
@@ -18,11 +18,21 @@ pub record RunsBehind (s : Server) (m : s.State) (records : List Arrival) (p : P
   pub behind : (d : RanCompound) → In d (done_on s q m records) → d.compound ≡ later → In d (done_on s q (ran s m front) back)
   pub only : (d : RanCompound) → In d (done_on s q m front) → d.compound ≡ later → ⊥
 
--- The compound that was sent runs behind the one whose result was accepted before that.
+-- what these events send, but for what they send again while it waits
+abbrev pub sendings : List NetworkEvent → List Packet
+sendings [] = []
+sendings (Sends p ∷ more) = p ∷ sendings more
+sendings (e ∷ more) = sendings more
+
+-- these events do not send the compound of a packet
+abbrev pub WasNotSent : Packet → List NetworkEvent → Type 0
+WasNotSent p events = (q : Packet) → In q (sendings events) → q.heading.place ≡ p.heading.place → q.heading.compound ≡ p.heading.compound → ⊥
+
+-- A compound that is sent for the first time behind an accepted result runs behind the compound of that result.
 abbrev pub KeepsOrder : (s : Server) → s.State → List NetworkEvent → Type 0
 KeepsOrder s m events =
     (front middle back : List NetworkEvent) (p : Place) (c : Compound) (a : Answer) (sent : Packet)
-    → events ≡ front ++ Accepts p c a ∷ (middle ++ Sends sent ∷ back)
+    → events ≡ front ++ Accepts p c a ∷ (middle ++ Sends sent ∷ back) → WasNotSent sent front
     → RunsBehind s m (wire s m events) p (record { compound = c; result = a.result }) sent.heading.place sent.heading.compound
 
 -- What runs is the list that the wire brings, each accepted result is its compound's there, and that list keeps to real time.
