@@ -73,7 +73,7 @@ line_back lines k l q c = updated (λ (x : Line). In c x.sent → ((k ≡ q) × 
 -- a line that sends nothing more
 same_back : (lines : Place → Line) (k : Place) (l : Line) (q : Place) (c : Compound) → l.sent ≡ (lines k).sent → In c (with_line lines k l q).sent → In c (lines q).sent
 same_back lines k l q c same i = elim (line_back lines k l q c i) [
-  | inl (e, here) ↦ subst (λ (p : Place). In c (lines p).sent) e (subst (In c) same here)
+  | inl here ↦ subst (λ (p : Place). In c (lines p).sent) here.0 (subst (In c) same here.1)
   | inr there ↦ there
 ]
 
@@ -83,9 +83,9 @@ event_back s callers net (Sends p) more q c i =
     let k = p.heading.place in
     let l = net.lines k in
     elim (line_back net.lines k (sending l p.heading) q c i) [
-      | inl (e, here) ↦ elim (In-push c l.sent p.heading.compound here) [
-        | inl old ↦ inl (subst (λ (x : Place). In c (net.lines x).sent) e old)
-        | inr same ↦ inr (record { packet = p; among = inl refl; place = e; compound = sym same })
+      | inl here ↦ elim (In-push c l.sent p.heading.compound here.1) [
+        | inl old ↦ inl (subst (λ (x : Place). In c (net.lines x).sent) here.0 old)
+        | inr same ↦ inr (record { packet = p; among = inl refl; place = here.0; compound = sym same })
       ]
       | inr there ↦ inl there
     ]
