@@ -1,3 +1,4 @@
+use Rattle.std.proofs.Common.{sym}
 use Rattle.nfs_exec.proofs.Keeping.{any_head_fits, refusal_fits}
 use Rattle.nfs_exec.proofs.tables.Tables.in_session.Goals as goal
 
@@ -7,3 +8,6 @@ write_compound_head-requires-clause-room c = any_head_fits c.args.out.now c.in-R
 pub write-requires-clause-room : goal.write-requires-clause-room
 write-requires-clause-room c = λ arrays. refusal_fits c.args.out.now c.write_compound_head.new.out c.in-Refuses.status
     c.tag.result.now 1 _ _ _ c.tag.ensures.bound c.requires.room c.write_compound_head.ensures c.refusal.ensures
+
+pub run_new-requires-clause-runs : goal.run_new-requires-clause-runs
+run_new-requires-clause-runs c = (_, (c.requires.size, sym c.in-Runs.ensures.verdict))
